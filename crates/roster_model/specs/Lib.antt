@@ -1,0 +1,11 @@
+pub mod Folds
+pub mod Grammar
+pub mod Names
+pub mod Trees
+pub mod Sums
+pub mod Arcs
+pub mod Shifts
+pub mod UnitRules
+pub mod Sound
+pub mod Room
+pub mod PriceLaws

@@ -1,0 +1,18 @@
+//! The shared model of a staffing day: grammars, derivation trees and the prices on them.
+//!
+//! The formulation is the grammar-based one of Côté, Gendron and Rousseau, "Grammar-Based Integer
+//! Programming Models for Multiactivity Shift Scheduling", Management Science 57 (2011); the graph
+//! of all parses that the arcs belong to is that of Quimper and Walsh.
+#![tactic(auto)]
+
+mod grammar;
+mod list;
+mod memory;
+mod prices;
+mod room;
+
+pub use grammar::{ArcKey, CodeDef, Grammar, Rule, Step, Sym, Tree, Window};
+pub use list::List;
+pub use memory::Memory;
+pub use prices::LetterPrice;
+pub use room::TreeRoom;
