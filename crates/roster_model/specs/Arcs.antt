@@ -25,13 +25,14 @@ arc_of_part r (suc k) i s done = []
 arc_of_part r (suc k) i s (letter c rest) = arc r (suc k) i s (letter c rest) ∷ []
 arc_of_part r (suc k) i s (uses q n inner rest) = arc r (suc k) i s (uses q n inner rest) ∷ []
 
--- the arcs of the parts from suffix k of a use of rule r
+-- the arcs of the parts from suffix k of a use of rule r in preorder: an arc, then the arcs of its
+-- first part, then those of the parts that follow
 abbrev pub parts_arcs : ℕ → ℕ → ℕ → Parts → List ArcKey
 parts_arcs r k i done = []
 parts_arcs r k i (letter c rest) = arc_of_part r k i 1 rest ++ parts_arcs r (suc k) (i + 1) rest
-parts_arcs r k i (uses q n inner rest) = parts_arcs q 0 i inner ++ (arc_of_part r k i n rest ++ parts_arcs r (suc k) (i + n) rest)
+parts_arcs r k i (uses q n inner rest) = arc_of_part r k i n rest ++ (parts_arcs q 0 i inner ++ parts_arcs r (suc k) (i + n) rest)
 
--- the arcs of a tree
+-- the arcs of a tree in preorder
 abbrev pub arcs : ℕ → Parts → List ArcKey
 arcs i done = []
 arcs i (letter c rest) = []

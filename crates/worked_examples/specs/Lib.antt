@@ -1,0 +1,2 @@
+pub mod RestAndWork
+pub mod TwoReadings
