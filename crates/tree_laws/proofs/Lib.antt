@@ -1,0 +1,9 @@
+pub mod Rules
+pub mod Least
+pub mod Splits
+pub mod Ends
+pub mod PartLoop
+pub mod RuleLoop
+pub mod Symbols
+pub mod Size
+pub mod Bounds
