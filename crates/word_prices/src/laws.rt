@@ -1,0 +1,12 @@
+ghost use Rattle.word_prices.specs.Prices.{ShiftLength, WordSums};
+
+/// Under the prices of a word that is as long as the day, a tree of the day has a sum exactly where
+/// it derives this word, and the sum is the tree's cost.
+pub fn word_sums()
+    ensures { WordSums }
+{}
+
+/// A shift has as many letters as the day has periods.
+pub fn shift_length()
+    ensures { ShiftLength }
+{}
