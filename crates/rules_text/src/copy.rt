@@ -1,0 +1,14 @@
+ghost use Rattle.std.specs.Prelude.{◌≡◌, IfOk};
+
+use roster_model::{List, Memory};
+use std::alloc::Global;
+
+// A list of its own with the same bytes.
+pub fn copy(alloc: Global, bytes: &[u8]) -> Result<List<u8>, Memory>
+    ensures { IfOk result (λ l. l ≡ bytes.now) }
+{
+    match Vec::from_slice(alloc, bytes) {
+        Ok(copied) => Ok(List::from_vec(copied)),
+        Err(_) => Err(Memory),
+    }
+}

@@ -1,0 +1,27 @@
+ghost use Rattle.std.specs.Prelude.{◌≡◌, ◌≤◌, IfOk};
+ghost use Rattle.rules_text.specs.Fields.{number_at};
+ghost use Rattle.roster_model.specs.Names.{is_code_byte};
+
+use crate::fault::RulesFault;
+use text_lines::{NumberFault, read_natural};
+
+// Reads a number from `low` to `high`.
+#[tactic(auto, unfolding(crate::specs::Fields::number_at))]
+pub fn number(line: u32, low: u32, high: u32, word: &[u8]) -> Result<u32, RulesFault>
+    ensures value { result ≡ number_at line low high word.now }
+    ensures within { IfOk result (λ n. n ≤ high) }
+{
+    match read_natural(word) {
+        Ok(n) if n < low as u128 || (high as u128) < n => Err(RulesFault::OutOfRange { line }),
+        Ok(n) => Ok(n as u32),
+        Err(NumberFault::Form) => Err(RulesFault::BadNumber { line }),
+        Err(NumberFault::Wide) => Err(RulesFault::OutOfRange { line }),
+    }
+}
+
+// Whether a byte may stand for a code.
+pub fn is_code_byte(byte: u8) -> bool
+    ensures { result ≡ is_code_byte byte }
+{
+    33 <= byte && byte <= 126 && byte != b'\'' && byte != b'#'
+}

@@ -1,0 +1,169 @@
+ghost use Rattle.std.specs.Prelude.{◌≡◌, ◌+◌, ◌<◌, [], ◌∷◌, ◌++◌, length, IfSome, IfOk, true, false, MatchOption, OnOk, OnErr};
+ghost use Rattle.std.specs.List.{list_all};
+ghost use Rattle.roster_model.specs.Names.{is_letter, is_name_byte, is_window_word, is_name};
+ghost use Rattle.rules_text.specs.Names.{texts, has_name, place_of, name_at};
+ghost use Rattle.rules_text.specs.Steps.{Reads};
+
+use crate::copy::copy;
+use crate::fault::{Limit, RulesFault};
+use crate::place::Place;
+use indexmap::IndexSet;
+use roster_model::{List, Memory};
+use std::alloc::Global;
+use std::marker::Model;
+
+fn is_letter(byte: u8) -> bool
+    ensures { result ≡ is_letter byte }
+{
+    (b'A' <= byte && byte <= b'Z') || (b'a' <= byte && byte <= b'z')
+}
+
+fn is_name_byte(byte: u8) -> bool
+    ensures { result ≡ is_name_byte byte }
+{
+    is_letter(byte) || (b'0' <= byte && byte <= b'9') || byte == b'_'
+}
+
+fn all_name_bytes(word: &[u8]) -> bool
+    ensures { result ≡ list_all is_name_byte word.now }
+{
+    word.iter().all(|byte| is_name_byte(*byte))
+}
+
+/// Whether a word begins a window.
+#[tactic(auto, unfolding(roster_model::specs::Names::is_window_word))]
+pub fn is_window_word(word: &[u8]) -> bool
+    ensures { result ≡ is_window_word word.now }
+{
+    word == b"len".as_slice() || word == b"begin".as_slice() || word == b"end".as_slice()
+}
+
+/// Whether a word is a name.
+#[tactic(auto, unfolding(roster_model::specs::Names::is_name))]
+pub fn is_name(word: &[u8]) -> bool
+    ensures { result ≡ is_name word.now }
+{
+    !word.is_empty()
+        && word.len() <= 32
+        && is_letter(word[0])
+        && all_name_bytes(word)
+        && !is_window_word(word)
+}
+
+/// The names so far, in order of first appearance, and where each appeared first.
+#[derive(Drop)]
+pub struct Names {
+    set: IndexSet<Vec<u8>>,
+    places: List<Place>,
+}
+
+impl Model for Names {
+    ghost use Rattle.std.specs.Prelude.{◌≤◌, length};
+    ghost use Rattle.rules_text.specs.Names.{Named, texts};
+
+    ghost Value = { Named };
+
+    ghost view = { λ n. record { texts = texts n.set.keys; places = n.places } };
+
+    ghost invariant = { λ n. length n.set.keys ≤ 32 };
+}
+
+fn place_of(names: &IndexSet<Vec<u8>>, name: &[u8]) -> Option<usize>
+    ensures place { MatchOption result (has_name (texts names.now.keys) name.now ≡ false) (λ k. (has_name (texts names.now.keys) name.now ≡ true) × (k ≡ place_of (texts names.now.keys) name.now)) }
+    ensures within { IfSome result (λ k. k < length names.now.keys) }
+{
+    names.get_index_of(name)
+}
+
+// Adds a name that is new.
+fn add(alloc: Global, names: &mut IndexSet<Vec<u8>>, name: &[u8]) -> Result<(), Memory>
+    requires { has_name (texts names.old.keys) name.now ≡ false }
+    ensures names { OnOk result (texts names.new.keys ≡ texts names.old.keys ++ name.now ∷ []) }
+    ensures len { OnOk result (length names.new.keys ≡ length names.old.keys + 1) }
+    ensures err { OnErr result (names.new.keys ≡ names.old.keys) }
+{
+    let Ok(text) = Vec::from_slice(alloc, name) else {
+        return Err(Memory);
+    };
+    let Ok(_) = names.insert_full(text) else {
+        return Err(Memory);
+    };
+    Ok(())
+}
+
+// The bytes of each name in order.
+fn all_texts(alloc: Global, names: &IndexSet<Vec<u8>>) -> Result<List<List<u8>>, Memory>
+    ensures { IfOk result (λ l. l ≡ texts names.now.keys) }
+{
+    let mut list = List::new(alloc);
+    for i in 0..names.len() {
+        if let Some(name) = names.get_index(i) {
+            list.push(copy(alloc, name.as_slice())?)?;
+        }
+    }
+    Ok(list)
+}
+
+impl Names {
+    /// Returns no names.
+    pub fn new(alloc: Global) -> Names
+        ensures { result ≡ record { texts = []; places = [] } }
+    {
+        Names {
+            set: IndexSet::new(alloc),
+            places: List::new(alloc),
+        }
+    }
+
+    /// Returns the places of first appearance.
+    pub fn places(&self) -> &[Place]
+        ensures { result.now ≡ self.now.places }
+    {
+        self.places.as_slice()
+    }
+
+    /// Returns the number of a name.
+    pub fn place(&self, name: &[u8]) -> Option<u8>
+        ensures { MatchOption result (has_name self.now.texts name.now ≡ false) (λ k. (has_name self.now.texts name.now ≡ true) × (k ≡ place_of self.now.texts name.now)) }
+    {
+        match place_of(&self.set, name) {
+            Some(place) => Some(place as u8),
+            None => None,
+        }
+    }
+
+    /// Returns the names in order.
+    pub fn to_list(&self, alloc: Global) -> Result<List<List<u8>>, Memory>
+        ensures { IfOk result (λ l. l ≡ self.now.texts) }
+    {
+        all_texts(alloc, &self.set)
+    }
+
+    /// Reads a name at a place, and gives its number.
+    #[tactic(auto, unfolding(crate::specs::Names::name_at))]
+    pub fn read(&mut self, alloc: Global, at: Place, word: &[u8]) -> Result<u8, RulesFault>
+        ensures value { Reads (λ number. (self.new, number)) result (name_at at self.old word.now) }
+    {
+        if !is_name(word) {
+            return Err(RulesFault::BadName { line: at.line });
+        }
+        if let Some(number) = place_of(&self.set, word) {
+            return Ok(number as u8);
+        }
+        let number = self.set.len();
+        if 32 <= number {
+            return Err(RulesFault::TooMany {
+                line: at.line,
+                what: Limit::Names,
+                most: 32,
+            });
+        }
+        if let Err(Memory) = self.places.push(at) {
+            return Err(RulesFault::Memory);
+        }
+        if let Err(Memory) = add(alloc, &mut self.set, word) {
+            return Err(RulesFault::Memory);
+        }
+        Ok(number as u8)
+    }
+}
