@@ -3,3 +3,5 @@ pub mod Closure
 pub mod StepRules
 pub mod Counts
 pub mod NameRanks
+pub mod Appearances
+pub mod RankTest

@@ -10,7 +10,7 @@ use Rattle.roster_model.specs.declared.grammar.Sym.TheVariants.{Name}
 use Rattle.roster_model.specs.Grammar.{rule_at}
 use Rattle.roster_model.specs.Sound.{IsRule, Exists}
 use Rattle.roster_model.specs.Ranks.{HasNames, reach_bit, ReachesOnlyLed, ReachesSteps}
-use Rattle.roster_model.specs.UnitRules.{LeadsBy, once}
+use Rattle.roster_model.specs.UnitRules.{LeadsBy, Leads, once, again, IsRanked}
 use Rattle.roster_model.proofs.ReachBits.{reach_bit-replicate}
 
 module _ (g : Grammar) (named : HasNames g) where
@@ -78,3 +78,15 @@ ReachesSteps-all g reach h = record { steps = λ r x y s. h.steps r x y (rule_ex
     rule_exists : (r x y : ℕ) → LeadsBy g r x y → r ≤ length g.rules
     rule_exists zero x y s = omega arith
     rule_exists (suc k) x y s = let lt = slice_get_within g.rules k s.rule s.at in omega arith
+
+-- a rank rises along one-symbol rules
+module _ (g : Grammar) (rank : ℕ → ℕ) (names : ℕ) (ranked : IsRanked g rank names) where
+  rises_by : (r x y : ℕ) → LeadsBy g r x y → rank x < rank y
+  rises_by r x y s = subst (λ (z : ℕ). rank z < rank y) s.left (ranked.rises r s.rule y s.at s.right)
+
+  pub rises_along : (x y : ℕ) → Leads g x y → rank x < rank y
+  rises_along x y (once r _ s) = rises_by r x y s
+  rises_along x y (again r z _ rest s) = omega (arith, rises_along x z rest, rises_by r z y s)
+
+  pub no_cycle : (x : ℕ) → Leads g x x → ⊥
+  no_cycle x h = omega (arith, rises_along x x h)

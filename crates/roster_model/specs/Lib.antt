@@ -8,5 +8,6 @@ pub mod Shifts
 pub mod UnitRules
 pub mod Sound
 pub mod Ranks
+pub mod Order
 pub mod Room
 pub mod PriceLaws

@@ -28,7 +28,7 @@ ghost use Rattle.roster_model.specs.Ranks.{
   ReachesSteps,
   IsClosedBelow,
 };
-ghost use Rattle.roster_model.specs.UnitRules.{IsFirstOnCycle, IsRanked};
+ghost use Rattle.roster_model.specs.UnitRules.{IsFirstOnCycle, IsOnCycle, IsRanked};
 
 use crate::grammar::{Grammar, Rule, Sym};
 
@@ -56,6 +56,12 @@ pub fn unit_ranks(grammar: &Grammar) -> Result<[u8; MOST_NAMES], u8>
         None => Ok(ranks(rows)),
     }
 }
+
+/// Says that a grammar whose names have ranks has no name on a cycle.
+pub fn ranked_has_no_cycle()
+    ensures { (g : Grammar) (rank : ℕ → ℕ) (names : ℕ) → IsRanked g rank names
+        → (x : ℕ) → IsOnCycle g x → ⊥ }
+{}
 
 /// Returns whether the set contains the name.
 fn contains(set: u64, name: u8) -> bool
