@@ -1,9 +1,10 @@
 ghost use Rattle.std.specs.Prelude.{◌≡◌, ◌≤◌, ◌+◌, length};
 ghost use Rattle.shelf.specs.Shelf.{Begins, HasCause, count_after};
+ghost use Rattle.shelf.specs.Stream.{read_limit};
 
 use crate::fault::ShelfFault;
 use crate::shelf::Shelf;
-use crate::stream::{READ_LIMIT, read_bytes, write_bytes};
+use crate::stream::{read_bytes, write_bytes};
 use std::marker::Model;
 use std::rt::Files;
 use std::{fs, io};
@@ -64,7 +65,7 @@ impl<R: Files + Print + Drop> Shelf for DiskShelf<R> {
 
     fn fetch(&mut self, name: &str, into: &mut Vec<u8>) -> Result<(), ShelfFault>
         ensures begins { Begins into.old.items into.new.items }
-        ensures limit { length into.new.items ≤ length into.old.items + READ_LIMIT }
+        ensures limit { length into.new.items ≤ length into.old.items + read_limit }
         ensures counted { self.new ≡ count_after result self.old }
         ensures cause { HasCause self.old self.new result }
     {

@@ -16,7 +16,6 @@ pub use fault::ShelfFault;
 pub use memory::MemoryShelf;
 pub use quiet::QuietShelf;
 pub use shelf::Shelf;
-pub use stream::READ_LIMIT;
 
 #[cfg(test)]
 mod tests;

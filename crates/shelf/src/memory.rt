@@ -28,14 +28,26 @@ impl Model for MemoryShelf {
 
     ghost coded = { memory_code };
 
-    ghost view = { λ s. record { held = s.shelf.held; said = s.shelf.said; faults = s.shelf.faults; calls = s.calls; failing = s.failing.items } };
+    ghost view = { λ s. record {
+      held = s.shelf.held;
+      said = s.shelf.said;
+      faults = s.shelf.faults;
+      calls = s.calls;
+      failing = s.failing.items;
+    } };
 }
 
 impl MemoryShelf {
     /// Returns a shelf that holds nothing, has said nothing and will refuse the calls with these
     /// numbers. It takes no memory yet.
     pub fn new(alloc: Global, failing: Vec<u32>) -> MemoryShelf
-        ensures { result ≡ record { held = fin.empty; said = []; faults = 0; calls = 0; failing = failing.items } }
+        ensures { result ≡ record {
+          held = fin.empty;
+          said = [];
+          faults = 0;
+          calls = 0;
+          failing = failing.items;
+        } }
     {
         MemoryShelf {
             shelf: QuietShelf::new(alloc),
@@ -46,7 +58,9 @@ impl MemoryShelf {
 
     /// Makes the name hold the bytes. Memory alone can refuse it, and it counts as no call.
     pub fn put(&mut self, name: &str, bytes: &[u8]) -> Result<(), AllocError>
-        ensures ok { OnOk result (self.new ≡ record self.old { held = fin.insert self.old.held name.now bytes.now }) }
+        ensures ok { OnOk result (self.new ≡ record self.old {
+          held = fin.insert self.old.held name.now bytes.now;
+        }) }
         ensures err { OnErr result (self.new ≡ self.old) }
     {
         self.shelf.put(name, bytes)
@@ -109,12 +123,18 @@ impl Shelf for MemoryShelf {
     ghost tells = { λ _ _. (refl, refl) };
 
     fn fetch(&mut self, name: &str, into: &mut Vec<u8>) -> Result<(), ShelfFault>
-        ensures ok { OnOk result ((next_fails self.old ≡ false) × Fetched self.old.held name.now into.old.items into.new.items × (self.new ≡ called self.old)) }
-        ensures failed { result ≡ Err ShelfFault.Failed → (IsTrue (next_fails self.old) ⊎ (fin.get self.old.held name.now ≡ None)) × (into.new.items ≡ into.old.items) × (self.new ≡ refused self.old) }
-        ensures memory { result ≡ Err ShelfFault.Memory → (next_fails self.old ≡ false) × IsSome (fin.get self.old.held name.now) × (into.new.items ≡ into.old.items) × (self.new ≡ called self.old) }
+        ensures ok { OnOk result ((next_fails self.old ≡ false) × (self.new ≡ called self.old)
+            × Fetched self.old.held name.now into.old.items into.new.items) }
+        ensures failed { result ≡ Err ShelfFault.Failed →
+            (IsTrue (next_fails self.old) ⊎ (fin.get self.old.held name.now ≡ None))
+            × (self.new ≡ refused self.old) × (into.new.items ≡ into.old.items) }
+        ensures memory { result ≡ Err ShelfFault.Memory →
+            (next_fails self.old ≡ false) × IsSome (fin.get self.old.held name.now)
+            × (self.new ≡ called self.old) × (into.new.items ≡ into.old.items) }
         ensures cause { HasCause self.old.faults self.new.faults result }
         ensures stays_steady { IsTrue (is_steady self.old) → IsTrue (is_steady self.new) }
-        ensures quiet { IsTrue (is_steady self.old) → IsSome (fin.get self.old.held name.now) → self.new.faults ≡ self.old.faults }
+        ensures quiet { IsTrue (is_steady self.old) → IsSome (fin.get self.old.held name.now)
+            → self.new.faults ≡ self.old.faults }
     {
         if self.next_call_fails() {
             return Err(self.shelf.refuse());
@@ -123,9 +143,14 @@ impl Shelf for MemoryShelf {
     }
 
     fn store(&mut self, name: &str, bytes: &[u8]) -> Result<(), ShelfFault>
-        ensures ok { OnOk result ((next_fails self.old ≡ false) × (self.new ≡ record (called self.old) { held = fin.insert self.old.held name.now bytes.now })) }
-        ensures failed { result ≡ Err ShelfFault.Failed → IsTrue (next_fails self.old) × (self.new ≡ refused self.old) }
-        ensures memory { result ≡ Err ShelfFault.Memory → (next_fails self.old ≡ false) × (self.new ≡ called self.old) }
+        ensures ok { OnOk result ((next_fails self.old ≡ false)
+            × (self.new ≡ record (called self.old) {
+              held = fin.insert self.old.held name.now bytes.now;
+            })) }
+        ensures failed { result ≡ Err ShelfFault.Failed →
+            IsTrue (next_fails self.old) × (self.new ≡ refused self.old) }
+        ensures memory { result ≡ Err ShelfFault.Memory →
+            (next_fails self.old ≡ false) × (self.new ≡ called self.old) }
         ensures others { AgreesElsewhere name.now self.old.held self.new.held }
         ensures cause { HasCause self.old.faults self.new.faults result }
         ensures stays_steady { IsTrue (is_steady self.old) → IsTrue (is_steady self.new) }
@@ -138,9 +163,13 @@ impl Shelf for MemoryShelf {
     }
 
     fn say(&mut self, bytes: &[u8]) -> Result<(), ShelfFault>
-        ensures ok { OnOk result ((next_fails self.old ≡ false) × (self.new ≡ record (called self.old) { said = self.old.said ++ bytes.now })) }
+        ensures ok { OnOk result ((next_fails self.old ≡ false)
+            × (self.new ≡ record (called self.old) { said = self.old.said ++ bytes.now })) }
         // A refused piece is said up to its middle.
-        ensures failed { result ≡ Err ShelfFault.Failed → IsTrue (next_fails self.old) × (self.new ≡ record (refused self.old) { said = self.old.said ++ take (length bytes.now / 2) bytes.now }) }
+        ensures failed { result ≡ Err ShelfFault.Failed → IsTrue (next_fails self.old)
+            × (self.new ≡ record (refused self.old) {
+              said = self.old.said ++ take (length bytes.now / 2) bytes.now;
+            }) }
         ensures memory { result ≡ Err ShelfFault.Memory → self.new ≡ called self.old }
         ensures part { SaidPart bytes.now self.old.said self.new.said }
         ensures cause { HasCause self.old.faults self.new.faults result }

@@ -41,7 +41,9 @@ impl QuietShelf {
 
     /// Makes the name hold the bytes. Memory alone can refuse it.
     pub fn put(&mut self, name: &str, bytes: &[u8]) -> Result<(), AllocError>
-        ensures ok { OnOk result (self.new ≡ record self.old { held = fin.insert self.old.held name.now bytes.now }) }
+        ensures ok { OnOk result (self.new ≡ record self.old {
+          held = fin.insert self.old.held name.now bytes.now;
+        }) }
         ensures err { OnErr result (self.new ≡ self.old) }
     {
         self.held.put(name, bytes)
@@ -93,9 +95,13 @@ impl Shelf for QuietShelf {
     ghost tells = { λ _ _. (refl, refl) };
 
     fn fetch(&mut self, name: &str, into: &mut Vec<u8>) -> Result<(), ShelfFault>
-        ensures ok { OnOk result (Fetched self.old.held name.now into.old.items into.new.items × (self.new ≡ self.old)) }
-        ensures absent { result ≡ Err ShelfFault.Failed → (fin.get self.old.held name.now ≡ None) × (into.new.items ≡ into.old.items) × (self.new ≡ record self.old { faults = one_more self.old.faults }) }
-        ensures memory { result ≡ Err ShelfFault.Memory → IsSome (fin.get self.old.held name.now) × (into.new.items ≡ into.old.items) × (self.new ≡ self.old) }
+        ensures ok { OnOk result ((self.new ≡ self.old)
+            × Fetched self.old.held name.now into.old.items into.new.items) }
+        ensures failed { result ≡ Err ShelfFault.Failed → (fin.get self.old.held name.now ≡ None)
+            × (self.new ≡ record self.old { faults = one_more self.old.faults })
+            × (into.new.items ≡ into.old.items) }
+        ensures memory { result ≡ Err ShelfFault.Memory → IsSome (fin.get self.old.held name.now)
+            × (self.new ≡ self.old) × (into.new.items ≡ into.old.items) }
         ensures cause { HasCause self.old.faults self.new.faults result }
     {
         let Some(bytes) = self.held.text(name) else {
@@ -106,7 +112,9 @@ impl Shelf for QuietShelf {
     }
 
     fn store(&mut self, name: &str, bytes: &[u8]) -> Result<(), ShelfFault>
-        ensures ok { OnOk result (self.new ≡ record self.old { held = fin.insert self.old.held name.now bytes.now }) }
+        ensures ok { OnOk result (self.new ≡ record self.old {
+          held = fin.insert self.old.held name.now bytes.now;
+        }) }
         ensures err { OnErr result ((result ≡ Err ShelfFault.Memory) × (self.new ≡ self.old)) }
         ensures others { AgreesElsewhere name.now self.old.held self.new.held }
     {

@@ -24,7 +24,8 @@ pub trait Shelf {
 
     /// Appends the bytes under the name. After an error `into` still begins with what it held.
     fn fetch(&mut self, name: &str, into: &mut Vec<u8>) -> Result<(), ShelfFault>
-        ensures fetched { OnOk result (IfSome (held self.old) (λ h. Fetched h name.now into.old.items into.new.items)) }
+        ensures fetched { OnOk result (IfSome (held self.old)
+            (λ h. Fetched h name.now into.old.items into.new.items)) }
         ensures begins { Begins into.old.items into.new.items }
 
         ensures held_stays { held self.new ≡ held self.old }
@@ -33,14 +34,17 @@ pub trait Shelf {
         ensures cause { HasCause (faults self.old) (faults self.new) result }
         ensures stays_steady { IsTrue (steady self.old) → IsTrue (steady self.new) }
         // A steady shelf refuses only an absent name.
-        ensures quiet { IsTrue (steady self.old) → IfSome (held self.old) (λ h. IsSome (fin.get h name.now) → faults self.new ≡ faults self.old) };
+        ensures quiet { IsTrue (steady self.old) → IfSome (held self.old)
+            (λ h. IsSome (fin.get h name.now) → faults self.new ≡ faults self.old) };
 
     /// Makes the name hold the bytes. After `Failed` it is untold what the name holds, and after
     /// `Memory` all is as before.
     fn store(&mut self, name: &str, bytes: &[u8]) -> Result<(), ShelfFault>
-        ensures stored { OnOk result (IfSome (held self.old) (λ h. held self.new ≡ Some (fin.insert h name.now bytes.now))) }
+        ensures stored { OnOk result (IfSome (held self.old)
+            (λ h. held self.new ≡ Some (fin.insert h name.now bytes.now))) }
         // Whatever the answer, no other name changes, and the shelf goes on to tell.
-        ensures others { IfSome (held self.old) (λ h. IsSomeAnd (held self.new) (AgreesElsewhere name.now h)) }
+        ensures others { IfSome (held self.old)
+            (λ h. IsSomeAnd (held self.new) (AgreesElsewhere name.now h)) }
         ensures memory { result ≡ Err ShelfFault.Memory → held self.new ≡ held self.old }
         ensures said_stays { said self.new ≡ said self.old }
 
@@ -50,7 +54,8 @@ pub trait Shelf {
 
     /// Appends the bytes to what was said. After an error a front of them may have been said.
     fn say(&mut self, bytes: &[u8]) -> Result<(), ShelfFault>
-        ensures appended { OnOk result (IfSome (said self.old) (λ s. said self.new ≡ Some (s ++ bytes.now))) }
+        ensures appended { OnOk result (IfSome (said self.old)
+            (λ s. said self.new ≡ Some (s ++ bytes.now))) }
         // Whatever the answer, and the shelf goes on to tell.
         ensures part { IfSome (said self.old) (λ s. IsSomeAnd (said self.new) (SaidPart bytes.now s)) }
         ensures held_stays { held self.new ≡ held self.old }

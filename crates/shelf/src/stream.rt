@@ -1,21 +1,21 @@
 ghost use Rattle.std.specs.Prelude.{◌≡◌, ◌≤◌, ◌+◌, ◌++◌, length, take, OnOk, IfSome, IfErr, Err};
 ghost use Rattle.std.specs.Io.KnownBytes.{Appends};
 ghost use Rattle.shelf.specs.Shelf.{Begins};
-ghost use Rattle.shelf.specs.Stream.{AppendsPart};
+ghost use Rattle.shelf.specs.Stream.{AppendsPart, read_limit};
 
 use crate::fault::ShelfFault;
 use std::io::{Read, Write};
 
-/// How many bytes of a file are read at most. A longest text has one fewer, so that a file that is
-/// too long shows.
-pub const READ_LIMIT: usize = 1_073_741_825;
+// How many bytes of a file are read at most.
+const READ_LIMIT: usize = 1_073_741_825;
 
-/// Appends the bytes that the reader has left, but at most `READ_LIMIT`. An interrupted read is
+/// Appends the bytes that the reader has left, but at most 1,073,741,825. An interrupted read is
 /// not tried again.
 pub(crate) fn read_bytes<F: Read>(from: &mut F, into: &mut Vec<u8>) -> Result<(), ShelfFault>
     ensures begins { Begins into.old.items into.new.items }
-    ensures limit { length into.new.items ≤ length into.old.items + READ_LIMIT }
-    ensures whole { OnOk result (IfSome (F.remaining from.old) (λ bytes. into.new.items ≡ into.old.items ++ take READ_LIMIT bytes)) }
+    ensures limit { length into.new.items ≤ length into.old.items + read_limit }
+    ensures whole { OnOk result (IfSome (F.remaining from.old)
+        (λ bytes. into.new.items ≡ into.old.items ++ take read_limit bytes)) }
 {
     let mut buffer = [0u8; 4096];
     let mut left = READ_LIMIT;
