@@ -8,11 +8,19 @@
 mod grammar;
 mod list;
 mod memory;
+mod names;
 mod prices;
 mod room;
+mod sound;
+#[cfg(test)]
+mod tests;
+mod unit_rules;
 
 pub use grammar::{ArcKey, CodeDef, Grammar, Rule, Step, Sym, Tree, Window};
 pub use list::List;
 pub use memory::Memory;
+pub use names::{is_code_byte, is_name};
 pub use prices::LetterPrice;
 pub use room::TreeRoom;
+pub use sound::{is_plain, is_sound};
+pub use unit_rules::{MOST_NAMES, ranked_has_no_cycle, unit_ranks};
