@@ -1,0 +1,3 @@
+pub mod HeldTexts
+pub mod Calls
+pub mod Streams

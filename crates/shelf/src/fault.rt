@@ -1,0 +1,21 @@
+use std::alloc::AllocError;
+
+/// Why a call of a shelf gave up.
+#[derive(Clone, Copy, Debug, PartialEq, Eq, Drop)]
+pub enum ShelfFault {
+    /// The outside refused the call; the shelf counted it.
+    Failed,
+    /// Memory ran out.
+    Memory,
+}
+
+impl From<AllocError> for ShelfFault {
+    ghost use Rattle.std.specs.Prelude.{◌≡◌};
+    ghost use Rattle.shelf.specs.declared.fault.ShelfFault.TheVariants.{Memory};
+
+    ghost from_gives = { λ _ e. e ≡ Memory };
+
+    fn from(_error: AllocError) -> ShelfFault {
+        ShelfFault::Memory
+    }
+}

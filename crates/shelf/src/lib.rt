@@ -1,0 +1,21 @@
+//! The outside of a program: texts that are held by name, and bytes that are said.
+//!
+//! A program over a [`Shelf`] is proved once for the disk and for both shelves in memory.
+#![tactic(auto)]
+
+mod disk;
+mod fault;
+mod memory;
+mod quiet;
+mod shelf;
+mod stream;
+mod texts;
+
+pub use disk::DiskShelf;
+pub use fault::ShelfFault;
+pub use memory::MemoryShelf;
+pub use quiet::QuietShelf;
+pub use shelf::Shelf;
+
+#[cfg(test)]
+mod tests;

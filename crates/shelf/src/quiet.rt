@@ -1,0 +1,132 @@
+ghost use Rattle.std.specs.Prelude.{◌≡◌, ◌≤◌, [], ◌++◌, Err, None, IsSome, OnOk, OnErr};
+ghost use Rattle.std.specs.Option.{option_copied};
+ghost use Rattle.std.specs.FinMap as fin;
+ghost use Rattle.shelf.specs.Shelf.{AgreesElsewhere, Fetched, HasCause, one_more};
+
+use crate::fault::ShelfFault;
+use crate::shelf::Shelf;
+use crate::texts::TextMap;
+use std::alloc::{AllocError, Global};
+use std::marker::Model;
+
+/// A shelf in memory that refuses nothing but the fetch of an absent name.
+#[derive(Drop)]
+pub struct QuietShelf {
+    held: TextMap,
+    said: Vec<u8>,
+    faults: u64,
+}
+
+impl Model for QuietShelf {
+    ghost use Rattle.shelf.specs.Memory.{QuietState, quiet_code};
+
+    ghost Value = { QuietState };
+
+    ghost coded = { quiet_code };
+
+    ghost view = { λ s. record { held = s.held; said = s.said.items; faults = s.faults } };
+}
+
+impl QuietShelf {
+    /// Returns a shelf that holds nothing and has said nothing. It takes no memory yet.
+    pub fn new(alloc: Global) -> QuietShelf
+        ensures { result ≡ record { held = fin.empty; said = []; faults = 0 } }
+    {
+        QuietShelf {
+            held: TextMap::new(alloc),
+            said: Vec::new(alloc),
+            faults: 0,
+        }
+    }
+
+    /// Makes the name hold the bytes. Memory alone can refuse it.
+    pub fn put(&mut self, name: &str, bytes: &[u8]) -> Result<(), AllocError>
+        ensures ok { OnOk result (self.new ≡ record self.old {
+          held = fin.insert self.old.held name.now bytes.now;
+        }) }
+        ensures err { OnErr result (self.new ≡ self.old) }
+    {
+        self.held.put(name, bytes)
+    }
+
+    /// Returns the bytes under the name.
+    pub fn text(&self, name: &str) -> Option<&[u8]>
+        ensures { option_copied result ≡ fin.get self.now.held name.now }
+    {
+        self.held.text(name)
+    }
+
+    /// Returns all that was said.
+    pub fn said(&self) -> &[u8]
+        ensures { result.now ≡ self.now.said }
+    {
+        self.said.as_slice()
+    }
+
+    /// Returns how many calls were refused.
+    pub fn faults(&self) -> u64
+        ensures { result ≡ self.now.faults }
+    {
+        self.faults
+    }
+
+    /// Counts a refused call, and returns its fault.
+    pub(crate) fn refuse(&mut self) -> ShelfFault
+        ensures fault { result ≡ ShelfFault.Failed }
+        ensures counted { self.new ≡ record self.old { faults = one_more self.old.faults } }
+        ensures never_falls { self.old.faults ≤ self.new.faults }
+    {
+        self.faults = self.faults.saturating_add(1);
+        ShelfFault::Failed
+    }
+}
+
+impl Shelf for QuietShelf {
+    ghost use Rattle.std.specs.Prelude.{Some, true, refl};
+
+    ghost held = { λ s. Some s.held };
+
+    ghost said = { λ s. Some s.said };
+
+    ghost faults = { λ s. s.faults };
+
+    ghost steady = { λ _. true };
+
+    ghost tells = { λ _ _. (refl, refl) };
+
+    fn fetch(&mut self, name: &str, into: &mut Vec<u8>) -> Result<(), ShelfFault>
+        ensures ok { OnOk result ((self.new ≡ self.old)
+            × Fetched self.old.held name.now into.old.items into.new.items) }
+        ensures failed { result ≡ Err ShelfFault.Failed → (fin.get self.old.held name.now ≡ None)
+            × (self.new ≡ record self.old { faults = one_more self.old.faults })
+            × (into.new.items ≡ into.old.items) }
+        ensures memory { result ≡ Err ShelfFault.Memory → IsSome (fin.get self.old.held name.now)
+            × (self.new ≡ self.old) × (into.new.items ≡ into.old.items) }
+        ensures cause { HasCause self.old.faults self.new.faults result }
+    {
+        let Some(bytes) = self.held.text(name) else {
+            return Err(self.refuse());
+        };
+        into.extend_from_slice(bytes)?;
+        Ok(())
+    }
+
+    fn store(&mut self, name: &str, bytes: &[u8]) -> Result<(), ShelfFault>
+        ensures ok { OnOk result (self.new ≡ record self.old {
+          held = fin.insert self.old.held name.now bytes.now;
+        }) }
+        ensures err { OnErr result ((result ≡ Err ShelfFault.Memory) × (self.new ≡ self.old)) }
+        ensures others { AgreesElsewhere name.now self.old.held self.new.held }
+    {
+        self.held.put(name, bytes)?;
+        Ok(())
+    }
+
+    fn say(&mut self, bytes: &[u8]) -> Result<(), ShelfFault>
+        ensures ok { OnOk result (self.new ≡ record self.old { said = self.old.said ++ bytes.now }) }
+        ensures err { OnErr result ((result ≡ Err ShelfFault.Memory) × (self.new ≡ self.old)) }
+    {
+        self.said.extend_from_slice(bytes)?;
+        Ok(())
+    }
+}

@@ -1,0 +1,55 @@
+ghost use Rattle.std.specs.Prelude.{◌≡◌, ◌≤◌, ◌+◌, ◌++◌, length, take, OnOk, IfSome, IfErr, Err};
+ghost use Rattle.std.specs.Io.KnownBytes.{Appends};
+ghost use Rattle.shelf.specs.Shelf.{Begins};
+ghost use Rattle.shelf.specs.Stream.{AppendsPart, read_limit};
+
+use crate::fault::ShelfFault;
+use std::io::{Read, Write};
+
+// How many bytes of a file are read at most.
+const READ_LIMIT: usize = 1_073_741_825;
+
+/// Appends the bytes that the reader has left, but at most 1,073,741,825. An interrupted read is
+/// not tried again.
+pub(crate) fn read_bytes<F: Read>(from: &mut F, into: &mut Vec<u8>) -> Result<(), ShelfFault>
+    ensures begins { Begins into.old.items into.new.items }
+    ensures limit { length into.new.items ≤ length into.old.items + read_limit }
+    ensures whole { OnOk result (IfSome (F.remaining from.old)
+        (λ bytes. into.new.items ≡ into.old.items ++ take read_limit bytes)) }
+{
+    let mut buffer = [0u8; 4096];
+    let mut left = READ_LIMIT;
+    while left > 0 {
+        let room = left.min(buffer.len());
+        let part = &mut buffer[..room];
+        let Ok(count) = from.read(part) else {
+            return Err(ShelfFault::Failed);
+        };
+        if count == 0 {
+            return Ok(());
+        }
+        into.extend_from_slice(&part[..count])?;
+        left -= count;
+    }
+    Ok(())
+}
+
+/// Writes all of the bytes. An interrupted write is not tried again, and a write that takes
+/// nothing is a fault.
+pub(crate) fn write_bytes<W: Write>(to: &mut W, bytes: &[u8]) -> Result<(), ShelfFault>
+    ensures whole { OnOk result (Appends (W.contents to.old) (W.contents to.new) bytes.now) }
+    ensures part { AppendsPart (W.contents to.old) (W.contents to.new) bytes.now }
+    ensures only { IfErr result (λ fault. fault ≡ ShelfFault.Failed) }
+{
+    let mut done = 0;
+    while done < bytes.len() {
+        let Ok(count) = to.write(&bytes[done..]) else {
+            return Err(ShelfFault::Failed);
+        };
+        if count == 0 {
+            return Err(ShelfFault::Failed);
+        }
+        done += count;
+    }
+    Ok(())
+}
