@@ -7,5 +7,6 @@ pub mod Arcs
 pub mod Shifts
 pub mod UnitRules
 pub mod Sound
+pub mod Ranks
 pub mod Room
 pub mod PriceLaws

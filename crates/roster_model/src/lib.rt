@@ -10,9 +10,11 @@ mod list;
 mod memory;
 mod prices;
 mod room;
+mod unit_rules;
 
 pub use grammar::{ArcKey, CodeDef, Grammar, Rule, Step, Sym, Tree, Window};
 pub use list::List;
 pub use memory::Memory;
 pub use prices::LetterPrice;
 pub use room::TreeRoom;
+pub use unit_rules::{MOST_NAMES, unit_ranks};
