@@ -1,2 +1,12 @@
 pub mod KeyTexts
 pub mod Each
+pub mod Inversions
+pub mod Places
+pub mod CodesKept
+pub mod NamesKept
+pub mod WindowsKept
+pub mod Orders
+pub mod RuleKept
+pub mod LinesKept
+pub mod Finished
+pub mod NoCycles

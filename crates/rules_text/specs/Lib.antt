@@ -4,3 +4,4 @@ pub mod Fields
 pub mod RuleLine
 pub mod Lines
 pub mod RulesOf
+pub mod Drafts

@@ -1,12 +1,14 @@
 ghost use Rattle.std.specs.Prelude.{◌≡◌, ◌+◌, ◌≤◌, ◌^◌, ◌<◌, length, IfOk};
-ghost use Rattle.rules_text.specs.RulesOf.{has_rule, unruled, finish};
+ghost use Rattle.roster_model.specs.Sound.{has_rule, IsSound, IsPlain};
+ghost use Rattle.rules_text.specs.Drafts.{IsParsed};
+ghost use Rattle.rules_text.specs.RulesOf.{unruled, finish, IsValue};
 ghost use Rattle.rules_text.specs.Steps.{Reads};
 
-use crate::draft::{Draft, Start};
+use crate::draft::{Draft, Parsed};
 use crate::fault::RulesFault;
 use crate::place::Place;
 use crate::rules::Rules;
-use roster_model::{Grammar, List, Memory, Rule};
+use roster_model::{Grammar, Memory, Rule, unit_ranks};
 use std::alloc::Global;
 
 fn has_rule(rules: &[Rule], name: usize) -> bool
@@ -15,6 +17,7 @@ fn has_rule(rules: &[Rule], name: usize) -> bool
     rules.iter().any(|rule| rule.left as usize == name)
 }
 
+// The place of the first name with no rule.
 fn unruled(rules: &[Rule], places: &[Place]) -> Option<Place>
     ensures { result ≡ unruled rules.now 0 places.now }
 {
@@ -28,8 +31,8 @@ fn unruled(rules: &[Rule], places: &[Place]) -> Option<Place>
 
 /// Makes the grammar of all lines.
 #[tactic(auto, unfolding(crate::specs::RulesOf::finish))]
-pub fn finish(alloc: Global, draft: Draft) -> Result<Grammar, RulesFault>
-    ensures value { Reads (λ g. g) result (finish draft) }
+pub fn finish(alloc: Global, draft: Draft) -> Result<Parsed, RulesFault>
+    ensures { Reads (λ p. p) result (finish draft) }
 {
     let Draft {
         periods,
@@ -53,14 +56,34 @@ pub fn finish(alloc: Global, draft: Draft) -> Result<Grammar, RulesFault>
             word: 2,
         });
     };
-    match names.to_list(alloc) {
-        Ok(names) => Ok(Grammar {
-            periods,
-            codes: codes.into_list(),
-            names,
-            rules,
-            start: first,
+    match names.into_lists(alloc) {
+        Ok((names, places)) => Ok(Parsed {
+            grammar: Grammar {
+                periods,
+                codes: codes.into_list(),
+                names,
+                rules,
+                start: first,
+            },
+            places,
         }),
         Err(Memory) => Err(RulesFault::Memory),
+    }
+}
+
+/// Refuses a grammar whose one-symbol rules lead from a name back to it.
+pub fn without_cycle(parsed: Parsed) -> Result<Grammar, RulesFault>
+    requires { IsParsed parsed }
+    ensures value { IsValue parsed result }
+    ensures sound { IfOk result IsSound }
+    ensures plain { IfOk result IsPlain }
+{
+    let Parsed { grammar, places } = parsed;
+    match unit_ranks(&grammar) {
+        Ok(_) => Ok(grammar),
+        Err(name) => {
+            let Place { line, word } = places.as_slice()[name as usize];
+            Err(RulesFault::UnitCycle { line, word })
+        }
     }
 }

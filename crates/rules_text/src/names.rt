@@ -132,11 +132,13 @@ impl Names {
         }
     }
 
-    /// Returns the names in order.
-    pub fn to_list(&self, alloc: Global) -> Result<List<List<u8>>, Memory>
-        ensures { IfOk result (λ l. l ≡ self.now.texts) }
+    /// Returns the names in order, and the places of their first appearance.
+    pub fn into_lists(self, alloc: Global) -> Result<(List<List<u8>>, List<Place>), Memory>
+        ensures { IfOk result (λ lists. (lists.0 ≡ self.texts) × (lists.1 ≡ self.places)) }
     {
-        all_texts(alloc, &self.set)
+        let Names { set, places } = self;
+        let texts = all_texts(alloc, &set)?;
+        Ok((texts, places))
     }
 
     /// Reads a name at a place, and gives its number.
