@@ -10,11 +10,7 @@ use Rattle.roster_model.specs.declared.grammar.Sym.TheVariants.{Name}
 use Rattle.roster_model.specs.Grammar.{rule_at}
 use Rattle.roster_model.specs.Sound.{IsRule, Exists}
 use Rattle.roster_model.specs.Ranks.{HasNames, reach_bit, ReachesOnlyLed, ReachesSteps}
-<<<<<<< HEAD
 use Rattle.roster_model.specs.UnitRules.{LeadsBy, Leads, once, again, IsRanked}
-=======
-use Rattle.roster_model.specs.UnitRules.{LeadsBy, once}
->>>>>>> b60020a6ac6ee2e87a99e226375947315972d185
 use Rattle.roster_model.proofs.ReachBits.{reach_bit-replicate}
 
 module _ (g : Grammar) (named : HasNames g) where
@@ -82,7 +78,6 @@ ReachesSteps-all g reach h = record { steps = λ r x y s. h.steps r x y (rule_ex
     rule_exists : (r x y : ℕ) → LeadsBy g r x y → r ≤ length g.rules
     rule_exists zero x y s = omega arith
     rule_exists (suc k) x y s = let lt = slice_get_within g.rules k s.rule s.at in omega arith
-<<<<<<< HEAD
 
 -- a rank rises along one-symbol rules
 module _ (g : Grammar) (rank : ℕ → ℕ) (names : ℕ) (ranked : IsRanked g rank names) where
@@ -95,5 +90,3 @@ module _ (g : Grammar) (rank : ℕ → ℕ) (names : ℕ) (ranked : IsRanked g r
 
   pub no_cycle : (x : ℕ) → Leads g x x → ⊥
   no_cycle x h = omega (arith, rises_along x x h)
-=======
->>>>>>> b60020a6ac6ee2e87a99e226375947315972d185

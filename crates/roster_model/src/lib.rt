@@ -11,12 +11,9 @@ mod memory;
 mod names;
 mod prices;
 mod room;
-<<<<<<< HEAD
 mod sound;
 #[cfg(test)]
 mod tests;
-=======
->>>>>>> b60020a6ac6ee2e87a99e226375947315972d185
 mod unit_rules;
 
 pub use grammar::{ArcKey, CodeDef, Grammar, Rule, Step, Sym, Tree, Window};
@@ -25,9 +22,5 @@ pub use memory::Memory;
 pub use names::{is_code_byte, is_name};
 pub use prices::LetterPrice;
 pub use room::TreeRoom;
-<<<<<<< HEAD
 pub use sound::{is_plain, is_sound};
 pub use unit_rules::{MOST_NAMES, ranked_has_no_cycle, unit_ranks};
-=======
-pub use unit_rules::{MOST_NAMES, unit_ranks};
->>>>>>> b60020a6ac6ee2e87a99e226375947315972d185

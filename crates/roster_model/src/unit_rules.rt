@@ -28,11 +28,7 @@ ghost use Rattle.roster_model.specs.Ranks.{
   ReachesSteps,
   IsClosedBelow,
 };
-<<<<<<< HEAD
 ghost use Rattle.roster_model.specs.UnitRules.{IsFirstOnCycle, IsOnCycle, IsRanked};
-=======
-ghost use Rattle.roster_model.specs.UnitRules.{IsFirstOnCycle, IsRanked};
->>>>>>> b60020a6ac6ee2e87a99e226375947315972d185
 
 use crate::grammar::{Grammar, Rule, Sym};
 
@@ -61,15 +57,12 @@ pub fn unit_ranks(grammar: &Grammar) -> Result<[u8; MOST_NAMES], u8>
     }
 }
 
-<<<<<<< HEAD
 /// Says that a grammar whose names have ranks has no name on a cycle.
 pub fn ranked_has_no_cycle()
     ensures { (g : Grammar) (rank : ℕ → ℕ) (names : ℕ) → IsRanked g rank names
         → (x : ℕ) → IsOnCycle g x → ⊥ }
 {}
 
-=======
->>>>>>> b60020a6ac6ee2e87a99e226375947315972d185
 /// Returns whether the set contains the name.
 fn contains(set: u64, name: u8) -> bool
     requires { name < 64 }
