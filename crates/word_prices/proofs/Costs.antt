@@ -22,8 +22,8 @@ use Rattle.tree_laws.specs.Parts.{use_count}
 use Rattle.tree_laws.proofs.Rules.{sound-rule}
 use Rattle.tree_laws.proofs.Size.{length-steps}
 use Rattle.tree_laws.proofs.Bounds.{few-steps}
-use Rattle.roster_model.specs.Shifts.{IsShift, IsPrice}
-use Rattle.word_prices.specs.Prices.{code_price, free_only, letter_of, word_view, SumsAreCosts}
+use Rattle.roster_model.specs.Shifts.{IsShift, IsPrice, IsWordTree}
+use Rattle.word_prices.specs.Prices.{code_price, free_only, letter_of, word_view, SumsAreCosts, LeastTree}
 use Rattle.word_prices.proofs.Placed.{Has, Has-append, Has-front, Has-back, Has-whole, Has-self}
 
 pub sum_n-append : {A : Type 0} (f : A → ℕ) (xs ys : List A) → sum_n f (xs ++ ys) ≡ sum_n f xs + sum_n f ys
@@ -293,3 +293,13 @@ pub kept-price : (z : ℤ) (price : ℕ) → z ≡ pos price → price < 2 ^ 64 
 kept-price z price same small =
     let fits : SFits w128 (pos price) = search (rules, small) in
     rw same (to_z-of_z w128 (pos price) fits)
+
+-- a tree of least sum derives the word, and its cost is the word's price
+pub least-tree : LeastTree
+least-tree g w x price t z sound long is_price d e least =
+    let is = tree_spelled g sound w x t z d long e in
+    let own : IsWordTree g x w t = record { derives = d; word = is.0 } in
+    let best = is_price.attained in
+    let above = is_price.least t own in
+    let below : AtMost (Some z) (Some (pos (cost g best.0))) = rw (tree_priced g sound w x best.0 best.1.derives best.1.word) at (least best.0 best.1.derives) in
+    record { derives = own; costs = omega (arith, at_most-pos (cost g t) z (cost g best.0) below is.1, above, best.2) }

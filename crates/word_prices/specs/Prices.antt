@@ -3,8 +3,8 @@ use Rattle.std.specs.Prelude.{ℕ, ℤ, pos, ◌≡◌, ◌==◌, Option, None, 
 use Rattle.roster_model.specs.declared.grammar.Grammar.{Grammar}
 use Rattle.roster_model.specs.Trees.{Parts, IsTreeOf, word}
 use Rattle.roster_model.specs.Arcs.{cost, rule_cost}
-use Rattle.roster_model.specs.Sums.{PriceView, tree_sum}
-use Rattle.roster_model.specs.Shifts.{IsShift, IsPrice}
+use Rattle.roster_model.specs.Sums.{AtMost, PriceView, tree_sum}
+use Rattle.roster_model.specs.Shifts.{IsShift, IsPrice, IsWordTree}
 use Rattle.roster_model.specs.Sound.{IsSound}
 
 -- the letter b costs nothing where it is the wanted one, and is forbidden elsewhere
@@ -41,3 +41,14 @@ ShiftLength = (g : Grammar) (x : ℕ) (w : List ℕ) → IsSound g → IsShift g
 abbrev pub IsPriceOrNone : Grammar → ℕ → List ℕ → Option ℕ → Type 0
 IsPriceOrNone g x w None = IsShift g x w → ⊥
 IsPriceOrNone g x w (Some price) = IsPrice g x w price
+
+-- a tree by which the name derives the word at this cost
+pub record IsPricedTree (g : Grammar) (x : ℕ) (w : List ℕ) (price : ℕ) (t : Parts) : Type 0 where
+  pub derives : IsWordTree g x w t
+  pub costs : cost g t ≡ price
+
+-- under the word's prices, a tree of least sum derives the word at its price
+abbrev pub LeastTree : Type 0
+LeastTree =
+    (g : Grammar) (w : List ℕ) (x price : ℕ) (t : Parts) (z : ℤ) → IsSound g → length w ≡ g.periods → IsPrice g x w price → IsTreeOf g x t
+    → tree_sum (word_view g w) 1 t ≡ Some z → ((u : Parts) → IsTreeOf g x u → AtMost (Some z) (tree_sum (word_view g w) 1 u)) → IsPricedTree g x w price t

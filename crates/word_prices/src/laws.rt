@@ -1,4 +1,4 @@
-ghost use Rattle.word_prices.specs.Prices.{ShiftLength, WordSums};
+ghost use Rattle.word_prices.specs.Prices.{LeastTree, ShiftLength, WordSums};
 
 /// Under the prices of a word that is as long as the day, a tree of the day has a sum exactly where
 /// it derives this word, and the sum is the tree's cost.
@@ -9,4 +9,9 @@ pub fn word_sums()
 /// A shift has as many letters as the day has periods.
 pub fn shift_length()
     ensures { ShiftLength }
+{}
+
+/// Under the prices of a word, a tree of least sum derives the word, and its cost is the price.
+pub fn least_tree()
+    ensures { LeastTree }
 {}

@@ -4,5 +4,5 @@
 mod laws;
 mod prices;
 
-pub use laws::{shift_length, word_sums};
+pub use laws::{least_tree, shift_length, word_sums};
 pub use prices::WordPrices;
