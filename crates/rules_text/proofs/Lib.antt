@@ -10,3 +10,4 @@ pub mod RuleKept
 pub mod LinesKept
 pub mod Finished
 pub mod NoCycles
+pub mod Tails

@@ -5,3 +5,5 @@ pub mod RuleLine
 pub mod Lines
 pub mod RulesOf
 pub mod Drafts
+pub mod FaultLine
+pub mod Written

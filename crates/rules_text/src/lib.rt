@@ -24,13 +24,18 @@ mod fault;
 mod field;
 mod finish;
 mod line;
+mod message;
 mod names;
 mod place;
+mod put;
 mod read;
 mod rule;
 mod rules;
 mod symbol;
 mod window;
+mod write;
 
 pub use fault::{Limit, RulesFault};
+pub use message::fault_line;
 pub use read::read_rules;
+pub use write::write_rules;

@@ -1,0 +1,10 @@
+pub mod Gcds
+pub mod Entries
+pub mod Rows
+pub mod Order
+pub mod Reduced
+pub mod Coprime
+pub mod Products
+pub mod CommonForms
+pub mod Inverses
+pub mod Floors

@@ -1,0 +1,11 @@
+use Rattle.std.proofs.Common.{◌<◌, ◌^◌}
+use Rattle.fraction.specs.Row.{FitsBelow, new_at}
+use Rattle.linear_programs.specs.RowStep.{IsCommonFactor}
+use Rattle.fraction.proofs.row.common_factor.Given as goal
+
+abbrev pub invariant-loop-j : goal.invariant-loop-j
+invariant-loop-j l = record {
+  fits : FitsBelow l.fn.p l.row l.fn.a l.other l.j;
+  factor : IsCommonFactor (new_at l.fn.p l.row l.fn.a l.other) l.j l.factor;
+  bound : l.factor < 2 ^ 127;
+}

@@ -1,0 +1,30 @@
+//! Exact arithmetic in 128 bits: fractions, row steps of elimination and the tally of refusals.
+//!
+//! A number is in range where it is within 2^127 - 1 in size. Each call answers the exact result, or
+//! refuses with the numbers that it was given.
+#![tactic(auto)]
+
+mod addition;
+mod budget;
+mod checked;
+mod divisors;
+mod floor;
+mod frac;
+mod multiplication;
+mod range;
+mod row;
+mod tally;
+mod wide;
+
+pub use addition::{add, sub};
+pub use budget::Budget;
+pub use checked::{fits, product, scaled, sum};
+pub use divisors::gcd;
+pub use frac::{Frac, compare};
+pub use multiplication::{div, mul};
+pub use row::row_step;
+pub use tally::Tally;
+pub use wide::TooWide;
+
+#[cfg(test)]
+mod tests;

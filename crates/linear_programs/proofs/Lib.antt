@@ -1,0 +1,10 @@
+pub mod Ring
+pub mod Totals
+pub mod RowSteps
+pub mod Duality
+pub mod Tied
+pub mod Start
+pub mod Pivot
+pub mod Solutions
+pub mod Paths
+pub mod RowLaws

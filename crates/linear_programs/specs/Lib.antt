@@ -1,0 +1,5 @@
+pub mod Sums
+pub mod RowStep
+pub mod Program
+pub mod Solution
+pub mod Tableau
