@@ -8,7 +8,8 @@ ghost use Rattle.shelf.specs.Memory.{called, is_steady, next_fails, refused};
 use crate::fault::ShelfFault;
 use crate::quiet::QuietShelf;
 use crate::shelf::Shelf;
-use std::alloc::{AllocError, Global};
+use roster_model::Memory;
+use std::alloc::Global;
 use std::marker::Model;
 
 /// A shelf in memory that also refuses the calls with the listed numbers.
@@ -57,7 +58,7 @@ impl MemoryShelf {
     }
 
     /// Makes the name hold the bytes. Memory alone can refuse it, and it counts as no call.
-    pub fn put(&mut self, name: &str, bytes: &[u8]) -> Result<(), AllocError>
+    pub fn put(&mut self, name: &str, bytes: &[u8]) -> Result<(), Memory>
         ensures ok { OnOk result (self.new ≡ record self.old {
           held = fin.insert self.old.held name.now bytes.now;
         }) }

@@ -6,7 +6,8 @@ ghost use Rattle.shelf.specs.Shelf.{AgreesElsewhere, Fetched, HasCause, one_more
 use crate::fault::ShelfFault;
 use crate::shelf::Shelf;
 use crate::texts::TextMap;
-use std::alloc::{AllocError, Global};
+use roster_model::Memory;
+use std::alloc::Global;
 use std::marker::Model;
 
 /// A shelf in memory that refuses nothing but the fetch of an absent name.
@@ -40,13 +41,16 @@ impl QuietShelf {
     }
 
     /// Makes the name hold the bytes. Memory alone can refuse it.
-    pub fn put(&mut self, name: &str, bytes: &[u8]) -> Result<(), AllocError>
+    pub fn put(&mut self, name: &str, bytes: &[u8]) -> Result<(), Memory>
         ensures ok { OnOk result (self.new ≡ record self.old {
           held = fin.insert self.old.held name.now bytes.now;
         }) }
         ensures err { OnErr result (self.new ≡ self.old) }
     {
-        self.held.put(name, bytes)
+        match self.held.put(name, bytes) {
+            Ok(()) => Ok(()),
+            Err(_) => Err(Memory),
+        }
     }
 
     /// Returns the bytes under the name.

@@ -1,5 +1,5 @@
 -- The parts of two or more symbols, by the length of the first part.
-use Rattle.std.proofs.Common.{◌≡◌, ℕ, suc, ℤ, ◌<◌, ◌+◌, List, ◌∷◌, Option, None, Some, arith, ◌⊎◌, inl, inr}
+use Rattle.std.proofs.Common.{refl, ◌≤◌, ◌≡◌, ℕ, suc, ℤ, ◌<◌, ◌+◌, List, ◌∷◌, Option, None, Some, arith, ◌⊎◌, inl, inr}
 use Rattle.roster_model.specs.declared.grammar.Grammar.{Grammar}
 use Rattle.roster_model.specs.declared.grammar.Sym.{Sym}
 use Rattle.roster_model.specs.declared.grammar.Sym.TheVariants.{Code, Name}
@@ -58,3 +58,14 @@ module _ (g : Grammar) (p : PriceView) (r k i l : ℕ) where
 
   pub suffix-end : (s x : Sym) (ss : List Sym) (best : Option ℤ) → IsLeast (Before (s ∷ x ∷ ss) l) (parts_sum p r k i) best → PartsLeast g p r k (s ∷ x ∷ ss) i l best
   suffix-end s x ss best h = IsLeast-same (Before (s ∷ x ∷ ss) l) (On g (s ∷ x ∷ ss) i l) (parts_sum p r k i) best (λ w q. q.0) (λ w q. (q, first_less s x ss w q)) h
+
+  first_one : (c : ℕ) (ss : List Sym) (w : Parts) → Derive g (Code c ∷ ss) i w → first w ≡ 1
+  first_one c ss done h = absurd h
+  first_one c ss (letter d rest) h = refl
+  first_one c ss (uses q n inner rest) h = absurd h
+
+  -- a letter is no longer than one period
+  pub suffix-end_code : (c : ℕ) (x : Sym) (ss : List Sym) (m : ℕ) (best : Option ℤ) → 2 ≤ m → IsLeast (Before (Code c ∷ x ∷ ss) m) (parts_sum p r k i) best
+      → PartsLeast g p r k (Code c ∷ x ∷ ss) i l best
+  suffix-end_code c x ss m best two h =
+      IsLeast-same (Before (Code c ∷ x ∷ ss) m) (On g (Code c ∷ x ∷ ss) i l) (parts_sum p r k i) best (λ w q. q.0) (λ w q. (q, omega (arith, first_one c (x ∷ ss) w q.0))) h

@@ -3,10 +3,11 @@ use Rattle.std.proofs.Common.{ℤ, ◌≡◌, ℕ, zero, suc, ◌<◌, ◌≤◌
 use Rattle.std.proofs.Math.Seq.{drop-cons}
 use Rattle.roster_model.specs.declared.grammar.Grammar.{Grammar}
 use Rattle.roster_model.specs.declared.grammar.Sym.{Sym}
+use Rattle.roster_model.specs.declared.grammar.Sym.TheVariants.{Code}
 use Rattle.roster_model.specs.Sums.{PriceView, IsLeast, parts_sum, plus}
 use Rattle.roster_model.specs.Sums.{IsLesser}
 use Rattle.tree_laws.specs.Laws.{arc_at}
-use Rattle.tree_laws.proofs.PartLoop.{Before, suffix-step, suffix-end}
+use Rattle.tree_laws.proofs.PartLoop.{Before, suffix-step, suffix-end, suffix-end_code}
 use Rattle.roster_model.specs.Sums.{SymbolLeast, PartsLeast}
 use Rattle.tree_laws.proofs.Ends.{last-least}
 
@@ -58,3 +59,11 @@ module _ (g : Grammar) (p : PriceView) (r k i l : ℕ) (xs : List Sym) (d : Sym)
       subst (λ q. PartsLeast g p r k q i l best) (sym e)
       (suffix-end g p r k i l (get_or xs k d) (get_or xs (suc k) d) (drop (suc (suc k)) xs) best
       (subst (λ q. IsLeast (Before g p r k i l q l) (parts_sum p r k i) best) e h))
+
+  -- the end for a code, whose length is one
+  pub end_code : (c m : ℕ) (best : Option ℤ) → get_or xs k d ≡ Code c → 2 ≤ m → IsLeast (Before g p r k i l (drop k xs) m) (parts_sum p r k i) best → PartsLeast g p r k (drop k xs) i l best
+  end_code c m best at more h =
+      let e = both (Code c) at in
+      subst (λ q. PartsLeast g p r k q i l best) (sym e)
+      (suffix-end_code g p r k i l c (get_or xs (suc k) d) (drop (suc (suc k)) xs) m best more
+      (subst (λ q. IsLeast (Before g p r k i l q m) (parts_sum p r k i) best) e h))

@@ -1,0 +1,6 @@
+use Rattle.std.proofs.Common.{◌+◌, ◌*◌, length}
+use Rattle.span_table.specs.Cells.{RightBefore}
+use Rattle.span_table.proofs.fill.fill_span.Given as goal
+
+abbrev pub invariant-loop-slot : goal.invariant-loop-slot
+invariant-loop-slot g l = RightBefore l.grammar (g.P.LetterPrice.view l.prices) l.layout l.cells (l.place * length l.layout.slots.items + l.slot)

@@ -1,0 +1,13 @@
+use Rattle.std.proofs.Common.{drop, get_or}
+use Rattle.std.specs.Prelude.{OnSome}
+use Rattle.roster_model.specs.Sums.{IsLeast, parts_sum}
+use Rattle.tree_laws.proofs.PartLoop.{Before}
+use Rattle.span_table.specs.Choices.{ChosenPart}
+use Rattle.span_table.proofs.parts.least_part.Given as goal
+
+abbrev pub invariant-loop-part : goal.invariant-loop-part
+invariant-loop-part g l = record {
+  least : IsLeast (Before l.grammar (g.P.LetterPrice.view l.prices) l.suffix.rule l.suffix.from l.span.start l.span.len (drop l.suffix.from l.rule.right) l.part)
+      (parts_sum (g.P.LetterPrice.view l.prices) l.suffix.rule l.suffix.from l.span.start) l.best.sum;
+  chosen : OnSome l.best.sum (ChosenPart l.grammar (g.P.LetterPrice.view l.prices) l.suffix.rule l.suffix.from l.symbol l.rule.right l.span.start l.span.len l.best.number l.best.sum);
+}

@@ -1,0 +1,34 @@
+-- What the walk down a tree of least sum chooses.
+use Rattle.std.specs.Prelude.{ℕ, ℤ, ◌≡◌, ◌+◌, ◌-◌, ◌<◌, ◌≤◌, min, List, Option, Some, drop}
+use Rattle.roster_model.specs.declared.grammar.Grammar.{Grammar}
+use Rattle.roster_model.specs.declared.grammar.Rule.{Rule}
+use Rattle.roster_model.specs.declared.grammar.Sym.{Sym}
+use Rattle.roster_model.specs.declared.grammar.Sym.TheVariants.{Code, Name}
+use Rattle.roster_model.specs.Grammar.{rule_at, Stands}
+use Rattle.roster_model.specs.Sums.{PriceView, plus, SymbolLeast, PartsLeast}
+use Rattle.tree_laws.specs.Laws.{arc_at}
+
+-- the first part of several on a span of l periods is shorter than this
+abbrev pub IsFirstEnd : Sym → ℕ → ℕ → Type 0
+IsFirstEnd (Code c) l end = end ≡ min l 2
+IsFirstEnd (Name x) l end = end ≡ l
+
+-- v is the sum of the least sum of a first part of this length, its arc, and the least sum of the rest
+pub record ChosenPart (g : Grammar) (p : PriceView) (r k : ℕ) (s : Sym) (xs : List Sym) (i l part : ℕ) (v : Option ℤ) : Type 0 where
+  pub head : Option ℤ
+  pub tail : Option ℤ
+  pub low : 1 ≤ part
+  pub high : part < l
+  pub first : SymbolLeast g p s i part head
+  pub rest : PartsLeast g p r (k + 1) (drop (k + 1) xs) (i + part) (l - part) tail
+  pub sum : v ≡ plus head (plus (Some (p.arc_of (arc_at r k i l part))) tail)
+
+-- v is the sum of the price of a rule that stands and the least sum of its parts
+pub record ChosenRule (g : Grammar) (p : PriceView) (x i l number : ℕ) (v : Option ℤ) : Type 0 where
+  pub rule : Rule
+  pub at : rule_at g number ≡ Some rule
+  pub left : rule.left ≡ x
+  pub stands : Stands g.periods rule i l
+  pub inner : Option ℤ
+  pub parts : PartsLeast g p number 0 rule.right i l inner
+  pub sum : v ≡ plus (Some (p.rule_of number)) inner

@@ -1,0 +1,5 @@
+pub mod Numbers
+pub mod Cells
+pub mod Choices
+pub mod Building
+pub mod Tables

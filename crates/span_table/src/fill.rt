@@ -1,0 +1,77 @@
+ghost use Rattle.std.specs.Prelude.{◌≡◌, ◌≤◌, ◌<◌, ◌+◌, ◌*◌, ◌^◌, Some, IfSome, length, slice_get};
+ghost use Rattle.roster_model.specs.Grammar.{InDay};
+ghost use Rattle.roster_model.specs.Sound.{IsSound};
+ghost use Rattle.roster_model.specs.Sums.{Within};
+ghost use Rattle.span_forms.specs.Places.{shorter};
+ghost use Rattle.span_table.specs.declared.slot.Slot.{Slot as Use};
+ghost use Rattle.span_table.specs.Cells.{IsReady, SlotLeast, RightBefore, AreFilled, place};
+
+use crate::cell::Cell;
+use crate::names::{least_rule, rule_of};
+use crate::parts::least_part;
+use crate::slot::{Layout, Slot, Span};
+use roster_model::{Grammar, LetterPrice};
+
+// The least sum of what a slot stands for on a span.
+fn slot_least<P: LetterPrice>(
+    grammar: &Grammar,
+    prices: &P,
+    layout: &Layout,
+    cells: &[Cell],
+    slot: usize,
+    span: Span,
+) -> Option<i128>
+    requires sound { IsSound grammar.now }
+    requires ready { IsReady grammar.now layout.now cells.now }
+    requires day { InDay grammar.now.periods span.start span.len }
+    requires slot { slot < length layout.now.slots.items }
+    requires before { RightBefore grammar.now (P.view prices.now) layout.now cells.now
+        (place layout.now slot span.start span.len) }
+    ensures least { (what : Use) → slice_get layout.now.slots.items slot ≡ Some what
+        → SlotLeast grammar.now (P.view prices.now) what span.start span.len result }
+    ensures within { IfSome result (Within (2 ^ 110)) }
+{
+    match layout.slots[slot] {
+        Slot::OfName(name) => least_rule(grammar, prices, layout, cells, name, span).sum,
+        Slot::OfSuffix(suffix) => {
+            let rule = rule_of(grammar, suffix.rule);
+            least_part(grammar, prices, layout, cells, rule, suffix, span).sum
+        }
+    }
+}
+
+// Fills the cells of the span at a place.
+fn fill_span<P: LetterPrice>(
+    grammar: &Grammar,
+    prices: &P,
+    layout: &Layout,
+    cells: &mut [Cell],
+    place: usize,
+)
+    requires sound { IsSound grammar.now }
+    requires ready { IsReady grammar.now layout.now cells.old }
+    requires place { place < shorter layout.now.spans layout.now.spans }
+    requires before { RightBefore grammar.now (P.view prices.now) layout.now cells.old
+        (place * length layout.now.slots.items) }
+    ensures before { RightBefore grammar.now (P.view prices.now) layout.now cells.new
+        ((place + 1) * length layout.now.slots.items) }
+{
+    let (start, len) = layout.spans.span(place);
+    let span = Span { start, len };
+    let width = layout.slots.len();
+    for slot in 0..width {
+        let sum = slot_least(grammar, prices, layout, cells, slot, span);
+        cells[place * width + slot] = Cell::new(sum);
+    }
+}
+
+/// Fills all cells.
+pub fn fill<P: LetterPrice>(grammar: &Grammar, prices: &P, layout: &Layout, cells: &mut [Cell])
+    requires sound { IsSound grammar.now }
+    requires ready { IsReady grammar.now layout.now cells.old }
+    ensures filled { AreFilled grammar.now (P.view prices.now) layout.now cells.new }
+{
+    for place in 0..layout.spans.count() {
+        fill_span(grammar, prices, layout, cells, place);
+    }
+}

@@ -1,0 +1,134 @@
+ghost use Rattle.std.specs.Prelude.{◌≡◌, ◌≤◌, ◌<◌, ◌+◌, ◌^◌, ℕ, Some, IfSome, OnSome, length, drop, slice_index_or};
+ghost use Rattle.roster_model.specs.Grammar.{rule_at, InDay};
+ghost use Rattle.roster_model.specs.Sound.{IsSound};
+ghost use Rattle.roster_model.specs.Sums.{Within, SymbolLeast, PartsLeast};
+ghost use Rattle.span_table.specs.Cells.{IsReady, NameRight, Right, ShorterRight};
+ghost use Rattle.span_table.specs.Choices.{IsFirstEnd, ChosenPart};
+
+use crate::cell::Cell;
+use crate::layout;
+use crate::slot::{Layout, Span, Suffix};
+use crate::sums::{self, Choice};
+use roster_model::{ArcKey, Grammar, LetterPrice, Rule, Sym};
+
+/// Returns the least sum of a symbol's trees on a span.
+pub fn symbol_least<P: LetterPrice>(
+    grammar: &Grammar,
+    prices: &P,
+    layout: &Layout,
+    cells: &[Cell],
+    symbol: Sym,
+    span: Span,
+) -> Option<i128>
+    requires sound { IsSound grammar.now }
+    requires ready { IsReady grammar.now layout.now cells.now }
+    requires day { InDay grammar.now.periods span.start span.len }
+    requires name { (x : ℕ) → symbol ≡ Sym.Name x → (x < length grammar.now.names)
+        × NameRight grammar.now (P.view prices.now) layout.now cells.now x span.start span.len }
+    ensures least { SymbolLeast grammar.now (P.view prices.now) symbol span.start span.len result }
+    ensures within { IfSome result (Within (2 ^ 110)) }
+{
+    match symbol {
+        Sym::Code(code) => {
+            if span.len == 1 { prices.letter(code, span.start) } else { None }
+        }
+        Sym::Name(name) => layout::read(layout, cells, layout.names[name as usize], span),
+    }
+}
+
+/// Returns the least sum of the parts of a suffix that is not the whole right side, on a span.
+pub fn rest_least<P: LetterPrice>(
+    grammar: &Grammar,
+    prices: &P,
+    layout: &Layout,
+    cells: &[Cell],
+    rule: &Rule,
+    suffix: Suffix,
+    span: Span,
+) -> Option<i128>
+    requires sound { IsSound grammar.now }
+    requires ready { IsReady grammar.now layout.now cells.now }
+    requires day { InDay grammar.now.periods span.start span.len }
+    requires rule { rule_at grammar.now suffix.rule ≡ Some rule.now }
+    requires inner { 1 ≤ suffix.from }
+    requires within { suffix.from < length rule.now.right }
+    requires right { Right grammar.now (P.view prices.now) layout.now cells.now span.start span.len }
+    ensures least { PartsLeast grammar.now (P.view prices.now) suffix.rule suffix.from
+        (drop suffix.from rule.now.right) span.start span.len result }
+    ensures within { IfSome result (Within (2 ^ 110)) }
+{
+    let right = rule.right.as_slice();
+    let from = suffix.from as usize;
+    if from + 1 == right.len() {
+        let last = right[from];
+        symbol_least(grammar, prices, layout, cells, last, span)
+    } else {
+        let slot = layout.suffixes[suffix.rule as usize - 1] + (from - 1);
+        layout::read(layout, cells, slot, span)
+    }
+}
+
+// The length before which a first part stays: a letter has the length 1, and another part follows.
+fn first_end(symbol: Sym, len: u8) -> u8
+    requires { 1 ≤ len }
+    ensures value { IsFirstEnd symbol len result }
+    ensures some { 1 ≤ result }
+    ensures most { result ≤ len }
+{
+    match symbol {
+        Sym::Code(_) => len.min(2),
+        Sym::Name(_) => len,
+    }
+}
+
+/// Returns the least sum of the parts of a suffix of two or more symbols on a span, and the length of
+/// a first part that has it.
+pub fn least_part<P: LetterPrice>(
+    grammar: &Grammar,
+    prices: &P,
+    layout: &Layout,
+    cells: &[Cell],
+    rule: &Rule,
+    suffix: Suffix,
+    span: Span,
+) -> Choice
+    requires sound { IsSound grammar.now }
+    requires ready { IsReady grammar.now layout.now cells.now }
+    requires day { InDay grammar.now.periods span.start span.len }
+    requires rule { rule_at grammar.now suffix.rule ≡ Some rule.now }
+    requires within { suffix.from + 2 ≤ length rule.now.right }
+    requires shorter { ShorterRight grammar.now (P.view prices.now) layout.now cells.now span.len }
+    ensures least { PartsLeast grammar.now (P.view prices.now) suffix.rule suffix.from
+        (drop suffix.from rule.now.right) span.start span.len result.sum }
+    ensures chosen { OnSome result.sum (ChosenPart grammar.now (P.view prices.now) suffix.rule suffix.from
+        (slice_index_or rule.now.right suffix.from (Sym.Code 0)) rule.now.right span.start span.len result.number result.sum) }
+    ensures within { IfSome result.sum (Within (2 ^ 110)) }
+{
+    let symbol = rule.right.as_slice()[suffix.from as usize];
+    let next = Suffix {
+        rule: suffix.rule,
+        from: suffix.from + 1,
+    };
+    let mut best = Choice::none();
+    for part in 1..first_end(symbol, span.len) {
+        let first = Span {
+            start: span.start,
+            len: part,
+        };
+        let others = Span {
+            start: span.start + part,
+            len: span.len - part,
+        };
+        let a = symbol_least(grammar, prices, layout, cells, symbol, first);
+        let b = rest_least(grammar, prices, layout, cells, rule, next, others);
+        let arc = prices.arc(&ArcKey {
+            rule: suffix.rule,
+            suffix: suffix.from,
+            start: span.start,
+            len: span.len,
+            part,
+        });
+        best = best.or(sums::add_part(a, arc, b), part);
+    }
+    best
+}

@@ -1,0 +1,79 @@
+ghost use Rattle.std.specs.Prelude.{◌≡◌, ◌<◌, IfOk, length};
+ghost use Rattle.roster_model.specs.declared.grammar.Grammar.{Grammar as Rules};
+ghost use Rattle.roster_model.specs.Sound.{IsSound};
+ghost use Rattle.roster_model.specs.Trees.{IsDayTree, IsTreeOf};
+ghost use Rattle.roster_model.specs.Sums.{PriceView, IsLeast, tree_sum};
+ghost use Rattle.span_table.specs.Tables.{IsMadeFor, IsFilled};
+
+use crate::build::layout_of;
+use crate::cell::Cell;
+use crate::fill::fill;
+use crate::layout;
+use crate::slot::{Layout, Span};
+use roster_model::{Grammar, LetterPrice, Memory};
+use std::alloc::Global;
+use std::marker::Model;
+
+/// The least sums of all trees of a grammar's names, and of the parts of its rules' suffixes, on all
+/// spans of the day.
+#[derive(Drop)]
+pub struct Table {
+    layout: Layout,
+    cells: Vec<Cell>,
+}
+
+impl Model for Table {
+    ghost use Rattle.span_table.specs.Tables.{TableView};
+
+    ghost Value = { TableView };
+
+    ghost view = { λ t. record { layout = t.layout; cells = t.cells.items } };
+}
+
+impl Table {
+    /// Returns a table for the trees of a sound grammar. Later calls take the same grammar.
+    ///
+    /// It has taken the memory for all of them: sixteen bytes for each name, and for each suffix of
+    /// two or more symbols that is not a whole right side, on each span of the day.
+    pub fn for_instance(alloc: Global, grammar: &Grammar) -> Result<Table, Memory>
+        requires { IsSound grammar.now }
+        ensures { IfOk result (IsMadeFor grammar.now) }
+    {
+        let layout = layout_of(alloc, grammar)?;
+        let count = layout.spans.count() * layout.slots.len();
+        match vec![in alloc; Cell::new(None); count] {
+            Ok(cells) => Ok(Table { layout, cells }),
+            Err(_) => Err(Memory),
+        }
+    }
+
+    /// Fills the table for the prices, and returns the least sum over all trees of the start name on
+    /// the day; `None` exactly where no such tree has a sum. Takes no memory.
+    pub fn least<P: LetterPrice>(&mut self, grammar: &Grammar, prices: &P) -> Option<i128>
+        requires sound { IsSound grammar.now }
+        requires made { IsMadeFor grammar.now self.old }
+        ensures least { IsLeast (IsDayTree grammar.now) (tree_sum (P.view prices.now) 1) result }
+        ensures filled { IsFilled grammar.now (P.view prices.now) self.new }
+        ensures kept { (g : Rules) → IsMadeFor g self.old → IsMadeFor g self.new }
+    {
+        fill(grammar, prices, &self.layout, self.cells.as_mut_slice());
+        self.value(grammar, grammar.start)
+    }
+
+    /// Returns the least sum over all trees of a name on the day, under the prices for which the
+    /// table is filled; `None` exactly where no such tree has a sum. Takes no memory.
+    pub fn value(&self, grammar: &Grammar, name: u8) -> Option<i128>
+        requires sound { IsSound grammar.now }
+        requires made { IsMadeFor grammar.now self.now }
+        requires name { name < length grammar.now.names }
+        ensures { (p : PriceView) → IsFilled grammar.now p self.now
+            → IsLeast (IsTreeOf grammar.now name) (tree_sum p 1) result }
+    {
+        let day = Span {
+            start: 1,
+            len: grammar.periods,
+        };
+        let slot = self.layout.names[name as usize];
+        layout::read(&self.layout, self.cells.as_slice(), slot, day)
+    }
+}
