@@ -99,6 +99,11 @@ module _ (g : Grammar) (p : PriceView) (lay : Layout) (fits : IsLayoutOf g lay) 
   pub filled-shorter : (xs : List (Option ℤ)) → AreFilled g p lay xs → (l : ℕ) → ShorterRight g p lay xs l
   filled-shorter xs filled l j m there less = filled-right xs filled j m there
 
+-- in a filled table the names to which one-symbol rules lead are right
+pub filled-later : (g : Grammar) (p : PriceView) (lay : Layout) → IsLayoutOf g lay → IsSound g → (xs : List (Option ℤ)) → AreFilled g p lay xs → (x i l : ℕ) → InDay g.periods i l → LaterRight g p lay xs x i l
+filled-later g p lay fits sound xs filled x i l day r y rule at left right =
+    (filled-right g p lay fits xs filled i l day).names y (sound-symbol g sound r 0 rule (Name y) [] at right)
+
 -- in a filled table the cell of a name on the day is the least sum of its trees of the day
 pub day-least : (g : Grammar) (p : PriceView) (t : TableView) → IsSound g → IsMadeFor g t → IsFilled g p t → (x : ℕ) → x < length g.names
     → IsLeast (IsTreeOf g x) (tree_sum p 1) (cell t.layout t.cells (name_slot t.layout x) 1 g.periods)

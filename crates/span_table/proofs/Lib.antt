@@ -6,3 +6,5 @@ pub mod Pushing
 pub mod Suffixing
 pub mod Naming
 pub mod Layouts
+pub mod Walking
+pub mod Asking

@@ -3,3 +3,4 @@ pub mod Cells
 pub mod Choices
 pub mod Building
 pub mod Tables
+pub mod Walks

@@ -10,5 +10,6 @@ mod parts;
 mod slot;
 mod sums;
 mod table;
+mod walk;
 
 pub use table::Table;

@@ -1,16 +1,18 @@
 ghost use Rattle.std.specs.Prelude.{◌≡◌, ◌<◌, IfOk, length};
 ghost use Rattle.roster_model.specs.declared.grammar.Grammar.{Grammar as Rules};
+ghost use Rattle.roster_model.specs.Room.{most_uses};
 ghost use Rattle.roster_model.specs.Sound.{IsSound};
 ghost use Rattle.roster_model.specs.Trees.{IsDayTree, IsTreeOf};
 ghost use Rattle.roster_model.specs.Sums.{PriceView, IsLeast, tree_sum};
-ghost use Rattle.span_table.specs.Tables.{IsMadeFor, IsFilled};
+ghost use Rattle.span_table.specs.Tables.{IsMadeFor, IsFilled, HasDaySum, HoldsLeastTree};
 
 use crate::build::layout_of;
 use crate::cell::Cell;
 use crate::fill::fill;
 use crate::layout;
 use crate::slot::{Layout, Span};
-use roster_model::{Grammar, LetterPrice, Memory};
+use crate::walk::write_tree;
+use roster_model::{Grammar, LetterPrice, Memory, Sym, TreeRoom};
 use std::alloc::Global;
 use std::marker::Model;
 
@@ -75,5 +77,25 @@ impl Table {
         };
         let slot = self.layout.names[name as usize];
         layout::read(&self.layout, self.cells.as_slice(), slot, day)
+    }
+
+    /// Leaves in the room the steps of a tree of the day of least sum, under the prices for which
+    /// the table is filled. Takes no memory.
+    pub fn tree<P: LetterPrice>(&self, grammar: &Grammar, prices: &P, room: &mut TreeRoom)
+        requires sound { IsSound grammar.now }
+        requires made { IsMadeFor grammar.now self.now }
+        requires filled { IsFilled grammar.now (P.view prices.now) self.now }
+        requires sum { HasDaySum grammar.now (P.view prices.now) }
+        requires room { room.old.most ≡ most_uses grammar.now }
+        ensures tree { HoldsLeastTree grammar.now (P.view prices.now) room.new }
+        ensures kept { room.new.most ≡ room.old.most }
+    {
+        room.clear();
+        let day = Span {
+            start: 1,
+            len: grammar.periods,
+        };
+        let start = Sym::Name(grammar.start);
+        write_tree(grammar, prices, &self.layout, self.cells.as_slice(), start, day, room);
     }
 }

@@ -24,7 +24,8 @@ plus-end None e = refl
 plus-end (Some z) e = ap Some (omega (arith, ints))
 
 module _ (g : Grammar) (p : PriceView) (i l : ℕ) where
-  last_sum : (r k : ℕ) (s : Sym) (t : Parts) → On g (s ∷ []) i l t → tree_sum p i t ≡ parts_sum p r (suc k) i t
+  -- the sum of a last part is that of its tree
+  pub last_sum : (r k : ℕ) (s : Sym) (t : Parts) → On g (s ∷ []) i l t → tree_sum p i t ≡ parts_sum p r (suc k) i t
   last_sum r k (Code c) done h = absurd h.0
   last_sum r k (Code c) (uses q z inner rest) h = absurd h.0
   last_sum r k (Code c) (letter d done) h = sym (plus-zero (p.letter_at d i))
@@ -40,7 +41,8 @@ module _ (g : Grammar) (p : PriceView) (i l : ℕ) where
   pub last-least : (r k : ℕ) (s : Sym) (a : Option ℤ) → SymbolLeast g p s i l a → PartsLeast g p r (suc k) (s ∷ []) i l a
   last-least r k s a h = IsLeast-sums (On g (s ∷ []) i l) (tree_sum p i) (parts_sum p r (suc k) i) a (last_sum r k s) h
 
-  only_sum : (r : ℕ) (s : Sym) (t : Parts) → On g (s ∷ []) i l t → plus (tree_sum p i t) (Some (p.arc_of (arc_at r 0 i l l))) ≡ parts_sum p r 0 i t
+  -- the sum of an only part is that of its tree and its arc
+  pub only_sum : (r : ℕ) (s : Sym) (t : Parts) → On g (s ∷ []) i l t → plus (tree_sum p i t) (Some (p.arc_of (arc_at r 0 i l l))) ≡ parts_sum p r 0 i t
   only_sum r (Code c) done h = absurd h.0
   only_sum r (Code c) (uses q z inner rest) h = absurd h.0
   only_sum r (Code c) (letter d done) h =
@@ -79,6 +81,11 @@ module _ (g : Grammar) (p : PriceView) (i l : ℕ) where
   plus-rule a None e k = tt
   plus-rule None (Some b) e k = k
   plus-rule (Some a) (Some b) e k = omega (arith, ints)
+
+  -- parts of a rule's right side make a tree of its left side
+  pub rooted : (q x : ℕ) (rule : Rule) (t : Parts) → rule_at g q ≡ Some rule → rule.left ≡ x → Stands g.periods rule i l → 0 < l → On g rule.right i l t
+      → On g (Name x ∷ []) i l (uses q l t done)
+  rooted q x rule t at left stands some h = ((rule, at, left, stands, some, h.1, h.0, tt), omega arith)
 
   -- the trees of a name by one rule that stands
   pub rule-least : (q x : ℕ) (rule : Rule) (a : Option ℤ) → rule_at g q ≡ Some rule → rule.left ≡ x → Stands g.periods rule i l → 0 < l

@@ -1,5 +1,5 @@
 -- How many rule uses a tree has, and how large its sum is.
-use Rattle.std.proofs.Common.{◌≡◌, ℕ, zero, suc, ℤ, ◌<◌, ◌≤◌, ◌+◌, ◌*◌, ◌^◌, List, [], ◌∷◌, Option, None, Some, IfSome, arith, refl, subst, length, length-append}
+use Rattle.std.proofs.Common.{◌++◌, ◌∙◌, ap, sym, append_assoc, ◌≡◌, ℕ, zero, suc, ℤ, ◌<◌, ◌≤◌, ◌+◌, ◌*◌, ◌^◌, List, [], ◌∷◌, Option, None, Some, IfSome, arith, refl, subst, length, length-append}
 use Rattle.std.proofs.Math.Nat.{mul-le-mul_right}
 use Rattle.std.proofs.lemmas.Int.{ints}
 use Rattle.roster_model.specs.declared.grammar.Grammar.{Grammar}
@@ -9,7 +9,7 @@ use Rattle.roster_model.specs.declared.grammar.Sym.TheVariants.{Code, Name}
 use Rattle.roster_model.specs.Grammar.{rule_at}
 use Rattle.roster_model.specs.Trees.{Parts, done, letter, uses, covers, Derive, steps}
 use Rattle.roster_model.specs.UnitRules.{IsRanked}
-use Rattle.tree_laws.specs.Parts.{use_count, part_count}
+use Rattle.tree_laws.specs.Parts.{use_count, part_count, beside}
 use Rattle.roster_model.specs.Sums.{PriceView, parts_sum, arc_sum, plus, Within, AllWithin}
 
 abbrev pub tops : Parts → ℕ
@@ -98,6 +98,24 @@ length-steps done i = refl
 length-steps (letter c rest) i = length-steps rest (i + 1)
 length-steps (uses r n inner rest) i =
     omega (arith, length-append (steps i inner) (steps (i + n) rest), length-steps inner i, length-steps rest (i + n))
+
+-- the steps of parts side by side
+pub steps-beside : (t u : Parts) (i : ℕ) → steps i (beside t u) ≡ steps i t ++ steps (i + covers t) u
+steps-beside done u i = let e : i ≡ i + 0 = omega arith in ap (λ (n : ℕ). steps n u) e
+steps-beside (letter c rest) u i =
+    let e : i + 1 + covers rest ≡ i + (1 + covers rest) = omega arith in
+    steps-beside rest u (i + 1) ∙ ap (λ (n : ℕ). steps (i + 1) rest ++ steps n u) e
+steps-beside (uses r n inner rest) u i =
+    let e : i + n + covers rest ≡ i + (n + covers rest) = omega arith in
+    let b = steps-beside rest u (i + n) ∙ ap (λ (m : ℕ). steps (i + n) rest ++ steps m u) e in
+    ap (λ xs. (record { rule = r; start = i; len = n } ∷ steps i inner) ++ xs) b
+    ∙ sym (append_assoc (record { rule = r; start = i; len = n } ∷ steps i inner) (steps (i + n) rest) (steps (i + (n + covers rest)) u))
+
+-- their uses
+pub use_count-beside : (t u : Parts) → use_count (beside t u) ≡ use_count t + use_count u
+use_count-beside done u = omega arith
+use_count-beside (letter c rest) u = use_count-beside rest u
+use_count-beside (uses r n inner rest) u = omega (arith, use_count-beside rest u)
 
 module _ (p : PriceView) (all : AllWithin (2 ^ 96) p) where
   arc_within : (r k i s : ℕ) (t : Parts) → Within (2 ^ 96) (arc_sum p r k i s t)

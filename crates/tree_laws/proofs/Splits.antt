@@ -9,7 +9,7 @@ use Rattle.roster_model.specs.Sums.{PriceView, parts_sum, tree_sum, arc_sum, IsL
 use Rattle.roster_model.specs.Trees.{On}
 use Rattle.tree_laws.specs.Laws.{arc_at}
 use Rattle.roster_model.specs.Sums.{SymbolLeast, PartsLeast}
-use Rattle.tree_laws.specs.Parts.{first}
+use Rattle.tree_laws.specs.Parts.{first, beside}
 
 arc_more : (g : Grammar) (p : PriceView) (r k i s j : ℕ) (x : Sym) (ss : List Sym) (u : Parts) → Derive g (x ∷ ss) j u
     → arc_sum p r k i s u ≡ p.arc_of (arc_at r k i (s + covers u) s)
@@ -24,9 +24,9 @@ moved g ss u i j e h = subst (λ y. Derive g ss y u) e h
 
 module _ (g : Grammar) (p : PriceView) (r k i m n l : ℕ) (x : Sym) (ss : List Sym) (fits : m + n ≡ l) where
   -- a tree of the first symbol and parts of the others stand side by side
-  joined : (s : Sym) (t u : Parts) → On g (s ∷ []) i m t → On g (x ∷ ss) (i + m) n u
-      → (w : Parts) × On g (s ∷ x ∷ ss) i l w × (first w ≡ m)
-      × (parts_sum p r k i w ≡ plus (tree_sum p i t) (plus (Some (p.arc_of (arc_at r k i l m))) (parts_sum p r (suc k) (i + m) u)))
+  pub joined : (s : Sym) (t u : Parts) → On g (s ∷ []) i m t → On g (x ∷ ss) (i + m) n u
+      → On g (s ∷ x ∷ ss) i l (beside t u) × (first (beside t u) ≡ m)
+      × (parts_sum p r k i (beside t u) ≡ plus (tree_sum p i t) (plus (Some (p.arc_of (arc_at r k i l m))) (parts_sum p r (suc k) (i + m) u)))
   joined (Code c) done u ht hu = absurd ht.0
   joined (Code c) (uses q z inner rest) u ht hu = absurd ht.0
   joined (Code c) (letter d (letter d' rest)) u ht hu = absurd ht.0.1
@@ -38,7 +38,7 @@ module _ (g : Grammar) (p : PriceView) (r k i m n l : ℕ) (x : Sym) (ss : List 
       let len : 1 + covers u ≡ l = omega arith in
       let a : arc_sum p r k i 1 u ≡ p.arc_of (arc_at r k i l m) = rw (← len, one) e in
       let b : parts_sum p r (suc k) (i + 1) u ≡ parts_sum p r (suc k) (i + m) u = ap (λ y. parts_sum p r (suc k) y u) (sym at) in
-      (letter d u, ((ht.0.0, moved g (x ∷ ss) u (i + m) (i + 1) at hu.0), len), sym one, rw (a, b))
+      (((ht.0.0, moved g (x ∷ ss) u (i + m) (i + 1) at hu.0), len), sym one, rw (a, b))
   joined (Name c) done u ht hu = absurd ht.0
   joined (Name c) (letter d rest) u ht hu = absurd ht.0
   joined (Name c) (uses q z inner (letter d rest)) u ht hu = absurd ht.0.7
@@ -50,7 +50,7 @@ module _ (g : Grammar) (p : PriceView) (r k i m n l : ℕ) (x : Sym) (ss : List 
       let len : z + covers u ≡ l = omega arith in
       let a : arc_sum p r k i z u ≡ p.arc_of (arc_at r k i l m) = rw (← len, one) e in
       let b : parts_sum p r (suc k) (i + z) u ≡ parts_sum p r (suc k) (i + m) u = ap (λ y. parts_sum p r (suc k) y u) (sym at) in
-      (uses q z inner u, ((ht.0.0, ht.0.1, ht.0.2, ht.0.3, ht.0.4, ht.0.5, ht.0.6, moved g (x ∷ ss) u (i + m) (i + z) at hu.0), len), sym one, rw (a, b))
+      (((ht.0.0, ht.0.1, ht.0.2, ht.0.3, ht.0.4, ht.0.5, ht.0.6, moved g (x ∷ ss) u (i + m) (i + z) at hu.0), len), sym one, rw (a, b))
 
   -- and each list of parts whose first has length m is of that kind
   parted : (s : Sym) (w : Parts) → On g (s ∷ x ∷ ss) i l w → first w ≡ m
@@ -63,7 +63,6 @@ module _ (g : Grammar) (p : PriceView) (r k i m n l : ℕ) (x : Sym) (ss : List 
   parted (Code c) (letter d u) h f =
       let hu : On g (x ∷ ss) (i + m) n u = (moved g (x ∷ ss) u (i + 1) (i + m) (omega arith) h.0.1, omega arith) in
       let ht : On g (Code c ∷ []) i m (letter d done) = ((h.0.0, tt), omega arith) in
-      let j = joined (Code c) (letter d done) u ht hu in
       let e : arc_sum p r k i 1 u ≡ p.arc_of (arc_at r k i (1 + covers u) 1) = arc_more g p r k i 1 (i + m) x ss u hu.0 in
       let len : 1 + covers u ≡ l = omega arith in
       let a : arc_sum p r k i 1 u ≡ p.arc_of (arc_at r k i l m) = rw (← len, ← f) e in
@@ -97,9 +96,9 @@ module _ (g : Grammar) (p : PriceView) (r k i m n l : ℕ) (x : Sym) (ss : List 
       attained (Some y) None h k = tt
       attained (Some y) (Some z) h o =
           let j = joined s h.0 o.0 h.1 o.1 in (
-            j.0,
-            (j.1, j.2),
-            j.3 ∙ ap (λ q. plus q (plus (Some (p.arc_of (arc_at r k i l m))) (parts_sum p r (suc k) (i + m) o.0))) h.2
+            beside h.0 o.0,
+            (j.0, j.1),
+            j.2 ∙ ap (λ q. plus q (plus (Some (p.arc_of (arc_at r k i l m))) (parts_sum p r (suc k) (i + m) o.0))) h.2
                 ∙ ap (λ q. plus (Some y) (plus (Some (p.arc_of (arc_at r k i l m))) q)) o.2,
           )
 

@@ -25,3 +25,9 @@ abbrev pub part_count : Parts → ℕ
 part_count done = 0
 part_count (letter c rest) = 1 + part_count rest
 part_count (uses r n inner rest) = 1 + part_count inner + part_count rest
+
+-- parts and the parts that follow them
+abbrev pub beside : Parts → Parts → Parts
+beside done u = u
+beside (letter c rest) u = letter c (beside rest u)
+beside (uses r n inner rest) u = uses r n inner (beside rest u)
