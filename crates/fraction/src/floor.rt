@@ -4,7 +4,8 @@ ghost use Rattle.std.specs.Prelude.{FitsSigned};
 ghost use Rattle.std.specs.Int.{w128};
 ghost use Rattle.fraction.specs.Scaled.{scaled_floor};
 
-/// Returns the quotient and the remainder of `2 * rest + more` added to `2 * quotient * den`.
+/// Returns the quotient and the remainder by `den` of twice a number and `more`, from those of the
+/// number.
 fn doubled(quotient: u64, rest: u128, more: u128, den: u128) -> (u64, u128)
     requires quotient { quotient < 2 ^ 31 }
     requires rest { rest < den }

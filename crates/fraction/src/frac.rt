@@ -7,7 +7,7 @@ ghost use Rattle.fraction.specs.Fraction.{IsFraction, IsSameSign};
 use crate::divisors::gcd;
 use std::cmp::Ordering;
 
-/// A fraction in lowest terms with a positive denominator.
+/// A fraction in lowest terms, with a positive denominator; both numbers are in range.
 #[derive(Clone, Copy, PartialEq, Eq, Debug)]
 pub struct Frac {
     num: i128,
@@ -16,7 +16,7 @@ pub struct Frac {
 }
 
 impl Frac {
-    /// `num / den` in lowest terms.
+    /// Returns `num / den` in lowest terms.
     pub fn new(num: i128, den: i128) -> Frac
         requires num { InRange num }
         requires den { InRange den }
@@ -30,8 +30,8 @@ impl Frac {
         }
     }
 
-    /// A fraction that is in lowest terms already.
-    pub fn from_reduced(num: i128, den: i128) -> Frac
+    /// Returns the fraction of two numbers that are in lowest terms already.
+    pub(crate) fn from_reduced(num: i128, den: i128) -> Frac
         requires { IsFraction num den }
         ensures num { result.num ≡ num }
         ensures den { result.den ≡ den }
@@ -39,14 +39,14 @@ impl Frac {
         Frac { num, den }
     }
 
-    /// The numerator.
+    /// Returns the numerator.
     pub fn num(&self) -> i128
         ensures { result ≡ self.now.num }
     {
         self.num
     }
 
-    /// The denominator.
+    /// Returns the denominator, which is above 0.
     pub fn den(&self) -> i128
         ensures value { result ≡ self.now.den }
         ensures positive { pos 0 <ℤ result }
@@ -55,7 +55,7 @@ impl Frac {
     }
 }
 
-/// The greatest common divisor of both, with the sign of the second.
+/// Returns the greatest common divisor of both, with the sign of the second.
 fn divisor(num: i128, den: i128) -> i128
     requires num { InRange num }
     requires den { InRange den }
@@ -68,7 +68,7 @@ fn divisor(num: i128, den: i128) -> i128
     if den < 0 { -g } else { g }
 }
 
-/// The order of `a / b` and `c / d`, by quotients and remainders.
+/// Returns the order of `a / b` and `c / d`, by quotients and remainders.
 fn compare_unsigned(a: u128, b: u128, c: u128, d: u128) -> Ordering
     requires b { 0 < b }
     requires d { 0 < d }
@@ -90,7 +90,7 @@ fn compare_unsigned(a: u128, b: u128, c: u128, d: u128) -> Ordering
     }
 }
 
-/// The order of two fractions.
+/// Returns the order of two fractions, of any numbers.
 pub fn compare(a: &Frac, b: &Frac) -> Ordering
     ensures { result ≡ int_cmp (a.now.num *ℤ b.now.den) (b.now.num *ℤ a.now.den) }
 {

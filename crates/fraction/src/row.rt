@@ -30,7 +30,7 @@ fn next_factor(factor: u128, entry: i128) -> u128
     if factor == 1 {
         1
     } else {
-        gcd_unsigned(factor, entry.unsigned_abs())
+        gcd_unsigned(entry.unsigned_abs(), factor)
     }
 }
 

@@ -8,3 +8,4 @@ pub mod Pivot
 pub mod Solutions
 pub mod Paths
 pub mod RowLaws
+pub mod Worked

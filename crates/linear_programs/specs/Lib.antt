@@ -3,3 +3,4 @@ pub mod RowStep
 pub mod Program
 pub mod Solution
 pub mod Tableau
+pub mod Example

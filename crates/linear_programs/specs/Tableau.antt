@@ -69,6 +69,14 @@ IsWide m t =
     ⊎ (2 ^ 56 < unsigned_abs t.value)
     ⊎ (2 ^ 56 < unsigned_abs t.kappa)
 
+-- some pivot path of the program ends in a wide tableau
+abbrev pub HasWidePath : {K : Type 0} → Program K → Type 0
+HasWidePath {K} p = (n : ℕ) × (t : Tableau K) × PivotPath p n t × IsWide p.rows t
+
+-- some pivot path of n steps ends with a column of the set that has a negative reduced cost
+abbrev pub HasOpenPath : {K : Type 0} → Program K → ℕ → Type 0
+HasOpenPath {K} p n = (t : Tableau K) × PivotPath p n t × (k : K) × p.belongs k × (reduced p.rows t.y t.kappa (p.column k) <ℤ pos 0)
+
 -- the weights w 0 to w (n - 1), on the basic columns of the first n rows
 abbrev pub on_basis : {K : Type 0} → (ℕ → K) → (ℕ → ℕ) → ℕ → List (Weighted K)
 on_basis basis w zero = []

@@ -3,6 +3,7 @@ ghost use Rattle.linear_programs.specs.Sums.{dot};
 ghost use Rattle.linear_programs.specs.RowStep.{IsRowStep, MeetsRow};
 ghost use Rattle.linear_programs.specs.Program.{Program, IsSound, IsPricedOut};
 ghost use Rattle.linear_programs.specs.Solution.{Weighted, IsSolution, IsValue, IsBasic, cost_of};
+ghost use Rattle.linear_programs.specs.Example.{example_program, last_tableau};
 ghost use Rattle.linear_programs.specs.Tableau.{Tableau, PivotPath, IsTableauSolution, on_basis};
 
 /// Any linear program, for the laws that hold of each. Its columns are told apart by keys.
@@ -56,4 +57,12 @@ pub fn row_steps_keep_solutions()
 /// Rows with the same numbers take the same step.
 pub fn row_steps_read_numbers()
     ensures { (n : ℕ) (p : ℤ) (row row' : ℕ → ℤ) (a : ℤ) (other other' left left' : ℕ → ℤ) (g : ℤ) → IsRowStep n p row a other left g → ((k : ℕ) → k < n → row k ≡ row' k) → ((k : ℕ) → k < n → other k ≡ other' k) → ((k : ℕ) → k < n → left k ≡ left' k) → IsRowStep n p row' a other' left' g }
+{}
+
+/// A worked program: one step leads to a tableau that is priced out, with the value 2.
+pub fn example_is_optimal()
+    ensures sound { IsSound example_program }
+    ensures path { PivotPath example_program 1 last_tableau }
+    ensures priced { IsPricedOut example_program last_tableau.y last_tableau.kappa }
+    ensures value { IsValue example_program (pos 2) 1 }
 {}

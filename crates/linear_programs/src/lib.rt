@@ -7,7 +7,7 @@
 mod laws;
 
 pub use laws::{
-    LinearProgram, paths_keep_solutions, paths_stay_feasible, priced_out_paths_are_optimal,
-    prices_bound_solutions, row_steps_keep_solutions, row_steps_read_numbers,
-    tableau_solutions_are_basic,
+    LinearProgram, example_is_optimal, paths_keep_solutions, paths_stay_feasible,
+    priced_out_paths_are_optimal, prices_bound_solutions, row_steps_keep_solutions,
+    row_steps_read_numbers, tableau_solutions_are_basic,
 };

@@ -1,16 +1,15 @@
 -- A code that is declared keeps the codes sound.
-use Rattle.std.proofs.Common.{◌≡◌, ℕ, zero, suc, ◌+◌, ◌<◌, ◌≤◌, Bool, true, false, not, ◌&&◌, ◌||◌, cond, List, [], ◌∷◌, ◌++◌, length, get_or, Option, Some, None, refl, sym, ap, ◌∙◌, arith, inl, inr, ◌⊎◌, eqb, leb, length-append, subst, Ok, Result}
-use Rattle.std.specs.Prelude.{slice_get, slice_index, count_by, All, ◌≢◌}
+use Rattle.std.proofs.Common.{◌≡◌, ℕ, zero, suc, ◌+◌, ◌<◌, ◌≤◌, Bool, true, false, not, ◌&&◌, cond, List, [], ◌∷◌, ◌++◌, length, Some, refl, sym, ap, ◌∙◌, arith, inl, inr, ◌⊎◌, eqb, leb, length-append, subst, Ok}
+use Rattle.std.specs.Prelude.{slice_get, slice_index, count_by, ◌≢◌}
 use Rattle.std.specs.List.{list_any}
-use Rattle.std.proofs.lemmas.Bool.{or_parts, and_cases, not-true, eq-eqb, true_from_ne_false, cases_Bool, cases_lt, leb-true, le-leb}
+use Rattle.std.proofs.lemmas.Bool.{or_parts, eq-eqb, cases_lt, le-leb}
 use Rattle.std.proofs.lemmas.Option.{slice_get_within}
 use Rattle.std.proofs.lemmas.List.Elements.{All-push}
 use Rattle.std.proofs.lemmas.List.Sums.{sum_by-append}
 use Rattle.roster_model.specs.declared.grammar.CodeDef.{CodeDef}
 use Rattle.roster_model.specs.Names.{is_code_byte}
 use Rattle.roster_model.specs.Sound.{AreCodes}
-use Rattle.rules_text.specs.declared.fault.RulesFault.{RulesFault}
-use Rattle.rules_text.specs.Lines.{is_declared, declare_at}
+use Rattle.rules_text.specs.Lines.{declare_at}
 use Rattle.rules_text.proofs.Inversions.{passed, same_ok}
 
 -- an item of a list with one more item

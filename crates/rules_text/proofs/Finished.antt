@@ -1,23 +1,21 @@
 -- What the end of a text leaves: a sound grammar, if its names have ranks.
-use Rattle.std.proofs.Common.{◌≡◌, ℕ, ◌+◌, ◌<◌, ◌≤◌, Bool, true, false, cond, List, [], ◌∷◌, length, get_or, Option, Some, None, Result, Ok, Err, refl, sym, ap, ◌∙◌, arith, inl, inr, ltb, subst}
+use Rattle.std.proofs.Common.{◌≡◌, ℕ, ◌+◌, ◌<◌, ◌≤◌, Bool, true, false, cond, List, [], ◌∷◌, length, get_or, Option, Some, None, Ok, refl, sym, ap, ◌∙◌, arith, inl, inr, ltb, subst}
 use Rattle.std.specs.Prelude.{slice_get, IfSome}
 use Rattle.std.specs.Str.{bytes_eq}
 use Rattle.std.proofs.lemmas.Bool.{ltb-true, cases_eq}
 use Rattle.std.proofs.lemmas.Option.{slice_get-get_or}
 use Rattle.roster_model.specs.declared.grammar.Rule.{Rule}
 use Rattle.roster_model.specs.Names.{is_name, added_name}
-use Rattle.roster_model.specs.Sound.{has_rule, IsSound, IsPlain}
-use Rattle.rules_text.specs.declared.fault.RulesFault.{RulesFault}
+use Rattle.roster_model.specs.Sound.{has_rule}
 use Rattle.rules_text.specs.declared.fault.RulesFault.TheVariants.{TooLong}
 use Rattle.rules_text.specs.Steps.{◌>>=◌}
 use Rattle.rules_text.specs.declared.draft.Draft.{Draft}
 use Rattle.rules_text.specs.declared.draft.Parsed.{Parsed}
-use Rattle.rules_text.specs.declared.draft.Start.{Start}
 use Rattle.rules_text.specs.declared.place.Place.{Place}
 use Rattle.rules_text.specs.Names.{has_name, place_of}
-use Rattle.rules_text.specs.RulesOf.{unruled, all_ruled, no_rule, some_periods, some_start, parsed, finish, draft_of, parsed_of}
-use Rattle.rules_text.specs.Drafts.{AreNamed, IsDraft, IsParsed}
-use Rattle.rules_text.proofs.Inversions.{ok, err, passed, held, bind_ok, same_ok}
+use Rattle.rules_text.specs.RulesOf.{unruled, all_ruled, some_periods, some_start, parsed, finish, draft_of, parsed_of}
+use Rattle.rules_text.specs.Drafts.{IsDraft, IsParsed}
+use Rattle.rules_text.proofs.Inversions.{passed, held, bind_ok, same_ok}
 use Rattle.rules_text.proofs.Places.{any_place}
 use Rattle.rules_text.proofs.LinesKept.{draft_keeps}
 

@@ -9,5 +9,14 @@ pub mod Orders
 pub mod RuleKept
 pub mod LinesKept
 pub mod Finished
-pub mod NoCycles
 pub mod Tails
+pub mod RuleSound
+pub mod RuleAgain
+pub mod CodesAgain
+pub mod RulesAgain
+pub mod FineLines
+pub mod GrammarAgain
+pub mod OneReading
+pub mod FaultAt
+pub mod LineForms
+pub mod Readings

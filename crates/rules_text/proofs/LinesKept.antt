@@ -1,15 +1,13 @@
 -- A line that is read keeps what was read sound.
-use Rattle.std.proofs.Common.{◌≡◌, ℕ, ◌<◌, ◌≤◌, Bool, true, false, not, cond, List, [], ◌∷◌, length, Option, Some, None, Result, Ok, Err, refl, arith, subst}
-use Rattle.std.specs.Prelude.{codes, IfSome, is_some, slice_get}
+use Rattle.std.proofs.Common.{◌≡◌, ℕ, ◌≤◌, Bool, true, false, not, cond, List, [], ◌∷◌, length, Some, Result, Ok, Err, refl, arith, subst}
+use Rattle.std.specs.Prelude.{codes, is_some}
 use Rattle.std.specs.Str.{bytes_eq}
 use Rattle.std.proofs.lemmas.List.Elements.{All-nil, All-weaker}
 use Rattle.text_lines.specs.Lines.{TextLine, text_items}
 use Rattle.text_lines.specs.declared.line.BadByte as bad
 use Rattle.roster_model.specs.declared.grammar.CodeDef.{CodeDef}
-use Rattle.roster_model.specs.declared.grammar.Rule.{Rule}
 use Rattle.roster_model.specs.Names.{is_name}
 use Rattle.roster_model.specs.Sound.{AreCodes, IsRule}
-use Rattle.rules_text.specs.declared.fault.RulesFault.{RulesFault}
 use Rattle.rules_text.specs.declared.fault.RulesFault.TheVariants.{UnknownLine, BadName, Twice}
 use Rattle.rules_text.specs.declared.draft.Draft.{Draft}
 use Rattle.rules_text.specs.declared.rules.Rules.{Rules}
@@ -19,7 +17,7 @@ use Rattle.rules_text.specs.Lines.{declare_at, codes_at, periods_at, start_at, l
 use Rattle.rules_text.specs.RuleLine.{rule_at}
 use Rattle.rules_text.specs.RulesOf.{no_draft, draft_of}
 use Rattle.rules_text.specs.Drafts.{AreRules, IsDraft}
-use Rattle.rules_text.proofs.Inversions.{ok, err, passed, held, bind_ok, same_ok, each_keeps}
+use Rattle.rules_text.proofs.Inversions.{ok, err, passed, bind_ok, same_ok, each_keeps}
 use Rattle.rules_text.proofs.CodesKept.{declare_keeps}
 use Rattle.rules_text.proofs.WindowsKept.{number_within}
 use Rattle.rules_text.proofs.RuleKept.{rule_more, rule_keeps}

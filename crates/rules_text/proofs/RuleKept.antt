@@ -1,5 +1,5 @@
 -- A rule line that is read keeps the rules sound.
-use Rattle.std.proofs.Common.{◌≡◌, ℕ, zero, suc, ◌+◌, ◌<◌, ◌≤◌, Bool, true, false, not, ◌&&◌, cond, max, List, [], ◌∷◌, ◌++◌, length, take, drop, Option, Some, None, Result, Ok, Err, refl, sym, ap, ◌∙◌, arith, inl, inr, leb, eqb, length-append, append-nil, subst}
+use Rattle.std.proofs.Common.{◌≡◌, ℕ, ◌+◌, ◌<◌, ◌≤◌, Bool, true, false, cond, max, List, [], ◌∷◌, ◌++◌, length, take, drop, Option, Some, None, Ok, refl, sym, ap, ◌∙◌, arith, eqb, length-append, append-nil, subst}
 use Rattle.std.specs.Prelude.{slice_index, position, All}
 use Rattle.std.proofs.lemmas.Bool.{eqb-false}
 use Rattle.std.proofs.lemmas.List.Elements.{All-nil, All-push, All-weaker}
@@ -9,10 +9,8 @@ use Rattle.roster_model.specs.declared.grammar.Rule.{Rule}
 use Rattle.roster_model.specs.declared.grammar.Sym.{Sym}
 use Rattle.roster_model.specs.declared.grammar.Sym.TheVariants.{Code, Name}
 use Rattle.roster_model.specs.Sound.{Exists, IsRule, AreInOrder, names_of, appearances}
-use Rattle.rules_text.specs.declared.fault.RulesFault.{RulesFault}
 use Rattle.rules_text.specs.declared.fault.RulesFault.TheVariants.{BadName, EmptyRight}
 use Rattle.rules_text.specs.declared.rules.Rules.{Rules}
-use Rattle.rules_text.specs.declared.window.Windows.{Windows}
 use Rattle.rules_text.specs.Steps.{◌>>=◌, each}
 use Rattle.rules_text.specs.Names.{Named, name_at}
 use Rattle.rules_text.specs.Fields.{number_at}
@@ -126,6 +124,9 @@ rule_pushed defs st left right r s few numbered kept sound grown =
       counted = ap (known_after 0) appear' ∙ known-append 0 (appearances st.rules) (r.left ∷ names_of r.right) ∙ ap (λ (n : ℕ). known_after n (names_of r.right)) known ∙ named.counted;
     }
 
+no_symbols : (codes : ℕ) (ns : Named) → AreNamed ns → AreSymbols codes (length ns.texts) (ns, [])
+no_symbols codes ns s = record { named = s; eight = omega arith; there = All-nil (Exists codes (length ns.texts)); ordered = tt; counted = refl }
+
 rule_of_keeps : (k : ℕ) (defs : List CodeDef) (st new : Rules) (name cost : List ℕ) (symbols windows : List (List ℕ)) → AreRules defs st → rule_of k defs st name cost symbols windows ≡ Ok new → AreRules defs new
 unfolding rule_of
 rule_of_keeps k defs st new name cost symbols windows s e =
@@ -136,7 +137,7 @@ rule_of_keeps k defs st new name cost symbols windows s e =
     let v = bind_ok (windows_at k no_windows windows) _ _ right.2 in
     let some = passed (eqb (length symbols) 0) (EmptyRight k) _ _ right.1 in
     let numbered = name_keeps (record { line = k; word = 2 }) st.names name left.0 s.names left.1 in
-    let start : AreSymbols (length defs) (length left.0.0.texts) (left.0.0, []) = record { named = numbered.named; eight = omega arith; there = All-nil (Exists (length defs) (length left.0.0.texts)); ordered = tt; counted = refl } in
+    let start = no_symbols (length defs) left.0.0 numbered.named in
     let kept = symbols_keep k defs (length left.0.0.texts) (left.0.0, []) right.0 symbols start some.0 some.1 in
     let grown : length left.0.0.texts ≤ length right.0.0.texts = rises (length left.0.0.texts) (names_of right.0.1) (length right.0.0.texts) kept.0.counted in
     let within = number_within k 0 10000 price.0 cost price.1 in

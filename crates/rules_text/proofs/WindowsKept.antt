@@ -1,6 +1,6 @@
 -- Numbers and windows that were read are in range.
-use Rattle.std.proofs.Common.{◌≡◌, ℕ, ◌<◌, ◌≤◌, Bool, true, false, cond, ◌||◌, List, [], ◌∷◌, Option, Some, None, Result, Ok, Err, refl, arith, inl, inr, ltb, subst}
-use Rattle.std.specs.Prelude.{codes, IfSome, is_some}
+use Rattle.std.proofs.Common.{◌≡◌, ℕ, ◌≤◌, Bool, true, false, cond, ◌||◌, List, [], ◌∷◌, Option, Some, None, Result, Ok, Err, arith, inl, inr, ltb, subst}
+use Rattle.std.specs.Prelude.{codes, IfSome}
 use Rattle.std.specs.Str.{bytes_eq}
 use Rattle.std.proofs.lemmas.Bool.{or_parts, cases_lt, lt-ltb}
 use Rattle.text_lines.specs.declared.number.NumberFault.{NumberFault}
@@ -11,7 +11,7 @@ use Rattle.roster_model.specs.Sound.{IsWindow}
 use Rattle.rules_text.specs.declared.window.Windows.{Windows}
 use Rattle.rules_text.specs.Fields.{in_range, number_at}
 use Rattle.rules_text.specs.RuleLine.{bounds_at, with_window, window_at, windows_at, whole}
-use Rattle.rules_text.proofs.Inversions.{ok, passed, bind_ok, same_ok}
+use Rattle.rules_text.proofs.Inversions.{passed, bind_ok, same_ok}
 
 at_least : (a b : ℕ) → ltb a b ≡ false → b ≤ a
 at_least a b h = elim (cases_lt a b) [

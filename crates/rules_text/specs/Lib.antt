@@ -7,3 +7,4 @@ pub mod RulesOf
 pub mod Drafts
 pub mod FaultLine
 pub mod Written
+pub mod Forms

@@ -14,6 +14,7 @@ use Rattle.rules_text.specs.Steps.{◌>>=◌, each}
 use Rattle.rules_text.specs.Fields.{number_at}
 use Rattle.rules_text.specs.RuleLine.{rule_at}
 
+-- the byte is one of a code
 abbrev pub is_declared : List CodeDef → ℕ → Bool
 is_declared defs b = list_any (λ d. d.byte == b) defs
 
@@ -26,14 +27,17 @@ declare_at k work defs w =
     else (if work && nat_le 8 (count_by (λ d. d.work) defs) then Err (TooMany k limits.Work 8)
     else Ok (defs ++ record { byte = slice_index w 0; work = work } ∷ []))))
 
+-- the codes of a line, one or more
 unfoldable pub codes_at : ℕ → Bool → Draft → List (List ℕ) → Result Draft RulesFault
 codes_at k work d [] = Err (UnknownLine k)
 codes_at k work d (w ∷ ws) = each (declare_at k work) d.codes (w ∷ ws) >>= λ defs. Ok (record d { codes = defs })
 
+-- the number of periods, which is in range before it is asked whether it was said
 unfoldable pub periods_at : ℕ → Draft → List (List ℕ) → Result Draft RulesFault
 periods_at k d (n ∷ []) = number_at k 1 96 n >>= λ p. if is_some d.periods then Err (Twice k) else Ok (record d { periods = Some p })
 periods_at k d _ = Err (UnknownLine k)
 
+-- the start name
 unfoldable pub start_at : ℕ → Draft → List (List ℕ) → Result Draft RulesFault
 start_at k d (n ∷ []) = if not (is_name n) then Err (BadName k) else (if is_some d.start then Err (Twice k) else Ok (record d { start = Some (record { line = k; name = n }) }))
 start_at k d _ = Err (UnknownLine k)
@@ -49,6 +53,7 @@ line_at k d (w ∷ ws) =
     else (if bytes_eq w (codes "rule") then (rule_at k d.codes d.rules ws >>= λ r. Ok (record d { rules = r }))
     else Err (UnknownLine k)))))
 
+-- a line, whose bad byte comes before its other faults
 abbrev pub item_at : Draft → Result TextLine bad.BadByte → Result Draft RulesFault
 item_at d (Ok line) = line_at line.number d line.words
 item_at d (Err b) = Err (BadByte b.line)

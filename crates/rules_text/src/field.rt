@@ -1,6 +1,5 @@
 ghost use Rattle.std.specs.Prelude.{◌≡◌, ◌≤◌, IfOk};
 ghost use Rattle.rules_text.specs.Fields.{number_at};
-ghost use Rattle.roster_model.specs.Names.{is_code_byte};
 
 use crate::fault::RulesFault;
 use text_lines::{NumberFault, read_natural};
@@ -17,11 +16,4 @@ pub fn number(line: u32, low: u32, high: u32, word: &[u8]) -> Result<u32, RulesF
         Err(NumberFault::Form) => Err(RulesFault::BadNumber { line }),
         Err(NumberFault::Wide) => Err(RulesFault::OutOfRange { line }),
     }
-}
-
-// Whether a byte may stand for a code.
-pub fn is_code_byte(byte: u8) -> bool
-    ensures { result ≡ is_code_byte byte }
-{
-    33 <= byte && byte <= 126 && byte != b'\'' && byte != b'#'
 }

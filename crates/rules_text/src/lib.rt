@@ -23,6 +23,7 @@ mod draft;
 mod fault;
 mod field;
 mod finish;
+mod laws;
 mod line;
 mod message;
 mod names;
@@ -32,10 +33,13 @@ mod read;
 mod rule;
 mod rules;
 mod symbol;
+#[cfg(test)]
+mod tests;
 mod window;
 mod write;
 
 pub use fault::{Limit, RulesFault};
+pub use laws::{accepted_lines, one_reading, refused_line, written_again};
 pub use message::fault_line;
 pub use read::read_rules;
 pub use write::write_rules;

@@ -1,6 +1,5 @@
 ghost use Rattle.std.specs.Prelude.{◌≡◌, ◌+◌, ◌<◌, [], ◌∷◌, ◌++◌, length, IfSome, IfOk, true, false, MatchOption, OnOk, OnErr};
-ghost use Rattle.std.specs.List.{list_all};
-ghost use Rattle.roster_model.specs.Names.{is_letter, is_name_byte, is_window_word, is_name};
+ghost use Rattle.roster_model.specs.Names.{is_window_word};
 ghost use Rattle.rules_text.specs.Names.{texts, has_name, place_of, name_at};
 ghost use Rattle.rules_text.specs.Steps.{Reads};
 
@@ -8,27 +7,9 @@ use crate::copy::copy;
 use crate::fault::{Limit, RulesFault};
 use crate::place::Place;
 use indexmap::IndexSet;
-use roster_model::{List, Memory};
+use roster_model::{List, Memory, is_name};
 use std::alloc::Global;
 use std::marker::Model;
-
-fn is_letter(byte: u8) -> bool
-    ensures { result ≡ is_letter byte }
-{
-    (b'A' <= byte && byte <= b'Z') || (b'a' <= byte && byte <= b'z')
-}
-
-fn is_name_byte(byte: u8) -> bool
-    ensures { result ≡ is_name_byte byte }
-{
-    is_letter(byte) || (b'0' <= byte && byte <= b'9') || byte == b'_'
-}
-
-fn all_name_bytes(word: &[u8]) -> bool
-    ensures { result ≡ list_all is_name_byte word.now }
-{
-    word.iter().all(|byte| is_name_byte(*byte))
-}
 
 /// Whether a word begins a window.
 #[tactic(auto, unfolding(roster_model::specs::Names::is_window_word))]
@@ -36,18 +17,6 @@ pub fn is_window_word(word: &[u8]) -> bool
     ensures { result ≡ is_window_word word.now }
 {
     word == b"len".as_slice() || word == b"begin".as_slice() || word == b"end".as_slice()
-}
-
-/// Whether a word is a name.
-#[tactic(auto, unfolding(roster_model::specs::Names::is_name))]
-pub fn is_name(word: &[u8]) -> bool
-    ensures { result ≡ is_name word.now }
-{
-    !word.is_empty()
-        && word.len() <= 32
-        && is_letter(word[0])
-        && all_name_bytes(word)
-        && !is_window_word(word)
 }
 
 /// The names so far, in order of first appearance, and where each appeared first.

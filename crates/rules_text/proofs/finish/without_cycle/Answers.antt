@@ -1,7 +1,7 @@
-use Rattle.std.proofs.Common.{refl, ◌∙◌, ap, sym, ◌<◌, length, arith}
+use Rattle.std.proofs.Common.{refl, ◌<◌, length, arith}
 use Rattle.std.proofs.lemmas.Option.{slice_get-get_or}
 use Rattle.rules_text.specs.declared.place.Place.{Place}
-use Rattle.rules_text.proofs.NoCycles.{no_cycle}
+use Rattle.roster_model.proofs.StepRules.{no_cycle}
 use Rattle.rules_text.proofs.finish.without_cycle.Goals as goal
 
 pub returns-in-Ok-clause-value : goal.returns-in-Ok-clause-value

@@ -1,0 +1,63 @@
+//! Steps one row of a tableau again and again, and prints a checksum of what it leaves.
+//!
+//! Words: the width of the row, the number of steps, and a factor of all entries.
+#![tactic(auto)]
+
+ghost use Rattle.std.specs.Prelude.{◌≡◌, length};
+
+use fraction::{Tally, row_step};
+use std::{env, io};
+
+/// Fills a row with numbers from -500 to 499, each times the factor.
+fn fill(row: &mut [i128], seed: u64, factor: i128) {
+    let mut state = seed;
+    for entry in row.iter_mut() {
+        state = state
+            .wrapping_mul(6364136223846793005)
+            .wrapping_add(1442695040888963407);
+        *entry = (i128::from((state >> 33) % 1000) - 500).wrapping_mul(factor);
+    }
+}
+
+/// Steps a copy of the first row so often, and returns the sum of the factors and of one entry of
+/// each new row.
+fn checksum(row: &mut [i128], first: &[i128], other: &[i128], steps: u64) -> i128
+    requires first { length row.old ≡ length first.now }
+    requires other { length row.old ≡ length other.now }
+{
+    let mut tally = Tally::new();
+    let mut sum = 0i128;
+    for step in 0..steps {
+        row.copy_from_slice(first);
+        if let Ok(factor) = row_step(row, 7 + i128::from(step % 3), other, 5, &mut tally) {
+            sum = sum.wrapping_add(factor);
+        }
+        if let Some(entry) = row.first() {
+            sum = sum.wrapping_add(*entry);
+        }
+    }
+    sum
+}
+
+/// Returns the next word as a number, or the usual one.
+fn number(word: Option<String>, usual: u64) -> u64 {
+    match word {
+        Some(word) => word.parse().unwrap_or(usual),
+        None => usual,
+    }
+}
+
+fn main(rt: HostRuntime) -> io::Result<()> {
+    let mut words = env::args(&rt)?;
+    let _ = words.next();
+    let width = number(words.next(), 5) as usize;
+    let steps = number(words.next(), 3);
+    let factor = i128::from(number(words.next(), 6));
+    let mut first = vec![in rt.alloc(); 0i128; width]?;
+    let mut other = vec![in rt.alloc(); 0i128; width]?;
+    let mut row = vec![in rt.alloc(); 0i128; width]?;
+    fill(&mut first, 1, factor);
+    fill(&mut other, 2, factor);
+    println!(rt; "{}", checksum(&mut row, &first, &other, steps))?;
+    Ok(())
+}

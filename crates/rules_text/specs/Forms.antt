@@ -1,0 +1,57 @@
+-- The forms of lines, and the line that is refused.
+use Rattle.std.specs.Prelude.{ℕ, ◌≡◌, Bool, true, false, List, [], ◌∷◌, ◌++◌, Some, Result, Ok, Err, codes, slice_index_or}
+use Rattle.std.specs.Str.{bytes_eq}
+use Rattle.text_lines.specs.Lines.{TextLine, text_items}
+use Rattle.text_lines.specs.declared.line.BadByte as bad
+use Rattle.roster_model.specs.Folds.{Each, count}
+use Rattle.roster_model.specs.Names.{is_window_word}
+use Rattle.rules_text.specs.declared.fault.RulesFault.{RulesFault}
+use Rattle.rules_text.specs.declared.draft.Draft.{Draft}
+use Rattle.rules_text.specs.Steps.{each}
+use Rattle.rules_text.specs.RuleLine.{are_windows}
+use Rattle.rules_text.specs.Lines.{item_at}
+use Rattle.rules_text.specs.RulesOf.{no_draft, draft_of}
+use Rattle.rules_text.specs.FaultLine.{line_of}
+
+-- words of one of the five forms
+pub data IsForm (ws : List (List ℕ)) : Type 0 where
+  periods : (n : List ℕ) → ws ≡ codes "periods" ∷ n ∷ [] → IsForm ws
+  work : (c : List ℕ) (cs : List (List ℕ)) → ws ≡ codes "work" ∷ c ∷ cs → IsForm ws
+  idle : (c : List ℕ) (cs : List (List ℕ)) → ws ≡ codes "idle" ∷ c ∷ cs → IsForm ws
+  start : (name : List ℕ) → ws ≡ codes "start" ∷ name ∷ [] → IsForm ws
+  rule : (name cost : List ℕ) (symbols windows : List (List ℕ)) → ws ≡ codes "rule" ∷ name ∷ cost ∷ codes "=" ∷ (symbols ++ windows)
+      → Each (λ w. is_window_word w ≡ false) symbols → are_windows windows ≡ true → IsForm ws
+
+abbrev pub HasForm : Result TextLine bad.BadByte → Type 0
+HasForm (Ok line) = IsForm line.words
+HasForm (Err b) = ⊥
+
+-- the first word of a line is this one
+abbrev pub begins : List ℕ → Result TextLine bad.BadByte → Bool
+begins w (Ok line) = bytes_eq (slice_index_or line.words 0 []) w
+begins w (Err b) = false
+
+-- lines of the five forms, with one line for the periods and one for the start
+pub record IsComplete (text : List ℕ) : Type 0 where
+  pub forms : Each HasForm (text_items text)
+  pub periods : count (begins (codes "periods")) (text_items text) ≡ 1
+  pub start : count (begins (codes "start")) (text_items text) ≡ 1
+
+abbrev pub number_of : Result TextLine bad.BadByte → ℕ
+number_of (Ok line) = line.number
+number_of (Err b) = b.line
+
+-- a line that cannot stand after the lines before it, which stand; the fault carries its number
+pub record IsFirstRefused (text : List ℕ) (e : RulesFault) : Type 0 where
+  pub before : List (Result TextLine bad.BadByte)
+  pub line : Result TextLine bad.BadByte
+  pub after : List (Result TextLine bad.BadByte)
+  pub draft : Draft
+  pub split : text_items text ≡ before ++ line ∷ after
+  pub stand : each item_at no_draft before ≡ Ok draft
+  pub refused : item_at draft line ≡ Err e
+  pub carried : line_of e ≡ Some (number_of line)
+
+-- every line stands
+abbrev pub AllStand : List ℕ → Type 0
+AllStand text = (d : Draft) × (draft_of text ≡ Ok d)

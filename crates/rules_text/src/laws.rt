@@ -1,0 +1,31 @@
+ghost use Rattle.std.specs.Prelude.{◌≡◌, ◌⊎◌, ℕ, List, Result, Ok, Err};
+ghost use Rattle.roster_model.specs.declared.grammar.Grammar.{Grammar};
+ghost use Rattle.roster_model.specs.Sound.{IsSound, IsPlain};
+ghost use Rattle.rules_text.specs.declared.fault.RulesFault.{RulesFault};
+ghost use Rattle.rules_text.specs.declared.fault.RulesFault.TheVariants.{TooLong};
+ghost use Rattle.rules_text.specs.Forms.{IsComplete, IsFirstRefused, AllStand};
+ghost use Rattle.rules_text.specs.RulesOf.{IsReading};
+ghost use Rattle.rules_text.specs.Written.{rules_text};
+
+/// States a law: the text that is written of a grammar is read as that grammar.
+pub fn written_again()
+    ensures { (g : Grammar) → IsSound g → IsPlain g → IsReading (rules_text g) (Ok g) }
+{}
+
+/// States a law: a text says one grammar, or has one first fault.
+pub fn one_reading()
+    ensures { (text : List ℕ) (r s : Result Grammar RulesFault) → IsReading text r → IsReading text s → r ≡ s }
+{}
+
+/// States a law: an accepted text consists of lines of the five forms, one of which states the
+/// periods and one the start.
+pub fn accepted_lines()
+    ensures { (text : List ℕ) (g : Grammar) → IsReading text (Ok g) → IsComplete text }
+{}
+
+/// States a law: a refused text is too long, or has a line that cannot stand after those before
+/// it, whose number the fault carries, or all its lines stand and the fault is one of the whole.
+pub fn refused_line()
+    ensures { (text : List ℕ) (e : RulesFault) → IsReading text (Err e)
+        → (e ≡ TooLong) ⊎ (IsFirstRefused text e ⊎ AllStand text) }
+{}

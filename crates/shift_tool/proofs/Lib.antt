@@ -1,0 +1,2 @@
+mod StepRules
+mod Derivations

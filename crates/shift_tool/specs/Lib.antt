@@ -1,0 +1,5 @@
+pub mod Form
+pub mod Seen
+pub mod Explain
+pub mod Run
+pub mod Asked

@@ -1,0 +1,9 @@
+-- What the program does, by its words.
+use Rattle.std.specs.Prelude.{ℕ, List, [], ◌∷◌}
+use Rattle.shift_tool.specs.Form.{Form, explain, none, AnswersNoForm}
+use Rattle.shift_tool.specs.Seen.{Seen, IsReader}
+use Rattle.shift_tool.specs.Explain.{AnswersExplain}
+
+abbrev pub Does : Form → Seen → Seen → ℕ → Type 0
+Does (explain rules word) before after status = IsReader (AnswersExplain before.held rules word) (rules ∷ []) before after status
+Does none before after status = IsReader AnswersNoForm [] before after status

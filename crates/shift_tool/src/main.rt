@@ -1,0 +1,34 @@
+//! The program: answers for rosters by the words of its command line.
+#![tactic(auto)]
+
+mod answer;
+mod explain;
+mod form;
+mod run;
+mod say;
+
+#[cfg(test)]
+mod tests;
+
+use run::run;
+use shelf::DiskShelf;
+use std::env;
+use std::process::ExitCode;
+
+/// Want of memory before the words are known.
+const MEMORY: u8 = 7;
+
+fn main(rt: HostRuntime) -> ExitCode {
+    let alloc = rt.alloc();
+    let mut words = Vec::new(alloc);
+    // Where a word is no text, the program passes no words.
+    if let Ok(args) = env::args(&rt) {
+        for word in args.skip(1) {
+            if words.push(word).is_err() {
+                return ExitCode::from(MEMORY);
+            }
+        }
+    }
+    let mut shelf = DiskShelf::new(rt);
+    ExitCode::from(run(alloc, &mut shelf, words.as_slice()))
+}

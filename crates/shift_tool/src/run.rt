@@ -1,0 +1,40 @@
+ghost use Rattle.std.specs.Prelude.{[], map, string_bytes};
+ghost use Rattle.shift_tool.specs.Form.{form_of, AnswersNoForm};
+ghost use Rattle.shift_tool.specs.Run.{Does};
+ghost use Rattle.shift_tool.specs.Seen.{IsReader};
+
+use crate::explain::explain;
+use crate::form::{Form, form_of};
+use crate::say::say;
+use shelf::Shelf;
+use std::alloc::Global;
+
+const NO_FORM: &[u8] = b"words: none of the four forms\n";
+
+// Says that the words have no form.
+fn refuse_words<S: Shelf>(shelf: &mut S) -> u8
+    ensures { IsReader AnswersNoForm [] (record { held = S.held shelf.old; said = S.said shelf.old; faults = S.faults shelf.old; steady = S.steady shelf.old }) (record { held = S.held shelf.new; said = S.said shelf.new; faults = S.faults shelf.new; steady = S.steady shelf.new }) result }
+{
+    say(shelf, NO_FORM, 2)
+}
+
+/// Does what the words of the command line ask for, and returns the status:
+///
+/// | status | comes |
+/// |---|---|
+/// | 0 | `explain RULES WORD`: the word is a shift |
+/// | 1 | `explain RULES WORD`: the word is no shift |
+/// | 2 | the words are none of the command's forms |
+/// | 3 | the rules text is refused |
+/// | 6 | the shelf refused a call |
+/// | 7 | memory did not suffice |
+///
+/// A command says its whole answer at once. Status 6 or 7 ends it at the call that was refused.
+pub fn run<S: Shelf>(alloc: Global, shelf: &mut S, words: &[String]) -> u8
+    ensures { Does (form_of (map string_bytes words.now)) (record { held = S.held shelf.old; said = S.said shelf.old; faults = S.faults shelf.old; steady = S.steady shelf.old }) (record { held = S.held shelf.new; said = S.said shelf.new; faults = S.faults shelf.new; steady = S.steady shelf.new }) result }
+{
+    match form_of(words) {
+        Form::Explain { rules, word } => explain(alloc, shelf, rules, word),
+        Form::None => refuse_words(shelf),
+    }
+}

@@ -1,0 +1,116 @@
+use crate::run::run;
+use shelf::MemoryShelf;
+use std::alloc::Global;
+use std::test::Fail;
+
+const G1: &str = "periods 4
+work a
+idle .
+start S
+rule S 0 = W
+rule S 0 = R W
+rule S 0 = W R
+rule S 0 = R W R
+rule W 2 = A len 2 3
+rule A 1 = 'a'
+rule A 1 = 'a' A
+rule R 0 = '.'
+rule R 0 = '.' R
+";
+
+const G4: &str = "periods 2
+work a
+start S
+rule S 5 = 'a' 'a'
+rule S 3 = T T
+rule T 0 = 'a'
+";
+
+const CYCLE: &str = "periods 4
+start A
+rule A 0 = B
+rule B 0 = A
+";
+
+const NO_FORM: &str = "words: none of the four forms\n";
+
+const NO_DERIVATION: &str = "no derivation\n";
+
+const BLOCK: &str = "word .aa.
+cost 4
+use 4 S 1 4
+use 8 R 1 1
+use 5 W 2 2
+use 7 A 2 2
+use 6 A 3 1
+use 8 R 4 1
+";
+
+// The words, the status and what is said.
+const CASES: [(&[&str], u8, &str); 14] = [
+    (&["explain", "g1", ".aa."], 0, BLOCK),
+    (
+        &["explain", "g4", "aa"],
+        0,
+        "word aa\ncost 3\nuse 2 S 1 2\nuse 3 T 1 1\nuse 3 T 2 1\n",
+    ),
+    (&["explain", "g1", "aaaa"], 1, NO_DERIVATION),
+    (&["explain", "g1", "a..."], 1, NO_DERIVATION),
+    (&["explain", "g1", ".aa"], 1, NO_DERIVATION),
+    (&["explain", "g1", ""], 1, NO_DERIVATION),
+    (&["explain", "g1"], 2, NO_FORM),
+    (&[], 2, NO_FORM),
+    (&["explains", "g1", ".aa."], 2, NO_FORM),
+    (&["explain", "g1", ".aa.", "x"], 2, NO_FORM),
+    (&["solve", "g1", "d", "p", "10"], 2, NO_FORM),
+    (
+        &["explain", "cycle", "aa"],
+        3,
+        "rules: line 3: a name leads back to itself by one-symbol rules\n",
+    ),
+    (&["explain", "empty", "aa"], 3, "rules: no periods line\n"),
+    (&["explain", "absent", "aa"], 6, ""),
+];
+
+fn shelf(alloc: Global, failing: &[u32]) -> Result<MemoryShelf, Fail> {
+    let mut shelf = MemoryShelf::new(alloc, failing.to_vec(alloc)?);
+    for (name, text) in [("g1", G1), ("g4", G4), ("cycle", CYCLE), ("empty", "")] {
+        shelf.put(name, text.as_bytes())?;
+    }
+    Ok(shelf)
+}
+
+fn owned(alloc: Global, words: &[&str]) -> Result<Vec<String>, Fail> {
+    let mut owned = Vec::new(alloc);
+    for word in words {
+        owned.push(String::from_str(alloc, word)?)?;
+    }
+    Ok(owned)
+}
+
+#[test]
+fn words_have_their_answers(rt: HostRuntime) -> Result<(), Fail> {
+    let alloc = rt.alloc();
+    for (words, status, said) in CASES {
+        let mut shelf = shelf(alloc, &[])?;
+        let words = owned(alloc, words)?;
+        let answer = run(alloc, &mut shelf, words.as_slice());
+        assert_eq!(rt; answer, status, "{words:?}");
+        assert_eq!(rt; shelf.said(), said.as_bytes(), "{words:?}");
+        assert_eq!(rt; shelf.faults(), u64::from(status == 6), "{words:?}");
+    }
+    Ok(())
+}
+
+#[test]
+fn a_refused_call_ends_the_run(rt: HostRuntime) -> Result<(), Fail> {
+    let alloc = rt.alloc();
+    for (failing, said) in [(1, 0), (2, BLOCK.len() / 2)] {
+        let mut shelf = shelf(alloc, &[failing])?;
+        let words = owned(alloc, &["explain", "g1", ".aa."])?;
+        assert_eq!(rt; run(alloc, &mut shelf, words.as_slice()), 6, "at call {failing}");
+        assert_eq!(rt; shelf.said(), &BLOCK.as_bytes()[..said], "at call {failing}");
+        assert_eq!(rt; shelf.faults(), 1, "at call {failing}");
+    }
+    Ok(())
+}
