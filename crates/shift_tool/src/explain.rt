@@ -32,12 +32,7 @@ fn no_derivation(alloc: Global) -> Result<Answer, Memory>
 }
 
 // Says the price of a word, and the tree of least sum that a filled table has for it.
-fn tree(
-    alloc: Global,
-    prices: &WordPrices<'_>,
-    table: &Table,
-    price: u64,
-) -> Result<Answer, Memory>
+fn tree(alloc: Global, prices: &WordPrices<'_>, table: &Table, price: u64) -> Result<Answer, Memory>
     requires sound { IsSound prices.now.grammar.now }
     requires made { IsMadeFor prices.now.grammar.now table.now }
     requires filled { IsFilled prices.now.grammar.now (word_view prices.now.grammar.now prices.now.word.now) table.now }

@@ -6,7 +6,6 @@ mod explain;
 mod form;
 mod run;
 mod say;
-
 #[cfg(test)]
 mod tests;
 

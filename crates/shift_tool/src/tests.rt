@@ -108,8 +108,16 @@ fn a_refused_call_ends_the_run(rt: HostRuntime) -> Result<(), Fail> {
     for (failing, said) in [(1, 0), (2, BLOCK.len() / 2)] {
         let mut shelf = shelf(alloc, &[failing])?;
         let words = owned(alloc, &["explain", "g1", ".aa."])?;
-        assert_eq!(rt; run(alloc, &mut shelf, words.as_slice()), 6, "at call {failing}");
-        assert_eq!(rt; shelf.said(), &BLOCK.as_bytes()[..said], "at call {failing}");
+        assert_eq!(rt;
+            run(alloc, &mut shelf, words.as_slice()),
+            6,
+            "at call {failing}"
+        );
+        assert_eq!(rt;
+            shelf.said(),
+            &BLOCK.as_bytes()[..said],
+            "at call {failing}"
+        );
         assert_eq!(rt; shelf.faults(), 1, "at call {failing}");
     }
     Ok(())
