@@ -3,11 +3,8 @@ ghost use Rattle.std.specs.Prelude.{
   ◌≡◌,
   ◌≢◌,
   ◌<◌,
-  ◌≤◌,
   ◌↔◌,
   ◌∷◌,
-  ◌+◌,
-  ◌++◌,
   [],
   true,
   length,
@@ -15,7 +12,6 @@ ghost use Rattle.std.specs.Prelude.{
   count_by,
   IsTrue,
   All,
-  max,
   Some,
 };
 ghost use Rattle.roster_model.specs.Names.{is_code_byte, added_name};
