@@ -6,8 +6,6 @@ ghost use Rattle.std.specs.Prelude.{
   ◌≤◌,
   ◌↔◌,
   ◌∷◌,
-  ◌+◌,
-  ◌++◌,
   [],
   true,
   length,
@@ -15,7 +13,6 @@ ghost use Rattle.std.specs.Prelude.{
   count_by,
   IsTrue,
   All,
-  max,
   Some,
 };
 ghost use Rattle.roster_model.specs.Names.{is_code_byte, added_name};
@@ -47,17 +44,12 @@ use crate::unit_rules::{MOST_NAMES, unit_ranks};
 pub fn is_sound(grammar: &Grammar) -> bool
     ensures { IsTrue result ↔ IsSound grammar.now }
 {
-    1 <= grammar.periods
-        && grammar.periods <= 96
+    let names = grammar.names.len();
+    has_day(grammar.periods)
         && are_codes(grammar.codes.as_slice())
         && are_names(grammar)
-        && grammar.rules.len() <= 72
-        && are_rules(
-            grammar.rules.as_slice(),
-            grammar.codes.len(),
-            grammar.names.len(),
-        )
-        && (grammar.start as usize) < grammar.names.len()
+        && are_rules(grammar.rules.as_slice(), grammar.codes.len(), names)
+        && (grammar.start as usize) < names
         && has_ranks(grammar)
 }
 
@@ -67,6 +59,13 @@ pub fn is_plain(grammar: &Grammar) -> bool
     ensures { IsTrue result ↔ IsPlain grammar.now }
 {
     grammar.names.len() <= 32 && grammar.rules.len() <= 64 && are_spelled(grammar.names.as_slice())
+}
+
+/// Returns whether a day may have so many periods.
+fn has_day(periods: u8) -> bool
+    ensures { IsTrue result ↔ ((1 ≤ periods) × (periods ≤ 96)) }
+{
+    1 <= periods && periods <= 96
 }
 
 /// Returns whether the name is the one that a day with groups adds.
@@ -121,10 +120,17 @@ fn is_rule(rule: &Rule, codes: usize, names: usize) -> bool
         && is_window(&rule.last)
 }
 
-fn are_rules(rules: &[Rule], codes: usize, names: usize) -> bool
+fn each_is_rule(rules: &[Rule], codes: usize, names: usize) -> bool
     ensures { IsTrue result ↔ All (IsRule codes names) rules.now }
 {
     rules.iter().all(|rule| is_rule(rule, codes, names))
+}
+
+/// Returns whether there are no more rules than there may be, and each is sound by itself.
+fn are_rules(rules: &[Rule], codes: usize, names: usize) -> bool
+    ensures { IsTrue result ↔ ((length rules.now ≤ 72) × All (IsRule codes names) rules.now) }
+{
+    rules.len() <= 72 && each_is_rule(rules, codes, names)
 }
 
 fn are_code_bytes(codes: &[CodeDef]) -> bool

@@ -15,6 +15,7 @@ ghost use Rattle.std.specs.Prelude.{
   IsTrue,
   IfErr,
   IfOk,
+  IsOk,
   IfNone,
   IfSome,
   ◌⊎◌,
@@ -46,6 +47,8 @@ pub fn unit_ranks(grammar: &Grammar) -> Result<[u8; MOST_NAMES], u8>
     requires { HasNames grammar.now }
     ensures ranked { IfOk result
         (λ ranks. IsRanked grammar.now (λ x. slice_index ranks x) (length grammar.now.names)) }
+    ensures found { ((rank : ℕ → ℕ) × IsRanked grammar.now rank (length grammar.now.names))
+        → IsOk result }
     ensures cycle { IfErr result (IsFirstOnCycle grammar.now) }
     ensures exists { IfErr result (λ x. x < length grammar.now.names) }
 {

@@ -1,5 +1,6 @@
 use Rattle.std.proofs.Common.{arith, length, ◌≡◌, ◌≤◌}
 use Rattle.std.proofs.lemmas.List.{length-take-le}
+use Rattle.roster_model.proofs.StepRules.{no_cycle}
 use Rattle.roster_model.proofs.NameRanks.{IsFirstOnCycle-found, IsRanked-by_reach}
 use Rattle.roster_model.proofs.unit_rules.unit_ranks.Goals as goal
 
@@ -20,3 +21,7 @@ returns-in-None-clause-ranked c =
     let rows = length-take-le c.len.result c.reach_of-reach.result (omega arith) in
     IsRanked-by_reach c.args.grammar.now c.requires c.reach_of-reach.result long e.led e.steps e.closed c.len.result c.len.ensures
     _ c.ranks.ensures (λ x lt. c.in-None.ensures.none x (omega arith))
+
+pub returns-in-Some-clause-found : goal.returns-in-Some-clause-found
+returns-in-Some-clause-found c = λ p.
+    absurd (no_cycle c.args.grammar.now p.0 (length c.args.grammar.now.names) p.1 c.in-Some.name (returns-in-Some-clause-cycle c).within)
