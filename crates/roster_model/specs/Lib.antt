@@ -11,3 +11,11 @@ pub mod Ranks
 pub mod Order
 pub mod Room
 pub mod PriceLaws
+pub mod Teams
+pub mod Duties
+pub mod Coverage
+pub mod Rosters
+pub mod GreatestCost
+pub mod RoundingLoss
+pub mod Cuts
+pub mod Reduced

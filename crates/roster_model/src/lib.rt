@@ -6,6 +6,7 @@
 #![tactic(auto)]
 
 mod grammar;
+mod instance;
 mod list;
 mod memory;
 mod names;
@@ -17,6 +18,7 @@ mod tests;
 mod unit_rules;
 
 pub use grammar::{ArcKey, CodeDef, Grammar, Rule, Step, Sym, Tree, Window};
+pub use instance::{Cell, Cut, Done, Group, Instance, Mult, Prices, Shift, Side};
 pub use list::List;
 pub use memory::Memory;
 pub use names::{is_code_byte, is_name};
