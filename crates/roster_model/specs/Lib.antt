@@ -19,3 +19,7 @@ pub mod GreatestCost
 pub mod RoundingLoss
 pub mod Cuts
 pub mod Reduced
+pub mod Extension
+pub mod Demands
+pub mod Limits
+pub mod SoundInstance

@@ -5,6 +5,8 @@
 //! of all parses that the arcs belong to is that of Quimper and Walsh.
 #![tactic(auto)]
 
+mod bounds;
+mod coverage;
 mod grammar;
 mod instance;
 mod list;
@@ -17,6 +19,8 @@ mod sound;
 mod tests;
 mod unit_rules;
 
+pub use bounds::{greatest_cost, rounding_loss};
+pub use coverage::{covered, penalty};
 pub use grammar::{ArcKey, CodeDef, Grammar, Rule, Step, Sym, Tree, Window};
 pub use instance::{Cell, Cut, Done, Group, Instance, Mult, Prices, Shift, Side};
 pub use list::List;
