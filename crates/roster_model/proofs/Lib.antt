@@ -9,3 +9,6 @@ pub mod CoverageCounts
 pub mod WorkCodes
 pub mod SoundCells
 pub mod CostBounds
+pub mod DemandCells
+pub mod LowerRanks
+pub mod Extended

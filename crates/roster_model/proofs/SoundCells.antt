@@ -11,7 +11,7 @@ use Rattle.roster_model.specs.Limits.{IsLimitedCell, IsDayCell}
 use Rattle.roster_model.specs.Sound.{AreCodes}
 use Rattle.roster_model.proofs.WorkCodes.{AreApart, Passes, positions-le}
 
-length-cells_from : (d : Demand) (k : ℕ) (ps : List PeriodDemand) → length (cells_from d k ps) ≡ length ps
+pub length-cells_from : (d : Demand) (k : ℕ) (ps : List PeriodDemand) → length (cells_from d k ps) ≡ length ps
 length-cells_from d k [] = refl
 length-cells_from d k (p ∷ ps) = omega (arith, length-cells_from d (k + 1) ps)
 

@@ -71,3 +71,19 @@ pub record AreCells (g : Grammar) (cells : List Cell) : Type 0 where
   pub each : Each (IsDemand g) demands
   pub once : AreOnce demands
   pub made : cells ≡ all_cells demands
+
+-- the cells of one demand
+pub record IsOneDemand (g : Grammar) (cells : List Cell) : Type 0 where
+  pub demand : Demand
+  pub sound : IsDemand g demand
+  pub made : cells ≡ demand_cells demand
+
+-- a cell of a demand in a period, within the limits
+pub record IsCellOf (code under over period : ℕ) (c : Cell) : Type 0 where
+  pub code_is : c.code ≡ code
+  pub under_is : c.under ≡ under
+  pub over_is : c.over ≡ over
+  pub period_is : c.period ≡ period
+  pub need : c.need ≤ 64
+  pub floor : c.floor ≤ 64
+  pub ceiling : c.ceiling ≤ 64

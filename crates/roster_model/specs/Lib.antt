@@ -23,3 +23,4 @@ pub mod Extension
 pub mod Demands
 pub mod Limits
 pub mod SoundInstance
+pub mod GroupParts

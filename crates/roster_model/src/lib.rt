@@ -7,7 +7,9 @@
 
 mod bounds;
 mod coverage;
+mod demands;
 mod grammar;
+mod groups;
 mod instance;
 mod list;
 mod memory;
@@ -15,6 +17,7 @@ mod names;
 mod prices;
 mod room;
 mod sound;
+mod sound_instance;
 #[cfg(test)]
 mod tests;
 mod unit_rules;
@@ -29,4 +32,5 @@ pub use names::{is_code_byte, is_name};
 pub use prices::LetterPrice;
 pub use room::TreeRoom;
 pub use sound::{is_plain, is_sound};
+pub use sound_instance::is_sound_instance;
 pub use unit_rules::{MOST_NAMES, ranked_has_no_cycle, unit_ranks};
