@@ -11,6 +11,8 @@ mod demands;
 mod grammar;
 mod groups;
 mod instance;
+#[cfg(test)]
+mod instance_tests;
 mod list;
 mod memory;
 mod names;
