@@ -5,3 +5,10 @@ pub mod Counts
 pub mod NameRanks
 pub mod Appearances
 pub mod RankTest
+pub mod CoverageCounts
+pub mod WorkCodes
+pub mod SoundCells
+pub mod CostBounds
+pub mod DemandCells
+pub mod LowerRanks
+pub mod Extended

@@ -11,3 +11,16 @@ pub mod Ranks
 pub mod Order
 pub mod Room
 pub mod PriceLaws
+pub mod Teams
+pub mod Duties
+pub mod Coverage
+pub mod Rosters
+pub mod GreatestCost
+pub mod RoundingLoss
+pub mod Cuts
+pub mod Reduced
+pub mod Extension
+pub mod Demands
+pub mod Limits
+pub mod SoundInstance
+pub mod GroupParts

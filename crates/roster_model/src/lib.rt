@@ -5,22 +5,34 @@
 //! of all parses that the arcs belong to is that of Quimper and Walsh.
 #![tactic(auto)]
 
+mod bounds;
+mod coverage;
+mod demands;
 mod grammar;
+mod groups;
+mod instance;
+#[cfg(test)]
+mod instance_tests;
 mod list;
 mod memory;
 mod names;
 mod prices;
 mod room;
 mod sound;
+mod sound_instance;
 #[cfg(test)]
 mod tests;
 mod unit_rules;
 
+pub use bounds::{greatest_cost, rounding_loss};
+pub use coverage::{covered, penalty};
 pub use grammar::{ArcKey, CodeDef, Grammar, Rule, Step, Sym, Tree, Window};
+pub use instance::{Cell, Cut, Done, Group, Instance, Mult, Prices, Shift, Side};
 pub use list::List;
 pub use memory::Memory;
 pub use names::{is_code_byte, is_name};
 pub use prices::LetterPrice;
 pub use room::TreeRoom;
 pub use sound::{is_plain, is_sound};
+pub use sound_instance::is_sound_instance;
 pub use unit_rules::{MOST_NAMES, ranked_has_no_cycle, unit_ranks};
