@@ -1,0 +1,9 @@
+pub mod Folding
+pub mod SameArc
+pub mod Counting
+pub mod Balanced
+pub mod Once
+pub mod RuleCosts
+pub mod Totals
+pub mod PathBounds
+pub mod OneList

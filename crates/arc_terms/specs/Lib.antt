@@ -1,0 +1,6 @@
+pub mod OrNodes
+pub mod TreeLists
+pub mod Lists
+pub mod Balance
+pub mod Counts
+pub mod Laws

@@ -1,0 +1,17 @@
+-- The arcs of the instance as a list.
+use Rattle.std.specs.Prelude.{List, [], ◌∷◌}
+use Rattle.roster_model.specs.declared.grammar.ArcKey.{ArcKey}
+use Rattle.roster_model.specs.declared.grammar.Grammar.{Grammar}
+use Rattle.roster_model.specs.Folds.{Each, In}
+use Rattle.roster_model.specs.Arcs.{IsArc, ArcBefore}
+
+-- each arc comes before all that follow it
+abbrev pub IsRising : List ArcKey → Type 0
+IsRising [] = Unit {0}
+IsRising (a ∷ listed) = Each (ArcBefore a) listed × IsRising listed
+
+-- the arcs of the instance and no others, in their order
+pub record AreArcs (g : Grammar) (listed : List ArcKey) : Type 0 where
+  pub sound : (a : ArcKey) → In a listed → IsArc g a
+  pub whole : (a : ArcKey) → IsArc g a → In a listed
+  pub rising : IsRising listed

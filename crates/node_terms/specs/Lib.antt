@@ -1,0 +1,14 @@
+pub mod Barren
+pub mod Lagrangian
+pub mod Priced
+pub mod TreeRosters
+pub mod Pinned
+pub mod BestPrices
+pub mod Points
+pub mod DutyTrees
+pub mod Laws
+pub mod Plain
+pub mod Agree
+pub mod SmallShares
+pub mod WorkedGroups
+pub mod WorkedFloors
