@@ -15,8 +15,10 @@ struct CommonForm {
 
 /// Returns both fractions over their least common denominator, where its numbers are in range.
 fn common_form(a: &Frac, b: &Frac) -> Option<CommonForm>
-    ensures some { IfSome result (λ form. IsCommonForm a.now.num a.now.den b.now.num b.now.den form.left form.right form.den) }
-    ensures none { IfNone result ((left right den : ℤ) → IsCommonForm a.now.num a.now.den b.now.num b.now.den left right den → ⊥) }
+    ensures some { IfSome result
+        (λ form. IsCommonForm a.now.num a.now.den b.now.num b.now.den form.left form.right form.den) }
+    ensures none { IfNone result ((left right den : ℤ) →
+        IsCommonForm a.now.num a.now.den b.now.num b.now.den left right den → ⊥) }
 {
     let d = a.den();
     let e = b.den();
@@ -32,7 +34,8 @@ fn common_form(a: &Frac, b: &Frac) -> Option<CommonForm>
 /// Returns the sum in lowest terms, where the numbers on the way to it are in range.
 fn sum_of(a: &Frac, b: &Frac) -> Option<Frac>
     ensures fits { OnSome result (SumFits a.now.num a.now.den b.now.num b.now.den) }
-    ensures value { IfSome result (λ r. r.num *ℤ (a.now.den *ℤ b.now.den) ≡ (a.now.num *ℤ b.now.den +ℤ b.now.num *ℤ a.now.den) *ℤ r.den) }
+    ensures value { IfSome result (λ r. r.num *ℤ (a.now.den *ℤ b.now.den) ≡
+        (a.now.num *ℤ b.now.den +ℤ b.now.num *ℤ a.now.den) *ℤ r.den) }
     ensures none { IfNone result (SumFits a.now.num a.now.den b.now.num b.now.den → ⊥) }
 {
     let form = common_form(a, b)?;
@@ -43,7 +46,8 @@ fn sum_of(a: &Frac, b: &Frac) -> Option<Frac>
 /// Returns the difference in lowest terms, where the numbers on the way to it are in range.
 fn difference_of(a: &Frac, b: &Frac) -> Option<Frac>
     ensures fits { OnSome result (DifferenceFits a.now.num a.now.den b.now.num b.now.den) }
-    ensures value { IfSome result (λ r. r.num *ℤ (a.now.den *ℤ b.now.den) ≡ (a.now.num *ℤ b.now.den -ℤ b.now.num *ℤ a.now.den) *ℤ r.den) }
+    ensures value { IfSome result (λ r. r.num *ℤ (a.now.den *ℤ b.now.den) ≡
+        (a.now.num *ℤ b.now.den -ℤ b.now.num *ℤ a.now.den) *ℤ r.den) }
     ensures none { IfNone result (DifferenceFits a.now.num a.now.den b.now.num b.now.den → ⊥) }
 {
     let form = common_form(a, b)?;
@@ -58,7 +62,8 @@ fn difference_of(a: &Frac, b: &Frac) -> Option<Frac>
 /// also where the sum in lowest terms would be in range.
 pub fn add(a: &Frac, b: &Frac) -> Result<Frac, TooWide>
     ensures fits { OnOk result (SumFits a.now.num a.now.den b.now.num b.now.den) }
-    ensures ok { IfOk result (λ r. r.num *ℤ (a.now.den *ℤ b.now.den) ≡ (a.now.num *ℤ b.now.den +ℤ b.now.num *ℤ a.now.den) *ℤ r.den) }
+    ensures ok { IfOk result (λ r. r.num *ℤ (a.now.den *ℤ b.now.den) ≡
+        (a.now.num *ℤ b.now.den +ℤ b.now.num *ℤ a.now.den) *ℤ r.den) }
     ensures pair { IfErr result (λ fault. fault ≡ TooWide.Pair a.now b.now) }
     ensures wide { OnErr result (SumFits a.now.num a.now.den b.now.num b.now.den → ⊥) }
 {
@@ -75,7 +80,8 @@ pub fn add(a: &Frac, b: &Frac) -> Result<Frac, TooWide>
 /// range, also where the difference in lowest terms would be in range.
 pub fn sub(a: &Frac, b: &Frac) -> Result<Frac, TooWide>
     ensures fits { OnOk result (DifferenceFits a.now.num a.now.den b.now.num b.now.den) }
-    ensures ok { IfOk result (λ r. r.num *ℤ (a.now.den *ℤ b.now.den) ≡ (a.now.num *ℤ b.now.den -ℤ b.now.num *ℤ a.now.den) *ℤ r.den) }
+    ensures ok { IfOk result (λ r. r.num *ℤ (a.now.den *ℤ b.now.den) ≡
+        (a.now.num *ℤ b.now.den -ℤ b.now.num *ℤ a.now.den) *ℤ r.den) }
     ensures pair { IfErr result (λ fault. fault ≡ TooWide.Pair a.now b.now) }
     ensures wide { OnErr result (DifferenceFits a.now.num a.now.den b.now.num b.now.den → ⊥) }
 {

@@ -30,7 +30,8 @@ impl Budget {
     /// Takes one pivot, or says that none is left, which the tally counts.
     pub fn take(&mut self, tally: &mut Tally) -> bool
         ensures taken { OnTrue result ((self.old ≡ self.new + 1) × (tally.new ≡ tally.old)) }
-        ensures spent { OnFalse result ((self.old ≡ 0) × (self.new ≡ 0) × (tally.new ≡ overspent tally.old)) }
+        ensures spent { OnFalse result ((self.old ≡ 0) × (self.new ≡ 0) × (tally.new ≡
+            overspent tally.old)) }
     {
         if self.left == 0 {
             tally.overspend();

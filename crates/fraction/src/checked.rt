@@ -11,7 +11,8 @@ use crate::{Tally, TooWide};
 pub fn sum(a: i128, b: i128, tally: &mut Tally) -> Result<i128, TooWide>
     ensures value { OkIff result (InRange (a +ℤ b)) (a +ℤ b) }
     ensures fault { IfErr result (λ fault. fault ≡ TooWide.Sum a b) }
-    ensures counted { MatchResult result (λ _. tally.new ≡ tally.old) (λ _. tally.new ≡ refused tally.old) }
+    ensures counted { MatchResult result (λ _. tally.new ≡ tally.old) (λ _. tally.new ≡
+        refused tally.old) }
 {
     match sum_in(a, b) {
         Some(sum) => Ok(sum),
@@ -26,7 +27,8 @@ pub fn sum(a: i128, b: i128, tally: &mut Tally) -> Result<i128, TooWide>
 pub fn product(a: i128, b: i128, tally: &mut Tally) -> Result<i128, TooWide>
     ensures value { OkIff result (InRange (a *ℤ b)) (a *ℤ b) }
     ensures fault { IfErr result (λ fault. fault ≡ TooWide.Product a b) }
-    ensures counted { MatchResult result (λ _. tally.new ≡ tally.old) (λ _. tally.new ≡ refused tally.old) }
+    ensures counted { MatchResult result (λ _. tally.new ≡ tally.old) (λ _. tally.new ≡
+        refused tally.old) }
 {
     match product_in(a, b) {
         Some(product) => Ok(product),
@@ -49,7 +51,8 @@ pub fn fits(value: i128, most: i128, tally: &mut Tally) -> Result<(), TooWide>
     ensures ok { OnOk result (pos (unsigned_abs value) ≤ℤ most) }
     ensures wide { OnErr result (most <ℤ pos (unsigned_abs value)) }
     ensures fault { IfErr result (λ fault. fault ≡ TooWide.Value value most) }
-    ensures counted { MatchResult result (λ _. tally.new ≡ tally.old) (λ _. tally.new ≡ refused tally.old) }
+    ensures counted { MatchResult result (λ _. tally.new ≡ tally.old) (λ _. tally.new ≡
+        refused tally.old) }
 {
     if is_within(value, most) {
         return Ok(());
@@ -66,7 +69,8 @@ pub fn scaled(num: i128, den: i128, d: u64, most: i128, tally: &mut Tally) -> Re
     requires most { (pos 0 ≤ℤ most) × InRange most }
     ensures value { OkIff result (pos (unsigned_abs (scaled_floor num den d)) ≤ℤ most) (scaled_floor num den d) }
     ensures fault { IfErr result (λ fault. fault ≡ TooWide.Scaled num den d most) }
-    ensures counted { MatchResult result (λ _. tally.new ≡ tally.old) (λ _. tally.new ≡ refused tally.old) }
+    ensures counted { MatchResult result (λ _. tally.new ≡ tally.old) (λ _. tally.new ≡
+        refused tally.old) }
 {
     if let Some(floor) = floor_of_product(num, d, den) {
         if is_within(floor, most) {

@@ -8,7 +8,8 @@ use crate::{Frac, TooWide};
 
 /// Returns the products of the numerators and of the denominators, where both are in range.
 fn joined(left: &Frac, right: &Frac) -> Option<(i128, i128)>
-    ensures { SomeIff result (InRange (left.now.num *ℤ right.now.num) × InRange (left.now.den *ℤ right.now.den)) (record { 0 = left.now.num *ℤ right.now.num; 1 = left.now.den *ℤ right.now.den }) }
+    ensures { SomeIff result (InRange (left.now.num *ℤ right.now.num) ×
+        InRange (left.now.den *ℤ right.now.den)) (record { 0 = left.now.num *ℤ right.now.num; 1 = left.now.den *ℤ right.now.den }) }
 {
     let num = product_in(left.num(), right.num())?;
     let den = product_in(left.den(), right.den())?;
@@ -17,8 +18,10 @@ fn joined(left: &Frac, right: &Frac) -> Option<(i128, i128)>
 
 /// Returns the product in lowest terms, where it is in range.
 fn product_of(a: &Frac, b: &Frac) -> Option<Frac>
-    ensures some { IfSome result (λ r. r.num *ℤ (a.now.den *ℤ b.now.den) ≡ (a.now.num *ℤ b.now.num) *ℤ r.den) }
-    ensures none { IfNone result ((x y : ℤ) → IsFraction x y → x *ℤ (a.now.den *ℤ b.now.den) ≡ (a.now.num *ℤ b.now.num) *ℤ y → ⊥) }
+    ensures some { IfSome result (λ r. r.num *ℤ (a.now.den *ℤ b.now.den) ≡
+        (a.now.num *ℤ b.now.num) *ℤ r.den) }
+    ensures none { IfNone result ((x y : ℤ) → IsFraction x y → x *ℤ (a.now.den *ℤ b.now.den) ≡
+        (a.now.num *ℤ b.now.num) *ℤ y → ⊥) }
 {
     let left = Frac::new(a.num(), b.den());
     let right = Frac::new(b.num(), a.den());
@@ -29,7 +32,8 @@ fn product_of(a: &Frac, b: &Frac) -> Option<Frac>
 /// Returns 1 divided by the fraction.
 fn inverse(b: &Frac) -> Frac
     requires { b.now.num ≢ pos 0 }
-    ensures { ((result.num ≡ b.now.den) × (result.den ≡ b.now.num)) ⊎ ((result.num ≡ neg_ℤ b.now.den) × (result.den ≡ neg_ℤ b.now.num)) }
+    ensures { ((result.num ≡ b.now.den) × (result.den ≡ b.now.num)) ⊎ ((result.num ≡
+        neg_ℤ b.now.den) × (result.den ≡ neg_ℤ b.now.num)) }
 {
     if b.num() < 0 {
         Frac::from_reduced(-b.den(), -b.num())
@@ -40,9 +44,11 @@ fn inverse(b: &Frac) -> Frac
 
 /// Returns the product in lowest terms. It is refused exactly where these are out of range.
 pub fn mul(a: &Frac, b: &Frac) -> Result<Frac, TooWide>
-    ensures ok { IfOk result (λ r. r.num *ℤ (a.now.den *ℤ b.now.den) ≡ (a.now.num *ℤ b.now.num) *ℤ r.den) }
+    ensures ok { IfOk result (λ r. r.num *ℤ (a.now.den *ℤ b.now.den) ≡
+        (a.now.num *ℤ b.now.num) *ℤ r.den) }
     ensures pair { IfErr result (λ fault. fault ≡ TooWide.Pair a.now b.now) }
-    ensures wide { OnErr result ((x y : ℤ) → IsFraction x y → x *ℤ (a.now.den *ℤ b.now.den) ≡ (a.now.num *ℤ b.now.num) *ℤ y → ⊥) }
+    ensures wide { OnErr result ((x y : ℤ) → IsFraction x y → x *ℤ (a.now.den *ℤ b.now.den) ≡
+        (a.now.num *ℤ b.now.num) *ℤ y → ⊥) }
 {
     match product_of(a, b) {
         Some(product) => Ok(product),
@@ -53,9 +59,11 @@ pub fn mul(a: &Frac, b: &Frac) -> Result<Frac, TooWide>
 /// Returns the quotient in lowest terms. It is refused exactly where these are out of range.
 pub fn div(a: &Frac, b: &Frac) -> Result<Frac, TooWide>
     requires { b.now.num ≢ pos 0 }
-    ensures ok { IfOk result (λ r. r.num *ℤ (a.now.den *ℤ b.now.num) ≡ (a.now.num *ℤ b.now.den) *ℤ r.den) }
+    ensures ok { IfOk result (λ r. r.num *ℤ (a.now.den *ℤ b.now.num) ≡
+        (a.now.num *ℤ b.now.den) *ℤ r.den) }
     ensures pair { IfErr result (λ fault. fault ≡ TooWide.Pair a.now b.now) }
-    ensures wide { OnErr result ((x y : ℤ) → IsFraction x y → x *ℤ (a.now.den *ℤ b.now.num) ≡ (a.now.num *ℤ b.now.den) *ℤ y → ⊥) }
+    ensures wide { OnErr result ((x y : ℤ) → IsFraction x y → x *ℤ (a.now.den *ℤ b.now.num) ≡
+        (a.now.num *ℤ b.now.den) *ℤ y → ⊥) }
 {
     match product_of(a, &inverse(b)) {
         Some(quotient) => Ok(quotient),

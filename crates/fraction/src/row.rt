@@ -49,7 +49,8 @@ fn new_entry(p: i128, r: i128, a: i128, s: i128, g: i128) -> i128
 /// place whose entry is out of range.
 fn common_factor(row: &[i128], p: i128, other: &[i128], a: i128) -> Result<u128, usize>
     requires lengths { length row.now ≡ length other.now }
-    ensures factor { IfOk result (λ d. FitsBelow p row.now a other.now (length row.now) × IsCommonFactor (new_at p row.now a other.now) (length row.now) d) }
+    ensures factor { IfOk result (λ d. FitsBelow p row.now a other.now (length row.now) ×
+        IsCommonFactor (new_at p row.now a other.now) (length row.now) d) }
     ensures bound { IfOk result (λ d. d < 2 ^ 127) }
     ensures wide { IfErr result (λ j. IsFirstWide p row.now a other.now j) }
 {
@@ -70,7 +71,8 @@ fn divide_all(row: &mut [i128], p: i128, other: &[i128], a: i128, g: i128)
     requires lengths { length row.old ≡ length other.now }
     requires fits { FitsBelow p row.old a other.now (length row.old) }
     requires positive { pos 0 <ℤ g }
-    requires divides { (k : ℕ) → k < length row.old → unsigned_abs g ∣ unsigned_abs (new_at p row.old a other.now k) }
+    requires divides { (k : ℕ) → k < length row.old →
+        unsigned_abs g ∣ unsigned_abs (new_at p row.old a other.now k) }
     ensures { (k : ℕ) → k < length row.old → g *ℤ at row.new k ≡ new_at p row.old a other.now k }
 {
     for j in 0..row.len() {
@@ -101,7 +103,8 @@ pub fn row_step(
 ) -> Result<i128, TooWide>
     requires lengths { length row.old ≡ length other.now }
     requires positive { pos 0 <ℤ p }
-    ensures ok { IfOk result (λ g. IsStep p row.old a other.now row.new g × (tally.new ≡ tally.old)) }
+    ensures ok { IfOk result (λ g. IsStep p row.old a other.now row.new g × (tally.new ≡
+        tally.old)) }
     ensures wide { IfErr result (λ fault. IsRowRefusal p row.old a other.now fault) }
     ensures unchanged { IfErr result (λ _. row.new ≡ row.old) }
     ensures counted { IfErr result (λ _. tally.new ≡ refused tally.old) }

@@ -1,5 +1,5 @@
 -- What each call of the walk asks follows from what its caller was asked.
-use Rattle.std.proofs.Common.{◌≡◌, ℕ, zero, suc, ℤ, ◌<◌, ◌≤◌, ◌+◌, ◌-◌, ◌*◌, List, [], ◌∷◌, ◌++◌, Option, None, Some, arith, refl, subst, sym, ap, ◌∙◌, length, drop, get_or, add-one}
+use Rattle.std.proofs.Common.{◌≡◌, ℕ, zero, suc, ℤ, ◌<◌, ◌≤◌, ◌+◌, ◌-◌, List, [], ◌∷◌, ◌++◌, Option, None, Some, arith, refl, subst, sym, ap, ◌∙◌, length, drop, get_or, add-one}
 use Rattle.std.specs.Prelude.{OnSome, IsSome}
 use Rattle.std.proofs.Math.Seq.{drop-cons}
 use Rattle.std.proofs.lemmas.Option.{same_Some}
@@ -8,7 +8,7 @@ use Rattle.roster_model.specs.declared.grammar.Rule.{Rule}
 use Rattle.roster_model.specs.declared.grammar.Step.{Step}
 use Rattle.roster_model.specs.declared.grammar.Sym.{Sym}
 use Rattle.roster_model.specs.declared.grammar.Sym.TheVariants.{Code, Name}
-use Rattle.roster_model.specs.Grammar.{rule_at, InDay}
+use Rattle.roster_model.specs.Grammar.{rule_at}
 use Rattle.roster_model.specs.Trees.{On, IsDayTree, steps}
 use Rattle.roster_model.specs.Room.{most_uses}
 use Rattle.roster_model.specs.Sums.{PriceView, SymbolLeast, PartsLeast, IsLeast, AtMost, tree_sum}
@@ -93,9 +93,11 @@ module _ (g : Grammar) (p : PriceView) (lay : Layout) (xs : List (Option ℤ)) (
     rest_has : HasParts g p r (k + 1) (drop (k + 1) rule.right) (i + part) (l - part)
     rest_has = others-has g p r k s (get_or rule.right (suc k) d) (drop (suc (suc k)) rule.right) rule.right i l part asks.sum.0 v chosen there next_one
 
+    -- the first part is some period long
     pub part-low : 1 ≤ part
     part-low = chosen.low
 
+    -- and shorter than the span
     pub part-high : part < l
     part-high = chosen.high
 
@@ -131,9 +133,9 @@ module _ (g : Grammar) (p : PriceView) (lay : Layout) (xs : List (Option ℤ)) (
         → WritesParts g p r k (drop k rule.right) i l room new
     writes-split mid new w o =
         let tail : PartsLeast g p r (suc k) (get_or rule.right (suc k) d ∷ drop (suc (suc k)) rule.right) (i + part) (l - part) chosen.tail =
-            subst (λ (q : List Sym). PartsLeast g p r (suc k) q (i + part) (l - part) chosen.tail) next (rw add-one at chosen.rest) in
+        subst (λ (q : List Sym). PartsLeast g p r (suc k) q (i + part) (l - part) chosen.tail) next (rw add-one at chosen.rest) in
         let rest : WritesParts g p r (suc k) (get_or rule.right (suc k) d ∷ drop (suc (suc k)) rule.right) (i + part) (l - part) mid new =
-            subst (λ (q : List Sym). WritesParts g p r (suc k) q (i + part) (l - part) mid new) next (rw add-one at o) in
+        subst (λ (q : List Sym). WritesParts g p r (suc k) q (i + part) (l - part) mid new) next (rw add-one at o) in
         subst (λ (q : List Sym). WritesParts g p r k q i l room new) (sym both)
         (split-writes g p r k s (get_or rule.right (suc k) d) (drop (suc (suc k)) rule.right) i l part (l - part) room mid new chosen.head chosen.tail v fits
         chosen.first tail chosen.sum (subst (λ (q : List Sym). PartsLeast g p r k q i l v) both least) w rest)
@@ -154,6 +156,7 @@ module _ (g : Grammar) (p : PriceView) (lay : Layout) (xs : List (Option ℤ)) (
     same : by_rule.rule ≡ rule
     same = same_Some by_rule.rule rule (sym by_rule.at ∙ at)
 
+    -- the rule is one of the name
     pub rule-left : rule.left ≡ y
     rule-left = ap (λ (q : Rule). q.left) (sym same) ∙ by_rule.left
 

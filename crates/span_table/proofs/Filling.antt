@@ -1,12 +1,11 @@
 -- The cells are filled in the order of their places.
-use Rattle.std.proofs.Common.{◌≡◌, ◌≢◌, ℕ, zero, suc, ℤ, ◌<◌, ◌≤◌, ◌+◌, ◌-◌, ◌*◌, List, [], ◌∷◌, Option, None, Some, arith, refl, subst, sym, ap, ◌∙◌, ◌⊎◌, inl, inr, length, drop, get_or, set, get_or-set_other, get_or-set_same}
+use Rattle.std.proofs.Common.{◌≡◌, ◌≢◌, ℕ, ℤ, ◌<◌, ◌+◌, ◌*◌, List, [], Option, Some, arith, subst, sym, ap, ◌∙◌, ◌⊎◌, inl, inr, length, set, get_or-set_other, get_or-set_same}
 use Rattle.std.specs.Prelude.{slice_get}
 use Rattle.std.proofs.lemmas.Nat.{mul-add-lt}
 use Rattle.std.proofs.lemmas.Option.{same_Some, slice_get_within}
 use Rattle.roster_model.specs.declared.grammar.Grammar.{Grammar}
-use Rattle.roster_model.specs.declared.grammar.Rule.{Rule}
 use Rattle.roster_model.specs.declared.grammar.Sym.TheVariants.{Name}
-use Rattle.roster_model.specs.Grammar.{rule_at, InDay}
+use Rattle.roster_model.specs.Grammar.{InDay}
 use Rattle.roster_model.specs.Sums.{PriceView, IsLeast, tree_sum}
 use Rattle.roster_model.specs.Trees.{IsTreeOf}
 use Rattle.span_table.specs.Tables.{TableView, IsMadeFor, IsFilled}
@@ -18,7 +17,7 @@ use Rattle.tree_laws.proofs.PartLoop.{less_or_same}
 use Rattle.span_table.specs.declared.slot.Layout.{Layout}
 use Rattle.span_table.specs.declared.slot.Slot.{Slot}
 use Rattle.span_table.specs.declared.slot.Slot.TheVariants.{OfName, OfSuffix}
-use Rattle.span_table.specs.Cells.{place, cell, name_slot, suffix_slot, IsLayoutOf, NameRight, Right, ShorterRight, LaterRight, SlotLeast, RightBefore, AreFilled}
+use Rattle.span_table.specs.Cells.{place, cell, name_slot, suffix_slot, IsLayoutOf, Right, ShorterRight, LaterRight, SlotLeast, RightBefore, AreFilled}
 use Rattle.span_table.proofs.Slots.{name_slot-within, suffix_slot-within}
 
 apart : (a b : ℕ) → (a < b) ⊎ ((b < a) ⊎ (a ≡ b))
@@ -75,7 +74,7 @@ module _ (g : Grammar) (p : PriceView) (lay : Layout) (fits : IsLayoutOf g lay) 
           rw get_or-set_other (before t j m other there' there lt)
       go (inr eq) =
           let row = same-row (length lay.slots.items) (place_of lay.spans j m) t (place_of lay.spans i l) s
-              (slice_get_within lay.slots.items t other there') (slice_get_within lay.slots.items s what here) (eq ∙ at) in
+          (slice_get_within lay.slots.items t other there') (slice_get_within lay.slots.items s what here) (eq ∙ at) in
           let sp = place-apart lay.spans j m i l (day_of j m there) (day_of i l day) row.0 in
           let es : t ≡ s = row.1 in
           let w : other ≡ what = same_Some other what (sym there' ∙ ap (λ (q : ℕ). slice_get lay.slots.items q) es ∙ here) in
@@ -85,7 +84,7 @@ module _ (g : Grammar) (p : PriceView) (lay : Layout) (fits : IsLayoutOf g lay) 
   pub right-all : (xs : List (Option ℤ)) → RightBefore g p lay xs (shorter lay.spans lay.spans * length lay.slots.items) → AreFilled g p lay xs
   right-all xs before s i l what here day =
       let q = mul-add-lt (place_of lay.spans i l) (length lay.slots.items) s (shorter lay.spans lay.spans)
-          (place-within lay.spans i l (day_of i l day)) (slice_get_within lay.slots.items s what here) in
+      (place-within lay.spans i l (day_of i l day)) (slice_get_within lay.slots.items s what here) in
       before s i l what here day (omega (arith, q))
 
   -- in a filled table each span is right
@@ -96,6 +95,7 @@ module _ (g : Grammar) (p : PriceView) (lay : Layout) (fits : IsLayoutOf g lay) 
         filled (suffix_slot lay r k) i l (OfSuffix (record { rule = r; from = k })) (fits.suffixes r k rule at one two) there rule at;
   }
 
+  -- so is each shorter span
   pub filled-shorter : (xs : List (Option ℤ)) → AreFilled g p lay xs → (l : ℕ) → ShorterRight g p lay xs l
   filled-shorter xs filled l j m there less = filled-right xs filled j m there
 

@@ -1,7 +1,7 @@
 -- A layout with slots for all suffixes and then for all names is one of the grammar.
-use Rattle.std.proofs.Common.{◌≡◌, ℕ, ◌<◌, ◌≤◌, ◌+◌, ◌-◌, ◌*◌, List, [], ◌∷◌, Some, arith, subst, sym, ap, ◌∙◌, length, get_or}
-use Rattle.std.specs.Prelude.{slice_get, slice_index}
-use Rattle.std.proofs.Math.Nat.{mul-le-mul_right, mul-le-mul_left}
+use Rattle.std.proofs.Common.{◌≡◌, ℕ, ◌<◌, ◌≤◌, List, [], ◌∷◌, Some, arith, length}
+use Rattle.std.specs.Prelude.{slice_index}
+use Rattle.std.proofs.Math.Nat.{mul-le-mul_right}
 use Rattle.roster_model.specs.declared.grammar.Grammar.{Grammar}
 use Rattle.roster_model.specs.declared.grammar.Rule.{Rule}
 use Rattle.roster_model.specs.declared.grammar.Sym.TheVariants.{Name}
@@ -10,11 +10,11 @@ use Rattle.roster_model.specs.Sound.{IsSound}
 use Rattle.tree_laws.proofs.Rules.{rule_at-within, sound-rule, sound-symbol}
 use Rattle.span_table.specs.declared.slot.Layout.{Layout}
 use Rattle.span_table.specs.declared.slot.Slot.{Slot}
-use Rattle.span_table.specs.declared.slot.Slot.TheVariants.{OfName, OfSuffix}
-use Rattle.span_table.specs.declared.slot.Suffix.{Suffix}
-use Rattle.span_table.specs.Cells.{IsLayoutOf, HasSlot}
+use Rattle.span_table.specs.declared.slot.Slot.TheVariants.{OfSuffix}
+use Rattle.span_table.specs.Cells.{IsLayoutOf}
 use Rattle.span_table.specs.Building.{SuffixSlots, AreNamed}
 
+-- the parts of a layout make one of the grammar
 pub layout-made : (g : Grammar) (sound : IsSound g) (lay : Layout) (base : List Slot) → lay.spans ≡ g.periods
     → SuffixSlots g base lay.suffixes.items (length g.rules) → AreNamed g base lay.slots.items lay.names.items → IsLayoutOf g lay
 layout-made g sound lay base periods a b = record {

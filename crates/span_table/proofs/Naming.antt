@@ -1,5 +1,5 @@
 -- The slots of names, from the highest rank to the lowest.
-use Rattle.std.proofs.Common.{◌≡◌, ◌≢◌, ℕ, zero, suc, ◌<◌, ◌≤◌, ◌+◌, ◌-◌, ◌*◌, List, [], ◌∷◌, ◌++◌, Option, None, Some, arith, refl, subst, sym, ap, ◌∙◌, ◌⊎◌, inl, inr, length, get_or, set, get_or-set_same, get_or-set_other, length-append, length-set, Bool, true, false, nat_eq}
+use Rattle.std.proofs.Common.{◌≡◌, ◌≢◌, ℕ, suc, ◌<◌, ◌≤◌, ◌+◌, ◌*◌, List, [], ◌∷◌, ◌++◌, Some, arith, refl, subst, sym, ap, ◌∙◌, ◌⊎◌, inl, inr, length, get_or, set, get_or-set_same, get_or-set_other, length-append, length-set, Bool, true, false, nat_eq}
 use Rattle.std.specs.Prelude.{slice_get, slice_index}
 use Rattle.std.proofs.lemmas.Bool.{eqb-true}
 use Rattle.std.proofs.lemmas.Option.{slice_get_within}
@@ -9,9 +9,8 @@ use Rattle.span_table.specs.declared.slot.Suffix.{Suffix}
 use Rattle.span_table.specs.Building.{IsPlaced, IsDone, NameSlots, AreNamed}
 use Rattle.roster_model.specs.declared.grammar.Grammar.{Grammar}
 use Rattle.roster_model.specs.declared.grammar.Rule.{Rule}
-use Rattle.roster_model.specs.Grammar.{rule_at}
 use Rattle.roster_model.specs.Sound.{IsSound, has_rule}
-use Rattle.roster_model.specs.UnitRules.{IsRanked, IsFirstOnCycle}
+use Rattle.roster_model.specs.UnitRules.{IsRanked}
 use Rattle.tree_laws.proofs.Rules.{rule_here}
 use Rattle.span_table.proofs.Pushing.{push-kept, push-here, push-cases}
 
@@ -82,6 +81,7 @@ module _ (ranks : List ℕ) (base slots : List Slot) (names : List ℕ) (done mo
   suffixes s w (inl e) = h.suffixes s w e
   suffixes s w (inr e) = cc
 
+  -- after it one name more is done
   pub names-next : NameSlots ranks base (slots ++ OfName x ∷ []) (set names x (length slots)) more (m + 1)
   names-next = record {
     kept = λ s w e. push-kept slots (OfName x) w s (h.kept s w e);
@@ -139,6 +139,7 @@ module _ (ranks : List ℕ) (rank x : ℕ) where
 
 -- a turn of the loop over the ranks
 module _ (ranks : List ℕ) (base slots : List Slot) (names : List ℕ) (n turn rank : ℕ) (count : length names ≡ n) (is : rank + turn + 1 ≡ n) where
+  -- as the turn begins, the higher ranks are done
   pub turn-begins : (m : ℕ) → NameSlots ranks base slots names (IsDone ranks n turn) m → NameSlots ranks base slots names (IsPlaced ranks rank 0) m
   turn-begins m h = names-same ranks base slots names (IsDone ranks n turn) (IsPlaced ranks rank 0) m m (λ y lt d. inl (omega (arith, d))) (λ y lt d. back y d) (omega arith) h
     where
@@ -156,6 +157,7 @@ module _ (ranks : List ℕ) (base slots : List Slot) (names : List ℕ) (n turn 
       by (inl k) = inl k
       by (inr k) = inr (k, lt)
 
+  -- as it ends, its rank is done too
   pub turn-ends : (m k : ℕ) → m ≤ k → NameSlots ranks base slots names (IsPlaced ranks rank (length names)) m → NameSlots ranks base slots names (IsDone ranks n (turn + 1)) k
   turn-ends m k le h = names-same ranks base slots names (IsPlaced ranks rank (length names)) (IsDone ranks n (turn + 1)) m k (λ y lt d. to y d) (λ y lt d. higher_or_same y lt d) le h
     where

@@ -1,5 +1,5 @@
 -- The end of the loop over the lengths of a first part.
-use Rattle.std.proofs.Common.{◌≡◌, ℕ, ◌<◌, ◌≤◌, ◌+◌, min, List, Option, arith, length, drop, get_or, ◌⊎◌, inl, inr, ap, subst, sym}
+use Rattle.std.proofs.Common.{◌≡◌, ℕ, ◌≤◌, ◌+◌, min, List, Option, arith, length, drop, get_or, ◌⊎◌, inl, inr, subst}
 use Rattle.std.specs.Prelude.{ℤ}
 use Rattle.roster_model.specs.declared.grammar.Grammar.{Grammar}
 use Rattle.roster_model.specs.declared.grammar.Sym.{Sym}

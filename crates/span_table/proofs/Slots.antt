@@ -1,13 +1,13 @@
 -- The slots of a layout, and the cells of a place.
-use Rattle.std.proofs.Common.{◌≡◌, ◌≢◌, ℕ, zero, suc, ℤ, ◌<◌, ◌≤◌, ◌+◌, ◌-◌, ◌*◌, List, [], ◌∷◌, Option, None, Some, arith, refl, subst, sym, ap, ◌∙◌, ◌⊎◌, inl, inr, length, drop, get_or, set, get_or-set_other, get_or-set_same}
-use Rattle.std.specs.Prelude.{slice_get, slice_index}
+use Rattle.std.proofs.Common.{◌≡◌, ℕ, ◌<◌, ◌≤◌, ◌+◌, List, Some, refl, sym, ap, ◌∙◌, length, get_or}
+use Rattle.std.specs.Prelude.{slice_get}
 use Rattle.std.proofs.lemmas.Option.{same_Some, slice_get_within, slice_get_read}
 use Rattle.roster_model.specs.declared.grammar.Grammar.{Grammar}
 use Rattle.roster_model.specs.declared.grammar.Rule.{Rule}
 use Rattle.roster_model.specs.Grammar.{rule_at}
 use Rattle.span_table.specs.declared.slot.Layout.{Layout}
 use Rattle.span_table.specs.declared.slot.Slot.{Slot}
-use Rattle.span_table.specs.declared.slot.Slot.TheVariants.{OfName, OfSuffix}
+use Rattle.span_table.specs.declared.slot.Slot.TheVariants.{OfName}
 use Rattle.span_table.specs.Cells.{IsLayoutOf, name_slot, suffix_slot}
 
 module _ (g : Grammar) (lay : Layout) (fits : IsLayoutOf g lay) where

@@ -1,5 +1,5 @@
 -- The slots of suffixes, one after the other.
-use Rattle.std.proofs.Common.{◌≡◌, ℕ, zero, suc, ◌<◌, ◌≤◌, ◌+◌, ◌-◌, ◌*◌, List, [], ◌∷◌, ◌++◌, Option, None, Some, arith, refl, subst, sym, ap, ◌∙◌, ◌⊎◌, inl, inr, length, get_or, length-append}
+use Rattle.std.proofs.Common.{◌≡◌, ℕ, ◌≤◌, ◌+◌, ◌-◌, List, [], ◌∷◌, ◌++◌, Some, arith, refl, subst, sym, ap, ◌∙◌, ◌⊎◌, inl, inr, length, get_or, length-append}
 use Rattle.std.specs.Prelude.{slice_get}
 use Rattle.std.proofs.Math.ListN.{get_or-append}
 use Rattle.std.proofs.Math.Seq.{get_or-append_seam}
@@ -9,7 +9,7 @@ use Rattle.roster_model.specs.declared.grammar.Rule.{Rule}
 use Rattle.roster_model.specs.Grammar.{rule_at}
 use Rattle.tree_laws.proofs.Rules.{rule_at-within}
 use Rattle.span_table.specs.declared.slot.Slot.{Slot}
-use Rattle.span_table.specs.declared.slot.Slot.TheVariants.{OfName, OfSuffix}
+use Rattle.span_table.specs.declared.slot.Slot.TheVariants.{OfSuffix}
 use Rattle.span_table.specs.Cells.{HasSlot}
 use Rattle.span_table.specs.Building.{AddsSuffixes, SuffixSlots, IsSuffixSlot}
 use Rattle.span_table.proofs.Pushing.{push-kept, push-here, push-cases}

@@ -1,17 +1,16 @@
 -- The walk down a tree of least sum: what it may ask at each step, and what it has written after it.
-use Rattle.std.proofs.Common.{◌≡◌, ◌≢◌, ℕ, zero, suc, ℤ, ◌<◌, ◌≤◌, ◌+◌, ◌-◌, List, [], ◌∷◌, ◌++◌, Option, None, Some, arith, refl, subst, sym, ap, ◌∙◌, ◌⊎◌, inl, inr, length, length-append, append_assoc, drop}
+use Rattle.std.proofs.Common.{◌≡◌, ◌≢◌, ℕ, zero, suc, ℤ, ◌<◌, ◌+◌, ◌-◌, List, [], ◌∷◌, ◌++◌, Option, None, Some, arith, refl, subst, sym, ap, ◌∙◌, ◌⊎◌, inl, inr, length, length-append, append_assoc, drop}
 use Rattle.std.proofs.lemmas.List.{append-nil}
 use Rattle.roster_model.specs.declared.grammar.Grammar.{Grammar}
-use Rattle.roster_model.specs.declared.grammar.Rule.{Rule}
 use Rattle.roster_model.specs.declared.grammar.Step.{Step}
 use Rattle.roster_model.specs.declared.grammar.Sym.{Sym}
 use Rattle.roster_model.specs.declared.grammar.Sym.TheVariants.{Code, Name}
-use Rattle.roster_model.specs.Grammar.{rule_at, InDay, Stands}
+use Rattle.roster_model.specs.Grammar.{InDay}
 use Rattle.roster_model.specs.Trees.{Parts, done, letter, uses, covers, On, steps}
-use Rattle.roster_model.specs.Sums.{PriceView, IsLeast, plus, tree_sum, parts_sum, SymbolLeast, PartsLeast}
-use Rattle.roster_model.specs.Sound.{IsSound, Exists}
+use Rattle.roster_model.specs.Sums.{PriceView, plus, tree_sum, parts_sum, SymbolLeast, PartsLeast}
+use Rattle.roster_model.specs.Sound.{Exists}
 use Rattle.roster_model.specs.Room.{RoomView}
-use Rattle.tree_laws.specs.Parts.{use_count, beside}
+use Rattle.tree_laws.specs.Parts.{beside}
 use Rattle.tree_laws.specs.Laws.{arc_at}
 use Rattle.tree_laws.proofs.Least.{IsLeast-one}
 use Rattle.tree_laws.proofs.Splits.{joined}
@@ -47,9 +46,11 @@ module _ (g : Grammar) (p : PriceView) where
       by (inl e) = (p.letter_at c i, code-least g p i l c e)
       by (inr e) = (None, code-none g p i l c e)
 
+  -- a symbol has one least sum
   pub one_tree : (s : Sym) (i l : ℕ) (v w : Option ℤ) → SymbolLeast g p s i l v → SymbolLeast g p s i l w → v ≡ w
   one_tree s i l v w h k = IsLeast-one (On g (s ∷ []) i l) (tree_sum p i) v w h k
 
+  -- so have the parts of symbols
   pub one_parts : (r k : ℕ) (ss : List Sym) (i l : ℕ) (v w : Option ℤ) → PartsLeast g p r k ss i l v → PartsLeast g p r k ss i l w → v ≡ w
   one_parts r k ss i l v w h o = IsLeast-one (On g ss i l) (parts_sum p r k i) v w h o
 
@@ -90,12 +91,14 @@ module _ (g : Grammar) (p : PriceView) where
     all : plus chosen.head (plus (Some (p.arc_of (arc_at r k i l part))) chosen.tail) ≡ Some z
     all = sym chosen.sum ∙ is
 
+    -- the first part has a sum
     pub first-has : HasTree g p s i part
     first-has = has_tree s i part chosen.head chosen.first (left_there chosen.head _ z all)
 
     others : (y : ℤ) × (chosen.tail ≡ Some y)
     others = let w = right_there chosen.head _ z all in right_there (Some (p.arc_of (arc_at r k i l part))) chosen.tail w.0 w.1
 
+    -- so have the others
     pub others-has : HasParts g p r (k + 1) (drop (k + 1) xs) (i + part) (l - part)
     others-has = has_parts r (k + 1) (drop (k + 1) xs) (i + part) (l - part) chosen.tail chosen.rest others
 
@@ -130,12 +133,13 @@ module _ (g : Grammar) (p : PriceView) where
       let cov : i + covers w.0 ≡ i + m = ap (λ (q : ℕ). i + q) w.1.1 in
       let all : steps i (beside w.0 o.0) ≡ steps i w.0 ++ steps (i + m) o.0 = steps-beside w.0 o.0 i ∙ ap (λ (q : ℕ). steps i w.0 ++ steps q o.0) cov in
       let now : new ≡ record old { steps = old.steps ++ steps i (beside w.0 o.0) } =
-          o.3 ∙ ap (λ (q : RoomView). record q { steps = q.steps ++ steps (i + m) o.0 }) w.3
-          ∙ ap (λ (q : List Step). record old { steps = q }) (append_assoc old.steps (steps i w.0) (steps (i + m) o.0) ∙ ap (λ (q : List Step). old.steps ++ q) (sym all)) in
+      o.3 ∙ ap (λ (q : RoomView). record q { steps = q.steps ++ steps (i + m) o.0 }) w.3
+      ∙ ap (λ (q : List Step). record old { steps = q }) (append_assoc old.steps (steps i w.0) (steps (i + m) o.0) ∙ ap (λ (q : List Step). old.steps ++ q) (sym all)) in
       (beside w.0 o.0, j.0, subst (λ (q : Option ℤ). PartsLeast g p r k (s ∷ x ∷ ss) i l q) (sym whole) least, now)
 
   -- a name: the parts of the chosen rule have a sum
   module _ (x i l number : ℕ) (z : ℤ) (v : Option ℤ) (chosen : ChosenRule g p x i l number v) (is : v ≡ Some z) where
+    -- the parts have a sum
     pub rule-has : HasParts g p number 0 chosen.rule.right i l
     rule-has = has_parts number 0 chosen.rule.right i l chosen.inner chosen.parts (right_there (Some (p.rule_of number)) chosen.inner z (sym chosen.sum ∙ is))
 
@@ -157,8 +161,11 @@ module _ (g : Grammar) (p : PriceView) where
         let whole : tree_sum p i (uses number l w.0 done) ≡ v = ap (λ (q : Option ℤ). plus (Some (p.rule_of number)) q) same ∙ sym chosen.sum in
         let step : Step = record { rule = number; start = i; len = l } in
         let joined_steps : (old.steps ++ step ∷ []) ++ steps i w.0 ≡ old.steps ++ steps i (uses number l w.0 done) =
-            append_assoc old.steps (step ∷ []) (steps i w.0) ∙ ap (λ (q : List Step). old.steps ++ (step ∷ q)) (sym (append-nil (steps i w.0))) in
+        append_assoc old.steps (step ∷ []) (steps i w.0) ∙ ap (λ (q : List Step). old.steps ++ (step ∷ q)) (sym (append-nil (steps i w.0))) in
         let now : new ≡ record old { steps = old.steps ++ steps i (uses number l w.0 done) } =
-            w.3 ∙ ap (λ (q : RoomView). record q { steps = q.steps ++ steps i w.0 }) first ∙ ap (λ (q : List Step). record old { steps = q }) joined_steps in
-        (uses number l w.0 done, rooted g p i l number x chosen.rule w.0 chosen.at chosen.left chosen.stands some w.1,
-        subst (λ (q : Option ℤ). SymbolLeast g p (Name x) i l q) (sym whole) least, now)
+        w.3 ∙ ap (λ (q : RoomView). record q { steps = q.steps ++ steps i w.0 }) first ∙ ap (λ (q : List Step). record old { steps = q }) joined_steps in (
+          uses number l w.0 done,
+          rooted g p i l number x chosen.rule w.0 chosen.at chosen.left chosen.stands some w.1,
+          subst (λ (q : Option ℤ). SymbolLeast g p (Name x) i l q) (sym whole) least,
+          now,
+        )

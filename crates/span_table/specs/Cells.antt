@@ -19,12 +19,15 @@ cell_count lay = shorter lay.spans lay.spans * length lay.slots.items
 abbrev pub place : Layout → ℕ → ℕ → ℕ → ℕ
 place lay s i l = place_of lay.spans i l * length lay.slots.items + s
 
+-- the cell of a slot on a span
 abbrev pub cell : Layout → List (Option ℤ) → ℕ → ℕ → ℕ → Option ℤ
 cell lay xs s i l = slice_index_or xs (place lay s i l) None
 
+-- the slot of a name
 abbrev pub name_slot : Layout → ℕ → ℕ
 name_slot lay x = slice_index lay.names.items x
 
+-- the slot of a suffix of a rule
 abbrev pub suffix_slot : Layout → ℕ → ℕ → ℕ
 suffix_slot lay r k = slice_index lay.suffixes.items (r - 1) + (k - 1)
 

@@ -8,9 +8,11 @@ use Rattle.std.proofs.Common.{sym}
 abbrev pub no_number : ℤ
 no_number = pos (2 ^ 127 - 1)
 
+-- the sum that a number stands for
 abbrev pub sum_of : ℤ → Option ℤ
 sum_of z = cond (int_eq z no_number) None (Some z)
 
+-- the number that stands for a sum
 abbrev pub number_of : Option ℤ → ℤ
 number_of None = no_number
 number_of (Some z) = z

@@ -62,6 +62,7 @@ abbrev pub tree_measure : Layout → Sym → ℕ → ℕ
 tree_measure lay (Code c) l = l * 131074
 tree_measure lay (Name x) l = l * 131074 + (2 * name_slot lay x + 2)
 
+-- how far it may go down from parts
 abbrev pub parts_measure : Layout → ℕ → ℕ → ℕ → ℕ
 parts_measure lay x zero l = l * 131074 + (2 * name_slot lay x + 1)
 parts_measure lay x (suc k) l = l * 131074 + 131073

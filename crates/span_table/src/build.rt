@@ -26,7 +26,11 @@ fn add_suffixes(slots: &mut List<Slot>, number: u8, symbols: usize) -> Result<()
 }
 
 // Adds slots for the suffixes of all rules, and returns the slot at which those of each rule begin.
-fn add_rules(alloc: Global, grammar: &Grammar, slots: &mut List<Slot>) -> Result<List<usize>, Memory>
+fn add_rules(
+    alloc: Global,
+    grammar: &Grammar,
+    slots: &mut List<Slot>,
+) -> Result<List<usize>, Memory>
     requires sound { IsSound grammar.now }
     requires empty { slots.old ≡ [] }
     ensures { IfOk result (λ starts. SuffixSlots grammar.now slots.new starts (length grammar.now.rules)) }
@@ -42,7 +46,12 @@ fn add_rules(alloc: Global, grammar: &Grammar, slots: &mut List<Slot>) -> Result
 }
 
 // Adds slots for the names of a rank.
-fn add_rank(slots: &mut List<Slot>, names: &mut [usize], ranks: &[u8], rank: u8) -> Result<(), Memory>
+fn add_rank(
+    slots: &mut List<Slot>,
+    names: &mut [usize],
+    ranks: &[u8],
+    rank: u8,
+) -> Result<(), Memory>
     requires few { length names.old ≤ 33 }
     requires ranks { length ranks.now ≡ 33 }
     ensures { OnOk result ((base : Items Use) (m : ℕ)

@@ -1,11 +1,10 @@
-ghost use Rattle.std.specs.Prelude.{◌≡◌, ◌^◌, ◌+◌, IfSome, None, length, vec_len, IfOk};
+ghost use Rattle.std.specs.Prelude.{◌≡◌, ◌^◌, IfSome};
 ghost use Rattle.roster_model.specs.Sums.{Within};
 
-use std::alloc::{AllocError, Global};
 use std::marker::Model;
 
 /// A sum that may not be there, in sixteen bytes: the greatest number stands for none.
-#[derive(Clone, Copy, Debug, Drop)]
+#[derive(Clone, Copy, Drop)]
 pub struct Cell {
     number: i128,
 }
@@ -38,6 +37,10 @@ impl Cell {
     pub fn sum(&self) -> Option<i128>
         ensures { result ≡ self.now }
     {
-        if self.number == i128::MAX { None } else { Some(self.number) }
+        if self.number == i128::MAX {
+            None
+        } else {
+            Some(self.number)
+        }
     }
 }

@@ -13,3 +13,6 @@ mod table;
 mod walk;
 
 pub use table::Table;
+
+#[cfg(test)]
+mod tests;

@@ -30,7 +30,11 @@ pub fn symbol_least<P: LetterPrice>(
 {
     match symbol {
         Sym::Code(code) => {
-            if span.len == 1 { prices.letter(code, span.start) } else { None }
+            if span.len == 1 {
+                prices.letter(code, span.start)
+            } else {
+                None
+            }
         }
         Sym::Name(name) => layout::read(layout, cells, layout.names[name as usize], span),
     }

@@ -1,7 +1,7 @@
 use span_forms::SpanIndex;
 
 /// A span of the day.
-#[derive(Clone, Copy, Debug, PartialEq, Eq, Drop)]
+#[derive(Clone, Copy, Drop)]
 pub struct Span {
     /// The first period, from 1.
     pub start: u8,
@@ -10,7 +10,7 @@ pub struct Span {
 }
 
 /// The symbols of a rule's right side from one of them on.
-#[derive(Clone, Copy, Debug, PartialEq, Eq, Drop)]
+#[derive(Clone, Copy, Drop)]
 pub struct Suffix {
     /// The number of the rule, from 1.
     pub rule: u8,
@@ -19,7 +19,7 @@ pub struct Suffix {
 }
 
 /// What a slot holds the least sums of.
-#[derive(Clone, Copy, Debug, PartialEq, Eq, Drop)]
+#[derive(Clone, Copy, Drop)]
 pub enum Slot {
     /// The trees of a name.
     OfName(u8),
@@ -28,7 +28,7 @@ pub enum Slot {
 }
 
 /// The slots of a grammar, and the spans of its day. Each span has one cell for each slot.
-#[derive(Debug, Drop)]
+#[derive(Drop)]
 pub struct Layout {
     /// The spans of the day.
     pub spans: SpanIndex,

@@ -96,6 +96,14 @@ impl Table {
             len: grammar.periods,
         };
         let start = Sym::Name(grammar.start);
-        write_tree(grammar, prices, &self.layout, self.cells.as_slice(), start, day, room);
+        write_tree(
+            grammar,
+            prices,
+            &self.layout,
+            self.cells.as_slice(),
+            start,
+            day,
+            room,
+        );
     }
 }

@@ -147,6 +147,7 @@ module _ (g : Grammar) (p : PriceView) (i l : ℕ) where
       below (uses q z inner rest) k = absurd k.0
       below (letter d rest) k = rw (← k.0.0) (same (p.letter_at c i))
 
+  -- no letter is longer
   pub code-none : (c : ℕ) → l ≢ 1 → SymbolLeast g p (Code c) i l None
   code-none c other = IsLeast-empty (On g (Code c ∷ []) i l) (tree_sum p i) nothing
     where

@@ -6,6 +6,7 @@ use Rattle.roster_model.specs.Sums.{IsLeast, IsLesser, AtMost}
 ≤ℤ-trans : (a b c : ℤ) → a ≤ℤ b → b ≤ℤ c → a ≤ℤ c
 ≤ℤ-trans a b c h k = omega (arith, ints)
 
+-- at most, and at most again
 pub AtMost-trans : (a b c : Option ℤ) → AtMost a b → AtMost b c → AtMost a c
 AtMost-trans a b None h k = tt
 AtMost-trans None None (Some z) h k = k
@@ -13,10 +14,12 @@ AtMost-trans None (Some y) (Some z) h k = absurd h
 AtMost-trans (Some x) None (Some z) h k = absurd k
 AtMost-trans (Some x) (Some y) (Some z) h k = ≤ℤ-trans x y z h k
 
+-- a value is at most itself
 pub AtMost-refl : (v : Option ℤ) → AtMost v v
 AtMost-refl None = tt
 AtMost-refl (Some z) = omega (arith, ints)
 
+-- nothing is above none
 pub AtMost-none : (v : Option ℤ) → AtMost v None
 AtMost-none None = tt
 AtMost-none (Some z) = tt
@@ -33,9 +36,11 @@ pub IsLesser-none : (v : Option ℤ) → IsLesser v None v
 IsLesser-none v = record { one = inl refl; left = AtMost-refl v; right = AtMost-none v }
 
 module _ {A : Type 0} where
+  -- where nothing meets P, there is no least sum
   pub IsLeast-empty : (P : A → Type 0) (sum : A → Option ℤ) → ((a : A) → P a → ⊥) → IsLeast P sum None
   IsLeast-empty P sum never = record { attained = tt; least = λ a h. absurd (never a h) }
 
+  -- what meets the same has the same least sum
   pub IsLeast-same : (P Q : A → Type 0) (sum : A → Option ℤ) (v : Option ℤ)
       → ((a : A) → P a → Q a) → ((a : A) → Q a → P a) → IsLeast P sum v → IsLeast Q sum v
   IsLeast-same P Q sum None to from h = record { attained = tt; least = λ a q. h.least a (from a q) }

@@ -13,6 +13,7 @@ use Rattle.tree_laws.specs.Parts.{first}
 use Rattle.tree_laws.specs.Laws.{arc_at}
 use Rattle.tree_laws.proofs.Splits.{split-least}
 
+-- below the next number
 pub less_or_same : (a m : ℕ) → a < m + 1 → (a < m) ⊎ (a ≡ m)
 less_or_same a m h = grind arith
 
@@ -43,9 +44,11 @@ module _ (g : Grammar) (p : PriceView) (r k i l : ℕ) where
   abbrev pub Before : List Sym → ℕ → Parts → Type 0
   Before ss m w = On g ss i l w × (first w < m)
 
+  -- no first part is empty
   pub suffix-init : (s : Sym) (ss : List Sym) → IsLeast (Before (s ∷ ss) 1) (parts_sum p r k i) None
   suffix-init s ss = IsLeast-empty (Before (s ∷ ss) 1) (parts_sum p r k i) (λ w h. omega (arith, first_some s ss w h.0.0))
 
+  -- one length more of the first part
   pub suffix-step : (m n : ℕ) (s x : Sym) (ss : List Sym) (a b best next : Option ℤ) → m + n ≡ l
       → IsLeast (Before (s ∷ x ∷ ss) m) (parts_sum p r k i) best → SymbolLeast g p s i m a → PartsLeast g p r (suc k) (x ∷ ss) (i + m) n b
       → IsLesser best (plus a (plus (Some (p.arc_of (arc_at r k i l m))) b)) next
@@ -56,6 +59,7 @@ module _ (g : Grammar) (p : PriceView) (r k i l : ℕ) where
       (λ w q. elim (less_or_same (first w) m q.1) [ inl z ↦ inl (q.0, z) | inr z ↦ inr (q.0, z) ])
       lesser h (split-least g p r k i m n l x ss e s a b ha hb)
 
+  -- the first part leaves a period to the others
   pub suffix-end : (s x : Sym) (ss : List Sym) (best : Option ℤ) → IsLeast (Before (s ∷ x ∷ ss) l) (parts_sum p r k i) best → PartsLeast g p r k (s ∷ x ∷ ss) i l best
   suffix-end s x ss best h = IsLeast-same (Before (s ∷ x ∷ ss) l) (On g (s ∷ x ∷ ss) i l) (parts_sum p r k i) best (λ w q. q.0) (λ w q. (q, first_less s x ss w q)) h
 

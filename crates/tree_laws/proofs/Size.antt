@@ -12,6 +12,7 @@ use Rattle.roster_model.specs.UnitRules.{IsRanked}
 use Rattle.tree_laws.specs.Parts.{use_count, part_count, beside}
 use Rattle.roster_model.specs.Sums.{PriceView, parts_sum, arc_sum, plus, Within, AllWithin}
 
+-- how many parts stand side by side
 abbrev pub tops : Parts → ℕ
 tops done = 0
 tops (letter c rest) = 1 + tops rest
@@ -45,6 +46,7 @@ module _ (g : Grammar) where
   two_tops i (Name c) b ss (uses r n inner rest) h = omega (arith, some_tops (i + n) b ss rest h.7)
 
 module _ (g : Grammar) (rank : ℕ → ℕ) (names : ℕ) (ranked : IsRanked g rank names) where
+  -- Few uses: a part side by side with others leaves each name one use less, and a one-symbol rule one name less.
   abbrev pub Few : List Sym → Parts → Type 0
   Few ss t = (use_count t + tops t * names ≤ 2 * (covers t * names))
       × ((x : ℕ) → ss ≡ Name x ∷ [] → use_count t + rank x + names ≤ 2 * (covers t * names))
@@ -67,6 +69,7 @@ module _ (g : Grammar) (rank : ℕ → ℕ) (names : ℕ) (ranked : IsRanked g r
       let two : 2 * names ≤ tops inner * names = mul-le-mul_right names (two_tops g i a b ss inner h) in
       omega arith
 
+  -- parts that symbols derive have few uses
   pub few : (t : Parts) (ss : List Sym) (i : ℕ) → Derive g ss i t → Few ss t
   few done [] i h = (omega arith, λ x e. cc)
   few done (Code c ∷ ss) i h = absurd h
@@ -129,6 +132,7 @@ module _ (p : PriceView) (all : AllWithin (2 ^ 96) p) where
   plus_within a b (Some x) None h k = tt
   plus_within a b (Some x) (Some y) h k = record { low = omega (arith, ints, h.low, k.low); high = omega (arith, ints, h.high, k.high) }
 
+  -- each letter and each use brings two prices at most
   pub sum_within : (t : Parts) (r k i : ℕ) → IfSome (parts_sum p r k i t) (Within ((2 * part_count t) * 2 ^ 96))
   sum_within done r k i = record { low = omega (arith, ints); high = omega (arith, ints) }
   sum_within (letter c rest) r k i =

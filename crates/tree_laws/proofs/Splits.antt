@@ -84,6 +84,7 @@ module _ (g : Grammar) (p : PriceView) (r k i m n l : ℕ) (x : Sym) (ss : List 
   AtMost-plus (Some a) None (Some c) (Some d) e h k = k
   AtMost-plus (Some a) (Some b) (Some c) (Some d) e h k = omega (arith, ints)
 
+  -- so the least sum by the length of the first part is the sum of the least sums
   pub split-least : (s : Sym) (a b : Option ℤ) → SymbolLeast g p s i m a → PartsLeast g p r (suc k) (x ∷ ss) (i + m) n b
       → IsLeast (λ w. On g (s ∷ x ∷ ss) i l w × (first w ≡ m)) (parts_sum p r k i) (plus a (plus (Some (p.arc_of (arc_at r k i l m))) b))
   split-least s a b ha hb = record { attained = attained a b ha.attained hb.attained; least = λ w h. below w (parted s w h.0 h.1) }

@@ -1,8 +1,8 @@
-use Rattle.std.proofs.Common.{subst, arith, ℕ, ◌≡◌, ◌+◌, ◌-◌, ◌*◌, ◌≤◌, ◌<◌, length, ap, sym, ◌∙◌, take, drop, ◌++◌}
+use Rattle.std.proofs.Common.{subst, arith, ℕ, ◌≡◌, ◌*◌, length, sym, ◌∙◌, drop}
 use Rattle.std.specs.Prelude.{slice_index}
 use Rattle.std.proofs.lemmas.List.{take_at}
 use Rattle.roster_model.proofs.StepRules.{no_cycle}
-use Rattle.span_table.specs.Building.{IsDone, NameSlots, AreNamed}
+use Rattle.span_table.specs.Building.{IsDone, NameSlots}
 use Rattle.span_table.proofs.Naming.{names-init, rank-below, all-named}
 use Rattle.span_table.proofs.build.add_names.Goals as goal
 
@@ -19,8 +19,8 @@ returns c =
     let same : length c.as_mut_slice.result.now ≡ length c.add_ranks.new.names = own ∙ sym now in
     let e = take_at c.add_ranks.new.names (drop (length c.add_ranks.new.names) c.in-Ok-vec.names.items) c.in-Ok-vec.names.len room in
     let h = c.in_ok-add_ranks.ensures c.args.slots.now
-        (names-init c.in-Ok.ranks c.args.slots.now c.as_mut_slice.result.now (IsDone c.in-Ok.ranks (length c.as_mut_slice.result.now) 0) c.requires.unnamed
-        (λ x lt d. let b = rank-below c.args.grammar.now c.requires.sound (slice_index c.in-Ok.ranks) c.in-Ok.ensures.ranked x (omega (arith, lt, own)) in omega (arith, b, d, own))) in
+    (names-init c.in-Ok.ranks c.args.slots.now c.as_mut_slice.result.now (IsDone c.in-Ok.ranks (length c.as_mut_slice.result.now) 0) c.requires.unnamed
+    (λ x lt d. let b = rank-below c.args.grammar.now c.requires.sound (slice_index c.in-Ok.ranks) c.in-Ok.ensures.ranked x (omega (arith, lt, own)) in omega (arith, b, d, own))) in
     rw e
     (all-named c.args.grammar.now c.in-Ok.ranks c.args.slots.now c.add_ranks.new.slots c.add_ranks.new.names c.in-Ok.ensures.ranked now
     (subst (λ (w : ℕ). NameSlots c.in-Ok.ranks c.args.slots.now c.add_ranks.new.slots c.add_ranks.new.names (IsDone c.in-Ok.ranks w w) (w * w)) same h))

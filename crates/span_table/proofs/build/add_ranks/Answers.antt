@@ -1,5 +1,5 @@
-use Rattle.std.proofs.Common.{ℕ, subst, arith, ◌≡◌, ◌+◌, ◌-◌, ◌*◌, ◌≤◌, ◌<◌, length, ap, sym, ◌∙◌}
-use Rattle.span_table.specs.Building.{IsPlaced, IsDone, NameSlots}
+use Rattle.std.proofs.Common.{ℕ, subst, arith, ◌≡◌, ◌+◌, ◌-◌, ◌*◌, length, sym, ◌∙◌}
+use Rattle.span_table.specs.Building.{IsPlaced, NameSlots}
 use Rattle.span_table.proofs.Naming.{turn-begins, turn-ends}
 use Rattle.span_table.proofs.build.add_ranks.Goals as goal
 
@@ -13,8 +13,8 @@ loop-turn-preserved c =
     let is : (length c.args.names.now - 1 - c.loop-turn.turn) + c.loop-turn.turn + 1 ≡ length c.args.names.now = omega arith in
     let begins = turn-begins c.args.ranks.now base c.loop-turn.slots c.loop-turn.names n turn rank old is (turn * n) (c.loop-turn.invariant base h) in
     let ends : NameSlots c.args.ranks.now base c.add_rank.new.slots c.add_rank.new.names (IsPlaced c.args.ranks.now (length c.args.names.now - 1 - c.loop-turn.turn) (length c.add_rank.new.names)) (c.loop-turn.turn * length c.args.names.now + length c.loop-turn.names) =
-        subst (λ (w : ℕ). NameSlots c.args.ranks.now base c.add_rank.new.slots c.add_rank.new.names (IsPlaced c.args.ranks.now (length c.args.names.now - 1 - c.loop-turn.turn) w) (c.loop-turn.turn * length c.args.names.now + length c.loop-turn.names))
-        (old ∙ sym new) (c.in_ok-add_rank.ensures base (turn * n) begins) in
+    subst (λ (w : ℕ). NameSlots c.args.ranks.now base c.add_rank.new.slots c.add_rank.new.names (IsPlaced c.args.ranks.now (length c.args.names.now - 1 - c.loop-turn.turn) w) (c.loop-turn.turn * length c.args.names.now + length c.loop-turn.names))
+    (old ∙ sym new) (c.in_ok-add_rank.ensures base (turn * n) begins) in
     turn-ends c.args.ranks.now base c.add_rank.new.slots c.add_rank.new.names n turn rank new is (turn * n + length c.loop-turn.names) ((turn + 1) * n) (omega (arith, old)) ends
 
 pub returns : goal.returns

@@ -1,6 +1,6 @@
-use Rattle.std.proofs.Common.{arith, refl, ◌≡◌, ◌+◌, ◌-◌, ◌≤◌, ◌∷◌, [], ◌++◌, length, ap, sym, ◌∙◌}
+use Rattle.std.proofs.Common.{◌≡◌, ◌+◌, ◌-◌, ◌≤◌, ◌∷◌, [], ◌++◌, length, ap, ◌∙◌}
 use Rattle.tree_laws.proofs.Rules.{sound-rule}
-use Rattle.span_table.specs.Building.{AddsSuffixes, SuffixSlots}
+use Rattle.span_table.specs.Building.{AddsSuffixes}
 use Rattle.span_table.proofs.Suffixing.{rules-next}
 use Rattle.span_table.proofs.build.add_rules.Goals as goal
 

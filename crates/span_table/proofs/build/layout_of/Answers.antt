@@ -1,6 +1,4 @@
-use Rattle.std.proofs.Common.{arith, ℕ, ◌≡◌, length, ap, sym, ◌∙◌}
 use Rattle.span_table.specs.declared.slot.Slot.TheVariants.{OfName}
-use Rattle.span_table.specs.Building.{SuffixSlots, AreNamed}
 use Rattle.span_table.proofs.Layouts.{layout-made}
 use Rattle.span_table.proofs.build.layout_of.Goals as goal
 

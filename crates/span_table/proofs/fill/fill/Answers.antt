@@ -1,4 +1,4 @@
-use Rattle.std.proofs.Common.{arith, refl, ◌≡◌, ◌≤◌, ◌<◌, ◌+◌, ◌*◌, length}
+use Rattle.std.proofs.Common.{arith, ◌≡◌}
 use Rattle.span_forms.specs.Places.{shorter}
 use Rattle.span_table.proofs.Filling.{right-all}
 use Rattle.span_table.proofs.fill.fill.Goals as goal

@@ -1,8 +1,8 @@
-use Rattle.std.proofs.Common.{ℕ, arith, ◌≡◌, ◌≤◌, ◌<◌, ◌+◌, ◌*◌, length, sym, ap, ◌∙◌, get_or}
+use Rattle.std.proofs.Common.{ℕ, arith, ◌≡◌, ◌<◌, ◌+◌, ◌*◌, length, sym, ap, get_or}
 use Rattle.std.proofs.lemmas.Nat.{mul-add-lt}
 use Rattle.std.proofs.lemmas.Option.{slice_get-get_or}
 use Rattle.roster_model.specs.Grammar.{InDay}
-use Rattle.span_forms.specs.Places.{shorter, place_of}
+use Rattle.span_forms.specs.Places.{shorter}
 use Rattle.span_table.specs.declared.slot.Slot.TheVariants.{OfName}
 use Rattle.span_table.specs.Cells.{place}
 use Rattle.span_table.proofs.Filling.{right-set}
@@ -17,11 +17,11 @@ loop-slot-preserved g c =
     let here = slice_get-get_or lay.slots.items slot (OfName 0) lt in
     let day : InDay c.args.grammar.now.periods c.span-start.result.0 c.span-start.result.1 = rw (← c.requires.ready.layout.periods) c.span-start.ensures.day in
     let at : c.args.place * length c.args.layout.now.slots.items + c.loop-slot.slot ≡ place c.args.layout.now c.loop-slot.slot c.span-start.result.0 c.span-start.result.1 =
-        ap (λ (q : ℕ). q * length c.args.layout.now.slots.items + c.loop-slot.slot) (sym c.span-start.ensures.place) in
+    ap (λ (q : ℕ). q * length c.args.layout.now.slots.items + c.loop-slot.slot) (sym c.span-start.ensures.place) in
     let inside = mul-add-lt c.args.place (length c.args.layout.now.slots.items) c.loop-slot.slot (shorter c.args.layout.now.spans c.args.layout.now.spans) c.requires.place lt in
     let room : c.args.place * length c.args.layout.now.slots.items + c.loop-slot.slot < length c.loop-slot.cells = omega (arith, inside, c.requires.ready.cells) in
     rw (width, c.new.ensures)
     (λ s i l what h there less.
-        right-set c.args.grammar.now (g.P.LetterPrice.view c.args.prices.now) lay c.requires.ready.layout c.loop-slot.cells slot c.span-start.result.0 c.span-start.result.1
-        (c.args.place * length c.args.layout.now.slots.items + c.loop-slot.slot) (get_or lay.slots.items slot (OfName 0)) c.slot_least-sum.result
-        here day at room c.loop-slot.invariant (c.slot_least-sum.ensures.least (get_or lay.slots.items slot (OfName 0)) here) s i l what h there (omega (arith, less)))
+    right-set c.args.grammar.now (g.P.LetterPrice.view c.args.prices.now) lay c.requires.ready.layout c.loop-slot.cells slot c.span-start.result.0 c.span-start.result.1
+    (c.args.place * length c.args.layout.now.slots.items + c.loop-slot.slot) (get_or lay.slots.items slot (OfName 0)) c.slot_least-sum.result
+    here day at room c.loop-slot.invariant (c.slot_least-sum.ensures.least (get_or lay.slots.items slot (OfName 0)) here) s i l what h there (omega (arith, less)))

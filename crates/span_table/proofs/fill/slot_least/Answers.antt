@@ -1,13 +1,10 @@
-use Rattle.std.proofs.Common.{arith, refl, ◌≡◌, ◌≤◌, ◌<◌, ◌+◌, length, sym, ap, ◌∙◌, subst}
-use Rattle.std.specs.Prelude.{Some, slice_get, drop}
+use Rattle.std.proofs.Common.{◌≡◌, ◌≤◌, ◌+◌, length, sym, ◌∙◌, subst}
+use Rattle.std.specs.Prelude.{drop}
 use Rattle.std.proofs.lemmas.Option.{same_Some}
 use Rattle.roster_model.specs.declared.grammar.Rule.{Rule}
-use Rattle.roster_model.specs.Grammar.{rule_at}
 use Rattle.roster_model.specs.Sums.{PartsLeast}
 use Rattle.tree_laws.proofs.Rules.{rule_at-within}
-use Rattle.span_table.specs.declared.slot.Slot.{Slot}
 use Rattle.span_table.specs.declared.slot.Slot.TheVariants.{OfName, OfSuffix}
-use Rattle.span_table.specs.Cells.{SlotLeast}
 use Rattle.span_table.proofs.Slots.{slot_here, same_slot}
 use Rattle.span_table.proofs.Filling.{before-shorter, before-later}
 use Rattle.span_table.proofs.fill.slot_least.Goals as goal

@@ -1,8 +1,7 @@
-use Rattle.std.proofs.Common.{arith, ◌≡◌, ◌≤◌, ◌<◌, ◌≢◌, length, ap, sym, ◌∙◌, get_or, List, [], ◌∷◌}
+use Rattle.std.proofs.Common.{arith, ◌≡◌, ◌≤◌, ◌≢◌, length, ap, sym, ◌∙◌, get_or, [], ◌∷◌}
 use Rattle.std.proofs.lemmas.Int.{ints}
 use mir.Val.{to_z, of_z}
 use mir.Syntax.{w128}
-use Rattle.roster_model.specs.declared.grammar.Sym.{Sym}
 use Rattle.roster_model.specs.declared.grammar.Sym.TheVariants.{Name, Code}
 use Rattle.tree_laws.proofs.Rules.{sound-rule, sound-symbol}
 use Rattle.tree_laws.proofs.Symbols.{here_only}

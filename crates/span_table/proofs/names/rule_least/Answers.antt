@@ -1,4 +1,4 @@
-use Rattle.std.proofs.Common.{rules, arith, ◌≡◌, ◌≤◌, ◌<◌, length, ap, sym, ◌∙◌, get_or, List, [], ◌∷◌, ◌+◌}
+use Rattle.std.proofs.Common.{rules, arith, ◌≡◌, ap, ◌∙◌}
 use Rattle.std.proofs.lemmas.Int.{ints}
 use mir.Val.{to_z, of_z}
 use mir.Syntax.{w128}

@@ -1,4 +1,4 @@
-use Rattle.std.proofs.Common.{drop, get_or}
+use Rattle.std.proofs.Common.{drop}
 use Rattle.std.specs.Prelude.{OnSome}
 use Rattle.roster_model.specs.Sums.{IsLeast, parts_sum}
 use Rattle.tree_laws.proofs.PartLoop.{Before}

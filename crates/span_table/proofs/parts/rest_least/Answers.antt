@@ -1,4 +1,4 @@
-use Rattle.std.proofs.Common.{arith, ℕ, ◌≡◌, ◌≤◌, ◌<◌, ◌+◌, ◌-◌, length, ap, sym, ◌∙◌, get_or, Some}
+use Rattle.std.proofs.Common.{arith, ℕ, ◌≡◌, ◌≤◌, ◌<◌, ◌-◌, length, ap, sym, ◌∙◌, get_or, Some}
 use Rattle.std.proofs.lemmas.List.{get_or_read}
 use Rattle.roster_model.specs.declared.grammar.Grammar.{Grammar}
 use Rattle.roster_model.specs.declared.grammar.Rule.{Rule}
@@ -36,7 +36,7 @@ overflow_add-slot g c =
     let ne : length c.args.rule.now.right ≡ length c.as_slice-right.result.now = ap length (sym c.as_slice-right.ensures) in
     let slot = slot_read c.args.grammar.now c.args.layout.now c.requires.ready.layout c.args.suffix.rule c.index.result.now c.args.rule.now c.requires.rule c.index.ensures in
     let within : suffix_slot c.args.layout.now c.args.suffix.rule c.args.suffix.from < length c.args.layout.now.slots.items =
-        suffix_slot-within c.args.grammar.now c.args.layout.now c.requires.ready.layout c.args.suffix.rule c.args.suffix.from c.args.rule.now c.requires.rule c.requires.inner (omega arith) in
+    suffix_slot-within c.args.grammar.now c.args.layout.now c.requires.ready.layout c.args.suffix.rule c.args.suffix.from c.args.rule.now c.requires.rule c.requires.inner (omega arith) in
     omega (arith, c.requires.ready.layout.few, within, slot)
 
 pub returns-then-from-right-clause-least : goal.returns-then-from-right-clause-least

@@ -1,6 +1,5 @@
-use Rattle.std.proofs.Common.{arith, ◌≤◌, ◌≡◌, ◌<◌, sym, get_or, length}
+use Rattle.std.proofs.Common.{arith, ◌≤◌, ◌≡◌, ◌<◌, get_or, length}
 use Rattle.std.proofs.lemmas.List.{get_or_read}
-use Rattle.roster_model.specs.declared.grammar.Sym.TheVariants.{Name}
 use Rattle.tree_laws.proofs.Ends.{code-least}
 use Rattle.tree_laws.proofs.Bounds.{symbol_within}
 use Rattle.span_table.proofs.Slots.{name_slot-within}

@@ -1,10 +1,9 @@
-use Rattle.std.proofs.Common.{arith, refl, ℕ, ◌≡◌, ◌≢◌, ◌≤◌, ◌<◌, length, ap, sym, subst, ◌∙◌, get_or, List, [], ◌∷◌, ◌++◌, ◌+◌, ◌-◌, Some, drop}
+use Rattle.std.proofs.Common.{arith, ℕ, ◌≡◌, ◌≢◌, ◌≤◌, ◌<◌, length, ap, sym, subst, ◌∙◌, get_or, ◌+◌, ◌-◌}
 use Rattle.roster_model.specs.declared.grammar.Sym.{Sym}
 use Rattle.roster_model.specs.declared.grammar.Sym.TheVariants.{Name, Code}
 use Rattle.tree_laws.proofs.Rules.{sound-rule}
-use Rattle.span_table.specs.Walks.{AsksTree, AsksParts, WritesTree, WritesParts, HasTree, tree_measure, parts_measure}
+use Rattle.span_table.specs.Walks.{AsksTree, WritesTree, tree_measure, parts_measure}
 use Rattle.span_table.proofs.Filling.{filled-shorter, filled-later}
-use Rattle.span_table.proofs.Walking.{code-writes}
 use Rattle.span_table.proofs.Asking.{symbol-exists, last-earlier, asks-last, writes-last, asks-first, asks-rest, writes-split, part-low, part-high, number-within, rule-left, asks-rule, writes-rule, falls-last, falls-first, falls-rest, falls-rule}
 use Rattle.span_table.proofs.walk.+walk.Goals as goal
 
@@ -16,10 +15,13 @@ write_parts-write_tree-requires g t c = λ κs within.
     let s = get_or c.as_slice-right.result.now c.args.suffix.from (Code 0) in
     let ex = symbol-exists c.args.grammar.now p c.args.layout.now c.args.cells.now c.args.rule.now c.args.suffix.rule c.args.suffix.from c.args.span.start c.args.span.len c.args.room.now c.requires (Code 0) s is in
     let early = last-earlier c.args.grammar.now p c.args.layout.now c.args.cells.now c.args.rule.now c.args.suffix.rule c.args.suffix.from c.args.span.start c.args.span.len c.args.room.now c.requires (Code 0) s is one in
-    let falls = falls-last c.args.grammar.now c.args.layout.now c.requires.ready.layout s c.args.rule.now.left c.args.suffix.from c.args.span.len ex early in
-    (subst (λ (n : ℕ). tree_measure c.args.layout.now (get_or c.as_slice-right.result.now c.args.suffix.from (Code 0)) c.args.span.len < n) c.decreases falls,
-    (within,
-    asks-last c.args.grammar.now p c.args.layout.now c.args.cells.now c.args.rule.now c.args.suffix.rule c.args.suffix.from c.args.span.start c.args.span.len c.args.room.now c.requires (Code 0) s is one))
+    let falls = falls-last c.args.grammar.now c.args.layout.now c.requires.ready.layout s c.args.rule.now.left c.args.suffix.from c.args.span.len ex early in (
+      subst (λ (n : ℕ). tree_measure c.args.layout.now (get_or c.as_slice-right.result.now c.args.suffix.from (Code 0)) c.args.span.len < n) c.decreases falls,
+      (
+        within,
+        asks-last c.args.grammar.now p c.args.layout.now c.args.cells.now c.args.rule.now c.args.suffix.rule c.args.suffix.from c.args.span.start c.args.span.len c.args.room.now c.requires (Code 0) s is one,
+      ),
+    )
 
 pub write_parts-returns-then-from-right : goal.write_parts-returns-then-from-right
 write_parts-returns-then-from-right g t c =
@@ -58,13 +60,16 @@ write_tree-write_parts-requires g t c = λ κs within.
     let p = g.P.LetterPrice.view c.args.prices.now in
     let asks = subst (λ (q : Sym). AsksTree c.args.grammar.now (g.P.LetterPrice.view c.args.prices.now) c.args.layout.now c.args.cells.now q c.args.span.start c.args.span.len c.args.room.now) c.in-Name.is c.requires in
     let left = rule-left c.args.grammar.now p c.args.layout.now c.args.cells.now c.in-Name.name c.args.span.start c.args.span.len c.args.room.now asks c.least_rule-number.result.number c.least_rule-number.result.sum
-        c.least_rule-number.ensures.least c.least_rule-number.ensures.chosen c.rule_of-rule.result.now c.rule_of-rule.ensures in
+    c.least_rule-number.ensures.least c.least_rule-number.ensures.chosen c.rule_of-rule.result.now c.rule_of-rule.ensures in
     let falls = falls-rule c.args.grammar.now c.args.layout.now c.requires.ready.layout c.in-Name.name c.rule_of-rule.result.now.left c.args.span.len left in
-    let measure : tree_measure c.args.layout.now (Name c.in-Name.name) c.args.span.len ≡ t = ap (λ (q : Sym). tree_measure c.args.layout.now q c.args.span.len) (sym c.in-Name.is) ∙ c.decreases in
-    (subst (λ (n : ℕ). parts_measure c.args.layout.now c.rule_of-rule.result.now.left 0 c.args.span.len < n) measure falls,
-    (within,
-    asks-rule c.args.grammar.now p c.args.layout.now c.args.cells.now c.in-Name.name c.args.span.start c.args.span.len c.args.room.now asks c.least_rule-number.result.number c.least_rule-number.result.sum
-        c.least_rule-number.ensures.least c.least_rule-number.ensures.chosen c.rule_of-rule.result.now c.rule_of-rule.ensures c.push.new.self c.push.ensures))
+    let measure : tree_measure c.args.layout.now (Name c.in-Name.name) c.args.span.len ≡ t = ap (λ (q : Sym). tree_measure c.args.layout.now q c.args.span.len) (sym c.in-Name.is) ∙ c.decreases in (
+      subst (λ (n : ℕ). parts_measure c.args.layout.now c.rule_of-rule.result.now.left 0 c.args.span.len < n) measure falls,
+      (
+        within,
+        asks-rule c.args.grammar.now p c.args.layout.now c.args.cells.now c.in-Name.name c.args.span.start c.args.span.len c.args.room.now asks c.least_rule-number.result.number c.least_rule-number.result.sum
+            c.least_rule-number.ensures.least c.least_rule-number.ensures.chosen c.rule_of-rule.result.now c.rule_of-rule.ensures c.push.new.self c.push.ensures,
+      ),
+    )
 
 pub write_parts-write_tree-requires-2 : goal.write_parts-write_tree-requires-2
 write_parts-write_tree-requires-2 g t c = λ κs within.
@@ -79,9 +84,10 @@ write_parts-write_tree-requires-2 g t c = λ κs within.
     let chosen = rw is at c.least_part-part.ensures.chosen in
     let ex = symbol-exists c.args.grammar.now p c.args.layout.now c.args.cells.now c.args.rule.now c.args.suffix.rule c.args.suffix.from c.args.span.start c.args.span.len c.args.room.now c.requires (Code 0) s is in
     let falls = falls-first c.args.grammar.now c.args.layout.now c.requires.ready.layout s c.args.rule.now.left c.args.suffix.from c.least_part-part.result.number c.args.span.len ex
-        (part-high c.args.grammar.now p c.args.layout.now c.args.cells.now c.args.rule.now c.args.suffix.rule c.args.suffix.from c.args.span.start c.args.span.len c.args.room.now c.requires (Code 0) s is two c.least_part-part.result.number c.least_part-part.result.sum least chosen) in
-    (subst (λ (n : ℕ). tree_measure c.args.layout.now (get_or c.as_slice-right.result.now c.args.suffix.from (Code 0)) c.least_part-part.result.number < n) c.decreases falls,
-    (within, asks-first c.args.grammar.now p c.args.layout.now c.args.cells.now c.args.rule.now c.args.suffix.rule c.args.suffix.from c.args.span.start c.args.span.len c.args.room.now c.requires (Code 0) s is two c.least_part-part.result.number c.least_part-part.result.sum least chosen))
+    (part-high c.args.grammar.now p c.args.layout.now c.args.cells.now c.args.rule.now c.args.suffix.rule c.args.suffix.from c.args.span.start c.args.span.len c.args.room.now c.requires (Code 0) s is two c.least_part-part.result.number c.least_part-part.result.sum least chosen) in (
+      subst (λ (n : ℕ). tree_measure c.args.layout.now (get_or c.as_slice-right.result.now c.args.suffix.from (Code 0)) c.least_part-part.result.number < n) c.decreases falls,
+      (within, asks-first c.args.grammar.now p c.args.layout.now c.args.cells.now c.args.rule.now c.args.suffix.rule c.args.suffix.from c.args.span.start c.args.span.len c.args.room.now c.requires (Code 0) s is two c.least_part-part.result.number c.least_part-part.result.sum least chosen),
+    )
 
 pub write_parts-write_parts-requires : goal.write_parts-write_parts-requires
 write_parts-write_parts-requires g t c = λ κs within.
@@ -95,9 +101,10 @@ write_parts-write_parts-requires g t c = λ κs within.
     let least = c.least_part-part.ensures.least in
     let chosen = rw is at c.least_part-part.ensures.chosen in
     let falls = falls-rest c.args.grammar.now c.args.layout.now c.requires.ready.layout c.args.rule.now.left c.args.suffix.from c.least_part-part.result.number c.args.span.len
-        (part-low c.args.grammar.now p c.args.layout.now c.args.cells.now c.args.rule.now c.args.suffix.rule c.args.suffix.from c.args.span.start c.args.span.len c.args.room.now c.requires (Code 0) s is two c.least_part-part.result.number c.least_part-part.result.sum least chosen) (part-high c.args.grammar.now p c.args.layout.now c.args.cells.now c.args.rule.now c.args.suffix.rule c.args.suffix.from c.args.span.start c.args.span.len c.args.room.now c.requires (Code 0) s is two c.least_part-part.result.number c.least_part-part.result.sum least chosen) in
-    (subst (λ (n : ℕ). parts_measure c.args.layout.now c.args.rule.now.left (c.args.suffix.from + 1) (c.args.span.len - c.least_part-part.result.number) < n) c.decreases falls,
-    (within, asks-rest c.args.grammar.now p c.args.layout.now c.args.cells.now c.args.rule.now c.args.suffix.rule c.args.suffix.from c.args.span.start c.args.span.len c.args.room.now c.requires (Code 0) s is two c.least_part-part.result.number c.least_part-part.result.sum least chosen c.write_tree-2.new.room c.write_tree-2.ensures))
+    (part-low c.args.grammar.now p c.args.layout.now c.args.cells.now c.args.rule.now c.args.suffix.rule c.args.suffix.from c.args.span.start c.args.span.len c.args.room.now c.requires (Code 0) s is two c.least_part-part.result.number c.least_part-part.result.sum least chosen) (part-high c.args.grammar.now p c.args.layout.now c.args.cells.now c.args.rule.now c.args.suffix.rule c.args.suffix.from c.args.span.start c.args.span.len c.args.room.now c.requires (Code 0) s is two c.least_part-part.result.number c.least_part-part.result.sum least chosen) in (
+      subst (λ (n : ℕ). parts_measure c.args.layout.now c.args.rule.now.left (c.args.suffix.from + 1) (c.args.span.len - c.least_part-part.result.number) < n) c.decreases falls,
+      (within, asks-rest c.args.grammar.now p c.args.layout.now c.args.cells.now c.args.rule.now c.args.suffix.rule c.args.suffix.from c.args.span.start c.args.span.len c.args.room.now c.requires (Code 0) s is two c.least_part-part.result.number c.least_part-part.result.sum least chosen c.write_tree-2.new.room c.write_tree-2.ensures),
+    )
 
 pub write_parts-returns : goal.write_parts-returns
 write_parts-returns g t c =
@@ -118,4 +125,4 @@ write_tree-returns g t c =
     let asks = subst (λ (q : Sym). AsksTree c.args.grammar.now (g.P.LetterPrice.view c.args.prices.now) c.args.layout.now c.args.cells.now q c.args.span.start c.args.span.len c.args.room.now) c.in-Name.is c.requires in
     subst (λ (q : Sym). WritesTree c.args.grammar.now (g.P.LetterPrice.view c.args.prices.now) q c.args.span.start c.args.span.len c.args.room.now c.write_parts.new.room) (sym c.in-Name.is)
     (writes-rule c.args.grammar.now p c.args.layout.now c.args.cells.now c.in-Name.name c.args.span.start c.args.span.len c.args.room.now asks c.least_rule-number.result.number c.least_rule-number.result.sum
-        c.least_rule-number.ensures.least c.least_rule-number.ensures.chosen c.rule_of-rule.result.now c.rule_of-rule.ensures c.push.new.self c.write_parts.new.room c.push.ensures c.write_parts.ensures)
+    c.least_rule-number.ensures.least c.least_rule-number.ensures.chosen c.rule_of-rule.result.now c.rule_of-rule.ensures c.push.new.self c.write_parts.new.room c.push.ensures c.write_parts.ensures)

@@ -1,4 +1,4 @@
-use Rattle.std.proofs.Common.{ℕ, arith, ◌≡◌, ◌≤◌, ◌<◌, ◌*◌, ◌^◌, length, ap, sym}
+use Rattle.std.proofs.Common.{ℕ, arith, ◌≡◌, ◌≤◌, ◌<◌, ◌*◌, ◌^◌}
 use Rattle.std.proofs.lemmas.Nat.{mul-le}
 use Rattle.span_forms.specs.Places.{shorter}
 use Rattle.span_forms.proofs.Rows.{shorter-small}

@@ -1,4 +1,4 @@
-use Rattle.std.proofs.Common.{arith, ap, refl, ◌≡◌, [], sym, subst, ◌∙◌}
+use Rattle.std.proofs.Common.{ap, ◌≡◌, sym, subst, ◌∙◌}
 use Rattle.roster_model.specs.Room.{RoomView, most_uses}
 use Rattle.roster_model.specs.declared.grammar.Sym.TheVariants.{Name}
 use Rattle.span_table.specs.Tables.{TableView}
@@ -12,7 +12,7 @@ write_tree-requires g c =
     let now : inside ≡ c.args.self.now = c.self.view_is in
     let most : c.clear.new.self.most ≡ most_uses c.args.grammar.now = ap (λ (r : RoomView). r.most) c.clear.ensures ∙ c.requires.room in
     let asks = asks-day c.args.grammar.now (g.P.LetterPrice.view c.args.prices.now) c.args.self.now c.clear.new.self c.requires.sound c.requires.made c.requires.filled c.requires.sum
-        most (ap (λ (r : RoomView). r.steps) c.clear.ensures) in
+    most (ap (λ (r : RoomView). r.steps) c.clear.ensures) in
     rw c.as_slice.ensures.value
     (subst (λ (t : TableView). AsksTree c.args.grammar.now (g.P.LetterPrice.view c.args.prices.now) t.layout t.cells (Name c.args.grammar.now.start) 1 c.args.grammar.now.periods c.clear.new.self) (sym now) asks)
 

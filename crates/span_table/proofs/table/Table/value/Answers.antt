@@ -1,4 +1,4 @@
-use Rattle.std.proofs.Common.{arith, ap, ℕ, ◌≡◌, ◌≤◌, ◌<◌, length, get_or, sym, subst, ◌∙◌}
+use Rattle.std.proofs.Common.{arith, ap, ◌≡◌, ◌<◌, length, sym, subst}
 use Rattle.std.proofs.lemmas.List.{get_or_read}
 use Rattle.roster_model.specs.Sums.{IsLeast, tree_sum}
 use Rattle.roster_model.specs.Trees.{IsTreeOf}
