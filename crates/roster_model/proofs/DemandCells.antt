@@ -70,7 +70,7 @@ module _ (g : Grammar) (cells : List Cell) (whole : length cells ≡ g.periods) 
   -- what the first cell says of the demand
   pub first_of : 1 ≤ g.periods → slice_get cells 0 ≡ Some first → (h : IsOneDemand g cells) → IsCellOf h.demand.code h.demand.under h.demand.over 1 first
   first_of some at h =
-      let all = of_demand h.demand 1 h.demand.periods h.sound.under h.sound.each in
+      let all = of_demand (h.demand) 1 h.demand.periods h.sound.under h.sound.each in
       moved _ _ _ (0 + 1) 1 first (omega arith) (all 0 first (rw (← h.made) at))
 
   pub of_one_demand : 1 ≤ g.periods → slice_get cells 0 ≡ Some first → IsOneDemand g cells
@@ -78,7 +78,7 @@ module _ (g : Grammar) (cells : List Cell) (whole : length cells ≡ g.periods) 
   of_one_demand some at h =
       let f = first_of some at h in
       let P : ℕ → Type 0 = λ (c : ℕ). IsWork g c in
-      let all = of_demand h.demand 1 h.demand.periods h.sound.under h.sound.each in (
+      let all = of_demand (h.demand) 1 h.demand.periods h.sound.under h.sound.each in (
         subst P (sym f.code_is) h.sound.work,
         omega (arith, f.under_is, h.sound.under),
         omega (arith, f.over_is, h.sound.over),

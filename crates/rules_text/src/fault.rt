@@ -1,3 +1,4 @@
+use roster_model::Memory;
 use std::fmt;
 use thiserror::Error;
 
@@ -76,4 +77,15 @@ pub enum RulesFault {
     /// Memory ran out; the text may be right or wrong.
     #[error("out of memory")]
     Memory,
+}
+
+impl From<Memory> for RulesFault {
+    ghost use Rattle.std.specs.Prelude.{◌≡◌};
+    ghost use Rattle.rules_text.specs.declared.fault.RulesFault.TheVariants.{Memory as out_of_memory};
+
+    ghost from_gives = { λ _ fault. fault ≡ out_of_memory };
+
+    fn from(_memory: Memory) -> RulesFault {
+        RulesFault::Memory
+    }
 }

@@ -8,7 +8,7 @@ use crate::draft::{Draft, Parsed};
 use crate::fault::RulesFault;
 use crate::place::Place;
 use crate::rules::Rules;
-use roster_model::{Grammar, Memory, Rule, unit_ranks};
+use roster_model::{Grammar, Rule, unit_ranks};
 use std::alloc::Global;
 
 fn has_rule(rules: &[Rule], name: usize) -> bool
@@ -56,19 +56,15 @@ pub fn finish(alloc: Global, draft: Draft) -> Result<Parsed, RulesFault>
             word: 2,
         });
     };
-    match names.into_lists(alloc) {
-        Ok((names, places)) => Ok(Parsed {
-            grammar: Grammar {
-                periods,
-                codes: codes.into_list(),
-                names,
-                rules,
-                start: first,
-            },
-            places,
-        }),
-        Err(Memory) => Err(RulesFault::Memory),
-    }
+    let (names, places) = names.into_lists(alloc)?;
+    let grammar = Grammar {
+        periods,
+        codes: codes.into_list(),
+        names,
+        rules,
+        start: first,
+    };
+    Ok(Parsed { grammar, places })
 }
 
 /// Refuses a grammar whose one-symbol rules lead from a name back to it.

@@ -129,12 +129,8 @@ impl Names {
                 most: 32,
             });
         }
-        if let Err(Memory) = self.places.push(at) {
-            return Err(RulesFault::Memory);
-        }
-        if let Err(Memory) = add(alloc, &mut self.set, word) {
-            return Err(RulesFault::Memory);
-        }
+        self.places.push(at)?;
+        add(alloc, &mut self.set, word)?;
         Ok(number as u8)
     }
 }

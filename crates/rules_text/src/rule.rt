@@ -12,7 +12,7 @@ use crate::names::{Names, is_window_word};
 use crate::place::Place;
 use crate::rules::Rules;
 use crate::symbol::symbol;
-use roster_model::{CodeDef, List, Memory, Rule, Sym, Window};
+use roster_model::{CodeDef, List, Rule, Sym, Window};
 use std::alloc::Global;
 use text_lines::Words;
 
@@ -93,10 +93,8 @@ fn rule_of(
         first: whole(windows.first),
         last: whole(windows.last),
     };
-    match state.rules.push(rule) {
-        Ok(()) => Ok(()),
-        Err(Memory) => Err(RulesFault::Memory),
-    }
+    state.rules.push(rule)?;
+    Ok(())
 }
 
 fn whole(window: Option<Window>) -> Window

@@ -1,5 +1,5 @@
 -- The answers of `explain` for a sound grammar.
-use Rattle.std.proofs.Common.{◌≡◌, ◌≢◌, ℕ, ℤ, pos, List, Option, None, Some, Result, Ok, Err, IfOk, length, refl, sym, ◌∙◌}
+use Rattle.std.proofs.Common.{◌≡◌, ◌≢◌, ℕ, ℤ, pos, List, Option, None, Some, Result, Ok, Err, IfOk, length, refl}
 use Rattle.std.specs.Prelude.{codes, IsSome}
 use Rattle.roster_model.specs.declared.grammar.Grammar.{Grammar}
 use Rattle.roster_model.specs.Arcs.{cost}
@@ -13,7 +13,7 @@ use Rattle.rules_text.specs.FaultLine.{fault_line}
 use Rattle.rules_text.specs.RulesOf.{IsReading}
 use Rattle.rules_text.specs.declared.fault.RulesFault.{RulesFault}
 use Rattle.rules_text.specs.declared.fault.RulesFault.TheVariants.{Memory}
-use Rattle.shift_tool.specs.Explain.{SaysTree, SaysNone, Derivation, Explanation, shift, no_shift, refused}
+use Rattle.shift_tool.specs.Explain.{SaysTree, Derivation, Explanation, shift, no_shift, refused}
 use Rattle.word_prices.specs.Prices.{word_view}
 use Rattle.word_prices.proofs.Costs.{least-tree, word-sums, shift-length}
 

@@ -1,5 +1,5 @@
 -- What the program does, by its words.
-use Rattle.std.specs.Prelude.{ℕ, List, [], ◌∷◌}
+use Rattle.std.specs.Prelude.{ℕ, [], ◌∷◌}
 use Rattle.shift_tool.specs.Form.{Form, explain, none, AnswersNoForm}
 use Rattle.shift_tool.specs.Seen.{Seen, IsReader}
 use Rattle.shift_tool.specs.Explain.{AnswersExplain}

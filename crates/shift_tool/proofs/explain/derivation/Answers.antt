@@ -1,4 +1,3 @@
-use Rattle.std.proofs.Common.{◌≡◌, refl}
 use Rattle.shift_tool.proofs.Derivations.{IfOk-map, none-said, tree-said, other-length}
 use Rattle.shift_tool.proofs.explain.derivation.Goals as goal
 

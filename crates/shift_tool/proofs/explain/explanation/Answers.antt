@@ -1,4 +1,3 @@
-use Rattle.std.proofs.Common.{◌≡◌, refl}
 use Rattle.shift_tool.specs.Explain.{accepted}
 use Rattle.shift_tool.proofs.Derivations.{IfOk-map, fault-said}
 use Rattle.shift_tool.proofs.explain.explanation.Goals as goal

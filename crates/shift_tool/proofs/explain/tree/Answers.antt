@@ -1,7 +1,6 @@
 use Rattle.std.proofs.Common.{◌≡◌, List, [], ◌∷◌, All, refl, sym, ap, ◌∙◌, subst}
 use Rattle.roster_model.specs.declared.grammar.Step.{Step}
 use Rattle.roster_model.specs.declared.grammar.Sym.TheVariants.{Name}
-use Rattle.roster_model.specs.Trees.{steps}
 use Rattle.shift_report.specs.TreeText.{HasRule, tree_text}
 use Rattle.shift_tool.proofs.StepRules.{steps-rules}
 use Rattle.shift_tool.proofs.Derivations.{some-sum, says-tree}
