@@ -12,3 +12,7 @@ pub mod CostBounds
 pub mod DemandCells
 pub mod LowerRanks
 pub mod Extended
+pub mod Mults
+pub mod Agreed
+pub mod LetterNumbers
+pub mod RoomAgrees

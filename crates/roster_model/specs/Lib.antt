@@ -24,3 +24,9 @@ pub mod Demands
 pub mod Limits
 pub mod SoundInstance
 pub mod GroupParts
+pub mod RoomPrices
+pub mod PriceLimits
+pub mod Agreement
+pub mod Filled
+pub mod PriceRooms
+pub mod RoomLaws

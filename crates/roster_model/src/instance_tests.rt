@@ -1,6 +1,7 @@
 use super::{
-    Cell, CodeDef, Grammar, Group, Instance, List, Rule, Shift, Sym, Window, covered,
-    greatest_cost, is_sound_instance, penalty, rounding_loss,
+    ArcKey, Cell, CodeDef, Cut, Grammar, Group, Instance, LetterPrice, List, Mult, PriceRoom,
+    Prices, Rule, Shift, Side, Sym, Window, covered, greatest_cost, is_sound_instance, penalty,
+    rounding_loss,
 };
 use std::alloc::{AllocError, Global};
 use std::test::Fail;
@@ -296,5 +297,50 @@ fn coverage_of_words(rt: HostRuntime) -> Result<(), Fail> {
         assert!(rt; 1 <= cell.period && cell.period <= 4);
         assert_eq!(rt; covered(&grammar, shifts.as_slice(), &cell), count);
     }
+    Ok(())
+}
+
+#[test]
+fn a_room_holds_the_last_prices(rt: HostRuntime) -> Result<(), Fail> {
+    let day = instance(
+        rt.alloc(),
+        &Parts {
+            cells: &[],
+            ..PLAIN
+        },
+    )?;
+    assert!(rt; is_sound_instance(&day));
+    assert!(rt; day.cells.is_empty());
+    let mut room = PriceRoom::for_cuts(rt.alloc(), &day, 1)?;
+    let arc = ArcKey {
+        rule: 1,
+        suffix: 0,
+        start: 1,
+        len: 2,
+        part: 2,
+    };
+    let cuts = [Cut {
+        arc,
+        side: Side::High,
+        b: 0,
+    }];
+    let prices = Prices {
+        d: 2,
+        cell: List::new(rt.alloc()),
+        mult: List::from_vec([Mult { cut: 1, value: 5 }].to_vec(rt.alloc())?),
+    };
+    room.set(&day, &prices, &cuts);
+    assert_eq!(rt; room.rule(5), 4);
+    assert_eq!(rt; room.letter(0, 1), Some(0));
+    assert_eq!(rt; room.arc(&arc), -5);
+
+    let prices = Prices {
+        d: 1,
+        cell: List::new(rt.alloc()),
+        mult: List::new(rt.alloc()),
+    };
+    room.set(&day, &prices, &cuts);
+    assert_eq!(rt; room.rule(5), 2);
+    assert_eq!(rt; room.arc(&arc), 0);
     Ok(())
 }

@@ -5,9 +5,11 @@
 //! of all parses that the arcs belong to is that of Quimper and Walsh.
 #![tactic(auto)]
 
+mod arc_prices;
 mod bounds;
 mod coverage;
 mod demands;
+mod fill;
 mod grammar;
 mod groups;
 mod instance;
@@ -16,6 +18,8 @@ mod instance_tests;
 mod list;
 mod memory;
 mod names;
+mod price_laws;
+mod price_room;
 mod prices;
 mod room;
 mod sound;
@@ -31,6 +35,8 @@ pub use instance::{Cell, Cut, Done, Group, Instance, Mult, Prices, Shift, Side};
 pub use list::List;
 pub use memory::Memory;
 pub use names::{is_code_byte, is_name};
+pub use price_laws::agreeing_sums;
+pub use price_room::PriceRoom;
 pub use prices::LetterPrice;
 pub use room::TreeRoom;
 pub use sound::{is_plain, is_sound};

@@ -1,0 +1,109 @@
+-- What the listed multipliers make of the price of an arc.
+use Rattle.std.proofs.Common.{◌≡◌, ◌≢◌, ℕ, zero, suc, ◌+◌, ◌-◌, ◌<◌, ◌≤◌, inl, inr, Bool, true, false, cond, List, [], ◌∷◌, ◌++◌, length, get_or, drop, subst, refl, ap, ◌∙◌, arith, Some}
+use Rattle.std.specs.Prelude.{ℤ, pos, ◌+ℤ◌, slice_get}
+use Rattle.std.proofs.lemmas.Int.{ints}
+use Rattle.std.proofs.lemmas.List.{at_drop_more, at_drop_all}
+use Rattle.std.proofs.lemmas.Option.{same_Some, none-some}
+use Rattle.std.proofs.lemmas.Bool.Decides.{eqb_tells}
+use Rattle.roster_model.specs.declared.grammar.ArcKey.{ArcKey}
+use Rattle.roster_model.specs.declared.instance.Cut.{Cut}
+use Rattle.roster_model.specs.declared.instance.Mult.{Mult}
+use Rattle.roster_model.specs.declared.instance.Side.{Side}
+use Rattle.roster_model.specs.declared.instance.Side.TheVariants.{Low, High}
+use Rattle.roster_model.specs.declared.price_room.ArcPrice.{ArcPrice}
+use Rattle.roster_model.specs.Arcs.{same_arc}
+use Rattle.roster_model.specs.Folds.{Each}
+use Rattle.roster_model.specs.PriceLimits.{AreRising}
+use Rattle.roster_model.specs.RoomPrices.{entry_price, listed_price}
+use Rattle.roster_model.specs.Reduced.{mult_of, cut_prices, signed, arc_price}
+
+-- what a cut with this multiplier adds to the price of the arc
+abbrev pub cut_share : ArcKey → Cut → ℤ → ℤ
+cut_share a c m = cond (same_arc c.arc a) (signed c.side m) (pos 0)
+
+no_share' : (s : Side) → signed s (pos 0) ≡ pos 0
+no_share' Low = refl
+no_share' High = omega (arith, ints)
+
+no_share : (b : Bool) (s : Side) → cond b (signed s (pos 0)) (pos 0) ≡ pos 0
+no_share true s = no_share' s
+no_share false s = refl
+
+-- no multiplier of the cut stands further on
+abbrev pub Lacks : ℕ → List Mult → Type 0
+Lacks j ms = Each (λ (m : Mult). m.cut ≢ j) ms
+
+lacked : (j : ℕ) (ms : List Mult) → Lacks j ms → mult_of ms j ≡ pos 0
+lacked j [] h = refl
+lacked j (m ∷ ms) h = elim (eqb_tells m.cut j) [
+  | inl p ↦ absurd (h.0 p.1)
+  | inr p ↦ rw p.0 (lacked j ms h.1)
+]
+
+module _ (a : ArcKey) where
+  none : (j : ℕ) (cs : List Cut) → arc_price (cut_prices j cs []) a ≡ pos 0
+  none j [] = refl
+  none j (c ∷ cs) = omega (arith, ints, no_share (same_arc c.arc a) c.side, none (j + 1) cs)
+
+  -- the first multiplier is of an earlier cut
+  past : (m : Mult) (ms : List Mult) (j : ℕ) (cs : List Cut) → m.cut < j → arc_price (cut_prices j cs (m ∷ ms)) a ≡ arc_price (cut_prices j cs ms) a
+  past m ms j [] l = refl
+  past m ms j (c ∷ cs) l = elim (eqb_tells m.cut j) [
+    | inl p ↦ absurd (omega (arith, p.1))
+    | inr p ↦ rw p.0 (ap (λ (z : ℤ). cut_share a c (mult_of ms j) +ℤ z) (past m ms (j + 1) cs (omega arith)))
+  ]
+
+  -- a multiplier adds the share of its cut
+  pub taken : (m : Mult) (ms : List Mult) (j k : ℕ) (cs : List Cut) (c : Cut) → Lacks m.cut ms → m.cut ≡ k + j → slice_get cs k ≡ Some c
+      → arc_price (cut_prices j cs (m ∷ ms)) a ≡ cut_share a c m.value +ℤ arc_price (cut_prices j cs ms) a
+  taken m ms j k [] c h e at = absurd (none-some c at)
+  taken m ms j zero (x ∷ cs) c h e at = elim (eqb_tells m.cut j) [
+    | inl p ↦ rw (p.0, same_Some x c at, ← p.1, lacked m.cut ms h)
+        (omega (arith, ints, no_share (same_arc c.arc a) c.side, past m ms (m.cut + 1) cs (omega arith)))
+    | inr p ↦ absurd (p.1 (omega arith))
+  ]
+  taken m ms j (suc k) (x ∷ cs) c h e at = elim (eqb_tells m.cut j) [
+    | inl p ↦ absurd (omega (arith, p.1))
+    | inr p ↦ rw p.0 (omega (arith, ints, taken m ms (j + 1) k cs c h (omega arith) at))
+  ]
+
+-- ---- the entries that are listed one after another
+
+listed-push : (a : ArcKey) (xs : List ArcPrice) (e : ArcPrice) → listed_price (xs ++ e ∷ []) a ≡ listed_price xs a +ℤ entry_price a e
+listed-push a [] e = omega (arith, ints)
+listed-push a (x ∷ xs) e = omega (arith, ints, listed-push a xs e)
+
+lacks : (j : ℕ) (ms : List Mult) → Each (λ (n : Mult). j < n.cut) ms → Lacks j ms
+lacks j [] h = tt
+lacks j (m ∷ ms) h = (λ e. let l = h.0 in absurd (omega arith), lacks j ms h.1)
+
+module _ (cuts : List Cut) (mult : List Mult) (k : ℕ) (d : Mult) (l : k < length mult) where
+  drop-is : drop k mult ≡ get_or mult k d ∷ drop (k + 1) mult
+  drop-is = at_drop_more (λ (ms : List Mult). ms) mult k d l
+
+  rising-at : AreRising (drop k mult) → AreRising (get_or mult k d ∷ drop (k + 1) mult)
+  rising-at h = let P : List Mult → Type 0 = λ (ms : List Mult). AreRising ms in subst P drop-is h
+
+  pub rising-rest : AreRising (drop k mult) → AreRising (drop (k + 1) mult)
+  rising-rest h = (rising-at h).1
+
+  -- an entry more
+  pub listed-step : (c : Cut) (xs ys : List ArcPrice) (e : ArcPrice) → AreRising (drop k mult) → 1 ≤ (get_or mult k d).cut
+      → slice_get cuts ((get_or mult k d).cut - 1) ≡ Some c → e ≡ record { arc = c.arc; price = signed c.side (get_or mult k d).value } → ys ≡ xs ++ e ∷ []
+      → ((a : ArcKey) → arc_price (cut_prices 1 cuts mult) a ≡ listed_price xs a +ℤ arc_price (cut_prices 1 cuts (drop k mult)) a)
+      → (a : ArcKey) → arc_price (cut_prices 1 cuts mult) a ≡ listed_price ys a +ℤ arc_price (cut_prices 1 cuts (drop (k + 1) mult)) a
+  listed-step c xs ys e rising first at is pushed h a =
+      let m = get_or mult k d in
+      let share : arc_price (cut_prices 1 cuts (drop k mult)) a ≡ cut_share a c m.value +ℤ arc_price (cut_prices 1 cuts (drop (k + 1) mult)) a =
+      ap (λ (ms : List Mult). arc_price (cut_prices 1 cuts ms) a) drop-is
+      ∙ taken a m (drop (k + 1) mult) 1 (m.cut - 1) cuts c (lacks m.cut (drop (k + 1) mult) (rising-at rising).0) (omega arith) at in
+      let more : listed_price ys a ≡ listed_price xs a +ℤ cut_share a c m.value =
+      ap (λ (zs : List ArcPrice). listed_price zs a) pushed ∙ listed-push a xs e ∙ ap (λ (x : ArcPrice). listed_price xs a +ℤ entry_price a x) is in
+      omega (arith, ints, h a, share, more)
+
+pub listed-all : (cuts : List Cut) (mult : List Mult) (k : ℕ) (xs : List ArcPrice) → length mult ≤ k
+    → ((a : ArcKey) → arc_price (cut_prices 1 cuts mult) a ≡ listed_price xs a +ℤ arc_price (cut_prices 1 cuts (drop k mult)) a)
+    → (a : ArcKey) → listed_price xs a ≡ arc_price (cut_prices 1 cuts mult) a
+listed-all cuts mult k xs l h a =
+    let rest : arc_price (cut_prices 1 cuts (drop k mult)) a ≡ pos 0 = at_drop_all (λ (ms : List Mult). arc_price (cut_prices 1 cuts ms) a) mult k l ∙ none a 1 cuts in
+    omega (arith, ints, h a, rest)

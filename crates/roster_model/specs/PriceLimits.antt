@@ -1,0 +1,29 @@
+-- Prices that fit an instance and a path of cuts.
+use Rattle.std.specs.Prelude.{ℕ, ℤ, pos, ◌≡◌, ◌≤◌, ◌<◌, ◌≤ℤ◌, ◌^◌, List, [], ◌∷◌, All, length}
+use Rattle.roster_model.specs.declared.instance.Cut.{Cut}
+use Rattle.roster_model.specs.declared.instance.Instance.{Instance}
+use Rattle.roster_model.specs.declared.instance.Mult.{Mult}
+use Rattle.roster_model.specs.Folds.{Each}
+use Rattle.roster_model.specs.Sums.{Within}
+
+-- a multiplier of one of the cuts, 0 to 2^80
+pub record IsMult (cuts : ℕ) (m : Mult) : Type 0 where
+  pub first : 1 ≤ m.cut
+  pub last : m.cut ≤ cuts
+  pub least : pos 0 ≤ℤ m.value
+  pub most : m.value ≤ℤ pos (2 ^ 80)
+
+-- the numbers of the cuts rise
+abbrev pub AreRising : List Mult → Type 0
+AreRising [] = Unit {0}
+AreRising (m ∷ ms) = Each (λ (n : Mult). m.cut < n.cut) ms × AreRising ms
+
+-- a denominator, a price for each cell and multipliers of the cuts, within the limits
+pub record FitPrices (i : Instance) (d : ℕ) (cell : List ℤ) (mult : List Mult) (cuts : List Cut) : Type 0 where
+  pub positive : 1 ≤ d
+  pub small : d ≤ 2 ^ 30
+  pub cells : length cell ≡ length i.cells
+  pub each : All (Within (2 ^ 80)) cell
+  pub few : length mult ≤ 1500
+  pub mults : All (IsMult (length cuts)) mult
+  pub rising : AreRising mult

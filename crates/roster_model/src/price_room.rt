@@ -1,0 +1,163 @@
+ghost use Rattle.std.specs.Prelude.{◌≡◌, ◌≤◌, ◌*◌, ◌^◌, All, IfOk, length, vec_capacity};
+ghost use Rattle.roster_model.specs.RoomPrices.{IsSmallEntry};
+ghost use Rattle.roster_model.specs.Sums.{Within};
+
+use crate::arc_prices::{listed_price, set_arcs};
+use crate::fill::{set_letters, set_rules};
+use crate::grammar::ArcKey;
+use crate::instance::{Cut, Instance, Mult, Prices};
+use crate::memory::Memory;
+use crate::prices::LetterPrice;
+use std::alloc::Global;
+
+/// What a tree that has the arc pays for one cut.
+#[derive(Clone, Copy, Debug, Drop)]
+pub struct ArcPrice {
+    pub arc: ArcKey,
+    pub price: i128,
+}
+
+/// The prices under which the sum of a tree is its reduced cost. They are set again and again in
+/// memory that is taken once.
+#[derive(Drop)]
+pub struct PriceRoom {
+    periods: usize,
+    codes: usize,
+    most: usize,
+    letters: Vec<i128>,
+    rules: Vec<i128>,
+    arcs: Vec<ArcPrice>,
+    ghost short: { periods ≤ 96 },
+    ghost whole: { length letters.items ≡ codes * periods },
+    ghost small_letters: { All (Within (2 ^ 96)) letters.items },
+    ghost small_rules: { All (Within (2 ^ 96)) rules.items },
+    ghost few_arcs: { length arcs.items ≤ 65536 },
+    ghost small_arcs: { All IsSmallEntry arcs.items },
+    ghost room: { most ≤ vec_capacity arcs },
+}
+
+impl PriceRoom {
+    ghost use Rattle.roster_model.specs.Agreement.{Agree};
+    ghost use Rattle.roster_model.specs.PriceLimits.{FitPrices};
+    ghost use Rattle.roster_model.specs.PriceRooms.{price_view, IsRoomFor};
+    ghost use Rattle.roster_model.specs.Reduced.{
+      cell_prices,
+      cut_prices,
+      view_of,
+      reduced_view,
+    };
+    ghost use Rattle.roster_model.specs.SoundInstance.{IsSoundInstance};
+
+    /// Returns a room for prices of instances with as many periods, codes and rules, and for this
+    /// many multipliers. It takes all its memory here.
+    pub fn for_cuts(alloc: Global, instance: &Instance, most: usize) -> Result<PriceRoom, Memory>
+        requires { IsSoundInstance instance.now }
+        ensures room { IfOk result (λ r. IsRoomFor r instance.now) }
+        ensures most { IfOk result (λ r. r.most ≡ most) }
+    {
+        let periods = instance.grammar.periods as usize;
+        let codes = instance.grammar.codes.len();
+        let letters = zeros(alloc, codes * periods)?;
+        let rules = zeros(alloc, instance.grammar.rules.len())?;
+        let Ok(arcs) = Vec::with_capacity(alloc, most) else {
+            return Err(Memory);
+        };
+        Ok(PriceRoom {
+            periods,
+            codes,
+            most,
+            letters,
+            rules,
+            arcs,
+        })
+    }
+
+    /// Holds these prices, in place of the ones before. Takes no memory.
+    ///
+    /// Afterwards the sum of a tree of the day is its reduced cost at the path of cuts.
+    pub fn set(&mut self, instance: &Instance, prices: &Prices, cuts: &[Cut])
+        requires sound { IsSoundInstance instance.now }
+        requires room { IsRoomFor self.old instance.now }
+        requires few { length prices.now.mult ≤ self.old.most }
+        requires fit { FitPrices instance.now prices.now.d prices.now.cell prices.now.mult cuts.now }
+        ensures room { IsRoomFor self.new instance.now }
+        ensures most { self.new.most ≡ self.old.most }
+        ensures value { Agree instance.now.grammar (price_view self.new) (reduced_view instance.now prices.now cuts.now) }
+    {
+        self.set_parts(
+            instance,
+            prices.d,
+            prices.cell.as_slice(),
+            prices.mult.as_slice(),
+            cuts,
+        );
+    }
+
+    /// Holds the prices that these parts make: a denominator, a price for each cell, and the
+    /// multipliers of cuts by rising numbers. Takes no memory.
+    pub fn set_parts(
+        &mut self,
+        instance: &Instance,
+        d: u64,
+        cell: &[i128],
+        mult: &[Mult],
+        cuts: &[Cut],
+    )
+        requires sound { IsSoundInstance instance.now }
+        requires room { IsRoomFor self.old instance.now }
+        requires few { length mult.now ≤ self.old.most }
+        requires fit { FitPrices instance.now d cell.now mult.now cuts.now }
+        ensures room { IsRoomFor self.new instance.now }
+        ensures most { self.new.most ≡ self.old.most }
+        ensures value { Agree instance.now.grammar (price_view self.new)
+            (view_of instance.now.grammar d (cell_prices instance.now.cells cell.now) (cut_prices 1 cuts.now mult.now)) }
+    {
+        set_rules(&mut self.rules, instance.grammar.rules.as_slice(), d);
+        set_letters(
+            &mut self.letters,
+            self.periods,
+            instance.cells.as_slice(),
+            cell,
+        );
+        set_arcs(&mut self.arcs, mult, cuts);
+    }
+}
+
+/// Returns this many zeros.
+fn zeros(alloc: Global, count: usize) -> Result<Vec<i128>, Memory>
+    ensures length { IfOk result (λ v. length v.items ≡ count) }
+    ensures small { IfOk result (λ v. All (Within (2 ^ 96)) v.items) }
+{
+    match Vec::from_elem(alloc, 0, count) {
+        Ok(numbers) => Ok(numbers),
+        Err(_) => Err(Memory),
+    }
+}
+
+impl LetterPrice for PriceRoom {
+    ghost use Rattle.roster_model.specs.PriceRooms.{price_view};
+    ghost use Rattle.roster_model.specs.RoomLaws.{view-small};
+
+    ghost view = { price_view };
+
+    fn letter(&self, code: u8, period: u8) -> Option<i128> {
+        let place = code as usize * self.periods + (period as usize).saturating_sub(1);
+        self.letters.get(place).copied()
+    }
+
+    fn arc(&self, arc: &ArcKey) -> i128 {
+        listed_price(self.arcs.as_slice(), arc)
+    }
+
+    fn rule(&self, rule: u8) -> i128 {
+        let Some(place) = (rule as usize).checked_sub(1) else {
+            return 0;
+        };
+        match self.rules.get(place) {
+            Some(price) => *price,
+            None => 0,
+        }
+    }
+
+    ghost all_within = { λ s. view-small s.periods s.letters.items s.rules.items s.arcs.items s.small_letters s.small_rules s.few_arcs s.small_arcs };
+}
