@@ -18,7 +18,6 @@ pub mod PricedBounds
 pub mod CostsLess
 pub mod PlainRosters
 pub mod PlainValues
-pub mod SameSums
 pub mod DayTeams
 pub mod Spelled
 pub mod Shares

@@ -8,7 +8,6 @@ pub mod Points
 pub mod DutyTrees
 pub mod Laws
 pub mod Plain
-pub mod Agree
 pub mod SmallShares
 pub mod WorkedGroups
 pub mod WorkedFloors

@@ -12,7 +12,6 @@ ghost use Rattle.node_terms.specs.Laws.{
   PinnedIsCost,
   AreOneValue,
 };
-ghost use Rattle.node_terms.specs.Agree.{SameSums};
 ghost use Rattle.node_terms.specs.Plain.{PlainRosters, PlainLagrangians};
 ghost use Rattle.node_terms.specs.SmallShares.{SmallShares};
 ghost use Rattle.node_terms.specs.WorkedFloors.{WorkedFloors};
@@ -89,11 +88,6 @@ pub fn are_one_value()
 /// 2^116, and each cell's and each cut's share within 2^87.
 pub fn small_shares()
     ensures { SmallShares }
-{}
-
-/// Prices that are equal at the grammar's codes, arcs and rules give a tree of the day one sum.
-pub fn same_sums()
-    ensures { SameSums }
 {}
 
 /// On a day without groups, floors and ceilings, an allowed roster is a list of shifts of the start
