@@ -4,4 +4,3 @@ pub mod Choices
 pub mod Building
 pub mod Tables
 pub mod Walks
-pub mod WordPrices

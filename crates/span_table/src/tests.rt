@@ -1,48 +1,8 @@
-ghost use Rattle.span_table.specs.WordPrices.{word_prices, word_within};
-
 use crate::Table;
-use roster_model::{
-    ArcKey, CodeDef, Grammar, LetterPrice, List, Rule, Step, Sym, TreeRoom, Window, is_sound,
-};
+use roster_model::{CodeDef, Grammar, List, Rule, Step, Sym, TreeRoom, Window, is_sound};
 use std::alloc::{AllocError, Global};
 use std::test::Fail;
-
-/// The prices of one word: the other letters are forbidden, and a rule use costs what its rule does.
-#[derive(Drop)]
-struct WordPrices<'a> {
-    word: &'a [u8],
-    costs: &'a [u32],
-}
-
-impl LetterPrice for WordPrices<'_> {
-    ghost view = { λ s. word_prices s.word.now s.costs.now };
-
-    ghost all_within = { λ s. word_within s.word.now s.costs.now };
-
-    fn letter(&self, code: u8, period: u8) -> Option<i128> {
-        let place = (period as usize).saturating_sub(1);
-        let here = if place < self.word.len() {
-            self.word[place]
-        } else {
-            255
-        };
-        if here == code { Some(0) } else { None }
-    }
-
-    fn arc(&self, _arc: &ArcKey) -> i128 {
-        0
-    }
-
-    fn rule(&self, rule: u8) -> i128 {
-        let place = (rule as usize).saturating_sub(1);
-        let cost = if place < self.costs.len() {
-            self.costs[place]
-        } else {
-            0
-        };
-        i128::from(cost.min(10000))
-    }
-}
+use word_prices::WordPrices;
 
 const ALL: Window = Window { lo: 1, hi: 96 };
 
@@ -116,18 +76,14 @@ fn words_of_one_block(rt: HostRuntime) -> Result<(), Fail> {
     let grammar = grammar(rt.alloc(), 4, &["S", "W", "R", "A"], &BLOCKS)?;
     assert!(rt; is_sound(&grammar));
     let mut table = Table::for_instance(rt.alloc(), &grammar)?;
-    let costs = [0, 0, 0, 0, 2, 1, 1, 0, 0];
     let cases = [
-        ([0, 0, 0, 0], None),
-        ([0, 1, 1, 1], None),
-        ([1, 0, 0, 0], Some(5)),
-        ([1, 0, 0, 1], Some(4)),
+        ("aaaa", None),
+        ("a...", None),
+        (".aaa", Some(5)),
+        (".aa.", Some(4)),
     ];
     for (word, least) in &cases {
-        let prices = WordPrices {
-            word: word.as_slice(),
-            costs: costs.as_slice(),
-        };
+        let prices = WordPrices::new(&grammar, word.as_bytes());
         assert_eq!(rt; table.least(&grammar, &prices), *least);
         assert_eq!(rt; table.value(&grammar, 0), *least);
     }
@@ -140,10 +96,7 @@ fn the_tree_of_a_word(rt: HostRuntime) -> Result<(), Fail> {
     assert!(rt; is_sound(&grammar));
     let mut table = Table::for_instance(rt.alloc(), &grammar)?;
     let mut room = TreeRoom::for_grammar(rt.alloc(), &grammar)?;
-    let prices = WordPrices {
-        word: &[1, 0, 0, 1],
-        costs: &[0, 0, 0, 0, 2, 1, 1, 0, 0],
-    };
+    let prices = WordPrices::new(&grammar, b".aa.");
     let Some(_) = table.least(&grammar, &prices) else {
         return Err(Fail::from("no tree"));
     };
@@ -174,20 +127,13 @@ fn the_lesser_of_two_trees(rt: HostRuntime) -> Result<(), Fail> {
         (1, 100, [WORK].as_slice(), ALL),
     ];
     let cases = [
-        (grammar(rt.alloc(), 2, &["S", "T"], &pair)?, [5, 3, 0], 3),
-        (
-            grammar(rt.alloc(), 2, &["S", "T", "U"], &chain)?,
-            [1, 10, 100],
-            211,
-        ),
+        (grammar(rt.alloc(), 2, &["S", "T"], &pair)?, 3),
+        (grammar(rt.alloc(), 2, &["S", "T", "U"], &chain)?, 211),
     ];
-    for (grammar, costs, least) in &cases {
+    for (grammar, least) in &cases {
         assert!(rt; is_sound(grammar));
         let mut table = Table::for_instance(rt.alloc(), grammar)?;
-        let prices = WordPrices {
-            word: &[0, 0],
-            costs: costs.as_slice(),
-        };
+        let prices = WordPrices::new(grammar, b"aa");
         assert_eq!(rt; table.least(grammar, &prices), Some(*least));
     }
     Ok(())
