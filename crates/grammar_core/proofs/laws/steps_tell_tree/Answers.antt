@@ -1,0 +1,5 @@
+use Rattle.grammar_core.proofs.Telling.{steps_tell}
+use Rattle.grammar_core.proofs.laws.steps_tell_tree.Goals as goal
+
+pub returns : goal.returns
+returns c = steps_tell

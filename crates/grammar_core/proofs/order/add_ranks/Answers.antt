@@ -1,0 +1,18 @@
+use Rattle.std.proofs.Common.{arith, ◌≡◌, ◌+◌, ◌-◌, ℕ, subst}
+use Rattle.grammar_core.proofs.Ordering.{order-init, turn-begins, turn-ends}
+use Rattle.grammar_core.specs.Adding.{IsDone, AreOrdered}
+use Rattle.grammar_core.proofs.order.add_ranks.Goals as goal
+
+pub loop-turn-init : goal.loop-turn-init
+loop-turn-init c = rw c.requires.empty (order-init c.args.ranks.now c.args.names (IsDone c.args.ranks.now c.args.names 0) (λ x lt d. omega (arith, c.requires.below x lt, d)))
+
+pub loop-turn-preserved : goal.loop-turn-preserved
+loop-turn-preserved c =
+    let is : (c.args.names - 1 - c.loop-turn.turn) + c.loop-turn.turn + 1 ≡ c.args.names = omega arith in
+    let begins = turn-begins c.args.ranks.now c.args.names c.loop-turn.order c.loop-turn.turn (c.args.names - 1 - c.loop-turn.turn) is c.loop-turn.invariant in
+    turn-ends c.args.ranks.now c.args.names c.add_rank.new.order c.loop-turn.turn (c.args.names - 1 - c.loop-turn.turn) is (c.in_ok-add_rank.ensures begins)
+
+pub returns : goal.returns
+returns c =
+    let same : c.loop-turn.turn ≡ c.args.names = omega arith in
+    subst (λ (n : ℕ). AreOrdered c.args.ranks.now c.args.names (IsDone c.args.ranks.now c.args.names n) c.loop-turn.order) same c.loop-turn.invariant

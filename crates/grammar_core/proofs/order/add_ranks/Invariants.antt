@@ -1,0 +1,5 @@
+use Rattle.grammar_core.specs.Adding.{AreOrdered, IsDone}
+use Rattle.grammar_core.proofs.order.add_ranks.Given as goal
+
+abbrev pub invariant-loop-turn : goal.invariant-loop-turn
+invariant-loop-turn l = AreOrdered l.ranks l.names (IsDone l.ranks l.names l.turn) l.order

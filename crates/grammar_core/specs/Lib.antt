@@ -1,0 +1,4 @@
+pub mod Items
+pub mod Adding
+pub mod Lists
+pub mod Walks
