@@ -1,0 +1,53 @@
+-- The words of a line: codes, names and numbers.
+use Rattle.std.specs.Prelude.{ℕ, ◌||◌, ◌&&◌, ◌==◌, ◌++◌, not, nat_lt, max, min, length, position, slice_index, List, [], ◌∷◌, Option, Some, None, if◌then◌else◌, Result, Ok, Err}
+use Rattle.std.specs.Str.{bytes_eq}
+use Rattle.text_lines.specs.Numbers.{natural_of}
+use Rattle.text_lines.specs.declared.number.NumberFault.{NumberFault}
+use Rattle.text_lines.specs.declared.number.NumberFault.TheVariants.{Form, Wide}
+use Rattle.roster_model.specs.declared.grammar.CodeDef.{CodeDef}
+use Rattle.demand_text.specs.declared.draft.Heads.{Heads}
+use Rattle.demand_text.specs.declared.fault.DemandFault.{DemandFault}
+use Rattle.demand_text.specs.declared.fault.DemandFault.TheVariants.{BadNumber, OutOfRange, NotWork, NoName, WrongCount}
+use Rattle.demand_text.specs.Steps.{◌>>=◌, each}
+
+-- a number that was read, where it is from low to high
+abbrev pub in_range : ℕ → ℕ → ℕ → Result ℕ NumberFault → Result ℕ DemandFault
+in_range k low high (Ok n) = if nat_lt n low || nat_lt high n then Err (OutOfRange k) else Ok n
+in_range k low high (Err Form) = Err (BadNumber k)
+in_range k low high (Err Wide) = Err (OutOfRange k)
+
+-- the number from low to high that a word of line k says
+unfoldable pub number_at : ℕ → ℕ → ℕ → List ℕ → Result ℕ DemandFault
+number_at k low high w = in_range k low high (natural_of w)
+
+-- the place that was found, or else this fault
+abbrev pub found_or : DemandFault → Option ℕ → Result ℕ DemandFault
+found_or e (Some c) = Ok c
+found_or e None = Err e
+
+-- the number of a work code, which a word of one byte says
+unfoldable pub work_at : ℕ → List CodeDef → List ℕ → Result ℕ DemandFault
+work_at k defs w =
+    if not (length w == 1) then Err (NotWork k)
+    else found_or (NotWork k) (position (λ d. d.work && d.byte == slice_index w 0) defs)
+
+-- the number of a name
+unfoldable pub name_at : ℕ → List (List ℕ) → List ℕ → Result ℕ DemandFault
+name_at k names w = found_or (NoName k) (position (λ n. bytes_eq n w) names)
+
+-- one more number of a period, from 0 to 64
+abbrev pub count_at : ℕ → List ℕ → List ℕ → Result (List ℕ) DemandFault
+count_at k counts w = number_at k 0 64 w >>= λ n. Ok (counts ++ n ∷ [])
+
+-- The numbers of all periods. A fault that carries their number has no room for one of 2^32 or
+-- more, which no text within its limit holds.
+unfoldable pub counts_at : ℕ → ℕ → List (List ℕ) → Result (List ℕ) DemandFault
+counts_at k periods ws =
+    if not (length ws == periods) then Err (WrongCount k (min (length ws) 4294967295)) else each (count_at k) [] ws
+
+-- how many employees may work: at least 0 to 64, and at most 1 up to the limit, and no fewer
+unfoldable pub range_at : ℕ → ℕ → List ℕ → List ℕ → Result Heads DemandFault
+range_at k limit a b = do
+  low ← number_at k 0 64 a
+  high ← number_at k (max low 1) limit b
+  Ok (record { least = low; most = high })

@@ -1,0 +1,7 @@
+pub mod Steps
+pub mod FaultLine
+pub mod Fields
+pub mod Lines
+pub mod InstanceOf
+pub mod Drafts
+pub mod Written

@@ -1,0 +1,53 @@
+ghost use Rattle.std.specs.Prelude.{◌≡◌, ◌<◌, ◌≤◌, ◌==◌, ◌&&◌, length, IfSome, position};
+ghost use Rattle.std.specs.Str.{bytes_eq};
+ghost use Rattle.demand_text.specs.Fields.{work_at, name_at};
+
+use crate::fault::DemandFault;
+use roster_model::{CodeDef, List};
+
+fn place_of(codes: &[CodeDef], byte: u8) -> Option<usize>
+    ensures place { result ≡ position (λ d. d.work && d.byte == byte) codes.now }
+    ensures within { IfSome result (λ i. i < length codes.now) }
+{
+    codes.iter().position(|def| def.work && def.byte == byte)
+}
+
+/// Reads a work code, and gives its number.
+#[tactic(auto, unfolding(crate::specs::Fields::work_at))]
+pub fn work(line: u32, codes: &[CodeDef], word: &[u8]) -> Result<u8, DemandFault>
+    requires { length codes.now ≤ 32 }
+    ensures { result ≡ work_at line codes.now word.now }
+{
+    if word.len() != 1 {
+        return Err(DemandFault::NotWork { line });
+    }
+    match place_of(codes, word[0]) {
+        Some(place) => Ok(place as u8),
+        None => Err(DemandFault::NotWork { line }),
+    }
+}
+
+fn is_same(name: &List<u8>, word: &[u8]) -> bool
+    ensures { result ≡ bytes_eq name.now word.now }
+{
+    name.as_slice() == word
+}
+
+fn name_place(names: &[List<u8>], word: &[u8]) -> Option<usize>
+    ensures place { result ≡ position (λ n. bytes_eq n word.now) names.now }
+    ensures within { IfSome result (λ i. i < length names.now) }
+{
+    names.iter().position(|name| is_same(name, word))
+}
+
+/// Reads a name of the rules, and gives its number.
+#[tactic(auto, unfolding(crate::specs::Fields::name_at))]
+pub fn name(line: u32, names: &[List<u8>], word: &[u8]) -> Result<u8, DemandFault>
+    requires { length names.now ≤ 32 }
+    ensures { result ≡ name_at line names.now word.now }
+{
+    match name_place(names, word) {
+        Some(place) => Ok(place as u8),
+        None => Err(DemandFault::NoName { line }),
+    }
+}

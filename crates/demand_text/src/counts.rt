@@ -1,0 +1,50 @@
+ghost use Rattle.std.specs.Prelude.{◌≡◌, ◌<◌, ◌^◌, [], length};
+ghost use Rattle.demand_text.specs.Fields.{count_at, counts_at};
+ghost use Rattle.demand_text.specs.Steps.{Reads, each};
+
+use crate::fault::DemandFault;
+use crate::field::number;
+use roster_model::List;
+use std::alloc::Global;
+use text_lines::Words;
+
+fn word_count(words: &mut Words<'_>) -> usize
+    requires { length words.old < 2 ^ 64 }
+    ensures { result ≡ length words.old }
+{
+    let mut n = 0;
+    while let Some(_) = words.next() {
+        n += 1;
+    }
+    n
+}
+
+fn numbers(alloc: Global, line: u32, words: &mut Words<'_>) -> Result<List<u32>, DemandFault>
+    ensures { Reads (λ counts. counts) result (each (count_at line) [] words.old) }
+{
+    let mut counts = List::new(alloc);
+    while let Some(word) = words.next() {
+        let count = number(line, 0, 64, word)?;
+        counts.push(count)?;
+    }
+    Ok(counts)
+}
+
+/// Reads a number from 0 to 64 for each period.
+#[tactic(auto, unfolding(crate::specs::Fields::counts_at))]
+pub fn counts(
+    alloc: Global,
+    line: u32,
+    periods: u8,
+    words: &mut Words<'_>,
+) -> Result<List<u32>, DemandFault>
+    ensures { Reads (λ counts. counts) result (counts_at line periods words.old) }
+{
+    let mut again = words.again();
+    let found = word_count(&mut again);
+    if found != periods as usize {
+        let found = found.min(u32::MAX as usize) as u32;
+        return Err(DemandFault::WrongCount { line, found });
+    }
+    numbers(alloc, line, words)
+}

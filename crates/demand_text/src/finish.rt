@@ -1,0 +1,73 @@
+ghost use Rattle.std.specs.Prelude.{◌≡◌, ◌≤◌, length, IfOk};
+ghost use Rattle.roster_model.specs.Sound.{IsSound, IsPlain};
+ghost use Rattle.roster_model.specs.SoundInstance.{IsSoundInstance};
+ghost use Rattle.demand_text.specs.Drafts.{IsDraft};
+ghost use Rattle.demand_text.specs.InstanceOf.{least_heads, heads_of, finish};
+ghost use Rattle.demand_text.specs.Lines.{most_heads};
+ghost use Rattle.demand_text.specs.Steps.{Reads};
+
+use crate::cells::cells;
+use crate::draft::{Draft, Heads};
+use crate::extend::day_grammar;
+use crate::fault::DemandFault;
+use crate::heads::most_heads;
+use roster_model::{Grammar, Group, Instance};
+use std::alloc::Global;
+
+fn least_heads(groups: &[Group]) -> u64
+    requires { length groups.now ≤ 8 }
+    ensures { result ≡ least_heads groups.now }
+{
+    let mut sum = 0;
+    for group in groups {
+        sum += u64::from(group.heads_min);
+    }
+    sum
+}
+
+// How many employees may work, with groups and without.
+fn heads_of(heads: Option<Heads>, groups: &[Group]) -> Result<Heads, DemandFault>
+    requires few { length groups.now ≤ 8 }
+    requires least { least_heads groups.now ≤ 64 }
+    requires most { most_heads groups.now ≤ 64 }
+    ensures { result ≡ heads_of heads groups.now }
+{
+    if !groups.is_empty() {
+        return Ok(Heads {
+            least: least_heads(groups) as u32,
+            most: most_heads(groups) as u32,
+        });
+    }
+    match heads {
+        Some(heads) => Ok(heads),
+        None => Err(DemandFault::NoHeads),
+    }
+}
+
+/// Makes the instance of all lines.
+#[tactic(auto, unfolding(crate::specs::InstanceOf::finish))]
+pub fn finish(alloc: Global, grammar: Grammar, draft: Draft) -> Result<Instance, DemandFault>
+    requires sound { IsSound grammar }
+    requires plain { IsPlain grammar }
+    requires draft { IsDraft grammar draft }
+    ensures value { Reads (λ i. i) result (finish grammar draft) }
+    ensures sound { IfOk result IsSoundInstance }
+{
+    let Draft {
+        heads,
+        groups,
+        needs,
+        least,
+        most,
+    } = draft;
+    let heads = heads_of(heads, groups.as_slice())?;
+    let cells = cells(alloc, needs.as_slice(), least.as_slice(), most.as_slice())?;
+    let grammar = day_grammar(alloc, grammar, groups.as_slice())?;
+    Ok(Instance {
+        grammar,
+        heads_min: heads.least,
+        heads_max: heads.most,
+        groups,
+        cells,
+    })
+}

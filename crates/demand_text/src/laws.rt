@@ -1,0 +1,24 @@
+ghost use Rattle.std.specs.Prelude.{◌≡◌, ◌≤◌, List, Ok, length};
+ghost use Rattle.roster_model.specs.declared.grammar.Grammar.{Grammar};
+ghost use Rattle.roster_model.specs.declared.instance.Group.{Group};
+ghost use Rattle.roster_model.specs.declared.instance.Instance.{Instance};
+ghost use Rattle.roster_model.specs.Demands.{Demand};
+ghost use Rattle.roster_model.specs.Extension.{extended};
+ghost use Rattle.roster_model.specs.Sound.{IsSound, IsPlain};
+ghost use Rattle.roster_model.specs.SoundInstance.{AreGroups, IsSoundInstance};
+ghost use Rattle.demand_text.specs.InstanceOf.{day_grammar, instance_of};
+ghost use Rattle.demand_text.specs.Written.{AreDemandsOf, demand_text};
+
+/// States a law: the extension of the grammar of a rules text by groups of its names is sound.
+pub fn extension_is_sound()
+    ensures { (g : Grammar) (groups : List Group) → IsSound g → IsPlain g
+        → AreGroups (length g.names) groups → 1 ≤ length groups → IsSound (extended g groups) }
+{}
+
+/// States a law: the text that is written of a sound instance is read as that instance, for the
+/// grammar of its rules, which with groups is the one that its own grammar extends.
+pub fn written_again()
+    ensures { (g : Grammar) (i : Instance) (ds : List Demand) → IsSound g → IsPlain g
+        → i.grammar ≡ day_grammar g i.groups → IsSoundInstance i → AreDemandsOf i ds
+        → instance_of g (demand_text i ds) ≡ Ok i }
+{}

@@ -1,0 +1,46 @@
+ghost use Rattle.std.specs.Prelude.{◌≡◌};
+ghost use Rattle.roster_model.specs.Sound.{IsSound, IsPlain};
+ghost use Rattle.demand_text.specs.Lines.{line_at};
+ghost use Rattle.demand_text.specs.Steps.{Reads};
+
+use crate::draft::Draft;
+use crate::fault::DemandFault;
+use crate::heads::{group, heads};
+use crate::need::{bound, need};
+use roster_model::Grammar;
+use std::alloc::Global;
+use text_lines::Line;
+
+/// Reads a line.
+#[tactic(auto, unfolding(crate::specs::Lines::line_at))]
+pub fn line(
+    alloc: Global,
+    grammar: &Grammar,
+    draft: &mut Draft,
+    line: &Line<'_>,
+) -> Result<(), DemandFault>
+    requires sound { IsSound grammar.now }
+    requires plain { IsPlain grammar.now }
+    ensures value { Reads (λ _. (draft.new)) result (line_at line.now.number grammar.now draft.old line.now.words) }
+{
+    let number = line.number();
+    let mut words = line.words();
+    let Some(first) = words.next() else {
+        return Err(DemandFault::UnknownLine { line: number });
+    };
+    if first == b"heads".as_slice() {
+        heads(draft, number, &mut words)
+    } else if first == b"group".as_slice() {
+        group(grammar, draft, number, &mut words)
+    } else if first == b"need".as_slice() {
+        need(alloc, grammar, &mut draft.needs, number, &mut words)
+    } else if first == b"least".as_slice() {
+        let needs = draft.needs.as_slice();
+        bound(alloc, grammar, needs, &mut draft.least, number, &mut words)
+    } else if first == b"most".as_slice() {
+        let needs = draft.needs.as_slice();
+        bound(alloc, grammar, needs, &mut draft.most, number, &mut words)
+    } else {
+        Err(DemandFault::UnknownLine { line: number })
+    }
+}

@@ -1,0 +1,73 @@
+ghost use Rattle.std.specs.Prelude.{◌≡◌, ◌++◌, [], ◌∷◌, IfOk, OnOk};
+ghost use Rattle.demand_text.specs.FaultLine.{line_of, fault_text, place_text, fault_line};
+
+use crate::fault::DemandFault;
+use crate::put::put;
+use roster_model::{List, Memory};
+use std::alloc::Global;
+use text_lines::write_number;
+
+fn line_of(fault: &DemandFault) -> Option<u32>
+    ensures { result ≡ line_of fault.now }
+{
+    match *fault {
+        DemandFault::BadByte { line }
+        | DemandFault::UnknownLine { line }
+        | DemandFault::BadNumber { line }
+        | DemandFault::OutOfRange { line }
+        | DemandFault::NotWork { line }
+        | DemandFault::Twice { line }
+        | DemandFault::WrongCount { line, .. }
+        | DemandFault::NoNeed { line }
+        | DemandFault::NoName { line }
+        | DemandFault::Mixed { line }
+        | DemandFault::TooManyGroups { line } => Some(line),
+        DemandFault::NoHeads | DemandFault::TooLong | DemandFault::Memory => None,
+    }
+}
+
+#[tactic(auto, unfolding(crate::specs::FaultLine::fault_text))]
+fn put_text(out: &mut List<u8>, fault: &DemandFault) -> Result<(), Memory>
+    ensures { OnOk result (out.new ≡ out.old ++ fault_text fault.now) }
+{
+    match *fault {
+        DemandFault::BadByte { .. } => put(out, b"bad byte"),
+        DemandFault::UnknownLine { .. } => put(out, b"unknown line"),
+        DemandFault::BadNumber { .. } => put(out, b"bad number"),
+        DemandFault::OutOfRange { .. } => put(out, b"out of range"),
+        DemandFault::NotWork { .. } => put(out, b"not a work code"),
+        DemandFault::Twice { .. } => put(out, b"said twice"),
+        DemandFault::WrongCount { .. } => put(out, b"wrong count of needs"),
+        DemandFault::NoHeads => put(out, b"no heads line"),
+        DemandFault::TooLong => put(out, b"the text is too long"),
+        DemandFault::NoNeed { .. } => put(out, b"no need line before"),
+        DemandFault::NoName { .. } => put(out, b"no such name"),
+        DemandFault::Mixed { .. } => put(out, b"heads and groups together"),
+        DemandFault::TooManyGroups { .. } => put(out, b"too many groups, at most 8"),
+        DemandFault::Memory => put(out, b"out of memory"),
+    }
+}
+
+fn put_place(out: &mut List<u8>, line: Option<u32>) -> Result<(), Memory>
+    ensures { OnOk result (out.new ≡ out.old ++ place_text line) }
+{
+    let Some(line) = line else {
+        return Ok(());
+    };
+    put(out, b"line ")?;
+    write_number(out, line as i128)?;
+    put(out, b": ")
+}
+
+/// Returns the line that tells a fault, as `demand: line 2: wrong count of needs` with a line feed.
+/// A fault that carries no line has none in the text either.
+pub fn fault_line(alloc: Global, fault: &DemandFault) -> Result<List<u8>, Memory>
+    ensures { IfOk result (λ text. text ≡ fault_line fault.now) }
+{
+    let mut out = List::new(alloc);
+    put(&mut out, b"demand: ")?;
+    put_place(&mut out, line_of(fault))?;
+    put_text(&mut out, fault)?;
+    out.push(b'\n')?;
+    Ok(out)
+}

@@ -1,0 +1,109 @@
+ghost use Rattle.std.specs.Prelude.{◌≡◌};
+ghost use Rattle.roster_model.specs.Sound.{IsSound};
+ghost use Rattle.demand_text.specs.Lines.{has_need, has_bound, need_of, need_at, bound_at};
+ghost use Rattle.demand_text.specs.Steps.{Reads};
+
+use crate::code::work;
+use crate::counts::counts;
+use crate::draft::{Bound, Draft, Need};
+use crate::fault::DemandFault;
+use crate::field::number;
+use roster_model::{Grammar, List};
+use std::alloc::Global;
+use text_lines::Words;
+
+fn has_need(needs: &[Need], code: u8) -> bool
+    ensures { result ≡ has_need needs.now code }
+{
+    needs.iter().any(|need| need.code == code)
+}
+
+fn has_bound(bounds: &[Bound], code: u8) -> bool
+    ensures { result ≡ has_bound bounds.now code }
+{
+    bounds.iter().any(|bound| bound.code == code)
+}
+
+// Reads a need line, which has the words that must stand there.
+#[tactic(auto, unfolding(crate::specs::Lines::need_of))]
+fn need_of(
+    alloc: Global,
+    grammar: &Grammar,
+    needs: &mut List<Need>,
+    line: u32,
+    code: &[u8],
+    under: &[u8],
+    over: &[u8],
+    words: &mut Words<'_>,
+) -> Result<(), DemandFault>
+    requires { IsSound grammar.now }
+    ensures value { Reads (λ _. (needs.new)) result (need_of line grammar.now needs.old code.now under.now over.now words.old) }
+{
+    let code = work(line, grammar.codes.as_slice(), code)?;
+    if has_need(needs.as_slice(), code) {
+        return Err(DemandFault::Twice { line });
+    }
+    let under = number(line, 0, 10_000, under)?;
+    let over = number(line, 0, 10_000, over)?;
+    let counts = counts(alloc, line, grammar.periods, words)?;
+    let need = Need {
+        code,
+        under,
+        over,
+        counts,
+    };
+    needs.push(need)?;
+    Ok(())
+}
+
+/// Reads a need line, behind its first word.
+#[tactic(auto, unfolding(crate::specs::Lines::need_at))]
+pub fn need(
+    alloc: Global,
+    grammar: &Grammar,
+    needs: &mut List<Need>,
+    line: u32,
+    words: &mut Words<'_>,
+) -> Result<(), DemandFault>
+    requires { IsSound grammar.now }
+    ensures value { Reads (λ _. (needs.new)) result (need_at line grammar.now needs.old words.old) }
+{
+    let Some(code) = words.next() else {
+        return Err(DemandFault::UnknownLine { line });
+    };
+    let Some(under) = words.next() else {
+        return Err(DemandFault::UnknownLine { line });
+    };
+    let Some(over) = words.next() else {
+        return Err(DemandFault::UnknownLine { line });
+    };
+    need_of(alloc, grammar, needs, line, code, under, over, words)
+}
+
+/// Reads a `least` or a `most` line, behind its first word.
+#[tactic(auto, unfolding(crate::specs::Lines::bound_at))]
+pub fn bound(
+    alloc: Global,
+    grammar: &Grammar,
+    needs: &[Need],
+    bounds: &mut List<Bound>,
+    line: u32,
+    words: &mut Words<'_>,
+) -> Result<(), DemandFault>
+    requires { IsSound grammar.now }
+    ensures value { Reads (λ _. (bounds.new)) result (bound_at line grammar.now needs.now bounds.old words.old) }
+{
+    let Some(code) = words.next() else {
+        return Err(DemandFault::UnknownLine { line });
+    };
+    let code = work(line, grammar.codes.as_slice(), code)?;
+    if !has_need(needs, code) {
+        return Err(DemandFault::NoNeed { line });
+    }
+    if has_bound(bounds.as_slice(), code) {
+        return Err(DemandFault::Twice { line });
+    }
+    let counts = counts(alloc, line, grammar.periods, words)?;
+    bounds.push(Bound { code, counts })?;
+    Ok(())
+}
