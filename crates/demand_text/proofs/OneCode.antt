@@ -22,7 +22,7 @@ pub record HasFirst (g : Grammar) (cells : List Cell) : Type 0 where
 pub has_first : (g : Grammar) (cells : List Cell) → 1 ≤ g.periods → IsOneDemand g cells → HasFirst g cells
 has_first g cells some one = let d = one.demand in subst (HasFirst g) (sym one.made) (by d.periods (one.sound.whole))
   where
-    by : (ps : List PeriodDemand) → length ps ≡ g.periods → HasFirst g (cells_from one.demand 1 ps)
+    by : (ps : List PeriodDemand) → length ps ≡ g.periods → HasFirst g (cells_from (one.demand) 1 ps)
     by [] e = absurd (omega (arith, e))
     by (p ∷ ps) e = let w = one.sound.work in record { some = omega arith; code = slice_get_within g.codes one.demand.code w.0 w.1 }
 
