@@ -12,6 +12,7 @@ mod tests;
 use run::run;
 use shelf::DiskShelf;
 use std::env;
+use std::io::ErrorKind;
 use std::process::ExitCode;
 
 /// Want of memory before the words are known.
@@ -20,13 +21,17 @@ const MEMORY: u8 = 7;
 fn main(rt: HostRuntime) -> ExitCode {
     let alloc = rt.alloc();
     let mut words = Vec::new(alloc);
-    // Where a word is no text, the program passes no words.
-    if let Ok(args) = env::args(&rt) {
-        for word in args.skip(1) {
-            if words.push(word).is_err() {
-                return ExitCode::from(MEMORY);
+    match env::args(&rt) {
+        Ok(args) => {
+            for word in args.skip(1) {
+                if words.push(word).is_err() {
+                    return ExitCode::from(MEMORY);
+                }
             }
         }
+        Err(error) if error.kind() == ErrorKind::OutOfMemory => return ExitCode::from(MEMORY),
+        // Where a word is no text, the program passes no words.
+        Err(_) => {}
     }
     let mut shelf = DiskShelf::new(rt);
     ExitCode::from(run(alloc, &mut shelf, words.as_slice()))
