@@ -1,0 +1,9 @@
+//! Certificates: a roster, a bound, and a tree of nodes that shows the bound.
+//!
+//! The tree is one of branch and bound: each split cuts the count of one arc in two, as is usual in
+//! branch and price on aggregated flows (Côté, Gendron and Rousseau, Management Science 57, 2011).
+#![tactic(auto)]
+
+mod cert;
+
+pub use cert::{Cert, Node};
