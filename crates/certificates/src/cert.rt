@@ -15,7 +15,9 @@ pub enum Node {
         prices: Option<Prices>,
     },
     /// A leaf with prices that bound the cost.
-    Priced { prices: Prices },
+    Priced {
+        prices: Prices,
+    },
     /// A leaf whose cuts leave each arc one count.
     Pinned,
     /// A leaf that shows nothing.

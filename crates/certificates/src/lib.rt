@@ -5,5 +5,7 @@
 #![tactic(auto)]
 
 mod cert;
+mod why;
 
 pub use cert::{Cert, Node};
+pub use why::Why;
