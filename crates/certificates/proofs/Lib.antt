@@ -1,0 +1,4 @@
+pub mod Unique
+pub mod Rising
+pub mod BaseCuts
+pub mod Walking

@@ -5,7 +5,12 @@
 #![tactic(auto)]
 
 mod cert;
+mod laws;
+mod sound;
+mod tree;
 mod why;
 
 pub use cert::{Cert, Node};
+pub use laws::one_tree;
+pub use sound::is_sound_cert;
 pub use why::Why;

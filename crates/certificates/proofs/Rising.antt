@@ -1,0 +1,53 @@
+-- Rising numbers of cuts, each above the one before, are each above all before.
+use Rattle.std.proofs.Common.{◌≡◌, ℕ, arith, ◌<◌, ◌≤◌, ◌↔◌, All, List, [], ◌∷◌, length, subst, sym}
+use Rattle.std.specs.Prelude.{ℤ}
+use Rattle.std.proofs.lemmas.List.Elements.{All-head, All-tail, All-nil, All-cons}
+use Rattle.roster_model.specs.declared.instance.Cut.{Cut}
+use Rattle.roster_model.specs.declared.instance.Instance.{Instance}
+use Rattle.roster_model.specs.declared.instance.Mult.{Mult}
+use Rattle.roster_model.specs.Folds.{Each}
+use Rattle.roster_model.specs.PriceLimits.{IsMult, AreRising, FitPrices}
+use Rattle.certificates.specs.Walks.{RisesFrom, HasPrices, HasMults}
+
+pub all_each : {A : Type 0} (P : A → Type 0) (xs : List A) → All P xs → Each P xs
+all_each P [] h = tt
+all_each P (x ∷ xs) h = (All-head P x xs h, all_each P xs (All-tail P x xs h))
+
+pub each_all : {A : Type 0} (P : A → Type 0) (xs : List A) → Each P xs → All P xs
+each_all P [] h = All-nil P
+each_all P (x ∷ xs) h = All-cons P x xs h.0 (each_all P xs h.1)
+
+all_above : (a b : ℕ) (ms : List Mult) → a ≤ b → RisesFrom b ms → Each (λ (m : Mult). a < m.cut) ms
+all_above a b [] le h = tt
+all_above a b (m ∷ ms) le h = (omega (arith, le, h.0), all_above a m.cut ms (omega (arith, le, h.0)) h.1)
+
+pub rising : (last : ℕ) (ms : List Mult) → RisesFrom last ms → AreRising ms
+rising last [] h = tt
+rising last (m ∷ ms) h = (all_above m.cut m.cut ms (omega arith) h.1, rising m.cut ms h.1)
+
+pub rises : (last : ℕ) (ms : List Mult) → Each (λ (m : Mult). last < m.cut) ms → AreRising ms → RisesFrom last ms
+rises last [] above h = tt
+rises last (m ∷ ms) above h = (above.0, rises m.cut ms h.0 h.1)
+
+positive : (n : ℕ) (ms : List Mult) → Each (IsMult n) ms → Each (λ (m : Mult). 0 < m.cut) ms
+positive n [] h = tt
+positive n (m ∷ ms) h = (h.0.first, positive n ms h.1)
+
+-- prices and multipliers that fit the cuts
+pub fit : (i : Instance) (d : ℕ) (cell : List ℤ) (mult : List Mult) (cuts : ℕ) (path : List Cut) → length path ≡ cuts → ((HasPrices (length i.cells) d cell × HasMults cuts mult) ↔ FitPrices i d cell mult path)
+fit i d cell mult cuts path same = (
+  λ are. record {
+    positive = are.0.positive;
+    small = are.0.small;
+    cells = are.0.whole;
+    each = are.0.each;
+    few = are.1.few;
+    mults = subst (λ (n : ℕ). All (IsMult n) mult) (sym same) are.1.each;
+    rising = rising 0 mult are.1.rising;
+  },
+  λ h.
+      let mults = subst (λ (n : ℕ). All (IsMult n) mult) same h.mults in (
+        record { positive = h.positive; small = h.small; whole = h.cells; each = h.each },
+        record { few = h.few; each = mults; rising = rises 0 mult (positive cuts mult (all_each (IsMult cuts) mult mults)) h.rising },
+      ),
+)

@@ -1,0 +1,45 @@
+-- Certificates' numbers and nodes as a walk without memory meets them.
+use Rattle.std.specs.Prelude.{ℕ, ℤ, ◌≡◌, ◌<◌, ◌≤◌, ◌+◌, ◌^◌, cond, nat_lt, All, List, [], ◌∷◌, ◌++◌, length}
+use Rattle.roster_model.specs.declared.instance.Cut.{Cut}
+use Rattle.roster_model.specs.declared.instance.Group.{Group}
+use Rattle.roster_model.specs.declared.instance.Instance.{Instance}
+use Rattle.roster_model.specs.declared.instance.Mult.{Mult}
+use Rattle.roster_model.specs.Folds.{Each}
+use Rattle.roster_model.specs.PriceLimits.{IsMult}
+use Rattle.roster_model.specs.Sums.{Within}
+use Rattle.certificates.specs.declared.cert.Node.{Node}
+use Rattle.certificates.specs.Nodes.{Proof, preorder, visits}
+use Rattle.certificates.specs.Sound.{IsSoundVisit}
+
+-- the numbers of the cuts rise, from one above the last
+abbrev pub RisesFrom : ℕ → List Mult → Type 0
+RisesFrom last [] = Unit {0}
+RisesFrom last (m ∷ ms) = (last < m.cut) × RisesFrom m.cut ms
+
+-- a denominator, and a price for each of so many cells
+pub record HasPrices (cells d : ℕ) (cell : List ℤ) : Type 0 where
+  pub positive : 1 ≤ d
+  pub small : d ≤ 2 ^ 30
+  pub whole : length cell ≡ cells
+  pub each : All (Within (2 ^ 80)) cell
+
+-- multipliers of so many cuts
+pub record HasMults (cuts : ℕ) (mult : List Mult) : Type 0 where
+  pub few : length mult ≤ 1500
+  pub each : All (IsMult cuts) mult
+  pub rising : RisesFrom 0 mult
+
+-- how many base cuts a group brings, of a day with at most `most` employees
+abbrev pub cuts_of : ℕ → Group → ℕ
+cuts_of most g = cond (nat_lt g.heads_max most) 1 0 + cond (nat_lt 0 g.heads_min) 1 0
+
+-- the nodes begin with one whole tree of sound nodes, which has so many cuts above it, and end with
+-- the rest
+pub record BeginsWithTree (i : Instance) (cuts : ℕ) (nodes rest : List Node) : Type 0 where
+  pub proof : Proof
+  pub whole : nodes ≡ preorder proof ++ rest
+  pub each : (path : List Cut) → length path ≡ cuts → Each (IsSoundVisit i) (visits path proof)
+
+-- the nodes begin with no such tree
+pub record BeginsWithNone (i : Instance) (cuts : ℕ) (nodes : List Node) : Type 0 where
+  pub none : (path : List Cut) (t : Proof) (rest : List Node) → length path ≡ cuts → nodes ≡ preorder t ++ rest → Each (IsSoundVisit i) (visits path t) → ⊥

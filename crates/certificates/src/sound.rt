@@ -1,0 +1,159 @@
+ghost use Rattle.std.specs.Prelude.{◌≡◌, ◌≤◌, ◌^◌, ◌↔◌, All, IsTrue, IfSome, length, List as Items};
+ghost use Rattle.roster_model.specs.declared.instance.Cut.{Cut};
+ghost use Rattle.roster_model.specs.Folds.{Each};
+ghost use Rattle.roster_model.specs.PriceLimits.{IsMult, FitPrices};
+ghost use Rattle.roster_model.specs.SoundInstance.{IsSoundInstance};
+ghost use Rattle.roster_model.specs.Sums.{Within};
+ghost use Rattle.certificates.specs.Sound.{most_cost, most_rule, IsKey, IsWordByte, IsGroupNumber, IsSoundShift, IsSoundCert};
+ghost use Rattle.certificates.specs.Walks.{RisesFrom, HasPrices, HasMults};
+
+use crate::cert::Cert;
+use crate::tree::is_whole_tree;
+use roster_model::{ArcKey, Group, Instance, Mult, Prices, Shift};
+
+/// The greatest cost, bound and price of a shift.
+const MOST_COST: u64 = 1_099_511_627_776;
+
+/// The greatest size of a price and of a multiplier.
+const MOST_PRICE: i128 = 1_208_925_819_614_629_174_706_176;
+
+/// Returns whether the certificate is sound: its nodes are one whole tree of at most 20,001, each
+/// number is in its range, there are at most 64 shifts and none without a cost, each word has 1 to 96
+/// bytes that a word of a text may have and is of a group of the day, and the prices of each node
+/// are one for each cell, with at most 1,500 multipliers of the cuts on the way to it. Takes no memory.
+pub fn is_sound_cert(instance: &Instance, cert: &Cert) -> bool
+    requires { IsSoundInstance instance.now }
+    ensures { IsTrue result ↔ IsSoundCert instance.now cert.now }
+{
+    cert.shifts.len() <= 64
+        && are_shifts(instance, cert.shifts.as_slice())
+        && (cert.cost.is_some() || cert.shifts.is_empty())
+        && is_cost(cert.cost)
+        && is_cost(cert.bound)
+        && is_whole_tree(instance, cert.nodes.as_slice())
+}
+
+/// Returns whether the number, where there is one, is in the range of costs.
+fn is_cost(cost: Option<u64>) -> bool
+    ensures { IsTrue result ↔ IfSome cost (λ n. n ≤ most_cost) }
+{
+    match cost {
+        Some(cost) => cost <= MOST_COST,
+        None => true,
+    }
+}
+
+/// Returns whether each shift is sound.
+fn are_shifts(instance: &Instance, shifts: &[Shift]) -> bool
+    ensures { IsTrue result ↔ All (IsSoundShift instance.now) shifts.now }
+{
+    shifts.iter().all(|shift| is_shift(instance, shift))
+}
+
+fn is_shift(instance: &Instance, shift: &Shift) -> bool
+    ensures { IsTrue result ↔ IsSoundShift instance.now shift.now }
+{
+    is_word(shift.word.as_slice())
+        && is_group_number(instance.groups.as_slice(), shift.group)
+        && shift.price <= MOST_COST
+}
+
+/// Returns whether the word has 1 to 96 bytes, all of which a word of a text may have.
+fn is_word(word: &[u8]) -> bool
+    ensures { IsTrue result ↔ ((1 ≤ length word.now) × (length word.now ≤ 96) × Each IsWordByte word.now) }
+{
+    !word.is_empty() && word.len() <= 96 && word.iter().all(|byte| is_word_byte(*byte))
+}
+
+fn is_word_byte(byte: u8) -> bool
+    ensures { IsTrue result ↔ IsWordByte byte }
+{
+    33 <= byte && byte <= 126 && byte != 35
+}
+
+fn is_group_number(groups: &[Group], number: u8) -> bool
+    ensures { IsTrue result ↔ IsGroupNumber groups.now number }
+{
+    if groups.is_empty() {
+        number == 0
+    } else {
+        1 <= number && number as usize <= groups.len()
+    }
+}
+
+/// Returns whether the five numbers are in the ranges of arcs.
+pub(crate) fn is_key(instance: &Instance, arc: &ArcKey) -> bool
+    ensures { IsTrue result ↔ IsKey instance.now arc.now }
+{
+    1 <= arc.rule
+        && arc.rule <= most_rule(instance.groups.as_slice())
+        && arc.suffix <= 6
+        && is_in_day(arc.start)
+        && is_in_day(arc.len)
+        && is_in_day(arc.part)
+}
+
+fn most_rule(groups: &[Group]) -> u8
+    ensures { result ≡ most_rule groups.now }
+{
+    if groups.is_empty() { 64 } else { 72 }
+}
+
+fn is_in_day(number: u8) -> bool
+    ensures { IsTrue result ↔ ((1 ≤ number) × (number ≤ 96)) }
+{
+    1 <= number && number <= 96
+}
+
+/// Returns whether the prices are within the limits, one for each cell, with multipliers by rising
+/// numbers of cuts, of which there are so many.
+#[tactic(auto, using(crate::proofs::Rising::fit))]
+pub(crate) fn are_fit(instance: &Instance, cuts: usize, prices: &Prices) -> bool
+    ensures { (path : Items Cut) → length path ≡ cuts
+        → (IsTrue result ↔ FitPrices instance.now prices.now.d prices.now.cell prices.now.mult path) }
+{
+    are_prices(instance, prices) && are_mults(prices, cuts)
+}
+
+/// Returns whether the denominator is in its range, and there is a price in the range for each cell.
+fn are_prices(instance: &Instance, prices: &Prices) -> bool
+    ensures { IsTrue result ↔ HasPrices (length instance.now.cells) prices.now.d prices.now.cell }
+{
+    1 <= prices.d
+        && prices.d <= 1 << 30
+        && prices.cell.len() == instance.cells.len()
+        && prices.cell.as_slice().iter().all(|price| is_price(*price))
+}
+
+fn is_price(price: i128) -> bool
+    ensures { IsTrue result ↔ Within (2 ^ 80) price }
+{
+    -MOST_PRICE <= price && price <= MOST_PRICE
+}
+
+/// Returns whether the multipliers are in their range, by rising numbers of cuts.
+fn are_mults(prices: &Prices, cuts: usize) -> bool
+    ensures { IsTrue result ↔ HasMults cuts prices.now.mult }
+{
+    let mult = prices.mult.as_slice();
+    mult.len() <= 1500 && mult.iter().all(|m| is_mult(m, cuts)) && are_rising(mult)
+}
+
+fn is_mult(mult: &Mult, cuts: usize) -> bool
+    ensures { IsTrue result ↔ IsMult cuts mult.now }
+{
+    1 <= mult.cut && mult.cut as usize <= cuts && 0 <= mult.value && mult.value <= MOST_PRICE
+}
+
+fn are_rising(mult: &[Mult]) -> bool
+    ensures { IsTrue result ↔ RisesFrom 0 mult.now }
+{
+    let mut last = 0;
+    for m in mult {
+        if m.cut <= last {
+            return false;
+        }
+        last = m.cut;
+    }
+    true
+}
