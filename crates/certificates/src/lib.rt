@@ -8,9 +8,11 @@ mod cert;
 mod laws;
 mod sound;
 mod tree;
+mod verdict;
 mod why;
 
 pub use cert::{Cert, Node};
 pub use laws::one_tree;
 pub use sound::is_sound_cert;
+pub use verdict::Verdict;
 pub use why::Why;

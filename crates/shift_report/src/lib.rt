@@ -6,6 +6,10 @@
 #[cfg(test)]
 mod tests;
 mod tree;
+mod verdict;
+#[cfg(test)]
+mod verdict_tests;
 mod write;
 
 pub use tree::write_tree;
+pub use verdict::write_verdict;
