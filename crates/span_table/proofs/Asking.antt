@@ -225,7 +225,7 @@ asks-day g p t room sound made filled has most empty =
     let there = least_there (IsDayTree g) (tree_sum p 1) _ has.0 least has.1 has.2 in
     record {
       sound = sound;
-      ready = made;
+      ready = made.ready;
       filled = filled;
       day = record { begins = omega arith; some = sound.some_period; within = omega arith };
       exists = sound.start;

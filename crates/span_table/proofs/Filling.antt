@@ -33,7 +33,7 @@ same-row w a s b t p q e = by (apart a b)
     by (inr (inr same)) = let k = ap (λ (n : ℕ). n * w) same in (same, omega (arith, k))
 
 module _ (g : Grammar) (p : PriceView) (lay : Layout) (fits : IsLayoutOf g lay) where
-  day_of : (i l : ℕ) → InDay g.periods i l → InDay lay.spans i l
+  pub day_of : (i l : ℕ) → InDay g.periods i l → InDay lay.spans i l
   day_of i l day = rw fits.periods day
 
   -- each cell of a shorter span has an earlier place
@@ -109,4 +109,4 @@ pub day-least : (g : Grammar) (p : PriceView) (t : TableView) → IsSound g → 
     → IsLeast (IsTreeOf g x) (tree_sum p 1) (cell t.layout t.cells (name_slot t.layout x) 1 g.periods)
 day-least g p t sound made filled x lt =
     let day : InDay g.periods 1 g.periods = record { begins = omega arith; some = sound.some_period; within = omega arith } in
-    filled (name_slot t.layout x) 1 g.periods (OfName x) (made.layout.names x lt) day
+    filled (name_slot t.layout x) 1 g.periods (OfName x) (made.ready.layout.names x lt) day

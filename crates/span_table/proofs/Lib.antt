@@ -8,3 +8,9 @@ pub mod Naming
 pub mod Layouts
 pub mod Walking
 pub mod Asking
+pub mod Plugging
+pub mod Marking
+pub mod Closing
+pub mod Telling
+pub mod Stepping
+pub mod Flags

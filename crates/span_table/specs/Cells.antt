@@ -1,10 +1,10 @@
 -- The cells of a table, and what they hold once it is filled.
-use Rattle.std.specs.Prelude.{ℕ, ℤ, ◌≡◌, ◌+◌, ◌-◌, ◌*◌, ◌<◌, ◌≤◌, List, [], ◌∷◌, Option, None, Some, length, drop, slice_get, slice_index, slice_index_or}
+use Rattle.std.specs.Prelude.{ℕ, ℤ, ◌≡◌, ◌+◌, ◌-◌, ◌*◌, ◌^◌, ◌<◌, ◌≤◌, List, [], ◌∷◌, Option, None, Some, IfSome, length, drop, slice_get, slice_index, slice_index_or}
 use Rattle.roster_model.specs.declared.grammar.Grammar.{Grammar}
 use Rattle.roster_model.specs.declared.grammar.Rule.{Rule}
 use Rattle.roster_model.specs.declared.grammar.Sym.TheVariants.{Name}
 use Rattle.roster_model.specs.Grammar.{rule_at, InDay}
-use Rattle.roster_model.specs.Sums.{PriceView, SymbolLeast, PartsLeast}
+use Rattle.roster_model.specs.Sums.{PriceView, Within, SymbolLeast, PartsLeast}
 use Rattle.span_forms.specs.Places.{shorter, place_of}
 use Rattle.span_table.specs.declared.slot.Layout.{Layout}
 use Rattle.span_table.specs.declared.slot.Slot.{Slot}
@@ -56,6 +56,7 @@ pub record IsLayoutOf (g : Grammar) (lay : Layout) : Type 0 where
 pub record IsReady (g : Grammar) (lay : Layout) (xs : List (Option ℤ)) : Type 0 where
   pub layout : IsLayoutOf g lay
   pub cells : length xs ≡ cell_count lay
+  pub room : cell_count lay < 2 ^ 64
 
 -- the cell of a name is right on a span
 abbrev pub NameRight : Grammar → PriceView → Layout → List (Option ℤ) → ℕ → ℕ → ℕ → Type 0
@@ -97,3 +98,8 @@ RightBefore g p lay xs n =
 abbrev pub AreFilled : Grammar → PriceView → Layout → List (Option ℤ) → Type 0
 AreFilled g p lay xs =
     (s i l : ℕ) (what : Slot) → slice_get lay.slots.items s ≡ Some what → InDay g.periods i l → SlotLeast g p what i l (cell lay xs s i l)
+
+-- the cells can hold each least sum of a slot that is within the bound on sums
+abbrev pub FitsCells : Grammar → PriceView → Layout → (Option ℤ → Type 0) → Type 0
+FitsCells g p lay can_hold =
+    (s i l : ℕ) (what : Slot) (v : Option ℤ) → slice_get lay.slots.items s ≡ Some what → SlotLeast g p what i l v → IfSome v (Within (2 ^ 110)) → can_hold v

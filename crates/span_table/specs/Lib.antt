@@ -4,3 +4,6 @@ pub mod Choices
 pub mod Building
 pub mod Tables
 pub mod Walks
+pub mod Marks
+pub mod Free
+pub mod Order

@@ -1,5 +1,5 @@
--- A sum that may not be there, as one number.
-use Rattle.std.specs.Prelude.{ℤ, pos, ◌≡◌, ◌-◌, ◌^◌, Bool, true, false, cond, Option, None, Some, refl}
+-- A sum that may not be there, as one number, or as a flag where it is 0.
+use Rattle.std.specs.Prelude.{ℤ, pos, ◌≡◌, ◌-◌, ◌^◌, Bool, true, false, cond, Option, None, Some, IfSome, refl}
 use Rattle.std.specs.Ordering.{int_eq}
 use Rattle.std.specs.Cmp.{signed_Decides}
 use Rattle.std.proofs.Common.{sym}
@@ -24,3 +24,11 @@ same_number z false h = refl
 -- the number of a sum is the number that it was read from
 pub number_of-sum_of : (z : ℤ) → number_of (sum_of z) ≡ z
 number_of-sum_of z = same_number z (int_eq z no_number) (signed_Decides z no_number).0
+
+-- the sum that a flag stands for: 0, or none
+abbrev pub free_sum : Bool → Option ℤ
+free_sum b = cond b (Some (pos 0)) None
+
+-- a sum that is 0 where it is there
+abbrev pub IsFree : Option ℤ → Type 0
+IsFree v = IfSome v (λ z. z ≡ pos 0)

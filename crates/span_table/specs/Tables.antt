@@ -1,20 +1,31 @@
 -- What a contract sees of a table.
-use Rattle.std.specs.Prelude.{ℤ, ◌≡◌, List, Option, IsSome}
+use Rattle.std.specs.Prelude.{ℤ, ◌≡◌, Bool, List, Option, IsSome, length}
 use Rattle.roster_model.specs.declared.grammar.Grammar.{Grammar}
 use Rattle.roster_model.specs.Trees.{Parts, IsDayTree, steps}
 use Rattle.roster_model.specs.Sums.{PriceView, tree_sum, IsLeast}
 use Rattle.roster_model.specs.Room.{RoomView}
 use Rattle.span_table.specs.declared.slot.Layout.{Layout}
-use Rattle.span_table.specs.Cells.{IsReady, AreFilled}
+use Rattle.span_table.specs.Cells.{IsReady, AreFilled, cell_count}
+use Rattle.span_table.specs.Marks.{free_view, AreMarked}
 
--- the slots of a table, and its cells by their places
+-- the slots of a table, and by their places its cells, its cells for free prices, and its marks
 pub record TableView : Type 0 where
   pub layout : Layout
   pub cells : List (Option ℤ)
+  pub free : List (Option ℤ)
+  pub marks : List Bool
 
 -- the table was made for the grammar
-abbrev pub IsMadeFor : Grammar → TableView → Type 0
-IsMadeFor g t = IsReady g t.layout t.cells
+pub record IsMadeFor (g : Grammar) (t : TableView) : Type 0 where
+  pub ready : IsReady g t.layout t.cells
+  pub free : IsReady g t.layout t.free
+  pub marks : length t.marks ≡ cell_count t.layout
+
+-- the table is prepared to tell the arcs of the grammar: its free cells tell what derives, and its
+-- marks what stands in trees of the day
+pub record IsReached (g : Grammar) (t : TableView) : Type 0 where
+  pub derived : AreFilled g free_view t.layout t.free
+  pub marked : AreMarked g t.layout t.marks
 
 -- the table is filled for a grammar and prices: for each name and suffix on each span of the day its
 -- cell is the least sum there, or none

@@ -4,28 +4,28 @@ ghost use Rattle.roster_model.specs.Sound.{IsSound};
 ghost use Rattle.roster_model.specs.Sums.{Within};
 ghost use Rattle.span_forms.specs.Places.{shorter};
 ghost use Rattle.span_table.specs.declared.slot.Slot.{Slot as Use};
-ghost use Rattle.span_table.specs.Cells.{IsReady, SlotLeast, RightBefore, AreFilled, place};
+ghost use Rattle.span_table.specs.Cells.{IsReady, SlotLeast, FitsCells, RightBefore, AreFilled, place};
 
-use crate::cell::Cell;
+use crate::cells::Cells;
 use crate::names::{least_rule, rule_of};
 use crate::parts::least_part;
 use crate::slot::{Layout, Slot, Span};
 use roster_model::{Grammar, LetterPrice};
 
 // The least sum of what a slot stands for on a span.
-fn slot_least<P: LetterPrice>(
+fn slot_least<P: LetterPrice, C: Cells>(
     grammar: &Grammar,
     prices: &P,
     layout: &Layout,
-    cells: &[Cell],
+    cells: &C,
     slot: usize,
     span: Span,
 ) -> Option<i128>
     requires sound { IsSound grammar.now }
-    requires ready { IsReady grammar.now layout.now cells.now }
+    requires ready { IsReady grammar.now layout.now (C.sums cells.now) }
     requires day { InDay grammar.now.periods span.start span.len }
     requires slot { slot < length layout.now.slots.items }
-    requires before { RightBefore grammar.now (P.view prices.now) layout.now cells.now
+    requires before { RightBefore grammar.now (P.view prices.now) layout.now (C.sums cells.now)
         (place layout.now slot span.start span.len) }
     ensures least { (what : Use) → slice_get layout.now.slots.items slot ≡ Some what
         → SlotLeast grammar.now (P.view prices.now) what span.start span.len result }
@@ -41,19 +41,21 @@ fn slot_least<P: LetterPrice>(
 }
 
 // Fills the cells of the span at a place.
-fn fill_span<P: LetterPrice>(
+fn fill_span<P: LetterPrice, C: Cells>(
     grammar: &Grammar,
     prices: &P,
     layout: &Layout,
-    cells: &mut [Cell],
+    cells: &mut C,
     place: usize,
 )
     requires sound { IsSound grammar.now }
-    requires ready { IsReady grammar.now layout.now cells.old }
+    requires ready { IsReady grammar.now layout.now (C.sums cells.old) }
     requires place { place < shorter layout.now.spans layout.now.spans }
-    requires before { RightBefore grammar.now (P.view prices.now) layout.now cells.old
+    requires before { RightBefore grammar.now (P.view prices.now) layout.now (C.sums cells.old)
         (place * length layout.now.slots.items) }
-    ensures before { RightBefore grammar.now (P.view prices.now) layout.now cells.new
+    requires fits { FitsCells grammar.now (P.view prices.now) layout.now C.can_hold }
+    ensures count { length (C.sums cells.new) ≡ length (C.sums cells.old) }
+    ensures before { RightBefore grammar.now (P.view prices.now) layout.now (C.sums cells.new)
         ((place + 1) * length layout.now.slots.items) }
 {
     let (start, len) = layout.spans.span(place);
@@ -61,15 +63,17 @@ fn fill_span<P: LetterPrice>(
     let width = layout.slots.len();
     for slot in 0..width {
         let sum = slot_least(grammar, prices, layout, cells, slot, span);
-        cells[place * width + slot] = Cell::new(sum);
+        cells.set(place * width + slot, sum);
     }
 }
 
 /// Fills all cells.
-pub fn fill<P: LetterPrice>(grammar: &Grammar, prices: &P, layout: &Layout, cells: &mut [Cell])
+pub fn fill<P: LetterPrice, C: Cells>(grammar: &Grammar, prices: &P, layout: &Layout, cells: &mut C)
     requires sound { IsSound grammar.now }
-    requires ready { IsReady grammar.now layout.now cells.old }
-    ensures filled { AreFilled grammar.now (P.view prices.now) layout.now cells.new }
+    requires ready { IsReady grammar.now layout.now (C.sums cells.old) }
+    requires fits { FitsCells grammar.now (P.view prices.now) layout.now C.can_hold }
+    ensures count { length (C.sums cells.new) ≡ length (C.sums cells.old) }
+    ensures filled { AreFilled grammar.now (P.view prices.now) layout.now (C.sums cells.new) }
 {
     for place in 0..layout.spans.count() {
         fill_span(grammar, prices, layout, cells, place);

@@ -3,7 +3,7 @@ ghost use Rattle.roster_model.specs.Grammar.{InDay};
 ghost use Rattle.span_forms.specs.Places.{shorter};
 ghost use Rattle.span_table.specs.Cells.{place, cell};
 
-use crate::cell::Cell;
+use crate::cells::Cells;
 use crate::slot::{Layout, Span};
 
 /// Returns where the cell of a slot on a span stands.
@@ -18,11 +18,12 @@ pub fn place_of(layout: &Layout, slot: usize, span: Span) -> usize
 }
 
 /// Returns the sum in the cell of a slot on a span.
-pub fn read(layout: &Layout, cells: &[Cell], slot: usize, span: Span) -> Option<i128>
+pub fn read<C: Cells>(layout: &Layout, cells: &C, slot: usize, span: Span) -> Option<i128>
     requires day { InDay layout.now.spans span.start span.len }
     requires slot { slot < length layout.now.slots.items }
-    requires cells { length cells.now ≡ shorter layout.now.spans layout.now.spans * length layout.now.slots.items }
-    ensures { result ≡ cell layout.now cells.now slot span.start span.len }
+    requires room { shorter layout.now.spans layout.now.spans * length layout.now.slots.items < 2 ^ 64 }
+    requires cells { length (C.sums cells.now) ≡ shorter layout.now.spans layout.now.spans * length layout.now.slots.items }
+    ensures { result ≡ cell layout.now (C.sums cells.now) slot span.start span.len }
 {
-    cells[place_of(layout, slot, span)].sum()
+    cells.sum(place_of(layout, slot, span))
 }

@@ -7,7 +7,7 @@ ghost use Rattle.tree_laws.specs.Parts.{root};
 ghost use Rattle.span_table.specs.Cells.{IsReady, NameRight, LaterRight, ShorterRight};
 ghost use Rattle.span_table.specs.Choices.{ChosenRule};
 
-use crate::cell::Cell;
+use crate::cells::Cells;
 use crate::parts::{least_part, symbol_least};
 use crate::slot::{Layout, Span, Suffix};
 use crate::sums::{self, Choice};
@@ -24,22 +24,22 @@ pub fn rule_of(grammar: &Grammar, number: u8) -> &Rule
 }
 
 /// Returns the least sum of the parts of a rule's right side on a span.
-pub fn right_least<P: LetterPrice>(
+pub fn right_least<P: LetterPrice, C: Cells>(
     grammar: &Grammar,
     prices: &P,
     layout: &Layout,
-    cells: &[Cell],
+    cells: &C,
     rule: &Rule,
     number: u8,
     span: Span,
 ) -> Option<i128>
     requires sound { IsSound grammar.now }
-    requires ready { IsReady grammar.now layout.now cells.now }
+    requires ready { IsReady grammar.now layout.now (C.sums cells.now) }
     requires day { InDay grammar.now.periods span.start span.len }
     requires rule { rule_at grammar.now number ≡ Some rule.now }
-    requires shorter { ShorterRight grammar.now (P.view prices.now) layout.now cells.now span.len }
+    requires shorter { ShorterRight grammar.now (P.view prices.now) layout.now (C.sums cells.now) span.len }
     requires unit { (x : ℕ) → rule.now.right ≡ Sym.Name x ∷ []
-        → NameRight grammar.now (P.view prices.now) layout.now cells.now x span.start span.len }
+        → NameRight grammar.now (P.view prices.now) layout.now (C.sums cells.now) x span.start span.len }
     ensures least { PartsLeast grammar.now (P.view prices.now) number 0 rule.now.right span.start span.len result }
     ensures within { IfSome result (Within (2 ^ 110)) }
 {
@@ -65,22 +65,22 @@ pub fn right_least<P: LetterPrice>(
 }
 
 // The least sum of the trees of a name by one rule on a span.
-fn rule_least<P: LetterPrice>(
+fn rule_least<P: LetterPrice, C: Cells>(
     grammar: &Grammar,
     prices: &P,
     layout: &Layout,
-    cells: &[Cell],
+    cells: &C,
     name: u8,
     number: u8,
     span: Span,
 ) -> Option<i128>
     requires sound { IsSound grammar.now }
-    requires ready { IsReady grammar.now layout.now cells.now }
+    requires ready { IsReady grammar.now layout.now (C.sums cells.now) }
     requires day { InDay grammar.now.periods span.start span.len }
     requires some { 1 ≤ number }
     requires rule { number ≤ length grammar.now.rules }
-    requires shorter { ShorterRight grammar.now (P.view prices.now) layout.now cells.now span.len }
-    requires later { LaterRight grammar.now (P.view prices.now) layout.now cells.now name span.start span.len }
+    requires shorter { ShorterRight grammar.now (P.view prices.now) layout.now (C.sums cells.now) span.len }
+    requires later { LaterRight grammar.now (P.view prices.now) layout.now (C.sums cells.now) name span.start span.len }
     ensures least { IsLeast (λ t. On grammar.now (Sym.Name name ∷ []) span.start span.len t × (root t ≡ number))
         (tree_sum (P.view prices.now) span.start) result }
     ensures chosen { OnSome result (ChosenRule grammar.now (P.view prices.now) name span.start span.len number result) }
@@ -98,19 +98,19 @@ fn rule_least<P: LetterPrice>(
 }
 
 /// Returns the least sum of the trees of a name on a span, and a rule that has it.
-pub fn least_rule<P: LetterPrice>(
+pub fn least_rule<P: LetterPrice, C: Cells>(
     grammar: &Grammar,
     prices: &P,
     layout: &Layout,
-    cells: &[Cell],
+    cells: &C,
     name: u8,
     span: Span,
 ) -> Choice
     requires sound { IsSound grammar.now }
-    requires ready { IsReady grammar.now layout.now cells.now }
+    requires ready { IsReady grammar.now layout.now (C.sums cells.now) }
     requires day { InDay grammar.now.periods span.start span.len }
-    requires shorter { ShorterRight grammar.now (P.view prices.now) layout.now cells.now span.len }
-    requires later { LaterRight grammar.now (P.view prices.now) layout.now cells.now name span.start span.len }
+    requires shorter { ShorterRight grammar.now (P.view prices.now) layout.now (C.sums cells.now) span.len }
+    requires later { LaterRight grammar.now (P.view prices.now) layout.now (C.sums cells.now) name span.start span.len }
     ensures least { SymbolLeast grammar.now (P.view prices.now) (Sym.Name name) span.start span.len result.sum }
     ensures chosen { OnSome result.sum (ChosenRule grammar.now (P.view prices.now) name span.start span.len result.number result.sum) }
     ensures within { IfSome result.sum (Within (2 ^ 110)) }

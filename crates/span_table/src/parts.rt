@@ -5,26 +5,26 @@ ghost use Rattle.roster_model.specs.Sums.{Within, SymbolLeast, PartsLeast};
 ghost use Rattle.span_table.specs.Cells.{IsReady, NameRight, Right, ShorterRight};
 ghost use Rattle.span_table.specs.Choices.{IsFirstEnd, ChosenPart};
 
-use crate::cell::Cell;
+use crate::cells::Cells;
 use crate::layout;
 use crate::slot::{Layout, Span, Suffix};
 use crate::sums::{self, Choice};
 use roster_model::{ArcKey, Grammar, LetterPrice, Rule, Sym};
 
 /// Returns the least sum of a symbol's trees on a span.
-pub fn symbol_least<P: LetterPrice>(
+pub fn symbol_least<P: LetterPrice, C: Cells>(
     grammar: &Grammar,
     prices: &P,
     layout: &Layout,
-    cells: &[Cell],
+    cells: &C,
     symbol: Sym,
     span: Span,
 ) -> Option<i128>
     requires sound { IsSound grammar.now }
-    requires ready { IsReady grammar.now layout.now cells.now }
+    requires ready { IsReady grammar.now layout.now (C.sums cells.now) }
     requires day { InDay grammar.now.periods span.start span.len }
     requires name { (x : ℕ) → symbol ≡ Sym.Name x → (x < length grammar.now.names)
-        × NameRight grammar.now (P.view prices.now) layout.now cells.now x span.start span.len }
+        × NameRight grammar.now (P.view prices.now) layout.now (C.sums cells.now) x span.start span.len }
     ensures least { SymbolLeast grammar.now (P.view prices.now) symbol span.start span.len result }
     ensures within { IfSome result (Within (2 ^ 110)) }
 {
@@ -41,22 +41,22 @@ pub fn symbol_least<P: LetterPrice>(
 }
 
 /// Returns the least sum of the parts of a suffix that is not the whole right side, on a span.
-pub fn rest_least<P: LetterPrice>(
+pub fn rest_least<P: LetterPrice, C: Cells>(
     grammar: &Grammar,
     prices: &P,
     layout: &Layout,
-    cells: &[Cell],
+    cells: &C,
     rule: &Rule,
     suffix: Suffix,
     span: Span,
 ) -> Option<i128>
     requires sound { IsSound grammar.now }
-    requires ready { IsReady grammar.now layout.now cells.now }
+    requires ready { IsReady grammar.now layout.now (C.sums cells.now) }
     requires day { InDay grammar.now.periods span.start span.len }
     requires rule { rule_at grammar.now suffix.rule ≡ Some rule.now }
     requires inner { 1 ≤ suffix.from }
     requires within { suffix.from < length rule.now.right }
-    requires right { Right grammar.now (P.view prices.now) layout.now cells.now span.start span.len }
+    requires right { Right grammar.now (P.view prices.now) layout.now (C.sums cells.now) span.start span.len }
     ensures least { PartsLeast grammar.now (P.view prices.now) suffix.rule suffix.from
         (drop suffix.from rule.now.right) span.start span.len result }
     ensures within { IfSome result (Within (2 ^ 110)) }
@@ -72,8 +72,9 @@ pub fn rest_least<P: LetterPrice>(
     }
 }
 
-// The length before which a first part stays: a letter has the length 1, and another part follows.
-fn first_end(symbol: Sym, len: u8) -> u8
+/// Returns the length before which a first part stays: a letter has the length 1, and another part
+/// follows.
+pub fn first_end(symbol: Sym, len: u8) -> u8
     requires { 1 ≤ len }
     ensures value { IsFirstEnd symbol len result }
     ensures some { 1 ≤ result }
@@ -87,21 +88,21 @@ fn first_end(symbol: Sym, len: u8) -> u8
 
 /// Returns the least sum of the parts of a suffix of two or more symbols on a span, and the length of
 /// a first part that has it.
-pub fn least_part<P: LetterPrice>(
+pub fn least_part<P: LetterPrice, C: Cells>(
     grammar: &Grammar,
     prices: &P,
     layout: &Layout,
-    cells: &[Cell],
+    cells: &C,
     rule: &Rule,
     suffix: Suffix,
     span: Span,
 ) -> Choice
     requires sound { IsSound grammar.now }
-    requires ready { IsReady grammar.now layout.now cells.now }
+    requires ready { IsReady grammar.now layout.now (C.sums cells.now) }
     requires day { InDay grammar.now.periods span.start span.len }
     requires rule { rule_at grammar.now suffix.rule ≡ Some rule.now }
     requires within { suffix.from + 2 ≤ length rule.now.right }
-    requires shorter { ShorterRight grammar.now (P.view prices.now) layout.now cells.now span.len }
+    requires shorter { ShorterRight grammar.now (P.view prices.now) layout.now (C.sums cells.now) span.len }
     ensures least { PartsLeast grammar.now (P.view prices.now) suffix.rule suffix.from
         (drop suffix.from rule.now.right) span.start span.len result.sum }
     ensures chosen { OnSome result.sum (ChosenPart grammar.now (P.view prices.now) suffix.rule suffix.from

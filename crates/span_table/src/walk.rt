@@ -1,10 +1,10 @@
 ghost use Rattle.span_table.specs.Walks.{AsksTree, AsksParts, WritesTree, WritesParts};
 ghost use Rattle.std.specs.Prelude.{drop};
 
-use crate::cell::Cell;
 use crate::names::{least_rule, rule_of};
 use crate::parts::least_part;
 use crate::slot::{Layout, Span, Suffix};
+use crate::sum_cells::SumCells;
 use roster_model::{Grammar, LetterPrice, Rule, Step, Sym, TreeRoom};
 
 /// Adds the steps of a tree of least sum of a symbol on a span. Takes no memory.
@@ -13,7 +13,7 @@ pub fn write_tree<P: LetterPrice>(
     grammar: &Grammar,
     prices: &P,
     layout: &Layout,
-    cells: &[Cell],
+    cells: &SumCells,
     symbol: Sym,
     span: Span,
     room: &mut TreeRoom,
@@ -44,7 +44,7 @@ fn write_parts<P: LetterPrice>(
     grammar: &Grammar,
     prices: &P,
     layout: &Layout,
-    cells: &[Cell],
+    cells: &SumCells,
     rule: &Rule,
     suffix: Suffix,
     span: Span,

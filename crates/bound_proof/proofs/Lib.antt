@@ -1,0 +1,10 @@
+mod BaseCuts
+mod PriceBlock
+mod Empty
+mod Ends
+mod Inversions
+mod FineItems
+mod FieldsKept
+mod BlockKept
+mod TreeKept
+mod PiecesKept

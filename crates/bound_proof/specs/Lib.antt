@@ -1,0 +1,11 @@
+pub mod Items
+pub mod Ahead
+pub mod Fields
+pub mod NodeLines
+pub mod ShiftLines
+pub mod PriceLines
+pub mod Told
+pub mod PieceList
+pub mod Next
+pub mod CertOf
+pub mod FaultLine

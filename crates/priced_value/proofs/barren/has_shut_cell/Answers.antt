@@ -1,0 +1,18 @@
+use Rattle.std.proofs.Common.{◌<◌, min, get_or, length, refl, sym, ◌∙◌, arith, ap}
+use Rattle.std.proofs.lemmas.Bool.{false≢true}
+use Rattle.roster_model.specs.declared.instance.Cell.{Cell}
+use Rattle.priced_value.proofs.Searching.{In-get_or, stands-next}
+use Rattle.priced_value.proofs.barren.has_shut_cell.Goals as goal
+
+abbrev no_cell : Cell
+no_cell = record { code = 0; period = 0; need = 0; under = 0; over = 0; floor = 0; ceiling = 0 }
+
+pub returns-then-is_shut : goal.returns-then-is_shut
+returns-then-is_shut c =
+    let k = c.loop-cell.cell-index in
+    let cells = c.args.instance.now.cells in
+    let there : k < length cells = omega (arith, ap length c.as_slice-cell-items.ensures, c.loop-cell-test.true) in
+    let shut = rw c.as_slice-cell-items.ensures at (c.is_shut.ensures.0 c.if-is_shut.true) in (
+      λ t. (get_or cells k no_cell, record { cell = In-get_or cells k no_cell there; none = shut }),
+      λ h. refl,
+    )

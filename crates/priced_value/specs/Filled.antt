@@ -1,0 +1,16 @@
+-- Tables that tell which names derive a word of the day.
+use Rattle.std.specs.Prelude.{ℕ, ◌<◌, IsSome}
+use Rattle.roster_model.specs.declared.grammar.Grammar.{Grammar}
+use Rattle.roster_model.specs.Trees.{Parts, IsTreeOf}
+use Rattle.roster_model.specs.Sums.{PriceView, tree_sum}
+use Rattle.span_table.specs.Tables.{TableView, IsFilled}
+
+-- the table is filled for prices under which each tree of the day has a sum
+pub record IsFilledForAll (g : Grammar) (table : TableView) : Type 0 where
+  pub prices : PriceView
+  pub filled : IsFilled g prices table
+  pub sums : (x : ℕ) (t : Parts) → IsTreeOf g x t → IsSome (tree_sum prices 1 t)
+
+-- some employees of the name are needed, and it derives no word of the day
+abbrev pub NeedsInVain : Grammar → ℕ → ℕ → Type 0
+NeedsInVain g name least = (0 < least) × ((t : Parts) → IsTreeOf g name t → ⊥)

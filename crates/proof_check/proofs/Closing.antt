@@ -1,0 +1,35 @@
+-- Splits that are closed.
+use Rattle.std.proofs.Common.{◌≡◌, ℕ, arith, ◌≤◌, min, All, List, [], ◌∷◌, ◌++◌, length, refl}
+use Rattle.std.specs.Option.{option_to_list}
+use Rattle.std.proofs.Common.{Some}
+use Rattle.std.proofs.lemmas.List.Elements.{All-nil, All-cons, All-append, All-pop}
+use Rattle.roster_model.specs.declared.instance.Cut.{Cut}
+use Rattle.roster_model.specs.declared.instance.Side.TheVariants.{High}
+use Rattle.certificates.specs.Nodes.{high_cut}
+use Rattle.proof_terms.specs.declared.frame.Frame.{Frame}
+use Rattle.proof_terms.specs.Walk.{path, joined}
+use Rattle.proof_terms.proofs.Steps.{value-high, visits-high}
+use Rattle.proof_check.specs.Stacks.{StackView, AreSmall, IsClosing}
+
+-- one more cut is small
+pub small-more : (cuts : List Cut) (c : Cut) → AreSmall cuts → c.b ≤ 63 → AreSmall (cuts ++ c ∷ [])
+small-more cuts c h k = All-append (λ (x : Cut). x.b ≤ 63) cuts (c ∷ []) h (All-cons (λ (x : Cut). x.b ≤ 63) c [] k (All-nil (λ (x : Cut). x.b ≤ 63)))
+
+small-less : (cuts : List Cut) (c : Cut) → AreSmall (cuts ++ c ∷ []) → AreSmall cuts × (c.b ≤ 63)
+small-less cuts c h = All-pop (λ (x : Cut). x.b ≤ 63) (cuts ++ c ∷ []) cuts (Some c) refl h
+
+-- the path to the other half is as small
+pub small-turned : (base : List Cut) (st : List Frame) (f g : Frame) → g.cut.b ≡ f.cut.b → AreSmall (path base (f ∷ st)) → AreSmall (path base (g ∷ st))
+small-turned base st f g e h = let s = small-less (path base st) f.cut h in small-more (path base st) g.cut s.0 (omega (arith, e, s.1))
+
+-- a split whose halves are both read is closed
+pub closed : (old next : StackView) (value shown : ℕ) (f : Frame) → f.cut.side ≡ High → IsClosing old value (record next { splits = f ∷ next.splits }) shown
+    → IsClosing old value next (joined f.own (min f.low shown))
+closed old next value shown f e h = record {
+  base = h.base;
+  most = h.most;
+  fewer = omega (arith, h.fewer);
+  small = λ s. (small-less (path old.base next.splits) f.cut (h.small s)).0;
+  values = λ i rest v n. h.values i rest v (value-high i old.base next.splits rest v f shown e n);
+  visits = λ rest vs n. visits-high old.base next.splits rest vs f e (h.visits rest vs n);
+}

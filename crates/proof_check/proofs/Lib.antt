@@ -1,0 +1,9 @@
+pub mod Paths
+pub mod BaseCuts
+pub mod Firsts
+pub mod VisitCauses
+pub mod Closing
+pub mod NextNodes
+pub mod FirstCauses
+pub mod Walking
+pub mod Deciding

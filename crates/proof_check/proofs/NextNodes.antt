@@ -1,0 +1,41 @@
+-- What the next node does to the open splits.
+use Rattle.std.proofs.Common.{◌≡◌, ℕ, arith, ◌+◌, ◌≤◌, Bool, true, All, Option, None, Some, List, [], ◌∷◌, ◌++◌, length, sym, refl, ap, subst}
+use Rattle.std.specs.Prelude.{IsTrue}
+use Rattle.roster_model.specs.declared.grammar.ArcKey.{ArcKey}
+use Rattle.roster_model.specs.declared.instance.Cut.{Cut}
+use Rattle.roster_model.specs.declared.instance.Instance.{Instance}
+use Rattle.roster_model.specs.declared.instance.Prices.{Prices}
+use Rattle.certificates.specs.declared.cert.Node.{Node}
+use Rattle.certificates.specs.declared.cert.Node.TheVariants.{Split}
+use Rattle.certificates.specs.Nodes.{Visit, low_cut}
+use Rattle.proof_terms.specs.Walk.{path, ValueAfter, VisitsAfter, ValueNext, VisitsNext, IsLeaf, IsLeafValue, IsOwnValue}
+use Rattle.proof_terms.proofs.Steps.{value-split, value-leaf, visits-split, visits-leaf}
+use Rattle.proof_check.specs.Stacks.{StackView, AreSmall}
+use Rattle.proof_check.proofs.Closing.{small-more}
+use Rattle.proof_check.specs.Steps.{way, MayFollow, IsShown}
+
+module _ (i : Instance) (old : StackView) (is_right : Bool) where
+  pub split-shown : (a : ArcKey) (b : ℕ) (own : Option Prices) (x : Option ℕ) (new : StackView) → MayFollow i old (Split a b own) → (IsTrue is_right → IsOwnValue i (way old) own x)
+      → new ≡ record old { splits = record { cut = low_cut a b; own = x; low = 0 } ∷ old.splits } → IsShown i old (Split a b own) is_right new None
+  split-shown a b own x new may h e = subst (λ (s : StackView). IsShown i old (Split a b own) is_right s None) (sym e) (record {
+    base = refl;
+    most = refl;
+    deeper = omega arith;
+    small = small-more (way old) (low_cut a b) may.small may.sound.1;
+    values = λ r rest v n. value-split i old.base old.splits rest v a b own x 0 (h r) n;
+    visits = λ rest vs m. visits-split old.base old.splits rest vs a b own x 0 m;
+  })
+
+  pub leaf-shown : (leaf : Node) (x : ℕ) (new : StackView) (shown : Option ℕ) → MayFollow i old leaf → IsLeaf leaf → (IsTrue is_right → IsLeafValue i (way old) leaf x)
+      → new.base ≡ old.base → new.most ≡ old.most → length new.splits ≤ length old.splits → (AreSmall (path old.base old.splits) → AreSmall (path old.base new.splits))
+      → ((rest : List Node) (v : ℕ) → ValueNext i old.base shown new.splits rest v → ValueAfter i old.base old.splits x rest v)
+      → ((rest : List Node) (vs : List Visit) → VisitsAfter old.base old.splits rest vs → VisitsNext old.base shown new.splits rest vs)
+      → IsShown i old leaf is_right new shown
+  leaf-shown leaf x new shown may is h base most fewer small values visits = record {
+    base = base;
+    most = most;
+    deeper = omega arith;
+    small = subst (λ (cs : List Cut). AreSmall (path cs new.splits)) (sym base) (small may.small);
+    values = λ r rest v n. value-leaf i old.base old.splits rest v leaf x (h r) (values rest v n);
+    visits = λ rest vs m. let seen = visits-leaf old.base old.splits rest vs leaf is m in (seen.0, seen.1, visits rest seen.0 seen.2);
+  }

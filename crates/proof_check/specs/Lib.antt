@@ -1,0 +1,5 @@
+pub mod Stacks
+pub mod Views
+pub mod Walked
+pub mod Steps
+pub mod Verdicts

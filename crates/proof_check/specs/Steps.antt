@@ -1,0 +1,73 @@
+-- Steps of a walk over the nodes of a certificate.
+use Rattle.std.specs.Prelude.{ℕ, ◌≡◌, ◌+◌, ◌≤◌, ◌<◌, Bool, Option, None, List, [], ◌∷◌, take, drop, length, IsTrue}
+use Rattle.roster_model.specs.declared.instance.Cut.{Cut}
+use Rattle.roster_model.specs.declared.instance.Instance.{Instance}
+use Rattle.roster_model.specs.Cuts.{base_cuts}
+use Rattle.roster_model.specs.PriceRooms.{IsRoomFor}
+use Rattle.certificates.specs.declared.cert.Node.{Node}
+use Rattle.certificates.specs.declared.why.Why.{Why}
+use Rattle.certificates.specs.Nodes.{Proof, preorder, Visit, visits}
+use Rattle.certificates.specs.Sound.{IsSoundNode}
+use Rattle.proof_terms.specs.Walk.{path, LeadsTo, MakeVisits, ValueNext, VisitsNext}
+use Rattle.pinned_value.specs.Rooms.{IsRoomFor as HasPlaces}
+use Rattle.span_table.specs.Tables.{IsMadeFor, IsReached}
+use Rattle.proof_check.specs.declared.bench.Bench.{Bench}
+use Rattle.proof_check.specs.declared.walk.Walk.{Walk}
+use Rattle.proof_check.specs.Stacks.{StackView, AreSmall}
+use Rattle.proof_check.specs.Walked.{IsVisitCause, IsVisitsCause, lesser_cause}
+
+-- the bench was made for the instance
+pub record IsBenchFor (i : Instance) (b : Bench) : Type 0 where
+  pub made : IsMadeFor i.grammar b.table
+  pub reached : IsReached i.grammar b.table
+  pub room : IsRoomFor b.room i
+  pub mults : b.room.most ≡ 1500
+  pub balances : HasPlaces i.grammar b.balances
+  pub base : b.stack.base ≡ base_cuts i
+
+-- the cuts on the way to the next node
+abbrev pub way : StackView → List Cut
+way s = path s.base s.splits
+
+-- the next node on its path
+abbrev pub next_visit : StackView → Node → Visit
+next_visit s node = record { path = way s; node = node }
+
+-- the node may come next: one more split may be open, and the node is sound on its path
+pub record MayFollow (i : Instance) (s : StackView) (node : Node) : Type 0 where
+  pub room : length s.splits < s.most
+  pub small : AreSmall (way s)
+  pub sound : IsSoundNode i (way s) node
+
+-- What a node does to the open splits. It opens one, or ends the innermost half. What the nodes to come
+-- lead to then, they lead to with it before them, where it is right; and it makes the first of the
+-- visits that it and they make.
+pub record IsShown (i : Instance) (old : StackView) (node : Node) (is_right : Bool) (new : StackView) (shown : Option ℕ) : Type 0 where
+  pub base : new.base ≡ old.base
+  pub most : new.most ≡ old.most
+  pub deeper : length new.splits ≤ length old.splits + 1
+  pub small : AreSmall (way new)
+  pub values : IsTrue is_right → (rest : List Node) (v : ℕ) → ValueNext i old.base shown new.splits rest v → LeadsTo i old.base old.splits (node ∷ rest) v
+  pub visits : (rest : List Node) (vs : List Visit) → MakeVisits old.base old.splits (node ∷ rest) vs
+      → (us : List Visit) × (vs ≡ next_visit old node ∷ us) × VisitsNext old.base shown new.splits rest us
+
+-- a step of the walk: one more node is seen, the first cause of least number stays the first, and what
+-- the nodes show is right where there is none
+pub record IsStep (i : Instance) (old : StackView) (before : Walk) (node : Node) (new : StackView) (after : Walk) : Type 0 where
+  pub nodes : after.nodes ≡ before.nodes + 1
+  pub why : (own : Option Why) × IsVisitCause i (next_visit old node) (before.nodes + 1) own × (after.why ≡ lesser_cause before.why own)
+  pub is_right : Bool
+  pub none : after.why ≡ None → IsTrue is_right
+  pub shows : IsShown i old node is_right new after.shown
+
+-- the nodes before place k were seen: the walk has the first cause among them, what the nodes to come
+-- lead to all nodes lead to, and the visits of the tree that are left are those that the nodes to come
+-- make
+pub record IsWalking (i : Instance) (proof : Proof) (k : ℕ) (stack : StackView) (walk : Walk) : Type 0 where
+  pub base : stack.base ≡ base_cuts i
+  pub deep : length stack.splits ≤ k
+  pub small : AreSmall (way stack)
+  pub nodes : walk.nodes ≡ k
+  pub why : IsVisitsCause i (take k (visits (base_cuts i) proof)) walk.why
+  pub values : walk.why ≡ None → (v : ℕ) → ValueNext i (base_cuts i) walk.shown stack.splits (drop k (preorder proof)) v → LeadsTo i (base_cuts i) [] (preorder proof) v
+  pub visits : VisitsNext (base_cuts i) walk.shown stack.splits (drop k (preorder proof)) (drop k (visits (base_cuts i) proof))

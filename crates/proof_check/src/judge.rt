@@ -1,0 +1,133 @@
+ghost use Rattle.std.specs.Prelude.{◌≡◌, ◌≤◌, IfOk, IfSome, IsSome, MatchOption, length};
+ghost use Rattle.roster_model.specs.Folds.{Each};
+ghost use Rattle.roster_model.specs.SoundInstance.{IsSoundInstance};
+ghost use Rattle.certificates.specs.declared.cert.Cert.{Cert as Stated};
+ghost use Rattle.certificates.specs.Nodes.{Proof};
+ghost use Rattle.certificates.specs.Sound.{IsSoundCert, IsSoundProof, IsSoundShift};
+ghost use Rattle.proof_terms.specs.Causes.{IsFirstCause};
+ghost use Rattle.stated_roster.specs.Faults.{IsCoverageCause};
+ghost use Rattle.proof_check.specs.Steps.{IsBenchFor};
+ghost use Rattle.proof_check.specs.Verdicts.{HasRightRoster, IsCoverageRight, States, IsWalked, IsVerdict};
+
+use crate::bench::Bench;
+use crate::node::view_node;
+use crate::verdict::bound_cause;
+use crate::walk::Walk;
+use certificates::{Cert, Node, Verdict, Why};
+use roster_model::{Instance, Memory, Shift};
+use stated_roster::{coverage_fault, roster_fault};
+use std::alloc::Global;
+
+impl Bench {
+    /// Returns a bench for a sound instance and a sound certificate. It takes all its memory here.
+    pub fn for_proof(alloc: Global, instance: &Instance, cert: &Cert) -> Result<Bench, Memory>
+        requires sound { IsSoundInstance instance.now }
+        requires cert { IsSoundCert instance.now cert.now }
+        ensures bench { IfOk result (IsBenchFor instance.now) }
+        ensures most { IfOk result (λ b. b.stack.most ≡ length cert.now.nodes) }
+    {
+        Bench::for_nodes(alloc, instance, cert.nodes.len())
+    }
+
+    // Sees all nodes of a certificate. Takes no memory.
+    fn walk(&mut self, instance: &Instance, nodes: &[Node]) -> Walk
+        requires sound { IsSoundInstance instance.now }
+        requires bench { IsBenchFor instance.now self.old }
+        requires proof { (p : Proof) × IsSoundProof instance.now nodes.now p }
+        requires room { length nodes.now ≤ self.old.stack.most }
+        ensures walked { IsWalked instance.now nodes.now result }
+        ensures bench { IsBenchFor instance.now self.new }
+        ensures most { self.new.stack.most ≡ self.old.stack.most }
+    {
+        self.stack.clear();
+        let mut walk = Walk::new();
+        for node in nodes {
+            walk = self.step(instance, walk, &view_node(node));
+        }
+        walk
+    }
+
+    // Returns the first cause on a stated roster, if there is one. Takes no memory.
+    fn roster_cause(
+        &mut self,
+        instance: &Instance,
+        cost: Option<u64>,
+        shifts: &[Shift],
+    ) -> Option<Why>
+        requires sound { IsSoundInstance instance.now }
+        requires bench { IsBenchFor instance.now self.old }
+        requires shifts { Each (IsSoundShift instance.now) shifts.now }
+        requires few { length shifts.now ≤ 64 }
+        ensures value { MatchOption result (HasRightRoster instance.now cost shifts.now)
+            (λ why. (c : Stated) → States c cost shifts.now → IsFirstCause instance.now c why) }
+        ensures bench { IsBenchFor instance.now self.new }
+        ensures stack { self.new.stack ≡ self.old.stack }
+    {
+        match cost {
+            Some(cost) => roster_fault(instance, cost, shifts, &mut self.table),
+            None => None,
+        }
+    }
+
+    /// Judges a certificate: Yes comes exactly where it is accepted, with its cost and its bound, and
+    /// else No with the cause of least number, at its first shift, team, node or cell. Takes no memory.
+    ///
+    /// The bench was made for the instance, and for at least as many nodes. On a yes the stated words
+    /// are an allowed roster of exactly the stated cost, every allowed roster costs at least the stated
+    /// bound, and where the bound is none no roster is allowed.
+    pub fn judge(&mut self, instance: &Instance, cert: &Cert) -> Verdict
+        requires sound { IsSoundInstance instance.now }
+        requires cert { IsSoundCert instance.now cert.now }
+        requires bench { IsBenchFor instance.now self.old }
+        requires room { length cert.now.nodes ≤ self.old.stack.most }
+        ensures verdict { IsVerdict instance.now cert.now result }
+        ensures bench { IsBenchFor instance.now self.new }
+        ensures most { self.new.stack.most ≡ self.old.stack.most }
+    {
+        let shifts = cert.shifts.as_slice();
+        if let Some(why) = self.roster_cause(instance, cert.cost, shifts) {
+            return Verdict::No(why);
+        }
+        let walk = self.walk(instance, cert.nodes.as_slice());
+        decided(instance, cert.cost, cert.bound, shifts, walk)
+    }
+}
+
+// Returns the first cell whose coverage is outside its floor and ceiling, if there is a roster.
+fn coverage_cause(instance: &Instance, cost: Option<u64>, shifts: &[Shift]) -> Option<Why>
+    requires sound { IsSoundInstance instance.now }
+    requires few { length shifts.now ≤ 64 }
+    ensures { MatchOption result (IfSome cost (λ _. IsCoverageRight instance.now shifts.now))
+        (λ why. IsSome cost × IsCoverageCause instance.now shifts.now why) }
+{
+    match cost {
+        Some(_) => coverage_fault(instance, shifts),
+        None => None,
+    }
+}
+
+// Returns the verdict on a certificate whose roster is stated rightly, if it has one, once all its
+// nodes were seen.
+fn decided(
+    instance: &Instance,
+    cost: Option<u64>,
+    bound: Option<u64>,
+    shifts: &[Shift],
+    walk: Walk,
+) -> Verdict
+    requires sound { IsSoundInstance instance.now }
+    requires few { length shifts.now ≤ 64 }
+    ensures { (c : Stated) → IsSoundCert instance.now c → States c cost shifts.now → c.bound ≡ bound
+        → HasRightRoster instance.now cost shifts.now → IsWalked instance.now c.nodes walk → IsVerdict instance.now c result }
+{
+    if let Some(why) = walk.why {
+        return Verdict::No(why);
+    }
+    if let Some(why) = bound_cause(instance, bound, walk.shown.unwrap_or(0)) {
+        return Verdict::No(why);
+    }
+    if let Some(why) = coverage_cause(instance, cost, shifts) {
+        return Verdict::No(why);
+    }
+    Verdict::Yes { cost, bound }
+}

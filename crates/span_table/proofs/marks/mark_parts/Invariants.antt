@@ -1,0 +1,11 @@
+use Rattle.std.proofs.Common.{◌+◌, drop, get_or}
+use Rattle.roster_model.specs.declared.grammar.Sym.TheVariants.{Code}
+use Rattle.span_table.specs.Cells.{place}
+use Rattle.span_table.specs.Marks.{Adds, SplitsMarked}
+use Rattle.span_table.proofs.marks.mark_parts.Given as goal
+
+abbrev pub invariant-loop-part : goal.invariant-loop-part
+invariant-loop-part l = record {
+  adds : Adds l.grammar l.layout (place l.layout 0 l.span.start l.span.len) l.fn.marks l.marks;
+  marked : SplitsMarked l.grammar l.layout l.marks l.suffix.rule l.suffix.from (get_or l.rule.right l.suffix.from (Code 0)) (drop (l.suffix.from + 1) l.rule.right) l.span.start l.span.len l.part;
+}

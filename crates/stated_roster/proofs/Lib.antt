@@ -1,0 +1,5 @@
+pub mod Items
+pub mod Numbered
+pub mod Pricing
+pub mod Counting
+pub mod Causing

@@ -1,0 +1,13 @@
+use Rattle.std.proofs.Common.{sym, ◌∙◌}
+use Rattle.word_prices.proofs.Costs.{shift-length}
+use Rattle.stated_roster.proofs.Pricing.{told}
+use Rattle.stated_roster.proofs.prices.least_price.Goals as goal
+
+pub returns-then-len-grammar-clause-value : goal.returns-then-len-grammar-clause-value
+returns-then-len-grammar-clause-value c =
+    let i = c.args.instance.now in λ t at e shift. c.if-len-grammar.true (c.len.ensures ∙ shift-length i.grammar t.name c.args.shift.now.word c.requires.sound.grammar shift)
+
+pub returns-clause-value : goal.returns-clause-value
+returns-clause-value c =
+    let priced = rw (c.new-prices.ensures.grammar, c.new-prices.ensures.word, c.as_slice.ensures) at c.price.ensures in
+    told c.args.instance.now c.args.shift.now c.team_name-name.result c.price.result c.team_name-name.ensures.value priced

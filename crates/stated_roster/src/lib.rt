@@ -1,0 +1,15 @@
+//! What is wrong with a stated roster: its words, their prices, its head counts, its cost and its
+//! coverage.
+#![tactic(auto)]
+
+mod coverage;
+mod prices;
+mod roster;
+mod team;
+mod totals;
+
+pub use coverage::coverage_fault;
+pub use roster::roster_fault;
+
+#[cfg(test)]
+mod tests;
