@@ -1,5 +1,5 @@
 -- Teams that need employees and have no shift, by their groups.
-use Rattle.std.proofs.Common.{◌≡◌, ◌↔◌, ℕ, ◌+◌, ◌<◌, arith, All, List, [], ◌∷◌, ◌++◌, length, ap, refl, sym, subst, inl, inr, ◌⊎◌, ◌∙◌, length-append}
+use Rattle.std.proofs.Common.{◌≡◌, ◌↔◌, ℕ, ◌+◌, ◌<◌, arith, All, List, [], ◌∷◌, length, ap, refl, sym, subst, inl, inr, ◌∙◌, length-append}
 use Rattle.std.proofs.lemmas.List.Elements.{All-nil, All-weaker, All-same}
 use Rattle.roster_model.specs.declared.grammar.Grammar.{Grammar}
 use Rattle.roster_model.specs.declared.instance.Group.{Group}

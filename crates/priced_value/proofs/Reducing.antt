@@ -1,5 +1,5 @@
 -- Under prices that agree with an instance's prices, the least sum of a tree is the least reduced cost.
-use Rattle.std.proofs.Common.{◌≡◌, ℕ, ℤ, ◌≤◌, ◌^◌, Option, None, Some, IfSome, arith, refl, sym, subst}
+use Rattle.std.proofs.Common.{◌≡◌, ℕ, ℤ, ◌^◌, Option, None, Some, IfSome, refl, sym, subst}
 use Rattle.std.specs.Prelude.{IsSome, ◌+◌}
 use Rattle.roster_model.specs.declared.grammar.Grammar.{Grammar}
 use Rattle.roster_model.specs.declared.grammar.Sym.TheVariants.{Name}

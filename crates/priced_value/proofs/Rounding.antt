@@ -1,8 +1,7 @@
 -- A whole cost in units of 1 / d, rounded up, is itself.
-use Rattle.std.proofs.Common.{◌≡◌, ℕ, pos, ◌+◌, ◌-◌, ◌*◌, ◌/◌, ◌≤◌, ◌<◌, arith}
+use Rattle.std.proofs.Common.{◌≡◌, ℕ, pos, ◌+◌, ◌-◌, ◌*◌, ◌≤◌, ◌<◌, arith}
 use Rattle.std.specs.Prelude.{◌*ℤ◌}
 use Rattle.std.proofs.Math.Nat.{div-lt_iff_lt-mul}
-use Rattle.std.proofs.lemmas.Int.{ints}
 use Rattle.node_terms.specs.Priced.{rounded_up}
 
 pub whole_up : (d u : ℕ) → 1 ≤ d → rounded_up (pos d *ℤ pos u) d ≡ u

@@ -1,5 +1,5 @@
 -- A search along a list for an item with a property.
-use Rattle.std.proofs.Common.{◌≡◌, ℕ, zero, suc, ◌+◌, ◌<◌, ◌≤◌, arith, List, [], ◌∷◌, length, get_or, drop, refl, sym, subst, inl, inr, ◌⊎◌}
+use Rattle.std.proofs.Common.{ℕ, zero, suc, ◌+◌, ◌<◌, ◌≤◌, arith, List, [], ◌∷◌, length, get_or, drop, refl, subst, inl, inr}
 use Rattle.std.proofs.lemmas.List.{at_drop_more, drop_all}
 use Rattle.roster_model.specs.Folds.{In}
 

@@ -1,18 +1,18 @@
 -- The causes in their order.
-use Rattle.std.proofs.Common.{◌≡◌, ℕ, ◌+◌, ◌<◌, ◌≤◌, arith, Option, None, Some, MatchOption, List, refl, sym, subst, inl, inr, ◌⊎◌}
+use Rattle.std.proofs.Common.{◌≡◌, ℕ, arith, Option, None, Some, MatchOption, List, refl, sym, subst, inl, inr}
 use Rattle.std.specs.Prelude.{◌≢◌}
 use Rattle.roster_model.specs.declared.instance.Cell.{Cell}
 use Rattle.roster_model.specs.declared.instance.Instance.{Instance}
 use Rattle.roster_model.specs.declared.instance.Shift.{Shift}
 use Rattle.roster_model.specs.Coverage.{covered, IsWithinCell}
 use Rattle.roster_model.specs.Duties.{Duty}
-use Rattle.roster_model.specs.Folds.{Each, count}
-use Rattle.roster_model.specs.Rosters.{ArePrices, HasHeads, is_in_team, roster_cost}
+use Rattle.roster_model.specs.Folds.{Each}
+use Rattle.roster_model.specs.Rosters.{ArePrices, HasHeads, roster_cost}
 use Rattle.roster_model.specs.Teams.{Team, teams}
 use Rattle.certificates.specs.declared.why.Why.{Why}
 use Rattle.certificates.specs.declared.why.Why.TheVariants.{NotAShift, ShiftCost, WrongHeads, WrongCost, NotAnArc, EmptyHalf, NotPinned, BoundTooHigh, Outside}
 use Rattle.certificates.specs.RosterCauses.{duties, IsOutOfRange, IsOutside}
-use Rattle.stated_roster.specs.Faults.{stated_prices, IsRightlyStated, IsPriceCause, IsHeadsCause, IsRosterCause, HasNoOtherHeads}
+use Rattle.stated_roster.specs.Faults.{stated_prices, IsRightlyStated, IsPriceCause, IsHeadsCause, IsRosterCause}
 use Rattle.stated_roster.proofs.Items.{no-first}
 use Rattle.stated_roster.proofs.Pricing.{no_words, no_prices}
 

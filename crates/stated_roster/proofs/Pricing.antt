@@ -1,23 +1,21 @@
 -- Words and their prices in their teams.
-use Rattle.std.proofs.Common.{◌≡◌, ℕ, zero, suc, ◌+◌, ◌-◌, ◌<◌, ◌≤◌, arith, Option, None, Some, MatchOption, List, [], ◌∷◌, length, map, ap, refl, sym, subst, ◌∙◌}
+use Rattle.std.proofs.Common.{◌≡◌, ℕ, ◌+◌, ◌≤◌, arith, Option, None, Some, MatchOption, List, [], ◌∷◌, length, map, refl, sym, subst, ◌∙◌}
 use Rattle.std.specs.Prelude.{◌≢◌, slice_get}
 use Rattle.std.specs.Option.{option_or}
-use Rattle.std.proofs.lemmas.Option.{none-some, same_Some}
 use Rattle.roster_model.specs.declared.instance.Instance.{Instance}
 use Rattle.roster_model.specs.declared.instance.Shift.{Shift}
 use Rattle.roster_model.specs.Duties.{duty}
-use Rattle.roster_model.specs.Folds.{Each, In}
+use Rattle.roster_model.specs.Folds.{Each}
 use Rattle.roster_model.specs.Rosters.{ArePrices, IsTeamPrice}
 use Rattle.roster_model.specs.Shifts.{IsShift, IsPrice}
-use Rattle.roster_model.specs.Teams.{Team, teams}
+use Rattle.roster_model.specs.Teams.{Team}
 use Rattle.word_prices.specs.Prices.{IsPriceOrNone}
 use Rattle.certificates.specs.declared.why.Why.{Why}
 use Rattle.certificates.specs.declared.why.Why.TheVariants.{NotAShift, ShiftCost, WrongHeads, WrongCost, NotAnArc, EmptyHalf, NotPinned, BoundTooHigh, Outside}
-use Rattle.certificates.specs.First.{IsFirst}
 use Rattle.certificates.specs.RosterCauses.{duties, IsNoShift, IsMispriced, IsFirstNoShift, IsFirstMispriced}
 use Rattle.stated_roster.specs.Faults.{stated_prices, IsPriceCause, HasNoOtherWord, HasNoOtherPrice}
 use Rattle.stated_roster.specs.TeamViews.{IsTeamName}
-use Rattle.stated_roster.proofs.Items.{Before, before-next, before-all, first-here, no-first, get-each}
+use Rattle.stated_roster.proofs.Items.{Before, before-next, before-all, first-here, no-first}
 use Rattle.stated_roster.proofs.Numbered.{team_apart}
 
 module _ (i : Instance) where

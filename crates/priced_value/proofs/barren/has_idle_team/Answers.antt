@@ -1,6 +1,6 @@
 use Rattle.std.proofs.Common.{sym, ◌∙◌}
 use Rattle.std.proofs.lemmas.Bool.{false≢true}
-use Rattle.priced_value.proofs.IdleTeams.{idle-plain, idle-groups, group_names}
+use Rattle.priced_value.proofs.IdleTeams.{idle-plain, idle-groups}
 use Rattle.priced_value.proofs.barren.has_idle_team.Goals as goal
 
 pub returns-then-is_empty : goal.returns-then-is_empty

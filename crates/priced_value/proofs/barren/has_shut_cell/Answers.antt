@@ -1,7 +1,6 @@
-use Rattle.std.proofs.Common.{◌<◌, min, get_or, length, refl, sym, ◌∙◌, arith, ap}
-use Rattle.std.proofs.lemmas.Bool.{false≢true}
+use Rattle.std.proofs.Common.{◌<◌, get_or, length, refl, arith, ap}
 use Rattle.roster_model.specs.declared.instance.Cell.{Cell}
-use Rattle.priced_value.proofs.Searching.{In-get_or, stands-next}
+use Rattle.priced_value.proofs.Searching.{In-get_or}
 use Rattle.priced_value.proofs.barren.has_shut_cell.Goals as goal
 
 abbrev no_cell : Cell

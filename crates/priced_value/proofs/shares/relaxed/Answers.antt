@@ -1,5 +1,4 @@
-use Rattle.std.proofs.Common.{◌≡◌, ◌≤◌, length, ap, arith, pos}
-use Rattle.std.specs.Prelude.{◌+ℤ◌}
+use Rattle.std.proofs.Common.{◌≡◌, ◌≤◌, length, arith}
 use Rattle.std.proofs.lemmas.Int.{ints}
 use Rattle.roster_model.specs.Folds.{sum_z}
 use Rattle.roster_model.specs.Reduced.{cell_prices, cut_prices}

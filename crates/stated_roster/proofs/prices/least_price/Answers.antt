@@ -1,4 +1,4 @@
-use Rattle.std.proofs.Common.{sym, ◌∙◌}
+use Rattle.std.proofs.Common.{◌∙◌}
 use Rattle.word_prices.proofs.Costs.{shift-length}
 use Rattle.stated_roster.proofs.Pricing.{told}
 use Rattle.stated_roster.proofs.prices.least_price.Goals as goal

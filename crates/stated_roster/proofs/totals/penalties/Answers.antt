@@ -1,9 +1,9 @@
-use Rattle.std.proofs.Common.{ℕ, ◌≤◌, ◌<◌, get_or, length, ap, arith}
+use Rattle.std.proofs.Common.{get_or, ap, arith}
 use Rattle.roster_model.specs.declared.instance.Cell.{Cell}
 use Rattle.roster_model.specs.Coverage.{covered, penalty}
 use Rattle.roster_model.specs.Limits.{IsDayCell}
 use Rattle.certificates.specs.RosterCauses.{duties}
-use Rattle.stated_roster.proofs.Counting.{penalty-few, cells-next, cells-end}
+use Rattle.stated_roster.proofs.Counting.{penalty-few, cells-next}
 use Rattle.stated_roster.proofs.totals.penalties.Goals as goal
 
 abbrev no_cell : Cell
