@@ -46,7 +46,7 @@ arc-shaped g t sound made reached a is =
     }
 
 -- so its numbers are small
-pub shaped-small : (g : Grammar) → IsSound g → (a : ArcKey) → IsShaped g a → IsSmall a
+shaped-small : (g : Grammar) → IsSound g → (a : ArcKey) → IsShaped g a → IsSmall a
 shaped-small g sound a h =
     let w = rule_at-within g a.rule h.rule h.at in
     let r = sound-rule g sound a.rule h.rule h.at in
@@ -57,6 +57,10 @@ shaped-small g sound a h =
       len = omega (arith, h.day.within, h.day.begins, sound.few_periods);
       part = omega (arith, h.inside, h.day.within, h.day.begins, sound.few_periods);
     }
+
+-- so are those of every arc of the instance
+pub arc-small : (g : Grammar) (t : TableView) → IsSound g → IsMadeFor g t → IsReached g t → (a : ArcKey) → IsArc g a → IsSmall a
+arc-small g t sound made reached a is = shaped-small g sound a (arc-shaped g t sound made reached a is)
 
 -- one list of numbers does not come before another both ways
 one_way : (xs ys : List ℕ) → ComesFirst xs ys → ComesFirst ys xs → ⊥

@@ -1,2 +1,4 @@
 mod StepRules
 mod Derivations
+pub mod Readers
+pub mod Checks

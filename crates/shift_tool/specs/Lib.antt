@@ -1,5 +1,7 @@
 pub mod Form
 pub mod Seen
 pub mod Explain
+pub mod Fetch
+pub mod Check
 pub mod Run
 pub mod Asked

@@ -67,7 +67,7 @@ fn derivation(alloc: Global, grammar: &Grammar, word: &[u8]) -> Result<Answer, M
 }
 
 // Says why a rules text is refused.
-fn refusal(alloc: Global, fault: RulesFault) -> Result<Answer, Memory>
+pub fn refusal(alloc: Global, fault: RulesFault) -> Result<Answer, Memory>
     ensures { IfOk result (λ a. (fault ≢ RulesFault.Memory) × (a.status ≡ 3) × (a.output ≡ fault_line fault)) }
 {
     match fault {

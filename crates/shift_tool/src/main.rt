@@ -2,7 +2,11 @@
 #![tactic(auto)]
 
 mod answer;
+mod check;
+#[cfg(test)]
+mod check_tests;
 mod explain;
+mod fetch;
 mod form;
 mod run;
 mod say;

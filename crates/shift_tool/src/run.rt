@@ -3,6 +3,7 @@ ghost use Rattle.shift_tool.specs.Form.{form_of, AnswersNoForm};
 ghost use Rattle.shift_tool.specs.Run.{Does};
 ghost use Rattle.shift_tool.specs.Seen.{IsReader};
 
+use crate::check::check;
 use crate::explain::explain;
 use crate::form::{Form, form_of};
 use crate::say::say;
@@ -22,10 +23,12 @@ fn refuse_words<S: Shelf>(shelf: &mut S) -> u8
 ///
 /// | status | comes |
 /// |---|---|
-/// | 0 | `explain RULES WORD`: the word is a shift |
-/// | 1 | `explain RULES WORD`: the word is no shift |
+/// | 0 | `explain RULES WORD`: the word is a shift; `check RULES DEMAND PROOF`: the certificate is accepted |
+/// | 1 | `explain`: the word is no shift; `check`: the certificate is refused |
 /// | 2 | the words are none of the command's forms |
 /// | 3 | the rules text is refused |
+/// | 4 | `check`: the demand text is refused |
+/// | 5 | `check`: the proof text is refused |
 /// | 6 | the shelf refused a call |
 /// | 7 | memory did not suffice |
 ///
@@ -35,6 +38,11 @@ pub fn run<S: Shelf>(alloc: Global, shelf: &mut S, words: &[String]) -> u8
 {
     match form_of(words) {
         Form::Explain { rules, word } => explain(alloc, shelf, rules, word),
+        Form::Check {
+            rules,
+            demand,
+            proof,
+        } => check(alloc, shelf, rules, demand, proof),
         Form::None => refuse_words(shelf),
     }
 }

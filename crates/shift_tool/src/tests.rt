@@ -3,7 +3,7 @@ use shelf::MemoryShelf;
 use std::alloc::Global;
 use std::test::Fail;
 
-const G1: &str = "periods 4
+pub const G1: &str = "periods 4
 work a
 idle .
 start S
@@ -18,7 +18,7 @@ rule R 0 = '.'
 rule R 0 = '.' R
 ";
 
-const G4: &str = "periods 2
+pub const G4: &str = "periods 2
 work a
 start S
 rule S 5 = 'a' 'a'
@@ -26,7 +26,7 @@ rule S 3 = T T
 rule T 0 = 'a'
 ";
 
-const CYCLE: &str = "periods 4
+pub const CYCLE: &str = "periods 4
 start A
 rule A 0 = B
 rule B 0 = A
@@ -47,7 +47,7 @@ use 8 R 4 1
 ";
 
 // The words, the status and what is said.
-const CASES: [(&[&str], u8, &str); 14] = [
+const CASES: [(&[&str], u8, &str); 15] = [
     (&["explain", "g1", ".aa."], 0, BLOCK),
     (
         &["explain", "g4", "aa"],
@@ -63,6 +63,7 @@ const CASES: [(&[&str], u8, &str); 14] = [
     (&["explains", "g1", ".aa."], 2, NO_FORM),
     (&["explain", "g1", ".aa.", "x"], 2, NO_FORM),
     (&["solve", "g1", "d", "p", "10"], 2, NO_FORM),
+    (&["check", "g1"], 2, NO_FORM),
     (
         &["explain", "cycle", "aa"],
         3,
@@ -80,7 +81,7 @@ fn shelf(alloc: Global, failing: &[u32]) -> Result<MemoryShelf, Fail> {
     Ok(shelf)
 }
 
-fn owned(alloc: Global, words: &[&str]) -> Result<Vec<String>, Fail> {
+pub fn owned(alloc: Global, words: &[&str]) -> Result<Vec<String>, Fail> {
     let mut owned = Vec::new(alloc);
     for word in words {
         owned.push(String::from_str(alloc, word)?)?;

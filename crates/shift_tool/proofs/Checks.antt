@@ -1,0 +1,96 @@
+-- The answers of `check`, from what its parts answer.
+use Rattle.std.proofs.Common.{◌≡◌, ◌≢◌, ℕ, List, Option, Result, Ok, Err, IfOk, ap, refl, sym, ◌∙◌}
+use Rattle.std.specs.Prelude.{IsSomeAnd, Some, None, [], ◌∷◌}
+use Rattle.roster_model.specs.declared.grammar.Grammar.{Grammar}
+use Rattle.roster_model.specs.declared.instance.Instance.{Instance}
+use Rattle.roster_model.specs.declared.memory.Memory.{Memory}
+use Rattle.certificates.specs.declared.cert.Cert.{Cert}
+use Rattle.certificates.specs.declared.verdict.Verdict.{Verdict}
+use Rattle.certificates.specs.declared.verdict.Verdict.TheVariants.{Yes, No}
+use Rattle.proof_check.specs.Verdicts.{IsVerdict}
+use Rattle.shift_report.specs.VerdictText.{verdict_text}
+use Rattle.roster_model.specs.Sound.{IsSound}
+use Rattle.roster_model.specs.SoundInstance.{IsSoundInstance}
+use Rattle.demand_text.specs.declared.fault.DemandFault.{DemandFault}
+use Rattle.demand_text.specs.declared.fault.DemandFault.TheVariants as demand_faults
+use Rattle.demand_text.specs.FaultLine as demand
+use Rattle.demand_text.specs.InstanceOf.{instance_of}
+use Rattle.bound_proof.specs.declared.fault.ProofFault.{ProofFault}
+use Rattle.bound_proof.specs.declared.fault.ProofFault.TheVariants as proof_faults
+use Rattle.bound_proof.specs.CertOf.{proof_of}
+use Rattle.bound_proof.specs.FaultLine as proof
+use Rattle.rules_text.specs.FaultLine.{fault_line}
+use Rattle.rules_text.specs.RulesOf.{IsReading}
+use Rattle.rules_text.specs.declared.fault.RulesFault.{RulesFault}
+use Rattle.rules_text.specs.declared.fault.RulesFault.TheVariants as rules_faults
+use Rattle.shelf.specs.Shelf.{Texts}
+use Rattle.shift_tool.specs.declared.answer.Answer.{Answer}
+use Rattle.shift_tool.specs.Check.{Judgement, yes, no, verdict_status, ProofAnswers, AnswersProof, DemandAnswers, AnswersDemand, RulesAnswers}
+use Rattle.shift_tool.specs.Check as check
+use Rattle.shift_tool.specs.Fetch.{IsAnswer}
+use Rattle.shift_tool.specs.Seen.{Seen, IsReader, HoldsAll}
+use Rattle.shift_tool.proofs.Readers.{widen}
+
+no_names : (held : Option Texts) (names : List (List ℕ)) → HoldsAll held names → HoldsAll held []
+no_names None names h = absurd h
+no_names (Some texts) names h = tt
+
+refused_demand : (held : Option Texts) (g : Grammar) (text name : List ℕ) (fault : DemandFault) (r : Result Answer Memory)
+    → IfOk r (λ a. (fault ≢ demand_faults.Memory) × (a.status ≡ 4) × (a.output ≡ demand.fault_line fault)) → (fault ≢ demand_faults.Memory → instance_of g text ≡ Err fault)
+    → (status : ℕ) (output : List ℕ) → IsAnswer r status output → DemandAnswers held g text name status output
+refused_demand held g text name fault (Err e) h reading status output a = absurd a
+refused_demand held g text name fault (Ok x) h reading status output a =
+    let s : status ≡ 4 = a.0 ∙ h.1 in
+    rw s (check.DemandAnswers.refused output (record { fault = fault; reading = reading h.0; line = a.1 ∙ h.2 }))
+
+refused_rules : (held : Option Texts) (text demand_name proof_name : List ℕ) (fault : RulesFault) (r : Result Answer Memory)
+    → IfOk r (λ a. (fault ≢ rules_faults.Memory) × (a.status ≡ 3) × (a.output ≡ fault_line fault)) → (fault ≢ rules_faults.Memory → IsReading text (Err fault))
+    → (status : ℕ) (output : List ℕ) → IsAnswer r status output → RulesAnswers held text demand_name proof_name status output
+refused_rules held text demand_name proof_name fault (Err e) h reading status output a = absurd a
+refused_rules held text demand_name proof_name fault (Ok x) h reading status output a =
+    let s : status ≡ 3 = a.0 ∙ h.1 in
+    rw s (check.RulesAnswers.refused output (record { fault = fault; reading = reading h.0; line = a.1 ∙ h.2 }))
+
+module _ (before after : Seen) (status : ℕ) where
+  pub demand-refused : (g : Grammar) (text name : List ℕ) (fault : DemandFault) (r : Result Answer Memory)
+      → IfOk r (λ a. (fault ≢ demand_faults.Memory) × (a.status ≡ 4) × (a.output ≡ demand.fault_line fault)) → (fault ≢ demand_faults.Memory → instance_of g text ≡ Err fault)
+      → IsReader (IsAnswer r) [] before after status → IsReader (DemandAnswers before.held g text name) (name ∷ []) before after status
+  demand-refused g text name fault r h reading reader =
+      widen (IsAnswer r) (DemandAnswers before.held g text name) (refused_demand before.held g text name fault r h reading) (name ∷ []) [] before after status (no_names before.held (name ∷ [])) reader
+
+  pub demand-accepted : (g : Grammar) (text name : List ℕ) (i : Instance) → instance_of g text ≡ Ok i → IsSoundInstance i
+      → IsReader (AnswersProof before.held i name) (name ∷ []) before after status → IsReader (DemandAnswers before.held g text name) (name ∷ []) before after status
+  demand-accepted g text name i reading sound reader =
+      widen (AnswersProof before.held i name) (DemandAnswers before.held g text name) (λ s o a. check.DemandAnswers.accepted i s o (record { reading = reading; sound = sound }) a) (name ∷ []) (name ∷ []) before after status (λ h. h) reader
+
+  pub rules-refused : (text demand_name proof_name : List ℕ) (fault : RulesFault) (r : Result Answer Memory)
+      → IfOk r (λ a. (fault ≢ rules_faults.Memory) × (a.status ≡ 3) × (a.output ≡ fault_line fault)) → (fault ≢ rules_faults.Memory → IsReading text (Err fault))
+      → IsReader (IsAnswer r) [] before after status → IsReader (RulesAnswers before.held text demand_name proof_name) (demand_name ∷ proof_name ∷ []) before after status
+  rules-refused text demand_name proof_name fault r h reading reader =
+      widen (IsAnswer r) (RulesAnswers before.held text demand_name proof_name) (refused_rules before.held text demand_name proof_name fault r h reading) (demand_name ∷ proof_name ∷ []) [] before after status
+      (no_names before.held (demand_name ∷ proof_name ∷ [])) reader
+
+  pub rules-accepted : (text demand_name proof_name : List ℕ) (g : Grammar) → IsReading text (Ok g) → IsSound g
+      → IsReader (AnswersDemand before.held g demand_name proof_name) (demand_name ∷ proof_name ∷ []) before after status
+      → IsReader (RulesAnswers before.held text demand_name proof_name) (demand_name ∷ proof_name ∷ []) before after status
+  rules-accepted text demand_name proof_name g reading sound reader =
+      widen (AnswersDemand before.held g demand_name proof_name) (RulesAnswers before.held text demand_name proof_name)
+      (λ s o a. check.RulesAnswers.accepted g s o (record { reading = reading; sound = sound }) a) (demand_name ∷ proof_name ∷ []) (demand_name ∷ proof_name ∷ []) before after status (λ h. h) reader
+
+judged' : (i : Instance) (c : Cert) (v : Verdict) → IsVerdict i c v → (output : List ℕ) → output ≡ verdict_text v → Judgement i c (verdict_status v) output
+judged' i c (Yes cost bound) h output text =
+    yes output (record { accepted = h.0; trusted = h.3; lines = text ∙ ap (λ x. verdict_text (Yes x bound)) h.1 ∙ ap (λ x. verdict_text (Yes c.cost x)) h.2 })
+judged' i c (No why) h output text = no output (record { why = why; cause = h; line = text })
+
+-- the answer to a certificate, from its verdict
+pub judged : (i : Instance) (c : Cert) (v : Verdict) (status : ℕ) (output : List ℕ) → IsVerdict i c v → status ≡ verdict_status v → output ≡ verdict_text v → Judgement i c status output
+judged i c v status output h s text = rw s (judged' i c v h output text)
+
+pub proof-accepted : (i : Instance) (text : List ℕ) (c : Cert) (r : Result Answer Memory) → proof_of i text ≡ Ok c → IfOk r (λ a. Judgement i c a.status a.output) → IfOk r (λ a. ProofAnswers i text a.status a.output)
+proof-accepted i text c (Err e) reading h = tt
+proof-accepted i text c (Ok a) reading h = check.ProofAnswers.accepted c a.status a.output reading h
+
+pub proof-refused : (i : Instance) (text : List ℕ) (fault : ProofFault) (r : Result Answer Memory) → (fault ≢ proof_faults.Memory → proof_of i text ≡ Err fault)
+    → IfOk r (λ a. (fault ≢ proof_faults.Memory) × (a.status ≡ 5) × (a.output ≡ proof.fault_line fault)) → IfOk r (λ a. ProofAnswers i text a.status a.output)
+proof-refused i text fault (Err e) reading h = tt
+proof-refused i text fault (Ok a) reading h = rw h.1 (check.ProofAnswers.refused a.output (record { fault = fault; reading = reading h.0; line = h.2 }))

@@ -1,0 +1,168 @@
+ghost use Rattle.std.specs.Prelude.{◌≡◌, ◌≢◌, [], ◌∷◌, IfOk};
+ghost use Rattle.roster_model.specs.Sound.{IsPlain, IsSound};
+ghost use Rattle.roster_model.specs.SoundInstance.{IsSoundInstance};
+ghost use Rattle.certificates.specs.Sound.{IsSoundCert};
+ghost use Rattle.demand_text.specs.FaultLine as demand_fault;
+ghost use Rattle.bound_proof.specs.FaultLine as proof_fault;
+ghost use Rattle.shift_tool.specs.Check.{
+  AnswersCheck,
+  AnswersDemand,
+  AnswersProof,
+  DemandAnswers,
+  Judgement,
+  ProofAnswers,
+  RulesAnswers,
+  verdict_status,
+};
+ghost use Rattle.shift_tool.specs.Seen.{IsReader};
+
+use crate::answer::Answer;
+use crate::explain::refusal;
+use crate::fetch::{fetched, say_answer};
+use bound_proof::{Cert, ProofFault, read_cert};
+use certificates::Verdict;
+use demand_text::{DemandFault, read_demand};
+use proof_check::Bench;
+use roster_model::{Grammar, Instance, Memory};
+use rules_text::read_rules;
+use shelf::Shelf;
+use shift_report::write_verdict;
+use std::alloc::Global;
+
+// Says why a demand text is refused.
+fn demand_refusal(alloc: Global, fault: DemandFault) -> Result<Answer, Memory>
+    ensures { IfOk result (λ a. (fault ≢ DemandFault.Memory) × (a.status ≡ 4) × (a.output ≡ demand_fault.fault_line fault)) }
+{
+    match fault {
+        DemandFault::Memory => Err(Memory),
+        _ => Ok(Answer {
+            status: 4,
+            output: demand_text::fault_line(alloc, &fault)?,
+        }),
+    }
+}
+
+// Says why a proof text is refused.
+fn proof_refusal(alloc: Global, fault: ProofFault) -> Result<Answer, Memory>
+    ensures { IfOk result (λ a. (fault ≢ ProofFault.Memory) × (a.status ≡ 5) × (a.output ≡ proof_fault.fault_line fault)) }
+{
+    match fault {
+        ProofFault::Memory => Err(Memory),
+        _ => Ok(Answer {
+            status: 5,
+            output: bound_proof::fault_line(alloc, &fault)?,
+        }),
+    }
+}
+
+// What is answered to a sound certificate.
+fn verdict(alloc: Global, instance: &Instance, cert: &Cert) -> Result<Answer, Memory>
+    requires sound { IsSoundInstance instance.now }
+    requires cert { IsSoundCert instance.now cert.now }
+    ensures { IfOk result (λ a. Judgement instance.now cert.now a.status a.output) }
+{
+    let mut bench = Bench::for_proof(alloc, instance, cert)?;
+    let verdict = bench.judge(instance, cert);
+    Ok(Answer {
+        status: status_of_verdict(&verdict),
+        output: write_verdict(alloc, &verdict)?,
+    })
+}
+
+// Returns the status of a verdict: 0 for a yes, and 1 for a no.
+fn status_of_verdict(verdict: &Verdict) -> u8
+    ensures { result ≡ verdict_status verdict.now }
+{
+    match verdict {
+        Verdict::Yes { .. } => 0,
+        Verdict::No(_) => 1,
+    }
+}
+
+// What is answered to a proof text.
+fn judgement(alloc: Global, instance: &Instance, text: &[u8]) -> Result<Answer, Memory>
+    requires { IsSoundInstance instance.now }
+    ensures { IfOk result (λ a. ProofAnswers instance.now text.now a.status a.output) }
+{
+    match read_cert(alloc, instance, text) {
+        Ok(cert) => verdict(alloc, instance, &cert),
+        Err(fault) => proof_refusal(alloc, fault),
+    }
+}
+
+// Checks the certificate of the proof text under a name.
+fn check_proof<S: Shelf>(alloc: Global, shelf: &mut S, instance: &Instance, proof: &str) -> u8
+    requires { IsSoundInstance instance.now }
+    ensures { IsReader (AnswersProof (S.held shelf.old) instance.now proof.now) (proof.now ∷ []) (record { held = S.held shelf.old; said = S.said shelf.old; faults = S.faults shelf.old; steady = S.steady shelf.old }) (record { held = S.held shelf.new; said = S.said shelf.new; faults = S.faults shelf.new; steady = S.steady shelf.new }) result }
+{
+    let text = match fetched(alloc, shelf, proof) {
+        Ok(text) => text,
+        Err(status) => return status,
+    };
+    say_answer(shelf, judgement(alloc, instance, text.as_slice()))
+}
+
+// Checks a certificate by a demand text and the proof text under a name.
+fn check_demand_text<S: Shelf>(
+    alloc: Global,
+    shelf: &mut S,
+    grammar: Grammar,
+    text: &[u8],
+    proof: &str,
+) -> u8
+    requires sound { IsSound grammar }
+    requires plain { IsPlain grammar }
+    ensures { IsReader (DemandAnswers (S.held shelf.old) grammar text.now proof.now) (proof.now ∷ []) (record { held = S.held shelf.old; said = S.said shelf.old; faults = S.faults shelf.old; steady = S.steady shelf.old }) (record { held = S.held shelf.new; said = S.said shelf.new; faults = S.faults shelf.new; steady = S.steady shelf.new }) result }
+{
+    match read_demand(alloc, grammar, text) {
+        Ok(instance) => check_proof(alloc, shelf, &instance, proof),
+        Err(fault) => say_answer(shelf, demand_refusal(alloc, fault)),
+    }
+}
+
+// Checks a certificate by the demand and proof texts under names.
+fn check_demand<S: Shelf>(
+    alloc: Global,
+    shelf: &mut S,
+    grammar: Grammar,
+    demand: &str,
+    proof: &str,
+) -> u8
+    requires sound { IsSound grammar }
+    requires plain { IsPlain grammar }
+    ensures { IsReader (AnswersDemand (S.held shelf.old) grammar demand.now proof.now) (demand.now ∷ proof.now ∷ []) (record { held = S.held shelf.old; said = S.said shelf.old; faults = S.faults shelf.old; steady = S.steady shelf.old }) (record { held = S.held shelf.new; said = S.said shelf.new; faults = S.faults shelf.new; steady = S.steady shelf.new }) result }
+{
+    let text = match fetched(alloc, shelf, demand) {
+        Ok(text) => text,
+        Err(status) => return status,
+    };
+    check_demand_text(alloc, shelf, grammar, text.as_slice(), proof)
+}
+
+// Checks a certificate by a rules text and the demand and proof texts under names.
+fn check_rules_text<S: Shelf>(
+    alloc: Global,
+    shelf: &mut S,
+    text: &[u8],
+    demand: &str,
+    proof: &str,
+) -> u8
+    ensures { IsReader (RulesAnswers (S.held shelf.old) text.now demand.now proof.now) (demand.now ∷ proof.now ∷ []) (record { held = S.held shelf.old; said = S.said shelf.old; faults = S.faults shelf.old; steady = S.steady shelf.old }) (record { held = S.held shelf.new; said = S.said shelf.new; faults = S.faults shelf.new; steady = S.steady shelf.new }) result }
+{
+    match read_rules(alloc, text) {
+        Ok(grammar) => check_demand(alloc, shelf, grammar, demand, proof),
+        Err(fault) => say_answer(shelf, refusal(alloc, fault)),
+    }
+}
+
+/// Says whether a certificate is accepted, by the rules, demand and proof texts under names, or why
+/// a text or the certificate is refused. The texts are fetched and read in this order.
+pub fn check<S: Shelf>(alloc: Global, shelf: &mut S, rules: &str, demand: &str, proof: &str) -> u8
+    ensures { IsReader (AnswersCheck (S.held shelf.old) rules.now demand.now proof.now) (rules.now ∷ demand.now ∷ proof.now ∷ []) (record { held = S.held shelf.old; said = S.said shelf.old; faults = S.faults shelf.old; steady = S.steady shelf.old }) (record { held = S.held shelf.new; said = S.said shelf.new; faults = S.faults shelf.new; steady = S.steady shelf.new }) result }
+{
+    let text = match fetched(alloc, shelf, rules) {
+        Ok(text) => text,
+        Err(status) => return status,
+    };
+    check_rules_text(alloc, shelf, text.as_slice(), demand, proof)
+}
