@@ -60,7 +60,10 @@ block_price i cuts k cs ds ms (w ∷ c ∷ vs) s b lt e =
     record {
       whole = one_line_whole i (length cs) (length ds) s b.whole lt long;
       each = each_keeps (price_step k) (Each (Within (2 ^ 80))) (price_keeps k) cs ds vs b.each p.1;
-      few = b.few; mults = b.mults; rising = b.rising; last = b.last;
+      few = b.few;
+      mults = b.mults;
+      rising = b.rising;
+      last = b.last;
     }
 
 get_last : (ms : List Mult) (m : Mult) → slice_get (ms ++ m ∷ []) (length ms) ≡ Some m

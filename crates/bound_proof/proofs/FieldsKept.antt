@@ -96,7 +96,15 @@ arc_is k i r s b l p a e =
     let wp = number_within k 1 96 part.0 p part.1 in
     let key : ArcKey = record { rule = rule.0; suffix = suffix.0; start = start.0; len = len.0; part = part.0 } in
     let is : IsKey i key = record {
-      first_rule = wr.0; last_rule = wr.1; suffix = ws.1; first_start = wb.0; last_start = wb.1; least_len = wl.0; most_len = wl.1; least_part = wp.0; most_part = wp.1;
+      first_rule = wr.0;
+      last_rule = wr.1;
+      suffix = ws.1;
+      first_start = wb.0;
+      last_start = wb.1;
+      least_len = wl.0;
+      most_len = wl.1;
+      least_part = wp.0;
+      most_part = wp.1;
     } in
     subst (IsKey i) (same_ok key a part.2) is
 
@@ -120,7 +128,7 @@ split_of_is k i r s b l p c d h e =
     let count = bind_ok (number_at k 0 63 c) _ _ arc.2 in
     let own = bind_ok (own_at k d) _ _ count.2 in
     subst (IsHead i) (same_ok (Split arc.0 count.0 own.0) h own.2)
-        (arc_is k i r s b l p arc.0 arc.1, (number_within k 0 63 count.0 c count.1).1, own_is k d own.0 own.1)
+    (arc_is k i r s b l p arc.0 arc.1, (number_within k 0 63 count.0 c count.1).1, own_is k d own.0 own.1)
 
 split_is : (k : ℕ) (i : Instance) (n : ℕ) (ws : List (List ℕ)) (h : NodeLine) → split_at k i.groups n ws ≡ Ok h → IsNext i n h
 unfolding split_at
@@ -177,7 +185,11 @@ letters_are i k group word price s some fine number e =
     let paid = bind_ok (number_at k 0 most_cost price) _ _ p.1 in
     let made : Shift = record { group = group; word = word; price = paid.0 } in
     let is : IsSoundShift i made = record {
-      some = some; short = at_least 96 (length word) p.0; bytes = fine; group = number; price = (number_within k 0 most_cost paid.0 price paid.1).1;
+      some = some;
+      short = at_least 96 (length word) p.0;
+      bytes = fine;
+      group = number;
+      price = (number_within k 0 most_cost paid.0 price paid.1).1;
     } in
     subst (IsSoundShift i) (same_ok made s paid.2) is
 

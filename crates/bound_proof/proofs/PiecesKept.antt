@@ -140,15 +140,15 @@ begin_tells : (i : Instance) (p : Place) (c cert : Cert) (h : NodeLine) (go : Go
 begin_tells i p c cert (Split a b None) go known w few s e =
     let nd : Node = of.Split a b None in
     one_node i p (split_read p) c cert nd (go nodes (split_read p)) w refl (λ ns f. split_fills i p a b None ns (λ cuts q. (s.0, s.1, tt)) f)
-        (known nodes (split_read p) (record c { nodes = c.nodes ++ nd ∷ [] }) e (omega arith))
+    (known nodes (split_read p) (record c { nodes = c.nodes ++ nd ∷ [] }) e (omega arith))
 begin_tells i p c cert (Split a b (Some d)) go known w few s e = known (block (Split a b (Some d)) [] []) p c e w few s (block_none i (cut_count i p))
 begin_tells i p c cert (Priced d) go known w few s e = known (block (Priced d) [] []) p c e w few s (block_none i (cut_count i p))
 begin_tells i p c cert Pinned go known w few s e =
     one_node i p (leaf_read p) c cert of.Pinned (go nodes (leaf_read p)) w refl (λ ns f. leaf_fills i p of.Pinned pinned ns refl (λ cuts q. (tt, tt)) f)
-        (known nodes (leaf_read p) (record c { nodes = c.nodes ++ of.Pinned ∷ [] }) e (omega arith))
+    (known nodes (leaf_read p) (record c { nodes = c.nodes ++ of.Pinned ∷ [] }) e (omega arith))
 begin_tells i p c cert Bare go known w few s e =
     one_node i p (leaf_read p) c cert of.Bare (go nodes (leaf_read p)) w refl (λ ns f. leaf_fills i p of.Bare bare ns refl (λ cuts q. (tt, tt)) f)
-        (known nodes (leaf_read p) (record c { nodes = c.nodes ++ of.Bare ∷ [] }) e (omega arith))
+    (known nodes (leaf_read p) (record c { nodes = c.nodes ++ of.Bare ∷ [] }) e (omega arith))
 
 at_node_tells : (i : Instance) (p : Place) (c cert : Cert) (line : TextLine) (go : Go) → Known i cert go → p.nodes ≤ 20001
     → collected c (at_node i p line go) ≡ Ok cert → TellsNodes i p c (at_node i p line go) cert
@@ -184,7 +184,7 @@ block_tells i h cs ms p c cert line go s known w few hd b e =
     by false less r t false m g q =
         let all : length i.cells ≤ length cs = at_least (length cs) (length i.cells) less in
         head_told i p c cert h cs ms (at_node i (node_read h p) line go) w (head_sound i p h cs ms hd b all)
-            (at_node_tells i (node_read h p) (record c { nodes = c.nodes ++ node_of h cs ms ∷ [] }) cert line go known (one_more h) q)
+        (at_node_tells i (node_read h p) (record c { nodes = c.nodes ++ node_of h cs ms ∷ [] }) cert line go known (one_more h) q)
       where
         one_more : (x : NodeLine) → (node_read x p).nodes ≤ 20001
         one_more (Split a b own) = omega arith
@@ -216,8 +216,7 @@ shifts_tell i n p c cert line go fine known none few e = by (is_shift i.groups l
         let is = shift_is line.number i n line.words s fine f h in
         let below : n < 64 = is.0 in
         let t = known (shifts (n + 1)) p (record c { shifts = c.shifts ++ s ∷ [] }) q none (omega arith) in
-        let rest : n + 1 + length t.0.shifts ≤ 64 = t.1 in
-        (
+        let rest : n + 1 + length t.0.shifts ≤ 64 = t.1 in (
           record {
             shifts = s ∷ t.0.shifts;
             told = t.0.told;

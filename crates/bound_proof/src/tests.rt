@@ -184,9 +184,15 @@ fn texts(rt: HostRuntime) -> Result<(), Fail> {
         ("proof 7", "proof: line 1: bad header\n"),
         ("proof 2", "proof: line 1: bad header\n"),
         ("proof 1 1", "proof: line 1: bad header\n"),
-        ("# none\n\nproof 1\n\tcost none # all\r\nbound 0\r\nbare\r\nend\r\n", ""),
+        (
+            "# none\n\nproof 1\n\tcost none # all\r\nbound 0\r\nbare\r\nend\r\n",
+            "",
+        ),
         ("proof 1\ncost 010", "proof: line 2: bad number\n"),
-        ("proof 1\ncost 1099511627777", "proof: line 2: out of range\n"),
+        (
+            "proof 1\ncost 1099511627777",
+            "proof: line 2: out of range\n",
+        ),
         ("proof 1\ncost -1", "proof: line 2: bad number\n"),
         ("proof 1\ncost", "proof: line 2: unknown line\n"),
         ("proof 1\nbound 1", "proof: line 2: unknown line\n"),
@@ -377,10 +383,7 @@ fn demanded_codes_stand_in_order(rt: HostRuntime) -> Result<(), Fail> {
             "priced 1\nprice b 1 2 3\nend",
             "proof: line 6: unknown line\n",
         ),
-        (
-            "priced 1\nprice b 1 2 3\n",
-            "proof: the text ends early\n",
-        ),
+        ("priced 1\nprice b 1 2 3\n", "proof: the text ends early\n"),
     ] {
         let said = tree(rt.alloc(), &instance, "proof 1", lines)?;
         assert_eq!(rt; said.as_slice(), want.as_bytes(), "{lines}");
@@ -441,14 +444,20 @@ fn many_lines(rt: HostRuntime) -> Result<(), Fail> {
     }
     text.push_str("shift a x\n")?;
     let said = answer(rt.alloc(), &instance, text.as_bytes())?;
-    assert_eq!(rt; said.as_slice(), b"proof: line 68: out of range\n".as_slice());
+    assert_eq!(rt;
+        said.as_slice(),
+        b"proof: line 68: out of range\n".as_slice()
+    );
     let mut text = String::from_str(rt.alloc(), "proof 1\ncost 1\nbound 1\nshift ")?;
     for _ in 0..97 {
         text.push('a')?;
     }
     text.push_str(" x\n")?;
     let said = answer(rt.alloc(), &instance, text.as_bytes())?;
-    assert_eq!(rt; said.as_slice(), b"proof: line 4: out of range\n".as_slice());
+    assert_eq!(rt;
+        said.as_slice(),
+        b"proof: line 4: out of range\n".as_slice()
+    );
     Ok(())
 }
 
@@ -519,6 +528,9 @@ fn pieces(rt: HostRuntime) -> Result<(), Fail> {
     assert!(rt; pieces.next(&instance, &mut room).is_none());
     let fault = ProofFault::from(PieceFault::TooLong);
     let said = fault_line(rt.alloc(), &fault)?;
-    assert_eq!(rt; said.as_slice(), b"proof: the text is too long\n".as_slice());
+    assert_eq!(rt;
+        said.as_slice(),
+        b"proof: the text is too long\n".as_slice()
+    );
     Ok(())
 }

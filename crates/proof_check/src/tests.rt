@@ -143,7 +143,13 @@ const fn too_high(said: Option<u64>, shown: Option<u64>) -> Verdict {
 }
 
 /// Judges the certificate of one text, twice at one bench.
-fn judge_text(rt: &impl Abort, alloc: Global, day: &Instance, text: &str, want: Verdict) -> Result<(), Fail>
+fn judge_text(
+    rt: &impl Abort,
+    alloc: Global,
+    day: &Instance,
+    text: &str,
+    want: Verdict,
+) -> Result<(), Fail>
     requires { IsSoundInstance day.now }
 {
     let Ok(cert) = read_cert(alloc, day, text.as_bytes()) else {
