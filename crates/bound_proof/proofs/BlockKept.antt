@@ -70,7 +70,7 @@ get_last : (ms : List Mult) (m : Mult) → slice_get (ms ++ m ∷ []) (length ms
 get_last [] m = refl
 get_last (x ∷ ms) m = get_last ms m
 
-last_is : (ms : List Mult) (m : Mult) → last_cut (ms ++ m ∷ []) ≡ m.cut
+pub last_is : (ms : List Mult) (m : Mult) → last_cut (ms ++ m ∷ []) ≡ m.cut
 last_is ms m =
     let at : length (ms ++ m ∷ []) - 1 ≡ length ms = omega (arith, length-append ms (m ∷ [])) in
     ap (λ (n : ℕ). mult_cut (slice_get (ms ++ m ∷ []) n)) at ∙ ap mult_cut (get_last ms m)

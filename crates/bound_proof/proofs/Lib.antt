@@ -8,3 +8,11 @@ mod FieldsKept
 mod BlockKept
 mod TreeKept
 mod PiecesKept
+mod FieldsAgain
+mod Tails
+mod TreeAgain
+mod CertParts
+mod TextAgain
+mod FineWords
+mod CertAgain
+mod Sizes

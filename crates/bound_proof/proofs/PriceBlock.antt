@@ -46,6 +46,10 @@ line_fits i n s w lt =
     let fits : n + i.grammar.periods ≤ length ds * i.grammar.periods = next_multiple n i.grammar.periods w.lines (length ds) w.made (omega arith) in
     omega arith
 
+-- the cells are those of whole lines
+pub cells_whole : (i : Instance) → IsSoundInstance i → AreWhole i.grammar.periods (length i.cells) (length i.cells)
+cells_whole i s = record { lines = length s.cells.demands; made = ap length s.cells.made ∙ length-all_cells i.grammar s.cells.demands s.cells.each; within = omega arith }
+
 pub one_line_whole : (i : Instance) (n m : ℕ) → IsSoundInstance i → AreWhole i.grammar.periods (length i.cells) n → n < length i.cells → m ≡ n + i.grammar.periods → AreWhole i.grammar.periods (length i.cells) m
 one_line_whole i n m s w lt e =
     let fits = line_fits i n s w lt in

@@ -9,3 +9,4 @@ pub mod PieceList
 pub mod Next
 pub mod CertOf
 pub mod FaultLine
+pub mod Written

@@ -20,8 +20,8 @@ use text_lines::{Line, Words};
 /// A node has at most so many multipliers.
 const MOST_MULTS: usize = 1500;
 
-// The byte of the code whose prices are due behind so many prices.
-fn due_byte(instance: &Instance, prices: usize) -> u8
+/// Returns the byte of the code whose prices are due behind so many prices.
+pub fn due_byte(instance: &Instance, prices: usize) -> u8
     ensures { result ≡ due_byte instance.now prices }
 {
     let code = match instance.cells.as_slice().get(prices) {

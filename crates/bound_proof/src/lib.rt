@@ -42,12 +42,15 @@ mod shift;
 mod stage;
 #[cfg(test)]
 mod tests;
+mod words;
+mod write;
 
 pub use certificates::{Cert, Node};
 pub use fault::{PieceFault, ProofFault};
-pub use laws::accepted_pieces;
+pub use laws::{accepted_pieces, written_again};
 pub use message::fault_line;
 pub use piece::Piece;
 pub use pieces::Pieces;
 pub use read::read_cert;
 pub use room::CertRoom;
+pub use write::write_cert;

@@ -1,20 +1,16 @@
 -- The numbers of base cuts.
-use Rattle.std.proofs.Common.{◌≡◌, ℕ, zero, suc, arith, ◌+◌, ◌-◌, ◌≤◌, ◌<◌, Bool, true, false, cond, All, List, [], ◌∷◌, ◌++◌, length, map, drop, get_or, append_assoc, append-nil, add-one, drop-cons, sym, refl, ap, subst, ◌∙◌}
-use Rattle.std.proofs.lemmas.List.{length-append, length-map}
+use Rattle.std.proofs.Common.{◌≡◌, ℕ, arith, ◌+◌, ◌-◌, ◌≤◌, Bool, true, false, cond, All, List, [], ◌∷◌, length, refl, subst}
 use Rattle.std.proofs.lemmas.List.Elements.{All-nil, All-cons, All-append, All-head, All-tail}
 use Rattle.std.proofs.lemmas.Bool.{ltb-true}
 use Rattle.std.specs.Prelude.{nat_lt}
 use Rattle.roster_model.specs.declared.instance.Side.TheVariants.{Low, High}
 use Rattle.proof_check.specs.Stacks.{AreSmall}
-use Rattle.roster_model.specs.declared.grammar.Grammar.{Grammar}
 use Rattle.roster_model.specs.declared.instance.Cut.{Cut}
 use Rattle.roster_model.specs.declared.instance.Group.{Group}
 use Rattle.roster_model.specs.declared.instance.Instance.{Instance}
 use Rattle.roster_model.specs.Cuts.{group_arc, group_cuts, cuts_from, base_cuts}
-use Rattle.roster_model.specs.Extension.{extended, group_rule}
-use Rattle.roster_model.specs.Folds.{sum_n, Each}
-use Rattle.roster_model.specs.SoundInstance.{IsSoundInstance, HasGroups, IsGroup, IsGroupedBy}
-use Rattle.arc_terms.proofs.Folding.{Each-append}
+use Rattle.roster_model.specs.Folds.{sum_n}
+use Rattle.roster_model.specs.SoundInstance.{IsSoundInstance, HasGroups, IsGroup}
 
 -- the numbers of the base cuts are at most 63
 module _ (i : Instance) (heads : i.heads_max ≤ 64) where

@@ -1,11 +1,9 @@
 -- Splits that are closed.
-use Rattle.std.proofs.Common.{◌≡◌, ℕ, arith, ◌≤◌, min, All, List, [], ◌∷◌, ◌++◌, length, refl}
-use Rattle.std.specs.Option.{option_to_list}
+use Rattle.std.proofs.Common.{◌≡◌, ℕ, arith, ◌≤◌, min, List, [], ◌∷◌, ◌++◌, refl}
 use Rattle.std.proofs.Common.{Some}
 use Rattle.std.proofs.lemmas.List.Elements.{All-nil, All-cons, All-append, All-pop}
 use Rattle.roster_model.specs.declared.instance.Cut.{Cut}
 use Rattle.roster_model.specs.declared.instance.Side.TheVariants.{High}
-use Rattle.certificates.specs.Nodes.{high_cut}
 use Rattle.proof_terms.specs.declared.frame.Frame.{Frame}
 use Rattle.proof_terms.specs.Walk.{path, joined}
 use Rattle.proof_terms.proofs.Steps.{value-high, visits-high}

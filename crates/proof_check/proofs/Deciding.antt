@@ -1,5 +1,5 @@
 -- The verdict on a certificate whose roster is stated rightly, once all its nodes were seen.
-use Rattle.std.proofs.Common.{◌≡◌, ℕ, ◌≤◌, ◌<◌, Option, None, Some, IfSome, List, sym, refl, ap, subst, ◌∙◌}
+use Rattle.std.proofs.Common.{◌≡◌, ℕ, ◌≤◌, ◌<◌, Option, None, Some, IfSome, List, sym, ap, subst, ◌∙◌}
 use Rattle.std.specs.Prelude.{IsSome, unwrap_or}
 use Rattle.roster_model.specs.declared.instance.Instance.{Instance}
 use Rattle.roster_model.specs.declared.instance.Shift.{Shift}

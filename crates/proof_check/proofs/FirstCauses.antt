@@ -1,29 +1,20 @@
 -- The causes in their order: where none of lesser number holds, one that holds is the first.
-use Rattle.std.proofs.Common.{◌≡◌, ℕ, arith, ◌+◌, ◌≤◌, ◌<◌, Option, None, Some, IfSome, List, sym, refl, ap, subst, ◌∙◌}
+use Rattle.std.proofs.Common.{◌≡◌, ℕ, arith, ◌≤◌, ◌<◌, Option, None, Some, IfSome, List, sym, refl, ap, subst, ◌∙◌}
 use Rattle.std.specs.Prelude.{IsSome}
-use Rattle.roster_model.specs.declared.instance.Cell.{Cell}
 use Rattle.roster_model.specs.declared.instance.Instance.{Instance}
 use Rattle.roster_model.specs.declared.instance.Shift.{Shift}
-use Rattle.roster_model.specs.Coverage.{covered, IsWithinCell}
 use Rattle.roster_model.specs.Cuts.{base_cuts}
-use Rattle.roster_model.specs.Folds.{Each}
-use Rattle.roster_model.specs.Rosters.{IsRoster}
-use Rattle.roster_model.specs.SoundInstance.{IsSoundInstance}
 use Rattle.certificates.specs.declared.cert.Cert.{Cert}
-use Rattle.certificates.specs.declared.cert.Node.{Node}
 use Rattle.certificates.specs.declared.why.Why.{Why}
 use Rattle.certificates.specs.declared.why.Why.TheVariants.{NotAShift, ShiftCost, WrongHeads, WrongCost, NotAnArc, EmptyHalf, NotPinned, BoundTooHigh, Outside}
 use Rattle.certificates.specs.Nodes.{Proof, preorder, visits}
-use Rattle.certificates.specs.RosterCauses.{duties, IsFirstNoShift, IsFirstMispriced, IsFirstOutOfRange, IsMiscounted, IsFirstOutside}
-use Rattle.certificates.specs.Sound.{IsSoundCert}
-use Rattle.proof_terms.specs.Accepted.{IsStated, stated_prices, bound_number, IsProved, Accepts}
-use Rattle.proof_terms.specs.Causes.{Cause, cause_number, stated_bound, IsAbove, IsFirstCause}
+use Rattle.certificates.specs.RosterCauses.{IsFirstOutside}
+use Rattle.proof_terms.specs.Accepted.{IsStated, bound_number, Accepts}
+use Rattle.proof_terms.specs.Causes.{Cause, cause_number, stated_bound, IsFirstCause}
 use Rattle.proof_terms.specs.Shown.{Shows}
-use Rattle.proof_terms.proofs.Refused.{no-shift-refused, mispriced-refused, heads-refused, cost-refused, coverage-refused, no-arc-cause, half-cause, pinned-cause, above-cause}
-use Rattle.proof_terms.proofs.Trusted.{yes-is-sound}
+use Rattle.proof_terms.proofs.Refused.{no-shift-refused, mispriced-refused, heads-refused, cost-refused, no-arc-cause, half-cause, pinned-cause, above-cause}
 use Rattle.stated_roster.specs.Faults.{IsRosterCause, HasNoOtherWord, HasNoOtherPrice, HasNoOtherHeads}
-use Rattle.proof_check.specs.declared.walk.Walk.{Walk}
-use Rattle.proof_check.specs.Verdicts.{HasRightRoster, IsCoverageRight, States, IsWalked}
+use Rattle.proof_check.specs.Verdicts.{HasRightRoster, IsCoverageRight, States}
 use Rattle.proof_check.specs.Walked.{AreOnArcs, LeaveBoth, AreTight, IsVisitsCause}
 
 some-cost : {P : ℕ → Type 0} (cost : Option ℕ) → IsSome cost → IfSome cost P → (amount : ℕ) × (cost ≡ Some amount) × P amount

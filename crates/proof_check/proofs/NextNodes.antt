@@ -1,5 +1,5 @@
 -- What the next node does to the open splits.
-use Rattle.std.proofs.Common.{◌≡◌, ℕ, arith, ◌+◌, ◌≤◌, Bool, true, All, Option, None, Some, List, [], ◌∷◌, ◌++◌, length, sym, refl, ap, subst}
+use Rattle.std.proofs.Common.{◌≡◌, ℕ, arith, ◌≤◌, Bool, Option, None, List, ◌∷◌, length, sym, refl, subst}
 use Rattle.std.specs.Prelude.{IsTrue}
 use Rattle.roster_model.specs.declared.grammar.ArcKey.{ArcKey}
 use Rattle.roster_model.specs.declared.instance.Cut.{Cut}

@@ -1,6 +1,6 @@
 -- A walk over the nodes of a tree, one node after another.
 use Rattle.std.proofs.Common.{◌≡◌, ℕ, zero, suc, arith, ◌+◌, ◌≤◌, ◌<◌, Bool, true, Option, None, Some, List, [], ◌∷◌, ◌++◌, length, take, drop, get_or, add-one, drop-cons, sym, refl, ap, subst, ◌∙◌}
-use Rattle.std.specs.Prelude.{IsTrue, IsSome, cond, nat_lt, false}
+use Rattle.std.specs.Prelude.{IsSome, cond, nat_lt, false}
 use Rattle.proof_terms.specs.Causes.{cause_number}
 use Rattle.std.proofs.lemmas.List.{length-append, length-take-le, drop_all, take_all}
 use Rattle.roster_model.specs.declared.instance.Cut.{Cut}
@@ -11,7 +11,7 @@ use Rattle.certificates.specs.declared.cert.Node.{Node}
 use Rattle.certificates.specs.declared.cert.Node.TheVariants.{Split, Priced, Pinned, Bare}
 use Rattle.certificates.specs.declared.why.Why.{Why}
 use Rattle.certificates.specs.Nodes.{Proof, split, priced, pinned, bare, preorder, Visit, visits, low_cut, high_cut}
-use Rattle.certificates.specs.Sound.{IsSoundNode, IsSoundVisit, IsSoundProof}
+use Rattle.certificates.specs.Sound.{IsSoundVisit, IsSoundProof}
 use Rattle.proof_terms.specs.declared.frame.Frame.{Frame}
 use Rattle.proof_terms.specs.Shown.{Shows}
 use Rattle.proof_terms.specs.Walk.{path, LeadsTo, MakeVisits, ValueNext, VisitsNext}
@@ -19,7 +19,7 @@ use Rattle.proof_terms.proofs.Steps.{visits-split, visits-leaf, visits-start, no
 use Rattle.proof_terms.proofs.Unique.{same-proof}
 use Rattle.proof_check.specs.declared.walk.Walk.{Walk}
 use Rattle.proof_check.specs.Stacks.{StackView, AreSmall}
-use Rattle.proof_check.specs.Steps.{way, next_visit, MayFollow, IsShown, IsStep, IsWalking}
+use Rattle.proof_check.specs.Steps.{next_visit, MayFollow, IsStep, IsWalking}
 use Rattle.proof_check.specs.Verdicts.{IsWalked}
 use Rattle.proof_check.specs.Walked.{IsVisitsCause, lesser_cause}
 use Rattle.proof_check.proofs.VisitCauses.{one-more}

@@ -25,6 +25,10 @@ pub record IsBenchFor (i : Instance) (b : Bench) : Type 0 where
   pub balances : HasPlaces i.grammar b.balances
   pub base : b.stack.base ≡ base_cuts i
 
+-- how many nodes a certificate may have that is judged at the bench
+abbrev pub node_room : Bench → ℕ
+node_room b = b.stack.most
+
 -- the cuts on the way to the next node
 abbrev pub way : StackView → List Cut
 way s = path s.base s.splits

@@ -1,10 +1,10 @@
-ghost use Rattle.std.specs.Prelude.{◌≡◌, ◌≤◌, ◌<◌, ◌↔◌, Option, IfOk, IfSome, IsTrue, length};
+ghost use Rattle.std.specs.Prelude.{◌≡◌, ◌≤◌, ◌<◌, Option, IfOk, IfSome, IsTrue, length};
 ghost use Rattle.roster_model.specs.SoundInstance.{IsSoundInstance};
 ghost use Rattle.roster_model.specs.declared.instance.Prices.{Prices as NodePrices};
 ghost use Rattle.certificates.specs.Sound.{AreFit, IsSoundNode};
 ghost use Rattle.node_terms.specs.Priced.{IsPricedValue};
 ghost use Rattle.proof_terms.specs.Walk.{IsLeaf, IsLeafValue, IsOwnValue};
-ghost use Rattle.proof_check.specs.Steps.{IsBenchFor, way, next_visit, MayFollow, IsShown, IsStep};
+ghost use Rattle.proof_check.specs.Steps.{IsBenchFor, node_room, way, next_visit, MayFollow, IsShown, IsStep};
 ghost use Rattle.proof_check.specs.Stacks.{AreSmall};
 ghost use Rattle.proof_check.specs.Views.{prices_of, own_prices, node_of};
 ghost use Rattle.proof_check.specs.Walked.{IsVisitCause};
@@ -22,8 +22,8 @@ use std::alloc::Global;
 /// How many multipliers prices may have.
 const MOST_MULTS: usize = 1500;
 
-/// What judging a certificate needs: a table of sums, a room for prices, and a stack of open splits.
-/// It takes all its memory when it is made.
+/// What judging a certificate needs: a table of sums, rooms for prices and for the counts of pinned
+/// leaves, and a stack of open splits. It takes all its memory when it is made.
 #[derive(Drop)]
 pub struct Bench {
     pub(crate) table: Table,
@@ -42,7 +42,7 @@ impl Bench {
         requires sound { IsSoundInstance instance.now }
         requires few { most ≤ 20001 }
         ensures bench { IfOk result (IsBenchFor instance.now) }
-        ensures most { IfOk result (λ b. b.stack.most ≡ most) }
+        ensures most { IfOk result (λ b. node_room b ≡ most) }
     {
         let mut table = Table::for_instance(alloc, &instance.grammar)?;
         table.reach(&instance.grammar);
@@ -201,7 +201,7 @@ impl Bench {
     /// Sees the next node of a certificate, in preorder. Takes no memory.
     ///
     /// The bench was made for the instance, and the node is sound on its path of cuts.
-    pub fn step(&mut self, instance: &Instance, walk: Walk, node: &NodeView<'_>) -> Walk
+    pub(crate) fn step(&mut self, instance: &Instance, walk: Walk, node: &NodeView<'_>) -> Walk
         requires sound { IsSoundInstance instance.now }
         requires bench { IsBenchFor instance.now self.old }
         requires few { walk.nodes < 20001 }

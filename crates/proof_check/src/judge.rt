@@ -6,7 +6,7 @@ ghost use Rattle.certificates.specs.Nodes.{Proof};
 ghost use Rattle.certificates.specs.Sound.{IsSoundCert, IsSoundProof, IsSoundShift};
 ghost use Rattle.proof_terms.specs.Causes.{IsFirstCause};
 ghost use Rattle.stated_roster.specs.Faults.{IsCoverageCause};
-ghost use Rattle.proof_check.specs.Steps.{IsBenchFor};
+ghost use Rattle.proof_check.specs.Steps.{IsBenchFor, node_room};
 ghost use Rattle.proof_check.specs.Verdicts.{HasRightRoster, IsCoverageRight, States, IsWalked, IsVerdict};
 
 use crate::bench::Bench;
@@ -24,7 +24,7 @@ impl Bench {
         requires sound { IsSoundInstance instance.now }
         requires cert { IsSoundCert instance.now cert.now }
         ensures bench { IfOk result (IsBenchFor instance.now) }
-        ensures most { IfOk result (λ b. b.stack.most ≡ length cert.now.nodes) }
+        ensures room { IfOk result (λ b. node_room b ≡ length cert.now.nodes) }
     {
         Bench::for_nodes(alloc, instance, cert.nodes.len())
     }
@@ -34,10 +34,10 @@ impl Bench {
         requires sound { IsSoundInstance instance.now }
         requires bench { IsBenchFor instance.now self.old }
         requires proof { (p : Proof) × IsSoundProof instance.now nodes.now p }
-        requires room { length nodes.now ≤ self.old.stack.most }
+        requires room { length nodes.now ≤ node_room self.old }
         ensures walked { IsWalked instance.now nodes.now result }
         ensures bench { IsBenchFor instance.now self.new }
-        ensures most { self.new.stack.most ≡ self.old.stack.most }
+        ensures room { node_room self.new ≡ node_room self.old }
     {
         self.stack.clear();
         let mut walk = Walk::new();
@@ -79,10 +79,10 @@ impl Bench {
         requires sound { IsSoundInstance instance.now }
         requires cert { IsSoundCert instance.now cert.now }
         requires bench { IsBenchFor instance.now self.old }
-        requires room { length cert.now.nodes ≤ self.old.stack.most }
+        requires room { length cert.now.nodes ≤ node_room self.old }
         ensures verdict { IsVerdict instance.now cert.now result }
         ensures bench { IsBenchFor instance.now self.new }
-        ensures most { self.new.stack.most ≡ self.old.stack.most }
+        ensures room { node_room self.new ≡ node_room self.old }
     {
         let shifts = cert.shifts.as_slice();
         if let Some(why) = self.roster_cause(instance, cert.cost, shifts) {

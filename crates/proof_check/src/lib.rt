@@ -1,4 +1,8 @@
 //! The checker: whether a certificate is accepted, and why not.
+//!
+//! A certificate states a roster and a bound on the cost of every roster, and proves the bound by a
+//! tree of branch and bound. [`Bench::judge`] looks at its nodes one after another, with a stack of
+//! the splits that are open. It takes no memory, and rests on the definitions alone.
 #![tactic(auto)]
 
 mod base;
@@ -13,5 +17,3 @@ mod walk;
 
 pub use bench::Bench;
 pub use certificates::Verdict;
-pub use node::{NodeView, PricesView, view_node, view_prices};
-pub use walk::Walk;

@@ -1,4 +1,4 @@
-ghost use Rattle.std.specs.Prelude.{◌≡◌, option_map};
+ghost use Rattle.std.specs.Prelude.{◌≡◌};
 ghost use Rattle.proof_check.specs.Views.{prices_of, node_of};
 
 use certificates::Node;
@@ -6,7 +6,7 @@ use roster_model::{ArcKey, Mult, Prices};
 
 /// The prices of a node in parts that stand elsewhere.
 #[derive(Clone, Copy, Debug, Drop)]
-pub struct PricesView<'a> {
+pub(crate) struct PricesView<'a> {
     /// The denominator, 1 to 2^30.
     pub d: u64,
     /// The price of each cell in units of `1 / d`, within plus or minus 2^80.
@@ -17,7 +17,7 @@ pub struct PricesView<'a> {
 
 /// A node of a certificate whose prices stand elsewhere.
 #[derive(Clone, Copy, Debug, Drop)]
-pub enum NodeView<'a> {
+pub(crate) enum NodeView<'a> {
     /// A split.
     Split {
         arc: ArcKey,
@@ -36,7 +36,7 @@ pub enum NodeView<'a> {
 }
 
 /// Returns the parts of prices.
-pub fn view_prices(prices: &Prices) -> PricesView<'_>
+fn view_prices(prices: &Prices) -> PricesView<'_>
     ensures { prices_of result ≡ prices.now }
 {
     PricesView {
@@ -47,7 +47,7 @@ pub fn view_prices(prices: &Prices) -> PricesView<'_>
 }
 
 /// Returns the node with its prices in parts.
-pub fn view_node(node: &Node) -> NodeView<'_>
+pub(crate) fn view_node(node: &Node) -> NodeView<'_>
     ensures { node_of result ≡ node.now }
 {
     match node {

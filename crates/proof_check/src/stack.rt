@@ -94,13 +94,6 @@ impl Stack {
         self.path.as_slice()
     }
 
-    /// Returns how many splits are open.
-    pub(crate) fn depth(&self) -> usize
-        ensures { result ≡ length self.now.splits }
-    {
-        self.frames.len()
-    }
-
     // Opens a half. Takes no memory.
     fn push(&mut self, frame: Frame)
         requires { length self.old.splits < self.old.most }

@@ -403,13 +403,19 @@ fn ten_thousand_splits(rt: HostRuntime) -> Result<(), Fail> {
     judge_all(&rt, alloc, &parts, &[(text.as_str(), want)])
 }
 
-#[test]
-fn floors_and_ceilings(rt: HostRuntime) -> Result<(), Fail> {
-    let floors = [1, 2, 3].map(|period| Cell {
+/// Three periods of at least one employee, and at most so many.
+fn at_least_one(ceiling: u32) -> [Cell; 3] {
+    [1, 2, 3].map(|period| Cell {
         period,
         floor: 1,
+        ceiling,
         ..CELL
-    });
+    })
+}
+
+#[test]
+fn floors_and_ceilings(rt: HostRuntime) -> Result<(), Fail> {
+    let floors = at_least_one(64);
     let parts = Parts {
         periods: 3,
         names: &["S"],
@@ -427,7 +433,7 @@ fn floors_and_ceilings(rt: HostRuntime) -> Result<(), Fail> {
         },
     );
     judge_all(&rt, rt.alloc(), &parts, &[case])?;
-    let both = floors.map(|cell| Cell { ceiling: 1, ..cell });
+    let both = at_least_one(1);
     let cases = [
         (
             "proof 1\ncost 4\nbound 0\nshift .aa 2\nshift aa. 2\nbare\nend\n",

@@ -6,7 +6,7 @@ use certificates::Why;
 
 /// Where a walk over the nodes of a certificate stands.
 #[derive(Clone, Copy, Debug, Drop)]
-pub struct Walk {
+pub(crate) struct Walk {
     /// How many nodes were seen.
     pub nodes: u32,
     /// What the whole tree shows, once it was seen.
@@ -17,7 +17,7 @@ pub struct Walk {
 
 impl Walk {
     /// Returns a walk that has seen no node.
-    pub fn new() -> Walk
+    pub(crate) fn new() -> Walk
         ensures { result ≡ record { nodes = 0; shown = None; why = None } }
     {
         Walk {

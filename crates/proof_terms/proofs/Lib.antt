@@ -4,3 +4,4 @@ pub mod ShownBound
 pub mod Trusted
 pub mod Refused
 pub mod Steps
+pub mod OneCause

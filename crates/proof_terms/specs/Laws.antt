@@ -11,7 +11,7 @@ use Rattle.certificates.specs.Sound.{IsSoundCert}
 use Rattle.proof_terms.specs.Shown.{Shows}
 use Rattle.proof_terms.specs.Accepted.{Accepts}
 use Rattle.proof_terms.specs.Trusted.{IsTrusted}
-use Rattle.proof_terms.specs.Causes.{Cause}
+use Rattle.proof_terms.specs.Causes.{Cause, IsFirstCause}
 
 -- what an accepted certificate states is true
 abbrev pub YesIsSound : Type 0
@@ -28,3 +28,7 @@ OneShownValue = (i : Instance) (cuts : List Cut) (t : Proof) (v w : ℕ) → Sho
 -- no cause holds of an accepted certificate
 abbrev pub CausesRefuse : Type 0
 CausesRefuse = (i : Instance) (c : Cert) (why : Why) → Cause i c why → Accepts i c → ⊥
+
+-- a certificate has one first cause to be refused
+abbrev pub OneFirstCause : Type 0
+OneFirstCause = (i : Instance) (c : Cert) (v w : Why) → IsFirstCause i c v → IsFirstCause i c w → v ≡ w

@@ -1,4 +1,4 @@
-ghost use Rattle.proof_terms.specs.Laws.{YesIsSound, OneProof, OneShownValue, CausesRefuse};
+ghost use Rattle.proof_terms.specs.Laws.{YesIsSound, OneProof, OneShownValue, CausesRefuse, OneFirstCause};
 ghost use Rattle.proof_terms.specs.Worked.{WorkedNodes};
 
 /// A yes is sound: the stated words of an accepted certificate are an allowed roster of exactly the
@@ -21,6 +21,11 @@ pub fn one_shown_value()
 /// A certificate that is accepted has no cause to be refused.
 pub fn causes_refuse()
     ensures { CausesRefuse }
+{}
+
+/// A certificate has one first cause to be refused, with the values that it names.
+pub fn one_first_cause()
+    ensures { OneFirstCause }
 {}
 
 /// Splits of nodes with prices and the paths of a day of two groups, computed: a split shows the

@@ -10,4 +10,6 @@ mod frame;
 mod laws;
 
 pub use frame::Frame;
-pub use laws::{causes_refuse, one_proof, one_shown_value, worked_nodes, yes_is_sound};
+pub use laws::{
+    causes_refuse, one_first_cause, one_proof, one_shown_value, worked_nodes, yes_is_sound,
+};

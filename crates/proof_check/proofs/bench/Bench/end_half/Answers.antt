@@ -1,4 +1,4 @@
-use Rattle.std.proofs.Common.{sym, subst, ◌≡◌}
+use Rattle.std.proofs.Common.{sym, subst}
 use Rattle.proof_terms.specs.Walk.{IsLeafValue}
 use Rattle.proof_check.specs.Stacks.{StackView}
 use Rattle.proof_check.specs.Steps.{way, MayFollow, IsShown}

@@ -1,4 +1,4 @@
-use Rattle.std.proofs.Common.{ap, ◌∙◌, ◌∷◌, ◌≡◌}
+use Rattle.std.proofs.Common.{ap, ◌∙◌, ◌∷◌}
 use Rattle.certificates.specs.Nodes.{low_cut}
 use Rattle.proof_check.specs.Stacks.{StackView}
 use Rattle.proof_check.specs.Views.{own_prices}

@@ -1,4 +1,4 @@
-use Rattle.std.proofs.Common.{Option, None, Some, List, ℕ, ◌≡◌, sym, subst, IfSome}
+use Rattle.std.proofs.Common.{Option, None, Some, List, ℕ, sym, subst}
 use Rattle.std.specs.Prelude.{MatchOption}
 use Rattle.roster_model.specs.declared.instance.Instance.{Instance}
 use Rattle.roster_model.specs.declared.instance.Shift.{Shift}

@@ -1,5 +1,4 @@
-use Rattle.std.proofs.Common.{min, ap, sym, subst, refl, ◌∙◌, ◌≡◌, ◌∷◌, ℕ}
-use Rattle.roster_model.specs.declared.instance.Cut.{Cut}
+use Rattle.std.proofs.Common.{ap, sym, subst, ◌∙◌, ◌≡◌, ℕ}
 use Rattle.proof_terms.specs.declared.frame.Frame.{Frame}
 use Rattle.proof_terms.specs.Walk.{path, joined}
 use Rattle.proof_check.specs.Stacks.{StackView, AreSmall, IsClosing}

@@ -1,4 +1,4 @@
-use Rattle.std.proofs.Common.{arith, length, vec_len, ◌≡◌}
+use Rattle.std.proofs.Common.{arith}
 use Rattle.std.proofs.lemmas.List.{length-reverse}
 use Rattle.proof_check.proofs.Paths.{path-long}
 use Rattle.proof_check.proofs.stack.Stack.push.Goals as goal

@@ -1,0 +1,39 @@
+-- The nodes of a sound certificate have a price for each cell.
+use Rattle.std.proofs.Common.{◌≡◌, List, [], ◌∷◌, ◌++◌, length, Some, None, subst}
+use Rattle.std.specs.Prelude.{All}
+use Rattle.std.proofs.lemmas.List.Elements.{All-nil, All-cons}
+use Rattle.roster_model.specs.declared.instance.Cut.{Cut}
+use Rattle.roster_model.specs.declared.instance.Instance.{Instance}
+use Rattle.roster_model.specs.Cuts.{base_cuts}
+use Rattle.roster_model.specs.Folds.{Each}
+use Rattle.certificates.specs.declared.cert.Cert.{Cert}
+use Rattle.certificates.specs.declared.cert.Node.{Node}
+use Rattle.certificates.specs.declared.cert.Node.TheVariants.{Split, Priced, Pinned, Bare}
+use Rattle.certificates.specs.Nodes.{Proof, split, priced, pinned, bare, preorder, low_cut, high_cut, visits}
+use Rattle.certificates.specs.Sound.{IsSoundNode, IsSoundVisit, IsSoundCert}
+use Rattle.bound_proof.specs.Written.{HasPrices}
+use Rattle.bound_proof.proofs.Inversions.{Each-append}
+use Rattle.bound_proof.proofs.TreeAgain.{each_parts}
+
+has_prices : (i : Instance) (cuts : List Cut) (x : Node) → IsSoundNode i cuts x → HasPrices i x
+has_prices i cuts (Split a b None) s = tt
+has_prices i cuts (Split a b (Some p)) s = s.2.cells
+has_prices i cuts (Priced p) s = s.cells
+has_prices i cuts Pinned s = tt
+has_prices i cuts Bare s = tt
+
+tree_prices : (i : Instance) (cuts : List Cut) (t : Proof) → Each (IsSoundVisit i) (visits cuts t) → Each (HasPrices i) (preorder t)
+tree_prices i cuts (split a b own low high) s =
+    let parts = each_parts (IsSoundVisit i) (visits (cuts ++ low_cut a b ∷ []) low) (visits (cuts ++ high_cut a b ∷ []) high) s.1 in
+    (has_prices i cuts (Split a b own) s.0, Each-append (HasPrices i) (preorder low) (preorder high) (tree_prices i (cuts ++ low_cut a b ∷ []) low parts.0) (tree_prices i (cuts ++ high_cut a b ∷ []) high parts.1))
+tree_prices i cuts (priced p) s = (has_prices i cuts (Priced p) s.0, tt)
+tree_prices i cuts pinned s = (tt, tt)
+tree_prices i cuts bare s = (tt, tt)
+
+all_from : {A : Type 0} (P : A → Type 0) (xs : List A) → Each P xs → All P xs
+all_from P [] h = All-nil P
+all_from P (x ∷ xs) h = All-cons P x xs h.0 (all_from P xs h.1)
+
+pub all_prices : (i : Instance) (c : Cert) → IsSoundCert i c → All (HasPrices i) c.nodes
+all_prices i c s =
+    subst (All (HasPrices i)) s.nodes.whole (all_from (HasPrices i) (preorder s.proof) (tree_prices i (base_cuts i) s.proof s.nodes.each))
