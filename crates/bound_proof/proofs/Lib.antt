@@ -16,3 +16,5 @@ mod TextAgain
 mod FineWords
 mod CertAgain
 mod Sizes
+mod RefusedPieces
+mod SoundPieces

@@ -99,7 +99,7 @@ one_node i p q c cert n rest w e grow t = record {
 }
 
 -- a node with a whole price block, or a node without one, is sound
-head_sound : (i : Instance) (p : Place) (h : NodeLine) (cs : List ℤ) (ms : List Mult) → IsHead i h → Block i (cut_count i p) cs ms → length i.cells ≤ length cs → SoundNode i (length p.halves) (node_of h cs ms)
+pub head_sound : (i : Instance) (p : Place) (h : NodeLine) (cs : List ℤ) (ms : List Mult) → IsHead i h → Block i (cut_count i p) cs ms → length i.cells ≤ length cs → SoundNode i (length p.halves) (node_of h cs ms)
 head_sound i p (Split a b None) cs ms s k all = λ cuts e. (s.0, s.1, tt)
 head_sound i p (Split a b (Some d)) cs ms s k all = λ cuts e. (s.0, s.1, block_fits i cuts (cut_count i p) d cs ms e k all s.2)
 head_sound i p (Priced d) cs ms s k all = λ cuts e. block_fits i cuts (cut_count i p) d cs ms e k all s

@@ -10,3 +10,4 @@ pub mod Next
 pub mod CertOf
 pub mod FaultLine
 pub mod Written
+pub mod Refused

@@ -1,11 +1,17 @@
-ghost use Rattle.std.specs.Prelude.{ℕ, ◌≡◌, ◌≤◌, List, Ok, length};
+ghost use Rattle.std.specs.Prelude.{ℕ, ◌≡◌, ◌≤◌, ◌+◌, Bool, List, ◌∷◌, Ok, Err, length};
 ghost use Rattle.roster_model.specs.Folds.{Each};
 ghost use Rattle.roster_model.specs.declared.instance.Instance.{Instance};
+ghost use Rattle.roster_model.specs.declared.instance.Cut.{Cut};
+ghost use Rattle.roster_model.specs.Cuts.{base_cuts};
 ghost use Rattle.roster_model.specs.SoundInstance.{IsSoundInstance};
 ghost use Rattle.certificates.specs.declared.cert.Cert.{Cert};
-ghost use Rattle.certificates.specs.Sound.{IsSoundCert};
+ghost use Rattle.certificates.specs.declared.cert.Node.{Node};
+ghost use Rattle.certificates.specs.Sound.{IsSoundCert, IsSoundNode};
+ghost use Rattle.bound_proof.specs.declared.fault.ProofFault.{ProofFault};
 ghost use Rattle.bound_proof.specs.CertOf.{proof_of, cert_pieces};
-ghost use Rattle.bound_proof.specs.PieceList.{pieces_of};
+ghost use Rattle.bound_proof.specs.PieceList.{Given, Reader, pieces_left, pieces_of};
+ghost use Rattle.bound_proof.specs.Refused.{TellsFault};
+ghost use Rattle.bound_proof.specs.Told.{node};
 ghost use Rattle.bound_proof.specs.Written.{NoneIsZero, cert_text};
 
 /// States a law: where a text says a certificate, its pieces are the certificate's cost, bound,
@@ -13,6 +19,18 @@ ghost use Rattle.bound_proof.specs.Written.{NoneIsZero, cert_text};
 pub fn accepted_pieces()
     ensures pieces { (i : Instance) (text : List ℕ) (c : Cert) → IsSoundInstance i → proof_of i text ≡ Ok c → pieces_of i text ≡ cert_pieces c }
     ensures sound { (i : Instance) (text : List ℕ) (c : Cert) → IsSoundInstance i → proof_of i text ≡ Ok c → IsSoundCert i c }
+{}
+
+/// States a law: where a text is refused, its pieces have no end, and the last of them is the fault.
+pub fn refused_pieces()
+    ensures { (i : Instance) (text : List ℕ) (e : ProofFault) → proof_of i text ≡ Err e → TellsFault (pieces_of i text) e }
+{}
+
+/// States a law: each node that a reader gives is sound for every path with as many cuts as there are
+/// base cuts and open splits, also where the text is refused later.
+pub fn sound_pieces()
+    ensures { (i : Instance) (r : Reader) (halves : List Bool) (x : Node) (rest : Given) → IsSoundInstance i → pieces_left i r halves ≡ Ok (node x) ∷ rest
+        → (cuts : List Cut) → length cuts ≡ length (base_cuts i) + length halves → IsSoundNode i cuts x }
 {}
 
 /// States a law: the text that is written of a sound certificate is read as that certificate, where
