@@ -7,7 +7,8 @@ mod FineItems
 mod FieldsKept
 mod BlockKept
 mod TreeKept
-mod PiecesKept
+pub mod PiecesKept
+pub mod ToldKept
 mod FieldsAgain
 mod Tails
 mod TreeAgain

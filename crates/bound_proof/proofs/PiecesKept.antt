@@ -29,11 +29,12 @@ use Rattle.bound_proof.specs.PriceLines.{price_line, is_mult, mult_line}
 use Rattle.bound_proof.specs.ShiftLines.{is_header, amount_line, is_shift, shift_at}
 use Rattle.bound_proof.specs.PieceList.{Given, Place, no_place, wants, leaf_read, split_read, node_read, cut_count, node_of, Spot, too_long, start, costs, bounds, shifts, nodes, block, ended, over, after, begin, is_end, at_node, in_block, at_line, at_end, at_bad, after_bound, spot_of, Reader, pieces_from, pieces_left, pieces_of}
 use Rattle.bound_proof.specs.Told.{Told, cost, bound, shift, node, done}
+use Rattle.bound_proof.specs.ToldSound.{SoundNode}
 use Rattle.bound_proof.proofs.BlockKept.{Block, block_none, block_price, block_mult, block_fits}
 use Rattle.bound_proof.proofs.FieldsKept.{IsHead, node_is, shift_is, amount_line_within}
 use Rattle.bound_proof.proofs.FineItems.{AreFine, IsFine, text_fine}
 use Rattle.bound_proof.proofs.Inversions.{at_least}
-use Rattle.bound_proof.proofs.TreeKept.{SoundNode, SoundTree, Wanted, Fills, leaf_fills, split_fills, whole_proof}
+use Rattle.bound_proof.proofs.TreeKept.{SoundTree, Wanted, Fills, leaf_fills, split_fills, whole_proof}
 
 -- the nodes that are told where the tree is read so far
 pub record TellsNodes (i : Instance) (p : Place) (c : Cert) (given : Given) (cert : Cert) : Type 0 where

@@ -28,7 +28,7 @@ use Rattle.bound_proof.proofs.BlockKept.{Block, block_none, block_price, block_m
 use Rattle.bound_proof.proofs.FieldsKept.{IsHead, node_is}
 use Rattle.bound_proof.proofs.Inversions.{at_least}
 use Rattle.bound_proof.proofs.PiecesKept.{head_sound}
-use Rattle.bound_proof.proofs.TreeKept.{SoundNode}
+use Rattle.bound_proof.specs.ToldSound.{SoundNode}
 
 -- what is known of a node that is told first from each spot on
 abbrev First : Instance → Spot → Place → Node → Type 0

@@ -11,13 +11,10 @@ use Rattle.roster_model.specs.Folds.{Each}
 use Rattle.certificates.specs.declared.cert.Node.{Node}
 use Rattle.certificates.specs.declared.cert.Node.TheVariants.{Split, Priced, Pinned, Bare}
 use Rattle.certificates.specs.Nodes.{Proof, split, preorder, low_cut, high_cut, Visit, visits}
-use Rattle.certificates.specs.Sound.{IsSoundNode, IsSoundVisit, IsSoundProof}
+use Rattle.certificates.specs.Sound.{IsSoundVisit, IsSoundProof}
 use Rattle.bound_proof.specs.PieceList.{Place, no_place, wants, after_leaf, leaf_read, split_read}
+use Rattle.bound_proof.specs.ToldSound.{SoundNode}
 use Rattle.bound_proof.proofs.Inversions.{Each-append}
-
--- a node at the depth n is sound
-abbrev pub SoundNode : Instance → ℕ → Node → Type 0
-SoundNode i n node = (cuts : List Cut) → length cuts ≡ length (base_cuts i) + n → IsSoundNode i cuts node
 
 -- a tree at the depth n is sound
 abbrev pub SoundTree : Instance → ℕ → Proof → Type 0

@@ -6,6 +6,7 @@ pub mod ShiftLines
 pub mod PriceLines
 pub mod Told
 pub mod PieceList
+pub mod ToldSound
 pub mod Next
 pub mod CertOf
 pub mod FaultLine

@@ -9,9 +9,10 @@ ghost use Rattle.certificates.specs.declared.cert.Node.{Node};
 ghost use Rattle.certificates.specs.Sound.{IsSoundCert, IsSoundNode};
 ghost use Rattle.bound_proof.specs.declared.fault.ProofFault.{ProofFault};
 ghost use Rattle.bound_proof.specs.CertOf.{proof_of, cert_pieces};
-ghost use Rattle.bound_proof.specs.PieceList.{Given, Reader, pieces_left, pieces_of};
+ghost use Rattle.bound_proof.specs.PieceList.{Given, Reader, no_place, pieces_left, pieces_of};
 ghost use Rattle.bound_proof.specs.Refused.{TellsFault};
 ghost use Rattle.bound_proof.specs.Told.{node};
+ghost use Rattle.bound_proof.specs.ToldSound.{AreToldSound};
 ghost use Rattle.bound_proof.specs.Written.{NoneIsZero, cert_text};
 
 /// States a law: where a text says a certificate, its pieces are the certificate's cost, bound,
@@ -31,6 +32,13 @@ pub fn refused_pieces()
 pub fn sound_pieces()
     ensures { (i : Instance) (r : Reader) (halves : List Bool) (x : Node) (rest : Given) → IsSoundInstance i → pieces_left i r halves ≡ Ok (node x) ∷ rest
         → (cuts : List Cut) → length cuts ≡ length (base_cuts i) + length halves → IsSoundNode i cuts x }
+{}
+
+/// States a law, of texts that end well and of others: each shift that a text tells is sound and one
+/// of 64, and each node is due in the tree, one of 20,001, and sound on each path with as many cuts
+/// as splits are open.
+pub fn told_pieces_are_sound()
+    ensures { (i : Instance) (text : List ℕ) → IsSoundInstance i → AreToldSound i 0 no_place (pieces_of i text) }
 {}
 
 /// States a law: the text that is written of a sound certificate is read as that certificate, where

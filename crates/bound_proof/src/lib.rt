@@ -47,7 +47,9 @@ mod write;
 
 pub use certificates::{Cert, Node};
 pub use fault::{PieceFault, ProofFault};
-pub use laws::{accepted_pieces, refused_pieces, sound_pieces, written_again};
+pub use laws::{
+    accepted_pieces, refused_pieces, sound_pieces, told_pieces_are_sound, written_again,
+};
 pub use message::fault_line;
 pub use piece::Piece;
 pub use pieces::Pieces;

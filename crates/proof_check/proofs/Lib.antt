@@ -7,3 +7,4 @@ pub mod NextNodes
 pub mod FirstCauses
 pub mod Walking
 pub mod Deciding
+pub mod Judging

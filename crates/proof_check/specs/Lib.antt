@@ -3,3 +3,5 @@ pub mod Views
 pub mod Walked
 pub mod Steps
 pub mod Verdicts
+pub mod KeptShifts
+pub mod Judging

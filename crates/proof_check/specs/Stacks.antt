@@ -1,14 +1,17 @@
 -- Stacks of open splits.
-use Rattle.std.specs.Prelude.{ℕ, ◌≡◌, ◌+◌, ◌*◌, ◌≤◌, List, ◌++◌, All, length, take, drop, reverse, vec_len, vec_capacity}
+use Rattle.std.specs.Prelude.{ℕ, ◌≡◌, ◌+◌, ◌*◌, ◌≤◌, Bool, true, false, List, [], ◌∷◌, ◌++◌, All, length, take, drop, reverse, vec_len, vec_capacity}
 use Rattle.std.specs.Global.{Vec}
 use Rattle.roster_model.specs.declared.instance.Group.{Group}
 use Rattle.roster_model.specs.Cuts.{cuts_from}
 use Rattle.roster_model.specs.declared.instance.Cut.{Cut}
+use Rattle.roster_model.specs.declared.instance.Side.{Side}
+use Rattle.roster_model.specs.declared.instance.Side.TheVariants.{Low, High}
 use Rattle.proof_terms.specs.declared.frame.Frame.{Frame}
 use Rattle.roster_model.specs.declared.instance.Instance.{Instance}
 use Rattle.certificates.specs.declared.cert.Node.{Node}
 use Rattle.certificates.specs.Nodes.{Visit}
 use Rattle.proof_terms.specs.Walk.{path, ValueAfter, VisitsAfter}
+use Rattle.bound_proof.specs.PieceList.{after_leaf}
 
 -- the cuts with which each path begins, the open splits, of which the innermost is the first, and how
 -- many there may be
@@ -16,6 +19,15 @@ pub record StackView : Type 0 where
   pub base : List Cut
   pub splits : List Frame
   pub most : ℕ
+
+abbrev pub is_high : Side → Bool
+is_high Low = false
+is_high High = true
+
+-- for each open split, the innermost first, whether its High half is being seen
+abbrev pub halves_of : List Frame → List Bool
+halves_of [] = []
+halves_of (f ∷ st) = is_high f.cut.side ∷ halves_of st
 
 -- the path is the base and the cuts of the frames, and there is room for both
 pub record IsStack (base most : ℕ) (frames : List Frame) (path_cuts : List Cut) (frame_room cut_room : ℕ) : Type 0 where
@@ -34,6 +46,7 @@ pub record IsClosing (old : StackView) (value : ℕ) (now : StackView) (shown : 
   pub base : now.base ≡ old.base
   pub most : now.most ≡ old.most
   pub fewer : length now.splits ≤ length old.splits
+  pub halves : after_leaf (halves_of now.splits) ≡ after_leaf (halves_of old.splits)
   pub small : AreSmall (path old.base old.splits) → AreSmall (path old.base now.splits)
   pub values : (i : Instance) (rest : List Node) (v : ℕ) → ValueAfter i old.base now.splits shown rest v → ValueAfter i old.base old.splits value rest v
   pub visits : (rest : List Node) (vs : List Visit) → VisitsAfter old.base old.splits rest vs → VisitsAfter old.base now.splits rest vs

@@ -1,10 +1,11 @@
 -- Steps of a walk over the nodes of a certificate.
-use Rattle.std.specs.Prelude.{ℕ, ◌≡◌, ◌+◌, ◌≤◌, ◌<◌, Bool, Option, None, List, [], ◌∷◌, take, drop, length, IsTrue}
+use Rattle.std.specs.Prelude.{ℕ, ◌≡◌, ◌+◌, ◌≤◌, ◌<◌, Bool, false, Option, None, List, [], ◌∷◌, take, drop, length, IsTrue}
 use Rattle.roster_model.specs.declared.instance.Cut.{Cut}
 use Rattle.roster_model.specs.declared.instance.Instance.{Instance}
 use Rattle.roster_model.specs.Cuts.{base_cuts}
 use Rattle.roster_model.specs.PriceRooms.{IsRoomFor}
 use Rattle.certificates.specs.declared.cert.Node.{Node}
+use Rattle.certificates.specs.declared.cert.Node.TheVariants.{Split, Priced, Pinned, Bare}
 use Rattle.certificates.specs.declared.why.Why.{Why}
 use Rattle.certificates.specs.Nodes.{Proof, preorder, Visit, visits}
 use Rattle.certificates.specs.Sound.{IsSoundNode}
@@ -13,7 +14,8 @@ use Rattle.pinned_value.specs.Rooms.{IsRoomFor as HasPlaces}
 use Rattle.span_table.specs.Tables.{IsMadeFor, IsReached}
 use Rattle.proof_check.specs.declared.bench.Bench.{Bench}
 use Rattle.proof_check.specs.declared.walk.Walk.{Walk}
-use Rattle.proof_check.specs.Stacks.{StackView, AreSmall}
+use Rattle.bound_proof.specs.PieceList.{after_leaf}
+use Rattle.proof_check.specs.Stacks.{StackView, AreSmall, halves_of}
 use Rattle.proof_check.specs.Walked.{IsVisitCause, IsVisitsCause, lesser_cause}
 
 -- the bench was made for the instance
@@ -43,6 +45,14 @@ pub record MayFollow (i : Instance) (s : StackView) (node : Node) : Type 0 where
   pub small : AreSmall (way s)
   pub sound : IsSoundNode i (way s) node
 
+-- the halves that are open after a node: a split opens its Low half, and a leaf ends the halves of
+-- which it is the last node
+abbrev pub halves_after : Node → List Bool → List Bool
+halves_after (Split a b own) halves = false ∷ halves
+halves_after (Priced p) halves = after_leaf halves
+halves_after Pinned halves = after_leaf halves
+halves_after Bare halves = after_leaf halves
+
 -- What a node does to the open splits. It opens one, or ends the innermost half. What the nodes to come
 -- lead to then, they lead to with it before them, where it is right; and it makes the first of the
 -- visits that it and they make.
@@ -50,6 +60,7 @@ pub record IsShown (i : Instance) (old : StackView) (node : Node) (is_right : Bo
   pub base : new.base ≡ old.base
   pub most : new.most ≡ old.most
   pub deeper : length new.splits ≤ length old.splits + 1
+  pub halves : halves_of new.splits ≡ halves_after node (halves_of old.splits)
   pub small : AreSmall (way new)
   pub values : IsTrue is_right → (rest : List Node) (v : ℕ) → ValueNext i old.base shown new.splits rest v → LeadsTo i old.base old.splits (node ∷ rest) v
   pub visits : (rest : List Node) (vs : List Visit) → MakeVisits old.base old.splits (node ∷ rest) vs

@@ -48,7 +48,7 @@ impl Bench {
     }
 
     // Returns the first cause on a stated roster, if there is one. Takes no memory.
-    fn roster_cause(
+    pub(crate) fn roster_cause(
         &mut self,
         instance: &Instance,
         cost: Option<u64>,
@@ -108,7 +108,7 @@ fn coverage_cause(instance: &Instance, cost: Option<u64>, shifts: &[Shift]) -> O
 
 // Returns the verdict on a certificate whose roster is stated rightly, if it has one, once all its
 // nodes were seen.
-fn decided(
+pub(crate) fn decided(
     instance: &Instance,
     cost: Option<u64>,
     bound: Option<u64>,

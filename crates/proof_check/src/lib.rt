@@ -3,17 +3,24 @@
 //! A certificate states a roster and a bound on the cost of every roster, and proves the bound by a
 //! tree of branch and bound. [`Bench::judge`] looks at its nodes one after another, with a stack of
 //! the splits that are open. It takes no memory, and rests on the definitions alone.
+//! [`Bench::judge_text`] judges a text piece by piece in the same way, and holds no list of nodes.
 #![tactic(auto)]
 
 mod base;
 mod bench;
 mod judge;
+mod judged;
 mod node;
+mod seen;
+mod shift_room;
 mod stack;
 #[cfg(test)]
 mod tests;
+mod text;
 mod verdict;
 mod walk;
 
 pub use bench::Bench;
 pub use certificates::Verdict;
+pub use judged::Judged;
+pub use shift_room::ShiftRoom;

@@ -6,7 +6,8 @@ ghost use Rattle.roster_model.specs.Cuts.{base_cuts};
 ghost use Rattle.roster_model.specs.SoundInstance.{IsSoundInstance};
 ghost use Rattle.proof_terms.specs.declared.frame.Frame.{Frame as OpenSplit};
 ghost use Rattle.proof_terms.specs.Walk.{path, joined, ValueAfter, VisitsAfter, ValueNext, VisitsNext};
-ghost use Rattle.proof_check.specs.Stacks.{AreSmall};
+ghost use Rattle.bound_proof.specs.PieceList.{after_leaf};
+ghost use Rattle.proof_check.specs.Stacks.{AreSmall, halves_of};
 
 use crate::base::{MOST_BASE_CUTS, push_base_cuts};
 use proof_terms::Frame;
@@ -140,6 +141,7 @@ impl Stack {
         ensures base { self.new.base ≡ self.old.base }
         ensures most { self.new.most ≡ self.old.most }
         ensures fewer { length self.new.splits ≤ length self.old.splits }
+        ensures halves { halves_of self.new.splits ≡ after_leaf (halves_of self.old.splits) }
         ensures small { AreSmall (path self.old.base self.old.splits) → AreSmall (path self.old.base self.new.splits) }
         ensures values { (i : Day) (rest : Items ProofNode) (v : ℕ) → ValueNext i self.old.base result self.new.splits rest v
             → ValueAfter i self.old.base self.old.splits value rest v }

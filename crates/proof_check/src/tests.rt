@@ -1,7 +1,7 @@
 ghost use Rattle.roster_model.specs.SoundInstance.{IsSoundInstance};
 
-use crate::{Bench, Verdict};
-use bound_proof::read_cert;
+use crate::{Bench, Judged, ShiftRoom, Verdict};
+use bound_proof::{CertRoom, PieceFault, read_cert};
 use certificates::Why;
 use roster_model::{
     ArcKey, Cell, CodeDef, Grammar, Group, Instance, List, Rule, Sym, Window, is_sound_instance,
@@ -142,8 +142,35 @@ const fn too_high(said: Option<u64>, shown: Option<u64>) -> Verdict {
     Verdict::No(Why::BoundTooHigh { said, shown })
 }
 
-/// Judges the certificate of one text, twice at one bench.
-fn judge_text(
+/// Judges one text piece by piece, twice at one bench.
+fn judge_pieces(
+    rt: &impl Abort,
+    alloc: Global,
+    day: &Instance,
+    text: &str,
+    want: Judged,
+) -> Result<(), Fail>
+    requires { IsSoundInstance day.now }
+{
+    let mut bench = Bench::for_texts(alloc, day)?;
+    let mut room = CertRoom::for_instance(alloc, day)?;
+    let shifts = ShiftRoom::for_text(alloc)?;
+    assert_eq!(rt;
+        bench.judge_text(day, text.as_bytes(), &mut room, shifts),
+        want,
+        "{text}"
+    );
+    let shifts = ShiftRoom::for_text(alloc)?;
+    assert_eq!(rt;
+        bench.judge_text(day, text.as_bytes(), &mut room, shifts),
+        want,
+        "again {text}"
+    );
+    Ok(())
+}
+
+/// Judges the certificate of one text, twice at one bench, and then the text itself.
+fn judge_case(
     rt: &impl Abort,
     alloc: Global,
     day: &Instance,
@@ -158,14 +185,14 @@ fn judge_text(
     let mut bench = Bench::for_proof(alloc, day, &cert)?;
     assert_eq!(rt; bench.judge(day, &cert), want, "{text}");
     assert_eq!(rt; bench.judge(day, &cert), want, "again {text}");
-    Ok(())
+    judge_pieces(rt, alloc, day, text, Judged::Said(want))
 }
 
 fn judge_all(rt: &impl Abort, alloc: Global, parts: &Parts, cases: &[Case]) -> Result<(), Fail> {
     let day = day(alloc, parts)?;
     assert!(rt; is_sound_instance(&day));
     for (text, want) in cases {
-        judge_text(rt, alloc, &day, text, *want)?;
+        judge_case(rt, alloc, &day, text, *want)?;
     }
     Ok(())
 }
@@ -349,6 +376,27 @@ fn splits_of_pairs(rt: HostRuntime) -> Result<(), Fail> {
         ),
     ];
     judge_all(&rt, rt.alloc(), &parts, &cases)
+}
+
+#[test]
+fn a_fault_comes_before_a_no(rt: HostRuntime) -> Result<(), Fail> {
+    let alloc = rt.alloc();
+    let cells = [1, 2, 3].map(|period| Cell { period, ..CELL });
+    let parts = Parts {
+        periods: 3,
+        names: &["S"],
+        rules: &PAIRS,
+        start: 0,
+        heads: (0, 3),
+        groups: &[],
+        cells: &cells,
+    };
+    let day = day(alloc, &parts)?;
+    assert!(rt; is_sound_instance(&day));
+    // The split is on no arc.
+    let text =
+        "proof 1\ncost 4\nbound 4\nshift .aa 2\nshift aa. 2\nsplit 1 0 1 3 2 0\npriced 1\nprice a 2 2 0\nmult 1 2\npriced 1\nprice a 0 0 2\nmult 1 2\n";
+    judge_pieces(&rt, alloc, &day, text, Judged::Fault(PieceFault::CutShort))
 }
 
 #[test]

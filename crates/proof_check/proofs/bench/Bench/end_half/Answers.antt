@@ -16,4 +16,4 @@ returns-clause-shows c =
     let mid = c.leaf_value-value.new.self.stack in
     subst (λ (s : StackView). IsShown i s node c.args.is_right c.close.new.self c.close.result) same
     (leaf-shown i mid c.args.is_right node c.leaf_value-value.result c.close.new.self c.close.result (subst (λ (s : StackView). MayFollow i s node) (sym same) c.requires.node) c.requires.leaf
-    (λ t. subst (λ (s : StackView). IsLeafValue i (way s) node c.leaf_value-value.result) (sym same) (value t)) e.base e.most e.fewer e.small (e.values i) e.visits)
+    (λ t. subst (λ (s : StackView). IsLeafValue i (way s) node c.leaf_value-value.result) (sym same) (value t)) e.base e.most e.fewer e.halves e.small (e.values i) e.visits)

@@ -2,7 +2,10 @@ use Rattle.std.proofs.Common.{ap, sym, subst, ◌∙◌, ◌≡◌, ℕ}
 use Rattle.proof_terms.specs.declared.frame.Frame.{Frame}
 use Rattle.proof_terms.specs.Walk.{path, joined}
 use Rattle.proof_check.specs.Stacks.{StackView, AreSmall, IsClosing}
-use Rattle.proof_check.proofs.Closing.{small-turned, closed}
+use Rattle.roster_model.specs.declared.instance.Side.{Side}
+use Rattle.bound_proof.specs.PieceList.{after_leaf}
+use Rattle.proof_check.specs.Stacks.{halves_of}
+use Rattle.proof_check.proofs.Closing.{small-turned, closed, turned-halves, no-halves}
 use Rattle.proof_check.proofs.stack.Stack.close.Goals as goal
 
 pub returns-in-Low-clause-small : goal.returns-in-Low-clause-small
@@ -17,3 +20,9 @@ loop-frame-preserved c =
     let before = subst (λ (v : StackView). IsClosing c.args.self.now c.args.value v c.loop-frame.shown) c.in-Some.ensures c.loop-frame.invariant in
     let after = closed c.args.self.now c.pop.new.self c.args.value c.loop-frame.shown c.in-Some.frame c.in-High.is before in
     subst (λ (n : ℕ). IsClosing c.args.self.now c.args.value c.pop.new.self n) (sym (c.joined-shown.ensures ∙ ap (λ (n : ℕ). joined c.in-Some.frame.own n) c.min.ensures)) after
+
+pub returns-in-Low-clause-halves : goal.returns-in-Low-clause-halves
+returns-in-Low-clause-halves c =
+    let before = subst (λ (v : StackView). IsClosing c.args.self.now c.args.value v c.loop-frame.shown) c.in-Some.ensures c.loop-frame.invariant in
+    let high = ap (λ (f : Frame). f.cut.side) c.high_half.ensures in
+    ap (λ (v : StackView). halves_of v.splits) c.push.ensures ∙ turned-halves c.args.self.now c.pop.new.self c.args.value c.loop-frame.shown c.in-Some.frame c.high_half.result c.in-Low.is high before

@@ -1,0 +1,11 @@
+use bound_proof::PieceFault;
+use certificates::Verdict;
+
+/// What judging a text finds.
+#[derive(Clone, Copy, Debug, PartialEq, Eq, Drop)]
+pub enum Judged {
+    /// The verdict on the certificate that the text says.
+    Said(Verdict),
+    /// The first fault of the text.
+    Fault(PieceFault),
+}
