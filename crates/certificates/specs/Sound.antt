@@ -1,9 +1,10 @@
 -- Sound certificates: one whole tree of nodes, and each number in its range.
-use Rattle.std.specs.Prelude.{ℕ, ◌≡◌, ◌≢◌, ◌≤◌, ◌^◌, None, IfSome, List, [], ◌∷◌, length}
+use Rattle.std.specs.Prelude.{ℕ, pos, ◌≡◌, ◌≢◌, ◌≤◌, ◌≤ℤ◌, ◌^◌, None, IfSome, List, [], ◌∷◌, length}
 use Rattle.roster_model.specs.declared.grammar.ArcKey.{ArcKey}
 use Rattle.roster_model.specs.declared.instance.Cut.{Cut}
 use Rattle.roster_model.specs.declared.instance.Group.{Group}
 use Rattle.roster_model.specs.declared.instance.Instance.{Instance}
+use Rattle.roster_model.specs.declared.instance.Mult.{Mult}
 use Rattle.roster_model.specs.declared.instance.Prices.{Prices}
 use Rattle.roster_model.specs.declared.instance.Shift.{Shift}
 use Rattle.roster_model.specs.Cuts.{base_cuts}
@@ -52,6 +53,17 @@ IsSoundNode i cuts Bare = Unit {0}
 abbrev pub IsSoundVisit : Instance → Visit → Type 0
 IsSoundVisit i v = IsSoundNode i v.path v.node
 
+-- a multiplier that is listed is at least 1: one that is 0 is left out
+abbrev pub ListNoZero : Prices → Type 0
+ListNoZero p = Each (λ (m : Mult). pos 1 ≤ℤ m.value) p.mult
+
+-- no multiplier that the node lists is 0
+abbrev pub NoneIsZero : Node → Type 0
+NoneIsZero (Split a b own) = IfSome own ListNoZero
+NoneIsZero (Priced p) = ListNoZero p
+NoneIsZero Pinned = Unit {0}
+NoneIsZero Bare = Unit {0}
+
 -- the number of a group, or 0 where there are none
 abbrev pub IsGroupNumber : List Group → ℕ → Type 0
 IsGroupNumber [] n = n ≡ 0
@@ -81,6 +93,7 @@ pub record IsSoundProof (i : Instance) (nodes : List Node) (proof : Proof) : Typ
 pub record IsSoundCert (i : Instance) (c : Cert) : Type 0 where
   pub proof : Proof
   pub nodes : IsSoundProof i c.nodes proof
+  pub listed : Each NoneIsZero c.nodes
   pub shifts : Each (IsSoundShift i) c.shifts
   pub few : length c.shifts ≤ 64
   pub none : c.cost ≡ None → c.shifts ≡ []

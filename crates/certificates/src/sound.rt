@@ -1,13 +1,13 @@
-ghost use Rattle.std.specs.Prelude.{◌≡◌, ◌≤◌, ◌^◌, ◌↔◌, All, IsTrue, IfSome, length, List as Items};
+ghost use Rattle.std.specs.Prelude.{◌≡◌, ◌≤◌, ◌≤ℤ◌, ◌^◌, pos, ◌↔◌, All, IsTrue, IfSome, length, List as Items};
 ghost use Rattle.roster_model.specs.declared.instance.Cut.{Cut};
 ghost use Rattle.roster_model.specs.Folds.{Each};
 ghost use Rattle.roster_model.specs.PriceLimits.{IsMult, FitPrices};
 ghost use Rattle.roster_model.specs.SoundInstance.{IsSoundInstance};
 ghost use Rattle.roster_model.specs.Sums.{Within};
-ghost use Rattle.certificates.specs.Sound.{most_cost, most_rule, IsKey, IsWordByte, IsGroupNumber, IsSoundShift, IsSoundCert};
+ghost use Rattle.certificates.specs.Sound.{most_cost, most_rule, IsKey, IsWordByte, IsGroupNumber, IsSoundShift, ListNoZero, NoneIsZero, IsSoundCert};
 ghost use Rattle.certificates.specs.Walks.{RisesFrom, HasPrices, HasMults};
 
-use crate::cert::Cert;
+use crate::cert::{Cert, Node};
 use crate::tree::is_whole_tree;
 use roster_model::{ArcKey, Group, Instance, Mult, Prices, Shift};
 
@@ -20,7 +20,8 @@ const MOST_PRICE: i128 = 1_208_925_819_614_629_174_706_176;
 /// Returns whether the certificate is sound: its nodes are one whole tree of at most 20,001, each
 /// number is in its range, there are at most 64 shifts and none without a cost, each word has 1 to 96
 /// bytes that a word of a text may have and is of a group of the day, and the prices of each node
-/// are one for each cell, with at most 1,500 multipliers of the cuts on the way to it. Takes no memory.
+/// are one for each cell, with at most 1,500 multipliers of the cuts on the way to it, none of which
+/// is 0. Takes no memory.
 pub fn is_sound_cert(instance: &Instance, cert: &Cert) -> bool
     requires { IsSoundInstance instance.now }
     ensures { IsTrue result ↔ IsSoundCert instance.now cert.now }
@@ -31,6 +32,7 @@ pub fn is_sound_cert(instance: &Instance, cert: &Cert) -> bool
         && is_cost(cert.cost)
         && is_cost(cert.bound)
         && is_whole_tree(instance, cert.nodes.as_slice())
+        && list_no_zero(cert.nodes.as_slice())
 }
 
 /// Returns whether the number, where there is one, is in the range of costs.
@@ -41,6 +43,39 @@ fn is_cost(cost: Option<u64>) -> bool
         Some(cost) => cost <= MOST_COST,
         None => true,
     }
+}
+
+/// Returns whether no multiplier that the nodes list is 0.
+fn list_no_zero(nodes: &[Node]) -> bool
+    ensures { IsTrue result ↔ All NoneIsZero nodes.now }
+{
+    nodes.iter().all(|node| none_is_zero(node))
+}
+
+fn none_is_zero(node: &Node) -> bool
+    ensures { IsTrue result ↔ NoneIsZero node.now }
+{
+    match node {
+        Node::Split { prices, .. } => match prices {
+            Some(prices) => has_no_zero(prices),
+            None => true,
+        },
+        Node::Priced { prices } => has_no_zero(prices),
+        Node::Pinned | Node::Bare => true,
+    }
+}
+
+fn has_no_zero(prices: &Prices) -> bool
+    ensures { IsTrue result ↔ ListNoZero prices.now }
+{
+    prices.mult.as_slice().iter().all(|mult| is_listed(mult))
+}
+
+/// Returns whether a multiplier may be listed: one that is 0 is left out.
+fn is_listed(mult: &Mult) -> bool
+    ensures { IsTrue result ↔ (pos 1 ≤ℤ mult.now.value) }
+{
+    1 <= mult.value
 }
 
 /// Returns whether each shift is sound.
