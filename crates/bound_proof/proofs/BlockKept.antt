@@ -1,6 +1,6 @@
 -- What the lines of a price block keep.
 use Rattle.std.proofs.Common.{◌≡◌, ℕ, ℤ, pos, ◌+◌, ◌-◌, ◌<◌, ◌≤◌, ◌^◌, Bool, true, false, cond, leb, eqb, ◌&&◌, List, [], ◌∷◌, ◌++◌, length, Some, None, Ok, Err, refl, sym, ap, ◌∙◌, arith, subst, length-append}
-use Rattle.std.specs.Prelude.{codes, unsigned_abs, slice_get, All}
+use Rattle.std.specs.Prelude.{codes, unsigned_abs, slice_get, All, ◌≤ℤ◌}
 use Rattle.std.specs.Str.{bytes_eq}
 use Rattle.std.proofs.lemmas.Bool.{and_parts}
 use Rattle.std.proofs.lemmas.Int.{ints}
@@ -13,6 +13,7 @@ use Rattle.roster_model.specs.PriceLimits.{IsMult, AreRising, FitPrices}
 use Rattle.roster_model.specs.SoundInstance.{IsSoundInstance}
 use Rattle.roster_model.specs.Sums.{Within}
 use Rattle.text_lines.specs.Steps.{each}
+use Rattle.certificates.proofs.Rising.{each_all}
 use Rattle.bound_proof.specs.Fields.{number_at, signed_at}
 use Rattle.bound_proof.specs.PriceLines.{due_byte, price_step, price_line, mult_cut, last_cut, mult_of, mult_line}
 use Rattle.bound_proof.proofs.FieldsKept.{IsDenominator, number_within, signed_within}
@@ -25,11 +26,12 @@ pub record Block (i : Instance) (cuts : ℕ) (cs : List ℤ) (ms : List Mult) : 
   pub each : Each (Within (2 ^ 80)) cs
   pub few : length ms ≤ 1500
   pub mults : Each (IsMult cuts) ms
+  pub listed : Each (λ (m : Mult). pos 1 ≤ℤ m.value) ms
   pub rising : AreRising ms
   pub last : Each (λ (m : Mult). m.cut ≤ last_cut ms) ms
 
 pub block_none : (i : Instance) (cuts : ℕ) → Block i cuts [] []
-block_none i cuts = record { whole = none_whole i.grammar.periods (length i.cells) 0 refl; each = tt; few = omega arith; mults = tt; rising = tt; last = tt }
+block_none i cuts = record { whole = none_whole i.grammar.periods (length i.cells) 0 refl; each = tt; few = omega arith; mults = tt; listed = tt; rising = tt; last = tt }
 
 within : (z : ℤ) → unsigned_abs z ≤ 2 ^ 80 → Within (2 ^ 80) z
 within z h = record { low = omega (arith, ints); high = omega (arith, ints) }
@@ -62,6 +64,7 @@ block_price i cuts k cs ds ms (w ∷ c ∷ vs) s b lt e =
       each = each_keeps (price_step k) (Each (Within (2 ^ 80))) (price_keeps k) cs ds vs b.each p.1;
       few = b.few;
       mults = b.mults;
+      listed = b.listed;
       rising = b.rising;
       last = b.last;
     }
@@ -81,12 +84,13 @@ rising_more (x ∷ ms) m top r h lt =
     let more : x.cut < m.cut = omega (arith, h.0, lt) in
     (Each-push (λ (n : Mult). x.cut < n.cut) ms m r.0 more, rising_more ms m top r.1 h.1 lt)
 
-mult_keeps : (i : Instance) (cuts : ℕ) (cs : List ℤ) (ms : List Mult) (m : Mult) → Block i cuts cs ms → length ms < 1500 → last_cut ms < m.cut → IsMult cuts m → Block i cuts cs (ms ++ m ∷ [])
-mult_keeps i cuts cs ms m b few more is = record {
+mult_keeps : (i : Instance) (cuts : ℕ) (cs : List ℤ) (ms : List Mult) (m : Mult) → Block i cuts cs ms → length ms < 1500 → last_cut ms < m.cut → IsMult cuts m → pos 1 ≤ℤ m.value → Block i cuts cs (ms ++ m ∷ [])
+mult_keeps i cuts cs ms m b few more is some = record {
   whole = b.whole;
   each = b.each;
   few = omega (arith, length-append ms (m ∷ []));
   mults = Each-push (IsMult cuts) ms m b.mults is;
+  listed = Each-push (λ (n : Mult). pos 1 ≤ℤ n.value) ms m b.listed some;
   rising = rising_more ms m (last_cut ms) b.rising b.last more;
   last = rw (last_is ms m) (Each-push (λ (n : Mult). n.cut ≤ m.cut) ms m (Each-weaker (λ (n : Mult). n.cut ≤ last_cut ms) (λ (n : Mult). n.cut ≤ m.cut) ms (λ n h. omega (arith, h, more)) b.last) (omega arith));
 }
@@ -104,14 +108,11 @@ block_mult i cuts k cs ms ns (w ∷ j ∷ v ∷ []) b e =
     let wv = number_within k 1 (2 ^ 80) value.0 v value.1 in
     let m : Mult = record { cut = cut.0; value = pos value.0 } in
     let least : last_cut ms + 1 ≤ cut.0 = wc.0 in
+    let some : 1 ≤ value.0 = wv.0 in
     let most : value.0 ≤ 2 ^ 80 = wv.1 in
     let is : IsMult cuts m = record { first = omega (arith, least); last = wc.1; least = omega (arith, ints); most = omega (arith, ints, most) } in
-    subst (Block i cuts cs) (same_ok (ms ++ m ∷ []) ns value.2) (mult_keeps i cuts cs ms m b (fewer (length ms) 1500 p.0) (omega (arith, least)) is)
+    subst (Block i cuts cs) (same_ok (ms ++ m ∷ []) ns value.2) (mult_keeps i cuts cs ms m b (fewer (length ms) 1500 p.0) (omega (arith, least)) is (omega (arith, ints, some)))
 block_mult i cuts k cs ms ns (w ∷ j ∷ v ∷ x ∷ ws) b e = absurd cc
-
-all_from : {A : Type 0} (P : A → Type 0) (xs : List A) → Each P xs → All P xs
-all_from P [] h = All-nil P
-all_from P (x ∷ xs) h = All-cons P x xs h.0 (all_from P xs h.1)
 
 -- a whole block fits the cuts
 pub block_fits : (i : Instance) (cuts : List Cut) (n d : ℕ) (cs : List ℤ) (ms : List Mult) → length cuts ≡ n → Block i n cs ms → length i.cells ≤ length cs → IsDenominator d → FitPrices i d cs ms cuts
@@ -119,8 +120,8 @@ block_fits i cuts n d cs ms e b all den = record {
   positive = den.0;
   small = den.1;
   cells = omega (arith, b.whole.within);
-  each = all_from (Within (2 ^ 80)) cs b.each;
+  each = each_all (Within (2 ^ 80)) cs b.each;
   few = b.few;
-  mults = rw e (all_from (IsMult n) ms b.mults);
+  mults = rw e (each_all (IsMult n) ms b.mults);
   rising = b.rising;
 }

@@ -23,7 +23,8 @@ use Rattle.certificates.specs.declared.cert.Cert.{Cert}
 use Rattle.certificates.specs.declared.cert.Node.{Node}
 use Rattle.certificates.specs.declared.cert.Node.TheVariants as of
 use Rattle.certificates.specs.Nodes.{Proof, split, priced, pinned, bare, preorder, low_cut, high_cut, visits}
-use Rattle.certificates.specs.Sound.{most_cost, IsSoundVisit, IsSoundShift, IsSoundCert, IsGroupNumber}
+use Rattle.certificates.specs.Sound.{most_cost, IsSoundVisit, IsSoundShift, IsSoundCert, IsGroupNumber, NoneIsZero}
+use Rattle.certificates.proofs.Walking.{each_parts}
 use Rattle.bound_proof.specs.declared.fault.PieceFault.{PieceFault}
 use Rattle.bound_proof.specs.declared.fault.ProofFault.{ProofFault}
 use Rattle.bound_proof.specs.Ahead.{NoShift}
@@ -33,13 +34,13 @@ use Rattle.bound_proof.specs.Items.{Items}
 use Rattle.bound_proof.specs.PieceList.{Given, Place, no_place, wants, after_bound, start, shifts, nodes, pieces_from, pieces_left, pieces_of}
 use Rattle.bound_proof.specs.ShiftLines.{version, is_header, is_shift, letters_of, shift_of, shift_at}
 use Rattle.bound_proof.specs.Told.{cost, bound, shift, node, done}
-use Rattle.bound_proof.specs.Written.{header_words, amount_words, name_word, shift_words, shift_line, node_lines, tree_lines, end_words, cert_lines, cert_text, NoneIsZero}
+use Rattle.bound_proof.specs.Written.{header_words, amount_words, name_word, shift_words, shift_line, node_lines, tree_lines, end_words, cert_lines, cert_text}
 use Rattle.bound_proof.proofs.BaseCuts.{cuts_of, length-cuts_from, few_groups}
 use Rattle.bound_proof.proofs.FieldsAgain.{same_bytes, number_at_again, amount_line_again}
 use Rattle.bound_proof.proofs.FineWords.{IsFineLine, lines_fine, header_fine, amounts_fine, shift_fine, node_fine, name_within}
 use Rattle.bound_proof.proofs.Inversions.{Each-append}
 use Rattle.bound_proof.proofs.TextAgain.{tree_told}
-use Rattle.bound_proof.proofs.TreeAgain.{nodes_then, numbered-then, each_parts, tree_lines-append}
+use Rattle.bound_proof.proofs.TreeAgain.{nodes_then, numbered-then, tree_lines-append}
 
 -- ---- shifts
 
@@ -244,11 +245,11 @@ cert_fine i c s h =
       ),
     )
 
-pub cert_again : (i : Instance) (c : Cert) → IsSoundInstance i → IsSoundCert i c → Each NoneIsZero c.nodes → length (cert_text i c) ≤ 1073741824 → proof_of i (cert_text i c) ≡ Ok c
+pub cert_again : (i : Instance) (c : Cert) → IsSoundInstance i → IsSoundCert i c → length (cert_text i c) ≤ 1073741824 → proof_of i (cert_text i c) ≡ Ok c
 unfolding proof_of pieces_of pieces_left
-cert_again i c s h some short =
+cert_again i c s h short =
     let items : text_items (cert_text i c) ≡ numbered 1 (cert_lines i c) = written_again 1 (cert_lines i c) (cert_fine i c s h) in
     let few : length (preorder h.proof) ≤ 20001 = rw h.nodes.whole h.nodes.few in
-    let zeros : Each NoneIsZero (preorder h.proof) = rw h.nodes.whole some in
+    let zeros : Each NoneIsZero (preorder h.proof) = rw h.nodes.whole h.listed in
     let read = lines_read i no_place h.proof c s (sym h.nodes.whole) few h.nodes.each zeros h.none h.few h.shifts h.cost h.bound in
     rw (le-ltb 1073741824 (length (cert_text i c)) short, items, read) (collect_cert c)

@@ -11,9 +11,10 @@ use Rattle.certificates.specs.declared.cert.Node.{Node}
 use Rattle.certificates.specs.declared.cert.Node.TheVariants.{Split, Priced, Pinned, Bare}
 use Rattle.certificates.specs.Nodes.{Proof, split, priced, pinned, bare, preorder, low_cut, high_cut, visits}
 use Rattle.certificates.specs.Sound.{IsSoundNode, IsSoundVisit, IsSoundCert}
+use Rattle.certificates.proofs.Rising.{each_all}
+use Rattle.certificates.proofs.Walking.{each_parts}
 use Rattle.bound_proof.specs.Written.{HasPrices}
 use Rattle.bound_proof.proofs.Inversions.{Each-append}
-use Rattle.bound_proof.proofs.TreeAgain.{each_parts}
 
 has_prices : (i : Instance) (cuts : List Cut) (x : Node) → IsSoundNode i cuts x → HasPrices i x
 has_prices i cuts (Split a b None) s = tt
@@ -30,10 +31,6 @@ tree_prices i cuts (priced p) s = (has_prices i cuts (Priced p) s.0, tt)
 tree_prices i cuts pinned s = (tt, tt)
 tree_prices i cuts bare s = (tt, tt)
 
-all_from : {A : Type 0} (P : A → Type 0) (xs : List A) → Each P xs → All P xs
-all_from P [] h = All-nil P
-all_from P (x ∷ xs) h = All-cons P x xs h.0 (all_from P xs h.1)
-
 pub all_prices : (i : Instance) (c : Cert) → IsSoundCert i c → All (HasPrices i) c.nodes
 all_prices i c s =
-    subst (All (HasPrices i)) s.nodes.whole (all_from (HasPrices i) (preorder s.proof) (tree_prices i (base_cuts i) s.proof s.nodes.each))
+    subst (All (HasPrices i)) s.nodes.whole (each_all (HasPrices i) (preorder s.proof) (tree_prices i (base_cuts i) s.proof s.nodes.each))

@@ -137,16 +137,15 @@ price_line_again k i cs ps e h =
     let whole : eqb (length (map number_text ps)) i.grammar.periods ≡ true = eq-eqb _ _ (length-map ps number_text ∙ e) in
     rw (same_bytes (due_byte i (length cs) ∷ []), whole) (prices_again k cs ps h)
 
-positive : (z : ℤ) → pos 0 ≤ℤ z → z ≢ pos 0 → (v : ℕ) × (z ≡ pos v) × (1 ≤ v)
-positive (pos zero) le ne = absurd (ne refl)
-positive (pos (suc v)) le ne = (suc v, refl, omega arith)
-positive (negsuc v) le ne = absurd (omega (arith, ints, le))
+positive : (z : ℤ) → pos 1 ≤ℤ z → (v : ℕ) × (z ≡ pos v) × (1 ≤ v)
+positive (pos v) le = (v, refl, omega (arith, ints, le))
+positive (negsuc v) le = absurd (omega (arith, ints, le))
 
-pub mult_line_again : (k cuts : ℕ) (ms : List Mult) (m : Mult) → length ms < 1500 → last_cut ms < m.cut → m.cut ≤ cuts → cuts < 2 ^ 127 → pos 0 ≤ℤ m.value → m.value ≤ℤ pos (2 ^ 80) → m.value ≢ pos 0
+pub mult_line_again : (k cuts : ℕ) (ms : List Mult) (m : Mult) → length ms < 1500 → last_cut ms < m.cut → m.cut ≤ cuts → cuts < 2 ^ 127 → pos 1 ≤ℤ m.value → m.value ≤ℤ pos (2 ^ 80)
     → mult_line k cuts ms (mult_words m) ≡ Ok (ms ++ m ∷ [])
 unfolding mult_line mult_of
-mult_line_again k cuts ms m few more last small least most some =
-    let p = positive m.value least some in
+mult_line_again k cuts ms m few more last small least most =
+    let p = positive m.value least in
     let word : number_text m.value ≡ decimal p.0 = ap number_text p.1 in
     let within : p.0 ≤ 2 ^ 80 = omega (arith, ints, most, p.1) in
     let le : last_cut ms + 1 ≤ m.cut = omega (arith, more) in

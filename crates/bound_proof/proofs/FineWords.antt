@@ -33,11 +33,13 @@ use Rattle.roster_model.proofs.SoundCells.{cells_of_day}
 use Rattle.certificates.specs.declared.cert.Node.{Node}
 use Rattle.certificates.specs.declared.cert.Node.TheVariants.{Split, Priced, Pinned, Bare}
 use Rattle.certificates.specs.Sound.{most_cost, most_rule, IsKey, IsGroupNumber, IsWordByte, IsSoundShift, IsSoundNode}
+use Rattle.certificates.proofs.Rising.{all_each}
 use Rattle.bound_proof.specs.PriceLines.{code_byte, cell_code, due_byte}
 use Rattle.bound_proof.specs.ShiftLines.{version}
 use Rattle.bound_proof.specs.Written.{header_words, amount_word, amount_words, name_word, shift_words, shift_line, own_words, head_words, price_words, price_lines, mult_words, block_lines, node_lines, tree_lines}
 use Rattle.bound_proof.proofs.Inversions.{Each-append}
 use Rattle.bound_proof.proofs.PriceBlock.{cells_whole}
+use Rattle.bound_proof.proofs.TreeAgain.{each_take}
 
 -- a word that can be written
 abbrev pub IsFine : List ℕ → Type 0
@@ -219,11 +221,6 @@ numbers_fine : (ps : List ℤ) → Each (Within (2 ^ 80)) ps → Each IsFine (ma
 numbers_fine [] h = tt
 numbers_fine (p ∷ ps) h = (signed_fine p h.0, numbers_fine ps h.1)
 
-each_take : {A : Type 0} (P : A → Type 0) (n : ℕ) (xs : List A) → Each P xs → Each P (take n xs) × Each P (drop n xs)
-each_take P zero xs h = (tt, h)
-each_take P (suc n) [] h = (tt, tt)
-each_take P (suc n) (x ∷ xs) h = let r = each_take P n xs h.1 in ((h.0, r.0), r.1)
-
 price_lines_fine : (i : Instance) (place m : ℕ) (ps : List ℤ) → IsSoundInstance i → place + m * i.grammar.periods ≤ length i.cells → Each (Within (2 ^ 80)) ps → Each IsFineLine (price_lines i place m ps)
 price_lines_fine i place zero ps s le h = tt
 price_lines_fine i place (suc m) ps s le h =
@@ -246,17 +243,13 @@ mults_fine : (cuts : ℕ) (ms : List Mult) → All (IsMult cuts) ms → cuts < 1
 mults_fine cuts [] h small = tt
 mults_fine cuts (m ∷ ms) h small = (mult_fine cuts m (All-head (IsMult cuts) m ms h) small, mults_fine cuts ms (All-tail (IsMult cuts) m ms h) small)
 
-each_from : {A : Type 0} (P : A → Type 0) (xs : List A) → All P xs → Each P xs
-each_from P [] h = tt
-each_from P (x ∷ xs) h = (All-head P x xs h, each_from P xs (All-tail P x xs h))
-
 block_fine : (i : Instance) (cuts : List Cut) (p : Prices) → IsSoundInstance i → length cuts < 10 ^ 64 → FitPrices i p.d p.cell p.mult cuts → Each IsFineLine (block_lines i p)
 block_fine i cuts p s small fit =
     let n : ℕ = i.grammar.periods in
     let some : 1 ≤ n = s.grammar.some_period in
     let parts : n * (length p.cell / n) ≤ length p.cell = mul-div-le (length p.cell) n in
     Each-append IsFineLine (price_lines i 0 (length p.cell / n) p.cell) (map mult_words p.mult)
-    (price_lines_fine i 0 (length p.cell / n) p.cell s (omega (arith, parts, fit.cells)) (each_from (Within (2 ^ 80)) p.cell fit.each))
+    (price_lines_fine i 0 (length p.cell / n) p.cell s (omega (arith, parts, fit.cells)) (all_each (Within (2 ^ 80)) p.cell fit.each))
     (mults_fine (length cuts) p.mult fit.mults small)
 
 pub node_fine : (i : Instance) (cuts : List Cut) (x : Node) → IsSoundInstance i → length cuts < 10 ^ 64 → IsSoundNode i cuts x → Each IsFineLine (node_lines i x)

@@ -18,4 +18,3 @@ mod FineWords
 mod CertAgain
 mod Sizes
 mod RefusedPieces
-mod SoundPieces

@@ -14,7 +14,7 @@ use Rattle.certificates.specs.declared.cert.Cert.{Cert}
 use Rattle.certificates.specs.declared.cert.Node.{Node}
 use Rattle.certificates.specs.declared.cert.Node.TheVariants as of
 use Rattle.certificates.specs.Nodes.{priced, pinned, bare}
-use Rattle.certificates.specs.Sound.{most_cost, IsSoundShift, IsSoundCert}
+use Rattle.certificates.specs.Sound.{most_cost, IsSoundShift, IsSoundCert, NoneIsZero}
 use Rattle.text_lines.specs.Lines.{TextLine, text_items}
 use Rattle.bound_proof.specs.declared.fault.PieceFault.{PieceFault}
 use Rattle.bound_proof.specs.declared.fault.PieceFault.TheVariants.{BadByte, BadHeader, CutShort, Trailing}
@@ -42,6 +42,7 @@ pub record TellsNodes (i : Instance) (p : Place) (c : Cert) (given : Given) (cer
   pub list : given ≡ node_pieces told
   pub made : cert ≡ record c { nodes = c.nodes ++ told }
   pub few : p.nodes + length told ≤ 20001
+  pub listed : Each NoneIsZero told
   pub fills : Fills i p told
 
 -- the shifts and the nodes that are told
@@ -52,6 +53,7 @@ pub record TellsRoster (i : Instance) (c : Cert) (given : Given) (cert : Cert) :
   pub made : cert ≡ record c { shifts = c.shifts ++ shifts; nodes = c.nodes ++ told }
   pub sound : Each (IsSoundShift i) shifts
   pub few : length told ≤ 20001
+  pub listed : Each NoneIsZero told
   pub fills : Fills i no_place told
 
 pub record TellsBound (i : Instance) (paid : Bool) (c : Cert) (given : Given) (cert : Cert) : Type 0 where
@@ -89,36 +91,37 @@ said_ok : (x y : Cert) → ok_cert x ≡ ok_cert y → x ≡ y
 said_ok x y e = cc
 
 -- one more node, which is due
-one_node : (i : Instance) (p q : Place) (c cert : Cert) (n : Node) (rest : Given) → wants p ≡ true → q.nodes ≡ p.nodes + 1 → ((ns : List Node) → Fills i q ns → Wanted i p.halves (n ∷ ns))
+one_node : (i : Instance) (p q : Place) (c cert : Cert) (n : Node) (rest : Given) → wants p ≡ true → q.nodes ≡ p.nodes + 1 → NoneIsZero n → ((ns : List Node) → Fills i q ns → Wanted i p.halves (n ∷ ns))
     → TellsNodes i q (record c { nodes = c.nodes ++ n ∷ [] }) rest cert → TellsNodes i p c (Ok (node n) ∷ rest) cert
-one_node i p q c cert n rest w e grow t = record {
+one_node i p q c cert n rest w e some grow t = record {
   told = n ∷ t.told;
   list = ap (λ (g : Given). Ok (node n) ∷ g) t.list;
   made = t.made ∙ ap (λ (ns : List Node). record c { nodes = ns }) (append_assoc c.nodes (n ∷ []) t.told);
   few = omega (arith, t.few);
+  listed = (some, t.listed);
   fills = rw w (grow t.told t.fills);
 }
 
 -- a node with a whole price block, or a node without one, is sound
 pub head_sound : (i : Instance) (p : Place) (h : NodeLine) (cs : List ℤ) (ms : List Mult) → IsHead i h → Block i (cut_count i p) cs ms → length i.cells ≤ length cs → SoundNode i (length p.halves) (node_of h cs ms)
-head_sound i p (Split a b None) cs ms s k all = λ cuts e. (s.0, s.1, tt)
-head_sound i p (Split a b (Some d)) cs ms s k all = λ cuts e. (s.0, s.1, block_fits i cuts (cut_count i p) d cs ms e k all s.2)
-head_sound i p (Priced d) cs ms s k all = λ cuts e. block_fits i cuts (cut_count i p) d cs ms e k all s
-head_sound i p Pinned cs ms s k all = λ cuts e. tt
-head_sound i p Bare cs ms s k all = λ cuts e. tt
+head_sound i p (Split a b None) cs ms s k all = record { listed = tt; paths = λ cuts e. (s.0, s.1, tt) }
+head_sound i p (Split a b (Some d)) cs ms s k all = record { listed = k.listed; paths = λ cuts e. (s.0, s.1, block_fits i cuts (cut_count i p) d cs ms e k all s.2) }
+head_sound i p (Priced d) cs ms s k all = record { listed = k.listed; paths = λ cuts e. block_fits i cuts (cut_count i p) d cs ms e k all s }
+head_sound i p Pinned cs ms s k all = record { listed = tt; paths = λ cuts e. tt }
+head_sound i p Bare cs ms s k all = record { listed = tt; paths = λ cuts e. tt }
 
 -- the node of a line with its whole price block
 head_told : (i : Instance) (p : Place) (c cert : Cert) (h : NodeLine) (cs : List ℤ) (ms : List Mult) (rest : Given) → wants p ≡ true → SoundNode i (length p.halves) (node_of h cs ms)
     → TellsNodes i (node_read h p) (record c { nodes = c.nodes ++ node_of h cs ms ∷ [] }) rest cert → TellsNodes i p c (Ok (node (node_of h cs ms)) ∷ rest) cert
-head_told i p c cert (Split a b None) cs ms rest w s t = one_node i p (split_read p) c cert (of.Split a b None) rest w refl (λ ns f. split_fills i p a b None ns s f) t
+head_told i p c cert (Split a b None) cs ms rest w s t = one_node i p (split_read p) c cert (of.Split a b None) rest w refl tt (λ ns f. split_fills i p a b None ns s f) t
 head_told i p c cert (Split a b (Some d)) cs ms rest w s t =
     let own : Option Prices = Some (record { d = d; cell = cs; mult = ms }) in
-    one_node i p (split_read p) c cert (of.Split a b own) rest w refl (λ ns f. split_fills i p a b own ns s f) t
+    one_node i p (split_read p) c cert (of.Split a b own) rest w refl s.listed (λ ns f. split_fills i p a b own ns s f) t
 head_told i p c cert (Priced d) cs ms rest w s t =
     let own : Prices = record { d = d; cell = cs; mult = ms } in
-    one_node i p (leaf_read p) c cert (of.Priced own) rest w refl (λ ns f. leaf_fills i p (of.Priced own) (priced own) ns refl (λ cuts e. (s cuts e, tt)) f) t
-head_told i p c cert Pinned cs ms rest w s t = one_node i p (leaf_read p) c cert of.Pinned rest w refl (λ ns f. leaf_fills i p of.Pinned pinned ns refl (λ cuts e. (tt, tt)) f) t
-head_told i p c cert Bare cs ms rest w s t = one_node i p (leaf_read p) c cert of.Bare rest w refl (λ ns f. leaf_fills i p of.Bare bare ns refl (λ cuts e. (tt, tt)) f) t
+    one_node i p (leaf_read p) c cert (of.Priced own) rest w refl s.listed (λ ns f. leaf_fills i p (of.Priced own) (priced own) ns refl (λ cuts e. (s.paths cuts e, tt)) f) t
+head_told i p c cert Pinned cs ms rest w s t = one_node i p (leaf_read p) c cert of.Pinned rest w refl tt (λ ns f. leaf_fills i p of.Pinned pinned ns refl (λ cuts e. (tt, tt)) f) t
+head_told i p c cert Bare cs ms rest w s t = one_node i p (leaf_read p) c cert of.Bare rest w refl tt (λ ns f. leaf_fills i p of.Bare bare ns refl (λ cuts e. (tt, tt)) f) t
 
 -- what the lines behind a line tell is known
 abbrev Go : Type 0
@@ -133,6 +136,7 @@ ends i p c cert given w few t = record {
   list = t.0;
   made = t.1 ∙ ap (λ (ns : List Node). record c { nodes = ns }) (sym (append-nil c.nodes));
   few = omega arith;
+  listed = tt;
   fills = rw w refl;
 }
 
@@ -140,15 +144,15 @@ begin_tells : (i : Instance) (p : Place) (c cert : Cert) (h : NodeLine) (go : Go
     → collected c (begin h p go) ≡ Ok cert → TellsNodes i p c (begin h p go) cert
 begin_tells i p c cert (Split a b None) go known w few s e =
     let nd : Node = of.Split a b None in
-    one_node i p (split_read p) c cert nd (go nodes (split_read p)) w refl (λ ns f. split_fills i p a b None ns (λ cuts q. (s.0, s.1, tt)) f)
+    one_node i p (split_read p) c cert nd (go nodes (split_read p)) w refl tt (λ ns f. split_fills i p a b None ns (record { listed = tt; paths = λ cuts q. (s.0, s.1, tt) }) f)
     (known nodes (split_read p) (record c { nodes = c.nodes ++ nd ∷ [] }) e (omega arith))
 begin_tells i p c cert (Split a b (Some d)) go known w few s e = known (block (Split a b (Some d)) [] []) p c e w few s (block_none i (cut_count i p))
 begin_tells i p c cert (Priced d) go known w few s e = known (block (Priced d) [] []) p c e w few s (block_none i (cut_count i p))
 begin_tells i p c cert Pinned go known w few s e =
-    one_node i p (leaf_read p) c cert of.Pinned (go nodes (leaf_read p)) w refl (λ ns f. leaf_fills i p of.Pinned pinned ns refl (λ cuts q. (tt, tt)) f)
+    one_node i p (leaf_read p) c cert of.Pinned (go nodes (leaf_read p)) w refl tt (λ ns f. leaf_fills i p of.Pinned pinned ns refl (λ cuts q. (tt, tt)) f)
     (known nodes (leaf_read p) (record c { nodes = c.nodes ++ of.Pinned ∷ [] }) e (omega arith))
 begin_tells i p c cert Bare go known w few s e =
-    one_node i p (leaf_read p) c cert of.Bare (go nodes (leaf_read p)) w refl (λ ns f. leaf_fills i p of.Bare bare ns refl (λ cuts q. (tt, tt)) f)
+    one_node i p (leaf_read p) c cert of.Bare (go nodes (leaf_read p)) w refl tt (λ ns f. leaf_fills i p of.Bare bare ns refl (λ cuts q. (tt, tt)) f)
     (known nodes (leaf_read p) (record c { nodes = c.nodes ++ of.Bare ∷ [] }) e (omega arith))
 
 at_node_tells : (i : Instance) (p : Place) (c cert : Cert) (line : TextLine) (go : Go) → Known i cert go → p.nodes ≤ 20001
@@ -202,6 +206,7 @@ nodes_alone i p c cert given none t = record {
   made = t.made ∙ ap (λ (ss : List Shift). record c { shifts = ss; nodes = c.nodes ++ t.told }) (sym (append-nil c.shifts));
   sound = tt;
   few = omega (arith, t.few);
+  listed = t.listed;
   fills = rw none at t.fills;
 }
 
@@ -225,6 +230,7 @@ shifts_tell i n p c cert line go fine known none few e = by (is_shift i.groups l
             made = t.0.made ∙ ap (λ (ss : List Shift). record c { shifts = ss; nodes = c.nodes ++ t.0.told }) (append_assoc c.shifts (s ∷ []) t.0.shifts);
             sound = (is.1, t.0.sound);
             few = t.0.few;
+            listed = t.0.listed;
             fills = t.0.fills;
           },
           omega arith,
@@ -339,6 +345,7 @@ told_sound i cert given t =
     let is : IsSoundCert i (record { shifts = r.shifts; cost = t.said; bound = t.bounds.said; nodes = r.told }) = record {
       proof = p.0;
       nodes = p.1;
+      listed = r.listed;
       shifts = r.sound;
       few = t.bounds.few;
       none = λ e. t.bounds.none (ap (λ (o : Option ℕ). is_some o) e);

@@ -31,13 +31,15 @@ use Rattle.certificates.specs.declared.cert.Node.{Node}
 use Rattle.certificates.specs.declared.cert.Node.TheVariants.{Split, Priced, Pinned, Bare}
 use Rattle.certificates.specs.Nodes.{Proof, split, priced, pinned, bare, preorder, low_cut, high_cut, visits}
 use Rattle.certificates.specs.Sound.{most_cost, most_rule, IsKey, IsGroupNumber, IsSoundShift, IsSoundNode, IsSoundVisit, IsSoundCert}
+use Rattle.certificates.proofs.Rising.{all_each}
+use Rattle.certificates.proofs.Walking.{each_parts}
 use Rattle.bound_proof.specs.PriceLines.{due_byte}
 use Rattle.bound_proof.specs.Written.{tail, header_words, amount_word, amount_words, name_word, shift_words, shift_line, own_words, head_words, price_words, price_lines, mult_words, block_lines, node_lines, tree_lines, end_words, cert_lines, cert_text, node_values}
 use Rattle.bound_proof.proofs.CertAgain.{few_base_cuts}
 use Rattle.bound_proof.proofs.FineWords.{name_within}
 use Rattle.bound_proof.proofs.PriceBlock.{cells_whole}
 use Rattle.bound_proof.proofs.Tails.{spaced_tail, written_append}
-use Rattle.bound_proof.proofs.TreeAgain.{each_parts, each_take, each_from, tree_lines-append}
+use Rattle.bound_proof.proofs.TreeAgain.{each_take, tree_lines-append}
 
 abbrev size : List (List (List ℕ)) → ℕ
 size ls = length (written ls)
@@ -204,8 +206,8 @@ block_size i cuts p s small fit =
     omega (
       arith,
       size-append (price_lines i 0 (length p.cell / n) p.cell) (map mult_words p.mult),
-      prices_size i 0 (length p.cell / n) p.cell (omega arith) whole (each_from (Within (2 ^ 80)) p.cell fit.each),
-      mults_size (length cuts) p.mult small (each_from (IsMult (length cuts)) p.mult fit.mults),
+      prices_size i 0 (length p.cell / n) p.cell (omega arith) whole (all_each (Within (2 ^ 80)) p.cell fit.each),
+      mults_size (length cuts) p.mult small (all_each (IsMult (length cuts)) p.mult fit.mults),
     )
 
 node_size : (i : Instance) (cuts : List Cut) (x : Node) → IsSoundInstance i → length cuts < 100000 → IsSoundNode i cuts x → size (node_lines i x) ≤ 128 + 40 * node_values x

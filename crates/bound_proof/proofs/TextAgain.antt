@@ -22,15 +22,16 @@ use Rattle.certificates.specs.declared.cert.Cert.{Cert}
 use Rattle.certificates.specs.declared.cert.Node.{Node}
 use Rattle.certificates.specs.declared.cert.Node.TheVariants as of
 use Rattle.certificates.specs.Nodes.{Proof, split, priced, pinned, bare, preorder, low_cut, high_cut, visits}
-use Rattle.certificates.specs.Sound.{most_cost, IsSoundVisit, IsSoundShift, IsSoundProof, IsSoundCert, IsGroupNumber}
+use Rattle.certificates.specs.Sound.{IsSoundVisit, NoneIsZero}
+use Rattle.certificates.proofs.Walking.{each_parts}
 use Rattle.bound_proof.specs.Ahead.{NoMult}
 use Rattle.bound_proof.specs.Items.{Items}
 use Rattle.bound_proof.specs.PieceList.{Given, Place, no_place, wants, after_leaf, node_read, cut_count, nodes, pieces_from}
 use Rattle.bound_proof.specs.Told.{node}
-use Rattle.bound_proof.specs.Written.{head_words, node_lines, tree_lines, NoneIsZero}
+use Rattle.bound_proof.specs.Written.{head_words, node_lines, tree_lines}
 use Rattle.bound_proof.proofs.FieldsAgain.{line_of_node}
 use Rattle.bound_proof.proofs.Inversions.{Each-append}
-use Rattle.bound_proof.proofs.TreeAgain.{nodes_then, nodes_then-append, numbered-then, node_told, each_parts, tree_lines-append, tree_no_mult, wants_open, tree_read}
+use Rattle.bound_proof.proofs.TreeAgain.{nodes_then, nodes_then-append, numbered-then, node_told, tree_lines-append, tree_no_mult, wants_open, tree_read}
 
 abbrev place : ℕ → List Bool → Place
 place n halves = record { nodes = n; halves = halves }

@@ -45,11 +45,11 @@ abbrev Known : Instance → Go → Type 0
 Known i go = (t : Spot) (q : Place) → SoundFrom i t q (go t q)
 
 begin_sound : (i : Instance) (n : ℕ) (p : Place) (h : NodeLine) (go : Go) → Known i go → wants p ≡ true → p.nodes < 20001 → IsHead i h → AreToldSound i n p (begin h p go)
-begin_sound i n p (Split a b None) go known w few s = ((w, few, λ cuts e. (s.0, s.1, tt)), known nodes (split_read p) n (omega arith))
+begin_sound i n p (Split a b None) go known w few s = ((w, few, record { listed = tt; paths = λ cuts e. (s.0, s.1, tt) }), known nodes (split_read p) n (omega arith))
 begin_sound i n p (Split a b (Some d)) go known w few s = known (block (Split a b (Some d)) [] []) p n w few s (block_none i (cut_count i p))
 begin_sound i n p (Priced d) go known w few s = known (block (Priced d) [] []) p n w few s (block_none i (cut_count i p))
-begin_sound i n p Pinned go known w few s = ((w, few, λ cuts e. tt), known nodes (leaf_read p) n (omega arith))
-begin_sound i n p Bare go known w few s = ((w, few, λ cuts e. tt), known nodes (leaf_read p) n (omega arith))
+begin_sound i n p Pinned go known w few s = ((w, few, record { listed = tt; paths = λ cuts e. tt }), known nodes (leaf_read p) n (omega arith))
+begin_sound i n p Bare go known w few s = ((w, few, record { listed = tt; paths = λ cuts e. tt }), known nodes (leaf_read p) n (omega arith))
 
 at_node_sound : (i : Instance) (n : ℕ) (p : Place) (line : TextLine) (go : Go) → Known i go → p.nodes ≤ 20001 → AreToldSound i n p (at_node i p line go)
 at_node_sound i n p line go known few = by (wants p) refl (node_at line.number i.groups p.nodes line.words) refl (is_end line.words)

@@ -20,7 +20,8 @@ use Rattle.roster_model.specs.Sums.{Within}
 use Rattle.certificates.specs.declared.cert.Node.{Node}
 use Rattle.certificates.specs.declared.cert.Node.TheVariants as of
 use Rattle.certificates.specs.Nodes.{Proof, split, priced, pinned, bare, preorder, low_cut, high_cut, Visit, visits}
-use Rattle.certificates.specs.Sound.{IsSoundNode, IsSoundVisit}
+use Rattle.certificates.specs.Sound.{IsSoundNode, IsSoundVisit, ListNoZero, NoneIsZero}
+use Rattle.certificates.proofs.Rising.{all_each}
 use Rattle.bound_proof.specs.declared.node.NodeLine.{NodeLine}
 use Rattle.bound_proof.specs.declared.node.NodeLine.TheVariants.{Split, Priced, Pinned, Bare}
 use Rattle.bound_proof.specs.Ahead.{NoMult}
@@ -28,7 +29,7 @@ use Rattle.bound_proof.specs.Items.{Items}
 use Rattle.bound_proof.specs.PieceList.{Given, Place, wants, after_leaf, leaf_read, split_read, node_read, cut_count, node_of, block, nodes, pieces_from}
 use Rattle.bound_proof.specs.PriceLines.{due_byte, price_line, is_mult, last_cut}
 use Rattle.bound_proof.specs.Told.{node}
-use Rattle.bound_proof.specs.Written.{head_words, price_words, price_lines, mult_words, block_lines, node_lines, tree_lines, NoneIsZero}
+use Rattle.bound_proof.specs.Written.{head_words, price_words, price_lines, mult_words, block_lines, node_lines, tree_lines}
 use Rattle.bound_proof.proofs.BlockKept.{last_is}
 use Rattle.bound_proof.proofs.FieldsAgain.{same_bytes, HasLine, line_of_node, node_again, price_line_again, mult_line_again}
 use Rattle.bound_proof.proofs.PriceBlock.{price_read, mult_read, block_done, cells_whole}
@@ -48,14 +49,6 @@ numbered-then k [] ms rest = ap (λ (n : ℕ). numbered n ms ++ rest) (omega ari
 numbered-then k (l ∷ ls) ms rest =
     let line : Result TextLine BadByte = Ok (record { number = k; words = l }) in
     ap (λ (is : Items). line ∷ is) (numbered-then (k + 1) ls ms rest ∙ ap (λ (n : ℕ). numbered (k + 1) ls ++ (numbered n ms ++ rest)) (omega arith))
-
-pub each_parts : {A : Type 0} (P : A → Type 0) (xs ys : List A) → Each P (xs ++ ys) → Each P xs × Each P ys
-each_parts P [] ys h = (tt, h)
-each_parts P (x ∷ xs) ys h = let r = each_parts P xs ys h.1 in ((h.0, r.0), r.1)
-
-pub each_from : {A : Type 0} (P : A → Type 0) (xs : List A) → All P xs → Each P xs
-each_from P [] h = tt
-each_from P (x ∷ xs) h = (All-head P x xs h, each_from P xs (All-tail P x xs h))
 
 pub each_take : {A : Type 0} (P : A → Type 0) (n : ℕ) (xs : List A) → Each P xs → Each P (take n xs) × Each P (drop n xs)
 each_take P zero xs h = (tt, h)
@@ -94,7 +87,7 @@ module _ (i : Instance) (h : NodeLine) (p : Place) where
       ∙ ap (λ (ds : List ℤ). pieces_from i (block h ds []) p rest) (append_assoc cs first others ∙ ap (λ (qs : List ℤ). cs ++ qs) (take_then_drop n ps))
 
   mults_read : (k : ℕ) (cs : List ℤ) (ms ns : List Mult) (rest : Items) → length cs ≡ length i.cells → cut_count i p < 2 ^ 127 → length ms + length ns ≤ 1500 → Each (IsMult (cut_count i p)) ns
-      → Each (λ (m : Mult). m.value ≢ pos 0) ns → AreRising ns → Each (λ (m : Mult). last_cut ms < m.cut) ns
+      → Each (λ (m : Mult). pos 1 ≤ℤ m.value) ns → AreRising ns → Each (λ (m : Mult). last_cut ms < m.cut) ns
       → pieces_from i (block h cs ms) p (numbered k (map mult_words ns) ++ rest) ≡ pieces_from i (block h cs (ms ++ ns)) p rest
   mults_read k cs ms [] rest all small few are some rising more = ap (λ (ds : List Mult). pieces_from i (block h cs ds) p rest) (sym (append-nil ms))
   mults_read k cs ms (m ∷ ns) rest all small few are some rising more =
@@ -102,7 +95,7 @@ module _ (i : Instance) (h : NodeLine) (p : Place) where
       let items : Items = numbered (k + 1) (map mult_words ns) ++ rest in
       let is : IsMult (cut_count i p) m = are.0 in
       let room : length ms < 1500 = omega (arith, few) in
-      let said = mult_line_again k (cut_count i p) ms m room more.0 is.last small is.least is.most some.0 in
+      let said = mult_line_again k (cut_count i p) ms m room more.0 is.last small some.0 is.most in
       let above : Each (λ (n : Mult). last_cut (ms ++ m ∷ []) < n.cut) ns = rw (last_is ms m) rising.0 in
       mult_read i h p cs ms (ms ++ m ∷ []) line (Ok line ∷ items) items all refl (same_bytes (codes "mult")) said
       ∙ mults_read (k + 1) cs (ms ++ m ∷ []) ns rest all small (omega (arith, length-append ms (m ∷ []), few)) are.1 some.1 rising.1 above
@@ -114,7 +107,7 @@ module _ (i : Instance) (h : NodeLine) (p : Place) where
 
   -- a whole price block
   block_read : (cuts : List Cut) (k : ℕ) (pr : Prices) (rest : Items) → IsSoundInstance i → length cuts ≡ cut_count i p → cut_count i p < 2 ^ 127 → FitPrices i pr.d pr.cell pr.mult cuts
-      → Each (λ (m : Mult). m.value ≢ pos 0) pr.mult → NoMult rest
+      → ListNoZero pr → NoMult rest
       → pieces_from i (block h [] []) p (numbered k (block_lines i pr) ++ rest) ≡ Ok (node (node_of h pr.cell pr.mult)) ∷ pieces_from i nodes (node_read h p) rest
   block_read cuts k pr rest s e small fit some other =
       let n : ℕ = i.grammar.periods in
@@ -123,11 +116,11 @@ module _ (i : Instance) (h : NodeLine) (p : Place) where
       let least : 0 < n = omega (arith, s.grammar.some_period) in
       let lines : length pr.cell / n ≡ w.lines = ap (λ (m : ℕ). m / n) made ∙ mul-div_cancel w.lines least in
       let whole : length pr.cell ≡ length pr.cell / n * n = made ∙ ap (λ (m : ℕ). m * n) (sym lines) in
-      let are : Each (IsMult (cut_count i p)) pr.mult = each_from (IsMult (cut_count i p)) pr.mult (rw e at fit.mults) in
+      let are : Each (IsMult (cut_count i p)) pr.mult = all_each (IsMult (cut_count i p)) pr.mult (rw e at fit.mults) in
       let ls : List (List (List ℕ)) = price_lines i 0 (length pr.cell / n) pr.cell in
       let behind : Items = numbered (k + length ls) (map mult_words pr.mult) ++ rest in
       ap (pieces_from i (block h [] []) p) (numbered-then k ls (map mult_words pr.mult) rest)
-      ∙ prices_read k 0 (length pr.cell / n) [] pr.cell behind refl whole (omega (arith, fit.cells)) (omega arith) (each_from (Within (2 ^ 80)) pr.cell fit.each)
+      ∙ prices_read k 0 (length pr.cell / n) [] pr.cell behind refl whole (omega (arith, fit.cells)) (omega arith) (all_each (Within (2 ^ 80)) pr.cell fit.each)
       ∙ mults_read (k + length ls) pr.cell [] pr.mult rest fit.cells small (omega (arith, fit.few)) are some fit.rising (above_none pr.mult are)
       ∙ block_done i h p pr.cell pr.mult rest fit.cells other
 

@@ -67,7 +67,7 @@ split_fills i p a b own ns s f =
     let is : Split a b own ∷ ns ≡ preorder t ++ high.1 =
     ap (λ (xs : List Node). Split a b own ∷ xs) (low.2 ∙ ap (λ (xs : List Node). preorder low.0 ++ xs) high.2 ∙ sym (append_assoc (preorder low.0) (preorder high.0) high.1)) in
     let sound : SoundTree i (length p.halves) t = λ cuts e. (
-      s cuts e,
+      s.paths cuts e,
       Each-append (IsSoundVisit i) (visits (cuts ++ low_cut a b ∷ []) low.0) (visits (cuts ++ high_cut a b ∷ []) high.0)
           (low.3 (cuts ++ low_cut a b ∷ []) (omega (arith, length-append cuts (low_cut a b ∷ []), e)))
           (high.3 (cuts ++ high_cut a b ∷ []) (omega (arith, length-append cuts (high_cut a b ∷ []), e))),

@@ -5,13 +5,14 @@ use Rattle.roster_model.specs.declared.instance.Instance.{Instance}
 use Rattle.roster_model.specs.Cuts.{base_cuts}
 use Rattle.certificates.specs.declared.cert.Node.{Node}
 use Rattle.certificates.specs.declared.cert.Node.TheVariants.{Split, Priced, Pinned, Bare}
-use Rattle.certificates.specs.Sound.{most_nodes, IsSoundNode, IsSoundShift}
+use Rattle.certificates.specs.Sound.{most_nodes, IsSoundNode, IsSoundShift, NoneIsZero}
 use Rattle.bound_proof.specs.PieceList.{Given, Place, wants, leaf_read, split_read}
 use Rattle.bound_proof.specs.Told.{Told, cost, bound, shift, node, done}
 
--- the node is sound on each path with so many cuts behind the base cuts
-abbrev pub SoundNode : Instance → ℕ → Node → Type 0
-SoundNode i n x = (cuts : List Cut) → length cuts ≡ length (base_cuts i) + n → IsSoundNode i cuts x
+-- the node lists no multiplier of 0, and is sound on each path with so many cuts behind the base cuts
+pub record SoundNode (i : Instance) (n : ℕ) (x : Node) : Type 0 where
+  pub listed : NoneIsZero x
+  pub paths : (cuts : List Cut) → length cuts ≡ length (base_cuts i) + n → IsSoundNode i cuts x
 
 -- how far the tree is read with one more node that is told
 abbrev pub node_told : Node → Place → Place

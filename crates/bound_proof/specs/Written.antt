@@ -1,5 +1,5 @@
 -- The text of a certificate.
-use Rattle.std.specs.Prelude.{ℕ, ℤ, zero, suc, ◌+◌, ◌-◌, ◌*◌, ◌/◌, ◌≡◌, List, [], ◌∷◌, ◌++◌, map, length, take, drop, codes, slice_get, slice_index_or, pos, ◌≢◌, Option, Some, None, IfSome}
+use Rattle.std.specs.Prelude.{ℕ, ℤ, zero, suc, ◌+◌, ◌-◌, ◌*◌, ◌/◌, ◌≡◌, List, [], ◌∷◌, ◌++◌, map, length, take, drop, codes, slice_get, slice_index_or, Option, Some, None, IfSome}
 use Rattle.std.specs.Fmt.{decimal}
 use Rattle.text_lines.specs.Numbers.{number_text}
 use Rattle.text_lines.specs.Written.{written}
@@ -9,7 +9,6 @@ use Rattle.roster_model.specs.declared.instance.Instance.{Instance}
 use Rattle.roster_model.specs.declared.instance.Mult.{Mult}
 use Rattle.roster_model.specs.declared.instance.Prices.{Prices}
 use Rattle.roster_model.specs.declared.instance.Shift.{Shift}
-use Rattle.roster_model.specs.Folds.{Each}
 use Rattle.certificates.specs.declared.cert.Cert.{Cert}
 use Rattle.certificates.specs.declared.cert.Node.{Node}
 use Rattle.certificates.specs.declared.cert.Node.TheVariants.{Split, Priced, Pinned, Bare}
@@ -108,13 +107,6 @@ cert_lines i c =
 -- the text of a certificate: one space between words, and a line feed after each line
 abbrev pub cert_text : Instance → Cert → List ℕ
 cert_text i c = written (cert_lines i c)
-
--- no multiplier that a node lists is 0
-abbrev pub NoneIsZero : Node → Type 0
-NoneIsZero (Split a b own) = IfSome own (λ (p : Prices). Each (λ (m : Mult). m.value ≢ pos 0) p.mult)
-NoneIsZero (Priced p) = Each (λ (m : Mult). m.value ≢ pos 0) p.mult
-NoneIsZero Pinned = Unit {0}
-NoneIsZero Bare = Unit {0}
 
 -- how many prices and multipliers a node lists
 abbrev pub node_values : Node → ℕ

@@ -1,19 +1,14 @@
-ghost use Rattle.std.specs.Prelude.{ℕ, ◌≡◌, ◌≤◌, ◌+◌, Bool, List, ◌∷◌, Ok, Err, length};
-ghost use Rattle.roster_model.specs.Folds.{Each};
+ghost use Rattle.std.specs.Prelude.{ℕ, ◌≡◌, ◌≤◌, List, Ok, Err, length};
 ghost use Rattle.roster_model.specs.declared.instance.Instance.{Instance};
-ghost use Rattle.roster_model.specs.declared.instance.Cut.{Cut};
-ghost use Rattle.roster_model.specs.Cuts.{base_cuts};
 ghost use Rattle.roster_model.specs.SoundInstance.{IsSoundInstance};
 ghost use Rattle.certificates.specs.declared.cert.Cert.{Cert};
-ghost use Rattle.certificates.specs.declared.cert.Node.{Node};
-ghost use Rattle.certificates.specs.Sound.{IsSoundCert, IsSoundNode};
+ghost use Rattle.certificates.specs.Sound.{IsSoundCert};
 ghost use Rattle.bound_proof.specs.declared.fault.ProofFault.{ProofFault};
 ghost use Rattle.bound_proof.specs.CertOf.{proof_of, cert_pieces};
-ghost use Rattle.bound_proof.specs.PieceList.{Given, Reader, no_place, pieces_left, pieces_of};
+ghost use Rattle.bound_proof.specs.PieceList.{no_place, pieces_of};
 ghost use Rattle.bound_proof.specs.Refused.{TellsFault};
-ghost use Rattle.bound_proof.specs.Told.{node};
 ghost use Rattle.bound_proof.specs.ToldSound.{AreToldSound};
-ghost use Rattle.bound_proof.specs.Written.{NoneIsZero, cert_text};
+ghost use Rattle.bound_proof.specs.Written.{cert_text};
 
 /// States a law: where a text says a certificate, its pieces are the certificate's cost, bound,
 /// shifts and nodes in order, and then the end, and the certificate is sound.
@@ -27,22 +22,15 @@ pub fn refused_pieces()
     ensures { (i : Instance) (text : List ℕ) (e : ProofFault) → proof_of i text ≡ Err e → TellsFault (pieces_of i text) e }
 {}
 
-/// States a law: each node that a reader gives is sound for every path with as many cuts as there are
-/// base cuts and open splits, also where the text is refused later.
-pub fn sound_pieces()
-    ensures { (i : Instance) (r : Reader) (halves : List Bool) (x : Node) (rest : Given) → IsSoundInstance i → pieces_left i r halves ≡ Ok (node x) ∷ rest
-        → (cuts : List Cut) → length cuts ≡ length (base_cuts i) + length halves → IsSoundNode i cuts x }
-{}
-
 /// States a law, of texts that end well and of others: each shift that a text tells is sound and one
-/// of 64, and each node is due in the tree, one of 20,001, and sound on each path with as many cuts
-/// as splits are open.
+/// of 64, and each node is due in the tree, one of 20,001, sound on each path with as many cuts as
+/// there are base cuts and open splits, and lists no multiplier of 0.
 pub fn told_pieces_are_sound()
     ensures { (i : Instance) (text : List ℕ) → IsSoundInstance i → AreToldSound i 0 no_place (pieces_of i text) }
 {}
 
 /// States a law: the text that is written of a sound certificate is read as that certificate, where
-/// it is no longer than a text may be, and no multiplier that the certificate lists is 0.
+/// it is no longer than a text may be.
 pub fn written_again()
-    ensures { (i : Instance) (c : Cert) → IsSoundInstance i → IsSoundCert i c → Each NoneIsZero c.nodes → length (cert_text i c) ≤ 1073741824 → proof_of i (cert_text i c) ≡ Ok c }
+    ensures { (i : Instance) (c : Cert) → IsSoundInstance i → IsSoundCert i c → length (cert_text i c) ≤ 1073741824 → proof_of i (cert_text i c) ≡ Ok c }
 {}

@@ -494,6 +494,31 @@ fn many_lines(rt: HostRuntime) -> Result<(), Fail> {
     Ok(())
 }
 
+// A text with so many splits and one more leaf, and the `end` line.
+fn tree_text(alloc: Global, splits: u32) -> Result<String, AllocError> {
+    let mut text = String::from_str(alloc, "proof 1\ncost none\nbound 0\n")?;
+    for _ in 0..splits {
+        text.push_str("split 1 0 1 3 1 0\n")?;
+    }
+    for _ in 0..splits {
+        text.push_str("bare\n")?;
+    }
+    text.push_str("bare\nend\n")?;
+    Ok(text)
+}
+
+#[test]
+fn many_nodes(rt: HostRuntime) -> Result<(), Fail> {
+    let instance = sound(plain(rt.alloc(), [0].as_slice())?)?;
+    let text = tree_text(rt.alloc(), 10_000)?;
+    let said = answer(rt.alloc(), &instance, text.as_bytes())?;
+    assert!(rt; said.is_empty());
+    let text = tree_text(rt.alloc(), 10_001)?;
+    let said = answer(rt.alloc(), &instance, text.as_bytes())?;
+    assert!(rt; said.as_slice() == b"proof: line 20005: too many nodes, at most 20001\n".as_slice());
+    Ok(())
+}
+
 fn arc_of(node: &Node) -> Option<(ArcKey, u32)> {
     match node {
         Node::Split { arc, b, .. } => Some((*arc, *b)),

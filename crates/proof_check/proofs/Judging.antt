@@ -46,7 +46,7 @@ told-follows i b s x r t =
     let base : length b.stack.base ≡ length (base_cuts i) = ap (λ (cs : List Cut). length cs) r.bench.base in
     let halves = length-halves b.stack.splits in
     let few : s.walk.nodes < 20001 = t.1 in
-    record { room = omega (arith, r.deep, r.most, few); small = r.small; sound = t.2 (way b.stack) (omega (arith, long, base, halves)) }
+    record { room = omega (arith, r.deep, r.most, few); small = r.small; sound = t.2.paths (way b.stack) (omega (arith, long, base, halves)) }
 
 abbrev place_of : ℕ → List Bool → Place
 place_of n hs = record { nodes = n; halves = hs }
