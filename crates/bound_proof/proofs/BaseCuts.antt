@@ -1,12 +1,12 @@
 -- With how many cuts every path begins.
-use Rattle.std.proofs.Common.{◌≡◌, ℕ, ◌+◌, ◌-◌, ◌<◌, ◌≤◌, Bool, true, false, cond, List, [], ◌∷◌, ◌++◌, length, drop, get_or, refl, ap, ◌∙◌, arith, nat_lt, add-one, length-append}
+use Rattle.std.proofs.Common.{◌≡◌, ℕ, ◌+◌, ◌-◌, ◌<◌, ◌≤◌, Bool, true, false, cond, List, [], ◌∷◌, length, drop, get_or, refl, ap, ◌∙◌, arith, nat_lt, add-one, length-append}
 use Rattle.std.proofs.lemmas.List.{drop_all}
 use Rattle.std.proofs.Math.Seq.{drop-cons}
 use Rattle.roster_model.specs.declared.instance.Cut.{Cut}
 use Rattle.roster_model.specs.declared.instance.Side.TheVariants.{Low, High}
 use Rattle.roster_model.specs.declared.instance.Group.{Group}
 use Rattle.roster_model.specs.declared.instance.Instance.{Instance}
-use Rattle.roster_model.specs.Cuts.{group_arc, group_cuts, cuts_from, base_cuts}
+use Rattle.roster_model.specs.Cuts.{group_arc, group_cuts, cuts_from}
 use Rattle.roster_model.specs.Folds.{sum_n}
 use Rattle.roster_model.specs.SoundInstance.{IsSoundInstance, HasGroups}
 

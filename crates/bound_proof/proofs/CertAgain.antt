@@ -1,6 +1,6 @@
 -- The whole text of a certificate is read as the certificate.
-use Rattle.std.proofs.Common.{◌≡◌, ℕ, zero, suc, ◌+◌, ◌-◌, ◌*◌, ◌<◌, ◌≤◌, ◌^◌, Bool, true, false, cond, ltb, leb, eqb, ◌||◌, ◌&&◌, List, [], ◌∷◌, ◌++◌, length, get_or, map, Option, Some, None, Result, Ok, Err, refl, sym, ap, ◌∙◌, arith, subst, inl, inr, append_assoc, append-nil, length-append}
-use Rattle.std.specs.Prelude.{codes, position, slice_get, is_some, IfSome, All, ◌≢◌}
+use Rattle.std.proofs.Common.{◌≡◌, ℕ, ◌+◌, ◌-◌, ◌*◌, ◌<◌, ◌≤◌, ◌^◌, Bool, true, false, cond, ltb, List, [], ◌∷◌, ◌++◌, length, get_or, map, Option, Some, None, Result, Ok, Err, refl, sym, ap, ◌∙◌, arith, subst, inl, inr, append_assoc, append-nil, length-append}
+use Rattle.std.specs.Prelude.{codes, position, slice_get, is_some, IfSome, ◌≢◌}
 use Rattle.std.specs.List.{list_all, position_or_len}
 use Rattle.std.specs.Fmt.{decimal}
 use Rattle.std.specs.Str.{bytes_eq}
@@ -8,10 +8,9 @@ use Rattle.std.proofs.lemmas.Bool.{cases_lt, lt-ltb, le-ltb, lt-leb, ne_eqb, fal
 use Rattle.std.proofs.lemmas.List.Sums.{position_or_len_is}
 use Rattle.std.proofs.lemmas.Option.{slice_get-get_or}
 use Rattle.std.proofs.lemmas.Slice.Eq.{bytes_eq-Decides}
-use Rattle.text_lines.specs.Lines.{TextLine, text_items}
-use Rattle.text_lines.specs.Written.{are_written, written, numbered}
+use Rattle.text_lines.specs.Lines.{text_items}
+use Rattle.text_lines.specs.Written.{are_written, numbered}
 use Rattle.text_lines.proofs.WrittenAgain.{written_again}
-use Rattle.roster_model.specs.declared.grammar.Grammar.{Grammar}
 use Rattle.roster_model.specs.declared.instance.Cut.{Cut}
 use Rattle.roster_model.specs.declared.instance.Group.{Group}
 use Rattle.roster_model.specs.declared.instance.Instance.{Instance}
@@ -25,14 +24,13 @@ use Rattle.certificates.specs.declared.cert.Node.TheVariants as of
 use Rattle.certificates.specs.Nodes.{Proof, split, priced, pinned, bare, preorder, low_cut, high_cut, visits}
 use Rattle.certificates.specs.Sound.{most_cost, IsSoundVisit, IsSoundShift, IsSoundCert, IsGroupNumber, NoneIsZero}
 use Rattle.certificates.proofs.Walking.{each_parts}
-use Rattle.bound_proof.specs.declared.fault.PieceFault.{PieceFault}
 use Rattle.bound_proof.specs.declared.fault.ProofFault.{ProofFault}
 use Rattle.bound_proof.specs.Ahead.{NoShift}
 use Rattle.bound_proof.specs.CertOf.{no_cert, collected, node_pieces, shift_pieces, cert_pieces, proof_of}
-use Rattle.bound_proof.specs.Fields.{number_at, numbered_or, has_name, group_at}
+use Rattle.bound_proof.specs.Fields.{numbered_or, has_name, group_at}
 use Rattle.bound_proof.specs.Items.{Items}
-use Rattle.bound_proof.specs.PieceList.{Given, Place, no_place, wants, after_bound, start, shifts, nodes, pieces_from, pieces_left, pieces_of}
-use Rattle.bound_proof.specs.ShiftLines.{version, is_header, is_shift, letters_of, shift_of, shift_at}
+use Rattle.bound_proof.specs.PieceList.{Given, Place, no_place, after_bound, start, shifts, nodes, pieces_from, pieces_left, pieces_of}
+use Rattle.bound_proof.specs.ShiftLines.{version, is_shift, letters_of, shift_of, shift_at}
 use Rattle.bound_proof.specs.Told.{cost, bound, shift, node, done}
 use Rattle.bound_proof.specs.Written.{header_words, amount_words, name_word, shift_words, shift_line, node_lines, tree_lines, end_words, cert_lines, cert_text}
 use Rattle.bound_proof.proofs.BaseCuts.{cuts_of, length-cuts_from, few_groups}

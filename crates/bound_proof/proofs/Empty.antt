@@ -1,10 +1,10 @@
 -- A text that is too long has no line that is read.
-use Rattle.std.proofs.Common.{◌≡◌, ◌<◌, List, [], ℕ, length, refl, ap, ◌∙◌}
+use Rattle.std.proofs.Common.{◌≡◌, ◌<◌, List, [], ℕ, length, refl}
 use Rattle.std.proofs.lemmas.Bool.{lt-ltb}
 use Rattle.text_lines.specs.Lines.{text_items}
 use Rattle.text_lines.proofs.LineItems.{rest_items_none}
 use Rattle.bound_proof.specs.Items.{Items}
-use Rattle.bound_proof.specs.PieceList.{Reader, text_reader}
+use Rattle.bound_proof.specs.PieceList.{text_reader}
 use Rattle.bound_proof.specs.declared.stage.Stage.TheVariants.{TooLong}
 
 pub too_long_reader : (text : List ℕ) (items : Items) → 1073741824 < length text → items ≡ text_items [] → record { left = items; stage = TooLong; nodes_before = 0 } ≡ text_reader text

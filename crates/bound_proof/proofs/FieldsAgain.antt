@@ -1,26 +1,21 @@
 -- Lines that were written are read again, one by one.
-use Rattle.std.proofs.Common.{◌≡◌, ℕ, ℤ, pos, negsuc, zero, suc, ◌+◌, ◌-◌, ◌*◌, ◌<◌, ◌≤◌, ◌^◌, ◌&&◌, ◌||◌, Bool, true, false, cond, ltb, leb, eqb, List, [], ◌∷◌, ◌++◌, length, get_or, map, take, drop, Option, Some, None, Result, Ok, Err, refl, sym, ap, ◌∙◌, arith, subst, inl, inr, append_assoc, append-nil, length-append}
-use Rattle.std.specs.Prelude.{codes, position, unsigned_abs, slice_get, IfSome, All, ◌≤ℤ◌, ◌≢◌}
-use Rattle.std.specs.List.{position_or_len}
+use Rattle.std.proofs.Common.{◌≡◌, ℕ, ℤ, pos, negsuc, ◌+◌, ◌<◌, ◌≤◌, ◌^◌, true, false, eqb, List, [], ◌∷◌, ◌++◌, length, map, Option, Some, None, Result, Ok, Err, refl, sym, ap, ◌∙◌, arith, append_assoc, append-nil}
+use Rattle.std.specs.Prelude.{codes, unsigned_abs, IfSome, ◌≤ℤ◌}
 use Rattle.std.specs.Fmt.{decimal}
 use Rattle.std.specs.Str.{bytes_eq}
-use Rattle.std.proofs.lemmas.Bool.{and_from, lt-ltb, le-ltb, lt-leb, eq-eqb, false_from_ne_true}
+use Rattle.std.proofs.lemmas.Bool.{le-ltb, lt-leb, eq-eqb, false_from_ne_true}
 use Rattle.std.proofs.lemmas.Int.{ints}
 use Rattle.std.proofs.lemmas.List.{length-map}
-use Rattle.std.proofs.lemmas.List.Sums.{position_or_len_is}
-use Rattle.std.proofs.lemmas.Option.{same_Some, slice_get_within, slice_get-get_or}
 use Rattle.std.proofs.lemmas.Slice.Eq.{bytes_eq-Decides}
-use Rattle.text_lines.specs.declared.number.NumberFault.{NumberFault}
 use Rattle.text_lines.specs.declared.number.NumberFault.TheVariants.{Form}
-use Rattle.text_lines.specs.Numbers.{is_plain, natural_of, number_of, number_text}
-use Rattle.text_lines.specs.Steps.{◌>>=◌, each}
+use Rattle.text_lines.specs.Numbers.{is_plain, natural_of, number_text}
+use Rattle.text_lines.specs.Steps.{each}
 use Rattle.text_lines.proofs.Again.{natural_again, number_again}
 use Rattle.roster_model.specs.declared.grammar.ArcKey.{ArcKey}
 use Rattle.roster_model.specs.declared.instance.Group.{Group}
 use Rattle.roster_model.specs.declared.instance.Instance.{Instance}
 use Rattle.roster_model.specs.declared.instance.Mult.{Mult}
 use Rattle.roster_model.specs.declared.instance.Prices.{Prices}
-use Rattle.roster_model.specs.declared.instance.Shift.{Shift}
 use Rattle.roster_model.specs.Folds.{Each}
 use Rattle.roster_model.specs.Sums.{Within}
 use Rattle.certificates.specs.declared.cert.Node.{Node}
@@ -30,7 +25,7 @@ use Rattle.bound_proof.specs.declared.fault.PieceFault.{PieceFault}
 use Rattle.bound_proof.specs.declared.node.NodeLine.{NodeLine}
 use Rattle.bound_proof.specs.declared.node.NodeLine.TheVariants.{Split, Priced, Pinned, Bare}
 use Rattle.bound_proof.specs.Fields.{number_at, signed_at, amount_at}
-use Rattle.bound_proof.specs.NodeLines.{arc_at, own_at, split_of, split_at, priced_at, leaf_at, node_at}
+use Rattle.bound_proof.specs.NodeLines.{arc_at, split_of, split_at, priced_at, leaf_at, node_at}
 use Rattle.bound_proof.specs.PriceLines.{due_byte, price_step, price_line, last_cut, mult_of, mult_line}
 use Rattle.bound_proof.specs.ShiftLines.{amount_line}
 use Rattle.bound_proof.specs.Written.{amount_word, amount_words, own_words, head_words, price_words, mult_words}

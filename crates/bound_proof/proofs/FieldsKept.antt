@@ -1,5 +1,5 @@
 -- What fields that were read say.
-use Rattle.std.proofs.Common.{◌≡◌, ℕ, ℤ, ◌+◌, ◌<◌, ◌≤◌, ◌^◌, Bool, true, false, cond, ltb, leb, eqb, ◌&&◌, ◌||◌, List, [], ◌∷◌, ◌++◌, length, Option, Some, None, Result, Ok, Err, refl, sym, ap, ◌∙◌, arith, subst}
+use Rattle.std.proofs.Common.{◌≡◌, ℕ, ℤ, ◌+◌, ◌<◌, ◌≤◌, ◌^◌, Bool, true, false, cond, ltb, leb, eqb, ◌||◌, List, [], ◌∷◌, length, Option, Some, None, Result, Ok, Err, refl, arith, subst}
 use Rattle.std.specs.Prelude.{codes, position, unsigned_abs, IfSome}
 use Rattle.std.specs.Str.{bytes_eq}
 use Rattle.std.proofs.lemmas.Bool.{or_parts, and_parts}
@@ -12,7 +12,6 @@ use Rattle.roster_model.specs.declared.instance.Group.{Group}
 use Rattle.roster_model.specs.declared.instance.Instance.{Instance}
 use Rattle.roster_model.specs.declared.instance.Shift.{Shift}
 use Rattle.roster_model.specs.Folds.{Each}
-use Rattle.roster_model.specs.Sums.{Within}
 use Rattle.certificates.specs.Sound.{most_cost, most_rule, IsKey, IsGroupNumber, IsWordByte, IsSoundShift}
 use Rattle.bound_proof.specs.declared.fault.PieceFault.{PieceFault}
 use Rattle.bound_proof.specs.declared.fault.PieceFault.TheVariants.{UnknownLine}
@@ -20,10 +19,10 @@ use Rattle.text_lines.specs.Steps.{◌>>=◌}
 use Rattle.bound_proof.specs.declared.node.NodeLine.{NodeLine}
 use Rattle.bound_proof.specs.declared.node.NodeLine.TheVariants.{Split, Priced, Pinned, Bare}
 use Rattle.bound_proof.specs.Fields.{in_range, number_at, in_size, signed_at, amount_at, numbered_or, has_name, group_at}
-use Rattle.bound_proof.specs.NodeLines.{arc_at, denominator_at, own_at, if_room, split_of, split_at, priced_at, leaf_at, node_at}
-use Rattle.bound_proof.specs.ShiftLines.{shift_width, is_shift, team_at, letters_of, shift_of, shift_at, amount_line}
+use Rattle.bound_proof.specs.NodeLines.{arc_at, own_at, if_room, split_of, split_at, priced_at, leaf_at, node_at}
+use Rattle.bound_proof.specs.ShiftLines.{shift_width, is_shift, letters_of, shift_of, shift_at, amount_line}
 use Rattle.bound_proof.proofs.FineItems.{AreFine}
-use Rattle.bound_proof.proofs.Inversions.{ok, err, same_ok, bind_ok, passed, held, same_number, at_least, fewer}
+use Rattle.bound_proof.proofs.Inversions.{ok, err, same_ok, bind_ok, passed, held, at_least, fewer}
 
 -- ---- fields
 

@@ -1,7 +1,7 @@
 -- The words of a text have the bytes of words.
-use Rattle.std.proofs.Common.{◌≡◌, ℕ, ◌+◌, ◌≤◌, Bool, true, false, cond, not, ◌&&◌, ◌||◌, leb, eqb, List, [], ◌∷◌, ◌++◌, length, take, Result, Ok, Err, refl, sym, ap, arith, add-one, add_comm, inl, inr}
+use Rattle.std.proofs.Common.{◌≡◌, ℕ, ◌+◌, ◌≤◌, Bool, true, false, cond, not, ◌&&◌, ◌||◌, leb, eqb, List, [], ◌∷◌, length, take, Result, Ok, Err, refl, arith, add-one, add_comm}
 use Rattle.std.specs.Prelude.{filter}
-use Rattle.std.specs.List.{slice_split, onto_first, list_all, position_or_len, before_first}
+use Rattle.std.specs.List.{slice_split, onto_first, list_all, position_or_len}
 use Rattle.std.specs.Str.Lines.{lines}
 use Rattle.std.proofs.lemmas.Bool.{or_parts, and_parts, leb-true, ltb-true, eqb-false}
 use Rattle.roster_model.specs.Folds.{Each}
@@ -9,7 +9,6 @@ use Rattle.certificates.specs.Sound.{IsWordByte}
 use Rattle.text_lines.specs.declared.line.BadByte.{BadByte}
 use Rattle.text_lines.specs.Words.{words, is_blank, is_word}
 use Rattle.text_lines.specs.Lines.{TextLine, is_line_byte, is_mark, before_comment, line_items, items_from, rest_items, text_items}
-use Rattle.bound_proof.specs.Items.{Items}
 use Rattle.bound_proof.proofs.Inversions.{Each-append}
 
 abbrev AreFineParts : List (List ℕ) → Type 0

@@ -1,18 +1,17 @@
 -- The lines of a sound certificate are lines of words.
-use Rattle.std.proofs.Common.{◌≡◌, ℕ, ℤ, pos, negsuc, zero, suc, ◌+◌, ◌-◌, ◌*◌, ◌%◌, ◌/◌, ◌<◌, ◌≤◌, ◌^◌, Bool, true, false, cond, not, ◌&&◌, ◌||◌, List, [], ◌∷◌, ◌++◌, length, get_or, map, take, drop, Option, Some, None, refl, sym, ap, ◌∙◌, subst, arith, inl, inr, eqb, leb, ltb, length-append, length-take, length-drop}
+use Rattle.std.proofs.Common.{◌≡◌, ℕ, ℤ, pos, negsuc, zero, suc, ◌+◌, ◌-◌, ◌*◌, ◌%◌, ◌/◌, ◌<◌, ◌≤◌, ◌^◌, true, false, not, ◌&&◌, ◌||◌, List, [], ◌∷◌, ◌++◌, length, get_or, map, take, drop, Option, Some, None, refl, ap, ◌∙◌, arith, inl, inr, eqb, leb, ltb, length-append}
 use Rattle.std.specs.Prelude.{codes, slice_get, IfSome, All}
 use Rattle.std.specs.List.{list_all}
 use Rattle.std.specs.Fmt.{decimal}
-use Rattle.std.proofs.lemmas.Bool.{and_from, and_parts, or_cases, leb-true, ltb-true, lt-ltb, le-leb, ne_eqb, eqb-true}
+use Rattle.std.proofs.lemmas.Bool.{and_from, and_parts, or_cases, leb-true, lt-ltb, le-leb, ne_eqb, eqb-true}
 use Rattle.std.proofs.lemmas.Fmt.{decimal_by_steps_wide}
 use Rattle.std.proofs.lemmas.Int.{ints}
 use Rattle.std.proofs.lemmas.List.Elements.{All-head, All-tail}
-use Rattle.std.proofs.lemmas.Option.{same_Some, slice_get_within, slice_get-get_or}
+use Rattle.std.proofs.lemmas.Option.{slice_get_within, slice_get-get_or}
 use Rattle.std.proofs.Math.Nat.{mul-div-le}
 use Rattle.text_lines.specs.Numbers.{number_text}
 use Rattle.text_lines.specs.Written.{is_word_byte, is_written, are_written}
 use Rattle.roster_model.specs.declared.grammar.ArcKey.{ArcKey}
-use Rattle.roster_model.specs.declared.grammar.CodeDef.{CodeDef}
 use Rattle.roster_model.specs.declared.grammar.Grammar.{Grammar}
 use Rattle.roster_model.specs.declared.instance.Cell.{Cell}
 use Rattle.roster_model.specs.declared.instance.Cut.{Cut}
@@ -21,7 +20,6 @@ use Rattle.roster_model.specs.declared.instance.Instance.{Instance}
 use Rattle.roster_model.specs.declared.instance.Mult.{Mult}
 use Rattle.roster_model.specs.declared.instance.Prices.{Prices}
 use Rattle.roster_model.specs.declared.instance.Shift.{Shift}
-use Rattle.roster_model.specs.Extension.{extended}
 use Rattle.roster_model.specs.Folds.{Each}
 use Rattle.roster_model.specs.Limits.{IsDayCell}
 use Rattle.roster_model.specs.Names.{is_code_byte, is_letter, is_name_byte, is_name, is_window_word, added_name}
@@ -34,11 +32,9 @@ use Rattle.certificates.specs.declared.cert.Node.{Node}
 use Rattle.certificates.specs.declared.cert.Node.TheVariants.{Split, Priced, Pinned, Bare}
 use Rattle.certificates.specs.Sound.{most_cost, most_rule, IsKey, IsGroupNumber, IsWordByte, IsSoundShift, IsSoundNode}
 use Rattle.certificates.proofs.Rising.{all_each}
-use Rattle.bound_proof.specs.PriceLines.{code_byte, cell_code, due_byte}
-use Rattle.bound_proof.specs.ShiftLines.{version}
-use Rattle.bound_proof.specs.Written.{header_words, amount_word, amount_words, name_word, shift_words, shift_line, own_words, head_words, price_words, price_lines, mult_words, block_lines, node_lines, tree_lines}
+use Rattle.bound_proof.specs.PriceLines.{code_byte, due_byte}
+use Rattle.bound_proof.specs.Written.{header_words, amount_word, amount_words, name_word, shift_words, shift_line, head_words, price_lines, mult_words, block_lines, node_lines}
 use Rattle.bound_proof.proofs.Inversions.{Each-append}
-use Rattle.bound_proof.proofs.PriceBlock.{cells_whole}
 use Rattle.bound_proof.proofs.TreeAgain.{each_take}
 
 -- a word that can be written

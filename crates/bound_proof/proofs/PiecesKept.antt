@@ -1,13 +1,11 @@
 -- What a text tells up to its end: the cost, the bound, sound shifts, and the nodes of a sound tree.
-use Rattle.std.proofs.Common.{◌≡◌, ℕ, ℤ, ◌+◌, ◌<◌, ◌≤◌, Bool, true, false, cond, ltb, List, [], ◌∷◌, ◌++◌, length, Option, Some, None, Result, Ok, Err, refl, sym, ap, ◌∙◌, arith, subst, append_assoc, append-nil, length-append}
+use Rattle.std.proofs.Common.{◌≡◌, ℕ, ℤ, ◌+◌, ◌<◌, ◌≤◌, Bool, true, false, cond, ltb, List, [], ◌∷◌, ◌++◌, length, Option, Some, None, Result, Ok, Err, refl, sym, ap, ◌∙◌, arith, subst, append_assoc, append-nil}
 use Rattle.std.specs.Prelude.{IfSome, is_some, codes}
 use Rattle.std.proofs.lemmas.Bool.{ltb-true}
-use Rattle.roster_model.specs.declared.instance.Cut.{Cut}
 use Rattle.roster_model.specs.declared.instance.Instance.{Instance}
 use Rattle.roster_model.specs.declared.instance.Mult.{Mult}
 use Rattle.roster_model.specs.declared.instance.Prices.{Prices}
 use Rattle.roster_model.specs.declared.instance.Shift.{Shift}
-use Rattle.roster_model.specs.Cuts.{base_cuts}
 use Rattle.roster_model.specs.Folds.{Each}
 use Rattle.roster_model.specs.SoundInstance.{IsSoundInstance}
 use Rattle.certificates.specs.declared.cert.Cert.{Cert}
@@ -28,13 +26,13 @@ use Rattle.bound_proof.specs.NodeLines.{node_at}
 use Rattle.bound_proof.specs.PriceLines.{price_line, is_mult, mult_line}
 use Rattle.bound_proof.specs.ShiftLines.{is_header, amount_line, is_shift, shift_at}
 use Rattle.bound_proof.specs.PieceList.{Given, Place, no_place, wants, leaf_read, split_read, node_read, cut_count, node_of, Spot, too_long, start, costs, bounds, shifts, nodes, block, ended, over, after, begin, is_end, at_node, in_block, at_line, at_end, at_bad, after_bound, spot_of, Reader, pieces_from, pieces_left, pieces_of}
-use Rattle.bound_proof.specs.Told.{Told, cost, bound, shift, node, done}
+use Rattle.bound_proof.specs.Told.{cost, bound, shift, node, done}
 use Rattle.bound_proof.specs.ToldSound.{SoundNode}
 use Rattle.bound_proof.proofs.BlockKept.{Block, block_none, block_price, block_mult, block_fits}
 use Rattle.bound_proof.proofs.FieldsKept.{IsHead, node_is, shift_is, amount_line_within}
 use Rattle.bound_proof.proofs.FineItems.{AreFine, IsFine, text_fine}
 use Rattle.bound_proof.proofs.Inversions.{at_least}
-use Rattle.bound_proof.proofs.TreeKept.{SoundTree, Wanted, Fills, leaf_fills, split_fills, whole_proof}
+use Rattle.bound_proof.proofs.TreeKept.{Wanted, Fills, leaf_fills, split_fills, whole_proof}
 
 -- the nodes that are told where the tree is read so far
 pub record TellsNodes (i : Instance) (p : Place) (c : Cert) (given : Given) (cert : Cert) : Type 0 where

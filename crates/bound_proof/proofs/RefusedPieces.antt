@@ -8,7 +8,7 @@ use Rattle.roster_model.specs.declared.instance.Shift.{Shift}
 use Rattle.certificates.specs.declared.cert.Cert.{Cert}
 use Rattle.certificates.specs.declared.cert.Node.{Node}
 use Rattle.bound_proof.specs.declared.fault.PieceFault.{PieceFault}
-use Rattle.bound_proof.specs.declared.fault.PieceFault.TheVariants.{BadByte, BadHeader, CutShort, Trailing, TooLong}
+use Rattle.bound_proof.specs.declared.fault.PieceFault.TheVariants.{BadByte, BadHeader, CutShort, Trailing}
 use Rattle.bound_proof.specs.declared.fault.ProofFault.{ProofFault}
 use Rattle.bound_proof.specs.declared.node.NodeLine.{NodeLine}
 use Rattle.bound_proof.specs.declared.node.NodeLine.TheVariants.{Split, Priced, Pinned, Bare}
@@ -19,8 +19,8 @@ use Rattle.bound_proof.specs.NodeLines.{node_at}
 use Rattle.bound_proof.specs.PriceLines.{price_line, is_mult, mult_line}
 use Rattle.bound_proof.specs.ShiftLines.{is_header, amount_line, is_shift, shift_at}
 use Rattle.bound_proof.specs.PieceList.{Given, Place, no_place, wants, node_read, cut_count, node_of, Spot, too_long, start, costs, bounds, shifts, nodes, block, ended, over, after, after_bound, begin, is_end, at_node, in_block, at_line, at_end, at_bad, spot_of, Reader, pieces_from, pieces_left, pieces_of}
-use Rattle.bound_proof.specs.Refused.{told_then, TellsFault}
-use Rattle.bound_proof.specs.Told.{Told, cost, bound, shift, node, done}
+use Rattle.bound_proof.specs.Refused.{TellsFault}
+use Rattle.bound_proof.specs.Told.{cost, bound, shift, node}
 
 -- nothing is told behind the end or a fault, and one of them is told
 abbrev Ends : Given → Type 0

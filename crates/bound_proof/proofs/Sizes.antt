@@ -1,12 +1,11 @@
 -- How long the text of a certificate is at most.
-use Rattle.std.proofs.Common.{◌≡◌, ℕ, ℤ, pos, negsuc, zero, suc, ◌+◌, ◌-◌, ◌*◌, ◌/◌, ◌<◌, ◌≤◌, ◌^◌, Bool, true, false, not, ltb, leb, List, [], ◌∷◌, ◌++◌, length, get_or, map, take, drop, Option, Some, None, refl, sym, ap, ◌∙◌, subst, arith, inl, inr, length-append, length-take, length-drop}
-use Rattle.std.specs.Prelude.{codes, slice_get, IfSome, All}
+use Rattle.std.proofs.Common.{◌≡◌, ℕ, ℤ, pos, negsuc, zero, suc, ◌+◌, ◌-◌, ◌*◌, ◌/◌, ◌<◌, ◌≤◌, ◌^◌, true, not, ltb, leb, List, [], ◌∷◌, ◌++◌, length, get_or, map, take, drop, Option, Some, None, refl, sym, ap, ◌∙◌, arith, inl, inr, length-append, length-take, length-drop}
+use Rattle.std.specs.Prelude.{codes, slice_get, IfSome}
 use Rattle.std.specs.List.{list_all}
 use Rattle.std.specs.Fmt.{decimal}
 use Rattle.std.proofs.lemmas.Bool.{and_parts, leb-true}
 use Rattle.std.proofs.lemmas.Fmt.{length-decimal-le_wide}
 use Rattle.std.proofs.lemmas.Int.{ints}
-use Rattle.std.proofs.lemmas.List.Elements.{All-head, All-tail}
 use Rattle.std.proofs.lemmas.Option.{slice_get-get_or}
 use Rattle.std.proofs.Math.Nat.{mul-div_cancel}
 use Rattle.text_lines.specs.Numbers.{number_text}
@@ -34,7 +33,7 @@ use Rattle.certificates.specs.Sound.{most_cost, most_rule, IsKey, IsGroupNumber,
 use Rattle.certificates.proofs.Rising.{all_each}
 use Rattle.certificates.proofs.Walking.{each_parts}
 use Rattle.bound_proof.specs.PriceLines.{due_byte}
-use Rattle.bound_proof.specs.Written.{tail, header_words, amount_word, amount_words, name_word, shift_words, shift_line, own_words, head_words, price_words, price_lines, mult_words, block_lines, node_lines, tree_lines, end_words, cert_lines, cert_text, node_values}
+use Rattle.bound_proof.specs.Written.{tail, header_words, amount_word, amount_words, name_word, shift_words, shift_line, head_words, price_lines, mult_words, block_lines, node_lines, tree_lines, end_words, cert_text, node_values}
 use Rattle.bound_proof.proofs.CertAgain.{few_base_cuts}
 use Rattle.bound_proof.proofs.FineWords.{name_within}
 use Rattle.bound_proof.proofs.PriceBlock.{cells_whole}

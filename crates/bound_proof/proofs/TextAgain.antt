@@ -1,24 +1,11 @@
 -- A certificate that was written is read again.
-use Rattle.std.proofs.Common.{◌≡◌, ℕ, zero, suc, ◌+◌, ◌-◌, ◌*◌, ◌<◌, ◌≤◌, ◌^◌, Bool, true, false, cond, ltb, eqb, ◌||◌, List, [], ◌∷◌, ◌++◌, length, get_or, map, Option, Some, None, Result, Ok, Err, refl, sym, ap, ◌∙◌, arith, subst, inl, inr, append_assoc, append-nil, length-append}
-use Rattle.std.specs.Prelude.{codes, position, slice_get, is_some, IfSome, All, ◌≢◌}
-use Rattle.std.specs.List.{position_or_len}
-use Rattle.std.specs.Fmt.{decimal}
-use Rattle.std.specs.Str.{bytes_eq}
-use Rattle.std.proofs.lemmas.Bool.{lt-ltb, le-ltb, lt-leb, ne_eqb, false_from_ne_true}
-use Rattle.std.proofs.lemmas.List.Elements.{All-head, All-tail}
-use Rattle.std.proofs.lemmas.List.Sums.{position_or_len_is}
-use Rattle.std.proofs.lemmas.Option.{slice_get_within, slice_get-get_or}
-use Rattle.std.proofs.lemmas.Slice.Eq.{bytes_eq-Decides}
-use Rattle.text_lines.specs.Lines.{TextLine, text_items}
+use Rattle.std.proofs.Common.{◌≡◌, ℕ, ◌+◌, ◌<◌, ◌≤◌, ◌^◌, Bool, true, false, List, [], ◌∷◌, ◌++◌, length, Ok, refl, sym, ap, ◌∙◌, arith, append-nil, length-append}
 use Rattle.text_lines.specs.Written.{numbered}
 use Rattle.roster_model.specs.declared.instance.Cut.{Cut}
-use Rattle.roster_model.specs.declared.instance.Group.{Group}
 use Rattle.roster_model.specs.declared.instance.Instance.{Instance}
-use Rattle.roster_model.specs.declared.instance.Shift.{Shift}
 use Rattle.roster_model.specs.Cuts.{base_cuts}
 use Rattle.roster_model.specs.Folds.{Each}
 use Rattle.roster_model.specs.SoundInstance.{IsSoundInstance}
-use Rattle.certificates.specs.declared.cert.Cert.{Cert}
 use Rattle.certificates.specs.declared.cert.Node.{Node}
 use Rattle.certificates.specs.declared.cert.Node.TheVariants as of
 use Rattle.certificates.specs.Nodes.{Proof, split, priced, pinned, bare, preorder, low_cut, high_cut, visits}
@@ -26,11 +13,10 @@ use Rattle.certificates.specs.Sound.{IsSoundVisit, NoneIsZero}
 use Rattle.certificates.proofs.Walking.{each_parts}
 use Rattle.bound_proof.specs.Ahead.{NoMult}
 use Rattle.bound_proof.specs.Items.{Items}
-use Rattle.bound_proof.specs.PieceList.{Given, Place, no_place, wants, after_leaf, node_read, cut_count, nodes, pieces_from}
+use Rattle.bound_proof.specs.PieceList.{Given, Place, wants, after_leaf, node_read, cut_count, nodes, pieces_from}
 use Rattle.bound_proof.specs.Told.{node}
-use Rattle.bound_proof.specs.Written.{head_words, node_lines, tree_lines}
+use Rattle.bound_proof.specs.Written.{node_lines, tree_lines}
 use Rattle.bound_proof.proofs.FieldsAgain.{line_of_node}
-use Rattle.bound_proof.proofs.Inversions.{Each-append}
 use Rattle.bound_proof.proofs.TreeAgain.{nodes_then, nodes_then-append, numbered-then, node_told, tree_lines-append, tree_no_mult, wants_open, tree_read}
 
 abbrev place : ℕ → List Bool → Place

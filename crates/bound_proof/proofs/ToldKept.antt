@@ -18,8 +18,8 @@ use Rattle.bound_proof.specs.NodeLines.{node_at}
 use Rattle.bound_proof.specs.PriceLines.{price_line, is_mult, mult_line}
 use Rattle.bound_proof.specs.ShiftLines.{is_header, amount_line, is_shift, shift_at}
 use Rattle.bound_proof.specs.PieceList.{Given, Place, no_place, wants, leaf_read, split_read, node_read, cut_count, node_of, Spot, too_long, start, costs, bounds, shifts, nodes, block, ended, over, after, begin, is_end, at_node, in_block, at_line, at_end, at_bad, after_bound, spot_of, Reader, pieces_from, pieces_left, pieces_of}
-use Rattle.bound_proof.specs.Told.{Told, cost, bound, shift, node, done}
-use Rattle.bound_proof.specs.ToldSound.{SoundNode, node_told, AreToldSound}
+use Rattle.bound_proof.specs.Told.{cost, bound, shift, node}
+use Rattle.bound_proof.specs.ToldSound.{node_told, AreToldSound}
 use Rattle.bound_proof.proofs.BlockKept.{Block, block_none, block_price, block_mult}
 use Rattle.bound_proof.proofs.FieldsKept.{IsHead, node_is, shift_is}
 use Rattle.bound_proof.proofs.FineItems.{AreFine, IsFine, text_fine}

@@ -1,35 +1,32 @@
 -- The nodes of a tree that were written are read again.
-use Rattle.std.proofs.Common.{◌≡◌, ℕ, ℤ, pos, zero, suc, ◌+◌, ◌-◌, ◌*◌, ◌/◌, ◌<◌, ◌≤◌, ◌^◌, Bool, true, false, cond, ltb, eqb, ◌||◌, List, [], ◌∷◌, ◌++◌, length, map, take, drop, Option, Some, None, Result, Ok, Err, refl, sym, ap, ◌∙◌, arith, subst, append_assoc, append-nil, length-append, length-take, length-drop}
-use Rattle.std.specs.Prelude.{codes, IfSome, All, ◌≢◌, ◌≤ℤ◌}
+use Rattle.std.proofs.Common.{◌≡◌, ℕ, ℤ, pos, zero, suc, ◌+◌, ◌*◌, ◌/◌, ◌<◌, ◌≤◌, ◌^◌, Bool, true, List, [], ◌∷◌, ◌++◌, length, map, take, drop, Some, None, Result, Ok, refl, sym, ap, ◌∙◌, arith, subst, append_assoc, append-nil, length-append, length-take, length-drop}
+use Rattle.std.specs.Prelude.{codes, ◌≤ℤ◌}
 use Rattle.std.proofs.lemmas.Bool.{lt-ltb, ne_eqb}
-use Rattle.std.proofs.lemmas.List.Elements.{All-head, All-tail}
 use Rattle.std.proofs.Math.Nat.{mul-div_cancel}
 use Rattle.text_lines.specs.declared.line.BadByte.{BadByte}
 use Rattle.text_lines.specs.Lines.{TextLine}
 use Rattle.text_lines.specs.Written.{numbered}
-use Rattle.roster_model.specs.declared.grammar.ArcKey.{ArcKey}
 use Rattle.roster_model.specs.declared.instance.Cut.{Cut}
 use Rattle.roster_model.specs.declared.instance.Instance.{Instance}
 use Rattle.roster_model.specs.declared.instance.Mult.{Mult}
 use Rattle.roster_model.specs.declared.instance.Prices.{Prices}
-use Rattle.roster_model.specs.Cuts.{base_cuts}
 use Rattle.roster_model.specs.Folds.{Each}
 use Rattle.roster_model.specs.PriceLimits.{IsMult, AreRising, FitPrices}
 use Rattle.roster_model.specs.SoundInstance.{IsSoundInstance}
 use Rattle.roster_model.specs.Sums.{Within}
 use Rattle.certificates.specs.declared.cert.Node.{Node}
 use Rattle.certificates.specs.declared.cert.Node.TheVariants as of
-use Rattle.certificates.specs.Nodes.{Proof, split, priced, pinned, bare, preorder, low_cut, high_cut, Visit, visits}
-use Rattle.certificates.specs.Sound.{IsSoundNode, IsSoundVisit, ListNoZero, NoneIsZero}
+use Rattle.certificates.specs.Nodes.{Proof, split, priced, pinned, bare, preorder}
+use Rattle.certificates.specs.Sound.{IsSoundNode, ListNoZero, NoneIsZero}
 use Rattle.certificates.proofs.Rising.{all_each}
 use Rattle.bound_proof.specs.declared.node.NodeLine.{NodeLine}
-use Rattle.bound_proof.specs.declared.node.NodeLine.TheVariants.{Split, Priced, Pinned, Bare}
+use Rattle.bound_proof.specs.declared.node.NodeLine.TheVariants.{Split, Priced}
 use Rattle.bound_proof.specs.Ahead.{NoMult}
 use Rattle.bound_proof.specs.Items.{Items}
-use Rattle.bound_proof.specs.PieceList.{Given, Place, wants, after_leaf, leaf_read, split_read, node_read, cut_count, node_of, block, nodes, pieces_from}
-use Rattle.bound_proof.specs.PriceLines.{due_byte, price_line, is_mult, last_cut}
+use Rattle.bound_proof.specs.PieceList.{Given, Place, wants, after_leaf, node_read, cut_count, node_of, block, nodes, pieces_from}
+use Rattle.bound_proof.specs.PriceLines.{due_byte, price_line, last_cut}
 use Rattle.bound_proof.specs.Told.{node}
-use Rattle.bound_proof.specs.Written.{head_words, price_words, price_lines, mult_words, block_lines, node_lines, tree_lines}
+use Rattle.bound_proof.specs.Written.{price_words, price_lines, mult_words, block_lines, node_lines, tree_lines}
 use Rattle.bound_proof.proofs.BlockKept.{last_is}
 use Rattle.bound_proof.proofs.FieldsAgain.{same_bytes, HasLine, line_of_node, node_again, price_line_again, mult_line_again}
 use Rattle.bound_proof.proofs.PriceBlock.{price_read, mult_read, block_done, cells_whole}

@@ -1,6 +1,5 @@
 -- The nodes that a text tells are one whole tree in preorder.
-use Rattle.std.proofs.Common.{◌≡◌, ℕ, suc, ◌+◌, ◌<◌, ◌≤◌, Bool, true, false, cond, ltb, eqb, ◌||◌, List, [], ◌∷◌, ◌++◌, length, Option, Some, None, refl, sym, ap, ◌∙◌, arith, append_assoc, append-nil, length-append}
-use Rattle.std.specs.Prelude.{IfSome}
+use Rattle.std.proofs.Common.{◌≡◌, ℕ, ◌+◌, ◌≤◌, Bool, true, false, List, [], ◌∷◌, ◌++◌, length, Option, refl, sym, ap, ◌∙◌, arith, append_assoc, append-nil, length-append}
 use Rattle.std.proofs.lemmas.Bool.{lt-ltb, ne_eqb}
 use Rattle.roster_model.specs.declared.grammar.ArcKey.{ArcKey}
 use Rattle.roster_model.specs.declared.instance.Cut.{Cut}
@@ -9,8 +8,8 @@ use Rattle.roster_model.specs.declared.instance.Prices.{Prices}
 use Rattle.roster_model.specs.Cuts.{base_cuts}
 use Rattle.roster_model.specs.Folds.{Each}
 use Rattle.certificates.specs.declared.cert.Node.{Node}
-use Rattle.certificates.specs.declared.cert.Node.TheVariants.{Split, Priced, Pinned, Bare}
-use Rattle.certificates.specs.Nodes.{Proof, split, preorder, low_cut, high_cut, Visit, visits}
+use Rattle.certificates.specs.declared.cert.Node.TheVariants.{Split}
+use Rattle.certificates.specs.Nodes.{Proof, split, preorder, low_cut, high_cut, visits}
 use Rattle.certificates.specs.Sound.{IsSoundVisit, IsSoundProof}
 use Rattle.bound_proof.specs.PieceList.{Place, no_place, wants, after_leaf, leaf_read, split_read}
 use Rattle.bound_proof.specs.ToldSound.{SoundNode}

@@ -1,5 +1,5 @@
 -- The words of a line: numbers, names and words of a day.
-use Rattle.std.specs.Prelude.{ℕ, ℤ, ◌+◌, ◌^◌, ◌||◌, nat_lt, unsigned_abs, length, position, slice_get, Bool, false, codes, List, [], ◌∷◌, Option, Some, None, if◌then◌else◌, Result, Ok, Err}
+use Rattle.std.specs.Prelude.{ℕ, ℤ, ◌+◌, ◌^◌, ◌||◌, nat_lt, unsigned_abs, position, slice_get, Bool, false, codes, List, Option, Some, None, if◌then◌else◌, Result, Ok, Err}
 use Rattle.std.specs.Str.{bytes_eq}
 use Rattle.text_lines.specs.Numbers.{natural_of, number_of}
 use Rattle.text_lines.specs.Steps.{◌>>=◌}

@@ -1,5 +1,5 @@
 -- What one piece, or a fault, leaves of the list of all that a text tells.
-use Rattle.std.specs.Prelude.{◌≡◌, List, [], ◌∷◌, Result, Ok, Err, MatchResult}
+use Rattle.std.specs.Prelude.{◌≡◌, [], ◌∷◌, Result, Ok, Err, MatchResult}
 use Rattle.roster_model.specs.declared.instance.Instance.{Instance}
 use Rattle.bound_proof.specs.declared.fault.PieceFault.{PieceFault}
 use Rattle.bound_proof.specs.declared.next.Next.{Next}

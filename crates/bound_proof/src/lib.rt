@@ -47,9 +47,7 @@ mod write;
 
 pub use certificates::{Cert, Node};
 pub use fault::{PieceFault, ProofFault};
-pub use laws::{
-    accepted_pieces, refused_pieces, told_pieces_are_sound, written_again,
-};
+pub use laws::{accepted_pieces, refused_pieces, told_pieces_are_sound, written_again};
 pub use message::fault_line;
 pub use piece::Piece;
 pub use pieces::Pieces;

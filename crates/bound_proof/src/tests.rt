@@ -515,7 +515,9 @@ fn many_nodes(rt: HostRuntime) -> Result<(), Fail> {
     assert!(rt; said.is_empty());
     let text = tree_text(rt.alloc(), 10_001)?;
     let said = answer(rt.alloc(), &instance, text.as_bytes())?;
-    assert!(rt; said.as_slice() == b"proof: line 20005: too many nodes, at most 20001\n".as_slice());
+    assert!(rt;
+        said.as_slice() == b"proof: line 20005: too many nodes, at most 20001\n".as_slice()
+    );
     Ok(())
 }
 

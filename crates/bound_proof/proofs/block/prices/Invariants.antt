@@ -1,4 +1,4 @@
-use Rattle.std.proofs.Common.{◌≡◌, ◌+◌, ◌≤◌, length}
+use Rattle.std.proofs.Common.{◌≡◌, ◌+◌, length}
 use Rattle.text_lines.specs.Steps.{each}
 use Rattle.bound_proof.specs.PriceLines.{price_step}
 use Rattle.bound_proof.proofs.block.prices.Given as goal
