@@ -30,7 +30,7 @@ count-few p (x ∷ xs) = one (p x) (count-few p xs)
     one true h = omega arith
     one false h = omega arith
 
-length-duties : (ss : List Shift) → length (map duty ss) ≡ length ss
+pub length-duties : (ss : List Shift) → length (map duty ss) ≡ length ss
 length-duties [] = refl
 length-duties (s ∷ ss) = omega (arith, length-duties ss)
 

@@ -3,3 +3,4 @@ pub mod Numbered
 pub mod Pricing
 pub mod Counting
 pub mod Causing
+pub mod Tallied

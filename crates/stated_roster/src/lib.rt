@@ -2,6 +2,7 @@
 //! coverage.
 #![tactic(auto)]
 
+mod counter;
 mod coverage;
 mod prices;
 mod roster;

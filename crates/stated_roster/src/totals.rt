@@ -9,7 +9,7 @@ ghost use Rattle.certificates.specs.RosterCauses.{duties};
 ghost use Rattle.certificates.specs.Sound.{IsSoundShift};
 ghost use Rattle.stated_roster.specs.Faults.{stated_prices, IsHeadsCause};
 
-use crate::coverage::coverage;
+use crate::counter::Counter;
 use crate::team::{team_at, team_count};
 use certificates::Why;
 use roster_model::{Cell, Grammar, Instance, Shift, penalty};
@@ -58,15 +58,17 @@ fn paid(shifts: &[Shift]) -> u64
 
 /// Returns the sum of the cells' penalties.
 fn penalties(grammar: &Grammar, cells: &[Cell], shifts: &[Shift]) -> u64
+    requires periods { grammar.now.periods ≤ 96 }
     requires cells { All (IsDayCell grammar.now) cells.now }
     requires few_cells { length cells.now ≤ 768 }
     requires few { length shifts.now ≤ 64 }
     ensures value { result ≡ sum_n (λ c. penalty c (covered grammar.now c (duties shifts.now))) cells.now }
     ensures within { result ≤ 2 ^ 40 }
 {
+    let mut counter = Counter::new();
     let mut sum = 0;
     for cell in cells {
-        sum += penalty(cell, coverage(grammar, shifts, cell));
+        sum += penalty(cell, counter.coverage(grammar, shifts, cell));
     }
     sum
 }

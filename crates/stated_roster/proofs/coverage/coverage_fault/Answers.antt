@@ -47,7 +47,7 @@ returns-then-have-cell c =
     (record {
       place = k + 1;
       cell = cell;
-      first = first-here (IsOutside i ds) (λ (x : Cell). IsWithinCell x (covered i.grammar x ds)) i.cells k cell here out (never_outside i ds) c.loop-cell.invariant;
+      first = first-here (IsOutside i ds) (λ (x : Cell). IsWithinCell x (covered i.grammar x ds)) i.cells k cell here out (never_outside i ds) c.loop-cell.invariant.before;
       code = sym byte;
       when = refl;
       count = sym have;
@@ -65,10 +65,15 @@ loop-cell-preserved c =
     let have : c.coverage-have.result ≡ covered i.grammar cell ds = rw e at c.coverage-have.ensures.value in
     let low = rw e at c.if-have-cell.false in
     let high = rw e at c.if-cell-have.false in
-    before-next (λ (x : Cell). IsWithinCell x (covered i.grammar x ds)) i.cells k cell here (record { floor = omega (arith, have, low); ceiling = omega (arith, have, high) }) c.loop-cell.invariant
+    record {
+      before =
+          before-next (λ (x : Cell). IsWithinCell x (covered i.grammar x ds)) i.cells k cell here
+          (record { floor = omega (arith, have, low); ceiling = omega (arith, have, high) }) c.loop-cell.invariant.before;
+      counter = c.coverage-have.ensures.counter;
+    }
 
 pub returns : goal.returns
 returns c =
     let i = c.args.instance.now in
     let ds = duties c.args.shifts.now in
-    before-all (λ (x : Cell). IsWithinCell x (covered i.grammar x ds)) i.cells c.loop-cell.cell-index (omega (arith, ap length c.as_slice-cell-items.ensures, c.loop-cell-test.false)) c.loop-cell.invariant
+    before-all (λ (x : Cell). IsWithinCell x (covered i.grammar x ds)) i.cells c.loop-cell.cell-index (omega (arith, ap length c.as_slice-cell-items.ensures, c.loop-cell-test.false)) c.loop-cell.invariant.before

@@ -29,4 +29,5 @@ loop-cell-preserved c =
     record {
       value = omega (arith, i.value, next, c.penalty-sum.ensures, same);
       within = omega (arith, few, c.penalty-sum.ensures, i.within);
+      counter = c.coverage.ensures.counter;
     }

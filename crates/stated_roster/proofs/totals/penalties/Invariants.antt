@@ -3,6 +3,7 @@ use Rattle.roster_model.specs.declared.instance.Cell.{Cell}
 use Rattle.roster_model.specs.Coverage.{covered, penalty}
 use Rattle.roster_model.specs.Folds.{sum_n}
 use Rattle.certificates.specs.RosterCauses.{duties}
+use Rattle.stated_roster.specs.Counters.{IsCounterFor}
 use Rattle.stated_roster.proofs.Counting.{rest_cells}
 use Rattle.stated_roster.proofs.totals.penalties.Given as goal
 
@@ -11,4 +12,5 @@ invariant-loop-cell l = record {
   value : sum_n (λ (c : Cell). penalty c (covered l.grammar c (duties l.shifts))) l.cells
       ≡ l.sum + rest_cells (λ (c : Cell). penalty c (covered l.grammar c (duties l.shifts))) l.cells l.cell-index;
   within : l.sum ≤ 1280000 * l.cell-index;
+  counter : IsCounterFor l.grammar (duties l.shifts) l.counter;
 }
