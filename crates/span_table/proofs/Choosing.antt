@@ -1,9 +1,10 @@
 -- The better of two choices is one of them.
-use Rattle.std.proofs.Common.{◌≡◌, ℕ, ℤ, List, Option, None, Some, ◌⊎◌, inl, inr, sym, subst}
+use Rattle.std.proofs.Common.{◌≡◌, ℕ, ℤ, false, List, Option, None, Some, ◌⊎◌, inl, inr, refl, sym, subst}
+use Rattle.std.specs.Option.{is_some}
 use Rattle.std.specs.Prelude.{OnSome}
 use Rattle.roster_model.specs.declared.grammar.Grammar.{Grammar}
 use Rattle.roster_model.specs.declared.grammar.Sym.{Sym}
-use Rattle.roster_model.specs.Sums.{PriceView}
+use Rattle.roster_model.specs.Sums.{PriceView, plus}
 use Rattle.span_table.specs.Choices.{ChosenPart, ChosenRule}
 use Rattle.span_table.specs.declared.sums.Choice.{Choice}
 
@@ -11,6 +12,13 @@ use Rattle.span_table.specs.declared.sums.Choice.{Choice}
 pub on_some : (v : Option ℤ) (P : Type 0) → P → OnSome v P
 on_some None P h = tt
 on_some (Some z) P h = h
+
+-- there is no sum where a first part or the others have none
+pub no-sum : (a b : Option ℤ) (e : ℤ) → (is_some a ≡ false) ⊎ (is_some b ≡ false) → None ≡ plus a (plus (Some e) b)
+no-sum None b e h = refl
+no-sum (Some x) None e h = refl
+no-sum (Some x) (Some y) e (inl h) = cc
+no-sum (Some x) (Some y) e (inr h) = cc
 
 module _ (g : Grammar) (p : PriceView) (r k : ℕ) (s : Sym) (xs : List Sym) (i l : ℕ) where
   -- the better of two parts was chosen well

@@ -1,5 +1,5 @@
 -- What a first part and the others must mark, by the symbols of a right side.
-use Rattle.std.proofs.Common.{◌≡◌, ℕ, zero, suc, ◌<◌, ◌≤◌, ◌+◌, Bool, true, min, List, [], ◌∷◌, Some, arith, subst, sym, ap, ◌∙◌, length, drop, get_or, add-one}
+use Rattle.std.proofs.Common.{◌≡◌, ℕ, zero, suc, ◌<◌, ◌≤◌, ◌+◌, ◌-◌, Bool, true, List, [], ◌∷◌, Some, arith, subst, sym, ap, ◌∙◌, length, drop, get_or, add-one}
 use Rattle.std.proofs.Math.Seq.{drop-cons}
 use Rattle.roster_model.specs.declared.grammar.Grammar.{Grammar}
 use Rattle.roster_model.specs.declared.grammar.Rule.{Rule}
@@ -7,12 +7,10 @@ use Rattle.roster_model.specs.declared.grammar.Sym.{Sym}
 use Rattle.roster_model.specs.declared.grammar.Sym.TheVariants.{Code, Name}
 use Rattle.roster_model.specs.Grammar.{rule_at}
 use Rattle.roster_model.specs.Sound.{Exists}
-use Rattle.roster_model.specs.Trees.{done, letter, uses}
 use Rattle.tree_laws.proofs.Symbols.{here, here_last}
 use Rattle.span_table.specs.declared.slot.Layout.{Layout}
 use Rattle.span_table.specs.Cells.{place, name_slot, suffix_slot, IsLayoutOf}
-use Rattle.span_table.specs.Choices.{IsFirstEnd}
-use Rattle.span_table.specs.Marks.{HasSome, TreesStand, PartsStand, IsBefore, mark, SymbolMarked, RestMarked, SplitsMarked, PartsClosed}
+use Rattle.span_table.specs.Marks.{HasSome, TreesStand, PartsStand, IsBefore, mark, SymbolMarked, RestMarked, SplitsMarked, PartsClosed, HasSplit}
 use Rattle.span_table.proofs.Plugging.{first-stands, rest-stands, last-stands, only-stands}
 use Rattle.span_table.proofs.Slots.{name_slot-within}
 
@@ -57,24 +55,18 @@ module _ (xs : List Sym) (k : ℕ) (d s : Sym) (two : k + 2 ≤ length xs) (at :
     all-splits : SplitsMarked g lay ms r k s (drop (k + 1) xs) i l l → PartsClosed g lay ms r k (drop k xs) i l
     all-splits h = subst (λ (q : List Sym). PartsClosed g lay ms r k q i l) (sym two-here) (subst (λ (q : List Sym). SplitsMarked g lay ms r k s q i l l) next h)
 
-    one_long : (c m : ℕ) → HasSome g (Code c ∷ []) i m → m ≡ 1
-    one_long c m (done, h) = absurd h.0
-    one_long c m (uses q z inner rest, h) = absurd h.0
-    one_long c m (letter e done, h) = sym h.1
-    one_long c m (letter e (letter e' rest), h) = absurd h.0.1
-    one_long c m (letter e (uses q z inner rest), h) = absurd h.0.1
+    -- a first part and the others
+    split_here : (m : ℕ) → 1 ≤ m → m < l → HasSome g (s ∷ []) i m → HasSome g (drop (k + 1) xs) (i + m) (l - m) → HasSplit g (drop k xs) i l m
+    split_here m one less a b =
+        subst (λ (q : List Sym). HasSplit g q i l m) (sym two-here) (one, less, a, subst (λ (q : List Sym). HasSome g q (i + m) (l - m)) next b)
 
-  -- after all lengths that a first part may have, the parts are closed
-  pub splits-end : (g : Grammar) (lay : Layout) (ms : List Bool) (r i l end : ℕ) (e : Sym) → e ≡ s → IsFirstEnd e l end
-      → SplitsMarked g lay ms r k s (drop (k + 1) xs) i l end → PartsClosed g lay ms r k (drop k xs) i l
-  splits-end g lay ms r i l end (Name x) is first h = all-splits g lay ms r i l (subst (λ (q : ℕ). SplitsMarked g lay ms r k s (drop (k + 1) xs) i l q) first h)
-  splits-end g lay ms r i l end (Code c) is first h = all-splits g lay ms r i l
-      (λ m one less a b. let e : m ≡ 1 = one_long g lay ms r i l c m (subst (λ (q : Sym). HasSome g (q ∷ []) i m) (sym is) a) in
-      let low : m < end = shorter m l end e less first in
-      h m one low a b)
-    where
-      shorter : (m l end : ℕ) → m ≡ 1 → m < l → end ≡ min l 2 → m < end
-      shorter m l end e less f = grind arith
+    -- before the first length nothing is to be marked
+    pub splits-begin : (begin : ℕ) → begin ≤ l → ((m : ℕ) → HasSplit g (drop k xs) i l m → begin ≤ m) → SplitsMarked g lay ms r k s (drop (k + 1) xs) i l begin
+    splits-begin begin inner all m one less a b = let n = all m (split_here m one (omega (arith, less, inner)) a b) in absurd (omega (arith, n, less))
+
+    -- after the last length the parts are closed
+    pub splits-end : (end : ℕ) → ((m : ℕ) → HasSplit g (drop k xs) i l m → m < end) → SplitsMarked g lay ms r k s (drop (k + 1) xs) i l end → PartsClosed g lay ms r k (drop k xs) i l
+    splits-end end all h = all-splits (λ m one less a b. h m one (all m (split_here m one less a b)) a b)
 
 -- an only symbol's place is before that of the rule's name
 pub only-before : (g : Grammar) (lay : Layout) → IsLayoutOf g lay → (r i l : ℕ) (rule : Rule) (s : Sym) → rule_at g r ≡ Some rule → rule.right ≡ s ∷ []

@@ -14,3 +14,4 @@ pub mod Closing
 pub mod Telling
 pub mod Stepping
 pub mod Flags
+pub mod Ranges

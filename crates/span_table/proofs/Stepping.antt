@@ -1,17 +1,18 @@
 -- The keys after a key, in their order.
-use Rattle.std.proofs.Common.{◌≡◌, ℕ, ◌<◌, ◌≤◌, ◌+◌, ◌-◌, Bool, List, [], ◌∷◌, Option, None, Some, arith, refl, subst, sym, ◌∙◌, ◌⊎◌, inl, inr, length, drop}
+use Rattle.std.proofs.Common.{◌≡◌, ℕ, ◌<◌, ◌≤◌, ◌+◌, ◌-◌, Bool, List, [], ◌∷◌, Option, None, Some, arith, refl, subst, sym, ap, ◌∙◌, ◌⊎◌, inl, inr, length, drop}
 use Rattle.roster_model.specs.declared.grammar.ArcKey.{ArcKey}
 use Rattle.roster_model.specs.declared.grammar.Grammar.{Grammar}
 use Rattle.roster_model.specs.declared.grammar.Rule.{Rule}
 use Rattle.roster_model.specs.declared.grammar.Sym.{Sym}
 use Rattle.roster_model.specs.Arcs.{IsArc, ArcBefore, ComesFirst, arc_numbers}
+use Rattle.roster_model.specs.Grammar.{rule_at}
 use Rattle.roster_model.specs.Sound.{IsSound}
 use Rattle.std.proofs.lemmas.Option.{same_Some}
 use Rattle.tree_laws.proofs.Rules.{sound-rule, rule_at-within}
 use Rattle.span_table.specs.declared.slot.Layout.{Layout}
 use Rattle.span_table.specs.Cells.{IsLayoutOf}
 use Rattle.span_table.specs.Marks.{HasSplit, AreMarked}
-use Rattle.span_table.specs.Order.{IsAfter, IsNextArc, key_number, IsStep, IsSplitAfter, HasShape, IsLaterSuffix, IsSuffixStep, IsSought, IsSmall}
+use Rattle.span_table.specs.Order.{IsAfter, IsNextArc, key_number, IsStep, IsSplitAfter, IsPartStep, IsLongerPart, HasShape, IsLaterSuffix, IsSuffixStep, IsSought, IsSmall}
 use Rattle.span_table.proofs.Telling.{arc-told, marked-within}
 
 split_inside : (g : Grammar) (ss : List Sym) (i l m : ℕ) → 1 ≤ l → HasSplit g ss i l m → (1 ≤ m) × (m ≤ l)
@@ -90,6 +91,15 @@ lower-before a x s t le = go (three a.rule x.rule)
     go (inl h) = inr (inl h)
     go (inr (inl h)) = go2 h (three a.suffix x.suffix)
     go (inr (inr h)) = absurd (omega (arith, le, h, t.part, t.len, t.start, t.suffix))
+
+-- the next longer first part
+pub step-part : (a x : ArcKey) (m : ℕ) → IsSmall a → m < 256 → (IsSplitAfter a x → m ≤ x.part) → ArcBefore a x → key_number (record a { part = m }) ≤ key_number x
+step-part a x m s few next (inl h) = omega (arith, h, s.suffix, s.start, s.len, few)
+step-part a x m s few next (inr (e, inl h)) = omega (arith, e, h, s.start, s.len, few)
+step-part a x m s few next (inr (e, inr (f, inl h))) = omega (arith, e, f, h, s.len, few)
+step-part a x m s few next (inr (e, inr (f, inr (d, inl h)))) = omega (arith, e, f, d, h, few)
+step-part a x m s few next (inr (e, inr (f, inr (d, inr (c, inl h))))) = let n = next (e, f, d, c, h) in omega (arith, e, f, d, c, n)
+step-part a x m s few next (inr (e, inr (f, inr (d, inr (c, inr (p, h)))))) = absurd h
 
 -- one period more for the span, where no longer part makes an arc
 pub step-len : (g : Grammar) (a x b : ArcKey) → IsSmall a → HasShape g x → (IsSplitAfter a x → ⊥) → ArcBefore a x
@@ -187,3 +197,18 @@ step-fewer g a (Some b) s h = let n = small-number a s in let m = small-number b
 pub first-sought : (g : Grammar) → ((x : ArcKey) → IsArc g x → HasShape g x) → IsSought g None (Some (record { rule = 1; suffix = 0; start = 1; len = 1; part = 1 }))
 first-sought g shape =
     (λ x is aft. let h = shape x is in omega (arith, h.low, h.day.begins, h.day.some, h.some), tt, record { rule = omega arith; suffix = omega arith; start = omega arith; len = omega arith; part = omega arith })
+
+-- the next longer part with which a marked suffix may have parts is the next with which it may make an arc
+pub part-step : (g : Grammar) (lay : Layout) (ms : List Bool) → IsSound g → IsLayoutOf g lay → AreMarked g lay ms → (a : ArcKey) (rule : Rule) → rule_at g a.rule ≡ Some rule
+    → (next : Option ℕ) → IsLongerPart g (drop a.suffix rule.right) a.start a.len a.part next → IsPartStep g a next
+part-step g lay ms sound fits marked a rule at next h = by next h
+  where
+    split : (x : ArcKey) → IsArc g x → IsSplitAfter a x → HasSplit g (drop a.suffix rule.right) a.start a.len x.part
+    split x is after =
+        let told = arc-told g lay ms sound fits marked x is in
+        let same : told.rule ≡ rule = same_Some told.rule rule (sym told.at ∙ ap (λ (r : ℕ). rule_at g r) (sym after.0) ∙ at) in
+        rw (after.1, after.2, after.3) (subst (λ (q : Rule). HasSplit g (drop x.suffix q.right) x.start x.len x.part) same told.split)
+
+    by : (next : Option ℕ) → IsLongerPart g (drop a.suffix rule.right) a.start a.len a.part next → IsPartStep g a next
+    by None h = λ x is after. h x.part after.4 (split x is after)
+    by (Some m) h = (h.0, h.1, λ x is after. h.2 x.part after.4 (split x is after))

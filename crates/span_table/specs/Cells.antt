@@ -10,6 +10,7 @@ use Rattle.span_table.specs.declared.slot.Layout.{Layout}
 use Rattle.span_table.specs.declared.slot.Slot.{Slot}
 use Rattle.span_table.specs.declared.slot.Slot.TheVariants.{OfName, OfSuffix}
 use Rattle.span_table.specs.declared.slot.Suffix.{Suffix}
+use Rattle.span_table.specs.Lengths.{SlotsLengths}
 
 -- how many cells there are: one for each slot on each span of the day
 abbrev pub cell_count : Layout → ℕ
@@ -38,8 +39,14 @@ pub record HasSlot (g : Grammar) (s : Suffix) : Type 0 where
   pub inner : 1 ≤ s.from
   pub two : s.from + 2 ≤ length rule.right
 
+-- a slot of the grammar: of one of its names, or of a suffix that has one
+abbrev pub IsSlotOf : Grammar → Slot → Type 0
+IsSlotOf g (OfName x) = x < length g.names
+IsSlotOf g (OfSuffix s) = HasSlot g s
+
 -- The layout is one of the grammar: its day, a slot for each name and each suffix that wants one, and
--- no other, and the right name of a one-symbol rule has an earlier slot than the left one.
+-- no other, the right name of a one-symbol rule has an earlier slot than the left one, and each slot
+-- has lengths outside which there are no trees or parts of what it stands for.
 pub record IsLayoutOf (g : Grammar) (lay : Layout) : Type 0 where
   pub periods : lay.spans ≡ g.periods
   pub few : length lay.slots.items < 65536
@@ -51,6 +58,7 @@ pub record IsLayoutOf (g : Grammar) (lay : Layout) : Type 0 where
       → slice_get lay.slots.items (suffix_slot lay r k) ≡ Some (OfSuffix (record { rule = r; from = k }))
   pub parted : (s : ℕ) (x : Suffix) → slice_get lay.slots.items s ≡ Some (OfSuffix x) → HasSlot g x
   pub order : (r y : ℕ) (rule : Rule) → rule_at g r ≡ Some rule → rule.right ≡ Name y ∷ [] → name_slot lay y < name_slot lay rule.left
+  pub lengths : SlotsLengths g lay.slots.items lay.lengths.items
 
 -- the cells were made for the grammar
 pub record IsReady (g : Grammar) (lay : Layout) (xs : List (Option ℤ)) : Type 0 where

@@ -1,17 +1,11 @@
 -- What the walk down a tree of least sum chooses.
-use Rattle.std.specs.Prelude.{ℕ, ℤ, ◌≡◌, ◌+◌, ◌-◌, ◌<◌, ◌≤◌, min, List, Option, Some, drop}
+use Rattle.std.specs.Prelude.{ℕ, ℤ, ◌≡◌, ◌+◌, ◌-◌, ◌<◌, ◌≤◌, List, Option, Some, drop}
 use Rattle.roster_model.specs.declared.grammar.Grammar.{Grammar}
 use Rattle.roster_model.specs.declared.grammar.Rule.{Rule}
 use Rattle.roster_model.specs.declared.grammar.Sym.{Sym}
-use Rattle.roster_model.specs.declared.grammar.Sym.TheVariants.{Code, Name}
 use Rattle.roster_model.specs.Grammar.{rule_at, Stands}
 use Rattle.roster_model.specs.Sums.{PriceView, plus, SymbolLeast, PartsLeast}
 use Rattle.tree_laws.specs.Laws.{arc_at}
-
--- the first part of several on a span of l periods is shorter than this
-abbrev pub IsFirstEnd : Sym → ℕ → ℕ → Type 0
-IsFirstEnd (Code c) l end = end ≡ min l 2
-IsFirstEnd (Name x) l end = end ≡ l
 
 -- v is the sum of the least sum of a first part of this length, its arc, and the least sum of the rest
 pub record ChosenPart (g : Grammar) (p : PriceView) (r k : ℕ) (s : Sym) (xs : List Sym) (i l part : ℕ) (v : Option ℤ) : Type 0 where

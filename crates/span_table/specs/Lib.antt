@@ -1,4 +1,5 @@
 pub mod Numbers
+pub mod Lengths
 pub mod Cells
 pub mod Choices
 pub mod Building

@@ -1,10 +1,12 @@
 -- The arcs of the instance, one after another.
-use Rattle.std.specs.Prelude.{ℕ, ◌≡◌, ◌+◌, ◌*◌, ◌<◌, ◌≤◌, ◌⊎◌, Option, None, Some, length}
+use Rattle.std.specs.Prelude.{ℕ, ◌≡◌, ◌+◌, ◌*◌, ◌<◌, ◌≤◌, ◌⊎◌, List, Option, None, Some, length}
 use Rattle.roster_model.specs.declared.grammar.ArcKey.{ArcKey}
 use Rattle.roster_model.specs.declared.grammar.Grammar.{Grammar}
 use Rattle.roster_model.specs.declared.grammar.Rule.{Rule}
+use Rattle.roster_model.specs.declared.grammar.Sym.{Sym}
 use Rattle.roster_model.specs.Grammar.{rule_at, InDay}
 use Rattle.roster_model.specs.Arcs.{IsArc, ArcBefore}
+use Rattle.span_table.specs.Marks.{HasSplit}
 
 -- an arc comes after the given one, if one is given
 abbrev pub IsAfter : Option ArcKey → ArcKey → Type 0
@@ -36,6 +38,16 @@ IsStep g at (Some b) = IsSmall b × ArcBefore at b × ((x : ArcKey) → IsArc g 
 -- an arc with the same rule, suffix, start and length, and a later part
 abbrev pub IsSplitAfter : ArcKey → ArcKey → Type 0
 IsSplitAfter a x = (a.rule ≡ x.rule) × (a.suffix ≡ x.suffix) × (a.start ≡ x.start) × (a.len ≡ x.len) × (a.part < x.part)
+
+-- no arc of the instance with a later part has one before this part, or there is no such arc
+abbrev pub IsPartStep : Grammar → ArcKey → Option ℕ → Type 0
+IsPartStep g at None = (x : ArcKey) → IsArc g x → IsSplitAfter at x → ⊥
+IsPartStep g at (Some m) = (at.part < m) × (m ≤ at.len) × ((x : ArcKey) → IsArc g x → IsSplitAfter at x → m ≤ x.part)
+
+-- no longer first part than this one is shorter than the next, or there is none
+abbrev pub IsLongerPart : Grammar → List Sym → ℕ → ℕ → ℕ → Option ℕ → Type 0
+IsLongerPart g ss i l part None = (m : ℕ) → part < m → HasSplit g ss i l m → ⊥
+IsLongerPart g ss i l part (Some n) = (part < n) × (n ≤ l) × ((m : ℕ) → part < m → HasSplit g ss i l m → n ≤ m)
 
 -- what all arcs of the instance have: a rule, one of its symbols, a span of the day, and a part of it
 pub record HasShape (g : Grammar) (x : ArcKey) : Type 0 where

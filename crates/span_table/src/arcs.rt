@@ -1,18 +1,17 @@
 ghost use Rattle.std.specs.Prelude.{◌≡◌, ◌≤◌, ◌<◌, ◌+◌, ◌-◌, ◌↔◌, IsTrue, Some, length, drop};
-ghost use Rattle.roster_model.specs.declared.grammar.ArcKey.{ArcKey as Arc};
 ghost use Rattle.roster_model.specs.Grammar.{rule_at, InDay};
 ghost use Rattle.roster_model.specs.Arcs.{IsArc};
 ghost use Rattle.roster_model.specs.Sound.{IsSound};
 ghost use Rattle.span_table.specs.Cells.{IsLayoutOf, IsReady, AreFilled, cell_count};
-ghost use Rattle.span_table.specs.Order.{IsSplitAfter, IsSuffixStep, IsStep, IsSought, IsNextArc};
+ghost use Rattle.span_table.specs.Order.{IsLongerPart, IsPartStep, IsSuffixStep, IsStep, IsSought, IsNextArc};
 ghost use Rattle.span_table.specs.Marks.{free_view, AreMarked, SuffixMarked, HasSplit, HasSpan};
 
 use crate::derive::{rest_derives, symbol_derives};
 use crate::free_cells::FreeCells;
-use crate::layout::place_of;
-use crate::marks::slot_of;
+use crate::layout::{place_of, slot_of};
 use crate::names::rule_of;
 use crate::slot::{Layout, Span, Suffix};
+use crate::splits::splits;
 use roster_model::{ArcKey, Grammar, Rule};
 use span_forms::may_stand;
 
@@ -156,20 +155,49 @@ pub fn is_arc(
     has_split(grammar, layout, cells, rule, suffix, span, arc.part)
 }
 
-// Whether a longer first part may make an arc: the suffix is marked on the span, and has room for it.
-fn may_split(grammar: &Grammar, layout: &Layout, marks: &[bool], arc: ArcKey) -> bool
+// The length of the next longer first part with which a suffix may have parts on a span.
+fn longer_part(
+    grammar: &Grammar,
+    layout: &Layout,
+    rule: &Rule,
+    suffix: Suffix,
+    span: Span,
+    part: u8,
+) -> Option<u8>
+    requires sound { IsSound grammar.now }
+    requires layout { IsLayoutOf grammar.now layout.now }
+    requires rule { rule_at grammar.now suffix.rule ≡ Some rule.now }
+    requires within { suffix.from < length rule.now.right }
+    requires day { InDay grammar.now.periods span.start span.len }
+    requires part { part < span.len }
+    ensures { IsLongerPart grammar.now (drop suffix.from rule.now.right) span.start span.len part result }
+{
+    if suffix.from as usize + 1 == rule.right.len() {
+        return Some(span.len);
+    }
+    let splits = splits(grammar, layout, rule, suffix, span.len);
+    let longer = splits.begin.max(part + 1);
+    if longer < splits.end {
+        Some(longer)
+    } else {
+        None
+    }
+}
+
+// The length of the next longer first part that may make an arc: the suffix is marked on the span, and
+// may have such parts.
+fn next_part(grammar: &Grammar, layout: &Layout, marks: &[bool], arc: ArcKey) -> Option<u8>
     requires sound { IsSound grammar.now }
     requires layout { IsLayoutOf grammar.now layout.now }
     requires count { length marks.now ≡ cell_count layout.now }
     requires marked { AreMarked grammar.now layout.now marks.now }
-    ensures inner { IsTrue result → arc.part < arc.len }
-    ensures none { (x : Arc) → IsArc grammar.now x → IsSplitAfter arc x → IsTrue result }
+    ensures { IsPartStep grammar.now arc result }
 {
     if arc.len <= arc.part {
-        return false;
+        return None;
     }
     if !has_span(grammar, &arc) {
-        return false;
+        return None;
     }
     let rule = rule_of(grammar, arc.rule);
     let suffix = Suffix {
@@ -180,7 +208,11 @@ fn may_split(grammar: &Grammar, layout: &Layout, marks: &[bool], arc: ArcKey) ->
         start: arc.start,
         len: arc.len,
     };
-    is_marked(grammar, layout, marks, rule, suffix, span)
+    if is_marked(grammar, layout, marks, rule, suffix, span) {
+        longer_part(grammar, layout, rule, suffix, span, arc.part)
+    } else {
+        None
+    }
 }
 
 // The first key of a later suffix or rule.
@@ -223,11 +255,8 @@ fn step(grammar: &Grammar, layout: &Layout, marks: &[bool], arc: ArcKey) -> Opti
     ensures { IsStep grammar.now arc result }
 {
     let periods = grammar.periods;
-    if may_split(grammar, layout, marks, arc) {
-        return Some(ArcKey {
-            part: arc.part + 1,
-            ..arc
-        });
+    if let Some(part) = next_part(grammar, layout, marks, arc) {
+        return Some(ArcKey { part, ..arc });
     }
     if arc.start as usize + arc.len as usize <= periods as usize {
         return Some(ArcKey {

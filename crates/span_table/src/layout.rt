@@ -1,10 +1,23 @@
-ghost use Rattle.std.specs.Prelude.{◌≡◌, ◌≤◌, ◌<◌, ◌*◌, ◌^◌, length};
-ghost use Rattle.roster_model.specs.Grammar.{InDay};
+ghost use Rattle.std.specs.Prelude.{◌≡◌, ◌≤◌, ◌<◌, ◌+◌, ◌*◌, ◌^◌, Some, length};
+ghost use Rattle.roster_model.specs.Grammar.{rule_at, InDay};
 ghost use Rattle.span_forms.specs.Places.{shorter};
-ghost use Rattle.span_table.specs.Cells.{place, cell};
+ghost use Rattle.span_table.specs.Cells.{IsLayoutOf, place, cell, suffix_slot};
 
 use crate::cells::Cells;
-use crate::slot::{Layout, Span};
+use crate::slot::{Layout, Span, Suffix};
+use roster_model::{Grammar, Rule};
+
+/// Returns the slot of a suffix that is not the whole right side and not the last symbol alone.
+pub fn slot_of(grammar: &Grammar, layout: &Layout, rule: &Rule, suffix: Suffix) -> usize
+    requires layout { IsLayoutOf grammar.now layout.now }
+    requires rule { rule_at grammar.now suffix.rule ≡ Some rule.now }
+    requires inner { 1 ≤ suffix.from }
+    requires two { suffix.from + 2 ≤ length rule.now.right }
+    ensures slot { result ≡ suffix_slot layout.now suffix.rule suffix.from }
+    ensures within { result < length layout.now.slots.items }
+{
+    layout.suffixes[suffix.rule as usize - 1] + (suffix.from as usize - 1)
+}
 
 /// Returns where the cell of a slot on a span stands.
 pub fn place_of(layout: &Layout, slot: usize, span: Span) -> usize

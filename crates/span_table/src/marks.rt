@@ -8,24 +8,12 @@ ghost use Rattle.span_table.specs.Marks.{free_view, mark, TreesStand, PartsStand
 
 use crate::derive::{rest_derives, symbol_derives};
 use crate::free_cells::FreeCells;
-use crate::layout::place_of;
+use crate::layout::{place_of, slot_of};
 use crate::names::rule_of;
-use crate::parts::first_end;
 use crate::slot::{Layout, Slot, Span, Suffix};
+use crate::splits::splits;
 use roster_model::{Grammar, Rule, Sym};
 use span_forms::may_stand;
-
-/// Returns the slot of a suffix that is not the whole right side and not the last symbol alone.
-pub fn slot_of(grammar: &Grammar, layout: &Layout, rule: &Rule, suffix: Suffix) -> usize
-    requires layout { IsLayoutOf grammar.now layout.now }
-    requires rule { rule_at grammar.now suffix.rule ≡ Some rule.now }
-    requires inner { 1 ≤ suffix.from }
-    requires two { suffix.from + 2 ≤ length rule.now.right }
-    ensures slot { result ≡ suffix_slot layout.now suffix.rule suffix.from }
-    ensures within { result < length layout.now.slots.items }
-{
-    layout.suffixes[suffix.rule as usize - 1] + (suffix.from as usize - 1)
-}
 
 // Marks a symbol on a span: a name by its slot, and a code not at all.
 fn mark_symbol(grammar: &Grammar, layout: &Layout, marks: &mut [bool], symbol: Sym, span: Span)
@@ -143,8 +131,8 @@ fn mark_parts(
     ensures adds { Adds grammar.now layout.now (place layout.now 0 span.start span.len) marks.old marks.new }
     ensures closed { PartsClosed grammar.now layout.now marks.new suffix.rule suffix.from (drop suffix.from rule.now.right) span.start span.len }
 {
-    let symbol = rule.right.as_slice()[suffix.from as usize];
-    for part in 1..first_end(symbol, span.len) {
+    let splits = splits(grammar, layout, rule, suffix, span.len);
+    for part in splits.begin..splits.end {
         mark_split(grammar, layout, cells, marks, rule, suffix, span, part);
     }
 }

@@ -3,11 +3,12 @@ ghost use Rattle.roster_model.specs.Grammar.{rule_at, InDay};
 ghost use Rattle.roster_model.specs.Sound.{IsSound};
 ghost use Rattle.roster_model.specs.Sums.{Within, SymbolLeast, PartsLeast};
 ghost use Rattle.span_table.specs.Cells.{IsReady, NameRight, Right, ShorterRight};
-ghost use Rattle.span_table.specs.Choices.{IsFirstEnd, ChosenPart};
+ghost use Rattle.span_table.specs.Choices.{ChosenPart};
 
 use crate::cells::Cells;
 use crate::layout;
 use crate::slot::{Layout, Span, Suffix};
+use crate::splits::splits;
 use crate::sums::{self, Choice};
 use roster_model::{ArcKey, Grammar, LetterPrice, Rule, Sym};
 
@@ -72,18 +73,55 @@ pub fn rest_least<P: LetterPrice, C: Cells>(
     }
 }
 
-/// Returns the length before which a first part stays: a letter has the length 1, and another part
-/// follows.
-pub fn first_end(symbol: Sym, len: u8) -> u8
-    requires { 1 ≤ len }
-    ensures value { IsFirstEnd symbol len result }
-    ensures some { 1 ≤ result }
-    ensures most { result ≤ len }
+// The least sum of the parts of a suffix of two or more symbols on a span, the first of them so many
+// periods long.
+fn part_least<P: LetterPrice, C: Cells>(
+    grammar: &Grammar,
+    prices: &P,
+    layout: &Layout,
+    cells: &C,
+    rule: &Rule,
+    suffix: Suffix,
+    span: Span,
+    part: u8,
+) -> Option<i128>
+    requires sound { IsSound grammar.now }
+    requires ready { IsReady grammar.now layout.now (C.sums cells.now) }
+    requires day { InDay grammar.now.periods span.start span.len }
+    requires rule { rule_at grammar.now suffix.rule ≡ Some rule.now }
+    requires within { suffix.from + 2 ≤ length rule.now.right }
+    requires shorter { ShorterRight grammar.now (P.view prices.now) layout.now (C.sums cells.now) span.len }
+    requires some { 1 ≤ part }
+    requires others { part < span.len }
+    ensures { ChosenPart grammar.now (P.view prices.now) suffix.rule suffix.from
+        (slice_index_or rule.now.right suffix.from (Sym.Code 0)) rule.now.right span.start span.len part result }
 {
-    match symbol {
-        Sym::Code(_) => len.min(2),
-        Sym::Name(_) => len,
+    let symbol = rule.right.as_slice()[suffix.from as usize];
+    let next = Suffix {
+        rule: suffix.rule,
+        from: suffix.from + 1,
+    };
+    let first = Span {
+        start: span.start,
+        len: part,
+    };
+    let others = Span {
+        start: span.start + part,
+        len: span.len - part,
+    };
+    let head = symbol_least(grammar, prices, layout, cells, symbol, first);
+    let tail = rest_least(grammar, prices, layout, cells, rule, next, others);
+    if head.is_none() || tail.is_none() {
+        return None;
     }
+    let arc = prices.arc(&ArcKey {
+        rule: suffix.rule,
+        suffix: suffix.from,
+        start: span.start,
+        len: span.len,
+        part,
+    });
+    sums::add_part(head, arc, tail)
 }
 
 /// Returns the least sum of the parts of a suffix of two or more symbols on a span, and the length of
@@ -109,31 +147,11 @@ pub fn least_part<P: LetterPrice, C: Cells>(
         (slice_index_or rule.now.right suffix.from (Sym.Code 0)) rule.now.right span.start span.len result.number result.sum) }
     ensures within { IfSome result.sum (Within (2 ^ 110)) }
 {
-    let symbol = rule.right.as_slice()[suffix.from as usize];
-    let next = Suffix {
-        rule: suffix.rule,
-        from: suffix.from + 1,
-    };
+    let splits = splits(grammar, layout, rule, suffix, span.len);
     let mut best = Choice::none();
-    for part in 1..first_end(symbol, span.len) {
-        let first = Span {
-            start: span.start,
-            len: part,
-        };
-        let others = Span {
-            start: span.start + part,
-            len: span.len - part,
-        };
-        let a = symbol_least(grammar, prices, layout, cells, symbol, first);
-        let b = rest_least(grammar, prices, layout, cells, rule, next, others);
-        let arc = prices.arc(&ArcKey {
-            rule: suffix.rule,
-            suffix: suffix.from,
-            start: span.start,
-            len: span.len,
-            part,
-        });
-        best = best.or(sums::add_part(a, arc, b), part);
+    for part in splits.begin..splits.end {
+        let sum = part_least(grammar, prices, layout, cells, rule, suffix, span, part);
+        best = best.or(sum, part);
     }
     best
 }

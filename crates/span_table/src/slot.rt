@@ -18,6 +18,13 @@ pub struct Suffix {
     pub from: u8,
 }
 
+/// The lengths from the least to the greatest, none where the least is above the greatest.
+#[derive(Clone, Copy, Drop)]
+pub struct Lengths {
+    pub least: u8,
+    pub most: u8,
+}
+
 /// What a slot holds the least sums of.
 #[derive(Clone, Copy, Drop)]
 pub enum Slot {
@@ -38,4 +45,6 @@ pub struct Layout {
     pub names: Vec<usize>,
     /// The slot of each rule's suffix from its second symbol on. Those of its shorter suffixes follow.
     pub suffixes: Vec<usize>,
+    /// The lengths outside which what a slot stands for has no trees or parts.
+    pub lengths: Vec<Lengths>,
 }

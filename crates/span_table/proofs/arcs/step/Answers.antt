@@ -1,18 +1,16 @@
-use Rattle.std.proofs.Common.{arith, ◌<◌, refl, inl, inr}
-use Rattle.std.specs.Prelude.{IsTrue}
-use Rattle.span_table.specs.Order.{IsSmall}
-use Rattle.span_table.proofs.Stepping.{arc-shape, step-len, step-start, step-suffix, suffix-step, before-lower, shape-small}
+use Rattle.std.proofs.Common.{arith, ◌<◌, ℕ, Option, Some, refl, subst, inl, inr}
+use Rattle.span_table.specs.Order.{IsSmall, IsPartStep}
+use Rattle.span_table.proofs.Stepping.{arc-shape, step-part, step-len, step-start, step-suffix, suffix-step}
 use Rattle.span_table.proofs.arcs.step.Goals as goal
 
-pub returns-then-may_split : goal.returns-then-may_split
-returns-then-may_split c =
-    let less : c.args.arc.part < c.args.arc.len = c.may_split.ensures.inner c.if-may_split.true in
-    let small : IsSmall c.args.arc = record { rule = omega arith; suffix = omega arith; start = omega arith; len = omega arith; part = omega arith } in (
-      record { rule = omega arith; suffix = omega arith; start = omega arith; len = omega arith; part = omega (arith, less) },
-      inr (refl, inr (refl, inr (refl, inr (refl, inl (omega arith))))),
-      λ x is before. let low = before-lower c.args.arc x small
-          (shape-small c.args.grammar.now c.requires.sound x (arc-shape c.args.grammar.now c.args.layout.now c.args.marks.now c.requires.sound c.requires.layout c.requires.marked x is)) before in
-          omega (arith, low),
+pub returns-in-Some : goal.returns-in-Some
+returns-in-Some c =
+    let part : IsPartStep c.args.grammar.now c.args.arc (Some c.in-Some.part) = subst (λ (q : Option ℕ). IsPartStep c.args.grammar.now c.args.arc q) c.in-Some.is c.next_part.ensures in
+    let small : IsSmall c.args.arc = record { rule = omega arith; suffix = omega arith; start = omega arith; len = omega arith; part = omega arith } in
+    let few : c.in-Some.part < 256 = omega (arith, part.1) in (
+      record { rule = omega arith; suffix = omega arith; start = omega arith; len = omega arith; part = few },
+      inr (refl, inr (refl, inr (refl, inr (refl, inl part.0)))),
+      λ x is before. step-part c.args.arc x c.in-Some.part small few (part.2 x is) before,
     )
 
 pub returns-then-arc-periods : goal.returns-then-arc-periods
@@ -21,7 +19,7 @@ returns-then-arc-periods c =
       record { rule = omega arith; suffix = omega arith; start = omega arith; len = omega arith; part = omega arith },
       inr (refl, inr (refl, inr (refl, inl (omega arith)))),
       λ x is before. step-len c.args.grammar.now c.args.arc x _ small (arc-shape c.args.grammar.now c.args.layout.now c.args.marks.now c.requires.sound c.requires.layout c.requires.marked x is)
-          (λ s. let yes : IsTrue c.may_split.result = c.may_split.ensures.none x is s in cc) before refl,
+          (subst (λ (q : Option ℕ). IsPartStep c.args.grammar.now c.args.arc q) c.in_default.is c.next_part.ensures x is) before refl,
     )
 
 pub returns-then-arc-periods-2 : goal.returns-then-arc-periods-2
@@ -30,11 +28,11 @@ returns-then-arc-periods-2 c =
       record { rule = omega arith; suffix = omega arith; start = omega arith; len = omega arith; part = omega arith },
       inr (refl, inr (refl, inl (omega arith))),
       λ x is before. step-start c.args.grammar.now c.args.arc x _ small (arc-shape c.args.grammar.now c.args.layout.now c.args.marks.now c.requires.sound c.requires.layout c.requires.marked x is)
-          (λ s. let yes : IsTrue c.may_split.result = c.may_split.ensures.none x is s in cc) (omega arith) before refl,
+          (subst (λ (q : Option ℕ). IsPartStep c.args.grammar.now c.args.arc q) c.in_default.is c.next_part.ensures x is) (omega arith) before refl,
     )
 
 pub returns : goal.returns
 returns c =
     suffix-step c.args.grammar.now c.args.arc c.next_suffix.result (arc-shape c.args.grammar.now c.args.layout.now c.args.marks.now c.requires.sound c.requires.layout c.requires.marked)
     (λ x is before. step-suffix c.args.grammar.now c.args.arc x (arc-shape c.args.grammar.now c.args.layout.now c.args.marks.now c.requires.sound c.requires.layout c.requires.marked x is)
-    (λ s. let yes : IsTrue c.may_split.result = c.may_split.ensures.none x is s in cc) (omega arith) (omega arith) before) c.next_suffix.ensures
+    (subst (λ (q : Option ℕ). IsPartStep c.args.grammar.now c.args.arc q) c.in_default.is c.next_part.ensures x is) (omega arith) (omega arith) before) c.next_suffix.ensures

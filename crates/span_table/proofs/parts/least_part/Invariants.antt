@@ -1,5 +1,6 @@
-use Rattle.std.proofs.Common.{drop}
+use Rattle.std.proofs.Common.{drop, get_or}
 use Rattle.std.specs.Prelude.{OnSome}
+use Rattle.roster_model.specs.declared.grammar.Sym.TheVariants.{Code}
 use Rattle.roster_model.specs.Sums.{IsLeast, parts_sum}
 use Rattle.tree_laws.proofs.PartLoop.{Before}
 use Rattle.span_table.specs.Choices.{ChosenPart}
@@ -9,5 +10,5 @@ abbrev pub invariant-loop-part : goal.invariant-loop-part
 invariant-loop-part g l = record {
   least : IsLeast (Before l.grammar (g.P.LetterPrice.view l.prices) l.suffix.rule l.suffix.from l.span.start l.span.len (drop l.suffix.from l.rule.right) l.part)
       (parts_sum (g.P.LetterPrice.view l.prices) l.suffix.rule l.suffix.from l.span.start) l.best.sum;
-  chosen : OnSome l.best.sum (ChosenPart l.grammar (g.P.LetterPrice.view l.prices) l.suffix.rule l.suffix.from l.symbol l.rule.right l.span.start l.span.len l.best.number l.best.sum);
+  chosen : OnSome l.best.sum (ChosenPart l.grammar (g.P.LetterPrice.view l.prices) l.suffix.rule l.suffix.from (get_or l.rule.right l.suffix.from (Code 0)) l.rule.right l.span.start l.span.len l.best.number l.best.sum);
 }

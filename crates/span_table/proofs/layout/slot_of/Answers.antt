@@ -4,7 +4,7 @@ use Rattle.std.proofs.Common.{refl}
 use Rattle.tree_laws.proofs.Rules.{rule_at-within}
 use Rattle.span_table.specs.Cells.{suffix_slot}
 use Rattle.span_table.proofs.Slots.{suffix_slot-within}
-use Rattle.span_table.proofs.marks.slot_of.Goals as goal
+use Rattle.span_table.proofs.layout.slot_of.Goals as goal
 
 pub overflow_add-result : goal.overflow_add-result
 overflow_add-result c =
