@@ -447,8 +447,16 @@ fn ten_thousand_splits(rt: HostRuntime) -> Result<(), Fail> {
         text.push_str("bare\n")?;
     }
     text.push_str("end\n")?;
-    let want = Verdict::No(Why::EmptyHalf { node: 2 });
-    judge_all(&rt, alloc, &parts, &[(text.as_str(), want)])
+    let day = day(alloc, &parts)?;
+    assert!(rt; is_sound_instance(&day));
+    let mut bench = Bench::for_texts(alloc, &day)?;
+    let mut room = CertRoom::for_instance(alloc, &day)?;
+    let shifts = ShiftRoom::for_text(alloc)?;
+    assert_eq!(rt;
+        bench.judge_text(&day, text.as_bytes(), &mut room, shifts),
+        Judged::Said(Verdict::No(Why::EmptyHalf { node: 2 }))
+    );
+    Ok(())
 }
 
 /// Three periods of at least one employee, and at most so many.
