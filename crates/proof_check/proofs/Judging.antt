@@ -1,5 +1,5 @@
 -- Texts that are judged piece by piece.
-use Rattle.std.proofs.Common.{◌≡◌, ℕ, arith, ◌+◌, ◌-◌, ◌≤◌, ◌<◌, Bool, true, false, cond, ltb, Option, None, Some, List, [], ◌∷◌, ◌++◌, length, get_or, Ok, Err, refl, sym, ap, subst, ◌∙◌, append_assoc, append-nil, length-append}
+use Rattle.std.proofs.Common.{◌≡◌, ℕ, arith, ◌+◌, ◌-◌, ◌≤◌, ◌<◌, Bool, true, false, cond, ltb, Option, None, List, [], ◌∷◌, ◌++◌, length, get_or, Ok, Err, refl, sym, ap, subst, ◌∙◌, append_assoc, append-nil, length-append}
 use Rattle.roster_model.specs.declared.instance.Cut.{Cut}
 use Rattle.roster_model.specs.declared.instance.Instance.{Instance}
 use Rattle.roster_model.specs.declared.instance.Shift.{Shift}
@@ -20,14 +20,14 @@ use Rattle.bound_proof.specs.Items.{Items}
 use Rattle.bound_proof.specs.declared.stage.Stage.TheVariants.{TooLong, Start}
 use Rattle.bound_proof.specs.PieceList.{Given, Place, no_place, start, spot_of, Reader, text_reader, pieces_from, pieces_left, pieces_of}
 use Rattle.bound_proof.specs.Told.{Told, cost, bound, shift, node, done}
-use Rattle.bound_proof.specs.ToldSound.{node_told, place_with, shifts_with, IsToldSound, AreToldSound}
+use Rattle.bound_proof.specs.ToldSound.{node_told, shifts_with, IsToldSound, AreToldSound}
 use Rattle.bound_proof.proofs.PiecesKept.{cert_sound}
 use Rattle.bound_proof.proofs.ToldKept.{text_sound}
 use Rattle.proof_check.specs.declared.bench.Bench.{Bench}
 use Rattle.proof_check.specs.declared.seen.Seen.{Seen}
 use Rattle.proof_check.specs.declared.walk.Walk.{Walk}
 use Rattle.proof_check.specs.KeptShifts.{KeptShifts}
-use Rattle.proof_check.specs.Stacks.{StackView, AreSmall, halves_of}
+use Rattle.proof_check.specs.Stacks.{StackView, halves_of}
 use Rattle.proof_check.specs.Steps.{IsBenchFor, way, halves_after, MayFollow, IsStep, IsWalking}
 use Rattle.proof_check.specs.Judging.{place_at, IsReady, HasSeen, IsTaken, IsJudging}
 use Rattle.proof_check.specs.Verdicts.{States, IsWalked}

@@ -1,11 +1,10 @@
-use Rattle.std.proofs.Common.{◌≡◌, None, Result, Ok, [], ◌∷◌, refl, sym, ap, subst, ◌∙◌}
+use Rattle.std.proofs.Common.{None, Result, Ok, ◌∷◌, refl, sym, ap, subst, ◌∙◌}
 use Rattle.bound_proof.specs.declared.fault.PieceFault.{PieceFault}
 use Rattle.bound_proof.specs.declared.piece.Piece.{Piece}
 use Rattle.bound_proof.specs.PieceList.{Given, pieces_left}
-use Rattle.bound_proof.specs.Told.{Told, told, told_answer, done}
+use Rattle.bound_proof.specs.Told.{Told, told, told_answer}
 use Rattle.proof_check.specs.KeptShifts.{KeptShifts}
 use Rattle.proof_check.specs.declared.bench.Bench.{Bench}
-use Rattle.proof_check.specs.declared.seen.Seen.{Seen}
 use Rattle.proof_check.specs.Stacks.{StackView}
 use Rattle.proof_check.specs.Judging.{IsJudging}
 use Rattle.proof_check.proofs.Judging.{any-halves, nothing-judged, one-judged, is-done, all-judged, all-sound, shifts-sound}

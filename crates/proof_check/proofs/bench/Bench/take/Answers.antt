@@ -1,5 +1,5 @@
-use Rattle.std.proofs.Common.{◌≡◌, ◌<◌, length, sym, ap, subst, ◌∙◌}
-use Rattle.std.proofs.Common.{List, ◌∷◌, ◌++◌, []}
+use Rattle.std.proofs.Common.{◌≡◌, length, sym, ap, subst}
+use Rattle.std.proofs.Common.{◌∷◌, ◌++◌, []}
 use Rattle.roster_model.specs.declared.instance.Shift.{Shift}
 use Rattle.bound_proof.specs.declared.piece.Piece.{Piece}
 use Rattle.bound_proof.specs.Told.{Told, cost, bound, shift, told}

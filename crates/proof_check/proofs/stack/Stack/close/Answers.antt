@@ -2,10 +2,8 @@ use Rattle.std.proofs.Common.{ap, sym, subst, ◌∙◌, ◌≡◌, ℕ}
 use Rattle.proof_terms.specs.declared.frame.Frame.{Frame}
 use Rattle.proof_terms.specs.Walk.{path, joined}
 use Rattle.proof_check.specs.Stacks.{StackView, AreSmall, IsClosing}
-use Rattle.roster_model.specs.declared.instance.Side.{Side}
-use Rattle.bound_proof.specs.PieceList.{after_leaf}
 use Rattle.proof_check.specs.Stacks.{halves_of}
-use Rattle.proof_check.proofs.Closing.{small-turned, closed, turned-halves, no-halves}
+use Rattle.proof_check.proofs.Closing.{small-turned, closed, turned-halves}
 use Rattle.proof_check.proofs.stack.Stack.close.Goals as goal
 
 pub returns-in-Low-clause-small : goal.returns-in-Low-clause-small
