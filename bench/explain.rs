@@ -1,5 +1,6 @@
 // The price of a word by a rules text, in plain Rust: the recurrence of the proved table (least sums
-// by symbol or suffix and span, bottom up), with bounds checks and panics where Rust has them.
+// by symbol or suffix and span, bottom up, a first part at the lengths that windows allow), with bounds
+// checks and panics where Rust has them.
 // Words: RULES WORD. Prints the cost, or `no derivation`.
 use std::collections::HashMap;
 
@@ -80,6 +81,7 @@ struct Table<'a> {
     slots: Vec<Slot>,
     names: Vec<usize>,
     suffixes: Vec<usize>,
+    lengths: Vec<(u8, u8)>,
     cells: Vec<i128>,
 }
 
@@ -102,6 +104,13 @@ impl Table<'_> {
         }
     }
 
+    fn symbol_lengths(&self, symbol: Sym) -> (u8, u8) {
+        match symbol {
+            Sym::Code(_) => (1, 1),
+            Sym::Name(name) => self.lengths[self.names[name]],
+        }
+    }
+
     fn rest(&self, rule: usize, from: usize, start: u8, len: u8) -> i128 {
         let right = &self.grammar.rules[rule].right;
         if from + 1 == right.len() {
@@ -113,13 +122,18 @@ impl Table<'_> {
     }
 
     fn split(&self, rule: usize, from: usize, start: u8, len: u8) -> i128 {
-        let symbol = self.grammar.rules[rule].right[from];
-        let end = match symbol {
-            Sym::Code(_) => len.min(2),
-            Sym::Name(_) => len,
+        let right = &self.grammar.rules[rule].right;
+        let symbol = right[from];
+        let first = self.symbol_lengths(symbol);
+        let others = if from + 2 == right.len() {
+            self.symbol_lengths(right[from + 1])
+        } else {
+            self.lengths[self.suffixes[rule] + from]
         };
+        let begin = first.0.max(len.saturating_sub(others.1)).max(1);
+        let end = first.1.saturating_add(1).min((len + 1).saturating_sub(others.0)).min(len);
         let mut best = NONE;
-        for part in 1..end {
+        for part in begin..end {
             let a = self.symbol(symbol, start, part);
             let b = self.rest(rule, from + 1, start + part, len - part);
             let sum = add(a, b);
@@ -172,6 +186,36 @@ impl Table<'_> {
     }
 }
 
+// The lengths of the parts of symbols, by those of the names.
+fn parts_lengths(names: &[(u8, u8)], symbols: &[Sym]) -> (u8, u8) {
+    symbols.iter().fold((0, 0), |sum: (u8, u8), symbol| {
+        let (least, most) = match symbol {
+            Sym::Code(_) => (1, 1),
+            Sym::Name(name) => names[*name],
+        };
+        (sum.0.saturating_add(least), sum.1.saturating_add(most))
+    })
+}
+
+// The lengths of each name's trees: those of the day, narrowed once for each name by its rules.
+fn name_lengths(grammar: &Grammar) -> Vec<(u8, u8)> {
+    let mut names = vec![(1, grammar.periods); grammar.names.len()];
+    for _ in 0..grammar.names.len() {
+        for name in 0..names.len() {
+            let mut all = (u8::MAX, 0);
+            for rule in grammar.rules.iter().filter(|rule| rule.left == name) {
+                let [span, first, last] = rule.windows;
+                let parts = parts_lengths(&names, &rule.right);
+                let least = span.0.max((last.0 + 1).saturating_sub(first.1)).max(parts.0);
+                let most = span.1.min((last.1 + 1).saturating_sub(first.0)).min(parts.1);
+                all = (all.0.min(least), all.1.max(most));
+            }
+            names[name] = all;
+        }
+    }
+    names
+}
+
 // The names, a one-symbol rule's right name before its left one.
 fn order(grammar: &Grammar) -> Vec<usize> {
     let count = grammar.names.len();
@@ -211,7 +255,15 @@ fn main() {
         slots.push(Slot::OfName(name));
     }
     let cells = vec![NONE; n * (n + 1) / 2 * slots.len()];
-    let mut table = Table { grammar: &grammar, word, slots, names, suffixes, cells };
+    let of_names = name_lengths(&grammar);
+    let lengths = slots
+        .iter()
+        .map(|slot| match *slot {
+            Slot::OfName(name) => of_names[name],
+            Slot::OfSuffix(rule, from) => parts_lengths(&of_names, &grammar.rules[rule].right[from..]),
+        })
+        .collect();
+    let mut table = Table { grammar: &grammar, word, slots, names, suffixes, lengths, cells };
     table.fill();
     match table.symbol(Sym::Name(grammar.start), 1, grammar.periods) {
         NONE => println!("no derivation"),
