@@ -3,8 +3,10 @@
 
 The program is crates/shift_tool/out/shift_tool, as `./roster` builds it. The long text is a certificate
 of a day of 96 periods that is cut before its end, so it is read whole and refused. The nodes are those
-of a chain of splits on arcs of examples/g3.rules, each leaf with prices; twice as many nodes should take
-twice the time. Prints the least processor time of each, and ratios.
+of a chain of splits on arcs of examples/g3.rules, a day of 24 periods and two activities, each leaf with
+prices of its own. Judging them is timed against as many fills of the table by crates/table_bench, as
+`rt run` builds it there, both without the time of a run with one; at most 1.5 is asked. Twice as many
+nodes should take twice the time. Prints the least processor time of each, and ratios.
 """
 import os
 import pathlib
@@ -14,20 +16,23 @@ import tempfile
 
 TOP = pathlib.Path(__file__).resolve().parent.parent
 PROGRAM = TOP / "crates" / "shift_tool" / "out" / "shift_tool"
-TURNS = 3
+FILLS = TOP / "crates" / "table_bench" / "out" / "table_bench"
+RULES, DEMAND = TOP / "examples" / "g3.rules", TOP / "examples" / "g3.demand"
+TURNS = 5
+NODES = 1000
 MEGABYTES = 100
 
 
-def seconds(words):
-    with subprocess.Popen(words, stdout=subprocess.PIPE) as run:
+def seconds(words, given=None):
+    with open(given or os.devnull) as text, subprocess.Popen(words, stdin=text, stdout=subprocess.PIPE) as run:
         answer = run.stdout.read().decode()
         _, status, used = os.wait4(run.pid, 0)
         run.returncode = status
     return used.ru_utime + used.ru_stime, answer.strip().splitlines()[0]
 
 
-def least(words):
-    times = [seconds(words) for _ in range(TURNS)]
+def least(words, given=None):
+    times = [seconds(words, given) for _ in range(TURNS)]
     return min(took for took, _ in times), times[0][1]
 
 
@@ -47,28 +52,54 @@ def long_day(folder):
 
 
 def arcs(folder):
-    rules, demand = TOP / "examples" / "g3.rules", TOP / "examples" / "g3.demand"
     found = []
     for rule in (10, 12):
         for start in range(1, 25):
             for length in range(2, 9):
                 words = f"{rule} 0 {start} {length} 1"
                 (folder / "one.proof").write_text(f"proof 1\ncost none\nbound 0\nsplit {words} 0\nbare\nbare\nend\n")
-                if seconds([PROGRAM, "check", rules, demand, folder / "one.proof"])[1] == "yes":
+                if seconds([PROGRAM, "check", RULES, DEMAND, folder / "one.proof"])[1] == "yes":
                     found.append(words)
     return found
 
 
+def leaf(number):
+    """A priced leaf, whose prices are those of the fill of this number, of the other sign."""
+    numbers = [[(7 * number + 31 * code + 17 * period) % 100 for period in range(1, 25)] for code in range(2)]
+    return "priced 1\n" + "".join(f"price {code} " + " ".join(map(str, row)) + "\n" for code, row in zip("ab", numbers))
+
+
 def chain(folder, arcs, leaves):
-    priced = "priced 1\nprice a" + " 0" * 24 + "\nprice b" + " 0" * 24 + "\n"
-    splits = [f"split {arc} {b}\n{priced}" for arc in arcs for b in range(12)][:leaves - 1]
-    (folder / "nodes.proof").write_text("proof 1\ncost none\nbound 0\n" + "".join(splits) + priced + "end\n")
+    splits = [(arc, b) for arc in arcs for b in range(12)][:leaves - 1]
+    if len(splits) != leaves - 1:
+        sys.exit("too few arcs")
+    nodes = [f"split {arc} {b}\n{leaf(number)}" for number, (arc, b) in enumerate(splits, 1)]
+    (folder / "nodes.proof").write_text("proof 1\ncost none\nbound 0\n" + "".join(nodes) + leaf(leaves) + "end\n")
     return folder / "nodes.proof"
+
+
+def judged(folder, arcs, leaves):
+    took, said = least([PROGRAM, "check", RULES, DEMAND, chain(folder, arcs, leaves)])
+    if said != "yes":
+        sys.exit(f"the chain of {leaves} leaves is refused: {said}")
+    return took
+
+
+def judging(folder):
+    found = arcs(folder)
+    one, nodes, twice = (judged(folder, found, leaves) for leaves in (1, NODES, 2 * NODES))
+    start, fills = (least([FILLS, str(count)], RULES)[0] for count in (1, NODES))
+    print(f"judging {NODES} priced leaves: {nodes - one:.3f} s beyond one of {one:.3f} s")
+    print(f"filling {NODES} times: {fills - start:.3f} s beyond one of {start:.3f} s")
+    print(f"nodes against fills: {(nodes - one) / (fills - start):.2f}, at most 1.5 is asked")
+    print(f"twice the nodes: {(twice - one) / (nodes - one):.2f} times; arcs to split on: {len(found)}")
 
 
 def main():
     if not PROGRAM.exists():
         sys.exit("run ./roster once: it builds the program")
+    if not FILLS.exists():
+        sys.exit("run `rt run` in crates/table_bench: it builds the program")
     with tempfile.TemporaryDirectory() as name:
         folder = pathlib.Path(name)
         long_day(folder)
@@ -76,13 +107,7 @@ def main():
         counted, _ = least(["wc", "-w", folder / "long.proof"])
         size = (folder / "long.proof").stat().st_size / 1e6
         print(f"reading {size:.0f} MB ({said}): {read:.2f} s, wc -w {counted:.2f} s, ratio {read / counted:.2f}")
-        few = arcs(folder)
-        took = {}
-        for leaves in (500, 1000):
-            path = chain(folder, few, leaves)
-            took[leaves], said = least([PROGRAM, "check", TOP / "examples" / "g3.rules", TOP / "examples" / "g3.demand", path])
-            print(f"judging {leaves} priced leaves ({said}): {took[leaves]:.2f} s")
-        print(f"twice the leaves: {took[1000] / took[500]:.2f} times; arcs to split on: {len(few)}")
+        judging(folder)
 
 
 if __name__ == "__main__":
