@@ -1,12 +1,14 @@
 -- The answers of `check`, from what its parts answer.
-use Rattle.std.proofs.Common.{◌≡◌, ◌≢◌, ℕ, List, Option, Result, Ok, Err, IfOk, ap, refl, sym, ◌∙◌}
-use Rattle.std.specs.Prelude.{IsSomeAnd, Some, None, [], ◌∷◌}
+use Rattle.std.proofs.Common.{◌≡◌, ◌≢◌, ℕ, List, Option, Result, Ok, Err, IfOk, ap, ◌∙◌}
+use Rattle.std.specs.Prelude.{Some, None, [], ◌∷◌}
 use Rattle.roster_model.specs.declared.grammar.Grammar.{Grammar}
 use Rattle.roster_model.specs.declared.instance.Instance.{Instance}
 use Rattle.roster_model.specs.declared.memory.Memory.{Memory}
 use Rattle.certificates.specs.declared.cert.Cert.{Cert}
 use Rattle.certificates.specs.declared.verdict.Verdict.{Verdict}
 use Rattle.certificates.specs.declared.verdict.Verdict.TheVariants.{Yes, No}
+use Rattle.proof_check.specs.declared.judged.Judged.TheVariants.{Said, Fault}
+use Rattle.proof_check.specs.Judging.{IsJudged}
 use Rattle.proof_check.specs.Verdicts.{IsVerdict}
 use Rattle.shift_report.specs.VerdictText.{verdict_text}
 use Rattle.roster_model.specs.Sound.{IsSound}
@@ -15,9 +17,8 @@ use Rattle.demand_text.specs.declared.fault.DemandFault.{DemandFault}
 use Rattle.demand_text.specs.declared.fault.DemandFault.TheVariants as demand_faults
 use Rattle.demand_text.specs.FaultLine as demand
 use Rattle.demand_text.specs.InstanceOf.{instance_of}
-use Rattle.bound_proof.specs.declared.fault.ProofFault.{ProofFault}
-use Rattle.bound_proof.specs.declared.fault.ProofFault.TheVariants as proof_faults
-use Rattle.bound_proof.specs.CertOf.{proof_of}
+use Rattle.bound_proof.specs.declared.fault.PieceFault.{PieceFault}
+use Rattle.bound_proof.specs.CertOf.{proof_fault}
 use Rattle.bound_proof.specs.FaultLine as proof
 use Rattle.rules_text.specs.FaultLine.{fault_line}
 use Rattle.rules_text.specs.RulesOf.{IsReading}
@@ -77,20 +78,18 @@ module _ (before after : Seen) (status : ℕ) where
       widen (AnswersDemand before.held g demand_name proof_name) (RulesAnswers before.held text demand_name proof_name)
       (λ s o a. check.RulesAnswers.accepted g s o (record { reading = reading; sound = sound }) a) (demand_name ∷ proof_name ∷ []) (demand_name ∷ proof_name ∷ []) before after status (λ h. h) reader
 
-judged' : (i : Instance) (c : Cert) (v : Verdict) → IsVerdict i c v → (output : List ℕ) → output ≡ verdict_text v → Judgement i c (verdict_status v) output
-judged' i c (Yes cost bound) h output text =
-    yes output (record { accepted = h.0; trusted = h.3; lines = text ∙ ap (λ x. verdict_text (Yes x bound)) h.1 ∙ ap (λ x. verdict_text (Yes c.cost x)) h.2 })
-judged' i c (No why) h output text = no output (record { why = why; cause = h; line = text })
-
 -- the answer to a certificate, from its verdict
-pub judged : (i : Instance) (c : Cert) (v : Verdict) (status : ℕ) (output : List ℕ) → IsVerdict i c v → status ≡ verdict_status v → output ≡ verdict_text v → Judgement i c status output
-judged i c v status output h s text = rw s (judged' i c v h output text)
+judgement : (i : Instance) (c : Cert) (v : Verdict) → IsVerdict i c v → (output : List ℕ) → output ≡ verdict_text v → Judgement i c (verdict_status v) output
+judgement i c (Yes cost bound) h output text =
+    yes output (record { accepted = h.0; trusted = h.3; lines = text ∙ ap (λ x. verdict_text (Yes x bound)) h.1 ∙ ap (λ x. verdict_text (Yes c.cost x)) h.2 })
+judgement i c (No why) h output text = no output (record { why = why; cause = h; line = text })
 
-pub proof-accepted : (i : Instance) (text : List ℕ) (c : Cert) (r : Result Answer Memory) → proof_of i text ≡ Ok c → IfOk r (λ a. Judgement i c a.status a.output) → IfOk r (λ a. ProofAnswers i text a.status a.output)
-proof-accepted i text c (Err e) reading h = tt
-proof-accepted i text c (Ok a) reading h = check.ProofAnswers.accepted c a.status a.output reading h
+pub proof-judged : (i : Instance) (text : List ℕ) (v : Verdict) (r : Result Answer Memory) → IsJudged i text (Said v)
+    → IfOk r (λ a. (a.status ≡ verdict_status v) × (a.output ≡ verdict_text v)) → IfOk r (λ a. ProofAnswers i text a.status a.output)
+proof-judged i text v (Err e) judged h = tt
+proof-judged i text v (Ok a) judged h = rw h.0 (check.ProofAnswers.accepted judged.0 (verdict_status v) a.output judged.1 (judgement i judged.0 v judged.2 a.output h.1))
 
-pub proof-refused : (i : Instance) (text : List ℕ) (fault : ProofFault) (r : Result Answer Memory) → (fault ≢ proof_faults.Memory → proof_of i text ≡ Err fault)
-    → IfOk r (λ a. (fault ≢ proof_faults.Memory) × (a.status ≡ 5) × (a.output ≡ proof.fault_line fault)) → IfOk r (λ a. ProofAnswers i text a.status a.output)
-proof-refused i text fault (Err e) reading h = tt
-proof-refused i text fault (Ok a) reading h = rw h.1 (check.ProofAnswers.refused a.output (record { fault = fault; reading = reading h.0; line = h.2 }))
+pub proof-refused : (i : Instance) (text : List ℕ) (fault : PieceFault) (r : Result Answer Memory) → IsJudged i text (Fault fault)
+    → IfOk r (λ a. (a.status ≡ 5) × (a.output ≡ proof.fault_line (proof_fault fault))) → IfOk r (λ a. ProofAnswers i text a.status a.output)
+proof-refused i text fault (Err e) judged h = tt
+proof-refused i text fault (Ok a) judged h = rw h.0 (check.ProofAnswers.refused a.output (record { fault = proof_fault fault; reading = judged; line = h.1 }))

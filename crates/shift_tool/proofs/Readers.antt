@@ -1,12 +1,11 @@
 -- Commands that read several texts, one after another.
-use Rattle.std.proofs.Common.{◌≡◌, ◌≢◌, ℕ, ◌≤◌, ◌<◌, ◌-◌, ◌^◌, List, [], ◌∷◌, ◌++◌, Option, None, Some, Result, Ok, Err, arith, refl, sym, subst, ◌∙◌, ◌⊎◌, inl, inr}
+use Rattle.std.proofs.Common.{◌≡◌, ◌≢◌, ℕ, ◌≤◌, ◌<◌, ◌-◌, ◌^◌, List, [], ◌∷◌, ◌++◌, Option, None, Some, Ok, arith, refl, sym, subst, ◌∙◌, ◌⊎◌, inl, inr}
 use Rattle.std.specs.Prelude.{IfSome, IsSome, IsSomeAnd, IsTrue}
 use Rattle.std.specs.FinMap as fin
-use Rattle.roster_model.specs.declared.memory.Memory.{Memory}
 use Rattle.shelf.specs.Shelf.{Texts, SaidPart, one_more}
 use Rattle.shift_tool.specs.declared.answer.Answer.{Answer}
-use Rattle.shift_tool.specs.Fetch.{IsAnswer, IsFetch, NoAnswer}
-use Rattle.shift_tool.specs.Seen.{Seen, Holds, HoldsAll, Said, SaidFront, SaidLittle, IsReader}
+use Rattle.shift_tool.specs.Fetch.{IsAnswer, IsFetch}
+use Rattle.shift_tool.specs.Seen.{Seen, HoldsAll, Said, SaidLittle, IsReader}
 
 module _ (A B : ℕ → List ℕ → Type 0) (each : (status : ℕ) (output : List ℕ) → A status output → B status output) where
   little : (old new : List ℕ) → SaidLittle A old new → SaidLittle B old new

@@ -1,15 +1,15 @@
 ghost use Rattle.std.specs.Prelude.{◌≡◌, ◌≢◌, [], ◌∷◌, IfOk};
 ghost use Rattle.roster_model.specs.Sound.{IsPlain, IsSound};
 ghost use Rattle.roster_model.specs.SoundInstance.{IsSoundInstance};
-ghost use Rattle.certificates.specs.Sound.{IsSoundCert};
 ghost use Rattle.demand_text.specs.FaultLine as demand_fault;
-ghost use Rattle.bound_proof.specs.FaultLine as proof_fault;
+ghost use Rattle.bound_proof.specs.CertOf.{proof_fault};
+ghost use Rattle.bound_proof.specs.FaultLine as proof_line;
+ghost use Rattle.shift_report.specs.VerdictText.{verdict_text};
 ghost use Rattle.shift_tool.specs.Check.{
   AnswersCheck,
   AnswersDemand,
   AnswersProof,
   DemandAnswers,
-  Judgement,
   ProofAnswers,
   RulesAnswers,
   verdict_status,
@@ -19,10 +19,10 @@ ghost use Rattle.shift_tool.specs.Seen.{IsReader};
 use crate::answer::Answer;
 use crate::explain::refusal;
 use crate::fetch::{fetched, say_answer};
-use bound_proof::{Cert, ProofFault, read_cert};
+use bound_proof::{CertRoom, PieceFault, ProofFault};
 use certificates::Verdict;
 use demand_text::{DemandFault, read_demand};
-use proof_check::Bench;
+use proof_check::{Bench, Judged, ShiftRoom};
 use roster_model::{Grammar, Instance, Memory};
 use rules_text::read_rules;
 use shelf::Shelf;
@@ -43,29 +43,12 @@ fn demand_refusal(alloc: Global, fault: DemandFault) -> Result<Answer, Memory>
 }
 
 // Says why a proof text is refused.
-fn proof_refusal(alloc: Global, fault: ProofFault) -> Result<Answer, Memory>
-    ensures { IfOk result (λ a. (fault ≢ ProofFault.Memory) × (a.status ≡ 5) × (a.output ≡ proof_fault.fault_line fault)) }
+fn proof_refusal(alloc: Global, fault: PieceFault) -> Result<Answer, Memory>
+    ensures { IfOk result (λ a. (a.status ≡ 5) × (a.output ≡ proof_line.fault_line (proof_fault fault))) }
 {
-    match fault {
-        ProofFault::Memory => Err(Memory),
-        _ => Ok(Answer {
-            status: 5,
-            output: bound_proof::fault_line(alloc, &fault)?,
-        }),
-    }
-}
-
-// What is answered to a sound certificate.
-fn verdict(alloc: Global, instance: &Instance, cert: &Cert) -> Result<Answer, Memory>
-    requires sound { IsSoundInstance instance.now }
-    requires cert { IsSoundCert instance.now cert.now }
-    ensures { IfOk result (λ a. Judgement instance.now cert.now a.status a.output) }
-{
-    let mut bench = Bench::for_proof(alloc, instance, cert)?;
-    let verdict = bench.judge(instance, cert);
     Ok(Answer {
-        status: status_of_verdict(&verdict),
-        output: write_verdict(alloc, &verdict)?,
+        status: 5,
+        output: bound_proof::fault_line(alloc, &ProofFault::from(fault))?,
     })
 }
 
@@ -79,14 +62,27 @@ fn status_of_verdict(verdict: &Verdict) -> u8
     }
 }
 
-// What is answered to a proof text.
+// Says a verdict.
+fn verdict_answer(alloc: Global, verdict: &Verdict) -> Result<Answer, Memory>
+    ensures { IfOk result (λ a. (a.status ≡ verdict_status verdict.now) × (a.output ≡ verdict_text verdict.now)) }
+{
+    Ok(Answer {
+        status: status_of_verdict(verdict),
+        output: write_verdict(alloc, verdict)?,
+    })
+}
+
+// What is answered to a proof text. No list of its nodes is held.
 fn judgement(alloc: Global, instance: &Instance, text: &[u8]) -> Result<Answer, Memory>
     requires { IsSoundInstance instance.now }
     ensures { IfOk result (λ a. ProofAnswers instance.now text.now a.status a.output) }
 {
-    match read_cert(alloc, instance, text) {
-        Ok(cert) => verdict(alloc, instance, &cert),
-        Err(fault) => proof_refusal(alloc, fault),
+    let mut bench = Bench::for_texts(alloc, instance)?;
+    let mut room = CertRoom::for_instance(alloc, instance)?;
+    let shifts = ShiftRoom::for_text(alloc)?;
+    match bench.judge_text(instance, text, &mut room, shifts) {
+        Judged::Said(verdict) => verdict_answer(alloc, &verdict),
+        Judged::Fault(fault) => proof_refusal(alloc, fault),
     }
 }
 

@@ -1,8 +1,8 @@
-use Rattle.shift_tool.proofs.Checks.{proof-accepted, proof-refused}
+use Rattle.shift_tool.proofs.Checks.{proof-judged, proof-refused}
 use Rattle.shift_tool.proofs.check.judgement.Goals as goal
 
-pub returns-in-Ok : goal.returns-in-Ok
-returns-in-Ok c = proof-accepted c.args.instance.now c.args.text.now c.in-Ok.cert c.verdict.result c.in-Ok.ensures.value c.verdict.ensures
+pub returns-in-Said : goal.returns-in-Said
+returns-in-Said c = proof-judged c.args.instance.now c.args.text.now c.in-Said.verdict c.verdict_answer.result (rw c.in-Said.is at c.judge_text.ensures.judged) c.verdict_answer.ensures
 
-pub returns-in-Err : goal.returns-in-Err
-returns-in-Err c = proof-refused c.args.instance.now c.args.text.now c.in-Err.fault c.proof_refusal.result c.in-Err.ensures.value c.proof_refusal.ensures
+pub returns : goal.returns
+returns c = proof-refused c.args.instance.now c.args.text.now c.in-Fault.fault c.proof_refusal.result (rw c.in-Fault.is at c.judge_text.ensures.judged) c.proof_refusal.ensures
