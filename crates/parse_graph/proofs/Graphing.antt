@@ -1,0 +1,81 @@
+-- The whole graph from its parts.
+use Rattle.std.proofs.Common.{◌≡◌, ℕ, arith, ◌<◌, ◌≤◌, List, Option, None, Some, All, length, take, map, refl, sym, ap, subst, ◌∙◌}
+use Rattle.std.specs.Prelude.{slice_get}
+use Rattle.std.proofs.lemmas.Option.{slice_get-get_or, slice_get_within, get_or_from_slice_get}
+use Rattle.std.proofs.lemmas.List.{get_or-take, length-take-le, length-map}
+use Rattle.roster_model.specs.declared.grammar.ArcKey.{ArcKey}
+use Rattle.roster_model.specs.declared.grammar.Grammar.{Grammar}
+use Rattle.roster_model.specs.Folds.{In}
+use Rattle.roster_model.specs.Sound.{IsSound}
+use Rattle.arc_terms.specs.Lists.{AreArcs}
+use Rattle.arc_terms.specs.OrNodes.{OrNode, name, suffix, leaf, made, used, root_of}
+use Rattle.arc_terms.proofs.OneList.{one-list}
+use Rattle.span_table.specs.Tables.{TableView, IsMadeFor, IsReached}
+use Rattle.parse_graph.specs.declared.kid.Kid.{Kid}
+use Rattle.parse_graph.specs.declared.node.NodeKey.{NodeKey}
+use Rattle.parse_graph.specs.declared.rows.Entry.{Entry}
+use Rattle.parse_graph.specs.Graphs.{IsGraph, IsRoot, HasArcs}
+use Rattle.parse_graph.specs.Lists.{AreRows}
+use Rattle.parse_graph.specs.Linked.{UsesListed, IsPlaceOf, AreLinked}
+use Rattle.parse_graph.specs.Nodes.{or_node}
+use Rattle.parse_graph.specs.Shapes.{IsShaped}
+use Rattle.parse_graph.specs.Walks.{IsArcCount}
+use Rattle.parse_graph.proofs.Leveling.{in-from}
+use Rattle.parse_graph.proofs.Shaping.{arc-shaped}
+use Rattle.parse_graph.proofs.Using.{used-made, root-made}
+
+-- the items before a place
+at-taken : (arcs : List ArcKey) (k q : ℕ) (b : ArcKey) → k ≤ length arcs → q < k → slice_get arcs q ≡ Some b → slice_get (take k arcs) q ≡ Some b
+at-taken arcs k q b l less e =
+    slice_get-get_or (take k arcs) q b (omega (arith, less, length-take-le k arcs l)) ∙ ap Some (get_or-take k arcs q b less ∙ get_or_from_slice_get arcs q b b e)
+
+-- what an arc uses the arcs before it have made
+pub uses-listed : (g : Grammar) (arcs : List ArcKey) (k : ℕ) (a : ArcKey) (listed : List OrNode) (numbers : List ℕ) (pairs : List (Kid × Kid)) (me ue : List Entry)
+    → HasArcs g arcs → slice_get arcs k ≡ Some a → AreLinked g (take k arcs) listed numbers pairs me ue → UsesListed g listed a
+uses-listed g arcs k a listed numbers pairs me ue has at h (leaf l) below = tt
+uses-listed g arcs k a listed numbers pairs me ue has at h (name x i l) below =
+    let b = used-made g a (name x i l) (has.sound k a at) below refl in
+    let q = has.whole b.0 b.1 in
+    let less = has.upward k q.0 a b.0 at q.1 (subst (λ (o : OrNode). In o (used g a)) (sym b.2) below) in
+    let n = h.made_by q.0 b.0 (at-taken arcs k q.0 b.0 (omega (arith, slice_get_within arcs k a at)) less q.1) in
+    (n.0, n.2 ∙ ap Some b.2)
+uses-listed g arcs k a listed numbers pairs me ue has at h (suffix r j i l) below =
+    let b = used-made g a (suffix r j i l) (has.sound k a at) below refl in
+    let q = has.whole b.0 b.1 in
+    let less = has.upward k q.0 a b.0 at q.1 (subst (λ (o : OrNode). In o (used g a)) (sym b.2) below) in
+    let n = h.made_by q.0 b.0 (at-taken arcs k q.0 b.0 (omega (arith, slice_get_within arcs k a at)) less q.1) in
+    (n.0, n.2 ∙ ap Some b.2)
+
+root-is : (g : Grammar) (arcs : List ArcKey) (listed : List OrNode) (numbers : List ℕ) (pairs : List (Kid × Kid)) (me ue : List Entry) (root : Option ℕ)
+    → HasArcs g arcs → AreLinked g arcs listed numbers pairs me ue → IsPlaceOf listed (root_of g) root → IsRoot g listed root
+root-is g arcs listed numbers pairs me ue None has h none = λ t day.
+    let b = root-made g t day in
+    let q = has.whole b.0 b.1 in
+    let n = h.made_by q.0 b.0 q.1 in
+    none n.0 (n.2 ∙ ap Some b.2)
+root-is g arcs listed numbers pairs me ue (Some n) has h at = at
+
+-- the parts make the graph
+pub graph-is : (g : Grammar) (arcs : List ArcKey) (keys : List NodeKey) (numbers : List ℕ) (pairs : List (Kid × Kid)) (me ue : List Entry) (makers users : List (List ℕ)) (root : Option ℕ)
+    → HasArcs g arcs → length arcs ≤ 100000 → AreLinked g arcs (map or_node keys) numbers pairs me ue → AreRows (length keys) me makers → AreRows (length keys) ue users
+    → IsPlaceOf (map or_node keys) (root_of g) root → IsGraph g (record { arcs = arcs; nodes = map or_node keys; made_by = numbers; kids = pairs; makers = makers; users = users; root = root })
+graph-is g arcs keys numbers pairs me ue makers users root has few h rows lists at = record {
+  arcs = has;
+  few = few;
+  nodes = h.nodes;
+  made_by = h.made_by;
+  kids = h.kids;
+  makers = λ n o e. rows.each n (omega (arith, slice_get_within (map or_node keys) n o e, length-map keys or_node)) ∙ ap Some (h.makers n o e);
+  users = λ n o e. lists.each n (omega (arith, slice_get_within (map or_node keys) n o e, length-map keys or_node)) ∙ ap Some (h.users n o e);
+  root = root-is g arcs (map or_node keys) numbers pairs me ue root has h at;
+}
+
+-- the arcs of the instance have their shape, and there are as many as were counted
+pub all-shaped : (g : Grammar) (t : TableView) → IsSound g → IsMadeFor g t → IsReached g t → (listed : List ArcKey) → AreArcs g listed → All (IsShaped g) listed
+all-shaped g t sound made reached listed are = λ k d l. arc-shaped g t sound made reached _ (are.sound _ (in-from listed k _ (slice_get-get_or listed k d l)))
+
+pub has-shaped : (g : Grammar) (t : TableView) → IsSound g → IsMadeFor g t → IsReached g t → (arcs : List ArcKey) → HasArcs g arcs → All (IsShaped g) arcs
+has-shaped g t sound made reached arcs has = λ k d l. arc-shaped g t sound made reached _ (has.sound k _ (slice_get-get_or arcs k d l))
+
+pub counted : (g : Grammar) (listed : List ArcKey) (count : ℕ) → IsArcCount g count → AreArcs g listed → length listed ≡ count
+counted g listed count c are = ap length (one-list g listed c.0 are c.1) ∙ sym c.2

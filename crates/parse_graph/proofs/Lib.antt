@@ -1,0 +1,10 @@
+pub mod Passing
+pub mod Shaping
+pub mod Ranking
+pub mod Leveling
+pub mod Searching
+pub mod Rowing
+pub mod Keys
+pub mod Using
+pub mod Linking
+pub mod Graphing

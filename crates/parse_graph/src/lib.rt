@@ -1,0 +1,18 @@
+//! The shared graph of all parses: the arcs of the instance, and the nodes that they join.
+#![tactic(auto)]
+
+mod fault;
+mod graph;
+mod kid;
+mod level;
+mod links;
+mod node;
+mod rows;
+mod search;
+#[cfg(test)]
+mod tests;
+mod walk;
+
+pub use fault::GraphFault;
+pub use graph::Graph;
+pub use kid::Kid;

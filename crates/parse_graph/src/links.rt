@@ -1,0 +1,215 @@
+ghost use Rattle.std.specs.Prelude.{◌≡◌, ◌≤◌, ◌<◌, ◌+◌, ◌++◌, ◌∷◌, [], Some, All, length, map, slice_get, IfOk, OnOk};
+ghost use Rattle.roster_model.specs.declared.grammar.ArcKey.{ArcKey as Arc};
+ghost use Rattle.roster_model.specs.Sound.{IsSound};
+ghost use Rattle.arc_terms.specs.OrNodes.{made, used, symbol_node, root_of};
+ghost use Rattle.std.specs.Prelude.{List as Items};
+ghost use Rattle.parse_graph.specs.Graphs.{HasArcs, IsKid, AreKids};
+ghost use Rattle.parse_graph.specs.Nodes.{or_node};
+ghost use Rattle.parse_graph.specs.Shapes.{IsShaped};
+ghost use Rattle.parse_graph.specs.Linked.{IsListed, UsesListed, AddsNode, uses_of, IsLinked, IsPlaceOf};
+
+use crate::kid::Kid;
+use crate::level::rule_of;
+use crate::node::NodeKey;
+use crate::rows::Entry;
+use indexmap::IndexSet;
+use roster_model::{ArcKey, Grammar, List, Memory, Sym};
+use std::alloc::Global;
+
+/// The nodes that some arcs make, and what each of these arcs makes and uses.
+#[derive(Drop)]
+pub struct Links {
+    /// The nodes by their numbers.
+    pub nodes: IndexSet<NodeKey>,
+    /// For each arc the node that it makes.
+    pub made_by: List<u32>,
+    /// For each arc what is below it.
+    pub kids: List<(Kid, Kid)>,
+    /// For each arc the node that it makes and the arc.
+    pub makers: List<Entry>,
+    /// For each use of a node the node and the arc that uses it.
+    pub users: List<Entry>,
+}
+
+// The node that an arc makes.
+fn made_key(grammar: &Grammar, arc: &ArcKey) -> NodeKey
+    requires { IsShaped grammar.now arc.now }
+    ensures { or_node result ≡ made grammar.now arc.now }
+{
+    if arc.suffix == 0 {
+        NodeKey::Name {
+            name: rule_of(grammar, arc.rule).left,
+            start: arc.start,
+            len: arc.len,
+        }
+    } else {
+        NodeKey::Suffix {
+            rule: arc.rule,
+            from: arc.suffix,
+            start: arc.start,
+            len: arc.len,
+        }
+    }
+}
+
+// The kid of a node that has a number.
+fn node_kid(nodes: &IndexSet<NodeKey>, key: NodeKey) -> Kid
+    requires few { length nodes.now.keys ≤ 100000 }
+    requires listed { IsListed (map or_node nodes.now.keys) (or_node key) }
+    ensures { IsKid (map or_node nodes.now.keys) (or_node key) result }
+{
+    let Some(number) = nodes.get_index_of(&key) else {
+        unreachable!();
+    };
+    Kid::Node(number as u32)
+}
+
+// The kid of a symbol on a span, that of a code at the span's first period.
+fn symbol_kid(nodes: &IndexSet<NodeKey>, symbol: Sym, start: u8, len: u8) -> Kid
+    requires few { length nodes.now.keys ≤ 100000 }
+    requires listed { IsListed (map or_node nodes.now.keys) (symbol_node symbol start len) }
+    ensures { IsKid (map or_node nodes.now.keys) (symbol_node symbol start len) result }
+{
+    match symbol {
+        Sym::Code(code) => Kid::Letter {
+            code,
+            period: start,
+        },
+        Sym::Name(name) => node_kid(nodes, NodeKey::Name { name, start, len }),
+    }
+}
+
+// The kids of an arc.
+fn kids_of(grammar: &Grammar, nodes: &IndexSet<NodeKey>, arc: &ArcKey) -> (Kid, Kid)
+    requires sound { IsSound grammar.now }
+    requires shaped { IsShaped grammar.now arc.now }
+    requires few { length nodes.now.keys ≤ 100000 }
+    requires uses { UsesListed grammar.now (map or_node nodes.now.keys) arc.now }
+    ensures { AreKids (map or_node nodes.now.keys) (used grammar.now arc.now) result }
+{
+    let right = rule_of(grammar, arc.rule).right.as_slice();
+    let from = arc.suffix as usize;
+    let first = symbol_kid(nodes, right[from], arc.start, arc.part);
+    if from + 1 == right.len() {
+        return (first, Kid::Nothing);
+    }
+    let start = arc.start + arc.part;
+    let len = arc.len - arc.part;
+    if from + 2 == right.len() {
+        let last = symbol_kid(nodes, right[from + 1], start, len);
+        return (first, last);
+    }
+    let key = NodeKey::Suffix {
+        rule: arc.rule,
+        from: arc.suffix + 1,
+        start,
+        len,
+    };
+    let rest = node_kid(nodes, key);
+    (first, rest)
+}
+
+// Numbers a node, if it has no number yet.
+fn number_of(nodes: &mut IndexSet<NodeKey>, key: NodeKey) -> Result<u32, Memory>
+    requires { length nodes.old.keys ≤ 100000 }
+    ensures { IfOk result (AddsNode (map or_node nodes.old.keys) (or_node key) (map or_node nodes.new.keys)) }
+{
+    match nodes.insert_full(key) {
+        Ok((number, _)) => Ok(number as u32),
+        Err(_) => Err(Memory),
+    }
+}
+
+// Adds a use of a kid that is a node.
+fn add_use(users: &mut List<Entry>, kid: Kid, arc: u32) -> Result<(), Memory>
+    ensures { OnOk result (users.new ≡ users.old ++ uses_of kid arc) }
+{
+    match kid {
+        Kid::Node(row) => users.push(Entry { row, item: arc }),
+        Kid::Nothing | Kid::Letter { .. } => Ok(()),
+    }
+}
+
+impl Links {
+    // No arcs and no nodes.
+    fn new(alloc: Global) -> Links
+        ensures { (result.nodes.keys ≡ []) × (result.made_by ≡ []) × (result.kids ≡ []) × (result.makers ≡ []) × (result.users ≡ []) }
+    {
+        Links {
+            nodes: IndexSet::new(alloc),
+            made_by: List::new(alloc),
+            kids: List::new(alloc),
+            makers: List::new(alloc),
+            users: List::new(alloc),
+        }
+    }
+
+    // Adds an arc, after all those that make what it uses.
+    fn add(&mut self, grammar: &Grammar, arc: &ArcKey) -> Result<(), Memory>
+        requires sound { IsSound grammar.now }
+        requires shaped { IsShaped grammar.now arc.now }
+        requires uses { UsesListed grammar.now (map or_node self.old.nodes.keys) arc.now }
+        requires few { length self.old.nodes.keys < 100000 }
+        requires numbers { length self.old.made_by < 100000 }
+        ensures { OnOk result ((arcs : Items Arc) → IsLinked grammar.now arcs self.old → IsLinked grammar.now (arcs ++ arc.now ∷ []) self.new) }
+    {
+        let number = self.made_by.len() as u32;
+        let kids = kids_of(grammar, &self.nodes, arc);
+        let made = number_of(&mut self.nodes, made_key(grammar, arc))?;
+        self.made_by.push(made)?;
+        self.kids.push(kids)?;
+        self.makers.push(Entry {
+            row: made,
+            item: number,
+        })?;
+        add_use(&mut self.users, kids.0, number)?;
+        add_use(&mut self.users, kids.1, number)?;
+        Ok(())
+    }
+}
+
+/// Links the arcs of the instance, which stand in an order in which each is after all those that make
+/// what it uses.
+pub fn link(alloc: Global, grammar: &Grammar, arcs: &[ArcKey]) -> Result<Links, Memory>
+    requires sound { IsSound grammar.now }
+    requires arcs { HasArcs grammar.now arcs.now }
+    requires shaped { All (IsShaped grammar.now) arcs.now }
+    requires few { length arcs.now ≤ 100000 }
+    ensures { IfOk result (IsLinked grammar.now arcs.now) }
+{
+    let mut links = Links::new(alloc);
+    for arc in arcs {
+        links.add(grammar, arc)?;
+    }
+    Ok(links)
+}
+
+/// Returns the nodes in the order of their numbers.
+pub fn nodes_of(alloc: Global, nodes: &IndexSet<NodeKey>) -> Result<List<NodeKey>, Memory>
+    ensures { IfOk result (λ list. list ≡ nodes.now.keys) }
+{
+    let mut list = List::new(alloc);
+    for number in 0..nodes.len() {
+        let Some(key) = nodes.get_index(number) else {
+            unreachable!();
+        };
+        list.push(*key)?;
+    }
+    Ok(list)
+}
+
+/// Returns the number of the start name on the whole day, if it is a node.
+pub fn root_of(grammar: &Grammar, nodes: &IndexSet<NodeKey>) -> Option<u32>
+    requires { length nodes.now.keys ≤ 100000 }
+    ensures { IsPlaceOf (map or_node nodes.now.keys) (root_of grammar.now) result }
+{
+    let key = NodeKey::Name {
+        name: grammar.start,
+        start: 1,
+        len: grammar.periods,
+    };
+    match nodes.get_index_of(&key) {
+        Some(number) => Some(number as u32),
+        None => None,
+    }
+}
