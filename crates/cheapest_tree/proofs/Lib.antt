@@ -1,0 +1,9 @@
+pub mod Standing
+pub mod Making
+pub mod Topping
+pub mod Passing
+pub mod Lettering
+pub mod Linking
+pub mod Assembling
+pub mod Walking
+pub mod Beginning

@@ -1,0 +1,6 @@
+use Rattle.std.proofs.Common.{rules, arith}
+use Rattle.cheapest_tree.proofs.Lettering.{numbered-none}
+use Rattle.cheapest_tree.proofs.letters.Letters.new.Goals as goal
+
+pub invariant_of-result : goal.invariant_of-result
+invariant_of-result c = record { known = numbered-none c.new.result c.in-Ok.numbers.items 65536 (c.in-Ok.ensures.items_if_clones_equal (λ y e. search rules)) (omega (arith, c.in-Ok.ensures.len)) }

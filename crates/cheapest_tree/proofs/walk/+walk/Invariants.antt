@@ -1,0 +1,9 @@
+use Rattle.std.specs.Prelude.{slice_get}
+use Rattle.cheapest_tree.specs.Walks.{node_left, slot_left}
+use Rattle.cheapest_tree.proofs.walk.+walk.Given as goal
+
+abbrev pub decreases-write_node : goal.decreases-write_node
+decreases-write_node l = node_left (slice_get l.best.now l.node)
+
+abbrev pub decreases-write_slot : goal.decreases-write_slot
+decreases-write_slot l = slot_left (slice_get l.best.now l.slot)

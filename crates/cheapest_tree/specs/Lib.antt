@@ -1,0 +1,6 @@
+pub mod AtNodes
+pub mod Sentinels
+pub mod Numbering
+pub mod Pricers
+pub mod Passes
+pub mod Walks

@@ -1,0 +1,96 @@
+-- What a contract sees of a pricer, and what its values are.
+use Rattle.std.specs.Prelude.{ℕ, ℤ, pos, ◌≡◌, ◌+◌, Option, None, Some, IsSome, OnSome, List, length, slice_get, slice_index, slice_index_or}
+use Rattle.roster_model.specs.declared.grammar.ArcKey.{ArcKey}
+use Rattle.roster_model.specs.declared.grammar.Grammar.{Grammar}
+use Rattle.roster_model.specs.Trees.{Parts, IsDayTree, steps}
+use Rattle.roster_model.specs.Sums.{PriceView, tree_sum, IsLeast}
+use Rattle.roster_model.specs.Room.{RoomView, most_uses}
+use Rattle.roster_model.specs.Sound.{IsSound}
+use Rattle.arc_terms.specs.OrNodes.{OrNode, made}
+use Rattle.parse_graph.specs.Graphs.{GraphView, IsGraph}
+use Rattle.parse_graph.specs.declared.kid.Kid.{Kid}
+use Rattle.parse_graph.specs.declared.kid.Kid.TheVariants.{Nothing, Letter, Node}
+use Rattle.cheapest_tree.specs.declared.slots.Link.{Link}
+use Rattle.cheapest_tree.specs.declared.slots.Spot.{Spot}
+use Rattle.cheapest_tree.specs.AtNodes.{NodeLeast, IsAt, sum_at, top_arc}
+
+-- the slots that each arc joins, the letters that have slots, the value in each slot, and the best arc
+-- of each node; the slots of the nodes come first, then that of nothing, then those of the letters
+pub record PricerView : Type 0 where
+  pub links : List Link
+  pub letters : List Spot
+  pub values : List (Option ℤ)
+  pub best : List ℕ
+
+-- the value in a slot
+abbrev pub value_at : List (Option ℤ) → ℕ → Option ℤ
+value_at values slot = slice_index_or values slot None
+
+-- the slot of what is below an arc, where there are so many nodes
+abbrev pub IsSlot : ℕ → List Spot → Kid → ℕ → Type 0
+IsSlot nodes letters Nothing slot = slot ≡ nodes
+IsSlot nodes letters (Node n) slot = slot ≡ n
+IsSlot nodes letters (Letter code period) slot =
+    (j : ℕ) × (slot ≡ nodes + 1 + j) × (slice_get letters j ≡ Some (record { code = code; period = period }))
+
+-- the link has the slots of what the arc makes and of what is below it
+pub record IsLink (v : GraphView) (letters : List Spot) (arc : ℕ) (link : Link) : Type 0 where
+  pub made : slice_get v.made_by arc ≡ Some link.made
+  pub kids : Kid × Kid
+  pub below : slice_get v.kids arc ≡ Some kids
+  pub first : IsSlot (length v.nodes) letters kids.0 link.first
+  pub rest : IsSlot (length v.nodes) letters kids.1 link.rest
+
+-- the pricer was made for the graph
+pub record IsMadeFor (v : GraphView) (w : PricerView) : Type 0 where
+  pub count : length w.links ≡ length v.arcs
+  pub links : (arc : ℕ) (link : Link) → slice_get w.links arc ≡ Some link → IsLink v w.letters arc link
+  pub slots : length w.values ≡ length v.nodes + 1 + length w.letters
+  pub nodes : length w.best ≡ length v.nodes
+
+-- the graph is that of a sound grammar
+abbrev pub HasGrammar : GraphView → Type 0
+HasGrammar v = (g : Grammar) × IsSound g × IsGraph g v
+
+-- the slots of nothing and of the letters have their prices, where there are so many nodes
+pub record ArePriced (p : PriceView) (letters : List Spot) (nodes : ℕ) (values : List (Option ℤ)) : Type 0 where
+  pub nothing : value_at values nodes ≡ Some (pos 0)
+  pub spots : (j : ℕ) (l : Spot) → slice_get letters j ≡ Some l → value_at values (nodes + 1 + j) ≡ p.letter_at l.code l.period
+
+-- the arc makes the node, and the value is the least sum of what stands there with this arc at the top
+pub record IsBest (g : Grammar) (p : PriceView) (v : GraphView) (o : OrNode) (value : Option ℤ) (arc : ℕ) : Type 0 where
+  pub key : ArcKey
+  pub at : slice_get v.arcs arc ≡ Some key
+  pub makes : made g key ≡ o
+  pub least : IsLeast (λ t. IsAt g o t × (top_arc o t ≡ key)) (sum_at p o) value
+
+-- each node that has a value has a best arc
+abbrev pub AreBest : Grammar → PriceView → GraphView → List (Option ℤ) → List ℕ → Type 0
+AreBest g p v values best =
+    (n : ℕ) (o : OrNode) → slice_get v.nodes n ≡ Some o → OnSome (value_at values n) (IsBest g p v o (value_at values n) (slice_index best n))
+
+-- the pricer is filled for a grammar's graph and prices: for each node its value is the least sum
+-- there, or none, and a best arc has it at the top
+pub record IsFilled (g : Grammar) (p : PriceView) (v : GraphView) (w : PricerView) : Type 0 where
+  pub priced : ArePriced p w.letters (length v.nodes) w.values
+  pub nodes : (n : ℕ) (o : OrNode) → slice_get v.nodes n ≡ Some o → NodeLeast g p o (value_at w.values n)
+  pub arcs : AreBest g p v w.values w.best
+
+-- some tree of the day has a sum
+abbrev pub HasDaySum : Grammar → PriceView → Type 0
+HasDaySum g p = (t : Parts) × IsDayTree g t × IsSome (tree_sum p 1 t)
+
+-- the room holds the steps of a tree of the day, and no tree of the day has a lesser sum
+pub record HoldsLeastTree (g : Grammar) (p : PriceView) (room : RoomView) : Type 0 where
+  pub tree : Parts
+  pub of_day : IsDayTree g tree
+  pub least : IsLeast (IsDayTree g) (tree_sum p 1) (tree_sum p 1 tree)
+  pub held : room.steps ≡ steps 1 tree
+
+-- what is asked for a tree of the day: the grammar's graph, the values of its nodes, a sum, and room
+pub record AsksTree (g : Grammar) (p : PriceView) (v : GraphView) (w : PricerView) (room : RoomView) : Type 0 where
+  pub sound : IsSound g
+  pub graph : IsGraph g v
+  pub filled : IsFilled g p v w
+  pub sum : HasDaySum g p
+  pub space : room.most ≡ most_uses g

@@ -1,0 +1,78 @@
+-- What the walk down a tree of least sum asks, and what it writes.
+use Rattle.std.specs.Prelude.{ℕ, ℤ, zero, suc, ◌≡◌, ◌+◌, ◌*◌, ◌<◌, ◌≤◌, Option, None, Some, List, [], ◌∷◌, ◌++◌, length, slice_get}
+use Rattle.roster_model.specs.declared.grammar.ArcKey.{ArcKey}
+use Rattle.roster_model.specs.declared.grammar.Grammar.{Grammar}
+use Rattle.roster_model.specs.declared.grammar.Step.{Step}
+use Rattle.roster_model.specs.Trees.{Parts, steps}
+use Rattle.roster_model.specs.Sums.{PriceView}
+use Rattle.roster_model.specs.Room.{RoomView}
+use Rattle.roster_model.specs.Sound.{IsSound}
+use Rattle.tree_laws.specs.Parts.{use_count}
+use Rattle.arc_terms.specs.OrNodes.{OrNode, name, suffix, leaf}
+use Rattle.parse_graph.specs.Graphs.{GraphView, IsGraph}
+use Rattle.cheapest_tree.specs.declared.slots.Link.{Link}
+use Rattle.cheapest_tree.specs.AtNodes.{IsAt, sum_at, NodeLeast}
+use Rattle.cheapest_tree.specs.Pricers.{PricerView, value_at, IsMadeFor, IsFilled}
+
+-- the first period of a node
+abbrev pub start_of : OrNode → ℕ
+start_of (name x i l) = i
+start_of (suffix r k i l) = i
+start_of (leaf l) = l.period
+
+-- the arc of a whole right side is a rule use
+abbrev pub steps_at : ℕ → ℕ → ℕ → ℕ → List Step
+steps_at zero r i l = record { rule = r; start = i; len = l } ∷ []
+steps_at (suc k) r i l = []
+
+abbrev pub steps_of : ArcKey → List Step
+steps_of a = steps_at a.suffix a.rule a.start a.len
+
+-- there is room for the steps of all that stands at the node
+abbrev pub HasRoom : Grammar → OrNode → RoomView → Type 0
+HasRoom g o room = (t : Parts) → IsAt g o t → length room.steps + use_count t ≤ room.most
+
+-- what is asked to write what stands at node m: a filled pricer of which these are the links and the best
+-- arcs, a value of the node, and room
+pub record AsksNode (v : GraphView) (links : List Link) (best : List ℕ) (m : ℕ) (room : RoomView) : Type 0 where
+  pub g : Grammar
+  pub p : PriceView
+  pub w : PricerView
+  pub sound : IsSound g
+  pub graph : IsGraph g v
+  pub made : IsMadeFor v w
+  pub filled : IsFilled g p v w
+  pub same_links : w.links ≡ links
+  pub same_best : w.best ≡ best
+  pub node : OrNode
+  pub at : slice_get v.nodes m ≡ Some node
+  pub sum : ℤ
+  pub value : value_at w.values m ≡ Some sum
+  pub space : HasRoom g node room
+
+-- the steps of what stands at the node with the least sum there were added
+abbrev pub WritesAt : Grammar → PriceView → OrNode → ℕ → RoomView → RoomView → Type 0
+WritesAt g p o i old new = (t : Parts) × IsAt g o t × NodeLeast g p o (sum_at p o t) × (new ≡ record old { steps = old.steps ++ steps i t })
+
+-- of whatever grammar, prices and values it is asked
+abbrev pub WritesNode : GraphView → List Link → List ℕ → ℕ → RoomView → RoomView → Type 0
+WritesNode v links best m old new = (asked : AsksNode v links best m old) → WritesAt asked.g asked.p asked.node (start_of asked.node) old new
+
+-- a slot that is one of a node is asked for as that
+abbrev pub AsksSlot : GraphView → List Link → List ℕ → ℕ → RoomView → Type 0
+AsksSlot v links best slot room = slot < length best → AsksNode v links best slot room
+
+-- and written as that, and nothing is written for another
+pub record WritesSlot (v : GraphView) (links : List Link) (best : List ℕ) (slot : ℕ) (old new : RoomView) : Type 0 where
+  pub node : slot < length best → WritesNode v links best slot old new
+  pub other : length best ≤ slot → new ≡ old
+
+-- How far the walk may still go down: by the place of the best arc, since an arc stands after all arcs
+-- that make what it uses.
+abbrev pub node_left : Option ℕ → ℕ
+node_left None = 0
+node_left (Some arc) = 2 * arc + 1
+
+abbrev pub slot_left : Option ℕ → ℕ
+slot_left None = 0
+slot_left (Some arc) = 2 * arc + 2

@@ -1,0 +1,120 @@
+ghost use Rattle.std.specs.Prelude.{◌≡◌, IfOk};
+ghost use Rattle.roster_model.specs.declared.grammar.Grammar.{Grammar as Rules};
+ghost use Rattle.roster_model.specs.Sound.{IsSound};
+ghost use Rattle.roster_model.specs.Trees.{IsDayTree};
+ghost use Rattle.roster_model.specs.Sums.{IsLeast, tree_sum};
+ghost use Rattle.parse_graph.specs.Graphs.{GraphView, IsGraph};
+ghost use Rattle.cheapest_tree.specs.Pricers.{HasGrammar, IsMadeFor, IsFilled, AsksTree, HoldsLeastTree};
+
+use crate::cell::Cell;
+use crate::fill::fill;
+use crate::letters::Letters;
+use crate::slots::{Link, Spot};
+use crate::walk::write_node;
+use parse_graph::Graph;
+use roster_model::{LetterPrice, List, Memory, TreeRoom};
+use std::alloc::Global;
+use std::marker::Model;
+
+/// The least sums of all trees of a graph's nodes.
+#[derive(Drop)]
+pub struct Pricer {
+    // The slots that each arc joins.
+    links: List<Link>,
+    // The letters that have slots.
+    letters: List<Spot>,
+    // The value in each slot: those of the nodes, of nothing, and of the letters.
+    values: Vec<Cell>,
+    // For each node that has a value an arc with a tree of that sum, by its place.
+    best: Vec<u32>,
+}
+
+impl Model for Pricer {
+    ghost use Rattle.cheapest_tree.specs.Pricers.{PricerView};
+
+    ghost Value = { PricerView };
+
+    ghost view = { λ s. record { links = s.links; letters = s.letters; values = s.values.items; best = s.best.items } };
+}
+
+impl Pricer {
+    /// Returns a pricer for the trees of a graph. Later calls take the same graph.
+    ///
+    /// It has taken the memory for all of them: 12 bytes for each arc, 20 for each node, and
+    /// 18 for each letter.
+    pub fn new(alloc: Global, graph: &Graph) -> Result<Pricer, Memory>
+        ensures { IfOk result (IsMadeFor graph.now) }
+    {
+        let nodes = graph.nodes();
+        let mut letters = Letters::new(alloc)?;
+        let mut links = List::new(alloc);
+        for place in 0..graph.arcs().len() {
+            let arc = place as u32;
+            let (first, rest) = graph.children(arc);
+            links.push(Link {
+                made: graph.made_by(arc),
+                first: letters.slot(first, nodes)?,
+                rest: letters.slot(rest, nodes)?,
+            })?;
+        }
+        let letters = letters.into_list();
+        let count = nodes as usize + 1 + letters.len();
+        let Ok(values) = vec![in alloc; Cell::new(None); count] else {
+            return Err(Memory);
+        };
+        let Ok(best) = vec![in alloc; 0; nodes as usize] else {
+            return Err(Memory);
+        };
+        Ok(Pricer {
+            links,
+            letters,
+            values,
+            best,
+        })
+    }
+
+    /// Fills the pricer for the prices, and returns the least sum over all trees of the day; `None`
+    /// exactly where no such tree has a sum. Takes no memory.
+    pub fn cheapest<P: LetterPrice>(&mut self, graph: &Graph, prices: &P) -> Option<i128>
+        requires graph { HasGrammar graph.now }
+        requires made { IsMadeFor graph.now self.old }
+        ensures least { (g : Rules) → IsSound g → IsGraph g graph.now
+            → IsLeast (IsDayTree g) (tree_sum (P.view prices.now) 1) result }
+        ensures filled { (g : Rules) → IsSound g → IsGraph g graph.now
+            → IsFilled g (P.view prices.now) graph.now self.new }
+        ensures kept { (v : GraphView) → IsMadeFor v self.old → IsMadeFor v self.new }
+    {
+        fill(
+            graph,
+            prices,
+            self.links.as_slice(),
+            self.letters.as_slice(),
+            self.values.as_mut_slice(),
+            self.best.as_mut_slice(),
+        );
+        let root = graph.root()?;
+        self.values[root as usize].sum()
+    }
+
+    /// Leaves in the room the steps of a tree of the day of least sum, under the prices for which
+    /// the pricer is filled. Takes no memory.
+    pub fn tree<P: LetterPrice>(&self, graph: &Graph, prices: &P, room: &mut TreeRoom)
+        requires made { IsMadeFor graph.now self.now }
+        requires asks { (g : Rules) × AsksTree g (P.view prices.now) graph.now self.now room.old }
+        ensures tree { (g : Rules) → AsksTree g (P.view prices.now) graph.now self.now room.old
+            → HoldsLeastTree g (P.view prices.now) room.new }
+        ensures kept { room.new.most ≡ room.old.most }
+    {
+        room.clear();
+        let Some(root) = graph.root() else {
+            return;
+        };
+        write_node(
+            graph,
+            self.links.as_slice(),
+            self.best.as_slice(),
+            root,
+            room,
+        );
+    }
+}

@@ -1,0 +1,44 @@
+ghost use Rattle.std.specs.Prelude.{◌≡◌, ◌<◌, ◌++◌, length};
+ghost use Rattle.cheapest_tree.specs.Walks.{steps_of, AsksNode, WritesNode, AsksSlot, WritesSlot};
+
+use crate::slots::Link;
+use parse_graph::Graph;
+use roster_model::{ArcKey, Step, TreeRoom};
+
+// Adds the rule use of the arc of a whole right side. Other arcs are no rule uses.
+fn write_step(arc: &ArcKey, room: &mut TreeRoom)
+    requires { arc.now.suffix ≡ 0 → length room.old.steps < room.old.most }
+    ensures { room.new ≡ record room.old { steps = room.old.steps ++ steps_of arc.now } }
+{
+    if arc.suffix == 0 {
+        room.push(Step {
+            rule: arc.rule,
+            start: arc.start,
+            len: arc.len,
+        });
+    }
+}
+
+/// Adds the steps of a tree of least sum of a node, or of parts of least sum. Takes no memory.
+#[cycle(walk)]
+pub fn write_node(graph: &Graph, links: &[Link], best: &[u32], node: u32, room: &mut TreeRoom)
+    requires { AsksNode graph.now links.now best.now node room.old }
+    ensures { WritesNode graph.now links.now best.now node room.old room.new }
+{
+    let arc = best[node as usize] as usize;
+    let link = links[arc];
+    write_step(&graph.arcs()[arc], room);
+    write_slot(graph, links, best, link.first, room);
+    write_slot(graph, links, best, link.rest, room);
+}
+
+// Adds the steps of what is in a slot: those of a node, and none for a letter or for nothing.
+#[cycle(walk)]
+fn write_slot(graph: &Graph, links: &[Link], best: &[u32], slot: u32, room: &mut TreeRoom)
+    requires { AsksSlot graph.now links.now best.now slot room.old }
+    ensures { WritesSlot graph.now links.now best.now slot room.old room.new }
+{
+    if (slot as usize) < best.len() {
+        write_node(graph, links, best, slot, room);
+    }
+}
