@@ -1,5 +1,7 @@
 //! What a certificate's checker asks of a leaf that is pinned: whether the cuts leave each arc of
-//! the instance one count, and what these counts cost.
+//! the instance one count, and what these counts cost. Its parts are public too, for counts that come
+//! from elsewhere: numbers at the places of a day's names, suffixes and letters, to which arcs are
+//! counted one by one.
 #![tactic(auto)]
 
 mod balances;
@@ -14,8 +16,11 @@ mod walk;
 
 pub use balances::Balances;
 pub use bounds::{high, low};
+pub use counting::count_arc;
 pub use loose::first_loose;
-pub use value::pinned_value;
+pub use places::place_count;
+pub use value::{allowed_penalties, pinned_value};
+pub use walk::{arc_cost, clear};
 
 #[cfg(test)]
 mod tests;

@@ -18,8 +18,10 @@ use crate::walk::count_arcs;
 use roster_model::{Cut, Instance, greatest_cost};
 use span_table::Table;
 
-// The penalties of the cells, none where the numbers are those of no allowed roster.
-fn allowed_penalties(instance: &Instance, nodes: &[i64]) -> Option<u64>
+/// Returns the penalties of the cells at the numbers at the places, `None` exactly where these are the
+/// numbers of no allowed roster: where a name or suffix but the root is not balanced, the root's
+/// number is not in the range of the heads, or a cell's is outside its floor and ceiling.
+pub fn allowed_penalties(instance: &Instance, nodes: &[i64]) -> Option<u64>
     requires sound { IsSoundInstance instance.now }
     requires length { length nodes.now ≡ place_count instance.now.grammar }
     ensures { MatchOption result (AreAllowed instance.now nodes.now → ⊥)

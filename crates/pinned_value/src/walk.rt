@@ -11,8 +11,8 @@ use crate::counting::{count_arc, rule_of};
 use roster_model::{ArcKey, Cut, Grammar};
 use span_table::Table;
 
-// The cost of the arc's rule where it is the arc of the whole right side, and otherwise 0.
-fn arc_cost(grammar: &Grammar, arc: &ArcKey) -> u32
+/// Returns the cost of the arc's rule where it is the arc of the whole right side, and otherwise 0.
+pub fn arc_cost(grammar: &Grammar, arc: &ArcKey) -> u32
     requires sound { IsSound grammar.now }
     requires shaped { IsShaped grammar.now arc.now }
     ensures value { result ≡ top_cost grammar.now arc.now }
@@ -25,8 +25,8 @@ fn arc_cost(grammar: &Grammar, arc: &ArcKey) -> u32
     }
 }
 
-// Makes all numbers 0.
-fn clear(nodes: &mut [i64])
+/// Makes all numbers 0.
+pub fn clear(nodes: &mut [i64])
     ensures length { length nodes.new ≡ length nodes.old }
     ensures zero { (p : ℕ) → p < length nodes.new → slice_index_or nodes.new p (pos 0) ≡ pos 0 }
 {

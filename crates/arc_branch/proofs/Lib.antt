@@ -1,0 +1,6 @@
+pub mod Shaping
+pub mod Places
+pub mod Sorting
+pub mod Costing
+pub mod Pathing
+pub mod Summing

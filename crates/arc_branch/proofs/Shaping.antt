@@ -1,0 +1,98 @@
+-- Each arc of the instance has a rule, a span of the day and a first part of it.
+use Rattle.std.proofs.Common.{◌≡◌, ℕ, zero, suc, arith, ◌+◌, ◌≤◌, List, [], ◌∷◌, ◌++◌, Some, length, drop, refl, ap, subst, sym, ◌⊎◌, inl, inr}
+use Rattle.std.proofs.lemmas.List.{length-drop}
+use Rattle.roster_model.specs.declared.grammar.ArcKey.{ArcKey}
+use Rattle.roster_model.specs.declared.grammar.Grammar.{Grammar}
+use Rattle.roster_model.specs.declared.grammar.Rule.{Rule}
+use Rattle.roster_model.specs.declared.grammar.Sym.{Sym}
+use Rattle.roster_model.specs.declared.grammar.Sym.TheVariants.{Code, Name}
+use Rattle.roster_model.specs.Grammar.{rule_at}
+use Rattle.roster_model.specs.Trees.{Parts, done, letter, uses, covers, Derive, IsDayTree}
+use Rattle.roster_model.specs.Sums.{arc}
+use Rattle.roster_model.specs.Folds.{In}
+use Rattle.roster_model.specs.Arcs.{arcs, parts_arcs, arc_of_part, IsArc}
+use Rattle.arc_terms.proofs.Balanced.{drop-next}
+use Rattle.arc_terms.proofs.Folding.{In-append}
+use Rattle.span_table.proofs.Plugging.{some-covered}
+use Rattle.pinned_value.specs.Places.{IsShaped}
+
+module _ (g : Grammar) (a : ArcKey) where
+  module _ (r : ℕ) (rule : Rule) (at : rule_at g r ≡ Some rule) where
+    -- the arc of a part that begins the suffix
+    arc_shaped : (k i n : ℕ) (s : Sym) (ss : List Sym) (rest : Parts) → drop k rule.right ≡ s ∷ ss → Derive g ss (i + n) rest → 1 ≤ i → 1 ≤ n → i + (n + covers rest) ≤ g.periods + 1
+        → a ≡ arc r k i n rest → IsShaped g a
+    arc_shaped k i n s ss rest e d begins some fits is =
+        let long = length-drop k rule.right in
+        let here : length (drop k rule.right) ≡ length (s ∷ ss) = ap length e in
+        subst (λ (x : ArcKey). IsShaped g x) (sym is) (record {
+          rule = rule;
+          at = at;
+          symbol = omega (arith, long, here);
+          day = record { begins = begins; some = omega (arith, some); within = fits };
+          some = some;
+          inside = omega arith;
+          others = λ two. let more = followed ss d (omega (arith, long, here, two)) in omega (arith, more);
+        })
+      where
+        followed : (xs : List Sym) → Derive g xs (i + n) rest → 1 ≤ length xs → 1 ≤ covers rest
+        followed [] d h = absurd (omega arith)
+        followed (x ∷ xs) d h = some-covered g x xs (i + n) rest d
+
+    part_shaped : (k i n : ℕ) (s : Sym) (ss : List Sym) (rest : Parts) → drop k rule.right ≡ s ∷ ss → Derive g ss (i + n) rest → 1 ≤ i → 1 ≤ n → i + (n + covers rest) ≤ g.periods + 1
+        → In a (arc_of_part r k i n rest) → IsShaped g a
+    part_shaped zero i n s ss rest e d begins some fits (inl is) = arc_shaped zero i n s ss rest e d begins some fits is
+    part_shaped zero i n s ss rest e d begins some fits (inr none) = absurd none
+    part_shaped (suc k) i n s ss done e d begins some fits h = absurd h
+    part_shaped (suc k) i n s ss (letter c rest) e d begins some fits (inl is) = arc_shaped (suc k) i n s ss (letter c rest) e d begins some fits is
+    part_shaped (suc k) i n s ss (letter c rest) e d begins some fits (inr none) = absurd none
+    part_shaped (suc k) i n s ss (uses q m inner rest) e d begins some fits (inl is) = arc_shaped (suc k) i n s ss (uses q m inner rest) e d begins some fits is
+    part_shaped (suc k) i n s ss (uses q m inner rest) e d begins some fits (inr none) = absurd none
+
+  -- parts of no symbols have no arcs
+  of_some : (r k i : ℕ) (rule : Rule) (ss : List Sym) (t : Parts)
+      → ((s : Sym) (tail : List Sym) → drop k rule.right ≡ s ∷ tail → Derive g (s ∷ tail) i t → In a (parts_arcs r k i t) → IsShaped g a)
+      → drop k rule.right ≡ ss → Derive g ss i t → In a (parts_arcs r k i t) → IsShaped g a
+  of_some r k i rule [] done f e d h = absurd h
+  of_some r k i rule [] (letter c rest) f e d h = absurd d
+  of_some r k i rule [] (uses q n inner rest) f e d h = absurd d
+  of_some r k i rule (s ∷ tail) t f e d h = f s tail e d h
+
+  parts_shaped : (t : Parts) (r k i : ℕ) (rule : Rule) (s : Sym) (ss : List Sym) → rule_at g r ≡ Some rule → drop k rule.right ≡ s ∷ ss → Derive g (s ∷ ss) i t
+      → 1 ≤ i → i + covers t ≤ g.periods + 1 → In a (parts_arcs r k i t) → IsShaped g a
+  parts_shaped done r k i rule (Code c) ss at e d begins fits h = absurd d
+  parts_shaped done r k i rule (Name x) ss at e d begins fits h = absurd d
+  parts_shaped (letter c rest) r k i rule (Name x) ss at e d begins fits h = absurd d
+  parts_shaped (uses q n inner rest) r k i rule (Code c) ss at e d begins fits h = absurd d
+  parts_shaped (letter c rest) r k i rule (Code b) ss at e d begins fits h =
+      by (In-append a (arc_of_part r k i 1 rest) (parts_arcs r (suc k) (i + 1) rest) h)
+      (of_some r (suc k) (i + 1) rule ss rest
+      (λ s tail e2 d2 p. parts_shaped rest r (suc k) (i + 1) rule s tail at e2 d2 (omega arith) (omega (arith, fits)) p)
+      (drop-next k rule.right (Code b) ss e) d.1)
+    where
+      by : In a (arc_of_part r k i 1 rest) ⊎ In a (parts_arcs r (suc k) (i + 1) rest) → (In a (parts_arcs r (suc k) (i + 1) rest) → IsShaped g a) → IsShaped g a
+      by (inl p) f = part_shaped r rule at k i 1 (Code b) ss rest e d.1 begins (omega arith) (omega (arith, fits)) p
+      by (inr p) f = f p
+  parts_shaped (uses q n inner rest) r k i rule (Name x) ss at e d begins fits h =
+      by (In-append a (arc_of_part r k i n rest) (parts_arcs q 0 i inner ++ parts_arcs r (suc k) (i + n) rest) h)
+      (of_some q 0 i d.0 d.0.right inner
+      (λ s tail e2 d2 p. parts_shaped inner q 0 i d.0 s tail d.1 e2 d2 begins (omega (arith, fits, d.5)) p) refl d.6)
+      (of_some r (suc k) (i + n) rule ss rest
+      (λ s tail e2 d2 p. parts_shaped rest r (suc k) (i + n) rule s tail at e2 d2 (omega (arith, begins)) (omega (arith, fits)) p)
+      (drop-next k rule.right (Name x) ss e) d.7)
+    where
+      by : In a (arc_of_part r k i n rest) ⊎ In a (parts_arcs q 0 i inner ++ parts_arcs r (suc k) (i + n) rest)
+          → (In a (parts_arcs q 0 i inner) → IsShaped g a) → (In a (parts_arcs r (suc k) (i + n) rest) → IsShaped g a) → IsShaped g a
+      by (inl p) f u = part_shaped r rule at k i n (Name x) ss rest e d.7 begins (omega (arith, d.4)) (omega (arith, fits)) p
+      by (inr p) f u = elim (In-append a (parts_arcs q 0 i inner) (parts_arcs r (suc k) (i + n) rest) p) [ inl o ↦ f o | inr o ↦ u o ]
+
+  tree_shaped : (t : Parts) → IsDayTree g t → In a (arcs 1 t) → IsShaped g a
+  tree_shaped done day h = absurd h
+  tree_shaped (letter c rest) day h = absurd h
+  tree_shaped (uses q n inner rest) day h =
+      let d = day.0 in
+      of_some q 0 1 d.0 d.0.right inner
+      (λ s tail e2 d2 p. parts_shaped inner q 0 1 d.0 s tail d.1 e2 d2 (omega arith) (omega (arith, day.1, d.5)) p) refl d.6 h
+
+  -- an arc of the instance has the shape of one
+  pub arc-shaped : IsArc g a → IsShaped g a
+  arc-shaped is = tree_shaped is.0 is.1 is.2
