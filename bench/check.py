@@ -2,11 +2,12 @@
 """Times `check`: reading a long proof text against `wc -w`, and judging many priced nodes.
 
 The program is crates/shift_tool/out/shift_tool, as `./roster` builds it. The long text is a certificate
-of a day of 96 periods that is cut before its end, so it is read whole and refused. The nodes are those
-of a chain of splits on arcs of examples/g3.rules, a day of 24 periods and two activities, each leaf with
-prices of its own. Judging them is timed against as many fills of the table by crates/table_bench, as
-`rt run` builds it there, both without the time of a run with one; at most 1.5 is asked. Twice as many
-nodes should take twice the time. Prints the least processor time of each, and ratios.
+of a day of 96 periods that is cut before its end, so it is read whole and refused; its first split is on
+no arc, so no value is computed. The nodes are those of a chain of splits on arcs of examples/g3.rules,
+a day of 24 periods and two activities, each leaf with prices of its own. Judging them is timed against as
+many fills of the table by crates/pricing_bench, as `rt run` builds it there, both without the time of a run
+with one; at most 1.5 is asked. Twice as many nodes should take twice the time. Prints the least processor
+time of each, and ratios.
 """
 import os
 import pathlib
@@ -16,7 +17,7 @@ import tempfile
 
 TOP = pathlib.Path(__file__).resolve().parent.parent
 PROGRAM = TOP / "crates" / "shift_tool" / "out" / "shift_tool"
-FILLS = TOP / "crates" / "table_bench" / "out" / "table_bench"
+FILLS = TOP / "crates" / "pricing_bench" / "out" / "pricing_bench"
 RULES, DEMAND = TOP / "examples" / "g3.rules", TOP / "examples" / "g3.demand"
 TURNS = 5
 NODES = 1000
@@ -31,8 +32,8 @@ def seconds(words, given=None):
     return used.ru_utime + used.ru_stime, answer.strip().splitlines()[0]
 
 
-def least(words, given=None):
-    times = [seconds(words, given) for _ in range(TURNS)]
+def least(words):
+    times = [seconds(words) for _ in range(TURNS)]
     return min(took for took, _ in times), times[0][1]
 
 
@@ -74,21 +75,24 @@ def chain(folder, arcs, leaves):
     if len(splits) != leaves - 1:
         sys.exit("too few arcs")
     nodes = [f"split {arc} {b}\n{leaf(number)}" for number, (arc, b) in enumerate(splits, 1)]
-    (folder / "nodes.proof").write_text("proof 1\ncost none\nbound 0\n" + "".join(nodes) + leaf(leaves) + "end\n")
-    return folder / "nodes.proof"
+    path = folder / f"nodes{leaves}.proof"
+    path.write_text("proof 1\ncost none\nbound 0\n" + "".join(nodes) + leaf(leaves) + "end\n")
+    return path
 
 
-def judged(folder, arcs, leaves):
-    took, said = least([PROGRAM, "check", RULES, DEMAND, chain(folder, arcs, leaves)])
-    if said != "yes":
-        sys.exit(f"the chain of {leaves} leaves is refused: {said}")
-    return took
+def least_in_turn(runs):
+    """The least time of each run, all taken in turn, so that other work on the machine slows all alike."""
+    turns = [[seconds(*run) for run in runs] for _ in range(TURNS)]
+    return [min(took for took, _ in times) for times in zip(*turns)], [said for _, said in turns[0]]
 
 
 def judging(folder):
     found = arcs(folder)
-    one, nodes, twice = (judged(folder, found, leaves) for leaves in (1, NODES, 2 * NODES))
-    start, fills = (least([FILLS, str(count)], RULES)[0] for count in (1, NODES))
+    runs = [([PROGRAM, "check", RULES, DEMAND, chain(folder, found, leaves)], None) for leaves in (1, NODES, 2 * NODES)]
+    runs += [([FILLS, "fill", str(count)], RULES) for count in (1, NODES)]
+    (one, nodes, twice, start, fills), said = least_in_turn(runs)
+    if said[:3] != ["yes"] * 3:
+        sys.exit(f"a chain is refused: {said}")
     print(f"judging {NODES} priced leaves: {nodes - one:.3f} s beyond one of {one:.3f} s")
     print(f"filling {NODES} times: {fills - start:.3f} s beyond one of {start:.3f} s")
     print(f"nodes against fills: {(nodes - one) / (fills - start):.2f}, at most 1.5 is asked")
@@ -99,7 +103,7 @@ def main():
     if not PROGRAM.exists():
         sys.exit("run ./roster once: it builds the program")
     if not FILLS.exists():
-        sys.exit("run `rt run` in crates/table_bench: it builds the program")
+        sys.exit("run `rt run` in crates/pricing_bench: it builds the program")
     with tempfile.TemporaryDirectory() as name:
         folder = pathlib.Path(name)
         long_day(folder)

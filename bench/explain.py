@@ -60,4 +60,5 @@ def main():
         print(f"96 periods against 24: {least['96', 'proved'] / least['24', 'proved']:.1f} times")
 
 
-main()
+if __name__ == "__main__":
+    main()

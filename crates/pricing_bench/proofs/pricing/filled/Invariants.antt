@@ -1,5 +1,5 @@
 use Rattle.span_table.specs.Tables.{IsMadeFor}
-use Rattle.table_bench.proofs.filled.Given as goal
+use Rattle.pricing_bench.proofs.pricing.filled.Given as goal
 
 abbrev pub invariant-loop-fill : goal.invariant-loop-fill
 invariant-loop-fill l = IsMadeFor l.grammar l.table

@@ -1,5 +1,5 @@
 ghost use Rattle.std.specs.Prelude.{◌≡◌};
-ghost use Rattle.table_bench.specs.Prices.{price_of};
+ghost use Rattle.pricing_bench.specs.Prices.{price_of};
 
 use roster_model::{ArcKey, LetterPrice};
 
@@ -21,8 +21,8 @@ impl FillPrices {
 }
 
 impl LetterPrice for FillPrices {
-    ghost use Rattle.table_bench.specs.Prices.{fill_view};
-    ghost use Rattle.table_bench.specs.Small.{view-small};
+    ghost use Rattle.pricing_bench.specs.Prices.{fill_view};
+    ghost use Rattle.pricing_bench.specs.Small.{view-small};
 
     ghost view = { λ s. fill_view s.fill };
 

@@ -2,7 +2,7 @@
 use Rattle.std.proofs.Common.{ℕ, ◌+◌, ◌*◌, ◌^◌, arith}
 use Rattle.std.proofs.lemmas.Int.{ints}
 use Rattle.roster_model.specs.Sums.{AllWithin, Within}
-use Rattle.table_bench.specs.Prices.{price_of, fill_view}
+use Rattle.pricing_bench.specs.Prices.{price_of, fill_view}
 
 price_small : (fill number : ℕ) → Within (2 ^ 96) (price_of fill number)
 price_small fill number = record { low = omega (arith, ints); high = omega (arith, ints) }

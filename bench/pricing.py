@@ -1,0 +1,68 @@
+#!/usr/bin/env python3
+"""Times the pricing of all trees of a day on the graph of all parses, as ratios of one run.
+
+On a call centre's day of 96 periods (examples/g3.rules with windows four times as wide) a pass over the
+graph against a fill of the table, at most a fifth of which is asked; and against the same pass in plain
+Rust (bench/pricing.rs by `rustc -O`), at most 1.3 times which is asked. On a day of 80 periods that is
+cut in every way (examples/g5.rules, 85,400 arcs) the building of the graph against one pass over it, at
+most 300 times which is asked. The program is crates/pricing_bench, as `rt run` builds it there; the time
+of a run that does the thing once is taken off. Sums that are printed for the same prices must agree.
+"""
+import os
+import pathlib
+import subprocess
+import sys
+import tempfile
+
+from explain import longer
+
+TOP = pathlib.Path(__file__).resolve().parent.parent
+PROGRAM = TOP / "crates" / "pricing_bench" / "out" / "pricing_bench"
+TURNS = 5
+
+
+def seconds(words, given):
+    with open(given) as text, subprocess.Popen(words, stdin=text, stdout=subprocess.PIPE) as run:
+        answer = run.stdout.read().decode()
+        _, status, used = os.wait4(run.pid, 0)
+        run.returncode = status
+    return used.ru_utime, answer
+
+
+def each(words, given, times):
+    """The least time of doing it once more, and what was printed."""
+    once = min(seconds([*words, "1"], given)[0] for _ in range(TURNS))
+    runs = [seconds([*words, str(times + 1)], given) for _ in range(TURNS)]
+    return (min(took for took, _ in runs) - once) / times, runs[0][1].strip()
+
+
+def main():
+    if not PROGRAM.exists():
+        sys.exit("run `rt run` in crates/pricing_bench: it builds the program")
+    with tempfile.TemporaryDirectory() as name:
+        folder = pathlib.Path(name)
+        long = folder / "long.rules"
+        long.write_text(longer((TOP / "examples" / "g3.rules").read_text()))
+        short = folder / "short.rules"
+        short.write_text((TOP / "examples" / "g5.rules").read_text().replace("periods 96", "periods 80"))
+        links = folder / "links"
+        links.write_text(seconds([PROGRAM, "links"], long)[1])
+        plain = folder / "pricing"
+        subprocess.run(["rustc", "--edition", "2024", "-O", "-o", plain, TOP / "bench" / "pricing.rs"], check=True)
+        fill, filled = each([PROGRAM, "fill"], long, 200)
+        passed, sum_passed = each([PROGRAM, "cheapest"], long, 2000)
+        rust, sum_rust = each([plain, links], long, 2000)
+        if sum_passed != sum_rust:
+            sys.exit(f"the sums differ: {sum_passed} and {sum_rust}")
+        again, filled_again = each([PROGRAM, "cheapest"], long, 200)
+        if filled != filled_again:
+            sys.exit(f"the sums differ: {filled} and {filled_again}")
+        print(f"96 periods, {len(links.read_text().splitlines())} arcs: fill {1e6 * fill:.0f} us, pass {1e6 * passed:.0f} us, ratio {passed / fill:.3f}")
+        print(f"pass in plain Rust {1e6 * rust:.0f} us, ratio {passed / rust:.2f}")
+        build, arcs = each([PROGRAM, "build"], short, 5)
+        once, _ = each([PROGRAM, "cheapest"], short, 200)
+        print(f"{arcs} arcs: build {1e3 * build:.1f} ms, pass {1e3 * once:.2f} ms, ratio {build / once:.0f}")
+
+
+if __name__ == "__main__":
+    main()

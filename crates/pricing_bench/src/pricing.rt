@@ -1,0 +1,80 @@
+ghost use Rattle.std.specs.Prelude.{IfOk};
+ghost use Rattle.roster_model.specs.Sound.{IsSound};
+ghost use Rattle.parse_graph.specs.Graphs.{IsGraph};
+ghost use Rattle.span_table.specs.Tables.{IsMadeFor};
+ghost use Rattle.cheapest_tree.specs.Pricers.{HasGrammar, IsMadeFor as IsPricerFor};
+
+use crate::fault::BenchFault;
+use crate::prices::FillPrices;
+use cheapest_tree::Pricer;
+use grammar_core::normalise;
+use parse_graph::Graph;
+use roster_model::Grammar;
+use span_table::Table;
+use std::alloc::Global;
+
+/// Fills the grammar's table so often, and returns the last least sum.
+fn filled(grammar: &Grammar, table: &mut Table, times: u32) -> Option<i128>
+    requires sound { IsSound grammar.now }
+    requires made { IsMadeFor grammar.now table.old }
+{
+    let mut least = None;
+    for fill in 1..=times {
+        least = table.least(grammar, &FillPrices { fill });
+    }
+    least
+}
+
+/// Returns the last least sum of so many fills of the table of a sound grammar.
+pub fn last_fill(alloc: Global, grammar: &Grammar, times: u32) -> Result<Option<i128>, BenchFault>
+    requires { IsSound grammar.now }
+{
+    let mut table = Table::for_instance(alloc, grammar)?;
+    Ok(filled(grammar, &mut table, times))
+}
+
+/// Returns the graph of a sound grammar.
+pub fn graph_of(alloc: Global, grammar: &Grammar) -> Result<Graph, BenchFault>
+    requires { IsSound grammar.now }
+    ensures { IfOk result (IsGraph grammar.now) }
+{
+    let normal = normalise(alloc, grammar)?;
+    let graph = Graph::build(alloc, grammar, &normal)?;
+    Ok(graph)
+}
+
+/// Makes so many passes over the graph, and returns the last least sum.
+fn passed(graph: &Graph, pricer: &mut Pricer, times: u32) -> Option<i128>
+    requires graph { HasGrammar graph.now }
+    requires made { IsPricerFor graph.now pricer.old }
+{
+    let mut least = None;
+    for fill in 1..=times {
+        least = pricer.cheapest(graph, &FillPrices { fill });
+    }
+    least
+}
+
+/// Returns the last least sum of so many passes over the graph of a sound grammar.
+pub fn last_cheapest(
+    alloc: Global,
+    grammar: &Grammar,
+    times: u32,
+) -> Result<Option<i128>, BenchFault>
+    requires { IsSound grammar.now }
+{
+    let graph = graph_of(alloc, grammar)?;
+    let mut pricer = Pricer::new(alloc, &graph)?;
+    Ok(passed(&graph, &mut pricer, times))
+}
+
+/// Builds the graph of a sound grammar so often, and returns how many arcs it has.
+pub fn built(alloc: Global, grammar: &Grammar, times: u32) -> Result<usize, BenchFault>
+    requires { IsSound grammar.now }
+{
+    let mut arcs = 0;
+    for _ in 0..times {
+        arcs = graph_of(alloc, grammar)?.arcs().len();
+    }
+    Ok(arcs)
+}
