@@ -17,22 +17,23 @@ use Rattle.roster_model.specs.Room.{RoomView}
 use Rattle.tree_laws.proofs.Rules.{rule_at-within, sound-rule, sound-symbol}
 use Rattle.tree_laws.proofs.Symbols.{here, here_last}
 use Rattle.span_table.specs.declared.slot.Layout.{Layout}
-use Rattle.span_table.specs.Cells.{IsLayoutOf, name_slot}
+use Rattle.span_table.specs.Cells.{Held, IsLayoutOf, name_slot}
 use Rattle.span_table.specs.Choices.{ChosenPart, ChosenRule}
 use Rattle.span_table.specs.Walks.{HasParts, HasRoom, AsksTree, AsksParts, WritesTree, WritesParts, tree_measure, parts_measure}
 use Rattle.tree_laws.proofs.Bounds.{few-steps}
 use Rattle.tree_laws.proofs.Size.{length-steps}
 use Rattle.span_table.specs.Tables.{TableView, IsMadeFor, IsFilled, HasDaySum, HoldsLeastTree}
-use Rattle.span_table.proofs.Filling.{day-least}
+use Rattle.span_table.proofs.Filling.{day-least, filled-right}
+use Rattle.span_table.proofs.Pointing.{symbol-value}
 use Rattle.span_table.proofs.Slots.{name_slot-within}
-use Rattle.span_table.proofs.Walking.{one_tree, one_parts, symbol-value, last-has, last-writes, first-has, others-has, first-room, rest-room, split-writes, rule-has, rule-room, rule-writes}
+use Rattle.span_table.proofs.Walking.{one_tree, one_parts, last-has, last-writes, first-has, others-has, first-room, rest-room, split-writes, rule-has, rule-room, rule-writes}
 
 -- where there is a sum, what holds at a sum holds
 at_sum : (v : Option ℤ) (z : ℤ) (P : Type 0) → v ≡ Some z → OnSome v P → P
 at_sum None z P e h = cc
 at_sum (Some y) z P e h = h
 
-module _ (g : Grammar) (p : PriceView) (lay : Layout) (xs : List (Option ℤ)) (rule : Rule) (r k i l : ℕ) (room : RoomView) (asks : AsksParts g p lay xs rule r k i l room) (d s : Sym) (is : get_or rule.right k d ≡ s) where
+module _ (g : Grammar) (p : PriceView) (lay : Layout) (h : Held) (rule : Rule) (r k i l : ℕ) (room : RoomView) (asks : AsksParts g p lay h rule r k i l room) (d s : Sym) (is : get_or rule.right k d ≡ s) where
   -- the symbol exists
   pub symbol-exists : Exists (length g.codes) (length g.names) s
   symbol-exists = sound-symbol g asks.sound r k rule s (drop (suc k) rule.right) asks.at (here rule.right k d s asks.within is)
@@ -48,9 +49,9 @@ module _ (g : Grammar) (p : PriceView) (lay : Layout) (xs : List (Option ℤ)) (
         asks.ready.layout.order r y rule asks.at right
 
     -- the last symbol's tree
-    pub asks-last : AsksTree g p lay xs s i l room
+    pub asks-last : AsksTree g p lay h s i l room
     asks-last =
-        let v = symbol-value g p lay xs asks.ready.layout asks.filled s i l asks.day symbol-exists in
+        let v = symbol-value g p i l lay asks.ready.layout h (filled-right g p lay asks.ready.layout h asks.filled i l asks.day) s symbol-exists in
         record {
           sound = asks.sound;
           ready = asks.ready;
@@ -102,7 +103,7 @@ module _ (g : Grammar) (p : PriceView) (lay : Layout) (xs : List (Option ℤ)) (
     part-high = chosen.high
 
     -- the first symbol's tree
-    pub asks-first : AsksTree g p lay xs s i part room
+    pub asks-first : AsksTree g p lay h s i part room
     asks-first = record {
       sound = asks.sound;
       ready = asks.ready;
@@ -115,7 +116,7 @@ module _ (g : Grammar) (p : PriceView) (lay : Layout) (xs : List (Option ℤ)) (
     }
 
     -- the others, once it is written
-    pub asks-rest : (mid : RoomView) → WritesTree g p s i part room mid → AsksParts g p lay xs rule r (k + 1) (i + part) (l - part) mid
+    pub asks-rest : (mid : RoomView) → WritesTree g p s i part room mid → AsksParts g p lay h rule r (k + 1) (i + part) (l - part) mid
     asks-rest mid w = record {
       sound = asks.sound;
       ready = asks.ready;
@@ -140,7 +141,7 @@ module _ (g : Grammar) (p : PriceView) (lay : Layout) (xs : List (Option ℤ)) (
         (split-writes g p r k s (get_or rule.right (suc k) d) (drop (suc (suc k)) rule.right) i l part (l - part) room mid new chosen.head chosen.tail v fits
         chosen.first tail chosen.sum (subst (λ (q : List Sym). PartsLeast g p r k q i l v) both least) w rest)
 
-module _ (g : Grammar) (p : PriceView) (lay : Layout) (xs : List (Option ℤ)) (y i l : ℕ) (room : RoomView) (asks : AsksTree g p lay xs (Name y) i l room)
+module _ (g : Grammar) (p : PriceView) (lay : Layout) (h : Held) (y i l : ℕ) (room : RoomView) (asks : AsksTree g p lay h (Name y) i l room)
     (number : ℕ) (v : Option ℤ) (least : SymbolLeast g p (Name y) i l v) (choice : OnSome v (ChosenRule g p y i l number v)) where
   value : v ≡ Some asks.sum.0
   value = one_tree g p (Name y) i l v (Some asks.sum.0) least asks.sum.1
@@ -161,7 +162,7 @@ module _ (g : Grammar) (p : PriceView) (lay : Layout) (xs : List (Option ℤ)) (
     rule-left = ap (λ (q : Rule). q.left) (sym same) ∙ by_rule.left
 
     -- the parts of the chosen rule
-    pub asks-rule : (mid : RoomView) → mid ≡ record room { steps = room.steps ++ record { rule = number; start = i; len = l } ∷ [] } → AsksParts g p lay xs rule number 0 i l mid
+    pub asks-rule : (mid : RoomView) → mid ≡ record room { steps = room.steps ++ record { rule = number; start = i; len = l } ∷ [] } → AsksParts g p lay h rule number 0 i l mid
     asks-rule mid now = record {
       sound = asks.sound;
       ready = asks.ready;

@@ -1,5 +1,5 @@
 -- What a first part and the others must mark, by the symbols of a right side.
-use Rattle.std.proofs.Common.{◌≡◌, ℕ, zero, suc, ◌<◌, ◌≤◌, ◌+◌, ◌-◌, Bool, true, List, [], ◌∷◌, Some, arith, subst, sym, ap, ◌∙◌, length, drop, get_or, add-one}
+use Rattle.std.proofs.Common.{◌≡◌, ℕ, zero, suc, ◌<◌, ◌≤◌, ◌+◌, ◌-◌, Bool, true, List, [], ◌∷◌, Some, arith, subst, sym, ap, ◌∙◌, ◌⊎◌, inl, inr, length, drop, get_or, add-one}
 use Rattle.std.proofs.Math.Seq.{drop-cons}
 use Rattle.roster_model.specs.declared.grammar.Grammar.{Grammar}
 use Rattle.roster_model.specs.declared.grammar.Rule.{Rule}
@@ -8,9 +8,11 @@ use Rattle.roster_model.specs.declared.grammar.Sym.TheVariants.{Code, Name}
 use Rattle.roster_model.specs.Grammar.{rule_at}
 use Rattle.roster_model.specs.Sound.{Exists}
 use Rattle.tree_laws.proofs.Symbols.{here, here_last}
+use Rattle.span_table.specs.declared.periods.Periods.{Periods}
 use Rattle.span_table.specs.declared.slot.Layout.{Layout}
 use Rattle.span_table.specs.Cells.{place, name_slot, suffix_slot, IsLayoutOf}
-use Rattle.span_table.specs.Marks.{HasSome, TreesStand, PartsStand, IsBefore, mark, SymbolMarked, RestMarked, SplitsMarked, PartsClosed, HasSplit}
+use Rattle.span_table.specs.Marks.{HasSome, TreesStand, PartsStand, IsBefore, mark, SymbolMarked, RestMarked, SplitMarked, SplitsMarked, PartsClosed, HasSplit}
+use Rattle.span_table.specs.Periods.{Has}
 use Rattle.span_table.proofs.Plugging.{first-stands, rest-stands, last-stands, only-stands}
 use Rattle.span_table.proofs.Slots.{name_slot-within}
 
@@ -60,13 +62,30 @@ module _ (xs : List Sym) (k : ℕ) (d s : Sym) (two : k + 2 ≤ length xs) (at :
     split_here m one less a b =
         subst (λ (q : List Sym). HasSplit g q i l m) (sym two-here) (one, less, a, subst (λ (q : List Sym). HasSome g q (i + m) (l - m)) next b)
 
-    -- before the first length nothing is to be marked
-    pub splits-begin : (begin : ℕ) → begin ≤ l → ((m : ℕ) → HasSplit g (drop k xs) i l m → begin ≤ m) → SplitsMarked g lay ms r k s (drop (k + 1) xs) i l begin
-    splits-begin begin inner all m one less a b = let n = all m (split_here m one (omega (arith, less, inner)) a b) in absurd (omega (arith, n, less))
+    -- no first part is shorter than one period
+    pub splits-begin : SplitsMarked g lay ms r k s (drop (k + 1) xs) i l 1
+    splits-begin m one less a b = absurd (omega (arith, one, less))
+
+    -- from a split point to the next one nothing is to be marked
+    pub splits-skip : (points : Periods) (a b : ℕ) → ((m : ℕ) → HasSplit g (drop k xs) i l m → Has points (i + m) × (1 ≤ m) × (m < l))
+        → i + 1 ≤ a → a ≤ b → b ≤ i + l → ((n : ℕ) → a ≤ n → n < i + l → Has points n → b ≤ n)
+        → SplitsMarked g lay ms r k s (drop (k + 1) xs) i l (a - i) → SplitsMarked g lay ms r k s (drop (k + 1) xs) i l (b - i)
+    splits-skip points a b told low order high first h m one less = by (before m (a - i))
+      where
+        before : (x y : ℕ) → (x < y) ⊎ (y ≤ x)
+        before x y = grind arith
+
+        by : (m < a - i) ⊎ (a - i ≤ m) → SplitMarked g lay ms r k s (drop (k + 1) xs) i m (l - m)
+        by (inl lt) = h m one lt
+        by (inr le) = λ x y.
+            let inside : m < l = omega (arith, less, high, low, order) in
+            let has = told m (split_here m one inside x y) in
+            let n = first (i + m) (omega (arith, le, low)) (omega (arith, inside)) has.0 in
+            absurd (omega (arith, n, less, low, order))
 
     -- after the last length the parts are closed
-    pub splits-end : (end : ℕ) → ((m : ℕ) → HasSplit g (drop k xs) i l m → m < end) → SplitsMarked g lay ms r k s (drop (k + 1) xs) i l end → PartsClosed g lay ms r k (drop k xs) i l
-    splits-end end all h = all-splits (λ m one less a b. h m one (all m (split_here m one less a b)) a b)
+    pub splits-end : SplitsMarked g lay ms r k s (drop (k + 1) xs) i l l → PartsClosed g lay ms r k (drop k xs) i l
+    splits-end h = all-splits h
 
 -- an only symbol's place is before that of the rule's name
 pub only-before : (g : Grammar) (lay : Layout) → IsLayoutOf g lay → (r i l : ℕ) (rule : Rule) (s : Sym) → rule_at g r ≡ Some rule → rule.right ≡ s ∷ []

@@ -1,6 +1,6 @@
 -- A layout with slots for all suffixes and then for all names is one of the grammar.
 use Rattle.std.proofs.Common.{◌≡◌, ℕ, ◌<◌, ◌≤◌, List, [], ◌∷◌, Some, arith, length}
-use Rattle.std.specs.Prelude.{slice_get, slice_index}
+use Rattle.std.specs.Prelude.{slice_index}
 use Rattle.std.proofs.Math.Nat.{mul-le-mul_right}
 use Rattle.roster_model.specs.declared.grammar.Grammar.{Grammar}
 use Rattle.roster_model.specs.declared.grammar.Rule.{Rule}
@@ -10,15 +10,15 @@ use Rattle.roster_model.specs.Sound.{IsSound}
 use Rattle.tree_laws.proofs.Rules.{rule_at-within, sound-rule, sound-symbol}
 use Rattle.span_table.specs.declared.slot.Layout.{Layout}
 use Rattle.span_table.specs.declared.slot.Slot.{Slot}
-use Rattle.span_table.specs.declared.slot.Slot.TheVariants.{OfName, OfSuffix}
-use Rattle.span_table.specs.Cells.{IsSlotOf, IsLayoutOf}
-use Rattle.span_table.specs.Lengths.{SlotsLengths}
+use Rattle.span_table.specs.declared.slot.Slot.TheVariants.{OfSuffix}
+use Rattle.span_table.specs.Cells.{IsLayoutOf}
+use Rattle.span_table.specs.Chains.{AreChained}
 use Rattle.span_table.specs.Building.{SuffixSlots, AreNamed}
 
 -- the parts of a layout make one of the grammar
 pub layout-made : (g : Grammar) (sound : IsSound g) (lay : Layout) (base : List Slot) → lay.spans ≡ g.periods
-    → SuffixSlots g base lay.suffixes.items (length g.rules) → AreNamed g base lay.slots.items lay.names.items → SlotsLengths g lay.slots.items lay.lengths.items → IsLayoutOf g lay
-layout-made g sound lay base periods a b lengths = record {
+    → SuffixSlots g base lay.suffixes.items (length g.rules) → AreNamed g base lay.slots.items lay.names.items → AreChained g lay.chains → IsLayoutOf g lay
+layout-made g sound lay base periods a b chains = record {
   periods = periods;
   few = few;
   all_names = b.count;
@@ -29,7 +29,7 @@ layout-made g sound lay base periods a b lengths = record {
       b.placed.kept _ _ (a.there r k rule at (rule_at-within g r rule at).1 one two);
   parted = λ s x e. a.only s (OfSuffix x) (b.placed.suffixes s x e);
   order = λ r y rule at right. order r y rule at right;
-  lengths = lengths;
+  chains = chains;
 }
   where
     few : length lay.slots.items < 65536
@@ -43,9 +43,3 @@ layout-made g sound lay base periods a b lengths = record {
         let left = (sound-rule g sound r rule at).left in
         let to : y < length g.names = sound-symbol g sound r 0 rule (Name y) [] at right in
         b.placed.order rule.left y (omega (arith, left, b.count)) (omega (arith, to, b.count)) tt tt (b.ranked.rises r rule y at right)
-
--- the slots are those of the grammar
-pub slots-there : (g : Grammar) (base slots : List Slot) (starts names : List ℕ) → SuffixSlots g base starts (length g.rules) → AreNamed g base slots names
-    → (s : ℕ) (what : Slot) → slice_get slots s ≡ Some what → IsSlotOf g what
-slots-there g base slots starts names a b s (OfName x) e = let k = b.placed.only s x e in omega (arith, k.0, b.count)
-slots-there g base slots starts names a b s (OfSuffix x) e = a.only s (OfSuffix x) (b.placed.suffixes s x e)

@@ -14,4 +14,6 @@ pub mod Closing
 pub mod Telling
 pub mod Stepping
 pub mod Flags
-pub mod Ranges
+pub mod Bits
+pub mod Chaining
+pub mod Pointing

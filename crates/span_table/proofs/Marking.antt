@@ -21,6 +21,7 @@ use Rattle.span_table.specs.declared.slot.Slot.TheVariants.{OfName, OfSuffix}
 use Rattle.span_table.specs.Cells.{place, cell_count, name_slot, suffix_slot, IsLayoutOf, FitsCells}
 use Rattle.span_table.specs.Marks.{free_view, TreesStand, mark, SymbolMarked, RestMarked, SplitMarked, SplitsMarked, PartsClosed, RuleClosed, SlotClosed, SlotStands, AreTrue, ClosedFrom, Adds}
 use Rattle.roster_model.specs.Sound.{IsSound}
+use Rattle.span_table.specs.Chains.{IsFirstRule}
 use Rattle.span_table.specs.Numbers.{IsFree}
 use Rattle.span_table.proofs.Filling.{same-row, day_of}
 use Rattle.span_table.proofs.Slots.{name_slot-within}
@@ -127,12 +128,16 @@ module _ (g : Grammar) (lay : Layout) where
     rule-kept x i l r h rule at left stands = parts-kept r 0 rule.right i l (h rule at left stands)
 
     -- one rule more
-    pub rules-next : (x i l m : ℕ) → ((r : ℕ) → r ≤ m → RuleClosed g lay a x i l r) → RuleClosed g lay b x i l (m + 1) → (r : ℕ) → r ≤ m + 1 → RuleClosed g lay b x i l r
-    rules-next x i l m h new r le = go (less_or_same r (m + 1) (omega (arith, le)))
+    pub rules-next : (x i l m n : ℕ) → IsFirstRule g x (m + 1) n → ((r : ℕ) → r < m → RuleClosed g lay a x i l r) → RuleClosed g lay b x i l m → (r : ℕ) → r < n → RuleClosed g lay b x i l r
+    rules-next x i l m n first h new r less = go (below r m)
       where
-        go : (r < m + 1) ⊎ (r ≡ m + 1) → RuleClosed g lay b x i l r
-        go (inl lt) = rule-kept x i l r (h r (omega (arith, lt)))
-        go (inr e) = subst (λ (q : ℕ). RuleClosed g lay b x i l q) (sym e) new
+        below : (r m : ℕ) → (r < m) ⊎ ((r ≡ m) ⊎ (m + 1 ≤ r))
+        below r m = grind arith
+
+        go : (r < m) ⊎ ((r ≡ m) ⊎ (m + 1 ≤ r)) → RuleClosed g lay b x i l r
+        go (inl lt) = rule-kept x i l r (h r lt)
+        go (inr (inl e)) = subst (λ (q : ℕ). RuleClosed g lay b x i l q) (sym e) new
+        go (inr (inr le)) = λ rule at left stands. absurd (first.others r rule le less at left)
 
     pub slot-kept : (what : Slot) (i l : ℕ) → SlotClosed g lay a what i l → SlotClosed g lay b what i l
     slot-kept (OfName x) i l h = λ r. rule-kept x i l r (h r)

@@ -1,5 +1,5 @@
 -- Items by their place in a list that has got one more, or another in one place.
-use Rattle.std.proofs.Common.{◌≡◌, ℕ, zero, suc, List, [], ◌∷◌, ◌++◌, Some, arith, refl, sym, ◌⊎◌, inl, inr, length, set}
+use Rattle.std.proofs.Common.{◌≡◌, ℕ, zero, suc, List, [], ◌∷◌, ◌++◌, Some, arith, refl, sym, ◌⊎◌, inl, inr, length}
 use Rattle.std.specs.Prelude.{slice_get}
 use Rattle.std.proofs.lemmas.Option.{same_Some}
 
@@ -25,15 +25,3 @@ module _ {X : Type 0} where
       one : (slice_get xs s ≡ Some w) ⊎ ((s ≡ length xs) × (w ≡ y)) → (slice_get xs s ≡ Some w) ⊎ ((suc s ≡ length (x ∷ xs)) × (w ≡ y))
       one (inl h) = inl h
       one (inr h) = inr (omega arith, h.1)
-
-  -- an item of a list with another in one place was there or is the new one
-  pub set-cases : (xs : List X) (k j : ℕ) (y w : X) → slice_get (set xs k y) j ≡ Some w → (slice_get xs j ≡ Some w) ⊎ ((j ≡ k) × (w ≡ y))
-  set-cases [] k j y w e = cc
-  set-cases (x ∷ xs) zero zero y w e = inr (refl, same_Some w y (sym e))
-  set-cases (x ∷ xs) zero (suc j) y w e = inl e
-  set-cases (x ∷ xs) (suc k) zero y w e = inl e
-  set-cases (x ∷ xs) (suc k) (suc j) y w e = one (set-cases xs k j y w e)
-    where
-      one : (slice_get xs j ≡ Some w) ⊎ ((j ≡ k) × (w ≡ y)) → (slice_get (x ∷ xs) (suc j) ≡ Some w) ⊎ ((suc j ≡ suc k) × (w ≡ y))
-      one (inl h) = inl h
-      one (inr h) = inr (omega (arith, h.0), h.1)

@@ -6,11 +6,9 @@ use Rattle.roster_model.specs.declared.grammar.Grammar.{Grammar}
 use Rattle.roster_model.specs.declared.grammar.Rule.{Rule}
 use Rattle.roster_model.specs.Grammar.{rule_at}
 use Rattle.span_table.specs.declared.slot.Layout.{Layout}
-use Rattle.span_table.specs.declared.slot.Lengths.{Lengths}
 use Rattle.span_table.specs.declared.slot.Slot.{Slot}
 use Rattle.span_table.specs.declared.slot.Slot.TheVariants.{OfName}
 use Rattle.span_table.specs.Cells.{IsLayoutOf, name_slot, suffix_slot}
-use Rattle.span_table.specs.Lengths.{SlotLengths}
 
 module _ (g : Grammar) (lay : Layout) (fits : IsLayoutOf g lay) where
   -- the slot of a name is there
@@ -20,12 +18,6 @@ module _ (g : Grammar) (lay : Layout) (fits : IsLayoutOf g lay) where
   -- so is that of a suffix
   pub suffix_slot-within : (r k : ℕ) (rule : Rule) → rule_at g r ≡ Some rule → 1 ≤ k → k + 2 ≤ length rule.right → suffix_slot lay r k < length lay.slots.items
   suffix_slot-within r k rule at one two = slice_get_within lay.slots.items (suffix_slot lay r k) _ (fits.suffixes r k rule at one two)
-
-  -- the lengths that were read are those of what the slot stands for
-  pub lengths-here : (s : ℕ) (what : Slot) (w : Lengths) → slice_get lay.slots.items s ≡ Some what → w ≡ get_or lay.lengths.items s w → SlotLengths g what w
-  lengths-here s what w here e =
-      let lt = slice_get_within lay.slots.items s what here in
-      fits.lengths.each s what w here (slice_get_read lay.lengths.items (length lay.slots.items) s w (sym fits.lengths.count) lt e)
 
 -- what a slot that was read stands for
 pub slot_here : (slots : List Slot) (s : ℕ) (read what : Slot) → s < length slots → read ≡ get_or slots s read → read ≡ what → slice_get slots s ≡ Some what

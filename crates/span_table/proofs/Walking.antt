@@ -1,29 +1,21 @@
 -- The walk down a tree of least sum: what it may ask at each step, and what it has written after it.
-use Rattle.std.proofs.Common.{◌≡◌, ◌≢◌, ℕ, zero, suc, ℤ, ◌<◌, ◌+◌, ◌-◌, List, [], ◌∷◌, ◌++◌, Option, None, Some, arith, refl, subst, sym, ap, ◌∙◌, ◌⊎◌, inl, inr, length, length-append, append_assoc, drop}
+use Rattle.std.proofs.Common.{◌≡◌, ℕ, zero, suc, ℤ, ◌<◌, ◌+◌, ◌-◌, List, [], ◌∷◌, ◌++◌, Option, None, Some, arith, refl, subst, sym, ap, ◌∙◌, length, length-append, append_assoc, drop}
 use Rattle.std.proofs.lemmas.List.{append-nil}
 use Rattle.roster_model.specs.declared.grammar.Grammar.{Grammar}
 use Rattle.roster_model.specs.declared.grammar.Step.{Step}
 use Rattle.roster_model.specs.declared.grammar.Sym.{Sym}
 use Rattle.roster_model.specs.declared.grammar.Sym.TheVariants.{Code, Name}
-use Rattle.roster_model.specs.Grammar.{InDay}
 use Rattle.roster_model.specs.Trees.{Parts, done, letter, uses, covers, On, steps}
 use Rattle.roster_model.specs.Sums.{PriceView, plus, tree_sum, parts_sum, SymbolLeast, PartsLeast}
-use Rattle.roster_model.specs.Sound.{Exists}
 use Rattle.roster_model.specs.Room.{RoomView}
 use Rattle.tree_laws.specs.Parts.{beside}
 use Rattle.tree_laws.specs.Laws.{arc_at}
 use Rattle.tree_laws.proofs.Least.{IsLeast-one}
 use Rattle.tree_laws.proofs.Splits.{joined}
-use Rattle.tree_laws.proofs.Ends.{last-least, last_sum, only-least, only_sum, rooted, code-least, code-none}
+use Rattle.tree_laws.proofs.Ends.{last-least, last_sum, only-least, only_sum, rooted}
 use Rattle.tree_laws.proofs.Size.{steps-beside, use_count-beside, length-steps}
-use Rattle.span_table.specs.declared.slot.Layout.{Layout}
-use Rattle.span_table.specs.Cells.{IsLayoutOf, AreFilled}
 use Rattle.span_table.specs.Choices.{ChosenPart, ChosenRule}
 use Rattle.span_table.specs.Walks.{HasTree, HasParts, HasRoom, WritesTree, WritesParts}
-use Rattle.span_table.proofs.Filling.{filled-right}
-
-one_or_not : (l : ℕ) → (l ≡ 1) ⊎ (l ≢ 1)
-one_or_not l = grind arith
 
 -- a sum that is there has both its parts
 left_there : (a b : Option ℤ) (z : ℤ) → plus a b ≡ Some z → (y : ℤ) × (a ≡ Some y)
@@ -36,16 +28,6 @@ right_there (Some y) None z e = cc
 right_there (Some y) (Some x) z e = (x, refl)
 
 module _ (g : Grammar) (p : PriceView) where
-  -- in a filled table each symbol has a least sum, or none
-  pub symbol-value : (lay : Layout) (xs : List (Option ℤ)) → IsLayoutOf g lay → AreFilled g p lay xs → (s : Sym) (i l : ℕ) → InDay g.periods i l
-      → Exists (length g.codes) (length g.names) s → (v : Option ℤ) × SymbolLeast g p s i l v
-  symbol-value lay xs fits filled (Name x) i l day lt = (_, (filled-right g p lay fits xs filled i l day).names x lt)
-  symbol-value lay xs fits filled (Code c) i l day lt = by (one_or_not l)
-    where
-      by : (l ≡ 1) ⊎ (l ≢ 1) → (v : Option ℤ) × SymbolLeast g p (Code c) i l v
-      by (inl e) = (p.letter_at c i, code-least g p i l c e)
-      by (inr e) = (None, code-none g p i l c e)
-
   -- a symbol has one least sum
   pub one_tree : (s : Sym) (i l : ℕ) (v w : Option ℤ) → SymbolLeast g p s i l v → SymbolLeast g p s i l w → v ≡ w
   one_tree s i l v w h k = IsLeast-one (On g (s ∷ []) i l) (tree_sum p i) v w h k

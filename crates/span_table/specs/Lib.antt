@@ -1,5 +1,6 @@
 pub mod Numbers
-pub mod Lengths
+pub mod Periods
+pub mod Chains
 pub mod Cells
 pub mod Choices
 pub mod Building

@@ -1,18 +1,18 @@
 -- What a contract sees of a table.
-use Rattle.std.specs.Prelude.{ℤ, ◌≡◌, Bool, List, Option, IsSome, length}
+use Rattle.std.specs.Prelude.{◌≡◌, Bool, List, IsSome, length}
 use Rattle.roster_model.specs.declared.grammar.Grammar.{Grammar}
 use Rattle.roster_model.specs.Trees.{Parts, IsDayTree, steps}
 use Rattle.roster_model.specs.Sums.{PriceView, tree_sum, IsLeast}
 use Rattle.roster_model.specs.Room.{RoomView}
 use Rattle.span_table.specs.declared.slot.Layout.{Layout}
-use Rattle.span_table.specs.Cells.{IsReady, AreFilled, cell_count}
+use Rattle.span_table.specs.Cells.{Held, IsReady, AreFilled, cell_count}
 use Rattle.span_table.specs.Marks.{free_view, AreMarked}
 
 -- the slots of a table, and by their places its cells, its cells for free prices, and its marks
 pub record TableView : Type 0 where
   pub layout : Layout
-  pub cells : List (Option ℤ)
-  pub free : List (Option ℤ)
+  pub cells : Held
+  pub free : Held
   pub marks : List Bool
 
 -- the table was made for the grammar

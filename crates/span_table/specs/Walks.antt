@@ -1,5 +1,5 @@
 -- What the walk down a tree of least sum asks, and what it writes.
-use Rattle.std.specs.Prelude.{ℕ, ℤ, ◌≡◌, ◌+◌, ◌*◌, ◌<◌, ◌≤◌, List, [], ◌∷◌, ◌++◌, Option, Some, length, drop, zero, suc}
+use Rattle.std.specs.Prelude.{ℕ, ℤ, ◌≡◌, ◌+◌, ◌*◌, ◌<◌, ◌≤◌, List, [], ◌∷◌, ◌++◌, Some, length, drop, zero, suc}
 use Rattle.roster_model.specs.declared.grammar.Grammar.{Grammar}
 use Rattle.roster_model.specs.declared.grammar.Rule.{Rule}
 use Rattle.roster_model.specs.declared.grammar.Sym.{Sym}
@@ -11,7 +11,7 @@ use Rattle.roster_model.specs.Sound.{IsSound, Exists}
 use Rattle.roster_model.specs.Room.{RoomView}
 use Rattle.tree_laws.specs.Parts.{use_count}
 use Rattle.span_table.specs.declared.slot.Layout.{Layout}
-use Rattle.span_table.specs.Cells.{IsReady, AreFilled, name_slot}
+use Rattle.span_table.specs.Cells.{Held, IsReady, AreFilled, name_slot}
 
 -- some tree of the symbol on the span has a sum
 abbrev pub HasTree : Grammar → PriceView → Sym → ℕ → ℕ → Type 0
@@ -26,20 +26,20 @@ abbrev pub HasRoom : (Parts → Type 0) → RoomView → Type 0
 HasRoom P room = (t : Parts) → P t → length room.steps + use_count t ≤ room.most
 
 -- what is asked to write a tree of a symbol on a span
-pub record AsksTree (g : Grammar) (p : PriceView) (lay : Layout) (xs : List (Option ℤ)) (s : Sym) (i l : ℕ) (room : RoomView) : Type 0 where
+pub record AsksTree (g : Grammar) (p : PriceView) (lay : Layout) (h : Held) (s : Sym) (i l : ℕ) (room : RoomView) : Type 0 where
   pub sound : IsSound g
-  pub ready : IsReady g lay xs
-  pub filled : AreFilled g p lay xs
+  pub ready : IsReady g lay h
+  pub filled : AreFilled g p lay h
   pub day : InDay g.periods i l
   pub exists : Exists (length g.codes) (length g.names) s
   pub sum : HasTree g p s i l
   pub space : HasRoom (On g (s ∷ []) i l) room
 
 -- what is asked to write parts of a rule's right side from suffix k on, on a span
-pub record AsksParts (g : Grammar) (p : PriceView) (lay : Layout) (xs : List (Option ℤ)) (rule : Rule) (r k i l : ℕ) (room : RoomView) : Type 0 where
+pub record AsksParts (g : Grammar) (p : PriceView) (lay : Layout) (h : Held) (rule : Rule) (r k i l : ℕ) (room : RoomView) : Type 0 where
   pub sound : IsSound g
-  pub ready : IsReady g lay xs
-  pub filled : AreFilled g p lay xs
+  pub ready : IsReady g lay h
+  pub filled : AreFilled g p lay h
   pub day : InDay g.periods i l
   pub at : rule_at g r ≡ Some rule
   pub within : k < length rule.right

@@ -10,8 +10,8 @@ use crate::derive::{rest_derives, symbol_derives};
 use crate::free_cells::FreeCells;
 use crate::layout::{place_of, slot_of};
 use crate::names::rule_of;
+use crate::points::split_points;
 use crate::slot::{Layout, Span, Suffix};
-use crate::splits::splits;
 use roster_model::{ArcKey, Grammar, Rule};
 use span_forms::may_stand;
 
@@ -159,13 +159,15 @@ pub fn is_arc(
 fn longer_part(
     grammar: &Grammar,
     layout: &Layout,
+    cells: &FreeCells,
     rule: &Rule,
     suffix: Suffix,
     span: Span,
     part: u8,
 ) -> Option<u8>
     requires sound { IsSound grammar.now }
-    requires layout { IsLayoutOf grammar.now layout.now }
+    requires ready { IsReady grammar.now layout.now cells.now }
+    requires filled { AreFilled grammar.now free_view layout.now cells.now }
     requires rule { rule_at grammar.now suffix.rule ≡ Some rule.now }
     requires within { suffix.from < length rule.now.right }
     requires day { InDay grammar.now.periods span.start span.len }
@@ -175,10 +177,11 @@ fn longer_part(
     if suffix.from as usize + 1 == rule.right.len() {
         return Some(span.len);
     }
-    let splits = splits(grammar, layout, rule, suffix, span.len);
-    let longer = splits.begin.max(part + 1);
-    if longer < splits.end {
-        Some(longer)
+    let points = split_points(grammar, layout, cells, rule, suffix, span);
+    let end = span.end();
+    let point = points.first_in(span.start + part + 1, end);
+    if point < end {
+        Some(point - span.start)
     } else {
         None
     }
@@ -186,9 +189,16 @@ fn longer_part(
 
 // The length of the next longer first part that may make an arc: the suffix is marked on the span, and
 // may have such parts.
-fn next_part(grammar: &Grammar, layout: &Layout, marks: &[bool], arc: ArcKey) -> Option<u8>
+fn next_part(
+    grammar: &Grammar,
+    layout: &Layout,
+    cells: &FreeCells,
+    marks: &[bool],
+    arc: ArcKey,
+) -> Option<u8>
     requires sound { IsSound grammar.now }
-    requires layout { IsLayoutOf grammar.now layout.now }
+    requires ready { IsReady grammar.now layout.now cells.now }
+    requires filled { AreFilled grammar.now free_view layout.now cells.now }
     requires count { length marks.now ≡ cell_count layout.now }
     requires marked { AreMarked grammar.now layout.now marks.now }
     ensures { IsPartStep grammar.now arc result }
@@ -209,7 +219,7 @@ fn next_part(grammar: &Grammar, layout: &Layout, marks: &[bool], arc: ArcKey) ->
         len: arc.len,
     };
     if is_marked(grammar, layout, marks, rule, suffix, span) {
-        longer_part(grammar, layout, rule, suffix, span, arc.part)
+        longer_part(grammar, layout, cells, rule, suffix, span, arc.part)
     } else {
         None
     }
@@ -247,15 +257,22 @@ fn next_suffix(grammar: &Grammar, arc: ArcKey) -> Option<ArcKey>
 }
 
 // The first key after this one that may be an arc.
-fn step(grammar: &Grammar, layout: &Layout, marks: &[bool], arc: ArcKey) -> Option<ArcKey>
+fn step(
+    grammar: &Grammar,
+    layout: &Layout,
+    cells: &FreeCells,
+    marks: &[bool],
+    arc: ArcKey,
+) -> Option<ArcKey>
     requires sound { IsSound grammar.now }
-    requires layout { IsLayoutOf grammar.now layout.now }
+    requires ready { IsReady grammar.now layout.now cells.now }
+    requires filled { AreFilled grammar.now free_view layout.now cells.now }
     requires count { length marks.now ≡ cell_count layout.now }
     requires marked { AreMarked grammar.now layout.now marks.now }
     ensures { IsStep grammar.now arc result }
 {
     let periods = grammar.periods;
-    if let Some(part) = next_part(grammar, layout, marks, arc) {
+    if let Some(part) = next_part(grammar, layout, cells, marks, arc) {
         return Some(ArcKey { part, ..arc });
     }
     if arc.start as usize + arc.len as usize <= periods as usize {
@@ -280,17 +297,19 @@ fn step(grammar: &Grammar, layout: &Layout, marks: &[bool], arc: ArcKey) -> Opti
 fn first_key(
     grammar: &Grammar,
     layout: &Layout,
+    cells: &FreeCells,
     marks: &[bool],
     after: Option<ArcKey>,
 ) -> Option<ArcKey>
     requires sound { IsSound grammar.now }
-    requires layout { IsLayoutOf grammar.now layout.now }
+    requires ready { IsReady grammar.now layout.now cells.now }
+    requires filled { AreFilled grammar.now free_view layout.now cells.now }
     requires count { length marks.now ≡ cell_count layout.now }
     requires marked { AreMarked grammar.now layout.now marks.now }
     ensures { IsSought grammar.now after result }
 {
     match after {
-        Some(arc) => step(grammar, layout, marks, arc),
+        Some(arc) => step(grammar, layout, cells, marks, arc),
         None => Some(ArcKey {
             rule: 1,
             suffix: 0,
@@ -316,12 +335,12 @@ pub fn next_arc(
     requires marked { AreMarked grammar.now layout.now marks.now }
     ensures { IsNextArc grammar.now after result }
 {
-    let mut next = first_key(grammar, layout, marks, after);
+    let mut next = first_key(grammar, layout, cells, marks, after);
     while let Some(arc) = next {
         if is_arc(grammar, layout, cells, marks, &arc) {
             return Some(arc);
         }
-        next = step(grammar, layout, marks, arc);
+        next = step(grammar, layout, cells, marks, arc);
     }
     None
 }

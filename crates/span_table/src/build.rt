@@ -4,7 +4,7 @@ ghost use Rattle.span_table.specs.declared.slot.Slot.{Slot as Use};
 ghost use Rattle.span_table.specs.Cells.{IsLayoutOf};
 ghost use Rattle.span_table.specs.Building.{AddsSuffixes, SuffixSlots, IsPlaced, IsDone, NameSlots, AreNamed};
 
-use crate::lengths::all_lengths;
+use crate::chains::Chains;
 use crate::names::rule_of;
 use crate::slot::{Layout, Slot, Suffix};
 use roster_model::{Grammar, List, Memory, unit_ranks};
@@ -108,12 +108,11 @@ pub fn layout_of(alloc: Global, grammar: &Grammar) -> Result<Layout, Memory>
     let mut slots = List::new(alloc);
     let suffixes = add_rules(alloc, grammar, &mut slots)?;
     let names = add_names(alloc, grammar, &mut slots)?;
-    let lengths = all_lengths(alloc, grammar, slots.as_slice())?;
     Ok(Layout {
         spans: SpanIndex::new(grammar.periods),
         slots: slots.into_vec(),
         names,
         suffixes: suffixes.into_vec(),
-        lengths: lengths.into_vec(),
+        chains: Chains::new(alloc, grammar)?,
     })
 }

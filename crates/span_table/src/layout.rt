@@ -1,7 +1,7 @@
 ghost use Rattle.std.specs.Prelude.{◌≡◌, ◌≤◌, ◌<◌, ◌+◌, ◌*◌, ◌^◌, Some, length};
 ghost use Rattle.roster_model.specs.Grammar.{rule_at, InDay};
 ghost use Rattle.span_forms.specs.Places.{shorter};
-ghost use Rattle.span_table.specs.Cells.{IsLayoutOf, place, cell, suffix_slot};
+ghost use Rattle.span_table.specs.Cells.{IsLayoutOf, place, cell, spot, spot_count, suffix_slot};
 
 use crate::cells::Cells;
 use crate::slot::{Layout, Span, Suffix};
@@ -30,13 +30,24 @@ pub fn place_of(layout: &Layout, slot: usize, span: Span) -> usize
     layout.spans.place(span.start, span.len) * layout.slots.len() + slot
 }
 
+/// Returns where the spans of a slot that begin or end at a period are noted.
+pub fn spot_of(layout: &Layout, slot: usize, period: u8) -> usize
+    requires slot { slot < length layout.now.slots.items }
+    requires few { length layout.now.slots.items < 65536 }
+    requires period { period ≤ layout.now.spans + 1 }
+    ensures spot { result ≡ spot layout.now slot period }
+    ensures within { result < spot_count layout.now }
+{
+    period as usize * layout.slots.len() + slot
+}
+
 /// Returns the sum in the cell of a slot on a span.
 pub fn read<C: Cells>(layout: &Layout, cells: &C, slot: usize, span: Span) -> Option<i128>
     requires day { InDay layout.now.spans span.start span.len }
     requires slot { slot < length layout.now.slots.items }
     requires room { shorter layout.now.spans layout.now.spans * length layout.now.slots.items < 2 ^ 64 }
-    requires cells { length (C.sums cells.now) ≡ shorter layout.now.spans layout.now.spans * length layout.now.slots.items }
-    ensures { result ≡ cell layout.now (C.sums cells.now) slot span.start span.len }
+    requires cells { length (C.held cells.now).sums ≡ shorter layout.now.spans layout.now.spans * length layout.now.slots.items }
+    ensures { result ≡ cell layout.now (C.held cells.now) slot span.start span.len }
 {
     cells.sum(place_of(layout, slot, span))
 }

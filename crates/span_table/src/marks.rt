@@ -1,4 +1,5 @@
 ghost use Rattle.std.specs.Prelude.{◌≡◌, ◌≤◌, ◌<◌, ◌+◌, ◌-◌, ◌*◌, ℕ, Some, true, length, drop, slice_get, slice_index_or};
+ghost use Rattle.roster_model.specs.declared.grammar.Rule.{Rule as RuleValue};
 ghost use Rattle.roster_model.specs.Grammar.{rule_at, InDay};
 ghost use Rattle.roster_model.specs.Sound.{IsSound, Exists};
 ghost use Rattle.span_forms.specs.Places.{shorter};
@@ -10,8 +11,8 @@ use crate::derive::{rest_derives, symbol_derives};
 use crate::free_cells::FreeCells;
 use crate::layout::{place_of, slot_of};
 use crate::names::rule_of;
+use crate::points::split_points;
 use crate::slot::{Layout, Slot, Span, Suffix};
-use crate::splits::splits;
 use roster_model::{Grammar, Rule, Sym};
 use span_forms::may_stand;
 
@@ -131,9 +132,13 @@ fn mark_parts(
     ensures adds { Adds grammar.now layout.now (place layout.now 0 span.start span.len) marks.old marks.new }
     ensures closed { PartsClosed grammar.now layout.now marks.new suffix.rule suffix.from (drop suffix.from rule.now.right) span.start span.len }
 {
-    let splits = splits(grammar, layout, rule, suffix, span.len);
-    for part in splits.begin..splits.end {
+    let points = split_points(grammar, layout, cells, rule, suffix, span);
+    let end = span.end();
+    let mut point = points.first_in(span.start + 1, end);
+    while point < end {
+        let part = point - span.start;
         mark_split(grammar, layout, cells, marks, rule, suffix, span, part);
+        point = points.first_in(point + 1, end);
     }
 }
 
@@ -186,14 +191,12 @@ fn mark_rule(
     requires day { InDay grammar.now.periods span.start span.len }
     requires some { 1 ≤ number }
     requires rule { number ≤ length grammar.now.rules }
+    requires left { (rule : RuleValue) → rule_at grammar.now number ≡ Some rule → rule.left ≡ name }
     requires stand { TreesStand grammar.now (Sym.Name name) span.start span.len }
     ensures adds { Adds grammar.now layout.now (place layout.now (name_slot layout.now name) span.start span.len) marks.old marks.new }
     ensures closed { RuleClosed grammar.now layout.now marks.new name span.start span.len number }
 {
     let rule = rule_of(grammar, number);
-    if rule.left != name {
-        return;
-    }
     if !may_stand(rule, grammar.periods, span.start, span.len) {
         return;
     }
@@ -213,14 +216,17 @@ fn mark_rules(
     requires ready { IsReady grammar.now layout.now cells.now }
     requires filled { AreFilled grammar.now free_view layout.now cells.now }
     requires count { length marks.old ≡ cell_count layout.now }
+    requires name { name < length grammar.now.names }
     requires day { InDay grammar.now.periods span.start span.len }
     requires stand { TreesStand grammar.now (Sym.Name name) span.start span.len }
     ensures adds { Adds grammar.now layout.now (place layout.now (name_slot layout.now name) span.start span.len) marks.old marks.new }
     ensures closed { SlotClosed grammar.now layout.now marks.new (Use.OfName name) span.start span.len }
 {
-    for index in 0..grammar.rules.len() {
-        let number = index as u8 + 1;
+    let rules = grammar.rules.len();
+    let mut number = layout.chains.first[name as usize];
+    while number as usize <= rules {
         mark_rule(grammar, layout, cells, marks, name, number, span);
+        number = layout.chains.next[number as usize - 1];
     }
 }
 

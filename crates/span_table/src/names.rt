@@ -1,4 +1,5 @@
 ghost use Rattle.std.specs.Prelude.{◌≡◌, ◌≤◌, ◌<◌, ◌+◌, ◌^◌, ℕ, Some, IfSome, OnSome, length, drop, [], ◌∷◌};
+ghost use Rattle.roster_model.specs.declared.grammar.Rule.{Rule as RuleValue};
 ghost use Rattle.roster_model.specs.Grammar.{rule_at, InDay};
 ghost use Rattle.roster_model.specs.Trees.{On};
 ghost use Rattle.roster_model.specs.Sound.{IsSound};
@@ -34,12 +35,12 @@ pub fn right_least<P: LetterPrice, C: Cells>(
     span: Span,
 ) -> Option<i128>
     requires sound { IsSound grammar.now }
-    requires ready { IsReady grammar.now layout.now (C.sums cells.now) }
+    requires ready { IsReady grammar.now layout.now (C.held cells.now) }
     requires day { InDay grammar.now.periods span.start span.len }
     requires rule { rule_at grammar.now number ≡ Some rule.now }
-    requires shorter { ShorterRight grammar.now (P.view prices.now) layout.now (C.sums cells.now) span.len }
+    requires shorter { ShorterRight grammar.now (P.view prices.now) layout.now (C.held cells.now) span.len }
     requires unit { (x : ℕ) → rule.now.right ≡ Sym.Name x ∷ []
-        → NameRight grammar.now (P.view prices.now) layout.now (C.sums cells.now) x span.start span.len }
+        → NameRight grammar.now (P.view prices.now) layout.now (C.held cells.now) x span.start span.len }
     ensures least { PartsLeast grammar.now (P.view prices.now) number 0 rule.now.right span.start span.len result }
     ensures within { IfSome result (Within (2 ^ 110)) }
 {
@@ -75,20 +76,18 @@ fn rule_least<P: LetterPrice, C: Cells>(
     span: Span,
 ) -> Option<i128>
     requires sound { IsSound grammar.now }
-    requires ready { IsReady grammar.now layout.now (C.sums cells.now) }
+    requires ready { IsReady grammar.now layout.now (C.held cells.now) }
     requires day { InDay grammar.now.periods span.start span.len }
     requires some { 1 ≤ number }
     requires rule { number ≤ length grammar.now.rules }
-    requires shorter { ShorterRight grammar.now (P.view prices.now) layout.now (C.sums cells.now) span.len }
-    requires later { LaterRight grammar.now (P.view prices.now) layout.now (C.sums cells.now) name span.start span.len }
+    requires left { (rule : RuleValue) → rule_at grammar.now number ≡ Some rule → rule.left ≡ name }
+    requires shorter { ShorterRight grammar.now (P.view prices.now) layout.now (C.held cells.now) span.len }
+    requires later { LaterRight grammar.now (P.view prices.now) layout.now (C.held cells.now) name span.start span.len }
     ensures least { IsLeast (λ t. On grammar.now (Sym.Name name ∷ []) span.start span.len t × (root t ≡ number))
         (tree_sum (P.view prices.now) span.start) result }
     ensures chosen { OnSome result (ChosenRule grammar.now (P.view prices.now) name span.start span.len number result) }
 {
     let rule = rule_of(grammar, number);
-    if rule.left != name {
-        return None;
-    }
     if !may_stand(rule, grammar.periods, span.start, span.len) {
         return None;
     }
@@ -107,19 +106,22 @@ pub fn least_rule<P: LetterPrice, C: Cells>(
     span: Span,
 ) -> Choice
     requires sound { IsSound grammar.now }
-    requires ready { IsReady grammar.now layout.now (C.sums cells.now) }
+    requires ready { IsReady grammar.now layout.now (C.held cells.now) }
+    requires name { name < length grammar.now.names }
     requires day { InDay grammar.now.periods span.start span.len }
-    requires shorter { ShorterRight grammar.now (P.view prices.now) layout.now (C.sums cells.now) span.len }
-    requires later { LaterRight grammar.now (P.view prices.now) layout.now (C.sums cells.now) name span.start span.len }
+    requires shorter { ShorterRight grammar.now (P.view prices.now) layout.now (C.held cells.now) span.len }
+    requires later { LaterRight grammar.now (P.view prices.now) layout.now (C.held cells.now) name span.start span.len }
     ensures least { SymbolLeast grammar.now (P.view prices.now) (Sym.Name name) span.start span.len result.sum }
     ensures chosen { OnSome result.sum (ChosenRule grammar.now (P.view prices.now) name span.start span.len result.number result.sum) }
     ensures within { IfSome result.sum (Within (2 ^ 110)) }
 {
+    let rules = grammar.rules.len();
     let mut best = Choice::none();
-    for index in 0..grammar.rules.len() {
-        let number = index as u8 + 1;
+    let mut number = layout.chains.first[name as usize];
+    while number as usize <= rules {
         let sum = rule_least(grammar, prices, layout, cells, name, number, span);
         best = best.or(sum, number);
+        number = layout.chains.next[number as usize - 1];
     }
     best
 }

@@ -7,8 +7,8 @@ ghost use Rattle.span_table.specs.Choices.{ChosenPart};
 
 use crate::cells::Cells;
 use crate::layout;
+use crate::points::split_points;
 use crate::slot::{Layout, Span, Suffix};
-use crate::splits::splits;
 use crate::sums::{self, Choice};
 use roster_model::{ArcKey, Grammar, LetterPrice, Rule, Sym};
 
@@ -22,10 +22,10 @@ pub fn symbol_least<P: LetterPrice, C: Cells>(
     span: Span,
 ) -> Option<i128>
     requires sound { IsSound grammar.now }
-    requires ready { IsReady grammar.now layout.now (C.sums cells.now) }
+    requires ready { IsReady grammar.now layout.now (C.held cells.now) }
     requires day { InDay grammar.now.periods span.start span.len }
     requires name { (x : ℕ) → symbol ≡ Sym.Name x → (x < length grammar.now.names)
-        × NameRight grammar.now (P.view prices.now) layout.now (C.sums cells.now) x span.start span.len }
+        × NameRight grammar.now (P.view prices.now) layout.now (C.held cells.now) x span.start span.len }
     ensures least { SymbolLeast grammar.now (P.view prices.now) symbol span.start span.len result }
     ensures within { IfSome result (Within (2 ^ 110)) }
 {
@@ -52,12 +52,12 @@ pub fn rest_least<P: LetterPrice, C: Cells>(
     span: Span,
 ) -> Option<i128>
     requires sound { IsSound grammar.now }
-    requires ready { IsReady grammar.now layout.now (C.sums cells.now) }
+    requires ready { IsReady grammar.now layout.now (C.held cells.now) }
     requires day { InDay grammar.now.periods span.start span.len }
     requires rule { rule_at grammar.now suffix.rule ≡ Some rule.now }
     requires inner { 1 ≤ suffix.from }
     requires within { suffix.from < length rule.now.right }
-    requires right { Right grammar.now (P.view prices.now) layout.now (C.sums cells.now) span.start span.len }
+    requires right { Right grammar.now (P.view prices.now) layout.now (C.held cells.now) span.start span.len }
     ensures least { PartsLeast grammar.now (P.view prices.now) suffix.rule suffix.from
         (drop suffix.from rule.now.right) span.start span.len result }
     ensures within { IfSome result (Within (2 ^ 110)) }
@@ -86,11 +86,11 @@ fn part_least<P: LetterPrice, C: Cells>(
     part: u8,
 ) -> Option<i128>
     requires sound { IsSound grammar.now }
-    requires ready { IsReady grammar.now layout.now (C.sums cells.now) }
+    requires ready { IsReady grammar.now layout.now (C.held cells.now) }
     requires day { InDay grammar.now.periods span.start span.len }
     requires rule { rule_at grammar.now suffix.rule ≡ Some rule.now }
     requires within { suffix.from + 2 ≤ length rule.now.right }
-    requires shorter { ShorterRight grammar.now (P.view prices.now) layout.now (C.sums cells.now) span.len }
+    requires shorter { ShorterRight grammar.now (P.view prices.now) layout.now (C.held cells.now) span.len }
     requires some { 1 ≤ part }
     requires others { part < span.len }
     ensures { ChosenPart grammar.now (P.view prices.now) suffix.rule suffix.from
@@ -136,22 +136,26 @@ pub fn least_part<P: LetterPrice, C: Cells>(
     span: Span,
 ) -> Choice
     requires sound { IsSound grammar.now }
-    requires ready { IsReady grammar.now layout.now (C.sums cells.now) }
+    requires ready { IsReady grammar.now layout.now (C.held cells.now) }
     requires day { InDay grammar.now.periods span.start span.len }
     requires rule { rule_at grammar.now suffix.rule ≡ Some rule.now }
     requires within { suffix.from + 2 ≤ length rule.now.right }
-    requires shorter { ShorterRight grammar.now (P.view prices.now) layout.now (C.sums cells.now) span.len }
+    requires shorter { ShorterRight grammar.now (P.view prices.now) layout.now (C.held cells.now) span.len }
     ensures least { PartsLeast grammar.now (P.view prices.now) suffix.rule suffix.from
         (drop suffix.from rule.now.right) span.start span.len result.sum }
     ensures chosen { OnSome result.sum (ChosenPart grammar.now (P.view prices.now) suffix.rule suffix.from
         (slice_index_or rule.now.right suffix.from (Sym.Code 0)) rule.now.right span.start span.len result.number result.sum) }
     ensures within { IfSome result.sum (Within (2 ^ 110)) }
 {
-    let splits = splits(grammar, layout, rule, suffix, span.len);
+    let points = split_points(grammar, layout, cells, rule, suffix, span);
+    let end = span.end();
     let mut best = Choice::none();
-    for part in splits.begin..splits.end {
+    let mut point = points.first_in(span.start + 1, end);
+    while point < end {
+        let part = point - span.start;
         let sum = part_least(grammar, prices, layout, cells, rule, suffix, span, part);
         best = best.or(sum, part);
+        point = points.first_in(point + 1, end);
     }
     best
 }

@@ -1,3 +1,6 @@
+ghost use Rattle.std.specs.Prelude.{◌≡◌, ◌<◌, ◌+◌};
+
+use crate::chains::Chains;
 use span_forms::SpanIndex;
 
 /// A span of the day.
@@ -9,6 +12,16 @@ pub struct Span {
     pub len: u8,
 }
 
+impl Span {
+    /// Returns the period after the last one.
+    pub fn end(self) -> u8
+        requires { self.start + self.len < 256 }
+        ensures { result ≡ self.start + self.len }
+    {
+        self.start + self.len
+    }
+}
+
 /// The symbols of a rule's right side from one of them on.
 #[derive(Clone, Copy, Drop)]
 pub struct Suffix {
@@ -16,13 +29,6 @@ pub struct Suffix {
     pub rule: u8,
     /// The position of the first symbol, from 0.
     pub from: u8,
-}
-
-/// The lengths from the least to the greatest, none where the least is above the greatest.
-#[derive(Clone, Copy, Drop)]
-pub struct Lengths {
-    pub least: u8,
-    pub most: u8,
 }
 
 /// What a slot holds the least sums of.
@@ -45,6 +51,6 @@ pub struct Layout {
     pub names: Vec<usize>,
     /// The slot of each rule's suffix from its second symbol on. Those of its shorter suffixes follow.
     pub suffixes: Vec<usize>,
-    /// The lengths outside which what a slot stands for has no trees or parts.
-    pub lengths: Vec<Lengths>,
+    /// The rules of each name.
+    pub chains: Chains,
 }

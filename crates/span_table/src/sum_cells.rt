@@ -1,7 +1,10 @@
-ghost use Rattle.std.specs.Prelude.{◌≡◌, IfOk, length};
+ghost use Rattle.std.specs.Prelude.{◌≡◌, IfOk};
+ghost use Rattle.span_table.specs.Cells.{AreMade};
 
 use crate::cell::Cell;
 use crate::cells::Cells;
+use crate::present::Present;
+use crate::slot::Span;
 use roster_model::Memory;
 use std::alloc::Global;
 use std::marker::Model;
@@ -10,25 +13,27 @@ use std::marker::Model;
 #[derive(Drop)]
 pub struct SumCells {
     cells: Vec<Cell>,
+    present: Present,
 }
 
 impl Model for SumCells {
-    ghost use Rattle.std.specs.Prelude.{ℤ, List, Option};
+    ghost use Rattle.span_table.specs.Cells.{Held};
 
-    ghost Value = { List (Option ℤ) };
+    ghost Value = { Held };
 
-    ghost view = { λ s. s.cells.items };
+    ghost view = { λ s. record { sums = s.cells.items; present = s.present } };
 }
 
 impl SumCells {
-    /// Returns so many cells.
-    pub fn new(alloc: Global, count: usize) -> Result<SumCells, Memory>
-        ensures { IfOk result (λ s. length s ≡ count) }
+    /// Returns so many cells, and so many spots for the spans.
+    pub fn new(alloc: Global, count: usize, spots: usize) -> Result<SumCells, Memory>
+        ensures { IfOk result (AreMade count spots) }
     {
         let Ok(cells) = vec![in alloc; Cell::new(None); count] else {
             return Err(Memory);
         };
-        Ok(SumCells { cells })
+        let present = Present::new(alloc, spots)?;
+        Ok(SumCells { cells, present })
     }
 }
 
@@ -36,7 +41,7 @@ impl Cells for SumCells {
     ghost use Rattle.std.specs.Prelude.{◌^◌, IfSome};
     ghost use Rattle.roster_model.specs.Sums.{Within};
 
-    ghost sums = { λ s. s };
+    ghost held = { λ s. s };
 
     ghost can_hold = { λ s. IfSome s (Within (2 ^ 110)) };
 
@@ -46,5 +51,17 @@ impl Cells for SumCells {
 
     fn set(&mut self, place: usize, sum: Option<i128>) {
         self.cells[place] = Cell::new(sum);
+    }
+
+    fn present(&self) -> &Present {
+        &self.present
+    }
+
+    fn note(&mut self, from: usize, to: usize, span: Span) {
+        self.present.note(from, to, span);
+    }
+
+    fn clear(&mut self) {
+        self.present.clear();
     }
 }

@@ -47,15 +47,17 @@ impl Table {
     /// Returns a table for the trees of a sound grammar. Later calls take the same grammar.
     ///
     /// It has taken the memory for all of them: 18 bytes for each name, and for each suffix of two or
-    /// more symbols that is not a whole right side, on each span of the day.
+    /// more symbols that is not a whole right side, on each span of the day, and 64 bytes for each of
+    /// these at each period.
     pub fn for_instance(alloc: Global, grammar: &Grammar) -> Result<Table, Memory>
         requires { IsSound grammar.now }
         ensures { IfOk result (IsMadeFor grammar.now) }
     {
         let layout = layout_of(alloc, grammar)?;
         let count = layout.spans.count() * layout.slots.len();
-        let cells = SumCells::new(alloc, count)?;
-        let free = FreeCells::new(alloc, count)?;
+        let spots = (grammar.periods as usize + 2) * layout.slots.len();
+        let cells = SumCells::new(alloc, count, spots)?;
+        let free = FreeCells::new(alloc, count, spots)?;
         let Ok(marks) = vec![in alloc; false; count] else {
             return Err(Memory);
         };

@@ -11,12 +11,12 @@ use Rattle.span_table.proofs.arcs.next_part.Goals as goal
 
 pub returns-then-arc : goal.returns-then-arc
 returns-then-arc c =
-    λ x is after. let h = arc-shape c.args.grammar.now c.args.layout.now c.args.marks.now c.requires.sound c.requires.layout c.requires.marked x is in
+    λ x is after. let h = arc-shape c.args.grammar.now c.args.layout.now c.args.marks.now c.requires.sound c.requires.ready.layout c.requires.marked x is in
     absurd (omega (arith, h.inside, after.3, after.4, c.if-arc.true))
 
 pub returns-then-not-has_span : goal.returns-then-not-has_span
 returns-then-not-has_span c =
-    λ x is after. let h = arc-shape c.args.grammar.now c.args.layout.now c.args.marks.now c.requires.sound c.requires.layout c.requires.marked x is in
+    λ x is after. let h = arc-shape c.args.grammar.now c.args.layout.now c.args.marks.now c.requires.sound c.requires.ready.layout c.requires.marked x is in
     let yes : IsTrue c.has_span.result = c.has_span.ensures.1 (
       omega (arith, h.low, after.0),
       omega (arith, h.high, after.0),
@@ -32,12 +32,12 @@ longer_part-requires-clause-within c =
 
 pub returns-then-is_marked : goal.returns-then-is_marked
 returns-then-is_marked c =
-    part-step c.args.grammar.now c.args.layout.now c.args.marks.now c.requires.sound c.requires.layout c.requires.marked c.args.arc c.rule_of-rule.result.now c.rule_of-rule.ensures
+    part-step c.args.grammar.now c.args.layout.now c.args.marks.now c.requires.sound c.requires.ready.layout c.requires.marked c.args.arc c.rule_of-rule.result.now c.rule_of-rule.ensures
     c.longer_part.result c.longer_part.ensures
 
 pub returns-else-is_marked : goal.returns-else-is_marked
 returns-else-is_marked c =
-    λ x is after. let told = arc-told c.args.grammar.now c.args.layout.now c.args.marks.now c.requires.sound c.requires.layout c.requires.marked x is in
+    λ x is after. let told = arc-told c.args.grammar.now c.args.layout.now c.args.marks.now c.requires.sound c.requires.ready.layout c.requires.marked x is in
     let same : told.rule ≡ c.rule_of-rule.result.now = same_Some told.rule c.rule_of-rule.result.now (sym told.at ∙ ap (λ (r : ℕ). rule_at c.args.grammar.now r) (sym after.0) ∙ c.rule_of-rule.ensures) in
     let at_rule : SuffixMarked c.args.grammar.now c.args.layout.now c.args.marks.now c.rule_of-rule.result.now x.rule x.suffix x.start x.len =
     subst (λ (r : Rule). SuffixMarked c.args.grammar.now c.args.layout.now c.args.marks.now r x.rule x.suffix x.start x.len) same told.marked in

@@ -18,7 +18,7 @@ returns-then-arc-periods c =
     let small : IsSmall c.args.arc = record { rule = omega arith; suffix = omega arith; start = omega arith; len = omega arith; part = omega arith } in (
       record { rule = omega arith; suffix = omega arith; start = omega arith; len = omega arith; part = omega arith },
       inr (refl, inr (refl, inr (refl, inl (omega arith)))),
-      λ x is before. step-len c.args.grammar.now c.args.arc x _ small (arc-shape c.args.grammar.now c.args.layout.now c.args.marks.now c.requires.sound c.requires.layout c.requires.marked x is)
+      λ x is before. step-len c.args.grammar.now c.args.arc x _ small (arc-shape c.args.grammar.now c.args.layout.now c.args.marks.now c.requires.sound c.requires.ready.layout c.requires.marked x is)
           (subst (λ (q : Option ℕ). IsPartStep c.args.grammar.now c.args.arc q) c.in_default.is c.next_part.ensures x is) before refl,
     )
 
@@ -27,12 +27,12 @@ returns-then-arc-periods-2 c =
     let small : IsSmall c.args.arc = record { rule = omega arith; suffix = omega arith; start = omega arith; len = omega arith; part = omega arith } in (
       record { rule = omega arith; suffix = omega arith; start = omega arith; len = omega arith; part = omega arith },
       inr (refl, inr (refl, inl (omega arith))),
-      λ x is before. step-start c.args.grammar.now c.args.arc x _ small (arc-shape c.args.grammar.now c.args.layout.now c.args.marks.now c.requires.sound c.requires.layout c.requires.marked x is)
+      λ x is before. step-start c.args.grammar.now c.args.arc x _ small (arc-shape c.args.grammar.now c.args.layout.now c.args.marks.now c.requires.sound c.requires.ready.layout c.requires.marked x is)
           (subst (λ (q : Option ℕ). IsPartStep c.args.grammar.now c.args.arc q) c.in_default.is c.next_part.ensures x is) (omega arith) before refl,
     )
 
 pub returns : goal.returns
 returns c =
-    suffix-step c.args.grammar.now c.args.arc c.next_suffix.result (arc-shape c.args.grammar.now c.args.layout.now c.args.marks.now c.requires.sound c.requires.layout c.requires.marked)
-    (λ x is before. step-suffix c.args.grammar.now c.args.arc x (arc-shape c.args.grammar.now c.args.layout.now c.args.marks.now c.requires.sound c.requires.layout c.requires.marked x is)
+    suffix-step c.args.grammar.now c.args.arc c.next_suffix.result (arc-shape c.args.grammar.now c.args.layout.now c.args.marks.now c.requires.sound c.requires.ready.layout c.requires.marked)
+    (λ x is before. step-suffix c.args.grammar.now c.args.arc x (arc-shape c.args.grammar.now c.args.layout.now c.args.marks.now c.requires.sound c.requires.ready.layout c.requires.marked x is)
     (subst (λ (q : Option ℕ). IsPartStep c.args.grammar.now c.args.arc q) c.in_default.is c.next_part.ensures x is) (omega arith) (omega arith) before) c.next_suffix.ensures

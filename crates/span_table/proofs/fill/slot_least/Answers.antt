@@ -11,12 +11,12 @@ use Rattle.span_table.proofs.fill.slot_least.Goals as goal
 
 pub least_rule-requires-clause-shorter : goal.least_rule-requires-clause-shorter
 least_rule-requires-clause-shorter g c =
-    before-shorter c.args.grammar.now (g.P.LetterPrice.view c.args.prices.now) c.args.layout.now c.requires.ready.layout (g.C.Cells.sums c.args.cells.now) c.args.slot c.args.span.start c.args.span.len c.requires.day c.requires.before
+    before-shorter c.args.grammar.now (g.P.LetterPrice.view c.args.prices.now) c.args.layout.now c.requires.ready.layout (g.C.Cells.held c.args.cells.now) c.args.slot c.args.span.start c.args.span.len c.requires.day c.requires.before
 
 pub least_rule-requires-clause-later : goal.least_rule-requires-clause-later
 least_rule-requires-clause-later g c =
     let here = slot_here c.args.layout.now.slots.items c.args.slot c.index.result.now (OfName c.in-OfName.name) c.requires.slot c.index.ensures c.in-OfName.is in
-    before-later c.args.grammar.now (g.P.LetterPrice.view c.args.prices.now) c.args.layout.now c.requires.ready.layout c.requires.sound (g.C.Cells.sums c.args.cells.now) c.args.slot c.in-OfName.name c.args.span.start c.args.span.len c.requires.day here c.requires.before
+    before-later c.args.grammar.now (g.P.LetterPrice.view c.args.prices.now) c.args.layout.now c.requires.ready.layout c.requires.sound (g.C.Cells.held c.args.cells.now) c.args.slot c.in-OfName.name c.args.span.start c.args.span.len c.requires.day here c.requires.before
 
 pub rule_of-rule-requires-clause-some : goal.rule_of-rule-requires-clause-some
 rule_of-rule-requires-clause-some g c =
@@ -39,7 +39,7 @@ least_part-requires-clause-within g c =
 
 pub least_part-requires-clause-shorter : goal.least_part-requires-clause-shorter
 least_part-requires-clause-shorter g c =
-    before-shorter c.args.grammar.now (g.P.LetterPrice.view c.args.prices.now) c.args.layout.now c.requires.ready.layout (g.C.Cells.sums c.args.cells.now) c.args.slot c.args.span.start c.args.span.len c.requires.day c.requires.before
+    before-shorter c.args.grammar.now (g.P.LetterPrice.view c.args.prices.now) c.args.layout.now c.requires.ready.layout (g.C.Cells.held c.args.cells.now) c.args.slot c.args.span.start c.args.span.len c.requires.day c.requires.before
 
 pub returns-in-OfName-clause-least : goal.returns-in-OfName-clause-least
 returns-in-OfName-clause-least g c =
@@ -54,3 +54,8 @@ returns-in-OfSuffix-clause-least g c =
     rw same
     (λ rule at. let e : c.rule_of-rule.result.now ≡ rule = same_Some c.rule_of-rule.result.now rule (sym c.rule_of-rule.ensures ∙ at) in
     subst (λ (r : Rule). PartsLeast c.args.grammar.now (g.P.LetterPrice.view c.args.prices.now) c.in-OfSuffix.suffix.rule c.in-OfSuffix.suffix.from (drop c.in-OfSuffix.suffix.from r.right) c.args.span.start c.args.span.len c.least_part.result.sum) e c.least_part.ensures.least)
+
+pub least_rule-requires-clause-name : goal.least_rule-requires-clause-name
+least_rule-requires-clause-name g c =
+    let here = slot_here c.args.layout.now.slots.items c.args.slot c.index.result.now (OfName c.in-OfName.name) c.requires.slot c.index.ensures c.in-OfName.is in
+    (c.requires.ready.layout.named c.args.slot c.in-OfName.name here).0

@@ -60,3 +60,8 @@ returns-in-OfSuffix-clause-closed c =
     rw same
     (λ rule at. subst (λ (r : Rule). PartsClosed c.args.grammar.now c.args.layout.now c.mark_parts.new.marks c.in-OfSuffix.suffix.rule c.in-OfSuffix.suffix.from (drop c.in-OfSuffix.suffix.from r.right) c.args.span.start c.args.span.len)
     (same_Some c.rule_of-rule.result.now rule (sym c.rule_of-rule.ensures ∙ at)) c.mark_parts.ensures.closed)
+
+pub mark_rules-requires-clause-name : goal.mark_rules-requires-clause-name
+mark_rules-requires-clause-name c =
+    let here = slot_here c.args.layout.now.slots.items c.args.slot c.index.result.now (OfName c.in-OfName.name) c.requires.slot c.index.ensures c.in-OfName.is in
+    (c.requires.ready.layout.named c.args.slot c.in-OfName.name here).0

@@ -1,5 +1,9 @@
-use Rattle.std.proofs.Common.{◌∙◌}
+use Rattle.std.proofs.Common.{◌∙◌, sym, subst}
+use Rattle.roster_model.specs.declared.grammar.Grammar.{Grammar}
+use Rattle.roster_model.specs.Sums.{IsLeast, tree_sum}
+use Rattle.roster_model.specs.Trees.{IsTreeOf}
 use Rattle.word_prices.proofs.Costs.{shift-length}
+use Rattle.word_prices.specs.Prices.{word_view}
 use Rattle.stated_roster.proofs.Pricing.{told}
 use Rattle.stated_roster.proofs.prices.least_price.Goals as goal
 
@@ -11,3 +15,8 @@ pub returns-clause-value : goal.returns-clause-value
 returns-clause-value c =
     let priced = rw (c.new-prices.ensures.grammar, c.new-prices.ensures.word, c.as_slice.ensures) at c.price.ensures in
     told c.args.instance.now c.args.shift.now c.team_name-name.result c.price.result c.team_name-name.ensures.value priced
+
+pub price-requires-clause-least : goal.price-requires-clause-least
+price-requires-clause-least c =
+    subst (λ (r : Grammar). IsLeast (IsTreeOf r c.team_name-name.result) (tree_sum (word_view c.new-prices.result.grammar.now c.new-prices.result.word.now) 1) c.value.result)
+    (sym c.new-prices.ensures.grammar) (c.value.ensures _ c.least.ensures.filled)
