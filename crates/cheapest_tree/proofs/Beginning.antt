@@ -11,7 +11,7 @@ use Rattle.tree_laws.proofs.Bounds.{few-steps}
 use Rattle.tree_laws.proofs.Size.{length-steps}
 use Rattle.arc_terms.specs.OrNodes.{root_of}
 use Rattle.parse_graph.specs.Graphs.{GraphView, IsRoot}
-use Rattle.cheapest_tree.specs.declared.slots.Link.{Link}
+use Rattle.cheapest_tree.specs.declared.slots.Links.{Links}
 use Rattle.cheapest_tree.specs.Pricers.{PricerView, value_at, IsMadeFor, AsksTree, HoldsLeastTree}
 use Rattle.cheapest_tree.specs.Walks.{AsksNode, WritesAt, WritesNode}
 
@@ -24,7 +24,7 @@ least_there P sum None a h k some = absurd (none (sum a) (h.least a k) some)
     none None m s = cc
     none (Some z) m s = m
 
-module _ (g : Grammar) (p : PriceView) (v : GraphView) (w : PricerView) (links : List Link) (best : List ℕ) (old room : RoomView) (n : ℕ) (asks : AsksTree g p v w old)
+module _ (g : Grammar) (p : PriceView) (v : GraphView) (w : PricerView) (links : Links) (best : List ℕ) (old room : RoomView) (n : ℕ) (asks : AsksTree g p v w old)
     (made : IsMadeFor v w) (same_links : w.links ≡ links) (same_best : w.best ≡ best) (cleared : room ≡ record old { steps = [] }) (root : v.root ≡ Some n) where
   -- the root is the start name on the day
   pub root-there : slice_get v.nodes n ≡ Some (root_of g)

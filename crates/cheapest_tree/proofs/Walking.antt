@@ -19,7 +19,7 @@ use Rattle.arc_terms.specs.OrNodes.{OrNode, name, suffix, leaf, made_by, made, u
 use Rattle.parse_graph.specs.Graphs.{GraphView, IsKid, AreKids}
 use Rattle.parse_graph.specs.declared.kid.Kid.{Kid}
 use Rattle.parse_graph.specs.declared.kid.Kid.TheVariants.{Nothing}
-use Rattle.cheapest_tree.specs.declared.slots.Link.{Link}
+use Rattle.cheapest_tree.specs.declared.slots.Links.{Links}
 use Rattle.cheapest_tree.specs.AtNodes.{IsAt, sum_at, NodeLeast, top_arc, arc_total, with_rule}
 use Rattle.cheapest_tree.specs.Pricers.{value_at, IsSlot, IsLink, IsBest}
 use Rattle.cheapest_tree.specs.Walks.{start_of, steps_of, HasRoom, AsksNode, WritesAt, AsksSlot, WritesSlot, node_left, slot_left}
@@ -74,7 +74,7 @@ second_at (s ∷ Code c ∷ []) a o q os e = ap second_start e
 second_at (s ∷ Name x ∷ []) a o q os e = ap second_start e
 second_at (s ∷ x ∷ y ∷ ss) a o q os e = ap second_start e
 
-module _ (v : GraphView) (links : List Link) (best : List ℕ) (m : ℕ) (room : RoomView) (asked : AsksNode v links best m room) where
+module _ (v : GraphView) (links : Links) (best : List ℕ) (m : ℕ) (room : RoomView) (asked : AsksNode v links best m room) where
   -- the arc that the walk takes
   pub chosen : IsBest asked.g asked.p v asked.node (value_at asked.w.values m) (slice_index best m)
   chosen = subst (λ (q : List ℕ). IsBest asked.g asked.p v asked.node (value_at asked.w.values m) (slice_index q m)) asked.same_best
@@ -90,8 +90,8 @@ module _ (v : GraphView) (links : List Link) (best : List ℕ) (m : ℕ) (room :
   pub key-read : (d : ArcKey) → get_or v.arcs (slice_index best m) d ≡ chosen.key
   key-read d = get_or_from_slice_get v.arcs (slice_index best m) chosen.key d chosen.at
 
-  pub links-count : length links ≡ length v.arcs
-  links-count = ap length (sym asked.same_links) ∙ asked.made.count
+  pub links-count : (length links.first ≡ length v.arcs) × (length links.rest ≡ length v.arcs)
+  links-count = (ap (λ (q : Links). length q.first) (sym asked.same_links) ∙ asked.made.links.first, ap (λ (q : Links). length q.rest) (sym asked.same_links) ∙ asked.made.links.rest)
 
   best_count : length best ≡ length v.nodes
   best_count = ap length (sym asked.same_best) ∙ asked.made.nodes
@@ -103,34 +103,37 @@ module _ (v : GraphView) (links : List Link) (best : List ℕ) (m : ℕ) (room :
   pub has-best : slice_get best m ≡ Some (slice_index best m)
   has-best = slice_get-get_or best m 0 node-inside
 
-  module _ (link : Link) (there : slice_get links (slice_index best m) ≡ Some link) where
-    linked : IsLink v asked.w.letters (slice_index best m) link
-    linked = asked.made.links (slice_index best m) link (ap (λ (q : List Link). slice_get q (slice_index best m)) asked.same_links ∙ there)
+  module _ (first_slot rest_slot : ℕ) (first_is : first_slot ≡ slice_index links.first (slice_index best m)) (rest_is : rest_slot ≡ slice_index links.rest (slice_index best m)) where
+    linked : IsLink v asked.w.letters (slice_index best m) (slice_index links.made (slice_index best m)) first_slot rest_slot
+    linked =
+        let its = subst (λ (q : Links). IsLink v asked.w.letters (slice_index best m) (slice_index q.made (slice_index best m)) (slice_index q.first (slice_index best m)) (slice_index q.rest (slice_index best m)))
+        asked.same_links (asked.made.links.each (slice_index best m) arc-inside) in
+        rw (first_is, rest_is) its
 
     kids : AreKids v.nodes (used asked.g chosen.key) linked.kids
-    kids = link-kids asked.g asked.p v asked.graph asked.w.letters (slice_index best m) chosen.key chosen.at link linked
+    kids = link-kids asked.g asked.p v asked.graph asked.w.letters (slice_index best m) chosen.key chosen.at (slice_index links.made (slice_index best m)) first_slot rest_slot linked
 
-    least_kids : KidsLeast asked.g asked.p (used asked.g chosen.key) (value_at asked.w.values link.first) (value_at asked.w.values link.rest)
+    least_kids : KidsLeast asked.g asked.p (used asked.g chosen.key) (value_at asked.w.values first_slot) (value_at asked.w.values rest_slot)
     least_kids = kids-least asked.g asked.p v asked.graph asked.w.letters asked.w.values asked.filled.priced chosen.key (λ n o at h. asked.filled.nodes n o at)
-        linked.kids link.first link.rest linked.first linked.rest kids
+        linked.kids first_slot rest_slot linked.first linked.rest kids
 
-    total : value_at asked.w.values m ≡ arc_total asked.p chosen.key (value_at asked.w.values link.first) (value_at asked.w.values link.rest)
+    total : value_at asked.w.values m ≡ arc_total asked.p chosen.key (value_at asked.w.values first_slot) (value_at asked.w.values rest_slot)
     total =
-        let one = arc-least asked.g asked.p chosen.key stands (value_at asked.w.values link.first) (value_at asked.w.values link.rest) least_kids in
+        let one = arc-least asked.g asked.p chosen.key stands (value_at asked.w.values first_slot) (value_at asked.w.values rest_slot) least_kids in
         let two = subst (λ (o : OrNode). IsLeast (λ t. IsAt asked.g o t × (top_arc o t ≡ chosen.key)) (sum_at asked.p o)
-        (arc_total asked.p chosen.key (value_at asked.w.values link.first) (value_at asked.w.values link.rest))) chosen.makes one in
+        (arc_total asked.p chosen.key (value_at asked.w.values first_slot) (value_at asked.w.values rest_slot))) chosen.makes one in
         IsLeast-one (λ t. IsAt asked.g asked.node t × (top_arc asked.node t ≡ chosen.key)) (sum_at asked.p asked.node) _ _ chosen.least two
 
-    inner_there : (y : ℤ) × (plus (value_at asked.w.values link.first) (plus (Some (asked.p.arc_of chosen.key)) (value_at asked.w.values link.rest)) ≡ Some y)
+    inner_there : (y : ℤ) × (plus (value_at asked.w.values first_slot) (plus (Some (asked.p.arc_of chosen.key)) (value_at asked.w.values rest_slot)) ≡ Some y)
     inner_there = parts_there asked.p chosen.key.rule chosen.key.suffix _ asked.sum (sym total ∙ asked.value)
 
-    first_there : (y : ℤ) × (value_at asked.w.values link.first ≡ Some y)
-    first_there = left_there (value_at asked.w.values link.first) _ inner_there.0 inner_there.1
+    first_there : (y : ℤ) × (value_at asked.w.values first_slot ≡ Some y)
+    first_there = left_there (value_at asked.w.values first_slot) _ inner_there.0 inner_there.1
 
-    rest_there : (y : ℤ) × (value_at asked.w.values link.rest ≡ Some y)
+    rest_there : (y : ℤ) × (value_at asked.w.values rest_slot ≡ Some y)
     rest_there =
-        let r = right_there (value_at asked.w.values link.first) _ inner_there.0 inner_there.1 in
-        right_there (Some (asked.p.arc_of chosen.key)) (value_at asked.w.values link.rest) r.0 r.1
+        let r = right_there (value_at asked.w.values first_slot) _ inner_there.0 inner_there.1 in
+        right_there (Some (asked.p.arc_of chosen.key)) (value_at asked.w.values rest_slot) r.0 r.1
 
     -- a value that is there is attained
     attained : (o : OrNode) (w : Option ℤ) (y : ℤ) → NodeLeast asked.g asked.p o w → w ≡ Some y → (t : Parts) × IsAt asked.g o t
@@ -167,10 +170,10 @@ module _ (v : GraphView) (links : List Link) (best : List ℕ) (m : ℕ) (room :
 
     some_kids : (t : Parts) × (u : Parts) × KidsAt asked.g asked.p (used asked.g chosen.key) t u
     some_kids = elim kinds [
-      | inl k ↦ let l = subst (λ (os : List OrNode). KidsLeast asked.g asked.p os (value_at asked.w.values link.first) (value_at asked.w.values link.rest)) k.1 least_kids in
+      | inl k ↦ let l = subst (λ (os : List OrNode). KidsLeast asked.g asked.p os (value_at asked.w.values first_slot) (value_at asked.w.values rest_slot)) k.1 least_kids in
           let t = attained k.0 _ first_there.0 l.0 first_there.1 in
           (t.0, done, subst (λ (os : List OrNode). KidsAt asked.g asked.p os t.0 done) (sym k.1) (t.1, refl))
-      | inr k ↦ let l = subst (λ (os : List OrNode). KidsLeast asked.g asked.p os (value_at asked.w.values link.first) (value_at asked.w.values link.rest)) k.2 least_kids in
+      | inr k ↦ let l = subst (λ (os : List OrNode). KidsLeast asked.g asked.p os (value_at asked.w.values first_slot) (value_at asked.w.values rest_slot)) k.2 least_kids in
           let t = attained k.0 _ first_there.0 l.0 first_there.1 in
           let u = attained k.1 _ rest_there.0 l.1 rest_there.1 in
           (t.0, u.0, subst (λ (os : List OrNode). KidsAt asked.g asked.p os t.0 u.0) (sym k.2) (t.1, u.1))
@@ -278,7 +281,7 @@ module _ (v : GraphView) (links : List Link) (best : List ℕ) (m : ℕ) (room :
 
       first_room : (k : Two) → HasRoom asked.g k.0 one
       first_room k t h =
-          let l = subst (λ (os : List OrNode). KidsLeast asked.g asked.p os (value_at asked.w.values link.first) (value_at asked.w.values link.rest)) k.2 least_kids in
+          let l = subst (λ (os : List OrNode). KidsLeast asked.g asked.p os (value_at asked.w.values first_slot) (value_at asked.w.values rest_slot)) k.2 least_kids in
           let u = attained k.1 _ rest_there.0 l.1 rest_there.1 in
           let f = fits t u.0 (subst (λ (os : List OrNode). KidsAt asked.g asked.p os t u.0) (sym k.2) (h, u.1)) in
           let s = one_steps in
@@ -286,22 +289,22 @@ module _ (v : GraphView) (links : List Link) (best : List ℕ) (m : ℕ) (room :
           omega (arith, f, s, e)
 
       -- the first slot is asked for
-      pub asks-first : AsksSlot v links best link.first one
+      pub asks-first : AsksSlot v links best first_slot one
       asks-first = elim kinds [
-        | inl k ↦ asks_kid k.0 linked.kids.0 link.first first_there.0 one k.2 linked.first first_there.1 (only_room k)
-        | inr k ↦ asks_kid k.0 linked.kids.0 link.first first_there.0 one k.3 linked.first first_there.1 (first_room k)
+        | inl k ↦ asks_kid k.0 linked.kids.0 first_slot first_there.0 one k.2 linked.first first_there.1 (only_room k)
+        | inr k ↦ asks_kid k.0 linked.kids.0 first_slot first_there.0 one k.3 linked.first first_there.1 (first_room k)
       ]
 
-      module _ (mid : RoomView) (wrote : WritesSlot v links best link.first one mid) where
+      module _ (mid : RoomView) (wrote : WritesSlot v links best first_slot one mid) where
         only_wrote : (k : One) → WritesAt asked.g asked.p k.0 chosen.key.start one mid
         only_wrote k =
-            let l = subst (λ (os : List OrNode). KidsLeast asked.g asked.p os (value_at asked.w.values link.first) (value_at asked.w.values link.rest)) k.1 least_kids in
-            wrote_kid k.0 linked.kids.0 link.first first_there.0 chosen.key.start one mid k.2 linked.first first_there.1 (only_room k) (first_at _ chosen.key k.0 [] k.1) l.0 wrote
+            let l = subst (λ (os : List OrNode). KidsLeast asked.g asked.p os (value_at asked.w.values first_slot) (value_at asked.w.values rest_slot)) k.1 least_kids in
+            wrote_kid k.0 linked.kids.0 first_slot first_there.0 chosen.key.start one mid k.2 linked.first first_there.1 (only_room k) (first_at _ chosen.key k.0 [] k.1) l.0 wrote
 
         first_wrote : (k : Two) → WritesAt asked.g asked.p k.0 chosen.key.start one mid
         first_wrote k =
-            let l = subst (λ (os : List OrNode). KidsLeast asked.g asked.p os (value_at asked.w.values link.first) (value_at asked.w.values link.rest)) k.2 least_kids in
-            wrote_kid k.0 linked.kids.0 link.first first_there.0 chosen.key.start one mid k.3 linked.first first_there.1 (first_room k) (first_at _ chosen.key k.0 (k.1 ∷ []) k.2) l.0 wrote
+            let l = subst (λ (os : List OrNode). KidsLeast asked.g asked.p os (value_at asked.w.values first_slot) (value_at asked.w.values rest_slot)) k.2 least_kids in
+            wrote_kid k.0 linked.kids.0 first_slot first_there.0 chosen.key.start one mid k.3 linked.first first_there.1 (first_room k) (first_at _ chosen.key k.0 (k.1 ∷ []) k.2) l.0 wrote
 
         rest_room : (k : Two) → HasRoom asked.g k.1 mid
         rest_room k u h =
@@ -313,17 +316,17 @@ module _ (v : GraphView) (links : List Link) (best : List ℕ) (m : ℕ) (room :
             let e2 : mid.most ≡ one.most = ap (λ (q : RoomView). q.most) t.3 in
             omega (arith, f, s, e, n, e2)
 
-        nothing_slot : (k : One) → link.rest ≡ length v.nodes
-        nothing_slot k = subst (λ (q : Kid). IsSlot (length v.nodes) asked.w.letters q link.rest) k.3 linked.rest
+        nothing_slot : (k : One) → rest_slot ≡ length v.nodes
+        nothing_slot k = subst (λ (q : Kid). IsSlot (length v.nodes) asked.w.letters q rest_slot) k.3 linked.rest
 
         -- so is the other
-        pub asks-rest : AsksSlot v links best link.rest mid
+        pub asks-rest : AsksSlot v links best rest_slot mid
         asks-rest = elim kinds [
           | inl k ↦ λ lt. absurd (let e = nothing_slot k in let c = best_count in omega (arith, e, c, lt))
-          | inr k ↦ asks_kid k.1 linked.kids.1 link.rest rest_there.0 mid k.4 linked.rest rest_there.1 (rest_room k)
+          | inr k ↦ asks_kid k.1 linked.kids.1 rest_slot rest_there.0 mid k.4 linked.rest rest_there.1 (rest_room k)
         ]
 
-        module _ (new : RoomView) (last : WritesSlot v links best link.rest mid new) where
+        module _ (new : RoomView) (last : WritesSlot v links best rest_slot mid new) where
           -- all steps together
           all_steps : (t u : Parts) (i j : ℕ) → mid ≡ record one { steps = one.steps ++ steps i t } → new ≡ record mid { steps = mid.steps ++ steps j u }
               → new ≡ record room { steps = room.steps ++ (steps_of chosen.key ++ (steps i t ++ steps j u)) }
@@ -334,7 +337,7 @@ module _ (v : GraphView) (links : List Link) (best : List ℕ) (m : ℕ) (room :
               (append_assoc (room.steps ++ steps_of chosen.key) (steps i t) (steps j u) ∙ append_assoc room.steps (steps_of chosen.key) (steps i t ++ steps j u))
 
           whole : (t u : Parts) → KidsAt asked.g asked.p (used asked.g chosen.key) t u
-              → first_sum asked.g asked.p (used asked.g chosen.key) t ≡ value_at asked.w.values link.first → rest_sum asked.g asked.p (used asked.g chosen.key) u ≡ value_at asked.w.values link.rest
+              → first_sum asked.g asked.p (used asked.g chosen.key) t ≡ value_at asked.w.values first_slot → rest_sum asked.g asked.p (used asked.g chosen.key) u ≡ value_at asked.w.values rest_slot
               → mid ≡ record one { steps = one.steps ++ steps chosen.key.start t } → new ≡ record mid { steps = mid.steps ++ steps (chosen.key.start + chosen.key.part) u }
               → WritesAt asked.g asked.p asked.node (start_of asked.node) room new
           whole t u at ev ew first rest =
@@ -343,7 +346,7 @@ module _ (v : GraphView) (links : List Link) (best : List ℕ) (m : ℕ) (room :
               let start : start_of asked.node ≡ chosen.key.start = ap start_of (sym chosen.makes) ∙ made_start asked.g chosen.key.rule chosen.key.suffix chosen.key.start chosen.key.len in
               let sum0 : sum_at asked.p (made asked.g chosen.key) b.whole ≡ value_at asked.w.values m =
               b.sum ∙ ap (λ (q : Option ℤ). arc_total asked.p chosen.key q (rest_sum asked.g asked.p (used asked.g chosen.key) u)) ev
-              ∙ ap (λ (q : Option ℤ). arc_total asked.p chosen.key (value_at asked.w.values link.first) q) ew ∙ sym total in
+              ∙ ap (λ (q : Option ℤ). arc_total asked.p chosen.key (value_at asked.w.values first_slot) q) ew ∙ sym total in
               let sum : sum_at asked.p asked.node b.whole ≡ value_at asked.w.values m = subst (λ (o : OrNode). sum_at asked.p o b.whole ≡ value_at asked.w.values m) chosen.makes sum0 in
               let all = all_steps t u chosen.key.start (chosen.key.start + chosen.key.part) first rest in
               let written : steps (start_of asked.node) b.whole ≡ steps_of chosen.key ++ (steps chosen.key.start t ++ steps (chosen.key.start + chosen.key.part) u) =
@@ -360,19 +363,19 @@ module _ (v : GraphView) (links : List Link) (best : List ℕ) (m : ℕ) (room :
           -- are those of what stands at the node
           pub writes-node : WritesAt asked.g asked.p asked.node (start_of asked.node) room new
           writes-node = elim kinds [
-            | inl k ↦ let l = subst (λ (os : List OrNode). KidsLeast asked.g asked.p os (value_at asked.w.values link.first) (value_at asked.w.values link.rest)) k.1 least_kids in
+            | inl k ↦ let l = subst (λ (os : List OrNode). KidsLeast asked.g asked.p os (value_at asked.w.values first_slot) (value_at asked.w.values rest_slot)) k.1 least_kids in
                 let t = only_wrote k in
                 let none : new ≡ mid = last.other (let e = nothing_slot k in let c = best_count in omega (arith, e, c)) in
                 whole t.0 done (subst (λ (os : List OrNode). KidsAt asked.g asked.p os t.0 done) (sym k.1) (t.1, refl))
-                (subst (λ (os : List OrNode). first_sum asked.g asked.p os t.0 ≡ value_at asked.w.values link.first) (sym k.1) (one_least k.0 _ _ t.2 l.0))
-                (subst (λ (os : List OrNode). rest_sum asked.g asked.p os done ≡ value_at asked.w.values link.rest) (sym k.1) (sym l.1))
+                (subst (λ (os : List OrNode). first_sum asked.g asked.p os t.0 ≡ value_at asked.w.values first_slot) (sym k.1) (one_least k.0 _ _ t.2 l.0))
+                (subst (λ (os : List OrNode). rest_sum asked.g asked.p os done ≡ value_at asked.w.values rest_slot) (sym k.1) (sym l.1))
                 t.3 (none ∙ ap (λ (q : List Step). record mid { steps = q }) (sym (append-nil mid.steps)))
-            | inr k ↦ let l = subst (λ (os : List OrNode). KidsLeast asked.g asked.p os (value_at asked.w.values link.first) (value_at asked.w.values link.rest)) k.2 least_kids in
+            | inr k ↦ let l = subst (λ (os : List OrNode). KidsLeast asked.g asked.p os (value_at asked.w.values first_slot) (value_at asked.w.values rest_slot)) k.2 least_kids in
                 let t = first_wrote k in
-                let u = wrote_kid k.1 linked.kids.1 link.rest rest_there.0 (chosen.key.start + chosen.key.part) mid new k.4 linked.rest rest_there.1 (rest_room k) (second_at _ chosen.key k.0 k.1 [] k.2) l.1 last in
+                let u = wrote_kid k.1 linked.kids.1 rest_slot rest_there.0 (chosen.key.start + chosen.key.part) mid new k.4 linked.rest rest_there.1 (rest_room k) (second_at _ chosen.key k.0 k.1 [] k.2) l.1 last in
                 whole t.0 u.0 (subst (λ (os : List OrNode). KidsAt asked.g asked.p os t.0 u.0) (sym k.2) (t.1, u.1))
-                (subst (λ (os : List OrNode). first_sum asked.g asked.p os t.0 ≡ value_at asked.w.values link.first) (sym k.2) (one_least k.0 _ _ t.2 l.0))
-                (subst (λ (os : List OrNode). rest_sum asked.g asked.p os u.0 ≡ value_at asked.w.values link.rest) (sym k.2) (one_least k.1 _ _ u.2 l.1))
+                (subst (λ (os : List OrNode). first_sum asked.g asked.p os t.0 ≡ value_at asked.w.values first_slot) (sym k.2) (one_least k.0 _ _ t.2 l.0))
+                (subst (λ (os : List OrNode). rest_sum asked.g asked.p os u.0 ≡ value_at asked.w.values rest_slot) (sym k.2) (one_least k.1 _ _ u.2 l.1))
                 t.3 u.3
           ]
 
@@ -405,24 +408,24 @@ module _ (v : GraphView) (links : List Link) (best : List ℕ) (m : ℕ) (room :
             let lt = earlier n.0 b n.1 n.2 e in
             omega (arith, lt)
 
-    pub falls-first : slot_left (slice_get best link.first) < node_left (slice_get best m)
+    pub falls-first : slot_left (slice_get best first_slot) < node_left (slice_get best m)
     falls-first = elim kinds [
-      | inl k ↦ kid_falls k.0 linked.kids.0 link.first first_there.0 (subst (λ (os : List OrNode). In k.0 os) (sym k.1) (inl refl)) k.2 linked.first first_there.1
-      | inr k ↦ kid_falls k.0 linked.kids.0 link.first first_there.0 (subst (λ (os : List OrNode). In k.0 os) (sym k.2) (inl refl)) k.3 linked.first first_there.1
+      | inl k ↦ kid_falls k.0 linked.kids.0 first_slot first_there.0 (subst (λ (os : List OrNode). In k.0 os) (sym k.1) (inl refl)) k.2 linked.first first_there.1
+      | inr k ↦ kid_falls k.0 linked.kids.0 first_slot first_there.0 (subst (λ (os : List OrNode). In k.0 os) (sym k.2) (inl refl)) k.3 linked.first first_there.1
     ]
 
-    pub falls-rest : slot_left (slice_get best link.rest) < node_left (slice_get best m)
+    pub falls-rest : slot_left (slice_get best rest_slot) < node_left (slice_get best m)
     falls-rest = elim kinds [
       | inl k ↦ none k
-      | inr k ↦ kid_falls k.1 linked.kids.1 link.rest rest_there.0 (subst (λ (os : List OrNode). In k.1 os) (sym k.2) (inr (inl refl))) k.4 linked.rest rest_there.1
+      | inr k ↦ kid_falls k.1 linked.kids.1 rest_slot rest_there.0 (subst (λ (os : List OrNode). In k.1 os) (sym k.2) (inr (inl refl))) k.4 linked.rest rest_there.1
     ]
       where
-        none : One → slot_left (slice_get best link.rest) < node_left (slice_get best m)
-        none k = subst (λ (q : Option ℕ). slot_left (slice_get best link.rest) < node_left q) (sym has-best) (by (slice_get best link.rest) refl)
+        none : One → slot_left (slice_get best rest_slot) < node_left (slice_get best m)
+        none k = subst (λ (q : Option ℕ). slot_left (slice_get best rest_slot) < node_left q) (sym has-best) (by (slice_get best rest_slot) refl)
           where
-            slot_is : link.rest ≡ length v.nodes
-            slot_is = subst (λ (q : Kid). IsSlot (length v.nodes) asked.w.letters q link.rest) k.3 linked.rest
+            slot_is : rest_slot ≡ length v.nodes
+            slot_is = subst (λ (q : Kid). IsSlot (length v.nodes) asked.w.letters q rest_slot) k.3 linked.rest
 
-            by : (q : Option ℕ) → slice_get best link.rest ≡ q → slot_left q < node_left (Some (slice_index best m))
+            by : (q : Option ℕ) → slice_get best rest_slot ≡ q → slot_left q < node_left (Some (slice_index best m))
             by None e = omega arith
-            by (Some b) e = let lt = slice_get_within best link.rest b e in let c = best_count in let s = slot_is in absurd (omega (arith, lt, c, s))
+            by (Some b) e = let lt = slice_get_within best rest_slot b e in let c = best_count in let s = slot_is in absurd (omega (arith, lt, c, s))

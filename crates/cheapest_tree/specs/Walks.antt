@@ -10,7 +10,7 @@ use Rattle.roster_model.specs.Sound.{IsSound}
 use Rattle.tree_laws.specs.Parts.{use_count}
 use Rattle.arc_terms.specs.OrNodes.{OrNode, name, suffix, leaf}
 use Rattle.parse_graph.specs.Graphs.{GraphView, IsGraph}
-use Rattle.cheapest_tree.specs.declared.slots.Link.{Link}
+use Rattle.cheapest_tree.specs.declared.slots.Links.{Links}
 use Rattle.cheapest_tree.specs.AtNodes.{IsAt, sum_at, NodeLeast}
 use Rattle.cheapest_tree.specs.Pricers.{PricerView, value_at, IsMadeFor, IsFilled}
 
@@ -34,7 +34,7 @@ HasRoom g o room = (t : Parts) → IsAt g o t → length room.steps + use_count 
 
 -- what is asked to write what stands at node m: a filled pricer of which these are the links and the best
 -- arcs, a value of the node, and room
-pub record AsksNode (v : GraphView) (links : List Link) (best : List ℕ) (m : ℕ) (room : RoomView) : Type 0 where
+pub record AsksNode (v : GraphView) (links : Links) (best : List ℕ) (m : ℕ) (room : RoomView) : Type 0 where
   pub g : Grammar
   pub p : PriceView
   pub w : PricerView
@@ -55,15 +55,15 @@ abbrev pub WritesAt : Grammar → PriceView → OrNode → ℕ → RoomView → 
 WritesAt g p o i old new = (t : Parts) × IsAt g o t × NodeLeast g p o (sum_at p o t) × (new ≡ record old { steps = old.steps ++ steps i t })
 
 -- of whatever grammar, prices and values it is asked
-abbrev pub WritesNode : GraphView → List Link → List ℕ → ℕ → RoomView → RoomView → Type 0
+abbrev pub WritesNode : GraphView → Links → List ℕ → ℕ → RoomView → RoomView → Type 0
 WritesNode v links best m old new = (asked : AsksNode v links best m old) → WritesAt asked.g asked.p asked.node (start_of asked.node) old new
 
 -- a slot that is one of a node is asked for as that
-abbrev pub AsksSlot : GraphView → List Link → List ℕ → ℕ → RoomView → Type 0
+abbrev pub AsksSlot : GraphView → Links → List ℕ → ℕ → RoomView → Type 0
 AsksSlot v links best slot room = slot < length best → AsksNode v links best slot room
 
 -- and written as that, and nothing is written for another
-pub record WritesSlot (v : GraphView) (links : List Link) (best : List ℕ) (slot : ℕ) (old new : RoomView) : Type 0 where
+pub record WritesSlot (v : GraphView) (links : Links) (best : List ℕ) (slot : ℕ) (old new : RoomView) : Type 0 where
   pub node : slot < length best → WritesNode v links best slot old new
   pub other : length best ≤ slot → new ≡ old
 

@@ -8,7 +8,7 @@ ghost use Rattle.cheapest_tree.specs.Pricers.{HasGrammar, IsMadeFor, IsFilled};
 ghost use Rattle.cheapest_tree.specs.Passes.{AreBegun};
 
 use crate::cell::Cell;
-use crate::slots::{Link, Spot};
+use crate::slots::{Links, Spot};
 use crate::sums::{self, Choice};
 use parse_graph::Graph;
 use roster_model::{ArcKey, LetterPrice};
@@ -55,7 +55,7 @@ fn begin<P: LetterPrice>(prices: &P, letters: &[Spot], nodes: usize, values: &mu
 pub fn fill<P: LetterPrice>(
     graph: &Graph,
     prices: &P,
-    links: &[Link],
+    links: &Links,
     letters: &[Spot],
     values: &mut [Cell],
     best: &mut [u32],
@@ -67,12 +67,14 @@ pub fn fill<P: LetterPrice>(
 {
     begin(prices, letters, graph.nodes() as usize, values);
     let arcs = graph.arcs();
+    let made_slots = links.made.as_slice();
+    let first_slots = links.first.as_slice();
+    let rest_slots = links.rest.as_slice();
     for place in 0..arcs.len() {
-        let link = links[place];
-        let first = values[link.first as usize].sum();
-        let rest = values[link.rest as usize].sum();
+        let first = values[first_slots[place] as usize].sum();
+        let rest = values[rest_slots[place] as usize].sum();
         let sum = arc_sum(prices, &arcs[place], first, rest);
-        let made = link.made as usize;
+        let made = made_slots[place] as usize;
         let held = Choice {
             sum: values[made].sum(),
             arc: best[made],

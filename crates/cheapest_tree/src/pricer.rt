@@ -9,7 +9,7 @@ ghost use Rattle.cheapest_tree.specs.Pricers.{HasGrammar, IsMadeFor, IsFilled, A
 use crate::cell::Cell;
 use crate::fill::fill;
 use crate::letters::Letters;
-use crate::slots::{Link, Spot};
+use crate::slots::{Links, Spot};
 use crate::walk::write_node;
 use parse_graph::Graph;
 use roster_model::{LetterPrice, List, Memory, TreeRoom};
@@ -19,8 +19,8 @@ use std::marker::Model;
 /// The least sums of all trees of a graph's nodes.
 #[derive(Drop)]
 pub struct Pricer {
-    // The slots that each arc joins.
-    links: List<Link>,
+    // The slots that the arcs join.
+    links: Links,
     // The letters that have slots.
     letters: List<Spot>,
     // The value in each slot: those of the nodes, of nothing, and of the letters.
@@ -46,16 +46,15 @@ impl Pricer {
         ensures { IfOk result (IsMadeFor graph.now) }
     {
         let nodes = graph.nodes();
+        let arcs = graph.arcs().len();
         let mut letters = Letters::new(alloc)?;
-        let mut links = List::new(alloc);
-        for place in 0..graph.arcs().len() {
+        let mut links = Links::with_capacity(alloc, arcs)?;
+        for place in 0..arcs {
             let arc = place as u32;
             let (first, rest) = graph.children(arc);
-            links.push(Link {
-                made: graph.made_by(arc),
-                first: letters.slot(first, nodes)?,
-                rest: letters.slot(rest, nodes)?,
-            })?;
+            let first_slot = letters.slot(first, nodes)?;
+            let rest_slot = letters.slot(rest, nodes)?;
+            links.push(graph.made_by(arc), first_slot, rest_slot)?;
         }
         let letters = letters.into_list();
         let count = nodes as usize + 1 + letters.len();
@@ -87,7 +86,7 @@ impl Pricer {
         fill(
             graph,
             prices,
-            self.links.as_slice(),
+            &self.links,
             self.letters.as_slice(),
             self.values.as_mut_slice(),
             self.best.as_mut_slice(),
@@ -109,12 +108,6 @@ impl Pricer {
         let Some(root) = graph.root() else {
             return;
         };
-        write_node(
-            graph,
-            self.links.as_slice(),
-            self.best.as_slice(),
-            root,
-            room,
-        );
+        write_node(graph, &self.links, self.best.as_slice(), root, room);
     }
 }

@@ -1,3 +1,8 @@
+ghost use Rattle.std.specs.Prelude.{◌≡◌, ◌++◌, ◌∷◌, [], IfOk, OnOk};
+
+use roster_model::{List, Memory};
+use std::alloc::Global;
+
 /// A letter of the day's words at its period.
 #[derive(Clone, Copy, Drop)]
 pub struct Spot {
@@ -7,13 +12,49 @@ pub struct Spot {
     pub period: u8,
 }
 
-/// The slots that an arc joins.
-#[derive(Clone, Copy, Drop)]
-pub struct Link {
-    /// That of the node that the arc makes.
-    pub made: u32,
-    /// That of its first part.
-    pub first: u32,
-    /// That of what follows its first part.
-    pub rest: u32,
+/// The slots that the arcs join, by the places of the arcs: one array for each of the three.
+#[derive(Drop)]
+pub struct Links {
+    /// The slot of the node that each arc makes.
+    pub made: List<u32>,
+    /// The slot of each arc's first part.
+    pub first: List<u32>,
+    /// The slot of what follows each arc's first part.
+    pub rest: List<u32>,
+}
+
+// An empty list that has taken the memory for so many slots.
+fn with_capacity(alloc: Global, count: usize) -> Result<List<u32>, Memory>
+    ensures { IfOk result (λ list. list ≡ []) }
+{
+    match Vec::with_capacity(alloc, count) {
+        Ok(items) => Ok(List::from_vec(items)),
+        Err(_) => Err(Memory),
+    }
+}
+
+impl Links {
+    /// Returns the slots of no arcs, and takes the memory for those of so many.
+    pub fn with_capacity(alloc: Global, count: usize) -> Result<Links, Memory>
+        ensures { IfOk result (λ links. links ≡ record { made = []; first = []; rest = [] }) }
+    {
+        Ok(Links {
+            made: with_capacity(alloc, count)?,
+            first: with_capacity(alloc, count)?,
+            rest: with_capacity(alloc, count)?,
+        })
+    }
+
+    /// Adds the slots of one more arc. After an error only some of them are added.
+    pub fn push(&mut self, made: u32, first: u32, rest: u32) -> Result<(), Memory>
+        ensures { OnOk result (self.new ≡ record {
+          made = self.old.made ++ made ∷ [];
+          first = self.old.first ++ first ∷ [];
+          rest = self.old.rest ++ rest ∷ [];
+        }) }
+    {
+        self.made.push(made)?;
+        self.first.push(first)?;
+        self.rest.push(rest)
+    }
 }

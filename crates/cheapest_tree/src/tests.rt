@@ -48,8 +48,8 @@ const BLOCKS: [RuleParts; 9] = [
     (2, 0, &[REST, IDLE], DAY),
 ];
 
-/// A day of four periods with a demand in each.
-fn day(alloc: Global) -> Result<Instance, AllocError> {
+/// The codes of the letters: working, and at rest.
+fn codes(alloc: Global) -> Result<List<CodeDef>, AllocError> {
     let codes = [
         CodeDef {
             byte: b'a',
@@ -60,10 +60,18 @@ fn day(alloc: Global) -> Result<Instance, AllocError> {
             work: false,
         },
     ];
+    Ok(List::from_vec(codes.to_vec(alloc)?))
+}
+
+fn names(alloc: Global) -> Result<List<List<u8>>, AllocError> {
     let mut names = Vec::new(alloc);
     for name in &["S", "W", "R", "A"] {
         names.push(List::from_vec(name.as_bytes().to_vec(alloc)?))?;
     }
+    Ok(List::from_vec(names))
+}
+
+fn rules(alloc: Global) -> Result<List<Rule>, AllocError> {
     let mut rules = Vec::new(alloc);
     for (left, cost, right, span) in &BLOCKS {
         rules.push(Rule {
@@ -75,6 +83,11 @@ fn day(alloc: Global) -> Result<Instance, AllocError> {
             last: DAY,
         })?;
     }
+    Ok(List::from_vec(rules))
+}
+
+/// A demand in each period.
+fn cells(alloc: Global) -> Result<List<Cell>, AllocError> {
     let cells = [1, 2, 3, 4].map(|period| Cell {
         code: 0,
         period,
@@ -84,18 +97,24 @@ fn day(alloc: Global) -> Result<Instance, AllocError> {
         floor: 0,
         ceiling: 64,
     });
+    Ok(List::from_vec(cells.to_vec(alloc)?))
+}
+
+/// A day of four periods.
+fn day(alloc: Global) -> Result<Instance, AllocError> {
+    let grammar = Grammar {
+        periods: 4,
+        codes: codes(alloc)?,
+        names: names(alloc)?,
+        rules: rules(alloc)?,
+        start: 0,
+    };
     Ok(Instance {
-        grammar: Grammar {
-            periods: 4,
-            codes: List::from_vec(codes.to_vec(alloc)?),
-            names: List::from_vec(names),
-            rules: List::from_vec(rules),
-            start: 0,
-        },
+        grammar,
         heads_min: 0,
         heads_max: 2,
         groups: List::new(alloc),
-        cells: List::from_vec(cells.to_vec(alloc)?),
+        cells: cells(alloc)?,
     })
 }
 
@@ -194,6 +213,20 @@ fn show_prices(rt: &impl Abort, alloc: Global, day: &Instance, graph: &Graph) ->
     Ok(())
 }
 
+/// Shows the steps of the one tree of the last word.
+fn show_steps(rt: &impl Abort, steps: &[Step]) {
+    let uses = [
+        (4, 1, 4),
+        (8, 1, 1),
+        (5, 2, 2),
+        (7, 2, 2),
+        (6, 3, 1),
+        (8, 4, 1),
+    ];
+    let wanted = uses.map(|(rule, start, len)| Step { rule, start, len });
+    assert_eq!(rt; steps, wanted.as_slice());
+}
+
 /// Shows the prices of words, and the one tree of the last of them.
 fn show_words(rt: &impl Abort, alloc: Global, grammar: &Grammar, graph: &Graph) -> Result<(), Fail>
     requires sound { IsSound grammar.now }
@@ -212,16 +245,7 @@ fn show_words(rt: &impl Abort, alloc: Global, grammar: &Grammar, graph: &Graph) 
         let sum = write_cheapest(grammar, graph, &mut pricer, &prices, &mut room);
         assert_eq!(rt; sum, *least);
     }
-    let uses = [
-        (4, 1, 4),
-        (8, 1, 1),
-        (5, 2, 2),
-        (7, 2, 2),
-        (6, 3, 1),
-        (8, 4, 1),
-    ];
-    let steps = uses.map(|(rule, start, len)| Step { rule, start, len });
-    assert_eq!(rt; room.steps(), steps.as_slice());
+    show_steps(rt, room.steps());
     Ok(())
 }
 

@@ -1,7 +1,7 @@
 ghost use Rattle.std.specs.Prelude.{◌≡◌, ◌<◌, ◌++◌, length};
 ghost use Rattle.cheapest_tree.specs.Walks.{steps_of, AsksNode, WritesNode, AsksSlot, WritesSlot};
 
-use crate::slots::Link;
+use crate::slots::Links;
 use parse_graph::Graph;
 use roster_model::{ArcKey, Step, TreeRoom};
 
@@ -21,20 +21,21 @@ fn write_step(arc: &ArcKey, room: &mut TreeRoom)
 
 /// Adds the steps of a tree of least sum of a node, or of parts of least sum. Takes no memory.
 #[cycle(walk)]
-pub fn write_node(graph: &Graph, links: &[Link], best: &[u32], node: u32, room: &mut TreeRoom)
+pub fn write_node(graph: &Graph, links: &Links, best: &[u32], node: u32, room: &mut TreeRoom)
     requires { AsksNode graph.now links.now best.now node room.old }
     ensures { WritesNode graph.now links.now best.now node room.old room.new }
 {
     let arc = best[node as usize] as usize;
-    let link = links[arc];
+    let first = links.first.as_slice()[arc];
+    let rest = links.rest.as_slice()[arc];
     write_step(&graph.arcs()[arc], room);
-    write_slot(graph, links, best, link.first, room);
-    write_slot(graph, links, best, link.rest, room);
+    write_slot(graph, links, best, first, room);
+    write_slot(graph, links, best, rest, room);
 }
 
 // Adds the steps of what is in a slot: those of a node, and none for a letter or for nothing.
 #[cycle(walk)]
-fn write_slot(graph: &Graph, links: &[Link], best: &[u32], slot: u32, room: &mut TreeRoom)
+fn write_slot(graph: &Graph, links: &Links, best: &[u32], slot: u32, room: &mut TreeRoom)
     requires { AsksSlot graph.now links.now best.now slot room.old }
     ensures { WritesSlot graph.now links.now best.now slot room.old room.new }
 {

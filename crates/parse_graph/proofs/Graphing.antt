@@ -30,36 +30,36 @@ at-taken arcs k q b l less e =
     slice_get-get_or (take k arcs) q b (omega (arith, less, length-take-le k arcs l)) ∙ ap Some (get_or-take k arcs q b less ∙ get_or_from_slice_get arcs q b b e)
 
 -- what an arc uses the arcs before it have made
-pub uses-listed : (g : Grammar) (arcs : List ArcKey) (k : ℕ) (a : ArcKey) (listed : List OrNode) (numbers : List ℕ) (pairs : List (Kid × Kid)) (me ue : List Entry)
-    → HasArcs g arcs → slice_get arcs k ≡ Some a → AreLinked g (take k arcs) listed numbers pairs me ue → UsesListed g listed a
-uses-listed g arcs k a listed numbers pairs me ue has at h (leaf l) below = tt
-uses-listed g arcs k a listed numbers pairs me ue has at h (name x i l) below =
+pub uses-listed : (g : Grammar) (arcs : List ArcKey) (k : ℕ) (a : ArcKey) (listed : List OrNode) (numbers : List ℕ) (firsts rests : List Kid) (me ue : List Entry)
+    → HasArcs g arcs → slice_get arcs k ≡ Some a → AreLinked g (take k arcs) listed numbers firsts rests me ue → UsesListed g listed a
+uses-listed g arcs k a listed numbers firsts rests me ue has at h (leaf l) below = tt
+uses-listed g arcs k a listed numbers firsts rests me ue has at h (name x i l) below =
     let b = used-made g a (name x i l) (has.sound k a at) below refl in
     let q = has.whole b.0 b.1 in
     let less = has.upward k q.0 a b.0 at q.1 (subst (λ (o : OrNode). In o (used g a)) (sym b.2) below) in
     let n = h.made_by q.0 b.0 (at-taken arcs k q.0 b.0 (omega (arith, slice_get_within arcs k a at)) less q.1) in
     (n.0, n.2 ∙ ap Some b.2)
-uses-listed g arcs k a listed numbers pairs me ue has at h (suffix r j i l) below =
+uses-listed g arcs k a listed numbers firsts rests me ue has at h (suffix r j i l) below =
     let b = used-made g a (suffix r j i l) (has.sound k a at) below refl in
     let q = has.whole b.0 b.1 in
     let less = has.upward k q.0 a b.0 at q.1 (subst (λ (o : OrNode). In o (used g a)) (sym b.2) below) in
     let n = h.made_by q.0 b.0 (at-taken arcs k q.0 b.0 (omega (arith, slice_get_within arcs k a at)) less q.1) in
     (n.0, n.2 ∙ ap Some b.2)
 
-root-is : (g : Grammar) (arcs : List ArcKey) (listed : List OrNode) (numbers : List ℕ) (pairs : List (Kid × Kid)) (me ue : List Entry) (root : Option ℕ)
-    → HasArcs g arcs → AreLinked g arcs listed numbers pairs me ue → IsPlaceOf listed (root_of g) root → IsRoot g listed root
-root-is g arcs listed numbers pairs me ue None has h none = λ t day.
+root-is : (g : Grammar) (arcs : List ArcKey) (listed : List OrNode) (numbers : List ℕ) (firsts rests : List Kid) (me ue : List Entry) (root : Option ℕ)
+    → HasArcs g arcs → AreLinked g arcs listed numbers firsts rests me ue → IsPlaceOf listed (root_of g) root → IsRoot g listed root
+root-is g arcs listed numbers firsts rests me ue None has h none = λ t day.
     let b = root-made g t day in
     let q = has.whole b.0 b.1 in
     let n = h.made_by q.0 b.0 q.1 in
     none n.0 (n.2 ∙ ap Some b.2)
-root-is g arcs listed numbers pairs me ue (Some n) has h at = at
+root-is g arcs listed numbers firsts rests me ue (Some n) has h at = at
 
 -- the parts make the graph
-pub graph-is : (g : Grammar) (arcs : List ArcKey) (keys : List NodeKey) (numbers : List ℕ) (pairs : List (Kid × Kid)) (me ue : List Entry) (makers users : List (List ℕ)) (root : Option ℕ)
-    → HasArcs g arcs → length arcs ≤ 100000 → AreLinked g arcs (map or_node keys) numbers pairs me ue → AreRows (length keys) me makers → AreRows (length keys) ue users
-    → IsPlaceOf (map or_node keys) (root_of g) root → IsGraph g (record { arcs = arcs; nodes = map or_node keys; made_by = numbers; kids = pairs; makers = makers; users = users; root = root })
-graph-is g arcs keys numbers pairs me ue makers users root has few h rows lists at = record {
+pub graph-is : (g : Grammar) (arcs : List ArcKey) (keys : List NodeKey) (numbers : List ℕ) (firsts rests : List Kid) (me ue : List Entry) (makers users : List (List ℕ)) (root : Option ℕ)
+    → HasArcs g arcs → length arcs ≤ 100000 → AreLinked g arcs (map or_node keys) numbers firsts rests me ue → AreRows (length keys) me makers → AreRows (length keys) ue users
+    → IsPlaceOf (map or_node keys) (root_of g) root → IsGraph g (record { arcs = arcs; nodes = map or_node keys; made_by = numbers; first = firsts; rest = rests; makers = makers; users = users; root = root })
+graph-is g arcs keys numbers firsts rests me ue makers users root has few h rows lists at = record {
   arcs = has;
   few = few;
   nodes = h.nodes;
@@ -67,7 +67,7 @@ graph-is g arcs keys numbers pairs me ue makers users root has few h rows lists 
   kids = h.kids;
   makers = λ n o e. rows.each n (omega (arith, slice_get_within (map or_node keys) n o e, length-map keys or_node)) ∙ ap Some (h.makers n o e);
   users = λ n o e. lists.each n (omega (arith, slice_get_within (map or_node keys) n o e, length-map keys or_node)) ∙ ap Some (h.users n o e);
-  root = root-is g arcs (map or_node keys) numbers pairs me ue root has h at;
+  root = root-is g arcs (map or_node keys) numbers firsts rests me ue root has h at;
 }
 
 -- the arcs of the instance have their shape, and there are as many as were counted

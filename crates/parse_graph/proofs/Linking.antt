@@ -168,13 +168,14 @@ uses-few Nothing num = omega arith
 uses-few (Letter c i) num = omega arith
 uses-few (Node n) num = omega arith
 
-pub linked-none : (g : Grammar) → AreLinked g [] [] [] [] [] []
+pub linked-none : (g : Grammar) → AreLinked g [] [] [] [] [] [] []
 linked-none g = record {
   nodes = record { made = λ n o e. cc; once = λ n m o e f. cc };
   few = omega arith;
   one_each = refl;
   made_by = λ p a e. cc;
-  two_each = refl;
+  first_each = refl;
+  rest_each = refl;
   kids = λ p a e. cc;
   makers = λ n o e. cc;
   users = λ n o e. cc;
@@ -184,7 +185,7 @@ linked-none g = record {
   few_users = omega arith;
 }
 
-module _ (g : Grammar) (arcs : List ArcKey) (listed : List OrNode) (numbers : List ℕ) (pairs : List (Kid × Kid)) (me ue : List Entry) (h : AreLinked g arcs listed numbers pairs me ue)
+module _ (g : Grammar) (arcs : List ArcKey) (listed : List OrNode) (numbers : List ℕ) (firsts rests : List Kid) (me ue : List Entry) (h : AreLinked g arcs listed numbers firsts rests me ue)
     (a : ArcKey) (some : 1 ≤ a.part) (kids : Kid × Kid) (are : AreKids listed (used g a) kids) (more : List OrNode) (n : ℕ) (adds : AddsNode listed (made g a) more n) where
   keep : (m : ℕ) (o : OrNode) → slice_get listed m ≡ Some o → slice_get more m ≡ Some o
   keep m o e = by adds
@@ -269,7 +270,7 @@ module _ (g : Grammar) (arcs : List ArcKey) (listed : List OrNode) (numbers : Li
       by (inl x) = h.users m o x
       by (inr x) =
           items-none m ue (subst (λ (l : ℕ). All (λ (e : Entry). e.row < l) ue) (sym x.0) h.user_rows)
-          ∙ sym (places-none (uses o) 0 arcs (λ p b f. let k = h.kids p b f in among-listed listed o (inner m o e) x.2 (used g b) k.0 k.2))
+          ∙ sym (places-none (uses o) 0 arcs (λ p b f. let k = h.kids p b f in among-listed listed o (inner m o e) x.2 (used g b) k.0 k.3))
 
   -- the arc itself, where it makes the node
   new-maker : (m : ℕ) (o : OrNode) → slice_get more m ≡ Some o → items_of m (entry ∷ []) ≡ cond (makes o a) (length numbers ∷ []) []
@@ -285,7 +286,7 @@ module _ (g : Grammar) (arcs : List ArcKey) (listed : List OrNode) (numbers : Li
   rows-kept es f = All-weaker (λ (e : Entry). e.row < length listed) (λ (e : Entry). e.row < length more) (λ e l. omega (arith, l, longer)) es f
 
   -- one arc more is linked
-  pub linked-more : AreLinked g (arcs ++ a ∷ []) more (numbers ++ n ∷ []) (pairs ++ kids ∷ []) (me ++ record { row = n; item = length numbers } ∷ []) ((ue ++ uses_of kids.0 (length numbers)) ++ uses_of kids.1 (length numbers))
+  pub linked-more : AreLinked g (arcs ++ a ∷ []) more (numbers ++ n ∷ []) (firsts ++ kids.0 ∷ []) (rests ++ kids.1 ∷ []) (me ++ record { row = n; item = length numbers } ∷ []) ((ue ++ uses_of kids.0 (length numbers)) ++ uses_of kids.1 (length numbers))
   linked-more = record {
     nodes = record {
       made = λ m o e. made-at m o (cases m o e);
@@ -294,7 +295,8 @@ module _ (g : Grammar) (arcs : List ArcKey) (listed : List OrNode) (numbers : Li
     few = omega (arith, h.few, grown, length-append arcs (a ∷ []));
     one_each = omega (arith, h.one_each, length-append arcs (a ∷ []), length-append numbers (n ∷ []));
     made_by = λ p b e. number p b (push-cases arcs a b p e);
-    two_each = omega (arith, h.two_each, length-append arcs (a ∷ []), length-append pairs (kids ∷ []));
+    first_each = omega (arith, h.first_each, length-append arcs (a ∷ []), length-append firsts (kids.0 ∷ []));
+    rest_each = omega (arith, h.rest_each, length-append arcs (a ∷ []), length-append rests (kids.1 ∷ []));
     kids = λ p b e. kids-of p b (push-cases arcs a b p e);
     makers = λ m o e.
         items-append m me (entry ∷ [])
@@ -329,16 +331,17 @@ module _ (g : Grammar) (arcs : List ArcKey) (listed : List OrNode) (numbers : Li
       number p b (inl e) = let k = h.made_by p b e in (k.0, push-kept numbers n k.0 p k.1, keep k.0 (made g b) k.2)
       number p b (inr e) = (n, ap (slice_get (numbers ++ n ∷ [])) (e.0 ∙ sym h.one_each) ∙ push-here numbers n, number-at ∙ ap (λ (x : ArcKey). Some (made g x)) (sym e.1))
 
-      kids-of : (p : ℕ) (b : ArcKey) → (slice_get arcs p ≡ Some b) ⊎ ((p ≡ length arcs) × (b ≡ a)) → (k : Kid × Kid) × (slice_get (pairs ++ kids ∷ []) p ≡ Some k) × AreKids more (used g b) k
-      kids-of p b (inl e) = let k = h.kids p b e in (k.0, push-kept pairs kids k.0 p k.1, kids-kept listed more keep (used g b) k.0 k.2)
+      kids-of : (p : ℕ) (b : ArcKey) → (slice_get arcs p ≡ Some b) ⊎ ((p ≡ length arcs) × (b ≡ a)) → (k : Kid × Kid) × (slice_get (firsts ++ kids.0 ∷ []) p ≡ Some k.0) × (slice_get (rests ++ kids.1 ∷ []) p ≡ Some k.1) × AreKids more (used g b) k
+      kids-of p b (inl e) = let k = h.kids p b e in (k.0, push-kept firsts kids.0 k.0.0 p k.1, push-kept rests kids.1 k.0.1 p k.2, kids-kept listed more keep (used g b) k.0 k.3)
       kids-of p b (inr e) = (
         kids,
-        ap (slice_get (pairs ++ kids ∷ [])) (e.0 ∙ sym h.two_each) ∙ push-here pairs kids,
+        ap (slice_get (firsts ++ kids.0 ∷ [])) (e.0 ∙ sym h.first_each) ∙ push-here firsts kids.0,
+        ap (slice_get (rests ++ kids.1 ∷ [])) (e.0 ∙ sym h.rest_each) ∙ push-here rests kids.1,
         subst (λ (x : ArcKey). AreKids more (used g x) kids) (sym e.1) (kids-kept listed more keep (used g a) kids are),
       )
 
   -- the same, each list under its new name
-  pub linked-done : (num : ℕ) → num ≡ length numbers → (numbers2 : List ℕ) → numbers2 ≡ numbers ++ n ∷ [] → (pairs2 : List (Kid × Kid)) → pairs2 ≡ pairs ++ kids ∷ []
+  pub linked-done : (num : ℕ) → num ≡ length numbers → (numbers2 : List ℕ) → numbers2 ≡ numbers ++ n ∷ [] → (firsts2 : List Kid) → firsts2 ≡ firsts ++ kids.0 ∷ [] → (rests2 : List Kid) → rests2 ≡ rests ++ kids.1 ∷ []
       → (me2 : List Entry) → me2 ≡ me ++ record { row = n; item = num } ∷ [] → (mid ue2 : List Entry) → mid ≡ ue ++ uses_of kids.0 num → ue2 ≡ mid ++ uses_of kids.1 num
-      → AreLinked g (arcs ++ a ∷ []) more numbers2 pairs2 me2 ue2
-  linked-done num e numbers2 f pairs2 p me2 q mid ue2 r s = rw (f, p, q, s, r, e) linked-more
+      → AreLinked g (arcs ++ a ∷ []) more numbers2 firsts2 rests2 me2 ue2
+  linked-done num e numbers2 f firsts2 p rests2 o me2 q mid ue2 r s = rw (f, p, o, q, s, r, e) linked-more

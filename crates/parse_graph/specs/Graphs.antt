@@ -13,13 +13,14 @@ use Rattle.parse_graph.specs.declared.kid.Kid.{Kid}
 use Rattle.parse_graph.specs.declared.kid.Kid.TheVariants.{Nothing, Letter, Node}
 
 -- what a contract sees of a graph: the arcs in an order of the graph's own, the nodes that they make,
--- by these numbers the node that each arc makes, the two things below each arc, the arcs that make and
--- those that use each node, and the node of the start name on the whole day
+-- by these numbers the node that each arc makes, the first part of each arc, what follows that part, the
+-- arcs that make and those that use each node, and the node of the start name on the whole day
 pub record GraphView : Type 0 where
   pub arcs : List ArcKey
   pub nodes : List OrNode
   pub made_by : List ℕ
-  pub kids : List (Kid × Kid)
+  pub first : List Kid
+  pub rest : List Kid
   pub makers : List (List ℕ)
   pub users : List (List ℕ)
   pub root : Option ℕ
@@ -74,7 +75,7 @@ pub record IsGraph (g : Grammar) (v : GraphView) : Type 0 where
   pub few : length v.arcs ≤ 100000
   pub nodes : HasNodes g v.arcs v.nodes
   pub made_by : (p : ℕ) (a : ArcKey) → slice_get v.arcs p ≡ Some a → (n : ℕ) × (slice_get v.made_by p ≡ Some n) × (slice_get v.nodes n ≡ Some (made g a))
-  pub kids : (p : ℕ) (a : ArcKey) → slice_get v.arcs p ≡ Some a → (k : Kid × Kid) × (slice_get v.kids p ≡ Some k) × AreKids v.nodes (used g a) k
+  pub kids : (p : ℕ) (a : ArcKey) → slice_get v.arcs p ≡ Some a → (k : Kid × Kid) × (slice_get v.first p ≡ Some k.0) × (slice_get v.rest p ≡ Some k.1) × AreKids v.nodes (used g a) k
   pub makers : (n : ℕ) (o : OrNode) → slice_get v.nodes n ≡ Some o → slice_get v.makers n ≡ Some (places (λ a. same_node o (made g a)) v.arcs)
   pub users : (n : ℕ) (o : OrNode) → slice_get v.nodes n ≡ Some o → slice_get v.users n ≡ Some (places (λ a. is_among o (used g a)) v.arcs)
   pub root : IsRoot g v.nodes v.root

@@ -41,13 +41,14 @@ uses_of (Node n) arc = record { row = n; item = arc } ∷ []
 
 -- the nodes that the arcs make, what each arc makes and uses, and for each node the arcs that make
 -- and use it
-pub record AreLinked (g : Grammar) (arcs : List ArcKey) (listed : List OrNode) (numbers : List ℕ) (pairs : List (Kid × Kid)) (made_entries used_entries : List Entry) : Type 0 where
+pub record AreLinked (g : Grammar) (arcs : List ArcKey) (listed : List OrNode) (numbers : List ℕ) (firsts rests : List Kid) (made_entries used_entries : List Entry) : Type 0 where
   pub nodes : HasNodes g arcs listed
   pub few : length listed ≤ length arcs
   pub one_each : length numbers ≡ length arcs
   pub made_by : (p : ℕ) (a : ArcKey) → slice_get arcs p ≡ Some a → (n : ℕ) × (slice_get numbers p ≡ Some n) × (slice_get listed n ≡ Some (made g a))
-  pub two_each : length pairs ≡ length arcs
-  pub kids : (p : ℕ) (a : ArcKey) → slice_get arcs p ≡ Some a → (k : Kid × Kid) × (slice_get pairs p ≡ Some k) × AreKids listed (used g a) k
+  pub first_each : length firsts ≡ length arcs
+  pub rest_each : length rests ≡ length arcs
+  pub kids : (p : ℕ) (a : ArcKey) → slice_get arcs p ≡ Some a → (k : Kid × Kid) × (slice_get firsts p ≡ Some k.0) × (slice_get rests p ≡ Some k.1) × AreKids listed (used g a) k
   pub makers : (n : ℕ) (o : OrNode) → slice_get listed n ≡ Some o → items_of n made_entries ≡ places (λ a. same_node o (made g a)) arcs
   pub users : (n : ℕ) (o : OrNode) → slice_get listed n ≡ Some o → items_of n used_entries ≡ places (λ a. is_among o (used g a)) arcs
   pub maker_rows : All (λ (e : Entry). e.row < length listed) made_entries
@@ -56,4 +57,4 @@ pub record AreLinked (g : Grammar) (arcs : List ArcKey) (listed : List OrNode) (
   pub few_users : length used_entries ≤ 2 * length arcs
 
 abbrev pub IsLinked : Grammar → List ArcKey → Links → Type 0
-IsLinked g arcs l = AreLinked g arcs (map or_node l.nodes.keys) l.made_by l.kids l.makers l.users
+IsLinked g arcs l = AreLinked g arcs (map or_node l.nodes.keys) l.made_by l.first l.rest l.makers l.users

@@ -31,7 +31,10 @@ pub struct Graph {
     places: List<u32>,
     nodes: List<NodeKey>,
     made_by: List<u32>,
-    kids: List<(Kid, Kid)>,
+    // The first part of each arc.
+    first: List<Kid>,
+    // What follows the first part of each arc.
+    rest: List<Kid>,
     makers: Rows,
     users: Rows,
     root: Option<u32>,
@@ -45,10 +48,10 @@ impl Model for Graph {
 
     ghost Value = { GraphView };
 
-    ghost view = { λ s. record { arcs = s.arcs; nodes = map or_node s.nodes; made_by = s.made_by; kids = s.kids; makers = s.makers; users = s.users; root = s.root } };
+    ghost view = { λ s. record { arcs = s.arcs; nodes = map or_node s.nodes; made_by = s.made_by; first = s.first; rest = s.rest; makers = s.makers; users = s.users; root = s.root } };
 
     ghost invariant = { λ s. AreInOrder s.arcs s.places × (length s.arcs ≤ 100000) × (length s.nodes ≤ 100000)
-        × (length s.made_by ≡ length s.arcs) × (length s.kids ≡ length s.arcs)
+        × (length s.made_by ≡ length s.arcs) × (length s.first ≡ length s.arcs) × (length s.rest ≡ length s.arcs)
         × (length s.makers ≡ length s.nodes) × (length s.users ≡ length s.nodes) };
 }
 
@@ -66,7 +69,8 @@ fn join(alloc: Global, grammar: &Grammar, sorted: Upward) -> Result<Graph, Memor
     let Links {
         nodes,
         made_by,
-        kids,
+        first,
+        rest,
         makers,
         users,
     } = links;
@@ -79,7 +83,8 @@ fn join(alloc: Global, grammar: &Grammar, sorted: Upward) -> Result<Graph, Memor
         places,
         nodes,
         made_by,
-        kids,
+        first,
+        rest,
         makers,
         users,
         root,
@@ -162,9 +167,12 @@ impl Graph {
     /// Returns what is below an arc: its first part, and what follows that part.
     pub fn children(&self, arc: u32) -> (Kid, Kid)
         requires { arc < length self.now.arcs }
-        ensures { slice_get self.now.kids arc ≡ Some result }
+        ensures first { slice_get self.now.first arc ≡ Some result.0 }
+        ensures rest { slice_get self.now.rest arc ≡ Some result.1 }
     {
-        self.kids.as_slice()[arc as usize]
+        let first = self.first.as_slice()[arc as usize];
+        let rest = self.rest.as_slice()[arc as usize];
+        (first, rest)
     }
 
     /// Returns the number of an arc; `None` exactly where it is no arc of the instance.

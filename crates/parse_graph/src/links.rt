@@ -23,8 +23,10 @@ pub struct Links {
     pub nodes: IndexSet<NodeKey>,
     /// For each arc the node that it makes.
     pub made_by: List<u32>,
-    /// For each arc what is below it.
-    pub kids: List<(Kid, Kid)>,
+    /// For each arc its first part.
+    pub first: List<Kid>,
+    /// For each arc what follows its first part.
+    pub rest: List<Kid>,
     /// For each arc the node that it makes and the arc.
     pub makers: List<Entry>,
     /// For each use of a node the node and the arc that uses it.
@@ -133,12 +135,13 @@ fn add_use(users: &mut List<Entry>, kid: Kid, arc: u32) -> Result<(), Memory>
 impl Links {
     // No arcs and no nodes.
     fn new(alloc: Global) -> Links
-        ensures { (result.nodes.keys ≡ []) × (result.made_by ≡ []) × (result.kids ≡ []) × (result.makers ≡ []) × (result.users ≡ []) }
+        ensures { (result.nodes.keys ≡ []) × (result.made_by ≡ []) × (result.first ≡ []) × (result.rest ≡ []) × (result.makers ≡ []) × (result.users ≡ []) }
     {
         Links {
             nodes: IndexSet::new(alloc),
             made_by: List::new(alloc),
-            kids: List::new(alloc),
+            first: List::new(alloc),
+            rest: List::new(alloc),
             makers: List::new(alloc),
             users: List::new(alloc),
         }
@@ -154,16 +157,17 @@ impl Links {
         ensures { OnOk result ((arcs : Items Arc) → IsLinked grammar.now arcs self.old → IsLinked grammar.now (arcs ++ arc.now ∷ []) self.new) }
     {
         let number = self.made_by.len() as u32;
-        let kids = kids_of(grammar, &self.nodes, arc);
+        let (first, rest) = kids_of(grammar, &self.nodes, arc);
         let made = number_of(&mut self.nodes, made_key(grammar, arc))?;
         self.made_by.push(made)?;
-        self.kids.push(kids)?;
+        self.first.push(first)?;
+        self.rest.push(rest)?;
         self.makers.push(Entry {
             row: made,
             item: number,
         })?;
-        add_use(&mut self.users, kids.0, number)?;
-        add_use(&mut self.users, kids.1, number)?;
+        add_use(&mut self.users, first, number)?;
+        add_use(&mut self.users, rest, number)?;
         Ok(())
     }
 }

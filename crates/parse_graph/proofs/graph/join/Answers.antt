@@ -17,7 +17,7 @@ returns c =
     let u1 = subst (λ (n : ℕ). AreRows n c.as_slice-3.result.now c.in_ok-users.users) c.len-2.ensures c.in_ok-users.ensures in
     let u2 = subst (λ (es : List Entry). AreRows (length c.in_ok-nodes.nodes) es c.in_ok-users.users) c.as_slice-3.ensures u1 in
     let l1 = subst (λ (xs : List ArcKey). IsLinked c.args.grammar.now xs c.in_ok-links.links) c.as_slice.ensures c.in_ok-links.ensures in
-    let l2 = subst (λ (ks : List NodeKey). AreLinked c.args.grammar.now c.args.sorted.arcs (map or_node ks) c.in_ok-links.links.made_by c.in_ok-links.links.kids c.in_ok-links.links.makers c.in_ok-links.links.users) (sym c.in_ok-nodes.ensures) l1 in
+    let l2 = subst (λ (ks : List NodeKey). AreLinked c.args.grammar.now c.args.sorted.arcs (map or_node ks) c.in_ok-links.links.made_by c.in_ok-links.links.first c.in_ok-links.links.rest c.in_ok-links.links.makers c.in_ok-links.links.users) (sym c.in_ok-nodes.ensures) l1 in
     let at = subst (λ (ks : List NodeKey). IsPlaceOf (map or_node ks) (root_of c.args.grammar.now) c.root_of-root.result) (sym c.in_ok-nodes.ensures) c.root_of-root.ensures in
-    graph-is c.args.grammar.now c.args.sorted.arcs c.in_ok-nodes.nodes links.made_by links.kids links.makers links.users c.in_ok-makers.makers c.in_ok-users.users c.root_of-root.result
+    graph-is c.args.grammar.now c.args.sorted.arcs c.in_ok-nodes.nodes links.made_by links.first links.rest links.makers links.users c.in_ok-makers.makers c.in_ok-users.users c.root_of-root.result
     c.requires.arcs c.requires.few l2 m2 u2 at

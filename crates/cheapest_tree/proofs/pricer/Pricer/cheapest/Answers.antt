@@ -43,7 +43,7 @@ returns-clause-filled g c = λ g2 sound graph.
     (subst (λ (q : List (Option ℤ)). IsFilled g2 (g.P.LetterPrice.view c.args.prices.now) c.args.graph.now
     (record { links = c.self.inside.links; letters = c.self.inside.letters; values = q; best = c.fill.new.best }))
     (sym (take_at c.fill.new.values (drop (length c.fill.new.values) c.self.inside.values.items) c.self.inside.values.len (omega arith)))
-    (rw (← c.as_slice.ensures, ← c.as_slice-2.ensures) (c.fill.ensures.filled g2 sound graph)))
+    (rw (← c.as_slice.ensures) (c.fill.ensures.filled g2 sound graph)))
 
 pub returns-clause-kept : goal.returns-clause-kept
 returns-clause-kept g c = λ v made.
