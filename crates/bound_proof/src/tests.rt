@@ -1,11 +1,13 @@
-ghost use Rattle.std.specs.Prelude.{IfOk};
+ghost use Rattle.std.specs.Prelude.{◌≤◌, length, IfOk};
 ghost use Rattle.roster_model.specs.SoundInstance.{IsSoundInstance};
+ghost use Rattle.bound_proof.specs.PieceList.{Follows};
 
 use crate::{
     CertRoom, Node, Piece, PieceFault, Pieces, ProofFault, fault_line, read_cert, write_cert,
 };
+use certificates::Cert;
 use roster_model::{
-    ArcKey, Cell, CodeDef, Grammar, Group, Instance, List, Mult, Prices, Rule, Sym, Window,
+    ArcKey, Cell, CodeDef, Grammar, Group, Instance, List, Mult, Prices, Rule, Shift, Sym, Window,
     is_sound_instance,
 };
 use std::alloc::{AllocError, Global};
@@ -17,16 +19,91 @@ const A: Sym = Sym::Code(0);
 
 const REST: Sym = Sym::Code(1);
 
-fn rule(alloc: Global, left: u8, cost: u32, right: &[Sym]) -> Result<Rule, AllocError> {
-    Ok(Rule {
-        left,
-        cost,
-        right: List::from_vec(right.to_vec(alloc)?),
-        span: DAY,
-        first: DAY,
-        last: DAY,
-    })
+/// A rule: its left side, its cost and its right side.
+type RuleParts = (u8, u32, &'static [Sym]);
+
+/// The parts of a day.
+#[derive(Clone, Copy, Drop)]
+struct Parts {
+    periods: u8,
+    codes: &'static [CodeDef],
+    names: &'static [&'static str],
+    rules: &'static [RuleParts],
+    start: u8,
+    heads: (u32, u32),
+    groups: &'static [Group],
+    /// The demanded codes, whose prices are due in this order.
+    demanded: &'static [u8],
 }
+
+const BYTE_A: CodeDef = CodeDef {
+    byte: b'a',
+    work: true,
+};
+
+const BYTE_REST: CodeDef = CodeDef {
+    byte: b'.',
+    work: false,
+};
+
+const BYTE_B: CodeDef = CodeDef {
+    byte: b'b',
+    work: true,
+};
+
+/// A day of three periods with one name, of whose two work codes one is demanded.
+const PLAIN: Parts = Parts {
+    periods: 3,
+    codes: &[BYTE_A, BYTE_REST, BYTE_B],
+    names: &["S"],
+    rules: &[
+        (0, 2, &[A, A, REST]),
+        (0, 2, &[REST, A, A]),
+        (0, 2, &[A, REST, A]),
+    ],
+    start: 0,
+    heads: (0, 3),
+    groups: &[],
+    demanded: &[0],
+};
+
+/// The same day with both work codes demanded.
+const BOTH_DEMANDED: Parts = Parts {
+    demanded: &[2, 0],
+    ..PLAIN
+};
+
+/// A day of two periods with the groups `F`, 0 to 1 employees, and `H`, 1 to 2. Its base cuts are a
+/// Low and a High one of each but the High one of `F`.
+const GROUPED: Parts = Parts {
+    periods: 2,
+    codes: &[BYTE_A, BYTE_REST],
+    names: &["S", "F", "H", "*"],
+    rules: &[
+        (0, 0, &[Sym::Name(1)]),
+        (0, 0, &[Sym::Name(2)]),
+        (1, 3, &[A, A]),
+        (2, 1, &[A, REST]),
+        (2, 1, &[REST, A]),
+        (3, 0, &[Sym::Name(1)]),
+        (3, 0, &[Sym::Name(2)]),
+    ],
+    start: 3,
+    heads: (1, 3),
+    groups: &[
+        Group {
+            name: 1,
+            heads_min: 0,
+            heads_max: 1,
+        },
+        Group {
+            name: 2,
+            heads_min: 1,
+            heads_max: 2,
+        },
+    ],
+    demanded: &[0],
+};
 
 fn names(alloc: Global, names: &[&str]) -> Result<List<List<u8>>, AllocError> {
     let mut list = Vec::new(alloc);
@@ -36,7 +113,21 @@ fn names(alloc: Global, names: &[&str]) -> Result<List<List<u8>>, AllocError> {
     Ok(List::from_vec(list))
 }
 
-// The prices of two codes are due in the order of these cells.
+fn rules(alloc: Global, rules: &[RuleParts]) -> Result<List<Rule>, AllocError> {
+    let mut list = Vec::new(alloc);
+    for (left, cost, right) in rules {
+        list.push(Rule {
+            left: *left,
+            cost: *cost,
+            right: List::from_vec(right.to_vec(alloc)?),
+            span: DAY,
+            first: DAY,
+            last: DAY,
+        })?;
+    }
+    Ok(List::from_vec(list))
+}
+
 fn cells(alloc: Global, codes: &[u8], periods: u8) -> Result<List<Cell>, AllocError> {
     let mut cells = Vec::new(alloc);
     for code in codes {
@@ -55,111 +146,30 @@ fn cells(alloc: Global, codes: &[u8], periods: u8) -> Result<List<Cell>, AllocEr
     Ok(List::from_vec(cells))
 }
 
-// A day of three periods with one name, whose two work codes are demanded in this order.
-fn plain(alloc: Global, demanded: &[u8]) -> Result<Instance, AllocError> {
-    let codes = [
-        CodeDef {
-            byte: b'a',
-            work: true,
-        },
-        CodeDef {
-            byte: b'.',
-            work: false,
-        },
-        CodeDef {
-            byte: b'b',
-            work: true,
-        },
-    ];
-    let mut rules = Vec::new(alloc);
-    for right in [[A, A, REST], [REST, A, A], [A, REST, A]] {
-        rules.push(rule(alloc, 0, 2, right.as_slice())?)?;
-    }
-    Ok(Instance {
-        grammar: Grammar {
-            periods: 3,
-            codes: List::from_vec(codes.as_slice().to_vec(alloc)?),
-            names: names(alloc, ["S"].as_slice())?,
-            rules: List::from_vec(rules),
-            start: 0,
-        },
-        heads_min: 0,
-        heads_max: 3,
-        groups: List::new(alloc),
-        cells: cells(alloc, demanded, 3)?,
+fn grammar(alloc: Global, parts: &Parts) -> Result<Grammar, AllocError> {
+    Ok(Grammar {
+        periods: parts.periods,
+        codes: List::from_vec(parts.codes.to_vec(alloc)?),
+        names: names(alloc, parts.names)?,
+        rules: rules(alloc, parts.rules)?,
+        start: parts.start,
     })
 }
 
-const GROUPED: [(u8, u32, Sym, Option<Sym>); 7] = [
-    (0, 0, Sym::Name(1), None),
-    (0, 0, Sym::Name(2), None),
-    (1, 3, A, Some(A)),
-    (2, 1, A, Some(REST)),
-    (2, 1, REST, Some(A)),
-    (3, 0, Sym::Name(1), None),
-    (3, 0, Sym::Name(2), None),
-];
-
-fn rule_of(
-    alloc: Global,
-    left: u8,
-    cost: u32,
-    first: Sym,
-    second: Option<Sym>,
-) -> Result<Rule, AllocError> {
-    match second {
-        Some(second) => rule(alloc, left, cost, [first, second].as_slice()),
-        None => rule(alloc, left, cost, [first].as_slice()),
-    }
-}
-
-// A day of two periods with the groups `F`, 0 to 1 employees, and `H`, 1 to 2. Its base cuts are a
-// Low and a High one of each but the High one of `F`.
-fn grouped(alloc: Global) -> Result<Instance, AllocError> {
-    let codes = [
-        CodeDef {
-            byte: b'a',
-            work: true,
-        },
-        CodeDef {
-            byte: b'.',
-            work: false,
-        },
-    ];
-    let groups = [
-        Group {
-            name: 1,
-            heads_min: 0,
-            heads_max: 1,
-        },
-        Group {
-            name: 2,
-            heads_min: 1,
-            heads_max: 2,
-        },
-    ];
-    let mut rules = Vec::new(alloc);
-    for (left, cost, first, second) in GROUPED {
-        rules.push(rule_of(alloc, left, cost, first, second)?)?;
-    }
+fn day(alloc: Global, parts: &Parts) -> Result<Instance, AllocError> {
     Ok(Instance {
-        grammar: Grammar {
-            periods: 2,
-            codes: List::from_vec(codes.as_slice().to_vec(alloc)?),
-            names: names(alloc, ["S", "F", "H", "*"].as_slice())?,
-            rules: List::from_vec(rules),
-            start: 3,
-        },
-        heads_min: 1,
-        heads_max: 3,
-        groups: List::from_vec(groups.as_slice().to_vec(alloc)?),
-        cells: cells(alloc, [0].as_slice(), 2)?,
+        grammar: grammar(alloc, parts)?,
+        heads_min: parts.heads.0,
+        heads_max: parts.heads.1,
+        groups: List::from_vec(parts.groups.to_vec(alloc)?),
+        cells: cells(alloc, parts.demanded, parts.periods)?,
     })
 }
 
-fn sound(instance: Instance) -> Result<Instance, Fail>
+fn sound(alloc: Global, parts: &Parts) -> Result<Instance, Fail>
     ensures { IfOk result IsSoundInstance }
 {
+    let instance = day(alloc, parts)?;
     if !is_sound_instance(&instance) {
         return Err(Fail::from("not sound"));
     }
@@ -176,19 +186,39 @@ fn answer(alloc: Global, instance: &Instance, text: &[u8]) -> Result<List<u8>, F
     }
 }
 
-// Whether the texts are refused with these fault lines; an accepted text has none.
-fn compare(
+// Whether a text is refused with this fault line; an accepted text has none.
+fn answers(alloc: Global, instance: &Instance, text: &str, want: &str) -> Result<(), Fail>
+    requires { IsSoundInstance instance.now }
+{
+    let said = answer(alloc, instance, text.as_bytes())?;
+    if said.as_slice() != want.as_bytes() {
+        return Err(Fail::from(text));
+    }
+    Ok(())
+}
+
+/// A text behind some first lines, and its fault line; an accepted text has none.
+type Row<'a> = (&'a str, &'a str);
+
+// Whether the text of these two parts has this fault line.
+fn joined_answers(
     alloc: Global,
     instance: &Instance,
-    rows: &[(&'static str, &'static str)],
+    head: &str,
+    rest: &str,
+    want: &str,
 ) -> Result<(), Fail>
     requires { IsSoundInstance instance.now }
 {
-    for (text, want) in rows {
-        let said = answer(alloc, instance, text.as_bytes())?;
-        if said.as_slice() != want.as_bytes() {
-            return Err(Fail::from(*text));
-        }
+    let text = [head, rest].concat(alloc)?;
+    answers(alloc, instance, text.as_str(), want)
+}
+
+// Whether the texts, all behind the same first lines, have these fault lines.
+fn compare(alloc: Global, parts: &Parts, head: &str, rows: &[Row]) -> Result<(), Fail> {
+    let instance = sound(alloc, parts)?;
+    for (lines, want) in rows {
+        joined_answers(alloc, &instance, head, lines, want)?;
     }
     Ok(())
 }
@@ -197,23 +227,35 @@ fn compare(
 const SPLIT: &'static str = "proof 1\ncost 4\nbound 4\nshift .aa 2\nshift aa. 2\nsplit 1 0 1 3 1 0
 priced 1\nprice a 2 2 0\nmult 1 2\npriced 1\nprice a 0 0 2\nmult 1 2\nend\n";
 
+// Whether so many bytes of the text are accepted.
+fn accepts(alloc: Global, instance: &Instance, bytes: usize) -> Result<bool, Fail>
+    requires { IsSoundInstance instance.now }
+{
+    let Some(text) = SPLIT.as_bytes().get(..bytes) else {
+        return Err(Fail::from("no such text"));
+    };
+    Ok(answer(alloc, instance, text)?.is_empty())
+}
+
+// Whether the text is accepted from so many bytes on.
+fn accepts_from(alloc: Global, bytes: usize) -> Result<bool, Fail> {
+    let instance = sound(alloc, &PLAIN)?;
+    for end in 0..SPLIT.len() + 1 {
+        if accepts(alloc, &instance, end)? != (bytes <= end) {
+            return Ok(false);
+        }
+    }
+    Ok(true)
+}
+
 #[test]
 fn texts_that_end_early(rt: HostRuntime) -> Result<(), Fail> {
-    let instance = sound(plain(rt.alloc(), [0].as_slice())?)?;
-    let text = SPLIT.as_bytes();
-    assert!(rt; text.len() == 133);
-    for end in 0..132 {
-        let said = answer(rt.alloc(), &instance, &text[..end])?;
-        assert!(rt; !said.is_empty());
-    }
-    for end in 132..134 {
-        let said = answer(rt.alloc(), &instance, &text[..end])?;
-        assert!(rt; said.is_empty());
-    }
+    assert!(rt; SPLIT.len() == 133);
+    assert!(rt; accepts_from(rt.alloc(), 132)?);
     Ok(())
 }
 
-const TEXTS: [(&'static str, &'static str); 26] = [
+const TEXTS: [Row; 26] = [
     ("", "proof: the text ends early\n"),
     ("proof 7", "proof: line 1: bad header\n"),
     ("proof 2", "proof: line 1: bad header\n"),
@@ -295,29 +337,13 @@ const TEXTS: [(&'static str, &'static str); 26] = [
 
 #[test]
 fn texts(rt: HostRuntime) -> Result<(), Fail> {
-    let instance = sound(plain(rt.alloc(), [0].as_slice())?)?;
-    compare(rt.alloc(), &instance, TEXTS.as_slice())
+    compare(rt.alloc(), &PLAIN, "", &TEXTS)
 }
 
-// Whether the texts whose trees have these lines are refused with these fault lines.
-fn compare_trees(
-    alloc: Global,
-    instance: &Instance,
-    rows: &[(&'static str, &'static str)],
-) -> Result<(), Fail>
-    requires { IsSoundInstance instance.now }
-{
-    for (lines, want) in rows {
-        let text = format!(in alloc; "proof 1\ncost none\nbound 0\n{lines}")?;
-        let said = answer(alloc, instance, text.as_bytes())?;
-        if said.as_slice() != want.as_bytes() {
-            return Err(Fail::from(*lines));
-        }
-    }
-    Ok(())
-}
+// The lines before those of the nodes.
+const HEAD: &'static str = "proof 1\ncost none\nbound 0\n";
 
-const NODES: [(&'static str, &'static str); 38] = [
+const NODES: [Row; 38] = [
     ("pinned\nend", ""),
     ("bare bare", "proof: line 4: unknown line\n"),
     ("priced", "proof: line 4: unknown line\n"),
@@ -405,11 +431,10 @@ const NODES: [(&'static str, &'static str); 38] = [
 
 #[test]
 fn nodes(rt: HostRuntime) -> Result<(), Fail> {
-    let instance = sound(plain(rt.alloc(), [0].as_slice())?)?;
-    compare_trees(rt.alloc(), &instance, NODES.as_slice())
+    compare(rt.alloc(), &PLAIN, HEAD, &NODES)
 }
 
-const ORDERS: [(&'static str, &'static str); 5] = [
+const ORDERS: [Row; 5] = [
     ("priced 1\nprice b 1 2 3\nprice a 4 5 6\nend", ""),
     (
         "priced 1\nprice a 1 2 3\nprice b 4 5 6\nend",
@@ -428,11 +453,10 @@ const ORDERS: [(&'static str, &'static str); 5] = [
 
 #[test]
 fn demanded_codes_stand_in_order(rt: HostRuntime) -> Result<(), Fail> {
-    let instance = sound(plain(rt.alloc(), [2, 0].as_slice())?)?;
-    compare_trees(rt.alloc(), &instance, ORDERS.as_slice())
+    compare(rt.alloc(), &BOTH_DEMANDED, HEAD, &ORDERS)
 }
 
-const GROUPS: [(&'static str, &'static str); 9] = [
+const GROUPS: [Row; 9] = [
     ("proof 1", "proof: line 1: bad header\n"),
     (
         "proof 2\ncost 4\nbound 4\nshift F aa 3\nshift H a. 1\npriced 2\nprice a 3 3\nmult 2 1\nend",
@@ -470,135 +494,196 @@ const GROUPS: [(&'static str, &'static str); 9] = [
 
 #[test]
 fn groups(rt: HostRuntime) -> Result<(), Fail> {
-    let instance = sound(grouped(rt.alloc())?)?;
-    compare(rt.alloc(), &instance, GROUPS.as_slice())
+    compare(rt.alloc(), &GROUPED, "", &GROUPS)
+}
+
+// A part that stands so many times, and the rest.
+fn repeated(alloc: Global, part: &str, times: usize, rest: &str) -> Result<String, AllocError> {
+    let parts = part.repeat(alloc, times)?;
+    [parts.as_str(), rest].concat(alloc)
+}
+
+// Whether a text with a part that stands so many times has this fault line.
+fn compare_repeated(
+    alloc: Global,
+    head: &str,
+    part: &str,
+    times: usize,
+    rest: &str,
+    want: &str,
+) -> Result<(), Fail> {
+    let lines = repeated(alloc, part, times, rest)?;
+    compare(alloc, &PLAIN, head, &[(lines.as_str(), want)])
 }
 
 #[test]
 fn many_lines(rt: HostRuntime) -> Result<(), Fail> {
-    let instance = sound(plain(rt.alloc(), [0].as_slice())?)?;
-    let mut text = String::from_str(rt.alloc(), "proof 1\ncost 1\nbound 1\n")?;
-    for _ in 0..64 {
-        text.push_str("shift aa. 2\n")?;
-    }
-    text.push_str("shift a x\n")?;
-    let said = answer(rt.alloc(), &instance, text.as_bytes())?;
-    assert!(rt; said.as_slice() == b"proof: line 68: out of range\n".as_slice());
-    let mut text = String::from_str(rt.alloc(), "proof 1\ncost 1\nbound 1\nshift ")?;
-    for _ in 0..97 {
-        text.push('a')?;
-    }
-    text.push_str(" x\n")?;
-    let said = answer(rt.alloc(), &instance, text.as_bytes())?;
-    assert!(rt; said.as_slice() == b"proof: line 4: out of range\n".as_slice());
-    Ok(())
+    compare_repeated(
+        rt.alloc(),
+        "proof 1\ncost 1\nbound 1\n",
+        "shift aa. 2\n",
+        64,
+        "shift a x\n",
+        "proof: line 68: out of range\n",
+    )
 }
 
-// A text with so many splits and one more leaf, and the `end` line.
-fn tree_text(alloc: Global, splits: u32) -> Result<String, AllocError> {
-    let mut text = String::from_str(alloc, "proof 1\ncost none\nbound 0\n")?;
-    for _ in 0..splits {
-        text.push_str("split 1 0 1 3 1 0\n")?;
-    }
-    for _ in 0..splits {
-        text.push_str("bare\n")?;
-    }
-    text.push_str("bare\nend\n")?;
-    Ok(text)
+#[test]
+fn long_words(rt: HostRuntime) -> Result<(), Fail> {
+    compare_repeated(
+        rt.alloc(),
+        "proof 1\ncost 1\nbound 1\nshift ",
+        "a",
+        97,
+        " x\n",
+        "proof: line 4: out of range\n",
+    )
+}
+
+// Whether a text with so many splits and one more leaf has this fault line.
+fn compare_splits(alloc: Global, splits: usize, want: &str) -> Result<(), Fail> {
+    let leaves = repeated(alloc, "bare\n", splits, "bare\nend\n")?;
+    compare_repeated(
+        alloc,
+        HEAD,
+        "split 1 0 1 3 1 0\n",
+        splits,
+        leaves.as_str(),
+        want,
+    )
 }
 
 #[test]
 fn many_nodes(rt: HostRuntime) -> Result<(), Fail> {
-    let instance = sound(plain(rt.alloc(), [0].as_slice())?)?;
-    let text = tree_text(rt.alloc(), 10_000)?;
-    let said = answer(rt.alloc(), &instance, text.as_bytes())?;
-    assert!(rt; said.is_empty());
-    let text = tree_text(rt.alloc(), 10_001)?;
-    let said = answer(rt.alloc(), &instance, text.as_bytes())?;
-    assert!(rt;
-        said.as_slice() == b"proof: line 20005: too many nodes, at most 20001\n".as_slice()
-    );
-    Ok(())
+    compare_splits(rt.alloc(), 10_000, "")
 }
 
-fn arc_of(node: &Node) -> Option<(ArcKey, u32)> {
-    match node {
-        Node::Split { arc, b, .. } => Some((*arc, *b)),
-        _ => None,
-    }
-}
-
-fn prices_of(node: &Node) -> Option<&Prices> {
-    match node {
-        Node::Split {
-            prices: Some(prices),
-            ..
-        }
-        | Node::Priced { prices } => Some(prices),
-        _ => None,
-    }
+#[test]
+fn too_many_nodes(rt: HostRuntime) -> Result<(), Fail> {
+    compare_splits(
+        rt.alloc(),
+        10_001,
+        "proof: line 20005: too many nodes, at most 20001\n",
+    )
 }
 
 const READ: &'static str = "proof 1\ncost 4\nbound none\nshift .aa 2\nsplit 1 0 1 3 2 5 7
 price a -2 2 0\npinned\npriced 9\nprice a 0 0 2\nmult 1 3\nend\n";
 
+fn read(alloc: Global) -> Result<Cert, Fail> {
+    let instance = sound(alloc, &PLAIN)?;
+    Ok(read_cert(alloc, &instance, READ.as_bytes())?)
+}
+
+fn is_first_shift(shifts: &[Shift], group: u8, word: &[u8], price: u64) -> bool {
+    match shifts.first() {
+        Some(shift) => {
+            shift.group == group && shift.price == price && shift.word.as_slice() == word
+        }
+        None => false,
+    }
+}
+
 #[test]
 fn rosters_are_read(rt: HostRuntime) -> Result<(), Fail> {
-    let instance = sound(plain(rt.alloc(), [0].as_slice())?)?;
-    let cert = read_cert(rt.alloc(), &instance, READ.as_bytes())?;
+    let cert = read(rt.alloc())?;
     assert!(rt; cert.cost == Some(4));
     assert!(rt; cert.bound == None);
-    let shift = cert.shifts.as_slice().first().expect(&rt, "a shift");
-    assert!(rt; shift.group == 0 && shift.price == 2);
-    assert!(rt; shift.word.as_slice() == b".aa".as_slice());
+    assert!(rt; is_first_shift(cert.shifts.as_slice(), 0, b".aa", 2));
     Ok(())
+}
+
+fn are_prices(prices: &Prices, d: u64, cell: &[i128], mult: &[Mult]) -> bool {
+    prices.d == d && prices.cell.as_slice() == cell && prices.mult.as_slice() == mult
+}
+
+const ARC: ArcKey = ArcKey {
+    rule: 1,
+    suffix: 0,
+    start: 1,
+    len: 3,
+    part: 2,
+};
+
+fn is_split(node: &Node) -> bool {
+    match node {
+        Node::Split {
+            arc,
+            b,
+            prices: Some(prices),
+        } => *arc == ARC && *b == 5 && are_prices(prices, 7, &[-2, 2, 0], &[]),
+        _ => false,
+    }
+}
+
+fn is_priced(node: &Node) -> bool {
+    match node {
+        Node::Priced { prices } => are_prices(prices, 9, &[0, 0, 2], &[Mult { cut: 1, value: 3 }]),
+        _ => false,
+    }
 }
 
 #[test]
 fn nodes_are_read(rt: HostRuntime) -> Result<(), Fail> {
-    let instance = sound(plain(rt.alloc(), [0].as_slice())?)?;
-    let cert = read_cert(rt.alloc(), &instance, READ.as_bytes())?;
+    let cert = read(rt.alloc())?;
     let nodes = cert.nodes.as_slice();
     assert!(rt; nodes.len() == 3);
-    let arc = ArcKey {
-        rule: 1,
-        suffix: 0,
-        start: 1,
-        len: 3,
-        part: 2,
-    };
-    assert!(rt; arc_of(&nodes[0]) == Some((arc, 5)));
-    let prices = prices_of(&nodes[0]).expect(&rt, "prices");
-    assert!(rt; prices.d == 7 && prices.mult.is_empty());
-    assert!(rt; prices.cell.as_slice() == [-2, 2, 0].as_slice());
-    let prices = prices_of(&nodes[2]).expect(&rt, "prices");
-    assert!(rt; prices.mult.as_slice() == [Mult { cut: 1, value: 3 }].as_slice());
+    assert!(rt; is_split(&nodes[0]));
+    assert!(rt; is_priced(&nodes[2]));
     Ok(())
+}
+
+/// What a reader gives at a call.
+type Given = Option<Result<Piece, PieceFault>>;
+
+// Whether the next calls give this.
+fn gives(pieces: &mut Pieces<'_>, instance: &Instance, room: &mut CertRoom, wants: &[Given]) -> bool
+    requires sound { IsSoundInstance instance.now }
+    requires made { length instance.now.cells ≤ room.old.most }
+    requires follows { Follows pieces.old room.old.halves }
+{
+    for want in wants {
+        if pieces.next(instance, room) != *want {
+            return false;
+        }
+    }
+    true
+}
+
+const GIVEN: [Given; 6] = [
+    Some(Ok(Piece::Cost(Some(4)))),
+    Some(Ok(Piece::Bound(Some(4)))),
+    Some(Ok(Piece::Shift { group: 2, price: 1 })),
+    Some(Ok(Piece::Priced)),
+    Some(Err(PieceFault::Trailing { line: 9 })),
+    None,
+];
+
+fn holds(room: &CertRoom, word: &[u8], d: u64, cells: &[i128], mults: &[Mult]) -> bool {
+    room.word() == word && room.d() == d && room.cells() == cells && room.mults() == mults
+}
+
+// Whether the pieces of a text come as they are to, and the room then holds the last of them.
+fn are_read(instance: &Instance, room: &mut CertRoom) -> bool
+    requires sound { IsSoundInstance instance.now }
+    requires made { length instance.now.cells ≤ room.old.most }
+{
+    let mut pieces = Pieces::new(
+        b"proof 2\ncost 4\nbound 4\nshift H a. 1\npriced 2\nprice a 3 -3\nmult 2 1\nend\nbare",
+    );
+    gives(&mut pieces, instance, room, &GIVEN)
+        && holds(room, b"a.", 2, &[3, -3], &[Mult { cut: 2, value: 1 }])
+}
+
+fn reads_pieces(alloc: Global) -> Result<bool, Fail> {
+    let instance = sound(alloc, &GROUPED)?;
+    let mut room = CertRoom::for_instance(alloc, &instance)?;
+    Ok(are_read(&instance, &mut room))
 }
 
 #[test]
 fn pieces(rt: HostRuntime) -> Result<(), Fail> {
-    let instance = sound(grouped(rt.alloc())?)?;
-    let mut room = CertRoom::for_instance(rt.alloc(), &instance)?;
-    let mut pieces = Pieces::new(
-        b"proof 2\ncost 4\nbound 4\nshift H a. 1\npriced 2\nprice a 3 -3\nmult 2 1\nend\nbare",
-    );
-    let cost = pieces.next(&instance, &mut room);
-    assert!(rt; cost == Some(Ok(Piece::Cost(Some(4)))));
-    let bound = pieces.next(&instance, &mut room);
-    assert!(rt; bound == Some(Ok(Piece::Bound(Some(4)))));
-    let shift = pieces.next(&instance, &mut room);
-    assert!(rt; shift == Some(Ok(Piece::Shift { group: 2, price: 1 })));
-    let leaf = pieces.next(&instance, &mut room);
-    assert!(rt; leaf == Some(Ok(Piece::Priced)));
-    let end = pieces.next(&instance, &mut room);
-    assert!(rt; end == Some(Err(PieceFault::Trailing { line: 9 })));
-    let none = pieces.next(&instance, &mut room);
-    assert!(rt; none.is_none());
-    assert!(rt; room.word() == b"a.".as_slice());
-    assert!(rt; room.d() == 2);
-    assert!(rt; room.cells() == [3, -3].as_slice());
-    assert!(rt; room.mults() == [Mult { cut: 2, value: 1 }].as_slice());
+    assert!(rt; reads_pieces(rt.alloc())?);
     Ok(())
 }
 
@@ -617,13 +702,17 @@ fn again(alloc: Global, instance: &Instance, text: &[u8]) -> Result<List<u8>, Fa
     Ok(write_cert(alloc, instance, &cert)?)
 }
 
+// Whether the certificate that a text says is written as the same text.
+fn is_written_again(alloc: Global, parts: &Parts, text: &str) -> Result<bool, Fail> {
+    let instance = sound(alloc, parts)?;
+    let written = again(alloc, &instance, text.as_bytes())?;
+    Ok(written.as_slice() == text.as_bytes())
+}
+
 #[test]
 fn certificates_are_written(rt: HostRuntime) -> Result<(), Fail> {
-    let instance = sound(plain(rt.alloc(), [0].as_slice())?)?;
-    let said = again(rt.alloc(), &instance, SPLIT.as_bytes())?;
-    assert!(rt; said.as_slice() == SPLIT.as_bytes());
-    let said = again(rt.alloc(), &instance, READ.as_bytes())?;
-    assert!(rt; said.as_slice() == READ.as_bytes());
+    assert!(rt; is_written_again(rt.alloc(), &PLAIN, SPLIT)?);
+    assert!(rt; is_written_again(rt.alloc(), &PLAIN, READ)?);
     Ok(())
 }
 
@@ -632,8 +721,6 @@ price a 3 -3\nmult 2 1\nbare\npinned\nend\n";
 
 #[test]
 fn texts_of_groups_are_written(rt: HostRuntime) -> Result<(), Fail> {
-    let instance = sound(grouped(rt.alloc())?)?;
-    let said = again(rt.alloc(), &instance, GROUPED_TEXT.as_bytes())?;
-    assert!(rt; said.as_slice() == GROUPED_TEXT.as_bytes());
+    assert!(rt; is_written_again(rt.alloc(), &GROUPED, GROUPED_TEXT)?);
     Ok(())
 }
