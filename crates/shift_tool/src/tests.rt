@@ -26,6 +26,34 @@ rule S 3 = T T
 rule T 0 = 'a'
 ";
 
+const G3: &str = "periods 24
+work a b
+idle . p m
+start S
+rule S 0 = D
+rule S 0 = O D
+rule S 0 = D O
+rule S 0 = O D O
+rule D 20 = B L B 'p' B len 8 16
+rule D 20 = B 'p' B L B len 8 16
+rule B 0 = X len 2 8
+rule B 0 = Y len 2 8
+rule X 1 = 'a'
+rule X 1 = 'a' X
+rule Y 1 = 'b'
+rule Y 1 = 'b' Y
+rule L 0 = 'm' 'm' begin 9 14
+rule O 0 = '.'
+rule O 0 = '.' O
+";
+
+const G5: &str = "periods 10
+work a
+start S
+rule S 0 = 'a'
+rule S 0 = S S
+";
+
 pub const CYCLE: &str = "periods 4
 start A
 rule A 0 = B
@@ -75,7 +103,15 @@ const CASES: [(&[&str], u8, &str); 15] = [
 
 fn shelf(alloc: Global, failing: &[u32]) -> Result<MemoryShelf, Fail> {
     let mut shelf = MemoryShelf::new(alloc, failing.to_vec(alloc)?);
-    for (name, text) in [("g1", G1), ("g4", G4), ("cycle", CYCLE), ("empty", "")] {
+    let texts = [
+        ("g1", G1),
+        ("g3", G3),
+        ("g4", G4),
+        ("g5", G5),
+        ("cycle", CYCLE),
+        ("empty", ""),
+    ];
+    for (name, text) in texts {
         shelf.put(name, text.as_bytes())?;
     }
     Ok(shelf)
@@ -99,6 +135,38 @@ fn words_have_their_answers(rt: HostRuntime) -> Result<(), Fail> {
         assert_eq!(rt; answer, status, "{words:?}");
         assert_eq!(rt; shelf.said(), said.as_bytes(), "{words:?}");
         assert_eq!(rt; shelf.faults(), u64::from(status == 6), "{words:?}");
+    }
+    Ok(())
+}
+
+// A word by rules, what is said of it first, and how many rule uses are said.
+const LONGER: [(&str, &str, &str, usize); 2] = [
+    (
+        "g3",
+        "....aaaammaapaa.........",
+        "word ....aaaammaapaa.........\ncost 28\n",
+        27,
+    ),
+    ("g5", "aaaaaaaaaa", "word aaaaaaaaaa\ncost 0\n", 19),
+];
+
+/// Returns how many lines tell a rule use.
+fn uses(text: &[u8]) -> usize {
+    text.split(|byte| *byte == b'\n')
+        .filter(|line| line.starts_with(b"use "))
+        .count()
+}
+
+#[test]
+fn longer_words_have_their_costs(rt: HostRuntime) -> Result<(), Fail> {
+    let alloc = rt.alloc();
+    for (rules, word, first, count) in LONGER {
+        let mut shelf = shelf(alloc, &[])?;
+        let words = owned(alloc, &["explain", rules, word])?;
+        let answer = run(alloc, &mut shelf, words.as_slice());
+        assert_eq!(rt; answer, 0, "{word}");
+        assert!(rt; shelf.said().starts_with(first.as_bytes()), "{word}");
+        assert_eq!(rt; uses(shelf.said()), count, "{word}");
     }
     Ok(())
 }
