@@ -1,6 +1,6 @@
 // The price of a word by a rules text, in plain Rust: the recurrence of the proved table (least sums
-// by symbol or suffix and span, bottom up, a first part at the lengths that windows allow), with bounds
-// checks and panics where Rust has them.
+// by symbol or suffix and span, bottom up, split only where both parts have sums), with bounds checks
+// and panics where Rust has them.
 // Words: RULES WORD. Prints the cost, or `no derivation`.
 use std::collections::HashMap;
 
@@ -81,8 +81,10 @@ struct Table<'a> {
     slots: Vec<Slot>,
     names: Vec<usize>,
     suffixes: Vec<usize>,
-    lengths: Vec<(u8, u8)>,
+    rules: Vec<Vec<usize>>,
     cells: Vec<i128>,
+    ends: Vec<u128>,
+    starts: Vec<u128>,
 }
 
 fn add(a: i128, b: i128) -> i128 {
@@ -104,10 +106,22 @@ impl Table<'_> {
         }
     }
 
-    fn symbol_lengths(&self, symbol: Sym) -> (u8, u8) {
+    fn symbol_ends(&self, symbol: Sym, start: u8) -> u128 {
         match symbol {
-            Sym::Code(_) => (1, 1),
-            Sym::Name(name) => self.lengths[self.names[name]],
+            Sym::Code(_) => 1 << (start + 1),
+            Sym::Name(name) => self.ends[start as usize * self.slots.len() + self.names[name]],
+        }
+    }
+
+    fn rest_starts(&self, rule: usize, from: usize, end: u8) -> u128 {
+        let right = &self.grammar.rules[rule].right;
+        let row = end as usize * self.slots.len();
+        if from + 1 < right.len() {
+            return self.starts[row + self.suffixes[rule] + (from - 1)];
+        }
+        match right[from] {
+            Sym::Code(_) => 1 << (end - 1),
+            Sym::Name(name) => self.starts[row + self.names[name]],
         }
     }
 
@@ -122,18 +136,12 @@ impl Table<'_> {
     }
 
     fn split(&self, rule: usize, from: usize, start: u8, len: u8) -> i128 {
-        let right = &self.grammar.rules[rule].right;
-        let symbol = right[from];
-        let first = self.symbol_lengths(symbol);
-        let others = if from + 2 == right.len() {
-            self.symbol_lengths(right[from + 1])
-        } else {
-            self.lengths[self.suffixes[rule] + from]
-        };
-        let begin = first.0.max(len.saturating_sub(others.1)).max(1);
-        let end = first.1.saturating_add(1).min((len + 1).saturating_sub(others.0)).min(len);
+        let symbol = self.grammar.rules[rule].right[from];
+        let mut points = self.symbol_ends(symbol, start) & self.rest_starts(rule, from + 1, start + len);
         let mut best = NONE;
-        for part in begin..end {
+        while points != 0 {
+            let part = points.trailing_zeros() as u8 - start;
+            points &= points - 1;
             let a = self.symbol(symbol, start, part);
             let b = self.rest(rule, from + 1, start + part, len - part);
             let sum = add(a, b);
@@ -146,11 +154,12 @@ impl Table<'_> {
 
     fn name(&self, name: usize, start: u8, len: u8) -> i128 {
         let mut best = NONE;
-        for (number, rule) in self.grammar.rules.iter().enumerate() {
+        for &number in &self.rules[name] {
+            let rule = &self.grammar.rules[number];
             let [span, first, last] = rule.windows;
             let end = start + len - 1;
-            let stands = rule.left == name
-                && span.0 <= len && len <= span.1
+            let stands = span.0 <= len
+                && len <= span.1
                 && first.0 <= start && start <= first.1
                 && last.0 <= end && end <= last.1;
             if !stands {
@@ -178,42 +187,17 @@ impl Table<'_> {
                         Slot::OfName(name) => self.name(name, start, len),
                         Slot::OfSuffix(rule, from) => self.split(rule, from, start, len),
                     };
-                    self.cells[place * self.slots.len() + slot] = sum;
+                    let width = self.slots.len();
+                    self.cells[place * width + slot] = sum;
+                    if sum != NONE {
+                        self.ends[start as usize * width + slot] |= 1 << (start + len);
+                        self.starts[(start + len) as usize * width + slot] |= 1 << start;
+                    }
                 }
                 place += 1;
             }
         }
     }
-}
-
-// The lengths of the parts of symbols, by those of the names.
-fn parts_lengths(names: &[(u8, u8)], symbols: &[Sym]) -> (u8, u8) {
-    symbols.iter().fold((0, 0), |sum: (u8, u8), symbol| {
-        let (least, most) = match symbol {
-            Sym::Code(_) => (1, 1),
-            Sym::Name(name) => names[*name],
-        };
-        (sum.0.saturating_add(least), sum.1.saturating_add(most))
-    })
-}
-
-// The lengths of each name's trees: those of the day, narrowed once for each name by its rules.
-fn name_lengths(grammar: &Grammar) -> Vec<(u8, u8)> {
-    let mut names = vec![(1, grammar.periods); grammar.names.len()];
-    for _ in 0..grammar.names.len() {
-        for name in 0..names.len() {
-            let mut all = (u8::MAX, 0);
-            for rule in grammar.rules.iter().filter(|rule| rule.left == name) {
-                let [span, first, last] = rule.windows;
-                let parts = parts_lengths(&names, &rule.right);
-                let least = span.0.max((last.0 + 1).saturating_sub(first.1)).max(parts.0);
-                let most = span.1.min((last.1 + 1).saturating_sub(first.0)).min(parts.1);
-                all = (all.0.min(least), all.1.max(most));
-            }
-            names[name] = all;
-        }
-    }
-    names
 }
 
 // The names, a one-symbol rule's right name before its left one.
@@ -255,15 +239,12 @@ fn main() {
         slots.push(Slot::OfName(name));
     }
     let cells = vec![NONE; n * (n + 1) / 2 * slots.len()];
-    let of_names = name_lengths(&grammar);
-    let lengths = slots
-        .iter()
-        .map(|slot| match *slot {
-            Slot::OfName(name) => of_names[name],
-            Slot::OfSuffix(rule, from) => parts_lengths(&of_names, &grammar.rules[rule].right[from..]),
-        })
+    let rules = (0..grammar.names.len())
+        .map(|name| (0..grammar.rules.len()).filter(|rule| grammar.rules[*rule].left == name).collect())
         .collect();
-    let mut table = Table { grammar: &grammar, word, slots, names, suffixes, lengths, cells };
+    let ends = vec![0; (n + 2) * slots.len()];
+    let starts = ends.clone();
+    let mut table = Table { grammar: &grammar, word, slots, names, suffixes, rules, cells, ends, starts };
     table.fill();
     match table.symbol(Sym::Name(grammar.start), 1, grammar.periods) {
         NONE => println!("no derivation"),
