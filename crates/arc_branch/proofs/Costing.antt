@@ -12,19 +12,19 @@ use Rattle.roster_model.specs.Folds.{sum_n, count, Each, In}
 use Rattle.roster_model.specs.Limits.{IsDayCell}
 use Rattle.roster_model.specs.SoundInstance.{IsSoundInstance}
 use Rattle.roster_model.proofs.SoundCells.{cells_of_day}
-use Rattle.arc_terms.specs.OrNodes.{OrNode, name, suffix, leaf, same_node, made, used, root_of}
-use Rattle.arc_terms.specs.Lists.{AreArcs}
-use Rattle.arc_terms.specs.Balance.{made_sum, used_sum}
-use Rattle.arc_terms.specs.Counts.{AreCounts, counts_cost, letter_count, top_cost}
-use Rattle.arc_terms.proofs.Counting.{counted}
-use Rattle.arc_terms.proofs.Folding.{sum_n-same, Each-same, Each-in}
-use Rattle.arc_terms.proofs.SameArc.{rising-once}
-use Rattle.node_terms.specs.Pinned.{IsPinnedValue}
+use Rattle.arc_laws.specs.OrNodes.{OrNode, name, suffix, leaf, same_node, made, used, root_of}
+use Rattle.arc_laws.specs.Lists.{AreArcs}
+use Rattle.arc_laws.specs.Balance.{made_sum, used_sum}
+use Rattle.arc_laws.specs.Counts.{AreCounts, counts_cost, letter_count, top_cost}
+use Rattle.arc_laws.proofs.Counting.{counted}
+use Rattle.arc_laws.proofs.Folding.{sum_n-same, Each-same, Each-in}
+use Rattle.arc_laws.proofs.SameArc.{rising-once}
+use Rattle.bound_laws.specs.Pinned.{IsPinnedValue}
 use Rattle.parse_graph.specs.Graphs.{GraphView, HasArcs, IsGraph}
-use Rattle.pinned_value.specs.Net.{IsNet, AreAllowed, cell_size}
-use Rattle.pinned_value.proofs.Netting.{allowed-counts, counts-allowed, penalties-same}
-use Rattle.pinned_value.proofs.Placing.{made-placed, used-placed}
-use Rattle.pinned_value.proofs.Touched.{AreNodesPlaced}
+use Rattle.pinned_part.specs.Net.{IsNet, AreAllowed, cell_size}
+use Rattle.pinned_part.proofs.Netting.{allowed-counts, counts-allowed, penalties-same}
+use Rattle.pinned_part.proofs.Placing.{made-placed, used-placed}
+use Rattle.pinned_part.proofs.Touched.{AreNodesPlaced}
 use Rattle.arc_branch.specs.Boxes.{BoxView}
 use Rattle.arc_branch.specs.Costs.{low_of, IsCostOf, pinned_number}
 use Rattle.arc_branch.specs.Paths.{IsBoxOf}

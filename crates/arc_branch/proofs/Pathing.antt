@@ -10,8 +10,8 @@ use Rattle.roster_model.specs.declared.instance.Side.{Side}
 use Rattle.roster_model.specs.declared.instance.Side.TheVariants.{Low, High}
 use Rattle.roster_model.specs.Arcs.{same_arc, IsArc}
 use Rattle.roster_model.specs.Cuts.{lo, hi, at_least, at_most}
-use Rattle.arc_terms.proofs.SameArc.{Told, arc_tells, same_arc-refl}
-use Rattle.node_terms.specs.Pinned.{IsPinned}
+use Rattle.arc_laws.proofs.SameArc.{Told, arc_tells, same_arc-refl}
+use Rattle.bound_laws.specs.Pinned.{IsPinned}
 use Rattle.parse_graph.specs.Graphs.{GraphView, IsGraph}
 use Rattle.arc_branch.specs.declared.bounds.Bounds.{Bounds}
 use Rattle.arc_branch.specs.Boxes.{BoxView, bounds_at, halved, IsPinnedBox, IsFirstLoose}

@@ -6,7 +6,7 @@ use Rattle.std.proofs.lemmas.Option.{same_Some}
 use Rattle.roster_model.specs.declared.grammar.ArcKey.{ArcKey}
 use Rattle.roster_model.specs.Folds.{count, In}
 use Rattle.roster_model.specs.Arcs.{same_arc}
-use Rattle.arc_terms.proofs.SameArc.{Told, arc_tells, same_arc-refl}
+use Rattle.arc_laws.proofs.SameArc.{Told, arc_tells, same_arc-refl}
 use Rattle.arc_branch.specs.declared.bounds.Bounds.{Bounds}
 use Rattle.arc_branch.specs.Boxes.{bounds_at, IsSmall}
 use Rattle.arc_branch.specs.Costs.{low_of}

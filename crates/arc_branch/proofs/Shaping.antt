@@ -7,19 +7,19 @@ use Rattle.roster_model.specs.declared.grammar.Rule.{Rule}
 use Rattle.roster_model.specs.declared.grammar.Sym.{Sym}
 use Rattle.roster_model.specs.declared.grammar.Sym.TheVariants.{Code, Name}
 use Rattle.roster_model.specs.Grammar.{rule_at}
-use Rattle.roster_model.specs.Trees.{Parts, done, letter, uses, covers, Derive, IsDayTree}
+use Rattle.roster_model.specs.Trees.{Parts, done, letter, uses, span_length, Derive, IsDayTree}
 use Rattle.roster_model.specs.Sums.{arc}
 use Rattle.roster_model.specs.Folds.{In}
 use Rattle.roster_model.specs.Arcs.{arcs, parts_arcs, arc_of_part, IsArc}
-use Rattle.arc_terms.proofs.Balanced.{drop-next}
-use Rattle.arc_terms.proofs.Folding.{In-append}
+use Rattle.arc_laws.proofs.Balanced.{drop-next}
+use Rattle.arc_laws.proofs.Folding.{In-append}
 use Rattle.span_table.proofs.Plugging.{some-covered}
-use Rattle.pinned_value.specs.Places.{IsShaped}
+use Rattle.pinned_part.specs.Places.{IsShaped}
 
 module _ (g : Grammar) (a : ArcKey) where
   module _ (r : ℕ) (rule : Rule) (at : rule_at g r ≡ Some rule) where
     -- the arc of a part that begins the suffix
-    arc_shaped : (k i n : ℕ) (s : Sym) (ss : List Sym) (rest : Parts) → drop k rule.right ≡ s ∷ ss → Derive g ss (i + n) rest → 1 ≤ i → 1 ≤ n → i + (n + covers rest) ≤ g.periods + 1
+    arc_shaped : (k i n : ℕ) (s : Sym) (ss : List Sym) (rest : Parts) → drop k rule.right ≡ s ∷ ss → Derive g ss (i + n) rest → 1 ≤ i → 1 ≤ n → i + (n + span_length rest) ≤ g.periods + 1
         → a ≡ arc r k i n rest → IsShaped g a
     arc_shaped k i n s ss rest e d begins some fits is =
         let long = length-drop k rule.right in
@@ -34,11 +34,11 @@ module _ (g : Grammar) (a : ArcKey) where
           others = λ two. let more = followed ss d (omega (arith, long, here, two)) in omega (arith, more);
         })
       where
-        followed : (xs : List Sym) → Derive g xs (i + n) rest → 1 ≤ length xs → 1 ≤ covers rest
+        followed : (xs : List Sym) → Derive g xs (i + n) rest → 1 ≤ length xs → 1 ≤ span_length rest
         followed [] d h = absurd (omega arith)
         followed (x ∷ xs) d h = some-covered g x xs (i + n) rest d
 
-    part_shaped : (k i n : ℕ) (s : Sym) (ss : List Sym) (rest : Parts) → drop k rule.right ≡ s ∷ ss → Derive g ss (i + n) rest → 1 ≤ i → 1 ≤ n → i + (n + covers rest) ≤ g.periods + 1
+    part_shaped : (k i n : ℕ) (s : Sym) (ss : List Sym) (rest : Parts) → drop k rule.right ≡ s ∷ ss → Derive g ss (i + n) rest → 1 ≤ i → 1 ≤ n → i + (n + span_length rest) ≤ g.periods + 1
         → In a (arc_of_part r k i n rest) → IsShaped g a
     part_shaped zero i n s ss rest e d begins some fits (inl is) = arc_shaped zero i n s ss rest e d begins some fits is
     part_shaped zero i n s ss rest e d begins some fits (inr none) = absurd none
@@ -58,7 +58,7 @@ module _ (g : Grammar) (a : ArcKey) where
   of_some r k i rule (s ∷ tail) t f e d h = f s tail e d h
 
   parts_shaped : (t : Parts) (r k i : ℕ) (rule : Rule) (s : Sym) (ss : List Sym) → rule_at g r ≡ Some rule → drop k rule.right ≡ s ∷ ss → Derive g (s ∷ ss) i t
-      → 1 ≤ i → i + covers t ≤ g.periods + 1 → In a (parts_arcs r k i t) → IsShaped g a
+      → 1 ≤ i → i + span_length t ≤ g.periods + 1 → In a (parts_arcs r k i t) → IsShaped g a
   parts_shaped done r k i rule (Code c) ss at e d begins fits h = absurd d
   parts_shaped done r k i rule (Name x) ss at e d begins fits h = absurd d
   parts_shaped (letter c rest) r k i rule (Name x) ss at e d begins fits h = absurd d

@@ -8,12 +8,12 @@ use Rattle.std.proofs.lemmas.Option.{slice_get-get_or}
 use Rattle.roster_model.specs.declared.grammar.ArcKey.{ArcKey}
 use Rattle.roster_model.specs.declared.grammar.Grammar.{Grammar}
 use Rattle.roster_model.specs.Folds.{sum_n}
-use Rattle.arc_terms.specs.Counts.{top_cost}
-use Rattle.arc_terms.proofs.Folding.{sum_n-append}
+use Rattle.arc_laws.specs.Counts.{top_cost}
+use Rattle.arc_laws.proofs.Folding.{sum_n-append}
 use Rattle.parse_graph.specs.Graphs.{HasArcs}
-use Rattle.pinned_value.specs.Net.{IsCounted, IsNet, size_at}
-use Rattle.pinned_value.specs.Places.{IsShaped}
-use Rattle.pinned_value.proofs.Netting.{net-step, net-small}
+use Rattle.pinned_part.specs.Net.{IsCounted, IsNet, size_at}
+use Rattle.pinned_part.specs.Places.{IsShaped}
+use Rattle.pinned_part.proofs.Netting.{net-step, net-small}
 use Rattle.arc_branch.specs.declared.bounds.Bounds.{Bounds}
 use Rattle.arc_branch.specs.Boxes.{bounds_at, IsSmall}
 use Rattle.arc_branch.specs.Costs.{low_of}

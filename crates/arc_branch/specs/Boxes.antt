@@ -4,7 +4,7 @@ use Rattle.roster_model.specs.declared.instance.Instance.{Instance}
 use Rattle.roster_model.specs.declared.instance.Side.{Side}
 use Rattle.roster_model.specs.declared.instance.Side.TheVariants.{Low, High}
 use Rattle.parse_graph.specs.Graphs.{GraphView}
-use Rattle.pinned_value.specs.Places.{place_count}
+use Rattle.pinned_part.specs.Places.{place_count}
 use Rattle.arc_branch.specs.declared.bounds.Bounds.{Bounds}
 
 -- the bounds of the arcs by the arcs' numbers, and how many places the box has to balance counts

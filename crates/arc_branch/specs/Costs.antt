@@ -4,7 +4,7 @@ use Rattle.roster_model.specs.declared.grammar.ArcKey.{ArcKey}
 use Rattle.roster_model.specs.declared.instance.Instance.{Instance}
 use Rattle.roster_model.specs.Arcs.{same_arc}
 use Rattle.roster_model.specs.GreatestCost.{greatest_cost}
-use Rattle.arc_terms.specs.Counts.{AreCounts, counts_cost}
+use Rattle.arc_laws.specs.Counts.{AreCounts, counts_cost}
 use Rattle.arc_branch.specs.declared.bounds.Bounds.{Bounds}
 
 -- the least count of an arc, by the arcs and their bounds in one order

@@ -2,16 +2,16 @@ ghost use Rattle.std.specs.Prelude.{◌≡◌, ◌≤◌, ◌*◌, ◌^◌, All,
 ghost use Rattle.roster_model.specs.Folds.{sum_n};
 ghost use Rattle.roster_model.specs.Sound.{IsSound};
 ghost use Rattle.roster_model.specs.SoundInstance.{IsSoundInstance};
-ghost use Rattle.arc_terms.specs.Counts.{top_cost};
+ghost use Rattle.arc_laws.specs.Counts.{top_cost};
 ghost use Rattle.parse_graph.specs.Graphs.{HasArcs, IsGraph};
-ghost use Rattle.pinned_value.specs.Net.{IsNet};
-ghost use Rattle.pinned_value.specs.Places.{place_count};
+ghost use Rattle.pinned_part.specs.Net.{IsNet};
+ghost use Rattle.pinned_part.specs.Places.{place_count};
 ghost use Rattle.arc_branch.specs.Boxes.{IsSmall};
 ghost use Rattle.arc_branch.specs.Costs.{low_of, IsCostOf};
 
 use crate::bounds::Bounds;
 use parse_graph::Graph;
-use pinned_value::{allowed_penalties, arc_cost, clear, count_arc};
+use pinned_part::{allowed_penalties, arc_cost, clear, count_arc};
 use roster_model::{ArcKey, Grammar, Instance};
 
 // Counts each arc by its least count at the places of the nodes that it makes and uses, and returns

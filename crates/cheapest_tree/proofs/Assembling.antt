@@ -6,15 +6,15 @@ use Rattle.roster_model.specs.declared.grammar.Grammar.{Grammar}
 use Rattle.roster_model.specs.declared.grammar.Step.{Step}
 use Rattle.roster_model.specs.declared.grammar.Sym.{Sym}
 use Rattle.roster_model.specs.declared.grammar.Sym.TheVariants.{Code, Name}
-use Rattle.roster_model.specs.Trees.{Parts, done, uses, covers, On, steps}
+use Rattle.roster_model.specs.Trees.{Parts, done, uses, span_length, On, steps}
 use Rattle.roster_model.specs.Sums.{PriceView, plus, tree_sum, parts_sum}
 use Rattle.tree_laws.specs.Laws.{arc_at}
 use Rattle.tree_laws.specs.Parts.{use_count, beside}
 use Rattle.tree_laws.proofs.Splits.{joined}
 use Rattle.tree_laws.proofs.Ends.{last_sum, only_sum, rooted}
 use Rattle.tree_laws.proofs.Size.{steps-beside, use_count-beside}
-use Rattle.arc_terms.specs.OrNodes.{OrNode, left_of, right_of, made, symbol_node, used_by, used}
-use Rattle.arc_terms.proofs.Balanced.{left_of-is, right_of-is, drop-next}
+use Rattle.arc_laws.specs.OrNodes.{OrNode, left_of, right_of, made, symbol_node, used_by, used}
+use Rattle.arc_laws.proofs.Balanced.{left_of-is, right_of-is, drop-next}
 use Rattle.cheapest_tree.specs.AtNodes.{IsAt, sum_at, arc_total}
 use Rattle.cheapest_tree.specs.Walks.{steps_of}
 use Rattle.cheapest_tree.proofs.Standing.{Standing, IsCut, Fits}
@@ -68,7 +68,7 @@ module _ (g : Grammar) (p : PriceView) where
     two k s x ss t u v w less ht hu ev ew =
         let fits : m + (l - m) ≡ l = omega (arith, less) in
         let j = joined g p r k i m (l - m) l x ss fits s t u ht hu in
-        let cov : i + covers t ≡ i + m = ap (λ (q : ℕ). i + q) ht.1 in
+        let cov : i + span_length t ≡ i + m = ap (λ (q : ℕ). i + q) ht.1 in
         record {
           parts = beside t u;
           on = j.0;

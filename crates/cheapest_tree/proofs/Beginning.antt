@@ -9,7 +9,7 @@ use Rattle.roster_model.specs.Sums.{PriceView, IsLeast, AtMost, tree_sum}
 use Rattle.tree_laws.specs.Parts.{use_count}
 use Rattle.tree_laws.proofs.Bounds.{few-steps}
 use Rattle.tree_laws.proofs.Size.{length-steps}
-use Rattle.arc_terms.specs.OrNodes.{root_of}
+use Rattle.arc_laws.specs.OrNodes.{root_of}
 use Rattle.parse_graph.specs.Graphs.{GraphView, IsRoot}
 use Rattle.cheapest_tree.specs.declared.slots.Links.{Links}
 use Rattle.cheapest_tree.specs.Pricers.{PricerView, value_at, IsMadeFor, AsksTree, HoldsLeastTree}

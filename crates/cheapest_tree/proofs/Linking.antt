@@ -8,7 +8,7 @@ use Rattle.roster_model.specs.declared.grammar.ArcKey.{ArcKey}
 use Rattle.roster_model.specs.declared.grammar.Grammar.{Grammar}
 use Rattle.roster_model.specs.Sound.{IsSound}
 use Rattle.roster_model.specs.Sums.{PriceView, Within, AllWithin, IsLesser}
-use Rattle.arc_terms.specs.OrNodes.{made, used}
+use Rattle.arc_laws.specs.OrNodes.{made, used}
 use Rattle.parse_graph.specs.Graphs.{GraphView, IsGraph, AreKids}
 use Rattle.parse_graph.specs.declared.kid.Kid.{Kid}
 use Rattle.parse_graph.specs.declared.kid.Kid.TheVariants.{Nothing, Letter, Node}

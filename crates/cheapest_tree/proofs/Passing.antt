@@ -15,7 +15,7 @@ use Rattle.roster_model.specs.Sums.{PriceView, Within, AllWithin, IsLeast, IsLes
 use Rattle.tree_laws.proofs.Least.{IsLeast-empty, IsLeast-same, IsLeast-union}
 use Rattle.tree_laws.proofs.Ends.{code-least, last_sum}
 use Rattle.tree_laws.proofs.Bounds.{sum-small}
-use Rattle.arc_terms.specs.OrNodes.{OrNode, name, suffix, leaf, made, used, root_of}
+use Rattle.arc_laws.specs.OrNodes.{OrNode, name, suffix, leaf, made, used, root_of}
 use Rattle.parse_graph.specs.Graphs.{GraphView, IsGraph, IsKid, AreKids, IsRoot}
 use Rattle.parse_graph.specs.declared.kid.Kid.{Kid}
 use Rattle.cheapest_tree.specs.declared.slots.Spot.{Spot}

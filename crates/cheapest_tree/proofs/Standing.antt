@@ -6,12 +6,12 @@ use Rattle.roster_model.specs.declared.grammar.Rule.{Rule}
 use Rattle.roster_model.specs.declared.grammar.Sym.{Sym}
 use Rattle.roster_model.specs.declared.grammar.Sym.TheVariants.{Code, Name}
 use Rattle.roster_model.specs.Grammar.{rule_at, Stands, InDay}
-use Rattle.roster_model.specs.Trees.{Parts, done, letter, uses, covers, Derive, On}
+use Rattle.roster_model.specs.Trees.{Parts, done, letter, uses, span_length, Derive, On}
 use Rattle.roster_model.specs.Folds.{In}
 use Rattle.roster_model.specs.Arcs.{arcs, parts_arcs, IsArc}
 use Rattle.tree_laws.specs.Laws.{arc_at}
 use Rattle.tree_laws.specs.Parts.{beside}
-use Rattle.arc_terms.proofs.Balanced.{drop-next}
+use Rattle.arc_laws.proofs.Balanced.{drop-next}
 use Rattle.span_table.specs.Marks.{TreesStand, PartsStand}
 use Rattle.span_table.proofs.Plugging.{In-either, some-covered, beside-arcs, last-arcs, only-arcs, first-stands, rest-stands, last-stands, only-stands, right-stands}
 use Rattle.span_table.proofs.Marking.{day-stands}
@@ -119,13 +119,13 @@ module _ (g : Grammar) where
   standing (letter d (uses q z inner rest)) r k rule at (Code c ∷ []) e i l day on here a has = absurd on.0.1
   standing (letter d rest) r k rule at (Code c ∷ x ∷ ss) e i l day on here a has =
       let one : On g (Code c ∷ []) i 1 (letter d done) = ((on.0.0, tt), refl) in
-      let others : On g (x ∷ ss) (i + 1) (covers rest) rest = (on.0.1, refl) in
+      let others : On g (x ∷ ss) (i + 1) (span_length rest) rest = (on.0.1, refl) in
       let some = some-covered g x ss (i + 1) rest on.0.1 in
-      let sum : 1 + covers rest ≡ l = on.1 in
+      let sum : 1 + span_length rest ≡ l = on.1 in
       let all = parts_stand r rule at k (Code c ∷ x ∷ ss) i l e day.some here in
-      let tail = rest-stands g r k i 1 (covers rest) l x ss sum (Code c) all (letter d done, one) in
-      of_two r rule at k (Code c) x ss i l 1 (covers rest) (letter d done) rest a e day here sum (omega arith) some one others (λ h. absurd h)
-      (standing rest r (suc k) rule at (x ∷ ss) (drop-next k rule.right (Code c) (x ∷ ss) e) (i + 1) (covers rest)
+      let tail = rest-stands g r k i 1 (span_length rest) l x ss sum (Code c) all (letter d done, one) in
+      of_two r rule at k (Code c) x ss i l 1 (span_length rest) (letter d done) rest a e day here sum (omega arith) some one others (λ h. absurd h)
+      (standing rest r (suc k) rule at (x ∷ ss) (drop-next k rule.right (Code c) (x ∷ ss) e) (i + 1) (span_length rest)
       (record { begins = omega (arith, day.begins); some = some; within = omega (arith, day.within, sum) }) others tail a) has
   standing (uses q z inner rest) r k rule at [] e i l day on here a has = absurd on.0
   standing (uses q z inner rest) r k rule at (Code c ∷ ss) e i l day on here a has = absurd on.0
@@ -140,18 +140,18 @@ module _ (g : Grammar) where
       (standing inner q 0 on.0.0 on.0.1 on.0.0.right refl i z d2 (on.0.6, on.0.5) (on.0.3, trees2) a) has
   standing (uses q z inner rest) r k rule at (Name x ∷ y ∷ ss) e i l day on here a has =
       let one : On g (Name x ∷ []) i z (uses q z inner done) = ((on.0.0, on.0.1, on.0.2, on.0.3, on.0.4, on.0.5, on.0.6, tt), omega arith) in
-      let others : On g (y ∷ ss) (i + z) (covers rest) rest = (on.0.7, refl) in
+      let others : On g (y ∷ ss) (i + z) (span_length rest) rest = (on.0.7, refl) in
       let some = some-covered g y ss (i + z) rest on.0.7 in
       let first : 1 ≤ z = on.0.4 in
-      let sum : z + covers rest ≡ l = on.1 in
+      let sum : z + span_length rest ≡ l = on.1 in
       let all = parts_stand r rule at k (Name x ∷ y ∷ ss) i l e day.some here in
-      let tail = rest-stands g r k i z (covers rest) l y ss sum (Name x) all (uses q z inner done, one) in
-      let head = first-stands g r k i z (covers rest) l y ss sum (Name x) all (rest, others) in
+      let tail = rest-stands g r k i z (span_length rest) l y ss sum (Name x) all (uses q z inner done, one) in
+      let head = first-stands g r k i z (span_length rest) l y ss sum (Name x) all (rest, others) in
       let head2 : TreesStand g (Name on.0.0.left) i z = rw on.0.2 head in
       let d2 : InDay g.periods i z = record { begins = day.begins; some = first; within = omega (arith, day.within, sum) } in
-      of_two r rule at k (Name x) y ss i l z (covers rest) (uses q z inner done) rest a e day here sum first some one others
+      of_two r rule at k (Name x) y ss i l z (span_length rest) (uses q z inner done) rest a e day here sum first some one others
       (standing inner q 0 on.0.0 on.0.1 on.0.0.right refl i z d2 (on.0.6, on.0.5) (on.0.3, head2) a)
-      (standing rest r (suc k) rule at (y ∷ ss) (drop-next k rule.right (Name x) (y ∷ ss) e) (i + z) (covers rest)
+      (standing rest r (suc k) rule at (y ∷ ss) (drop-next k rule.right (Name x) (y ∷ ss) e) (i + z) (span_length rest)
       (record { begins = omega (arith, day.begins); some = some; within = omega (arith, day.within, sum) }) others tail a) has
 
   -- so is each arc of the instance
@@ -165,7 +165,7 @@ module _ (g : Grammar) where
       let d2 : InDay g.periods 1 z = record { begins = omega arith; some = on.4; within = omega (arith, same) } in
       standing inner q 0 on.0 on.1 on.0.right refl 1 z d2 (on.6, on.5) (on.3, trees) a has
     where
-      only_length : (rest : Parts) → Derive g [] (1 + z) rest → z + covers rest ≡ g.periods → z ≡ g.periods
+      only_length : (rest : Parts) → Derive g [] (1 + z) rest → z + span_length rest ≡ g.periods → z ≡ g.periods
       only_length done h e = omega (arith, e)
       only_length (letter c rest) h e = absurd h
       only_length (uses q z inner rest) h e = absurd h

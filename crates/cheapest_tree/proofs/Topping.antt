@@ -15,8 +15,8 @@ use Rattle.tree_laws.specs.Parts.{first}
 use Rattle.tree_laws.proofs.Least.{IsLeast-same}
 use Rattle.tree_laws.proofs.Splits.{split-least}
 use Rattle.tree_laws.proofs.Ends.{last-least, only-least, rooted}
-use Rattle.arc_terms.specs.OrNodes.{OrNode, name, suffix, left_of, right_of, made_by, made, symbol_node, rest_node, used_by, used}
-use Rattle.arc_terms.proofs.Balanced.{left_of-is, right_of-is, drop-next}
+use Rattle.arc_laws.specs.OrNodes.{OrNode, name, suffix, left_of, right_of, made_by, made, symbol_node, rest_node, used_by, used}
+use Rattle.arc_laws.proofs.Balanced.{left_of-is, right_of-is, drop-next}
 use Rattle.cheapest_tree.specs.AtNodes.{IsAt, sum_at, NodeLeast, top_arc, arc_total, with_rule}
 use Rattle.cheapest_tree.proofs.Standing.{Standing, IsCut, Fits, LastFits}
 

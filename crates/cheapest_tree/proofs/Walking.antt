@@ -15,7 +15,7 @@ use Rattle.roster_model.specs.Room.{RoomView}
 use Rattle.tree_laws.specs.Parts.{use_count}
 use Rattle.tree_laws.proofs.Least.{IsLeast-one}
 use Rattle.tree_laws.proofs.Size.{length-steps}
-use Rattle.arc_terms.specs.OrNodes.{OrNode, name, suffix, leaf, made_by, made, used_by, used}
+use Rattle.arc_laws.specs.OrNodes.{OrNode, name, suffix, leaf, made_by, made, used_by, used}
 use Rattle.parse_graph.specs.Graphs.{GraphView, IsKid, AreKids}
 use Rattle.parse_graph.specs.declared.kid.Kid.{Kid}
 use Rattle.parse_graph.specs.declared.kid.Kid.TheVariants.{Nothing}

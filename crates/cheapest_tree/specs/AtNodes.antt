@@ -5,7 +5,7 @@ use Rattle.roster_model.specs.declared.grammar.Grammar.{Grammar}
 use Rattle.roster_model.specs.declared.grammar.Sym.TheVariants.{Code, Name}
 use Rattle.roster_model.specs.Trees.{Parts, done, letter, uses, On}
 use Rattle.roster_model.specs.Sums.{PriceView, plus, tree_sum, parts_sum, IsLeast}
-use Rattle.arc_terms.specs.OrNodes.{OrNode, name, suffix, leaf, right_of}
+use Rattle.arc_laws.specs.OrNodes.{OrNode, name, suffix, leaf, right_of}
 use Rattle.tree_laws.specs.Parts.{first, root}
 use Rattle.tree_laws.specs.Laws.{arc_at}
 

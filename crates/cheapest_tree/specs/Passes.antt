@@ -3,7 +3,7 @@ use Rattle.std.specs.Prelude.{ℕ, ℤ, ◌≡◌, ◌<◌, Option, None, Some, 
 use Rattle.roster_model.specs.declared.grammar.Grammar.{Grammar}
 use Rattle.roster_model.specs.Sums.{PriceView, IsLeast}
 use Rattle.roster_model.specs.Sound.{IsSound}
-use Rattle.arc_terms.specs.OrNodes.{OrNode}
+use Rattle.arc_laws.specs.OrNodes.{OrNode}
 use Rattle.parse_graph.specs.Graphs.{GraphView, IsGraph}
 use Rattle.cheapest_tree.specs.declared.slots.Spot.{Spot}
 use Rattle.cheapest_tree.specs.AtNodes.{IsAt, sum_at, top_arc, IsBefore}

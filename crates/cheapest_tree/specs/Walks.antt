@@ -8,7 +8,7 @@ use Rattle.roster_model.specs.Sums.{PriceView}
 use Rattle.roster_model.specs.Room.{RoomView}
 use Rattle.roster_model.specs.Sound.{IsSound}
 use Rattle.tree_laws.specs.Parts.{use_count}
-use Rattle.arc_terms.specs.OrNodes.{OrNode, name, suffix, leaf}
+use Rattle.arc_laws.specs.OrNodes.{OrNode, name, suffix, leaf}
 use Rattle.parse_graph.specs.Graphs.{GraphView, IsGraph}
 use Rattle.cheapest_tree.specs.declared.slots.Links.{Links}
 use Rattle.cheapest_tree.specs.AtNodes.{IsAt, sum_at, NodeLeast}

@@ -6,7 +6,7 @@ use Rattle.std.proofs.lemmas.List.{append-nil}
 use Rattle.roster_model.specs.declared.grammar.Grammar.{Grammar}
 use Rattle.roster_model.specs.declared.grammar.Sym.{Sym}
 use Rattle.roster_model.specs.declared.grammar.Sym.TheVariants.{Code, Name}
-use Rattle.roster_model.specs.Trees.{Parts, done, letter, uses, covers, Derive, On, steps}
+use Rattle.roster_model.specs.Trees.{Parts, done, letter, uses, span_length, Derive, On, steps}
 use Rattle.roster_model.specs.Arcs.{arcs, parts_arcs, arc_of_part}
 use Rattle.tree_laws.specs.Laws.{arc_at}
 use Rattle.grammar_core.specs.Walks.{has_arc, own_arcs}
@@ -20,7 +20,7 @@ an_arc : (k m : ℕ) → suc k + 1 < m → has_arc (suc k) m ≡ true
 an_arc k m lt = rw (eqb-suc-zero k) (lt-ltb (suc k + 1) m lt)
 
 -- the arc of a part, by its length and that of all parts
-pub own_arc : (g : Grammar) (r k i s l m j : ℕ) (ss : List Sym) (rest : Parts) → k + 1 + length ss ≡ m → s + covers rest ≡ l → Derive g ss j rest
+pub own_arc : (g : Grammar) (r k i s l m j : ℕ) (ss : List Sym) (rest : Parts) → k + 1 + length ss ≡ m → s + span_length rest ≡ l → Derive g ss j rest
     → arc_of_part r k i s rest ≡ own_arcs m (arc_at r k i l s)
 own_arc g r zero i s l m j ss rest count e h = ap (λ y. arc_at r 0 i y s ∷ []) e
 own_arc g r (suc k) i s l m j [] done count e h = rw (no_arc k m (omega (arith, count))) refl
@@ -54,7 +54,7 @@ split g (Code c) ss r k m i l (letter d rest) count h =
     let next : suc k ≡ k + 1 = omega arith in (
       1,
       record {
-        others_len = covers rest;
+        others_len = span_length rest;
         head = letter d done;
         tail = rest;
         fits = h.1;
@@ -70,7 +70,7 @@ split g (Name x) ss r k m i l (uses q z inner rest) count h =
     let next : suc k ≡ k + 1 = omega arith in (
       z,
       record {
-        others_len = covers rest;
+        others_len = span_length rest;
         head = uses q z inner done;
         tail = rest;
         fits = h.1;

@@ -11,7 +11,7 @@ use Rattle.roster_model.specs.declared.grammar.Sym.{Sym}
 use Rattle.roster_model.specs.declared.grammar.Sym.TheVariants.{Code, Name}
 use Rattle.roster_model.specs.Grammar.{rule_at}
 use Rattle.roster_model.specs.Sound.{IsSound}
-use Rattle.roster_model.specs.Trees.{Parts, done, letter, uses, covers, Derive, On, steps}
+use Rattle.roster_model.specs.Trees.{Parts, done, letter, uses, span_length, Derive, On, steps}
 use Rattle.roster_model.specs.Arcs.{arcs, parts_arcs}
 use Rattle.tree_laws.specs.Laws.{arc_at}
 use Rattle.tree_laws.proofs.Rules.{sound-rule}
@@ -71,14 +71,14 @@ no_more [] h = refl
 no_more (s ∷ ss) h = absurd (omega arith)
 
 -- two first parts of so many symbols have one length, by their arcs or as the last of all
-same_len : (g : Grammar) (ss : List Sym) (r k i l m z z' : ℕ) (t u : Parts) (b : Bool) → has_arc k m ≡ b → k + 1 + length ss ≡ m → z + covers t ≡ l → z' + covers u ≡ l
+same_len : (g : Grammar) (ss : List Sym) (r k i l m z z' : ℕ) (t u : Parts) (b : Bool) → has_arc k m ≡ b → k + 1 + length ss ≡ m → z + span_length t ≡ l → z' + span_length u ≡ l
     → Derive g ss (i + z) t → Derive g ss (i + z') u → (b ≡ true → arc_at r k i l z ≡ arc_at r k i l z') → z ≡ z'
 same_len g ss r k i l m z z' t u true h count f f' d d' keys = ap (λ (a : ArcKey). a.part) (keys refl)
 same_len g ss r k i l m z z' t u false h count f f' d d' keys =
     let last : m ≤ k + 1 = ltb-false (k + 1) m (or_false (nat_eq k 0) (nat_lt (k + 1) m) h) in
     let none : ss ≡ [] = no_more ss (omega (arith, last, count)) in
-    let a = nothing g ss (i + z) (covers t) t none (d, refl) in
-    let c = nothing g ss (i + z') (covers u) u none (d', refl) in
+    let a = nothing g ss (i + z) (span_length t) t none (d, refl) in
+    let c = nothing g ss (i + z') (span_length u) u none (d', refl) in
     omega (arith, a, c, f, f')
 
 -- parts of the same symbols on one span with the same arcs are the same parts
@@ -94,7 +94,7 @@ same-arcs g sound (Code c ∷ ss) r k i l (letter d more) (letter d' more') xs y
     ∙ ap (λ zs. (zs ++ parts_arcs r (suc k) (i + 1) more) ++ xs) (sym own) ∙ e ∙ ap (λ zs. (zs ++ parts_arcs r (suc k) (i + 1) more') ++ ys) own'
     ∙ append_assoc (own_arcs (k + 1 + length ss) (arc_at r k i l 1)) (parts_arcs r (suc k) (i + 1) more') ys in
     let after = same_own (has_arc k m) (arc_at r k i l 1) (arc_at r k i l 1) (parts_arcs r (suc k) (i + 1) more ++ xs) (parts_arcs r (suc k) (i + 1) more' ++ ys) lists in
-    let s = same-arcs g sound ss r (suc k) (i + 1) (covers more) more more' xs ys (h.0.1, refl) (j.0.1, omega (arith, h.1, j.1)) after.1 in
+    let s = same-arcs g sound ss r (suc k) (i + 1) (span_length more) more more' xs ys (h.0.1, refl) (j.0.1, omega (arith, h.1, j.1)) after.1 in
     (cc (h.0.0, j.0.0, s.0), s.1)
 same-arcs g sound (Name x ∷ ss) r k i l (uses q z inner more) (uses q' z' inner' more') xs ys h j e =
     let m = k + 1 + length ss in
@@ -120,7 +120,7 @@ same-arcs g sound (Name x ∷ ss) r k i l (uses q z inner more) (uses q' z' inne
     let same : j.0.0 ≡ h.0.0 = one_rule g q q' h.0.0 j.0.0 rules h.0.1 j.0.1 in
     let inside = same-arcs g sound h.0.0.right q 0 i z inner inner' (parts_arcs r (suc k) (i + z) more ++ xs) (parts_arcs r (suc k) (i + z') more' ++ ys) (h.0.6, h.0.5)
     (subst (λ (w : Rule). Derive g w.right i inner') same j.0.6, j.0.5 ∙ sym lens) (rest ∙ ap (λ n. parts_arcs n 0 i inner' ++ (parts_arcs r (suc k) (i + z') more' ++ ys)) (sym rules)) in
-    let others = same-arcs g sound ss r (suc k) (i + z) (covers more) more more' xs ys (h.0.7, refl) (subst (λ n. Derive g ss (i + n) more') (sym lens) j.0.7, omega (arith, h.1, j.1, lens))
+    let others = same-arcs g sound ss r (suc k) (i + z) (span_length more) more more' xs ys (h.0.7, refl) (subst (λ n. Derive g ss (i + n) more') (sym lens) j.0.7, omega (arith, h.1, j.1, lens))
     (inside.1 ∙ ap (λ n. parts_arcs r (suc k) (i + n) more' ++ ys) (sym lens)) in
     (cc (rules, lens, inside.0, others.0), others.1)
 same-arcs g sound [] r k i l done (letter d more) xs ys h j e = absurd j.0

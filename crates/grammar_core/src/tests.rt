@@ -1,11 +1,11 @@
 ghost use Rattle.std.specs.Prelude.{◌≡◌, map, IfOk};
-ghost use Rattle.worked_examples.specs.RestAndWork.{rest_and_work};
+ghost use Rattle.sample_days.specs.RestAndWork.{rest_and_work};
 
 use crate::{Item, Second, items_to_tree, normalise, tree_to_items};
 use roster_model::{ArcKey, CodeDef, Grammar, List, Rule, Step, Sym, Window, is_sound};
 use std::alloc::{AllocError, Global};
 use std::test::Fail;
-use worked_examples::tree_of_a_block;
+use sample_days::tree_of_a_block;
 
 const DAY: Window = Window { lo: 1, hi: 96 };
 

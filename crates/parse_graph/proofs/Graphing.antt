@@ -7,9 +7,9 @@ use Rattle.roster_model.specs.declared.grammar.ArcKey.{ArcKey}
 use Rattle.roster_model.specs.declared.grammar.Grammar.{Grammar}
 use Rattle.roster_model.specs.Folds.{In}
 use Rattle.roster_model.specs.Sound.{IsSound}
-use Rattle.arc_terms.specs.Lists.{AreArcs}
-use Rattle.arc_terms.specs.OrNodes.{OrNode, name, suffix, leaf, made, used, root_of}
-use Rattle.arc_terms.proofs.OneList.{one-list}
+use Rattle.arc_laws.specs.Lists.{AreArcs}
+use Rattle.arc_laws.specs.OrNodes.{OrNode, name, suffix, leaf, made, used, root_of}
+use Rattle.arc_laws.proofs.OneList.{one-list}
 use Rattle.span_table.specs.Tables.{TableView, IsMadeFor, IsReached}
 use Rattle.parse_graph.specs.declared.kid.Kid.{Kid}
 use Rattle.parse_graph.specs.declared.node.NodeKey.{NodeKey}

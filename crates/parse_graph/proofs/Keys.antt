@@ -8,8 +8,8 @@ use Rattle.std.proofs.lemmas.List.{length-map}
 use Rattle.std.proofs.lemmas.List.Quantifiers.{position-Some}
 use Rattle.indexmap.specs.IndexSet.{insert_key}
 use Rattle.grammar_core.proofs.Pushing.{push-cases}
-use Rattle.arc_terms.specs.OrNodes.{OrNode}
-use Rattle.arc_terms.proofs.SameArc.{and_both}
+use Rattle.arc_laws.specs.OrNodes.{OrNode}
+use Rattle.arc_laws.proofs.SameArc.{and_both}
 use Rattle.parse_graph.specs.declared.node.NodeKey.{NodeKey}
 use Rattle.parse_graph.specs.declared.node.NodeKey.TheVariants.{Name, Suffix}
 use Rattle.parse_graph.specs.declared.kid.Kid.TheVariants.{Node}

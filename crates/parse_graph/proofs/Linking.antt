@@ -8,7 +8,7 @@ use Rattle.roster_model.specs.declared.grammar.Grammar.{Grammar}
 use Rattle.roster_model.specs.declared.grammar.Sym.{Sym}
 use Rattle.roster_model.specs.declared.grammar.Sym.TheVariants.{Code, Name}
 use Rattle.grammar_core.proofs.Pushing.{push-kept, push-here, push-cases}
-use Rattle.arc_terms.specs.OrNodes.{OrNode, name, suffix, leaf, same_node, right_of, made, symbol_node, rest_node, used_by, used}
+use Rattle.arc_laws.specs.OrNodes.{OrNode, name, suffix, leaf, same_node, right_of, made, symbol_node, rest_node, used_by, used}
 use Rattle.parse_graph.specs.declared.kid.Kid.{Kid}
 use Rattle.parse_graph.specs.declared.kid.Kid.TheVariants.{Nothing, Letter, Node}
 use Rattle.parse_graph.specs.declared.rows.Entry.{Entry}

@@ -5,8 +5,8 @@ use Rattle.roster_model.specs.declared.grammar.ArcKey.{ArcKey}
 use Rattle.roster_model.specs.declared.grammar.Grammar.{Grammar}
 use Rattle.roster_model.specs.Arcs.{IsArc, ArcBefore, arc_numbers}
 use Rattle.roster_model.specs.Folds.{Each, In}
-use Rattle.arc_terms.specs.Lists.{IsRising, AreArcs}
-use Rattle.arc_terms.proofs.Folding.{Each-append, Each-same, In-append}
+use Rattle.arc_laws.specs.Lists.{IsRising, AreArcs}
+use Rattle.arc_laws.proofs.Folding.{Each-append, Each-same, In-append}
 use Rattle.span_table.specs.Order.{IsNextArc, IsSmall}
 use Rattle.span_table.proofs.Plugging.{In-left, In-right}
 use Rattle.span_table.proofs.Stepping.{before-lower, comes-first, keys_left}

@@ -1,7 +1,7 @@
 -- A search among the arcs in their order.
 use Rattle.std.proofs.Common.{◌≡◌, ℕ, arith, ◌+◌, ◌<◌, ◌≤◌, Bool, true, List, Some, length, refl, sym, ap, subst, ◌∙◌, ◌⊎◌, inl, inr}
 use Rattle.std.proofs.lemmas.Bool.{eqb-true, eq-eqb}
-use Rattle.arc_terms.proofs.SameArc.{and_both}
+use Rattle.arc_laws.proofs.SameArc.{and_both}
 use Rattle.std.specs.Prelude.{slice_get, nat_eq, ◌&&◌}
 use Rattle.std.proofs.lemmas.Option.{same_Some, slice_get_within, slice_get-get_or}
 use Rattle.roster_model.specs.declared.grammar.ArcKey.{ArcKey}

@@ -5,8 +5,8 @@ use Rattle.roster_model.specs.declared.grammar.Grammar.{Grammar}
 use Rattle.roster_model.specs.Trees.{Parts, IsDayTree}
 use Rattle.roster_model.specs.Folds.{In}
 use Rattle.roster_model.specs.Arcs.{IsArc}
-use Rattle.arc_terms.specs.OrNodes.{OrNode, name, suffix, leaf, same_node, made, used, root_of}
-use Rattle.arc_terms.specs.Lists.{AreArcs}
+use Rattle.arc_laws.specs.OrNodes.{OrNode, name, suffix, leaf, same_node, made, used, root_of}
+use Rattle.arc_laws.specs.Lists.{AreArcs}
 use Rattle.parse_graph.specs.declared.fault.GraphFault.{GraphFault}
 use Rattle.parse_graph.specs.declared.fault.GraphFault.TheVariants.{TooManyArcs, Memory}
 use Rattle.parse_graph.specs.declared.kid.Kid.{Kid}

@@ -4,7 +4,7 @@ use Rattle.roster_model.specs.declared.grammar.ArcKey.{ArcKey}
 use Rattle.roster_model.specs.declared.grammar.Grammar.{Grammar}
 use Rattle.roster_model.specs.Arcs.{IsArc, ArcBefore}
 use Rattle.roster_model.specs.Folds.{Each, In}
-use Rattle.arc_terms.specs.Lists.{IsRising, AreArcs}
+use Rattle.arc_laws.specs.Lists.{IsRising, AreArcs}
 use Rattle.span_table.specs.Order.{key_number}
 
 -- the arc is the next one or comes after it

@@ -1,6 +1,6 @@
 ghost use Rattle.std.specs.Prelude.{IfOk};
 ghost use Rattle.roster_model.specs.Sound.{IsSound};
-ghost use Rattle.arc_terms.specs.Lists.{AreArcs};
+ghost use Rattle.arc_laws.specs.Lists.{AreArcs};
 ghost use Rattle.span_table.specs.Tables.{IsMadeFor, IsReached};
 ghost use Rattle.parse_graph.specs.Walks.{IsArcCount};
 

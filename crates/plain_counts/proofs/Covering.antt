@@ -9,10 +9,10 @@ use Rattle.roster_model.specs.declared.grammar.Sym.TheVariants.{Code, Name}
 use Rattle.roster_model.specs.Folds.{count, Each}
 use Rattle.roster_model.specs.Sums.{arc}
 use Rattle.roster_model.specs.Arcs.{arc_of_part, parts_arcs, arcs, IsArc}
-use Rattle.roster_model.specs.Trees.{Parts, done, letter, uses, covers, Derive, IsDayTree}
-use Rattle.arc_terms.specs.OrNodes.{OrNode, name, suffix, leaf, right_of, made_by, made, symbol_node, rest_node, used_by, used}
-use Rattle.arc_terms.proofs.Balanced.{right_of-is, drop-next, no_symbols}
-use Rattle.arc_terms.proofs.Folding.{Each-append, Each-at}
+use Rattle.roster_model.specs.Trees.{Parts, done, letter, uses, span_length, Derive, IsDayTree}
+use Rattle.arc_laws.specs.OrNodes.{OrNode, name, suffix, leaf, right_of, made_by, made, symbol_node, rest_node, used_by, used}
+use Rattle.arc_laws.proofs.Balanced.{right_of-is, drop-next, no_symbols}
+use Rattle.arc_laws.proofs.Folding.{Each-append, Each-at}
 
 abbrev within : ℕ → ℕ → ℕ → Bool
 within p i l = nat_le i p && nat_lt p (i + l)
@@ -71,26 +71,26 @@ module _ (g : Grammar) (p : ℕ) where
   rest_on (s ∷ s2 ∷ ss) r k i l none one = omega arith
 
   -- what follows a part, by what it derives
-  ends : (ss : List Sym) (i : ℕ) (t : Parts) → Derive g ss i t → ss ≡ [] → covers t ≡ 0
+  ends : (ss : List Sym) (i : ℕ) (t : Parts) → Derive g ss i t → ss ≡ [] → span_length t ≡ 0
   ends ss i t d e = no_symbols g i t (subst (λ (xs : List Sym). Derive g xs i t) e d)
 
-  last_code' : (c i : ℕ) (t : Parts) → Derive g (Code c ∷ []) i t → covers t ≡ 1
+  last_code' : (c i : ℕ) (t : Parts) → Derive g (Code c ∷ []) i t → span_length t ≡ 1
   last_code' c i done d = absurd d
   last_code' c i (uses r n inner rest) d = absurd d
   last_code' c i (letter b rest) d = let e = no_symbols g (i + 1) rest d.1 in omega (arith, e)
 
-  last_code : (ss : List Sym) (i : ℕ) (t : Parts) → Derive g ss i t → (c : ℕ) → ss ≡ Code c ∷ [] → covers t ≡ 1
+  last_code : (ss : List Sym) (i : ℕ) (t : Parts) → Derive g ss i t → (c : ℕ) → ss ≡ Code c ∷ [] → span_length t ≡ 1
   last_code ss i t d c e = last_code' c i t (subst (λ (xs : List Sym). Derive g xs i t) e d)
 
   arc_covers : (r k i n : ℕ) (s : Sym) (ss : List Sym) (rest : Parts) → drop k (right_of g r) ≡ s ∷ ss → ((c : ℕ) → s ≡ Code c → n ≡ 1) → Derive g ss (i + n) rest → Covers (arc r k i n rest)
   arc_covers r k i n s ss rest e code d =
-      let same : n + covers rest - n ≡ covers rest = omega arith in
+      let same : n + span_length rest - n ≡ span_length rest = omega arith in
       let first = symbol_on s i n ss rest rest code in
-      let others = rest_on ss r (suc k) (i + n) (covers rest) (ends ss (i + n) rest d) (last_code ss (i + n) rest d) in
-      let all = on_both p i n (covers rest) in
+      let others = rest_on ss r (suc k) (i + n) (span_length rest) (ends ss (i + n) rest d) (last_code ss (i + n) rest d) in
+      let all = on_both p i n (span_length rest) in
       let parts = ap (λ (xs : List Sym). count (is_on p) (used_by xs (arc r k i n rest))) e in
       let length = ap (λ (l : ℕ). count (is_on p) (rest_node ss r (suc k) (i + n) l)) same in
-      omega (arith, made_on r k i (n + covers rest), first, others, all, parts, length)
+      omega (arith, made_on r k i (n + span_length rest), first, others, all, parts, length)
 
   part_covers : (r k i n : ℕ) (s : Sym) (ss : List Sym) (rest : Parts) → drop k (right_of g r) ≡ s ∷ ss → ((c : ℕ) → s ≡ Code c → n ≡ 1) → Derive g ss (i + n) rest → Each Covers (arc_of_part r k i n rest)
   part_covers r zero i n s ss rest e code d = (arc_covers r 0 i n s ss rest e code d, tt)

@@ -7,12 +7,12 @@ use Rattle.roster_model.specs.declared.grammar.ArcKey.{ArcKey}
 use Rattle.roster_model.specs.declared.grammar.Grammar.{Grammar}
 use Rattle.roster_model.specs.Folds.{sum_n, count, In}
 use Rattle.roster_model.specs.Arcs.{Letter}
-use Rattle.arc_terms.specs.OrNodes.{OrNode, name, suffix, leaf, same_node, made, made_by, used, root_of}
-use Rattle.arc_terms.specs.Balance.{used_sum, IsBalanced}
-use Rattle.arc_terms.specs.Counts.{root_count}
-use Rattle.arc_terms.specs.Lists.{AreArcs}
-use Rattle.arc_terms.proofs.Folding.{sum_n-same}
-use Rattle.arc_terms.proofs.SameArc.{and_both}
+use Rattle.arc_laws.specs.OrNodes.{OrNode, name, suffix, leaf, same_node, made, made_by, used, root_of}
+use Rattle.arc_laws.specs.Balance.{used_sum, IsBalanced}
+use Rattle.arc_laws.specs.Counts.{root_count}
+use Rattle.arc_laws.specs.Lists.{AreArcs}
+use Rattle.arc_laws.proofs.Folding.{sum_n-same}
+use Rattle.arc_laws.proofs.SameArc.{and_both}
 use Rattle.plain_counts.proofs.Nodes.{same_node-true, same_node-refl}
 use Rattle.plain_counts.proofs.Totals.{Weighted, total, equal_totals}
 use Rattle.plain_counts.proofs.Covering.{is_on, covers_period}

@@ -3,8 +3,8 @@ use Rattle.std.proofs.Common.{◌≡◌, ℕ, true, refl, ap, ◌∙◌, inl, in
 use Rattle.std.specs.Prelude.{nat_eq}
 use Rattle.std.proofs.lemmas.Bool.{eqb-true}
 use Rattle.std.proofs.lemmas.Bool.Decides.{eqb_tells}
-use Rattle.arc_terms.specs.OrNodes.{OrNode, name, suffix, leaf, same_node}
-use Rattle.arc_terms.proofs.SameArc.{and_both}
+use Rattle.arc_laws.specs.OrNodes.{OrNode, name, suffix, leaf, same_node}
+use Rattle.arc_laws.proofs.SameArc.{and_both}
 
 pub same_node-true : (o x : OrNode) → same_node o x ≡ true → o ≡ x
 same_node-true (name x i l) (name y j m) e =

@@ -12,10 +12,10 @@ use Rattle.roster_model.specs.GreatestCost.{greatest_cost}
 use Rattle.roster_model.specs.Limits.{IsDayCell}
 use Rattle.roster_model.specs.SoundInstance.{IsSoundInstance}
 use Rattle.roster_model.proofs.SoundCells.{cells_of_day}
-use Rattle.arc_terms.specs.Counts.{AreCounts, letter_count, counts_cost}
-use Rattle.arc_terms.specs.Lists.{AreArcs}
-use Rattle.node_terms.specs.Pinned.{IsPinnedValue}
-use Rattle.node_terms.specs.Plain.{IsFree, IsPlainDay}
+use Rattle.arc_laws.specs.Counts.{AreCounts, letter_count, counts_cost}
+use Rattle.arc_laws.specs.Lists.{AreArcs}
+use Rattle.bound_laws.specs.Pinned.{IsPinnedValue}
+use Rattle.bound_laws.specs.Plain.{IsFree, IsPlainDay}
 use Rattle.plain_counts.specs.Plain.{ArePlainCounts, IsPlainPinnedValue}
 use Rattle.plain_counts.proofs.Letters.{letters-le}
 

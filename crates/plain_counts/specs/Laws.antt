@@ -6,12 +6,12 @@ use Rattle.roster_model.specs.declared.instance.Cut.{Cut}
 use Rattle.roster_model.specs.declared.instance.Instance.{Instance}
 use Rattle.roster_model.specs.Arcs.{Letter}
 use Rattle.roster_model.specs.SoundInstance.{IsSoundInstance}
-use Rattle.arc_terms.specs.OrNodes.{leaf}
-use Rattle.arc_terms.specs.Balance.{used_sum, IsBalanced}
-use Rattle.arc_terms.specs.Counts.{root_count}
-use Rattle.arc_terms.specs.Lists.{AreArcs}
-use Rattle.node_terms.specs.Pinned.{IsPinnedValue}
-use Rattle.node_terms.specs.Plain.{IsPlainDay}
+use Rattle.arc_laws.specs.OrNodes.{leaf}
+use Rattle.arc_laws.specs.Balance.{used_sum, IsBalanced}
+use Rattle.arc_laws.specs.Counts.{root_count}
+use Rattle.arc_laws.specs.Lists.{AreArcs}
+use Rattle.bound_laws.specs.Pinned.{IsPinnedValue}
+use Rattle.bound_laws.specs.Plain.{IsPlainDay}
 use Rattle.plain_counts.specs.Plain.{IsPlainPinnedValue}
 
 -- no letter of the day is counted more often than there are trees

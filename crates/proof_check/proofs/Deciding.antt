@@ -11,12 +11,12 @@ use Rattle.certificates.specs.declared.why.Why.TheVariants.{NotAShift, ShiftCost
 use Rattle.certificates.specs.Nodes.{visits}
 use Rattle.certificates.specs.RosterCauses.{IsFirstOutside}
 use Rattle.certificates.specs.Sound.{IsSoundCert}
-use Rattle.proof_terms.specs.Accepted.{bound_number, Accepts}
-use Rattle.proof_terms.specs.Causes.{stated_bound, IsFirstCause}
-use Rattle.proof_terms.specs.Shown.{Shows}
-use Rattle.proof_terms.specs.Trusted.{IsTrusted}
-use Rattle.proof_terms.proofs.Trusted.{yes-is-sound}
-use Rattle.stated_roster.specs.Faults.{IsCoverageCause}
+use Rattle.certificate_laws.specs.Accepted.{bound_number, Accepts}
+use Rattle.certificate_laws.specs.Causes.{stated_bound, IsFirstCause}
+use Rattle.certificate_laws.specs.Shown.{Shows}
+use Rattle.certificate_laws.specs.Right.{YesIsRight}
+use Rattle.certificate_laws.proofs.RightLemmas.{yes-is-sound}
+use Rattle.roster_part.specs.Faults.{IsCoverageCause}
 use Rattle.proof_check.specs.declared.walk.Walk.{Walk}
 use Rattle.proof_check.specs.Verdicts.{HasRightRoster, IsCoverageRight, States, IsWalked}
 use Rattle.proof_check.specs.Walked.{IsVisitsCause}
@@ -62,7 +62,7 @@ module _ (i : Instance) (c : Cert) (cost bound : Option ℕ) (shifts : List Shif
       coverage-decides (NotPinned n a) some h = absurd h
       coverage-decides (BoundTooHigh said found) some h = absurd h
 
-      pub yes-decides : IfSome cost (λ (n : ℕ). IsCoverageRight i shifts) → IsSoundInstance i → IsSoundCert i c → Accepts i c × (cost ≡ c.cost) × (bound ≡ c.bound) × IsTrusted i c
+      pub yes-decides : IfSome cost (λ (n : ℕ). IsCoverageRight i shifts) → IsSoundInstance i → IsSoundCert i c → Accepts i c × (cost ≡ c.cost) × (bound ≡ c.bound) × YesIsRight i c
       yes-decides coverage sound fit =
           let covered = subst (λ (o : Option ℕ). IfSome o (λ (n : ℕ). IsCoverageRight i c.shifts)) (sym s.same_cost)
           (subst (λ (xs : List Shift). IfSome cost (λ (n : ℕ). IsCoverageRight i xs)) (sym s.same_shifts) coverage) in

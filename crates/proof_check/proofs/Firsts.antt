@@ -3,7 +3,7 @@ use Rattle.std.proofs.Common.{◌≡◌, ℕ, zero, suc, arith, ◌+◌, ◌-◌
 use Rattle.std.specs.Prelude.{slice_get}
 use Rattle.roster_model.specs.Folds.{Each}
 use Rattle.certificates.specs.First.{IsFirst}
-use Rattle.proof_terms.proofs.Lists.{Each-get}
+use Rattle.certificate_laws.proofs.Lists.{Each-get}
 
 module _ {A : Type 0} where
   get-within : (xs : List A) (k : ℕ) (x : A) → slice_get xs k ≡ Some x → k < length xs

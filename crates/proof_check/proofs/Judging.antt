@@ -11,7 +11,7 @@ use Rattle.certificates.specs.declared.cert.Node.{Node}
 use Rattle.certificates.specs.declared.cert.Node.TheVariants.{Split, Priced, Pinned, Bare}
 use Rattle.certificates.specs.Nodes.{Proof}
 use Rattle.certificates.specs.Sound.{IsSoundCert, IsSoundProof, IsSoundShift}
-use Rattle.proof_terms.specs.declared.frame.Frame.{Frame}
+use Rattle.certificate_laws.specs.declared.frame.Frame.{Frame}
 use Rattle.bound_proof.specs.declared.fault.PieceFault.{PieceFault}
 use Rattle.bound_proof.specs.declared.fault.PieceFault.TheVariants.{CutShort}
 use Rattle.bound_proof.specs.CertOf.{no_cert, with_told, is_done, collected, proof_fault, proof_of}

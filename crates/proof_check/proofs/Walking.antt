@@ -1,7 +1,7 @@
 -- A walk over the nodes of a tree, one node after another.
 use Rattle.std.proofs.Common.{◌≡◌, ℕ, zero, suc, arith, ◌+◌, ◌≤◌, ◌<◌, Bool, true, Option, None, Some, List, [], ◌∷◌, ◌++◌, length, take, drop, get_or, add-one, drop-cons, sym, refl, ap, subst, ◌∙◌}
 use Rattle.std.specs.Prelude.{IsSome, cond, nat_lt, false}
-use Rattle.proof_terms.specs.Causes.{cause_number}
+use Rattle.certificate_laws.specs.Causes.{cause_number}
 use Rattle.std.proofs.lemmas.List.{length-append, length-take-le, drop_all, take_all}
 use Rattle.roster_model.specs.declared.instance.Cut.{Cut}
 use Rattle.roster_model.specs.declared.instance.Instance.{Instance}
@@ -12,11 +12,11 @@ use Rattle.certificates.specs.declared.cert.Node.TheVariants.{Split, Priced, Pin
 use Rattle.certificates.specs.declared.why.Why.{Why}
 use Rattle.certificates.specs.Nodes.{Proof, split, priced, pinned, bare, preorder, Visit, visits, low_cut, high_cut}
 use Rattle.certificates.specs.Sound.{IsSoundVisit, IsSoundProof}
-use Rattle.proof_terms.specs.declared.frame.Frame.{Frame}
-use Rattle.proof_terms.specs.Shown.{Shows}
-use Rattle.proof_terms.specs.Walk.{path, LeadsTo, MakeVisits, ValueNext, VisitsNext}
-use Rattle.proof_terms.proofs.Steps.{visits-split, visits-leaf, visits-start, not-yet, at-end, whole-shows}
-use Rattle.proof_terms.proofs.Unique.{same-proof}
+use Rattle.certificate_laws.specs.declared.frame.Frame.{Frame}
+use Rattle.certificate_laws.specs.Shown.{Shows}
+use Rattle.certificate_laws.specs.Walk.{path, LeadsTo, MakeVisits, ValueNext, VisitsNext}
+use Rattle.certificate_laws.proofs.Steps.{visits-split, visits-leaf, visits-start, not-yet, at-end, whole-shows}
+use Rattle.certificate_laws.proofs.Unique.{same-proof}
 use Rattle.proof_check.specs.declared.walk.Walk.{Walk}
 use Rattle.proof_check.specs.Stacks.{StackView, AreSmall}
 use Rattle.proof_check.specs.Steps.{next_visit, MayFollow, IsStep, IsWalking}

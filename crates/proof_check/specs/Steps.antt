@@ -9,8 +9,8 @@ use Rattle.certificates.specs.declared.cert.Node.TheVariants.{Split, Priced, Pin
 use Rattle.certificates.specs.declared.why.Why.{Why}
 use Rattle.certificates.specs.Nodes.{Proof, preorder, Visit, visits}
 use Rattle.certificates.specs.Sound.{IsSoundNode}
-use Rattle.proof_terms.specs.Walk.{path, LeadsTo, MakeVisits, ValueNext, VisitsNext}
-use Rattle.pinned_value.specs.Rooms.{IsRoomFor as HasPlaces}
+use Rattle.certificate_laws.specs.Walk.{path, LeadsTo, MakeVisits, ValueNext, VisitsNext}
+use Rattle.pinned_part.specs.Rooms.{IsRoomFor as HasPlaces}
 use Rattle.span_table.specs.Tables.{IsMadeFor, IsReached}
 use Rattle.proof_check.specs.declared.bench.Bench.{Bench}
 use Rattle.proof_check.specs.declared.walk.Walk.{Walk}

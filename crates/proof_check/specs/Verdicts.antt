@@ -10,11 +10,11 @@ use Rattle.certificates.specs.declared.cert.Cert.{Cert}
 use Rattle.certificates.specs.declared.cert.Node.{Node}
 use Rattle.certificates.specs.Nodes.{Proof, preorder, visits}
 use Rattle.certificates.specs.RosterCauses.{duties}
-use Rattle.proof_terms.specs.Accepted.{Accepts}
-use Rattle.proof_terms.specs.Causes.{IsFirstCause}
-use Rattle.proof_terms.specs.Shown.{Shows}
-use Rattle.proof_terms.specs.Trusted.{IsTrusted}
-use Rattle.stated_roster.specs.Faults.{IsRightlyStated}
+use Rattle.certificate_laws.specs.Accepted.{Accepts}
+use Rattle.certificate_laws.specs.Causes.{IsFirstCause}
+use Rattle.certificate_laws.specs.Shown.{Shows}
+use Rattle.certificate_laws.specs.Right.{YesIsRight}
+use Rattle.roster_part.specs.Faults.{IsRightlyStated}
 use Rattle.certificates.specs.declared.verdict.Verdict.{Verdict}
 use Rattle.certificates.specs.declared.verdict.Verdict.TheVariants.{Yes, No}
 use Rattle.proof_check.specs.declared.walk.Walk.{Walk}
@@ -26,7 +26,7 @@ use Rattle.proof_check.specs.Walked.{IsVisitsCause}
 -- Yes comes where the certificate is accepted, with its cost and bound, and what it states is true. No
 -- comes with the first cause for which it is not.
 abbrev pub IsVerdict : Instance → Cert → Verdict → Type 0
-IsVerdict i c (Yes cost bound) = Accepts i c × (cost ≡ c.cost) × (bound ≡ c.bound) × IsTrusted i c
+IsVerdict i c (Yes cost bound) = Accepts i c × (cost ≡ c.cost) × (bound ≡ c.bound) × YesIsRight i c
 IsVerdict i c (No why) = IsFirstCause i c why
 
 -- the roster is stated rightly, if there is one

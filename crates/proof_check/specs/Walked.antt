@@ -6,8 +6,8 @@ use Rattle.certificates.specs.declared.why.Why.{Why}
 use Rattle.certificates.specs.declared.why.Why.TheVariants.{NotAShift, ShiftCost, WrongHeads, WrongCost, NotAnArc, EmptyHalf, NotPinned, BoundTooHigh, Outside}
 use Rattle.certificates.specs.Nodes.{Visit}
 use Rattle.certificates.specs.NodeCauses.{SplitsNoArc, HasEmptyHalf, IsUnpinned, IsFirstLoose, IsFirstNoArc, IsFirstEmptyHalf, IsFirstUnpinned}
-use Rattle.proof_terms.specs.Accepted.{IsOnArc, LeavesBoth, IsTight}
-use Rattle.proof_terms.specs.Causes.{cause_number}
+use Rattle.certificate_laws.specs.Accepted.{IsOnArc, LeavesBoth, IsTight}
+use Rattle.certificate_laws.specs.Causes.{cause_number}
 
 -- nothing is wrong with the visit
 pub record IsRight (i : Instance) (v : Visit) : Type 0 where

@@ -4,8 +4,8 @@ ghost use Rattle.roster_model.specs.SoundInstance.{IsSoundInstance};
 ghost use Rattle.certificates.specs.declared.cert.Cert.{Cert as Stated};
 ghost use Rattle.certificates.specs.Nodes.{Proof};
 ghost use Rattle.certificates.specs.Sound.{IsSoundCert, IsSoundProof, IsSoundShift};
-ghost use Rattle.proof_terms.specs.Causes.{IsFirstCause};
-ghost use Rattle.stated_roster.specs.Faults.{IsCoverageCause};
+ghost use Rattle.certificate_laws.specs.Causes.{IsFirstCause};
+ghost use Rattle.roster_part.specs.Faults.{IsCoverageCause};
 ghost use Rattle.proof_check.specs.Steps.{IsBenchFor, node_room};
 ghost use Rattle.proof_check.specs.Verdicts.{HasRightRoster, IsCoverageRight, States, IsWalked, IsVerdict};
 
@@ -15,7 +15,7 @@ use crate::verdict::bound_cause;
 use crate::walk::Walk;
 use certificates::{Cert, Node, Verdict, Why};
 use roster_model::{Instance, Memory, Shift};
-use stated_roster::{coverage_fault, roster_fault};
+use roster_part::{coverage_fault, roster_fault};
 use std::alloc::Global;
 
 impl Bench {

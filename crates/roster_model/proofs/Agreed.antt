@@ -8,7 +8,7 @@ use Rattle.roster_model.specs.declared.grammar.Sym.TheVariants.{Code, Name}
 use Rattle.roster_model.specs.Agreement.{Agree}
 use Rattle.roster_model.specs.Grammar.{rule_at}
 use Rattle.roster_model.specs.Sound.{Exists, IsRule}
-use Rattle.roster_model.specs.Trees.{Parts, done, letter, uses, covers, Derive, IsTreeOf}
+use Rattle.roster_model.specs.Trees.{Parts, done, letter, uses, span_length, Derive, IsTreeOf}
 use Rattle.roster_model.specs.Sums.{PriceView, arc_sum, parts_sum, tree_sum, plus}
 use Rattle.std.proofs.lemmas.Option.{same_Some, none-some, slice_get_within, slice_get-get_or}
 
@@ -29,7 +29,7 @@ module _ (g : Grammar) (p q : PriceView) (rules : All (IsRule (length g.codes) (
   arc_same r (suc k) i s (letter c rest) = agree.arcs _
   arc_same r (suc k) i s (uses x n inner rest) = agree.arcs _
 
-  parts_same : (t : Parts) (r k i : ℕ) (ss : List Sym) → All (Exists (length g.codes) (length g.names)) ss → Derive g ss i t → 1 ≤ i → i + covers t ≤ g.periods + 1 → parts_sum p r k i t ≡ parts_sum q r k i t
+  parts_same : (t : Parts) (r k i : ℕ) (ss : List Sym) → All (Exists (length g.codes) (length g.names)) ss → Derive g ss i t → 1 ≤ i → i + span_length t ≤ g.periods + 1 → parts_sum p r k i t ≡ parts_sum q r k i t
   parts_same done r k i ss v d a b = refl
   parts_same (letter c rest) r k i [] v d a b = absurd d
   parts_same (letter c rest) r k i (Name x ∷ ss) v d a b = absurd d

@@ -13,9 +13,9 @@ use Rattle.demand_text.specs.InstanceOf.{instance_of}
 use Rattle.bound_proof.specs.declared.fault.ProofFault.{ProofFault}
 use Rattle.bound_proof.specs.CertOf.{proof_of}
 use Rattle.bound_proof.specs.FaultLine as proof
-use Rattle.proof_terms.specs.Accepted.{Accepts}
-use Rattle.proof_terms.specs.Causes.{IsFirstCause}
-use Rattle.proof_terms.specs.Trusted.{IsTrusted}
+use Rattle.certificate_laws.specs.Accepted.{Accepts}
+use Rattle.certificate_laws.specs.Causes.{IsFirstCause}
+use Rattle.certificate_laws.specs.Right.{YesIsRight}
 use Rattle.shelf.specs.Shelf.{Texts}
 use Rattle.shift_report.specs.VerdictText.{verdict_text}
 use Rattle.shift_tool.specs.Explain.{IsGrammarOf, SaysFault}
@@ -29,7 +29,7 @@ verdict_status (No why) = 1
 -- status 0: the certificate is accepted, and what it states is true
 pub record SaysYes (i : Instance) (c : Cert) (output : List ℕ) : Type 0 where
   pub accepted : Accepts i c
-  pub trusted : IsTrusted i c
+  pub trusted : YesIsRight i c
   pub lines : output ≡ verdict_text (Yes c.cost c.bound)
 
 -- status 1: the certificate is refused, for the cause of least number

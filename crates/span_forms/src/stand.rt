@@ -1,10 +1,10 @@
 ghost use Rattle.std.specs.Prelude.{◌≤◌, ◌↔◌, IsTrue};
-ghost use Rattle.roster_model.specs.Grammar.{Holds, Stands};
+ghost use Rattle.roster_model.specs.Grammar.{IsInWindow, Stands};
 
 use roster_model::{Rule, Window};
 
 fn holds(window: Window, n: u8) -> bool
-    ensures { IsTrue result ↔ Holds window n }
+    ensures { IsTrue result ↔ IsInWindow window n }
 {
     window.lo <= n && n <= window.hi
 }

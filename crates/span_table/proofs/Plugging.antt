@@ -7,7 +7,7 @@ use Rattle.roster_model.specs.declared.grammar.Rule.{Rule}
 use Rattle.roster_model.specs.declared.grammar.Sym.{Sym}
 use Rattle.roster_model.specs.declared.grammar.Sym.TheVariants.{Code, Name}
 use Rattle.roster_model.specs.Grammar.{rule_at, Stands}
-use Rattle.roster_model.specs.Trees.{Parts, done, letter, uses, covers, Derive, On}
+use Rattle.roster_model.specs.Trees.{Parts, done, letter, uses, span_length, Derive, On}
 use Rattle.roster_model.specs.Folds.{In}
 use Rattle.roster_model.specs.Arcs.{arcs, parts_arcs, arc_of_part, IsArc}
 use Rattle.tree_laws.specs.Laws.{arc_at}
@@ -32,7 +32,7 @@ In-either a (x ∷ xs) ys (inl e) = inl (inl e)
 In-either a (x ∷ xs) ys (inr h) = elim (In-either a xs ys h) [ inl k ↦ inl (inr k) | inr k ↦ inr k ]
 
 -- no symbol covers nothing
-pub some-covered : (g : Grammar) (s : Sym) (ss : List Sym) (i : ℕ) (t : Parts) → Derive g (s ∷ ss) i t → 1 ≤ covers t
+pub some-covered : (g : Grammar) (s : Sym) (ss : List Sym) (i : ℕ) (t : Parts) → Derive g (s ∷ ss) i t → 1 ≤ span_length t
 some-covered g (Code c) ss i done h = absurd h
 some-covered g (Code c) ss i (letter d rest) h = omega arith
 some-covered g (Code c) ss i (uses q n inner rest) h = absurd h
@@ -45,7 +45,7 @@ moved g ss u i j e h = subst (λ y. Derive g ss y u) e h
 
 -- the arc of a first part that others follow
 arc_first : (g : Grammar) (r k i s j : ℕ) (x : Sym) (ss : List Sym) (u : Parts) → Derive g (x ∷ ss) j u
-    → arc_of_part r k i s u ≡ arc_at r k i (s + covers u) s ∷ []
+    → arc_of_part r k i s u ≡ arc_at r k i (s + span_length u) s ∷ []
 arc_first g r zero i s j x ss u h = refl
 arc_first g r (suc k) i s j (Code c) ss done h = absurd h
 arc_first g r (suc k) i s j (Name c) ss done h = absurd h
@@ -63,8 +63,8 @@ module _ (g : Grammar) (r k i m n l : ℕ) (x : Sym) (ss : List Sym) (fits : m +
   beside-arcs (Code c) (letter d done) u ht hu =
       let one : m ≡ 1 = omega arith in
       let at : i + m ≡ i + 1 = omega arith in
-      let e : arc_of_part r k i 1 u ≡ arc_at r k i (1 + covers u) 1 ∷ [] = arc_first g r k i 1 (i + m) x ss u hu.0 in
-      let len : 1 + covers u ≡ l = omega arith in
+      let e : arc_of_part r k i 1 u ≡ arc_at r k i (1 + span_length u) 1 ∷ [] = arc_first g r k i 1 (i + m) x ss u hu.0 in
+      let len : 1 + span_length u ≡ l = omega arith in
       let a : arc_of_part r k i 1 u ≡ arc_at r k i l m ∷ [] = rw (← len, one) e in
       let b : parts_arcs r (suc k) (i + 1) u ≡ parts_arcs r (suc k) (i + m) u = ap (λ y. parts_arcs r (suc k) y u) (sym at) in
       (((ht.0.0, moved g (x ∷ ss) u (i + m) (i + 1) at hu.0), len), rw (a, b) refl)
@@ -75,8 +75,8 @@ module _ (g : Grammar) (r k i m n l : ℕ) (x : Sym) (ss : List Sym) (fits : m +
   beside-arcs (Name c) (uses q z inner done) u ht hu =
       let one : m ≡ z = omega arith in
       let at : i + m ≡ i + z = omega arith in
-      let e : arc_of_part r k i z u ≡ arc_at r k i (z + covers u) z ∷ [] = arc_first g r k i z (i + m) x ss u hu.0 in
-      let len : z + covers u ≡ l = omega arith in
+      let e : arc_of_part r k i z u ≡ arc_at r k i (z + span_length u) z ∷ [] = arc_first g r k i z (i + m) x ss u hu.0 in
+      let len : z + span_length u ≡ l = omega arith in
       let a : arc_of_part r k i z u ≡ arc_at r k i l m ∷ [] = rw (← len, one) e in
       let b : parts_arcs r (suc k) (i + z) u ≡ parts_arcs r (suc k) (i + m) u = ap (λ y. parts_arcs r (suc k) y u) (sym at) in
       (((ht.0.0, ht.0.1, ht.0.2, ht.0.3, ht.0.4, ht.0.5, ht.0.6, moved g (x ∷ ss) u (i + m) (i + z) at hu.0), len), rw (a, b) refl)

@@ -8,7 +8,7 @@ use Rattle.roster_model.specs.declared.grammar.Rule.{Rule}
 use Rattle.roster_model.specs.declared.grammar.Sym.{Sym}
 use Rattle.roster_model.specs.declared.grammar.Sym.TheVariants.{Code, Name}
 use Rattle.roster_model.specs.Grammar.{rule_at, Stands, InDay}
-use Rattle.roster_model.specs.Trees.{Parts, done, letter, uses, covers, Derive, On}
+use Rattle.roster_model.specs.Trees.{Parts, done, letter, uses, span_length, Derive, On}
 use Rattle.roster_model.specs.Folds.{In}
 use Rattle.roster_model.specs.Arcs.{arcs, parts_arcs, IsArc}
 use Rattle.roster_model.specs.Sound.{IsSound}
@@ -132,12 +132,12 @@ module _ (g : Grammar) (lay : Layout) (ms : List Bool) (sound : IsSound g) (fits
   told (letter d (uses q z inner rest)) r k rule at (Code c ∷ []) e i l day on here a has = absurd on.0.1
   told (letter d rest) r k rule at (Code c ∷ x ∷ ss) e i l day on here a has =
       let one : On g (Code c ∷ []) i 1 (letter d done) = ((on.0.0, tt), refl) in
-      let others : On g (x ∷ ss) (i + 1) (covers rest) rest = (on.0.1, refl) in
+      let others : On g (x ∷ ss) (i + 1) (span_length rest) rest = (on.0.1, refl) in
       let some = some-covered g x ss (i + 1) rest on.0.1 in
-      let sum : 1 + covers rest ≡ l = on.1 in
-      let m = split_closed r rule at k (Code c) x ss i l 1 (covers rest) e day here sum (omega arith) some (letter d done, one) (rest, others) in
-      told_two r rule at k (Code c) x ss i l 1 (covers rest) (letter d done) rest a e day here sum (omega arith) some one others (λ h. absurd h)
-      (told rest r (suc k) rule at (x ∷ ss) (after_first rule.right k (Code c) (x ∷ ss) e) (i + 1) (covers rest)
+      let sum : 1 + span_length rest ≡ l = on.1 in
+      let m = split_closed r rule at k (Code c) x ss i l 1 (span_length rest) e day here sum (omega arith) some (letter d done, one) (rest, others) in
+      told_two r rule at k (Code c) x ss i l 1 (span_length rest) (letter d done) rest a e day here sum (omega arith) some one others (λ h. absurd h)
+      (told rest r (suc k) rule at (x ∷ ss) (after_first rule.right k (Code c) (x ∷ ss) e) (i + 1) (span_length rest)
       (record { begins = omega (arith, day.begins); some = some; within = omega (arith, day.within, sum) }) others m.1 a) has
   told (uses q z inner rest) r k rule at [] e i l day on here a has = absurd on.0
   told (uses q z inner rest) r k rule at (Code c ∷ ss) e i l day on here a has = absurd on.0
@@ -152,16 +152,16 @@ module _ (g : Grammar) (lay : Layout) (ms : List Bool) (sound : IsSound g) (fits
       (told inner q 0 on.0.0 on.0.1 on.0.0.right refl i z d2 (on.0.6, on.0.5) (on.0.3, m2) a) has
   told (uses q z inner rest) r k rule at (Name x ∷ y ∷ ss) e i l day on here a has =
       let one : On g (Name x ∷ []) i z (uses q z inner done) = ((on.0.0, on.0.1, on.0.2, on.0.3, on.0.4, on.0.5, on.0.6, tt), omega arith) in
-      let others : On g (y ∷ ss) (i + z) (covers rest) rest = (on.0.7, refl) in
+      let others : On g (y ∷ ss) (i + z) (span_length rest) rest = (on.0.7, refl) in
       let some = some-covered g y ss (i + z) rest on.0.7 in
       let first : 1 ≤ z = on.0.4 in
-      let sum : z + covers rest ≡ l = on.1 in
-      let m = split_closed r rule at k (Name x) y ss i l z (covers rest) e day here sum first some (uses q z inner done, one) (rest, others) in
+      let sum : z + span_length rest ≡ l = on.1 in
+      let m = split_closed r rule at k (Name x) y ss i l z (span_length rest) e day here sum first some (uses q z inner done, one) (rest, others) in
       let m2 : mark lay ms (name_slot lay on.0.0.left) i z ≡ true = rw on.0.2 m.0 in
       let d2 : InDay g.periods i z = record { begins = day.begins; some = first; within = omega (arith, day.within, sum) } in
-      told_two r rule at k (Name x) y ss i l z (covers rest) (uses q z inner done) rest a e day here sum first some one others
+      told_two r rule at k (Name x) y ss i l z (span_length rest) (uses q z inner done) rest a e day here sum first some one others
       (told inner q 0 on.0.0 on.0.1 on.0.0.right refl i z d2 (on.0.6, on.0.5) (on.0.3, m2) a)
-      (told rest r (suc k) rule at (y ∷ ss) (after_first rule.right k (Name x) (y ∷ ss) e) (i + z) (covers rest)
+      (told rest r (suc k) rule at (y ∷ ss) (after_first rule.right k (Name x) (y ∷ ss) e) (i + z) (span_length rest)
       (record { begins = omega (arith, day.begins); some = some; within = omega (arith, day.within, sum) }) others m.1 a) has
 
   -- an arc of the instance is told
@@ -175,7 +175,7 @@ module _ (g : Grammar) (lay : Layout) (ms : List Bool) (sound : IsSound g) (fits
       let d2 : InDay g.periods 1 z = record { begins = omega arith; some = on.4; within = omega (arith, same) } in
       told inner q 0 on.0 on.1 on.0.right refl 1 z d2 (on.6, on.5) (on.3, m2) a has
     where
-      only_length : (rest : Parts) → Derive g [] (1 + z) rest → z + covers rest ≡ g.periods → z ≡ g.periods
+      only_length : (rest : Parts) → Derive g [] (1 + z) rest → z + span_length rest ≡ g.periods → z ≡ g.periods
       only_length done h e = omega (arith, e)
       only_length (letter c rest) h e = absurd h
       only_length (uses q z inner rest) h e = absurd h

@@ -5,7 +5,7 @@ use Rattle.roster_model.specs.declared.grammar.Grammar.{Grammar}
 use Rattle.roster_model.specs.declared.grammar.Step.{Step}
 use Rattle.roster_model.specs.declared.grammar.Sym.{Sym}
 use Rattle.roster_model.specs.declared.grammar.Sym.TheVariants.{Code, Name}
-use Rattle.roster_model.specs.Trees.{Parts, done, letter, uses, covers, On, steps}
+use Rattle.roster_model.specs.Trees.{Parts, done, letter, uses, span_length, On, steps}
 use Rattle.roster_model.specs.Sums.{PriceView, plus, tree_sum, parts_sum, SymbolLeast, PartsLeast}
 use Rattle.roster_model.specs.Room.{RoomView}
 use Rattle.tree_laws.specs.Parts.{beside}
@@ -112,7 +112,7 @@ module _ (g : Grammar) (p : PriceView) where
       let same_a : tree_sum p i w.0 ≡ a = one_tree s i m (tree_sum p i w.0) a w.2 ha in
       let same_b : parts_sum p r (suc k) (i + m) o.0 ≡ b = one_parts r (suc k) (x ∷ ss) (i + m) n (parts_sum p r (suc k) (i + m) o.0) b o.2 hb in
       let whole : parts_sum p r k i (beside w.0 o.0) ≡ v = j.2 ∙ rw (same_a, same_b) (sym sum) in
-      let cov : i + covers w.0 ≡ i + m = ap (λ (q : ℕ). i + q) w.1.1 in
+      let cov : i + span_length w.0 ≡ i + m = ap (λ (q : ℕ). i + q) w.1.1 in
       let all : steps i (beside w.0 o.0) ≡ steps i w.0 ++ steps (i + m) o.0 = steps-beside w.0 o.0 i ∙ ap (λ (q : ℕ). steps i w.0 ++ steps q o.0) cov in
       let now : new ≡ record old { steps = old.steps ++ steps i (beside w.0 o.0) } =
       o.3 ∙ ap (λ (q : RoomView). record q { steps = q.steps ++ steps (i + m) o.0 }) w.3

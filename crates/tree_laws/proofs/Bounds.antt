@@ -5,7 +5,7 @@ use Rattle.std.proofs.lemmas.Int.{ints}
 use Rattle.roster_model.specs.declared.grammar.Grammar.{Grammar}
 use Rattle.roster_model.specs.declared.grammar.Sym.{Sym}
 use Rattle.roster_model.specs.declared.grammar.Sym.TheVariants.{Code, Name}
-use Rattle.roster_model.specs.Trees.{Parts, done, letter, uses, covers, Derive, On, steps}
+use Rattle.roster_model.specs.Trees.{Parts, done, letter, uses, span_length, Derive, On, steps}
 use Rattle.roster_model.specs.Sums.{PriceView, parts_sum, Within, AllWithin, SymbolLeast, PartsLeast}
 use Rattle.roster_model.specs.Sound.{IsSound}
 use Rattle.tree_laws.specs.Parts.{use_count, part_count}
@@ -13,7 +13,7 @@ use Rattle.tree_laws.proofs.Size.{few, few_uses, length-steps, sum_within}
 use Rattle.tree_laws.proofs.Ends.{last-least}
 
 -- each part is a letter or a rule use
-count_parts : (g : Grammar) (t : Parts) (ss : List Sym) (i : ℕ) → Derive g ss i t → part_count t ≤ use_count t + covers t
+count_parts : (g : Grammar) (t : Parts) (ss : List Sym) (i : ℕ) → Derive g ss i t → part_count t ≤ use_count t + span_length t
 count_parts g done ss i h = omega arith
 count_parts g (letter c rest) [] i h = absurd h
 count_parts g (letter c rest) (Name x ∷ ss) i h = absurd h
@@ -34,7 +34,7 @@ module _ (g : Grammar) (sound : IsSound g) where
   count_within : (t : Parts) (ss : List Sym) (i l : ℕ) → On g ss i l t → l ≤ 96 → 2 * part_count t * 2 ^ 96 ≤ 2 ^ 110
   count_within t ss i l h most =
       let a = (few g sound.ranks.0 (length g.names) sound.ranks.1 t ss i h.0).0 in
-      let b : covers t * length g.names ≤ 96 * length g.names = mul-le-mul_right (length g.names) (let q : covers t ≤ 96 = omega (arith, h.1) in q) in
+      let b : span_length t * length g.names ≤ 96 * length g.names = mul-le-mul_right (length g.names) (let q : span_length t ≤ 96 = omega (arith, h.1) in q) in
       let n : length g.names ≤ 33 = sound.names.few in
       let c = count_parts g t ss i h.0 in
       omega (arith, a, b, n, c, h.1)

@@ -7,7 +7,7 @@ use Rattle.roster_model.specs.declared.grammar.Rule.{Rule}
 use Rattle.roster_model.specs.declared.grammar.Sym.{Sym}
 use Rattle.roster_model.specs.declared.grammar.Sym.TheVariants.{Code, Name}
 use Rattle.roster_model.specs.Grammar.{rule_at, Stands}
-use Rattle.roster_model.specs.Trees.{Parts, done, letter, uses, covers, Derive}
+use Rattle.roster_model.specs.Trees.{Parts, done, letter, uses, span_length, Derive}
 use Rattle.roster_model.specs.Sums.{PriceView, parts_sum, tree_sum, IsLeast, plus, AtMost}
 use Rattle.tree_laws.proofs.Least.{IsLeast-empty, IsLeast-sums}
 use Rattle.roster_model.specs.Trees.{On}
@@ -112,7 +112,7 @@ module _ (g : Grammar) (p : PriceView) (i l : ℕ) where
           let len : z ≡ l = omega arith in
           let r : k.0.0.0 ≡ rule = same k.0.0.0 (rw (← e) k.0.0.1) in
           let d : Derive g rule.right i inner = subst (λ (v : Rule). Derive g v.right i inner) r k.0.0.6 in
-          let c : covers inner ≡ l = omega arith in
+          let c : span_length inner ≡ l = omega arith in
           rw e (plus-rule a (parts_sum p q 0 i inner) (p.rule_of q) (h.least inner (d, c)))
 
   -- no rule: none has this left side, or does not stand

@@ -3,7 +3,7 @@ use Rattle.std.proofs.Common.{refl, ◌≤◌, ◌≡◌, ℕ, suc, ℤ, ◌<◌
 use Rattle.roster_model.specs.declared.grammar.Grammar.{Grammar}
 use Rattle.roster_model.specs.declared.grammar.Sym.{Sym}
 use Rattle.roster_model.specs.declared.grammar.Sym.TheVariants.{Code, Name}
-use Rattle.roster_model.specs.Trees.{Parts, done, letter, uses, covers, Derive}
+use Rattle.roster_model.specs.Trees.{Parts, done, letter, uses, span_length, Derive}
 use Rattle.roster_model.specs.Sums.{PriceView, parts_sum, IsLeast, plus}
 use Rattle.roster_model.specs.Sums.{IsLesser}
 use Rattle.tree_laws.proofs.Least.{IsLeast-empty, IsLeast-same, IsLeast-union}
@@ -25,7 +25,7 @@ module _ (g : Grammar) (p : PriceView) (r k i l : ℕ) where
   first_some (Code c) ss (uses q n inner rest) h = absurd h
   first_some (Name c) ss (uses q n inner rest) h = h.4
 
-  covers_some : (s : Sym) (ss : List Sym) (j : ℕ) (w : Parts) → Derive g (s ∷ ss) j w → 0 < covers w
+  covers_some : (s : Sym) (ss : List Sym) (j : ℕ) (w : Parts) → Derive g (s ∷ ss) j w → 0 < span_length w
   covers_some (Code c) ss j done h = absurd h
   covers_some (Name c) ss j done h = absurd h
   covers_some s ss j (letter d rest) h = omega arith

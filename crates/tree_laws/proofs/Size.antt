@@ -7,7 +7,7 @@ use Rattle.roster_model.specs.declared.grammar.Rule.{Rule}
 use Rattle.roster_model.specs.declared.grammar.Sym.{Sym}
 use Rattle.roster_model.specs.declared.grammar.Sym.TheVariants.{Code, Name}
 use Rattle.roster_model.specs.Grammar.{rule_at}
-use Rattle.roster_model.specs.Trees.{Parts, done, letter, uses, covers, Derive, steps}
+use Rattle.roster_model.specs.Trees.{Parts, done, letter, uses, span_length, Derive, steps}
 use Rattle.roster_model.specs.UnitRules.{IsRanked}
 use Rattle.tree_laws.specs.Parts.{use_count, part_count, beside}
 use Rattle.roster_model.specs.Sums.{PriceView, parts_sum, arc_sum, plus, Within, AllWithin}
@@ -19,12 +19,12 @@ tops (letter c rest) = 1 + tops rest
 tops (uses r n inner rest) = 1 + tops rest
 
 module _ (g : Grammar) where
-  none_covers : (i : ℕ) (t : Parts) → Derive g [] i t → covers t ≡ 0
+  none_covers : (i : ℕ) (t : Parts) → Derive g [] i t → span_length t ≡ 0
   none_covers i done h = refl
   none_covers i (letter c rest) h = absurd h
   none_covers i (uses r n inner rest) h = absurd h
 
-  one_letter : (i c : ℕ) (t : Parts) → Derive g (Code c ∷ []) i t → (use_count t ≡ 0) × (covers t ≡ 1)
+  one_letter : (i c : ℕ) (t : Parts) → Derive g (Code c ∷ []) i t → (use_count t ≡ 0) × (span_length t ≡ 1)
   one_letter i c done h = absurd h
   one_letter i c (uses r n inner rest) h = absurd h
   one_letter i c (letter d done) h = (refl, refl)
@@ -48,10 +48,10 @@ module _ (g : Grammar) where
 module _ (g : Grammar) (rank : ℕ → ℕ) (names : ℕ) (ranked : IsRanked g rank names) where
   -- Few uses: a part side by side with others leaves each name one use less, and a one-symbol rule one name less.
   abbrev pub Few : List Sym → Parts → Type 0
-  Few ss t = (use_count t + tops t * names ≤ 2 * (covers t * names))
-      × ((x : ℕ) → ss ≡ Name x ∷ [] → use_count t + rank x + names ≤ 2 * (covers t * names))
+  Few ss t = (use_count t + tops t * names ≤ 2 * (span_length t * names))
+      × ((x : ℕ) → ss ≡ Name x ∷ [] → use_count t + rank x + names ≤ 2 * (span_length t * names))
 
-  one_use : (r n i x : ℕ) (rule : Rule) (inner : Parts) → rule_at g r ≡ Some rule → rule.left ≡ x → 0 < n → covers inner ≡ n
+  one_use : (r n i x : ℕ) (rule : Rule) (inner : Parts) → rule_at g r ≡ Some rule → rule.left ≡ x → 0 < n → span_length inner ≡ n
       → (ss : List Sym) → rule.right ≡ ss → Derive g ss i inner → Few ss inner → 1 + use_count inner + rank x + names ≤ 2 * (n * names)
   one_use r n i x rule inner at left some len [] right h few = absurd (omega (arith, none_covers g i inner h))
   one_use r n i x rule inner at left some len (Code c ∷ []) right h few =
@@ -85,14 +85,14 @@ module _ (g : Grammar) (rank : ℕ → ℕ) (names : ℕ) (ranked : IsRanked g r
       (omega (arith, one, more.0), λ y e. last ss rest y e one h.7)
     where
       last : (ss : List Sym) (rest : Parts) (y : ℕ) → ◌≡◌ {A = List Sym} (Name x ∷ ss) (Name y ∷ []) → 1 + use_count inner + rank x + names ≤ 2 * (n * names) → Derive g ss (i + n) rest
-          → use_count (uses r n inner rest) + rank y + names ≤ 2 * (covers (uses r n inner rest) * names)
+          → use_count (uses r n inner rest) + rank y + names ≤ 2 * (span_length (uses r n inner rest) * names)
       last [] done y e one k = let same : x ≡ y = cc in rw (← same) (omega (arith, one))
       last [] (letter d rest) y e one k = absurd k
       last [] (uses r' n' inner' rest) y e one k = absurd k
       last (s ∷ ss) rest y e one k = cc
 
   -- a tree of a name on a span of n periods has at most (2n - 1) * names rule uses
-  pub few_uses : (t : Parts) (x i : ℕ) → Derive g (Name x ∷ []) i t → use_count t + names ≤ 2 * (covers t * names)
+  pub few_uses : (t : Parts) (x i : ℕ) → Derive g (Name x ∷ []) i t → use_count t + names ≤ 2 * (span_length t * names)
   few_uses t x i h = omega (arith, (few t (Name x ∷ []) i h).1 x refl)
 
 -- each use is a step
@@ -103,16 +103,16 @@ length-steps (uses r n inner rest) i =
     omega (arith, length-append (steps i inner) (steps (i + n) rest), length-steps inner i, length-steps rest (i + n))
 
 -- the steps of parts side by side
-pub steps-beside : (t u : Parts) (i : ℕ) → steps i (beside t u) ≡ steps i t ++ steps (i + covers t) u
+pub steps-beside : (t u : Parts) (i : ℕ) → steps i (beside t u) ≡ steps i t ++ steps (i + span_length t) u
 steps-beside done u i = let e : i ≡ i + 0 = omega arith in ap (λ (n : ℕ). steps n u) e
 steps-beside (letter c rest) u i =
-    let e : i + 1 + covers rest ≡ i + (1 + covers rest) = omega arith in
+    let e : i + 1 + span_length rest ≡ i + (1 + span_length rest) = omega arith in
     steps-beside rest u (i + 1) ∙ ap (λ (n : ℕ). steps (i + 1) rest ++ steps n u) e
 steps-beside (uses r n inner rest) u i =
-    let e : i + n + covers rest ≡ i + (n + covers rest) = omega arith in
+    let e : i + n + span_length rest ≡ i + (n + span_length rest) = omega arith in
     let b = steps-beside rest u (i + n) ∙ ap (λ (m : ℕ). steps (i + n) rest ++ steps m u) e in
     ap (λ xs. (record { rule = r; start = i; len = n } ∷ steps i inner) ++ xs) b
-    ∙ sym (append_assoc (record { rule = r; start = i; len = n } ∷ steps i inner) (steps (i + n) rest) (steps (i + (n + covers rest)) u))
+    ∙ sym (append_assoc (record { rule = r; start = i; len = n } ∷ steps i inner) (steps (i + n) rest) (steps (i + (n + span_length rest)) u))
 
 -- their uses
 pub use_count-beside : (t u : Parts) → use_count (beside t u) ≡ use_count t + use_count u

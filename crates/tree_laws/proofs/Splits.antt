@@ -4,7 +4,7 @@ use Rattle.std.proofs.lemmas.Int.{ints}
 use Rattle.roster_model.specs.declared.grammar.Grammar.{Grammar}
 use Rattle.roster_model.specs.declared.grammar.Sym.{Sym}
 use Rattle.roster_model.specs.declared.grammar.Sym.TheVariants.{Code, Name}
-use Rattle.roster_model.specs.Trees.{Parts, done, letter, uses, covers, Derive}
+use Rattle.roster_model.specs.Trees.{Parts, done, letter, uses, span_length, Derive}
 use Rattle.roster_model.specs.Sums.{PriceView, parts_sum, tree_sum, arc_sum, IsLeast, plus, AtMost}
 use Rattle.roster_model.specs.Trees.{On}
 use Rattle.tree_laws.specs.Laws.{arc_at}
@@ -12,7 +12,7 @@ use Rattle.roster_model.specs.Sums.{SymbolLeast, PartsLeast}
 use Rattle.tree_laws.specs.Parts.{first, beside}
 
 arc_more : (g : Grammar) (p : PriceView) (r k i s j : ℕ) (x : Sym) (ss : List Sym) (u : Parts) → Derive g (x ∷ ss) j u
-    → arc_sum p r k i s u ≡ p.arc_of (arc_at r k i (s + covers u) s)
+    → arc_sum p r k i s u ≡ p.arc_of (arc_at r k i (s + span_length u) s)
 arc_more g p r zero i s j x ss u h = refl
 arc_more g p r (suc k) i s j (Code c) ss done h = absurd h
 arc_more g p r (suc k) i s j (Name c) ss done h = absurd h
@@ -34,8 +34,8 @@ module _ (g : Grammar) (p : PriceView) (r k i m n l : ℕ) (x : Sym) (ss : List 
   joined (Code c) (letter d done) u ht hu =
       let one : m ≡ 1 = omega arith in
       let at : i + m ≡ i + 1 = omega arith in
-      let e : arc_sum p r k i 1 u ≡ p.arc_of (arc_at r k i (1 + covers u) 1) = arc_more g p r k i 1 (i + m) x ss u hu.0 in
-      let len : 1 + covers u ≡ l = omega arith in
+      let e : arc_sum p r k i 1 u ≡ p.arc_of (arc_at r k i (1 + span_length u) 1) = arc_more g p r k i 1 (i + m) x ss u hu.0 in
+      let len : 1 + span_length u ≡ l = omega arith in
       let a : arc_sum p r k i 1 u ≡ p.arc_of (arc_at r k i l m) = rw (← len, one) e in
       let b : parts_sum p r (suc k) (i + 1) u ≡ parts_sum p r (suc k) (i + m) u = ap (λ y. parts_sum p r (suc k) y u) (sym at) in
       (((ht.0.0, moved g (x ∷ ss) u (i + m) (i + 1) at hu.0), len), sym one, rw (a, b))
@@ -46,8 +46,8 @@ module _ (g : Grammar) (p : PriceView) (r k i m n l : ℕ) (x : Sym) (ss : List 
   joined (Name c) (uses q z inner done) u ht hu =
       let one : m ≡ z = omega arith in
       let at : i + m ≡ i + z = omega arith in
-      let e : arc_sum p r k i z u ≡ p.arc_of (arc_at r k i (z + covers u) z) = arc_more g p r k i z (i + m) x ss u hu.0 in
-      let len : z + covers u ≡ l = omega arith in
+      let e : arc_sum p r k i z u ≡ p.arc_of (arc_at r k i (z + span_length u) z) = arc_more g p r k i z (i + m) x ss u hu.0 in
+      let len : z + span_length u ≡ l = omega arith in
       let a : arc_sum p r k i z u ≡ p.arc_of (arc_at r k i l m) = rw (← len, one) e in
       let b : parts_sum p r (suc k) (i + z) u ≡ parts_sum p r (suc k) (i + m) u = ap (λ y. parts_sum p r (suc k) y u) (sym at) in
       (((ht.0.0, ht.0.1, ht.0.2, ht.0.3, ht.0.4, ht.0.5, ht.0.6, moved g (x ∷ ss) u (i + m) (i + z) at hu.0), len), sym one, rw (a, b))
@@ -63,16 +63,16 @@ module _ (g : Grammar) (p : PriceView) (r k i m n l : ℕ) (x : Sym) (ss : List 
   parted (Code c) (letter d u) h f =
       let hu : On g (x ∷ ss) (i + m) n u = (moved g (x ∷ ss) u (i + 1) (i + m) (omega arith) h.0.1, omega arith) in
       let ht : On g (Code c ∷ []) i m (letter d done) = ((h.0.0, tt), omega arith) in
-      let e : arc_sum p r k i 1 u ≡ p.arc_of (arc_at r k i (1 + covers u) 1) = arc_more g p r k i 1 (i + m) x ss u hu.0 in
-      let len : 1 + covers u ≡ l = omega arith in
+      let e : arc_sum p r k i 1 u ≡ p.arc_of (arc_at r k i (1 + span_length u) 1) = arc_more g p r k i 1 (i + m) x ss u hu.0 in
+      let len : 1 + span_length u ≡ l = omega arith in
       let a : arc_sum p r k i 1 u ≡ p.arc_of (arc_at r k i l m) = rw (← len, ← f) e in
       let b : parts_sum p r (suc k) (i + 1) u ≡ parts_sum p r (suc k) (i + m) u = ap (λ y. parts_sum p r (suc k) (i + y) u) f in
       (letter d done, u, ht, hu, rw (a, b))
   parted (Name c) (uses q z inner u) h f =
       let hu : On g (x ∷ ss) (i + m) n u = (moved g (x ∷ ss) u (i + z) (i + m) (omega arith) h.0.7, omega arith) in
       let ht : On g (Name c ∷ []) i m (uses q z inner done) = ((h.0.0, h.0.1, h.0.2, h.0.3, h.0.4, h.0.5, h.0.6, tt), omega arith) in
-      let e : arc_sum p r k i z u ≡ p.arc_of (arc_at r k i (z + covers u) z) = arc_more g p r k i z (i + m) x ss u hu.0 in
-      let len : z + covers u ≡ l = omega arith in
+      let e : arc_sum p r k i z u ≡ p.arc_of (arc_at r k i (z + span_length u) z) = arc_more g p r k i z (i + m) x ss u hu.0 in
+      let len : z + span_length u ≡ l = omega arith in
       let a : arc_sum p r k i z u ≡ p.arc_of (arc_at r k i l m) = rw (← len, ← f) e in
       let b : parts_sum p r (suc k) (i + z) u ≡ parts_sum p r (suc k) (i + m) u = ap (λ y. parts_sum p r (suc k) (i + y) u) f in
       (uses q z inner done, u, ht, hu, rw (a, b))

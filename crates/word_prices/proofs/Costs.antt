@@ -17,7 +17,7 @@ use Rattle.roster_model.specs.Folds.{sum_n, Each}
 use Rattle.roster_model.specs.Arcs.{cost, rule_cost, used_rules}
 use Rattle.roster_model.specs.Sound.{Exists, IsSound}
 use Rattle.roster_model.specs.Sums.{arc_sum, parts_sum, tree_sum, plus, AtMost, IsLeast}
-use Rattle.roster_model.specs.Trees.{Parts, done, letter, uses, covers, Derive, byte_of, word, IsTreeOf}
+use Rattle.roster_model.specs.Trees.{Parts, done, letter, uses, span_length, Derive, byte_of, word, IsTreeOf}
 use Rattle.tree_laws.specs.Parts.{use_count}
 use Rattle.tree_laws.proofs.Rules.{sound-rule}
 use Rattle.tree_laws.proofs.Size.{length-steps}
@@ -120,7 +120,7 @@ module _ (g : Grammar) (sound : IsSound g) where
   right_are r rule at = each_of (Exists (length g.codes) (length g.names)) rule.right (sound-rule g sound r rule at).symbols
 
   -- a word has as many letters as its tree covers
-  pub length-word : (t : Parts) (i : ℕ) (ss : List Sym) → Are ss → Derive g ss i t → length (word g t) ≡ covers t
+  pub length-word : (t : Parts) (i : ℕ) (ss : List Sym) → Are ss → Derive g ss i t → length (word g t) ≡ span_length t
   length-word done i ss v d = refl
   length-word (letter c rest) i [] v d = absurd d
   length-word (letter c rest) i (Name x ∷ ss) v d = absurd d

@@ -1,7 +1,7 @@
 use Rattle.std.proofs.Common.{◌≡◌, ◌≤◌, ◌*◌, take}
 use Rattle.roster_model.specs.Folds.{sum_n}
-use Rattle.arc_terms.specs.Counts.{top_cost}
-use Rattle.pinned_value.specs.Net.{IsNet}
+use Rattle.arc_laws.specs.Counts.{top_cost}
+use Rattle.pinned_part.specs.Net.{IsNet}
 use Rattle.arc_branch.specs.Costs.{low_of}
 use Rattle.arc_branch.proofs.cost.count_arcs.Given as goal
 

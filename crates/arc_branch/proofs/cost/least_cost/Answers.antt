@@ -1,8 +1,8 @@
 use Rattle.std.proofs.Common.{◌≡◌, ◌*◌, subst, List}
 use Rattle.roster_model.specs.declared.grammar.ArcKey.{ArcKey}
 use Rattle.roster_model.specs.Folds.{sum_n}
-use Rattle.arc_terms.specs.Counts.{top_cost}
-use Rattle.pinned_value.specs.Net.{IsNet}
+use Rattle.arc_laws.specs.Counts.{top_cost}
+use Rattle.pinned_part.specs.Net.{IsNet}
 use Rattle.arc_branch.specs.Costs.{low_of}
 use Rattle.arc_branch.proofs.Costing.{cost-some, cost-none}
 use Rattle.arc_branch.proofs.cost.least_cost.Goals as goal

@@ -1,6 +1,6 @@
 use Rattle.std.proofs.Common.{◌≡◌, refl, subst, sym, ◌∙◌}
 use Rattle.roster_model.specs.declared.grammar.Grammar.{Grammar}
-use Rattle.worked_examples.specs.RestAndWork.{rest_and_work, block_tree, IsTreeOfBlock}
+use Rattle.sample_days.specs.RestAndWork.{rest_and_work, block_tree, IsTreeOfBlock}
 use Rattle.grammar_core.specs.Lists.{IsSpanTree}
 use Rattle.grammar_core.proofs.tests.the_arcs_of_a_word.Goals as goal
 

@@ -1,6 +1,6 @@
 use Rattle.std.proofs.Common.{ℕ, List, length, map, sym, subst}
 use Rattle.roster_model.specs.declared.grammar.ArcKey.{ArcKey}
-use Rattle.arc_terms.specs.OrNodes.{root_of}
+use Rattle.arc_laws.specs.OrNodes.{root_of}
 use Rattle.parse_graph.specs.declared.node.NodeKey.{NodeKey}
 use Rattle.parse_graph.specs.declared.rows.Entry.{Entry}
 use Rattle.parse_graph.specs.Lists.{AreRows}

@@ -3,7 +3,7 @@ use Rattle.std.proofs.lemmas.Option.{same_Some}
 use Rattle.roster_model.specs.declared.grammar.Rule.{Rule}
 use Rattle.roster_model.specs.declared.grammar.Sym.TheVariants.{Code}
 use Rattle.roster_model.specs.Folds.{In}
-use Rattle.arc_terms.specs.OrNodes.{OrNode, suffix}
+use Rattle.arc_laws.specs.OrNodes.{OrNode, suffix}
 use Rattle.parse_graph.proofs.Using.{used-more}
 use Rattle.parse_graph.proofs.links.kids_of.Goals as goal
 

@@ -1,5 +1,5 @@
 use Rattle.std.proofs.Common.{map, subst}
-use Rattle.arc_terms.specs.OrNodes.{OrNode}
+use Rattle.arc_laws.specs.OrNodes.{OrNode}
 use Rattle.parse_graph.specs.Linked.{AddsNode}
 use Rattle.parse_graph.specs.Nodes.{or_node}
 use Rattle.parse_graph.proofs.Linking.{linked-done}

@@ -1,5 +1,5 @@
 use Rattle.std.proofs.Common.{sym, subst}
-use Rattle.proof_terms.specs.Walk.{IsLeafValue}
+use Rattle.certificate_laws.specs.Walk.{IsLeafValue}
 use Rattle.proof_check.specs.Stacks.{StackView}
 use Rattle.proof_check.specs.Steps.{way, MayFollow, IsShown}
 use Rattle.proof_check.specs.Views.{node_of}

@@ -4,8 +4,8 @@ use Rattle.roster_model.specs.declared.instance.Instance.{Instance}
 use Rattle.roster_model.specs.declared.instance.Shift.{Shift}
 use Rattle.certificates.specs.declared.cert.Cert.{Cert}
 use Rattle.certificates.specs.declared.why.Why.{Why}
-use Rattle.proof_terms.specs.Causes.{IsFirstCause}
-use Rattle.stated_roster.specs.Faults.{IsRightlyStated, IsRosterCause}
+use Rattle.certificate_laws.specs.Causes.{IsFirstCause}
+use Rattle.roster_part.specs.Faults.{IsRightlyStated, IsRosterCause}
 use Rattle.proof_check.specs.Verdicts.{HasRightRoster, States}
 use Rattle.proof_check.proofs.FirstCauses.{roster-first}
 use Rattle.proof_check.proofs.bench.Bench.roster_cause.Goals as goal

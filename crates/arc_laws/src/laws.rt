@@ -1,0 +1,43 @@
+ghost use Rattle.arc_laws.specs.Laws.{ArcOnce, MadeOnce, OneList, TreesBalanced, RootCounts, LeavesCount, ArcsPay, PathBounds};
+
+/// An arc stands at most once in a tree of the day.
+pub fn arc_once()
+    ensures { ArcOnce }
+{}
+
+/// At most one arc of a tree of the day makes a given name or suffix on a given span.
+pub fn made_once()
+    ensures { MadeOnce }
+{}
+
+/// Two lists of the arcs of an instance in their order are the same list.
+pub fn one_list()
+    ensures { OneList }
+{}
+
+/// How many of some trees of the day have each arc is balanced: every name or suffix on a span, save
+/// the root, is made as often as it is used.
+pub fn trees_balanced()
+    ensures { TreesBalanced }
+{}
+
+/// The counts of the arcs that make the start name on the whole day add up to the number of trees.
+pub fn root_counts()
+    ensures { RootCounts }
+{}
+
+/// The counts of the arcs that use a letter add up to the number of trees that have it.
+pub fn leaves_count()
+    ensures { LeavesCount }
+{}
+
+/// The counts of the arcs of whole right sides, times their rules' costs, add up to the trees' cost.
+pub fn arcs_pay()
+    ensures { ArcsPay }
+{}
+
+/// The bounds that the cuts of a path leave an arc hold exactly the counts that keep to each cut on
+/// it.
+pub fn path_bounds()
+    ensures { PathBounds }
+{}

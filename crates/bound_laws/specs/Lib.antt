@@ -1,0 +1,13 @@
+pub mod Infeasible
+pub mod Lagrangian
+pub mod Priced
+pub mod TreeRosters
+pub mod Pinned
+pub mod BestPrices
+pub mod Points
+pub mod DutyTrees
+pub mod Laws
+pub mod Plain
+pub mod SmallShares
+pub mod WorkedGroups
+pub mod WorkedFloors

@@ -1,0 +1,20 @@
+-- Paths that leave each arc one count, and what such counts cost.
+use Rattle.std.specs.Prelude.{ℕ, ◌≡◌, ◌≤◌, ◌+◌, ◌⊎◌, List}
+use Rattle.roster_model.specs.declared.grammar.ArcKey.{ArcKey}
+use Rattle.roster_model.specs.declared.instance.Cut.{Cut}
+use Rattle.roster_model.specs.declared.instance.Instance.{Instance}
+use Rattle.roster_model.specs.Arcs.{IsArc}
+use Rattle.roster_model.specs.Cuts.{lo, hi}
+use Rattle.roster_model.specs.GreatestCost.{greatest_cost}
+use Rattle.arc_laws.specs.Lists.{AreArcs}
+use Rattle.arc_laws.specs.Counts.{AreCounts, counts_cost}
+
+-- the cuts leave no arc of the instance more than one count
+pub record IsPinned (i : Instance) (cuts : List Cut) : Type 0 where
+  pub tight : (a : ArcKey) → IsArc i.grammar a → hi i.heads_max cuts a ≤ lo cuts a
+
+-- the cost of these counts, or one more than the greatest cost where they are those of no roster
+pub record IsPinnedValue (i : Instance) (cuts : List Cut) (v : ℕ) : Type 0 where
+  pub listed : List ArcKey
+  pub are : AreArcs i.grammar listed
+  pub value : (AreCounts i listed (lo cuts) × (v ≡ counts_cost i listed (lo cuts))) ⊎ ((AreCounts i listed (lo cuts) → ⊥) × (v ≡ greatest_cost i + 1))

@@ -1,0 +1,16 @@
+//! What prices and cuts say of the rosters below a node of the search.
+//!
+//! The crate has the Lagrangian value of prices at a list of cuts, the value of a path that leaves
+//! each arc one count, best prices, and lists of trees as rosters. Each public function has an empty
+//! body, and its contract is a law: the Lagrangian bound is the weak duality of the relaxation of
+//! the cells' and cuts' rows, by which a yes to a certificate is sound.
+#![tactic(auto)]
+
+mod laws;
+
+pub use laws::{
+    are_one_value, infeasible_has_none, day_trees_have_teams, lagrangian_bound, one_half,
+    pinned_is_cost, plain_lagrangians, plain_rosters, priced_bound, rosters_cost_less,
+    rosters_have_trees, small_shares, trees_cost_less, trees_spell_rosters,
+    trees_stand_for_rosters, worked_floors, worked_groups,
+};

@@ -1,0 +1,7 @@
+pub mod Lists
+pub mod Unique
+pub mod ShownBound
+pub mod RightLemmas
+pub mod Refused
+pub mod Steps
+pub mod OneCause

@@ -1,0 +1,34 @@
+-- The laws of certificates that the crates above cite.
+use Rattle.std.specs.Prelude.{ℕ, ◌≡◌, List, ◌++◌}
+use Rattle.roster_model.specs.declared.instance.Cut.{Cut}
+use Rattle.roster_model.specs.declared.instance.Instance.{Instance}
+use Rattle.roster_model.specs.SoundInstance.{IsSoundInstance}
+use Rattle.certificates.specs.declared.cert.Cert.{Cert}
+use Rattle.certificates.specs.declared.cert.Node.{Node}
+use Rattle.certificates.specs.declared.why.Why.{Why}
+use Rattle.certificates.specs.Nodes.{Proof, preorder}
+use Rattle.certificates.specs.Sound.{IsSoundCert}
+use Rattle.certificate_laws.specs.Shown.{Shows}
+use Rattle.certificate_laws.specs.Accepted.{Accepts}
+use Rattle.certificate_laws.specs.Right.{YesIsRight}
+use Rattle.certificate_laws.specs.Causes.{Cause, IsFirstCause}
+
+-- what an accepted certificate states is true
+abbrev pub YesIsSound : Type 0
+YesIsSound = (i : Instance) (c : Cert) → IsSoundInstance i → IsSoundCert i c → Accepts i c → YesIsRight i c
+
+-- what begins with the nodes of two trees begins with those of one
+abbrev pub OneProof : Type 0
+OneProof = (t u : Proof) (xs ys : List Node) → preorder t ++ xs ≡ preorder u ++ ys → (t ≡ u) × (xs ≡ ys)
+
+-- a tree shows one value
+abbrev pub OneShownValue : Type 0
+OneShownValue = (i : Instance) (cuts : List Cut) (t : Proof) (v w : ℕ) → Shows i cuts t v → Shows i cuts t w → v ≡ w
+
+-- no cause holds of an accepted certificate
+abbrev pub CausesRefuse : Type 0
+CausesRefuse = (i : Instance) (c : Cert) (why : Why) → Cause i c why → Accepts i c → ⊥
+
+-- a certificate has one first cause to be refused
+abbrev pub OneFirstCause : Type 0
+OneFirstCause = (i : Instance) (c : Cert) (v w : Why) → IsFirstCause i c v → IsFirstCause i c w → v ≡ w

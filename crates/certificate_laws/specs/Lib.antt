@@ -1,0 +1,7 @@
+pub mod Shown
+pub mod Accepted
+pub mod Right
+pub mod Causes
+pub mod Walk
+pub mod Laws
+pub mod Worked

@@ -1,5 +1,0 @@
-use Rattle.node_terms.proofs.Shares.{heads-within, cells-within, least-within, cuts-within}
-use Rattle.node_terms.proofs.laws.small_shares.Goals as goal
-
-pub returns : goal.returns
-returns c = record { heads = heads-within; cells = cells-within; least = least-within; cuts = cuts-within }

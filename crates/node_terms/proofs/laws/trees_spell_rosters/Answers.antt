@@ -1,6 +1,0 @@
-use Rattle.node_terms.proofs.SoundReady.{ready}
-use Rattle.node_terms.proofs.Spelled.{spelled-by}
-use Rattle.node_terms.proofs.laws.trees_spell_rosters.Goals as goal
-
-pub returns : goal.returns
-returns c = λ i ds ps ts sound prices each roster meets. spelled-by i (ready i sound) ts ds ps prices each roster meets

@@ -1,6 +1,0 @@
-use Rattle.node_terms.proofs.Realised.{stand-for}
-use Rattle.node_terms.proofs.SoundReady.{ready}
-use Rattle.node_terms.proofs.laws.trees_stand_for_rosters.Goals as goal
-
-pub returns : goal.returns
-returns c = λ i ds ps ts sound r k. stand-for i (ready i sound) ds ps ts r k

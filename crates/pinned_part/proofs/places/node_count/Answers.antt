@@ -1,0 +1,13 @@
+use Rattle.std.proofs.Common.{arith}
+use Rattle.pinned_part.proofs.Placing.{few-nodes}
+use Rattle.pinned_part.proofs.places.node_count.Goals as goal
+
+pub overflow_mul-result : goal.overflow_mul-result
+overflow_mul-result c =
+    let few = few-nodes c.args.grammar.now c.requires in
+    rw (c.count.ensures, c.new.ensures, c.width.ensures.value) (omega (arith, few))
+
+pub returns-clause-within : goal.returns-clause-within
+returns-clause-within c =
+    let few = few-nodes c.args.grammar.now c.requires in
+    rw (c.count.ensures, c.new.ensures, c.width.ensures.value) (omega (arith, few))

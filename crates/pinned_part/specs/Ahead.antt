@@ -1,0 +1,38 @@
+-- A walk over the arcs of the instance in their order.
+use Rattle.std.specs.Prelude.{ℕ, ℤ, ◌≡◌, ◌≤◌, ◌*◌, ◌⊎◌, List, Option, None, Some, IfSome, length}
+use Rattle.roster_model.specs.declared.grammar.ArcKey.{ArcKey}
+use Rattle.roster_model.specs.declared.grammar.Grammar.{Grammar}
+use Rattle.roster_model.specs.declared.instance.Cut.{Cut}
+use Rattle.roster_model.specs.Arcs.{IsArc, ArcBefore}
+use Rattle.roster_model.specs.Cuts.{lo}
+use Rattle.roster_model.specs.Folds.{sum_n, Each, In}
+use Rattle.arc_laws.specs.Lists.{IsRising, AreArcs}
+use Rattle.arc_laws.specs.Counts.{top_cost}
+use Rattle.span_table.specs.Order.{key_number}
+use Rattle.pinned_part.specs.Net.{IsNet}
+
+-- the arc is the next one or comes after it
+abbrev pub IsAhead : Option ArcKey → ArcKey → Type 0
+IsAhead None x = ⊥
+IsAhead (Some a) x = (x ≡ a) ⊎ ArcBefore a x
+
+-- a number above the numbers of all arcs that the walk has passed
+abbrev pub passed_bound : Option ArcKey → ℕ
+passed_bound None = 1099511627776
+passed_bound (Some a) = key_number a
+
+-- the arcs that the walk has passed, in order, where it has come to the next one
+pub record IsPassed (g : Grammar) (listed : List ArcKey) (next : Option ArcKey) : Type 0 where
+  pub sound : (a : ArcKey) → In a listed → IsArc g a
+  pub whole : (a : ArcKey) → IsArc g a → In a listed ⊎ IsAhead next a
+  pub rising : IsRising listed
+  pub before : IfSome next (λ b. Each (λ a. ArcBefore a b) listed)
+  pub next_arc : IfSome next (IsArc g)
+  pub few : length listed ≤ passed_bound next
+
+-- all arcs of the instance were counted by the least counts that the cuts leave them
+pub record AreCounted (g : Grammar) (cuts : List Cut) (nodes : List ℤ) (cost : ℕ) : Type 0 where
+  pub listed : List ArcKey
+  pub are : AreArcs g listed
+  pub net : IsNet g listed (lo cuts) nodes
+  pub paid : cost ≡ sum_n (λ a. lo cuts a * top_cost g a) listed

@@ -1,0 +1,47 @@
+-- Places in a row for the names, the suffixes and the letters of a day.
+use Rattle.std.specs.Prelude.{ℕ, ◌≡◌, ◌+◌, ◌-◌, ◌*◌, ◌<◌, ◌≤◌, Some, length}
+use Rattle.roster_model.specs.declared.grammar.ArcKey.{ArcKey}
+use Rattle.roster_model.specs.declared.grammar.Grammar.{Grammar}
+use Rattle.roster_model.specs.declared.grammar.Rule.{Rule}
+use Rattle.roster_model.specs.Grammar.{rule_at, InDay}
+use Rattle.span_forms.specs.Places.{shorter, place_of}
+use Rattle.arc_laws.specs.OrNodes.{OrNode, name, suffix, leaf}
+
+-- how many names and suffixes have places on each span: each name, and seven suffixes of each rule
+abbrev pub width : Grammar → ℕ
+width g = length g.names + 7 * length g.rules
+
+-- how many places there are for names and suffixes
+abbrev pub node_count : Grammar → ℕ
+node_count g = shorter g.periods g.periods * width g
+
+-- how many places there are in all
+abbrev pub place_count : Grammar → ℕ
+place_count g = node_count g + length g.codes * 96
+
+-- the place of the n-th name or suffix on a span
+abbrev pub span_place : Grammar → ℕ → ℕ → ℕ → ℕ
+span_place g i l n = place_of g.periods i l * width g + n
+
+-- the place of a node: span by span the names and then the suffixes, and after all spans the letters
+abbrev pub node_place : Grammar → OrNode → ℕ
+node_place g (name x i l) = span_place g i l x
+node_place g (suffix r k i l) = span_place g i l (length g.names + ((r - 1) * 7 + (k - 1)))
+node_place g (leaf c) = node_count g + (c.code * 96 + (c.period - 1))
+
+-- the node has a place of its own
+abbrev pub IsPlaced : Grammar → OrNode → Type 0
+IsPlaced g (name x i l) = (x < length g.names) × InDay g.periods i l
+IsPlaced g (suffix r k i l) = (1 ≤ r) × (r ≤ length g.rules) × (1 ≤ k) × (k ≤ 7) × InDay g.periods i l
+IsPlaced g (leaf c) = (c.code < length g.codes) × (1 ≤ c.period) × (c.period ≤ 96)
+
+-- what all arcs of the instance have: a rule and one of its symbols, a span of the day, and a first
+-- part of it, shorter than the span where other symbols follow
+pub record IsShaped (g : Grammar) (a : ArcKey) : Type 0 where
+  pub rule : Rule
+  pub at : rule_at g a.rule ≡ Some rule
+  pub symbol : a.suffix < length rule.right
+  pub day : InDay g.periods a.start a.len
+  pub some : 1 ≤ a.part
+  pub inside : a.part ≤ a.len
+  pub others : a.suffix + 2 ≤ length rule.right → a.part < a.len

@@ -1,0 +1,86 @@
+-- The sum over the cuts, by the listed multipliers one after another.
+use Rattle.std.proofs.Common.{◌≡◌, ◌≢◌, ℕ, zero, suc, ◌+◌, ◌-◌, ◌<◌, ◌≤◌, inl, inr, List, [], ◌∷◌, length, get_or, drop, subst, refl, ap, ◌∙◌, arith, Some}
+use Rattle.std.specs.Prelude.{ℤ, pos, ◌+ℤ◌, slice_get}
+use Rattle.std.proofs.lemmas.Int.{ints}
+use Rattle.std.proofs.lemmas.List.{at_drop_more, at_drop_all}
+use Rattle.std.proofs.lemmas.Option.{same_Some, none-some}
+use Rattle.std.proofs.lemmas.Bool.Decides.{eqb_tells}
+use Rattle.roster_model.specs.declared.instance.Cut.{Cut}
+use Rattle.roster_model.specs.declared.instance.Mult.{Mult}
+use Rattle.roster_model.specs.declared.instance.Side.{Side}
+use Rattle.roster_model.specs.declared.instance.Side.TheVariants.{Low, High}
+use Rattle.roster_model.specs.Folds.{Each, sum_z}
+use Rattle.roster_model.specs.PriceLimits.{AreRising}
+use Rattle.roster_model.specs.Reduced.{mult_of, cut_prices}
+use Rattle.bound_laws.specs.Lagrangian.{share_of, cut_share}
+
+abbrev cuts_sum : ℕ → List Cut → List Mult → ℤ
+cuts_sum j cs ms = sum_z cut_share (cut_prices j cs ms)
+
+no_share : (s : Side) (b : ℕ) → share_of s (pos 0) b ≡ pos 0
+no_share Low b = omega (arith, ints)
+no_share High b = omega (arith, ints)
+
+-- no multiplier of the cut stands further on
+abbrev Lacks : ℕ → List Mult → Type 0
+Lacks j ms = Each (λ (m : Mult). m.cut ≢ j) ms
+
+lacked : (j : ℕ) (ms : List Mult) → Lacks j ms → mult_of ms j ≡ pos 0
+lacked j [] h = refl
+lacked j (m ∷ ms) h = elim (eqb_tells m.cut j) [
+  | inl p ↦ absurd (h.0 p.1)
+  | inr p ↦ rw p.0 (lacked j ms h.1)
+]
+
+none : (j : ℕ) (cs : List Cut) → cuts_sum j cs [] ≡ pos 0
+none j [] = refl
+none j (c ∷ cs) = omega (arith, ints, no_share c.side c.b, none (j + 1) cs)
+
+-- the first multiplier is of an earlier cut
+past : (m : Mult) (ms : List Mult) (j : ℕ) (cs : List Cut) → m.cut < j → cuts_sum j cs (m ∷ ms) ≡ cuts_sum j cs ms
+past m ms j [] l = refl
+past m ms j (c ∷ cs) l = elim (eqb_tells m.cut j) [
+  | inl p ↦ absurd (omega (arith, p.1))
+  | inr p ↦ rw p.0 (ap (λ (z : ℤ). share_of c.side (mult_of ms j) c.b +ℤ z) (past m ms (j + 1) cs (omega arith)))
+]
+
+-- a multiplier adds the share of its cut
+taken : (m : Mult) (ms : List Mult) (j k : ℕ) (cs : List Cut) (c : Cut) → Lacks m.cut ms → m.cut ≡ k + j → slice_get cs k ≡ Some c
+    → cuts_sum j cs (m ∷ ms) ≡ share_of c.side m.value c.b +ℤ cuts_sum j cs ms
+taken m ms j k [] c h e at = absurd (none-some c at)
+taken m ms j zero (x ∷ cs) c h e at = elim (eqb_tells m.cut j) [
+  | inl p ↦ rw (p.0, same_Some x c at, ← p.1, lacked m.cut ms h) (omega (arith, ints, no_share c.side c.b, past m ms (m.cut + 1) cs (omega arith)))
+  | inr p ↦ absurd (p.1 (omega arith))
+]
+taken m ms j (suc k) (x ∷ cs) c h e at = elim (eqb_tells m.cut j) [
+  | inl p ↦ absurd (omega (arith, p.1))
+  | inr p ↦ rw p.0 (omega (arith, ints, taken m ms (j + 1) k cs c h (omega arith) at))
+]
+
+lacks : (j : ℕ) (ms : List Mult) → Each (λ (n : Mult). j < n.cut) ms → Lacks j ms
+lacks j [] h = tt
+lacks j (m ∷ ms) h = (λ e. let l = h.0 in absurd (omega arith), lacks j ms h.1)
+
+module _ (cuts : List Cut) (mult : List Mult) (k : ℕ) where
+  abbrev pub mults_sum : ℤ
+  mults_sum = cuts_sum 1 cuts (drop k mult)
+
+module _ (cuts : List Cut) (mult : List Mult) (k : ℕ) (d : Mult) (l : k < length mult) where
+  drop-is : drop k mult ≡ get_or mult k d ∷ drop (k + 1) mult
+  drop-is = at_drop_more (λ (ms : List Mult). ms) mult k d l
+
+  rising-at : AreRising (drop k mult) → AreRising (get_or mult k d ∷ drop (k + 1) mult)
+  rising-at h = let P : List Mult → Type 0 = λ (ms : List Mult). AreRising ms in subst P drop-is h
+
+  pub mults-rising : AreRising (drop k mult) → AreRising (drop (k + 1) mult)
+  mults-rising h = (rising-at h).1
+
+  pub mults-next : (c : Cut) → AreRising (drop k mult) → 1 ≤ (get_or mult k d).cut → slice_get cuts ((get_or mult k d).cut - 1) ≡ Some c
+      → mults_sum cuts mult k ≡ share_of c.side (get_or mult k d).value c.b +ℤ mults_sum cuts mult (k + 1)
+  mults-next c rising first at =
+      let m = get_or mult k d in
+      ap (λ (ms : List Mult). cuts_sum 1 cuts ms) drop-is
+      ∙ taken m (drop (k + 1) mult) 1 (m.cut - 1) cuts c (lacks m.cut (drop (k + 1) mult) (rising-at rising).0) (omega arith) at
+
+pub mults-end : (cuts : List Cut) (mult : List Mult) (k : ℕ) → length mult ≤ k → mults_sum cuts mult k ≡ pos 0
+mults-end cuts mult k l = at_drop_all (λ (ms : List Mult). cuts_sum 1 cuts ms) mult k l ∙ none 1 cuts

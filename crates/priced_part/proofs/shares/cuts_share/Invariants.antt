@@ -1,0 +1,16 @@
+use Rattle.std.proofs.Common.{◌≡◌, ◌^◌, ◌*◌, drop}
+use Rattle.std.specs.Prelude.{◌+ℤ◌}
+use Rattle.roster_model.specs.Folds.{sum_z}
+use Rattle.roster_model.specs.PriceLimits.{AreRising}
+use Rattle.roster_model.specs.Reduced.{cut_prices}
+use Rattle.roster_model.specs.Sums.{Within}
+use Rattle.bound_laws.specs.Lagrangian.{cut_share}
+use Rattle.priced_part.proofs.CutSums.{mults_sum}
+use Rattle.priced_part.proofs.shares.cuts_share.Given as goal
+
+abbrev pub invariant-loop-m : goal.invariant-loop-m
+invariant-loop-m l = record {
+  value : sum_z cut_share (cut_prices 1 l.cuts l.mult) ≡ l.sum +ℤ mults_sum l.cuts l.mult l.m-index;
+  within : Within (2 ^ 87 * l.m-index) l.sum;
+  rising : AreRising (drop l.m-index l.mult);
+}

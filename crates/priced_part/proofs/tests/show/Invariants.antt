@@ -1,0 +1,11 @@
+use Rattle.std.proofs.Common.{◌≡◌}
+use Rattle.roster_model.specs.PriceRooms.{IsRoomFor}
+use Rattle.span_table.specs.Tables.{IsMadeFor}
+use Rattle.priced_part.proofs.tests.show.Given as goal
+
+abbrev pub invariant-loop-case : goal.invariant-loop-case
+invariant-loop-case g l = record {
+  room : IsRoomFor l.room l.day;
+  most : l.room.most ≡ 1;
+  made : IsMadeFor l.day.grammar l.table;
+}

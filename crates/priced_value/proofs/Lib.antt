@@ -1,8 +1,0 @@
-pub mod Searching
-pub mod IdleTeams
-pub mod Penalties
-pub mod LeastCounts
-pub mod CellSums
-pub mod CutSums
-pub mod Reducing
-pub mod Rounding

@@ -1,5 +1,0 @@
-use Rattle.proof_terms.proofs.Unique.{one-shown}
-use Rattle.proof_terms.proofs.laws.one_shown_value.Goals as goal
-
-pub returns : goal.returns
-returns c = λ i cuts t v w h k. one-shown i cuts t v w h k

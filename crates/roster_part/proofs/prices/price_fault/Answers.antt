@@ -1,0 +1,34 @@
+use Rattle.std.proofs.Common.{refl, arith}
+use Rattle.std.proofs.lemmas.Option.{slice_get_read}
+use Rattle.roster_part.proofs.Items.{before-next}
+use Rattle.roster_part.proofs.Pricing.{HasPrice, so_far, no_shift-first, all_priced}
+use Rattle.roster_part.proofs.prices.price_fault.Goals as goal
+
+pub loop-place-preserved : goal.loop-place-preserved
+loop-place-preserved c =
+    let i = c.args.instance.now in
+    let shifts = c.args.shifts.now in
+    let k = c.loop-place.place in
+    let s = c.index-shifts-place.result in
+    let here = slice_get_read shifts _ k s refl c.loop-place-test.true c.index-shifts-place.is in
+    let before = c.loop-place.invariant in
+    let price = c.in-Some.ensures.value in
+    record {
+      kept = λ g made. c.in-Some.ensures.kept g (before.kept g made);
+      reached = λ g was. c.in-Some.ensures.reached g (before.reached g was);
+      priced = before-next (HasPrice i) shifts k s here (c.in-Some.least, price) before.priced;
+      first = rw c.or-mispriced.ensures (so_far i shifts k s c.in-Some.least c.loop-place.mispriced c.other_price.result here price before.first c.other_price.ensures);
+    }
+
+pub returns-in_default-clause-value : goal.returns-in_default-clause-value
+returns-in_default-clause-value c =
+    let i = c.args.instance.now in
+    let shifts = c.args.shifts.now in
+    let k = c.loop-place.place in
+    let s = c.index-shifts-place.result in
+    let here = slice_get_read shifts _ k s refl c.loop-place-test.true c.index-shifts-place.is in
+    no_shift-first i shifts k s here c.in_default.ensures.value c.loop-place.invariant.priced
+
+pub returns-clause-value : goal.returns-clause-value
+returns-clause-value c =
+    all_priced c.args.instance.now c.args.shifts.now c.loop-place.place c.loop-place.mispriced (omega arith) c.loop-place.invariant.priced c.loop-place.invariant.first

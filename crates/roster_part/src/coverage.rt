@@ -1,0 +1,34 @@
+ghost use Rattle.std.specs.Prelude.{◌≤◌, MatchOption, length};
+ghost use Rattle.roster_model.specs.Coverage.{covered, IsWithinCell};
+ghost use Rattle.roster_model.specs.Folds.{Each};
+ghost use Rattle.roster_model.specs.SoundInstance.{IsSoundInstance};
+ghost use Rattle.certificates.specs.RosterCauses.{duties};
+ghost use Rattle.roster_part.specs.Faults.{IsCoverageCause};
+
+use crate::counter::{Counter, code_byte};
+use certificates::Why;
+use roster_model::{Instance, Shift};
+
+/// Returns the first cell whose coverage is outside its floor and ceiling, and `None` where each
+/// cell's coverage is within them. Takes no memory. There are at most 64 shifts.
+pub fn coverage_fault(instance: &Instance, shifts: &[Shift]) -> Option<Why>
+    requires sound { IsSoundInstance instance.now }
+    requires few { length shifts.now ≤ 64 }
+    ensures { MatchOption result
+        (Each (λ c. IsWithinCell c (covered instance.now.grammar c (duties shifts.now))) instance.now.cells)
+        (IsCoverageCause instance.now shifts.now) }
+{
+    let grammar = &instance.grammar;
+    let mut counter = Counter::new();
+    for cell in instance.cells.as_slice() {
+        let have = counter.coverage(grammar, shifts, cell);
+        if have < cell.floor || cell.ceiling < have {
+            return Some(Why::Outside {
+                code: code_byte(grammar, cell),
+                period: cell.period,
+                have,
+            });
+        }
+    }
+    None
+}

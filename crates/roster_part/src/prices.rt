@@ -1,0 +1,75 @@
+ghost use Rattle.std.specs.Prelude.{◌≡◌, ◌≢◌, ◌≤◌, MatchOption, length};
+ghost use Rattle.roster_model.specs.declared.grammar.Grammar.{Grammar as Rules};
+ghost use Rattle.roster_model.specs.Duties.{duty};
+ghost use Rattle.roster_model.specs.Folds.{Each};
+ghost use Rattle.roster_model.specs.Rosters.{ArePrices, IsTeamPrice};
+ghost use Rattle.roster_model.specs.SoundInstance.{IsSoundInstance};
+ghost use Rattle.certificates.specs.RosterCauses.{duties, IsNoShift};
+ghost use Rattle.certificates.specs.Sound.{IsGroupNumber, IsSoundShift};
+ghost use Rattle.span_table.specs.Tables.{IsMadeFor, IsReached};
+ghost use Rattle.roster_part.specs.Faults.{stated_prices, IsPriceCause};
+
+use crate::team::team_name;
+use certificates::Why;
+use roster_model::{Instance, Shift};
+use span_table::Table;
+use word_prices::WordPrices;
+
+/// Returns the price of the shift's word as one of its team, or `None` where it is none.
+fn least_price(instance: &Instance, shift: &Shift, table: &mut Table) -> Option<u64>
+    requires sound { IsSoundInstance instance.now }
+    requires made { IsMadeFor instance.now.grammar table.old }
+    requires group { IsGroupNumber instance.now.groups shift.now.group }
+    ensures value { MatchOption result (IsNoShift instance.now shift.now)
+        (λ price. IsTeamPrice instance.now (duty shift.now) price) }
+    ensures kept { (g : Rules) → IsMadeFor g table.old → IsMadeFor g table.new }
+    ensures reached { (g : Rules) → IsReached g table.old → IsReached g table.new }
+{
+    let grammar = &instance.grammar;
+    if shift.word.len() != grammar.periods as usize {
+        return None;
+    }
+    let prices = WordPrices::new(grammar, shift.word.as_slice());
+    table.least(grammar, &prices);
+    let name = team_name(instance, shift.group);
+    prices.price(name, table.value(grammar, name))
+}
+
+/// Returns the first word that is no shift of its team, or else the first shift with another price
+/// than the stated one, or `None` where each word is a shift at its stated price.
+pub(crate) fn price_fault(instance: &Instance, shifts: &[Shift], table: &mut Table) -> Option<Why>
+    requires sound { IsSoundInstance instance.now }
+    requires made { IsMadeFor instance.now.grammar table.old }
+    requires shifts { Each (IsSoundShift instance.now) shifts.now }
+    requires few { length shifts.now ≤ 64 }
+    ensures value { MatchOption result (ArePrices instance.now (duties shifts.now) (stated_prices shifts.now))
+        (IsPriceCause instance.now shifts.now) }
+    ensures kept { (g : Rules) → IsMadeFor g table.old → IsMadeFor g table.new }
+    ensures reached { (g : Rules) → IsReached g table.old → IsReached g table.new }
+{
+    let mut mispriced = None;
+    for (place, shift) in shifts.iter().enumerate() {
+        let number = place as u32 + 1;
+        let Some(least) = least_price(instance, shift, table) else {
+            return Some(Why::NotAShift { shift: number });
+        };
+        mispriced = mispriced.or(other_price(number, shift, least));
+    }
+    mispriced
+}
+
+/// Returns that the shift has another price than the least one, where it has.
+fn other_price(number: u32, shift: &Shift, least: u64) -> Option<Why>
+    ensures { MatchOption result (shift.now.price ≡ least)
+        (λ why. (shift.now.price ≢ least) × (why ≡ Why.ShiftCost number shift.now.price least)) }
+{
+    if shift.price == least {
+        None
+    } else {
+        Some(Why::ShiftCost {
+            shift: number,
+            said: shift.price,
+            least,
+        })
+    }
+}

@@ -1,5 +1,0 @@
-use Rattle.span_table.specs.Tables.{IsMadeFor}
-use Rattle.stated_roster.proofs.tests.judge.Given as goal
-
-abbrev pub invariant-loop-case : goal.invariant-loop-case
-invariant-loop-case g l = IsMadeFor l.day.grammar l.table
