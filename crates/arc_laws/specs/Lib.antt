@@ -3,4 +3,5 @@ pub mod TreeLists
 pub mod Lists
 pub mod Balance
 pub mod Counts
+pub mod Loose
 pub mod Laws

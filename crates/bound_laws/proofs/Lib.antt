@@ -1,4 +1,3 @@
-pub mod Ring
 pub mod WholeSums
 pub mod Additive
 pub mod Relaxation

@@ -16,7 +16,7 @@ use Rattle.roster_model.specs.Sums.{IsLeast, AtMost, tree_sum}
 use Rattle.roster_model.specs.Folds.{sum_z, sum_n, Each}
 use Rattle.roster_model.specs.Arcs.{letters, arcs, used_rules, rule_cost, cost, same_arc}
 use Rattle.roster_model.specs.Coverage.{is_at, penalty}
-use Rattle.bound_laws.proofs.Ring.{*ℤ-+ℤ, neg-*ℤ}
+use Rattle.linear_programs.proofs.Ring.{*ℤ-+ℤ, neg-*ℤ}
 use Rattle.arc_laws.proofs.Folding.{Each-same}
 use Rattle.bound_laws.proofs.WholeSums.{sum_z-append, sum_z-add, sum_z-neg, sum_z-scale, sum_z-pos, sum_z-le, exchange}
 use Rattle.bound_laws.proofs.Additive.{tree_value, tree_sum-value}

@@ -9,7 +9,7 @@
 mod laws;
 
 pub use laws::{
-    are_one_value, infeasible_has_none, day_trees_have_teams, lagrangian_bound, one_half,
+    are_one_value, day_trees_have_teams, infeasible_has_none, lagrangian_bound, one_half,
     pinned_is_cost, plain_lagrangians, plain_rosters, priced_bound, rosters_cost_less,
     rosters_have_trees, small_shares, trees_cost_less, trees_spell_rosters,
     trees_stand_for_rosters, worked_floors, worked_groups,

@@ -18,7 +18,8 @@ use Rattle.certificates.specs.declared.why.Why.{Why}
 use Rattle.certificates.specs.declared.why.Why.TheVariants.{NotAShift, ShiftCost, WrongHeads, WrongCost, NotAnArc, EmptyHalf, NotPinned, BoundTooHigh, Outside}
 use Rattle.certificates.specs.First.{IsFirst}
 use Rattle.certificates.specs.Nodes.{Proof, preorder, Visit, visits}
-use Rattle.certificates.specs.NodeCauses.{IsFirstLoose, IsFirstNoArc, IsFirstEmptyHalf, IsFirstUnpinned}
+use Rattle.arc_laws.specs.Loose.{IsFirstLoose}
+use Rattle.certificates.specs.NodeCauses.{IsFirstNoArc, IsFirstEmptyHalf, IsFirstUnpinned}
 use Rattle.certificates.specs.RosterCauses.{duties, IsFirstMispriced, IsFirstOutOfRange, IsMiscounted, IsFirstOutside}
 use Rattle.certificate_laws.specs.Causes.{stated_bound, IsAbove, Cause, cause_number, IsFirstCause}
 use Rattle.certificate_laws.specs.Shown.{Shows}
@@ -63,7 +64,7 @@ same-arc a b e =
     ∙ ap (λ (n : ℕ). record a { rule = b.rule; suffix = b.suffix; start = b.start; len = b.len; part = n }) p
 
 one-loose : (i : Instance) (cuts : List Cut) (a b : ArcKey) → IsFirstLoose i cuts a → IsFirstLoose i cuts b → a ≡ b
-one-loose i cuts a b f g = same-arc a b (same-numbers (arc_numbers a) (arc_numbers b) refl (g.before a f.loose) (f.before b g.loose))
+one-loose i cuts a b f g = same-arc a b (same-numbers (arc_numbers a) (arc_numbers b) refl (λ l. g.first a f.arc l f.loose) (λ l. f.first b g.arc l g.loose))
 
 module _ (i : Instance) (shifts : List Shift) where
   one-mispriced : (k m s t a b : ℕ) → IsFirstMispriced i shifts k s a → IsFirstMispriced i shifts m t b → (k ≡ m) × (s ≡ t) × (a ≡ b)

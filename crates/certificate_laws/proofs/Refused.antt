@@ -104,7 +104,7 @@ empty-half-refused i cuts Bare h k = k
 pub unpinned-refused : (i : Instance) (cuts : List Cut) (n : Node) → IsTight i cuts n → IsUnpinned i cuts n → ⊥
 unpinned-refused i cuts (Split a b own) h k = k
 unpinned-refused i cuts (Priced p) h k = k
-unpinned-refused i cuts Pinned h k = let m = h.tight k.0 k.1.arc in omega (arith, m, k.1.counts)
+unpinned-refused i cuts Pinned h k = let m = h.tight k.0 k.1 in omega (arith, m, k.2)
 unpinned-refused i cuts Bare h k = k
 
 -- what is right at every visit is wrong at none

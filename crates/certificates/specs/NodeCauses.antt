@@ -3,8 +3,9 @@ use Rattle.std.specs.Prelude.{ℕ, ◌≤◌, ◌<◌, ◌⊎◌, List}
 use Rattle.roster_model.specs.declared.grammar.ArcKey.{ArcKey}
 use Rattle.roster_model.specs.declared.instance.Cut.{Cut}
 use Rattle.roster_model.specs.declared.instance.Instance.{Instance}
-use Rattle.roster_model.specs.Arcs.{IsArc, ArcBefore}
+use Rattle.roster_model.specs.Arcs.{IsArc}
 use Rattle.roster_model.specs.Cuts.{lo, hi}
+use Rattle.arc_laws.specs.Loose.{IsLoose, IsFirstLoose}
 use Rattle.certificates.specs.declared.cert.Node.{Node}
 use Rattle.certificates.specs.declared.cert.Node.TheVariants.{Split, Priced, Pinned, Bare}
 use Rattle.certificates.specs.First.{IsFirst}
@@ -24,22 +25,12 @@ HasEmptyHalf i cuts (Priced p) = ⊥
 HasEmptyHalf i cuts Pinned = ⊥
 HasEmptyHalf i cuts Bare = ⊥
 
--- an arc of the instance to which the cuts leave more than one count
-pub record IsLoose (i : Instance) (cuts : List Cut) (a : ArcKey) : Type 0 where
-  pub arc : IsArc i.grammar a
-  pub counts : lo cuts a < hi i.heads_max cuts a
-
--- a pinned leaf whose cuts leave some arc more than one count
+-- a pinned leaf whose cuts leave some arc of the instance more than one count
 abbrev pub IsUnpinned : Instance → List Cut → Node → Type 0
 IsUnpinned i cuts (Split a b own) = ⊥
 IsUnpinned i cuts (Priced p) = ⊥
-IsUnpinned i cuts Pinned = (a : ArcKey) × IsLoose i cuts a
+IsUnpinned i cuts Pinned = (a : ArcKey) × IsArc i.grammar a × IsLoose i cuts a
 IsUnpinned i cuts Bare = ⊥
-
--- the first of these arcs in their order
-pub record IsFirstLoose (i : Instance) (cuts : List Cut) (a : ArcKey) : Type 0 where
-  pub loose : IsLoose i cuts a
-  pub before : (b : ArcKey) → IsLoose i cuts b → ArcBefore b a → ⊥
 
 abbrev pub IsFirstNoArc : Instance → List Visit → ℕ → Type 0
 IsFirstNoArc i vs n = (v : Visit) × IsFirst (λ (w : Visit). SplitsNoArc i w.node) vs n v

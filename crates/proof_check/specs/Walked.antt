@@ -5,7 +5,8 @@ use Rattle.roster_model.specs.Folds.{Each}
 use Rattle.certificates.specs.declared.why.Why.{Why}
 use Rattle.certificates.specs.declared.why.Why.TheVariants.{NotAShift, ShiftCost, WrongHeads, WrongCost, NotAnArc, EmptyHalf, NotPinned, BoundTooHigh, Outside}
 use Rattle.certificates.specs.Nodes.{Visit}
-use Rattle.certificates.specs.NodeCauses.{SplitsNoArc, HasEmptyHalf, IsUnpinned, IsFirstLoose, IsFirstNoArc, IsFirstEmptyHalf, IsFirstUnpinned}
+use Rattle.arc_laws.specs.Loose.{IsFirstLoose}
+use Rattle.certificates.specs.NodeCauses.{SplitsNoArc, HasEmptyHalf, IsUnpinned, IsFirstNoArc, IsFirstEmptyHalf, IsFirstUnpinned}
 use Rattle.certificate_laws.specs.Accepted.{IsOnArc, LeavesBoth, IsTight}
 use Rattle.certificate_laws.specs.Causes.{cause_number}
 

@@ -7,3 +7,5 @@ pub mod RuleLoop
 pub mod Symbols
 pub mod Size
 pub mod Bounds
+pub mod Ranks
+pub mod Pushing
