@@ -1,4 +1,4 @@
-ghost use Rattle.std.specs.Prelude.{◌≡◌, ◌↔◌, [], ◌∷◌, ◌++◌, length, IsTrue, OnOk, OnErr};
+ghost use Rattle.std.specs.Prelude.{◌≡◌, ◌↔◌, [], ◌∷◌, ◌++◌, length, take, IsTrue, OnOk, OnErr};
 
 use crate::Memory;
 use std::alloc::Global;
@@ -54,6 +54,28 @@ impl<T> List<T> {
             Ok(()) => Ok(()),
             Err(_) => Err(Memory),
         }
+    }
+
+    /// Adds items at the end, in their order. After an error the list is as before.
+    pub fn extend_from_slice(&mut self, items: &[T]) -> Result<(), Memory>
+    where
+        T: Copy,
+        ensures ok { OnOk result (self.new ≡ self.old ++ items.now) }
+        ensures err { OnErr result (self.new ≡ self.old) }
+    {
+        match self.items.extend_from_slice(items) {
+            Ok(()) => Ok(()),
+            Err(_) => Err(Memory),
+        }
+    }
+
+    /// Keeps the first `count` items, or all where there are no more.
+    pub fn truncate(&mut self, count: usize)
+    where
+        T: Drop,
+        ensures { self.new ≡ take count self.old }
+    {
+        self.items.truncate(count);
     }
 
     /// Returns how many items there are.

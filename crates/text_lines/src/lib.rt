@@ -9,15 +9,19 @@
 //! A number is `0`, or digits of which the first is not `0`; below zero it has a `-` before it.
 #![tactic(auto)]
 
+mod append;
 mod line;
 mod lines;
 mod number;
 mod scan;
 #[cfg(test)]
 mod tests;
+mod within;
 mod words;
 
+pub use append::{field, put, put_place, signed_field, word};
 pub use line::{BadByte, Line};
 pub use lines::{Lines, written_again};
 pub use number::{NumberFault, number_again, read_natural, read_number, write_number};
+pub use within::read_within;
 pub use words::Words;

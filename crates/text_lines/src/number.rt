@@ -1,4 +1,4 @@
-ghost use Rattle.std.specs.Prelude.{◌≡◌, ℤ, unsigned_abs, ◌+◌, ◌-◌, ◌*◌, ◌^◌, ◌<◌, ◌≤◌, ◌++◌, ◌||◌, ◌==◌, nat_lt, slice_index, length, IsTrue, IfOk, OnOk, OnErr, MatchOption};
+ghost use Rattle.std.specs.Prelude.{◌≡◌, ℤ, unsigned_abs, ◌+◌, ◌-◌, ◌*◌, ◌^◌, ◌<◌, ◌≤◌, ◌++◌, [], ◌∷◌, ◌||◌, ◌==◌, nat_lt, take, slice_index, length, IsTrue, IfOk, OnOk, OnErr, MatchOption};
 ghost use Rattle.std.specs.List.{list_all, AllPass};
 ghost use Rattle.std.specs.Fmt.{decimal};
 ghost use Rattle.text_lines.specs.Numbers.{is_digit, is_plain, natural_of, value, number_of, number_text};
@@ -91,27 +91,55 @@ pub fn read_number(word: &[u8]) -> Result<i128, NumberFault>
     }
 }
 
-// Appends the digits of a number.
+// Appends a byte, or keeps so many of the bytes that were there.
+fn push_or_keep(out: &mut List<u8>, byte: u8, count: usize) -> Result<(), Memory>
+    ensures ok { OnOk result (out.new ≡ out.old ++ byte ∷ []) }
+    ensures err { OnErr result (out.new ≡ take count out.old) }
+{
+    if out.push(byte).is_ok() {
+        return Ok(());
+    }
+    out.truncate(count);
+    Err(Memory)
+}
+
+// Appends the digits of a number. After want of memory `out` is as it was before.
 fn write_natural(out: &mut List<u8>, value: u128) -> Result<(), Memory>
-    ensures { OnOk result (out.new ≡ out.old ++ decimal value) }
+    ensures ok { OnOk result (out.new ≡ out.old ++ decimal value) }
+    ensures err { OnErr result (out.new ≡ out.old) }
 {
     if value < 10 {
         return out.push(b'0' + value as u8);
     }
+    let count = out.len();
     write_natural(out, value / 10)?;
-    out.push(b'0' + (value % 10) as u8)
+    push_or_keep(out, b'0' + (value % 10) as u8, count)
 }
 
-/// Appends a number, with a `-` before its digits where it is below 0. After an error some of its
-/// bytes may stand in `out`.
+// Appends a `-` and the digits of a number. After want of memory `out` is as it was before.
+fn write_below_zero(out: &mut List<u8>, size: u128) -> Result<(), Memory>
+    ensures ok { OnOk result (out.new ≡ out.old ++ 45 ∷ decimal size) }
+    ensures err { OnErr result (out.new ≡ out.old) }
+{
+    let count = out.len();
+    out.push(b'-')?;
+    if write_natural(out, size).is_ok() {
+        return Ok(());
+    }
+    out.truncate(count);
+    Err(Memory)
+}
+
+/// Appends a number, with a `-` before its digits where it is below 0. After want of memory `out` is
+/// as it was before.
 pub fn write_number(out: &mut List<u8>, value: i128) -> Result<(), Memory>
-    ensures { OnOk result (out.new ≡ out.old ++ number_text value) }
+    ensures ok { OnOk result (out.new ≡ out.old ++ number_text value) }
+    ensures err { OnErr result (out.new ≡ out.old) }
 {
     if 0 <= value {
         return write_natural(out, value as u128);
     }
-    out.push(b'-')?;
-    write_natural(out, value.unsigned_abs())
+    write_below_zero(out, value.unsigned_abs())
 }
 
 /// States a law: a number below `2^127` in size that was written is read again.

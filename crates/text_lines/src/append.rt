@@ -1,0 +1,58 @@
+ghost use Rattle.std.specs.Prelude.{◌≡◌, ◌++◌, [], ◌∷◌, OnOk, OnErr};
+ghost use Rattle.std.specs.Fmt.{decimal};
+ghost use Rattle.text_lines.specs.Numbers.{number_text};
+ghost use Rattle.text_lines.specs.Places.{place_text};
+ghost use Rattle.text_lines.specs.Written.{tail};
+
+use crate::number::write_number;
+use roster_model::{List, Memory};
+
+/// Appends bytes. After want of memory `out` is as it was before.
+pub fn put(out: &mut List<u8>, bytes: &[u8]) -> Result<(), Memory>
+    ensures ok { OnOk result (out.new ≡ out.old ++ bytes.now) }
+    ensures err { OnErr result (out.new ≡ out.old) }
+{
+    out.extend_from_slice(bytes)
+}
+
+/// Appends a word behind a space. After want of memory the space may stand there without the word.
+pub fn word(out: &mut List<u8>, bytes: &[u8]) -> Result<(), Memory>
+    ensures { OnOk result (out.new ≡ out.old ++ tail (bytes.now ∷ [])) }
+{
+    out.push(b' ')?;
+    put(out, bytes)?;
+    Ok(())
+}
+
+/// Appends a number behind a space. After want of memory the space may stand there without the
+/// number.
+pub fn field(out: &mut List<u8>, value: u64) -> Result<(), Memory>
+    ensures { OnOk result (out.new ≡ out.old ++ tail (decimal value ∷ [])) }
+{
+    out.push(b' ')?;
+    write_number(out, value as i128)?;
+    Ok(())
+}
+
+/// Appends a number, which may be below 0, behind a space. After want of memory the space may stand
+/// there without the number.
+pub fn signed_field(out: &mut List<u8>, value: i128) -> Result<(), Memory>
+    ensures { OnOk result (out.new ≡ out.old ++ tail (number_text value ∷ [])) }
+{
+    out.push(b' ')?;
+    write_number(out, value)?;
+    Ok(())
+}
+
+/// Appends the line that a fault carries, from 1, as `line 3: `, or nothing. After want of memory a
+/// part of it may stand there.
+pub fn put_place(out: &mut List<u8>, line: Option<u32>) -> Result<(), Memory>
+    ensures { OnOk result (out.new ≡ out.old ++ place_text line) }
+{
+    let Some(line) = line else {
+        return Ok(());
+    };
+    put(out, b"line ")?;
+    write_number(out, line as i128)?;
+    put(out, b": ")
+}
