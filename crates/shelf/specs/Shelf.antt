@@ -1,4 +1,4 @@
-use Rattle.std.specs.Prelude.{◌≡◌, ◌≢◌, ◌≤◌, ◌+◌, ◌-◌, ◌^◌, ℕ, min, List, ◌++◌, Some, Result, Ok, Err, map, String, Vec, string_bytes}
+use Rattle.std.specs.Prelude.{◌≡◌, ◌≢◌, ◌≤◌, ◌+◌, ◌-◌, ◌^◌, ℕ, min, Bool, List, ◌++◌, Option, Some, Result, Ok, Err, map, String, Vec, string_bytes}
 use Rattle.std.specs.Coded.{Coded, coded_ℕ, coded_list}
 use Rattle.std.specs.Global.{Global}
 use Rattle.std.specs.Ordering.{nat_cmp}
@@ -15,6 +15,19 @@ Texts = fin.FinMap (slice_cmp nat_cmp) (List ℕ)
 -- texts are told apart by their entries
 abbrev pub texts_code : Coded Texts
 texts_code = fin.code (coded_list coded_ℕ) (coded_list coded_ℕ)
+
+-- What a shelf tells of itself at one moment: the bytes under each name and all bytes that were said,
+-- where it tells them; how often the outside refused a call; and whether it is steady, so that no
+-- further call fails but the fetch of an absent name.
+pub record Told : Type 0 where
+  pub held : Option Texts
+  pub said : Option (List ℕ)
+  pub faults : ℕ
+  pub steady : Bool
+
+-- the last value of a count of faults
+abbrev pub most_faults : ℕ
+most_faults = 2 ^ 64 - 1
 
 -- the name and the bytes of an entry
 abbrev pub entry_of : String Global × Vec ℕ Global → List ℕ × List ℕ

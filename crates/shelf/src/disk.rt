@@ -1,5 +1,5 @@
 ghost use Rattle.std.specs.Prelude.{◌≡◌, ◌≤◌, ◌+◌, length};
-ghost use Rattle.shelf.specs.Shelf.{Begins, HasCause, count_after};
+ghost use Rattle.shelf.specs.Shelf.{Begins, HasCause, count_after, most_faults};
 ghost use Rattle.shelf.specs.Stream.{read_limit};
 
 use crate::fault::ShelfFault;
@@ -21,11 +21,14 @@ pub struct DiskShelf<R: Files + Print + Drop> {
 }
 
 impl<R: Files + Print + Drop> Model for DiskShelf<R> {
-    ghost use Rattle.std.specs.Prelude.{ℕ};
+    ghost use Rattle.std.specs.Prelude.{ℕ, ◌≤◌};
+    ghost use Rattle.shelf.specs.Shelf.{most_faults};
 
     ghost Value = { ℕ };
 
     ghost view = { λ s. s.faults };
+
+    ghost invariant = { λ s. s.faults ≤ most_faults };
 }
 
 impl<R: Files + Print + Drop> DiskShelf<R> {
@@ -41,6 +44,7 @@ impl<R: Files + Print + Drop> DiskShelf<R> {
         ensures same { result ≡ outcome }
         ensures counted { self.new ≡ count_after outcome self.old }
         ensures cause { HasCause self.old self.new result }
+        ensures bounded { self.new ≤ most_faults }
     {
         if let Err(ShelfFault::Failed) = outcome {
             self.faults = self.faults.saturating_add(1);
@@ -53,13 +57,7 @@ impl<R: Files + Print + Drop> Shelf for DiskShelf<R> {
     ghost use Rattle.std.specs.Prelude.{None, false};
     ghost use Rattle.std.proofs.Common.{rules};
 
-    ghost held = { λ _. None };
-
-    ghost said = { λ _. None };
-
-    ghost faults = { λ s. s };
-
-    ghost steady = { λ _. false };
+    ghost told = { λ s. record { held = None; said = None; faults = s; steady = false } };
 
     ghost tells = { λ _ steady. Prim.search rules };
 
@@ -68,6 +66,7 @@ impl<R: Files + Print + Drop> Shelf for DiskShelf<R> {
         ensures limit { length into.new.items ≤ length into.old.items + read_limit }
         ensures counted { self.new ≡ count_after result self.old }
         ensures cause { HasCause self.old self.new result }
+        ensures bounded { self.new ≤ most_faults }
     {
         let outcome = match fs::open(&self.rt, name) {
             Ok(mut file) => read_bytes(&mut file, into),
@@ -79,6 +78,7 @@ impl<R: Files + Print + Drop> Shelf for DiskShelf<R> {
     fn store(&mut self, name: &str, bytes: &[u8]) -> Result<(), ShelfFault>
         ensures counted { self.new ≡ count_after result self.old }
         ensures cause { HasCause self.old self.new result }
+        ensures bounded { self.new ≤ most_faults }
     {
         let outcome = match fs::create(&self.rt, name) {
             Ok(mut file) => write_bytes(&mut file, bytes),
@@ -90,6 +90,7 @@ impl<R: Files + Print + Drop> Shelf for DiskShelf<R> {
     fn say(&mut self, bytes: &[u8]) -> Result<(), ShelfFault>
         ensures counted { self.new ≡ count_after result self.old }
         ensures cause { HasCause self.old self.new result }
+        ensures bounded { self.new ≤ most_faults }
     {
         let outcome = write_bytes(&mut io::writer(&self.rt), bytes);
         self.counted(outcome)

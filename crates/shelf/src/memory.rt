@@ -1,8 +1,8 @@
-ghost use Rattle.std.specs.Prelude.{◌≡◌, ◌⊎◌, ◌/◌, [], ◌++◌, length, take, Err, None, false, IsSome, IsTrue, OnOk, OnErr, nat_eq};
+ghost use Rattle.std.specs.Prelude.{◌≡◌, ◌≤◌, ◌⊎◌, ◌/◌, [], ◌++◌, length, take, Err, None, false, IsSome, IsTrue, OnOk, OnErr, nat_eq};
 ghost use Rattle.std.specs.List.{list_any};
 ghost use Rattle.std.specs.Option.{option_copied};
 ghost use Rattle.std.specs.FinMap as fin;
-ghost use Rattle.shelf.specs.Shelf.{AgreesElsewhere, Begins, Fetched, HasCause, SaidPart};
+ghost use Rattle.shelf.specs.Shelf.{AgreesElsewhere, Begins, Fetched, HasCause, SaidPart, most_faults};
 ghost use Rattle.shelf.specs.Memory.{called, is_steady, next_fails, refused};
 
 use crate::fault::ShelfFault;
@@ -113,13 +113,12 @@ impl Shelf for MemoryShelf {
     ghost use Rattle.std.specs.Prelude.{Some, refl};
     ghost use Rattle.shelf.specs.Memory.{is_steady};
 
-    ghost held = { λ s. Some s.held };
-
-    ghost said = { λ s. Some s.said };
-
-    ghost faults = { λ s. s.faults };
-
-    ghost steady = { is_steady };
+    ghost told = { λ s. record {
+      held = Some s.held;
+      said = Some s.said;
+      faults = s.faults;
+      steady = is_steady s;
+    } };
 
     ghost tells = { λ _ _. (refl, refl) };
 
@@ -133,6 +132,7 @@ impl Shelf for MemoryShelf {
             (next_fails self.old ≡ false) × IsSome (fin.get self.old.held name.now)
             × (self.new ≡ called self.old) × (into.new.items ≡ into.old.items) }
         ensures cause { HasCause self.old.faults self.new.faults result }
+        ensures bounded { self.new.faults ≤ most_faults }
         ensures stays_steady { IsTrue (is_steady self.old) → IsTrue (is_steady self.new) }
         ensures quiet { IsTrue (is_steady self.old) → IsSome (fin.get self.old.held name.now)
             → self.new.faults ≡ self.old.faults }
@@ -154,6 +154,7 @@ impl Shelf for MemoryShelf {
             (next_fails self.old ≡ false) × (self.new ≡ called self.old) }
         ensures others { AgreesElsewhere name.now self.old.held self.new.held }
         ensures cause { HasCause self.old.faults self.new.faults result }
+        ensures bounded { self.new.faults ≤ most_faults }
         ensures stays_steady { IsTrue (is_steady self.old) → IsTrue (is_steady self.new) }
         ensures quiet { IsTrue (is_steady self.old) → self.new.faults ≡ self.old.faults }
     {
@@ -174,6 +175,7 @@ impl Shelf for MemoryShelf {
         ensures memory { result ≡ Err ShelfFault.Memory → self.new ≡ called self.old }
         ensures part { SaidPart bytes.now self.old.said self.new.said }
         ensures cause { HasCause self.old.faults self.new.faults result }
+        ensures bounded { self.new.faults ≤ most_faults }
         ensures stays_steady { IsTrue (is_steady self.old) → IsTrue (is_steady self.new) }
         ensures quiet { IsTrue (is_steady self.old) → self.new.faults ≡ self.old.faults }
     {

@@ -1,7 +1,7 @@
 ghost use Rattle.std.specs.Prelude.{◌≡◌, ◌≤◌, [], ◌++◌, Err, None, IsSome, OnOk, OnErr};
 ghost use Rattle.std.specs.Option.{option_copied};
 ghost use Rattle.std.specs.FinMap as fin;
-ghost use Rattle.shelf.specs.Shelf.{AgreesElsewhere, Fetched, HasCause, one_more};
+ghost use Rattle.shelf.specs.Shelf.{AgreesElsewhere, Fetched, HasCause, one_more, most_faults};
 
 use crate::fault::ShelfFault;
 use crate::shelf::Shelf;
@@ -20,12 +20,16 @@ pub struct QuietShelf {
 
 impl Model for QuietShelf {
     ghost use Rattle.shelf.specs.Memory.{QuietState, quiet_code};
+    ghost use Rattle.shelf.specs.Shelf.{most_faults};
+    ghost use Rattle.std.specs.Prelude.{◌≤◌};
 
     ghost Value = { QuietState };
 
     ghost coded = { quiet_code };
 
     ghost view = { λ s. record { held = s.held; said = s.said.items; faults = s.faults } };
+
+    ghost invariant = { λ s. s.faults ≤ most_faults };
 }
 
 impl QuietShelf {
@@ -79,6 +83,7 @@ impl QuietShelf {
         ensures fault { result ≡ ShelfFault.Failed }
         ensures counted { self.new ≡ record self.old { faults = one_more self.old.faults } }
         ensures never_falls { self.old.faults ≤ self.new.faults }
+        ensures bounded { self.new.faults ≤ most_faults }
     {
         self.faults = self.faults.saturating_add(1);
         ShelfFault::Failed
@@ -88,13 +93,7 @@ impl QuietShelf {
 impl Shelf for QuietShelf {
     ghost use Rattle.std.specs.Prelude.{Some, true, refl};
 
-    ghost held = { λ s. Some s.held };
-
-    ghost said = { λ s. Some s.said };
-
-    ghost faults = { λ s. s.faults };
-
-    ghost steady = { λ _. true };
+    ghost told = { λ s. record { held = Some s.held; said = Some s.said; faults = s.faults; steady = true } };
 
     ghost tells = { λ _ _. (refl, refl) };
 
@@ -107,6 +106,7 @@ impl Shelf for QuietShelf {
         ensures memory { result ≡ Err ShelfFault.Memory → IsSome (fin.get self.old.held name.now)
             × (self.new ≡ self.old) × (into.new.items ≡ into.old.items) }
         ensures cause { HasCause self.old.faults self.new.faults result }
+        ensures bounded { self.new.faults ≤ most_faults }
     {
         let Some(bytes) = self.held.text(name) else {
             return Err(self.refuse());
@@ -121,6 +121,7 @@ impl Shelf for QuietShelf {
         }) }
         ensures err { OnErr result ((result ≡ Err ShelfFault.Memory) × (self.new ≡ self.old)) }
         ensures others { AgreesElsewhere name.now self.old.held self.new.held }
+        ensures bounded { self.new.faults ≤ most_faults }
     {
         self.held.put(name, bytes)?;
         Ok(())
@@ -129,6 +130,7 @@ impl Shelf for QuietShelf {
     fn say(&mut self, bytes: &[u8]) -> Result<(), ShelfFault>
         ensures ok { OnOk result (self.new ≡ record self.old { said = self.old.said ++ bytes.now }) }
         ensures err { OnErr result ((result ≡ Err ShelfFault.Memory) × (self.new ≡ self.old)) }
+        ensures bounded { self.new.faults ≤ most_faults }
     {
         self.said.extend_from_slice(bytes)?;
         Ok(())

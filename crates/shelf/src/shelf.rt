@@ -1,69 +1,63 @@
-ghost use Rattle.std.specs.Prelude.{◌≡◌, ℕ, Bool, List, ◌++◌, Option, Some, OnOk, IfSome, IsSome, IsSomeAnd, IsTrue, Ok, Err};
+ghost use Rattle.std.specs.Prelude.{◌≡◌, ◌≤◌, ◌++◌, Some, OnOk, IfSome, IsSome, IsSomeAnd, IsTrue, Err};
 ghost use Rattle.std.specs.FinMap as fin;
-ghost use Rattle.shelf.specs.Shelf.{Texts, HasCause, Fetched, Begins, AgreesElsewhere, SaidPart};
+ghost use Rattle.shelf.specs.Shelf.{Told, HasCause, Fetched, Begins, AgreesElsewhere, SaidPart, most_faults};
 
 use crate::fault::ShelfFault;
 
 /// Texts that are held by name, and a place to say bytes.
 ///
-/// `held` and `said` are what the shelf tells of itself. `faults` counts what the outside
-/// refused, and stops at 2^64 - 1. While `steady` is true the outside refuses nothing but the
-/// fetch of an absent name.
+/// A shelf tells what it holds, what was said, and how often the outside refused a call; that
+/// count stops at 2^64 - 1. While it is steady the outside refuses nothing but the fetch of an
+/// absent name.
 pub trait Shelf {
-    // The bytes under each name, where the shelf tells them.
-    ghost held: { Self → Option Texts };
-
-    // All bytes that were said, where the shelf tells them.
-    ghost said: { Self → Option (List ℕ) };
-
-    // How often the outside refused a call.
-    ghost faults: { Self → ℕ };
-
-    // Whether no further call fails but the fetch of an absent name.
-    ghost steady: { Self → Bool };
+    // What the shelf tells of itself.
+    ghost told: { Self → Told };
 
     /// Appends the bytes under the name. After an error `into` still begins with what it held.
     fn fetch(&mut self, name: &str, into: &mut Vec<u8>) -> Result<(), ShelfFault>
-        ensures fetched { OnOk result (IfSome (held self.old)
+        ensures fetched { OnOk result (IfSome (told self.old).held
             (λ h. Fetched h name.now into.old.items into.new.items)) }
         ensures begins { Begins into.old.items into.new.items }
 
-        ensures held_stays { held self.new ≡ held self.old }
-        ensures said_stays { said self.new ≡ said self.old }
+        ensures held_stays { (told self.new).held ≡ (told self.old).held }
+        ensures said_stays { (told self.new).said ≡ (told self.old).said }
 
-        ensures cause { HasCause (faults self.old) (faults self.new) result }
-        ensures stays_steady { IsTrue (steady self.old) → IsTrue (steady self.new) }
+        ensures cause { HasCause (told self.old).faults (told self.new).faults result }
+        ensures stays_steady { IsTrue (told self.old).steady → IsTrue (told self.new).steady }
+        ensures bounded { (told self.new).faults ≤ most_faults }
         // A steady shelf refuses only an absent name.
-        ensures quiet { IsTrue (steady self.old) → IfSome (held self.old)
-            (λ h. IsSome (fin.get h name.now) → faults self.new ≡ faults self.old) };
+        ensures quiet { IsTrue (told self.old).steady → IfSome (told self.old).held
+            (λ h. IsSome (fin.get h name.now) → (told self.new).faults ≡ (told self.old).faults) };
 
     /// Makes the name hold the bytes. After `Failed` it is untold what the name holds, and after
     /// `Memory` all is as before.
     fn store(&mut self, name: &str, bytes: &[u8]) -> Result<(), ShelfFault>
-        ensures stored { OnOk result (IfSome (held self.old)
-            (λ h. held self.new ≡ Some (fin.insert h name.now bytes.now))) }
+        ensures stored { OnOk result (IfSome (told self.old).held
+            (λ h. (told self.new).held ≡ Some (fin.insert h name.now bytes.now))) }
         // Whatever the answer, no other name changes, and the shelf goes on to tell.
-        ensures others { IfSome (held self.old)
-            (λ h. IsSomeAnd (held self.new) (AgreesElsewhere name.now h)) }
-        ensures memory { result ≡ Err ShelfFault.Memory → held self.new ≡ held self.old }
-        ensures said_stays { said self.new ≡ said self.old }
+        ensures others { IfSome (told self.old).held
+            (λ h. IsSomeAnd (told self.new).held (AgreesElsewhere name.now h)) }
+        ensures memory { result ≡ Err ShelfFault.Memory → (told self.new).held ≡ (told self.old).held }
+        ensures said_stays { (told self.new).said ≡ (told self.old).said }
 
-        ensures cause { HasCause (faults self.old) (faults self.new) result }
-        ensures stays_steady { IsTrue (steady self.old) → IsTrue (steady self.new) }
-        ensures quiet { IsTrue (steady self.old) → faults self.new ≡ faults self.old };
+        ensures cause { HasCause (told self.old).faults (told self.new).faults result }
+        ensures stays_steady { IsTrue (told self.old).steady → IsTrue (told self.new).steady }
+        ensures bounded { (told self.new).faults ≤ most_faults }
+        ensures quiet { IsTrue (told self.old).steady → (told self.new).faults ≡ (told self.old).faults };
 
     /// Appends the bytes to what was said. After an error a front of them may have been said.
     fn say(&mut self, bytes: &[u8]) -> Result<(), ShelfFault>
-        ensures appended { OnOk result (IfSome (said self.old)
-            (λ s. said self.new ≡ Some (s ++ bytes.now))) }
+        ensures appended { OnOk result (IfSome (told self.old).said
+            (λ s. (told self.new).said ≡ Some (s ++ bytes.now))) }
         // Whatever the answer, and the shelf goes on to tell.
-        ensures part { IfSome (said self.old) (λ s. IsSomeAnd (said self.new) (SaidPart bytes.now s)) }
-        ensures held_stays { held self.new ≡ held self.old }
+        ensures part { IfSome (told self.old).said (λ s. IsSomeAnd (told self.new).said (SaidPart bytes.now s)) }
+        ensures held_stays { (told self.new).held ≡ (told self.old).held }
 
-        ensures cause { HasCause (faults self.old) (faults self.new) result }
-        ensures stays_steady { IsTrue (steady self.old) → IsTrue (steady self.new) }
-        ensures quiet { IsTrue (steady self.old) → faults self.new ≡ faults self.old };
+        ensures cause { HasCause (told self.old).faults (told self.new).faults result }
+        ensures stays_steady { IsTrue (told self.old).steady → IsTrue (told self.new).steady }
+        ensures bounded { (told self.new).faults ≤ most_faults }
+        ensures quiet { IsTrue (told self.old).steady → (told self.new).faults ≡ (told self.old).faults };
 
     // A steady shelf tells all.
-    ghost tells: { (s : Self) → IsTrue (steady s) → IsSome (held s) × IsSome (said s) };
+    ghost tells: { (s : Self) → IsTrue (told s).steady → IsSome (told s).held × IsSome (told s).said };
 }

@@ -29,7 +29,8 @@ use Rattle.shift_tool.specs.declared.answer.Answer.{Answer}
 use Rattle.shift_tool.specs.Check.{Judgement, yes, no, verdict_status, ProofAnswers, AnswersProof, DemandAnswers, AnswersDemand, RulesAnswers}
 use Rattle.shift_tool.specs.Check as check
 use Rattle.shift_tool.specs.Fetch.{IsAnswer}
-use Rattle.shift_tool.specs.Seen.{Seen, IsReader, HoldsAll}
+use Rattle.shelf.specs.Shelf.{Told}
+use Rattle.shift_tool.specs.Reader.{IsReader, HoldsAll}
 use Rattle.shift_tool.proofs.Readers.{widen}
 
 no_names : (held : Option Texts) (names : List (List ℕ)) → HoldsAll held names → HoldsAll held []
@@ -52,7 +53,7 @@ refused_rules held text demand_name proof_name fault (Ok x) h reading status out
     let s : status ≡ 3 = a.0 ∙ h.1 in
     rw s (check.RulesAnswers.refused output (record { fault = fault; reading = reading h.0; line = a.1 ∙ h.2 }))
 
-module _ (before after : Seen) (status : ℕ) where
+module _ (before after : Told) (status : ℕ) where
   pub demand-refused : (g : Grammar) (text name : List ℕ) (fault : DemandFault) (r : Result Answer Memory)
       → IfOk r (λ a. (fault ≢ demand_faults.Memory) × (a.status ≡ 4) × (a.output ≡ demand.fault_line fault)) → (fault ≢ demand_faults.Memory → instance_of g text ≡ Err fault)
       → IsReader (IsAnswer r) [] before after status → IsReader (DemandAnswers before.held g text name) (name ∷ []) before after status

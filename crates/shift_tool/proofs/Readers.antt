@@ -2,10 +2,10 @@
 use Rattle.std.proofs.Common.{◌≡◌, ◌≢◌, ℕ, ◌≤◌, ◌<◌, ◌-◌, ◌^◌, List, [], ◌∷◌, ◌++◌, Option, None, Some, Ok, arith, refl, sym, subst, ◌∙◌, ◌⊎◌, inl, inr}
 use Rattle.std.specs.Prelude.{IfSome, IsSome, IsSomeAnd, IsTrue}
 use Rattle.std.specs.FinMap as fin
-use Rattle.shelf.specs.Shelf.{Texts, SaidPart, one_more}
+use Rattle.shelf.specs.Shelf.{Texts, Told, SaidPart, one_more}
 use Rattle.shift_tool.specs.declared.answer.Answer.{Answer}
 use Rattle.shift_tool.specs.Fetch.{IsAnswer, IsFetch}
-use Rattle.shift_tool.specs.Seen.{Seen, HoldsAll, Said, SaidLittle, IsReader}
+use Rattle.shift_tool.specs.Reader.{HoldsAll, Said, SaidLittle, IsReader}
 
 module _ (A B : ℕ → List ℕ → Type 0) (each : (status : ℕ) (output : List ℕ) → A status output → B status output) where
   little : (old new : List ℕ) → SaidLittle A old new → SaidLittle B old new
@@ -18,7 +18,7 @@ module _ (A B : ℕ → List ℕ → Type 0) (each : (status : ℕ) (output : Li
   fronts (Some said) (Some now) h = little said now h
 
   -- more answers are allowed, and more names are asked for
-  pub widen : (ms ns : List (List ℕ)) (before after : Seen) (status : ℕ) → (HoldsAll before.held ms → HoldsAll before.held ns) → IsReader A ns before after status → IsReader B ms before after status
+  pub widen : (ms ns : List (List ℕ)) (before after : Told) (status : ℕ) → (HoldsAll before.held ms → HoldsAll before.held ns) → IsReader A ns before after status → IsReader B ms before after status
   widen ms ns before after status more r = record {
     held = r.held;
     answer = λ six seven. let a = r.answer six seven in (a.0, each status a.0 a.1, a.2);
@@ -53,7 +53,7 @@ quiet_now name names None n m q h = absurd h
 quiet_now name names (Some t) n m q h = q h.0
 
 -- a command that goes on after it fetched a text
-pub after_fetch : (A : ℕ → List ℕ → Type 0) (name : List ℕ) (names : List (List ℕ)) (before middle after : Seen) (status : ℕ) (text : List ℕ) → IsFetch name before middle text → IsReader A names middle after status → IsReader A (name ∷ names) before after status
+pub after_fetch : (A : ℕ → List ℕ → Type 0) (name : List ℕ) (names : List (List ℕ)) (before middle after : Told) (status : ℕ) (text : List ℕ) → IsFetch name before middle text → IsReader A names middle after status → IsReader A (name ∷ names) before after status
 after_fetch A name names before middle after status text f r = record {
   held = r.held ∙ f.held;
   answer = λ six seven. let a = r.answer six seven in (a.0, a.1, subst (λ said. Said said after.said a.0) f.said a.2);
@@ -66,7 +66,7 @@ after_fetch A name names before middle after status text f r = record {
 }
 
 -- what one call of the shelf that says an answer does to it
-pub record IsSaid (a : Answer) (before after : Seen) (status : ℕ) : Type 0 where
+pub record IsSaid (a : Answer) (before after : Told) (status : ℕ) : Type 0 where
   pub status_is : (status ≡ a.status) ⊎ ((status ≡ 6) ⊎ (status ≡ 7))
   pub whole : status ≡ a.status → IfSome before.said (λ s. after.said ≡ Some (s ++ a.output))
   pub part : IfSome before.said (λ s. IsSomeAnd after.said (SaidPart a.output s))
@@ -86,7 +86,7 @@ part_fronts a (Some s) (Some t) h = part_front a s t h
 no_more : (n : ℕ) → n < 2 ^ 64 - 1 → one_more n ≤ n → ⊥
 no_more n few h = omega (arith, few, h)
 
-pub said_reader : (a : Answer) (before after : Seen) (status : ℕ) → IsSaid a before after status → IsReader (IsAnswer (Ok a)) [] before after status
+pub said_reader : (a : Answer) (before after : Told) (status : ℕ) → IsSaid a before after status → IsReader (IsAnswer (Ok a)) [] before after status
 said_reader a before after status h = record {
   held = h.held;
   answer = λ six seven. let same = which h.status_is six seven in (a.output, (same, refl), h.whole same);

@@ -19,7 +19,7 @@ use Rattle.certificate_laws.specs.Right.{YesIsRight}
 use Rattle.shelf.specs.Shelf.{Texts}
 use Rattle.shift_report.specs.VerdictText.{verdict_text}
 use Rattle.shift_tool.specs.Explain.{IsGrammarOf, SaysFault}
-use Rattle.shift_tool.specs.Seen.{Holds}
+use Rattle.shift_tool.specs.Reader.{Holds}
 
 -- 0 for a yes, and 1 for a no
 abbrev pub verdict_status : Verdict → ℕ

@@ -10,7 +10,7 @@ use Rattle.rules_text.specs.FaultLine.{fault_line}
 use Rattle.rules_text.specs.declared.fault.RulesFault.{RulesFault}
 use Rattle.shelf.specs.Shelf.{Texts}
 use Rattle.shift_report.specs.TreeText.{tree_text}
-use Rattle.shift_tool.specs.Seen.{Holds}
+use Rattle.shift_tool.specs.Reader.{Holds}
 
 -- status 0: the word's price, and a tree of that cost by which the start name derives the word
 pub record SaysTree (g : Grammar) (word output : List ℕ) : Type 0 where

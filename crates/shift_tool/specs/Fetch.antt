@@ -3,10 +3,11 @@ use Rattle.std.specs.Prelude.{ℕ, ◌≡◌, ◌≤◌, IsTrue, IfSome, IsSome,
 use Rattle.std.specs.FinMap as fin
 use Rattle.roster_model.specs.declared.memory.Memory.{Memory}
 use Rattle.shift_tool.specs.declared.answer.Answer.{Answer}
-use Rattle.shift_tool.specs.Seen.{Seen, Holds}
+use Rattle.shelf.specs.Shelf.{Told}
+use Rattle.shift_tool.specs.Reader.{Holds}
 
 -- a text was fetched, and nothing else was done
-pub record IsFetch (name : List ℕ) (before after : Seen) (text : List ℕ) : Type 0 where
+pub record IsFetch (name : List ℕ) (before after : Told) (text : List ℕ) : Type 0 where
   pub holds : Holds before.held name text
   pub held : after.held ≡ before.held
   pub said : after.said ≡ before.said

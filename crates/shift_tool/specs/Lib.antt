@@ -1,5 +1,5 @@
 pub mod Form
-pub mod Seen
+pub mod Reader
 pub mod Explain
 pub mod Fetch
 pub mod Check

@@ -14,7 +14,7 @@ ghost use Rattle.shift_tool.specs.Check.{
   RulesAnswers,
   verdict_status,
 };
-ghost use Rattle.shift_tool.specs.Seen.{IsReader};
+ghost use Rattle.shift_tool.specs.Reader.{IsReader};
 
 use crate::answer::Answer;
 use crate::explain::refusal;
@@ -89,7 +89,7 @@ fn judgement(alloc: Global, instance: &Instance, text: &[u8]) -> Result<Answer, 
 // Checks the certificate of the proof text under a name.
 fn check_proof<S: Shelf>(alloc: Global, shelf: &mut S, instance: &Instance, proof: &str) -> u8
     requires { IsSoundInstance instance.now }
-    ensures { IsReader (AnswersProof (S.held shelf.old) instance.now proof.now) (proof.now ∷ []) (record { held = S.held shelf.old; said = S.said shelf.old; faults = S.faults shelf.old; steady = S.steady shelf.old }) (record { held = S.held shelf.new; said = S.said shelf.new; faults = S.faults shelf.new; steady = S.steady shelf.new }) result }
+    ensures { IsReader (AnswersProof (S.told shelf.old).held instance.now proof.now) (proof.now ∷ []) (S.told shelf.old) (S.told shelf.new) result }
 {
     let text = match fetched(alloc, shelf, proof) {
         Ok(text) => text,
@@ -108,7 +108,7 @@ fn check_demand_text<S: Shelf>(
 ) -> u8
     requires sound { IsSound grammar }
     requires plain { IsPlain grammar }
-    ensures { IsReader (DemandAnswers (S.held shelf.old) grammar text.now proof.now) (proof.now ∷ []) (record { held = S.held shelf.old; said = S.said shelf.old; faults = S.faults shelf.old; steady = S.steady shelf.old }) (record { held = S.held shelf.new; said = S.said shelf.new; faults = S.faults shelf.new; steady = S.steady shelf.new }) result }
+    ensures { IsReader (DemandAnswers (S.told shelf.old).held grammar text.now proof.now) (proof.now ∷ []) (S.told shelf.old) (S.told shelf.new) result }
 {
     match read_demand(alloc, grammar, text) {
         Ok(instance) => check_proof(alloc, shelf, &instance, proof),
@@ -126,7 +126,7 @@ fn check_demand<S: Shelf>(
 ) -> u8
     requires sound { IsSound grammar }
     requires plain { IsPlain grammar }
-    ensures { IsReader (AnswersDemand (S.held shelf.old) grammar demand.now proof.now) (demand.now ∷ proof.now ∷ []) (record { held = S.held shelf.old; said = S.said shelf.old; faults = S.faults shelf.old; steady = S.steady shelf.old }) (record { held = S.held shelf.new; said = S.said shelf.new; faults = S.faults shelf.new; steady = S.steady shelf.new }) result }
+    ensures { IsReader (AnswersDemand (S.told shelf.old).held grammar demand.now proof.now) (demand.now ∷ proof.now ∷ []) (S.told shelf.old) (S.told shelf.new) result }
 {
     let text = match fetched(alloc, shelf, demand) {
         Ok(text) => text,
@@ -143,7 +143,7 @@ fn check_rules_text<S: Shelf>(
     demand: &str,
     proof: &str,
 ) -> u8
-    ensures { IsReader (RulesAnswers (S.held shelf.old) text.now demand.now proof.now) (demand.now ∷ proof.now ∷ []) (record { held = S.held shelf.old; said = S.said shelf.old; faults = S.faults shelf.old; steady = S.steady shelf.old }) (record { held = S.held shelf.new; said = S.said shelf.new; faults = S.faults shelf.new; steady = S.steady shelf.new }) result }
+    ensures { IsReader (RulesAnswers (S.told shelf.old).held text.now demand.now proof.now) (demand.now ∷ proof.now ∷ []) (S.told shelf.old) (S.told shelf.new) result }
 {
     match read_rules(alloc, text) {
         Ok(grammar) => check_demand(alloc, shelf, grammar, demand, proof),
@@ -154,7 +154,7 @@ fn check_rules_text<S: Shelf>(
 /// Says whether a certificate is accepted, by the rules, demand and proof texts under names, or why
 /// a text or the certificate is refused. The texts are fetched and read in this order.
 pub fn check<S: Shelf>(alloc: Global, shelf: &mut S, rules: &str, demand: &str, proof: &str) -> u8
-    ensures { IsReader (AnswersCheck (S.held shelf.old) rules.now demand.now proof.now) (rules.now ∷ demand.now ∷ proof.now ∷ []) (record { held = S.held shelf.old; said = S.said shelf.old; faults = S.faults shelf.old; steady = S.steady shelf.old }) (record { held = S.held shelf.new; said = S.said shelf.new; faults = S.faults shelf.new; steady = S.steady shelf.new }) result }
+    ensures { IsReader (AnswersCheck (S.told shelf.old).held rules.now demand.now proof.now) (rules.now ∷ demand.now ∷ proof.now ∷ []) (S.told shelf.old) (S.told shelf.new) result }
 {
     let text = match fetched(alloc, shelf, rules) {
         Ok(text) => text,

@@ -5,7 +5,7 @@ ghost use Rattle.span_table.specs.Tables.{IsMadeFor, IsFilled};
 ghost use Rattle.word_prices.specs.Prices.{word_view};
 ghost use Rattle.rules_text.specs.FaultLine.{fault_line};
 ghost use Rattle.shift_tool.specs.Explain.{AnswersExplain, Derivation, Explanation, SaysTree};
-ghost use Rattle.shift_tool.specs.Seen.{IsReader};
+ghost use Rattle.shift_tool.specs.Reader.{IsReader};
 
 use crate::answer::Answer;
 use crate::say::{MEMORY, say, status_of};
@@ -91,7 +91,7 @@ fn explanation(alloc: Global, text: &[u8], word: &[u8]) -> Result<Answer, Memory
 
 /// Says the price of a word by the rules text under a name, and a tree of that cost.
 pub fn explain<S: Shelf>(alloc: Global, shelf: &mut S, rules: &str, word: &str) -> u8
-    ensures { IsReader (AnswersExplain (S.held shelf.old) rules.now word.now) (rules.now ∷ []) (record { held = S.held shelf.old; said = S.said shelf.old; faults = S.faults shelf.old; steady = S.steady shelf.old }) (record { held = S.held shelf.new; said = S.said shelf.new; faults = S.faults shelf.new; steady = S.steady shelf.new }) result }
+    ensures { IsReader (AnswersExplain (S.told shelf.old).held rules.now word.now) (rules.now ∷ []) (S.told shelf.old) (S.told shelf.new) result }
 {
     let mut text = Vec::new(alloc);
     if let Err(fault) = shelf.fetch(rules, &mut text) {

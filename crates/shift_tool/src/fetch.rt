@@ -1,6 +1,6 @@
 ghost use Rattle.std.specs.Prelude.{◌≢◌, ◌∷◌, [], IfOk, IfErr};
 ghost use Rattle.shift_tool.specs.Fetch.{IsAnswer, IsFetch, NoAnswer};
-ghost use Rattle.shift_tool.specs.Seen.{IsReader};
+ghost use Rattle.shift_tool.specs.Reader.{IsReader};
 
 use crate::answer::Answer;
 use crate::say::{MEMORY, say, status_of};
@@ -10,8 +10,8 @@ use std::alloc::Global;
 
 /// Returns the text under a name, or the status of a refusal.
 pub fn fetched<S: Shelf>(alloc: Global, shelf: &mut S, name: &str) -> Result<Vec<u8>, u8>
-    ensures text { IfOk result (λ text. IsFetch name.now (record { held = S.held shelf.old; said = S.said shelf.old; faults = S.faults shelf.old; steady = S.steady shelf.old }) (record { held = S.held shelf.new; said = S.said shelf.new; faults = S.faults shelf.new; steady = S.steady shelf.new }) text.items) }
-    ensures refusal { IfErr result (λ status. IsReader NoAnswer (name.now ∷ []) (record { held = S.held shelf.old; said = S.said shelf.old; faults = S.faults shelf.old; steady = S.steady shelf.old }) (record { held = S.held shelf.new; said = S.said shelf.new; faults = S.faults shelf.new; steady = S.steady shelf.new }) status) }
+    ensures text { IfOk result (λ text. IsFetch name.now (S.told shelf.old) (S.told shelf.new) text.items) }
+    ensures refusal { IfErr result (λ status. IsReader NoAnswer (name.now ∷ []) (S.told shelf.old) (S.told shelf.new) status) }
 {
     let mut text = Vec::new(alloc);
     if let Err(fault) = shelf.fetch(name, &mut text) {
@@ -23,7 +23,7 @@ pub fn fetched<S: Shelf>(alloc: Global, shelf: &mut S, name: &str) -> Result<Vec
 /// Says an answer at once, and returns its status, or that of a refusal.
 pub fn say_answer<S: Shelf>(shelf: &mut S, answer: Result<Answer, Memory>) -> u8
     requires { IfOk answer (λ a. (a.status ≢ 6) × (a.status ≢ 7)) }
-    ensures { IsReader (IsAnswer answer) [] (record { held = S.held shelf.old; said = S.said shelf.old; faults = S.faults shelf.old; steady = S.steady shelf.old }) (record { held = S.held shelf.new; said = S.said shelf.new; faults = S.faults shelf.new; steady = S.steady shelf.new }) result }
+    ensures { IsReader (IsAnswer answer) [] (S.told shelf.old) (S.told shelf.new) result }
 {
     match answer {
         Ok(answer) => say(shelf, answer.output.as_slice(), answer.status),

@@ -1,7 +1,7 @@
 ghost use Rattle.std.specs.Prelude.{[], map, string_bytes};
 ghost use Rattle.shift_tool.specs.Form.{form_of, AnswersNoForm};
 ghost use Rattle.shift_tool.specs.Run.{Does};
-ghost use Rattle.shift_tool.specs.Seen.{IsReader};
+ghost use Rattle.shift_tool.specs.Reader.{IsReader};
 
 use crate::check::check;
 use crate::explain::explain;
@@ -14,7 +14,7 @@ const NO_FORM: &[u8] = b"words: none of the four forms\n";
 
 // Says that the words have no form.
 fn refuse_words<S: Shelf>(shelf: &mut S) -> u8
-    ensures { IsReader AnswersNoForm [] (record { held = S.held shelf.old; said = S.said shelf.old; faults = S.faults shelf.old; steady = S.steady shelf.old }) (record { held = S.held shelf.new; said = S.said shelf.new; faults = S.faults shelf.new; steady = S.steady shelf.new }) result }
+    ensures { IsReader AnswersNoForm [] (S.told shelf.old) (S.told shelf.new) result }
 {
     say(shelf, NO_FORM, 2)
 }
@@ -34,7 +34,7 @@ fn refuse_words<S: Shelf>(shelf: &mut S) -> u8
 ///
 /// A command says its whole answer at once. Status 6 or 7 ends it at the call that was refused.
 pub fn run<S: Shelf>(alloc: Global, shelf: &mut S, words: &[String]) -> u8
-    ensures { Does (form_of (map string_bytes words.now)) (record { held = S.held shelf.old; said = S.said shelf.old; faults = S.faults shelf.old; steady = S.steady shelf.old }) (record { held = S.held shelf.new; said = S.said shelf.new; faults = S.faults shelf.new; steady = S.steady shelf.new }) result }
+    ensures { Does (form_of (map string_bytes words.now)) (S.told shelf.old) (S.told shelf.new) result }
 {
     match form_of(words) {
         Form::Explain { rules, word } => explain(alloc, shelf, rules, word),

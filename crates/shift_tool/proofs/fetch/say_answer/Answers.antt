@@ -1,13 +1,14 @@
 use Rattle.std.proofs.Common.{sym, subst, []}
 use Rattle.shift_tool.specs.Fetch.{IsAnswer}
-use Rattle.shift_tool.specs.Seen.{Seen, IsReader}
+use Rattle.shelf.specs.Shelf.{Told}
+use Rattle.shift_tool.specs.Reader.{IsReader}
 use Rattle.shift_tool.proofs.Readers.{said_reader}
 use Rattle.shift_tool.proofs.fetch.say_answer.Goals as goal
 
 pub returns-in-Ok : goal.returns-in-Ok
 returns-in-Ok g c =
-    let before : Seen = record { held = g.S.Shelf.held c.args.shelf.now; said = g.S.Shelf.said c.args.shelf.now; faults = g.S.Shelf.faults c.args.shelf.now; steady = g.S.Shelf.steady c.args.shelf.now } in
-    let after : Seen = record { held = g.S.Shelf.held c.say.new.shelf; said = g.S.Shelf.said c.say.new.shelf; faults = g.S.Shelf.faults c.say.new.shelf; steady = g.S.Shelf.steady c.say.new.shelf } in
+    let before : Told = g.S.Shelf.told c.args.shelf.now in
+    let after : Told = g.S.Shelf.told c.say.new.shelf in
     subst (λ r. IsReader (IsAnswer r) [] before after c.say.result) (sym c.in-Ok.is)
     (said_reader c.in-Ok.answer before after c.say.result (record {
       status_is = c.say.ensures.status;

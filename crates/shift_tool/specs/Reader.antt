@@ -1,15 +1,8 @@
 -- What a call of the program does to the shelf that it was lent.
 use Rattle.std.specs.Prelude.{ℕ, ◌≡◌, ◌≢◌, ◌⊎◌, ◌<◌, ◌≤◌, ◌-◌, ◌^◌, Bool, IsTrue, List, ◌++◌, Option, Some, IfSome, IsSome, IsSomeAnd}
 use Rattle.std.specs.FinMap as fin
-use Rattle.shelf.specs.Shelf.{Texts, one_more}
+use Rattle.shelf.specs.Shelf.{Texts, Told, one_more, most_faults}
 use Rattle.roster_model.specs.Folds.{Each}
-
--- a shelf at one moment: what it tells that it holds, what it tells that was said, and its faults
-pub record Seen : Type 0 where
-  pub held : Option Texts
-  pub said : Option (List ℕ)
-  pub faults : ℕ
-  pub steady : Bool
 
 -- the text stands under the name, where the shelf tells what it holds
 abbrev pub Holds : Option Texts → List ℕ → List ℕ → Type 0
@@ -40,7 +33,7 @@ SaidLittle Answers before after = (after ≡ before) ⊎ SaidFront Answers befor
 -- What a command does that stores nothing. `Answers` says with which statuses it may end, and what
 -- it says then; `names` are those of the texts that it fetches. Status 6 is a refusal of the shelf,
 -- and 7 want of memory.
-pub record IsReader (Answers : ℕ → List ℕ → Type 0) (names : List (List ℕ)) (before after : Seen) (status : ℕ) : Type 0 where
+pub record IsReader (Answers : ℕ → List ℕ → Type 0) (names : List (List ℕ)) (before after : Told) (status : ℕ) : Type 0 where
   -- nothing is stored, whatever the status
   pub held : after.held ≡ before.held
   -- an answer is one of the allowed ones, and is said whole
@@ -51,4 +44,4 @@ pub record IsReader (Answers : ℕ → List ℕ → Type 0) (names : List (List 
   pub never_falls : before.faults ≤ after.faults
   pub cause : status ≡ 6 → one_more before.faults ≤ after.faults
   -- a steady shelf that holds the texts refuses nothing
-  pub steady : IsTrue before.steady → HoldsAll before.held names → before.faults < 2 ^ 64 - 1 → status ≢ 6
+  pub steady : IsTrue before.steady → HoldsAll before.held names → before.faults < most_faults → status ≢ 6
