@@ -15,7 +15,7 @@ use Rattle.rules_text.specs.declared.draft.Draft.{Draft}
 use Rattle.rules_text.specs.Steps.{each}
 use Rattle.rules_text.specs.Lines.{is_declared, declare_at, codes_at, line_at, item_at}
 use Rattle.rules_text.specs.Written.{code_line}
-use Rattle.rules_text.proofs.Inversions.{ok}
+use Rattle.text_lines.proofs.StepsLemmas.{ok}
 
 abbrev no_code : CodeDef
 no_code = record { byte = 0; work = false }

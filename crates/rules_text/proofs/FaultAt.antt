@@ -21,13 +21,14 @@ use Rattle.rules_text.specs.declared.rules.Rules.{Rules}
 use Rattle.rules_text.specs.declared.window.Windows.{Windows}
 use Rattle.rules_text.specs.Steps.{◌>>=◌, each}
 use Rattle.rules_text.specs.Names.{Named, has_name, place_of, name_at}
-use Rattle.rules_text.specs.Fields.{in_range, number_at}
+use Rattle.text_lines.specs.Fields as fields
+use Rattle.rules_text.specs.Fields.{number_at}
 use Rattle.rules_text.specs.RuleLine.{is_quoted, declared, code_at, symbol_at, bounds_at, written, with_window, window_at, windows_at, are_windows, no_windows, symbol_count, rule_of, rule_at}
 use Rattle.rules_text.specs.Lines.{is_declared, declare_at, codes_at, periods_at, start_at, line_at, item_at}
 use Rattle.rules_text.specs.RulesOf.{no_draft, draft_of}
 use Rattle.rules_text.specs.FaultLine.{line_of}
 use Rattle.rules_text.specs.Forms.{number_of, IsFirstRefused}
-use Rattle.rules_text.proofs.Inversions.{ok, err}
+use Rattle.text_lines.proofs.StepsLemmas.{err, ok}
 
 -- a refusal carries this line
 pub record At {A : Type 0} (k : ℕ) (r : Result A RulesFault) : Type 0 where
@@ -71,10 +72,10 @@ name_line p ns w =
     (at_ok p.line (record { texts = ns.texts ++ w ∷ []; places = ns.places ++ p ∷ [] }, length ns.texts))))
 
 number_line : (k low high : ℕ) (w : List ℕ) → At k (number_at k low high w)
-unfolding number_at
+unfolding fields.number_at
 number_line k low high w = by (natural_of w)
   where
-    by : (r : Result ℕ NumberFault) → At k (in_range k low high r)
+    by : (r : Result ℕ NumberFault) → At k (fields.in_range (BadNumber k) (OutOfRange k) low high r)
     by (Ok n) = refuse k (ltb n low || ltb high n) (OutOfRange k) _ refl (at_ok k n)
     by (Err Form) = at_err k (BadNumber k) refl
     by (Err Wide) = at_err k (OutOfRange k) refl

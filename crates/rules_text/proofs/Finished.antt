@@ -15,7 +15,7 @@ use Rattle.rules_text.specs.declared.place.Place.{Place}
 use Rattle.rules_text.specs.Names.{has_name, place_of}
 use Rattle.rules_text.specs.RulesOf.{unruled, all_ruled, some_periods, some_start, parsed, finish, draft_of, parsed_of}
 use Rattle.rules_text.specs.Drafts.{IsDraft, IsParsed}
-use Rattle.rules_text.proofs.Inversions.{passed, held, bind_ok, same_ok}
+use Rattle.text_lines.proofs.StepsLemmas.{held, passed, bind_ok, same_ok}
 use Rattle.rules_text.proofs.Places.{any_place}
 use Rattle.rules_text.proofs.LinesKept.{draft_keeps}
 

@@ -25,17 +25,18 @@ use Rattle.rules_text.specs.Lines.{periods_at, start_at, line_at, item_at}
 use Rattle.rules_text.specs.RulesOf.{unruled, finish, no_draft, draft_of, parsed_of, IsReading}
 use Rattle.rules_text.specs.Drafts.{known_after, IsDraft}
 use Rattle.rules_text.specs.Written.{name_of, periods_line, code_line, start_line, rule_line, grammar_lines, rules_text}
-use Rattle.rules_text.proofs.Inversions.{ok}
-use Rattle.rules_text.proofs.Each.{each-append}
+use Rattle.text_lines.proofs.StepsLemmas.{ok, each-append}
 use Rattle.rules_text.proofs.Places.{any_place}
 use Rattle.rules_text.proofs.Orders.{known-append}
 use Rattle.rules_text.proofs.LinesKept.{draft_keeps}
 use Rattle.roster_model.proofs.StepRules.{no_cycle}
 use Rattle.rules_text.proofs.RuleSound.{NamesSound, CodesSound, names_sound, codes_sound}
-use Rattle.rules_text.proofs.RuleAgain.{number_at_again}
+use Rattle.text_lines.proofs.FieldsLemmas.{number_at_again}
+use Rattle.rules_text.specs.declared.fault.RulesFault.TheVariants.{BadNumber, OutOfRange}
 use Rattle.rules_text.proofs.CodesAgain.{codes_again}
 use Rattle.rules_text.proofs.RulesAgain.{known_within, with_rules, rules_again}
-use Rattle.rules_text.proofs.FineLines.{IsFineLine, each_append, each_map, periods_fine, code_fine, start_fine, rule_fine, lines_written, lines_short}
+use Rattle.rules_text.proofs.FineLines.{IsFineLine, periods_fine, code_fine, start_fine, rule_fine, lines_written, lines_short}
+use Rattle.text_lines.proofs.ListLemmas.{Each-append, Each-map}
 
 -- all names are known at the end
 
@@ -84,7 +85,7 @@ numbered-append k (l ∷ ls) ms =
 
 periods_again : (k n : ℕ) → 1 ≤ n → n ≤ 96 → line_at k no_draft (periods_line n) ≡ Ok (record no_draft { periods = Some n })
 unfolding line_at periods_at
-periods_again k n ge le = rw (number_at_again k 1 96 n ge le (omega arith)) refl
+periods_again k n ge le = rw (number_at_again (BadNumber k) (OutOfRange k) 1 96 n ge le (omega arith)) refl
 
 record IsUnstarted (d : Draft) : Type 0 where
   none : d.start ≡ None
@@ -138,9 +139,9 @@ all_fine g s p =
     let ns : NamesSound g.names = names_sound g s.names p in
     let cs : CodesSound g.codes = codes_sound g.codes s.codes in (
       periods_fine g.periods s.few_periods,
-      each_append IsFineLine (map code_line g.codes) _ (each_map (λ (c : CodeDef). is_code_byte c.byte ≡ true) IsFineLine code_line code_fine g.codes s.codes.bytes) (
+      Each-append IsFineLine (map code_line g.codes) _ (Each-map (λ (c : CodeDef). is_code_byte c.byte ≡ true) IsFineLine code_line code_fine g.codes s.codes.bytes) (
         start_fine (name_of g.names g.start) (ns.names g.start s.start),
-        each_map (IsRule (length g.codes) (length g.names)) IsFineLine (rule_line g.codes g.names) (rule_fine g.codes g.names cs ns) g.rules s.rules,
+        Each-map (IsRule (length g.codes) (length g.names)) IsFineLine (rule_line g.codes g.names) (rule_fine g.codes g.names cs ns) g.rules s.rules,
       ),
     )
 

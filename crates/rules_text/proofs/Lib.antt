@@ -1,6 +1,4 @@
 pub mod KeyTexts
-pub mod Each
-pub mod Inversions
 pub mod Places
 pub mod CodesKept
 pub mod NamesKept
@@ -9,7 +7,7 @@ pub mod Orders
 pub mod RuleKept
 pub mod LinesKept
 pub mod Finished
-pub mod Tails
+pub mod WrittenLemmas
 pub mod RuleSound
 pub mod RuleAgain
 pub mod CodesAgain

@@ -18,7 +18,7 @@ use Rattle.rules_text.specs.Fields.{number_at}
 use Rattle.rules_text.specs.RuleLine.{are_windows, symbol_count, rule_of, rule_at}
 use Rattle.rules_text.specs.Lines.{declare_at, codes_at, periods_at, start_at, line_at, item_at}
 use Rattle.rules_text.specs.Forms.{IsForm, periods, work, idle, start, rule, HasForm, begins}
-use Rattle.rules_text.proofs.Inversions.{ok, err, passed, held, bind_ok, same_ok}
+use Rattle.text_lines.proofs.StepsLemmas.{held, passed, bind_ok, same_ok, err, ok}
 
 abbrev pub one_if : Bool → ℕ
 one_if t = cond t 1 0

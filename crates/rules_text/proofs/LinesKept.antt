@@ -17,9 +17,9 @@ use Rattle.rules_text.specs.Lines.{declare_at, codes_at, periods_at, start_at, l
 use Rattle.rules_text.specs.RuleLine.{rule_at}
 use Rattle.rules_text.specs.RulesOf.{no_draft, draft_of}
 use Rattle.rules_text.specs.Drafts.{AreRules, IsDraft}
-use Rattle.rules_text.proofs.Inversions.{ok, err, passed, bind_ok, same_ok, each_keeps}
+use Rattle.text_lines.proofs.StepsLemmas.{each_keeps, passed, bind_ok, same_ok, err, ok}
 use Rattle.rules_text.proofs.CodesKept.{declare_keeps}
-use Rattle.rules_text.proofs.WindowsKept.{number_within}
+use Rattle.text_lines.proofs.FieldsLemmas.{number_within}
 use Rattle.rules_text.proofs.RuleKept.{rule_more, rule_keeps}
 
 codes_more : (defs new : List CodeDef) (st : Rules) → length defs ≤ length new → AreRules defs st → AreRules new st
@@ -49,7 +49,7 @@ periods_keep k d new [] s e = absurd cc
 periods_keep k d new (n ∷ []) s e =
     let b = bind_ok (number_at k 1 96 n) _ _ e in
     let once = passed _ _ _ _ b.2 in
-    subst IsDraft (same_ok (record d { periods = Some b.0 }) new once.1) (record { periods = number_within k 1 96 b.0 n b.1; codes = s.codes; rules = s.rules })
+    subst IsDraft (same_ok (record d { periods = Some b.0 }) new once.1) (record { periods = number_within _ _ 1 96 b.0 n b.1; codes = s.codes; rules = s.rules })
 periods_keep k d new (n ∷ m ∷ ws) s e = absurd cc
 
 start_keeps : (k : ℕ) (d new : Draft) (ws : List (List ℕ)) → IsDraft d → start_at k d ws ≡ Ok new → IsDraft new

@@ -9,9 +9,9 @@ use Rattle.rules_text.specs.declared.fault.Limit.TheVariants as limits
 use Rattle.rules_text.specs.declared.fault.RulesFault.TheVariants.{TooMany}
 use Rattle.rules_text.specs.Names.{Named, has_name, place_of, name_at}
 use Rattle.rules_text.specs.Drafts.{AreNamed}
-use Rattle.rules_text.proofs.Inversions.{ok, err, passed, same_ok}
+use Rattle.text_lines.proofs.StepsLemmas.{passed, same_ok, err, ok}
 use Rattle.rules_text.proofs.Places.{any_place}
-use Rattle.rules_text.proofs.CodesKept.{last_or_before, apart_more, none_passes, fewer, not_false}
+use Rattle.text_lines.proofs.ListLemmas.{last_or_before, apart_more, none_passes, fewer, not_false}
 
 -- what reading a name leaves
 pub record IsNumbered (old : Named) (r : Named × ℕ) : Type 0 where

@@ -10,7 +10,7 @@ use Rattle.rules_text.specs.declared.draft.Start.{Start}
 use Rattle.rules_text.specs.Steps.{◌>>=◌}
 use Rattle.rules_text.specs.RulesOf.{some_periods, some_start, finish, no_draft, draft_of, parsed_of, IsOutcome, IsReading}
 use Rattle.rules_text.specs.Forms.{IsComplete, IsFirstRefused, AllStand}
-use Rattle.rules_text.proofs.Inversions.{err, passed, bind_ok}
+use Rattle.text_lines.proofs.StepsLemmas.{passed, bind_ok, err}
 use Rattle.rules_text.proofs.FaultAt.{refused_at}
 use Rattle.rules_text.proofs.LineForms.{has, all_add}
 

@@ -7,7 +7,8 @@ use Rattle.std.specs.Str.{bytes_eq}
 use Rattle.std.proofs.lemmas.Bool.{and_from, and_parts, lt-leb, lt-ltb, le-ltb, eqb-true, ne_eqb, cases_lt, not-true, or_cases, leb-true}
 use Rattle.std.proofs.lemmas.List.{length-take, length-map, take_at, drop_at}
 use Rattle.std.proofs.Math.Seq.{take-suc}
-use Rattle.text_lines.proofs.Again.{natural_again}
+use Rattle.text_lines.proofs.FieldsLemmas.{number_at_again}
+use Rattle.rules_text.specs.declared.fault.RulesFault.TheVariants.{BadNumber, OutOfRange}
 use Rattle.roster_model.specs.declared.grammar.Sym.{Sym}
 use Rattle.roster_model.specs.declared.grammar.Sym.TheVariants.{Code, Name}
 use Rattle.roster_model.specs.declared.grammar.CodeDef.{CodeDef}
@@ -24,16 +25,9 @@ use Rattle.rules_text.specs.Fields.{number_at}
 use Rattle.rules_text.specs.RuleLine.{symbol_at, bounds_at, written, with_window, window_at, windows_at, are_windows, symbol_count, no_windows, whole, rule_of, rule_at}
 use Rattle.rules_text.specs.Written.{name_of, code_of, symbol_word, window_words, all_window_words, rule_words}
 use Rattle.rules_text.specs.Drafts.{known_after}
-use Rattle.rules_text.proofs.Inversions.{ok}
+use Rattle.text_lines.proofs.StepsLemmas.{ok}
 use Rattle.rules_text.proofs.Places.{any_place}
 use Rattle.rules_text.proofs.RuleSound.{NamesSound, CodesSound, SymbolsSound, RuleSound}
-
--- numbers
-
-pub number_at_again : (k low high n : ℕ) → low ≤ n → n ≤ high → high ≤ 10000 → number_at k low high (decimal n) ≡ Ok n
-unfolding number_at
-number_at_again k low high n le ge small =
-    rw (natural_again n (omega arith), le-ltb n low le, le-ltb high n ge) refl
 
 -- names
 
@@ -150,7 +144,7 @@ symbols_plain defs ns s m (Name x ∷ ss) h = ((name_plain _ (s.names x h.0)).wi
 
 bounds_again : (k : ℕ) (x : Window) → IsWindow x → bounds_at k (decimal x.lo) (decimal x.hi) ≡ Ok x
 unfolding bounds_at
-bounds_again k x s = rw (number_at_again k 1 96 x.lo s.first (omega (arith, s.order, s.last)) (omega arith), number_at_again k x.lo 96 x.hi s.order s.last (omega arith)) refl
+bounds_again k x s = rw (number_at_again (BadNumber k) (OutOfRange k) 1 96 x.lo s.first (omega (arith, s.order, s.last)) (omega arith), number_at_again (BadNumber k) (OutOfRange k) x.lo 96 x.hi s.order s.last (omega arith)) refl
 
 abbrev is_whole : Window → Bool
 is_whole x = eqb x.lo 1 && eqb x.hi 96
@@ -296,5 +290,5 @@ rule_again k defs ns m ps rules r cs s some sound few =
     let len : length ms ≡ length r.right = simp length-map in
     let full : eqb (length ms) 0 ≡ false = ne_eqb (length ms) 0 (λ e. omega (arith, e, len, sound.some)) in
     let read = rule_read k defs st (name_of ns r.left) (decimal r.cost) ms (all_window_words r) (known ns m1 left.0) (known ns (known_after m1 (names_of r.right)) right.0) r.left r.cost r.right (slots r)
-    (lt-leb 64 (length rules) few) left.1 (number_at_again k 0 10000 r.cost (omega arith) sound.cost (omega arith)) full right.1 (windows_again k r sound.span sound.first sound.last) in
+    (lt-leb 64 (length rules) few) left.1 (number_at_again (BadNumber k) (OutOfRange k) 0 10000 r.cost (omega arith) sound.cost (omega arith)) full right.1 (windows_again k r sound.span sound.first sound.last) in
     (right.0, form_read k defs st (name_of ns r.left) (decimal r.cost) ms (all_window_words r) count (form_again r) ∙ read ∙ ap (λ (x : Rule). ok (rules_with (known ns (known_after m1 (names_of r.right)) right.0) (rules ++ x ∷ []))) (rule_is r))

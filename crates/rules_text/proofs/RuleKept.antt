@@ -16,10 +16,11 @@ use Rattle.rules_text.specs.Names.{Named, name_at}
 use Rattle.rules_text.specs.Fields.{number_at}
 use Rattle.rules_text.specs.RuleLine.{is_quoted, declared, code_at, symbol_at, windows_at, no_windows, symbol_count, rule_of, rule_at}
 use Rattle.rules_text.specs.Drafts.{known_after, AreNamed, AreRules}
-use Rattle.rules_text.proofs.Inversions.{ok, err, passed, held, bind_ok, same_ok, each_keeps}
-use Rattle.rules_text.proofs.CodesKept.{fewer}
+use Rattle.text_lines.proofs.StepsLemmas.{each_keeps, held, passed, bind_ok, same_ok, err, ok}
+use Rattle.text_lines.proofs.ListLemmas.{fewer}
 use Rattle.rules_text.proofs.NamesKept.{IsNumbered, name_keeps}
-use Rattle.rules_text.proofs.WindowsKept.{number_within, windows_keep, whole_window}
+use Rattle.rules_text.proofs.WindowsKept.{windows_keep, whole_window}
+use Rattle.text_lines.proofs.FieldsLemmas.{number_within}
 use Rattle.rules_text.proofs.Orders.{order-append, known-append, names-append, appearances-append}
 
 pub exists_more : (c d n m : ℕ) → c ≤ d → n ≤ m → (s : Sym) → Exists c n s → Exists d m s
@@ -140,7 +141,7 @@ rule_of_keeps k defs st new name cost symbols windows s e =
     let start = no_symbols (length defs) left.0.0 numbered.named in
     let kept = symbols_keep k defs (length left.0.0.texts) (left.0.0, []) right.0 symbols start some.0 some.1 in
     let grown : length left.0.0.texts ≤ length right.0.0.texts = rises (length left.0.0.texts) (names_of right.0.1) (length right.0.0.texts) kept.0.counted in
-    let within = number_within k 0 10000 price.0 cost price.1 in
+    let within = number_within _ _ 0 10000 price.0 cost price.1 in
     let w = windows_keep k no_windows v.0 windows (record { span = tt; first = tt; last = tt }) v.1 in
     subst (AreRules defs) (same_ok _ _ v.2) (rule_pushed defs st left.0.0 right.0.0 _ s (fewer _ _ a.0) numbered kept (record {
       left = omega (arith, numbered.there);

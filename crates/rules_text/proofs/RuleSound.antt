@@ -3,7 +3,7 @@ use Rattle.std.proofs.Common.{◌≡◌, ℕ, ◌+◌, ◌<◌, ◌≤◌, Bool,
 use Rattle.std.specs.Prelude.{position, slice_get, All}
 use Rattle.std.specs.List.{position_or_len}
 use Rattle.std.specs.Str.{bytes_eq}
-use Rattle.std.proofs.lemmas.Bool.{eq-eqb, ne_eqb, lt-ltb, false_from_ne_true}
+use Rattle.std.proofs.lemmas.Bool.{eq-eqb, ne_eqb, false_from_ne_true}
 use Rattle.std.proofs.lemmas.Option.{slice_get-get_or}
 use Rattle.std.proofs.lemmas.List.Sums.{position_or_len_is}
 use Rattle.std.proofs.lemmas.List.Elements.{All-head, All-tail}
@@ -14,6 +14,7 @@ use Rattle.roster_model.specs.declared.grammar.CodeDef.{CodeDef}
 use Rattle.roster_model.specs.declared.grammar.Rule.{Rule}
 use Rattle.roster_model.specs.declared.grammar.Grammar.{Grammar}
 use Rattle.roster_model.specs.Names.{is_name, is_code_byte}
+use Rattle.text_lines.proofs.FieldsLemmas.{position_at}
 use Rattle.roster_model.specs.Sound.{Exists, IsWindow, IsRule, AreCodes, AreNames, IsPlain, AreInOrder, names_of}
 use Rattle.rules_text.specs.Names.{place_of}
 use Rattle.rules_text.specs.Written.{name_of, code_of}
@@ -92,6 +93,3 @@ codes_sound defs s = record {
   bytes = λ c lt. s.bytes c (record { byte = 0; work = false }) lt;
   distinct = λ c lt. position_at _ defs c (first_code defs s c lt) lt;
 }
-  where
-    position_at : (p : CodeDef → Bool) (xs : List CodeDef) (c : ℕ) → position_or_len p xs ≡ c → c < length xs → position p xs ≡ Some c
-    position_at p xs c e lt = rw (e, lt-ltb c (length xs) lt) refl

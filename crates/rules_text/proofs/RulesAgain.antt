@@ -17,7 +17,7 @@ use Rattle.rules_text.specs.Lines.{line_at, item_at}
 use Rattle.rules_text.specs.RuleLine.{rule_at}
 use Rattle.rules_text.specs.Drafts.{known_after}
 use Rattle.rules_text.specs.Written.{rule_words, rule_line}
-use Rattle.rules_text.proofs.Inversions.{ok}
+use Rattle.text_lines.proofs.StepsLemmas.{ok}
 use Rattle.rules_text.proofs.Orders.{order-parts, known-append}
 use Rattle.rules_text.proofs.RuleSound.{NamesSound, CodesSound, rule_sound}
 use Rattle.rules_text.proofs.RuleAgain.{known, rule_again}

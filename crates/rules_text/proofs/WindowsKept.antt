@@ -1,46 +1,22 @@
 -- Numbers and windows that were read are in range.
-use Rattle.std.proofs.Common.{◌≡◌, ℕ, ◌≤◌, Bool, true, false, cond, ◌||◌, List, [], ◌∷◌, Option, Some, None, Result, Ok, Err, arith, inl, inr, ltb, subst}
+use Rattle.std.proofs.Common.{◌≡◌, ℕ, Bool, true, false, cond, List, [], ◌∷◌, Option, Some, None, Ok, arith, subst}
 use Rattle.std.specs.Prelude.{codes, IfSome}
 use Rattle.std.specs.Str.{bytes_eq}
-use Rattle.std.proofs.lemmas.Bool.{or_parts, cases_lt, lt-ltb}
-use Rattle.text_lines.specs.declared.number.NumberFault.{NumberFault}
-use Rattle.text_lines.specs.declared.number.NumberFault.TheVariants.{Form, Wide}
-use Rattle.text_lines.specs.Numbers.{natural_of}
 use Rattle.roster_model.specs.declared.grammar.Window.{Window}
 use Rattle.roster_model.specs.Sound.{IsWindow}
 use Rattle.rules_text.specs.declared.window.Windows.{Windows}
-use Rattle.rules_text.specs.Fields.{in_range, number_at}
+use Rattle.text_lines.proofs.FieldsLemmas.{number_within}
+use Rattle.rules_text.specs.Fields.{number_at}
 use Rattle.rules_text.specs.RuleLine.{bounds_at, with_window, window_at, windows_at, whole}
-use Rattle.rules_text.proofs.Inversions.{passed, bind_ok, same_ok}
-
-at_least : (a b : ℕ) → ltb a b ≡ false → b ≤ a
-at_least a b h = elim (cases_lt a b) [
-  | inl lt ↦ let yes : ltb a b ≡ true = lt-ltb a b lt in absurd cc
-  | inr ge ↦ ge
-]
-
-pub number_within : (k low high n : ℕ) (w : List ℕ) → number_at k low high w ≡ Ok n → (low ≤ n) × (n ≤ high)
-unfolding number_at
-number_within k low high n w e = by (natural_of w) e
-  where
-    by : (r : Result ℕ NumberFault) → in_range k low high r ≡ Ok n → (low ≤ n) × (n ≤ high)
-    by (Err Form) q = absurd cc
-    by (Err Wide) q = absurd cc
-    by (Ok m) q =
-        let a = passed (ltb m low || ltb high m) _ _ _ q in
-        let b = or_parts (ltb m low) (ltb high m) a.0 in
-        let same : m ≡ n = same_ok m n a.1 in
-        let ge : low ≤ m = at_least m low b.0 in
-        let le : m ≤ high = at_least high m b.1 in
-        (omega arith, omega arith)
+use Rattle.text_lines.proofs.StepsLemmas.{passed, bind_ok, same_ok}
 
 bounds_within : (k : ℕ) (a b : List ℕ) (x : Window) → bounds_at k a b ≡ Ok x → IsWindow x
 unfolding bounds_at
 bounds_within k a b x e =
     let low = bind_ok (number_at k 1 96 a) _ _ e in
     let high = bind_ok (number_at k low.0 96 b) _ _ low.2 in
-    let l = number_within k 1 96 low.0 a low.1 in
-    let h = number_within k low.0 96 high.0 b high.1 in
+    let l = number_within _ _ 1 96 low.0 a low.1 in
+    let h = number_within _ _ low.0 96 high.0 b high.1 in
     subst IsWindow (same_ok _ _ high.2) (record { first = l.0; order = h.0; last = h.1 })
 
 -- the windows that were written are windows

@@ -1,6 +1,7 @@
 -- The one line that tells a fault.
 use Rattle.std.specs.Prelude.{ℕ, List, [], ◌∷◌, ◌++◌, Option, Some, None, codes}
 use Rattle.std.specs.Fmt.{decimal}
+use Rattle.text_lines.specs.Places.{place_text}
 use Rattle.rules_text.specs.declared.fault.Limit.{Limit}
 use Rattle.rules_text.specs.declared.fault.Limit.TheVariants.{Codes, Work, Names, Rules, Right}
 use Rattle.rules_text.specs.declared.fault.RulesFault.{RulesFault}
@@ -49,11 +50,6 @@ fault_text (NoRule k word) = codes "a name has no rule"
 fault_text (UnitCycle k word) = codes "a name leads back to itself by one-symbol rules"
 fault_text TooLong = codes "the text is too long"
 fault_text Memory = codes "out of memory"
-
--- where the fault is
-abbrev pub place_text : Option ℕ → List ℕ
-place_text None = []
-place_text (Some k) = codes "line " ++ decimal k ++ codes ": "
 
 -- the fault, after the word `rules` and its line
 abbrev pub fault_line : RulesFault → List ℕ

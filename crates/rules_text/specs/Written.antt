@@ -49,8 +49,3 @@ grammar_lines g = periods_line g.periods ∷ (map code_line g.codes ++ start_lin
 
 abbrev pub rules_text : Grammar → List ℕ
 rules_text g = written (grammar_lines g)
-
--- words with a space before each
-abbrev pub tail : List (List ℕ) → List ℕ
-tail [] = []
-tail (w ∷ ws) = 32 ∷ (w ++ tail ws)

@@ -1,14 +1,14 @@
 ghost use Rattle.std.specs.Prelude.{◌≡◌, ◌+◌, ◌≤◌, ◌^◌, ◌<◌, length, IfOk};
 ghost use Rattle.roster_model.specs.Sound.{has_rule, IsSound, IsPlain};
 ghost use Rattle.rules_text.specs.Drafts.{IsParsed};
-ghost use Rattle.rules_text.specs.RulesOf.{unruled, finish, IsValue};
+ghost use Rattle.rules_text.specs.RulesOf.{unruled, parsed, with_start, finish, IsValue};
 ghost use Rattle.rules_text.specs.Steps.{Reads};
 
 use crate::draft::{Draft, Parsed};
 use crate::fault::RulesFault;
 use crate::place::Place;
 use crate::rules::Rules;
-use roster_model::{Grammar, Rule, unit_ranks};
+use roster_model::{Grammar, Memory, Rule, unit_ranks};
 use std::alloc::Global;
 
 fn has_rule(rules: &[Rule], name: usize) -> bool
@@ -29,42 +29,54 @@ fn unruled(rules: &[Rule], places: &[Place]) -> Option<Place>
     None
 }
 
-/// Makes the grammar of all lines.
+// The periods and the number of the start name, or why the lines make no grammar.
 #[tactic(auto, unfolding(crate::specs::RulesOf::finish))]
-pub fn finish(alloc: Global, draft: Draft) -> Result<Parsed, RulesFault>
-    ensures { Reads (λ p. p) result (finish draft) }
+fn start_of(draft: &Draft) -> Result<(u8, u8), RulesFault>
+    ensures { finish draft.now ≡ with_start draft.now result }
 {
-    let Draft {
-        periods,
-        codes,
-        start,
-        rules,
-    } = draft;
-    let Some(periods) = periods else {
+    let Some(periods) = draft.periods else {
         return Err(RulesFault::NoPeriods);
     };
-    let Some(start) = start else {
+    let Some(start) = &draft.start else {
         return Err(RulesFault::NoStart);
     };
-    let Rules { names, rules } = rules;
-    if let Some(Place { line, word }) = unruled(rules.as_slice(), names.places()) {
+    let names = &draft.rules.names;
+    if let Some(Place { line, word }) = unruled(draft.rules.rules.as_slice(), names.places()) {
         return Err(RulesFault::NoRule { line, word });
     }
-    let Some(first) = names.place(start.name.as_slice()) else {
-        return Err(RulesFault::NoRule {
+    match names.place(start.name.as_slice()) {
+        Some(first) => Ok((periods, first)),
+        None => Err(RulesFault::NoRule {
             line: start.line,
             word: 2,
-        });
-    };
+        }),
+    }
+}
+
+// Makes a grammar of the draft's lists.
+fn parsed(alloc: Global, draft: Draft, periods: u8, start: u8) -> Result<Parsed, Memory>
+    ensures { IfOk result (λ p. p ≡ parsed draft periods start) }
+{
+    let Draft { codes, rules, .. } = draft;
+    let Rules { names, rules } = rules;
     let (names, places) = names.into_lists(alloc)?;
     let grammar = Grammar {
         periods,
         codes: codes.into_list(),
         names,
         rules,
-        start: first,
+        start,
     };
     Ok(Parsed { grammar, places })
+}
+
+/// Makes the grammar of all lines.
+pub fn finish(alloc: Global, draft: Draft) -> Result<Parsed, RulesFault>
+    ensures { Reads (λ p. p) result (finish draft) }
+{
+    let (periods, start) = start_of(&draft)?;
+    let made = parsed(alloc, draft, periods, start)?;
+    Ok(made)
 }
 
 /// Refuses a grammar whose one-symbol rules lead from a name back to it.

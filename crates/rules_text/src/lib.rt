@@ -28,7 +28,6 @@ mod line;
 mod message;
 mod names;
 mod place;
-mod put;
 mod read;
 mod rule;
 mod rules;

@@ -1,11 +1,10 @@
 ghost use Rattle.std.specs.Prelude.{◌≡◌, ◌++◌, [], ◌∷◌, IfOk, OnOk};
-ghost use Rattle.rules_text.specs.FaultLine.{line_of, limit_text, fault_text, place_text, fault_line};
+ghost use Rattle.rules_text.specs.FaultLine.{line_of, limit_text, fault_text, fault_line};
 
 use crate::fault::{Limit, RulesFault};
-use crate::put::put;
 use roster_model::{List, Memory};
 use std::alloc::Global;
-use text_lines::write_number;
+use text_lines::{put, put_place, write_number};
 
 fn line_of(fault: &RulesFault) -> Option<u32>
     ensures { result ≡ line_of fault.now }
@@ -69,17 +68,6 @@ fn put_text(out: &mut List<u8>, fault: &RulesFault) -> Result<(), Memory>
         RulesFault::TooLong => put(out, b"the text is too long"),
         RulesFault::Memory => put(out, b"out of memory"),
     }
-}
-
-fn put_place(out: &mut List<u8>, line: Option<u32>) -> Result<(), Memory>
-    ensures { OnOk result (out.new ≡ out.old ++ place_text line) }
-{
-    let Some(line) = line else {
-        return Ok(());
-    };
-    put(out, b"line ")?;
-    write_number(out, line as i128)?;
-    put(out, b": ")
 }
 
 /// Returns the line that tells a fault, as `rules: line 3: empty right side` with a line feed. A

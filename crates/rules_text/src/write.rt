@@ -1,29 +1,12 @@
 ghost use Rattle.std.specs.Prelude.{◌≡◌, ◌<◌, ◌++◌, [], ◌∷◌, ◌==◌, ◌&&◌, All, codes as text, length, map, IfOk, OnOk, slice_index_or};
 ghost use Rattle.std.specs.Fmt.{decimal};
-ghost use Rattle.text_lines.specs.Written.{written};
+ghost use Rattle.text_lines.specs.Written.{written, tail};
 ghost use Rattle.roster_model.specs.Sound.{Exists, IsRule, IsSound, IsPlain};
-ghost use Rattle.rules_text.specs.Written.{name_of, code_of, symbol_word, window_words, periods_line, code_line, start_line, rule_line, rules_text, tail};
+ghost use Rattle.rules_text.specs.Written.{name_of, code_of, symbol_word, window_words, periods_line, code_line, start_line, rule_line, rules_text};
 
-use crate::put::put;
 use roster_model::{CodeDef, Grammar, List, Memory, Rule, Sym, Window};
 use std::alloc::Global;
-use text_lines::write_number;
-
-fn word(out: &mut List<u8>, bytes: &[u8]) -> Result<(), Memory>
-    ensures { OnOk result (out.new ≡ out.old ++ tail (bytes.now ∷ [])) }
-{
-    out.push(b' ')?;
-    put(out, bytes)?;
-    Ok(())
-}
-
-fn number(out: &mut List<u8>, value: u32) -> Result<(), Memory>
-    ensures { OnOk result (out.new ≡ out.old ++ tail (decimal value ∷ [])) }
-{
-    out.push(b' ')?;
-    write_number(out, value as i128)?;
-    Ok(())
-}
+use text_lines::{field, put, word};
 
 fn name(out: &mut List<u8>, names: &[List<u8>], number: u8) -> Result<(), Memory>
     requires { number < length names.now }
@@ -57,8 +40,8 @@ fn window(out: &mut List<u8>, name: &[u8], window: Window) -> Result<(), Memory>
         return Ok(());
     }
     word(out, name)?;
-    number(out, window.lo as u32)?;
-    number(out, window.hi as u32)?;
+    field(out, window.lo as u64)?;
+    field(out, window.hi as u64)?;
     Ok(())
 }
 
@@ -81,7 +64,7 @@ fn periods_line(out: &mut List<u8>, periods: u8) -> Result<(), Memory>
     ensures { OnOk result (out.new ≡ out.old ++ written (periods_line periods ∷ [])) }
 {
     put(out, b"periods")?;
-    number(out, periods as u32)?;
+    field(out, periods as u64)?;
     out.push(b'\n')?;
     Ok(())
 }
@@ -130,7 +113,7 @@ fn rule_line(
 {
     put(out, b"rule")?;
     name(out, names, rule.left)?;
-    number(out, rule.cost)?;
+    field(out, rule.cost as u64)?;
     word(out, b"=")?;
     symbols(out, codes, names, rule.right.as_slice())?;
     window(out, b"len", rule.span)?;

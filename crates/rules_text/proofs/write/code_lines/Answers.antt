@@ -1,6 +1,6 @@
 use Rattle.std.proofs.Common.{false}
 use Rattle.rules_text.specs.Written.{code_line}
-use Rattle.rules_text.proofs.Tails.{line_more}
+use Rattle.text_lines.proofs.WrittenLemmas.{line_more}
 use Rattle.rules_text.proofs.write.code_lines.Goals as goal
 
 pub loop-code-preserved : goal.loop-code-preserved

@@ -2,7 +2,7 @@ use Rattle.std.specs.Prelude.{codes}
 use Rattle.std.specs.Fmt.{decimal}
 use Rattle.std.proofs.Common.{map}
 use Rattle.rules_text.specs.Written.{symbol_word, window_words, name_of}
-use Rattle.rules_text.proofs.Tails.{rule_joined}
+use Rattle.rules_text.proofs.WrittenLemmas.{rule_joined}
 use Rattle.rules_text.proofs.write.rule_line.Goals as goal
 
 pub returns : goal.returns
@@ -13,4 +13,4 @@ returns c =
     rule_joined c.args.out.now _ _ _ _ _ _ _ _ c.push.new.self
     (codes "rule") (name_of names_now r.left) (decimal r.cost) (codes "=")
     (map (symbol_word codes_now names_now) r.right) (window_words (codes "len") r.span) (window_words (codes "begin") r.first) (window_words (codes "end") r.last)
-    c.in_ok-put.ensures c.in_ok-name.ensures c.in_ok-number.ensures c.in_ok-word.ensures (rw c.as_slice.ensures at c.in_ok-symbols.ensures) c.in_ok-window.ensures c.in_ok-window-2.ensures c.in_ok-window-3.ensures c.in_ok-push.ensures.ok
+    c.in_ok-put.ensures.ok c.in_ok-name.ensures c.in_ok-field.ensures c.in_ok-word.ensures (rw c.as_slice.ensures at c.in_ok-symbols.ensures) c.in_ok-window.ensures c.in_ok-window-2.ensures c.in_ok-window-3.ensures c.in_ok-push.ensures.ok

@@ -1,5 +1,5 @@
 use Rattle.rules_text.specs.Written.{rule_line}
-use Rattle.rules_text.proofs.Tails.{line_more}
+use Rattle.text_lines.proofs.WrittenLemmas.{line_more}
 use Rattle.rules_text.proofs.write.rule_lines.Goals as goal
 
 pub loop-rule-preserved : goal.loop-rule-preserved

@@ -1,6 +1,6 @@
 use Rattle.std.proofs.Common.{map}
 use Rattle.rules_text.specs.Written.{name_of, periods_line, code_line, start_line, rule_line}
-use Rattle.rules_text.proofs.Tails.{lines_joined}
+use Rattle.rules_text.proofs.WrittenLemmas.{lines_joined}
 use Rattle.rules_text.proofs.write.write_rules.Goals as goal
 
 pub returns : goal.returns

@@ -1,28 +1,11 @@
 -- Words with a space before each, and lines of them.
-use Rattle.std.proofs.Common.{◌≡◌, ℕ, zero, suc, ◌+◌, ◌<◌, List, [], ◌∷◌, ◌++◌, length, take, get_or, map, refl, sym, ap, ◌∙◌, arith, append_assoc, append-nil, add-one}
-use Rattle.text_lines.specs.Written.{spaced, written}
-use Rattle.rules_text.specs.Written.{tail}
-
-pub tail_append : (xs ys : List (List ℕ)) → tail (xs ++ ys) ≡ tail xs ++ tail ys
-tail_append [] ys = refl
-tail_append (x ∷ xs) ys = ap (λ (t : List ℕ). 32 ∷ (x ++ t)) (tail_append xs ys) ∙ ap (λ (t : List ℕ). 32 ∷ t) (sym (append_assoc x (tail xs) (tail ys)))
-
-pub tail_more : {X : Type 0} (f : X → List ℕ) (xs : List X) (i : ℕ) (d : X) → i < length xs → tail (map f (take (suc i) xs)) ≡ tail (map f (take i xs)) ++ tail (f (get_or xs i d) ∷ [])
-tail_more f [] i d lt = absurd (omega (arith, lt))
-tail_more f (x ∷ xs) zero d lt = refl
-tail_more f (x ∷ xs) (suc i) d lt =
-    ap (λ (t : List ℕ). 32 ∷ (f x ++ t)) (tail_more f xs i d (omega (arith, lt)))
-    ∙ ap (λ (t : List ℕ). 32 ∷ t) (sym (append_assoc (f x) (tail (map f (take i xs))) (tail (f (get_or xs i d) ∷ []))))
-
-pub one_more : {X : Type 0} (f : X → List ℕ) (xs : List X) (i : ℕ) (d : X) (o0 o1 o2 : List ℕ) → i < length xs → o1 ≡ o0 ++ tail (map f (take i xs)) → o2 ≡ o1 ++ tail (f (get_or xs i d) ∷ []) → o2 ≡ o0 ++ tail (map f (take (i + 1) xs))
-one_more f xs i d o0 o1 o2 lt e h = rw (h, e, add-one i, tail_more f xs i d lt) (append_assoc o0 (tail (map f (take i xs))) (tail (f (get_or xs i d) ∷ [])))
+use Rattle.std.proofs.Common.{◌≡◌, ℕ, List, [], ◌∷◌, ◌++◌, sym, ap, ◌∙◌, append_assoc}
+use Rattle.text_lines.proofs.WrittenLemmas.{tail_append, tail_cons, spaced_tail, written_append}
+use Rattle.text_lines.specs.Written.{written, tail}
 
 joined : (o0 o1 o2 o3 o4 o5 o6 o7 o8 o9 a b c d e f g h i : List ℕ) → o1 ≡ o0 ++ a → o2 ≡ o1 ++ b → o3 ≡ o2 ++ c → o4 ≡ o3 ++ d → o5 ≡ o4 ++ e → o6 ≡ o5 ++ f → o7 ≡ o6 ++ g → o8 ≡ o7 ++ h → o9 ≡ o8 ++ i
     → o9 ≡ o0 ++ ((a ++ (b ++ (c ++ (d ++ (e ++ (f ++ (g ++ h))))))) ++ i)
 joined o0 o1 o2 o3 o4 o5 o6 o7 o8 o9 a b c d e f g h i e1 e2 e3 e4 e5 e6 e7 e8 e9 = rw (e9, e8, e7, e6, e5, e4, e3, e2, e1) (simp append_assoc)
-
-tail_cons : (w : List ℕ) (ws : List (List ℕ)) → tail (w ∷ []) ++ tail ws ≡ tail (w ∷ ws)
-tail_cons w ws = sym (tail_append (w ∷ []) ws)
 
 -- the pieces of a rule line, joined
 line_joined : (o0 o1 o2 o3 o4 o5 o6 o7 o8 o9 a n c m nl : List ℕ) (ss x y z : List (List ℕ)) → o1 ≡ o0 ++ a → o2 ≡ o1 ++ tail (n ∷ []) → o3 ≡ o2 ++ tail (c ∷ []) → o4 ≡ o3 ++ tail (m ∷ []) → o5 ≡ o4 ++ tail ss → o6 ≡ o5 ++ tail x → o7 ≡ o6 ++ tail y → o8 ≡ o7 ++ tail z → o9 ≡ o8 ++ nl
@@ -38,32 +21,12 @@ line_joined o0 o1 o2 o3 o4 o5 o6 o7 o8 o9 a n c m nl ss x y z e1 e2 e3 e4 e5 e6 
     let p6 : tail (n ∷ []) ++ (tail (c ∷ []) ++ (tail (m ∷ []) ++ (tail ss ++ (tail x ++ (tail y ++ tail z))))) ≡ tail (n ∷ c ∷ m ∷ rest) = ap (λ (t : List ℕ). tail (n ∷ []) ++ t) p5 ∙ tail_cons n (c ∷ m ∷ rest) in
     whole ∙ ap (λ (t : List ℕ). o0 ++ ((a ++ t) ++ nl)) p6
 
-spaced_tail : (w : List ℕ) (ws : List (List ℕ)) → spaced (w ∷ ws) ≡ w ++ tail ws
-spaced_tail w [] = sym (append-nil w)
-spaced_tail w (v ∷ ws) = ap (λ (t : List ℕ). w ++ (32 ∷ t)) (spaced_tail v ws)
-
 -- the pieces of a rule line make its line
 pub rule_joined : (o0 o1 o2 o3 o4 o5 o6 o7 o8 o9 a n c m : List ℕ) (ss x y z : List (List ℕ)) → o1 ≡ o0 ++ a → o2 ≡ o1 ++ tail (n ∷ []) → o3 ≡ o2 ++ tail (c ∷ []) → o4 ≡ o3 ++ tail (m ∷ []) → o5 ≡ o4 ++ tail ss → o6 ≡ o5 ++ tail x → o7 ≡ o6 ++ tail y → o8 ≡ o7 ++ tail z → o9 ≡ o8 ++ 10 ∷ []
     → o9 ≡ o0 ++ written ((a ∷ n ∷ c ∷ m ∷ (ss ++ (x ++ (y ++ z)))) ∷ [])
 rule_joined o0 o1 o2 o3 o4 o5 o6 o7 o8 o9 a n c m ss x y z e1 e2 e3 e4 e5 e6 e7 e8 e9 =
     line_joined o0 o1 o2 o3 o4 o5 o6 o7 o8 o9 a n c m (10 ∷ []) ss x y z e1 e2 e3 e4 e5 e6 e7 e8 e9
     ∙ ap (λ (t : List ℕ). o0 ++ (t ++ 10 ∷ [])) (sym (spaced_tail a (n ∷ c ∷ m ∷ (ss ++ (x ++ (y ++ z))))))
-
-written_append : (ls ks : List (List (List ℕ))) → written (ls ++ ks) ≡ written ls ++ written ks
-written_append [] ks = refl
-written_append (l ∷ ls) ks = ap (λ (t : List ℕ). spaced l ++ (10 ∷ t)) (written_append ls ks) ∙ sym (append_assoc (spaced l) (10 ∷ written ls) (written ks))
-
-module _ {X : Type 0} (f : X → List (List ℕ)) where
-  written_more : (xs : List X) (i : ℕ) (d : X) → i < length xs → written (map f (take (suc i) xs)) ≡ written (map f (take i xs)) ++ written (f (get_or xs i d) ∷ [])
-  written_more [] i d lt = absurd (omega (arith, lt))
-  written_more (x ∷ xs) zero d lt = refl
-  written_more (x ∷ xs) (suc i) d lt =
-      ap (λ (t : List ℕ). spaced (f x) ++ (10 ∷ t)) (written_more xs i d (omega (arith, lt)))
-      ∙ sym (append_assoc (spaced (f x)) (10 ∷ written (map f (take i xs))) (written (f (get_or xs i d) ∷ [])))
-
-  -- one more line
-  pub line_more : (xs : List X) (i : ℕ) (d : X) (o0 o1 o2 : List ℕ) → i < length xs → o1 ≡ o0 ++ written (map f (take i xs)) → o2 ≡ o1 ++ written (f (get_or xs i d) ∷ []) → o2 ≡ o0 ++ written (map f (take (i + 1) xs))
-  line_more xs i d o0 o1 o2 lt e h = rw (h, e, add-one i, written_more xs i d lt) (append_assoc o0 (written (map f (take i xs))) (written (f (get_or xs i d) ∷ [])))
 
 -- the lines of a grammar, joined
 pub lines_joined : (o0 o1 o2 o3 o4 : List ℕ) (p s : List (List ℕ)) (cs rs : List (List (List ℕ))) → o0 ≡ [] → o1 ≡ o0 ++ written (p ∷ []) → o2 ≡ o1 ++ written cs → o3 ≡ o2 ++ written (s ∷ []) → o4 ≡ o3 ++ written rs → o4 ≡ written (p ∷ (cs ++ s ∷ rs))
