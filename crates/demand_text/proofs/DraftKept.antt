@@ -21,8 +21,10 @@ use Rattle.demand_text.specs.InstanceOf.{no_draft, draft_of}
 use Rattle.demand_text.specs.Lines.{has_group, has_need, has_bound, most_heads, heads_at, group_of, group_at, need_of, need_at, bound_at, line_at, item_at}
 use Rattle.demand_text.specs.Steps.{◌>>=◌}
 use Rattle.demand_text.proofs.GroupSums.{most_more}
-use Rattle.demand_text.proofs.Inversions.{ok, err, passed, bind_ok, same_ok, each_keeps}
-use Rattle.demand_text.proofs.Kept.{apart_more, none_passes, Each-push, fewer, number_within, work_is, name_within, counts_are, range_within}
+use Rattle.text_lines.proofs.StepsLemmas.{each_keeps, passed, bind_ok, same_ok, err, ok}
+use Rattle.demand_text.proofs.Kept.{work_is, name_within, counts_are, range_within}
+use Rattle.text_lines.proofs.FieldsLemmas.{number_within}
+use Rattle.text_lines.proofs.ListLemmas.{apart_more, none_passes, Each-push, fewer}
 
 heads_keep : (k : ℕ) (g : Grammar) (d new : Draft) (ws : List (List ℕ)) → IsDraft g d → heads_at k d ws ≡ Ok new → IsDraft g new
 unfolding heads_at
@@ -127,8 +129,8 @@ needs_keep k g old new code a b ws s e =
     let need : Need = record { code = c.0; under = under.0; over = over.0; counts = counts.0 } in
     let is : IsNeed g need = record {
       work = work_is k g code c.0 c.1;
-      under = (number_within k 0 10000 under.0 a under.1).1;
-      over = (number_within k 0 10000 over.0 b over.1).1;
+      under = (number_within _ _ 0 10000 under.0 a under.1).1;
+      over = (number_within _ _ 0 10000 over.0 b over.1).1;
       whole = w.0;
       counts = w.1;
     } in

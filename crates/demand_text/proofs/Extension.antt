@@ -18,7 +18,7 @@ use Rattle.roster_model.specs.Names.{added_name}
 use Rattle.roster_model.specs.Sound.{Exists, IsWindow, IsRule, IsNameOf, names_of, appearances, AreInOrder, has_rule, AreNames, IsSound, IsPlain}
 use Rattle.roster_model.specs.SoundInstance.{IsGroup, AreGroups}
 use Rattle.roster_model.specs.UnitRules.{IsRanked}
-use Rattle.demand_text.proofs.Kept.{apart_more, last_or_before}
+use Rattle.text_lines.proofs.ListLemmas.{apart_more, last_or_before}
 
 -- an item of two lists, one after the other
 split_at : {X : Type 0} (xs ys : List X) (k : ℕ) (x : X) → slice_get (xs ++ ys) k ≡ Some x

@@ -1,15 +1,13 @@
 -- Words that were written are read again.
 use Rattle.std.proofs.Common.{◌≡◌, ℕ, ◌+◌, ◌<◌, ◌≤◌, ◌&&◌, Bool, true, false, max, List, [], ◌∷◌, ◌++◌, length, get_or, map, Some, Ok, refl, sym, ap, ◌∙◌, arith, eqb, append_assoc, append-nil}
 use Rattle.std.specs.Prelude.{position}
-use Rattle.std.specs.List.{position_or_len}
 use Rattle.std.specs.Fmt.{decimal}
 use Rattle.std.specs.Str.{bytes_eq}
-use Rattle.std.proofs.lemmas.Bool.{and_from, lt-ltb, le-ltb, eq-eqb, ne_eqb, false_from_ne_true}
+use Rattle.std.proofs.lemmas.Bool.{and_from, eq-eqb, ne_eqb, false_from_ne_true}
 use Rattle.std.proofs.lemmas.List.{length-map}
 use Rattle.std.proofs.lemmas.List.Sums.{position_or_len_is}
 use Rattle.std.proofs.lemmas.Option.{same_Some, slice_get_within, slice_get-get_or}
 use Rattle.std.proofs.lemmas.Slice.Eq.{bytes_eq-Decides}
-use Rattle.text_lines.proofs.Again.{natural_again}
 use Rattle.roster_model.specs.declared.grammar.CodeDef.{CodeDef}
 use Rattle.roster_model.specs.declared.grammar.Grammar.{Grammar}
 use Rattle.roster_model.specs.Demands.{PeriodDemand, Demand, demand_cell, cells_from, IsWork}
@@ -17,18 +15,12 @@ use Rattle.roster_model.specs.Sound.{AreCodes, IsSound}
 use Rattle.demand_text.specs.declared.number_of.NumberOf.{NumberOf}
 use Rattle.demand_text.specs.declared.number_of.NumberOf.TheVariants.{Need, Floor, Ceiling}
 use Rattle.demand_text.specs.Drafts.{AreCounts}
-use Rattle.demand_text.specs.Fields.{number_at, work_at, name_at, count_at, counts_at, range_at}
+use Rattle.text_lines.proofs.FieldsLemmas.{number_at_again, position_at}
+use Rattle.demand_text.specs.declared.fault.DemandFault.TheVariants.{BadNumber, OutOfRange}
+use Rattle.demand_text.specs.Fields.{work_at, name_at, count_at, counts_at, range_at}
 use Rattle.demand_text.specs.Steps.{each}
 use Rattle.demand_text.specs.Written.{name_of, code_byte, number_of, numbers_of}
-use Rattle.demand_text.proofs.Inversions.{ok}
-
-pub number_at_again : (k low high n : ℕ) → low ≤ n → n ≤ high → high ≤ 10000 → number_at k low high (decimal n) ≡ Ok n
-unfolding number_at
-number_at_again k low high n le ge small =
-    rw (natural_again n (omega arith), le-ltb n low le, le-ltb high n ge) refl
-
-position_at : {X : Type 0} (p : X → Bool) (xs : List X) (c : ℕ) → position_or_len p xs ≡ c → c < length xs → position p xs ≡ Some c
-position_at p xs c e lt = rw (e, lt-ltb c (length xs) lt) refl
+use Rattle.text_lines.proofs.StepsLemmas.{ok}
 
 second_false : (a b : Bool) → b ≡ false → (a && b) ≡ false
 second_false true b e = e
@@ -62,7 +54,7 @@ name_again k g x s lt =
 counts_again : (k : ℕ) (done ns : List ℕ) → AreCounts ns → each (count_at k) done (map decimal ns) ≡ Ok (done ++ ns)
 counts_again k done [] h = rw (append-nil done) refl
 counts_again k done (n ∷ ns) h =
-    rw (number_at_again k 0 64 n (omega arith) h.0 (omega arith))
+    rw (number_at_again (BadNumber k) (OutOfRange k) 0 64 n (omega arith) h.0 (omega arith))
     (counts_again k (done ++ n ∷ []) ns h.1 ∙ ap (λ (cs : List ℕ). ok cs) (append_assoc done (n ∷ []) ns))
 
 pub counts_at_again : (k periods : ℕ) (ns : List ℕ) → length ns ≡ periods → AreCounts ns → counts_at k periods (map decimal ns) ≡ Ok ns
@@ -74,7 +66,7 @@ counts_at_again k periods ns e h =
 pub range_again : (k limit a b : ℕ) → a ≤ 64 → a ≤ b → 1 ≤ b → b ≤ limit → limit ≤ 10000 → range_at k limit (decimal a) (decimal b) ≡ Ok (record { least = a; most = b })
 unfolding range_at
 range_again k limit a b small le some ge few =
-    rw (number_at_again k 0 64 a (omega arith) small (omega arith), number_at_again k (max a 1) limit b (omega arith) ge few) refl
+    rw (number_at_again (BadNumber k) (OutOfRange k) 0 64 a (omega arith) small (omega arith), number_at_again (BadNumber k) (OutOfRange k) (max a 1) limit b (omega arith) ge (omega (arith, few))) refl
 
 -- a number that is asked of a period
 abbrev pub asked : NumberOf → PeriodDemand → ℕ

@@ -1,16 +1,13 @@
-pub mod Inversions
 pub mod CellLists
 pub mod GroupSums
 pub mod Kept
 pub mod DraftKept
 pub mod Extension
 pub mod SoundInstances
-pub mod Tails
 pub mod LinesLeft
 pub mod OneCode
 pub mod FieldsAgain
 pub mod CellsAgain
-pub mod Each
 pub mod TeamsAgain
 pub mod NeedsAgain
 pub mod FineLines

@@ -9,7 +9,7 @@ use Rattle.roster_model.specs.Demands.{Demand, demand_cells, all_cells, IsDemand
 use Rattle.roster_model.specs.Folds.{Each}
 use Rattle.roster_model.proofs.SoundCells.{length-cells_from}
 use Rattle.demand_text.specs.Written.{code_lines, demand_lines}
-use Rattle.demand_text.proofs.Tails.{written_append}
+use Rattle.text_lines.proofs.WrittenLemmas.{written_append}
 
 module _ (g : Grammar) where
   -- the cells of some demands, whose lines make the whole text

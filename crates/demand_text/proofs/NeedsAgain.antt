@@ -20,9 +20,11 @@ use Rattle.demand_text.specs.Lines.{has_need, has_bound, need_of, need_at, bound
 use Rattle.demand_text.specs.Steps.{each}
 use Rattle.demand_text.specs.Written.{code_byte, numbers_of, are_all, need_line, bound_lines, code_lines, demand_lines}
 use Rattle.demand_text.proofs.CellsAgain.{need_for, bound_for, bounds_for}
-use Rattle.demand_text.proofs.Each.{parts_again}
-use Rattle.demand_text.proofs.FieldsAgain.{number_at_again, work_again, counts_at_again, asked, numbers_are}
-use Rattle.demand_text.proofs.Inversions.{ok}
+use Rattle.text_lines.proofs.WrittenLemmas.{parts_again}
+use Rattle.demand_text.proofs.FieldsAgain.{work_again, counts_at_again, asked, numbers_are}
+use Rattle.text_lines.proofs.FieldsLemmas.{number_at_again}
+use Rattle.demand_text.specs.declared.fault.DemandFault.TheVariants.{BadNumber, OutOfRange}
+use Rattle.text_lines.proofs.StepsLemmas.{ok}
 
 asked_within : (which : NumberOf) (p : PeriodDemand) → IsPeriodDemand p → asked which p ≤ 64
 asked_within Need p h = h.need
@@ -45,8 +47,8 @@ module _ (g : Grammar) (s : AreCodes g.codes) (e : Demand) (h : IsDemand g e) wh
         numbers_are Need e 1 e.periods,
         work_again k g e.code s h.work,
         new,
-        number_at_again k 0 10000 e.under (omega arith) h.under (omega arith),
-        number_at_again k 0 10000 e.over (omega arith) h.over (omega arith),
+        number_at_again (BadNumber k) (OutOfRange k) 0 10000 e.under (omega arith) h.under (omega arith),
+        number_at_again (BadNumber k) (OutOfRange k) 0 10000 e.over (omega arith) h.over (omega arith),
         counts_at_again k g.periods (map (asked Need) e.periods) (whole Need) (counts_within Need e.periods h.each),
       ) refl
 

@@ -9,7 +9,7 @@ use Rattle.roster_model.specs.declared.instance.Cell.{Cell}
 use Rattle.roster_model.specs.Demands.{PeriodDemand, cells_from, IsOneDemand}
 use Rattle.demand_text.specs.declared.number_of.NumberOf.TheVariants.{Floor, Ceiling}
 use Rattle.demand_text.specs.Written.{code_byte, need_line, bound_lines, code_lines}
-use Rattle.demand_text.proofs.Tails.{written_append}
+use Rattle.text_lines.proofs.WrittenLemmas.{written_append}
 
 abbrev pub nothing : Cell
 nothing = record { code = 0; period = 0; need = 0; under = 0; over = 0; floor = 0; ceiling = 0 }

@@ -17,7 +17,7 @@ use Rattle.demand_text.specs.InstanceOf.{bound_of, periods_from, demand_of, cell
 use Rattle.demand_text.specs.Lines.{most_heads}
 use Rattle.demand_text.proofs.Extension.{extension_sound}
 use Rattle.demand_text.proofs.GroupSums.{in_order, some_heads}
-use Rattle.demand_text.proofs.Inversions.{ok, same_ok}
+use Rattle.text_lines.proofs.StepsLemmas.{same_ok, ok}
 
 -- ---- cells
 

@@ -18,7 +18,7 @@ use Rattle.demand_text.specs.Lines.{has_group, most_heads, heads_at, group_of, g
 use Rattle.demand_text.specs.Steps.{each}
 use Rattle.demand_text.specs.Written.{name_of, heads_line, group_line}
 use Rattle.demand_text.proofs.FieldsAgain.{name_again, range_again}
-use Rattle.demand_text.proofs.Inversions.{ok}
+use Rattle.text_lines.proofs.StepsLemmas.{ok}
 
 pub heads_again : (k : ℕ) (g : Grammar) (h : Heads) → AreHeads h → line_at k g no_draft (heads_line h.least h.most) ≡ Ok (record no_draft { heads = Some h })
 unfolding line_at heads_at

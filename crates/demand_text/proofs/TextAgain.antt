@@ -28,9 +28,10 @@ use Rattle.demand_text.specs.Lines.{most_heads, item_at}
 use Rattle.demand_text.specs.Steps.{each}
 use Rattle.demand_text.specs.Written.{name_of, group_line, team_lines, demand_lines, AreDemandsOf, demand_text}
 use Rattle.demand_text.proofs.CellsAgain.{all_again}
-use Rattle.demand_text.proofs.Each.{parts_again}
-use Rattle.demand_text.proofs.FineLines.{IsFineLine, each_append, heads_fine, group_fine, demands_fine, demands_few, lines_written, lines_short}
-use Rattle.demand_text.proofs.Inversions.{ok}
+use Rattle.text_lines.proofs.WrittenLemmas.{parts_again}
+use Rattle.demand_text.proofs.FineLines.{IsFineLine, heads_fine, group_fine, demands_fine, demands_few, lines_written, lines_short}
+use Rattle.text_lines.proofs.ListLemmas.{Each-append}
+use Rattle.text_lines.proofs.StepsLemmas.{ok}
 use Rattle.demand_text.proofs.NeedsAgain.{after, demands_again, none_new}
 use Rattle.demand_text.proofs.TeamsAgain.{heads_again, grouped, groups_again}
 
@@ -165,7 +166,7 @@ module _ (g : Grammar) (s : IsSound g) (p : IsPlain g) where
       let ms : List (List (List ℕ)) = demand_lines g.codes ds in
       let mine : demand_lines i.grammar.codes ds ≡ ms = ap (λ (cs : List CodeDef). demand_lines cs ds) codes_same in
       let text : demand_text i ds ≡ written (ts ++ ms) = ap (λ (l : List (List (List ℕ))). written (ts ++ l)) mine in
-      let fine : Each IsFineLine (ts ++ ms) = each_append IsFineLine ts ms t.fine (demands_fine g s.codes s.some_period s.few_periods ds each_demand) in
+      let fine : Each IsFineLine (ts ++ ms) = Each-append IsFineLine ts ms t.fine (demands_fine g s.codes s.some_period s.few_periods ds each_demand) in
       let items : text_items (written (ts ++ ms)) ≡ numbered 1 (ts ++ ms) = written_again 1 (ts ++ ms) (lines_written (ts ++ ms) fine) in
       let second = demands_again g s.codes s.some_period (1 + length ts) t.draft ds each_demand are.once (none_new g s.codes s.some_period t.draft ds t.no_needs t.no_least t.no_most) in
       let read : each (item_at g) no_draft (numbered 1 (ts ++ ms)) ≡ Ok (after t.draft ds) = parts_again (item_at g) no_draft t.draft (ok (after t.draft ds)) 1 ts ms t.read second in

@@ -1,6 +1,6 @@
 -- The one line that tells a fault.
 use Rattle.std.specs.Prelude.{ℕ, List, [], ◌∷◌, ◌++◌, Option, Some, None, codes}
-use Rattle.std.specs.Fmt.{decimal}
+use Rattle.text_lines.specs.Places.{place_text}
 use Rattle.demand_text.specs.declared.fault.DemandFault.{DemandFault}
 use Rattle.demand_text.specs.declared.fault.DemandFault.TheVariants.{BadByte, UnknownLine, BadNumber, OutOfRange, NotWork, Twice, WrongCount, NoHeads, TooLong, NoNeed, NoName, Mixed, TooManyGroups, Memory}
 
@@ -37,11 +37,6 @@ fault_text (NoName k) = codes "no such name"
 fault_text (Mixed k) = codes "heads and groups together"
 fault_text (TooManyGroups k) = codes "too many groups, at most 8"
 fault_text Memory = codes "out of memory"
-
--- where the fault is
-abbrev pub place_text : Option ℕ → List ℕ
-place_text None = []
-place_text (Some k) = codes "line " ++ decimal k ++ codes ": "
 
 -- the fault, after the word `demand` and its line
 abbrev pub fault_line : DemandFault → List ℕ

@@ -1,24 +1,16 @@
 -- The words of a line: codes, names and numbers.
-use Rattle.std.specs.Prelude.{ℕ, ◌||◌, ◌&&◌, ◌==◌, ◌++◌, not, nat_lt, max, min, length, position, slice_index, List, [], ◌∷◌, Option, Some, None, if◌then◌else◌, Result, Ok, Err}
+use Rattle.std.specs.Prelude.{ℕ, ◌&&◌, ◌==◌, ◌++◌, not, max, min, length, position, slice_index, List, [], ◌∷◌, Option, Some, None, if◌then◌else◌, Result, Ok, Err}
 use Rattle.std.specs.Str.{bytes_eq}
-use Rattle.text_lines.specs.Numbers.{natural_of}
-use Rattle.text_lines.specs.declared.number.NumberFault.{NumberFault}
-use Rattle.text_lines.specs.declared.number.NumberFault.TheVariants.{Form, Wide}
+use Rattle.text_lines.specs.Fields as fields
 use Rattle.roster_model.specs.declared.grammar.CodeDef.{CodeDef}
 use Rattle.demand_text.specs.declared.draft.Heads.{Heads}
 use Rattle.demand_text.specs.declared.fault.DemandFault.{DemandFault}
 use Rattle.demand_text.specs.declared.fault.DemandFault.TheVariants.{BadNumber, OutOfRange, NotWork, NoName, WrongCount}
 use Rattle.demand_text.specs.Steps.{◌>>=◌, each}
 
--- a number that was read, where it is from low to high
-abbrev pub in_range : ℕ → ℕ → ℕ → Result ℕ NumberFault → Result ℕ DemandFault
-in_range k low high (Ok n) = if nat_lt n low || nat_lt high n then Err (OutOfRange k) else Ok n
-in_range k low high (Err Form) = Err (BadNumber k)
-in_range k low high (Err Wide) = Err (OutOfRange k)
-
 -- the number from low to high that a word of line k says
-unfoldable pub number_at : ℕ → ℕ → ℕ → List ℕ → Result ℕ DemandFault
-number_at k low high w = in_range k low high (natural_of w)
+abbrev pub number_at : ℕ → ℕ → ℕ → List ℕ → Result ℕ DemandFault
+number_at k low high w = fields.number_at (BadNumber k) (OutOfRange k) low high w
 
 -- the place that was found, or else this fault
 abbrev pub found_or : DemandFault → Option ℕ → Result ℕ DemandFault

@@ -53,15 +53,19 @@ abbrev pub day_grammar : Grammar → List Group → Grammar
 day_grammar g [] = g
 day_grammar g (x ∷ xs) = extended g (x ∷ xs)
 
--- the instance of a draft with these numbers of employees
-abbrev pub made : Grammar → Draft → Heads → Instance
-made g d h = record {
-  grammar = day_grammar g d.groups;
+-- the instance of these groups, numbers of employees and cells
+abbrev pub instance_with : Grammar → List Group → Heads → List Cell → Instance
+instance_with g groups h cells = record {
+  grammar = day_grammar g groups;
   heads_min = h.least;
   heads_max = h.most;
-  groups = d.groups;
-  cells = cells_of d;
+  groups = groups;
+  cells = cells;
 }
+
+-- the instance of a draft with these numbers of employees
+abbrev pub made : Grammar → Draft → Heads → Instance
+made g d h = instance_with g d.groups h (cells_of d)
 
 -- the instance that all lines make
 unfoldable pub finish : Grammar → Draft → Result Instance DemandFault

@@ -12,11 +12,6 @@ use Rattle.roster_model.specs.Folds.{Each}
 use Rattle.demand_text.specs.declared.number_of.NumberOf.{NumberOf}
 use Rattle.demand_text.specs.declared.number_of.NumberOf.TheVariants.{Need, Floor, Ceiling}
 
--- words with a space before each
-abbrev pub tail : List (List ℕ) → List ℕ
-tail [] = []
-tail (w ∷ ws) = 32 ∷ (w ++ tail ws)
-
 abbrev pub name_of : List (List ℕ) → ℕ → List ℕ
 name_of ns x = slice_index_or ns x []
 

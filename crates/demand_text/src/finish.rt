@@ -1,8 +1,9 @@
-ghost use Rattle.std.specs.Prelude.{◌≡◌, ◌≤◌, length, IfOk};
+ghost use Rattle.std.specs.Prelude.{◌≡◌, ◌≤◌, All, length, IfOk};
 ghost use Rattle.roster_model.specs.Sound.{IsSound, IsPlain};
 ghost use Rattle.roster_model.specs.SoundInstance.{IsSoundInstance};
+ghost use Rattle.demand_text.specs.declared.draft.Need.{Need};
 ghost use Rattle.demand_text.specs.Drafts.{IsDraft};
-ghost use Rattle.demand_text.specs.InstanceOf.{least_heads, heads_of, finish};
+ghost use Rattle.demand_text.specs.InstanceOf.{least_heads, heads_of, cells_of, instance_with, finish};
 ghost use Rattle.demand_text.specs.Lines.{most_heads};
 ghost use Rattle.demand_text.specs.Steps.{Reads};
 
@@ -11,7 +12,7 @@ use crate::draft::{Draft, Heads};
 use crate::extend::day_grammar;
 use crate::fault::DemandFault;
 use crate::heads::most_heads;
-use roster_model::{Grammar, Group, Instance};
+use roster_model::{Cell, Grammar, Group, Instance, List, Memory};
 use std::alloc::Global;
 
 fn least_heads(groups: &[Group]) -> u64
@@ -44,6 +45,40 @@ fn heads_of(heads: Option<Heads>, groups: &[Group]) -> Result<Heads, DemandFault
     }
 }
 
+// Makes the instance of its parts.
+fn with_day_grammar(
+    alloc: Global,
+    grammar: Grammar,
+    groups: List<Group>,
+    heads: Heads,
+    cells: List<Cell>,
+) -> Result<Instance, Memory>
+    requires { IsPlain grammar }
+    ensures { IfOk result (λ i. i ≡ instance_with grammar groups heads cells) }
+{
+    let grammar = day_grammar(alloc, grammar, groups.as_slice())?;
+    Ok(Instance {
+        grammar,
+        heads_min: heads.least,
+        heads_max: heads.most,
+        groups,
+        cells,
+    })
+}
+
+// Returns the cells of all need lines.
+fn cells_of(alloc: Global, draft: &Draft) -> Result<List<Cell>, Memory>
+    requires { All (λ (n : Need). length n.counts ≤ 96) draft.now.needs }
+    ensures { IfOk result (λ cells. cells ≡ cells_of draft.now) }
+{
+    cells(
+        alloc,
+        draft.needs.as_slice(),
+        draft.least.as_slice(),
+        draft.most.as_slice(),
+    )
+}
+
 /// Makes the instance of all lines.
 #[tactic(auto, unfolding(crate::specs::InstanceOf::finish))]
 pub fn finish(alloc: Global, grammar: Grammar, draft: Draft) -> Result<Instance, DemandFault>
@@ -53,21 +88,9 @@ pub fn finish(alloc: Global, grammar: Grammar, draft: Draft) -> Result<Instance,
     ensures value { Reads (λ i. i) result (finish grammar draft) }
     ensures sound { IfOk result IsSoundInstance }
 {
-    let Draft {
-        heads,
-        groups,
-        needs,
-        least,
-        most,
-    } = draft;
-    let heads = heads_of(heads, groups.as_slice())?;
-    let cells = cells(alloc, needs.as_slice(), least.as_slice(), most.as_slice())?;
-    let grammar = day_grammar(alloc, grammar, groups.as_slice())?;
-    Ok(Instance {
-        grammar,
-        heads_min: heads.least,
-        heads_max: heads.most,
-        groups,
-        cells,
-    })
+    let heads = heads_of(draft.heads, draft.groups.as_slice())?;
+    let cells = cells_of(alloc, &draft)?;
+    let Draft { groups, .. } = draft;
+    let instance = with_day_grammar(alloc, grammar, groups, heads, cells)?;
+    Ok(instance)
 }

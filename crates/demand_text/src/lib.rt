@@ -29,11 +29,9 @@ mod line;
 mod message;
 mod need;
 mod number_of;
-mod put;
 mod read;
 #[cfg(test)]
 mod tests;
-mod words;
 mod write;
 
 pub use fault::DemandFault;

@@ -1,11 +1,10 @@
 ghost use Rattle.std.specs.Prelude.{◌≡◌, ◌++◌, [], ◌∷◌, IfOk, OnOk};
-ghost use Rattle.demand_text.specs.FaultLine.{line_of, fault_text, place_text, fault_line};
+ghost use Rattle.demand_text.specs.FaultLine.{line_of, fault_text, fault_line};
 
 use crate::fault::DemandFault;
-use crate::put::put;
 use roster_model::{List, Memory};
 use std::alloc::Global;
-use text_lines::write_number;
+use text_lines::{put, put_place};
 
 fn line_of(fault: &DemandFault) -> Option<u32>
     ensures { result ≡ line_of fault.now }
@@ -46,17 +45,6 @@ fn put_text(out: &mut List<u8>, fault: &DemandFault) -> Result<(), Memory>
         DemandFault::TooManyGroups { .. } => put(out, b"too many groups, at most 8"),
         DemandFault::Memory => put(out, b"out of memory"),
     }
-}
-
-fn put_place(out: &mut List<u8>, line: Option<u32>) -> Result<(), Memory>
-    ensures { OnOk result (out.new ≡ out.old ++ place_text line) }
-{
-    let Some(line) = line else {
-        return Ok(());
-    };
-    put(out, b"line ")?;
-    write_number(out, line as i128)?;
-    put(out, b": ")
 }
 
 /// Returns the line that tells a fault, as `demand: line 2: wrong count of needs` with a line feed.

@@ -1,9 +1,10 @@
 ghost use Rattle.std.specs.Prelude.{◌≡◌, ◌==◌, ◌++◌, map, OnOk};
 ghost use Rattle.std.specs.List.{list_all};
-ghost use Rattle.demand_text.specs.Written.{tail, number_of, numbers_of, are_all};
+ghost use Rattle.demand_text.specs.Written.{number_of, numbers_of, are_all};
+ghost use Rattle.text_lines.specs.Written.{tail};
 
-use crate::words::number;
 use roster_model::{Cell, List, Memory};
+use text_lines::field;
 
 /// A number of a cell.
 #[derive(Clone, Copy, Debug, PartialEq, Eq, Drop)]
@@ -36,7 +37,7 @@ pub fn numbers(out: &mut List<u8>, which: NumberOf, cells: &[Cell]) -> Result<()
     ensures { OnOk result (out.new ≡ out.old ++ tail (numbers_of which cells.now)) }
 {
     for cell in cells {
-        number(out, number_of(which, cell))?;
+        field(out, number_of(which, cell) as u64)?;
     }
     Ok(())
 }

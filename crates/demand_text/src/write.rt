@@ -1,6 +1,6 @@
 ghost use Rattle.std.specs.Prelude.{◌≡◌, ◌≤◌, ◌<◌, ◌++◌, [], ◌∷◌, List as Items, All, codes as text, length, map, IfOk, OnOk};
 ghost use Rattle.std.specs.Fmt.{decimal};
-ghost use Rattle.text_lines.specs.Written.{written};
+ghost use Rattle.text_lines.specs.Written.{written, tail};
 ghost use Rattle.roster_model.specs.Demands.{Demand, IsDemand, all_cells, AreCells, IsOneDemand};
 ghost use Rattle.roster_model.specs.Folds.{Each};
 ghost use Rattle.roster_model.specs.Sound.{IsSound};
@@ -18,21 +18,19 @@ ghost use Rattle.demand_text.specs.Written.{
   demand_text,
   HasName,
   AreDemandsOf,
-  tail,
 };
 
 use crate::number_of::{NumberOf, are_all, numbers};
-use crate::put::put;
-use crate::words::{number, word};
 use roster_model::{Cell, CodeDef, Grammar, Group, Instance, List, Memory};
 use std::alloc::Global;
+use text_lines::{field, put, word};
 
 fn heads_line(out: &mut List<u8>, least: u32, most: u32) -> Result<(), Memory>
     ensures { OnOk result (out.new ≡ out.old ++ written (heads_line least most ∷ [])) }
 {
     put(out, b"heads")?;
-    number(out, least)?;
-    number(out, most)?;
+    field(out, least as u64)?;
+    field(out, most as u64)?;
     out.push(b'\n')?;
     Ok(())
 }
@@ -50,8 +48,8 @@ fn group_line(out: &mut List<u8>, names: &[List<u8>], group: &Group) -> Result<(
 {
     put(out, b"group")?;
     name(out, names, group.name)?;
-    number(out, group.heads_min)?;
-    number(out, group.heads_max)?;
+    field(out, group.heads_min as u64)?;
+    field(out, group.heads_max as u64)?;
     out.push(b'\n')?;
     Ok(())
 }
@@ -90,8 +88,8 @@ fn need_line(
 {
     put(out, b"need")?;
     word(out, &[code])?;
-    number(out, under)?;
-    number(out, over)?;
+    field(out, under as u64)?;
+    field(out, over as u64)?;
     numbers(out, NumberOf::Need, cells)?;
     out.push(b'\n')?;
     Ok(())

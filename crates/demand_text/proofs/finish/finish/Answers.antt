@@ -1,4 +1,5 @@
-use Rattle.std.proofs.Common.{sym, length, arith}
+use Rattle.std.proofs.Common.{refl, sym, length, arith}
+use Rattle.demand_text.specs.InstanceOf.{day_grammar}
 use Rattle.demand_text.proofs.GroupSums.{in_order}
 use Rattle.demand_text.proofs.SoundInstances.{parts_sound}
 use Rattle.demand_text.proofs.finish.finish.Goals as goal
@@ -10,7 +11,10 @@ heads_of-requires-clause-least c =
 
 pub returns-clause-sound : goal.returns-clause-sound
 returns-clause-sound c =
-    parts_sound c.args.grammar c.requires.sound c.requires.plain c.args.draft c.in_ok-heads.heads c.in_ok-grammar.grammar c.in_ok-cells.cells c.requires.draft
-    (sym (rw c.as_slice.ensures at c.in_ok-heads.ensures))
-    (rw c.as_slice-5.ensures at c.in_ok-grammar.ensures)
-    (rw (c.as_slice-2.ensures, c.as_slice-3.ensures, c.as_slice-4.ensures) at c.in_ok-cells.ensures)
+    let grammar = c.args.grammar in
+    let heads = c.in_ok-heads.heads in
+    let cells = c.in_ok-cells.cells in
+    rw c.in_ok-instance.ensures (
+    parts_sound grammar c.requires.sound c.requires.plain c.args.draft heads (day_grammar grammar c.args.draft.groups) cells c.requires.draft
+    (sym (rw c.as_slice.ensures at c.in_ok-heads.ensures)) refl c.in_ok-cells.ensures
+    )

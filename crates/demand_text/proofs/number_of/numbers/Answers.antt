@@ -1,7 +1,7 @@
 use Rattle.std.specs.Fmt.{decimal}
 use Rattle.roster_model.specs.declared.instance.Cell.{Cell}
 use Rattle.demand_text.specs.Written.{number_of}
-use Rattle.demand_text.proofs.Tails.{one_more}
+use Rattle.text_lines.proofs.WrittenLemmas.{one_more}
 use Rattle.demand_text.proofs.number_of.numbers.Goals as goal
 
 abbrev nothing : Cell
@@ -9,5 +9,5 @@ nothing = record { code = 0; period = 0; need = 0; under = 0; over = 0; floor = 
 
 pub loop-cell-preserved : goal.loop-cell-preserved
 loop-cell-preserved c =
-    one_more (λ (x : Cell). decimal (number_of c.args.which x)) c.args.cells.now c.loop-cell.cell-index nothing c.args.out.now c.loop-cell.out c.number.new.out
-    c.loop-cell-test.true c.loop-cell.invariant (rw c.number_of.ensures at c.in_ok-number.ensures)
+    one_more (λ (x : Cell). decimal (number_of c.args.which x)) c.args.cells.now c.loop-cell.cell-index nothing c.args.out.now c.loop-cell.out c.field.new.out
+    c.loop-cell-test.true c.loop-cell.invariant (rw c.number_of.ensures at c.in_ok-field.ensures)

@@ -1,5 +1,6 @@
 use Rattle.std.proofs.Common.{◌≡◌, ◌++◌, take}
-use Rattle.demand_text.specs.Written.{tail, numbers_of}
+use Rattle.demand_text.specs.Written.{numbers_of}
+use Rattle.text_lines.specs.Written.{tail}
 use Rattle.demand_text.proofs.number_of.numbers.Given as goal
 
 abbrev pub invariant-loop-cell : goal.invariant-loop-cell

@@ -1,5 +1,5 @@
 use Rattle.demand_text.specs.Written.{group_line}
-use Rattle.demand_text.proofs.Tails.{line_more}
+use Rattle.text_lines.proofs.WrittenLemmas.{line_more}
 use Rattle.demand_text.proofs.write.group_lines.Goals as goal
 
 pub loop-group-preserved : goal.loop-group-preserved

@@ -3,11 +3,11 @@ use Rattle.std.specs.Fmt.{decimal}
 use Rattle.std.specs.Prelude.{codes}
 use Rattle.demand_text.specs.declared.number_of.NumberOf.TheVariants.{Need}
 use Rattle.demand_text.specs.Written.{numbers_of}
-use Rattle.demand_text.proofs.Tails.{three_words, line_joined}
+use Rattle.text_lines.proofs.WrittenLemmas.{three_words, line_joined}
 use Rattle.demand_text.proofs.write.need_line.Goals as goal
 
 pub returns : goal.returns
 returns c =
     line_joined c.args.out.now _ _ _ c.push.new.self (codes "need") ((c.args.code ∷ []) ∷ decimal c.args.under ∷ decimal c.args.over ∷ []) (numbers_of Need c.args.cells.now)
-    c.in_ok-put.ensures (three_words _ _ _ _ (c.args.code ∷ []) (decimal c.args.under) (decimal c.args.over) c.in_ok-word.ensures c.in_ok-number.ensures c.in_ok-number-2.ensures)
+    c.in_ok-put.ensures.ok (three_words _ _ _ _ (c.args.code ∷ []) (decimal c.args.under) (decimal c.args.over) c.in_ok-word.ensures c.in_ok-field.ensures c.in_ok-field-2.ensures)
     c.in_ok-numbers.ensures c.in_ok-push.ensures.ok

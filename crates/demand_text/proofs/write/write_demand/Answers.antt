@@ -1,6 +1,6 @@
 use Rattle.std.proofs.Common.{◌∙◌}
 use Rattle.demand_text.specs.Written.{team_lines, demand_lines}
-use Rattle.demand_text.proofs.Tails.{text_joined}
+use Rattle.text_lines.proofs.WrittenLemmas.{text_joined}
 use Rattle.demand_text.proofs.write.write_demand.Goals as goal
 
 pub returns : goal.returns
