@@ -1,4 +1,3 @@
 pub mod Unique
 pub mod Rising
-pub mod BaseCuts
 pub mod Walking

@@ -1,7 +1,6 @@
 -- Certificates' numbers and nodes as a walk without memory meets them.
-use Rattle.std.specs.Prelude.{ℕ, ℤ, ◌≡◌, ◌<◌, ◌≤◌, ◌+◌, ◌^◌, cond, nat_lt, All, List, [], ◌∷◌, ◌++◌, length}
+use Rattle.std.specs.Prelude.{ℕ, ℤ, ◌≡◌, ◌<◌, ◌≤◌, ◌^◌, All, List, [], ◌∷◌, ◌++◌, length}
 use Rattle.roster_model.specs.declared.instance.Cut.{Cut}
-use Rattle.roster_model.specs.declared.instance.Group.{Group}
 use Rattle.roster_model.specs.declared.instance.Instance.{Instance}
 use Rattle.roster_model.specs.declared.instance.Mult.{Mult}
 use Rattle.roster_model.specs.Folds.{Each}
@@ -28,10 +27,6 @@ pub record HasMults (cuts : ℕ) (mult : List Mult) : Type 0 where
   pub few : length mult ≤ 1500
   pub each : All (IsMult cuts) mult
   pub rising : RisesFrom 0 mult
-
--- how many base cuts a group brings, of a day with at most `most` employees
-abbrev pub cuts_of : ℕ → Group → ℕ
-cuts_of most g = cond (nat_lt g.heads_max most) 1 0 + cond (nat_lt 0 g.heads_min) 1 0
 
 -- the nodes begin with one whole tree of sound nodes, which has so many cuts above it, and end with
 -- the rest

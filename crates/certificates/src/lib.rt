@@ -5,6 +5,7 @@
 #![tactic(auto)]
 
 mod cert;
+mod kinds;
 mod laws;
 mod sound;
 mod tree;
@@ -12,7 +13,9 @@ mod verdict;
 mod why;
 
 pub use cert::{Cert, Node};
+pub use kinds::{is_processed, is_unpriced};
 pub use laws::one_tree;
-pub use sound::is_sound_cert;
+pub use sound::{MOST_MULTIPLIERS, is_sound_cert};
+pub use tree::MOST_NODES;
 pub use verdict::Verdict;
 pub use why::Why;

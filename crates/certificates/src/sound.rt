@@ -14,6 +14,9 @@ use roster_model::{ArcKey, Group, Instance, Mult, Prices, Shift};
 /// The greatest cost, bound and price of a shift.
 const MOST_COST: u64 = 1_099_511_627_776;
 
+/// The greatest number of multipliers that a node lists.
+pub const MOST_MULTIPLIERS: usize = 1_500;
+
 /// The greatest size of a price and of a multiplier.
 const MOST_PRICE: i128 = 1_208_925_819_614_629_174_706_176;
 
@@ -171,7 +174,7 @@ fn are_mults(prices: &Prices, cuts: usize) -> bool
     ensures { IsTrue result ↔ HasMults cuts prices.now.mult }
 {
     let mult = prices.mult.as_slice();
-    mult.len() <= 1500 && mult.iter().all(|m| is_mult(m, cuts)) && are_rising(mult)
+    mult.len() <= MOST_MULTIPLIERS && mult.iter().all(|m| is_mult(m, cuts)) && are_rising(mult)
 }
 
 fn is_mult(mult: &Mult, cuts: usize) -> bool

@@ -1,20 +1,19 @@
 ghost use Rattle.std.specs.Prelude.{◌≡◌, ◌≤◌, ◌<◌, ◌+◌, ◌↔◌, IsTrue, MatchOption, length, List as Items};
 ghost use Rattle.roster_model.specs.declared.instance.Cut.{Cut};
-ghost use Rattle.roster_model.specs.Cuts.{base_cuts};
-ghost use Rattle.roster_model.specs.Folds.{sum_n};
 ghost use Rattle.roster_model.specs.SoundInstance.{IsSoundInstance};
 ghost use Rattle.certificates.specs.Nodes.{Proof};
 ghost use Rattle.certificates.specs.Sound.{IsSoundNode, IsSoundProof, most_nodes};
-ghost use Rattle.certificates.specs.Walks.{cuts_of, BeginsWithTree, BeginsWithNone};
+ghost use Rattle.certificates.specs.Walks.{BeginsWithTree, BeginsWithNone};
 
 use crate::cert::Node;
 use crate::sound::{are_fit, is_key};
-use roster_model::{Group, Instance};
+use roster_model::{Instance, base_cut_count};
 
-/// The greatest number of nodes.
-const MOST_NODES: usize = 20_001;
+/// The greatest number of nodes of a certificate.
+pub const MOST_NODES: usize = 20_001;
 
 /// Returns whether the nodes are one whole tree of sound nodes, in preorder.
+#[tactic(auto, using(roster_model::proofs::CutCounts::few_groups))]
 pub(crate) fn is_whole_tree(instance: &Instance, nodes: &[Node]) -> bool
     requires { IsSoundInstance instance.now }
     ensures { IsTrue result ↔ ((proof : Proof) × IsSoundProof instance.now nodes.now proof) }
@@ -22,42 +21,10 @@ pub(crate) fn is_whole_tree(instance: &Instance, nodes: &[Node]) -> bool
     if nodes.len() > MOST_NODES {
         return false;
     }
-    match after_tree(instance, base_count(instance), nodes) {
+    match after_tree(instance, base_cut_count(instance), nodes) {
         Some(rest) => rest.is_empty(),
         None => false,
     }
-}
-
-/// Returns the number of the base cuts.
-#[tactic(auto, using(crate::proofs::BaseCuts::base_length, crate::proofs::BaseCuts::few_groups))]
-fn base_count(instance: &Instance) -> usize
-    requires { IsSoundInstance instance.now }
-    ensures value { result ≡ length (base_cuts instance.now) }
-    ensures few { result ≤ 16 }
-{
-    count_cuts(instance.heads_max, instance.groups.as_slice())
-}
-
-/// Returns the number of the base cuts that these groups bring, of a day with at most so many
-/// employees.
-fn count_cuts(most: u32, groups: &[Group]) -> usize
-    requires { length groups.now ≤ 8 }
-    ensures value { result ≡ sum_n (cuts_of most) groups.now }
-    ensures few { result ≤ 16 }
-{
-    let mut count = 0;
-    for group in groups {
-        count += cuts_of(most, group);
-    }
-    count
-}
-
-/// Returns how many base cuts a group brings.
-fn cuts_of(most: u32, group: &Group) -> usize
-    ensures value { result ≡ cuts_of most group.now }
-    ensures few { result ≤ 2 }
-{
-    usize::from(group.heads_max < most) + usize::from(0 < group.heads_min)
 }
 
 /// Returns the nodes after the tree with which the nodes begin, with so many cuts above it; `None`

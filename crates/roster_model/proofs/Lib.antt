@@ -16,3 +16,5 @@ pub mod Mults
 pub mod Agreed
 pub mod LetterNumbers
 pub mod RoomAgrees
+pub mod CutCounts
+pub mod Entries

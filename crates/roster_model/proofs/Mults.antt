@@ -1,6 +1,6 @@
 -- What the listed multipliers make of the price of an arc.
-use Rattle.std.proofs.Common.{◌≡◌, ◌≢◌, ℕ, zero, suc, ◌+◌, ◌-◌, ◌<◌, ◌≤◌, inl, inr, Bool, true, false, cond, List, [], ◌∷◌, ◌++◌, length, get_or, drop, subst, refl, ap, ◌∙◌, arith, Some}
-use Rattle.std.specs.Prelude.{ℤ, pos, ◌+ℤ◌, slice_get}
+use Rattle.std.proofs.Common.{◌≡◌, ℕ, zero, suc, ◌+◌, ◌-◌, ◌<◌, ◌≤◌, inl, inr, Bool, true, false, cond, List, [], ◌∷◌, length, get_or, drop, subst, refl, sym, ap, ◌∙◌, arith, Some}
+use Rattle.std.specs.Prelude.{ℤ, pos, neg_ℤ, ◌+ℤ◌, slice_get}
 use Rattle.std.proofs.lemmas.Int.{ints}
 use Rattle.std.proofs.lemmas.List.{at_drop_more, at_drop_all}
 use Rattle.std.proofs.lemmas.Option.{same_Some, none-some}
@@ -10,12 +10,12 @@ use Rattle.roster_model.specs.declared.instance.Cut.{Cut}
 use Rattle.roster_model.specs.declared.instance.Mult.{Mult}
 use Rattle.roster_model.specs.declared.instance.Side.{Side}
 use Rattle.roster_model.specs.declared.instance.Side.TheVariants.{Low, High}
-use Rattle.roster_model.specs.declared.price_room.ArcPrice.{ArcPrice}
+use Rattle.roster_model.specs.declared.arc_prices.ArcPrice.{ArcPrice}
 use Rattle.roster_model.specs.Arcs.{same_arc}
 use Rattle.roster_model.specs.Folds.{Each}
-use Rattle.roster_model.specs.PriceLimits.{AreRising}
+use Rattle.roster_model.specs.PriceLimits.{AreRising, Lacks}
 use Rattle.roster_model.specs.RoomPrices.{entry_price, listed_price}
-use Rattle.roster_model.specs.Reduced.{mult_of, cut_prices, signed, arc_price}
+use Rattle.roster_model.specs.Reduced.{CutPrice, mult_of, cut_prices, cuts_paid, signed, arc_price}
 
 -- what a cut with this multiplier adds to the price of the arc
 abbrev pub cut_share : ArcKey → Cut → ℤ → ℤ
@@ -29,11 +29,8 @@ no_share : (b : Bool) (s : Side) → cond b (signed s (pos 0)) (pos 0) ≡ pos 0
 no_share true s = no_share' s
 no_share false s = refl
 
--- no multiplier of the cut stands further on
-abbrev pub Lacks : ℕ → List Mult → Type 0
-Lacks j ms = Each (λ (m : Mult). m.cut ≢ j) ms
-
-lacked : (j : ℕ) (ms : List Mult) → Lacks j ms → mult_of ms j ≡ pos 0
+-- a multiplier that is not listed is 0
+pub lacked : (j : ℕ) (ms : List Mult) → Lacks j ms → mult_of ms j ≡ pos 0
 lacked j [] h = refl
 lacked j (m ∷ ms) h = elim (eqb_tells m.cut j) [
   | inl p ↦ absurd (h.0 p.1)
@@ -69,11 +66,8 @@ module _ (a : ArcKey) where
 
 -- ---- the entries that are listed one after another
 
-listed-push : (a : ArcKey) (xs : List ArcPrice) (e : ArcPrice) → listed_price (xs ++ e ∷ []) a ≡ listed_price xs a +ℤ entry_price a e
-listed-push a [] e = omega (arith, ints)
-listed-push a (x ∷ xs) e = omega (arith, ints, listed-push a xs e)
-
-lacks : (j : ℕ) (ms : List Mult) → Each (λ (n : Mult). j < n.cut) ms → Lacks j ms
+-- a cut that comes before all that are listed is not listed
+pub lacks : (j : ℕ) (ms : List Mult) → Each (λ (n : Mult). j < n.cut) ms → Lacks j ms
 lacks j [] h = tt
 lacks j (m ∷ ms) h = (λ e. let l = h.0 in absurd (omega arith), lacks j ms h.1)
 
@@ -89,16 +83,16 @@ module _ (cuts : List Cut) (mult : List Mult) (k : ℕ) (d : Mult) (l : k < leng
 
   -- an entry more
   pub listed-step : (c : Cut) (xs ys : List ArcPrice) (e : ArcPrice) → AreRising (drop k mult) → 1 ≤ (get_or mult k d).cut
-      → slice_get cuts ((get_or mult k d).cut - 1) ≡ Some c → e ≡ record { arc = c.arc; price = signed c.side (get_or mult k d).value } → ys ≡ xs ++ e ∷ []
+      → slice_get cuts ((get_or mult k d).cut - 1) ≡ Some c → e ≡ record { arc = c.arc; price = signed c.side (get_or mult k d).value } → ((a : ArcKey) → listed_price ys a ≡ listed_price xs a +ℤ entry_price a e)
       → ((a : ArcKey) → arc_price (cut_prices 1 cuts mult) a ≡ listed_price xs a +ℤ arc_price (cut_prices 1 cuts (drop k mult)) a)
       → (a : ArcKey) → arc_price (cut_prices 1 cuts mult) a ≡ listed_price ys a +ℤ arc_price (cut_prices 1 cuts (drop (k + 1) mult)) a
-  listed-step c xs ys e rising first at is pushed h a =
+  listed-step c xs ys e rising first at is added h a =
       let m = get_or mult k d in
       let share : arc_price (cut_prices 1 cuts (drop k mult)) a ≡ cut_share a c m.value +ℤ arc_price (cut_prices 1 cuts (drop (k + 1) mult)) a =
       ap (λ (ms : List Mult). arc_price (cut_prices 1 cuts ms) a) drop-is
       ∙ taken a m (drop (k + 1) mult) 1 (m.cut - 1) cuts c (lacks m.cut (drop (k + 1) mult) (rising-at rising).0) (omega arith) at in
       let more : listed_price ys a ≡ listed_price xs a +ℤ cut_share a c m.value =
-      ap (λ (zs : List ArcPrice). listed_price zs a) pushed ∙ listed-push a xs e ∙ ap (λ (x : ArcPrice). listed_price xs a +ℤ entry_price a x) is in
+      added a ∙ ap (λ (x : ArcPrice). listed_price xs a +ℤ entry_price a x) is in
       omega (arith, ints, h a, share, more)
 
 pub listed-all : (cuts : List Cut) (mult : List Mult) (k : ℕ) (xs : List ArcPrice) → length mult ≤ k
@@ -106,4 +100,41 @@ pub listed-all : (cuts : List Cut) (mult : List Mult) (k : ℕ) (xs : List ArcPr
     → (a : ArcKey) → listed_price xs a ≡ arc_price (cut_prices 1 cuts mult) a
 listed-all cuts mult k xs l h a =
     let rest : arc_price (cut_prices 1 cuts (drop k mult)) a ≡ pos 0 = at_drop_all (λ (ms : List Mult). arc_price (cut_prices 1 cuts ms) a) mult k l ∙ none a 1 cuts in
+    omega (arith, ints, h a, rest)
+
+-- ---- prices that trees are paid for the arcs of cuts
+
+-- what the cut pays is what its multiplier makes of the price of the arc
+paid-back : (s : Side) (x : ℤ) → signed s (neg_ℤ (signed s x)) ≡ neg_ℤ x
+paid-back Low x = refl
+paid-back High x = omega (arith, ints)
+
+module _ (cuts : List Cut) (prices : List ℤ) (k : ℕ) (d : Cut) (z : ℤ) (l : k < length cuts) (same : length prices ≡ length cuts) where
+  paid-drop : cuts_paid (drop k cuts) (drop k prices)
+      ≡ record { cut = get_or cuts k d; mult = neg_ℤ (signed (get_or cuts k d).side (get_or prices k z)) } ∷ cuts_paid (drop (k + 1) cuts) (drop (k + 1) prices)
+  paid-drop =
+      let a = at_drop_more (λ (cs : List Cut). cs) cuts k d l in
+      let b = at_drop_more (λ (xs : List ℤ). xs) prices k z (omega (arith, same, l)) in
+      rw (a, b) refl
+
+  -- an entry more
+  pub paid-step : (xs ys : List ArcPrice) (e : ArcPrice) → e ≡ record { arc = (get_or cuts k d).arc; price = neg_ℤ (get_or prices k z) }
+      → ((a : ArcKey) → listed_price ys a ≡ listed_price xs a +ℤ entry_price a e)
+      → ((a : ArcKey) → arc_price (cuts_paid cuts prices) a ≡ listed_price xs a +ℤ arc_price (cuts_paid (drop k cuts) (drop k prices)) a)
+      → (a : ArcKey) → arc_price (cuts_paid cuts prices) a ≡ listed_price ys a +ℤ arc_price (cuts_paid (drop (k + 1) cuts) (drop (k + 1) prices)) a
+  paid-step xs ys e is added h a =
+      let c = get_or cuts k d in
+      let x = get_or prices k z in
+      let rest : ℤ = arc_price (cuts_paid (drop (k + 1) cuts) (drop (k + 1) prices)) a in
+      let share : arc_price (cuts_paid (drop k cuts) (drop k prices)) a ≡ cut_share a c (neg_ℤ (signed c.side x)) +ℤ rest =
+      ap (λ (ks : List CutPrice). arc_price ks a) paid-drop in
+      let own : cut_share a c (neg_ℤ (signed c.side x)) ≡ entry_price a e =
+      ap (λ (y : ℤ). cond (same_arc c.arc a) y (pos 0)) (paid-back c.side x) ∙ ap (λ (y : ArcPrice). entry_price a y) (sym is) in
+      omega (arith, ints, h a, share, own, added a)
+
+pub paid-all : (cuts : List Cut) (prices : List ℤ) (k : ℕ) (xs : List ArcPrice) → length cuts ≤ k
+    → ((a : ArcKey) → arc_price (cuts_paid cuts prices) a ≡ listed_price xs a +ℤ arc_price (cuts_paid (drop k cuts) (drop k prices)) a)
+    → (a : ArcKey) → listed_price xs a ≡ arc_price (cuts_paid cuts prices) a
+paid-all cuts prices k xs l h a =
+    let rest : arc_price (cuts_paid (drop k cuts) (drop k prices)) a ≡ pos 0 = at_drop_all (λ (cs : List Cut). arc_price (cuts_paid cs (drop k prices)) a) cuts k l in
     omega (arith, ints, h a, rest)

@@ -8,7 +8,7 @@ use Rattle.roster_model.specs.declared.grammar.ArcKey.{ArcKey}
 use Rattle.roster_model.specs.declared.grammar.Grammar.{Grammar}
 use Rattle.roster_model.specs.declared.grammar.Rule.{Rule}
 use Rattle.roster_model.specs.declared.instance.Cell.{Cell}
-use Rattle.roster_model.specs.declared.price_room.ArcPrice.{ArcPrice}
+use Rattle.roster_model.specs.declared.arc_prices.ArcPrice.{ArcPrice}
 use Rattle.roster_model.specs.Agreement.{Agree}
 use Rattle.roster_model.specs.Arcs.{rule_cost}
 use Rattle.roster_model.specs.Demands.{AreCells}

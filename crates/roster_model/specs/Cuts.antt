@@ -59,6 +59,10 @@ group_cuts i r g =
     cond (nat_lt g.heads_max i.heads_max) (record { arc = group_arc i.grammar.periods r; side = Low; b = g.heads_max } ∷ []) []
     ++ cond (nat_lt 0 g.heads_min) (record { arc = group_arc i.grammar.periods r; side = High; b = g.heads_min - 1 } ∷ []) []
 
+-- how many these are, of a day with at most `most` employees
+abbrev pub group_cut_count : ℕ → Group → ℕ
+group_cut_count most g = cond (nat_lt g.heads_max most) 1 0 + cond (nat_lt 0 g.heads_min) 1 0
+
 -- those of groups whose rules are numbered from r
 abbrev pub cuts_from : Instance → ℕ → List Group → List Cut
 cuts_from i r [] = []

@@ -5,6 +5,10 @@ use Rattle.roster_model.specs.declared.instance.Cell.{Cell}
 use Rattle.roster_model.specs.Reduced.{CellPrice, letter_price}
 use Rattle.roster_model.specs.RoomPrices.{letter_place}
 
+-- the rule costs at most 10,000
+pub record HasSmallCost (rule : Rule) : Type 0 where
+  pub cost : rule.cost ≤ 10000
+
 -- each rule has d times its cost
 abbrev pub AreRulePrices : ℕ → List Rule → List ℤ → Type 0
 AreRulePrices d rules numbers = (k : ℕ) (rule : Rule) → slice_get rules k ≡ Some rule → slice_get numbers k ≡ Some (pos d *ℤ pos rule.cost)

@@ -24,7 +24,9 @@ pub mod Demands
 pub mod Limits
 pub mod SoundInstance
 pub mod GroupParts
+pub mod ArcEntries
 pub mod RoomPrices
+pub mod EntryLaws
 pub mod PriceLimits
 pub mod Agreement
 pub mod Filled

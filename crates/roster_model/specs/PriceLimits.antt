@@ -1,5 +1,5 @@
 -- Prices that fit an instance and a path of cuts.
-use Rattle.std.specs.Prelude.{ℕ, ℤ, pos, ◌≡◌, ◌≤◌, ◌<◌, ◌≤ℤ◌, ◌^◌, List, [], ◌∷◌, All, length}
+use Rattle.std.specs.Prelude.{ℕ, ℤ, pos, ◌≡◌, ◌≢◌, ◌≤◌, ◌<◌, ◌≤ℤ◌, ◌^◌, List, [], ◌∷◌, All, length}
 use Rattle.roster_model.specs.declared.instance.Cut.{Cut}
 use Rattle.roster_model.specs.declared.instance.Instance.{Instance}
 use Rattle.roster_model.specs.declared.instance.Mult.{Mult}
@@ -27,3 +27,17 @@ pub record FitPrices (i : Instance) (d : ℕ) (cell : List ℤ) (mult : List Mul
   pub few : length mult ≤ 1500
   pub mults : All (IsMult (length cuts)) mult
   pub rising : AreRising mult
+
+-- a denominator, a price for each cell and one for each cut, within 2^80; there may be 65,536 cuts
+pub record AreWide (i : Instance) (d : ℕ) (cell paid : List ℤ) (cuts : List Cut) : Type 0 where
+  pub positive : 1 ≤ d
+  pub small : d ≤ 2 ^ 80
+  pub cells : length cell ≡ length i.cells
+  pub each : All (Within (2 ^ 80)) cell
+  pub few : length cuts ≤ 65536
+  pub prices : length paid ≡ length cuts
+  pub each_paid : All (Within (2 ^ 80)) paid
+
+-- no multiplier of cut j is listed
+abbrev pub Lacks : ℕ → List Mult → Type 0
+Lacks j ms = Each (λ (m : Mult). m.cut ≢ j) ms

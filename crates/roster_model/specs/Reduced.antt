@@ -43,6 +43,13 @@ abbrev pub signed : Side → ℤ → ℤ
 signed Low m = m
 signed High m = neg_ℤ m
 
+-- the cuts, at the multipliers at which a tree with a cut's arc is paid its price; cuts that are left
+-- over where there are too few prices are left out
+abbrev pub cuts_paid : List Cut → List ℤ → List CutPrice
+cuts_paid [] xs = []
+cuts_paid (c ∷ cs) [] = []
+cuts_paid (c ∷ cs) (x ∷ xs) = record { cut = c; mult = neg_ℤ (signed c.side x) } ∷ cuts_paid cs xs
+
 -- what a tree with the letter is paid
 abbrev pub letter_price : List CellPrice → Letter → ℤ
 letter_price ps l = sum_z (λ (p : CellPrice). cond (is_at p.cell l) p.price (pos 0)) ps

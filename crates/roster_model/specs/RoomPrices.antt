@@ -1,10 +1,10 @@
 -- Prices held as numbers: of letters by code and period, of rules, and of arcs as entries that add up.
-use Rattle.std.specs.Prelude.{ℕ, ℤ, pos, ◌+◌, ◌-◌, ◌*◌, ◌^◌, cond, Option, None, Some, List, slice_get, zero, suc}
+use Rattle.std.specs.Prelude.{ℕ, ℤ, pos, ◌+◌, ◌-◌, ◌*◌, cond, Option, None, Some, List, slice_get, zero, suc}
 use Rattle.roster_model.specs.declared.grammar.ArcKey.{ArcKey}
-use Rattle.roster_model.specs.declared.price_room.ArcPrice.{ArcPrice}
+use Rattle.roster_model.specs.declared.arc_prices.ArcPrice.{ArcPrice}
 use Rattle.roster_model.specs.Arcs.{same_arc}
 use Rattle.roster_model.specs.Folds.{sum_z}
-use Rattle.roster_model.specs.Sums.{PriceView, Within}
+use Rattle.roster_model.specs.Sums.{PriceView}
 
 -- where the number of a letter stands, on a day of so many periods
 abbrev pub letter_place : ℕ → ℕ → ℕ → ℕ
@@ -32,7 +32,3 @@ numbers_view periods letters rules arcs = record {
   arc_of = λ a. listed_price arcs a;
   rule_of = λ r. rule_number rules r;
 }
-
--- the price of an entry is small
-pub record IsSmallEntry (x : ArcPrice) : Type 0 where
-  pub price : Within (2 ^ 80) x.price

@@ -12,7 +12,7 @@ ghost use Rattle.std.specs.Prelude.{
   length,
   slice_get,
 };
-ghost use Rattle.roster_model.specs.Filled.{AreRulePrices, AreLetterPrices, HasPlace};
+ghost use Rattle.roster_model.specs.Filled.{AreRulePrices, AreLetterPrices, HasPlace, HasSmallCost};
 ghost use Rattle.roster_model.specs.Reduced.{cell_prices};
 ghost use Rattle.roster_model.specs.RoomPrices.{letter_place};
 ghost use Rattle.roster_model.specs.Sums.{Within};
@@ -21,8 +21,10 @@ use crate::grammar::Rule;
 use crate::instance::Cell;
 
 /// Sets each number to the denominator times the rule's cost.
-pub(crate) fn set_rules(numbers: &mut [i128], rules: &[Rule], d: u64)
-    requires { length numbers.old ≡ length rules.now }
+pub(crate) fn set_rules(numbers: &mut [i128], rules: &[Rule], d: u128)
+    requires length { length numbers.old ≡ length rules.now }
+    requires small { d ≤ 2 ^ 80 }
+    requires costs { All HasSmallCost rules.now }
     ensures value { AreRulePrices d rules.now numbers.new }
     ensures within { All (Within (2 ^ 96)) numbers.new }
 {
@@ -31,11 +33,13 @@ pub(crate) fn set_rules(numbers: &mut [i128], rules: &[Rule], d: u64)
     }
 }
 
-fn rule_price(rule: &Rule, d: u64) -> i128
+fn rule_price(rule: &Rule, d: u128) -> i128
+    requires small { d ≤ 2 ^ 80 }
+    requires cost { HasSmallCost rule.now }
     ensures value { result ≡ pos d *ℤ pos rule.now.cost }
     ensures within { Within (2 ^ 96) result }
 {
-    i128::from(d) * i128::from(rule.cost)
+    d as i128 * i128::from(rule.cost)
 }
 
 /// Sets the number of each letter to what the cells pay for it, negated.

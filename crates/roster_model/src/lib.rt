@@ -8,6 +8,7 @@
 mod arc_prices;
 mod bounds;
 mod coverage;
+mod cuts;
 mod demands;
 mod fill;
 mod grammar;
@@ -30,6 +31,7 @@ mod unit_rules;
 
 pub use bounds::{greatest_cost, rounding_loss};
 pub use coverage::{covered, penalty};
+pub use cuts::{MOST_BASE_CUTS, base_cut_count};
 pub use grammar::{ArcKey, CodeDef, Grammar, Rule, Step, Sym, Tree, Window};
 pub use instance::{Cell, Cut, Done, Group, Instance, Mult, Prices, Shift, Side};
 pub use list::List;

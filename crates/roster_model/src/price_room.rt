@@ -1,21 +1,14 @@
 ghost use Rattle.std.specs.Prelude.{◌≡◌, ◌≤◌, ◌*◌, ◌^◌, All, IfOk, length, vec_capacity};
-ghost use Rattle.roster_model.specs.RoomPrices.{IsSmallEntry};
+ghost use Rattle.roster_model.specs.ArcEntries.{AreSorted, AreMarked, IsEntryWithin};
 ghost use Rattle.roster_model.specs.Sums.{Within};
 
-use crate::arc_prices::{listed_price, set_arcs};
+use crate::arc_prices::{ArcPrice, arc_price, set_arcs, set_paid};
 use crate::fill::{set_letters, set_rules};
 use crate::grammar::ArcKey;
 use crate::instance::{Cut, Instance, Mult, Prices};
 use crate::memory::Memory;
 use crate::prices::LetterPrice;
 use std::alloc::Global;
-
-/// What a tree that has the arc pays for one cut.
-#[derive(Clone, Copy, Debug, Drop)]
-pub struct ArcPrice {
-    pub arc: ArcKey,
-    pub price: i128,
-}
 
 /// The prices under which the sum of a tree is its reduced cost. They are set again and again in
 /// memory that is taken once.
@@ -27,22 +20,25 @@ pub struct PriceRoom {
     letters: Vec<i128>,
     rules: Vec<i128>,
     arcs: Vec<ArcPrice>,
+    marks: Vec<bool>,
     ghost short: { periods ≤ 96 },
     ghost whole: { length letters.items ≡ codes * periods },
     ghost small_letters: { All (Within (2 ^ 96)) letters.items },
     ghost small_rules: { All (Within (2 ^ 96)) rules.items },
-    ghost few_arcs: { length arcs.items ≤ 65536 },
-    ghost small_arcs: { All IsSmallEntry arcs.items },
+    ghost sorted_arcs: { AreSorted arcs.items },
+    ghost marked_arcs: { AreMarked marks.items arcs.items },
+    ghost small_arcs: { All (IsEntryWithin (2 ^ 96)) arcs.items },
     ghost room: { most ≤ vec_capacity arcs },
 }
 
 impl PriceRoom {
     ghost use Rattle.roster_model.specs.Agreement.{Agree};
-    ghost use Rattle.roster_model.specs.PriceLimits.{FitPrices};
+    ghost use Rattle.roster_model.specs.PriceLimits.{FitPrices, AreWide};
     ghost use Rattle.roster_model.specs.PriceRooms.{price_view, IsRoomFor};
     ghost use Rattle.roster_model.specs.Reduced.{
       cell_prices,
       cut_prices,
+      cuts_paid,
       view_of,
       reduced_view,
     };
@@ -59,6 +55,7 @@ impl PriceRoom {
         let codes = instance.grammar.codes.len();
         let letters = zeros(alloc, codes * periods)?;
         let rules = zeros(alloc, instance.grammar.rules.len())?;
+        let marks = no_marks(alloc, instance.grammar.rules.len())?;
         let Ok(arcs) = Vec::with_capacity(alloc, most) else {
             return Err(Memory);
         };
@@ -69,6 +66,7 @@ impl PriceRoom {
             letters,
             rules,
             arcs,
+            marks,
         })
     }
 
@@ -112,6 +110,41 @@ impl PriceRoom {
         ensures value { Agree instance.now.grammar (price_view self.new)
             (view_of instance.now.grammar d (cell_prices instance.now.cells cell.now) (cut_prices 1 cuts.now mult.now)) }
     {
+        set_rules(
+            &mut self.rules,
+            instance.grammar.rules.as_slice(),
+            u128::from(d),
+        );
+        set_letters(
+            &mut self.letters,
+            self.periods,
+            instance.cells.as_slice(),
+            cell,
+        );
+        set_arcs(&mut self.arcs, &mut self.marks, mult, cuts);
+    }
+
+    /// Holds wide prices: a denominator up to 2^80, a price for each cell, and for each cut what a
+    /// tree with its arc is paid, each within plus or minus 2^80. Takes no memory.
+    ///
+    /// The room must have been made for as many multipliers as there are cuts.
+    pub fn set_wide(
+        &mut self,
+        instance: &Instance,
+        d: u128,
+        cell: &[i128],
+        paid: &[i128],
+        cuts: &[Cut],
+    )
+        requires sound { IsSoundInstance instance.now }
+        requires room { IsRoomFor self.old instance.now }
+        requires few { length cuts.now ≤ self.old.most }
+        requires fit { AreWide instance.now d cell.now paid.now cuts.now }
+        ensures room { IsRoomFor self.new instance.now }
+        ensures most { self.new.most ≡ self.old.most }
+        ensures value { Agree instance.now.grammar (price_view self.new)
+            (view_of instance.now.grammar d (cell_prices instance.now.cells cell.now) (cuts_paid cuts.now paid.now)) }
+    {
         set_rules(&mut self.rules, instance.grammar.rules.as_slice(), d);
         set_letters(
             &mut self.letters,
@@ -119,7 +152,15 @@ impl PriceRoom {
             instance.cells.as_slice(),
             cell,
         );
-        set_arcs(&mut self.arcs, mult, cuts);
+        set_paid(&mut self.arcs, &mut self.marks, cuts, paid);
+    }
+}
+
+/// Returns a mark for each of eight suffixes of each rule, from rule 0 on, none of them set.
+fn no_marks(alloc: Global, rules: usize) -> Result<Vec<bool>, Memory> {
+    match Vec::from_elem(alloc, false, rules.saturating_add(1).saturating_mul(8)) {
+        Ok(marks) => Ok(marks),
+        Err(_) => Err(Memory),
     }
 }
 
@@ -146,7 +187,7 @@ impl LetterPrice for PriceRoom {
     }
 
     fn arc(&self, arc: &ArcKey) -> i128 {
-        listed_price(self.arcs.as_slice(), arc)
+        arc_price(self.arcs.as_slice(), self.marks.as_slice(), arc)
     }
 
     fn rule(&self, rule: u8) -> i128 {
@@ -159,5 +200,5 @@ impl LetterPrice for PriceRoom {
         }
     }
 
-    ghost all_within = { λ s. view-small s.periods s.letters.items s.rules.items s.arcs.items s.small_letters s.small_rules s.few_arcs s.small_arcs };
+    ghost all_within = { λ s. view-small s.periods s.letters.items s.rules.items s.arcs.items s.small_letters s.small_rules s.sorted_arcs s.small_arcs };
 }

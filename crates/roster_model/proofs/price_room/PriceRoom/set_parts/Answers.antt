@@ -32,5 +32,5 @@ returns-clause-value c =
     agrees g c.args.d p ps (cut_prices 1 c.args.cuts.now c.args.mult.now) letters rules c.set_arcs.new.entries.items c.requires.room.periods
     (ap length letters-are ∙ c.set_letters.auto.numbers ∙ ap length c.deref_mut-2.ensures.value ∙ c.args.self.now.whole ∙ ap (λ n. n * p) c.requires.room.codes)
     (subst P (sym letters-are) (rw c.as_slice-2.ensures at c.set_letters.ensures.value))
-    (subst Q (sym rules-are) (rw c.as_slice.ensures at c.set_rules.ensures.value))
+    (subst Q (sym rules-are) (rw (c.as_slice.ensures, c.from.ensures) at c.set_rules.ensures.value))
     c.set_arcs.ensures.value

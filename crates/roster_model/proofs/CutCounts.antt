@@ -6,16 +6,15 @@ use Rattle.roster_model.specs.declared.instance.Cut.{Cut}
 use Rattle.roster_model.specs.declared.instance.Group.{Group}
 use Rattle.roster_model.specs.declared.instance.Instance.{Instance}
 use Rattle.roster_model.specs.declared.instance.Side.TheVariants.{Low, High}
-use Rattle.roster_model.specs.Cuts.{group_arc, group_cuts, cuts_from, base_cuts}
+use Rattle.roster_model.specs.Cuts.{group_arc, group_cut_count, group_cuts, cuts_from, base_cuts}
 use Rattle.roster_model.specs.Folds.{sum_n}
 use Rattle.roster_model.specs.SoundInstance.{HasGroups, IsSoundInstance}
-use Rattle.certificates.specs.Walks.{cuts_of}
 
 one_or_none : (b : Bool) (c : Cut) → length (cond b (c ∷ []) []) ≡ cond b 1 0
 one_or_none true c = refl
 one_or_none false c = refl
 
-group_length : (i : Instance) (r : ℕ) (g : Group) → length (group_cuts i r g) ≡ cuts_of i.heads_max g
+group_length : (i : Instance) (r : ℕ) (g : Group) → length (group_cuts i r g) ≡ group_cut_count i.heads_max g
 group_length i r g =
     let both = length-append (cond (nat_lt g.heads_max i.heads_max) (low ∷ []) []) (cond (nat_lt 0 g.heads_min) (high ∷ []) []) in
     omega (arith, both, one_or_none (nat_lt g.heads_max i.heads_max) low, one_or_none (nat_lt 0 g.heads_min) high)
@@ -26,11 +25,11 @@ group_length i r g =
     high : Cut
     high = record { arc = group_arc i.grammar.periods r; side = High; b = g.heads_min - 1 }
 
-cuts_length : (i : Instance) (r : ℕ) (gs : List Group) → length (cuts_from i r gs) ≡ sum_n (cuts_of i.heads_max) gs
+cuts_length : (i : Instance) (r : ℕ) (gs : List Group) → length (cuts_from i r gs) ≡ sum_n (group_cut_count i.heads_max) gs
 cuts_length i r [] = refl
 cuts_length i r (g ∷ gs) = omega (arith, length-append (group_cuts i r g) (cuts_from i (r + 1) gs), group_length i r g, cuts_length i (r + 1) gs)
 
-pub base_length : (i : Instance) → length (base_cuts i) ≡ sum_n (cuts_of i.heads_max) i.groups
+pub base_length : (i : Instance) → length (base_cuts i) ≡ sum_n (group_cut_count i.heads_max) i.groups
 base_length i = cuts_length i (length i.grammar.rules - length i.groups + 1) i.groups
 
 few : (i : Instance) (gs : List Group) → i.groups ≡ gs → HasGroups i gs → length i.groups ≤ 8
