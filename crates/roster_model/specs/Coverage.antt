@@ -1,4 +1,4 @@
--- Coverage of cells, understaffing and surplus, and their penalties.
+-- Coverage of cells, understaffing and overstaffing, and their penalties.
 use Rattle.std.specs.Prelude.{ℕ, ◌≤◌, ◌+◌, ◌-◌, ◌*◌, Bool, ◌&&◌, nat_eq, None, Some, List, slice_get, false}
 use Rattle.roster_model.specs.declared.grammar.Grammar.{Grammar}
 use Rattle.roster_model.specs.declared.instance.Cell.{Cell}
@@ -31,12 +31,12 @@ abbrev pub understaffing : Cell → ℕ → ℕ
 understaffing c n = c.need - n
 
 -- how many employees are there beyond the need
-abbrev pub surplus : Cell → ℕ → ℕ
-surplus c n = n - c.need
+abbrev pub overstaffing : Cell → ℕ → ℕ
+overstaffing c n = n - c.need
 
 -- what n employees at the cell cost
 abbrev pub penalty : Cell → ℕ → ℕ
-penalty c n = c.under * understaffing c n + c.over * surplus c n
+penalty c n = c.under * understaffing c n + c.over * overstaffing c n
 
 -- n employees are within the cell's floor and ceiling
 pub record IsWithinCell (c : Cell) (n : ℕ) : Type 0 where

@@ -4,8 +4,9 @@ ghost use Rattle.roster_model.specs.Limits.{IsDayCell};
 ghost use Rattle.certificates.specs.RosterCauses.{duties};
 ghost use Rattle.roster_part.specs.Counters.{AreCounts, IsCounterFor};
 
+use crate::stated::StatedShift;
 use lane_min::add_matches;
-use roster_model::{Cell, Grammar, Shift};
+use roster_model::{Cell, Grammar};
 
 /// The periods of the longest day.
 const MOST_PERIODS: usize = 96;
@@ -22,13 +23,13 @@ fn add_word(counts: &mut [u32], word: &[u8], byte: u8)
 }
 
 /// Returns how many of the words have the byte in each period of the longest day.
-fn letter_counts(shifts: &[Shift], byte: u8) -> [u32; MOST_PERIODS]
+fn letter_counts(shifts: &[StatedShift], byte: u8) -> [u32; MOST_PERIODS]
     requires few { length shifts.now ≤ 64 }
     ensures { AreCounts byte (duties shifts.now) result }
 {
     let mut counts = [0; MOST_PERIODS];
     for shift in shifts {
-        add_word(&mut counts, shift.word.as_slice(), byte);
+        add_word(&mut counts, shift.word(), byte);
     }
     counts
 }
@@ -65,7 +66,7 @@ impl Counter {
     }
 
     // Counts the letters of a cell's code, if it is not the one that was counted last.
-    fn count(&mut self, grammar: &Grammar, shifts: &[Shift], cell: &Cell)
+    fn count(&mut self, grammar: &Grammar, shifts: &[StatedShift], cell: &Cell)
         requires cell { IsDayCell grammar.now cell.now }
         requires few { length shifts.now ≤ 64 }
         requires counter { IsCounterFor grammar.now (duties shifts.now) self.old }
@@ -80,7 +81,7 @@ impl Counter {
     }
 
     /// Returns how many of the employees work at a cell of the day. A counter is asked of one roster.
-    pub fn coverage(&mut self, grammar: &Grammar, shifts: &[Shift], cell: &Cell) -> u32
+    pub fn coverage(&mut self, grammar: &Grammar, shifts: &[StatedShift], cell: &Cell) -> u32
         requires periods { grammar.now.periods ≤ 96 }
         requires cell { IsDayCell grammar.now cell.now }
         requires few { length shifts.now ≤ 64 }

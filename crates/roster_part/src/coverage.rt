@@ -6,12 +6,13 @@ ghost use Rattle.certificates.specs.RosterCauses.{duties};
 ghost use Rattle.roster_part.specs.Faults.{IsCoverageCause};
 
 use crate::counter::{Counter, code_byte};
+use crate::stated::StatedShift;
 use certificates::Why;
-use roster_model::{Instance, Shift};
+use roster_model::Instance;
 
 /// Returns the first cell whose coverage is outside its floor and ceiling, and `None` where each
 /// cell's coverage is within them. Takes no memory. There are at most 64 shifts.
-pub fn coverage_fault(instance: &Instance, shifts: &[Shift]) -> Option<Why>
+pub fn coverage_fault(instance: &Instance, shifts: &[StatedShift]) -> Option<Why>
     requires sound { IsSoundInstance instance.now }
     requires few { length shifts.now ≤ 64 }
     ensures { MatchOption result

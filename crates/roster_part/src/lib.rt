@@ -6,11 +6,15 @@ mod counter;
 mod coverage;
 mod prices;
 mod roster;
+mod shift_room;
+mod stated;
 mod team;
 mod totals;
 
 pub use coverage::coverage_fault;
 pub use roster::roster_fault;
+pub use shift_room::ShiftRoom;
+pub use stated::StatedShift;
 
 #[cfg(test)]
 mod tests;

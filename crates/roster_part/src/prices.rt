@@ -9,14 +9,15 @@ ghost use Rattle.certificates.specs.Sound.{IsGroupNumber, IsSoundShift};
 ghost use Rattle.span_table.specs.Tables.{IsMadeFor, IsReached};
 ghost use Rattle.roster_part.specs.Faults.{stated_prices, IsPriceCause};
 
+use crate::stated::StatedShift;
 use crate::team::team_name;
 use certificates::Why;
-use roster_model::{Instance, Shift};
+use roster_model::Instance;
 use span_table::Table;
 use word_prices::WordPrices;
 
 /// Returns the price of the shift's word as one of its team, or `None` where it is none.
-fn least_price(instance: &Instance, shift: &Shift, table: &mut Table) -> Option<u64>
+fn least_price(instance: &Instance, shift: &StatedShift, table: &mut Table) -> Option<u64>
     requires sound { IsSoundInstance instance.now }
     requires made { IsMadeFor instance.now.grammar table.old }
     requires group { IsGroupNumber instance.now.groups shift.now.group }
@@ -26,18 +27,22 @@ fn least_price(instance: &Instance, shift: &Shift, table: &mut Table) -> Option<
     ensures reached { (g : Rules) → IsReached g table.old → IsReached g table.new }
 {
     let grammar = &instance.grammar;
-    if shift.word.len() != grammar.periods as usize {
+    if shift.word().len() != grammar.periods as usize {
         return None;
     }
-    let prices = WordPrices::new(grammar, shift.word.as_slice());
+    let prices = WordPrices::new(grammar, shift.word());
     table.least(grammar, &prices);
-    let name = team_name(instance, shift.group);
+    let name = team_name(instance, shift.group());
     prices.price(name, table.value(grammar, name))
 }
 
 /// Returns the first word that is no shift of its team, or else the first shift with another price
 /// than the stated one, or `None` where each word is a shift at its stated price.
-pub(crate) fn price_fault(instance: &Instance, shifts: &[Shift], table: &mut Table) -> Option<Why>
+pub(crate) fn price_fault(
+    instance: &Instance,
+    shifts: &[StatedShift],
+    table: &mut Table,
+) -> Option<Why>
     requires sound { IsSoundInstance instance.now }
     requires made { IsMadeFor instance.now.grammar table.old }
     requires shifts { Each (IsSoundShift instance.now) shifts.now }
@@ -59,16 +64,16 @@ pub(crate) fn price_fault(instance: &Instance, shifts: &[Shift], table: &mut Tab
 }
 
 /// Returns that the shift has another price than the least one, where it has.
-fn other_price(number: u32, shift: &Shift, least: u64) -> Option<Why>
+fn other_price(number: u32, shift: &StatedShift, least: u64) -> Option<Why>
     ensures { MatchOption result (shift.now.price ≡ least)
         (λ why. (shift.now.price ≢ least) × (why ≡ Why.ShiftCost number shift.now.price least)) }
 {
-    if shift.price == least {
+    if shift.price() == least {
         None
     } else {
         Some(Why::ShiftCost {
             shift: number,
-            said: shift.price,
+            said: shift.price(),
             least,
         })
     }

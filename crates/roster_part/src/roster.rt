@@ -9,9 +9,10 @@ ghost use Rattle.span_table.specs.Tables.{IsMadeFor, IsReached};
 ghost use Rattle.roster_part.specs.Faults.{stated_prices, IsRightlyStated, IsRosterCause};
 
 use crate::prices::price_fault;
+use crate::stated::StatedShift;
 use crate::totals::{heads_fault, stated_cost};
 use certificates::Why;
-use roster_model::{Instance, Shift};
+use roster_model::Instance;
 use span_table::Table;
 
 /// Returns the first cause for which a roster is not stated rightly, and `None` where each word is a
@@ -24,7 +25,7 @@ use span_table::Table;
 pub fn roster_fault(
     instance: &Instance,
     cost: u64,
-    shifts: &[Shift],
+    shifts: &[StatedShift],
     table: &mut Table,
 ) -> Option<Why>
     requires sound { IsSoundInstance instance.now }
@@ -46,7 +47,7 @@ pub fn roster_fault(
 }
 
 /// Returns that the roster has another cost at the stated prices, where it has.
-fn cost_fault(instance: &Instance, cost: u64, shifts: &[Shift]) -> Option<Why>
+fn cost_fault(instance: &Instance, cost: u64, shifts: &[StatedShift]) -> Option<Why>
     requires sound { IsSoundInstance instance.now }
     requires few { length shifts.now ≤ 64 }
     requires shifts { Each (IsSoundShift instance.now) shifts.now }

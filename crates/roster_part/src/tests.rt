@@ -3,10 +3,10 @@ ghost use Rattle.roster_model.specs.Folds.{Each};
 ghost use Rattle.roster_model.specs.SoundInstance.{IsSoundInstance};
 ghost use Rattle.certificates.specs.Sound.{IsGroupNumber, IsSoundShift, IsWordByte};
 
-use crate::{coverage_fault, roster_fault};
+use crate::{ShiftRoom, StatedShift, coverage_fault, roster_fault};
 use certificates::Why;
 use roster_model::{
-    Cell, CodeDef, Grammar, Group, Instance, List, Rule, Shift, Sym, Window, is_sound_instance,
+    Cell, CodeDef, Grammar, Group, Instance, List, Rule, Sym, Window, is_sound_instance,
 };
 use span_table::Table;
 use std::alloc::{AllocError, Global};
@@ -163,40 +163,38 @@ fn is_group(groups: &[Group], number: u8) -> bool
     }
 }
 
-fn is_sound_shift(day: &Instance, shift: &Shift) -> bool
+fn is_sound_shift(day: &Instance, shift: &StatedShift) -> bool
     ensures { IsTrue result → IsSoundShift day.now shift.now }
 {
-    !shift.word.is_empty()
-        && shift.word.len() <= 96
-        && is_word(shift.word.as_slice())
-        && is_group(day.groups.as_slice(), shift.group)
-        && shift.price <= 1 << 40
+    !shift.word().is_empty()
+        && shift.word().len() <= 96
+        && is_word(shift.word())
+        && is_group(day.groups.as_slice(), shift.group())
+        && shift.price() <= 1 << 40
 }
 
-fn all_sound_shifts(day: &Instance, shifts: &[Shift]) -> bool
+fn all_sound_shifts(day: &Instance, shifts: &[StatedShift]) -> bool
     ensures { IsTrue result → All (IsSoundShift day.now) shifts.now }
 {
     shifts.iter().all(|shift| is_sound_shift(day, shift))
 }
 
 /// Returns whether a roster may have the shifts.
-fn are_stated(day: &Instance, shifts: &[Shift]) -> bool
+fn are_stated(day: &Instance, shifts: &[StatedShift]) -> bool
     ensures sound { IsTrue result → Each (IsSoundShift day.now) shifts.now }
     ensures few { IsTrue result → length shifts.now ≤ 64 }
 {
     shifts.len() <= 64 && all_sound_shifts(day, shifts)
 }
 
-fn shifts(alloc: Global, stated: &[(u8, &str, u64)]) -> Result<Vec<Shift>, AllocError> {
-    let mut shifts = Vec::new(alloc);
+/// Holds a case's shifts in place of those of the case before.
+fn state(room: &mut ShiftRoom, stated: &[(u8, &str, u64)]) {
+    room.clear();
     for (group, word, price) in stated {
-        shifts.push(Shift {
-            group: *group,
-            word: List::from_vec(word.as_bytes().to_vec(alloc)?),
-            price: *price,
-        })?;
+        if room.shifts().len() < 64 && word.len() <= 96 {
+            room.keep(*group, word.as_bytes(), *price);
+        }
     }
-    Ok(shifts)
 }
 
 /// Judges each case's roster with one table.
@@ -204,12 +202,13 @@ fn judge(rt: &impl Abort, alloc: Global, parts: &Parts, cases: &[Case]) -> Resul
     let day = day(alloc, parts)?;
     assert!(rt; is_sound_instance(&day));
     let mut table = Table::for_instance(alloc, &day.grammar)?;
+    let mut room = ShiftRoom::new(alloc)?;
     for case in cases {
-        let shifts = shifts(alloc, case.shifts)?;
-        assert!(rt; are_stated(&day, shifts.as_slice()));
-        let fault = roster_fault(&day, case.cost, shifts.as_slice(), &mut table);
+        state(&mut room, case.shifts);
+        assert!(rt; are_stated(&day, room.shifts()));
+        let fault = roster_fault(&day, case.cost, room.shifts(), &mut table);
         assert_eq!(rt; fault, case.fault, "{}", case.what);
-        let outside = coverage_fault(&day, shifts.as_slice());
+        let outside = coverage_fault(&day, room.shifts());
         assert_eq!(rt; outside, case.outside, "{}", case.what);
     }
     Ok(())

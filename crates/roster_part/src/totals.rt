@@ -10,20 +10,24 @@ ghost use Rattle.certificates.specs.Sound.{IsSoundShift};
 ghost use Rattle.roster_part.specs.Faults.{stated_prices, IsHeadsCause};
 
 use crate::counter::Counter;
+use crate::stated::StatedShift;
 use crate::team::{team_at, team_count};
 use certificates::Why;
-use roster_model::{Cell, Grammar, Instance, Shift, penalty};
+use roster_model::{Cell, Grammar, Instance, penalty};
 
 /// Returns how many of the shifts are of the team of a number.
-fn members(shifts: &[Shift], number: u8) -> usize
+fn members(shifts: &[StatedShift], number: u8) -> usize
     ensures { result ≡ count_by (λ shift. nat_eq shift.group number) shifts.now }
 {
-    shifts.iter().filter(|shift| shift.group == number).count()
+    shifts
+        .iter()
+        .filter(|shift| shift.group() == number)
+        .count()
 }
 
 /// Returns the first team whose number of shifts is outside its range, or `None` where there is
 /// none.
-pub(crate) fn heads_fault(instance: &Instance, shifts: &[Shift]) -> Option<Why>
+pub(crate) fn heads_fault(instance: &Instance, shifts: &[StatedShift]) -> Option<Why>
     requires sound { IsSoundInstance instance.now }
     requires few { length shifts.now ≤ 64 }
     ensures { MatchOption result (Each (HasHeads (duties shifts.now)) (teams instance.now))
@@ -43,7 +47,7 @@ pub(crate) fn heads_fault(instance: &Instance, shifts: &[Shift]) -> Option<Why>
 }
 
 /// Returns the sum of the stated prices.
-fn paid(shifts: &[Shift]) -> u64
+fn paid(shifts: &[StatedShift]) -> u64
     requires few { length shifts.now ≤ 64 }
     requires small { All (λ s. s.price ≤ 2 ^ 40) shifts.now }
     ensures value { result ≡ sum_n (λ p. p) (stated_prices shifts.now) }
@@ -51,13 +55,13 @@ fn paid(shifts: &[Shift]) -> u64
 {
     let mut sum = 0;
     for shift in shifts {
-        sum += shift.price;
+        sum += shift.price();
     }
     sum
 }
 
 /// Returns the sum of the cells' penalties.
-fn penalties(grammar: &Grammar, cells: &[Cell], shifts: &[Shift]) -> u64
+fn penalties(grammar: &Grammar, cells: &[Cell], shifts: &[StatedShift]) -> u64
     requires periods { grammar.now.periods ≤ 96 }
     requires cells { All (IsDayCell grammar.now) cells.now }
     requires few_cells { length cells.now ≤ 768 }
@@ -74,7 +78,7 @@ fn penalties(grammar: &Grammar, cells: &[Cell], shifts: &[Shift]) -> u64
 }
 
 /// Returns what the roster costs at the stated prices.
-pub(crate) fn stated_cost(instance: &Instance, shifts: &[Shift]) -> u64
+pub(crate) fn stated_cost(instance: &Instance, shifts: &[StatedShift]) -> u64
     requires sound { IsSoundInstance instance.now }
     requires few { length shifts.now ≤ 64 }
     requires shifts { Each (IsSoundShift instance.now) shifts.now }
