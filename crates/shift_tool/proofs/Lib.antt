@@ -2,3 +2,4 @@ mod StepRules
 mod Derivations
 pub mod Readers
 pub mod Checks
+pub mod OneAnswerLemmas

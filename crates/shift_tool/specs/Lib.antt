@@ -4,4 +4,5 @@ pub mod Explain
 pub mod Fetch
 pub mod Check
 pub mod Run
+pub mod OneAnswer
 pub mod Asked

@@ -1,5 +1,6 @@
 ghost use Rattle.std.specs.Prelude.{[], map, string_bytes};
 ghost use Rattle.shift_tool.specs.Form.{form_of, AnswersNoForm};
+ghost use Rattle.shift_tool.specs.OneAnswer.{HasOneAnswer};
 ghost use Rattle.shift_tool.specs.Run.{Does};
 ghost use Rattle.shift_tool.specs.Reader.{IsReader};
 
@@ -32,9 +33,12 @@ fn refuse_words<S: Shelf>(shelf: &mut S) -> u8
 /// | 6 | the shelf refused a call |
 /// | 7 | memory did not suffice |
 ///
-/// A command says its whole answer at once. Status 6 or 7 ends it at the call that was refused.
+/// A command says its whole answer at once. Status 6 or 7 ends it at the call that was refused. But for
+/// these two the same texts always have the same status, and the same text is said, save that
+/// `explain` may print another tree of the same cost.
 pub fn run<S: Shelf>(alloc: Global, shelf: &mut S, words: &[String]) -> u8
-    ensures { Does (form_of (map string_bytes words.now)) (S.told shelf.old) (S.told shelf.new) result }
+    ensures does { Does (form_of (map string_bytes words.now)) (S.told shelf.old) (S.told shelf.new) result }
+    ensures one_answer { HasOneAnswer (form_of (map string_bytes words.now)) }
 {
     match form_of(words) {
         Form::Explain { rules, word } => explain(alloc, shelf, rules, word),

@@ -1,0 +1,149 @@
+-- The same texts have the same answer.
+use Rattle.std.proofs.Common.{◌≡◌, ℕ, List, Option, None, Some, Result, Ok, Err, refl, sym, ap, subst, ◌∙◌, ◌⊎◌, inl, inr, arith, ◌≤◌}
+use Rattle.std.specs.FinMap as fin
+use Rattle.roster_model.specs.declared.grammar.Grammar.{Grammar}
+use Rattle.roster_model.specs.declared.instance.Instance.{Instance}
+use Rattle.roster_model.specs.Shifts.{IsPrice}
+use Rattle.roster_model.specs.Trees.{steps}
+use Rattle.certificates.specs.declared.cert.Cert.{Cert}
+use Rattle.certificates.specs.declared.why.Why.{Why}
+use Rattle.certificates.specs.declared.verdict.Verdict.TheVariants.{Yes, No}
+use Rattle.certificate_laws.specs.Accepted.{Accepts}
+use Rattle.certificate_laws.specs.Causes.{Cause, IsFirstCause}
+use Rattle.certificate_laws.proofs.Refused.{refused as cause-refuses}
+use Rattle.certificate_laws.proofs.OneCause.{one-first}
+use Rattle.rules_text.specs.declared.fault.RulesFault.{RulesFault}
+use Rattle.rules_text.specs.RulesOf.{IsReading}
+use Rattle.rules_text.proofs.OneReading.{one_reading}
+use Rattle.demand_text.specs.declared.fault.DemandFault.{DemandFault}
+use Rattle.demand_text.specs.InstanceOf.{instance_of}
+use Rattle.bound_proof.specs.declared.fault.ProofFault.{ProofFault}
+use Rattle.bound_proof.specs.CertOf.{proof_of}
+use Rattle.bound_proof.specs.FaultLine as proof
+use Rattle.demand_text.specs.FaultLine as demand
+use Rattle.rules_text.specs.FaultLine.{fault_line}
+use Rattle.shift_report.specs.TreeText.{tree_text}
+use Rattle.shelf.specs.Shelf.{Texts}
+use Rattle.shift_report.specs.VerdictText.{verdict_text}
+use Rattle.shift_tool.specs.Check.{SaysYes, SaysNo, Judgement, SaysProofFault, ProofAnswers, AnswersProof, SaysDemandFault, DemandAnswers, AnswersDemand, RulesAnswers, AnswersCheck}
+use Rattle.shift_tool.specs.Check as checks
+use Rattle.shift_tool.specs.Explain.{SaysTree, SaysNone, Derivation, Explanation, AnswersExplain, SaysFault}
+use Rattle.shift_tool.specs.Explain as explains
+use Rattle.shift_tool.specs.OneAnswer.{AreSameButTree, HasOneAnswer}
+use Rattle.shift_tool.specs.Form.{Form, explain, check, none, AnswersNoForm}
+
+-- equal statuses and equal texts
+abbrev AreSame : ℕ → ℕ → List ℕ → List ℕ → Type 0
+AreSame s t a b = (s ≡ t) × (a ≡ b)
+
+same_text : (held : Texts) (name t u : List ℕ) → fin.get held name ≡ Some t → fin.get held name ≡ Some u → t ≡ u
+same_text held name t u e f = let g : Some t ≡ Some u = sym e ∙ f in cc
+
+same_ok : {A E : Type 0} (r : Result A E) (x y : A) → r ≡ Ok x → r ≡ Ok y → x ≡ y
+same_ok r x y e f = let g : Ok x ≡ Ok y = sym e ∙ f in cc
+
+same_err : {A E : Type 0} (r : Result A E) (x y : E) → r ≡ Err x → r ≡ Err y → x ≡ y
+same_err r x y e f = let g : Err x ≡ Err y = sym e ∙ f in cc
+
+not_both : {A E : Type 0} (r : Result A E) (x : A) (y : E) → r ≡ Ok x → r ≡ Err y → ⊥
+not_both r x y e f = let g : Ok x ≡ Err y = sym e ∙ f in cc
+
+-- a certificate is judged in one way
+judged_once : (i : Instance) (c : Cert) (s t : ℕ) (a b : List ℕ) → Judgement i c s a → Judgement i c t b → AreSame s t a b
+judged_once i c s t a b (checks.yes x h) (checks.yes y k) = (refl, h.lines ∙ sym k.lines)
+judged_once i c s t a b (checks.yes x h) (checks.no y k) = absurd (cause-refuses i c h.accepted k.why k.cause.holds)
+judged_once i c s t a b (checks.no x h) (checks.yes y k) = absurd (cause-refuses i c k.accepted h.why h.cause.holds)
+judged_once i c s t a b (checks.no x h) (checks.no y k) =
+    (refl, h.line ∙ ap (λ (w : Why). verdict_text (No w)) (one-first i c h.why k.why h.cause k.cause) ∙ sym k.line)
+
+proof_once : (i : Instance) (text : List ℕ) (s t : ℕ) (a b : List ℕ) → ProofAnswers i text s a → ProofAnswers i text t b → AreSame s t a b
+proof_once i text s t a b (checks.ProofAnswers.accepted c x xs e h) (checks.ProofAnswers.accepted d y ys f k) =
+    judged_once i d s t a b (subst (λ (z : Cert). Judgement i z s a) (same_ok (proof_of i text) c d e f) h) k
+proof_once i text s t a b (checks.ProofAnswers.accepted c x xs e h) (checks.ProofAnswers.refused ys k) = absurd (not_both (proof_of i text) c k.fault e k.reading)
+proof_once i text s t a b (checks.ProofAnswers.refused xs h) (checks.ProofAnswers.accepted d y ys f k) = absurd (not_both (proof_of i text) d h.fault f h.reading)
+proof_once i text s t a b (checks.ProofAnswers.refused xs h) (checks.ProofAnswers.refused ys k) =
+    (refl, h.line ∙ ap (λ (x : ProofFault). proof.fault_line x) (same_err (proof_of i text) h.fault k.fault h.reading k.reading) ∙ sym k.line)
+
+proofs_once : (held : Texts) (i : Instance) (name : List ℕ) (s t : ℕ) (a b : List ℕ) → AnswersProof (Some held) i name s a → AnswersProof (Some held) i name t b → AreSame s t a b
+proofs_once held i name s t a b h k =
+    proof_once i k.text s t a b (subst (λ (x : List ℕ). ProofAnswers i x s a) (same_text held name h.text k.text h.holds k.holds) h.answers) k.answers
+
+demand_once : (held : Texts) (g : Grammar) (text name : List ℕ) (s t : ℕ) (a b : List ℕ) → DemandAnswers (Some held) g text name s a → DemandAnswers (Some held) g text name t b → AreSame s t a b
+demand_once held g text name s t a b (checks.DemandAnswers.accepted i x xs e h) (checks.DemandAnswers.accepted j y ys f k) =
+    proofs_once held j name s t a b
+    (subst (λ (z : Instance). AnswersProof (Some held) z name s a) (same_ok (instance_of g text) i j e.reading f.reading) h) k
+demand_once held g text name s t a b (checks.DemandAnswers.accepted i x xs e h) (checks.DemandAnswers.refused ys k) =
+    absurd (not_both (instance_of g text) i k.fault e.reading k.reading)
+demand_once held g text name s t a b (checks.DemandAnswers.refused xs h) (checks.DemandAnswers.accepted j y ys f k) =
+    absurd (not_both (instance_of g text) j h.fault f.reading h.reading)
+demand_once held g text name s t a b (checks.DemandAnswers.refused xs h) (checks.DemandAnswers.refused ys k) =
+    (refl, h.line ∙ ap (λ (x : DemandFault). demand.fault_line x) (same_err (instance_of g text) h.fault k.fault h.reading k.reading) ∙ sym k.line)
+
+demands_once : (held : Texts) (g : Grammar) (name proof_name : List ℕ) (s t : ℕ) (a b : List ℕ) → AnswersDemand (Some held) g name proof_name s a → AnswersDemand (Some held) g name proof_name t b → AreSame s t a b
+demands_once held g name proof_name s t a b h k =
+    demand_once held g k.text proof_name s t a b
+    (subst (λ (x : List ℕ). DemandAnswers (Some held) g x proof_name s a) (same_text held name h.text k.text h.holds k.holds) h.answers) k.answers
+
+-- a rules text has one grammar
+same_grammar : (text : List ℕ) (g h : Grammar) → IsReading text (Ok g) → IsReading text (Ok h) → g ≡ h
+same_grammar text g h r q = let e : Ok g ≡ Ok h = one_reading text (Ok g) (Ok h) r q in cc
+
+same_fault : (text : List ℕ) (e f : RulesFault) → IsReading text (Err e) → IsReading text (Err f) → e ≡ f
+same_fault text e f r q = let x : Err e ≡ Err f = one_reading text (Err e) (Err f) r q in cc
+
+no_fault : (text : List ℕ) (g : Grammar) (e : RulesFault) → IsReading text (Ok g) → IsReading text (Err e) → ⊥
+no_fault text g e r q = let x : Ok g ≡ Err e = one_reading text (Ok g) (Err e) r q in cc
+
+faults_once : (text a b : List ℕ) → SaysFault text a → SaysFault text b → a ≡ b
+faults_once text a b h k = h.line ∙ ap (λ (x : RulesFault). fault_line x) (same_fault text h.fault k.fault h.reading k.reading) ∙ sym k.line
+
+rules_once : (held : Texts) (text demand proof : List ℕ) (s t : ℕ) (a b : List ℕ) → RulesAnswers (Some held) text demand proof s a → RulesAnswers (Some held) text demand proof t b → AreSame s t a b
+rules_once held text demand proof s t a b (checks.RulesAnswers.accepted g x xs e h) (checks.RulesAnswers.accepted f y ys q k) =
+    demands_once held f demand proof s t a b
+    (subst (λ (z : Grammar). AnswersDemand (Some held) z demand proof s a) (same_grammar text g f e.reading q.reading) h) k
+rules_once held text demand proof s t a b (checks.RulesAnswers.accepted g x xs e h) (checks.RulesAnswers.refused ys k) =
+    absurd (no_fault text g k.fault e.reading k.reading)
+rules_once held text demand proof s t a b (checks.RulesAnswers.refused xs h) (checks.RulesAnswers.accepted f y ys q k) =
+    absurd (no_fault text f h.fault q.reading h.reading)
+rules_once held text demand proof s t a b (checks.RulesAnswers.refused xs h) (checks.RulesAnswers.refused ys k) = (refl, faults_once text a b h k)
+
+check_once : (held : Texts) (rules demand proof : List ℕ) (s t : ℕ) (a b : List ℕ) → AnswersCheck (Some held) rules demand proof s a → AnswersCheck (Some held) rules demand proof t b → AreSame s t a b
+check_once held rules demand proof s t a b h k =
+    rules_once held k.text demand proof s t a b
+    (subst (λ (x : List ℕ). RulesAnswers (Some held) x demand proof s a) (same_text held rules h.text k.text h.holds k.holds) h.answers) k.answers
+
+-- a word has one price
+one_price : (g : Grammar) (name : ℕ) (word : List ℕ) (p q : ℕ) → IsPrice g name word p → IsPrice g name word q → p ≡ q
+one_price g name word p q h k =
+    omega (arith, h.least k.attained.0 k.attained.1, k.least h.attained.0 h.attained.1, h.attained.2, k.attained.2)
+
+derived_once : (g : Grammar) (word : List ℕ) (s t : ℕ) (a b : List ℕ) → Derivation g word s a → Derivation g word t b → (s ≡ t) × AreSameButTree word a b
+derived_once g word s t a b (explains.shift x h) (explains.shift y k) =
+    let same = one_price g g.start word h.price k.price h.is_price k.is_price in
+    (refl, inr (record {
+      grammar = g;
+      price = k.price;
+      one = steps 1 h.tree;
+      other = steps 1 k.tree;
+      first = h.text ∙ ap (λ (p : ℕ). tree_text g word p (steps 1 h.tree)) same;
+      second = k.text;
+    }))
+derived_once g word s t a b (explains.shift x h) (explains.no_shift y k) = absurd (k.no_shift (h.tree, h.derives))
+derived_once g word s t a b (explains.no_shift x h) (explains.shift y k) = absurd (h.no_shift (k.tree, k.derives))
+derived_once g word s t a b (explains.no_shift x h) (explains.no_shift y k) = (refl, inl (h.line ∙ sym k.line))
+
+explained_once : (text word : List ℕ) (s t : ℕ) (a b : List ℕ) → Explanation text word s a → Explanation text word t b → (s ≡ t) × AreSameButTree word a b
+explained_once text word s t a b (explains.accepted g x xs e h) (explains.accepted f y ys q k) =
+    derived_once f word s t a b (subst (λ (z : Grammar). Derivation z word s a) (same_grammar text g f e.reading q.reading) h) k
+explained_once text word s t a b (explains.accepted g x xs e h) (explains.refused ys k) = absurd (no_fault text g k.fault e.reading k.reading)
+explained_once text word s t a b (explains.refused xs h) (explains.accepted f y ys q k) = absurd (no_fault text f h.fault q.reading h.reading)
+explained_once text word s t a b (explains.refused xs h) (explains.refused ys k) = (refl, inl (faults_once text a b h k))
+
+explain_once : (held : Texts) (rules word : List ℕ) (s t : ℕ) (a b : List ℕ) → AnswersExplain (Some held) rules word s a → AnswersExplain (Some held) rules word t b → (s ≡ t) × AreSameButTree word a b
+explain_once held rules word s t a b h k =
+    explained_once k.0 word s t a b (subst (λ (x : List ℕ). Explanation x word s a) (same_text held rules h.0 k.0 h.1 k.1) h.2) k.2
+
+pub has-one-answer : (f : Form) → HasOneAnswer f
+has-one-answer (explain rules word) = λ held s t a b. explain_once held rules word s t a b
+has-one-answer (check rules demand proof) = λ held s t a b. check_once held rules demand proof s t a b
+has-one-answer none = λ s t a b h k. (h.two ∙ sym k.two, h.line ∙ sym k.line)
