@@ -119,15 +119,17 @@ one_price g name word p q h k =
 
 derived_once : (g : Grammar) (word : List ℕ) (s t : ℕ) (a b : List ℕ) → Derivation g word s a → Derivation g word t b → (s ≡ t) × AreSameButTree word a b
 derived_once g word s t a b (explains.shift x h) (explains.shift y k) =
-    let same = one_price g g.start word h.price k.price h.is_price k.is_price in
-    (refl, inr (record {
-      grammar = g;
-      price = k.price;
-      one = steps 1 h.tree;
-      other = steps 1 k.tree;
-      first = h.text ∙ ap (λ (p : ℕ). tree_text g word p (steps 1 h.tree)) same;
-      second = k.text;
-    }))
+    let same = one_price g g.start word h.price k.price h.is_price k.is_price in (
+      refl,
+      inr (record {
+        grammar = g;
+        price = k.price;
+        one = steps 1 h.tree;
+        other = steps 1 k.tree;
+        first = h.text ∙ ap (λ (p : ℕ). tree_text g word p (steps 1 h.tree)) same;
+        second = k.text;
+      }),
+    )
 derived_once g word s t a b (explains.shift x h) (explains.no_shift y k) = absurd (k.no_shift (h.tree, h.derives))
 derived_once g word s t a b (explains.no_shift x h) (explains.shift y k) = absurd (h.no_shift (k.tree, k.derives))
 derived_once g word s t a b (explains.no_shift x h) (explains.no_shift y k) = (refl, inl (h.line ∙ sym k.line))

@@ -51,11 +51,13 @@ pub record SaysProofFault (i : Instance) (text output : List ℕ) : Type 0 where
 
 -- the answers to a proof text
 pub data ProofAnswers (i : Instance) (text : List ℕ) : ℕ → List ℕ → Type 0 where
-  accepted : (c : Cert) (status : ℕ) (output : List ℕ) → proof_of i text ≡ Ok c → Judgement i c status output → ProofAnswers i text status output
+  accepted : (c : Cert) (status : ℕ) (output : List ℕ) → proof_of i text ≡ Ok c → Judgement i c status output
+      → ProofAnswers i text status output
   refused : (output : List ℕ) → SaysProofFault i text output → ProofAnswers i text 5 output
 
 -- the same, where the proof text stands under a name
-pub record AnswersProof (held : Option Texts) (i : Instance) (name : List ℕ) (status : ℕ) (output : List ℕ) : Type 0 where
+pub record AnswersProof (held : Option Texts) (i : Instance) (name : List ℕ) (status : ℕ)
+    (output : List ℕ) : Type 0 where
   pub text : List ℕ
   pub holds : Holds held name text
   pub answers : ProofAnswers i text status output
@@ -73,24 +75,28 @@ pub record SaysDemandFault (g : Grammar) (text output : List ℕ) : Type 0 where
 
 -- the answers to a demand text, and then to the proof text under a name
 pub data DemandAnswers (held : Option Texts) (g : Grammar) (text name : List ℕ) : ℕ → List ℕ → Type 0 where
-  accepted : (i : Instance) (status : ℕ) (output : List ℕ) → IsInstanceOf g text i → AnswersProof held i name status output
+  accepted : (i : Instance) (status : ℕ) (output : List ℕ) → IsInstanceOf g text i
+      → AnswersProof held i name status output
       → DemandAnswers held g text name status output
   refused : (output : List ℕ) → SaysDemandFault g text output → DemandAnswers held g text name 4 output
 
 -- the same, where the demand text stands under a name
-pub record AnswersDemand (held : Option Texts) (g : Grammar) (name proof_name : List ℕ) (status : ℕ) (output : List ℕ) : Type 0 where
+pub record AnswersDemand (held : Option Texts) (g : Grammar) (name proof_name : List ℕ) (status : ℕ)
+    (output : List ℕ) : Type 0 where
   pub text : List ℕ
   pub holds : Holds held name text
   pub answers : DemandAnswers held g text proof_name status output
 
 -- the answers to a rules text, and then to the demand and proof texts under names
 pub data RulesAnswers (held : Option Texts) (text demand_name proof_name : List ℕ) : ℕ → List ℕ → Type 0 where
-  accepted : (g : Grammar) (status : ℕ) (output : List ℕ) → IsGrammarOf text g → AnswersDemand held g demand_name proof_name status output
+  accepted : (g : Grammar) (status : ℕ) (output : List ℕ) → IsGrammarOf text g
+      → AnswersDemand held g demand_name proof_name status output
       → RulesAnswers held text demand_name proof_name status output
   refused : (output : List ℕ) → SaysFault text output → RulesAnswers held text demand_name proof_name 3 output
 
 -- the same, where the rules text stands under a name
-pub record AnswersCheck (held : Option Texts) (name demand_name proof_name : List ℕ) (status : ℕ) (output : List ℕ) : Type 0 where
+pub record AnswersCheck (held : Option Texts) (name demand_name proof_name : List ℕ) (status : ℕ)
+    (output : List ℕ) : Type 0 where
   pub text : List ℕ
   pub holds : Holds held name text
   pub answers : RulesAnswers held text demand_name proof_name status output

@@ -44,9 +44,11 @@ pub record SaysFault (text output : List ℕ) : Type 0 where
 
 -- the answers to a rules text and a word
 pub data Explanation (text word : List ℕ) : ℕ → List ℕ → Type 0 where
-  accepted : (g : Grammar) (status : ℕ) (output : List ℕ) → IsGrammarOf text g → Derivation g word status output → Explanation text word status output
+  accepted : (g : Grammar) (status : ℕ) (output : List ℕ) → IsGrammarOf text g
+      → Derivation g word status output → Explanation text word status output
   refused : (output : List ℕ) → SaysFault text output → Explanation text word 3 output
 
 -- the same, where the rules text stands under a name
 abbrev pub AnswersExplain : Option Texts → List ℕ → List ℕ → ℕ → List ℕ → Type 0
-AnswersExplain held rules word status output = (text : List ℕ) × Holds held rules text × Explanation text word status output
+AnswersExplain held rules word status output =
+    (text : List ℕ) × Holds held rules text × Explanation text word status output

@@ -13,7 +13,8 @@ pub record IsFetch (name : List ℕ) (before after : Told) (text : List ℕ) : T
   pub said : after.said ≡ before.said
   pub never_falls : before.faults ≤ after.faults
   pub stays_steady : IsTrue before.steady → IsTrue after.steady
-  pub quiet : IsTrue before.steady → IfSome before.held (λ texts. IsSome (fin.get texts name) → after.faults ≡ before.faults)
+  pub quiet : IsTrue before.steady → IfSome before.held
+      (λ texts. IsSome (fin.get texts name) → after.faults ≡ before.faults)
 
 -- a command that was refused has no answer
 abbrev pub NoAnswer : ℕ → List ℕ → Type 0

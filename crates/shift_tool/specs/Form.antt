@@ -9,8 +9,10 @@ pub data Form : Type 0 where
   none : Form
 
 abbrev pub form_of : List (List ℕ) → Form
-form_of (command ∷ rules ∷ word ∷ []) = if bytes_eq command (codes "explain") then explain rules word else none
-form_of (command ∷ rules ∷ demand ∷ proof ∷ []) = if bytes_eq command (codes "check") then check rules demand proof else none
+form_of (command ∷ rules ∷ word ∷ []) =
+    if bytes_eq command (codes "explain") then explain rules word else none
+form_of (command ∷ rules ∷ demand ∷ proof ∷ []) =
+    if bytes_eq command (codes "check") then check rules demand proof else none
 form_of _ = none
 
 -- what is said where the words have no form

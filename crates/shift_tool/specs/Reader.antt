@@ -33,11 +33,13 @@ SaidLittle Answers before after = (after ≡ before) ⊎ SaidFront Answers befor
 -- What a command does that stores nothing. `Answers` says with which statuses it may end, and what
 -- it says then; `names` are those of the texts that it fetches. Status 6 is a refusal of the shelf,
 -- and 7 want of memory.
-pub record IsReader (Answers : ℕ → List ℕ → Type 0) (names : List (List ℕ)) (before after : Told) (status : ℕ) : Type 0 where
+pub record IsReader (Answers : ℕ → List ℕ → Type 0) (names : List (List ℕ)) (before after : Told)
+    (status : ℕ) : Type 0 where
   -- nothing is stored, whatever the status
   pub held : after.held ≡ before.held
   -- an answer is one of the allowed ones, and is said whole
-  pub answer : status ≢ 6 → status ≢ 7 → (output : List ℕ) × Answers status output × Said before.said after.said output
+  pub answer : status ≢ 6 → status ≢ 7 → (output : List ℕ) × Answers status output
+      × Said before.said after.said output
   -- after a refusal no more than a front of an allowed answer was said
   pub front : IfSome before.said (λ said. IsSomeAnd after.said (SaidLittle Answers said))
   -- the shelf refuses only where it counts a fault, or its count stands at its last value

@@ -31,7 +31,8 @@ use std::alloc::Global;
 
 // Says why a demand text is refused.
 fn demand_refusal(alloc: Global, fault: DemandFault) -> Result<Answer, Memory>
-    ensures { IfOk result (λ a. (fault ≢ DemandFault.Memory) × (a.status ≡ 4) × (a.output ≡ demand_fault.fault_line fault)) }
+    ensures { IfOk result (λ a. (fault ≢ DemandFault.Memory) × (a.status ≡ 4)
+        × (a.output ≡ demand_fault.fault_line fault)) }
 {
     match fault {
         DemandFault::Memory => Err(Memory),
@@ -64,7 +65,8 @@ fn status_of_verdict(verdict: &Verdict) -> u8
 
 // Says a verdict.
 fn verdict_answer(alloc: Global, verdict: &Verdict) -> Result<Answer, Memory>
-    ensures { IfOk result (λ a. (a.status ≡ verdict_status verdict.now) × (a.output ≡ verdict_text verdict.now)) }
+    ensures { IfOk result (λ a. (a.status ≡ verdict_status verdict.now)
+        × (a.output ≡ verdict_text verdict.now)) }
 {
     Ok(Answer {
         status: status_of_verdict(verdict),
@@ -89,7 +91,8 @@ fn judgement(alloc: Global, instance: &Instance, text: &[u8]) -> Result<Answer, 
 // Checks the certificate of the proof text under a name.
 fn check_proof<S: Shelf>(alloc: Global, shelf: &mut S, instance: &Instance, proof: &str) -> u8
     requires { IsSoundInstance instance.now }
-    ensures { IsReader (AnswersProof (S.told shelf.old).held instance.now proof.now) (proof.now ∷ []) (S.told shelf.old) (S.told shelf.new) result }
+    ensures { IsReader (AnswersProof (S.told shelf.old).held instance.now proof.now) (proof.now ∷ [])
+        (S.told shelf.old) (S.told shelf.new) result }
 {
     let text = match fetched(alloc, shelf, proof) {
         Ok(text) => text,
@@ -108,7 +111,8 @@ fn check_demand_text<S: Shelf>(
 ) -> u8
     requires sound { IsSound grammar }
     requires plain { IsPlain grammar }
-    ensures { IsReader (DemandAnswers (S.told shelf.old).held grammar text.now proof.now) (proof.now ∷ []) (S.told shelf.old) (S.told shelf.new) result }
+    ensures { IsReader (DemandAnswers (S.told shelf.old).held grammar text.now proof.now) (proof.now ∷ [])
+        (S.told shelf.old) (S.told shelf.new) result }
 {
     match read_demand(alloc, grammar, text) {
         Ok(instance) => check_proof(alloc, shelf, &instance, proof),
@@ -126,7 +130,8 @@ fn check_demand<S: Shelf>(
 ) -> u8
     requires sound { IsSound grammar }
     requires plain { IsPlain grammar }
-    ensures { IsReader (AnswersDemand (S.told shelf.old).held grammar demand.now proof.now) (demand.now ∷ proof.now ∷ []) (S.told shelf.old) (S.told shelf.new) result }
+    ensures { IsReader (AnswersDemand (S.told shelf.old).held grammar demand.now proof.now)
+        (demand.now ∷ proof.now ∷ []) (S.told shelf.old) (S.told shelf.new) result }
 {
     let text = match fetched(alloc, shelf, demand) {
         Ok(text) => text,
@@ -143,7 +148,8 @@ fn check_rules_text<S: Shelf>(
     demand: &str,
     proof: &str,
 ) -> u8
-    ensures { IsReader (RulesAnswers (S.told shelf.old).held text.now demand.now proof.now) (demand.now ∷ proof.now ∷ []) (S.told shelf.old) (S.told shelf.new) result }
+    ensures { IsReader (RulesAnswers (S.told shelf.old).held text.now demand.now proof.now)
+        (demand.now ∷ proof.now ∷ []) (S.told shelf.old) (S.told shelf.new) result }
 {
     match read_rules(alloc, text) {
         Ok(grammar) => check_demand(alloc, shelf, grammar, demand, proof),
@@ -154,7 +160,8 @@ fn check_rules_text<S: Shelf>(
 /// Says whether a certificate is accepted, by the rules, demand and proof texts under names, or why
 /// a text or the certificate is refused. The texts are fetched and read in this order.
 pub fn check<S: Shelf>(alloc: Global, shelf: &mut S, rules: &str, demand: &str, proof: &str) -> u8
-    ensures { IsReader (AnswersCheck (S.told shelf.old).held rules.now demand.now proof.now) (rules.now ∷ demand.now ∷ proof.now ∷ []) (S.told shelf.old) (S.told shelf.new) result }
+    ensures { IsReader (AnswersCheck (S.told shelf.old).held rules.now demand.now proof.now)
+        (rules.now ∷ demand.now ∷ proof.now ∷ []) (S.told shelf.old) (S.told shelf.new) result }
 {
     let text = match fetched(alloc, shelf, rules) {
         Ok(text) => text,

@@ -35,10 +35,12 @@ fn no_derivation(alloc: Global) -> Result<Answer, Memory>
 fn tree(alloc: Global, prices: &WordPrices<'_>, table: &Table, price: u64) -> Result<Answer, Memory>
     requires sound { IsSound prices.now.grammar.now }
     requires made { IsMadeFor prices.now.grammar.now table.now }
-    requires filled { IsFilled prices.now.grammar.now (word_view prices.now.grammar.now prices.now.word.now) table.now }
+    requires filled { IsFilled prices.now.grammar.now (word_view prices.now.grammar.now prices.now.word.now)
+        table.now }
     requires length { length prices.now.word.now ≡ prices.now.grammar.now.periods }
     requires price { IsPrice prices.now.grammar.now prices.now.grammar.now.start prices.now.word.now price }
-    ensures { IfOk result (λ a. (a.status ≡ 0) × SaysTree prices.now.grammar.now prices.now.word.now a.output) }
+    ensures { IfOk result (λ a. (a.status ≡ 0) × SaysTree prices.now.grammar.now prices.now.word.now
+        a.output) }
 {
     let grammar = prices.grammar;
     let mut room = TreeRoom::for_grammar(alloc, grammar)?;
@@ -68,7 +70,8 @@ fn derivation(alloc: Global, grammar: &Grammar, word: &[u8]) -> Result<Answer, M
 
 // Says why a rules text is refused.
 pub fn refusal(alloc: Global, fault: RulesFault) -> Result<Answer, Memory>
-    ensures { IfOk result (λ a. (fault ≢ RulesFault.Memory) × (a.status ≡ 3) × (a.output ≡ fault_line fault)) }
+    ensures { IfOk result (λ a. (fault ≢ RulesFault.Memory) × (a.status ≡ 3)
+        × (a.output ≡ fault_line fault)) }
 {
     match fault {
         RulesFault::Memory => Err(Memory),
@@ -91,7 +94,8 @@ fn explanation(alloc: Global, text: &[u8], word: &[u8]) -> Result<Answer, Memory
 
 /// Says the price of a word by the rules text under a name, and a tree of that cost.
 pub fn explain<S: Shelf>(alloc: Global, shelf: &mut S, rules: &str, word: &str) -> u8
-    ensures { IsReader (AnswersExplain (S.told shelf.old).held rules.now word.now) (rules.now ∷ []) (S.told shelf.old) (S.told shelf.new) result }
+    ensures { IsReader (AnswersExplain (S.told shelf.old).held rules.now word.now) (rules.now ∷ [])
+        (S.told shelf.old) (S.told shelf.new) result }
 {
     let mut text = Vec::new(alloc);
     if let Err(fault) = shelf.fetch(rules, &mut text) {

@@ -11,7 +11,8 @@ use std::alloc::Global;
 /// Returns the text under a name, or the status of a refusal.
 pub fn fetched<S: Shelf>(alloc: Global, shelf: &mut S, name: &str) -> Result<Vec<u8>, u8>
     ensures text { IfOk result (λ text. IsFetch name.now (S.told shelf.old) (S.told shelf.new) text.items) }
-    ensures refusal { IfErr result (λ status. IsReader NoAnswer (name.now ∷ []) (S.told shelf.old) (S.told shelf.new) status) }
+    ensures refusal { IfErr result (λ status. IsReader NoAnswer (name.now ∷ []) (S.told shelf.old)
+        (S.told shelf.new) status) }
 {
     let mut text = Vec::new(alloc);
     if let Err(fault) = shelf.fetch(name, &mut text) {

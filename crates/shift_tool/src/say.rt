@@ -24,8 +24,10 @@ pub fn status_of(fault: ShelfFault) -> u8
 pub fn say<S: Shelf>(shelf: &mut S, output: &[u8], status: u8) -> u8
     requires { (status ≢ 6) × (status ≢ 7) }
     ensures status { (result ≡ status) ⊎ ((result ≡ 6) ⊎ (result ≡ 7)) }
-    ensures said { result ≡ status → IfSome (S.told shelf.old).said (λ s. (S.told shelf.new).said ≡ Some (s ++ output.now)) }
-    ensures part { IfSome (S.told shelf.old).said (λ s. IsSomeAnd (S.told shelf.new).said (SaidPart output.now s)) }
+    ensures said { result ≡ status → IfSome (S.told shelf.old).said
+        (λ s. (S.told shelf.new).said ≡ Some (s ++ output.now)) }
+    ensures part { IfSome (S.told shelf.old).said (λ s. IsSomeAnd (S.told shelf.new).said
+        (SaidPart output.now s)) }
     ensures held { (S.told shelf.new).held ≡ (S.told shelf.old).held }
     ensures never_falls { (S.told shelf.old).faults ≤ (S.told shelf.new).faults }
     ensures cause { result ≡ 6 → one_more (S.told shelf.old).faults ≤ (S.told shelf.new).faults }
