@@ -29,7 +29,7 @@ use Rattle.arc_branch.specs.Boxes.{BoxView}
 use Rattle.arc_branch.specs.Costs.{low_of, IsCostOf, pinned_number}
 use Rattle.arc_branch.specs.Paths.{IsBoxOf}
 use Rattle.arc_branch.proofs.Places.{In-at, at-In, once-counted, low-at}
-use Rattle.arc_branch.proofs.Shaping.{arc-shaped}
+use Rattle.span_arcs.proofs.ShapesLemmas.{arc-split}
 use Rattle.arc_branch.proofs.Sorting.{sorted-arcs}
 
 -- all weighted sums of two lists with their counts are the same
@@ -120,7 +120,7 @@ module _ (i : Instance) (v : GraphView) (graph : IsGraph i.grammar v) where
     all_placed : Each (AreNodesPlaced i.grammar) v.arcs
     all_placed =
         Each-in (AreNodesPlaced i.grammar) v.arcs
-        (λ a here. let s = arc-shaped i.grammar a (in-graph i.grammar v.arcs graph.arcs a here) in (made-placed i.grammar sound.grammar a s, used-placed i.grammar sound.grammar a s))
+        (λ a here. let s = arc-split i.grammar a (in-graph i.grammar v.arcs graph.arcs a here) in (made-placed i.grammar sound.grammar a s, used-placed i.grammar sound.grammar a s))
 
     -- numbers that are allowed tell the cost
     pub cost-some : (cost penalties : ℕ) → cost ≡ sum_n (λ a. value a * top_cost i.grammar a) v.arcs → AreAllowed i nodes → penalties ≡ sum_n (λ (c : Cell). penalty c (cell_size i.grammar nodes c)) i.cells

@@ -1,4 +1,3 @@
-pub mod Shaping
 pub mod Places
 pub mod Sorting
 pub mod Costing

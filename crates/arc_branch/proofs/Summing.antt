@@ -12,21 +12,21 @@ use Rattle.arc_laws.specs.Counts.{top_cost}
 use Rattle.arc_laws.proofs.Folding.{sum_n-append}
 use Rattle.parse_graph.specs.Graphs.{HasArcs}
 use Rattle.pinned_part.specs.Net.{IsCounted, IsNet, size_at}
-use Rattle.pinned_part.specs.Places.{IsShaped}
+use Rattle.span_arcs.specs.Shapes.{IsSplit}
 use Rattle.pinned_part.proofs.Netting.{net-step, net-small}
 use Rattle.arc_branch.specs.declared.bounds.Bounds.{Bounds}
 use Rattle.arc_branch.specs.Boxes.{bounds_at, IsSmall}
 use Rattle.arc_branch.specs.Costs.{low_of}
 use Rattle.arc_branch.proofs.Places.{low-at, low-small}
-use Rattle.arc_branch.proofs.Shaping.{arc-shaped}
+use Rattle.span_arcs.proofs.ShapesLemmas.{arc-split}
 
 module _ (g : Grammar) (arcs : List ArcKey) (has : HasArcs g arcs) (k : ℕ) (d : ArcKey) (lt : k < length arcs) where
   there : slice_get arcs k ≡ Some (get_or arcs k d)
   there = slice_get-get_or arcs k d lt
 
   -- the arc has the shape of one
-  pub shaped-at : IsShaped g (get_or arcs k d)
-  shaped-at = arc-shaped g (get_or arcs k d) (has.sound k (get_or arcs k d) there)
+  pub shaped-at : IsSplit g (get_or arcs k d)
+  shaped-at = arc-split g (get_or arcs k d) (has.sound k (get_or arcs k d) there)
 
   more : take (k + 1) arcs ≡ take k arcs ++ get_or arcs k d ∷ []
   more = rw add-one (take-suc arcs k d lt)

@@ -12,7 +12,7 @@ use Rattle.arc_laws.specs.OrNodes.{made, used}
 use Rattle.parse_graph.specs.Graphs.{GraphView, IsGraph, AreKids}
 use Rattle.parse_graph.specs.declared.kid.Kid.{Kid}
 use Rattle.parse_graph.specs.declared.kid.Kid.TheVariants.{Nothing, Letter, Node}
-use Rattle.span_table.proofs.Choosing.{on_some}
+use Rattle.span_cells.proofs.ChoicesLemmas.{on_some}
 use Rattle.cheapest_tree.specs.declared.slots.Links.{Links}
 use Rattle.cheapest_tree.specs.declared.slots.Spot.{Spot}
 use Rattle.cheapest_tree.specs.AtNodes.{arc_total}

@@ -10,7 +10,6 @@ use Rattle.roster_model.specs.Sound.{IsSound}
 use Rattle.arc_laws.specs.Lists.{AreArcs}
 use Rattle.arc_laws.specs.OrNodes.{OrNode, name, suffix, leaf, made, used, root_of}
 use Rattle.arc_laws.proofs.OneList.{one-list}
-use Rattle.span_table.specs.Tables.{TableView, IsMadeFor, IsReached}
 use Rattle.parse_graph.specs.declared.kid.Kid.{Kid}
 use Rattle.parse_graph.specs.declared.node.NodeKey.{NodeKey}
 use Rattle.parse_graph.specs.declared.rows.Entry.{Entry}
@@ -71,11 +70,11 @@ graph-is g arcs keys numbers firsts rests me ue makers users root has few h rows
 }
 
 -- the arcs of the instance have their shape, and there are as many as were counted
-pub all-shaped : (g : Grammar) (t : TableView) → IsSound g → IsMadeFor g t → IsReached g t → (listed : List ArcKey) → AreArcs g listed → All (IsShaped g) listed
-all-shaped g t sound made reached listed are = λ k d l. arc-shaped g t sound made reached _ (are.sound _ (in-from listed k _ (slice_get-get_or listed k d l)))
+pub all-shaped : (g : Grammar) (listed : List ArcKey) → AreArcs g listed → All (IsShaped g) listed
+all-shaped g listed are = λ k d l. arc-shaped g _ (are.sound _ (in-from listed k _ (slice_get-get_or listed k d l)))
 
-pub has-shaped : (g : Grammar) (t : TableView) → IsSound g → IsMadeFor g t → IsReached g t → (arcs : List ArcKey) → HasArcs g arcs → All (IsShaped g) arcs
-has-shaped g t sound made reached arcs has = λ k d l. arc-shaped g t sound made reached _ (has.sound k _ (slice_get-get_or arcs k d l))
+pub has-shaped : (g : Grammar) (arcs : List ArcKey) → HasArcs g arcs → All (IsShaped g) arcs
+has-shaped g arcs has = λ k d l. arc-shaped g _ (has.sound k _ (slice_get-get_or arcs k d l))
 
 pub counted : (g : Grammar) (listed : List ArcKey) (count : ℕ) → IsArcCount g count → AreArcs g listed → length listed ≡ count
 counted g listed count c are = ap length (one-list g listed c.0 are c.1) ∙ sym c.2

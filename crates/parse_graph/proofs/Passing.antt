@@ -7,9 +7,9 @@ use Rattle.roster_model.specs.Arcs.{IsArc, ArcBefore, arc_numbers}
 use Rattle.roster_model.specs.Folds.{Each, In}
 use Rattle.arc_laws.specs.Lists.{IsRising, AreArcs}
 use Rattle.arc_laws.proofs.Folding.{Each-append, Each-same, In-append}
-use Rattle.span_table.specs.Order.{IsNextArc, IsSmall}
-use Rattle.span_table.proofs.Plugging.{In-left, In-right}
-use Rattle.span_table.proofs.Stepping.{before-lower, comes-first, keys_left}
+use Rattle.span_arcs.specs.Order.{IsNextArc, IsSmall}
+use Rattle.span_arcs.proofs.StandLemmas.{In-left, In-right}
+use Rattle.span_arcs.proofs.OrderLemmas.{before-lower, comes-first, keys_left}
 use Rattle.parse_graph.specs.Walks.{IsAhead, IsPassed}
 
 -- what comes after an arc is ahead of the next

@@ -7,7 +7,7 @@ use Rattle.std.proofs.lemmas.Option.{same_Some, slice_get_within, slice_get-get_
 use Rattle.roster_model.specs.declared.grammar.ArcKey.{ArcKey}
 use Rattle.roster_model.specs.Arcs.{ArcBefore, arc_numbers}
 use Rattle.roster_model.specs.Folds.{In}
-use Rattle.span_table.proofs.Stepping.{comes-first}
+use Rattle.span_arcs.proofs.OrderLemmas.{comes-first}
 use Rattle.parse_graph.specs.Levels.{AreInOrder}
 use Rattle.parse_graph.proofs.Leveling.{from-in, not_before, three}
 

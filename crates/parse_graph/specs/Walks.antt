@@ -5,7 +5,7 @@ use Rattle.roster_model.specs.declared.grammar.Grammar.{Grammar}
 use Rattle.roster_model.specs.Arcs.{IsArc, ArcBefore}
 use Rattle.roster_model.specs.Folds.{Each, In}
 use Rattle.arc_laws.specs.Lists.{IsRising, AreArcs}
-use Rattle.span_table.specs.Order.{key_number}
+use Rattle.span_arcs.specs.Order.{key_number}
 
 -- the arc is the next one or comes after it
 abbrev pub IsAhead : Option ArcKey → ArcKey → Type 0

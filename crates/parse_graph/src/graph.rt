@@ -16,7 +16,7 @@ use crate::search::search;
 use crate::walk::{count_arcs, list_arcs};
 use grammar_core::Normal;
 use roster_model::{ArcKey, Grammar, List, Memory};
-use span_table::Table;
+use span_arcs::DayArcs;
 use std::alloc::Global;
 use std::marker::Model;
 
@@ -104,13 +104,12 @@ impl Graph {
         ensures graph { IfOk result (IsGraph grammar.now) }
         ensures refused { IfErr result (IsRefused grammar.now) }
     {
-        let mut table = Table::for_instance(alloc, grammar)?;
-        table.reach(grammar);
-        let count = count_arcs(grammar, &table);
+        let day = DayArcs::for_instance(alloc, grammar)?;
+        let count = count_arcs(grammar, &day);
         if 100_000 < count {
             return Err(GraphFault::TooManyArcs { count });
         }
-        let listed = list_arcs(alloc, grammar, &table)?;
+        let listed = list_arcs(alloc, grammar, &day)?;
         let sorted = sort_upward(alloc, grammar, normal.order.as_slice(), listed.as_slice())?;
         Ok(join(alloc, grammar, sorted)?)
     }

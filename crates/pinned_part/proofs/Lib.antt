@@ -3,5 +3,4 @@ pub mod Placing
 pub mod Touched
 pub mod Adding
 pub mod Netting
-pub mod Passing
 pub mod Pinning

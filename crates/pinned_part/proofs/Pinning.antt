@@ -13,11 +13,10 @@ use Rattle.roster_model.proofs.CostBounds.{cells-le}
 use Rattle.roster_model.proofs.SoundCells.{cells_of_day}
 use Rattle.arc_laws.proofs.Folding.{Each-in}
 use Rattle.bound_laws.specs.Pinned.{IsPinnedValue}
-use Rattle.span_table.specs.Tables.{TableView, IsMadeFor, IsReached}
-use Rattle.pinned_part.specs.Ahead.{AreCounted}
+use Rattle.pinned_part.specs.Counted.{AreCounted}
 use Rattle.pinned_part.specs.Net.{AreZero, IsWithinHeads, AreAllowed, cell_size}
 use Rattle.pinned_part.proofs.Netting.{allowed-counts, counts-allowed, penalties-same}
-use Rattle.pinned_part.proofs.Passing.{arc-shaped}
+use Rattle.span_arcs.proofs.ShapesLemmas.{arc-split}
 use Rattle.pinned_part.proofs.Placing.{made-placed, used-placed}
 use Rattle.pinned_part.proofs.Touched.{AreNodesPlaced}
 
@@ -31,13 +30,13 @@ allowed-told i nodes sound (Some p) zeros heads h =
     let few = cells-le i sound in
     (record { zero = zeros; heads = heads; cells = h.0 }, h.1, omega (arith, h.2, few))
 
-module _ (i : Instance) (cuts : List Cut) (t : TableView) (sound : IsSoundInstance i) (made : IsMadeFor i.grammar t) (reached : IsReached i.grammar t)
+module _ (i : Instance) (cuts : List Cut) (sound : IsSoundInstance i)
     (nodes : List ℤ) (cost : ℕ) (counted : AreCounted i.grammar cuts nodes cost) where
   -- the nodes of all arcs have places
   all_placed : Each (AreNodesPlaced i.grammar) counted.listed
   all_placed =
       Each-in (AreNodesPlaced i.grammar) counted.listed
-      (λ a here. let s = arc-shaped i.grammar t sound.grammar made reached a (counted.are.sound a here) in (made-placed i.grammar sound.grammar a s, used-placed i.grammar sound.grammar a s))
+      (λ a here. let s = arc-split i.grammar a (counted.are.sound a here) in (made-placed i.grammar sound.grammar a s, used-placed i.grammar sound.grammar a s))
 
   -- of counts that are allowed, their cost
   pub pinned-cost : (v : ℕ) → AreAllowed i nodes → v ≡ cost + sum_n (λ (c : Cell). penalty c (cell_size i.grammar nodes c)) i.cells → IsPinnedValue i cuts v

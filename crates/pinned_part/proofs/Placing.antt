@@ -16,11 +16,12 @@ use Rattle.roster_model.specs.Sound.{IsSound, Exists}
 use Rattle.tree_laws.proofs.Rules.{rule_at-within, sound-rule, sound-symbol}
 use Rattle.span_forms.specs.Places.{shorter, place_of}
 use Rattle.span_forms.proofs.Rows.{place-within, place-apart, shorter-small}
-use Rattle.span_table.proofs.Filling.{same-row}
+use Rattle.span_cells.proofs.CellsLemmas.{same-row}
 use Rattle.arc_laws.specs.OrNodes.{OrNode, name, suffix, leaf, same_node, made, made_by, symbol_node, used, used_by}
 use Rattle.arc_laws.proofs.Balanced.{left_of-is, right_of-is}
 use Rattle.arc_laws.proofs.SameArc.{and_both}
-use Rattle.pinned_part.specs.Places.{width, node_count, place_count, span_place, node_place, IsPlaced, IsShaped}
+use Rattle.span_arcs.specs.Shapes.{IsSplit}
+use Rattle.pinned_part.specs.Places.{width, node_count, place_count, span_place, node_place, IsPlaced}
 
 -- there are few places for names and suffixes
 pub few-nodes : (g : Grammar) → IsSound g → node_count g < 2 ^ 40
@@ -168,7 +169,7 @@ module _ (g : Grammar) (sound : IsSound g) where
   symbol-placed (Code c) i l lt day = (lt, day.begins, omega (arith, day.some, day.within, sound.few_periods))
   symbol-placed (Name x) i l lt day = (lt, day)
 
-  pub made-placed : (a : ArcKey) → IsShaped g a → IsPlaced g (made g a)
+  pub made-placed : (a : ArcKey) → IsSplit g a → IsPlaced g (made g a)
   made-placed a h = by a.suffix refl
     where
       by : (k : ℕ) → a.suffix ≡ k → IsPlaced g (made_by g a.rule k a.start a.len)
@@ -177,7 +178,7 @@ module _ (g : Grammar) (sound : IsSound g) where
           let w = rule_at-within g a.rule h.rule h.at in
           (w.0, w.1, omega arith, omega (arith, e, h.symbol, (sound-rule g sound a.rule h.rule h.at).eight), h.day)
 
-  pub used-placed : (a : ArcKey) → IsShaped g a → Each (IsPlaced g) (used g a)
+  pub used-placed : (a : ArcKey) → IsSplit g a → Each (IsPlaced g) (used g a)
   used-placed a h =
       rw (right_of-is g a.rule h.rule h.at)
       (by (cases (length h.rule.right) a.suffix h.symbol))

@@ -1,5 +1,5 @@
 pub mod Loose
 pub mod Places
 pub mod Net
-pub mod Ahead
+pub mod Counted
 pub mod Rooms

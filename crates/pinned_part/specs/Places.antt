@@ -34,14 +34,3 @@ abbrev pub IsPlaced : Grammar → OrNode → Type 0
 IsPlaced g (name x i l) = (x < length g.names) × InDay g.periods i l
 IsPlaced g (suffix r k i l) = (1 ≤ r) × (r ≤ length g.rules) × (1 ≤ k) × (k ≤ 7) × InDay g.periods i l
 IsPlaced g (leaf c) = (c.code < length g.codes) × (1 ≤ c.period) × (c.period ≤ 96)
-
--- what all arcs of the instance have: a rule and one of its symbols, a span of the day, and a first
--- part of it, shorter than the span where other symbols follow
-pub record IsShaped (g : Grammar) (a : ArcKey) : Type 0 where
-  pub rule : Rule
-  pub at : rule_at g a.rule ≡ Some rule
-  pub symbol : a.suffix < length rule.right
-  pub day : InDay g.periods a.start a.len
-  pub some : 1 ≤ a.part
-  pub inside : a.part ≤ a.len
-  pub others : a.suffix + 2 ≤ length rule.right → a.part < a.len

@@ -2,7 +2,8 @@ ghost use Rattle.std.specs.Prelude.{ℕ, ◌≡◌, ◌≤◌, ◌<◌, ◌+ℤ�
 ghost use Rattle.roster_model.specs.Grammar.{rule_at, InDay};
 ghost use Rattle.roster_model.specs.Sound.{IsSound, Exists};
 ghost use Rattle.arc_laws.specs.OrNodes.{made, symbol_node, used};
-ghost use Rattle.pinned_part.specs.Places.{node_place, place_count, IsShaped};
+ghost use Rattle.span_arcs.specs.Shapes.{IsSplit};
+ghost use Rattle.pinned_part.specs.Places.{node_place, place_count};
 ghost use Rattle.pinned_part.specs.Net.{IsCounted, size_at, one_or_two};
 
 use crate::places::{letter_place, name_place, suffix_place};
@@ -20,7 +21,7 @@ pub fn rule_of(grammar: &Grammar, number: u8) -> &Rule
 // The place of the node that an arc makes.
 fn made_place(grammar: &Grammar, arc: &ArcKey) -> usize
     requires sound { IsSound grammar.now }
-    requires shaped { IsShaped grammar.now arc.now }
+    requires shaped { IsSplit grammar.now arc.now }
     ensures place { result ≡ node_place grammar.now (made grammar.now arc.now) }
     ensures within { result < place_count grammar.now }
 {
@@ -58,7 +59,7 @@ struct Uses {
 // The places of the nodes that an arc uses.
 fn used_places(grammar: &Grammar, arc: &ArcKey) -> Uses
     requires sound { IsSound grammar.now }
-    requires shaped { IsShaped grammar.now arc.now }
+    requires shaped { IsSplit grammar.now arc.now }
     ensures places { map (node_place grammar.now) (used grammar.now arc.now) ≡ one_or_two result.first result.rest }
     ensures first { result.first < place_count grammar.now }
     ensures rest { IfSome result.rest (λ p. p < place_count grammar.now) }
@@ -104,7 +105,7 @@ fn take(nodes: &mut [i64], place: usize, count: u32)
 /// those that it uses.
 pub fn count_arc(grammar: &Grammar, nodes: &mut [i64], arc: &ArcKey, count: u32)
     requires sound { IsSound grammar.now }
-    requires shaped { IsShaped grammar.now arc.now }
+    requires shaped { IsSplit grammar.now arc.now }
     requires length { length nodes.old ≡ place_count grammar.now }
     requires count { count ≤ 64 }
     requires room { (p : ℕ) → p < length nodes.old → size_at nodes.old p ≤ 2 ^ 50 }

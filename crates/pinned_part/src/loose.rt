@@ -1,12 +1,12 @@
 ghost use Rattle.std.specs.Prelude.{◌<◌, ◌↔◌, All, IsTrue, MatchOption};
 ghost use Rattle.roster_model.specs.SoundInstance.{IsSoundInstance};
 ghost use Rattle.bound_laws.specs.Pinned.{IsPinned};
-ghost use Rattle.span_table.specs.Tables.{IsMadeFor, IsReached};
+ghost use Rattle.span_arcs.specs.DayArcs.{IsDayArcsOf};
 ghost use Rattle.pinned_part.specs.Loose.{IsSmallCut, IsLoose, IsFirstLoose};
 
 use crate::bounds::{high, low};
 use roster_model::{ArcKey, Cut, Instance};
-use span_table::Table;
+use span_arcs::DayArcs;
 
 // Whether the cuts leave an arc more than one count.
 fn is_loose(instance: &Instance, cuts: &[Cut], arc: &ArcKey) -> bool
@@ -17,21 +17,19 @@ fn is_loose(instance: &Instance, cuts: &[Cut], arc: &ArcKey) -> bool
 }
 
 /// Returns the first arc of the instance to which the cuts leave more than one count, `None` exactly
-/// where they leave each arc one. The table is prepared for the instance's grammar by
-/// [`Table::reach`]. Takes no memory.
-pub fn first_loose(instance: &Instance, cuts: &[Cut], table: &Table) -> Option<ArcKey>
+/// where they leave each arc one. The arcs are those of the instance's grammar. Takes no memory.
+pub fn first_loose(instance: &Instance, cuts: &[Cut], arcs: &DayArcs) -> Option<ArcKey>
     requires sound { IsSoundInstance instance.now }
     requires small { All IsSmallCut cuts.now }
-    requires made { IsMadeFor instance.now.grammar table.now }
-    requires reached { IsReached instance.now.grammar table.now }
+    requires arcs { IsDayArcsOf instance.now.grammar arcs.now }
     ensures { MatchOption result (IsPinned instance.now cuts.now) (IsFirstLoose instance.now cuts.now) }
 {
-    let mut next = table.next_arc(&instance.grammar, None);
+    let mut next = arcs.next_arc(&instance.grammar, None);
     while let Some(arc) = next {
         if is_loose(instance, cuts, &arc) {
             return Some(arc);
         }
-        next = table.next_arc(&instance.grammar, Some(arc));
+        next = arcs.next_arc(&instance.grammar, Some(arc));
     }
     None
 }

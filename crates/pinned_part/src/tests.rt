@@ -2,7 +2,7 @@ use crate::{Balances, first_loose, high, low, pinned_value};
 use roster_model::{
     ArcKey, Cell, CodeDef, Cut, Grammar, Instance, List, Rule, Side, Sym, Window, is_sound_instance,
 };
-use span_table::Table;
+use span_arcs::DayArcs;
 use std::alloc::{AllocError, Global};
 use std::test::Fail;
 
@@ -132,11 +132,10 @@ fn judged(
     if !cuts.iter().all(|cut| cut.b <= 63) {
         return Err(Fail::from("a wide cut"));
     }
-    let mut table = Table::for_instance(rt.alloc(), &instance.grammar)?;
-    table.reach(&instance.grammar);
+    let arcs = DayArcs::for_instance(rt.alloc(), &instance.grammar)?;
     let mut balances = Balances::for_instance(rt.alloc(), &instance.grammar)?;
-    let value = pinned_value(instance, cuts, &table, &mut balances);
-    let loose = first_loose(instance, cuts, &table);
+    let value = pinned_value(instance, cuts, &arcs, &mut balances);
+    let loose = first_loose(instance, cuts, &arcs);
     Ok((value, loose))
 }
 

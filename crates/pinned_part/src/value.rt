@@ -5,7 +5,7 @@ ghost use Rattle.roster_model.specs.Coverage.{penalty};
 ghost use Rattle.roster_model.specs.Folds.{sum_n};
 ghost use Rattle.roster_model.specs.SoundInstance.{IsSoundInstance};
 ghost use Rattle.bound_laws.specs.Pinned.{IsPinnedValue};
-ghost use Rattle.span_table.specs.Tables.{IsMadeFor, IsReached};
+ghost use Rattle.span_arcs.specs.DayArcs.{IsDayArcsOf};
 ghost use Rattle.pinned_part.specs.Loose.{IsSmallCut};
 ghost use Rattle.pinned_part.specs.Net.{AreAllowed, cell_size};
 ghost use Rattle.pinned_part.specs.Places.{place_count};
@@ -16,7 +16,7 @@ use crate::judging::{are_heads, are_zero};
 use crate::penalties::penalties;
 use crate::walk::count_arcs;
 use roster_model::{Cut, Instance, greatest_cost};
-use span_table::Table;
+use span_arcs::DayArcs;
 
 /// Returns the penalties of the cells at the numbers at the places, `None` exactly where these are the
 /// numbers of no allowed roster: where a name or suffix but the root is not balanced, the root's
@@ -43,24 +43,22 @@ pub fn allowed_penalties(instance: &Instance, nodes: &[i64]) -> Option<u64>
 /// arcs, or one more than the greatest cost where these are the counts of no allowed roster. Where
 /// the cuts leave each arc one count, it is the cost of each roster that meets them.
 ///
-/// The table is prepared for the instance's grammar by [`Table::reach`], and the room was made for
-/// it. Takes no memory.
+/// The arcs are those of the instance's grammar, and the room was made for it. Takes no memory.
 pub fn pinned_value(
     instance: &Instance,
     cuts: &[Cut],
-    table: &Table,
+    arcs: &DayArcs,
     balances: &mut Balances,
 ) -> u64
     requires sound { IsSoundInstance instance.now }
     requires small { All IsSmallCut cuts.now }
-    requires made { IsMadeFor instance.now.grammar table.now }
-    requires reached { IsReached instance.now.grammar table.now }
+    requires arcs { IsDayArcsOf instance.now.grammar arcs.now }
     requires room { IsRoomFor instance.now.grammar balances.old }
     ensures value { IsPinnedValue instance.now cuts.now result }
     ensures room { (g : Rules) → IsRoomFor g balances.old → IsRoomFor g balances.new }
 {
     let nodes = balances.nodes.as_mut_slice();
-    let cost = count_arcs(&instance.grammar, cuts, table, nodes);
+    let cost = count_arcs(&instance.grammar, cuts, arcs, nodes);
     match allowed_penalties(instance, nodes) {
         Some(penalties) => cost + penalties,
         None => greatest_cost(instance) + 1,

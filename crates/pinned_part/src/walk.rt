@@ -1,20 +1,21 @@
 ghost use Rattle.std.specs.Prelude.{ℕ, ◌≡◌, ◌≤◌, ◌<◌, ◌*◌, ◌^◌, pos, All, length, slice_index_or};
 ghost use Rattle.roster_model.specs.Sound.{IsSound};
 ghost use Rattle.arc_laws.specs.Counts.{top_cost};
-ghost use Rattle.span_table.specs.Tables.{IsMadeFor, IsReached};
-ghost use Rattle.pinned_part.specs.Places.{place_count, IsShaped};
+ghost use Rattle.span_arcs.specs.DayArcs.{IsDayArcsOf};
+ghost use Rattle.span_arcs.specs.Shapes.{IsSplit};
+ghost use Rattle.pinned_part.specs.Places.{place_count};
 ghost use Rattle.pinned_part.specs.Loose.{IsSmallCut};
-ghost use Rattle.pinned_part.specs.Ahead.{AreCounted};
+ghost use Rattle.pinned_part.specs.Counted.{AreCounted};
 
 use crate::bounds::low;
 use crate::counting::{count_arc, rule_of};
 use roster_model::{ArcKey, Cut, Grammar};
-use span_table::Table;
+use span_arcs::DayArcs;
 
 /// Returns the cost of the arc's rule where it is the arc of the whole right side, and otherwise 0.
 pub fn arc_cost(grammar: &Grammar, arc: &ArcKey) -> u32
     requires sound { IsSound grammar.now }
-    requires shaped { IsShaped grammar.now arc.now }
+    requires shaped { IsSplit grammar.now arc.now }
     ensures value { result ≡ top_cost grammar.now arc.now }
     ensures within { result ≤ 10000 }
 {
@@ -35,23 +36,22 @@ pub fn clear(nodes: &mut [i64])
 
 /// Counts all arcs of the instance by the least counts that the cuts leave them, and returns what
 /// their rules cost.
-pub fn count_arcs(grammar: &Grammar, cuts: &[Cut], table: &Table, nodes: &mut [i64]) -> u64
+pub fn count_arcs(grammar: &Grammar, cuts: &[Cut], arcs: &DayArcs, nodes: &mut [i64]) -> u64
     requires sound { IsSound grammar.now }
     requires small { All IsSmallCut cuts.now }
-    requires made { IsMadeFor grammar.now table.now }
-    requires reached { IsReached grammar.now table.now }
+    requires arcs { IsDayArcsOf grammar.now arcs.now }
     requires length { length nodes.old ≡ place_count grammar.now }
     ensures counted { AreCounted grammar.now cuts.now nodes.new result }
     ensures within { result ≤ 2 ^ 60 }
 {
     clear(nodes);
     let mut cost = 0;
-    let mut next = table.next_arc(grammar, None);
+    let mut next = arcs.next_arc(grammar, None);
     while let Some(arc) = next {
         let count = low(cuts, &arc);
         count_arc(grammar, nodes, &arc, count);
         cost += u64::from(count) * u64::from(arc_cost(grammar, &arc));
-        next = table.next_arc(grammar, Some(arc));
+        next = arcs.next_arc(grammar, Some(arc));
     }
     cost
 }

@@ -6,7 +6,7 @@ ghost use Rattle.roster_model.specs.SoundInstance.{IsSoundInstance};
 ghost use Rattle.roster_model.specs.Sums.{Within};
 ghost use Rattle.bound_laws.specs.Lagrangian.{IsLeastReduced};
 ghost use Rattle.bound_laws.specs.Priced.{rounded_up, IsPricedValue};
-ghost use Rattle.span_table.specs.Tables.{IsMadeFor, IsReached};
+ghost use Rattle.span_table.specs.Tables.{IsMadeFor};
 ghost use Rattle.priced_part.specs.Filled.{IsFilledForAll};
 
 use crate::infeasible::is_plainly_infeasible;
@@ -39,7 +39,6 @@ pub fn priced_value(
     ensures room { IsRoomFor room.new instance.now }
     ensures most { room.new.most ≡ room.old.most }
     ensures kept { (g : Rules) → IsMadeFor g table.old → IsMadeFor g table.new }
-    ensures reached { (g : Rules) → IsReached g table.old → IsReached g table.new }
 {
     let least = least_reduced(instance, d, cell, mult, cuts, room, table);
     let none = greatest_cost(instance) + 1;
@@ -72,7 +71,6 @@ fn least_reduced(
     ensures room { IsRoomFor room.new instance.now }
     ensures most { room.new.most ≡ room.old.most }
     ensures kept { (g : Rules) → IsMadeFor g table.old → IsMadeFor g table.new }
-    ensures reached { (g : Rules) → IsReached g table.old → IsReached g table.new }
 {
     room.set_parts(instance, d, cell, mult, cuts);
     table.least(&instance.grammar, room)

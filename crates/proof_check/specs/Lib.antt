@@ -1,6 +1,7 @@
 pub mod Stacks
 pub mod Views
 pub mod Walked
+pub mod Rooms
 pub mod Steps
 pub mod Verdicts
 pub mod KeptShifts

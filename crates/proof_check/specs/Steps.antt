@@ -3,15 +3,13 @@ use Rattle.std.specs.Prelude.{ℕ, ◌≡◌, ◌+◌, ◌≤◌, ◌<◌, Bool,
 use Rattle.roster_model.specs.declared.instance.Cut.{Cut}
 use Rattle.roster_model.specs.declared.instance.Instance.{Instance}
 use Rattle.roster_model.specs.Cuts.{base_cuts}
-use Rattle.roster_model.specs.PriceRooms.{IsRoomFor}
 use Rattle.certificates.specs.declared.cert.Node.{Node}
 use Rattle.certificates.specs.declared.cert.Node.TheVariants.{Split, Priced, Pinned, Bare}
 use Rattle.certificates.specs.declared.why.Why.{Why}
 use Rattle.certificates.specs.Nodes.{Proof, preorder, Visit, visits}
 use Rattle.certificates.specs.Sound.{IsSoundNode}
 use Rattle.certificate_laws.specs.Walk.{path, LeadsTo, MakeVisits, ValueNext, VisitsNext}
-use Rattle.pinned_part.specs.Rooms.{IsRoomFor as HasPlaces}
-use Rattle.span_table.specs.Tables.{IsMadeFor, IsReached}
+use Rattle.proof_check.specs.Rooms.{AreTablesFor, AreRoomsFor}
 use Rattle.proof_check.specs.declared.bench.Bench.{Bench}
 use Rattle.proof_check.specs.declared.walk.Walk.{Walk}
 use Rattle.bound_proof.specs.PieceList.{after_leaf}
@@ -20,11 +18,8 @@ use Rattle.proof_check.specs.Walked.{IsVisitCause, IsVisitsCause, lesser_cause}
 
 -- the bench was made for the instance
 pub record IsBenchFor (i : Instance) (b : Bench) : Type 0 where
-  pub made : IsMadeFor i.grammar b.table
-  pub reached : IsReached i.grammar b.table
-  pub room : IsRoomFor b.room i
-  pub mults : b.room.most ≡ 1500
-  pub balances : HasPlaces i.grammar b.balances
+  pub tables : AreTablesFor i.grammar b.tables
+  pub rooms : AreRoomsFor i b.rooms
   pub base : b.stack.base ≡ base_cuts i
 
 -- how many nodes a certificate may have that is judged at the bench

@@ -10,25 +10,22 @@ ghost use Rattle.proof_check.specs.Views.{prices_of, own_prices, node_of};
 ghost use Rattle.proof_check.specs.Walked.{IsVisitCause};
 
 use crate::node::{NodeView, PricesView};
+use crate::rooms::Rooms;
 use crate::stack::Stack;
+use crate::tables::Tables;
 use crate::walk::{Walk, lesser_cause};
 use certificates::{Node, Why};
-use pinned_part::{Balances, first_loose, high, low, pinned_value};
+use pinned_part::{first_loose, high, low, pinned_value};
 use priced_part::priced_value;
-use roster_model::{ArcKey, Instance, Memory, PriceRoom};
-use span_table::Table;
+use roster_model::{ArcKey, Instance, Memory};
 use std::alloc::Global;
-
-/// How many multipliers prices may have.
-const MOST_MULTS: usize = 1500;
 
 /// What judging a certificate needs: a table of sums, rooms for prices and for the counts of pinned
 /// leaves, and a stack of open splits. It takes all its memory when it is made.
 #[derive(Drop)]
 pub struct Bench {
-    pub(crate) table: Table,
-    pub(crate) room: PriceRoom,
-    pub(crate) balances: Balances,
+    pub(crate) tables: Tables,
+    pub(crate) rooms: Rooms,
     pub(crate) stack: Stack,
 }
 
@@ -44,15 +41,12 @@ impl Bench {
         ensures bench { IfOk result (IsBenchFor instance.now) }
         ensures most { IfOk result (λ b. node_room b ≡ most) }
     {
-        let mut table = Table::for_instance(alloc, &instance.grammar)?;
-        table.reach(&instance.grammar);
-        let room = PriceRoom::for_cuts(alloc, instance, MOST_MULTS)?;
-        let balances = Balances::for_instance(alloc, &instance.grammar)?;
         let stack = Stack::for_splits(alloc, instance, most)?;
+        let rooms = Rooms::for_instance(alloc, instance)?;
+        let tables = Tables::for_instance(alloc, &instance.grammar)?;
         Ok(Bench {
-            table,
-            room,
-            balances,
+            tables,
+            rooms,
             stack,
         })
     }
@@ -73,8 +67,8 @@ impl Bench {
             prices.cell,
             prices.mult,
             self.stack.path(),
-            &mut self.room,
-            &mut self.table,
+            &mut self.rooms.prices,
+            &mut self.tables.sums,
         )
     }
 
@@ -115,8 +109,8 @@ impl Bench {
             NodeView::Pinned if is_right => pinned_value(
                 instance,
                 self.stack.path(),
-                &self.table,
-                &mut self.balances,
+                &self.tables.arcs,
+                &mut self.rooms.balances,
             ),
             _ => 0,
         }
@@ -161,7 +155,7 @@ impl Bench {
         requires small { AreSmall (way self.now.stack) }
         ensures { (own : Option NodePrices) → IsVisitCause instance.now (next_visit self.now.stack (Node.Split arc.now b own)) node result }
     {
-        if !self.table.has_arc(&instance.grammar, arc) {
+        if !self.tables.arcs.has_arc(&instance.grammar, arc) {
             return Some(Why::NotAnArc { node });
         }
         let cuts = self.stack.path();
@@ -178,7 +172,7 @@ impl Bench {
         requires small { AreSmall (way self.now.stack) }
         ensures { IsVisitCause instance.now (next_visit self.now.stack Node.Pinned) node result }
     {
-        match first_loose(instance, self.stack.path(), &self.table) {
+        match first_loose(instance, self.stack.path(), &self.tables.arcs) {
             Some(arc) => Some(Why::NotPinned { node, arc }),
             None => None,
         }

@@ -64,7 +64,7 @@ impl Bench {
         ensures stack { self.new.stack ≡ self.old.stack }
     {
         match cost {
-            Some(cost) => roster_fault(instance, cost, shifts, &mut self.table),
+            Some(cost) => roster_fault(instance, cost, shifts, &mut self.tables.sums),
             None => None,
         }
     }

@@ -11,9 +11,11 @@ mod bench;
 mod judge;
 mod judged;
 mod node;
+mod rooms;
 mod seen;
 mod shift_room;
 mod stack;
+mod tables;
 #[cfg(test)]
 mod tests;
 mod text;

@@ -6,7 +6,7 @@ ghost use Rattle.roster_model.specs.Rosters.{ArePrices, IsTeamPrice};
 ghost use Rattle.roster_model.specs.SoundInstance.{IsSoundInstance};
 ghost use Rattle.certificates.specs.RosterCauses.{duties, IsNoShift};
 ghost use Rattle.certificates.specs.Sound.{IsGroupNumber, IsSoundShift};
-ghost use Rattle.span_table.specs.Tables.{IsMadeFor, IsReached};
+ghost use Rattle.span_table.specs.Tables.{IsMadeFor};
 ghost use Rattle.roster_part.specs.Faults.{stated_prices, IsPriceCause};
 
 use crate::stated::StatedShift;
@@ -24,7 +24,6 @@ fn least_price(instance: &Instance, shift: &StatedShift, table: &mut Table) -> O
     ensures value { MatchOption result (IsNoShift instance.now shift.now)
         (λ price. IsTeamPrice instance.now (duty shift.now) price) }
     ensures kept { (g : Rules) → IsMadeFor g table.old → IsMadeFor g table.new }
-    ensures reached { (g : Rules) → IsReached g table.old → IsReached g table.new }
 {
     let grammar = &instance.grammar;
     if shift.word().len() != grammar.periods as usize {
@@ -50,7 +49,6 @@ pub(crate) fn price_fault(
     ensures value { MatchOption result (ArePrices instance.now (duties shifts.now) (stated_prices shifts.now))
         (IsPriceCause instance.now shifts.now) }
     ensures kept { (g : Rules) → IsMadeFor g table.old → IsMadeFor g table.new }
-    ensures reached { (g : Rules) → IsReached g table.old → IsReached g table.new }
 {
     let mut mispriced = None;
     for (place, shift) in shifts.iter().enumerate() {

@@ -5,7 +5,7 @@ ghost use Rattle.roster_model.specs.SoundInstance.{IsSoundInstance};
 ghost use Rattle.roster_model.specs.Rosters.{roster_cost};
 ghost use Rattle.certificates.specs.RosterCauses.{duties};
 ghost use Rattle.certificates.specs.Sound.{IsSoundShift};
-ghost use Rattle.span_table.specs.Tables.{IsMadeFor, IsReached};
+ghost use Rattle.span_table.specs.Tables.{IsMadeFor};
 ghost use Rattle.roster_part.specs.Faults.{stated_prices, IsRightlyStated, IsRosterCause};
 
 use crate::prices::price_fault;
@@ -35,7 +35,6 @@ pub fn roster_fault(
     ensures value { MatchOption result (IsRightlyStated instance.now cost shifts.now)
         (IsRosterCause instance.now cost shifts.now) }
     ensures kept { (g : Rules) → IsMadeFor g table.old → IsMadeFor g table.new }
-    ensures reached { (g : Rules) → IsReached g table.old → IsReached g table.new }
 {
     if let Some(why) = price_fault(instance, shifts, table) {
         return Some(why);

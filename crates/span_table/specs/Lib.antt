@@ -1,11 +1,2 @@
-pub mod Numbers
-pub mod Periods
-pub mod Chains
-pub mod Cells
-pub mod Choices
-pub mod Building
 pub mod Tables
 pub mod Walks
-pub mod Marks
-pub mod Free
-pub mod Order

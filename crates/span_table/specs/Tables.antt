@@ -1,31 +1,20 @@
 -- What a contract sees of a table.
-use Rattle.std.specs.Prelude.{◌≡◌, Bool, List, IsSome, length}
+use Rattle.std.specs.Prelude.{◌≡◌, IsSome}
 use Rattle.roster_model.specs.declared.grammar.Grammar.{Grammar}
 use Rattle.roster_model.specs.Trees.{Parts, IsDayTree, steps}
 use Rattle.roster_model.specs.Sums.{PriceView, tree_sum, IsLeast}
 use Rattle.roster_model.specs.Room.{RoomView}
-use Rattle.span_table.specs.declared.slot.Layout.{Layout}
-use Rattle.span_table.specs.Cells.{Held, IsReady, AreFilled, cell_count}
-use Rattle.span_table.specs.Marks.{free_view, AreMarked}
+use Rattle.span_cells.specs.declared.slot.Layout.{Layout}
+use Rattle.span_cells.specs.Cells.{Held, IsReady, AreFilled}
 
--- the slots of a table, and by their places its cells, its cells for free prices, and its marks
+-- the slots of a table, and by their places its cells
 pub record TableView : Type 0 where
   pub layout : Layout
   pub cells : Held
-  pub free : Held
-  pub marks : List Bool
 
 -- the table was made for the grammar
 pub record IsMadeFor (g : Grammar) (t : TableView) : Type 0 where
   pub ready : IsReady g t.layout t.cells
-  pub free : IsReady g t.layout t.free
-  pub marks : length t.marks ≡ cell_count t.layout
-
--- the table is prepared to tell the arcs of the grammar: its free cells tell what derives, and its
--- marks what stands in trees of the day
-pub record IsReached (g : Grammar) (t : TableView) : Type 0 where
-  pub derived : AreFilled g free_view t.layout t.free
-  pub marked : AreMarked g t.layout t.marks
 
 -- the table is filled for a grammar and prices: for each name and suffix on each span of the day its
 -- cell is the least sum there, or none

@@ -10,8 +10,8 @@ use Rattle.roster_model.specs.Sums.{PriceView, tree_sum, parts_sum, SymbolLeast,
 use Rattle.roster_model.specs.Sound.{IsSound, Exists}
 use Rattle.roster_model.specs.Room.{RoomView}
 use Rattle.tree_laws.specs.Parts.{use_count}
-use Rattle.span_table.specs.declared.slot.Layout.{Layout}
-use Rattle.span_table.specs.Cells.{Held, IsReady, AreFilled, name_slot}
+use Rattle.span_cells.specs.declared.slot.Layout.{Layout}
+use Rattle.span_cells.specs.Cells.{Held, IsReady, AreFilled, name_slot}
 
 -- some tree of the symbol on the span has a sum
 abbrev pub HasTree : Grammar → PriceView → Sym → ℕ → ℕ → Type 0

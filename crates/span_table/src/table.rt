@@ -1,24 +1,14 @@
-ghost use Rattle.std.specs.Prelude.{◌≡◌, ◌<◌, ◌↔◌, IsTrue, IfOk, length};
+ghost use Rattle.std.specs.Prelude.{◌≡◌, ◌<◌, IfOk, length};
 ghost use Rattle.roster_model.specs.declared.grammar.Grammar.{Grammar as Rules};
-ghost use Rattle.roster_model.specs.Arcs.{IsArc};
 ghost use Rattle.roster_model.specs.Room.{most_uses};
 ghost use Rattle.roster_model.specs.Sound.{IsSound};
 ghost use Rattle.roster_model.specs.Trees.{IsDayTree, IsTreeOf};
 ghost use Rattle.roster_model.specs.Sums.{PriceView, IsLeast, tree_sum};
-ghost use Rattle.span_table.specs.Order.{IsNextArc};
-ghost use Rattle.span_table.specs.Tables.{IsMadeFor, IsFilled, IsReached, HasDaySum, HoldsLeastTree};
+ghost use Rattle.span_table.specs.Tables.{IsMadeFor, IsFilled, HasDaySum, HoldsLeastTree};
 
-use crate::arcs::{is_arc, next_arc};
-use crate::build::layout_of;
-use crate::fill::fill;
-use crate::free::Free;
-use crate::free_cells::FreeCells;
-use crate::layout;
-use crate::marks::mark_all;
-use crate::slot::{Layout, Span};
-use crate::sum_cells::SumCells;
 use crate::walk::write_tree;
-use roster_model::{ArcKey, Grammar, LetterPrice, Memory, Sym, TreeRoom};
+use roster_model::{Grammar, LetterPrice, Memory, Sym, TreeRoom};
+use span_cells::{Layout, Span, SumCells, fill_cells, layout_of, sum_at};
 use std::alloc::Global;
 use std::marker::Model;
 
@@ -28,45 +18,33 @@ use std::marker::Model;
 pub struct Table {
     layout: Layout,
     cells: SumCells,
-    // The cells for free prices, which tell what derives.
-    free: FreeCells,
-    // Which slots stand in trees of the day, by their places.
-    marks: Vec<bool>,
 }
 
 impl Model for Table {
-    ghost use Rattle.span_table.specs.Order.{IsNextArc};
     ghost use Rattle.span_table.specs.Tables.{TableView};
 
     ghost Value = { TableView };
 
-    ghost view = { λ t. record { layout = t.layout; cells = t.cells; free = t.free; marks = t.marks.items } };
+    ghost view = { λ t. record { layout = t.layout; cells = t.cells } };
 }
 
 impl Table {
     /// Returns a table for the trees of a sound grammar. Later calls take the same grammar.
     ///
-    /// It has taken the memory for all of them: 18 bytes for each name, and for each suffix of two or
-    /// more symbols that is not a whole right side, on each span of the day, and 64 bytes for each of
+    /// It has taken the memory for all of them: 16 bytes for each name, and for each suffix of two or
+    /// more symbols that is not a whole right side, on each span of the day, and 32 bytes for each of
     /// these at each period.
+    ///
+    /// # Errors
+    ///
+    /// `Memory` where memory runs out; nothing is kept then.
     pub fn for_instance(alloc: Global, grammar: &Grammar) -> Result<Table, Memory>
         requires { IsSound grammar.now }
         ensures { IfOk result (IsMadeFor grammar.now) }
     {
         let layout = layout_of(alloc, grammar)?;
-        let count = layout.spans.count() * layout.slots.len();
-        let spots = (grammar.periods as usize + 2) * layout.slots.len();
-        let cells = SumCells::new(alloc, count, spots)?;
-        let free = FreeCells::new(alloc, count, spots)?;
-        let Ok(marks) = vec![in alloc; false; count] else {
-            return Err(Memory);
-        };
-        Ok(Table {
-            layout,
-            cells,
-            free,
-            marks,
-        })
+        let cells = SumCells::for_layout(alloc, grammar, &layout)?;
+        Ok(Table { layout, cells })
     }
 
     /// Fills the table for the prices, and returns the least sum over all trees of the start name on
@@ -77,9 +55,8 @@ impl Table {
         ensures least { IsLeast (IsDayTree grammar.now) (tree_sum (P.view prices.now) 1) result }
         ensures filled { IsFilled grammar.now (P.view prices.now) self.new }
         ensures kept { (g : Rules) → IsMadeFor g self.old → IsMadeFor g self.new }
-        ensures reached { (g : Rules) → IsReached g self.old → IsReached g self.new }
     {
-        fill(grammar, prices, &self.layout, &mut self.cells);
+        fill_cells(grammar, prices, &self.layout, &mut self.cells);
         self.value(grammar, grammar.start)
     }
 
@@ -97,7 +74,7 @@ impl Table {
             len: grammar.periods,
         };
         let slot = self.layout.names[name as usize];
-        layout::read(&self.layout, &self.cells, slot, day)
+        sum_at(&self.layout, &self.cells, slot, day)
     }
 
     /// Leaves in the room the steps of a tree of the day of least sum, under the prices for which
@@ -118,53 +95,5 @@ impl Table {
         };
         let start = Sym::Name(grammar.start);
         write_tree(grammar, prices, &self.layout, &self.cells, start, day, room);
-    }
-
-    /// Prepares [`Table::has_arc`] and [`Table::next_arc`] for this grammar. The values of
-    /// [`Table::least`] stay, and no later call of it undoes this one. Takes no memory.
-    pub fn reach(&mut self, grammar: &Grammar)
-        requires sound { IsSound grammar.now }
-        requires made { IsMadeFor grammar.now self.old }
-        ensures reached { IsReached grammar.now self.new }
-        ensures kept { (g : Rules) → IsMadeFor g self.old → IsMadeFor g self.new }
-        ensures filled { (g : Rules) (p : PriceView) → IsFilled g p self.old → IsFilled g p self.new }
-    {
-        fill(grammar, &Free, &self.layout, &mut self.free);
-        mark_all(grammar, &self.layout, &self.free, self.marks.as_mut_slice());
-    }
-
-    /// Returns whether an arc is one of the instance: whether it stands in some tree of the day. Any
-    /// five numbers may be asked. Takes no memory.
-    pub fn has_arc(&self, grammar: &Grammar, arc: &ArcKey) -> bool
-        requires sound { IsSound grammar.now }
-        requires made { IsMadeFor grammar.now self.now }
-        requires reached { IsReached grammar.now self.now }
-        ensures { IsTrue result ↔ IsArc grammar.now arc.now }
-    {
-        is_arc(
-            grammar,
-            &self.layout,
-            &self.free,
-            self.marks.as_slice(),
-            arc,
-        )
-    }
-
-    /// Returns the first arc of the instance after the given one, by rule, suffix, start, length and
-    /// part, or the first of all where none is given; `None` exactly where there is none. Any five
-    /// numbers may be given. Takes no memory.
-    pub fn next_arc(&self, grammar: &Grammar, after: Option<ArcKey>) -> Option<ArcKey>
-        requires sound { IsSound grammar.now }
-        requires made { IsMadeFor grammar.now self.now }
-        requires reached { IsReached grammar.now self.now }
-        ensures { IsNextArc grammar.now after result }
-    {
-        next_arc(
-            grammar,
-            &self.layout,
-            &self.free,
-            self.marks.as_slice(),
-            after,
-        )
     }
 }

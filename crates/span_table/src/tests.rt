@@ -1,5 +1,5 @@
 use crate::Table;
-use roster_model::{ArcKey, CodeDef, Grammar, List, Rule, Step, Sym, TreeRoom, Window, is_sound};
+use roster_model::{CodeDef, Grammar, List, Rule, Step, Sym, TreeRoom, Window, is_sound};
 use std::alloc::{AllocError, Global};
 use std::test::Fail;
 use word_prices::WordPrices;
@@ -135,73 +135,6 @@ fn the_lesser_of_two_trees(rt: HostRuntime) -> Result<(), Fail> {
         let mut table = Table::for_instance(rt.alloc(), grammar)?;
         let prices = WordPrices::new(grammar, b"aa");
         assert_eq!(rt; table.least(grammar, &prices), Some(*least));
-    }
-    Ok(())
-}
-
-// The arcs of the days of one block, in order.
-const ARCS: [(u8, u8, u8, u8, u8); 24] = [
-    (2, 0, 1, 4, 1),
-    (2, 0, 1, 4, 2),
-    (3, 0, 1, 4, 2),
-    (3, 0, 1, 4, 3),
-    (4, 0, 1, 4, 1),
-    (4, 1, 2, 3, 2),
-    (5, 0, 1, 2, 2),
-    (5, 0, 1, 3, 3),
-    (5, 0, 2, 2, 2),
-    (5, 0, 2, 3, 3),
-    (5, 0, 3, 2, 2),
-    (6, 0, 2, 1, 1),
-    (6, 0, 3, 1, 1),
-    (6, 0, 4, 1, 1),
-    (7, 0, 1, 2, 1),
-    (7, 0, 1, 3, 1),
-    (7, 0, 2, 2, 1),
-    (7, 0, 2, 3, 1),
-    (7, 0, 3, 2, 1),
-    (8, 0, 1, 1, 1),
-    (8, 0, 2, 1, 1),
-    (8, 0, 4, 1, 1),
-    (9, 0, 1, 2, 1),
-    (9, 0, 3, 2, 1),
-];
-
-fn arc((rule, suffix, start, len, part): (u8, u8, u8, u8, u8)) -> ArcKey {
-    ArcKey {
-        rule,
-        suffix,
-        start,
-        len,
-        part,
-    }
-}
-
-#[test]
-fn the_arcs_of_one_block(rt: HostRuntime) -> Result<(), Fail> {
-    let grammar = grammar(rt.alloc(), 4, &["S", "W", "R", "A"], &BLOCKS)?;
-    assert!(rt; is_sound(&grammar));
-    let mut table = Table::for_instance(rt.alloc(), &grammar)?;
-    table.reach(&grammar);
-    let mut last = None;
-    for numbers in &ARCS {
-        let expected = arc(*numbers);
-        assert!(rt; table.has_arc(&grammar, &expected), "at {numbers:?}");
-        let next = table.next_arc(&grammar, last);
-        assert_eq!(rt; next, Some(expected));
-        last = next;
-    }
-    assert_eq!(rt; table.next_arc(&grammar, last), None);
-    let others = [
-        (1, 0, 1, 4, 4),
-        (4, 1, 1, 3, 2),
-        (6, 0, 1, 1, 1),
-        (7, 1, 2, 1, 1),
-        (0, 0, 1, 1, 1),
-        (255, 255, 255, 255, 255),
-    ];
-    for numbers in &others {
-        assert!(rt; !table.has_arc(&grammar, &arc(*numbers)), "at {numbers:?}");
     }
     Ok(())
 }

@@ -1,11 +1,8 @@
 ghost use Rattle.span_table.specs.Walks.{AsksTree, AsksParts, WritesTree, WritesParts};
 ghost use Rattle.std.specs.Prelude.{drop};
 
-use crate::names::{least_rule, rule_of};
-use crate::parts::least_part;
-use crate::slot::{Layout, Span, Suffix};
-use crate::sum_cells::SumCells;
 use roster_model::{Grammar, LetterPrice, Rule, Step, Sym, TreeRoom};
+use span_cells::{Layout, Span, Suffix, SumCells, least_part, least_rule, rule_of};
 
 /// Adds the steps of a tree of least sum of a symbol on a span. Takes no memory.
 #[cycle(walk)]

@@ -2,7 +2,7 @@ use Rattle.std.proofs.Common.{arith, ◌++◌, [], ◌∷◌, length-append, sub
 use Rattle.roster_model.specs.declared.grammar.ArcKey.{ArcKey}
 use Rattle.parse_graph.specs.Walks.{IsPassed}
 use Rattle.parse_graph.proofs.Passing.{passed-first, passed-step, passed-end, passed-few, next-fewer}
-use Rattle.parse_graph.proofs.Shaping.{arc-small}
+use Rattle.span_arcs.proofs.ShapesLemmas.{arc-small}
 use Rattle.parse_graph.proofs.walk.count_arcs.Goals as goal
 
 pub loop-next-init : goal.loop-next-init
@@ -14,7 +14,7 @@ loop-next-init c = record {
 
 pub overflow_add-count : goal.overflow_add-count
 overflow_add-count c =
-    let few = passed-few c.args.grammar.now (arc-small c.args.grammar.now c.args.table.now c.requires.sound c.requires.made c.requires.reached) c.loop-next.invariant.listed c.loop-next.next c.loop-next.invariant.passed in
+    let few = passed-few c.args.grammar.now (arc-small c.args.grammar.now c.requires.sound) c.loop-next.invariant.listed c.loop-next.next c.loop-next.invariant.passed in
     omega (arith, few, c.loop-next.invariant.same)
 
 pub loop-next-preserved : goal.loop-next-preserved
@@ -23,7 +23,7 @@ loop-next-preserved c =
     let here = subst (λ (q : Option ArcKey). IsPassed c.args.grammar.now c.loop-next.invariant.listed q) c.in-Some.is c.loop-next.invariant.passed in
     record {
       listed = c.loop-next.invariant.listed ++ a ∷ [];
-      passed = passed-step c.args.grammar.now (arc-small c.args.grammar.now c.args.table.now c.requires.sound c.requires.made c.requires.reached) c.loop-next.invariant.listed a here c.next_arc-next-in-Some.result c.next_arc-next-in-Some.ensures;
+      passed = passed-step c.args.grammar.now (arc-small c.args.grammar.now c.requires.sound) c.loop-next.invariant.listed a here c.next_arc-next-in-Some.result c.next_arc-next-in-Some.ensures;
       same = omega (arith, c.loop-next.invariant.same, length-append c.loop-next.invariant.listed (a ∷ []));
     }
 
@@ -31,7 +31,7 @@ pub loop-next-smaller : goal.loop-next-smaller
 loop-next-smaller c =
     let here = subst (λ (q : Option ArcKey). IsPassed c.args.grammar.now c.loop-next.invariant.listed q) c.in-Some.is c.loop-next.invariant.passed in
     rw c.in-Some.is
-    (next-fewer c.args.grammar.now c.in-Some.arc c.next_arc-next-in-Some.result (arc-small c.args.grammar.now c.args.table.now c.requires.sound c.requires.made c.requires.reached) here.next_arc c.next_arc-next-in-Some.ensures)
+    (next-fewer c.args.grammar.now c.in-Some.arc c.next_arc-next-in-Some.result (arc-small c.args.grammar.now c.requires.sound) here.next_arc c.next_arc-next-in-Some.ensures)
 
 pub returns : goal.returns
 returns c =

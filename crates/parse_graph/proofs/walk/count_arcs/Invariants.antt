@@ -1,6 +1,6 @@
 use Rattle.std.proofs.Common.{◌≡◌, List, length}
 use Rattle.roster_model.specs.declared.grammar.ArcKey.{ArcKey}
-use Rattle.span_table.proofs.Stepping.{keys_left}
+use Rattle.span_arcs.proofs.OrderLemmas.{keys_left}
 use Rattle.parse_graph.specs.Walks.{IsPassed}
 use Rattle.parse_graph.proofs.walk.count_arcs.Given as goal
 

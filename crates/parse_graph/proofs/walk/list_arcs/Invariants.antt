@@ -1,4 +1,4 @@
-use Rattle.span_table.proofs.Stepping.{keys_left}
+use Rattle.span_arcs.proofs.OrderLemmas.{keys_left}
 use Rattle.parse_graph.specs.Walks.{IsPassed}
 use Rattle.parse_graph.proofs.walk.list_arcs.Given as goal
 

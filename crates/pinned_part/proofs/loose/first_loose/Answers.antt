@@ -1,9 +1,9 @@
 use Rattle.std.proofs.Common.{Option, None, Some, subst, ◌⊎◌, inr}
 use Rattle.roster_model.specs.declared.grammar.ArcKey.{ArcKey}
 use Rattle.roster_model.specs.Arcs.{IsArc}
-use Rattle.pinned_part.specs.Ahead.{IsAhead}
+use Rattle.span_arcs.specs.Ahead.{IsAhead}
 use Rattle.pinned_part.specs.Loose.{IsLoose}
-use Rattle.pinned_part.proofs.Passing.{first-ahead, next-some, try-next}
+use Rattle.span_arcs.proofs.AheadLemmas.{first-ahead, next-some, try-next}
 use Rattle.pinned_part.proofs.loose.first_loose.Goals as goal
 
 pub loop-next-init : goal.loop-next-init

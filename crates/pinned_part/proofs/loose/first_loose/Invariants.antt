@@ -2,8 +2,8 @@ use Rattle.std.proofs.Common.{◌⊎◌}
 use Rattle.std.specs.Prelude.{IfSome}
 use Rattle.roster_model.specs.declared.grammar.ArcKey.{ArcKey}
 use Rattle.roster_model.specs.Arcs.{IsArc}
-use Rattle.span_table.proofs.Stepping.{keys_left}
-use Rattle.pinned_part.specs.Ahead.{IsAhead}
+use Rattle.span_arcs.proofs.OrderLemmas.{keys_left}
+use Rattle.span_arcs.specs.Ahead.{IsAhead}
 use Rattle.pinned_part.specs.Loose.{IsLoose}
 use Rattle.pinned_part.proofs.loose.first_loose.Given as goal
 

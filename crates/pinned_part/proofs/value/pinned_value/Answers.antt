@@ -6,11 +6,11 @@ pub returns-in-Some-clause-value : goal.returns-in-Some-clause-value
 returns-in-Some-clause-value c =
     let i = c.args.instance.now in
     let good = c.in-Some.ensures in
-    pinned-cost i c.args.cuts.now c.args.table.now c.requires.sound c.requires.made c.requires.reached c.count_arcs-cost.new.nodes c.count_arcs-cost.result c.count_arcs-cost.ensures.counted
+    pinned-cost i c.args.cuts.now c.requires.sound c.count_arcs-cost.new.nodes c.count_arcs-cost.result c.count_arcs-cost.ensures.counted
     (c.count_arcs-cost.result + c.in-Some.penalties) good.0 (ap (λ (n : ℕ). c.count_arcs-cost.result + n) good.1)
 
 pub returns-in-None-clause-value : goal.returns-in-None-clause-value
 returns-in-None-clause-value c =
     let i = c.args.instance.now in
-    pinned-none i c.args.cuts.now c.args.table.now c.requires.sound c.requires.made c.requires.reached c.count_arcs-cost.new.nodes c.count_arcs-cost.result c.count_arcs-cost.ensures.counted
+    pinned-none i c.args.cuts.now c.requires.sound c.count_arcs-cost.new.nodes c.count_arcs-cost.result c.count_arcs-cost.ensures.counted
     (c.greatest_cost.result + 1) c.in-None.ensures (ap (λ (n : ℕ). n + 1) c.greatest_cost.ensures.value)

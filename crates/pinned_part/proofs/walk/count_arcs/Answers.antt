@@ -4,10 +4,11 @@ use Rattle.roster_model.specs.declared.grammar.ArcKey.{ArcKey}
 use Rattle.roster_model.specs.Cuts.{lo}
 use Rattle.arc_laws.specs.Counts.{top_cost}
 use Rattle.arc_laws.proofs.Folding.{sum_n-append}
-use Rattle.pinned_part.specs.Ahead.{IsPassed}
+use Rattle.span_arcs.specs.Ahead.{IsPassed}
 use Rattle.pinned_part.specs.Net.{IsCounted}
 use Rattle.pinned_part.proofs.Netting.{net-none, net-step, net-small}
-use Rattle.pinned_part.proofs.Passing.{arc-shaped, arc-small, passed-first, passed-step, passed-end, passed-few}
+use Rattle.span_arcs.proofs.ShapesLemmas.{arc-split, arc-small}
+use Rattle.span_arcs.proofs.AheadLemmas.{passed-first, passed-step, passed-end, passed-few}
 use Rattle.pinned_part.proofs.Paths.{lo_small, paid-small}
 use Rattle.pinned_part.proofs.walk.count_arcs.Goals as goal
 
@@ -22,21 +23,21 @@ loop-next-init c = record {
 pub count_arc-requires-clause-shaped : goal.count_arc-requires-clause-shaped
 count_arc-requires-clause-shaped c =
     let here = subst (λ (q : Option ArcKey). IsPassed c.args.grammar.now c.loop-next.invariant.listed q) c.in-Some.is c.loop-next.invariant.passed in
-    arc-shaped c.args.grammar.now c.args.table.now c.requires.sound c.requires.made c.requires.reached c.in-Some.arc here.next_arc
+    arc-split c.args.grammar.now c.in-Some.arc here.next_arc
 
 pub count_arc-requires-clause-room : goal.count_arc-requires-clause-room
 count_arc-requires-clause-room c =
     net-small c.args.grammar.now (lo c.args.cuts.now) (lo_small c.args.cuts.now c.requires.small) c.loop-next.invariant.listed c.loop-next.nodes c.loop-next.invariant.net
-    (passed-few c.args.grammar.now (arc-small c.args.grammar.now c.args.table.now c.requires.sound c.requires.made c.requires.reached) c.loop-next.invariant.listed c.loop-next.next c.loop-next.invariant.passed)
+    (passed-few c.args.grammar.now (arc-small c.args.grammar.now c.requires.sound) c.loop-next.invariant.listed c.loop-next.next c.loop-next.invariant.passed)
 
 pub arc_cost-requires-clause-shaped : goal.arc_cost-requires-clause-shaped
 arc_cost-requires-clause-shaped c =
     let here = subst (λ (q : Option ArcKey). IsPassed c.args.grammar.now c.loop-next.invariant.listed q) c.in-Some.is c.loop-next.invariant.passed in
-    arc-shaped c.args.grammar.now c.args.table.now c.requires.sound c.requires.made c.requires.reached c.in-Some.arc here.next_arc
+    arc-split c.args.grammar.now c.in-Some.arc here.next_arc
 
 pub overflow_add-cost : goal.overflow_add-cost
 overflow_add-cost c =
-    let few = passed-few c.args.grammar.now (arc-small c.args.grammar.now c.args.table.now c.requires.sound c.requires.made c.requires.reached) c.loop-next.invariant.listed c.loop-next.next c.loop-next.invariant.passed in
+    let few = passed-few c.args.grammar.now (arc-small c.args.grammar.now c.requires.sound) c.loop-next.invariant.listed c.loop-next.next c.loop-next.invariant.passed in
     let cost : c.loop-next.cost ≤ 640000 * length c.loop-next.invariant.listed = rw c.loop-next.invariant.paid (paid-small c.args.grammar.now c.requires.sound c.args.cuts.now c.requires.small c.loop-next.invariant.listed) in
     let m = mul-le c.from.result c.from-in-Some.result 64 10000 (omega (arith, c.from.ensures, c.low-count.ensures.within)) (omega (arith, c.from-in-Some.ensures, c.arc_cost.ensures.within)) in
     omega (arith, few, cost, m)
@@ -50,7 +51,7 @@ loop-next-preserved c =
     let here_paid : c.from.result * c.from-in-Some.result ≡ lo c.args.cuts.now c.in-Some.arc * top_cost c.args.grammar.now c.in-Some.arc = rw (c.from.ensures, c.from-in-Some.ensures, count, c.arc_cost.ensures.value) refl in
     record {
       listed = c.loop-next.invariant.listed ++ a ∷ [];
-      passed = passed-step c.args.grammar.now (arc-small c.args.grammar.now c.args.table.now c.requires.sound c.requires.made c.requires.reached) c.loop-next.invariant.listed a here c.next_arc-next-in-Some.result c.next_arc-next-in-Some.ensures;
+      passed = passed-step c.args.grammar.now (arc-small c.args.grammar.now c.requires.sound) c.loop-next.invariant.listed a here c.next_arc-next-in-Some.result c.next_arc-next-in-Some.ensures;
       net = net-step c.args.grammar.now (lo c.args.cuts.now) c.loop-next.invariant.listed a c.loop-next.nodes c.count_arc.new.nodes c.loop-next.invariant.net
           (subst (λ (n : ℕ). IsCounted c.args.grammar.now c.in-Some.arc n c.loop-next.nodes c.count_arc.new.nodes) count c.count_arc.ensures);
       paid = omega (arith, paid, here_paid, c.loop-next.invariant.paid);
@@ -68,6 +69,6 @@ returns-clause-counted c =
 
 pub returns-clause-within : goal.returns-clause-within
 returns-clause-within c =
-    let few = passed-few c.args.grammar.now (arc-small c.args.grammar.now c.args.table.now c.requires.sound c.requires.made c.requires.reached) c.loop-next.invariant.listed c.loop-next.next c.loop-next.invariant.passed in
+    let few = passed-few c.args.grammar.now (arc-small c.args.grammar.now c.requires.sound) c.loop-next.invariant.listed c.loop-next.next c.loop-next.invariant.passed in
     let cost : c.loop-next.cost ≤ 640000 * length c.loop-next.invariant.listed = rw c.loop-next.invariant.paid (paid-small c.args.grammar.now c.requires.sound c.args.cuts.now c.requires.small c.loop-next.invariant.listed) in
     omega (arith, few, cost)

@@ -3,8 +3,8 @@ use Rattle.roster_model.specs.declared.grammar.ArcKey.{ArcKey}
 use Rattle.roster_model.specs.Cuts.{lo}
 use Rattle.roster_model.specs.Folds.{sum_n}
 use Rattle.arc_laws.specs.Counts.{top_cost}
-use Rattle.span_table.proofs.Stepping.{keys_left}
-use Rattle.pinned_part.specs.Ahead.{IsPassed}
+use Rattle.span_arcs.proofs.OrderLemmas.{keys_left}
+use Rattle.span_arcs.specs.Ahead.{IsPassed}
 use Rattle.pinned_part.specs.Net.{IsNet}
 use Rattle.pinned_part.proofs.walk.count_arcs.Given as goal
 

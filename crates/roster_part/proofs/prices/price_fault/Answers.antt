@@ -15,7 +15,6 @@ loop-place-preserved c =
     let price = c.in-Some.ensures.value in
     record {
       kept = λ g made. c.in-Some.ensures.kept g (before.kept g made);
-      reached = λ g was. c.in-Some.ensures.reached g (before.reached g was);
       priced = before-next (HasPrice i) shifts k s here (c.in-Some.least, price) before.priced;
       first = rw c.or-mispriced.ensures (so_far i shifts k s c.in-Some.least c.loop-place.mispriced c.other_price.result here price before.first c.other_price.ensures);
     }

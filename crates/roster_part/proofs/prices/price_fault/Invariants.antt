@@ -1,5 +1,5 @@
 use Rattle.roster_model.specs.declared.grammar.Grammar.{Grammar}
-use Rattle.span_table.specs.Tables.{IsMadeFor, IsReached}
+use Rattle.span_table.specs.Tables.{IsMadeFor}
 use Rattle.roster_part.proofs.Items.{Before}
 use Rattle.roster_part.proofs.Pricing.{HasPrice, IsFirstSoFar}
 use Rattle.roster_part.proofs.prices.price_fault.Given as goal
@@ -7,7 +7,6 @@ use Rattle.roster_part.proofs.prices.price_fault.Given as goal
 abbrev pub invariant-loop-place : goal.invariant-loop-place
 invariant-loop-place l = record {
   kept : (g : Grammar) → IsMadeFor g l.fn.table → IsMadeFor g l.table;
-  reached : (g : Grammar) → IsReached g l.fn.table → IsReached g l.table;
   priced : Before (HasPrice l.instance) l.shifts l.place;
   first : IsFirstSoFar l.instance l.shifts l.place l.mispriced;
 }

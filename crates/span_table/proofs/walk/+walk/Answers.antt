@@ -3,8 +3,8 @@ use Rattle.roster_model.specs.declared.grammar.Sym.{Sym}
 use Rattle.roster_model.specs.declared.grammar.Sym.TheVariants.{Name, Code}
 use Rattle.tree_laws.proofs.Rules.{sound-rule}
 use Rattle.span_table.specs.Walks.{AsksTree, WritesTree, tree_measure, parts_measure}
-use Rattle.span_table.proofs.Filling.{filled-shorter, filled-later}
-use Rattle.span_table.proofs.Asking.{symbol-exists, last-earlier, asks-last, writes-last, asks-first, asks-rest, writes-split, part-low, part-high, number-within, rule-left, asks-rule, writes-rule, falls-last, falls-first, falls-rest, falls-rule}
+use Rattle.span_cells.proofs.CellsLemmas.{filled-shorter, filled-later}
+use Rattle.span_table.proofs.AsksLemmas.{symbol-exists, last-earlier, asks-last, writes-last, asks-first, asks-rest, writes-split, part-low, part-high, number-within, rule-left, asks-rule, writes-rule, falls-last, falls-first, falls-rest, falls-rule}
 use Rattle.span_table.proofs.walk.+walk.Goals as goal
 
 pub write_parts-write_tree-requires : goal.write_parts-write_tree-requires

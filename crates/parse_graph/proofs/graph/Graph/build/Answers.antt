@@ -7,9 +7,8 @@ use Rattle.parse_graph.proofs.graph.Graph.build.Goals as goal
 pub sort_upward-requires-clause-shaped : goal.sort_upward-requires-clause-shaped
 sort_upward-requires-clause-shaped c =
     let g = c.args.grammar.now in
-    let made = c.reach.ensures.kept g c.in_ok-table.ensures in
     subst (λ (xs : List ArcKey). All (IsShaped c.args.grammar.now) xs) (sym c.as_slice-2.ensures)
-    (all-shaped g c.reach.new.self c.requires.sound made c.reach.ensures.reached c.in_ok-listed.listed c.in_ok-listed.ensures)
+    (all-shaped g c.in_ok-listed.listed c.in_ok-listed.ensures)
 
 pub sort_upward-requires-clause-few : goal.sort_upward-requires-clause-few
 sort_upward-requires-clause-few c =
@@ -20,8 +19,7 @@ sort_upward-requires-clause-few c =
 pub join-requires-clause-shaped : goal.join-requires-clause-shaped
 join-requires-clause-shaped c =
     let g = c.args.grammar.now in
-    let made = c.reach.ensures.kept g c.in_ok-table.ensures in
-    has-shaped g c.reach.new.self c.requires.sound made c.reach.ensures.reached c.in_ok-sorted.sorted.arcs c.in_ok-sorted.ensures.arcs
+    has-shaped g c.in_ok-sorted.sorted.arcs c.in_ok-sorted.ensures.arcs
 
 pub join-requires-clause-few : goal.join-requires-clause-few
 join-requires-clause-few c =

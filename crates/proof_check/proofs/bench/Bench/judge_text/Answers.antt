@@ -21,7 +21,7 @@ loop-answer-init c =
     let new = c.new-seen.ensures ∙ ap (λ (k : KeptShifts). record { cost = None; bound = None; shifts = k; walk = record { nodes = 0; shown = None; why = None } }) c.requires.shifts in
     record {
       judging = subst (λ (g : Given). IsJudging i c.args.text.now g bench c.new-seen.result) (sym (any-halves i c.args.text.now c.new-pieces.result c.args.room.now.halves c.new-pieces.ensures.value))
-          (nothing-judged i c.args.text.now bench c.new-seen.result c.requires.sound (record { made = b.made; reached = b.reached; room = b.room; mults = b.mults; balances = b.balances; base = base ∙ b.base }) (most ∙ c.requires.nodes) none new);
+          (nothing-judged i c.args.text.now bench c.new-seen.result c.requires.sound (record { tables = b.tables; rooms = b.rooms; base = base ∙ b.base }) (most ∙ c.requires.nodes) none new);
       follows = c.new-pieces.ensures.follows c.args.room.now.halves;
       made = refl;
     }

@@ -12,7 +12,7 @@ loop-node-init c =
     let b = c.requires.bench in
     let base = ap (λ (s : StackView). s.base) c.clear.ensures in
     record {
-      bench = record { made = b.made; reached = b.reached; room = b.room; mults = b.mults; balances = b.balances; base = base ∙ b.base };
+      bench = record { tables = b.tables; rooms = b.rooms; base = base ∙ b.base };
       most = ap (λ (s : StackView). s.most) c.clear.ensures;
       walking = λ p s. start-walk i p c.clear.new.self c.new-walk.result (base ∙ b.base) (ap (λ (s : StackView). s.splits) c.clear.ensures) (small-base i c.requires.sound) c.new-walk.ensures;
     }

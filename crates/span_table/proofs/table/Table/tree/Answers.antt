@@ -3,12 +3,12 @@ use Rattle.roster_model.specs.Room.{RoomView, most_uses}
 use Rattle.roster_model.specs.declared.grammar.Sym.TheVariants.{Name}
 use Rattle.span_table.specs.Tables.{TableView}
 use Rattle.span_table.specs.Walks.{AsksTree}
-use Rattle.span_table.proofs.Asking.{asks-day, holds-day}
+use Rattle.span_table.proofs.AsksLemmas.{asks-day, holds-day}
 use Rattle.span_table.proofs.table.Table.tree.Goals as goal
 
 pub write_tree-requires : goal.write_tree-requires
 write_tree-requires g c =
-    let inside : TableView = record { layout = c.self.inside.layout; cells = c.self.inside.cells; free = c.self.inside.free; marks = c.self.inside.marks.items } in
+    let inside : TableView = record { layout = c.self.inside.layout; cells = c.self.inside.cells } in
     let now : inside ≡ c.args.self.now = c.self.view_is in
     let most : c.clear.new.self.most ≡ most_uses c.args.grammar.now = ap (λ (r : RoomView). r.most) c.clear.ensures ∙ c.requires.room in
     let asks = asks-day c.args.grammar.now (g.P.LetterPrice.view c.args.prices.now) c.args.self.now c.clear.new.self c.requires.sound c.requires.made c.requires.filled c.requires.sum

@@ -1,0 +1,31 @@
+ghost use Rattle.std.specs.Prelude.{◌≡◌, IfOk};
+ghost use Rattle.roster_model.specs.SoundInstance.{IsSoundInstance};
+ghost use Rattle.proof_check.specs.Rooms.{AreRoomsFor};
+
+use pinned_part::Balances;
+use roster_model::{Instance, Memory, PriceRoom};
+use std::alloc::Global;
+
+/// How many multipliers prices may have.
+const MOST_MULTS: usize = 1500;
+
+/// Rooms for what the nodes of certificates show.
+#[derive(Drop)]
+pub(crate) struct Rooms {
+    /// For prices.
+    pub prices: PriceRoom,
+    /// For the counts of a pinned leaf.
+    pub balances: Balances,
+}
+
+impl Rooms {
+    /// Returns the rooms for certificates of an instance.
+    pub fn for_instance(alloc: Global, instance: &Instance) -> Result<Rooms, Memory>
+        requires { IsSoundInstance instance.now }
+        ensures { IfOk result (AreRoomsFor instance.now) }
+    {
+        let prices = PriceRoom::for_cuts(alloc, instance, MOST_MULTS)?;
+        let balances = Balances::for_instance(alloc, &instance.grammar)?;
+        Ok(Rooms { prices, balances })
+    }
+}

@@ -1,0 +1,9 @@
+pub mod StandLemmas
+pub mod MarksLemmas
+pub mod ClosedLemmas
+pub mod ArcsLemmas
+pub mod OrderLemmas
+pub mod FlagsLemmas
+pub mod SplitsLemmas
+pub mod ShapesLemmas
+pub mod AheadLemmas

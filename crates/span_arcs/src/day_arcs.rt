@@ -1,0 +1,101 @@
+ghost use Rattle.std.specs.Prelude.{◌↔◌, ◌≡◌, IsTrue, IfOk, length};
+ghost use Rattle.roster_model.specs.Arcs.{IsArc};
+ghost use Rattle.roster_model.specs.Sound.{IsSound};
+ghost use Rattle.span_cells.specs.Cells.{cell_count};
+ghost use Rattle.span_arcs.specs.DayArcs.{IsDayArcsOf, IsDerivedOf};
+ghost use Rattle.span_arcs.specs.Marks.{AreMarked};
+ghost use Rattle.span_arcs.specs.Order.{IsNextArc};
+
+use crate::arcs::{is_arc, next_arc};
+use crate::derived::Derived;
+use crate::marks::mark_all;
+use roster_model::{ArcKey, Grammar, Memory};
+use span_cells::count_cells;
+use std::alloc::Global;
+use std::marker::Model;
+
+/// The arcs of an instance: each stands in some tree of the day. They are told one by one, and in
+/// their order, by rule, suffix, start, length and part.
+#[derive(Drop)]
+pub struct DayArcs {
+    derived: Derived,
+    // Which slots stand in trees of the day, by their places.
+    marks: Vec<bool>,
+}
+
+impl Model for DayArcs {
+    ghost use Rattle.span_arcs.specs.Order.{IsNextArc};
+    ghost use Rattle.span_arcs.specs.DayArcs.{DayArcsView};
+
+    ghost Value = { DayArcsView };
+
+    ghost view = { λ t. record { layout = t.derived.layout; free = t.derived.free; marks = t.marks.items } };
+}
+
+// Which slots stand in trees of the day, by their places.
+fn marks_of(alloc: Global, grammar: &Grammar, derived: &Derived) -> Result<Vec<bool>, Memory>
+    requires sound { IsSound grammar.now }
+    requires derived { IsDerivedOf grammar.now derived.now.layout derived.now.free }
+    ensures count { IfOk result (λ m. length m.items ≡ cell_count derived.now.layout) }
+    ensures marked { IfOk result (λ m. AreMarked grammar.now derived.now.layout m.items) }
+{
+    let layout = &derived.layout;
+    let Ok(mut marks) = vec![in alloc; false; count_cells(grammar, layout)] else {
+        return Err(Memory);
+    };
+    mark_all(grammar, layout, &derived.free, marks.as_mut_slice());
+    Ok(marks)
+}
+
+impl DayArcs {
+    /// Returns the arcs of a sound grammar. Later calls take the same grammar.
+    ///
+    /// It has taken the memory for all of them: two bytes for each name, and for each suffix of two or
+    /// more symbols that is not a whole right side, on each span of the day, and 32 bytes for each of
+    /// these at each period.
+    ///
+    /// # Errors
+    ///
+    /// `Memory` where memory runs out; nothing is kept then.
+    pub fn for_instance(alloc: Global, grammar: &Grammar) -> Result<DayArcs, Memory>
+        requires { IsSound grammar.now }
+        ensures { IfOk result (IsDayArcsOf grammar.now) }
+    {
+        let derived = Derived::new(alloc, grammar)?;
+        let marks = marks_of(alloc, grammar, &derived)?;
+        Ok(DayArcs { derived, marks })
+    }
+
+    /// Returns whether an arc is one of the instance: whether it stands in some tree of the day. Any
+    /// five numbers may be asked. Takes no memory.
+    pub fn has_arc(&self, grammar: &Grammar, arc: &ArcKey) -> bool
+        requires sound { IsSound grammar.now }
+        requires arcs { IsDayArcsOf grammar.now self.now }
+        ensures { IsTrue result ↔ IsArc grammar.now arc.now }
+    {
+        is_arc(
+            grammar,
+            &self.derived.layout,
+            &self.derived.free,
+            self.marks.as_slice(),
+            arc,
+        )
+    }
+
+    /// Returns the first arc of the instance after the given one, by rule, suffix, start, length and
+    /// part, or the first of all where none is given; `None` exactly where there is none. Any five
+    /// numbers may be given. Takes no memory.
+    pub fn next_arc(&self, grammar: &Grammar, after: Option<ArcKey>) -> Option<ArcKey>
+        requires sound { IsSound grammar.now }
+        requires arcs { IsDayArcsOf grammar.now self.now }
+        ensures { IsNextArc grammar.now after result }
+    {
+        next_arc(
+            grammar,
+            &self.derived.layout,
+            &self.derived.free,
+            self.marks.as_slice(),
+            after,
+        )
+    }
+}

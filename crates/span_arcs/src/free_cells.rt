@@ -1,0 +1,82 @@
+ghost use Rattle.std.specs.Prelude.{◌≡◌, IfOk};
+ghost use Rattle.roster_model.specs.Sound.{IsSound};
+ghost use Rattle.span_cells.specs.Cells.{AreMade, IsLayoutOf, IsReady};
+
+use roster_model::{Grammar, Memory};
+use span_cells::{Cells, Layout, Present, Span, count_cells, count_spots};
+use std::alloc::Global;
+use std::marker::Model;
+
+/// Cells for sums under free prices, one byte each: a sum that is there is 0.
+#[derive(Drop)]
+pub struct FreeCells {
+    there: Vec<bool>,
+    present: Present,
+}
+
+impl Model for FreeCells {
+    ghost use Rattle.std.specs.Prelude.{map};
+    ghost use Rattle.span_cells.specs.Cells.{Held};
+    ghost use Rattle.span_arcs.specs.Flags.{free_sum};
+
+    ghost Value = { Held };
+
+    ghost view = { λ s. record { sums = map free_sum s.there.items; present = s.present } };
+}
+
+impl FreeCells {
+    /// Returns so many cells, and so many spots for the spans.
+    pub fn new(alloc: Global, count: usize, spots: usize) -> Result<FreeCells, Memory>
+        ensures { IfOk result (AreMade count spots) }
+    {
+        let Ok(there) = vec![in alloc; false; count] else {
+            return Err(Memory);
+        };
+        let present = Present::new(alloc, spots)?;
+        Ok(FreeCells { there, present })
+    }
+
+    /// Returns the cells for the layout of a sound grammar: one byte for each slot on each span of the
+    /// day, and 32 bytes for each slot at each period.
+    pub fn for_layout(
+        alloc: Global,
+        grammar: &Grammar,
+        layout: &Layout,
+    ) -> Result<FreeCells, Memory>
+        requires sound { IsSound grammar.now }
+        requires layout { IsLayoutOf grammar.now layout.now }
+        ensures { IfOk result (IsReady grammar.now layout.now) }
+    {
+        let count = count_cells(grammar, layout);
+        let spots = count_spots(grammar, layout);
+        FreeCells::new(alloc, count, spots)
+    }
+}
+
+impl Cells for FreeCells {
+    ghost use Rattle.span_arcs.specs.Flags.{IsFree};
+
+    ghost held = { λ s. s };
+
+    ghost can_hold = { IsFree };
+
+    fn sum(&self, place: usize) -> Option<i128> {
+        if self.there[place] { Some(0) } else { None }
+    }
+
+    fn set(&mut self, place: usize, sum: Option<i128>) {
+        self.there[place] = sum.is_some();
+    }
+
+    fn present(&self) -> &Present {
+        &self.present
+    }
+
+    fn note(&mut self, from: usize, to: usize, span: Span) {
+        self.present.note(from, to, span);
+    }
+
+    fn clear(&mut self) {
+        self.present.clear();
+    }
+}

@@ -1,0 +1,12 @@
+//! What derives on which spans, and the arcs of an instance, told one by one and in their order.
+#![tactic(auto)]
+
+mod arcs;
+mod day_arcs;
+mod derive;
+mod derived;
+mod free;
+mod free_cells;
+mod marks;
+
+pub use day_arcs::DayArcs;

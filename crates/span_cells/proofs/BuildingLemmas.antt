@@ -1,0 +1,45 @@
+-- A layout with slots for all suffixes and then for all names is one of the grammar.
+use Rattle.std.proofs.Common.{◌≡◌, ℕ, ◌<◌, ◌≤◌, List, [], ◌∷◌, Some, arith, length}
+use Rattle.std.specs.Prelude.{slice_index}
+use Rattle.std.proofs.Math.Nat.{mul-le-mul_right}
+use Rattle.roster_model.specs.declared.grammar.Grammar.{Grammar}
+use Rattle.roster_model.specs.declared.grammar.Rule.{Rule}
+use Rattle.roster_model.specs.declared.grammar.Sym.TheVariants.{Name}
+use Rattle.roster_model.specs.Grammar.{rule_at}
+use Rattle.roster_model.specs.Sound.{IsSound}
+use Rattle.tree_laws.proofs.Rules.{rule_at-within, sound-rule, sound-symbol}
+use Rattle.span_cells.specs.declared.slot.Layout.{Layout}
+use Rattle.span_cells.specs.declared.slot.Slot.{Slot}
+use Rattle.span_cells.specs.declared.slot.Slot.TheVariants.{OfSuffix}
+use Rattle.span_cells.specs.Cells.{IsLayoutOf}
+use Rattle.span_cells.specs.Chains.{AreChained}
+use Rattle.span_cells.specs.Building.{SuffixSlots, AreNamed}
+
+-- the parts of a layout make one of the grammar
+pub layout-made : (g : Grammar) (sound : IsSound g) (lay : Layout) (base : List Slot) → lay.spans ≡ g.periods
+    → SuffixSlots g base lay.suffixes.items (length g.rules) → AreNamed g base lay.slots.items lay.names.items → AreChained g lay.chains → IsLayoutOf g lay
+layout-made g sound lay base periods a b chains = record {
+  periods = periods;
+  few = few;
+  all_names = b.count;
+  all_rules = a.count;
+  names = λ x lt. b.placed.there x (omega (arith, lt, b.count)) tt;
+  named = λ s x e. let k = b.placed.only s x e in (omega (arith, k.0, b.count), k.2);
+  suffixes = λ r k rule at one two.
+      b.placed.kept _ _ (a.there r k rule at (rule_at-within g r rule at).1 one two);
+  parted = λ s x e. a.only s (OfSuffix x) (b.placed.suffixes s x e);
+  order = λ r y rule at right. order r y rule at right;
+  chains = chains;
+}
+  where
+    few : length lay.slots.items < 65536
+    few =
+        let n : length g.names ≤ 33 = sound.names.few in
+        let p = mul-le-mul_right (length g.names) n in
+        omega (arith, b.placed.few, a.few, sound.few_rules, p, n)
+
+    order : (r y : ℕ) (rule : Rule) → rule_at g r ≡ Some rule → rule.right ≡ Name y ∷ [] → slice_index lay.names.items y < slice_index lay.names.items rule.left
+    order r y rule at right =
+        let left = (sound-rule g sound r rule at).left in
+        let to : y < length g.names = sound-symbol g sound r 0 rule (Name y) [] at right in
+        b.placed.order rule.left y (omega (arith, left, b.count)) (omega (arith, to, b.count)) tt tt (b.ranked.rises r rule y at right)

@@ -1,0 +1,11 @@
+pub mod ChoicesLemmas
+pub mod Slots
+pub mod PartsLemmas
+pub mod CellsLemmas
+pub mod Pushing
+pub mod SuffixSlotsLemmas
+pub mod NameSlotsLemmas
+pub mod BuildingLemmas
+pub mod PeriodsLemmas
+pub mod ChainsLemmas
+pub mod PointsLemmas

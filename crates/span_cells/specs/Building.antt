@@ -1,0 +1,57 @@
+-- The steps by which a layout is made.
+use Rattle.std.specs.Prelude.{ℕ, ◌≡◌, ◌+◌, ◌-◌, ◌*◌, ◌<◌, ◌≤◌, ◌⊎◌, List, Some, length, slice_get, slice_index}
+use Rattle.roster_model.specs.declared.grammar.Grammar.{Grammar}
+use Rattle.roster_model.specs.declared.grammar.Rule.{Rule}
+use Rattle.roster_model.specs.Grammar.{rule_at}
+use Rattle.roster_model.specs.UnitRules.{IsRanked}
+use Rattle.span_cells.specs.declared.slot.Slot.{Slot}
+use Rattle.span_cells.specs.declared.slot.Slot.TheVariants.{OfName, OfSuffix}
+use Rattle.span_cells.specs.declared.slot.Suffix.{Suffix}
+use Rattle.span_cells.specs.Cells.{HasSlot}
+
+-- the first n suffixes of rule r after its whole right side have got the next slots
+pub record AddsSuffixes (r n : ℕ) (old new : List Slot) : Type 0 where
+  pub kept : (s : ℕ) (w : Slot) → slice_get old s ≡ Some w → slice_get new s ≡ Some w
+  pub count : length new ≡ length old + n
+  pub added : (j : ℕ) → 1 ≤ j → j ≤ n → slice_get new (length old + (j - 1)) ≡ Some (OfSuffix (record { rule = r; from = j }))
+  pub only : (s : ℕ) (w : Slot) → slice_get new s ≡ Some w
+      → (slice_get old s ≡ Some w) ⊎ ((j : ℕ) × (1 ≤ j) × (j ≤ n) × (w ≡ OfSuffix (record { rule = r; from = j })))
+
+-- the slot of a suffix that wants one
+abbrev pub IsSuffixSlot : Grammar → Slot → Type 0
+IsSuffixSlot g (OfName x) = ⊥
+IsSuffixSlot g (OfSuffix x) = HasSlot g x
+
+-- the suffixes of the first n rules have slots, and nothing else has
+pub record SuffixSlots (g : Grammar) (slots : List Slot) (starts : List ℕ) (n : ℕ) : Type 0 where
+  pub count : length starts ≡ n
+  pub few : length slots ≤ 6 * n
+  pub there : (r j : ℕ) (rule : Rule) → rule_at g r ≡ Some rule → r ≤ n → 1 ≤ j → j + 2 ≤ length rule.right
+      → slice_get slots (slice_index starts (r - 1) + (j - 1)) ≡ Some (OfSuffix (record { rule = r; from = j }))
+  pub only : (s : ℕ) (w : Slot) → slice_get slots s ≡ Some w → IsSuffixSlot g w
+
+-- a name of a higher rank, or one of this rank below x
+abbrev pub IsPlaced : List ℕ → ℕ → ℕ → ℕ → Type 0
+IsPlaced ranks rank x y = (rank < slice_index ranks y) ⊎ ((slice_index ranks y ≡ rank) × (y < x))
+
+-- a name that is done after so many turns over n ranks, the highest first
+abbrev pub IsDone : List ℕ → ℕ → ℕ → ℕ → Type 0
+IsDone ranks n turn y = n ≤ slice_index ranks y + turn
+
+-- The names that are done, at most m, have got slots after those of the base, the higher ranks
+-- first, and nothing else has.
+pub record NameSlots (ranks : List ℕ) (base slots : List Slot) (names : List ℕ) (done : ℕ → Type 0) (m : ℕ) : Type 0 where
+  pub kept : (s : ℕ) (w : Slot) → slice_get base s ≡ Some w → slice_get slots s ≡ Some w
+  pub suffixes : (s : ℕ) (x : Suffix) → slice_get slots s ≡ Some (OfSuffix x) → slice_get base s ≡ Some (OfSuffix x)
+  pub few : length slots ≤ length base + m
+  pub there : (x : ℕ) → x < length names → done x → slice_get slots (slice_index names x) ≡ Some (OfName x)
+  pub only : (s x : ℕ) → slice_get slots s ≡ Some (OfName x) → (x < length names) × done x × (s ≡ slice_index names x)
+  pub order : (x y : ℕ) → x < length names → y < length names → done x → done y → slice_index ranks x < slice_index ranks y
+      → slice_index names y < slice_index names x
+
+-- all names have got slots after those of the base, those with a higher rank first, and nothing else has
+pub record AreNamed (g : Grammar) (base slots : List Slot) (names : List ℕ) : Type 0 where
+  pub ranks : List ℕ
+  pub ranked : IsRanked g (slice_index ranks) (length g.names)
+  pub count : length names ≡ length g.names
+  pub placed : NameSlots ranks base slots names (λ x. Unit {0}) (length g.names * length g.names)

@@ -1,0 +1,6 @@
+pub mod Periods
+pub mod Chains
+pub mod Cells
+pub mod Choices
+pub mod Numbers
+pub mod Building

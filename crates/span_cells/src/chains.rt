@@ -1,0 +1,41 @@
+ghost use Rattle.std.specs.Prelude.{IfOk};
+ghost use Rattle.roster_model.specs.Sound.{IsSound};
+ghost use Rattle.span_cells.specs.Chains.{AreChained};
+
+use crate::names::rule_of;
+use roster_model::{Grammar, Memory};
+use std::alloc::Global;
+
+/// The rules of each name, by rising numbers: where there is no further one, the number is one past
+/// that of the last rule of all.
+#[derive(Drop)]
+pub struct Chains {
+    /// For each name its first rule.
+    pub first: Vec<u8>,
+    /// For each rule the next one of its name.
+    pub next: Vec<u8>,
+}
+
+impl Chains {
+    /// Returns the chains of a grammar's rules.
+    pub fn new(alloc: Global, grammar: &Grammar) -> Result<Chains, Memory>
+        requires { IsSound grammar.now }
+        ensures { IfOk result (AreChained grammar.now) }
+    {
+        let rules = grammar.rules.len();
+        let none = rules as u8 + 1;
+        let Ok(mut first) = vec![in alloc; none; grammar.names.len()] else {
+            return Err(Memory);
+        };
+        let Ok(mut next) = vec![in alloc; none; rules] else {
+            return Err(Memory);
+        };
+        for index in (0..rules).rev() {
+            let number = index as u8 + 1;
+            let left = rule_of(grammar, number).left as usize;
+            next[index] = first[left];
+            first[left] = number;
+        }
+        Ok(Chains { first, next })
+    }
+}

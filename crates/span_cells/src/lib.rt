@@ -1,0 +1,34 @@
+//! The cells of least sums: the slots of a grammar's names and suffixes, what a cell holds for a slot
+//! on a span of the day, and how all cells are filled under prices. The crates above say what they
+//! hold cells of: the plain table of sums, or what derives at all.
+#![tactic(auto)]
+
+mod build;
+mod cell;
+mod cells;
+mod chains;
+mod fill;
+mod layout;
+mod names;
+mod parts;
+mod periods;
+mod points;
+mod present;
+mod slot;
+mod sum_cells;
+mod sums;
+
+pub use build::layout_of;
+pub use cell::Cell;
+pub use cells::Cells;
+pub use chains::Chains;
+pub use fill::fill_cells;
+pub use layout::{count_cells, count_spots, place_of, slot_of, sum_at};
+pub use names::{least_rule, rule_of};
+pub use parts::{least_part, rest_least, symbol_least};
+pub use periods::Periods;
+pub use points::split_points;
+pub use present::Present;
+pub use slot::{Layout, Slot, Span, Suffix};
+pub use sum_cells::SumCells;
+pub use sums::{Choice, add, add_part};

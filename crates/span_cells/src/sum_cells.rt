@@ -1,0 +1,81 @@
+ghost use Rattle.std.specs.Prelude.{◌≡◌, IfOk};
+ghost use Rattle.roster_model.specs.Sound.{IsSound};
+ghost use Rattle.span_cells.specs.Cells.{AreMade, IsLayoutOf, IsReady};
+
+use crate::cell::Cell;
+use crate::cells::Cells;
+use crate::layout::{count_cells, count_spots};
+use crate::present::Present;
+use crate::slot::{Layout, Span};
+use roster_model::{Grammar, Memory};
+use std::alloc::Global;
+use std::marker::Model;
+
+/// Cells for any sums, sixteen bytes each.
+#[derive(Drop)]
+pub struct SumCells {
+    cells: Vec<Cell>,
+    present: Present,
+}
+
+impl Model for SumCells {
+    ghost use Rattle.span_cells.specs.Cells.{Held};
+
+    ghost Value = { Held };
+
+    ghost view = { λ s. record { sums = s.cells.items; present = s.present } };
+}
+
+impl SumCells {
+    /// Returns so many cells, and so many spots for the spans.
+    pub fn new(alloc: Global, count: usize, spots: usize) -> Result<SumCells, Memory>
+        ensures { IfOk result (AreMade count spots) }
+    {
+        let Ok(cells) = vec![in alloc; Cell::new(None); count] else {
+            return Err(Memory);
+        };
+        let present = Present::new(alloc, spots)?;
+        Ok(SumCells { cells, present })
+    }
+
+    /// Returns the cells for the layout of a sound grammar: 16 bytes for each slot on each span of the
+    /// day, and 32 bytes for each slot at each period.
+    pub fn for_layout(alloc: Global, grammar: &Grammar, layout: &Layout) -> Result<SumCells, Memory>
+        requires sound { IsSound grammar.now }
+        requires layout { IsLayoutOf grammar.now layout.now }
+        ensures { IfOk result (IsReady grammar.now layout.now) }
+    {
+        let count = count_cells(grammar, layout);
+        let spots = count_spots(grammar, layout);
+        SumCells::new(alloc, count, spots)
+    }
+}
+
+impl Cells for SumCells {
+    ghost use Rattle.std.specs.Prelude.{◌^◌, IfSome};
+    ghost use Rattle.roster_model.specs.Sums.{Within};
+
+    ghost held = { λ s. s };
+
+    ghost can_hold = { λ s. IfSome s (Within (2 ^ 110)) };
+
+    fn sum(&self, place: usize) -> Option<i128> {
+        self.cells[place].sum()
+    }
+
+    fn set(&mut self, place: usize, sum: Option<i128>) {
+        self.cells[place] = Cell::new(sum);
+    }
+
+    fn present(&self) -> &Present {
+        &self.present
+    }
+
+    fn note(&mut self, from: usize, to: usize, span: Span) {
+        self.present.note(from, to, span);
+    }
+
+    fn clear(&mut self) {
+        self.present.clear();
+    }
+}
