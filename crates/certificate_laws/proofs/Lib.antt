@@ -3,5 +3,4 @@ pub mod Unique
 pub mod ShownBound
 pub mod RightLemmas
 pub mod Refused
-pub mod Steps
 pub mod OneCause

@@ -2,6 +2,5 @@ pub mod Shown
 pub mod Accepted
 pub mod Right
 pub mod Causes
-pub mod Walk
 pub mod Laws
 pub mod Worked

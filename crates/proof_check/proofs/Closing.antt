@@ -5,9 +5,9 @@ use Rattle.std.proofs.lemmas.List.Elements.{All-nil, All-cons, All-append, All-p
 use Rattle.roster_model.specs.declared.instance.Cut.{Cut}
 use Rattle.roster_model.specs.declared.instance.Side.{Side}
 use Rattle.roster_model.specs.declared.instance.Side.TheVariants.{Low, High}
-use Rattle.certificate_laws.specs.declared.frame.Frame.{Frame}
-use Rattle.certificate_laws.specs.Walk.{path, joined}
-use Rattle.certificate_laws.proofs.Steps.{value-high, visits-high}
+use Rattle.proof_check.specs.declared.frame.Frame.{Frame}
+use Rattle.proof_check.specs.OpenSplits.{path, joined}
+use Rattle.proof_check.proofs.OpenSplitsLemmas.{value-high, visits-high}
 use Rattle.bound_proof.specs.PieceList.{after_leaf}
 use Rattle.proof_check.specs.Stacks.{StackView, AreSmall, is_high, halves_of, IsClosing}
 

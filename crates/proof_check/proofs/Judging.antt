@@ -11,7 +11,7 @@ use Rattle.certificates.specs.declared.cert.Node.{Node}
 use Rattle.certificates.specs.declared.cert.Node.TheVariants.{Split, Priced, Pinned, Bare}
 use Rattle.certificates.specs.Nodes.{Proof}
 use Rattle.certificates.specs.Sound.{IsSoundCert, IsSoundProof, IsSoundShift}
-use Rattle.certificate_laws.specs.declared.frame.Frame.{Frame}
+use Rattle.proof_check.specs.declared.frame.Frame.{Frame}
 use Rattle.bound_proof.specs.declared.fault.PieceFault.{PieceFault}
 use Rattle.bound_proof.specs.declared.fault.PieceFault.TheVariants.{CutShort}
 use Rattle.bound_proof.specs.CertOf.{no_cert, with_told, is_done, collected, proof_fault, proof_of}
@@ -23,12 +23,11 @@ use Rattle.bound_proof.specs.Told.{Told, cost, bound, shift, node, done}
 use Rattle.bound_proof.specs.ToldSound.{node_told, shifts_with, IsToldSound, AreToldSound}
 use Rattle.bound_proof.proofs.PiecesKept.{cert_sound}
 use Rattle.bound_proof.proofs.ToldKept.{text_sound}
-use Rattle.proof_check.specs.declared.bench.Bench.{Bench}
+use Rattle.proof_check.specs.declared.walker.Walker.{Walker}
 use Rattle.proof_check.specs.declared.seen.Seen.{Seen}
 use Rattle.proof_check.specs.declared.walk.Walk.{Walk}
-use Rattle.proof_check.specs.KeptShifts.{KeptShifts}
 use Rattle.proof_check.specs.Stacks.{StackView, halves_of}
-use Rattle.proof_check.specs.Steps.{IsBenchFor, way, halves_after, MayFollow, IsStep, IsWalking}
+use Rattle.proof_check.specs.Steps.{IsWalkerFor, way, halves_after, MayFollow, IsStep, IsWalking}
 use Rattle.proof_check.specs.Judging.{place_at, IsReady, HasSeen, IsTaken, IsJudging}
 use Rattle.proof_check.specs.Verdicts.{States, IsWalked}
 use Rattle.proof_check.proofs.BaseCuts.{small-base}
@@ -40,7 +39,7 @@ length-halves [] = refl
 length-halves (f ∷ st) = omega (arith, length-halves st)
 
 -- a node that is told may follow
-pub told-follows : (i : Instance) (b : Bench) (s : Seen) (x : Node) → IsReady i b s → IsToldSound i (length s.shifts.shifts) (place_at b.stack s.walk) (node x) → MayFollow i b.stack x
+pub told-follows : (i : Instance) (b : Walker) (s : Seen) (x : Node) → IsReady i b s → IsToldSound i (length s.shifts) (place_at b.stack s.walk) (node x) → MayFollow i b.stack x
 told-follows i b s x r t =
     let long : length (way b.stack) ≡ length b.stack.base + length b.stack.splits = length-path b.stack.base b.stack.splits in
     let base : length b.stack.base ≡ length (base_cuts i) = ap (λ (cs : List Cut). length cs) r.bench.base in
@@ -73,9 +72,9 @@ walks-on i ns x old before new after step walking rest p sound =
     subst (λ (k : ℕ). IsWalking i p k new after) long (next-node i p (ns ++ x ∷ rest) whole (length ns) old before (walking (x ∷ rest) p whole) Bare here new after mine)
 
 -- a node was seen
-pub node-taken : (i : Instance) (b c : Bench) (s : Seen) (w : Walk) (x : Node) → IsReady i b s → IsBenchFor i c → IsStep i b.stack s.walk x c.stack w → IsTaken i b s (node x) c (record s { walk = w })
+pub node-taken : (i : Instance) (b c : Walker) (s : Seen) (w : Walk) (x : Node) → IsReady i b s → IsWalkerFor i c → IsStep i b.stack s.walk x c.stack w → IsTaken i b s (node x) c (record s { walk = w })
 node-taken i b c s w x r bench step = record {
-  ready = record { bench = bench; most = step.shows.most ∙ r.most; deep = omega (arith, step.shows.deeper, step.nodes, r.deep); small = step.shows.small; left = r.left };
+  ready = record { bench = bench; most = step.shows.most ∙ r.most; deep = omega (arith, step.shows.deeper, step.nodes, r.deep); small = step.shows.small };
   place = place-next x s.walk.nodes w.nodes (halves_of b.stack.splits) (halves_of c.stack.splits) step.nodes step.shows.halves;
   count = refl;
   seen = λ d h. record {
@@ -86,42 +85,42 @@ node-taken i b c s w x r bench step = record {
   };
 }
 
-pub cost-taken : (i : Instance) (b : Bench) (s : Seen) (x : Option ℕ) → IsReady i b s → IsTaken i b s (cost x) b (record s { cost = x })
+pub cost-taken : (i : Instance) (b : Walker) (s : Seen) (x : Option ℕ) → IsReady i b s → IsTaken i b s (cost x) b (record s { cost = x })
 cost-taken i b s x r = record {
-  ready = record { bench = r.bench; most = r.most; deep = r.deep; small = r.small; left = r.left };
+  ready = record { bench = r.bench; most = r.most; deep = r.deep; small = r.small };
   place = refl;
   count = refl;
   seen = λ d h. record { cost = refl; bound = h.bound; shifts = h.shifts; walking = h.walking };
 }
 
-pub bound-taken : (i : Instance) (b : Bench) (s : Seen) (x : Option ℕ) → IsReady i b s → IsTaken i b s (bound x) b (record s { bound = x })
+pub bound-taken : (i : Instance) (b : Walker) (s : Seen) (x : Option ℕ) → IsReady i b s → IsTaken i b s (bound x) b (record s { bound = x })
 bound-taken i b s x r = record {
-  ready = record { bench = r.bench; most = r.most; deep = r.deep; small = r.small; left = r.left };
+  ready = record { bench = r.bench; most = r.most; deep = r.deep; small = r.small };
   place = refl;
   count = refl;
   seen = λ d h. record { cost = h.cost; bound = refl; shifts = h.shifts; walking = h.walking };
 }
 
-pub shift-taken : (i : Instance) (b : Bench) (s : Seen) (x : Shift) (k : KeptShifts) → IsReady i b s → length s.shifts.shifts < 64 → k.shifts ≡ s.shifts.shifts ++ x ∷ [] → k.left ≡ s.shifts.left - 1
-    → IsTaken i b s (shift x) b (record s { shifts = k })
-shift-taken i b s x k r few more less =
-    let long : length k.shifts ≡ length s.shifts.shifts + 1 = omega (arith, ap (λ (xs : List Shift). length xs) more, length-append s.shifts.shifts (x ∷ [])) in
+pub shift-taken : (i : Instance) (b : Walker) (s : Seen) (x : Shift) (xs : List Shift) → IsReady i b s → xs ≡ s.shifts ++ x ∷ []
+    → IsTaken i b s (shift x) b (record s { shifts = xs })
+shift-taken i b s x xs r more =
+    let long : length xs ≡ length s.shifts + 1 = omega (arith, ap (λ (ys : List Shift). length ys) more, length-append s.shifts (x ∷ [])) in
     record {
-      ready = record { bench = r.bench; most = r.most; deep = r.deep; small = r.small; left = omega (arith, r.left, less, long, few) };
+      ready = record { bench = r.bench; most = r.most; deep = r.deep; small = r.small };
       place = refl;
       count = long;
-      seen = λ d h. record { cost = h.cost; bound = h.bound; shifts = ap (λ (xs : List Shift). xs ++ x ∷ []) h.shifts ∙ sym more; walking = h.walking };
+      seen = λ d h. record { cost = h.cost; bound = h.bound; shifts = ap (λ (ys : List Shift). ys ++ x ∷ []) h.shifts ∙ sym more; walking = h.walking };
     }
 
-pub end-taken : (i : Instance) (b : Bench) (s : Seen) → IsReady i b s → IsTaken i b s done b s
+pub end-taken : (i : Instance) (b : Walker) (s : Seen) → IsReady i b s → IsTaken i b s done b s
 end-taken i b s r = record { ready = r; place = refl; count = refl; seen = λ d h. h }
 
 -- nothing was seen
-pub nothing-judged : (i : Instance) (text : List ℕ) (b : Bench) (s : Seen) → IsSoundInstance i → IsBenchFor i b → b.stack.most ≡ 20001 → b.stack.splits ≡ []
-    → s ≡ record { cost = None; bound = None; shifts = record { shifts = []; left = 64 }; walk = record { nodes = 0; shown = None; why = None } } → IsJudging i text (pieces_of i text) b s
+pub nothing-judged : (i : Instance) (text : List ℕ) (b : Walker) (s : Seen) → IsSoundInstance i → IsWalkerFor i b → b.stack.most ≡ 20001 → b.stack.splits ≡ []
+    → s ≡ record { cost = None; bound = None; shifts = []; walk = record { nodes = 0; shown = None; why = None } } → IsJudging i text (pieces_of i text) b s
 unfolding proof_of
 nothing-judged i text b s sound bench most none new =
-    let shifts : s.shifts.shifts ≡ [] = ap (λ (x : Seen). x.shifts.shifts) new in
+    let shifts : s.shifts ≡ [] = ap (λ (x : Seen). x.shifts) new in
     let walk : s.walk ≡ record { nodes = 0; shown = None; why = None } = ap (λ (x : Seen). x.walk) new in
     record {
       cert = no_cert;
@@ -131,7 +130,6 @@ nothing-judged i text b s sound bench most none new =
         most = most;
         deep = rw none (omega arith);
         small = rw (none, bench.base) (small-base i sound);
-        left = omega (arith, ap (λ (xs : List Shift). length xs) shifts, ap (λ (x : Seen). x.shifts.left) new);
       };
       seen = record {
         cost = sym (ap (λ (x : Seen). x.cost) new);
@@ -143,52 +141,52 @@ nothing-judged i text b s sound bench most none new =
     }
 
 -- what is told next is sound
-pub next-sound : (i : Instance) (text : List ℕ) (left rest : Given) (t : Told) (b : Bench) (s : Seen) → left ≡ Ok t ∷ rest → IsJudging i text left b s → IsToldSound i (length s.shifts.shifts) (place_at b.stack s.walk) t
-next-sound i text left rest t b s e j = let all = subst (λ (g : Given). AreToldSound i (length s.shifts.shifts) (place_at b.stack s.walk) g) e j.sound in all.0
+pub next-sound : (i : Instance) (text : List ℕ) (left rest : Given) (t : Told) (b : Walker) (s : Seen) → left ≡ Ok t ∷ rest → IsJudging i text left b s → IsToldSound i (length s.shifts) (place_at b.stack s.walk) t
+next-sound i text left rest t b s e j = let all = subst (λ (g : Given). AreToldSound i (length s.shifts) (place_at b.stack s.walk) g) e j.sound in all.0
 
 going-on : (c : Cert) (t : Told) (rest : Given) → is_done t ≡ false → collected c (Ok t ∷ rest) ≡ collected (with_told c t) rest
 going-on c t rest e = rw e refl
 
 -- one thing more was judged
-pub one-judged : (i : Instance) (text : List ℕ) (left rest : Given) (t : Told) (b c : Bench) (s u : Seen) → left ≡ Ok t ∷ rest → is_done t ≡ false → IsJudging i text left b s → IsTaken i b s t c u → IsJudging i text rest c u
+pub one-judged : (i : Instance) (text : List ℕ) (left rest : Given) (t : Told) (b c : Walker) (s u : Seen) → left ≡ Ok t ∷ rest → is_done t ≡ false → IsJudging i text left b s → IsTaken i b s t c u → IsJudging i text rest c u
 one-judged i text left rest t b c s u e further j k =
-    let all = subst (λ (g : Given). AreToldSound i (length s.shifts.shifts) (place_at b.stack s.walk) g) e j.sound in
+    let all = subst (λ (g : Given). AreToldSound i (length s.shifts) (place_at b.stack s.walk) g) e j.sound in
     record {
       cert = with_told j.cert t;
       value = j.value ∙ ap (λ (g : Given). collected j.cert g) e ∙ going-on j.cert t rest further;
       ready = k.ready;
       seen = k.seen j.cert j.seen;
-      sound = subst (λ (n : ℕ). AreToldSound i n (place_at c.stack u.walk) rest) (sym k.count) (subst (λ (p : Place). AreToldSound i (shifts_with t (length s.shifts.shifts)) p rest) (sym k.place) all.1);
+      sound = subst (λ (n : ℕ). AreToldSound i n (place_at c.stack u.walk) rest) (sym k.count) (subst (λ (p : Place). AreToldSound i (shifts_with t (length s.shifts)) p rest) (sym k.place) all.1);
     }
 
-pub fault-judged : (i : Instance) (text : List ℕ) (left rest : Given) (f : PieceFault) (b : Bench) (s : Seen) → left ≡ Err f ∷ rest → IsJudging i text left b s → proof_of i text ≡ Err (proof_fault f)
+pub fault-judged : (i : Instance) (text : List ℕ) (left rest : Given) (f : PieceFault) (b : Walker) (s : Seen) → left ≡ Err f ∷ rest → IsJudging i text left b s → proof_of i text ≡ Err (proof_fault f)
 fault-judged i text left rest f b s e j = j.value ∙ ap (λ (g : Given). collected j.cert g) e
 
-pub none-judged : (i : Instance) (text : List ℕ) (left : Given) (b : Bench) (s : Seen) → left ≡ [] → IsJudging i text left b s → proof_of i text ≡ Err (proof_fault CutShort)
+pub none-judged : (i : Instance) (text : List ℕ) (left : Given) (b : Walker) (s : Seen) → left ≡ [] → IsJudging i text left b s → proof_of i text ≡ Err (proof_fault CutShort)
 none-judged i text left b s e j = j.value ∙ ap (λ (g : Given). collected j.cert g) e
 
 -- the text tells what was seen
-pub all-judged : (i : Instance) (text : List ℕ) (left rest : Given) (b : Bench) (s : Seen) → left ≡ Ok done ∷ rest → (j : IsJudging i text left b s) → proof_of i text ≡ Ok j.cert
+pub all-judged : (i : Instance) (text : List ℕ) (left rest : Given) (b : Walker) (s : Seen) → left ≡ Ok done ∷ rest → (j : IsJudging i text left b s) → proof_of i text ≡ Ok j.cert
 all-judged i text left rest b s e j = j.value ∙ ap (λ (g : Given). collected j.cert g) e
 
 -- it is a sound certificate
-pub all-sound : (i : Instance) (text : List ℕ) (left rest : Given) (b : Bench) (s : Seen) → IsSoundInstance i → left ≡ Ok done ∷ rest → (j : IsJudging i text left b s) → IsSoundCert i j.cert
+pub all-sound : (i : Instance) (text : List ℕ) (left rest : Given) (b : Walker) (s : Seen) → IsSoundInstance i → left ≡ Ok done ∷ rest → (j : IsJudging i text left b s) → IsSoundCert i j.cert
 all-sound i text left rest b s sound e j = cert_sound i text j.cert sound (all-judged i text left rest b s e j)
 
-pub shifts-sound : (i : Instance) (text : List ℕ) (left rest : Given) (b : Bench) (s : Seen) → IsSoundInstance i → left ≡ Ok done ∷ rest → IsJudging i text left b s
-    → Each (IsSoundShift i) s.shifts.shifts × (length s.shifts.shifts ≤ 64)
+pub shifts-sound : (i : Instance) (text : List ℕ) (left rest : Given) (b : Walker) (s : Seen) → IsSoundInstance i → left ≡ Ok done ∷ rest → IsJudging i text left b s
+    → Each (IsSoundShift i) s.shifts × (length s.shifts ≤ 64)
 shifts-sound i text left rest b s sound e j =
     let c = all-sound i text left rest b s sound e j in
     let same = j.seen.shifts in
     (subst (λ (xs : List Shift). Each (IsSoundShift i) xs) same c.shifts, subst (λ (xs : List Shift). length xs ≤ 64) same c.few)
 
 -- all nodes of the certificate were seen
-pub seen-walked : (i : Instance) (c : Cert) (b : Bench) (s : Seen) → IsSoundCert i c → HasSeen i c b s → IsWalked i c.nodes s.walk
+pub seen-walked : (i : Instance) (c : Cert) (b : Walker) (s : Seen) → IsSoundCert i c → HasSeen i c b s → IsWalked i c.nodes s.walk
 seen-walked i c b s sound h =
     let whole = subst (λ (xs : List Node). IsSoundProof i xs sound.proof) (sym (append-nil c.nodes)) sound.nodes in
     end-walk i sound.proof c.nodes (length c.nodes) b.stack s.walk sound.nodes (omega arith) (h.walking [] sound.proof whole)
 
-pub seen-states : (i : Instance) (c : Cert) (b : Bench) (s : Seen) → HasSeen i c b s → States c s.cost s.shifts.shifts
+pub seen-states : (i : Instance) (c : Cert) (b : Walker) (s : Seen) → HasSeen i c b s → States c s.cost s.shifts
 seen-states i c b s h = record { same_cost = h.cost; same_shifts = h.shifts }
 
 from-start : (i : Instance) (p q : Place) (items : Items) → pieces_from i start p items ≡ pieces_from i start q items
@@ -219,5 +217,5 @@ is-done (node x) e = cc
 is-done done e = refl
 
 -- the same, told in other words
-pub retold : (i : Instance) (b : Bench) (s : Seen) (t u : Told) (c : Bench) (v : Seen) → t ≡ u → IsTaken i b s t c v → IsTaken i b s u c v
+pub retold : (i : Instance) (b : Walker) (s : Seen) (t u : Told) (c : Walker) (v : Seen) → t ≡ u → IsTaken i b s t c v → IsTaken i b s u c v
 retold i b s t u c v e k = subst (λ (x : Told). IsTaken i b s x c v) e k

@@ -1,3 +1,4 @@
+pub mod OpenSplitsLemmas
 pub mod Paths
 pub mod BaseCuts
 pub mod Firsts

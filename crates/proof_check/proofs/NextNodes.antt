@@ -8,8 +8,8 @@ use Rattle.roster_model.specs.declared.instance.Prices.{Prices}
 use Rattle.certificates.specs.declared.cert.Node.{Node}
 use Rattle.certificates.specs.declared.cert.Node.TheVariants.{Split, Priced, Pinned, Bare}
 use Rattle.certificates.specs.Nodes.{Visit, low_cut}
-use Rattle.certificate_laws.specs.Walk.{path, ValueAfter, VisitsAfter, ValueNext, VisitsNext, IsLeaf, IsLeafValue, IsOwnValue}
-use Rattle.certificate_laws.proofs.Steps.{value-split, value-leaf, visits-split, visits-leaf}
+use Rattle.proof_check.specs.OpenSplits.{path, ValueAfter, VisitsAfter, ValueNext, VisitsNext, IsLeaf, IsLeafValue, IsOwnValue}
+use Rattle.proof_check.proofs.OpenSplitsLemmas.{value-split, value-leaf, visits-split, visits-leaf}
 use Rattle.bound_proof.specs.PieceList.{after_leaf}
 use Rattle.proof_check.specs.Stacks.{StackView, AreSmall, halves_of}
 use Rattle.proof_check.proofs.Closing.{small-more}

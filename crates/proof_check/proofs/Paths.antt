@@ -4,8 +4,8 @@ use Rattle.std.specs.Prelude.{reverse}
 use Rattle.std.proofs.lemmas.List.{length-append, length-reverse, reverse-append, take-append-le, length-take-le}
 use Rattle.std.proofs.Math.Seq.{take-append_seam}
 use Rattle.roster_model.specs.declared.instance.Cut.{Cut}
-use Rattle.certificate_laws.specs.declared.frame.Frame.{Frame}
-use Rattle.certificate_laws.specs.Walk.{path}
+use Rattle.proof_check.specs.declared.frame.Frame.{Frame}
+use Rattle.proof_check.specs.OpenSplits.{path}
 use Rattle.proof_check.specs.Stacks.{IsStack}
 
 pub length-path : (base : List Cut) (st : List Frame) → length (path base st) ≡ length base + length st

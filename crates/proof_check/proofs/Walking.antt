@@ -12,10 +12,10 @@ use Rattle.certificates.specs.declared.cert.Node.TheVariants.{Split, Priced, Pin
 use Rattle.certificates.specs.declared.why.Why.{Why}
 use Rattle.certificates.specs.Nodes.{Proof, split, priced, pinned, bare, preorder, Visit, visits, low_cut, high_cut}
 use Rattle.certificates.specs.Sound.{IsSoundVisit, IsSoundProof}
-use Rattle.certificate_laws.specs.declared.frame.Frame.{Frame}
+use Rattle.proof_check.specs.declared.frame.Frame.{Frame}
 use Rattle.certificate_laws.specs.Shown.{Shows}
-use Rattle.certificate_laws.specs.Walk.{path, LeadsTo, MakeVisits, ValueNext, VisitsNext}
-use Rattle.certificate_laws.proofs.Steps.{visits-split, visits-leaf, visits-start, not-yet, at-end, whole-shows}
+use Rattle.proof_check.specs.OpenSplits.{path, LeadsTo, MakeVisits, ValueNext, VisitsNext}
+use Rattle.proof_check.proofs.OpenSplitsLemmas.{visits-split, visits-leaf, visits-start, not-yet, at-end, whole-shows}
 use Rattle.certificate_laws.proofs.Unique.{same-proof}
 use Rattle.proof_check.specs.declared.walk.Walk.{Walk}
 use Rattle.proof_check.specs.Stacks.{StackView, AreSmall}

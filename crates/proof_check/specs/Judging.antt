@@ -9,13 +9,13 @@ use Rattle.bound_proof.specs.CertOf.{with_told, collected, proof_fault, proof_of
 use Rattle.bound_proof.specs.PieceList.{Given, Place}
 use Rattle.bound_proof.specs.Told.{Told}
 use Rattle.bound_proof.specs.ToldSound.{place_with, shifts_with, AreToldSound}
-use Rattle.proof_check.specs.declared.bench.Bench.{Bench}
+use Rattle.proof_check.specs.declared.walker.Walker.{Walker}
 use Rattle.proof_check.specs.declared.judged.Judged.{Judged}
 use Rattle.proof_check.specs.declared.judged.Judged.TheVariants.{Said, Fault}
 use Rattle.proof_check.specs.declared.seen.Seen.{Seen}
 use Rattle.proof_check.specs.declared.walk.Walk.{Walk}
 use Rattle.proof_check.specs.Stacks.{StackView, AreSmall, halves_of}
-use Rattle.proof_check.specs.Steps.{IsBenchFor, way, IsWalking}
+use Rattle.proof_check.specs.Steps.{IsWalkerFor, way, IsWalking}
 use Rattle.proof_check.specs.Verdicts.{IsVerdict}
 
 -- a verdict on the certificate that the text tells, or the fault of the text
@@ -28,32 +28,31 @@ abbrev pub place_at : StackView → Walk → Place
 place_at s w = record { nodes = w.nodes; halves = halves_of s.splits }
 
 -- there is room for what comes next
-pub record IsReady (i : Instance) (b : Bench) (s : Seen) : Type 0 where
-  pub bench : IsBenchFor i b
+pub record IsReady (i : Instance) (b : Walker) (s : Seen) : Type 0 where
+  pub bench : IsWalkerFor i b
   pub most : b.stack.most ≡ 20001
   pub deep : length b.stack.splits ≤ s.walk.nodes
   pub small : AreSmall (way b.stack)
-  pub left : s.shifts.left + length s.shifts.shifts ≡ 64
 
 -- the certificate has the cost, the bound and the shifts that were seen, and its nodes are the first
 -- that were seen of every tree that begins with them
-pub record HasSeen (i : Instance) (c : Cert) (b : Bench) (s : Seen) : Type 0 where
+pub record HasSeen (i : Instance) (c : Cert) (b : Walker) (s : Seen) : Type 0 where
   pub cost : c.cost ≡ s.cost
   pub bound : c.bound ≡ s.bound
-  pub shifts : c.shifts ≡ s.shifts.shifts
+  pub shifts : c.shifts ≡ s.shifts
   pub walking : (rest : List Node) (p : Proof) → IsSoundProof i (c.nodes ++ rest) p → IsWalking i p (length c.nodes) b.stack s.walk
 
 -- one thing more was seen
-pub record IsTaken (i : Instance) (old : Bench) (before : Seen) (t : Told) (new : Bench) (after : Seen) : Type 0 where
+pub record IsTaken (i : Instance) (old : Walker) (before : Seen) (t : Told) (new : Walker) (after : Seen) : Type 0 where
   pub ready : IsReady i new after
   pub place : place_at new.stack after.walk ≡ place_with t (place_at old.stack before.walk)
-  pub count : length after.shifts.shifts ≡ shifts_with t (length before.shifts.shifts)
+  pub count : length after.shifts ≡ shifts_with t (length before.shifts)
   pub seen : (c : Cert) → HasSeen i c old before → HasSeen i (with_told c t) new after
 
 -- what the text tells is what was seen and what is left, which is sound
-pub record IsJudging (i : Instance) (text : List ℕ) (left : Given) (b : Bench) (s : Seen) : Type 0 where
+pub record IsJudging (i : Instance) (text : List ℕ) (left : Given) (b : Walker) (s : Seen) : Type 0 where
   pub cert : Cert
   pub value : proof_of i text ≡ collected cert left
   pub ready : IsReady i b s
   pub seen : HasSeen i cert b s
-  pub sound : AreToldSound i (length s.shifts.shifts) (place_at b.stack s.walk) left
+  pub sound : AreToldSound i (length s.shifts) (place_at b.stack s.walk) left

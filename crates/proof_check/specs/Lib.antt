@@ -4,5 +4,7 @@ pub mod Walked
 pub mod Rooms
 pub mod Steps
 pub mod Verdicts
-pub mod KeptShifts
+pub mod OpenSplits
+pub mod Benches
+pub mod YesOrNo
 pub mod Judging

@@ -6,11 +6,11 @@ use Rattle.roster_model.specs.Cuts.{cuts_from}
 use Rattle.roster_model.specs.declared.instance.Cut.{Cut}
 use Rattle.roster_model.specs.declared.instance.Side.{Side}
 use Rattle.roster_model.specs.declared.instance.Side.TheVariants.{Low, High}
-use Rattle.certificate_laws.specs.declared.frame.Frame.{Frame}
+use Rattle.proof_check.specs.declared.frame.Frame.{Frame}
 use Rattle.roster_model.specs.declared.instance.Instance.{Instance}
 use Rattle.certificates.specs.declared.cert.Node.{Node}
 use Rattle.certificates.specs.Nodes.{Visit}
-use Rattle.certificate_laws.specs.Walk.{path, ValueAfter, VisitsAfter}
+use Rattle.proof_check.specs.OpenSplits.{path, ValueAfter, VisitsAfter}
 use Rattle.bound_proof.specs.PieceList.{after_leaf}
 
 -- the cuts with which each path begins, the open splits, of which the innermost is the first, and how

@@ -8,23 +8,19 @@ use Rattle.certificates.specs.declared.cert.Node.TheVariants.{Split, Priced, Pin
 use Rattle.certificates.specs.declared.why.Why.{Why}
 use Rattle.certificates.specs.Nodes.{Proof, preorder, Visit, visits}
 use Rattle.certificates.specs.Sound.{IsSoundNode}
-use Rattle.certificate_laws.specs.Walk.{path, LeadsTo, MakeVisits, ValueNext, VisitsNext}
+use Rattle.proof_check.specs.OpenSplits.{path, LeadsTo, MakeVisits, ValueNext, VisitsNext}
 use Rattle.proof_check.specs.Rooms.{AreTablesFor, AreRoomsFor}
-use Rattle.proof_check.specs.declared.bench.Bench.{Bench}
+use Rattle.proof_check.specs.declared.walker.Walker.{Walker}
 use Rattle.proof_check.specs.declared.walk.Walk.{Walk}
 use Rattle.bound_proof.specs.PieceList.{after_leaf}
 use Rattle.proof_check.specs.Stacks.{StackView, AreSmall, halves_of}
 use Rattle.proof_check.specs.Walked.{IsVisitCause, IsVisitsCause, lesser_cause}
 
--- the bench was made for the instance
-pub record IsBenchFor (i : Instance) (b : Bench) : Type 0 where
+-- the walker was made for the instance
+pub record IsWalkerFor (i : Instance) (b : Walker) : Type 0 where
   pub tables : AreTablesFor i.grammar b.tables
   pub rooms : AreRoomsFor i b.rooms
   pub base : b.stack.base ≡ base_cuts i
-
--- how many nodes a certificate may have that is judged at the bench
-abbrev pub node_room : Bench → ℕ
-node_room b = b.stack.most
 
 -- the cuts on the way to the next node
 abbrev pub way : StackView → List Cut

@@ -19,8 +19,8 @@ use Rattle.certificates.specs.declared.verdict.Verdict.{Verdict}
 use Rattle.certificates.specs.declared.verdict.Verdict.TheVariants.{Yes, No}
 use Rattle.proof_check.specs.declared.walk.Walk.{Walk}
 use Rattle.certificates.specs.Sound.{IsSoundProof}
-use Rattle.proof_check.specs.declared.bench.Bench.{Bench}
-use Rattle.proof_check.specs.Steps.{IsBenchFor, IsWalking}
+use Rattle.proof_check.specs.declared.walker.Walker.{Walker}
+use Rattle.proof_check.specs.Steps.{IsWalkerFor, IsWalking}
 use Rattle.proof_check.specs.Walked.{IsVisitsCause}
 
 -- Yes comes where the certificate is accepted, with its cost and bound, and what it states is true. No
@@ -51,7 +51,7 @@ pub record IsWalked (i : Instance) (nodes : List Node) (walk : Walk) : Type 0 wh
   pub shown : walk.why ≡ None → (v : ℕ) × (walk.shown ≡ Some v) × Shows i (base_cuts i) proof v
 
 -- a loop over the nodes: whatever their tree, so many were seen
-pub record IsInWalk (i : Instance) (nodes : List Node) (k : ℕ) (old now : Bench) (walk : Walk) : Type 0 where
-  pub bench : IsBenchFor i now
+pub record IsInWalk (i : Instance) (nodes : List Node) (k : ℕ) (old now : Walker) (walk : Walk) : Type 0 where
+  pub bench : IsWalkerFor i now
   pub most : now.stack.most ≡ old.stack.most
   pub walking : (p : Proof) → IsSoundProof i nodes p → IsWalking i p k now.stack walk

@@ -1,218 +1,94 @@
-ghost use Rattle.std.specs.Prelude.{◌≡◌, ◌≤◌, ◌<◌, Option, IfOk, IfSome, IsTrue, length};
+ghost use Rattle.std.specs.Prelude.{◌≡◌, ◌≤◌, IfOk, length, min};
 ghost use Rattle.roster_model.specs.SoundInstance.{IsSoundInstance};
-ghost use Rattle.roster_model.specs.declared.instance.Prices.{Prices as NodePrices};
-ghost use Rattle.certificates.specs.Sound.{AreFit, IsSoundNode};
-ghost use Rattle.bound_laws.specs.Priced.{IsPricedValue};
-ghost use Rattle.certificate_laws.specs.Walk.{IsLeaf, IsLeafValue, IsOwnValue};
-ghost use Rattle.proof_check.specs.Steps.{IsBenchFor, node_room, way, next_visit, MayFollow, IsShown, IsStep};
-ghost use Rattle.proof_check.specs.Stacks.{AreSmall};
-ghost use Rattle.proof_check.specs.Views.{prices_of, own_prices, node_of};
-ghost use Rattle.proof_check.specs.Walked.{IsVisitCause};
+ghost use Rattle.certificates.specs.Sound.{IsSoundCert};
+ghost use Rattle.proof_check.specs.Benches.{IsBenchFor, node_room};
+ghost use Rattle.proof_check.specs.Judging.{IsJudged};
+ghost use Rattle.proof_check.specs.Verdicts.{IsVerdict};
 
-use crate::node::{NodeView, PricesView};
-use crate::rooms::Rooms;
-use crate::stack::Stack;
-use crate::tables::Tables;
-use crate::walk::{Walk, lesser_cause};
-use certificates::{Node, Why};
-use pinned_part::{first_loose, high, low, pinned_value};
-use priced_part::priced_value;
-use roster_model::{ArcKey, Instance, Memory};
+use crate::judged::Judged;
+use crate::seen::Seen;
+use crate::walker::Walker;
+use bound_proof::CertRoom;
+use certificates::{Cert, MOST_NODES, Verdict};
+use roster_model::{Instance, Memory};
 use std::alloc::Global;
 
-/// What judging a certificate needs: a table of sums, rooms for prices and for the counts of pinned
-/// leaves, and a stack of open splits. It takes all its memory when it is made.
+/// What judging certificates of an instance needs: a table of sums, rooms for prices, for the counts of
+/// pinned leaves and for stated shifts, and a stack of open splits. It takes all its memory when it is
+/// made, and serves one certificate after another.
 #[derive(Drop)]
 pub struct Bench {
-    pub(crate) tables: Tables,
-    pub(crate) rooms: Rooms,
-    pub(crate) stack: Stack,
+    pub(crate) walker: Walker,
+    pub(crate) seen: Seen,
 }
 
 impl Bench {
     // Makes a bench for certificates of an instance with at most so many nodes.
-    pub(crate) fn for_nodes(
-        alloc: Global,
-        instance: &Instance,
-        most: usize,
-    ) -> Result<Bench, Memory>
+    fn for_nodes(alloc: Global, instance: &Instance, most: usize) -> Result<Bench, Memory>
         requires sound { IsSoundInstance instance.now }
         requires few { most ≤ 20001 }
         ensures bench { IfOk result (IsBenchFor instance.now) }
-        ensures most { IfOk result (λ b. node_room b ≡ most) }
+        ensures room { IfOk result (λ b. node_room b ≡ most) }
     {
-        let stack = Stack::for_splits(alloc, instance, most)?;
-        let rooms = Rooms::for_instance(alloc, instance)?;
-        let tables = Tables::for_instance(alloc, &instance.grammar)?;
-        Ok(Bench {
-            tables,
-            rooms,
-            stack,
-        })
+        let seen = Seen::new(alloc)?;
+        let walker = Walker::for_nodes(alloc, instance, most)?;
+        Ok(Bench { walker, seen })
     }
 
-    // Returns what prices show at the path to the next node.
-    fn priced(&mut self, instance: &Instance, prices: &PricesView<'_>) -> u64
+    /// Returns a bench for a sound instance and for certificates of at most as many nodes as this one has.
+    /// It takes all its memory here.
+    pub fn for_proof(alloc: Global, instance: &Instance, cert: &Cert) -> Result<Bench, Memory>
         requires sound { IsSoundInstance instance.now }
-        requires bench { IsBenchFor instance.now self.old }
-        requires fit { AreFit instance.now (way self.old.stack) (prices_of prices.now) }
-        requires small { AreSmall (way self.old.stack) }
-        ensures value { IsPricedValue instance.now (prices_of prices.now) (way self.old.stack) result }
-        ensures bench { IsBenchFor instance.now self.new }
-        ensures stack { self.new.stack ≡ self.old.stack }
+        ensures bench { IfOk result (IsBenchFor instance.now) }
+        ensures room { IfOk result (λ b. node_room b ≡ min (length cert.now.nodes) 20001) }
     {
-        priced_value(
-            instance,
-            prices.d,
-            prices.cell,
-            prices.mult,
-            self.stack.path(),
-            &mut self.rooms.prices,
-            &mut self.tables.sums,
-        )
+        Bench::for_nodes(alloc, instance, cert.nodes.len().min(MOST_NODES))
     }
 
-    // Returns what the own prices of a split show, if it has any and the node is right.
-    fn own_value(
-        &mut self,
-        instance: &Instance,
-        prices: &Option<PricesView<'_>>,
-        is_right: bool,
-    ) -> Option<u64>
-        requires sound { IsSoundInstance instance.now }
-        requires bench { IsBenchFor instance.now self.old }
-        requires fit { IfSome (own_prices prices.now) (AreFit instance.now (way self.old.stack)) }
-        requires small { AreSmall (way self.old.stack) }
-        ensures value { IsTrue is_right → IsOwnValue instance.now (way self.old.stack) (own_prices prices.now) result }
-        ensures bench { IsBenchFor instance.now self.new }
-        ensures stack { self.new.stack ≡ self.old.stack }
+    /// Returns a bench for every proof text for a sound instance. It takes all its memory here.
+    pub fn for_texts(alloc: Global, instance: &Instance) -> Result<Bench, Memory>
+        requires { IsSoundInstance instance.now }
+        ensures bench { IfOk result (IsBenchFor instance.now) }
+        ensures room { IfOk result (λ b. node_room b ≡ 20001) }
     {
-        match prices {
-            Some(prices) if is_right => Some(self.priced(instance, prices)),
-            _ => None,
-        }
+        Bench::for_nodes(alloc, instance, MOST_NODES)
     }
 
-    // Returns what a leaf shows at its path, if the node is right.
-    fn leaf_value(&mut self, instance: &Instance, leaf: &NodeView<'_>, is_right: bool) -> u64
-        requires sound { IsSoundInstance instance.now }
-        requires bench { IsBenchFor instance.now self.old }
-        requires leaf { IsLeaf (node_of leaf.now) }
-        requires fit { IsSoundNode instance.now (way self.old.stack) (node_of leaf.now) }
-        requires small { AreSmall (way self.old.stack) }
-        ensures value { IsTrue is_right → IsLeafValue instance.now (way self.old.stack) (node_of leaf.now) result }
-        ensures bench { IsBenchFor instance.now self.new }
-        ensures stack { self.new.stack ≡ self.old.stack }
-    {
-        match leaf {
-            NodeView::Priced { prices } if is_right => self.priced(instance, prices),
-            NodeView::Pinned if is_right => pinned_value(
-                instance,
-                self.stack.path(),
-                &self.tables.arcs,
-                &mut self.rooms.balances,
-            ),
-            _ => 0,
-        }
-    }
-
-    // Ends the innermost half with a leaf. What it shows is right where the flag says so.
-    fn end_half(&mut self, instance: &Instance, leaf: &NodeView<'_>, is_right: bool) -> Option<u64>
-        requires sound { IsSoundInstance instance.now }
-        requires bench { IsBenchFor instance.now self.old }
-        requires leaf { IsLeaf (node_of leaf.now) }
-        requires node { MayFollow instance.now self.old.stack (node_of leaf.now) }
-        ensures shows { IsShown instance.now self.old.stack (node_of leaf.now) is_right self.new.stack result }
-        ensures bench { IsBenchFor instance.now self.new }
-    {
-        let value = self.leaf_value(instance, leaf, is_right);
-        self.stack.close(value)
-    }
-
-    // Opens a split. What its own prices show is right where the flag says so.
-    fn open_split(
-        &mut self,
-        instance: &Instance,
-        arc: ArcKey,
-        b: u32,
-        prices: &Option<PricesView<'_>>,
-        is_right: bool,
-    )
-        requires sound { IsSoundInstance instance.now }
-        requires bench { IsBenchFor instance.now self.old }
-        requires node { MayFollow instance.now self.old.stack (Node.Split arc b (own_prices prices.now)) }
-        ensures shows { IsShown instance.now self.old.stack (Node.Split arc b (own_prices prices.now)) is_right self.new.stack None }
-        ensures bench { IsBenchFor instance.now self.new }
-    {
-        let own = self.own_value(instance, prices, is_right);
-        self.stack.split(arc, b, own);
-    }
-
-    // Returns what is wrong with a split of the next node's path.
-    fn split_cause(&self, instance: &Instance, node: u32, arc: &ArcKey, b: u32) -> Option<Why>
-        requires sound { IsSoundInstance instance.now }
-        requires bench { IsBenchFor instance.now self.now }
-        requires small { AreSmall (way self.now.stack) }
-        ensures { (own : Option NodePrices) → IsVisitCause instance.now (next_visit self.now.stack (Node.Split arc.now b own)) node result }
-    {
-        if !self.tables.arcs.has_arc(&instance.grammar, arc) {
-            return Some(Why::NotAnArc { node });
-        }
-        let cuts = self.stack.path();
-        if b < low(cuts, arc) || high(instance.heads_max, cuts, arc) <= b {
-            return Some(Why::EmptyHalf { node });
-        }
-        None
-    }
-
-    // Returns what is wrong with a pinned leaf on the next node's path.
-    fn pinned_cause(&self, instance: &Instance, node: u32) -> Option<Why>
-        requires sound { IsSoundInstance instance.now }
-        requires bench { IsBenchFor instance.now self.now }
-        requires small { AreSmall (way self.now.stack) }
-        ensures { IsVisitCause instance.now (next_visit self.now.stack Node.Pinned) node result }
-    {
-        match first_loose(instance, self.stack.path(), &self.tables.arcs) {
-            Some(arc) => Some(Why::NotPinned { node, arc }),
-            None => None,
-        }
-    }
-
-    // Returns what is wrong with the next node, whose number is given.
-    fn node_cause(&self, instance: &Instance, number: u32, node: &NodeView<'_>) -> Option<Why>
-        requires sound { IsSoundInstance instance.now }
-        requires bench { IsBenchFor instance.now self.now }
-        requires small { AreSmall (way self.now.stack) }
-        ensures { IsVisitCause instance.now (next_visit self.now.stack (node_of node.now)) number result }
-    {
-        match node {
-            NodeView::Split { arc, b, .. } => self.split_cause(instance, number, arc, *b),
-            NodeView::Pinned => self.pinned_cause(instance, number),
-            NodeView::Priced { .. } | NodeView::Bare => None,
-        }
-    }
-
-    /// Sees the next node of a certificate, in preorder. Takes no memory.
+    /// Judges a certificate: Yes comes exactly where it is accepted, with its cost and its bound, and
+    /// else No with the cause of least number, at its first shift, team, node or cell. Takes no memory.
     ///
-    /// The bench was made for the instance, and the node is sound on its path of cuts.
-    pub(crate) fn step(&mut self, instance: &Instance, walk: Walk, node: &NodeView<'_>) -> Walk
+    /// The bench was made for the instance, and for at least as many nodes. On a yes the stated words
+    /// are an allowed roster of exactly the stated cost, every allowed roster costs at least the stated
+    /// bound, and where the bound is none no roster is allowed.
+    pub fn judge(&mut self, instance: &Instance, cert: &Cert) -> Verdict
+        requires sound { IsSoundInstance instance.now }
+        requires cert { IsSoundCert instance.now cert.now }
+        requires bench { IsBenchFor instance.now self.old }
+        requires room { length cert.now.nodes ≤ node_room self.old }
+        ensures verdict { IsVerdict instance.now cert.now result }
+        ensures bench { IsBenchFor instance.now self.new }
+        ensures room { node_room self.new ≡ node_room self.old }
+    {
+        self.seen.shifts.keep_all(cert.shifts.as_slice());
+        self.walker.judge(instance, cert, self.seen.shifts.shifts())
+    }
+
+    /// Judges the certificate that a proof text says, or finds the first fault of the text. The answer
+    /// is that of reading the text whole and then [`Bench::judge`], but no list of nodes is held, and
+    /// it takes no memory.
+    ///
+    /// The bench was made for texts, and the room for the instance. Both serve one text after another.
+    pub fn judge_text(&mut self, instance: &Instance, text: &[u8], room: &mut CertRoom) -> Judged
         requires sound { IsSoundInstance instance.now }
         requires bench { IsBenchFor instance.now self.old }
-        requires few { walk.nodes < 20001 }
-        requires node { MayFollow instance.now self.old.stack (node_of node.now) }
-        ensures step { IsStep instance.now self.old.stack walk (node_of node.now) self.new.stack result }
+        requires nodes { node_room self.old ≡ 20001 }
+        requires made { length instance.now.cells ≤ room.old.most }
+        ensures judged { IsJudged instance.now text.now result }
         ensures bench { IsBenchFor instance.now self.new }
+        ensures nodes { node_room self.new ≡ 20001 }
+        ensures made { room.new.most ≡ room.old.most }
     {
-        let nodes = walk.nodes + 1;
-        let why = lesser_cause(walk.why, self.node_cause(instance, nodes, node));
-        let is_right = why.is_none();
-        let shown = match node {
-            NodeView::Split { arc, b, prices } => {
-                self.open_split(instance, *arc, *b, prices, is_right);
-                None
-            }
-            _ => self.end_half(instance, node, is_right),
-        };
-        Walk { nodes, shown, why }
+        self.seen.clear();
+        self.walker.judge_text(instance, text, room, &mut self.seen)
     }
 }

@@ -6,38 +6,27 @@ ghost use Rattle.certificates.specs.Nodes.{Proof};
 ghost use Rattle.certificates.specs.Sound.{IsSoundCert, IsSoundProof, IsSoundShift};
 ghost use Rattle.certificate_laws.specs.Causes.{IsFirstCause};
 ghost use Rattle.roster_part.specs.Faults.{IsCoverageCause};
-ghost use Rattle.proof_check.specs.Steps.{IsBenchFor, node_room};
+ghost use Rattle.proof_check.specs.Steps.{IsWalkerFor};
 ghost use Rattle.proof_check.specs.Verdicts.{HasRightRoster, IsCoverageRight, States, IsWalked, IsVerdict};
 
-use crate::bench::Bench;
 use crate::node::view_node;
 use crate::verdict::bound_cause;
 use crate::walk::Walk;
+use crate::walker::Walker;
 use certificates::{Cert, Node, Verdict, Why};
-use roster_model::{Instance, Memory, Shift};
-use roster_part::{coverage_fault, roster_fault};
-use std::alloc::Global;
+use roster_model::Instance;
+use roster_part::{StatedShift, coverage_fault, roster_fault};
 
-impl Bench {
-    /// Returns a bench for a sound instance and a sound certificate. It takes all its memory here.
-    pub fn for_proof(alloc: Global, instance: &Instance, cert: &Cert) -> Result<Bench, Memory>
-        requires sound { IsSoundInstance instance.now }
-        requires cert { IsSoundCert instance.now cert.now }
-        ensures bench { IfOk result (IsBenchFor instance.now) }
-        ensures room { IfOk result (λ b. node_room b ≡ length cert.now.nodes) }
-    {
-        Bench::for_nodes(alloc, instance, cert.nodes.len())
-    }
-
+impl Walker {
     // Sees all nodes of a certificate. Takes no memory.
     fn walk(&mut self, instance: &Instance, nodes: &[Node]) -> Walk
         requires sound { IsSoundInstance instance.now }
-        requires bench { IsBenchFor instance.now self.old }
+        requires walker { IsWalkerFor instance.now self.old }
         requires proof { (p : Proof) × IsSoundProof instance.now nodes.now p }
-        requires room { length nodes.now ≤ node_room self.old }
+        requires room { length nodes.now ≤ self.old.stack.most }
         ensures walked { IsWalked instance.now nodes.now result }
-        ensures bench { IsBenchFor instance.now self.new }
-        ensures room { node_room self.new ≡ node_room self.old }
+        ensures walker { IsWalkerFor instance.now self.new }
+        ensures room { self.new.stack.most ≡ self.old.stack.most }
     {
         self.stack.clear();
         let mut walk = Walk::new();
@@ -52,15 +41,15 @@ impl Bench {
         &mut self,
         instance: &Instance,
         cost: Option<u64>,
-        shifts: &[Shift],
+        shifts: &[StatedShift],
     ) -> Option<Why>
         requires sound { IsSoundInstance instance.now }
-        requires bench { IsBenchFor instance.now self.old }
+        requires walker { IsWalkerFor instance.now self.old }
         requires shifts { Each (IsSoundShift instance.now) shifts.now }
         requires few { length shifts.now ≤ 64 }
         ensures value { MatchOption result (HasRightRoster instance.now cost shifts.now)
             (λ why. (c : Stated) → States c cost shifts.now → IsFirstCause instance.now c why) }
-        ensures bench { IsBenchFor instance.now self.new }
+        ensures walker { IsWalkerFor instance.now self.new }
         ensures stack { self.new.stack ≡ self.old.stack }
     {
         match cost {
@@ -69,22 +58,22 @@ impl Bench {
         }
     }
 
-    /// Judges a certificate: Yes comes exactly where it is accepted, with its cost and its bound, and
-    /// else No with the cause of least number, at its first shift, team, node or cell. Takes no memory.
-    ///
-    /// The bench was made for the instance, and for at least as many nodes. On a yes the stated words
-    /// are an allowed roster of exactly the stated cost, every allowed roster costs at least the stated
-    /// bound, and where the bound is none no roster is allowed.
-    pub fn judge(&mut self, instance: &Instance, cert: &Cert) -> Verdict
+    /// Judges a certificate whose shifts are given. Takes no memory.
+    pub(crate) fn judge(
+        &mut self,
+        instance: &Instance,
+        cert: &Cert,
+        shifts: &[StatedShift],
+    ) -> Verdict
         requires sound { IsSoundInstance instance.now }
         requires cert { IsSoundCert instance.now cert.now }
-        requires bench { IsBenchFor instance.now self.old }
-        requires room { length cert.now.nodes ≤ node_room self.old }
+        requires same { shifts.now ≡ cert.now.shifts }
+        requires walker { IsWalkerFor instance.now self.old }
+        requires room { length cert.now.nodes ≤ self.old.stack.most }
         ensures verdict { IsVerdict instance.now cert.now result }
-        ensures bench { IsBenchFor instance.now self.new }
-        ensures room { node_room self.new ≡ node_room self.old }
+        ensures walker { IsWalkerFor instance.now self.new }
+        ensures room { self.new.stack.most ≡ self.old.stack.most }
     {
-        let shifts = cert.shifts.as_slice();
         if let Some(why) = self.roster_cause(instance, cert.cost, shifts) {
             return Verdict::No(why);
         }
@@ -94,7 +83,7 @@ impl Bench {
 }
 
 // Returns the first cell whose coverage is outside its floor and ceiling, if there is a roster.
-fn coverage_cause(instance: &Instance, cost: Option<u64>, shifts: &[Shift]) -> Option<Why>
+fn coverage_cause(instance: &Instance, cost: Option<u64>, shifts: &[StatedShift]) -> Option<Why>
     requires sound { IsSoundInstance instance.now }
     requires few { length shifts.now ≤ 64 }
     ensures { MatchOption result (IfSome cost (λ _. IsCoverageRight instance.now shifts.now))
@@ -112,7 +101,7 @@ pub(crate) fn decided(
     instance: &Instance,
     cost: Option<u64>,
     bound: Option<u64>,
-    shifts: &[Shift],
+    shifts: &[StatedShift],
     walk: Walk,
 ) -> Verdict
     requires sound { IsSoundInstance instance.now }

@@ -1,19 +1,20 @@
 //! The checker: whether a certificate is accepted, and why not.
 //!
 //! A certificate states a roster and a bound on the cost of every roster, and proves the bound by a
-//! tree of branch and bound. [`Bench::judge`] looks at its nodes one after another, with a stack of
+//! tree of branch and bound. [`Walker::judge`] looks at its nodes one after another, with a stack of
 //! the splits that are open. It takes no memory, and rests on the definitions alone.
-//! [`Bench::judge_text`] judges a text piece by piece in the same way, and holds no list of nodes.
+//! [`Walker::judge_text`] judges a text piece by piece in the same way, and holds no list of nodes.
 #![tactic(auto)]
 
 mod base;
 mod bench;
+mod frame;
 mod judge;
 mod judged;
+mod laws;
 mod node;
 mod rooms;
 mod seen;
-mod shift_room;
 mod stack;
 mod tables;
 #[cfg(test)]
@@ -21,8 +22,9 @@ mod tests;
 mod text;
 mod verdict;
 mod walk;
+mod walker;
 
-pub use bench::Bench;
-pub use certificates::Verdict;
+pub use bench::Walker;
+pub use certificates::{Verdict, Why};
 pub use judged::Judged;
-pub use shift_room::ShiftRoom;
+pub use laws::yes_is_accepted;

@@ -1,9 +1,11 @@
-ghost use Rattle.std.specs.Prelude.{◌≡◌, None};
+ghost use Rattle.std.specs.Prelude.{◌≡◌, None, [], IfOk};
 
-use crate::shift_room::ShiftRoom;
 use crate::walk::Walk;
+use roster_model::Memory;
+use roster_part::ShiftRoom;
+use std::alloc::Global;
 
-/// What was seen of a text.
+/// What was seen of a text. Its memory serves one text after another.
 #[derive(Drop)]
 pub(crate) struct Seen {
     pub cost: Option<u64>,
@@ -14,15 +16,30 @@ pub(crate) struct Seen {
 }
 
 impl Seen {
-    /// Nothing was seen. The shifts will lie in the room.
-    pub(crate) fn new(shifts: ShiftRoom) -> Seen
-        ensures { result ≡ record { cost = None; bound = None; shifts = shifts; walk = record { nodes = 0; shown = None; why = None } } }
+    /// Nothing was seen. It takes all its memory here.
+    pub(crate) fn new(alloc: Global) -> Result<Seen, Memory>
+        ensures { IfOk result (λ s. s.shifts ≡ []) }
     {
-        Seen {
+        Ok(Seen {
             cost: None,
             bound: None,
-            shifts,
+            shifts: ShiftRoom::new(alloc)?,
             walk: Walk::new(),
-        }
+        })
+    }
+
+    /// Forgets what was seen. Its memory stays.
+    pub(crate) fn clear(&mut self)
+        ensures { self.new ≡ record {
+          cost = None;
+          bound = None;
+          shifts = [];
+          walk = record { nodes = 0; shown = None; why = None };
+        } }
+    {
+        self.cost = None;
+        self.bound = None;
+        self.shifts.clear();
+        self.walk = Walk::new();
     }
 }

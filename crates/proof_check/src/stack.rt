@@ -4,13 +4,13 @@ ghost use Rattle.certificates.specs.declared.cert.Node.{Node as ProofNode};
 ghost use Rattle.certificates.specs.Nodes.{Visit, low_cut, high_cut};
 ghost use Rattle.roster_model.specs.Cuts.{base_cuts};
 ghost use Rattle.roster_model.specs.SoundInstance.{IsSoundInstance};
-ghost use Rattle.certificate_laws.specs.declared.frame.Frame.{Frame as OpenSplit};
-ghost use Rattle.certificate_laws.specs.Walk.{path, joined, ValueAfter, VisitsAfter, ValueNext, VisitsNext};
+ghost use Rattle.proof_check.specs.declared.frame.Frame.{Frame as OpenSplit};
+ghost use Rattle.proof_check.specs.OpenSplits.{path, joined, ValueAfter, VisitsAfter, ValueNext, VisitsNext};
 ghost use Rattle.bound_proof.specs.PieceList.{after_leaf};
 ghost use Rattle.proof_check.specs.Stacks.{AreSmall, halves_of};
 
 use crate::base::{MOST_BASE_CUTS, push_base_cuts};
-use certificate_laws::Frame;
+use crate::frame::Frame;
 use roster_model::{ArcKey, Cut, Instance, Memory, Side};
 use std::alloc::Global;
 use std::marker::Model;

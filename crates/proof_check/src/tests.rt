@@ -1,6 +1,6 @@
 ghost use Rattle.roster_model.specs.SoundInstance.{IsSoundInstance};
 
-use crate::{Bench, Judged, ShiftRoom, Verdict};
+use crate::{Bench, Judged, Verdict};
 use bound_proof::{CertRoom, PieceFault, read_cert};
 use certificates::Why;
 use roster_model::{
@@ -154,15 +154,13 @@ fn judge_pieces(
 {
     let mut bench = Bench::for_texts(alloc, day)?;
     let mut room = CertRoom::for_instance(alloc, day)?;
-    let shifts = ShiftRoom::for_text(alloc)?;
     assert_eq!(rt;
-        bench.judge_text(day, text.as_bytes(), &mut room, shifts),
+        bench.judge_text(day, text.as_bytes(), &mut room),
         want,
         "{text}"
     );
-    let shifts = ShiftRoom::for_text(alloc)?;
     assert_eq!(rt;
-        bench.judge_text(day, text.as_bytes(), &mut room, shifts),
+        bench.judge_text(day, text.as_bytes(), &mut room),
         want,
         "again {text}"
     );
@@ -451,9 +449,8 @@ fn ten_thousand_splits(rt: HostRuntime) -> Result<(), Fail> {
     assert!(rt; is_sound_instance(&day));
     let mut bench = Bench::for_texts(alloc, &day)?;
     let mut room = CertRoom::for_instance(alloc, &day)?;
-    let shifts = ShiftRoom::for_text(alloc)?;
     assert_eq!(rt;
-        bench.judge_text(&day, text.as_bytes(), &mut room, shifts),
+        bench.judge_text(&day, text.as_bytes(), &mut room),
         Judged::Said(Verdict::No(Why::EmptyHalf { node: 2 }))
     );
     Ok(())

@@ -1,4 +1,4 @@
-ghost use Rattle.std.specs.Prelude.{◌≡◌, ◌≤◌, [], length, IfOk};
+ghost use Rattle.std.specs.Prelude.{◌≡◌, ◌≤◌, [], None, length};
 ghost use Rattle.roster_model.specs.Folds.{Each};
 ghost use Rattle.roster_model.specs.SoundInstance.{IsSoundInstance};
 ghost use Rattle.certificates.specs.declared.cert.Cert.{Cert as Stated};
@@ -7,23 +7,18 @@ ghost use Rattle.bound_proof.specs.CertOf.{is_done};
 ghost use Rattle.bound_proof.specs.Told.{RoomView, room_prices, own_prices as told_prices, told, node as told_node};
 ghost use Rattle.bound_proof.specs.ToldSound.{IsToldSound};
 ghost use Rattle.proof_check.specs.Judging.{IsJudged, place_at, IsReady, HasSeen, IsTaken};
-ghost use Rattle.proof_check.specs.Steps.{IsBenchFor, node_room};
+ghost use Rattle.proof_check.specs.Steps.{IsWalkerFor};
 ghost use Rattle.proof_check.specs.Views.{prices_of, own_prices, node_of};
 ghost use Rattle.proof_check.specs.Verdicts.{IsVerdict};
 
-use crate::bench::Bench;
 use crate::judge::decided;
 use crate::judged::Judged;
 use crate::node::{NodeView, PricesView};
 use crate::seen::Seen;
-use crate::shift_room::ShiftRoom;
+use crate::walker::Walker;
 use bound_proof::{CertRoom, Piece, PieceFault, Pieces};
 use certificates::Verdict;
-use roster_model::{Instance, Memory};
-use std::alloc::Global;
-
-/// How many nodes a text has at most.
-const MOST_NODES: usize = 20001;
+use roster_model::Instance;
 
 // Returns the prices that the room holds.
 fn prices_in(room: &CertRoom) -> PricesView<'_>
@@ -49,21 +44,12 @@ fn is_end(piece: Piece) -> bool
     matches!(piece, Piece::End)
 }
 
-impl Bench {
-    /// Returns a bench for every proof text for a sound instance. It takes all its memory here.
-    pub fn for_texts(alloc: Global, instance: &Instance) -> Result<Bench, Memory>
-        requires sound { IsSoundInstance instance.now }
-        ensures bench { IfOk result (IsBenchFor instance.now) }
-        ensures room { IfOk result (λ b. node_room b ≡ 20001) }
-    {
-        Bench::for_nodes(alloc, instance, MOST_NODES)
-    }
-
+impl Walker {
     // Sees the next node of a text. Takes no memory.
     fn see(&mut self, instance: &Instance, seen: &mut Seen, node: &NodeView<'_>)
         requires sound { IsSoundInstance instance.now }
         requires ready { IsReady instance.now self.old seen.old }
-        requires told { IsToldSound instance.now (length seen.old.shifts.shifts) (place_at self.old.stack seen.old.walk) (told_node (node_of node.now)) }
+        requires told { IsToldSound instance.now (length seen.old.shifts) (place_at self.old.stack seen.old.walk) (told_node (node_of node.now)) }
         ensures { IsTaken instance.now self.old seen.old (told_node (node_of node.now)) self.new seen.new }
     {
         let walk = self.step(instance, seen.walk, node);
@@ -74,7 +60,7 @@ impl Bench {
     fn take(&mut self, instance: &Instance, room: &CertRoom, seen: &mut Seen, piece: Piece)
         requires sound { IsSoundInstance instance.now }
         requires ready { IsReady instance.now self.old seen.old }
-        requires told { IsToldSound instance.now (length seen.old.shifts.shifts) (place_at self.old.stack seen.old.walk) (told room.now piece) }
+        requires told { IsToldSound instance.now (length seen.old.shifts) (place_at self.old.stack seen.old.walk) (told room.now piece) }
         ensures { IsTaken instance.now self.old seen.old (told room.now piece) self.new seen.new }
     {
         match piece {
@@ -98,11 +84,11 @@ impl Bench {
     // Returns the verdict on a certificate of which all was seen. Takes no memory.
     fn verdict(&mut self, instance: &Instance, seen: &Seen) -> Verdict
         requires sound { IsSoundInstance instance.now }
-        requires bench { IsBenchFor instance.now self.old }
-        requires shifts { Each (IsSoundShift instance.now) seen.now.shifts.shifts }
-        requires few { length seen.now.shifts.shifts ≤ 64 }
+        requires walker { IsWalkerFor instance.now self.old }
+        requires shifts { Each (IsSoundShift instance.now) seen.now.shifts }
+        requires few { length seen.now.shifts ≤ 64 }
         ensures verdict { (c : Stated) → IsSoundCert instance.now c → HasSeen instance.now c self.old seen.now → IsVerdict instance.now c result }
-        ensures bench { IsBenchFor instance.now self.new }
+        ensures walker { IsWalkerFor instance.now self.new }
         ensures stack { self.new.stack ≡ self.old.stack }
     {
         let shifts = seen.shifts.shifts();
@@ -112,31 +98,31 @@ impl Bench {
         decided(instance, seen.cost, seen.bound, shifts, seen.walk)
     }
 
-    /// Judges the certificate that a proof text says, or finds the first fault of the text. The answer
-    /// is that of [`bound_proof::read_cert`] and then [`Bench::judge`], but no list of nodes is held,
-    /// and it takes no memory.
-    ///
-    /// The bench was made for texts, and the room for the instance. The shifts of the text are held in
-    /// the room for them, which is used up.
-    pub fn judge_text(
+    /// Judges the certificate that a proof text says, or finds the first fault of the text. Takes no
+    /// memory. Nothing was seen before; what was seen stays.
+    pub(crate) fn judge_text(
         &mut self,
         instance: &Instance,
         text: &[u8],
         room: &mut CertRoom,
-        shifts: ShiftRoom,
+        seen: &mut Seen,
     ) -> Judged
         requires sound { IsSoundInstance instance.now }
-        requires bench { IsBenchFor instance.now self.old }
-        requires nodes { node_room self.old ≡ 20001 }
+        requires walker { IsWalkerFor instance.now self.old }
+        requires nodes { self.old.stack.most ≡ 20001 }
         requires made { length instance.now.cells ≤ room.old.most }
-        requires shifts { shifts ≡ record { shifts = []; left = 64 } }
+        requires nothing { seen.old ≡ record {
+          cost = None;
+          bound = None;
+          shifts = [];
+          walk = record { nodes = 0; shown = None; why = None };
+        } }
         ensures judged { IsJudged instance.now text.now result }
-        ensures bench { IsBenchFor instance.now self.new }
-        ensures nodes { node_room self.new ≡ 20001 }
+        ensures walker { IsWalkerFor instance.now self.new }
+        ensures nodes { self.new.stack.most ≡ 20001 }
         ensures made { room.new.most ≡ room.old.most }
     {
         self.stack.clear();
-        let mut seen = Seen::new(shifts);
         let mut pieces = Pieces::new(text);
         while let Some(answer) = pieces.next(instance, room) {
             let piece = match answer {
@@ -144,9 +130,9 @@ impl Bench {
                 Err(fault) => return Judged::Fault(fault),
             };
             if is_end(piece) {
-                return Judged::Said(self.verdict(instance, &seen));
+                return Judged::Said(self.verdict(instance, seen));
             }
-            self.take(instance, room, &mut seen, piece);
+            self.take(instance, room, seen, piece);
         }
         Judged::Fault(PieceFault::CutShort)
     }

@@ -1,7 +1,7 @@
-ghost use Rattle.std.specs.Prelude.{◌≡◌, ◌≤◌, ◌<◌, [], ◌∷◌, ◌++◌, IfOk, length};
+ghost use Rattle.std.specs.Prelude.{◌≡◌, ◌≤◌, ◌<◌, [], ◌∷◌, ◌++◌, All, IfOk, length};
 
 use crate::stated::StatedShift;
-use roster_model::Memory;
+use roster_model::{Memory, Shift};
 use std::alloc::Global;
 use std::marker::Model;
 
@@ -77,5 +77,17 @@ impl ShiftRoom {
     {
         self.slots[self.used].state(group, word, price);
         self.used += 1;
+    }
+
+    /// Holds these shifts in place of those before. Takes no memory.
+    pub fn keep_all(&mut self, shifts: &[Shift])
+        requires few { length shifts.now ≤ 64 }
+        requires short { All (λ s. length s.word ≤ 96) shifts.now }
+        ensures { self.new ≡ shifts.now }
+    {
+        self.clear();
+        for shift in shifts {
+            self.keep(shift.group, shift.word.as_slice(), shift.price);
+        }
     }
 }

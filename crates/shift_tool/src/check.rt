@@ -1,9 +1,10 @@
-ghost use Rattle.std.specs.Prelude.{◌≡◌, ◌≢◌, [], ◌∷◌, IfOk};
+ghost use Rattle.std.specs.Prelude.{◌≡◌, ◌≢◌, ◌≤◌, [], ◌∷◌, IfOk, length};
 ghost use Rattle.roster_model.specs.Sound.{IsPlain, IsSound};
 ghost use Rattle.roster_model.specs.SoundInstance.{IsSoundInstance};
 ghost use Rattle.demand_text.specs.FaultLine as demand_fault;
 ghost use Rattle.bound_proof.specs.CertOf.{proof_fault};
 ghost use Rattle.bound_proof.specs.FaultLine as proof_line;
+ghost use Rattle.proof_check.specs.Judging.{IsJudged};
 ghost use Rattle.shift_report.specs.VerdictText.{verdict_text};
 ghost use Rattle.shift_tool.specs.Check.{
   AnswersCheck,
@@ -22,7 +23,7 @@ use crate::fetch::{fetched, say_answer};
 use bound_proof::{CertRoom, PieceFault, ProofFault};
 use certificates::Verdict;
 use demand_text::{DemandFault, read_demand};
-use proof_check::{Bench, Judged, ShiftRoom};
+use proof_check::{Bench, Judged};
 use roster_model::{Grammar, Instance, Memory};
 use rules_text::read_rules;
 use shelf::Shelf;
@@ -74,15 +75,36 @@ fn verdict_answer(alloc: Global, verdict: &Verdict) -> Result<Answer, Memory>
     })
 }
 
-// What is answered to a proof text. No list of its nodes is held.
+// Judges a proof text in the room for its pieces. No list of its nodes is held.
+fn judged_in(
+    alloc: Global,
+    instance: &Instance,
+    text: &[u8],
+    room: &mut CertRoom,
+) -> Result<Judged, Memory>
+    requires sound { IsSoundInstance instance.now }
+    requires made { length instance.now.cells ≤ room.old.most }
+    ensures { IfOk result (IsJudged instance.now text.now) }
+{
+    let mut bench = Bench::for_texts(alloc, instance)?;
+    Ok(bench.judge_text(instance, text, room))
+}
+
+// Judges a proof text.
+fn judged(alloc: Global, instance: &Instance, text: &[u8]) -> Result<Judged, Memory>
+    requires { IsSoundInstance instance.now }
+    ensures { IfOk result (IsJudged instance.now text.now) }
+{
+    let mut room = CertRoom::for_instance(alloc, instance)?;
+    judged_in(alloc, instance, text, &mut room)
+}
+
+// What is answered to a proof text.
 fn judgement(alloc: Global, instance: &Instance, text: &[u8]) -> Result<Answer, Memory>
     requires { IsSoundInstance instance.now }
     ensures { IfOk result (λ a. ProofAnswers instance.now text.now a.status a.output) }
 {
-    let mut bench = Bench::for_texts(alloc, instance)?;
-    let mut room = CertRoom::for_instance(alloc, instance)?;
-    let shifts = ShiftRoom::for_text(alloc)?;
-    match bench.judge_text(instance, text, &mut room, shifts) {
+    match judged(alloc, instance, text)? {
         Judged::Said(verdict) => verdict_answer(alloc, &verdict),
         Judged::Fault(fault) => proof_refusal(alloc, fault),
     }

@@ -51,6 +51,25 @@ fn tree(alloc: Global, prices: &WordPrices<'_>, table: &Table, price: u64) -> Re
     })
 }
 
+// Says the price of a word and a tree of that cost, by a table for its grammar, or that there is none.
+fn derivation_by(
+    alloc: Global,
+    prices: &WordPrices<'_>,
+    table: &mut Table,
+) -> Result<Answer, Memory>
+    requires sound { IsSound prices.now.grammar.now }
+    requires made { IsMadeFor prices.now.grammar.now table.old }
+    requires length { length prices.now.word.now ≡ prices.now.grammar.now.periods }
+    ensures { IfOk result (λ a. Derivation prices.now.grammar.now prices.now.word.now a.status a.output) }
+{
+    let grammar = prices.grammar;
+    let least = table.least(grammar, prices);
+    match prices.price(grammar.start, least) {
+        Some(price) => tree(alloc, prices, table, price),
+        None => no_derivation(alloc),
+    }
+}
+
 // Says the price of a word by a sound grammar and a tree of that cost, or that there is none.
 fn derivation(alloc: Global, grammar: &Grammar, word: &[u8]) -> Result<Answer, Memory>
     requires { IsSound grammar.now }
@@ -61,11 +80,7 @@ fn derivation(alloc: Global, grammar: &Grammar, word: &[u8]) -> Result<Answer, M
     }
     let prices = WordPrices::new(grammar, word);
     let mut table = Table::for_instance(alloc, grammar)?;
-    let least = table.least(grammar, &prices);
-    match prices.price(grammar.start, least) {
-        Some(price) => tree(alloc, &prices, &table, price),
-        None => no_derivation(alloc),
-    }
+    derivation_by(alloc, &prices, &mut table)
 }
 
 // Says why a rules text is refused.

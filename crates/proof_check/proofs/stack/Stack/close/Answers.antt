@@ -1,6 +1,6 @@
 use Rattle.std.proofs.Common.{ap, sym, subst, ◌∙◌, ◌≡◌, ℕ}
-use Rattle.certificate_laws.specs.declared.frame.Frame.{Frame}
-use Rattle.certificate_laws.specs.Walk.{path, joined}
+use Rattle.proof_check.specs.declared.frame.Frame.{Frame}
+use Rattle.proof_check.specs.OpenSplits.{path, joined}
 use Rattle.proof_check.specs.Stacks.{StackView, AreSmall, IsClosing}
 use Rattle.proof_check.specs.Stacks.{halves_of}
 use Rattle.proof_check.proofs.Closing.{small-turned, closed, turned-halves}

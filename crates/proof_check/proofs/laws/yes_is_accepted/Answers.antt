@@ -1,0 +1,17 @@
+use Rattle.std.specs.Prelude.{◌↔◌}
+use Rattle.roster_model.specs.declared.instance.Instance.{Instance}
+use Rattle.certificates.specs.declared.cert.Cert.{Cert}
+use Rattle.certificates.specs.declared.verdict.Verdict.{Verdict}
+use Rattle.certificates.specs.declared.verdict.Verdict.TheVariants.{Yes, No}
+use Rattle.certificate_laws.specs.Accepted.{Accepts}
+use Rattle.certificate_laws.proofs.Refused.{refused}
+use Rattle.proof_check.specs.Verdicts.{IsVerdict}
+use Rattle.proof_check.specs.YesOrNo.{IsYes}
+use Rattle.proof_check.proofs.laws.yes_is_accepted.Goals as goal
+
+told : (i : Instance) (c : Cert) (v : Verdict) → IsVerdict i c v → IsYes v ↔ Accepts i c
+told i c (Yes cost bound) h = (λ y. h.0, λ a. tt)
+told i c (No why) h = (λ y. absurd y, λ a. absurd (refused i c a why h.holds))
+
+pub returns : goal.returns
+returns c = λ i cert v h. told i cert v h

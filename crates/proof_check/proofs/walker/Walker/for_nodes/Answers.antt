@@ -1,0 +1,10 @@
+use Rattle.std.proofs.Common.{ap}
+use Rattle.proof_check.specs.Stacks.{StackView}
+use Rattle.proof_check.proofs.walker.Walker.for_nodes.Goals as goal
+
+pub returns-clause-bench : goal.returns-clause-bench
+returns-clause-bench c = record {
+  tables = c.in_ok-tables.ensures;
+  rooms = c.in_ok-rooms.ensures;
+  base = ap (λ (s : StackView). s.base) c.in_ok-stack.ensures;
+}

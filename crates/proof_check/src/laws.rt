@@ -1,0 +1,6 @@
+ghost use Rattle.proof_check.specs.YesOrNo.{YesIsAccepted};
+
+/// A verdict on a certificate is a yes if and only if the certificate is accepted.
+pub fn yes_is_accepted()
+    ensures { YesIsAccepted }
+{}
