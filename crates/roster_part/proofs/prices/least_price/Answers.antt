@@ -1,4 +1,4 @@
-use Rattle.std.proofs.Common.{◌∙◌, sym, subst}
+use Rattle.std.proofs.Common.{◌∙◌, ap, sym, subst, List, ℕ, length}
 use Rattle.roster_model.specs.declared.grammar.Grammar.{Grammar}
 use Rattle.roster_model.specs.Sums.{IsLeast, tree_sum}
 use Rattle.roster_model.specs.Trees.{IsTreeOf}
@@ -7,14 +7,14 @@ use Rattle.word_prices.specs.Prices.{word_view}
 use Rattle.roster_part.proofs.Pricing.{told}
 use Rattle.roster_part.proofs.prices.least_price.Goals as goal
 
-pub returns-then-len-grammar-clause-value : goal.returns-then-len-grammar-clause-value
-returns-then-len-grammar-clause-value c =
-    let i = c.args.instance.now in λ t at e shift. c.if-len-grammar.true (c.len.ensures ∙ shift-length i.grammar t.name c.args.shift.now.word c.requires.sound.grammar shift)
+pub returns-then-word-grammar-clause-value : goal.returns-then-word-grammar-clause-value
+returns-then-word-grammar-clause-value c =
+    let i = c.args.instance.now in λ t at e shift. c.if-word-grammar.true (ap (λ (w : List ℕ). length w) c.word.ensures ∙ shift-length i.grammar t.name c.args.shift.now.word c.requires.sound.grammar shift)
 
 pub returns-clause-value : goal.returns-clause-value
 returns-clause-value c =
-    let priced = rw (c.new-prices.ensures.grammar, c.new-prices.ensures.word, c.as_slice.ensures) at c.price.ensures in
-    told c.args.instance.now c.args.shift.now c.team_name-name.result c.price.result c.team_name-name.ensures.value priced
+    let priced = rw (c.new-prices.ensures.grammar, c.new-prices.ensures.word, c.word-2.ensures) at c.price.ensures in
+    told c.args.instance.now c.args.shift.now c.team_name-name.result c.price.result (rw c.group.ensures at c.team_name-name.ensures.value) priced
 
 pub price-requires-clause-least : goal.price-requires-clause-least
 price-requires-clause-least c =
