@@ -24,7 +24,7 @@ mod verdict;
 mod walk;
 mod walker;
 
-pub use bench::Walker;
+pub use bench::Bench;
 pub use certificates::{Verdict, Why};
 pub use judged::Judged;
 pub use laws::yes_is_accepted;

@@ -1,2 +1,3 @@
 pub mod RestAndWork
 pub mod TwoReadings
+pub mod Built

@@ -1,11 +1,15 @@
-//! The definitions of the shared model, computed on two small grammars.
+//! Small days that tests and laws share.
 //!
-//! Each function here is a law: its body is empty, and its contract is what the definitions say of
-//! one worked case.
+//! [`day`] makes a sample day of its parts. The laws compute the definitions of the shared model on two
+//! small grammars: each has an empty body, and its contract is what the definitions say of one worked case.
 #![tactic(auto)]
 
+mod grammars;
+mod parts;
 mod rest_and_work;
 mod two_readings;
 
+pub use grammars::{BLOCK_NAMES, BLOCKS, CELL, FULL_DAYS, PAIRS, SPLIT_DAYS};
+pub use parts::{ANY, DayParts, REST, RuleParts, WORK, day, grammar, rule};
 pub use rest_and_work::{sum_of_a_block, tree_of_a_block};
 pub use two_readings::{least_sum_of_two_readings, price_of_two_readings};

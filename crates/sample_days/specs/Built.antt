@@ -1,0 +1,36 @@
+-- Sample days from their parts.
+use Rattle.std.specs.Prelude.{ℕ, List, [], ◌∷◌, map, true, false}
+use Rattle.roster_model.specs.declared.grammar.CodeDef.{CodeDef}
+use Rattle.roster_model.specs.declared.grammar.Grammar.{Grammar}
+use Rattle.roster_model.specs.declared.grammar.Rule.{Rule}
+use Rattle.roster_model.specs.declared.grammar.Sym.{Sym}
+use Rattle.roster_model.specs.declared.grammar.Window.{Window}
+use Rattle.roster_model.specs.declared.instance.Instance.{Instance}
+use Rattle.sample_days.specs.declared.parts.RuleParts.{RuleParts}
+use Rattle.sample_days.specs.declared.parts.DayParts.{DayParts}
+
+abbrev pub any : Window
+any = record { lo = 1; hi = 96 }
+
+-- `a` is work, and `.` is rest
+abbrev pub two_codes : List CodeDef
+two_codes = (record { byte = 97; work = true }) ∷ (record { byte = 46; work = false }) ∷ []
+
+abbrev pub rule_with : ℕ → ℕ → List Sym → Window → Rule
+rule_with left cost right span = record { left = left; cost = cost; right = right; span = span; first = any; last = any }
+
+abbrev pub rule_of : RuleParts → Rule
+rule_of p = rule_with p.left p.cost p.right.now p.span
+
+abbrev pub grammar_of : ℕ → List (List ℕ) → List Rule → ℕ → Grammar
+grammar_of periods names rules start =
+    record { periods = periods; codes = two_codes; names = names; rules = rules; start = start }
+
+abbrev pub day_of : DayParts → Instance
+day_of p = record {
+  grammar = grammar_of p.periods (map (λ n. n.now) p.names.now) (map rule_of p.rules.now) p.start;
+  heads_min = p.heads.0;
+  heads_max = p.heads.1;
+  groups = p.groups.now;
+  cells = p.cells.now;
+}

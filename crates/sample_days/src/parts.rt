@@ -1,0 +1,138 @@
+ghost use Rattle.std.specs.Prelude.{◌≡◌, IfOk, map};
+ghost use Rattle.sample_days.specs.Built.{rule_of, rule_with, two_codes, grammar_of, day_of};
+
+use roster_model::{Cell, CodeDef, Grammar, Group, Instance, List, Memory, Rule, Sym, Window};
+use std::alloc::Global;
+
+/// Every length and every period of the longest day.
+pub const ANY: Window = Window { lo: 1, hi: 96 };
+
+/// The letter `a` of sample days, which is work.
+pub const WORK: Sym = Sym::Code(0);
+
+/// The letter `.` of sample days, which is rest.
+pub const REST: Sym = Sym::Code(1);
+
+/// A rule of a sample day, which may stand at any period.
+#[derive(Clone, Copy, Debug, Drop)]
+pub struct RuleParts<'a> {
+    pub left: u8,
+    pub cost: u32,
+    pub right: &'a [Sym],
+    /// The lengths on which it may stand.
+    pub span: Window,
+}
+
+/// Returns the parts of a rule.
+pub const fn rule(left: u8, cost: u32, right: &[Sym], span: Window) -> RuleParts<'_>
+    ensures { rule_of result ≡ rule_with left cost right.now span }
+{
+    RuleParts {
+        left,
+        cost,
+        right,
+        span,
+    }
+}
+
+/// A sample day: its codes are `a`, which is work, and `.`, which is rest. On a day with groups the
+/// names and rules are those of the extension by them.
+#[derive(Clone, Copy, Debug, Drop)]
+pub struct DayParts<'a> {
+    pub periods: u8,
+    pub names: &'a [&'a str],
+    pub rules: &'a [RuleParts<'a>],
+    pub start: u8,
+    /// The least and the greatest head count.
+    pub heads: (u32, u32),
+    pub groups: &'a [Group],
+    pub cells: &'a [Cell],
+}
+
+fn codes(alloc: Global) -> Result<List<CodeDef>, Memory>
+    ensures { IfOk result (λ l. l ≡ two_codes) }
+{
+    let codes = [
+        CodeDef {
+            byte: b'a',
+            work: true,
+        },
+        CodeDef {
+            byte: b'.',
+            work: false,
+        },
+    ];
+    list(alloc, &codes)
+}
+
+fn list<T: Copy>(alloc: Global, items: &[T]) -> Result<List<T>, Memory>
+    ensures { IfOk result (λ l. l ≡ items.now) }
+{
+    match Vec::from_slice(alloc, items) {
+        Ok(items) => Ok(List::from_vec(items)),
+        Err(_) => Err(Memory),
+    }
+}
+
+fn texts(alloc: Global, names: &[&str]) -> Result<List<List<u8>>, Memory>
+    ensures { IfOk result (λ l. l ≡ map (λ n. n.now) names.now) }
+{
+    let mut texts = List::new(alloc);
+    for name in names {
+        texts.push(list(alloc, name.as_bytes())?)?;
+    }
+    Ok(texts)
+}
+
+fn rules(alloc: Global, parts: &[RuleParts]) -> Result<List<Rule>, Memory>
+    ensures { IfOk result (λ l. l ≡ map rule_of parts.now) }
+{
+    let mut rules = List::new(alloc);
+    for part in parts {
+        rules.push(Rule {
+            left: part.left,
+            cost: part.cost,
+            right: list(alloc, part.right)?,
+            span: part.span,
+            first: ANY,
+            last: ANY,
+        })?;
+    }
+    Ok(rules)
+}
+
+/// Returns the grammar of a sample day.
+pub fn grammar(
+    alloc: Global,
+    periods: u8,
+    names: &[&str],
+    parts: &[RuleParts],
+    start: u8,
+) -> Result<Grammar, Memory>
+    ensures { IfOk result (λ g. g ≡ grammar_of periods (map (λ n. n.now) names.now) (map rule_of parts.now) start) }
+{
+    Ok(Grammar {
+        periods,
+        codes: codes(alloc)?,
+        names: texts(alloc, names)?,
+        rules: rules(alloc, parts)?,
+        start,
+    })
+}
+
+/// Returns a sample day.
+pub fn day(alloc: Global, parts: &DayParts) -> Result<Instance, Memory>
+    ensures { IfOk result (λ i. i ≡ day_of parts.now) }
+{
+    let groups = list(alloc, parts.groups)?;
+    let cells = list(alloc, parts.cells)?;
+    let grammar = grammar(alloc, parts.periods, parts.names, parts.rules, parts.start)?;
+    let (heads_min, heads_max) = parts.heads;
+    Ok(Instance {
+        grammar,
+        heads_min,
+        heads_max,
+        groups,
+        cells,
+    })
+}
