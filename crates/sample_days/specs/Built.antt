@@ -1,4 +1,5 @@
 -- Sample days from their parts.
+use Rattle.std.specs.Borrow.{Bor}
 use Rattle.std.specs.Prelude.{ℕ, List, [], ◌∷◌, map, true, false}
 use Rattle.roster_model.specs.declared.grammar.CodeDef.{CodeDef}
 use Rattle.roster_model.specs.declared.grammar.Grammar.{Grammar}
@@ -6,7 +7,6 @@ use Rattle.roster_model.specs.declared.grammar.Rule.{Rule}
 use Rattle.roster_model.specs.declared.grammar.Sym.{Sym}
 use Rattle.roster_model.specs.declared.grammar.Window.{Window}
 use Rattle.roster_model.specs.declared.instance.Instance.{Instance}
-use Rattle.sample_days.specs.declared.parts.RuleParts.{RuleParts}
 use Rattle.sample_days.specs.declared.parts.DayParts.{DayParts}
 
 abbrev pub any : Window
@@ -16,11 +16,9 @@ any = record { lo = 1; hi = 96 }
 abbrev pub two_codes : List CodeDef
 two_codes = (record { byte = 97; work = true }) ∷ (record { byte = 46; work = false }) ∷ []
 
-abbrev pub rule_with : ℕ → ℕ → List Sym → Window → Rule
-rule_with left cost right span = record { left = left; cost = cost; right = right; span = span; first = any; last = any }
-
-abbrev pub rule_of : RuleParts → Rule
-rule_of p = rule_with p.left p.cost p.right.now p.span
+-- a rule from its left side, cost, right side and lengths
+abbrev pub rule_of : ℕ × ℕ × Bor (List Sym) × Window → Rule
+rule_of p = record { left = p.0; cost = p.1; right = p.2.now; span = p.3; first = any; last = any }
 
 abbrev pub grammar_of : ℕ → List (List ℕ) → List Rule → ℕ → Grammar
 grammar_of periods names rules start =

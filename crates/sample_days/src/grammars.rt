@@ -1,4 +1,4 @@
-use crate::parts::{ANY, REST, RuleParts, WORK, rule};
+use crate::parts::{ANY, REST, RuleParts, WORK};
 use roster_model::{Cell, Sym, Window};
 
 const BLOCK: Sym = Sym::Name(1);
@@ -12,41 +12,41 @@ pub const BLOCK_NAMES: [&str; 4] = ["S", "W", "R", "A"];
 
 /// One block of two or three working periods, which costs 2 and 1 for each period, with rest around it.
 pub const BLOCKS: [RuleParts<'static>; 9] = [
-    rule(0, 0, &[BLOCK], ANY),
-    rule(0, 0, &[IDLE, BLOCK], ANY),
-    rule(0, 0, &[BLOCK, IDLE], ANY),
-    rule(0, 0, &[IDLE, BLOCK, IDLE], ANY),
-    rule(1, 2, &[RUN], Window { lo: 2, hi: 3 }),
-    rule(3, 1, &[WORK], ANY),
-    rule(3, 1, &[WORK, RUN], ANY),
-    rule(2, 0, &[REST], ANY),
-    rule(2, 0, &[REST, IDLE], ANY),
+    (0, 0, &[BLOCK], ANY),
+    (0, 0, &[IDLE, BLOCK], ANY),
+    (0, 0, &[BLOCK, IDLE], ANY),
+    (0, 0, &[IDLE, BLOCK, IDLE], ANY),
+    (1, 2, &[RUN], Window { lo: 2, hi: 3 }),
+    (3, 1, &[WORK], ANY),
+    (3, 1, &[WORK, RUN], ANY),
+    (2, 0, &[REST], ANY),
+    (2, 0, &[REST, IDLE], ANY),
 ];
 
 /// Two of three periods, at 2, for the one name `S`.
 pub const PAIRS: [RuleParts<'static>; 3] = [
-    rule(0, 2, &[WORK, WORK, REST], ANY),
-    rule(0, 2, &[REST, WORK, WORK], ANY),
-    rule(0, 2, &[WORK, REST, WORK], ANY),
+    (0, 2, &[WORK, WORK, REST], ANY),
+    (0, 2, &[REST, WORK, WORK], ANY),
+    (0, 2, &[WORK, REST, WORK], ANY),
 ];
 
 /// Both of two periods, at 5 or by parts at 3, for the names `S` and `A`.
 pub const FULL_DAYS: [RuleParts<'static>; 3] = [
-    rule(0, 5, &[WORK, WORK], ANY),
-    rule(0, 3, &[BLOCK, BLOCK], ANY),
-    rule(1, 0, &[WORK], ANY),
+    (0, 5, &[WORK, WORK], ANY),
+    (0, 3, &[BLOCK, BLOCK], ANY),
+    (1, 0, &[WORK], ANY),
 ];
 
 /// Full days at 3 and half days at 1, for the names `S`, `F` and `H` and the added name `*`, whose last
 /// rules are those of the groups `F` and `H`.
 pub const SPLIT_DAYS: [RuleParts<'static>; 7] = [
-    rule(0, 0, &[Sym::Name(1)], ANY),
-    rule(0, 0, &[Sym::Name(2)], ANY),
-    rule(1, 3, &[WORK, WORK], ANY),
-    rule(2, 1, &[WORK, REST], ANY),
-    rule(2, 1, &[REST, WORK], ANY),
-    rule(3, 0, &[Sym::Name(1)], ANY),
-    rule(3, 0, &[Sym::Name(2)], ANY),
+    (0, 0, &[Sym::Name(1)], ANY),
+    (0, 0, &[Sym::Name(2)], ANY),
+    (1, 3, &[WORK, WORK], ANY),
+    (2, 1, &[WORK, REST], ANY),
+    (2, 1, &[REST, WORK], ANY),
+    (3, 0, &[Sym::Name(1)], ANY),
+    (3, 0, &[Sym::Name(2)], ANY),
 ];
 
 /// A cell of the letter `a` in period 1 that needs one employee, at 10 for each that is missing.

@@ -10,6 +10,6 @@ mod rest_and_work;
 mod two_readings;
 
 pub use grammars::{BLOCK_NAMES, BLOCKS, CELL, FULL_DAYS, PAIRS, SPLIT_DAYS};
-pub use parts::{ANY, DayParts, REST, RuleParts, WORK, day, grammar, rule};
+pub use parts::{ANY, DayParts, REST, RuleParts, WORK, day, grammar};
 pub use rest_and_work::{sum_of_a_block, tree_of_a_block};
 pub use two_readings::{least_sum_of_two_readings, price_of_two_readings};

@@ -1,5 +1,5 @@
 ghost use Rattle.std.specs.Prelude.{◌≡◌, IfOk, map};
-ghost use Rattle.sample_days.specs.Built.{rule_of, rule_with, two_codes, grammar_of, day_of};
+ghost use Rattle.sample_days.specs.Built.{rule_of, two_codes, grammar_of, day_of};
 
 use roster_model::{Cell, CodeDef, Grammar, Group, Instance, List, Memory, Rule, Sym, Window};
 use std::alloc::Global;
@@ -13,27 +13,8 @@ pub const WORK: Sym = Sym::Code(0);
 /// The letter `.` of sample days, which is rest.
 pub const REST: Sym = Sym::Code(1);
 
-/// A rule of a sample day, which may stand at any period.
-#[derive(Clone, Copy, Debug, Drop)]
-pub struct RuleParts<'a> {
-    pub left: u8,
-    pub cost: u32,
-    pub right: &'a [Sym],
-    /// The lengths on which it may stand.
-    pub span: Window,
-}
-
-/// Returns the parts of a rule.
-pub const fn rule(left: u8, cost: u32, right: &[Sym], span: Window) -> RuleParts<'_>
-    ensures { rule_of result ≡ rule_with left cost right.now span }
-{
-    RuleParts {
-        left,
-        cost,
-        right,
-        span,
-    }
-}
+/// A rule of a sample day: its left side, its cost, its right side, and the lengths on which it may stand.
+pub type RuleParts<'a> = (u8, u32, &'a [Sym], Window);
 
 /// A sample day: its codes are `a`, which is work, and `.`, which is rest. On a day with groups the
 /// names and rules are those of the extension by them.
@@ -88,12 +69,12 @@ fn rules(alloc: Global, parts: &[RuleParts]) -> Result<List<Rule>, Memory>
     ensures { IfOk result (λ l. l ≡ map rule_of parts.now) }
 {
     let mut rules = List::new(alloc);
-    for part in parts {
+    for (left, cost, right, span) in parts {
         rules.push(Rule {
-            left: part.left,
-            cost: part.cost,
-            right: list(alloc, part.right)?,
-            span: part.span,
+            left: *left,
+            cost: *cost,
+            right: list(alloc, right)?,
+            span: *span,
             first: ANY,
             last: ANY,
         })?;

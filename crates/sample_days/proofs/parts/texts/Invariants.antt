@@ -1,4 +1,4 @@
-use Rattle.std.proofs.Common.{◌≡◌, map, take, ℕ, List}
+use Rattle.std.proofs.Common.{◌≡◌, map, take}
 use Rattle.sample_days.proofs.parts.texts.Given as goal
 
 abbrev pub invariant-loop-name : goal.invariant-loop-name
