@@ -10,7 +10,7 @@ use Rattle.roster_model.specs.Sound.{IsSound}
 use Rattle.roster_model.specs.Cuts.{arcs_of, arc_count}
 use Rattle.arc_laws.specs.OrNodes.{OrNode, name, suffix, leaf, same_node, made_by, made, used, root_of}
 use Rattle.arc_laws.specs.TreeLists.{has_letter, letters_of}
-use Rattle.arc_laws.specs.Lists.{AreArcs}
+use Rattle.arc_laws.specs.Lists.{AreArcs, HoldsArcsOnce}
 use Rattle.arc_laws.specs.Balance.{made_sum, used_sum, IsBalanced}
 use Rattle.arc_laws.specs.Counts.{top_cost, root_count}
 use Rattle.arc_laws.proofs.Folding.{sum_n-append, sum_n-same, count-append, count-none, In-append, Each-same}
@@ -84,13 +84,13 @@ module _ (g : Grammar) where
     pub arc_count-le : (ts : List Parts) (a : ArcKey) → Each (IsDayTree g) ts → arc_count a ts ≤ length ts
     arc_count-le ts a day = omega (arith, arc_le_made a (arcs_of ts), made_le (same_node (made g a)) ts (once_each (made g a) ts day))
 
-  -- numbers that are the counts of the arcs
-  module _ (ts : List Parts) (listed : List ArcKey) (value : ArcKey → ℕ) (day : Each (IsDayTree g) ts) (are : AreArcs g listed)
+  -- numbers that are the counts of the arcs, over any list that holds each arc once
+  module _ (ts : List Parts) (listed : List ArcKey) (value : ArcKey → ℕ) (day : Each (IsDayTree g) ts) (are : HoldsArcsOnce g listed)
       (same : (a : ArcKey) → In a listed → value a ≡ arc_count a ts) where
     over_arcs : (f : ArcKey → ℕ) → sum_n (λ a. value a * f a) listed ≡ sum_n f (arcs_of ts)
     over_arcs f =
         sum_n-same (λ a. value a * f a) (λ a. count (same_arc a) (arcs_of ts) * f a) listed (λ a h. ap (λ (n : ℕ). n * f a) (same a h))
-        ∙ counted f listed (arcs_of ts) (rising-once listed are.rising) (λ a h. are.whole a (in_tree a ts day h))
+        ∙ counted f listed (arcs_of ts) are.once (λ a h. are.whole a (in_tree a ts day h))
 
     made_is : (o : OrNode) → made_sum g listed value o ≡ made_total g (same_node o) (arcs_of ts)
     made_is o = over_arcs (λ a. cond (same_node o (made g a)) 1 0)
@@ -106,22 +106,22 @@ module _ (g : Grammar) where
         let r : length ts * cond (same_node o (root_of g)) 1 0 ≡ 0 = rw apart (omega arith) in
         omega (arith, made_is o, used_is o)
 
-    pub trees-balanced : IsBalanced g listed value
-    trees-balanced = record {
+    pub listed-balanced : IsBalanced g listed value
+    listed-balanced = record {
       names = λ x s l e. balanced_at (name x s l) e (λ k. refl);
       suffixes = λ r k s l. balanced_at (suffix r k s l) refl (λ k. refl);
     }
 
-    pub root-counts : IsSound g → root_count g listed value ≡ length ts
-    root-counts sound =
+    pub listed-roots : IsSound g → root_count g listed value ≡ length ts
+    listed-roots sound =
         let o = root_of g in
         let t = totals (same_node o) ts day in
         let z = count-none (λ l. same_node o (leaf l)) (letters_of ts) (λ l. refl) in
         let r : length ts * cond (same_node o (root_of g)) 1 0 ≡ length ts = rw (same_node-refl o) (omega arith) in
         omega (arith, made_is o, made_le (same_node o) ts (once_each sound o ts day))
 
-    pub leaves-count : (l : Letter) → used_sum g listed value (leaf l) ≡ count (has_letter l) (letters_of ts)
-    leaves-count l =
+    pub listed-leaves : (l : Letter) → used_sum g listed value (leaf l) ≡ count (has_letter l) (letters_of ts)
+    listed-leaves l =
         let t = totals (same_node (leaf l)) ts day in
         let z = sum_zero (arcs_of ts) in
         omega (arith, used_is (leaf l))
@@ -130,5 +130,24 @@ module _ (g : Grammar) where
         sum_zero [] = refl
         sum_zero (x ∷ xs) = rw (made_never_leaf l x) (omega (arith, sum_zero xs))
 
-    pub arcs-pay : sum_n (λ a. value a * top_cost g a) listed ≡ sum_n (cost g) ts
-    arcs-pay = over_arcs (top_cost g) ∙ tops_total g ts day
+    pub listed-costs : sum_n (λ a. value a * top_cost g a) listed ≡ sum_n (cost g) ts
+    listed-costs = over_arcs (top_cost g) ∙ tops_total g ts day
+
+-- the arcs in their order stand there once
+pub arcs-once : (g : Grammar) (listed : List ArcKey) → AreArcs g listed → HoldsArcsOnce g listed
+arcs-once g listed are = record { sound = are.sound; whole = are.whole; once = rising-once listed are.rising }
+
+-- the same over the list in order
+module _ (g : Grammar) (ts : List Parts) (listed : List ArcKey) (value : ArcKey → ℕ) (day : Each (IsDayTree g) ts) (are : AreArcs g listed)
+    (same : (a : ArcKey) → In a listed → value a ≡ arc_count a ts) where
+  pub trees-balanced : IsBalanced g listed value
+  trees-balanced = listed-balanced g ts listed value day (arcs-once g listed are) same
+
+  pub root-counts : IsSound g → root_count g listed value ≡ length ts
+  root-counts sound = listed-roots g ts listed value day (arcs-once g listed are) same sound
+
+  pub leaves-count : (l : Letter) → used_sum g listed value (leaf l) ≡ count (has_letter l) (letters_of ts)
+  leaves-count l = listed-leaves g ts listed value day (arcs-once g listed are) same l
+
+  pub arcs-pay : sum_n (λ a. value a * top_cost g a) listed ≡ sum_n (cost g) ts
+  arcs-pay = listed-costs g ts listed value day (arcs-once g listed are) same

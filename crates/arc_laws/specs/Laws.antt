@@ -9,7 +9,7 @@ use Rattle.roster_model.specs.Arcs.{Letter, arcs, cost, same_arc}
 use Rattle.roster_model.specs.Sound.{IsSound}
 use Rattle.roster_model.specs.Cuts.{arc_count, KeepsTo, lo, hi}
 use Rattle.arc_laws.specs.OrNodes.{OrNode, leaf, same_node, made}
-use Rattle.arc_laws.specs.Lists.{AreArcs}
+use Rattle.arc_laws.specs.Lists.{AreArcs, HoldsArcsOnce}
 use Rattle.arc_laws.specs.Balance.{used_sum, IsBalanced}
 use Rattle.arc_laws.specs.Counts.{top_cost, root_count}
 use Rattle.arc_laws.specs.TreeLists.{has_letter, letters_of}
@@ -54,3 +54,27 @@ abbrev pub PathBounds : Type 0
 PathBounds =
     (most n : ℕ) (cuts : List Cut) (a : ArcKey) → n ≤ most
     → (((lo cuts a ≤ n) × (n ≤ hi most cuts a)) ↔ Each (λ (c : Cut). same_arc c.arc a ≡ true → KeepsTo c.side c.b n) cuts)
+
+-- the list of the arcs in their order holds each of them once
+abbrev pub ListHoldsOnce : Type 0
+ListHoldsOnce = (g : Grammar) (listed : List ArcKey) → AreArcs g listed → HoldsArcsOnce g listed
+
+-- the four laws on the counts of trees' arcs, over any list that holds each arc once
+abbrev pub TreesBalancedOver : Type 0
+TreesBalancedOver =
+    (g : Grammar) (ts : List Parts) (listed : List ArcKey) → Each (IsDayTree g) ts → HoldsArcsOnce g listed → IsBalanced g listed (λ a. arc_count a ts)
+
+abbrev pub RootCountsOver : Type 0
+RootCountsOver =
+    (g : Grammar) (ts : List Parts) (listed : List ArcKey) → IsSound g → Each (IsDayTree g) ts → HoldsArcsOnce g listed
+    → root_count g listed (λ a. arc_count a ts) ≡ length ts
+
+abbrev pub LeavesCountOver : Type 0
+LeavesCountOver =
+    (g : Grammar) (ts : List Parts) (listed : List ArcKey) (l : Letter) → Each (IsDayTree g) ts → HoldsArcsOnce g listed
+    → used_sum g listed (λ a. arc_count a ts) (leaf l) ≡ count (has_letter l) (letters_of ts)
+
+abbrev pub ArcsPayOver : Type 0
+ArcsPayOver =
+    (g : Grammar) (ts : List Parts) (listed : List ArcKey) → Each (IsDayTree g) ts → HoldsArcsOnce g listed
+    → sum_n (λ a. arc_count a ts * top_cost g a) listed ≡ sum_n (cost g) ts

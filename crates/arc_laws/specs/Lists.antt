@@ -1,9 +1,9 @@
 -- The arcs of the instance as a list.
-use Rattle.std.specs.Prelude.{List, [], ◌∷◌}
+use Rattle.std.specs.Prelude.{◌≡◌, List, [], ◌∷◌}
 use Rattle.roster_model.specs.declared.grammar.ArcKey.{ArcKey}
 use Rattle.roster_model.specs.declared.grammar.Grammar.{Grammar}
-use Rattle.roster_model.specs.Folds.{Each, In}
-use Rattle.roster_model.specs.Arcs.{IsArc, ArcBefore}
+use Rattle.roster_model.specs.Folds.{count, Each, In}
+use Rattle.roster_model.specs.Arcs.{IsArc, ArcBefore, same_arc}
 
 -- each arc comes before all that follow it
 abbrev pub IsRising : List ArcKey → Type 0
@@ -15,3 +15,9 @@ pub record AreArcs (g : Grammar) (listed : List ArcKey) : Type 0 where
   pub sound : (a : ArcKey) → In a listed → IsArc g a
   pub whole : (a : ArcKey) → IsArc g a → In a listed
   pub rising : IsRising listed
+
+-- the arcs of the instance and no others, each once, in any order
+pub record HoldsArcsOnce (g : Grammar) (listed : List ArcKey) : Type 0 where
+  pub sound : (a : ArcKey) → In a listed → IsArc g a
+  pub whole : (a : ArcKey) → IsArc g a → In a listed
+  pub once : (a : ArcKey) → In a listed → count (same_arc a) listed ≡ 1

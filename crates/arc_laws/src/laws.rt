@@ -1,4 +1,18 @@
-ghost use Rattle.arc_laws.specs.Laws.{ArcOnce, MadeOnce, OneList, TreesBalanced, RootCounts, LeavesCount, ArcsPay, PathBounds};
+ghost use Rattle.arc_laws.specs.Laws.{
+  ArcOnce,
+  MadeOnce,
+  OneList,
+  TreesBalanced,
+  RootCounts,
+  LeavesCount,
+  ArcsPay,
+  ListHoldsOnce,
+  TreesBalancedOver,
+  RootCountsOver,
+  LeavesCountOver,
+  ArcsPayOver,
+  PathBounds,
+};
 
 /// An arc stands at most once in a tree of the day.
 pub fn arc_once()
@@ -40,4 +54,34 @@ pub fn arcs_pay()
 /// it.
 pub fn path_bounds()
     ensures { PathBounds }
+{}
+
+/// The list of the arcs in their order holds each of them once, and so the four laws that follow
+/// hold of it.
+pub fn list_holds_once()
+    ensures { ListHoldsOnce }
+{}
+
+/// How many of some trees of the day have each arc is balanced over any list that holds each arc
+/// once.
+pub fn trees_balanced_over()
+    ensures { TreesBalancedOver }
+{}
+
+/// The counts of the arcs that make the start name on the whole day add up to the number of trees,
+/// over any list that holds each arc once.
+pub fn root_counts_over()
+    ensures { RootCountsOver }
+{}
+
+/// The counts of the arcs that use a letter add up to the number of trees that have it, over any
+/// list that holds each arc once.
+pub fn leaves_count_over()
+    ensures { LeavesCountOver }
+{}
+
+/// The counts of the arcs of whole right sides, times their rules' costs, add up to the trees' cost,
+/// over any list that holds each arc once.
+pub fn arcs_pay_over()
+    ensures { ArcsPayOver }
 {}

@@ -8,5 +8,6 @@
 mod laws;
 
 pub use laws::{
-    arc_once, arcs_pay, leaves_count, made_once, one_list, path_bounds, root_counts, trees_balanced,
+    arc_once, arcs_pay, arcs_pay_over, leaves_count, leaves_count_over, list_holds_once, made_once,
+    one_list, path_bounds, root_counts, root_counts_over, trees_balanced, trees_balanced_over,
 };

@@ -20,3 +20,7 @@ pub mod PlainValues
 pub mod DayTeams
 pub mod Spelled
 pub mod Shares
+pub mod BaseCuts
+pub mod LetterOnce
+pub mod Counted
+pub mod ReducedCosts

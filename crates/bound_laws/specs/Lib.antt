@@ -6,6 +6,7 @@ pub mod Pinned
 pub mod BestPrices
 pub mod Points
 pub mod DutyTrees
+pub mod Counted
 pub mod Laws
 pub mod Plain
 pub mod SmallShares

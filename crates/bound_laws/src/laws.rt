@@ -12,6 +12,13 @@ ghost use Rattle.bound_laws.specs.Laws.{
   PinnedIsCost,
   AreOneValue,
 };
+ghost use Rattle.bound_laws.specs.Counted.{
+  CountsMakeRosters,
+  CountsMeetCuts,
+  BaseCutsAskForArcs,
+  BaseCutsLeaveCounts,
+  ReducedCosts,
+};
 ghost use Rattle.bound_laws.specs.Plain.{PlainRosters, PlainLagrangians};
 ghost use Rattle.bound_laws.specs.SmallShares.{SmallShares};
 ghost use Rattle.bound_laws.specs.WorkedFloors.{WorkedFloors};
@@ -112,4 +119,32 @@ pub fn worked_groups()
 /// is 60, and both halves of a split show 61.
 pub fn worked_floors()
     ensures { WorkedFloors }
+{}
+
+/// Trees that have the counts of an allowed roster are a roster of trees at the counts' cost, with
+/// the coverage of each cell at most the greatest number of employees.
+pub fn counts_make_rosters()
+    ensures { CountsMakeRosters }
+{}
+
+/// Trees with counts that a path leaves the arcs meet its cuts, where its High cuts are on arcs of the
+/// instance.
+pub fn counts_meet_cuts()
+    ensures { CountsMeetCuts }
+{}
+
+/// The High base cuts of an instance that is not plainly infeasible are on arcs of the instance.
+pub fn base_cuts_ask_for_arcs()
+    ensures { BaseCutsAskForArcs }
+{}
+
+/// The base cuts of a sound instance leave each arc a count.
+pub fn base_cuts_leave_counts()
+    ensures { BaseCutsLeaveCounts }
+{}
+
+/// The reduced cost of a tree of the day is the denominator times its cost, less the prices of its
+/// letters, with the multipliers of its arcs.
+pub fn reduced_costs()
+    ensures { ReducedCosts }
 {}

@@ -9,8 +9,9 @@
 mod laws;
 
 pub use laws::{
-    are_one_value, day_trees_have_teams, infeasible_has_none, lagrangian_bound, one_half,
-    pinned_is_cost, plain_lagrangians, plain_rosters, priced_bound, rosters_cost_less,
-    rosters_have_trees, small_shares, trees_cost_less, trees_spell_rosters,
+    are_one_value, base_cuts_ask_for_arcs, base_cuts_leave_counts, counts_make_rosters,
+    counts_meet_cuts, day_trees_have_teams, infeasible_has_none, lagrangian_bound, one_half,
+    pinned_is_cost, plain_lagrangians, plain_rosters, priced_bound, reduced_costs,
+    rosters_cost_less, rosters_have_trees, small_shares, trees_cost_less, trees_spell_rosters,
     trees_stand_for_rosters, worked_floors, worked_groups,
 };

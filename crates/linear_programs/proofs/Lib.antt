@@ -9,3 +9,5 @@ pub mod Solutions
 pub mod Paths
 pub mod RowLaws
 pub mod Worked
+pub mod Orders
+pub mod Values

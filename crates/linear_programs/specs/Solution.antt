@@ -37,6 +37,15 @@ pub record IsValue {K : Type 0} (p : Program K) (v : ℤ) (q : ℕ) : Type 0 whe
   pub reached : (ws : List (Weighted K)) × (d : ℕ) × IsSolution p ws d × (cost_of p.column ws *ℤ pos q ≡ v *ℤ pos d)
   pub least : (ws : List (Weighted K)) (d : ℕ) → IsSolution p ws d → (v *ℤ pos d) ≤ℤ (cost_of p.column ws *ℤ pos q)
 
+-- no solution costs less than these weighted columns, whose weights are in units of 1 / q
+abbrev pub CostsLeast : {K : Type 0} → Program K → List (Weighted K) → ℕ → Type 0
+CostsLeast {K} p ws q =
+    (vs : List (Weighted K)) (d : ℕ) → IsSolution p vs d → (cost_of p.column ws *ℤ pos d) ≤ℤ (cost_of p.column vs *ℤ pos q)
+
+-- the two lists of weighted keys have the same sum of each number of the keys
+abbrev pub HaveSameSums : {K : Type 0} → List (Weighted K) → List (Weighted K) → Type 0
+HaveSameSums {K} ws vs = (f : K → ℤ) → weighted_sum f vs ≡ weighted_sum f ws
+
 -- the key has a weight above 0
 abbrev pub Uses : {K : Type 0} → List (Weighted K) → K → Type 0
 Uses [] k = ⊥

@@ -1,8 +1,8 @@
 ghost use Rattle.std.specs.Prelude.{◌≡◌, ◌↔◌, ◌<◌, ◌+◌, ℕ, ℤ, pos, unsigned_abs, ◌*ℤ◌, ◌≤ℤ◌, ◌<ℤ◌, List};
 ghost use Rattle.linear_programs.specs.Sums.{dot};
 ghost use Rattle.linear_programs.specs.RowStep.{IsRowStep, MeetsRow};
-ghost use Rattle.linear_programs.specs.Program.{Program, IsSound, IsPricedOut};
-ghost use Rattle.linear_programs.specs.Solution.{Weighted, IsSolution, IsValue, IsBasic, cost_of};
+ghost use Rattle.linear_programs.specs.Program.{Program, IsSound, IsPricedOut, unit_vector};
+ghost use Rattle.linear_programs.specs.Solution.{Weighted, IsSolution, IsValue, IsBasic, CostsLeast, HaveSameSums, Each, Uses, cost_of};
 ghost use Rattle.linear_programs.specs.Example.{example_program, last_tableau};
 ghost use Rattle.linear_programs.specs.Tableau.{Tableau, PivotPath, IsTableauSolution, on_basis};
 
@@ -67,6 +67,36 @@ pub fn tableau_solutions_are_basic<P: LinearProgram>(program: &P)
         IsTableauSolution (P.program program.now) t w q →
         t.kappa *ℤ cost_of (P.program program.now).column (on_basis t.basis w (P.program program.now).rows)
         ≡ pos q *ℤ t.value }
+{}
+
+/// A value is that of each fraction equal to it.
+pub fn equal_fractions_are_values<P: LinearProgram>(program: &P)
+    ensures { (v w : ℤ) (q r : ℕ) → 0 < q → w *ℤ pos q ≡ v *ℤ pos r →
+        IsValue (P.program program.now) w r → IsValue (P.program program.now) v q }
+{}
+
+/// At the end of a pivot path that leaves no column of the set a negative reduced cost, no solution
+/// costs less than that of the tableau.
+pub fn priced_out_solutions_cost_least<P: LinearProgram>(program: &P)
+    ensures { IsSound (P.program program.now) → (n : ℕ) (t : Tableau P.Key) →
+        PivotPath (P.program program.now) n t → IsPricedOut (P.program program.now) t.y t.kappa →
+        (w : ℕ → ℕ) (q : ℕ) → IsTableauSolution (P.program program.now) t w q →
+        CostsLeast (P.program program.now) (on_basis t.basis w (P.program program.now).rows) q }
+{}
+
+/// Weighted keys with the same sums as a basic solution, all of which it uses, are a basic solution,
+/// and of least cost where that one is.
+pub fn same_sums_stay_basic<P: LinearProgram>(program: &P)
+    ensures basic { (ws vs : List (Weighted P.Key)) (q : ℕ) → HaveSameSums ws vs →
+        Each (P.program program.now).belongs vs → ((k : P.Key) → Uses vs k → Uses ws k) →
+        IsBasic (P.program program.now) ws q → IsBasic (P.program program.now) vs q }
+    ensures least { (ws vs : List (Weighted P.Key)) (q : ℕ) → HaveSameSums ws vs →
+        CostsLeast (P.program program.now) ws q → CostsLeast (P.program program.now) vs q }
+{}
+
+/// A vector times the unit vector of a row is the number at that row.
+pub fn unit_vectors_pick()
+    ensures { (n r : ℕ) (y : ℕ → ℤ) → r < n → dot n y (unit_vector r) ≡ y r }
 {}
 
 /// A vector that meets two rows meets the row that a step leaves, and one that meets the new row and

@@ -7,7 +7,8 @@
 mod laws;
 
 pub use laws::{
-    LinearProgram, example_is_optimal, paths_keep_solutions, paths_stay_feasible,
-    priced_out_paths_are_optimal, prices_bound_solutions, row_steps_keep_solutions,
-    row_steps_read_numbers, tableau_solutions_are_basic,
+    LinearProgram, equal_fractions_are_values, example_is_optimal, paths_keep_solutions,
+    paths_stay_feasible, priced_out_paths_are_optimal, priced_out_solutions_cost_least,
+    prices_bound_solutions, row_steps_keep_solutions, row_steps_read_numbers, same_sums_stay_basic,
+    tableau_solutions_are_basic, unit_vectors_pick,
 };
