@@ -6,7 +6,7 @@ use Rattle.roster_model.specs.declared.instance.Instance.{Instance}
 use Rattle.roster_model.specs.Arcs.{IsArc}
 use Rattle.roster_model.specs.Cuts.{lo, hi}
 use Rattle.parse_graph.specs.Graphs.{GraphView, IsGraph}
-use Rattle.pinned_part.specs.Loose.{IsLoose}
+use Rattle.arc_laws.specs.Loose.{IsLoose}
 use Rattle.arc_branch.specs.Boxes.{BoxView, IsBoxFor, bounds_at}
 
 -- the box leaves each arc of the graph the counts that the cuts leave it

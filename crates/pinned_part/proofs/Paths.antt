@@ -15,7 +15,7 @@ use Rattle.roster_model.specs.Grammar.{rule_at}
 use Rattle.roster_model.specs.Sound.{IsSound}
 use Rattle.tree_laws.proofs.Rules.{sound-rule}
 use Rattle.arc_laws.specs.Counts.{top_cost, cost_at}
-use Rattle.pinned_part.specs.Loose.{IsSmallCut}
+use Rattle.pinned_part.specs.SmallCuts.{IsSmallCut}
 use Rattle.roster_model.specs.Cuts.{lo, hi, at_least, at_most}
 
 -- the next cut and those after it

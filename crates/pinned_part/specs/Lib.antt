@@ -1,4 +1,4 @@
-pub mod Loose
+pub mod SmallCuts
 pub mod Places
 pub mod Net
 pub mod Counted

@@ -1,9 +1,7 @@
 -- Places in a row for the names, the suffixes and the letters of a day.
-use Rattle.std.specs.Prelude.{ℕ, ◌≡◌, ◌+◌, ◌-◌, ◌*◌, ◌<◌, ◌≤◌, Some, length}
-use Rattle.roster_model.specs.declared.grammar.ArcKey.{ArcKey}
+use Rattle.std.specs.Prelude.{ℕ, ◌+◌, ◌-◌, ◌*◌, ◌<◌, ◌≤◌, length}
 use Rattle.roster_model.specs.declared.grammar.Grammar.{Grammar}
-use Rattle.roster_model.specs.declared.grammar.Rule.{Rule}
-use Rattle.roster_model.specs.Grammar.{rule_at, InDay}
+use Rattle.roster_model.specs.Grammar.{InDay}
 use Rattle.span_forms.specs.Places.{shorter, place_of}
 use Rattle.arc_laws.specs.OrNodes.{OrNode, name, suffix, leaf}
 

@@ -1,8 +1,9 @@
 ghost use Rattle.std.specs.Prelude.{◌<◌, ◌↔◌, All, IsTrue, MatchOption};
 ghost use Rattle.roster_model.specs.SoundInstance.{IsSoundInstance};
+ghost use Rattle.arc_laws.specs.Loose.{IsLoose, IsFirstLoose};
 ghost use Rattle.bound_laws.specs.Pinned.{IsPinned};
 ghost use Rattle.span_arcs.specs.DayArcs.{IsDayArcsOf};
-ghost use Rattle.pinned_part.specs.Loose.{IsSmallCut, IsLoose, IsFirstLoose};
+ghost use Rattle.pinned_part.specs.SmallCuts.{IsSmallCut};
 
 use crate::bounds::{high, low};
 use roster_model::{ArcKey, Cut, Instance};

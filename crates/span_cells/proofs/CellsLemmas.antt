@@ -7,8 +7,7 @@ use Rattle.std.proofs.lemmas.Option.{same_Some, slice_get_within, slice_get-get_
 use Rattle.roster_model.specs.declared.grammar.Grammar.{Grammar}
 use Rattle.roster_model.specs.declared.grammar.Sym.TheVariants.{Name}
 use Rattle.roster_model.specs.Grammar.{InDay}
-use Rattle.roster_model.specs.Sums.{PriceView, IsLeast, tree_sum}
-use Rattle.roster_model.specs.Trees.{IsTreeOf}
+use Rattle.roster_model.specs.Sums.{PriceView}
 use Rattle.roster_model.specs.Sound.{IsSound}
 use Rattle.span_forms.specs.Places.{shorter, place_of}
 use Rattle.span_forms.proofs.Rows.{place-within, place-before, place-apart}

@@ -2,7 +2,6 @@ pub mod ChoicesLemmas
 pub mod Slots
 pub mod PartsLemmas
 pub mod CellsLemmas
-pub mod Pushing
 pub mod SuffixSlotsLemmas
 pub mod NameSlotsLemmas
 pub mod BuildingLemmas

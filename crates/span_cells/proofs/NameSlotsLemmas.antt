@@ -1,18 +1,14 @@
 -- The slots of names, from the highest rank to the lowest.
-use Rattle.std.proofs.Common.{◌≡◌, ◌≢◌, ℕ, suc, ◌<◌, ◌≤◌, ◌+◌, ◌*◌, List, [], ◌∷◌, ◌++◌, Some, arith, refl, subst, sym, ap, ◌∙◌, ◌⊎◌, inl, inr, length, get_or, set, get_or-set_same, get_or-set_other, length-append, length-set, Bool, true, false, nat_eq}
+use Rattle.std.proofs.Common.{◌≡◌, ◌≢◌, ℕ, ◌<◌, ◌≤◌, ◌+◌, ◌*◌, List, [], ◌∷◌, ◌++◌, Some, arith, subst, sym, ap, ◌∙◌, ◌⊎◌, inl, inr, length, get_or, set, get_or-set_same, get_or-set_other, length-append, length-set}
 use Rattle.std.specs.Prelude.{slice_get, slice_index}
-use Rattle.std.proofs.lemmas.Bool.{eqb-true}
 use Rattle.std.proofs.lemmas.Option.{slice_get_within}
 use Rattle.span_cells.specs.declared.slot.Slot.{Slot}
 use Rattle.span_cells.specs.declared.slot.Slot.TheVariants.{OfName, OfSuffix}
 use Rattle.span_cells.specs.declared.slot.Suffix.{Suffix}
 use Rattle.span_cells.specs.Building.{IsPlaced, IsDone, NameSlots, AreNamed}
 use Rattle.roster_model.specs.declared.grammar.Grammar.{Grammar}
-use Rattle.roster_model.specs.declared.grammar.Rule.{Rule}
-use Rattle.roster_model.specs.Sound.{IsSound, has_rule}
 use Rattle.roster_model.specs.UnitRules.{IsRanked}
-use Rattle.tree_laws.proofs.Rules.{rule_here}
-use Rattle.span_cells.proofs.Pushing.{push-kept, push-here, push-cases}
+use Rattle.tree_laws.proofs.Pushing.{push-kept, push-here, push-cases}
 
 -- no name yet
 pub names-init : (ranks : List ℕ) (base : List Slot) (names : List ℕ) (done : ℕ → Type 0)
@@ -164,22 +160,6 @@ module _ (ranks : List ℕ) (base slots : List Slot) (names : List ℕ) (n turn 
       to : (y : ℕ) → IsPlaced ranks rank (length names) y → IsDone ranks n (turn + 1) y
       to y (inl k) = omega (arith, k)
       to y (inr k) = omega (arith, k.0)
-
--- some rule has the name on its left side
-rule_of : (rules : List Rule) (x : ℕ) → has_rule rules x ≡ true → (k : ℕ) × (rule : Rule) × (slice_get rules k ≡ Some rule) × (rule.left ≡ x)
-rule_of [] x e = cc
-rule_of (r ∷ rs) x e = by (nat_eq r.left x) refl (λ k. rule_of rs x k)
-  where
-    by : (b : Bool) → nat_eq r.left x ≡ b → (has_rule rs x ≡ true → (k : ℕ) × (rule : Rule) × (slice_get rs k ≡ Some rule) × (rule.left ≡ x))
-        → (k : ℕ) × (rule : Rule) × (slice_get (r ∷ rs) k ≡ Some rule) × (rule.left ≡ x)
-    by true h ih = (0, r, refl, eqb-true r.left x h)
-    by false h ih = let k = ih (rw h at e) in (suc k.0, k.1, k.2, k.3)
-
--- each name of a sound grammar has a rank below the number of names
-pub rank-below : (g : Grammar) → IsSound g → (rank : ℕ → ℕ) → IsRanked g rank (length g.names) → (x : ℕ) → x < length g.names → rank x < length g.names
-rank-below g sound rank ranked x lt =
-    let k = rule_of g.rules x (sound.names.ruled x lt) in
-    subst (λ (y : ℕ). rank y < length g.names) k.3 (ranked.below (k.0 + 1) k.1 (rule_here g k.0 k.1 k.2))
 
 -- after the last turn all names have slots
 pub all-named : (g : Grammar) (ranks : List ℕ) (base slots : List Slot) (names : List ℕ) → IsRanked g (slice_index ranks) (length g.names) → length names ≡ length g.names

@@ -22,7 +22,8 @@ use Rattle.span_cells.specs.Choices.{ChosenPart, ChosenRule}
 use Rattle.span_table.specs.Walks.{HasParts, HasRoom, AsksTree, AsksParts, WritesTree, WritesParts, tree_measure, parts_measure}
 use Rattle.tree_laws.proofs.Bounds.{few-steps}
 use Rattle.tree_laws.proofs.Size.{length-steps}
-use Rattle.span_table.specs.Tables.{TableView, IsMadeFor, IsFilled, HasDaySum, HoldsLeastTree}
+use Rattle.tree_laws.specs.LeastTrees.{HasDaySum, HoldsLeastTree}
+use Rattle.span_table.specs.Tables.{TableView, IsMadeFor, IsFilled}
 use Rattle.span_cells.proofs.CellsLemmas.{filled-right}
 use Rattle.span_table.proofs.TablesLemmas.{day-least}
 use Rattle.span_cells.proofs.PointsLemmas.{symbol-value}

@@ -2,7 +2,7 @@ use Rattle.std.proofs.Common.{Option, None, Some, subst, ◌⊎◌, inr}
 use Rattle.roster_model.specs.declared.grammar.ArcKey.{ArcKey}
 use Rattle.roster_model.specs.Arcs.{IsArc}
 use Rattle.span_arcs.specs.Ahead.{IsAhead}
-use Rattle.pinned_part.specs.Loose.{IsLoose}
+use Rattle.arc_laws.specs.Loose.{IsLoose}
 use Rattle.span_arcs.proofs.AheadLemmas.{first-ahead, next-some, try-next}
 use Rattle.pinned_part.proofs.loose.first_loose.Goals as goal
 

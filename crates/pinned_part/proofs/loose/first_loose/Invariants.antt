@@ -4,7 +4,7 @@ use Rattle.roster_model.specs.declared.grammar.ArcKey.{ArcKey}
 use Rattle.roster_model.specs.Arcs.{IsArc}
 use Rattle.span_arcs.proofs.OrderLemmas.{keys_left}
 use Rattle.span_arcs.specs.Ahead.{IsAhead}
-use Rattle.pinned_part.specs.Loose.{IsLoose}
+use Rattle.arc_laws.specs.Loose.{IsLoose}
 use Rattle.pinned_part.proofs.loose.first_loose.Given as goal
 
 abbrev pub invariant-loop-next : goal.invariant-loop-next

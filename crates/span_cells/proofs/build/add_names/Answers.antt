@@ -3,7 +3,8 @@ use Rattle.std.specs.Prelude.{slice_index}
 use Rattle.std.proofs.lemmas.List.{take_at}
 use Rattle.roster_model.proofs.StepRules.{no_cycle}
 use Rattle.span_cells.specs.Building.{IsDone, NameSlots}
-use Rattle.span_cells.proofs.NameSlotsLemmas.{names-init, rank-below, all-named}
+use Rattle.tree_laws.proofs.Ranks.{rank-below}
+use Rattle.span_cells.proofs.NameSlotsLemmas.{names-init, all-named}
 use Rattle.span_cells.proofs.build.add_names.Goals as goal
 
 pub unreachable-requires : goal.unreachable-requires
