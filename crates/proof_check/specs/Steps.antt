@@ -14,7 +14,7 @@ use Rattle.pinned_part.specs.Rooms.{IsRoomFor as HasPlaces}
 use Rattle.span_table.specs.Tables.{IsMadeFor, IsReached}
 use Rattle.proof_check.specs.declared.bench.Bench.{Bench}
 use Rattle.proof_check.specs.declared.walk.Walk.{Walk}
-use Rattle.bound_proof.specs.PieceList.{after_leaf}
+use Rattle.proof_pieces.specs.PieceList.{after_leaf}
 use Rattle.proof_check.specs.Stacks.{StackView, AreSmall, halves_of}
 use Rattle.proof_check.specs.Walked.{IsVisitCause, IsVisitsCause, lesser_cause}
 

@@ -2,8 +2,8 @@ ghost use Rattle.std.specs.Prelude.{◌≡◌, ◌≢◌, [], ◌∷◌, IfOk};
 ghost use Rattle.roster_model.specs.Sound.{IsPlain, IsSound};
 ghost use Rattle.roster_model.specs.SoundInstance.{IsSoundInstance};
 ghost use Rattle.demand_text.specs.FaultLine as demand_fault;
-ghost use Rattle.bound_proof.specs.CertOf.{proof_fault};
-ghost use Rattle.bound_proof.specs.FaultLine as proof_line;
+ghost use Rattle.proof_pieces.specs.CertOf.{proof_fault};
+ghost use Rattle.proof_pieces.specs.FaultLine as proof_line;
 ghost use Rattle.shift_report.specs.VerdictText.{verdict_text};
 ghost use Rattle.shift_tool.specs.Check.{
   AnswersCheck,
