@@ -1,10 +1,10 @@
 -- The whole text of a certificate is read as the certificate.
 use Rattle.std.proofs.Common.{◌≡◌, ℕ, ◌+◌, ◌-◌, ◌*◌, ◌<◌, ◌≤◌, ◌^◌, Bool, true, false, cond, ltb, List, [], ◌∷◌, ◌++◌, length, get_or, map, Option, Some, None, Result, Ok, Err, refl, sym, ap, ◌∙◌, arith, subst, inl, inr, append_assoc, append-nil, length-append}
 use Rattle.std.specs.Prelude.{codes, position, slice_get, is_some, IfSome, ◌≢◌}
-use Rattle.std.specs.List.{list_all, position_or_len}
+use Rattle.std.specs.List.{list_all}
 use Rattle.std.specs.Fmt.{decimal}
 use Rattle.std.specs.Str.{bytes_eq}
-use Rattle.std.proofs.lemmas.Bool.{cases_lt, lt-ltb, le-ltb, lt-leb, ne_eqb, false_from_ne_true}
+use Rattle.std.proofs.lemmas.Bool.{cases_lt, le-ltb, lt-leb, ne_eqb, false_from_ne_true}
 use Rattle.std.proofs.lemmas.List.Sums.{position_or_len_is}
 use Rattle.std.proofs.lemmas.Option.{slice_get-get_or}
 use Rattle.std.proofs.lemmas.Slice.Eq.{bytes_eq-Decides}
@@ -24,19 +24,21 @@ use Rattle.certificates.specs.declared.cert.Node.TheVariants as of
 use Rattle.certificates.specs.Nodes.{Proof, split, priced, pinned, bare, preorder, low_cut, high_cut, visits}
 use Rattle.certificates.specs.Sound.{most_cost, IsSoundVisit, IsSoundShift, IsSoundCert, IsGroupNumber, NoneIsZero}
 use Rattle.certificates.proofs.Walking.{each_parts}
-use Rattle.bound_proof.specs.declared.fault.ProofFault.{ProofFault}
-use Rattle.bound_proof.specs.Ahead.{NoShift}
-use Rattle.bound_proof.specs.CertOf.{no_cert, collected, node_pieces, shift_pieces, cert_pieces, proof_of}
-use Rattle.bound_proof.specs.Fields.{numbered_or, has_name, group_at}
-use Rattle.bound_proof.specs.Items.{Items}
-use Rattle.bound_proof.specs.PieceList.{Given, Place, no_place, after_bound, start, shifts, nodes, pieces_from, pieces_left, pieces_of}
-use Rattle.bound_proof.specs.ShiftLines.{version, is_shift, letters_of, shift_of, shift_at}
-use Rattle.bound_proof.specs.Told.{cost, bound, shift, node, done}
+use Rattle.proof_pieces.specs.declared.fault.ProofFault.{ProofFault}
+use Rattle.proof_pieces.specs.Ahead.{NoShift}
+use Rattle.proof_pieces.specs.CertOf.{no_cert, collected, node_pieces, shift_pieces, cert_pieces, proof_of}
+use Rattle.proof_pieces.specs.Fields.{numbered_or, has_name, group_at}
+use Rattle.proof_pieces.specs.Items.{Items}
+use Rattle.proof_pieces.specs.PieceList.{Given, Place, no_place, after_bound, start, shifts, nodes, pieces_from, pieces_left, pieces_of}
+use Rattle.proof_pieces.specs.ShiftLines.{version, is_shift, letters_of, shift_of, shift_at}
+use Rattle.proof_pieces.specs.Told.{cost, bound, shift, node, done}
 use Rattle.bound_proof.specs.Written.{header_words, amount_words, name_word, shift_words, shift_line, node_lines, tree_lines, end_words, cert_lines, cert_text}
-use Rattle.bound_proof.proofs.BaseCuts.{cuts_of, length-cuts_from, few_groups}
-use Rattle.bound_proof.proofs.FieldsAgain.{same_bytes, number_at_again, amount_line_again}
+use Rattle.proof_pieces.proofs.BaseCuts.{cuts_of, length-cuts_from, few_groups}
+use Rattle.bound_proof.proofs.FieldsAgain.{same_bytes, amount_line_again}
+use Rattle.text_lines.proofs.FieldsLemmas.{number_at_again, position_at}
+use Rattle.proof_pieces.specs.declared.fault.PieceFault.TheVariants.{BadNumber, OutOfRange}
 use Rattle.bound_proof.proofs.FineWords.{IsFineLine, lines_fine, header_fine, amounts_fine, shift_fine, node_fine, name_within}
-use Rattle.bound_proof.proofs.Inversions.{Each-append}
+use Rattle.text_lines.proofs.ListLemmas.{Each-append}
 use Rattle.bound_proof.proofs.TextAgain.{tree_told}
 use Rattle.bound_proof.proofs.TreeAgain.{nodes_then, numbered-then, tree_lines-append}
 
@@ -44,10 +46,7 @@ use Rattle.bound_proof.proofs.TreeAgain.{nodes_then, numbered-then, tree_lines-a
 
 letters_again : (k group : ℕ) (word : List ℕ) (price : ℕ) → length word ≤ 96 → price ≤ most_cost → letters_of k group word (decimal price) ≡ Ok (record { group = group; word = word; price = price })
 unfolding letters_of
-letters_again k group word price le h = rw (le-ltb 96 (length word) le, number_at_again k 0 most_cost price (omega arith) h (omega arith)) refl
-
-position_at : {X : Type 0} (p : X → Bool) (xs : List X) (c : ℕ) → position_or_len p xs ≡ c → c < length xs → position p xs ≡ Some c
-position_at p xs c e lt = rw (e, lt-ltb c (length xs) lt) refl
+letters_again k group word price le h = rw (le-ltb 96 (length word) le, number_at_again (BadNumber k) (OutOfRange k) 0 most_cost price (omega arith) h (omega arith)) refl
 
 -- the name of a group is that of no other
 group_again : (i : Instance) (g : Group) (gs : List Group) (k p : ℕ) → IsSoundInstance i → HasGroups i (g ∷ gs) → i.groups ≡ g ∷ gs → p < length (g ∷ gs)

@@ -13,7 +13,7 @@ use Rattle.certificates.specs.Sound.{IsSoundNode, IsSoundVisit, IsSoundCert}
 use Rattle.certificates.proofs.Rising.{each_all}
 use Rattle.certificates.proofs.Walking.{each_parts}
 use Rattle.bound_proof.specs.Written.{HasPrices}
-use Rattle.bound_proof.proofs.Inversions.{Each-append}
+use Rattle.text_lines.proofs.ListLemmas.{Each-append}
 
 has_prices : (i : Instance) (cuts : List Cut) (x : Node) → IsSoundNode i cuts x → HasPrices i x
 has_prices i cuts (Split a b None) s = tt

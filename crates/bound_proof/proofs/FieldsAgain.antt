@@ -21,22 +21,20 @@ use Rattle.roster_model.specs.Sums.{Within}
 use Rattle.certificates.specs.declared.cert.Node.{Node}
 use Rattle.certificates.specs.declared.cert.Node.TheVariants as of
 use Rattle.certificates.specs.Sound.{most_cost, most_rule, IsKey}
-use Rattle.bound_proof.specs.declared.fault.PieceFault.{PieceFault}
-use Rattle.bound_proof.specs.declared.node.NodeLine.{NodeLine}
-use Rattle.bound_proof.specs.declared.node.NodeLine.TheVariants.{Split, Priced, Pinned, Bare}
-use Rattle.bound_proof.specs.Fields.{number_at, signed_at, amount_at}
-use Rattle.bound_proof.specs.NodeLines.{arc_at, split_of, split_at, priced_at, leaf_at, node_at}
-use Rattle.bound_proof.specs.PriceLines.{due_byte, price_step, price_line, last_cut, mult_of, mult_line}
-use Rattle.bound_proof.specs.ShiftLines.{amount_line}
+use Rattle.proof_pieces.specs.declared.fault.PieceFault.{PieceFault}
+use Rattle.proof_pieces.specs.declared.node.NodeLine.{NodeLine}
+use Rattle.proof_pieces.specs.declared.node.NodeLine.TheVariants.{Split, Priced, Pinned, Bare}
+use Rattle.text_lines.proofs.FieldsLemmas.{number_at_again}
+use Rattle.proof_pieces.specs.declared.fault.PieceFault.TheVariants.{BadNumber, OutOfRange}
+use Rattle.proof_pieces.specs.Fields.{signed_at, amount_at}
+use Rattle.proof_pieces.specs.NodeLines.{arc_at, split_of, split_at, priced_at, leaf_at, node_at}
+use Rattle.proof_pieces.specs.PriceLines.{due_byte, price_step, price_line, last_cut, mult_of, mult_line}
+use Rattle.proof_pieces.specs.ShiftLines.{amount_line}
 use Rattle.bound_proof.specs.Written.{amount_word, amount_words, own_words, head_words, price_words, mult_words}
-use Rattle.bound_proof.proofs.FieldsKept.{IsDenominator}
+use Rattle.proof_pieces.proofs.FieldsKept.{IsDenominator}
 
 pub same_bytes : (w : List ℕ) → bytes_eq w w ≡ true
 same_bytes w = (bytes_eq-Decides w w).1 refl
-
-pub number_at_again : (k low high n : ℕ) → low ≤ n → n ≤ high → high < 2 ^ 127 → number_at k low high (decimal n) ≡ Ok n
-unfolding number_at
-number_at_again k low high n le ge small = rw (natural_again n (omega arith), le-ltb n low le, le-ltb high n ge) refl
 
 pub signed_again : (k : ℕ) (z : ℤ) → Within (2 ^ 80) z → signed_at k (number_text z) ≡ Ok z
 unfolding signed_at
@@ -61,7 +59,7 @@ no_none n lt = false_from_ne_true _ (λ t.
 pub amount_again : (k : ℕ) (x : Option ℕ) → IfSome x (λ n. n ≤ most_cost) → amount_at k (amount_word x) ≡ Ok x
 unfolding amount_at
 amount_again k None h = refl
-amount_again k (Some n) h = rw (no_none n (omega (arith, h)), number_at_again k 0 most_cost n (omega arith) h (omega arith)) refl
+amount_again k (Some n) h = rw (no_none n (omega (arith, h)), number_at_again (BadNumber k) (OutOfRange k) 0 most_cost n (omega arith) h (omega arith)) refl
 
 pub amount_line_again : (k : ℕ) (first : List ℕ) (x : Option ℕ) → IfSome x (λ n. n ≤ most_cost) → amount_line k first (amount_words first x) ≡ Ok x
 unfolding amount_line
@@ -95,24 +93,24 @@ arc_again : (k : ℕ) (i : Instance) (a : ArcKey) → IsKey i a → arc_at k i.g
 unfolding arc_at
 arc_again k i a h =
     rw (
-      number_at_again k 1 (most_rule i.groups) a.rule h.first_rule h.last_rule (few_rules i.groups),
-      number_at_again k 0 6 a.suffix (omega arith) h.suffix (omega arith),
-      number_at_again k 1 96 a.start h.first_start h.last_start (omega arith),
-      number_at_again k 1 96 a.len h.least_len h.most_len (omega arith),
-      number_at_again k 1 96 a.part h.least_part h.most_part (omega arith),
+      number_at_again (BadNumber k) (OutOfRange k) 1 (most_rule i.groups) a.rule h.first_rule h.last_rule (few_rules i.groups),
+      number_at_again (BadNumber k) (OutOfRange k) 0 6 a.suffix (omega arith) h.suffix (omega arith),
+      number_at_again (BadNumber k) (OutOfRange k) 1 96 a.start h.first_start h.last_start (omega arith),
+      number_at_again (BadNumber k) (OutOfRange k) 1 96 a.len h.least_len h.most_len (omega arith),
+      number_at_again (BadNumber k) (OutOfRange k) 1 96 a.part h.least_part h.most_part (omega arith),
     ) refl
 
 split_again : (k : ℕ) (i : Instance) (n : ℕ) (a : ArcKey) (b : ℕ) (own : Option Prices) → n < 20001 → HasLine i (of.Split a b own)
     → split_at k i.groups n (decimal a.rule ∷ decimal a.suffix ∷ decimal a.start ∷ decimal a.len ∷ decimal a.part ∷ decimal b ∷ own_words own) ≡ Ok (Split a b (own_line own))
 unfolding split_at split_of
-split_again k i n a b None lt h = rw (lt-leb 20001 n lt, arc_again k i a h.0, number_at_again k 0 63 b (omega arith) h.1 (omega arith)) refl
+split_again k i n a b None lt h = rw (lt-leb 20001 n lt, arc_again k i a h.0, number_at_again (BadNumber k) (OutOfRange k) 0 63 b (omega arith) h.1 (omega arith)) refl
 split_again k i n a b (Some p) lt h =
-    rw (lt-leb 20001 n lt, arc_again k i a h.0, number_at_again k 0 63 b (omega arith) h.1 (omega arith), number_at_again k 1 (2 ^ 30) p.d h.2.0 h.2.1 (omega arith)) refl
+    rw (lt-leb 20001 n lt, arc_again k i a h.0, number_at_again (BadNumber k) (OutOfRange k) 0 63 b (omega arith) h.1 (omega arith), number_at_again (BadNumber k) (OutOfRange k) 1 (2 ^ 30) p.d h.2.0 h.2.1 (omega arith)) refl
 
 pub node_again : (k : ℕ) (i : Instance) (n : ℕ) (x : Node) → n < 20001 → HasLine i x → node_at k i.groups n (head_words x) ≡ Ok (line_of_node x)
 unfolding node_at priced_at leaf_at
 node_again k i n (of.Split a b own) lt h = split_again k i n a b own lt h
-node_again k i n (of.Priced p) lt h = rw (lt-leb 20001 n lt, number_at_again k 1 (2 ^ 30) p.d h.0 h.1 (omega arith)) refl
+node_again k i n (of.Priced p) lt h = rw (lt-leb 20001 n lt, number_at_again (BadNumber k) (OutOfRange k) 1 (2 ^ 30) p.d h.0 h.1 (omega arith)) refl
 node_again k i n of.Pinned lt h = rw (lt-leb 20001 n lt) refl
 node_again k i n of.Bare lt h = rw (lt-leb 20001 n lt) refl
 
@@ -144,4 +142,4 @@ mult_line_again k cuts ms m few more last small least most =
     let word : number_text m.value ≡ decimal p.0 = ap number_text p.1 in
     let within : p.0 ≤ 2 ^ 80 = omega (arith, ints, most, p.1) in
     let le : last_cut ms + 1 ≤ m.cut = omega (arith, more) in
-    rw (lt-leb 1500 (length ms) few, number_at_again k (last_cut ms + 1) cuts m.cut le last small, word, number_at_again k 1 (2 ^ 80) p.0 p.2 within (omega arith), sym p.1) refl
+    rw (lt-leb 1500 (length ms) few, number_at_again (BadNumber k) (OutOfRange k) (last_cut ms + 1) cuts m.cut le last small, word, number_at_again (BadNumber k) (OutOfRange k) 1 (2 ^ 80) p.0 p.2 within (omega arith), sym p.1) refl

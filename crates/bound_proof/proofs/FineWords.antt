@@ -32,9 +32,9 @@ use Rattle.certificates.specs.declared.cert.Node.{Node}
 use Rattle.certificates.specs.declared.cert.Node.TheVariants.{Split, Priced, Pinned, Bare}
 use Rattle.certificates.specs.Sound.{most_cost, most_rule, IsKey, IsGroupNumber, IsWordByte, IsSoundShift, IsSoundNode}
 use Rattle.certificates.proofs.Rising.{all_each}
-use Rattle.bound_proof.specs.PriceLines.{code_byte, due_byte}
+use Rattle.proof_pieces.specs.PriceLines.{code_byte, due_byte}
 use Rattle.bound_proof.specs.Written.{header_words, amount_word, amount_words, name_word, shift_words, shift_line, head_words, price_lines, mult_words, block_lines, node_lines}
-use Rattle.bound_proof.proofs.Inversions.{Each-append}
+use Rattle.text_lines.proofs.ListLemmas.{Each-append}
 use Rattle.bound_proof.proofs.TreeAgain.{each_take}
 
 -- a word that can be written

@@ -9,7 +9,7 @@ use Rattle.std.proofs.lemmas.Int.{ints}
 use Rattle.std.proofs.lemmas.Option.{slice_get-get_or}
 use Rattle.std.proofs.Math.Nat.{mul-div_cancel}
 use Rattle.text_lines.specs.Numbers.{number_text}
-use Rattle.text_lines.specs.Written.{spaced, written}
+use Rattle.text_lines.specs.Written.{spaced, written, tail}
 use Rattle.roster_model.specs.declared.grammar.ArcKey.{ArcKey}
 use Rattle.roster_model.specs.declared.grammar.Grammar.{Grammar}
 use Rattle.roster_model.specs.declared.instance.Cut.{Cut}
@@ -32,12 +32,12 @@ use Rattle.certificates.specs.Nodes.{Proof, split, priced, pinned, bare, preorde
 use Rattle.certificates.specs.Sound.{most_cost, most_rule, IsKey, IsGroupNumber, IsSoundShift, IsSoundNode, IsSoundVisit, IsSoundCert}
 use Rattle.certificates.proofs.Rising.{all_each}
 use Rattle.certificates.proofs.Walking.{each_parts}
-use Rattle.bound_proof.specs.PriceLines.{due_byte}
-use Rattle.bound_proof.specs.Written.{tail, header_words, amount_word, amount_words, name_word, shift_words, shift_line, head_words, price_lines, mult_words, block_lines, node_lines, tree_lines, end_words, cert_text, node_values}
+use Rattle.proof_pieces.specs.PriceLines.{due_byte}
+use Rattle.bound_proof.specs.Written.{header_words, amount_word, amount_words, name_word, shift_words, shift_line, head_words, price_lines, mult_words, block_lines, node_lines, tree_lines, end_words, cert_text, node_values}
 use Rattle.bound_proof.proofs.CertAgain.{few_base_cuts}
 use Rattle.bound_proof.proofs.FineWords.{name_within}
-use Rattle.bound_proof.proofs.PriceBlock.{cells_whole}
-use Rattle.bound_proof.proofs.Tails.{spaced_tail, written_append}
+use Rattle.proof_pieces.proofs.PriceBlock.{cells_whole}
+use Rattle.text_lines.proofs.WrittenLemmas.{spaced_tail, written_append}
 use Rattle.bound_proof.proofs.TreeAgain.{each_take, tree_lines-append}
 
 abbrev size : List (List (List ℕ)) → ℕ

@@ -11,10 +11,10 @@ use Rattle.certificates.specs.declared.cert.Node.TheVariants as of
 use Rattle.certificates.specs.Nodes.{Proof, split, priced, pinned, bare, preorder, low_cut, high_cut, visits}
 use Rattle.certificates.specs.Sound.{IsSoundVisit, NoneIsZero}
 use Rattle.certificates.proofs.Walking.{each_parts}
-use Rattle.bound_proof.specs.Ahead.{NoMult}
-use Rattle.bound_proof.specs.Items.{Items}
-use Rattle.bound_proof.specs.PieceList.{Given, Place, wants, after_leaf, node_read, cut_count, nodes, pieces_from}
-use Rattle.bound_proof.specs.Told.{node}
+use Rattle.proof_pieces.specs.Ahead.{NoMult}
+use Rattle.proof_pieces.specs.Items.{Items}
+use Rattle.proof_pieces.specs.PieceList.{Given, Place, wants, after_leaf, node_read, cut_count, nodes, pieces_from}
+use Rattle.proof_pieces.specs.Told.{node}
 use Rattle.bound_proof.specs.Written.{node_lines, tree_lines}
 use Rattle.bound_proof.proofs.FieldsAgain.{line_of_node}
 use Rattle.bound_proof.proofs.TreeAgain.{nodes_then, nodes_then-append, numbered-then, node_told, tree_lines-append, tree_no_mult, wants_open, tree_read}

@@ -19,17 +19,17 @@ use Rattle.certificates.specs.declared.cert.Node.TheVariants as of
 use Rattle.certificates.specs.Nodes.{Proof, split, priced, pinned, bare, preorder}
 use Rattle.certificates.specs.Sound.{IsSoundNode, ListNoZero, NoneIsZero}
 use Rattle.certificates.proofs.Rising.{all_each}
-use Rattle.bound_proof.specs.declared.node.NodeLine.{NodeLine}
-use Rattle.bound_proof.specs.declared.node.NodeLine.TheVariants.{Split, Priced}
-use Rattle.bound_proof.specs.Ahead.{NoMult}
-use Rattle.bound_proof.specs.Items.{Items}
-use Rattle.bound_proof.specs.PieceList.{Given, Place, wants, after_leaf, node_read, cut_count, node_of, block, nodes, pieces_from}
-use Rattle.bound_proof.specs.PriceLines.{due_byte, price_line, last_cut}
-use Rattle.bound_proof.specs.Told.{node}
+use Rattle.proof_pieces.specs.declared.node.NodeLine.{NodeLine}
+use Rattle.proof_pieces.specs.declared.node.NodeLine.TheVariants.{Split, Priced}
+use Rattle.proof_pieces.specs.Ahead.{NoMult}
+use Rattle.proof_pieces.specs.Items.{Items}
+use Rattle.proof_pieces.specs.PieceList.{Given, Place, wants, after_leaf, node_read, cut_count, node_of, block, nodes, pieces_from}
+use Rattle.proof_pieces.specs.PriceLines.{due_byte, price_line, last_cut}
+use Rattle.proof_pieces.specs.Told.{node}
 use Rattle.bound_proof.specs.Written.{price_words, price_lines, mult_words, block_lines, node_lines, tree_lines}
-use Rattle.bound_proof.proofs.BlockKept.{last_is}
+use Rattle.proof_pieces.proofs.BlockKept.{last_is}
 use Rattle.bound_proof.proofs.FieldsAgain.{same_bytes, HasLine, line_of_node, node_again, price_line_again, mult_line_again}
-use Rattle.bound_proof.proofs.PriceBlock.{price_read, mult_read, block_done, cells_whole}
+use Rattle.proof_pieces.proofs.PriceBlock.{price_read, mult_read, block_done, cells_whole}
 
 -- nodes, told one after another, and what follows
 abbrev pub nodes_then : List Node → Given → Given

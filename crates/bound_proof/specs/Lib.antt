@@ -1,14 +1,1 @@
-pub mod Items
-pub mod Ahead
-pub mod Fields
-pub mod NodeLines
-pub mod ShiftLines
-pub mod PriceLines
-pub mod Told
-pub mod PieceList
-pub mod ToldSound
-pub mod Next
-pub mod CertOf
-pub mod FaultLine
 pub mod Written
-pub mod Refused

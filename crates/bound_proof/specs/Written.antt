@@ -12,13 +12,8 @@ use Rattle.roster_model.specs.declared.instance.Shift.{Shift}
 use Rattle.certificates.specs.declared.cert.Cert.{Cert}
 use Rattle.certificates.specs.declared.cert.Node.{Node}
 use Rattle.certificates.specs.declared.cert.Node.TheVariants.{Split, Priced, Pinned, Bare}
-use Rattle.bound_proof.specs.PriceLines.{due_byte}
-use Rattle.bound_proof.specs.ShiftLines.{version}
-
--- words with a space before each
-abbrev pub tail : List (List ℕ) → List ℕ
-tail [] = []
-tail (w ∷ ws) = 32 ∷ (w ++ tail ws)
+use Rattle.proof_pieces.specs.PriceLines.{due_byte}
+use Rattle.proof_pieces.specs.ShiftLines.{version}
 
 abbrev pub header_words : List Group → List (List ℕ)
 header_words groups = codes "proof" ∷ version groups ∷ []

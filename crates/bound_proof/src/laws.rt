@@ -1,33 +1,10 @@
-ghost use Rattle.std.specs.Prelude.{ℕ, ◌≡◌, ◌≤◌, List, Ok, Err, length};
+ghost use Rattle.std.specs.Prelude.{◌≡◌, ◌≤◌, Ok, length};
 ghost use Rattle.roster_model.specs.declared.instance.Instance.{Instance};
 ghost use Rattle.roster_model.specs.SoundInstance.{IsSoundInstance};
 ghost use Rattle.certificates.specs.declared.cert.Cert.{Cert};
 ghost use Rattle.certificates.specs.Sound.{IsSoundCert};
-ghost use Rattle.bound_proof.specs.declared.fault.ProofFault.{ProofFault};
-ghost use Rattle.bound_proof.specs.CertOf.{proof_of, cert_pieces};
-ghost use Rattle.bound_proof.specs.PieceList.{no_place, pieces_of};
-ghost use Rattle.bound_proof.specs.Refused.{TellsFault};
-ghost use Rattle.bound_proof.specs.ToldSound.{AreToldSound};
+ghost use Rattle.proof_pieces.specs.CertOf.{proof_of};
 ghost use Rattle.bound_proof.specs.Written.{cert_text};
-
-/// States a law: where a text says a certificate, its pieces are the certificate's cost, bound,
-/// shifts and nodes in order, and then the end, and the certificate is sound.
-pub fn accepted_pieces()
-    ensures pieces { (i : Instance) (text : List ℕ) (c : Cert) → IsSoundInstance i → proof_of i text ≡ Ok c → pieces_of i text ≡ cert_pieces c }
-    ensures sound { (i : Instance) (text : List ℕ) (c : Cert) → IsSoundInstance i → proof_of i text ≡ Ok c → IsSoundCert i c }
-{}
-
-/// States a law: where a text is refused, its pieces have no end, and the last of them is the fault.
-pub fn refused_pieces()
-    ensures { (i : Instance) (text : List ℕ) (e : ProofFault) → proof_of i text ≡ Err e → TellsFault (pieces_of i text) e }
-{}
-
-/// States a law, of texts that end well and of others: each shift that a text tells is sound and one
-/// of 64, and each node is due in the tree, one of 20,001, sound on each path with as many cuts as
-/// there are base cuts and open splits, and lists no multiplier of 0.
-pub fn told_pieces_are_sound()
-    ensures { (i : Instance) (text : List ℕ) → IsSoundInstance i → AreToldSound i 0 no_place (pieces_of i text) }
-{}
 
 /// States a law: the text that is written of a sound certificate is read as that certificate, where
 /// it is no longer than a text may be.

@@ -20,37 +20,19 @@
 //! their denominator follows. Behind a node with prices stand a line of prices for each demanded
 //! code, and the multipliers of cuts on the path to it.
 //!
-//! [`Pieces`] reads a text piece by piece and takes no memory; [`read_cert`] collects the pieces.
+//! [`Pieces`] reads a text piece by piece and takes no memory; [`read_cert`] collects the pieces, and
+//! [`write_cert`] writes the text of a certificate.
 #![tactic(auto)]
 
-mod ahead;
-mod block;
-mod fault;
-mod field;
 mod laws;
-mod line;
-mod lines;
-mod message;
-mod next;
-mod node;
-mod piece;
-mod pieces;
-mod put;
 mod read;
-mod room;
-mod shift;
-mod stage;
-#[cfg(test)]
-mod tests;
-mod words;
 mod write;
 
-pub use certificates::{Cert, Node};
-pub use fault::{PieceFault, ProofFault};
-pub use laws::{accepted_pieces, refused_pieces, told_pieces_are_sound, written_again};
-pub use message::fault_line;
-pub use piece::Piece;
-pub use pieces::Pieces;
+pub use certificates::{Cert, Node, Why, is_sound_cert};
+pub use laws::written_again;
+pub use proof_pieces::{
+    CertRoom, Piece, PieceFault, Pieces, ProofFault, accepted_pieces, fault_line, refused_pieces,
+    told_pieces_are_sound,
+};
 pub use read::read_cert;
-pub use room::CertRoom;
 pub use write::write_cert;

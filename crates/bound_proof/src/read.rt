@@ -1,14 +1,11 @@
 ghost use Rattle.std.specs.Prelude.{◌≡◌, IfOk, OnOk};
 ghost use Rattle.roster_model.specs.SoundInstance.{IsSoundInstance};
 ghost use Rattle.certificates.specs.Sound.{IsSoundCert};
-ghost use Rattle.bound_proof.specs.CertOf.{no_cert, with_told, is_done, collected, proof_of, Reads};
-ghost use Rattle.bound_proof.specs.Told.{RoomView, told, room_prices};
+ghost use Rattle.proof_pieces.specs.CertOf.{no_cert, with_told, is_done, collected, proof_of, Reads};
+ghost use Rattle.proof_pieces.specs.Told.{RoomView, told, room_prices};
 
-use crate::fault::ProofFault;
-use crate::piece::Piece;
-use crate::pieces::Pieces;
-use crate::room::CertRoom;
 use certificates::{Cert, Node};
+use proof_pieces::{CertRoom, Piece, Pieces, ProofFault};
 use roster_model::{Instance, List, Memory, Prices, Shift};
 use std::alloc::Global;
 
@@ -85,7 +82,7 @@ fn is_end(piece: Piece) -> bool
 }
 
 // Collects the pieces of a text.
-#[tactic(auto, unfolding(crate::specs::CertOf::proof_of))]
+#[tactic(auto, unfolding(proof_pieces::specs::CertOf::proof_of))]
 fn collect(alloc: Global, instance: &Instance, text: &[u8]) -> Result<Cert, ProofFault>
     requires { IsSoundInstance instance.now }
     ensures { Reads result (proof_of instance.now text.now) }

@@ -1,12 +1,11 @@
 ghost use Rattle.std.specs.Prelude.{◌≡◌, ◌≤◌, ◌+◌, ◌-◌, ◌*◌, ◌/◌, ◌++◌, [], ◌∷◌, All, codes as text, length, map, slice_get, IfOk, OnOk};
 ghost use Rattle.text_lines.specs.Numbers.{number_text};
-ghost use Rattle.text_lines.specs.Written.{written};
+ghost use Rattle.text_lines.specs.Written.{written, tail};
 ghost use Rattle.roster_model.specs.Folds.{sum_n};
 ghost use Rattle.roster_model.specs.SoundInstance.{IsSoundInstance};
 ghost use Rattle.certificates.specs.Sound.{IsSoundCert};
-ghost use Rattle.bound_proof.specs.PriceLines.{due_byte};
+ghost use Rattle.proof_pieces.specs.PriceLines.{due_byte};
 ghost use Rattle.bound_proof.specs.Written.{
-  tail,
   header_words,
   amount_word,
   amount_words,
@@ -26,12 +25,11 @@ ghost use Rattle.bound_proof.specs.Written.{
   node_values,
 };
 
-use crate::block::due_byte;
-use crate::put::put;
-use crate::words::{number, signed, word};
 use certificates::{Cert, Node};
+use proof_pieces::due_byte;
 use roster_model::{ArcKey, Group, Instance, List, Memory, Mult, Prices, Shift};
 use std::alloc::Global;
+use text_lines::{field, put, signed_field, word};
 
 fn header(out: &mut List<u8>, groups: &[Group]) -> Result<(), Memory>
     ensures { OnOk result (out.new ≡ out.old ++ written (header_words groups.now ∷ [])) }
@@ -51,7 +49,7 @@ fn amount(out: &mut List<u8>, value: Option<u64>) -> Result<(), Memory>
 {
     match value {
         None => word(out, b"none"),
-        Some(value) => number(out, value),
+        Some(value) => field(out, value),
     }
 }
 
@@ -87,7 +85,7 @@ fn shift_line(out: &mut List<u8>, instance: &Instance, shift: &Shift) -> Result<
         word(out, team_name(instance, shift.group))?;
     }
     word(out, shift.word.as_slice())?;
-    number(out, shift.price)?;
+    field(out, shift.price)?;
     out.push(b'\n')?;
     Ok(())
 }
@@ -106,12 +104,12 @@ fn split(out: &mut List<u8>, arc: &ArcKey, b: u32) -> Result<(), Memory>
     ensures { OnOk result (out.new ≡ out.old ++ text "split" ++ tail (split_words arc.now b)) }
 {
     put(out, b"split")?;
-    number(out, u64::from(arc.rule))?;
-    number(out, u64::from(arc.suffix))?;
-    number(out, u64::from(arc.start))?;
-    number(out, u64::from(arc.len))?;
-    number(out, u64::from(arc.part))?;
-    number(out, u64::from(b))?;
+    field(out, arc.rule as u64)?;
+    field(out, arc.suffix as u64)?;
+    field(out, arc.start as u64)?;
+    field(out, arc.len as u64)?;
+    field(out, arc.part as u64)?;
+    field(out, b as u64)?;
     Ok(())
 }
 
@@ -131,11 +129,11 @@ fn head_line(out: &mut List<u8>, node: &Node) -> Result<(), Memory>
             prices: Some(prices),
         } => {
             split(out, arc, *b)?;
-            number(out, prices.d)?;
+            field(out, prices.d)?;
         }
         Node::Priced { prices } => {
             put(out, b"priced")?;
-            number(out, prices.d)?;
+            field(out, prices.d)?;
         }
         Node::Pinned => put(out, b"pinned")?,
         Node::Bare => put(out, b"bare")?,
@@ -148,7 +146,7 @@ fn numbers(out: &mut List<u8>, values: &[i128]) -> Result<(), Memory>
     ensures { OnOk result (out.new ≡ out.old ++ tail (map number_text values.now)) }
 {
     for value in values {
-        signed(out, value)?;
+        signed_field(out, value)?;
     }
     Ok(())
 }
@@ -185,8 +183,8 @@ fn mult_line(out: &mut List<u8>, mult: &Mult) -> Result<(), Memory>
     ensures { OnOk result (out.new ≡ out.old ++ written (mult_words mult.now ∷ [])) }
 {
     put(out, b"mult")?;
-    number(out, u64::from(mult.cut))?;
-    signed(out, &mult.value)?;
+    field(out, mult.cut as u64)?;
+    signed_field(out, &mult.value)?;
     out.push(b'\n')?;
     Ok(())
 }

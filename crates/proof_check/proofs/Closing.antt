@@ -8,7 +8,7 @@ use Rattle.roster_model.specs.declared.instance.Side.TheVariants.{Low, High}
 use Rattle.proof_check.specs.declared.frame.Frame.{Frame}
 use Rattle.proof_check.specs.OpenSplits.{path, joined}
 use Rattle.proof_check.proofs.OpenSplitsLemmas.{value-high, visits-high}
-use Rattle.bound_proof.specs.PieceList.{after_leaf}
+use Rattle.proof_pieces.specs.PieceList.{after_leaf}
 use Rattle.proof_check.specs.Stacks.{StackView, AreSmall, is_high, halves_of, IsClosing}
 
 -- one more cut is small

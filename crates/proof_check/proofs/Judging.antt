@@ -12,17 +12,17 @@ use Rattle.certificates.specs.declared.cert.Node.TheVariants.{Split, Priced, Pin
 use Rattle.certificates.specs.Nodes.{Proof}
 use Rattle.certificates.specs.Sound.{IsSoundCert, IsSoundProof, IsSoundShift}
 use Rattle.proof_check.specs.declared.frame.Frame.{Frame}
-use Rattle.bound_proof.specs.declared.fault.PieceFault.{PieceFault}
-use Rattle.bound_proof.specs.declared.fault.PieceFault.TheVariants.{CutShort}
-use Rattle.bound_proof.specs.CertOf.{no_cert, with_told, is_done, collected, proof_fault, proof_of}
+use Rattle.proof_pieces.specs.declared.fault.PieceFault.{PieceFault}
+use Rattle.proof_pieces.specs.declared.fault.PieceFault.TheVariants.{CutShort}
+use Rattle.proof_pieces.specs.CertOf.{no_cert, with_told, is_done, collected, proof_fault, proof_of}
 use Rattle.text_lines.specs.Lines.{text_items}
-use Rattle.bound_proof.specs.Items.{Items}
-use Rattle.bound_proof.specs.declared.stage.Stage.TheVariants.{TooLong, Start}
-use Rattle.bound_proof.specs.PieceList.{Given, Place, no_place, start, spot_of, Reader, text_reader, pieces_from, pieces_left, pieces_of}
-use Rattle.bound_proof.specs.Told.{Told, cost, bound, shift, node, done}
-use Rattle.bound_proof.specs.ToldSound.{node_told, shifts_with, IsToldSound, AreToldSound}
-use Rattle.bound_proof.proofs.PiecesKept.{cert_sound}
-use Rattle.bound_proof.proofs.ToldKept.{text_sound}
+use Rattle.proof_pieces.specs.Items.{Items}
+use Rattle.proof_pieces.specs.declared.stage.Stage.TheVariants.{TooLong, Start}
+use Rattle.proof_pieces.specs.PieceList.{Given, Place, no_place, start, spot_of, Reader, text_reader, pieces_from, pieces_left, pieces_of}
+use Rattle.proof_pieces.specs.Told.{Told, cost, bound, shift, node, done}
+use Rattle.proof_pieces.specs.ToldSound.{node_told, shifts_with, IsToldSound, AreToldSound}
+use Rattle.proof_pieces.proofs.PiecesKept.{cert_sound}
+use Rattle.proof_pieces.proofs.ToldKept.{text_sound}
 use Rattle.proof_check.specs.declared.walker.Walker.{Walker}
 use Rattle.proof_check.specs.declared.seen.Seen.{Seen}
 use Rattle.proof_check.specs.declared.walk.Walk.{Walk}

@@ -10,7 +10,7 @@ use Rattle.certificates.specs.declared.cert.Node.TheVariants.{Split, Priced, Pin
 use Rattle.certificates.specs.Nodes.{Visit, low_cut}
 use Rattle.proof_check.specs.OpenSplits.{path, ValueAfter, VisitsAfter, ValueNext, VisitsNext, IsLeaf, IsLeafValue, IsOwnValue}
 use Rattle.proof_check.proofs.OpenSplitsLemmas.{value-split, value-leaf, visits-split, visits-leaf}
-use Rattle.bound_proof.specs.PieceList.{after_leaf}
+use Rattle.proof_pieces.specs.PieceList.{after_leaf}
 use Rattle.proof_check.specs.Stacks.{StackView, AreSmall, halves_of}
 use Rattle.proof_check.proofs.Closing.{small-more}
 use Rattle.proof_check.specs.Steps.{way, halves_after, MayFollow, IsShown}

@@ -5,10 +5,10 @@ use Rattle.certificates.specs.declared.cert.Cert.{Cert}
 use Rattle.certificates.specs.declared.cert.Node.{Node}
 use Rattle.certificates.specs.Nodes.{Proof}
 use Rattle.certificates.specs.Sound.{IsSoundProof}
-use Rattle.bound_proof.specs.CertOf.{with_told, collected, proof_fault, proof_of}
-use Rattle.bound_proof.specs.PieceList.{Given, Place}
-use Rattle.bound_proof.specs.Told.{Told}
-use Rattle.bound_proof.specs.ToldSound.{place_with, shifts_with, AreToldSound}
+use Rattle.proof_pieces.specs.CertOf.{with_told, collected, proof_fault, proof_of}
+use Rattle.proof_pieces.specs.PieceList.{Given, Place}
+use Rattle.proof_pieces.specs.Told.{Told}
+use Rattle.proof_pieces.specs.ToldSound.{place_with, shifts_with, AreToldSound}
 use Rattle.proof_check.specs.declared.walker.Walker.{Walker}
 use Rattle.proof_check.specs.declared.judged.Judged.{Judged}
 use Rattle.proof_check.specs.declared.judged.Judged.TheVariants.{Said, Fault}

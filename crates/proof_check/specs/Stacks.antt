@@ -11,7 +11,7 @@ use Rattle.roster_model.specs.declared.instance.Instance.{Instance}
 use Rattle.certificates.specs.declared.cert.Node.{Node}
 use Rattle.certificates.specs.Nodes.{Visit}
 use Rattle.proof_check.specs.OpenSplits.{path, ValueAfter, VisitsAfter}
-use Rattle.bound_proof.specs.PieceList.{after_leaf}
+use Rattle.proof_pieces.specs.PieceList.{after_leaf}
 
 -- the cuts with which each path begins, the open splits, of which the innermost is the first, and how
 -- many there may be

@@ -12,7 +12,7 @@ use Rattle.proof_check.specs.OpenSplits.{path, LeadsTo, MakeVisits, ValueNext, V
 use Rattle.proof_check.specs.Rooms.{AreTablesFor, AreRoomsFor}
 use Rattle.proof_check.specs.declared.walker.Walker.{Walker}
 use Rattle.proof_check.specs.declared.walk.Walk.{Walk}
-use Rattle.bound_proof.specs.PieceList.{after_leaf}
+use Rattle.proof_pieces.specs.PieceList.{after_leaf}
 use Rattle.proof_check.specs.Stacks.{StackView, AreSmall, halves_of}
 use Rattle.proof_check.specs.Walked.{IsVisitCause, IsVisitsCause, lesser_cause}
 

@@ -8,7 +8,7 @@ ghost use Rattle.proof_check.specs.Verdicts.{IsVerdict};
 use crate::judged::Judged;
 use crate::seen::Seen;
 use crate::walker::Walker;
-use bound_proof::CertRoom;
+use proof_pieces::CertRoom;
 use certificates::{Cert, MOST_NODES, Verdict};
 use roster_model::{Instance, Memory};
 use std::alloc::Global;

@@ -1,4 +1,4 @@
-use bound_proof::PieceFault;
+use proof_pieces::PieceFault;
 use certificates::Verdict;
 
 /// What judging a text finds.

@@ -6,7 +6,7 @@ ghost use Rattle.roster_model.specs.Cuts.{base_cuts};
 ghost use Rattle.roster_model.specs.SoundInstance.{IsSoundInstance};
 ghost use Rattle.proof_check.specs.declared.frame.Frame.{Frame as OpenSplit};
 ghost use Rattle.proof_check.specs.OpenSplits.{path, joined, ValueAfter, VisitsAfter, ValueNext, VisitsNext};
-ghost use Rattle.bound_proof.specs.PieceList.{after_leaf};
+ghost use Rattle.proof_pieces.specs.PieceList.{after_leaf};
 ghost use Rattle.proof_check.specs.Stacks.{AreSmall, halves_of};
 
 use crate::base::{MOST_BASE_CUTS, push_base_cuts};

@@ -17,9 +17,9 @@ use Rattle.demand_text.specs.declared.fault.DemandFault.{DemandFault}
 use Rattle.demand_text.specs.declared.fault.DemandFault.TheVariants as demand_faults
 use Rattle.demand_text.specs.FaultLine as demand
 use Rattle.demand_text.specs.InstanceOf.{instance_of}
-use Rattle.bound_proof.specs.declared.fault.PieceFault.{PieceFault}
-use Rattle.bound_proof.specs.CertOf.{proof_fault}
-use Rattle.bound_proof.specs.FaultLine as proof
+use Rattle.proof_pieces.specs.declared.fault.PieceFault.{PieceFault}
+use Rattle.proof_pieces.specs.CertOf.{proof_fault}
+use Rattle.proof_pieces.specs.FaultLine as proof
 use Rattle.rules_text.specs.FaultLine.{fault_line}
 use Rattle.rules_text.specs.RulesOf.{IsReading}
 use Rattle.rules_text.specs.declared.fault.RulesFault.{RulesFault}

@@ -17,9 +17,9 @@ use Rattle.rules_text.specs.RulesOf.{IsReading}
 use Rattle.rules_text.proofs.OneReading.{one_reading}
 use Rattle.demand_text.specs.declared.fault.DemandFault.{DemandFault}
 use Rattle.demand_text.specs.InstanceOf.{instance_of}
-use Rattle.bound_proof.specs.declared.fault.ProofFault.{ProofFault}
-use Rattle.bound_proof.specs.CertOf.{proof_of}
-use Rattle.bound_proof.specs.FaultLine as proof
+use Rattle.proof_pieces.specs.declared.fault.ProofFault.{ProofFault}
+use Rattle.proof_pieces.specs.CertOf.{proof_of}
+use Rattle.proof_pieces.specs.FaultLine as proof
 use Rattle.demand_text.specs.FaultLine as demand
 use Rattle.rules_text.specs.FaultLine.{fault_line}
 use Rattle.shift_report.specs.TreeText.{tree_text}

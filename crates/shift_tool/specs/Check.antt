@@ -10,9 +10,9 @@ use Rattle.certificates.specs.declared.why.Why.{Why}
 use Rattle.demand_text.specs.declared.fault.DemandFault.{DemandFault}
 use Rattle.demand_text.specs.FaultLine as demand
 use Rattle.demand_text.specs.InstanceOf.{instance_of}
-use Rattle.bound_proof.specs.declared.fault.ProofFault.{ProofFault}
-use Rattle.bound_proof.specs.CertOf.{proof_of}
-use Rattle.bound_proof.specs.FaultLine as proof
+use Rattle.proof_pieces.specs.declared.fault.ProofFault.{ProofFault}
+use Rattle.proof_pieces.specs.CertOf.{proof_of}
+use Rattle.proof_pieces.specs.FaultLine as proof
 use Rattle.certificate_laws.specs.Accepted.{Accepts}
 use Rattle.certificate_laws.specs.Causes.{IsFirstCause}
 use Rattle.certificate_laws.specs.Right.{YesIsRight}

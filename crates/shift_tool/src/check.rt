@@ -2,8 +2,8 @@ ghost use Rattle.std.specs.Prelude.{◌≡◌, ◌≢◌, ◌≤◌, [], ◌∷�
 ghost use Rattle.roster_model.specs.Sound.{IsPlain, IsSound};
 ghost use Rattle.roster_model.specs.SoundInstance.{IsSoundInstance};
 ghost use Rattle.demand_text.specs.FaultLine as demand_fault;
-ghost use Rattle.bound_proof.specs.CertOf.{proof_fault};
-ghost use Rattle.bound_proof.specs.FaultLine as proof_line;
+ghost use Rattle.proof_pieces.specs.CertOf.{proof_fault};
+ghost use Rattle.proof_pieces.specs.FaultLine as proof_line;
 ghost use Rattle.proof_check.specs.Judging.{IsJudged};
 ghost use Rattle.shift_report.specs.VerdictText.{verdict_text};
 ghost use Rattle.shift_tool.specs.Check.{
@@ -20,7 +20,7 @@ ghost use Rattle.shift_tool.specs.Reader.{IsReader};
 use crate::answer::Answer;
 use crate::explain::refusal;
 use crate::fetch::{fetched, say_answer};
-use bound_proof::{CertRoom, PieceFault, ProofFault};
+use proof_pieces::{CertRoom, PieceFault, ProofFault};
 use certificates::Verdict;
 use demand_text::{DemandFault, read_demand};
 use proof_check::{Bench, Judged};
@@ -50,7 +50,7 @@ fn proof_refusal(alloc: Global, fault: PieceFault) -> Result<Answer, Memory>
 {
     Ok(Answer {
         status: 5,
-        output: bound_proof::fault_line(alloc, &ProofFault::from(fault))?,
+        output: proof_pieces::fault_line(alloc, &ProofFault::from(fault))?,
     })
 }
 

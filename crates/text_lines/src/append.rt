@@ -36,11 +36,11 @@ pub fn field(out: &mut List<u8>, value: u64) -> Result<(), Memory>
 
 /// Appends a number, which may be below 0, behind a space. After want of memory the space may stand
 /// there without the number.
-pub fn signed_field(out: &mut List<u8>, value: i128) -> Result<(), Memory>
-    ensures { OnOk result (out.new ≡ out.old ++ tail (number_text value ∷ [])) }
+pub fn signed_field(out: &mut List<u8>, value: &i128) -> Result<(), Memory>
+    ensures { OnOk result (out.new ≡ out.old ++ tail (number_text value.now ∷ [])) }
 {
     out.push(b' ')?;
-    write_number(out, value)?;
+    write_number(out, *value)?;
     Ok(())
 }
 

@@ -1,9 +1,9 @@
 use Rattle.std.proofs.Common.{◌≡◌, Bool, List, [], ℕ, arith, ap, refl}
 use Rattle.certificates.specs.declared.cert.Cert.{Cert}
 use Rattle.roster_model.specs.declared.instance.Instance.{Instance}
-use Rattle.bound_proof.specs.CertOf.{no_cert, collected}
-use Rattle.bound_proof.specs.PieceList.{Reader, text_reader, pieces_left, pieces_of}
-use Rattle.bound_proof.specs.Told.{RoomView}
+use Rattle.proof_pieces.specs.CertOf.{no_cert, collected}
+use Rattle.proof_pieces.specs.PieceList.{Reader, text_reader, pieces_left, pieces_of}
+use Rattle.proof_pieces.specs.Told.{RoomView}
 use Rattle.bound_proof.proofs.read.collect.Goals as goal
 
 begins : (i : Instance) (text : List ℕ) (r : Reader) (halves : List Bool) (c : Cert) → c ≡ no_cert → r ≡ text_reader text → halves ≡ []

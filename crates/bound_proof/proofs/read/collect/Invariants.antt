@@ -1,6 +1,6 @@
 use Rattle.std.proofs.Common.{◌≡◌, ◌≤◌, length}
-use Rattle.bound_proof.specs.CertOf.{no_cert, collected}
-use Rattle.bound_proof.specs.PieceList.{pieces_left, pieces_of, Follows}
+use Rattle.proof_pieces.specs.CertOf.{no_cert, collected}
+use Rattle.proof_pieces.specs.PieceList.{pieces_left, pieces_of, Follows}
 use Rattle.bound_proof.proofs.read.collect.Given as goal
 
 abbrev pub invariant-loop-answer : goal.invariant-loop-answer

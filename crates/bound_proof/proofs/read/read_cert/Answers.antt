@@ -1,4 +1,4 @@
-use Rattle.bound_proof.proofs.PiecesKept.{cert_sound}
+use Rattle.proof_pieces.proofs.PiecesKept.{cert_sound}
 use Rattle.bound_proof.proofs.read.read_cert.Goals as goal
 
 pub returns-clause-sound : goal.returns-clause-sound

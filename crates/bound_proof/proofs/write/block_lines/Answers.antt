@@ -1,6 +1,6 @@
 use Rattle.std.proofs.Common.{◌/◌, length, map}
 use Rattle.bound_proof.specs.Written.{price_lines, mult_words}
-use Rattle.bound_proof.proofs.Tails.{lines_then}
+use Rattle.text_lines.proofs.WrittenLemmas.{lines_then}
 use Rattle.bound_proof.proofs.write.block_lines.Goals as goal
 
 pub returns : goal.returns

@@ -1,7 +1,7 @@
 use Rattle.std.proofs.Common.{map}
 use Rattle.std.specs.Prelude.{codes}
 use Rattle.bound_proof.specs.Written.{header_words, amount_words, shift_line, tree_lines, end_words}
-use Rattle.bound_proof.proofs.Tails.{cert_joined}
+use Rattle.bound_proof.proofs.WrittenLemmas.{cert_joined}
 use Rattle.bound_proof.proofs.CertParts.{all_prices}
 use Rattle.bound_proof.proofs.write.cert_lines.Goals as goal
 

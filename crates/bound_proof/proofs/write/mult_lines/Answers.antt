@@ -1,6 +1,6 @@
 use Rattle.std.specs.Prelude.{pos}
 use Rattle.bound_proof.specs.Written.{mult_words}
-use Rattle.bound_proof.proofs.Tails.{line_more}
+use Rattle.text_lines.proofs.WrittenLemmas.{line_more}
 use Rattle.bound_proof.proofs.write.mult_lines.Goals as goal
 
 pub loop-mult-preserved : goal.loop-mult-preserved

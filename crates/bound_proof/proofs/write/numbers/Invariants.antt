@@ -1,6 +1,6 @@
 use Rattle.std.proofs.Common.{◌≡◌, ◌++◌, map, take}
 use Rattle.text_lines.specs.Numbers.{number_text}
-use Rattle.bound_proof.specs.Written.{tail}
+use Rattle.text_lines.specs.Written.{tail}
 use Rattle.bound_proof.proofs.write.numbers.Given as goal
 
 abbrev pub invariant-loop-value : goal.invariant-loop-value

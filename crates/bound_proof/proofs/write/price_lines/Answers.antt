@@ -1,5 +1,5 @@
 use Rattle.std.proofs.Common.{◌≤◌, length, refl, rules, arith}
-use Rattle.bound_proof.proofs.Tails.{prices_left, prices_next, prices_parted, prices_done}
+use Rattle.bound_proof.proofs.WrittenLemmas.{prices_left, prices_next, prices_parted, prices_done}
 use Rattle.bound_proof.proofs.write.price_lines.Goals as goal
 
 pub loop-rest-init : goal.loop-rest-init

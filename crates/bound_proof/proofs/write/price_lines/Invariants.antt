@@ -1,7 +1,7 @@
 use Rattle.std.proofs.Common.{◌≡◌, ◌/◌, ◌++◌, ◌+◌, length}
 use Rattle.text_lines.specs.Written.{written}
 use Rattle.bound_proof.specs.Written.{price_lines}
-use Rattle.bound_proof.proofs.Tails.{PricesLeft}
+use Rattle.bound_proof.proofs.WrittenLemmas.{PricesLeft}
 use Rattle.bound_proof.proofs.write.price_lines.Given as goal
 
 abbrev pub invariant-loop-rest : goal.invariant-loop-rest

@@ -1,5 +1,5 @@
 use Rattle.bound_proof.specs.Written.{shift_line}
-use Rattle.bound_proof.proofs.Tails.{line_more}
+use Rattle.text_lines.proofs.WrittenLemmas.{line_more}
 use Rattle.bound_proof.proofs.write.shift_lines.Goals as goal
 
 pub loop-shift-preserved : goal.loop-shift-preserved

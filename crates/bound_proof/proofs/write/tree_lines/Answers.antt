@@ -1,4 +1,4 @@
-use Rattle.bound_proof.proofs.Tails.{node_more}
+use Rattle.bound_proof.proofs.WrittenLemmas.{node_more}
 use Rattle.bound_proof.proofs.write.tree_lines.Goals as goal
 
 pub loop-node-preserved : goal.loop-node-preserved

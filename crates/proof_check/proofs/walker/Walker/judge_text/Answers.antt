@@ -1,8 +1,8 @@
 use Rattle.std.proofs.Common.{None, Result, Ok, ◌∷◌, refl, sym, ap, subst, ◌∙◌}
-use Rattle.bound_proof.specs.declared.fault.PieceFault.{PieceFault}
-use Rattle.bound_proof.specs.declared.piece.Piece.{Piece}
-use Rattle.bound_proof.specs.PieceList.{Given, pieces_left}
-use Rattle.bound_proof.specs.Told.{Told, told, told_answer}
+use Rattle.proof_pieces.specs.declared.fault.PieceFault.{PieceFault}
+use Rattle.proof_pieces.specs.declared.piece.Piece.{Piece}
+use Rattle.proof_pieces.specs.PieceList.{Given, pieces_left}
+use Rattle.proof_pieces.specs.Told.{Told, told, told_answer}
 use Rattle.proof_check.specs.declared.walker.Walker.{Walker}
 use Rattle.proof_check.specs.Stacks.{StackView}
 use Rattle.proof_check.specs.Judging.{IsJudging}

@@ -1,5 +1,5 @@
 use Rattle.std.proofs.Common.{◌≡◌, length}
-use Rattle.bound_proof.specs.PieceList.{pieces_left, Follows}
+use Rattle.proof_pieces.specs.PieceList.{pieces_left, Follows}
 use Rattle.proof_check.specs.Judging.{IsJudging}
 use Rattle.proof_check.proofs.walker.Walker.judge_text.Given as goal
 

@@ -1,9 +1,9 @@
 use Rattle.std.proofs.Common.{◌≡◌, length, sym, ap, subst}
 use Rattle.std.proofs.Common.{◌∷◌, ◌++◌, []}
 use Rattle.roster_model.specs.declared.instance.Shift.{Shift}
-use Rattle.bound_proof.specs.declared.piece.Piece.{Piece}
-use Rattle.bound_proof.specs.Told.{Told, cost, bound, shift, told}
-use Rattle.bound_proof.specs.ToldSound.{IsToldSound}
+use Rattle.proof_pieces.specs.declared.piece.Piece.{Piece}
+use Rattle.proof_pieces.specs.Told.{Told, cost, bound, shift, told}
+use Rattle.proof_pieces.specs.ToldSound.{IsToldSound}
 use Rattle.proof_check.specs.Judging.{place_at}
 use Rattle.proof_check.proofs.Judging.{retold, cost-taken, bound-taken, shift-taken}
 use Rattle.proof_check.proofs.walker.Walker.take.Goals as goal

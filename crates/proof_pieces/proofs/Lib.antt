@@ -1,0 +1,11 @@
+pub mod BaseCuts
+pub mod PriceBlock
+pub mod Empty
+pub mod Ends
+pub mod FineItems
+pub mod FieldsKept
+pub mod BlockKept
+pub mod TreeKept
+pub mod PiecesKept
+pub mod ToldKept
+pub mod RefusedPieces

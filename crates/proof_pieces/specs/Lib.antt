@@ -1,0 +1,13 @@
+pub mod Items
+pub mod Ahead
+pub mod Fields
+pub mod NodeLines
+pub mod ShiftLines
+pub mod PriceLines
+pub mod Told
+pub mod PieceList
+pub mod ToldSound
+pub mod Next
+pub mod CertOf
+pub mod FaultLine
+pub mod Refused

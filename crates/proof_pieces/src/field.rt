@@ -1,0 +1,75 @@
+ghost use Rattle.std.specs.Prelude.{◌≡◌, ◌+◌, ◌≤◌, ◌<◌, ◌^◌, length, unsigned_abs, IfOk, IfSome, position};
+ghost use Rattle.proof_pieces.specs.Fields.{number_at, signed_at, amount_at, has_name, group_at};
+
+use crate::fault::PieceFault;
+use roster_model::{Group, List};
+use text_lines::{NumberFault, read_number, read_within};
+
+/// Costs, bounds and prices of shifts are no greater.
+pub const MOST_COST: u128 = 1_099_511_627_776;
+
+/// Prices of cells and multipliers are no greater in size.
+pub const MOST_PRICE: u128 = 1 << 80;
+
+/// Reads a number from `low` to `high`.
+pub fn number(line: u32, low: u128, high: u128, word: &[u8]) -> Result<u128, PieceFault>
+    ensures value { result ≡ number_at line low high word.now }
+    ensures within { IfOk result (λ n. (low ≤ n) × (n ≤ high)) }
+{
+    let none = PieceFault::BadNumber { line };
+    let outside = PieceFault::OutOfRange { line };
+    read_within(low, high, none, outside, word)
+}
+
+/// Reads a number of at most `2^80` in size, which may be below 0.
+#[tactic(auto, unfolding(crate::specs::Fields::signed_at))]
+pub fn signed(line: u32, word: &[u8]) -> Result<i128, PieceFault>
+    ensures { result ≡ signed_at line word.now }
+{
+    match read_number(word) {
+        Ok(z) if MOST_PRICE < z.unsigned_abs() => Err(PieceFault::OutOfRange { line }),
+        Ok(z) => Ok(z),
+        Err(NumberFault::Form) => Err(PieceFault::BadNumber { line }),
+        Err(NumberFault::Wide) => Err(PieceFault::OutOfRange { line }),
+    }
+}
+
+/// Reads a cost or a bound: a number, or `none`.
+#[tactic(auto, unfolding(crate::specs::Fields::amount_at))]
+pub fn amount(line: u32, word: &[u8]) -> Result<Option<u64>, PieceFault>
+    ensures { result ≡ amount_at line word.now }
+{
+    if word == b"none".as_slice() {
+        return Ok(None);
+    }
+    let value = number(line, 0, MOST_COST, word)?;
+    Ok(Some(value as u64))
+}
+
+fn has_name(names: &[List<u8>], word: &[u8], group: &Group) -> bool
+    ensures { result ≡ has_name names.now word.now group.now }
+{
+    match names.get(group.name as usize) {
+        Some(name) => name.as_slice() == word,
+        None => false,
+    }
+}
+
+fn group_place(names: &[List<u8>], groups: &[Group], word: &[u8]) -> Option<usize>
+    ensures place { result ≡ position (has_name names.now word.now) groups.now }
+    ensures within { IfSome result (λ i. i < length groups.now) }
+{
+    groups.iter().position(|group| has_name(names, word, group))
+}
+
+/// Reads the name of a group, and gives the group's number, from 1.
+#[tactic(auto, unfolding(crate::specs::Fields::group_at))]
+pub fn group(line: u32, names: &[List<u8>], groups: &[Group], word: &[u8]) -> Result<u8, PieceFault>
+    requires { length groups.now ≤ 8 }
+    ensures { result ≡ group_at line names.now groups.now word.now }
+{
+    match group_place(names, groups, word) {
+        Some(place) => Ok(place as u8 + 1),
+        None => Err(PieceFault::OutOfRange { line }),
+    }
+}

@@ -1,0 +1,173 @@
+ghost use Rattle.std.specs.Prelude.{◌≡◌, ◌<◌, IfOk};
+ghost use Rattle.certificates.specs.Sound.{most_rule};
+ghost use Rattle.proof_pieces.specs.NodeLines.{arc_at, split_of, split_at, priced_at, leaf_at, node_at};
+
+use crate::fault::PieceFault;
+use crate::field::number;
+use roster_model::{ArcKey, Group};
+use text_lines::{Line, Words};
+
+/// What the line of a node says.
+#[derive(Clone, Copy, Debug, PartialEq, Eq, Drop)]
+pub enum NodeLine {
+    Split {
+        arc: ArcKey,
+        /// 0 to 63.
+        b: u32,
+        /// The denominator of the node's prices, where it has some.
+        d: Option<u64>,
+    },
+    Priced {
+        /// The denominator of the prices.
+        d: u64,
+    },
+    Pinned,
+    Bare,
+}
+
+/// A certificate has at most so many nodes.
+const MOST_NODES: u32 = 20001;
+
+/// Denominators are no greater.
+const MOST_DENOMINATOR: u128 = 1 << 30;
+
+fn most_rule(groups: &[Group]) -> u128
+    ensures { result ≡ most_rule groups.now }
+{
+    if groups.is_empty() { 64 } else { 72 }
+}
+
+#[tactic(auto, unfolding(crate::specs::NodeLines::arc_at))]
+fn arc(
+    line: u32,
+    groups: &[Group],
+    rule: &[u8],
+    suffix: &[u8],
+    start: &[u8],
+    len: &[u8],
+    part: &[u8],
+) -> Result<ArcKey, PieceFault>
+    ensures { result ≡ arc_at line groups.now rule.now suffix.now start.now len.now part.now }
+{
+    let rule = number(line, 1, most_rule(groups), rule)? as u8;
+    let suffix = number(line, 0, 6, suffix)? as u8;
+    let start = number(line, 1, 96, start)? as u8;
+    let len = number(line, 1, 96, len)? as u8;
+    let part = number(line, 1, 96, part)? as u8;
+    Ok(ArcKey {
+        rule,
+        suffix,
+        start,
+        len,
+        part,
+    })
+}
+
+#[tactic(auto, unfolding(crate::specs::NodeLines::split_of, crate::specs::NodeLines::split_at))]
+fn split(
+    line: u32,
+    groups: &[Group],
+    nodes: u32,
+    words: &mut Words<'_>,
+) -> Result<NodeLine, PieceFault>
+    ensures value { result ≡ split_at line groups.now nodes words.old }
+    ensures few { IfOk result (λ _. nodes < 20001) }
+{
+    let Some(rule) = words.next() else {
+        return Err(PieceFault::UnknownLine { line });
+    };
+    let Some(suffix) = words.next() else {
+        return Err(PieceFault::UnknownLine { line });
+    };
+    let Some(start) = words.next() else {
+        return Err(PieceFault::UnknownLine { line });
+    };
+    let Some(len) = words.next() else {
+        return Err(PieceFault::UnknownLine { line });
+    };
+    let Some(part) = words.next() else {
+        return Err(PieceFault::UnknownLine { line });
+    };
+    let Some(b) = words.next() else {
+        return Err(PieceFault::UnknownLine { line });
+    };
+    let Some(d) = words.next() else {
+        if MOST_NODES <= nodes {
+            return Err(PieceFault::TooManyNodes { line });
+        }
+        let arc = arc(line, groups, rule, suffix, start, len, part)?;
+        let b = number(line, 0, 63, b)? as u32;
+        return Ok(NodeLine::Split { arc, b, d: None });
+    };
+    if let Some(_) = words.next() {
+        return Err(PieceFault::UnknownLine { line });
+    }
+    if MOST_NODES <= nodes {
+        return Err(PieceFault::TooManyNodes { line });
+    }
+    let arc = arc(line, groups, rule, suffix, start, len, part)?;
+    let b = number(line, 0, 63, b)? as u32;
+    let d = Some(number(line, 1, MOST_DENOMINATOR, d)? as u64);
+    Ok(NodeLine::Split { arc, b, d })
+}
+
+#[tactic(auto, unfolding(crate::specs::NodeLines::priced_at))]
+fn priced(line: u32, nodes: u32, words: &mut Words<'_>) -> Result<NodeLine, PieceFault>
+    ensures value { result ≡ priced_at line nodes words.old }
+    ensures few { IfOk result (λ _. nodes < 20001) }
+{
+    let Some(d) = words.next() else {
+        return Err(PieceFault::UnknownLine { line });
+    };
+    if let Some(_) = words.next() {
+        return Err(PieceFault::UnknownLine { line });
+    }
+    if MOST_NODES <= nodes {
+        return Err(PieceFault::TooManyNodes { line });
+    }
+    let d = number(line, 1, MOST_DENOMINATOR, d)? as u64;
+    Ok(NodeLine::Priced { d })
+}
+
+#[tactic(auto, unfolding(crate::specs::NodeLines::leaf_at))]
+fn leaf(
+    line: u32,
+    nodes: u32,
+    leaf: NodeLine,
+    words: &mut Words<'_>,
+) -> Result<NodeLine, PieceFault>
+    ensures value { result ≡ leaf_at line nodes leaf words.old }
+    ensures few { IfOk result (λ _. nodes < 20001) }
+{
+    if let Some(_) = words.next() {
+        return Err(PieceFault::UnknownLine { line });
+    }
+    if MOST_NODES <= nodes {
+        return Err(PieceFault::TooManyNodes { line });
+    }
+    Ok(leaf)
+}
+
+/// Reads the line of a node, before which so many nodes stand.
+#[tactic(auto, unfolding(crate::specs::NodeLines::node_at))]
+pub fn node_line(groups: &[Group], nodes: u32, line: &Line<'_>) -> Result<NodeLine, PieceFault>
+    ensures value { result ≡ node_at line.now.number groups.now nodes line.now.words }
+    ensures few { IfOk result (λ _. nodes < 20001) }
+{
+    let number = line.number();
+    let mut words = line.words();
+    let Some(first) = words.next() else {
+        return Err(PieceFault::UnknownLine { line: number });
+    };
+    if first == b"split".as_slice() {
+        split(number, groups, nodes, &mut words)
+    } else if first == b"priced".as_slice() {
+        priced(number, nodes, &mut words)
+    } else if first == b"pinned".as_slice() {
+        leaf(number, nodes, NodeLine::Pinned, &mut words)
+    } else if first == b"bare".as_slice() {
+        leaf(number, nodes, NodeLine::Bare, &mut words)
+    } else {
+        Err(PieceFault::UnknownLine { line: number })
+    }
+}
