@@ -8,8 +8,8 @@ ghost use Rattle.proof_check.specs.Verdicts.{IsVerdict};
 use crate::judged::Judged;
 use crate::seen::Seen;
 use crate::walker::Walker;
-use proof_pieces::CertRoom;
 use certificates::{Cert, MOST_NODES, Verdict};
+use proof_pieces::CertRoom;
 use roster_model::{Instance, Memory};
 use std::alloc::Global;
 

@@ -1,5 +1,5 @@
-use proof_pieces::PieceFault;
 use certificates::Verdict;
+use proof_pieces::PieceFault;
 
 /// What judging a text finds.
 #[derive(Clone, Copy, Debug, PartialEq, Eq, Drop)]

@@ -16,8 +16,8 @@ use crate::judged::Judged;
 use crate::node::{NodeView, PricesView};
 use crate::seen::Seen;
 use crate::walker::Walker;
-use proof_pieces::{CertRoom, Piece, PieceFault, Pieces};
 use certificates::Verdict;
+use proof_pieces::{CertRoom, Piece, PieceFault, Pieces};
 use roster_model::Instance;
 
 // Returns the prices that the room holds.
