@@ -1,3 +1,4 @@
 pub mod Unique
 pub mod Rising
 pub mod Walking
+pub mod Forests

@@ -1,14 +1,8 @@
 -- Certificates' numbers and nodes as a walk without memory meets them.
-use Rattle.std.specs.Prelude.{ℕ, ℤ, ◌≡◌, ◌<◌, ◌≤◌, ◌^◌, All, List, [], ◌∷◌, ◌++◌, length}
-use Rattle.roster_model.specs.declared.instance.Cut.{Cut}
-use Rattle.roster_model.specs.declared.instance.Instance.{Instance}
+use Rattle.std.specs.Prelude.{ℕ, ℤ, ◌≡◌, ◌<◌, ◌≤◌, ◌^◌, All, List, [], ◌∷◌, length}
 use Rattle.roster_model.specs.declared.instance.Mult.{Mult}
-use Rattle.roster_model.specs.Folds.{Each}
 use Rattle.roster_model.specs.PriceLimits.{IsMult}
 use Rattle.roster_model.specs.Sums.{Within}
-use Rattle.certificates.specs.declared.cert.Node.{Node}
-use Rattle.certificates.specs.Nodes.{Proof, preorder, visits}
-use Rattle.certificates.specs.Sound.{IsSoundVisit}
 
 -- the numbers of the cuts rise, from one above the last
 abbrev pub RisesFrom : ℕ → List Mult → Type 0
@@ -27,14 +21,3 @@ pub record HasMults (cuts : ℕ) (mult : List Mult) : Type 0 where
   pub few : length mult ≤ 1500
   pub each : All (IsMult cuts) mult
   pub rising : RisesFrom 0 mult
-
--- the nodes begin with one whole tree of sound nodes, which has so many cuts above it, and end with
--- the rest
-pub record BeginsWithTree (i : Instance) (cuts : ℕ) (nodes rest : List Node) : Type 0 where
-  pub proof : Proof
-  pub whole : nodes ≡ preorder proof ++ rest
-  pub each : (path : List Cut) → length path ≡ cuts → Each (IsSoundVisit i) (visits path proof)
-
--- the nodes begin with no such tree
-pub record BeginsWithNone (i : Instance) (cuts : ℕ) (nodes : List Node) : Type 0 where
-  pub none : (path : List Cut) (t : Proof) (rest : List Node) → length path ≡ cuts → nodes ≡ preorder t ++ rest → Each (IsSoundVisit i) (visits path t) → ⊥

@@ -1,9 +1,9 @@
-ghost use Rattle.std.specs.Prelude.{◌≡◌, ◌≤◌, ◌<◌, ◌+◌, ◌↔◌, IsTrue, MatchOption, length, List as Items};
+ghost use Rattle.std.specs.Prelude.{ℕ, ◌≡◌, ◌≤◌, ◌<◌, ◌+◌, ◌↔◌, [], ◌∷◌, IsTrue, IfSome, length, List as Items};
 ghost use Rattle.roster_model.specs.declared.instance.Cut.{Cut};
 ghost use Rattle.roster_model.specs.SoundInstance.{IsSoundInstance};
+ghost use Rattle.certificates.specs.Forests.{IsForest, due, due_after, due_high};
 ghost use Rattle.certificates.specs.Nodes.{Proof};
 ghost use Rattle.certificates.specs.Sound.{IsSoundNode, IsSoundProof, most_nodes};
-ghost use Rattle.certificates.specs.Walks.{BeginsWithTree, BeginsWithNone};
 
 use crate::cert::Node;
 use crate::sound::{are_fit, is_key};
@@ -13,7 +13,6 @@ use roster_model::{Instance, base_cut_count};
 pub const MOST_NODES: usize = 20_001;
 
 /// Returns whether the nodes are one whole tree of sound nodes, in preorder.
-#[tactic(auto, using(roster_model::proofs::CutCounts::few_groups))]
 pub(crate) fn is_whole_tree(instance: &Instance, nodes: &[Node]) -> bool
     requires { IsSoundInstance instance.now }
     ensures { IsTrue result ↔ ((proof : Proof) × IsSoundProof instance.now nodes.now proof) }
@@ -21,36 +20,63 @@ pub(crate) fn is_whole_tree(instance: &Instance, nodes: &[Node]) -> bool
     if nodes.len() > MOST_NODES {
         return false;
     }
-    match after_tree(instance, base_cut_count(instance), nodes) {
-        Some(rest) => rest.is_empty(),
-        None => false,
+    let mut halves = [false; MOST_NODES];
+    is_tree(instance, base_cut_count(instance), nodes, &mut halves)
+}
+
+/// Returns whether the nodes are one whole tree of sound nodes, with so many cuts above it. The
+/// slice tells in which half of each open split the walk is: `true` is the half of many trees.
+fn is_tree(instance: &Instance, cuts: usize, nodes: &[Node], halves: &mut [bool]) -> bool
+    requires few { cuts ≤ 16 }
+    requires room { length nodes.now ≤ length halves.old }
+    requires short { length nodes.now ≤ most_nodes }
+    ensures { IsTrue result ↔ IsForest instance.now (cuts ∷ []) nodes.now }
+{
+    let mut open = Some(0);
+    for node in nodes {
+        let Some(splits) = open else {
+            return false;
+        };
+        if !is_node(instance, cuts + splits, node) {
+            return false;
+        }
+        open = after_node(halves, splits, node);
+    }
+    open.is_none()
+}
+
+/// Returns how many splits are open above the next node, where so many are above this one; `None`
+/// where the tree is whole.
+fn after_node(halves: &mut [bool], splits: usize, node: &Node) -> Option<usize>
+    requires { splits < length halves.old }
+    ensures due { (cuts : ℕ) → due cuts halves.new result ≡ due_after (cuts + splits) node.now (due_high cuts halves.old splits) }
+    ensures few { IfSome result (λ n. n ≤ splits + 1) }
+{
+    match node {
+        Node::Split { .. } => {
+            halves[splits] = false;
+            Some(splits + 1)
+        }
+        Node::Priced { .. } | Node::Pinned | Node::Bare => next_high(halves, splits),
     }
 }
 
-/// Returns the nodes after the tree with which the nodes begin, with so many cuts above it; `None`
-/// where they begin with no tree of sound nodes.
-#[tactic(auto, using(crate::proofs::Walking::none_empty, crate::proofs::Walking::none_unsound, crate::proofs::Walking::leaf_tree, crate::proofs::Walking::no_low, crate::proofs::Walking::no_high, crate::proofs::Walking::split_tree,))]
-fn after_tree<'a>(instance: &Instance, cuts: usize, nodes: &'a [Node]) -> Option<&'a [Node]>
-    requires { cuts + length nodes.now ≤ most_nodes + 16 }
-    ensures { MatchOption result
-        (BeginsWithNone instance.now cuts nodes.now)
-        (λ rest. BeginsWithTree instance.now cuts nodes.now rest.now × (length rest.now < length nodes.now)) }
+/// Goes on to the half of many trees of the innermost split that is in its half of few, and returns
+/// how many splits are open there; `None` where there is no such split.
+fn next_high(halves: &mut [bool], splits: usize) -> Option<usize>
+    requires { splits ≤ length halves.old }
+    ensures due { (cuts : ℕ) → due cuts halves.new result ≡ due_high cuts halves.old splits }
+    ensures few { IfSome result (λ n. n ≤ splits) }
 {
-    let Some((node, rest)) = nodes.split_first() else {
-        return None;
-    };
-    if !is_node(instance, cuts, node) {
-        return None;
-    }
-    match node {
-        Node::Split { .. } => {
-            let Some(high) = after_tree(instance, cuts + 1, rest) else {
-                return None;
-            };
-            after_tree(instance, cuts + 1, high)
+    let mut open = splits;
+    while open > 0 {
+        if !halves[open - 1] {
+            halves[open - 1] = true;
+            return Some(open);
         }
-        Node::Priced { .. } | Node::Pinned | Node::Bare => Some(rest),
+        open -= 1;
     }
+    None
 }
 
 /// Returns whether the node is sound, with so many cuts above it.
