@@ -2,8 +2,8 @@ use Rattle.std.proofs.Common.{ap}
 use Rattle.proof_check.specs.Stacks.{StackView}
 use Rattle.proof_check.proofs.walker.Walker.for_nodes.Goals as goal
 
-pub returns-clause-bench : goal.returns-clause-bench
-returns-clause-bench c = record {
+pub returns-clause-walker : goal.returns-clause-walker
+returns-clause-walker c = record {
   tables = c.in_ok-tables.ensures;
   rooms = c.in_ok-rooms.ensures;
   base = ap (λ (s : StackView). s.base) c.in_ok-stack.ensures;

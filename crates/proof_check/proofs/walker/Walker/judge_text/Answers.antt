@@ -45,6 +45,15 @@ verdict-requires-clause-shifts c =
     let s = shifts-sound i c.args.text.now (pieces_left i c.loop-answer.pieces c.loop-answer.room.halves) rest c.loop-answer.self c.loop-answer.seen c.requires.sound is c.loop-answer.invariant.judging in
     s.0
 
+pub verdict-requires-clause-few : goal.verdict-requires-clause-few
+verdict-requires-clause-few c =
+    let i = c.args.instance.now in
+    let rest = pieces_left i c.next.new.self c.next.new.room.halves in
+    let end = is-done (told c.next.new.room c.in-Ok.piece) (sym (c.is_end.ensures c.next.new.room) ∙ c.if-is_end.true) in
+    let is = c.in-Some.ensures.given ∙ ap (λ (r : Result Piece PieceFault). told_answer c.next.new.room r ∷ rest) c.in-Ok.is ∙ ap (λ (t : Told). Ok t ∷ rest) end in
+    let s = shifts-sound i c.args.text.now (pieces_left i c.loop-answer.pieces c.loop-answer.room.halves) rest c.loop-answer.self c.loop-answer.seen c.requires.sound is c.loop-answer.invariant.judging in
+    s.1
+
 pub returns-then-is_end-clause-judged : goal.returns-then-is_end-clause-judged
 returns-then-is_end-clause-judged c =
     let i = c.args.instance.now in
