@@ -13,7 +13,7 @@ pub returns-clause-within : goal.returns-clause-within
 returns-clause-within c =
     let r = c.set_parts.new.self in
     least-small c.args.instance.now.grammar c.requires.sound.grammar (price_view r)
-    (view-small r.periods r.letters.items r.rules.items r.arcs.items r.small_letters r.small_rules r.few_arcs r.small_arcs) c.least.result c.least.ensures.least
+    (view-small r.periods r.letters.items r.rules.items r.arcs.items r.small_letters r.small_rules r.sorted_arcs r.small_arcs) c.least.result c.least.ensures.least
 
 pub returns-clause-filled : goal.returns-clause-filled
 returns-clause-filled c =
