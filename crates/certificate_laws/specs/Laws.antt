@@ -18,7 +18,8 @@ YesIsSound = (i : Instance) (c : Cert) → IsSoundInstance i → IsSoundCert i c
 
 -- a tree shows one value
 abbrev pub OneShownValue : Type 0
-OneShownValue = (i : Instance) (cuts : List Cut) (t : Proof) (v w : ℕ) → Shows i cuts t v → Shows i cuts t w → v ≡ w
+OneShownValue = (i : Instance) (cuts : List Cut) (t : Proof) (v w : ℕ) → Shows i cuts t v → Shows i cuts t w
+    → v ≡ w
 
 -- no cause holds of an accepted certificate
 abbrev pub CausesRefuse : Type 0
