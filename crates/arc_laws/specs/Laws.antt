@@ -16,11 +16,13 @@ use Rattle.arc_laws.specs.TreeLists.{has_letter, letters_of}
 
 -- an arc stands at most once in a tree of the day
 abbrev pub ArcOnce : Type 0
-ArcOnce = (g : Grammar) (t : Parts) (a : ArcKey) → IsSound g → IsDayTree g t → count (same_arc a) (arcs 1 t) ≤ 1
+ArcOnce = (g : Grammar) (t : Parts) (a : ArcKey) → IsSound g → IsDayTree g t
+    → count (same_arc a) (arcs 1 t) ≤ 1
 
 -- at most one arc of a tree of the day makes a given name or suffix on a given span
 abbrev pub MadeOnce : Type 0
-MadeOnce = (g : Grammar) (t : Parts) (o : OrNode) → IsSound g → IsDayTree g t → count (λ a. same_node o (made g a)) (arcs 1 t) ≤ 1
+MadeOnce = (g : Grammar) (t : Parts) (o : OrNode) → IsSound g → IsDayTree g t
+    → count (λ a. same_node o (made g a)) (arcs 1 t) ≤ 1
 
 -- the arcs of the instance have one list
 abbrev pub OneList : Type 0
@@ -28,18 +30,21 @@ OneList = (g : Grammar) (xs ys : List ArcKey) → AreArcs g xs → AreArcs g ys 
 
 -- how many of some trees of the day have each arc is balanced
 abbrev pub TreesBalanced : Type 0
-TreesBalanced = (g : Grammar) (ts : List Parts) (listed : List ArcKey) → Each (IsDayTree g) ts → AreArcs g listed → IsBalanced g listed (λ a. arc_count a ts)
+TreesBalanced = (g : Grammar) (ts : List Parts) (listed : List ArcKey) → Each (IsDayTree g) ts
+    → AreArcs g listed → IsBalanced g listed (λ a. arc_count a ts)
 
 -- the arcs that make the start name on the whole day count the trees
 abbrev pub RootCounts : Type 0
 RootCounts =
-    (g : Grammar) (ts : List Parts) (listed : List ArcKey) → IsSound g → Each (IsDayTree g) ts → AreArcs g listed
+    (g : Grammar) (ts : List Parts) (listed : List ArcKey) → IsSound g → Each (IsDayTree g) ts
+    → AreArcs g listed
     → root_count g listed (λ a. arc_count a ts) ≡ length ts
 
 -- the arcs that use a letter count the trees that have it
 abbrev pub LeavesCount : Type 0
 LeavesCount =
-    (g : Grammar) (ts : List Parts) (listed : List ArcKey) (l : Letter) → Each (IsDayTree g) ts → AreArcs g listed
+    (g : Grammar) (ts : List Parts) (listed : List ArcKey) (l : Letter) → Each (IsDayTree g) ts
+    → AreArcs g listed
     → used_sum g listed (λ a. arc_count a ts) (leaf l) ≡ count (has_letter l) (letters_of ts)
 
 -- the arcs of whole right sides pay for the trees
@@ -62,16 +67,19 @@ ListHoldsOnce = (g : Grammar) (listed : List ArcKey) → AreArcs g listed → Ho
 -- the four laws on the counts of trees' arcs, over any list that holds each arc once
 abbrev pub TreesBalancedOver : Type 0
 TreesBalancedOver =
-    (g : Grammar) (ts : List Parts) (listed : List ArcKey) → Each (IsDayTree g) ts → HoldsArcsOnce g listed → IsBalanced g listed (λ a. arc_count a ts)
+    (g : Grammar) (ts : List Parts) (listed : List ArcKey) → Each (IsDayTree g) ts → HoldsArcsOnce g listed
+    → IsBalanced g listed (λ a. arc_count a ts)
 
 abbrev pub RootCountsOver : Type 0
 RootCountsOver =
-    (g : Grammar) (ts : List Parts) (listed : List ArcKey) → IsSound g → Each (IsDayTree g) ts → HoldsArcsOnce g listed
+    (g : Grammar) (ts : List Parts) (listed : List ArcKey) → IsSound g → Each (IsDayTree g) ts
+    → HoldsArcsOnce g listed
     → root_count g listed (λ a. arc_count a ts) ≡ length ts
 
 abbrev pub LeavesCountOver : Type 0
 LeavesCountOver =
-    (g : Grammar) (ts : List Parts) (listed : List ArcKey) (l : Letter) → Each (IsDayTree g) ts → HoldsArcsOnce g listed
+    (g : Grammar) (ts : List Parts) (listed : List ArcKey) (l : Letter) → Each (IsDayTree g) ts
+    → HoldsArcsOnce g listed
     → used_sum g listed (λ a. arc_count a ts) (leaf l) ≡ count (has_letter l) (letters_of ts)
 
 abbrev pub ArcsPayOver : Type 0

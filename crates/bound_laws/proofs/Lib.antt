@@ -24,3 +24,4 @@ pub mod BaseCuts
 pub mod LetterOnce
 pub mod Counted
 pub mod ReducedCosts
+pub mod WorkedBest

@@ -42,5 +42,6 @@ loss i p cuts = cond (nat_eq p.d rounding_denominator) (rounding_loss i (length 
 -- no rival's value, over its denominator, is above that of the prices by more than the loss; this is
 -- said only where the day has a tree
 pub record AreBest (i : Instance) (p : Prices) (cuts : List Cut) : Type 0 where
-  pub best : (t : Parts) → IsDayTree i.grammar t → (rival : Prices) → IsRival i rival cuts → (v w : ℤ) → IsLagrangian i p cuts v → IsLagrangian i rival cuts w
+  pub best : (t : Parts) → IsDayTree i.grammar t → (rival : Prices) → IsRival i rival cuts → (v w : ℤ)
+      → IsLagrangian i p cuts v → IsLagrangian i rival cuts w
       → (w *ℤ pos p.d) ≤ℤ ((v +ℤ pos (loss i p cuts)) *ℤ pos rival.d)

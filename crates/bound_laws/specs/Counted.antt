@@ -31,7 +31,8 @@ pub record IsRosterOf (i : Instance) (listed : List ArcKey) (value : ArcKey → 
 -- employees, are a roster at the counts' cost
 abbrev pub CountsMakeRosters : Type 0
 CountsMakeRosters =
-    (i : Instance) (listed : List ArcKey) (value : ArcKey → ℕ) (ts : List Parts) → IsSoundInstance i → HoldsArcsOnce i.grammar listed
+    (i : Instance) (listed : List ArcKey) (value : ArcKey → ℕ) (ts : List Parts) → IsSoundInstance i
+    → HoldsArcsOnce i.grammar listed
     → AreCounts i listed value → HaveCounts i listed value ts → IsRosterOf i listed value ts
 
 -- the cuts leave the arc this count
@@ -46,16 +47,20 @@ AsksForArc i c = c.side ≡ High → (IsArc i.grammar c.arc → ⊥) → ⊥
 -- trees with counts that the cuts leave meet the cuts
 abbrev pub CountsMeetCuts : Type 0
 CountsMeetCuts =
-    (i : Instance) (cuts : List Cut) (listed : List ArcKey) (value : ArcKey → ℕ) (ts : List Parts) → HoldsArcsOnce i.grammar listed
-    → HaveCounts i listed value ts → ((a : ArcKey) → In a listed → IsLeft i cuts a (value a)) → Each (AsksForArc i) cuts → Each (Meets ts) cuts
+    (i : Instance) (cuts : List Cut) (listed : List ArcKey) (value : ArcKey → ℕ) (ts : List Parts)
+    → HoldsArcsOnce i.grammar listed
+    → HaveCounts i listed value ts → ((a : ArcKey) → In a listed → IsLeft i cuts a (value a))
+    → Each (AsksForArc i) cuts → Each (Meets ts) cuts
 
 -- the base cuts of an instance that is not plainly infeasible ask for arcs alone
 abbrev pub BaseCutsAskForArcs : Type 0
-BaseCutsAskForArcs = (i : Instance) → IsSoundInstance i → (IsPlainlyInfeasible i → ⊥) → Each (AsksForArc i) (base_cuts i)
+BaseCutsAskForArcs = (i : Instance) → IsSoundInstance i → (IsPlainlyInfeasible i → ⊥)
+    → Each (AsksForArc i) (base_cuts i)
 
 -- the base cuts leave each arc a count
 abbrev pub BaseCutsLeaveCounts : Type 0
-BaseCutsLeaveCounts = (i : Instance) (a : ArcKey) → IsSoundInstance i → lo (base_cuts i) a ≤ hi i.heads_max (base_cuts i) a
+BaseCutsLeaveCounts = (i : Instance) (a : ArcKey) → IsSoundInstance i
+    → lo (base_cuts i) a ≤ hi i.heads_max (base_cuts i) a
 
 -- the reduced cost of a tree: d times its cost, less what its letters are paid, with what its arcs pay
 abbrev pub ReducedCosts : Type 0

@@ -41,20 +41,24 @@ LagrangianBound =
 abbrev pub PricedBound : Type 0
 PricedBound =
     (i : Instance) (p : Prices) (cuts : List Cut) (v : ℕ) (ts : List Parts)
-    → IsPricedValue i p cuts v → 1 ≤ p.d → AreNotNegative p → (IsPlainlyInfeasible i → ⊥) → IsTreeRoster i ts → Each (Meets ts) cuts
+    → IsPricedValue i p cuts v → 1 ≤ p.d → AreNotNegative p → (IsPlainlyInfeasible i → ⊥)
+    → IsTreeRoster i ts → Each (Meets ts) cuts
     → v ≤ trees_cost i ts
 
 -- a plainly infeasible instance has no allowed roster
 abbrev pub InfeasibleHasNone : Type 0
-InfeasibleHasNone = (i : Instance) (ds : List Duty) (prices : List ℕ) → IsSoundInstance i → IsRoster i ds prices → IsPlainlyInfeasible i → ⊥
+InfeasibleHasNone = (i : Instance) (ds : List Duty) (prices : List ℕ) → IsSoundInstance i
+    → IsRoster i ds prices → IsPlainlyInfeasible i → ⊥
 
 -- no such list of trees costs more than the greatest cost
 abbrev pub TreesCostLess : Type 0
-TreesCostLess = (i : Instance) (ts : List Parts) → IsSoundInstance i → IsTreeRoster i ts → trees_cost i ts ≤ greatest_cost i
+TreesCostLess = (i : Instance) (ts : List Parts) → IsSoundInstance i → IsTreeRoster i ts
+    → trees_cost i ts ≤ greatest_cost i
 
 -- no allowed roster costs more than the greatest cost
 abbrev pub RostersCostLess : Type 0
-RostersCostLess = (i : Instance) (ds : List Duty) (amount : ℕ) → IsSoundInstance i → Costs i ds amount → amount ≤ greatest_cost i
+RostersCostLess = (i : Instance) (ds : List Duty) (amount : ℕ) → IsSoundInstance i → Costs i ds amount
+    → amount ≤ greatest_cost i
 
 -- an allowed roster has a tree for each pair, of the same cost together
 pub record HasTrees (i : Instance) (ds : List Duty) (prices : List ℕ) : Type 0 where
@@ -63,7 +67,8 @@ pub record HasTrees (i : Instance) (ds : List Duty) (prices : List ℕ) : Type 0
   pub cost : trees_cost i trees ≡ roster_cost i ds prices
 
 abbrev pub RostersHaveTrees : Type 0
-RostersHaveTrees = (i : Instance) (ds : List Duty) (prices : List ℕ) → IsSoundInstance i → IsRoster i ds prices → HasTrees i ds prices
+RostersHaveTrees = (i : Instance) (ds : List Duty) (prices : List ℕ) → IsSoundInstance i
+    → IsRoster i ds prices → HasTrees i ds prices
 
 -- trees whose counts are those of an allowed roster, that meet the base cuts and cost no less
 pub record StandFor (i : Instance) (ds : List Duty) (prices : List ℕ) (ts : List Parts) : Type 0 where
@@ -74,7 +79,8 @@ pub record StandFor (i : Instance) (ds : List Duty) (prices : List ℕ) (ts : Li
 -- any choice of one tree for each pair of an allowed roster
 abbrev pub TreesStandForRosters : Type 0
 TreesStandForRosters =
-    (i : Instance) (ds : List Duty) (prices : List ℕ) (ts : List Parts) → IsSoundInstance i → IsRoster i ds prices → AreDutyTrees i ds ts
+    (i : Instance) (ds : List Duty) (prices : List ℕ) (ts : List Parts) → IsSoundInstance i
+    → IsRoster i ds prices → AreDutyTrees i ds ts
     → StandFor i ds prices ts
 
 -- a tree of the day is one of the team below the rule that its group adds: same word, same cost
@@ -87,7 +93,8 @@ pub record IsOfTeam (i : Instance) (t : Parts) (team : Team) : Type 0 where
 
 -- each tree of the day is of some team
 abbrev pub DayTreesHaveTeams : Type 0
-DayTreesHaveTeams = (i : Instance) (t : Parts) → IsSoundInstance i → IsDayTree i.grammar t → (team : Team) × IsOfTeam i t team
+DayTreesHaveTeams = (i : Instance) (t : Parts) → IsSoundInstance i → IsDayTree i.grammar t
+    → (team : Team) × IsOfTeam i t team
 
 -- an allowed roster that costs no more than its trees
 pub record IsSpelledBy (i : Instance) (ds : List Duty) (prices : List ℕ) (ts : List Parts) : Type 0 where
@@ -97,7 +104,8 @@ pub record IsSpelledBy (i : Instance) (ds : List Duty) (prices : List ℕ) (ts :
 -- what trees spell that have the number and the coverage of an allowed roster and meet the base cuts
 abbrev pub TreesSpellRosters : Type 0
 TreesSpellRosters =
-    (i : Instance) (ds : List Duty) (prices : List ℕ) (ts : List Parts) → IsSoundInstance i → ArePrices i ds prices → AreDutyTrees i ds ts
+    (i : Instance) (ds : List Duty) (prices : List ℕ) (ts : List Parts) → IsSoundInstance i
+    → ArePrices i ds prices → AreDutyTrees i ds ts
     → IsTreeRoster i ts → Each (Meets ts) (base_cuts i) → IsSpelledBy i ds prices ts
 
 -- at every arc and number, any list of trees meets one half
@@ -109,12 +117,16 @@ OneHalf =
 -- within a pinned path the pinned value is the cost
 abbrev pub PinnedIsCost : Type 0
 PinnedIsCost =
-    (i : Instance) (cuts : List Cut) (v : ℕ) (ts : List Parts) → IsSoundInstance i → IsPinned i cuts → IsPinnedValue i cuts v → IsTreeRoster i ts
+    (i : Instance) (cuts : List Cut) (v : ℕ) (ts : List Parts) → IsSoundInstance i → IsPinned i cuts
+    → IsPinnedValue i cuts v → IsTreeRoster i ts
     → Each (Meets ts) cuts → v ≡ trees_cost i ts
 
 -- each of these values is one
 pub record AreOneValue : Type 0 where
-  pub lagrangian : (i : Instance) (p : Prices) (cuts : List Cut) (v w : ℤ) → IsLagrangian i p cuts v → IsLagrangian i p cuts w → v ≡ w
-  pub priced : (i : Instance) (p : Prices) (cuts : List Cut) (v w : ℕ) → IsPricedValue i p cuts v → IsPricedValue i p cuts w → v ≡ w
-  pub pinned : (i : Instance) (cuts : List Cut) (v w : ℕ) → IsPinnedValue i cuts v → IsPinnedValue i cuts w → v ≡ w
+  pub lagrangian : (i : Instance) (p : Prices) (cuts : List Cut) (v w : ℤ) → IsLagrangian i p cuts v
+      → IsLagrangian i p cuts w → v ≡ w
+  pub priced : (i : Instance) (p : Prices) (cuts : List Cut) (v w : ℕ) → IsPricedValue i p cuts v
+      → IsPricedValue i p cuts w → v ≡ w
+  pub pinned : (i : Instance) (cuts : List Cut) (v w : ℕ) → IsPinnedValue i cuts v → IsPinnedValue i cuts w
+      → v ≡ w
   pub points : (i : Instance) (m n : ℕ) → IsPoints i m → IsPoints i n → m ≡ n

@@ -12,3 +12,4 @@ pub mod Plain
 pub mod SmallShares
 pub mod WorkedGroups
 pub mod WorkedFloors
+pub mod WorkedBest

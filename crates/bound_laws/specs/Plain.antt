@@ -53,8 +53,10 @@ pub record IsPlainLagrangian (i : Instance) (p : Prices) (cuts : List Cut) (v : 
 
 -- on such a day, an allowed roster is this
 abbrev pub PlainRosters : Type 0
-PlainRosters = (i : Instance) (ds : List Duty) (prices : List ℕ) → IsSoundInstance i → IsPlainDay i → (IsRoster i ds prices ↔ IsPlainRoster i ds prices)
+PlainRosters = (i : Instance) (ds : List Duty) (prices : List ℕ) → IsSoundInstance i → IsPlainDay i
+    → (IsRoster i ds prices ↔ IsPlainRoster i ds prices)
 
 -- on such a day, the Lagrangian value is this
 abbrev pub PlainLagrangians : Type 0
-PlainLagrangians = (i : Instance) (p : Prices) (cuts : List Cut) (v : ℤ) → IsSoundInstance i → IsPlainDay i → (IsLagrangian i p cuts v ↔ IsPlainLagrangian i p cuts v)
+PlainLagrangians = (i : Instance) (p : Prices) (cuts : List Cut) (v : ℤ) → IsSoundInstance i → IsPlainDay i
+    → (IsLagrangian i p cuts v ↔ IsPlainLagrangian i p cuts v)

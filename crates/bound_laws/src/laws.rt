@@ -21,6 +21,7 @@ ghost use Rattle.bound_laws.specs.Counted.{
 };
 ghost use Rattle.bound_laws.specs.Plain.{PlainRosters, PlainLagrangians};
 ghost use Rattle.bound_laws.specs.SmallShares.{SmallShares};
+ghost use Rattle.bound_laws.specs.WorkedBest.{WorkedBest};
 ghost use Rattle.bound_laws.specs.WorkedFloors.{WorkedFloors};
 ghost use Rattle.bound_laws.specs.WorkedGroups.{WorkedGroups};
 
@@ -147,4 +148,10 @@ pub fn base_cuts_leave_counts()
 /// letters, with the multipliers of its arcs.
 pub fn reduced_costs()
     ensures { ReducedCosts }
+{}
+
+/// On a day of three periods and one name, the prices 1 1 1 at the denominator 1 are best at the
+/// root, and zero prices are not.
+pub fn worked_best()
+    ensures { WorkedBest }
 {}

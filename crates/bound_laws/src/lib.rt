@@ -13,5 +13,5 @@ pub use laws::{
     counts_meet_cuts, day_trees_have_teams, infeasible_has_none, lagrangian_bound, one_half,
     pinned_is_cost, plain_lagrangians, plain_rosters, priced_bound, reduced_costs,
     rosters_cost_less, rosters_have_trees, small_shares, trees_cost_less, trees_spell_rosters,
-    trees_stand_for_rosters, worked_floors, worked_groups,
+    trees_stand_for_rosters, worked_best, worked_floors, worked_groups,
 };

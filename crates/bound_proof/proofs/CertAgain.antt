@@ -15,7 +15,7 @@ use Rattle.roster_model.specs.declared.instance.Cut.{Cut}
 use Rattle.roster_model.specs.declared.instance.Group.{Group}
 use Rattle.roster_model.specs.declared.instance.Instance.{Instance}
 use Rattle.roster_model.specs.declared.instance.Shift.{Shift}
-use Rattle.roster_model.specs.Cuts.{base_cuts}
+use Rattle.roster_model.specs.Cuts.{base_cuts, group_cut_count}
 use Rattle.roster_model.specs.Folds.{Each, sum_n}
 use Rattle.roster_model.specs.SoundInstance.{HasGroups, IsSoundInstance}
 use Rattle.certificates.specs.declared.cert.Cert.{Cert}
@@ -33,7 +33,7 @@ use Rattle.proof_pieces.specs.PieceList.{Given, Place, no_place, after_bound, st
 use Rattle.proof_pieces.specs.ShiftLines.{version, is_shift, letters_of, shift_of, shift_at}
 use Rattle.proof_pieces.specs.Told.{cost, bound, shift, node, done}
 use Rattle.bound_proof.specs.Written.{header_words, amount_words, name_word, shift_words, shift_line, node_lines, tree_lines, end_words, cert_lines, cert_text}
-use Rattle.proof_pieces.proofs.BaseCuts.{cuts_of, length-cuts_from, few_groups}
+use Rattle.roster_model.proofs.CutCounts.{base_length, few_groups}
 use Rattle.bound_proof.proofs.FieldsAgain.{same_bytes, amount_line_again}
 use Rattle.text_lines.proofs.FieldsLemmas.{number_at_again, position_at}
 use Rattle.proof_pieces.specs.declared.fault.PieceFault.TheVariants.{BadNumber, OutOfRange}
@@ -154,13 +154,13 @@ pieces_end [] = refl
 pieces_end (n ∷ ns) = ap (λ (g : Given). Ok (node n) ∷ g) (pieces_end ns)
 
 pub few_base_cuts : (i : Instance) → IsSoundInstance i → length (base_cuts i) ≤ 16
-few_base_cuts i s = omega (arith, length-cuts_from i (length i.grammar.rules - length i.groups + 1) i.groups, twice i.groups, few_groups i s)
+few_base_cuts i s = omega (arith, base_length i, twice i.groups, few_groups i s)
   where
     at_most : (b : Bool) → cond b 1 0 ≤ 1
     at_most true = omega arith
     at_most false = omega arith
 
-    twice : (gs : List Group) → sum_n (cuts_of i) gs ≤ 2 * length gs
+    twice : (gs : List Group) → sum_n (group_cut_count i.heads_max) gs ≤ 2 * length gs
     twice [] = omega arith
     twice (g ∷ gs) = omega (arith, at_most (ltb g.heads_max i.heads_max), at_most (ltb 0 g.heads_min), twice gs)
 

@@ -24,7 +24,8 @@ use Rattle.certificates.specs.First.{IsFirst}
 use Rattle.certificates.specs.Nodes.{Proof, preorder, Visit, visits}
 use Rattle.certificates.specs.NodeCauses.{SplitsNoArc, HasEmptyHalf, IsUnpinned, IsFirstNoArc, IsFirstEmptyHalf, IsFirstUnpinned}
 use Rattle.certificates.specs.RosterCauses.{duties, IsFirstNoShift, IsFirstMispriced, IsFirstOutOfRange, IsMiscounted, IsFirstOutside}
-use Rattle.certificate_laws.specs.Accepted.{IsOnArc, LeavesBoth, IsTight, IsStated, stated_prices, bound_number, Accepts}
+use Rattle.certificates.specs.RosterCauses.{stated_prices}
+use Rattle.certificate_laws.specs.Accepted.{IsOnArc, LeavesBoth, IsTight, IsStated, bound_number, Accepts}
 use Rattle.certificate_laws.specs.Causes.{Cause}
 use Rattle.certificate_laws.specs.Shown.{Shows}
 use Rattle.certificate_laws.proofs.Lists.{Each-get}

@@ -14,7 +14,8 @@ use Rattle.certificates.specs.declared.cert.Cert.{Cert}
 use Rattle.certificates.specs.Nodes.{Proof, visits}
 use Rattle.certificates.specs.RosterCauses.{duties}
 use Rattle.certificates.specs.Sound.{IsSoundVisit, IsSoundCert}
-use Rattle.certificate_laws.specs.Accepted.{IsStated, stated_prices, bound_number, IsProved, Accepts}
+use Rattle.certificates.specs.RosterCauses.{stated_prices}
+use Rattle.certificate_laws.specs.Accepted.{IsStated, bound_number, IsProved, Accepts}
 use Rattle.certificate_laws.specs.Right.{YesIsRight}
 use Rattle.certificate_laws.proofs.ShownBound.{shows-le}
 use Rattle.certificate_laws.proofs.Unique.{same-proof}

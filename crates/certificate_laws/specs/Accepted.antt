@@ -1,5 +1,5 @@
 -- Accepted certificates.
-use Rattle.std.specs.Prelude.{ℕ, ◌≡◌, ◌≤◌, ◌<◌, ◌+◌, Option, None, Some, IfSome, List, map}
+use Rattle.std.specs.Prelude.{ℕ, ◌≡◌, ◌≤◌, ◌<◌, ◌+◌, Option, None, Some, IfSome, List}
 use Rattle.roster_model.specs.declared.instance.Cut.{Cut}
 use Rattle.roster_model.specs.declared.instance.Instance.{Instance}
 use Rattle.roster_model.specs.declared.instance.Shift.{Shift}
@@ -13,7 +13,7 @@ use Rattle.certificates.specs.declared.cert.Cert.{Cert}
 use Rattle.certificates.specs.declared.cert.Node.{Node}
 use Rattle.certificates.specs.declared.cert.Node.TheVariants.{Split, Priced, Pinned, Bare}
 use Rattle.certificates.specs.Nodes.{Proof, preorder, Visit, visits}
-use Rattle.certificates.specs.RosterCauses.{duties}
+use Rattle.certificates.specs.RosterCauses.{duties, stated_prices}
 use Rattle.certificate_laws.specs.Shown.{Shows}
 
 -- a split is on an arc of the instance
@@ -36,10 +36,6 @@ IsTight i cuts (Split a b own) = Unit {0}
 IsTight i cuts (Priced p) = Unit {0}
 IsTight i cuts Pinned = IsPinned i cuts
 IsTight i cuts Bare = Unit {0}
-
--- the prices that shifts state
-abbrev pub stated_prices : List Shift → List ℕ
-stated_prices shifts = map (λ (s : Shift). s.price) shifts
 
 -- the stated words are an allowed roster, at these prices and this cost
 pub record IsStated (i : Instance) (shifts : List Shift) (amount : ℕ) : Type 0 where

@@ -1,12 +1,11 @@
 -- The laws of certificates that the crates above cite.
-use Rattle.std.specs.Prelude.{ℕ, ◌≡◌, List, ◌++◌}
+use Rattle.std.specs.Prelude.{ℕ, ◌≡◌, List}
 use Rattle.roster_model.specs.declared.instance.Cut.{Cut}
 use Rattle.roster_model.specs.declared.instance.Instance.{Instance}
 use Rattle.roster_model.specs.SoundInstance.{IsSoundInstance}
 use Rattle.certificates.specs.declared.cert.Cert.{Cert}
-use Rattle.certificates.specs.declared.cert.Node.{Node}
 use Rattle.certificates.specs.declared.why.Why.{Why}
-use Rattle.certificates.specs.Nodes.{Proof, preorder}
+use Rattle.certificates.specs.Nodes.{Proof}
 use Rattle.certificates.specs.Sound.{IsSoundCert}
 use Rattle.certificate_laws.specs.Shown.{Shows}
 use Rattle.certificate_laws.specs.Accepted.{Accepts}
@@ -17,13 +16,10 @@ use Rattle.certificate_laws.specs.Causes.{Cause, IsFirstCause}
 abbrev pub YesIsSound : Type 0
 YesIsSound = (i : Instance) (c : Cert) → IsSoundInstance i → IsSoundCert i c → Accepts i c → YesIsRight i c
 
--- what begins with the nodes of two trees begins with those of one
-abbrev pub OneProof : Type 0
-OneProof = (t u : Proof) (xs ys : List Node) → preorder t ++ xs ≡ preorder u ++ ys → (t ≡ u) × (xs ≡ ys)
-
 -- a tree shows one value
 abbrev pub OneShownValue : Type 0
-OneShownValue = (i : Instance) (cuts : List Cut) (t : Proof) (v w : ℕ) → Shows i cuts t v → Shows i cuts t w → v ≡ w
+OneShownValue = (i : Instance) (cuts : List Cut) (t : Proof) (v w : ℕ) → Shows i cuts t v → Shows i cuts t w
+    → v ≡ w
 
 -- no cause holds of an accepted certificate
 abbrev pub CausesRefuse : Type 0

@@ -35,11 +35,15 @@ above = base ++ record { arc = first; side = High; b = 0 } ∷ []
 
 pub record WorkedNodes : Type 0 where
   -- a split without prices shows the lesser of its halves
-  pub halves : (i : Instance) (cuts : List Cut) (a : ArcKey) (b x y : ℕ) (p q : Prices) → IsPricedValue i p (cuts ++ record { arc = a; side = Low; b = b } ∷ []) x
-      → IsPricedValue i q (cuts ++ record { arc = a; side = High; b = b } ∷ []) y → Shows i cuts (split a b None (priced p) (priced q)) (min x y)
+  pub halves : (i : Instance) (cuts : List Cut) (a : ArcKey) (b x y : ℕ) (p q : Prices)
+      → IsPricedValue i p (cuts ++ record { arc = a; side = Low; b = b } ∷ []) x
+      → IsPricedValue i q (cuts ++ record { arc = a; side = High; b = b } ∷ []) y
+      → Shows i cuts (split a b None (priced p) (priced q)) (min x y)
   -- one with prices shows what they show at its own cuts, where that is greater
-  pub own : (i : Instance) (cuts : List Cut) (a : ArcKey) (b x y z : ℕ) (p q r : Prices) → IsPricedValue i p (cuts ++ record { arc = a; side = Low; b = b } ∷ []) x
-      → IsPricedValue i q (cuts ++ record { arc = a; side = High; b = b } ∷ []) y → IsPricedValue i r cuts z → Shows i cuts (split a b (Some r) (priced p) (priced q)) (max z (min x y))
+  pub own : (i : Instance) (cuts : List Cut) (a : ArcKey) (b x y z : ℕ) (p q r : Prices)
+      → IsPricedValue i p (cuts ++ record { arc = a; side = Low; b = b } ∷ []) x
+      → IsPricedValue i q (cuts ++ record { arc = a; side = High; b = b } ∷ []) y → IsPricedValue i r cuts z
+      → Shows i cuts (split a b (Some r) (priced p) (priced q)) (max z (min x y))
   -- each path begins with the base cuts, and each split adds one cut to it
   pub paths : visits (base_cuts day) tree
       ≡ record { path = base; node = Split first 0 None } ∷ record { path = base ++ record { arc = first; side = Low; b = 0 } ∷ []; node = Bare }

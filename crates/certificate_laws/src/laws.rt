@@ -1,4 +1,4 @@
-ghost use Rattle.certificate_laws.specs.Laws.{YesIsSound, OneProof, OneShownValue, CausesRefuse, OneFirstCause};
+ghost use Rattle.certificate_laws.specs.Laws.{YesIsSound, OneShownValue, CausesRefuse, OneFirstCause};
 ghost use Rattle.certificate_laws.specs.Worked.{WorkedNodes};
 
 /// A yes is sound: the stated words of an accepted certificate are an allowed roster of exactly the
@@ -6,11 +6,6 @@ ghost use Rattle.certificate_laws.specs.Worked.{WorkedNodes};
 /// that no roster is allowed, none is.
 pub fn yes_is_sound()
     ensures { YesIsSound }
-{}
-
-/// Nodes in preorder are those of one tree, whatever follows them.
-pub fn one_proof()
-    ensures { OneProof }
 {}
 
 /// A tree of nodes shows one value.

@@ -8,6 +8,4 @@
 
 mod laws;
 
-pub use laws::{
-    causes_refuse, one_first_cause, one_proof, one_shown_value, worked_nodes, yes_is_sound,
-};
+pub use laws::{causes_refuse, one_first_cause, one_shown_value, worked_nodes, yes_is_sound};

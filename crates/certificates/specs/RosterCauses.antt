@@ -15,6 +15,10 @@ use Rattle.certificates.specs.First.{IsFirst}
 abbrev pub duties : List Shift → List Duty
 duties shifts = map duty shifts
 
+-- the prices that shifts state, in order
+abbrev pub stated_prices : List Shift → List ℕ
+stated_prices shifts = map (λ (s : Shift). s.price) shifts
+
 -- no team of the shift's number has the word as a shift
 abbrev pub IsNoShift : Instance → Shift → Type 0
 IsNoShift i s = (t : Team) → In t (teams i) → t.number ≡ s.group → IsShift i.grammar t.name s.word → ⊥

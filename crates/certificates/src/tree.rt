@@ -49,7 +49,8 @@ fn is_tree(instance: &Instance, cuts: usize, nodes: &[Node], halves: &mut [bool]
 /// where the tree is whole.
 fn after_node(halves: &mut [bool], splits: usize, node: &Node) -> Option<usize>
     requires { splits < length halves.old }
-    ensures due { (cuts : ℕ) → due cuts halves.new result ≡ due_after (cuts + splits) node.now (due_high cuts halves.old splits) }
+    ensures due { (cuts : ℕ) → due cuts halves.new result
+        ≡ due_after (cuts + splits) node.now (due_high cuts halves.old splits) }
     ensures few { IfSome result (λ n. n ≤ splits + 1) }
 {
     match node {

@@ -30,8 +30,6 @@ mod message;
 mod need;
 mod number_of;
 mod read;
-#[cfg(test)]
-mod tests;
 mod write;
 
 pub use fault::DemandFault;

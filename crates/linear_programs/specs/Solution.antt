@@ -35,12 +35,14 @@ pub record IsSolution {K : Type 0} (p : Program K) (ws : List (Weighted K)) (q :
 pub record IsValue {K : Type 0} (p : Program K) (v : ℤ) (q : ℕ) : Type 0 where
   pub positive : 0 < q
   pub reached : (ws : List (Weighted K)) × (d : ℕ) × IsSolution p ws d × (cost_of p.column ws *ℤ pos q ≡ v *ℤ pos d)
-  pub least : (ws : List (Weighted K)) (d : ℕ) → IsSolution p ws d → (v *ℤ pos d) ≤ℤ (cost_of p.column ws *ℤ pos q)
+  pub least : (ws : List (Weighted K)) (d : ℕ) → IsSolution p ws d
+      → (v *ℤ pos d) ≤ℤ (cost_of p.column ws *ℤ pos q)
 
 -- no solution costs less than these weighted columns, whose weights are in units of 1 / q
 abbrev pub CostsLeast : {K : Type 0} → Program K → List (Weighted K) → ℕ → Type 0
 CostsLeast {K} p ws q =
-    (vs : List (Weighted K)) (d : ℕ) → IsSolution p vs d → (cost_of p.column ws *ℤ pos d) ≤ℤ (cost_of p.column vs *ℤ pos q)
+    (vs : List (Weighted K)) (d : ℕ) → IsSolution p vs d
+    → (cost_of p.column ws *ℤ pos d) ≤ℤ (cost_of p.column vs *ℤ pos q)
 
 -- the two lists of weighted keys have the same sum of each number of the keys
 abbrev pub HaveSameSums : {K : Type 0} → List (Weighted K) → List (Weighted K) → Type 0
@@ -63,4 +65,5 @@ IsSameSolution {K} ws q vs d = (t : K → Bool) → d * weight_where t ws ≡ q 
 -- a basic solution: no other one has weights on the keys that it uses alone
 pub record IsBasic {K : Type 0} (p : Program K) (ws : List (Weighted K)) (q : ℕ) : Type 0 where
   pub solution : IsSolution p ws q
-  pub only : (vs : List (Weighted K)) (d : ℕ) → IsSolution p vs d → ((k : K) → Uses vs k → Uses ws k) → IsSameSolution ws q vs d
+  pub only : (vs : List (Weighted K)) (d : ℕ) → IsSolution p vs d → ((k : K) → Uses vs k → Uses ws k)
+      → IsSameSolution ws q vs d

@@ -45,20 +45,23 @@ pub record IsChoice {K : Type 0} (m : ℕ) (old : Tableau K) (c : Column) (t : �
   pub cheaper : reduced m old.y old.kappa c <ℤ pos 0
   pub within : t < m
   pub positive : pos 0 <ℤ entry m old t c
-  pub least : (r : ℕ) → r < m → pos 0 <ℤ entry m old r c → (old.right t *ℤ entry m old r c) ≤ℤ (old.right r *ℤ entry m old t c)
+  pub least : (r : ℕ) → r < m → pos 0 <ℤ entry m old r c
+      → (old.right t *ℤ entry m old r c) ≤ℤ (old.right r *ℤ entry m old t c)
 
 -- one step: the column c of the key k becomes basic in row t
 pub record IsStep {K : Type 0} (m : ℕ) (old : Tableau K) (k : K) (c : Column) (t : ℕ) (new : Tableau K) : Type 0 where
   pub choice : IsChoice m old c t
   pub same : ((i : ℕ) → i < m → new.row t i ≡ old.row t i) × (new.right t ≡ old.right t)
-  pub rows : (r : ℕ) → r < m → r ≢ t → (g : ℤ) × IsRowStep (m + 1) (entry m old t c) (whole_row m (old.row r) (old.right r)) (entry m old r c) (whole_row m (old.row t) (old.right t)) (whole_row m (new.row r) (new.right r)) g
+  pub rows : (r : ℕ) → r < m → r ≢ t
+      → (g : ℤ) × IsRowStep (m + 1) (entry m old t c) (whole_row m (old.row r) (old.right r)) (entry m old r c) (whole_row m (old.row t) (old.right t)) (whole_row m (new.row r) (new.right r)) g
   pub cost : (g : ℤ) × IsRowStep (m + 2) (entry m old t c) (cost_row m old) (neg_ℤ (reduced m old.y old.kappa c)) (padded_row m old t) (cost_row m new) g
   pub basis : (new.basis t ≡ k) × ((r : ℕ) → r < m → r ≢ t → new.basis r ≡ old.basis r)
 
 -- n steps lead from the start of the program to the tableau
 pub data PivotPath {K : Type 0} (p : Program K) : ℕ → Tableau K → Type 0 where
   start : (t : Tableau K) → IsStart p t → PivotPath p zero t
-  step : (n : ℕ) (old new : Tableau K) (k : K) (t : ℕ) → PivotPath p n old → p.belongs k → IsStep p.rows old k (p.column k) t new → PivotPath p (suc n) new
+  step : (n : ℕ) (old new : Tableau K) (k : K) (t : ℕ) → PivotPath p n old → p.belongs k
+      → IsStep p.rows old k (p.column k) t new → PivotPath p (suc n) new
 
 -- a number of the tableau is above 2^56 in size
 abbrev pub IsWide : {K : Type 0} → ℕ → Tableau K → Type 0
@@ -85,4 +88,5 @@ on_basis basis w (suc n) = record { weight = w n; key = basis n } ∷ on_basis b
 -- the solution of the tableau: the weight w r / q of each row's basic column is the row's right side divided by the column's entry there
 pub record IsTableauSolution {K : Type 0} (p : Program K) (t : Tableau K) (w : ℕ → ℕ) (q : ℕ) : Type 0 where
   pub positive : 0 < q
-  pub weights : (r : ℕ) → r < p.rows → pos (w r) *ℤ entry p.rows t r (p.column (t.basis r)) ≡ pos q *ℤ t.right r
+  pub weights : (r : ℕ) → r < p.rows
+      → pos (w r) *ℤ entry p.rows t r (p.column (t.basis r)) ≡ pos q *ℤ t.right r

@@ -17,9 +17,11 @@ use Rattle.plain_counts.specs.Plain.{IsPlainPinnedValue}
 -- no letter of the day is counted more often than there are trees
 abbrev pub LettersWithinHeads : Type 0
 LettersWithinHeads =
-    (g : Grammar) (listed : List ArcKey) (value : ArcKey → ℕ) (l : Letter) → AreArcs g listed → IsBalanced g listed value → 1 ≤ l.period → l.period ≤ g.periods
+    (g : Grammar) (listed : List ArcKey) (value : ArcKey → ℕ) (l : Letter) → AreArcs g listed
+    → IsBalanced g listed value → 1 ≤ l.period → l.period ≤ g.periods
     → used_sum g listed value (leaf l) ≤ root_count g listed value
 
 -- on a plain day the pinned value is this
 abbrev pub PlainPinned : Type 0
-PlainPinned = (i : Instance) (cuts : List Cut) (v : ℕ) → IsSoundInstance i → IsPlainDay i → (IsPinnedValue i cuts v ↔ IsPlainPinnedValue i cuts v)
+PlainPinned = (i : Instance) (cuts : List Cut) (v : ℕ) → IsSoundInstance i → IsPlainDay i
+    → (IsPinnedValue i cuts v ↔ IsPlainPinnedValue i cuts v)

@@ -6,3 +6,4 @@ pub mod CellSums
 pub mod CutSums
 pub mod Reducing
 pub mod Rounding
+pub mod DerivedNames

@@ -1,5 +1,5 @@
 -- Tables that tell which names derive a word of the day.
-use Rattle.std.specs.Prelude.{ℕ, ◌<◌, IsSome}
+use Rattle.std.specs.Prelude.{ℕ, ◌≡◌, ◌≤◌, ◌<◌, ◌↔◌, Bool, true, false, List, IsSome, length, slice_index_or}
 use Rattle.roster_model.specs.declared.grammar.Grammar.{Grammar}
 use Rattle.roster_model.specs.Trees.{Parts, IsTreeOf}
 use Rattle.roster_model.specs.Sums.{PriceView, tree_sum}
@@ -14,3 +14,8 @@ pub record IsFilledForAll (g : Grammar) (table : TableView) : Type 0 where
 -- some employees of the name are needed, and it derives no word of the day
 abbrev pub NeedsInVain : Grammar → ℕ → ℕ → Type 0
 NeedsInVain g name least = (0 < least) × ((t : Parts) → IsTreeOf g name t → ⊥)
+
+-- the list tells of each name, in its order, whether it derives a word of the day
+pub record TellsDerived (g : Grammar) (derives : List Bool) : Type 0 where
+  pub count : length g.names ≤ length derives
+  pub told : (x : ℕ) → x < length g.names → (slice_index_or derives x true ≡ false) ↔ ((t : Parts) → IsTreeOf g x t → ⊥)

@@ -4,11 +4,13 @@
 //! least what the least reduced cost of a tree, the cells and the cuts bring.
 #![tactic(auto)]
 
+mod derived;
 mod infeasible;
 mod priced;
 mod shares;
 
-pub use priced::priced_value;
+pub use infeasible::is_plainly_infeasible;
+pub use priced::{priced_value, value_from_least};
 
 #[cfg(test)]
 mod tests;

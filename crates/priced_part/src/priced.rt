@@ -7,8 +7,9 @@ ghost use Rattle.roster_model.specs.Sums.{Within};
 ghost use Rattle.bound_laws.specs.Lagrangian.{IsLeastReduced};
 ghost use Rattle.bound_laws.specs.Priced.{rounded_up, IsPricedValue};
 ghost use Rattle.span_table.specs.Tables.{IsMadeFor};
-ghost use Rattle.priced_part.specs.Filled.{IsFilledForAll};
+ghost use Rattle.priced_part.specs.Filled.{IsFilledForAll, TellsDerived};
 
+use crate::derived::derived_names;
 use crate::infeasible::is_plainly_infeasible;
 use crate::shares::lagrangian_sum;
 use roster_model::{Cut, Instance, Mult, PriceRoom, greatest_cost};
@@ -41,8 +42,36 @@ pub fn priced_value(
     ensures kept { (g : Rules) → IsMadeFor g table.old → IsMadeFor g table.new }
 {
     let least = least_reduced(instance, d, cell, mult, cuts, room, table);
+    let derives = derived_names(&instance.grammar, table);
+    value_from_least(instance, d, cell, mult, cuts, least, &derives)
+}
+
+/// Returns what prices show at a list of cuts, where the least reduced cost of a tree of the day is
+/// given, and of each name of the grammar, in its order, whether it derives a word of the day. No
+/// roster whose trees meet the cuts costs less. It is one more than the greatest cost where they show
+/// that there is no such roster. Takes no memory.
+///
+/// The prices are a denominator of 1 to 2^30, a price for each cell in its order, and multipliers by
+/// rising numbers of cuts. Each cut has a number of at most 63.
+pub fn value_from_least(
+    instance: &Instance,
+    d: u64,
+    cell: &[i128],
+    mult: &[Mult],
+    cuts: &[Cut],
+    least: Option<i128>,
+    derives: &[bool],
+) -> u64
+    requires sound { IsSoundInstance instance.now }
+    requires fit { FitPrices instance.now d cell.now mult.now cuts.now }
+    requires small { All (λ c. c.b ≤ 63) cuts.now }
+    requires least { IsLeastReduced instance.now (record { d = d; cell = cell.now; mult = mult.now }) cuts.now least }
+    requires within { IfSome least (Within (2 ^ 110)) }
+    requires told { TellsDerived instance.now.grammar derives.now }
+    ensures { IsPricedValue instance.now (record { d = d; cell = cell.now; mult = mult.now }) cuts.now result }
+{
     let none = greatest_cost(instance) + 1;
-    if is_plainly_infeasible(instance, table) {
+    if is_plainly_infeasible(instance, derives) {
         return none;
     }
     let value = lagrangian_sum(instance, d, cell, mult, cuts, least);

@@ -1,4 +1,3 @@
-pub mod BaseCuts
 pub mod PriceBlock
 pub mod Empty
 pub mod Ends

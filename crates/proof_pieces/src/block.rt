@@ -1,5 +1,4 @@
 ghost use Rattle.std.specs.Prelude.{ℕ, ◌≡◌, ◌+◌, ◌≤◌, ◌<◌, [], ◌∷◌, Ok, Err, length, MatchResult, OnOk};
-ghost use Rattle.roster_model.specs.Cuts.{group_cuts, base_cuts};
 ghost use Rattle.roster_model.specs.SoundInstance.{IsSoundInstance};
 ghost use Rattle.text_lines.specs.Steps.{each};
 ghost use Rattle.proof_pieces.specs.declared.node.NodeLine.{NodeLine};
@@ -14,11 +13,9 @@ use crate::field::{MOST_PRICE, number, signed};
 use crate::line::word_count;
 use crate::lines::next_line;
 use crate::room::CertRoom;
-use roster_model::{Group, Instance, Mult};
+use certificates::MOST_MULTIPLIERS;
+use roster_model::{Instance, Mult, base_cut_count};
 use text_lines::{Line, Words};
-
-/// A node has at most so many multipliers.
-const MOST_MULTS: usize = 1500;
 
 /// Returns the byte of the code whose prices are due behind so many prices.
 pub fn due_byte(instance: &Instance, prices: usize) -> u8
@@ -102,29 +99,6 @@ fn price_lines(
     Ok(())
 }
 
-// How many of the cuts with which every path begins are a group's.
-fn group_cuts(instance: &Instance, group: &Group) -> usize
-    ensures value { (r : ℕ) → result ≡ length (group_cuts instance.now r group.now) }
-    ensures few { result ≤ 2 }
-{
-    let low = group.heads_max < instance.heads_max;
-    let high = 0 < group.heads_min;
-    low as usize + high as usize
-}
-
-// With how many cuts every path begins.
-fn base_cuts(instance: &Instance) -> usize
-    requires { length instance.now.groups ≤ 8 }
-    ensures value { result ≡ length (base_cuts instance.now) }
-    ensures few { result ≤ 16 }
-{
-    let mut count = 0;
-    for group in instance.groups.as_slice() {
-        count += group_cuts(instance, group);
-    }
-    count
-}
-
 // Reads a multiplier of a later one of so many cuts.
 #[tactic(auto, unfolding(crate::specs::PriceLines::mult_of))]
 fn mult(
@@ -169,7 +143,7 @@ fn mult_line(room: &mut CertRoom, cuts: u32, line: &Line<'_>) -> Result<(), Piec
     if let Some(_) = words.next() {
         return Err(PieceFault::UnknownLine { line: number });
     }
-    if MOST_MULTS <= room.mults().len() {
+    if MOST_MULTIPLIERS <= room.mults().len() {
         return Err(PieceFault::OutOfRange { line: number });
     }
     mult(room, cuts, number, cut, value)
@@ -191,7 +165,7 @@ fn mult_lines(
     ensures next { OnOk result (NoMult lines.new) }
     ensures kept { room.new ≡ record room.old { mult = room.new.mult } }
 {
-    let cuts = (base_cuts(instance) + room.open_splits()) as u32;
+    let cuts = (base_cut_count(instance) + room.open_splits()) as u32;
     while let Some(line) = lines.next_mult() {
         mult_line(room, cuts, &line)?;
     }

@@ -4,6 +4,7 @@ ghost use Rattle.proof_pieces.specs.NodeLines.{arc_at, split_of, split_at, price
 
 use crate::fault::PieceFault;
 use crate::field::number;
+use certificates::MOST_NODES;
 use roster_model::{ArcKey, Group};
 use text_lines::{Line, Words};
 
@@ -26,7 +27,7 @@ pub enum NodeLine {
 }
 
 /// A certificate has at most so many nodes.
-const MOST_NODES: u32 = 20001;
+const MOST_LINES: u32 = MOST_NODES as u32;
 
 /// Denominators are no greater.
 const MOST_DENOMINATOR: u128 = 1 << 30;
@@ -92,7 +93,7 @@ fn split(
         return Err(PieceFault::UnknownLine { line });
     };
     let Some(d) = words.next() else {
-        if MOST_NODES <= nodes {
+        if MOST_LINES <= nodes {
             return Err(PieceFault::TooManyNodes { line });
         }
         let arc = arc(line, groups, rule, suffix, start, len, part)?;
@@ -102,7 +103,7 @@ fn split(
     if let Some(_) = words.next() {
         return Err(PieceFault::UnknownLine { line });
     }
-    if MOST_NODES <= nodes {
+    if MOST_LINES <= nodes {
         return Err(PieceFault::TooManyNodes { line });
     }
     let arc = arc(line, groups, rule, suffix, start, len, part)?;
@@ -122,7 +123,7 @@ fn priced(line: u32, nodes: u32, words: &mut Words<'_>) -> Result<NodeLine, Piec
     if let Some(_) = words.next() {
         return Err(PieceFault::UnknownLine { line });
     }
-    if MOST_NODES <= nodes {
+    if MOST_LINES <= nodes {
         return Err(PieceFault::TooManyNodes { line });
     }
     let d = number(line, 1, MOST_DENOMINATOR, d)? as u64;
@@ -142,7 +143,7 @@ fn leaf(
     if let Some(_) = words.next() {
         return Err(PieceFault::UnknownLine { line });
     }
-    if MOST_NODES <= nodes {
+    if MOST_LINES <= nodes {
         return Err(PieceFault::TooManyNodes { line });
     }
     Ok(leaf)

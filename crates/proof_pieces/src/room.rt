@@ -2,18 +2,13 @@ ghost use Rattle.std.specs.Prelude.{◌≡◌, ◌+◌, ◌<◌, ◌≤◌, [], 
 ghost use Rattle.proof_pieces.specs.PieceList.{after_leaf};
 ghost use Rattle.proof_pieces.specs.PriceLines.{last_cut};
 
+use certificates::{MOST_MULTIPLIERS, MOST_NODES};
 use roster_model::{Instance, Memory, Mult};
 use std::alloc::Global;
 use std::marker::Model;
 
 /// How many bytes a word has at most.
 const MOST_BYTES: usize = 96;
-
-/// How many multipliers a node has at most.
-const MOST_MULTS: usize = 1500;
-
-/// How many nodes a certificate has at most.
-const MOST_NODES: usize = 20001;
 
 /// Room for what the pieces of a proof text need: a word, the prices of a node, and the open splits.
 /// A contract sees these, and for how many cells there is room.
@@ -86,7 +81,7 @@ impl CertRoom {
             word: with_room(alloc, MOST_BYTES)?,
             d: 1,
             cells: with_room(alloc, most)?,
-            mults: with_room(alloc, MOST_MULTS)?,
+            mults: with_room(alloc, MOST_MULTIPLIERS)?,
             halves: with_room(alloc, MOST_NODES)?,
             most,
         })

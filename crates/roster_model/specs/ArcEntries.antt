@@ -17,7 +17,8 @@ is_before a b = comes_first (arc_numbers a) (arc_numbers b)
 
 -- the arc of each entry comes before those of the entries that follow
 pub record AreSorted (xs : List ArcPrice) : Type 0 where
-  pub rising : (j k : ℕ) (d : ArcPrice) → j < k → k < length xs → is_before (slice_index_or xs j d).arc (slice_index_or xs k d).arc ≡ true
+  pub rising : (j k : ℕ) (d : ArcPrice) → j < k → k < length xs
+      → is_before (slice_index_or xs j d).arc (slice_index_or xs k d).arc ≡ true
 
 -- where the mark of the arcs of a suffix of a rule stands
 abbrev pub mark_place : ArcKey → ℕ
@@ -40,7 +41,8 @@ pub record IsSearched (xs : List ArcPrice) (a : ArcKey) (low high : ℕ) : Type 
   pub order : low ≤ high
   pub within : high ≤ length xs
   pub under : (k : ℕ) (d : ArcPrice) → k < low → is_before (slice_index_or xs k d).arc a ≡ true
-  pub above : (k : ℕ) (d : ArcPrice) → high ≤ k → k < length xs → is_before (slice_index_or xs k d).arc a ≡ false
+  pub above : (k : ℕ) (d : ArcPrice) → high ≤ k → k < length xs
+      → is_before (slice_index_or xs k d).arc a ≡ false
 
 -- the entry with its price raised
 abbrev pub raised : ArcPrice → ℤ → ArcPrice

@@ -148,7 +148,8 @@ pub(crate) fn set_arcs(
     requires few { length mult.now ≤ 65536 }
     requires mults { All (IsMult (length cuts.now)) mult.now }
     requires rising { AreRising mult.now }
-    ensures value { (a : ArcKey) → listed_price entries.new.items a ≡ arc_price (cut_prices 1 cuts.now mult.now) a }
+    ensures value { (a : ArcKey) → listed_price entries.new.items a
+        ≡ arc_price (cut_prices 1 cuts.now mult.now) a }
     ensures sorted { AreSorted entries.new.items }
     ensures marked { AreMarked marks.new.items entries.new.items }
     ensures small { All (IsEntryWithin (2 ^ 96)) entries.new.items }
@@ -173,7 +174,8 @@ pub(crate) fn set_paid(
     requires few { length cuts.now ≤ 65536 }
     requires prices { length prices.now ≡ length cuts.now }
     requires within { All (Within (2 ^ 80)) prices.now }
-    ensures value { (a : ArcKey) → listed_price entries.new.items a ≡ arc_price (cuts_paid cuts.now prices.now) a }
+    ensures value { (a : ArcKey) → listed_price entries.new.items a
+        ≡ arc_price (cuts_paid cuts.now prices.now) a }
     ensures sorted { AreSorted entries.new.items }
     ensures marked { AreMarked marks.new.items entries.new.items }
     ensures small { All (IsEntryWithin (2 ^ 96)) entries.new.items }
@@ -193,10 +195,12 @@ fn add(entries: &mut Vec<ArcPrice>, marks: &mut Vec<bool>, entry: ArcPrice)
     requires marked { AreMarked marks.old.items entries.old.items }
     requires small { All (IsEntryWithin (2 ^ 96)) entries.old.items }
     requires entry { IsEntryWithin (2 ^ 80) entry }
-    ensures value { (a : ArcKey) → listed_price entries.new.items a ≡ listed_price entries.old.items a +ℤ entry_price a entry }
+    ensures value { (a : ArcKey) → listed_price entries.new.items a
+        ≡ listed_price entries.old.items a +ℤ entry_price a entry }
     ensures sorted { AreSorted entries.new.items }
     ensures marked { AreMarked marks.new.items entries.new.items }
-    ensures small { (n : ℕ) → All (IsEntryWithin n) entries.old.items → All (IsEntryWithin (n + 2 ^ 80)) entries.new.items }
+    ensures small { (n : ℕ) → All (IsEntryWithin n) entries.old.items
+        → All (IsEntryWithin (n + 2 ^ 80)) entries.new.items }
     ensures length { length entries.new.items ≤ length entries.old.items + 1 }
     ensures capacity { vec_capacity entries.old ≤ vec_capacity entries.new }
 {
@@ -257,7 +261,8 @@ fn put(entries: &mut Vec<ArcPrice>, place: usize, entry: ArcPrice)
 /// Marks the suffix of the arc.
 fn mark(marks: &mut Vec<bool>, arc: &ArcKey)
     ensures here { slice_get marks.new.items (mark_place arc.now) ≡ Some false → ⊥ }
-    ensures kept { (k : ℕ) → slice_get marks.new.items k ≡ Some false → slice_get marks.old.items k ≡ Some false }
+    ensures kept { (k : ℕ) → slice_get marks.new.items k ≡ Some false
+        → slice_get marks.old.items k ≡ Some false }
 {
     let place = mark_place(arc);
     if place < marks.len() {

@@ -45,7 +45,7 @@ impl PriceRoom {
     ghost use Rattle.roster_model.specs.SoundInstance.{IsSoundInstance};
 
     /// Returns a room for prices of instances with as many periods, codes and rules, and for this
-    /// many multipliers. It takes all its memory here.
+    /// many multipliers. It takes all its memory here, and want of it is the one error.
     pub fn for_cuts(alloc: Global, instance: &Instance, most: usize) -> Result<PriceRoom, Memory>
         requires { IsSoundInstance instance.now }
         ensures room { IfOk result (λ r. IsRoomFor r instance.now) }
@@ -80,7 +80,8 @@ impl PriceRoom {
         requires fit { FitPrices instance.now prices.now.d prices.now.cell prices.now.mult cuts.now }
         ensures room { IsRoomFor self.new instance.now }
         ensures most { self.new.most ≡ self.old.most }
-        ensures value { Agree instance.now.grammar (price_view self.new) (reduced_view instance.now prices.now cuts.now) }
+        ensures value { Agree instance.now.grammar (price_view self.new)
+            (reduced_view instance.now prices.now cuts.now) }
     {
         self.set_parts(
             instance,
@@ -91,8 +92,9 @@ impl PriceRoom {
         );
     }
 
-    /// Holds the prices that these parts make: a denominator, a price for each cell, and the
-    /// multipliers of cuts by rising numbers. Takes no memory.
+    /// Holds the prices that these parts make: a denominator of 1 to 2^30, a price for each cell
+    /// within plus or minus 2^80, and at most 1,500 multipliers of cuts, each 0 to 2^80, by rising
+    /// numbers of cuts. Takes no memory.
     pub fn set_parts(
         &mut self,
         instance: &Instance,
@@ -108,7 +110,8 @@ impl PriceRoom {
         ensures room { IsRoomFor self.new instance.now }
         ensures most { self.new.most ≡ self.old.most }
         ensures value { Agree instance.now.grammar (price_view self.new)
-            (view_of instance.now.grammar d (cell_prices instance.now.cells cell.now) (cut_prices 1 cuts.now mult.now)) }
+            (view_of instance.now.grammar d (cell_prices instance.now.cells cell.now)
+            (cut_prices 1 cuts.now mult.now)) }
     {
         set_rules(
             &mut self.rules,
@@ -143,7 +146,8 @@ impl PriceRoom {
         ensures room { IsRoomFor self.new instance.now }
         ensures most { self.new.most ≡ self.old.most }
         ensures value { Agree instance.now.grammar (price_view self.new)
-            (view_of instance.now.grammar d (cell_prices instance.now.cells cell.now) (cuts_paid cuts.now paid.now)) }
+            (view_of instance.now.grammar d (cell_prices instance.now.cells cell.now)
+            (cuts_paid cuts.now paid.now)) }
     {
         set_rules(&mut self.rules, instance.grammar.rules.as_slice(), d);
         set_letters(

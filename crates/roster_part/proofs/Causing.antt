@@ -12,7 +12,8 @@ use Rattle.roster_model.specs.Teams.{Team, teams}
 use Rattle.certificates.specs.declared.why.Why.{Why}
 use Rattle.certificates.specs.declared.why.Why.TheVariants.{NotAShift, ShiftCost, WrongHeads, WrongCost, NotAnArc, EmptyHalf, NotPinned, BoundTooHigh, Outside}
 use Rattle.certificates.specs.RosterCauses.{duties, IsOutOfRange, IsOutside}
-use Rattle.roster_part.specs.Faults.{stated_prices, IsRightlyStated, IsPriceCause, IsHeadsCause, IsRosterCause}
+use Rattle.certificates.specs.RosterCauses.{stated_prices}
+use Rattle.roster_part.specs.Faults.{IsRightlyStated, IsPriceCause, IsHeadsCause, IsRosterCause}
 use Rattle.roster_part.proofs.Items.{no-first}
 use Rattle.roster_part.proofs.Pricing.{no_words, no_prices}
 

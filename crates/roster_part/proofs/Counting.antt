@@ -15,7 +15,7 @@ use Rattle.roster_model.specs.Folds.{Each, count, sum_n}
 use Rattle.roster_model.specs.Limits.{IsLimitedCell}
 use Rattle.certificates.specs.Sound.{IsSoundShift}
 use Rattle.certificates.specs.RosterCauses.{duties}
-use Rattle.roster_part.specs.Faults.{stated_prices}
+use Rattle.certificates.specs.RosterCauses.{stated_prices}
 
 pub members-are : (n : ℕ) (ss : List Shift) → count_by (λ (s : Shift). nat_eq s.group n) ss ≡ count (λ (d : Duty). nat_eq d.team n) (map duty ss)
 members-are n [] = refl

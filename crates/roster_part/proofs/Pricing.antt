@@ -13,7 +13,8 @@ use Rattle.word_prices.specs.Prices.{IsPriceOrNone}
 use Rattle.certificates.specs.declared.why.Why.{Why}
 use Rattle.certificates.specs.declared.why.Why.TheVariants.{NotAShift, ShiftCost, WrongHeads, WrongCost, NotAnArc, EmptyHalf, NotPinned, BoundTooHigh, Outside}
 use Rattle.certificates.specs.RosterCauses.{duties, IsNoShift, IsMispriced, IsFirstNoShift, IsFirstMispriced}
-use Rattle.roster_part.specs.Faults.{stated_prices, IsPriceCause, HasNoOtherWord, HasNoOtherPrice}
+use Rattle.certificates.specs.RosterCauses.{stated_prices}
+use Rattle.roster_part.specs.Faults.{IsPriceCause, HasNoOtherWord, HasNoOtherPrice}
 use Rattle.roster_part.specs.TeamViews.{IsTeamName}
 use Rattle.roster_part.proofs.Items.{Before, before-next, before-all, first-here, no-first}
 use Rattle.roster_part.proofs.Numbered.{team_apart}

@@ -1,5 +1,5 @@
 -- A roster that is stated rightly, and the first cause for which one is not.
-use Rattle.std.specs.Prelude.{ℕ, ◌≡◌, List, map}
+use Rattle.std.specs.Prelude.{ℕ, ◌≡◌, List}
 use Rattle.roster_model.specs.declared.instance.Instance.{Instance}
 use Rattle.roster_model.specs.declared.instance.Shift.{Shift}
 use Rattle.roster_model.specs.Folds.{Each}
@@ -7,11 +7,7 @@ use Rattle.roster_model.specs.Rosters.{ArePrices, HasHeads, roster_cost}
 use Rattle.roster_model.specs.Teams.{teams}
 use Rattle.certificates.specs.declared.why.Why.{Why}
 use Rattle.certificates.specs.declared.why.Why.TheVariants.{NotAShift, ShiftCost, WrongHeads, WrongCost, NotAnArc, EmptyHalf, NotPinned, BoundTooHigh, Outside}
-use Rattle.certificates.specs.RosterCauses.{duties, IsFirstNoShift, IsFirstMispriced, IsFirstOutOfRange, IsMiscounted, IsFirstOutside}
-
--- the stated prices in order
-abbrev pub stated_prices : List Shift → List ℕ
-stated_prices shifts = map (λ (s : Shift). s.price) shifts
+use Rattle.certificates.specs.RosterCauses.{duties, stated_prices, IsFirstNoShift, IsFirstMispriced, IsFirstOutOfRange, IsMiscounted, IsFirstOutside}
 
 -- each word is a shift of its team at its stated price, as many employees of each team work as may,
 -- and together the roster costs what is said

@@ -7,7 +7,8 @@ ghost use Rattle.roster_model.specs.SoundInstance.{IsSoundInstance};
 ghost use Rattle.certificates.specs.RosterCauses.{duties, IsNoShift};
 ghost use Rattle.certificates.specs.Sound.{IsGroupNumber, IsSoundShift};
 ghost use Rattle.span_table.specs.Tables.{IsMadeFor};
-ghost use Rattle.roster_part.specs.Faults.{stated_prices, IsPriceCause};
+ghost use Rattle.certificates.specs.RosterCauses.{stated_prices};
+ghost use Rattle.roster_part.specs.Faults.{IsPriceCause};
 
 use crate::stated::StatedShift;
 use crate::team::team_name;

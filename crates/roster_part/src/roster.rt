@@ -6,7 +6,8 @@ ghost use Rattle.roster_model.specs.Rosters.{roster_cost};
 ghost use Rattle.certificates.specs.RosterCauses.{duties};
 ghost use Rattle.certificates.specs.Sound.{IsSoundShift};
 ghost use Rattle.span_table.specs.Tables.{IsMadeFor};
-ghost use Rattle.roster_part.specs.Faults.{stated_prices, IsRightlyStated, IsRosterCause};
+ghost use Rattle.certificates.specs.RosterCauses.{stated_prices};
+ghost use Rattle.roster_part.specs.Faults.{IsRightlyStated, IsRosterCause};
 
 use crate::prices::price_fault;
 use crate::stated::StatedShift;

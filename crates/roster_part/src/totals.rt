@@ -7,7 +7,8 @@ ghost use Rattle.roster_model.specs.SoundInstance.{IsSoundInstance};
 ghost use Rattle.roster_model.specs.Teams.{teams};
 ghost use Rattle.certificates.specs.RosterCauses.{duties};
 ghost use Rattle.certificates.specs.Sound.{IsSoundShift};
-ghost use Rattle.roster_part.specs.Faults.{stated_prices, IsHeadsCause};
+ghost use Rattle.certificates.specs.RosterCauses.{stated_prices};
+ghost use Rattle.roster_part.specs.Faults.{IsHeadsCause};
 
 use crate::counter::Counter;
 use crate::stated::StatedShift;

@@ -32,8 +32,6 @@ mod read;
 mod rule;
 mod rules;
 mod symbol;
-#[cfg(test)]
-mod tests;
 mod window;
 mod write;
 

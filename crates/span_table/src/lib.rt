@@ -5,6 +5,3 @@ mod table;
 mod walk;
 
 pub use table::Table;
-
-#[cfg(test)]
-mod tests;

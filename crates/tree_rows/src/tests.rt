@@ -1,60 +1,14 @@
-ghost use Rattle.std.specs.Prelude.{◌≡◌, ◌×◌, IfOk, length};
+ghost use Rattle.std.specs.Prelude.{◌≡◌, IfOk};
 ghost use Rattle.roster_model.specs.Room.{most_uses};
 ghost use Rattle.roster_model.specs.Sound.{IsSound};
 ghost use Rattle.span_arcs.specs.DayArcs.{IsDayArcsOf};
-ghost use Rattle.span_table.specs.Tables.{IsMadeFor};
 
-use roster_model::{ArcKey, CodeDef, Grammar, List, Rule, Step, Sym, TreeRoom, Window, is_sound};
+use roster_model::{ArcKey, Grammar, Step, Sym, TreeRoom, is_sound};
+use sample_days::{ANY, BLOCK_NAMES, BLOCKS, FULL_DAYS, RuleParts, WORK, grammar};
 use span_arcs::DayArcs;
 use span_table::Table;
-use std::alloc::{AllocError, Global};
 use std::test::Fail;
 use word_prices::WordPrices;
-
-const ALL: Window = Window { lo: 1, hi: 96 };
-
-/// A rule: its left side, its cost, its right side, and the lengths on which it may stand.
-type RuleParts<'a> = (u8, u32, &'a [Sym], Window);
-
-fn grammar(
-    alloc: Global,
-    periods: u8,
-    names: &[&str],
-    rules: &[RuleParts],
-) -> Result<Grammar, AllocError> {
-    let codes = [
-        CodeDef {
-            byte: b'a',
-            work: true,
-        },
-        CodeDef {
-            byte: b'.',
-            work: false,
-        },
-    ];
-    let mut texts = Vec::new(alloc);
-    for name in names {
-        texts.push(List::from_vec(name.as_bytes().to_vec(alloc)?))?;
-    }
-    let mut list = Vec::new(alloc);
-    for (left, cost, right, span) in rules {
-        list.push(Rule {
-            left: *left,
-            cost: *cost,
-            right: List::from_vec(right.to_vec(alloc)?),
-            span: *span,
-            first: ALL,
-            last: ALL,
-        })?;
-    }
-    Ok(Grammar {
-        periods,
-        codes: List::from_vec(codes.to_vec(alloc)?),
-        names: List::from_vec(texts),
-        rules: List::from_vec(list),
-        start: 0,
-    })
-}
 
 /// A grammar that is sound.
 fn sound_grammar(
@@ -65,34 +19,16 @@ fn sound_grammar(
 ) -> Result<Grammar, Fail>
     ensures { IfOk result IsSound }
 {
-    let grammar = grammar(rt.alloc(), periods, names, rules)?;
+    let grammar = grammar(rt.alloc(), periods, names, rules, 0)?;
     if is_sound(&grammar) {
         return Ok(grammar);
     }
     Err(Fail::from("no sound grammar"))
 }
 
-const WORK: Sym = Sym::Code(0);
-
-const REST: Sym = Sym::Code(1);
-
 const BLOCK: Sym = Sym::Name(1);
 
 const IDLE: Sym = Sym::Name(2);
-
-const RUN: Sym = Sym::Name(3);
-
-const BLOCKS: [RuleParts; 9] = [
-    (0, 0, &[BLOCK], ALL),
-    (0, 0, &[IDLE, BLOCK], ALL),
-    (0, 0, &[BLOCK, IDLE], ALL),
-    (0, 0, &[IDLE, BLOCK, IDLE], ALL),
-    (1, 2, &[RUN], Window { lo: 2, hi: 3 }),
-    (3, 1, &[WORK], ALL),
-    (3, 1, &[WORK, RUN], ALL),
-    (2, 0, &[REST], ALL),
-    (2, 0, &[REST, IDLE], ALL),
-];
 
 /// Words of four periods, and their prices by the rules of one block.
 const PRICED: [(&str, Option<i128>); 4] = [
@@ -125,7 +61,7 @@ fn tells_prices(
 
 #[test]
 fn words_of_one_block(rt: HostRuntime) -> Result<(), Fail> {
-    let grammar = sound_grammar(&rt, 4, &["S", "W", "R", "A"], &BLOCKS)?;
+    let grammar = sound_grammar(&rt, 4, &BLOCK_NAMES, &BLOCKS)?;
     assert!(rt; tells_prices(&rt, &grammar, PRICED.as_slice())?);
     Ok(())
 }
@@ -175,27 +111,21 @@ const USES: [(u8, u8, u8); 6] = [
 
 #[test]
 fn the_tree_of_a_word(rt: HostRuntime) -> Result<(), Fail> {
-    let grammar = sound_grammar(&rt, 4, &["S", "W", "R", "A"], &BLOCKS)?;
+    let grammar = sound_grammar(&rt, 4, &BLOCK_NAMES, &BLOCKS)?;
     let steps = USES.map(|(rule, start, len)| Step { rule, start, len });
     assert!(rt; is_tree_of(&rt, &grammar, b".aa.", steps.as_slice())?);
     Ok(())
 }
 
-const PAIR: [RuleParts; 3] = [
-    (0, 5, &[WORK, WORK], ALL),
-    (0, 3, &[BLOCK, BLOCK], ALL),
-    (1, 0, &[WORK], ALL),
-];
-
 const CHAIN: [RuleParts; 3] = [
-    (0, 1, &[BLOCK, IDLE], ALL),
-    (2, 10, &[BLOCK], ALL),
-    (1, 100, &[WORK], ALL),
+    (0, 1, &[BLOCK, IDLE], ANY),
+    (2, 10, &[BLOCK], ANY),
+    (1, 100, &[WORK], ANY),
 ];
 
 #[test]
 fn the_lesser_of_two_trees(rt: HostRuntime) -> Result<(), Fail> {
-    let grammar = sound_grammar(&rt, 2, &["S", "T"], &PAIR)?;
+    let grammar = sound_grammar(&rt, 2, &["S", "T"], &FULL_DAYS)?;
     assert!(rt; tells_prices(&rt, &grammar, &[("aa", Some(3))])?);
     Ok(())
 }
@@ -293,12 +223,15 @@ fn tells_arcs(rt: &HostRuntime, grammar: &Grammar) -> Result<(bool, bool), Fail>
     requires { IsSound grammar.now }
 {
     let arcs = DayArcs::for_instance(rt.alloc(), grammar)?;
-    Ok((are_in_order(grammar, &arcs), are_others_none(grammar, &arcs)))
+    Ok((
+        are_in_order(grammar, &arcs),
+        are_others_none(grammar, &arcs),
+    ))
 }
 
 #[test]
 fn the_arcs_of_one_block(rt: HostRuntime) -> Result<(), Fail> {
-    let grammar = sound_grammar(&rt, 4, &["S", "W", "R", "A"], &BLOCKS)?;
+    let grammar = sound_grammar(&rt, 4, &BLOCK_NAMES, &BLOCKS)?;
     assert_eq!(rt; tells_arcs(&rt, &grammar)?, (true, true));
     Ok(())
 }

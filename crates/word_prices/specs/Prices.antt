@@ -26,8 +26,10 @@ word_view g w = record { letter_at = λ c i. code_price g w c i; arc_of = λ a. 
 
 -- a tree has a sum exactly where its word is this one, and the sum is the tree's cost
 pub record SumsAreCosts (g : Grammar) (w : List ℕ) : Type 0 where
-  pub spelled : (x : ℕ) (t : Parts) (z : ℤ) → IsTreeOf g x t → tree_sum (word_view g w) 1 t ≡ Some z → word g t ≡ w
-  pub priced : (x : ℕ) (t : Parts) → IsTreeOf g x t → word g t ≡ w → tree_sum (word_view g w) 1 t ≡ Some (pos (cost g t))
+  pub spelled : (x : ℕ) (t : Parts) (z : ℤ) → IsTreeOf g x t → tree_sum (word_view g w) 1 t ≡ Some z
+      → word g t ≡ w
+  pub priced : (x : ℕ) (t : Parts) → IsTreeOf g x t → word g t ≡ w
+      → tree_sum (word_view g w) 1 t ≡ Some (pos (cost g t))
 
 -- under the prices of a word that is as long as the day the sums are costs
 abbrev pub WordSums : Type 0
@@ -50,5 +52,8 @@ pub record IsPricedTree (g : Grammar) (x : ℕ) (w : List ℕ) (price : ℕ) (t 
 -- under the word's prices, a tree of least sum derives the word at its price
 abbrev pub LeastTree : Type 0
 LeastTree =
-    (g : Grammar) (w : List ℕ) (x price : ℕ) (t : Parts) (z : ℤ) → IsSound g → length w ≡ g.periods → IsPrice g x w price → IsTreeOf g x t
-    → tree_sum (word_view g w) 1 t ≡ Some z → ((u : Parts) → IsTreeOf g x u → AtMost (Some z) (tree_sum (word_view g w) 1 u)) → IsPricedTree g x w price t
+    (g : Grammar) (w : List ℕ) (x price : ℕ) (t : Parts) (z : ℤ) → IsSound g → length w ≡ g.periods
+    → IsPrice g x w price → IsTreeOf g x t
+    → tree_sum (word_view g w) 1 t ≡ Some z
+    → ((u : Parts) → IsTreeOf g x u → AtMost (Some z) (tree_sum (word_view g w) 1 u))
+    → IsPricedTree g x w price t

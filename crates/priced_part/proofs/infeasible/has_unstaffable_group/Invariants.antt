@@ -4,4 +4,4 @@ use Rattle.priced_part.proofs.Searching.{StandsFrom}
 use Rattle.priced_part.proofs.infeasible.has_unstaffable_group.Given as goal
 
 abbrev pub invariant-loop-group : goal.invariant-loop-group
-invariant-loop-group l = StandsFrom (λ (x : Group). NeedsInVain l.grammar x.name x.heads_min) l.groups l.group-index
+invariant-loop-group l = StandsFrom (λ (x : Group). NeedsInVain l.instance.grammar x.name x.heads_min) l.instance.groups l.group-index

@@ -1,5 +1,4 @@
-use Rattle.std.proofs.Common.{ℕ, ◌≤◌, ◌-◌, length}
-use Rattle.std.specs.Prelude.{vec_capacity}
+use Rattle.std.proofs.Common.{◌≤◌, ◌-◌, length}
 use Rattle.roster_part.proofs.shift_room.empty_slots.Given as goal
 
 abbrev pub invariant-loop-alloc : goal.invariant-loop-alloc

@@ -1,6 +1,6 @@
 use Rattle.std.proofs.Common.{ℕ, ◌≡◌, ◌≤◌, ◌+◌, ◌*◌, ◌^◌}
 use Rattle.roster_model.specs.Folds.{sum_n}
-use Rattle.roster_part.specs.Faults.{stated_prices}
+use Rattle.certificates.specs.RosterCauses.{stated_prices}
 use Rattle.roster_part.proofs.Counting.{rest_paid}
 use Rattle.roster_part.proofs.totals.paid.Given as goal
 

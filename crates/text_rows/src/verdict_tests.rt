@@ -1,6 +1,6 @@
-use super::write_verdict;
 use certificates::{Verdict, Why};
 use roster_model::ArcKey;
+use shift_report::write_verdict;
 use std::alloc::Global;
 use std::test::Fail;
 

@@ -2,8 +2,8 @@ ghost use Rattle.std.specs.Prelude.{◌↔◌, All, IsTrue};
 ghost use Rattle.roster_model.specs.declared.grammar.Step.{Step};
 ghost use Rattle.shift_report.specs.TreeText.{HasRule};
 
-use super::write_tree;
 use roster_model::{CodeDef, Grammar, List, Rule, Step, Sym, Window, is_sound};
+use shift_report::write_tree;
 use std::alloc::{AllocError, Global};
 use std::test::Fail;
 

@@ -1,5 +1,5 @@
-use crate::{fault_line, read_rules, write_rules};
 use roster_model::{List, Memory};
+use rules_text::{fault_line, read_rules, write_rules};
 use std::alloc::{AllocError, Global};
 use std::test::Fail;
 

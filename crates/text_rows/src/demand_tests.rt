@@ -1,7 +1,7 @@
 ghost use Rattle.std.specs.Prelude.{IfOk};
 ghost use Rattle.roster_model.specs.SoundInstance.{IsSoundInstance};
 
-use crate::{DemandFault, fault_line, read_demand, write_demand};
+use demand_text::{DemandFault, fault_line, read_demand, write_demand};
 use roster_model::{
     Cell, CodeDef, Grammar, Group, Instance, List, Rule, Sym, Window, is_plain, is_sound,
 };

@@ -1,0 +1,13 @@
+//! Worked rows of the texts, as tests over public calls: rules, demand and proof texts, and reports.
+#![tactic(auto)]
+
+#[cfg(test)]
+mod demand_tests;
+#[cfg(test)]
+mod proof_tests;
+#[cfg(test)]
+mod rules_tests;
+#[cfg(test)]
+mod tree_tests;
+#[cfg(test)]
+mod verdict_tests;

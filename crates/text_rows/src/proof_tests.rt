@@ -1,0 +1,726 @@
+ghost use Rattle.std.specs.Prelude.{◌≤◌, length, IfOk};
+ghost use Rattle.roster_model.specs.SoundInstance.{IsSoundInstance};
+ghost use Rattle.proof_pieces.specs.PieceList.{Follows};
+
+use bound_proof::{
+    CertRoom, Node, Piece, PieceFault, Pieces, ProofFault, fault_line, read_cert, write_cert,
+};
+use certificates::Cert;
+use roster_model::{
+    ArcKey, Cell, CodeDef, Grammar, Group, Instance, List, Mult, Prices, Rule, Shift, Sym, Window,
+    is_sound_instance,
+};
+use std::alloc::{AllocError, Global};
+use std::test::Fail;
+
+const DAY: Window = Window { lo: 1, hi: 96 };
+
+const A: Sym = Sym::Code(0);
+
+const REST: Sym = Sym::Code(1);
+
+/// A rule: its left side, its cost and its right side.
+type RuleParts = (u8, u32, &'static [Sym]);
+
+/// The parts of a day.
+#[derive(Clone, Copy, Drop)]
+struct Parts {
+    periods: u8,
+    codes: &'static [CodeDef],
+    names: &'static [&'static str],
+    rules: &'static [RuleParts],
+    start: u8,
+    heads: (u32, u32),
+    groups: &'static [Group],
+    /// The demanded codes, whose prices are due in this order.
+    demanded: &'static [u8],
+}
+
+const BYTE_A: CodeDef = CodeDef {
+    byte: b'a',
+    work: true,
+};
+
+const BYTE_REST: CodeDef = CodeDef {
+    byte: b'.',
+    work: false,
+};
+
+const BYTE_B: CodeDef = CodeDef {
+    byte: b'b',
+    work: true,
+};
+
+/// A day of three periods with one name, of whose two work codes one is demanded.
+const PLAIN: Parts = Parts {
+    periods: 3,
+    codes: &[BYTE_A, BYTE_REST, BYTE_B],
+    names: &["S"],
+    rules: &[
+        (0, 2, &[A, A, REST]),
+        (0, 2, &[REST, A, A]),
+        (0, 2, &[A, REST, A]),
+    ],
+    start: 0,
+    heads: (0, 3),
+    groups: &[],
+    demanded: &[0],
+};
+
+/// The same day with both work codes demanded.
+const BOTH_DEMANDED: Parts = Parts {
+    demanded: &[2, 0],
+    ..PLAIN
+};
+
+/// A day of two periods with the groups `F`, 0 to 1 employees, and `H`, 1 to 2. Its base cuts are a
+/// Low and a High one of each but the High one of `F`.
+const GROUPED: Parts = Parts {
+    periods: 2,
+    codes: &[BYTE_A, BYTE_REST],
+    names: &["S", "F", "H", "*"],
+    rules: &[
+        (0, 0, &[Sym::Name(1)]),
+        (0, 0, &[Sym::Name(2)]),
+        (1, 3, &[A, A]),
+        (2, 1, &[A, REST]),
+        (2, 1, &[REST, A]),
+        (3, 0, &[Sym::Name(1)]),
+        (3, 0, &[Sym::Name(2)]),
+    ],
+    start: 3,
+    heads: (1, 3),
+    groups: &[
+        Group {
+            name: 1,
+            heads_min: 0,
+            heads_max: 1,
+        },
+        Group {
+            name: 2,
+            heads_min: 1,
+            heads_max: 2,
+        },
+    ],
+    demanded: &[0],
+};
+
+fn names(alloc: Global, names: &[&str]) -> Result<List<List<u8>>, AllocError> {
+    let mut list = Vec::new(alloc);
+    for name in names {
+        list.push(List::from_vec(name.as_bytes().to_vec(alloc)?))?;
+    }
+    Ok(List::from_vec(list))
+}
+
+fn rules(alloc: Global, rules: &[RuleParts]) -> Result<List<Rule>, AllocError> {
+    let mut list = Vec::new(alloc);
+    for (left, cost, right) in rules {
+        list.push(Rule {
+            left: *left,
+            cost: *cost,
+            right: List::from_vec(right.to_vec(alloc)?),
+            span: DAY,
+            first: DAY,
+            last: DAY,
+        })?;
+    }
+    Ok(List::from_vec(list))
+}
+
+fn cells(alloc: Global, codes: &[u8], periods: u8) -> Result<List<Cell>, AllocError> {
+    let mut cells = Vec::new(alloc);
+    for code in codes {
+        for period in 0..periods {
+            cells.push(Cell {
+                code: *code,
+                period: period + 1,
+                need: 1,
+                under: 10,
+                over: 0,
+                floor: 0,
+                ceiling: 64,
+            })?;
+        }
+    }
+    Ok(List::from_vec(cells))
+}
+
+fn grammar(alloc: Global, parts: &Parts) -> Result<Grammar, AllocError> {
+    Ok(Grammar {
+        periods: parts.periods,
+        codes: List::from_vec(parts.codes.to_vec(alloc)?),
+        names: names(alloc, parts.names)?,
+        rules: rules(alloc, parts.rules)?,
+        start: parts.start,
+    })
+}
+
+fn day(alloc: Global, parts: &Parts) -> Result<Instance, AllocError> {
+    Ok(Instance {
+        grammar: grammar(alloc, parts)?,
+        heads_min: parts.heads.0,
+        heads_max: parts.heads.1,
+        groups: List::from_vec(parts.groups.to_vec(alloc)?),
+        cells: cells(alloc, parts.demanded, parts.periods)?,
+    })
+}
+
+fn sound(alloc: Global, parts: &Parts) -> Result<Instance, Fail>
+    ensures { IfOk result IsSoundInstance }
+{
+    let instance = day(alloc, parts)?;
+    if !is_sound_instance(&instance) {
+        return Err(Fail::from("not sound"));
+    }
+    Ok(instance)
+}
+
+// The fault line of a text that is refused; nothing for one that is accepted.
+fn answer(alloc: Global, instance: &Instance, text: &[u8]) -> Result<List<u8>, Fail>
+    requires { IsSoundInstance instance.now }
+{
+    match read_cert(alloc, instance, text) {
+        Ok(_) => Ok(List::new(alloc)),
+        Err(fault) => Ok(fault_line(alloc, &fault)?),
+    }
+}
+
+// Whether a text is refused with this fault line; an accepted text has none.
+fn answers(alloc: Global, instance: &Instance, text: &str, want: &str) -> Result<(), Fail>
+    requires { IsSoundInstance instance.now }
+{
+    let said = answer(alloc, instance, text.as_bytes())?;
+    if said.as_slice() != want.as_bytes() {
+        return Err(Fail::from(text));
+    }
+    Ok(())
+}
+
+/// A text behind some first lines, and its fault line; an accepted text has none.
+type Row<'a> = (&'a str, &'a str);
+
+// Whether the text of these two parts has this fault line.
+fn joined_answers(
+    alloc: Global,
+    instance: &Instance,
+    head: &str,
+    rest: &str,
+    want: &str,
+) -> Result<(), Fail>
+    requires { IsSoundInstance instance.now }
+{
+    let text = [head, rest].concat(alloc)?;
+    answers(alloc, instance, text.as_str(), want)
+}
+
+// Whether the texts, all behind the same first lines, have these fault lines.
+fn compare(alloc: Global, parts: &Parts, head: &str, rows: &[Row]) -> Result<(), Fail> {
+    let instance = sound(alloc, parts)?;
+    for (lines, want) in rows {
+        joined_answers(alloc, &instance, head, lines, want)?;
+    }
+    Ok(())
+}
+
+// Two shifts of price 2, and a split at the root whose halves have prices.
+const SPLIT: &'static str = "proof 1\ncost 4\nbound 4\nshift .aa 2\nshift aa. 2\nsplit 1 0 1 3 1 0
+priced 1\nprice a 2 2 0\nmult 1 2\npriced 1\nprice a 0 0 2\nmult 1 2\nend\n";
+
+// Whether so many bytes of the text are accepted.
+fn accepts(alloc: Global, instance: &Instance, bytes: usize) -> Result<bool, Fail>
+    requires { IsSoundInstance instance.now }
+{
+    let Some(text) = SPLIT.as_bytes().get(..bytes) else {
+        return Err(Fail::from("no such text"));
+    };
+    Ok(answer(alloc, instance, text)?.is_empty())
+}
+
+// Whether the text is accepted from so many bytes on.
+fn accepts_from(alloc: Global, bytes: usize) -> Result<bool, Fail> {
+    let instance = sound(alloc, &PLAIN)?;
+    for end in 0..SPLIT.len() + 1 {
+        if accepts(alloc, &instance, end)? != (bytes <= end) {
+            return Ok(false);
+        }
+    }
+    Ok(true)
+}
+
+#[test]
+fn texts_that_end_early(rt: HostRuntime) -> Result<(), Fail> {
+    assert!(rt; SPLIT.len() == 133);
+    assert!(rt; accepts_from(rt.alloc(), 132)?);
+    Ok(())
+}
+
+const TEXTS: [Row; 26] = [
+    ("", "proof: the text ends early\n"),
+    ("proof 7", "proof: line 1: bad header\n"),
+    ("proof 2", "proof: line 1: bad header\n"),
+    ("proof 1 1", "proof: line 1: bad header\n"),
+    (
+        "# none\n\nproof 1\n\tcost none # all\r\nbound 0\r\nbare\r\nend\r\n",
+        "",
+    ),
+    ("proof 1\ncost 010", "proof: line 2: bad number\n"),
+    (
+        "proof 1\ncost 1099511627777",
+        "proof: line 2: out of range\n",
+    ),
+    ("proof 1\ncost -1", "proof: line 2: bad number\n"),
+    ("proof 1\ncost", "proof: line 2: unknown line\n"),
+    ("proof 1\nbound 1", "proof: line 2: unknown line\n"),
+    ("proof 1\ncost 1\ncost 1", "proof: line 3: unknown line\n"),
+    (
+        "proof 1\ncost 1099511627776\nbound 1099511627776\nbare\nend",
+        "",
+    ),
+    (
+        "proof 1\ncost none\nbound none\nshift aaa 1",
+        "proof: line 4: unknown line\n",
+    ),
+    (
+        "proof 1\ncost 1\nbound 1\nshift aaa",
+        "proof: line 4: unknown line\n",
+    ),
+    (
+        "proof 1\ncost 1\nbound 1\nshift S aaa 1",
+        "proof: line 4: unknown line\n",
+    ),
+    (
+        "proof 1\ncost 1\nbound 1\nshift aaa x",
+        "proof: line 4: bad number\n",
+    ),
+    (
+        "proof 1\ncost 1\nbound 1\nshift a \u{e9}",
+        "proof: line 4: bad byte\n",
+    ),
+    (
+        "proof 1\ncost 1\nbound 1\nsplit 1 0 1 3 1 0\nshift a 1",
+        "proof: line 5: unknown line\n",
+    ),
+    (
+        "proof 1\ncost 1\nbound 1\nbare\nshift a 1",
+        "proof: line 5: text after the end\n",
+    ),
+    (
+        "proof 1\ncost 1\nbound 1\nbare\nbare",
+        "proof: line 5: text after the end\n",
+    ),
+    (
+        "proof 1\ncost 1\nbound 1\nbare\nend x",
+        "proof: line 5: text after the end\n",
+    ),
+    (
+        "proof 1\ncost 1\nbound 1\nbare\n\u{e9}",
+        "proof: line 5: bad byte\n",
+    ),
+    (
+        "proof 1\ncost 1\nbound 1\nbare\nend\nbare\n",
+        "proof: line 6: text after the end\n",
+    ),
+    (
+        "proof 1\ncost 1\nbound 1\nbare\nend\n\n# x\n\u{7f}",
+        "proof: line 8: bad byte\n",
+    ),
+    (
+        "proof 1\ncost 1\nbound 1\nend",
+        "proof: line 4: unknown line\n",
+    ),
+    (
+        "proof 1\ncost 1\nbound 1\nsplit 1 0 1 3 1 0\nbare\nend",
+        "proof: line 6: unknown line\n",
+    ),
+];
+
+#[test]
+fn texts(rt: HostRuntime) -> Result<(), Fail> {
+    compare(rt.alloc(), &PLAIN, "", &TEXTS)
+}
+
+// The lines before those of the nodes.
+const HEAD: &'static str = "proof 1\ncost none\nbound 0\n";
+
+const NODES: [Row; 38] = [
+    ("pinned\nend", ""),
+    ("bare bare", "proof: line 4: unknown line\n"),
+    ("priced", "proof: line 4: unknown line\n"),
+    ("priced 0", "proof: line 4: out of range\n"),
+    ("priced 1073741825", "proof: line 4: out of range\n"),
+    ("priced x", "proof: line 4: bad number\n"),
+    ("split 1 0 1 3 1", "proof: line 4: unknown line\n"),
+    ("split 1 0 1 3 1 0 1 1", "proof: line 4: unknown line\n"),
+    ("split 0 x 1 3 1 0", "proof: line 4: out of range\n"),
+    ("split 65 x 1 3 1 0", "proof: line 4: out of range\n"),
+    ("split 64 x 1 3 1 0", "proof: line 4: bad number\n"),
+    ("split 1 7 x 3 1 0", "proof: line 4: out of range\n"),
+    ("split 1 6 0 x 1 0", "proof: line 4: out of range\n"),
+    ("split 1 6 96 97 x 0", "proof: line 4: out of range\n"),
+    ("split 1 6 96 96 97 x", "proof: line 4: out of range\n"),
+    ("split 1 6 96 96 96 64 x", "proof: line 4: out of range\n"),
+    ("split 1 6 96 96 96 63 0", "proof: line 4: out of range\n"),
+    (
+        "split 1 6 96 96 96 63\nbare",
+        "proof: the text ends early\n",
+    ),
+    ("priced 1\nprice a 1 2", "proof: line 5: unknown line\n"),
+    ("priced 1\nprice b 1 2 3", "proof: line 5: unknown line\n"),
+    ("priced 1\nprice a 1 2 3 4", "proof: line 5: unknown line\n"),
+    ("priced 1\nprice a -0 2 3", "proof: line 5: bad number\n"),
+    ("priced 1\nend", "proof: line 5: unknown line\n"),
+    (
+        "priced 1\nprice a 1208925819614629174706177 x 0",
+        "proof: line 5: out of range\n",
+    ),
+    (
+        "priced 1073741824\nprice a 1208925819614629174706176 -1208925819614629174706176 0\nend",
+        "",
+    ),
+    (
+        "priced 1\nprice a 1 2 3\nprice a 1 2 3",
+        "proof: line 6: text after the end\n",
+    ),
+    (
+        "priced 1\nprice a 1 2 3\nmult 1 x",
+        "proof: line 6: out of range\n",
+    ),
+    (
+        "priced 1\nprice a 1 2 3\nmult x 1",
+        "proof: line 6: bad number\n",
+    ),
+    (
+        "priced 1\nprice a 1 2 3\nmult 1",
+        "proof: line 6: text after the end\n",
+    ),
+    (
+        "priced 1\nprice a 1 2 3\nmult 1 1 1",
+        "proof: line 6: text after the end\n",
+    ),
+    ("bare\nmult 1 1", "proof: line 5: text after the end\n"),
+    (
+        "split 1 0 1 3 1 0 1\nprice a 1 2 3\nmult 1 1",
+        "proof: line 6: out of range\n",
+    ),
+    (
+        "split 1 0 1 3 1 0 1\nprice a 1 2 3\nmult 1",
+        "proof: line 6: unknown line\n",
+    ),
+    (
+        "split 1 0 1 3 1 0\nsplit 1 0 1 3 1 0 1\nprice a 1 2 3\nmult 1 1\nmult 1 x",
+        "proof: line 8: out of range\n",
+    ),
+    (
+        "split 1 0 1 3 1 0\nsplit 1 0 1 3 1 0\npriced 1\nprice a 1 2 3\nmult 2 1\nmult 1 x",
+        "proof: line 9: out of range\n",
+    ),
+    (
+        "split 1 0 1 3 1 0\nsplit 1 0 1 3 1 0\npriced 1\nprice a 1 2 3\nmult 1 1\nmult 2 0",
+        "proof: line 9: out of range\n",
+    ),
+    (
+        "split 1 0 1 3 1 0\nsplit 1 0 1 3 1 0\npriced 1\nprice a 1 2 3\nmult 1 1\nmult 2 1208925819614629174706176\nbare\npriced 1\nprice a 1 2 3\nmult 1 1\nend",
+        "",
+    ),
+    (
+        "split 1 0 1 3 1 0\nsplit 1 0 1 3 1 0\nbare\nbare\npriced 1\nprice a 1 2 3\nmult 2 1",
+        "proof: line 10: out of range\n",
+    ),
+];
+
+#[test]
+fn nodes(rt: HostRuntime) -> Result<(), Fail> {
+    compare(rt.alloc(), &PLAIN, HEAD, &NODES)
+}
+
+const ORDERS: [Row; 5] = [
+    ("priced 1\nprice b 1 2 3\nprice a 4 5 6\nend", ""),
+    (
+        "priced 1\nprice a 1 2 3\nprice b 4 5 6\nend",
+        "proof: line 5: unknown line\n",
+    ),
+    (
+        "priced 1\nprice b 1 2 3\nprice b 4 5 6\nend",
+        "proof: line 6: unknown line\n",
+    ),
+    (
+        "priced 1\nprice b 1 2 3\nend",
+        "proof: line 6: unknown line\n",
+    ),
+    ("priced 1\nprice b 1 2 3\n", "proof: the text ends early\n"),
+];
+
+#[test]
+fn demanded_codes_stand_in_order(rt: HostRuntime) -> Result<(), Fail> {
+    compare(rt.alloc(), &BOTH_DEMANDED, HEAD, &ORDERS)
+}
+
+const GROUPS: [Row; 9] = [
+    ("proof 1", "proof: line 1: bad header\n"),
+    (
+        "proof 2\ncost 4\nbound 4\nshift F aa 3\nshift H a. 1\npriced 2\nprice a 3 3\nmult 2 1\nend",
+        "",
+    ),
+    (
+        "proof 2\ncost 4\nbound 4\nshift G aa x",
+        "proof: line 4: out of range\n",
+    ),
+    (
+        "proof 2\ncost 4\nbound 4\nshift * aa x",
+        "proof: line 4: out of range\n",
+    ),
+    (
+        "proof 2\ncost 4\nbound 4\nshift aa 3",
+        "proof: line 4: unknown line\n",
+    ),
+    (
+        "proof 2\ncost none\nbound 4\nsplit 72 0 1 2 2 0\nbare\nbare\nend",
+        "",
+    ),
+    (
+        "proof 2\ncost none\nbound 4\nsplit 73 0 1 2 2 0",
+        "proof: line 4: out of range\n",
+    ),
+    (
+        "proof 2\ncost none\nbound 4\npriced 1\nprice a 0 0\nmult 3 1\nmult 4 1",
+        "proof: line 7: out of range\n",
+    ),
+    (
+        "proof 2\ncost none\nbound 4\nsplit 1 0 1 2 2 0\npriced 1\nprice a 0 0\nmult 4 1\nmult 5 1",
+        "proof: line 8: out of range\n",
+    ),
+];
+
+#[test]
+fn groups(rt: HostRuntime) -> Result<(), Fail> {
+    compare(rt.alloc(), &GROUPED, "", &GROUPS)
+}
+
+// A part that stands so many times, and the rest.
+fn repeated(alloc: Global, part: &str, times: usize, rest: &str) -> Result<String, AllocError> {
+    let parts = part.repeat(alloc, times)?;
+    [parts.as_str(), rest].concat(alloc)
+}
+
+// Whether a text with a part that stands so many times has this fault line.
+fn compare_repeated(
+    alloc: Global,
+    head: &str,
+    part: &str,
+    times: usize,
+    rest: &str,
+    want: &str,
+) -> Result<(), Fail> {
+    let lines = repeated(alloc, part, times, rest)?;
+    compare(alloc, &PLAIN, head, &[(lines.as_str(), want)])
+}
+
+#[test]
+fn many_lines(rt: HostRuntime) -> Result<(), Fail> {
+    compare_repeated(
+        rt.alloc(),
+        "proof 1\ncost 1\nbound 1\n",
+        "shift aa. 2\n",
+        64,
+        "shift a x\n",
+        "proof: line 68: out of range\n",
+    )
+}
+
+#[test]
+fn long_words(rt: HostRuntime) -> Result<(), Fail> {
+    compare_repeated(
+        rt.alloc(),
+        "proof 1\ncost 1\nbound 1\nshift ",
+        "a",
+        97,
+        " x\n",
+        "proof: line 4: out of range\n",
+    )
+}
+
+// Whether a text with so many splits and one more leaf has this fault line.
+fn compare_splits(alloc: Global, splits: usize, want: &str) -> Result<(), Fail> {
+    let leaves = repeated(alloc, "bare\n", splits, "bare\nend\n")?;
+    compare_repeated(
+        alloc,
+        HEAD,
+        "split 1 0 1 3 1 0\n",
+        splits,
+        leaves.as_str(),
+        want,
+    )
+}
+
+#[test]
+fn many_nodes(rt: HostRuntime) -> Result<(), Fail> {
+    compare_splits(rt.alloc(), 10_000, "")
+}
+
+#[test]
+fn too_many_nodes(rt: HostRuntime) -> Result<(), Fail> {
+    compare_splits(
+        rt.alloc(),
+        10_001,
+        "proof: line 20005: too many nodes, at most 20001\n",
+    )
+}
+
+const READ: &'static str = "proof 1\ncost 4\nbound none\nshift .aa 2\nsplit 1 0 1 3 2 5 7
+price a -2 2 0\npinned\npriced 9\nprice a 0 0 2\nmult 1 3\nend\n";
+
+fn read(alloc: Global) -> Result<Cert, Fail> {
+    let instance = sound(alloc, &PLAIN)?;
+    Ok(read_cert(alloc, &instance, READ.as_bytes())?)
+}
+
+fn is_first_shift(shifts: &[Shift], group: u8, word: &[u8], price: u64) -> bool {
+    match shifts.first() {
+        Some(shift) => {
+            shift.group == group && shift.price == price && shift.word.as_slice() == word
+        }
+        None => false,
+    }
+}
+
+#[test]
+fn rosters_are_read(rt: HostRuntime) -> Result<(), Fail> {
+    let cert = read(rt.alloc())?;
+    assert!(rt; cert.cost == Some(4));
+    assert!(rt; cert.bound == None);
+    assert!(rt; is_first_shift(cert.shifts.as_slice(), 0, b".aa", 2));
+    Ok(())
+}
+
+fn are_prices(prices: &Prices, d: u64, cell: &[i128], mult: &[Mult]) -> bool {
+    prices.d == d && prices.cell.as_slice() == cell && prices.mult.as_slice() == mult
+}
+
+const ARC: ArcKey = ArcKey {
+    rule: 1,
+    suffix: 0,
+    start: 1,
+    len: 3,
+    part: 2,
+};
+
+fn is_split(node: &Node) -> bool {
+    match node {
+        Node::Split {
+            arc,
+            b,
+            prices: Some(prices),
+        } => *arc == ARC && *b == 5 && are_prices(prices, 7, &[-2, 2, 0], &[]),
+        _ => false,
+    }
+}
+
+fn is_priced(node: &Node) -> bool {
+    match node {
+        Node::Priced { prices } => are_prices(prices, 9, &[0, 0, 2], &[Mult { cut: 1, value: 3 }]),
+        _ => false,
+    }
+}
+
+#[test]
+fn nodes_are_read(rt: HostRuntime) -> Result<(), Fail> {
+    let cert = read(rt.alloc())?;
+    let nodes = cert.nodes.as_slice();
+    assert!(rt; nodes.len() == 3);
+    assert!(rt; is_split(&nodes[0]));
+    assert!(rt; is_priced(&nodes[2]));
+    Ok(())
+}
+
+/// What a reader gives at a call.
+type Given = Option<Result<Piece, PieceFault>>;
+
+// Whether the next calls give this.
+fn gives(pieces: &mut Pieces<'_>, instance: &Instance, room: &mut CertRoom, wants: &[Given]) -> bool
+    requires sound { IsSoundInstance instance.now }
+    requires made { length instance.now.cells ≤ room.old.most }
+    requires follows { Follows pieces.old room.old.halves }
+{
+    for want in wants {
+        if pieces.next(instance, room) != *want {
+            return false;
+        }
+    }
+    true
+}
+
+const GIVEN: [Given; 6] = [
+    Some(Ok(Piece::Cost(Some(4)))),
+    Some(Ok(Piece::Bound(Some(4)))),
+    Some(Ok(Piece::Shift { group: 2, price: 1 })),
+    Some(Ok(Piece::Priced)),
+    Some(Err(PieceFault::Trailing { line: 9 })),
+    None,
+];
+
+fn holds(room: &CertRoom, word: &[u8], d: u64, cells: &[i128], mults: &[Mult]) -> bool {
+    room.word() == word && room.d() == d && room.cells() == cells && room.mults() == mults
+}
+
+// Whether the pieces of a text come as they are to, and the room then holds the last of them.
+fn are_read(instance: &Instance, room: &mut CertRoom) -> bool
+    requires sound { IsSoundInstance instance.now }
+    requires made { length instance.now.cells ≤ room.old.most }
+{
+    let mut pieces = Pieces::new(
+        b"proof 2\ncost 4\nbound 4\nshift H a. 1\npriced 2\nprice a 3 -3\nmult 2 1\nend\nbare",
+    );
+    gives(&mut pieces, instance, room, &GIVEN)
+        && holds(room, b"a.", 2, &[3, -3], &[Mult { cut: 2, value: 1 }])
+}
+
+fn reads_pieces(alloc: Global) -> Result<bool, Fail> {
+    let instance = sound(alloc, &GROUPED)?;
+    let mut room = CertRoom::for_instance(alloc, &instance)?;
+    Ok(are_read(&instance, &mut room))
+}
+
+#[test]
+fn pieces(rt: HostRuntime) -> Result<(), Fail> {
+    assert!(rt; reads_pieces(rt.alloc())?);
+    Ok(())
+}
+
+#[test]
+fn faults_of_pieces(rt: HostRuntime) -> Result<(), Fail> {
+    let said = fault_line(rt.alloc(), &ProofFault::from(PieceFault::TooLong))?;
+    assert!(rt; said.as_slice() == b"proof: the text is too long\n".as_slice());
+    Ok(())
+}
+
+// The text of the certificate that a text says.
+fn again(alloc: Global, instance: &Instance, text: &[u8]) -> Result<List<u8>, Fail>
+    requires { IsSoundInstance instance.now }
+{
+    let cert = read_cert(alloc, instance, text)?;
+    Ok(write_cert(alloc, instance, &cert)?)
+}
+
+// Whether the certificate that a text says is written as the same text.
+fn is_written_again(alloc: Global, parts: &Parts, text: &str) -> Result<bool, Fail> {
+    let instance = sound(alloc, parts)?;
+    let written = again(alloc, &instance, text.as_bytes())?;
+    Ok(written.as_slice() == text.as_bytes())
+}
+
+#[test]
+fn certificates_are_written(rt: HostRuntime) -> Result<(), Fail> {
+    assert!(rt; is_written_again(rt.alloc(), &PLAIN, SPLIT)?);
+    assert!(rt; is_written_again(rt.alloc(), &PLAIN, READ)?);
+    Ok(())
+}
+
+const GROUPED_TEXT: &'static str = "proof 2\ncost none\nbound none\nsplit 7 0 1 2 2 1 3
+price a 3 -3\nmult 2 1\nbare\npinned\nend\n";
+
+#[test]
+fn texts_of_groups_are_written(rt: HostRuntime) -> Result<(), Fail> {
+    assert!(rt; is_written_again(rt.alloc(), &GROUPED, GROUPED_TEXT)?);
+    Ok(())
+}
