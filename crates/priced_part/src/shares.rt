@@ -102,8 +102,8 @@ fn share_of(cut: &Cut, mult: i128) -> i128
     ensures within { Within (2 ^ 87) result }
 {
     match cut.side {
-        Side::Low => -(mult * i128::from(cut.b)),
-        Side::High => mult * i128::from(cut.b + 1),
+        Side::Low => -price_of(mult, cut.b),
+        Side::High => price_of(mult, cut.b + 1),
     }
 }
 

@@ -7,10 +7,7 @@ pub fn add(a: Option<i128>, b: Option<i128>) -> Option<i128>
     requires b { IfSome b (Within (2 ^ 111)) }
     ensures { result ≡ plus a b }
 {
-    match (a, b) {
-        (Some(x), Some(y)) => Some(x + y),
-        _ => None,
-    }
+    Some(a? + b?)
 }
 
 /// Returns the sum of a first part, its arc and the other parts, none where either sum is not there.
@@ -20,10 +17,9 @@ pub fn add_part(first: Option<i128>, arc: i128, rest: Option<i128>) -> Option<i1
     requires rest { IfSome rest (Within (2 ^ 110)) }
     ensures { result ≡ plus first (plus (Some arc) rest) }
 {
-    match (first, rest) {
-        (Some(x), Some(y)) => Some(x + (arc + y)),
-        _ => None,
-    }
+    let head = first?;
+    let tail = rest?;
+    Some(head + (arc + tail))
 }
 
 /// A least sum so far, and the number of what has it: a rule's number, or a first part's length.

@@ -1,5 +1,5 @@
 -- How many spans are short, and where the spans of a length stand.
-use Rattle.std.proofs.Common.{◌≡◌, ℕ, zero, suc, arith, ◌+◌, ◌-◌, ◌*◌, ◌<◌, ◌≤◌, ◌⊎◌, inl, inr, refl, ap}
+use Rattle.std.proofs.Common.{◌≡◌, ℕ, zero, suc, arith, ◌+◌, ◌-◌, ◌*◌, ◌/◌, ◌<◌, ◌≤◌, ◌⊎◌, inl, inr, refl, ap}
 use Rattle.std.proofs.Math.Nat.{mul-le-mul_right}
 use Rattle.roster_model.specs.Grammar.{InDay}
 use Rattle.span_forms.specs.Places.{shorter, place_of}
@@ -13,6 +13,10 @@ shorter-doubled (suc l) d n e =
     rw k (omega (arith, ih))
 
 -- one length more
+-- a day of n periods has n (n + 1) / 2 spans
+pub all-spans : (n : ℕ) → shorter n n ≡ n * (n + 1) / 2
+all-spans n = let twice = shorter-doubled n 0 n (omega arith) in omega (arith, twice)
+
 pub shorter-next : (n l : ℕ) → 1 ≤ l → shorter n l ≡ shorter n (l - 1) + (n + 1 - l)
 shorter-next n zero h = absurd (omega (arith, h))
 shorter-next n (suc l) h =

@@ -1,4 +1,4 @@
-ghost use Rattle.std.specs.Prelude.{◌≡◌, ◌≤◌, ◌<◌};
+ghost use Rattle.std.specs.Prelude.{◌≡◌, ◌≤◌, ◌<◌, ◌+◌, ◌*◌, ◌/◌};
 ghost use Rattle.roster_model.specs.Grammar.{InDay};
 ghost use Rattle.span_forms.specs.Places.{shorter, place_of};
 
@@ -40,7 +40,8 @@ impl SpanIndex {
 
     /// Returns how many spans there are, `n * (n + 1) / 2` for `n` periods.
     pub fn count(&self) -> usize
-        ensures { result ≡ shorter self.now self.now }
+        ensures spans { result ≡ shorter self.now self.now }
+        ensures sum { result ≡ self.now * (self.now + 1) / 2 }
     {
         let periods = self.periods as usize;
         shorter(periods, periods)

@@ -5,9 +5,9 @@ use Rattle.pinned_part.proofs.places.node_count.Goals as goal
 pub overflow_mul-result : goal.overflow_mul-result
 overflow_mul-result c =
     let few = few-nodes c.args.grammar.now c.requires in
-    rw (c.count.ensures, c.new.ensures, c.width.ensures.value) (omega (arith, few))
+    rw (c.count.ensures.spans, c.new.ensures, c.width.ensures.value) (omega (arith, few))
 
 pub returns-clause-within : goal.returns-clause-within
 returns-clause-within c =
     let few = few-nodes c.args.grammar.now c.requires in
-    rw (c.count.ensures, c.new.ensures, c.width.ensures.value) (omega (arith, few))
+    rw (c.count.ensures.spans, c.new.ensures, c.width.ensures.value) (omega (arith, few))

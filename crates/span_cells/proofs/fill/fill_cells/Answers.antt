@@ -23,6 +23,6 @@ returns-clause-made g c = c.loop-place.invariant.made
 
 pub returns-clause-filled : goal.returns-clause-filled
 returns-clause-filled g c =
-    let same : c.loop-place.place ≡ shorter c.args.layout.now.spans c.args.layout.now.spans = omega (arith, c.count-place-end.ensures) in
+    let same : c.loop-place.place ≡ shorter c.args.layout.now.spans c.args.layout.now.spans = omega (arith, c.count-place-end.ensures.spans) in
     right-all c.args.grammar.now (g.P.LetterPrice.view c.args.prices.now) c.args.layout.now c.requires.ready.layout (g.C.Cells.held c.loop-place.cells)
     (rw same at c.loop-place.invariant.before)

@@ -18,5 +18,5 @@ overflow_mul-result c =
     let spans : c.args.layout.now.spans ≡ c.args.grammar.now.periods = c.requires.layout.periods in
     let most : c.args.layout.now.spans ≤ 96 = omega (arith, spans, c.requires.sound.few_periods) in
     let width : c.len.result < 65536 = omega (arith, c.requires.layout.few) in
-    let few : c.count.result * c.len.result < 2 ^ 64 = few_cells c.args.layout.now.spans c.count.result c.len.result most c.count.ensures width in
+    let few : c.count.result * c.len.result < 2 ^ 64 = few_cells c.args.layout.now.spans c.count.result c.len.result most c.count.ensures.spans width in
     omega (arith, few)
