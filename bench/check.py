@@ -5,7 +5,7 @@ The program is crates/shift_tool/out/shift_tool, as `./roster` builds it. The lo
 of a day of 96 periods that is cut before its end, so it is read whole and refused; its first split is on
 no arc, so no value is computed. The nodes are those of a chain of splits on arcs of examples/g3.rules,
 a day of 24 periods and two activities, each leaf with prices of its own. Judging them is timed against as
-many fills of the table by crates/pricing_bench, as `rt run` builds it there, both without the time of a run
+many fills of the table by crates/bench_runs, as `rt run` builds it there, both without the time of a run
 with one; at most 1.5 is asked. Twice as many nodes should take twice the time. Prints the least processor
 time of each, and ratios.
 """
@@ -17,7 +17,7 @@ import tempfile
 
 TOP = pathlib.Path(__file__).resolve().parent.parent
 PROGRAM = TOP / "crates" / "shift_tool" / "out" / "shift_tool"
-FILLS = TOP / "crates" / "pricing_bench" / "out" / "pricing_bench"
+FILLS = TOP / "crates" / "bench_runs" / "out" / "bench_runs"
 RULES, DEMAND = TOP / "examples" / "g3.rules", TOP / "examples" / "g3.demand"
 TURNS = 5
 NODES = 1000
@@ -103,7 +103,7 @@ def main():
     if not PROGRAM.exists():
         sys.exit("run ./roster once: it builds the program")
     if not FILLS.exists():
-        sys.exit("run `rt run` in crates/pricing_bench: it builds the program")
+        sys.exit("run `rt run` in crates/bench_runs: it builds the program")
     with tempfile.TemporaryDirectory() as name:
         folder = pathlib.Path(name)
         long_day(folder)

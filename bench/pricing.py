@@ -5,7 +5,8 @@ On a call centre's day of 96 periods (examples/g3.rules with windows four times 
 graph against a fill of the table, at most a fifth of which is asked; and against the same pass in plain
 Rust (bench/pricing.rs by `rustc -O`), at most 1.3 times which is asked. On a day of 80 periods that is
 cut in every way (examples/g5.rules, 85,400 arcs) the building of the graph against one pass over it, at
-most 300 times which is asked. The program is crates/pricing_bench, as `rt run` builds it there; the time
+most 300 times which is asked, and a pass with prices on the arcs of 10, 100 and 1,000 cuts against one with
+none on arcs. The program is crates/bench_runs, as `rt run` builds it there; the time
 of a run that does the thing once is taken off. Sums that are printed for the same prices must agree.
 """
 import os
@@ -17,7 +18,7 @@ import tempfile
 from explain import longer
 
 TOP = pathlib.Path(__file__).resolve().parent.parent
-PROGRAM = TOP / "crates" / "pricing_bench" / "out" / "pricing_bench"
+PROGRAM = TOP / "crates" / "bench_runs" / "out" / "bench_runs"
 TURNS = 5
 
 
@@ -29,16 +30,16 @@ def seconds(words, given):
     return used.ru_utime, answer
 
 
-def each(words, given, times):
+def each(words, given, times, count=0):
     """The least time of doing it once more, and what was printed."""
-    once = min(seconds([*words, "1"], given)[0] for _ in range(TURNS))
-    runs = [seconds([*words, str(times + 1)], given) for _ in range(TURNS)]
+    once = min(seconds([*words, "1", str(count)], given)[0] for _ in range(TURNS))
+    runs = [seconds([*words, str(times + 1), str(count)], given) for _ in range(TURNS)]
     return (min(took for took, _ in runs) - once) / times, runs[0][1].strip()
 
 
 def main():
     if not PROGRAM.exists():
-        sys.exit("run `rt run` in crates/pricing_bench: it builds the program")
+        sys.exit("run `rt run` in crates/bench_runs: it builds the program")
     with tempfile.TemporaryDirectory() as name:
         folder = pathlib.Path(name)
         long = folder / "long.rules"
@@ -62,6 +63,9 @@ def main():
         build, arcs = each([PROGRAM, "build"], short, 5)
         once, _ = each([PROGRAM, "cheapest"], short, 200)
         print(f"{arcs} arcs: build {1e3 * build:.1f} ms, pass {1e3 * once:.2f} ms, ratio {build / once:.0f}")
+        for count in (10, 100, 1000):
+            paid, _ = each([PROGRAM, "mults"], short, 200, count)
+            print(f"pass with prices on {count} arcs: {1e3 * paid:.2f} ms, ratio {paid / once:.2f}")
 
 
 if __name__ == "__main__":

@@ -1,5 +1,5 @@
 //! The row step of crates/fraction in plain Rust, for the comparison of bench/row_step.py: the same
-//! functions, and the same program around them as in crates/row_step_bench.
+//! functions, and the same program around them as in crates/bench_runs.
 
 const WORD: u128 = u64::MAX as u128;
 

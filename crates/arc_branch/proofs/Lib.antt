@@ -1,5 +1,4 @@
-pub mod Places
-pub mod Sorting
-pub mod Costing
-pub mod Pathing
-pub mod Summing
+pub mod LowLemmas
+pub mod CostsLemmas
+pub mod PathsLemmas
+pub mod CountedLemmas

@@ -34,8 +34,8 @@ pub record IsBoxFor (i : Instance) (v : GraphView) (b : BoxView) : Type 0 where
 abbrev pub IsPinnedBox : BoxView → Type 0
 IsPinnedBox b = (p : ℕ) → p < length b.bounds → (bounds_at b.bounds p).high ≤ (bounds_at b.bounds p).low
 
--- the first arc to which the box leaves more than one count
-pub record IsFirstLoose (b : BoxView) (p : ℕ) : Type 0 where
+-- the first arc of the graph to which the box leaves more than one count
+pub record IsFirstOpen (b : BoxView) (p : ℕ) : Type 0 where
   pub within : p < length b.bounds
   pub loose : (bounds_at b.bounds p).low < (bounds_at b.bounds p).high
   pub first : (q : ℕ) → q < p → (bounds_at b.bounds q).high ≤ (bounds_at b.bounds q).low

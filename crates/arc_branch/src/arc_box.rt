@@ -7,7 +7,7 @@ ghost use Rattle.roster_model.specs.SoundInstance.{IsSoundInstance};
 ghost use Rattle.arc_laws.specs.Lists.{AreArcs};
 ghost use Rattle.bound_laws.specs.Pinned.{IsPinned, IsPinnedValue};
 ghost use Rattle.parse_graph.specs.Graphs.{GraphView, IsGraph};
-ghost use Rattle.arc_branch.specs.Boxes.{bounds_at, halved, IsBoxFor, IsPinnedBox, IsFirstLoose};
+ghost use Rattle.arc_branch.specs.Boxes.{bounds_at, halved, IsBoxFor, IsPinnedBox, IsFirstOpen};
 ghost use Rattle.arc_branch.specs.Costs.{low_of, IsCostOf, pinned_number};
 ghost use Rattle.arc_branch.specs.Paths.{IsBoxOf, WasBoxOf, IsLooseAt};
 
@@ -118,7 +118,7 @@ impl ArcBox {
     /// Returns the first arc to which the box leaves more than one count, `None` exactly where it is
     /// pinned.
     pub fn first_loose(&self) -> Option<u32>
-        ensures bounds { MatchOption result (IsPinnedBox self.now) (IsFirstLoose self.now) }
+        ensures bounds { MatchOption result (IsPinnedBox self.now) (IsFirstOpen self.now) }
         ensures path { (i : Day) (v : GraphView) (cuts : List Cut) → IsGraph i.grammar v → IsBoxOf i v cuts self.now → MatchOption result (IsPinned i cuts) (IsLooseAt i v cuts) }
     {
         let place = self

@@ -10,6 +10,3 @@ mod laws;
 pub use arc_box::ArcBox;
 pub use bounds::Bounds;
 pub use laws::cuts_elsewhere;
-
-#[cfg(test)]
-mod tests;

@@ -1,5 +1,4 @@
 pub mod AtNodes
-pub mod Sentinels
 pub mod Numbering
 pub mod Pricers
 pub mod Passes

@@ -1,11 +1,11 @@
 -- What a contract sees of a pricer, and what its values are.
-use Rattle.std.specs.Prelude.{ℕ, ℤ, pos, ◌≡◌, ◌+◌, ◌<◌, Option, None, Some, IsSome, OnSome, List, length, slice_get, slice_index, slice_index_or}
+use Rattle.std.specs.Prelude.{ℕ, ℤ, pos, ◌≡◌, ◌+◌, ◌<◌, Option, None, Some, OnSome, List, length, slice_get, slice_index, slice_index_or}
 use Rattle.roster_model.specs.declared.grammar.ArcKey.{ArcKey}
 use Rattle.roster_model.specs.declared.grammar.Grammar.{Grammar}
-use Rattle.roster_model.specs.Trees.{Parts, IsDayTree, steps}
-use Rattle.roster_model.specs.Sums.{PriceView, tree_sum, IsLeast}
+use Rattle.roster_model.specs.Sums.{PriceView, IsLeast}
 use Rattle.roster_model.specs.Room.{RoomView, most_uses}
 use Rattle.roster_model.specs.Sound.{IsSound}
+use Rattle.tree_laws.specs.LeastTrees.{HasDaySum}
 use Rattle.arc_laws.specs.OrNodes.{OrNode, made}
 use Rattle.parse_graph.specs.Graphs.{GraphView, IsGraph}
 use Rattle.parse_graph.specs.declared.kid.Kid.{Kid}
@@ -56,10 +56,6 @@ pub record IsMadeFor (v : GraphView) (w : PricerView) : Type 0 where
   pub slots : length w.values ≡ length v.nodes + 1 + length w.letters
   pub nodes : length w.best ≡ length v.nodes
 
--- the graph is that of a sound grammar
-abbrev pub HasGrammar : GraphView → Type 0
-HasGrammar v = (g : Grammar) × IsSound g × IsGraph g v
-
 -- the slots of nothing and of the letters have their prices, where there are so many nodes
 pub record ArePriced (p : PriceView) (letters : List Spot) (nodes : ℕ) (values : List (Option ℤ)) : Type 0 where
   pub nothing : value_at values nodes ≡ Some (pos 0)
@@ -83,17 +79,6 @@ pub record IsFilled (g : Grammar) (p : PriceView) (v : GraphView) (w : PricerVie
   pub priced : ArePriced p w.letters (length v.nodes) w.values
   pub nodes : (n : ℕ) (o : OrNode) → slice_get v.nodes n ≡ Some o → NodeLeast g p o (value_at w.values n)
   pub arcs : AreBest g p v w.values w.best
-
--- some tree of the day has a sum
-abbrev pub HasDaySum : Grammar → PriceView → Type 0
-HasDaySum g p = (t : Parts) × IsDayTree g t × IsSome (tree_sum p 1 t)
-
--- the room holds the steps of a tree of the day, and no tree of the day has a lesser sum
-pub record HoldsLeastTree (g : Grammar) (p : PriceView) (room : RoomView) : Type 0 where
-  pub tree : Parts
-  pub of_day : IsDayTree g tree
-  pub least : IsLeast (IsDayTree g) (tree_sum p 1) (tree_sum p 1 tree)
-  pub held : room.steps ≡ steps 1 tree
 
 -- what is asked for a tree of the day: the grammar's graph, the values of its nodes, a sum, and room
 pub record AsksTree (g : Grammar) (p : PriceView) (v : GraphView) (w : PricerView) (room : RoomView) : Type 0 where

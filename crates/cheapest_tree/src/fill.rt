@@ -2,16 +2,16 @@ ghost use Rattle.std.specs.Prelude.{◌≡◌, ◌<◌, ◌+◌, ◌^◌, IfSome
 ghost use Rattle.roster_model.specs.declared.grammar.Grammar.{Grammar as Rules};
 ghost use Rattle.roster_model.specs.Sound.{IsSound};
 ghost use Rattle.roster_model.specs.Sums.{Within};
-ghost use Rattle.parse_graph.specs.Graphs.{IsGraph};
+ghost use Rattle.parse_graph.specs.Graphs.{HasGrammar, IsGraph};
 ghost use Rattle.cheapest_tree.specs.AtNodes.{arc_total};
-ghost use Rattle.cheapest_tree.specs.Pricers.{HasGrammar, IsMadeFor, IsFilled};
+ghost use Rattle.cheapest_tree.specs.Pricers.{IsMadeFor, IsFilled};
 ghost use Rattle.cheapest_tree.specs.Passes.{AreBegun};
 
-use crate::cell::Cell;
 use crate::slots::{Links, Spot};
 use crate::sums::{self, Choice};
 use parse_graph::Graph;
 use roster_model::{ArcKey, LetterPrice};
+use span_cells::Cell;
 
 /// Returns the sum of an arc of the sums of its first part and of what follows it, none where either
 /// is not there. The arc of a whole right side pays for its rule.

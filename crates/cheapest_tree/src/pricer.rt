@@ -1,18 +1,19 @@
-ghost use Rattle.std.specs.Prelude.{◌≡◌, IfOk};
+ghost use Rattle.std.specs.Prelude.{◌≡◌, ◌+◌, IfOk, length};
 ghost use Rattle.roster_model.specs.declared.grammar.Grammar.{Grammar as Rules};
 ghost use Rattle.roster_model.specs.Sound.{IsSound};
 ghost use Rattle.roster_model.specs.Trees.{IsDayTree};
 ghost use Rattle.roster_model.specs.Sums.{IsLeast, tree_sum};
-ghost use Rattle.parse_graph.specs.Graphs.{GraphView, IsGraph};
-ghost use Rattle.cheapest_tree.specs.Pricers.{HasGrammar, IsMadeFor, IsFilled, AsksTree, HoldsLeastTree};
+ghost use Rattle.tree_laws.specs.LeastTrees.{HoldsLeastTree};
+ghost use Rattle.parse_graph.specs.Graphs.{GraphView, HasGrammar, IsGraph};
+ghost use Rattle.cheapest_tree.specs.Pricers.{IsMadeFor, IsFilled, AsksTree};
 
-use crate::cell::Cell;
 use crate::fill::fill;
-use crate::letters::Letters;
+use crate::join::join;
 use crate::slots::{Links, Spot};
 use crate::walk::write_node;
 use parse_graph::Graph;
 use roster_model::{LetterPrice, List, Memory, TreeRoom};
+use span_cells::Cell;
 use std::alloc::Global;
 use std::marker::Model;
 
@@ -37,6 +38,28 @@ impl Model for Pricer {
     ghost view = { λ s. record { links = s.links; letters = s.letters; values = s.values.items; best = s.best.items } };
 }
 
+// Empty cells for the slots, and a best arc for each node.
+#[derive(Drop)]
+struct Values {
+    sums: Vec<Cell>,
+    best: Vec<u32>,
+}
+
+// Takes the memory for the values of so many nodes, of nothing and of the letters.
+fn values_of(alloc: Global, nodes: u32, letters: &[Spot]) -> Result<Values, Memory>
+    ensures sums { IfOk result (λ v. length v.sums.items ≡ nodes + 1 + length letters.now) }
+    ensures best { IfOk result (λ v. length v.best.items ≡ nodes) }
+{
+    let count = nodes as usize + 1 + letters.len();
+    let Ok(sums) = vec![in alloc; Cell::new(None); count] else {
+        return Err(Memory);
+    };
+    let Ok(best) = vec![in alloc; 0; nodes as usize] else {
+        return Err(Memory);
+    };
+    Ok(Values { sums, best })
+}
+
 impl Pricer {
     /// Returns a pricer for the trees of a graph. Later calls take the same graph.
     ///
@@ -45,30 +68,13 @@ impl Pricer {
     pub fn new(alloc: Global, graph: &Graph) -> Result<Pricer, Memory>
         ensures { IfOk result (IsMadeFor graph.now) }
     {
-        let nodes = graph.nodes();
-        let arcs = graph.arcs().len();
-        let mut letters = Letters::new(alloc)?;
-        let mut links = Links::with_capacity(alloc, arcs)?;
-        for place in 0..arcs {
-            let arc = place as u32;
-            let (first, rest) = graph.children(arc);
-            let first_slot = letters.slot(first, nodes)?;
-            let rest_slot = letters.slot(rest, nodes)?;
-            links.push(graph.made_by(arc), first_slot, rest_slot)?;
-        }
-        let letters = letters.into_list();
-        let count = nodes as usize + 1 + letters.len();
-        let Ok(values) = vec![in alloc; Cell::new(None); count] else {
-            return Err(Memory);
-        };
-        let Ok(best) = vec![in alloc; 0; nodes as usize] else {
-            return Err(Memory);
-        };
+        let joined = join(alloc, graph)?;
+        let values = values_of(alloc, graph.nodes(), joined.letters.as_slice())?;
         Ok(Pricer {
-            links,
-            letters,
-            values,
-            best,
+            links: joined.links,
+            letters: joined.letters,
+            values: values.sums,
+            best: values.best,
         })
     }
 

@@ -1,7 +1,6 @@
-pub mod Pushing
-pub mod Itemizing
-pub mod Ordering
-pub mod Splitting
-pub mod Turning
-pub mod Returning
-pub mod Telling
+pub mod ItemsLemmas
+pub mod OrderLemmas
+pub mod PartsLemmas
+pub mod ToItemsLemmas
+pub mod ToTreeLemmas
+pub mod ListsLemmas

@@ -9,8 +9,6 @@ mod normal;
 mod order;
 mod rules;
 mod suffix;
-#[cfg(test)]
-mod tests;
 mod to_items;
 mod to_tree;
 

@@ -5,6 +5,7 @@ use Rattle.roster_model.specs.declared.grammar.Grammar.{Grammar}
 use Rattle.roster_model.specs.Trees.{Parts, IsDayTree}
 use Rattle.roster_model.specs.Folds.{In}
 use Rattle.roster_model.specs.Arcs.{IsArc}
+use Rattle.roster_model.specs.Sound.{IsSound}
 use Rattle.arc_laws.specs.OrNodes.{OrNode, name, suffix, leaf, same_node, made, used, root_of}
 use Rattle.arc_laws.specs.Lists.{AreArcs}
 use Rattle.parse_graph.specs.declared.fault.GraphFault.{GraphFault}
@@ -79,6 +80,10 @@ pub record IsGraph (g : Grammar) (v : GraphView) : Type 0 where
   pub makers : (n : ℕ) (o : OrNode) → slice_get v.nodes n ≡ Some o → slice_get v.makers n ≡ Some (places (λ a. same_node o (made g a)) v.arcs)
   pub users : (n : ℕ) (o : OrNode) → slice_get v.nodes n ≡ Some o → slice_get v.users n ≡ Some (places (λ a. is_among o (used g a)) v.arcs)
   pub root : IsRoot g v.nodes v.root
+
+-- the graph is that of a sound grammar
+abbrev pub HasGrammar : GraphView → Type 0
+HasGrammar v = (g : Grammar) × IsSound g × IsGraph g v
 
 -- no graph is built: the instance has this many arcs, more than 100,000, or memory ran out
 abbrev pub IsRefused : Grammar → GraphFault → Type 0

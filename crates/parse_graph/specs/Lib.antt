@@ -1,7 +1,7 @@
-pub mod Shapes
 pub mod Graphs
 pub mod Nodes
-pub mod Walks
+pub mod Listed
 pub mod Levels
 pub mod Lists
 pub mod Linked
+pub mod Joined

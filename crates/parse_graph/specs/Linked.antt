@@ -57,4 +57,5 @@ pub record AreLinked (g : Grammar) (arcs : List ArcKey) (listed : List OrNode) (
   pub few_users : length used_entries ≤ 2 * length arcs
 
 abbrev pub IsLinked : Grammar → List ArcKey → Links → Type 0
-IsLinked g arcs l = AreLinked g arcs (map or_node l.nodes.keys) l.made_by l.first l.rest l.makers l.users
+IsLinked g arcs l =
+    AreLinked g arcs (map or_node l.nodes.keys) l.arcs.made_by l.arcs.first l.arcs.rest l.entries.makers l.entries.users

@@ -1,21 +1,20 @@
-ghost use Rattle.std.specs.Prelude.{◌≡◌, ◌≤◌, ◌<◌, Some, IfOk, IfErr, IfSome, IfNone, All, length, slice_get};
+ghost use Rattle.std.specs.Prelude.{◌≡◌, ◌≤◌, ◌<◌, Some, IfOk, IfErr, IfSome, IfNone, length, slice_get};
 ghost use Rattle.roster_model.specs.Sound.{IsSound};
 ghost use Rattle.roster_model.specs.Folds.{In};
-ghost use Rattle.grammar_core.specs.Items.{IsNormal};
-ghost use Rattle.parse_graph.specs.Graphs.{HasArcs, IsGraph, IsRefused};
-ghost use Rattle.parse_graph.specs.Levels.{AreInOrder};
-ghost use Rattle.parse_graph.specs.Shapes.{IsShaped};
+ghost use Rattle.grammar_core.specs.Items.{IsNormal, IsOrder};
+ghost use Rattle.parse_graph.specs.Graphs.{IsGraph, IsRefused};
+ghost use Rattle.parse_graph.specs.Levels.{IsUpward};
+ghost use Rattle.parse_graph.specs.Listed.{AreListed};
 
 use crate::fault::GraphFault;
+use crate::joints::{NodeLists, join};
 use crate::kid::Kid;
 use crate::level::{Upward, sort_upward};
-use crate::links::{Links, link, nodes_of, root_of};
-use crate::node::NodeKey;
-use crate::rows::Rows;
+use crate::links::ArcLinks;
 use crate::search::search;
-use crate::walk::{count_arcs, list_arcs};
+use crate::walk::list_arcs;
 use grammar_core::Normal;
-use roster_model::{ArcKey, Grammar, List, Memory};
+use roster_model::{ArcKey, Grammar, List};
 use span_arcs::DayArcs;
 use std::alloc::Global;
 use std::marker::Model;
@@ -26,69 +25,45 @@ use std::marker::Model;
 /// from 0.
 #[derive(Drop)]
 pub struct Graph {
-    arcs: List<ArcKey>,
-    // Where the arcs stand in `arcs`, in their order.
-    places: List<u32>,
-    nodes: List<NodeKey>,
-    made_by: List<u32>,
-    // The first part of each arc.
-    first: List<Kid>,
-    // What follows the first part of each arc.
-    rest: List<Kid>,
-    makers: Rows,
-    users: Rows,
+    arcs: Upward,
+    links: ArcLinks,
+    nodes: NodeLists,
     root: Option<u32>,
 }
 
 impl Model for Graph {
-    ghost use Rattle.std.specs.Prelude.{◌≡◌, ◌≤◌, length, map};
+    ghost use Rattle.std.specs.Prelude.{◌≤◌, length};
     ghost use Rattle.parse_graph.specs.Graphs.{GraphView};
     ghost use Rattle.parse_graph.specs.Levels.{AreInOrder};
-    ghost use Rattle.parse_graph.specs.Nodes.{or_node};
+    ghost use Rattle.parse_graph.specs.Joined.{view_of, HaveLengths};
 
     ghost Value = { GraphView };
 
-    ghost view = { λ s. record { arcs = s.arcs; nodes = map or_node s.nodes; made_by = s.made_by; first = s.first; rest = s.rest; makers = s.makers; users = s.users; root = s.root } };
+    ghost view = { λ s. view_of s.arcs.arcs (record { links = s.links; nodes = s.nodes; root = s.root }) };
 
-    ghost invariant = { λ s. AreInOrder s.arcs s.places × (length s.arcs ≤ 100000) × (length s.nodes ≤ 100000)
-        × (length s.made_by ≡ length s.arcs) × (length s.first ≡ length s.arcs) × (length s.rest ≡ length s.arcs)
-        × (length s.makers ≡ length s.nodes) × (length s.users ≡ length s.nodes) };
+    ghost invariant = { λ s. AreInOrder s.arcs.arcs s.arcs.places × (length s.arcs.arcs ≤ 100000)
+        × HaveLengths s.arcs.arcs (record { links = s.links; nodes = s.nodes; root = s.root }) };
 }
 
-// The graph of the arcs of the instance.
-fn join(alloc: Global, grammar: &Grammar, sorted: Upward) -> Result<Graph, Memory>
-    requires sound { IsSound grammar.now }
-    requires arcs { HasArcs grammar.now sorted.arcs }
-    requires places { AreInOrder sorted.arcs sorted.places }
-    requires shaped { All (IsShaped grammar.now) sorted.arcs }
-    requires few { length sorted.arcs ≤ 100000 }
-    ensures { IfOk result (IsGraph grammar.now) }
+// The arcs of the instance in their order, where they are few. What tells them is given back.
+fn listed(alloc: Global, grammar: &Grammar) -> Result<List<ArcKey>, GraphFault>
+    requires { IsSound grammar.now }
+    ensures listed { IfOk result (AreListed grammar.now) }
+    ensures refused { IfErr result (IsRefused grammar.now) }
 {
-    let Upward { arcs, places } = sorted;
-    let links = link(alloc, grammar, arcs.as_slice())?;
-    let Links {
-        nodes,
-        made_by,
-        first,
-        rest,
-        makers,
-        users,
-    } = links;
-    let root = root_of(grammar, &nodes);
-    let nodes = nodes_of(alloc, &nodes)?;
-    let makers = Rows::new(alloc, nodes.len(), makers.as_slice())?;
-    let users = Rows::new(alloc, nodes.len(), users.as_slice())?;
-    Ok(Graph {
-        arcs,
-        places,
-        nodes,
-        made_by,
-        first,
-        rest,
-        makers,
-        users,
-        root,
-    })
+    let day = DayArcs::for_instance(alloc, grammar)?;
+    list_arcs(alloc, grammar, &day)
+}
+
+// The arcs of the instance, each after all arcs that make what it uses, where they are few.
+fn sorted(alloc: Global, grammar: &Grammar, order: &[u8]) -> Result<Upward, GraphFault>
+    requires sound { IsSound grammar.now }
+    requires order { IsOrder grammar.now order.now }
+    ensures upward { IfOk result (IsUpward grammar.now) }
+    ensures refused { IfErr result (IsRefused grammar.now) }
+{
+    let listed = listed(alloc, grammar)?;
+    Ok(sort_upward(alloc, grammar, order, listed.as_slice())?)
 }
 
 impl Graph {
@@ -104,14 +79,14 @@ impl Graph {
         ensures graph { IfOk result (IsGraph grammar.now) }
         ensures refused { IfErr result (IsRefused grammar.now) }
     {
-        let day = DayArcs::for_instance(alloc, grammar)?;
-        let count = count_arcs(grammar, &day);
-        if 100_000 < count {
-            return Err(GraphFault::TooManyArcs { count });
-        }
-        let listed = list_arcs(alloc, grammar, &day)?;
-        let sorted = sort_upward(alloc, grammar, normal.order.as_slice(), listed.as_slice())?;
-        Ok(join(alloc, grammar, sorted)?)
+        let arcs = sorted(alloc, grammar, normal.order.as_slice())?;
+        let joints = join(alloc, grammar, arcs.arcs.as_slice())?;
+        Ok(Graph {
+            arcs,
+            links: joints.links,
+            nodes: joints.nodes,
+            root: joints.root,
+        })
     }
 
     /// Returns all arcs of the instance, each once; an arc stands after all arcs that make what it
@@ -120,7 +95,7 @@ impl Graph {
         ensures arcs { result.now ≡ self.now.arcs }
         ensures few { length result.now ≤ 100000 }
     {
-        self.arcs.as_slice()
+        self.arcs.arcs.as_slice()
     }
 
     /// Returns how many nodes there are.
@@ -128,7 +103,7 @@ impl Graph {
         ensures nodes { result ≡ length self.now.nodes }
         ensures few { result ≤ 100000 }
     {
-        self.nodes.len() as u32
+        self.nodes.keys.len() as u32
     }
 
     /// Returns the node of the start name on the whole day; `None` exactly where the day has no
@@ -144,7 +119,7 @@ impl Graph {
         requires { node < length self.now.nodes }
         ensures { slice_get self.now.makers node ≡ Some result.now }
     {
-        self.makers.row(node)
+        self.nodes.makers.row(node)
     }
 
     /// Returns the arcs that use a node, by rising numbers.
@@ -152,7 +127,7 @@ impl Graph {
         requires { node < length self.now.nodes }
         ensures { slice_get self.now.users node ≡ Some result.now }
     {
-        self.users.row(node)
+        self.nodes.users.row(node)
     }
 
     /// Returns the node that an arc makes.
@@ -160,7 +135,7 @@ impl Graph {
         requires { arc < length self.now.arcs }
         ensures { slice_get self.now.made_by arc ≡ Some result }
     {
-        self.made_by.as_slice()[arc as usize]
+        self.links.made_by.as_slice()[arc as usize]
     }
 
     /// Returns what is below an arc: its first part, and what follows that part.
@@ -169,8 +144,8 @@ impl Graph {
         ensures first { slice_get self.now.first arc ≡ Some result.0 }
         ensures rest { slice_get self.now.rest arc ≡ Some result.1 }
     {
-        let first = self.first.as_slice()[arc as usize];
-        let rest = self.rest.as_slice()[arc as usize];
+        let first = self.links.first.as_slice()[arc as usize];
+        let rest = self.links.rest.as_slice()[arc as usize];
         (first, rest)
     }
 
@@ -179,6 +154,6 @@ impl Graph {
         ensures found { IfSome result (λ p. slice_get self.now.arcs p ≡ Some arc.now) }
         ensures none { IfNone result (In arc.now self.now.arcs → ⊥) }
     {
-        search(self.arcs.as_slice(), self.places.as_slice(), arc)
+        search(self.arcs.arcs.as_slice(), self.arcs.places.as_slice(), arc)
     }
 }

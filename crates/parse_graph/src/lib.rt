@@ -3,14 +3,13 @@
 
 mod fault;
 mod graph;
+mod joints;
 mod kid;
 mod level;
 mod links;
 mod node;
 mod rows;
 mod search;
-#[cfg(test)]
-mod tests;
 mod walk;
 
 pub use fault::GraphFault;

@@ -5,7 +5,7 @@ ghost use Rattle.arc_laws.specs.OrNodes.{made, used, symbol_node, root_of};
 ghost use Rattle.std.specs.Prelude.{List as Items};
 ghost use Rattle.parse_graph.specs.Graphs.{HasArcs, IsKid, AreKids};
 ghost use Rattle.parse_graph.specs.Nodes.{or_node};
-ghost use Rattle.parse_graph.specs.Shapes.{IsShaped};
+ghost use Rattle.span_arcs.specs.Shapes.{IsShaped};
 ghost use Rattle.parse_graph.specs.Linked.{IsListed, UsesListed, AddsNode, uses_of, IsLinked, IsPlaceOf};
 
 use crate::kid::Kid;
@@ -16,21 +16,33 @@ use indexmap::IndexSet;
 use roster_model::{ArcKey, Grammar, List, Memory, Sym};
 use std::alloc::Global;
 
-/// The nodes that some arcs make, and what each of these arcs makes and uses.
+/// What each of some arcs makes and uses.
 #[derive(Drop)]
-pub struct Links {
-    /// The nodes by their numbers.
-    pub nodes: IndexSet<NodeKey>,
+pub struct ArcLinks {
     /// For each arc the node that it makes.
     pub made_by: List<u32>,
     /// For each arc its first part.
     pub first: List<Kid>,
     /// For each arc what follows its first part.
     pub rest: List<Kid>,
+}
+
+/// The arcs that make nodes and use them.
+#[derive(Drop)]
+pub struct Entries {
     /// For each arc the node that it makes and the arc.
     pub makers: List<Entry>,
     /// For each use of a node the node and the arc that uses it.
     pub users: List<Entry>,
+}
+
+/// The nodes that some arcs make, and what each of these arcs makes and uses.
+#[derive(Drop)]
+pub struct Links {
+    /// The nodes by their numbers.
+    pub nodes: IndexSet<NodeKey>,
+    pub arcs: ArcLinks,
+    pub entries: Entries,
 }
 
 // The node that an arc makes.
@@ -132,18 +144,56 @@ fn add_use(users: &mut List<Entry>, kid: Kid, arc: u32) -> Result<(), Memory>
     }
 }
 
+impl ArcLinks {
+    // Adds an arc's node and its kids.
+    fn push(&mut self, made: u32, kids: (Kid, Kid)) -> Result<(), Memory>
+        ensures { OnOk result (self.new ≡ record {
+          made_by = self.old.made_by ++ made ∷ [];
+          first = self.old.first ++ kids.0 ∷ [];
+          rest = self.old.rest ++ kids.1 ∷ [];
+        }) }
+    {
+        self.made_by.push(made)?;
+        self.first.push(kids.0)?;
+        self.rest.push(kids.1)
+    }
+}
+
+impl Entries {
+    // Adds an arc to the makers of its node and to the users of its kids.
+    fn push(&mut self, arc: u32, made: u32, kids: (Kid, Kid)) -> Result<(), Memory>
+        ensures { OnOk result (self.new ≡ record {
+          makers = self.old.makers ++ record { row = made; item = arc } ∷ [];
+          users = (self.old.users ++ uses_of kids.0 arc) ++ uses_of kids.1 arc;
+        }) }
+    {
+        self.makers.push(Entry {
+            row: made,
+            item: arc,
+        })?;
+        add_use(&mut self.users, kids.0, arc)?;
+        add_use(&mut self.users, kids.1, arc)
+    }
+}
+
 impl Links {
     // No arcs and no nodes.
     fn new(alloc: Global) -> Links
-        ensures { (result.nodes.keys ≡ []) × (result.made_by ≡ []) × (result.first ≡ []) × (result.rest ≡ []) × (result.makers ≡ []) × (result.users ≡ []) }
+        ensures nodes { result.nodes.keys ≡ [] }
+        ensures arcs { result.arcs ≡ record { made_by = []; first = []; rest = [] } }
+        ensures entries { result.entries ≡ record { makers = []; users = [] } }
     {
         Links {
             nodes: IndexSet::new(alloc),
-            made_by: List::new(alloc),
-            first: List::new(alloc),
-            rest: List::new(alloc),
-            makers: List::new(alloc),
-            users: List::new(alloc),
+            arcs: ArcLinks {
+                made_by: List::new(alloc),
+                first: List::new(alloc),
+                rest: List::new(alloc),
+            },
+            entries: Entries {
+                makers: List::new(alloc),
+                users: List::new(alloc),
+            },
         }
     }
 
@@ -153,21 +203,15 @@ impl Links {
         requires shaped { IsShaped grammar.now arc.now }
         requires uses { UsesListed grammar.now (map or_node self.old.nodes.keys) arc.now }
         requires few { length self.old.nodes.keys < 100000 }
-        requires numbers { length self.old.made_by < 100000 }
-        ensures { OnOk result ((arcs : Items Arc) → IsLinked grammar.now arcs self.old → IsLinked grammar.now (arcs ++ arc.now ∷ []) self.new) }
+        requires numbers { length self.old.arcs.made_by < 100000 }
+        ensures { OnOk result ((arcs : Items Arc) → IsLinked grammar.now arcs self.old
+            → IsLinked grammar.now (arcs ++ arc.now ∷ []) self.new) }
     {
-        let number = self.made_by.len() as u32;
-        let (first, rest) = kids_of(grammar, &self.nodes, arc);
+        let number = self.arcs.made_by.len() as u32;
+        let kids = kids_of(grammar, &self.nodes, arc);
         let made = number_of(&mut self.nodes, made_key(grammar, arc))?;
-        self.made_by.push(made)?;
-        self.first.push(first)?;
-        self.rest.push(rest)?;
-        self.makers.push(Entry {
-            row: made,
-            item: number,
-        })?;
-        add_use(&mut self.users, first, number)?;
-        add_use(&mut self.users, rest, number)?;
+        self.arcs.push(made, kids)?;
+        self.entries.push(number, made, kids)?;
         Ok(())
     }
 }

@@ -1,21 +1,26 @@
-ghost use Rattle.std.specs.Prelude.{IfOk};
+ghost use Rattle.std.specs.Prelude.{◌≡◌, ◌≤◌, IfOk, IfErr, length, List as Items};
+ghost use Rattle.roster_model.specs.declared.grammar.ArcKey.{ArcKey as Arc};
 ghost use Rattle.roster_model.specs.Sound.{IsSound};
-ghost use Rattle.arc_laws.specs.Lists.{AreArcs};
+ghost use Rattle.span_arcs.specs.Ahead.{IsPassed};
 ghost use Rattle.span_arcs.specs.DayArcs.{IsDayArcsOf};
-ghost use Rattle.parse_graph.specs.Walks.{IsArcCount};
+ghost use Rattle.parse_graph.specs.Graphs.{IsRefused};
+ghost use Rattle.parse_graph.specs.Listed.{IsArcCount, AreListed};
 
-use roster_model::{ArcKey, Grammar, List, Memory};
+use crate::fault::GraphFault;
+use roster_model::{ArcKey, Grammar, List};
 use span_arcs::DayArcs;
 use std::alloc::Global;
 
-/// Returns how many arcs the instance has.
-pub fn count_arcs(grammar: &Grammar, day: &DayArcs) -> u64
+// Returns how many arcs the instance has, so many of which come before the next one.
+fn count_arcs(grammar: &Grammar, day: &DayArcs, passed: u64, first: Option<ArcKey>) -> u64
     requires sound { IsSound grammar.now }
-    requires arcs { IsDayArcsOf grammar.now day.now }
-    ensures { IsArcCount grammar.now result }
+    requires day { IsDayArcsOf grammar.now day.now }
+    requires passed { (listed : Items Arc) × IsPassed grammar.now listed first × (passed ≡ length listed) }
+    ensures count { IsArcCount grammar.now result }
+    ensures more { passed ≤ result }
 {
-    let mut count = 0;
-    let mut next = day.next_arc(grammar, None);
+    let mut count = passed;
+    let mut next = first;
     while let Some(arc) = next {
         count += 1;
         next = day.next_arc(grammar, Some(arc));
@@ -23,17 +28,26 @@ pub fn count_arcs(grammar: &Grammar, day: &DayArcs) -> u64
     count
 }
 
-/// Returns the arcs of the instance in their order.
-pub fn list_arcs(alloc: Global, grammar: &Grammar, day: &DayArcs) -> Result<List<ArcKey>, Memory>
+/// Returns the arcs of the instance in their order, where they are at most 100,000.
+pub fn list_arcs(
+    alloc: Global,
+    grammar: &Grammar,
+    day: &DayArcs,
+) -> Result<List<ArcKey>, GraphFault>
     requires sound { IsSound grammar.now }
-    requires arcs { IsDayArcsOf grammar.now day.now }
-    ensures { IfOk result (AreArcs grammar.now) }
+    requires day { IsDayArcsOf grammar.now day.now }
+    ensures listed { IfOk result (AreListed grammar.now) }
+    ensures refused { IfErr result (IsRefused grammar.now) }
 {
     let mut arcs = List::new(alloc);
     let mut next = day.next_arc(grammar, None);
     while let Some(arc) = next {
         arcs.push(arc)?;
         next = day.next_arc(grammar, Some(arc));
+        if arcs.len() > 100_000 {
+            let count = count_arcs(grammar, day, 100_001, next);
+            return Err(GraphFault::TooManyArcs { count });
+        }
     }
     Ok(arcs)
 }

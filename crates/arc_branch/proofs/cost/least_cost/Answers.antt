@@ -4,7 +4,7 @@ use Rattle.roster_model.specs.Folds.{sum_n}
 use Rattle.arc_laws.specs.Counts.{top_cost}
 use Rattle.pinned_part.specs.Net.{IsNet}
 use Rattle.arc_branch.specs.Costs.{low_of}
-use Rattle.arc_branch.proofs.Costing.{cost-some, cost-none}
+use Rattle.arc_branch.proofs.CostsLemmas.{cost-some, cost-none}
 use Rattle.arc_branch.proofs.cost.least_cost.Goals as goal
 
 pub returns-in-Some : goal.returns-in-Some

@@ -8,8 +8,8 @@ use Rattle.cheapest_tree.specs.AtNodes.{arc_total}
 use Rattle.cheapest_tree.specs.Pricers.{value_at, IsLink, AreBest}
 use Rattle.cheapest_tree.specs.declared.sums.Choice.{Choice}
 use Rattle.cheapest_tree.specs.Passes.{AreLeastBefore}
-use Rattle.cheapest_tree.proofs.Passing.{pass-ends}
-use Rattle.cheapest_tree.proofs.Linking.{value-read, priced-kept, link-read, link-made, link-next, best-next, link-small, link-lesser, link-inside}
+use Rattle.cheapest_tree.proofs.PassesLemmas.{pass-ends}
+use Rattle.cheapest_tree.proofs.LinksLemmas.{value-read, priced-kept, link-read, link-made, link-next, best-next, link-small, link-lesser, link-inside}
 use Rattle.cheapest_tree.proofs.fill.fill.Goals as goal
 
 pub bounds-values-first_slots : goal.bounds-values-first_slots

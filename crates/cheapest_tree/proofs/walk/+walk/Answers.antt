@@ -2,7 +2,7 @@ use Rattle.std.proofs.Common.{arith, ◌≡◌, ◌<◌, ℕ, length, get_or, ap
 use Rattle.std.specs.Prelude.{slice_get, slice_index}
 use Rattle.roster_model.specs.declared.grammar.ArcKey.{ArcKey}
 use Rattle.cheapest_tree.specs.Walks.{steps_of, slot_left}
-use Rattle.cheapest_tree.proofs.Walking.{chosen, arc-inside, key-read, links-count, step-room, asks-first, asks-rest, writes-node, falls-first, falls-rest}
+use Rattle.cheapest_tree.proofs.WalksLemmas.{chosen, arc-inside, key-read, links-count, step-room, asks-first, asks-rest, writes-node, falls-first, falls-rest}
 use Rattle.cheapest_tree.proofs.walk.+walk.Goals as goal
 
 pub write_node-bounds-as_slice-arc : goal.write_node-bounds-as_slice-arc

@@ -1,6 +1,6 @@
 use Rattle.std.proofs.Common.{◌+◌, length}
 use Rattle.grammar_core.specs.Adding.{IsItemOf}
-use Rattle.grammar_core.proofs.Itemizing.{adds-init, adds-next}
+use Rattle.grammar_core.proofs.ItemsLemmas.{adds-init, adds-next}
 use Rattle.grammar_core.proofs.items.add_items.Goals as goal
 
 pub loop-suffix-init : goal.loop-suffix-init

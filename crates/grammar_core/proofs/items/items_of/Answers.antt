@@ -2,7 +2,7 @@ use Rattle.std.proofs.Common.{ℕ, ◌≡◌, ◌+◌, ◌≤◌, length, arith,
 use Rattle.tree_laws.proofs.Rules.{sound-rule}
 use Rattle.grammar_core.specs.Items.{item_count}
 use Rattle.grammar_core.specs.Adding.{AddsItems, ItemsOfFirst}
-use Rattle.grammar_core.proofs.Itemizing.{rules-init, rules-next, all-rules}
+use Rattle.grammar_core.proofs.ItemsLemmas.{rules-init, rules-next, all-rules}
 use Rattle.grammar_core.proofs.items.items_of.Goals as goal
 
 pub loop-index-init : goal.loop-index-init

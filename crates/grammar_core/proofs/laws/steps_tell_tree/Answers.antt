@@ -1,4 +1,4 @@
-use Rattle.grammar_core.proofs.Telling.{steps_tell}
+use Rattle.grammar_core.proofs.ListsLemmas.{steps_tell}
 use Rattle.grammar_core.proofs.laws.steps_tell_tree.Goals as goal
 
 pub returns : goal.returns

@@ -1,6 +1,6 @@
 use Rattle.std.proofs.Common.{arith, ◌≡◌, ◌<◌, ◌∙◌, ℕ, subst}
 use Rattle.grammar_core.specs.Adding.{AreOrdered, IsPlaced}
-use Rattle.grammar_core.proofs.Ordering.{rank-taken, rank-passed}
+use Rattle.grammar_core.proofs.OrderLemmas.{rank-taken, rank-passed}
 use Rattle.grammar_core.proofs.order.add_rank.Goals as goal
 use Rattle.grammar_core.proofs.order.add_rank.Goals.{then-ranks-name+in_ok-push, else-ranks-name}
 

@@ -1,5 +1,5 @@
 use Rattle.std.proofs.Common.{arith, ◌≡◌, ◌+◌, ◌-◌, ℕ, subst}
-use Rattle.grammar_core.proofs.Ordering.{order-init, turn-begins, turn-ends}
+use Rattle.grammar_core.proofs.OrderLemmas.{order-init, turn-begins, turn-ends}
 use Rattle.grammar_core.specs.Adding.{IsDone, AreOrdered}
 use Rattle.grammar_core.proofs.order.add_ranks.Goals as goal
 

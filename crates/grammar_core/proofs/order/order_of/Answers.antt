@@ -2,7 +2,8 @@ use Rattle.std.proofs.Common.{ℕ, length, subst, arith}
 use Rattle.std.specs.Prelude.{slice_index}
 use Rattle.roster_model.proofs.StepRules.{no_cycle}
 use Rattle.grammar_core.specs.Adding.{IsDone, AreOrdered}
-use Rattle.grammar_core.proofs.Ordering.{rank-below, all-names}
+use Rattle.grammar_core.proofs.OrderLemmas.{all-names}
+use Rattle.tree_laws.proofs.Ranks.{rank-below}
 use Rattle.grammar_core.proofs.order.order_of.Goals as goal
 
 pub unreachable-requires : goal.unreachable-requires

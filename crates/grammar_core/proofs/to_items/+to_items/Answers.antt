@@ -8,7 +8,7 @@ use Rattle.roster_model.specs.Trees.{steps}
 use Rattle.tree_laws.specs.Laws.{arc_at}
 use Rattle.grammar_core.specs.declared.suffix.Suffix.{Suffix}
 use Rattle.grammar_core.specs.Walks.{AsksTree, TurnsParts, next_len, own_arcs, tree_measure, steps_measure}
-use Rattle.grammar_core.proofs.Turning.{steps-asks_tree, steps-asks_parts, steps-part_within, from_below, steps-fewer, steps-turned, use-asks, after}
+use Rattle.grammar_core.proofs.ToItemsLemmas.{steps-asks_tree, steps-asks_parts, steps-part_within, from_below, steps-fewer, steps-turned, use-asks, after}
 use Rattle.grammar_core.proofs.to_items.+to_items.Goals as goal
 
 pub add_parts-add_tree-requires : goal.add_parts-add_tree-requires

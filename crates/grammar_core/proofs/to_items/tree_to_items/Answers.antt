@@ -5,7 +5,7 @@ use Rattle.roster_model.specs.declared.grammar.Sym.TheVariants.{Name}
 use Rattle.roster_model.specs.Arcs.{parts_arcs}
 use Rattle.roster_model.specs.Trees.{steps}
 use Rattle.grammar_core.specs.Walks.{AsksTree, TurnsParts}
-use Rattle.grammar_core.proofs.Turning.{use-asks, use-turned}
+use Rattle.grammar_core.proofs.ToItemsLemmas.{use-asks, use-turned}
 use Rattle.grammar_core.proofs.to_items.tree_to_items.Goals as goal
 
 pub add_parts-requires : goal.add_parts-requires

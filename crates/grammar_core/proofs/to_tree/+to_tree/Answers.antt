@@ -8,8 +8,8 @@ use Rattle.roster_model.specs.Grammar.{rule_at}
 use Rattle.roster_model.specs.Trees.{steps}
 use Rattle.grammar_core.specs.declared.suffix.Suffix.{Suffix}
 use Rattle.grammar_core.specs.Walks.{AsksTree, TurnsParts, tree_measure, arcs_measure}
-use Rattle.grammar_core.proofs.Turning.{from_below, whole}
-use Rattle.grammar_core.proofs.Returning.{Takes, step_of, arcs-asks_tree, arcs-asks_parts, arcs-part_within, arcs-part_fewer, arcs-fewer, arcs-turned, key-asks}
+use Rattle.grammar_core.proofs.ToItemsLemmas.{from_below, whole}
+use Rattle.grammar_core.proofs.ToTreeLemmas.{Takes, step_of, arcs-asks_tree, arcs-asks_parts, arcs-part_within, arcs-part_fewer, arcs-fewer, arcs-turned, key-asks}
 use Rattle.grammar_core.proofs.to_tree.+to_tree.Goals as goal
 
 pub add_parts-add_tree-requires : goal.add_parts-add_tree-requires

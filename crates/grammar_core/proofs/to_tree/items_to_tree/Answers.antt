@@ -5,8 +5,8 @@ use Rattle.roster_model.specs.declared.grammar.Sym.TheVariants.{Name}
 use Rattle.roster_model.specs.Arcs.{arcs}
 use Rattle.roster_model.specs.Grammar.{rule_at}
 use Rattle.grammar_core.specs.Walks.{AsksTree}
-use Rattle.grammar_core.proofs.Turning.{whole}
-use Rattle.grammar_core.proofs.Returning.{step_of, key-asks, key-turned}
+use Rattle.grammar_core.proofs.ToItemsLemmas.{whole}
+use Rattle.grammar_core.proofs.ToTreeLemmas.{step_of, key-asks, key-turned}
 use Rattle.grammar_core.proofs.to_tree.items_to_tree.Goals as goal
 
 pub add_parts-requires : goal.add_parts-requires

@@ -4,18 +4,18 @@ use Rattle.std.proofs.lemmas.List.{take_more, take_all, length-take-le, length-m
 use Rattle.roster_model.specs.declared.grammar.ArcKey.{ArcKey}
 use Rattle.parse_graph.specs.Linked.{IsLinked}
 use Rattle.parse_graph.specs.Nodes.{or_node}
-use Rattle.parse_graph.proofs.Linking.{linked-none}
-use Rattle.parse_graph.proofs.Graphing.{uses-listed}
+use Rattle.parse_graph.proofs.LinkedLemmas.{linked-none}
+use Rattle.parse_graph.proofs.GraphsLemmas.{uses-listed}
 use Rattle.parse_graph.proofs.links.link.Goals as goal
 
 pub loop-arc-init : goal.loop-arc-init
-loop-arc-init c = let e = c.new-links.ensures in rw (e.0, e.1, e.2, e.3, e.4, e.5) (linked-none c.args.grammar.now)
+loop-arc-init c = let e = c.new-links.ensures in rw (e.nodes, e.arcs, e.entries) (linked-none c.args.grammar.now)
 
 pub add-requires-clause-uses : goal.add-requires-clause-uses
 add-requires-clause-uses c =
     let d : ArcKey = record { rule = 0; suffix = 0; start = 0; len = 0; part = 0 } in
     let i = c.loop-arc.arc-index in
-    uses-listed c.args.grammar.now c.args.arcs.now i (get_or c.args.arcs.now i d) (map or_node c.loop-arc.links.nodes.keys) c.loop-arc.links.made_by c.loop-arc.links.first c.loop-arc.links.rest c.loop-arc.links.makers c.loop-arc.links.users
+    uses-listed c.args.grammar.now c.args.arcs.now i (get_or c.args.arcs.now i d) (map or_node c.loop-arc.links.nodes.keys) c.loop-arc.links.arcs.made_by c.loop-arc.links.arcs.first c.loop-arc.links.arcs.rest c.loop-arc.links.entries.makers c.loop-arc.links.entries.users
     c.requires.arcs (slice_get-get_or c.args.arcs.now i d c.loop-arc-test.true) c.loop-arc.invariant
 
 pub add-requires-clause-few : goal.add-requires-clause-few

@@ -1,4 +1,4 @@
-use Rattle.parse_graph.proofs.Keys.{found-at, not-none, kid-at}
+use Rattle.parse_graph.proofs.NodesLemmas.{found-at, not-none, kid-at}
 use Rattle.std.proofs.Common.{sym, ◌∙◌}
 use Rattle.parse_graph.proofs.links.node_kid.Goals as goal
 

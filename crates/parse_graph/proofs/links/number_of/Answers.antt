@@ -1,4 +1,4 @@
-use Rattle.parse_graph.proofs.Keys.{adds-key}
+use Rattle.parse_graph.proofs.NodesLemmas.{adds-key}
 use Rattle.parse_graph.proofs.links.number_of.Goals as goal
 
 pub returns-in-Ok : goal.returns-in-Ok

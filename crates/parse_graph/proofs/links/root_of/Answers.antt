@@ -1,6 +1,6 @@
 use Rattle.std.proofs.Common.{sym, ◌∙◌}
 use Rattle.parse_graph.specs.declared.node.NodeKey.TheVariants.{Name}
-use Rattle.parse_graph.proofs.Keys.{found-at, at-map, place-none}
+use Rattle.parse_graph.proofs.NodesLemmas.{found-at, at-map, place-none}
 use Rattle.parse_graph.proofs.links.root_of.Goals as goal
 
 pub returns-in-Some : goal.returns-in-Some

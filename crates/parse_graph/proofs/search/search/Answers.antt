@@ -2,7 +2,7 @@ use Rattle.std.proofs.Common.{arith, ◌≡◌, Some, get_or, ap, sym, ◌∙◌
 use Rattle.std.specs.Prelude.{slice_get}
 use Rattle.std.proofs.lemmas.Option.{same_Some, slice_get_within, slice_get-get_or, get_or_from_slice_get}
 use Rattle.roster_model.specs.declared.grammar.ArcKey.{ArcKey}
-use Rattle.parse_graph.proofs.Searching.{searched-end, arc_eq, same-arc, own-arc}
+use Rattle.parse_graph.proofs.InOrderLemmas.{searched-end, arc_eq, same-arc, own-arc}
 use Rattle.parse_graph.proofs.search.search.Goals as goal
 
 pub returns-then-low-places-clause-none : goal.returns-then-low-places-clause-none

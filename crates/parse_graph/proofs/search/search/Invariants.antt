@@ -1,5 +1,5 @@
 use Rattle.std.proofs.Common.{◌-◌}
-use Rattle.parse_graph.proofs.Searching.{IsSearched}
+use Rattle.parse_graph.proofs.InOrderLemmas.{IsSearched}
 use Rattle.parse_graph.proofs.search.search.Given as goal
 
 abbrev pub invariant-loop-low : goal.invariant-loop-low

@@ -1,7 +1,7 @@
-use Rattle.std.proofs.Common.{◌≡◌, List, length}
+use Rattle.std.proofs.Common.{◌≡◌, ◌≤◌, List, length}
 use Rattle.roster_model.specs.declared.grammar.ArcKey.{ArcKey}
 use Rattle.span_arcs.proofs.OrderLemmas.{keys_left}
-use Rattle.parse_graph.specs.Walks.{IsPassed}
+use Rattle.span_arcs.specs.Ahead.{IsPassed}
 use Rattle.parse_graph.proofs.walk.count_arcs.Given as goal
 
 abbrev pub invariant-loop-next : goal.invariant-loop-next
@@ -9,6 +9,7 @@ invariant-loop-next l = record {
   listed : List ArcKey;
   passed : IsPassed l.grammar listed l.next;
   same : l.count ≡ length listed;
+  more : l.passed ≤ l.count;
 }
 
 abbrev pub decreases-loop-next : goal.decreases-loop-next

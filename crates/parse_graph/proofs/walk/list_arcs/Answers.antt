@@ -1,28 +1,47 @@
-use Rattle.std.proofs.Common.{List, subst, sym, Option}
+use Rattle.std.proofs.Common.{arith, ◌∷◌, [], List, length, length-append, ap, subst, sym, Option}
 use Rattle.roster_model.specs.declared.grammar.ArcKey.{ArcKey}
-use Rattle.parse_graph.specs.Walks.{IsPassed}
-use Rattle.parse_graph.proofs.Passing.{passed-first, passed-step, passed-end, next-fewer}
+use Rattle.span_arcs.specs.Ahead.{IsPassed}
+use Rattle.span_arcs.proofs.AheadLemmas.{passed-first, passed-step, passed-end, next-fewer}
+use Rattle.parse_graph.proofs.GraphsLemmas.{all-shaped}
 use Rattle.span_arcs.proofs.ShapesLemmas.{arc-small}
 use Rattle.parse_graph.proofs.walk.list_arcs.Goals as goal
 
 pub loop-next-init : goal.loop-next-init
-loop-next-init c =
-    subst (λ (xs : List ArcKey). IsPassed c.args.grammar.now xs c.next_arc-next.result) (sym c.new-arcs.ensures)
-    (passed-first c.args.grammar.now c.next_arc-next.result c.next_arc-next.ensures)
+loop-next-init c = record {
+  passed = subst (λ (xs : List ArcKey). IsPassed c.args.grammar.now xs c.next_arc-next.result) (sym c.new-arcs.ensures)
+      (passed-first c.args.grammar.now c.next_arc-next.result c.next_arc-next.ensures);
+  few = let e = ap length c.new-arcs.ensures in omega (arith, e);
+}
+
+pub count_arcs-count-requires-clause-passed : goal.count_arcs-count-requires-clause-passed
+count_arcs-count-requires-clause-passed c =
+    let here = subst (λ (q : Option ArcKey). IsPassed c.args.grammar.now c.loop-next.arcs q) c.in-Some.is c.loop-next.invariant.passed in
+    let more = subst (λ (xs : List ArcKey). IsPassed c.args.grammar.now xs c.next_arc-next-in-Some.result) (sym c.in_ok-push.ensures.ok)
+    (passed-step c.args.grammar.now (arc-small c.args.grammar.now c.requires.sound) c.loop-next.arcs c.in-Some.arc here c.next_arc-next-in-Some.result c.next_arc-next-in-Some.ensures) in
+    let long = ap length c.in_ok-push.ensures.ok in
+    (c.push.new.self, more, omega (arith, long, length-append c.loop-next.arcs (c.in-Some.arc ∷ []), c.loop-next.invariant.few))
 
 pub loop-next-preserved : goal.loop-next-preserved
 loop-next-preserved c =
-    let here = subst (λ (q : Option ArcKey). IsPassed c.args.grammar.now c.loop-next.arcs q) c.in-Some.is c.loop-next.invariant in
-    subst (λ (xs : List ArcKey). IsPassed c.args.grammar.now xs c.next_arc-next-in-Some.result) (sym c.in_ok-push.ensures.ok)
-    (passed-step c.args.grammar.now (arc-small c.args.grammar.now c.requires.sound) c.loop-next.arcs c.in-Some.arc here c.next_arc-next-in-Some.result c.next_arc-next-in-Some.ensures)
+    let here = subst (λ (q : Option ArcKey). IsPassed c.args.grammar.now c.loop-next.arcs q) c.in-Some.is c.loop-next.invariant.passed in
+    record {
+      passed = subst (λ (xs : List ArcKey). IsPassed c.args.grammar.now xs c.next_arc-next-in-Some.result) (sym c.in_ok-push.ensures.ok)
+          (passed-step c.args.grammar.now (arc-small c.args.grammar.now c.requires.sound) c.loop-next.arcs c.in-Some.arc here c.next_arc-next-in-Some.result c.next_arc-next-in-Some.ensures);
+      few = omega arith;
+    }
 
 pub loop-next-smaller : goal.loop-next-smaller
 loop-next-smaller c =
-    let here = subst (λ (q : Option ArcKey). IsPassed c.args.grammar.now c.loop-next.arcs q) c.in-Some.is c.loop-next.invariant in
+    let here = subst (λ (q : Option ArcKey). IsPassed c.args.grammar.now c.loop-next.arcs q) c.in-Some.is c.loop-next.invariant.passed in
     rw c.in-Some.is
     (next-fewer c.args.grammar.now c.in-Some.arc c.next_arc-next-in-Some.result (arc-small c.args.grammar.now c.requires.sound) here.next_arc c.next_arc-next-in-Some.ensures)
 
-pub returns : goal.returns
-returns c =
-    passed-end c.args.grammar.now c.loop-next.arcs
-    (subst (λ (q : Option ArcKey). IsPassed c.args.grammar.now c.loop-next.arcs q) c.in_default.is c.loop-next.invariant)
+pub returns-clause-listed : goal.returns-clause-listed
+returns-clause-listed c =
+    let are = passed-end c.args.grammar.now c.loop-next.arcs
+    (subst (λ (q : Option ArcKey). IsPassed c.args.grammar.now c.loop-next.arcs q) c.in_default.is c.loop-next.invariant.passed) in
+    record {
+      arcs = are;
+      shaped = all-shaped c.args.grammar.now c.loop-next.arcs are;
+      few = c.loop-next.invariant.few;
+    }

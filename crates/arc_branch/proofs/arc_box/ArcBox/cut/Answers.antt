@@ -3,7 +3,7 @@ use Rattle.std.proofs.lemmas.List.{get_or_read}
 use Rattle.arc_branch.specs.declared.bounds.Bounds.{Bounds}
 use Rattle.arc_branch.specs.Boxes.{BoxView, bounds_at, halved}
 use Rattle.arc_branch.specs.Paths.{IsBoxOf}
-use Rattle.arc_branch.proofs.Pathing.{box-cut}
+use Rattle.arc_branch.proofs.PathsLemmas.{box-cut}
 use Rattle.arc_branch.proofs.arc_box.ArcBox.cut.Goals as goal
 
 pub returns-clause-path : goal.returns-clause-path

@@ -1,7 +1,7 @@
 use Rattle.std.proofs.Common.{rules}
 use Rattle.std.specs.Prelude.{◌↔◌, IsTrue}
 use Rattle.arc_branch.specs.Boxes.{IsPinnedBox}
-use Rattle.arc_branch.proofs.Pathing.{box-pinned}
+use Rattle.arc_branch.proofs.PathsLemmas.{box-pinned}
 use Rattle.arc_branch.proofs.arc_box.ArcBox.pinned.Goals as goal
 
 pub returns-clause-path : goal.returns-clause-path

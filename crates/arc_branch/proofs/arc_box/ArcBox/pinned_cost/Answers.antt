@@ -2,7 +2,7 @@ use Rattle.std.proofs.Common.{List, subst, ◌∙◌, ap}
 use Rattle.arc_branch.specs.declared.bounds.Bounds.{Bounds}
 use Rattle.arc_branch.specs.Boxes.{BoxView}
 use Rattle.arc_branch.specs.Costs.{low_of, IsCostOf}
-use Rattle.arc_branch.proofs.Costing.{cost-listed, cost-pinned}
+use Rattle.arc_branch.proofs.CostsLemmas.{cost-listed, cost-pinned}
 use Rattle.arc_branch.proofs.arc_box.ArcBox.pinned_cost.Goals as goal
 
 pub returns-clause-listed : goal.returns-clause-listed

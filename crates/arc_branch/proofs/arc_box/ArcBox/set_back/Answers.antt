@@ -1,7 +1,7 @@
 use Rattle.std.proofs.Common.{◌++◌, ◌∷◌, [], sym, subst, length}
 use Rattle.arc_branch.specs.Boxes.{BoxView}
 use Rattle.arc_branch.specs.Paths.{IsBoxOf}
-use Rattle.arc_branch.proofs.Pathing.{box-back}
+use Rattle.arc_branch.proofs.PathsLemmas.{box-back}
 use Rattle.arc_branch.proofs.arc_box.ArcBox.set_back.Goals as goal
 
 pub returns-clause-path : goal.returns-clause-path

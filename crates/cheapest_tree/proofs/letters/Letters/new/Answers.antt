@@ -1,5 +1,5 @@
 use Rattle.std.proofs.Common.{rules, arith}
-use Rattle.cheapest_tree.proofs.Lettering.{numbered-none}
+use Rattle.cheapest_tree.proofs.NumberingLemmas.{numbered-none}
 use Rattle.cheapest_tree.proofs.letters.Letters.new.Goals as goal
 
 pub invariant_of-result : goal.invariant_of-result

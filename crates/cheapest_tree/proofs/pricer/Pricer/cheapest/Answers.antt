@@ -5,8 +5,8 @@ use Rattle.roster_model.specs.Sums.{IsLeast, tree_sum}
 use Rattle.roster_model.specs.Trees.{IsDayTree}
 use Rattle.parse_graph.specs.Graphs.{IsRoot}
 use Rattle.cheapest_tree.specs.Pricers.{PricerView, IsMadeFor, IsFilled, value_at}
-use Rattle.cheapest_tree.proofs.Passing.{day-least}
-use Rattle.cheapest_tree.proofs.Linking.{value-read, made-kept}
+use Rattle.cheapest_tree.proofs.PassesLemmas.{day-least}
+use Rattle.cheapest_tree.proofs.LinksLemmas.{value-read, made-kept}
 use Rattle.cheapest_tree.proofs.pricer.Pricer.cheapest.Goals as goal
 
 pub returns-in_err-root-clause-kept : goal.returns-in_err-root-clause-kept

@@ -1,6 +1,6 @@
 use Rattle.std.proofs.Common.{◌≡◌, ap, sym, ◌∙◌}
 use Rattle.cheapest_tree.specs.Pricers.{PricerView}
-use Rattle.cheapest_tree.proofs.Beginning.{asks-root, holds-root, most-kept}
+use Rattle.cheapest_tree.proofs.RootLemmas.{asks-root, holds-root, most-kept}
 use Rattle.cheapest_tree.proofs.pricer.Pricer.tree.Goals as goal
 
 pub write_node-requires : goal.write_node-requires

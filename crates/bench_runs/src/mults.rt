@@ -1,0 +1,119 @@
+ghost use Rattle.std.specs.Prelude.{◌≡◌, ◌≤◌, ◌^◌, ◌<◌, All, IfOk, length};
+ghost use Rattle.roster_model.specs.SoundInstance.{IsSoundInstance};
+ghost use Rattle.roster_model.specs.Sums.{Within};
+ghost use Rattle.parse_graph.specs.Graphs.{IsGraph, HasGrammar};
+ghost use Rattle.cheapest_tree.specs.Pricers.{IsMadeFor};
+
+use crate::fault::BenchFault;
+use crate::pricing::graph_of;
+use cheapest_tree::Pricer;
+use parse_graph::Graph;
+use roster_model::{Cut, Grammar, Instance, List, Memory, PriceRoom, Side, is_sound_instance};
+use std::alloc::Global;
+
+/// The day of a grammar, with at most one employee and no demands.
+fn day_of(alloc: Global, grammar: Grammar) -> Result<Instance, BenchFault>
+    ensures { IfOk result IsSoundInstance }
+{
+    let day = Instance {
+        grammar,
+        heads_min: 0,
+        heads_max: 1,
+        groups: List::new(alloc),
+        cells: List::new(alloc),
+    };
+    if is_sound_instance(&day) {
+        return Ok(day);
+    }
+    Err(BenchFault::NoDay)
+}
+
+/// Cuts of so many of the graph's arcs, spread over all.
+fn cuts_of(alloc: Global, graph: &Graph, count: u16) -> Result<List<Cut>, Memory>
+    ensures { IfOk result (λ cuts. length cuts ≤ count) }
+{
+    let arcs = graph.arcs();
+    let mut cuts = List::new(alloc);
+    for number in 0..count {
+        let place = usize::from(number) * arcs.len() / usize::from(count);
+        if let Some(arc) = arcs.get(place) {
+            let arc = *arc;
+            let side = Side::Low;
+            cuts.push(Cut { arc, side, b: 0 })?;
+        }
+    }
+    Ok(cuts)
+}
+
+/// What a tree is paid for the arcs of so many cuts, 1 to 100.
+fn paid_for(alloc: Global, count: usize) -> Result<List<i128>, Memory>
+    ensures count { IfOk result (λ paid. length paid ≡ count) }
+    ensures small { IfOk result (λ paid. All (Within (2 ^ 80)) paid) }
+{
+    let mut paid = List::new(alloc);
+    for number in 0..count {
+        paid.push(1 + (number % 100) as i128)?;
+    }
+    Ok(paid)
+}
+
+/// A room that holds what so many cuts pay, at rule costs.
+fn prices_of(
+    alloc: Global,
+    day: &Instance,
+    graph: &Graph,
+    count: u16,
+) -> Result<PriceRoom, BenchFault>
+    requires { IsSoundInstance day.now }
+{
+    let cuts = cuts_of(alloc, graph, count)?;
+    let paid = paid_for(alloc, cuts.len())?;
+    let mut prices = PriceRoom::for_cuts(alloc, day, cuts.len())?;
+    prices.set_wide(day, 1, &[], paid.as_slice(), cuts.as_slice());
+    Ok(prices)
+}
+
+/// Makes so many passes over the graph at the same prices, and returns the last least sum.
+fn passed(graph: &Graph, pricer: &mut Pricer, prices: &PriceRoom, times: u32) -> Option<i128>
+    requires graph { HasGrammar graph.now }
+    requires made { IsMadeFor graph.now pricer.old }
+{
+    let mut least = None;
+    for _ in 0..times {
+        least = pricer.cheapest(graph, prices);
+    }
+    least
+}
+
+/// Passes over the graph with a price on the arc of each of so many cuts.
+fn priced(
+    alloc: Global,
+    day: &Instance,
+    graph: &Graph,
+    count: u16,
+    times: u32,
+) -> Result<Option<i128>, BenchFault>
+    requires sound { IsSoundInstance day.now }
+    requires graph { IsGraph day.now.grammar graph.now }
+{
+    let prices = prices_of(alloc, day, graph, count)?;
+    let mut pricer = Pricer::new(alloc, graph)?;
+    Ok(passed(graph, &mut pricer, &prices, times))
+}
+
+/// Returns the last least sum of so many passes over the graph of a grammar, with a price on the arc
+/// of each of so many cuts.
+///
+/// # Errors
+///
+/// `NoDay` where the grammar has no sound day, `Graph` where it has no graph or memory runs out.
+pub fn last_priced(
+    alloc: Global,
+    grammar: Grammar,
+    times: u32,
+    count: u16,
+) -> Result<Option<i128>, BenchFault> {
+    let day = day_of(alloc, grammar)?;
+    let graph = graph_of(alloc, &day.grammar)?;
+    priced(alloc, &day, &graph, count, times)
+}

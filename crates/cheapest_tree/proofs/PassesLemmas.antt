@@ -1,0 +1,232 @@
+-- One pass over the arcs: the value of each node is least over the arcs that have been passed.
+use Rattle.std.proofs.Common.{◌≡◌, ◌≢◌, ℕ, zero, suc, ℤ, pos, ◌<◌, ◌≤◌, ◌+◌, ◌^◌, List, [], ◌∷◌, Option, None, Some, IfSome, arith, refl, subst, sym, ap, ◌∙◌, ◌⊎◌, inl, inr, length, get_or, set}
+use Rattle.std.specs.Prelude.{slice_get}
+use Rattle.std.proofs.lemmas.Int.{ints}
+use Rattle.std.proofs.lemmas.Option.{same_Some, slice_get_within}
+use Rattle.std.proofs.lemmas.List.{get_or-set_same, get_or-set_other}
+use Rattle.roster_model.specs.declared.grammar.ArcKey.{ArcKey}
+use Rattle.roster_model.specs.declared.grammar.Grammar.{Grammar}
+use Rattle.roster_model.specs.declared.grammar.Sym.TheVariants.{Name}
+use Rattle.roster_model.specs.Grammar.{InDay}
+use Rattle.roster_model.specs.Trees.{Parts, IsDayTree}
+use Rattle.roster_model.specs.Folds.{In}
+use Rattle.roster_model.specs.Sound.{IsSound}
+use Rattle.roster_model.specs.Sums.{PriceView, Within, AllWithin, IsLeast, IsLesser, tree_sum}
+use Rattle.tree_laws.proofs.Least.{IsLeast-empty, IsLeast-same, IsLeast-union}
+use Rattle.tree_laws.proofs.Ends.{code-least, last_sum}
+use Rattle.tree_laws.proofs.Bounds.{sum-small}
+use Rattle.arc_laws.specs.OrNodes.{OrNode, name, suffix, leaf, made, used, root_of}
+use Rattle.parse_graph.specs.Graphs.{GraphView, IsGraph, IsKid, AreKids, IsRoot}
+use Rattle.parse_graph.specs.declared.kid.Kid.{Kid}
+use Rattle.cheapest_tree.specs.declared.slots.Spot.{Spot}
+use Rattle.cheapest_tree.specs.AtNodes.{IsAt, sum_at, NodeLeast, top_arc, IsBefore, arc_total}
+use Rattle.cheapest_tree.specs.Pricers.{value_at, IsSlot, ArePriced}
+use Rattle.cheapest_tree.specs.Passes.{AreLeastBefore}
+use Rattle.cheapest_tree.proofs.StandLemmas.{arc-standing}
+use Rattle.cheapest_tree.proofs.AtNodesLemmas.{IsOfInstance, node-of, top-arc, top-made}
+use Rattle.cheapest_tree.proofs.TopArcLemmas.{KidsLeast, arc-least}
+
+same_or_not : (a b : ℕ) → (a ≡ b) ⊎ (a ≢ b)
+same_or_not a b = grind arith
+
+below_or_same : (q n : ℕ) → q < n + 1 → (q < n) ⊎ (q ≡ n)
+below_or_same q n h = grind arith
+
+module _ (g : Grammar) (p : PriceView) (v : GraphView) (graph : IsGraph g v) where
+  -- once all arcs are passed that make what an arc uses, its least sum is found
+  pub complete : (values : List (Option ℤ)) (n : ℕ) → AreLeastBefore g p v values n → (a : ArcKey) → slice_get v.arcs n ≡ Some a
+      → (m : ℕ) (o : OrNode) → slice_get v.nodes m ≡ Some o → In o (used g a) → NodeLeast g p o (value_at values m)
+  complete values n least a at m o there uses =
+      IsLeast-same (λ t. IsAt g o t × IsBefore v.arcs n (top_arc o t)) (IsAt g o) (sum_at p o) (value_at values m) (λ t h. h.0) (λ t h. (h, before t h)) (least m o there)
+    where
+      before : (t : Parts) → IsAt g o t → IsBefore v.arcs n (top_arc o t)
+      before t h =
+          let of = node-of g v graph m o there in
+          let w = graph.arcs.whole (top_arc o t) (top-arc g o t of h) in
+          (w.0, graph.arcs.upward n w.0 a (top_arc o t) at w.1 (subst (λ (q : OrNode). In q (used g a)) (sym (top-made g o t of h)) uses), w.1)
+
+  module _ (letters : List Spot) (values : List (Option ℤ)) (priced : ArePriced p letters (length v.nodes) values) (a : ArcKey)
+      (found : (m : ℕ) (o : OrNode) → slice_get v.nodes m ≡ Some o → In o (used g a) → NodeLeast g p o (value_at values m)) where
+    -- the slot of what is below the arc has its least sum
+    kid_least : (o : OrNode) → In o (used g a) → (kid : Kid) (slot : ℕ) → IsKid v.nodes o kid → IsSlot (length v.nodes) letters kid slot → NodeLeast g p o (value_at values slot)
+    kid_least (leaf l) uses kid slot is h =
+        let k = subst (λ (q : Kid). IsSlot (length v.nodes) letters q slot) is h in
+        let price : value_at values slot ≡ p.letter_at l.code l.period = ap (λ (s : ℕ). value_at values s) k.1 ∙ priced.spots k.0 _ k.2 in
+        subst (λ (w : Option ℤ). NodeLeast g p (leaf l) w) (sym price) (code-least g p l.period 1 l.code refl)
+    kid_least (name x i l) uses kid slot is h =
+        let k = subst (λ (q : Kid). IsSlot (length v.nodes) letters q slot) is.1 h in
+        subst (λ (s : ℕ). NodeLeast g p (name x i l) (value_at values s)) (sym k) (found is.0 (name x i l) is.2 uses)
+    kid_least (suffix r k i l) uses kid slot is h =
+        let e = subst (λ (q : Kid). IsSlot (length v.nodes) letters q slot) is.1 h in
+        subst (λ (s : ℕ). NodeLeast g p (suffix r k i l) (value_at values s)) (sym e) (found is.0 (suffix r k i l) is.2 uses)
+
+    module _ (kids : Kid × Kid) (first rest : ℕ) (one : IsSlot (length v.nodes) letters kids.0 first) (two : IsSlot (length v.nodes) letters kids.1 rest) where
+      both : (os : List OrNode) → ((o : OrNode) → In o os → In o (used g a)) → AreKids v.nodes os kids → KidsLeast g p os (value_at values first) (value_at values rest)
+      both [] inside h = absurd h
+      both (o ∷ []) inside h =
+          let e : rest ≡ length v.nodes = subst (λ (q : Kid). IsSlot (length v.nodes) letters q rest) h.1 two in
+          (kid_least o (inside o (inl refl)) kids.0 first h.0 one, ap (λ (s : ℕ). value_at values s) e ∙ priced.nothing)
+      both (o ∷ q ∷ []) inside h = (kid_least o (inside o (inl refl)) kids.0 first h.0 one, kid_least q (inside q (inr (inl refl))) kids.1 rest h.1 two)
+      both (o ∷ q ∷ s ∷ os) inside h = absurd h
+
+      -- what is below the arc has its least sums
+      pub kids-least : AreKids v.nodes (used g a) kids → KidsLeast g p (used g a) (value_at values first) (value_at values rest)
+      kids-least h = both (used g a) (λ o i. i) h
+
+  -- at first no arc is passed
+  pub pass-begins : (values : List (Option ℤ)) → ((m : ℕ) → m < length v.nodes → value_at values m ≡ None) → AreLeastBefore g p v values 0
+  pass-begins values none m o there =
+      subst (λ (w : Option ℤ). IsLeast (λ t. IsAt g o t × IsBefore v.arcs 0 (top_arc o t)) (sum_at p o) w) (sym (none m (slice_get_within v.nodes m o there)))
+      (IsLeast-empty (λ t. IsAt g o t × IsBefore v.arcs 0 (top_arc o t)) (sum_at p o) (λ t h. never h.1.0 h.1.1))
+    where
+      never : (q : ℕ) → q < 0 → ⊥
+      never q h = omega (arith, h)
+
+  -- in the end all arcs are
+  pub pass-ends : (values : List (Option ℤ)) → AreLeastBefore g p v values (length v.arcs) → (m : ℕ) (o : OrNode) → slice_get v.nodes m ≡ Some o → NodeLeast g p o (value_at values m)
+  pass-ends values least m o there =
+      IsLeast-same (λ t. IsAt g o t × IsBefore v.arcs (length v.arcs) (top_arc o t)) (IsAt g o) (sum_at p o) (value_at values m) (λ t h. h.0) (λ t h. (h, before t h)) (least m o there)
+    where
+      before : (t : Parts) → IsAt g o t → IsBefore v.arcs (length v.arcs) (top_arc o t)
+      before t h =
+          let w = graph.arcs.whole (top_arc o t) (top-arc g o t (node-of g v graph m o there) h) in
+          (w.0, slice_get_within v.arcs w.0 (top_arc o t) w.1, w.1)
+
+  module _ (values : List (Option ℤ)) (n : ℕ) (least : AreLeastBefore g p v values n) (a : ArcKey) (at : slice_get v.arcs n ≡ Some a)
+      (k : ℕ) (here : slice_get v.nodes k ≡ Some (made g a)) (first rest : Option ℤ) (kids : KidsLeast g p (used g a) first rest) where
+    pub one-arc : IsLeast (λ t. IsAt g (made g a) t × (top_arc (made g a) t ≡ a)) (sum_at p (made g a)) (arc_total p a first rest)
+    one-arc = arc-least g p a (arc-standing g a (graph.arcs.sound n a at)) first rest kids
+
+    split : (t : Parts) (o : OrNode) → IsBefore v.arcs (n + 1) (top_arc o t) → IsBefore v.arcs n (top_arc o t) ⊎ (top_arc o t ≡ a)
+    split t o h = elim (below_or_same h.0 n h.1) [
+      | inl lt ↦ inl (h.0, lt, h.2)
+      | inr e ↦ inr (same_Some (top_arc o t) a (sym h.2 ∙ ap (λ (q : ℕ). slice_get v.arcs q) e ∙ at))
+    ]
+
+    -- the arc may lower the value of the node that it makes, and of no other
+    pub pass-next : (w : Option ℤ) → IsLesser (value_at values k) (arc_total p a first rest) w → k < length values → AreLeastBefore g p v (set values k w) (n + 1)
+    pass-next w lesser inside m o there = by (same_or_not m k)
+      where
+        wider : (t : Parts) (o : OrNode) → IsBefore v.arcs n (top_arc o t) → IsBefore v.arcs (n + 1) (top_arc o t)
+        wider t o h = (h.0, omega (arith, h.1), h.2)
+
+        hit : (t : Parts) → top_arc (made g a) t ≡ a → IsBefore v.arcs (n + 1) (top_arc (made g a) t)
+        hit t e = (n, omega arith, at ∙ ap Some (sym e))
+
+        its : IsLeast (λ t. IsAt g (made g a) t × IsBefore v.arcs (n + 1) (top_arc (made g a) t)) (sum_at p (made g a)) w
+        its = IsLeast-union (λ t. IsAt g (made g a) t × IsBefore v.arcs n (top_arc (made g a) t)) (λ t. IsAt g (made g a) t × (top_arc (made g a) t ≡ a))
+            (λ t. IsAt g (made g a) t × IsBefore v.arcs (n + 1) (top_arc (made g a) t)) (sum_at p (made g a)) (value_at values k) (arc_total p a first rest) w
+            (λ t h. (h.0, wider t (made g a) h.1)) (λ t h. (h.0, hit t h.1)) (λ t h. elim (split t (made g a) h.1) [ inl q ↦ inl (h.0, q) | inr q ↦ inr (h.0, q) ])
+            lesser (least k (made g a) here) one-arc
+
+        by : (m ≡ k) ⊎ (m ≢ k) → IsLeast (λ t. IsAt g o t × IsBefore v.arcs (n + 1) (top_arc o t)) (sum_at p o) (value_at (set values k w) m)
+        by (inl e) =
+            let same : o ≡ made g a = same_Some o (made g a) (sym there ∙ ap (λ (q : ℕ). slice_get v.nodes q) e ∙ here) in
+            let now : value_at (set values k w) m ≡ w = ap (λ (q : ℕ). get_or (set values k w) q None) e ∙ get_or-set_same values k w None inside in
+            subst (λ (q : OrNode). IsLeast (λ t. IsAt g q t × IsBefore v.arcs (n + 1) (top_arc q t)) (sum_at p q) (value_at (set values k w) m)) (sym same)
+            (subst (λ (q : Option ℤ). IsLeast (λ t. IsAt g (made g a) t × IsBefore v.arcs (n + 1) (top_arc (made g a) t)) (sum_at p (made g a)) q) (sym now) its)
+        by (inr ne) =
+            let of = node-of g v graph m o there in
+            let other : value_at (set values k w) m ≡ value_at values m = get_or-set_other values k m w None ne in
+            let not = λ (t : Parts) (h : IsAt g o t) (e : top_arc o t ≡ a). ne (graph.nodes.once m k o there (here ∙ ap Some (sym (ap (made g) e) ∙ top-made g o t of h))) in
+            subst (λ (q : Option ℤ). IsLeast (λ t. IsAt g o t × IsBefore v.arcs (n + 1) (top_arc o t)) (sum_at p o) q) (sym other)
+            (IsLeast-same (λ t. IsAt g o t × IsBefore v.arcs n (top_arc o t)) (λ t. IsAt g o t × IsBefore v.arcs (n + 1) (top_arc o t)) (sum_at p o) (value_at values m)
+            (λ t h. (h.0, wider t o h.1)) (λ t h. (h.0, elim (split t o h.1) [ inl q ↦ q | inr q ↦ absurd (not t h.0 q) ])) (least m o there))
+
+  -- the root's value is the least sum of the day
+  pub day-least : (values : List (Option ℤ)) → ((m : ℕ) (o : OrNode) → slice_get v.nodes m ≡ Some o → NodeLeast g p o (value_at values m))
+      → (m : ℕ) → v.root ≡ Some m → IsLeast (IsDayTree g) (tree_sum p 1) (value_at values m)
+  day-least values filled m e = filled m (root_of g) (subst (λ (q : Option ℕ). IsRoot g v.nodes q) e graph.root)
+
+  -- where there is no root, the day has no tree
+  pub day-none : v.root ≡ None → IsLeast (IsDayTree g) (tree_sum p 1) None
+  day-none e = IsLeast-empty (IsDayTree g) (tree_sum p 1) (subst (λ (q : Option ℕ). IsRoot g v.nodes q) e graph.root)
+
+  module _ (sound : IsSound g) (all : AllWithin (2 ^ 96) p) where
+    short : (i l : ℕ) → InDay g.periods i l → l ≤ 96
+    short i l day = omega (arith, day.begins, day.within, sound.few_periods)
+
+    -- sums at nodes of the instance are small
+    sum_small : (o : OrNode) (t : Parts) (z : ℤ) → IsOfInstance g o → IsAt g o t → sum_at p o t ≡ Some z → Within (2 ^ 110) z
+    sum_small (leaf l) t z of h e = absurd of
+    sum_small (suffix r zero i l) t z of h e = absurd of
+    sum_small (suffix r (suc k) i l) t z of h e = sum-small g sound p all r (suc k) i l _ t z (short i l of.day) h e
+    sum_small (name x i l) t z of h e = sum-small g sound p all 0 1 i l (Name x ∷ []) t z (short i l of.1) h (sym (last_sum g p i l 0 0 (Name x) t h) ∙ e)
+
+    -- so are least ones
+    least_small : (o : OrNode) (P : Parts → Type 0) (w : Option ℤ) → IsOfInstance g o → ((t : Parts) → P t → IsAt g o t) → IsLeast P (sum_at p o) w → IfSome w (Within (2 ^ 110))
+    least_small o P None of is h = tt
+    least_small o P (Some z) of is h = sum_small o h.attained.0 z of (is h.attained.0 h.attained.1) h.attained.2
+
+    price_small : (w : Option ℤ) → IfSome w (Within (2 ^ 96)) → IfSome w (Within (2 ^ 110))
+    price_small None h = tt
+    price_small (Some z) h = record { low = omega (arith, ints, h.low); high = omega (arith, ints, h.high) }
+
+    module _ (letters : List Spot) (values : List (Option ℤ)) (priced : ArePriced p letters (length v.nodes) values) (n : ℕ) (least : AreLeastBefore g p v values n) where
+      -- the values of nodes are small
+      pub value-small : (m : ℕ) (o : OrNode) → slice_get v.nodes m ≡ Some o → IfSome (value_at values m) (Within (2 ^ 110))
+      value-small m o there = least_small o _ (value_at values m) (node-of g v graph m o there) (λ t h. h.0) (least m o there)
+
+      kid_small : (o : OrNode) (kid : Kid) (slot : ℕ) → IsKid v.nodes o kid → IsSlot (length v.nodes) letters kid slot → IfSome (value_at values slot) (Within (2 ^ 110))
+      kid_small (leaf l) kid slot is h =
+          let k = subst (λ (q : Kid). IsSlot (length v.nodes) letters q slot) is h in
+          let price : value_at values slot ≡ p.letter_at l.code l.period = ap (λ (s : ℕ). value_at values s) k.1 ∙ priced.spots k.0 _ k.2 in
+          price_small (value_at values slot) (subst (λ (w : Option ℤ). IfSome w (Within (2 ^ 96))) (sym price) (all.letters l.code l.period))
+      kid_small (name x i l) kid slot is h =
+          let k = subst (λ (q : Kid). IsSlot (length v.nodes) letters q slot) is.1 h in
+          subst (λ (s : ℕ). IfSome (value_at values s) (Within (2 ^ 110))) (sym k) (value-small is.0 (name x i l) is.2)
+      kid_small (suffix r k i l) kid slot is h =
+          let e = subst (λ (q : Kid). IsSlot (length v.nodes) letters q slot) is.1 h in
+          subst (λ (s : ℕ). IfSome (value_at values s) (Within (2 ^ 110))) (sym e) (value-small is.0 (suffix r k i l) is.2)
+
+      nothing_small : (slot : ℕ) → slot ≡ length v.nodes → IfSome (value_at values slot) (Within (2 ^ 110))
+      nothing_small slot e =
+          let zero_there : value_at values slot ≡ Some (pos 0) = ap (λ (s : ℕ). value_at values s) e ∙ priced.nothing in
+          subst (λ (w : Option ℤ). IfSome w (Within (2 ^ 110))) (sym zero_there) (record { low = omega (arith, ints); high = omega (arith, ints) })
+
+      -- and those of what is below an arc
+      pub kids-small : (os : List OrNode) (kids : Kid × Kid) (first rest : ℕ) → AreKids v.nodes os kids → IsSlot (length v.nodes) letters kids.0 first → IsSlot (length v.nodes) letters kids.1 rest
+          → IfSome (value_at values first) (Within (2 ^ 110)) × IfSome (value_at values rest) (Within (2 ^ 110))
+      kids-small [] kids first rest h one two = absurd h
+      kids-small (o ∷ []) kids first rest h one two =
+          (kid_small o kids.0 first h.0 one, nothing_small rest (subst (λ (q : Kid). IsSlot (length v.nodes) letters q rest) h.1 two))
+      kids-small (o ∷ q ∷ []) kids first rest h one two = (kid_small o kids.0 first h.0 one, kid_small q kids.1 rest h.1 two)
+      kids-small (o ∷ q ∷ s ∷ os) kids first rest h one two = absurd h
+
+      -- the slots of what is below an arc are there
+      kid_inside : (size : ℕ) → size ≡ length v.nodes + 1 + length letters → (o : OrNode) (kid : Kid) (slot : ℕ) → IsKid v.nodes o kid → IsSlot (length v.nodes) letters kid slot → slot < size
+      kid_inside size room (leaf l) kid slot is h =
+          let k = subst (λ (q : Kid). IsSlot (length v.nodes) letters q slot) is h in
+          let lt = slice_get_within letters k.0 _ k.2 in
+          let e = k.1 in
+          omega (arith, lt, e, room)
+      kid_inside size room (name x i l) kid slot is h =
+          let k = subst (λ (q : Kid). IsSlot (length v.nodes) letters q slot) is.1 h in
+          let lt = slice_get_within v.nodes is.0 _ is.2 in
+          omega (arith, lt, k, room)
+      kid_inside size room (suffix r k i l) kid slot is h =
+          let e = subst (λ (q : Kid). IsSlot (length v.nodes) letters q slot) is.1 h in
+          let lt = slice_get_within v.nodes is.0 _ is.2 in
+          omega (arith, lt, e, room)
+
+      pub kids-inside : (size : ℕ) → size ≡ length v.nodes + 1 + length letters → (os : List OrNode) (kids : Kid × Kid) (first rest : ℕ) → AreKids v.nodes os kids
+          → IsSlot (length v.nodes) letters kids.0 first → IsSlot (length v.nodes) letters kids.1 rest → (first < size) × (rest < size)
+      kids-inside size room [] kids first rest h one two = absurd h
+      kids-inside size room (o ∷ []) kids first rest h one two =
+          let e : rest ≡ length v.nodes = subst (λ (q : Kid). IsSlot (length v.nodes) letters q rest) h.1 two in
+          (kid_inside size room o kids.0 first h.0 one, omega (arith, e, room))
+      kids-inside size room (o ∷ q ∷ []) kids first rest h one two = (kid_inside size room o kids.0 first h.0 one, kid_inside size room q kids.1 rest h.1 two)
+      kids-inside size room (o ∷ q ∷ s ∷ os) kids first rest h one two = absurd h
+
+      -- the sum of an arc is small, and so is the lesser of it and the value of what it makes
+      pub lesser-small : (a : ArcKey) → slice_get v.arcs n ≡ Some a → (k : ℕ) → slice_get v.nodes k ≡ Some (made g a) → (first rest : Option ℤ) → KidsLeast g p (used g a) first rest
+          → (w : Option ℤ) → IsLesser (value_at values k) (arc_total p a first rest) w → IfSome w (Within (2 ^ 110))
+      lesser-small a at k here first rest kids w lesser = by lesser.one
+        where
+          arc_small : IfSome (arc_total p a first rest) (Within (2 ^ 110))
+          arc_small = least_small (made g a) _ _ (node-of g v graph k (made g a) here) (λ t h. h.0)
+              (arc-least g p a (arc-standing g a (graph.arcs.sound n a at)) first rest kids)
+
+          by : (w ≡ value_at values k) ⊎ (w ≡ arc_total p a first rest) → IfSome w (Within (2 ^ 110))
+          by (inl e) = subst (λ (q : Option ℤ). IfSome q (Within (2 ^ 110))) (sym e) (value-small k (made g a) here)
+          by (inr e) = subst (λ (q : Option ℤ). IfSome q (Within (2 ^ 110))) (sym e) arc_small

@@ -1,0 +1,253 @@
+ghost use Rattle.std.specs.Prelude.{◌≡◌, ◌<◌, IfOk, length};
+ghost use Rattle.roster_model.specs.SoundInstance.{IsSoundInstance};
+ghost use Rattle.parse_graph.specs.Graphs.{IsGraph};
+
+use crate::days::{graph_of, three_words};
+use arc_branch::ArcBox;
+use parse_graph::Graph;
+use roster_model::{ArcKey, Cell, Instance, List, Side, is_sound_instance};
+use std::alloc::{AllocError, Global};
+use std::test::Fail;
+
+/// What the day asks: the least number of employees, and the floor and the ceiling of each period.
+/// Each period needs one employee at work, and a missing one costs 10.
+#[derive(Clone, Copy)]
+struct Asked {
+    heads_min: u32,
+    floor: u32,
+    ceiling: u32,
+}
+
+const ONE_EACH: Asked = Asked {
+    heads_min: 0,
+    floor: 0,
+    ceiling: 64,
+};
+
+const TWO_HEADS: Asked = Asked {
+    heads_min: 2,
+    ..ONE_EACH
+};
+
+const FLOORS: Asked = Asked {
+    floor: 1,
+    ..ONE_EACH
+};
+
+const CEILINGS: Asked = Asked {
+    ceiling: 1,
+    ..ONE_EACH
+};
+
+fn instance(alloc: Global, asked: Asked) -> Result<Instance, AllocError> {
+    let cells = [1, 2, 3].map(|period| Cell {
+        code: 0,
+        period,
+        need: 1,
+        under: 10,
+        over: 0,
+        floor: asked.floor,
+        ceiling: asked.ceiling,
+    });
+    let cells = cells.to_vec(alloc)?;
+    let grammar = three_words(alloc)?;
+    Ok(Instance {
+        grammar,
+        heads_min: asked.heads_min,
+        heads_max: 3,
+        groups: List::new(alloc),
+        cells: List::from_vec(cells),
+    })
+}
+
+const FIRST: ArcKey = ArcKey {
+    rule: 1,
+    suffix: 0,
+    start: 1,
+    len: 3,
+    part: 1,
+};
+
+const SECOND: ArcKey = ArcKey {
+    suffix: 1,
+    start: 2,
+    len: 2,
+    ..FIRST
+};
+
+/// The arcs of the three rules, two of each.
+const SIX: [ArcKey; 6] = [
+    FIRST,
+    SECOND,
+    ArcKey { rule: 2, ..FIRST },
+    ArcKey { rule: 2, ..SECOND },
+    ArcKey { rule: 3, ..FIRST },
+    ArcKey { rule: 3, ..SECOND },
+];
+
+/// The number of an arc in the graph.
+fn number(graph: &Graph, arc: &ArcKey) -> Result<u32, Fail>
+    ensures { IfOk result (λ p. p < length graph.now.arcs) }
+{
+    let Some(place) = graph.arcs().iter().position(|other| *other == *arc) else {
+        return Err(Fail::from("no arc"));
+    };
+    Ok(place as u32)
+}
+
+/// Cuts an arc of the box, where the number is within its bounds.
+fn cut(
+    arc_box: &mut ArcBox,
+    graph: &Graph,
+    arc: &ArcKey,
+    side: Side,
+    b: u32,
+) -> Result<(u32, u32), Fail>
+    requires { length arc_box.old.bounds ≡ length graph.now.arcs }
+    ensures arcs { length arc_box.new.bounds ≡ length graph.now.arcs }
+    ensures places { arc_box.new.places ≡ arc_box.old.places }
+{
+    let arc = number(graph, arc)?;
+    if arc_box.low(arc) <= b && b < arc_box.high(arc) {
+        return Ok(arc_box.cut(arc, side, b));
+    }
+    Err(Fail::from("not within the bounds"))
+}
+
+/// Leaves an arc of the box one count.
+fn pin(arc_box: &mut ArcBox, graph: &Graph, arc: &ArcKey, count: u32) -> Result<(), Fail>
+    requires { length arc_box.old.bounds ≡ length graph.now.arcs }
+    ensures arcs { length arc_box.new.bounds ≡ length graph.now.arcs }
+    ensures places { arc_box.new.places ≡ arc_box.old.places }
+{
+    if count > 0 {
+        cut(arc_box, graph, arc, Side::High, count - 1)?;
+    }
+    cut(arc_box, graph, arc, Side::Low, count)?;
+    Ok(())
+}
+
+/// Leaves the six arcs one count each.
+fn pin_all(arc_box: &mut ArcBox, graph: &Graph, counts: &[u32]) -> Result<(), Fail>
+    requires { length arc_box.old.bounds ≡ length graph.now.arcs }
+    ensures arcs { length arc_box.new.bounds ≡ length graph.now.arcs }
+    ensures places { arc_box.new.places ≡ arc_box.old.places }
+{
+    for (arc, count) in SIX.iter().zip(counts) {
+        pin(arc_box, graph, arc, *count)?;
+    }
+    Ok(())
+}
+
+/// What the box costs that leaves the six arcs these counts.
+fn cost_on(
+    rt: &HostRuntime,
+    day: &Instance,
+    graph: &Graph,
+    counts: &[u32],
+) -> Result<Option<u64>, Fail>
+    requires sound { IsSoundInstance day.now }
+    requires graph { IsGraph day.now.grammar graph.now }
+{
+    let Ok(mut arc_box) = ArcBox::new(rt.alloc(), day, graph) else {
+        return Err(Fail::from("memory"));
+    };
+    pin_all(&mut arc_box, graph, counts)?;
+    if !arc_box.pinned() {
+        return Err(Fail::from("not pinned"));
+    }
+    Ok(arc_box.pinned_cost(day, graph))
+}
+
+/// What a box of a sound day costs that leaves the six arcs these counts.
+fn cost_of(rt: &HostRuntime, day: &Instance, counts: &[u32]) -> Result<Option<u64>, Fail>
+    requires { IsSoundInstance day.now }
+{
+    let graph = graph_of(rt.alloc(), &day.grammar)?;
+    cost_on(rt, day, &graph, counts)
+}
+
+/// Counts of the six arcs, and what they cost.
+const CASES: [(Asked, [u32; 6], Option<u64>); 10] = [
+    (ONE_EACH, [0, 0, 0, 0, 0, 0], Some(30)),
+    (ONE_EACH, [1, 1, 0, 0, 0, 0], Some(12)),
+    (ONE_EACH, [1, 0, 0, 0, 0, 0], None),
+    (ONE_EACH, [0, 1, 0, 0, 0, 0], None),
+    (ONE_EACH, [1, 1, 1, 1, 0, 0], Some(4)),
+    (ONE_EACH, [2, 2, 2, 2, 0, 0], None),
+    (TWO_HEADS, [1, 1, 0, 0, 0, 0], None),
+    (FLOORS, [1, 1, 0, 0, 0, 0], None),
+    (FLOORS, [1, 1, 1, 1, 0, 0], Some(4)),
+    (CEILINGS, [1, 1, 1, 1, 0, 0], None),
+];
+
+/// A day that asks this.
+fn sound_day(rt: &HostRuntime, asked: Asked) -> Result<Instance, Fail>
+    ensures { IfOk result IsSoundInstance }
+{
+    let day = instance(rt.alloc(), asked)?;
+    if is_sound_instance(&day) {
+        return Ok(day);
+    }
+    Err(Fail::from("no sound instance"))
+}
+
+#[test]
+fn costs_of_pinned_boxes(rt: HostRuntime) -> Result<(), Fail> {
+    for (asked, counts, cost) in &CASES {
+        let day = sound_day(&rt, *asked)?;
+        let found = cost_of(&rt, &day, counts)?;
+        assert!(rt; found == *cost, "at {counts:?}");
+    }
+    Ok(())
+}
+
+type LowAndHigh = (u32, u32);
+
+/// The bounds of an arc of the box.
+fn bounds(arc_box: &ArcBox, arc: u32) -> LowAndHigh
+    requires { arc < length arc_box.now.bounds }
+{
+    (arc_box.low(arc), arc_box.high(arc))
+}
+
+/// What a cut at 0 answers, the bounds after it, and those after they are set back.
+fn cut_and_back(arc_box: &mut ArcBox, graph: &Graph) -> Result<[LowAndHigh; 3], Fail>
+    requires { length arc_box.old.bounds ≡ length graph.now.arcs }
+{
+    let first = number(graph, &FIRST)?;
+    let before = cut(arc_box, graph, &FIRST, Side::Low, 0)?;
+    let after = bounds(arc_box, first);
+    arc_box.set_back(first, (0, 3));
+    Ok([before, after, bounds(arc_box, first)])
+}
+
+/// What a cut and its undoing answer, and the first loose arc after them.
+type CutAndBack = ([LowAndHigh; 3], Option<u32>);
+
+fn cut_on(rt: &HostRuntime, day: &Instance, graph: &Graph) -> Result<CutAndBack, Fail>
+    requires sound { IsSoundInstance day.now }
+    requires graph { IsGraph day.now.grammar graph.now }
+{
+    let Ok(mut arc_box) = ArcBox::new(rt.alloc(), day, graph) else {
+        return Err(Fail::from("memory"));
+    };
+    let found = cut_and_back(&mut arc_box, graph)?;
+    Ok((found, arc_box.first_loose()))
+}
+
+fn cut_of(rt: &HostRuntime, day: &Instance) -> Result<CutAndBack, Fail>
+    requires { IsSoundInstance day.now }
+{
+    let graph = graph_of(rt.alloc(), &day.grammar)?;
+    cut_on(rt, day, &graph)
+}
+
+#[test]
+fn a_cut_and_back(rt: HostRuntime) -> Result<(), Fail> {
+    let day = sound_day(&rt, ONE_EACH)?;
+    let (found, loose) = cut_of(&rt, &day)?;
+    assert!(rt; found == [(0, 3), (0, 0), (0, 3)]);
+    assert!(rt; loose == Some(0));
+    Ok(())
+}

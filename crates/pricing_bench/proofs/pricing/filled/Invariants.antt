@@ -1,5 +1,0 @@
-use Rattle.span_table.specs.Tables.{IsMadeFor}
-use Rattle.pricing_bench.proofs.pricing.filled.Given as goal
-
-abbrev pub invariant-loop-fill : goal.invariant-loop-fill
-invariant-loop-fill l = IsMadeFor l.grammar l.table
