@@ -13,7 +13,8 @@ use Rattle.arc_branch.specs.Boxes.{BoxView, IsBoxFor, bounds_at}
 pub record IsBoxOf (i : Instance) (v : GraphView) (cuts : List Cut) (b : BoxView) : Type 0 where
   pub made : IsBoxFor i v b
   pub low : (p : ℕ) (a : ArcKey) → slice_get v.arcs p ≡ Some a → (bounds_at b.bounds p).low ≡ lo cuts a
-  pub high : (p : ℕ) (a : ArcKey) → slice_get v.arcs p ≡ Some a → (bounds_at b.bounds p).high ≡ hi i.heads_max cuts a
+  pub high : (p : ℕ) (a : ArcKey) → slice_get v.arcs p ≡ Some a
+      → (bounds_at b.bounds p).high ≡ hi i.heads_max cuts a
 
 -- these were the counts that the cuts leave the arc
 abbrev pub WasBoxOf : Instance → List Cut → ArcKey → ℕ × ℕ → Type 0
@@ -26,5 +27,6 @@ IsLooseAt i v cuts p = (a : ArcKey) × (slice_get v.arcs p ≡ Some a) × IsLoos
 -- a cut on what is no arc of the instance changes no box
 abbrev pub CutsElsewhere : Type 0
 CutsElsewhere =
-    (i : Instance) (v : GraphView) (cuts : List Cut) (c : Cut) (b : BoxView) → IsGraph i.grammar v → (IsArc i.grammar c.arc → ⊥)
+    (i : Instance) (v : GraphView) (cuts : List Cut) (c : Cut) (b : BoxView) → IsGraph i.grammar v
+        → (IsArc i.grammar c.arc → ⊥)
     → IsBoxOf i v cuts b → IsBoxOf i v (cuts ++ c ∷ []) b

@@ -86,8 +86,10 @@ impl ArcBox {
         requires high { b < (bounds_at self.old.bounds arc).high }
         ensures before { result ≡ ((bounds_at self.old.bounds arc).low, (bounds_at self.old.bounds arc).high) }
         ensures after { self.new ≡ record self.old { bounds = slice_set self.old.bounds arc (halved side b (bounds_at self.old.bounds arc)) } }
-        ensures path { (i : Day) (v : GraphView) (cuts : List Cut) (a : Arc) → IsGraph i.grammar v → slice_get v.arcs arc ≡ Some a
-            → IsBoxOf i v cuts self.old → IsBoxOf i v (cuts ++ record { arc = a; side = side; b = b } ∷ []) self.new }
+        ensures path { (i : Day) (v : GraphView) (cuts : List Cut) (a : Arc) → IsGraph i.grammar v
+            → slice_get v.arcs arc ≡ Some a
+            → IsBoxOf i v cuts self.old
+            → IsBoxOf i v (cuts ++ record { arc = a; side = side; b = b } ∷ []) self.new }
     {
         let bounds = self.bounds[arc as usize];
         self.bounds[arc as usize] = bounds.halved(side, b);
@@ -100,8 +102,10 @@ impl ArcBox {
         requires order { old.0 ≤ old.1 }
         requires few { old.1 ≤ 64 }
         ensures after { self.new ≡ record self.old { bounds = slice_set self.old.bounds arc (record { low = old.0; high = old.1 }) } }
-        ensures path { (i : Day) (v : GraphView) (cuts : List Cut) (a : Arc) (side : Half) (b : ℕ) → IsGraph i.grammar v → slice_get v.arcs arc ≡ Some a
-            → IsBoxOf i v (cuts ++ record { arc = a; side = side; b = b } ∷ []) self.old → WasBoxOf i cuts a old → IsBoxOf i v cuts self.new }
+        ensures path { (i : Day) (v : GraphView) (cuts : List Cut) (a : Arc) (side : Half) (b : ℕ)
+            → IsGraph i.grammar v → slice_get v.arcs arc ≡ Some a
+            → IsBoxOf i v (cuts ++ record { arc = a; side = side; b = b } ∷ []) self.old
+            → WasBoxOf i cuts a old → IsBoxOf i v cuts self.new }
     {
         let (low, high) = old;
         self.bounds[arc as usize] = Bounds { low, high };
@@ -110,7 +114,8 @@ impl ArcBox {
     /// Returns whether the box leaves each arc at most one count.
     pub fn pinned(&self) -> bool
         ensures bounds { IsTrue result ↔ IsPinnedBox self.now }
-        ensures path { (i : Day) (v : GraphView) (cuts : List Cut) → IsGraph i.grammar v → IsBoxOf i v cuts self.now → (IsTrue result ↔ IsPinned i cuts) }
+        ensures path { (i : Day) (v : GraphView) (cuts : List Cut) → IsGraph i.grammar v
+            → IsBoxOf i v cuts self.now → (IsTrue result ↔ IsPinned i cuts) }
     {
         self.bounds.iter().all(|bounds| bounds.high <= bounds.low)
     }
@@ -119,7 +124,8 @@ impl ArcBox {
     /// pinned.
     pub fn first_loose(&self) -> Option<u32>
         ensures bounds { MatchOption result (IsPinnedBox self.now) (IsFirstOpen self.now) }
-        ensures path { (i : Day) (v : GraphView) (cuts : List Cut) → IsGraph i.grammar v → IsBoxOf i v cuts self.now → MatchOption result (IsPinned i cuts) (IsLooseAt i v cuts) }
+        ensures path { (i : Day) (v : GraphView) (cuts : List Cut) → IsGraph i.grammar v
+            → IsBoxOf i v cuts self.now → MatchOption result (IsPinned i cuts) (IsLooseAt i v cuts) }
     {
         let place = self
             .bounds

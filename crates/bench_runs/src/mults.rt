@@ -13,7 +13,8 @@ use std::alloc::Global;
 
 /// The day of a grammar, with at most one employee and no demands.
 fn day_of(alloc: Global, grammar: Grammar) -> Result<Instance, BenchFault>
-    ensures { IfOk result IsSoundInstance }
+    ensures sound { IfOk result IsSoundInstance }
+    ensures cells { IfOk result (λ day. length day.cells ≡ 0) }
 {
     let day = Instance {
         grammar,
@@ -64,7 +65,8 @@ fn prices_of(
     graph: &Graph,
     count: u16,
 ) -> Result<PriceRoom, BenchFault>
-    requires { IsSoundInstance day.now }
+    requires sound { IsSoundInstance day.now }
+    requires cells { length day.now.cells ≡ 0 }
 {
     let cuts = cuts_of(alloc, graph, count)?;
     let paid = paid_for(alloc, cuts.len())?;
@@ -94,6 +96,7 @@ fn priced(
     times: u32,
 ) -> Result<Option<i128>, BenchFault>
     requires sound { IsSoundInstance day.now }
+    requires cells { length day.now.cells ≡ 0 }
     requires graph { IsGraph day.now.grammar graph.now }
 {
     let prices = prices_of(alloc, day, graph, count)?;

@@ -1,8 +1,8 @@
 ghost use Rattle.std.specs.Prelude.{IfOk};
 ghost use Rattle.roster_model.specs.Sound.{IsSound};
-ghost use Rattle.parse_graph.specs.Graphs.{IsGraph};
+ghost use Rattle.parse_graph.specs.Graphs.{HasGrammar, IsGraph};
 ghost use Rattle.span_table.specs.Tables.{IsMadeFor};
-ghost use Rattle.cheapest_tree.specs.Pricers.{HasGrammar, IsMadeFor as IsPricerFor};
+ghost use Rattle.cheapest_tree.specs.Pricers.{IsMadeFor as IsPricerFor};
 
 use crate::fault::BenchFault;
 use crate::prices::FillPrices;

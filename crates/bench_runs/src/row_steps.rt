@@ -40,7 +40,12 @@ fn checksum(row: &mut [i128], first: &[i128], other: &[i128], steps: u64) -> i12
 /// # Errors
 ///
 /// `AllocError` where memory runs out.
-pub fn row_steps(alloc: Global, width: usize, steps: u64, factor: i128) -> Result<i128, AllocError> {
+pub fn row_steps(
+    alloc: Global,
+    width: usize,
+    steps: u64,
+    factor: i128,
+) -> Result<i128, AllocError> {
     let mut first = vec![in alloc; 0i128; width]?;
     fill(&mut first, 1, factor);
     let mut other = vec![in alloc; 0i128; width]?;

@@ -48,7 +48,8 @@ pub record AreLinks (v : GraphView) (letters : List Spot) (links : Links) (count
   pub made : length links.made ≡ count
   pub first : length links.first ≡ count
   pub rest : length links.rest ≡ count
-  pub each : (arc : ℕ) → arc < count → IsLink v letters arc (slice_index links.made arc) (slice_index links.first arc) (slice_index links.rest arc)
+  pub each : (arc : ℕ) → arc < count
+      → IsLink v letters arc (slice_index links.made arc) (slice_index links.first arc) (slice_index links.rest arc)
 
 -- the pricer was made for the graph
 pub record IsMadeFor (v : GraphView) (w : PricerView) : Type 0 where
@@ -59,7 +60,8 @@ pub record IsMadeFor (v : GraphView) (w : PricerView) : Type 0 where
 -- the slots of nothing and of the letters have their prices, where there are so many nodes
 pub record ArePriced (p : PriceView) (letters : List Spot) (nodes : ℕ) (values : List (Option ℤ)) : Type 0 where
   pub nothing : value_at values nodes ≡ Some (pos 0)
-  pub spots : (j : ℕ) (l : Spot) → slice_get letters j ≡ Some l → value_at values (nodes + 1 + j) ≡ p.letter_at l.code l.period
+  pub spots : (j : ℕ) (l : Spot) → slice_get letters j ≡ Some l
+      → value_at values (nodes + 1 + j) ≡ p.letter_at l.code l.period
 
 -- the arc makes the node, and the value is the least sum of what stands there with this arc at the top
 pub record IsBest (g : Grammar) (p : PriceView) (v : GraphView) (o : OrNode) (value : Option ℤ) (arc : ℕ) : Type 0 where
@@ -71,7 +73,8 @@ pub record IsBest (g : Grammar) (p : PriceView) (v : GraphView) (o : OrNode) (va
 -- each node that has a value has a best arc
 abbrev pub AreBest : Grammar → PriceView → GraphView → List (Option ℤ) → List ℕ → Type 0
 AreBest g p v values best =
-    (n : ℕ) (o : OrNode) → slice_get v.nodes n ≡ Some o → OnSome (value_at values n) (IsBest g p v o (value_at values n) (slice_index best n))
+    (n : ℕ) (o : OrNode) → slice_get v.nodes n ≡ Some o
+        → OnSome (value_at values n) (IsBest g p v o (value_at values n) (slice_index best n))
 
 -- the pricer is filled for a grammar's graph and prices: for each node its value is the least sum
 -- there, or none, and a best arc has it at the top

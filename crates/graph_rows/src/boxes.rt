@@ -2,11 +2,12 @@ ghost use Rattle.std.specs.Prelude.{◌≡◌, ◌<◌, IfOk, length};
 ghost use Rattle.roster_model.specs.SoundInstance.{IsSoundInstance};
 ghost use Rattle.parse_graph.specs.Graphs.{IsGraph};
 
-use crate::days::{graph_of, three_words};
+use crate::days::graph_of;
 use arc_branch::ArcBox;
 use parse_graph::Graph;
-use roster_model::{ArcKey, Cell, Instance, List, Side, is_sound_instance};
-use std::alloc::{AllocError, Global};
+use roster_model::{ArcKey, Cell, Instance, Memory, Side, is_sound_instance};
+use sample_days::{CELL, DayParts, PAIRS, day};
+use std::alloc::Global;
 use std::test::Fail;
 
 /// What the day asks: the least number of employees, and the floor and the ceiling of each period.
@@ -39,25 +40,23 @@ const CEILINGS: Asked = Asked {
     ..ONE_EACH
 };
 
-fn instance(alloc: Global, asked: Asked) -> Result<Instance, AllocError> {
+fn instance(alloc: Global, asked: Asked) -> Result<Instance, Memory> {
     let cells = [1, 2, 3].map(|period| Cell {
-        code: 0,
         period,
-        need: 1,
-        under: 10,
-        over: 0,
         floor: asked.floor,
         ceiling: asked.ceiling,
+        ..CELL
     });
-    let cells = cells.to_vec(alloc)?;
-    let grammar = three_words(alloc)?;
-    Ok(Instance {
-        grammar,
-        heads_min: asked.heads_min,
-        heads_max: 3,
-        groups: List::new(alloc),
-        cells: List::from_vec(cells),
-    })
+    let parts = DayParts {
+        periods: 3,
+        names: &["S"],
+        rules: &PAIRS,
+        start: 0,
+        heads: (asked.heads_min, 3),
+        groups: &[],
+        cells: &cells,
+    };
+    day(alloc, &parts)
 }
 
 const FIRST: ArcKey = ArcKey {

@@ -1,17 +1,18 @@
 ghost use Rattle.std.specs.Prelude.{◌<◌, IfOk, length};
 ghost use Rattle.roster_model.specs.Sound.{IsSound};
 
-use crate::days::{DAY, RuleParts, WORK, build, grammar, graph_of, one_block, three_words};
+use crate::days::{build, graph_of, one_block, three_words};
 use parse_graph::{Graph, GraphFault, Kid};
 use roster_model::{ArcKey, Grammar, Sym, is_sound};
+use sample_days::{ANY, RuleParts, WORK, grammar};
 use std::alloc::Global;
 use std::process::Abort;
 use std::test::Fail;
 
 /// All ways to cut the day in two, again and again.
-const HALVES: [RuleParts; 2] = [
-    (0, 0, &[WORK], DAY),
-    (0, 0, &[Sym::Name(0), Sym::Name(0)], DAY),
+const HALVES: [RuleParts<'static>; 2] = [
+    (0, 0, &[WORK], ANY),
+    (0, 0, &[Sym::Name(0), Sym::Name(0)], ANY),
 ];
 
 const fn key(rule: u8, suffix: u8, start: u8, len: u8, part: u8) -> ArcKey {
@@ -109,7 +110,7 @@ fn words_graph(alloc: Global) -> Result<Graph, Fail> {
 fn halves(alloc: Global, periods: u8) -> Result<Grammar, Fail>
     ensures { IfOk result IsSound }
 {
-    sound(grammar(alloc, periods, &[b"S"], &HALVES)?)
+    sound(grammar(alloc, periods, &["S"], &HALVES, 0)?)
 }
 
 #[test]

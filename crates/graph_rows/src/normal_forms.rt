@@ -1,8 +1,14 @@
-use crate::days::{BLOCK, IDLE, REST, RUN, WORK, one_block, three_words};
+use crate::days::{one_block, three_words};
 use grammar_core::{Item, Second, items_to_tree, normalise, tree_to_items};
 use roster_model::{ArcKey, Step, Sym, is_sound};
-use sample_days::tree_of_a_block;
+use sample_days::{REST, WORK, tree_of_a_block};
 use std::test::Fail;
+
+const BLOCK: Sym = Sym::Name(1);
+
+const IDLE: Sym = Sym::Name(2);
+
+const RUN: Sym = Sym::Name(3);
 
 fn item(rule: u8, suffix: u8, first: Sym, second: Second) -> Item {
     Item {

@@ -8,50 +8,43 @@ ghost use Rattle.parse_graph.specs.Graphs.{IsGraph};
 ghost use Rattle.span_table.specs.Tables.{IsMadeFor as IsTableFor};
 ghost use Rattle.graph_rows.specs.Rooms.{AreMadeFor};
 
-use crate::days::{graph_of, one_block};
+use crate::days::graph_of;
 use cheapest_tree::Pricer;
 use parse_graph::Graph;
 use roster_model::{
-    Cell, Cut, Grammar, Instance, LetterPrice, List, Mult, PriceRoom, Side, Step, TreeRoom,
+    Cell, Cut, Grammar, Instance, LetterPrice, Memory, Mult, PriceRoom, Side, Step, TreeRoom,
     is_sound_instance,
 };
+use sample_days::{BLOCK_NAMES, BLOCKS, CELL, DayParts, day};
 use span_table::Table;
-use std::alloc::{AllocError, Global};
+use std::alloc::Global;
 use std::process::Abort;
 use std::test::Fail;
 use word_prices::WordPrices;
 
-/// A demand in each period.
-fn cells(alloc: Global) -> Result<List<Cell>, AllocError> {
+/// A day of four periods with one block, and a demand in each period.
+fn block_day(alloc: Global) -> Result<Instance, Memory> {
     let cells = [1, 2, 3, 4].map(|period| Cell {
-        code: 0,
         period,
-        need: 1,
-        under: 10,
         over: 3,
-        floor: 0,
-        ceiling: 64,
+        ..CELL
     });
-    Ok(List::from_vec(cells.to_vec(alloc)?))
-}
-
-/// A day of four periods with one block.
-fn day(alloc: Global) -> Result<Instance, AllocError> {
-    let grammar = one_block(alloc)?;
-    let cells = cells(alloc)?;
-    Ok(Instance {
-        grammar,
-        heads_min: 0,
-        heads_max: 2,
-        groups: List::new(alloc),
-        cells,
-    })
+    let parts = DayParts {
+        periods: 4,
+        names: &BLOCK_NAMES,
+        rules: &BLOCKS,
+        start: 0,
+        heads: (0, 2),
+        groups: &[],
+        cells: &cells,
+    };
+    day(alloc, &parts)
 }
 
 fn sound_day(alloc: Global) -> Result<Instance, Fail>
     ensures { IfOk result IsSoundInstance }
 {
-    let day = day(alloc)?;
+    let day = block_day(alloc)?;
     if is_sound_instance(&day) {
         return Ok(day);
     }

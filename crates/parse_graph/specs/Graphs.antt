@@ -63,11 +63,13 @@ pub record HasArcs (g : Grammar) (listed : List ArcKey) : Type 0 where
   pub sound : (p : ℕ) (a : ArcKey) → slice_get listed p ≡ Some a → IsArc g a
   pub whole : (a : ArcKey) → IsArc g a → (p : ℕ) × (slice_get listed p ≡ Some a)
   pub once : (p q : ℕ) (a : ArcKey) → slice_get listed p ≡ Some a → slice_get listed q ≡ Some a → p ≡ q
-  pub upward : (p q : ℕ) (a b : ArcKey) → slice_get listed p ≡ Some a → slice_get listed q ≡ Some b → In (made g b) (used g a) → q < p
+  pub upward : (p q : ℕ) (a b : ArcKey) → slice_get listed p ≡ Some a → slice_get listed q ≡ Some b
+      → In (made g b) (used g a) → q < p
 
 -- the nodes that these arcs make, each once
 pub record HasNodes (g : Grammar) (listed : List ArcKey) (nodes : List OrNode) : Type 0 where
-  pub made : (n : ℕ) (o : OrNode) → slice_get nodes n ≡ Some o → (p : ℕ) × (a : ArcKey) × (slice_get listed p ≡ Some a) × (made g a ≡ o)
+  pub made : (n : ℕ) (o : OrNode) → slice_get nodes n ≡ Some o → (p : ℕ) × (a : ArcKey)
+      × (slice_get listed p ≡ Some a) × (made g a ≡ o)
   pub once : (n m : ℕ) (o : OrNode) → slice_get nodes n ≡ Some o → slice_get nodes m ≡ Some o → n ≡ m
 
 -- the graph is that of the grammar
@@ -75,10 +77,14 @@ pub record IsGraph (g : Grammar) (v : GraphView) : Type 0 where
   pub arcs : HasArcs g v.arcs
   pub few : length v.arcs ≤ 100000
   pub nodes : HasNodes g v.arcs v.nodes
-  pub made_by : (p : ℕ) (a : ArcKey) → slice_get v.arcs p ≡ Some a → (n : ℕ) × (slice_get v.made_by p ≡ Some n) × (slice_get v.nodes n ≡ Some (made g a))
-  pub kids : (p : ℕ) (a : ArcKey) → slice_get v.arcs p ≡ Some a → (k : Kid × Kid) × (slice_get v.first p ≡ Some k.0) × (slice_get v.rest p ≡ Some k.1) × AreKids v.nodes (used g a) k
-  pub makers : (n : ℕ) (o : OrNode) → slice_get v.nodes n ≡ Some o → slice_get v.makers n ≡ Some (places (λ a. same_node o (made g a)) v.arcs)
-  pub users : (n : ℕ) (o : OrNode) → slice_get v.nodes n ≡ Some o → slice_get v.users n ≡ Some (places (λ a. is_among o (used g a)) v.arcs)
+  pub made_by : (p : ℕ) (a : ArcKey) → slice_get v.arcs p ≡ Some a → (n : ℕ)
+      × (slice_get v.made_by p ≡ Some n) × (slice_get v.nodes n ≡ Some (made g a))
+  pub kids : (p : ℕ) (a : ArcKey) → slice_get v.arcs p ≡ Some a → (k : Kid × Kid)
+      × (slice_get v.first p ≡ Some k.0) × (slice_get v.rest p ≡ Some k.1) × AreKids v.nodes (used g a) k
+  pub makers : (n : ℕ) (o : OrNode) → slice_get v.nodes n ≡ Some o
+      → slice_get v.makers n ≡ Some (places (λ a. same_node o (made g a)) v.arcs)
+  pub users : (n : ℕ) (o : OrNode) → slice_get v.nodes n ≡ Some o
+      → slice_get v.users n ≡ Some (places (λ a. is_among o (used g a)) v.arcs)
   pub root : IsRoot g v.nodes v.root
 
 -- the graph is that of a sound grammar
@@ -87,5 +93,6 @@ HasGrammar v = (g : Grammar) × IsSound g × IsGraph g v
 
 -- no graph is built: the instance has this many arcs, more than 100,000, or memory ran out
 abbrev pub IsRefused : Grammar → GraphFault → Type 0
-IsRefused g (TooManyArcs count) = (listed : List ArcKey) × AreArcs g listed × (count ≡ length listed) × (100000 < count)
+IsRefused g (TooManyArcs count) = (listed : List ArcKey) × AreArcs g listed × (count ≡ length listed)
+    × (100000 < count)
 IsRefused g Memory = Unit {0}

@@ -45,12 +45,16 @@ pub record AreLinked (g : Grammar) (arcs : List ArcKey) (listed : List OrNode) (
   pub nodes : HasNodes g arcs listed
   pub few : length listed ≤ length arcs
   pub one_each : length numbers ≡ length arcs
-  pub made_by : (p : ℕ) (a : ArcKey) → slice_get arcs p ≡ Some a → (n : ℕ) × (slice_get numbers p ≡ Some n) × (slice_get listed n ≡ Some (made g a))
+  pub made_by : (p : ℕ) (a : ArcKey) → slice_get arcs p ≡ Some a → (n : ℕ) × (slice_get numbers p ≡ Some n)
+      × (slice_get listed n ≡ Some (made g a))
   pub first_each : length firsts ≡ length arcs
   pub rest_each : length rests ≡ length arcs
-  pub kids : (p : ℕ) (a : ArcKey) → slice_get arcs p ≡ Some a → (k : Kid × Kid) × (slice_get firsts p ≡ Some k.0) × (slice_get rests p ≡ Some k.1) × AreKids listed (used g a) k
-  pub makers : (n : ℕ) (o : OrNode) → slice_get listed n ≡ Some o → items_of n made_entries ≡ places (λ a. same_node o (made g a)) arcs
-  pub users : (n : ℕ) (o : OrNode) → slice_get listed n ≡ Some o → items_of n used_entries ≡ places (λ a. is_among o (used g a)) arcs
+  pub kids : (p : ℕ) (a : ArcKey) → slice_get arcs p ≡ Some a → (k : Kid × Kid)
+      × (slice_get firsts p ≡ Some k.0) × (slice_get rests p ≡ Some k.1) × AreKids listed (used g a) k
+  pub makers : (n : ℕ) (o : OrNode) → slice_get listed n ≡ Some o
+      → items_of n made_entries ≡ places (λ a. same_node o (made g a)) arcs
+  pub users : (n : ℕ) (o : OrNode) → slice_get listed n ≡ Some o
+      → items_of n used_entries ≡ places (λ a. is_among o (used g a)) arcs
   pub maker_rows : All (λ (e : Entry). e.row < length listed) made_entries
   pub user_rows : All (λ (e : Entry). e.row < length listed) used_entries
   pub few_makers : length made_entries ≤ length arcs

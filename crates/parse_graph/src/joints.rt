@@ -58,8 +58,10 @@ fn lists_of(alloc: Global, links: &Links) -> Result<NodeLists, Memory>
     requires few_makers { length links.now.entries.makers < 2 ^ 32 }
     requires few_users { length links.now.entries.users < 2 ^ 32 }
     ensures keys { IfOk result (λ n. n.keys ≡ links.now.nodes.keys) }
-    ensures makers { IfOk result (λ n. AreRows (length links.now.nodes.keys) links.now.entries.makers n.makers) }
-    ensures users { IfOk result (λ n. AreRows (length links.now.nodes.keys) links.now.entries.users n.users) }
+    ensures makers { IfOk result (λ n.
+        AreRows (length links.now.nodes.keys) links.now.entries.makers n.makers) }
+    ensures users { IfOk result (λ n.
+        AreRows (length links.now.nodes.keys) links.now.entries.users n.users) }
 {
     let keys = nodes_of(alloc, &links.nodes)?;
     let rows = rows_of(alloc, keys.len(), &links.entries)?;

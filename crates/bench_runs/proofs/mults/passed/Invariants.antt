@@ -1,5 +1,5 @@
 use Rattle.cheapest_tree.specs.Pricers.{IsMadeFor}
 use Rattle.bench_runs.proofs.mults.passed.Given as goal
 
-abbrev pub invariant-loop-_ : goal.invariant-loop-_
-invariant-loop-_ l = IsMadeFor l.graph l.pricer
+abbrev pub invariant-loop : goal.invariant-loop
+invariant-loop l = IsMadeFor l.graph l.pricer
