@@ -12,3 +12,5 @@ pub mod TeamsAgain
 pub mod NeedsAgain
 pub mod FineLines
 pub mod TextAgain
+pub mod RefusedLines
+pub mod FormsLemmas

@@ -5,3 +5,4 @@ pub mod Lines
 pub mod InstanceOf
 pub mod Drafts
 pub mod Written
+pub mod Forms

@@ -1,4 +1,4 @@
-ghost use Rattle.std.specs.Prelude.{◌≡◌, ◌≤◌, List, Ok, length};
+ghost use Rattle.std.specs.Prelude.{◌≡◌, ◌≤◌, ◌⊎◌, ℕ, List, Ok, Err, length};
 ghost use Rattle.roster_model.specs.declared.grammar.Grammar.{Grammar};
 ghost use Rattle.roster_model.specs.declared.instance.Group.{Group};
 ghost use Rattle.roster_model.specs.declared.instance.Instance.{Instance};
@@ -6,6 +6,9 @@ ghost use Rattle.roster_model.specs.Demands.{Demand};
 ghost use Rattle.roster_model.specs.Extension.{extended};
 ghost use Rattle.roster_model.specs.Sound.{IsSound, IsPlain};
 ghost use Rattle.roster_model.specs.SoundInstance.{AreGroups, IsSoundInstance};
+ghost use Rattle.demand_text.specs.declared.fault.DemandFault.{DemandFault};
+ghost use Rattle.demand_text.specs.declared.fault.DemandFault.TheVariants.{NoHeads, TooLong};
+ghost use Rattle.demand_text.specs.Forms.{IsComplete, IsFirstRefused, AllStand};
 ghost use Rattle.demand_text.specs.InstanceOf.{day_grammar, instance_of};
 ghost use Rattle.demand_text.specs.Written.{AreDemandsOf, demand_text};
 
@@ -21,4 +24,17 @@ pub fn written_again()
     ensures { (g : Grammar) (i : Instance) (ds : List Demand) → IsSound g → IsPlain g
         → i.grammar ≡ day_grammar g i.groups → IsSoundInstance i → AreDemandsOf i ds
         → instance_of g (demand_text i ds) ≡ Ok i }
+{}
+
+/// States a law: an accepted text consists of lines of the five forms, of which one is a heads line,
+/// or else one to eight are group lines.
+pub fn accepted_lines()
+    ensures { (g : Grammar) (text : List ℕ) (i : Instance) → instance_of g text ≡ Ok i → IsComplete g text }
+{}
+
+/// States a law: a refused text is too long, or has a line that cannot stand after those before it,
+/// whose number the fault carries, or all its lines stand and none says how many employees work.
+pub fn refused_line()
+    ensures { (g : Grammar) (text : List ℕ) (e : DemandFault) → instance_of g text ≡ Err e
+        → (e ≡ TooLong) ⊎ (IsFirstRefused g text e ⊎ (AllStand g text × (e ≡ NoHeads))) }
 {}

@@ -33,7 +33,7 @@ mod read;
 mod write;
 
 pub use fault::DemandFault;
-pub use laws::{extension_is_sound, written_again};
+pub use laws::{accepted_lines, extension_is_sound, refused_line, written_again};
 pub use message::fault_line;
 pub use read::read_demand;
 pub use write::write_demand;
