@@ -32,7 +32,7 @@ pub use certificates::{Cert, Node, Why, is_sound_cert};
 pub use laws::written_again;
 pub use proof_pieces::{
     CertRoom, Piece, PieceFault, Pieces, ProofFault, accepted_pieces, fault_line, refused_pieces,
-    told_pieces_are_sound,
+    told_before_a_fault, told_pieces_are_sound,
 };
 pub use read::read_cert;
 pub use write::write_cert;

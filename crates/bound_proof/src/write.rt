@@ -261,7 +261,8 @@ fn cert_lines(alloc: Global, instance: &Instance, cert: &Cert) -> Result<List<u8
 }
 
 /// Writes the text of a sound certificate, with one space between words and no comment. It has at
-/// most 10,000 bytes, and 128 more for each node and 40 more for each price and each multiplier.
+/// most 10,000 bytes, and 128 more for each node and 40 more for each price and each multiplier. After
+/// want of memory there is no text.
 pub fn write_cert(alloc: Global, instance: &Instance, cert: &Cert) -> Result<List<u8>, Memory>
     requires sound { IsSoundInstance instance.now }
     requires cert { IsSoundCert instance.now cert.now }

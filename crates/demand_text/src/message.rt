@@ -1,4 +1,4 @@
-ghost use Rattle.std.specs.Prelude.{◌≡◌, ◌++◌, [], ◌∷◌, IfOk, OnOk};
+ghost use Rattle.std.specs.Prelude.{◌≡◌, ◌++◌, [], ◌∷◌, IfOk};
 ghost use Rattle.demand_text.specs.FaultLine.{line_of, fault_text, fault_line};
 
 use crate::fault::DemandFault;
@@ -26,36 +26,36 @@ fn line_of(fault: &DemandFault) -> Option<u32>
 }
 
 #[tactic(auto, unfolding(crate::specs::FaultLine::fault_text))]
-fn put_text(out: &mut List<u8>, fault: &DemandFault) -> Result<(), Memory>
-    ensures { OnOk result (out.new ≡ out.old ++ fault_text fault.now) }
+fn text_of(fault: &DemandFault) -> &'static [u8]
+    ensures { result.now ≡ fault_text fault.now }
 {
     match *fault {
-        DemandFault::BadByte { .. } => put(out, b"bad byte"),
-        DemandFault::UnknownLine { .. } => put(out, b"unknown line"),
-        DemandFault::BadNumber { .. } => put(out, b"bad number"),
-        DemandFault::OutOfRange { .. } => put(out, b"out of range"),
-        DemandFault::NotWork { .. } => put(out, b"not a work code"),
-        DemandFault::Twice { .. } => put(out, b"said twice"),
-        DemandFault::WrongCount { .. } => put(out, b"wrong count of needs"),
-        DemandFault::NoHeads => put(out, b"no heads line"),
-        DemandFault::TooLong => put(out, b"the text is too long"),
-        DemandFault::NoNeed { .. } => put(out, b"no need line before"),
-        DemandFault::NoName { .. } => put(out, b"no such name"),
-        DemandFault::Mixed { .. } => put(out, b"heads and groups together"),
-        DemandFault::TooManyGroups { .. } => put(out, b"too many groups, at most 8"),
-        DemandFault::Memory => put(out, b"out of memory"),
+        DemandFault::BadByte { .. } => b"bad byte",
+        DemandFault::UnknownLine { .. } => b"unknown line",
+        DemandFault::BadNumber { .. } => b"bad number",
+        DemandFault::OutOfRange { .. } => b"out of range",
+        DemandFault::NotWork { .. } => b"not a work code",
+        DemandFault::Twice { .. } => b"said twice",
+        DemandFault::WrongCount { .. } => b"wrong count of needs",
+        DemandFault::NoHeads => b"no heads line",
+        DemandFault::TooLong => b"the text is too long",
+        DemandFault::NoNeed { .. } => b"no need line before",
+        DemandFault::NoName { .. } => b"no such name",
+        DemandFault::Mixed { .. } => b"heads and groups together",
+        DemandFault::TooManyGroups { .. } => b"too many groups, at most 8",
+        DemandFault::Memory => b"out of memory",
     }
 }
 
 /// Returns the line that tells a fault, as `demand: line 2: wrong count of needs` with a line feed.
-/// A fault that carries no line has none in the text either.
+/// A fault that carries no line has none in the text either. After want of memory there is no line.
 pub fn fault_line(alloc: Global, fault: &DemandFault) -> Result<List<u8>, Memory>
     ensures { IfOk result (λ text. text ≡ fault_line fault.now) }
 {
     let mut out = List::new(alloc);
     put(&mut out, b"demand: ")?;
     put_place(&mut out, line_of(fault))?;
-    put_text(&mut out, fault)?;
+    put(&mut out, text_of(fault))?;
     out.push(b'\n')?;
     Ok(out)
 }

@@ -148,7 +148,7 @@ fn demand_lines(out: &mut List<u8>, grammar: &Grammar, cells: &[Cell]) -> Result
 
 /// Writes the text of a sound instance: the heads line or the group lines, and for each demanded
 /// code its need line, its `least` line where some floor is not 0, and its `most` line where some
-/// ceiling is not 64.
+/// ceiling is not 64. After want of memory there is no text.
 pub fn write_demand(alloc: Global, instance: &Instance) -> Result<List<u8>, Memory>
     requires { IsSoundInstance instance.now }
     ensures { IfOk result (λ text. (ds : Items Demand) → AreDemandsOf instance.now ds → text ≡ demand_text instance.now ds) }

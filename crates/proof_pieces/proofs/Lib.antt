@@ -8,3 +8,4 @@ pub mod TreeKept
 pub mod PiecesKept
 pub mod ToldKept
 pub mod RefusedPieces
+pub mod ToldFronts

@@ -6,7 +6,7 @@ ghost use Rattle.certificates.specs.Sound.{IsSoundCert};
 ghost use Rattle.proof_pieces.specs.declared.fault.ProofFault.{ProofFault};
 ghost use Rattle.proof_pieces.specs.CertOf.{proof_of, cert_pieces};
 ghost use Rattle.proof_pieces.specs.PieceList.{no_place, pieces_of};
-ghost use Rattle.proof_pieces.specs.Refused.{TellsFault};
+ghost use Rattle.proof_pieces.specs.Refused.{TellsFault, TellsFront};
 ghost use Rattle.proof_pieces.specs.ToldSound.{AreToldSound};
 
 /// States a law: where a text says a certificate, its pieces are the certificate's cost, bound,
@@ -19,6 +19,12 @@ pub fn accepted_pieces()
 /// States a law: where a text is refused, its pieces have no end, and the last of them is the fault.
 pub fn refused_pieces()
     ensures { (i : Instance) (text : List ℕ) (e : ProofFault) → proof_of i text ≡ Err e → TellsFault (pieces_of i text) e }
+{}
+
+/// States a law: what a refused text tells before its fault is a front of what some certificate
+/// tells: its cost, its bound, its first shifts or all, and then its first nodes.
+pub fn told_before_a_fault()
+    ensures { (i : Instance) (text : List ℕ) (e : ProofFault) → proof_of i text ≡ Err e → TellsFront (pieces_of i text) }
 {}
 
 /// States a law, of texts that end well and of others: each shift that a text tells is sound and one

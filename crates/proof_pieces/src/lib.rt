@@ -41,7 +41,7 @@ mod stage;
 
 pub use block::due_byte;
 pub use fault::{PieceFault, ProofFault};
-pub use laws::{accepted_pieces, refused_pieces, told_pieces_are_sound};
+pub use laws::{accepted_pieces, refused_pieces, told_before_a_fault, told_pieces_are_sound};
 pub use message::fault_line;
 pub use piece::Piece;
 pub use pieces::Pieces;

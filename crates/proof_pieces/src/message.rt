@@ -1,4 +1,4 @@
-ghost use Rattle.std.specs.Prelude.{◌≡◌, ◌++◌, [], ◌∷◌, IfOk, OnOk};
+ghost use Rattle.std.specs.Prelude.{◌≡◌, ◌++◌, [], ◌∷◌, IfOk};
 ghost use Rattle.proof_pieces.specs.FaultLine.{line_of, fault_text, fault_line};
 
 use crate::fault::ProofFault;
@@ -22,32 +22,32 @@ fn line_of(fault: &ProofFault) -> Option<u32>
 }
 
 #[tactic(auto, unfolding(crate::specs::FaultLine::fault_text))]
-fn put_text(out: &mut List<u8>, fault: &ProofFault) -> Result<(), Memory>
-    ensures { OnOk result (out.new ≡ out.old ++ fault_text fault.now) }
+fn text_of(fault: &ProofFault) -> &'static [u8]
+    ensures { result.now ≡ fault_text fault.now }
 {
     match *fault {
-        ProofFault::BadByte { .. } => put(out, b"bad byte"),
-        ProofFault::UnknownLine { .. } => put(out, b"unknown line"),
-        ProofFault::BadNumber { .. } => put(out, b"bad number"),
-        ProofFault::OutOfRange { .. } => put(out, b"out of range"),
-        ProofFault::BadHeader { .. } => put(out, b"bad header"),
-        ProofFault::CutShort => put(out, b"the text ends early"),
-        ProofFault::Trailing { .. } => put(out, b"text after the end"),
-        ProofFault::TooManyNodes { .. } => put(out, b"too many nodes, at most 20001"),
-        ProofFault::TooLong => put(out, b"the text is too long"),
-        ProofFault::Memory => put(out, b"out of memory"),
+        ProofFault::BadByte { .. } => b"bad byte",
+        ProofFault::UnknownLine { .. } => b"unknown line",
+        ProofFault::BadNumber { .. } => b"bad number",
+        ProofFault::OutOfRange { .. } => b"out of range",
+        ProofFault::BadHeader { .. } => b"bad header",
+        ProofFault::CutShort => b"the text ends early",
+        ProofFault::Trailing { .. } => b"text after the end",
+        ProofFault::TooManyNodes { .. } => b"too many nodes, at most 20001",
+        ProofFault::TooLong => b"the text is too long",
+        ProofFault::Memory => b"out of memory",
     }
 }
 
 /// Returns the line that tells a fault, as `proof: line 3: unknown line` with a line feed. A fault
-/// that carries no line has none in the text either.
+/// that carries no line has none in the text either. After want of memory there is no line.
 pub fn fault_line(alloc: Global, fault: &ProofFault) -> Result<List<u8>, Memory>
     ensures { IfOk result (λ text. text ≡ fault_line fault.now) }
 {
     let mut out = List::new(alloc);
     put(&mut out, b"proof: ")?;
     put_place(&mut out, line_of(fault))?;
-    put_text(&mut out, fault)?;
+    put(&mut out, text_of(fault))?;
     out.push(b'\n')?;
     Ok(out)
 }

@@ -71,7 +71,7 @@ fn put_text(out: &mut List<u8>, fault: &RulesFault) -> Result<(), Memory>
 }
 
 /// Returns the line that tells a fault, as `rules: line 3: empty right side` with a line feed. A
-/// fault that carries no line has none in the text either.
+/// fault that carries no line has none in the text either. After want of memory there is no line.
 pub fn fault_line(alloc: Global, fault: &RulesFault) -> Result<List<u8>, Memory>
     ensures { IfOk result (λ text. text ≡ fault_line fault.now) }
 {

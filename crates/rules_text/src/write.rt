@@ -139,7 +139,8 @@ fn rule_lines(
 }
 
 /// Writes the text of a sound grammar with at most 32 names and 64 rules: the periods, a line for
-/// each code, the start, and the rules with those windows that are not 1 to 96, each in order.
+/// each code, the start, and the rules with those windows that are not 1 to 96, each in order. After
+/// want of memory there is no text.
 pub fn write_rules(alloc: Global, grammar: &Grammar) -> Result<List<u8>, Memory>
     requires sound { IsSound grammar.now }
     requires plain { IsPlain grammar.now }

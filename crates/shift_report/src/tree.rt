@@ -4,9 +4,10 @@ ghost use Rattle.text_lines.specs.Written.{written};
 ghost use Rattle.roster_model.specs.declared.grammar.Step.{Step};
 ghost use Rattle.shift_report.specs.TreeText.{HasRule, left_name, tree_text, use_line};
 
-use crate::write::{write_bytes, write_field};
+use crate::write::write_field;
 use roster_model::{Grammar, List, Memory, Step};
 use std::alloc::Global;
+use text_lines::put;
 
 // The name on the left side of a rule.
 fn left_name<'a>(grammar: &'a Grammar, rule: u8) -> &'a [u8]
@@ -24,10 +25,10 @@ fn write_use(out: &mut List<u8>, grammar: &Grammar, step: &Step) -> Result<(), M
     requires exists { HasRule grammar.now step.now.rule }
     ensures { OnOk result (out.new ≡ out.old ++ written (use_line grammar.now step.now ∷ [])) }
 {
-    write_bytes(out, b"use")?;
+    put(out, b"use")?;
     write_field(out, u64::from(step.rule))?;
     out.push(b' ')?;
-    write_bytes(out, left_name(grammar, step.rule))?;
+    put(out, left_name(grammar, step.rule))?;
     write_field(out, u64::from(step.start))?;
     write_field(out, u64::from(step.len))?;
     out.push(b'\n')
@@ -35,6 +36,7 @@ fn write_use(out: &mut List<u8>, grammar: &Grammar, step: &Step) -> Result<(), M
 
 /// Returns the text of a derivation: the line `word WORD`, the line `cost X`, and then, in the order
 /// of the steps, a line `use R NAME START LENGTH` for each, where NAME is the left side of rule R.
+/// After want of memory there is no text.
 pub fn write_tree(
     alloc: Global,
     grammar: &Grammar,
@@ -47,9 +49,9 @@ pub fn write_tree(
     ensures { IfOk result (λ text. text ≡ tree_text grammar.now word.now cost steps.now) }
 {
     let mut out = List::new(alloc);
-    write_bytes(&mut out, b"word ")?;
-    write_bytes(&mut out, word)?;
-    write_bytes(&mut out, b"\ncost")?;
+    put(&mut out, b"word ")?;
+    put(&mut out, word)?;
+    put(&mut out, b"\ncost")?;
     write_field(&mut out, cost)?;
     out.push(b'\n')?;
     for step in steps {

@@ -1,13 +1,15 @@
 ghost use Rattle.std.specs.Prelude.{◌≡◌, ◌++◌, IfOk, OnOk, codes};
 ghost use Rattle.shift_report.specs.VerdictText.{amount, field, arc_fields, group_field, why_line, verdict_text};
 
-use crate::write::{write_bytes, write_field};
+use crate::write::write_field;
 use certificates::{Verdict, Why};
 use roster_model::{ArcKey, List, Memory};
 use std::alloc::Global;
+use text_lines::put;
 
 /// Returns the text of a verdict: the lines `yes`, `cost X` and `bound X`, where X is a number or
-/// `none`, or one line `no` with the number of the cause, its name and its values.
+/// `none`, or one line `no` with the number of the cause, its name and its values. After want of memory
+/// there is no text.
 pub fn write_verdict(alloc: Global, verdict: &Verdict) -> Result<List<u8>, Memory>
     ensures { IfOk result (λ text. text ≡ verdict_text verdict.now) }
 {
@@ -24,9 +26,9 @@ pub fn write_verdict(alloc: Global, verdict: &Verdict) -> Result<List<u8>, Memor
 fn write_yes(out: &mut List<u8>, cost: Option<u64>, bound: Option<u64>) -> Result<(), Memory>
     ensures { OnOk result (out.new ≡ out.old ++ (codes "yes\ncost" ++ amount cost ++ codes "\nbound" ++ amount bound)) }
 {
-    write_bytes(out, b"yes\ncost")?;
+    put(out, b"yes\ncost")?;
     write_amount(out, cost)?;
-    write_bytes(out, b"\nbound")?;
+    put(out, b"\nbound")?;
     write_amount(out, bound)
 }
 
@@ -51,7 +53,7 @@ fn write_why(out: &mut List<u8>, why: Why) -> Result<(), Memory>
 fn write_number(out: &mut List<u8>, phrase: &[u8], number: u64) -> Result<(), Memory>
     ensures { OnOk result (out.new ≡ out.old ++ (phrase.now ++ field number)) }
 {
-    write_bytes(out, phrase)?;
+    put(out, phrase)?;
     write_field(out, number)
 }
 
@@ -61,7 +63,7 @@ fn write_amount(out: &mut List<u8>, number: Option<u64>) -> Result<(), Memory>
 {
     match number {
         Some(number) => write_field(out, number),
-        None => write_bytes(out, b" none"),
+        None => put(out, b" none"),
     }
 }
 
@@ -76,7 +78,7 @@ fn write_shift_cost(out: &mut List<u8>, shift: u32, said: u64, least: u64) -> Re
 fn write_heads(out: &mut List<u8>, group: u8, count: u32) -> Result<(), Memory>
     ensures { OnOk result (out.new ≡ out.old ++ why_line (Why.WrongHeads group count)) }
 {
-    write_bytes(out, b"no 3 wrong heads:")?;
+    put(out, b"no 3 wrong heads:")?;
     write_group(out, group)?;
     write_number(out, b" count", u64::from(count))
 }
@@ -102,7 +104,7 @@ fn write_loose(out: &mut List<u8>, node: u32, arc: &ArcKey) -> Result<(), Memory
     ensures { OnOk result (out.new ≡ out.old ++ why_line (Why.NotPinned node arc.now)) }
 {
     write_number(out, b"no 7 not pinned: node", u64::from(node))?;
-    write_bytes(out, b" arc")?;
+    put(out, b" arc")?;
     write_arc(out, arc)
 }
 
@@ -120,16 +122,16 @@ fn write_arc(out: &mut List<u8>, arc: &ArcKey) -> Result<(), Memory>
 fn write_bound(out: &mut List<u8>, said: Option<u64>, shown: Option<u64>) -> Result<(), Memory>
     ensures { OnOk result (out.new ≡ out.old ++ why_line (Why.BoundTooHigh said shown)) }
 {
-    write_bytes(out, b"no 8 bound too high: said")?;
+    put(out, b"no 8 bound too high: said")?;
     write_amount(out, said)?;
-    write_bytes(out, b" shown")?;
+    put(out, b" shown")?;
     write_amount(out, shown)
 }
 
 fn write_outside(out: &mut List<u8>, code: u8, period: u8, have: u32) -> Result<(), Memory>
     ensures { OnOk result (out.new ≡ out.old ++ why_line (Why.Outside code period have)) }
 {
-    write_bytes(out, b"no 9 outside floor or ceiling: code ")?;
+    put(out, b"no 9 outside floor or ceiling: code ")?;
     out.push(code)?;
     write_number(out, b" period", u64::from(period))?;
     write_number(out, b" have", u64::from(have))

@@ -4,17 +4,7 @@ ghost use Rattle.text_lines.specs.Numbers.{number_text};
 use roster_model::{List, Memory};
 use text_lines::write_number;
 
-/// Appends bytes.
-pub(crate) fn write_bytes(out: &mut List<u8>, bytes: &[u8]) -> Result<(), Memory>
-    ensures { OnOk result (out.new ≡ out.old ++ bytes.now) }
-{
-    for byte in bytes {
-        out.push(*byte)?;
-    }
-    Ok(())
-}
-
-/// Appends a space and a number.
+/// Appends a space and a number. After want of memory the space may stand there without the number.
 pub(crate) fn write_field(out: &mut List<u8>, number: u64) -> Result<(), Memory>
     ensures { OnOk result (out.new ≡ out.old ++ 32 ∷ number_text (pos number)) }
 {

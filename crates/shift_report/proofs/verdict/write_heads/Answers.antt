@@ -7,4 +7,4 @@ use Rattle.shift_report.proofs.verdict.write_heads.Goals as goal
 pub returns : goal.returns
 returns c =
     three _ _ _ c.args.out.now (codes "no 3 wrong heads:") (group_field c.args.group) (codes " count" ++ field c.args.count)
-    (c.in_ok-write_group.ensures ∙ ap (λ t. t ++ group_field c.args.group) c.in_ok-write_bytes.ensures) (rw c.from.ensures at c.write_number.ensures)
+    (c.in_ok-write_group.ensures ∙ ap (λ t. t ++ group_field c.args.group) c.in_ok-put.ensures.ok) (rw c.from.ensures at c.write_number.ensures)

@@ -8,6 +8,6 @@ pub returns : goal.returns
 returns c =
     let head = codes "no 9 outside floor or ceiling: code " in
     let at = codes " period" ++ field c.args.period in
-    let code = c.in_ok-push.ensures.ok ∙ ap (λ t. t ++ (c.args.code ∷ [])) c.in_ok-write_bytes.ensures ∙ append_assoc c.args.out.now head (c.args.code ∷ []) in
+    let code = c.in_ok-push.ensures.ok ∙ ap (λ t. t ++ (c.args.code ∷ [])) c.in_ok-put.ensures.ok ∙ append_assoc c.args.out.now head (c.args.code ∷ []) in
     let period = rw c.from.ensures at c.in_ok-write_number.ensures in
     three _ _ _ c.args.out.now (head ++ (c.args.code ∷ [])) at (codes " have" ++ field c.args.have) (period ∙ ap (λ t. t ++ at) code) (rw c.from-2.ensures at c.write_number-2.ensures)
