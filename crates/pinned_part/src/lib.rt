@@ -21,6 +21,3 @@ pub use loose::first_loose;
 pub use places::place_count;
 pub use value::{allowed_penalties, pinned_value};
 pub use walk::{arc_cost, clear};
-
-#[cfg(test)]
-mod tests;

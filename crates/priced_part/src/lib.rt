@@ -11,6 +11,3 @@ mod shares;
 
 pub use infeasible::is_plainly_infeasible;
 pub use priced::{priced_value, value_from_least};
-
-#[cfg(test)]
-mod tests;

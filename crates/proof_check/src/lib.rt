@@ -17,8 +17,6 @@ mod rooms;
 mod seen;
 mod stack;
 mod tables;
-#[cfg(test)]
-mod tests;
 mod text;
 mod verdict;
 mod walk;

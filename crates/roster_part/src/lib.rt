@@ -15,6 +15,3 @@ pub use coverage::coverage_fault;
 pub use roster::roster_fault;
 pub use shift_room::ShiftRoom;
 pub use stated::StatedShift;
-
-#[cfg(test)]
-mod tests;

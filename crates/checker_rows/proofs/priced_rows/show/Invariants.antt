@@ -1,7 +1,7 @@
 use Rattle.std.proofs.Common.{◌≡◌}
 use Rattle.roster_model.specs.PriceRooms.{IsRoomFor}
 use Rattle.span_table.specs.Tables.{IsMadeFor}
-use Rattle.priced_part.proofs.tests.show.Given as goal
+use Rattle.checker_rows.proofs.priced_rows.show.Given as goal
 
 abbrev pub invariant-loop-case : goal.invariant-loop-case
 invariant-loop-case g l = record {

@@ -1,19 +1,9 @@
-use crate::{Balances, first_loose, high, low, pinned_value};
-use roster_model::{
-    ArcKey, Cell, CodeDef, Cut, Grammar, Instance, List, Rule, Side, Sym, Window, is_sound_instance,
-};
+use pinned_part::{Balances, first_loose, high, low, pinned_value};
+use roster_model::{ArcKey, Cell, Cut, Grammar, Instance, List, Side, is_sound_instance};
+use sample_days::{BLOCK_NAMES, BLOCKS, PAIRS, grammar};
 use span_arcs::DayArcs;
 use std::alloc::{AllocError, Global};
 use std::test::Fail;
-
-const ALL: Window = Window { lo: 1, hi: 96 };
-
-const WORK: Sym = Sym::Code(0);
-
-const REST: Sym = Sym::Code(1);
-
-/// A rule: its left side, its cost, its right side, and the lengths on which it may stand.
-type RuleParts<'a> = (u8, u32, &'a [Sym], Window);
 
 /// What a day asks of the work code: the range of the heads, and of each period the need, the floor
 /// and the ceiling. A missing employee costs 10, and a further one `over`.
@@ -22,46 +12,6 @@ struct Asked<'a> {
     heads: (u32, u32),
     over: u32,
     periods: &'a [(u32, u32, u32)],
-}
-
-fn grammar(
-    alloc: Global,
-    periods: u8,
-    names: &[&str],
-    rules: &[RuleParts],
-) -> Result<Grammar, AllocError> {
-    let codes = [
-        CodeDef {
-            byte: b'a',
-            work: true,
-        },
-        CodeDef {
-            byte: b'.',
-            work: false,
-        },
-    ];
-    let mut texts = Vec::new(alloc);
-    for name in names {
-        texts.push(List::from_vec(name.as_bytes().to_vec(alloc)?))?;
-    }
-    let mut list = Vec::new(alloc);
-    for (left, cost, right, span) in rules {
-        list.push(Rule {
-            left: *left,
-            cost: *cost,
-            right: List::from_vec(right.to_vec(alloc)?),
-            span: *span,
-            first: ALL,
-            last: ALL,
-        })?;
-    }
-    Ok(Grammar {
-        periods,
-        codes: List::from_vec(codes.to_vec(alloc)?),
-        names: List::from_vec(texts),
-        rules: List::from_vec(list),
-        start: 0,
-    })
 }
 
 fn instance(alloc: Global, grammar: Grammar, asked: Asked) -> Result<Instance, AllocError> {
@@ -139,12 +89,6 @@ fn judged(
     Ok((value, loose))
 }
 
-const TWO_OF_THREE: [RuleParts; 3] = [
-    (0, 2, &[WORK, WORK, REST], ALL),
-    (0, 2, &[REST, WORK, WORK], ALL),
-    (0, 2, &[WORK, REST, WORK], ALL),
-];
-
 const ONE_EACH: Asked = Asked {
     heads: (0, 3),
     over: 0,
@@ -195,7 +139,7 @@ const CASES: [(Asked, [u32; 6], u64); 12] = [
 #[test]
 fn two_periods_of_three(rt: HostRuntime) -> Result<(), Fail> {
     for (asked, counts, value) in &CASES {
-        let rules = grammar(rt.alloc(), 3, &["S"], &TWO_OF_THREE)?;
+        let rules = grammar(rt.alloc(), 3, &["S"], &PAIRS, 0)?;
         let day = instance(rt.alloc(), rules, *asked)?;
         let cuts = pinned(rt.alloc(), &SIX, counts)?;
         let found = judged(&rt, &day, cuts.as_slice())?;
@@ -227,7 +171,7 @@ const AT_LEAST_THREE: Cut = Cut {
 
 #[test]
 fn the_first_loose_arc(rt: HostRuntime) -> Result<(), Fail> {
-    let rules = grammar(rt.alloc(), 3, &["S"], &TWO_OF_THREE)?;
+    let rules = grammar(rt.alloc(), 3, &["S"], &PAIRS, 0)?;
     let day = instance(rt.alloc(), rules, ONE_EACH)?;
     assert!(rt; judged(&rt, &day, &[])? == (30, Some(FIRST)));
     assert!(rt; judged(&rt, &day, &[AT_LEAST_THREE])? == (61, Some(SECOND)));
@@ -259,24 +203,6 @@ fn bounds_of_a_path(rt: HostRuntime) {
     assert_eq!(rt; high(3, cuts, &SECOND), 3);
 }
 
-const BLOCK: Sym = Sym::Name(1);
-
-const IDLE: Sym = Sym::Name(2);
-
-const RUN: Sym = Sym::Name(3);
-
-const BLOCKS: [RuleParts; 9] = [
-    (0, 0, &[BLOCK], ALL),
-    (0, 0, &[IDLE, BLOCK], ALL),
-    (0, 0, &[BLOCK, IDLE], ALL),
-    (0, 0, &[IDLE, BLOCK, IDLE], ALL),
-    (1, 2, &[RUN], Window { lo: 2, hi: 3 }),
-    (3, 1, &[WORK], ALL),
-    (3, 1, &[WORK, RUN], ALL),
-    (2, 0, &[REST], ALL),
-    (2, 0, &[REST, IDLE], ALL),
-];
-
 /// The arcs of rest, two periods of work, rest.
 const SEVEN: [ArcNumbers; 7] = [
     (4, 0, 1, 4, 1),
@@ -296,7 +222,7 @@ const FOUR: Asked = Asked {
 
 #[test]
 fn two_shifts_of_one_block(rt: HostRuntime) -> Result<(), Fail> {
-    let rules = grammar(rt.alloc(), 4, &["S", "W", "R", "A"], &BLOCKS)?;
+    let rules = grammar(rt.alloc(), 4, &BLOCK_NAMES, &BLOCKS, 0)?;
     let day = instance(rt.alloc(), rules, FOUR)?;
     let one = pinned(rt.alloc(), &SEVEN, &[1, 1, 1, 1, 1, 1, 1])?;
     let two = pinned(rt.alloc(), &SEVEN, &[2, 2, 2, 2, 2, 2, 2])?;

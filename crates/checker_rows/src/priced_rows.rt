@@ -3,36 +3,15 @@ ghost use Rattle.roster_model.specs.PriceLimits.{FitPrices, IsMult, AreRising};
 ghost use Rattle.roster_model.specs.SoundInstance.{IsSoundInstance};
 ghost use Rattle.roster_model.specs.Sums.{Within};
 
-use crate::priced_value;
+use priced_part::priced_value;
 use roster_model::{
-    ArcKey, Cell, CodeDef, Cut, Grammar, Group, Instance, List, Mult, PriceRoom, Rule, Side, Sym,
-    Window, is_sound_instance,
+    ArcKey, Cell, Cut, Group, Instance, Mult, PriceRoom, Side, Window, is_sound_instance,
 };
+use sample_days::{BLOCK_NAMES, BLOCKS, CELL, DayParts, PAIRS, SPLIT_DAYS, WORK, day};
 use span_table::Table;
-use std::alloc::{AllocError, Global};
+use std::alloc::Global;
 use std::process::Abort;
 use std::test::Fail;
-
-const DAY: Window = Window { lo: 1, hi: 96 };
-
-const WORK: Sym = Sym::Code(0);
-
-const REST: Sym = Sym::Code(1);
-
-/// A rule: its left side, its cost, its right side, and the lengths on which it may stand.
-type RuleParts<'a> = (u8, u32, &'a [Sym], Window);
-
-/// The parts of a day whose first name is the start. With groups the grammar has their rules.
-#[derive(Clone, Copy)]
-struct Parts<'a> {
-    periods: u8,
-    names: &'a [&'a str],
-    rules: &'a [RuleParts<'a>],
-    start: u8,
-    heads: (u32, u32),
-    groups: &'a [Group],
-    cells: &'a [Cell],
-}
 
 /// Prices at a list of cuts, and the value that they show.
 #[derive(Clone, Copy, Drop)]
@@ -44,55 +23,6 @@ struct Case<'a> {
     cuts: &'a [Cut],
     shown: u64,
 }
-
-const CELL: Cell = Cell {
-    code: 0,
-    period: 1,
-    need: 1,
-    under: 10,
-    over: 0,
-    floor: 0,
-    ceiling: 64,
-};
-
-const BLOCK: Sym = Sym::Name(1);
-
-const IDLE: Sym = Sym::Name(2);
-
-const RUN: Sym = Sym::Name(3);
-
-/// One block of two or three working periods, with rest around it.
-const BLOCKS: [RuleParts; 9] = [
-    (0, 0, &[BLOCK], DAY),
-    (0, 0, &[IDLE, BLOCK], DAY),
-    (0, 0, &[BLOCK, IDLE], DAY),
-    (0, 0, &[IDLE, BLOCK, IDLE], DAY),
-    (1, 2, &[RUN], Window { lo: 2, hi: 3 }),
-    (3, 1, &[WORK], DAY),
-    (3, 1, &[WORK, RUN], DAY),
-    (2, 0, &[REST], DAY),
-    (2, 0, &[REST, IDLE], DAY),
-];
-
-const BLOCK_NAMES: [&str; 4] = ["S", "W", "R", "A"];
-
-/// Two of three periods.
-const PAIRS: [RuleParts; 3] = [
-    (0, 2, &[WORK, WORK, REST], DAY),
-    (0, 2, &[REST, WORK, WORK], DAY),
-    (0, 2, &[WORK, REST, WORK], DAY),
-];
-
-/// Full days and half days, of two groups.
-const SPLIT_DAYS: [RuleParts; 7] = [
-    (0, 0, &[Sym::Name(1)], DAY),
-    (0, 0, &[Sym::Name(2)], DAY),
-    (1, 3, &[WORK, WORK], DAY),
-    (2, 1, &[WORK, REST], DAY),
-    (2, 1, &[REST, WORK], DAY),
-    (3, 0, &[Sym::Name(1)], DAY),
-    (3, 0, &[Sym::Name(2)], DAY),
-];
 
 const LOW: Cut = Cut {
     arc: ArcKey {
@@ -110,47 +40,6 @@ const HIGH: Cut = Cut {
     side: Side::High,
     ..LOW
 };
-
-fn day(alloc: Global, parts: &Parts) -> Result<Instance, AllocError> {
-    let codes = [
-        CodeDef {
-            byte: b'a',
-            work: true,
-        },
-        CodeDef {
-            byte: b'.',
-            work: false,
-        },
-    ];
-    let mut names = Vec::new(alloc);
-    for name in parts.names {
-        names.push(List::from_vec(name.as_bytes().to_vec(alloc)?))?;
-    }
-    let mut rules = Vec::new(alloc);
-    for (left, cost, right, span) in parts.rules {
-        rules.push(Rule {
-            left: *left,
-            cost: *cost,
-            right: List::from_vec(right.to_vec(alloc)?),
-            span: *span,
-            first: DAY,
-            last: DAY,
-        })?;
-    }
-    Ok(Instance {
-        grammar: Grammar {
-            periods: parts.periods,
-            codes: List::from_vec(codes.to_vec(alloc)?),
-            names: List::from_vec(names),
-            rules: List::from_vec(rules),
-            start: parts.start,
-        },
-        heads_min: parts.heads.0,
-        heads_max: parts.heads.1,
-        groups: List::from_vec(parts.groups.to_vec(alloc)?),
-        cells: List::from_vec(parts.cells.to_vec(alloc)?),
-    })
-}
 
 fn is_price(price: i128) -> bool
     ensures { IsTrue result → Within (2 ^ 80) price }
@@ -194,7 +83,7 @@ fn are_in_range(day: &Instance, case: &Case<'_>) -> bool
 }
 
 /// Shows each case's prices in one room and one table.
-fn show(rt: &impl Abort, alloc: Global, parts: &Parts, cases: &[Case]) -> Result<(), Fail> {
+fn show(rt: &impl Abort, alloc: Global, parts: &DayParts, cases: &[Case]) -> Result<(), Fail> {
     let day = day(alloc, parts)?;
     assert!(rt; is_sound_instance(&day));
     let mut room = PriceRoom::for_cuts(alloc, &day, 1)?;
@@ -217,7 +106,7 @@ fn one_block_on_four_periods(rt: HostRuntime) -> Result<(), Fail> {
         over: 3,
         ..CELL
     });
-    let parts = Parts {
+    let parts = DayParts {
         periods: 4,
         names: &BLOCK_NAMES,
         rules: &BLOCKS,
@@ -239,7 +128,7 @@ fn one_block_on_four_periods(rt: HostRuntime) -> Result<(), Fail> {
 
 #[test]
 fn a_day_without_a_shift(rt: HostRuntime) -> Result<(), Fail> {
-    let free = Parts {
+    let free = DayParts {
         periods: 1,
         names: &BLOCK_NAMES,
         rules: &BLOCKS,
@@ -265,7 +154,7 @@ fn a_day_without_a_shift(rt: HostRuntime) -> Result<(), Fail> {
             case("nothing is paid", &[0], 0),
         ],
     )?;
-    let needed = Parts {
+    let needed = DayParts {
         heads: (1, 2),
         ..free
     };
@@ -280,7 +169,7 @@ fn a_day_without_a_shift(rt: HostRuntime) -> Result<(), Fail> {
 #[test]
 fn cuts_on_an_arc(rt: HostRuntime) -> Result<(), Fail> {
     let cells = [1, 2, 3].map(|period| Cell { period, ..CELL });
-    let parts = Parts {
+    let parts = DayParts {
         periods: 3,
         names: &["S"],
         rules: &PAIRS,
@@ -353,7 +242,7 @@ fn cuts_on_an_arc(rt: HostRuntime) -> Result<(), Fail> {
     show(
         &rt,
         rt.alloc(),
-        &Parts {
+        &DayParts {
             cells: &shut,
             ..parts
         },
@@ -369,7 +258,7 @@ fn floors_and_ceilings(rt: HostRuntime) -> Result<(), Fail> {
         ceiling: 1,
         ..CELL
     });
-    let parts = Parts {
+    let parts = DayParts {
         periods: 3,
         names: &["S"],
         rules: &PAIRS,
@@ -425,7 +314,7 @@ fn groups_of_employees(rt: HostRuntime) -> Result<(), Fail> {
         over: 2,
         ..CELL
     });
-    let parts = Parts {
+    let parts = DayParts {
         periods: 2,
         names: &["S", "F", "H", "*"],
         rules: &SPLIT_DAYS,
@@ -480,7 +369,7 @@ fn groups_of_employees(rt: HostRuntime) -> Result<(), Fail> {
 
     let mut rules = SPLIT_DAYS;
     rules[2] = (1, 3, &[WORK, WORK], Window { lo: 1, hi: 1 });
-    let needed = Parts {
+    let needed = DayParts {
         rules: &rules,
         heads: (2, 3),
         groups: &[

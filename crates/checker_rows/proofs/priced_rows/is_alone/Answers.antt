@@ -1,7 +1,7 @@
 use Rattle.std.proofs.Common.{List, [], ◌∷◌, ◌≤◌, length, arith}
 use Rattle.roster_model.specs.declared.instance.Mult.{Mult}
 use Rattle.roster_model.specs.PriceLimits.{AreRising}
-use Rattle.priced_part.proofs.tests.is_alone.Goals as goal
+use Rattle.checker_rows.proofs.priced_rows.is_alone.Goals as goal
 
 rising : (ms : List Mult) → length ms ≤ 1 → AreRising ms
 rising [] h = tt

@@ -3,36 +3,14 @@ ghost use Rattle.roster_model.specs.Folds.{Each};
 ghost use Rattle.roster_model.specs.SoundInstance.{IsSoundInstance};
 ghost use Rattle.certificates.specs.Sound.{IsGroupNumber, IsSoundShift, IsWordByte};
 
-use crate::{ShiftRoom, StatedShift, coverage_fault, roster_fault};
 use certificates::Why;
-use roster_model::{
-    Cell, CodeDef, Grammar, Group, Instance, List, Rule, Sym, Window, is_sound_instance,
-};
+use roster_model::{Cell, Group, Instance, is_sound_instance};
+use roster_part::{ShiftRoom, StatedShift, coverage_fault, roster_fault};
+use sample_days::{BLOCK_NAMES, BLOCKS, CELL, DayParts, FULL_DAYS, PAIRS, SPLIT_DAYS, day};
 use span_table::Table;
-use std::alloc::{AllocError, Global};
+use std::alloc::Global;
 use std::process::Abort;
 use std::test::Fail;
-
-const DAY: Window = Window { lo: 1, hi: 96 };
-
-const WORK: Sym = Sym::Code(0);
-
-const REST: Sym = Sym::Code(1);
-
-/// A rule: its left side, its cost, its right side, and the lengths on which it may stand.
-type RuleParts<'a> = (u8, u32, &'a [Sym], Window);
-
-/// The parts of a day whose first name is the start. With groups the grammar has their rules.
-#[derive(Clone, Copy)]
-struct Parts<'a> {
-    periods: u8,
-    names: &'a [&'a str],
-    rules: &'a [RuleParts<'a>],
-    start: u8,
-    heads: (u32, u32),
-    groups: &'a [Group],
-    cells: &'a [Cell],
-}
 
 /// A roster by the group, the word and the price of each shift, and what is wrong with it.
 #[derive(Clone, Copy, Drop)]
@@ -42,96 +20,6 @@ struct Case<'a> {
     shifts: &'a [(u8, &'a str, u64)],
     fault: Option<Why>,
     outside: Option<Why>,
-}
-
-const CELL: Cell = Cell {
-    code: 0,
-    period: 1,
-    need: 1,
-    under: 10,
-    over: 0,
-    floor: 0,
-    ceiling: 64,
-};
-
-const BLOCK: Sym = Sym::Name(1);
-
-const IDLE: Sym = Sym::Name(2);
-
-const RUN: Sym = Sym::Name(3);
-
-/// One block of two or three working periods, with rest around it.
-const BLOCKS: [RuleParts; 9] = [
-    (0, 0, &[BLOCK], DAY),
-    (0, 0, &[IDLE, BLOCK], DAY),
-    (0, 0, &[BLOCK, IDLE], DAY),
-    (0, 0, &[IDLE, BLOCK, IDLE], DAY),
-    (1, 2, &[RUN], Window { lo: 2, hi: 3 }),
-    (3, 1, &[WORK], DAY),
-    (3, 1, &[WORK, RUN], DAY),
-    (2, 0, &[REST], DAY),
-    (2, 0, &[REST, IDLE], DAY),
-];
-
-const BLOCK_NAMES: [&str; 4] = ["S", "W", "R", "A"];
-
-/// Two of three periods.
-const PAIRS: [RuleParts; 3] = [
-    (0, 2, &[WORK, WORK, REST], DAY),
-    (0, 2, &[REST, WORK, WORK], DAY),
-    (0, 2, &[WORK, REST, WORK], DAY),
-];
-
-/// Full days and half days, of two groups.
-const SPLIT_DAYS: [RuleParts; 7] = [
-    (0, 0, &[Sym::Name(1)], DAY),
-    (0, 0, &[Sym::Name(2)], DAY),
-    (1, 3, &[WORK, WORK], DAY),
-    (2, 1, &[WORK, REST], DAY),
-    (2, 1, &[REST, WORK], DAY),
-    (3, 0, &[Sym::Name(1)], DAY),
-    (3, 0, &[Sym::Name(2)], DAY),
-];
-
-fn day(alloc: Global, parts: &Parts) -> Result<Instance, AllocError> {
-    let codes = [
-        CodeDef {
-            byte: b'a',
-            work: true,
-        },
-        CodeDef {
-            byte: b'.',
-            work: false,
-        },
-    ];
-    let mut names = Vec::new(alloc);
-    for name in parts.names {
-        names.push(List::from_vec(name.as_bytes().to_vec(alloc)?))?;
-    }
-    let mut rules = Vec::new(alloc);
-    for (left, cost, right, span) in parts.rules {
-        rules.push(Rule {
-            left: *left,
-            cost: *cost,
-            right: List::from_vec(right.to_vec(alloc)?),
-            span: *span,
-            first: DAY,
-            last: DAY,
-        })?;
-    }
-    Ok(Instance {
-        grammar: Grammar {
-            periods: parts.periods,
-            codes: List::from_vec(codes.to_vec(alloc)?),
-            names: List::from_vec(names),
-            rules: List::from_vec(rules),
-            start: parts.start,
-        },
-        heads_min: parts.heads.0,
-        heads_max: parts.heads.1,
-        groups: List::from_vec(parts.groups.to_vec(alloc)?),
-        cells: List::from_vec(parts.cells.to_vec(alloc)?),
-    })
 }
 
 fn is_word_byte(byte: u8) -> bool
@@ -198,7 +86,7 @@ fn state(room: &mut ShiftRoom, stated: &[(u8, &str, u64)]) {
 }
 
 /// Judges each case's roster with one table.
-fn judge(rt: &impl Abort, alloc: Global, parts: &Parts, cases: &[Case]) -> Result<(), Fail> {
+fn judge(rt: &impl Abort, alloc: Global, parts: &DayParts, cases: &[Case]) -> Result<(), Fail> {
     let day = day(alloc, parts)?;
     assert!(rt; is_sound_instance(&day));
     let mut table = Table::for_instance(alloc, &day.grammar)?;
@@ -222,7 +110,7 @@ fn one_block_on_four_periods(rt: HostRuntime) -> Result<(), Fail> {
         over: 3,
         ..CELL
     });
-    let parts = Parts {
+    let parts = DayParts {
         periods: 4,
         names: &BLOCK_NAMES,
         rules: &BLOCKS,
@@ -281,14 +169,10 @@ fn one_block_on_four_periods(rt: HostRuntime) -> Result<(), Fail> {
 #[test]
 fn the_cheaper_of_two_readings(rt: HostRuntime) -> Result<(), Fail> {
     let cells = [1, 2].map(|period| Cell { period, ..CELL });
-    let parts = Parts {
+    let parts = DayParts {
         periods: 2,
         names: &["S", "T"],
-        rules: &[
-            (0, 5, &[WORK, WORK], DAY),
-            (0, 3, &[BLOCK, BLOCK], DAY),
-            (1, 0, &[WORK], DAY),
-        ],
+        rules: &FULL_DAYS,
         start: 0,
         heads: (1, 1),
         groups: &[],
@@ -325,7 +209,7 @@ fn floors_and_ceilings(rt: HostRuntime) -> Result<(), Fail> {
         ceiling: 1,
         ..CELL
     });
-    let parts = Parts {
+    let parts = DayParts {
         periods: 3,
         names: &["S"],
         rules: &PAIRS,
@@ -378,7 +262,7 @@ fn groups_of_employees(rt: HostRuntime) -> Result<(), Fail> {
         over: 2,
         ..CELL
     });
-    let parts = Parts {
+    let parts = DayParts {
         periods: 2,
         names: &["S", "F", "H", "*"],
         rules: &SPLIT_DAYS,

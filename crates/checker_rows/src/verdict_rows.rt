@@ -1,135 +1,17 @@
 ghost use Rattle.roster_model.specs.SoundInstance.{IsSoundInstance};
 
-use crate::{Bench, Judged, Verdict};
-use bound_proof::{CertRoom, PieceFault, read_cert};
+use bound_proof::read_cert;
 use certificates::Why;
-use roster_model::{
-    ArcKey, Cell, CodeDef, Grammar, Group, Instance, List, Rule, Sym, Window, is_sound_instance,
-};
-use std::alloc::{AllocError, Global};
+use proof_check::{Bench, Judged, Verdict};
+use proof_pieces::{CertRoom, PieceFault};
+use roster_model::{ArcKey, Cell, Group, Instance, is_sound_instance};
+use sample_days::{BLOCK_NAMES, BLOCKS, CELL, DayParts, FULL_DAYS, PAIRS, SPLIT_DAYS, day};
+use std::alloc::Global;
 use std::process::Abort;
 use std::test::Fail;
 
-const DAY: Window = Window { lo: 1, hi: 96 };
-
-const WORK: Sym = Sym::Code(0);
-
-const REST: Sym = Sym::Code(1);
-
-const BLOCK: Sym = Sym::Name(1);
-
-const IDLE: Sym = Sym::Name(2);
-
-const RUN: Sym = Sym::Name(3);
-
-/// A rule: its left side, its cost, its right side, and the lengths on which it may stand.
-type RuleParts<'a> = (u8, u32, &'a [Sym], Window);
-
-/// The parts of a day whose codes are `a` and `.`. With groups the grammar has their rules.
-#[derive(Clone, Copy)]
-struct Parts<'a> {
-    periods: u8,
-    names: &'a [&'a str],
-    rules: &'a [RuleParts<'a>],
-    start: u8,
-    heads: (u32, u32),
-    groups: &'a [Group],
-    cells: &'a [Cell],
-}
-
 /// A proof text, and the verdict on its certificate.
 type Case<'a> = (&'a str, Verdict);
-
-const CELL: Cell = Cell {
-    code: 0,
-    period: 1,
-    need: 1,
-    under: 10,
-    over: 0,
-    floor: 0,
-    ceiling: 64,
-};
-
-/// One block of two or three working periods, with rest around it.
-const BLOCKS: [RuleParts; 9] = [
-    (0, 0, &[BLOCK], DAY),
-    (0, 0, &[IDLE, BLOCK], DAY),
-    (0, 0, &[BLOCK, IDLE], DAY),
-    (0, 0, &[IDLE, BLOCK, IDLE], DAY),
-    (1, 2, &[RUN], Window { lo: 2, hi: 3 }),
-    (3, 1, &[WORK], DAY),
-    (3, 1, &[WORK, RUN], DAY),
-    (2, 0, &[REST], DAY),
-    (2, 0, &[REST, IDLE], DAY),
-];
-
-const BLOCK_NAMES: [&str; 4] = ["S", "W", "R", "A"];
-
-/// Two of three periods.
-const PAIRS: [RuleParts; 3] = [
-    (0, 2, &[WORK, WORK, REST], DAY),
-    (0, 2, &[REST, WORK, WORK], DAY),
-    (0, 2, &[WORK, REST, WORK], DAY),
-];
-
-/// Both periods, at 5 or by parts at 3.
-const FULL_DAYS: [RuleParts; 3] = [
-    (0, 5, &[WORK, WORK], DAY),
-    (0, 3, &[BLOCK, BLOCK], DAY),
-    (1, 0, &[WORK], DAY),
-];
-
-/// Full days and half days, of two groups.
-const SPLIT_DAYS: [RuleParts; 7] = [
-    (0, 0, &[Sym::Name(1)], DAY),
-    (0, 0, &[Sym::Name(2)], DAY),
-    (1, 3, &[WORK, WORK], DAY),
-    (2, 1, &[WORK, REST], DAY),
-    (2, 1, &[REST, WORK], DAY),
-    (3, 0, &[Sym::Name(1)], DAY),
-    (3, 0, &[Sym::Name(2)], DAY),
-];
-
-fn day(alloc: Global, parts: &Parts) -> Result<Instance, AllocError> {
-    let codes = [
-        CodeDef {
-            byte: b'a',
-            work: true,
-        },
-        CodeDef {
-            byte: b'.',
-            work: false,
-        },
-    ];
-    let mut names = Vec::new(alloc);
-    for name in parts.names {
-        names.push(List::from_vec(name.as_bytes().to_vec(alloc)?))?;
-    }
-    let mut rules = Vec::new(alloc);
-    for (left, cost, right, span) in parts.rules {
-        rules.push(Rule {
-            left: *left,
-            cost: *cost,
-            right: List::from_vec(right.to_vec(alloc)?),
-            span: *span,
-            first: DAY,
-            last: DAY,
-        })?;
-    }
-    Ok(Instance {
-        grammar: Grammar {
-            periods: parts.periods,
-            codes: List::from_vec(codes.to_vec(alloc)?),
-            names: List::from_vec(names),
-            rules: List::from_vec(rules),
-            start: parts.start,
-        },
-        heads_min: parts.heads.0,
-        heads_max: parts.heads.1,
-        groups: List::from_vec(parts.groups.to_vec(alloc)?),
-        cells: List::from_vec(parts.cells.to_vec(alloc)?),
-    })
-}
 
 const fn yes(amount: u64) -> Verdict {
     Verdict::Yes {
@@ -186,7 +68,7 @@ fn judge_case(
     judge_pieces(rt, alloc, day, text, Judged::Said(want))
 }
 
-fn judge_all(rt: &impl Abort, alloc: Global, parts: &Parts, cases: &[Case]) -> Result<(), Fail> {
+fn judge_all(rt: &impl Abort, alloc: Global, parts: &DayParts, cases: &[Case]) -> Result<(), Fail> {
     let day = day(alloc, parts)?;
     assert!(rt; is_sound_instance(&day));
     for (text, want) in cases {
@@ -203,7 +85,7 @@ fn one_block_on_four_periods(rt: HostRuntime) -> Result<(), Fail> {
         over: 3,
         ..CELL
     });
-    let parts = Parts {
+    let parts = DayParts {
         periods: 4,
         names: &BLOCK_NAMES,
         rules: &BLOCKS,
@@ -247,7 +129,7 @@ fn one_block_on_four_periods(rt: HostRuntime) -> Result<(), Fail> {
 #[test]
 fn prices_and_head_counts(rt: HostRuntime) -> Result<(), Fail> {
     let cells = [1, 2].map(|period| Cell { period, ..CELL });
-    let parts = Parts {
+    let parts = DayParts {
         periods: 2,
         names: &["S", "T"],
         rules: &FULL_DAYS,
@@ -279,7 +161,7 @@ fn prices_and_head_counts(rt: HostRuntime) -> Result<(), Fail> {
 
 #[test]
 fn a_day_without_a_shift(rt: HostRuntime) -> Result<(), Fail> {
-    let needed = Parts {
+    let needed = DayParts {
         periods: 1,
         names: &BLOCK_NAMES,
         rules: &BLOCKS,
@@ -302,7 +184,7 @@ fn a_day_without_a_shift(rt: HostRuntime) -> Result<(), Fail> {
         ),
     ];
     judge_all(&rt, rt.alloc(), &needed, &none)?;
-    let free = Parts {
+    let free = DayParts {
         heads: (0, 2),
         ..needed
     };
@@ -316,7 +198,7 @@ fn a_day_without_a_shift(rt: HostRuntime) -> Result<(), Fail> {
 #[test]
 fn splits_of_pairs(rt: HostRuntime) -> Result<(), Fail> {
     let cells = [1, 2, 3].map(|period| Cell { period, ..CELL });
-    let parts = Parts {
+    let parts = DayParts {
         periods: 3,
         names: &["S"],
         rules: &PAIRS,
@@ -380,7 +262,7 @@ fn splits_of_pairs(rt: HostRuntime) -> Result<(), Fail> {
 fn a_fault_comes_before_a_no(rt: HostRuntime) -> Result<(), Fail> {
     let alloc = rt.alloc();
     let cells = [1, 2, 3].map(|period| Cell { period, ..CELL });
-    let parts = Parts {
+    let parts = DayParts {
         periods: 3,
         names: &["S"],
         rules: &PAIRS,
@@ -400,7 +282,7 @@ fn a_fault_comes_before_a_no(rt: HostRuntime) -> Result<(), Fail> {
 #[test]
 fn one_employee_of_pairs(rt: HostRuntime) -> Result<(), Fail> {
     let cells = [1, 2, 3].map(|period| Cell { period, ..CELL });
-    let parts = Parts {
+    let parts = DayParts {
         periods: 3,
         names: &["S"],
         rules: &PAIRS[..1],
@@ -427,7 +309,7 @@ fn one_employee_of_pairs(rt: HostRuntime) -> Result<(), Fail> {
 fn ten_thousand_splits(rt: HostRuntime) -> Result<(), Fail> {
     let alloc = rt.alloc();
     let cells = [1, 2, 3].map(|period| Cell { period, ..CELL });
-    let parts = Parts {
+    let parts = DayParts {
         periods: 3,
         names: &["S"],
         rules: &PAIRS,
@@ -469,7 +351,7 @@ fn at_least_one(ceiling: u32) -> [Cell; 3] {
 #[test]
 fn floors_and_ceilings(rt: HostRuntime) -> Result<(), Fail> {
     let floors = at_least_one(64);
-    let parts = Parts {
+    let parts = DayParts {
         periods: 3,
         names: &["S"],
         rules: &PAIRS,
@@ -511,7 +393,7 @@ fn floors_and_ceilings(rt: HostRuntime) -> Result<(), Fail> {
     judge_all(
         &rt,
         rt.alloc(),
-        &Parts {
+        &DayParts {
             cells: &both,
             ..parts
         },
@@ -539,7 +421,7 @@ fn groups_of_employees(rt: HostRuntime) -> Result<(), Fail> {
         over: 2,
         ..CELL
     });
-    let parts = Parts {
+    let parts = DayParts {
         periods: 2,
         names: &["S", "F", "H", "*"],
         rules: &SPLIT_DAYS,
