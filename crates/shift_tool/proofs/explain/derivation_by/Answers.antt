@@ -7,8 +7,8 @@ returns-in-Some c =
     (λ a h. tree-said c.args.prices.now.grammar.now c.args.prices.now.word.now c.requires.sound a h)
     c.tree.ensures
 
-pub returns : goal.returns
-returns c =
+pub returns-in-None : goal.returns-in-None
+returns-in-None c =
     IfOk-map _ _ _
     (λ a h. none-said c.args.prices.now.grammar.now c.args.prices.now.word.now c.requires.sound a c.in-None.ensures h)
     c.no_derivation.ensures
