@@ -10,12 +10,13 @@ use Rattle.roster_model.specs.declared.instance.Side.TheVariants.{Low}
 use Rattle.roster_model.specs.Cuts.{base_cuts}
 use Rattle.roster_model.specs.Folds.{Each}
 use Rattle.roster_model.specs.PriceLimits.{IsMult}
+use Rattle.arc_laws.proofs.Folding.{Each-append}
 use Rattle.certificates.specs.declared.cert.Node.{Node}
 use Rattle.certificates.specs.declared.cert.Node.TheVariants.{Split, Priced, Pinned, Bare}
 use Rattle.certificates.specs.Forests.{IsSoundBelow, IsForest, due_after, due_high, due}
 use Rattle.certificates.specs.Nodes.{Proof, split, priced, pinned, bare, preorder, low_cut, high_cut, visits}
 use Rattle.certificates.specs.Sound.{AreFit, IsSoundNode, IsSoundVisit, IsSoundProof}
-use Rattle.certificates.proofs.Walking.{each_append, each_parts}
+use Rattle.certificates.proofs.Joined.{each_parts}
 
 longer : (path : List Cut) (c : Cut) (n : ℕ) → length path ≡ n → length (path ++ c ∷ []) ≡ n + 1
 longer path c n e = length-append path (c ∷ []) ∙ ap (λ (k : ℕ). k + 1) e
@@ -80,7 +81,7 @@ module _ (i : Instance) where
     whole = ap (λ (xs : List Node). Split a b own ∷ xs) (l.whole ∙ ap (λ (xs : List Node). preorder l.proof ++ xs) r.whole ∙ sym (append_assoc (preorder l.proof) (preorder r.proof) r.rest));
     each = λ path e. (
       sound path e,
-      each_append (IsSoundVisit i) (visits (path ++ low_cut a b ∷ []) l.proof) (visits (path ++ high_cut a b ∷ []) r.proof)
+      Each-append (IsSoundVisit i) (visits (path ++ low_cut a b ∷ []) l.proof) (visits (path ++ high_cut a b ∷ []) r.proof)
           (l.each (path ++ low_cut a b ∷ []) (longer path (low_cut a b) n e))
           (r.each (path ++ high_cut a b ∷ []) (longer path (high_cut a b) n e)),
     );

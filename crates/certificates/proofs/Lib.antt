@@ -1,4 +1,4 @@
 pub mod Unique
 pub mod Rising
-pub mod Walking
+pub mod Joined
 pub mod Forests

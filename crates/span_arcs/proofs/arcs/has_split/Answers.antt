@@ -42,6 +42,6 @@ returns-then-symbol_derives c =
     let other : c.args.suffix.from + 1 ≢ length c.as_slice-right.result.now = c.if-from-right.false in
     let two : c.args.suffix.from + 2 ≤ length c.args.rule.now.right = omega (arith, ne, other, c.requires.within) in
     let split = two-split c.args.grammar.now c.args.rule.now.right c.args.suffix.from c.args.span.start c.args.span.len c.args.part (Code 0) _ two (ap (λ r. get_or r c.args.suffix.from (Code 0)) (sym c.as_slice-right.ensures)) in
-    let inner : (1 ≤ c.args.part) × (c.args.part < c.args.span.len) = search rules in
+    let inner : (1 ≤ c.args.part) × (c.args.part < c.args.span.len) = c.is_inner.ensures.0 c.if-not-is_inner.false in
     let first : HasSome c.args.grammar.now (get_or c.as_slice-right.result.now c.args.suffix.from (Code 0) ∷ []) c.args.span.start c.args.part = search rules in
     (λ h. split.1 (inner.0, inner.1, first, c.rest_derives.ensures.0 h), λ h. c.rest_derives.ensures.1 (split.0 h).3)

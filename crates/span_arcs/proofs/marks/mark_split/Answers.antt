@@ -1,4 +1,4 @@
-use Rattle.std.proofs.Common.{rules, arith, ◌≡◌, ◌+◌, ◌-◌, length, drop, sym, ap, get_or, [], ◌∷◌}
+use Rattle.std.proofs.Common.{arith, ◌≡◌, ◌+◌, ◌-◌, length, drop, sym, ap, get_or, [], ◌∷◌}
 use Rattle.roster_model.specs.Grammar.{InDay}
 use Rattle.roster_model.specs.declared.grammar.Sym.TheVariants.{Code}
 use Rattle.tree_laws.proofs.Rules.{sound-symbol}
@@ -11,13 +11,13 @@ use Rattle.span_arcs.proofs.marks.mark_split.Goals as goal
 
 pub mark_symbol-requires-clause-stand : goal.mark_symbol-requires-clause-stand
 mark_symbol-requires-clause-stand c =
-    let others : HasSome c.args.grammar.now (drop (c.args.suffix.from + 1) c.args.rule.now.right) (c.args.span.start + c.args.part) (c.args.span.len - c.args.part) = search rules in
+    let others : HasSome c.args.grammar.now (drop (c.args.suffix.from + 1) c.args.rule.now.right) (c.args.span.start + c.args.part) (c.args.span.len - c.args.part) = c.rest_derives.ensures.0 c.if-not-rest_derives.false in
     first-of-two c.args.rule.now.right c.args.suffix.from (Code 0) _ c.requires.within (ap (λ r. get_or r c.args.suffix.from (Code 0)) (sym c.as_slice.ensures))
     c.args.grammar.now c.args.suffix.rule c.args.span.start c.args.span.len c.args.part (c.args.span.len - c.args.part) (omega arith) c.requires.stand others
 
 pub mark_rest-requires-clause-stand : goal.mark_rest-requires-clause-stand
 mark_rest-requires-clause-stand c =
-    let first : HasSome c.args.grammar.now (get_or c.as_slice.result.now c.args.suffix.from (Code 0) ∷ []) c.args.span.start c.args.part = search rules in
+    let first : HasSome c.args.grammar.now (get_or c.as_slice.result.now c.args.suffix.from (Code 0) ∷ []) c.args.span.start c.args.part = c.symbol_derives.ensures.0 c.if-not-symbol_derives.false in
     rest-of-two c.args.rule.now.right c.args.suffix.from (Code 0) _ c.requires.within (ap (λ r. get_or r c.args.suffix.from (Code 0)) (sym c.as_slice.ensures))
     c.args.grammar.now c.args.suffix.rule c.args.span.start c.args.span.len c.args.part (c.args.span.len - c.args.part) (omega arith) c.requires.stand first
 
