@@ -15,7 +15,8 @@ low_of (x ∷ arcs) (b ∷ bounds) a = cond (same_arc x a) b.low (low_of arcs bo
 
 -- the cost of the counts, none exactly where they are those of no allowed roster
 abbrev pub IsCostOf : Instance → List ArcKey → (ArcKey → ℕ) → Option ℕ → Type 0
-IsCostOf i listed value cost = MatchOption cost (AreCounts i listed value → ⊥) (λ c. AreCounts i listed value × (c ≡ counts_cost i listed value))
+IsCostOf i listed value cost = MatchOption cost (AreCounts i listed value → ⊥)
+    (λ c. AreCounts i listed value × (c ≡ counts_cost i listed value))
 
 -- a cost as a number, where there is none one more than the greatest cost
 abbrev pub pinned_number : Instance → Option ℕ → ℕ

@@ -28,5 +28,5 @@ IsLooseAt i v cuts p = (a : ArcKey) × (slice_get v.arcs p ≡ Some a) × IsLoos
 abbrev pub CutsElsewhere : Type 0
 CutsElsewhere =
     (i : Instance) (v : GraphView) (cuts : List Cut) (c : Cut) (b : BoxView) → IsGraph i.grammar v
-        → (IsArc i.grammar c.arc → ⊥)
+    → (IsArc i.grammar c.arc → ⊥)
     → IsBoxOf i v cuts b → IsBoxOf i v (cuts ++ c ∷ []) b

@@ -84,8 +84,12 @@ impl ArcBox {
         requires arc { arc < length self.old.bounds }
         requires low { (bounds_at self.old.bounds arc).low ≤ b }
         requires high { b < (bounds_at self.old.bounds arc).high }
-        ensures before { result ≡ ((bounds_at self.old.bounds arc).low, (bounds_at self.old.bounds arc).high) }
-        ensures after { self.new ≡ record self.old { bounds = slice_set self.old.bounds arc (halved side b (bounds_at self.old.bounds arc)) } }
+        ensures before { result ≡ (
+          (bounds_at self.old.bounds arc).low,
+          (bounds_at self.old.bounds arc).high,
+        ) }
+        ensures after { self.new ≡ record self.old
+            { bounds = slice_set self.old.bounds arc (halved side b (bounds_at self.old.bounds arc)) } }
         ensures path { (i : Day) (v : GraphView) (cuts : List Cut) (a : Arc) → IsGraph i.grammar v
             → slice_get v.arcs arc ≡ Some a
             → IsBoxOf i v cuts self.old
@@ -101,7 +105,8 @@ impl ArcBox {
         requires arc { arc < length self.old.bounds }
         requires order { old.0 ≤ old.1 }
         requires few { old.1 ≤ 64 }
-        ensures after { self.new ≡ record self.old { bounds = slice_set self.old.bounds arc (record { low = old.0; high = old.1 }) } }
+        ensures after { self.new ≡ record self.old
+            { bounds = slice_set self.old.bounds arc (record { low = old.0; high = old.1 }) } }
         ensures path { (i : Day) (v : GraphView) (cuts : List Cut) (a : Arc) (side : Half) (b : ℕ)
             → IsGraph i.grammar v → slice_get v.arcs arc ≡ Some a
             → IsBoxOf i v (cuts ++ record { arc = a; side = side; b = b } ∷ []) self.old

@@ -16,5 +16,7 @@ used_sum g listed value o = sum_n (λ a. value a * count (same_node o) (used g a
 -- every name or suffix on a span, save the root, is made as often as it is used; one that stands in
 -- no tree of the day has both sums 0
 pub record IsBalanced (g : Grammar) (listed : List ArcKey) (value : ArcKey → ℕ) : Type 0 where
-  pub names : (x i l : ℕ) → same_node (name x i l) (root_of g) ≡ false → made_sum g listed value (name x i l) ≡ used_sum g listed value (name x i l)
-  pub suffixes : (r k i l : ℕ) → made_sum g listed value (suffix r k i l) ≡ used_sum g listed value (suffix r k i l)
+  pub names : (x i l : ℕ) → same_node (name x i l) (root_of g) ≡ false
+      → made_sum g listed value (name x i l) ≡ used_sum g listed value (name x i l)
+  pub suffixes : (r k i l : ℕ) → made_sum g listed value (suffix r k i l) ≡ used_sum g listed value
+      (suffix r k i l)

@@ -58,7 +58,8 @@ ArcsPay =
 abbrev pub PathBounds : Type 0
 PathBounds =
     (most n : ℕ) (cuts : List Cut) (a : ArcKey) → n ≤ most
-    → (((lo cuts a ≤ n) × (n ≤ hi most cuts a)) ↔ Each (λ (c : Cut). same_arc c.arc a ≡ true → KeepsTo c.side c.b n) cuts)
+    → (((lo cuts a ≤ n) × (n ≤ hi most cuts a)) ↔ Each
+    (λ (c : Cut). same_arc c.arc a ≡ true → KeepsTo c.side c.b n) cuts)
 
 -- the list of the arcs in their order holds each of them once
 abbrev pub ListHoldsOnce : Type 0

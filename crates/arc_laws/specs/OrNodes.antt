@@ -52,7 +52,8 @@ rest_node (s ∷ x ∷ ss) r k i l = suffix r k i l ∷ []
 
 abbrev pub used_by : List Sym → ArcKey → List OrNode
 used_by [] a = []
-used_by (s ∷ ss) a = symbol_node s a.start a.part ∷ rest_node ss a.rule (suc a.suffix) (a.start + a.part) (a.len - a.part)
+used_by (s ∷ ss) a =
+    symbol_node s a.start a.part ∷ rest_node ss a.rule (suc a.suffix) (a.start + a.part) (a.len - a.part)
 
 -- the nodes that an arc uses: its first part, and what follows it
 abbrev pub used : Grammar → ArcKey → List OrNode

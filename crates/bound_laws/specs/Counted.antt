@@ -18,12 +18,14 @@ use Rattle.bound_laws.specs.Infeasible.{IsPlainlyInfeasible}
 use Rattle.bound_laws.specs.TreeRosters.{IsTreeRoster, trees_cost}
 
 -- so many of these trees of the day have each arc
-pub record HaveCounts (i : Instance) (listed : List ArcKey) (value : ArcKey → ℕ) (ts : List Parts) : Type 0 where
+pub record HaveCounts (i : Instance) (listed : List ArcKey) (value : ArcKey → ℕ)
+    (ts : List Parts) : Type 0 where
   pub day : Each (IsDayTree i.grammar) ts
   pub counts : (a : ArcKey) → In a listed → arc_count a ts ≡ value a
 
 -- a roster of trees at the counts' cost
-pub record IsRosterOf (i : Instance) (listed : List ArcKey) (value : ArcKey → ℕ) (ts : List Parts) : Type 0 where
+pub record IsRosterOf (i : Instance) (listed : List ArcKey) (value : ArcKey → ℕ)
+    (ts : List Parts) : Type 0 where
   pub roster : IsTreeRoster i ts
   pub cost : trees_cost i ts ≡ counts_cost i listed value
 
@@ -67,5 +69,6 @@ abbrev pub ReducedCosts : Type 0
 ReducedCosts =
     (i : Instance) (p : Prices) (cuts : List Cut) (t : Parts) → IsDayTree i.grammar t
     → tree_sum (reduced_view i p cuts) 1 t
-    ≡ Some (pos p.d *ℤ pos (cost i.grammar t) -ℤ sum_z (letter_price (cell_prices i.cells p.cell)) (letters 1 t)
+    ≡ Some (pos p.d *ℤ pos (cost i.grammar t) -ℤ sum_z (letter_price (cell_prices i.cells p.cell))
+    (letters 1 t)
     +ℤ sum_z (arc_price (cut_prices 1 cuts p.mult)) (arcs 1 t))

@@ -56,4 +56,5 @@ lagrangian_sum i p cuts z =
 pub record IsLagrangian (i : Instance) (p : Prices) (cuts : List Cut) (v : ℤ) : Type 0 where
   pub z : Option ℤ
   pub least : IsLeastReduced i p cuts z
-  pub value : (IsPlainlyInfeasible i × (v ≡ pos p.d *ℤ pos (greatest_cost i + 1))) ⊎ ((IsPlainlyInfeasible i → ⊥) × (v ≡ lagrangian_sum i p cuts z))
+  pub value : (IsPlainlyInfeasible i × (v ≡ pos p.d *ℤ pos (greatest_cost i + 1)))
+      ⊎ ((IsPlainlyInfeasible i → ⊥) × (v ≡ lagrangian_sum i p cuts z))

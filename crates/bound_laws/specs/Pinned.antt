@@ -17,4 +17,5 @@ pub record IsPinned (i : Instance) (cuts : List Cut) : Type 0 where
 pub record IsPinnedValue (i : Instance) (cuts : List Cut) (v : ℕ) : Type 0 where
   pub listed : List ArcKey
   pub are : AreArcs i.grammar listed
-  pub value : (AreCounts i listed (lo cuts) × (v ≡ counts_cost i listed (lo cuts))) ⊎ ((AreCounts i listed (lo cuts) → ⊥) × (v ≡ greatest_cost i + 1))
+  pub value : (AreCounts i listed (lo cuts) × (v ≡ counts_cost i listed (lo cuts)))
+      ⊎ ((AreCounts i listed (lo cuts) → ⊥) × (v ≡ greatest_cost i + 1))

@@ -49,7 +49,8 @@ plain_relaxed i p cuts z =
 pub record IsPlainLagrangian (i : Instance) (p : Prices) (cuts : List Cut) (v : ℤ) : Type 0 where
   pub z : Option ℤ
   pub least : IsLeastReduced i p cuts z
-  pub value : ((0 < i.heads_min) × (z ≡ None) × (v ≡ pos p.d *ℤ pos (greatest_cost i + 1))) ⊎ ((0 < i.heads_min → z ≢ None) × (v ≡ plain_relaxed i p cuts z))
+  pub value : ((0 < i.heads_min) × (z ≡ None) × (v ≡ pos p.d *ℤ pos (greatest_cost i + 1)))
+      ⊎ ((0 < i.heads_min → z ≢ None) × (v ≡ plain_relaxed i p cuts z))
 
 -- on such a day, an allowed roster is this
 abbrev pub PlainRosters : Type 0

@@ -18,7 +18,14 @@ use Rattle.bound_laws.specs.Lagrangian.{lagrangian_sum}
 
 -- a shift of three letters at the cost 2
 abbrev shift_rule : ℕ → ℕ → ℕ → Rule
-shift_rule a b c = record { left = 0; cost = 2; right = Code a ∷ Code b ∷ Code c ∷ []; span = any_window; first = any_window; last = any_window }
+shift_rule a b c = record {
+  left = 0;
+  cost = 2;
+  right = Code a ∷ Code b ∷ Code c ∷ [];
+  span = any_window;
+  first = any_window;
+  last = any_window;
+}
 
 -- exactly one employee is to work in the period
 abbrev one : ℕ → Cell

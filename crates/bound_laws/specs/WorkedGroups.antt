@@ -16,7 +16,8 @@ use Rattle.bound_laws.specs.Lagrangian.{lagrangian_sum}
 use Rattle.bound_laws.specs.Priced.{rounded_up}
 
 abbrev plain : ℕ → ℕ → List Sym → Rule
-plain x c r = record { left = x; cost = c; right = r; span = any_window; first = any_window; last = any_window }
+plain x c r =
+    record { left = x; cost = c; right = r; span = any_window; first = any_window; last = any_window }
 
 -- Two periods; the names S 0, F 1, H 2 and the added one 3. F works both periods at 3, H one of them
 -- at 1; one employee of F at most, and one or two of H.
@@ -26,14 +27,17 @@ day = record {
     periods = 2;
     codes = record { byte = 97; work = true } ∷ record { byte = 46; work = false } ∷ [];
     names = codes "S" ∷ codes "F" ∷ codes "H" ∷ codes "*" ∷ [];
-    rules = plain 0 0 (Name 1 ∷ []) ∷ plain 0 0 (Name 2 ∷ []) ∷ plain 1 3 (Code 0 ∷ Code 0 ∷ []) ∷ plain 2 1 (Code 0 ∷ Code 1 ∷ []) ∷ plain 2 1 (Code 1 ∷ Code 0 ∷ [])
+    rules = plain 0 0 (Name 1 ∷ []) ∷ plain 0 0 (Name 2 ∷ []) ∷ plain 1 3 (Code 0 ∷ Code 0 ∷ []) ∷ plain 2 1
+        (Code 0 ∷ Code 1 ∷ []) ∷ plain 2 1 (Code 1 ∷ Code 0 ∷ [])
         ∷ plain 3 0 (Name 1 ∷ []) ∷ plain 3 0 (Name 2 ∷ []) ∷ [];
     start = 3;
   };
   heads_min = 1;
   heads_max = 3;
-  groups = record { name = 1; heads_min = 0; heads_max = 1 } ∷ record { name = 2; heads_min = 1; heads_max = 2 } ∷ [];
-  cells = record { code = 0; period = 1; need = 2; under = 10; over = 2; floor = 0; ceiling = 64 } ∷ record { code = 0; period = 2; need = 1; under = 10; over = 2; floor = 0; ceiling = 64 } ∷ [];
+  groups = record { name = 1; heads_min = 0; heads_max = 1 } ∷ record
+      { name = 2; heads_min = 1; heads_max = 2 } ∷ [];
+  cells = record { code = 0; period = 1; need = 2; under = 10; over = 2; floor = 0; ceiling = 64 } ∷ record
+      { code = 0; period = 2; need = 1; under = 10; over = 2; floor = 0; ceiling = 64 } ∷ [];
 }
 
 -- prices in halves, with a multiplier of the second base cut and without
@@ -51,8 +55,10 @@ abbrev pub half : Parts
 half = uses 7 2 (uses 4 2 (letter 0 (letter 1 done)) done) done
 
 pub record WorkedGroups : Type 0 where
-  pub two_teams : teams day ≡ record { number = 1; name = 1; least = 0; most = 1 } ∷ record { number = 2; name = 2; least = 1; most = 2 } ∷ []
-  pub three_cuts : base_cuts day ≡ record { arc = group_arc 2 6; side = Low; b = 1 } ∷ record { arc = group_arc 2 7; side = Low; b = 2 } ∷ record { arc = group_arc 2 7; side = High; b = 0 } ∷ []
+  pub two_teams : teams day ≡ record { number = 1; name = 1; least = 0; most = 1 } ∷ record
+      { number = 2; name = 2; least = 1; most = 2 } ∷ []
+  pub three_cuts : base_cuts day ≡ record { arc = group_arc 2 6; side = Low; b = 1 } ∷ record
+      { arc = group_arc 2 7; side = Low; b = 2 } ∷ record { arc = group_arc 2 7; side = High; b = 0 } ∷ []
   pub least : lo (base_cuts day) (group_arc 2 7) ≡ 1
   pub most : hi 3 (base_cuts day) (group_arc 2 6) ≡ 1
   pub full_cost : tree_sum (reduced_view day halves (base_cuts day)) 1 full ≡ Some (pos 0)

@@ -34,7 +34,8 @@ name_word names (Some g) = slice_index_or names g.name []
 -- with groups a shift's word stands behind the name of its group
 abbrev pub shift_words : Instance → List Group → Shift → List (List ℕ)
 shift_words i [] s = codes "shift" ∷ s.word ∷ decimal s.price ∷ []
-shift_words i (g ∷ gs) s = codes "shift" ∷ name_word i.grammar.names (slice_get (g ∷ gs) (s.group - 1)) ∷ s.word ∷ decimal s.price ∷ []
+shift_words i (g ∷ gs) s = codes "shift" ∷ name_word i.grammar.names (slice_get (g ∷ gs) (s.group - 1)) ∷
+    s.word ∷ decimal s.price ∷ []
 
 abbrev pub shift_line : Instance → Shift → List (List ℕ)
 shift_line i s = shift_words i i.groups s
@@ -45,11 +46,13 @@ own_words (Some p) = decimal p.d ∷ []
 
 -- a split's arc and its count
 abbrev pub split_words : ArcKey → ℕ → List (List ℕ)
-split_words a b = decimal a.rule ∷ decimal a.suffix ∷ decimal a.start ∷ decimal a.len ∷ decimal a.part ∷ decimal b ∷ []
+split_words a b =
+    decimal a.rule ∷ decimal a.suffix ∷ decimal a.start ∷ decimal a.len ∷ decimal a.part ∷ decimal b ∷ []
 
 -- the line of a node
 abbrev pub head_words : Node → List (List ℕ)
-head_words (Split a b own) = codes "split" ∷ decimal a.rule ∷ decimal a.suffix ∷ decimal a.start ∷ decimal a.len ∷ decimal a.part ∷ decimal b ∷ own_words own
+head_words (Split a b own) = codes "split" ∷ decimal a.rule ∷ decimal a.suffix ∷ decimal a.start ∷ decimal
+    a.len ∷ decimal a.part ∷ decimal b ∷ own_words own
 head_words (Priced p) = codes "priced" ∷ decimal p.d ∷ []
 head_words Pinned = codes "pinned" ∷ []
 head_words Bare = codes "bare" ∷ []
@@ -68,7 +71,8 @@ HasPrices i Bare = Unit {0}
 abbrev pub price_lines : Instance → ℕ → ℕ → List ℤ → List (List (List ℕ))
 price_lines i place zero ps = []
 price_lines i place (suc k) ps =
-    price_words (due_byte i place) (take i.grammar.periods ps) ∷ price_lines i (place + i.grammar.periods) k (drop i.grammar.periods ps)
+    price_words (due_byte i place) (take i.grammar.periods ps) ∷ price_lines i (place + i.grammar.periods) k
+    (drop i.grammar.periods ps)
 
 abbrev pub mult_words : Mult → List (List ℕ)
 mult_words m = codes "mult" ∷ decimal m.cut ∷ number_text m.value ∷ []

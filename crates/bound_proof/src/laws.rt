@@ -9,5 +9,6 @@ ghost use Rattle.bound_proof.specs.Written.{cert_text};
 /// States a law: the text that is written of a sound certificate is read as that certificate, where
 /// it is no longer than a text may be.
 pub fn written_again()
-    ensures { (i : Instance) (c : Cert) → IsSoundInstance i → IsSoundCert i c → length (cert_text i c) ≤ 1073741824 → proof_of i (cert_text i c) ≡ Ok c }
+    ensures { (i : Instance) (c : Cert) → IsSoundInstance i → IsSoundCert i c
+        → length (cert_text i c) ≤ 1073741824 → proof_of i (cert_text i c) ≡ Ok c }
 {}

@@ -166,7 +166,8 @@ fn price_line(out: &mut List<u8>, code: u8, prices: &[i128]) -> Result<(), Memor
 fn price_lines(out: &mut List<u8>, instance: &Instance, prices: &[i128]) -> Result<(), Memory>
     requires sound { IsSoundInstance instance.now }
     requires whole { length prices.now ≡ length instance.now.cells }
-    ensures { OnOk result (out.new ≡ out.old ++ written (price_lines instance.now 0 (length prices.now / instance.now.grammar.periods) prices.now)) }
+    ensures { OnOk result (out.new ≡ out.old ++ written
+        (price_lines instance.now 0 (length prices.now / instance.now.grammar.periods) prices.now)) }
 {
     let mut place = 0;
     let mut rest = prices;
@@ -267,7 +268,8 @@ pub fn write_cert(alloc: Global, instance: &Instance, cert: &Cert) -> Result<Lis
     requires sound { IsSoundInstance instance.now }
     requires cert { IsSoundCert instance.now cert.now }
     ensures text { IfOk result (λ t. t ≡ cert_text instance.now cert.now) }
-    ensures short { IfOk result (λ t. length t ≤ 10000 + 128 * length cert.now.nodes + 40 * sum_n node_values cert.now.nodes) }
+    ensures short { IfOk result (λ t. length t ≤ 10000 + 128 * length cert.now.nodes
+        + 40 * sum_n node_values cert.now.nodes) }
 {
     let text = cert_lines(alloc, instance, cert)?;
     Ok(text)

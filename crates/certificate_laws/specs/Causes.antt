@@ -33,7 +33,8 @@ Cause i c (WrongHeads g n) = IsSome c.cost × IsFirstOutOfRange i c.shifts g n
 Cause i c (WrongCost said found) = (c.cost ≡ Some said) × IsMiscounted i c.shifts said found
 Cause i c (NotAnArc n) = (p : Proof) × (preorder p ≡ c.nodes) × IsFirstNoArc i (visits (base_cuts i) p) n
 Cause i c (EmptyHalf n) = (p : Proof) × (preorder p ≡ c.nodes) × IsFirstEmptyHalf i (visits (base_cuts i) p) n
-Cause i c (NotPinned n a) = (p : Proof) × (preorder p ≡ c.nodes) × IsFirstUnpinned i (visits (base_cuts i) p) n a
+Cause i c (NotPinned n a) =
+    (p : Proof) × (preorder p ≡ c.nodes) × IsFirstUnpinned i (visits (base_cuts i) p) n a
 Cause i c (BoundTooHigh said shown) = (c.bound ≡ said) × IsAbove i c shown
 Cause i c (Outside byte period n) = IsSome c.cost × IsFirstOutside i c.shifts byte period n
 

@@ -24,7 +24,8 @@ second = group_arc 2 7
 
 -- the base cuts of the day: at most one employee of the first group, and one or two of the second
 abbrev base : List Cut
-base = record { arc = first; side = Low; b = 1 } ∷ record { arc = second; side = Low; b = 2 } ∷ record { arc = second; side = High; b = 0 } ∷ []
+base = record { arc = first; side = Low; b = 1 } ∷ record { arc = second; side = Low; b = 2 } ∷ record
+    { arc = second; side = High; b = 0 } ∷ []
 
 -- a split of the first group's arc whose High half is split at the second's
 abbrev tree : Proof
@@ -46,8 +47,10 @@ pub record WorkedNodes : Type 0 where
       → Shows i cuts (split a b (Some r) (priced p) (priced q)) (max z (min x y))
   -- each path begins with the base cuts, and each split adds one cut to it
   pub paths : visits (base_cuts day) tree
-      ≡ record { path = base; node = Split first 0 None } ∷ record { path = base ++ record { arc = first; side = Low; b = 0 } ∷ []; node = Bare }
-      ∷ record { path = above; node = Split second 1 None } ∷ record { path = above ++ record { arc = second; side = Low; b = 1 } ∷ []; node = Pinned }
+      ≡ record { path = base; node = Split first 0 None } ∷ record
+      { path = base ++ record { arc = first; side = Low; b = 0 } ∷ []; node = Bare }
+      ∷ record { path = above; node = Split second 1 None } ∷ record
+      { path = above ++ record { arc = second; side = Low; b = 1 } ∷ []; node = Pinned }
       ∷ record { path = above ++ record { arc = second; side = High; b = 1 } ∷ []; node = Bare } ∷ []
   -- no roster costs more than 138, and 139 is stated as none
   pub greatest : greatest_cost day ≡ 138

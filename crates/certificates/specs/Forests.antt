@@ -29,7 +29,8 @@ IsForest i (n ∷ ns) (node ∷ nodes) = IsSoundBelow i n node × IsForest i (du
 -- many cuts, each in its High half where it is told by true
 abbrev pub due_high : ℕ → List Bool → ℕ → List ℕ
 due_high cuts halves zero = []
-due_high cuts halves (suc n) = cond (slice_index_or halves n false) (due_high cuts halves n) ((cuts + suc n) ∷ due_high cuts halves n)
+due_high cuts halves (suc n) =
+    cond (slice_index_or halves n false) (due_high cuts halves n) ((cuts + suc n) ∷ due_high cuts halves n)
 
 -- the tree that comes next, and those High halves; none where nothing is due
 abbrev pub due : ℕ → List Bool → Option ℕ → List ℕ

@@ -35,7 +35,8 @@ pub record Visit : Type 0 where
 -- the nodes in preorder, each with its path; the first cuts of each path are given
 abbrev pub visits : List Cut → Proof → List Visit
 visits cuts (split a b own low high) =
-    record { path = cuts; node = Split a b own } ∷ visits (cuts ++ low_cut a b ∷ []) low ++ visits (cuts ++ high_cut a b ∷ []) high
+    record { path = cuts; node = Split a b own } ∷ visits (cuts ++ low_cut a b ∷ []) low
+    ++ visits (cuts ++ high_cut a b ∷ []) high
 visits cuts (priced p) = record { path = cuts; node = Priced p } ∷ []
 visits cuts pinned = record { path = cuts; node = Pinned } ∷ []
 visits cuts bare = record { path = cuts; node = Bare } ∷ []

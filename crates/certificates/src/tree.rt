@@ -82,7 +82,8 @@ fn next_high(halves: &mut [bool], splits: usize) -> Option<usize>
 
 /// Returns whether the node is sound, with so many cuts above it.
 fn is_node(instance: &Instance, cuts: usize, node: &Node) -> bool
-    ensures { (path : Items Cut) → length path ≡ cuts → (IsTrue result ↔ IsSoundNode instance.now path node.now) }
+    ensures { (path : Items Cut) → length path ≡ cuts
+        → (IsTrue result ↔ IsSoundNode instance.now path node.now) }
 {
     match node {
         Node::Split { arc, b, prices } => {

@@ -10,7 +10,8 @@ use Rattle.cheapest_tree.specs.AtNodes.{IsAt, sum_at, top_arc, IsBefore}
 use Rattle.cheapest_tree.specs.Pricers.{value_at, ArePriced}
 
 -- the slots of nothing and of the letters have their prices, and the nodes have no value yet
-pub record AreBegun (p : PriceView) (letters : List Spot) (nodes : ℕ) (values : List (Option ℤ)) : Type 0 where
+pub record AreBegun (p : PriceView) (letters : List Spot) (nodes : ℕ)
+    (values : List (Option ℤ)) : Type 0 where
   pub priced : ArePriced p letters nodes values
   pub none : (n : ℕ) → n < nodes → value_at values n ≡ None
 

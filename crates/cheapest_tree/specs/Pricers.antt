@@ -34,7 +34,8 @@ IsSlot nodes letters (Letter code period) slot =
     (j : ℕ) × (slot ≡ nodes + 1 + j) × (slice_get letters j ≡ Some (record { code = code; period = period }))
 
 -- these are the slots of what the arc makes and of what is below it
-pub record IsLink (v : GraphView) (letters : List Spot) (arc made_slot first_slot rest_slot : ℕ) : Type 0 where
+pub record IsLink (v : GraphView) (letters : List Spot)
+    (arc made_slot first_slot rest_slot : ℕ) : Type 0 where
   pub made : slice_get v.made_by arc ≡ Some made_slot
   pub kids : Kid × Kid
   pub below_first : slice_get v.first arc ≡ Some kids.0
@@ -49,7 +50,8 @@ pub record AreLinks (v : GraphView) (letters : List Spot) (links : Links) (count
   pub first : length links.first ≡ count
   pub rest : length links.rest ≡ count
   pub each : (arc : ℕ) → arc < count
-      → IsLink v letters arc (slice_index links.made arc) (slice_index links.first arc) (slice_index links.rest arc)
+      → IsLink v letters arc (slice_index links.made arc) (slice_index links.first arc)
+      (slice_index links.rest arc)
 
 -- the pricer was made for the graph
 pub record IsMadeFor (v : GraphView) (w : PricerView) : Type 0 where
@@ -58,13 +60,15 @@ pub record IsMadeFor (v : GraphView) (w : PricerView) : Type 0 where
   pub nodes : length w.best ≡ length v.nodes
 
 -- the slots of nothing and of the letters have their prices, where there are so many nodes
-pub record ArePriced (p : PriceView) (letters : List Spot) (nodes : ℕ) (values : List (Option ℤ)) : Type 0 where
+pub record ArePriced (p : PriceView) (letters : List Spot) (nodes : ℕ)
+    (values : List (Option ℤ)) : Type 0 where
   pub nothing : value_at values nodes ≡ Some (pos 0)
   pub spots : (j : ℕ) (l : Spot) → slice_get letters j ≡ Some l
       → value_at values (nodes + 1 + j) ≡ p.letter_at l.code l.period
 
 -- the arc makes the node, and the value is the least sum of what stands there with this arc at the top
-pub record IsBest (g : Grammar) (p : PriceView) (v : GraphView) (o : OrNode) (value : Option ℤ) (arc : ℕ) : Type 0 where
+pub record IsBest (g : Grammar) (p : PriceView) (v : GraphView) (o : OrNode) (value : Option ℤ)
+    (arc : ℕ) : Type 0 where
   pub key : ArcKey
   pub at : slice_get v.arcs arc ≡ Some key
   pub makes : made g key ≡ o
@@ -74,7 +78,7 @@ pub record IsBest (g : Grammar) (p : PriceView) (v : GraphView) (o : OrNode) (va
 abbrev pub AreBest : Grammar → PriceView → GraphView → List (Option ℤ) → List ℕ → Type 0
 AreBest g p v values best =
     (n : ℕ) (o : OrNode) → slice_get v.nodes n ≡ Some o
-        → OnSome (value_at values n) (IsBest g p v o (value_at values n) (slice_index best n))
+    → OnSome (value_at values n) (IsBest g p v o (value_at values n) (slice_index best n))
 
 -- the pricer is filled for a grammar's graph and prices: for each node its value is the least sum
 -- there, or none, and a best arc has it at the top
@@ -84,7 +88,8 @@ pub record IsFilled (g : Grammar) (p : PriceView) (v : GraphView) (w : PricerVie
   pub arcs : AreBest g p v w.values w.best
 
 -- what is asked for a tree of the day: the grammar's graph, the values of its nodes, a sum, and room
-pub record AsksTree (g : Grammar) (p : PriceView) (v : GraphView) (w : PricerView) (room : RoomView) : Type 0 where
+pub record AsksTree (g : Grammar) (p : PriceView) (v : GraphView) (w : PricerView)
+    (room : RoomView) : Type 0 where
   pub sound : IsSound g
   pub graph : IsGraph g v
   pub filled : IsFilled g p v w

@@ -52,18 +52,21 @@ pub record AsksNode (v : GraphView) (links : Links) (best : List ℕ) (m : ℕ) 
 
 -- the steps of what stands at the node with the least sum there were added
 abbrev pub WritesAt : Grammar → PriceView → OrNode → ℕ → RoomView → RoomView → Type 0
-WritesAt g p o i old new = (t : Parts) × IsAt g o t × NodeLeast g p o (sum_at p o t) × (new ≡ record old { steps = old.steps ++ steps i t })
+WritesAt g p o i old new = (t : Parts) × IsAt g o t × NodeLeast g p o (sum_at p o t)
+    × (new ≡ record old { steps = old.steps ++ steps i t })
 
 -- of whatever grammar, prices and values it is asked
 abbrev pub WritesNode : GraphView → Links → List ℕ → ℕ → RoomView → RoomView → Type 0
-WritesNode v links best m old new = (asked : AsksNode v links best m old) → WritesAt asked.g asked.p asked.node (start_of asked.node) old new
+WritesNode v links best m old new =
+    (asked : AsksNode v links best m old) → WritesAt asked.g asked.p asked.node (start_of asked.node) old new
 
 -- a slot that is one of a node is asked for as that
 abbrev pub AsksSlot : GraphView → Links → List ℕ → ℕ → RoomView → Type 0
 AsksSlot v links best slot room = slot < length best → AsksNode v links best slot room
 
 -- and written as that, and nothing is written for another
-pub record WritesSlot (v : GraphView) (links : Links) (best : List ℕ) (slot : ℕ) (old new : RoomView) : Type 0 where
+pub record WritesSlot (v : GraphView) (links : Links) (best : List ℕ) (slot : ℕ)
+    (old new : RoomView) : Type 0 where
   pub node : slot < length best → WritesNode v links best slot old new
   pub other : length best ≤ slot → new ≡ old
 

@@ -65,7 +65,7 @@ pub fn fill<P: LetterPrice>(
         (record { links = links.now; letters = letters.now; values = values.old; best = best.old }) }
     ensures filled { (g : Rules) → IsSound g → IsGraph g graph.now
         → IsFilled g (P.view prices.now) graph.now
-            (record { links = links.now; letters = letters.now; values = values.new; best = best.new }) }
+        (record { links = links.now; letters = letters.now; values = values.new; best = best.new }) }
 {
     begin(prices, letters, graph.nodes() as usize, values);
     let arcs = graph.arcs();

@@ -39,7 +39,8 @@ impl Letters {
     // The number of a letter, a new one where it has none yet.
     fn number(&mut self, code: u8, period: u8) -> Result<u32, Memory>
         requires { length self.old.list ≤ 2 ^ 31 }
-        ensures number { IfOk result (λ j. slice_get self.new.list j ≡ Some (record { code = code; period = period })) }
+        ensures number { IfOk result (λ j. slice_get self.new.list j ≡ Some
+            (record { code = code; period = period })) }
         ensures grows { OnOk result (Grows self.old.list self.new.list) }
         ensures fits { IfOk result (λ j. j ≤ 2 ^ 31) }
     {

@@ -69,7 +69,8 @@ fn is_alone(mult: &[Mult]) -> bool
 
 /// Returns whether the prices, with at most one multiplier, are in range.
 fn are_in_range(day: &Instance, case: &Case<'_>) -> bool
-    ensures fit { IsTrue result → FitPrices day.now case.now.d case.now.cell.now case.now.mult.now case.now.cuts.now }
+    ensures fit { IsTrue result → FitPrices day.now case.now.d case.now.cell.now case.now.mult.now
+        case.now.cuts.now }
     ensures small { IsTrue result → All (λ c. c.b ≤ 63) case.now.cuts.now }
     ensures few { IsTrue result → length case.now.mult.now ≤ 1 }
 {

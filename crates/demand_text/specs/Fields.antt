@@ -35,7 +35,8 @@ count_at k counts w = number_at k 0 64 w >>= λ n. Ok (counts ++ n ∷ [])
 -- more, which no text within its limit holds.
 unfoldable pub counts_at : ℕ → ℕ → List (List ℕ) → Result (List ℕ) DemandFault
 counts_at k periods ws =
-    if not (length ws == periods) then Err (WrongCount k (min (length ws) 4294967295)) else each (count_at k) [] ws
+    if not (length ws == periods) then Err (WrongCount k (min (length ws) 4294967295)) else each
+    (count_at k) [] ws
 
 -- how many employees may work: at least 0 to 64, and at most 1 up to the limit, and no fewer
 unfoldable pub range_at : ℕ → ℕ → List ℕ → List ℕ → Result Heads DemandFault

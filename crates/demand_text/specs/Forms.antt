@@ -16,10 +16,13 @@ use Rattle.demand_text.specs.Lines.{item_at}
 pub data IsForm (periods : ℕ) (ws : List (List ℕ)) : Type 0 where
   heads : (least most : List ℕ) → ws ≡ codes "heads" ∷ least ∷ most ∷ [] → IsForm periods ws
   group : (name least most : List ℕ) → ws ≡ codes "group" ∷ name ∷ least ∷ most ∷ [] → IsForm periods ws
-  need : (code under over : List ℕ) (counts : List (List ℕ)) → ws ≡ codes "need" ∷ code ∷ under ∷ over ∷ counts
+  need : (code under over : List ℕ) (counts : List (List ℕ))
+      → ws ≡ codes "need" ∷ code ∷ under ∷ over ∷ counts
       → length counts ≡ periods → IsForm periods ws
-  least : (code : List ℕ) (counts : List (List ℕ)) → ws ≡ codes "least" ∷ code ∷ counts → length counts ≡ periods → IsForm periods ws
-  most : (code : List ℕ) (counts : List (List ℕ)) → ws ≡ codes "most" ∷ code ∷ counts → length counts ≡ periods → IsForm periods ws
+  least : (code : List ℕ) (counts : List (List ℕ)) → ws ≡ codes "least" ∷ code ∷ counts
+      → length counts ≡ periods → IsForm periods ws
+  most : (code : List ℕ) (counts : List (List ℕ)) → ws ≡ codes "most" ∷ code ∷ counts
+      → length counts ≡ periods → IsForm periods ws
 
 abbrev pub HasForm : ℕ → Result TextLine bad.BadByte → Type 0
 HasForm periods (Ok line) = IsForm periods line.words
@@ -37,7 +40,8 @@ HaveTeams m n = ((m ≡ 1) × (n ≡ 0)) ⊎ ((m ≡ 0) × (1 ≤ n) × (n ≤ 8
 -- lines of the five forms, which say how many employees work in one of the two ways
 pub record IsComplete (g : Grammar) (text : List ℕ) : Type 0 where
   pub forms : Each (HasForm g.periods) (text_items text)
-  pub teams : HaveTeams (count (begins (codes "heads")) (text_items text)) (count (begins (codes "group")) (text_items text))
+  pub teams : HaveTeams (count (begins (codes "heads")) (text_items text))
+      (count (begins (codes "group")) (text_items text))
 
 -- a line that cannot stand after the lines before it, which stand; the fault carries its number
 abbrev pub IsFirstRefused : Grammar → List ℕ → DemandFault → Type 0

@@ -33,7 +33,12 @@ periods_from least most code place (n ∷ ns) =
 -- what a need line asks, with the bounds of its code
 abbrev pub demand_of : List Bound → List Bound → Need → Demand
 demand_of least most n =
-    record { code = n.code; under = n.under; over = n.over; periods = periods_from least most n.code 0 n.counts }
+    record {
+      code = n.code;
+      under = n.under;
+      over = n.over;
+      periods = periods_from least most n.code 0 n.counts;
+    }
 
 -- the cells of all need lines, in their order
 abbrev pub cells_of : Draft → List Cell

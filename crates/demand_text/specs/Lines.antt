@@ -33,16 +33,19 @@ most_heads groups = sum_n (λ (g : Group). g.heads_max) groups
 unfoldable pub heads_at : ℕ → Draft → List (List ℕ) → Result Draft DemandFault
 heads_at k d (a ∷ b ∷ []) =
     if nat_lt 0 (length d.groups) then Err (Mixed k)
-    else (range_at k 64 a b >>= λ h. if is_some d.heads then Err (Twice k) else Ok (record d { heads = Some h }))
+    else (range_at k 64 a b >>= λ h. if is_some d.heads then Err (Twice k) else Ok
+    (record d { heads = Some h }))
 heads_at k d _ = Err (UnknownLine k)
 
 -- a group of a name, one of at most 8, and how many employees of it may work: at most 64 together
 -- with the groups before
-unfoldable pub group_of : ℕ → Grammar → List Group → List ℕ → List ℕ → List ℕ → Result (List Group) DemandFault
+unfoldable pub group_of : ℕ → Grammar → List Group → List ℕ → List ℕ → List ℕ
+    → Result (List Group) DemandFault
 group_of k g groups name a b =
     if nat_le 8 (length groups) then Err (TooManyGroups k)
     else (name_at k g.names name >>= λ x. if has_group groups x then Err (Twice k)
-    else (range_at k (64 - most_heads groups) a b >>= λ h. Ok (groups ++ record { name = x; heads_min = h.least; heads_max = h.most } ∷ [])))
+    else (range_at k (64 - most_heads groups) a b >>= λ h. Ok
+    (groups ++ record { name = x; heads_min = h.least; heads_max = h.most } ∷ [])))
 
 -- a group, where no heads line stands
 unfoldable pub group_at : ℕ → Grammar → Draft → List (List ℕ) → Result Draft DemandFault
@@ -52,19 +55,22 @@ group_at k g d (name ∷ a ∷ b ∷ []) =
 group_at k g d _ = Err (UnknownLine k)
 
 -- the need of a work code: a new one, what a difference costs, and a number for each period
-unfoldable pub need_of : ℕ → Grammar → List Need → List ℕ → List ℕ → List ℕ → List (List ℕ) → Result (List Need) DemandFault
-need_of k g needs code a b ws = work_at k g.codes code >>= λ c. if has_need needs c then Err (Twice k) else (do
-  under ← number_at k 0 10000 a
-  over ← number_at k 0 10000 b
-  counts ← counts_at k g.periods ws
-  Ok (needs ++ record { code = c; under = under; over = over; counts = counts } ∷ []))
+unfoldable pub need_of : ℕ → Grammar → List Need → List ℕ → List ℕ → List ℕ → List (List ℕ)
+    → Result (List Need) DemandFault
+need_of k g needs code a b ws =
+    work_at k g.codes code >>= λ c. if has_need needs c then Err (Twice k) else (do
+      under ← number_at k 0 10000 a
+      over ← number_at k 0 10000 b
+      counts ← counts_at k g.periods ws
+      Ok (needs ++ record { code = c; under = under; over = over; counts = counts } ∷ []))
 
 unfoldable pub need_at : ℕ → Grammar → List Need → List (List ℕ) → Result (List Need) DemandFault
 need_at k g needs (code ∷ a ∷ b ∷ ws) = need_of k g needs code a b ws
 need_at k g needs _ = Err (UnknownLine k)
 
 -- a bound in each period for a work code that has a need line and no such bound
-unfoldable pub bound_at : ℕ → Grammar → List Need → List Bound → List (List ℕ) → Result (List Bound) DemandFault
+unfoldable pub bound_at : ℕ → Grammar → List Need → List Bound → List (List ℕ)
+    → Result (List Bound) DemandFault
 bound_at k g needs bounds (code ∷ ws) =
     work_at k g.codes code >>= λ c. if not (has_need needs c) then Err (NoNeed k)
     else (if has_bound bounds c then Err (Twice k)
@@ -78,8 +84,10 @@ line_at k g d (w ∷ ws) =
     if bytes_eq w (codes "heads") then heads_at k d ws
     else (if bytes_eq w (codes "group") then group_at k g d ws
     else (if bytes_eq w (codes "need") then (need_at k g d.needs ws >>= λ n. Ok (record d { needs = n }))
-    else (if bytes_eq w (codes "least") then (bound_at k g d.needs d.least ws >>= λ b. Ok (record d { least = b }))
-    else (if bytes_eq w (codes "most") then (bound_at k g d.needs d.most ws >>= λ b. Ok (record d { most = b }))
+    else (if bytes_eq w (codes "least") then (bound_at k g d.needs d.least ws >>= λ b. Ok
+    (record d { least = b }))
+    else (if bytes_eq w (codes "most") then (bound_at k g d.needs d.most ws >>= λ b. Ok
+    (record d { most = b }))
     else Err (UnknownLine k)))))
 
 -- a line, whose bad byte comes before its other faults

@@ -44,7 +44,8 @@ abbrev pub are_all : NumberOf → ℕ → List Cell → Bool
 are_all which n cells = list_all (λ (c : Cell). number_of which c == n) cells
 
 abbrev pub need_line : ℕ → ℕ → ℕ → List Cell → List (List ℕ)
-need_line code under over cells = codes "need" ∷ (code ∷ []) ∷ decimal under ∷ decimal over ∷ numbers_of Need cells
+need_line code under over cells =
+    codes "need" ∷ (code ∷ []) ∷ decimal under ∷ decimal over ∷ numbers_of Need cells
 
 -- a line of bounds, where not each is this number
 abbrev pub bound_lines : List ℕ → ℕ → NumberOf → ℕ → List Cell → List (List (List ℕ))

@@ -83,7 +83,8 @@ fn group_of(
     high: &[u8],
 ) -> Result<(), DemandFault>
     requires { IsPlain grammar.now }
-    ensures value { Reads (λ _. (groups.new)) result (group_of line grammar.now groups.old word.now low.now high.now) }
+    ensures value { Reads (λ _. (groups.new)) result
+        (group_of line grammar.now groups.old word.now low.now high.now) }
 {
     if 8 <= groups.len() {
         return Err(DemandFault::TooManyGroups { line });

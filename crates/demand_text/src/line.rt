@@ -21,7 +21,8 @@ pub fn line(
 ) -> Result<(), DemandFault>
     requires sound { IsSound grammar.now }
     requires plain { IsPlain grammar.now }
-    ensures value { Reads (λ _. (draft.new)) result (line_at line.now.number grammar.now draft.old line.now.words) }
+    ensures value { Reads (λ _. (draft.new)) result
+        (line_at line.now.number grammar.now draft.old line.now.words) }
 {
     let number = line.number();
     let mut words = line.words();

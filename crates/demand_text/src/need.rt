@@ -37,7 +37,8 @@ fn need_of(
     words: &mut Words<'_>,
 ) -> Result<(), DemandFault>
     requires { IsSound grammar.now }
-    ensures value { Reads (λ _. (needs.new)) result (need_of line grammar.now needs.old code.now under.now over.now words.old) }
+    ensures value { Reads (λ _. (needs.new)) result
+        (need_of line grammar.now needs.old code.now under.now over.now words.old) }
 {
     let code = work(line, grammar.codes.as_slice(), code)?;
     if has_need(needs.as_slice(), code) {
@@ -91,7 +92,8 @@ pub fn bound(
     words: &mut Words<'_>,
 ) -> Result<(), DemandFault>
     requires { IsSound grammar.now }
-    ensures value { Reads (λ _. (bounds.new)) result (bound_at line grammar.now needs.now bounds.old words.old) }
+    ensures value { Reads (λ _. (bounds.new)) result
+        (bound_at line grammar.now needs.now bounds.old words.old) }
 {
     let Some(code) = words.next() else {
         return Err(DemandFault::UnknownLine { line });

@@ -151,7 +151,8 @@ fn demand_lines(out: &mut List<u8>, grammar: &Grammar, cells: &[Cell]) -> Result
 /// ceiling is not 64. After want of memory there is no text.
 pub fn write_demand(alloc: Global, instance: &Instance) -> Result<List<u8>, Memory>
     requires { IsSoundInstance instance.now }
-    ensures { IfOk result (λ text. (ds : Items Demand) → AreDemandsOf instance.now ds → text ≡ demand_text instance.now ds) }
+    ensures { IfOk result (λ text. (ds : Items Demand) → AreDemandsOf instance.now ds
+        → text ≡ demand_text instance.now ds) }
 {
     let mut out = List::new(alloc);
     team_lines(&mut out, instance)?;

@@ -67,7 +67,8 @@ pub fn scaled(num: i128, den: i128, d: u64, most: i128, tally: &mut Tally) -> Re
     requires den { pos 0 <ℤ den }
     requires d { (1 ≤ d) × (d ≤ 2 ^ 30) }
     requires most { (pos 0 ≤ℤ most) × InRange most }
-    ensures value { OkIff result (pos (unsigned_abs (scaled_floor num den d)) ≤ℤ most) (scaled_floor num den d) }
+    ensures value { OkIff result (pos (unsigned_abs (scaled_floor num den d)) ≤ℤ most)
+        (scaled_floor num den d) }
     ensures fault { IfErr result (λ fault. fault ≡ TooWide.Scaled num den d most) }
     ensures counted { MatchResult result (λ _. tally.new ≡ tally.old) (λ _. tally.new ≡
         refused tally.old) }

@@ -48,7 +48,8 @@ fn divided_product(value: u128, d: u64, den: u128) -> (u64, u128)
 /// Returns `quotient * d + part`, where it fits an `i128`.
 fn total(quotient: i128, d: u64, part: u64) -> Option<i128>
     requires { part ≤ d }
-    ensures { SomeIff result (FitsSigned w128 (quotient *ℤ pos d +ℤ pos part)) (quotient *ℤ pos d +ℤ pos part) }
+    ensures { SomeIff result (FitsSigned w128 (quotient *ℤ pos d +ℤ pos part))
+        (quotient *ℤ pos d +ℤ pos part) }
 {
     if quotient < 0 {
         let upper = (quotient + 1).checked_mul(i128::from(d))?;

@@ -9,7 +9,8 @@ use crate::{Frac, TooWide};
 /// Returns the products of the numerators and of the denominators, where both are in range.
 fn joined(left: &Frac, right: &Frac) -> Option<(i128, i128)>
     ensures { SomeIff result (InRange (left.now.num *ℤ right.now.num) ×
-        InRange (left.now.den *ℤ right.now.den)) (record { 0 = left.now.num *ℤ right.now.num; 1 = left.now.den *ℤ right.now.den }) }
+        InRange (left.now.den *ℤ right.now.den)) (record
+        { 0 = left.now.num *ℤ right.now.num; 1 = left.now.den *ℤ right.now.den }) }
 {
     let num = product_in(left.num(), right.num())?;
     let den = product_in(left.den(), right.den())?;

@@ -26,9 +26,11 @@ pub record IsItemOf (r : ℕ) (right : List Sym) (k next : ℕ) (item : Item) : 
 pub record AddsItems (r : ℕ) (right : List Sym) (n : ℕ) (old new : List Item) : Type 0 where
   pub kept : (p : ℕ) (item : Item) → slice_get old p ≡ Some item → slice_get new p ≡ Some item
   pub count : length new ≡ length old + n
-  pub added : (k : ℕ) → k < n → (item : Item) × (slice_get new (length old + k) ≡ Some item) × IsItemOf r right k (length old + k + 1) item
+  pub added : (k : ℕ) → k < n → (item : Item) × (slice_get new (length old + k) ≡ Some item)
+      × IsItemOf r right k (length old + k + 1) item
   pub only : (p : ℕ) (item : Item) → slice_get new p ≡ Some item
-      → (slice_get old p ≡ Some item) ⊎ ((k : ℕ) × (k < n) × (p ≡ length old + k) × IsItemOf r right k (length old + k + 1) item)
+      → (slice_get old p ≡ Some item) ⊎ ((k : ℕ) × (k < n) × (p ≡ length old + k)
+      × IsItemOf r right k (length old + k + 1) item)
 
 -- the items of the first n rules stand in order
 pub record ItemsOfFirst (g : Grammar) (n : ℕ) (items : List Item) : Type 0 where
@@ -36,7 +38,8 @@ pub record ItemsOfFirst (g : Grammar) (n : ℕ) (items : List Item) : Type 0 whe
   pub each : (p : ℕ) (item : Item) → slice_get items p ≡ Some item → IsItem g items item × (item.rule ≤ n)
   pub all : (r k : ℕ) (rule : Rule) → rule_at g r ≡ Some rule → r ≤ n → k < item_count (length rule.right)
       → (p : ℕ) × (item : Item) × (slice_get items p ≡ Some item) × (item.rule ≡ r) × (item.suffix ≡ k)
-  pub order : (p q : ℕ) (a b : Item) → p < q → slice_get items p ≡ Some a → slice_get items q ≡ Some b → ItemBefore a b
+  pub order : (p q : ℕ) (a b : Item) → p < q → slice_get items p ≡ Some a → slice_get items q ≡ Some b
+      → ItemBefore a b
 
 -- a name of a higher rank, or one of this rank below x
 abbrev pub IsPlaced : List ℕ → ℕ → ℕ → ℕ → Type 0
@@ -51,4 +54,5 @@ pub record AreOrdered (ranks : List ℕ) (names : ℕ) (done : ℕ → Type 0) (
   pub each : (p x : ℕ) → slice_get order p ≡ Some x → (x < names) × done x
   pub all : (x : ℕ) → x < names → done x → (p : ℕ) × (slice_get order p ≡ Some x)
   pub once : (p q x : ℕ) → slice_get order p ≡ Some x → slice_get order q ≡ Some x → p ≡ q
-  pub rising : (p q x y : ℕ) → slice_get order p ≡ Some x → slice_get order q ≡ Some y → slice_index ranks y < slice_index ranks x → p < q
+  pub rising : (p q x y : ℕ) → slice_get order p ≡ Some x → slice_get order q ≡ Some y
+      → slice_index ranks y < slice_index ranks x → p < q

@@ -21,7 +21,8 @@ abbrev pub Follows : List Item → ℕ → List Sym → ℕ → Second → Type 
 Follows items r right k Nothing = length right ≡ 1
 Follows items r right k (One s) = (k + 2 ≡ length right) × (slice_get right (k + 1) ≡ Some s)
 Follows items r right k (Rest p) =
-    (k + 2 < length right) × (next : Item) × (slice_get items p ≡ Some next) × (next.rule ≡ r) × (next.suffix ≡ k + 1)
+    (k + 2 < length right) × (next : Item) × (slice_get items p ≡ Some next) × (next.rule ≡ r)
+    × (next.suffix ≡ k + 1)
 
 -- an item stands for a suffix of one of the rules
 pub record IsItem (g : Grammar) (items : List Item) (item : Item) : Type 0 where
@@ -42,7 +43,8 @@ pub record AreItems (g : Grammar) (items : List Item) : Type 0 where
   pub each : (p : ℕ) (item : Item) → slice_get items p ≡ Some item → IsItem g items item
   pub all : (r k : ℕ) (rule : Rule) → rule_at g r ≡ Some rule → k < item_count (length rule.right)
       → (p : ℕ) × (item : Item) × (slice_get items p ≡ Some item) × (item.rule ≡ r) × (item.suffix ≡ k)
-  pub order : (p q : ℕ) (a b : Item) → p < q → slice_get items p ≡ Some a → slice_get items q ≡ Some b → ItemBefore a b
+  pub order : (p q : ℕ) (a b : Item) → p < q → slice_get items p ≡ Some a → slice_get items q ≡ Some b
+      → ItemBefore a b
 
 -- an order of the names in which each stands once, and the right name of a one-symbol rule before its
 -- left name

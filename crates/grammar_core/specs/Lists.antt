@@ -38,16 +38,20 @@ AreStepsOf g keys list = (i : ℕ) (t : Parts) → IsSpanTree g i t → keys ≡
 
 -- two trees with the same steps are one tree
 abbrev pub StepsTellTree : Type 0
-StepsTellTree = (g : Grammar) (i j : ℕ) (t u : Parts) → IsSpanTree g i t → IsSpanTree g j u → steps i t ≡ steps j u → t ≡ u
+StepsTellTree = (g : Grammar) (i j : ℕ) (t u : Parts) → IsSpanTree g i t → IsSpanTree g j u
+    → steps i t ≡ steps j u → t ≡ u
 
 -- two trees of a sound grammar with the same arcs are one tree
 abbrev pub ArcsTellTree : Type 0
-ArcsTellTree = (g : Grammar) (i j : ℕ) (t u : Parts) → IsSound g → IsSpanTree g i t → IsSpanTree g j u → arcs i t ≡ arcs j u → t ≡ u
+ArcsTellTree = (g : Grammar) (i j : ℕ) (t u : Parts) → IsSound g → IsSpanTree g i t → IsSpanTree g j u
+    → arcs i t ≡ arcs j u → t ≡ u
 
 -- The arcs that are made from steps, and the steps that are made from arcs, tell the tree that those
 -- told. So the word and the cost stay.
 pub record ListsTellOneTree : Type 0 where
-  pub arcs_of_steps : (g : Grammar) (uses : List Step) (keys : List ArcKey) (i j : ℕ) (t u : Parts) → IsSound g → AreArcsOf g uses keys
+  pub arcs_of_steps : (g : Grammar) (uses : List Step) (keys : List ArcKey) (i j : ℕ) (t u : Parts)
+      → IsSound g → AreArcsOf g uses keys
       → IsSpanTree g i t → IsSpanTree g j u → uses ≡ steps i t → keys ≡ arcs j u → t ≡ u
-  pub steps_of_arcs : (g : Grammar) (keys : List ArcKey) (uses : List Step) (i j : ℕ) (t u : Parts) → IsSound g → AreStepsOf g keys uses
+  pub steps_of_arcs : (g : Grammar) (keys : List ArcKey) (uses : List Step) (i j : ℕ) (t u : Parts)
+      → IsSound g → AreStepsOf g keys uses
       → IsSpanTree g i t → IsSpanTree g j u → keys ≡ arcs i t → uses ≡ steps j u → t ≡ u

@@ -26,7 +26,8 @@ next_len (Name x) [] = 0
 next_len (Name x) (step ∷ xs) = step.len
 
 -- the next items are those of a tree of the symbol
-pub record AsksTree {X : Type 0} (g : Grammar) (s : Sym) (list : ℕ → Parts → List X) (xs : List X) : Type 0 where
+pub record AsksTree {X : Type 0} (g : Grammar) (s : Sym) (list : ℕ → Parts → List X)
+    (xs : List X) : Type 0 where
   pub sound : IsSound g
   pub start : ℕ
   pub len : ℕ
@@ -36,7 +37,8 @@ pub record AsksTree {X : Type 0} (g : Grammar) (s : Sym) (list : ℕ → Parts �
   pub is : xs ≡ list start tree ++ rest
 
 -- the next items are those of parts of a suffix of the rule
-pub record AsksParts {X : Type 0} (g : Grammar) (rule : Rule) (x : Suffix) (list : Parts → List X) (xs : List X) : Type 0 where
+pub record AsksParts {X : Type 0} (g : Grammar) (rule : Rule) (x : Suffix) (list : Parts → List X)
+    (xs : List X) : Type 0 where
   pub sound : IsSound g
   pub at : rule_at g x.rule ≡ Some rule
   pub within : x.from ≤ length rule.right
@@ -47,14 +49,18 @@ pub record AsksParts {X : Type 0} (g : Grammar) (rule : Rule) (x : Suffix) (list
   pub is : xs ≡ list tree ++ rest
 
 -- the items of each tree of the symbol that comes next were taken, and the other list of it was added
-abbrev pub TurnsTree : {X Y : Type 0} → Grammar → Sym → (ℕ → Parts → List X) → (ℕ → Parts → List Y) → List X → List Y → List X → List Y → Type 0
+abbrev pub TurnsTree : {X Y : Type 0} → Grammar → Sym → (ℕ → Parts → List X) → (ℕ → Parts → List Y) → List X
+    → List Y → List X → List Y → Type 0
 TurnsTree {X} {Y} g s from to old_x old_y new_x new_y =
-    (i l : ℕ) (t : Parts) (rest : List X) → On g (s ∷ []) i l t → old_x ≡ from i t ++ rest → (new_x ≡ rest) × (new_y ≡ old_y ++ to i t)
+    (i l : ℕ) (t : Parts) (rest : List X) → On g (s ∷ []) i l t → old_x ≡ from i t ++ rest → (new_x ≡ rest)
+    × (new_y ≡ old_y ++ to i t)
 
 -- the items of the parts of the suffix that come next were taken, and the other list of them was added
-abbrev pub TurnsParts : {X Y : Type 0} → Grammar → Rule → Suffix → (Parts → List X) → (Parts → List Y) → List X → List Y → List X → List Y → Type 0
+abbrev pub TurnsParts : {X Y : Type 0} → Grammar → Rule → Suffix → (Parts → List X) → (Parts → List Y)
+    → List X → List Y → List X → List Y → Type 0
 TurnsParts {X} {Y} g rule x from to old_x old_y new_x new_y =
-    (t : Parts) (rest : List X) → On g (drop x.from rule.right) x.start x.len t → old_x ≡ from t ++ rest → (new_x ≡ rest) × (new_y ≡ old_y ++ to t)
+    (t : Parts) (rest : List X) → On g (drop x.from rule.right) x.start x.len t → old_x ≡ from t ++ rest
+    → (new_x ≡ rest) × (new_y ≡ old_y ++ to t)
 
 -- how far a walk over so many items may still go down from a tree
 abbrev pub tree_measure : ℕ → ℕ

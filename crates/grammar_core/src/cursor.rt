@@ -36,7 +36,8 @@ impl<'a, T: Copy> Cursor<'a, T> {
 
     /// Takes the next item; `None` after the last.
     pub fn next(&mut self) -> Option<T>
-        ensures { MatchOption result ((self.old ≡ []) × (self.new ≡ [])) (λ item. self.old ≡ item ∷ self.new) }
+        ensures { MatchOption result ((self.old ≡ []) × (self.new ≡ []))
+            (λ item. self.old ≡ item ∷ self.new) }
     {
         match self.rest {
             [item, rest @ ..] => {

@@ -31,7 +31,13 @@ impl Suffix {
 
     /// Returns the arc of this suffix whose first part covers so many periods.
     pub fn arc(self, part: u8) -> ArcKey
-        ensures { result ≡ record { rule = self.rule; suffix = self.from; start = self.start; len = self.len; part = part } }
+        ensures { result ≡ record {
+          rule = self.rule;
+          suffix = self.from;
+          start = self.start;
+          len = self.len;
+          part = part;
+        } }
     {
         ArcKey {
             rule: self.rule,
@@ -47,7 +53,13 @@ impl Suffix {
         requires from { self.from < 8 }
         requires within { part ≤ self.len }
         requires day { self.start + self.len ≤ 97 }
-        ensures { result ≡ record { rule = self.rule; from = self.from + 1; start = self.start + part; len = self.len - part } }
+        ensures { result ≡ record {
+          rule = self.rule;
+          from = self.from + 1;
+          start = self.start
+              + part;
+          len = self.len - part;
+        } }
     {
         Suffix {
             rule: self.rule,

@@ -45,7 +45,8 @@ fn add_tree(
     arcs: &mut List<ArcKey>,
 ) -> Result<(), Memory>
     requires { AsksTree grammar.now symbol steps_of steps.old }
-    ensures { OnOk result (TurnsTree grammar.now symbol steps_of arcs_of steps.old arcs.old steps.new arcs.new) }
+    ensures { OnOk result (TurnsTree grammar.now symbol steps_of arcs_of steps.old arcs.old steps.new
+        arcs.new) }
 {
     let Sym::Name(_) = symbol else {
         return Ok(());
@@ -67,7 +68,8 @@ fn add_parts(
     arcs: &mut List<ArcKey>,
 ) -> Result<(), Memory>
     requires { AsksParts grammar.now rule.now suffix (steps_of suffix.start) steps.old }
-    ensures { OnOk result (TurnsParts grammar.now rule.now suffix (steps_of suffix.start) (parts_arcs suffix.rule suffix.from suffix.start) steps.old arcs.old steps.new arcs.new) }
+    ensures { OnOk result (TurnsParts grammar.now rule.now suffix (steps_of suffix.start)
+        (parts_arcs suffix.rule suffix.from suffix.start) steps.old arcs.old steps.new arcs.new) }
 {
     let right = rule.right.as_slice();
     let from = suffix.from as usize;

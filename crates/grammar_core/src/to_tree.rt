@@ -54,7 +54,8 @@ fn add_tree(
     tree: &mut Tree,
 ) -> Result<(), Memory>
     requires { AsksTree grammar.now symbol arcs_of arcs.old }
-    ensures { OnOk result (TurnsTree grammar.now symbol arcs_of steps_of arcs.old tree.old arcs.new tree.new) }
+    ensures { OnOk result (TurnsTree grammar.now symbol arcs_of steps_of arcs.old tree.old arcs.new
+        tree.new) }
 {
     let Sym::Name(_) = symbol else {
         return Ok(());
@@ -77,8 +78,11 @@ fn add_parts(
     arcs: &mut Cursor<ArcKey>,
     tree: &mut Tree,
 ) -> Result<(), Memory>
-    requires { AsksParts grammar.now rule.now suffix (parts_arcs suffix.rule suffix.from suffix.start) arcs.old }
-    ensures { OnOk result (TurnsParts grammar.now rule.now suffix (parts_arcs suffix.rule suffix.from suffix.start) (steps_of suffix.start) arcs.old tree.old arcs.new tree.new) }
+    requires { AsksParts grammar.now rule.now suffix (parts_arcs suffix.rule suffix.from suffix.start)
+        arcs.old }
+    ensures { OnOk result (TurnsParts grammar.now rule.now suffix
+        (parts_arcs suffix.rule suffix.from suffix.start) (steps_of suffix.start) arcs.old tree.old arcs.new
+        tree.new) }
 {
     let right = rule.right.as_slice();
     let from = suffix.from as usize;
@@ -94,7 +98,8 @@ fn add_parts(
 // Takes the arc of the first part of a suffix of so many symbols, if it has one, and returns how many
 // periods that part covers.
 fn take_part(suffix: Suffix, symbols: usize, arcs: &mut Cursor<ArcKey>) -> u8
-    ensures own { has_own_arc suffix.from symbols ≡ true → (key : Key) (rest : Items Key) → arcs.old ≡ key ∷ rest
+    ensures own { has_own_arc suffix.from symbols ≡ true → (key : Key) (rest : Items Key)
+        → arcs.old ≡ key ∷ rest
         → (result ≡ key.part) × (arcs.new ≡ rest) }
     ensures none { has_own_arc suffix.from symbols ≡ false → (result ≡ suffix.len) × (arcs.new ≡ arcs.old) }
 {

@@ -14,7 +14,8 @@ fn add_lanes(counts: &mut [u32], word: &[u8], byte: u8, at: usize)
     ensures length { length counts.new ≡ length counts.old }
     ensures lanes { (k : ℕ) → at ≤ k → k < at + 16
         → slice_index counts.new k ≡ slice_index counts.old k + matched byte (slice_index word.now k) }
-    ensures others { (k : ℕ) → (k < at) ⊎ (at + 16 ≤ k) → slice_index counts.new k ≡ slice_index counts.old k }
+    ensures others { (k : ℕ) → (k < at) ⊎ (at + 16 ≤ k)
+        → slice_index counts.new k ≡ slice_index counts.old k }
 {
     let letters: u32x16 = u8x16::from_slice(&word[at..]).cast();
     let matches = letters.simd_eq(u32x16::splat(u32::from(byte)));

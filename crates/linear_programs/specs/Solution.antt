@@ -34,7 +34,8 @@ pub record IsSolution {K : Type 0} (p : Program K) (ws : List (Weighted K)) (q :
 -- v / q is the least cost of the solutions
 pub record IsValue {K : Type 0} (p : Program K) (v : ℤ) (q : ℕ) : Type 0 where
   pub positive : 0 < q
-  pub reached : (ws : List (Weighted K)) × (d : ℕ) × IsSolution p ws d × (cost_of p.column ws *ℤ pos q ≡ v *ℤ pos d)
+  pub reached : (ws : List (Weighted K)) × (d : ℕ) × IsSolution p ws d
+      × (cost_of p.column ws *ℤ pos q ≡ v *ℤ pos d)
   pub least : (ws : List (Weighted K)) (d : ℕ) → IsSolution p ws d
       → (v *ℤ pos d) ≤ℤ (cost_of p.column ws *ℤ pos q)
 

@@ -49,12 +49,15 @@ pub record IsChoice {K : Type 0} (m : ℕ) (old : Tableau K) (c : Column) (t : �
       → (old.right t *ℤ entry m old r c) ≤ℤ (old.right r *ℤ entry m old t c)
 
 -- one step: the column c of the key k becomes basic in row t
-pub record IsStep {K : Type 0} (m : ℕ) (old : Tableau K) (k : K) (c : Column) (t : ℕ) (new : Tableau K) : Type 0 where
+pub record IsStep {K : Type 0} (m : ℕ) (old : Tableau K) (k : K) (c : Column) (t : ℕ)
+    (new : Tableau K) : Type 0 where
   pub choice : IsChoice m old c t
   pub same : ((i : ℕ) → i < m → new.row t i ≡ old.row t i) × (new.right t ≡ old.right t)
   pub rows : (r : ℕ) → r < m → r ≢ t
-      → (g : ℤ) × IsRowStep (m + 1) (entry m old t c) (whole_row m (old.row r) (old.right r)) (entry m old r c) (whole_row m (old.row t) (old.right t)) (whole_row m (new.row r) (new.right r)) g
-  pub cost : (g : ℤ) × IsRowStep (m + 2) (entry m old t c) (cost_row m old) (neg_ℤ (reduced m old.y old.kappa c)) (padded_row m old t) (cost_row m new) g
+      → (g : ℤ) × IsRowStep (m + 1) (entry m old t c) (whole_row m (old.row r) (old.right r))
+      (entry m old r c) (whole_row m (old.row t) (old.right t)) (whole_row m (new.row r) (new.right r)) g
+  pub cost : (g : ℤ) × IsRowStep (m + 2) (entry m old t c) (cost_row m old)
+      (neg_ℤ (reduced m old.y old.kappa c)) (padded_row m old t) (cost_row m new) g
   pub basis : (new.basis t ≡ k) × ((r : ℕ) → r < m → r ≢ t → new.basis r ≡ old.basis r)
 
 -- n steps lead from the start of the program to the tableau
@@ -78,7 +81,8 @@ HasWidePath {K} p = (n : ℕ) × (t : Tableau K) × PivotPath p n t × IsWide p.
 
 -- some pivot path of n steps ends with a column of the set that has a negative reduced cost
 abbrev pub HasOpenPath : {K : Type 0} → Program K → ℕ → Type 0
-HasOpenPath {K} p n = (t : Tableau K) × PivotPath p n t × (k : K) × p.belongs k × (reduced p.rows t.y t.kappa (p.column k) <ℤ pos 0)
+HasOpenPath {K} p n = (t : Tableau K) × PivotPath p n t × (k : K) × p.belongs k
+    × (reduced p.rows t.y t.kappa (p.column k) <ℤ pos 0)
 
 -- the weights w 0 to w (n - 1), on the basic columns of the first n rows
 abbrev pub on_basis : {K : Type 0} → (ℕ → K) → (ℕ → ℕ) → ℕ → List (Weighted K)

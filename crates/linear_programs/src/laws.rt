@@ -18,7 +18,8 @@ pub trait LinearProgram {
 pub fn prices_bound_solutions<P: LinearProgram>(program: &P)
     ensures { (y : ℕ → ℤ) (kappa : ℤ) → IsPricedOut (P.program program.now) y kappa →
         (ws : List (Weighted P.Key)) (q : ℕ) → IsSolution (P.program program.now) ws q →
-        (pos q *ℤ dot (P.program program.now).rows y (P.program program.now).right) ≤ℤ (kappa *ℤ cost_of (P.program program.now).column ws) }
+        (pos q *ℤ dot (P.program program.now).rows y (P.program program.now).right) ≤ℤ
+        (kappa *ℤ cost_of (P.program program.now).column ws) }
 {}
 
 /// At the end of each pivot path a vector meets the rows of the tableau exactly where it meets the

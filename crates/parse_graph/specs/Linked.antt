@@ -41,7 +41,8 @@ uses_of (Node n) arc = record { row = n; item = arc } ∷ []
 
 -- the nodes that the arcs make, what each arc makes and uses, and for each node the arcs that make
 -- and use it
-pub record AreLinked (g : Grammar) (arcs : List ArcKey) (listed : List OrNode) (numbers : List ℕ) (firsts rests : List Kid) (made_entries used_entries : List Entry) : Type 0 where
+pub record AreLinked (g : Grammar) (arcs : List ArcKey) (listed : List OrNode) (numbers : List ℕ)
+    (firsts rests : List Kid) (made_entries used_entries : List Entry) : Type 0 where
   pub nodes : HasNodes g arcs listed
   pub few : length listed ≤ length arcs
   pub one_each : length numbers ≡ length arcs
@@ -62,4 +63,5 @@ pub record AreLinked (g : Grammar) (arcs : List ArcKey) (listed : List OrNode) (
 
 abbrev pub IsLinked : Grammar → List ArcKey → Links → Type 0
 IsLinked g arcs l =
-    AreLinked g arcs (map or_node l.nodes.keys) l.arcs.made_by l.arcs.first l.arcs.rest l.entries.makers l.entries.users
+    AreLinked g arcs (map or_node l.nodes.keys) l.arcs.made_by l.arcs.first l.arcs.rest l.entries.makers
+    l.entries.users

@@ -26,16 +26,19 @@ at g p o = nat_eq (node_place g o) p
 pub record IsCounted (g : Grammar) (a : ArcKey) (v : ℕ) (old new : List ℤ) : Type 0 where
   pub size : length new ≡ length old
   pub change : (p : ℕ) → p < length old
-      → slice_index_or new p (pos 0) ≡ slice_index_or old p (pos 0) +ℤ (pos (v * cond (at g p (made g a)) 1 0) -ℤ pos (v * count (at g p) (used g a)))
+      → slice_index_or new p (pos 0) ≡ slice_index_or old p (pos 0)
+      +ℤ (pos (v * cond (at g p (made g a)) 1 0) -ℤ pos (v * count (at g p) (used g a)))
 
 -- at each place stands what the arcs add there less what they take away
 pub record IsNet (g : Grammar) (listed : List ArcKey) (value : ArcKey → ℕ) (nodes : List ℤ) : Type 0 where
   pub size : length nodes ≡ place_count g
-  pub net : (p : ℕ) → p < place_count g → slice_index_or nodes p (pos 0) ≡ pos (made_in g (at g p) value listed) -ℤ pos (used_in g (at g p) value listed)
+  pub net : (p : ℕ) → p < place_count g → slice_index_or nodes p (pos 0) ≡ pos
+      (made_in g (at g p) value listed) -ℤ pos (used_in g (at g p) value listed)
 
 -- each place of a name or suffix but the root's holds 0
 abbrev pub AreZero : Grammar → List ℤ → Type 0
-AreZero g nodes = (p : ℕ) → p < node_count g → p ≢ node_place g (root_of g) → slice_index_or nodes p (pos 0) ≡ pos 0
+AreZero g nodes =
+    (p : ℕ) → p < node_count g → p ≢ node_place g (root_of g) → slice_index_or nodes p (pos 0) ≡ pos 0
 
 -- the size of the number at a place
 abbrev pub size_at : List ℤ → ℕ → ℕ

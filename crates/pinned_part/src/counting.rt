@@ -60,7 +60,8 @@ struct Uses {
 fn used_places(grammar: &Grammar, arc: &ArcKey) -> Uses
     requires sound { IsSound grammar.now }
     requires shaped { IsSplit grammar.now arc.now }
-    ensures places { map (node_place grammar.now) (used grammar.now arc.now) ≡ one_or_two result.first result.rest }
+    ensures places { map (node_place grammar.now) (used grammar.now arc.now) ≡ one_or_two result.first
+        result.rest }
     ensures first { result.first < place_count grammar.now }
     ensures rest { IfSome result.rest (λ p. p < place_count grammar.now) }
 {

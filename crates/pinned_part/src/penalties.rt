@@ -24,7 +24,8 @@ fn cell_penalty(grammar: &Grammar, nodes: &[i64], cell: &Cell) -> Option<u64>
     requires length { length nodes.now ≡ place_count grammar.now }
     requires cell { IsDayCell grammar.now cell.now }
     ensures value { let n = cell_size grammar.now nodes.now cell.now in
-        MatchOption result (IsWithinCell cell.now n → ⊥) (λ p. IsWithinCell cell.now n × (p ≡ penalty cell.now n) × (p ≤ 640000)) }
+        MatchOption result (IsWithinCell cell.now n → ⊥)
+        (λ p. IsWithinCell cell.now n × (p ≡ penalty cell.now n) × (p ≤ 640000)) }
 {
     let count = size_at(nodes, letter_place(grammar, cell.code, cell.period));
     if is_within(cell, count) {
@@ -41,9 +42,11 @@ pub fn penalties(grammar: &Grammar, nodes: &[i64], cells: &[Cell]) -> Option<u64
     requires length { length nodes.now ≡ place_count grammar.now }
     requires cells { All (IsDayCell grammar.now) cells.now }
     requires few { length cells.now ≤ 768 }
-    ensures { let within = Each (λ (c : DayCell). IsWithinCell c (cell_size grammar.now nodes.now c)) cells.now in
+    ensures { let within = Each (λ (c : DayCell). IsWithinCell c (cell_size grammar.now nodes.now c))
+        cells.now in
         MatchOption result (within → ⊥)
-        (λ p. within × (p ≡ sum_n (λ (c : DayCell). penalty c (cell_size grammar.now nodes.now c)) cells.now) × (p ≤ 640000 * length cells.now)) }
+        (λ p. within × (p ≡ sum_n (λ (c : DayCell). penalty c (cell_size grammar.now nodes.now c)) cells.now)
+        × (p ≤ 640000 * length cells.now)) }
 {
     let mut sum = 0;
     for cell in cells {

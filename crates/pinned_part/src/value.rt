@@ -26,7 +26,8 @@ pub fn allowed_penalties(instance: &Instance, nodes: &[i64]) -> Option<u64>
     requires length { length nodes.now ≡ place_count instance.now.grammar }
     ensures { MatchOption result (AreAllowed instance.now nodes.now → ⊥)
         (λ p. AreAllowed instance.now nodes.now
-        × (p ≡ sum_n (λ (c : DayCell). penalty c (cell_size instance.now.grammar nodes.now c)) instance.now.cells)
+        × (p ≡ sum_n (λ (c : DayCell). penalty c (cell_size instance.now.grammar nodes.now c))
+        instance.now.cells)
         × (p ≤ 640000 * 768)) }
 {
     let grammar = &instance.grammar;

@@ -20,4 +20,5 @@ pub record ArePlainCounts (i : Instance) (listed : List ArcKey) (value : ArcKey 
 pub record IsPlainPinnedValue (i : Instance) (cuts : List Cut) (v : ℕ) : Type 0 where
   pub listed : List ArcKey
   pub are : AreArcs i.grammar listed
-  pub value : (ArePlainCounts i listed (lo cuts) × (v ≡ counts_cost i listed (lo cuts))) ⊎ ((ArePlainCounts i listed (lo cuts) → ⊥) × (v ≡ greatest_cost i + 1))
+  pub value : (ArePlainCounts i listed (lo cuts) × (v ≡ counts_cost i listed (lo cuts)))
+      ⊎ ((ArePlainCounts i listed (lo cuts) → ⊥) × (v ≡ greatest_cost i + 1))

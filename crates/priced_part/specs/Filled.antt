@@ -18,4 +18,5 @@ NeedsInVain g name least = (0 < least) × ((t : Parts) → IsTreeOf g name t →
 -- the list tells of each name, in its order, whether it derives a word of the day
 pub record TellsDerived (g : Grammar) (derives : List Bool) : Type 0 where
   pub count : length g.names ≤ length derives
-  pub told : (x : ℕ) → x < length g.names → (slice_index_or derives x true ≡ false) ↔ ((t : Parts) → IsTreeOf g x t → ⊥)
+  pub told : (x : ℕ) → x < length g.names → (slice_index_or derives x true ≡ false)
+      ↔ ((t : Parts) → IsTreeOf g x t → ⊥)

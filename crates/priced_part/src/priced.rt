@@ -36,7 +36,8 @@ pub fn priced_value(
     requires room { IsRoomFor room.old instance.now }
     requires few { length mult.now ≤ room.old.most }
     requires made { IsMadeFor instance.now.grammar table.old }
-    ensures value { IsPricedValue instance.now (record { d = d; cell = cell.now; mult = mult.now }) cuts.now result }
+    ensures value { IsPricedValue instance.now (record { d = d; cell = cell.now; mult = mult.now }) cuts.now
+        result }
     ensures room { IsRoomFor room.new instance.now }
     ensures most { room.new.most ≡ room.old.most }
     ensures kept { (g : Rules) → IsMadeFor g table.old → IsMadeFor g table.new }
@@ -65,10 +66,12 @@ pub fn value_from_least(
     requires sound { IsSoundInstance instance.now }
     requires fit { FitPrices instance.now d cell.now mult.now cuts.now }
     requires small { All (λ c. c.b ≤ 63) cuts.now }
-    requires least { IsLeastReduced instance.now (record { d = d; cell = cell.now; mult = mult.now }) cuts.now least }
+    requires least { IsLeastReduced instance.now (record { d = d; cell = cell.now; mult = mult.now }) cuts.now
+        least }
     requires within { IfSome least (Within (2 ^ 110)) }
     requires told { TellsDerived instance.now.grammar derives.now }
-    ensures { IsPricedValue instance.now (record { d = d; cell = cell.now; mult = mult.now }) cuts.now result }
+    ensures { IsPricedValue instance.now (record { d = d; cell = cell.now; mult = mult.now }) cuts.now
+        result }
 {
     let none = greatest_cost(instance) + 1;
     if is_plainly_infeasible(instance, derives) {
@@ -94,7 +97,8 @@ fn least_reduced(
     requires room { IsRoomFor room.old instance.now }
     requires few { length mult.now ≤ room.old.most }
     requires made { IsMadeFor instance.now.grammar table.old }
-    ensures least { IsLeastReduced instance.now (record { d = d; cell = cell.now; mult = mult.now }) cuts.now result }
+    ensures least { IsLeastReduced instance.now (record { d = d; cell = cell.now; mult = mult.now }) cuts.now
+        result }
     ensures within { IfSome result (Within (2 ^ 110)) }
     ensures filled { IsFilledForAll instance.now.grammar table.new }
     ensures room { IsRoomFor room.new instance.now }

@@ -136,7 +136,8 @@ pub(crate) fn lagrangian_sum(
     requires fit { FitPrices instance.now d cell.now mult.now cuts.now }
     requires small { All (λ c. c.b ≤ 63) cuts.now }
     requires least { IfSome least (Within (2 ^ 110)) }
-    ensures value { result ≡ lagrangian_sum instance.now (record { d = d; cell = cell.now; mult = mult.now }) cuts.now least }
+    ensures value { result ≡ lagrangian_sum instance.now (record { d = d; cell = cell.now; mult = mult.now })
+        cuts.now least }
     ensures within { Within (2 ^ 117) result }
 {
     let most = instance.heads_max;

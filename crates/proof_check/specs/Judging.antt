@@ -40,10 +40,12 @@ pub record HasSeen (i : Instance) (c : Cert) (b : Walker) (s : Seen) : Type 0 wh
   pub cost : c.cost ≡ s.cost
   pub bound : c.bound ≡ s.bound
   pub shifts : c.shifts ≡ s.shifts
-  pub walking : (rest : List Node) (p : Proof) → IsSoundProof i (c.nodes ++ rest) p → IsWalking i p (length c.nodes) b.stack s.walk
+  pub walking : (rest : List Node) (p : Proof) → IsSoundProof i (c.nodes ++ rest) p
+      → IsWalking i p (length c.nodes) b.stack s.walk
 
 -- one thing more was seen
-pub record IsTaken (i : Instance) (old : Walker) (before : Seen) (t : Told) (new : Walker) (after : Seen) : Type 0 where
+pub record IsTaken (i : Instance) (old : Walker) (before : Seen) (t : Told) (new : Walker)
+    (after : Seen) : Type 0 where
   pub ready : IsReady i new after
   pub place : place_at new.stack after.walk ≡ place_with t (place_at old.stack before.walk)
   pub count : length after.shifts ≡ shifts_with t (length before.shifts)

@@ -27,7 +27,8 @@ abbrev pub ValueAfter : Instance → List Cut → List Frame → ℕ → List No
 ValueAfter i base [] x rest v = (rest ≡ []) × (v ≡ x)
 ValueAfter i base (f ∷ st) x rest v =
     elim f.cut.side [
-      | Low ↦ (t : Proof) × (tail : List Node) × (y : ℕ) × (rest ≡ preorder t ++ tail) × Shows i (path base st ++ high_cut f.cut.arc f.cut.b ∷ []) t y
+      | Low ↦ (t : Proof) × (tail : List Node) × (y : ℕ) × (rest ≡ preorder t ++ tail)
+          × Shows i (path base st ++ high_cut f.cut.arc f.cut.b ∷ []) t y
           × ValueAfter i base st (joined f.own (min x y)) tail v
       | High ↦ ValueAfter i base st (joined f.own (min f.low x)) rest v
     ]
@@ -35,7 +36,8 @@ ValueAfter i base (f ∷ st) x rest v =
 -- the nodes begin with a tree for the open half, and lead to v
 abbrev pub LeadsTo : Instance → List Cut → List Frame → List Node → ℕ → Type 0
 LeadsTo i base st nodes v =
-    (t : Proof) × (tail : List Node) × (x : ℕ) × (nodes ≡ preorder t ++ tail) × Shows i (path base st) t x × ValueAfter i base st x tail v
+    (t : Proof) × (tail : List Node) × (x : ℕ) × (nodes ≡ preorder t ++ tail) × Shows i (path base st) t x
+    × ValueAfter i base st x tail v
 
 -- after the tree for the open half, the nodes that follow make these visits
 abbrev pub VisitsAfter : List Cut → List Frame → List Node → List Visit → Type 0
@@ -43,14 +45,16 @@ VisitsAfter base [] rest vs = (rest ≡ []) × (vs ≡ [])
 VisitsAfter base (f ∷ st) rest vs =
     elim f.cut.side [
       | Low ↦ (t : Proof) × (tail : List Node) × (us : List Visit) × (rest ≡ preorder t ++ tail)
-          × (vs ≡ visits (path base st ++ high_cut f.cut.arc f.cut.b ∷ []) t ++ us) × VisitsAfter base st tail us
+          × (vs ≡ visits (path base st ++ high_cut f.cut.arc f.cut.b ∷ []) t ++ us)
+          × VisitsAfter base st tail us
       | High ↦ VisitsAfter base st rest vs
     ]
 
 -- the nodes begin with a tree for the open half, and make these visits
 abbrev pub MakeVisits : List Cut → List Frame → List Node → List Visit → Type 0
 MakeVisits base st nodes vs =
-    (t : Proof) × (tail : List Node) × (us : List Visit) × (nodes ≡ preorder t ++ tail) × (vs ≡ visits (path base st) t ++ us) × VisitsAfter base st tail us
+    (t : Proof) × (tail : List Node) × (us : List Visit) × (nodes ≡ preorder t ++ tail)
+    × (vs ≡ visits (path base st) t ++ us) × VisitsAfter base st tail us
 
 -- the whole tree was read and shows this, or a half is open
 abbrev pub ValueNext : Instance → List Cut → Option ℕ → List Frame → List Node → ℕ → Type 0

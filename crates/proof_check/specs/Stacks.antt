@@ -30,7 +30,8 @@ halves_of [] = []
 halves_of (f ∷ st) = is_high f.cut.side ∷ halves_of st
 
 -- the path is the base and the cuts of the frames, and there is room for both
-pub record IsStack (base most : ℕ) (frames : List Frame) (path_cuts : List Cut) (frame_room cut_room : ℕ) : Type 0 where
+pub record IsStack (base most : ℕ) (frames : List Frame) (path_cuts : List Cut)
+    (frame_room cut_room : ℕ) : Type 0 where
   pub begins : base ≤ length path_cuts
   pub whole : path (take base path_cuts) (reverse frames) ≡ path_cuts
   pub splits : most ≤ frame_room
@@ -48,11 +49,15 @@ pub record IsClosing (old : StackView) (value : ℕ) (now : StackView) (shown : 
   pub fewer : length now.splits ≤ length old.splits
   pub halves : after_leaf (halves_of now.splits) ≡ after_leaf (halves_of old.splits)
   pub small : AreSmall (path old.base old.splits) → AreSmall (path old.base now.splits)
-  pub values : (i : Instance) (rest : List Node) (v : ℕ) → ValueAfter i old.base now.splits shown rest v → ValueAfter i old.base old.splits value rest v
-  pub visits : (rest : List Node) (vs : List Visit) → VisitsAfter old.base old.splits rest vs → VisitsAfter old.base now.splits rest vs
+  pub values : (i : Instance) (rest : List Node) (v : ℕ) → ValueAfter i old.base now.splits shown rest v
+      → ValueAfter i old.base old.splits value rest v
+  pub visits : (rest : List Node) (vs : List Visit) → VisitsAfter old.base old.splits rest vs
+      → VisitsAfter old.base now.splits rest vs
 
 -- a loop that adds the cuts of groups: those of the groups before the place are there
-pub record IsPushing (i : Instance) (first : ℕ) (groups : List Group) (place : ℕ) (old now : Vec Cut) : Type 0 where
-  pub items : now.items ++ cuts_from i (first + place) (drop place groups) ≡ old.items ++ cuts_from i first groups
+pub record IsPushing (i : Instance) (first : ℕ) (groups : List Group) (place : ℕ)
+    (old now : Vec Cut) : Type 0 where
+  pub items : now.items ++ cuts_from i (first + place) (drop place groups) ≡ old.items
+      ++ cuts_from i first groups
   pub len : vec_len now ≤ vec_len old + 2 * place
   pub room : vec_capacity now ≡ vec_capacity old

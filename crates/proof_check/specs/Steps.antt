@@ -47,21 +47,25 @@ halves_after Bare halves = after_leaf halves
 -- What a node does to the open splits. It opens one, or ends the innermost half. What the nodes to come
 -- lead to then, they lead to with it before them, where it is right; and it makes the first of the
 -- visits that it and they make.
-pub record IsShown (i : Instance) (old : StackView) (node : Node) (is_right : Bool) (new : StackView) (shown : Option ℕ) : Type 0 where
+pub record IsShown (i : Instance) (old : StackView) (node : Node) (is_right : Bool) (new : StackView)
+    (shown : Option ℕ) : Type 0 where
   pub base : new.base ≡ old.base
   pub most : new.most ≡ old.most
   pub deeper : length new.splits ≤ length old.splits + 1
   pub halves : halves_of new.splits ≡ halves_after node (halves_of old.splits)
   pub small : AreSmall (way new)
-  pub values : IsTrue is_right → (rest : List Node) (v : ℕ) → ValueNext i old.base shown new.splits rest v → LeadsTo i old.base old.splits (node ∷ rest) v
+  pub values : IsTrue is_right → (rest : List Node) (v : ℕ) → ValueNext i old.base shown new.splits rest v
+      → LeadsTo i old.base old.splits (node ∷ rest) v
   pub visits : (rest : List Node) (vs : List Visit) → MakeVisits old.base old.splits (node ∷ rest) vs
       → (us : List Visit) × (vs ≡ next_visit old node ∷ us) × VisitsNext old.base shown new.splits rest us
 
 -- a step of the walk: one more node is seen, the first cause of least number stays the first, and what
 -- the nodes show is right where there is none
-pub record IsStep (i : Instance) (old : StackView) (before : Walk) (node : Node) (new : StackView) (after : Walk) : Type 0 where
+pub record IsStep (i : Instance) (old : StackView) (before : Walk) (node : Node) (new : StackView)
+    (after : Walk) : Type 0 where
   pub nodes : after.nodes ≡ before.nodes + 1
-  pub why : (own : Option Why) × IsVisitCause i (next_visit old node) (before.nodes + 1) own × (after.why ≡ lesser_cause before.why own)
+  pub why : (own : Option Why) × IsVisitCause i (next_visit old node) (before.nodes + 1) own
+      × (after.why ≡ lesser_cause before.why own)
   pub is_right : Bool
   pub none : after.why ≡ None → IsTrue is_right
   pub shows : IsShown i old node is_right new after.shown
@@ -75,5 +79,7 @@ pub record IsWalking (i : Instance) (proof : Proof) (k : ℕ) (stack : StackView
   pub small : AreSmall (way stack)
   pub nodes : walk.nodes ≡ k
   pub why : IsVisitsCause i (take k (visits (base_cuts i) proof)) walk.why
-  pub values : walk.why ≡ None → (v : ℕ) → ValueNext i (base_cuts i) walk.shown stack.splits (drop k (preorder proof)) v → LeadsTo i (base_cuts i) [] (preorder proof) v
-  pub visits : VisitsNext (base_cuts i) walk.shown stack.splits (drop k (preorder proof)) (drop k (visits (base_cuts i) proof))
+  pub values : walk.why ≡ None → (v : ℕ) → ValueNext i (base_cuts i) walk.shown stack.splits
+      (drop k (preorder proof)) v → LeadsTo i (base_cuts i) [] (preorder proof) v
+  pub visits : VisitsNext (base_cuts i) walk.shown stack.splits (drop k (preorder proof))
+      (drop k (visits (base_cuts i) proof))

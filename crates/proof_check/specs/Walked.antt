@@ -21,7 +21,8 @@ abbrev pub IsVisitCause : Instance → Visit → ℕ → Option Why → Type 0
 IsVisitCause i v n None = IsRight i v
 IsVisitCause i v n (Some (NotAnArc m)) = (m ≡ n) × SplitsNoArc i v.node
 IsVisitCause i v n (Some (EmptyHalf m)) = (m ≡ n) × IsOnArc i v.node × HasEmptyHalf i v.path v.node
-IsVisitCause i v n (Some (NotPinned m a)) = (m ≡ n) × IsOnArc i v.node × LeavesBoth i v.path v.node × IsUnpinned i v.path v.node × IsFirstLoose i v.path a
+IsVisitCause i v n (Some (NotPinned m a)) = (m ≡ n) × IsOnArc i v.node × LeavesBoth i v.path v.node
+    × IsUnpinned i v.path v.node × IsFirstLoose i v.path a
 IsVisitCause i v n (Some (NotAShift k)) = ⊥
 IsVisitCause i v n (Some (ShiftCost k said least)) = ⊥
 IsVisitCause i v n (Some (WrongHeads g k)) = ⊥

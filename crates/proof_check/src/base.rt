@@ -23,7 +23,8 @@ fn group_arc(periods: u8, rule: u8) -> ArcKey
 // Adds a Low cut where a group's most employees say more than those of the day. Takes no memory.
 fn push_most(path: &mut Vec<Cut>, arc: ArcKey, most: u32, heads: u32)
     requires { vec_len path.old < vec_capacity path.old }
-    ensures items { path.new.items ≡ path.old.items ++ cond (nat_lt most heads) (record { arc = arc; side = Side.Low; b = most } ∷ []) [] }
+    ensures items { path.new.items ≡ path.old.items
+        ++ cond (nat_lt most heads) (record { arc = arc; side = Side.Low; b = most } ∷ []) [] }
     ensures len { vec_len path.new ≤ vec_len path.old + 1 }
     ensures capacity { vec_capacity path.new ≡ vec_capacity path.old }
 {
@@ -39,7 +40,8 @@ fn push_most(path: &mut Vec<Cut>, arc: ArcKey, most: u32, heads: u32)
 // Adds a High cut where a group needs employees. Takes no memory.
 fn push_least(path: &mut Vec<Cut>, arc: ArcKey, least: u32)
     requires { vec_len path.old < vec_capacity path.old }
-    ensures items { path.new.items ≡ path.old.items ++ cond (nat_lt 0 least) (record { arc = arc; side = Side.High; b = least - 1 } ∷ []) [] }
+    ensures items { path.new.items ≡ path.old.items
+        ++ cond (nat_lt 0 least) (record { arc = arc; side = Side.High; b = least - 1 } ∷ []) [] }
     ensures len { vec_len path.new ≤ vec_len path.old + 1 }
     ensures capacity { vec_capacity path.new ≡ vec_capacity path.old }
 {

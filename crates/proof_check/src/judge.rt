@@ -107,7 +107,8 @@ pub(crate) fn decided(
     requires sound { IsSoundInstance instance.now }
     requires few { length shifts.now ≤ 64 }
     ensures { (c : Stated) → IsSoundCert instance.now c → States c cost shifts.now → c.bound ≡ bound
-        → HasRightRoster instance.now cost shifts.now → IsWalked instance.now c.nodes walk → IsVerdict instance.now c result }
+        → HasRightRoster instance.now cost shifts.now → IsWalked instance.now c.nodes walk
+        → IsVerdict instance.now c result }
 {
     if let Some(why) = walk.why {
         return Verdict::No(why);

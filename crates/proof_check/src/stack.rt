@@ -106,7 +106,8 @@ impl Stack {
 
     // Closes the innermost half; `None` where none is open.
     fn pop(&mut self) -> Option<Frame>
-        ensures { MatchOption result ((self.old.splits ≡ []) × (self.new ≡ self.old)) (λ f. self.old ≡ record self.new { splits = f ∷ self.new.splits }) }
+        ensures { MatchOption result ((self.old.splits ≡ []) × (self.new ≡ self.old))
+            (λ f. self.old ≡ record self.new { splits = f ∷ self.new.splits }) }
     {
         let frame = self.frames.pop()?;
         let _ = self.path.pop();
@@ -124,7 +125,10 @@ impl Stack {
     /// Opens the Low half of a split. Takes no memory.
     pub(crate) fn split(&mut self, arc: ArcKey, b: u32, own: Option<u64>)
         requires { length self.old.splits < self.old.most }
-        ensures { self.new ≡ record self.old { splits = record { cut = low_cut arc b; own = own; low = 0 } ∷ self.old.splits } }
+        ensures { self.new ≡ record self.old {
+          splits = record { cut = low_cut arc b; own = own; low = 0 } ∷
+              self.old.splits;
+        } }
     {
         let side = Side::Low;
         self.push(Frame {
@@ -142,10 +146,13 @@ impl Stack {
         ensures most { self.new.most ≡ self.old.most }
         ensures fewer { length self.new.splits ≤ length self.old.splits }
         ensures halves { halves_of self.new.splits ≡ after_leaf (halves_of self.old.splits) }
-        ensures small { AreSmall (path self.old.base self.old.splits) → AreSmall (path self.old.base self.new.splits) }
-        ensures values { (i : Day) (rest : Items ProofNode) (v : ℕ) → ValueNext i self.old.base result self.new.splits rest v
+        ensures small { AreSmall (path self.old.base self.old.splits)
+            → AreSmall (path self.old.base self.new.splits) }
+        ensures values { (i : Day) (rest : Items ProofNode) (v : ℕ)
+            → ValueNext i self.old.base result self.new.splits rest v
             → ValueAfter i self.old.base self.old.splits value rest v }
-        ensures visits { (rest : Items ProofNode) (vs : Items Visit) → VisitsAfter self.old.base self.old.splits rest vs
+        ensures visits { (rest : Items ProofNode) (vs : Items Visit)
+            → VisitsAfter self.old.base self.old.splits rest vs
             → VisitsNext self.old.base result self.new.splits rest vs }
     {
         let mut shown = value;

@@ -49,7 +49,8 @@ impl Walker {
     fn see(&mut self, instance: &Instance, seen: &mut Seen, node: &NodeView<'_>)
         requires sound { IsSoundInstance instance.now }
         requires ready { IsReady instance.now self.old seen.old }
-        requires told { IsToldSound instance.now (length seen.old.shifts) (place_at self.old.stack seen.old.walk) (told_node (node_of node.now)) }
+        requires told { IsToldSound instance.now (length seen.old.shifts)
+            (place_at self.old.stack seen.old.walk) (told_node (node_of node.now)) }
         ensures { IsTaken instance.now self.old seen.old (told_node (node_of node.now)) self.new seen.new }
     {
         let walk = self.step(instance, seen.walk, node);
@@ -60,7 +61,8 @@ impl Walker {
     fn take(&mut self, instance: &Instance, room: &CertRoom, seen: &mut Seen, piece: Piece)
         requires sound { IsSoundInstance instance.now }
         requires ready { IsReady instance.now self.old seen.old }
-        requires told { IsToldSound instance.now (length seen.old.shifts) (place_at self.old.stack seen.old.walk) (told room.now piece) }
+        requires told { IsToldSound instance.now (length seen.old.shifts)
+            (place_at self.old.stack seen.old.walk) (told room.now piece) }
         ensures { IsTaken instance.now self.old seen.old (told room.now piece) self.new seen.new }
     {
         match piece {
@@ -87,7 +89,8 @@ impl Walker {
         requires walker { IsWalkerFor instance.now self.old }
         requires shifts { Each (IsSoundShift instance.now) seen.now.shifts }
         requires few { length seen.now.shifts ≤ 64 }
-        ensures verdict { (c : Stated) → IsSoundCert instance.now c → HasSeen instance.now c self.old seen.now → IsVerdict instance.now c result }
+        ensures verdict { (c : Stated) → IsSoundCert instance.now c → HasSeen instance.now c self.old seen.now
+            → IsVerdict instance.now c result }
         ensures walker { IsWalkerFor instance.now self.new }
         ensures stack { self.new.stack ≡ self.old.stack }
     {

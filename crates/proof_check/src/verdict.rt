@@ -33,7 +33,8 @@ fn stated_bound(instance: &Instance, shown: u64) -> Option<u64>
 pub(crate) fn bound_cause(instance: &Instance, bound: Option<u64>, shown: u64) -> Option<Why>
     requires { IsSoundInstance instance.now }
     ensures { MatchOption result (bound_number instance.now bound ≤ shown)
-        (λ why. (shown < bound_number instance.now bound) × (why ≡ Why.BoundTooHigh bound (stated_bound instance.now shown))) }
+        (λ why. (shown < bound_number instance.now bound)
+        × (why ≡ Why.BoundTooHigh bound (stated_bound instance.now shown))) }
 {
     if shown < bound_number(instance, bound) {
         return Some(Why::BoundTooHigh {

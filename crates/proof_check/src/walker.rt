@@ -83,7 +83,8 @@ impl Walker {
         requires walker { IsWalkerFor instance.now self.old }
         requires fit { IfSome (own_prices prices.now) (AreFit instance.now (way self.old.stack)) }
         requires small { AreSmall (way self.old.stack) }
-        ensures value { IsTrue is_right → IsOwnValue instance.now (way self.old.stack) (own_prices prices.now) result }
+        ensures value { IsTrue is_right → IsOwnValue instance.now (way self.old.stack) (own_prices prices.now)
+            result }
         ensures walker { IsWalkerFor instance.now self.new }
         ensures stack { self.new.stack ≡ self.old.stack }
     {
@@ -100,7 +101,8 @@ impl Walker {
         requires leaf { IsLeaf (node_of leaf.now) }
         requires fit { IsSoundNode instance.now (way self.old.stack) (node_of leaf.now) }
         requires small { AreSmall (way self.old.stack) }
-        ensures value { IsTrue is_right → IsLeafValue instance.now (way self.old.stack) (node_of leaf.now) result }
+        ensures value { IsTrue is_right → IsLeafValue instance.now (way self.old.stack) (node_of leaf.now)
+            result }
         ensures walker { IsWalkerFor instance.now self.new }
         ensures stack { self.new.stack ≡ self.old.stack }
     {
@@ -122,7 +124,8 @@ impl Walker {
         requires walker { IsWalkerFor instance.now self.old }
         requires leaf { IsLeaf (node_of leaf.now) }
         requires node { MayFollow instance.now self.old.stack (node_of leaf.now) }
-        ensures shows { IsShown instance.now self.old.stack (node_of leaf.now) is_right self.new.stack result }
+        ensures shows { IsShown instance.now self.old.stack (node_of leaf.now) is_right self.new.stack
+            result }
         ensures walker { IsWalkerFor instance.now self.new }
     {
         let value = self.leaf_value(instance, leaf, is_right);
@@ -141,7 +144,8 @@ impl Walker {
         requires sound { IsSoundInstance instance.now }
         requires walker { IsWalkerFor instance.now self.old }
         requires node { MayFollow instance.now self.old.stack (Node.Split arc b (own_prices prices.now)) }
-        ensures shows { IsShown instance.now self.old.stack (Node.Split arc b (own_prices prices.now)) is_right self.new.stack None }
+        ensures shows { IsShown instance.now self.old.stack (Node.Split arc b (own_prices prices.now))
+            is_right self.new.stack None }
         ensures walker { IsWalkerFor instance.now self.new }
     {
         let own = self.own_value(instance, prices, is_right);
@@ -153,7 +157,8 @@ impl Walker {
         requires sound { IsSoundInstance instance.now }
         requires walker { IsWalkerFor instance.now self.now }
         requires small { AreSmall (way self.now.stack) }
-        ensures { (own : Option NodePrices) → IsVisitCause instance.now (next_visit self.now.stack (Node.Split arc.now b own)) node result }
+        ensures { (own : Option NodePrices) → IsVisitCause instance.now
+            (next_visit self.now.stack (Node.Split arc.now b own)) node result }
     {
         if !self.tables.arcs.has_arc(&instance.grammar, arc) {
             return Some(Why::NotAnArc { node });

@@ -10,5 +10,6 @@ use Rattle.proof_pieces.specs.Told.{RoomView, told}
 -- the list begins with what the piece tells, and goes on from there; or it is the fault alone
 abbrev pub Gives : Given → Instance → RoomView → Items → Result Next PieceFault → Type 0
 Gives before i room left result = MatchResult result
-    (λ x. before ≡ Ok (told room x.piece) ∷ pieces_from i (spot_of x.stage) (record { nodes = x.nodes; halves = room.halves }) left)
+    (λ x. before ≡ Ok (told room x.piece) ∷ pieces_from i (spot_of x.stage)
+    (record { nodes = x.nodes; halves = room.halves }) left)
     (λ e. before ≡ Err e ∷ [])

@@ -35,7 +35,8 @@ abbrev pub if_room : ℕ → ℕ → Result NodeLine PieceFault → Result NodeL
 if_room k n said = if nat_le most_nodes n then Err (TooManyNodes k) else said
 
 -- a split, by seven words, of which the last may be missing
-unfoldable pub split_of : ℕ → List Group → List ℕ → List ℕ → List ℕ → List ℕ → List ℕ → List ℕ → Option (List ℕ) → Result NodeLine PieceFault
+unfoldable pub split_of : ℕ → List Group → List ℕ → List ℕ → List ℕ → List ℕ → List ℕ → List ℕ
+    → Option (List ℕ) → Result NodeLine PieceFault
 split_of k groups r s b l p c d = do
   arc ← arc_at k groups r s b l p
   count ← number_at k 0 63 c

@@ -132,10 +132,13 @@ at_node i p line go =
     else (if is_end line.words then go ended p else Err (Trailing line.number) ∷ [])
 
 -- a line in the price block of a node
-abbrev pub in_block : Instance → NodeLine → List ℤ → List Mult → Place → TextLine → (Spot → Place → Given) → Given
+abbrev pub in_block : Instance → NodeLine → List ℤ → List Mult → Place → TextLine → (Spot → Place → Given)
+    → Given
 in_block i h cs ms p line go =
-    if nat_lt (length cs) (length i.cells) then after (price_line line.number i cs line.words) (λ cs'. go (block h cs' ms) p)
-    else (if is_mult line.words then after (mult_line line.number (cut_count i p) ms line.words) (λ ms'. go (block h cs ms') p)
+    if nat_lt (length cs) (length i.cells) then after (price_line line.number i cs line.words)
+    (λ cs'. go (block h cs' ms) p)
+    else (if is_mult line.words then after (mult_line line.number (cut_count i p) ms line.words)
+    (λ ms'. go (block h cs ms') p)
     else Ok (node (node_of h cs ms)) ∷ at_node i (node_read h p) line go)
 
 -- shifts follow the bound where the cost is a number
@@ -146,11 +149,15 @@ after_bound false = nodes
 -- a line with words
 abbrev pub at_line : Instance → Spot → Place → TextLine → (Spot → Place → Given) → Given
 at_line i too_long p line go = Err TooLong ∷ []
-at_line i start p line go = if is_header i.groups line.words then go costs no_place else Err (BadHeader line.number) ∷ []
-at_line i costs p line go = after (amount_line line.number (codes "cost") line.words) (λ x. Ok (cost x) ∷ go (bounds (is_some x)) p)
-at_line i (bounds paid) p line go = after (amount_line line.number (codes "bound") line.words) (λ x. Ok (bound x) ∷ go (after_bound paid) p)
+at_line i start p line go =
+    if is_header i.groups line.words then go costs no_place else Err (BadHeader line.number) ∷ []
+at_line i costs p line go =
+    after (amount_line line.number (codes "cost") line.words) (λ x. Ok (cost x) ∷ go (bounds (is_some x)) p)
+at_line i (bounds paid) p line go =
+    after (amount_line line.number (codes "bound") line.words) (λ x. Ok (bound x) ∷ go (after_bound paid) p)
 at_line i (shifts n) p line go =
-    if is_shift i.groups line.words then after (shift_at line.number i n line.words) (λ s. Ok (shift s) ∷ go (shifts (n + 1)) p)
+    if is_shift i.groups line.words then after (shift_at line.number i n line.words)
+    (λ s. Ok (shift s) ∷ go (shifts (n + 1)) p)
     else at_node i p line go
 at_line i nodes p line go = at_node i p line go
 at_line i (block h cs ms) p line go = in_block i h cs ms p line go
@@ -191,7 +198,8 @@ pub record Reader : Type 0 where
 
 -- what a reader still tells, over a stack of open splits
 unfoldable pub pieces_left : Instance → Reader → List Bool → Given
-pieces_left i r halves = pieces_from i (spot_of r.stage) (record { nodes = r.nodes_before; halves = halves }) r.left
+pieces_left i r halves =
+    pieces_from i (spot_of r.stage) (record { nodes = r.nodes_before; halves = halves }) r.left
 
 -- a reader of a whole text
 abbrev pub text_reader : List ℕ → Reader

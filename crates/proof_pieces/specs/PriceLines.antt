@@ -28,7 +28,8 @@ price_step k cs w = signed_at k w >>= λ z. Ok (cs ++ z ∷ [])
 -- the prices of one code, one for each period, behind those of the codes before
 unfoldable pub price_line : ℕ → Instance → List ℤ → List (List ℕ) → Result (List ℤ) PieceFault
 price_line k i cs (w ∷ c ∷ vs) =
-    if bytes_eq w (codes "price") && bytes_eq c (due_byte i (length cs) ∷ []) && length vs == i.grammar.periods
+    if bytes_eq w (codes "price") && bytes_eq c (due_byte i (length cs) ∷ [])
+    && length vs == i.grammar.periods
     then each (price_step k) cs vs else Err (UnknownLine k)
 price_line k i cs _ = Err (UnknownLine k)
 
@@ -53,5 +54,6 @@ mult_of k cuts ms j v = do
 
 -- one more multiplier, of at most 1,500
 unfoldable pub mult_line : ℕ → ℕ → List Mult → List (List ℕ) → Result (List Mult) PieceFault
-mult_line k cuts ms (w ∷ j ∷ v ∷ []) = if nat_le 1500 (length ms) then Err (OutOfRange k) else mult_of k cuts ms j v
+mult_line k cuts ms (w ∷ j ∷ v ∷ []) =
+    if nat_le 1500 (length ms) then Err (OutOfRange k) else mult_of k cuts ms j v
 mult_line k cuts ms _ = Err (UnknownLine k)

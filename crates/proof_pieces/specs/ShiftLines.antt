@@ -49,11 +49,13 @@ letters_of k group word price =
     else (number_at k 0 most_cost price >>= λ paid. Ok (record { group = group; word = word; price = paid }))
 
 unfoldable pub shift_of : ℕ → Instance → Option (List ℕ) → List ℕ → List ℕ → Result Shift PieceFault
-shift_of k i name word price = team_at k i.grammar.names i.groups name >>= λ group. letters_of k group word price
+shift_of k i name word price =
+    team_at k i.grammar.names i.groups name >>= λ group. letters_of k group word price
 
 -- a shift behind n shifts, of which there are at most 64
 unfoldable pub shift_at : ℕ → Instance → ℕ → List (List ℕ) → Result Shift PieceFault
-shift_at k i n (v ∷ word ∷ price ∷ []) = if nat_le 64 n then Err (OutOfRange k) else shift_of k i None word price
+shift_at k i n (v ∷ word ∷ price ∷ []) =
+    if nat_le 64 n then Err (OutOfRange k) else shift_of k i None word price
 shift_at k i n (v ∷ name ∷ word ∷ price ∷ []) =
     if nat_le 64 n then Err (OutOfRange k) else shift_of k i (Some name) word price
 shift_at k i n _ = Err (UnknownLine k)

@@ -50,4 +50,5 @@ IsToldSound i n p done = Unit {0}
 abbrev pub AreToldSound : Instance → ℕ → Place → Given → Type 0
 AreToldSound i n p [] = Unit {0}
 AreToldSound i n p (Err e ∷ rest) = Unit {0}
-AreToldSound i n p (Ok t ∷ rest) = IsToldSound i n p t × AreToldSound i (shifts_with t n) (place_with t p) rest
+AreToldSound i n p (Ok t ∷ rest) =
+    IsToldSound i n p t × AreToldSound i (shifts_with t n) (place_with t p) rest

@@ -32,7 +32,8 @@ fn take<'a>(
     lines: &mut Lines<'a>,
 ) -> Option<Result<Line<'a>, BadByte>>
     ensures free { held.new ≡ None }
-    ensures value { MatchOption result ((with_held held.old lines.old ≡ []) × (lines.new ≡ [])) (λ item. with_held held.old lines.old ≡ item ∷ lines.new) }
+    ensures value { MatchOption result ((with_held held.old lines.old ≡ []) × (lines.new ≡ []))
+        (λ item. with_held held.old lines.old ≡ item ∷ lines.new) }
 {
     match held.take() {
         Some(item) => Some(item),
@@ -54,14 +55,16 @@ impl<'a> Ahead<'a> {
 
     /// Takes the next line; `None` at the end of the text.
     pub fn next(&mut self) -> Option<Result<Line<'a>, BadByte>>
-        ensures { MatchOption result ((self.old ≡ []) × (self.new ≡ [])) (λ item. self.old ≡ item ∷ self.new) }
+        ensures { MatchOption result ((self.old ≡ []) × (self.new ≡ []))
+            (λ item. self.old ≡ item ∷ self.new) }
     {
         take(&mut self.held, &mut self.lines)
     }
 
     /// Takes the next line where it is one of a multiplier.
     pub fn next_mult(&mut self) -> Option<Line<'a>>
-        ensures { MatchOption result ((self.new ≡ self.old) × NoMult self.old) (λ line. (self.old ≡ Ok line ∷ self.new) × (is_mult line.words ≡ true)) }
+        ensures { MatchOption result ((self.new ≡ self.old) × NoMult self.old)
+            (λ line. (self.old ≡ Ok line ∷ self.new) × (is_mult line.words ≡ true)) }
     {
         match take(&mut self.held, &mut self.lines) {
             Some(Ok(line)) => {
@@ -81,7 +84,8 @@ impl<'a> Ahead<'a> {
 
     /// Takes the next line where it is one of a shift.
     pub fn next_shift(&mut self, groups: &[Group]) -> Option<Line<'a>>
-        ensures { MatchOption result ((self.new ≡ self.old) × NoShift groups.now self.old) (λ line. (self.old ≡ Ok line ∷ self.new) × (is_shift groups.now line.words ≡ true)) }
+        ensures { MatchOption result ((self.new ≡ self.old) × NoShift groups.now self.old)
+            (λ line. (self.old ≡ Ok line ∷ self.new) × (is_shift groups.now line.words ≡ true)) }
     {
         match take(&mut self.held, &mut self.lines) {
             Some(Ok(line)) => {

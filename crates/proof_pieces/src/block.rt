@@ -87,7 +87,8 @@ fn price_lines(
     requires made { length instance.now.cells ≤ room.old.most }
     requires none { room.old.cell ≡ [] }
     ensures value { (h : NodeLine) (p : Place) → MatchResult result
-        (λ _. pieces_from instance.now (block h [] []) p lines.old ≡ pieces_from instance.now (block h room.new.cell []) p lines.new)
+        (λ _. pieces_from instance.now (block h [] []) p lines.old ≡ pieces_from instance.now
+        (block h room.new.cell []) p lines.new)
         (λ e. pieces_from instance.now (block h [] []) p lines.old ≡ Err e ∷ []) }
     ensures whole { OnOk result (length room.new.cell ≡ length instance.now.cells) }
     ensures kept { room.new ≡ record room.old { cell = room.new.cell } }
@@ -160,8 +161,11 @@ fn mult_lines(
     requires none { room.old.mult ≡ [] }
     requires halves { length room.old.halves ≤ 20001 }
     ensures value { (h : NodeLine) (n : ℕ) → MatchResult result
-        (λ _. pieces_from instance.now (block h room.old.cell []) (record { nodes = n; halves = room.old.halves }) lines.old ≡ pieces_from instance.now (block h room.old.cell room.new.mult) (record { nodes = n; halves = room.old.halves }) lines.new)
-        (λ e. pieces_from instance.now (block h room.old.cell []) (record { nodes = n; halves = room.old.halves }) lines.old ≡ Err e ∷ []) }
+        (λ _. pieces_from instance.now (block h room.old.cell [])
+        (record { nodes = n; halves = room.old.halves }) lines.old ≡ pieces_from instance.now
+        (block h room.old.cell room.new.mult) (record { nodes = n; halves = room.old.halves }) lines.new)
+        (λ e. pieces_from instance.now (block h room.old.cell [])
+        (record { nodes = n; halves = room.old.halves }) lines.old ≡ Err e ∷ []) }
     ensures next { OnOk result (NoMult lines.new) }
     ensures kept { room.new ≡ record room.old { mult = room.new.mult } }
 {
@@ -183,9 +187,11 @@ pub fn price_block(
     requires made { length instance.now.cells ≤ room.old.most }
     requires halves { length room.old.halves ≤ 20001 }
     ensures value { (h : NodeLine) (n : ℕ) → MatchResult result
-        (λ _. pieces_from instance.now (block h [] []) (record { nodes = n; halves = room.old.halves }) lines.old
+        (λ _. pieces_from instance.now (block h [] []) (record { nodes = n; halves = room.old.halves })
+        lines.old
         ≡ Ok (node (node_of h room.new.cell room.new.mult)) ∷ pieces_from instance.now nodes (node_read h (record { nodes = n; halves = room.old.halves })) lines.new)
-        (λ e. pieces_from instance.now (block h [] []) (record { nodes = n; halves = room.old.halves }) lines.old ≡ Err e ∷ []) }
+        (λ e. pieces_from instance.now (block h [] []) (record { nodes = n; halves = room.old.halves })
+        lines.old ≡ Err e ∷ []) }
     ensures kept { room.new ≡ record room.old { d = d; cell = room.new.cell; mult = room.new.mult } }
 {
     room.begin_prices(d);

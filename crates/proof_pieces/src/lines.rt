@@ -9,7 +9,8 @@ use text_lines::{BadByte, Line};
 /// Takes the next line, where the text may not end yet.
 pub fn next_line<'a>(lines: &mut Ahead<'a>) -> Result<Line<'a>, PieceFault>
     ensures line { IfOk result (λ line. lines.old ≡ Ok line ∷ lines.new) }
-    ensures fault { IfErr result (λ e. (i : Day) (s : Spot) (p : Place) → IsOpen i s → pieces_from i s p lines.old ≡ Err e ∷ []) }
+    ensures fault { IfErr result (λ e. (i : Day) (s : Spot) (p : Place) → IsOpen i s
+        → pieces_from i s p lines.old ≡ Err e ∷ []) }
 {
     match lines.next() {
         None => Err(PieceFault::CutShort),

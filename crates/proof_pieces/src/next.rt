@@ -34,7 +34,8 @@ fn start(
     instance: &Instance,
     room: &mut CertRoom,
 ) -> Result<Next, PieceFault>
-    ensures value { (p : Place) → Gives (pieces_from instance.now start p lines.old) instance.now room.new lines.new result }
+    ensures value { (p : Place) → Gives (pieces_from instance.now start p lines.old) instance.now room.new
+        lines.new result }
     ensures follows { IfOk result (λ x. FollowsAt x.stage x.nodes room.new.halves) }
     ensures few { IfOk result (λ x. x.nodes ≤ 20001) }
     ensures made { room.new.most ≡ room.old.most }
@@ -67,7 +68,9 @@ fn bound(
 ) -> Result<Next, PieceFault>
     requires few { nodes ≤ 20001 }
     requires follows { length room.old.halves ≤ nodes }
-    ensures value { Gives (pieces_from instance.now (bounds paid) (record { nodes = nodes; halves = room.old.halves }) lines.old) instance.now room.new lines.new result }
+    ensures value { Gives (pieces_from instance.now (bounds paid)
+        (record { nodes = nodes; halves = room.old.halves }) lines.old) instance.now room.new lines.new
+        result }
     ensures follows { IfOk result (λ x. FollowsAt x.stage x.nodes room.new.halves) }
     ensures few { IfOk result (λ x. x.nodes ≤ 20001) }
     ensures made { room.new.most ≡ room.old.most }
@@ -88,7 +91,8 @@ fn bound(
 
 // Reads what stands behind the line `end`.
 fn end(lines: &mut Ahead<'_>) -> Result<(), PieceFault>
-    ensures { (i : Day) (p : Place) → MatchResult result (λ _. pieces_from i ended p lines.old ≡ Ok done ∷ []) (λ e. pieces_from i ended p lines.old ≡ Err e ∷ []) }
+    ensures { (i : Day) (p : Place) → MatchResult result (λ _. pieces_from i ended p lines.old ≡ Ok done ∷ [])
+        (λ e. pieces_from i ended p lines.old ≡ Err e ∷ []) }
 {
     match lines.next() {
         None => Ok(()),
@@ -111,7 +115,8 @@ fn begun(
     requires made { length instance.now.cells ≤ room.old.most }
     requires few { before < 20001 }
     requires follows { length room.old.halves ≤ before }
-    ensures value { Gives (begin head (record { nodes = before; halves = room.old.halves }) (λ s p. pieces_from instance.now s p lines.old)) instance.now room.new lines.new result }
+    ensures value { Gives (begin head (record { nodes = before; halves = room.old.halves })
+        (λ s p. pieces_from instance.now s p lines.old)) instance.now room.new lines.new result }
     ensures follows { IfOk result (λ x. FollowsAt x.stage x.nodes room.new.halves) }
     ensures few { IfOk result (λ x. x.nodes ≤ 20001) }
     ensures made { room.new.most ≡ room.old.most }
@@ -189,7 +194,9 @@ fn node(
     requires made { length instance.now.cells ≤ room.old.most }
     requires few { nodes ≤ 20001 }
     requires follows { length room.old.halves ≤ nodes }
-    ensures value { Gives (pieces_from instance.now nodes_due (record { nodes = nodes; halves = room.old.halves }) lines.old) instance.now room.new lines.new result }
+    ensures value { Gives (pieces_from instance.now nodes_due
+        (record { nodes = nodes; halves = room.old.halves }) lines.old) instance.now room.new lines.new
+        result }
     ensures follows { IfOk result (λ x. FollowsAt x.stage x.nodes room.new.halves) }
     ensures few { IfOk result (λ x. x.nodes ≤ 20001) }
     ensures made { room.new.most ≡ room.old.most }
@@ -224,7 +231,9 @@ fn shift(
     requires made { length instance.now.cells ≤ room.old.most }
     requires few { nodes ≤ 20001 }
     requires follows { length room.old.halves ≤ nodes }
-    ensures value { Gives (pieces_from instance.now (shifts count) (record { nodes = nodes; halves = room.old.halves }) lines.old) instance.now room.new lines.new result }
+    ensures value { Gives (pieces_from instance.now (shifts count)
+        (record { nodes = nodes; halves = room.old.halves }) lines.old) instance.now room.new lines.new
+        result }
     ensures follows { IfOk result (λ x. FollowsAt x.stage x.nodes room.new.halves) }
     ensures few { IfOk result (λ x. x.nodes ≤ 20001) }
     ensures made { room.new.most ≡ room.old.most }
@@ -255,7 +264,9 @@ pub fn next_piece(
     requires made { length instance.now.cells ≤ room.old.most }
     requires few { nodes ≤ 20001 }
     requires follows { FollowsAt stage nodes room.old.halves }
-    ensures value { MatchOption result (stage ≡ Over) (λ r. Gives (pieces_from instance.now (spot_of stage) (record { nodes = nodes; halves = room.old.halves }) lines.old) instance.now room.new lines.new r) }
+    ensures value { MatchOption result (stage ≡ Over)
+        (λ r. Gives (pieces_from instance.now (spot_of stage)
+        (record { nodes = nodes; halves = room.old.halves }) lines.old) instance.now room.new lines.new r) }
     ensures follows { IfSome result (λ r. IfOk r (λ x. FollowsAt x.stage x.nodes room.new.halves)) }
     ensures few { IfSome result (λ r. IfOk r (λ x. x.nodes ≤ 20001)) }
     ensures made { room.new.most ≡ room.old.most }

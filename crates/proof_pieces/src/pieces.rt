@@ -70,8 +70,10 @@ impl<'a> Pieces<'a> {
         requires made { length instance.now.cells ≤ room.old.most }
         requires follows { Follows self.old room.old.halves }
         ensures given { MatchOption result
-            ((pieces_left instance.now self.old room.old.halves ≡ []) × (pieces_left instance.now self.new room.new.halves ≡ []))
-            (λ x. pieces_left instance.now self.old room.old.halves ≡ told_answer room.new x ∷ pieces_left instance.now self.new room.new.halves) }
+            ((pieces_left instance.now self.old room.old.halves ≡ [])
+            × (pieces_left instance.now self.new room.new.halves ≡ []))
+            (λ x. pieces_left instance.now self.old room.old.halves ≡ told_answer room.new x ∷ pieces_left
+            instance.now self.new room.new.halves) }
         ensures follows { Follows self.new room.new.halves }
         ensures made { room.new.most ≡ room.old.most }
     {

@@ -74,7 +74,14 @@ impl CertRoom {
     /// Takes all the memory that the pieces of a proof text for an instance need: for a word of 96
     /// bytes, a price of each cell, 1,500 multipliers and 20,001 open splits.
     pub fn for_instance(alloc: Global, instance: &Instance) -> Result<CertRoom, Memory>
-        ensures { IfOk result (λ r. r ≡ record { word = []; d = 1; cell = []; mult = []; halves = []; most = length instance.now.cells }) }
+        ensures { IfOk result (λ r. r ≡ record {
+          word = [];
+          d = 1;
+          cell = [];
+          mult = [];
+          halves = [];
+          most = length instance.now.cells;
+        }) }
     {
         let most = instance.cells.len();
         Ok(CertRoom {

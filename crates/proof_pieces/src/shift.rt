@@ -27,7 +27,8 @@ fn letters(
     price: &[u8],
 ) -> Result<ShiftLine, PieceFault>
     ensures value { MatchResult result
-        (λ s. letters_of line group word.now price.now ≡ Ok (record { group = s.group; word = room.new.word; price = s.price }))
+        (λ s. letters_of line group word.now price.now ≡ Ok
+        (record { group = s.group; word = room.new.word; price = s.price }))
         (λ e. letters_of line group word.now price.now ≡ Err e) }
     ensures kept { room.new ≡ record room.old { word = room.new.word } }
 {
@@ -49,7 +50,8 @@ pub fn shift_line(
 ) -> Result<ShiftLine, PieceFault>
     requires { length instance.now.groups ≤ 8 }
     ensures value { MatchResult result
-        (λ s. shift_at line.now.number instance.now shifts line.now.words ≡ Ok (record { group = s.group; word = room.new.word; price = s.price }))
+        (λ s. shift_at line.now.number instance.now shifts line.now.words ≡ Ok
+        (record { group = s.group; word = room.new.word; price = s.price }))
         (λ e. shift_at line.now.number instance.now shifts line.now.words ≡ Err e) }
     ensures few { IfOk result (λ _. shifts < 64) }
     ensures kept { room.new ≡ record room.old { word = room.new.word } }

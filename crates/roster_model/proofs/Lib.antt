@@ -18,3 +18,4 @@ pub mod LetterNumbers
 pub mod RoomAgrees
 pub mod CutCounts
 pub mod Entries
+pub mod RoomWithin

@@ -56,8 +56,16 @@ group_arc n r = record { rule = r; suffix = 0; start = 1; len = n; part = n }
 -- needs employees
 abbrev pub group_cuts : Instance → ℕ → Group → List Cut
 group_cuts i r g =
-    cond (nat_lt g.heads_max i.heads_max) (record { arc = group_arc i.grammar.periods r; side = Low; b = g.heads_max } ∷ []) []
-    ++ cond (nat_lt 0 g.heads_min) (record { arc = group_arc i.grammar.periods r; side = High; b = g.heads_min - 1 } ∷ []) []
+    cond (nat_lt g.heads_max i.heads_max) (record {
+      arc = group_arc i.grammar.periods r;
+      side = Low;
+      b = g.heads_max;
+    } ∷ []) []
+    ++ cond (nat_lt 0 g.heads_min) (record {
+      arc = group_arc i.grammar.periods r;
+      side = High;
+      b = g.heads_min - 1;
+    } ∷ []) []
 
 -- how many these are, of a day with at most `most` employees
 abbrev pub group_cut_count : ℕ → Group → ℕ

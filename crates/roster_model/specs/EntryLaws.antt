@@ -14,7 +14,8 @@ use Rattle.roster_model.specs.Sums.{Within}
 
 -- ---- the order of lists of numbers
 
-first-step : (x y : ℕ) (b : Bool) → (nat_lt x y || (nat_eq x y && b)) ≡ true → (x < y) ⊎ ((x ≡ y) × (b ≡ true))
+first-step : (x y : ℕ) (b : Bool) → (nat_lt x y || (nat_eq x y && b)) ≡ true → (x < y)
+    ⊎ ((x ≡ y) × (b ≡ true))
 first-step x y true e = grind (arith, nat_tests)
 first-step x y false e = grind (arith, nat_tests)
 
@@ -32,21 +33,25 @@ first-irreflexive (x ∷ xs) e = elim (first-step x x (comes_first xs xs) e) [
   | inr h ↦ first-irreflexive xs h.1
 ]
 
-pub first-trans : (xs ys zs : List ℕ) → comes_first xs ys ≡ true → comes_first ys zs ≡ true → comes_first xs zs ≡ true
+pub first-trans : (xs ys zs : List ℕ) → comes_first xs ys ≡ true → comes_first ys zs ≡ true
+    → comes_first xs zs ≡ true
 first-trans [] ys zs e f = absurd (true≢false (sym e))
 first-trans (x ∷ xs) [] zs e f = absurd (true≢false (sym e))
 first-trans (x ∷ xs) (y ∷ ys) [] e f = f
-first-trans (x ∷ xs) (y ∷ ys) (z ∷ zs) e f = by (first-step x y (comes_first xs ys) e) (first-step y z (comes_first ys zs) f) (λ h k. first-trans xs ys zs h k)
+first-trans (x ∷ xs) (y ∷ ys) (z ∷ zs) e f = by (first-step x y (comes_first xs ys) e)
+    (first-step y z (comes_first ys zs) f) (λ h k. first-trans xs ys zs h k)
   where
     by : (x < y) ⊎ ((x ≡ y) × (comes_first xs ys ≡ true)) → (y < z) ⊎ ((y ≡ z) × (comes_first ys zs ≡ true))
-        → (comes_first xs ys ≡ true → comes_first ys zs ≡ true → comes_first xs zs ≡ true) → comes_first (x ∷ xs) (z ∷ zs) ≡ true
+        → (comes_first xs ys ≡ true → comes_first ys zs ≡ true → comes_first xs zs ≡ true)
+        → comes_first (x ∷ xs) (z ∷ zs) ≡ true
     by (inl l) (inl m) ih = less-step x z (comes_first xs zs) (omega arith)
     by (inl l) (inr m) ih = less-step x z (comes_first xs zs) (omega (arith, m.0))
     by (inr l) (inl m) ih = less-step x z (comes_first xs zs) (omega (arith, l.0))
     by (inr l) (inr m) ih = same-step x z (comes_first xs zs) (l.0 ∙ m.0) (ih l.1 m.1)
 
 -- of two lists of one length that are not the same, one comes first
-pub first-or : (xs ys : List ℕ) → length xs ≡ length ys → comes_first xs ys ≡ false → (comes_first ys xs ≡ true) ⊎ (xs ≡ ys)
+pub first-or : (xs ys : List ℕ) → length xs ≡ length ys → comes_first xs ys ≡ false
+    → (comes_first ys xs ≡ true) ⊎ (xs ≡ ys)
 first-or [] [] e f = inr refl
 first-or [] (y ∷ ys) e f = absurd (omega (arith, e))
 first-or (x ∷ xs) [] e f = absurd (omega (arith, e))
@@ -59,7 +64,8 @@ first-or (x ∷ xs) (y ∷ ys) e f = by (three x y) (λ h. first-or xs ys (omega
     under true s h = absurd (true≢false (sym (same-step x y true s refl) ∙ h))
     under false s h = refl
 
-    by : (x < y) ⊎ ((y < x) ⊎ (x ≡ y)) → (comes_first xs ys ≡ false → (comes_first ys xs ≡ true) ⊎ (xs ≡ ys)) → (comes_first (y ∷ ys) (x ∷ xs) ≡ true) ⊎ (x ∷ xs ≡ y ∷ ys)
+    by : (x < y) ⊎ ((y < x) ⊎ (x ≡ y)) → (comes_first xs ys ≡ false → (comes_first ys xs ≡ true) ⊎ (xs ≡ ys))
+        → (comes_first (y ∷ ys) (x ∷ xs) ≡ true) ⊎ (x ∷ xs ≡ y ∷ ys)
     by (inl l) ih = absurd (true≢false (sym (less-step x y (comes_first xs ys) l) ∙ f))
     by (inr (inl l)) ih = inl (less-step y x (comes_first ys xs) l)
     by (inr (inr s)) ih = elim (ih (under (comes_first xs ys) s f)) [
@@ -89,7 +95,8 @@ same-arc a b e =
     five a.rule b.rule a.suffix b.suffix a.start b.start a.len b.len a.part b.part e0 e1 e2 e3 e4
   where
     five : (r r' k k' i i' l l' s s' : ℕ) → r ≡ r' → k ≡ k' → i ≡ i' → l ≡ l' → s ≡ s'
-        → ◌≡◌ {A = ArcKey} (record { rule = r; suffix = k; start = i; len = l; part = s }) (record { rule = r'; suffix = k'; start = i'; len = l'; part = s' })
+        → ◌≡◌ {A = ArcKey} (record { rule = r; suffix = k; start = i; len = l; part = s })
+        (record { rule = r'; suffix = k'; start = i'; len = l'; part = s' })
     five r r' k k' i i' l l' s s' a b c d e = cc
 
 -- the same numbers are those of one arc
@@ -137,7 +144,9 @@ no-entry : (x : ArcPrice) (a : ArcKey) → same_arc x.arc a ≡ false → entry_
 no-entry x a e = rw e refl
 
 -- no entry has the arc
-pub listed-none : (xs : List ArcPrice) (a : ArcKey) → ((k : ℕ) (d : ArcPrice) → k < length xs → same_arc (get_or xs k d).arc a ≡ false) → listed_price xs a ≡ pos 0
+pub listed-none : (xs : List ArcPrice) (a : ArcKey)
+    → ((k : ℕ) (d : ArcPrice) → k < length xs → same_arc (get_or xs k d).arc a ≡ false)
+    → listed_price xs a ≡ pos 0
 listed-none [] a h = refl
 listed-none (x ∷ xs) a h =
     let first = no-entry x a (h 0 x (omega arith)) in
@@ -146,38 +155,47 @@ listed-none (x ∷ xs) a h =
 
 -- one entry may have the arc
 pub listed-one : (xs : List ArcPrice) (a : ArcKey) (n : ℕ) (e : ArcPrice) → n < length xs
-    → ((k : ℕ) (d : ArcPrice) → k < length xs → (k ≡ n → ⊥) → same_arc (get_or xs k d).arc a ≡ false) → listed_price xs a ≡ entry_price a (get_or xs n e)
+    → ((k : ℕ) (d : ArcPrice) → k < length xs → (k ≡ n → ⊥) → same_arc (get_or xs k d).arc a ≡ false)
+    → listed_price xs a ≡ entry_price a (get_or xs n e)
 listed-one [] a n e l h = absurd (omega (arith, l))
 listed-one (x ∷ xs) a zero e l h =
     let rest = listed-none xs a (λ k d m. h (suc k) d (omega (arith, m)) (λ s. absurd (omega (arith, s)))) in
     omega (arith, ints, rest)
 listed-one (x ∷ xs) a (suc n) e l h =
     let first = no-entry x a (h 0 x (omega arith) (λ s. absurd (omega (arith, s)))) in
-    let rest = listed-one xs a n e (omega (arith, l)) (λ k d m o. h (suc k) d (omega (arith, m)) (λ s. o (omega (arith, s)))) in
+    let rest = listed-one xs a n e (omega (arith, l))
+    (λ k d m o. h (suc k) d (omega (arith, m)) (λ s. o (omega (arith, s)))) in
     omega (arith, ints, first, rest)
 
 -- ---- the price of an arc is small
 
 sorted-tail : (x : ArcPrice) (xs : List ArcPrice) → AreSorted (x ∷ xs) → AreSorted xs
-sorted-tail x xs h = record { rising = λ j k d l m. h.rising (suc j) (suc k) d (omega (arith, l)) (omega (arith, m)) }
+sorted-tail x xs h =
+    record { rising = λ j k d l m. h.rising (suc j) (suc k) d (omega (arith, l)) (omega (arith, m)) }
 
-pub listed-within : (n : ℕ) (xs : List ArcPrice) (a : ArcKey) → AreSorted xs → All (IsEntryWithin n) xs → Within n (listed_price xs a)
+pub listed-within : (n : ℕ) (xs : List ArcPrice) (a : ArcKey) → AreSorted xs → All (IsEntryWithin n) xs
+    → Within n (listed_price xs a)
 listed-within n [] a sorted h = record { low = omega (arith, ints); high = omega (arith, ints) }
-listed-within n (x ∷ xs) a sorted h = by (same_arc x.arc a) refl (listed-within n xs a (sorted-tail x xs sorted) (All-tail (IsEntryWithin n) x xs h))
+listed-within n (x ∷ xs) a sorted h = by (same_arc x.arc a) refl
+    (listed-within n xs a (sorted-tail x xs sorted) (All-tail (IsEntryWithin n) x xs h))
   where
     own : Within n x.price
     own = (All-head (IsEntryWithin n) x xs h).price
 
     others : same_arc x.arc a ≡ true → listed_price xs a ≡ pos 0
     others s = listed-none xs a (λ k d l.
-        after-other a (get_or xs k d).arc (subst (λ (b : ArcKey). is_before b (get_or xs k d).arc ≡ true) (same-arc x.arc a s)
+        after-other a (get_or xs k d).arc (subst (λ (b : ArcKey). is_before b (get_or xs k d).arc ≡ true)
+        (same-arc x.arc a s)
         (sorted.rising 0 (suc k) d (omega arith) (omega (arith, l)))))
 
     by : (b : Bool) → same_arc x.arc a ≡ b → Within n (listed_price xs a) → Within n (listed_price (x ∷ xs) a)
     by true s w =
         let here : entry_price a x ≡ x.price = rw s refl in
         let rest = others s in
-        record { low = omega (arith, ints, here, rest, own.low); high = omega (arith, ints, here, rest, own.high) }
+        record {
+          low = omega (arith, ints, here, rest, own.low);
+          high = omega (arith, ints, here, rest, own.high);
+        }
     by false s w =
         let here = no-entry x a s in
         record { low = omega (arith, ints, here, w.low); high = omega (arith, ints, here, w.high) }

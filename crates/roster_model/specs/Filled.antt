@@ -11,7 +11,8 @@ pub record HasSmallCost (rule : Rule) : Type 0 where
 
 -- each rule has d times its cost
 abbrev pub AreRulePrices : ℕ → List Rule → List ℤ → Type 0
-AreRulePrices d rules numbers = (k : ℕ) (rule : Rule) → slice_get rules k ≡ Some rule → slice_get numbers k ≡ Some (pos d *ℤ pos rule.cost)
+AreRulePrices d rules numbers = (k : ℕ) (rule : Rule) → slice_get rules k ≡ Some rule
+    → slice_get numbers k ≡ Some (pos d *ℤ pos rule.cost)
 
 -- the cell is one of the letters that have a number, on a day of so many periods
 pub record HasPlace (periods letters : ℕ) (c : Cell) : Type 0 where
@@ -23,4 +24,5 @@ pub record HasPlace (periods letters : ℕ) (c : Cell) : Type 0 where
 abbrev pub AreLetterPrices : ℕ → List CellPrice → List ℤ → Type 0
 AreLetterPrices periods ps numbers =
     (c i : ℕ) → 1 ≤ i → i ≤ periods → letter_place periods c i < length numbers
-    → slice_get numbers (letter_place periods c i) ≡ Some (neg_ℤ (letter_price ps (record { code = c; period = i })))
+    → slice_get numbers (letter_place periods c i) ≡ Some
+    (neg_ℤ (letter_price ps (record { code = c; period = i })))

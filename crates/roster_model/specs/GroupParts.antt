@@ -29,7 +29,8 @@ pub record IsRuleBelow (names : ℕ) (rule : Rule) : Type 0 where
 -- each rule is that of the group at its place
 abbrev pub LeadToGroups : ℕ → List Rule → List Group → Type 0
 LeadToGroups added rules groups =
-    (k : ℕ) (rule : Rule) (group : Group) → slice_get rules k ≡ Some rule → slice_get groups k ≡ Some group → rule ≡ group_rule added group
+    (k : ℕ) (rule : Rule) (group : Group) → slice_get rules k ≡ Some rule → slice_get groups k ≡ Some group
+    → rule ≡ group_rule added group
 
 -- the last rules are those of the groups, and at most 64 rules without the start stand before
 pub record HasGroupRules (g : Grammar) (groups : List Group) : Type 0 where

@@ -19,7 +19,8 @@ is_window_word w = bytes_eq w (codes "len") || bytes_eq w (codes "begin") || byt
 
 -- a letter, then letters, digits and `_`, at most 32 bytes, and no word of the windows
 unfoldable pub is_name : List ℕ → Bool
-is_name w = nat_lt 0 (length w) && nat_le (length w) 32 && is_letter (slice_index w 0) && list_all is_name_byte w && not (is_window_word w)
+is_name w = nat_lt 0 (length w) && nat_le (length w) 32 && is_letter (slice_index w 0)
+    && list_all is_name_byte w && not (is_window_word w)
 
 -- the name that a day with groups of employees adds; no text can spell it
 abbrev pub added_name : List ℕ

@@ -19,7 +19,8 @@ AreRising [] = Unit {0}
 AreRising (m ∷ ms) = Each (λ (n : Mult). m.cut < n.cut) ms × AreRising ms
 
 -- a denominator, a price for each cell and multipliers of the cuts, within the limits
-pub record FitPrices (i : Instance) (d : ℕ) (cell : List ℤ) (mult : List Mult) (cuts : List Cut) : Type 0 where
+pub record FitPrices (i : Instance) (d : ℕ) (cell : List ℤ) (mult : List Mult)
+    (cuts : List Cut) : Type 0 where
   pub positive : 1 ≤ d
   pub small : d ≤ 2 ^ 30
   pub cells : length cell ≡ length i.cells

@@ -24,4 +24,5 @@ pub record ReachesSteps (g : Grammar) (reach : List ℕ) : Type 0 where
 
 -- what is reached from a reached name below k is reached
 pub record IsClosedBelow (k : ℕ) (reach : List ℕ) : Type 0 where
-  pub through : (x m y : ℕ) → m < k → reach_bit reach x m ≡ 1 → reach_bit reach m y ≡ 1 → reach_bit reach x y ≡ 1
+  pub through : (x m y : ℕ) → m < k → reach_bit reach x m ≡ 1 → reach_bit reach m y ≡ 1
+      → reach_bit reach x y ≡ 1

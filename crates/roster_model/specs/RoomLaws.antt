@@ -17,8 +17,10 @@ rule-small : (rules : List ℤ) (r : ℕ) → All (Within (2 ^ 96)) rules → Wi
 rule-small rules zero h = record { low = omega (arith, ints); high = omega (arith, ints) }
 rule-small rules (suc r) h = number-small (slice_get rules r) (get-within rules r h)
 
-pub view-small : (periods : ℕ) (letters rules : List ℤ) (arcs : List ArcPrice) → All (Within (2 ^ 96)) letters → All (Within (2 ^ 96)) rules
-    → AreSorted arcs → All (IsEntryWithin (2 ^ 96)) arcs → AllWithin (2 ^ 96) (numbers_view periods letters rules arcs)
+pub view-small : (periods : ℕ) (letters rules : List ℤ) (arcs : List ArcPrice) → All (Within (2 ^ 96)) letters
+    → All (Within (2 ^ 96)) rules
+    → AreSorted arcs → All (IsEntryWithin (2 ^ 96)) arcs
+    → AllWithin (2 ^ 96) (numbers_view periods letters rules arcs)
 view-small periods letters rules arcs l r sorted small = record {
   letters = λ c i. get-within letters _ l;
   arcs = λ a. listed-within (2 ^ 96) arcs a sorted small;

@@ -38,7 +38,8 @@ pub record IsRoster (i : Instance) (ds : List Duty) (prices : List ℕ) : Type 0
 
 -- the prices and the penalties of all cells
 abbrev pub roster_cost : Instance → List Duty → List ℕ → ℕ
-roster_cost i ds prices = sum_n (λ p. p) prices + sum_n (λ (c : Cell). penalty c (covered i.grammar c ds)) i.cells
+roster_cost i ds prices =
+    sum_n (λ p. p) prices + sum_n (λ (c : Cell). penalty c (covered i.grammar c ds)) i.cells
 
 -- an allowed roster costs this much
 pub record Costs (i : Instance) (ds : List Duty) (amount : ℕ) : Type 0 where

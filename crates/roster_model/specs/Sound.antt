@@ -38,7 +38,8 @@ pub record AreCodes (codes : List CodeDef) : Type 0 where
   pub few : length codes ≤ 32
   pub few_work : count_by (λ (c : CodeDef). c.work) codes ≤ 8
   pub bytes : All (λ (c : CodeDef). is_code_byte c.byte ≡ true) codes
-  pub apart : (i j : ℕ) (a b : CodeDef) → i < j → slice_get codes i ≡ Some a → slice_get codes j ≡ Some b → a.byte ≢ b.byte
+  pub apart : (i j : ℕ) (a b : CodeDef) → i < j → slice_get codes i ≡ Some a → slice_get codes j ≡ Some b
+      → a.byte ≢ b.byte
 
 -- a name that a text can spell, or the added name, which is the last one and the start
 abbrev pub IsNameOf : Grammar → ℕ → List ℕ → Type 0
@@ -69,7 +70,8 @@ has_rule rules x = list_any (λ (r : Rule). nat_eq r.left x) rules
 pub record AreNames (g : Grammar) : Type 0 where
   pub few : length g.names ≤ 33
   pub each : (x : ℕ) (name : List ℕ) → slice_get g.names x ≡ Some name → IsNameOf g x name
-  pub apart : (i j : ℕ) (a b : List ℕ) → i < j → slice_get g.names i ≡ Some a → slice_get g.names j ≡ Some b → a ≢ b
+  pub apart : (i j : ℕ) (a b : List ℕ) → i < j → slice_get g.names i ≡ Some a → slice_get g.names j ≡ Some b
+      → a ≢ b
   pub ruled : (x : ℕ) → x < length g.names → has_rule g.rules x ≡ true
   pub ordered : AreInOrder 0 (appearances g.rules)
 

@@ -18,7 +18,8 @@ pub record IsGroup (names : ℕ) (group : Group) : Type 0 where
 pub record AreGroups (names : ℕ) (groups : List Group) : Type 0 where
   pub few : length groups ≤ 8
   pub each : All (IsGroup names) groups
-  pub apart : (i j : ℕ) (a b : Group) → i < j → slice_get groups i ≡ Some a → slice_get groups j ≡ Some b → a.name ≢ b.name
+  pub apart : (i j : ℕ) (a b : Group) → i < j → slice_get groups i ≡ Some a → slice_get groups j ≡ Some b
+      → a.name ≢ b.name
 
 -- the instance is that of a grammar and of groups of its names
 pub record IsGroupedBy (i : Instance) (g : Grammar) : Type 0 where

@@ -13,7 +13,8 @@ pub record Team : Type 0 where
 -- the teams of groups that are numbered from k
 abbrev pub teams_from : ℕ → List Group → List Team
 teams_from k [] = []
-teams_from k (g ∷ gs) = record { number = k; name = g.name; least = g.heads_min; most = g.heads_max } ∷ teams_from (k + 1) gs
+teams_from k (g ∷ gs) =
+    record { number = k; name = g.name; least = g.heads_min; most = g.heads_max } ∷ teams_from (k + 1) gs
 
 -- the one team of a day without groups has the number 0, and the groups have the numbers from 1
 abbrev pub teams_of : Instance → List Group → List Team

@@ -29,4 +29,5 @@ pub record IsFirstOnCycle (g : Grammar) (x : ℕ) : Type 0 where
 -- a rank of the names, below their number, that each one-symbol rule raises
 pub record IsRanked (g : Grammar) (rank : ℕ → ℕ) (names : ℕ) : Type 0 where
   pub below : (r : ℕ) (rule : Rule) → rule_at g r ≡ Some rule → rank rule.left < names
-  pub rises : (r : ℕ) (rule : Rule) (y : ℕ) → rule_at g r ≡ Some rule → rule.right ≡ Name y ∷ [] → rank rule.left < rank y
+  pub rises : (r : ℕ) (rule : Rule) (y : ℕ) → rule_at g r ≡ Some rule → rule.right ≡ Name y ∷ []
+      → rank rule.left < rank y

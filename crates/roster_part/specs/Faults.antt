@@ -31,7 +31,8 @@ HasNoOtherHeads i shifts = (g n : ℕ) → IsFirstOutOfRange i shifts g n → �
 -- the first cause on the words and their prices
 abbrev pub IsPriceCause : Instance → List Shift → Why → Type 0
 IsPriceCause i shifts (NotAShift k) = IsFirstNoShift i shifts k
-IsPriceCause i shifts (ShiftCost k said least) = HasNoOtherWord i shifts × IsFirstMispriced i shifts k said least
+IsPriceCause i shifts (ShiftCost k said least) =
+    HasNoOtherWord i shifts × IsFirstMispriced i shifts k said least
 IsPriceCause i shifts (WrongHeads g n) = ⊥
 IsPriceCause i shifts (WrongCost said found) = ⊥
 IsPriceCause i shifts (NotAnArc n) = ⊥
@@ -55,10 +56,13 @@ IsHeadsCause i shifts (Outside byte period n) = ⊥
 -- the first cause on the roster and its stated cost: it holds, and none of lesser number does
 abbrev pub IsRosterCause : Instance → ℕ → List Shift → Why → Type 0
 IsRosterCause i cost shifts (NotAShift k) = IsFirstNoShift i shifts k
-IsRosterCause i cost shifts (ShiftCost k said least) = HasNoOtherWord i shifts × IsFirstMispriced i shifts k said least
-IsRosterCause i cost shifts (WrongHeads g n) = HasNoOtherWord i shifts × HasNoOtherPrice i shifts × IsFirstOutOfRange i shifts g n
+IsRosterCause i cost shifts (ShiftCost k said least) =
+    HasNoOtherWord i shifts × IsFirstMispriced i shifts k said least
+IsRosterCause i cost shifts (WrongHeads g n) =
+    HasNoOtherWord i shifts × HasNoOtherPrice i shifts × IsFirstOutOfRange i shifts g n
 IsRosterCause i cost shifts (WrongCost said found) =
-    HasNoOtherWord i shifts × HasNoOtherPrice i shifts × HasNoOtherHeads i shifts × (said ≡ cost) × IsMiscounted i shifts said found
+    HasNoOtherWord i shifts × HasNoOtherPrice i shifts × HasNoOtherHeads i shifts × (said ≡ cost)
+    × IsMiscounted i shifts said found
 IsRosterCause i cost shifts (NotAnArc n) = ⊥
 IsRosterCause i cost shifts (EmptyHalf n) = ⊥
 IsRosterCause i cost shifts (NotPinned n a) = ⊥

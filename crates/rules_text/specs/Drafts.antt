@@ -19,7 +19,8 @@ known_after known (x ∷ xs) = known_after (max known (x + 1)) xs
 pub record AreNamed (ns : Named) : Type 0 where
   pub few : length ns.texts ≤ 32
   pub names : (x : ℕ) (name : List ℕ) → slice_get ns.texts x ≡ Some name → is_name name ≡ true
-  pub apart : (i j : ℕ) (a b : List ℕ) → i < j → slice_get ns.texts i ≡ Some a → slice_get ns.texts j ≡ Some b → a ≢ b
+  pub apart : (i j : ℕ) (a b : List ℕ) → i < j → slice_get ns.texts i ≡ Some a → slice_get ns.texts j ≡ Some b
+      → a ≢ b
   pub places : length ns.places ≡ length ns.texts
 
 -- at most 64 rules, in which the names appear in their order, and all appear

@@ -19,7 +19,8 @@ pub data IsForm (ws : List (List ℕ)) : Type 0 where
   work : (c : List ℕ) (cs : List (List ℕ)) → ws ≡ codes "work" ∷ c ∷ cs → IsForm ws
   idle : (c : List ℕ) (cs : List (List ℕ)) → ws ≡ codes "idle" ∷ c ∷ cs → IsForm ws
   start : (name : List ℕ) → ws ≡ codes "start" ∷ name ∷ [] → IsForm ws
-  rule : (name cost : List ℕ) (symbols windows : List (List ℕ)) → ws ≡ codes "rule" ∷ name ∷ cost ∷ codes "=" ∷ (symbols ++ windows)
+  rule : (name cost : List ℕ) (symbols windows : List (List ℕ))
+      → ws ≡ codes "rule" ∷ name ∷ cost ∷ codes "=" ∷ (symbols ++ windows)
       → Each (λ w. is_window_word w ≡ false) symbols → are_windows windows ≡ true → IsForm ws
 
 abbrev pub HasForm : Result TextLine bad.BadByte → Type 0

@@ -30,16 +30,20 @@ declare_at k work defs w =
 -- the codes of a line, one or more
 unfoldable pub codes_at : ℕ → Bool → Draft → List (List ℕ) → Result Draft RulesFault
 codes_at k work d [] = Err (UnknownLine k)
-codes_at k work d (w ∷ ws) = each (declare_at k work) d.codes (w ∷ ws) >>= λ defs. Ok (record d { codes = defs })
+codes_at k work d (w ∷ ws) =
+    each (declare_at k work) d.codes (w ∷ ws) >>= λ defs. Ok (record d { codes = defs })
 
 -- the number of periods, which is in range before it is asked whether it was said
 unfoldable pub periods_at : ℕ → Draft → List (List ℕ) → Result Draft RulesFault
-periods_at k d (n ∷ []) = number_at k 1 96 n >>= λ p. if is_some d.periods then Err (Twice k) else Ok (record d { periods = Some p })
+periods_at k d (n ∷ []) = number_at k 1 96 n >>= λ p. if is_some d.periods then Err (Twice k) else Ok
+    (record d { periods = Some p })
 periods_at k d _ = Err (UnknownLine k)
 
 -- the start name
 unfoldable pub start_at : ℕ → Draft → List (List ℕ) → Result Draft RulesFault
-start_at k d (n ∷ []) = if not (is_name n) then Err (BadName k) else (if is_some d.start then Err (Twice k) else Ok (record d { start = Some (record { line = k; name = n }) }))
+start_at k d (n ∷ []) = if not (is_name n) then Err (BadName k) else
+    (if is_some d.start then Err (Twice k) else Ok
+    (record d { start = Some (record { line = k; name = n }) }))
 start_at k d _ = Err (UnknownLine k)
 
 -- a line, by its first word
@@ -50,7 +54,8 @@ line_at k d (w ∷ ws) =
     else (if bytes_eq w (codes "work") then codes_at k true d ws
     else (if bytes_eq w (codes "idle") then codes_at k false d ws
     else (if bytes_eq w (codes "start") then start_at k d ws
-    else (if bytes_eq w (codes "rule") then (rule_at k d.codes d.rules ws >>= λ r. Ok (record d { rules = r }))
+    else (if bytes_eq w (codes "rule") then (rule_at k d.codes d.rules ws >>= λ r. Ok
+    (record d { rules = r }))
     else Err (UnknownLine k)))))
 
 -- a line, whose bad byte comes before its other faults

@@ -34,8 +34,10 @@ unfoldable pub symbol_at : ℕ → List CodeDef → Named × List Sym → List �
 symbol_at k defs st w =
     if nat_le 8 (length st.1) then Err (TooMany k limits.Right 8)
     else (if slice_index w 0 == 39
-    then (if is_quoted w then (code_at k defs (slice_index w 1) >>= λ c. Ok (st.0, st.1 ++ c ∷ [])) else Err (BadName k))
-    else (name_at (record { line = k; word = 5 + length st.1 }) st.0 w >>= λ n. Ok (n.0, st.1 ++ Name n.1 ∷ [])))
+    then (if is_quoted w then (code_at k defs (slice_index w 1) >>= λ c. Ok (st.0, st.1 ++ c ∷ [])) else Err
+    (BadName k))
+    else (name_at (record { line = k; word = 5 + length st.1 }) st.0 w >>= λ n. Ok
+    (n.0, st.1 ++ Name n.1 ∷ [])))
 
 -- the two numbers of a window, from 1 to 96, the second at least the first
 unfoldable pub bounds_at : ℕ → List ℕ → List ℕ → Result Window RulesFault
@@ -46,7 +48,8 @@ bounds_at k a b = do
 
 -- the window that this word has so far
 abbrev pub written : Windows → List ℕ → Option Window
-written v w = if bytes_eq w (codes "len") then v.span else (if bytes_eq w (codes "begin") then v.first else v.last)
+written v w =
+    if bytes_eq w (codes "len") then v.span else (if bytes_eq w (codes "begin") then v.first else v.last)
 
 -- the windows with that of this word
 abbrev pub with_window : Windows → List ℕ → Window → Windows
@@ -56,7 +59,8 @@ with_window v w x =
 
 -- a window word and its two numbers, after the windows so far: each word stands once
 unfoldable pub window_at : ℕ → Windows → List ℕ → List ℕ → List ℕ → Result Windows RulesFault
-window_at k v w a b = if is_some (written v w) then Err (Twice k) else (bounds_at k a b >>= λ x. Ok (with_window v w x))
+window_at k v w a b =
+    if is_some (written v w) then Err (Twice k) else (bounds_at k a b >>= λ x. Ok (with_window v w x))
 
 -- the words of the windows, three by three
 abbrev pub windows_at : ℕ → Windows → List (List ℕ) → Result Windows RulesFault
@@ -84,14 +88,27 @@ abbrev pub whole : Option Window → Window
 whole o = unwrap_or o (record { lo = 1; hi = 96 })
 
 -- a rule at line k, after the rules so far: its name, its cost, its symbols and its windows
-unfoldable pub rule_of : ℕ → List CodeDef → Rules → List ℕ → List ℕ → List (List ℕ) → List (List ℕ) → Result Rules RulesFault
+unfoldable pub rule_of : ℕ → List CodeDef → Rules → List ℕ → List ℕ → List (List ℕ) → List (List ℕ)
+    → Result Rules RulesFault
 rule_of k defs st name cost symbols windows =
     if nat_le 64 (length st.rules) then Err (TooMany k limits.Rules 64) else (do
       left ← name_at (record { line = k; word = 2 }) st.names name
       price ← number_at k 0 10000 cost
-      right ← (if length symbols == 0 then Err (EmptyRight k) else each (symbol_at k defs) (left.0, []) symbols)
+      right ← (if length symbols == 0 then Err (EmptyRight k) else each (symbol_at k defs) (left.0, [])
+          symbols)
       v ← windows_at k no_windows windows
-      Ok (record { names = right.0; rules = st.rules ++ record { left = left.1; cost = price; right = right.1; span = whole v.span; first = whole v.first; last = whole v.last } ∷ [] }))
+      Ok (record {
+        names = right.0;
+        rules = st.rules
+            ++ record {
+              left = left.1;
+              cost = price;
+              right = right.1;
+              span = whole v.span;
+              first = whole v.first;
+              last = whole v.last;
+            } ∷ [];
+      }))
 
 -- the words behind `rule`, which must be a name, a cost, `=`, symbols and groups of a window
 unfoldable pub rule_at : ℕ → List CodeDef → Rules → List (List ℕ) → Result Rules RulesFault

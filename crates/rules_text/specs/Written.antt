@@ -25,11 +25,13 @@ abbrev pub window_words : List ℕ → Window → List (List ℕ)
 window_words w x = if x.lo == 1 && x.hi == 96 then [] else w ∷ decimal x.lo ∷ decimal x.hi ∷ []
 
 abbrev pub all_window_words : Rule → List (List ℕ)
-all_window_words r = window_words (codes "len") r.span ++ (window_words (codes "begin") r.first ++ window_words (codes "end") r.last)
+all_window_words r = window_words (codes "len") r.span
+    ++ (window_words (codes "begin") r.first ++ window_words (codes "end") r.last)
 
 -- the words behind `rule`
 abbrev pub rule_words : List CodeDef → List (List ℕ) → Rule → List (List ℕ)
-rule_words defs ns r = name_of ns r.left ∷ decimal r.cost ∷ codes "=" ∷ (map (symbol_word defs ns) r.right ++ all_window_words r)
+rule_words defs ns r =
+    name_of ns r.left ∷ decimal r.cost ∷ codes "=" ∷ (map (symbol_word defs ns) r.right ++ all_window_words r)
 
 abbrev pub periods_line : ℕ → List (List ℕ)
 periods_line n = codes "periods" ∷ decimal n ∷ []
@@ -45,7 +47,8 @@ rule_line defs ns r = codes "rule" ∷ rule_words defs ns r
 
 -- the periods, a line for each code, the start, and the rules, each in order
 abbrev pub grammar_lines : Grammar → List (List (List ℕ))
-grammar_lines g = periods_line g.periods ∷ (map code_line g.codes ++ start_line (name_of g.names g.start) ∷ map (rule_line g.codes g.names) g.rules)
+grammar_lines g = periods_line g.periods ∷ (map code_line g.codes
+    ++ start_line (name_of g.names g.start) ∷ map (rule_line g.codes g.names) g.rules)
 
 abbrev pub rules_text : Grammar → List ℕ
 rules_text g = written (grammar_lines g)

@@ -14,7 +14,8 @@ pub fn written_again()
 
 /// States a law: a text says one grammar, or has one first fault.
 pub fn one_reading()
-    ensures { (text : List ℕ) (r s : Result Grammar RulesFault) → IsReading text r → IsReading text s → r ≡ s }
+    ensures { (text : List ℕ) (r s : Result Grammar RulesFault) → IsReading text r → IsReading text s
+        → r ≡ s }
 {}
 
 /// States a law: an accepted text consists of lines of the five forms, one of which states the

@@ -38,7 +38,9 @@ impl Model for Names {
 }
 
 fn place_of(names: &IndexSet<Vec<u8>>, name: &[u8]) -> Option<usize>
-    ensures place { MatchOption result (has_name (texts names.now.keys) name.now ≡ false) (λ k. (has_name (texts names.now.keys) name.now ≡ true) × (k ≡ place_of (texts names.now.keys) name.now)) }
+    ensures place { MatchOption result (has_name (texts names.now.keys) name.now ≡ false)
+        (λ k. (has_name (texts names.now.keys) name.now ≡ true)
+        × (k ≡ place_of (texts names.now.keys) name.now)) }
     ensures within { IfSome result (λ k. k < length names.now.keys) }
 {
     names.get_index_of(name)
@@ -93,7 +95,8 @@ impl Names {
 
     /// Returns the number of a name.
     pub fn place(&self, name: &[u8]) -> Option<u8>
-        ensures { MatchOption result (has_name self.now.texts name.now ≡ false) (λ k. (has_name self.now.texts name.now ≡ true) × (k ≡ place_of self.now.texts name.now)) }
+        ensures { MatchOption result (has_name self.now.texts name.now ≡ false)
+            (λ k. (has_name self.now.texts name.now ≡ true) × (k ≡ place_of self.now.texts name.now)) }
     {
         match place_of(&self.set, name) {
             Some(place) => Some(place as u8),

@@ -43,7 +43,8 @@ fn symbols(
 ) -> Result<List<Sym>, RulesFault>
     requires few { length codes.now ≤ 32 }
     requires there { count ≤ length words.old }
-    ensures value { Reads (λ right. (names.new, right)) result (each (symbol_at line codes.now) (names.old, []) (take count words.old)) }
+    ensures value { Reads (λ right. (names.new, right)) result
+        (each (symbol_at line codes.now) (names.old, []) (take count words.old)) }
     ensures rest { OnOk result (words.new ≡ drop count words.old) }
 {
     let mut right = List::new(alloc);
@@ -69,7 +70,8 @@ fn rule_of(
 ) -> Result<(), RulesFault>
     requires few { length codes.now ≤ 32 }
     requires there { count ≤ length words.old }
-    ensures value { Reads (λ _. (state.new)) result (rule_of line codes.now state.old name.now cost.now (take count words.old) (drop count words.old)) }
+    ensures value { Reads (λ _. (state.new)) result
+        (rule_of line codes.now state.old name.now cost.now (take count words.old) (drop count words.old)) }
 {
     if 64 <= state.rules.len() {
         return Err(RulesFault::TooMany {

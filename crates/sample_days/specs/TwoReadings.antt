@@ -36,7 +36,11 @@ pub record PriceOfTwoReadings : Type 0 where
 
 -- letters and arcs for nothing, rules at their costs
 abbrev pub cost_prices : PriceView
-cost_prices = record { letter_at = λ c i. Some (pos 0); arc_of = λ a. pos 0; rule_of = λ r. pos (rule_cost two_readings r) }
+cost_prices = record {
+  letter_at = λ c i. Some (pos 0);
+  arc_of = λ a. pos 0;
+  rule_of = λ r. pos (rule_cost two_readings r);
+}
 
 -- the least sum of the day's trees at the rules' costs
 abbrev pub LeastSumOfTwoReadings : Type 0

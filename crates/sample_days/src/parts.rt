@@ -90,7 +90,8 @@ pub fn grammar(
     parts: &[RuleParts],
     start: u8,
 ) -> Result<Grammar, Memory>
-    ensures { IfOk result (λ g. g ≡ grammar_of periods (map (λ n. n.now) names.now) (map rule_of parts.now) start) }
+    ensures { IfOk result (λ g. g ≡ grammar_of periods (map (λ n. n.now) names.now) (map rule_of parts.now)
+        start) }
 {
     Ok(Grammar {
         periods,

@@ -29,7 +29,8 @@ memory_code =
     code_by (Texts × (List ℕ × (ℕ × (ℕ × List ℕ))))
     (coded× texts_code (coded× (coded_list coded_ℕ) (coded× coded_ℕ (coded× coded_ℕ (coded_list coded_ℕ)))))
     (λ s. (s.held, (s.said, (s.faults, (s.calls, s.failing)))))
-    (λ p. record { held = p.0; said = p.1.0; faults = p.1.1.0; calls = p.1.1.1.0; failing = p.1.1.1.1 }) (λ _. refl)
+    (λ p. record { held = p.0; said = p.1.0; faults = p.1.1.0; calls = p.1.1.1.0; failing = p.1.1.1.1 })
+    (λ _. refl)
 
 -- whether the number of the next call is listed
 abbrev pub next_fails : MemoryState → Bool

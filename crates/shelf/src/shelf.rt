@@ -50,7 +50,8 @@ pub trait Shelf {
         ensures appended { OnOk result (IfSome (told self.old).said
             (λ s. (told self.new).said ≡ Some (s ++ bytes.now))) }
         // Whatever the answer, and the shelf goes on to tell.
-        ensures part { IfSome (told self.old).said (λ s. IsSomeAnd (told self.new).said (SaidPart bytes.now s)) }
+        ensures part { IfSome (told self.old).said
+            (λ s. IsSomeAnd (told self.new).said (SaidPart bytes.now s)) }
         ensures held_stays { (told self.new).held ≡ (told self.old).held }
 
         ensures cause { HasCause (told self.old).faults (told self.new).faults result }

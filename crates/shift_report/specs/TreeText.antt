@@ -22,7 +22,8 @@ left_name g r = name_of g (rule_at g r)
 
 -- the words of the line of a rule use: number, name, first period and length
 abbrev pub use_line : Grammar → Step → List (List ℕ)
-use_line g s = codes "use" ∷ number_text (pos s.rule) ∷ left_name g s.rule ∷ number_text (pos s.start) ∷ number_text (pos s.len) ∷ []
+use_line g s = codes "use" ∷ number_text (pos s.rule) ∷ left_name g s.rule ∷ number_text (pos s.start) ∷
+    number_text (pos s.len) ∷ []
 
 -- the words of each line
 abbrev pub tree_lines : Grammar → List ℕ → ℕ → List Step → List (List (List ℕ))

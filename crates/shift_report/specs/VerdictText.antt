@@ -28,17 +28,21 @@ group_field (suc k) = codes " group" ++ field (suc k)
 -- the line of a cause, without its end
 abbrev pub why_line : Why → List ℕ
 why_line (NotAShift k) = codes "no 1 not a shift: shift" ++ field k
-why_line (ShiftCost k said least) = codes "no 2 shift cost: shift" ++ field k ++ codes " said" ++ field said ++ codes " least" ++ field least
+why_line (ShiftCost k said least) =
+    codes "no 2 shift cost: shift" ++ field k ++ codes " said" ++ field said ++ codes " least" ++ field least
 why_line (WrongHeads g n) = codes "no 3 wrong heads:" ++ group_field g ++ (codes " count" ++ field n)
 why_line (WrongCost said found) = codes "no 4 wrong cost: said" ++ field said ++ codes " found" ++ field found
 why_line (NotAnArc n) = codes "no 5 not an arc: node" ++ field n
 why_line (EmptyHalf n) = codes "no 6 empty half: node" ++ field n
 why_line (NotPinned n a) = codes "no 7 not pinned: node" ++ field n ++ codes " arc" ++ arc_fields a
-why_line (BoundTooHigh said shown) = codes "no 8 bound too high: said" ++ amount said ++ codes " shown" ++ amount shown
+why_line (BoundTooHigh said shown) =
+    codes "no 8 bound too high: said" ++ amount said ++ codes " shown" ++ amount shown
 why_line (Outside code period have) =
-    codes "no 9 outside floor or ceiling: code " ++ (code ∷ []) ++ (codes " period" ++ field period) ++ (codes " have" ++ field have)
+    codes "no 9 outside floor or ceiling: code " ++ (code ∷ []) ++ (codes " period" ++ field period)
+    ++ (codes " have" ++ field have)
 
 -- three lines for a yes, and one for a no
 abbrev pub verdict_text : Verdict → List ℕ
-verdict_text (Yes cost bound) = codes "yes\ncost" ++ amount cost ++ codes "\nbound" ++ amount bound ++ codes "\n"
+verdict_text (Yes cost bound) =
+    codes "yes\ncost" ++ amount cost ++ codes "\nbound" ++ amount bound ++ codes "\n"
 verdict_text (No why) = why_line why ++ codes "\n"

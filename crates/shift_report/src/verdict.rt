@@ -24,7 +24,8 @@ pub fn write_verdict(alloc: Global, verdict: &Verdict) -> Result<List<u8>, Memor
 
 // Appends the lines of a yes, the last without its end.
 fn write_yes(out: &mut List<u8>, cost: Option<u64>, bound: Option<u64>) -> Result<(), Memory>
-    ensures { OnOk result (out.new ≡ out.old ++ (codes "yes\ncost" ++ amount cost ++ codes "\nbound" ++ amount bound)) }
+    ensures { OnOk result (out.new ≡ out.old ++ (codes "yes\ncost" ++ amount cost ++ codes "\nbound"
+        ++ amount bound)) }
 {
     put(out, b"yes\ncost")?;
     write_amount(out, cost)?;

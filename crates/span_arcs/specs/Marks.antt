@@ -34,7 +34,8 @@ PartsStand g r k ss i l = (t : Parts) → On g ss i l t → (a : ArcKey) → In 
 -- every arc of what the slot stands for is one of the instance
 abbrev pub SlotStands : Grammar → Slot → ℕ → ℕ → Type 0
 SlotStands g (OfName x) i l = TreesStand g (Name x) i l
-SlotStands g (OfSuffix s) i l = (rule : Rule) → rule_at g s.rule ≡ Some rule → PartsStand g s.rule s.from (drop s.from rule.right) i l
+SlotStands g (OfSuffix s) i l =
+    (rule : Rule) → rule_at g s.rule ≡ Some rule → PartsStand g s.rule s.from (drop s.from rule.right) i l
 
 -- the mark of a slot on a span
 abbrev pub mark : Layout → List Bool → ℕ → ℕ → ℕ → Bool
@@ -54,7 +55,8 @@ RestMarked lay ms r k (s ∷ x ∷ ss) i l = mark lay ms (suffix_slot lay r k) i
 -- where a first part of m periods and the others on n periods both derive, both are marked
 abbrev pub SplitMarked : Grammar → Layout → List Bool → ℕ → ℕ → Sym → List Sym → ℕ → ℕ → ℕ → Type 0
 SplitMarked g lay ms r k s ss i m n =
-    HasSome g (s ∷ []) i m → HasSome g ss (i + m) n → SymbolMarked lay ms s i m × RestMarked lay ms r (k + 1) ss (i + m) n
+    HasSome g (s ∷ []) i m → HasSome g ss (i + m) n → SymbolMarked lay ms s i m
+    × RestMarked lay ms r (k + 1) ss (i + m) n
 
 -- so it is at each first part shorter than end
 abbrev pub SplitsMarked : Grammar → Layout → List Bool → ℕ → ℕ → Sym → List Sym → ℕ → ℕ → ℕ → Type 0
@@ -69,22 +71,26 @@ PartsClosed g lay ms r k (s ∷ x ∷ ss) i l = SplitsMarked g lay ms r k s (x �
 -- what the trees of a name by rule r are made of is marked
 abbrev pub RuleClosed : Grammar → Layout → List Bool → ℕ → ℕ → ℕ → ℕ → Type 0
 RuleClosed g lay ms x i l r =
-    (rule : Rule) → rule_at g r ≡ Some rule → rule.left ≡ x → Stands g.periods rule i l → PartsClosed g lay ms r 0 rule.right i l
+    (rule : Rule) → rule_at g r ≡ Some rule → rule.left ≡ x → Stands g.periods rule i l
+    → PartsClosed g lay ms r 0 rule.right i l
 
 -- what the slot's trees or parts are made of is marked
 abbrev pub SlotClosed : Grammar → Layout → List Bool → Slot → ℕ → ℕ → Type 0
 SlotClosed g lay ms (OfName x) i l = (r : ℕ) → RuleClosed g lay ms x i l r
-SlotClosed g lay ms (OfSuffix s) i l = (rule : Rule) → rule_at g s.rule ≡ Some rule → PartsClosed g lay ms s.rule s.from (drop s.from rule.right) i l
+SlotClosed g lay ms (OfSuffix s) i l = (rule : Rule) → rule_at g s.rule ≡ Some rule
+    → PartsClosed g lay ms s.rule s.from (drop s.from rule.right) i l
 
 -- only what stands is marked
 abbrev pub AreTrue : Grammar → Layout → List Bool → Type 0
 AreTrue g lay ms =
-    (s i l : ℕ) (what : Slot) → slice_get lay.slots.items s ≡ Some what → InDay g.periods i l → mark lay ms s i l ≡ true → SlotStands g what i l
+    (s i l : ℕ) (what : Slot) → slice_get lay.slots.items s ≡ Some what → InDay g.periods i l
+    → mark lay ms s i l ≡ true → SlotStands g what i l
 
 -- what is marked at a place from n on has what it is made of marked
 abbrev pub ClosedFrom : Grammar → Layout → List Bool → ℕ → Type 0
 ClosedFrom g lay ms n =
-    (s i l : ℕ) (what : Slot) → slice_get lay.slots.items s ≡ Some what → InDay g.periods i l → n ≤ place lay s i l → mark lay ms s i l ≡ true
+    (s i l : ℕ) (what : Slot) → slice_get lay.slots.items s ≡ Some what → InDay g.periods i l
+    → n ≤ place lay s i l → mark lay ms s i l ≡ true
     → SlotClosed g lay ms what i l
 
 -- marks were added at places before n, and only those of what stands
@@ -116,7 +122,8 @@ SuffixMarked g lay ms rule r k i l =
 abbrev pub HasSplit : Grammar → List Sym → ℕ → ℕ → ℕ → Type 0
 HasSplit g [] i l m = ⊥
 HasSplit g (s ∷ []) i l m = (m ≡ l) × HasSome g (s ∷ []) i l
-HasSplit g (s ∷ x ∷ ss) i l m = (1 ≤ m) × (m < l) × HasSome g (s ∷ []) i m × HasSome g (x ∷ ss) (i + m) (l - m)
+HasSplit g (s ∷ x ∷ ss) i l m =
+    (1 ≤ m) × (m < l) × HasSome g (s ∷ []) i m × HasSome g (x ∷ ss) (i + m) (l - m)
 
 -- the arc's rule exists, and its suffix stands on a span of the day
 abbrev pub HasSpan : Grammar → ArcKey → Type 0

@@ -16,7 +16,8 @@ IsAfter (Some a) x = ArcBefore a x
 -- the first arc of the instance after the given one, none where there is none
 abbrev pub IsNextArc : Grammar → Option ArcKey → Option ArcKey → Type 0
 IsNextArc g after None = (x : ArcKey) → IsArc g x → IsAfter after x → ⊥
-IsNextArc g after (Some a) = IsArc g a × IsAfter after a × ((x : ArcKey) → IsArc g x → IsAfter after x → (x ≡ a) ⊎ ArcBefore a x)
+IsNextArc g after (Some a) =
+    IsArc g a × IsAfter after a × ((x : ArcKey) → IsArc g x → IsAfter after x → (x ≡ a) ⊎ ArcBefore a x)
 
 -- the place of an arc among all keys of five bytes in their order
 abbrev pub key_number : ArcKey → ℕ
@@ -33,21 +34,25 @@ pub record IsSmall (a : ArcKey) : Type 0 where
 -- a later key, and no arc of the instance after the first key has a lower number, or there is no such arc
 abbrev pub IsStep : Grammar → ArcKey → Option ArcKey → Type 0
 IsStep g at None = (x : ArcKey) → IsArc g x → ArcBefore at x → ⊥
-IsStep g at (Some b) = IsSmall b × ArcBefore at b × ((x : ArcKey) → IsArc g x → ArcBefore at x → key_number b ≤ key_number x)
+IsStep g at (Some b) =
+    IsSmall b × ArcBefore at b × ((x : ArcKey) → IsArc g x → ArcBefore at x → key_number b ≤ key_number x)
 
 -- an arc with the same rule, suffix, start and length, and a later part
 abbrev pub IsSplitAfter : ArcKey → ArcKey → Type 0
-IsSplitAfter a x = (a.rule ≡ x.rule) × (a.suffix ≡ x.suffix) × (a.start ≡ x.start) × (a.len ≡ x.len) × (a.part < x.part)
+IsSplitAfter a x =
+    (a.rule ≡ x.rule) × (a.suffix ≡ x.suffix) × (a.start ≡ x.start) × (a.len ≡ x.len) × (a.part < x.part)
 
 -- no arc of the instance with a later part has one before this part, or there is no such arc
 abbrev pub IsPartStep : Grammar → ArcKey → Option ℕ → Type 0
 IsPartStep g at None = (x : ArcKey) → IsArc g x → IsSplitAfter at x → ⊥
-IsPartStep g at (Some m) = (at.part < m) × (m ≤ at.len) × ((x : ArcKey) → IsArc g x → IsSplitAfter at x → m ≤ x.part)
+IsPartStep g at (Some m) =
+    (at.part < m) × (m ≤ at.len) × ((x : ArcKey) → IsArc g x → IsSplitAfter at x → m ≤ x.part)
 
 -- no longer first part than this one is shorter than the next, or there is none
 abbrev pub IsLongerPart : Grammar → List Sym → ℕ → ℕ → ℕ → Option ℕ → Type 0
 IsLongerPart g ss i l part None = (m : ℕ) → part < m → HasSplit g ss i l m → ⊥
-IsLongerPart g ss i l part (Some n) = (part < n) × (n ≤ l) × ((m : ℕ) → part < m → HasSplit g ss i l m → n ≤ m)
+IsLongerPart g ss i l part (Some n) =
+    (part < n) × (n ≤ l) × ((m : ℕ) → part < m → HasSplit g ss i l m → n ≤ m)
 
 -- what all arcs of the instance have: a rule, one of its symbols, a span of the day, and a part of it
 pub record HasShape (g : Grammar) (x : ArcKey) : Type 0 where
@@ -66,9 +71,11 @@ IsLaterSuffix a x = (a.rule < x.rule) ⊎ ((a.rule ≡ x.rule) × (a.suffix < x.
 -- nothing that has the shape of an arc and a later suffix has a lower number, or there is no such thing
 abbrev pub IsSuffixStep : Grammar → ArcKey → Option ArcKey → Type 0
 IsSuffixStep g at None = (x : ArcKey) → HasShape g x → IsLaterSuffix at x → ⊥
-IsSuffixStep g at (Some b) = IsSmall b × IsLaterSuffix at b × ((x : ArcKey) → HasShape g x → IsLaterSuffix at x → key_number b ≤ key_number x)
+IsSuffixStep g at (Some b) = IsSmall b × IsLaterSuffix at b
+    × ((x : ArcKey) → HasShape g x → IsLaterSuffix at x → key_number b ≤ key_number x)
 
 -- how far the search for the next arc has come: no arc after the given one has a lower number
 abbrev pub IsSought : Grammar → Option ArcKey → Option ArcKey → Type 0
 IsSought g after None = (x : ArcKey) → IsArc g x → IsAfter after x → ⊥
-IsSought g after (Some b) = ((x : ArcKey) → IsArc g x → IsAfter after x → key_number b ≤ key_number x) × IsAfter after b × IsSmall b
+IsSought g after (Some b) =
+    ((x : ArcKey) → IsArc g x → IsAfter after x → key_number b ≤ key_number x) × IsAfter after b × IsSmall b

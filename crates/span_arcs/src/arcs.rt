@@ -57,7 +57,8 @@ fn is_marked(
     requires count { length marks.now ≡ cell_count layout.now }
     requires day { InDay grammar.now.periods span.start span.len }
     requires rule { rule_at grammar.now suffix.rule ≡ Some rule.now }
-    ensures { IsTrue result ↔ SuffixMarked grammar.now layout.now marks.now rule.now suffix.rule suffix.from span.start span.len }
+    ensures { IsTrue result ↔ SuffixMarked grammar.now layout.now marks.now rule.now suffix.rule suffix.from
+        span.start span.len }
 {
     let from = suffix.from as usize;
     if from == 0 {
@@ -88,7 +89,8 @@ fn has_split(
     requires day { InDay grammar.now.periods span.start span.len }
     requires rule { rule_at grammar.now suffix.rule ≡ Some rule.now }
     requires within { suffix.from < length rule.now.right }
-    ensures { IsTrue result ↔ HasSplit grammar.now (drop suffix.from rule.now.right) span.start span.len part }
+    ensures { IsTrue result ↔ HasSplit grammar.now (drop suffix.from rule.now.right) span.start span.len
+        part }
 {
     let right = rule.right.as_slice();
     let from = suffix.from as usize;

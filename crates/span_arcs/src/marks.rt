@@ -21,7 +21,8 @@ fn mark_symbol(grammar: &Grammar, layout: &Layout, marks: &mut [bool], symbol: S
     requires day { InDay grammar.now.periods span.start span.len }
     requires exists { Exists (length grammar.now.codes) (length grammar.now.names) symbol }
     requires stand { TreesStand grammar.now symbol span.start span.len }
-    ensures adds { (n : ℕ) → IsBefore layout.now symbol span.start span.len n → Adds grammar.now layout.now n marks.old marks.new }
+    ensures adds { (n : ℕ) → IsBefore layout.now symbol span.start span.len n
+        → Adds grammar.now layout.now n marks.old marks.new }
     ensures marked { SymbolMarked layout.now marks.new symbol span.start span.len }
 {
     if let Sym::Name(name) = symbol {
@@ -45,10 +46,12 @@ fn mark_rest(
     requires rule { rule_at grammar.now suffix.rule ≡ Some rule.now }
     requires inner { 1 ≤ suffix.from }
     requires within { suffix.from < length rule.now.right }
-    requires stand { PartsStand grammar.now suffix.rule suffix.from (drop suffix.from rule.now.right) span.start span.len }
+    requires stand { PartsStand grammar.now suffix.rule suffix.from (drop suffix.from rule.now.right)
+        span.start span.len }
     ensures adds { (n : ℕ) → place layout.now (length layout.now.slots.items) span.start span.len ≤ n
         → Adds grammar.now layout.now n marks.old marks.new }
-    ensures marked { RestMarked layout.now marks.new suffix.rule suffix.from (drop suffix.from rule.now.right) span.start span.len }
+    ensures marked { RestMarked layout.now marks.new suffix.rule suffix.from (drop suffix.from rule.now.right)
+        span.start span.len }
 {
     let right = rule.right.as_slice();
     let from = suffix.from as usize;
@@ -78,12 +81,14 @@ fn mark_split(
     requires day { InDay grammar.now.periods span.start span.len }
     requires rule { rule_at grammar.now suffix.rule ≡ Some rule.now }
     requires within { suffix.from + 2 ≤ length rule.now.right }
-    requires stand { PartsStand grammar.now suffix.rule suffix.from (drop suffix.from rule.now.right) span.start span.len }
+    requires stand { PartsStand grammar.now suffix.rule suffix.from (drop suffix.from rule.now.right)
+        span.start span.len }
     requires some { 1 ≤ part }
     requires others { part < span.len }
     ensures adds { Adds grammar.now layout.now (place layout.now 0 span.start span.len) marks.old marks.new }
     ensures marked { SplitMarked grammar.now layout.now marks.new suffix.rule suffix.from
-        (slice_index_or rule.now.right suffix.from (Sym.Code 0)) (drop (suffix.from + 1) rule.now.right) span.start part (span.len - part) }
+        (slice_index_or rule.now.right suffix.from (Sym.Code 0)) (drop (suffix.from + 1) rule.now.right)
+        span.start part (span.len - part) }
 {
     let symbol = rule.right.as_slice()[suffix.from as usize];
     let next = Suffix {
@@ -125,9 +130,11 @@ fn mark_parts(
     requires day { InDay grammar.now.periods span.start span.len }
     requires rule { rule_at grammar.now suffix.rule ≡ Some rule.now }
     requires within { suffix.from + 2 ≤ length rule.now.right }
-    requires stand { PartsStand grammar.now suffix.rule suffix.from (drop suffix.from rule.now.right) span.start span.len }
+    requires stand { PartsStand grammar.now suffix.rule suffix.from (drop suffix.from rule.now.right)
+        span.start span.len }
     ensures adds { Adds grammar.now layout.now (place layout.now 0 span.start span.len) marks.old marks.new }
-    ensures closed { PartsClosed grammar.now layout.now marks.new suffix.rule suffix.from (drop suffix.from rule.now.right) span.start span.len }
+    ensures closed { PartsClosed grammar.now layout.now marks.new suffix.rule suffix.from
+        (drop suffix.from rule.now.right) span.start span.len }
 {
     let points = split_points(grammar, layout, cells, rule, suffix, span);
     let end = span.end();
@@ -156,8 +163,10 @@ fn mark_right(
     requires day { InDay grammar.now.periods span.start span.len }
     requires rule { rule_at grammar.now number ≡ Some rule.now }
     requires stand { PartsStand grammar.now number 0 rule.now.right span.start span.len }
-    ensures adds { Adds grammar.now layout.now (place layout.now (name_slot layout.now rule.now.left) span.start span.len) marks.old marks.new }
-    ensures closed { PartsClosed grammar.now layout.now marks.new number 0 rule.now.right span.start span.len }
+    ensures adds { Adds grammar.now layout.now (place layout.now (name_slot layout.now rule.now.left)
+        span.start span.len) marks.old marks.new }
+    ensures closed { PartsClosed grammar.now layout.now marks.new number 0 rule.now.right span.start
+        span.len }
 {
     let right = rule.right.as_slice();
     if right.len() == 1 {
@@ -190,7 +199,8 @@ fn mark_rule(
     requires rule { number ≤ length grammar.now.rules }
     requires left { (rule : RuleValue) → rule_at grammar.now number ≡ Some rule → rule.left ≡ name }
     requires stand { TreesStand grammar.now (Sym.Name name) span.start span.len }
-    ensures adds { Adds grammar.now layout.now (place layout.now (name_slot layout.now name) span.start span.len) marks.old marks.new }
+    ensures adds { Adds grammar.now layout.now (place layout.now (name_slot layout.now name) span.start
+        span.len) marks.old marks.new }
     ensures closed { RuleClosed grammar.now layout.now marks.new name span.start span.len number }
 {
     let rule = rule_of(grammar, number);
@@ -216,7 +226,8 @@ fn mark_rules(
     requires name { name < length grammar.now.names }
     requires day { InDay grammar.now.periods span.start span.len }
     requires stand { TreesStand grammar.now (Sym.Name name) span.start span.len }
-    ensures adds { Adds grammar.now layout.now (place layout.now (name_slot layout.now name) span.start span.len) marks.old marks.new }
+    ensures adds { Adds grammar.now layout.now (place layout.now (name_slot layout.now name) span.start
+        span.len) marks.old marks.new }
     ensures closed { SlotClosed grammar.now layout.now marks.new (Use.OfName name) span.start span.len }
 {
     let rules = grammar.rules.len();
@@ -243,9 +254,11 @@ fn mark_slot(
     requires day { InDay grammar.now.periods span.start span.len }
     requires slot { slot < length layout.now.slots.items }
     requires truth { AreTrue grammar.now layout.now marks.old }
-    ensures adds { Adds grammar.now layout.now (place layout.now slot span.start span.len) marks.old marks.new }
+    ensures adds { Adds grammar.now layout.now (place layout.now slot span.start span.len) marks.old
+        marks.new }
     ensures closed { (what : Use) → slice_get layout.now.slots.items slot ≡ Some what
-        → mark layout.now marks.new slot span.start span.len ≡ true → SlotClosed grammar.now layout.now marks.new what span.start span.len }
+        → mark layout.now marks.new slot span.start span.len ≡ true
+        → SlotClosed grammar.now layout.now marks.new what span.start span.len }
 {
     if !marks[place_of(layout, slot, span)] {
         return;
@@ -273,8 +286,10 @@ fn mark_span(
     requires count { length marks.old ≡ cell_count layout.now }
     requires place { place < shorter layout.now.spans layout.now.spans }
     requires truth { AreTrue grammar.now layout.now marks.old }
-    requires closed { ClosedFrom grammar.now layout.now marks.old ((place + 1) * length layout.now.slots.items) }
-    ensures adds { Adds grammar.now layout.now ((place + 1) * length layout.now.slots.items) marks.old marks.new }
+    requires closed { ClosedFrom grammar.now layout.now marks.old
+        ((place + 1) * length layout.now.slots.items) }
+    ensures adds { Adds grammar.now layout.now ((place + 1) * length layout.now.slots.items) marks.old
+        marks.new }
     ensures closed { ClosedFrom grammar.now layout.now marks.new (place * length layout.now.slots.items) }
 {
     let (start, len) = layout.spans.span(place);

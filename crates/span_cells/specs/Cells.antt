@@ -41,7 +41,8 @@ spot lay s i = i * length lay.slots.items + s
 
 -- the span is noted where the slot has a sum on it
 abbrev pub Noted : Layout → Held → ℕ → ℕ → ℕ → Type 0
-Noted lay h s i l = IsSome (cell lay h s i l) → IsNoted h.present (spot lay s i) (spot lay s (i + l)) i (i + l)
+Noted lay h s i l =
+    IsSome (cell lay h s i l) → IsNoted h.present (spot lay s i) (spot lay s (i + l)) i (i + l)
 
 -- a sum of a slot on a span was put at a place, and the span noted where there is one
 pub record IsPut (lay : Layout) (n s i l : ℕ) (v : Option ℤ) (old new : Held) : Type 0 where
@@ -79,11 +80,13 @@ pub record IsLayoutOf (g : Grammar) (lay : Layout) : Type 0 where
   pub all_names : length lay.names.items ≡ length g.names
   pub all_rules : length lay.suffixes.items ≡ length g.rules
   pub names : (x : ℕ) → x < length g.names → slice_get lay.slots.items (name_slot lay x) ≡ Some (OfName x)
-  pub named : (s x : ℕ) → slice_get lay.slots.items s ≡ Some (OfName x) → (x < length g.names) × (s ≡ name_slot lay x)
+  pub named : (s x : ℕ) → slice_get lay.slots.items s ≡ Some (OfName x) → (x < length g.names)
+      × (s ≡ name_slot lay x)
   pub suffixes : (r k : ℕ) (rule : Rule) → rule_at g r ≡ Some rule → 1 ≤ k → k + 2 ≤ length rule.right
       → slice_get lay.slots.items (suffix_slot lay r k) ≡ Some (OfSuffix (record { rule = r; from = k }))
   pub parted : (s : ℕ) (x : Suffix) → slice_get lay.slots.items s ≡ Some (OfSuffix x) → HasSlot g x
-  pub order : (r y : ℕ) (rule : Rule) → rule_at g r ≡ Some rule → rule.right ≡ Name y ∷ [] → name_slot lay y < name_slot lay rule.left
+  pub order : (r y : ℕ) (rule : Rule) → rule_at g r ≡ Some rule → rule.right ≡ Name y ∷ []
+      → name_slot lay y < name_slot lay rule.left
   pub chains : AreChained g lay.chains
 
 -- the cells were made for the grammar
@@ -115,31 +118,37 @@ ShorterRight g p lay h l = (i m : ℕ) → InDay g.periods i m → m < l → Rig
 -- the names to which one-symbol rules lead from a name are right on a span
 abbrev pub LaterRight : Grammar → PriceView → Layout → Held → ℕ → ℕ → ℕ → Type 0
 LaterRight g p lay h x i l =
-    (r y : ℕ) (rule : Rule) → rule_at g r ≡ Some rule → rule.left ≡ x → rule.right ≡ Name y ∷ [] → NameRight g p lay h y i l
+    (r y : ℕ) (rule : Rule) → rule_at g r ≡ Some rule → rule.left ≡ x → rule.right ≡ Name y ∷ []
+    → NameRight g p lay h y i l
 
 -- v is the least sum of what the slot stands for on a span
 abbrev pub SlotLeast : Grammar → PriceView → Slot → ℕ → ℕ → Option ℤ → Type 0
 SlotLeast g p (OfName x) i l v = SymbolLeast g p (Name x) i l v
-SlotLeast g p (OfSuffix s) i l v = (rule : Rule) → rule_at g s.rule ≡ Some rule → PartsLeast g p s.rule s.from (drop s.from rule.right) i l v
+SlotLeast g p (OfSuffix s) i l v =
+    (rule : Rule) → rule_at g s.rule ≡ Some rule → PartsLeast g p s.rule s.from (drop s.from rule.right) i l v
 
 -- the cell of a slot is right on a span, and the span is noted where it has a sum
-pub record SlotRight (g : Grammar) (p : PriceView) (lay : Layout) (h : Held) (s i l : ℕ) (what : Slot) : Type 0 where
+pub record SlotRight (g : Grammar) (p : PriceView) (lay : Layout) (h : Held) (s i l : ℕ)
+    (what : Slot) : Type 0 where
   pub least : SlotLeast g p what i l (cell lay h s i l)
   pub noted : Noted lay h s i l
 
 -- the cells before a place are right
 abbrev pub RightBefore : Grammar → PriceView → Layout → Held → ℕ → Type 0
 RightBefore g p lay h n =
-    (s i l : ℕ) (what : Slot) → slice_get lay.slots.items s ≡ Some what → InDay g.periods i l → place lay s i l < n
+    (s i l : ℕ) (what : Slot) → slice_get lay.slots.items s ≡ Some what → InDay g.periods i l
+    → place lay s i l < n
     → SlotRight g p lay h s i l what
 
 -- the cells are filled for a grammar and prices: each holds the least sum of what its slot stands for
 -- on its span, or none where there is none, and the spans of sums are noted
 abbrev pub AreFilled : Grammar → PriceView → Layout → Held → Type 0
 AreFilled g p lay h =
-    (s i l : ℕ) (what : Slot) → slice_get lay.slots.items s ≡ Some what → InDay g.periods i l → SlotRight g p lay h s i l what
+    (s i l : ℕ) (what : Slot) → slice_get lay.slots.items s ≡ Some what → InDay g.periods i l
+    → SlotRight g p lay h s i l what
 
 -- the cells can hold each least sum of a slot that is within the bound on sums
 abbrev pub FitsCells : Grammar → PriceView → Layout → (Option ℤ → Type 0) → Type 0
 FitsCells g p lay can_hold =
-    (s i l : ℕ) (what : Slot) (v : Option ℤ) → slice_get lay.slots.items s ≡ Some what → SlotLeast g p what i l v → IfSome v (Within (2 ^ 110)) → can_hold v
+    (s i l : ℕ) (what : Slot) (v : Option ℤ) → slice_get lay.slots.items s ≡ Some what
+    → SlotLeast g p what i l v → IfSome v (Within (2 ^ 110)) → can_hold v

@@ -17,7 +17,8 @@ pub record AreChainedFrom (g : Grammar) (first next : List ℕ) (n : ℕ) : Type
   pub names : length first ≡ length g.names
   pub rules : length next ≡ length g.rules
   pub begins : (x : ℕ) → x < length g.names → IsFirstRule g x n (slice_index first x)
-  pub goes : (r : ℕ) (rule : Rule) → n ≤ r → rule_at g r ≡ Some rule → IsFirstRule g rule.left (r + 1) (slice_index next (r - 1))
+  pub goes : (r : ℕ) (rule : Rule) → n ≤ r → rule_at g r ≡ Some rule
+      → IsFirstRule g rule.left (r + 1) (slice_index next (r - 1))
 
 -- all rules are chained
 abbrev pub AreChained : Grammar → Chains → Type 0

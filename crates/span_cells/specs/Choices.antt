@@ -8,7 +8,8 @@ use Rattle.roster_model.specs.Sums.{PriceView, plus, SymbolLeast, PartsLeast}
 use Rattle.tree_laws.specs.Laws.{arc_at}
 
 -- v is the sum of the least sum of a first part of this length, its arc, and the least sum of the rest
-pub record ChosenPart (g : Grammar) (p : PriceView) (r k : ℕ) (s : Sym) (xs : List Sym) (i l part : ℕ) (v : Option ℤ) : Type 0 where
+pub record ChosenPart (g : Grammar) (p : PriceView) (r k : ℕ) (s : Sym) (xs : List Sym) (i l part : ℕ)
+    (v : Option ℤ) : Type 0 where
   pub head : Option ℤ
   pub tail : Option ℤ
   pub low : 1 ≤ part

@@ -57,7 +57,8 @@ fn add_rank(
     requires ranks { length ranks.now ≡ 33 }
     ensures { OnOk result ((base : Items Use) (m : ℕ)
         → NameSlots ranks.now base slots.old names.old (IsPlaced ranks.now rank 0) m
-        → NameSlots ranks.now base slots.new names.new (IsPlaced ranks.now rank (length names.old)) (m + length names.old)) }
+        → NameSlots ranks.now base slots.new names.new (IsPlaced ranks.now rank (length names.old))
+        (m + length names.old)) }
 {
     for name in 0..names.len() {
         if ranks[name] == rank {

@@ -22,7 +22,8 @@ pub trait Cells {
     fn set(&mut self, place: usize, sum: Option<i128>)
         requires place { place < length (held self.old).sums }
         requires sum { can_hold sum }
-        ensures { held self.new ≡ record (held self.old) { sums = slice_set (held self.old).sums place sum } };
+        ensures { held self.new ≡ record (held self.old)
+            { sums = slice_set (held self.old).sums place sum } };
 
     /// Returns the spans on which slots have sums.
     fn present(&self) -> &Present
@@ -41,5 +42,6 @@ pub trait Cells {
     fn clear(&mut self)
         ensures sums { (held self.new).sums ≡ (held self.old).sums }
         ensures ends { length (held self.new).present.ends.items ≡ length (held self.old).present.ends.items }
-        ensures starts { length (held self.new).present.starts.items ≡ length (held self.old).present.starts.items };
+        ensures starts { length (held self.new).present.starts.items ≡ length
+            (held self.old).present.starts.items };
 }

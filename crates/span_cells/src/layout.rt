@@ -66,7 +66,8 @@ pub fn sum_at<C: Cells>(layout: &Layout, cells: &C, slot: usize, span: Span) -> 
     requires day { InDay layout.now.spans span.start span.len }
     requires slot { slot < length layout.now.slots.items }
     requires room { shorter layout.now.spans layout.now.spans * length layout.now.slots.items < 2 ^ 64 }
-    requires cells { length (C.held cells.now).sums ≡ shorter layout.now.spans layout.now.spans * length layout.now.slots.items }
+    requires cells { length (C.held cells.now).sums ≡ shorter layout.now.spans layout.now.spans * length
+        layout.now.slots.items }
     ensures { result ≡ cell layout.now (C.held cells.now) slot span.start span.len }
 {
     cells.sum(place_of(layout, slot, span))

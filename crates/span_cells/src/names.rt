@@ -41,7 +41,8 @@ pub fn right_least<P: LetterPrice, C: Cells>(
     requires shorter { ShorterRight grammar.now (P.view prices.now) layout.now (C.held cells.now) span.len }
     requires unit { (x : ℕ) → rule.now.right ≡ Sym.Name x ∷ []
         → NameRight grammar.now (P.view prices.now) layout.now (C.held cells.now) x span.start span.len }
-    ensures least { PartsLeast grammar.now (P.view prices.now) number 0 rule.now.right span.start span.len result }
+    ensures least { PartsLeast grammar.now (P.view prices.now) number 0 rule.now.right span.start span.len
+        result }
     ensures within { IfSome result (Within (2 ^ 110)) }
 {
     let right = rule.right.as_slice();
@@ -82,10 +83,13 @@ fn rule_least<P: LetterPrice, C: Cells>(
     requires rule { number ≤ length grammar.now.rules }
     requires left { (rule : RuleValue) → rule_at grammar.now number ≡ Some rule → rule.left ≡ name }
     requires shorter { ShorterRight grammar.now (P.view prices.now) layout.now (C.held cells.now) span.len }
-    requires later { LaterRight grammar.now (P.view prices.now) layout.now (C.held cells.now) name span.start span.len }
-    ensures least { IsLeast (λ t. On grammar.now (Sym.Name name ∷ []) span.start span.len t × (root t ≡ number))
+    requires later { LaterRight grammar.now (P.view prices.now) layout.now (C.held cells.now) name span.start
+        span.len }
+    ensures least { IsLeast (λ t. On grammar.now (Sym.Name name ∷ []) span.start span.len t
+        × (root t ≡ number))
         (tree_sum (P.view prices.now) span.start) result }
-    ensures chosen { OnSome result (ChosenRule grammar.now (P.view prices.now) name span.start span.len number result) }
+    ensures chosen { OnSome result (ChosenRule grammar.now (P.view prices.now) name span.start span.len number
+        result) }
 {
     let rule = rule_of(grammar, number);
     if !may_stand(rule, grammar.periods, span.start, span.len) {
@@ -110,9 +114,12 @@ pub fn least_rule<P: LetterPrice, C: Cells>(
     requires name { name < length grammar.now.names }
     requires day { InDay grammar.now.periods span.start span.len }
     requires shorter { ShorterRight grammar.now (P.view prices.now) layout.now (C.held cells.now) span.len }
-    requires later { LaterRight grammar.now (P.view prices.now) layout.now (C.held cells.now) name span.start span.len }
-    ensures least { SymbolLeast grammar.now (P.view prices.now) (Sym.Name name) span.start span.len result.sum }
-    ensures chosen { OnSome result.sum (ChosenRule grammar.now (P.view prices.now) name span.start span.len result.number result.sum) }
+    requires later { LaterRight grammar.now (P.view prices.now) layout.now (C.held cells.now) name span.start
+        span.len }
+    ensures least { SymbolLeast grammar.now (P.view prices.now) (Sym.Name name) span.start span.len
+        result.sum }
+    ensures chosen { OnSome result.sum (ChosenRule grammar.now (P.view prices.now) name span.start span.len
+        result.number result.sum) }
     ensures within { IfSome result.sum (Within (2 ^ 110)) }
 {
     let rules = grammar.rules.len();

@@ -94,7 +94,8 @@ fn part_least<P: LetterPrice, C: Cells>(
     requires some { 1 ≤ part }
     requires others { part < span.len }
     ensures { ChosenPart grammar.now (P.view prices.now) suffix.rule suffix.from
-        (slice_index_or rule.now.right suffix.from (Sym.Code 0)) rule.now.right span.start span.len part result }
+        (slice_index_or rule.now.right suffix.from (Sym.Code 0)) rule.now.right span.start span.len part
+        result }
 {
     let symbol = rule.right.as_slice()[suffix.from as usize];
     let next = Suffix {
@@ -144,7 +145,8 @@ pub fn least_part<P: LetterPrice, C: Cells>(
     ensures least { PartsLeast grammar.now (P.view prices.now) suffix.rule suffix.from
         (drop suffix.from rule.now.right) span.start span.len result.sum }
     ensures chosen { OnSome result.sum (ChosenPart grammar.now (P.view prices.now) suffix.rule suffix.from
-        (slice_index_or rule.now.right suffix.from (Sym.Code 0)) rule.now.right span.start span.len result.number result.sum) }
+        (slice_index_or rule.now.right suffix.from (Sym.Code 0)) rule.now.right span.start span.len
+        result.number result.sum) }
     ensures within { IfSome result.sum (Within (2 ^ 110)) }
 {
     let points = split_points(grammar, layout, cells, rule, suffix, span);

@@ -78,7 +78,8 @@ fn rest_starts<C: Cells>(
     requires some { 1 ≤ end }
     requires end { end ≤ grammar.now.periods + 1 }
     ensures { (p : PriceView) (i m : ℕ) → i + m ≡ end → Right grammar.now p layout.now (C.held cells.now) i m
-        → Has result i ⊎ PartsLeast grammar.now p suffix.rule suffix.from (drop suffix.from rule.now.right) i m None }
+        → Has result i ⊎ PartsLeast grammar.now p suffix.rule suffix.from (drop suffix.from rule.now.right) i
+        m None }
 {
     let right = rule.right.as_slice();
     let from = suffix.from as usize;
@@ -105,9 +106,11 @@ pub fn split_points<C: Cells>(
     requires day { InDay grammar.now.periods span.start span.len }
     requires rule { rule_at grammar.now suffix.rule ≡ Some rule.now }
     requires within { suffix.from + 2 ≤ length rule.now.right }
-    ensures { (p : PriceView) (m : ℕ) → ShorterRight grammar.now p layout.now (C.held cells.now) span.len → 1 ≤ m → m < span.len
+    ensures { (p : PriceView) (m : ℕ) → ShorterRight grammar.now p layout.now (C.held cells.now) span.len
+        → 1 ≤ m → m < span.len
         → Has result (span.start + m)
-        ⊎ ChosenPart grammar.now p suffix.rule suffix.from (slice_index_or rule.now.right suffix.from (Sym.Code 0))
+        ⊎ ChosenPart grammar.now p suffix.rule suffix.from
+        (slice_index_or rule.now.right suffix.from (Sym.Code 0))
         rule.now.right span.start span.len m None }
 {
     let symbol = rule.right.as_slice()[suffix.from as usize];

@@ -13,4 +13,5 @@ place_of n start len = shorter n (len - 1) + (start - 1)
 
 -- two spans of the day have different places
 abbrev pub PlacesDiffer : Type 0
-PlacesDiffer = (n i l j m : ℕ) → InDay n i l → InDay n j m → place_of n i l ≡ place_of n j m → (i ≡ j) × (l ≡ m)
+PlacesDiffer =
+    (n i l j m : ℕ) → InDay n i l → InDay n j m → place_of n i l ≡ place_of n j m → (i ≡ j) × (l ≡ m)

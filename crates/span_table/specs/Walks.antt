@@ -26,7 +26,8 @@ abbrev pub HasRoom : (Parts → Type 0) → RoomView → Type 0
 HasRoom P room = (t : Parts) → P t → length room.steps + use_count t ≤ room.most
 
 -- what is asked to write a tree of a symbol on a span
-pub record AsksTree (g : Grammar) (p : PriceView) (lay : Layout) (h : Held) (s : Sym) (i l : ℕ) (room : RoomView) : Type 0 where
+pub record AsksTree (g : Grammar) (p : PriceView) (lay : Layout) (h : Held) (s : Sym) (i l : ℕ)
+    (room : RoomView) : Type 0 where
   pub sound : IsSound g
   pub ready : IsReady g lay h
   pub filled : AreFilled g p lay h
@@ -36,7 +37,8 @@ pub record AsksTree (g : Grammar) (p : PriceView) (lay : Layout) (h : Held) (s :
   pub space : HasRoom (On g (s ∷ []) i l) room
 
 -- what is asked to write parts of a rule's right side from suffix k on, on a span
-pub record AsksParts (g : Grammar) (p : PriceView) (lay : Layout) (h : Held) (rule : Rule) (r k i l : ℕ) (room : RoomView) : Type 0 where
+pub record AsksParts (g : Grammar) (p : PriceView) (lay : Layout) (h : Held) (rule : Rule) (r k i l : ℕ)
+    (room : RoomView) : Type 0 where
   pub sound : IsSound g
   pub ready : IsReady g lay h
   pub filled : AreFilled g p lay h
@@ -49,12 +51,14 @@ pub record AsksParts (g : Grammar) (p : PriceView) (lay : Layout) (h : Held) (ru
 -- the steps of a tree of the symbol on the span, of least sum, were added
 abbrev pub WritesTree : Grammar → PriceView → Sym → ℕ → ℕ → RoomView → RoomView → Type 0
 WritesTree g p s i l old new =
-    (t : Parts) × On g (s ∷ []) i l t × SymbolLeast g p s i l (tree_sum p i t) × (new ≡ record old { steps = old.steps ++ steps i t })
+    (t : Parts) × On g (s ∷ []) i l t × SymbolLeast g p s i l (tree_sum p i t)
+    × (new ≡ record old { steps = old.steps ++ steps i t })
 
 -- the steps of parts of the symbols on the span, of least sum, were added
 abbrev pub WritesParts : Grammar → PriceView → ℕ → ℕ → List Sym → ℕ → ℕ → RoomView → RoomView → Type 0
 WritesParts g p r k ss i l old new =
-    (t : Parts) × On g ss i l t × PartsLeast g p r k ss i l (parts_sum p r k i t) × (new ≡ record old { steps = old.steps ++ steps i t })
+    (t : Parts) × On g ss i l t × PartsLeast g p r k ss i l (parts_sum p r k i t)
+    × (new ≡ record old { steps = old.steps ++ steps i t })
 
 -- How far the walk may still go down: by the length of the span, then by the slot of the name, since a
 -- one-symbol rule leads to an earlier slot. Slots are below 65,536.

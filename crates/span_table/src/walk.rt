@@ -15,7 +15,8 @@ pub fn write_tree<P: LetterPrice>(
     span: Span,
     room: &mut TreeRoom,
 )
-    requires { AsksTree grammar.now (P.view prices.now) layout.now cells.now symbol span.start span.len room.old }
+    requires { AsksTree grammar.now (P.view prices.now) layout.now cells.now symbol span.start span.len
+        room.old }
     ensures { WritesTree grammar.now (P.view prices.now) symbol span.start span.len room.old room.new }
 {
     let Sym::Name(name) = symbol else {
@@ -47,8 +48,10 @@ fn write_parts<P: LetterPrice>(
     span: Span,
     room: &mut TreeRoom,
 )
-    requires { AsksParts grammar.now (P.view prices.now) layout.now cells.now rule.now suffix.rule suffix.from span.start span.len room.old }
-    ensures { WritesParts grammar.now (P.view prices.now) suffix.rule suffix.from (drop suffix.from rule.now.right)
+    requires { AsksParts grammar.now (P.view prices.now) layout.now cells.now rule.now suffix.rule suffix.from
+        span.start span.len room.old }
+    ensures { WritesParts grammar.now (P.view prices.now) suffix.rule suffix.from
+        (drop suffix.from rule.now.right)
         span.start span.len room.old room.new }
 {
     let right = rule.right.as_slice();

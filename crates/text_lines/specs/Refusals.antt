@@ -9,7 +9,8 @@ number_of (Ok line) = line.number
 number_of (Err b) = b.line
 
 -- a line that cannot stand after the lines before it, which stand; the fault carries its number
-pub record IsFirstRefused {E S : Type 0} (step : S → Result TextLine BadByte → Result S E) (line_of : E → Option ℕ) (start : S)
+pub record IsFirstRefused {E S : Type 0} (step : S → Result TextLine BadByte → Result S E)
+    (line_of : E → Option ℕ) (start : S)
     (items : List (Result TextLine BadByte)) (e : E) : Type 0 where
   pub before : List (Result TextLine BadByte)
   pub line : Result TextLine BadByte

@@ -70,7 +70,8 @@ fn may_stand(body: &[u8]) -> bool
 // What the next line that gives something gives, the number of lines up to it, and the text after it.
 fn next_item(passed: u32, text: &[u8]) -> Option<(Result<Line<'_>, BadByte>, u32, &[u8])>
     requires { passed + length text.now < 2 ^ 32 }
-    ensures item { MatchOption result (rest_items (passed + 1) text.now ≡ []) (λ x. rest_items (passed + 1) text.now ≡ x.0 ∷ rest_items (x.1 + 1) x.2.now) }
+    ensures item { MatchOption result (rest_items (passed + 1) text.now ≡ [])
+        (λ x. rest_items (passed + 1) text.now ≡ x.0 ∷ rest_items (x.1 + 1) x.2.now) }
     ensures within { IfSome result (λ x. x.1 + length x.2.now < 2 ^ 32) }
 {
     let mut passed = passed;
@@ -105,7 +106,8 @@ impl<'a> Lines<'a> {
     /// Takes the next line that has a word or a bad byte; `None` at the end of the text. After a bad
     /// byte the next call goes on with the following line.
     pub fn next(&mut self) -> Option<Result<Line<'a>, BadByte>>
-        ensures { MatchOption result ((self.old ≡ []) × (self.new ≡ [])) (λ item. self.old ≡ item ∷ self.new) }
+        ensures { MatchOption result ((self.old ≡ []) × (self.new ≡ []))
+            (λ item. self.old ≡ item ∷ self.new) }
     {
         match next_item(self.passed, self.rest) {
             Some((item, passed, rest)) => {
@@ -121,5 +123,6 @@ impl<'a> Lines<'a> {
 /// States a law: the lines of a written text, from line `k` on, are the lines that were written,
 /// where each has a word, and no word holds a blank, a `#` or any other byte that is not printable.
 pub fn written_again()
-    ensures { (k : ℕ) (ls : List (List (List ℕ))) → list_all are_written ls ≡ true → rest_items k (written ls) ≡ numbered k ls }
+    ensures { (k : ℕ) (ls : List (List (List ℕ))) → list_all are_written ls ≡ true
+        → rest_items k (written ls) ≡ numbered k ls }
 {}

@@ -22,7 +22,8 @@ impl<'a> Model for Words<'a> {
 
 // The first word, and what follows it.
 fn first_word(bytes: &[u8]) -> Option<(&[u8], &[u8])>
-    ensures first { MatchOption result (words bytes.now ≡ []) (λ x. words bytes.now ≡ x.0.now ∷ words x.1.now) }
+    ensures first { MatchOption result (words bytes.now ≡ [])
+        (λ x. words bytes.now ≡ x.0.now ∷ words x.1.now) }
     ensures shorter { IfSome result (λ x. length x.1.now < length bytes.now) }
 {
     let (_, text) = bytes.split_at(ink_at(bytes));

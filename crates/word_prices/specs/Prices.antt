@@ -22,7 +22,8 @@ code_price g w c i = elim (slice_get g.codes c) [ None ↦ None | Some d ↦ fre
 
 -- the word's letters alone are allowed, and each rule costs what it costs
 abbrev pub word_view : Grammar → List ℕ → PriceView
-word_view g w = record { letter_at = λ c i. code_price g w c i; arc_of = λ a. pos 0; rule_of = λ r. pos (rule_cost g r) }
+word_view g w =
+    record { letter_at = λ c i. code_price g w c i; arc_of = λ a. pos 0; rule_of = λ r. pos (rule_cost g r) }
 
 -- a tree has a sum exactly where its word is this one, and the sum is the tree's cost
 pub record SumsAreCosts (g : Grammar) (w : List ℕ) : Type 0 where

@@ -16,9 +16,14 @@ free_small b (Some x) = zero_or_none (x == b)
     zero_or_none false = tt
 
 letter_small : (g : Grammar) (w : List ℕ) (c i : ℕ) → IfSome (code_price g w c i) (Within (2 ^ 96))
-letter_small g w c i = elim (slice_get g.codes c) as (λ o. IfSome (elim o [ None ↦ None | Some d ↦ free_only d.byte (letter_of w i) ]) (Within (2 ^ 96))) [ None ↦ tt | Some d ↦ free_small d.byte (letter_of w i) ]
+letter_small g w c i = elim (slice_get g.codes c) as
+    (λ o. IfSome (elim o [ None ↦ None | Some d ↦ free_only d.byte (letter_of w i) ]) (Within (2 ^ 96))) [
+      | None ↦ tt
+      | Some d ↦ free_small d.byte (letter_of w i)
+    ]
 
-pub view-small : (g : Grammar) (w : List ℕ) → ((r : ℕ) → rule_cost g r ≤ 10000) → AllWithin (2 ^ 96) (word_view g w)
+pub view-small : (g : Grammar) (w : List ℕ) → ((r : ℕ) → rule_cost g r ≤ 10000)
+    → AllWithin (2 ^ 96) (word_view g w)
 view-small g w small = record {
   letters = letter_small g w;
   arcs = λ a. record { low = omega (arith, ints); high = omega (arith, ints) };

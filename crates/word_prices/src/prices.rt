@@ -31,7 +31,8 @@ impl<'a> WordPrices<'a> {
     pub fn price(&self, name: u8, least: Option<i128>) -> Option<u64>
         requires sound { IsSound self.now.grammar.now }
         requires length { length self.now.word.now ≡ self.now.grammar.now.periods }
-        requires least { IsLeast (IsTreeOf self.now.grammar.now name) (tree_sum (word_view self.now.grammar.now self.now.word.now) 1) least }
+        requires least { IsLeast (IsTreeOf self.now.grammar.now name)
+            (tree_sum (word_view self.now.grammar.now self.now.word.now) 1) least }
         ensures { IsPriceOrNone self.now.grammar.now name self.now.word.now result }
     {
         match least {

@@ -1,6 +1,6 @@
 use Rattle.roster_model.specs.declared.instance.Prices.{Prices}
 use Rattle.roster_model.specs.PriceRooms.{price_view}
-use Rattle.roster_model.specs.RoomLaws.{view-small}
+use Rattle.roster_model.proofs.RoomWithin.{room-within}
 use Rattle.priced_part.proofs.Reducing.{least-reduced, least-small, filled-for_all}
 use Rattle.priced_part.proofs.priced.least_reduced.Goals as goal
 
@@ -13,7 +13,7 @@ pub returns-clause-within : goal.returns-clause-within
 returns-clause-within c =
     let r = c.set_parts.new.self in
     least-small c.args.instance.now.grammar c.requires.sound.grammar (price_view r)
-    (view-small r.periods r.letters.items r.rules.items r.arcs.items r.small_letters r.small_rules r.sorted_arcs r.small_arcs) c.least.result c.least.ensures.least
+    (room-within r) c.least.result c.least.ensures.least
 
 pub returns-clause-filled : goal.returns-clause-filled
 returns-clause-filled c =

@@ -1,0 +1,10 @@
+use Rattle.std.specs.Prelude.{map, string_bytes}
+use Rattle.shift_tool.specs.Form.{form_of}
+use Rattle.shift_tool.proofs.OneAnswerLemmas.{has-one-answer}
+use Rattle.shift_tool.proofs.run.run.Goals as goal
+
+pub returns-in-Explain-clause-one_answer : goal.returns-in-Explain-clause-one_answer
+returns-in-Explain-clause-one_answer g c = has-one-answer (form_of (map string_bytes c.args.words.now))
+
+pub returns-in-Check-clause-one_answer : goal.returns-in-Check-clause-one_answer
+returns-in-Check-clause-one_answer g c = has-one-answer (form_of (map string_bytes c.args.words.now))
