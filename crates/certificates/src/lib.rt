@@ -8,8 +8,6 @@ mod cert;
 mod kinds;
 mod laws;
 mod sound;
-#[cfg(test)]
-mod tests;
 mod tree;
 mod verdict;
 mod why;

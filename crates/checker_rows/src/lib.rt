@@ -2,6 +2,8 @@
 #![tactic(auto)]
 
 #[cfg(test)]
+mod chain_rows;
+#[cfg(test)]
 mod pinned_rows;
 #[cfg(test)]
 mod priced_rows;

@@ -14,8 +14,6 @@ mod fill;
 mod grammar;
 mod groups;
 mod instance;
-#[cfg(test)]
-mod instance_tests;
 mod list;
 mod memory;
 mod names;
@@ -25,8 +23,6 @@ mod prices;
 mod room;
 mod sound;
 mod sound_instance;
-#[cfg(test)]
-mod tests;
 mod unit_rules;
 
 pub use bounds::{greatest_cost, rounding_loss};

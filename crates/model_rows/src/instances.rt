@@ -1,4 +1,4 @@
-use super::{
+use roster_model::{
     ArcKey, Cell, CodeDef, Cut, Grammar, Group, Instance, LetterPrice, List, Mult, PriceRoom,
     Prices, Rule, Shift, Side, Sym, Window, covered, greatest_cost, is_sound_instance, penalty,
     rounding_loss,

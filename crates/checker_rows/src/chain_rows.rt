@@ -1,11 +1,8 @@
-use super::{Cert, Node, is_sound_cert};
-use roster_model::{
-    ArcKey, CodeDef, Grammar, Instance, List, Rule, Sym, Window, is_sound_instance,
-};
+use certificates::{Cert, Node, is_sound_cert};
+use roster_model::{ArcKey, Instance, List, Memory, is_sound_instance};
+use sample_days::{ANY, DayParts, WORK, day};
 use std::alloc::{AllocError, Global};
 use std::test::Fail;
-
-const ANY: Window = Window { lo: 1, hi: 96 };
 
 const ARC: ArcKey = ArcKey {
     rule: 1,
@@ -16,35 +13,17 @@ const ARC: ArcKey = ArcKey {
 };
 
 /// A day of one period for one employee, without demands.
-fn day(alloc: Global) -> Result<Instance, AllocError> {
-    let codes = [CodeDef {
-        byte: b'a',
-        work: true,
-    }];
-    let mut names = Vec::new(alloc);
-    names.push(List::from_vec(b"S".to_vec(alloc)?))?;
-    let mut rules = Vec::new(alloc);
-    rules.push(Rule {
-        left: 0,
-        cost: 0,
-        right: List::from_vec([Sym::Code(0)].to_vec(alloc)?),
-        span: ANY,
-        first: ANY,
-        last: ANY,
-    })?;
-    Ok(Instance {
-        grammar: Grammar {
-            periods: 1,
-            codes: List::from_vec(codes.to_vec(alloc)?),
-            names: List::from_vec(names),
-            rules: List::from_vec(rules),
-            start: 0,
-        },
-        heads_min: 0,
-        heads_max: 1,
-        groups: List::new(alloc),
-        cells: List::new(alloc),
-    })
+fn one_period(alloc: Global) -> Result<Instance, Memory> {
+    let parts = DayParts {
+        periods: 1,
+        names: &["S"],
+        rules: &[(0, 0, &[WORK], ANY)],
+        start: 0,
+        heads: (0, 1),
+        groups: &[],
+        cells: &[],
+    };
+    day(alloc, &parts)
 }
 
 /// Splits of which each is the half of few trees of the one before, and bare leaves behind them.
@@ -75,7 +54,7 @@ fn is_sound(day: &Instance, cert: &Cert) -> bool {
 #[test]
 fn a_chain_of_ten_thousand_splits(rt: HostRuntime) -> Result<(), Fail> {
     let alloc = rt.alloc();
-    let day = day(alloc)?;
+    let day = one_period(alloc)?;
     assert!(rt; is_sound(&day, &chain(alloc, 10_000, 10_001)?));
     assert!(rt; !is_sound(&day, &chain(alloc, 10_000, 10_000)?));
     Ok(())

@@ -1,4 +1,4 @@
-use super::{
+use roster_model::{
     CodeDef, Grammar, List, Rule, Step, Sym, TreeRoom, Window, is_plain, is_sound, unit_ranks,
 };
 use std::alloc::{AllocError, Global};
