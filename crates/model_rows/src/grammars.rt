@@ -1,178 +1,103 @@
-use roster_model::{
-    CodeDef, Grammar, List, Rule, Step, Sym, TreeRoom, Window, is_plain, is_sound, unit_ranks,
-};
-use std::alloc::{AllocError, Global};
+use roster_model::{CodeDef, Grammar, List, Step, Sym, TreeRoom, is_plain, is_sound, unit_ranks};
+use sample_days::{ANY, BLOCK_NAMES, BLOCKS, FULL_DAYS, RuleParts, WORK, grammar};
+use std::alloc::Global;
 use std::test::Fail;
-
-const DAY: Window = Window { lo: 1, hi: 96 };
-
-/// The parts of a grammar; a rule is its left side, its cost and its right side.
-#[derive(Clone, Copy)]
-struct Parts<'a> {
-    codes: &'a [CodeDef],
-    names: &'a [&'a str],
-    rules: &'a [(u8, u32, &'a [Sym])],
-    start: u8,
-}
-
-fn grammar(alloc: Global, periods: u8, parts: &Parts) -> Result<Grammar, AllocError> {
-    let mut names = Vec::new(alloc);
-    for name in parts.names {
-        names.push(List::from_vec(name.as_bytes().to_vec(alloc)?))?;
-    }
-    let mut rules = Vec::new(alloc);
-    for (left, cost, right) in parts.rules {
-        rules.push(Rule {
-            left: *left,
-            cost: *cost,
-            right: List::from_vec(right.to_vec(alloc)?),
-            span: DAY,
-            first: DAY,
-            last: DAY,
-        })?;
-    }
-    Ok(Grammar {
-        periods,
-        codes: List::from_vec(parts.codes.to_vec(alloc)?),
-        names: List::from_vec(names),
-        rules: List::from_vec(rules),
-        start: parts.start,
-    })
-}
-
-const A: CodeDef = CodeDef {
-    byte: b'a',
-    work: true,
-};
-
-const REST: CodeDef = CodeDef {
-    byte: b'.',
-    work: false,
-};
 
 const S: Sym = Sym::Name(0);
 
-const W: Sym = Sym::Name(1);
+const T: Sym = Sym::Name(1);
 
-const R: Sym = Sym::Name(2);
+/// A grammar of two periods by its names, rules and start, and whether it is sound.
+type Case<'a> = (&'a str, &'a [&'a str], &'a [RuleParts<'a>], u8, bool);
 
-const L: Sym = Sym::Name(3);
+const NAMES: [&'static str; 2] = ["S", "T"];
 
-const WORK: Sym = Sym::Code(0);
+const ADDED_NAMES: [&'static str; 3] = ["S", "T", "*"];
 
-const IDLE: Sym = Sym::Code(1);
+/// Both periods at 3 by parts, and a rule that leads from the added name to the first one.
+const ADDED: [RuleParts<'static>; 3] = [
+    (0, 3, &[T, T], ANY),
+    (1, 0, &[WORK], ANY),
+    (2, 0, &[S], ANY),
+];
+
+const CASES: [Case<'static>; 10] = [
+    ("as it is", &NAMES, &FULL_DAYS, 0, true),
+    ("with the added name", &ADDED_NAMES, &ADDED, 2, true),
+    ("the added name is no start", &ADDED_NAMES, &ADDED, 0, false),
+    ("the added name first", &["*", "T"], &FULL_DAYS, 0, false),
+    (
+        "out of order",
+        &NAMES,
+        &[(1, 0, &[WORK], ANY), (0, 3, &[T, T], ANY)],
+        0,
+        false,
+    ),
+    (
+        "a cycle",
+        &NAMES,
+        &[(0, 3, &[T, T], ANY), (1, 0, &[T], ANY)],
+        0,
+        false,
+    ),
+    (
+        "a name without a rule",
+        &NAMES,
+        &[(0, 3, &[T, T], ANY)],
+        0,
+        false,
+    ),
+    ("a name twice", &["S", "S"], &FULL_DAYS, 0, false),
+    ("a word of the windows", &["S", "len"], &FULL_DAYS, 0, false),
+    ("no such start", &NAMES, &FULL_DAYS, 2, false),
+];
+
+/// Whether the grammar is as sound as it is said to be.
+fn is_right(alloc: Global, case: &Case) -> Result<bool, Fail> {
+    let (_, names, rules, start, sound) = case;
+    let grammar = grammar(alloc, 2, names, rules, *start)?;
+    Ok(is_sound(&grammar) == *sound)
+}
 
 #[test]
 fn grammars_are_sound_up_to_one_change(rt: HostRuntime) -> Result<(), Fail> {
-    let plain = Parts {
-        codes: &[A],
-        names: &["S", "T"],
-        rules: &[(0, 5, &[WORK, WORK]), (0, 3, &[W, W]), (1, 0, &[WORK])],
-        start: 0,
-    };
-    let added = Parts {
-        names: &["S", "T", "*"],
-        rules: &[(0, 3, &[W, W]), (1, 0, &[WORK]), (2, 0, &[S])],
-        start: 2,
-        ..plain
-    };
-    let cases = [
-        ("as it is", plain, true),
-        ("with the added name", added, true),
-        (
-            "the added name is no start",
-            Parts { start: 0, ..added },
-            false,
-        ),
-        (
-            "the added name first",
-            Parts {
-                names: &["*", "T"],
-                ..plain
-            },
-            false,
-        ),
-        (
-            "out of order",
-            Parts {
-                rules: &[(1, 0, &[WORK]), (0, 3, &[W, W])],
-                ..plain
-            },
-            false,
-        ),
-        (
-            "a cycle",
-            Parts {
-                rules: &[(0, 3, &[W, W]), (1, 0, &[W])],
-                ..plain
-            },
-            false,
-        ),
-        (
-            "a name without a rule",
-            Parts {
-                rules: &[(0, 3, &[W, W])],
-                ..plain
-            },
-            false,
-        ),
-        (
-            "a name twice",
-            Parts {
-                names: &["S", "S"],
-                ..plain
-            },
-            false,
-        ),
-        (
-            "a word of the windows",
-            Parts {
-                names: &["S", "len"],
-                ..plain
-            },
-            false,
-        ),
-        (
-            "a code twice",
-            Parts {
-                codes: &[A, A],
-                ..plain
-            },
-            false,
-        ),
-        ("no such start", Parts { start: 2, ..plain }, false),
-    ];
-    for (what, parts, sound) in &cases {
-        let grammar = grammar(rt.alloc(), 2, parts)?;
-        assert_eq!(rt; is_sound(&grammar), *sound, "{what}");
+    for case in CASES.as_slice() {
+        assert!(rt; is_right(rt.alloc(), case)?, "{}", case.0);
     }
     Ok(())
 }
 
 #[test]
-fn a_day_of_four_periods(rt: HostRuntime) -> Result<(), Fail> {
-    let parts = Parts {
-        codes: &[A, REST],
-        names: &["S", "W", "R", "A"],
-        rules: &[
-            (0, 0, &[W]),
-            (0, 0, &[R, W]),
-            (0, 0, &[W, R]),
-            (0, 0, &[R, W, R]),
-            (1, 2, &[L]),
-            (3, 1, &[WORK]),
-            (3, 1, &[WORK, L]),
-            (2, 0, &[IDLE]),
-            (2, 0, &[IDLE, R]),
-        ],
-        start: 0,
+fn a_code_stands_once(rt: HostRuntime) -> Result<(), Fail> {
+    let work = CodeDef {
+        byte: b'a',
+        work: true,
     };
-    let grammar = grammar(rt.alloc(), 4, &parts)?;
+    let mut grammar = grammar(rt.alloc(), 2, &NAMES, &FULL_DAYS, 0)?;
+    grammar.codes = List::from_vec([work, work].to_vec(rt.alloc())?);
+    assert!(rt; !is_sound(&grammar));
+    Ok(())
+}
+
+/// One block of work on four periods.
+fn blocks(alloc: Global) -> Result<Grammar, Fail> {
+    Ok(grammar(alloc, 4, &BLOCK_NAMES, &BLOCKS, 0)?)
+}
+
+#[test]
+fn ranks_of_one_symbol_rules(rt: HostRuntime) -> Result<(), Fail> {
+    let grammar = blocks(rt.alloc())?;
     assert!(rt; is_plain(&grammar));
     assert!(rt; is_sound(&grammar));
     let ranks = unit_ranks(&grammar).ok().ok_or("a cycle")?;
     assert_eq!(rt; &ranks[..4], [0, 1, 0, 2].as_slice());
+    Ok(())
+}
 
+#[test]
+fn a_room_holds_steps(rt: HostRuntime) -> Result<(), Fail> {
+    let grammar = blocks(rt.alloc())?;
+    assert!(rt; is_sound(&grammar));
     let mut room = TreeRoom::for_grammar(rt.alloc(), &grammar)?;
     let root = Step {
         rule: 1,

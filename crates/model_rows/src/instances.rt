@@ -1,46 +1,10 @@
 use roster_model::{
-    ArcKey, Cell, CodeDef, Cut, Grammar, Group, Instance, LetterPrice, List, Mult, PriceRoom,
-    Prices, Rule, Shift, Side, Sym, Window, covered, greatest_cost, is_sound_instance, penalty,
-    rounding_loss,
+    ArcKey, Cell, Cut, Group, Instance, LetterPrice, List, Memory, Mult, PriceRoom, Prices, Rule,
+    Shift, Side, Sym, covered, greatest_cost, is_sound_instance, penalty, rounding_loss,
 };
+use sample_days::{ANY, BLOCK_NAMES, BLOCKS, DayParts, day};
 use std::alloc::{AllocError, Global};
 use std::test::Fail;
-
-const DAY: Window = Window { lo: 1, hi: 96 };
-
-const WORK: Sym = Sym::Code(0);
-
-const IDLE: Sym = Sym::Code(1);
-
-const W: Sym = Sym::Name(1);
-
-const R: Sym = Sym::Name(2);
-
-const A: Sym = Sym::Name(3);
-
-const CODES: [CodeDef; 2] = [
-    CodeDef {
-        byte: b'a',
-        work: true,
-    },
-    CodeDef {
-        byte: b'.',
-        work: false,
-    },
-];
-
-/// Work of one stretch with rest before, after or on both sides.
-const RULES: [(u8, u32, &[Sym]); 9] = [
-    (0, 0, &[W]),
-    (0, 0, &[R, W]),
-    (0, 0, &[W, R]),
-    (0, 0, &[R, W, R]),
-    (1, 2, &[A]),
-    (3, 1, &[WORK]),
-    (3, 1, &[WORK, A]),
-    (2, 0, &[IDLE]),
-    (2, 0, &[IDLE, R]),
-];
 
 const CELL: Cell = Cell {
     code: 0,
@@ -56,6 +20,10 @@ const SECOND: Cell = Cell { period: 2, ..CELL };
 
 const THIRD: Cell = Cell { period: 3, ..CELL };
 
+const IDLE: Cell = Cell { code: 1, ..CELL };
+
+const SECOND_IDLE: Cell = Cell { period: 2, ..IDLE };
+
 const WORKERS: Group = Group {
     name: 1,
     heads_min: 0,
@@ -68,228 +36,230 @@ const RESTERS: Group = Group {
     heads_max: 2,
 };
 
-/// The parts of an instance. With groups the grammar is extended by rules to the names `leads`.
-#[derive(Clone, Copy)]
-struct Parts<'a> {
-    periods: u8,
-    heads: (u32, u32),
-    groups: &'a [Group],
-    leads: &'a [u8],
-    cells: &'a [Cell],
-}
-
-fn rule(alloc: Global, left: u8, cost: u32, right: &[Sym]) -> Result<Rule, AllocError> {
-    Ok(Rule {
-        left,
-        cost,
-        right: List::from_vec(right.to_vec(alloc)?),
-        span: DAY,
-        first: DAY,
-        last: DAY,
-    })
-}
-
-fn instance(alloc: Global, parts: &Parts) -> Result<Instance, AllocError> {
-    let mut names = Vec::new(alloc);
-    for name in ["S", "W", "R", "A"] {
-        names.push(List::from_vec(name.as_bytes().to_vec(alloc)?))?;
-    }
-    let mut rules = Vec::new(alloc);
-    for (left, cost, right) in RULES {
-        rules.push(rule(alloc, left, cost, right)?)?;
-    }
-    if !parts.leads.is_empty() {
-        names.push(List::from_vec(b"*".as_slice().to_vec(alloc)?))?;
-    }
-    for name in parts.leads {
-        rules.push(rule(alloc, 4, 0, &[Sym::Name(*name)])?)?;
-    }
-    Ok(Instance {
-        grammar: Grammar {
-            periods: parts.periods,
-            codes: List::from_vec(CODES.as_slice().to_vec(alloc)?),
-            names: List::from_vec(names),
-            rules: List::from_vec(rules),
-            start: if parts.leads.is_empty() { 0 } else { 4 },
-        },
-        heads_min: parts.heads.0,
-        heads_max: parts.heads.1,
-        groups: List::from_vec(parts.groups.to_vec(alloc)?),
-        cells: List::from_vec(parts.cells.to_vec(alloc)?),
-    })
-}
-
-const PLAIN: Parts<'static> = Parts {
+/// One block of work on two periods.
+const PLAIN: DayParts<'static> = DayParts {
     periods: 2,
+    names: &BLOCK_NAMES,
+    rules: &BLOCKS,
+    start: 0,
     heads: (1, 2),
     groups: &[],
-    leads: &[],
     cells: &[CELL, SECOND],
 };
 
-const GROUPED: Parts<'static> = Parts {
-    periods: 2,
+const GROUPED: DayParts<'static> = DayParts {
     heads: (1, 3),
     groups: &[WORKERS, RESTERS],
-    leads: &[1, 2],
-    cells: &[CELL, SECOND],
+    ..PLAIN
 };
+
+/// An instance by its parts and the names to which the added name leads, and whether it is sound.
+type Case<'a> = (&'a str, DayParts<'a>, &'a [u8], bool);
+
+const CASES: [Case<'static>; 14] = [
+    ("plain", PLAIN, &[], true),
+    (
+        "no demand",
+        DayParts {
+            cells: &[],
+            ..PLAIN
+        },
+        &[],
+        true,
+    ),
+    (
+        "a period missing",
+        DayParts {
+            cells: &[CELL],
+            ..PLAIN
+        },
+        &[],
+        false,
+    ),
+    (
+        "periods out of order",
+        DayParts {
+            cells: &[SECOND, CELL],
+            ..PLAIN
+        },
+        &[],
+        false,
+    ),
+    (
+        "a code twice",
+        DayParts {
+            cells: &[CELL, SECOND, CELL, SECOND],
+            ..PLAIN
+        },
+        &[],
+        false,
+    ),
+    (
+        "an idle code",
+        DayParts {
+            cells: &[IDLE, SECOND_IDLE],
+            ..PLAIN
+        },
+        &[],
+        false,
+    ),
+    (
+        "two costs",
+        DayParts {
+            cells: &[CELL, Cell { over: 4, ..SECOND }],
+            ..PLAIN
+        },
+        &[],
+        false,
+    ),
+    (
+        "heads in no order",
+        DayParts {
+            heads: (3, 2),
+            ..PLAIN
+        },
+        &[],
+        false,
+    ),
+    (
+        "nobody",
+        DayParts {
+            heads: (0, 0),
+            ..PLAIN
+        },
+        &[],
+        false,
+    ),
+    ("grouped", GROUPED, &[1, 2], true),
+    (
+        "other sums",
+        DayParts {
+            heads: (0, 3),
+            ..GROUPED
+        },
+        &[1, 2],
+        false,
+    ),
+    ("other rules", GROUPED, &[2, 1], false),
+    (
+        "one name twice",
+        DayParts {
+            groups: &[WORKERS, WORKERS],
+            heads: (0, 2),
+            ..GROUPED
+        },
+        &[1, 1],
+        false,
+    ),
+    (
+        "the added name alone",
+        DayParts {
+            groups: &[],
+            ..GROUPED
+        },
+        &[1, 2],
+        false,
+    ),
+];
+
+/// The rule by which the added name leads to a name.
+fn lead(alloc: Global, name: u8) -> Result<Rule, AllocError> {
+    Ok(Rule {
+        left: 4,
+        cost: 0,
+        right: List::from_vec([Sym::Name(name)].to_vec(alloc)?),
+        span: ANY,
+        first: ANY,
+        last: ANY,
+    })
+}
+
+/// Adds the name that leads to these names, where there are some, as the start.
+fn extend(alloc: Global, day: &mut Instance, leads: &[u8]) -> Result<(), Fail> {
+    if leads.is_empty() {
+        return Ok(());
+    }
+    let name = List::from_vec(b"*".as_slice().to_vec(alloc)?);
+    day.grammar.names.push(name)?;
+    for name in leads {
+        day.grammar.rules.push(lead(alloc, *name)?)?;
+    }
+    day.grammar.start = 4;
+    Ok(())
+}
+
+/// Whether the instance is as sound as it is said to be.
+fn is_right(alloc: Global, case: &Case) -> Result<bool, Fail> {
+    let (_, parts, leads, sound) = case;
+    let mut day = day(alloc, parts)?;
+    extend(alloc, &mut day, leads)?;
+    Ok(is_sound_instance(&day) == *sound)
+}
 
 #[test]
 fn instances_are_sound_up_to_one_change(rt: HostRuntime) -> Result<(), Fail> {
-    let idle = Cell { code: 1, ..CELL };
-    let cases = [
-        ("plain", PLAIN, true),
-        (
-            "no demand",
-            Parts {
-                cells: &[],
-                ..PLAIN
-            },
-            true,
-        ),
-        (
-            "a period missing",
-            Parts {
-                cells: &[CELL],
-                ..PLAIN
-            },
-            false,
-        ),
-        (
-            "periods out of order",
-            Parts {
-                cells: &[SECOND, CELL],
-                ..PLAIN
-            },
-            false,
-        ),
-        (
-            "a code twice",
-            Parts {
-                cells: &[CELL, SECOND, CELL, SECOND],
-                ..PLAIN
-            },
-            false,
-        ),
-        (
-            "an idle code",
-            Parts {
-                cells: &[idle, Cell { period: 2, ..idle }],
-                ..PLAIN
-            },
-            false,
-        ),
-        (
-            "two costs",
-            Parts {
-                cells: &[CELL, Cell { over: 4, ..SECOND }],
-                ..PLAIN
-            },
-            false,
-        ),
-        (
-            "heads in no order",
-            Parts {
-                heads: (3, 2),
-                ..PLAIN
-            },
-            false,
-        ),
-        (
-            "nobody",
-            Parts {
-                heads: (0, 0),
-                ..PLAIN
-            },
-            false,
-        ),
-        ("grouped", GROUPED, true),
-        (
-            "other sums",
-            Parts {
-                heads: (0, 3),
-                ..GROUPED
-            },
-            false,
-        ),
-        (
-            "other rules",
-            Parts {
-                leads: &[2, 1],
-                ..GROUPED
-            },
-            false,
-        ),
-        (
-            "one name twice",
-            Parts {
-                groups: &[WORKERS, WORKERS],
-                leads: &[1, 1],
-                heads: (0, 2),
-                ..GROUPED
-            },
-            false,
-        ),
-        (
-            "the added name alone",
-            Parts {
-                groups: &[],
-                ..GROUPED
-            },
-            false,
-        ),
-    ];
-    for (what, parts, sound) in &cases {
-        let instance = instance(rt.alloc(), parts)?;
-        assert_eq!(rt; is_sound_instance(&instance), *sound, "{what}");
+    for case in CASES.as_slice() {
+        assert!(rt; is_right(rt.alloc(), case)?, "{}", case.0);
     }
     Ok(())
 }
 
 #[test]
-fn costs_by_hand(rt: HostRuntime) -> Result<(), Fail> {
+fn penalties_by_hand(rt: HostRuntime) {
     for (count, cost) in [(0, 20), (1, 10), (2, 0), (3, 3), (4, 6)] {
         assert_eq!(rt; penalty(&Cell { need: 2, ..CELL }, count), cost);
     }
-    let one = Parts {
+}
+
+#[test]
+fn the_greatest_cost_by_hand(rt: HostRuntime) -> Result<(), Fail> {
+    let parts = DayParts {
         periods: 1,
         cells: &[CELL],
         ..PLAIN
     };
-    let one = instance(rt.alloc(), &one)?;
+    let one = day(rt.alloc(), &parts)?;
     assert!(rt; is_sound_instance(&one));
     assert_eq!(rt; greatest_cost(&one), 26);
+    Ok(())
+}
 
-    let three = Parts {
+#[test]
+fn rounding_losses_by_hand(rt: HostRuntime) -> Result<(), Fail> {
+    let parts = DayParts {
         periods: 3,
         heads: (0, 3),
         cells: &[CELL, SECOND, THIRD],
         ..PLAIN
     };
-    let three = instance(rt.alloc(), &three)?;
+    let three = day(rt.alloc(), &parts)?;
     assert!(rt; is_sound_instance(&three));
     assert_eq!(rt; rounding_loss(&three, 0), 18);
     assert_eq!(rt; rounding_loss(&three, 2), 30);
     Ok(())
 }
 
+fn shifts(alloc: Global, words: &[&str]) -> Result<Vec<Shift>, AllocError> {
+    let mut shifts = Vec::new(alloc);
+    for word in words {
+        shifts.push(Shift {
+            group: 0,
+            word: List::from_vec(word.as_bytes().to_vec(alloc)?),
+            price: 5,
+        })?;
+    }
+    Ok(shifts)
+}
+
 #[test]
 fn coverage_of_words(rt: HostRuntime) -> Result<(), Fail> {
-    let four = Parts {
+    let parts = DayParts {
         periods: 4,
         cells: &[],
         ..PLAIN
     };
-    let grammar = instance(rt.alloc(), &four)?.grammar;
-    let mut shifts = Vec::new(rt.alloc());
-    for word in [".aaa", "aaa.", "a"] {
-        shifts.push(Shift {
-            group: 0,
-            word: List::from_vec(word.as_bytes().to_vec(rt.alloc())?),
-            price: 5,
-        })?;
-    }
+    let grammar = day(rt.alloc(), &parts)?.grammar;
+    let shifts = shifts(rt.alloc(), &[".aaa", "aaa.", "a"])?;
     assert_eq!(rt; shifts.len(), 3);
     assert!(rt; grammar.periods == 4 && !grammar.codes.is_empty());
     for (period, count) in [(1, 2), (2, 2), (3, 2), (4, 1)] {
@@ -300,15 +270,18 @@ fn coverage_of_words(rt: HostRuntime) -> Result<(), Fail> {
     Ok(())
 }
 
+/// A day of two periods without demand.
+fn free_day(alloc: Global) -> Result<Instance, Memory> {
+    let parts = DayParts {
+        cells: &[],
+        ..PLAIN
+    };
+    day(alloc, &parts)
+}
+
 #[test]
 fn a_room_holds_the_last_prices(rt: HostRuntime) -> Result<(), Fail> {
-    let day = instance(
-        rt.alloc(),
-        &Parts {
-            cells: &[],
-            ..PLAIN
-        },
-    )?;
+    let day = free_day(rt.alloc())?;
     assert!(rt; is_sound_instance(&day));
     assert!(rt; day.cells.is_empty());
     let mut room = PriceRoom::for_cuts(rt.alloc(), &day, 1)?;
