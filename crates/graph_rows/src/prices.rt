@@ -101,7 +101,7 @@ pub struct Rooms {
 
 fn rooms_for(alloc: Global, grammar: &Grammar, graph: &Graph) -> Result<Rooms, Fail>
     requires { IsSound grammar.now }
-    ensures { IfOk result (AreMadeFor grammar.now graph.now) }
+    ensures { IfOk result (λ r. AreMadeFor grammar.now graph.now r.pricer r.tree) }
 {
     let pricer = Pricer::new(alloc, graph)?;
     let tree = TreeRoom::for_grammar(alloc, grammar)?;
@@ -117,8 +117,8 @@ fn write_cheapest<P: LetterPrice>(
 ) -> Option<i128>
     requires sound { IsSound grammar.now }
     requires graph { IsGraph grammar.now graph.now }
-    requires made { AreMadeFor grammar.now graph.now rooms.old }
-    ensures { AreMadeFor grammar.now graph.now rooms.new }
+    requires made { AreMadeFor grammar.now graph.now rooms.old.pricer rooms.old.tree }
+    ensures { AreMadeFor grammar.now graph.now rooms.new.pricer rooms.new.tree }
 {
     let least = rooms.pricer.cheapest(graph, prices)?;
     rooms.pricer.tree(graph, prices, &mut rooms.tree);

@@ -7,5 +7,5 @@ abbrev pub invariant-loop-cell : goal.invariant-loop-cell
 invariant-loop-cell g l = record {
   prices : IsRoomFor l.prices l.day;
   most : l.prices.most ≡ 1;
-  rooms : AreMadeFor l.day.grammar l.graph l.rooms;
+  rooms : AreMadeFor l.day.grammar l.graph l.rooms.pricer l.rooms.tree;
 }

@@ -8,7 +8,7 @@ abbrev pub invariant-loop-arc : goal.invariant-loop-arc
 invariant-loop-arc g l = record {
   prices : IsRoomFor l.prices l.day;
   most : l.prices.most ≡ 1;
-  rooms : AreMadeFor l.day.grammar l.graph l.rooms;
+  rooms : AreMadeFor l.day.grammar l.graph l.rooms.pricer l.rooms.tree;
   table : IsTableFor l.day.grammar l.table;
   seed : l.a < 2 ^ 31;
 }
