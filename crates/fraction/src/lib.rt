@@ -19,7 +19,7 @@ mod wide;
 pub use addition::{add, sub};
 pub use budget::Budget;
 pub use checked::{fits, product, scaled, sum};
-pub use divisors::gcd;
+pub use divisors::{gcd, gcd_unsigned};
 pub use frac::{Frac, compare};
 pub use multiplication::{div, mul};
 pub use row::row_step;
