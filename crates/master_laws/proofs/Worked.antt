@@ -1,0 +1,217 @@
+-- The master of the worked day.
+use lib.IntN.{*ℤ_comm}
+use Rattle.std.proofs.Common.{true≢false, Bool, true, false, ◌≡◌, ℕ, ℤ, zero, suc, arith, pos, negsuc, ◌*ℤ◌, ◌≤ℤ◌, ◌<◌, Option, None, Some, List, [], ◌∷◌, length, refl, sym, ap, ◌∙◌, subst, ◌⊎◌, inl, inr}
+use Rattle.std.proofs.lemmas.Int.{ints}
+use Rattle.roster_model.specs.declared.grammar.Rule.{Rule}
+use Rattle.roster_model.specs.declared.grammar.Sym.TheVariants.{Code}
+use Rattle.roster_model.specs.Grammar.{rule_at, Stands}
+use Rattle.roster_model.specs.Trees.{Parts, done, letter, uses, Derive, IsDayTree}
+use Rattle.roster_model.specs.Folds.{sum_z, Each}
+use Rattle.roster_model.specs.Arcs.{cost}
+use Rattle.linear_programs.specs.Sums.{dot}
+use Rattle.linear_programs.specs.Solution.{Weighted, IsSolution, IsValue, cost_of, brought}
+use Rattle.linear_programs.proofs.Duality.{weak_duality}
+use Rattle.bound_laws.specs.BestPrices.{artificial_cost}
+use Rattle.master_laws.specs.Rows.{Row, rows_of, number_at}
+use Rattle.master_laws.specs.Master.{MasterKey, missing, beyond, tree, program_of, master}
+use Rattle.master_laws.specs.Worked.{shift_rule, day, first, second, third, none, some, WorkedMaster}
+use Rattle.master_laws.proofs.RowSums.{RowPrice, rows_in, price_at, worth, IsGood, priced_out, listed_dot}
+
+-- ---- the trees of the day
+code_rule : (r : ℕ) (rule : Rule) → rule_at day.grammar r ≡ Some rule → ((r ≡ 1) × (rule ≡ shift_rule 0 0 1)) ⊎ ((r ≡ 2) × (rule ≡ shift_rule 1 0 0)) ⊎ ((r ≡ 3) × (rule ≡ shift_rule 0 1 0))
+code_rule zero rule e = absurd (none_some e)
+  where
+    none_some : ◌≡◌ {A = Option Rule} None (Some rule) → ⊥
+    none_some e = true≢false (sym (ap (λ (o : Option Rule). elim o as (λ v. Bool) [ None ↦ false | Some v ↦ true ]) e))
+code_rule (suc zero) rule e = inl (refl, sym (is e))
+  where
+    is : ◌≡◌ {A = Option Rule} (Some (shift_rule 0 0 1)) (Some rule) → shift_rule 0 0 1 ≡ rule
+    is e = ap (λ (o : Option Rule). elim o as (λ v. Rule) [ None ↦ rule | Some v ↦ v ]) e
+code_rule (suc (suc zero)) rule e = inr (inl (refl, sym (is e)))
+  where
+    is : ◌≡◌ {A = Option Rule} (Some (shift_rule 1 0 0)) (Some rule) → shift_rule 1 0 0 ≡ rule
+    is e = ap (λ (o : Option Rule). elim o as (λ v. Rule) [ None ↦ rule | Some v ↦ v ]) e
+code_rule (suc (suc (suc zero))) rule e = inr (inr (refl, sym (is e)))
+  where
+    is : ◌≡◌ {A = Option Rule} (Some (shift_rule 0 1 0)) (Some rule) → shift_rule 0 1 0 ≡ rule
+    is e = ap (λ (o : Option Rule). elim o as (λ v. Rule) [ None ↦ rule | Some v ↦ v ]) e
+code_rule (suc (suc (suc (suc r)))) rule e = absurd (cc)
+
+three : (a b c i : ℕ) (t : Parts) → Derive day.grammar (Code a ∷ Code b ∷ Code c ∷ []) i t → t ≡ letter a (letter b (letter c done))
+three a b c i done d = absurd d
+three a b c i (uses r n inner rest) d = absurd d
+three a b c i (letter x done) d = absurd d.1
+three a b c i (letter x (uses r n inner rest)) d = absurd d.1
+three a b c i (letter x (letter y done)) d = absurd d.1.1
+three a b c i (letter x (letter y (uses r n inner rest))) d = absurd d.1.1
+three a b c i (letter x (letter y (letter z (letter u rest)))) d = absurd d.1.1.1
+three a b c i (letter x (letter y (letter z (uses r n inner rest)))) d = absurd d.1.1.1
+three a b c i (letter x (letter y (letter z done))) d = rw (d.0, d.1.0, d.1.1.0) refl
+
+is_tree : (t : Parts) → IsDayTree day.grammar t → (t ≡ first) ⊎ (t ≡ second) ⊎ (t ≡ third)
+is_tree done d = absurd d.0
+is_tree (letter c rest) d = absurd d.0
+is_tree (uses r n inner (letter c rest)) d = absurd d.0.7
+is_tree (uses r n inner (uses q m inner' rest)) d = absurd d.0.7
+is_tree (uses r n inner done) d = by (code_rule r d.0.0 d.0.1)
+  where
+    len : n ≡ 3
+    len = let e = d.1 in omega arith
+
+    inner_is : (a b c : ℕ) → d.0.0 ≡ shift_rule a b c → inner ≡ letter a (letter b (letter c done))
+    inner_is a b c e = three a b c 1 inner (subst (λ (rule : Rule). Derive day.grammar rule.right 1 inner) e d.0.6)
+
+    by : ((r ≡ 1) × (d.0.0 ≡ shift_rule 0 0 1)) ⊎ ((r ≡ 2) × (d.0.0 ≡ shift_rule 1 0 0)) ⊎ ((r ≡ 3) × (d.0.0 ≡ shift_rule 0 1 0)) → (uses r n inner done ≡ first) ⊎ (uses r n inner done ≡ second) ⊎ (uses r n inner done ≡ third)
+    by (inl h) = inl (rw (h.0, len, inner_is 0 0 1 h.1) refl)
+    by (inr (inl h)) = inr (inl (rw (h.0, len, inner_is 1 0 0 h.1) refl))
+    by (inr (inr h)) = inr (inr (rw (h.0, len, inner_is 0 1 0 h.1) refl))
+
+stands : (a b c : ℕ) → Stands 3 (shift_rule a b c) 1 3
+stands a b c = record { within = omega arith; span = (omega arith, omega arith); first = (omega arith, omega arith); last = (omega arith, omega arith) }
+
+day_first : IsDayTree day.grammar first
+day_first = ((shift_rule 0 0 1, refl, refl, stands 0 0 1, omega arith, refl, (refl, (refl, (refl, tt))), tt), refl)
+
+day_second : IsDayTree day.grammar second
+day_second = ((shift_rule 1 0 0, refl, refl, stands 1 0 0, omega arith, refl, (refl, (refl, (refl, tt))), tt), refl)
+
+day_third : IsDayTree day.grammar third
+day_third = ((shift_rule 0 1 0, refl, refl, stands 0 1 0, omega arith, refl, (refl, (refl, (refl, tt))), tt), refl)
+
+-- ---- prices of rows
+pub priced_rows : List Row → List ℤ → List RowPrice
+priced_rows [] ps = []
+priced_rows (x ∷ rows) [] = record { row = x; price = pos 0 } ∷ priced_rows rows []
+priced_rows (x ∷ rows) (p ∷ ps) = record { row = x; price = p } ∷ priced_rows rows ps
+
+priced_rows-are : (rows : List Row) (ps : List ℤ) → rows_in (priced_rows rows ps) ≡ rows
+unfolding priced_rows
+priced_rows-are [] ps = refl
+priced_rows-are (x ∷ rows) [] = ap (λ (xs : List Row). x ∷ xs) (priced_rows-are rows [])
+priced_rows-are (x ∷ rows) (p ∷ ps) = ap (λ (xs : List Row). x ∷ xs) (priced_rows-are rows ps)
+
+-- what the prices pay a tree is at most its cost
+abbrev pays : List RowPrice → Parts → Type 0
+pays xs t = sum_z (worth (λ x. pos (x.brings t))) xs ≤ℤ (pos 1 *ℤ pos (cost day.grammar t))
+
+module _ (xs : List RowPrice) (good : Each (IsGood (artificial_cost day) (pos 1)) xs) (one : pays xs first) (two : pays xs second) (three : pays xs third) where
+  pay_all : (t : Parts) → IsDayTree day.grammar t → pays xs t
+  pay_all t d = by (is_tree t d)
+    where
+      by : (t ≡ first) ⊎ (t ≡ second) ⊎ (t ≡ third) → pays xs t
+      by (inl e) = subst (pays xs) (sym e) one
+      by (inr (inl e)) = subst (pays xs) (sym e) two
+      by (inr (inr e)) = subst (pays xs) (sym e) three
+
+  -- a solution whose cost the prices tell is one of least cost
+  value_of : (v : ℤ) (ws : List (Weighted MasterKey)) (q : ℕ) → IsSolution (program_of day (rows_in xs)) ws q → cost_of (program_of day (rows_in xs)).column ws *ℤ pos 1 ≡ v *ℤ pos q
+      → sum_z (worth (λ (x : Row). pos x.right)) xs ≡ v → IsValue (program_of day (rows_in xs)) v 1
+  value_of v ws q s c e = record {
+    positive = omega arith;
+    reached = (ws, q, s, c);
+    least = λ vs d t.
+        let w = weak_duality (program_of day (rows_in xs)) (price_at xs) (pos 1) (priced_out day (pos 1) xs good pay_all) vs d t in
+        let f = listed_dot (λ (x : Row). pos x.right) xs in
+        finish v (dot (length (rows_in xs)) (price_at xs) (number_at (λ (x : Row). pos x.right) (rows_in xs))) (cost_of (program_of day (rows_in xs)).column vs) d (f ∙ e) w;
+  }
+    where
+      finish : (v V C : ℤ) (d : ℕ) → V ≡ v → (pos d *ℤ V) ≤ℤ (pos 1 *ℤ C) → (v *ℤ pos d) ≤ℤ (C *ℤ pos 1)
+      finish v V C d e h =
+          let a = *ℤ_comm v (pos d) in
+          let b = *ℤ_comm C (pos 1) in
+          let c : pos d *ℤ V ≡ pos d *ℤ v = ap (λ (z : ℤ). pos d *ℤ z) e in
+          omega (arith, ints)
+
+abbrev of : MasterKey → ℕ → Weighted MasterKey
+of k n = record { weight = n; key = k }
+
+-- a number below 5, or below 6
+below_five : (P : ℕ → Type 0) → P 0 → P 1 → P 2 → P 3 → P 4 → (i : ℕ) → i < 5 → P i
+below_five P a b c d e zero h = a
+below_five P a b c d e (suc zero) h = b
+below_five P a b c d e (suc (suc zero)) h = c
+below_five P a b c d e (suc (suc (suc zero))) h = d
+below_five P a b c d e (suc (suc (suc (suc zero)))) h = e
+below_five P a b c d e (suc (suc (suc (suc (suc i))))) h = absurd (omega arith)
+
+below_six : (P : ℕ → Type 0) → P 0 → P 1 → P 2 → P 3 → P 4 → P 5 → (i : ℕ) → i < 6 → P i
+below_six P a b c d e f zero h = a
+below_six P a b c d e f (suc i) h = below_five (λ j. P (suc j)) b c d e f i (omega arith)
+
+-- ---- the root
+root_prices : List RowPrice
+root_prices = priced_rows (rows_of day []) (pos 1 ∷ pos 1 ∷ pos 1 ∷ pos 0 ∷ pos 0 ∷ [])
+
+root_weights : List (Weighted MasterKey)
+root_weights = of (tree first) 1 ∷ of (tree second) 1 ∷ of (tree third) 1 ∷ of (beyond 3) 3 ∷ of (missing 4) 3 ∷ []
+
+root_solution : IsSolution (master day []) root_weights 2
+unfolding root_weights
+root_solution = record {
+  positive = omega arith;
+  columns = (day_first, (day_second, (day_third, (refl, (omega arith, tt)))));
+  meets = below_five (λ i. brought (master day []).column root_weights i ≡ pos 2 *ℤ (master day []).right i) refl refl refl refl refl;
+}
+
+root_good : Each (IsGood (artificial_cost day) (pos 1)) root_prices
+unfolding root_prices priced_rows
+root_good = ((omega (arith, ints), omega (arith, ints)), ((omega (arith, ints), omega (arith, ints)), ((omega (arith, ints), omega (arith, ints)), ((omega (arith, ints), omega (arith, ints)), (omega (arith, ints), tt)))))
+
+root_value : IsValue (program_of day (rows_in root_prices)) (pos 3) 1
+unfolding root_prices priced_rows root_weights
+root_value = value_of root_prices root_good (omega (arith, ints)) (omega (arith, ints)) (omega (arith, ints)) (pos 3) root_weights 2 root_solution refl refl
+
+-- ---- few of the first shift
+low_prices : List RowPrice
+low_prices = priced_rows (rows_of day none) (pos 2 ∷ pos 2 ∷ pos 0 ∷ pos 0 ∷ pos 0 ∷ negsuc 1 ∷ [])
+
+low_weights : List (Weighted MasterKey)
+low_weights = of (tree second) 1 ∷ of (tree third) 1 ∷ of (beyond 2) 1 ∷ of (beyond 3) 2 ∷ of (missing 4) 1 ∷ []
+
+low_solution : IsSolution (master day none) low_weights 1
+unfolding low_weights
+low_solution = record {
+  positive = omega arith;
+  columns = (day_second, (day_third, (refl, (refl, (omega arith, tt)))));
+  meets = below_six (λ i. brought (master day none).column low_weights i ≡ pos 1 *ℤ (master day none).right i) refl refl refl refl refl refl;
+}
+
+low_good : Each (IsGood (artificial_cost day) (pos 1)) low_prices
+unfolding low_prices priced_rows
+low_good = ((omega (arith, ints), omega (arith, ints)), ((omega (arith, ints), omega (arith, ints)), ((omega (arith, ints), omega (arith, ints)), ((omega (arith, ints), omega (arith, ints)), (omega (arith, ints), (omega (arith, ints), tt))))))
+
+low_value : IsValue (program_of day (rows_in low_prices)) (pos 4) 1
+unfolding low_prices priced_rows low_weights
+low_value = value_of low_prices low_good (omega (arith, ints)) (omega (arith, ints)) (omega (arith, ints)) (pos 4) low_weights 1 low_solution refl refl
+
+-- ---- many of it
+high_prices : List RowPrice
+high_prices = priced_rows (rows_of day some) (pos 0 ∷ pos 0 ∷ pos 2 ∷ pos 0 ∷ pos 0 ∷ pos 2 ∷ [])
+
+high_weights : List (Weighted MasterKey)
+high_weights = of (tree first) 1 ∷ of (tree second) 1 ∷ of (beyond 1) 1 ∷ of (beyond 3) 2 ∷ of (missing 4) 1 ∷ []
+
+high_solution : IsSolution (master day some) high_weights 1
+unfolding high_weights
+high_solution = record {
+  positive = omega arith;
+  columns = (day_first, (day_second, (refl, (refl, (omega arith, tt)))));
+  meets = below_six (λ i. brought (master day some).column high_weights i ≡ pos 1 *ℤ (master day some).right i) refl refl refl refl refl refl;
+}
+
+high_good : Each (IsGood (artificial_cost day) (pos 1)) high_prices
+unfolding high_prices priced_rows
+high_good = ((omega (arith, ints), omega (arith, ints)), ((omega (arith, ints), omega (arith, ints)), ((omega (arith, ints), omega (arith, ints)), ((omega (arith, ints), omega (arith, ints)), (omega (arith, ints), ((omega (arith, ints), omega (arith, ints)), tt))))))
+
+high_value : IsValue (program_of day (rows_in high_prices)) (pos 4) 1
+unfolding high_prices priced_rows high_weights
+high_value = value_of high_prices high_good (omega (arith, ints)) (omega (arith, ints)) (omega (arith, ints)) (pos 4) high_weights 1 high_solution refl refl
+
+pub worked_master : WorkedMaster
+unfolding root_prices low_prices high_prices
+worked_master = record {
+  rows = refl;
+  root = subst (λ (rows : List Row). IsValue (program_of day rows) (pos 3) 1) (priced_rows-are (rows_of day []) _) root_value;
+  low = subst (λ (rows : List Row). IsValue (program_of day rows) (pos 4) 1) (priced_rows-are (rows_of day none) _) low_value;
+  high = subst (λ (rows : List Row). IsValue (program_of day rows) (pos 4) 1) (priced_rows-are (rows_of day some) _) high_value;
+}

@@ -1,0 +1,5 @@
+use Rattle.master_laws.proofs.Close.{counts_close}
+use Rattle.master_laws.proofs.laws.counts_close.Goals as goal
+
+pub returns : goal.returns
+returns c = counts_close

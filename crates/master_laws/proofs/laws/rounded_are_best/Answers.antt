@@ -1,0 +1,5 @@
+use Rattle.master_laws.proofs.Close.{are_best}
+use Rattle.master_laws.proofs.laws.rounded_are_best.Goals as goal
+
+pub returns : goal.returns
+returns c = are_best

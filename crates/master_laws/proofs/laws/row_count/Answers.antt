@@ -1,0 +1,5 @@
+use Rattle.master_laws.proofs.Small.{row_count}
+use Rattle.master_laws.proofs.laws.row_count.Goals as goal
+
+pub returns : goal.returns
+returns c = row_count

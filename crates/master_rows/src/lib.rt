@@ -1,0 +1,9 @@
+//! The rows of a node's linear program, its master, as numbers: right sides, costs of the rows' own
+//! columns, what a tree brings to each row, and the rows' prices by cells and cuts.
+#![tactic(auto)]
+
+mod rows;
+mod sense;
+
+pub use rows::{NodeRows, count_rows};
+pub use sense::Sense;

@@ -1,0 +1,120 @@
+ghost use Rattle.std.specs.Prelude.{ℕ, ℤ, ◌≡◌, ◌≤◌, ◌<◌, ◌+◌, ◌++◌, ◌^◌, pos, Some, List as Items, ◌∷◌, length, slice_get, unsigned_abs, All, IfOk, IfSome, IfNone};
+ghost use Rattle.roster_model.specs.declared.instance.Cut.{Cut as PathCut};
+ghost use Rattle.roster_model.specs.declared.instance.Instance.{Instance as Day};
+ghost use Rattle.roster_model.specs.Folds.{Each};
+ghost use Rattle.roster_model.specs.SoundInstance.{IsSoundInstance};
+ghost use Rattle.roster_model.specs.Trees.{Parts};
+ghost use Rattle.fraction.specs.Row.{at};
+ghost use Rattle.bound_laws.specs.BestPrices.{artificial_cost};
+ghost use Rattle.master_laws.specs.Rows.{Row, rows_of, number_at, HoldsAt};
+ghost use Rattle.master_laws.specs.Master.{missing_cost, beyond_cost, HasBeyond};
+ghost use Rattle.master_laws.specs.Rounding.{cell_lines, line_sums, first_head, numbers_from};
+ghost use Rattle.pivot_rows.specs.Columns.{IsColumn};
+ghost use Rattle.tree_pool.specs.Pools.{PoolTree, IsPoolTree};
+ghost use Rattle.master_rows.specs.NodeRows.{AreRows, IsSmallCut};
+
+use crate::sense::Sense;
+use pivot_rows::Place;
+use roster_model::{Cut, Instance, List, Memory};
+use std::alloc::Global;
+use tree_pool::Pool;
+
+/// Returns how many rows the master of a node has. Takes no memory.
+pub fn count_rows(instance: &Instance, cuts: &[Cut]) -> usize
+    requires stub { ⊥ }
+    requires sound { IsSoundInstance instance.now }
+    requires few { length cuts.now < 2 ^ 31 }
+    ensures { result ≡ length (rows_of instance.now cuts.now) }
+{
+    0
+}
+
+/// The rows of a node's master, in this order: those of the cells, of floors above 0, of ceilings
+/// below 64, of the heads (at least, at most) and of the cuts.
+#[derive(Drop)]
+pub struct NodeRows {
+    right: List<i64>,
+    senses: List<Sense>,
+}
+
+impl NodeRows {
+    /// Returns the rows of the node at a path of cuts, base cuts first.
+    pub fn new(alloc: Global, instance: &Instance, cuts: &[Cut]) -> Result<NodeRows, Memory>
+        requires sound { IsSoundInstance instance.now }
+        requires cuts { Each IsSmallCut cuts.now }
+        requires few { length (rows_of instance.now cuts.now) ≤ 1500 }
+        ensures { IfOk result (AreRows instance.now cuts.now) }
+    {
+        Err(Memory)
+    }
+
+    /// Returns the right sides, one for each row.
+    pub fn right(&self) -> &[i64]
+        ensures length { (i : Day) (cuts : Items PathCut) → AreRows i cuts self.now →
+            length result.now ≡ length (rows_of i cuts) }
+        ensures value { (i : Day) (cuts : Items PathCut) → AreRows i cuts self.now → (r : ℕ) →
+            r < length (rows_of i cuts) → at result.now r ≡ number_at (λ x. pos x.right) (rows_of i cuts) r }
+    {
+        self.right.as_slice()
+    }
+
+    /// Returns what a unit that is missing in a row costs, `artificial` being the cost of an
+    /// artificial column; 0 for the slack of a row that asks at most its right side.
+    pub fn missing_cost(&self, row: usize, artificial: i64) -> i64
+        requires stub { ⊥ }
+        requires row { (i : Day) × (cuts : Items PathCut) × AreRows i cuts self.now × (row < length (rows_of i cuts)) }
+        ensures { (i : Day) (cuts : Items PathCut) → AreRows i cuts self.now → artificial ≡ pos (artificial_cost i) →
+            result ≡ number_at (λ x. pos (missing_cost (artificial_cost i) x.sense)) (rows_of i cuts) row }
+    {
+        0
+    }
+
+    /// Returns what a unit beyond a row's right side costs; `None` exactly where the row asks at most
+    /// its right side.
+    pub fn beyond_cost(&self, row: usize) -> Option<i64>
+        requires stub { ⊥ }
+        requires row { (i : Day) × (cuts : Items PathCut) × AreRows i cuts self.now × (row < length (rows_of i cuts)) }
+        ensures some { (i : Day) (cuts : Items PathCut) → AreRows i cuts self.now →
+            IfSome result (λ c. HoldsAt HasBeyond (rows_of i cuts) row
+            × (c ≡ number_at (λ x. pos (beyond_cost x.sense)) (rows_of i cuts) row)) }
+        ensures none { (i : Day) (cuts : Items PathCut) → AreRows i cuts self.now →
+            IfNone result (HoldsAt HasBeyond (rows_of i cuts) row → ⊥) }
+    {
+        None
+    }
+
+    /// Returns the row of the heads that asks at least the least number of them. The row after it
+    /// asks at most the greatest, and the rows of the cuts follow.
+    pub fn first_head(&self) -> usize
+        requires stub { ⊥ }
+        ensures { (i : Day) (cuts : Items PathCut) → AreRows i cuts self.now → result ≡ first_head i }
+    {
+        0
+    }
+
+    /// Returns the entries that are not 0 of a tree of the pool in the rows, in the order of the rows.
+    pub fn places_of(&self, alloc: Global, cuts: &[Cut], pool: &Pool, column: usize) -> Result<List<Place>, Memory>
+        requires column { column < length pool.now }
+        ensures { IfOk result (λ places. (i : Day) (t : Parts) (x : PoolTree) → AreRows i cuts.now self.now →
+            slice_get pool.now column ≡ Some x → IsPoolTree i.grammar t x →
+            IsColumn (length (rows_of i cuts.now)) (number_at (λ r. pos (r.brings t)) (rows_of i cuts.now)) places) }
+    {
+        Err(Memory)
+    }
+
+    /// Leaves in `out` the price of each cell, which is the sum of the prices of its rows, then those
+    /// of the two rows of the heads, and then those of the cuts. Takes no memory.
+    ///
+    /// There is a price for each row, each within 2^56 in size.
+    pub fn gather(&self, y: &[i128], cells: usize, out: &mut [i128])
+        requires stub { ⊥ }
+        requires y { All (λ (z : ℤ). unsigned_abs z ≤ 2 ^ 56) y.now }
+        requires out { (i : Day) × (cuts : Items PathCut) × AreRows i cuts self.now × (cells ≡ length i.cells)
+            × (length y.now ≡ length (rows_of i cuts)) × (length out.old ≡ cells + 2 + length cuts) }
+        ensures { (i : Day) (cuts : Items PathCut) → AreRows i cuts self.now → cells ≡ length i.cells →
+            length y.now ≡ length (rows_of i cuts) → length out.old ≡ cells + 2 + length cuts →
+            out.new ≡ line_sums (cell_lines i (at y.now)) ++ at y.now (first_head i) ∷ at y.now (first_head i + 1)
+            ∷ numbers_from (at y.now) (first_head i + 2) cuts }
+    {
+    }
+}

@@ -1,0 +1,111 @@
+-- How the master of a node ends.
+use Rattle.std.specs.Prelude.{ℕ, ℤ, pos, unsigned_abs, ◌≡◌, ◌≤◌, ◌<◌, ◌+◌, ◌-◌, ◌^◌, ◌*ℤ◌, ◌+ℤ◌, ◌≤ℤ◌, ◌<ℤ◌, ◌⊎◌, Some, List, [], ◌∷◌, ◌++◌, length, slice_get, Result, Ok, Err, IsErr}
+use Rattle.roster_model.specs.declared.grammar.Step.{Step}
+use Rattle.roster_model.specs.declared.grammar.Grammar.{Grammar}
+use Rattle.roster_model.specs.declared.instance.Cut.{Cut}
+use Rattle.roster_model.specs.declared.instance.Instance.{Instance}
+use Rattle.roster_model.specs.declared.instance.Mult.{Mult}
+use Rattle.roster_model.specs.declared.instance.Prices.{Prices}
+use Rattle.roster_model.specs.Trees.{Parts}
+use Rattle.roster_model.specs.Folds.{Each}
+use Rattle.roster_model.specs.Arcs.{IsArc}
+use Rattle.roster_model.specs.Cuts.{group_arc}
+use Rattle.roster_model.specs.PriceLimits.{FitPrices}
+use Rattle.linear_programs.specs.Solution.{Weighted, IsValue, IsBasic}
+use Rattle.linear_programs.specs.Tableau.{HasWidePath, HasOpenPath}
+use Rattle.fraction.specs.declared.frac.Frac.{Frac}
+use Rattle.fraction.specs.Range.{Counts}
+use Rattle.bound_laws.specs.Lagrangian.{IsLagrangian}
+use Rattle.bound_laws.specs.BestPrices.{loss}
+use Rattle.master_laws.specs.Rows.{rows_of}
+use Rattle.master_laws.specs.Master.{MasterKey, missing, beyond, tree, master}
+use Rattle.master_laws.specs.Sharp.{CostsLeast}
+use Rattle.master_laws.specs.Ends.{tree_weights, other_weights}
+use Rattle.master_laws.specs.Laws.{IsBelowHeads}
+use Rattle.tableau.specs.declared.simplex.Basic.{Basic}
+use Rattle.tableau.specs.Ends.{AreBasicWeights}
+use Rattle.tableau.specs.Listed.{vector}
+use Rattle.tableau.specs.Risen.{HasRisen}
+use Rattle.master_laws.specs.Rounding.{AreRoundedFrom}
+use Rattle.node_master.specs.declared.ends.Rounded.{Rounded}
+use Rattle.node_master.specs.declared.ends.Rounded.TheVariants.{Whole, Refused}
+use Rattle.node_master.specs.declared.ends.Weight.{Weight}
+use Rattle.node_master.specs.declared.ends.Cause.{Cause}
+use Rattle.node_master.specs.declared.ends.Cause.TheVariants.{Rows, Wide, Spent}
+use Rattle.node_master.specs.declared.ends.NodeEnd.{NodeEnd}
+use Rattle.node_master.specs.declared.ends.NodeEnd.TheVariants.{Best, Failed}
+use Rattle.node_master.specs.Pools.{IsTreeOfSteps}
+use Rattle.tableau.specs.declared.simplex.LpFault.{LpFault}
+use Rattle.tableau.specs.declared.simplex.LpFault.TheVariants.{Wide as LpWide, Spent as LpSpent, Memory as LpMemory}
+use Rattle.roster_model.specs.declared.memory.Memory.{Memory as MemoryLack}
+
+-- a cut on an arc of the instance, or on the arc by which some group's rule stands on the whole day
+pub record IsNodeCut (i : Instance) (c : Cut) : Type 0 where
+  pub arc : IsArc i.grammar c.arc ⊎ ((r : ℕ) × (length i.grammar.rules - length i.groups < r) × (r ≤ length i.grammar.rules) × (c.arc ≡ group_arc i.grammar.periods r))
+  pub few : c.b ≤ 63
+
+-- the fraction is n / d
+abbrev pub IsShare : Frac → ℕ → ℕ → Type 0
+IsShare x n d = pos n *ℤ x.den ≡ x.num *ℤ pos d
+
+-- rounded prices within the limits, or a price of a row that is above 2^56
+abbrev pub IsRoundedEnd : Instance → List Cut → List ℤ → ℤ → Counts → Counts → Rounded → Type 0
+IsRoundedEnd i cuts y kappa old new (Whole p) = AreRoundedFrom i cuts (vector y) kappa p × FitPrices i p.d p.cell p.mult cuts × Each (λ (m : Mult). pos 0 <ℤ m.value) p.mult
+IsRoundedEnd i cuts y kappa old new (Refused fault) = HasRisen old.wide new.wide × (r : ℕ) × (r < length (rows_of i cuts)) × (2 ^ 56 < unsigned_abs (vector y r))
+
+-- a weight above 0 of a tree of the pool, as one in units of 1 / d
+pub record IsWeight (g : Grammar) (columns : List (List Step)) (d : ℕ) (x : Weight) (w : Weighted MasterKey) : Type 0 where
+  pub held : List Step
+  pub column : slice_get columns x.column ≡ Some held
+  pub some : Parts
+  pub is : IsTreeOfSteps g some held
+  pub key : w.key ≡ tree some
+  pub share : IsShare x.x w.weight d
+  pub positive : 0 < w.weight
+
+abbrev pub AreWeights : Grammar → List (List Step) → ℕ → List Weight → List (Weighted MasterKey) → Type 0
+AreWeights g columns d [] [] = Unit {0}
+AreWeights g columns d (x ∷ xs) (w ∷ ws) = IsWeight g columns d x w × AreWeights g columns d xs ws
+AreWeights g columns d [] (w ∷ ws) = ⊥
+AreWeights g columns d (x ∷ xs) [] = ⊥
+
+-- the weights of a basic solution's trees, whatever its weights over d
+abbrev pub AreTreeWeights : Grammar → (ℕ → MasterKey → Type 0) → List (List Step) → List Basic → List Weight → Type 0
+AreTreeWeights g Listed columns basic weights = (d : ℕ) (ws : List (Weighted MasterKey)) → AreBasicWeights Listed d basic ws → AreWeights g columns d weights (tree_weights ws)
+
+-- a column that is no tree
+abbrev pub IsOther : MasterKey → Type 0
+IsOther (missing r) = Unit {0}
+IsOther (beyond r) = Unit {0}
+IsOther (tree t) = ⊥
+
+-- the weights are those of the trees of some basic solution of least cost, whose other columns are no trees
+pub record AreLeastWeights (i : Instance) (cuts : List Cut) (columns : List (List Step)) (weights : List Weight) : Type 0 where
+  pub trees : List (Weighted MasterKey)
+  pub others : List (Weighted MasterKey)
+  pub d : ℕ
+  pub are : AreWeights i.grammar columns d weights trees
+  pub apart : Each (λ (w : Weighted MasterKey). IsOther w.key) others
+  pub basic : IsBasic (master i cuts) (trees ++ others) d
+  pub least : CostsLeast (master i cuts) (trees ++ others) d
+
+-- rounded prices, the value of the master and the weights
+pub record IsBest (i : Instance) (cuts : List Cut) (columns : List (List Step)) (prices : Prices) (value : Frac) (weights : List Weight) : Type 0 where
+  pub fit : FitPrices i prices.d prices.cell prices.mult cuts
+  pub positive : Each (λ (m : Mult). pos 0 <ℤ m.value) prices.mult
+  pub value_is : IsValue (master i cuts) value.num (unsigned_abs value.den)
+  pub shown : Each (IsBelowHeads i) cuts → (l : ℤ) → IsLagrangian i prices cuts l → (value.num *ℤ pos prices.d) ≤ℤ ((l +ℤ pos (loss i prices cuts)) *ℤ value.den)
+  pub weighted : AreLeastWeights i cuts columns weights
+
+-- each answer comes only where it may; more than 1,500 rows exactly where there are so many
+abbrev pub EndsRight : Instance → List Cut → List (List Step) → Counts → Counts → NodeEnd → Type 0
+EndsRight i cuts columns old new (Best prices value weights) = (length (rows_of i cuts) ≤ 1500) × IsBest i cuts columns prices value weights
+EndsRight i cuts columns old new (Failed (Rows count)) = (1500 < length (rows_of i cuts)) × (count ≡ length (rows_of i cuts))
+EndsRight i cuts columns old new (Failed (Wide fault)) = (length (rows_of i cuts) ≤ 1500) × HasRisen old.wide new.wide × HasWidePath (master i cuts)
+EndsRight i cuts columns old new (Failed (Spent pivots)) = (length (rows_of i cuts) ≤ 1500) × (pivots ≡ 5000) × HasRisen old.spent new.spent × HasOpenPath (master i cuts) 5000
+
+-- the answer that a given-up program leads to
+abbrev pub IsFailedBy : LpFault → Result NodeEnd MemoryLack → Type 0
+IsFailedBy (LpWide fault) r = r ≡ Ok (Failed (Wide fault))
+IsFailedBy (LpSpent pivots) r = r ≡ Ok (Failed (Spent pivots))
+IsFailedBy LpMemory r = IsErr r

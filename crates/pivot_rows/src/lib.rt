@@ -1,0 +1,11 @@
+//! The rows of a tableau as whole numbers of at most 2^56 in size, their exact steps of elimination,
+//! and columns as lists of their entries that are not 0.
+#![tactic(auto)]
+
+mod column;
+mod row;
+mod step;
+
+pub use column::{Place, entry_in};
+pub use row::{MOST, PivotRow};
+pub use step::step_row;

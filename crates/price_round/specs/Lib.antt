@@ -1,0 +1,2 @@
+pub mod Denominators
+pub mod Faults

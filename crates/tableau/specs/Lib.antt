@@ -1,0 +1,3 @@
+pub mod Risen
+pub mod Refused
+pub mod Ends

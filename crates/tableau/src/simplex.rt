@@ -1,0 +1,65 @@
+ghost use Rattle.std.specs.Prelude.{ℕ, ◌≡◌, ◌≤◌, ◌<◌, pos, ◌≤ℤ◌, IfOk, IfErr, length};
+ghost use Rattle.linear_programs.specs.Program.{IsSound};
+ghost use Rattle.fraction.specs.Row.{at};
+ghost use Rattle.tableau.specs.Ends.{IsLpEnd, IsLpFault};
+
+use crate::columns::Columns;
+use fraction::{Frac, Tally, TooWide};
+use roster_model::List;
+use std::alloc::Global;
+
+/// A basic column with its weight.
+#[derive(Clone, Copy, Debug, PartialEq, Eq, Drop)]
+pub struct Basic {
+    /// The number of the column.
+    pub col: usize,
+    /// Its weight.
+    pub x: Frac,
+}
+
+/// A basic solution of least cost, and prices of the same value.
+#[derive(Drop)]
+pub struct LpEnd {
+    pub basic: List<Basic>,
+    pub y: List<i128>,
+    pub kappa: i128,
+    pub value: Frac,
+}
+
+/// Why a program was given up.
+#[derive(Clone, Copy, Debug, PartialEq, Eq, Drop)]
+pub enum LpFault {
+    /// A number left the range.
+    Wide(TooWide),
+    /// All pivots were made.
+    Spent {
+        pivots: u32,
+    },
+    /// Memory did not suffice.
+    Memory,
+}
+
+/// Solves the program of the columns.
+pub fn solve<C: Columns>(
+    alloc: Global,
+    columns: &mut C,
+    right: &[i64],
+    pivots: u32,
+    tally: &mut Tally,
+) -> Result<LpEnd, LpFault>
+    requires ready { C.Ready (C.state columns.old) }
+    requires sound { IsSound (C.program (C.site columns.old)) }
+    requires few { (C.program (C.site columns.old)).rows ≤ 1500 }
+    requires units { (r : ℕ) → r < (C.program (C.site columns.old)).rows → C.Lists (C.state columns.old) r ((C.program (C.site columns.old)).unit r) }
+    requires length { length right.now ≡ (C.program (C.site columns.old)).rows }
+    requires right { (r : ℕ) → r < (C.program (C.site columns.old)).rows → at right.now r ≡ (C.program (C.site columns.old)).right r }
+    requires costs { (k : C.Key) → (C.program (C.site columns.old)).belongs k → pos 0 ≤ℤ ((C.program (C.site columns.old)).column k).cost }
+    ensures end { IfOk result (λ end. IsLpEnd (C.program (C.site columns.old)) (C.Lists (C.state columns.new)) end.basic end.y end.kappa end.value) }
+    ensures fault { IfErr result (λ fault. IsLpFault (C.program (C.site columns.old)) (C.Lists (C.state columns.new)) pivots tally.old tally.new fault) }
+    ensures site { C.site columns.new ≡ C.site columns.old }
+    ensures ready { C.Ready (C.state columns.new) }
+    ensures kept { C.Kept (C.state columns.old) (C.state columns.new) }
+    ensures counts { (tally.old.wide ≤ tally.new.wide) × (tally.old.spent ≤ tally.new.spent) }
+{
+    Err(LpFault::Memory)
+}
