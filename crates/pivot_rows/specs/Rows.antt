@@ -27,3 +27,8 @@ pub record IsWideStep (row : List ℤ) (p : ℤ) (other : List ℤ) (a : ℤ) : 
   pub place : ℕ
   pub within : place < length row
   pub wide : 2 ^ 56 < unsigned_abs (left place)
+
+-- each row has a step by each other row
+abbrev pub RowStepsExist : Type 0
+RowStepsExist = (n : ℕ) (p : ℤ) (row : ℕ → ℤ) (a : ℤ) (other : ℕ → ℤ) →
+    (left : ℕ → ℤ) × (g : ℤ) × IsRowStep n p row a other left g

@@ -3,9 +3,11 @@
 #![tactic(auto)]
 
 mod column;
+mod laws;
 mod row;
 mod step;
 
 pub use column::{Place, entry_in};
+pub use laws::row_steps_exist;
 pub use row::{MOST, PivotRow};
 pub use step::step_row;

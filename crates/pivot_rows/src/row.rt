@@ -35,6 +35,5 @@ impl PivotRow {
         requires stub { ⊥ }
         requires length { length row.now ≤ length self.old }
         ensures { self.new ≡ row.now ++ zeros (length self.old - length row.now) }
-    {
-    }
+    {}
 }
