@@ -1,2 +1,4 @@
 pub mod Factors
 pub mod Steps
+pub mod Copied
+pub mod Listed

@@ -1,0 +1,7 @@
+use Rattle.std.proofs.Common.{replicate, pos, ◌≡◌, ◌∙◌, rules}
+use Rattle.pivot_rows.proofs.Copied.{zeros_are}
+use Rattle.pivot_rows.proofs.row.PivotRow.new.Goals as goal
+
+pub returns : goal.returns
+returns c =
+    let e : c.in-Ok.numbers.items ≡ replicate c.args.width (pos 0) = search rules in e ∙ zeros_are c.args.width
