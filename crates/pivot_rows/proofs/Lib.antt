@@ -2,3 +2,5 @@ pub mod Factors
 pub mod Steps
 pub mod Copied
 pub mod Listed
+pub mod Sizes
+pub mod Divided

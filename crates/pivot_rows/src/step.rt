@@ -1,9 +1,150 @@
-ghost use Rattle.std.specs.Prelude.{◌≡◌, ◌≤◌, ◌^◌, pos, ◌<ℤ◌, length, unsigned_abs, IfOk, IfErr, MatchResult};
+ghost use Rattle.std.specs.Prelude.{◌≡◌, ◌≤◌, ◌<◌, ◌^◌, pos, ◌<ℤ◌, ◌*ℤ◌, max, length, unsigned_abs, int_div, IfOk, IfErr, MatchResult};
+ghost use Rattle.std.specs.Int.{IsGcd, ◌∣◌};
+ghost use Rattle.linear_programs.specs.RowStep.{combined, IsCommonFactor};
 ghost use Rattle.fraction.specs.Range.{refused};
-ghost use Rattle.pivot_rows.specs.Rows.{AreNarrow, IsPrimitive, StepsTo, IsWideStep};
+ghost use Rattle.pivot_rows.specs.Rows.{AreNarrow, IsPrimitive, StepsTo, IsWideStep, AreDivided, IsWideDivided, whole};
 
-use crate::row::PivotRow;
-use fraction::{Tally, TooWide};
+use crate::row::{MOST, PivotRow};
+use fraction::{Tally, TooWide, fits, gcd_unsigned};
+
+// The new number before the common factor is taken out.
+fn combine(factor: i128, number: i64, entry: i128, other: i64) -> i128
+    requires factor { unsigned_abs factor ≤ 2 ^ 68 }
+    requires number { unsigned_abs number ≤ 2 ^ 56 }
+    requires entry { unsigned_abs entry ≤ 2 ^ 68 }
+    requires other { unsigned_abs other ≤ 2 ^ 56 }
+    ensures value { result ≡ combined factor number entry other }
+    ensures size { unsigned_abs result ≤ 2 ^ 125 }
+{
+    factor * i128::from(number) - entry * i128::from(other)
+}
+
+// The greatest common divisor of the common factor so far and one more number.
+fn next_factor(common: u128, number: i128) -> u128
+    requires common { common ≤ 2 ^ 125 }
+    requires number { unsigned_abs number ≤ 2 ^ 125 }
+    ensures value { IsGcd common (unsigned_abs number) result }
+    ensures size { result ≤ 2 ^ 125 }
+{
+    if number == 0 {
+        common
+    } else {
+        gcd_unsigned(number.unsigned_abs(), common)
+    }
+}
+
+// The greatest common divisor of the new numbers, 0 where all are 0. It reads no more of them than it
+// takes to see that it is 1.
+fn common_factor(row: &[i64], factor: i128, other: &[i64], entry: i128) -> u128
+    requires lengths { length row.now ≤ length other.now }
+    requires narrow { AreNarrow row.now }
+    requires other { AreNarrow other.now }
+    requires factor { unsigned_abs factor ≤ 2 ^ 68 }
+    requires entry { unsigned_abs entry ≤ 2 ^ 68 }
+    ensures value { IsCommonFactor (whole factor row.now entry other.now) (length row.now) result }
+    ensures size { result ≤ 2 ^ 125 }
+{
+    let mut common = 0;
+    for place in 0..row.len() {
+        common = next_factor(common, combine(factor, row[place], entry, other[place]));
+        if common == 1 {
+            return 1;
+        }
+    }
+    common
+}
+
+// The common factor, or 1 in place of 0.
+fn divisor_of(common: u128) -> i128
+    requires { common ≤ 2 ^ 125 }
+    ensures value { result ≡ pos (max 1 common) }
+    ensures size { unsigned_abs result ≤ 2 ^ 125 }
+{
+    if common == 0 { 1 } else { common as i128 }
+}
+
+// The quotient, towards 0, by a positive divisor.
+fn quotient(number: i128, divisor: i128) -> i128
+    requires { pos 0 <ℤ divisor }
+    ensures { result ≡ int_div number divisor }
+{
+    if divisor == 1 {
+        return number;
+    }
+    if let (Ok(number), Ok(divisor)) = (i64::try_from(number), i64::try_from(divisor)) {
+        return i128::from(number / divisor);
+    }
+    number / divisor
+}
+
+// The quotient by a positive divisor, where it is narrow.
+fn divided(number: i128, divisor: i128, tally: &mut Tally) -> Result<i64, TooWide>
+    requires { pos 0 <ℤ divisor }
+    ensures value { IfOk result (λ value. value ≡ int_div number divisor) }
+    ensures narrow { IfOk result (λ value. unsigned_abs value ≤ 2 ^ 56) }
+    ensures wide { IfErr result (λ _. 2 ^ 56 < unsigned_abs (int_div number divisor)) }
+    ensures counted { MatchResult result (λ _. tally.new ≡ tally.old) (λ _. tally.new ≡ refused tally.old) }
+{
+    let value = quotient(number, divisor);
+    fits(value, i128::from(MOST), tally)?;
+    Ok(value as i64)
+}
+
+// Puts each number of the step in its place.
+fn write_all(
+    row: &mut [i64],
+    factor: i128,
+    other: &[i64],
+    entry: i128,
+    divisor: i128,
+    tally: &mut Tally,
+) -> Result<(), TooWide>
+    requires lengths { length row.old ≤ length other.now }
+    requires narrow { AreNarrow row.old }
+    requires other { AreNarrow other.now }
+    requires factor { unsigned_abs factor ≤ 2 ^ 68 }
+    requires entry { unsigned_abs entry ≤ 2 ^ 68 }
+    requires divisor { pos 0 <ℤ divisor }
+    ensures divided { IfOk result (λ _. AreDivided (length row.old) factor row.old entry other.now divisor row.new) }
+    ensures narrow { IfOk result (λ _. AreNarrow row.new) }
+    ensures wide { IfErr result (λ _. IsWideDivided factor row.old entry other.now divisor) }
+    ensures counted { MatchResult result (λ _. tally.new ≡ tally.old) (λ _. tally.new ≡ refused tally.old) }
+{
+    for place in 0..row.len() {
+        let number = combine(factor, row[place], entry, other[place]);
+        row[place] = divided(number, divisor, tally)?;
+    }
+    Ok(())
+}
+
+// Takes the step where the row has no common factor with the scalars.
+fn step_numbers(
+    row: &mut [i64],
+    factor: i128,
+    other: &PivotRow,
+    entry: i128,
+    tally: &mut Tally,
+) -> Result<(), TooWide>
+    requires lengths { length row.old ≤ length other.now }
+    requires narrow { AreNarrow row.old }
+    requires other { AreNarrow other.now }
+    requires factor { unsigned_abs factor ≤ 2 ^ 68 }
+    requires entry { unsigned_abs entry ≤ 2 ^ 68 }
+    ensures step { IfOk result (λ _. StepsTo row.old factor other.now entry row.new) }
+    ensures narrow { IfOk result (λ _. AreNarrow row.new) }
+    ensures wide { IfErr result (λ _. IsWideStep row.old factor other.now entry) }
+    ensures counted { MatchResult result (λ _. tally.new ≡ tally.old) (λ _. tally.new ≡ refused tally.old) }
+{
+    let common = common_factor(row, factor, other.numbers(), entry);
+    write_all(
+        row,
+        factor,
+        other.numbers(),
+        entry,
+        divisor_of(common),
+        tally,
+    )
+}
 
 /// Replaces each number `r` of the row by `(factor * r - entry * s) / g`, where `s` is the number of
 /// the other row at its place, and `g` is the greatest common divisor of the new numbers, or 1 where
@@ -18,7 +159,6 @@ pub fn step_row(
     entry: i128,
     tally: &mut Tally,
 ) -> Result<(), TooWide>
-    requires stub { ⊥ }
     requires lengths { length row.old ≤ length other.now }
     requires narrow { AreNarrow row.old }
     requires other { AreNarrow other.now }
@@ -32,5 +172,5 @@ pub fn step_row(
     ensures wide { IfErr result (λ _. IsWideStep row.old factor other.now entry) }
     ensures counted { MatchResult result (λ _. tally.new ≡ tally.old) (λ _. tally.new ≡ refused tally.old) }
 {
-    Ok(())
+    step_numbers(row, factor, other, entry, tally)
 }
