@@ -1,10 +1,10 @@
 -- The least common denominator of fractions over kappa.
-use Rattle.std.proofs.Common.{◌≡◌, ℕ, ℤ, zero, suc, arith, pos, negsuc, neg_ℤ, ◌*ℤ◌, ◌<ℤ◌, ◌+◌, ◌*◌, ◌/◌, ◌^◌, ◌<◌, ◌≤◌, unsigned_abs, sym, ap, ◌∙◌, subst, refl}
+use Rattle.std.proofs.Common.{◌≡◌, ℕ, ℤ, zero, suc, arith, pos, negsuc, neg_ℤ, ◌*ℤ◌, ◌<ℤ◌, ◌*◌, ◌/◌, ◌^◌, ◌<◌, ◌≤◌, unsigned_abs, sym, ap, ◌∙◌, subst, refl}
 use Rattle.std.specs.Int.{IsGcd, ◌∣◌}
 use Rattle.std.proofs.lemmas.Int.{ints}
 use Rattle.std.proofs.lemmas.Nat.Gcd.{dvd_trans}
 use Rattle.std.proofs.Math.Nat.{div-mul_cancel, mul-div_cancel'}
-use native.Mathlib.Nat.{le_antisymm, le_of_mul-le-mul_right, dvd-mul_left, dvd-mul_right, dvd-zero, le_of_dvd}
+use native.Mathlib.Nat.{le_antisymm, le_of_mul-le-mul_right, dvd-mul_left, dvd-mul_right, le_of_dvd}
 use Rattle.fraction.proofs.Coprime.{gauss}
 use Rattle.fraction.proofs.Reduced.{gcd_positive, reduced_quot}
 use Rattle.master_laws.specs.Rounding.{IsMadeWhole}

@@ -1,14 +1,13 @@
 -- The loop over the numbers: the multiples of d make the numbers so far whole.
-use Rattle.std.proofs.Common.{◌≡◌, ℕ, ℤ, zero, suc, arith, pos, ◌*ℤ◌, ◌<ℤ◌, ◌+◌, ◌^◌, ◌<◌, ◌≤◌, List, [], ◌∷◌, ◌++◌, length, take, get_or, sym, ap, ◌∙◌, subst, refl, take-suc, take_all, IfNone}
+use Rattle.std.proofs.Common.{◌≡◌, ℕ, ℤ, zero, suc, arith, pos, ◌+◌, ◌<◌, ◌≤◌, List, [], ◌∷◌, ◌++◌, length, take, get_or, subst, take-suc, take_all, append_assoc, append-nil}
 use Rattle.std.specs.Int.{◌∣◌}
-use Rattle.std.proofs.Math.Nat.{mul-div_cancel'}
 use native.Mathlib.Nat.{one-dvd, le_of_dvd, dvd-mul_right}
 use native.Mathlib.Numerals.{add-one}
 use Rattle.roster_model.specs.Folds.{Each}
 use Rattle.arc_laws.proofs.Folding.{Each-append}
 use Rattle.master_laws.specs.Rounding.{IsMadeWhole, IsLeastWhole}
 use Rattle.master_laws.proofs.Lines.{Each-front, Each-back}
-use Rattle.price_round.specs.Denominators.{IsNext, IsPast, IsAllPast, IsLeastFor}
+use Rattle.price_round.specs.Denominators.{IsNext, IsPast, AreAllPast, IsLeastFor}
 
 pub first : (kappa : ℤ) → IsLeastFor kappa [] 1
 first kappa = record { some = omega arith; few = omega arith; into = λ e h. one-dvd e; made = λ e h. tt }
@@ -21,21 +20,33 @@ next_of kappa xs x d l h n = record {
   made = λ e w. Each-append (IsMadeWhole kappa e) xs (x ∷ []) (h.made e (n.old e w)) (n.made e w, tt);
 }
 
-pub next : (kappa : ℤ) (xs : List ℤ) (k d l : ℕ) → k < length xs → IsLeastFor kappa (take k xs) d → IsNext d (get_or xs k (pos 0)) kappa l → IsLeastFor kappa (take (k + 1) xs) l
-next kappa xs k d l h f n = rw (add-one k, take-suc xs k (pos 0) h) (next_of kappa (take k xs) (get_or xs k (pos 0)) d l f n)
-
 each_take : (P : ℤ → Type 0) (k : ℕ) (xs : List ℤ) → Each P xs → Each P (take k xs)
 each_take P zero xs h = tt
 each_take P (suc k) [] h = tt
 each_take P (suc k) (x ∷ xs) h = (h.0, each_take P k xs h.1)
 
-pub past : (kappa : ℤ) (xs : List ℤ) (k d : ℕ) → k < length xs → IsLeastFor kappa (take k xs) d → IsPast d (get_or xs k (pos 0)) kappa → IsAllPast kappa xs
-past kappa xs k d h f p e least =
-    let all = each_take (IsMadeWhole kappa e) (suc k) xs least.whole in
-    let all' : Each (IsMadeWhole kappa e) (take k xs ++ get_or xs k (pos 0) ∷ []) = rw (take-suc xs k (pos 0) h) at all in
-    p e least.some (f.into e (Each-front (IsMadeWhole kappa e) (take k xs) _ all')) (Each-back (IsMadeWhole kappa e) (take k xs) _ all').0
+module _ (kappa : ℤ) (before xs : List ℤ) where
+  pub next : (k d l : ℕ) → k < length xs → IsLeastFor kappa (before ++ take k xs) d → IsNext d (get_or xs k (pos 0)) kappa l → IsLeastFor kappa (before ++ take (k + 1) xs) l
+  next k d l h f n =
+      let whole : (before ++ take k xs) ++ get_or xs k (pos 0) ∷ [] ≡ before ++ take (k + 1) xs = rw (add-one k, take-suc xs k (pos 0) h) (append_assoc before (take k xs) (get_or xs k (pos 0) ∷ [])) in
+      rw (← whole) (next_of kappa (before ++ take k xs) (get_or xs k (pos 0)) d l f n)
 
-pub last : (kappa : ℤ) (xs : List ℤ) (k d : ℕ) → length xs ≤ k → IsLeastFor kappa (take k xs) d → IsLeastWhole kappa xs d
-last kappa xs k d h f =
-    let g : IsLeastFor kappa xs d = rw (take_all k xs h) at f in
-    record { some = g.some; whole = g.made d (subst (λ n. d ∣ n) (omega arith) (dvd-mul_right d 1)); least = λ e s w. le_of_dvd s (g.into e w) }
+  pub past : (k d : ℕ) → k < length xs → IsLeastFor kappa (before ++ take k xs) d → IsPast d (get_or xs k (pos 0)) kappa → AreAllPast kappa (before ++ xs)
+  past k d h f p e some all =
+      let P : ℤ → Type 0 = IsMadeWhole kappa e in
+      let taken = each_take P (suc k) xs (Each-back P before xs all) in
+      let taken' : Each P (take k xs ++ get_or xs k (pos 0) ∷ []) = rw (take-suc xs k (pos 0) h) at taken in
+      let front = Each-append P before (take k xs) (Each-front P before xs all) (Each-front P (take k xs) _ taken') in
+      p e some (f.into e front) (Each-back P (take k xs) _ taken').0
+
+  pub last : (k d : ℕ) → length xs ≤ k → IsLeastFor kappa (before ++ take k xs) d → IsLeastFor kappa (before ++ xs) d
+  last k d h f = rw (take_all k xs h) at f
+
+  pub begun : (d : ℕ) → IsLeastFor kappa before d → IsLeastFor kappa (before ++ take 0 xs) d
+  begun d h = rw (append-nil before) h
+
+pub whole : (kappa : ℤ) (xs : List ℤ) (d : ℕ) → IsLeastFor kappa xs d → IsLeastWhole kappa xs d
+whole kappa xs d h = record { some = h.some; whole = h.made d (subst (λ n. d ∣ n) (omega arith) (dvd-mul_right d 1)); least = λ e s w. le_of_dvd s (h.into e w) }
+
+pub still_past : (kappa : ℤ) (xs ys : List ℤ) → AreAllPast kappa xs → AreAllPast kappa (xs ++ ys)
+still_past kappa xs ys h e some all = h e some (Each-front (IsMadeWhole kappa e) xs ys all)

@@ -1,8 +1,8 @@
 -- Numbers that make fractions whole.
-use Rattle.std.specs.Prelude.{ℕ, ℤ, ◌≤◌, ◌<◌, ◌^◌, ◌↔◌, List, ◌∷◌, []}
+use Rattle.std.specs.Prelude.{ℕ, ℤ, ◌≤◌, ◌<◌, ◌^◌, List}
 use Rattle.std.specs.Int.{◌∣◌}
 use Rattle.roster_model.specs.Folds.{Each}
-use Rattle.master_laws.specs.Rounding.{IsMadeWhole, IsLeastWhole}
+use Rattle.master_laws.specs.Rounding.{IsMadeWhole}
 
 -- the multiples of `next` are those of d that make x / kappa whole
 pub record IsNext (d : ℕ) (x kappa : ℤ) (next : ℕ) : Type 0 where
@@ -17,8 +17,8 @@ abbrev pub IsPast : ℕ → ℤ → ℤ → Type 0
 IsPast d x kappa = (e : ℕ) → 1 ≤ e → d ∣ e → IsMadeWhole kappa e x → 2 ^ 30 < e
 
 -- each number that makes all fractions whole is above 2^30
-abbrev pub IsAllPast : ℤ → List ℤ → Type 0
-IsAllPast kappa xs = (e : ℕ) → IsLeastWhole kappa xs e → 2 ^ 30 < e
+abbrev pub AreAllPast : ℤ → List ℤ → Type 0
+AreAllPast kappa xs = (e : ℕ) → 1 ≤ e → Each (IsMadeWhole kappa e) xs → 2 ^ 30 < e
 
 -- the numbers that make all fractions whole are the multiples of d
 pub record IsLeastFor (kappa : ℤ) (xs : List ℤ) (d : ℕ) : Type 0 where

@@ -17,6 +17,8 @@ pub record HasWideNumber (kappa : ℤ) (numbers : List ℤ) : Type 0 where
   pub floor : IsFloor kappa d number rounded ⊎ IsFloor kappa d (neg_ℤ number) rounded
   pub wide : 2 ^ 80 < unsigned_abs rounded
 
+-- what a fault tells of the numbers of cells and cuts
 abbrev pub IsRoundFault : ℤ → List ℤ → List Cut → List ℤ → Counts → Counts → RoundFault → Type 0
-IsRoundFault kappa cells cuts numbers old new (Wide fault) = (new ≡ refused old) × HasWideNumber kappa (cells ++ numbers)
+IsRoundFault kappa cells cuts numbers old new (Wide fault) =
+    (new ≡ refused old) × HasWideNumber kappa (cells ++ numbers)
 IsRoundFault kappa cells cuts numbers old new Memory = new ≡ old

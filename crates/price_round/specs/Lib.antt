@@ -1,2 +1,3 @@
 pub mod Denominators
 pub mod Faults
+pub mod Floors

@@ -1,7 +1,7 @@
-ghost use Rattle.std.specs.Prelude.{ℕ, ◌≤◌, ◌<◌, ◌^◌, pos, ◌<ℤ◌, All, IfSome, IfNone};
+ghost use Rattle.std.specs.Prelude.{ℕ, ℤ, ◌≤◌, ◌<◌, ◌^◌, pos, ◌<ℤ◌, List, ◌++◌, IfSome, IfNone};
 ghost use Rattle.fraction.specs.Range.{InRange};
-ghost use Rattle.master_laws.specs.Rounding.{IsLeastWhole};
-ghost use Rattle.price_round.specs.Denominators.{IsNext, IsPast, IsAllPast};
+ghost use Rattle.master_laws.specs.Rounding.{IsLeastWhole, IsDenominator};
+ghost use Rattle.price_round.specs.Denominators.{IsNext, IsPast, AreAllPast, IsLeastFor};
 
 use fraction::gcd_unsigned;
 
@@ -28,17 +28,44 @@ fn next_denominator(d: u64, number: i128, kappa: i128) -> Option<u64>
     Some(next as u64)
 }
 
+/// Returns the least multiple of `d` that makes these numbers over `kappa` whole too, or none where it
+/// is above 2^30.
+fn with_numbers(d: u64, numbers: &[i128], kappa: i128) -> Option<u64>
+    requires some { 1 ≤ d }
+    requires few { d ≤ 2 ^ 30 }
+    requires kappa { pos 0 <ℤ kappa }
+    ensures least { (xs : List ℤ) → IsLeastFor kappa xs d → IfSome result (IsLeastFor kappa (xs ++ numbers.now)) }
+    ensures range { IfSome result (λ e. (1 ≤ e) × (e ≤ 2 ^ 30)) }
+    ensures none { (xs : List ℤ) → IsLeastFor kappa xs d → IfNone result (AreAllPast kappa (xs ++ numbers.now)) }
+{
+    let mut least = d;
+    for number in numbers {
+        least = next_denominator(least, *number, kappa)?;
+    }
+    Some(least)
+}
+
 /// Returns the least number that makes all these numbers over `kappa` whole, or none where it is above
 /// 2^30.
-pub fn least_denominator(numbers: &[i128], kappa: i128) -> Option<u64>
+pub fn least_denominator(first: &[i128], second: &[i128], kappa: i128) -> Option<u64>
     requires kappa { pos 0 <ℤ kappa }
-    ensures least { IfSome result (IsLeastWhole kappa numbers.now) }
-    ensures few { IfSome result (λ d. d ≤ 2 ^ 30) }
-    ensures none { IfNone result (IsAllPast kappa numbers.now) }
+    ensures least { IfSome result (IsLeastWhole kappa (first.now ++ second.now)) }
+    ensures range { IfSome result (λ d. (1 ≤ d) × (d ≤ 2 ^ 30)) }
+    ensures none { IfNone result (AreAllPast kappa (first.now ++ second.now)) }
 {
-    let mut d = 1;
-    for number in numbers {
-        d = next_denominator(d, *number, kappa)?;
+    let d = with_numbers(1, first, kappa)?;
+    with_numbers(d, second, kappa)
+}
+
+/// Returns the least number that makes all these numbers over `kappa` whole, or 2^20 where it is above
+/// 2^30.
+pub(crate) fn denominator(first: &[i128], second: &[i128], kappa: i128) -> u64
+    requires kappa { pos 0 <ℤ kappa }
+    ensures value { IsDenominator kappa (first.now ++ second.now) result }
+    ensures range { (1 ≤ result) × (result ≤ 2 ^ 30) }
+{
+    match least_denominator(first, second, kappa) {
+        Some(d) => d,
+        None => 1 << 20,
     }
-    Some(d)
 }

@@ -2,6 +2,7 @@
 #![tactic(auto)]
 
 mod denominator;
+mod floors;
 mod round;
 
 pub use denominator::least_denominator;

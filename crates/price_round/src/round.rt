@@ -7,8 +7,10 @@ ghost use Rattle.master_laws.specs.Rounding.{AreRounded};
 ghost use Rattle.master_laws.specs.Laws.{HaveSigns};
 ghost use Rattle.price_round.specs.Faults.{IsRoundFault};
 
+use crate::denominator::denominator;
+use crate::floors::{floors, multipliers};
 use fraction::{Tally, TooWide};
-use roster_model::{Cut, Prices};
+use roster_model::{Cut, Memory, Prices};
 use std::alloc::Global;
 
 /// Why prices could not be rounded.
@@ -18,6 +20,17 @@ pub enum RoundFault {
     Wide(TooWide),
     /// Memory did not suffice.
     Memory,
+}
+
+impl From<Memory> for RoundFault {
+    ghost use Rattle.std.specs.Prelude.{◌≡◌};
+    ghost use Rattle.price_round.specs.declared.round.RoundFault.TheVariants.{Memory as out_of_memory};
+
+    ghost from_gives = { λ _ fault. fault ≡ out_of_memory };
+
+    fn from(_memory: Memory) -> RoundFault {
+        RoundFault::Memory
+    }
 }
 
 /// Rounds the prices `y / kappa` of cells, of two rows of heads and of cuts, in this order, to whole
@@ -47,5 +60,10 @@ pub fn to_prices(
     ensures wide { IfErr result (IsRoundFault kappa (take cells y.now) cuts.now (drop (cells + 2) y.now) tally.old tally.new) }
     ensures kept { IfOk result (λ _. tally.new ≡ tally.old) }
 {
-    Err(RoundFault::Memory)
+    let cell_numbers = &y[..cells];
+    let cut_numbers = &y[cells + 2..];
+    let d = denominator(cell_numbers, cut_numbers, kappa);
+    let cell = floors(alloc, cell_numbers, kappa, d, tally)?;
+    let mult = multipliers(alloc, cuts, cut_numbers, kappa, d, tally)?;
+    Ok(Prices { d, cell, mult })
 }
