@@ -4,3 +4,4 @@ pub mod Copied
 pub mod Listed
 pub mod Sizes
 pub mod Divided
+pub mod Entries

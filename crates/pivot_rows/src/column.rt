@@ -1,4 +1,4 @@
-ghost use Rattle.std.specs.Prelude.{ℕ, ◌≡◌, ◌≤◌, ◌^◌, length, unsigned_abs};
+ghost use Rattle.std.specs.Prelude.{ℕ, ◌≡◌, ◌≤◌, ◌<◌, ◌^◌, ◌*ℤ◌, length, unsigned_abs};
 ghost use Rattle.linear_programs.specs.Sums.{dot};
 ghost use Rattle.fraction.specs.Row.{at};
 ghost use Rattle.pivot_rows.specs.Columns.{AreWithin, AreRising, AreUnits, number_in};
@@ -13,12 +13,22 @@ pub struct Place {
     pub value: i64,
 }
 
+// The product of a place's entry and the row's number there.
+fn product_at(row: &[i64], place: Place) -> i64
+    requires narrow { AreNarrow row.now }
+    requires within { place.row < length row.now }
+    requires unit { unsigned_abs place.value ≤ 1 }
+    ensures value { result ≡ at row.now place.row *ℤ place.value }
+    ensures size { unsigned_abs result ≤ 2 ^ 56 }
+{
+    row[place.row as usize] * place.value
+}
+
 /// Returns the entry of a column in a row of a tableau: the sum of the products of their numbers.
 ///
 /// No number of the row is above 2^56 in size, and the column's entries are -1, 0 or 1, each in a
 /// row that the row has a number for.
 pub fn entry_in(row: &[i64], column: &[Place]) -> i128
-    requires stub { ⊥ }
     requires narrow { AreNarrow row.now }
     requires few { length row.now ≤ 4096 }
     requires within { AreWithin (length row.now) column.now }
@@ -28,5 +38,9 @@ pub fn entry_in(row: &[i64], column: &[Place]) -> i128
         result ≡ dot n (at row.now) (number_in column.now) }
     ensures size { unsigned_abs result ≤ 2 ^ 68 }
 {
-    0
+    let mut sum = 0;
+    for place in column {
+        sum += i128::from(product_at(row, *place));
+    }
+    sum
 }
