@@ -1,1 +1,6 @@
-
+pub mod ArcOrderLemmas
+pub mod CostsLemmas
+pub mod EntriesLemmas
+pub mod FactsLemmas
+pub mod HashesLemmas
+pub mod LettersLemmas

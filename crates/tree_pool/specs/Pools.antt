@@ -41,3 +41,9 @@ IsGrown old new = (more : List PoolTree) × (new ≡ old ++ more)
 -- the rule uses are those of a tree of the day
 abbrev pub AreDaySteps : Grammar → List Step → Type 0
 AreDaySteps g xs = (t : Parts) × IsDayTree g t × (xs ≡ steps 1 t)
+
+-- the arcs of each tree of the day with these steps, in any order
+abbrev pub HasArcsOf : Grammar → List Step → List ArcKey → Type 0
+HasArcsOf g xs listed =
+    (t : Parts) → IsDayTree g t → xs ≡ steps 1 t
+    → (a : ArcKey) → count (same_arc a) listed ≡ count (same_arc a) (arcs 1 t)

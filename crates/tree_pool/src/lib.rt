@@ -1,6 +1,13 @@
 //! The trees of a day that a search has found so far, each once.
 #![tactic(auto)]
 
+mod arcs;
+mod costs;
+mod facts;
+mod letters;
 mod pool;
+mod rules;
+mod tree;
 
-pub use pool::{Pool, Tree};
+pub use pool::Pool;
+pub use tree::Tree;

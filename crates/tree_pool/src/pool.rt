@@ -3,41 +3,31 @@ ghost use Rattle.roster_model.specs.declared.grammar.Grammar.{Grammar as Rules};
 ghost use Rattle.roster_model.specs.Sound.{IsSound};
 ghost use Rattle.roster_model.specs.Folds.{count};
 ghost use Rattle.roster_model.specs.Arcs.{same_arc};
+ghost use Rattle.tree_pool.specs.Entries.{seen};
 ghost use Rattle.tree_pool.specs.Pools.{PoolTree, IsPool, IsGrown, AreDaySteps};
 
+use crate::facts::{Facts, facts_of};
+use crate::tree::Tree;
+use indexmap::IndexMap;
 use roster_model::{ArcKey, Grammar, List, Memory, Step};
 use std::alloc::Global;
 use std::marker::Model;
 
-/// A tree of the day, by its rule uses in preorder.
-#[derive(Drop)]
-pub struct Tree {
-    pub steps: List<Step>,
-}
-
-// A tree with what is asked of it often.
-#[derive(Drop)]
-struct Held {
-    tree: Tree,
-    // The codes of its letters by period.
-    codes: List<u8>,
-    arcs: List<ArcKey>,
-    cost: u32,
-}
-
 /// The trees found so far, each once. They keep their numbers, which count from 0.
 #[derive(Drop)]
 pub struct Pool {
-    held: List<Held>,
+    alloc: Global,
+    trees: IndexMap<Tree, Facts>,
 }
 
 impl Model for Pool {
-    ghost use Rattle.std.specs.Prelude.{List as Items, map};
+    ghost use Rattle.std.specs.Prelude.{List as Items};
+    ghost use Rattle.tree_pool.specs.Entries.{all_seen};
     ghost use Rattle.tree_pool.specs.Pools.{PoolTree};
 
     ghost Value = { Items PoolTree };
 
-    ghost view = { λ p. map (λ h. record { steps = h.tree.steps; codes = h.codes; arcs = h.arcs; cost = h.cost }) p.held };
+    ghost view = { λ p. all_seen p.trees.entries };
 }
 
 impl Pool {
@@ -46,7 +36,8 @@ impl Pool {
         ensures { result ≡ [] }
     {
         Pool {
-            held: List::new(alloc),
+            alloc,
+            trees: IndexMap::new(alloc),
         }
     }
 
@@ -54,7 +45,7 @@ impl Pool {
     pub fn len(&self) -> usize
         ensures { result ≡ length self.now }
     {
-        self.held.len()
+        self.trees.len()
     }
 
     /// Returns a tree.
@@ -62,7 +53,7 @@ impl Pool {
         requires { column < length self.now }
         ensures { (x : PoolTree) → slice_get self.now column ≡ Some x → result.now.steps ≡ x.steps }
     {
-        &self.held.as_slice()[column].tree
+        self.entry(column).0
     }
 
     /// Returns the codes of a tree's letters by period, the first period first.
@@ -70,7 +61,7 @@ impl Pool {
         requires { column < length self.now }
         ensures { (x : PoolTree) → slice_get self.now column ≡ Some x → result.now ≡ x.codes }
     {
-        self.held.as_slice()[column].codes.as_slice()
+        self.entry(column).1.codes.as_slice()
     }
 
     /// Returns the cost of a tree.
@@ -78,17 +69,16 @@ impl Pool {
         requires { column < length self.now }
         ensures { (x : PoolTree) → slice_get self.now column ≡ Some x → result ≡ x.cost }
     {
-        self.held.as_slice()[column].cost
+        self.entry(column).1.cost
     }
 
     /// Says whether a tree has an arc. Takes no memory.
     pub fn has_arc(&self, column: usize, arc: &ArcKey) -> bool
-        requires stub { ⊥ }
-        requires column { column < length self.now }
+        requires { column < length self.now }
         ensures { (x : PoolTree) → slice_get self.now column ≡ Some x →
             IsTrue result ↔ (0 < count (same_arc arc.now) x.arcs) }
     {
-        false
+        self.entry(column).1.arcs.has(arc)
     }
 
     /// Adds a tree of the day, or finds it where it is in the pool, and returns its number. After an
@@ -103,6 +93,35 @@ impl Pool {
             × (x.steps ≡ steps.now)) }
         ensures kept { IfErr result (λ _. self.new ≡ self.old) }
     {
-        Err(Memory)
+        let tree = tree_of(self.alloc, steps)?;
+        if let Some(number) = self.trees.get_index_of(&tree) {
+            return Ok(number);
+        }
+        let number = self.trees.len();
+        let facts = facts_of(self.alloc, grammar, steps)?;
+        match self.trees.insert(tree, facts) {
+            Ok(_) => Ok(number),
+            Err(_) => Err(Memory),
+        }
     }
+
+    // Returns a tree with what is asked of it.
+    fn entry(&self, column: usize) -> (&Tree, &Facts)
+        requires { column < length self.now }
+        ensures { slice_get self.now column ≡ Some (seen result.0.now result.1.now) }
+    {
+        let Some(entry) = self.trees.get_index(column) else {
+            unreachable!();
+        };
+        entry
+    }
+}
+
+// Returns the tree of some steps.
+fn tree_of(alloc: Global, steps: &[Step]) -> Result<Tree, Memory>
+    ensures { IfOk result (λ t. t.steps ≡ steps.now) }
+{
+    let mut list = List::new(alloc);
+    list.extend_from_slice(steps)?;
+    Ok(Tree { steps: list })
 }

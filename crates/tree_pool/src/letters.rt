@@ -1,0 +1,60 @@
+ghost use Rattle.std.specs.Prelude.{◌≡◌, [], ◌∷◌, IfOk, MatchOption};
+ghost use Rattle.roster_model.specs.Sound.{IsSound};
+ghost use Rattle.tree_pool.specs.Letters.{AsksParts, GivesCodes, AreCodesOf};
+ghost use Rattle.tree_pool.specs.Pools.{AreDaySteps};
+
+use crate::rules::rule_of;
+use roster_model::{Grammar, List, Memory, Step, Sym};
+use std::alloc::Global;
+
+/// Returns the codes of the letters of a tree of the day, in their order.
+pub fn codes_of(alloc: Global, grammar: &Grammar, steps: &[Step]) -> Result<List<u8>, Memory>
+    requires sound { IsSound grammar.now }
+    requires steps { AreDaySteps grammar.now steps.now }
+    ensures { IfOk result (AreCodesOf grammar.now steps.now) }
+{
+    let mut codes = List::new(alloc);
+    add_codes(grammar, &[Sym::Name(grammar.start)], steps, &mut codes)?;
+    Ok(codes)
+}
+
+// Adds the codes of the parts that the symbols derive, whose steps come first, and returns the steps
+// that follow.
+fn add_codes<'a>(
+    grammar: &Grammar,
+    symbols: &[Sym],
+    steps: &'a [Step],
+    codes: &mut List<u8>,
+) -> Result<&'a [Step], Memory>
+    requires sound { IsSound grammar.now }
+    requires parts { AsksParts grammar.now symbols.now steps.now }
+    ensures { IfOk result (λ left. GivesCodes grammar.now symbols.now steps.now codes.old left.now codes.new) }
+{
+    let Some((symbol, others)) = first_and_rest(symbols) else {
+        return Ok(steps);
+    };
+    match symbol {
+        Sym::Code(code) => {
+            codes.push(code)?;
+            add_codes(grammar, others, steps, codes)
+        }
+        Sym::Name(_) => {
+            let Some((step, below)) = first_and_rest(steps) else {
+                unreachable!();
+            };
+            let rule = rule_of(grammar, step.rule);
+            let left = add_codes(grammar, rule.right.as_slice(), below, codes)?;
+            add_codes(grammar, others, left, codes)
+        }
+    }
+}
+
+// Returns the first item and those that follow it; `None` where there is none.
+fn first_and_rest<T: Copy>(items: &[T]) -> Option<(T, &[T])>
+    ensures { MatchOption result (items.now ≡ []) (λ p. items.now ≡ p.0 ∷ p.1.now) }
+{
+    match items {
+        [first, rest @ ..] => Some((*first, rest)),
+        [] => None,
+    }
+}
