@@ -34,9 +34,11 @@ fn with_numbers(d: u64, numbers: &[i128], kappa: i128) -> Option<u64>
     requires some { 1 ≤ d }
     requires few { d ≤ 2 ^ 30 }
     requires kappa { pos 0 <ℤ kappa }
-    ensures least { (xs : List ℤ) → IsLeastFor kappa xs d → IfSome result (IsLeastFor kappa (xs ++ numbers.now)) }
+    ensures least { (xs : List ℤ) → IsLeastFor kappa xs d →
+        IfSome result (IsLeastFor kappa (xs ++ numbers.now)) }
     ensures range { IfSome result (λ e. (1 ≤ e) × (e ≤ 2 ^ 30)) }
-    ensures none { (xs : List ℤ) → IsLeastFor kappa xs d → IfNone result (AreAllPast kappa (xs ++ numbers.now)) }
+    ensures none { (xs : List ℤ) → IsLeastFor kappa xs d →
+        IfNone result (AreAllPast kappa (xs ++ numbers.now)) }
 {
     let mut least = d;
     for number in numbers {

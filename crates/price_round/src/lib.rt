@@ -4,6 +4,8 @@
 mod denominator;
 mod floors;
 mod round;
+#[cfg(test)]
+mod tests;
 
 pub use denominator::least_denominator;
 pub use round::{RoundFault, to_prices};

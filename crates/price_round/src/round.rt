@@ -57,7 +57,8 @@ pub fn to_prices(
     ensures mults { IfOk result (λ p. All (IsMult (length cuts.now)) p.mult × AreRising p.mult) }
     ensures few { IfOk result (λ p. length p.mult ≤ length cuts.now) }
     ensures above { IfOk result (λ p. Each (λ (m : Mult). pos 0 <ℤ m.value) p.mult) }
-    ensures wide { IfErr result (IsRoundFault kappa (take cells y.now) cuts.now (drop (cells + 2) y.now) tally.old tally.new) }
+    ensures wide { IfErr result (IsRoundFault kappa (take cells y.now) cuts.now (drop (cells + 2) y.now)
+        tally.old tally.new) }
     ensures kept { IfOk result (λ _. tally.new ≡ tally.old) }
 {
     let cell_numbers = &y[..cells];
