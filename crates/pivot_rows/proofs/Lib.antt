@@ -5,3 +5,4 @@ pub mod Listed
 pub mod Sizes
 pub mod Divided
 pub mod Entries
+pub mod Unlisted

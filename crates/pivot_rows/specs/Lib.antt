@@ -1,3 +1,4 @@
 pub mod Rows
 pub mod Columns
 pub mod Places
+pub mod Quotients

@@ -7,4 +7,5 @@ pub record AreListed (numbers : List ℤ) (n : ℕ) (places : List ℕ) : Type 0
   pub within : (i : ℕ) → i < length places → slice_index places i < n
   pub rising : (i j : ℕ) → i < j → j < length places → slice_index places i < slice_index places j
   pub counted : (i : ℕ) → i < length places → at numbers (slice_index places i) ≡ pos 0 → ⊥
-  pub complete : (k : ℕ) → k < n → (at numbers k ≡ pos 0 → ⊥) → (i : ℕ) × (i < length places) × (slice_index places i ≡ k)
+  pub complete : (k : ℕ) → k < n → (at numbers k ≡ pos 0 → ⊥) →
+      (i : ℕ) × (i < length places) × (slice_index places i ≡ k)

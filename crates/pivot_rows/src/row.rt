@@ -1,4 +1,4 @@
-ghost use Rattle.std.specs.Prelude.{◌≡◌, ◌≤◌, ◌-◌, ◌++◌, ◌^◌, length, IfOk, unsigned_abs, vec_len, vec_capacity};
+ghost use Rattle.std.specs.Prelude.{◌≡◌, ◌≤◌, ◌-◌, ◌++◌, length, IfOk, vec_capacity};
 ghost use Rattle.pivot_rows.specs.Rows.{zeros};
 ghost use Rattle.pivot_rows.specs.Places.{AreListed};
 

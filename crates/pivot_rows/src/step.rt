@@ -1,11 +1,14 @@
-ghost use Rattle.std.specs.Prelude.{◌≡◌, ◌≤◌, ◌<◌, ◌^◌, pos, ◌<ℤ◌, ◌*ℤ◌, max, length, unsigned_abs, int_div, IfOk, IfErr, MatchResult};
+ghost use Rattle.std.specs.Prelude.{◌≡◌, ◌≤◌, ◌<◌, ◌^◌, pos, ◌<ℤ◌, ◌*ℤ◌, max, length, unsigned_abs, int_div};
+ghost use Rattle.std.specs.Prelude.{IfOk, IfErr, MatchResult};
 ghost use Rattle.std.specs.Int.{IsGcd, ◌∣◌};
 ghost use Rattle.linear_programs.specs.RowStep.{combined, IsCommonFactor};
 ghost use Rattle.fraction.specs.Range.{refused};
-ghost use Rattle.pivot_rows.specs.Rows.{AreNarrow, IsPrimitive, StepsTo, IsWideStep, AreDivided, IsWideDivided, whole};
+ghost use Rattle.pivot_rows.specs.Rows.{AreNarrow, IsPrimitive, StepsTo, IsWideStep};
+ghost use Rattle.pivot_rows.specs.Quotients.{AreDivided, IsWideDivided, whole};
+ghost use Rattle.pivot_rows.specs.Places.{AreListed};
 
 use crate::row::{MOST, PivotRow};
-use fraction::{Tally, TooWide, fits, gcd_unsigned};
+use fraction::{Tally, TooWide, fits, gcd, gcd_unsigned};
 
 // The new number before the common factor is taken out.
 fn combine(factor: i128, number: i64, entry: i128, other: i64) -> i128
@@ -41,7 +44,7 @@ fn common_factor(row: &[i64], factor: i128, other: &[i64], entry: i128) -> u128
     requires other { AreNarrow other.now }
     requires factor { unsigned_abs factor ≤ 2 ^ 68 }
     requires entry { unsigned_abs entry ≤ 2 ^ 68 }
-    ensures value { IsCommonFactor (whole factor row.now entry other.now) (length row.now) result }
+    ensures value { IsCommonFactor (whole row.now factor other.now entry) (length row.now) result }
     ensures size { result ≤ 2 ^ 125 }
 {
     let mut common = 0;
@@ -105,9 +108,9 @@ fn write_all(
     requires factor { unsigned_abs factor ≤ 2 ^ 68 }
     requires entry { unsigned_abs entry ≤ 2 ^ 68 }
     requires divisor { pos 0 <ℤ divisor }
-    ensures divided { IfOk result (λ _. AreDivided (length row.old) factor row.old entry other.now divisor row.new) }
+    ensures divided { IfOk result (λ _. AreDivided row.old factor other.now entry divisor row.new) }
     ensures narrow { IfOk result (λ _. AreNarrow row.new) }
-    ensures wide { IfErr result (λ _. IsWideDivided factor row.old entry other.now divisor) }
+    ensures wide { IfErr result (λ _. IsWideDivided row.old factor other.now entry divisor) }
     ensures counted { MatchResult result (λ _. tally.new ≡ tally.old) (λ _. tally.new ≡ refused tally.old) }
 {
     for place in 0..row.len() {
@@ -117,7 +120,64 @@ fn write_all(
     Ok(())
 }
 
-// Takes the step where the row has no common factor with the scalars.
+// Puts each number of the step in its place, where the common factor is that of the row: then no
+// number changes but those at a place of the other row whose number is not 0.
+fn write_listed(
+    row: &mut [i64],
+    factor: i128,
+    other: &[i64],
+    places: &[usize],
+    entry: i128,
+    tally: &mut Tally,
+) -> Result<(), TooWide>
+    requires lengths { length row.old ≤ length other.now }
+    requires narrow { AreNarrow row.old }
+    requires other { AreNarrow other.now }
+    requires listed { AreListed other.now (length other.now) places.now }
+    requires factor { (pos 0 <ℤ factor) × (unsigned_abs factor ≤ 2 ^ 68) }
+    requires entry { unsigned_abs entry ≤ 2 ^ 68 }
+    ensures divided { IfOk result (λ _. AreDivided row.old factor other.now entry factor row.new) }
+    ensures narrow { IfOk result (λ _. AreNarrow row.new) }
+    ensures wide { IfErr result (λ _. IsWideDivided row.old factor other.now entry factor) }
+    ensures counted { MatchResult result (λ _. tally.new ≡ tally.old) (λ _. tally.new ≡ refused tally.old) }
+{
+    for place in places {
+        if *place >= row.len() {
+            return Ok(());
+        }
+        let number = combine(factor, row[*place], entry, other[*place]);
+        row[*place] = divided(number, factor, tally)?;
+    }
+    Ok(())
+}
+
+// Puts the numbers of the step in their places.
+fn write_step(
+    row: &mut [i64],
+    factor: i128,
+    other: &PivotRow,
+    entry: i128,
+    divisor: i128,
+    tally: &mut Tally,
+) -> Result<(), TooWide>
+    requires lengths { length row.old ≤ length other.now }
+    requires narrow { AreNarrow row.old }
+    requires other { AreNarrow other.now }
+    requires factor { unsigned_abs factor ≤ 2 ^ 68 }
+    requires entry { unsigned_abs entry ≤ 2 ^ 68 }
+    requires divisor { pos 0 <ℤ divisor }
+    ensures divided { IfOk result (λ _. AreDivided row.old factor other.now entry divisor row.new) }
+    ensures narrow { IfOk result (λ _. AreNarrow row.new) }
+    ensures wide { IfErr result (λ _. IsWideDivided row.old factor other.now entry divisor) }
+    ensures counted { MatchResult result (λ _. tally.new ≡ tally.old) (λ _. tally.new ≡ refused tally.old) }
+{
+    if factor == divisor {
+        return write_listed(row, factor, other.numbers(), other.places(), entry, tally);
+    }
+    write_all(row, factor, other.numbers(), entry, divisor, tally)
+}
+
+// Takes the step, whatever the factor of the row.
 fn step_numbers(
     row: &mut [i64],
     factor: i128,
@@ -136,14 +196,41 @@ fn step_numbers(
     ensures counted { MatchResult result (λ _. tally.new ≡ tally.old) (λ _. tally.new ≡ refused tally.old) }
 {
     let common = common_factor(row, factor, other.numbers(), entry);
-    write_all(
-        row,
-        factor,
-        other.numbers(),
-        entry,
-        divisor_of(common),
-        tally,
-    )
+    write_step(row, factor, other, entry, divisor_of(common), tally)
+}
+
+// The exact quotient by a positive divisor.
+fn shared_out(number: i128, shared: i128) -> i128
+    requires positive { pos 0 <ℤ shared }
+    requires divides { unsigned_abs shared ∣ unsigned_abs number }
+    ensures value { shared *ℤ result ≡ number }
+    ensures size { unsigned_abs result ≤ unsigned_abs number }
+{
+    quotient(number, shared)
+}
+
+// Takes the step with what the factor of the row and the other row's have in common divided out.
+fn step_shared(
+    row: &mut [i64],
+    factor: i128,
+    other: &PivotRow,
+    entry: i128,
+    tally: &mut Tally,
+) -> Result<(), TooWide>
+    requires lengths { length row.old ≤ length other.now }
+    requires narrow { AreNarrow row.old }
+    requires other { AreNarrow other.now }
+    requires factor { (pos 0 <ℤ factor) × (unsigned_abs factor ≤ 2 ^ 68) }
+    requires entry { unsigned_abs entry ≤ 2 ^ 68 }
+    ensures step { IfOk result (λ _. StepsTo row.old factor other.now entry row.new) }
+    ensures narrow { IfOk result (λ _. AreNarrow row.new) }
+    ensures wide { IfErr result (λ _. IsWideStep row.old factor other.now entry) }
+    ensures counted { MatchResult result (λ _. tally.new ≡ tally.old) (λ _. tally.new ≡ refused tally.old) }
+{
+    let shared = gcd(factor, entry);
+    let factor_left = shared_out(factor, shared);
+    let entry_left = shared_out(entry, shared);
+    step_numbers(row, factor_left, other, entry_left, tally)
 }
 
 /// Replaces each number `r` of the row by `(factor * r - entry * s) / g`, where `s` is the number of
@@ -172,5 +259,8 @@ pub fn step_row(
     ensures wide { IfErr result (λ _. IsWideStep row.old factor other.now entry) }
     ensures counted { MatchResult result (λ _. tally.new ≡ tally.old) (λ _. tally.new ≡ refused tally.old) }
 {
-    step_numbers(row, factor, other, entry, tally)
+    if entry == 0 {
+        return Ok(());
+    }
+    step_shared(row, factor, other, entry, tally)
 }

@@ -3,7 +3,7 @@ use Rattle.std.specs.Int.{w128}
 use Rattle.std.proofs.lemmas.Int.{to_z-of_z}
 use Rattle.std.proofs.lemmas.Result.{IfOk-weaker, IfErr-weaker}
 use Rattle.linear_programs.specs.RowStep.{IsCommonFactor}
-use Rattle.pivot_rows.specs.Rows.{AreDivided, IsWideDivided, whole}
+use Rattle.pivot_rows.specs.Quotients.{AreDivided, IsWideDivided, whole}
 use Rattle.pivot_rows.proofs.Divided.{divided_steps, divided_wide}
 use Rattle.pivot_rows.proofs.step.step_numbers.Goals as goal
 
@@ -11,18 +11,18 @@ pub returns-clause-step : goal.returns-clause-step
 returns-clause-step c =
     let fp = c.ranges.factor in let fa = c.ranges.entry in
     let fg : SFits w128 c.divisor_of.result = search rules in
-    let factor : IsCommonFactor (whole c.args.factor c.args.row.now c.args.entry c.args.other.now) (length c.args.row.now) c.common_factor-common.result =
+    let factor : IsCommonFactor (whole c.args.row.now c.args.factor c.args.other.now c.args.entry) (length c.args.row.now) c.common_factor-common.result =
     rw c.numbers.ensures at (simp to_z-of_z at c.common_factor-common.ensures.value) in
-    let divided : IfOk c.write_all.result (λ _. AreDivided (length c.args.row.now) c.args.factor c.args.row.now c.args.entry c.args.other.now c.divisor_of.result c.write_all.new.row) =
-    rw c.numbers-2.ensures at (simp to_z-of_z at c.write_all.ensures.divided) in
-    IfOk-weaker c.write_all.result _ _ (λ _. divided_steps c.args.factor c.args.row.now c.args.entry c.args.other.now c.common_factor-common.result factor c.divisor_of.result c.divisor_of.ensures.value c.write_all.new.row) divided
+    let divided : IfOk c.write_step.result (λ _. AreDivided c.args.row.now c.args.factor c.args.other.now c.args.entry c.divisor_of.result c.write_step.new.row) =
+    simp to_z-of_z at c.write_step.ensures.divided in
+    IfOk-weaker c.write_step.result _ _ (λ _. divided_steps c.args.factor c.args.row.now c.args.entry c.args.other.now c.common_factor-common.result factor c.divisor_of.result c.divisor_of.ensures.value c.write_step.new.row) divided
 
 pub returns-clause-wide : goal.returns-clause-wide
 returns-clause-wide c =
     let fp = c.ranges.factor in let fa = c.ranges.entry in
     let fg : SFits w128 c.divisor_of.result = search rules in
-    let factor : IsCommonFactor (whole c.args.factor c.args.row.now c.args.entry c.args.other.now) (length c.args.row.now) c.common_factor-common.result =
+    let factor : IsCommonFactor (whole c.args.row.now c.args.factor c.args.other.now c.args.entry) (length c.args.row.now) c.common_factor-common.result =
     rw c.numbers.ensures at (simp to_z-of_z at c.common_factor-common.ensures.value) in
-    let wide : IfErr c.write_all.result (λ _. IsWideDivided c.args.factor c.args.row.now c.args.entry c.args.other.now c.divisor_of.result) =
-    rw c.numbers-2.ensures at (simp to_z-of_z at c.write_all.ensures.wide) in
-    IfErr-weaker c.write_all.result _ _ (λ _. divided_wide c.args.factor c.args.row.now c.args.entry c.args.other.now c.common_factor-common.result factor c.divisor_of.result c.divisor_of.ensures.value) wide
+    let wide : IfErr c.write_step.result (λ _. IsWideDivided c.args.row.now c.args.factor c.args.other.now c.args.entry c.divisor_of.result) =
+    simp to_z-of_z at c.write_step.ensures.wide in
+    IfErr-weaker c.write_step.result _ _ (λ _. divided_wide c.args.factor c.args.row.now c.args.entry c.args.other.now c.common_factor-common.result factor c.divisor_of.result c.divisor_of.ensures.value) wide

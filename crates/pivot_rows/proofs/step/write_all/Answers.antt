@@ -1,10 +1,11 @@
-use Rattle.std.proofs.Common.{◌≡◌, ℤ, ◌<◌, ◌≤◌, ◌^◌, arith, below_more, rules, pos, length, SFits, get_or-set_other, get_or-set_same, ◌≢◌, unsigned_abs, subst, ap, ◌∙◌}
+use Rattle.std.proofs.Common.{◌≡◌, ℕ, ℤ, ◌<◌, ◌≤◌, ◌^◌, arith, below_more, rules, pos, length, SFits, get_or-set_other, get_or-set_same, ◌≢◌, unsigned_abs, subst, ap, ◌∙◌}
 use Rattle.std.specs.Prelude.{slice_index_or, int_div}
 use Rattle.std.specs.Int.{w64, w128}
 use Rattle.std.proofs.lemmas.Int.{to_z-of_z}
 use Rattle.std.proofs.lemmas.Result.{err_from_is_err_and}
 use Rattle.std.proofs.lemmas.List.Elements.{All-set}
-use Rattle.pivot_rows.specs.Rows.{whole, AreDivided}
+use Rattle.fraction.specs.Row.{at}
+use Rattle.pivot_rows.specs.Quotients.{whole}
 use Rattle.pivot_rows.proofs.step.write_all.Goals as goal
 
 pub returns-in_err-row-clause-wide : goal.returns-in_err-row-clause-wide
@@ -16,7 +17,7 @@ returns-in_err-row-clause-wide c =
     let got = simp to_z-of_z at c.combine-number.ensures.value in
     let wide : 2 ^ 56 < unsigned_abs (int_div c.combine-number.result c.args.divisor) = simp to_z-of_z at c.in_err-row.ensures.wide in
     let old = c.loop-place.invariant.rest c.loop-place.place (omega arith) in
-    let here : 2 ^ 56 < unsigned_abs (int_div (whole c.args.factor c.args.row.now c.args.entry c.args.other.now c.loop-place.place) c.args.divisor) =
+    let here : 2 ^ 56 < unsigned_abs (int_div (whole c.args.row.now c.args.factor c.args.other.now c.args.entry c.loop-place.place) c.args.divisor) =
     subst (λ (z : ℤ). 2 ^ 56 < unsigned_abs (int_div z c.args.divisor)) (rw old at got) wide in
     let p = err_from_is_err_and c.from_residual.result c.from_residual.ensures.1 in
     rw p.1 (c.loop-place.place, omega arith, here)
@@ -32,8 +33,8 @@ loop-place-preserved c =
     let got = simp to_z-of_z at c.combine-number.ensures.value in
     let value : c.in_ok-row.field-0 ≡ int_div c.combine-number.result c.args.divisor = simp to_z-of_z at c.in_ok-row.ensures.value in
     let old = c.loop-place.invariant.rest c.loop-place.place (omega arith) in
-    let done : AreDivided c.loop-place.place c.args.factor c.args.row.now c.args.entry c.args.other.now c.args.divisor c.loop-place.row = simp to_z-of_z at c.loop-place.invariant.done in
-    let here : c.in_ok-row.field-0 ≡ int_div (whole c.args.factor c.args.row.now c.args.entry c.args.other.now c.loop-place.place) c.args.divisor =
+    let done : (k : ℕ) → k < c.loop-place.place → at c.loop-place.row k ≡ int_div (whole c.args.row.now c.args.factor c.args.other.now c.args.entry k) c.args.divisor = simp to_z-of_z at c.loop-place.invariant.done in
+    let here : c.in_ok-row.field-0 ≡ int_div (whole c.args.row.now c.args.factor c.args.other.now c.args.entry c.loop-place.place) c.args.divisor =
     value ∙ ap (λ (z : ℤ). int_div z c.args.divisor) (rw old at got) in
     simp to_z-of_z (record {
       done = below_more _ _

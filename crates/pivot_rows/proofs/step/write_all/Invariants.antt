@@ -1,11 +1,13 @@
-use Rattle.std.proofs.Common.{◌≡◌, ◌≤◌, ℕ}
+use Rattle.std.proofs.Common.{◌≡◌, ◌<◌, ◌≤◌, ℕ}
+use Rattle.std.specs.Prelude.{int_div}
 use Rattle.fraction.specs.Row.{at}
-use Rattle.pivot_rows.specs.Rows.{AreDivided, AreNarrow}
+use Rattle.pivot_rows.specs.Rows.{AreNarrow}
+use Rattle.pivot_rows.specs.Quotients.{whole}
 use Rattle.pivot_rows.proofs.step.write_all.Given as goal
 
 abbrev pub invariant-loop-place : goal.invariant-loop-place
 invariant-loop-place l = record {
-  done : AreDivided l.place l.fn.factor l.initial.row l.fn.entry l.other l.fn.divisor l.row;
+  done : (k : ℕ) → k < l.place → at l.row k ≡ int_div (whole l.initial.row l.fn.factor l.other l.fn.entry k) l.fn.divisor;
   rest : (k : ℕ) → l.place ≤ k → at l.row k ≡ at l.initial.row k;
   narrow : AreNarrow l.row;
   counted : l.tally ≡ l.initial.tally;
