@@ -1,3 +1,5 @@
 pub mod Risen
 pub mod Refused
 pub mod Ends
+pub mod Lines
+pub mod Sheet

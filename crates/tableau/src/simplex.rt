@@ -32,9 +32,7 @@ pub enum LpFault {
     /// A number left the range.
     Wide(TooWide),
     /// All pivots were made.
-    Spent {
-        pivots: u32,
-    },
+    Spent { pivots: u32 },
     /// Memory did not suffice.
     Memory,
 }

@@ -1,0 +1,105 @@
+-- Turns over lists are steps of a path.
+use Rattle.std.proofs.Common.{◌≡◌, ◌≢◌, ℕ, ℤ, suc, ◌+◌, ◌<◌, ◌≤◌, ◌^◌, arith, pos, neg_ℤ, ◌≤ℤ◌, ◌<ℤ◌, unsigned_abs, List, length, refl, sym, ap, ◌∙◌, ◌⊎◌, inl, inr, cond, subst}
+use Rattle.std.specs.Prelude.{nat_eq, slice_index, slice_set}
+use Rattle.std.proofs.lemmas.Bool.{cases_eq, eq-eqb, ne_eqb}
+use Rattle.linear_programs.specs.Program.{Column, Program, reduced}
+use Rattle.linear_programs.specs.RowStep.{IsRowStep}
+use Rattle.linear_programs.specs.Tableau.{Tableau, entry, whole_row, cost_row, padded_row, IsChoice, IsStep, PivotPath, step, IsWide, HasWidePath}
+use Rattle.linear_programs.proofs.RowLaws.{same_step}
+use Rattle.fraction.specs.Row.{at}
+use Rattle.pivot_rows.specs.Rows.{StepsTo, IsWideStep, RowStepsExist}
+use Rattle.pivot_rows.proofs.Steps.{a_step}
+use Rattle.tableau.specs.Lines.{row_at, AreLines, IsLine, IsLeaving, padded, IsTurn, IsWideTurn, HasWideRow, AreStepped}
+use Rattle.tableau.specs.Sheet.{tableau_of, IsSheet, IsOnPath}
+use Rattle.tableau.proofs.Padded.{padded_below, padded_last}
+
+-- a row that has its right side at place m
+pub whole_at : (m : ℕ) (f : ℕ → ℤ) (k : ℕ) → whole_row m f (f m) k ≡ f k
+whole_at m f k = by (cases_eq k m)
+  where
+    by : (k ≡ m) ⊎ (k ≡ m → ⊥) → whole_row m f (f m) k ≡ f k
+    by (inl e) = rw (e, eq-eqb m m refl) refl
+    by (inr e) = rw (ne_eqb k m e) refl
+
+-- a cost row that has its value and kappa behind the prices
+pub cost_at : {K : Type 0} (m : ℕ) (t : Tableau K) (f : ℕ → ℤ) → ((i : ℕ) → i < m → t.y i ≡ f i) → t.value ≡ f m → t.kappa ≡ f (m + 1) → (k : ℕ) → k < m + 2 → cost_row m t k ≡ f k
+cost_at m t f y v kappa k h = by (cases_eq k (m + 1)) (cases_eq k m)
+  where
+    by : (k ≡ m + 1) ⊎ (k ≡ m + 1 → ⊥) → (k ≡ m) ⊎ (k ≡ m → ⊥) → cost_row m t k ≡ f k
+    by (inl e) _ = rw (e, eq-eqb (m + 1) (m + 1) refl) kappa
+    by (inr n) (inl e) = rw (ne_eqb k (m + 1) n, eq-eqb k m e) (v ∙ ap f (sym e))
+    by (inr n) (inr e) = rw (ne_eqb k (m + 1) n, ne_eqb k m e) (y k (omega arith))
+
+module _ {K : Type 0} (p : Program K) (keys : ℕ → K) (rows : List (List ℤ)) (cost : List ℤ) (n : ℕ)
+    (path : PivotPath p n (tableau_of p.rows keys rows cost)) (lines : AreLines p.rows rows)
+    (entries : List ℤ) (reduction : ℤ) (key : K) (member : p.belongs key)
+    (are : (r : ℕ) → r < p.rows → at entries r ≡ entry p.rows (tableau_of p.rows keys rows cost) r (p.column key))
+    (is : reduction ≡ reduced p.rows (at cost) (at cost (p.rows + 1)) (p.column key)) (cheaper : reduction <ℤ pos 0)
+    (t : ℕ) (leaving : IsLeaving p.rows rows entries p.rows t) where
+  old : Tableau K
+  old = tableau_of p.rows keys rows cost
+
+  pub next_keys : ℕ → K
+  next_keys r = cond (nat_eq r t) key (keys r)
+
+  pub next_same : (r : ℕ) → r ≡ t → next_keys r ≡ key
+  unfolding next_keys
+  next_same r e = rw (eq-eqb r t e) refl
+
+  pub next_other : (r : ℕ) → (r ≡ t → ⊥) → next_keys r ≡ keys r
+  unfolding next_keys
+  next_other r e = rw (ne_eqb r t e) refl
+
+  choice : IsChoice p.rows (tableau_of p.rows keys rows cost) (p.column key) t
+  choice = record {
+    cheaper = rw is at cheaper;
+    within = leaving.within;
+    positive = rw (are t leaving.within) at leaving.positive;
+    least = λ r h positive. rw (are r h, are t leaving.within) at (leaving.least r h (rw (are r h) positive));
+  }
+
+  -- the steps of the rows lead to a tableau
+  pub next_path : (new : Tableau K) → ((i : ℕ) → i < p.rows → new.row t i ≡ at (row_at rows t) i) → new.right t ≡ at (row_at rows t) p.rows
+      → ((r : ℕ) → r < p.rows → r ≢ t → (g : ℤ) × (left : ℕ → ℤ) × ((k : ℕ) → k < p.rows + 1 → left k ≡ whole_row p.rows (new.row r) (new.right r) k) × IsRowStep (p.rows + 1) (at entries t) (at (row_at rows r)) (at entries r) (at (padded (row_at rows t))) left g)
+      → ((g : ℤ) × (left : ℕ → ℤ) × ((k : ℕ) → k < p.rows + 2 → left k ≡ cost_row p.rows new k) × IsRowStep (p.rows + 2) (at entries t) (at cost) (neg_ℤ reduction) (at (padded (row_at rows t))) left g)
+      → ((r : ℕ) → r < p.rows → new.basis r ≡ next_keys r) → PivotPath p (suc n) new
+  next_path new numbers right others prices basis = step n (tableau_of p.rows keys rows cost) new key t path member (record {
+    choice = choice;
+    same = (numbers, right);
+    rows = λ r h ne.
+        let x = others r h ne in (
+          x.0,
+          rw (are t leaving.within, are r h) at
+              (same_step (p.rows + 1) (at entries t) (at (row_at rows r)) (whole_row p.rows (at (row_at rows r)) (at (row_at rows r) p.rows)) (at entries r) (at (padded (row_at rows t))) (whole_row p.rows (at (row_at rows t)) (at (row_at rows t) p.rows)) x.1 (whole_row p.rows (new.row r) (new.right r)) x.0 x.3
+              (λ k b. sym (whole_at p.rows (at (row_at rows r)) k))
+              (λ k b. padded_below (row_at rows t) k (let l = (lines.each t leaving.within).long in omega arith) ∙ sym (whole_at p.rows (at (row_at rows t)) k))
+              x.2),
+        );
+    cost = (
+      prices.0,
+      rw (are t leaving.within, is) at
+          (same_step (p.rows + 2) (at entries t) (at cost) (cost_row p.rows (tableau_of p.rows keys rows cost)) (neg_ℤ reduction) (at (padded (row_at rows t))) (padded_row p.rows (tableau_of p.rows keys rows cost) t) prices.1 (cost_row p.rows new) prices.0 prices.3
+          (λ k b. sym (cost_at p.rows (tableau_of p.rows keys rows cost) (at cost) (λ i h. refl) refl refl k b))
+          (λ k b. padded_at k b (cases_eq k (p.rows + 1)))
+          prices.2),
+    );
+    basis = (basis t leaving.within ∙ next_same t refl, λ r h ne. basis r h ∙ next_other r ne);
+  })
+    where
+      long : length (row_at rows t) ≡ p.rows + 1
+      long = (lines.each t leaving.within).long
+
+      padded_at : (k : ℕ) → k < p.rows + 2 → (k ≡ p.rows + 1) ⊎ (k ≡ p.rows + 1 → ⊥) → at (padded (row_at rows t)) k ≡ padded_row p.rows (tableau_of p.rows keys rows cost) t k
+      padded_at k h (inl e) = rw (eq-eqb k (p.rows + 1) e) (padded_last (row_at rows t) k (let l = long in omega arith))
+      padded_at k h (inr ne) = rw (ne_eqb k (p.rows + 1) ne) (padded_below (row_at rows t) k (let l = long in omega arith) ∙ sym (whole_at p.rows (at (row_at rows t)) k))
+
+  -- a turn over lists
+  pub turn_path : (new : List (List ℤ)) (left : List ℤ) → length cost ≡ p.rows + 2 → AreStepped rows entries t new p.rows → StepsTo cost (at entries t) (padded (row_at rows t)) (neg_ℤ reduction) left
+      → PivotPath p (suc n) (tableau_of p.rows next_keys new left)
+  turn_path new left long s prices =
+      next_path (tableau_of p.rows next_keys new left) (λ i h. ap (λ (row : List ℤ). at row i) s.same) (ap (λ (row : List ℤ). at row p.rows) s.same)
+      (λ r h ne.
+      let x = s.stepped r h ne in
+      (x.0, at (row_at new r), (λ k b. sym (whole_at p.rows (at (row_at new r)) k)), rw (lines.each r h).long at x.1))
+      (prices.0, at left, (λ k b. sym (cost_at p.rows (tableau_of p.rows next_keys new left) (at left) (λ i h. refl) refl refl k b)), rw long at prices.1)
+      (λ r h. refl)

@@ -1,0 +1,24 @@
+use Rattle.std.proofs.Common.{◌≡◌, ◌<◌, ◌≤◌, ◌+◌, arith, pos, length, SFits, rules, ℤ, List, ap, ◌∙◌, subst}
+use Rattle.std.specs.Int.{w128}
+use Rattle.std.proofs.lemmas.Int.{to_z-of_z}
+use Rattle.fraction.specs.Row.{at}
+use Rattle.linear_programs.specs.Sums.{dot}
+use Rattle.pivot_rows.specs.Columns.{number_in}
+use Rattle.tableau.specs.Lines.{row_at}
+use Rattle.tableau.proofs.Turns.{row_is, within_more, entries_more}
+use Rattle.tableau.proofs.turn.write_entries.Goals as goal
+
+pub entry_in-requires-clause-within : goal.entry_in-requires-clause-within
+entry_in-requires-clause-within c =
+    let e = c.as_slice.ensures ∙ row_is c.args.rows.now c.loop-row.row c.index-rows-row.result c.loop-row-test.true c.index-rows-row.is in
+    let long = c.requires.lines.each c.loop-row.row c.loop-row-test.true in
+    within_more c.args.column.now (length c.args.rows.now) (length c.as_slice.result.now) (omega (arith, ap length e, long.long)) c.requires.within
+
+pub loop-row-preserved : goal.loop-row-preserved
+loop-row-preserved c =
+    let f : SFits w128 c.entry_in.result = search rules in
+    let m = length c.args.rows.now in
+    let e = c.as_slice.ensures ∙ row_is c.args.rows.now c.loop-row.row c.index-rows-row.result c.loop-row-test.true c.index-rows-row.is in
+    let long = (c.requires.lines.each c.loop-row.row c.loop-row-test.true).long in
+    let value = c.entry_in.ensures.value m (omega (arith, ap length e, long)) c.requires.within in
+    simp to_z-of_z (entries_more m c.args.rows.now c.args.column.now c.loop-row.entries c.loop-row.row c.entry_in.result (omega arith) (rw e at value) c.entry_in.ensures.size c.loop-row.invariant)

@@ -1,0 +1,66 @@
+ghost use Rattle.std.specs.Prelude.{◌≡◌};
+
+use crate::line::Line;
+use pivot_rows::PivotRow;
+use std::marker::Model;
+
+/// The rows of a tableau, which contracts see as their list.
+#[derive(Drop)]
+pub(crate) struct Rows {
+    pub(crate) lines: Vec<Line>,
+}
+
+impl Model for Rows {
+    ghost use Rattle.std.specs.Prelude.{List as Items, ℤ};
+
+    ghost Value = { Items (Items ℤ) };
+
+    ghost view = { λ r. r.lines.items };
+}
+
+/// The entries of a column, which contracts see as their list.
+#[derive(Drop)]
+pub(crate) struct Entries {
+    pub(crate) numbers: Vec<i128>,
+}
+
+impl Model for Entries {
+    ghost use Rattle.std.specs.Prelude.{List as Items, ℤ};
+
+    ghost Value = { Items ℤ };
+
+    ghost view = { λ e. e.numbers.items };
+}
+
+/// The numbers of a tableau, with the listed column that is basic in each row, and room for a turn.
+#[derive(Drop)]
+pub(crate) struct Sheet {
+    /// The rows, each with its right side behind its numbers.
+    pub(crate) rows: Rows,
+    /// The prices, and behind them a value and their denominator.
+    pub(crate) cost: Line,
+    /// The basic column of each row.
+    pub(crate) basis: Vec<usize>,
+    /// Room for the entries of a column.
+    pub(crate) entries: Entries,
+    /// Room for the row of a pivot.
+    pub(crate) pivot: PivotRow,
+}
+
+impl Rows {
+    /// Returns the rows in order.
+    pub(crate) fn as_slice(&self) -> &[Line]
+        ensures { result.now ≡ self.now }
+    {
+        self.lines.as_slice()
+    }
+}
+
+impl Entries {
+    /// Returns the entries in the order of the rows.
+    pub(crate) fn as_slice(&self) -> &[i128]
+        ensures { result.now ≡ self.now }
+    {
+        self.numbers.as_slice()
+    }
+}
