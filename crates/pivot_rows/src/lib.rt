@@ -11,3 +11,6 @@ pub use column::{Place, entry_in};
 pub use laws::row_steps_exist;
 pub use row::{MOST, PivotRow};
 pub use step::step_row;
+
+#[cfg(test)]
+mod tests;
