@@ -1,5 +1,5 @@
 -- The entries of a pool: those that are found, and one more.
-use Rattle.std.proofs.Common.{◌≡◌, ◌⊎◌, inl, inr, ℕ, zero, suc, Bool, true, false, List, [], ◌∷◌, ◌++◌, Option, None, Some, length, get_or, map, refl, sym, ap, subst, ◌∙◌, true≢false, is_some}
+use Rattle.std.proofs.Common.{◌≡◌, ◌<◌, ◌⊎◌, inl, inr, ℕ, zero, suc, Bool, true, false, List, [], ◌∷◌, ◌++◌, Option, None, Some, length, get_or, map, refl, sym, ap, subst, ◌∙◌, true≢false, is_some, arith}
 use Rattle.std.specs.Prelude.{slice_get, option_map, position}
 use Rattle.std.specs.Map.{lookup}
 use Rattle.std.proofs.lemmas.List.{length-map, map-append}
@@ -57,6 +57,10 @@ no-entry (f ∷ es) tree (suc j) e none at same = by (tree_eq tree f.0) refl (λ
     by true own rest = let some = rw own at none in cc
     by false own rest = rest (rw own at none)
 
+-- a number of an entry is one of a tree of the pool
+pub within-seen : (es : List Entry) (n : ℕ) → n < length es → n < length (all_seen es)
+within-seen es n l = omega (arith, l, length-map es (λ (e : Entry). seen e.0 e.1))
+
 pub nothing-found : {X : Type 0} (r : Option ℕ) (o : Option X) → is_some r ≡ is_some o → r ≡ None → o ≡ None
 nothing-found r None e none = refl
 nothing-found r (Some x) e none = absurd (true≢false (sym e ∙ ap is_some none))
@@ -65,6 +69,10 @@ module _ (g : Grammar) (es : List Entry) (tree : Tree) (facts : Facts) where
   -- one tree more
   pub seen-more : all_seen (es ++ (tree, facts) ∷ []) ≡ all_seen es ++ seen tree facts ∷ []
   seen-more = map-append (λ (e : Entry). seen e.0 e.1) es ((tree, facts) ∷ [])
+
+  -- there is one more
+  pub seen-count : length es ≡ length (all_seen es)
+  seen-count = sym (length-map es (λ (e : Entry). seen e.0 e.1))
 
   -- it has the next number
   pub seen-last : slice_get (all_seen (es ++ (tree, facts) ∷ [])) (length es) ≡ Some (seen tree facts)

@@ -16,4 +16,5 @@ all_seen es = map (λ e. seen e.0 e.1) es
 
 -- these are the facts of each tree of the day with these steps
 abbrev pub TellFacts : Grammar → List Step → Facts → Type 0
-TellFacts g xs f = (t : Parts) → IsDayTree g t → xs ≡ steps 1 t → IsPoolTree g t (seen (record { steps = xs }) f)
+TellFacts g xs f =
+    (t : Parts) → IsDayTree g t → xs ≡ steps 1 t → IsPoolTree g t (seen (record { steps = xs }) f)

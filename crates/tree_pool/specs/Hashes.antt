@@ -29,7 +29,8 @@ same a b e =
     (eqb-true a.len b.len k.1)
   where
     three : (r r' i i' l l' : ℕ) → r ≡ r' → i ≡ i' → l ≡ l'
-        → ◌≡◌ {A = Step} (record { rule = r; start = i; len = l }) (record { rule = r'; start = i'; len = l' })
+        → ◌≡◌ {A = Step} (record { rule = r; start = i; len = l })
+        (record { rule = r'; start = i'; len = l' })
     three r r' i i' l l' a b c = cc
 
 -- lists of the same steps are one list
@@ -62,5 +63,6 @@ pub own_steps : (xs ys : List Step) → xs ≡ ys → pointwise same_step xs ys 
 own_steps xs ys e = subst (λ (zs : List Step). pointwise same_step xs zs ≡ true) e (every-step xs)
 
 -- lists of the same steps are hashed alike
-pub same_writes : (xs ys : List Step) → pointwise same_step xs ys ≡ true → flat_map step_writes xs ≡ flat_map step_writes ys
+pub same_writes : (xs ys : List Step) → pointwise same_step xs ys ≡ true
+    → flat_map step_writes xs ≡ flat_map step_writes ys
 same_writes xs ys h = ap (flat_map step_writes) (same_steps xs ys h)

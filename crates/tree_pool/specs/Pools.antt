@@ -1,5 +1,5 @@
 -- Pools of trees of the day.
-use Rattle.std.specs.Prelude.{ℕ, ◌≡◌, ◌++◌, Some, List, [], ◌∷◌, slice_get, suc}
+use Rattle.std.specs.Prelude.{ℕ, ◌≡◌, ◌<◌, ◌⊎◌, ◌++◌, Some, length, List, [], ◌∷◌, slice_get, suc}
 use Rattle.roster_model.specs.declared.grammar.ArcKey.{ArcKey}
 use Rattle.roster_model.specs.declared.grammar.Grammar.{Grammar}
 use Rattle.roster_model.specs.declared.grammar.Step.{Step}
@@ -37,6 +37,11 @@ pub record IsPool (g : Grammar) (pool : List PoolTree) : Type 0 where
 -- the old trees keep their numbers
 abbrev pub IsGrown : List PoolTree → List PoolTree → Type 0
 IsGrown old new = (more : List PoolTree) × (new ≡ old ++ more)
+
+-- the pool stays, where the tree had this number, or it has the tree as its last one now
+abbrev pub IsAdded : List PoolTree → List PoolTree → ℕ → Type 0
+IsAdded old new n =
+    ((new ≡ old) × (n < length old)) ⊎ ((x : PoolTree) × (new ≡ old ++ x ∷ []) × (n ≡ length old))
 
 -- the rule uses are those of a tree of the day
 abbrev pub AreDaySteps : Grammar → List Step → Type 0

@@ -28,7 +28,8 @@ fn add_codes<'a>(
 ) -> Result<&'a [Step], Memory>
     requires sound { IsSound grammar.now }
     requires parts { AsksParts grammar.now symbols.now steps.now }
-    ensures { IfOk result (λ left. GivesCodes grammar.now symbols.now steps.now codes.old left.now codes.new) }
+    ensures { IfOk result (λ left. GivesCodes grammar.now symbols.now steps.now codes.old left.now
+        codes.new) }
 {
     let Some((symbol, others)) = first_and_rest(symbols) else {
         return Ok(steps);

@@ -11,3 +11,6 @@ mod tree;
 
 pub use pool::Pool;
 pub use tree::Tree;
+
+#[cfg(test)]
+mod tests;

@@ -4,7 +4,7 @@ ghost use Rattle.roster_model.specs.Sound.{IsSound};
 ghost use Rattle.roster_model.specs.Folds.{count};
 ghost use Rattle.roster_model.specs.Arcs.{same_arc};
 ghost use Rattle.tree_pool.specs.Entries.{seen};
-ghost use Rattle.tree_pool.specs.Pools.{PoolTree, IsPool, IsGrown, AreDaySteps};
+ghost use Rattle.tree_pool.specs.Pools.{PoolTree, IsPool, IsGrown, IsAdded, AreDaySteps};
 
 use crate::facts::{Facts, facts_of};
 use crate::tree::Tree;
@@ -89,6 +89,7 @@ impl Pool {
         requires pool { IsPool grammar.now self.old }
         ensures pool { IsPool grammar.now self.new }
         ensures grown { IsGrown self.old self.new }
+        ensures added { IfOk result (IsAdded self.old self.new) }
         ensures found { IfOk result (λ n. (x : PoolTree) × (slice_get self.new n ≡ Some x)
             × (x.steps ≡ steps.now)) }
         ensures kept { IfErr result (λ _. self.new ≡ self.old) }
