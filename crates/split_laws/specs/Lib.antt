@@ -1,0 +1,4 @@
+pub mod Nodes
+pub mod Owing
+pub mod Splits
+pub mod Filling
