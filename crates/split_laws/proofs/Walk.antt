@@ -9,7 +9,7 @@ use Rattle.roster_model.specs.Cuts.{arcs_of, arc_count}
 use Rattle.arc_laws.specs.OrNodes.{OrNode, name, suffix, leaf, same_node, made_by, made, used, root_of}
 use Rattle.arc_laws.specs.Balance.{made_sum, used_sum}
 use Rattle.arc_laws.proofs.Folding.{count-append}
-use Rattle.split_laws.specs.Nodes.{IsAt, arcs_at, IsInner}
+use Rattle.split_laws.specs.Nodes.{IsAt, arcs_at, IsInner, copies}
 use Rattle.split_laws.specs.Owing.{Owes, Taken}
 use Rattle.split_laws.proofs.Shape.{Shape}
 use Rattle.split_laws.proofs.Build.{KidsAt, kid_arcs, built, Uses, uses_one, uses_two, uses-some}
@@ -32,11 +32,6 @@ inner-made g a = by a.suffix
     by : (k : ℕ) → IsInner (made_by g a.rule k a.start a.len)
     by zero = tt
     by (suc k) = tt
-
--- the same node many times
-abbrev pub copies : ℕ → OrNode → List OrNode
-copies zero o = []
-copies (suc k) o = o ∷ copies k o
 
 module _ (g : Grammar) (listed : List ArcKey) (shapes : (a : ArcKey) → In a listed → Shape g a) (once : (a : ArcKey) → In a listed → count (same_arc a) listed ≡ 1) where
   abbrev total : (ArcKey → ℕ) → ℕ

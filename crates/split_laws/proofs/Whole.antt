@@ -14,7 +14,7 @@ use Rattle.arc_laws.specs.Counts.{root_count}
 use Rattle.arc_laws.proofs.Folding.{count-none}
 use Rattle.arc_laws.proofs.Balanced.{used_total, tree_balanced}
 use Rattle.arc_laws.proofs.Once.{made-once}
-use Rattle.split_laws.specs.Nodes.{IsInner}
+use Rattle.split_laws.specs.Nodes.{IsInner, copies}
 use Rattle.split_laws.specs.Owing.{Owes}
 use Rattle.parse_graph.specs.Graphs.{HasArcs}
 use Rattle.parse_graph.proofs.PlacesLemmas.{In-at, at-In, once-counted, in-graph}
@@ -22,7 +22,7 @@ use Rattle.split_laws.specs.Splits.{AreTreesOf}
 use Rattle.split_laws.proofs.Shape.{arc-shape}
 use Rattle.parse_graph.proofs.UsedLemmas.{same-node, own-node}
 use Rattle.split_laws.proofs.Take.{positive, sum-some, In-count}
-use Rattle.split_laws.proofs.Walk.{inner-made, copies, forest}
+use Rattle.split_laws.proofs.Walk.{inner-made, forest}
 
 module _ (g : Grammar) where
   -- no arc of a tree uses the root

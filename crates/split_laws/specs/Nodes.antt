@@ -51,3 +51,8 @@ push_inner (leaf l) os = os
 abbrev pub stack_after : List OrNode → List OrNode → List OrNode
 stack_after [] rest = rest
 stack_after (o ∷ os) rest = push_inner o (stack_after os rest)
+
+-- the same node many times
+abbrev pub copies : ℕ → OrNode → List OrNode
+copies zero o = []
+copies (suc k) o = o ∷ copies k o

@@ -1,0 +1,4 @@
+pub mod Places
+pub mod Evening
+pub mod Taking
+pub mod Splitting

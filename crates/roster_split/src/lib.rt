@@ -1,0 +1,10 @@
+//! Counts of a graph's arcs as a list of the day's trees that have them.
+#![tactic(auto)]
+
+mod balance;
+mod fault;
+mod take;
+mod trees;
+
+pub use fault::SplitFault;
+pub use trees::split;
