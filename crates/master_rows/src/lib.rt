@@ -2,6 +2,8 @@
 //! columns, what a tree brings to each row, and the rows' prices by cells and cuts.
 #![tactic(auto)]
 
+mod building;
+mod entries;
 mod rows;
 mod sense;
 
