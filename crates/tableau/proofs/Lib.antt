@@ -3,3 +3,8 @@ pub mod Turns
 pub mod Bounded
 pub mod Padded
 pub mod Paths
+pub mod Ends
+pub mod Places
+pub mod Counts
+pub mod Entering
+pub mod Running

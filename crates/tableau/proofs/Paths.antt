@@ -103,3 +103,67 @@ module _ {K : Type 0} (p : Program K) (keys : ℕ → K) (rows : List (List ℤ)
       (x.0, at (row_at new r), (λ k b. sym (whole_at p.rows (at (row_at new r)) k)), rw (lines.each r h).long at x.1))
       (prices.0, at left, (λ k b. sym (cost_at p.rows (tableau_of p.rows next_keys new left) (at left) (λ i h. refl) refl refl k b)), rw long at prices.1)
       (λ r h. refl)
+
+  -- a tableau whose rows and cost row are steps
+  next_of : (ℕ → ℕ → ℤ) → (ℕ → ℤ) → Tableau K
+  next_of lefts costs = record {
+    row = λ r i. cond (nat_eq r t) (at (row_at rows t) i) (lefts r i);
+    right = λ r. cond (nat_eq r t) (at (row_at rows t) p.rows) (lefts r p.rows);
+    basis = next_keys;
+    y = costs;
+    value = costs p.rows;
+    kappa = costs (p.rows + 1);
+  }
+
+  next_of_path : (lefts : ℕ → ℕ → ℤ) → ((r : ℕ) → r < p.rows → r ≢ t → (g : ℤ) × IsRowStep (p.rows + 1) (at entries t) (at (row_at rows r)) (at entries r) (at (padded (row_at rows t))) (lefts r) g)
+      → (costs : ℕ → ℤ) → ((g : ℤ) × IsRowStep (p.rows + 2) (at entries t) (at cost) (neg_ℤ reduction) (at (padded (row_at rows t))) costs g) → PivotPath p (suc n) (next_of lefts costs)
+  unfolding next_of
+  next_of_path lefts steps costs prices =
+      next_path (next_of lefts costs) (λ i h. rw (eq-eqb t t refl) refl) (rw (eq-eqb t t refl) refl)
+      (λ r h ne. let x = steps r h ne in (x.0, lefts r, (λ k b. sym (left_at r k ne (cases_eq k p.rows))), x.1))
+      (prices.0, costs, (λ k b. sym (cost_at p.rows (next_of lefts costs) costs (λ i h. refl) refl refl k b)), prices.1)
+      (λ r h. refl)
+    where
+      left_at : (r k : ℕ) → r ≢ t → (k ≡ p.rows) ⊎ (k ≡ p.rows → ⊥) → whole_row p.rows ((next_of lefts costs).row r) ((next_of lefts costs).right r) k ≡ lefts r k
+      left_at r k ne (inl e) = rw (e, eq-eqb p.rows p.rows refl, ne_eqb r t ne) refl
+      left_at r k ne (inr e) = rw (ne_eqb k p.rows e, ne_eqb r t ne) refl
+
+  some_left : ℕ → ℕ → ℤ
+  some_left r = (a_step (p.rows + 1) (at entries t) (at (row_at rows r)) (at entries r) (at (padded (row_at rows t)))).0
+
+  some_step : (r : ℕ) → (g : ℤ) × IsRowStep (p.rows + 1) (at entries t) (at (row_at rows r)) (at entries r) (at (padded (row_at rows t))) (some_left r) g
+  unfolding some_left
+  some_step r = let x = a_step (p.rows + 1) (at entries t) (at (row_at rows r)) (at entries r) (at (padded (row_at rows t))) in (x.1, x.2)
+
+  some_cost : (costs : ℕ → ℤ) × (g : ℤ) × IsRowStep (p.rows + 2) (at entries t) (at cost) (neg_ℤ reduction) (at (padded (row_at rows t))) costs g
+  some_cost = a_step (p.rows + 2) (at entries t) (at cost) (neg_ℤ reduction) (at (padded (row_at rows t)))
+
+  -- a row whose step is wide
+  wide_left : HasWideRow p.rows rows entries t → ℕ → ℕ → ℤ
+  wide_left x s = cond (nat_eq s x.0) x.3.left (some_left s)
+
+  row_path : HasWideRow p.rows rows entries t → HasWidePath p
+  unfolding next_of wide_left
+  row_path x = (suc n, next_of (wide_left x) some_cost.0, next_of_path (wide_left x) (λ r h ne. steps r h (cases_eq r x.0)) some_cost.0 (some_cost.1, some_cost.2), wide (cases_eq x.3.place p.rows))
+    where
+      steps : (r : ℕ) → r < p.rows → (r ≡ x.0) ⊎ (r ≡ x.0 → ⊥) → (g : ℤ) × IsRowStep (p.rows + 1) (at entries t) (at (row_at rows r)) (at entries r) (at (padded (row_at rows t))) (wide_left x r) g
+      steps r h (inl e) = rw (e, eq-eqb x.0 x.0 refl) (x.3.factor, rw (lines.each x.0 x.1).long at x.3.step)
+      steps r h (inr e) = rw (ne_eqb r x.0 e) (some_step r)
+
+      wide : (x.3.place ≡ p.rows) ⊎ (x.3.place ≡ p.rows → ⊥) → IsWide p.rows (next_of (wide_left x) some_cost.0)
+      wide (inl e) = inr (inl (x.0, x.1, rw (ne_eqb x.0 t x.2, eq-eqb x.0 x.0 refl, sym e) x.3.wide))
+      wide (inr e) = inl (x.0, x.3.place, x.1, (let l = (lines.each x.0 x.1).long in let w = x.3.within in omega arith), rw (ne_eqb x.0 t x.2, eq-eqb x.0 x.0 refl) x.3.wide)
+
+  -- the cost row's step is wide
+  cost_path : length cost ≡ p.rows + 2 → IsWideStep cost (at entries t) (padded (row_at rows t)) (neg_ℤ reduction) → HasWidePath p
+  unfolding next_of
+  cost_path long x = (suc n, next_of some_left x.left, next_of_path some_left (λ r h ne. some_step r) x.left (x.factor, rw long at x.step), wide (cases_eq x.place p.rows) (cases_eq x.place (p.rows + 1)))
+    where
+      wide : (x.place ≡ p.rows) ⊎ (x.place ≡ p.rows → ⊥) → (x.place ≡ p.rows + 1) ⊎ (x.place ≡ p.rows + 1 → ⊥) → IsWide p.rows (next_of some_left x.left)
+      wide (inl e) _ = inr (inr (inr (inl (rw e at x.wide))))
+      wide (inr ne) (inl e) = inr (inr (inr (inr (rw e at x.wide))))
+      wide (inr ne) (inr ne') = inr (inr (inl (x.place, (let w = x.within in omega arith), x.wide)))
+
+  pub wide_path : length cost ≡ p.rows + 2 → HasWideRow p.rows rows entries t ⊎ IsWideStep cost (at entries t) (padded (row_at rows t)) (neg_ℤ reduction) → HasWidePath p
+  wide_path long (inl x) = row_path x
+  wide_path long (inr x) = cost_path long x

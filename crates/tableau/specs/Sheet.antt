@@ -28,3 +28,13 @@ pub record IsOnPath {K : Type 0} (p : Program K) (Lists : ℕ → K → Type 0) 
   pub keys : ℕ → K
   pub path : PivotPath p n (tableau_of p.rows keys rows cost)
   pub listed : (r : ℕ) → r < p.rows → Lists (slice_index basis r) (keys r)
+
+-- the lengths of what a turn and a pricing fill
+pub record HasRoom (m : ℕ) (entries prices pivot : List ℤ) : Type 0 where
+  pub entry : length entries ≡ m
+  pub price : length prices ≡ m
+  pub numbers : length pivot ≡ m + 2
+
+-- the first m numbers are those of the row
+abbrev pub AreCopied : ℕ → List ℤ → List ℤ → Type 0
+AreCopied m numbers row = (i : ℕ) → i < m → at numbers i ≡ at row i

@@ -77,7 +77,8 @@ pub trait Columns {
         requires { Ready (state self.now) }
         ensures value { result ≡ size (state self.now) }
         ensures keys { (j : ℕ) → j < size (state self.now) → (k : Key) × Lists (state self.now) j k
-            × (program (site self.now)).belongs k };
+            × (program (site self.now)).belongs k }
+        ensures inside { (j : ℕ) (k : Key) → Lists (state self.now) j k → j < size (state self.now) };
 
     /// Returns the entries of a listed column that are not 0, in the order of the rows.
     fn places(&self, column: usize) -> &[Place]

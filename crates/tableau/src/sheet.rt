@@ -1,4 +1,6 @@
-ghost use Rattle.std.specs.Prelude.{◌≡◌};
+ghost use Rattle.std.specs.Prelude.{ℕ, ◌≡◌, ◌≤◌, ◌<◌, length};
+ghost use Rattle.fraction.specs.Row.{at};
+ghost use Rattle.tableau.specs.Sheet.{AreCopied};
 
 use crate::line::Line;
 use pivot_rows::PivotRow;
@@ -43,6 +45,8 @@ pub(crate) struct Sheet {
     pub(crate) basis: Vec<usize>,
     /// Room for the entries of a column.
     pub(crate) entries: Entries,
+    /// Room for the prices.
+    pub(crate) prices: Entries,
     /// Room for the row of a pivot.
     pub(crate) pivot: PivotRow,
 }
@@ -62,5 +66,24 @@ impl Entries {
         ensures { result.now ≡ self.now }
     {
         self.numbers.as_slice()
+    }
+
+    /// Holds the first numbers of a row.
+    pub(crate) fn copy(&mut self, row: &[i64])
+        requires { length self.old ≤ length row.now }
+        ensures copied { AreCopied (length self.old) self.new row.now }
+        ensures length { length self.new ≡ length self.old }
+    {
+        copy_numbers(&mut self.numbers, row);
+    }
+}
+
+/// Writes the first numbers of a row.
+fn copy_numbers(numbers: &mut [i128], row: &[i64])
+    requires { length numbers.old ≤ length row.now }
+    ensures { AreCopied (length numbers.old) numbers.new row.now }
+{
+    for i in 0..numbers.len() {
+        numbers[i] = i128::from(row[i]);
     }
 }

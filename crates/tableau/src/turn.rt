@@ -123,6 +123,7 @@ pub(crate) fn turn(
         × (sheet.new.basis.items ≡ slice_set sheet.old.basis.items t column)) }
     ensures sheet { IfOk result (λ _. IsSheet (length sheet.old.rows) sheet.new.rows sheet.new.cost sheet.new.basis.items) }
     ensures entries { length sheet.new.entries ≡ length sheet.old.entries }
+    ensures prices { sheet.new.prices ≡ sheet.old.prices }
     ensures pivot { length sheet.new.pivot ≡ length sheet.old.pivot }
     ensures wide { IfErr result (λ _. (t : ℕ) × (entries : List ℤ)
         × AreEntries (length sheet.old.rows) sheet.old.rows places.now entries (length sheet.old.rows)

@@ -1,0 +1,21 @@
+-- Paths and faults while columns are listed and refusals counted.
+use Rattle.std.proofs.Common.{◌≡◌, ℕ, ℤ, ◌+◌, ◌-◌, ◌<◌, ◌≤◌, ◌^◌, List, arith, ◌⊎◌, inl, inr}
+use Rattle.linear_programs.specs.Program.{Program}
+use Rattle.fraction.specs.Range.{Counts}
+use Rattle.tableau.specs.Risen.{HasRisen}
+use Rattle.tableau.specs.Sheet.{IsOnPath}
+use Rattle.tableau.specs.Ends.{IsLpFault, HasLargeColumn}
+use Rattle.tableau.specs.declared.simplex.LpFault.{LpFault}
+use Rattle.tableau.specs.declared.simplex.LpFault.TheVariants.{Wide, Spent, Memory}
+
+pub on_path_kept : {K : Type 0} (p : Program K) (Lists More : ℕ → K → Type 0) (rows : List (List ℤ)) (cost : List ℤ) (basis : List ℕ) (n : ℕ) → ((j : ℕ) (k : K) → Lists j k → More j k) → IsOnPath p Lists rows cost basis n → IsOnPath p More rows cost basis n
+on_path_kept p Lists More rows cost basis n more o = record { keys = o.keys; path = o.path; listed = λ r h. more _ _ (o.listed r h) }
+
+pub risen_later : (old mid new : ℕ) → old ≤ mid → HasRisen mid new → HasRisen old new
+risen_later old mid new h (inl r) = inl (omega arith)
+risen_later old mid new h (inr r) = inr r
+
+pub fault_later : {K : Type 0} (p : Program K) (Lists : ℕ → K → Type 0) (pivots : ℕ) (old mid new : Counts) (f : LpFault) → old.wide ≤ mid.wide → old.spent ≤ mid.spent → IsLpFault p Lists pivots mid new f → IsLpFault p Lists pivots old new f
+fault_later p Lists pivots old mid new (Wide fault) w s h = (risen_later old.wide mid.wide new.wide w h.0, h.1)
+fault_later p Lists pivots old mid new (Spent n) w s h = (h.0, risen_later old.spent mid.spent new.spent s h.1, h.2)
+fault_later p Lists pivots old mid new Memory w s h = tt

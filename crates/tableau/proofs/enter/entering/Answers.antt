@@ -1,0 +1,29 @@
+use Rattle.std.proofs.Common.{◌≡◌, ◌+◌, ◌-◌, arith, pos, SFits, rules, length, slice_index_or, ap, ◌∙◌}
+use Rattle.std.specs.Int.{w64, w128}
+use Rattle.std.proofs.lemmas.Int.{to_z-of_z}
+use Rattle.fraction.specs.Row.{at}
+use Rattle.tableau.specs.Sheet.{AreCopied}
+use Rattle.tableau.proofs.Entering.{found_cheaper, none_priced}
+use Rattle.tableau.proofs.enter.entering.Goals as goal
+
+pub returns-in-Ok-clause-found : goal.returns-in-Ok-clause-found
+returns-in-Ok-clause-found g c =
+    let p = g.C.Columns.program (g.C.Columns.site c.args.columns.now) in
+    let f : SFits w64 (slice_index_or c.args.cost.now (length c.args.cost.now - 1) (pos 0)) = search rules in
+    let k : SFits w128 c.from-kappa.result = search rules in
+    let last : length c.args.cost.now - 1 ≡ p.rows + 1 = omega (arith, c.requires.cost.long) in
+    let kappa = simp to_z-of_z at c.from-kappa.ensures in
+    let copied : AreCopied p.rows c.copy.new.self c.args.cost.now = rw c.requires.prices at c.copy.ensures.copied in
+    let found = rw c.as_slice.ensures at c.in-Ok.ensures.found in
+    found_cheaper p (g.C.Columns.Lists (g.C.Columns.state c.price_out.new.self)) (g.C.Columns.size (g.C.Columns.state c.price_out.new.self)) c.copy.new.self c.args.cost.now c.from-kappa.result copied (kappa ∙ ap (at c.args.cost.now) last) c.in-Ok.found (simp to_z-of_z at found)
+
+pub returns-in-Ok-clause-none : goal.returns-in-Ok-clause-none
+returns-in-Ok-clause-none g c =
+    let p = g.C.Columns.program (g.C.Columns.site c.args.columns.now) in
+    let f : SFits w64 (slice_index_or c.args.cost.now (length c.args.cost.now - 1) (pos 0)) = search rules in
+    let k : SFits w128 c.from-kappa.result = search rules in
+    let last : length c.args.cost.now - 1 ≡ p.rows + 1 = omega (arith, c.requires.cost.long) in
+    let kappa = simp to_z-of_z at c.from-kappa.ensures in
+    let copied : AreCopied p.rows c.copy.new.self c.args.cost.now = rw c.requires.prices at c.copy.ensures.copied in
+    let none = rw c.as_slice.ensures at c.in-Ok.ensures.none in
+    none_priced p (g.C.Columns.Lists (g.C.Columns.state c.price_out.new.self)) (g.C.Columns.size (g.C.Columns.state c.price_out.new.self)) c.copy.new.self c.args.cost.now c.from-kappa.result copied (kappa ∙ ap (at c.args.cost.now) last) c.in-Ok.found (simp to_z-of_z at none)

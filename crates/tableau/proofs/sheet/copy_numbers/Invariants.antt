@@ -1,0 +1,6 @@
+use Rattle.std.proofs.Common.{length}
+use Rattle.tableau.specs.Sheet.{AreCopied}
+use Rattle.tableau.proofs.sheet.copy_numbers.Given as goal
+
+abbrev pub invariant-loop-i : goal.invariant-loop-i
+invariant-loop-i l = AreCopied l.i l.numbers l.row

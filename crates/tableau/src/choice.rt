@@ -1,0 +1,84 @@
+ghost use Rattle.std.specs.Prelude.{ℕ, ◌≡◌, ◌≤◌, ◌<◌, ◌+◌, ◌^◌, pos, ◌≤ℤ◌, length, IfSome};
+ghost use Rattle.linear_programs.specs.Program.{Program, reduced};
+ghost use Rattle.fraction.specs.Row.{at};
+ghost use Rattle.pivot_rows.specs.Rows.{AreNarrow};
+ghost use Rattle.tableau.specs.Lines.{IsLine};
+ghost use Rattle.tableau.specs.Cheaper.{IsCheaper};
+
+use crate::columns::Columns;
+use crate::small::{is_small, reduced_cost};
+
+/// A listed column, with its reduced cost.
+#[derive(Clone, Copy, Drop)]
+struct Candidate {
+    column: usize,
+    reduced: i128,
+}
+
+/// Returns the reduced cost of a listed column, if it is negative and the column's entries and cost
+/// are small.
+fn cheaper<C: Columns>(columns: &C, prices: &[i64], column: usize) -> Option<i128>
+    requires ready { C.Ready (C.state columns.now) }
+    requires column { column < C.size (C.state columns.now) }
+    requires keys { (j : ℕ) → j < C.size (C.state columns.now) → (k : C.Key) × C.Lists (C.state columns.now) j k
+        × (C.program (C.site columns.now)).belongs k }
+    requires few { (C.program (C.site columns.now)).rows ≤ 1500 }
+    requires prices { IsLine ((C.program (C.site columns.now)).rows + 2) prices.now }
+    requires kappa { pos 0 ≤ℤ at prices.now ((C.program (C.site columns.now)).rows + 1) }
+    ensures { IfSome result (λ _. IsCheaper (C.program (C.site columns.now)) (C.Lists (C.state columns.now))
+        (C.size (C.state columns.now)) prices.now column) }
+{
+    let places = columns.places(column);
+    let cost = columns.cost(column);
+    if !is_small(places, cost) {
+        return None;
+    }
+    let reduced = reduced_cost(prices, columns.rows(), places, cost);
+    if reduced < 0 { Some(reduced) } else { None }
+}
+
+/// Returns the column, if its reduced cost is negative and below that of the best one so far.
+fn better<C: Columns>(
+    columns: &C,
+    prices: &[i64],
+    best: Option<Candidate>,
+    column: usize,
+) -> Option<Candidate>
+    requires ready { C.Ready (C.state columns.now) }
+    requires column { column < C.size (C.state columns.now) }
+    requires keys { (j : ℕ) → j < C.size (C.state columns.now) → (k : C.Key) × C.Lists (C.state columns.now) j k
+        × (C.program (C.site columns.now)).belongs k }
+    requires few { (C.program (C.site columns.now)).rows ≤ 1500 }
+    requires prices { IsLine ((C.program (C.site columns.now)).rows + 2) prices.now }
+    requires kappa { pos 0 ≤ℤ at prices.now ((C.program (C.site columns.now)).rows + 1) }
+    requires best { IfSome best (λ b. IsCheaper (C.program (C.site columns.now)) (C.Lists (C.state columns.now))
+        (C.size (C.state columns.now)) prices.now b.column) }
+    ensures { IfSome result (λ b. IsCheaper (C.program (C.site columns.now)) (C.Lists (C.state columns.now))
+        (C.size (C.state columns.now)) prices.now b.column) }
+{
+    let Some(reduced) = cheaper(columns, prices, column) else {
+        return best;
+    };
+    match best {
+        Some(least) if least.reduced <= reduced => Some(least),
+        _ => Some(Candidate { column, reduced }),
+    }
+}
+
+/// Returns the wanted column of the most negative reduced cost.
+pub(crate) fn choice<C: Columns>(columns: &C, prices: &[i64]) -> Option<usize>
+    requires ready { C.Ready (C.state columns.now) }
+    requires few { (C.program (C.site columns.now)).rows ≤ 1500 }
+    requires prices { IsLine ((C.program (C.site columns.now)).rows + 2) prices.now }
+    requires kappa { pos 0 ≤ℤ at prices.now ((C.program (C.site columns.now)).rows + 1) }
+    ensures { IfSome result (λ column. IsCheaper (C.program (C.site columns.now)) (C.Lists (C.state columns.now))
+        (C.size (C.state columns.now)) prices.now column) }
+{
+    let _count = columns.count();
+    let mut best = None;
+    for column in columns.wanted() {
+        best = better(columns, prices, best, *column as usize);
+    }
+    let least = best?;
+    Some(least.column)
+}
