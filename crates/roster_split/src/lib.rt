@@ -4,6 +4,8 @@
 mod balance;
 mod fault;
 mod take;
+#[cfg(test)]
+mod tests;
 mod trees;
 
 pub use fault::SplitFault;

@@ -10,7 +10,8 @@ use std::alloc::Global;
 // Returns the first of these places where something is left.
 fn first_left(places: &[u32], left: &[u32]) -> u32
     requires within { All (λ p. p < length left.now) places.now }
-    requires some { (k : ℕ) × (k < length places.now) × (1 ≤ slice_index left.now (slice_index places.now k)) }
+    requires some { (k : ℕ) × (k < length places.now)
+        × (1 ≤ slice_index left.now (slice_index places.now k)) }
     ensures found { (k : ℕ) × (slice_get places.now k ≡ Some result) }
     ensures left { 1 ≤ slice_index left.now result }
 {
