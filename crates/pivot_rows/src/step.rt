@@ -6,6 +6,7 @@ ghost use Rattle.fraction.specs.Range.{refused};
 ghost use Rattle.pivot_rows.specs.Rows.{AreNarrow, IsPrimitive, StepsTo, IsWideStep};
 ghost use Rattle.pivot_rows.specs.Quotients.{AreDivided, IsWideDivided, whole};
 ghost use Rattle.pivot_rows.specs.Places.{AreListed};
+ghost use Rattle.pivot_rows.specs.Refusals.{IsWideValue};
 
 use crate::row::{MOST, PivotRow};
 use fraction::{Tally, TooWide, fits, gcd, gcd_unsigned};
@@ -86,6 +87,7 @@ fn divided(number: i128, divisor: i128, tally: &mut Tally) -> Result<i64, TooWid
     ensures value { IfOk result (λ value. value ≡ int_div number divisor) }
     ensures narrow { IfOk result (λ value. unsigned_abs value ≤ 2 ^ 56) }
     ensures wide { IfErr result (λ _. 2 ^ 56 < unsigned_abs (int_div number divisor)) }
+    ensures fault { IfErr result IsWideValue }
     ensures counted { MatchResult result (λ _. tally.new ≡ tally.old) (λ _. tally.new ≡ refused tally.old) }
 {
     let value = quotient(number, divisor);
@@ -111,6 +113,7 @@ fn write_all(
     ensures divided { IfOk result (λ _. AreDivided row.old factor other.now entry divisor row.new) }
     ensures narrow { IfOk result (λ _. AreNarrow row.new) }
     ensures wide { IfErr result (λ _. IsWideDivided row.old factor other.now entry divisor) }
+    ensures fault { IfErr result IsWideValue }
     ensures counted { MatchResult result (λ _. tally.new ≡ tally.old) (λ _. tally.new ≡ refused tally.old) }
 {
     for place in 0..row.len() {
@@ -139,6 +142,7 @@ fn write_listed(
     ensures divided { IfOk result (λ _. AreDivided row.old factor other.now entry factor row.new) }
     ensures narrow { IfOk result (λ _. AreNarrow row.new) }
     ensures wide { IfErr result (λ _. IsWideDivided row.old factor other.now entry factor) }
+    ensures fault { IfErr result IsWideValue }
     ensures counted { MatchResult result (λ _. tally.new ≡ tally.old) (λ _. tally.new ≡ refused tally.old) }
 {
     for place in places {
@@ -169,6 +173,7 @@ fn write_step(
     ensures divided { IfOk result (λ _. AreDivided row.old factor other.now entry divisor row.new) }
     ensures narrow { IfOk result (λ _. AreNarrow row.new) }
     ensures wide { IfErr result (λ _. IsWideDivided row.old factor other.now entry divisor) }
+    ensures fault { IfErr result IsWideValue }
     ensures counted { MatchResult result (λ _. tally.new ≡ tally.old) (λ _. tally.new ≡ refused tally.old) }
 {
     if factor == divisor {
@@ -193,6 +198,7 @@ fn step_numbers(
     ensures step { IfOk result (λ _. StepsTo row.old factor other.now entry row.new) }
     ensures narrow { IfOk result (λ _. AreNarrow row.new) }
     ensures wide { IfErr result (λ _. IsWideStep row.old factor other.now entry) }
+    ensures fault { IfErr result IsWideValue }
     ensures counted { MatchResult result (λ _. tally.new ≡ tally.old) (λ _. tally.new ≡ refused tally.old) }
 {
     let common = common_factor(row, factor, other.numbers(), entry);
@@ -225,6 +231,7 @@ fn step_shared(
     ensures step { IfOk result (λ _. StepsTo row.old factor other.now entry row.new) }
     ensures narrow { IfOk result (λ _. AreNarrow row.new) }
     ensures wide { IfErr result (λ _. IsWideStep row.old factor other.now entry) }
+    ensures fault { IfErr result IsWideValue }
     ensures counted { MatchResult result (λ _. tally.new ≡ tally.old) (λ _. tally.new ≡ refused tally.old) }
 {
     let shared = gcd(factor, entry);
@@ -237,8 +244,8 @@ fn step_shared(
 /// the other row at its place, and `g` is the greatest common divisor of the new numbers, or 1 where
 /// all are 0.
 ///
-/// Where a new number is above 2^56 in size the step is refused, which the tally counts; the row then
-/// still has as many numbers. Takes no memory.
+/// Where a new number is above 2^56 in size the step is refused with that number, which the tally
+/// counts; the row then still has as many numbers. Takes no memory.
 pub fn step_row(
     row: &mut [i64],
     factor: i128,
@@ -257,6 +264,7 @@ pub fn step_row(
     ensures narrow { IfOk result (λ _. AreNarrow row.new) }
     ensures length { length row.new ≡ length row.old }
     ensures wide { IfErr result (λ _. IsWideStep row.old factor other.now entry) }
+    ensures fault { IfErr result IsWideValue }
     ensures counted { MatchResult result (λ _. tally.new ≡ tally.old) (λ _. tally.new ≡ refused tally.old) }
 {
     if entry == 0 {
