@@ -16,7 +16,7 @@ use Rattle.tableau.specs.Ends.{HasLargeColumn}
 use Rattle.tableau.proofs.Bounded.{has_entry}
 use Rattle.tableau.proofs.Places.{large_column}
 
-same_reduced : (m : ℕ) (y cost : List ℤ) (kappa : ℤ) (c : Column) → AreCopied m y cost → reduced m (at y) kappa c ≡ reduced m (at cost) kappa c
+pub same_reduced : (m : ℕ) (y cost : List ℤ) (kappa : ℤ) (c : Column) → AreCopied m y cost → reduced m (at y) kappa c ≡ reduced m (at cost) kappa c
 same_reduced m y cost kappa c e =
     let same : dot m (at y) c.entry ≡ dot m (at cost) c.entry = total-same m _ _ (λ i h. ap (λ (z : ℤ). z *ℤ c.entry i) (e i h)) in
     ap (λ (z : ℤ). kappa *ℤ c.cost -ℤ z) same

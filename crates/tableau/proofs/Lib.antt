@@ -8,3 +8,5 @@ pub mod Places
 pub mod Counts
 pub mod Entering
 pub mod Running
+pub mod Starts
+pub mod Shares

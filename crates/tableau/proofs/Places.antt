@@ -60,3 +60,7 @@ product_range (negsuc a) y n m h k l o = absurd (omega (arith, ints))
 pub reduced_is : (m : ℕ) (y : ℕ → ℤ) (kappa z own : ℤ) (c : Column) (places : List Place) → z ≡ kappa *ℤ own -ℤ dot m y (number_in places) → own ≡ c.cost → IsColumn m c.entry places → z ≡ reduced m y kappa c
 reduced_is m y kappa z own c places e o column =
     e ∙ ap (λ (x : ℤ). kappa *ℤ x -ℤ dot m y (number_in places)) o ∙ ap (λ (x : ℤ). kappa *ℤ c.cost -ℤ x) (dot-same_right m y (number_in places) c.entry (λ i b. sym (column.numbers i b)))
+
+-- an entry that was summed over places
+pub entry_of : (m n : ℕ) (row entry : ℕ → ℤ) (places : List Place) (z : ℤ) → n ≡ m → IsColumn m entry places → z ≡ dot n row (number_in places) → z ≡ dot n row entry
+entry_of m n row entry places z same column e = e ∙ dot-same_right n row (number_in places) entry (λ i h. sym (column.numbers i (omega arith)))

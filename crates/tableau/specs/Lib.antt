@@ -6,3 +6,5 @@ pub mod Sheet
 pub mod Cheaper
 pub mod Faults
 pub mod Running
+pub mod First
+pub mod Finish

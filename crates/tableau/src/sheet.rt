@@ -1,9 +1,10 @@
-ghost use Rattle.std.specs.Prelude.{ℕ, ◌≡◌, ◌≤◌, ◌<◌, length};
+ghost use Rattle.std.specs.Prelude.{ℕ, ◌≡◌, ◌≤◌, ◌<◌, ◌++◌, ◌∷◌, [], length, OnOk};
 ghost use Rattle.fraction.specs.Row.{at};
 ghost use Rattle.tableau.specs.Sheet.{AreCopied};
 
 use crate::line::Line;
 use pivot_rows::PivotRow;
+use roster_model::Memory;
 use std::marker::Model;
 
 /// The rows of a tableau, which contracts see as their list.
@@ -52,6 +53,16 @@ pub(crate) struct Sheet {
 }
 
 impl Rows {
+    /// Adds a row at the end.
+    pub(crate) fn push(&mut self, line: Line) -> Result<(), Memory>
+        ensures { OnOk result (self.new ≡ self.old ++ line ∷ []) }
+    {
+        match self.lines.push(line) {
+            Ok(()) => Ok(()),
+            Err(_) => Err(Memory),
+        }
+    }
+
     /// Returns the rows in order.
     pub(crate) fn as_slice(&self) -> &[Line]
         ensures { result.now ≡ self.now }

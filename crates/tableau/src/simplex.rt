@@ -4,6 +4,9 @@ ghost use Rattle.fraction.specs.Row.{at};
 ghost use Rattle.tableau.specs.Ends.{IsLpEnd, IsLpFault};
 
 use crate::columns::Columns;
+use crate::finish::finish;
+use crate::first::start;
+use crate::run::run;
 use fraction::{Frac, Tally, TooWide};
 use roster_model::List;
 use std::alloc::Global;
@@ -59,5 +62,15 @@ pub fn solve<C: Columns>(
     ensures kept { C.Kept (C.state columns.old) (C.state columns.new) }
     ensures counts { (tally.old.wide ≤ tally.new.wide) × (tally.old.spent ≤ tally.new.spent) }
 {
-    Err(LpFault::Memory)
+    let mut sheet = match start(alloc, columns, right, tally) {
+        Ok(sheet) => sheet,
+        Err(fault) => return Err(fault),
+    };
+    if let Err(fault) = run(columns, &mut sheet, pivots, tally) {
+        return Err(fault);
+    }
+    match finish(alloc, columns, sheet, tally) {
+        Ok(end) => Ok(end),
+        Err(fault) => Err(fault),
+    }
 }

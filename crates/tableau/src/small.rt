@@ -13,6 +13,15 @@ use pivot_rows::{Place, entry_in};
 /// The greatest cost of a column: 2^39.
 pub(crate) const MOST_COST: i64 = 1 << 39;
 
+/// Accepts a word. It is refused where its size is above `most`, which the tally counts.
+pub(crate) fn fits_word(value: i64, most: i64, tally: &mut Tally) -> Result<(), TooWide>
+    ensures ok { OnOk result (pos (unsigned_abs value) ≤ℤ most) }
+    ensures wide { OnErr result (most <ℤ pos (unsigned_abs value)) }
+    ensures counted { MatchResult result (λ _. tally.new ≡ tally.old) (λ _. tally.new ≡ refused tally.old) }
+{
+    fits(i128::from(value), i128::from(most), tally)
+}
+
 /// Accepts a column whose entries are -1, 0 or 1. It is refused otherwise, which the tally counts.
 pub(crate) fn check_entries(places: &[Place], tally: &mut Tally) -> Result<(), TooWide>
     ensures units { OnOk result (AreUnits places.now) }
@@ -35,7 +44,7 @@ pub(crate) fn check_column(places: &[Place], cost: i64, tally: &mut Tally) -> Re
     ensures counted { MatchResult result (λ _. tally.new ≡ tally.old) (λ _. tally.new ≡ refused tally.old) }
 {
     check_entries(places, tally)?;
-    fits(i128::from(cost), i128::from(MOST_COST), tally)
+    fits_word(cost, MOST_COST, tally)
 }
 
 /// Says whether each entry of a column is -1, 0 or 1.
