@@ -1,0 +1,5 @@
+use Rattle.growing_laws.proofs.Stating.{growing-few}
+use Rattle.growing_laws.proofs.laws.growing_few.Goals as goal
+
+pub returns : goal.returns
+returns c = growing-few

@@ -1,0 +1,5 @@
+use Rattle.growing_laws.proofs.Stating.{growing-proves}
+use Rattle.growing_laws.proofs.laws.growing_proves.Goals as goal
+
+pub returns : goal.returns
+returns c = growing-proves

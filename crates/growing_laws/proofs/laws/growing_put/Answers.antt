@@ -1,0 +1,5 @@
+use Rattle.growing_laws.proofs.Stating.{growing-put}
+use Rattle.growing_laws.proofs.laws.growing_put.Goals as goal
+
+pub returns : goal.returns
+returns c = growing-put

@@ -1,0 +1,5 @@
+use Rattle.growing_laws.proofs.Counting.{grown-counts}
+use Rattle.growing_laws.proofs.laws.grown_counts.Goals as goal
+
+pub returns : goal.returns
+returns c = grown-counts

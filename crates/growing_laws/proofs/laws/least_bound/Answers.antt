@@ -1,0 +1,5 @@
+use Rattle.growing_laws.proofs.Growing.{least-bound}
+use Rattle.growing_laws.proofs.laws.least_bound.Goals as goal
+
+pub returns : goal.returns
+returns c = least-bound

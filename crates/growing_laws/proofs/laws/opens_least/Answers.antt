@@ -1,0 +1,5 @@
+use Rattle.growing_laws.proofs.Opening.{opens-least}
+use Rattle.growing_laws.proofs.laws.opens_least.Goals as goal
+
+pub returns : goal.returns
+returns c = opens-least

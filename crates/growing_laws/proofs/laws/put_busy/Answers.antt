@@ -1,0 +1,5 @@
+use Rattle.growing_laws.proofs.Counting.{put-busy}
+use Rattle.growing_laws.proofs.laws.put_busy.Goals as goal
+
+pub returns : goal.returns
+returns c = put-busy

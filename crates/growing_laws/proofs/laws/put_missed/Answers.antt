@@ -1,0 +1,5 @@
+use Rattle.growing_laws.proofs.Counting.{put-missed}
+use Rattle.growing_laws.proofs.laws.put_missed.Goals as goal
+
+pub returns : goal.returns
+returns c = put-missed

@@ -1,0 +1,5 @@
+use Rattle.growing_laws.proofs.Opening.{put-opens}
+use Rattle.growing_laws.proofs.laws.put_opens.Goals as goal
+
+pub returns : goal.returns
+returns c = put-opens

@@ -1,0 +1,5 @@
+use Rattle.growing_laws.proofs.Counting.{put-times}
+use Rattle.growing_laws.proofs.laws.put_times.Goals as goal
+
+pub returns : goal.returns
+returns c = put-times

@@ -1,0 +1,5 @@
+use Rattle.growing_laws.proofs.Seating.{seated-put}
+use Rattle.growing_laws.proofs.laws.seated_put.Goals as goal
+
+pub returns : goal.returns
+returns c = seated-put

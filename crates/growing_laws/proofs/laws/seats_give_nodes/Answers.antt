@@ -1,0 +1,5 @@
+use Rattle.growing_laws.proofs.Seating.{give-nodes}
+use Rattle.growing_laws.proofs.laws.seats_give_nodes.Goals as goal
+
+pub returns : goal.returns
+returns c = give-nodes

@@ -1,0 +1,5 @@
+use Rattle.growing_laws.proofs.Seating.{leads-up}
+use Rattle.growing_laws.proofs.laws.seats_lead_up.Goals as goal
+
+pub returns : goal.returns
+returns c = leads-up

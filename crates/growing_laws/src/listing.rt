@@ -1,0 +1,51 @@
+ghost use Rattle.std.specs.Prelude.{◌≡◌, ◌<◌, ◌∷◌, [], ◌++◌, IfOk, OnOk, length, slice_set};
+ghost use Rattle.certificates.specs.Nodes.{preorder};
+ghost use Rattle.growing_laws.specs.Grown.{Grown, proof_of};
+ghost use Rattle.growing_laws.specs.Seats.{HoldTree, seat_at, pushed_halves, HasHalves};
+
+use crate::seat::Seat;
+use certificates::Node;
+use roster_model::{List, Memory};
+use std::alloc::Global;
+use std::mem;
+
+// Opens the halves of a split, the Low half last.
+fn push_halves(stack: &mut Vec<u32>, node: &Node, low: u32) -> Result<(), Memory>
+    requires { HasHalves node.now low }
+    ensures { OnOk result (stack.new.items ≡ pushed_halves node.now low stack.old.items) }
+{
+    match node {
+        Node::Split { .. } => {
+            let Ok(()) = stack.push(low + 1) else {
+                return Err(Memory);
+            };
+            let Ok(()) = stack.push(low) else {
+                return Err(Memory);
+            };
+            Ok(())
+        }
+        Node::Priced { .. } => Ok(()),
+        Node::Pinned => Ok(()),
+        Node::Bare => Ok(()),
+    }
+}
+
+/// Returns the nodes of the tree that the seats hold, in preorder.
+pub fn list_nodes(alloc: Global, mut seats: Vec<Seat>) -> Result<List<Node>, Memory>
+    requires few { length seats.items < 4294967295 }
+    requires tree { (t : Grown) × HoldTree seats.items t }
+    ensures { IfOk result (λ nodes. (t : Grown) → HoldTree seats.items t → nodes ≡ preorder (proof_of t)) }
+{
+    let mut nodes = List::new(alloc);
+    let mut stack = Vec::new(alloc);
+    let Ok(()) = stack.push(0) else {
+        return Err(Memory);
+    };
+    while let Some(number) = stack.pop() {
+        let seat = &mut seats[number as usize];
+        let node = mem::replace(&mut seat.node, Node::Bare);
+        push_halves(&mut stack, &node, seat.low)?;
+        nodes.push(node)?;
+    }
+    Ok(nodes)
+}
