@@ -1,43 +1,37 @@
 -- How the master of a node ends.
-use Rattle.std.specs.Prelude.{ℕ, ℤ, pos, unsigned_abs, ◌≡◌, ◌≤◌, ◌<◌, ◌+◌, ◌-◌, ◌^◌, ◌*ℤ◌, ◌+ℤ◌, ◌≤ℤ◌, ◌<ℤ◌, ◌⊎◌, Some, List, [], ◌∷◌, ◌++◌, length, slice_get, Result, Ok, Err, IsErr}
-use Rattle.roster_model.specs.declared.grammar.Step.{Step}
+use Rattle.std.specs.Prelude.{ℕ, ℤ, pos, unsigned_abs, ◌≡◌, ◌≤◌, ◌<◌, ◌-◌, ◌*ℤ◌, ◌+ℤ◌, ◌≤ℤ◌, ◌<ℤ◌, ◌⊎◌, Some, List, [], ◌∷◌, ◌++◌, length, slice_get, Result, Ok, IsErr}
 use Rattle.roster_model.specs.declared.grammar.Grammar.{Grammar}
 use Rattle.roster_model.specs.declared.instance.Cut.{Cut}
 use Rattle.roster_model.specs.declared.instance.Instance.{Instance}
 use Rattle.roster_model.specs.declared.instance.Mult.{Mult}
 use Rattle.roster_model.specs.declared.instance.Prices.{Prices}
-use Rattle.roster_model.specs.Trees.{Parts}
-use Rattle.roster_model.specs.Folds.{Each}
+use Rattle.roster_model.specs.declared.memory.Memory.{Memory as MemoryLack}
 use Rattle.roster_model.specs.Arcs.{IsArc}
-use Rattle.roster_model.specs.Cuts.{group_arc}
+use Rattle.roster_model.specs.Folds.{Each}
 use Rattle.roster_model.specs.PriceLimits.{FitPrices}
-use Rattle.linear_programs.specs.Solution.{Weighted, IsValue, IsBasic}
+use Rattle.roster_model.specs.Cuts.{group_arc}
+use Rattle.roster_model.specs.Trees.{Parts}
+use Rattle.linear_programs.specs.Solution.{Weighted, IsValue, IsBasic, CostsLeast}
 use Rattle.linear_programs.specs.Tableau.{HasWidePath, HasOpenPath}
 use Rattle.fraction.specs.declared.frac.Frac.{Frac}
 use Rattle.fraction.specs.Range.{Counts}
 use Rattle.bound_laws.specs.Lagrangian.{IsLagrangian}
-use Rattle.bound_laws.specs.BestPrices.{loss}
+use Rattle.bound_laws.specs.BestPrices.{loss, AreBest}
 use Rattle.master_laws.specs.Rows.{rows_of}
 use Rattle.master_laws.specs.Master.{MasterKey, missing, beyond, tree, master}
-use Rattle.master_laws.specs.Sharp.{CostsLeast}
-use Rattle.master_laws.specs.Ends.{tree_weights, other_weights}
+use Rattle.master_laws.specs.Ends.{tree_weights}
 use Rattle.master_laws.specs.Laws.{IsBelowHeads}
 use Rattle.tableau.specs.declared.simplex.Basic.{Basic}
+use Rattle.tableau.specs.declared.simplex.LpFault.{LpFault}
+use Rattle.tableau.specs.declared.simplex.LpFault.TheVariants.{Wide as LpWide, Spent as LpSpent, Memory as LpMemory}
 use Rattle.tableau.specs.Ends.{AreBasicWeights}
-use Rattle.tableau.specs.Listed.{vector}
 use Rattle.tableau.specs.Risen.{HasRisen}
-use Rattle.master_laws.specs.Rounding.{AreRoundedFrom}
-use Rattle.node_master.specs.declared.ends.Rounded.{Rounded}
-use Rattle.node_master.specs.declared.ends.Rounded.TheVariants.{Whole, Refused}
+use Rattle.tree_pool.specs.Pools.{PoolTree, IsPoolTree}
 use Rattle.node_master.specs.declared.ends.Weight.{Weight}
 use Rattle.node_master.specs.declared.ends.Cause.{Cause}
 use Rattle.node_master.specs.declared.ends.Cause.TheVariants.{Rows, Wide, Spent}
 use Rattle.node_master.specs.declared.ends.NodeEnd.{NodeEnd}
 use Rattle.node_master.specs.declared.ends.NodeEnd.TheVariants.{Best, Failed}
-use Rattle.node_master.specs.Pools.{IsTreeOfSteps}
-use Rattle.tableau.specs.declared.simplex.LpFault.{LpFault}
-use Rattle.tableau.specs.declared.simplex.LpFault.TheVariants.{Wide as LpWide, Spent as LpSpent, Memory as LpMemory}
-use Rattle.roster_model.specs.declared.memory.Memory.{Memory as MemoryLack}
 
 -- a cut on an arc of the instance, or on the arc by which some group's rule stands on the whole day
 pub record IsNodeCut (i : Instance) (c : Cut) : Type 0 where
@@ -48,29 +42,24 @@ pub record IsNodeCut (i : Instance) (c : Cut) : Type 0 where
 abbrev pub IsShare : Frac → ℕ → ℕ → Type 0
 IsShare x n d = pos n *ℤ x.den ≡ x.num *ℤ pos d
 
--- rounded prices within the limits, or a price of a row that is above 2^56
-abbrev pub IsRoundedEnd : Instance → List Cut → List ℤ → ℤ → Counts → Counts → Rounded → Type 0
-IsRoundedEnd i cuts y kappa old new (Whole p) = AreRoundedFrom i cuts (vector y) kappa p × FitPrices i p.d p.cell p.mult cuts × Each (λ (m : Mult). pos 0 <ℤ m.value) p.mult
-IsRoundedEnd i cuts y kappa old new (Refused fault) = HasRisen old.wide new.wide × (r : ℕ) × (r < length (rows_of i cuts)) × (2 ^ 56 < unsigned_abs (vector y r))
-
 -- a weight above 0 of a tree of the pool, as one in units of 1 / d
-pub record IsWeight (g : Grammar) (columns : List (List Step)) (d : ℕ) (x : Weight) (w : Weighted MasterKey) : Type 0 where
-  pub held : List Step
+pub record IsWeight (g : Grammar) (columns : List PoolTree) (d : ℕ) (x : Weight) (w : Weighted MasterKey) : Type 0 where
+  pub held : PoolTree
   pub column : slice_get columns x.column ≡ Some held
   pub some : Parts
-  pub is : IsTreeOfSteps g some held
+  pub is : IsPoolTree g some held
   pub key : w.key ≡ tree some
   pub share : IsShare x.x w.weight d
   pub positive : 0 < w.weight
 
-abbrev pub AreWeights : Grammar → List (List Step) → ℕ → List Weight → List (Weighted MasterKey) → Type 0
+abbrev pub AreWeights : Grammar → List PoolTree → ℕ → List Weight → List (Weighted MasterKey) → Type 0
 AreWeights g columns d [] [] = Unit {0}
 AreWeights g columns d (x ∷ xs) (w ∷ ws) = IsWeight g columns d x w × AreWeights g columns d xs ws
 AreWeights g columns d [] (w ∷ ws) = ⊥
 AreWeights g columns d (x ∷ xs) [] = ⊥
 
 -- the weights of a basic solution's trees, whatever its weights over d
-abbrev pub AreTreeWeights : Grammar → (ℕ → MasterKey → Type 0) → List (List Step) → List Basic → List Weight → Type 0
+abbrev pub AreTreeWeights : Grammar → (ℕ → MasterKey → Type 0) → List PoolTree → List Basic → List Weight → Type 0
 AreTreeWeights g Listed columns basic weights = (d : ℕ) (ws : List (Weighted MasterKey)) → AreBasicWeights Listed d basic ws → AreWeights g columns d weights (tree_weights ws)
 
 -- a column that is no tree
@@ -80,7 +69,7 @@ IsOther (beyond r) = Unit {0}
 IsOther (tree t) = ⊥
 
 -- the weights are those of the trees of some basic solution of least cost, whose other columns are no trees
-pub record AreLeastWeights (i : Instance) (cuts : List Cut) (columns : List (List Step)) (weights : List Weight) : Type 0 where
+pub record AreLeastWeights (i : Instance) (cuts : List Cut) (columns : List PoolTree) (weights : List Weight) : Type 0 where
   pub trees : List (Weighted MasterKey)
   pub others : List (Weighted MasterKey)
   pub d : ℕ
@@ -90,7 +79,7 @@ pub record AreLeastWeights (i : Instance) (cuts : List Cut) (columns : List (Lis
   pub least : CostsLeast (master i cuts) (trees ++ others) d
 
 -- rounded prices, the value of the master and the weights
-pub record IsBest (i : Instance) (cuts : List Cut) (columns : List (List Step)) (prices : Prices) (value : Frac) (weights : List Weight) : Type 0 where
+pub record IsBest (i : Instance) (cuts : List Cut) (columns : List PoolTree) (prices : Prices) (value : Frac) (weights : List Weight) : Type 0 where
   pub fit : FitPrices i prices.d prices.cell prices.mult cuts
   pub positive : Each (λ (m : Mult). pos 0 <ℤ m.value) prices.mult
   pub value_is : IsValue (master i cuts) value.num (unsigned_abs value.den)
@@ -98,7 +87,7 @@ pub record IsBest (i : Instance) (cuts : List Cut) (columns : List (List Step)) 
   pub weighted : AreLeastWeights i cuts columns weights
 
 -- each answer comes only where it may; more than 1,500 rows exactly where there are so many
-abbrev pub EndsRight : Instance → List Cut → List (List Step) → Counts → Counts → NodeEnd → Type 0
+abbrev pub EndsRight : Instance → List Cut → List PoolTree → Counts → Counts → NodeEnd → Type 0
 EndsRight i cuts columns old new (Best prices value weights) = (length (rows_of i cuts) ≤ 1500) × IsBest i cuts columns prices value weights
 EndsRight i cuts columns old new (Failed (Rows count)) = (1500 < length (rows_of i cuts)) × (count ≡ length (rows_of i cuts))
 EndsRight i cuts columns old new (Failed (Wide fault)) = (length (rows_of i cuts) ≤ 1500) × HasRisen old.wide new.wide × HasWidePath (master i cuts)

@@ -1,42 +1,26 @@
-use crate::pool::Pool;
+use crate::desk::Desk;
 use cheapest_tree::Pricer;
 use fraction::Tally;
+use master_rows::NodeRows;
 use parse_graph::Graph;
-use roster_model::{Cut, Instance, List};
+use pivot_rows::Place;
+use roster_model::{Cut, Instance};
 use tableau::{Columns, ColumnsFault};
+use tree_pool::Pool;
 
-/// What a listed column is.
-#[derive(Clone, Copy, Debug, Drop)]
-pub enum Kind {
-    /// What is missing in a row.
-    Missing(usize),
-    /// What is beyond in a row.
-    Beyond(usize),
-    /// A tree of the pool.
-    OfTree(usize),
-}
-
-/// A listed column.
+/// The columns of a node's master: all that it is made of is lent.
 #[derive(Drop)]
-pub struct Held {
-    pub kind: Kind,
-    pub entries: List<i64>,
-    pub cost: i64,
-}
-
-/// The columns of a node's master.
-#[derive(Drop)]
-pub struct NodeColumns<'i, 'g, 'c, 'p, 'q, 'h> {
+pub struct NodeColumns<'i, 'g, 'c, 'r, 'p, 'q, 'd> {
     pub instance: &'i Instance,
     pub graph: &'g Graph,
     pub cuts: &'c [Cut],
+    pub rows: &'r NodeRows,
     pub pricer: &'p mut Pricer,
     pub pool: &'q mut Pool,
-    pub rows: usize,
-    pub held: &'h mut List<Held>,
+    pub desk: &'d mut Desk,
 }
 
-impl<'i, 'g, 'c, 'p, 'q, 'h> Columns for NodeColumns<'i, 'g, 'c, 'p, 'q, 'h> {
+impl<'i, 'g, 'c, 'r, 'p, 'q, 'd> Columns for NodeColumns<'i, 'g, 'c, 'r, 'p, 'q, 'd> {
     ghost use Rattle.std.specs.Prelude.{length};
     ghost use Rattle.master_laws.specs.Master.{MasterKey};
     ghost use Rattle.node_master.specs.Columns.{NodeSite, NodeState, site_program, Lists, IsReady, IsKept};
@@ -52,13 +36,13 @@ impl<'i, 'g, 'c, 'p, 'q, 'h> Columns for NodeColumns<'i, 'g, 'c, 'p, 'q, 'h> {
 
     ghost State = { NodeState };
 
-    ghost state = { λ s. record { instance = s.instance.now; cuts = s.cuts.now; graph = s.graph.now; pricer = s.pricer.now; pool = s.pool.now; rows = s.rows; held = s.held.now } };
+    ghost state = { λ s. record { instance = s.instance.now; cuts = s.cuts.now; graph = s.graph.now; rows = s.rows.now; pricer = s.pricer.now; pool = s.pool.now; desk = s.desk.now } };
 
     ghost Ready = { IsReady };
 
     ghost Lists = { Lists };
 
-    ghost size = { λ s. length s.held };
+    ghost size = { λ s. length s.desk.held };
 
     ghost Kept = { IsKept };
 
@@ -69,27 +53,30 @@ impl<'i, 'g, 'c, 'p, 'q, 'h> Columns for NodeColumns<'i, 'g, 'c, 'p, 'q, 'h> {
     ghost still = { kept-still };
 
     fn rows(&self) -> usize {
-        self.rows
+        self.rows.right().len()
     }
 
     fn count(&self) -> usize {
-        self.held.len()
+        self.desk.held.len()
     }
 
-    fn entry(&self, col: usize, row: usize) -> i64 {
-        let held = &self.held.as_slice()[col];
-        held.entries.as_slice()[row]
+    fn places(&self, column: usize) -> &[Place] {
+        self.desk.held.as_slice()[column].places.as_slice()
     }
 
-    fn cost(&self, col: usize) -> i64 {
-        self.held.as_slice()[col].cost
+    fn cost(&self, column: usize) -> i64 {
+        self.desk.held.as_slice()[column].cost
+    }
+
+    fn wanted(&self) -> &[u32] {
+        self.desk.wanted.as_slice()
     }
 
     fn price_out(
         &mut self,
-        _y: &[i128],
-        _kappa: i128,
-        _tally: &mut Tally,
+        y: &[i128],
+        kappa: i128,
+        tally: &mut Tally,
     ) -> Result<Option<usize>, ColumnsFault> {
         Err(ColumnsFault::Memory)
     }

@@ -1,0 +1,17 @@
+use Rattle.std.proofs.Common.{ℕ, ◌≡◌, ◌≤◌, pos, ◌≤ℤ◌, ◌<ℤ◌, Some, length, slice_get, IfSome, IfNone, ◌+◌, ◌-◌, ◌*◌, ◌<◌, ℤ, ◌+ℤ◌, ◌-ℤ◌, ◌*ℤ◌, FitsSigned, to_z, of_z}
+use Rattle.node_master.specs.declared.desk.Held.{Held as Listed}
+use Rattle.node_master.specs.Priced.{AreNarrowPrices, IsPlain, listed_reduced}
+use Rattle.std.proofs.Common.{◌≡◌, ◌^◌, ◌*◌, length, drop}
+use Rattle.std.specs.Prelude.{◌+ℤ◌}
+use Rattle.roster_model.specs.Sums.{Within}
+use Rattle.pivot_rows.specs.Columns.{AreWithin, AreUnits}
+use Rattle.node_master.specs.Priced.{places_worth}
+use Rattle.node_master.proofs.listed.reduced_cost.Given as goal
+
+abbrev pub invariant-loop-place : goal.invariant-loop-place
+invariant-loop-place l = record {
+  value : places_worth l.y l.held.places ≡ l.worth +ℤ places_worth l.y (drop l.place-index l.held.places);
+  within : AreWithin (length l.y) (drop l.place-index l.held.places);
+  units : AreUnits (drop l.place-index l.held.places);
+  size : Within (2 ^ 56 * l.place-index) l.worth;
+}

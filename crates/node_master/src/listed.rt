@@ -1,0 +1,69 @@
+ghost use Rattle.std.specs.Prelude.{ℕ, ◌≡◌, ◌≤◌, ◌<◌, ◌^◌, pos, ◌*ℤ◌, ◌≤ℤ◌, ◌<ℤ◌, Some, length, slice_get, unsigned_abs, IfSome, IfNone};
+ghost use Rattle.roster_model.specs.Sums.{Within};
+ghost use Rattle.fraction.specs.Row.{at};
+ghost use Rattle.node_master.specs.declared.desk.Held.{Held as Listed};
+ghost use Rattle.node_master.specs.Priced.{AreNarrowPrices, IsPlain, listed_reduced};
+
+use crate::desk::Held;
+use pivot_rows::Place;
+
+/// Returns what an entry of a column is worth at the prices of the rows.
+fn entry_worth(y: &[i128], place: &Place) -> i128
+    requires row { place.now.row < length y.now }
+    requires narrow { unsigned_abs (at y.now place.now.row) ≤ 2 ^ 56 }
+    requires unit { unsigned_abs place.now.value ≤ 1 }
+    ensures value { result ≡ at y.now place.now.row *ℤ place.now.value }
+    ensures within { Within (2 ^ 56) result }
+{
+    let price = y[place.row as usize];
+    match place.value {
+        1 => price,
+        -1 => -price,
+        _ => 0,
+    }
+}
+
+/// Returns `kappa` times a cost.
+fn scaled_cost(kappa: i128, cost: i64) -> i128
+    requires some { pos 0 <ℤ kappa }
+    requires narrow { unsigned_abs kappa ≤ 2 ^ 56 }
+    requires cost { (pos 0 ≤ℤ cost) × (cost ≤ℤ pos (2 ^ 39)) }
+    ensures value { result ≡ kappa *ℤ cost }
+    ensures within { Within (2 ^ 95) result }
+{
+    kappa * i128::from(cost)
+}
+
+/// Returns `kappa` times the reduced cost of a listed column.
+fn reduced_cost(held: &Held, y: &[i128], kappa: i128) -> i128
+    requires narrow { AreNarrowPrices y.now kappa }
+    requires plain { IsPlain (length y.now) held.now }
+    ensures { result ≡ listed_reduced y.now kappa held.now }
+{
+    let mut worth = 0i128;
+    for place in held.places.as_slice() {
+        worth += entry_worth(y, place);
+    }
+    scaled_cost(kappa, held.cost) - worth
+}
+
+/// Returns the listed column of the least reduced cost where that is negative, the first of several.
+pub(crate) fn find_cheaper(held: &[Held], y: &[i128], kappa: i128) -> Option<usize>
+    requires narrow { AreNarrowPrices y.now kappa }
+    requires plain { (j : ℕ) (h : Listed) → slice_get held.now j ≡ Some h → IsPlain (length y.now) h }
+    ensures some { IfSome result (λ j. (h : Listed) × (slice_get held.now j ≡ Some h)
+        × (listed_reduced y.now kappa h <ℤ pos 0)) }
+    ensures none { IfNone result ((j : ℕ) (h : Listed) → slice_get held.now j ≡ Some h →
+        pos 0 ≤ℤ listed_reduced y.now kappa h) }
+{
+    let mut least = 0i128;
+    let mut found = None;
+    for (column, one) in held.iter().enumerate() {
+        let reduced = reduced_cost(one, y, kappa);
+        if reduced < least {
+            least = reduced;
+            found = Some(column);
+        }
+    }
+    found
+}

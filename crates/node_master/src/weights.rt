@@ -1,0 +1,47 @@
+ghost use Rattle.std.specs.Prelude.{ℕ, ◌≡◌, ◌<◌, Some, List as Items, ◌∷◌, length, slice_get, All, IfOk};
+ghost use Rattle.roster_model.specs.declared.grammar.Grammar.{Grammar as Rules};
+ghost use Rattle.tableau.specs.declared.simplex.Basic.{Basic as BasicColumn};
+ghost use Rattle.tree_pool.specs.Pools.{PoolTree};
+ghost use Rattle.node_master.specs.Columns.{HasKey};
+ghost use Rattle.node_master.specs.Ends.{AreTreeWeights};
+
+use crate::desk::{Held, Kind};
+use crate::ends::Weight;
+use roster_model::{List, Memory};
+use std::alloc::Global;
+use tableau::Basic;
+
+/// Returns the weight of a basic column where it is a tree's and above 0.
+fn tree_weight(held: &[Held], basic: &Basic) -> Option<Weight>
+    requires { basic.now.col < length held.now }
+{
+    let Kind::OfTree(tree) = held[basic.col].kind else {
+        return None;
+    };
+    if basic.x.num() == 0 {
+        return None;
+    }
+    Some(Weight {
+        column: tree,
+        x: basic.x,
+    })
+}
+
+/// Returns the weights above 0 of trees, in the order of the basic columns.
+pub(crate) fn tree_weights(
+    alloc: Global,
+    held: &[Held],
+    basic: &[Basic],
+) -> Result<List<Weight>, Memory>
+    requires { All (λ (b : BasicColumn). b.col < length held.now) basic.now }
+    ensures { IfOk result (λ weights. (g : Rules) (pool : Items PoolTree) →
+        AreTreeWeights g (HasKey g pool held.now) pool basic.now weights) }
+{
+    let mut weights = List::new(alloc);
+    for one in basic {
+        if let Some(weight) = tree_weight(held, one) {
+            weights.push(weight)?;
+        }
+    }
+    Ok(weights)
+}
