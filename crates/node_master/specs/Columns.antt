@@ -1,5 +1,5 @@
 -- The listed columns of a node's master.
-use Rattle.std.specs.Prelude.{ℕ, ◌≡◌, ◌≤◌, ◌<◌, ◌+◌, Some, List, All, length, slice_get}
+use Rattle.std.specs.Prelude.{ℕ, ◌≡◌, ◌≤◌, ◌<◌, ◌+◌, ◌++◌, Some, List, All, length, slice_get}
 use Rattle.std.specs.Borrow.{GName}
 use Rattle.roster_model.specs.declared.grammar.Grammar.{Grammar}
 use Rattle.roster_model.specs.declared.instance.Cut.{Cut}
@@ -84,6 +84,10 @@ pub record HasKey (g : Grammar) (pool : List PoolTree) (held : List Held) (j : �
 
 abbrev pub Lists : NodeState → ℕ → MasterKey → Type 0
 Lists s j k = HasKey s.instance.grammar s.pool s.desk.held j k
+
+-- the listed columns keep their numbers, and others may come behind
+abbrev pub HasMore : List Held → List Held → Type 0
+HasMore old new = (more : List Held) × (new ≡ old ++ more)
 
 -- all that is lent fits together
 pub record IsReady (s : NodeState) : Type 0 where

@@ -1,16 +1,20 @@
 use crate::desk::Desk;
+use crate::listed::{check_narrow, find_cheaper};
+use crate::trees::list_cheapest;
 use cheapest_tree::Pricer;
 use fraction::Tally;
 use master_rows::NodeRows;
 use parse_graph::Graph;
 use pivot_rows::Place;
-use roster_model::{Cut, Instance};
+use roster_model::{Cut, Instance, Memory};
+use std::alloc::Global;
 use tableau::{Columns, ColumnsFault};
 use tree_pool::Pool;
 
 /// The columns of a node's master: all that it is made of is lent.
 #[derive(Drop)]
 pub struct NodeColumns<'i, 'g, 'c, 'r, 'p, 'q, 'd> {
+    pub alloc: Global,
     pub instance: &'i Instance,
     pub graph: &'g Graph,
     pub cuts: &'c [Cut],
@@ -78,6 +82,26 @@ impl<'i, 'g, 'c, 'r, 'p, 'q, 'd> Columns for NodeColumns<'i, 'g, 'c, 'r, 'p, 'q,
         kappa: i128,
         tally: &mut Tally,
     ) -> Result<Option<usize>, ColumnsFault> {
-        Err(ColumnsFault::Memory)
+        if let Err(fault) = check_narrow(y, kappa, tally) {
+            return Err(ColumnsFault::Wide(fault));
+        }
+        if let Some(column) = find_cheaper(self.desk.held.as_slice(), y, kappa) {
+            return Ok(Some(column));
+        }
+        match list_cheapest(
+            self.alloc,
+            self.instance,
+            self.cuts,
+            self.graph,
+            self.rows,
+            y,
+            self.pricer,
+            self.pool,
+            self.desk,
+            kappa,
+        ) {
+            Ok(found) => Ok(found),
+            Err(Memory) => Err(ColumnsFault::Memory),
+        }
     }
 }

@@ -1,11 +1,17 @@
-ghost use Rattle.std.specs.Prelude.{ℕ, ◌≡◌, ◌≤◌, ◌<◌, ◌^◌, pos, ◌*ℤ◌, ◌≤ℤ◌, ◌<ℤ◌, Some, length, slice_get, unsigned_abs, IfSome, IfNone};
+ghost use Rattle.std.specs.Prelude.{ℕ, ◌≡◌, ◌≤◌, ◌<◌, ◌^◌, pos, ◌*ℤ◌, ◌≤ℤ◌, ◌<ℤ◌, Some, length, slice_get, unsigned_abs, ℤ, All, IfOk, IfErr, IfSome, IfNone};
 ghost use Rattle.roster_model.specs.Sums.{Within};
 ghost use Rattle.fraction.specs.Row.{at};
+ghost use Rattle.tableau.specs.Refused.{AreWidePrices};
+ghost use Rattle.tableau.specs.Risen.{HasRisen};
 ghost use Rattle.node_master.specs.declared.desk.Held.{Held as Listed};
 ghost use Rattle.node_master.specs.Priced.{AreNarrowPrices, IsPlain, listed_reduced};
 
 use crate::desk::Held;
-use pivot_rows::Place;
+use fraction::{Tally, TooWide, fits};
+use pivot_rows::{MOST, Place};
+
+/// The greatest size of a price of a row, and of their denominator.
+const WIDEST: u128 = MOST as u128;
 
 /// Returns what an entry of a column is worth at the prices of the rows.
 fn entry_worth(y: &[i128], place: &Place) -> i128
@@ -66,4 +72,35 @@ pub(crate) fn find_cheaper(held: &[Held], y: &[i128], kappa: i128) -> Option<usi
         }
     }
     found
+}
+
+/// Returns a number that is above 2^56 in size: the denominator or a price.
+fn first_wide(y: &[i128], kappa: i128) -> Option<i128>
+    ensures some { IfSome result (λ z. (2 ^ 56 < unsigned_abs z) × AreWidePrices (length y.now) y.now kappa) }
+    ensures kappa { IfNone result (unsigned_abs kappa ≤ 2 ^ 56) }
+    ensures prices { IfNone result (All (λ (z : ℤ). unsigned_abs z ≤ 2 ^ 56) y.now) }
+{
+    if kappa.unsigned_abs() > WIDEST {
+        return Some(kappa);
+    }
+    for price in y {
+        if price.unsigned_abs() > WIDEST {
+            return Some(*price);
+        }
+    }
+    None
+}
+
+/// Accepts prices that are within 2^56 in size, as their denominator is. The tally counts a refusal.
+pub(crate) fn check_narrow(y: &[i128], kappa: i128, tally: &mut Tally) -> Result<(), TooWide>
+    requires kappa { pos 0 <ℤ kappa }
+    ensures narrow { IfOk result (λ _. AreNarrowPrices y.now kappa) }
+    ensures wide { IfErr result (λ _. HasRisen tally.old.wide tally.new.wide × AreWidePrices (length y.now) y.now kappa) }
+    ensures counts { (tally.old.wide ≤ tally.new.wide) × (tally.new.spent ≡ tally.old.spent) }
+{
+    let _count = tally.wide();
+    match first_wide(y, kappa) {
+        Some(number) => fits(number, i128::from(MOST), tally),
+        None => Ok(()),
+    }
 }

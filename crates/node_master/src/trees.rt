@@ -1,5 +1,6 @@
-ghost use Rattle.std.specs.Prelude.{ℕ, ◌≡◌, ◌≤◌, ◌<◌, ◌+◌, ◌++◌, pos, Some, [], ◌∷◌, List as Items, length, slice_get, unsigned_abs, IfOk, IfErr};
+ghost use Rattle.std.specs.Prelude.{ℕ, ℤ, ◌≡◌, ◌≤◌, ◌<◌, ◌+◌, ◌^◌, ◌++◌, pos, Some, [], ◌∷◌, List as Items, length, slice_get, unsigned_abs, All, ◌<ℤ◌, IfOk, IfErr, IfSome, IfNone};
 ghost use Rattle.std.specs.Bool.{OnTrue, OnFalse};
+ghost use Rattle.roster_model.specs.declared.instance.Cut.{Cut as PathCut};
 ghost use Rattle.roster_model.specs.declared.instance.Instance.{Instance as Day};
 ghost use Rattle.roster_model.specs.Agreement.{Agree};
 ghost use Rattle.roster_model.specs.PriceRooms.{price_view, IsRoomFor};
@@ -10,14 +11,16 @@ ghost use Rattle.fraction.specs.Row.{at};
 ghost use Rattle.parse_graph.specs.Graphs.{IsGraph};
 ghost use Rattle.cheapest_tree.specs.Pricers.{IsMadeFor};
 ghost use Rattle.master_laws.specs.Rows.{rows_of};
+ghost use Rattle.linear_programs.specs.Program.{reduced};
+ghost use Rattle.master_laws.specs.Master.{tree, master};
 ghost use Rattle.master_laws.specs.Pricing.{row_view};
 ghost use Rattle.master_rows.specs.NodeRows.{AreRows};
 ghost use Rattle.tree_pool.specs.Pools.{PoolTree, IsPool, IsGrown, AreDaySteps};
 ghost use Rattle.node_master.specs.declared.desk.Held.{Held as Listed};
-ghost use Rattle.node_master.specs.Columns.{IsHeld};
+ghost use Rattle.node_master.specs.Columns.{IsHeld, IsDesk, HasKey, HasMore};
 ghost use Rattle.node_master.specs.Priced.{AreNarrowPrices, heads_price, HoldsCheaper, HasNoCheaper};
 
-use crate::desk::{Held, Kind};
+use crate::desk::{Desk, Held, Kind};
 use cheapest_tree::Pricer;
 use master_rows::NodeRows;
 use parse_graph::Graph;
@@ -57,6 +60,17 @@ pub(crate) fn set_prices(
     prices.set_wide(instance, kappa.unsigned_abs(), cell, paid, cuts);
 }
 
+/// Returns the price of both rows of the heads.
+fn price_of_heads(rows: &NodeRows, y: &[i128]) -> i128
+    requires rows { (i : Day) × (cuts : Items PathCut) × AreRows i cuts rows.now
+        × (length y.now ≡ length (rows_of i cuts)) }
+    requires narrow { All (λ (z : ℤ). unsigned_abs z ≤ 2 ^ 56) y.now }
+    ensures value { (i : Day) (cuts : Items PathCut) → AreRows i cuts rows.now → result ≡ heads_price i y.now }
+{
+    let head = rows.first_head();
+    y[head] + y[head + 1]
+}
+
 /// Looks for a tree of the day that has a negative reduced cost, and leaves one of least reduced cost
 /// in the room where there is one. Takes no memory.
 pub(crate) fn find_tree(
@@ -84,8 +98,7 @@ pub(crate) fn find_tree(
     ensures some { OnTrue result (HoldsCheaper instance.now cuts.now y.now kappa room.new) }
     ensures none { OnFalse result (HasNoCheaper instance.now cuts.now y.now kappa) }
 {
-    let head = rows.first_head();
-    let heads = y[head] + y[head + 1];
+    let heads = price_of_heads(rows, y);
     let Some(least) = pricer.cheapest(graph, prices) else {
         return false;
     };
@@ -142,4 +155,74 @@ pub(crate) fn tree_column(
         places: rows.places_of(alloc, cuts, pool, tree)?,
         cost: i64::from(pool.cost(tree)),
     })
+}
+
+/// Lists a tree of the day of the least reduced cost where that is negative, and returns the number
+/// of its column. After an error the listed columns are as before, and the pool may have grown.
+pub(crate) fn list_cheapest(
+    alloc: Global,
+    instance: &Instance,
+    cuts: &[Cut],
+    graph: &Graph,
+    rows: &NodeRows,
+    y: &[i128],
+    pricer: &mut Pricer,
+    pool: &mut Pool,
+    desk: &mut Desk,
+    kappa: i128,
+) -> Result<Option<usize>, Memory>
+    requires sound { IsSoundInstance instance.now }
+    requires graph { IsGraph instance.now.grammar graph.now }
+    requires made { IsMadeFor graph.now pricer.old }
+    requires rows { AreRows instance.now cuts.now rows.now }
+    requires small { length (rows_of instance.now cuts.now) ≤ 1500 }
+    requires y { length y.now ≡ length (rows_of instance.now cuts.now) }
+    requires narrow { AreNarrowPrices y.now kappa }
+    requires pool { IsPool instance.now.grammar pool.old }
+    requires desk { IsDesk instance.now cuts.now pool.old desk.old }
+    ensures made { IsMadeFor graph.now pricer.new }
+    ensures pool { IsPool instance.now.grammar pool.new }
+    ensures grown { IsGrown pool.old pool.new }
+    ensures desk { IsDesk instance.now cuts.now pool.new desk.new }
+    ensures more { HasMore desk.old.held desk.new.held }
+    ensures found { IfOk result (λ answer. IfSome answer (λ column. (t : Parts)
+        × HasKey instance.now.grammar pool.new desk.new.held column (tree t)
+        × (reduced (master instance.now cuts.now).rows (at y.now) kappa
+        ((master instance.now cuts.now).column (tree t)) <ℤ pos 0))) }
+    ensures none { IfOk result (λ answer. IfNone answer
+        (HasNoCheaper instance.now cuts.now y.now kappa)) }
+{
+    set_prices(
+        instance,
+        cuts,
+        rows,
+        y,
+        kappa,
+        &mut desk.numbers,
+        &mut desk.prices,
+    );
+    let found = find_tree(
+        instance,
+        cuts,
+        graph,
+        rows,
+        y,
+        &desk.prices,
+        pricer,
+        &mut desk.tree,
+        kappa,
+    );
+    if !found {
+        return Ok(None);
+    }
+    let column = list_tree(
+        alloc,
+        instance,
+        cuts,
+        rows,
+        desk.tree.steps(),
+        pool,
+        &mut desk.held,
+    )?;
+    Ok(Some(column))
 }

@@ -1,4 +1,4 @@
-use Rattle.std.proofs.Common.{ℕ, ◌≡◌, ◌<◌, pos, Some, slice_get, length, arith, rules, refl, to_z, of_z, Option, None, sym, true≢false}
+use Rattle.std.proofs.Common.{ℕ, ◌≡◌, ◌<◌, pos, Some, slice_get, length, arith, rules, refl, to_z, of_z, Option, None, sym, true≢false, ℤ, ◌⊎◌, inl, inr}
 use Rattle.std.specs.Prelude.{◌≤ℤ◌, ◌<ℤ◌, IfSome, IfNone, IsSome}
 use Rattle.std.proofs.lemmas.Int.{ints}
 use Rattle.std.proofs.lemmas.Option.{slice_get_read, slice_get_within}
@@ -49,6 +49,16 @@ loop-column-preserved c =
           }
     ]
 
+plain : (l r : ℤ) → (l <ℤ pos 0 → ⊥) → l ≤ℤ r → pos 0 ≤ℤ r
+plain l r n h = of (split l)
+  where
+    split : (l : ℤ) → (l <ℤ pos 0) ⊎ (pos 0 ≤ℤ l)
+    split l = grind (arith, ints)
+
+    of : (l <ℤ pos 0) ⊎ (pos 0 ≤ℤ l) → pos 0 ≤ℤ r
+    of (inl x) = absurd (n x)
+    of (inr x) = omega (arith, ints)
+
 pub returns-clause-none : goal.returns-clause-none
 returns-clause-none c =
     let i = c.loop-column.invariant in
@@ -60,4 +70,4 @@ returns-clause-none c =
         → ((j : ℕ) (h : Listed) → slice_get c.args.held.now j ≡ Some h → to_z w128 c.loop-column.least-bits ≤ℤ listed_reduced c.args.y.now c.args.kappa h)
         → IfNone o ((j : ℕ) (h : Listed) → slice_get c.args.held.now j ≡ Some h → pos 0 ≤ℤ listed_reduced c.args.y.now c.args.kappa h)
     by (Some n) a b f = tt
-    by None a b f = λ j h e. let x = f j h e in let z : to_z w128 c.loop-column.least-bits <ℤ pos 0 → ⊥ = (λ l. absurd (true≢false (sym (b l)))) in omega (arith, ints)
+    by None a b f = λ j h e. plain (to_z w128 c.loop-column.least-bits) (listed_reduced c.args.y.now c.args.kappa h) (λ l. absurd (true≢false (sym (b l)))) (f j h e)
