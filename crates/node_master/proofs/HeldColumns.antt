@@ -1,6 +1,6 @@
 -- Listed columns, and what keeps them.
 use Rattle.std.proofs.Common.{◌≡◌, ℕ, ℤ, zero, suc, arith, pos, ◌+◌, ◌<◌, ◌≤◌, List, [], ◌∷◌, ◌++◌, length, get_or, Option, None, Some, refl, sym, ap, ◌∙◌, subst, ◌⊎◌, inl, inr, All, length-append}
-use Rattle.std.specs.Prelude.{slice_get}
+use Rattle.std.specs.Prelude.{slice_get, IfSome, IfNone}
 use Rattle.std.proofs.lemmas.Option.{same_Some, none-some, slice_get_within, slice_get_cases}
 use Rattle.roster_model.specs.declared.instance.Cut.{Cut}
 use Rattle.roster_model.specs.declared.instance.Instance.{Instance}
@@ -18,7 +18,7 @@ use Rattle.node_master.specs.declared.desk.Kind.{Kind}
 use Rattle.node_master.specs.declared.desk.Kind.TheVariants.{Missing, Beyond, OfTree}
 use Rattle.node_master.specs.declared.desk.Held.{Held}
 use Rattle.node_master.specs.declared.desk.Desk.{Desk}
-use Rattle.node_master.specs.Columns.{IsKey, Tells, IsHeld, AreHeld, IsDesk, HasKey}
+use Rattle.node_master.specs.Columns.{IsKey, Tells, IsHeld, AreHeld, IsDesk, HasKey, HasMore}
 
 -- ---- trees
 pub tree_held : (i : Instance) (cuts : List Cut) (pool : List PoolTree) (h : Held) (j : ℕ) (x : PoolTree) → h.kind ≡ OfTree j → slice_get pool j ≡ Some x → IsPool i.grammar pool
@@ -94,7 +94,7 @@ pub held_push : (i : Instance) (cuts : List Cut) (pool : List PoolTree) (held : 
 held_push i cuts pool held h are is = record {
   each = λ j x at. each j x (pushed held h j x at);
   units = λ r l. let u = are.units r l in (u.0, stays held (h ∷ []) r u.0 u.1, u.2);
-  beyonds = λ r l. let u = are.beyonds r l in (u.0, u.1, stays held (h ∷ []) u.0 u.1 u.2, u.3);
+  beyonds = λ r l b. let u = are.beyonds r l b in (u.0, u.1, stays held (h ∷ []) u.0 u.1 u.2, u.3);
 }
   where
     each : (j : ℕ) (x : Held) → (slice_get held j ≡ Some x) ⊎ ((j ≡ length held) × (x ≡ h)) → IsHeld i cuts pool x
@@ -127,3 +127,21 @@ listed_key i pool held h n x t kind at pool_is day e =
     let u = pool_is.trees n x at in
     let same : u.0 ≡ t = sym (steps_tell i.grammar 1 1 t u.0 (span_tree i t day) (span_tree i u.0 u.1.day) (sym e ∙ u.1.steps)) in
     record { one = h; at = pushed_last held h; key = subst (λ (k : Kind). IsKey i.grammar pool k (tree t)) (sym kind) (x, at, t, subst (λ (w : Parts). IsPoolTree i.grammar w x) same u.1, refl) }
+
+-- what is listed stays listed
+pub keys_kept : (i : Instance) (old new : List PoolTree) (held more : List Held) (j : ℕ) (k : MasterKey) → IsGrown old new → HasMore held more
+    → HasKey i.grammar old held j k → HasKey i.grammar new more j k
+keys_kept i old new held more j k g m key =
+    let at = subst (λ (hs : List Held). slice_get hs j ≡ Some key.one) (sym m.1) (stays held m.0 j key.one key.at) in
+    record { one = key.one; at = at; key = key_stays i old new key.one.kind k g key.key }
+
+pub listed_below : (i : Instance) (pool : List PoolTree) (held : List Held) (j : ℕ) (k : MasterKey) → HasKey i.grammar pool held j k → j < length held
+listed_below i pool held j k key = slice_get_within held j key.one key.at
+
+pub some_map : {A : Type 0} (o : Option A) (P Q : A → Type 0) → ((a : A) → P a → Q a) → IfSome o P → IfSome o Q
+some_map None P Q f h = tt
+some_map (Some a) P Q f h = f a h
+
+pub none_map : {A : Type 0} (o : Option A) (P Q : Type 0) → (P → Q) → IfNone o P → IfNone o Q
+none_map None P Q f h = f h
+none_map (Some a) P Q f h = tt

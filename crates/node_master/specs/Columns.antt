@@ -4,6 +4,7 @@ use Rattle.std.specs.Borrow.{GName}
 use Rattle.roster_model.specs.declared.grammar.Grammar.{Grammar}
 use Rattle.roster_model.specs.declared.instance.Cut.{Cut}
 use Rattle.roster_model.specs.declared.instance.Instance.{Instance}
+use Rattle.roster_model.specs.Folds.{Each}
 use Rattle.roster_model.specs.PriceRooms.{IsRoomFor}
 use Rattle.roster_model.specs.Room.{most_uses}
 use Rattle.roster_model.specs.SoundInstance.{IsSoundInstance}
@@ -14,7 +15,7 @@ use Rattle.cheapest_tree.specs.Pricers.{PricerView, IsMadeFor}
 use Rattle.master_laws.specs.Rows.{rows_of, HoldsAt}
 use Rattle.master_laws.specs.Master.{MasterKey, missing, beyond, tree, HasBeyond, master}
 use Rattle.master_rows.specs.declared.rows.NodeRows.{NodeRows}
-use Rattle.master_rows.specs.NodeRows.{AreRows}
+use Rattle.master_rows.specs.NodeRows.{AreRows, IsSmallCut}
 use Rattle.pivot_rows.specs.Columns.{IsColumn}
 use Rattle.tree_pool.specs.Pools.{PoolTree, IsPool, IsGrown, IsPoolTree}
 use Rattle.node_master.specs.declared.desk.Kind.{Kind}
@@ -59,13 +60,24 @@ pub record IsHeld (i : Instance) (cuts : List Cut) (pool : List PoolTree) (h : H
   pub some : (k : MasterKey) × IsKey i.grammar pool h.kind k
   pub tells : (k : MasterKey) → IsKey i.grammar pool h.kind k → Tells i cuts h k
 
--- the listed columns: those of what is missing come first, in the order of the rows, and each row that
--- has one has its column of what is beyond
+-- each listed column has a key, and tells the column of each key that it has
+abbrev pub AreTold : Instance → List Cut → List PoolTree → List Held → Type 0
+AreTold i cuts pool held = (j : ℕ) (h : Held) → slice_get held j ≡ Some h → IsHeld i cuts pool h
+
+-- the columns of what is missing in the first n rows come first, in the order of the rows
+abbrev pub HasMissing : ℕ → List Held → Type 0
+HasMissing n held = (r : ℕ) → r < n → (h : Held) × (slice_get held r ≡ Some h) × (h.kind ≡ Missing r)
+
+-- each of the first n rows that has a column of what is beyond has it listed
+abbrev pub HasBeyonds : Instance → List Cut → ℕ → List Held → Type 0
+HasBeyonds i cuts n held = (r : ℕ) → r < n → HoldsAt HasBeyond (rows_of i cuts) r
+    → (j : ℕ) × (h : Held) × (slice_get held j ≡ Some h) × (h.kind ≡ Beyond r)
+
+-- the listed columns, those of the rows among them
 pub record AreHeld (i : Instance) (cuts : List Cut) (pool : List PoolTree) (held : List Held) : Type 0 where
-  pub each : (j : ℕ) (h : Held) → slice_get held j ≡ Some h → IsHeld i cuts pool h
-  pub units : (r : ℕ) → r < length (rows_of i cuts) → (h : Held) × (slice_get held r ≡ Some h) × (h.kind ≡ Missing r)
-  pub beyonds : (r : ℕ) → HoldsAt HasBeyond (rows_of i cuts) r
-      → (j : ℕ) × (h : Held) × (slice_get held j ≡ Some h) × (h.kind ≡ Beyond r)
+  pub each : AreTold i cuts pool held
+  pub units : HasMissing (length (rows_of i cuts)) held
+  pub beyonds : HasBeyonds i cuts (length (rows_of i cuts)) held
 
 -- the desk is that of a node
 pub record IsDesk (i : Instance) (cuts : List Cut) (pool : List PoolTree) (desk : Desk) : Type 0 where
@@ -97,6 +109,7 @@ pub record IsReady (s : NodeState) : Type 0 where
   pub pool : IsPool s.instance.grammar s.pool
   pub rows : AreRows s.instance s.cuts s.rows
   pub small : length (rows_of s.instance s.cuts) ≤ 1500
+  pub cuts : Each IsSmallCut s.cuts
   pub desk : IsDesk s.instance s.cuts s.pool s.desk
 
 -- the pool and the listed columns grew

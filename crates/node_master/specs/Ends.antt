@@ -26,6 +26,8 @@ use Rattle.tableau.specs.declared.simplex.LpFault.{LpFault}
 use Rattle.tableau.specs.declared.simplex.LpFault.TheVariants.{Wide as LpWide, Spent as LpSpent, Memory as LpMemory}
 use Rattle.tableau.specs.Ends.{AreBasicWeights}
 use Rattle.tableau.specs.Risen.{HasRisen}
+use Rattle.price_round.specs.declared.round.RoundFault.{RoundFault}
+use Rattle.price_round.specs.declared.round.RoundFault.TheVariants.{Wide as RoundWide, Memory as RoundMemory}
 use Rattle.tree_pool.specs.Pools.{PoolTree, IsPoolTree}
 use Rattle.node_master.specs.declared.ends.Weight.{Weight}
 use Rattle.node_master.specs.declared.ends.Cause.{Cause}
@@ -98,3 +100,8 @@ abbrev pub IsFailedBy : LpFault → Result NodeEnd MemoryLack → Type 0
 IsFailedBy (LpWide fault) r = r ≡ Ok (Failed (Wide fault))
 IsFailedBy (LpSpent pivots) r = r ≡ Ok (Failed (Spent pivots))
 IsFailedBy LpMemory r = IsErr r
+
+-- the answer that prices which were not rounded lead to
+abbrev pub IsUnroundedBy : RoundFault → Result NodeEnd MemoryLack → Type 0
+IsUnroundedBy (RoundWide fault) r = r ≡ Ok (Failed (Wide fault))
+IsUnroundedBy RoundMemory r = IsErr r

@@ -1,9 +1,9 @@
-use Rattle.std.proofs.Common.{rules, length, ◌≡◌, ℕ, ◌+◌, ◌-◌, ◌*◌, ◌<◌, ◌≤◌, ◌/◌, ◌%◌, Bool, true, false, nat_eq, nat_lt, List, [], ◌∷◌, ◌++◌, slice_index_or, slice_set, bit_and, bit_or, Fits, w8, w32, w64, Bor, MutBor}
-use Rattle.master_laws.specs.Master.{MasterKey}
-use Rattle.node_master.specs.Columns.{NodeSite, NodeState, site_program, Lists, IsReady, IsKept}
-use Rattle.node_master.specs.Kept.{kept-same, kept-chain, kept-still}
+use Rattle.std.proofs.Common.{◌≡◌, ℕ}
+use Rattle.node_master.proofs.HeldColumns.{there}
 use Rattle.node_master.proofs.columns.NodeColumnsColumns.count.Goals as goal
 
--- src/columns.rt:59:5
 pub returns-clause-keys : goal.returns-clause-keys
-returns-clause-keys c = ?
+returns-clause-keys c = λ j h.
+    let x = there c.args.self.now.desk.now.held j h in
+    let is = c.requires.desk.held.each j x.0 x.1 in
+    (is.some.0, record { one = x.0; at = x.1; key = is.some.1 }, (is.tells is.some.0 is.some.1).belongs)
