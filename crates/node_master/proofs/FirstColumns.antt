@@ -94,3 +94,6 @@ missing_push n held h has count kind = λ r l. by r (split r n l)
 
 pub missing_stay : (n : ℕ) (held more : List Held) → HasMissing n held → HasMissing n (held ++ more)
 missing_stay n held more has = λ r l. let u = has r l in (u.0, stays held more r u.0 u.1, u.2)
+
+pub pushed_length : (n : ℕ) (held : List Held) (h : Held) → length held ≡ n → length (held ++ h ∷ []) ≡ n + 1
+pushed_length n held h e = let l = length-append held (h ∷ []) in omega (arith, l)

@@ -6,9 +6,6 @@ use Rattle.node_master.proofs.FoundTrees.{heads_within}
 use Rattle.node_master.proofs.RowPrices.{at_narrow}
 use Rattle.node_master.proofs.trees.price_of_heads.Goals as goal
 
-pub first_head-head-requires : goal.first_head-head-requires
-first_head-head-requires c = ?
-
 pub offset_bounds-y-head : goal.offset_bounds-y-head
 offset_bounds-y-head c =
     let r = c.requires.rows in

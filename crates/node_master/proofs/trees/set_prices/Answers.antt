@@ -9,9 +9,6 @@ use Rattle.fraction.specs.Row.{at}
 use Rattle.node_master.proofs.RowPrices.{are_wide, cell_part, paid_part, few_cuts}
 use Rattle.node_master.proofs.trees.set_prices.Goals as goal
 
-pub gather-requires-clause-stub : goal.gather-requires-clause-stub
-gather-requires-clause-stub c = ?
-
 pub set_wide-requires-clause-fit : goal.set_wide-requires-clause-fit
 set_wide-requires-clause-fit c =
     let i = c.args.instance.now in
