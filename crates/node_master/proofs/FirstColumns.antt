@@ -1,5 +1,5 @@
 -- The rows' own columns.
-use Rattle.std.proofs.Common.{◌≡◌, ℕ, ℤ, zero, suc, arith, pos, neg_ℤ, ◌+◌, ◌<◌, ◌≤◌, Bool, true, false, cond, nat_eq, List, [], ◌∷◌, ◌++◌, All, length, Some, refl, sym, ap, ◌∙◌, subst, ◌⊎◌, inl, inr, length-append}
+use Rattle.std.proofs.Common.{◌≡◌, ℕ, ℤ, zero, suc, arith, pos, neg_ℤ, ◌+◌, ◌<◌, ◌≤◌, Bool, true, false, cond, nat_eq, List, [], ◌∷◌, ◌++◌, All, length, Some, refl, sym, ap, ◌∙◌, subst, ◌⊎◌, inl, inr, length-append, append_assoc}
 use Rattle.std.proofs.lemmas.Int.{ints}
 use Rattle.std.specs.Prelude.{slice_get}
 use Rattle.roster_model.specs.declared.instance.Cut.{Cut}
@@ -14,7 +14,7 @@ use Rattle.tree_pool.specs.Pools.{PoolTree}
 use Rattle.node_master.specs.declared.desk.Kind.{Kind}
 use Rattle.node_master.specs.declared.desk.Kind.TheVariants.{Missing, Beyond, OfTree}
 use Rattle.node_master.specs.declared.desk.Held.{Held}
-use Rattle.node_master.specs.Columns.{IsKey, Tells, IsHeld, AreTold, HasMissing, HasBeyonds}
+use Rattle.node_master.specs.Columns.{IsKey, Tells, IsHeld, AreTold, HasMissing, HasBeyonds, HasMore}
 use Rattle.node_master.proofs.HeldColumns.{pushed, pushed_last, stays}
 
 module _ (i : Instance) (cuts : List Cut) (pool : List PoolTree) where
@@ -97,3 +97,9 @@ missing_stay n held more has = λ r l. let u = has r l in (u.0, stays held more 
 
 pub pushed_length : (n : ℕ) (held : List Held) (h : Held) → length held ≡ n → length (held ++ h ∷ []) ≡ n + 1
 pushed_length n held h e = let l = length-append held (h ∷ []) in omega (arith, l)
+
+pub more_push : (old held : List Held) (h : Held) → HasMore old held → HasMore old (held ++ h ∷ [])
+more_push old held h m = (m.0 ++ h ∷ [], ap (λ (xs : List Held). xs ++ h ∷ []) m.1 ∙ append_assoc old m.0 (h ∷ []))
+
+pub more_chain : (a b c : List Held) → HasMore a b → HasMore b c → HasMore a c
+more_chain a b c m n = (m.0 ++ n.0, n.1 ∙ ap (λ (xs : List Held). xs ++ n.0) m.1 ∙ append_assoc a m.0 n.0)

@@ -1,42 +1,37 @@
-use Rattle.std.proofs.Common.{rules, ℕ, ◌≡◌, ◌≤◌, ◌<◌, ◌+◌, ◌^◌, pos, [], ◌∷◌, All}
-use Rattle.std.proofs.Common.{List as Items}
-use Rattle.std.proofs.Common.{length, IfOk, ◌-◌, ◌*◌, ◌/◌, ◌%◌, Bool, true, false, nat_eq, nat_lt, List, ◌++◌, slice_index_or, slice_set, bit_and, bit_or, Fits, w8, w32, w64, Bor, MutBor, ℤ, ◌+ℤ◌, ◌-ℤ◌, ◌*ℤ◌, ◌≤ℤ◌, ◌<ℤ◌, FitsSigned, to_z, of_z}
-use Rattle.roster_model.specs.declared.instance.Cut.{Cut as PathCut}
-use Rattle.roster_model.specs.declared.instance.Instance.{Instance as Day}
-use Rattle.roster_model.specs.PriceRooms.{IsRoomFor}
-use Rattle.roster_model.specs.Room.{most_uses}
-use Rattle.roster_model.specs.SoundInstance.{IsSoundInstance}
-use Rattle.bound_laws.specs.BestPrices.{artificial_cost}
+use Rattle.std.proofs.Common.{◌≡◌, ℕ, ℤ, pos, ◌<◌, ◌≤◌, List, ◌∷◌, [], ◌++◌, length, refl, sym, subst, ◌∙◌, arith, rules, to_z, of_z, append_assoc, append-nil, ap}
+use mir.Syntax.{w64}
 use Rattle.master_laws.specs.Rows.{rows_of}
-use Rattle.master_rows.specs.NodeRows.{AreRows}
-use Rattle.tree_pool.specs.Pools.{PoolTree, IsPool}
-use Rattle.node_master.specs.Columns.{AreTold, HasMissing, HasBeyonds, HasMore, AreHeld, IsDesk}
+use Rattle.node_master.specs.declared.desk.Held.{Held}
+use Rattle.node_master.specs.Columns.{HasMore}
+use Rattle.node_master.proofs.FirstColumns.{beyond_held, told_push, beyonds_push, beyonds_skip, more_push}
 use Rattle.node_master.proofs.first.add_beyond.Goals as goal
+use Rattle.node_master.proofs.first.add_beyond.Goals.{in-Some+in_ok-one_place+in_ok-push, in_default}
 
--- src/first.rt:66:5
-pub loop-row-init : goal.loop-row-init
-loop-row-init c = ?
-
--- src/first.rt:67:29
-pub beyond_cost-requires-clause-stub : goal.beyond_cost-requires-clause-stub
-beyond_cost-requires-clause-stub c = ?
-
--- src/first.rt:70:25
-pub returns-in_err-one_place-clause-more : goal.returns-in_err-one_place-clause-more
-returns-in_err-one_place-clause-more c = ?
-
--- src/first.rt:68:13
-pub returns-in_err-push-clause-more : goal.returns-in_err-push-clause-more
-returns-in_err-push-clause-more c = ?
-
--- src/first.rt:66:5
 pub loop-row-preserved : goal.loop-row-preserved
-loop-row-preserved c = ?
+loop-row-preserved c =
+    let v = c.loop-row.invariant in
+    elim c.match-beyond_cost.branch [
+      | in-Some+in_ok-one_place+in_ok-push w ↦
+          let m : to_z w64 (of_z w64 w.in-Some.cost) ≡ w.in-Some.cost = search rules in
+          rw (w.held-is, w.in_ok-push.ensures.ok) record {
+            more = more_push c.args.held.now c.loop-row.held _ v.more;
+            listed = λ i cuts rows pool told.
+                let below : c.loop-row.row < length (rows_of i cuts) = let e = c.right-row-end.ensures.length i cuts rows in omega (arith, e, c.loop-row-test.true) in
+                let some = w.in-Some.ensures.some i cuts rows in
+                let l = v.listed i cuts rows pool told in (
+                  told_push i cuts pool c.loop-row.held _ l.0 (beyond_held i cuts pool c.loop-row.row _ below some.0 refl w.in_ok-one_place.ensures (m ∙ some.1)),
+                  beyonds_push i cuts pool c.loop-row.row c.loop-row.held _ l.1 refl,
+                );
+          }
+      | in_default w ↦
+          rw w.held-is record {
+            more = v.more;
+            listed = λ i cuts rows pool told. let l = v.listed i cuts rows pool told in (l.0, beyonds_skip i cuts pool c.loop-row.row c.loop-row.held l.1 (w.in_default.ensures.none i cuts rows));
+          }
+    ]
 
--- src/first.rt:59:1
-pub returns-clause-more : goal.returns-clause-more
-returns-clause-more c = ?
-
--- src/first.rt:59:1
 pub returns-clause-listed : goal.returns-clause-listed
-returns-clause-listed c = ?
+returns-clause-listed c = λ i cuts rows pool told.
+    let l = c.loop-row.invariant.listed i cuts rows pool told in
+    let e = c.right-row-end.ensures.length i cuts rows in
+    (l.0, λ r b h. l.1 r (omega (arith, e, c.loop-row-test.false)) h)

@@ -1,17 +1,14 @@
-use Rattle.std.proofs.Common.{ℕ, ◌≡◌, ◌≤◌, ◌<◌, ◌+◌, ◌^◌, pos, [], ◌∷◌, All}
-use Rattle.std.proofs.Common.{List as Items}
-use Rattle.std.proofs.Common.{length, IfOk, ◌-◌, ◌*◌, ℤ, ◌+ℤ◌, ◌-ℤ◌, ◌*ℤ◌, ◌≤ℤ◌, ◌<ℤ◌, FitsSigned, to_z, of_z}
-use Rattle.roster_model.specs.declared.instance.Cut.{Cut as PathCut}
-use Rattle.roster_model.specs.declared.instance.Instance.{Instance as Day}
-use Rattle.roster_model.specs.PriceRooms.{IsRoomFor}
-use Rattle.roster_model.specs.Room.{most_uses}
-use Rattle.roster_model.specs.SoundInstance.{IsSoundInstance}
-use Rattle.bound_laws.specs.BestPrices.{artificial_cost}
-use Rattle.master_laws.specs.Rows.{rows_of}
+use Rattle.std.proofs.Common.{◌≡◌, List}
+use Rattle.roster_model.specs.declared.instance.Cut.{Cut}
+use Rattle.roster_model.specs.declared.instance.Instance.{Instance}
 use Rattle.master_rows.specs.NodeRows.{AreRows}
-use Rattle.tree_pool.specs.Pools.{PoolTree, IsPool}
-use Rattle.node_master.specs.Columns.{AreTold, HasMissing, HasBeyonds, HasMore, AreHeld, IsDesk}
+use Rattle.tree_pool.specs.Pools.{PoolTree}
+use Rattle.node_master.specs.Columns.{AreTold, HasBeyonds, HasMore}
 use Rattle.node_master.proofs.first.add_beyond.Given as goal
 
 abbrev pub invariant-loop-row : goal.invariant-loop-row
-invariant-loop-row l = ?
+invariant-loop-row l = record {
+  more : HasMore l.initial.held l.held;
+  listed : (i : Instance) (cuts : List Cut) → AreRows i cuts l.rows → (pool : List PoolTree) → AreTold i cuts pool l.initial.held
+      → AreTold i cuts pool l.held × HasBeyonds i cuts l.row l.held;
+}

@@ -22,7 +22,7 @@ loop-row-preserved c =
       told = λ i cuts rows a pool.
           let below : c.loop-row.row < length (rows_of i cuts) = let e = c.right-row-end.ensures.length i cuts rows in omega (arith, e, c.loop-row-test.true) in
           told_push i cuts pool c.loop-row.held _ (v.told i cuts rows a pool)
-          (missing_held i cuts pool c.loop-row.row _ below refl c.in_ok-one_place.ensures (m ∙ c.missing_cost.ensures i cuts rows (k ∙ a)));
+          (missing_held i cuts pool c.loop-row.row _ below refl c.in_ok-one_place.ensures (m ∙ c.missing_cost.ensures i cuts rows a));
     }
 
 pub returns : goal.returns
