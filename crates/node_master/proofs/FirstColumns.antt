@@ -1,20 +1,18 @@
 -- The rows' own columns.
-use Rattle.std.proofs.Common.{◌≡◌, ℕ, ℤ, zero, suc, arith, pos, neg_ℤ, ◌+◌, ◌<◌, ◌≤◌, Bool, true, false, cond, nat_eq, List, [], ◌∷◌, ◌++◌, All, length, Some, refl, sym, ap, ◌∙◌, subst, ◌⊎◌, inl, inr, length-append, append_assoc}
-use Rattle.std.proofs.lemmas.Int.{ints}
+use Rattle.std.proofs.Common.{◌≡◌, ℕ, arith, pos, neg_ℤ, ◌+◌, ◌<◌, Bool, true, false, cond, nat_eq, List, [], ◌∷◌, ◌++◌, length, Some, refl, sym, ap, ◌∙◌, subst, ◌⊎◌, inl, inr, length-append, append_assoc}
 use Rattle.std.specs.Prelude.{slice_get}
 use Rattle.roster_model.specs.declared.instance.Cut.{Cut}
 use Rattle.roster_model.specs.declared.instance.Instance.{Instance}
 use Rattle.linear_programs.specs.Program.{unit_vector}
 use Rattle.bound_laws.specs.BestPrices.{artificial_cost}
 use Rattle.master_laws.specs.Rows.{Row, rows_of, number_at, HoldsAt}
-use Rattle.master_laws.specs.Master.{MasterKey, missing, beyond, tree, HasBeyond, missing_cost, beyond_cost, master}
-use Rattle.pivot_rows.specs.declared.column.Place.{Place}
+use Rattle.master_laws.specs.Master.{MasterKey, missing, beyond, HasBeyond, missing_cost, beyond_cost}
 use Rattle.pivot_rows.specs.Columns.{number_in}
 use Rattle.tree_pool.specs.Pools.{PoolTree}
 use Rattle.node_master.specs.declared.desk.Kind.{Kind}
-use Rattle.node_master.specs.declared.desk.Kind.TheVariants.{Missing, Beyond, OfTree}
+use Rattle.node_master.specs.declared.desk.Kind.TheVariants.{Missing, Beyond}
 use Rattle.node_master.specs.declared.desk.Held.{Held}
-use Rattle.node_master.specs.Columns.{IsKey, Tells, IsHeld, AreTold, HasMissing, HasBeyonds, HasMore}
+use Rattle.node_master.specs.Columns.{IsKey, Tells, IsHeld, AreTold, HasMissing, HasBeyonds, HasMore, AreHeld}
 use Rattle.node_master.proofs.HeldColumns.{pushed, pushed_last, stays}
 
 module _ (i : Instance) (cuts : List Cut) (pool : List PoolTree) where
@@ -103,3 +101,12 @@ more_push old held h m = (m.0 ++ h ∷ [], ap (λ (xs : List Held). xs ++ h ∷ 
 
 pub more_chain : (a b c : List Held) → HasMore a b → HasMore b c → HasMore a c
 more_chain a b c m n = (m.0 ++ n.0, n.1 ∙ ap (λ (xs : List Held). xs ++ n.0) m.1 ∙ append_assoc a m.0 n.0)
+
+-- what is listed first, with columns behind
+pub all_held : (i : Instance) (cuts : List Cut) (pool : List PoolTree) (first second held : List Held) → HasMissing (length (rows_of i cuts)) first → HasMore first second
+    → HasBeyonds i cuts (length (rows_of i cuts)) second → HasMore second held → AreTold i cuts pool held → AreHeld i cuts pool held
+all_held i cuts pool first second held short a over b told = record {
+  each = told;
+  units = λ r l. let u = short r l in (u.0, subst (λ (hs : List Held). slice_get hs r ≡ Some u.0) (sym b.1) (stays second b.0 r u.0 (subst (λ (hs : List Held). slice_get hs r ≡ Some u.0) (sym a.1) (stays first a.0 r u.0 u.1))), u.2);
+  beyonds = λ r l h. let u = over r l h in (u.0, u.1, subst (λ (hs : List Held). slice_get hs u.0 ≡ Some u.1) (sym b.1) (stays second b.0 u.0 u.1 u.2), u.3);
+}

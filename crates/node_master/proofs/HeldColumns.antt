@@ -1,18 +1,16 @@
 -- Listed columns, and what keeps them.
-use Rattle.std.proofs.Common.{◌≡◌, ℕ, ℤ, zero, suc, arith, pos, ◌+◌, ◌<◌, ◌≤◌, List, [], ◌∷◌, ◌++◌, length, get_or, Option, None, Some, refl, sym, ap, ◌∙◌, subst, ◌⊎◌, inl, inr, All, length-append}
+use Rattle.std.proofs.Common.{◌≡◌, ℕ, zero, suc, arith, pos, ◌<◌, ◌≤◌, List, [], ◌∷◌, ◌++◌, length, get_or, Option, None, Some, refl, sym, ap, ◌∙◌, subst, ◌⊎◌, inl, inr, All, length-append}
 use Rattle.std.specs.Prelude.{slice_get, IfSome, IfNone}
 use Rattle.std.proofs.lemmas.Option.{same_Some, none-some, slice_get_within, slice_get_cases}
 use Rattle.roster_model.specs.declared.instance.Cut.{Cut}
 use Rattle.roster_model.specs.declared.instance.Instance.{Instance}
 use Rattle.roster_model.specs.Trees.{Parts, IsDayTree, steps}
-use Rattle.roster_model.specs.Arcs.{cost}
 use Rattle.roster_model.specs.PriceRooms.{IsRoomFor}
 use Rattle.master_laws.specs.Rows.{rows_of, number_at}
-use Rattle.master_laws.specs.Master.{MasterKey, missing, beyond, tree, master}
+use Rattle.master_laws.specs.Master.{MasterKey, tree}
 use Rattle.grammar_core.specs.Lists.{IsSpanTree}
 use Rattle.grammar_core.proofs.ListsLemmas.{steps_tell}
 use Rattle.pivot_rows.specs.Columns.{IsColumn}
-use Rattle.pivot_rows.specs.declared.column.Place.{Place}
 use Rattle.tree_pool.specs.Pools.{PoolTree, IsPool, IsGrown, IsPoolTree}
 use Rattle.node_master.specs.declared.desk.Kind.{Kind}
 use Rattle.node_master.specs.declared.desk.Kind.TheVariants.{Missing, Beyond, OfTree}

@@ -1,15 +1,14 @@
 -- What pricing a node's columns tells.
-use Rattle.std.proofs.Common.{◌≡◌, ℕ, ℤ, zero, suc, arith, pos, negsuc, neg_ℤ, ◌+ℤ◌, ◌-ℤ◌, ◌*ℤ◌, ◌≤ℤ◌, ◌<ℤ◌, ◌+◌, ◌<◌, ◌≤◌, unsigned_abs, Bool, true, false, cond, nat_eq, List, [], ◌∷◌, length, Option, Some, refl, sym, ap, ◌∙◌, subst, ◌⊎◌, inl, inr}
+use Rattle.std.proofs.Common.{◌≡◌, ℕ, ℤ, zero, suc, arith, pos, neg_ℤ, ◌+ℤ◌, ◌-ℤ◌, ◌*ℤ◌, ◌≤ℤ◌, ◌<◌, ◌≤◌, unsigned_abs, List, [], ◌∷◌, length, Some, refl, sym, ap, ◌∙◌, subst, inl, inr}
 use Rattle.std.proofs.lemmas.Int.{ints}
 use Rattle.std.proofs.lemmas.Bool.Decides.{eqb_tells}
 use Rattle.std.specs.Prelude.{slice_get}
 use Rattle.roster_model.specs.declared.instance.Cut.{Cut}
 use Rattle.roster_model.specs.declared.instance.Instance.{Instance}
-use Rattle.roster_model.specs.Folds.{Each, sum_z}
+use Rattle.roster_model.specs.Folds.{Each}
 use Rattle.roster_model.specs.SoundInstance.{IsSoundInstance}
 use Rattle.roster_model.specs.Sums.{Within}
 use Rattle.linear_programs.specs.Program.{reduced, IsPricedOut}
-use Rattle.linear_programs.specs.Sums.{dot}
 use Rattle.linear_programs.proofs.Totals.{dot-same_right}
 use Rattle.fraction.specs.Row.{at}
 use Rattle.master_laws.specs.Rows.{Row, rows_of, HoldsAt}
@@ -18,13 +17,12 @@ use Rattle.master_laws.specs.Laws.{AreSmall}
 use Rattle.master_laws.proofs.Small.{small}
 use Rattle.master_rows.specs.NodeRows.{IsSmallCut}
 use Rattle.pivot_rows.specs.declared.column.Place.{Place}
-use Rattle.pivot_rows.specs.Columns.{number_in, AreRising, AreWithin, AreUnits, IsColumn}
+use Rattle.pivot_rows.specs.Columns.{number_in, AreRising, AreWithin, AreUnits}
 use Rattle.pivot_rows.proofs.Entries.{places_sum, places_sum_is}
 use Rattle.tree_pool.specs.Pools.{PoolTree}
 use Rattle.node_master.specs.declared.desk.Kind.{Kind}
-use Rattle.node_master.specs.declared.desk.Kind.TheVariants.{Missing, Beyond, OfTree}
 use Rattle.node_master.specs.declared.desk.Held.{Held}
-use Rattle.node_master.specs.Columns.{IsKey, Tells, IsHeld, AreHeld, HasKey}
+use Rattle.node_master.specs.Columns.{IsKey, Tells, IsHeld, AreHeld}
 use Rattle.node_master.specs.Priced.{IsPlain, places_worth, listed_reduced, HasNoCheaper}
 
 -- ---- the sum over the places

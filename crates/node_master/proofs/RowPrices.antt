@@ -1,17 +1,23 @@
 -- The rows' prices by cells and cuts.
-use Rattle.std.proofs.Common.{◌≡◌, ℕ, ℤ, zero, suc, arith, pos, neg_ℤ, ◌+ℤ◌, ◌≤ℤ◌, ◌<ℤ◌, ◌+◌, ◌*◌, ◌<◌, ◌≤◌, ◌^◌, unsigned_abs, ◌⊎◌, inl, inr, Bool, true, false, cond, List, [], ◌∷◌, ◌++◌, All, length, drop, take, refl, sym, ap, ◌∙◌, subst, slice_index_or, append_assoc}
+use Rattle.std.proofs.Common.{◌≡◌, ℕ, ℤ, zero, suc, arith, pos, ◌+ℤ◌, ◌+◌, ◌<◌, ◌≤◌, ◌^◌, unsigned_abs, ◌⊎◌, inl, inr, Bool, true, false, cond, List, [], ◌∷◌, ◌++◌, All, length, drop, take, refl, ap, ◌∙◌, subst, slice_index_or}
 use Rattle.std.proofs.lemmas.Int.{ints}
 use Rattle.std.proofs.lemmas.List.Elements.{All-nil, All-cons}
-use Rattle.std.proofs.Math.Seq.{drop-append_seam, take-append_seam}
+use Rattle.std.proofs.Math.Seq.{drop-append_seam, drop-append-add, take-append_seam}
 use Rattle.roster_model.specs.declared.instance.Cell.{Cell}
 use Rattle.roster_model.specs.declared.instance.Cut.{Cut}
 use Rattle.roster_model.specs.declared.instance.Instance.{Instance}
 use Rattle.roster_model.specs.PriceLimits.{AreWide}
 use Rattle.roster_model.specs.Sums.{Within}
+use Rattle.fraction.specs.Range.{Counts}
 use Rattle.fraction.specs.Row.{at}
 use Rattle.master_laws.specs.Rows.{rows_of, has_floor, has_ceiling}
 use Rattle.master_laws.specs.Rounding.{CellLine, lines_from, cell_lines, line_sum, line_sums, first_ceiling, first_head, numbers_from}
 use Rattle.master_laws.proofs.Small.{row_count}
+use Rattle.master_laws.proofs.WideNumbers.{wide_rounding}
+use Rattle.price_round.specs.Faults.{IsRoundFault}
+use Rattle.price_round.specs.declared.round.RoundFault.{RoundFault}
+use Rattle.price_round.specs.declared.round.RoundFault.TheVariants.{Wide as RoundWide, Memory as RoundMemory}
+use Rattle.node_master.specs.Priced.{AreNarrowPrices}
 
 -- a number at a place, or 0 behind the end
 pub at_narrow : (y : List ℤ) → All (λ (z : ℤ). unsigned_abs z ≤ 2 ^ 56) y → (r : ℕ) → unsigned_abs (at y r) ≤ 2 ^ 56
@@ -101,3 +107,19 @@ pub paid_part : (i : Instance) (cuts : List Cut) (y : ℕ → ℤ) (out others p
 paid_part i cuts y out others paid n a b c d =
     let e : others ≡ y (first_head i) ∷ y (first_head i + 1) ∷ numbers_from y (first_head i + 2) cuts = rw (a, b) at c ∙ back_of i cuts y in
     d ∙ ap (λ (xs : List ℤ). drop 2 xs) e
+
+pub numbers_part : (i : Instance) (cuts : List Cut) (y : ℕ → ℤ) (out : List ℤ) (n : ℕ) → out ≡ gathered i cuts y → n ≡ length i.cells
+    → drop (n + 2) out ≡ numbers_from y (first_head i + 2) cuts
+numbers_part i cuts y out n a b =
+    let e : n + 2 ≡ length (line_sums (cell_lines i y)) + 2 = omega (arith, b, cells_length i y) in
+    ap (λ (xs : List ℤ). drop (n + 2) xs) a ∙ ap (λ k. drop k (gathered i cuts y)) e
+    ∙ drop-append-add (line_sums (cell_lines i y)) (y (first_head i) ∷ y (first_head i + 1) ∷ numbers_from y (first_head i + 2) cuts) 2
+
+-- prices within 2^56 are rounded without a refusal
+pub not_wide : (i : Instance) (cuts : List Cut) (y : List ℤ) (kappa : ℤ) (old new : Counts) (fault : RoundFault) → AreNarrowPrices y kappa
+    → IsRoundFault kappa (line_sums (cell_lines i (at y))) cuts (numbers_from (at y) (first_head i + 2) cuts) old new fault → (fault ≡ RoundMemory) × (new ≡ old)
+not_wide i cuts y kappa old new (RoundWide f) narrow h =
+    let w = h.1 in
+    let r = wide_rounding i cuts (at y) kappa w.d w.number w.rounded narrow.some w.denominator w.listed w.floor w.wide in
+    absurd (let l = at_narrow y narrow.prices r.0 in omega (arith, r.2))
+not_wide i cuts y kappa old new RoundMemory narrow h = (refl, h)

@@ -1,5 +1,6 @@
 -- How the master of a node ends.
 use Rattle.std.specs.Prelude.{ℕ, ℤ, pos, unsigned_abs, ◌≡◌, ◌≤◌, ◌<◌, ◌-◌, ◌*ℤ◌, ◌+ℤ◌, ◌≤ℤ◌, ◌<ℤ◌, ◌⊎◌, Some, List, [], ◌∷◌, ◌++◌, length, slice_get, Result, Ok, IsErr}
+use Rattle.roster_model.specs.declared.grammar.ArcKey.{ArcKey}
 use Rattle.roster_model.specs.declared.grammar.Grammar.{Grammar}
 use Rattle.roster_model.specs.declared.instance.Cut.{Cut}
 use Rattle.roster_model.specs.declared.instance.Instance.{Instance}
@@ -9,28 +10,29 @@ use Rattle.roster_model.specs.declared.memory.Memory.{Memory as MemoryLack}
 use Rattle.roster_model.specs.Arcs.{IsArc}
 use Rattle.roster_model.specs.Folds.{Each}
 use Rattle.roster_model.specs.PriceLimits.{FitPrices}
-use Rattle.roster_model.specs.Cuts.{group_arc}
+use Rattle.roster_model.specs.Cuts.{group_arc, Meets}
 use Rattle.roster_model.specs.Trees.{Parts}
 use Rattle.linear_programs.specs.Solution.{Weighted, IsValue, IsBasic, CostsLeast}
 use Rattle.linear_programs.specs.Tableau.{HasWidePath, HasOpenPath}
 use Rattle.fraction.specs.declared.frac.Frac.{Frac}
 use Rattle.fraction.specs.Range.{Counts}
 use Rattle.bound_laws.specs.Lagrangian.{IsLagrangian}
-use Rattle.bound_laws.specs.BestPrices.{loss, AreBest}
+use Rattle.bound_laws.specs.BestPrices.{loss, IsRival, AreBest}
+use Rattle.bound_laws.specs.Priced.{IsPricedValue}
+use Rattle.bound_laws.specs.TreeRosters.{IsTreeRoster, trees_cost}
 use Rattle.master_laws.specs.Rows.{rows_of}
 use Rattle.master_laws.specs.Master.{MasterKey, missing, beyond, tree, master}
-use Rattle.master_laws.specs.Ends.{tree_weights}
+use Rattle.master_laws.specs.Ends.{tree_first, tree_weights}
 use Rattle.master_laws.specs.Laws.{IsBelowHeads}
+use Rattle.master_laws.specs.Sharp.{UsesArtificial}
+use Rattle.master_laws.specs.WholeCounts.{HasCounts, HaveCounts}
 use Rattle.tableau.specs.declared.simplex.Basic.{Basic}
 use Rattle.tableau.specs.declared.simplex.LpFault.{LpFault}
 use Rattle.tableau.specs.declared.simplex.LpFault.TheVariants.{Wide as LpWide, Spent as LpSpent, Memory as LpMemory}
 use Rattle.tableau.specs.Ends.{AreBasicWeights}
 use Rattle.tableau.specs.Risen.{HasRisen}
-use Rattle.price_round.specs.declared.round.RoundFault.{RoundFault}
-use Rattle.price_round.specs.declared.round.RoundFault.TheVariants.{Wide as RoundWide, Memory as RoundMemory}
 use Rattle.tree_pool.specs.Pools.{PoolTree, IsPoolTree}
 use Rattle.node_master.specs.declared.ends.Weight.{Weight}
-use Rattle.node_master.specs.declared.ends.Cause.{Cause}
 use Rattle.node_master.specs.declared.ends.Cause.TheVariants.{Rows, Wide, Spent}
 use Rattle.node_master.specs.declared.ends.NodeEnd.{NodeEnd}
 use Rattle.node_master.specs.declared.ends.NodeEnd.TheVariants.{Best, Failed}
@@ -62,7 +64,17 @@ AreWeights g columns d (x ∷ xs) [] = ⊥
 
 -- the weights of a basic solution's trees, whatever its weights over d
 abbrev pub AreTreeWeights : Grammar → (ℕ → MasterKey → Type 0) → List PoolTree → List Basic → List Weight → Type 0
-AreTreeWeights g Listed columns basic weights = (d : ℕ) (ws : List (Weighted MasterKey)) → AreBasicWeights Listed d basic ws → AreWeights g columns d weights (tree_weights ws)
+AreTreeWeights g Listed columns basic weights = (d : ℕ) (ws : List (Weighted MasterKey)) → 0 < d
+    → AreBasicWeights Listed d basic ws → AreWeights g columns d weights (tree_weights ws)
+
+-- the weight is not among those above 0 of trees
+abbrev pub IsLeftOut : Weighted MasterKey → Type 0
+IsLeftOut w = (ws : List (Weighted MasterKey)) → tree_first w.key w.weight ws ≡ ws
+
+-- the weight is one above 0 of a tree of the pool
+pub record IsTaken (g : Grammar) (columns : List PoolTree) (d : ℕ) (x : Weight) (w : Weighted MasterKey) : Type 0 where
+  pub first : (ws : List (Weighted MasterKey)) → tree_first w.key w.weight ws ≡ w ∷ ws
+  pub is : IsWeight g columns d x w
 
 -- a column that is no tree
 abbrev pub IsOther : MasterKey → Type 0
@@ -80,13 +92,26 @@ pub record AreLeastWeights (i : Instance) (cuts : List Cut) (columns : List Pool
   pub basic : IsBasic (master i cuts) (trees ++ others) d
   pub least : CostsLeast (master i cuts) (trees ++ others) d
 
+-- where the arcs' weights are whole counts, trees with these counts meet the node and cost at most what
+-- the prices show, unless the solution uses an artificial column
+abbrev pub ClosesWhole : Instance → List Cut → Prices → List (Weighted MasterKey) → ℕ → Type 0
+ClosesWhole i cuts prices ws d = (listed : List ArcKey) (value : ArcKey → ℕ) (ts : List Parts) (shown : ℕ)
+    → HasCounts i cuts ws d listed value → HaveCounts i listed value ts → IsPricedValue i prices cuts shown
+    → UsesArtificial i cuts ws ⊎ (IsTreeRoster i ts × Each (Meets ts) cuts × (trees_cost i ts ≤ shown))
+
 -- rounded prices, the value of the master and the weights
-pub record IsBest (i : Instance) (cuts : List Cut) (columns : List PoolTree) (prices : Prices) (value : Frac) (weights : List Weight) : Type 0 where
+pub record IsBest (i : Instance) (cuts : List Cut) (columns : List PoolTree) (prices : Prices) (value : Frac)
+    (weights : List Weight) : Type 0 where
   pub fit : FitPrices i prices.d prices.cell prices.mult cuts
   pub positive : Each (λ (m : Mult). pos 0 <ℤ m.value) prices.mult
   pub value_is : IsValue (master i cuts) value.num (unsigned_abs value.den)
-  pub shown : Each (IsBelowHeads i) cuts → (l : ℤ) → IsLagrangian i prices cuts l → (value.num *ℤ pos prices.d) ≤ℤ ((l +ℤ pos (loss i prices cuts)) *ℤ value.den)
+  pub shown : Each (IsBelowHeads i) cuts → (l : ℤ) → IsLagrangian i prices cuts l
+      → (value.num *ℤ pos prices.d) ≤ℤ ((l +ℤ pos (loss i prices cuts)) *ℤ value.den)
+  pub rivals : (rival : Prices) (l : ℤ) → IsRival i rival cuts → IsLagrangian i rival cuts l
+      → (l *ℤ value.den) ≤ℤ (value.num *ℤ pos rival.d)
+  pub best : Each (IsBelowHeads i) cuts → AreBest i prices cuts
   pub weighted : AreLeastWeights i cuts columns weights
+  pub closes : Each (IsBelowHeads i) cuts → ClosesWhole i cuts prices (weighted.trees ++ weighted.others) weighted.d
 
 -- each answer comes only where it may; more than 1,500 rows exactly where there are so many
 abbrev pub EndsRight : Instance → List Cut → List PoolTree → Counts → Counts → NodeEnd → Type 0
@@ -100,8 +125,3 @@ abbrev pub IsFailedBy : LpFault → Result NodeEnd MemoryLack → Type 0
 IsFailedBy (LpWide fault) r = r ≡ Ok (Failed (Wide fault))
 IsFailedBy (LpSpent pivots) r = r ≡ Ok (Failed (Spent pivots))
 IsFailedBy LpMemory r = IsErr r
-
--- the answer that prices which were not rounded lead to
-abbrev pub IsUnroundedBy : RoundFault → Result NodeEnd MemoryLack → Type 0
-IsUnroundedBy (RoundWide fault) r = r ≡ Ok (Failed (Wide fault))
-IsUnroundedBy RoundMemory r = IsErr r

@@ -1,5 +1,5 @@
 -- What is kept goes on.
-use Rattle.std.specs.Prelude.{ℕ, ◌≡◌, List, [], ◌∷◌, ◌++◌}
+use Rattle.std.specs.Prelude.{ℕ, [], ◌++◌}
 use mathlib.Core.Path.{sym, refl, ap, ◌∙◌}
 use mathlib.Core.List.{append_assoc, append-nil}
 use Rattle.master_laws.specs.Master.{MasterKey}

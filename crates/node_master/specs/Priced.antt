@@ -1,15 +1,13 @@
 -- Reduced costs of listed columns and of trees.
-use Rattle.std.specs.Prelude.{ℕ, ℤ, pos, ◌≡◌, ◌≤◌, ◌^◌, ◌+◌, ◌*ℤ◌, ◌+ℤ◌, ◌-ℤ◌, ◌≤ℤ◌, ◌<ℤ◌, Some, List, All, length, unsigned_abs}
+use Rattle.std.specs.Prelude.{ℕ, ℤ, pos, ◌≡◌, ◌≤◌, ◌^◌, ◌+◌, ◌*ℤ◌, ◌+ℤ◌, ◌-ℤ◌, ◌≤ℤ◌, ◌<ℤ◌, List, All, unsigned_abs}
 use Rattle.roster_model.specs.declared.instance.Cut.{Cut}
 use Rattle.roster_model.specs.declared.instance.Instance.{Instance}
 use Rattle.roster_model.specs.Folds.{sum_z}
 use Rattle.roster_model.specs.Room.{RoomView}
-use Rattle.roster_model.specs.Sums.{IsLeast, AtMost, tree_sum}
 use Rattle.roster_model.specs.Trees.{Parts, IsDayTree, steps}
 use Rattle.linear_programs.specs.Program.{reduced}
 use Rattle.fraction.specs.Row.{at}
 use Rattle.master_laws.specs.Master.{tree, master}
-use Rattle.master_laws.specs.Pricing.{row_view}
 use Rattle.master_laws.specs.Rounding.{first_head}
 use Rattle.pivot_rows.specs.declared.column.Place.{Place}
 use Rattle.pivot_rows.specs.Columns.{AreWithin, AreUnits}

@@ -31,6 +31,15 @@ fn one_place(alloc: Global, row: usize, value: i64) -> Result<List<Place>, Memor
     Ok(places)
 }
 
+/// Returns what an artificial column costs.
+fn artificial_price(instance: &Instance) -> i64
+    requires { IsSoundInstance instance.now }
+    ensures { result ≡ pos (artificial_cost instance.now) }
+{
+    let price = 64 * (greatest_cost(instance) + 1);
+    price as i64
+}
+
 /// Lists the column of what is missing in each row, in the order of the rows.
 fn add_missing(
     alloc: Global,
@@ -144,10 +153,20 @@ fn list_columns(
     ensures held { IfOk result (λ _. AreHeld instance.now cuts.now pool.now held.new) }
     ensures wanted { IfOk result (λ _. All (λ (j : ℕ). j < length held.new) wanted.new) }
 {
-    let artificial = 64 * (greatest_cost(instance) as i64 + 1);
-    add_missing(alloc, rows, artificial, held)?;
+    add_missing(alloc, rows, artificial_price(instance), held)?;
     add_beyond(alloc, rows, held)?;
-    add_trees(alloc, cuts, rows, pool, trees, held, wanted)
+    add_trees(alloc, cuts, rows, pool, trees, held, wanted)?;
+    Ok(())
+}
+
+/// Returns how many numbers the prices of the rows make by cells and cuts: one for each cell, for both
+/// rows of the heads and for each cut.
+pub(crate) fn numbers_of(instance: &Instance, cuts: &[Cut]) -> usize
+    requires sound { IsSoundInstance instance.now }
+    requires small { length (rows_of instance.now cuts.now) ≤ 1500 }
+    ensures { result ≡ length instance.now.cells + 2 + length cuts.now }
+{
+    instance.cells.len() + 2 + cuts.len()
 }
 
 /// Returns a desk for the node at a path of cuts, with the rows' own columns and these trees of the
@@ -166,7 +185,7 @@ pub(crate) fn desk_of(
     requires pool { IsPool instance.now.grammar pool.now }
     ensures { IfOk result (IsDesk instance.now cuts.now pool.now) }
 {
-    let count = instance.cells.len() + 2 + cuts.len();
+    let count = numbers_of(instance, cuts);
     let Ok(numbers) = vec![in alloc; 0i128; count] else {
         return Err(Memory);
     };

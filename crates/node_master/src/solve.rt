@@ -1,27 +1,38 @@
-ghost use Rattle.std.specs.Prelude.{ℕ, ◌≡◌, ◌≤◌, ◌<◌, ◌^◌, length, IfOk};
+ghost use Rattle.std.specs.Prelude.{ℕ, ◌≡◌, ◌≤◌, ◌<◌, ◌+◌, ◌^◌, pos, ◌<ℤ◌, All, List as Items, length, IfOk};
+ghost use Rattle.roster_model.specs.declared.grammar.Grammar.{Grammar as Rules};
+ghost use Rattle.tableau.specs.declared.simplex.Basic.{Basic as BasicColumn};
+ghost use Rattle.roster_model.specs.declared.instance.Mult.{Mult as Multiplier};
 ghost use Rattle.roster_model.specs.Folds.{Each};
+ghost use Rattle.roster_model.specs.PriceLimits.{FitPrices};
 ghost use Rattle.roster_model.specs.SoundInstance.{IsSoundInstance};
 ghost use Rattle.roster_model.specs.Trees.{Parts, IsDayTree};
+ghost use Rattle.linear_programs.specs.Program.{IsPricedOut};
+ghost use Rattle.fraction.specs.Row.{at};
 ghost use Rattle.bound_laws.specs.Infeasible.{IsPlainlyInfeasible};
 ghost use Rattle.parse_graph.specs.Graphs.{IsGraph};
 ghost use Rattle.cheapest_tree.specs.Pricers.{IsMadeFor};
 ghost use Rattle.master_laws.specs.Rows.{rows_of};
+ghost use Rattle.master_laws.specs.Master.{master};
+ghost use Rattle.master_laws.specs.Rounding.{AreRoundedFrom};
 ghost use Rattle.master_rows.specs.NodeRows.{AreRows};
 ghost use Rattle.tree_pool.specs.Pools.{IsPool, IsGrown};
-ghost use Rattle.node_master.specs.Ends.{IsNodeCut, EndsRight, IsFailedBy, IsUnroundedBy};
+ghost use Rattle.tree_pool.specs.Pools.{PoolTree};
+ghost use Rattle.node_master.specs.Columns.{HasKey};
+ghost use Rattle.node_master.specs.Ends.{IsNodeCut, EndsRight, IsFailedBy, AreTreeWeights};
+ghost use Rattle.node_master.specs.Priced.{AreNarrowPrices};
 
 use crate::columns::NodeColumns;
-use crate::ends::{Cause, NodeEnd};
-use crate::first::desk_of;
+use crate::ends::{Cause, NodeEnd, Weight};
+use crate::first::{desk_of, numbers_of};
 use crate::weights::tree_weights;
 use cheapest_tree::Pricer;
 use fraction::Tally;
 use master_rows::{NodeRows, count_rows};
 use parse_graph::Graph;
 use price_round::{RoundFault, to_prices};
-use roster_model::{Cut, Instance, Memory, Prices};
+use roster_model::{Cut, Instance, List, Memory, Prices};
 use std::alloc::Global;
-use tableau::{LpEnd, LpFault, solve};
+use tableau::{Basic, LpFault, solve};
 use tree_pool::Pool;
 
 /// How many pivots a node is allowed.
@@ -113,11 +124,16 @@ fn solve_rows(
         Ok(end) => end,
         Err(fault) => return failed(fault),
     };
-    let weights = tree_weights(alloc, desk.held.as_slice(), end.basic.as_slice())?;
-    let prices = match round(alloc, instance, cuts, rows, &end, &mut desk.numbers, tally) {
-        Ok(prices) => prices,
-        Err(fault) => return not_rounded(fault),
-    };
+    let weights = listed_weights(alloc, &columns, end.basic.as_slice())?;
+    let prices = round(
+        alloc,
+        instance,
+        cuts,
+        rows,
+        end.y.as_slice(),
+        end.kappa,
+        tally,
+    )?;
     Ok(NodeEnd::Best {
         prices,
         value: end.value,
@@ -125,19 +141,93 @@ fn solve_rows(
     })
 }
 
-/// Rounds the prices of the rows.
+/// Returns the weights above 0 of trees, in the order of the basic columns.
+fn listed_weights(
+    alloc: Global,
+    columns: &NodeColumns<'_, '_, '_, '_, '_, '_, '_>,
+    basic: &[Basic],
+) -> Result<List<Weight>, Memory>
+    requires { All (λ (b : BasicColumn). b.col < length columns.now.desk.now.held) basic.now }
+    ensures { IfOk result (λ weights. (g : Rules) (pool : Items PoolTree) →
+        AreTreeWeights g (HasKey g pool columns.now.desk.now.held) pool basic.now weights) }
+{
+    tree_weights(alloc, columns.desk.held.as_slice(), basic)
+}
+
+/// Returns want of memory, the one fault of rounding prices within 2^56.
+fn memory_of(fault: RoundFault) -> Memory
+    requires { fault ≡ RoundFault.Memory }
+{
+    match fault {
+        RoundFault::Memory => Memory,
+        RoundFault::Wide(_) => unreachable!(),
+    }
+}
+
+/// Rounds the prices of the rows, which are within 2^56 in size, as their denominator is. `numbers`
+/// has a place for each cell, for both rows of the heads and for each cut.
+fn rounded(
+    alloc: Global,
+    instance: &Instance,
+    cuts: &[Cut],
+    rows: &NodeRows,
+    y: &[i128],
+    kappa: i128,
+    numbers: &mut [i128],
+    tally: &mut Tally,
+) -> Result<Prices, Memory>
+    requires rows { AreRows instance.now cuts.now rows.now }
+    requires small { length (rows_of instance.now cuts.now) ≤ 1500 }
+    requires y { length y.now ≡ length (rows_of instance.now cuts.now) }
+    requires narrow { AreNarrowPrices y.now kappa }
+    requires out { IsPricedOut (master instance.now cuts.now) (at y.now) kappa }
+    requires numbers { length numbers.old ≡ length instance.now.cells + 2 + length cuts.now }
+    ensures rounded { IfOk result (AreRoundedFrom instance.now cuts.now (at y.now) kappa) }
+    ensures fit { IfOk result (λ p. FitPrices instance.now p.d p.cell p.mult cuts.now) }
+    ensures above { IfOk result (λ p. Each (λ (m : Multiplier). pos 0 <ℤ m.value) p.mult) }
+    ensures tally { tally.new ≡ tally.old }
+{
+    let cells = instance.cells.len();
+    rows.gather(y, cells, numbers);
+    match to_prices(alloc, numbers, kappa, cells, cuts, tally) {
+        Ok(prices) => Ok(prices),
+        Err(fault) => Err(memory_of(fault)),
+    }
+}
+
+/// Returns a list of so many zeros.
+fn zeros(alloc: Global, count: usize) -> Result<Vec<i128>, Memory>
+    ensures { IfOk result (λ v. length v.items ≡ count) }
+{
+    match vec![in alloc; 0i128; count] {
+        Ok(numbers) => Ok(numbers),
+        Err(_) => Err(Memory),
+    }
+}
+
+/// Rounds the prices at the end of a master's path.
 fn round(
     alloc: Global,
     instance: &Instance,
     cuts: &[Cut],
     rows: &NodeRows,
-    end: &LpEnd,
-    numbers: &mut [i128],
+    y: &[i128],
+    kappa: i128,
     tally: &mut Tally,
-) -> Result<Prices, RoundFault> {
-    let cells = instance.cells.len();
-    rows.gather(end.y.as_slice(), cells, numbers);
-    to_prices(alloc, numbers, end.kappa, cells, cuts, tally)
+) -> Result<Prices, Memory>
+    requires sound { IsSoundInstance instance.now }
+    requires rows { AreRows instance.now cuts.now rows.now }
+    requires small { length (rows_of instance.now cuts.now) ≤ 1500 }
+    requires y { length y.now ≡ length (rows_of instance.now cuts.now) }
+    requires narrow { AreNarrowPrices y.now kappa }
+    requires out { IsPricedOut (master instance.now cuts.now) (at y.now) kappa }
+    ensures rounded { IfOk result (AreRoundedFrom instance.now cuts.now (at y.now) kappa) }
+    ensures fit { IfOk result (λ p. FitPrices instance.now p.d p.cell p.mult cuts.now) }
+    ensures above { IfOk result (λ p. Each (λ (m : Multiplier). pos 0 <ℤ m.value) p.mult) }
+    ensures tally { tally.new ≡ tally.old }
+{
+    let mut numbers = zeros(alloc, numbers_of(instance, cuts))?;
+    rounded(alloc, instance, cuts, rows, y, kappa, &mut numbers, tally)
 }
 
 /// Returns the answer to a program that was given up.
@@ -148,15 +238,5 @@ fn failed(fault: LpFault) -> Result<NodeEnd, Memory>
         LpFault::Wide(fault) => Ok(NodeEnd::Failed(Cause::Wide(fault))),
         LpFault::Spent { pivots } => Ok(NodeEnd::Failed(Cause::Spent { pivots })),
         LpFault::Memory => Err(Memory),
-    }
-}
-
-/// Returns the answer to prices that could not be rounded.
-fn not_rounded(fault: RoundFault) -> Result<NodeEnd, Memory>
-    ensures { IsUnroundedBy fault result }
-{
-    match fault {
-        RoundFault::Wide(fault) => Ok(NodeEnd::Failed(Cause::Wide(fault))),
-        RoundFault::Memory => Err(Memory),
     }
 }

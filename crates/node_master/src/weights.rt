@@ -1,9 +1,12 @@
-ghost use Rattle.std.specs.Prelude.{ℕ, ◌≡◌, ◌<◌, Some, List as Items, ◌∷◌, length, slice_get, All, IfOk};
+ghost use Rattle.std.specs.Prelude.{ℕ, ◌<◌, List as Items, length, All, IfOk, IfSome, IfNone};
+ghost use Rattle.linear_programs.specs.Solution.{Weighted};
+ghost use Rattle.master_laws.specs.Master.{MasterKey};
+ghost use Rattle.tableau.specs.Ends.{IsBasicWeight};
 ghost use Rattle.roster_model.specs.declared.grammar.Grammar.{Grammar as Rules};
 ghost use Rattle.tableau.specs.declared.simplex.Basic.{Basic as BasicColumn};
 ghost use Rattle.tree_pool.specs.Pools.{PoolTree};
 ghost use Rattle.node_master.specs.Columns.{HasKey};
-ghost use Rattle.node_master.specs.Ends.{AreTreeWeights};
+ghost use Rattle.node_master.specs.Ends.{AreTreeWeights, IsLeftOut, IsTaken};
 
 use crate::desk::{Held, Kind};
 use crate::ends::Weight;
@@ -14,6 +17,10 @@ use tableau::Basic;
 /// Returns the weight of a basic column where it is a tree's and above 0.
 fn tree_weight(held: &[Held], basic: &Basic) -> Option<Weight>
     requires { basic.now.col < length held.now }
+    ensures none { IfNone result ((g : Rules) (pool : Items PoolTree) (d : ℕ) (w : Weighted MasterKey) → 0 < d →
+        IsBasicWeight (HasKey g pool held.now) d basic.now w → IsLeftOut w) }
+    ensures some { IfSome result (λ x. (g : Rules) (pool : Items PoolTree) (d : ℕ) (w : Weighted MasterKey) → 0 < d →
+        IsBasicWeight (HasKey g pool held.now) d basic.now w → IsTaken g pool d x w) }
 {
     let Kind::OfTree(tree) = held[basic.col].kind else {
         return None;

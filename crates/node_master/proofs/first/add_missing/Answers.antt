@@ -1,10 +1,7 @@
-use Rattle.std.proofs.Common.{◌≡◌, ℕ, ℤ, pos, ◌<◌, ◌≤◌, List, ◌∷◌, [], ◌++◌, length, length-append, refl, sym, subst, ◌∙◌, arith, rules, to_z, of_z, Some}
-use Rattle.std.specs.Prelude.{slice_get}
+use Rattle.std.proofs.Common.{◌≡◌, ◌<◌, length, refl, ◌∙◌, arith, rules, to_z, of_z}
 use Rattle.std.proofs.lemmas.Option.{none-some}
 use mir.Syntax.{w64}
 use Rattle.master_laws.specs.Rows.{rows_of}
-use Rattle.node_master.specs.declared.desk.Held.{Held}
-use Rattle.node_master.specs.Columns.{AreTold, HasMissing}
 use Rattle.node_master.proofs.FirstColumns.{missing_held, told_push, missing_push, pushed_length}
 use Rattle.node_master.proofs.first.add_missing.Goals as goal
 

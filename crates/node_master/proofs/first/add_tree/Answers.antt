@@ -1,4 +1,3 @@
-use Rattle.std.proofs.Common.{◌≡◌}
 use Rattle.node_master.proofs.FirstColumns.{told_push}
 use Rattle.node_master.proofs.first.add_tree.Goals as goal
 

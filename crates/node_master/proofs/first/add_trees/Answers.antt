@@ -1,4 +1,3 @@
-use Rattle.std.proofs.Common.{◌≡◌}
 use Rattle.node_master.proofs.FirstColumns.{more_chain}
 use Rattle.node_master.proofs.first.add_trees.Goals as goal
 use Rattle.node_master.proofs.first.add_trees.Goals.{then-tree-len+in_ok-add_tree, else-tree-len}

@@ -1,4 +1,4 @@
-use Rattle.std.proofs.Common.{◌≡◌, ◌<◌, ℕ, All, List, length}
+use Rattle.std.proofs.Common.{◌<◌, ℕ, All, length}
 use Rattle.roster_model.specs.declared.instance.Instance.{Instance}
 use Rattle.master_rows.specs.NodeRows.{AreRows}
 use Rattle.tree_pool.specs.Pools.{IsPool}

@@ -1,5 +1,5 @@
-use Rattle.std.proofs.Common.{ℕ, ◌≡◌, ◌<◌, pos, Some, slice_get, length, arith, rules, refl, to_z, of_z, Option, None, sym, true≢false, ℤ, ◌⊎◌, inl, inr}
-use Rattle.std.specs.Prelude.{◌≤ℤ◌, ◌<ℤ◌, IfSome, IfNone, IsSome}
+use Rattle.std.proofs.Common.{ℕ, ◌≡◌, pos, Some, slice_get, length, arith, rules, refl, to_z, of_z, Option, None, sym, true≢false, ℤ, ◌⊎◌, inl, inr}
+use Rattle.std.specs.Prelude.{◌≤ℤ◌, ◌<ℤ◌, IfNone, IsSome}
 use Rattle.std.proofs.lemmas.Int.{ints}
 use Rattle.std.proofs.lemmas.Option.{slice_get_read, slice_get_within}
 use mir.Syntax.{w128}

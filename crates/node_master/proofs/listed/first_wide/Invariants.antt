@@ -1,4 +1,4 @@
-use Rattle.std.proofs.Common.{ℕ, ℤ, pos, ◌<◌, ◌≤◌, ◌^◌, slice_index_or, unsigned_abs}
+use Rattle.std.proofs.Common.{ℕ, ℤ, ◌<◌, ◌≤◌, ◌^◌, slice_index_or, unsigned_abs}
 use Rattle.node_master.proofs.listed.first_wide.Given as goal
 
 abbrev pub invariant-loop-price : goal.invariant-loop-price

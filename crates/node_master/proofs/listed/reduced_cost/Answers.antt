@@ -1,9 +1,8 @@
-use Rattle.std.proofs.Common.{◌≡◌, ◌<◌, pos, length, get_or, arith, refl, rules}
+use Rattle.std.proofs.Common.{◌≡◌, ◌<◌, pos, length, arith, refl, rules}
 use Rattle.std.specs.Prelude.{◌*ℤ◌, ◌-ℤ◌}
 use Rattle.std.proofs.lemmas.Int.{ints}
 use mir.Val.{to_z, of_z}
 use mir.Syntax.{w64, w128}
-use Rattle.fraction.specs.Row.{at}
 use Rattle.pivot_rows.specs.declared.column.Place.{Place}
 use Rattle.node_master.specs.Priced.{places_worth, listed_reduced}
 use Rattle.node_master.proofs.ReducedCosts.{worth_next, each_next, worth_none}

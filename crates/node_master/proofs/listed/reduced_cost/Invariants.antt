@@ -1,6 +1,4 @@
-use Rattle.std.proofs.Common.{ℕ, ◌≡◌, ◌≤◌, pos, ◌≤ℤ◌, ◌<ℤ◌, Some, length, slice_get, IfSome, IfNone, ◌+◌, ◌-◌, ◌*◌, ◌<◌, ℤ, ◌+ℤ◌, ◌-ℤ◌, ◌*ℤ◌, FitsSigned, to_z, of_z}
-use Rattle.node_master.specs.declared.desk.Held.{Held as Listed}
-use Rattle.node_master.specs.Priced.{AreNarrowPrices, IsPlain, listed_reduced}
+use Rattle.std.proofs.Common.{◌≡◌, length, ◌*◌, ◌+ℤ◌}
 use Rattle.std.proofs.Common.{◌≡◌, ◌^◌, ◌*◌, length, drop}
 use Rattle.std.specs.Prelude.{◌+ℤ◌}
 use Rattle.roster_model.specs.Sums.{Within}

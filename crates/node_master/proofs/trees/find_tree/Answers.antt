@@ -1,7 +1,5 @@
-use Rattle.std.proofs.Common.{◌≡◌, ℤ, pos, to_z, of_z, rules, arith, Some, None}
-use Rattle.std.specs.Prelude.{◌≤ℤ◌}
+use Rattle.std.proofs.Common.{arith, Some, None}
 use Rattle.std.proofs.lemmas.Int.{ints}
-use mir.Syntax.{w128}
 use Rattle.cheapest_tree.specs.Pricers.{AsksTree}
 use Rattle.roster_model.specs.PriceRooms.{price_view}
 use Rattle.node_master.proofs.FoundTrees.{none_cheaper, holds_cheaper, day_sum}

@@ -1,4 +1,4 @@
-use Rattle.std.proofs.Common.{◌≡◌, ℕ, ℤ, to_z, of_z, rules, ◌<◌, All, length, refl, sym, ap, ◌∙◌, subst, List, ◌∷◌, [], ◌++◌}
+use Rattle.std.proofs.Common.{◌≡◌, ℕ, to_z, of_z, rules, ◌<◌, All, length, sym, ◌∙◌, subst, List}
 use Rattle.std.specs.Vec.{with_items}
 use mir.Syntax.{w128}
 use Rattle.node_master.specs.declared.desk.Held.{Held}

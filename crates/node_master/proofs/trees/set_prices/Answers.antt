@@ -1,10 +1,5 @@
-use Rattle.std.proofs.Common.{◌≡◌, ℕ, ℤ, List, ◌≤◌, ◌^◌, arith, rules, unsigned_abs, to_z, of_z, subst, sym, refl}
+use Rattle.std.proofs.Common.{◌≡◌, arith, rules, unsigned_abs}
 use Rattle.std.proofs.lemmas.Int.{ints}
-use mir.Syntax.{w128}
-use Rattle.roster_model.specs.Agreement.{Agree}
-use Rattle.roster_model.specs.PriceLimits.{AreWide}
-use Rattle.roster_model.specs.PriceRooms.{price_view}
-use Rattle.roster_model.specs.Reduced.{cell_prices, cuts_paid, view_of}
 use Rattle.fraction.specs.Row.{at}
 use Rattle.node_master.proofs.RowPrices.{are_wide, cell_part, paid_part, few_cuts}
 use Rattle.node_master.proofs.trees.set_prices.Goals as goal

@@ -1,8 +1,5 @@
-use Rattle.std.proofs.Common.{◌≡◌, ℕ, pos, ◌<◌, ◌≤◌, length, Some, refl, ap, arith, ◌⊎◌, inl, inr, ◌∙◌, to_z, of_z, rules}
+use Rattle.std.proofs.Common.{◌≡◌, pos, refl, ap, ◌∙◌, to_z, of_z, rules}
 use mir.Syntax.{w64}
-use Rattle.std.specs.Prelude.{slice_get}
-use Rattle.std.proofs.lemmas.Option.{slice_get_cases}
-use Rattle.tree_pool.specs.Pools.{PoolTree}
 use Rattle.node_master.proofs.HeldColumns.{tree_held, there}
 use Rattle.node_master.proofs.trees.tree_column.Goals as goal
 

@@ -1,4 +1,3 @@
-use Rattle.std.proofs.Common.{◌≡◌, ℕ}
 use Rattle.node_master.proofs.HeldColumns.{there}
 use Rattle.node_master.proofs.columns.NodeColumnsColumns.count.Goals as goal
 

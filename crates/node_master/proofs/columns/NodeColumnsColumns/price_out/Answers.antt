@@ -1,14 +1,11 @@
-use Rattle.std.proofs.Common.{◌≡◌, ℕ, ℤ, pos, ◌<ℤ◌, ◌<◌, Some, None, Option, length, refl, sym, subst, rules, to_z, of_z, List}
-use Rattle.std.specs.Prelude.{slice_get, IfSome, IfNone}
+use Rattle.std.proofs.Common.{◌≡◌, pos, ◌<ℤ◌, ◌<◌, length, refl, rules, to_z, of_z}
 use mir.Syntax.{w128}
 use Rattle.roster_model.specs.Trees.{Parts}
 use Rattle.linear_programs.specs.Program.{IsPricedOut, reduced}
 use Rattle.fraction.specs.Row.{at}
-use Rattle.master_laws.specs.Rows.{rows_of}
 use Rattle.master_laws.specs.Master.{MasterKey, tree, master}
-use Rattle.node_master.specs.declared.desk.Held.{Held}
 use Rattle.node_master.specs.Columns.{HasKey}
-use Rattle.node_master.specs.Priced.{HasNoCheaper, listed_reduced}
+use Rattle.node_master.specs.Priced.{HasNoCheaper}
 use Rattle.node_master.proofs.HeldColumns.{keys_kept, listed_below, some_map, none_map}
 use Rattle.node_master.proofs.PricedOut.{plain_held, reduced_is, priced_out}
 use Rattle.node_master.proofs.columns.NodeColumnsColumns.price_out.Goals as goal

@@ -1,0 +1,59 @@
+use Rattle.std.proofs.Common.{◌≡◌, ◌∙◌, arith, rules, to_z, of_z, refl, take}
+use mir.Syntax.{w128}
+use Rattle.master_laws.specs.Rounding.{cell_lines, line_sums}
+use Rattle.master_laws.proofs.Signs.{cuts_signed}
+use Rattle.fraction.specs.Row.{at}
+use Rattle.node_master.proofs.RowPrices.{cell_part, numbers_part, not_wide, few_cuts}
+use Rattle.node_master.proofs.solve.rounded.Goals as goal
+
+pub to_prices-requires-clause-few : goal.to_prices-requires-clause-few
+to_prices-requires-clause-few c = few_cuts c.args.instance.now c.args.cuts.now 1500 c.requires.small
+
+pub to_prices-requires-clause-signs : goal.to_prices-requires-clause-signs
+to_prices-requires-clause-signs c =
+    let i = c.args.instance.now in
+    let cuts = c.args.cuts.now in
+    let out = c.gather.ensures i cuts c.requires.rows c.len-cells.ensures c.requires.y (rw c.len-cells.ensures c.requires.numbers) in
+    rw (numbers_part i cuts (at c.args.y.now) c.gather.new.out c.len-cells.result out c.len-cells.ensures) (cuts_signed i cuts (at c.args.y.now) c.args.kappa c.requires.out)
+
+pub memory_of-requires : goal.memory_of-requires
+memory_of-requires c =
+    let i = c.args.instance.now in
+    let cuts = c.args.cuts.now in
+    let y = c.args.y.now in
+    let k : to_z w128 (of_z w128 c.args.kappa) ≡ c.args.kappa = search rules in
+    let out = c.gather.ensures i cuts c.requires.rows c.len-cells.ensures c.requires.y (rw c.len-cells.ensures c.requires.numbers) in
+    let front : take c.len-cells.result c.gather.new.out ≡ line_sums (cell_lines i (at y)) = cell_part i cuts (at y) c.gather.new.out _ c.len-cells.result out c.len-cells.ensures refl in
+    let back = numbers_part i cuts (at y) c.gather.new.out c.len-cells.result out c.len-cells.ensures in
+    (not_wide i cuts y c.args.kappa _ _ c.in-Err.fault c.requires.narrow (rw (k, front, back) at c.in-Err.ensures.wide)).0
+
+pub returns-in-Ok-clause-rounded : goal.returns-in-Ok-clause-rounded
+returns-in-Ok-clause-rounded c =
+    let i = c.args.instance.now in
+    let cuts = c.args.cuts.now in
+    let y = c.args.y.now in
+    let k : to_z w128 (of_z w128 c.args.kappa) ≡ c.args.kappa = search rules in
+    let out = c.gather.ensures i cuts c.requires.rows c.len-cells.ensures c.requires.y (rw c.len-cells.ensures c.requires.numbers) in
+    let front : take c.len-cells.result c.gather.new.out ≡ line_sums (cell_lines i (at y)) = cell_part i cuts (at y) c.gather.new.out _ c.len-cells.result out c.len-cells.ensures refl in
+    let back = numbers_part i cuts (at y) c.gather.new.out c.len-cells.result out c.len-cells.ensures in
+    rw (k, front, back) at c.in-Ok.ensures.rounded
+
+pub returns-in-Ok-clause-fit : goal.returns-in-Ok-clause-fit
+returns-in-Ok-clause-fit c =
+    let few = few_cuts c.args.instance.now c.args.cuts.now 1500 c.requires.small in
+    let d = c.in-Ok.ensures.d in
+    let cells = c.in-Ok.ensures.cells in
+    let mults = c.in-Ok.ensures.mults in
+    let short = c.in-Ok.ensures.few in
+    record { positive = d.0; small = d.1; cells = cells.0 ∙ c.len-cells.ensures; each = cells.1; few = omega (arith, short, few); mults = mults.0; rising = mults.1 }
+
+pub returns-in-Err-clause-tally : goal.returns-in-Err-clause-tally
+returns-in-Err-clause-tally c =
+    let i = c.args.instance.now in
+    let cuts = c.args.cuts.now in
+    let y = c.args.y.now in
+    let k : to_z w128 (of_z w128 c.args.kappa) ≡ c.args.kappa = search rules in
+    let out = c.gather.ensures i cuts c.requires.rows c.len-cells.ensures c.requires.y (rw c.len-cells.ensures c.requires.numbers) in
+    let front : take c.len-cells.result c.gather.new.out ≡ line_sums (cell_lines i (at y)) = cell_part i cuts (at y) c.gather.new.out _ c.len-cells.result out c.len-cells.ensures refl in
+    let back = numbers_part i cuts (at y) c.gather.new.out c.len-cells.result out c.len-cells.ensures in
+    (not_wide i cuts y c.args.kappa _ _ c.in-Err.fault c.requires.narrow (rw (k, front, back) at c.in-Err.ensures.wide)).1

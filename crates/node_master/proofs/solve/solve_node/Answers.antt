@@ -1,0 +1,13 @@
+use Rattle.std.proofs.Common.{rules, arith, ◌<◌, ◌^◌}
+use Rattle.node_master.proofs.EndsLemmas.{few_rows, small_path}
+use Rattle.node_master.proofs.solve.solve_node.Goals as goal
+
+pub overflow_cast-result : goal.overflow_cast-result
+overflow_cast-result c =
+    let e = c.count_rows-count.ensures in
+    let f = few_rows c.args.instance.now c.args.cuts.now c.requires.sound c.requires.few in
+    let h : c.count_rows-count.result < 2 ^ 32 = omega arith in
+    search rules
+
+pub new-requires-clause-cuts : goal.new-requires-clause-cuts
+new-requires-clause-cuts c = small_path c.args.instance.now c.args.cuts.now c.requires.cuts
