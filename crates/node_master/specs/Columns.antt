@@ -47,7 +47,8 @@ pub record NodeState : Type 0 where
 abbrev pub IsKey : Grammar → List PoolTree → Kind → MasterKey → Type 0
 IsKey g pool (Missing r) k = k ≡ missing r
 IsKey g pool (Beyond r) k = k ≡ beyond r
-IsKey g pool (OfTree j) k = (x : PoolTree) × (slice_get pool j ≡ Some x) × (t : Parts) × IsPoolTree g t x × (k ≡ tree t)
+IsKey g pool (OfTree j) k = (x : PoolTree) × (slice_get pool j ≡ Some x) × (t : Parts) × IsPoolTree g t x
+    × (k ≡ tree t)
 
 -- the listed column tells the column of the key
 pub record Tells (i : Instance) (cuts : List Cut) (h : Held) (k : MasterKey) : Type 0 where
@@ -89,7 +90,8 @@ pub record IsDesk (i : Instance) (cuts : List Cut) (pool : List PoolTree) (desk 
   pub numbers : length desk.numbers.items ≡ length i.cells + 2 + length cuts
 
 -- column j is listed and has the key
-pub record HasKey (g : Grammar) (pool : List PoolTree) (held : List Held) (j : ℕ) (k : MasterKey) : Type 0 where
+pub record HasKey (g : Grammar) (pool : List PoolTree) (held : List Held) (j : ℕ)
+    (k : MasterKey) : Type 0 where
   pub one : Held
   pub at : slice_get held j ≡ Some one
   pub key : IsKey g pool one.kind k
@@ -120,6 +122,7 @@ pub record IsKept (old new : NodeState) : Type 0 where
   pub pool : IsGrown old.pool new.pool
   pub lists : (j : ℕ) (k : MasterKey) → Lists old j k → Lists new j k
 
-abbrev pub state_of : Instance → List Cut → GraphView → NodeRows → PricerView → List PoolTree → Desk → NodeState
+abbrev pub state_of : Instance → List Cut → GraphView → NodeRows → PricerView → List PoolTree → Desk
+    → NodeState
 state_of i cuts g rows p pool desk =
     record { instance = i; cuts = cuts; graph = g; rows = rows; pricer = p; pool = pool; desk = desk }

@@ -39,7 +39,8 @@ use Rattle.node_master.specs.declared.ends.NodeEnd.TheVariants.{Best, Failed}
 
 -- a cut on an arc of the instance, or on the arc by which some group's rule stands on the whole day
 pub record IsNodeCut (i : Instance) (c : Cut) : Type 0 where
-  pub arc : IsArc i.grammar c.arc ⊎ ((r : ℕ) × (length i.grammar.rules - length i.groups < r) × (r ≤ length i.grammar.rules) × (c.arc ≡ group_arc i.grammar.periods r))
+  pub arc : IsArc i.grammar c.arc ⊎ ((r : ℕ) × (length i.grammar.rules - length i.groups < r)
+      × (r ≤ length i.grammar.rules) × (c.arc ≡ group_arc i.grammar.periods r))
   pub few : c.b ≤ 63
 
 -- the fraction is n / d
@@ -47,7 +48,8 @@ abbrev pub IsShare : Frac → ℕ → ℕ → Type 0
 IsShare x n d = pos n *ℤ x.den ≡ x.num *ℤ pos d
 
 -- a weight above 0 of a tree of the pool, as one in units of 1 / d
-pub record IsWeight (g : Grammar) (columns : List PoolTree) (d : ℕ) (x : Weight) (w : Weighted MasterKey) : Type 0 where
+pub record IsWeight (g : Grammar) (columns : List PoolTree) (d : ℕ) (x : Weight)
+    (w : Weighted MasterKey) : Type 0 where
   pub held : PoolTree
   pub column : slice_get columns x.column ≡ Some held
   pub some : Parts
@@ -63,7 +65,8 @@ AreWeights g columns d [] (w ∷ ws) = ⊥
 AreWeights g columns d (x ∷ xs) [] = ⊥
 
 -- the weights of a basic solution's trees, whatever its weights over d
-abbrev pub AreTreeWeights : Grammar → (ℕ → MasterKey → Type 0) → List PoolTree → List Basic → List Weight → Type 0
+abbrev pub AreTreeWeights : Grammar → (ℕ → MasterKey → Type 0) → List PoolTree → List Basic → List Weight
+    → Type 0
 AreTreeWeights g Listed columns basic weights = (d : ℕ) (ws : List (Weighted MasterKey)) → 0 < d
     → AreBasicWeights Listed d basic ws → AreWeights g columns d weights (tree_weights ws)
 
@@ -72,7 +75,8 @@ abbrev pub IsLeftOut : Weighted MasterKey → Type 0
 IsLeftOut w = (ws : List (Weighted MasterKey)) → tree_first w.key w.weight ws ≡ ws
 
 -- the weight is one above 0 of a tree of the pool
-pub record IsTaken (g : Grammar) (columns : List PoolTree) (d : ℕ) (x : Weight) (w : Weighted MasterKey) : Type 0 where
+pub record IsTaken (g : Grammar) (columns : List PoolTree) (d : ℕ) (x : Weight)
+    (w : Weighted MasterKey) : Type 0 where
   pub first : (ws : List (Weighted MasterKey)) → tree_first w.key w.weight ws ≡ w ∷ ws
   pub is : IsWeight g columns d x w
 
@@ -83,7 +87,8 @@ IsOther (beyond r) = Unit {0}
 IsOther (tree t) = ⊥
 
 -- the weights are those of the trees of some basic solution of least cost, whose other columns are no trees
-pub record AreLeastWeights (i : Instance) (cuts : List Cut) (columns : List PoolTree) (weights : List Weight) : Type 0 where
+pub record AreLeastWeights (i : Instance) (cuts : List Cut) (columns : List PoolTree)
+    (weights : List Weight) : Type 0 where
   pub trees : List (Weighted MasterKey)
   pub others : List (Weighted MasterKey)
   pub d : ℕ
@@ -111,14 +116,19 @@ pub record IsBest (i : Instance) (cuts : List Cut) (columns : List PoolTree) (pr
       → (l *ℤ value.den) ≤ℤ (value.num *ℤ pos rival.d)
   pub best : Each (IsBelowHeads i) cuts → AreBest i prices cuts
   pub weighted : AreLeastWeights i cuts columns weights
-  pub closes : Each (IsBelowHeads i) cuts → ClosesWhole i cuts prices (weighted.trees ++ weighted.others) weighted.d
+  pub closes : Each (IsBelowHeads i) cuts
+      → ClosesWhole i cuts prices (weighted.trees ++ weighted.others) weighted.d
 
 -- each answer comes only where it may; more than 1,500 rows exactly where there are so many
 abbrev pub EndsRight : Instance → List Cut → List PoolTree → Counts → Counts → NodeEnd → Type 0
-EndsRight i cuts columns old new (Best prices value weights) = (length (rows_of i cuts) ≤ 1500) × IsBest i cuts columns prices value weights
-EndsRight i cuts columns old new (Failed (Rows count)) = (1500 < length (rows_of i cuts)) × (count ≡ length (rows_of i cuts))
-EndsRight i cuts columns old new (Failed (Wide fault)) = (length (rows_of i cuts) ≤ 1500) × HasRisen old.wide new.wide × HasWidePath (master i cuts)
-EndsRight i cuts columns old new (Failed (Spent pivots)) = (length (rows_of i cuts) ≤ 1500) × (pivots ≡ 5000) × HasRisen old.spent new.spent × HasOpenPath (master i cuts) 5000
+EndsRight i cuts columns old new (Best prices value weights) = (length (rows_of i cuts) ≤ 1500)
+    × IsBest i cuts columns prices value weights
+EndsRight i cuts columns old new (Failed (Rows count)) = (1500 < length (rows_of i cuts))
+    × (count ≡ length (rows_of i cuts))
+EndsRight i cuts columns old new (Failed (Wide fault)) = (length (rows_of i cuts) ≤ 1500)
+    × HasRisen old.wide new.wide × HasWidePath (master i cuts)
+EndsRight i cuts columns old new (Failed (Spent pivots)) = (length (rows_of i cuts) ≤ 1500)
+    × (pivots ≡ 5000) × HasRisen old.spent new.spent × HasOpenPath (master i cuts) 5000
 
 -- the answer that a given-up program leads to
 abbrev pub IsFailedBy : LpFault → Result NodeEnd MemoryLack → Type 0

@@ -6,14 +6,28 @@ use Rattle.master_laws.specs.Master.{MasterKey}
 use Rattle.node_master.specs.Columns.{NodeState, Lists, IsKept}
 
 pub kept-same : (a : NodeState) → IsKept a a
-kept-same a = record { instance = refl; cuts = refl; graph = refl; pool = ([], sym (append-nil a.pool)); lists = λ j k h. h }
+kept-same a = record {
+  instance = refl;
+  cuts = refl;
+  graph = refl;
+  pool = (
+    [],
+    sym
+        (append-nil a.pool),
+  );
+  lists = λ j k h. h;
+}
 
 pub kept-chain : (a b c : NodeState) → IsKept a b → IsKept b c → IsKept a c
 kept-chain a b c h k = record {
   instance = h.instance ∙ k.instance;
   cuts = h.cuts ∙ k.cuts;
   graph = h.graph ∙ k.graph;
-  pool = (h.pool.0 ++ k.pool.0, k.pool.1 ∙ ap (λ xs. xs ++ k.pool.0) h.pool.1 ∙ append_assoc a.pool h.pool.0 k.pool.0);
+  pool = (
+    h.pool.0 ++ k.pool.0,
+    k.pool.1 ∙ ap
+        (λ xs. xs ++ k.pool.0) h.pool.1 ∙ append_assoc a.pool h.pool.0 k.pool.0,
+  );
   lists = λ j x l. k.lists j x (h.lists j x l);
 }
 

@@ -39,7 +39,8 @@ abbrev pub heads_price : Instance → List ℤ → ℤ
 heads_price i y = at y (first_head i) +ℤ at y (first_head i + 1)
 
 -- the room holds a tree of the day that has a negative reduced cost
-pub record HoldsCheaper (i : Instance) (cuts : List Cut) (y : List ℤ) (kappa : ℤ) (room : RoomView) : Type 0 where
+pub record HoldsCheaper (i : Instance) (cuts : List Cut) (y : List ℤ) (kappa : ℤ)
+    (room : RoomView) : Type 0 where
   pub tree_of : Parts
   pub day : IsDayTree i.grammar tree_of
   pub held : room.steps ≡ steps 1 tree_of

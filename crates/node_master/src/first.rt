@@ -47,7 +47,8 @@ fn add_missing(
     artificial: i64,
     held: &mut List<Held>,
 ) -> Result<(), Memory>
-    requires rows { (i : Day) × (cuts : Items PathCut) × AreRows i cuts rows.now × (length (rows_of i cuts) ≤ 1500)
+    requires rows { (i : Day) × (cuts : Items PathCut) × AreRows i cuts rows.now
+        × (length (rows_of i cuts) ≤ 1500)
         × (artificial ≡ pos (artificial_cost i)) }
     requires none { held.old ≡ [] }
     ensures { IfOk result (λ _. (i : Day) (cuts : Items PathCut) → AreRows i cuts rows.now →
@@ -66,7 +67,8 @@ fn add_missing(
 
 /// Lists the column of what is beyond in each row that has one.
 fn add_beyond(alloc: Global, rows: &NodeRows, held: &mut List<Held>) -> Result<(), Memory>
-    requires rows { (i : Day) × (cuts : Items PathCut) × AreRows i cuts rows.now × (length (rows_of i cuts) ≤ 1500) }
+    requires rows { (i : Day) × (cuts : Items PathCut) × AreRows i cuts rows.now
+        × (length (rows_of i cuts) ≤ 1500) }
     ensures more { HasMore held.old held.new }
     ensures listed { IfOk result (λ _. (i : Day) (cuts : Items PathCut) → AreRows i cuts rows.now →
         (pool : Items PoolTree) → AreTold i cuts pool held.old →

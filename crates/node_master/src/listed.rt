@@ -95,7 +95,8 @@ fn first_wide(y: &[i128], kappa: i128) -> Option<i128>
 pub(crate) fn check_narrow(y: &[i128], kappa: i128, tally: &mut Tally) -> Result<(), TooWide>
     requires kappa { pos 0 <ℤ kappa }
     ensures narrow { IfOk result (λ _. AreNarrowPrices y.now kappa) }
-    ensures wide { IfErr result (λ _. HasRisen tally.old.wide tally.new.wide × AreWidePrices (length y.now) y.now kappa) }
+    ensures wide { IfErr result (λ _. HasRisen tally.old.wide tally.new.wide
+        × AreWidePrices (length y.now) y.now kappa) }
     ensures counts { (tally.old.wide ≤ tally.new.wide) × (tally.new.spent ≡ tally.old.spent) }
 {
     let _count = tally.wide();

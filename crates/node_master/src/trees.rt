@@ -65,7 +65,8 @@ fn price_of_heads(rows: &NodeRows, y: &[i128]) -> i128
     requires rows { (i : Day) × (cuts : Items PathCut) × AreRows i cuts rows.now
         × (length y.now ≡ length (rows_of i cuts)) }
     requires narrow { All (λ (z : ℤ). unsigned_abs z ≤ 2 ^ 56) y.now }
-    ensures value { (i : Day) (cuts : Items PathCut) → AreRows i cuts rows.now → result ≡ heads_price i y.now }
+    ensures value { (i : Day) (cuts : Items PathCut) → AreRows i cuts rows.now
+        → result ≡ heads_price i y.now }
 {
     let head = rows.first_head();
     y[head] + y[head + 1]
@@ -126,7 +127,8 @@ pub(crate) fn list_tree(
     requires pool { IsPool instance.now.grammar pool.old }
     ensures pool { IsPool instance.now.grammar pool.new }
     ensures grown { IsGrown pool.old pool.new }
-    ensures listed { IfOk result (λ column. (h : Listed) × (n : ℕ) × (x : PoolTree) × (held.new ≡ held.old ++ h ∷ [])
+    ensures listed { IfOk result (λ column. (h : Listed) × (n : ℕ) × (x : PoolTree)
+        × (held.new ≡ held.old ++ h ∷ [])
         × (column ≡ length held.old) × IsHeld instance.now cuts.now pool.new h × (h.kind ≡ Kind.OfTree n)
         × (slice_get pool.new n ≡ Some x) × (x.steps ≡ steps.now)) }
     ensures kept { IfErr result (λ _. held.new ≡ held.old) }

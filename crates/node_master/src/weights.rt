@@ -17,9 +17,11 @@ use tableau::Basic;
 /// Returns the weight of a basic column where it is a tree's and above 0.
 fn tree_weight(held: &[Held], basic: &Basic) -> Option<Weight>
     requires { basic.now.col < length held.now }
-    ensures none { IfNone result ((g : Rules) (pool : Items PoolTree) (d : ℕ) (w : Weighted MasterKey) → 0 < d →
+    ensures none { IfNone result ((g : Rules) (pool : Items PoolTree) (d : ℕ) (w : Weighted MasterKey)
+        → 0 < d →
         IsBasicWeight (HasKey g pool held.now) d basic.now w → IsLeftOut w) }
-    ensures some { IfSome result (λ x. (g : Rules) (pool : Items PoolTree) (d : ℕ) (w : Weighted MasterKey) → 0 < d →
+    ensures some { IfSome result (λ x. (g : Rules) (pool : Items PoolTree) (d : ℕ)
+        (w : Weighted MasterKey) → 0 < d →
         IsBasicWeight (HasKey g pool held.now) d basic.now w → IsTaken g pool d x w) }
 {
     let Kind::OfTree(tree) = held[basic.col].kind else {
