@@ -1,8 +1,7 @@
 -- Columns that enter, and prices that are copied.
-use Rattle.std.proofs.Common.{◌≡◌, ℕ, ℤ, ◌+◌, ◌<◌, ◌≤◌, ◌^◌, pos, ◌*ℤ◌, ◌-ℤ◌, ◌≤ℤ◌, ◌<ℤ◌, List, length, sym, ap, ◌∙◌, ◌⊎◌, inl, inr, Option, Some, None, IfSome, IfNone}
+use Rattle.std.proofs.Common.{◌≡◌, ℕ, ℤ, ◌+◌, ◌<◌, ◌^◌, pos, ◌*ℤ◌, ◌-ℤ◌, ◌≤ℤ◌, ◌<ℤ◌, List, sym, ap, ◌⊎◌, inl, inr, Option, Some, None, IfSome, IfNone}
 use Rattle.linear_programs.specs.Sums.{dot}
 use Rattle.linear_programs.specs.Program.{Column, Program, IsSound, reduced, IsPricedOut}
-use Rattle.linear_programs.specs.Tableau.{entry, HasWidePath}
 use Rattle.linear_programs.proofs.Tied.{IsTied}
 use Rattle.linear_programs.proofs.Paths.{path_tied}
 use Rattle.linear_programs.proofs.Totals.{total-same, dot-same_right}

@@ -1,16 +1,16 @@
 -- Turns over lists are steps of a path.
-use Rattle.std.proofs.Common.{◌≡◌, ◌≢◌, ℕ, ℤ, suc, ◌+◌, ◌<◌, ◌≤◌, ◌^◌, arith, pos, neg_ℤ, ◌≤ℤ◌, ◌<ℤ◌, unsigned_abs, List, length, refl, sym, ap, ◌∙◌, ◌⊎◌, inl, inr, cond, subst}
-use Rattle.std.specs.Prelude.{nat_eq, slice_index, slice_set}
+use Rattle.std.proofs.Common.{◌≡◌, ◌≢◌, ℕ, ℤ, suc, ◌+◌, ◌<◌, arith, pos, neg_ℤ, ◌<ℤ◌, List, length, refl, sym, ap, ◌∙◌, ◌⊎◌, inl, inr, cond}
+use Rattle.std.specs.Prelude.{nat_eq}
 use Rattle.std.proofs.lemmas.Bool.{cases_eq, eq-eqb, ne_eqb}
-use Rattle.linear_programs.specs.Program.{Column, Program, reduced}
+use Rattle.linear_programs.specs.Program.{Program, reduced}
 use Rattle.linear_programs.specs.RowStep.{IsRowStep}
-use Rattle.linear_programs.specs.Tableau.{Tableau, entry, whole_row, cost_row, padded_row, IsChoice, IsStep, PivotPath, step, IsWide, HasWidePath}
+use Rattle.linear_programs.specs.Tableau.{Tableau, entry, whole_row, cost_row, padded_row, IsChoice, PivotPath, step, IsWide, HasWidePath}
 use Rattle.linear_programs.proofs.RowLaws.{same_step}
 use Rattle.fraction.specs.Row.{at}
-use Rattle.pivot_rows.specs.Rows.{StepsTo, IsWideStep, RowStepsExist}
+use Rattle.pivot_rows.specs.Rows.{StepsTo, IsWideStep}
 use Rattle.pivot_rows.proofs.Steps.{a_step}
-use Rattle.tableau.specs.Lines.{row_at, AreLines, IsLine, IsLeaving, padded, IsTurn, IsWideTurn, HasWideRow, AreStepped}
-use Rattle.tableau.specs.Sheet.{tableau_of, IsSheet, IsOnPath}
+use Rattle.tableau.specs.Lines.{row_at, AreLines, IsLeaving, padded, HasWideRow, AreStepped}
+use Rattle.tableau.specs.Sheet.{tableau_of}
 use Rattle.tableau.proofs.Padded.{padded_below, padded_last}
 
 -- a row that has its right side at place m

@@ -1,7 +1,7 @@
 -- Places of a column by their index.
-use Rattle.std.proofs.Common.{◌≡◌, ℕ, ℤ, zero, suc, ◌+◌, ◌<◌, ◌≤◌, arith, pos, unsigned_abs, List, [], ◌∷◌, length, refl, get_or, ◌∙◌, sym, ap, ◌⊎◌, inl, inr}
+use Rattle.std.proofs.Common.{◌≡◌, ℕ, ℤ, zero, suc, ◌<◌, ◌≤◌, arith, pos, unsigned_abs, List, [], ◌∷◌, length, refl, get_or, ◌∙◌, sym, ap, inl}
 use Rattle.std.specs.Prelude.{All}
-use Rattle.std.proofs.lemmas.Bool.{cases_eq, eq-eqb, ne_eqb}
+use Rattle.std.proofs.lemmas.Bool.{eq-eqb, ne_eqb}
 use Rattle.std.proofs.lemmas.List.Elements.{All-head, All-tail}
 use Rattle.roster_model.specs.Folds.{Each}
 use Rattle.std.proofs.Common.{◌*◌, ◌*ℤ◌, ◌-ℤ◌, ◌≤ℤ◌, negsuc}
@@ -11,7 +11,7 @@ use Rattle.linear_programs.specs.Sums.{dot}
 use Rattle.linear_programs.specs.Program.{Column, Program, reduced}
 use Rattle.linear_programs.proofs.Totals.{dot-same_right}
 use Rattle.pivot_rows.specs.declared.column.Place.{Place}
-use Rattle.pivot_rows.specs.Columns.{number_in, AreRising, AreWithin, AreUnits, IsColumn}
+use Rattle.pivot_rows.specs.Columns.{number_in, AreRising, AreUnits, IsColumn}
 use Rattle.tableau.specs.Cheaper.{place_at, HasLargePlace}
 use Rattle.tableau.specs.Ends.{HasLargeColumn}
 

@@ -1,10 +1,10 @@
 -- Paths and faults while columns are listed and refusals counted.
-use Rattle.std.proofs.Common.{◌≡◌, ℕ, ℤ, ◌+◌, ◌-◌, ◌<◌, ◌≤◌, ◌^◌, List, arith, ◌⊎◌, inl, inr}
+use Rattle.std.proofs.Common.{ℕ, ℤ, ◌≤◌, List, arith, inl, inr}
 use Rattle.linear_programs.specs.Program.{Program}
 use Rattle.fraction.specs.Range.{Counts}
 use Rattle.tableau.specs.Risen.{HasRisen}
 use Rattle.tableau.specs.Sheet.{IsOnPath}
-use Rattle.tableau.specs.Ends.{IsLpFault, HasLargeColumn}
+use Rattle.tableau.specs.Ends.{IsLpFault}
 use Rattle.tableau.specs.declared.simplex.LpFault.{LpFault}
 use Rattle.tableau.specs.declared.simplex.LpFault.TheVariants.{Wide, Spent, Memory}
 

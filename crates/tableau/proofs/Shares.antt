@@ -1,21 +1,20 @@
 -- The end of a path over lists.
-use Rattle.std.proofs.Common.{◌≡◌, ℕ, ℤ, zero, suc, ◌+◌, ◌<◌, ◌≤◌, ◌^◌, arith, pos, ◌*ℤ◌, ◌≤ℤ◌, ◌<ℤ◌, unsigned_abs, List, [], ◌∷◌, ◌++◌, length, refl, sym, ap, subst, ◌∙◌, append_assoc, append-nil}
+use Rattle.std.proofs.Common.{◌≡◌, ℕ, ℤ, zero, suc, ◌+◌, ◌<◌, ◌≤◌, arith, pos, ◌*ℤ◌, ◌<ℤ◌, List, [], ◌∷◌, ◌++◌, length, refl, sym, ap, subst, ◌∙◌, append_assoc, append-nil}
 use Rattle.std.specs.Prelude.{slice_index}
 use lib.IntN.{*ℤ_comm}
-use Rattle.linear_programs.specs.Sums.{dot}
-use Rattle.linear_programs.specs.Program.{Program, IsSound, IsPricedOut}
-use Rattle.linear_programs.specs.Tableau.{Tableau, entry, PivotPath, on_basis, IsTableauSolution}
+use Rattle.linear_programs.specs.Program.{Program, IsSound}
+use Rattle.linear_programs.specs.Tableau.{entry, on_basis, IsTableauSolution}
 use Rattle.linear_programs.proofs.Ring.{*ℤ-assoc, same_factor}
 use Rattle.linear_programs.proofs.Tied.{IsTied}
 use Rattle.linear_programs.proofs.Solutions.{tableau_solution}
 use Rattle.fraction.specs.Row.{at}
 use Rattle.fraction.specs.declared.frac.Frac.{Frac}
 use Rattle.tableau.specs.declared.simplex.Basic.{Basic}
-use Rattle.tableau.specs.Lines.{row_at, AreLines}
-use Rattle.tableau.specs.Sheet.{tableau_of, IsOnPath}
+use Rattle.tableau.specs.Lines.{row_at}
+use Rattle.tableau.specs.Sheet.{tableau_of}
 use Rattle.tableau.specs.Running.{IsPriced}
 use Rattle.tableau.specs.Finish.{IsShare, AreShares}
-use Rattle.tableau.specs.Ends.{IsLpEnd, IsBasicWeight, AreBasicWeights}
+use Rattle.tableau.specs.Ends.{IsLpEnd, AreBasicWeights}
 use Rattle.tableau.proofs.Ends.{path_prices}
 use Rattle.tableau.proofs.Entering.{tied_of, same_reduced}
 use Rattle.tableau.proofs.Starts.{narrow_at, at_narrow}

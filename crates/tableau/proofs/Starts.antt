@@ -1,21 +1,19 @@
 -- The lists of the first tableau, written one number after another.
-use Rattle.std.proofs.Common.{◌≡◌, ℕ, ℤ, zero, suc, ◌+◌, ◌*◌, ◌<◌, ◌≤◌, ◌^◌, arith, pos, ◌+ℤ◌, ◌*ℤ◌, ◌≤ℤ◌, ◌<ℤ◌, unsigned_abs, List, [], ◌∷◌, ◌++◌, length, get_or, set, refl, sym, ap, subst, ◌∙◌, ◌⊎◌, inl, inr, add-one, length-append, get_or-set_same, get_or-set_other, max}
-use Rattle.std.specs.Prelude.{All, slice_index}
-use Rattle.std.specs.Int.{◌∣◌}
+use Rattle.std.proofs.Common.{◌≡◌, ℕ, ℤ, zero, suc, ◌+◌, ◌<◌, ◌≤◌, ◌^◌, arith, pos, ◌+ℤ◌, ◌*ℤ◌, ◌≤ℤ◌, unsigned_abs, List, [], ◌∷◌, ◌++◌, length, get_or, refl, sym, ap, ◌∙◌, ◌⊎◌, inl, inr, add-one, length-append}
+use Rattle.std.specs.Prelude.{slice_index}
 use Rattle.std.proofs.lemmas.Int.{ints}
 use Rattle.std.proofs.lemmas.Bool.{cases_eq, eq-eqb, ne_eqb}
 use Rattle.std.proofs.lemmas.List.Elements.{All-from_get_or}
 use native.Mathlib.Nat.{one-dvd}
 use lib.IntN.{*ℤ_comm}
-use Rattle.linear_programs.specs.Sums.{total, dot}
+use Rattle.linear_programs.specs.Sums.{dot}
 use Rattle.linear_programs.specs.Program.{Program, IsSound, unit_vector}
-use Rattle.linear_programs.specs.RowStep.{IsCommonFactor}
 use Rattle.linear_programs.proofs.Totals.{total-same}
 use Rattle.fraction.specs.Row.{at}
 use Rattle.pivot_rows.specs.Rows.{AreNarrow, IsPrimitive, zeros}
-use Rattle.tableau.specs.Lines.{row_at, IsLine, AreLines}
+use Rattle.tableau.specs.Lines.{row_at, IsLine}
 use Rattle.tableau.specs.First.{IsUnitLine, AreUnitLines, IsFirstCost, IsRightFault}
-use Rattle.tableau.specs.Sheet.{tableau_of, IsSheet, IsOnPath, HasRoom}
+use Rattle.tableau.specs.Sheet.{HasRoom}
 use Rattle.tableau.specs.Running.{IsRunning}
 use Rattle.tableau.specs.Faults.{fault_of}
 use Rattle.tableau.specs.Ends.{IsLpFault}

@@ -1,9 +1,8 @@
 -- Rows and entries written one after another.
-use Rattle.std.proofs.Common.{◌≡◌, ℕ, zero, suc, ◌<◌, ◌≤◌, ◌+◌, ◌-◌, ◌^◌, ◌≢◌, arith, length, get_or, set, List, ℤ, pos, unsigned_abs, [], ◌∷◌, ◌++◌, refl, subst, sym, ap, inl, inr, get_or-set_other, get_or-set_same, ◌⊎◌, ◌∙◌, length-append}
+use Rattle.std.proofs.Common.{◌≡◌, ℕ, zero, suc, ◌<◌, ◌≤◌, ◌+◌, ◌-◌, ◌^◌, ◌≢◌, arith, length, get_or, set, List, ℤ, unsigned_abs, [], ◌∷◌, ◌++◌, refl, sym, ap, inl, inr, get_or-set_other, get_or-set_same, ◌⊎◌, ◌∙◌, length-append}
 use Rattle.std.proofs.Math.ListN.{length-set}
 use Rattle.std.proofs.lemmas.Bool.{cases_eq}
 use Rattle.std.proofs.lemmas.List.Elements.{All-append}
-use Rattle.std.specs.Prelude.{All}
 use Rattle.std.proofs.Common.{SFits, rules}
 use Rattle.std.specs.Int.{w128}
 use Rattle.fraction.specs.Row.{at}

@@ -1,7 +1,7 @@
 -- How the simplex method ends.
-use Rattle.std.specs.Prelude.{ℕ, ℤ, pos, ◌≡◌, ◌<◌, ◌≤◌, ◌^◌, ◌*ℤ◌, ◌≤ℤ◌, ◌<ℤ◌, ◌⊎◌, Some, List, [], ◌∷◌, length, slice_get, unsigned_abs}
+use Rattle.std.specs.Prelude.{ℕ, ℤ, pos, ◌≡◌, ◌<◌, ◌≤◌, ◌^◌, ◌*ℤ◌, ◌<ℤ◌, ◌⊎◌, List, [], ◌∷◌, length, unsigned_abs}
 use Rattle.linear_programs.specs.Program.{Program, IsPricedOut}
-use Rattle.linear_programs.specs.Solution.{Weighted, IsBasic}
+use Rattle.linear_programs.specs.Solution.{Weighted}
 use Rattle.linear_programs.specs.Tableau.{Tableau, PivotPath, HasWidePath, HasOpenPath, on_basis, IsTableauSolution}
 use Rattle.fraction.specs.declared.frac.Frac.{Frac}
 use Rattle.fraction.specs.Range.{Counts}

@@ -1,5 +1,4 @@
 -- Faults of columns as those of a program.
-use Rattle.fraction.specs.declared.wide.TooWide.{TooWide}
 use Rattle.tableau.specs.declared.columns.ColumnsFault.{ColumnsFault}
 use Rattle.tableau.specs.declared.columns.ColumnsFault.TheVariants.{Wide, Memory}
 use Rattle.tableau.specs.declared.simplex.LpFault.{LpFault}

@@ -1,5 +1,5 @@
 -- The lists of the first tableau.
-use Rattle.std.specs.Prelude.{ℕ, ℤ, pos, ◌≡◌, ◌<◌, ◌+◌, ◌^◌, ◌≤ℤ◌, List, length, unsigned_abs}
+use Rattle.std.specs.Prelude.{ℕ, ℤ, pos, ◌≡◌, ◌<◌, ◌+◌, ◌^◌, List, length, unsigned_abs}
 use Rattle.linear_programs.specs.Sums.{dot}
 use Rattle.linear_programs.specs.Program.{Program, unit_vector}
 use Rattle.fraction.specs.Range.{Counts, refused}

@@ -1,8 +1,6 @@
 -- The rows of a tableau as lists: its numbers, and the right side behind them.
-use Rattle.std.specs.Prelude.{ℕ, ℤ, pos, ◌≡◌, ◌≢◌, ◌<◌, ◌≤◌, ◌+◌, ◌^◌, ◌*ℤ◌, ◌≤ℤ◌, ◌<ℤ◌, ◌⊎◌, neg_ℤ, List, [], ◌∷◌, ◌++◌, length, slice_index_or, unsigned_abs}
+use Rattle.std.specs.Prelude.{ℕ, ℤ, pos, ◌≡◌, ◌≢◌, ◌<◌, ◌≤◌, ◌+◌, ◌^◌, ◌*ℤ◌, ◌≤ℤ◌, ◌<ℤ◌, ◌⊎◌, neg_ℤ, List, [], ◌++◌, length, slice_index_or, unsigned_abs}
 use Rattle.linear_programs.specs.Sums.{dot}
-use Rattle.linear_programs.specs.Program.{unit_vector}
-use Rattle.linear_programs.specs.Tableau.{whole_row}
 use Rattle.fraction.specs.Row.{at}
 use Rattle.pivot_rows.specs.Rows.{AreNarrow, IsPrimitive, StepsTo, IsWideStep, zeros}
 use Rattle.pivot_rows.specs.Columns.{number_in}

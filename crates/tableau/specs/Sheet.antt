@@ -1,5 +1,5 @@
 -- Pivot paths whose tableau stands in lists.
-use Rattle.std.specs.Prelude.{ℕ, ℤ, pos, ◌≡◌, ◌<◌, ◌+◌, List, length, slice_index}
+use Rattle.std.specs.Prelude.{ℕ, ℤ, ◌≡◌, ◌<◌, ◌+◌, List, length, slice_index}
 use Rattle.linear_programs.specs.Program.{Program}
 use Rattle.linear_programs.specs.Tableau.{Tableau, PivotPath}
 use Rattle.fraction.specs.Row.{at}

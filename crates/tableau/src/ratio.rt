@@ -15,25 +15,8 @@ fn scaled(number: i64, entry: i128) -> i128
     i128::from(number) * entry
 }
 
-/// Says whether the first row divided by its entry comes before the second one in the order of their
-/// numbers.
-fn is_before(first: &[i64], entry: i128, second: &[i64], other: i128) -> bool
-    requires first { AreNarrow first.now }
-    requires second { AreNarrow second.now }
-    requires entry { unsigned_abs entry ≤ 2 ^ 68 }
-    requires other { unsigned_abs other ≤ 2 ^ 68 }
-{
-    for (a, b) in first.iter().zip(second) {
-        let (a, b) = (scaled(*a, other), scaled(*b, entry));
-        if a != b {
-            return a < b;
-        }
-    }
-    false
-}
-
 /// Says whether the first row leaves rather than the second: its right side divided by its entry is
-/// the lower one, or equal and its numbers come before.
+/// the lower one.
 fn is_lower(first: &[i64], entry: i128, second: &[i64], other: i128, right: usize) -> bool
     requires first { AreNarrow first.now }
     requires second { AreNarrow second.now }
@@ -45,7 +28,7 @@ fn is_lower(first: &[i64], entry: i128, second: &[i64], other: i128, right: usiz
     ensures higher { OnFalse result ((at second.now right *ℤ entry) ≤ℤ (at first.now right *ℤ other)) }
 {
     let (low, high) = (scaled(first[right], other), scaled(second[right], entry));
-    low < high || (low == high && is_before(first, entry, second, other))
+    low < high
 }
 
 /// Returns which of the first rows up to `row` leaves, given the one of those before it.
@@ -76,8 +59,7 @@ fn leaving_of(rows: &[Line], entries: &[i128], best: Option<usize>, row: usize) 
 }
 
 /// Returns the row that leaves the basis: its right side divided by its entry is the least one of the
-/// rows with an entry above 0, and of rows with the same quotient its numbers divided by the entry
-/// come first.
+/// rows with an entry above 0, and it is the first of several such rows.
 pub(crate) fn leaving(rows: &[Line], entries: &[i128]) -> usize
     requires lines { AreLines (length rows.now) rows.now }
     requires entries { length entries.now ≡ length rows.now }

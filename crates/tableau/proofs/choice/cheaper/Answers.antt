@@ -1,7 +1,6 @@
-use Rattle.std.proofs.Common.{◌≡◌, ◌+◌, arith, pos, ◌<ℤ◌, SFits, rules, sym}
+use Rattle.std.proofs.Common.{◌+◌, arith, pos, ◌<ℤ◌, SFits, rules}
 use Rattle.std.specs.Int.{w128, w64}
 use Rattle.std.proofs.lemmas.Int.{to_z-of_z, ints}
-use Rattle.linear_programs.specs.Program.{reduced}
 use Rattle.fraction.specs.Row.{at}
 use Rattle.tableau.proofs.Places.{reduced_is}
 use Rattle.tableau.proofs.choice.cheaper.Goals as goal

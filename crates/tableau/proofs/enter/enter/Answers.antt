@@ -1,7 +1,6 @@
-use Rattle.std.proofs.Common.{◌≡◌, ℕ, ◌+◌, ◌<◌, ◌≤◌, ◌^◌, arith, pos, ◌≤ℤ◌, ◌<ℤ◌, length, SFits, rules, sym, inr, inl, ap, ◌∙◌}
+use Rattle.std.proofs.Common.{◌+◌, arith, pos, ◌<ℤ◌, length, SFits, rules, sym, inr, inl, ap, ◌∙◌}
 use Rattle.std.specs.Int.{w128, w64}
 use Rattle.std.proofs.lemmas.Int.{to_z-of_z, ints}
-use Rattle.linear_programs.specs.Program.{reduced}
 use Rattle.fraction.specs.Row.{at}
 use Rattle.tableau.proofs.Counts.{refused_risen, refused_counts}
 use Rattle.tableau.proofs.Places.{reduced_is}

@@ -1,8 +1,6 @@
-use Rattle.std.proofs.Common.{◌≡◌, ℕ, ◌+◌, ◌<◌, ◌≤◌, arith, pos, ℤ, ◌<ℤ◌, SFits, rules, length, slice_index_or, ap, sym, refl, inr, ◌∙◌}
+use Rattle.std.proofs.Common.{arith, pos, ◌<ℤ◌, SFits, rules, length, slice_index_or, sym, refl, inr}
 use Rattle.std.specs.Int.{w128, w64}
 use Rattle.std.proofs.lemmas.Int.{to_z-of_z, ints}
-use Rattle.linear_programs.specs.Sums.{dot}
-use Rattle.linear_programs.specs.Program.{Column}
 use Rattle.fraction.specs.Row.{at}
 use Rattle.pivot_rows.specs.Columns.{AreWithin}
 use Rattle.tableau.proofs.Counts.{refused_risen}

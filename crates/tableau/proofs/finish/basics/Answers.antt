@@ -1,4 +1,4 @@
-use Rattle.std.proofs.Common.{◌≡◌, ℕ, suc, ◌+◌, ◌-◌, ◌<◌, ◌≤◌, arith, zero, length, ◌∙◌}
+use Rattle.std.proofs.Common.{◌≡◌, suc, ◌-◌, ◌<◌, arith, zero, length, ◌∙◌}
 use Rattle.tableau.proofs.Turns.{row_is}
 use Rattle.tableau.proofs.Shares.{share_more, share_all}
 use Rattle.tableau.proofs.finish.basics.Goals as goal

@@ -1,4 +1,4 @@
-use Rattle.std.proofs.Common.{◌≡◌, ℕ, ◌<◌, ◌≤◌, ◌^◌, arith, pos, SFits, rules, length, unsigned_abs, slice_index_or, below_more, ◌∙◌}
+use Rattle.std.proofs.Common.{◌≤◌, ◌^◌, arith, pos, SFits, rules, length, unsigned_abs, slice_index_or, below_more, ◌∙◌}
 use Rattle.std.specs.Int.{w64}
 use Rattle.std.proofs.lemmas.Int.{to_z-of_z, ints}
 use Rattle.tableau.proofs.Starts.{pushed_line, narrow_at}

@@ -1,4 +1,4 @@
-use Rattle.std.proofs.Common.{◌≡◌, ◌<◌, ℕ, sym, ◌∙◌}
+use Rattle.std.proofs.Common.{◌∙◌}
 use Rattle.tableau.proofs.Starts.{right_fault, right_counts, start_running}
 use Rattle.tableau.proofs.first.start.Goals as goal
 

@@ -1,7 +1,6 @@
-use Rattle.std.proofs.Common.{◌≡◌, ℕ, ◌+◌, ◌<◌, ◌^◌, arith, pos, ℤ, ◌≤ℤ◌, ◌<ℤ◌, SFits, rules, inr, ◌∙◌, ap, length-append, length, List, [], ◌∷◌}
+use Rattle.std.proofs.Common.{◌≡◌, ℕ, ◌^◌, arith, pos, ℤ, ◌≤ℤ◌, ◌<ℤ◌, SFits, rules, inr, ◌∙◌, ap, length-append, length, [], ◌∷◌}
 use Rattle.std.specs.Int.{w64}
 use Rattle.std.proofs.lemmas.Int.{to_z-of_z, ints}
-use Rattle.fraction.specs.Row.{at}
 use Rattle.tableau.proofs.Counts.{refused_risen}
 use Rattle.tableau.proofs.Starts.{pushed}
 use Rattle.tableau.proofs.first.unit_costs.Goals as goal

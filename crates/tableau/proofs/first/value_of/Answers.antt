@@ -1,4 +1,4 @@
-use Rattle.std.proofs.Common.{◌≡◌, ℕ, ◌+◌, ◌<◌, ◌^◌, arith, pos, ℤ, ◌+ℤ◌, ◌≤ℤ◌, SFits, rules, length, slice_index_or, to_z, ◌∙◌}
+use Rattle.std.proofs.Common.{arith, pos, ◌+ℤ◌, SFits, rules, slice_index_or, to_z}
 use Rattle.std.specs.Int.{w128, w64}
 use Rattle.std.proofs.lemmas.Int.{to_z-of_z, ints}
 use Rattle.fraction.specs.Row.{at}

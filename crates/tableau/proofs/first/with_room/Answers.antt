@@ -1,4 +1,4 @@
-use Rattle.std.proofs.Common.{◌≡◌, ◌+◌, arith, length, rules, ap, ◌∙◌}
+use Rattle.std.proofs.Common.{◌+◌, length, rules, ap, ◌∙◌}
 use Rattle.tableau.proofs.Starts.{zeros_long}
 use Rattle.tableau.proofs.first.with_room.Goals as goal
 

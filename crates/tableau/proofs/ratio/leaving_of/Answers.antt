@@ -1,8 +1,7 @@
-use Rattle.std.proofs.Common.{◌≡◌, ◌<◌, ◌≤ℤ◌, ◌*ℤ◌, ◌<ℤ◌, arith, pos, length, slice_index_or, SFits, rules, ℤ, ap, ◌∙◌}
+use Rattle.std.proofs.Common.{◌<◌, arith, pos, length, slice_index_or, SFits, rules, ◌∙◌}
 use Rattle.std.specs.Int.{w128}
 use Rattle.std.proofs.lemmas.Int.{to_z-of_z, ints}
-use Rattle.fraction.specs.Row.{at}
-use Rattle.tableau.specs.Lines.{row_at, IsLeaving}
+use Rattle.tableau.specs.Lines.{IsLeaving}
 use Rattle.tableau.proofs.Ratios.{next_leaves}
 use Rattle.tableau.proofs.Turns.{row_is}
 use Rattle.tableau.proofs.ratio.leaving_of.Goals as goal

@@ -1,4 +1,3 @@
-use Rattle.std.proofs.Common.{length}
 use Rattle.tableau.specs.Sheet.{AreCopied}
 use Rattle.tableau.proofs.sheet.copy_numbers.Given as goal
 

@@ -1,4 +1,4 @@
-use Rattle.std.proofs.Common.{◌≤◌, arith}
+use Rattle.std.proofs.Common.{arith}
 use Rattle.tableau.proofs.Running.{fault_later}
 use Rattle.tableau.proofs.simplex.solve.Goals as goal
 

@@ -1,8 +1,8 @@
-use Rattle.std.proofs.Common.{◌≡◌, ◌<◌, ◌+◌, arith, pos, length, slice_index_or, SFits, rules, ap, sym, ◌∙◌}
+use Rattle.std.proofs.Common.{◌<◌, ◌+◌, arith, pos, length, slice_index_or, SFits, rules, ap, sym, ◌∙◌}
 use Rattle.std.specs.Int.{w128}
 use Rattle.std.proofs.lemmas.Int.{to_z-of_z}
 use Rattle.std.proofs.lemmas.Result.{err_from_is_err_and}
-use Rattle.tableau.specs.Lines.{IsLine, HasWideRow}
+use Rattle.tableau.specs.Lines.{IsLine}
 use Rattle.tableau.proofs.Turns.{row_is, lines_set, stepped_more, stepped_past, wide_row}
 use Rattle.tableau.proofs.turn.step_rows.Goals as goal
 use Rattle.tableau.proofs.turn.step_rows.Goals.{then-row-leaving+in_ok-step, else-row-leaving}

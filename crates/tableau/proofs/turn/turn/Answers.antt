@@ -1,4 +1,4 @@
-use Rattle.std.proofs.Common.{◌≡◌, ◌<◌, ◌+◌, arith, pos, neg_ℤ, ◌-ℤ◌, length, slice_index_or, SFits, rules, ap, sym, refl, ◌∙◌, inl, inr}
+use Rattle.std.proofs.Common.{◌≡◌, arith, pos, neg_ℤ, ◌-ℤ◌, length, slice_index_or, SFits, rules, ap, refl, ◌∙◌, inl, inr}
 use Rattle.std.specs.Int.{w128}
 use Rattle.std.proofs.lemmas.Int.{to_z-of_z, ints}
 use Rattle.std.proofs.lemmas.Result.{err_from_is_err_and}

@@ -1,10 +1,6 @@
-use Rattle.std.proofs.Common.{◌≡◌, ◌<◌, ◌≤◌, ◌+◌, arith, pos, length, SFits, rules, ℤ, List, ap, ◌∙◌, subst}
+use Rattle.std.proofs.Common.{arith, length, SFits, rules, ap, ◌∙◌}
 use Rattle.std.specs.Int.{w128}
 use Rattle.std.proofs.lemmas.Int.{to_z-of_z}
-use Rattle.fraction.specs.Row.{at}
-use Rattle.linear_programs.specs.Sums.{dot}
-use Rattle.pivot_rows.specs.Columns.{number_in}
-use Rattle.tableau.specs.Lines.{row_at}
 use Rattle.tableau.proofs.Turns.{row_is, within_more, entries_more}
 use Rattle.tableau.proofs.turn.write_entries.Goals as goal
 
