@@ -9,5 +9,6 @@ mod infeasible;
 mod priced;
 mod shares;
 
+pub use derived::derived_names;
 pub use infeasible::is_plainly_infeasible;
 pub use priced::{priced_value, value_from_least};

@@ -53,11 +53,3 @@ pub record IsClosing (old : StackView) (value : ℕ) (now : StackView) (shown : 
       → ValueAfter i old.base old.splits value rest v
   pub visits : (rest : List Node) (vs : List Visit) → VisitsAfter old.base old.splits rest vs
       → VisitsAfter old.base now.splits rest vs
-
--- a loop that adds the cuts of groups: those of the groups before the place are there
-pub record IsPushing (i : Instance) (first : ℕ) (groups : List Group) (place : ℕ)
-    (old now : Vec Cut) : Type 0 where
-  pub items : now.items ++ cuts_from i (first + place) (drop place groups) ≡ old.items
-      ++ cuts_from i first groups
-  pub len : vec_len now ≤ vec_len old + 2 * place
-  pub room : vec_capacity now ≡ vec_capacity old

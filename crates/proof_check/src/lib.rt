@@ -6,7 +6,6 @@
 //! [`Walker::judge_text`] judges a text piece by piece in the same way, and holds no list of nodes.
 #![tactic(auto)]
 
-mod base;
 mod bench;
 mod frame;
 mod judge;

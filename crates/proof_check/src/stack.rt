@@ -9,9 +9,9 @@ ghost use Rattle.proof_check.specs.OpenSplits.{path, joined, ValueAfter, VisitsA
 ghost use Rattle.proof_pieces.specs.PieceList.{after_leaf};
 ghost use Rattle.proof_check.specs.Stacks.{AreSmall, halves_of};
 
-use crate::base::{MOST_BASE_CUTS, push_base_cuts};
 use crate::frame::Frame;
-use roster_model::{ArcKey, Cut, Instance, Memory, Side};
+use base_cuts::push_base_cuts;
+use roster_model::{ArcKey, Cut, Instance, MOST_BASE_CUTS, Memory, Side};
 use std::alloc::Global;
 use std::marker::Model;
 

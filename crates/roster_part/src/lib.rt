@@ -12,6 +12,9 @@ mod team;
 mod totals;
 
 pub use coverage::coverage_fault;
+pub use prices::least_price;
 pub use roster::roster_fault;
 pub use shift_room::ShiftRoom;
 pub use stated::StatedShift;
+pub use team::{Team, team_at, team_count};
+pub use totals::{heads_fault, stated_cost};

@@ -17,8 +17,9 @@ use roster_model::Instance;
 use span_table::Table;
 use word_prices::WordPrices;
 
-/// Returns the price of the shift's word as one of its team, or `None` where it is none.
-fn least_price(instance: &Instance, shift: &StatedShift, table: &mut Table) -> Option<u64>
+/// Returns the price of the shift's word as one of its team, or `None` where it is none. The shift's own
+/// price does not matter. The table was made for the instance's grammar. Takes no memory.
+pub fn least_price(instance: &Instance, shift: &StatedShift, table: &mut Table) -> Option<u64>
     requires sound { IsSoundInstance instance.now }
     requires made { IsMadeFor instance.now.grammar table.old }
     requires group { IsGroupNumber instance.now.groups shift.now.group }

@@ -8,7 +8,7 @@ use roster_model::Instance;
 
 /// Employees whose words one name derives.
 #[derive(Clone, Copy, Drop)]
-pub(crate) struct Team {
+pub struct Team {
     /// The number of the group, or 0 on a day without groups.
     pub number: u8,
     /// The position of the name in the grammar's `names`.
@@ -20,7 +20,7 @@ pub(crate) struct Team {
 }
 
 /// Returns how many teams there are.
-pub(crate) fn team_count(instance: &Instance) -> usize
+pub fn team_count(instance: &Instance) -> usize
     requires { IsSoundInstance instance.now }
     ensures { result ≡ length (teams instance.now) }
 {
@@ -28,7 +28,7 @@ pub(crate) fn team_count(instance: &Instance) -> usize
 }
 
 /// Returns the team at a place, from 0.
-pub(crate) fn team_at(instance: &Instance, place: usize) -> Team
+pub fn team_at(instance: &Instance, place: usize) -> Team
     requires sound { IsSoundInstance instance.now }
     requires place { place < length (teams instance.now) }
     ensures { slice_get (teams instance.now) place ≡ Some (team_view result) }

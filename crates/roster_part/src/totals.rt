@@ -28,7 +28,7 @@ fn members(shifts: &[StatedShift], number: u8) -> usize
 
 /// Returns the first team whose number of shifts is outside its range, or `None` where there is
 /// none.
-pub(crate) fn heads_fault(instance: &Instance, shifts: &[StatedShift]) -> Option<Why>
+pub fn heads_fault(instance: &Instance, shifts: &[StatedShift]) -> Option<Why>
     requires sound { IsSoundInstance instance.now }
     requires few { length shifts.now ≤ 64 }
     ensures { MatchOption result (Each (HasHeads (duties shifts.now)) (teams instance.now))
@@ -79,7 +79,7 @@ fn penalties(grammar: &Grammar, cells: &[Cell], shifts: &[StatedShift]) -> u64
 }
 
 /// Returns what the roster costs at the stated prices.
-pub(crate) fn stated_cost(instance: &Instance, shifts: &[StatedShift]) -> u64
+pub fn stated_cost(instance: &Instance, shifts: &[StatedShift]) -> u64
     requires sound { IsSoundInstance instance.now }
     requires few { length shifts.now ≤ 64 }
     requires shifts { Each (IsSoundShift instance.now) shifts.now }

@@ -72,6 +72,14 @@ impl Pool {
         self.entry(column).1.cost
     }
 
+    /// Returns the arcs of a tree in their order, each as often as it stands there.
+    pub fn arcs(&self, column: usize) -> &[ArcKey]
+        requires { column < length self.now }
+        ensures { (x : PoolTree) → slice_get self.now column ≡ Some x → result.now ≡ x.arcs }
+    {
+        self.entry(column).1.arcs.as_slice()
+    }
+
     /// Says whether a tree has an arc. Takes no memory.
     pub fn has_arc(&self, column: usize, arc: &ArcKey) -> bool
         requires { column < length self.now }

@@ -4,9 +4,6 @@ ghost use Rattle.roster_model.specs.SoundInstance.{IsSoundInstance};
 
 use roster_model::{ArcKey, Cut, Group, Instance, Side};
 
-/// How many base cuts there may be: two for each group.
-pub(crate) const MOST_BASE_CUTS: usize = 16;
-
 /// Returns the arc of the rule that adds a group, on the whole day.
 fn group_arc(periods: u8, rule: u8) -> ArcKey
     ensures { result ≡ group_arc periods rule }
@@ -66,8 +63,9 @@ fn push_group(path: &mut Vec<Cut>, instance: &Instance, rule: u8, group: &Group)
     push_least(path, arc, group.heads_min);
 }
 
-/// Adds the cuts with which every path begins. Takes no memory.
-pub(crate) fn push_base_cuts(path: &mut Vec<Cut>, instance: &Instance)
+/// Adds the cuts with which every path begins: for each group in order a Low cut where its range says
+/// more than that of the day, and a High cut where it needs employees. Takes no memory.
+pub fn push_base_cuts(path: &mut Vec<Cut>, instance: &Instance)
     requires sound { IsSoundInstance instance.now }
     requires room { vec_len path.old + 16 ≤ vec_capacity path.old }
     ensures items { path.new.items ≡ path.old.items ++ base_cuts instance.now }
