@@ -1,0 +1,41 @@
+-- What the weights of a solution's trees say of the arcs.
+use Rattle.std.specs.Prelude.{ℕ, ◌≡◌, ◌<◌, ◌*◌, ◌+◌, ◌≤◌, ◌⊎◌, Some, List, ◌++◌, length, slice_get}
+use Rattle.roster_model.specs.declared.grammar.ArcKey.{ArcKey}
+use Rattle.roster_model.specs.declared.instance.Cut.{Cut}
+use Rattle.roster_model.specs.declared.instance.Instance.{Instance}
+use Rattle.roster_model.specs.Cuts.{lo, hi}
+use Rattle.arc_laws.specs.Lists.{AreArcs}
+use Rattle.parse_graph.specs.Graphs.{GraphView}
+use Rattle.tree_pool.specs.Pools.{PoolTree}
+use Rattle.master_laws.specs.Sharp.{UsesArtificial, AreFine, arc_weight}
+use Rattle.master_laws.specs.WholeCounts.{HasCounts}
+use Rattle.node_master.specs.declared.ends.Weight.{Weight}
+use Rattle.node_master.specs.Ends.{AreLeastWeights}
+use Rattle.roster_split.specs.Counts.{count_of}
+use Rattle.arc_weights.specs.declared.weigh.Weighed.{Weighed}
+use Rattle.arc_weights.specs.declared.weigh.Weighed.TheVariants.{Whole, Between, Other}
+
+-- the arc's trees weigh more than b and less than b + 1, and both halves of the split are left a count
+pub record IsBetween (i : Instance) (v : GraphView) (cuts : List Cut) (columns : List PoolTree)
+    (weights : List Weight) (arc b : ℕ) : Type 0 where
+  pub key : ArcKey
+  pub at : slice_get v.arcs arc ≡ Some key
+  pub low : lo cuts key ≤ b
+  pub high : b < hi i.heads_max cuts key
+  pub more : (w : AreLeastWeights i cuts columns weights) → w.d * b < arc_weight key (w.trees ++ w.others)
+  pub less : (w : AreLeastWeights i cuts columns weights) → arc_weight key (w.trees ++ w.others) < w.d * (b + 1)
+
+-- the trees of each arc weigh a whole number together
+pub record AreWhole (i : Instance) (v : GraphView) (cuts : List Cut) (columns : List PoolTree)
+    (weights : List Weight) (counts : List ℕ) : Type 0 where
+  pub each : length counts ≡ length v.arcs
+  pub whole : (w : AreLeastWeights i cuts columns weights) (listed : List ArcKey) → AreArcs i.grammar listed
+      → HasCounts i cuts (w.trees ++ w.others) w.d listed (count_of v.arcs counts)
+
+-- what the answer says
+abbrev pub IsWeighed : Instance → GraphView → List Cut → List PoolTree → List Weight → Weighed → Type 0
+IsWeighed i v cuts columns weights (Whole counts) = AreWhole i v cuts columns weights counts
+IsWeighed i v cuts columns weights (Between arc b) = IsBetween i v cuts columns weights arc b
+IsWeighed i v cuts columns weights Other =
+    (w : AreLeastWeights i cuts columns weights)
+    → UsesArtificial i cuts (w.trees ++ w.others) ⊎ AreFine (w.trees ++ w.others) w.d

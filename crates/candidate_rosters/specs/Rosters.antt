@@ -1,0 +1,38 @@
+-- Rosters that are allowed, and what they cost.
+use Rattle.std.specs.Prelude.{ℕ, ◌≡◌, ◌≤◌, Option, None, Some, List, [], ◌∷◌, length, slice_get}
+use Rattle.roster_model.specs.declared.grammar.Grammar.{Grammar}
+use Rattle.roster_model.specs.declared.instance.Instance.{Instance}
+use Rattle.roster_model.specs.Folds.{Each}
+use Rattle.roster_model.specs.Room.{RoomView}
+use Rattle.roster_model.specs.Trees.{Parts}
+use Rattle.span_table.specs.Tables.{IsMadeFor}
+use Rattle.certificates.specs.Sound.{IsSoundShift}
+use Rattle.certificate_laws.specs.Accepted.{IsStated}
+use Rattle.tree_pool.specs.Pools.{PoolTree, IsPoolTree}
+use Rattle.candidate_rosters.specs.declared.roster.Roster.{Roster}
+use Rattle.candidate_rosters.specs.declared.desk.RosterDesk.{RosterDesk}
+use Rattle.candidate_rosters.specs.Order.{AreAscending}
+
+-- the shifts are an allowed roster at exactly the cost, in their order
+pub record IsGoodRoster (i : Instance) (r : Roster) : Type 0 where
+  pub stated : IsStated i r.shifts r.cost
+  pub ascending : AreAscending r.shifts
+  pub sound : Each (IsSoundShift i) r.shifts
+  pub few : length r.shifts ≤ 64
+
+-- the columns are these trees, in their order
+abbrev pub AreTreesAt : Grammar → List PoolTree → List ℕ → List Parts → Type 0
+AreTreesAt g pool [] [] = Unit {0}
+AreTreesAt g pool (c ∷ cs) (t ∷ ts) =
+    (x : PoolTree) × (slice_get pool c ≡ Some x) × IsPoolTree g t x × AreTreesAt g pool cs ts
+AreTreesAt g pool [] (t ∷ ts) = ⊥
+AreTreesAt g pool (c ∷ cs) [] = ⊥
+
+-- there is a roster that costs at most so much
+abbrev pub CostsAtMost : ℕ → Option Roster → Type 0
+CostsAtMost most None = ⊥
+CostsAtMost most (Some r) = r.cost ≤ most
+
+-- the desk was made for the grammar
+abbrev pub IsDeskFor : Grammar → RosterDesk → Type 0
+IsDeskFor g d = IsMadeFor g d.table × (d.room ≡ [])

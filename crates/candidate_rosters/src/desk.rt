@@ -1,0 +1,27 @@
+ghost use Rattle.std.specs.Prelude.{IfOk};
+ghost use Rattle.roster_model.specs.SoundInstance.{IsSoundInstance};
+ghost use Rattle.candidate_rosters.specs.Rosters.{IsDeskFor};
+
+use roster_model::{Instance, Memory};
+use roster_part::ShiftRoom;
+use span_table::Table;
+use std::alloc::Global;
+
+/// What it takes to price words: a table, and room for 64 shifts.
+#[derive(Drop)]
+pub struct RosterDesk {
+    pub(crate) table: Table,
+    pub(crate) room: ShiftRoom,
+}
+
+impl RosterDesk {
+    /// Returns a desk for the rosters of an instance. It takes all its memory here.
+    pub fn for_instance(alloc: Global, instance: &Instance) -> Result<RosterDesk, Memory>
+        requires { IsSoundInstance instance.now }
+        ensures { IfOk result (IsDeskFor instance.now.grammar) }
+    {
+        let table = Table::for_instance(alloc, &instance.grammar)?;
+        let room = ShiftRoom::new(alloc)?;
+        Ok(RosterDesk { table, room })
+    }
+}

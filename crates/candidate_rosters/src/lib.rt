@@ -1,0 +1,12 @@
+//! Rosters that a search may offer: the words of trees at their prices, where these are allowed.
+#![tactic(auto)]
+
+mod columns;
+mod desk;
+mod least;
+mod roster;
+
+pub use columns::columns_of;
+pub use desk::RosterDesk;
+pub use least::least_roster;
+pub use roster::{Roster, roster_of};

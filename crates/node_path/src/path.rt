@@ -1,0 +1,97 @@
+ghost use Rattle.std.specs.Prelude.{◌≡◌, ◌↔◌, IfOk, OnOk, IsTrue, MatchOption, List};
+ghost use Rattle.roster_model.specs.declared.instance.Cut.{Cut as OneCut};
+ghost use Rattle.roster_model.specs.Cuts.{base_cuts};
+ghost use Rattle.roster_model.specs.SoundInstance.{IsSoundInstance};
+ghost use Rattle.bound_laws.specs.Pinned.{IsPinnedValue};
+ghost use Rattle.parse_graph.specs.Graphs.{IsGraph};
+ghost use Rattle.arc_branch.specs.Costs.{pinned_number};
+ghost use Rattle.growing_laws.specs.Grown.{Grown};
+ghost use Rattle.node_path.specs.Paths.{IsPath, IsNode};
+
+use arc_branch::ArcBox;
+use growing_laws::Seat;
+use parse_graph::Graph;
+use roster_model::{Cut, Instance, Memory};
+use std::alloc::Global;
+use std::marker::Model;
+
+/// A cut on the way down: its arc's number, and the least and the greatest count that the arc had before.
+#[derive(Clone, Copy, Debug, PartialEq, Eq, Drop)]
+pub(crate) struct Turn {
+    pub arc: u32,
+    pub low: u32,
+    pub high: u32,
+}
+
+/// A path of cuts from the root to a node, and the counts that it leaves the arcs.
+#[derive(Drop)]
+pub struct NodePath {
+    cuts: Vec<Cut>,
+    arc_box: ArcBox,
+    base: usize,
+    turns: Vec<Turn>,
+}
+
+impl Model for NodePath {
+    ghost use Rattle.node_path.specs.Paths.{PathView};
+
+    ghost Value = { PathView };
+
+    ghost view = { λ p. record { cuts = p.cuts.items; arc_box = p.arc_box; base = p.base; turns = p.turns.items } };
+}
+
+impl NodePath {
+    /// Returns the path of the root: the base cuts alone.
+    pub fn new(alloc: Global, instance: &Instance, graph: &Graph) -> Result<NodePath, Memory>
+        requires sound { IsSoundInstance instance.now }
+        requires graph { IsGraph instance.now.grammar graph.now }
+        ensures path { IfOk result (IsPath instance.now graph.now) }
+        ensures cuts { IfOk result (λ p. p.cuts ≡ base_cuts instance.now) }
+    {
+        Err(Memory)
+    }
+
+    /// Returns the cuts, base cuts first.
+    pub fn cuts(&self) -> &[Cut]
+        ensures { result.now ≡ self.now.cuts }
+    {
+        self.cuts.as_slice()
+    }
+
+    /// Returns the counts that the path leaves the arcs.
+    pub fn arc_box(&self) -> &ArcBox
+        ensures { result.now ≡ self.now.arc_box }
+    {
+        &self.arc_box
+    }
+
+    /// Returns the cost of the counts where the path leaves each arc one, as [`ArcBox::pinned_cost`] does.
+    pub fn pinned_cost(&mut self, instance: &Instance, graph: &Graph) -> Option<u64>
+        requires sound { IsSoundInstance instance.now }
+        requires graph { IsGraph instance.now.grammar graph.now }
+        requires path { IsPath instance.now graph.now self.old }
+        ensures value { IsPinnedValue instance.now self.old.cuts (pinned_number instance.now result) }
+        ensures same { self.new ≡ self.old }
+    {
+        self.arc_box.pinned_cost(instance, graph)
+    }
+
+    /// Goes to the node of a number of a search's tree, whose seats these are.
+    pub fn go_to(
+        &mut self,
+        instance: &Instance,
+        graph: &Graph,
+        seats: &[Seat],
+        number: u32,
+    ) -> Result<(), Memory>
+        requires sound { IsSoundInstance instance.now }
+        requires graph { IsGraph instance.now.grammar graph.now }
+        requires path { IsPath instance.now graph.now self.old }
+        requires node { (t : Grown) × (path : List OneCut) × IsNode instance.now seats.now number t path }
+        ensures path { OnOk result (IsPath instance.now graph.now self.new) }
+        ensures cuts { OnOk result ((t : Grown) (path : List OneCut) → IsNode instance.now seats.now number t path
+            → self.new.cuts ≡ path) }
+    {
+        Err(Memory)
+    }
+}

@@ -1,0 +1,4 @@
+pub mod Views
+pub mod Trees
+pub mod Asked
+pub mod Laws

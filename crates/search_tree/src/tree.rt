@@ -1,0 +1,131 @@
+ghost use Rattle.std.specs.Prelude.{ℕ, ◌≡◌, ◌≤◌, ◌<◌, [], ◌∷◌, IfOk, OnOk, MatchOption, OnTrue, List as Items};
+ghost use Rattle.roster_model.specs.Cuts.{base_cuts};
+ghost use Rattle.certificates.specs.Nodes.{preorder};
+ghost use Rattle.growing_laws.specs.Grown.{Grown, OnTips, tip_bound, proof_of};
+ghost use Rattle.growing_laws.specs.Boxes.{IsOpenLeaf};
+ghost use Rattle.growing_laws.specs.Seats.{HoldTree};
+ghost use Rattle.open_nodes.specs.declared.leaf.OpenLeaf.{OpenLeaf as Waiting};
+ghost use Rattle.search_tree.specs.Views.{Site, TreeView};
+ghost use Rattle.search_tree.specs.Trees.{last_count, IsTree};
+ghost use Rattle.search_tree.specs.Asked.{AsksSplit, IsHalved, AsksPinned, AsksPriced, AsksFailed, IsProcessed};
+
+use certificates::Node;
+use growing_laws::Seat;
+use open_nodes::{OpenLeaf, OpenNodes, Plan};
+use roster_model::{ArcKey, List, Memory, Prices};
+use std::alloc::Global;
+use std::marker::Model;
+
+/// The tree of a search while it grows.
+#[derive(Drop)]
+pub struct SearchTree {
+    seats: Vec<Seat>,
+    waiting: OpenNodes,
+    processed: u32,
+    failed: u32,
+}
+
+impl Model for SearchTree {
+    ghost use Rattle.search_tree.specs.Views.{TreeView};
+
+    ghost Value = { TreeView };
+
+    ghost view = { λ t. record { seats = t.seats.items; waiting = t.waiting; processed = t.processed; failed = t.failed } };
+}
+
+impl SearchTree {
+    /// Returns a tree of one leaf that is not processed.
+    pub fn new(alloc: Global) -> Result<SearchTree, Memory>
+        ensures tree { IfOk result (λ w. (s : Site) (limit now : ℕ) → s.before ≤ now
+            → (t : Grown) × IsTree s limit now 0 [] w t) }
+        ensures none { IfOk result (λ w. w.processed ≡ 0) }
+    {
+        Err(Memory)
+    }
+
+    /// Returns how many nodes are processed.
+    pub fn processed(&self) -> u32
+        ensures { result ≡ self.now.processed }
+    {
+        self.processed
+    }
+
+    /// Returns how many splits have no prices.
+    pub fn failed(&self) -> u32
+        ensures { result ≡ self.now.failed }
+    {
+        self.failed
+    }
+
+    /// Returns the seats of the tree's nodes.
+    pub fn seats(&self) -> &[Seat]
+        ensures { result.now ≡ self.now.seats }
+    {
+        self.seats.as_slice()
+    }
+
+    /// Takes a leaf of least bound, where this is below the limit; `None` where no open leaf leaves such a
+    /// bound.
+    pub fn next(&mut self, limit: u64) -> Option<OpenLeaf>
+        requires stub { ⊥ }
+        ensures same { (self.new.seats ≡ self.old.seats) × (self.new.processed ≡ self.old.processed)
+            × (self.new.failed ≡ self.old.failed) }
+        ensures taken { (s : Site) (now low : ℕ) (t : Grown) → IsTree s limit now low [] self.old t
+            → MatchOption result
+            (OnTips (λ up path k l. IsOpenLeaf l → limit ≤ tip_bound up l) 0 (base_cuts s.day) t)
+            (λ leaf. (leaf.bound < limit) × IsTree s limit now leaf.bound (leaf ∷ []) self.new t) }
+    {
+        None
+    }
+
+    /// Splits the leaf in hand, which has prices, where its plan says, on the arc of this number. Returns
+    /// the half that is to be processed; the other waits.
+    pub fn split(&mut self, leaf: OpenLeaf, plan: Plan, arc: ArcKey) -> Result<OpenLeaf, Memory>
+        requires { AsksSplit self.old leaf plan arc }
+        ensures { IfOk result (λ half. (asked : AsksSplit self.old leaf plan arc)
+            → IsHalved asked.site asked.limit asked.now self.old self.new leaf half) }
+    {
+        Err(Memory)
+    }
+
+    /// Says of the leaf in hand that its cuts leave each arc one count, and what these cost.
+    pub fn pin(&mut self, leaf: OpenLeaf, value: u64)
+        requires stub { ⊥ }
+        requires pinned { AsksPinned self.old leaf value }
+        ensures { (asked : AsksPinned self.old leaf value)
+            → IsProcessed asked.taken.site asked.taken.limit asked.taken.now asked.taken.low self.old self.new }
+    {}
+
+    /// Gives the leaf in hand its prices and what they show, and lets it wait.
+    pub fn price(
+        &mut self,
+        leaf: OpenLeaf,
+        prices: Prices,
+        value: u64,
+        plan: Option<Plan>,
+    ) -> Result<(), Memory>
+        requires { AsksPriced self.old leaf prices value plan }
+        ensures { OnOk result ((asked : AsksPriced self.old leaf prices value plan)
+            → IsProcessed asked.taken.site asked.taken.limit asked.taken.now asked.taken.low self.old self.new) }
+    {
+        Err(Memory)
+    }
+
+    /// Splits the leaf in hand without prices, on an arc at a number; both halves wait.
+    pub fn fail(&mut self, leaf: OpenLeaf, arc: ArcKey, b: u32) -> Result<(), Memory>
+        requires { (later : ℕ) × AsksFailed self.old leaf arc b later }
+        ensures { OnOk result ((later : ℕ) → (asked : AsksFailed self.old leaf arc b later)
+            → IsProcessed asked.taken.site asked.taken.limit later asked.taken.low self.old self.new) }
+    {
+        Err(Memory)
+    }
+
+    /// Returns the nodes of the tree in preorder.
+    pub fn into_nodes(self, alloc: Global) -> Result<List<Node>, Memory>
+        requires { (s : Site) × (limit : ℕ) × (now : ℕ) × (low : ℕ) × (hand : Items Waiting) × (t : Grown)
+            × IsTree s limit now low hand self t × (self.processed ≤ 10000) }
+        ensures { IfOk result (λ nodes. (t : Grown) → HoldTree self.seats t → nodes ≡ preorder (proof_of t)) }
+    {
+        Err(Memory)
+    }
+}
