@@ -12,8 +12,8 @@ use Rattle.master_laws.specs.WholeCounts.{HasCounts}
 use Rattle.node_master.specs.declared.ends.Weight.{Weight}
 use Rattle.node_master.specs.Ends.{AreLeastWeights}
 use Rattle.roster_split.specs.Counts.{count_of}
-use Rattle.arc_weights.specs.declared.weigh.Weighed.{Weighed}
-use Rattle.arc_weights.specs.declared.weigh.Weighed.TheVariants.{Whole, Between, Other}
+use Rattle.arc_weights.specs.declared.weighed.Weighed.{Weighed}
+use Rattle.arc_weights.specs.declared.weighed.Weighed.TheVariants.{Whole, Between, Other}
 
 -- the arc's trees weigh more than b and less than b + 1, and both halves of the split are left a count
 pub record IsBetween (i : Instance) (v : GraphView) (cuts : List Cut) (columns : List PoolTree)

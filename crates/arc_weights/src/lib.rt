@@ -1,6 +1,6 @@
 //! The weights of a solution's trees, summed by the trees' arcs.
 #![tactic(auto)]
 
-mod weigh;
+mod weighed;
 
-pub use weigh::{Weighed, weigh};
+pub use weighed::{Weighed, weigh};

@@ -1,4 +1,4 @@
-ghost use Rattle.std.specs.Prelude.{ℕ, ◌≡◌, ◌≤◌, ◌<◌, [], ◌∷◌, IfOk, OnOk, MatchOption, OnTrue, List as Items};
+ghost use Rattle.std.specs.Prelude.{ℕ, ◌≡◌, ◌≤◌, ◌<◌, [], ◌∷◌, IfOk, OnOk, MatchOption, List as Items};
 ghost use Rattle.roster_model.specs.Cuts.{base_cuts};
 ghost use Rattle.certificates.specs.Nodes.{preorder};
 ghost use Rattle.growing_laws.specs.Grown.{Grown, OnTips, tip_bound, proof_of};
