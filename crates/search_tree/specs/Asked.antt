@@ -56,7 +56,7 @@ pub record IsProcessed (s : Site) (limit now low : ℕ) (old new : TreeView) : T
 pub record AsksPinned (w : TreeView) (leaf : OpenLeaf) (value : ℕ) : Type 0 where
   pub taken : AsksLeaf w leaf
   pub pinned : IsPinned taken.site.day taken.path
-  pub value : IsPinnedValue taken.site.day taken.path value
+  pub costs : IsPinnedValue taken.site.day taken.path value
   pub above : taken.limit ≤ value
 
 -- prices at the leaf, what they show, and where to split it

@@ -113,7 +113,8 @@ impl SearchTree {
 
     /// Splits the leaf in hand without prices, on an arc at a number; both halves wait.
     pub fn fail(&mut self, leaf: OpenLeaf, arc: ArcKey, b: u32) -> Result<(), Memory>
-        requires { (later : ℕ) × AsksFailed self.old leaf arc b later }
+        requires stub { ⊥ }
+        requires failed { (later : ℕ) × AsksFailed self.old leaf arc b later }
         ensures { OnOk result ((later : ℕ) → (asked : AsksFailed self.old leaf arc b later)
             → IsProcessed asked.taken.site asked.taken.limit later asked.taken.low self.old self.new) }
     {
