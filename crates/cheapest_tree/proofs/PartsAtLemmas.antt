@@ -9,16 +9,16 @@ use Rattle.roster_model.specs.declared.grammar.Sym.TheVariants.{Code, Name}
 use Rattle.roster_model.specs.Trees.{Parts, done, uses, span_length, On, steps}
 use Rattle.roster_model.specs.Sums.{PriceView, plus, tree_sum, parts_sum}
 use Rattle.tree_laws.specs.Laws.{arc_at}
-use Rattle.tree_laws.specs.Parts.{use_count, beside}
+use Rattle.tree_laws.specs.Parts.{first, use_count, beside}
 use Rattle.tree_laws.proofs.Splits.{joined}
 use Rattle.tree_laws.proofs.Ends.{last_sum, only_sum, rooted}
 use Rattle.tree_laws.proofs.Size.{steps-beside, use_count-beside}
 use Rattle.arc_laws.specs.OrNodes.{OrNode, left_of, right_of, made, symbol_node, used_by, used}
 use Rattle.arc_laws.proofs.Balanced.{left_of-is, right_of-is, drop-next}
-use Rattle.cheapest_tree.specs.AtNodes.{IsAt, sum_at, arc_total}
+use Rattle.cheapest_tree.specs.AtNodes.{IsAt, sum_at, top_arc, arc_total}
 use Rattle.cheapest_tree.specs.Walks.{steps_of}
 use Rattle.cheapest_tree.proofs.StandLemmas.{Standing, IsCut, Fits}
-use Rattle.cheapest_tree.proofs.TopArcLemmas.{plus-nothing}
+use Rattle.cheapest_tree.proofs.TopArcLemmas.{plus-nothing, only-first}
 
 module _ (g : Grammar) (p : PriceView) where
   -- these stand below an arc: at its first part, and at what follows it
@@ -42,6 +42,7 @@ module _ (g : Grammar) (p : PriceView) where
   pub record Built (a : ArcKey) (t u : Parts) : Type 0 where
     pub whole : Parts
     pub on : IsAt g (made g a) whole
+    pub top : top_arc (made g a) whole ≡ a
     pub sum : sum_at p (made g a) whole ≡ arc_total p a (first_sum (used g a) t) (rest_sum (used g a) u)
     pub written : steps a.start whole ≡ steps_of a ++ (steps a.start t ++ steps (a.start + a.part) u)
     pub count : use_count whole ≡ length (steps_of a) + (use_count t + use_count u)
@@ -59,6 +60,7 @@ module _ (g : Grammar) (p : PriceView) where
     record Cut (k : ℕ) (ss : List Sym) (t u : Parts) (v w : Option ℤ) : Type 0 where
       pub parts : Parts
       pub on : On g ss i l parts
+      pub begins : first parts ≡ m
       pub sum : parts_sum p r k i parts ≡ plus v (plus (Some (p.arc_of (arc_at r k i l m))) w)
       pub written : steps i parts ≡ steps i t ++ steps (i + m) u
       pub count : use_count parts ≡ use_count t + use_count u
@@ -72,6 +74,7 @@ module _ (g : Grammar) (p : PriceView) where
         record {
           parts = beside t u;
           on = j.0;
+          begins = j.1;
           sum = rw (ev, ew) j.2;
           written = steps-beside t u i ∙ ap (λ (q : ℕ). steps i t ++ steps q u) cov;
           count = use_count-beside t u;
@@ -91,6 +94,7 @@ module _ (g : Grammar) (p : PriceView) where
         record {
           parts = t;
           on = on;
+          begins = only-first g p s i l t on ∙ sym c.1;
           sum = sum2 ∙ ap (λ (v : Option ℤ). plus v (plus (Some (p.arc_of (arc_at r 0 i l m))) (Some (pos 0)))) (sym (symbol_sum s i m t));
           written = sym (append-nil (steps i t)) ∙ ap (λ (q : Parts). steps i t ++ steps (i + m) q) (sym kids.1);
           count = let n : use_count u ≡ 0 = ap use_count kids.1 in omega (arith, n);
@@ -113,6 +117,7 @@ module _ (g : Grammar) (p : PriceView) where
       record {
         whole = uses r l c.parts done;
         on = rooted g p i l r (left_of g r) st.rule c.parts st.at (sym left) st.here.0 st.day.some on;
+        top = ap (λ (n : ℕ). arc_at r 0 i l n) c.begins;
         sum = ap (λ (q : Option ℤ). plus (Some (p.rule_of r)) q) c.sum;
         written = append-nil (record { rule = r; start = i; len = l } ∷ steps i c.parts) ∙ ap (λ (q : List Step). record { rule = r; start = i; len = l } ∷ q) c.written;
         count = let n = c.count in omega (arith, n);
@@ -120,7 +125,7 @@ module _ (g : Grammar) (p : PriceView) where
   build r (suc k) i l m st t u kids =
       let right : drop (suc k) (right_of g r) ≡ drop (suc k) st.rule.right = ap (λ (xs : List Sym). drop (suc k) xs) (right_of-is g r st.rule st.at) in
       let c = cut r i l m (suc k) (drop (suc k) (right_of g r)) t u refl (subst (λ (q : List Sym). IsCut (suc k) q l m) (sym right) st.cut) kids in
-      record { whole = c.parts; on = c.on; sum = c.sum; written = c.written; count = let n = c.count in omega (arith, n) }
+      record { whole = c.parts; on = c.on; top = ap (λ (n : ℕ). arc_at r (suc k) i l n) c.begins; sum = c.sum; written = c.written; count = let n = c.count in omega (arith, n) }
 
   -- what stands below an arc of the instance makes what stands at the node
   pub built : (a : ArcKey) → Standing g a → (t u : Parts) → KidsAt (used g a) t u → Built a t u

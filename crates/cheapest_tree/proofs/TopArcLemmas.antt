@@ -72,17 +72,17 @@ module _ (g : Grammar) (p : PriceView) where
           (plus-rule a (parts_sum p q 0 i inner) (p.rule_of q) (h.least inner (on, f)))
 
   -- the length of an only part
-  only_first : (s : Sym) (i l : ℕ) (t : Parts) → On g (s ∷ []) i l t → first t ≡ l
-  only_first (Code c) i l done h = absurd h.0
-  only_first (Name c) i l done h = absurd h.0
-  only_first (Name c) i l (letter d rest) h = absurd h.0
-  only_first (Code c) i l (uses q z inner rest) h = absurd h.0
-  only_first (Code c) i l (letter d (letter d' rest)) h = absurd h.0.1
-  only_first (Code c) i l (letter d (uses q z inner rest)) h = absurd h.0.1
-  only_first (Code c) i l (letter d done) h = h.1
-  only_first (Name c) i l (uses q z inner (letter d rest)) h = absurd h.0.7
-  only_first (Name c) i l (uses q z inner (uses q' z' inner' rest)) h = absurd h.0.7
-  only_first (Name c) i l (uses q z inner done) h = omega (arith, h.1)
+  pub only-first : (s : Sym) (i l : ℕ) (t : Parts) → On g (s ∷ []) i l t → first t ≡ l
+  only-first (Code c) i l done h = absurd h.0
+  only-first (Name c) i l done h = absurd h.0
+  only-first (Name c) i l (letter d rest) h = absurd h.0
+  only-first (Code c) i l (uses q z inner rest) h = absurd h.0
+  only-first (Code c) i l (letter d (letter d' rest)) h = absurd h.0.1
+  only-first (Code c) i l (letter d (uses q z inner rest)) h = absurd h.0.1
+  only-first (Code c) i l (letter d done) h = h.1
+  only-first (Name c) i l (uses q z inner (letter d rest)) h = absurd h.0.7
+  only-first (Name c) i l (uses q z inner (uses q' z' inner' rest)) h = absurd h.0.7
+  only-first (Name c) i l (uses q z inner done) h = omega (arith, h.1)
 
   module _ (r i l m : ℕ) where
     -- the parts of the symbols with a first part of this length
@@ -115,7 +115,7 @@ module _ (g : Grammar) (p : PriceView) where
         sym (plus-nothing v (p.arc_of (arc_at r 0 i l l))) ∙ ap (λ (n : ℕ). plus v (plus (Some (p.arc_of (arc_at r 0 i l n))) (Some (pos 0)))) (sym cut.1)
         ∙ ap (λ (o : Option ℤ). plus v (plus (Some (p.arc_of (arc_at r 0 i l m))) o)) (sym kids.1) in
         subst (λ (o : Option ℤ). IsLeast (Cut 0 (s ∷ [])) (parts_sum p r 0 i) o) sum
-        (IsLeast-same (On g (s ∷ []) i l) (Cut 0 (s ∷ [])) (parts_sum p r 0 i) _ (λ t h. (h, only_first s i l t h ∙ sym cut.1)) (λ t h. h.0) whole)
+        (IsLeast-same (On g (s ∷ []) i l) (Cut 0 (s ∷ [])) (parts_sum p r 0 i) _ (λ t h. (h, only-first s i l t h ∙ sym cut.1)) (λ t h. h.0) whole)
     cut_least k (s ∷ x ∷ ss) v w e cut kids = by (rest_node (x ∷ ss) r (suc k) (i + m) (l - m)) refl kids
       where
         by : (os : List OrNode) → rest_node (x ∷ ss) r (suc k) (i + m) (l - m) ≡ os → KidsLeast (symbol_node s i m ∷ os) v w

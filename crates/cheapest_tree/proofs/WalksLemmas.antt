@@ -22,7 +22,7 @@ use Rattle.parse_graph.specs.declared.kid.Kid.TheVariants.{Nothing}
 use Rattle.cheapest_tree.specs.declared.slots.Links.{Links}
 use Rattle.cheapest_tree.specs.AtNodes.{IsAt, sum_at, NodeLeast, top_arc, arc_total, with_rule}
 use Rattle.cheapest_tree.specs.Pricers.{value_at, IsSlot, IsLink, IsBest}
-use Rattle.cheapest_tree.specs.Walks.{start_of, steps_of, HasRoom, AsksNode, WritesAt, AsksSlot, WritesSlot, node_left, slot_left}
+use Rattle.cheapest_tree.specs.Walks.{start_of, steps_of, HasRoom, AsksNode, WritesAt, AsksArc, WritesUnder, WritesArc, AsksSlot, WritesSlot, node_left, arc_left, slot_left}
 use Rattle.cheapest_tree.proofs.StandLemmas.{Standing, arc-standing}
 use Rattle.cheapest_tree.proofs.TopArcLemmas.{KidsLeast, arc-least}
 use Rattle.cheapest_tree.proofs.PassesLemmas.{kids-least}
@@ -75,20 +75,60 @@ second_at (s ∷ Name x ∷ []) a o q os e = ap second_start e
 second_at (s ∷ x ∷ y ∷ ss) a o q os e = ap second_start e
 
 module _ (v : GraphView) (links : Links) (best : List ℕ) (m : ℕ) (room : RoomView) (asked : AsksNode v links best m room) where
-  -- the arc that the walk takes
-  pub chosen : IsBest asked.g asked.p v asked.node (value_at asked.w.values m) (slice_index best m)
-  chosen = subst (λ (q : List ℕ). IsBest asked.g asked.p v asked.node (value_at asked.w.values m) (slice_index q m)) asked.same_best
+  -- the arc that the walk takes at a node
+  pub its-best : IsBest asked.g asked.p v asked.node (value_at asked.w.values m) (slice_index best m)
+  its-best = subst (λ (q : List ℕ). IsBest asked.g asked.p v asked.node (value_at asked.w.values m) (slice_index q m)) asked.same_best
       (at_some (value_at asked.w.values m) asked.sum _ asked.value (asked.filled.arcs m asked.node asked.at))
 
-  stands : Standing asked.g chosen.key
-  stands = arc-standing asked.g chosen.key (asked.graph.arcs.sound (slice_index best m) chosen.key chosen.at)
+  pub node-inside : m < length best
+  node-inside = let lt = slice_get_within v.nodes m asked.node asked.at in let e = ap length (sym asked.same_best) ∙ asked.made.nodes in omega (arith, lt, e)
+
+  -- the node has a best arc
+  pub has-best : slice_get best m ≡ Some (slice_index best m)
+  has-best = slice_get-get_or best m 0 node-inside
+
+  -- it is asked for
+  abbrev pub asks-best : AsksArc v links best (slice_index best m) room
+  asks-best = record {
+    g = asked.g;
+    p = asked.p;
+    w = asked.w;
+    sound = asked.sound;
+    graph = asked.graph;
+    made = asked.made;
+    filled = asked.filled;
+    same_links = asked.same_links;
+    same_best = asked.same_best;
+    node = asked.node;
+    value = value_at asked.w.values m;
+    chosen = its-best;
+    sum = asked.sum;
+    some = asked.value;
+    space = asked.space;
+  }
+
+  -- it comes next
+  pub falls-best : arc_left (slice_index best m) < node_left (slice_get best m)
+  falls-best = subst (λ (q : Option ℕ). arc_left (slice_index best m) < node_left q) (sym has-best) (omega arith)
+
+  -- what is written for it is what stands at the node with the least sum
+  pub writes-best : (new : RoomView) → WritesArc v links best (slice_index best m) room new → WritesAt asked.g asked.p asked.node (start_of asked.node) room new
+  writes-best new wrote =
+      let t : WritesUnder asked.g asked.p asked.node its-best.key (start_of asked.node) room new = wrote asks-best in
+      let same : sum_at asked.p asked.node t.0 ≡ value_at asked.w.values m =
+      IsLeast-one (λ u. IsAt asked.g asked.node u × (top_arc asked.node u ≡ its-best.key)) (sum_at asked.p asked.node) _ _ t.2 its-best.least in
+      (t.0, t.1.0, subst (λ (q : Option ℤ). NodeLeast asked.g asked.p asked.node q) (sym same) (asked.filled.nodes m asked.node asked.at), t.3)
+
+module _ (v : GraphView) (links : Links) (best : List ℕ) (a : ℕ) (room : RoomView) (asked : AsksArc v links best a room) where
+  stands : Standing asked.g asked.chosen.key
+  stands = arc-standing asked.g asked.chosen.key (asked.graph.arcs.sound a asked.chosen.key asked.chosen.at)
 
   -- is there
-  pub arc-inside : slice_index best m < length v.arcs
-  arc-inside = slice_get_within v.arcs (slice_index best m) chosen.key chosen.at
+  pub arc-inside : a < length v.arcs
+  arc-inside = slice_get_within v.arcs a asked.chosen.key asked.chosen.at
 
-  pub key-read : (d : ArcKey) → get_or v.arcs (slice_index best m) d ≡ chosen.key
-  key-read d = get_or_from_slice_get v.arcs (slice_index best m) chosen.key d chosen.at
+  pub key-read : (d : ArcKey) → get_or v.arcs a d ≡ asked.chosen.key
+  key-read d = get_or_from_slice_get v.arcs a asked.chosen.key d asked.chosen.at
 
   pub links-count : (length links.first ≡ length v.arcs) × (length links.rest ≡ length v.arcs)
   links-count = (ap (λ (q : Links). length q.first) (sym asked.same_links) ∙ asked.made.links.first, ap (λ (q : Links). length q.rest) (sym asked.same_links) ∙ asked.made.links.rest)
@@ -96,36 +136,29 @@ module _ (v : GraphView) (links : Links) (best : List ℕ) (m : ℕ) (room : Roo
   best_count : length best ≡ length v.nodes
   best_count = ap length (sym asked.same_best) ∙ asked.made.nodes
 
-  pub node-inside : m < length best
-  node-inside = let lt = slice_get_within v.nodes m asked.node asked.at in let e = best_count in omega (arith, lt, e)
-
-  -- the node has a best arc
-  pub has-best : slice_get best m ≡ Some (slice_index best m)
-  has-best = slice_get-get_or best m 0 node-inside
-
-  module _ (first_slot rest_slot : ℕ) (first_is : first_slot ≡ slice_index links.first (slice_index best m)) (rest_is : rest_slot ≡ slice_index links.rest (slice_index best m)) where
-    linked : IsLink v asked.w.letters (slice_index best m) (slice_index links.made (slice_index best m)) first_slot rest_slot
+  module _ (first_slot rest_slot : ℕ) (first_is : first_slot ≡ slice_index links.first a) (rest_is : rest_slot ≡ slice_index links.rest a) where
+    linked : IsLink v asked.w.letters a (slice_index links.made a) first_slot rest_slot
     linked =
-        let its = subst (λ (q : Links). IsLink v asked.w.letters (slice_index best m) (slice_index q.made (slice_index best m)) (slice_index q.first (slice_index best m)) (slice_index q.rest (slice_index best m)))
-        asked.same_links (asked.made.links.each (slice_index best m) arc-inside) in
+        let its = subst (λ (q : Links). IsLink v asked.w.letters a (slice_index q.made a) (slice_index q.first a) (slice_index q.rest a))
+        asked.same_links (asked.made.links.each a arc-inside) in
         rw (first_is, rest_is) its
 
-    kids : AreKids v.nodes (used asked.g chosen.key) linked.kids
-    kids = link-kids asked.g asked.p v asked.graph asked.w.letters (slice_index best m) chosen.key chosen.at (slice_index links.made (slice_index best m)) first_slot rest_slot linked
+    kids : AreKids v.nodes (used asked.g asked.chosen.key) linked.kids
+    kids = link-kids asked.g asked.p v asked.graph asked.w.letters a asked.chosen.key asked.chosen.at (slice_index links.made a) first_slot rest_slot linked
 
-    least_kids : KidsLeast asked.g asked.p (used asked.g chosen.key) (value_at asked.w.values first_slot) (value_at asked.w.values rest_slot)
-    least_kids = kids-least asked.g asked.p v asked.graph asked.w.letters asked.w.values asked.filled.priced chosen.key (λ n o at h. asked.filled.nodes n o at)
+    least_kids : KidsLeast asked.g asked.p (used asked.g asked.chosen.key) (value_at asked.w.values first_slot) (value_at asked.w.values rest_slot)
+    least_kids = kids-least asked.g asked.p v asked.graph asked.w.letters asked.w.values asked.filled.priced asked.chosen.key (λ n o at h. asked.filled.nodes n o at)
         linked.kids first_slot rest_slot linked.first linked.rest kids
 
-    total : value_at asked.w.values m ≡ arc_total asked.p chosen.key (value_at asked.w.values first_slot) (value_at asked.w.values rest_slot)
+    total : asked.value ≡ arc_total asked.p asked.chosen.key (value_at asked.w.values first_slot) (value_at asked.w.values rest_slot)
     total =
-        let one = arc-least asked.g asked.p chosen.key stands (value_at asked.w.values first_slot) (value_at asked.w.values rest_slot) least_kids in
-        let two = subst (λ (o : OrNode). IsLeast (λ t. IsAt asked.g o t × (top_arc o t ≡ chosen.key)) (sum_at asked.p o)
-        (arc_total asked.p chosen.key (value_at asked.w.values first_slot) (value_at asked.w.values rest_slot))) chosen.makes one in
-        IsLeast-one (λ t. IsAt asked.g asked.node t × (top_arc asked.node t ≡ chosen.key)) (sum_at asked.p asked.node) _ _ chosen.least two
+        let one = arc-least asked.g asked.p asked.chosen.key stands (value_at asked.w.values first_slot) (value_at asked.w.values rest_slot) least_kids in
+        let two = subst (λ (o : OrNode). IsLeast (λ t. IsAt asked.g o t × (top_arc o t ≡ asked.chosen.key)) (sum_at asked.p o)
+        (arc_total asked.p asked.chosen.key (value_at asked.w.values first_slot) (value_at asked.w.values rest_slot))) asked.chosen.makes one in
+        IsLeast-one (λ t. IsAt asked.g asked.node t × (top_arc asked.node t ≡ asked.chosen.key)) (sum_at asked.p asked.node) _ _ asked.chosen.least two
 
-    inner_there : (y : ℤ) × (plus (value_at asked.w.values first_slot) (plus (Some (asked.p.arc_of chosen.key)) (value_at asked.w.values rest_slot)) ≡ Some y)
-    inner_there = parts_there asked.p chosen.key.rule chosen.key.suffix _ asked.sum (sym total ∙ asked.value)
+    inner_there : (y : ℤ) × (plus (value_at asked.w.values first_slot) (plus (Some (asked.p.arc_of asked.chosen.key)) (value_at asked.w.values rest_slot)) ≡ Some y)
+    inner_there = parts_there asked.p asked.chosen.key.rule asked.chosen.key.suffix _ asked.sum (sym total ∙ asked.some)
 
     first_there : (y : ℤ) × (value_at asked.w.values first_slot ≡ Some y)
     first_there = left_there (value_at asked.w.values first_slot) _ inner_there.0 inner_there.1
@@ -133,42 +166,42 @@ module _ (v : GraphView) (links : Links) (best : List ℕ) (m : ℕ) (room : Roo
     rest_there : (y : ℤ) × (value_at asked.w.values rest_slot ≡ Some y)
     rest_there =
         let r = right_there (value_at asked.w.values first_slot) _ inner_there.0 inner_there.1 in
-        right_there (Some (asked.p.arc_of chosen.key)) (value_at asked.w.values rest_slot) r.0 r.1
+        right_there (Some (asked.p.arc_of asked.chosen.key)) (value_at asked.w.values rest_slot) r.0 r.1
 
     -- a value that is there is attained
     attained : (o : OrNode) (w : Option ℤ) (y : ℤ) → NodeLeast asked.g asked.p o w → w ≡ Some y → (t : Parts) × IsAt asked.g o t
     attained o None y least e = cc
     attained o (Some z) y least e = (least.attained.0, least.attained.1)
 
-    built_of : (t u : Parts) → KidsAt asked.g asked.p (used asked.g chosen.key) t u → Built asked.g asked.p chosen.key t u
-    built_of t u h = built asked.g asked.p chosen.key stands t u h
+    built_of : (t u : Parts) → KidsAt asked.g asked.p (used asked.g asked.chosen.key) t u → Built asked.g asked.p asked.chosen.key t u
+    built_of t u h = built asked.g asked.p asked.chosen.key stands t u h
 
     -- there is room for what is put together
-    fits : (t u : Parts) → KidsAt asked.g asked.p (used asked.g chosen.key) t u → length room.steps + (length (steps_of chosen.key) + (use_count t + use_count u)) ≤ room.most
+    fits : (t u : Parts) → KidsAt asked.g asked.p (used asked.g asked.chosen.key) t u → length room.steps + (length (steps_of asked.chosen.key) + (use_count t + use_count u)) ≤ room.most
     fits t u h =
         let b = built_of t u h in
-        let on : IsAt asked.g asked.node b.whole = subst (λ (o : OrNode). IsAt asked.g o b.whole) chosen.makes b.on in
+        let on : IsAt asked.g asked.node b.whole = subst (λ (o : OrNode). IsAt asked.g o b.whole) asked.chosen.makes b.on in
         let space = asked.space b.whole on in
         let count = b.count in
         omega (arith, space, count)
 
     -- one kid, or two
     abbrev One : Type 0
-    One = (o : OrNode) × (used asked.g chosen.key ≡ o ∷ []) × IsKid v.nodes o linked.kids.0 × (linked.kids.1 ≡ Nothing)
+    One = (o : OrNode) × (used asked.g asked.chosen.key ≡ o ∷ []) × IsKid v.nodes o linked.kids.0 × (linked.kids.1 ≡ Nothing)
 
     abbrev Two : Type 0
-    Two = (o : OrNode) × (q : OrNode) × (used asked.g chosen.key ≡ o ∷ q ∷ []) × IsKid v.nodes o linked.kids.0 × IsKid v.nodes q linked.kids.1
+    Two = (o : OrNode) × (q : OrNode) × (used asked.g asked.chosen.key ≡ o ∷ q ∷ []) × IsKid v.nodes o linked.kids.0 × IsKid v.nodes q linked.kids.1
 
     kinds : One ⊎ Two
-    kinds = by (used asked.g chosen.key) refl kids
+    kinds = by (used asked.g asked.chosen.key) refl kids
       where
-        by : (os : List OrNode) → used asked.g chosen.key ≡ os → AreKids v.nodes os linked.kids → One ⊎ Two
+        by : (os : List OrNode) → used asked.g asked.chosen.key ≡ os → AreKids v.nodes os linked.kids → One ⊎ Two
         by [] e h = absurd h
         by (o ∷ []) e h = inl (o, e, h.0, h.1)
         by (o ∷ q ∷ []) e h = inr (o, q, e, h.0, h.1)
         by (o ∷ q ∷ s ∷ os) e h = absurd h
 
-    some_kids : (t : Parts) × (u : Parts) × KidsAt asked.g asked.p (used asked.g chosen.key) t u
+    some_kids : (t : Parts) × (u : Parts) × KidsAt asked.g asked.p (used asked.g asked.chosen.key) t u
     some_kids = elim kinds [
       | inl k ↦ let l = subst (λ (os : List OrNode). KidsLeast asked.g asked.p os (value_at asked.w.values first_slot) (value_at asked.w.values rest_slot)) k.1 least_kids in
           let t = attained k.0 _ first_there.0 l.0 first_there.1 in
@@ -180,10 +213,10 @@ module _ (v : GraphView) (links : Links) (best : List ℕ) (m : ℕ) (room : Roo
     ]
 
     -- there is room for the step of the arc
-    pub step-room : chosen.key.suffix ≡ 0 → length room.steps < room.most
-    step-room e = by chosen.key.suffix e (fits some_kids.0 some_kids.1 some_kids.2)
+    pub step-room : asked.chosen.key.suffix ≡ 0 → length room.steps < room.most
+    step-room e = by asked.chosen.key.suffix e (fits some_kids.0 some_kids.1 some_kids.2)
       where
-        by : (k : ℕ) → k ≡ 0 → length room.steps + (length (steps_of (record chosen.key { suffix = k })) + (use_count some_kids.0 + use_count some_kids.1)) ≤ room.most → length room.steps < room.most
+        by : (k : ℕ) → k ≡ 0 → length room.steps + (length (steps_of (record asked.chosen.key { suffix = k })) + (use_count some_kids.0 + use_count some_kids.1)) ≤ room.most → length room.steps < room.most
         by zero e h = omega (arith, h)
         by (suc k) e h = cc
 
@@ -264,9 +297,9 @@ module _ (v : GraphView) (links : Links) (best : List ℕ) (m : ℕ) (room : Roo
         let done_at : WritesAt asked.g asked.p (suffix r k j l) j old new = wrote.node lt (asks_kid (suffix r k j l) kid slot y old is at value space lt) in
         subst (λ (n : ℕ). WritesAt asked.g asked.p (suffix r k j l) n old new) (sym start) done_at
 
-    module _ (one : RoomView) (stepped : one ≡ record room { steps = room.steps ++ steps_of chosen.key }) where
-      one_steps : length one.steps ≡ length room.steps + length (steps_of chosen.key)
-      one_steps = ap (λ (q : RoomView). length q.steps) stepped ∙ length-append room.steps (steps_of chosen.key)
+    module _ (one : RoomView) (stepped : one ≡ record room { steps = room.steps ++ steps_of asked.chosen.key }) where
+      one_steps : length one.steps ≡ length room.steps + length (steps_of asked.chosen.key)
+      one_steps = ap (λ (q : RoomView). length q.steps) stepped ∙ length-append room.steps (steps_of asked.chosen.key)
 
       one_most : one.most ≡ room.most
       one_most = ap (λ (q : RoomView). q.most) stepped
@@ -296,15 +329,15 @@ module _ (v : GraphView) (links : Links) (best : List ℕ) (m : ℕ) (room : Roo
       ]
 
       module _ (mid : RoomView) (wrote : WritesSlot v links best first_slot one mid) where
-        only_wrote : (k : One) → WritesAt asked.g asked.p k.0 chosen.key.start one mid
+        only_wrote : (k : One) → WritesAt asked.g asked.p k.0 asked.chosen.key.start one mid
         only_wrote k =
             let l = subst (λ (os : List OrNode). KidsLeast asked.g asked.p os (value_at asked.w.values first_slot) (value_at asked.w.values rest_slot)) k.1 least_kids in
-            wrote_kid k.0 linked.kids.0 first_slot first_there.0 chosen.key.start one mid k.2 linked.first first_there.1 (only_room k) (first_at _ chosen.key k.0 [] k.1) l.0 wrote
+            wrote_kid k.0 linked.kids.0 first_slot first_there.0 asked.chosen.key.start one mid k.2 linked.first first_there.1 (only_room k) (first_at _ asked.chosen.key k.0 [] k.1) l.0 wrote
 
-        first_wrote : (k : Two) → WritesAt asked.g asked.p k.0 chosen.key.start one mid
+        first_wrote : (k : Two) → WritesAt asked.g asked.p k.0 asked.chosen.key.start one mid
         first_wrote k =
             let l = subst (λ (os : List OrNode). KidsLeast asked.g asked.p os (value_at asked.w.values first_slot) (value_at asked.w.values rest_slot)) k.2 least_kids in
-            wrote_kid k.0 linked.kids.0 first_slot first_there.0 chosen.key.start one mid k.3 linked.first first_there.1 (first_room k) (first_at _ chosen.key k.0 (k.1 ∷ []) k.2) l.0 wrote
+            wrote_kid k.0 linked.kids.0 first_slot first_there.0 asked.chosen.key.start one mid k.3 linked.first first_there.1 (first_room k) (first_at _ asked.chosen.key k.0 (k.1 ∷ []) k.2) l.0 wrote
 
         rest_room : (k : Two) → HasRoom asked.g k.1 mid
         rest_room k u h =
@@ -312,7 +345,7 @@ module _ (v : GraphView) (links : Links) (best : List ℕ) (m : ℕ) (room : Roo
             let f = fits t.0 u (subst (λ (os : List OrNode). KidsAt asked.g asked.p os t.0 u) (sym k.2) (t.1, h)) in
             let s = one_steps in
             let e = one_most in
-            let n : length mid.steps ≡ length one.steps + use_count t.0 = ap (λ (q : RoomView). length q.steps) t.3 ∙ length-append one.steps (steps chosen.key.start t.0) ∙ ap (λ (q : ℕ). length one.steps + q) (length-steps t.0 chosen.key.start) in
+            let n : length mid.steps ≡ length one.steps + use_count t.0 = ap (λ (q : RoomView). length q.steps) t.3 ∙ length-append one.steps (steps asked.chosen.key.start t.0) ∙ ap (λ (q : ℕ). length one.steps + q) (length-steps t.0 asked.chosen.key.start) in
             let e2 : mid.most ≡ one.most = ap (λ (q : RoomView). q.most) t.3 in
             omega (arith, f, s, e, n, e2)
 
@@ -329,40 +362,41 @@ module _ (v : GraphView) (links : Links) (best : List ℕ) (m : ℕ) (room : Roo
         module _ (new : RoomView) (last : WritesSlot v links best rest_slot mid new) where
           -- all steps together
           all_steps : (t u : Parts) (i j : ℕ) → mid ≡ record one { steps = one.steps ++ steps i t } → new ≡ record mid { steps = mid.steps ++ steps j u }
-              → new ≡ record room { steps = room.steps ++ (steps_of chosen.key ++ (steps i t ++ steps j u)) }
+              → new ≡ record room { steps = room.steps ++ (steps_of asked.chosen.key ++ (steps i t ++ steps j u)) }
           all_steps t u i j first rest =
               rest ∙ ap (λ (q : RoomView). record q { steps = q.steps ++ steps j u }) first
               ∙ ap (λ (q : RoomView). record q { steps = (q.steps ++ steps i t) ++ steps j u }) stepped
               ∙ ap (λ (q : List Step). record room { steps = q })
-              (append_assoc (room.steps ++ steps_of chosen.key) (steps i t) (steps j u) ∙ append_assoc room.steps (steps_of chosen.key) (steps i t ++ steps j u))
+              (append_assoc (room.steps ++ steps_of asked.chosen.key) (steps i t) (steps j u) ∙ append_assoc room.steps (steps_of asked.chosen.key) (steps i t ++ steps j u))
 
-          whole : (t u : Parts) → KidsAt asked.g asked.p (used asked.g chosen.key) t u
-              → first_sum asked.g asked.p (used asked.g chosen.key) t ≡ value_at asked.w.values first_slot → rest_sum asked.g asked.p (used asked.g chosen.key) u ≡ value_at asked.w.values rest_slot
-              → mid ≡ record one { steps = one.steps ++ steps chosen.key.start t } → new ≡ record mid { steps = mid.steps ++ steps (chosen.key.start + chosen.key.part) u }
-              → WritesAt asked.g asked.p asked.node (start_of asked.node) room new
+          whole : (t u : Parts) → KidsAt asked.g asked.p (used asked.g asked.chosen.key) t u
+              → first_sum asked.g asked.p (used asked.g asked.chosen.key) t ≡ value_at asked.w.values first_slot → rest_sum asked.g asked.p (used asked.g asked.chosen.key) u ≡ value_at asked.w.values rest_slot
+              → mid ≡ record one { steps = one.steps ++ steps asked.chosen.key.start t } → new ≡ record mid { steps = mid.steps ++ steps (asked.chosen.key.start + asked.chosen.key.part) u }
+              → WritesUnder asked.g asked.p asked.node asked.chosen.key (start_of asked.node) room new
           whole t u at ev ew first rest =
               let b = built_of t u at in
-              let on : IsAt asked.g asked.node b.whole = subst (λ (o : OrNode). IsAt asked.g o b.whole) chosen.makes b.on in
-              let start : start_of asked.node ≡ chosen.key.start = ap start_of (sym chosen.makes) ∙ made_start asked.g chosen.key.rule chosen.key.suffix chosen.key.start chosen.key.len in
-              let sum0 : sum_at asked.p (made asked.g chosen.key) b.whole ≡ value_at asked.w.values m =
-              b.sum ∙ ap (λ (q : Option ℤ). arc_total asked.p chosen.key q (rest_sum asked.g asked.p (used asked.g chosen.key) u)) ev
-              ∙ ap (λ (q : Option ℤ). arc_total asked.p chosen.key (value_at asked.w.values first_slot) q) ew ∙ sym total in
-              let sum : sum_at asked.p asked.node b.whole ≡ value_at asked.w.values m = subst (λ (o : OrNode). sum_at asked.p o b.whole ≡ value_at asked.w.values m) chosen.makes sum0 in
-              let all = all_steps t u chosen.key.start (chosen.key.start + chosen.key.part) first rest in
-              let written : steps (start_of asked.node) b.whole ≡ steps_of chosen.key ++ (steps chosen.key.start t ++ steps (chosen.key.start + chosen.key.part) u) =
+              let on : IsAt asked.g asked.node b.whole = subst (λ (o : OrNode). IsAt asked.g o b.whole) asked.chosen.makes b.on in
+              let top : top_arc asked.node b.whole ≡ asked.chosen.key = subst (λ (o : OrNode). top_arc o b.whole ≡ asked.chosen.key) asked.chosen.makes b.top in
+              let start : start_of asked.node ≡ asked.chosen.key.start = ap start_of (sym asked.chosen.makes) ∙ made_start asked.g asked.chosen.key.rule asked.chosen.key.suffix asked.chosen.key.start asked.chosen.key.len in
+              let sum0 : sum_at asked.p (made asked.g asked.chosen.key) b.whole ≡ asked.value =
+              b.sum ∙ ap (λ (q : Option ℤ). arc_total asked.p asked.chosen.key q (rest_sum asked.g asked.p (used asked.g asked.chosen.key) u)) ev
+              ∙ ap (λ (q : Option ℤ). arc_total asked.p asked.chosen.key (value_at asked.w.values first_slot) q) ew ∙ sym total in
+              let sum : sum_at asked.p asked.node b.whole ≡ asked.value = subst (λ (o : OrNode). sum_at asked.p o b.whole ≡ asked.value) asked.chosen.makes sum0 in
+              let all = all_steps t u asked.chosen.key.start (asked.chosen.key.start + asked.chosen.key.part) first rest in
+              let written : steps (start_of asked.node) b.whole ≡ steps_of asked.chosen.key ++ (steps asked.chosen.key.start t ++ steps (asked.chosen.key.start + asked.chosen.key.part) u) =
               ap (λ (n : ℕ). steps n b.whole) start ∙ b.written in (
                 b.whole,
-                on,
-                subst (λ (q : Option ℤ). NodeLeast asked.g asked.p asked.node q) (sym sum) (asked.filled.nodes m asked.node asked.at),
+                (on, top),
+                subst (λ (q : Option ℤ). IsLeast (λ w. IsAt asked.g asked.node w × (top_arc asked.node w ≡ asked.chosen.key)) (sum_at asked.p asked.node) q) (sym sum) asked.chosen.least,
                 all ∙ ap (λ (q : List Step). record room { steps = room.steps ++ q }) (sym written),
               )
 
           one_least : (o : OrNode) (a b : Option ℤ) → NodeLeast asked.g asked.p o a → NodeLeast asked.g asked.p o b → a ≡ b
           one_least o a b h k = IsLeast-one (IsAt asked.g o) (sum_at asked.p o) a b h k
 
-          -- are those of what stands at the node
-          pub writes-node : WritesAt asked.g asked.p asked.node (start_of asked.node) room new
-          writes-node = elim kinds [
+          -- are those of what stands at the node with the arc at the top
+          pub writes-under : WritesUnder asked.g asked.p asked.node asked.chosen.key (start_of asked.node) room new
+          writes-under = elim kinds [
             | inl k ↦ let l = subst (λ (os : List OrNode). KidsLeast asked.g asked.p os (value_at asked.w.values first_slot) (value_at asked.w.values rest_slot)) k.1 least_kids in
                 let t = only_wrote k in
                 let none : new ≡ mid = last.other (let e = nothing_slot k in let c = best_count in omega (arith, e, c)) in
@@ -372,7 +406,7 @@ module _ (v : GraphView) (links : Links) (best : List ℕ) (m : ℕ) (room : Roo
                 t.3 (none ∙ ap (λ (q : List Step). record mid { steps = q }) (sym (append-nil mid.steps)))
             | inr k ↦ let l = subst (λ (os : List OrNode). KidsLeast asked.g asked.p os (value_at asked.w.values first_slot) (value_at asked.w.values rest_slot)) k.2 least_kids in
                 let t = first_wrote k in
-                let u = wrote_kid k.1 linked.kids.1 rest_slot rest_there.0 (chosen.key.start + chosen.key.part) mid new k.4 linked.rest rest_there.1 (rest_room k) (second_at _ chosen.key k.0 k.1 [] k.2) l.1 last in
+                let u = wrote_kid k.1 linked.kids.1 rest_slot rest_there.0 (asked.chosen.key.start + asked.chosen.key.part) mid new k.4 linked.rest rest_there.1 (rest_room k) (second_at _ asked.chosen.key k.0 k.1 [] k.2) l.1 last in
                 whole t.0 u.0 (subst (λ (os : List OrNode). KidsAt asked.g asked.p os t.0 u.0) (sym k.2) (t.1, u.1))
                 (subst (λ (os : List OrNode). first_sum asked.g asked.p os t.0 ≡ value_at asked.w.values first_slot) (sym k.2) (one_least k.0 _ _ t.2 l.0))
                 (subst (λ (os : List OrNode). rest_sum asked.g asked.p os u.0 ≡ value_at asked.w.values rest_slot) (sym k.2) (one_least k.1 _ _ u.2 l.1))
@@ -380,17 +414,17 @@ module _ (v : GraphView) (links : Links) (best : List ℕ) (m : ℕ) (room : Roo
           ]
 
     -- the best arc of a kid comes before this one
-    kid_falls : (o : OrNode) (kid : Kid) (slot : ℕ) (y : ℤ) → In o (used asked.g chosen.key) → IsKid v.nodes o kid → IsSlot (length v.nodes) asked.w.letters kid slot
-        → value_at asked.w.values slot ≡ Some y → slot_left (slice_get best slot) < node_left (slice_get best m)
-    kid_falls o kid slot y below is at value = subst (λ (q : Option ℕ). slot_left (slice_get best slot) < node_left q) (sym has-best) (by (slice_get best slot) refl)
+    kid_falls : (o : OrNode) (kid : Kid) (slot : ℕ) (y : ℤ) → In o (used asked.g asked.chosen.key) → IsKid v.nodes o kid → IsSlot (length v.nodes) asked.w.letters kid slot
+        → value_at asked.w.values slot ≡ Some y → slot_left (slice_get best slot) < arc_left a
+    kid_falls o kid slot y below is at value = by (slice_get best slot) refl
       where
-        earlier : (n b : ℕ) → slot ≡ n → slice_get v.nodes n ≡ Some o → slice_get best slot ≡ Some b → b < slice_index best m
+        earlier : (n b : ℕ) → slot ≡ n → slice_get v.nodes n ≡ Some o → slice_get best slot ≡ Some b → b < a
         earlier n b e there has =
             let there2 : slice_get v.nodes slot ≡ Some o = ap (λ (q : ℕ). slice_get v.nodes q) e ∙ there in
             let c = subst (λ (q : List ℕ). IsBest asked.g asked.p v o (value_at asked.w.values slot) (slice_index q slot)) asked.same_best
             (at_some (value_at asked.w.values slot) y _ value (asked.filled.arcs slot o there2)) in
             let same : slice_index best slot ≡ b = get_or_from_slice_get best slot b 0 has in
-            let up = asked.graph.arcs.upward (slice_index best m) (slice_index best slot) chosen.key c.key chosen.at c.at (subst (λ (q : OrNode). In q (used asked.g chosen.key)) (sym c.makes) below) in
+            let up = asked.graph.arcs.upward a (slice_index best slot) asked.chosen.key c.key asked.chosen.at c.at (subst (λ (q : OrNode). In q (used asked.g asked.chosen.key)) (sym c.makes) below) in
             omega (arith, up, same)
 
         placed : (o : OrNode) → IsKid v.nodes o kid → (b : ℕ) → slice_get best slot ≡ Some b → (n : ℕ) × (slot ≡ n) × (slice_get v.nodes n ≡ Some o)
@@ -401,31 +435,31 @@ module _ (v : GraphView) (links : Links) (best : List ℕ) (m : ℕ) (room : Roo
         placed (name x i l) is b has = (is.0, subst (λ (q : Kid). IsSlot (length v.nodes) asked.w.letters q slot) is.1 at, is.2)
         placed (suffix r k i l) is b has = (is.0, subst (λ (q : Kid). IsSlot (length v.nodes) asked.w.letters q slot) is.1 at, is.2)
 
-        by : (q : Option ℕ) → slice_get best slot ≡ q → slot_left q < node_left (Some (slice_index best m))
+        by : (q : Option ℕ) → slice_get best slot ≡ q → slot_left q < arc_left a
         by None e = omega arith
         by (Some b) e =
             let n = placed o is b e in
             let lt = earlier n.0 b n.1 n.2 e in
             omega (arith, lt)
 
-    pub falls-first : slot_left (slice_get best first_slot) < node_left (slice_get best m)
+    pub falls-first : slot_left (slice_get best first_slot) < arc_left a
     falls-first = elim kinds [
       | inl k ↦ kid_falls k.0 linked.kids.0 first_slot first_there.0 (subst (λ (os : List OrNode). In k.0 os) (sym k.1) (inl refl)) k.2 linked.first first_there.1
       | inr k ↦ kid_falls k.0 linked.kids.0 first_slot first_there.0 (subst (λ (os : List OrNode). In k.0 os) (sym k.2) (inl refl)) k.3 linked.first first_there.1
     ]
 
-    pub falls-rest : slot_left (slice_get best rest_slot) < node_left (slice_get best m)
+    pub falls-rest : slot_left (slice_get best rest_slot) < arc_left a
     falls-rest = elim kinds [
       | inl k ↦ none k
       | inr k ↦ kid_falls k.1 linked.kids.1 rest_slot rest_there.0 (subst (λ (os : List OrNode). In k.1 os) (sym k.2) (inr (inl refl))) k.4 linked.rest rest_there.1
     ]
       where
-        none : One → slot_left (slice_get best rest_slot) < node_left (slice_get best m)
-        none k = subst (λ (q : Option ℕ). slot_left (slice_get best rest_slot) < node_left q) (sym has-best) (by (slice_get best rest_slot) refl)
+        none : One → slot_left (slice_get best rest_slot) < arc_left a
+        none k = by (slice_get best rest_slot) refl
           where
             slot_is : rest_slot ≡ length v.nodes
             slot_is = subst (λ (q : Kid). IsSlot (length v.nodes) asked.w.letters q rest_slot) k.3 linked.rest
 
-            by : (q : Option ℕ) → slice_get best rest_slot ≡ q → slot_left q < node_left (Some (slice_index best m))
+            by : (q : Option ℕ) → slice_get best rest_slot ≡ q → slot_left q < arc_left a
             by None e = omega arith
             by (Some b) e = let lt = slice_get_within best rest_slot b e in let c = best_count in let s = slot_is in absurd (omega (arith, lt, c, s))

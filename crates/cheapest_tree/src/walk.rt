@@ -1,5 +1,5 @@
 ghost use Rattle.std.specs.Prelude.{◌≡◌, ◌<◌, ◌++◌, length};
-ghost use Rattle.cheapest_tree.specs.Walks.{steps_of, AsksNode, WritesNode, AsksSlot, WritesSlot};
+ghost use Rattle.cheapest_tree.specs.Walks.{steps_of, AsksNode, WritesNode, AsksArc, WritesArc, AsksSlot, WritesSlot};
 
 use crate::slots::Links;
 use parse_graph::Graph;
@@ -25,10 +25,20 @@ pub fn write_node(graph: &Graph, links: &Links, best: &[u32], node: u32, room: &
     requires { AsksNode graph.now links.now best.now node room.old }
     ensures { WritesNode graph.now links.now best.now node room.old room.new }
 {
-    let arc = best[node as usize] as usize;
-    let first = links.first.as_slice()[arc];
-    let rest = links.rest.as_slice()[arc];
-    write_step(&graph.arcs()[arc], room);
+    write_under(graph, links, best, best[node as usize], room);
+}
+
+/// Adds the steps of a tree of least sum among those with an arc at the top, or of such parts. Takes
+/// no memory.
+#[cycle(walk)]
+pub fn write_under(graph: &Graph, links: &Links, best: &[u32], arc: u32, room: &mut TreeRoom)
+    requires { AsksArc graph.now links.now best.now arc room.old }
+    ensures { WritesArc graph.now links.now best.now arc room.old room.new }
+{
+    let place = arc as usize;
+    let first = links.first.as_slice()[place];
+    let rest = links.rest.as_slice()[place];
+    write_step(&graph.arcs()[place], room);
     write_slot(graph, links, best, first, room);
     write_slot(graph, links, best, rest, room);
 }
