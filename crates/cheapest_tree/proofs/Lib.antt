@@ -7,3 +7,4 @@ pub mod LinksLemmas
 pub mod PartsAtLemmas
 pub mod WalksLemmas
 pub mod RootLemmas
+pub mod UnderLemmas

@@ -17,9 +17,9 @@ use Rattle.cheapest_tree.specs.Pricers.{PricerView, value_at, IsMadeFor, AsksTre
 use Rattle.cheapest_tree.specs.Walks.{AsksNode, WritesAt, WritesNode}
 
 -- where something has a sum, there is a least one
-least_there : {A : Type 0} (P : A → Type 0) (sum : A → Option ℤ) (v : Option ℤ) (a : A) → IsLeast P sum v → P a → IsSome (sum a) → (y : ℤ) × (v ≡ Some y)
-least_there P sum (Some y) a h k some = (y, refl)
-least_there P sum None a h k some = absurd (none (sum a) (h.least a k) some)
+pub least-there : {A : Type 0} (P : A → Type 0) (sum : A → Option ℤ) (v : Option ℤ) (a : A) → IsLeast P sum v → P a → IsSome (sum a) → (y : ℤ) × (v ≡ Some y)
+least-there P sum (Some y) a h k some = (y, refl)
+least-there P sum None a h k some = absurd (none (sum a) (h.least a k) some)
   where
     none : (w : Option ℤ) → AtMost None w → IsSome w → ⊥
     none None m s = cc
@@ -33,7 +33,7 @@ module _ (g : Grammar) (p : PriceView) (v : GraphView) (w : PricerView) (links :
 
   -- and has a value
   pub root-value : (y : ℤ) × (value_at w.values n ≡ Some y)
-  root-value = least_there (IsDayTree g) (tree_sum p 1) (value_at w.values n) asks.sum.0 (asks.filled.nodes n (root_of g) root-there) asks.sum.1 asks.sum.2
+  root-value = least-there (IsDayTree g) (tree_sum p 1) (value_at w.values n) asks.sum.0 (asks.filled.nodes n (root_of g) root-there) asks.sum.1 asks.sum.2
 
   -- what is asked at the root
   abbrev pub asks-root : AsksNode v links best n room

@@ -3,3 +3,4 @@ pub mod Numbering
 pub mod Pricers
 pub mod Passes
 pub mod Walks
+pub mod Under

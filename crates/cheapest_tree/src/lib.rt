@@ -7,6 +7,7 @@ mod letters;
 mod pricer;
 mod slots;
 mod sums;
+mod under;
 mod walk;
 
 pub use pricer::Pricer;

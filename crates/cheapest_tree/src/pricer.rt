@@ -1,16 +1,19 @@
-ghost use Rattle.std.specs.Prelude.{◌≡◌, ◌+◌, IfOk, length};
+ghost use Rattle.std.specs.Prelude.{◌≡◌, ◌+◌, ◌<◌, IfOk, length};
 ghost use Rattle.roster_model.specs.declared.grammar.Grammar.{Grammar as Rules};
 ghost use Rattle.roster_model.specs.Sound.{IsSound};
 ghost use Rattle.roster_model.specs.Trees.{IsDayTree};
 ghost use Rattle.roster_model.specs.Sums.{IsLeast, tree_sum};
 ghost use Rattle.tree_laws.specs.LeastTrees.{HoldsLeastTree};
 ghost use Rattle.parse_graph.specs.Graphs.{GraphView, HasGrammar, IsGraph};
+ghost use Rattle.roster_model.specs.declared.grammar.ArcKey.{ArcKey as Key};
 ghost use Rattle.cheapest_tree.specs.Pricers.{IsMadeFor, IsFilled, AsksTree};
+ghost use Rattle.cheapest_tree.specs.Under.{IsTop, IsReady, IsDayTreeUnder, AsksTreeUnder, HoldsLeastUnder};
 
 use crate::fill::fill;
 use crate::join::join;
 use crate::slots::{Links, Spot};
-use crate::walk::write_node;
+use crate::under::least_under;
+use crate::walk::{write_node, write_under};
 use parse_graph::Graph;
 use roster_model::{LetterPrice, List, Memory, TreeRoom};
 use span_cells::Cell;
@@ -115,5 +118,37 @@ impl Pricer {
             return;
         };
         write_node(graph, &self.links, self.best.as_slice(), root, room);
+    }
+
+    /// Returns the least sum over the trees of the day with an arc at the top, under the prices for
+    /// which the pricer is filled; `None` exactly where no such tree has a sum. Takes no memory.
+    pub fn sum_under<P: LetterPrice>(&self, graph: &Graph, prices: &P, arc: u32) -> Option<i128>
+        requires arc { arc < length graph.now.arcs }
+        requires made { IsMadeFor graph.now self.now }
+        requires ready { (g : Rules) × IsReady g (P.view prices.now) graph.now self.now }
+        ensures least { (g : Rules) (a : Key) → IsReady g (P.view prices.now) graph.now self.now
+            → IsTop g graph.now arc a
+            → IsLeast (IsDayTreeUnder g a) (tree_sum (P.view prices.now) 1) result }
+    {
+        least_under(graph, prices, &self.links, self.values.as_slice(), arc)
+    }
+
+    /// Leaves in the room the steps of a tree of the day of least sum among those with an arc at the
+    /// top, under the prices for which the pricer is filled. Takes no memory.
+    pub fn tree_under<P: LetterPrice>(
+        &self,
+        graph: &Graph,
+        prices: &P,
+        arc: u32,
+        room: &mut TreeRoom,
+    )
+        requires made { IsMadeFor graph.now self.now }
+        requires asks { (g : Rules) × (a : Key) × AsksTreeUnder g (P.view prices.now) graph.now self.now arc a room.old }
+        ensures tree { (g : Rules) (a : Key) → AsksTreeUnder g (P.view prices.now) graph.now self.now arc a room.old
+            → HoldsLeastUnder g (P.view prices.now) a room.new }
+        ensures kept { room.new.most ≡ room.old.most }
+    {
+        room.clear();
+        write_under(graph, &self.links, self.best.as_slice(), arc, room);
     }
 }
