@@ -1,5 +1,5 @@
 -- Open leaves in any order.
-use Rattle.std.specs.Prelude.{ℕ, ◌≡◌, Bool, List}
+use Rattle.std.specs.Prelude.{◌≡◌, Bool, List}
 use Rattle.roster_model.specs.Folds.{count}
 use Rattle.open_nodes.specs.declared.leaf.OpenLeaf.{OpenLeaf}
 

@@ -2,25 +2,34 @@ ghost use Rattle.std.specs.Prelude.{◌≡◌, ◌≤◌, [], ◌∷◌, MatchOp
 ghost use Rattle.roster_model.specs.Folds.{Each};
 ghost use Rattle.open_nodes.specs.Queues.{SameLeaves};
 
-use crate::leaf::OpenLeaf;
+use crate::entry::Entry;
+use crate::leaf::{Kept, OpenLeaf};
 use roster_model::Memory;
+use slab::Slab;
 use std::alloc::Global;
+use std::cmp::Reverse;
+use std::collections::BinaryHeap;
 use std::marker::Model;
 
 /// Open leaves, of which one of least bound is known at once. Of leaves with the same bound the deepest
 /// one comes first, and of these the one with the greatest seat.
 #[derive(Drop)]
 pub struct OpenNodes {
-    list: Vec<OpenLeaf>,
+    heap: BinaryHeap<Entry>,
+    kept: Slab<Kept>,
 }
 
 impl Model for OpenNodes {
-    ghost use Rattle.std.specs.Prelude.{List};
+    ghost use Rattle.std.specs.Prelude.{List, map};
+    ghost use Rattle.std.specs.BinaryHeap.{heap_items, IsHeap};
     ghost use Rattle.open_nodes.specs.declared.leaf.OpenLeaf.{OpenLeaf as Leaf};
+    ghost use Rattle.open_nodes.specs.Held.{leaf_of, AreHeld};
 
     ghost Value = { List Leaf };
 
-    ghost view = { λ q. q.list.items };
+    ghost view = { λ q. map (leaf_of q.kept) (heap_items q.heap) };
+
+    ghost invariant = { λ q. IsHeap ⟦<Entry as Ord>⟧.cmp (heap_items q.heap) × AreHeld (heap_items q.heap) q.kept };
 }
 
 impl OpenNodes {
@@ -29,7 +38,8 @@ impl OpenNodes {
         ensures { result ≡ [] }
     {
         OpenNodes {
-            list: Vec::new(alloc),
+            heap: BinaryHeap::new(alloc),
+            kept: Slab::new(alloc),
         }
     }
 
@@ -38,15 +48,33 @@ impl OpenNodes {
         ensures ok { OnOk result (SameLeaves (leaf ∷ self.old) self.new) }
         ensures err { OnErr result (SameLeaves self.old self.new) }
     {
-        Err(Memory)
+        let Ok(()) = self.heap.reserve(1) else {
+            return Err(Memory);
+        };
+        let Ok(key) = self.kept.insert(leaf.kept) else {
+            return Err(Memory);
+        };
+        let entry = Entry {
+            bound: Reverse(leaf.bound),
+            depth: leaf.depth,
+            seat: leaf.kept.seat,
+            key,
+        };
+        let _ = self.heap.push(entry);
+        Ok(())
     }
 
     /// Removes a leaf of least bound; `None` exactly where there is none.
     pub fn pop(&mut self) -> Option<OpenLeaf>
-        requires stub { ⊥ }
         ensures { MatchOption result (self.old ≡ []) (λ leaf. SameLeaves self.old (leaf ∷ self.new)
             × Each (λ o. leaf.bound ≤ o.bound) self.new) }
     {
-        None
+        let entry = self.heap.pop()?;
+        let kept = self.kept.remove(entry.key);
+        Some(OpenLeaf {
+            bound: entry.bound.0,
+            depth: entry.depth,
+            kept,
+        })
     }
 }
