@@ -1,1 +1,5 @@
 pub mod Weighed
+pub mod Denominators
+pub mod Sums
+pub mod Choices
+pub mod Loops

@@ -1,6 +1,10 @@
 //! The weights of a solution's trees, summed by the trees' arcs.
 #![tactic(auto)]
 
+mod apart;
+mod choice;
+mod denominator;
+mod sums;
 mod weighed;
 
 pub use weighed::{Weighed, weigh};

@@ -7,6 +7,10 @@ ghost use Rattle.tree_pool.specs.Pools.{IsPool};
 ghost use Rattle.node_master.specs.Ends.{AreLeastWeights};
 ghost use Rattle.arc_weights.specs.Weighed.{IsWeighed};
 
+use crate::apart::are_apart;
+use crate::choice::conclude;
+use crate::denominator::common_denominator;
+use crate::sums::arc_sums;
 use arc_branch::ArcBox;
 use node_master::{Pool, Weight};
 use parse_graph::Graph;
@@ -45,5 +49,10 @@ pub fn weigh(
     requires weights { AreLeastWeights instance.now cuts.now pool.now weights.now }
     ensures { IfOk result (IsWeighed instance.now graph.now cuts.now pool.now weights.now) }
 {
-    Err(Memory)
+    let Some(d) = common_denominator(weights) else {
+        // No basis has a tree twice; where one stood there, no weight of it would be known.
+        return if are_apart(weights) { Ok(Weighed::Other) } else { Err(Memory) };
+    };
+    let sums = arc_sums(alloc, graph, pool, weights, d)?;
+    conclude(alloc, graph, arc_box, sums.as_slice(), d)
 }

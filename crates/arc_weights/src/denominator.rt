@@ -1,0 +1,34 @@
+ghost use Rattle.std.specs.Prelude.{◌<◌, ◌≤◌, IfSome, IfNone};
+ghost use Rattle.arc_weights.specs.Denominators.{IsCommonMultiple, IsPast, IsDenominator, AreAllPast};
+
+use fraction::gcd_unsigned;
+use node_master::Weight;
+
+const MOST: u128 = 1 << 100;
+
+// Returns the least common multiple of two numbers, or none where it is above 2^100.
+fn common_multiple(d: u128, n: u128) -> Option<u128>
+    requires d { 1 ≤ d }
+    requires n { 1 ≤ n }
+    ensures multiple { IfSome result (IsCommonMultiple d n) }
+    ensures past { IfNone result (IsPast d n) }
+{
+    let part = n / gcd_unsigned(n, d);
+    let multiple = part.checked_mul(d)?;
+    if multiple > MOST {
+        return None;
+    }
+    Some(multiple)
+}
+
+// Returns the least common denominator of the weights, or none where it is above 2^100.
+pub fn common_denominator(weights: &[Weight]) -> Option<u128>
+    ensures common { IfSome result (IsDenominator weights.now) }
+    ensures past { IfNone result (AreAllPast weights.now) }
+{
+    let mut d = 1;
+    for weight in weights {
+        d = common_multiple(d, weight.x.den().unsigned_abs())?;
+    }
+    Some(d)
+}
