@@ -13,7 +13,8 @@ use Rattle.node_master.specs.declared.ends.Weight.{Weight}
 use Rattle.arc_weights.specs.Sums.{unit, arcs_of_some, arcs_at, arc_units, StandOnce, HaveRoom, AreInPool, AreSums}
 use Rattle.arc_weights.specs.Loops.{AreAddedBefore, AreSummedBefore}
 
-get_lt : {A : Type 0} (xs : List A) (p : ℕ) (x : A) → slice_get xs p ≡ Some x → p < length xs
+-- what stands at a place is within the list
+pub get_lt : {A : Type 0} (xs : List A) (p : ℕ) (x : A) → slice_get xs p ≡ Some x → p < length xs
 get_lt [] p x e = cc
 get_lt (y ∷ xs) zero x e = omega arith
 get_lt (y ∷ xs) (suc p) x e = omega (arith, get_lt xs p x e)

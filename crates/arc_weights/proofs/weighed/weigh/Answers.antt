@@ -1,0 +1,32 @@
+use Rattle.std.proofs.Common.{rules, ◌≡◌, Result, Ok, Err, IfOk}
+use Rattle.arc_weights.specs.Denominators.{AreAllPast}
+use Rattle.arc_weights.specs.Choices.{IsAnswer}
+use Rattle.arc_weights.proofs.Weighing.{past_is, pool_is, room_is, few_is, answer_is}
+use Rattle.arc_weights.proofs.weighed.weigh.Goals as goal
+
+pub returns-then-are_apart : goal.returns-then-are_apart
+returns-then-are_apart c =
+    let past : AreAllPast c.args.weights.now = c.in_default.ensures.past in
+    past_is c.args.instance.now c.args.graph.now c.args.cuts.now c.args.pool.now c.args.weights.now c.requires.sound c.requires.graph c.requires.pool past (c.are_apart.ensures (search rules))
+
+pub arc_sums-requires-clause-pool : goal.arc_sums-requires-clause-pool
+arc_sums-requires-clause-pool c = pool_is c.args.instance.now c.args.graph.now c.args.cuts.now c.args.pool.now c.args.weights.now c.requires.sound c.requires.graph c.requires.pool c.in-Some.d c.in-Some.ensures.common c.requires.weights
+
+pub arc_sums-requires-clause-room : goal.arc_sums-requires-clause-room
+arc_sums-requires-clause-room c = room_is c.args.instance.now c.args.graph.now c.args.cuts.now c.args.pool.now c.args.weights.now c.requires.sound c.requires.graph c.requires.pool c.in-Some.d c.in-Some.ensures.common c.requires.weights
+
+pub conclude-requires-clause-few : goal.conclude-requires-clause-few
+conclude-requires-clause-few c =
+    let e : c.as_slice.result.now ≡ c.in_ok-sums.sums.items = search rules in
+    rw e (few_is c.args.instance.now c.args.graph.now c.args.cuts.now c.args.pool.now c.args.weights.now c.requires.sound c.requires.graph c.requires.pool c.in-Some.d c.in-Some.ensures.common c.in_ok-sums.sums.items c.in_ok-sums.ensures c.requires.weights)
+
+if_ok : {A E : Type 0} (P Q : A → Type 0) (r : Result A E) → ((x : A) → P x → Q x) → IfOk r P → IfOk r Q
+if_ok P Q (Ok x) f h = f x h
+if_ok P Q (Err e) f h = h
+
+pub returns : goal.returns
+returns c =
+    let e : c.as_slice.result.now ≡ c.in_ok-sums.sums.items = search rules in
+    let h : IfOk c.conclude.result (IsAnswer c.args.arc_box.now.bounds c.in-Some.d c.in_ok-sums.sums.items) = rw e at c.conclude.ensures in
+    if_ok _ _ c.conclude.result
+    (answer_is c.args.instance.now c.args.graph.now c.args.cuts.now c.args.pool.now c.args.weights.now c.requires.sound c.requires.graph c.requires.pool c.in-Some.d c.in-Some.ensures.common c.in_ok-sums.sums.items c.in_ok-sums.ensures c.args.arc_box.now c.requires.left c.requires.weights) h
