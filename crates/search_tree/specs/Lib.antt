@@ -1,4 +1,5 @@
 pub mod Views
 pub mod Trees
 pub mod Asked
+pub mod Steps
 pub mod Laws

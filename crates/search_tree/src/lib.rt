@@ -2,6 +2,7 @@
 #![tactic(auto)]
 
 mod laws;
+mod seats;
 mod tree;
 
 pub use laws::{count_rises, few_seats, leaf_in_hand, limit_falls, short_paths};

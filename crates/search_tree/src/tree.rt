@@ -7,14 +7,43 @@ ghost use Rattle.growing_laws.specs.Seats.{HoldTree};
 ghost use Rattle.open_nodes.specs.declared.leaf.OpenLeaf.{OpenLeaf as Waiting};
 ghost use Rattle.search_tree.specs.Views.{Site, TreeView};
 ghost use Rattle.search_tree.specs.Trees.{last_count, IsTree};
+ghost use Rattle.search_tree.specs.Steps.{IsHalfOf};
 ghost use Rattle.search_tree.specs.Asked.{AsksSplit, IsHalved, AsksPinned, AsksPriced, AsksFailed, IsProcessed};
 
+use crate::seats::{mark_leaf, push_half, split_leaf};
 use certificates::Node;
-use growing_laws::Seat;
-use open_nodes::{OpenLeaf, OpenNodes, Plan};
-use roster_model::{ArcKey, List, Memory, Prices};
+use growing_laws::{Seat, list_nodes};
+use open_nodes::{Kept, OpenLeaf, OpenNodes, Plan};
+use roster_model::{ArcKey, Cut, List, Memory, Prices, Side};
 use std::alloc::Global;
 use std::marker::Model;
+
+// A cut that no path has.
+fn no_cut() -> Cut {
+    let arc = ArcKey {
+        rule: 0,
+        suffix: 0,
+        start: 0,
+        len: 0,
+        part: 0,
+    };
+    Cut {
+        arc,
+        side: Side::Low,
+        b: 0,
+    }
+}
+
+// Returns a half of a leaf, with its number.
+fn half_of(leaf: OpenLeaf, seat: u32) -> OpenLeaf
+    ensures { IsHalfOf leaf seat result }
+{
+    OpenLeaf {
+        bound: leaf.bound,
+        depth: leaf.depth.saturating_add(1),
+        kept: Kept { seat, plan: None },
+    }
+}
 
 /// The tree of a search while it grows.
 #[derive(Drop)]
@@ -40,7 +69,20 @@ impl SearchTree {
             → (t : Grown) × IsTree s limit now 0 [] w t) }
         ensures none { IfOk result (λ w. w.processed ≡ 0) }
     {
-        Err(Memory)
+        let mut seats = Vec::new(alloc);
+        push_half(&mut seats, 0, 0, no_cut())?;
+        let mut waiting = OpenNodes::new(alloc);
+        waiting.push(OpenLeaf {
+            bound: 0,
+            depth: 0,
+            kept: Kept { seat: 0, plan: None },
+        })?;
+        Ok(SearchTree {
+            seats,
+            waiting,
+            processed: 0,
+            failed: 0,
+        })
     }
 
     /// Returns how many nodes are processed.
@@ -67,7 +109,6 @@ impl SearchTree {
     /// Takes a leaf of least bound, where this is below the limit; `None` where no open leaf leaves such a
     /// bound.
     pub fn next(&mut self, limit: u64) -> Option<OpenLeaf>
-        requires stub { ⊥ }
         ensures same { (self.new.seats ≡ self.old.seats) × (self.new.processed ≡ self.old.processed)
             × (self.new.failed ≡ self.old.failed) }
         ensures taken { (s : Site) (now low : ℕ) (t : Grown) → IsTree s limit now low [] self.old t
@@ -75,7 +116,8 @@ impl SearchTree {
             (OnTips (λ up path k l. IsOpenLeaf l → limit ≤ tip_bound up l) 0 (base_cuts s.day) t)
             (λ leaf. (leaf.bound < limit) × IsTree s limit now leaf.bound (leaf ∷ []) self.new t) }
     {
-        None
+        let leaf = self.waiting.pop()?;
+        if leaf.bound < limit { Some(leaf) } else { None }
     }
 
     /// Splits the leaf in hand, which has prices, where its plan says, on the arc of this number. Returns
@@ -85,16 +127,20 @@ impl SearchTree {
         ensures { IfOk result (λ half. (asked : AsksSplit self.old leaf plan arc)
             → IsHalved asked.site asked.limit asked.now self.old self.new leaf half) }
     {
-        Err(Memory)
+        let low = split_leaf(&mut self.seats, leaf.kept.seat, leaf.bound, arc, plan.b)?;
+        self.waiting.push(half_of(leaf, low))?;
+        Ok(half_of(leaf, low + 1))
     }
 
     /// Says of the leaf in hand that its cuts leave each arc one count, and what these cost.
     pub fn pin(&mut self, leaf: OpenLeaf, value: u64)
-        requires stub { ⊥ }
-        requires pinned { AsksPinned self.old leaf value }
+        requires { AsksPinned self.old leaf value }
         ensures { (asked : AsksPinned self.old leaf value)
             → IsProcessed asked.taken.site asked.taken.limit asked.taken.now asked.taken.low self.old self.new }
-    {}
+    {
+        mark_leaf(&mut self.seats, leaf.kept.seat, Node::Pinned, value);
+        self.processed += 1;
+    }
 
     /// Gives the leaf in hand its prices and what they show, and lets it wait.
     pub fn price(
@@ -108,17 +154,30 @@ impl SearchTree {
         ensures { OnOk result ((asked : AsksPriced self.old leaf prices value plan)
             → IsProcessed asked.taken.site asked.taken.limit asked.taken.now asked.taken.low self.old self.new) }
     {
-        Err(Memory)
+        mark_leaf(&mut self.seats, leaf.kept.seat, Node::Priced { prices }, value);
+        self.processed += 1;
+        self.waiting.push(OpenLeaf {
+            bound: leaf.bound.max(value),
+            depth: leaf.depth,
+            kept: Kept {
+                seat: leaf.kept.seat,
+                plan,
+            },
+        })
     }
 
     /// Splits the leaf in hand without prices, on an arc at a number; both halves wait.
     pub fn fail(&mut self, leaf: OpenLeaf, arc: ArcKey, b: u32) -> Result<(), Memory>
-        requires stub { ⊥ }
-        requires failed { (later : ℕ) × AsksFailed self.old leaf arc b later }
+        requires { (later : ℕ) × AsksFailed self.old leaf arc b later }
         ensures { OnOk result ((later : ℕ) → (asked : AsksFailed self.old leaf arc b later)
             → IsProcessed asked.taken.site asked.taken.limit later asked.taken.low self.old self.new) }
     {
-        Err(Memory)
+        let low = split_leaf(&mut self.seats, leaf.kept.seat, leaf.bound, arc, b)?;
+        self.waiting.push(half_of(leaf, low))?;
+        self.waiting.push(half_of(leaf, low + 1))?;
+        self.processed += 1;
+        self.failed += 1;
+        Ok(())
     }
 
     /// Returns the nodes of the tree in preorder.
@@ -127,6 +186,6 @@ impl SearchTree {
             × IsTree s limit now low hand self t × (self.processed ≤ 10000) }
         ensures { IfOk result (λ nodes. (t : Grown) → HoldTree self.seats t → nodes ≡ preorder (proof_of t)) }
     {
-        Err(Memory)
+        list_nodes(alloc, self.seats)
     }
 }

@@ -1,0 +1,86 @@
+ghost use Rattle.std.specs.Prelude.{◌≡◌, ◌<◌, ◌++◌, ◌∷◌, [], IfOk, OnOk, length};
+ghost use Rattle.search_tree.specs.Steps.{split_of, half_seat, forked, marked};
+
+use certificates::Node;
+use growing_laws::Seat;
+use roster_model::{ArcKey, Cut, Memory, Side};
+use std::mem;
+
+// Returns a split in place of a leaf, with the prices that the leaf has.
+fn split_node(node: Node, arc: ArcKey, b: u32) -> Node
+    ensures { result ≡ split_of node arc b }
+{
+    match node {
+        Node::Priced { prices } => Node::Split {
+            arc,
+            b,
+            prices: Some(prices),
+        },
+        Node::Split { .. } => Node::Split {
+            arc,
+            b,
+            prices: None,
+        },
+        Node::Pinned => Node::Split {
+            arc,
+            b,
+            prices: None,
+        },
+        Node::Bare => Node::Split {
+            arc,
+            b,
+            prices: None,
+        },
+    }
+}
+
+/// Adds the seat of a half that is not processed.
+pub fn push_half(seats: &mut Vec<Seat>, parent: u32, above: u64, cut: Cut) -> Result<(), Memory>
+    ensures { OnOk result (seats.new.items ≡ seats.old.items ++ half_seat parent above cut ∷ []) }
+{
+    let Ok(()) = seats.push(Seat {
+        node: Node::Bare,
+        value: 0,
+        low: 0,
+        above,
+        parent,
+        cut,
+    }) else {
+        return Err(Memory);
+    };
+    Ok(())
+}
+
+/// Splits a leaf into two halves that are not processed, below prices that show at most `above`. Returns
+/// the number of the Low half.
+pub fn split_leaf(
+    seats: &mut Vec<Seat>,
+    number: u32,
+    above: u64,
+    arc: ArcKey,
+    b: u32,
+) -> Result<u32, Memory>
+    requires within { number < length seats.old.items }
+    requires few { length seats.old.items < 4294967295 }
+    ensures { IfOk result (λ low. (low ≡ length seats.old.items)
+        × (seats.new.items ≡ forked seats.old.items number above arc b)) }
+{
+    let low = seats.len() as u32;
+    let seat = &mut seats[number as usize];
+    let node = mem::replace(&mut seat.node, Node::Bare);
+    seat.node = split_node(node, arc, b);
+    seat.low = low;
+    push_half(seats, number, above, Cut { arc, side: Side::Low, b })?;
+    push_half(seats, number, above, Cut { arc, side: Side::High, b })?;
+    Ok(low)
+}
+
+/// Writes at a leaf what it shows.
+pub fn mark_leaf(seats: &mut Vec<Seat>, number: u32, node: Node, value: u64)
+    requires within { number < length seats.old.items }
+    ensures { seats.new.items ≡ marked seats.old.items number node value }
+{
+    let seat = &mut seats[number as usize];
+    seat.node = node;
+    seat.value = value;
+}
