@@ -1,1 +1,4 @@
 pub mod TreeLaws
+pub mod Finding
+pub mod Queueing
+pub mod Regrow

@@ -1,3 +1,4 @@
+use Rattle.search_tree.proofs.Regrow.{regrow}
 use Rattle.search_tree.proofs.TreeLaws.{short-paths}
 use Rattle.search_tree.proofs.laws.short_paths.Goals as goal
 
