@@ -2,3 +2,5 @@ pub mod TreeLaws
 pub mod Finding
 pub mod Queueing
 pub mod Regrow
+pub mod Reseating
+pub mod Stepping
