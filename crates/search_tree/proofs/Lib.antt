@@ -4,3 +4,5 @@ pub mod Queueing
 pub mod Regrow
 pub mod Reseating
 pub mod Stepping
+pub mod Leading
+pub mod Taking

@@ -79,7 +79,7 @@ leaf-in x (e ∷ xs) h = by (is_leaf x e) refl h (λ g. leaf-in x xs g)
     by true q h f = inl (leaf-same x e q)
     by false q h f = let z : ◌≡◌ {A = ℕ} (cond (is_leaf x e) 1 0) 0 = rw q refl in inr (f (omega (arith, h, z)))
 
-in-count : {A : Type 0} (q : A → Bool) (x : A) (xs : List A) → q x ≡ true → In x xs → 1 ≤ count q xs
+pub in-count : {A : Type 0} (q : A → Bool) (x : A) (xs : List A) → q x ≡ true → In x xs → 1 ≤ count q xs
 in-count q x [] holds h = absurd h
 in-count q x (y ∷ xs) holds (inl e) = let s : ◌≡◌ {A = ℕ} (cond (q y) 1 0) 1 = rw (ap q (sym e) ∙ holds) refl in omega (arith, s)
 in-count q x (y ∷ xs) holds (inr h) = let g = in-count q x xs holds h in omega (arith, g)

@@ -1,4 +1,4 @@
--- Each step of a search keeps what is known of its tree.
+-- A leaf in hand that shows something or is split keeps what is known of the tree.
 use Rattle.std.proofs.Common.{◌≡◌, ℕ, arith, ◌+◌, ◌≤◌, ◌<◌, max, Bool, true, false, cond, Option, None, Some, List, [], ◌∷◌, ◌++◌, length, map, refl, ap, sym, subst, ◌∙◌, ◌⊎◌, inl, inr}
 use Rattle.std.specs.Prelude.{◌≢◌, nat_eq, nat_lt, IsTrue, MatchOption, slice_get}
 use Rattle.roster_model.specs.declared.grammar.ArcKey.{ArcKey}
