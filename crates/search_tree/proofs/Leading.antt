@@ -161,7 +161,7 @@ some-arc a b e = ap (λ (o : Option ArcKey). or_arc o) e
 planned-leaf : (w : TreeView) (leaf : OpenLeaf) (plan : Plan) (arc : ArcKey) (asked : AsksSplit w leaf plan arc) → Planned asked.site asked.limit leaf.bound w leaf plan arc asked.tree
 planned-leaf w leaf plan arc asked =
     let r = entry-place (λ up path k l. IsTip asked.site.day asked.limit leaf.bound (length w.seats) asked.tree up path k l) (entry_of leaf) 0 (base_cuts asked.site.day) asked.tree asked.is.growing.tips
-        (queued-leaf asked.tree leaf w.waiting (base_cuts asked.site.day) asked.is.queue) in
+    (queued-leaf asked.tree leaf w.waiting (base_cuts asked.site.day) asked.is.queue) in
     let p = at-leaf (λ up path k l. k ≡ leaf.kept.seat → HasPlan asked.site.day asked.site.graph asked.limit path l leaf.kept.plan) 0 (base_cuts asked.site.day) asked.tree leaf.kept.seat r.0 r.1 r.2 asked.is.planned.0 r.3 refl in
     by r.0 r.1 r.2 r.3 r.4 r.5 r.6 (subst (λ (o : Option Plan). HasPlan asked.site.day asked.site.graph asked.limit r.1 r.2 o) asked.kept p)
   where

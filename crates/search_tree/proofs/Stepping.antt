@@ -71,18 +71,24 @@ module _ (s : Site) (limit now low : ℕ) (leaf : OpenLeaf) (w : TreeView) (t : 
           let room = forked_seated.within in
           record {
             tips = (
-              (record {
-                leaf = tt;
-                bound = let r = risen in omega (arith, r, le);
-                below = room.1.0;
-                once = let x = is-one (length w.seats) (length w.seats) refl in let y = is-none (length w.seats + 1) (length w.seats) (λ e. omega (arith, e)) in omega (arith, x, y);
-              }, inr (omega arith)),
-              (record {
-                leaf = tt;
-                bound = let r = risen in omega (arith, r, le);
-                below = room.1.1.0;
-                once = let x = is-one (length w.seats + 1) (length w.seats + 1) refl in let y = is-none (length w.seats) (length w.seats + 1) (λ e. omega (arith, e)) in omega (arith, x, y);
-              }, inr (omega arith)),
+              (
+                record {
+                  leaf = tt;
+                  bound = let r = risen in omega (arith, r, le);
+                  below = room.1.0;
+                  once = let x = is-one (length w.seats) (length w.seats) refl in let y = is-none (length w.seats + 1) (length w.seats) (λ e. omega (arith, e)) in omega (arith, x, y);
+                },
+                inr (omega arith),
+              ),
+              (
+                record {
+                  leaf = tt;
+                  bound = let r = risen in omega (arith, r, le);
+                  below = room.1.1.0;
+                  once = let x = is-one (length w.seats + 1) (length w.seats + 1) refl in let y = is-none (length w.seats) (length w.seats + 1) (λ e. omega (arith, e)) in omega (arith, x, y);
+                },
+                inr (omega arith),
+              ),
             );
             forks = (h, tt, tt);
           }

@@ -70,8 +70,26 @@ pub fn split_leaf(
     let node = mem::replace(&mut seat.node, Node::Bare);
     seat.node = split_node(node, arc, b);
     seat.low = low;
-    push_half(seats, number, above, Cut { arc, side: Side::Low, b })?;
-    push_half(seats, number, above, Cut { arc, side: Side::High, b })?;
+    push_half(
+        seats,
+        number,
+        above,
+        Cut {
+            arc,
+            side: Side::Low,
+            b,
+        },
+    )?;
+    push_half(
+        seats,
+        number,
+        above,
+        Cut {
+            arc,
+            side: Side::High,
+            b,
+        },
+    )?;
     Ok(low)
 }
 

@@ -75,7 +75,10 @@ impl SearchTree {
         waiting.push(OpenLeaf {
             bound: 0,
             depth: 0,
-            kept: Kept { seat: 0, plan: None },
+            kept: Kept {
+                seat: 0,
+                plan: None,
+            },
         })?;
         Ok(SearchTree {
             seats,
@@ -154,7 +157,12 @@ impl SearchTree {
         ensures { OnOk result ((asked : AsksPriced self.old leaf prices value plan)
             → IsProcessed asked.taken.site asked.taken.limit asked.taken.now asked.taken.low self.old self.new) }
     {
-        mark_leaf(&mut self.seats, leaf.kept.seat, Node::Priced { prices }, value);
+        mark_leaf(
+            &mut self.seats,
+            leaf.kept.seat,
+            Node::Priced { prices },
+            value,
+        );
         self.processed += 1;
         self.waiting.push(OpenLeaf {
             bound: leaf.bound.max(value),

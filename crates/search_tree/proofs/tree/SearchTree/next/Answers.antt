@@ -1,26 +1,26 @@
-use Rattle.std.proofs.Common.{rules, ℕ, ◌≡◌, ◌≤◌, ◌<◌, [], ◌∷◌, IfOk, OnOk, MatchOption}
+use Rattle.std.proofs.Common.{ℕ, ◌≡◌, ◌≤◌, ◌<◌, [], ◌∷◌, arith, Option, None, Some, MatchOption, subst, sym, refl}
 use Rattle.std.proofs.Common.{List as Items}
-use Rattle.std.proofs.Common.{◌+◌, ◌-◌, ◌*◌, length, ◌/◌, ◌%◌, Bool, true, false, nat_eq, nat_lt, List, ◌++◌, slice_index_or, slice_set, bit_and, bit_or, Fits, w8, w32, w64, Bor, MutBor}
 use Rattle.roster_model.specs.Cuts.{base_cuts}
-use Rattle.certificates.specs.Nodes.{preorder}
-use Rattle.growing_laws.specs.Grown.{Grown, OnTips, tip_bound, proof_of}
+use Rattle.growing_laws.specs.Grown.{Grown, OnTips, tip_bound}
 use Rattle.growing_laws.specs.Boxes.{IsOpenLeaf}
-use Rattle.growing_laws.specs.Seats.{HoldTree}
 use Rattle.open_nodes.specs.declared.leaf.OpenLeaf.{OpenLeaf as Waiting}
 use Rattle.search_tree.specs.Views.{Site, TreeView}
-use Rattle.search_tree.specs.Trees.{last_count, IsTree}
-use Rattle.search_tree.specs.Steps.{IsHalfOf}
-use Rattle.search_tree.specs.Asked.{AsksSplit, IsHalved, AsksPinned, AsksPriced, AsksFailed, IsProcessed}
+use Rattle.search_tree.specs.Trees.{IsTree}
+use Rattle.search_tree.specs.contracts.tree.SearchTree.{the_view}
+use Rattle.search_tree.proofs.Taking.{next-none, next-past, next-some}
+use Rattle.search_tree.proofs.tree.SearchTree.next.Goals.{then-leaf-limit, else-leaf-limit}
 use Rattle.search_tree.proofs.tree.SearchTree.next.Goals as goal
 
 -- src/tree.rt:119:20
-pub pop-requires : goal.pop-requires
-pop-requires c = ?
-
--- src/tree.rt:119:20
 pub returns-in_err-leaf-clause-taken : goal.returns-in_err-leaf-clause-taken
-returns-in_err-leaf-clause-taken c = ?
+returns-in_err-leaf-clause-taken c = λ s now low t is.
+    rw c.from_residual.ensures (next-none s c.args.limit now low (the_view c.self.inside) t (subst (λ (w : TreeView). IsTree s c.args.limit now low [] w t) (sym c.self.view_is) is) c.in_err-leaf.ensures)
 
 -- src/tree.rt:111:5
 pub returns-clause-taken : goal.returns-clause-taken
-returns-clause-taken c = ?
+returns-clause-taken c = λ s now low t is.
+    let old : IsTree s c.args.limit now low [] (the_view c.self.inside) t = subst (λ (w : TreeView). IsTree s c.args.limit now low [] w t) (sym c.self.view_is) is in
+    elim c.if-leaf-limit.branch [
+      | then-leaf-limit w ↦ rw w.result-is (w.if-leaf-limit.true, next-some s c.args.limit now low (the_view c.self.inside) t c.in_ok-leaf.leaf c.pop.new.self old c.in_ok-leaf.ensures.0 c.in_ok-leaf.ensures.1 w.if-leaf-limit.true)
+      | else-leaf-limit w ↦ rw w.result-is (next-past s c.args.limit now low (the_view c.self.inside) t c.in_ok-leaf.leaf c.pop.new.self old c.in_ok-leaf.ensures.0 c.in_ok-leaf.ensures.1 w.if-leaf-limit.false)
+    ]

@@ -1,22 +1,29 @@
-use Rattle.std.proofs.Common.{rules, ℕ, ◌≡◌, ◌≤◌, ◌<◌, [], ◌∷◌, IfOk, OnOk, MatchOption}
-use Rattle.std.proofs.Common.{List as Items}
-use Rattle.std.proofs.Common.{◌+◌, ◌-◌, ◌*◌, length, ◌/◌, ◌%◌, Bool, true, false, nat_eq, nat_lt, List, ◌++◌, slice_index_or, slice_set, bit_and, bit_or, Fits, w8, w32, w64, Bor, MutBor}
-use Rattle.roster_model.specs.Cuts.{base_cuts}
-use Rattle.certificates.specs.Nodes.{preorder}
-use Rattle.growing_laws.specs.Grown.{Grown, OnTips, tip_bound, proof_of}
-use Rattle.growing_laws.specs.Boxes.{IsOpenLeaf}
-use Rattle.growing_laws.specs.Seats.{HoldTree}
-use Rattle.open_nodes.specs.declared.leaf.OpenLeaf.{OpenLeaf as Waiting}
-use Rattle.search_tree.specs.Views.{Site, TreeView}
-use Rattle.search_tree.specs.Trees.{last_count, IsTree}
-use Rattle.search_tree.specs.Steps.{IsHalfOf}
-use Rattle.search_tree.specs.Asked.{AsksSplit, IsHalved, AsksPinned, AsksPriced, AsksFailed, IsProcessed}
+use Rattle.std.proofs.Common.{◌≡◌, ◌+◌, ◌<◌, length, sym, ◌∷◌, subst, refl, OnOk, Result, Ok, Err}
+use Rattle.roster_model.specs.declared.memory.Memory.{Memory}
+use Rattle.open_nodes.specs.declared.leaf.OpenLeaf.{OpenLeaf}
+use Rattle.open_nodes.specs.Queues.{SameLeaves}
+use Rattle.search_tree.specs.Views.{TreeView}
+use Rattle.search_tree.specs.Asked.{AsksPriced, IsProcessed}
+use Rattle.search_tree.specs.contracts.tree.SearchTree.{the_view}
+use Rattle.search_tree.proofs.Leading.{leaf-room, priced-step}
 use Rattle.search_tree.proofs.tree.SearchTree.price.Goals as goal
 
 -- src/tree.rt:157:9
 pub mark_leaf-requires : goal.mark_leaf-requires
-mark_leaf-requires c = ?
+mark_leaf-requires c = record {
+  within = subst (λ (w : TreeView). c.args.leaf.kept.seat < length w.seats) (sym c.self.view_is) (leaf-room c.args.self.now c.args.leaf c.requires.taken).0;
+}
+
+on-ok : (P Q : Type 0) (r : Result (Unit {0}) Memory) → (P → Q) → OnOk r P → OnOk r Q
+on-ok P Q (Ok x) f h = f h
+on-ok P Q (Err e) f h = h
 
 -- src/tree.rt:146:5
 pub returns : goal.returns
-returns c = ?
+returns c =
+    let o : OpenLeaf = record { bound = c.max.result; depth = c.args.leaf.depth; kept = record { seat = c.args.leaf.kept.seat; plan = c.args.plan } } in
+    let new : TreeView = record { seats = c.mark_leaf.new.seats.items; waiting = c.push.new.self; processed = c.self.inside.processed + 1; failed = c.self.inside.failed } in
+    on-ok (SameLeaves (o ∷ c.self.inside.waiting) c.push.new.self)
+    ((asked : AsksPriced c.args.self.now c.args.leaf c.args.prices c.args.value c.args.plan) → IsProcessed asked.taken.site asked.taken.limit asked.taken.now asked.taken.low c.args.self.now new) c.push.result
+    (λ same. subst (λ (w : TreeView). (asked : AsksPriced w c.args.leaf c.args.prices c.args.value c.args.plan) → IsProcessed asked.taken.site asked.taken.limit asked.taken.now asked.taken.low w new) c.self.view_is
+    (priced-step c.args.leaf (the_view c.self.inside) new c.args.prices c.args.value c.args.plan o c.max.ensures refl refl c.mark_leaf.ensures same refl refl)) c.push.ensures.ok
