@@ -1,0 +1,95 @@
+-- How a search takes its next leaf, and how it ends.
+use Rattle.std.specs.Prelude.{ℕ, ◌≡◌, ◌≢◌, ◌≤◌, ◌<◌, ◌+◌, ◌*◌, Bool, Option, None, Some, IsSome, IfSome, MatchOption, List, [], ◌∷◌, length}
+use Rattle.roster_model.specs.declared.instance.Done.{Done}
+use Rattle.roster_model.specs.declared.instance.Done.TheVariants.{Equal, NoRoster, TurnsOut}
+use Rattle.roster_model.specs.declared.instance.Instance.{Instance}
+use Rattle.roster_model.specs.Cuts.{base_cuts}
+use Rattle.roster_model.specs.Folds.{count}
+use Rattle.roster_model.specs.GreatestCost.{greatest_cost}
+use Rattle.bound_laws.specs.Points.{IsPoints}
+use Rattle.certificates.specs.Nodes.{visits}
+use Rattle.certificate_laws.specs.Accepted.{bound_number}
+use Rattle.parse_graph.specs.Graphs.{GraphView}
+use Rattle.growing_laws.specs.Grown.{Grown, OnTips, tip_bound, busy, missed, shown, proof_of}
+use Rattle.growing_laws.specs.Boxes.{IsOpenLeaf}
+use Rattle.growing_laws.specs.Seats.{HoldTree}
+use Rattle.growing_laws.specs.States.{IsGrowing}
+use Rattle.open_nodes.specs.declared.leaf.OpenLeaf.{OpenLeaf}
+use Rattle.search_tree.specs.Views.{Site}
+use Rattle.search_tree.specs.Trees.{last_count, is_too_long}
+use Rattle.roster_model.specs.declared.instance.Shift.{Shift}
+use Rattle.candidate_rosters.specs.declared.roster.Roster.{Roster}
+use Rattle.candidate_rosters.specs.Rosters.{IsGoodRoster}
+use Rattle.candidate_rosters.specs.Starts.{HasStart, StartsWith}
+use Rattle.offers.specs.Offers.{limit_of, cost_of}
+use Rattle.branch_price.specs.declared.progress.Progress.{Progress}
+use Rattle.branch_price.specs.Searching.{site_of, IsSearching}
+
+-- no open leaf leaves a bound below the limit
+abbrev pub IsShut : Instance → ℕ → Grown → Type 0
+IsShut i limit t = OnTips (λ up path k l. IsOpenLeaf l → limit ≤ tip_bound up l) 0 (base_cuts i) t
+
+-- what is known of the tree at the end, whatever waits
+pub record IsFinal (s : Site) (now low : ℕ) (p : Progress) (t : Grown) : Type 0 where
+  pub growing : IsGrowing s.day s.strict (limit_of s.day p.best) low (length p.tree.seats) t
+  pub held : HoldTree p.tree.seats t
+  pub few : length p.tree.seats ≤ 2 * p.tree.processed + 1
+  pub processed : p.tree.processed ≡ busy t
+  pub failed : p.tree.failed ≡ missed t
+  pub counted : now ≢ last_count
+      → p.tree.failed + s.before ≤ now + count (is_too_long s.day) (visits (base_cuts s.day) (proof_of t))
+  pub best : IfSome p.best (IsGoodRoster s.day)
+  pub start : HasStart s.day → StartsWith s.day p.best
+
+-- a leaf was taken, or no open leaf leaves a bound below the limit; the tree is the same
+pub record IsNext (i : Instance) (old new : Progress) (next : Option OpenLeaf) : Type 0 where
+  pub best : new.best ≡ old.best
+  pub processed : new.tree.processed ≡ old.tree.processed
+  pub taken : (v : GraphView) (strict : Bool) (before now low : ℕ) (t : Grown)
+      → IsSearching (site_of i v strict before) now low [] old t
+      → MatchOption next
+      (IsShut i (limit_of i old.best) t × IsFinal (site_of i v strict before) now low new t)
+      (λ leaf. (leaf.bound < limit_of i old.best)
+      × IsSearching (site_of i v strict before) now leaf.bound (leaf ∷ []) new t)
+
+-- how the search ended, by cost and bound
+abbrev pub IsDoneAt : Option ℕ → Option ℕ → Done → Type 0
+IsDoneAt cost bound Equal = IsSome cost × (bound ≡ cost)
+IsDoneAt cost bound NoRoster = (cost ≡ None) × (bound ≡ None)
+IsDoneAt cost bound TurnsOut = bound ≢ cost
+
+-- all turns were used, and they were too few for the points
+pub record IsSpent (i : Instance) (turns : ℕ) (p : Progress) : Type 0 where
+  pub all : p.tree.processed ≡ turns
+  pub few : (points : ℕ) → IsPoints i points → turns + 1 < 2 * points
+
+-- the search is at its end, and its tree shows the bound
+pub record IsEnd (i : Instance) (v : GraphView) (strict : Bool) (before now turns : ℕ) (p : Progress)
+    (bound : Option ℕ) (done : Done) : Type 0 where
+  pub low : ℕ
+  pub tree : Grown
+  pub final : IsFinal (site_of i v strict before) now low p tree
+  pub shows : shown tree ≡ bound_number i bound
+  pub small : IfSome bound (λ b. b ≤ greatest_cost i)
+  pub within : p.tree.processed ≤ turns
+  pub few : turns ≤ 10000
+  pub done : IsDoneAt (cost_of p.best) bound done
+  pub spent : done ≡ TurnsOut → IsSpent i turns p
+
+-- whose search it is, for how many turns
+pub record AsksEnd (i : Instance) : Type 0 where
+  pub graph : GraphView
+  pub strict : Bool
+  pub before : ℕ
+  pub now : ℕ
+  pub turns : ℕ
+
+-- the shifts and the cost of the best roster
+abbrev pub IsStatedBy : Option Roster → List Shift × Option ℕ → Type 0
+IsStatedBy None said = said ≡ ([], None)
+IsStatedBy (Some r) said = said ≡ (r.shifts, Some r.cost)
+
+-- the bound of a closed search, and how it ended
+abbrev pub IsClosedBy : Option Roster → Option ℕ × Done → Type 0
+IsClosedBy None said = said ≡ (None, NoRoster)
+IsClosedBy (Some r) said = said ≡ (Some r.cost, Equal)

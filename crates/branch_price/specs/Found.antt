@@ -1,0 +1,81 @@
+-- What a search finds.
+use Rattle.std.specs.Prelude.{ℕ, ◌≡◌, ◌≢◌, ◌≤◌, ◌<◌, ◌+◌, ◌*◌, Bool, IsTrue, Option, None, Some, IsSome, List, length}
+use Rattle.roster_model.specs.declared.instance.Instance.{Instance}
+use Rattle.roster_model.specs.Cuts.{base_cuts}
+use Rattle.roster_model.specs.Folds.{Each, count}
+use Rattle.certificates.specs.declared.cert.Cert.{Cert}
+use Rattle.certificates.specs.declared.cert.Node.{Node}
+use Rattle.certificates.specs.declared.cert.Node.TheVariants.{Split, Priced, Pinned, Bare}
+use Rattle.roster_model.specs.declared.instance.Prices.{Prices}
+use Rattle.certificates.specs.Nodes.{Proof, preorder, Visit, visits}
+use Rattle.certificates.specs.Sound.{IsSoundCert}
+use Rattle.bound_laws.specs.BestPrices.{AreBest}
+use Rattle.bound_laws.specs.Points.{IsPoints}
+use Rattle.bound_laws.specs.Priced.{IsPricedValue}
+use Rattle.certificate_laws.specs.Accepted.{Accepts, bound_number}
+use Rattle.certificate_laws.specs.Shown.{Shows}
+use Rattle.master_laws.specs.Sharp.{IsHard, IsSharp}
+use Rattle.roster_model.specs.declared.instance.Done.{Done}
+use Rattle.roster_model.specs.declared.instance.Done.TheVariants.{Equal, NoRoster, TurnsOut}
+use Rattle.branch_price.specs.declared.found.Found.{Found}
+use Rattle.candidate_rosters.specs.Order.{AreAscending}
+use Rattle.certificates.specs.Kinds.{is_processed, is_unpriced}
+use Rattle.search_tree.specs.Trees.{last_count, is_too_long}
+use Rattle.candidate_rosters.specs.Starts.{HasStart, IsAtMostStart}
+
+-- how the certificate ended
+abbrev pub IsDone : Cert → Done → Type 0
+IsDone c Equal = IsSome c.cost × (c.bound ≡ c.cost)
+IsDone c NoRoster = (c.cost ≡ None) × (c.bound ≡ None)
+IsDone c TurnsOut = c.bound ≢ c.cost
+
+-- prices that are best within the loss, and few enough for a written certificate
+pub record ArePrices (i : Instance) (v : Visit) (p : Prices) : Type 0 where
+  pub best : AreBest i p v.path
+  pub few : length p.cell + length p.mult ≤ 1498
+
+-- a split without prices is hard over a strict master; one with prices is sharp, and they show at most the
+-- bound
+abbrev pub IsSplitNode : Instance → Bool → ℕ → Visit → Option Prices → Type 0
+IsSplitNode i strict bound v None = IsTrue strict → IsHard i v.path
+IsSplitNode i strict bound v (Some p) = ArePrices i v p × ((x : ℕ) → IsPricedValue i p v.path x → x ≤ bound)
+
+abbrev pub IsSharpNode : Instance → Visit → Node → Type 0
+IsSharpNode i v (Split a b (Some p)) = IsSharp i v.path a b
+IsSharpNode i v (Split a b None) = Unit {0}
+IsSharpNode i v (Priced p) = Unit {0}
+IsSharpNode i v Pinned = Unit {0}
+IsSharpNode i v Bare = Unit {0}
+
+abbrev pub IsFoundNode : Instance → Bool → ℕ → Visit → Node → Type 0
+IsFoundNode i strict bound v (Split a b own) = IsSplitNode i strict bound v own
+IsFoundNode i strict bound v (Priced p) = ArePrices i v p
+IsFoundNode i strict bound v Pinned = Unit {0}
+IsFoundNode i strict bound v Bare = Unit {0}
+
+-- the turns ran out, and they were too few for the points
+pub record RanOut (i : Instance) (turns : ℕ) (f : Found) : Type 0 where
+  pub all : f.processed ≡ turns
+  pub few : (points : ℕ) → IsPoints i points → turns + 1 < 2 * points
+
+-- the certificate is sound and accepted, its bound is what its tree shows, and each node is right
+pub record IsFound (i : Instance) (strict : Bool) (turns : ℕ) (f : Found) : Type 0 where
+  pub sound : IsSoundCert i f.cert
+  pub accepted : Accepts i f.cert
+  pub proof : Proof
+  pub nodes : preorder proof ≡ f.cert.nodes
+  pub shows : Shows i (base_cuts i) proof (bound_number i f.cert.bound)
+  pub ascending : AreAscending f.cert.shifts
+  pub each : Each (λ (v : Visit). IsFoundNode i strict (bound_number i f.cert.bound) v v.node) (visits (base_cuts i) proof)
+  pub sharp : Each (λ (v : Visit). IsSharpNode i v v.node) (visits (base_cuts i) proof)
+  pub processed : f.processed ≡ count is_processed f.cert.nodes
+  pub failed : f.failed ≡ count is_unpriced f.cert.nodes
+  pub within : f.processed ≤ turns
+  pub done : IsDone f.cert f.done
+  pub ran_out : f.done ≡ TurnsOut → RanOut i turns f
+  pub start : HasStart i → IsAtMostStart i f.cert.cost
+
+-- each node that failed for another cause than its rows was counted by the master
+abbrev pub AreCounted : Instance → ℕ → ℕ → Found → Type 0
+AreCounted i before now f =
+    now ≢ last_count → (proof : Proof) → preorder proof ≡ f.cert.nodes → f.failed + before ≤ now + count (is_too_long i) (visits (base_cuts i) proof)

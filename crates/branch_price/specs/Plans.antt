@@ -1,0 +1,13 @@
+-- A split of a loose arc at its least count.
+use Rattle.std.specs.Prelude.{ℕ, ◌≡◌, ◌<◌, List, length, slice_index}
+use Rattle.arc_branch.specs.Boxes.{BoxView, bounds_at}
+use Rattle.open_nodes.specs.declared.leaf.Plan.{Plan}
+
+pub record IsPlanAt (box : BoxView) (arc : ℕ) (p : Plan) : Type 0 where
+  pub same : p.arc ≡ arc
+  pub least : p.b ≡ (bounds_at box.bounds arc).low
+
+-- the least counts of the arcs, by the arcs' numbers
+pub record AreLeast (box : BoxView) (counts : List ℕ) : Type 0 where
+  pub each : length counts ≡ length box.bounds
+  pub least : (p : ℕ) → p < length box.bounds → slice_index counts p ≡ (bounds_at box.bounds p).low

@@ -1,0 +1,81 @@
+-- What is asked for a turn of the search, and what it leads to.
+use Rattle.std.specs.Prelude.{ℕ, ◌≡◌, ◌≤◌, ◌<◌, ◌+◌, ◌++◌, ◌⊎◌, Bool, IsTrue, Option, None, List, [], ◌∷◌, length}
+use Rattle.roster_model.specs.declared.instance.Cut.{Cut}
+use Rattle.roster_model.specs.declared.instance.Instance.{Instance}
+use Rattle.roster_model.specs.declared.instance.Prices.{Prices}
+use Rattle.roster_model.specs.Cuts.{base_cuts}
+use Rattle.roster_model.specs.Folds.{Each}
+use Rattle.bound_laws.specs.Priced.{IsPricedValue}
+use Rattle.fraction.specs.declared.frac.Frac.{Frac}
+use Rattle.parse_graph.specs.Graphs.{GraphView}
+use Rattle.master_laws.specs.Laws.{IsBelowHeads}
+use Rattle.master_laws.specs.Rows.{rows_of}
+use Rattle.master_laws.specs.Sharp.{IsHard}
+use Rattle.tree_pool.specs.Pools.{PoolTree}
+use Rattle.node_master.specs.declared.ends.Weight.{Weight}
+use Rattle.node_master.specs.Ends.{IsBest}
+use Rattle.growing_laws.specs.Grown.{Grown, fresh}
+use Rattle.open_nodes.specs.declared.leaf.OpenLeaf.{OpenLeaf}
+use Rattle.search_tree.specs.Views.{IsPlace}
+use Rattle.search_tree.specs.Trees.{last_count}
+use Rattle.offers.specs.Offers.{limit_of}
+use Rattle.branch_price.specs.declared.progress.Progress.{Progress}
+use Rattle.branch_price.specs.Searching.{site_of, IsSearching}
+
+-- a leaf that was taken from those that wait
+pub record AsksTurn (i : Instance) (v : GraphView) (strict : Bool) (now : ℕ) (p : Progress)
+    (leaf : OpenLeaf) : Type 0 where
+  pub before : ℕ
+  pub tree : Grown
+  pub is : IsSearching (site_of i v strict before) now leaf.bound (leaf ∷ []) p tree
+  pub below : leaf.bound < limit_of i p.best
+  pub few : p.tree.processed < 10000
+
+-- a leaf that is not processed, below these cuts
+pub record AsksNode (i : Instance) (v : GraphView) (strict : Bool) (before now low : ℕ) (p : Progress)
+    (leaf : OpenLeaf) (cuts : List Cut) : Type 0 where
+  pub tree : Grown
+  pub is : IsSearching (site_of i v strict before) now low (leaf ∷ []) p tree
+  pub place : IsPlace (base_cuts i) tree leaf.kept.seat leaf.bound cuts fresh
+  pub few : p.tree.processed < 10000
+
+-- one more node is processed, and no leaf is in hand
+pub record IsTurned (i : Instance) (v : GraphView) (strict : Bool) (before now low : ℕ)
+    (old new : Progress) : Type 0 where
+  pub tree : Grown
+  pub is : IsSearching (site_of i v strict before) now low [] new tree
+  pub processed : new.tree.processed ≡ old.tree.processed + 1
+
+-- the node's master failed for a cause that may be
+pub record IsGivenUp (i : Instance) (strict : Bool) (now later : ℕ) (cuts : List Cut) : Type 0 where
+  pub hard : IsTrue strict → IsHard i cuts
+  pub cause : (now < later) ⊎ (later ≡ last_count) ⊎ ((now ≤ later) × (1500 < length (rows_of i cuts)))
+  pub within : later ≤ last_count
+
+-- the node's master is solved
+pub record IsSolved (i : Instance) (cuts : List Cut) (columns : List PoolTree) (prices : Prices)
+    (weights : List Weight) : Type 0 where
+  pub value : Frac
+  pub few : length (rows_of i cuts) ≤ 1500
+  pub best : IsBest i cuts columns prices value weights
+
+-- and these are what its prices show
+pub record IsShown (i : Instance) (cuts : List Cut) (columns : List PoolTree) (weights : List Weight)
+    (shown : ℕ) : Type 0 where
+  pub prices : Prices
+  pub solved : IsSolved i cuts columns prices weights
+  pub value : IsPricedValue i prices cuts shown
+  pub below : Each (IsBelowHeads i) cuts
+  pub based : (more : List Cut) × (cuts ≡ base_cuts i ++ more)
+
+-- a leaf that is not processed and leaves the same bound is in hand; as many nodes are processed as before
+pub record AsksHalf (i : Instance) (v : GraphView) (strict : Bool) (before now low : ℕ) (old new : Progress)
+    (half : OpenLeaf) : Type 0 where
+  pub path : List Cut
+  pub node : AsksNode i v strict before now low new half path
+  pub processed : new.tree.processed ≡ old.tree.processed
+
+-- nothing is processed, and the best roster is one of equal shifts of least price where this is allowed
+pub record IsBegun (i : Instance) (v : GraphView) (p : Progress) : Type 0 where
+  pub is : (strict : Bool) (before : ℕ) → (t : Grown) × IsSearching (site_of i v strict before) before 0 [] p t
+  pub none : p.tree.processed ≡ 0

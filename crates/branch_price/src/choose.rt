@@ -1,0 +1,84 @@
+ghost use Rattle.std.specs.Prelude.{ℕ, ◌≡◌, ◌≤◌, ◌<◌, IfOk, IfSome, MatchOption, length};
+ghost use Rattle.roster_model.specs.SoundInstance.{IsSoundInstance};
+ghost use Rattle.arc_branch.specs.Paths.{IsBoxOf, IsLooseAt};
+ghost use Rattle.parse_graph.specs.Graphs.{IsGraph};
+ghost use Rattle.tree_pool.specs.Pools.{IsPool, IsGrown};
+ghost use Rattle.candidate_rosters.specs.Rosters.{IsGoodRoster, IsDeskFor};
+ghost use Rattle.offers.specs.Offers.{limit_of, IsBetter};
+ghost use Rattle.search_tree.specs.Trees.{IsPlan};
+ghost use Rattle.branch_price.specs.Steps.{IsShown};
+ghost use Rattle.branch_price.specs.Plans.{IsPlanAt};
+
+use arc_branch::ArcBox;
+use arc_weights::{Weighed, weigh};
+use candidate_rosters::{Roster, RosterDesk};
+use node_master::{Pool, Weight};
+use offers::{limit, offer_counts};
+use open_nodes::Plan;
+use parse_graph::Graph;
+use roster_model::{Cut, Instance, Memory};
+use std::alloc::Global;
+
+/// Returns the split of an arc at its least count.
+fn at_least(arc_box: &ArcBox, arc: u32) -> Plan
+    requires { arc < length arc_box.now.bounds }
+    ensures { IsPlanAt arc_box.now arc result }
+{
+    Plan {
+        arc,
+        b: arc_box.low(arc),
+    }
+}
+
+/// Returns where a node is to be split, from the weights of the trees at its solution; `None` where its
+/// prices show no less than the best roster costs. Where the weights of the arcs are whole, their roster is
+/// offered first. The arc of the number `loose` is left more than one count.
+pub(crate) fn plan_of(
+    alloc: Global,
+    instance: &Instance,
+    graph: &Graph,
+    cuts: &[Cut],
+    arc_box: &ArcBox,
+    loose: u32,
+    weights: &[Weight],
+    value: u64,
+    pool: &mut Pool,
+    rosters: &mut RosterDesk,
+    best: &mut Option<Roster>,
+) -> Result<Option<Plan>, Memory>
+    requires sound { IsSoundInstance instance.now }
+    requires graph { IsGraph instance.now.grammar graph.now }
+    requires left { IsBoxOf instance.now graph.now cuts.now arc_box.now }
+    requires loose { IsLooseAt instance.now graph.now cuts.now loose }
+    requires shown { IsShown instance.now cuts.now pool.old weights.now value }
+    requires pool { IsPool instance.now.grammar pool.old }
+    requires rosters { IsDeskFor instance.now.grammar rosters.old }
+    requires best { IfSome best.old (IsGoodRoster instance.now) }
+    ensures plan { IfOk result (λ plan. MatchOption plan (limit_of instance.now best.new ≤ value)
+        (IsPlan instance.now graph.now cuts.now)) }
+    ensures better { IsBetter instance.now best.old best.new }
+    ensures pool { IsPool instance.now.grammar pool.new }
+    ensures grown { IsGrown pool.old pool.new }
+    ensures rosters { IsDeskFor instance.now.grammar rosters.new }
+{
+    match weigh(alloc, instance, graph, cuts, arc_box, pool, weights)? {
+        Weighed::Between { arc, b } => Ok(Some(Plan { arc, b })),
+        Weighed::Whole(counts) => {
+            offer_counts(
+                alloc,
+                instance,
+                graph,
+                counts.as_slice(),
+                pool,
+                rosters,
+                best,
+            )?;
+            if limit(instance, best) <= value {
+                Ok(None)
+            } else {
+                Ok(Some(at_least(arc_box, loose)))
+            }
+        }
+        Weighed::Other => Ok(Some(at_least(arc_box, loose))),
+    }
+}

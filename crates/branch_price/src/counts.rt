@@ -1,0 +1,28 @@
+ghost use Rattle.std.specs.Prelude.{◌≡◌, IfOk, length};
+ghost use Rattle.parse_graph.specs.Graphs.{HasGrammar};
+ghost use Rattle.branch_price.specs.Plans.{AreLeast};
+
+use arc_branch::ArcBox;
+use parse_graph::Graph;
+use roster_model::Memory;
+use std::alloc::Global;
+
+/// Returns the least count that a box leaves each arc.
+pub(crate) fn least_counts(
+    alloc: Global,
+    graph: &Graph,
+    arc_box: &ArcBox,
+) -> Result<Vec<u32>, Memory>
+    requires { length arc_box.now.bounds ≡ length graph.now.arcs }
+    ensures { IfOk result (λ v. AreLeast arc_box.now v.items) }
+{
+    let Ok(mut counts) = Vec::with_capacity(alloc, graph.arcs().len()) else {
+        return Err(Memory);
+    };
+    for arc in 0..graph.arcs().len() {
+        if counts.push(arc_box.low(arc as u32)).is_err() {
+            return Err(Memory);
+        }
+    }
+    Ok(counts)
+}

@@ -1,0 +1,89 @@
+ghost use Rattle.std.specs.Prelude.{ℕ, ◌≡◌, Bool, [], ◌≤◌, IfOk, length};
+ghost use Rattle.roster_model.specs.SoundInstance.{IsSoundInstance};
+ghost use Rattle.bound_laws.specs.Infeasible.{IsPlainlyInfeasible};
+ghost use Rattle.parse_graph.specs.Graphs.{IsGraph};
+ghost use Rattle.priced_part.specs.Filled.{TellsDerived};
+ghost use Rattle.branch_price.specs.Found.{IsFound, AreCounted};
+ghost use Rattle.branch_price.specs.Infeasible.{ArePlain, HoldsPlain, IsInfeasibleNode};
+
+use crate::found::Found;
+use certificates::{Cert, Node};
+use parse_graph::Graph;
+use priced_part::derived_names;
+use roster_model::{Done, Instance, List, MOST_NAMES, Memory, PriceRoom, Prices};
+use span_table::Table;
+use std::alloc::Global;
+
+/// Returns prices of 0 at the denominator 1.
+fn plain_prices(alloc: Global, instance: &Instance) -> Result<Prices, Memory>
+    ensures { IfOk result (ArePlain instance.now) }
+{
+    let mut cell = List::new(alloc);
+    for _ in 0..instance.cells.len() {
+        cell.push(0)?;
+    }
+    Ok(Prices {
+        d: 1,
+        cell,
+        mult: List::new(alloc),
+    })
+}
+
+/// Returns room that holds plain costs.
+fn plain_room(alloc: Global, instance: &Instance) -> Result<PriceRoom, Memory>
+    requires { IsSoundInstance instance.now }
+    ensures { IfOk result (HoldsPlain instance.now) }
+{
+    let prices = plain_prices(alloc, instance)?;
+    let mut room = PriceRoom::for_cuts(alloc, instance, 0)?;
+    room.set(instance, &prices, &[]);
+    Ok(room)
+}
+
+/// Returns of each name of the grammar, in its order, whether it derives a word of the day.
+pub(crate) fn derived(alloc: Global, instance: &Instance) -> Result<[bool; MOST_NAMES], Memory>
+    requires { IsSoundInstance instance.now }
+    ensures { IfOk result (TellsDerived instance.now.grammar) }
+{
+    let room = plain_room(alloc, instance)?;
+    let mut table = Table::for_instance(alloc, &instance.grammar)?;
+    table.least(&instance.grammar, &room);
+    Ok(derived_names(&instance.grammar, &table))
+}
+
+/// Returns the one node of a day that is plainly infeasible: one with prices of 0, or where the day has no
+/// arc, so that each has one count, one that says so.
+fn infeasible_node(alloc: Global, instance: &Instance, graph: &Graph) -> Result<Node, Memory>
+    ensures { IfOk result (IsInfeasibleNode instance.now graph.now) }
+{
+    if graph.arcs().is_empty() {
+        return Ok(Node::Pinned);
+    }
+    Ok(Node::Priced {
+        prices: plain_prices(alloc, instance)?,
+    })
+}
+
+/// Returns what a search finds where the head counts or a cell alone show that no roster is allowed.
+pub(crate) fn no_roster(alloc: Global, instance: &Instance, graph: &Graph) -> Result<Found, Memory>
+    requires sound { IsSoundInstance instance.now }
+    requires infeasible { IsPlainlyInfeasible instance.now }
+    requires graph { IsGraph instance.now.grammar graph.now }
+    ensures found { IfOk result (λ f. (strict : Bool) (turns : ℕ) → 1 ≤ turns
+        → IsFound instance.now strict turns f) }
+    ensures counted { IfOk result (λ f. (before : ℕ) → AreCounted instance.now before before f) }
+{
+    let mut nodes = List::new(alloc);
+    nodes.push(infeasible_node(alloc, instance, graph)?)?;
+    Ok(Found {
+        cert: Cert {
+            shifts: List::new(alloc),
+            cost: None,
+            bound: None,
+            nodes,
+        },
+        done: Done::NoRoster,
+        processed: 1,
+        failed: 0,
+    })
+}

@@ -1,0 +1,23 @@
+//! Branch and price: a search for a roster of least cost, which ends in an accepted certificate.
+//!
+//! Best first over a tree of splits on the counts of arcs, with prices from each node's linear program, as
+//! is usual (Barnhart, Johnson, Nemhauser, Savelsbergh and Vance, "Branch-and-Price: Column Generation for
+//! Solving Huge Integer Programs", Operations Research 46, 1998).
+#![tactic(auto)]
+
+mod choose;
+mod counts;
+mod desk;
+mod found;
+mod infeasible;
+mod leaf;
+mod progress;
+mod search;
+mod turn;
+mod value;
+
+pub use found::Found;
+pub use node_master::Pool;
+pub use roster_model::Done;
+pub use search::search;
+pub use search_master::{FailingMaster, Master, PlainMaster};

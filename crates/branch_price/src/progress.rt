@@ -1,0 +1,27 @@
+ghost use Rattle.roster_model.specs.SoundInstance.{IsSoundInstance};
+ghost use Rattle.branch_price.specs.Ends.{IsNext};
+
+use candidate_rosters::Roster;
+use offers::limit;
+use open_nodes::OpenLeaf;
+use roster_model::Instance;
+use search_tree::SearchTree;
+
+/// How far a search is: its tree, and the best roster that it has found.
+#[derive(Drop)]
+pub(crate) struct Progress {
+    pub tree: SearchTree,
+    pub best: Option<Roster>,
+}
+
+impl Progress {
+    /// Takes a leaf of least bound, where this is below the best roster's cost; `None` where no open leaf
+    /// leaves such a bound.
+    pub fn next(&mut self, instance: &Instance) -> Option<OpenLeaf>
+        requires { IsSoundInstance instance.now }
+        ensures { IsNext instance.now self.old self.new result }
+    {
+        let limit = limit(instance, &self.best);
+        self.tree.next(limit)
+    }
+}

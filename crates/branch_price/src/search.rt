@@ -1,0 +1,231 @@
+ghost use Rattle.std.specs.Prelude.{ℕ, ◌≡◌, ◌≤◌, ◌<◌, Bool, IfOk, OnOk};
+ghost use Rattle.roster_model.specs.SoundInstance.{IsSoundInstance};
+ghost use Rattle.bound_laws.specs.Infeasible.{IsPlainlyInfeasible};
+ghost use Rattle.parse_graph.specs.Graphs.{IsGraph};
+ghost use Rattle.priced_part.specs.Filled.{TellsDerived};
+ghost use Rattle.tree_pool.specs.Pools.{IsPool, IsGrown};
+ghost use Rattle.node_path.specs.Paths.{IsPath};
+ghost use Rattle.branch_price.specs.Desks.{IsDesk};
+ghost use Rattle.branch_price.specs.Ends.{IsEnd, AsksEnd, IsStatedBy, IsClosedBy};
+ghost use Rattle.branch_price.specs.Found.{IsFound, AreCounted};
+ghost use Rattle.branch_price.specs.Steps.{IsBegun};
+
+use crate::desk::Desk;
+use crate::found::Found;
+use crate::infeasible::{derived, no_roster};
+use crate::progress::Progress;
+use crate::turn::turn;
+use candidate_rosters::{Roster, least_roster};
+use certificates::Cert;
+use node_master::Pool;
+use node_path::NodePath;
+use parse_graph::Graph;
+use priced_part::is_plainly_infeasible;
+use roster_model::{Done, Instance, List, Memory, Shift};
+use search_master::Master;
+use search_tree::SearchTree;
+use std::alloc::Global;
+
+/// Returns how far a search is at its begin: the root is not processed, and the best roster is that of
+/// equal shifts of least price, where this is allowed.
+fn begin(
+    alloc: Global,
+    instance: &Instance,
+    graph: &Graph,
+    desk: &mut Desk,
+    pool: &mut Pool,
+) -> Result<Progress, Memory>
+    requires sound { IsSoundInstance instance.now }
+    requires graph { IsGraph instance.now.grammar graph.now }
+    requires desk { IsDesk instance.now graph.now desk.old }
+    requires pool { IsPool instance.now.grammar pool.old }
+    ensures begun { IfOk result (IsBegun instance.now graph.now) }
+    ensures desk { IsDesk instance.now graph.now desk.new }
+    ensures pool { IsPool instance.now.grammar pool.new }
+    ensures grown { IsGrown pool.old pool.new }
+{
+    let best = least_roster(
+        alloc,
+        instance,
+        graph,
+        &mut desk.pricing.pricer,
+        &mut desk.pricing.room,
+        pool,
+        &mut desk.rosters,
+    )?;
+    Ok(Progress {
+        tree: SearchTree::new(alloc)?,
+        best,
+    })
+}
+
+/// Returns the shifts and the cost of the best roster; no shift and no cost where there is none.
+fn stated(alloc: Global, best: Option<Roster>) -> (List<Shift>, Option<u64>)
+    ensures { IsStatedBy best result }
+{
+    match best {
+        Some(roster) => (roster.shifts, Some(roster.cost)),
+        None => (List::new(alloc), None),
+    }
+}
+
+/// Returns what a search found that is at its end, with this bound.
+fn found(
+    alloc: Global,
+    instance: &Instance,
+    progress: Progress,
+    bound: Option<u64>,
+    done: Done,
+) -> Result<Found, Memory>
+    requires sound { IsSoundInstance instance.now }
+    requires end { (a : AsksEnd instance.now) × IsEnd instance.now a.graph a.strict a.before a.now a.turns progress
+        bound done }
+    ensures found { IfOk result (λ f. (a : AsksEnd instance.now)
+        → IsEnd instance.now a.graph a.strict a.before a.now a.turns progress bound done
+        → IsFound instance.now a.strict a.turns f × AreCounted instance.now a.before a.now f) }
+{
+    let processed = progress.tree.processed();
+    let failed = progress.tree.failed();
+    let nodes = progress.tree.into_nodes(alloc)?;
+    let (shifts, cost) = stated(alloc, progress.best);
+    Ok(Found {
+        cert: Cert {
+            shifts,
+            cost,
+            bound,
+            nodes,
+        },
+        done,
+        processed,
+        failed,
+    })
+}
+
+/// Returns the bound of a search that is closed, which is the best roster's cost, and how it ended.
+fn closed_end(best: &Option<Roster>) -> (Option<u64>, Done)
+    ensures { IsClosedBy best.now result }
+{
+    match best {
+        Some(roster) => (Some(roster.cost), Done::Equal),
+        None => (None, Done::NoRoster),
+    }
+}
+
+/// Searches with all that it takes, from the root.
+fn search_along<M: Master>(
+    alloc: Global,
+    instance: &Instance,
+    graph: &Graph,
+    derives: &[bool],
+    turns: u32,
+    path: &mut NodePath,
+    desk: &mut Desk,
+    pool: &mut Pool,
+    master: &mut M,
+) -> Result<Found, Memory>
+    requires sound { IsSoundInstance instance.now }
+    requires busy { IsPlainlyInfeasible instance.now → ⊥ }
+    requires graph { IsGraph instance.now.grammar graph.now }
+    requires told { TellsDerived instance.now.grammar derives.now }
+    requires few { turns ≤ 10000 }
+    requires path { IsPath instance.now graph.now path.old }
+    requires desk { IsDesk instance.now graph.now desk.old }
+    requires pool { IsPool instance.now.grammar pool.old }
+    ensures found { IfOk result (IsFound instance.now (M.strict master.old) turns) }
+    ensures counted { IfOk result (AreCounted instance.now (M.refused master.old) (M.refused master.new)) }
+    ensures rises { M.refused master.old ≤ M.refused master.new }
+    ensures strict_stays { M.strict master.new ≡ M.strict master.old }
+    ensures pool { IsPool instance.now.grammar pool.new }
+    ensures grown { IsGrown pool.old pool.new }
+{
+    let mut progress = begin(alloc, instance, graph, desk, pool)?;
+    while let Some(leaf) = progress.next(instance) {
+        if progress.tree.processed() == turns {
+            return found(alloc, instance, progress, Some(leaf.bound), Done::TurnsOut);
+        }
+        turn(
+            alloc,
+            instance,
+            graph,
+            derives,
+            path,
+            desk,
+            pool,
+            master,
+            &mut progress,
+            leaf,
+        )?;
+    }
+    let (bound, done) = closed_end(&progress.best);
+    found(alloc, instance, progress, bound, done)
+}
+
+/// Searches a day that is not plainly infeasible.
+fn search_day<M: Master>(
+    alloc: Global,
+    instance: &Instance,
+    graph: &Graph,
+    derives: &[bool],
+    turns: u32,
+    pool: &mut Pool,
+    master: &mut M,
+) -> Result<Found, Memory>
+    requires sound { IsSoundInstance instance.now }
+    requires busy { IsPlainlyInfeasible instance.now → ⊥ }
+    requires graph { IsGraph instance.now.grammar graph.now }
+    requires told { TellsDerived instance.now.grammar derives.now }
+    requires few { turns ≤ 10000 }
+    requires pool { IsPool instance.now.grammar pool.old }
+    ensures found { IfOk result (IsFound instance.now (M.strict master.old) turns) }
+    ensures counted { IfOk result (AreCounted instance.now (M.refused master.old) (M.refused master.new)) }
+    ensures rises { M.refused master.old ≤ M.refused master.new }
+    ensures strict_stays { M.strict master.new ≡ M.strict master.old }
+    ensures pool { IsPool instance.now.grammar pool.new }
+    ensures grown { IsGrown pool.old pool.new }
+{
+    let mut desk = Desk::new(alloc, instance, graph)?;
+    let mut path = NodePath::new(alloc, instance, graph)?;
+    search_along(
+        alloc, instance, graph, derives, turns, &mut path, &mut desk, pool, master,
+    )
+}
+
+/// Searches for a roster of least cost, with at most so many turns, 1 to 10,000. Each turn processes one
+/// node, one of least bound first.
+///
+/// The certificate is sound and accepted, its bound is what its tree shows, and its shifts stand in order
+/// of their groups and then of their bytes. The bound is the cost, or both say that no roster is allowed,
+/// unless the turns ran out; these are enough where they are at least twice the points less one, a point
+/// being a choice of one count for each arc. The graph is the instance's, and the pool's trees are of its
+/// day; whatever the answer, it has its old trees under their numbers, and beside them only further trees
+/// of the day.
+///
+/// # Errors
+///
+/// `Memory` where memory runs out; the master's count may have risen.
+pub fn search<M: Master>(
+    alloc: Global,
+    instance: &Instance,
+    graph: &Graph,
+    turns: u32,
+    pool: &mut Pool,
+    master: &mut M,
+) -> Result<Found, Memory>
+    requires sound { IsSoundInstance instance.now }
+    requires graph { IsGraph instance.now.grammar graph.now }
+    requires pool { IsPool instance.now.grammar pool.old }
+    requires some { 1 ≤ turns }
+    requires few { turns ≤ 10000 }
+    ensures found { IfOk result (IsFound instance.now (M.strict master.old) turns) }
+    ensures counted { IfOk result (AreCounted instance.now (M.refused master.old) (M.refused master.new)) }
+    ensures rises { M.refused master.old ≤ M.refused master.new }
+    ensures strict_stays { M.strict master.new ≡ M.strict master.old }
+    ensures pool { IsPool instance.now.grammar pool.new }
+    ensures grown { IsGrown pool.old pool.new }
+{
+    let derives = derived(alloc, instance)?;
+    if is_plainly_infeasible(instance, &derives) {
+        return no_roster(alloc, instance, graph);
+    }
+    search_day(alloc, instance, graph, &derives, turns, pool, master)
+}

@@ -1,0 +1,55 @@
+-- The best roster so far, and rosters from counts.
+use Rattle.std.specs.Prelude.{ℕ, ◌≡◌, ◌≤◌, ◌⊎◌, Option, None, Some, IfSome, List, length}
+use Rattle.roster_model.specs.declared.grammar.ArcKey.{ArcKey}
+use Rattle.roster_model.specs.declared.instance.Cut.{Cut}
+use Rattle.roster_model.specs.declared.instance.Instance.{Instance}
+use Rattle.roster_model.specs.Cuts.{Meets, base_cuts}
+use Rattle.roster_model.specs.Folds.{Each}
+use Rattle.roster_model.specs.GreatestCost.{greatest_cost}
+use Rattle.roster_model.specs.Trees.{Parts}
+use Rattle.arc_laws.specs.Lists.{AreArcs}
+use Rattle.linear_programs.specs.Solution.{Weighted}
+use Rattle.bound_laws.specs.TreeRosters.{IsTreeRoster, trees_cost}
+use Rattle.certificate_laws.specs.Accepted.{bound_number}
+use Rattle.master_laws.specs.Master.{MasterKey}
+use Rattle.master_laws.specs.Sharp.{UsesArtificial}
+use Rattle.master_laws.specs.WholeCounts.{HaveCounts, CanBeSplit}
+use Rattle.parse_graph.specs.Graphs.{GraphView}
+use Rattle.roster_split.specs.Counts.{count_of}
+use Rattle.candidate_rosters.specs.declared.roster.Roster.{Roster}
+use Rattle.candidate_rosters.specs.Rosters.{IsGoodRoster}
+use Rattle.candidate_rosters.specs.Starts.{StartsWith}
+
+-- the cost of the best roster, none where there is no roster
+abbrev pub cost_of : Option Roster → Option ℕ
+cost_of None = None
+cost_of (Some r) = Some r.cost
+
+-- that cost, or one more than the greatest cost
+abbrev pub limit_of : Instance → Option Roster → ℕ
+limit_of i best = bound_number i (cost_of best)
+
+-- the best roster gave way to none that costs more
+pub record IsBetter (i : Instance) (old new : Option Roster) : Type 0 where
+  pub falls : limit_of i new ≤ limit_of i old
+  pub good : IfSome new (IsGoodRoster i)
+  pub start : StartsWith i old → StartsWith i new
+
+-- balanced counts of the arcs of the graph
+pub record CanBeTrees (i : Instance) (v : GraphView) (counts : List ℕ) : Type 0 where
+  pub each : length counts ≡ length v.arcs
+  pub listed : List ArcKey
+  pub are : AreArcs i.grammar listed
+  pub split : CanBeSplit i listed (count_of v.arcs counts)
+
+-- so many of the trees have each arc
+abbrev pub HaveCountsOf : Instance → GraphView → List ℕ → List Parts → Type 0
+HaveCountsOf i v counts ts =
+    (listed : List ArcKey) → AreArcs i.grammar listed → HaveCounts i listed (count_of v.arcs counts) ts
+
+-- trees with these counts are a roster that meets the base cuts and costs at most x, unless the solution
+-- uses an artificial column
+abbrev pub Reach : Instance → GraphView → List ℕ → List Cut → List (Weighted MasterKey) → ℕ → Type 0
+Reach i v counts cuts ws x =
+    (ts : List Parts) → HaveCountsOf i v counts ts
+    → UsesArtificial i cuts ws ⊎ (IsTreeRoster i ts × Each (Meets ts) (base_cuts i) × (trees_cost i ts ≤ x))

@@ -1,0 +1,54 @@
+ghost use Rattle.std.specs.Prelude.{ℕ, ◌≡◌, ◌≤◌, ◌<◌, ◌-◌, ◌^◌, Bool, IfOk, length};
+ghost use Rattle.roster_model.specs.Folds.{Each};
+ghost use Rattle.roster_model.specs.SoundInstance.{IsSoundInstance};
+ghost use Rattle.roster_model.specs.Trees.{Parts, IsDayTree};
+ghost use Rattle.bound_laws.specs.Infeasible.{IsPlainlyInfeasible};
+ghost use Rattle.parse_graph.specs.Graphs.{IsGraph};
+ghost use Rattle.cheapest_tree.specs.Pricers.{IsMadeFor};
+ghost use Rattle.tree_pool.specs.Pools.{IsPool, IsGrown};
+ghost use Rattle.node_master.specs.Ends.{IsNodeCut};
+ghost use Rattle.search_master.specs.Refusals.{EndsWell};
+
+use cheapest_tree::Pricer;
+use node_master::{NodeEnd, Pool};
+use parse_graph::Graph;
+use roster_model::{Cut, Instance, Memory};
+use std::alloc::Global;
+
+/// What prices the nodes of a search.
+pub trait Master {
+    // How many nodes were refused: it never falls, and stays at the last value of a u64.
+    ghost refused: { Self → ℕ };
+
+    // Whether it refuses hard nodes alone.
+    ghost strict: { Self → Bool };
+
+    /// Prices the node at a path of cuts, base cuts first, or gives it up. Trees of the pool that are
+    /// `wanted` may steer it, the most wanted first: any list of numbers is lawful.
+    fn node(
+        &mut self,
+        alloc: Global,
+        instance: &Instance,
+        graph: &Graph,
+        pricer: &mut Pricer,
+        pool: &mut Pool,
+        cuts: &[Cut],
+        wanted: &[usize],
+    ) -> Result<NodeEnd, Memory>
+        requires sound { IsSoundInstance instance.now }
+        requires busy { IsPlainlyInfeasible instance.now → ⊥ }
+        requires graph { IsGraph instance.now.grammar graph.now }
+        requires tree { (t : Parts) × IsDayTree instance.now.grammar t }
+        requires pricer { IsMadeFor graph.now pricer.old }
+        requires pool { IsPool instance.now.grammar pool.old }
+        requires cuts { Each (IsNodeCut instance.now) cuts.now }
+        requires few { length cuts.now < 2 ^ 31 }
+        ensures end { IfOk result (EndsWell instance.now cuts.now pool.new (refused self.old) (refused self.new)
+            (strict self.old)) }
+        ensures rises { refused self.old ≤ refused self.new }
+        ensures within { refused self.new ≤ 2 ^ 64 - 1 }
+        ensures strict_stays { strict self.new ≡ strict self.old }
+        ensures pricer { IsMadeFor graph.now pricer.new }
+        ensures pool { IsPool instance.now.grammar pool.new }
+        ensures grown { IsGrown pool.old pool.new };
+}
