@@ -5,6 +5,7 @@
 //! Solving Huge Integer Programs", Operations Research 46, 1998).
 #![tactic(auto)]
 
+mod branching;
 mod choose;
 mod counts;
 mod desk;
@@ -12,12 +13,11 @@ mod found;
 mod infeasible;
 mod leaf;
 mod progress;
-mod search;
 mod turn;
 mod value;
 
+pub use branching::search;
 pub use found::Found;
 pub use node_master::Pool;
 pub use roster_model::Done;
-pub use search::search;
 pub use search_master::{FailingMaster, Master, PlainMaster};

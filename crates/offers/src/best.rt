@@ -25,9 +25,12 @@ pub fn offer(instance: &Instance, best: &mut Option<Roster>, found: Option<Roste
     ensures better { IsBetter instance.now best.old best.new }
     ensures least { limit_of instance.now best.new ≤ limit_of instance.now found }
 {
-    if let Some(roster) = found {
-        if roster.cost < limit(instance, best) {
-            *best = Some(roster);
+    match found {
+        Some(roster) => {
+            if roster.cost < limit(instance, best) {
+                *best = Some(roster);
+            }
         }
+        None => {}
     }
 }

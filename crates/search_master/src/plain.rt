@@ -1,5 +1,5 @@
-ghost use Rattle.std.specs.Prelude.{◌≡◌, ◌+◌, ◌-◌, ◌^◌, min};
-ghost use Rattle.search_master.specs.Refusals.{refusals, counted};
+ghost use Rattle.std.specs.Prelude.{◌≡◌, ◌≤◌, ◌-◌, ◌^◌};
+ghost use Rattle.search_master.specs.Refusals.{Refuses, refusals, counted};
 
 use crate::master::Master;
 use cheapest_tree::Pricer;
@@ -64,9 +64,12 @@ impl PlainMaster {
 
     // Counts a node that is refused without being looked at.
     pub(crate) fn refuse(&mut self)
-        ensures { self.new ≡ record self.old { refused = min (self.old.refused + 1) (2 ^ 64 - 1) } }
+        ensures rises { self.old.refused ≤ self.new.refused }
+        ensures rose { Refuses self.old.refused self.new.refused }
+        ensures within { self.new.refused ≤ 2 ^ 64 - 1 }
     {
-        self.refused = self.refused.saturating_add(1);
+        let refused = self.refused;
+        self.refused = refused.saturating_add(1);
     }
 }
 
@@ -87,6 +90,7 @@ impl Master for PlainMaster {
         cuts: &[Cut],
         wanted: &[usize],
     ) -> Result<NodeEnd, Memory> {
+        let refused = self.refused;
         let end = solve_node(
             alloc,
             instance,
@@ -97,7 +101,7 @@ impl Master for PlainMaster {
             wanted,
             &mut self.tally,
         )?;
-        self.refused = count_end(self.refused, &end);
+        self.refused = count_end(refused, &end);
         Ok(end)
     }
 }
