@@ -1,5 +1,5 @@
 use Rattle.offers.proofs.Limits.{limit-most}
 use Rattle.offers.proofs.best.offer.Goals as goal
 
-pub returns-in_None-clause-least : goal.returns-in_None-clause-least
-returns-in_None-clause-least c = limit-most c.args.instance.now c.args.best.now c.requires.sound c.requires.best
+pub returns-in-None-clause-least : goal.returns-in-None-clause-least
+returns-in-None-clause-least c = limit-most c.args.instance.now c.args.best.now c.requires.sound c.requires.best
