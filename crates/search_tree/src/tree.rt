@@ -1,10 +1,9 @@
-ghost use Rattle.std.specs.Prelude.{ℕ, ◌≡◌, ◌≤◌, ◌<◌, [], ◌∷◌, IfOk, OnOk, MatchOption, List as Items};
+ghost use Rattle.std.specs.Prelude.{ℕ, ◌≡◌, ◌≤◌, ◌<◌, [], ◌∷◌, IfOk, OnOk, MatchOption, length};
 ghost use Rattle.roster_model.specs.Cuts.{base_cuts};
 ghost use Rattle.certificates.specs.Nodes.{preorder};
 ghost use Rattle.growing_laws.specs.Grown.{Grown, OnTips, tip_bound, proof_of};
 ghost use Rattle.growing_laws.specs.Boxes.{IsOpenLeaf};
 ghost use Rattle.growing_laws.specs.Seats.{HoldTree};
-ghost use Rattle.open_nodes.specs.declared.leaf.OpenLeaf.{OpenLeaf as Waiting};
 ghost use Rattle.search_tree.specs.Views.{Site, TreeView};
 ghost use Rattle.search_tree.specs.Trees.{last_count, IsTree};
 ghost use Rattle.search_tree.specs.Steps.{IsHalfOf};
@@ -190,8 +189,8 @@ impl SearchTree {
 
     /// Returns the nodes of the tree in preorder.
     pub fn into_nodes(self, alloc: Global) -> Result<List<Node>, Memory>
-        requires { (s : Site) × (limit : ℕ) × (now : ℕ) × (low : ℕ) × (hand : Items Waiting) × (t : Grown)
-            × IsTree s limit now low hand self t × (self.processed ≤ 10000) }
+        requires few { length self.seats < 4294967295 }
+        requires tree { (t : Grown) × HoldTree self.seats t }
         ensures { IfOk result (λ nodes. (t : Grown) → HoldTree self.seats t → nodes ≡ preorder (proof_of t)) }
     {
         list_nodes(alloc, self.seats)
