@@ -1,3 +1,4 @@
 pub mod Order
 pub mod Rosters
+pub mod Spelled
 pub mod Starts

@@ -2,10 +2,12 @@
 use Rattle.std.specs.Prelude.{ℕ, ◌≡◌, ◌≤◌, Option, None, Some, List, [], ◌∷◌, length, slice_get}
 use Rattle.roster_model.specs.declared.grammar.Grammar.{Grammar}
 use Rattle.roster_model.specs.declared.instance.Instance.{Instance}
+use Rattle.roster_model.specs.declared.instance.Shift.{Shift}
 use Rattle.roster_model.specs.Folds.{Each}
-use Rattle.roster_model.specs.Room.{RoomView}
+use Rattle.roster_model.specs.Rosters.{ArePrices}
 use Rattle.roster_model.specs.Trees.{Parts}
 use Rattle.span_table.specs.Tables.{IsMadeFor}
+use Rattle.certificates.specs.RosterCauses.{duties, stated_prices}
 use Rattle.certificates.specs.Sound.{IsSoundShift}
 use Rattle.certificate_laws.specs.Accepted.{IsStated}
 use Rattle.tree_pool.specs.Pools.{PoolTree, IsPoolTree}
@@ -19,6 +21,13 @@ pub record IsGoodRoster (i : Instance) (r : Roster) : Type 0 where
   pub ascending : AreAscending r.shifts
   pub sound : Each (IsSoundShift i) r.shifts
   pub few : length r.shifts ≤ 64
+
+-- shifts of their teams at their prices, in their order
+pub record ArePricedShifts (i : Instance) (shifts : List Shift) : Type 0 where
+  pub prices : ArePrices i (duties shifts) (stated_prices shifts)
+  pub ascending : AreAscending shifts
+  pub sound : Each (IsSoundShift i) shifts
+  pub few : length shifts ≤ 64
 
 -- the columns are these trees, in their order
 abbrev pub AreTreesAt : Grammar → List PoolTree → List ℕ → List Parts → Type 0

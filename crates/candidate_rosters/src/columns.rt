@@ -25,5 +25,10 @@ pub fn columns_of(
     ensures trees { IfOk result (λ columns. (ts : Items Parts) → Each (IsDayTree grammar.now) ts
         → trees.now ≡ map (steps 1) ts → AreTreesAt grammar.now pool.new columns ts) }
 {
-    Err(Memory)
+    let mut columns = List::new(alloc);
+    for tree in trees {
+        let column = pool.add(grammar, tree.as_slice())?;
+        columns.push(column)?;
+    }
+    Ok(columns)
 }

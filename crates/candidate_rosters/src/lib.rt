@@ -3,8 +3,14 @@
 
 mod columns;
 mod desk;
+mod group;
 mod least;
+mod order;
+mod price;
 mod roster;
+mod shift;
+mod shifts;
+mod word;
 
 pub use columns::columns_of;
 pub use desk::RosterDesk;

@@ -5,12 +5,19 @@ ghost use Rattle.roster_model.specs.SoundInstance.{IsSoundInstance};
 ghost use Rattle.roster_model.specs.Trees.{Parts};
 ghost use Rattle.bound_laws.specs.TreeRosters.{IsTreeRoster, trees_cost};
 ghost use Rattle.tree_pool.specs.Pools.{IsPool};
-ghost use Rattle.candidate_rosters.specs.Rosters.{IsGoodRoster, AreTreesAt, CostsAtMost, IsDeskFor};
+ghost use Rattle.roster_model.specs.Rosters.{IsRoster, roster_cost};
+ghost use Rattle.certificates.specs.RosterCauses.{duties, stated_prices};
+ghost use Rattle.candidate_rosters.specs.Rosters.{IsGoodRoster, AreTreesAt, CostsAtMost, IsDeskFor, ArePricedShifts};
 
 use crate::desk::RosterDesk;
+use crate::shifts::shifts_of;
 use roster_model::{Instance, List, Memory, Shift};
+use roster_part::{coverage_fault, heads_fault, stated_cost};
 use std::alloc::Global;
 use tree_pool::Pool;
+
+// How many shifts a roster has at most.
+const MOST_SHIFTS: usize = 64;
 
 /// An allowed roster at its cost.
 #[derive(Debug, Drop)]
@@ -18,6 +25,27 @@ pub struct Roster {
     /// The shifts in order of their groups, and within a group of their words' bytes, each at its price.
     pub shifts: List<Shift>,
     pub cost: u64,
+}
+
+// Returns the roster of shifts at their prices, where it is allowed.
+fn judged(instance: &Instance, shifts: List<Shift>, desk: &mut RosterDesk) -> Option<Roster>
+    requires sound { IsSoundInstance instance.now }
+    requires desk { IsDeskFor instance.now.grammar desk.old }
+    requires shifts { ArePricedShifts instance.now shifts }
+    ensures roster { IfSome result (IsGoodRoster instance.now) }
+    ensures cost { IsRoster instance.now (duties shifts) (stated_prices shifts)
+        → CostsAtMost (roster_cost instance.now (duties shifts) (stated_prices shifts)) result }
+    ensures desk { IsDeskFor instance.now.grammar desk.new }
+{
+    desk.room.keep_all(shifts.as_slice());
+    let stated = desk.room.shifts();
+    let fault = heads_fault(instance, stated).or(coverage_fault(instance, stated));
+    let cost = stated_cost(instance, stated);
+    desk.room.clear();
+    if fault.is_some() {
+        return None;
+    }
+    Some(Roster { shifts, cost })
 }
 
 /// Returns the roster of the words of trees of the pool, each at its price; `None` where it is not
@@ -39,5 +67,9 @@ pub fn roster_of(
         → CostsAtMost (trees_cost instance.now ts) found) }
     ensures desk { IsDeskFor instance.now.grammar desk.new }
 {
-    Err(Memory)
+    if columns.len() > MOST_SHIFTS {
+        return Ok(None);
+    }
+    let shifts = shifts_of(alloc, instance, pool, columns, desk)?;
+    Ok(judged(instance, shifts, desk))
 }
