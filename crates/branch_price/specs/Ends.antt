@@ -73,7 +73,7 @@ pub record IsEnd (i : Instance) (v : GraphView) (strict : Bool) (before now turn
   pub small : IfSome bound (λ b. b ≤ greatest_cost i)
   pub within : p.tree.processed ≤ turns
   pub few : turns ≤ 10000
-  pub done : IsDoneAt (cost_of p.best) bound done
+  pub ended : IsDoneAt (cost_of p.best) bound done
   pub spent : done ≡ TurnsOut → IsSpent i turns p
 
 -- whose search it is, for how many turns

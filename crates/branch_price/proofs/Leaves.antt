@@ -1,0 +1,88 @@
+-- A leaf in hand: the arc of its plan, and its path.
+use Rattle.std.proofs.Common.{◌≡◌, ℕ, arith, ◌≤◌, ◌<◌, ◌^◌, ◌*◌, ◌+◌, Option, None, Some, List, [], ◌∷◌, ◌++◌, length, refl, sym, ap, ◌∙◌, ◌⊎◌, inl, inr, MatchOption}
+use Rattle.std.specs.Prelude.{slice_get}
+use Rattle.roster_model.specs.declared.grammar.ArcKey.{ArcKey}
+use Rattle.roster_model.specs.declared.instance.Cut.{Cut}
+use Rattle.roster_model.specs.declared.instance.Instance.{Instance}
+use Rattle.roster_model.specs.Cuts.{base_cuts}
+use Rattle.roster_model.specs.Folds.{Each}
+use Rattle.roster_model.specs.SoundInstance.{IsSoundInstance}
+use Rattle.arc_laws.proofs.Folding.{Each-same}
+use Rattle.certificates.specs.Nodes.{low_cut, high_cut}
+use Rattle.master_laws.specs.Laws.{IsBelowHeads}
+use Rattle.node_master.specs.Ends.{IsNodeCut}
+use Rattle.growing_laws.specs.Grown.{Grown, tip, fork, Leaf, fresh, valued, fixed, Own, OnForks, SomeTip, raised, tip_bound}
+use Rattle.growing_laws.specs.Boxes.{IsOpenLeaf}
+use Rattle.growing_laws.specs.States.{IsSplit, IsSplitAt}
+use Rattle.growing_laws.proofs.Growing.{some-both, forks-map}
+use Rattle.open_nodes.specs.declared.leaf.Plan.{Plan}
+use Rattle.open_nodes.specs.declared.leaf.OpenLeaf.{OpenLeaf}
+use Rattle.search_tree.specs.Views.{TreeView, Site, IsPlace}
+use Rattle.search_tree.specs.Trees.{HasPlan, IsPlanned, IsTree, IsPlan}
+use Rattle.search_tree.proofs.TreeLaws.{queued-leaf, leaf-in-hand, few-seats, short-paths}
+use Rattle.node_path.specs.Paths.{IsNode}
+use Rattle.offers.specs.Offers.{limit_of}
+use Rattle.branch_price.specs.declared.progress.Progress.{Progress}
+use Rattle.branch_price.specs.Searching.{site_of, IsSearching}
+use Rattle.branch_price.specs.Steps.{AsksTurn, AsksNode, AsksHalf}
+use Rattle.branch_price.proofs.NodeCuts.{IsGoodCut, path-cuts, path-based, base-good, base-few}
+use Rattle.parse_graph.specs.Graphs.{GraphView}
+use Rattle.std.specs.Prelude.{Bool}
+
+-- what holds of a leaf whatever it is
+some-out : (X : Type 0) (above : ℕ) (cuts : List Cut) (t : Grown) → SomeTip (λ up path k l. X) above cuts t → X
+some-out X above cuts (tip k l) h = h
+some-out X above cuts (fork k a b own low high) (inl h) = some-out X (raised above own) (cuts ++ low_cut a b ∷ []) low h
+some-out X above cuts (fork k a b own low high) (inr h) = some-out X (raised above own) (cuts ++ high_cut a b ∷ []) high h
+
+-- the plan of a leaf in hand is on an arc of the graph
+pub planned-arc : (s : Site) (limit now low : ℕ) (leaf : OpenLeaf) (w : TreeView) (t : Grown) (plan : Plan)
+    → IsTree s limit now low (leaf ∷ []) w t → leaf.kept.plan ≡ Some plan
+    → (key : ArcKey) × (slice_get s.graph.arcs plan.arc ≡ Some key)
+planned-arc s limit now low leaf w t plan is e =
+    let found = queued-leaf t leaf w.waiting (base_cuts s.day) is.queue in
+    some-out Arc 0 (base_cuts s.day) t
+    (some-both (λ up path k l. k ≡ leaf.kept.seat → HasPlan s.day s.graph limit path l leaf.kept.plan) (λ up path k l. (k ≡ leaf.kept.seat) × IsOpenLeaf l × (tip_bound up l ≡ leaf.bound))
+    (λ up path k l. Arc) (λ up path k l p q. by path l (p q.0) q.1) 0 (base_cuts s.day) t is.planned.0 found)
+  where
+    Arc : Type 0
+    Arc = (key : ArcKey) × (slice_get s.graph.arcs plan.arc ≡ Some key)
+
+    by : (path : List Cut) (l : Leaf) → HasPlan s.day s.graph limit path l leaf.kept.plan → IsOpenLeaf l → Arc
+    by path fresh p o = let q : Some plan ≡ None = rw (← e) refl ∙ p in cc
+    by path (valued x) p o = let q : IsPlan s.day s.graph path plan = rw e at p in (q.key, q.at)
+    by path (fixed v) p o = absurd o
+
+-- a node of the tree whose seats these are
+pub is-node : (s : Site) (limit now low : ℕ) (hand : List OpenLeaf) (w : TreeView) (t : Grown) (n : ℕ) (path : List Cut) (up : ℕ)
+    → IsTree s limit now low hand w t → w.processed ≤ 10000 → IsPlace (base_cuts s.day) t n up path fresh → IsNode s.day w.seats n t path
+is-node s limit now low hand w t n path up is few place = record {
+  held = is.held;
+  splits = forks-map (IsSplit s.day s.strict low) (λ cuts a b own. IsSplitAt s.day cuts a b) (λ cuts a b own h. h.0) (base_cuts s.day) t is.growing.forks;
+  stands = place.stands;
+  few = let f = few-seats s limit now low hand w t is in omega (arith, f, few);
+}
+
+-- what the cuts of a leaf in hand are
+pub record AreLeafCuts (i : Instance) (cuts : List Cut) : Type 0 where
+  pub node : Each (IsNodeCut i) cuts
+  pub below : Each (IsBelowHeads i) cuts
+  pub based : (more : List Cut) × (cuts ≡ base_cuts i ++ more)
+  pub few : length cuts < 2 ^ 31
+
+pub leaf-cuts : (i : Instance) (v : GraphView) (strict : Bool) (before now low : ℕ) (p : Progress) (leaf : OpenLeaf) (cuts : List Cut) → IsSoundInstance i
+    → AsksNode i v strict before now low p leaf cuts → AreLeafCuts i cuts
+leaf-cuts i v strict before now low p leaf cuts sound asked =
+    let is = asked.is.tree in
+    let splits = forks-map (IsSplit i strict low) (λ q a b own. IsSplitAt i q a b) (λ q a b own h. h.0) (base_cuts i) asked.tree is.growing.forks in
+    let good = path-cuts i sound (base_cuts i) asked.tree leaf.kept.seat cuts (base-good i sound) splits asked.place.stands in
+    let short = short-paths (base_cuts i) asked.tree leaf.kept.seat cuts asked.place.stands in
+    let busy = is.processed in
+    let few = asked.few in
+    let base : length (base_cuts i) ≤ 16 = base-few i sound in
+    record {
+      node = Each-same (IsGoodCut i) (IsNodeCut i) (λ c h. h.node) cuts good;
+      below = Each-same (IsGoodCut i) (IsBelowHeads i) (λ c h. h.below) cuts good;
+      based = path-based (base_cuts i) asked.tree leaf.kept.seat cuts asked.place.stands;
+      few = omega (arith, short, busy, few, base);
+    }

@@ -1,0 +1,2 @@
+pub mod NodeCuts
+pub mod Leaves
