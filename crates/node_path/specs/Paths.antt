@@ -1,6 +1,5 @@
 -- A path of cuts from the root of a search to a node, with the counts that it leaves the arcs.
-use Rattle.std.specs.Prelude.{ℕ, ◌≡◌, ◌≤◌, ◌<◌, ◌^◌, Some, List, [], ◌∷◌, ◌++◌, length, slice_get}
-use Rattle.roster_model.specs.declared.grammar.ArcKey.{ArcKey}
+use Rattle.std.specs.Prelude.{ℕ, ◌≡◌, ◌<◌, ◌^◌, Some, List, [], ◌∷◌, ◌++◌, length, slice_get}
 use Rattle.roster_model.specs.declared.instance.Cut.{Cut}
 use Rattle.roster_model.specs.declared.instance.Instance.{Instance}
 use Rattle.roster_model.specs.Cuts.{base_cuts}
@@ -11,7 +10,7 @@ use Rattle.growing_laws.specs.declared.seat.Seat.{Seat}
 use Rattle.growing_laws.specs.Grown.{Grown, OnForks}
 use Rattle.growing_laws.specs.Seats.{HoldTree, StandsAt}
 use Rattle.growing_laws.specs.States.{IsSplitAt}
-use Rattle.node_path.specs.declared.path.Turn.{Turn}
+use Rattle.node_path.specs.declared.turn.Turn.{Turn}
 
 -- the cuts of the path, the base cuts first, the counts that they leave the arcs, how many base cuts there
 -- are, and what the arcs of the further cuts had before
@@ -21,12 +20,17 @@ pub record PathView : Type 0 where
   pub base : ℕ
   pub turns : List Turn
 
+-- the turn has the number of the cut's arc, and what the cuts above left the arc: more than one count
+pub record IsTurn (i : Instance) (v : GraphView) (above : List Cut) (c : Cut) (turn : Turn) : Type 0 where
+  pub at : slice_get v.arcs turn.arc ≡ Some c.arc
+  pub was : WasBoxOf i above c.arc (turn.low, turn.high)
+  pub loose : turn.low < turn.high
+
 -- the further cuts are those of the turns, which tell what their arcs had before
 abbrev pub AreTurns : Instance → GraphView → List Cut → List Turn → List Cut → Type 0
 AreTurns i v above [] cuts = cuts ≡ above
 AreTurns i v above (turn ∷ turns) cuts =
-    (c : Cut) × (slice_get v.arcs turn.arc ≡ Some c.arc)
-    × WasBoxOf i above c.arc (turn.low, turn.high) × AreTurns i v (above ++ c ∷ []) turns cuts
+    (c : Cut) × IsTurn i v above c turn × AreTurns i v (above ++ c ∷ []) turns cuts
 
 -- the path is one below the base cuts, and the box has the counts that its cuts leave
 pub record IsPath (i : Instance) (v : GraphView) (p : PathView) : Type 0 where

@@ -8,20 +8,16 @@ ghost use Rattle.arc_branch.specs.Costs.{pinned_number};
 ghost use Rattle.growing_laws.specs.Grown.{Grown};
 ghost use Rattle.node_path.specs.Paths.{IsPath, IsNode};
 
+use crate::base::{base_box, base_cuts as cuts_of_base};
+use crate::climb::{follow, further};
+use crate::turn::Turn;
+use crate::turns::{go_back, go_down};
 use arc_branch::ArcBox;
 use growing_laws::Seat;
 use parse_graph::Graph;
 use roster_model::{Cut, Instance, Memory};
 use std::alloc::Global;
 use std::marker::Model;
-
-/// A cut on the way down: its arc's number, and the least and the greatest count that the arc had before.
-#[derive(Clone, Copy, Debug, PartialEq, Eq, Drop)]
-pub(crate) struct Turn {
-    pub arc: u32,
-    pub low: u32,
-    pub high: u32,
-}
 
 /// A path of cuts from the root to a node, and the counts that it leaves the arcs.
 #[derive(Drop)]
@@ -48,7 +44,15 @@ impl NodePath {
         ensures path { IfOk result (IsPath instance.now graph.now) }
         ensures cuts { IfOk result (λ p. p.cuts ≡ base_cuts instance.now) }
     {
-        Err(Memory)
+        let cuts = cuts_of_base(alloc, instance)?;
+        let arc_box = base_box(alloc, instance, graph, cuts.as_slice())?;
+        let base = cuts.len();
+        Ok(NodePath {
+            cuts,
+            arc_box,
+            base,
+            turns: Vec::new(alloc),
+        })
     }
 
     /// Returns the cuts, base cuts first.
@@ -92,6 +96,9 @@ impl NodePath {
         ensures cuts { OnOk result ((t : Grown) (path : List OneCut) → IsNode instance.now seats.now number t path
             → self.new.cuts ≡ path) }
     {
-        Err(Memory)
+        go_back(&mut self.arc_box, &mut self.turns);
+        follow(&mut self.cuts, self.base, seats, number)?;
+        let cuts = further(self.cuts.as_slice(), self.base);
+        go_down(&mut self.arc_box, graph, cuts, &mut self.turns)
     }
 }

@@ -1,4 +1,4 @@
-ghost use Rattle.std.specs.Prelude.{◌≡◌, ◌≤◌, [], ◌∷◌, MatchOption, OnOk, OnErr};
+ghost use Rattle.std.specs.Prelude.{◌≡◌, ◌≤◌, [], ◌∷◌, IfNone, MatchOption, OnOk, OnErr};
 ghost use Rattle.roster_model.specs.Folds.{Each};
 ghost use Rattle.open_nodes.specs.Queues.{SameLeaves};
 
@@ -66,8 +66,9 @@ impl OpenNodes {
 
     /// Removes a leaf of least bound; `None` exactly where there is none.
     pub fn pop(&mut self) -> Option<OpenLeaf>
-        ensures { MatchOption result (self.old ≡ []) (λ leaf. SameLeaves self.old (leaf ∷ self.new)
+        ensures taken { MatchOption result (self.old ≡ []) (λ leaf. SameLeaves self.old (leaf ∷ self.new)
             × Each (λ o. leaf.bound ≤ o.bound) self.new) }
+        ensures none { IfNone result (self.new ≡ []) }
     {
         let entry = self.heap.pop()?;
         let kept = self.kept.remove(entry.key);

@@ -1,16 +1,14 @@
 -- The one leaf of a number, and what stands in its place.
-use Rattle.std.proofs.Common.{◌≡◌, ℕ, zero, suc, arith, ◌+◌, ◌*◌, ◌≤◌, ◌<◌, Bool, true, false, cond, Option, None, Some, List, [], ◌∷◌, ◌++◌, length, refl, ap, sym, subst, ◌∙◌, ◌⊎◌, inl, inr}
+use Rattle.std.proofs.Common.{◌≡◌, ℕ, zero, suc, arith, ◌+◌, ◌*◌, ◌≤◌, Bool, true, false, cond, None, Some, List, [], ◌∷◌, ◌++◌, length, refl, sym, subst, ◌∙◌, ◌⊎◌, inl, inr}
 use Rattle.std.specs.Prelude.{◌≢◌, nat_eq}
 use Rattle.std.proofs.lemmas.Bool.{eq-eqb}
 use Rattle.std.proofs.lemmas.List.{length-append}
-use Rattle.roster_model.specs.declared.grammar.ArcKey.{ArcKey}
 use Rattle.roster_model.specs.declared.instance.Cut.{Cut}
-use Rattle.roster_model.specs.Folds.{count, Each, In}
+use Rattle.roster_model.specs.Folds.{count, Each}
 use Rattle.arc_laws.proofs.Folding.{count-append, Each-append}
 use Rattle.certificates.specs.Nodes.{low_cut, high_cut, Visit, visits}
-use Rattle.certificates.specs.declared.cert.Node.TheVariants.{Split}
-use Rattle.growing_laws.specs.Grown.{Grown, tip, fork, Leaf, fresh, valued, fixed, Own, OnTips, raised, leaf_proof, proof_of, prices_of, numbers, put, times, busy, missed, unpriced}
-use Rattle.growing_laws.specs.Opens.{Entry, leaf_entries, opens}
+use Rattle.growing_laws.specs.Grown.{Grown, tip, fork, Leaf, fresh, valued, fixed, OnTips, raised, leaf_proof, proof_of, numbers, put, times, busy, missed}
+use Rattle.growing_laws.specs.Opens.{Entry, opens}
 use Rattle.growing_laws.specs.Seats.{AtLeaf, IsUnsplit, number}
 use Rattle.growing_laws.proofs.Growing.{TipFact, told}
 use Rattle.search_tree.specs.Views.{IsLeafAt}

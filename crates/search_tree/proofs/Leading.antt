@@ -1,34 +1,31 @@
 -- What each step of a search leads to.
-use Rattle.std.proofs.Common.{◌≡◌, ℕ, arith, ◌+◌, ◌≤◌, ◌<◌, max, Bool, true, false, cond, Option, None, Some, List, [], ◌∷◌, ◌++◌, length, map, refl, ap, sym, subst, ◌∙◌, ◌⊎◌, inl, inr}
-use Rattle.std.specs.Prelude.{◌≢◌, nat_eq, nat_lt, IsTrue, MatchOption, slice_get}
+use Rattle.std.proofs.Common.{◌≡◌, ℕ, arith, ◌+◌, ◌≤◌, ◌<◌, max, cond, Option, None, Some, List, [], ◌∷◌, ◌++◌, length, refl, ap, sym, subst, ◌∙◌, ◌⊎◌, inl, inr}
+use Rattle.std.specs.Prelude.{◌≢◌, nat_lt}
 use Rattle.std.proofs.lemmas.Bool.{lt-ltb}
 use Rattle.std.proofs.lemmas.Option.{none-some}
 use Rattle.roster_model.specs.declared.grammar.ArcKey.{ArcKey}
 use Rattle.roster_model.specs.declared.instance.Cut.{Cut}
 use Rattle.roster_model.specs.declared.instance.Prices.{Prices}
 use Rattle.roster_model.specs.Cuts.{base_cuts}
-use Rattle.roster_model.specs.Folds.{count, Each}
-use Rattle.certificates.specs.declared.cert.Node.{Node}
-use Rattle.certificates.specs.declared.cert.Node.TheVariants.{Split, Priced, Pinned, Bare}
+use Rattle.roster_model.specs.Folds.{count}
+use Rattle.certificates.specs.declared.cert.Node.TheVariants.{Priced, Pinned}
 use Rattle.certificates.specs.Nodes.{low_cut, high_cut, visits}
 use Rattle.master_laws.specs.Rows.{rows_of}
-use Rattle.growing_laws.specs.Grown.{Grown, tip, fork, Leaf, fresh, valued, fixed, Own, OnTips, raised, tip_bound, leaf_value, leaf_busy, proof_of, prices_of, put, times, unpriced}
-use Rattle.growing_laws.specs.declared.seat.Seat.{Seat}
+use Rattle.growing_laws.specs.Grown.{Grown, tip, fork, Leaf, fresh, valued, fixed, Own, OnTips, raised, tip_bound, proof_of, put}
 use Rattle.growing_laws.specs.Boxes.{IsOpenLeaf}
-use Rattle.growing_laws.specs.Opens.{Entry, opens, IsEntryOf}
-use Rattle.growing_laws.specs.Seats.{leaf_node, IsLeafSeat, seat_at}
-use Rattle.growing_laws.specs.States.{IsTip, IsLeaf, IsSplit, IsGraft}
+use Rattle.growing_laws.specs.Opens.{Entry, IsEntryOf}
+use Rattle.growing_laws.specs.States.{IsTip, IsSplit}
 use Rattle.growing_laws.proofs.Growing.{TipFact}
 use Rattle.open_nodes.specs.declared.leaf.Plan.{Plan}
 use Rattle.open_nodes.specs.declared.leaf.OpenLeaf.{OpenLeaf}
 use Rattle.open_nodes.specs.Queues.{SameLeaves}
-use Rattle.search_tree.specs.Views.{TreeView, Site, IsLeafAt, IsPlace, entry_of}
-use Rattle.search_tree.specs.Trees.{last_count, is_too_long, HasPlan, IsPlan, IsTree}
-use Rattle.search_tree.specs.Steps.{split_of, forked, marked, IsHalfOf}
+use Rattle.search_tree.specs.Views.{TreeView, Site, IsLeafAt, entry_of}
+use Rattle.search_tree.specs.Trees.{last_count, is_too_long, HasPlan}
+use Rattle.search_tree.specs.Steps.{forked, marked, IsHalfOf}
 use Rattle.search_tree.specs.Asked.{AsksSplit, IsHalved, AsksLeaf, IsProcessed, AsksPinned, AsksPriced, AsksFailed}
 use Rattle.search_tree.proofs.TreeLaws.{few-seats, queued-leaf}
-use Rattle.search_tree.proofs.Finding.{at-leaf, missed-busy, is-one, is-none}
-use Rattle.search_tree.proofs.Regrow.{Reseated, Regrown, regrow}
+use Rattle.search_tree.proofs.Finding.{at-leaf, missed-busy}
+use Rattle.search_tree.proofs.Regrow.{regrow}
 use Rattle.search_tree.proofs.Stepping.{its-tip, marked_graft, marked_seated, forked_tree}
 
 -- the number of the leaf in hand, and how many seats there are
@@ -134,7 +131,7 @@ failed-step leaf w v arc b o p half other seats waiting processed failed later a
     a = asked.taken
 
 -- where a leaf with prices stands that is in hand with a plan
-pub record Planned (s : Site) (limit low : ℕ) (w : TreeView) (leaf : OpenLeaf) (plan : Plan) (arc : ArcKey) (t : Grown) : Type 0 where
+record Planned (s : Site) (leaf : OpenLeaf) (plan : Plan) (arc : ArcKey) (t : Grown) : Type 0 where
   pub up : ℕ
   pub path : List Cut
   pub own : Own
@@ -158,7 +155,7 @@ some-arc a b e = ap (λ (o : Option ArcKey). or_arc o) e
     or_arc None = a
     or_arc (Some c) = c
 
-planned-leaf : (w : TreeView) (leaf : OpenLeaf) (plan : Plan) (arc : ArcKey) (asked : AsksSplit w leaf plan arc) → Planned asked.site asked.limit leaf.bound w leaf plan arc asked.tree
+planned-leaf : (w : TreeView) (leaf : OpenLeaf) (plan : Plan) (arc : ArcKey) (asked : AsksSplit w leaf plan arc) → Planned asked.site leaf plan arc asked.tree
 planned-leaf w leaf plan arc asked =
     let r = entry-place (λ up path k l. IsTip asked.site.day asked.limit leaf.bound (length w.seats) asked.tree up path k l) (entry_of leaf) 0 (base_cuts asked.site.day) asked.tree asked.is.growing.tips
     (queued-leaf asked.tree leaf w.waiting (base_cuts asked.site.day) asked.is.queue) in
@@ -166,7 +163,7 @@ planned-leaf w leaf plan arc asked =
     by r.0 r.1 r.2 r.3 r.4 r.5 r.6 (subst (λ (o : Option Plan). HasPlan asked.site.day asked.site.graph asked.limit r.1 r.2 o) asked.kept p)
   where
     by : (up : ℕ) (path : List Cut) (l : Leaf) → IsLeafAt 0 (base_cuts asked.site.day) asked.tree leaf.kept.seat up path l → IsTip asked.site.day asked.limit leaf.bound (length w.seats) asked.tree up path leaf.kept.seat l
-        → IsOpenLeaf l → tip_bound up l ≡ leaf.bound → HasPlan asked.site.day asked.site.graph asked.limit path l (Some plan) → Planned asked.site asked.limit leaf.bound w leaf plan arc asked.tree
+        → IsOpenLeaf l → tip_bound up l ≡ leaf.bound → HasPlan asked.site.day asked.site.graph asked.limit path l (Some plan) → Planned asked.site leaf plan arc asked.tree
     by up path fresh at h is_open bound p = absurd (none-some plan (sym p))
     by up path (fixed v) at h is_open bound p = absurd is_open
     by up path (valued o) at h is_open bound p = record {
@@ -192,7 +189,7 @@ pub split-step : (leaf : OpenLeaf) (w v : TreeView) (plan : Plan) (arc : ArcKey)
     → (asked : AsksSplit w leaf plan arc) → IsHalved asked.site asked.limit asked.now w v leaf p
 split-step leaf w v plan arc o p half other seats waiting processed failed asked = by (planned-leaf w leaf plan arc asked)
   where
-    by : Planned asked.site asked.limit leaf.bound w leaf plan arc asked.tree → IsHalved asked.site asked.limit asked.now w v leaf p
+    by : Planned asked.site leaf plan arc asked.tree → IsHalved asked.site asked.limit asked.now w v leaf p
     by g = record {
       tree = put leaf.kept.seat (fork leaf.kept.seat arc plan.b (Some g.own) (tip (length w.seats) fresh) (tip (length w.seats + 1) fresh)) asked.tree;
       is = forked_tree asked.site asked.limit asked.now leaf.bound leaf w asked.tree asked.is g.up g.path (valued g.own) g.at tt g.bound v arc plan.b (Some g.own) refl g.bound seats asked.now o p (p ∷ []) half other

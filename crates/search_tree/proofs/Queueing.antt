@@ -1,10 +1,10 @@
 -- The leaves that wait, against the open leaves of the tree.
-use Rattle.std.proofs.Common.{◌≡◌, ℕ, arith, ◌+◌, ◌≤◌, ◌<◌, Bool, true, false, cond, Option, None, Some, List, [], ◌∷◌, ◌++◌, map, refl, ap, sym, subst, ◌∙◌, ◌⊎◌, inl, inr}
+use Rattle.std.proofs.Common.{◌≡◌, ℕ, arith, ◌+◌, ◌≤◌, Bool, true, false, cond, Option, None, Some, List, [], ◌∷◌, ◌++◌, map, refl, ap, sym, subst, ◌∙◌, inl, inr}
 use Rattle.std.specs.Prelude.{◌≢◌, ◌&&◌, nat_eq}
 use Rattle.std.proofs.lemmas.Bool.{eqb-true, eq-eqb, false≢true}
 use Rattle.roster_model.specs.declared.instance.Cut.{Cut}
 use Rattle.roster_model.specs.Folds.{count, Each, In}
-use Rattle.arc_laws.proofs.Folding.{Each-at, Each-in, count-append}
+use Rattle.arc_laws.proofs.Folding.{Each-at, Each-in}
 use Rattle.certificates.specs.Nodes.{low_cut, high_cut}
 use Rattle.growing_laws.specs.Grown.{Grown, tip, fork, Leaf, OnTips, raised, tip_bound, times}
 use Rattle.growing_laws.specs.Boxes.{IsOpenLeaf}

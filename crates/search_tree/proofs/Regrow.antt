@@ -1,18 +1,17 @@
 -- What is known of the tree is kept where a new one stands in place of the leaf in hand.
-use Rattle.std.proofs.Common.{◌≡◌, ℕ, zero, suc, arith, ◌+◌, ◌*◌, ◌≤◌, ◌<◌, Bool, true, false, cond, List, [], ◌∷◌, ◌++◌, length, map, refl, ap, sym, subst, ◌∙◌, ◌⊎◌, inl, inr}
+use Rattle.std.proofs.Common.{◌≡◌, ℕ, zero, suc, arith, ◌+◌, ◌*◌, ◌≤◌, ◌<◌, true, false, cond, List, [], ◌∷◌, ◌++◌, length, map, refl, ap, sym, subst, ◌∙◌, ◌⊎◌, inl, inr}
 use Rattle.std.specs.Prelude.{◌≢◌, nat_eq}
-use Rattle.std.proofs.lemmas.Bool.{eqb-true, eq-eqb}
 use Rattle.roster_model.specs.declared.instance.Cut.{Cut}
 use Rattle.roster_model.specs.declared.instance.Instance.{Instance}
 use Rattle.roster_model.specs.Cuts.{base_cuts}
 use Rattle.roster_model.specs.Folds.{count, Each, In}
 use Rattle.arc_laws.proofs.Folding.{Each-same, Each-in, Each-append, Each-at}
-use Rattle.certificates.specs.Nodes.{low_cut, high_cut, Visit, visits}
+use Rattle.certificates.specs.Nodes.{low_cut, high_cut, visits}
 use Rattle.growing_laws.specs.Grown.{Grown, tip, fork, Leaf, fresh, valued, fixed, OnTips, raised, tip_bound, leaf_busy, leaf_proof, proof_of, numbers, put, times, busy, missed}
 use Rattle.growing_laws.specs.declared.seat.Seat.{Seat}
 use Rattle.growing_laws.specs.Boxes.{IsOpenLeaf}
 use Rattle.growing_laws.specs.Opens.{Entry, leaf_entries, opens, SameEntries}
-use Rattle.growing_laws.specs.Seats.{AreSeated, HoldTree, IsUnsplit, SameLinks, number, seat_at}
+use Rattle.growing_laws.specs.Seats.{AreSeated, HoldTree, SameLinks, number, seat_at}
 use Rattle.growing_laws.specs.States.{IsTip, IsGraft}
 use Rattle.growing_laws.proofs.Growing.{TipFact, told, tips-map, put-tips}
 use Rattle.growing_laws.proofs.Counting.{put-busy, put-missed}

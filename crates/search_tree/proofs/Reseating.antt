@@ -1,16 +1,16 @@
 -- The seats once a leaf shows something, or is split.
-use Rattle.std.proofs.Common.{◌≡◌, ℕ, arith, ◌+◌, ◌≤◌, ◌<◌, true, false, cond, Option, None, Some, List, [], ◌∷◌, ◌++◌, length, slice_set, refl, ap, sym, subst, ◌∙◌, ◌⊎◌, inl, inr}
+use Rattle.std.proofs.Common.{◌≡◌, ℕ, arith, ◌+◌, ◌≤◌, ◌<◌, true, false, cond, Option, List, [], ◌∷◌, ◌++◌, length, slice_set, refl, ap, sym, subst, ◌∙◌, ◌⊎◌, inl, inr}
 use Rattle.std.specs.Prelude.{◌≢◌, nat_eq}
 use Rattle.std.proofs.lemmas.List.{get_or-set_same, get_or-set_other, get_or_append_left, get_or-append-add, length-set, length-append}
 use Rattle.roster_model.specs.declared.grammar.ArcKey.{ArcKey}
 use Rattle.roster_model.specs.declared.instance.Cut.{Cut}
 use Rattle.roster_model.specs.Folds.{count}
 use Rattle.certificates.specs.declared.cert.Node.{Node}
-use Rattle.certificates.specs.declared.cert.Node.TheVariants.{Split, Bare}
+use Rattle.certificates.specs.declared.cert.Node.TheVariants.{Split}
 use Rattle.certificates.specs.Nodes.{low_cut, high_cut}
-use Rattle.growing_laws.specs.Grown.{Grown, tip, fork, Leaf, fresh, valued, fixed, Own, raised, leaf_value, prices_of}
+use Rattle.growing_laws.specs.Grown.{Grown, tip, fork, Leaf, fresh, Own, raised, leaf_value, prices_of}
 use Rattle.growing_laws.specs.declared.seat.Seat.{Seat}
-use Rattle.growing_laws.specs.Seats.{leaf_node, number, IsLeafSeat, IsForkSeat, AreSeated, SameLinks, seat_at}
+use Rattle.growing_laws.specs.Seats.{leaf_node, IsLeafSeat, AreSeated, seat_at}
 use Rattle.growing_laws.proofs.Growing.{told}
 use Rattle.search_tree.specs.Views.{IsLeafAt}
 use Rattle.search_tree.specs.Steps.{split_of, half_seat, split_seat, forked, marked_seat, marked}

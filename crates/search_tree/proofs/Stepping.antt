@@ -1,32 +1,26 @@
 -- A leaf in hand that shows something or is split keeps what is known of the tree.
-use Rattle.std.proofs.Common.{◌≡◌, ℕ, arith, ◌+◌, ◌≤◌, ◌<◌, max, Bool, true, false, cond, Option, None, Some, List, [], ◌∷◌, ◌++◌, length, map, refl, ap, sym, subst, ◌∙◌, ◌⊎◌, inl, inr}
-use Rattle.std.specs.Prelude.{◌≢◌, nat_eq, nat_lt, IsTrue, MatchOption, slice_get}
+use Rattle.std.proofs.Common.{◌≡◌, ℕ, arith, ◌+◌, ◌≤◌, ◌<◌, max, cond, Option, List, [], ◌∷◌, ◌++◌, length, refl, ap, sym, subst, ◌∙◌, inl, inr}
+use Rattle.std.specs.Prelude.{◌≢◌}
 use Rattle.roster_model.specs.declared.grammar.ArcKey.{ArcKey}
 use Rattle.roster_model.specs.declared.instance.Cut.{Cut}
-use Rattle.roster_model.specs.declared.instance.Prices.{Prices}
 use Rattle.roster_model.specs.Cuts.{base_cuts}
-use Rattle.roster_model.specs.Folds.{count, Each}
+use Rattle.roster_model.specs.Folds.{count}
 use Rattle.certificates.specs.declared.cert.Node.{Node}
-use Rattle.certificates.specs.declared.cert.Node.TheVariants.{Split, Priced, Pinned, Bare}
-use Rattle.certificates.specs.Nodes.{low_cut, high_cut, visits}
-use Rattle.master_laws.specs.Rows.{rows_of}
-use Rattle.growing_laws.specs.Grown.{Grown, tip, fork, Leaf, fresh, valued, fixed, Own, OnTips, raised, tip_bound, leaf_value, leaf_busy, proof_of, prices_of, put, times, unpriced}
+use Rattle.certificates.specs.declared.cert.Node.TheVariants.{Split}
+use Rattle.certificates.specs.Nodes.{visits}
+use Rattle.growing_laws.specs.Grown.{Grown, tip, fork, Leaf, fresh, Own, raised, tip_bound, leaf_value, leaf_busy, proof_of, prices_of, put, unpriced}
 use Rattle.growing_laws.specs.declared.seat.Seat.{Seat}
 use Rattle.growing_laws.specs.Boxes.{IsOpenLeaf}
-use Rattle.growing_laws.specs.Opens.{Entry, opens, IsEntryOf}
+use Rattle.growing_laws.specs.Opens.{Entry}
 use Rattle.growing_laws.specs.Seats.{leaf_node, IsLeafSeat, seat_at}
 use Rattle.growing_laws.specs.States.{IsTip, IsLeaf, IsSplit, IsGraft}
-use Rattle.growing_laws.proofs.Growing.{TipFact}
-use Rattle.open_nodes.specs.declared.leaf.Plan.{Plan}
 use Rattle.open_nodes.specs.declared.leaf.OpenLeaf.{OpenLeaf}
 use Rattle.open_nodes.specs.Queues.{SameLeaves}
-use Rattle.search_tree.specs.Views.{TreeView, Site, IsLeafAt, IsPlace, entry_of}
-use Rattle.search_tree.specs.Trees.{last_count, is_too_long, HasPlan, IsPlan, IsTree}
+use Rattle.search_tree.specs.Views.{TreeView, Site, IsLeafAt, entry_of}
+use Rattle.search_tree.specs.Trees.{last_count, is_too_long, IsTree}
 use Rattle.search_tree.specs.Steps.{split_of, forked, marked, IsHalfOf}
-use Rattle.search_tree.specs.Asked.{AsksSplit, IsHalved, AsksLeaf, IsProcessed, AsksPinned, AsksPriced, AsksFailed}
-use Rattle.search_tree.proofs.TreeLaws.{few-seats, queued-leaf}
-use Rattle.search_tree.proofs.Finding.{at-leaf, missed-busy, is-one, is-none}
-use Rattle.search_tree.proofs.Regrow.{Reseated, Regrown, regrow}
+use Rattle.search_tree.proofs.Finding.{at-leaf, is-one, is-none}
+use Rattle.search_tree.proofs.Regrow.{Reseated, regrow}
 use Rattle.search_tree.proofs.Reseating.{leaf-seat, marked-seats, forked-seats}
 
 module _ (s : Site) (limit now low : ℕ) (leaf : OpenLeaf) (w : TreeView) (t : Grown) (is : IsTree s limit now low (leaf ∷ []) w t)

@@ -1,15 +1,14 @@
 -- A search's first tree, and its leaf of least bound.
-use Rattle.std.proofs.Common.{◌≡◌, ℕ, arith, ◌+◌, ◌≤◌, ◌<◌, Bool, true, false, cond, None, List, [], ◌∷◌, ◌++◌, length, map, refl, ap, sym, subst, ◌∙◌, ◌⊎◌, inl, inr}
+use Rattle.std.proofs.Common.{◌≡◌, ℕ, arith, ◌+◌, ◌≤◌, ◌<◌, true, false, cond, None, List, [], ◌∷◌, length, map, refl, ap, sym, subst, ◌∙◌, ◌⊎◌, inl, inr}
 use Rattle.std.specs.Prelude.{◌≢◌, nat_eq}
 use Rattle.roster_model.specs.declared.instance.Cut.{Cut}
 use Rattle.roster_model.specs.Cuts.{base_cuts}
-use Rattle.roster_model.specs.Folds.{count, Each, In}
+use Rattle.roster_model.specs.Folds.{Each}
 use Rattle.arc_laws.proofs.Folding.{Each-at, Each-in, Each-same}
-use Rattle.growing_laws.specs.Grown.{Grown, tip, Leaf, fresh, valued, fixed, OnTips, tip_bound, times}
-use Rattle.growing_laws.specs.declared.seat.Seat.{Seat}
+use Rattle.growing_laws.specs.Grown.{Grown, tip, Leaf, fresh, valued, fixed, OnTips, tip_bound}
 use Rattle.growing_laws.specs.Boxes.{IsOpenLeaf}
 use Rattle.growing_laws.specs.Opens.{Entry, opens, SameEntries}
-use Rattle.growing_laws.specs.Seats.{IsLeafSeat, HoldTree, seat_at}
+use Rattle.growing_laws.specs.Seats.{HoldTree}
 use Rattle.growing_laws.specs.States.{IsTip, IsLeaf}
 use Rattle.growing_laws.proofs.Growing.{told}
 use Rattle.growing_laws.proofs.Opening.{opens-least}
@@ -49,26 +48,40 @@ next-past s limit now low w t leaf rest is same least past = least-open limit w.
     (same-each (λ (o : OpenLeaf). limit ≤ o.bound) (leaf ∷ rest) w.waiting (flip w.waiting (leaf ∷ rest) same)
     (past, Each-same (λ (o : OpenLeaf). leaf.bound ≤ o.bound) (λ (o : OpenLeaf). limit ≤ o.bound) rest (λ o h. omega (arith, past, h)) least))
 
-pub next-some : (s : Site) (limit now low : ℕ) (w : TreeView) (t : Grown) (leaf : OpenLeaf) (rest : List OpenLeaf) → IsTree s limit now low [] w t
-    → SameLeaves w.waiting (leaf ∷ rest) → Each (λ (o : OpenLeaf). leaf.bound ≤ o.bound) rest → leaf.bound < limit
-    → IsTree s limit now leaf.bound (leaf ∷ []) (record { seats = w.seats; waiting = rest; processed = w.processed; failed = w.failed }) t
-next-some s limit now low w t leaf rest is same least below = record {
-  growing = growing-raised s.day s.strict limit limit low leaf.bound (length w.seats) t is.growing (omega arith) risen bounds;
+-- the leaf that is taken last is in hand
+pub next-left : (s : Site) (limit now low : ℕ) (w : TreeView) (t : Grown) (leaf : OpenLeaf) (rest : List OpenLeaf) → IsTree s limit now low [] w t → SameLeaves w.waiting (leaf ∷ rest)
+    → IsTree s limit now low (leaf ∷ []) (record { seats = w.seats; waiting = rest; processed = w.processed; failed = w.failed }) t
+next-left s limit now low w t leaf rest is same = record {
+  growing = is.growing;
   held = is.held;
   unsplit = is.unsplit;
-  queue = queue;
+  queue = λ q. is.queue q ∙ same-entries w.waiting (leaf ∷ rest) same q;
   planned = same-each (IsPlanned s.day s.graph limit t) w.waiting (leaf ∷ rest) same is.planned;
   processed = is.processed;
   failed = is.failed;
   counted = is.counted;
 }
+
+pub next-some : (s : Site) (limit now low : ℕ) (w : TreeView) (t : Grown) (leaf : OpenLeaf) (rest : List OpenLeaf) → IsTree s limit now low [] w t
+    → SameLeaves w.waiting (leaf ∷ rest) → Each (λ (o : OpenLeaf). leaf.bound ≤ o.bound) rest → leaf.bound < limit
+    → IsTree s limit now leaf.bound (leaf ∷ []) (record { seats = w.seats; waiting = rest; processed = w.processed; failed = w.failed }) t
+next-some s limit now low w t leaf rest is same least below = record {
+  growing = growing-raised s.day s.strict limit limit low leaf.bound (length w.seats) t is.growing (omega arith) risen bounds;
+  held = left.held;
+  unsplit = left.unsplit;
+  queue = left.queue;
+  planned = left.planned;
+  processed = left.processed;
+  failed = left.failed;
+  counted = left.counted;
+}
   where
-    queue : SameEntries (opens 0 t) (map entry_of (leaf ∷ rest))
-    queue q = is.queue q ∙ same-entries w.waiting (leaf ∷ rest) same q
+    left : IsTree s limit now low (leaf ∷ []) (record { seats = w.seats; waiting = rest; processed = w.processed; failed = w.failed }) t
+    left = next-left s limit now low w t leaf rest is same
 
     risen : low ≤ leaf.bound
     risen =
-        let r = entry-tip (IsTip s.day limit low (length w.seats) t) (entry_of leaf) 0 (base_cuts s.day) t is.growing.tips (queued-leaf t leaf rest (base_cuts s.day) queue) in
+        let r = entry-tip (IsTip s.day limit low (length w.seats) t) (entry_of leaf) 0 (base_cuts s.day) t is.growing.tips (queued-leaf t leaf rest (base_cuts s.day) left.queue) in
         let b = r.3.bound in
         let e = r.5 in
         omega (arith, b, e)
@@ -80,7 +93,7 @@ next-some s limit now low w t leaf rest is same least below = record {
 
     bounds : OnTips (λ up path k l. leaf.bound ≤ tip_bound up l) 0 (base_cuts s.day) t
     bounds = tips-both (λ up path k l. IsOpenLeaf l → leaf.bound ≤ tip_bound up l) (IsTip s.day limit low (length w.seats) t) (λ up path k l. leaf.bound ≤ tip_bound up l) (λ up path k l h g. bound_at up path l h g.leaf) 0 (base_cuts s.day) t
-        (least-open leaf.bound (leaf ∷ rest) (base_cuts s.day) t queue (omega arith, least)) is.growing.tips
+        (least-open leaf.bound (leaf ∷ rest) (base_cuts s.day) t left.queue (omega arith, least)) is.growing.tips
 
 -- the tree of one leaf
 first-held : (cut : Cut) → HoldTree (half_seat 0 0 cut ∷ []) (tip 0 fresh)

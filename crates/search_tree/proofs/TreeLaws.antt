@@ -1,28 +1,27 @@
 -- The laws of a search's tree.
-use Rattle.std.proofs.Common.{◌≡◌, ℕ, arith, ◌+◌, ◌*◌, ◌≤◌, ◌<◌, Bool, true, false, cond, Option, None, Some, List, [], ◌∷◌, ◌++◌, length, map, refl, ap, sym, subst, ◌∙◌, ◌⊎◌, inl, inr}
-use Rattle.std.specs.Prelude.{◌≢◌, ◌&&◌, nat_eq, max}
+use Rattle.std.proofs.Common.{◌≡◌, ℕ, arith, ◌+◌, ◌*◌, ◌≤◌, Bool, true, false, cond, Option, None, Some, List, [], ◌∷◌, ◌++◌, length, map, refl, ap, ◌∙◌, inl, inr}
+use Rattle.std.specs.Prelude.{◌≢◌, ◌&&◌, nat_eq}
 use Rattle.std.proofs.lemmas.Bool.{eqb-true, eq-eqb, false≢true}
 use Rattle.std.proofs.lemmas.List.{length-append}
-use Rattle.roster_model.specs.declared.grammar.ArcKey.{ArcKey}
 use Rattle.roster_model.specs.declared.instance.Cut.{Cut}
 use Rattle.roster_model.specs.declared.instance.Instance.{Instance}
 use Rattle.roster_model.specs.Cuts.{base_cuts}
-use Rattle.roster_model.specs.Folds.{count, Each, In}
+use Rattle.roster_model.specs.Folds.{count, In}
 use Rattle.arc_laws.proofs.Folding.{Each-same, Each-at}
 use Rattle.certificates.specs.Nodes.{low_cut, high_cut, visits}
 use Rattle.parse_graph.specs.Graphs.{GraphView}
-use Rattle.growing_laws.specs.Grown.{Grown, tip, fork, Leaf, fresh, valued, fixed, Own, OnTips, SomeTip, raised, tip_bound, leaf_busy, busy, numbers, proof_of}
+use Rattle.growing_laws.specs.Grown.{Grown, tip, fork, Leaf, fresh, valued, fixed, SomeTip, raised, tip_bound, busy, numbers, proof_of}
 use Rattle.growing_laws.specs.Boxes.{IsOpenLeaf}
 use Rattle.growing_laws.specs.Opens.{Entry, opens, SameEntries, IsEntryOf}
 use Rattle.growing_laws.specs.Seats.{StandsAt}
 use Rattle.growing_laws.specs.States.{IsTip}
-use Rattle.growing_laws.proofs.Growing.{told, tips-map, some-both}
+use Rattle.growing_laws.proofs.Growing.{tips-map, some-both}
 use Rattle.growing_laws.proofs.Stating.{growing-raised}
 use Rattle.growing_laws.proofs.Opening.{opens-sound}
 use Rattle.open_nodes.specs.declared.leaf.Plan.{Plan}
 use Rattle.open_nodes.specs.declared.leaf.OpenLeaf.{OpenLeaf}
-use Rattle.search_tree.specs.Views.{TreeView, Site, IsLeafAt, IsPlace, entry_of}
-use Rattle.search_tree.specs.Trees.{last_count, is_too_long, HasPlan, IsPlanned, IsTree}
+use Rattle.search_tree.specs.Views.{IsLeafAt, entry_of}
+use Rattle.search_tree.specs.Trees.{last_count, is_too_long, HasPlan, IsPlanned}
 use Rattle.search_tree.specs.Laws.{LimitFalls, CountRises, LeafInHand, FewSeats, ShortPaths}
 
 plan-less : (i : Instance) (v : GraphView) (limit less : ℕ) (path : List Cut) (l : Leaf) (plan : Option Plan) → less ≤ limit

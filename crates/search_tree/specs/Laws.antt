@@ -1,5 +1,5 @@
 -- The laws of a search's tree that its steps rest on.
-use Rattle.std.specs.Prelude.{ℕ, ◌≡◌, ◌≤◌, ◌<◌, ◌+◌, ◌*◌, ◌⊎◌, None, Some, List, [], ◌∷◌, length}
+use Rattle.std.specs.Prelude.{ℕ, ◌≡◌, ◌≤◌, ◌<◌, ◌+◌, ◌*◌, None, List, [], ◌∷◌, length}
 use Rattle.roster_model.specs.declared.instance.Cut.{Cut}
 use Rattle.roster_model.specs.Cuts.{base_cuts}
 use Rattle.growing_laws.specs.Grown.{Grown, fresh, busy}

@@ -3,6 +3,8 @@
 
 mod laws;
 mod seats;
+#[cfg(test)]
+mod tests;
 mod tree;
 
 pub use laws::{count_rises, few_seats, leaf_in_hand, limit_falls, short_paths};

@@ -10,28 +10,11 @@ use std::mem;
 fn split_node(node: Node, arc: ArcKey, b: u32) -> Node
     ensures { result ≡ split_of node arc b }
 {
-    match node {
-        Node::Priced { prices } => Node::Split {
-            arc,
-            b,
-            prices: Some(prices),
-        },
-        Node::Split { .. } => Node::Split {
-            arc,
-            b,
-            prices: None,
-        },
-        Node::Pinned => Node::Split {
-            arc,
-            b,
-            prices: None,
-        },
-        Node::Bare => Node::Split {
-            arc,
-            b,
-            prices: None,
-        },
-    }
+    let prices = match node {
+        Node::Priced { prices } => Some(prices),
+        _ => None,
+    };
+    Node::Split { arc, b, prices }
 }
 
 /// Adds the seat of a half that is not processed.

@@ -1,9 +1,10 @@
-ghost use Rattle.std.specs.Prelude.{ℕ, ◌≡◌, ◌≤◌, ◌<◌, [], ◌∷◌, IfOk, OnOk, MatchOption, length};
+ghost use Rattle.std.specs.Prelude.{ℕ, ◌≡◌, ◌≤◌, ◌<◌, [], ◌∷◌, IfNone, IfOk, OnOk, MatchOption, length, List as Items};
 ghost use Rattle.roster_model.specs.Cuts.{base_cuts};
 ghost use Rattle.certificates.specs.Nodes.{preorder};
 ghost use Rattle.growing_laws.specs.Grown.{Grown, OnTips, tip_bound, proof_of};
 ghost use Rattle.growing_laws.specs.Boxes.{IsOpenLeaf};
 ghost use Rattle.growing_laws.specs.Seats.{HoldTree};
+ghost use Rattle.open_nodes.specs.declared.leaf.OpenLeaf.{OpenLeaf as Waiting};
 ghost use Rattle.search_tree.specs.Views.{Site, TreeView};
 ghost use Rattle.search_tree.specs.Trees.{last_count, IsTree};
 ghost use Rattle.search_tree.specs.Steps.{IsHalfOf};
@@ -109,7 +110,7 @@ impl SearchTree {
     }
 
     /// Takes a leaf of least bound, where this is below the limit; `None` where no open leaf leaves such a
-    /// bound.
+    /// bound, and then one that leaves more may be taken and let go.
     pub fn next(&mut self, limit: u64) -> Option<OpenLeaf>
         ensures same { (self.new.seats ≡ self.old.seats) × (self.new.processed ≡ self.old.processed)
             × (self.new.failed ≡ self.old.failed) }
@@ -117,6 +118,8 @@ impl SearchTree {
             → MatchOption result
             (OnTips (λ up path k l. IsOpenLeaf l → limit ≤ tip_bound up l) 0 (base_cuts s.day) t)
             (λ leaf. (leaf.bound < limit) × IsTree s limit now leaf.bound (leaf ∷ []) self.new t) }
+        ensures left { (s : Site) (now low : ℕ) (t : Grown) → IsTree s limit now low [] self.old t
+            → IfNone result ((hand : Items Waiting) × IsTree s limit now low hand self.new t) }
     {
         let leaf = self.waiting.pop()?;
         if leaf.bound < limit { Some(leaf) } else { None }

@@ -7,8 +7,8 @@ invariant_of-self-2 c =
     let u = c.remove-kept.ensures in
     ((p.heap_order c.self.invariant.0).0, held-popped _ _ _ _ c.self.invariant.1 p.permutation _ u.updates)
 
-pub returns : goal.returns
-returns c =
+pub returns-clause-taken : goal.returns-clause-taken
+returns-clause-taken c =
     let p = c.in_ok-entry.ensures in
     let u = c.remove-kept.ensures in
     let e = c.self.view_is in (

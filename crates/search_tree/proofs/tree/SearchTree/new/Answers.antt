@@ -1,10 +1,9 @@
-use Rattle.std.proofs.Common.{ℕ, ◌≡◌, ◌≤◌, None, [], ◌∷◌, ◌++◌, List, subst, sym, ap, refl, ◌+◌, arith, cond, Bool, ◌∙◌}
-use Rattle.growing_laws.specs.Grown.{Grown, tip, fresh}
+use Rattle.std.proofs.Common.{ℕ, ◌≡◌, None, [], ◌∷◌, ◌++◌, List, subst, sym, ap, refl, arith, ◌∙◌}
+use Rattle.growing_laws.specs.Grown.{tip, fresh}
 use Rattle.growing_laws.specs.declared.seat.Seat.{Seat}
 use Rattle.open_nodes.specs.declared.leaf.OpenLeaf.{OpenLeaf}
 use Rattle.open_nodes.specs.Queues.{SameLeaves}
 use Rattle.roster_model.specs.Folds.{count}
-use Rattle.search_tree.specs.Views.{Site, TreeView}
 use Rattle.search_tree.specs.Trees.{IsTree}
 use Rattle.search_tree.specs.Steps.{half_seat}
 use Rattle.search_tree.proofs.Taking.{first-tree}

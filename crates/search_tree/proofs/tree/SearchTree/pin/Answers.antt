@@ -1,4 +1,4 @@
-use Rattle.std.proofs.Common.{◌≡◌, ◌+◌, ◌<◌, length, sym, subst, refl}
+use Rattle.std.proofs.Common.{◌+◌, ◌<◌, length, sym, subst, refl}
 use Rattle.search_tree.specs.Views.{TreeView}
 use Rattle.search_tree.specs.Asked.{AsksPinned, IsProcessed}
 use Rattle.search_tree.specs.contracts.tree.SearchTree.{the_view}

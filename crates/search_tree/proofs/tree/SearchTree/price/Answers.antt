@@ -1,4 +1,4 @@
-use Rattle.std.proofs.Common.{◌≡◌, ◌+◌, ◌<◌, length, sym, ◌∷◌, subst, refl, OnOk, Result, Ok, Err}
+use Rattle.std.proofs.Common.{◌+◌, ◌<◌, length, sym, ◌∷◌, subst, refl, OnOk, Result, Ok, Err}
 use Rattle.roster_model.specs.declared.memory.Memory.{Memory}
 use Rattle.open_nodes.specs.declared.leaf.OpenLeaf.{OpenLeaf}
 use Rattle.open_nodes.specs.Queues.{SameLeaves}

@@ -1,0 +1,4 @@
+mod BaseLemmas
+mod ClimbLemmas
+mod GoingLemmas
+mod TurnsLemmas

@@ -1,0 +1,6 @@
+use Rattle.std.proofs.Common.{take}
+use Rattle.arc_branch.specs.Paths.{IsBoxOf}
+use Rattle.node_path.proofs.base.base_box.Given as goal
+
+abbrev pub invariant-loop-cut : goal.invariant-loop-cut
+invariant-loop-cut l = IsBoxOf l.instance l.graph (take l.cut-index l.cuts) l.arc_box

@@ -1,0 +1,60 @@
+-- Steps on the way between nodes.
+use Rattle.std.specs.Prelude.{ℕ, ◌≡◌, ◌≤◌, ◌<◌, List, [], ◌∷◌, ◌++◌, reverse}
+use Rattle.roster_model.specs.declared.instance.Cut.{Cut}
+use Rattle.roster_model.specs.declared.instance.Instance.{Instance}
+use Rattle.roster_model.specs.Arcs.{IsArc}
+use Rattle.roster_model.specs.Cuts.{lo, hi, base_cuts}
+use Rattle.roster_model.specs.Folds.{Each}
+use Rattle.roster_model.specs.SoundInstance.{IsSoundInstance}
+use Rattle.parse_graph.specs.Graphs.{GraphView, IsGraph}
+use Rattle.arc_branch.specs.Boxes.{BoxView}
+use Rattle.arc_branch.specs.Paths.{IsBoxOf}
+use Rattle.growing_laws.specs.Grown.{Grown}
+use Rattle.growing_laws.specs.Seats.{StandsAt}
+use Rattle.node_path.specs.declared.turn.Turn.{Turn}
+use Rattle.node_path.specs.Paths.{AreTurns}
+
+-- of the counts that the cuts above it leave its arc, the cut leaves one on both its sides
+abbrev pub IsWithin : Instance → List Cut → Cut → Type 0
+IsWithin i above c = (lo above c.arc ≤ c.b) × (c.b < hi i.heads_max above c.arc)
+
+-- each of the cuts does, below those before it
+abbrev pub AreWithin : Instance → List Cut → List Cut → Type 0
+AreWithin i above [] = Unit {0}
+AreWithin i above (c ∷ cuts) = IsWithin i above c × AreWithin i (above ++ c ∷ []) cuts
+
+-- the box is that of the cuts above, and one cut more can be made
+pub record CanCut (i : Instance) (v : GraphView) (above : List Cut) (c : Cut) (b : BoxView) : Type 0 where
+  pub graph : IsGraph i.grammar v
+  pub left : IsBoxOf i v above b
+  pub within : IsWithin i above c
+
+-- the box is that of the cuts above, and these cuts on arcs of the instance can be made
+pub record CanGoDown (i : Instance) (v : GraphView) (above cuts : List Cut) (b : BoxView) : Type 0 where
+  pub graph : IsGraph i.grammar v
+  pub left : IsBoxOf i v above b
+  pub within : AreWithin i above cuts
+  pub arcs : Each (λ (c : Cut). IsArc i.grammar c.arc) cuts
+
+-- the box is that of these cuts, which the turns lead to from the cuts above
+pub record HasTurned (i : Instance) (v : GraphView) (above : List Cut) (turns : List Turn)
+    (cuts : List Cut) (b : BoxView) : Type 0 where
+  pub sound : IsSoundInstance i
+  pub graph : IsGraph i.grammar v
+  pub turned : AreTurns i v above turns cuts
+  pub left : IsBoxOf i v cuts b
+
+-- the cuts of the path below the base cuts are added, the last one first
+pub record IsClimbed (i : Instance) (path old new : List Cut) : Type 0 where
+  pub up : List Cut
+  pub added : new ≡ old ++ up
+  pub down : path ≡ base_cuts i ++ reverse up
+
+-- the cuts of the path below a node are added, the last one first; the node of this number is above them
+pub record IsClimbing (i : Instance) (t : Grown) (path : List Cut) (number : ℕ)
+    (old new : List Cut) : Type 0 where
+  pub up : List Cut
+  pub added : new ≡ old ++ up
+  pub shorter : List Cut
+  pub stands : StandsAt (base_cuts i) t number shorter
+  pub down : path ≡ shorter ++ reverse up
