@@ -1,5 +1,5 @@
 -- A leaf in hand: the arc of its plan, and its path.
-use Rattle.std.proofs.Common.{◌≡◌, ℕ, arith, ◌≤◌, ◌<◌, ◌^◌, ◌*◌, ◌+◌, Option, None, Some, List, [], ◌∷◌, ◌++◌, length, refl, sym, ap, ◌∙◌, ◌⊎◌, inl, inr, MatchOption}
+use Rattle.std.proofs.Common.{◌≡◌, ℕ, arith, ◌≤◌, ◌<◌, ◌^◌, ◌*◌, ◌+◌, Option, None, Some, List, [], ◌∷◌, ◌++◌, length, refl, sym, subst, ap, ◌∙◌, ◌⊎◌, inl, inr, MatchOption}
 use Rattle.std.specs.Prelude.{slice_get}
 use Rattle.roster_model.specs.declared.grammar.ArcKey.{ArcKey}
 use Rattle.roster_model.specs.declared.instance.Cut.{Cut}
@@ -20,11 +20,14 @@ use Rattle.open_nodes.specs.declared.leaf.OpenLeaf.{OpenLeaf}
 use Rattle.search_tree.specs.Views.{TreeView, Site, IsPlace}
 use Rattle.search_tree.specs.Trees.{HasPlan, IsPlanned, IsTree, IsPlan}
 use Rattle.search_tree.proofs.TreeLaws.{queued-leaf, leaf-in-hand, few-seats, short-paths}
+use Rattle.search_tree.specs.Asked.{AsksSplit, IsHalved}
+use Rattle.std.proofs.lemmas.Option.{slice_get_within}
 use Rattle.node_path.specs.Paths.{IsNode}
 use Rattle.offers.specs.Offers.{limit_of}
 use Rattle.branch_price.specs.declared.progress.Progress.{Progress}
 use Rattle.branch_price.specs.Searching.{site_of, IsSearching}
-use Rattle.branch_price.specs.Steps.{AsksTurn, AsksNode, AsksHalf}
+use Rattle.branch_price.specs.Steps.{AsksTurn, AsksNode, AsksHalf, IsTurned}
+use Rattle.growing_laws.specs.declared.seat.Seat.{Seat}
 use Rattle.branch_price.proofs.NodeCuts.{IsGoodCut, path-cuts, path-based, base-good, base-few}
 use Rattle.parse_graph.specs.Graphs.{GraphView}
 use Rattle.std.specs.Prelude.{Bool}
@@ -81,8 +84,87 @@ leaf-cuts i v strict before now low p leaf cuts sound asked =
     let few = asked.few in
     let base : length (base_cuts i) ≤ 16 = base-few i sound in
     record {
-      node = Each-same (IsGoodCut i) (IsNodeCut i) (λ c h. h.node) cuts good;
-      below = Each-same (IsGoodCut i) (IsBelowHeads i) (λ c h. h.below) cuts good;
+      node = Each-same (IsGoodCut i) (IsNodeCut i) cuts (λ c h. h.node) good;
+      below = Each-same (IsGoodCut i) (IsBelowHeads i) cuts (λ c h. h.below) good;
       based = path-based (base_cuts i) asked.tree leaf.kept.seat cuts asked.place.stands;
       few = omega (arith, short, busy, few, base);
     }
+
+-- a leaf with a plan can be split on its arc
+abbrev pub asks-split : (i : Instance) (v : GraphView) (strict : Bool) (now : ℕ) (p : Progress) (leaf : OpenLeaf) (plan : Plan) (arc : ArcKey)
+    → AsksTurn i v strict now p leaf → leaf.kept.plan ≡ Some plan → slice_get v.arcs plan.arc ≡ Some arc → AsksSplit p.tree leaf plan arc
+asks-split i v strict now p leaf plan arc asked e at = record {
+  site = site_of i v strict asked.before;
+  limit = limit_of i p.best;
+  now = now;
+  tree = asked.tree;
+  is = asked.is.tree;
+  below = asked.below;
+  kept = e;
+  at = at;
+  few = let f = asked.few in omega (arith, f);
+}
+
+pub plan-within : (i : Instance) (v : GraphView) (strict : Bool) (now : ℕ) (p : Progress) (leaf : OpenLeaf) (plan : Plan)
+    → AsksTurn i v strict now p leaf → leaf.kept.plan ≡ Some plan → plan.arc < length v.arcs
+plan-within i v strict now p leaf plan asked e =
+    let w = planned-arc (site_of i v strict asked.before) (limit_of i p.best) now leaf.bound leaf p.tree asked.tree plan asked.is.tree e in
+    slice_get_within v.arcs plan.arc w.0 w.1
+
+-- the half in hand is not processed
+pub half-asks : (i : Instance) (v : GraphView) (strict : Bool) (now : ℕ) (p : Progress) (leaf : OpenLeaf) (tree : TreeView) (half : OpenLeaf)
+    → (asked : AsksTurn i v strict now p leaf) → IsHalved (site_of i v strict asked.before) (limit_of i p.best) now p.tree tree leaf half
+    → AsksHalf i v strict asked.before now leaf.bound p (record { tree = tree; best = p.best }) half
+half-asks i v strict now p leaf tree half asked halved =
+    let e = halved.bound in
+    let b = asked.below in
+    let place = leaf-in-hand (site_of i v strict asked.before) (limit_of i p.best) now leaf.bound half tree halved.tree halved.is (omega (arith, e, b)) halved.fresh in
+    record {
+      path = place.0;
+      node = record {
+        tree = halved.tree;
+        is = record { tree = halved.is; best = asked.is.best; start = asked.is.start };
+        place = place.1;
+        few = let f = asked.few in let q = halved.processed in omega (arith, f, q);
+      };
+      processed = halved.processed;
+    }
+
+-- a leaf without a plan is not processed
+pub whole-asks : (i : Instance) (v : GraphView) (strict : Bool) (now : ℕ) (p : Progress) (leaf : OpenLeaf)
+    → (asked : AsksTurn i v strict now p leaf) → leaf.kept.plan ≡ None → AsksHalf i v strict asked.before now leaf.bound p p leaf
+whole-asks i v strict now p leaf asked e =
+    let place = leaf-in-hand (site_of i v strict asked.before) (limit_of i p.best) now leaf.bound leaf p.tree asked.tree asked.is.tree asked.below e in
+    record {
+      path = place.0;
+      node = record { tree = asked.tree; is = asked.is; place = place.1; few = asked.few };
+      processed = refl;
+    }
+
+pub half-is-node : (i : Instance) (v : GraphView) (strict : Bool) (before now low : ℕ) (old new : Progress) (half : OpenLeaf) (seats : List Seat)
+    → (asked : AsksHalf i v strict before now low old new half) → seats ≡ new.tree.seats
+    → IsNode i seats half.kept.seat asked.node.tree asked.path
+half-is-node i v strict before now low old new half seats asked e =
+    let few = asked.node.few in
+    subst (λ (xs : List Seat). IsNode i xs half.kept.seat asked.node.tree asked.path) (sym e)
+    (is-node (site_of i v strict before) (limit_of i new.best) now low (half ∷ []) new.tree asked.node.tree half.kept.seat asked.path half.bound
+      asked.node.is.tree (omega (arith, few)) asked.node.place)
+
+pub half-node : (i : Instance) (v : GraphView) (strict : Bool) (before now low : ℕ) (old new : Progress) (half : OpenLeaf) (seats : List Seat)
+    → (asked : AsksHalf i v strict before now low old new half) → seats ≡ new.tree.seats
+    → (t : Grown) × (path : List Cut) × IsNode i seats half.kept.seat t path
+half-node i v strict before now low old new half seats asked e =
+    (asked.node.tree, asked.path, half-is-node i v strict before now low old new half seats asked e)
+
+pub half-at : (i : Instance) (v : GraphView) (strict : Bool) (before now low : ℕ) (old new : Progress) (half : OpenLeaf) (cuts : List Cut)
+    → (asked : AsksHalf i v strict before now low old new half) → cuts ≡ asked.path → AsksNode i v strict before now low new half cuts
+half-at i v strict before now low old new half cuts asked e =
+    subst (λ (cs : List Cut). AsksNode i v strict before now low new half cs) (sym e) asked.node
+
+pub half-turned : (i : Instance) (v : GraphView) (strict : Bool) (before now later low : ℕ) (old new last : Progress) (half : OpenLeaf)
+    → AsksHalf i v strict before now low old new half → IsTurned i v strict before later low new last → IsTurned i v strict before later low old last
+half-turned i v strict before now later low old new last half asked turned = record {
+  tree = turned.tree;
+  is = turned.is;
+  processed = let p = turned.processed in let q = asked.processed in omega (arith, p, q);
+}

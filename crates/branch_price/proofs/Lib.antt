@@ -1,2 +1,3 @@
 pub mod NodeCuts
 pub mod Leaves
+pub mod Processed

@@ -47,8 +47,7 @@ split-cuts : (i : Instance) → IsSoundInstance i → (path : List Cut) (a : Arc
 split-cuts i sound path a b is =
     let h = hi-most i.heads_max path a in
     let below : b < i.heads_max = omega (arith, h, is.high) in
-    let few : b ≤ 63 = omega (arith, below, sound.few) in
-    (
+    let few : b ≤ 63 = omega (arith, below, sound.few) in (
       record { node = record { arc = inl is.arc; few = few }; below = below },
       record { node = record { arc = inl is.arc; few = few }; below = below },
     )

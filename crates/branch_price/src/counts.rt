@@ -1,10 +1,9 @@
-ghost use Rattle.std.specs.Prelude.{◌≡◌, IfOk, length};
-ghost use Rattle.parse_graph.specs.Graphs.{HasGrammar};
+ghost use Rattle.std.specs.Prelude.{◌≡◌, ◌<◌, IfOk, Some, length, slice_get};
 ghost use Rattle.branch_price.specs.Plans.{AreLeast};
 
 use arc_branch::ArcBox;
 use parse_graph::Graph;
-use roster_model::Memory;
+use roster_model::{ArcKey, Memory};
 use std::alloc::Global;
 
 /// Returns the least count that a box leaves each arc.
@@ -25,4 +24,12 @@ pub(crate) fn least_counts(
         }
     }
     Ok(counts)
+}
+
+/// Returns the arc of a number.
+pub(crate) fn arc_at(graph: &Graph, arc: u32) -> ArcKey
+    requires { arc < length graph.now.arcs }
+    ensures { slice_get graph.now.arcs arc ≡ Some result }
+{
+    graph.arcs()[arc as usize]
 }

@@ -12,7 +12,7 @@ ghost use Rattle.branch_price.specs.Desks.{IsDesk};
 ghost use Rattle.branch_price.specs.Steps.{AsksNode, IsTurned, IsGivenUp, IsSolved};
 
 use crate::choose::plan_of;
-use crate::counts::least_counts;
+use crate::counts::{arc_at, least_counts};
 use crate::desk::{Desk, want};
 use crate::progress::Progress;
 use crate::value::shown_value;
@@ -97,7 +97,7 @@ fn fail_leaf(
 {
     let arc_box = path.arc_box();
     let b = arc_box.low(loose).midpoint(arc_box.high(loose));
-    progress.tree.fail(leaf, graph.arcs()[loose as usize], b)
+    progress.tree.fail(leaf, arc_at(graph, loose), b)
 }
 
 /// Processes a leaf whose master is solved: lets it wait with its prices.

@@ -9,6 +9,7 @@ ghost use Rattle.node_path.specs.Paths.{IsPath};
 ghost use Rattle.branch_price.specs.Desks.{IsDesk};
 ghost use Rattle.branch_price.specs.Steps.{AsksTurn, AsksHalf, IsTurned};
 
+use crate::counts::arc_at;
 use crate::desk::Desk;
 use crate::leaf::{pin_leaf, price_leaf};
 use crate::progress::Progress;
@@ -29,9 +30,10 @@ fn halve(graph: &Graph, progress: &mut Progress, leaf: OpenLeaf) -> Result<OpenL
         → AsksHalf i graph.now strict asked.before now leaf.bound progress.old progress.new half) }
 {
     match leaf.kept.plan {
-        Some(plan) => progress
-            .tree
-            .split(leaf, plan, graph.arcs()[plan.arc as usize]),
+        Some(plan) => {
+            let arc = arc_at(graph, plan.arc);
+            progress.tree.split(leaf, plan, arc)
+        }
         None => Ok(leaf),
     }
 }

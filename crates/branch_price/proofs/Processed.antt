@@ -1,0 +1,96 @@
+-- A leaf is processed: what the steps of the tree ask, and what they lead to.
+use Rattle.std.proofs.Common.{◌≡◌, ℕ, arith, ◌≤◌, ◌<◌, ◌+◌, ◌/◌, Bool, Option, None, Some, IfSome, MatchOption, List, [], ◌∷◌, ◌++◌, length, refl, sym, subst, ap, ◌∙◌, inl, inr}
+use Rattle.std.specs.Prelude.{slice_get}
+use Rattle.roster_model.specs.declared.grammar.ArcKey.{ArcKey}
+use Rattle.roster_model.specs.declared.instance.Cut.{Cut}
+use Rattle.roster_model.specs.declared.instance.Instance.{Instance}
+use Rattle.roster_model.specs.declared.instance.Prices.{Prices}
+use Rattle.roster_model.specs.Arcs.{IsArc}
+use Rattle.roster_model.specs.Cuts.{lo, hi}
+use Rattle.arc_laws.specs.Loose.{IsLoose}
+use Rattle.arc_branch.specs.Boxes.{BoxView, bounds_at}
+use Rattle.arc_branch.specs.Paths.{IsBoxOf, IsLooseAt}
+use Rattle.bound_laws.specs.Pinned.{IsPinned, IsPinnedValue}
+use Rattle.parse_graph.specs.Graphs.{GraphView, IsGraph}
+use Rattle.std.proofs.lemmas.Option.{same_Some, slice_get_within}
+use Rattle.growing_laws.specs.States.{IsPricedNode, IsLoosePath, IsSplitAt}
+use Rattle.open_nodes.specs.declared.leaf.Plan.{Plan}
+use Rattle.open_nodes.specs.declared.leaf.OpenLeaf.{OpenLeaf}
+use Rattle.search_tree.specs.Views.{TreeView, Site}
+use Rattle.search_tree.specs.Trees.{IsPlan, IsTree}
+use Rattle.search_tree.specs.Asked.{AsksLeaf, AsksPinned, AsksPriced, AsksFailed, IsProcessed}
+use Rattle.search_tree.proofs.TreeLaws.{limit-falls}
+use Rattle.candidate_rosters.specs.declared.roster.Roster.{Roster}
+use Rattle.candidate_rosters.specs.Starts.{HasStart, StartsWith}
+use Rattle.offers.specs.Offers.{limit_of, IsBetter}
+use Rattle.branch_price.specs.declared.progress.Progress.{Progress}
+use Rattle.branch_price.specs.Searching.{site_of, IsSearching}
+use Rattle.branch_price.specs.Steps.{AsksNode, IsTurned, IsGivenUp}
+
+-- the leaf in hand, once the best roster gave way to another one
+abbrev pub taken : (i : Instance) (v : GraphView) (strict : Bool) (before now low : ℕ) (p : Progress) (leaf : OpenLeaf) (cuts : List Cut) (best : Option Roster)
+    → AsksNode i v strict before now low p leaf cuts → IsBetter i p.best best → AsksLeaf p.tree leaf
+taken i v strict before now low p leaf cuts best asked better = record {
+  site = site_of i v strict before;
+  limit = limit_of i best;
+  now = now;
+  low = low;
+  tree = asked.tree;
+  path = cuts;
+  is = limit-falls (site_of i v strict before) (limit_of i p.best) (limit_of i best) now low (leaf ∷ []) p.tree asked.tree asked.is.tree better.falls;
+  place = asked.place;
+  few = asked.few;
+}
+
+pub same-best : (i : Instance) (v : GraphView) (strict : Bool) (before now low : ℕ) (p : Progress) (leaf : OpenLeaf) (cuts : List Cut)
+    → AsksNode i v strict before now low p leaf cuts → IsBetter i p.best p.best
+same-best i v strict before now low p leaf cuts asked = record { falls = omega arith; good = asked.is.best; start = λ h. h }
+
+pub turned-by : (i : Instance) (v : GraphView) (strict : Bool) (before now later low : ℕ) (p : Progress) (leaf : OpenLeaf) (cuts : List Cut) (best : Option Roster) (w : TreeView)
+    → AsksNode i v strict before now low p leaf cuts → IsBetter i p.best best
+    → IsProcessed (site_of i v strict before) (limit_of i best) later low p.tree w
+    → IsTurned i v strict before later low p (record { tree = w; best = best })
+turned-by i v strict before now later low p leaf cuts best w asked better done = record {
+  tree = done.tree;
+  is = record { tree = done.is; best = better.good; start = λ h. better.start (asked.is.start h) };
+  processed = done.processed;
+}
+
+-- an arc that is left more than one count
+module _ (i : Instance) (v : GraphView) (cuts : List Cut) (box : BoxView) (left : IsBoxOf i v cuts box) (loose : ℕ) (is : IsLooseAt i v cuts loose) where
+  pub loose-within : loose < length v.arcs
+  loose-within = slice_get_within v.arcs loose is.0 is.1
+
+  pub loose-path : IsGraph i.grammar v → IsLoosePath i cuts
+  loose-path graph = (is.0, graph.arcs.sound loose is.0 is.1, is.2)
+
+  pub mid-split : IsGraph i.grammar v → (key : ArcKey) (b : ℕ) → slice_get v.arcs loose ≡ Some key
+      → (bounds_at box.bounds loose).low ≤ b → b < (bounds_at box.bounds loose).high → IsSplitAt i cuts key b
+  mid-split graph key b at low high =
+      let l = left.low loose key at in
+      let h = left.high loose key at in
+      record { arc = graph.arcs.sound loose key at; low = omega (arith, l, low); high = omega (arith, h, high) }
+
+  pub loose-bounds : (bounds_at box.bounds loose).low < (bounds_at box.bounds loose).high
+  loose-bounds =
+      let l = left.low loose is.0 is.1 in
+      let h = left.high loose is.0 is.1 in
+      let lt = is.2 in
+      omega (arith, l, h, lt)
+
+pub middle-split : (i : Instance) (v : GraphView) (cuts : List Cut) (box : BoxView) (loose low high b : ℕ) (key : ArcKey) → IsGraph i.grammar v
+    → IsBoxOf i v cuts box → IsLooseAt i v cuts loose → slice_get v.arcs loose ≡ Some key → low ≡ (bounds_at box.bounds loose).low
+    → high ≡ (bounds_at box.bounds loose).high → b ≡ (low + high) / 2 → IsSplitAt i cuts key b
+middle-split i v cuts box loose low high b key graph left is at l h mid =
+    let lt = loose-bounds i v cuts box left loose is in
+    mid-split i v cuts box left loose is graph key b at (omega (arith, lt, l, h, mid)) (omega (arith, lt, l, h, mid))
+
+abbrev pub asks-failed : (i : Instance) (v : GraphView) (strict : Bool) (before now later low : ℕ) (p : Progress) (leaf : OpenLeaf) (cuts : List Cut) (arc : ArcKey) (b : ℕ)
+    → AsksNode i v strict before now low p leaf cuts → IsGivenUp i strict now later cuts → IsSplitAt i cuts arc b → AsksFailed p.tree leaf arc b later
+asks-failed i v strict before now later low p leaf cuts arc b asked given splits = record {
+  taken = taken i v strict before now low p leaf cuts p.best asked (same-best i v strict before now low p leaf cuts asked);
+  splits = splits;
+  hard = given.hard;
+  cause = given.cause;
+  within = given.within;
+}
