@@ -99,8 +99,7 @@ module _ (g : Grammar) (columns : List PoolTree) (q : ℕ) (q_some : 0 < q) (d m
   in_pool others (x ∷ xs) [] are over few = absurd are
   in_pool others (x ∷ xs) (w ∷ ws) are over few =
       let k : with w.key w.weight (copies (ws ++ others)) ≡ repeat w.weight are.0.some (copies (ws ++ others)) = ap (λ (k : MasterKey). with k w.weight (copies (ws ++ others))) are.0.key in
-      let l : length (with w.key w.weight (copies (ws ++ others))) ≡ w.weight + length (copies (ws ++ others)) = ap length k ∙ repeat_length w.weight are.0.some (copies (ws ++ others)) in
-      (
+      let l : length (with w.key w.weight (copies (ws ++ others))) ≡ w.weight + length (copies (ws ++ others)) = ap length k ∙ repeat_length w.weight are.0.some (copies (ws ++ others)) in (
         (get_lt columns x.column are.0.held are.0.column, room_of (unit d x) (few_units (unit d x) w.weight (unit_is g columns q q_some d x w are.0 over.0) (omega (arith, l, few)))),
         in_pool others xs ws are.1 over.1 (omega (arith, l, few)),
       )
