@@ -1,5 +1,5 @@
 -- Where the weights' common denominators are large, so are those of the trees' weights.
-use Rattle.std.proofs.Common.{true≢false, ◌≡◌, ◌≢◌, ℕ, ℤ, zero, suc, arith, pos, ◌+◌, ◌*◌, ◌^◌, ◌≤◌, ◌<◌, Bool, true, false, cond, List, [], ◌∷◌, ◌++◌, Some, length, refl, sym, ap, ◌∙◌, subst, unsigned_abs, ◌⊎◌, inl, inr}
+use Rattle.std.proofs.Common.{true≢false, ◌≡◌, ◌≢◌, ℕ, arith, ◌+◌, ◌*◌, ◌<◌, Bool, true, false, cond, List, [], ◌∷◌, ◌++◌, Some, refl, sym, ap, ◌∙◌, subst, unsigned_abs, ◌⊎◌, inl, inr}
 use Rattle.std.specs.Prelude.{◌&&◌, nat_eq, slice_get}
 use Rattle.std.specs.Int.{◌∣◌}
 use Rattle.std.proofs.lemmas.Bool.{eqb-true, eq-eqb}
@@ -14,11 +14,11 @@ use Rattle.arc_laws.proofs.SameArc.{and_both}
 use Rattle.fraction.proofs.Coprime.{gauss}
 use Rattle.linear_programs.specs.Solution.{Weighted, weight_where}
 use Rattle.master_laws.specs.Master.{MasterKey, missing, beyond, tree}
-use Rattle.master_laws.specs.Sharp.{on_trees, IsTreeDenominator, AreFine}
+use Rattle.master_laws.specs.Sharp.{on_trees, AreFine}
 use Rattle.tree_pool.specs.Pools.{PoolTree, IsPool}
 use Rattle.node_master.specs.declared.ends.Weight.{Weight}
 use Rattle.node_master.specs.Ends.{IsWeight, AreWeights, IsOther}
-use Rattle.arc_weights.specs.Denominators.{den_of, AreOver, AreAllPast, AreApart}
+use Rattle.arc_weights.specs.Denominators.{den_of, AreAllPast, AreApart}
 use Rattle.arc_weights.proofs.Units.{weight_share, cancel}
 
 -- ---- a test of steps

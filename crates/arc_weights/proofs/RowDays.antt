@@ -1,6 +1,5 @@
 -- Plain days, and days with a tree.
-use Rattle.std.proofs.Common.{All, ◌≡◌, ℕ, suc, zero, arith, ◌<◌, List, [], ◌∷◌, length, Option, None, Some, inl, inr, ◌⊎◌, sym, ap, subst}
-use Rattle.std.specs.Prelude.{slice_get}
+use Rattle.std.proofs.Common.{All, ◌≡◌, ℕ, arith, List, [], ◌∷◌, length, Option, Some, inl, inr, sym, ap, subst}
 use Rattle.std.proofs.lemmas.List.Elements.{All-head, All-tail}
 use Rattle.roster_model.specs.declared.instance.Cell.{Cell}
 use Rattle.roster_model.specs.declared.instance.Group.{Group}
@@ -8,7 +7,7 @@ use Rattle.roster_model.specs.declared.instance.Instance.{Instance}
 use Rattle.roster_model.specs.Folds.{In}
 use Rattle.roster_model.specs.SoundInstance.{IsSoundInstance}
 use Rattle.roster_model.specs.Teams.{Team, teams_of}
-use Rattle.bound_laws.specs.Infeasible.{IsPlainlyInfeasible, IsUnstaffable, IsUnmeetable}
+use Rattle.bound_laws.specs.Infeasible.{IsPlainlyInfeasible}
 use Rattle.parse_graph.specs.Graphs.{GraphView, IsGraph, IsRoot}
 use Rattle.arc_weights.specs.RowDays.{IsPlainDay, HasRoot}
 

@@ -1,6 +1,5 @@
 -- Weights in units of 1 / d, and those of a solution over q.
-use Rattle.std.proofs.Common.{◌≡◌, ℕ, ℤ, zero, suc, arith, pos, negsuc, ◌+◌, ◌*◌, ◌/◌, ◌^◌, ◌*ℤ◌, ◌<ℤ◌, ◌≤◌, ◌<◌, List, [], ◌∷◌, ◌++◌, Some, length, refl, sym, ap, ◌∙◌, subst, unsigned_abs, ◌⊎◌, inl, inr}
-use Rattle.std.specs.Prelude.{slice_get}
+use Rattle.std.proofs.Common.{◌≡◌, ℕ, ℤ, zero, suc, arith, pos, negsuc, ◌+◌, ◌*◌, ◌/◌, ◌^◌, ◌*ℤ◌, ◌<ℤ◌, ◌≤◌, ◌<◌, List, [], ◌∷◌, ◌++◌, length, refl, sym, ap, ◌∙◌, unsigned_abs, ◌⊎◌, inl, inr}
 use Rattle.std.specs.Int.{◌∣◌}
 use Rattle.std.proofs.lemmas.Int.{ints}
 use Rattle.std.proofs.Math.Nat.{mul-div_cancel', mul-le-mul_left}
@@ -8,10 +7,9 @@ use Rattle.roster_model.specs.declared.grammar.ArcKey.{ArcKey}
 use Rattle.roster_model.specs.declared.grammar.Grammar.{Grammar}
 use Rattle.roster_model.specs.Trees.{Parts}
 use Rattle.roster_model.specs.Folds.{Each, count}
-use Rattle.roster_model.specs.Arcs.{arcs, same_arc}
+use Rattle.roster_model.specs.Arcs.{same_arc}
 use Rattle.linear_programs.specs.Solution.{Weighted}
 use Rattle.master_laws.specs.Master.{MasterKey, missing, beyond, tree}
-use Rattle.master_laws.specs.Rows.{tree_arcs}
 use Rattle.master_laws.specs.Sharp.{arcs_in, arc_weight}
 use Rattle.master_laws.proofs.Copies.{repeat, with, copies}
 use Rattle.tree_pool.specs.Pools.{PoolTree}
