@@ -1,5 +1,5 @@
 -- Where the weights' common denominators are large, so are those of the trees' weights.
-use Rattle.std.proofs.Common.{true≢false, ◌≡◌, ◌≢◌, ℕ, ℤ, zero, suc, arith, pos, ◌+◌, ◌*◌, ◌^◌, ◌≤◌, ◌<◌, Bool, true, false, cond, List, [], ◌∷◌, ◌++◌, Some, length, refl, sym, ap, ◌∙◌, subst, unsigned_abs, ◌⊎◌, inl, inr}
+use Rattle.std.proofs.Common.{true≢false, ◌≡◌, ◌≢◌, ℕ, arith, ◌+◌, ◌*◌, ◌<◌, Bool, true, false, cond, List, [], ◌∷◌, ◌++◌, Some, refl, sym, ap, ◌∙◌, subst, unsigned_abs, ◌⊎◌, inl, inr}
 use Rattle.std.specs.Prelude.{◌&&◌, nat_eq, slice_get}
 use Rattle.std.specs.Int.{◌∣◌}
 use Rattle.std.proofs.lemmas.Bool.{eqb-true, eq-eqb}
@@ -14,11 +14,11 @@ use Rattle.arc_laws.proofs.SameArc.{and_both}
 use Rattle.fraction.proofs.Coprime.{gauss}
 use Rattle.linear_programs.specs.Solution.{Weighted, weight_where}
 use Rattle.master_laws.specs.Master.{MasterKey, missing, beyond, tree}
-use Rattle.master_laws.specs.Sharp.{on_trees, IsTreeDenominator, AreFine}
+use Rattle.master_laws.specs.Sharp.{on_trees, AreFine}
 use Rattle.tree_pool.specs.Pools.{PoolTree, IsPool}
 use Rattle.node_master.specs.declared.ends.Weight.{Weight}
 use Rattle.node_master.specs.Ends.{IsWeight, AreWeights, IsOther}
-use Rattle.arc_weights.specs.Denominators.{den_of, AreOver, AreAllPast, AreApart}
+use Rattle.arc_weights.specs.Denominators.{den_of, AreAllPast, AreApart}
 use Rattle.arc_weights.proofs.Units.{weight_share, cancel}
 
 -- ---- a test of steps
@@ -97,11 +97,14 @@ module _ (g : Grammar) (columns : List PoolTree) (q : ℕ) (pool : IsPool g colu
 
       by : (b : Bool) → same_steps (steps 1 is.some) held.steps ≡ b → ((y.column ≡ c) × (on_trees (has_steps held) v.key ≡ true)) ⊎ ((y.column ≢ c) × (on_trees (has_steps held) v.key ≡ false))
       by true e = inl (pool.once y.column c is.held held is.column at (is.is.steps ∙ steps_true (steps 1 is.some) held.steps e), key ∙ e)
-      by false e = inr (λ s.
-          let h : is.held ≡ held = same_Some is.held held (sym is.column ∙ ap (λ (j : ℕ). slice_get columns j) s ∙ at) in
-          let z : steps 1 is.some ≡ held.steps = sym is.is.steps ∙ ap (λ (x : PoolTree). x.steps) h in
-          let r : same_steps (steps 1 is.some) held.steps ≡ true = subst (λ (xs : List Step). same_steps (steps 1 is.some) xs ≡ true) z (steps_refl (steps 1 is.some)) in
-          true≢false (sym r ∙ e), key ∙ e)
+      by false e = inr (
+        λ s.
+            let h : is.held ≡ held = same_Some is.held held (sym is.column ∙ ap (λ (j : ℕ). slice_get columns j) s ∙ at) in
+            let z : steps 1 is.some ≡ held.steps = sym is.is.steps ∙ ap (λ (x : PoolTree). x.steps) h in
+            let r : same_steps (steps 1 is.some) held.steps ≡ true = subst (λ (xs : List Step). same_steps (steps 1 is.some) xs ≡ true) z (steps_refl (steps 1 is.some)) in
+            true≢false (sym r ∙ e),
+        key ∙ e,
+      )
 
   module _ (held : PoolTree) (c : ℕ) (at : slice_get columns c ≡ Some held) where
     apart_none : (xs : List Weight) (ws : List (Weighted MasterKey)) → AreWeights g columns q xs ws → Each (λ (y : Weight). y.column ≢ c) xs → weight_where (on_trees (has_steps held)) ws ≡ 0

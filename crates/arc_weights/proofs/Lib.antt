@@ -5,3 +5,4 @@ pub mod RowBounds
 pub mod Units
 pub mod Fine
 pub mod Weighing
+pub mod RowDays

@@ -1,12 +1,12 @@
 -- Least common multiples.
-use Rattle.std.proofs.Common.{◌≡◌, ℕ, zero, suc, arith, ◌*◌, ◌/◌, ◌+◌, ◌^◌, ◌<◌, ◌≤◌, List, [], ◌∷◌, drop, length, ap, sym, subst, refl}
+use Rattle.std.proofs.Common.{◌≡◌, ℕ, zero, suc, arith, ◌*◌, ◌/◌, ◌+◌, ◌^◌, ◌<◌, ◌≤◌, List, ◌∷◌, drop, sym, subst}
 use Rattle.std.specs.Int.{IsGcd, ◌∣◌}
 use Rattle.std.proofs.lemmas.Nat.Gcd.{IsGcd-swap, dvd_trans, le_of_dvd}
 use native.Mathlib.Nat.{one-dvd}
 use Rattle.fraction.proofs.Reduced.{gcd_positive}
 use Rattle.price_round.proofs.Denominators.{part_some, lcm_old, lcm_new, lcm_into}
 use Rattle.node_master.specs.declared.ends.Weight.{Weight}
-use Rattle.arc_weights.specs.Denominators.{den_of, IsCommonMultiple, IsPast, AreOver, IsDenominator, AreAllPast}
+use Rattle.arc_weights.specs.Denominators.{den_of, IsCommonMultiple, IsPast, AreOver, AreAllPast}
 use Rattle.arc_weights.specs.Loops.{IsCommonBefore}
 
 product_some : (x y : ℕ) → 0 < x → 1 ≤ y → 1 ≤ x * y

@@ -1,14 +1,13 @@
 -- What the rows of a master say of the weights of arcs.
-use Rattle.std.proofs.Common.{true≢false, ◌≡◌, ℕ, zero, suc, arith, ◌+◌, ◌*◌, ◌≤◌, ◌<◌, Bool, true, false, cond, List, [], ◌∷◌, ◌++◌, length, refl, sym, ap, ◌∙◌, subst, ◌⊎◌, inl, inr, min, max}
+use Rattle.std.proofs.Common.{true≢false, ◌≡◌, ℕ, zero, suc, arith, ◌+◌, ◌*◌, ◌≤◌, ◌<◌, Bool, true, false, cond, List, [], ◌∷◌, length, refl, sym, ap, ◌∙◌, subst, ◌⊎◌, inl, inr, min, max}
 use Rattle.std.specs.Prelude.{nat_eq}
-use Rattle.std.proofs.Math.Nat.{mul-le-mul_left}
 use Rattle.std.proofs.lemmas.Bool.{eqb-true, eq-eqb}
 use Rattle.roster_model.specs.declared.grammar.ArcKey.{ArcKey}
 use Rattle.roster_model.specs.declared.instance.Cut.{Cut}
 use Rattle.roster_model.specs.declared.instance.Instance.{Instance}
 use Rattle.roster_model.specs.declared.instance.Side.{Side}
 use Rattle.roster_model.specs.declared.instance.Side.TheVariants.{Low, High}
-use Rattle.roster_model.specs.Trees.{Parts, IsDayTree}
+use Rattle.roster_model.specs.Trees.{Parts}
 use Rattle.roster_model.specs.Folds.{sum_n, Each}
 use Rattle.roster_model.specs.Arcs.{same_arc}
 use Rattle.roster_model.specs.Cuts.{at_least as least_on, at_most as most_on, lo, hi}

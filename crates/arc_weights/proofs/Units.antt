@@ -1,6 +1,5 @@
 -- Weights in units of 1 / d, and those of a solution over q.
-use Rattle.std.proofs.Common.{◌≡◌, ℕ, ℤ, zero, suc, arith, pos, negsuc, ◌+◌, ◌*◌, ◌/◌, ◌^◌, ◌*ℤ◌, ◌<ℤ◌, ◌≤◌, ◌<◌, List, [], ◌∷◌, ◌++◌, Some, length, refl, sym, ap, ◌∙◌, subst, unsigned_abs, ◌⊎◌, inl, inr}
-use Rattle.std.specs.Prelude.{slice_get}
+use Rattle.std.proofs.Common.{◌≡◌, ℕ, ℤ, zero, suc, arith, pos, negsuc, ◌+◌, ◌*◌, ◌/◌, ◌^◌, ◌*ℤ◌, ◌<ℤ◌, ◌≤◌, ◌<◌, List, [], ◌∷◌, ◌++◌, length, refl, sym, ap, ◌∙◌, unsigned_abs, ◌⊎◌, inl, inr}
 use Rattle.std.specs.Int.{◌∣◌}
 use Rattle.std.proofs.lemmas.Int.{ints}
 use Rattle.std.proofs.Math.Nat.{mul-div_cancel', mul-le-mul_left}
@@ -8,10 +7,9 @@ use Rattle.roster_model.specs.declared.grammar.ArcKey.{ArcKey}
 use Rattle.roster_model.specs.declared.grammar.Grammar.{Grammar}
 use Rattle.roster_model.specs.Trees.{Parts}
 use Rattle.roster_model.specs.Folds.{Each, count}
-use Rattle.roster_model.specs.Arcs.{arcs, same_arc}
+use Rattle.roster_model.specs.Arcs.{same_arc}
 use Rattle.linear_programs.specs.Solution.{Weighted}
 use Rattle.master_laws.specs.Master.{MasterKey, missing, beyond, tree}
-use Rattle.master_laws.specs.Rows.{tree_arcs}
 use Rattle.master_laws.specs.Sharp.{arcs_in, arc_weight}
 use Rattle.master_laws.proofs.Copies.{repeat, with, copies}
 use Rattle.tree_pool.specs.Pools.{PoolTree}
@@ -99,8 +97,7 @@ module _ (g : Grammar) (columns : List PoolTree) (q : ℕ) (q_some : 0 < q) (d m
   in_pool others (x ∷ xs) [] are over few = absurd are
   in_pool others (x ∷ xs) (w ∷ ws) are over few =
       let k : with w.key w.weight (copies (ws ++ others)) ≡ repeat w.weight are.0.some (copies (ws ++ others)) = ap (λ (k : MasterKey). with k w.weight (copies (ws ++ others))) are.0.key in
-      let l : length (with w.key w.weight (copies (ws ++ others))) ≡ w.weight + length (copies (ws ++ others)) = ap length k ∙ repeat_length w.weight are.0.some (copies (ws ++ others)) in
-      (
+      let l : length (with w.key w.weight (copies (ws ++ others))) ≡ w.weight + length (copies (ws ++ others)) = ap length k ∙ repeat_length w.weight are.0.some (copies (ws ++ others)) in (
         (get_lt columns x.column are.0.held are.0.column, room_of (unit d x) (few_units (unit d x) w.weight (unit_is g columns q q_some d x w are.0 over.0) (omega (arith, l, few)))),
         in_pool others xs ws are.1 over.1 (omega (arith, l, few)),
       )

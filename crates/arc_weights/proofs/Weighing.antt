@@ -1,5 +1,5 @@
 -- What the sums tell of a solution.
-use Rattle.std.proofs.Common.{◌≡◌, ℕ, zero, suc, arith, ◌+◌, ◌*◌, ◌/◌, ◌%◌, ◌^◌, ◌≤◌, ◌<◌, List, [], ◌∷◌, ◌++◌, Some, map, length, get_or, refl, sym, ap, ◌∙◌, subst, ◌⊎◌, inl, inr, Bool, true, false, cond}
+use Rattle.std.proofs.Common.{◌≡◌, ℕ, zero, suc, arith, ◌+◌, ◌*◌, ◌/◌, ◌%◌, ◌^◌, ◌≤◌, ◌<◌, List, [], ◌∷◌, ◌++◌, Some, map, length, refl, sym, ap, ◌∙◌, ◌⊎◌, inl, inr, Bool, true, false, cond}
 use Rattle.std.specs.Prelude.{slice_get, slice_index}
 use Rattle.std.proofs.lemmas.List.{length-map}
 use Rattle.std.proofs.Math.Nat.{mul-le-mul_left}
@@ -9,15 +9,12 @@ use Rattle.roster_model.specs.declared.instance.Instance.{Instance}
 use Rattle.roster_model.specs.declared.instance.Side.{Side}
 use Rattle.roster_model.specs.declared.instance.Side.TheVariants.{Low, High}
 use Rattle.roster_model.specs.Arcs.{same_arc}
-use Rattle.roster_model.specs.Folds.{In}
 use Rattle.roster_model.specs.Cuts.{lo, hi, at_most}
 use Rattle.roster_model.specs.SoundInstance.{IsSoundInstance}
-use Rattle.arc_laws.specs.Lists.{AreArcs}
 use Rattle.parse_graph.specs.Graphs.{GraphView, IsGraph}
-use Rattle.arc_branch.specs.Boxes.{BoxView, bounds_at}
+use Rattle.arc_branch.specs.Boxes.{BoxView}
 use Rattle.arc_branch.specs.Paths.{IsBoxOf}
 use Rattle.master_laws.specs.Sharp.{UsesArtificial, AreFine, arc_weight}
-use Rattle.master_laws.specs.WholeCounts.{HasCounts}
 use Rattle.tree_pool.specs.Pools.{PoolTree, IsPool}
 use Rattle.node_master.specs.declared.ends.Weight.{Weight}
 use Rattle.node_master.specs.Ends.{AreLeastWeights}

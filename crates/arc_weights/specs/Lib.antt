@@ -3,3 +3,4 @@ pub mod Denominators
 pub mod Sums
 pub mod Choices
 pub mod Loops
+pub mod RowDays

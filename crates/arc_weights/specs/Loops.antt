@@ -1,5 +1,5 @@
 -- What loops over weights and sums keep.
-use Rattle.std.specs.Prelude.{ℕ, ◌≡◌, ◌<◌, ◌≤◌, ◌*◌, ◌+◌, ◌/◌, ◌^◌, ◌++◌, Option, Some, MatchOption, List, length, drop, map, slice_get, slice_index}
+use Rattle.std.specs.Prelude.{ℕ, ◌≡◌, ◌<◌, ◌≤◌, ◌*◌, ◌+◌, ◌^◌, Option, Some, MatchOption, List, length, drop, slice_get, slice_index}
 use Rattle.std.specs.Int.{◌∣◌}
 use Rattle.roster_model.specs.declared.grammar.ArcKey.{ArcKey}
 use Rattle.roster_model.specs.Folds.{count}

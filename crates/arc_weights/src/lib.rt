@@ -5,6 +5,8 @@ mod apart;
 mod choice;
 mod denominator;
 mod sums;
+#[cfg(test)]
+mod tests;
 mod weighed;
 
 pub use weighed::{Weighed, weigh};

@@ -50,8 +50,13 @@ pub fn weigh(
     ensures { IfOk result (IsWeighed instance.now graph.now cuts.now pool.now weights.now) }
 {
     let Some(d) = common_denominator(weights) else {
-        // No basis has a tree twice; where one stood there, no weight of it would be known.
-        return if are_apart(weights) { Ok(Weighed::Other) } else { Err(Memory) };
+        // No basis has a tree twice, but the weights' contract does not say so; the denominator of a sum of
+        // such weights may be small, and the sum has no room here.
+        return if are_apart(weights) {
+            Ok(Weighed::Other)
+        } else {
+            Err(Memory)
+        };
     };
     let sums = arc_sums(alloc, graph, pool, weights, d)?;
     conclude(alloc, graph, arc_box, sums.as_slice(), d)

@@ -21,8 +21,8 @@ HaveSteps pool [] (s ∷ ss) = ⊥
 HaveSteps pool (c ∷ cs) [] = ⊥
 
 -- an entry keeps its number
-kept : (old new : List PoolTree) → IsGrown old new → (c : ℕ) (x : PoolTree) → slice_get old c ≡ Some x → slice_get new c ≡ Some x
-kept old new grown c x at = subst (λ (p : List PoolTree). slice_get p c ≡ Some x) (sym grown.1) (left old grown.0 c x at)
+pub entry-kept : (old new : List PoolTree) → IsGrown old new → (c : ℕ) (x : PoolTree) → slice_get old c ≡ Some x → slice_get new c ≡ Some x
+entry-kept old new grown c x at = subst (λ (p : List PoolTree). slice_get p c ≡ Some x) (sym grown.1) (left old grown.0 c x at)
   where
     left : (xs ys : List PoolTree) (c : ℕ) (x : PoolTree) → slice_get xs c ≡ Some x → slice_get (xs ++ ys) c ≡ Some x
     left xs ys c x at =
@@ -34,7 +34,7 @@ pub have-kept : (old new : List PoolTree) → IsGrown old new → (cs : List ℕ
 have-kept old new grown [] [] h = tt
 have-kept old new grown [] (s ∷ ss) h = absurd h
 have-kept old new grown (c ∷ cs) [] h = absurd h
-have-kept old new grown (c ∷ cs) (s ∷ ss) h = (h.0, kept old new grown c h.0 h.1, h.2, have-kept old new grown cs ss h.3)
+have-kept old new grown (c ∷ cs) (s ∷ ss) h = (h.0, entry-kept old new grown c h.0 h.1, h.2, have-kept old new grown cs ss h.3)
 
 pub have-next : (pool : List PoolTree) (c : ℕ) (s : List Step) (x : PoolTree) → slice_get pool c ≡ Some x → x.steps ≡ s → (cs : List ℕ) (ss : List (List Step)) → HaveSteps pool cs ss → HaveSteps pool (cs ++ c ∷ []) (ss ++ s ∷ [])
 have-next pool c s x at is [] [] h = (x, at, is, tt)
@@ -57,8 +57,8 @@ grown-more a b c h k = (h.0 ++ k.0, k.1 ∙ ap (λ (p : List PoolTree). p ++ k.0
 
 module _ (g : Grammar) (pool : List PoolTree) (is : IsPool g pool) where
   -- an entry with the rule uses of a tree of the day is that tree
-  entry_is : (c : ℕ) (x : PoolTree) (t : Parts) → slice_get pool c ≡ Some x → IsDayTree g t → x.steps ≡ steps 1 t → IsPoolTree g t x
-  entry_is c x t at day e =
+  pub entry-is : (c : ℕ) (x : PoolTree) (t : Parts) → slice_get pool c ≡ Some x → IsDayTree g t → x.steps ≡ steps 1 t → IsPoolTree g t x
+  entry-is c x t at day e =
       let u = is.trees c x at in
       let lists : steps 1 u.0 ++ [] ≡ steps 1 t ++ [] = append-nil (steps 1 u.0) ∙ sym u.1.steps ∙ e ∙ sym (append-nil (steps 1 t)) in
       let same = same-steps g (Name g.start ∷ []) 1 u.0 t [] [] u.1.day.0 day.0 lists in
@@ -69,7 +69,7 @@ module _ (g : Grammar) (pool : List PoolTree) (is : IsPool g pool) where
   trees-at [] [] h day = tt
   trees-at [] (t ∷ ts) h day = absurd h
   trees-at (c ∷ cs) [] h day = absurd h
-  trees-at (c ∷ cs) (t ∷ ts) h day = (h.0, h.1, entry_is c h.0 t h.1 day.0 h.2, trees-at cs ts h.3 day.1)
+  trees-at (c ∷ cs) (t ∷ ts) h day = (h.0, h.1, entry-is c h.0 t h.1 day.0 h.2, trees-at cs ts h.3 day.1)
 
 -- each of the lists is that of a tree of the day
 pub day-steps : (g : Grammar) (trees : List (List Step)) → ((ts : List Parts) × Each (IsDayTree g) ts × (trees ≡ map (steps 1) ts)) → (k : ℕ) (d xs : List Step) → k < length trees → xs ≡ get_or trees k d → AreDaySteps g xs

@@ -4,3 +4,7 @@ pub mod Numbers
 pub mod Having
 pub mod Shifting
 pub mod Gathering
+pub mod Costing
+pub mod Leading
+pub mod Following
+pub mod Starting

@@ -3,9 +3,9 @@ use Rattle.std.proofs.Common.{◌≡◌, ◌≢◌, ℕ, ◌<◌, ◌≤◌, ◌
 use Rattle.roster_model.specs.declared.grammar.Step.{Step}
 use Rattle.roster_model.specs.declared.instance.Group.{Group}
 use Rattle.roster_model.specs.declared.instance.Instance.{Instance}
-use Rattle.roster_model.specs.SoundInstance.{IsSoundInstance}
+use Rattle.roster_model.specs.SoundInstance.{IsSoundInstance, HasGroups}
 use Rattle.roster_model.specs.Folds.{In}
-use Rattle.roster_model.specs.Teams.{Team, teams_of, teams_from}
+use Rattle.roster_model.specs.Teams.{Team, teams, teams_of, teams_from}
 use Rattle.roster_model.specs.Trees.{Parts, done, letter, uses, IsDayTree, steps}
 use Rattle.tree_laws.specs.Parts.{root}
 use Rattle.bound_laws.specs.DutyTrees.{own_rules}
@@ -59,3 +59,18 @@ module _ (i : Instance) (sound : IsSoundInstance i) (xs : List Step) where
       let r = rule-number some d t day e in
       let f : (get_or xs 0 d).rule ≡ own_rules i + r.0.number = r.2 in
       record { team = r.0; of = r.1; number = omega (arith, f, is) }
+
+-- the number of a team's rule fits a byte
+pub small-number : (i : Instance) → IsSoundInstance i → (t : Team) → In t (teams i) → (length i.grammar.rules - length i.groups) + t.number ≤ 255
+small-number i sound t h =
+    let rules = sound.grammar.few_rules in
+    let few = few_number i.groups t.number (few_groups i.groups refl sound.groups) (group-number i i.groups t h) in
+    omega (arith, rules, few)
+  where
+    few_groups : (gs : List Group) → gs ≡ i.groups → HasGroups i gs → length gs ≤ 8
+    few_groups [] e k = omega arith
+    few_groups (g ∷ gs) e k = let few = k.1.groups.few in let same = ap length e in omega (arith, few, same)
+
+    few_number : (gs : List Group) (n : ℕ) → length gs ≤ 8 → IsGroupNumber gs n → n ≤ 8
+    few_number [] n a b = omega (arith, b)
+    few_number (g ∷ gs) n a b = omega (arith, a, b.1)

@@ -1,3 +1,4 @@
+pub mod Leaders
 pub mod Order
 pub mod Rosters
 pub mod Spelled

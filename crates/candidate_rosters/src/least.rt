@@ -7,8 +7,10 @@ ghost use Rattle.tree_pool.specs.Pools.{IsPool, IsGrown};
 ghost use Rattle.candidate_rosters.specs.Rosters.{IsGoodRoster, IsDeskFor};
 ghost use Rattle.candidate_rosters.specs.Starts.{HasStart, StartsWith};
 
+use crate::costs::price_by_costs;
 use crate::desk::RosterDesk;
-use crate::roster::Roster;
+use crate::leaders::leaders;
+use crate::roster::{Roster, roster_of};
 use cheapest_tree::Pricer;
 use parse_graph::Graph;
 use roster_model::{Instance, Memory, PriceRoom};
@@ -41,5 +43,10 @@ pub fn least_roster(
     ensures grown { IsGrown pool.old pool.new }
     ensures desk { IsDeskFor instance.now.grammar desk.new }
 {
-    Err(Memory)
+    price_by_costs(alloc, instance, prices)?;
+    pricer.cheapest(graph, prices);
+    let Some(columns) = leaders(alloc, instance, graph, pricer, prices, pool)? else {
+        return Ok(None);
+    };
+    roster_of(alloc, instance, pool, columns.as_slice(), desk)
 }

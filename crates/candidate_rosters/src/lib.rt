@@ -2,8 +2,11 @@
 #![tactic(auto)]
 
 mod columns;
+mod costs;
 mod desk;
 mod group;
+mod lead;
+mod leaders;
 mod least;
 mod order;
 mod price;

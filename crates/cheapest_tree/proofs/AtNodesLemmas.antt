@@ -71,12 +71,12 @@ module _ (g : Grammar) where
   no_symbols i l (uses q n inner rest) h some = h.0
 
   -- the arc of a right side is among the arcs of its parts
-  whole_in : (r i l : ℕ) (ss : List Sym) (t : Parts) → On g ss i l t → 1 ≤ l → In (arc_at r 0 i l (first t)) (parts_arcs r 0 i t)
-  whole_in r i l ss (letter c rest) h some = inl (ap (λ (n : ℕ). arc_at r 0 i n 1) (sym h.1))
-  whole_in r i l ss (uses q n inner rest) h some = inl (ap (λ (y : ℕ). arc_at r 0 i y n) (sym h.1))
-  whole_in r i l [] done h some = absurd (no_symbols i l done h some)
-  whole_in r i l (Code c ∷ ss) done h some = absurd h.0
-  whole_in r i l (Name x ∷ ss) done h some = absurd h.0
+  pub whole-in : (r i l : ℕ) (ss : List Sym) (t : Parts) → On g ss i l t → 1 ≤ l → In (arc_at r 0 i l (first t)) (parts_arcs r 0 i t)
+  whole-in r i l ss (letter c rest) h some = inl (ap (λ (n : ℕ). arc_at r 0 i n 1) (sym h.1))
+  whole-in r i l ss (uses q n inner rest) h some = inl (ap (λ (y : ℕ). arc_at r 0 i y n) (sym h.1))
+  whole-in r i l [] done h some = absurd (no_symbols i l done h some)
+  whole-in r i l (Code c ∷ ss) done h some = absurd h.0
+  whole-in r i l (Name x ∷ ss) done h some = absurd h.0
 
   -- so is that of a suffix of two symbols or more
   rest_in : (r k i l : ℕ) (s x : Sym) (ss : List Sym) (t : Parts) → On g (s ∷ x ∷ ss) i l t → In (arc_at r (suc k) i l (first t)) (parts_arcs r (suc k) i t)
@@ -106,7 +106,7 @@ module _ (g : Grammar) where
   top-arc (name x i l) (uses q n inner done) of h =
       let same : n ≡ l = omega (arith, h.1) in
       let on : On g h.0.0.right i l inner = (h.0.6, h.0.5 ∙ same) in
-      of.0 (uses q n inner done) h (arc_at q 0 i l (first inner)) (whole_in q i l h.0.0.right inner on of.1.some)
+      of.0 (uses q n inner done) h (arc_at q 0 i l (first inner)) (whole-in q i l h.0.0.right inner on of.1.some)
 
   -- and it makes the node
   pub top-made : (o : OrNode) (t : Parts) → IsOfInstance g o → IsAt g o t → made g (top_arc o t) ≡ o

@@ -1,4 +1,4 @@
-use Rattle.std.proofs.Common.{rules, ◌≢◌, ◌+◌, drop, sym, subst, List}
+use Rattle.std.proofs.Common.{rules, ◌≢◌, ◌+◌, sym, subst, List}
 use Rattle.std.proofs.lemmas.List.{take_rest}
 use Rattle.node_master.specs.declared.ends.Weight.{Weight}
 use Rattle.arc_weights.specs.Denominators.{AreApart}

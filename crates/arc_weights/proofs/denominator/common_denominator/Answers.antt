@@ -1,5 +1,5 @@
-use Rattle.std.proofs.Common.{rules, ◌≡◌, to_z-of_z}
-use Rattle.arc_weights.specs.Denominators.{den_of, AreAllPast}
+use Rattle.std.proofs.Common.{rules}
+use Rattle.arc_weights.specs.Denominators.{AreAllPast}
 use Rattle.arc_weights.proofs.Steps.{cons_at}
 use Rattle.arc_weights.proofs.Multiples.{first_multiple, next_multiple, past_multiple}
 use Rattle.arc_weights.proofs.denominator.common_denominator.Goals as goal

@@ -1,5 +1,5 @@
 use Rattle.std.proofs.Common.{rules, ◌≡◌, ◌*◌, ◌/◌, ◌^◌, ◌<◌, arith}
-use Rattle.arc_weights.specs.Denominators.{IsPast, IsCommonMultiple}
+use Rattle.arc_weights.specs.Denominators.{IsPast}
 use Rattle.arc_weights.proofs.Multiples.{gcd_some, past_at, multiple_at}
 use Rattle.arc_weights.proofs.denominator.common_multiple.Goals as goal
 

@@ -1,0 +1,14 @@
+use Rattle.std.proofs.Common.{◌≡◌, take}
+use Rattle.roster_model.specs.Room.{most_uses}
+use Rattle.roster_model.specs.Teams.{teams}
+use Rattle.tree_pool.specs.Pools.{IsPool, IsGrown}
+use Rattle.candidate_rosters.specs.Leaders.{AreLedAt}
+use Rattle.candidate_rosters.proofs.leaders.leaders.Given as goal
+
+abbrev pub invariant-loop-place : goal.invariant-loop-place
+invariant-loop-place l = record {
+  pool : IsPool l.instance.grammar l.pool;
+  grown : IsGrown l.fn.pool l.pool;
+  room : l.room.most ≡ most_uses l.instance.grammar;
+  led : AreLedAt l.instance l.pool (take l.place (teams l.instance)) l.columns;
+}

@@ -1,0 +1,62 @@
+-- Cheapest trees of teams, each as often as its team needs employees.
+use Rattle.std.specs.Prelude.{ℕ, pos, ◌≡◌, ◌≢◌, ◌≤◌, ◌<◌, ◌+◌, Some, List, [], ◌∷◌, ◌++◌, zero, suc}
+use Rattle.roster_model.specs.declared.grammar.Grammar.{Grammar}
+use Rattle.roster_model.specs.declared.instance.Instance.{Instance}
+use Rattle.roster_model.specs.Arcs.{cost}
+use Rattle.roster_model.specs.Room.{RoomView}
+use Rattle.roster_model.specs.Sums.{PriceView, tree_sum}
+use Rattle.roster_model.specs.Teams.{Team}
+use Rattle.roster_model.specs.Trees.{Parts, IsDayTree, steps}
+use Rattle.tree_laws.specs.Parts.{root}
+use Rattle.bound_laws.specs.DutyTrees.{own_rules}
+use Rattle.tree_pool.specs.Pools.{PoolTree}
+use Rattle.candidate_rosters.specs.Rosters.{AreTreesAt}
+
+-- the sum of each tree of the day is its cost
+abbrev pub AreCosts : Grammar → PriceView → Type 0
+AreCosts g p = (t : Parts) → IsDayTree g t → tree_sum p 1 t ≡ Some (pos (cost g t))
+
+-- a tree of the day, with groups by the rule that the team's group adds
+pub record IsTeamTree (i : Instance) (o : Team) (t : Parts) : Type 0 where
+  pub day : IsDayTree i.grammar t
+  pub led : i.groups ≢ [] → root t ≡ own_rules i + o.number
+
+-- such a tree, and none costs less
+pub record IsLeader (i : Instance) (o : Team) (t : Parts) : Type 0 where
+  pub of : IsTeamTree i o t
+  pub least : (u : Parts) → IsTeamTree i o u → cost i.grammar t ≤ cost i.grammar u
+
+-- the room holds the steps of such a tree
+pub record HoldsLeader (i : Instance) (o : Team) (room : RoomView) : Type 0 where
+  pub tree : Parts
+  pub leads : IsLeader i o tree
+  pub held : room.steps ≡ steps 1 tree
+
+-- a team that needs employees has no tree
+pub record LacksTree (i : Instance) (o : Team) : Type 0 where
+  pub needs : 0 < o.least
+  pub none : (u : Parts) → IsTeamTree i o u → ⊥
+
+-- the same tree many times
+abbrev pub trees_like : ℕ → Parts → List Parts
+trees_like zero t = []
+trees_like (suc n) t = t ∷ trees_like n t
+
+-- for each team a cheapest tree as often as it needs employees
+abbrev pub AreLed : Instance → List Team → List Parts → Type 0
+AreLed i [] ts = ts ≡ []
+AreLed i (o ∷ os) ts =
+    (t : Parts) × (rest : List Parts) × (0 < o.least → IsLeader i o t) × (ts ≡ trees_like o.least t ++ rest) × AreLed i os rest
+
+-- so are the columns
+abbrev pub AreLedAt : Instance → List PoolTree → List Team → List ℕ → Type 0
+AreLedAt i pool os columns = (ts : List Parts) × AreTreesAt i.grammar pool columns ts × AreLed i os ts
+
+-- whatever columns there were of other teams, now there are those of this team as well
+abbrev pub Leads : Instance → List PoolTree → List PoolTree → Team → List ℕ → List ℕ → Type 0
+Leads i old_pool new_pool o old new = (os : List Team) → AreLedAt i old_pool os old → AreLedAt i new_pool (os ++ o ∷ []) new
+
+-- the same number many times
+abbrev pub numbers_like : ℕ → ℕ → List ℕ
+numbers_like zero c = []
+numbers_like (suc n) c = c ∷ numbers_like n c
