@@ -1,3 +1,4 @@
 pub mod NodeCuts
 pub mod Leaves
 pub mod Processed
+pub mod Planned
