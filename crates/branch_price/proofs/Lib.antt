@@ -1,3 +1,5 @@
 pub mod NodeCuts
 pub mod Leaves
 pub mod Processed
+pub mod EndedSound
+pub mod Ended
