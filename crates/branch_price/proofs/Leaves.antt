@@ -148,7 +148,7 @@ half-is-node i v strict before now low old new half seats asked e =
     let few = asked.node.few in
     subst (λ (xs : List Seat). IsNode i xs half.kept.seat asked.node.tree asked.path) (sym e)
     (is-node (site_of i v strict before) (limit_of i new.best) now low (half ∷ []) new.tree asked.node.tree half.kept.seat asked.path half.bound
-      asked.node.is.tree (omega (arith, few)) asked.node.place)
+    asked.node.is.tree (omega (arith, few)) asked.node.place)
 
 pub half-node : (i : Instance) (v : GraphView) (strict : Bool) (before now low : ℕ) (old new : Progress) (half : OpenLeaf) (seats : List Seat)
     → (asked : AsksHalf i v strict before now low old new half) → seats ≡ new.tree.seats

@@ -2,3 +2,5 @@ pub mod NodeCuts
 pub mod Leaves
 pub mod Processed
 pub mod Planned
+pub mod EndedSound
+pub mod Ended

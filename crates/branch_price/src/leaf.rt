@@ -11,18 +11,18 @@ ghost use Rattle.node_path.specs.Paths.{IsPath};
 ghost use Rattle.branch_price.specs.Desks.{IsDesk};
 ghost use Rattle.branch_price.specs.Steps.{AsksNode, IsTurned, IsGivenUp, IsSolved};
 
-use crate::choose::plan_of;
-use crate::counts::{arc_at, least_counts};
+use crate::choose::plan_for;
+use crate::counts::arc_at;
 use crate::desk::{Desk, want};
+use crate::pinned::{offer_least, pinned_value};
 use crate::progress::Progress;
 use crate::value::shown_value;
 use candidate_rosters::RosterDesk;
 use node_master::{NodeEnd, Pool, Weight};
 use node_path::NodePath;
-use offers::{limit, offer_counts};
 use open_nodes::OpenLeaf;
 use parse_graph::Graph;
-use roster_model::{Instance, Memory, Prices, greatest_cost};
+use roster_model::{Instance, Memory, Prices};
 use search_master::Master;
 use std::alloc::Global;
 
@@ -55,23 +55,18 @@ pub(crate) fn pin_leaf(
     ensures grown { IsGrown pool.old pool.new }
     ensures rosters { IsDeskFor instance.now.grammar rosters.new }
 {
-    let Some(cost) = path.pinned_cost(instance, graph) else {
-        progress.tree.pin(leaf, greatest_cost(instance) + 1);
-        return Ok(());
-    };
-    if cost < limit(instance, &progress.best) {
-        let counts = least_counts(alloc, graph, path.arc_box())?;
-        offer_counts(
-            alloc,
-            instance,
-            graph,
-            &counts,
-            pool,
-            rosters,
-            &mut progress.best,
-        )?;
-    }
-    progress.tree.pin(leaf, cost);
+    let value = pinned_value(instance, graph, path);
+    offer_least(
+        alloc,
+        instance,
+        graph,
+        path,
+        value,
+        pool,
+        rosters,
+        &mut progress.best,
+    )?;
+    progress.tree.pin(leaf, value);
     Ok(())
 }
 
@@ -135,23 +130,19 @@ fn best_leaf(
     want(&mut desk.wanted, weights)?;
     let cuts = path.cuts();
     let value = shown_value(instance, graph, &mut desk.pricing, derives, &prices, cuts);
-    let plan = if value < limit(instance, &progress.best) {
-        plan_of(
-            alloc,
-            instance,
-            graph,
-            cuts,
-            path.arc_box(),
-            loose,
-            weights,
-            value,
-            pool,
-            &mut desk.rosters,
-            &mut progress.best,
-        )?
-    } else {
-        None
-    };
+    let plan = plan_for(
+        alloc,
+        instance,
+        graph,
+        cuts,
+        path.arc_box(),
+        loose,
+        weights,
+        value,
+        pool,
+        &mut desk.rosters,
+        &mut progress.best,
+    )?;
     progress.tree.price(leaf, prices, value, plan)
 }
 

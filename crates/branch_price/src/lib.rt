@@ -12,6 +12,7 @@ mod desk;
 mod found;
 mod infeasible;
 mod leaf;
+mod pinned;
 mod progress;
 mod turn;
 mod value;

@@ -1,5 +1,5 @@
 -- The best roster costs no more than the greatest cost.
-use Rattle.std.proofs.Common.{◌≤◌, ◌+◌, ℕ, Option, None, Some, IfSome, arith}
+use Rattle.std.proofs.Common.{◌≤◌, ◌+◌, Option, None, Some, IfSome, arith}
 use Rattle.roster_model.specs.declared.instance.Instance.{Instance}
 use Rattle.roster_model.specs.GreatestCost.{greatest_cost}
 use Rattle.roster_model.specs.SoundInstance.{IsSoundInstance}

@@ -5,7 +5,6 @@ use Rattle.roster_model.specs.declared.instance.Cut.{Cut}
 use Rattle.roster_model.specs.declared.instance.Instance.{Instance}
 use Rattle.roster_model.specs.Cuts.{Meets, base_cuts}
 use Rattle.roster_model.specs.Folds.{Each}
-use Rattle.roster_model.specs.GreatestCost.{greatest_cost}
 use Rattle.roster_model.specs.Trees.{Parts}
 use Rattle.arc_laws.specs.Lists.{AreArcs}
 use Rattle.linear_programs.specs.Solution.{Weighted}

@@ -19,7 +19,7 @@ split-requires c =
 pub returns-in-Some : goal.returns-in-Some
 returns-in-Some c = IfOk-weaker c.split.result _ _
     (λ half h i strict now asked. half-asks i c.args.graph.now strict now c.args.progress.now c.args.leaf c.split.new.self half asked
-      (h (asks-split i c.args.graph.now strict now c.args.progress.now c.args.leaf c.in-Some.plan c.arc_at-arc.result asked c.in-Some.is c.arc_at-arc.ensures)))
+    (h (asks-split i c.args.graph.now strict now c.args.progress.now c.args.leaf c.in-Some.plan c.arc_at-arc.result asked c.in-Some.is c.arc_at-arc.ensures)))
     c.split.ensures
 
 pub returns-in-None : goal.returns-in-None
