@@ -2,5 +2,8 @@ pub mod NodeCuts
 pub mod Leaves
 pub mod Processed
 pub mod Planned
+pub mod Settled
+pub mod OpenPaths
+pub mod PinnedCounts
 pub mod EndedSound
 pub mod Ended

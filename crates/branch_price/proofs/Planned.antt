@@ -69,7 +69,7 @@ whole-trees i v cuts pool weights counts sound graph w whole =
       each = whole.each;
       listed = all.0;
       are = all.1;
-      split = can_be_split i cuts (w.trees ++ w.others) w.d all.0 (count_of v.arcs counts) sound (whole.whole w all.0 all.1);
+      balanced = (can_be_split i cuts (w.trees ++ w.others) w.d all.0 (count_of v.arcs counts) sound (whole.whole w all.0 all.1)).balanced;
     }
 
 front : (P : Cut → Type 0) (base more cuts : List Cut) → cuts ≡ base ++ more → Each P cuts → Each P base

@@ -94,3 +94,23 @@ asks-failed i v strict before now later low p leaf cuts arc b asked given splits
   cause = given.cause;
   within = given.within;
 }
+
+abbrev pub asks-pinned : (i : Instance) (v : GraphView) (strict : Bool) (before now low : ℕ) (p : Progress) (leaf : OpenLeaf) (cuts : List Cut) (best : Option Roster) (value : ℕ)
+    → AsksNode i v strict before now low p leaf cuts → IsBetter i p.best best → IsPinned i cuts → IsPinnedValue i cuts value → limit_of i best ≤ value
+    → AsksPinned p.tree leaf value
+asks-pinned i v strict before now low p leaf cuts best value asked better pinned costs above = record {
+  taken = taken i v strict before now low p leaf cuts best asked better;
+  pinned = pinned;
+  costs = costs;
+  above = above;
+}
+
+abbrev pub asks-priced : (i : Instance) (v : GraphView) (strict : Bool) (before now low : ℕ) (p : Progress) (leaf : OpenLeaf) (cuts : List Cut) (best : Option Roster) (prices : Prices) (value : ℕ) (plan : Option Plan)
+    → AsksNode i v strict before now low p leaf cuts → IsBetter i p.best best → IsPricedNode i cuts (record { prices = prices; value = value }) → IsLoosePath i cuts
+    → MatchOption plan (limit_of i best ≤ value) (IsPlan i v cuts) → AsksPriced p.tree leaf prices value plan
+asks-priced i v strict before now low p leaf cuts best prices value plan asked better priced loose planned = record {
+  taken = taken i v strict before now low p leaf cuts best asked better;
+  priced = priced;
+  loose = loose;
+  planned = planned;
+}

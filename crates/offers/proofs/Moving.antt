@@ -54,7 +54,7 @@ module _ (i : Instance) (v : GraphView) (counts : List ℕ) (graph : IsGraph i.g
     sound = sound.grammar;
     graph = graph;
     each = can.each;
-    balanced = balanced-moved i.grammar v.arcs graph.arcs can.listed can.are (count_of v.arcs counts) can.split.balanced;
+    balanced = balanced-moved i.grammar v.arcs graph.arcs can.listed can.are (count_of v.arcs counts) can.balanced;
   }
 
   -- so trees that were split off are trees of the day with these counts

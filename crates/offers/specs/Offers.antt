@@ -7,12 +7,13 @@ use Rattle.roster_model.specs.Cuts.{Meets, base_cuts}
 use Rattle.roster_model.specs.Folds.{Each}
 use Rattle.roster_model.specs.Trees.{Parts}
 use Rattle.arc_laws.specs.Lists.{AreArcs}
+use Rattle.arc_laws.specs.Balance.{IsBalanced}
 use Rattle.linear_programs.specs.Solution.{Weighted}
 use Rattle.bound_laws.specs.TreeRosters.{IsTreeRoster, trees_cost}
 use Rattle.certificate_laws.specs.Accepted.{bound_number}
 use Rattle.master_laws.specs.Master.{MasterKey}
 use Rattle.master_laws.specs.Sharp.{UsesArtificial}
-use Rattle.master_laws.specs.WholeCounts.{HaveCounts, CanBeSplit}
+use Rattle.master_laws.specs.WholeCounts.{HaveCounts}
 use Rattle.parse_graph.specs.Graphs.{GraphView}
 use Rattle.roster_split.specs.Counts.{count_of}
 use Rattle.candidate_rosters.specs.declared.roster.Roster.{Roster}
@@ -39,7 +40,7 @@ pub record CanBeTrees (i : Instance) (v : GraphView) (counts : List ℕ) : Type 
   pub each : length counts ≡ length v.arcs
   pub listed : List ArcKey
   pub are : AreArcs i.grammar listed
-  pub split : CanBeSplit i listed (count_of v.arcs counts)
+  pub balanced : IsBalanced i.grammar listed (count_of v.arcs counts)
 
 -- so many of the trees have each arc
 abbrev pub HaveCountsOf : Instance → GraphView → List ℕ → List Parts → Type 0

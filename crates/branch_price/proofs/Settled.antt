@@ -1,0 +1,69 @@
+-- The prices of a solved node, and the counts of a pinned one.
+use Rattle.std.proofs.Common.{◌≡◌, ℕ, ℤ, pos, arith, ◌≤◌, ◌<◌, ◌+◌, ◌*◌, ◌^◌, ◌≤ℤ◌, ◌<ℤ◌, All, Option, None, Some, List, [], ◌∷◌, ◌++◌, length, refl, sym, subst, ap, ◌∙◌, ◌⊎◌, inl, inr}
+use Rattle.std.proofs.lemmas.Int.{ints}
+use Rattle.std.specs.Prelude.{slice_get, slice_index}
+use Rattle.roster_model.specs.declared.grammar.ArcKey.{ArcKey}
+use Rattle.roster_model.specs.declared.instance.Cut.{Cut}
+use Rattle.roster_model.specs.declared.instance.Instance.{Instance}
+use Rattle.roster_model.specs.declared.instance.Mult.{Mult}
+use Rattle.roster_model.specs.declared.instance.Prices.{Prices}
+use Rattle.roster_model.specs.declared.instance.Side.TheVariants.{Low, High}
+use Rattle.roster_model.specs.Arcs.{IsArc}
+use Rattle.roster_model.specs.Cuts.{Meets, base_cuts, lo, hi}
+use Rattle.roster_model.specs.Folds.{Each, In}
+use Rattle.roster_model.specs.GreatestCost.{greatest_cost}
+use Rattle.roster_model.specs.SoundInstance.{IsSoundInstance}
+use Rattle.roster_model.specs.Trees.{Parts}
+use Rattle.roster_model.specs.PriceLimits.{IsMult, AreRising}
+use Rattle.certificates.proofs.Rising.{each_all, all_each}
+use Rattle.arc_laws.proofs.Folding.{Each-same}
+use Rattle.arc_laws.specs.Lists.{AreArcs}
+use Rattle.bound_laws.specs.Counted.{AsksForArc}
+use Rattle.bound_laws.specs.Priced.{IsPricedValue}
+use Rattle.bound_laws.specs.Pinned.{IsPinned, IsPinnedValue}
+use Rattle.master_laws.specs.Laws.{IsBelowHeads}
+use Rattle.master_laws.proofs.Small.{row_count}
+use Rattle.node_master.specs.Ends.{IsNodeCut, IsBest}
+use Rattle.tree_pool.specs.Pools.{PoolTree}
+use Rattle.node_master.specs.declared.ends.Weight.{Weight}
+use Rattle.growing_laws.specs.States.{IsPricedNode}
+use Rattle.branch_price.specs.Steps.{IsSolved, IsShown}
+use Rattle.branch_price.proofs.Leaves.{AreLeafCuts}
+
+pub small-cuts : (i : Instance) (cuts : List Cut) → AreLeafCuts i cuts → All (λ (c : Cut). c.b ≤ 63) cuts
+small-cuts i cuts are = each_all (λ (c : Cut). c.b ≤ 63) cuts (Each-same (IsNodeCut i) (λ (c : Cut). c.b ≤ 63) cuts (λ c h. h.few) are.node)
+
+pub is-shown : (i : Instance) (cuts : List Cut) (pool : List PoolTree) (prices : Prices) (weights : List Weight) (value : ℕ) → AreLeafCuts i cuts
+    → IsSolved i cuts pool prices weights → IsPricedValue i prices cuts value → IsShown i cuts pool weights value
+is-shown i cuts pool prices weights value are solved shows =
+    record { prices = prices; solved = solved; value = shows; below = are.below; based = are.based }
+
+-- multipliers by rising numbers of cuts are no more than the cuts
+rising-few : (top : ℕ) (ms : List Mult) (n : ℕ) → n ≤ top → Each (λ (m : Mult). n < m.cut) ms → Each (IsMult top) ms → AreRising ms
+    → length ms + n ≤ top
+rising-few top [] n le above within rising = omega (arith, le)
+rising-few top (m ∷ ms) n le above within rising =
+    let k = rising-few top ms m.cut within.0.last rising.0 within.1 rising.1 in
+    let lt = above.0 in
+    omega (arith, k, lt)
+
+all-some : (top : ℕ) (ms : List Mult) → Each (IsMult top) ms → Each (λ (m : Mult). 0 < m.cut) ms
+all-some top ms h = Each-same (IsMult top) (λ (m : Mult). 0 < m.cut) ms (λ m k. let f = k.first in omega (arith, f)) h
+
+-- the prices of a solved node, with what they show
+pub priced-node : (i : Instance) (cuts : List Cut) (pool : List PoolTree) (prices : Prices) (weights : List Weight) (value : ℕ) → AreLeafCuts i cuts
+    → IsSolved i cuts pool prices weights → IsPricedValue i prices cuts value → IsPricedNode i cuts (record { prices = prices; value = value })
+priced-node i cuts pool prices weights value are solved shows =
+    let fit = solved.best.fit in
+    let rows = row_count i cuts in
+    let few = solved.few in
+    let cells = fit.cells in
+    let each = all_each (IsMult (length cuts)) prices.mult fit.mults in
+    let mults = rising-few (length cuts) prices.mult 0 (omega arith) (all-some (length cuts) prices.mult each) each fit.rising in
+    record {
+      fit = fit;
+      listed = Each-same (λ (m : Mult). pos 0 <ℤ m.value) (λ (m : Mult). pos 1 ≤ℤ m.value) prices.mult (λ m h. omega (arith, ints, h)) solved.best.positive;
+      few = omega (arith, rows, few, cells, mults);
+      value = shows;
+      best = solved.best.best are.below;
+    }
