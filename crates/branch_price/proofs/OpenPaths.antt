@@ -13,7 +13,19 @@ use Rattle.certificates.specs.Nodes.{low_cut, high_cut}
 use Rattle.growing_laws.specs.Grown.{Grown, tip, fork, OnForks}
 use Rattle.growing_laws.specs.Seats.{StandsAt}
 use Rattle.growing_laws.specs.States.{IsSplitAt}
-use Rattle.branch_price.proofs.NodeCuts.{hi-most}
+use Rattle.roster_model.specs.Cuts.{base_cuts}
+use Rattle.roster_model.specs.SoundInstance.{IsSoundInstance}
+use Rattle.bound_laws.specs.Counted.{AsksForArc}
+use Rattle.bound_laws.specs.Infeasible.{IsPlainlyInfeasible}
+use Rattle.bound_laws.proofs.BaseCuts.{base-open, base-asks}
+use Rattle.parse_graph.specs.Graphs.{GraphView}
+use Rattle.growing_laws.specs.States.{IsSplit}
+use Rattle.growing_laws.proofs.Growing.{forks-map}
+use Rattle.open_nodes.specs.declared.leaf.OpenLeaf.{OpenLeaf}
+use Rattle.branch_price.specs.declared.progress.Progress.{Progress}
+use Rattle.branch_price.specs.Plans.{AskForArcs}
+use Rattle.branch_price.specs.Steps.{AsksNode}
+use Rattle.branch_price.proofs.NodeCuts.{hi-most, path-based}
 
 abbrev pub IsOpen : ℕ → List Cut → Type 0
 IsOpen most cuts = (x : ArcKey) → lo cuts x ≤ hi most cuts x
@@ -62,3 +74,23 @@ path-open i cuts (fork k a b own low high) n path wide forks (inr (inl at)) =
     path-open i (cuts ++ low_cut a b ∷ []) low n path (halves-open i.heads_max cuts a b wide forks.0.low forks.0.high).0 forks.1 at
 path-open i cuts (fork k a b own low high) n path wide forks (inr (inr at)) =
     path-open i (cuts ++ high_cut a b ∷ []) high n path (halves-open i.heads_max cuts a b wide forks.0.low forks.0.high).1 forks.2 at
+
+-- the cuts of a node's path ask for arcs alone
+pub path-asks : (i : Instance) (cuts : List Cut) (t : Grown) (n : ℕ) (path : List Cut) → Each (AsksForArc i) cuts
+    → OnForks (λ q a b own. IsSplitAt i q a b) cuts t → StandsAt cuts t n path → Each (AsksForArc i) path
+path-asks i cuts (tip k l) n path asks forks at = subst (λ (p : List Cut). Each (AsksForArc i) p) at.1 asks
+path-asks i cuts (fork k a b own low high) n path asks forks (inl at) = subst (λ (p : List Cut). Each (AsksForArc i) p) at.1 asks
+path-asks i cuts (fork k a b own low high) n path asks forks (inr (inl at)) =
+    path-asks i (cuts ++ low_cut a b ∷ []) low n path (Each-append (AsksForArc i) cuts (low_cut a b ∷ []) asks (λ e lacks. lacks forks.0.arc, tt)) forks.1 at
+path-asks i cuts (fork k a b own low high) n path asks forks (inr (inr at)) =
+    path-asks i (cuts ++ high_cut a b ∷ []) high n path (Each-append (AsksForArc i) cuts (high_cut a b ∷ []) asks (λ e lacks. lacks forks.0.arc, tt)) forks.2 at
+
+pub leaf-asks : (i : Instance) (v : GraphView) (strict : Bool) (before now low : ℕ) (p : Progress) (leaf : OpenLeaf) (cuts : List Cut) → IsSoundInstance i
+    → (IsPlainlyInfeasible i → ⊥) → AsksNode i v strict before now low p leaf cuts → AskForArcs i cuts
+leaf-asks i v strict before now low p leaf cuts sound busy asked =
+    let splits = forks-map (IsSplit i strict low) (λ q a b own. IsSplitAt i q a b) (λ q a b own h. h.0) (base_cuts i) asked.tree asked.is.tree.growing.forks in
+    record {
+      each = path-asks i (base_cuts i) asked.tree leaf.kept.seat cuts (base-asks i sound busy) splits asked.place.stands;
+      based = path-based (base_cuts i) asked.tree leaf.kept.seat cuts asked.place.stands;
+      wide = path-open i (base_cuts i) asked.tree leaf.kept.seat cuts (λ a. base-open i a sound) splits asked.place.stands;
+    }

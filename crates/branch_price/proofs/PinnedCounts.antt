@@ -1,13 +1,16 @@
 -- The counts of a pinned path as those of a roster.
-use Rattle.std.proofs.Common.{◌≡◌, ℕ, arith, ◌≤◌, ◌<◌, ◌+◌, ◌*◌, Option, None, Some, IfSome, List, [], ◌∷◌, ◌++◌, length, refl, sym, subst, ap, ◌∙◌, ◌⊎◌, inl, inr}
+use Rattle.std.proofs.Common.{◌≡◌, ℕ, arith, ◌≤◌, ◌<◌, ◌+◌, ◌*◌, cond, List, [], ◌∷◌, ◌++◌, length, refl, sym, subst, ap, ◌∙◌, ◌⊎◌, inl, inr}
 use Rattle.std.specs.Prelude.{slice_get, slice_index}
+use Rattle.std.proofs.lemmas.List.{length-append}
+use Rattle.std.proofs.Math.ListN.{get_or-append}
+use Rattle.std.proofs.Math.Seq.{get_or-append_seam}
 use Rattle.std.proofs.lemmas.Option.{slice_get_within}
 use Rattle.roster_model.specs.declared.grammar.ArcKey.{ArcKey}
 use Rattle.roster_model.specs.declared.instance.Cut.{Cut}
 use Rattle.roster_model.specs.declared.instance.Instance.{Instance}
 use Rattle.roster_model.specs.Arcs.{IsArc}
 use Rattle.roster_model.specs.Cuts.{Meets, base_cuts, lo, hi}
-use Rattle.roster_model.specs.Folds.{Each, In, sum_n}
+use Rattle.roster_model.specs.Folds.{Each, In, count}
 use Rattle.roster_model.specs.GreatestCost.{greatest_cost}
 use Rattle.roster_model.specs.SoundInstance.{IsSoundInstance}
 use Rattle.roster_model.specs.Trees.{Parts}
@@ -16,9 +19,9 @@ use Rattle.arc_laws.specs.Lists.{AreArcs}
 use Rattle.arc_laws.proofs.Folding.{sum_n-same}
 use Rattle.arc_laws.proofs.Totals.{arcs-once}
 use Rattle.arc_branch.specs.Boxes.{BoxView, bounds_at}
-use Rattle.arc_branch.specs.Costs.{IsCostOf}
 use Rattle.arc_branch.specs.Paths.{IsBoxOf}
-use Rattle.arc_branch.proofs.CostsLemmas.{AreSame, cost-moved}
+use Rattle.arc_laws.specs.OrNodes.{OrNode, name, suffix, same_node, made, used}
+use Rattle.arc_laws.specs.Balance.{made_sum, used_sum}
 use Rattle.bound_laws.specs.Counted.{HaveCounts, AsksForArc}
 use Rattle.bound_laws.specs.Pinned.{IsPinnedValue}
 use Rattle.bound_laws.specs.TreeRosters.{IsTreeRoster, trees_cost}
@@ -28,8 +31,7 @@ use Rattle.parse_graph.specs.Graphs.{GraphView, IsGraph}
 use Rattle.roster_split.specs.Counts.{count_of}
 use Rattle.roster_split.proofs.Places.{count-at}
 use Rattle.offers.specs.Offers.{CanBeTrees, HaveCountsOf, Reach}
-use Rattle.branch_price.specs.Plans.{AreLeast, AskForArcs}
-use Rattle.branch_price.proofs.OpenPaths.{IsOpen}
+use Rattle.branch_price.specs.Plans.{AreLeast, AreFirst, AskForArcs}
 
 module _ (i : Instance) (v : GraphView) (graph : IsGraph i.grammar v) (cuts : List Cut) (box : BoxView) (left : IsBoxOf i v cuts box) (counts : List ℕ) (least : AreLeast box counts) where
   -- the counts are the least ones that the cuts leave
@@ -41,24 +43,31 @@ module _ (i : Instance) (v : GraphView) (graph : IsGraph i.grammar v) (cuts : Li
       count-at v.arcs counts graph.arcs.once p.0 a p.1 ∙ least.least p.0 (omega (arith, lt, n)) ∙ left.low p.0 a p.1
 
   module _ (listed : List ArcKey) (are : AreArcs i.grammar listed) (allowed : AreCounts i listed (lo cuts)) where
-    same : AreSame (lo cuts) listed (count_of v.arcs counts) listed
-    same = λ f. sum_n-same (λ a. lo cuts a * f a) (λ a. count_of v.arcs counts a * f a) listed
-        (λ a here. ap (λ (n : ℕ). n * f a) (sym (counts-low a (are.sound a here))))
+    made-same : (o : OrNode) → made_sum i.grammar listed (count_of v.arcs counts) o ≡ made_sum i.grammar listed (lo cuts) o
+    made-same o = sum_n-same (λ a. count_of v.arcs counts a * cond (same_node o (made i.grammar a)) 1 0) (λ a. lo cuts a * cond (same_node o (made i.grammar a)) 1 0) listed
+        (λ a here. ap (λ (n : ℕ). n * cond (same_node o (made i.grammar a)) 1 0) (counts-low a (are.sound a here)))
+
+    used-same : (o : OrNode) → used_sum i.grammar listed (count_of v.arcs counts) o ≡ used_sum i.grammar listed (lo cuts) o
+    used-same o = sum_n-same (λ a. count_of v.arcs counts a * count (same_node o) (used i.grammar a)) (λ a. lo cuts a * count (same_node o) (used i.grammar a)) listed
+        (λ a here. ap (λ (n : ℕ). n * count (same_node o) (used i.grammar a)) (counts-low a (are.sound a here)))
 
     pub pinned-trees : CanBeTrees i v counts
     pinned-trees = record {
       each = least.each ∙ left.made.arcs;
       listed = listed;
       are = are;
-      balanced = (cost-moved i (lo cuts) listed (count_of v.arcs counts) listed same (Some (counts_cost i listed (lo cuts))) (allowed, refl)).0.balanced;
+      balanced = record {
+        names = λ x k l apart. made-same (name x k l) ∙ allowed.balanced.names x k l apart ∙ sym (used-same (name x k l));
+        suffixes = λ r k s l. made-same (suffix r k s l) ∙ allowed.balanced.suffixes r k s l ∙ sym (used-same (suffix r k s l));
+      };
     }
 
-    pub pinned-reach : IsSoundInstance i → IsOpen i.heads_max cuts → AskForArcs i cuts → Reach i v counts [] [] (counts_cost i listed (lo cuts))
-    pinned-reach sound wide asks = λ ts have.
+    pub pinned-reach : IsSoundInstance i → AskForArcs i cuts → Reach i v counts [] [] (counts_cost i listed (lo cuts))
+    pinned-reach sound asks = λ ts have.
         let h = have listed are in
         let own : HaveCounts i listed (lo cuts) ts = record { day = h.day; counts = λ a here. h.counts a here ∙ counts-low a (are.sound a here) } in
         let roster = makes-roster i listed (lo cuts) ts sound (arcs-once i.grammar listed are) allowed own in
-        let meets = meets-cuts i cuts listed (lo cuts) ts (arcs-once i.grammar listed are) own (λ a here. record { low = omega arith; high = wide a }) asks.each in
+        let meets = meets-cuts i cuts listed (lo cuts) ts (arcs-once i.grammar listed are) own (λ a here. record { low = omega arith; high = asks.wide a }) asks.each in
         let cost = roster.cost in
         inr (roster.roster, front (Meets ts) (base_cuts i) asks.based.0 cuts asks.based.1 meets, omega (arith, cost))
       where
@@ -68,3 +77,51 @@ module _ (i : Instance) (v : GraphView) (graph : IsGraph i.grammar v) (cuts : Li
             by : (xs : List Cut) → Each P (xs ++ more) → Each P xs
             by [] k = tt
             by (x ∷ xs) k = (k.0, by xs k.1)
+
+-- counts that cost less than the limit are those of an allowed roster
+pub record IsCheap (i : Instance) (cuts : List Cut) (value : ℕ) : Type 0 where
+  pub listed : List ArcKey
+  pub are : AreArcs i.grammar listed
+  pub allowed : AreCounts i listed (lo cuts)
+  pub cost : value ≡ counts_cost i listed (lo cuts)
+
+pub is-cheap : (i : Instance) (cuts : List Cut) (value limit : ℕ) → IsPinnedValue i cuts value → limit ≤ greatest_cost i + 1 → value < limit → IsCheap i cuts value
+is-cheap i cuts value limit h most below = by h.value
+  where
+    by : (AreCounts i h.listed (lo cuts) × (value ≡ counts_cost i h.listed (lo cuts))) ⊎ ((AreCounts i h.listed (lo cuts) → ⊥) × (value ≡ greatest_cost i + 1)) → IsCheap i cuts value
+    by (inl p) = record { listed = h.listed; are = h.are; allowed = p.0; cost = p.1 }
+    by (inr q) = let e = q.1 in absurd (omega (arith, e, most, below))
+
+-- no artificial column is used where there is none
+pub reached : (i : Instance) (limit value cost : ℕ) → UsesArtificial i [] [] ⊎ (limit ≤ cost) → value ≡ cost → limit ≤ value
+reached i limit value cost (inl u) e = absurd (none u)
+  where
+    none : UsesArtificial i [] [] → ⊥
+    none x = x.2
+reached i limit value cost (inr le) e = omega (arith, le, e)
+
+pub first-none : (box : BoxView) → AreFirst box 0 []
+first-none box = record { each = refl; least = λ p lt. absurd (omega (arith, lt)) }
+
+pub first-next : (box : BoxView) (n x : ℕ) (counts : List ℕ) → AreFirst box n counts → x ≡ (bounds_at box.bounds n).low → AreFirst box (n + 1) (counts ++ x ∷ [])
+first-next box n x counts h e =
+    let size = h.each in
+    let more = length-append counts (x ∷ []) in
+    record {
+      each = omega (arith, size, more);
+      least = λ p lt. by p (split p n) lt;
+    }
+  where
+    split : (p m : ℕ) → (p < m) ⊎ (m ≤ p)
+    split p m = grind arith
+
+    by : (p : ℕ) → (p < n) ⊎ (n ≤ p) → p < n + 1 → slice_index (counts ++ x ∷ []) p ≡ (bounds_at box.bounds p).low
+    by p (inl lt) l = get_or-append counts (x ∷ []) 0 p (let z = h.each in omega (arith, z, lt)) ∙ h.least p lt
+    by p (inr le) l =
+        let q : p ≡ n = omega (arith, le, l) in
+        let s : slice_index (counts ++ x ∷ []) (length counts) ≡ x = get_or-append_seam counts x [] 0 in
+        let m : slice_index (counts ++ x ∷ []) n ≡ x = subst (λ (k : ℕ). slice_index (counts ++ x ∷ []) k ≡ x) h.each s in
+        rw q (m ∙ e)
+
+pub first-all : (box : BoxView) (n : ℕ) (counts : List ℕ) → AreFirst box n counts → n ≡ length box.bounds → AreLeast box counts
+first-all box n counts h e = record { each = h.each ∙ e; least = λ p lt. h.least p (omega (arith, e, lt)) }

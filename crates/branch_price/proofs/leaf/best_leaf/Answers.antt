@@ -1,0 +1,56 @@
+use Rattle.std.proofs.Common.{All, ◌≤◌, List, sym, subst}
+use Rattle.std.proofs.lemmas.Result.{on_ok_weaker}
+use Rattle.roster_model.specs.declared.instance.Cut.{Cut}
+use Rattle.bound_laws.specs.Priced.{IsPricedValue}
+use Rattle.branch_price.specs.Steps.{IsShown}
+use Rattle.branch_price.proofs.Leaves.{leaf-cuts}
+use Rattle.branch_price.proofs.Settled.{small-cuts, is-shown, priced-node}
+use Rattle.branch_price.proofs.Processed.{asks-priced, turned-by, loose-path}
+use Rattle.branch_price.proofs.leaf.best_leaf.Goals as goal
+
+pub shown_value-value-requires-clause-small : goal.shown_value-value-requires-clause-small
+shown_value-value-requires-clause-small c =
+    let r = c.requires.node in
+    let p = c.args.path.now in
+    let are = leaf-cuts c.args.instance.now c.args.graph.now r.0 r.1 r.2 r.3 c.args.progress.now c.args.leaf p.cuts c.requires.sound r.4 in
+    subst (λ (cs : List Cut). All (λ (x : Cut). x.b ≤ 63) cs) (sym c.cuts-cuts.ensures) (small-cuts c.args.instance.now p.cuts are)
+
+pub plan_for-requires-clause-shown : goal.plan_for-requires-clause-shown
+plan_for-requires-clause-shown c =
+    let r = c.requires.node in
+    let i = c.args.instance.now in
+    let p = c.args.path.now in
+    let are = leaf-cuts i c.args.graph.now r.0 r.1 r.2 r.3 c.args.progress.now c.args.leaf p.cuts c.requires.sound r.4 in
+    let value = subst (λ (cs : List Cut). IsPricedValue i c.args.prices cs c.shown_value-value.result) c.cuts-cuts.ensures c.shown_value-value.ensures.value in
+    subst (λ (cs : List Cut). IsShown i cs c.args.pool.now c.args.weights.now c.shown_value-value.result) (sym c.cuts-cuts.ensures)
+    (is-shown i p.cuts c.args.pool.now c.args.prices c.args.weights.now c.shown_value-value.result are c.requires.solved value)
+
+pub price-requires : goal.price-requires
+price-requires c =
+    let r = c.requires.node in
+    let i = c.args.instance.now in
+    let v = c.args.graph.now in
+    let p = c.args.path.now in
+    let are = leaf-cuts i v r.0 r.1 r.2 r.3 c.args.progress.now c.args.leaf p.cuts c.requires.sound r.4 in
+    let value = subst (λ (cs : List Cut). IsPricedValue i c.args.prices cs c.shown_value-value.result) c.cuts-cuts.ensures c.shown_value-value.ensures.value in
+    let priced = priced-node i p.cuts c.args.pool.now c.args.prices c.args.weights.now c.shown_value-value.result are c.requires.solved value in
+    let loose = loose-path i v p.cuts p.arc_box c.requires.path.left c.args.loose c.requires.loose c.requires.graph in
+    asks-priced i v r.0 r.1 r.2 r.3 c.args.progress.now c.args.leaf p.cuts c.plan_for.new.best c.args.prices c.shown_value-value.result c.in_ok-plan.plan r.4
+    c.in_ok-plan.ensures.better priced loose (rw c.cuts-cuts.ensures at c.in_ok-plan.ensures.plan)
+
+pub returns-clause-turned : goal.returns-clause-turned
+returns-clause-turned c =
+    let i = c.args.instance.now in
+    let v = c.args.graph.now in
+    let p = c.args.path.now in
+    let value = subst (λ (cs : List Cut). IsPricedValue i c.args.prices cs c.shown_value-value.result) c.cuts-cuts.ensures c.shown_value-value.ensures.value in
+    let loose = loose-path i v p.cuts p.arc_box c.requires.path.left c.args.loose c.requires.loose c.requires.graph in
+    let plan = rw c.cuts-cuts.ensures at c.in_ok-plan.ensures.plan in
+    on_ok_weaker c.price.result
+    (λ done strict before now low asked.
+      let are = leaf-cuts i v strict before now low c.args.progress.now c.args.leaf p.cuts c.requires.sound asked in
+      let priced = priced-node i p.cuts c.args.pool.now c.args.prices c.args.weights.now c.shown_value-value.result are c.requires.solved value in
+      turned-by i v strict before now now low c.args.progress.now c.args.leaf p.cuts c.plan_for.new.best c.price.new.self asked c.in_ok-plan.ensures.better
+      (done (asks-priced i v strict before now low c.args.progress.now c.args.leaf p.cuts c.plan_for.new.best c.args.prices c.shown_value-value.result c.in_ok-plan.plan asked
+        c.in_ok-plan.ensures.better priced loose plan)))
+    c.price.ensures

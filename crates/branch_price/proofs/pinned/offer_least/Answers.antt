@@ -1,0 +1,37 @@
+use Rattle.std.proofs.Common.{◌≡◌, ℕ, arith, ◌≤◌, ◌<◌, List, [], sym, subst}
+use Rattle.std.proofs.lemmas.Result.{on_ok_weaker}
+use Rattle.roster_model.specs.Cuts.{lo}
+use Rattle.arc_laws.specs.Counts.{counts_cost}
+use Rattle.arc_branch.specs.Boxes.{BoxView}
+use Rattle.offers.specs.Offers.{CanBeTrees, Reach, limit_of}
+use Rattle.offers.proofs.Limits.{limit-most}
+use Rattle.branch_price.specs.Plans.{AreLeast}
+use Rattle.branch_price.proofs.PinnedCounts.{pinned-trees, pinned-reach, is-cheap, reached}
+use Rattle.branch_price.proofs.pinned.offer_least.Goals as goal
+
+pub offer_counts-requires-clause-counts : goal.offer_counts-requires-clause-counts
+offer_counts-requires-clause-counts c =
+    let i = c.args.instance.now in
+    let v = c.args.graph.now in
+    let p = c.args.path.now in
+    let most = limit-most i c.args.best.now c.requires.sound c.requires.best in
+    let cheap = is-cheap i p.cuts c.args.value (limit_of i c.args.best.now) c.requires.value most (rw c.limit.ensures at c.if-limit-value.false) in
+    let least : AreLeast c.arc_box.result.now c.in_ok-counts.counts.items = c.in_ok-counts.ensures in
+    let own = subst (λ (b : BoxView). AreLeast b c.in_ok-counts.counts.items) c.arc_box.ensures least in
+    subst (λ (xs : List ℕ). CanBeTrees i v xs) (sym c.deref.ensures.value)
+    (pinned-trees i v c.requires.graph p.cuts p.arc_box c.requires.path.left c.in_ok-counts.counts.items own cheap.listed cheap.are cheap.allowed)
+
+pub returns-clause-reached : goal.returns-clause-reached
+returns-clause-reached c =
+    let i = c.args.instance.now in
+    let v = c.args.graph.now in
+    let p = c.args.path.now in
+    let most = limit-most i c.args.best.now c.requires.sound c.requires.best in
+    let cheap = is-cheap i p.cuts c.args.value (limit_of i c.args.best.now) c.requires.value most (rw c.limit.ensures at c.if-limit-value.false) in
+    let least : AreLeast c.arc_box.result.now c.in_ok-counts.counts.items = c.in_ok-counts.ensures in
+    let own = subst (λ (b : BoxView). AreLeast b c.in_ok-counts.counts.items) c.arc_box.ensures least in
+    let reach = pinned-reach i v c.requires.graph p.cuts p.arc_box c.requires.path.left c.in_ok-counts.counts.items own cheap.listed cheap.are cheap.allowed c.requires.sound c.requires.cuts in
+    on_ok_weaker c.offer_counts.result
+    (λ h. reached i (limit_of i c.offer_counts.new.best) c.args.value (counts_cost i cheap.listed (lo p.cuts))
+      (h (counts_cost i cheap.listed (lo p.cuts)) [] [] (subst (λ (xs : List ℕ). Reach i v xs [] [] (counts_cost i cheap.listed (lo p.cuts))) (sym c.deref.ensures.value) reach)) cheap.cost)
+    c.offer_counts.ensures.reached
