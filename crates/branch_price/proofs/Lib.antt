@@ -4,3 +4,5 @@ pub mod Processed
 pub mod Planned
 pub mod EndedSound
 pub mod Ended
+pub mod PlainPrices
+pub mod OneNode
