@@ -83,9 +83,9 @@ module _ (i : Instance) (infeasible : IsPlainlyInfeasible i) where
   plain-prices sound p v h = record {
     best = plain-best p v.path h;
     few =
-      let cells = few_cells i.grammar i.cells sound.grammar.codes sound.grammar.few_periods sound.cells in
-      let none : length p.mult ≡ 0 = ap (λ (ms : List Mult). length ms) h.none in
-      omega (arith, cells, none, h.each);
+        let cells = few_cells i.grammar i.cells sound.grammar.codes sound.grammar.few_periods sound.cells in
+        let none : length p.mult ≡ 0 = ap (λ (ms : List Mult). length ms) h.none in
+        omega (arith, cells, none, h.each);
   }
 
   -- ---- no arc
