@@ -6,3 +6,4 @@ pub mod EndedSound
 pub mod Ended
 pub mod PlainPrices
 pub mod OneNode
+pub mod Looping
