@@ -7,3 +7,6 @@ pub mod OpenPaths
 pub mod PinnedCounts
 pub mod EndedSound
 pub mod Ended
+pub mod PlainPrices
+pub mod OneNode
+pub mod Looping

@@ -1,5 +1,5 @@
 -- Days whose head counts or a cell alone show that no roster is allowed, and prices of 0.
-use Rattle.std.specs.Prelude.{ℕ, ℤ, pos, ◌≡◌, List, [], ◌∷◌, All, length}
+use Rattle.std.specs.Prelude.{ℤ, pos, ◌≡◌, Option, List, [], All, length}
 use Rattle.roster_model.specs.declared.instance.Instance.{Instance}
 use Rattle.roster_model.specs.declared.instance.Prices.{Prices}
 use Rattle.roster_model.specs.Agreement.{Agree}
@@ -8,7 +8,10 @@ use Rattle.roster_model.specs.PriceRooms.{price_view}
 use Rattle.roster_model.specs.declared.price_room.PriceRoom.{PriceRoom}
 use Rattle.certificates.specs.declared.cert.Node.{Node}
 use Rattle.certificates.specs.declared.cert.Node.TheVariants.{Split, Priced, Pinned, Bare}
-use Rattle.parse_graph.specs.Graphs.{GraphView}
+use Rattle.roster_model.specs.declared.grammar.ArcKey.{ArcKey}
+use Rattle.roster_model.specs.declared.instance.Cut.{Cut}
+use Rattle.roster_model.specs.Arcs.{IsArc}
+use Rattle.bound_laws.specs.Lagrangian.{IsLeastReduced}
 
 -- a price of 0 for each cell, at the denominator 1, and no multiplier
 pub record ArePlain (i : Instance) (p : Prices) : Type 0 where
@@ -21,9 +24,14 @@ pub record ArePlain (i : Instance) (p : Prices) : Type 0 where
 abbrev pub HoldsPlain : Instance → PriceRoom → Type 0
 HoldsPlain i room = (p : Prices) × ArePlain i p × Agree i.grammar (price_view room) (reduced_view i p [])
 
--- a node with prices of 0, or where there is no arc one whose cuts leave each arc one count
-abbrev pub IsInfeasibleNode : Instance → GraphView → Node → Type 0
-IsInfeasibleNode i v (Split a b own) = ⊥
-IsInfeasibleNode i v (Priced p) = ArePlain i p
-IsInfeasibleNode i v Pinned = v.arcs ≡ []
-IsInfeasibleNode i v Bare = ⊥
+-- the least reduced cost of a tree at such prices, whatever the cuts are
+abbrev pub IsPlainLeast : Instance → Option ℤ → Type 0
+IsPlainLeast i z = (p : Prices) (cuts : List Cut) → ArePlain i p → IsLeastReduced i p cuts z
+
+-- a node with prices of 0 at which a least reduced cost is known, or where there is no arc one that says
+-- that each arc has one count
+abbrev pub IsInfeasibleNode : Instance → Node → Type 0
+IsInfeasibleNode i (Split a b own) = ⊥
+IsInfeasibleNode i (Priced p) = ArePlain i p × ((z : Option ℤ) × IsPlainLeast i z)
+IsInfeasibleNode i Pinned = (a : ArcKey) → IsArc i.grammar a → ⊥
+IsInfeasibleNode i Bare = ⊥

@@ -4,7 +4,7 @@ ghost use Rattle.bound_laws.specs.Infeasible.{IsPlainlyInfeasible};
 ghost use Rattle.parse_graph.specs.Graphs.{IsGraph};
 ghost use Rattle.priced_part.specs.Filled.{TellsDerived};
 ghost use Rattle.branch_price.specs.Found.{IsFound, AreCounted};
-ghost use Rattle.branch_price.specs.Infeasible.{ArePlain, HoldsPlain, IsInfeasibleNode};
+ghost use Rattle.branch_price.specs.Infeasible.{ArePlain, HoldsPlain, IsPlainLeast, IsInfeasibleNode};
 
 use crate::found::Found;
 use certificates::{Cert, Node};
@@ -51,17 +51,32 @@ pub(crate) fn derived(alloc: Global, instance: &Instance) -> Result<[bool; MOST_
     Ok(derived_names(&instance.grammar, &table))
 }
 
+/// Returns the least cost of a tree of the day; `None` exactly where it has none.
+fn least_cost(alloc: Global, instance: &Instance) -> Result<Option<i128>, Memory>
+    requires { IsSoundInstance instance.now }
+    ensures { IfOk result (IsPlainLeast instance.now) }
+{
+    let room = plain_room(alloc, instance)?;
+    let mut table = Table::for_instance(alloc, &instance.grammar)?;
+    Ok(table.least(&instance.grammar, &room))
+}
+
 /// Returns the one node of a day that is plainly infeasible: one with prices of 0, or where the day has no
-/// arc, so that each has one count, one that says so.
+/// tree, and so no arc with more than one count, one that says so.
 fn infeasible_node(alloc: Global, instance: &Instance, graph: &Graph) -> Result<Node, Memory>
-    ensures { IfOk result (IsInfeasibleNode instance.now graph.now) }
+    requires sound { IsSoundInstance instance.now }
+    requires graph { IsGraph instance.now.grammar graph.now }
+    ensures { IfOk result (IsInfeasibleNode instance.now) }
 {
     if graph.arcs().is_empty() {
         return Ok(Node::Pinned);
     }
-    Ok(Node::Priced {
-        prices: plain_prices(alloc, instance)?,
-    })
+    match least_cost(alloc, instance)? {
+        None => Ok(Node::Pinned),
+        Some(_) => Ok(Node::Priced {
+            prices: plain_prices(alloc, instance)?,
+        }),
+    }
 }
 
 /// Returns what a search finds where the head counts or a cell alone show that no roster is allowed.

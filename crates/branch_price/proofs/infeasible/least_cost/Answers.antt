@@ -1,0 +1,12 @@
+use Rattle.std.proofs.Common.{[]}
+use Rattle.roster_model.specs.PriceRooms.{price_view}
+use Rattle.priced_part.proofs.Reducing.{least-reduced}
+use Rattle.branch_price.proofs.PlainPrices.{plain-least}
+use Rattle.branch_price.proofs.infeasible.least_cost.Goals as goal
+
+pub returns : goal.returns
+returns c =
+    let i = c.args.instance.now in
+    let h = c.in_ok-room.ensures in
+    plain-least i c.requires.grammar h.0 h.1 c.least.result
+    (least-reduced i c.requires.grammar (price_view c.in_ok-room.room) h.0 [] h.2 c.least.result c.least.ensures.least)

@@ -1,0 +1,2 @@
+pub mod ListedCuts
+pub mod Staffing
