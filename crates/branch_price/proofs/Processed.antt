@@ -1,5 +1,5 @@
 -- A leaf is processed: what the steps of the tree ask, and what they lead to.
-use Rattle.std.proofs.Common.{◌≡◌, ℕ, arith, ◌≤◌, ◌<◌, ◌+◌, ◌/◌, Bool, Option, None, Some, IfSome, MatchOption, List, [], ◌∷◌, ◌++◌, length, refl, sym, subst, ap, ◌∙◌, inl, inr}
+use Rattle.std.proofs.Common.{◌≡◌, ℕ, arith, ◌≤◌, ◌<◌, ◌+◌, ◌/◌, Bool, Option, None, Some, IfSome, MatchOption, List, [], ◌∷◌, ◌++◌, length, refl, sym, subst, ap, ◌∙◌, inl, inr, ◌⊎◌}
 use Rattle.std.specs.Prelude.{slice_get}
 use Rattle.roster_model.specs.declared.grammar.ArcKey.{ArcKey}
 use Rattle.roster_model.specs.declared.instance.Cut.{Cut}
@@ -19,7 +19,14 @@ use Rattle.open_nodes.specs.declared.leaf.OpenLeaf.{OpenLeaf}
 use Rattle.search_tree.specs.Views.{TreeView, Site}
 use Rattle.search_tree.specs.Trees.{IsPlan, IsTree}
 use Rattle.search_tree.specs.Asked.{AsksLeaf, AsksPinned, AsksPriced, AsksFailed, IsProcessed}
-use Rattle.search_tree.proofs.TreeLaws.{limit-falls}
+use Rattle.search_tree.proofs.TreeLaws.{limit-falls, count-rises}
+use Rattle.search_tree.specs.Trees.{last_count}
+use Rattle.master_laws.specs.Rows.{rows_of}
+use Rattle.tree_pool.specs.Pools.{PoolTree}
+use Rattle.node_master.specs.declared.ends.Cause.{Cause}
+use Rattle.node_master.specs.declared.ends.Cause.TheVariants.{Rows, Wide, Spent}
+use Rattle.node_master.specs.declared.ends.NodeEnd.TheVariants.{Failed}
+use Rattle.search_master.specs.Refusals.{EndsWell, Refuses}
 use Rattle.candidate_rosters.specs.declared.roster.Roster.{Roster}
 use Rattle.candidate_rosters.specs.Starts.{HasStart, StartsWith}
 use Rattle.offers.specs.Offers.{limit_of, IsBetter}
@@ -114,3 +121,29 @@ asks-priced i v strict before now low p leaf cuts best prices value plan asked b
   loose = loose;
   planned = planned;
 }
+
+-- the master's count may have risen since
+pub later-node : (i : Instance) (v : GraphView) (strict : Bool) (before now later low : ℕ) (p : Progress) (leaf : OpenLeaf) (cuts : List Cut)
+    → AsksNode i v strict before now low p leaf cuts → now ≤ later → later ≤ last_count → AsksNode i v strict before later low p leaf cuts
+later-node i v strict before now later low p leaf cuts asked rises within = record {
+  tree = asked.tree;
+  is = record {
+    tree = count-rises (site_of i v strict before) (limit_of i p.best) now later low (leaf ∷ []) p.tree asked.tree asked.is.tree rises within;
+    best = asked.is.best;
+    start = asked.is.start;
+  };
+  place = asked.place;
+  few = asked.few;
+}
+
+refusal : (now later rows : ℕ) → Refuses now later → (now < later) ⊎ (later ≡ last_count) ⊎ ((now ≤ later) × (1500 < rows))
+refusal now later rows (inl lt) = inl lt
+refusal now later rows (inr e) = inr (inl e)
+
+-- a master that failed had a cause
+pub given-up : (i : Instance) (cuts : List Cut) (columns : List PoolTree) (now later : ℕ) (strict : Bool) (cause : Cause) → EndsWell i cuts columns now later strict (Failed cause)
+    → now ≤ later → later ≤ last_count → IsGivenUp i strict now later cuts
+given-up i cuts columns now later strict (Rows count) h rises within =
+    record { hard = λ s. inl h.0; cause = inr (inr (rises, h.0)); within = within }
+given-up i cuts columns now later strict (Wide fault) h rises within = record { hard = h.hard; cause = refusal now later (length (rows_of i cuts)) h.rose; within = within }
+given-up i cuts columns now later strict (Spent pivots) h rises within = record { hard = h.hard; cause = refusal now later (length (rows_of i cuts)) h.rose; within = within }

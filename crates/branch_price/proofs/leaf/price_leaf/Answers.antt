@@ -1,39 +1,71 @@
-use Rattle.std.proofs.Common.{rules, ℕ, ◌≡◌, ◌≤◌, ◌<◌, Bool, IfOk, OnOk, length}
-use Rattle.std.proofs.Common.{List as Items}
-use Rattle.std.proofs.Common.{◌+◌, ◌-◌, ◌*◌, ◌/◌, ◌%◌, true, false, nat_eq, nat_lt, List, [], ◌∷◌, ◌++◌, slice_index_or, slice_set, bit_and, bit_or, Fits, w8, w32, w64, Bor, MutBor}
-use Rattle.roster_model.specs.SoundInstance.{IsSoundInstance}
-use Rattle.arc_branch.specs.Paths.{IsLooseAt}
-use Rattle.bound_laws.specs.Infeasible.{IsPlainlyInfeasible}
-use Rattle.bound_laws.specs.Pinned.{IsPinned}
-use Rattle.parse_graph.specs.Graphs.{IsGraph}
-use Rattle.priced_part.specs.Filled.{TellsDerived}
-use Rattle.tree_pool.specs.Pools.{IsPool, IsGrown}
-use Rattle.candidate_rosters.specs.Rosters.{IsDeskFor}
-use Rattle.node_path.specs.Paths.{IsPath}
-use Rattle.branch_price.specs.Desks.{IsDesk}
-use Rattle.branch_price.specs.Steps.{AsksNode, IsTurned, IsGivenUp, IsSolved}
+use Rattle.std.proofs.Common.{◌<◌, ◌^◌, List, length, sym, subst}
+use Rattle.std.proofs.lemmas.Result.{on_ok_weaker}
+use Rattle.roster_model.specs.declared.instance.Cut.{Cut}
+use Rattle.roster_model.specs.Folds.{Each}
+use Rattle.node_master.specs.declared.ends.NodeEnd.{NodeEnd}
+use Rattle.node_master.specs.declared.ends.Weight.{Weight}
+use Rattle.node_master.specs.Ends.{IsNodeCut}
+use Rattle.search_master.specs.Refusals.{EndsWell}
+use Rattle.branch_price.specs.Steps.{IsSolved, IsGivenUp}
+use Rattle.branch_price.proofs.Leaves.{leaf-cuts}
+use Rattle.branch_price.proofs.Processed.{later-node, given-up}
 use Rattle.branch_price.proofs.leaf.price_leaf.Goals as goal
 
--- src/leaf.rt:194:15
 pub node-requires-clause-cuts : goal.node-requires-clause-cuts
-node-requires-clause-cuts g c = ?
+node-requires-clause-cuts g c =
+    let r = c.requires.node in
+    let i = c.args.instance.now in
+    let are = leaf-cuts i c.args.graph.now (g.M.Master.strict c.args.master.now) r.0 (g.M.Master.refused c.args.master.now) r.1 c.args.progress.now c.args.leaf c.args.path.now.cuts c.requires.sound r.2 in
+    subst (λ (cs : List Cut). Each (IsNodeCut i) cs) (sym c.cuts.ensures) are.node
 
--- src/leaf.rt:194:15
 pub node-requires-clause-few : goal.node-requires-clause-few
-node-requires-clause-few g c = ?
+node-requires-clause-few g c =
+    let r = c.requires.node in
+    let i = c.args.instance.now in
+    let are = leaf-cuts i c.args.graph.now (g.M.Master.strict c.args.master.now) r.0 (g.M.Master.refused c.args.master.now) r.1 c.args.progress.now c.args.leaf c.args.path.now.cuts c.requires.sound r.2 in
+    subst (λ (cs : List Cut). length cs < 2 ^ 31) (sym c.cuts.ensures) are.few
 
--- src/leaf.rt:204:31
 pub fail_leaf-requires-clause-node : goal.fail_leaf-requires-clause-node
-fail_leaf-requires-clause-node g c = ?
+fail_leaf-requires-clause-node g c =
+    let r = c.requires.node in
+    let i = c.args.instance.now in
+    let strict = g.M.Master.strict c.args.master.now in
+    let now = g.M.Master.refused c.args.master.now in
+    let later = g.M.Master.refused c.node.new.self in
+    let ends = subst (λ (e : NodeEnd). EndsWell i c.cuts.result.now c.node.new.pool now later strict e) c.in-Failed.is c.in_ok-end.ensures.end in
+    (strict, r.0, now, r.1, later, r.2,
+      subst (λ (cs : List Cut). IsGivenUp i strict now later cs) c.cuts.ensures
+        (given-up i c.cuts.result.now c.node.new.pool now later strict c.in-Failed.field-0 ends c.node.ensures.rises c.node.ensures.within))
 
--- src/leaf.rt:209:14
 pub best_leaf-requires-clause-solved : goal.best_leaf-requires-clause-solved
-best_leaf-requires-clause-solved g c = ?
+best_leaf-requires-clause-solved g c =
+    let i = c.args.instance.now in
+    let strict = g.M.Master.strict c.args.master.now in
+    let now = g.M.Master.refused c.args.master.now in
+    let later = g.M.Master.refused c.node.new.self in
+    let ends = subst (λ (e : NodeEnd). EndsWell i c.cuts.result.now c.node.new.pool now later strict e) c.in-Best.is c.in_ok-end.ensures.end in
+    let own = rw c.cuts.ensures at ends in
+    subst (λ (ws : List Weight). IsSolved i c.args.path.now.cuts c.node.new.pool c.in-Best.prices ws) (sym c.as_slice.ensures)
+    (record { value = c.in-Best.value; few = own.0; best = own.1 })
 
--- src/leaf.rt:160:1
 pub returns-in-Failed-clause-turned : goal.returns-in-Failed-clause-turned
-returns-in-Failed-clause-turned g c = ?
+returns-in-Failed-clause-turned g c =
+    let i = c.args.instance.now in
+    let strict = g.M.Master.strict c.args.master.now in
+    let now = g.M.Master.refused c.args.master.now in
+    let later = g.M.Master.refused c.node.new.self in
+    let ends = subst (λ (e : NodeEnd). EndsWell i c.cuts.result.now c.node.new.pool now later strict e) c.in-Failed.is c.in_ok-end.ensures.end in
+    let given = subst (λ (cs : List Cut). IsGivenUp i strict now later cs) c.cuts.ensures
+        (given-up i c.cuts.result.now c.node.new.pool now later strict c.in-Failed.field-0 ends c.node.ensures.rises c.node.ensures.within) in
+    on_ok_weaker c.fail_leaf.result (λ turned before low asked. turned strict before now low later asked given) c.fail_leaf.ensures.turned
 
--- src/leaf.rt:160:1
 pub returns-in-Best-clause-turned : goal.returns-in-Best-clause-turned
-returns-in-Best-clause-turned g c = ?
+returns-in-Best-clause-turned g c =
+    let i = c.args.instance.now in
+    let strict = g.M.Master.strict c.args.master.now in
+    let now = g.M.Master.refused c.args.master.now in
+    let later = g.M.Master.refused c.node.new.self in
+    on_ok_weaker c.best_leaf.result
+    (λ turned before low asked. turned strict before later low
+      (later-node i c.args.graph.now strict before now later low c.args.progress.now c.args.leaf c.args.path.now.cuts asked c.node.ensures.rises c.node.ensures.within))
+    c.best_leaf.ensures.turned
