@@ -1,6 +1,7 @@
 pub mod Desks
 pub mod Found
 pub mod Searching
+pub mod Rounded
 pub mod Plans
 pub mod Infeasible
 pub mod Steps

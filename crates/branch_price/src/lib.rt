@@ -14,6 +14,7 @@ mod infeasible;
 mod leaf;
 mod pinned;
 mod progress;
+mod rounded;
 mod turn;
 mod value;
 
