@@ -20,7 +20,7 @@ use Rattle.branch_price.specs.Steps.{IsBegun}
 use Rattle.branch_price.specs.Ends.{IsShut, IsFinal, IsNext}
 
 -- what is known of the tree, whatever is in hand
-final-is : (s : Site) (now low : ℕ) (hand : List OpenLeaf) (p : Progress) (t : Grown)
+pub final-is : (s : Site) (now low : ℕ) (hand : List OpenLeaf) (p : Progress) (t : Grown)
     → IsSearching s now low hand p t → IsFinal s now low p t
 final-is s now low hand p t is = record {
   growing = is.tree.growing;

@@ -5,3 +5,4 @@ pub mod Plans
 pub mod Infeasible
 pub mod Steps
 pub mod Ends
+pub mod Loops
