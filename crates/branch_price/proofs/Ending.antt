@@ -1,6 +1,6 @@
 -- The turns of a search, and its two ends.
-use Rattle.std.proofs.Common.{◌≡◌, ℕ, arith, ◌+◌, ◌*◌, ◌≤◌, ◌<◌, inl, inr, max, Bool, Option, None, Some, IfSome, List, [], ◌∷◌, ◌++◌, length, refl, sym, subst, ap, ◌∙◌}
-use Rattle.std.specs.Prelude.{◌≢◌, MatchOption}
+use Rattle.std.proofs.Common.{◌≡◌, ℕ, arith, ◌+◌, ◌≤◌, ◌<◌, inl, inr, max, Bool, Option, None, Some, IfSome, List, [], ◌∷◌, ◌++◌, length, refl, sym, subst, ap, ◌∙◌}
+use Rattle.std.specs.Prelude.{◌≢◌}
 use Rattle.roster_model.specs.declared.instance.Cut.{Cut}
 use Rattle.roster_model.specs.declared.instance.Done.{Done}
 use Rattle.roster_model.specs.declared.instance.Done.TheVariants.{Equal, NoRoster, TurnsOut}
@@ -9,26 +9,24 @@ use Rattle.roster_model.specs.Cuts.{base_cuts}
 use Rattle.roster_model.specs.GreatestCost.{greatest_cost}
 use Rattle.roster_model.specs.SoundInstance.{IsSoundInstance}
 use Rattle.bound_laws.specs.Infeasible.{IsPlainlyInfeasible}
-use Rattle.bound_laws.specs.Points.{IsPoints}
 use Rattle.certificates.specs.Nodes.{low_cut, high_cut}
 use Rattle.certificate_laws.specs.Accepted.{bound_number}
 use Rattle.parse_graph.specs.Graphs.{GraphView, IsGraph}
-use Rattle.growing_laws.specs.Grown.{Grown, tip, fork, Leaf, OnTips, SomeTip, raised, tip_bound, shown, busy}
+use Rattle.growing_laws.specs.Grown.{Grown, tip, fork, SomeTip, raised, tip_bound, shown}
 use Rattle.growing_laws.specs.Boxes.{IsOpenLeaf}
 use Rattle.growing_laws.specs.States.{IsTip}
-use Rattle.growing_laws.proofs.Growing.{tips-map, some-map, some-both, least-bound}
+use Rattle.growing_laws.proofs.Growing.{some-map, some-both, least-bound}
 use Rattle.growing_laws.proofs.Stating.{growing-closed, growing-few}
 use Rattle.open_nodes.specs.declared.leaf.OpenLeaf.{OpenLeaf}
-use Rattle.search_tree.specs.Views.{TreeView, entry_of}
+use Rattle.search_tree.specs.Views.{TreeView}
 use Rattle.search_tree.proofs.TreeLaws.{queued-leaf}
 use Rattle.candidate_rosters.specs.declared.roster.Roster.{Roster}
-use Rattle.candidate_rosters.specs.Rosters.{IsGoodRoster}
 use Rattle.offers.specs.Offers.{limit_of, cost_of}
 use Rattle.offers.proofs.Limits.{cost-most, limit-most}
 use Rattle.branch_price.specs.declared.progress.Progress.{Progress}
 use Rattle.branch_price.specs.Searching.{site_of, IsSearching}
 use Rattle.branch_price.specs.Steps.{AsksTurn, IsTurned, IsBegun}
-use Rattle.branch_price.specs.Ends.{IsShut, IsFinal, IsNext, IsEnd, IsSpent, IsDoneAt, IsClosedBy}
+use Rattle.branch_price.specs.Ends.{IsNext, IsEnd, IsDoneAt, IsClosedBy}
 use Rattle.branch_price.specs.Loops.{IsLooping}
 use Rattle.branch_price.proofs.Looping.{final-is}
 use Rattle.branch_price.proofs.ShownLimit.{shown-limit}

@@ -1,5 +1,5 @@
 -- The loop of a search: its begin, its next leaf, and its end.
-use Rattle.std.proofs.Common.{◌≡◌, ℕ, arith, ◌+◌, ◌*◌, ◌≤◌, ◌<◌, Bool, Option, None, Some, IfSome, List, [], ◌∷◌, length, refl, sym, subst, ap, ◌∙◌}
+use Rattle.std.proofs.Common.{◌≡◌, ℕ, arith, ◌≤◌, ◌<◌, Option, None, Some, IfSome, List, [], ◌∷◌, refl, sym, subst}
 use Rattle.std.specs.Prelude.{MatchOption, IfNone}
 use Rattle.roster_model.specs.declared.instance.Instance.{Instance}
 use Rattle.roster_model.specs.Cuts.{base_cuts}

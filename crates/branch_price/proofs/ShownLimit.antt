@@ -1,5 +1,5 @@
 -- A tree shows no more than the best roster costs, or one more than the greatest cost.
-use Rattle.std.proofs.Common.{◌≡◌, ℕ, arith, ◌+◌, ◌≤◌, ◌⊎◌, inl, inr, min, Bool, Option, None, Some, IfSome, List, [], ◌∷◌, ◌++◌}
+use Rattle.std.proofs.Common.{◌≡◌, ℕ, arith, ◌+◌, ◌≤◌, ◌⊎◌, inl, inr, Bool, Option, None, Some, IfSome, List, [], ◌∷◌, ◌++◌}
 use Rattle.roster_model.specs.declared.grammar.ArcKey.{ArcKey}
 use Rattle.roster_model.specs.declared.instance.Cut.{Cut}
 use Rattle.roster_model.specs.declared.instance.Instance.{Instance}
@@ -16,7 +16,7 @@ use Rattle.bound_laws.proofs.Counted.{makes-roster}
 use Rattle.bound_laws.proofs.Greatest.{trees_cost-le}
 use Rattle.bound_laws.proofs.Realised.{has-trees, stand-for}
 use Rattle.bound_laws.proofs.SoundReady.{ready}
-use Rattle.certificates.specs.Nodes.{low_cut, high_cut}
+use Rattle.certificates.specs.Nodes.{low_cut}
 use Rattle.certificates.specs.RosterCauses.{duties, stated_prices}
 use Rattle.certificate_laws.proofs.ShownBound.{shows-le}
 use Rattle.split_laws.proofs.Whole.{split-balanced}

@@ -1,5 +1,4 @@
-use Rattle.std.proofs.Common.{arith, ◌≡◌, ◌-◌, ◌∙◌, refl, sym}
-use Rattle.std.specs.Prelude.{◌≢◌}
+use Rattle.std.proofs.Common.{arith, ◌∙◌, refl, sym}
 use Rattle.std.proofs.lemmas.Result.{IfOk-weaker}
 use Rattle.candidate_rosters.proofs.Having.{grown-more}
 use Rattle.branch_price.specs.Found.{IsFound, AreCounted}
