@@ -50,9 +50,10 @@ next-is i old w limit e same None taken left = record {
       let given : IsTree s limit now low [] old.tree t = subst (λ (n : ℕ). IsTree s n now low [] old.tree t) (sym e) is.tree in
       let shut : IsShut i limit t = taken s now low t given in
       let rest = left s now low t given in
-      let tree : IsTree s (limit_of i old.best) now low rest.0 w t = subst (λ (n : ℕ). IsTree s n now low rest.0 w t) e rest.1 in
-      (subst (λ (n : ℕ). IsShut i n t) e shut,
-      final-is s now low rest.0 (record { tree = w; best = old.best }) t (record { tree = tree; best = is.best; start = is.start }));
+      let tree : IsTree s (limit_of i old.best) now low rest.0 w t = subst (λ (n : ℕ). IsTree s n now low rest.0 w t) e rest.1 in (
+        subst (λ (n : ℕ). IsShut i n t) e shut,
+        final-is s now low rest.0 (record { tree = w; best = old.best }) t (record { tree = tree; best = is.best; start = is.start }),
+      );
 }
 next-is i old w limit e same (Some leaf) taken left = record {
   best = refl;

@@ -48,9 +48,9 @@ returns-clause-turned c =
     let plan = rw c.cuts-cuts.ensures at c.in_ok-plan.ensures.plan in
     on_ok_weaker c.price.result
     (λ done strict before now low asked.
-      let are = leaf-cuts i v strict before now low c.args.progress.now c.args.leaf p.cuts c.requires.sound asked in
-      let priced = priced-node i p.cuts c.args.pool.now c.args.prices c.args.weights.now c.shown_value-value.result are c.requires.solved value in
-      turned-by i v strict before now now low c.args.progress.now c.args.leaf p.cuts c.plan_for.new.best c.price.new.self asked c.in_ok-plan.ensures.better
-      (done (asks-priced i v strict before now low c.args.progress.now c.args.leaf p.cuts c.plan_for.new.best c.args.prices c.shown_value-value.result c.in_ok-plan.plan asked
-        c.in_ok-plan.ensures.better priced loose plan)))
+    let are = leaf-cuts i v strict before now low c.args.progress.now c.args.leaf p.cuts c.requires.sound asked in
+    let priced = priced-node i p.cuts c.args.pool.now c.args.prices c.args.weights.now c.shown_value-value.result are c.requires.solved value in
+    turned-by i v strict before now now low c.args.progress.now c.args.leaf p.cuts c.plan_for.new.best c.price.new.self asked c.in_ok-plan.ensures.better
+    (done (asks-priced i v strict before now low c.args.progress.now c.args.leaf p.cuts c.plan_for.new.best c.args.prices c.shown_value-value.result c.in_ok-plan.plan asked
+    c.in_ok-plan.ensures.better priced loose plan)))
     c.price.ensures

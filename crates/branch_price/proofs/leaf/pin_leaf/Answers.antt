@@ -22,4 +22,4 @@ returns-clause-turned c = λ strict before now low asked.
     turned-by c.args.instance.now c.args.graph.now strict before now now low c.args.progress.now c.args.leaf c.args.path.now.cuts c.offer_least.new.best c.pin.new.self asked
     c.in_ok-offer_least.ensures.better
     (c.pin.ensures (asks-pinned c.args.instance.now c.args.graph.now strict before now low c.args.progress.now c.args.leaf c.args.path.now.cuts c.offer_least.new.best c.pinned_value-value.result
-      asked c.in_ok-offer_least.ensures.better c.requires.pinned c.pinned_value-value.ensures.value c.in_ok-offer_least.ensures.reached))
+    asked c.in_ok-offer_least.ensures.better c.requires.pinned c.pinned_value-value.ensures.value c.in_ok-offer_least.ensures.reached))

@@ -32,10 +32,16 @@ fail_leaf-requires-clause-node g c =
     let strict = g.M.Master.strict c.args.master.now in
     let now = g.M.Master.refused c.args.master.now in
     let later = g.M.Master.refused c.node.new.self in
-    let ends = subst (λ (e : NodeEnd). EndsWell i c.cuts.result.now c.node.new.pool now later strict e) c.in-Failed.is c.in_ok-end.ensures.end in
-    (strict, r.0, now, r.1, later, r.2,
+    let ends = subst (λ (e : NodeEnd). EndsWell i c.cuts.result.now c.node.new.pool now later strict e) c.in-Failed.is c.in_ok-end.ensures.end in (
+      strict,
+      r.0,
+      now,
+      r.1,
+      later,
+      r.2,
       subst (λ (cs : List Cut). IsGivenUp i strict now later cs) c.cuts.ensures
-        (given-up i c.cuts.result.now c.node.new.pool now later strict c.in-Failed.field-0 ends c.node.ensures.rises c.node.ensures.within))
+          (given-up i c.cuts.result.now c.node.new.pool now later strict c.in-Failed.field-0 ends c.node.ensures.rises c.node.ensures.within),
+    )
 
 pub best_leaf-requires-clause-solved : goal.best_leaf-requires-clause-solved
 best_leaf-requires-clause-solved g c =
@@ -56,7 +62,7 @@ returns-in-Failed-clause-turned g c =
     let later = g.M.Master.refused c.node.new.self in
     let ends = subst (λ (e : NodeEnd). EndsWell i c.cuts.result.now c.node.new.pool now later strict e) c.in-Failed.is c.in_ok-end.ensures.end in
     let given = subst (λ (cs : List Cut). IsGivenUp i strict now later cs) c.cuts.ensures
-        (given-up i c.cuts.result.now c.node.new.pool now later strict c.in-Failed.field-0 ends c.node.ensures.rises c.node.ensures.within) in
+    (given-up i c.cuts.result.now c.node.new.pool now later strict c.in-Failed.field-0 ends c.node.ensures.rises c.node.ensures.within) in
     on_ok_weaker c.fail_leaf.result (λ turned before low asked. turned strict before now low later asked given) c.fail_leaf.ensures.turned
 
 pub returns-in-Best-clause-turned : goal.returns-in-Best-clause-turned
@@ -67,5 +73,5 @@ returns-in-Best-clause-turned g c =
     let later = g.M.Master.refused c.node.new.self in
     on_ok_weaker c.best_leaf.result
     (λ turned before low asked. turned strict before later low
-      (later-node i c.args.graph.now strict before now later low c.args.progress.now c.args.leaf c.args.path.now.cuts asked c.node.ensures.rises c.node.ensures.within))
+    (later-node i c.args.graph.now strict before now later low c.args.progress.now c.args.leaf c.args.path.now.cuts asked c.node.ensures.rises c.node.ensures.within))
     c.best_leaf.ensures.turned

@@ -33,5 +33,5 @@ returns-clause-reached c =
     let reach = pinned-reach i v c.requires.graph p.cuts p.arc_box c.requires.path.left c.in_ok-counts.counts.items own cheap.listed cheap.are cheap.allowed c.requires.sound c.requires.cuts in
     on_ok_weaker c.offer_counts.result
     (λ h. reached i (limit_of i c.offer_counts.new.best) c.args.value (counts_cost i cheap.listed (lo p.cuts))
-      (h (counts_cost i cheap.listed (lo p.cuts)) [] [] (subst (λ (xs : List ℕ). Reach i v xs [] [] (counts_cost i cheap.listed (lo p.cuts))) (sym c.deref.ensures.value) reach)) cheap.cost)
+    (h (counts_cost i cheap.listed (lo p.cuts)) [] [] (subst (λ (xs : List ℕ). Reach i v xs [] [] (counts_cost i cheap.listed (lo p.cuts))) (sym c.deref.ensures.value) reach)) cheap.cost)
     c.offer_counts.ensures.reached
