@@ -1,5 +1,5 @@
 -- A leaf in hand: the arc of its plan, and its path.
-use Rattle.std.proofs.Common.{◌≡◌, ℕ, arith, ◌≤◌, ◌<◌, ◌^◌, ◌*◌, ◌+◌, Option, None, Some, List, [], ◌∷◌, ◌++◌, length, refl, sym, subst, ap, ◌∙◌, ◌⊎◌, inl, inr, MatchOption}
+use Rattle.std.proofs.Common.{◌≡◌, ℕ, arith, ◌≤◌, ◌<◌, ◌^◌, None, Some, List, [], ◌∷◌, ◌++◌, length, refl, sym, subst, ◌∙◌, inl, inr}
 use Rattle.std.specs.Prelude.{slice_get}
 use Rattle.roster_model.specs.declared.grammar.ArcKey.{ArcKey}
 use Rattle.roster_model.specs.declared.instance.Cut.{Cut}
@@ -11,21 +11,21 @@ use Rattle.arc_laws.proofs.Folding.{Each-same}
 use Rattle.certificates.specs.Nodes.{low_cut, high_cut}
 use Rattle.master_laws.specs.Laws.{IsBelowHeads}
 use Rattle.node_master.specs.Ends.{IsNodeCut}
-use Rattle.growing_laws.specs.Grown.{Grown, tip, fork, Leaf, fresh, valued, fixed, Own, OnForks, SomeTip, raised, tip_bound}
+use Rattle.growing_laws.specs.Grown.{Grown, tip, fork, Leaf, fresh, valued, fixed, SomeTip, raised, tip_bound}
 use Rattle.growing_laws.specs.Boxes.{IsOpenLeaf}
 use Rattle.growing_laws.specs.States.{IsSplit, IsSplitAt}
 use Rattle.growing_laws.proofs.Growing.{some-both, forks-map}
 use Rattle.open_nodes.specs.declared.leaf.Plan.{Plan}
 use Rattle.open_nodes.specs.declared.leaf.OpenLeaf.{OpenLeaf}
 use Rattle.search_tree.specs.Views.{TreeView, Site, IsPlace}
-use Rattle.search_tree.specs.Trees.{HasPlan, IsPlanned, IsTree, IsPlan}
+use Rattle.search_tree.specs.Trees.{HasPlan, IsTree, IsPlan}
 use Rattle.search_tree.proofs.TreeLaws.{queued-leaf, leaf-in-hand, few-seats, short-paths}
 use Rattle.search_tree.specs.Asked.{AsksSplit, IsHalved}
 use Rattle.std.proofs.lemmas.Option.{slice_get_within}
 use Rattle.node_path.specs.Paths.{IsNode}
 use Rattle.offers.specs.Offers.{limit_of}
 use Rattle.branch_price.specs.declared.progress.Progress.{Progress}
-use Rattle.branch_price.specs.Searching.{site_of, IsSearching}
+use Rattle.branch_price.specs.Searching.{site_of}
 use Rattle.branch_price.specs.Steps.{AsksTurn, AsksNode, AsksHalf, IsTurned}
 use Rattle.growing_laws.specs.declared.seat.Seat.{Seat}
 use Rattle.branch_price.proofs.NodeCuts.{IsGoodCut, path-cuts, path-based, base-good, base-few}

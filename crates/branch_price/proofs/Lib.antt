@@ -10,3 +10,5 @@ pub mod Ended
 pub mod PlainPrices
 pub mod OneNode
 pub mod Looping
+pub mod ShownLimit
+pub mod Ending

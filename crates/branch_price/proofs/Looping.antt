@@ -1,5 +1,5 @@
 -- The loop of a search: its begin, its next leaf, and its end.
-use Rattle.std.proofs.Common.{◌≡◌, ℕ, arith, ◌+◌, ◌*◌, ◌≤◌, ◌<◌, Bool, Option, None, Some, IfSome, List, [], ◌∷◌, length, refl, sym, subst, ap, ◌∙◌}
+use Rattle.std.proofs.Common.{◌≡◌, ℕ, arith, ◌≤◌, ◌<◌, Option, None, Some, IfSome, List, [], ◌∷◌, refl, sym, subst}
 use Rattle.std.specs.Prelude.{MatchOption, IfNone}
 use Rattle.roster_model.specs.declared.instance.Instance.{Instance}
 use Rattle.roster_model.specs.Cuts.{base_cuts}
@@ -20,7 +20,7 @@ use Rattle.branch_price.specs.Steps.{IsBegun}
 use Rattle.branch_price.specs.Ends.{IsShut, IsFinal, IsNext}
 
 -- what is known of the tree, whatever is in hand
-final-is : (s : Site) (now low : ℕ) (hand : List OpenLeaf) (p : Progress) (t : Grown)
+pub final-is : (s : Site) (now low : ℕ) (hand : List OpenLeaf) (p : Progress) (t : Grown)
     → IsSearching s now low hand p t → IsFinal s now low p t
 final-is s now low hand p t is = record {
   growing = is.tree.growing;

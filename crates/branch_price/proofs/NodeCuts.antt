@@ -1,5 +1,5 @@
 -- The cuts on the way to a node are ones that a master takes.
-use Rattle.std.proofs.Common.{◌≡◌, ℕ, arith, ◌+◌, ◌-◌, ◌*◌, ◌≤◌, ◌<◌, ◌^◌, Bool, true, false, cond, All, List, [], ◌∷◌, ◌++◌, length, map, length-append, refl, ap, sym, subst, ◌∙◌, inl, inr}
+use Rattle.std.proofs.Common.{◌≡◌, ℕ, arith, ◌+◌, ◌-◌, ◌*◌, ◌≤◌, ◌<◌, Bool, true, false, cond, All, List, [], ◌∷◌, ◌++◌, length, map, length-append, refl, ap, sym, subst, ◌∙◌, inl, inr}
 use Rattle.std.specs.Prelude.{nat_lt}
 use mathlib.Core.List.{append_assoc, append-nil}
 use Rattle.std.proofs.lemmas.Bool.Decides.{nat_tests}
@@ -13,7 +13,7 @@ use Rattle.roster_model.specs.declared.instance.Group.{Group}
 use Rattle.roster_model.specs.declared.instance.Instance.{Instance}
 use Rattle.roster_model.specs.declared.instance.Side.{Side}
 use Rattle.roster_model.specs.declared.instance.Side.TheVariants.{Low, High}
-use Rattle.roster_model.specs.Cuts.{lo, hi, at_most, group_arc, group_cuts, group_cut_count, cuts_from, base_cuts}
+use Rattle.roster_model.specs.Cuts.{hi, at_most, group_arc, group_cuts, group_cut_count, cuts_from, base_cuts}
 use Rattle.roster_model.proofs.CutCounts.{base_length}
 use Rattle.roster_model.specs.Arcs.{same_arc}
 use Rattle.roster_model.specs.Folds.{sum_n, Each}
@@ -23,7 +23,7 @@ use Rattle.bound_laws.proofs.BaseCuts.{IsRange}
 use Rattle.certificates.specs.Nodes.{low_cut, high_cut}
 use Rattle.master_laws.specs.Laws.{IsBelowHeads}
 use Rattle.node_master.specs.Ends.{IsNodeCut}
-use Rattle.growing_laws.specs.Grown.{Grown, tip, fork, Own, OnForks}
+use Rattle.growing_laws.specs.Grown.{Grown, tip, fork, OnForks}
 use Rattle.growing_laws.specs.Seats.{StandsAt}
 use Rattle.growing_laws.specs.States.{IsSplitAt}
 

@@ -1,9 +1,8 @@
 -- A node's path leaves each arc a count.
-use Rattle.std.proofs.Common.{◌≡◌, ℕ, arith, ◌+◌, ◌≤◌, ◌<◌, Bool, true, false, List, [], ◌∷◌, ◌++◌, refl, sym, subst, inl, inr}
+use Rattle.std.proofs.Common.{ℕ, arith, ◌+◌, ◌≤◌, ◌<◌, Bool, List, [], ◌∷◌, ◌++◌, subst, inl, inr}
 use Rattle.roster_model.specs.declared.grammar.ArcKey.{ArcKey}
 use Rattle.roster_model.specs.declared.instance.Cut.{Cut}
 use Rattle.roster_model.specs.declared.instance.Instance.{Instance}
-use Rattle.roster_model.specs.Arcs.{same_arc}
 use Rattle.roster_model.specs.Cuts.{lo, hi}
 use Rattle.roster_model.specs.Folds.{Each}
 use Rattle.arc_laws.proofs.Folding.{Each-append}

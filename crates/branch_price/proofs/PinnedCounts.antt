@@ -1,6 +1,6 @@
 -- The counts of a pinned path as those of a roster.
 use Rattle.std.proofs.Common.{◌≡◌, ℕ, arith, ◌≤◌, ◌<◌, ◌+◌, ◌*◌, cond, List, [], ◌∷◌, ◌++◌, length, refl, sym, subst, ap, ◌∙◌, ◌⊎◌, inl, inr}
-use Rattle.std.specs.Prelude.{slice_get, slice_index}
+use Rattle.std.specs.Prelude.{slice_index}
 use Rattle.std.proofs.lemmas.List.{length-append}
 use Rattle.std.proofs.Math.ListN.{get_or-append}
 use Rattle.std.proofs.Math.Seq.{get_or-append_seam}
@@ -9,11 +9,10 @@ use Rattle.roster_model.specs.declared.grammar.ArcKey.{ArcKey}
 use Rattle.roster_model.specs.declared.instance.Cut.{Cut}
 use Rattle.roster_model.specs.declared.instance.Instance.{Instance}
 use Rattle.roster_model.specs.Arcs.{IsArc}
-use Rattle.roster_model.specs.Cuts.{Meets, base_cuts, lo, hi}
-use Rattle.roster_model.specs.Folds.{Each, In, count}
+use Rattle.roster_model.specs.Cuts.{Meets, base_cuts, lo}
+use Rattle.roster_model.specs.Folds.{Each, count}
 use Rattle.roster_model.specs.GreatestCost.{greatest_cost}
 use Rattle.roster_model.specs.SoundInstance.{IsSoundInstance}
-use Rattle.roster_model.specs.Trees.{Parts}
 use Rattle.arc_laws.specs.Counts.{AreCounts, counts_cost}
 use Rattle.arc_laws.specs.Lists.{AreArcs}
 use Rattle.arc_laws.proofs.Folding.{sum_n-same}
@@ -22,15 +21,14 @@ use Rattle.arc_branch.specs.Boxes.{BoxView, bounds_at}
 use Rattle.arc_branch.specs.Paths.{IsBoxOf}
 use Rattle.arc_laws.specs.OrNodes.{OrNode, name, suffix, same_node, made, used}
 use Rattle.arc_laws.specs.Balance.{made_sum, used_sum}
-use Rattle.bound_laws.specs.Counted.{HaveCounts, AsksForArc}
+use Rattle.bound_laws.specs.Counted.{HaveCounts}
 use Rattle.bound_laws.specs.Pinned.{IsPinnedValue}
-use Rattle.bound_laws.specs.TreeRosters.{IsTreeRoster, trees_cost}
 use Rattle.bound_laws.proofs.Counted.{makes-roster, meets-cuts}
 use Rattle.master_laws.specs.Sharp.{UsesArtificial}
 use Rattle.parse_graph.specs.Graphs.{GraphView, IsGraph}
 use Rattle.roster_split.specs.Counts.{count_of}
 use Rattle.roster_split.proofs.Places.{count-at}
-use Rattle.offers.specs.Offers.{CanBeTrees, HaveCountsOf, Reach}
+use Rattle.offers.specs.Offers.{CanBeTrees, Reach}
 use Rattle.branch_price.specs.Plans.{AreLeast, AreFirst, AskForArcs}
 
 module _ (i : Instance) (v : GraphView) (graph : IsGraph i.grammar v) (cuts : List Cut) (box : BoxView) (left : IsBoxOf i v cuts box) (counts : List ℕ) (least : AreLeast box counts) where

@@ -1,20 +1,18 @@
 -- Where a node with prices is split.
-use Rattle.std.proofs.Common.{◌≡◌, ℕ, arith, ◌≤◌, ◌<◌, ◌+◌, ◌*◌, Option, None, Some, List, [], ◌∷◌, ◌++◌, length, refl, sym, subst, ap, ◌∙◌, ◌⊎◌, inl, inr}
+use Rattle.std.proofs.Common.{◌≡◌, ℕ, arith, ◌≤◌, ◌<◌, List, [], ◌∷◌, ◌++◌, subst, ap, ◌∙◌, ◌⊎◌, inl, inr}
 use Rattle.std.specs.Prelude.{slice_get}
-use Rattle.roster_model.specs.declared.grammar.ArcKey.{ArcKey}
 use Rattle.roster_model.specs.declared.instance.Cut.{Cut}
 use Rattle.roster_model.specs.declared.instance.Instance.{Instance}
 use Rattle.roster_model.specs.Cuts.{Meets, base_cuts}
 use Rattle.roster_model.specs.Folds.{Each}
 use Rattle.roster_model.specs.SoundInstance.{IsSoundInstance}
 use Rattle.roster_model.specs.Trees.{Parts}
-use Rattle.arc_laws.specs.Lists.{AreArcs}
-use Rattle.arc_branch.specs.Boxes.{BoxView, bounds_at}
+use Rattle.arc_branch.specs.Boxes.{BoxView}
 use Rattle.arc_branch.specs.Paths.{IsBoxOf, IsLooseAt}
 use Rattle.bound_laws.specs.TreeRosters.{IsTreeRoster, trees_cost}
 use Rattle.linear_programs.specs.Solution.{Weighted}
-use Rattle.master_laws.specs.Master.{MasterKey, master}
-use Rattle.master_laws.specs.Sharp.{UsesArtificial, AreFine, IsSharp}
+use Rattle.master_laws.specs.Master.{MasterKey}
+use Rattle.master_laws.specs.Sharp.{UsesArtificial, AreFine}
 use Rattle.master_laws.proofs.Whole.{can_be_split}
 use Rattle.parse_graph.specs.Graphs.{GraphView, IsGraph}
 use Rattle.parse_graph.proofs.PlacesLemmas.{in-graph, of-graph}

@@ -1,23 +1,20 @@
 -- A leaf is processed: what the steps of the tree ask, and what they lead to.
-use Rattle.std.proofs.Common.{◌≡◌, ℕ, arith, ◌≤◌, ◌<◌, ◌+◌, ◌/◌, Bool, Option, None, Some, IfSome, MatchOption, List, [], ◌∷◌, ◌++◌, length, refl, sym, subst, ap, ◌∙◌, inl, inr, ◌⊎◌}
+use Rattle.std.proofs.Common.{◌≡◌, ℕ, arith, ◌≤◌, ◌<◌, ◌+◌, ◌/◌, Bool, Option, Some, MatchOption, List, [], ◌∷◌, length, inl, inr, ◌⊎◌}
 use Rattle.std.specs.Prelude.{slice_get}
 use Rattle.roster_model.specs.declared.grammar.ArcKey.{ArcKey}
 use Rattle.roster_model.specs.declared.instance.Cut.{Cut}
 use Rattle.roster_model.specs.declared.instance.Instance.{Instance}
 use Rattle.roster_model.specs.declared.instance.Prices.{Prices}
-use Rattle.roster_model.specs.Arcs.{IsArc}
-use Rattle.roster_model.specs.Cuts.{lo, hi}
-use Rattle.arc_laws.specs.Loose.{IsLoose}
 use Rattle.arc_branch.specs.Boxes.{BoxView, bounds_at}
 use Rattle.arc_branch.specs.Paths.{IsBoxOf, IsLooseAt}
 use Rattle.bound_laws.specs.Pinned.{IsPinned, IsPinnedValue}
 use Rattle.parse_graph.specs.Graphs.{GraphView, IsGraph}
-use Rattle.std.proofs.lemmas.Option.{same_Some, slice_get_within}
+use Rattle.std.proofs.lemmas.Option.{slice_get_within}
 use Rattle.growing_laws.specs.States.{IsPricedNode, IsLoosePath, IsSplitAt}
 use Rattle.open_nodes.specs.declared.leaf.Plan.{Plan}
 use Rattle.open_nodes.specs.declared.leaf.OpenLeaf.{OpenLeaf}
-use Rattle.search_tree.specs.Views.{TreeView, Site}
-use Rattle.search_tree.specs.Trees.{IsPlan, IsTree}
+use Rattle.search_tree.specs.Views.{TreeView}
+use Rattle.search_tree.specs.Trees.{IsPlan}
 use Rattle.search_tree.specs.Asked.{AsksLeaf, AsksPinned, AsksPriced, AsksFailed, IsProcessed}
 use Rattle.search_tree.proofs.TreeLaws.{limit-falls, count-rises}
 use Rattle.search_tree.specs.Trees.{last_count}
@@ -28,10 +25,9 @@ use Rattle.node_master.specs.declared.ends.Cause.TheVariants.{Rows, Wide, Spent}
 use Rattle.node_master.specs.declared.ends.NodeEnd.TheVariants.{Failed}
 use Rattle.search_master.specs.Refusals.{EndsWell, Refuses}
 use Rattle.candidate_rosters.specs.declared.roster.Roster.{Roster}
-use Rattle.candidate_rosters.specs.Starts.{HasStart, StartsWith}
 use Rattle.offers.specs.Offers.{limit_of, IsBetter}
 use Rattle.branch_price.specs.declared.progress.Progress.{Progress}
-use Rattle.branch_price.specs.Searching.{site_of, IsSearching}
+use Rattle.branch_price.specs.Searching.{site_of}
 use Rattle.branch_price.specs.Steps.{AsksNode, IsTurned, IsGivenUp}
 
 -- the leaf in hand, once the best roster gave way to another one

@@ -1,29 +1,17 @@
 -- The prices of a solved node, and the counts of a pinned one.
-use Rattle.std.proofs.Common.{◌≡◌, ℕ, ℤ, pos, arith, ◌≤◌, ◌<◌, ◌+◌, ◌*◌, ◌^◌, ◌≤ℤ◌, ◌<ℤ◌, All, Option, None, Some, List, [], ◌∷◌, ◌++◌, length, refl, sym, subst, ap, ◌∙◌, ◌⊎◌, inl, inr}
+use Rattle.std.proofs.Common.{ℕ, pos, arith, ◌≤◌, ◌<◌, ◌+◌, ◌≤ℤ◌, ◌<ℤ◌, All, List, [], ◌∷◌, length}
 use Rattle.std.proofs.lemmas.Int.{ints}
-use Rattle.std.specs.Prelude.{slice_get, slice_index}
-use Rattle.roster_model.specs.declared.grammar.ArcKey.{ArcKey}
 use Rattle.roster_model.specs.declared.instance.Cut.{Cut}
 use Rattle.roster_model.specs.declared.instance.Instance.{Instance}
 use Rattle.roster_model.specs.declared.instance.Mult.{Mult}
 use Rattle.roster_model.specs.declared.instance.Prices.{Prices}
-use Rattle.roster_model.specs.declared.instance.Side.TheVariants.{Low, High}
-use Rattle.roster_model.specs.Arcs.{IsArc}
-use Rattle.roster_model.specs.Cuts.{Meets, base_cuts, lo, hi}
-use Rattle.roster_model.specs.Folds.{Each, In}
-use Rattle.roster_model.specs.GreatestCost.{greatest_cost}
-use Rattle.roster_model.specs.SoundInstance.{IsSoundInstance}
-use Rattle.roster_model.specs.Trees.{Parts}
+use Rattle.roster_model.specs.Folds.{Each}
 use Rattle.roster_model.specs.PriceLimits.{IsMult, AreRising}
 use Rattle.certificates.proofs.Rising.{each_all, all_each}
 use Rattle.arc_laws.proofs.Folding.{Each-same}
-use Rattle.arc_laws.specs.Lists.{AreArcs}
-use Rattle.bound_laws.specs.Counted.{AsksForArc}
 use Rattle.bound_laws.specs.Priced.{IsPricedValue}
-use Rattle.bound_laws.specs.Pinned.{IsPinned, IsPinnedValue}
-use Rattle.master_laws.specs.Laws.{IsBelowHeads}
 use Rattle.master_laws.proofs.Small.{row_count}
-use Rattle.node_master.specs.Ends.{IsNodeCut, IsBest}
+use Rattle.node_master.specs.Ends.{IsNodeCut}
 use Rattle.tree_pool.specs.Pools.{PoolTree}
 use Rattle.node_master.specs.declared.ends.Weight.{Weight}
 use Rattle.growing_laws.specs.States.{IsPricedNode}

@@ -6,3 +6,4 @@ pub mod Plans
 pub mod Infeasible
 pub mod Steps
 pub mod Ends
+pub mod Loops

@@ -1,21 +1,11 @@
 -- What a search knows between two steps.
-use Rattle.std.specs.Prelude.{ℕ, ◌≡◌, ◌≤◌, ◌<◌, ◌+◌, ◌++◌, ◌⊎◌, Bool, IsTrue, Option, IfSome, MatchOption, List, [], ◌∷◌, length}
-use Rattle.roster_model.specs.declared.instance.Cut.{Cut}
+use Rattle.std.specs.Prelude.{ℕ, Bool, IfSome, List}
 use Rattle.roster_model.specs.declared.instance.Instance.{Instance}
-use Rattle.roster_model.specs.declared.instance.Prices.{Prices}
-use Rattle.roster_model.specs.Cuts.{base_cuts}
-use Rattle.bound_laws.specs.Priced.{IsPricedValue}
-use Rattle.fraction.specs.declared.frac.Frac.{Frac}
 use Rattle.parse_graph.specs.Graphs.{GraphView}
-use Rattle.master_laws.specs.Rows.{rows_of}
-use Rattle.master_laws.specs.Sharp.{IsHard}
-use Rattle.tree_pool.specs.Pools.{PoolTree}
-use Rattle.node_master.specs.declared.ends.Weight.{Weight}
-use Rattle.node_master.specs.Ends.{IsBest}
-use Rattle.growing_laws.specs.Grown.{Grown, fresh}
+use Rattle.growing_laws.specs.Grown.{Grown}
 use Rattle.open_nodes.specs.declared.leaf.OpenLeaf.{OpenLeaf}
-use Rattle.search_tree.specs.Views.{Site, IsPlace}
-use Rattle.search_tree.specs.Trees.{last_count, IsTree}
+use Rattle.search_tree.specs.Views.{Site}
+use Rattle.search_tree.specs.Trees.{IsTree}
 use Rattle.candidate_rosters.specs.Rosters.{IsGoodRoster}
 use Rattle.candidate_rosters.specs.Starts.{HasStart, StartsWith}
 use Rattle.offers.specs.Offers.{limit_of}

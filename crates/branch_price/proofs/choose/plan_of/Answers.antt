@@ -1,4 +1,4 @@
-use Rattle.std.proofs.Common.{◌≡◌, ℕ, ◌<◌, List, ◌++◌, length, sym, subst}
+use Rattle.std.proofs.Common.{ℕ, ◌<◌, List, ◌++◌, sym, subst}
 use Rattle.arc_weights.specs.Weighed.{IsWeighed, AreWhole}
 use Rattle.arc_weights.specs.declared.weighed.Weighed.{Weighed}
 use Rattle.offers.specs.Offers.{CanBeTrees, limit_of}

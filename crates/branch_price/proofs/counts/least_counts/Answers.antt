@@ -1,6 +1,6 @@
-use Rattle.std.proofs.Common.{rules, ◌≡◌, ℕ, arith, ◌≤◌, ◌+◌, List, [], ◌∷◌, ◌++◌, length, ap, sym, subst}
+use Rattle.std.proofs.Common.{rules, ◌≡◌, ℕ, arith, ◌+◌, List, [], ◌∷◌, ◌++◌, length, ap, sym, subst}
 use Rattle.roster_model.specs.declared.grammar.ArcKey.{ArcKey}
-use Rattle.branch_price.specs.Plans.{AreFirst, AreLeast}
+use Rattle.branch_price.specs.Plans.{AreFirst}
 use Rattle.branch_price.proofs.PinnedCounts.{first-none, first-next, first-all}
 use Rattle.branch_price.proofs.counts.least_counts.Goals as goal
 

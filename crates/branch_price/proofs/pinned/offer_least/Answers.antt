@@ -1,4 +1,4 @@
-use Rattle.std.proofs.Common.{◌≡◌, ℕ, arith, ◌≤◌, ◌<◌, List, [], sym, subst}
+use Rattle.std.proofs.Common.{ℕ, List, [], sym, subst}
 use Rattle.std.proofs.lemmas.Result.{on_ok_weaker}
 use Rattle.roster_model.specs.Cuts.{lo}
 use Rattle.arc_laws.specs.Counts.{counts_cost}

@@ -1,8 +1,4 @@
-use Rattle.std.proofs.Common.{Bool, ℕ}
 use Rattle.std.proofs.lemmas.Result.{IfOk-weaker}
-use Rattle.roster_model.specs.declared.instance.Instance.{Instance as Day}
-use Rattle.open_nodes.specs.declared.leaf.OpenLeaf.{OpenLeaf}
-use Rattle.branch_price.specs.Steps.{AsksTurn}
 use Rattle.branch_price.proofs.Leaves.{asks-split, plan-within, half-asks, whole-asks}
 use Rattle.branch_price.proofs.turn.halve.Goals as goal
 

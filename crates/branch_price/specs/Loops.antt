@@ -1,0 +1,16 @@
+-- What holds before each turn of a search.
+use Rattle.std.specs.Prelude.{ℕ, ◌≤◌, Bool, []}
+use Rattle.roster_model.specs.declared.instance.Instance.{Instance}
+use Rattle.parse_graph.specs.Graphs.{GraphView}
+use Rattle.growing_laws.specs.Grown.{Grown}
+use Rattle.branch_price.specs.declared.progress.Progress.{Progress}
+use Rattle.branch_price.specs.Searching.{site_of, IsSearching}
+
+-- no leaf is in hand, no count fell, and no more nodes are processed than there are turns
+pub record IsLooping (i : Instance) (v : GraphView) (strict : Bool) (before now turns : ℕ)
+    (p : Progress) : Type 0 where
+  pub low : ℕ
+  pub tree : Grown
+  pub is : IsSearching (site_of i v strict before) now low [] p tree
+  pub rises : before ≤ now
+  pub within : p.tree.processed ≤ turns
