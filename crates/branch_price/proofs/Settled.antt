@@ -11,7 +11,11 @@ use Rattle.certificates.proofs.Rising.{each_all, all_each}
 use Rattle.arc_laws.proofs.Folding.{Each-same}
 use Rattle.bound_laws.specs.Priced.{IsPricedValue}
 use Rattle.master_laws.proofs.Small.{row_count}
-use Rattle.node_master.specs.Ends.{IsNodeCut}
+use Rattle.std.proofs.lemmas.Option.{slice_get_within}
+use Rattle.roster_model.specs.declared.grammar.Grammar.{Grammar}
+use Rattle.linear_programs.specs.Solution.{Weighted}
+use Rattle.master_laws.specs.Master.{MasterKey}
+use Rattle.node_master.specs.Ends.{IsNodeCut, AreWeights}
 use Rattle.tree_pool.specs.Pools.{PoolTree}
 use Rattle.node_master.specs.declared.ends.Weight.{Weight}
 use Rattle.growing_laws.specs.States.{IsPricedNode}
@@ -55,3 +59,17 @@ priced-node i cuts pool prices weights value are solved shows =
       value = shows;
       best = solved.best.best are.below;
     }
+
+-- the trees with weights stand in the pool
+weights-within : (g : Grammar) (pool : List PoolTree) (d : ℕ) (xs : List Weight) (ws : List (Weighted MasterKey)) → AreWeights g pool d xs ws
+    → Each (λ (x : Weight). x.column < length pool) xs
+weights-within g pool d [] [] h = tt
+weights-within g pool d (x ∷ xs) (w ∷ ws) h = (slice_get_within pool x.column h.0.held h.0.column, weights-within g pool d xs ws h.1)
+weights-within g pool d [] (w ∷ ws) h = tt
+weights-within g pool d (x ∷ xs) [] h = absurd h
+
+pub shown-within : (i : Instance) (cuts : List Cut) (pool : List PoolTree) (weights : List Weight) (value : ℕ) → IsShown i cuts pool weights value
+    → All (λ (x : Weight). x.column < length pool) weights
+shown-within i cuts pool weights value is =
+    let w = is.solved.best.weighted in
+    each_all (λ (x : Weight). x.column < length pool) weights (weights-within i.grammar pool w.d weights w.trees w.are)

@@ -9,6 +9,7 @@ ghost use Rattle.search_tree.specs.Trees.{IsPlan};
 ghost use Rattle.branch_price.specs.Steps.{IsShown};
 ghost use Rattle.branch_price.specs.Plans.{IsPlanAt};
 
+use crate::rounded::offer_rounded;
 use arc_branch::ArcBox;
 use arc_weights::{Weighed, weigh};
 use candidate_rosters::{Roster, RosterDesk};
@@ -61,7 +62,10 @@ fn plan_of(
     ensures rosters { IsDeskFor instance.now.grammar rosters.new }
 {
     match weigh(alloc, instance, graph, cuts, arc_box, pool, weights)? {
-        Weighed::Between { arc, b } => Ok(Some(Plan { arc, b })),
+        Weighed::Between { arc, b } => {
+            offer_rounded(alloc, instance, weights, pool, rosters, best)?;
+            Ok(Some(Plan { arc, b }))
+        }
         Weighed::Whole(counts) => {
             offer_counts(
                 alloc,

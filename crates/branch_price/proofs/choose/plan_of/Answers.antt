@@ -3,8 +3,12 @@ use Rattle.arc_weights.specs.Weighed.{IsWeighed, AreWhole}
 use Rattle.arc_weights.specs.declared.weighed.Weighed.{Weighed}
 use Rattle.offers.specs.Offers.{CanBeTrees, limit_of}
 use Rattle.branch_price.proofs.Processed.{loose-within}
+use Rattle.branch_price.proofs.Settled.{shown-within}
 use Rattle.branch_price.proofs.Planned.{between-plan, least-plan, whole-trees, whole-reach, artificial-plan}
 use Rattle.branch_price.proofs.choose.plan_of.Goals as goal
+
+pub offer_rounded-requires-clause-weights : goal.offer_rounded-requires-clause-weights
+offer_rounded-requires-clause-weights c = shown-within c.args.instance.now c.args.cuts.now c.args.pool.now c.args.weights.now c.args.value c.requires.shown
 
 pub returns-in-Between-clause-plan : goal.returns-in-Between-clause-plan
 returns-in-Between-clause-plan c =
