@@ -29,6 +29,8 @@ mod cover_text;
 mod part;
 mod report;
 mod shifts;
+#[cfg(test)]
+mod tests;
 mod write;
 
 pub use cover::Cover;
