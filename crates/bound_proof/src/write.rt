@@ -53,8 +53,9 @@ fn amount(out: &mut List<u8>, value: Option<u64>) -> Result<(), Memory>
     }
 }
 
-// Writes a line of a cost or a bound.
-fn amount_line(out: &mut List<u8>, first: &[u8], value: Option<u64>) -> Result<(), Memory>
+/// Appends a line of a word and of a cost or a bound. After want of memory a part of it may stand
+/// there.
+pub fn amount_line(out: &mut List<u8>, first: &[u8], value: Option<u64>) -> Result<(), Memory>
     ensures { OnOk result (out.new ≡ out.old ++ written (amount_words first.now value ∷ [])) }
 {
     put(out, first)?;
@@ -90,7 +91,8 @@ fn shift_line(out: &mut List<u8>, instance: &Instance, shift: &Shift) -> Result<
     Ok(())
 }
 
-fn shift_lines(out: &mut List<u8>, instance: &Instance, shifts: &[Shift]) -> Result<(), Memory>
+/// Appends a line for each shift. After want of memory a part of them may stand there.
+pub fn shift_lines(out: &mut List<u8>, instance: &Instance, shifts: &[Shift]) -> Result<(), Memory>
     ensures { OnOk result (out.new ≡ out.old ++ written (map (shift_line instance.now) shifts.now)) }
 {
     for shift in shifts {

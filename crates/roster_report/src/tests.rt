@@ -1,0 +1,179 @@
+ghost use Rattle.std.specs.Prelude.{◌≤◌, IfOk, IfSome, IsTrue, length};
+ghost use Rattle.certificate_laws.specs.Accepted.{IsStated};
+ghost use Rattle.certificates.specs.Sound.{IsSoundCert, IsSoundShift};
+ghost use Rattle.roster_model.specs.Folds.{Each};
+ghost use Rattle.roster_model.specs.SoundInstance.{IsSoundInstance};
+ghost use Rattle.span_table.specs.Tables.{IsMadeFor};
+
+use crate::{report_of, write_report};
+use certificates::{Cert, Node, is_sound_cert};
+use roster_model::{Cell, Done, Group, Instance, List, Memory, Shift, is_sound_instance};
+use roster_part::{ShiftRoom, StatedShift, coverage_fault, roster_fault};
+use sample_days::{BLOCK_NAMES, BLOCKS, CELL, DayParts, SPLIT_DAYS, day};
+use span_table::Table;
+use std::alloc::Global;
+use std::process::Abort;
+use std::test::Fail;
+
+/// What a search found, by the group, the word and the price of each shift, and the text of its
+/// report.
+#[derive(Clone, Copy, Drop)]
+struct Case<'a> {
+    done: Done,
+    cost: Option<u64>,
+    bound: Option<u64>,
+    processed: u32,
+    failed: u32,
+    shifts: &'a [(u8, &'a str, u64)],
+    text: &'a str,
+}
+
+fn shifts(alloc: Global, stated: &[(u8, &str, u64)]) -> Result<List<Shift>, Memory> {
+    let mut shifts = List::new(alloc);
+    for (group, word, price) in stated {
+        let mut bytes = List::new(alloc);
+        bytes.extend_from_slice(word.as_bytes())?;
+        shifts.push(Shift {
+            group: *group,
+            word: bytes,
+            price: *price,
+        })?;
+    }
+    Ok(shifts)
+}
+
+/// Returns a certificate of the roster whose one node shows nothing.
+fn cert(alloc: Global, case: &Case) -> Result<Cert, Memory> {
+    let mut nodes = List::new(alloc);
+    nodes.push(Node::Bare)?;
+    Ok(Cert {
+        shifts: shifts(alloc, case.shifts)?,
+        cost: case.cost,
+        bound: case.bound,
+        nodes,
+    })
+}
+
+/// Returns whether the shifts are an allowed roster of the cost.
+fn is_roster(day: &Instance, cost: u64, shifts: &[StatedShift], table: &mut Table) -> bool
+    requires sound { IsSoundInstance day.now }
+    requires made { IsMadeFor day.now.grammar table.old }
+    requires shifts { Each (IsSoundShift day.now) shifts.now }
+    requires few { length shifts.now ≤ 64 }
+    ensures { IsTrue result → IsStated day.now shifts.now cost }
+{
+    roster_fault(day, cost, shifts, table).is_none() && coverage_fault(day, shifts).is_none()
+}
+
+/// Returns whether the roster of a certificate, where it has one, is as it says.
+fn is_stated(alloc: Global, day: &Instance, cert: &Cert) -> Result<bool, Memory>
+    requires sound { IsSoundInstance day.now }
+    requires cert { IsSoundCert day.now cert.now }
+    ensures { IfOk result (λ is. IsTrue is → IfSome cert.now.cost (IsStated day.now cert.now.shifts)) }
+{
+    let Some(cost) = cert.cost else {
+        return Ok(true);
+    };
+    let mut table = Table::for_instance(alloc, &day.grammar)?;
+    let mut room = ShiftRoom::new(alloc)?;
+    room.keep_all(cert.shifts.as_slice());
+    Ok(is_roster(day, cost, room.shifts(), &mut table))
+}
+
+/// Asserts the text of a case's report.
+fn assert_text(rt: &impl Abort, alloc: Global, day: &Instance, case: &Case) -> Result<(), Fail>
+    requires { IsSoundInstance day.now }
+{
+    let cert = cert(alloc, case)?;
+    assert!(rt; is_sound_cert(day, &cert));
+    assert!(rt; is_stated(alloc, day, &cert)?);
+    let report = report_of(alloc, day, &cert, case.done, case.processed, case.failed)?;
+    let text = write_report(alloc, day, &report)?;
+    assert_eq!(rt; text.as_slice(), case.text.as_bytes());
+    Ok(())
+}
+
+fn assert_texts(
+    rt: &impl Abort,
+    alloc: Global,
+    parts: &DayParts,
+    cases: &[Case],
+) -> Result<(), Fail> {
+    let day = day(alloc, parts)?;
+    assert!(rt; is_sound_instance(&day));
+    for case in cases {
+        assert_text(rt, alloc, &day, case)?;
+    }
+    Ok(())
+}
+
+#[test]
+fn one_block_on_four_periods(rt: HostRuntime) -> Result<(), Fail> {
+    let cells = [(1, 1), (2, 2), (3, 2), (4, 1)].map(|(period, need)| Cell {
+        period,
+        need,
+        over: 3,
+        ..CELL
+    });
+    let parts = DayParts {
+        periods: 4,
+        names: &BLOCK_NAMES,
+        rules: &BLOCKS,
+        start: 0,
+        heads: (0, 2),
+        groups: &[],
+        cells: &cells,
+    };
+    let found = Case {
+        done: Done::Equal,
+        cost: Some(10),
+        bound: Some(10),
+        processed: 1,
+        failed: 0,
+        shifts: &[(0, ".aaa", 5), (0, "aaa.", 5)],
+        text: "report 1\nresult optimal\ncost 10\nbound 10\nprocessed 1\nfailed 0\nshifts 2\nshift .aaa 5\nshift aaa. 5\npaid 10\npenalty 0\nneed a 1 2 2 1\nhave a 1 2 2 1\nshort a 0 0 0 0\nover a 0 0 0 0\n",
+    };
+    let none = Case {
+        done: Done::NoRoster,
+        cost: None,
+        bound: None,
+        shifts: &[],
+        text: "report 1\nresult none\ncost none\nbound none\nprocessed 1\nfailed 0\n",
+        ..found
+    };
+    assert_texts(&rt, rt.alloc(), &parts, &[found, none])
+}
+
+#[test]
+fn two_groups(rt: HostRuntime) -> Result<(), Fail> {
+    let cells = [(1, 2), (2, 1)].map(|(period, need)| Cell {
+        period,
+        need,
+        over: 2,
+        ..CELL
+    });
+    let groups = [(1, 0, 1), (2, 1, 2)].map(|(name, heads_min, heads_max)| Group {
+        name,
+        heads_min,
+        heads_max,
+    });
+    let parts = DayParts {
+        periods: 2,
+        names: &["S", "F", "H", "*"],
+        rules: &SPLIT_DAYS,
+        start: 3,
+        heads: (1, 3),
+        groups: &groups,
+        cells: &cells,
+    };
+    let found = Case {
+        done: Done::TurnsOut,
+        cost: Some(16),
+        bound: Some(4),
+        processed: 10,
+        failed: 2,
+        shifts: &[(1, "aa", 3), (2, ".a", 1)],
+        text: "report 2\nresult turns\ncost 16\nbound 4\nprocessed 10\nfailed 2\nshifts 2\nshift F aa 3\nshift H .a 1\npaid 4\npenalty 12\nneed a 2 1\nhave a 1 2\nshort a 1 0\nover a 0 1\n",
+    };
+    assert_texts(&rt, rt.alloc(), &parts, &[found])
+}
