@@ -131,14 +131,33 @@ fn one_block_on_four_periods(rt: HostRuntime) -> Result<(), Fail> {
         processed: 1,
         failed: 0,
         shifts: &[(0, ".aaa", 5), (0, "aaa.", 5)],
-        text: "report 1\nresult optimal\ncost 10\nbound 10\nprocessed 1\nfailed 0\nshifts 2\nshift .aaa 5\nshift aaa. 5\npaid 10\npenalty 0\nneed a 1 2 2 1\nhave a 1 2 2 1\nshort a 0 0 0 0\nover a 0 0 0 0\n",
+        text: "report 1\n\
+            result optimal\n\
+            cost 10\n\
+            bound 10\n\
+            processed 1\n\
+            failed 0\n\
+            shifts 2\n\
+            shift .aaa 5\n\
+            shift aaa. 5\n\
+            paid 10\n\
+            penalty 0\n\
+            need a 1 2 2 1\n\
+            have a 1 2 2 1\n\
+            short a 0 0 0 0\n\
+            over a 0 0 0 0\n",
     };
     let none = Case {
         done: Done::NoRoster,
         cost: None,
         bound: None,
         shifts: &[],
-        text: "report 1\nresult none\ncost none\nbound none\nprocessed 1\nfailed 0\n",
+        text: "report 1\n\
+            result none\n\
+            cost none\n\
+            bound none\n\
+            processed 1\n\
+            failed 0\n",
         ..found
     };
     assert_texts(&rt, rt.alloc(), &parts, &[found, none])
@@ -173,7 +192,21 @@ fn two_groups(rt: HostRuntime) -> Result<(), Fail> {
         processed: 10,
         failed: 2,
         shifts: &[(1, "aa", 3), (2, ".a", 1)],
-        text: "report 2\nresult turns\ncost 16\nbound 4\nprocessed 10\nfailed 2\nshifts 2\nshift F aa 3\nshift H .a 1\npaid 4\npenalty 12\nneed a 2 1\nhave a 1 2\nshort a 1 0\nover a 0 1\n",
+        text: "report 2\n\
+            result turns\n\
+            cost 16\n\
+            bound 4\n\
+            processed 10\n\
+            failed 2\n\
+            shifts 2\n\
+            shift F aa 3\n\
+            shift H .a 1\n\
+            paid 4\n\
+            penalty 12\n\
+            need a 2 1\n\
+            have a 1 2\n\
+            short a 1 0\n\
+            over a 0 1\n",
     };
     assert_texts(&rt, rt.alloc(), &parts, &[found])
 }
