@@ -49,7 +49,7 @@ all_fine : (ws : List (List ℕ)) → Each IsFine ws → list_all is_written ws 
 all_fine [] h = refl
 all_fine (w ∷ ws) h = and_from _ _ h.0 (all_fine ws h.1)
 
-line_fine : (w : List ℕ) (ws : List (List ℕ)) → IsFine w → Each IsFine ws → IsFineLine (w ∷ ws)
+pub line_fine : (w : List ℕ) (ws : List (List ℕ)) → IsFine w → Each IsFine ws → IsFineLine (w ∷ ws)
 line_fine w ws h k = and_from _ _ (lt-ltb 0 (length (w ∷ ws)) (omega arith)) (and_from _ _ h (all_fine ws k))
 
 pub lines_fine : (ls : List (List (List ℕ))) → Each IsFineLine ls → list_all are_written ls ≡ true
@@ -95,7 +95,7 @@ name_fine w e =
     let d = and_parts (ltb 0 (length w)) (leb (length w) 32) c.0 in
     and_from _ _ d.0 (all_bytes w b.1)
 
-any_name_fine : (g : Grammar) → IsSound g → (x : ℕ) → x < length g.names → IsFine (get_or g.names x [])
+pub any_name_fine : (g : Grammar) → IsSound g → (x : ℕ) → x < length g.names → IsFine (get_or g.names x [])
 any_name_fine g s x lt = elim (s.names.each x (get_or g.names x []) (slice_get-get_or g.names x [] lt)) [
   | inl h ↦ name_fine _ h
   | inr h ↦ rw h.0 refl
@@ -142,7 +142,7 @@ amount_fine (Some n) h = number_fine n (omega (arith, h))
 pub amounts_fine : (first : List ℕ) (x : Option ℕ) → IsFine first → IfSome x (λ n. n ≤ most_cost) → IsFineLine (amount_words first x)
 amounts_fine first x f h = line_fine first (amount_word x ∷ []) f (amount_fine x h, tt)
 
-bytes_fine : (w : List ℕ) → Each IsWordByte w → list_all is_word_byte w ≡ true
+pub bytes_fine : (w : List ℕ) → Each IsWordByte w → list_all is_word_byte w ≡ true
 bytes_fine [] h = refl
 bytes_fine (b ∷ w) h = and_from _ _ (word_byte b h.0.first h.0.last h.0.mark) (bytes_fine w h.1)
 
@@ -202,7 +202,7 @@ head_fine i cuts Pinned s = refl
 head_fine i cuts Bare s = refl
 
 -- the code of a cell is one of the grammar's
-due_fine : (i : Instance) (place : ℕ) → IsSoundInstance i → place < length i.cells → IsFine (due_byte i place ∷ [])
+pub due_fine : (i : Instance) (place : ℕ) → IsSoundInstance i → place < length i.cells → IsFine (due_byte i place ∷ [])
 due_fine i place s lt =
     let none : Cell = record { code = 0; period = 0; need = 0; under = 0; over = 0; floor = 0; ceiling = 0 } in
     let cell : Cell = get_or i.cells place none in

@@ -1,8 +1,8 @@
 mod FieldsAgain
 mod WrittenLemmas
-mod TreeAgain
+pub mod TreeAgain
 mod CertParts
 mod TextAgain
-mod FineWords
+pub mod FineWords
 mod CertAgain
 mod Sizes

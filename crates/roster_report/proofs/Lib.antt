@@ -1,2 +1,3 @@
+mod FineLines
 pub mod Lines
 pub mod Sums

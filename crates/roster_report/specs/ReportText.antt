@@ -78,6 +78,9 @@ abbrev pub cost_lines : Instance → Report → Option ℕ → List (List (List 
 cost_lines i r None = []
 cost_lines i r (Some cost) = roster_lines i r
 
+abbrev pub report_lines : Instance → Report → List (List (List ℕ))
+report_lines i r = head_lines i.groups r ++ cost_lines i r r.cost
+
 -- the text of a report: one space between words, and a line feed after each line
 abbrev pub report_text : Instance → Report → List ℕ
-report_text i r = written (head_lines i.groups r ++ cost_lines i r r.cost)
+report_text i r = written (report_lines i r)

@@ -1,9 +1,10 @@
 -- Reports that can be written.
-use Rattle.std.specs.Prelude.{ℕ, ◌≡◌, ◌≤◌, Option, None, Some, length}
+use Rattle.std.specs.Prelude.{ℕ, ◌≡◌, ◌≤◌, ◌<◌, ◌^◌, IfSome, Option, None, Some, length}
 use Rattle.roster_model.specs.declared.instance.Instance.{Instance}
 use Rattle.roster_model.specs.declared.instance.Shift.{Shift}
 use Rattle.roster_model.specs.Folds.{Each}
 use Rattle.certificates.specs.Sound.{IsGroupNumber, IsWordByte}
+use Rattle.roster_report.specs.declared.cover.Cover.{Cover}
 use Rattle.roster_report.specs.declared.report.Report.{Report}
 use Rattle.roster_report.specs.Reports.{IsOfNoRoster}
 
@@ -23,3 +24,24 @@ pub record IsWritable (i : Instance) (r : Report) : Type 0 where
   pub few : length r.shifts ≤ 64
   pub shifts : Each (IsWritableShift i) r.shifts
   pub cover : HasCover i r r.cost
+
+-- a number of 64 bits
+abbrev pub IsSmall : ℕ → Type 0
+IsSmall n = n < 2 ^ 64
+
+pub record IsSmallCover (c : Cover) : Type 0 where
+  pub need : IsSmall c.need
+  pub have : IsSmall c.have
+  pub short : IsSmall c.short
+  pub over : IsSmall c.over
+
+-- all numbers of the report have 64 bits
+pub record HasSmallNumbers (r : Report) : Type 0 where
+  pub cost : IfSome r.cost IsSmall
+  pub bound : IfSome r.bound IsSmall
+  pub processed : IsSmall r.processed
+  pub failed : IsSmall r.failed
+  pub prices : Each (λ (s : Shift). IsSmall s.price) r.shifts
+  pub paid : IsSmall r.paid
+  pub penalty : IsSmall r.penalty
+  pub cover : Each IsSmallCover r.cover

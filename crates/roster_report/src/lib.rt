@@ -26,6 +26,7 @@
 
 mod cover;
 mod cover_text;
+mod laws;
 mod part;
 mod report;
 mod shifts;
@@ -34,5 +35,6 @@ mod tests;
 mod write;
 
 pub use cover::Cover;
+pub use laws::lines_again;
 pub use report::{Report, report_of};
 pub use write::write_report;

@@ -1,0 +1,15 @@
+ghost use Rattle.std.specs.Prelude.{◌≡◌};
+ghost use Rattle.roster_model.specs.declared.instance.Instance.{Instance};
+ghost use Rattle.roster_model.specs.SoundInstance.{IsSoundInstance};
+ghost use Rattle.text_lines.specs.Lines.{text_items};
+ghost use Rattle.text_lines.specs.Written.{numbered};
+ghost use Rattle.roster_report.specs.declared.report.Report.{Report as Said};
+ghost use Rattle.roster_report.specs.ReportText.{report_lines, report_text};
+ghost use Rattle.roster_report.specs.Writable.{IsWritable, HasSmallNumbers};
+
+/// States a law: the lines of a written report, word by word, are those that were written, where
+/// each number has 64 bits.
+pub fn lines_again()
+    ensures { (i : Instance) (r : Said) → IsSoundInstance i → IsWritable i r → HasSmallNumbers r
+        → text_items (report_text i r) ≡ numbered 1 (report_lines i r) }
+{}
