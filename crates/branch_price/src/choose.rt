@@ -31,61 +31,6 @@ fn at_least(arc_box: &ArcBox, arc: u32) -> Plan
     }
 }
 
-// Returns where a node is to be split, from the weights of the trees at its solution; `None` where the
-// roster of whole weights, which is offered, costs no more than the node's prices show.
-fn plan_of(
-    alloc: Global,
-    instance: &Instance,
-    graph: &Graph,
-    cuts: &[Cut],
-    arc_box: &ArcBox,
-    loose: u32,
-    weights: &[Weight],
-    value: u64,
-    pool: &mut Pool,
-    rosters: &mut RosterDesk,
-    best: &mut Option<Roster>,
-) -> Result<Option<Plan>, Memory>
-    requires sound { IsSoundInstance instance.now }
-    requires graph { IsGraph instance.now.grammar graph.now }
-    requires left { IsBoxOf instance.now graph.now cuts.now arc_box.now }
-    requires loose { IsLooseAt instance.now graph.now cuts.now loose }
-    requires shown { IsShown instance.now cuts.now pool.old weights.now value }
-    requires pool { IsPool instance.now.grammar pool.old }
-    requires rosters { IsDeskFor instance.now.grammar rosters.old }
-    requires best { IfSome best.old (IsGoodRoster instance.now) }
-    ensures plan { IfOk result (λ plan. MatchOption plan (limit_of instance.now best.new ≤ value)
-        (IsPlan instance.now graph.now cuts.now)) }
-    ensures better { IsBetter instance.now best.old best.new }
-    ensures pool { IsPool instance.now.grammar pool.new }
-    ensures grown { IsGrown pool.old pool.new }
-    ensures rosters { IsDeskFor instance.now.grammar rosters.new }
-{
-    match weigh(alloc, instance, graph, cuts, arc_box, pool, weights)? {
-        Weighed::Between { arc, b } => {
-            offer_rounded(alloc, instance, weights, pool, rosters, best)?;
-            Ok(Some(Plan { arc, b }))
-        }
-        Weighed::Whole(counts) => {
-            offer_counts(
-                alloc,
-                instance,
-                graph,
-                counts.as_slice(),
-                pool,
-                rosters,
-                best,
-            )?;
-            if limit(instance, best) <= value {
-                Ok(None)
-            } else {
-                Ok(Some(at_least(arc_box, loose)))
-            }
-        }
-        Weighed::Other => Ok(Some(at_least(arc_box, loose))),
-    }
-}
-
 /// Returns where a node is to be split, from the weights of the trees at its solution; `None` where its
 /// prices show no less than the best roster costs. Where the weights of the arcs are whole, their roster is
 /// offered first. The arc of the number `loose` is left more than one count.
@@ -120,7 +65,27 @@ pub(crate) fn plan_for(
     if limit(instance, best) <= value {
         return Ok(None);
     }
-    plan_of(
-        alloc, instance, graph, cuts, arc_box, loose, weights, value, pool, rosters, best,
-    )
+    match weigh(alloc, instance, graph, cuts, arc_box, pool, weights)? {
+        Weighed::Between { arc, b } => {
+            offer_rounded(alloc, instance, weights, pool, rosters, best)?;
+            Ok(Some(Plan { arc, b }))
+        }
+        Weighed::Whole(counts) => {
+            offer_counts(
+                alloc,
+                instance,
+                graph,
+                counts.as_slice(),
+                pool,
+                rosters,
+                best,
+            )?;
+            if limit(instance, best) <= value {
+                Ok(None)
+            } else {
+                Ok(Some(at_least(arc_box, loose)))
+            }
+        }
+        Weighed::Other => Ok(Some(at_least(arc_box, loose))),
+    }
 }

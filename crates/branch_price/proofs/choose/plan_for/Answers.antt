@@ -5,7 +5,7 @@ use Rattle.offers.specs.Offers.{CanBeTrees, limit_of}
 use Rattle.branch_price.proofs.Processed.{loose-within}
 use Rattle.branch_price.proofs.Settled.{shown-within}
 use Rattle.branch_price.proofs.Planned.{between-plan, least-plan, whole-trees, whole-reach, artificial-plan}
-use Rattle.branch_price.proofs.choose.plan_of.Goals as goal
+use Rattle.branch_price.proofs.choose.plan_for.Goals as goal
 
 pub offer_rounded-requires-clause-weights : goal.offer_rounded-requires-clause-weights
 offer_rounded-requires-clause-weights c = shown-within c.args.instance.now c.args.cuts.now c.args.pool.now c.args.weights.now c.args.value c.requires.shown
@@ -40,7 +40,7 @@ returns-in-Whole-clause-plan c =
     let reach = whole-reach i v cuts pool weights c.args.value c.in-Whole.counts c.requires.graph c.requires.shown whole in
     let reached = c.in_ok-offer_counts-in-Whole.ensures.reached c.args.value cuts (w.trees ++ w.others) (rw (← c.as_slice.ensures) at reach) in
     least-plan i v cuts pool weights c.args.value c.args.loose c.args.arc_box.now c.at_least.result c.requires.graph c.requires.left c.requires.loose c.at_least.ensures w
-    (artificial-plan i cuts (w.trees ++ w.others) w.d (limit_of i c.offer_counts.new.best) c.args.value reached (rw c.limit.ensures at c.if-limit-value.false))
+    (artificial-plan i cuts (w.trees ++ w.others) w.d (limit_of i c.offer_counts.new.best) c.args.value reached (rw c.limit-in-Whole.ensures at c.if-limit-value-2.false))
 
 pub at_least-requires-in-Other : goal.at_least-requires-in-Other
 at_least-requires-in-Other c =
