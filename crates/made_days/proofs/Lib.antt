@@ -1,0 +1,4 @@
+mod ByTests
+mod Draws
+mod MadeDay
+mod SoundDay

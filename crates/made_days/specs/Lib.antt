@@ -1,0 +1,4 @@
+pub mod Draws
+pub mod Made
+pub mod Built
+pub mod Laws

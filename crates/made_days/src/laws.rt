@@ -1,0 +1,6 @@
+ghost use Rattle.made_days.specs.Laws.{EachDayIsSound};
+
+/// The day of each number is sound.
+pub fn each_day_is_sound()
+    ensures { EachDayIsSound }
+{}
