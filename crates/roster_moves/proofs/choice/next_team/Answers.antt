@@ -1,0 +1,7 @@
+use Rattle.roster_model.specs.Teams.{teams}
+use Rattle.roster_part.specs.TeamViews.{team_view}
+use Rattle.roster_part.proofs.Items.{get-in}
+use Rattle.roster_moves.proofs.choice.next_team.Goals as goal
+
+pub returns : goal.returns
+returns c = get-in (teams c.args.instance.now) c.in_ok-choice.choice.place (team_view c.team_at.result) c.team_at.ensures

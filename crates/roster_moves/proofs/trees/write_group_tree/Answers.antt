@@ -1,0 +1,44 @@
+use Rattle.std.proofs.Common.{◌≡◌, Some, ap, ◌∙◌}
+use Rattle.std.specs.Prelude.{slice_get}
+use Rattle.std.proofs.lemmas.Option.{slice_get_within}
+use Rattle.roster_model.specs.PriceRooms.{price_view}
+use Rattle.roster_part.specs.TeamViews.{team_view}
+use Rattle.candidate_rosters.proofs.Leading.{key_of, there-of}
+use Rattle.roster_moves.proofs.Asking.{is-ready, is-top, asks-under, under-steps}
+use Rattle.roster_moves.proofs.trees.write_group_tree.Goals as goal
+
+pub sum_under-requires-clause-arc : goal.sum_under-requires-clause-arc
+sum_under-requires-clause-arc c = slice_get_within c.args.graph.now.arcs c.in-Some.arc c.group_arc.result c.in-Some.ensures.found
+
+pub tree_under-requires-clause-asks : goal.tree_under-requires-clause-asks
+tree_under-requires-clause-asks c =
+    let i = c.args.instance.now in
+    let p = price_view c.args.prices.now in
+    let v = c.args.graph.now in
+    let w = c.args.pricer.now in
+    let o = team_view c.args.team.now in
+    let key = key_of i c.requires.sound c.requires.groups o c.requires.team in
+    let at : slice_get v.arcs c.in-Some.arc ≡ Some key = c.in-Some.ensures.found ∙ ap Some c.group_arc.ensures in
+    let ready = is-ready i c.requires.sound p v w c.requires.graph c.requires.filled in
+    let top = is-top i c.requires.sound p v w c.requires.graph c.requires.filled c.requires.groups o c.requires.team c.in-Some.arc at in (
+      i.grammar,
+      key,
+      asks-under i c.requires.sound p v w c.requires.graph c.requires.filled c.requires.groups o c.requires.team c.in-Some.arc at c.sum_under.result
+          (there-of c.sum_under.result c.if-is_none.ensures) (c.sum_under.ensures.least i.grammar key ready top) c.args.room.now c.requires.room,
+    )
+
+pub returns-clause-yes : goal.returns-clause-yes
+returns-clause-yes c = λ y.
+    let i = c.args.instance.now in
+    let p = price_view c.args.prices.now in
+    let v = c.args.graph.now in
+    let w = c.args.pricer.now in
+    let o = team_view c.args.team.now in
+    let key = key_of i c.requires.sound c.requires.groups o c.requires.team in
+    let at : slice_get v.arcs c.in-Some.arc ≡ Some key = c.in-Some.ensures.found ∙ ap Some c.group_arc.ensures in
+    let ready = is-ready i c.requires.sound p v w c.requires.graph c.requires.filled in
+    let top = is-top i c.requires.sound p v w c.requires.graph c.requires.filled c.requires.groups o c.requires.team c.in-Some.arc at in
+    under-steps i.grammar p key c.tree_under.new.room
+    (c.tree_under.ensures.tree i.grammar key
+    (asks-under i c.requires.sound p v w c.requires.graph c.requires.filled c.requires.groups o c.requires.team c.in-Some.arc at c.sum_under.result
+    (there-of c.sum_under.result c.if-is_none.ensures) (c.sum_under.ensures.least i.grammar key ready top) c.args.room.now c.requires.room))

@@ -1,0 +1,20 @@
+use Rattle.roster_model.specs.PriceRooms.{price_view}
+use Rattle.candidate_rosters.proofs.Leading.{there-of}
+use Rattle.roster_moves.proofs.Asking.{asks-day, day-steps}
+use Rattle.roster_moves.proofs.trees.write_tree.Goals as goal
+
+pub tree-requires-clause-asks : goal.tree-requires-clause-asks
+tree-requires-clause-asks c =
+    let i = c.args.instance.now in
+    let p = price_view c.args.prices.now in (
+      i.grammar,
+      asks-day i c.requires.sound p c.args.graph.now c.args.pricer.now c.requires.graph c.requires.filled c.args.least (there-of c.args.least c.if-is_none.ensures) c.requires.least c.args.room.now c.requires.room,
+    )
+
+pub returns-clause-yes : goal.returns-clause-yes
+returns-clause-yes c = λ y.
+    let i = c.args.instance.now in
+    let p = price_view c.args.prices.now in
+    day-steps i.grammar p c.tree.new.room
+    (c.tree.ensures.tree i.grammar
+    (asks-day i c.requires.sound p c.args.graph.now c.args.pricer.now c.requires.graph c.requires.filled c.args.least (there-of c.args.least c.if-is_none.ensures) c.requires.least c.args.room.now c.requires.room))
