@@ -10,10 +10,17 @@ use Rattle.proof_pieces.proofs.PriceBlock.{cells_whole}
 use Rattle.roster_report.specs.declared.cover.Cover.{Cover}
 use Rattle.roster_report.specs.ReportText.{code_lines, cover_lines}
 
+pub three_lines : (o0 o1 o2 o3 : List ℕ) (a b c : List (List ℕ)) → o1 ≡ o0 ++ written (a ∷ []) → o2 ≡ o1 ++ written (b ∷ []) → o3 ≡ o2 ++ written (c ∷ []) → o3 ≡ o0 ++ written (a ∷ b ∷ c ∷ [])
+three_lines o0 o1 o2 o3 a b c p q r = line_then o0 o1 o3 a (b ∷ c ∷ []) p (line_then o1 o2 o3 b (c ∷ []) q r)
+
 pub four_lines : (o0 o1 o2 o3 o4 : List ℕ) (a b c d : List (List ℕ)) → o1 ≡ o0 ++ written (a ∷ []) → o2 ≡ o1 ++ written (b ∷ []) → o3 ≡ o2 ++ written (c ∷ []) → o4 ≡ o3 ++ written (d ∷ [])
     → o4 ≡ o0 ++ written (a ∷ b ∷ c ∷ d ∷ [])
 four_lines o0 o1 o2 o3 o4 a b c d p q r s =
     line_then o0 o1 o4 a (b ∷ c ∷ d ∷ []) p (line_then o1 o2 o4 b (c ∷ d ∷ []) q (line_then o2 o3 o4 c (d ∷ []) r s))
+
+pub five_lines : (o0 o1 o2 o3 o4 o5 : List ℕ) (a b c d e : List (List ℕ)) → o1 ≡ o0 ++ written (a ∷ []) → o2 ≡ o1 ++ written (b ∷ []) → o3 ≡ o2 ++ written (c ∷ []) → o4 ≡ o3 ++ written (d ∷ [])
+    → o5 ≡ o4 ++ written (e ∷ []) → o5 ≡ o0 ++ written (a ∷ b ∷ c ∷ d ∷ e ∷ [])
+five_lines o0 o1 o2 o3 o4 o5 a b c d e p q r s t = line_then o0 o1 o5 a (b ∷ c ∷ d ∷ e ∷ []) p (four_lines o1 o2 o3 o4 o5 b c d e q r s t)
 
 pub six_lines : (o0 o1 o2 o3 o4 o5 o6 : List ℕ) (a b c d e f : List (List ℕ)) → o1 ≡ o0 ++ written (a ∷ []) → o2 ≡ o1 ++ written (b ∷ []) → o3 ≡ o2 ++ written (c ∷ []) → o4 ≡ o3 ++ written (d ∷ [])
     → o5 ≡ o4 ++ written (e ∷ []) → o6 ≡ o5 ++ written (f ∷ []) → o6 ≡ o0 ++ written (a ∷ b ∷ c ∷ d ∷ e ∷ f ∷ [])

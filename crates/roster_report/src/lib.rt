@@ -30,6 +30,7 @@ mod laws;
 mod part;
 mod report;
 mod shifts;
+mod summary;
 #[cfg(test)]
 mod tests;
 mod write;
@@ -37,4 +38,5 @@ mod write;
 pub use cover::Cover;
 pub use laws::lines_again;
 pub use report::{Report, report_of};
+pub use summary::{Summary, write_summary};
 pub use write::write_report;

@@ -5,7 +5,7 @@ ghost use Rattle.roster_model.specs.Folds.{Each};
 ghost use Rattle.roster_model.specs.SoundInstance.{IsSoundInstance};
 ghost use Rattle.span_table.specs.Tables.{IsMadeFor};
 
-use crate::{report_of, write_report};
+use crate::{Summary, report_of, write_report, write_summary};
 use certificates::{Cert, Node, is_sound_cert};
 use roster_model::{Cell, Done, Group, Instance, List, Memory, Shift, is_sound_instance};
 use roster_part::{ShiftRoom, StatedShift, coverage_fault, roster_fault};
@@ -209,4 +209,29 @@ fn two_groups(rt: HostRuntime) -> Result<(), Fail> {
             over a 0 1\n",
     };
     assert_texts(&rt, rt.alloc(), &parts, &[found])
+}
+
+#[test]
+fn summary_without_a_roster(rt: HostRuntime) -> Result<(), Fail> {
+    let summary = Summary {
+        number: 7,
+        periods: 26,
+        arcs: 65126,
+        done: Done::NoRoster,
+        cost: None,
+        bound: None,
+        processed: 1,
+        failed: 0,
+    };
+    let text = write_summary(rt.alloc(), &summary)?;
+    let lines = "make 7\n\
+        periods 26\n\
+        arcs 65126\n\
+        result none\n\
+        cost none\n\
+        bound none\n\
+        processed 1\n\
+        failed 0\n";
+    assert_eq!(rt; text.as_slice(), lines.as_bytes());
+    Ok(())
 }

@@ -43,7 +43,8 @@ fn done_word(done: Done) -> &'static [u8]
     }
 }
 
-fn result_line(out: &mut List<u8>, done: Done) -> Result<(), Memory>
+/// Writes the line that says how a search ended.
+pub(crate) fn result_line(out: &mut List<u8>, done: Done) -> Result<(), Memory>
     ensures { OnOk result (out.new ≡ out.old ++ written (result_line done ∷ [])) }
 {
     put(out, b"result")?;
@@ -52,8 +53,8 @@ fn result_line(out: &mut List<u8>, done: Done) -> Result<(), Memory>
     Ok(())
 }
 
-// Writes a line of a word and a number.
-fn number_line(out: &mut List<u8>, first: &[u8], number: u64) -> Result<(), Memory>
+/// Writes a line of a word and a number.
+pub(crate) fn number_line(out: &mut List<u8>, first: &[u8], number: u64) -> Result<(), Memory>
     ensures { OnOk result (out.new ≡ out.old ++ written (number_line first.now number ∷ [])) }
 {
     put(out, first)?;

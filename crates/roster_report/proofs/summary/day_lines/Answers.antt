@@ -1,0 +1,10 @@
+use Rattle.std.specs.Prelude.{codes}
+use Rattle.roster_report.specs.ReportText.{number_line}
+use Rattle.roster_report.proofs.Lines.{three_lines}
+use Rattle.roster_report.proofs.summary.day_lines.Goals as goal
+
+pub returns : goal.returns
+returns c =
+    let s = c.args.summary.now in
+    three_lines c.args.out.now _ _ _ (number_line (codes "make") s.number) (number_line (codes "periods") s.periods) (number_line (codes "arcs") s.arcs)
+    c.in_ok-number_line.ensures c.in_ok-number_line-2.ensures c.in_ok-number_line-3.ensures
