@@ -1,0 +1,127 @@
+ghost use Rattle.std.specs.Prelude.{ℕ, ◌≡◌, ◌≤◌, Bool, IfOk, IfErr};
+ghost use Rattle.branch_price.specs.Found.{IsFound, AreCounted};
+ghost use Rattle.parse_graph.specs.Graphs.{IsGraph, IsRefused};
+ghost use Rattle.roster_model.specs.declared.grammar.Grammar.{Grammar as Rules};
+ghost use Rattle.roster_model.specs.Sound.{IsSound};
+ghost use Rattle.roster_model.specs.SoundInstance.{IsSoundInstance};
+ghost use Rattle.day_solver.specs.Solutions.{HasArcCount, IsSolution};
+
+use crate::solution::Solution;
+use crate::text::cert_text;
+use branch_price::{Found, Master, Pool, search};
+use grammar_core::normalise;
+use parse_graph::{Graph, GraphFault};
+use roster_model::{Grammar, Instance, Memory};
+use std::alloc::Global;
+
+/// Returns the graph of a day.
+fn graph_of(alloc: Global, grammar: &Grammar) -> Result<Graph, GraphFault>
+    requires { IsSound grammar.now }
+    ensures graph { IfOk result (IsGraph grammar.now) }
+    ensures refused { IfErr result (IsRefused grammar.now) }
+{
+    let normal = normalise(alloc, grammar)?;
+    Graph::build(alloc, grammar, &normal)
+}
+
+/// Returns how many arcs a day has.
+fn arc_count(graph: &Graph) -> u32
+    ensures { (g : Rules) → IsGraph g graph.now → HasArcCount g result }
+{
+    graph.arcs().len() as u32
+}
+
+/// Searches with a new pool.
+fn searched<M: Master>(
+    alloc: Global,
+    instance: &Instance,
+    graph: &Graph,
+    turns: u32,
+    master: &mut M,
+) -> Result<Found, Memory>
+    requires sound { IsSoundInstance instance.now }
+    requires graph { IsGraph instance.now.grammar graph.now }
+    requires some { 1 ≤ turns }
+    requires few { turns ≤ 10000 }
+    ensures found { IfOk result (IsFound instance.now (M.strict master.old) turns) }
+    ensures counted { IfOk result (AreCounted instance.now (M.refused master.old) (M.refused master.new)) }
+    ensures rises { M.refused master.old ≤ M.refused master.new }
+    ensures strict_stays { M.strict master.new ≡ M.strict master.old }
+{
+    let mut pool = Pool::new(alloc);
+    search(alloc, instance, graph, turns, &mut pool, master)
+}
+
+/// Returns what was found with the text of its certificate.
+fn with_text(
+    alloc: Global,
+    instance: &Instance,
+    graph: &Graph,
+    found: Found,
+) -> Result<Solution, Memory>
+    requires sound { IsSoundInstance instance.now }
+    requires graph { IsGraph instance.now.grammar graph.now }
+    requires found { (strict : Bool) × (turns : ℕ) × (turns ≤ 10000) × IsFound instance.now strict turns found }
+    ensures solution { IfOk result (λ s. (strict : Bool) (turns : ℕ) → IsFound instance.now strict turns found
+        → IsSolution instance.now strict turns s) }
+    ensures same { IfOk result (λ s. s.found ≡ found) }
+{
+    let proof = cert_text(alloc, instance, &found.cert)?;
+    Ok(Solution {
+        found,
+        arcs: arc_count(graph),
+        proof,
+    })
+}
+
+/// Searches over a day's graph, and writes the certificate.
+fn solved<M: Master>(
+    alloc: Global,
+    instance: &Instance,
+    graph: &Graph,
+    turns: u32,
+    master: &mut M,
+) -> Result<Solution, Memory>
+    requires sound { IsSoundInstance instance.now }
+    requires graph { IsGraph instance.now.grammar graph.now }
+    requires some { 1 ≤ turns }
+    requires few { turns ≤ 10000 }
+    ensures solution { IfOk result (IsSolution instance.now (M.strict master.old) turns) }
+    ensures counted { IfOk result (λ s. AreCounted instance.now (M.refused master.old) (M.refused master.new)
+        s.found) }
+    ensures rises { M.refused master.old ≤ M.refused master.new }
+    ensures strict_stays { M.strict master.new ≡ M.strict master.old }
+{
+    let found = searched(alloc, instance, graph, turns, master)?;
+    with_text(alloc, instance, graph, found)
+}
+
+/// Searches a sound day for a roster of least cost, with at most so many turns, 1 to 10,000, and writes
+/// the certificate.
+///
+/// What is found is what `search` finds over the graph of the day. The text is that of the certificate,
+/// and it is read as that certificate; what the certificate states is true.
+///
+/// # Errors
+///
+/// `TooManyArcs` exactly where the day has more than 100,000 arcs, with their number, and `Memory` where
+/// memory runs out; the master's count may have risen then.
+pub fn solve_day<M: Master>(
+    alloc: Global,
+    instance: &Instance,
+    turns: u32,
+    master: &mut M,
+) -> Result<Solution, GraphFault>
+    requires sound { IsSoundInstance instance.now }
+    requires some { 1 ≤ turns }
+    requires few { turns ≤ 10000 }
+    ensures solution { IfOk result (IsSolution instance.now (M.strict master.old) turns) }
+    ensures counted { IfOk result (λ s. AreCounted instance.now (M.refused master.old) (M.refused master.new)
+        s.found) }
+    ensures refused { IfErr result (IsRefused instance.now.grammar) }
+    ensures rises { M.refused master.old ≤ M.refused master.new }
+    ensures strict_stays { M.strict master.new ≡ M.strict master.old }
+{
+    let graph = graph_of(alloc, &instance.grammar)?;
+    Ok(solved(alloc, instance, &graph, turns, master)?)
+}

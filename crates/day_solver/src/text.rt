@@ -1,0 +1,21 @@
+ghost use Rattle.std.specs.Prelude.{IfOk};
+ghost use Rattle.certificates.specs.Sound.{IsSoundCert};
+ghost use Rattle.roster_model.specs.SoundInstance.{IsSoundInstance};
+ghost use Rattle.day_solver.specs.Texts.{HasFewValues, IsTextOf};
+
+use bound_proof::{write_cert, written_again};
+use certificates::Cert;
+use roster_model::{Instance, List, Memory};
+use std::alloc::Global;
+
+/// Writes the text of a sound certificate of few prices and multipliers. By the law of written texts it
+/// is read as that certificate.
+pub(crate) fn cert_text(alloc: Global, instance: &Instance, cert: &Cert) -> Result<List<u8>, Memory>
+    requires sound { IsSoundInstance instance.now }
+    requires cert { IsSoundCert instance.now cert.now }
+    requires few { HasFewValues cert.now }
+    ensures { IfOk result (IsTextOf instance.now cert.now) }
+{
+    written_again();
+    write_cert(alloc, instance, cert)
+}
