@@ -1,0 +1,2 @@
+mod SoundTables
+mod Further

@@ -1,0 +1,10 @@
+use Rattle.std.proofs.Common.{ℕ, ◌<◌, pos, ◌≤ℤ◌, slice_get}
+use Rattle.linear_programs.specs.Program.{reduced}
+use Rattle.fraction.specs.Row.{at}
+use Rattle.tableau_rows.specs.Tables.{column_of}
+use Rattle.tableau_rows.proofs.reduced.find_cheaper.Given as goal
+
+-- the columns so far have no negative reduced cost
+abbrev pub invariant-loop-place : goal.invariant-loop-place
+invariant-loop-place l =
+    (k : ℕ) → k < l.place → pos 0 ≤ℤ reduced 3 (at l.y) l.kappa (column_of (slice_get l.columns k))

@@ -1,0 +1,204 @@
+use crate::listed::{ColumnParts, program_of};
+use crate::sound::is_sound;
+use fraction::{Frac, Tally};
+use std::alloc::Global;
+use std::process::Abort;
+use std::test::Fail;
+use tableau::{Basic, LpEnd, LpFault, solve};
+
+/// How a program ends.
+#[derive(Clone, Copy, Drop)]
+enum Answer {
+    End(End),
+    Wide,
+    Spent,
+}
+
+/// A value with its denominator, the prices of the rows, and the basic columns with their weights,
+/// that of the last row first.
+#[derive(Clone, Copy, Drop)]
+struct End {
+    value: (i128, i128),
+    prices: [i128; 3],
+    basic: [(usize, (i128, i128)); 3],
+}
+
+/// A program of three rows, whose unit columns have one cost, and its answer.
+#[derive(Clone, Copy, Drop)]
+struct Row {
+    right: [i64; 3],
+    cost: i64,
+    columns: &'static [ColumnParts],
+    pivots: u32,
+    answer: Answer,
+}
+
+const PAIRS: [ColumnParts; 3] = [(2, [1, 1, 0]), (2, [0, 1, 1]), (2, [1, 0, 1])];
+
+/// One in each row, by pairs of rows at 2.
+const PAIR_ROW: Row = Row {
+    right: [1, 1, 1],
+    cost: 10,
+    columns: &PAIRS,
+    pivots: 100,
+    answer: Answer::End(End {
+        value: (3, 1),
+        prices: [1, 1, 1],
+        basic: [(5, (1, 2)), (4, (1, 2)), (3, (1, 2))],
+    }),
+};
+
+/// The same with right sides of 0. The first two rows have equal ratios at the first step, and the
+/// column that enters there leaves again at the third.
+const ZERO_ROW: Row = Row {
+    right: [0, 0, 1],
+    answer: Answer::End(End {
+        value: (10, 1),
+        prices: [-8, -8, 10],
+        basic: [(2, (1, 1)), (4, (0, 1)), (5, (0, 1))],
+    }),
+    ..PAIR_ROW
+};
+
+/// Two steps, in each of which rows have equal ratios. The second takes the place of the first.
+const CHANGED_ROW: Row = Row {
+    columns: &[(5, [1, 1, 0]), (5, [1, 1, 1])],
+    pivots: 2,
+    answer: Answer::End(End {
+        value: (5, 1),
+        prices: [-15, 10, 10],
+        basic: [(2, (0, 1)), (1, (0, 1)), (4, (1, 1))],
+    }),
+    ..PAIR_ROW
+};
+
+/// Columns of what is beyond in a row, which cost nothing.
+const BEYOND_ROW: Row = Row {
+    right: [2, 1, 0],
+    columns: &[
+        (3, [1, 1, 0]),
+        (1, [1, 0, 1]),
+        (0, [0, 0, -1]),
+        (0, [0, -1, 0]),
+    ],
+    answer: Answer::End(End {
+        value: (4, 1),
+        prices: [1, 2, 0],
+        basic: [(4, (1, 1)), (3, (1, 1)), (5, (1, 1))],
+    }),
+    ..PAIR_ROW
+};
+
+const LARGE: [ColumnParts; 3] = [
+    (1, [(1 << 61) - 1, 0, 0]),
+    (1, [0, 1 << 61, 0]),
+    (1, [0, 0, (1 << 61) + 1]),
+];
+
+/// Columns with entries above 1.
+const LARGE_ROW: Row = Row {
+    columns: &LARGE,
+    answer: Answer::Wide,
+    ..PAIR_ROW
+};
+
+const ROWS: [Row; 10] = [
+    PAIR_ROW,
+    Row {
+        pivots: 2,
+        answer: Answer::Spent,
+        ..PAIR_ROW
+    },
+    Row {
+        pivots: 0,
+        answer: Answer::Spent,
+        ..PAIR_ROW
+    },
+    ZERO_ROW,
+    CHANGED_ROW,
+    Row {
+        pivots: 1,
+        answer: Answer::Spent,
+        ..CHANGED_ROW
+    },
+    BEYOND_ROW,
+    LARGE_ROW,
+    // Costs of units above 2^39.
+    Row {
+        cost: 1 << 40,
+        ..LARGE_ROW
+    },
+    // A value above 2^56 at the start.
+    Row {
+        right: [0, 1 << 20, 0],
+        cost: 1 << 39,
+        answer: Answer::Wide,
+        ..PAIR_ROW
+    },
+];
+
+/// Says whether a price of a row is this one.
+fn is_price(number: i128, kappa: i128, price: i128) -> bool {
+    kappa.checked_mul(price) == Some(number)
+}
+
+fn has_prices(numbers: &[i128], kappa: i128, prices: [i128; 3]) -> bool {
+    let [first, second, third] = numbers else {
+        return false;
+    };
+    is_price(*first, kappa, prices[0])
+        && is_price(*second, kappa, prices[1])
+        && is_price(*third, kappa, prices[2])
+}
+
+fn is_fraction(fraction: Frac, (num, den): (i128, i128)) -> bool {
+    fraction.num() == num && fraction.den() == den
+}
+
+fn is_basic(basic: Basic, (column, weight): (usize, (i128, i128))) -> bool {
+    basic.col == column && is_fraction(basic.x, weight)
+}
+
+fn has_basic(basic: &[Basic], expected: [(usize, (i128, i128)); 3]) -> bool {
+    let [first, second, third] = basic else {
+        return false;
+    };
+    is_basic(*first, expected[0]) && is_basic(*second, expected[1]) && is_basic(*third, expected[2])
+}
+
+/// Says whether the end of a path is this one.
+fn is_end(end: &LpEnd, expected: End) -> bool {
+    is_fraction(end.value, expected.value)
+        && has_prices(end.y.as_slice(), end.kappa, expected.prices)
+        && has_basic(end.basic.as_slice(), expected.basic)
+}
+
+/// Says whether an answer is that of the row, and whether the refusals that it comes from were counted.
+fn is_answer(row: Row, answer: &Result<LpEnd, LpFault>, counts: (u64, u64)) -> bool {
+    match (answer, row.answer) {
+        (Ok(end), Answer::End(expected)) => is_end(end, expected) && counts == (0, 0),
+        (Err(LpFault::Wide(_)), Answer::Wide) => counts == (1, 0),
+        (Err(LpFault::Spent { pivots }), Answer::Spent) => *pivots == row.pivots
+            && counts == (0, 1),
+        _ => false,
+    }
+}
+
+/// Solves the program of a row, and says whether its answer comes.
+fn is_answered(alloc: Global, row: Row) -> Result<bool, Fail> {
+    let mut program = program_of(alloc, row.right, row.cost, row.columns)?;
+    if !is_sound(&program) {
+        return Err(Fail::from("no sound program"));
+    }
+    let mut tally = Tally::new();
+    let answer = solve(alloc, &mut program, &row.right, row.pivots, &mut tally);
+    Ok(is_answer(row, &answer, (tally.wide(), tally.spent())))
+}
+
+#[test]
+fn programs_of_three_rows(rt: HostRuntime) -> Result<(), Fail> {
+    for (number, row) in ROWS.iter().enumerate() {
+        assert!(rt; is_answered(rt.alloc(), *row)?, "row {number}");
+    }
+    Ok(())
+}
