@@ -12,3 +12,4 @@ pub mod OneNode
 pub mod Looping
 pub mod ShownLimit
 pub mod Ending
+pub mod Bettered

@@ -12,6 +12,7 @@ ghost use Rattle.branch_price.specs.Desks.{IsDesk};
 ghost use Rattle.branch_price.specs.Steps.{AsksNode, IsTurned, IsGivenUp, IsSolved};
 
 use crate::choose::plan_for;
+use crate::completed::offer_at_some;
 use crate::counts::arc_at;
 use crate::desk::{Desk, want};
 use crate::pinned::{offer_least, pinned_value};
@@ -141,6 +142,18 @@ fn best_leaf(
         value,
         pool,
         &mut desk.rosters,
+        &mut progress.best,
+    )?;
+    let processed = progress.tree.processed();
+    offer_at_some(
+        alloc,
+        instance,
+        graph,
+        weights,
+        processed,
+        leaf.bound,
+        desk,
+        pool,
         &mut progress.best,
     )?;
     progress.tree.price(leaf, prices, value, plan)

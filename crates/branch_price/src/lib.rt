@@ -7,6 +7,7 @@
 
 mod branching;
 mod choose;
+mod completed;
 mod counts;
 mod desk;
 mod found;

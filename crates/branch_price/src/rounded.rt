@@ -50,7 +50,11 @@ fn push_copies(
 }
 
 /// Adds each tree as often as the whole part of its weight says.
-fn push_wholes(columns: &mut List<usize>, weights: &[Weight], most: usize) -> Result<(), Memory>
+pub(crate) fn push_wholes(
+    columns: &mut List<usize>,
+    weights: &[Weight],
+    most: usize,
+) -> Result<(), Memory>
     ensures { (n : ℕ) → All (λ w. w.column < n) weights.now → AreFewer n columns.old
         → OnOk result (AreFewer n columns.new) }
 {

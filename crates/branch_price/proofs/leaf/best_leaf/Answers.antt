@@ -4,7 +4,9 @@ use Rattle.roster_model.specs.declared.instance.Cut.{Cut}
 use Rattle.bound_laws.specs.Priced.{IsPricedValue}
 use Rattle.branch_price.specs.Steps.{IsShown}
 use Rattle.branch_price.proofs.Leaves.{leaf-cuts}
-use Rattle.branch_price.proofs.Settled.{small-cuts, is-shown, priced-node}
+use Rattle.candidate_rosters.proofs.Having.{grown-more}
+use Rattle.branch_price.proofs.Bettered.{better-more, plan-later, weights-later}
+use Rattle.branch_price.proofs.Settled.{small-cuts, is-shown, priced-node, shown-within}
 use Rattle.branch_price.proofs.Processed.{asks-priced, turned-by, loose-path}
 use Rattle.branch_price.proofs.leaf.best_leaf.Goals as goal
 
@@ -25,6 +27,20 @@ plan_for-requires-clause-shown c =
     subst (λ (cs : List Cut). IsShown i cs c.args.pool.now c.args.weights.now c.shown_value-value.result) (sym c.cuts-cuts.ensures)
     (is-shown i p.cuts c.args.pool.now c.args.prices c.args.weights.now c.shown_value-value.result are c.requires.solved value)
 
+pub offer_at_some-requires-clause-weights : goal.offer_at_some-requires-clause-weights
+offer_at_some-requires-clause-weights c =
+    let r = c.requires.node in
+    let i = c.args.instance.now in
+    let p = c.args.path.now in
+    let are = leaf-cuts i c.args.graph.now r.0 r.1 r.2 r.3 c.args.progress.now c.args.leaf p.cuts c.requires.sound r.4 in
+    let value = subst (λ (cs : List Cut). IsPricedValue i c.args.prices cs c.shown_value-value.result) c.cuts-cuts.ensures c.shown_value-value.ensures.value in
+    weights-later c.args.pool.now c.plan_for.new.pool c.args.weights.now c.plan_for.ensures.grown
+    (shown-within i p.cuts c.args.pool.now c.args.weights.now c.shown_value-value.result
+    (is-shown i p.cuts c.args.pool.now c.args.prices c.args.weights.now c.shown_value-value.result are c.requires.solved value))
+
+pub returns-clause-grown : goal.returns-clause-grown
+returns-clause-grown c = grown-more c.args.pool.now c.plan_for.new.pool c.offer_at_some.new.pool c.plan_for.ensures.grown c.offer_at_some.ensures.grown
+
 pub price-requires : goal.price-requires
 price-requires c =
     let r = c.requires.node in
@@ -35,8 +51,10 @@ price-requires c =
     let value = subst (λ (cs : List Cut). IsPricedValue i c.args.prices cs c.shown_value-value.result) c.cuts-cuts.ensures c.shown_value-value.ensures.value in
     let priced = priced-node i p.cuts c.args.pool.now c.args.prices c.args.weights.now c.shown_value-value.result are c.requires.solved value in
     let loose = loose-path i v p.cuts p.arc_box c.requires.path.left c.args.loose c.requires.loose c.requires.graph in
-    asks-priced i v r.0 r.1 r.2 r.3 c.args.progress.now c.args.leaf p.cuts c.plan_for.new.best c.args.prices c.shown_value-value.result c.in_ok-plan.plan r.4
-    c.in_ok-plan.ensures.better priced loose (rw c.cuts-cuts.ensures at c.in_ok-plan.ensures.plan)
+    let better = better-more i c.args.progress.now.best c.plan_for.new.best c.offer_at_some.new.best c.in_ok-plan.ensures.better c.offer_at_some.ensures.better in
+    let plan = plan-later i v p.cuts c.in_ok-plan.plan c.shown_value-value.result c.plan_for.new.best c.offer_at_some.new.best c.offer_at_some.ensures.better (rw c.cuts-cuts.ensures at c.in_ok-plan.ensures.plan) in
+    asks-priced i v r.0 r.1 r.2 r.3 c.args.progress.now c.args.leaf p.cuts c.offer_at_some.new.best c.args.prices c.shown_value-value.result c.in_ok-plan.plan r.4
+    better priced loose plan
 
 pub returns-clause-turned : goal.returns-clause-turned
 returns-clause-turned c =
@@ -45,12 +63,13 @@ returns-clause-turned c =
     let p = c.args.path.now in
     let value = subst (λ (cs : List Cut). IsPricedValue i c.args.prices cs c.shown_value-value.result) c.cuts-cuts.ensures c.shown_value-value.ensures.value in
     let loose = loose-path i v p.cuts p.arc_box c.requires.path.left c.args.loose c.requires.loose c.requires.graph in
-    let plan = rw c.cuts-cuts.ensures at c.in_ok-plan.ensures.plan in
+    let better = better-more i c.args.progress.now.best c.plan_for.new.best c.offer_at_some.new.best c.in_ok-plan.ensures.better c.offer_at_some.ensures.better in
+    let plan = plan-later i v p.cuts c.in_ok-plan.plan c.shown_value-value.result c.plan_for.new.best c.offer_at_some.new.best c.offer_at_some.ensures.better (rw c.cuts-cuts.ensures at c.in_ok-plan.ensures.plan) in
     on_ok_weaker c.price.result
     (λ done strict before now low asked.
     let are = leaf-cuts i v strict before now low c.args.progress.now c.args.leaf p.cuts c.requires.sound asked in
     let priced = priced-node i p.cuts c.args.pool.now c.args.prices c.args.weights.now c.shown_value-value.result are c.requires.solved value in
-    turned-by i v strict before now now low c.args.progress.now c.args.leaf p.cuts c.plan_for.new.best c.price.new.self asked c.in_ok-plan.ensures.better
-    (done (asks-priced i v strict before now low c.args.progress.now c.args.leaf p.cuts c.plan_for.new.best c.args.prices c.shown_value-value.result c.in_ok-plan.plan asked
-    c.in_ok-plan.ensures.better priced loose plan)))
+    turned-by i v strict before now now low c.args.progress.now c.args.leaf p.cuts c.offer_at_some.new.best c.price.new.self asked better
+    (done (asks-priced i v strict before now low c.args.progress.now c.args.leaf p.cuts c.offer_at_some.new.best c.args.prices c.shown_value-value.result c.in_ok-plan.plan asked
+    better priced loose plan)))
     c.price.ensures

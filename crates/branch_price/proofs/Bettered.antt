@@ -1,0 +1,28 @@
+-- Best rosters and pools after two steps.
+use Rattle.std.proofs.Common.{All, ℕ, ◌<◌, ◌≤◌, Option, None, Some, List, arith, length, length-append, ap, ◌∙◌}
+use Rattle.std.specs.Prelude.{MatchOption}
+use Rattle.roster_model.specs.declared.instance.Cut.{Cut}
+use Rattle.roster_model.specs.declared.instance.Instance.{Instance}
+use Rattle.parse_graph.specs.Graphs.{GraphView}
+use Rattle.tree_pool.specs.Pools.{PoolTree, IsGrown}
+use Rattle.node_master.specs.declared.ends.Weight.{Weight}
+use Rattle.candidate_rosters.specs.declared.roster.Roster.{Roster}
+use Rattle.offers.specs.Offers.{limit_of, IsBetter}
+use Rattle.open_nodes.specs.declared.leaf.Plan.{Plan}
+use Rattle.search_tree.specs.Trees.{IsPlan}
+
+pub better-more : (i : Instance) (a b c : Option Roster) → IsBetter i a b → IsBetter i b c → IsBetter i a c
+better-more i a b c h k = let f = h.falls in let l = k.falls in record { falls = omega (arith, f, l); good = k.good; start = λ s. k.start (h.start s) }
+
+-- a plan stays one where the best roster becomes better
+pub plan-later : (i : Instance) (v : GraphView) (cuts : List Cut) (plan : Option Plan) (value : ℕ) (b c : Option Roster) → IsBetter i b c
+    → MatchOption plan (limit_of i b ≤ value) (IsPlan i v cuts) → MatchOption plan (limit_of i c ≤ value) (IsPlan i v cuts)
+plan-later i v cuts None value b c better h = let l = better.falls in omega (arith, l, h)
+plan-later i v cuts (Some p) value b c better h = h
+
+-- columns of the pool are in the one that it has become
+pub weights-later : (old new : List PoolTree) (ws : List Weight) → IsGrown old new → All (λ (w : Weight). w.column < length old) ws → All (λ (w : Weight). w.column < length new) ws
+weights-later old new ws grown all k d lt =
+    let e = ap length grown.1 ∙ length-append old grown.0 in
+    let h = all k d lt in
+    omega (arith, e, h)
