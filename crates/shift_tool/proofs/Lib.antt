@@ -3,3 +3,8 @@ mod Derivations
 pub mod Readers
 pub mod Checks
 pub mod OneAnswerLemmas
+pub mod Writers
+pub mod Solves
+pub mod Same
+pub mod OneEndLemmas
+pub mod Makes

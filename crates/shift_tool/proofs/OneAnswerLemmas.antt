@@ -30,23 +30,13 @@ use Rattle.shift_tool.specs.Check as checks
 use Rattle.shift_tool.specs.Explain.{SaysTree, SaysNone, Derivation, Explanation, AnswersExplain, SaysFault}
 use Rattle.shift_tool.specs.Explain as explains
 use Rattle.shift_tool.specs.OneAnswer.{AreSameButTree, HasOneAnswer}
-use Rattle.shift_tool.specs.Form.{Form, explain, check, none, AnswersNoForm}
+use Rattle.shift_tool.specs.Form.{Form, explain, check, solve, make, none, AnswersNoForm}
+use Rattle.shift_tool.proofs.OneEndLemmas.{solve-ends, make-ends}
+use Rattle.shift_tool.proofs.Same.{same_text, same_ok, same_err, not_both, same_grammar, no_fault, faults_once}
 
 -- equal statuses and equal texts
 abbrev AreSame : ℕ → ℕ → List ℕ → List ℕ → Type 0
 AreSame s t a b = (s ≡ t) × (a ≡ b)
-
-same_text : (held : Texts) (name t u : List ℕ) → fin.get held name ≡ Some t → fin.get held name ≡ Some u → t ≡ u
-same_text held name t u e f = let g : Some t ≡ Some u = sym e ∙ f in cc
-
-same_ok : {A E : Type 0} (r : Result A E) (x y : A) → r ≡ Ok x → r ≡ Ok y → x ≡ y
-same_ok r x y e f = let g : Ok x ≡ Ok y = sym e ∙ f in cc
-
-same_err : {A E : Type 0} (r : Result A E) (x y : E) → r ≡ Err x → r ≡ Err y → x ≡ y
-same_err r x y e f = let g : Err x ≡ Err y = sym e ∙ f in cc
-
-not_both : {A E : Type 0} (r : Result A E) (x : A) (y : E) → r ≡ Ok x → r ≡ Err y → ⊥
-not_both r x y e f = let g : Ok x ≡ Err y = sym e ∙ f in cc
 
 -- a certificate is judged in one way
 judged_once : (i : Instance) (c : Cert) (s t : ℕ) (a b : List ℕ) → Judgement i c s a → Judgement i c t b → AreSame s t a b
@@ -83,19 +73,6 @@ demands_once : (held : Texts) (g : Grammar) (name proof_name : List ℕ) (s t : 
 demands_once held g name proof_name s t a b h k =
     demand_once held g k.text proof_name s t a b
     (subst (λ (x : List ℕ). DemandAnswers (Some held) g x proof_name s a) (same_text held name h.text k.text h.holds k.holds) h.answers) k.answers
-
--- a rules text has one grammar
-same_grammar : (text : List ℕ) (g h : Grammar) → IsReading text (Ok g) → IsReading text (Ok h) → g ≡ h
-same_grammar text g h r q = let e : Ok g ≡ Ok h = one_reading text (Ok g) (Ok h) r q in cc
-
-same_fault : (text : List ℕ) (e f : RulesFault) → IsReading text (Err e) → IsReading text (Err f) → e ≡ f
-same_fault text e f r q = let x : Err e ≡ Err f = one_reading text (Err e) (Err f) r q in cc
-
-no_fault : (text : List ℕ) (g : Grammar) (e : RulesFault) → IsReading text (Ok g) → IsReading text (Err e) → ⊥
-no_fault text g e r q = let x : Ok g ≡ Err e = one_reading text (Ok g) (Err e) r q in cc
-
-faults_once : (text a b : List ℕ) → SaysFault text a → SaysFault text b → a ≡ b
-faults_once text a b h k = h.line ∙ ap (λ (x : RulesFault). fault_line x) (same_fault text h.fault k.fault h.reading k.reading) ∙ sym k.line
 
 rules_once : (held : Texts) (text demand proof : List ℕ) (s t : ℕ) (a b : List ℕ) → RulesAnswers (Some held) text demand proof s a → RulesAnswers (Some held) text demand proof t b → AreSame s t a b
 rules_once held text demand proof s t a b (checks.RulesAnswers.accepted g x xs e h) (checks.RulesAnswers.accepted f y ys q k) =
@@ -148,4 +125,6 @@ explain_once held rules word s t a b h k =
 pub has-one-answer : (f : Form) → HasOneAnswer f
 has-one-answer (explain rules word) = λ held s t a b. explain_once held rules word s t a b
 has-one-answer (check rules demand proof) = λ held s t a b. check_once held rules demand proof s t a b
+has-one-answer (solve rules demand proof turns) = λ held. solve-ends held rules demand turns
+has-one-answer (make number proof turns) = make-ends number turns
 has-one-answer none = λ s t a b h k. (h.two ∙ sym k.two, h.line ∙ sym k.line)

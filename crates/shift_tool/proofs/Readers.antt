@@ -28,7 +28,7 @@ module _ (A B : ℕ → List ℕ → Type 0) (each : (status : ℕ) (output : Li
     steady = λ steady holds few. r.steady steady (more holds) few;
   }
 
-more_faults : (a b c : ℕ) → a ≤ b → one_more b ≤ c → one_more a ≤ c
+pub more_faults : (a b c : ℕ) → a ≤ b → one_more b ≤ c → one_more a ≤ c
 more_faults a b c le h = grind (arith)
 
 -- a name that is held beside others is held
@@ -36,7 +36,7 @@ first_held : (held : Option Texts) (name : List ℕ) (names : List (List ℕ)) �
 first_held None name names h texts e = absurd h
 first_held (Some t) name names h texts e = let same : t ≡ texts = cc in rw (sym same) h.0
 
-others_held : (held : Option Texts) (name : List ℕ) (names : List (List ℕ)) → HoldsAll held (name ∷ names) → HoldsAll held names
+pub others_held : (held : Option Texts) (name : List ℕ) (names : List (List ℕ)) → HoldsAll held (name ∷ names) → HoldsAll held names
 others_held None name names h = absurd h
 others_held (Some t) name names h = h.1
 
@@ -48,7 +48,7 @@ pub some_held : (held : Option Texts) (name : List ℕ) (names : List (List ℕ)
 some_held None name names h = absurd h
 some_held (Some t) name names h = tt
 
-quiet_now : (name : List ℕ) (names : List (List ℕ)) (held : Option Texts) (n m : ℕ) → IfSome held (λ texts. IsSome (fin.get texts name) → m ≡ n) → HoldsAll held (name ∷ names) → m ≡ n
+pub quiet_now : (name : List ℕ) (names : List (List ℕ)) (held : Option Texts) (n m : ℕ) → IfSome held (λ texts. IsSome (fin.get texts name) → m ≡ n) → HoldsAll held (name ∷ names) → m ≡ n
 quiet_now name names None n m q h = absurd h
 quiet_now name names (Some t) n m q h = q h.0
 
@@ -83,7 +83,7 @@ part_fronts a None new h = tt
 part_fronts a (Some s) None h = absurd h
 part_fronts a (Some s) (Some t) h = part_front a s t h
 
-no_more : (n : ℕ) → n < 2 ^ 64 - 1 → one_more n ≤ n → ⊥
+pub no_more : (n : ℕ) → n < 2 ^ 64 - 1 → one_more n ≤ n → ⊥
 no_more n few h = omega (arith, few, h)
 
 pub said_reader : (a : Answer) (before after : Told) (status : ℕ) → IsSaid a before after status → IsReader (IsAnswer (Ok a)) [] before after status

@@ -1,18 +1,50 @@
 -- What the words of the command line ask for.
-use Rattle.std.specs.Prelude.{ℕ, ◌≡◌, List, [], ◌∷◌, codes, if◌then◌else◌}
+use Rattle.std.specs.Prelude.{ℕ, ◌≡◌, List, [], ◌∷◌, Option, None, Some, Result, Ok, Err, codes, if◌then◌else◌}
 use Rattle.std.specs.Str.{bytes_eq}
+use Rattle.text_lines.specs.Fields.{number_at}
 
--- the words `explain RULES WORD` or `check RULES DEMAND PROOF`; no other words have a form yet
+-- the words `explain RULES WORD`, `check RULES DEMAND PROOF`, `solve RULES DEMAND PROOF TURNS` or
+-- `make NUMBER PROOF TURNS`; no other words have a form
 pub data Form : Type 0 where
   explain : List ℕ → List ℕ → Form
   check : List ℕ → List ℕ → List ℕ → Form
+  solve : List ℕ → List ℕ → List ℕ → ℕ → Form
+  make : ℕ → List ℕ → ℕ → Form
   none : Form
+
+abbrev pub number_or_none : Result ℕ (Unit {0}) → Option ℕ
+number_or_none (Ok n) = Some n
+number_or_none (Err e) = None
+
+-- the turns that a word says, 1 to 10,000
+abbrev pub turns_of : List ℕ → Option ℕ
+turns_of w = number_or_none (number_at tt tt 1 10000 w)
+
+-- the number of a day that a word says, 0 to 4,294,967,295
+abbrev pub number_of_make : List ℕ → Option ℕ
+number_of_make w = number_or_none (number_at tt tt 0 4294967295 w)
+
+abbrev pub solve_form : List ℕ → List ℕ → List ℕ → Option ℕ → Form
+solve_form rules demand proof (Some turns) = solve rules demand proof turns
+solve_form rules demand proof None = none
+
+abbrev pub make_form : Option ℕ → List ℕ → Option ℕ → Form
+make_form (Some number) proof (Some turns) = make number proof turns
+make_form (Some number) proof None = none
+make_form None proof turns = none
+
+-- four words
+abbrev pub long_form : List ℕ → List ℕ → List ℕ → List ℕ → Form
+long_form command a b c =
+    if bytes_eq command (codes "check") then check a b c
+    else (if bytes_eq command (codes "make") then make_form (number_of_make a) b (turns_of c) else none)
 
 abbrev pub form_of : List (List ℕ) → Form
 form_of (command ∷ rules ∷ word ∷ []) =
     if bytes_eq command (codes "explain") then explain rules word else none
-form_of (command ∷ rules ∷ demand ∷ proof ∷ []) =
-    if bytes_eq command (codes "check") then check rules demand proof else none
+form_of (command ∷ a ∷ b ∷ c ∷ []) = long_form command a b c
+form_of (command ∷ rules ∷ demand ∷ proof ∷ turns ∷ []) =
+    if bytes_eq command (codes "solve") then solve_form rules demand proof (turns_of turns) else none
 form_of _ = none
 
 -- what is said where the words have no form

@@ -6,3 +6,6 @@ pub mod Check
 pub mod Run
 pub mod OneAnswer
 pub mod Asked
+pub mod Writer
+pub mod Solve
+pub mod Make

@@ -1,12 +1,15 @@
 -- The same texts have the same answer.
-use Rattle.std.specs.Prelude.{ℕ, ◌≡◌, ◌≢◌, ◌⊎◌, List, Some}
+use Rattle.std.specs.Prelude.{ℕ, ◌≡◌, ◌≢◌, ◌⊎◌, List, Option, None, Some}
 use Rattle.roster_model.specs.declared.grammar.Grammar.{Grammar}
 use Rattle.roster_model.specs.declared.grammar.Step.{Step}
 use Rattle.shelf.specs.Shelf.{Texts}
 use Rattle.shift_report.specs.TreeText.{tree_text}
 use Rattle.shift_tool.specs.Check.{AnswersCheck}
 use Rattle.shift_tool.specs.Explain.{AnswersExplain}
-use Rattle.shift_tool.specs.Form.{Form, explain, check, none, AnswersNoForm}
+use Rattle.shift_tool.specs.Form.{Form, explain, check, solve, make, none, AnswersNoForm}
+use Rattle.shift_tool.specs.Make.{AnswersMake}
+use Rattle.shift_tool.specs.Solve.{MasterView, AnswersSolve}
+use Rattle.shift_tool.specs.Writer.{Answers}
 
 -- two derivations of a word, at one price
 pub record AreTreesAtOnePrice (word a b : List ℕ) : Type 0 where
@@ -21,8 +24,19 @@ pub record AreTreesAtOnePrice (word a b : List ℕ) : Type 0 where
 abbrev pub AreSameButTree : List ℕ → List ℕ → List ℕ → Type 0
 AreSameButTree word a b = (a ≡ b) ⊎ AreTreesAtOnePrice word a b
 
+-- two answers of a command that searches: a refusal of the texts is the only answer to them, and two searches
+-- end alike unless one of them used up its turns
+pub record EndAlike (s t : ℕ) (a b : List ℕ) (x y : Option (List ℕ)) : Type 0 where
+  pub refused : x ≡ None → (y ≡ None) × (s ≡ t) × (a ≡ b)
+  pub found : s ≢ 8 → t ≢ 8 → s ≡ t
+
+-- whichever searches gave them
+abbrev pub HaveOneEnd : (MasterView → Answers) → Type 0
+HaveOneEnd A = (m n : MasterView) (s t : ℕ) (a b : List ℕ) (x y : Option (List ℕ)) → A m s a x → A n t b y
+    → EndAlike s t a b x y
+
 -- whatever two answers the words allow over the same texts, their statuses are equal, and what is said
--- is equal too, but for the tree of `explain`
+-- is equal too, but for the tree of `explain` and for what a search finds
 abbrev pub HasOneAnswer : Form → Type 0
 HasOneAnswer (explain rules word) =
     (held : Texts) (s t : ℕ) (a b : List ℕ) → AnswersExplain (Some held) rules word s a
@@ -30,4 +44,7 @@ HasOneAnswer (explain rules word) =
 HasOneAnswer (check rules demand proof) =
     (held : Texts) (s t : ℕ) (a b : List ℕ) → AnswersCheck (Some held) rules demand proof s a
     → AnswersCheck (Some held) rules demand proof t b → (s ≡ t) × (a ≡ b)
+HasOneAnswer (solve rules demand proof turns) =
+    (held : Texts) → HaveOneEnd (λ m. AnswersSolve (Some held) rules demand m turns)
+HasOneAnswer (make number proof turns) = HaveOneEnd (λ m. AnswersMake number m turns)
 HasOneAnswer none = (s t : ℕ) (a b : List ℕ) → AnswersNoForm s a → AnswersNoForm t b → (s ≡ t) × (a ≡ b)

@@ -1,14 +1,22 @@
 -- What the program does, by its words.
 use Rattle.std.specs.Prelude.{ℕ, [], ◌∷◌}
-use Rattle.shift_tool.specs.Form.{Form, explain, check, none, AnswersNoForm}
+use Rattle.shift_tool.specs.Form.{Form, explain, check, solve, make, none, AnswersNoForm}
 use Rattle.shelf.specs.Shelf.{Told}
 use Rattle.shift_tool.specs.Reader.{IsReader}
+use Rattle.shift_tool.specs.Writer.{IsWriter}
 use Rattle.shift_tool.specs.Explain.{AnswersExplain}
 use Rattle.shift_tool.specs.Check.{AnswersCheck}
+use Rattle.shift_tool.specs.Solve.{MasterView, AnswersSolve}
+use Rattle.shift_tool.specs.Make.{AnswersMake}
 
-abbrev pub Does : Form → Told → Told → ℕ → Type 0
-Does (explain rules word) before after status =
+-- over a shelf before and after, and with a master that was lent
+abbrev pub Does : Form → Told → Told → MasterView → ℕ → Type 0
+Does (explain rules word) before after m status =
     IsReader (AnswersExplain before.held rules word) (rules ∷ []) before after status
-Does (check rules demand proof) before after status =
+Does (check rules demand proof) before after m status =
     IsReader (AnswersCheck before.held rules demand proof) (rules ∷ demand ∷ proof ∷ []) before after status
-Does none before after status = IsReader AnswersNoForm [] before after status
+Does (solve rules demand proof turns) before after m status =
+    IsWriter (AnswersSolve before.held rules demand m turns) (rules ∷ demand ∷ []) proof before after status
+Does (make number proof turns) before after m status =
+    IsWriter (AnswersMake number m turns) [] proof before after status
+Does none before after m status = IsReader AnswersNoForm [] before after status

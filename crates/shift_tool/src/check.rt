@@ -30,8 +30,8 @@ use shelf::Shelf;
 use shift_report::write_verdict;
 use std::alloc::Global;
 
-// Says why a demand text is refused.
-fn demand_refusal(alloc: Global, fault: DemandFault) -> Result<Answer, Memory>
+/// Says why a demand text is refused.
+pub fn demand_refusal(alloc: Global, fault: DemandFault) -> Result<Answer, Memory>
     ensures { IfOk result (λ a. (fault ≢ DemandFault.Memory) × (a.status ≡ 4)
         × (a.output ≡ demand_fault.fault_line fault)) }
 {

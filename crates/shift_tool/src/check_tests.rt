@@ -1,58 +1,5 @@
-use crate::run::run;
-use crate::tests::{CYCLE, G1, G4, owned};
-use shelf::MemoryShelf;
-use std::alloc::Global;
+use crate::tests::{HALVES, answer, shelf};
 use std::test::Fail;
-
-const ONE_PERIOD: &str = "periods 1
-work a
-idle .
-start S
-rule S 0 = W
-rule S 0 = R W
-rule S 0 = W R
-rule S 0 = R W R
-rule W 2 = A len 2 3
-rule A 1 = 'a'
-rule A 1 = 'a' A
-rule R 0 = '.'
-rule R 0 = '.' R
-";
-
-const G2: &str = "periods 3
-work a
-idle .
-start S
-rule S 2 = 'a' 'a' '.'
-rule S 2 = '.' 'a' 'a'
-rule S 2 = 'a' '.' 'a'
-";
-
-const G6: &str = "periods 2
-work a
-idle .
-start S
-rule S 0 = F
-rule S 0 = H
-rule F 3 = 'a' 'a'
-rule H 1 = 'a' '.'
-rule H 1 = '.' 'a'
-";
-
-const HALVES: &str = "proof 1
-cost 4
-bound 4
-shift .aa 2
-shift aa. 2
-split 1 0 1 3 1 0
-priced 1
-price a 2 2 0
-mult 1 2
-priced 1
-price a 0 0 2
-mult 1 2
-end
-";
 
 // A certificate, by the names of its rules and demand, the status and what is said.
 const CASES: [(&str, &str, &str, u8, &str); 31] = [
@@ -257,103 +204,49 @@ const CASES: [(&str, &str, &str, u8, &str); 31] = [
     ),
 ];
 
-// The names of a rules and a demand text, the status and what is said.
-const REFUSED: [(&str, &str, u8, &str); 7] = [
-    (
-        "cycle",
-        "absent",
-        3,
-        "rules: line 3: a name leads back to itself by one-symbol rules\n",
-    ),
-    ("g1", "absent", 6, ""),
-    ("g1", "short", 4, "demand: line 2: wrong count of needs\n"),
-    ("g1", "fallen", 4, "demand: line 1: out of range\n"),
-    ("g1", "idle", 4, "demand: line 2: not a work code\n"),
-    (
-        "g6",
-        "mixed",
-        4,
-        "demand: line 4: heads and groups together\n",
-    ),
-    ("g1", "q1", 6, ""),
-];
-
-fn shelf(alloc: Global, failing: &[u32]) -> Result<MemoryShelf, Fail> {
-    let mut shelf = MemoryShelf::new(alloc, failing.to_vec(alloc)?);
-    let texts = [
-        ("g1", G1),
-        ("q1", "heads 0 2\nneed a 10 3 1 2 2 1\n"),
-        ("one", ONE_PERIOD),
-        ("some", "heads 1 2\nneed a 10 3 1\n"),
-        ("any", "heads 0 2\nneed a 10 3 1\n"),
-        ("g2", G2),
-        ("q2", "heads 0 3\nneed a 10 0 1 1 1\n"),
-        ("floors", "heads 0 3\nneed a 10 0 1 1 1\nleast a 1 1 1\n"),
-        (
-            "exact",
-            "heads 0 3\nneed a 10 0 1 1 1\nleast a 1 1 1\nmost a 1 1 1\n",
-        ),
-        ("g4", G4),
-        ("q4", "heads 1 1\nneed a 10 0 1 1\n"),
-        ("g6", G6),
-        ("q7", "group F 0 1\ngroup H 1 2\nneed a 10 2 2 1\n"),
-        ("cycle", CYCLE),
-        ("short", "heads 0 2\nneed a 10 3 1 2 2\n"),
-        ("fallen", "heads 2 1\n"),
-        ("idle", "heads 0 2\nneed . 10 3 1 2 2 1\n"),
-        (
-            "mixed",
-            "group F 0 1\ngroup H 1 2\nneed a 10 2 2 1\nheads 0 3\n",
-        ),
-    ];
-    for (name, text) in texts {
-        shelf.put(name, text.as_bytes())?;
-    }
-    Ok(shelf)
-}
-
 #[test]
 fn certificates_have_their_answers(rt: HostRuntime) -> Result<(), Fail> {
     let alloc = rt.alloc();
     for (rules, demand, proof, status, said) in CASES {
         let mut shelf = shelf(alloc, &[])?;
         shelf.put("proof", proof.as_bytes())?;
-        let words = owned(alloc, &["check", rules, demand, "proof"])?;
-        let answer = run(alloc, &mut shelf, words.as_slice());
+        let found = answer(alloc, &mut shelf, &["check", rules, demand, "proof"])?;
         assert_eq!(rt; shelf.said(), said.as_bytes(), "{proof}");
-        assert_eq!(rt; answer, status, "{proof}");
+        assert_eq!(rt; found, status, "{proof}");
         assert_eq!(rt; shelf.faults(), 0, "{proof}");
     }
     Ok(())
 }
 
+// The number of bytes of a certificate, and the number without its last line feed.
+const WHOLE: usize = 133;
+const UNENDED: usize = 132;
+
 #[test]
-fn texts_are_read_in_order(rt: HostRuntime) -> Result<(), Fail> {
+fn cut_texts_are_refused(rt: HostRuntime) -> Result<(), Fail> {
     let alloc = rt.alloc();
-    for (rules, demand, status, said) in REFUSED {
+    let text = HALVES.as_bytes();
+    assert_eq!(rt; text.len(), WHOLE);
+    for length in 0..WHOLE {
         let mut shelf = shelf(alloc, &[])?;
-        let words = owned(alloc, &["check", rules, demand, "absent"])?;
-        let answer = run(alloc, &mut shelf, words.as_slice());
-        assert_eq!(rt; answer, status, "{rules} {demand}");
-        assert_eq!(rt; shelf.said(), said.as_bytes(), "{rules} {demand}");
+        shelf.put("cut", &text[..length])?;
+        let status = answer(alloc, &mut shelf, &["check", "g2", "q2", "cut"])?;
+        let expected = if length < UNENDED { 5 } else { 0 };
+        assert_eq!(rt; status, expected, "{length} bytes");
     }
     Ok(())
 }
 
 #[test]
-fn a_refused_call_ends_the_check(rt: HostRuntime) -> Result<(), Fail> {
+fn turned_texts_are_refused(rt: HostRuntime) -> Result<(), Fail> {
     let alloc = rt.alloc();
-    for (failing, said) in [(1, ""), (2, ""), (3, ""), (4, "yes\ncost ")] {
-        let mut shelf = shelf(alloc, &[failing])?;
-        shelf.put("proof", HALVES.as_bytes())?;
-        let words = owned(alloc, &["check", "g2", "q2", "proof"])?;
-        assert_eq!(rt;
-            run(alloc, &mut shelf, words.as_slice()),
-            6,
-            "at call {failing}"
-        );
-        assert_eq!(rt; shelf.said(), said.as_bytes(), "at call {failing}");
-        assert_eq!(rt; shelf.faults(), 1, "at call {failing}");
+    for place in 0..WHOLE {
+        let mut text = HALVES.as_bytes().to_vec(alloc)?;
+        text[place] ^= 0x80;
+        let mut shelf = shelf(alloc, &[])?;
+        shelf.put("turned", text.as_slice())?;
+        let status = answer(alloc, &mut shelf, &["check", "g2", "q2", "turned"])?;
+        assert_eq!(rt; status, 5, "at byte {place}");
     }
     Ok(())
 }

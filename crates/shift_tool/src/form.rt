@@ -1,6 +1,8 @@
-ghost use Rattle.std.specs.Prelude.{◌≡◌, map, string_bytes};
-ghost use Rattle.shift_tool.specs.Form.{form_of};
-ghost use Rattle.shift_tool.specs.Asked.{asked};
+ghost use Rattle.std.specs.Prelude.{◌≡◌, IfSome, map, string_bytes};
+ghost use Rattle.shift_tool.specs.Form.{form_of, number_of_make, make_form, solve_form, turns_of};
+ghost use Rattle.shift_tool.specs.Asked.{asked, AreTurns, HasTurns};
+
+use text_lines::read_within;
 
 /// What the words of the command line ask for.
 #[derive(Clone, Copy, Drop)]
@@ -16,13 +18,87 @@ pub enum Form<'a> {
         demand: &'a str,
         proof: &'a str,
     },
+    /// A roster of least cost by the rules and demand texts under names, found within so many turns; its
+    /// certificate is stored under the name of the proof.
+    Solve {
+        rules: &'a str,
+        demand: &'a str,
+        proof: &'a str,
+        turns: u32,
+    },
+    /// The same for a day that is made from a number.
+    Make {
+        number: u32,
+        proof: &'a str,
+        turns: u32,
+    },
     /// Nothing that the program does.
     None,
 }
 
+// Returns the turns that a word says, 1 to 10,000.
+fn turns_of(word: &str) -> Option<u32>
+    ensures says { result ≡ turns_of word.now }
+    ensures within { IfSome result AreTurns }
+{
+    match read_within(1, 10_000, (), (), word.as_bytes()) {
+        Ok(turns) => Some(turns as u32),
+        Err(()) => None,
+    }
+}
+
+// Returns the number of a day that a word says.
+fn number_of_make(word: &str) -> Option<u32>
+    ensures { result ≡ number_of_make word.now }
+{
+    match read_within(0, 4_294_967_295, (), (), word.as_bytes()) {
+        Ok(number) => Some(number as u32),
+        Err(()) => None,
+    }
+}
+
+// Returns what `solve` asks for, where the last word says turns.
+fn solve_form<'a>(
+    rules: &'a str,
+    demand: &'a str,
+    proof: &'a str,
+    turns: Option<u32>,
+) -> Form<'a>
+    requires { IfSome turns AreTurns }
+    ensures asked { asked result ≡ solve_form rules.now demand.now proof.now turns }
+    ensures turns { HasTurns result }
+{
+    match turns {
+        Some(turns) => Form::Solve {
+            rules,
+            demand,
+            proof,
+            turns,
+        },
+        None => Form::None,
+    }
+}
+
+// Returns what `make` asks for, where its words say a number and turns.
+fn make_form<'a>(number: Option<u32>, proof: &'a str, turns: Option<u32>) -> Form<'a>
+    requires { IfSome turns AreTurns }
+    ensures asked { asked result ≡ make_form number proof.now turns }
+    ensures turns { HasTurns result }
+{
+    match (number, turns) {
+        (Some(number), Some(turns)) => Form::Make {
+            number,
+            proof,
+            turns,
+        },
+        _ => Form::None,
+    }
+}
+
 /// Returns what the words ask for.
 pub fn form_of(words: &[String]) -> Form<'_>
-    ensures { asked result ≡ form_of (map string_bytes words.now) }
+    ensures asked { asked result ≡ form_of (map string_bytes words.now) }
+    ensures turns { HasTurns result }
 {
     match words {
         [command, rules, word] if command.as_str() == "explain" => Form::Explain {
@@ -34,6 +110,17 @@ pub fn form_of(words: &[String]) -> Form<'_>
             demand: demand.as_str(),
             proof: proof.as_str(),
         },
+        [command, number, proof, turns] if command.as_str() == "make" => make_form(
+            number_of_make(number.as_str()),
+            proof.as_str(),
+            turns_of(turns.as_str()),
+        ),
+        [command, rules, demand, proof, turns] if command.as_str() == "solve" => solve_form(
+            rules.as_str(),
+            demand.as_str(),
+            proof.as_str(),
+            turns_of(turns.as_str()),
+        ),
         _ => Form::None,
     }
 }

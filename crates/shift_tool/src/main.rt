@@ -8,11 +8,17 @@ mod check_tests;
 mod explain;
 mod fetch;
 mod form;
+mod make;
 mod run;
 mod say;
+mod solve;
+#[cfg(test)]
+mod solve_tests;
+mod store;
 #[cfg(test)]
 mod tests;
 
+use branch_price::PlainMaster;
 use run::run;
 use shelf::DiskShelf;
 use std::env;
@@ -38,5 +44,6 @@ fn main(rt: HostRuntime) -> ExitCode {
         Err(_) => {}
     }
     let mut shelf = DiskShelf::new(rt);
-    ExitCode::from(run(alloc, &mut shelf, words.as_slice()))
+    let mut master = PlainMaster::new();
+    ExitCode::from(run(alloc, &mut shelf, words.as_slice(), &mut master))
 }

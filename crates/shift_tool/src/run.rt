@@ -3,11 +3,15 @@ ghost use Rattle.shift_tool.specs.Form.{form_of, AnswersNoForm};
 ghost use Rattle.shift_tool.specs.OneAnswer.{HasOneAnswer};
 ghost use Rattle.shift_tool.specs.Run.{Does};
 ghost use Rattle.shift_tool.specs.Reader.{IsReader};
+ghost use Rattle.shift_tool.specs.Solve.{lent};
 
 use crate::check::check;
 use crate::explain::explain;
 use crate::form::{Form, form_of};
+use crate::make::make;
 use crate::say::say;
+use crate::solve::solve;
+use branch_price::Master;
 use shelf::Shelf;
 use std::alloc::Global;
 
@@ -24,20 +28,30 @@ fn refuse_words<S: Shelf>(shelf: &mut S) -> u8
 ///
 /// | status | comes |
 /// |---|---|
-/// | 0 | `explain RULES WORD`: the word is a shift; `check RULES DEMAND PROOF`: the certificate is accepted |
-/// | 1 | `explain`: the word is no shift; `check`: the certificate is refused |
+/// | 0 | `explain RULES WORD`: the word is a shift; `check RULES DEMAND PROOF`: the certificate is accepted; `solve RULES DEMAND PROOF TURNS` and `make NUMBER PROOF TURNS`: a roster was found, and no allowed roster costs less |
+/// | 1 | `explain`: the word is no shift; `check`: the certificate is refused; `solve`: no roster is allowed |
 /// | 2 | the words are none of the command's forms |
 /// | 3 | the rules text is refused |
-/// | 4 | `check`: the demand text is refused |
+/// | 4 | `check`, `solve`: the demand text is refused |
 /// | 5 | `check`: the proof text is refused |
 /// | 6 | the shelf refused a call |
 /// | 7 | memory did not suffice |
+/// | 8 | `solve`, `make`: the turns ran out before the bound was the cost |
+/// | 9 | `solve`, `make`: the instance has more than 100,000 arcs |
 ///
-/// A command says its whole answer at once. Status 6 or 7 ends it at the call that was refused. But for
-/// these two the same texts always have the same status, and the same text is said, save that
-/// `explain` may print another tree of the same cost.
-pub fn run<S: Shelf>(alloc: Global, shelf: &mut S, words: &[String]) -> u8
-    ensures does { Does (form_of (map string_bytes words.now)) (S.told shelf.old) (S.told shelf.new) result }
+/// TURNS is a number from 1 to 10,000, and NUMBER one from 0 to 4,294,967,295. A command says its whole
+/// answer at once; `solve` and `make` have stored the certificate under PROOF before. Status 6 or 7 ends it
+/// at the call that was refused. But for these two the same texts always have the same status, and the same
+/// text is said, save that `explain` may print another tree of the same cost, and that a search may use up
+/// its turns or find another roster of least cost.
+pub fn run<S: Shelf, M: Master>(
+    alloc: Global,
+    shelf: &mut S,
+    words: &[String],
+    master: &mut M,
+) -> u8
+    ensures does { Does (form_of (map string_bytes words.now)) (S.told shelf.old) (S.told shelf.new)
+        (lent (M.strict master.old) (M.refused master.old) (M.refused master.new)) result }
     ensures one_answer { HasOneAnswer (form_of (map string_bytes words.now)) }
 {
     match form_of(words) {
@@ -47,6 +61,17 @@ pub fn run<S: Shelf>(alloc: Global, shelf: &mut S, words: &[String]) -> u8
             demand,
             proof,
         } => check(alloc, shelf, rules, demand, proof),
+        Form::Solve {
+            rules,
+            demand,
+            proof,
+            turns,
+        } => solve(alloc, shelf, rules, demand, proof, turns, master),
+        Form::Make {
+            number,
+            proof,
+            turns,
+        } => make(alloc, shelf, number, proof, turns, master),
         Form::None => refuse_words(shelf),
     }
 }

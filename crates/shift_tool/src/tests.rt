@@ -1,9 +1,10 @@
 use crate::run::run;
+use branch_price::PlainMaster;
 use shelf::MemoryShelf;
 use std::alloc::Global;
 use std::test::Fail;
 
-pub const G1: &str = "periods 4
+const G1: &str = "periods 4
 work a
 idle .
 start S
@@ -18,7 +19,7 @@ rule R 0 = '.'
 rule R 0 = '.' R
 ";
 
-pub const G4: &str = "periods 2
+const G4: &str = "periods 2
 work a
 start S
 rule S 5 = 'a' 'a'
@@ -54,11 +55,146 @@ rule S 0 = 'a'
 rule S 0 = S S
 ";
 
-pub const CYCLE: &str = "periods 4
+const CYCLE: &str = "periods 4
 start A
 rule A 0 = B
 rule B 0 = A
 ";
+
+const ONE_PERIOD: &str = "periods 1
+work a
+idle .
+start S
+rule S 0 = W
+rule S 0 = R W
+rule S 0 = W R
+rule S 0 = R W R
+rule W 2 = A len 2 3
+rule A 1 = 'a'
+rule A 1 = 'a' A
+rule R 0 = '.'
+rule R 0 = '.' R
+";
+
+const G2: &str = "periods 3
+work a
+idle .
+start S
+rule S 2 = 'a' 'a' '.'
+rule S 2 = '.' 'a' 'a'
+rule S 2 = 'a' '.' 'a'
+";
+
+const G6: &str = "periods 2
+work a
+idle .
+start S
+rule S 0 = F
+rule S 0 = H
+rule F 3 = 'a' 'a'
+rule H 1 = 'a' '.'
+rule H 1 = '.' 'a'
+";
+
+pub const HALVES: &str = "proof 1
+cost 4
+bound 4
+shift .aa 2
+shift aa. 2
+split 1 0 1 3 1 0
+priced 1
+price a 2 2 0
+mult 1 2
+priced 1
+price a 0 0 2
+mult 1 2
+end
+";
+
+const LONG: &str = "periods 96
+work a
+start S
+rule S 0 = 'a'
+rule S 0 = S S
+";
+
+const SHORT_FULL_DAYS: &str = "periods 2
+work a
+idle .
+start S
+rule S 0 = F
+rule S 0 = H
+rule F 3 = 'a' 'a' len 1 1
+rule H 1 = 'a' '.'
+rule H 1 = '.' 'a'
+";
+
+const Q3: &str = "heads 0 12
+need a 30 1 0 0 0 0 1 1 2 2 3 3 2 2 1 1 2 2 3 3 2 2 1 1 0 0
+need b 30 1 0 0 0 0 0 0 1 1 1 1 1 1 0 0 1 1 1 1 1 1 0 0 0 0
+";
+
+// The texts that each shelf of a test holds, by name.
+const TEXTS: [(&str, &str); 29] = [
+    ("g1", G1),
+    ("g2", G2),
+    ("g3", G3),
+    ("g4", G4),
+    ("g5", G5),
+    ("g6", G6),
+    ("one", ONE_PERIOD),
+    ("long", LONG),
+    ("short_full_days", SHORT_FULL_DAYS),
+    ("cycle", CYCLE),
+    ("empty", ""),
+    ("q1", "heads 0 2\nneed a 10 3 1 2 2 1\n"),
+    ("some", "heads 1 2\nneed a 10 3 1\n"),
+    ("any", "heads 0 2\nneed a 10 3 1\n"),
+    ("q2", "heads 0 3\nneed a 10 0 1 1 1\n"),
+    ("floors", "heads 0 3\nneed a 10 0 1 1 1\nleast a 1 1 1\n"),
+    (
+        "exact",
+        "heads 0 3\nneed a 10 0 1 1 1\nleast a 1 1 1\nmost a 1 1 1\n",
+    ),
+    ("crowd", "heads 0 3\nneed a 10 0 1 1 1\nleast a 4 0 0\n"),
+    ("q3", Q3),
+    ("q4", "heads 1 1\nneed a 10 0 1 1\n"),
+    ("one_head", "heads 0 1\n"),
+    ("q7", "group F 0 1\ngroup H 1 2\nneed a 10 2 2 1\n"),
+    ("full", "group F 3 3\ngroup H 1 1\nneed a 10 2 2 1\n"),
+    ("needed", "group F 1 1\ngroup H 1 2\nneed a 10 2 2 1\n"),
+    ("short", "heads 0 2\nneed a 10 3 1 2 2\n"),
+    ("fallen", "heads 2 1\n"),
+    ("idle", "heads 0 2\nneed . 10 3 1 2 2 1\n"),
+    (
+        "mixed",
+        "group F 0 1\ngroup H 1 2\nneed a 10 2 2 1\nheads 0 3\n",
+    ),
+    ("halves", HALVES),
+];
+
+/// Returns a shelf with the texts of the tests, whose calls of these numbers fail.
+pub fn shelf(alloc: Global, failing: &[u32]) -> Result<MemoryShelf, Fail> {
+    let mut shelf = MemoryShelf::new(alloc, failing.to_vec(alloc)?);
+    for (name, text) in TEXTS {
+        shelf.put(name, text.as_bytes())?;
+    }
+    Ok(shelf)
+}
+
+/// Runs the program on these words, and returns its status.
+pub fn answer(alloc: Global, shelf: &mut MemoryShelf, words: &[&str]) -> Result<u8, Fail> {
+    let mut owned = Vec::new(alloc);
+    for word in words {
+        owned.push(String::from_str(alloc, word)?)?;
+    }
+    Ok(run(
+        alloc,
+        shelf,
+        owned.as_slice(),
+        &mut PlainMaster::new(),
+    ))
+}
 
 const NO_FORM: &str = "words: none of the four forms\n";
 
@@ -74,8 +210,48 @@ use 6 A 3 1
 use 8 R 4 1
 ";
 
+const BLOCKS: &str = "report 1
+result optimal
+cost 10
+bound 10
+processed 1
+failed 0
+shifts 2
+shift .aaa 5
+shift aaa. 5
+paid 10
+penalty 0
+need a 1 2 2 1
+have a 1 2 2 1
+short a 0 0 0 0
+over a 0 0 0 0
+";
+
+const NO_ROSTER: &str = "report 1
+result none
+cost none
+bound none
+processed 1
+failed 0
+";
+
+const NO_SHIFT: &str = "report 1
+result optimal
+cost 10
+bound 10
+processed 1
+failed 0
+shifts 0
+paid 0
+penalty 10
+need a 1
+have a 0
+short a 1
+over a 0
+";
+
 // The words, the status and what is said.
-const CASES: [(&[&str], u8, &str); 15] = [
+const CASES: [(&[&str], u8, &str); 36] = [
     (&["explain", "g1", ".aa."], 0, BLOCK),
     (
         &["explain", "g4", "aa"],
@@ -90,8 +266,13 @@ const CASES: [(&[&str], u8, &str); 15] = [
     (&[], 2, NO_FORM),
     (&["explains", "g1", ".aa."], 2, NO_FORM),
     (&["explain", "g1", ".aa.", "x"], 2, NO_FORM),
-    (&["solve", "g1", "d", "p", "10"], 2, NO_FORM),
     (&["check", "g1"], 2, NO_FORM),
+    (&["solve", "g1", "q1", "p", "0"], 2, NO_FORM),
+    (&["solve", "g1", "q1", "p", "010"], 2, NO_FORM),
+    (&["solve", "g1", "q1", "p"], 2, NO_FORM),
+    (&["make", "4294967296", "p", "1"], 2, NO_FORM),
+    (&["make", "7", "p", "0"], 2, NO_FORM),
+    (&["make", "7", "p", "10001"], 2, NO_FORM),
     (
         &["explain", "cycle", "aa"],
         3,
@@ -99,40 +280,63 @@ const CASES: [(&[&str], u8, &str); 15] = [
     ),
     (&["explain", "empty", "aa"], 3, "rules: no periods line\n"),
     (&["explain", "absent", "aa"], 6, ""),
+    (
+        &["check", "cycle", "absent", "absent"],
+        3,
+        "rules: line 3: a name leads back to itself by one-symbol rules\n",
+    ),
+    (&["check", "g1", "absent", "absent"], 6, ""),
+    (
+        &["check", "g1", "short", "absent"],
+        4,
+        "demand: line 2: wrong count of needs\n",
+    ),
+    (
+        &["check", "g1", "fallen", "absent"],
+        4,
+        "demand: line 1: out of range\n",
+    ),
+    (
+        &["check", "g1", "idle", "absent"],
+        4,
+        "demand: line 2: not a work code\n",
+    ),
+    (
+        &["check", "g6", "mixed", "absent"],
+        4,
+        "demand: line 4: heads and groups together\n",
+    ),
+    (&["check", "g1", "q1", "absent"], 6, ""),
+    (&["solve", "g1", "q1", "p", "10"], 0, BLOCKS),
+    (&["solve", "one", "some", "p", "10"], 1, NO_ROSTER),
+    (&["solve", "one", "any", "p", "10"], 0, NO_SHIFT),
+    (&["solve", "g2", "crowd", "p", "10"], 1, NO_ROSTER),
+    (&["solve", "short_full_days", "needed", "p", "10"], 1, NO_ROSTER),
+    (
+        &["solve", "long", "one_head", "p", "10"],
+        9,
+        "graph: 147536 arcs, at most 100000\n",
+    ),
+    (&["solve", "absent", "q1", "p", "10"], 6, ""),
+    (
+        &["solve", "cycle", "absent", "p", "10"],
+        3,
+        "rules: line 3: a name leads back to itself by one-symbol rules\n",
+    ),
+    (
+        &["solve", "g1", "fallen", "p", "10"],
+        4,
+        "demand: line 1: out of range\n",
+    ),
 ];
-
-fn shelf(alloc: Global, failing: &[u32]) -> Result<MemoryShelf, Fail> {
-    let mut shelf = MemoryShelf::new(alloc, failing.to_vec(alloc)?);
-    let texts = [
-        ("g1", G1),
-        ("g3", G3),
-        ("g4", G4),
-        ("g5", G5),
-        ("cycle", CYCLE),
-        ("empty", ""),
-    ];
-    for (name, text) in texts {
-        shelf.put(name, text.as_bytes())?;
-    }
-    Ok(shelf)
-}
-
-pub fn owned(alloc: Global, words: &[&str]) -> Result<Vec<String>, Fail> {
-    let mut owned = Vec::new(alloc);
-    for word in words {
-        owned.push(String::from_str(alloc, word)?)?;
-    }
-    Ok(owned)
-}
 
 #[test]
 fn words_have_their_answers(rt: HostRuntime) -> Result<(), Fail> {
     let alloc = rt.alloc();
     for (words, status, said) in CASES {
         let mut shelf = shelf(alloc, &[])?;
-        let words = owned(alloc, words)?;
-        let answer = run(alloc, &mut shelf, words.as_slice());
-        assert_eq!(rt; answer, status, "{words:?}");
+        let status_said = answer(alloc, &mut shelf, words)?;
+        assert_eq!(rt; status_said, status, "{words:?}");
         assert_eq!(rt; shelf.said(), said.as_bytes(), "{words:?}");
         assert_eq!(rt; shelf.faults(), u64::from(status == 6), "{words:?}");
     }
@@ -162,32 +366,44 @@ fn longer_words_have_their_costs(rt: HostRuntime) -> Result<(), Fail> {
     let alloc = rt.alloc();
     for (rules, word, first, count) in LONGER {
         let mut shelf = shelf(alloc, &[])?;
-        let words = owned(alloc, &["explain", rules, word])?;
-        let answer = run(alloc, &mut shelf, words.as_slice());
-        assert_eq!(rt; answer, 0, "{word}");
+        let status = answer(alloc, &mut shelf, &["explain", rules, word])?;
+        assert_eq!(rt; status, 0, "{word}");
         assert!(rt; shelf.said().starts_with(first.as_bytes()), "{word}");
         assert_eq!(rt; uses(shelf.said()), count, "{word}");
     }
     Ok(())
 }
 
+const EXPLAIN: &[&str] = &["explain", "g1", ".aa."];
+const CHECK: &[&str] = &["check", "g2", "q2", "halves"];
+const SOLVE: &[&str] = &["solve", "g1", "q1", "p", "10"];
+const MAKE: &[&str] = &["make", "7", "p", "1"];
+
+// The words, the number of the call that fails, and what is said before.
+const FAILING: [(&[&str], u32, &str); 12] = [
+    (EXPLAIN, 1, ""),
+    (EXPLAIN, 2, "word .aa.\ncost 4\nuse 4 S 1 4\nuse 8 R "),
+    (CHECK, 1, ""),
+    (CHECK, 2, ""),
+    (CHECK, 3, ""),
+    (CHECK, 4, "yes\ncost "),
+    (SOLVE, 1, ""),
+    (SOLVE, 2, ""),
+    (SOLVE, 3, ""),
+    (SOLVE, 4, "report 1\nresult optimal\ncost 10\nbound 10\n"),
+    (MAKE, 1, ""),
+    (MAKE, 2, "make 7\nperiods 26\n"),
+];
+
 #[test]
 fn a_refused_call_ends_the_run(rt: HostRuntime) -> Result<(), Fail> {
     let alloc = rt.alloc();
-    for (failing, said) in [(1, 0), (2, BLOCK.len() / 2)] {
+    for (words, failing, said) in FAILING {
         let mut shelf = shelf(alloc, &[failing])?;
-        let words = owned(alloc, &["explain", "g1", ".aa."])?;
-        assert_eq!(rt;
-            run(alloc, &mut shelf, words.as_slice()),
-            6,
-            "at call {failing}"
-        );
-        assert_eq!(rt;
-            shelf.said(),
-            &BLOCK.as_bytes()[..said],
-            "at call {failing}"
-        );
-        assert_eq!(rt; shelf.faults(), 1, "at call {failing}");
+        let status = answer(alloc, &mut shelf, words)?;
+        assert_eq!(rt; status, 6, "{words:?} at call {failing}");
+        assert!(rt; shelf.said().starts_with(said.as_bytes()), "{words:?} at call {failing}");
+        assert_eq!(rt; shelf.faults(), 1, "{words:?} at call {failing}");
     }
     Ok(())
 }

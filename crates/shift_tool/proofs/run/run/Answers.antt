@@ -8,3 +8,9 @@ returns-in-Explain-clause-one_answer g c = has-one-answer (form_of (map string_b
 
 pub returns-in-Check-clause-one_answer : goal.returns-in-Check-clause-one_answer
 returns-in-Check-clause-one_answer g c = has-one-answer (form_of (map string_bytes c.args.words.now))
+
+pub returns-in-Solve-clause-one_answer : goal.returns-in-Solve-clause-one_answer
+returns-in-Solve-clause-one_answer g c = has-one-answer (form_of (map string_bytes c.args.words.now))
+
+pub returns-in-Make-clause-one_answer : goal.returns-in-Make-clause-one_answer
+returns-in-Make-clause-one_answer g c = has-one-answer (form_of (map string_bytes c.args.words.now))
