@@ -4,6 +4,7 @@ ghost use Rattle.roster_model.specs.SoundInstance.{IsSoundInstance};
 ghost use Rattle.text_lines.specs.Lines.{text_items};
 ghost use Rattle.text_lines.specs.Written.{numbered};
 ghost use Rattle.roster_report.specs.declared.report.Report.{Report as Said};
+ghost use Rattle.roster_report.specs.Readable.{IsReadable, IsTextOf};
 ghost use Rattle.roster_report.specs.ReportText.{report_lines, report_text};
 ghost use Rattle.roster_report.specs.Writable.{IsWritable, HasSmallNumbers};
 
@@ -12,4 +13,11 @@ ghost use Rattle.roster_report.specs.Writable.{IsWritable, HasSmallNumbers};
 pub fn lines_again()
     ensures { (i : Instance) (r : Said) → IsSoundInstance i → IsWritable i r → HasSmallNumbers r
         → text_items (report_text i r) ≡ numbered 1 (report_lines i r) }
+{}
+
+/// States a law: the text of a report whose numbers fit their places is one of that report, so it is
+/// read as that report.
+pub fn read_again()
+    ensures { (i : Instance) (r : Said) → IsSoundInstance i → IsReadable i r
+        → IsTextOf i (report_text i r) r }
 {}

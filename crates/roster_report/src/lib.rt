@@ -26,9 +26,13 @@
 
 mod cover;
 mod cover_text;
+mod fault;
 mod laws;
+mod next;
 mod part;
+mod read;
 mod report;
+mod said;
 mod shifts;
 mod summary;
 #[cfg(test)]
@@ -36,7 +40,9 @@ mod tests;
 mod write;
 
 pub use cover::Cover;
-pub use laws::lines_again;
+pub use fault::ReportFault;
+pub use laws::{lines_again, read_again};
+pub use read::read_report;
 pub use report::{Report, report_of};
 pub use summary::{Summary, write_summary};
 pub use write::write_report;

@@ -5,7 +5,9 @@ ghost use Rattle.roster_model.specs.Folds.{Each};
 ghost use Rattle.roster_model.specs.SoundInstance.{IsSoundInstance};
 ghost use Rattle.span_table.specs.Tables.{IsMadeFor};
 
-use crate::{Summary, report_of, write_report, write_summary};
+use crate::{
+    Cover, Report, ReportFault, Summary, read_report, report_of, write_report, write_summary,
+};
 use certificates::{Cert, Node, is_sound_cert};
 use roster_model::{Cell, Done, Group, Instance, List, Memory, Shift, is_sound_instance};
 use roster_part::{ShiftRoom, StatedShift, coverage_fault, roster_fault};
@@ -107,14 +109,18 @@ fn assert_texts(
     Ok(())
 }
 
-#[test]
-fn one_block_on_four_periods(rt: HostRuntime) -> Result<(), Fail> {
-    let cells = [(1, 1), (2, 2), (3, 2), (4, 1)].map(|(period, need)| Cell {
+fn block_cells() -> [Cell; 4] {
+    [(1, 1), (2, 2), (3, 2), (4, 1)].map(|(period, need)| Cell {
         period,
         need,
         over: 3,
         ..CELL
-    });
+    })
+}
+
+#[test]
+fn one_block_on_four_periods(rt: HostRuntime) -> Result<(), Fail> {
+    let cells = block_cells();
     let parts = DayParts {
         periods: 4,
         names: &BLOCK_NAMES,
@@ -233,5 +239,102 @@ fn summary_without_a_roster(rt: HostRuntime) -> Result<(), Fail> {
         processed 1\n\
         failed 0\n";
     assert_eq!(rt; text.as_slice(), lines.as_bytes());
+    Ok(())
+}
+
+/// The lines of a report of a day of one block, but for the last.
+const FRONT: &str = "report 1\n\
+    result optimal\n\
+    cost 10\n\
+    bound 10\n\
+    processed 1\n\
+    failed 0\n\
+    shifts 2\n\
+    shift .aaa 5\n\
+    shift aaa. 5\n\
+    paid 10\n\
+    penalty 0\n\
+    need a 1 2 2 1\n\
+    have a 1 2 2 1\n\
+    short a 0 0 0 0\n";
+
+/// Reads a text of two parts as a report of a day of one block.
+fn read(alloc: Global, front: &str, end: &str) -> Result<Result<Report, ReportFault>, Fail> {
+    let day = day(
+        alloc,
+        &DayParts {
+            periods: 4,
+            names: &BLOCK_NAMES,
+            rules: &BLOCKS,
+            start: 0,
+            heads: (0, 2),
+            groups: &[],
+            cells: &block_cells(),
+        },
+    )?;
+    if !is_sound_instance(&day) {
+        return Err(Fail::from("not sound"));
+    }
+    let text = format!(in alloc; "{front}{end}")?;
+    let bytes = text.as_bytes();
+    if bytes.len() > 1000 {
+        return Err(Fail::from("too long"));
+    }
+    Ok(read_report(alloc, &day, bytes))
+}
+
+fn assert_fault(
+    rt: &impl Abort,
+    alloc: Global,
+    front: &str,
+    end: &str,
+    fault: ReportFault,
+) -> Result<(), Fail> {
+    match read(alloc, front, end)? {
+        Ok(_) => Err(Fail::from("accepted")),
+        Err(found) => {
+            assert_eq!(rt; found, fault);
+            Ok(())
+        }
+    }
+}
+
+#[test]
+fn a_report_is_read(rt: HostRuntime) -> Result<(), Fail> {
+    let Ok(report) = read(rt.alloc(), FRONT, "over\ta 0 0 0 0 # none\r\n")? else {
+        return Err(Fail::from("refused"));
+    };
+    assert_eq!(rt; report.done, Done::Equal);
+    assert_eq!(rt; report.cost, Some(10));
+    assert_eq!(rt; report.shifts.len(), 2);
+    let second = Cover {
+        need: 2,
+        have: 2,
+        short: 0,
+        over: 0,
+    };
+    assert_eq!(rt; report.cover.as_slice().get(1), Some(&second));
+    Ok(())
+}
+
+#[test]
+fn faults(rt: HostRuntime) -> Result<(), Fail> {
+    for (front, end, fault) in [
+        (FRONT, "", ReportFault::CutShort),
+        (
+            FRONT,
+            "over a 0 0 0 0\nend\n",
+            ReportFault::Trailing { line: 16 },
+        ),
+        (FRONT, "over a 0 0 0", ReportFault::BadLine { line: 15 }),
+        ("report 2\n", FRONT, ReportFault::BadLine { line: 1 }),
+        (
+            "report 1\n\nresult \u{7}",
+            "",
+            ReportFault::BadByte { line: 3 },
+        ),
+    ] {
+        assert_fault(&rt, rt.alloc(), front, end, fault)?;
+    }
     Ok(())
 }
