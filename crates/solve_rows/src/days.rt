@@ -25,6 +25,45 @@ pub const PAIR_DAY: DayParts<'static> = DayParts {
     cells: &PAIR_CELLS,
 };
 
+const UNEVEN_CELLS: [Cell; 3] = [
+    CELL,
+    Cell {
+        period: 2,
+        need: 2,
+        ..CELL
+    },
+    Cell {
+        period: 3,
+        need: 2,
+        ..CELL
+    },
+];
+
+/// The same where the second and the third period need two employees.
+pub const UNEVEN_DAY: DayParts<'static> = DayParts {
+    cells: &UNEVEN_CELLS,
+    ..PAIR_DAY
+};
+
+const FULL_RULES: [RuleParts<'static>; 1] = [(0, 3, &[WORK, WORK], ANY)];
+
+const FULL_CELLS: [Cell; 2] = [
+    Cell { need: 2, ..CELL },
+    Cell {
+        period: 2,
+        need: 2,
+        ..CELL
+    },
+];
+
+/// Both of two periods at 3 and no other shift, where each period needs two employees.
+pub const FULL_DAY: DayParts<'static> = DayParts {
+    periods: 2,
+    rules: &FULL_RULES,
+    cells: &FULL_CELLS,
+    ..PAIR_DAY
+};
+
 const EXACT: Cell = Cell {
     floor: 1,
     ceiling: 1,

@@ -4,8 +4,8 @@ ghost use Rattle.parse_graph.specs.Graphs.{IsGraph};
 ghost use Rattle.certificates.specs.Sound.{IsSoundCert};
 
 use crate::days::{
-    BLOCK_DAY, CROWD_DAY, EXACT_DAY, FLOOR_DAY, FREE_DAY, FULL_GROUP_DAY, GROUP_DAY,
-    IDLE_GROUP_DAY, ONE_DAY, PAIR_DAY, graph_of, sound_day,
+    BLOCK_DAY, CROWD_DAY, EXACT_DAY, FLOOR_DAY, FREE_DAY, FULL_DAY, FULL_GROUP_DAY, GROUP_DAY,
+    IDLE_GROUP_DAY, ONE_DAY, PAIR_DAY, UNEVEN_DAY, graph_of, sound_day,
 };
 use branch_price::{Done, FailingMaster, Found, Master, PlainMaster, Pool, search};
 use certificates::{Cert, Node};
@@ -149,6 +149,24 @@ fn one_turn(rt: HostRuntime) -> Result<(), Fail> {
     assert_eq!(rt; found.cert.bound, Some(3));
     assert!(rt; found.cert.cost.is_some_and(|cost| cost >= 4));
     show_accepted(&rt, rt.alloc(), &day, &found.cert)
+}
+
+#[test]
+fn pairs_of_uneven_needs(rt: HostRuntime) -> Result<(), Fail> {
+    let found = found(&rt, rt.alloc(), &UNEVEN_DAY, 8191, equal(6, 0))?;
+    assert_eq!(rt; found.cert.shifts.len(), 3);
+    Ok(())
+}
+
+#[test]
+fn one_word_alone(rt: HostRuntime) -> Result<(), Fail> {
+    let found = found(&rt, rt.alloc(), &FULL_DAY, 10, equal(6, 0))?;
+    let [first, second] = found.cert.shifts.as_slice() else {
+        panic!(rt; "two shifts");
+    };
+    assert!(rt; is_shift(first, 0, "aa", 3));
+    assert!(rt; is_shift(second, 0, "aa", 3));
+    Ok(())
 }
 
 #[test]
