@@ -220,6 +220,7 @@ fn certificates_have_their_answers(rt: HostRuntime) -> Result<(), Fail> {
 
 // The number of bytes of a certificate, and the number without its last line feed.
 const WHOLE: usize = 133;
+
 const UNENDED: usize = 132;
 
 #[test]

@@ -58,12 +58,7 @@ fn number_of_make(word: &str) -> Option<u32>
 }
 
 // Returns what `solve` asks for, where the last word says turns.
-fn solve_form<'a>(
-    rules: &'a str,
-    demand: &'a str,
-    proof: &'a str,
-    turns: Option<u32>,
-) -> Form<'a>
+fn solve_form<'a>(rules: &'a str, demand: &'a str, proof: &'a str, turns: Option<u32>) -> Form<'a>
     requires { IfSome turns AreTurns }
     ensures asked { asked result ≡ solve_form rules.now demand.now proof.now turns }
     ensures turns { HasTurns result }

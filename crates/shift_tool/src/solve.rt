@@ -154,15 +154,7 @@ fn solve_demand<S: Shelf, M: Master>(
         Ok(text) => text,
         Err(status) => return status,
     };
-    solve_demand_text(
-        alloc,
-        shelf,
-        grammar,
-        text.as_slice(),
-        proof,
-        turns,
-        master,
-    )
+    solve_demand_text(alloc, shelf, grammar, text.as_slice(), proof, turns, master)
 }
 
 // Solves the demand text under a name by a rules text.
@@ -209,13 +201,5 @@ pub fn solve<S: Shelf, M: Master>(
         Ok(text) => text,
         Err(status) => return status,
     };
-    solve_rules_text(
-        alloc,
-        shelf,
-        text.as_slice(),
-        demand,
-        proof,
-        turns,
-        master,
-    )
+    solve_rules_text(alloc, shelf, text.as_slice(), demand, proof, turns, master)
 }
