@@ -1,0 +1,136 @@
+#!/usr/bin/env python3
+"""Checks docs/PLANNING.md: its rules and demands against examples/, its commands against the program.
+
+A block that is headed `rules FILE` or `demand FILE` must stand in that file, line for line. The commands
+of a `console` block are run as a shell runs them, in a folder with `examples` and `roster`, and what they
+print must be what the page shows; a last line `...` stands for further lines. Each fault of the page's
+table must come from an edit of a day of examples/ below, and no fault may be missing there.
+
+The program is crates/shift_tool/out/shift_tool, as `./roster` builds it, or the one that is named as the
+only argument. Where it is not built, only the blocks of rules and demands are checked, and that is said.
+"""
+import pathlib
+import re
+import subprocess
+import sys
+import tempfile
+
+TOP = pathlib.Path(__file__).resolve().parent.parent
+PAGE = (TOP / "docs" / "PLANNING.md").read_text()
+PROGRAM = TOP / "crates" / "shift_tool" / "out" / "shift_tool"
+RULES, DEMAND = "examples/shop.rules", "examples/shop.demand"
+TILL = "need t 60 5 1 1 1 1 1 1 1 2 2 2 1 1"
+
+# The faults of the page's table: the file, what is replaced in it, and by what.
+FAULTS = {
+    "bad byte": (RULES, "idle . m", "idle . \u00e9"),
+    "unknown line": (RULES, "start Day", "begin Day"),
+    "bad number": (RULES, "rule Till 15 = 't'\n", "rule Till 1.5 = 't'\n"),
+    "out of range": (RULES, "len 8 9", "len 9 8"),
+    "bad name": (RULES, "start Day", "start len"),
+    "said twice": (RULES, "start Day", "start Day\nstart Day"),
+    "unknown code": (RULES, "'m'", "'p'"),
+    "empty right side": (RULES, "rule Off 0 = '.'\n", "rule Off 0 =\n"),
+    "too many codes, at most 32": (RULES, "idle . m", "idle . m " + " ".join("ABCDEFGHIJKLMNOPQRSTUVWXYZ01")),
+    "a name has no rule": (RULES, "rule Day 0 = Off Duty\n", "rule Day 0 = Of Duty\n"),
+    "a name leads back to itself by one-symbol rules": (
+        RULES, "rule Off 0 = '.'\n", "rule Off 0 = '.'\nrule Off 0 = Off\n"),
+    "no periods line": (RULES, "periods 12\n", ""),
+    "no start line": (RULES, "start Day\n", ""),
+    "not a work code": (DEMAND, "need t", "need m"),
+    "wrong count of needs": (DEMAND, TILL, TILL + " 1"),
+    "no need line before": (DEMAND, TILL, "least t 1 1 1 1 1 1 1 1 1 1 1 1"),
+    "no heads line": (DEMAND, "heads 2 4\n", ""),
+    "no such name": (DEMAND, "heads 2 4", "group Shop 2 4"),
+    "heads and groups together": (DEMAND, "heads 2 4", "heads 2 4\ngroup Duty 2 4"),
+    "too many groups, at most 8": (DEMAND, "heads 2 4", "".join(
+        f"group {name} 0 1\n" for name in "Day Off Duty Stretch Task Till Counter Shelves Day".split())),
+    "the text is too long": (RULES, "start Day", "start Day #" + "x" * 1_048_576),
+}
+# The greatest numbers that the table names beside those of codes.
+MANY = {
+    "work codes": (8, "work t c s", "work t c s A B C D E F"),
+    "names": (32, "start Day", "start Day\n" + "".join(f"rule N{n} 0 = 't'\n" for n in range(32))),
+    "rules": (64, "start Day", "start Day\n" + "rule Day 0 = 't'\n" * 64),
+    "symbols": (8, "rule Off 0 = '.'\n", "rule Off 0 = " + "'.' " * 9 + "\n"),
+}
+
+
+def blocks():
+    return re.findall(r"^```(\w+)(?: (\S+))?\n(.*?)^```$", PAGE, re.M | re.S)
+
+
+def is_in_examples(name, text):
+    return "\n" + text in "\n" + (TOP / name).read_text()
+
+
+def commands(text):
+    """The commands of a block with the lines that each prints."""
+    for part in re.split(r"^\$ ", text, flags=re.M)[1:]:
+        command, _, printed = part.partition("\n")
+        yield command, printed
+
+
+def is_as_shown(shown, said):
+    if not shown.endswith("\n...\n"):
+        return said == shown
+    front = shown.removesuffix("...\n")
+    return said.startswith(front) and said != front
+
+
+def run(command, folder):
+    text = command.replace("/tmp/", f"{folder}/")
+    done = subprocess.run(["sh", "-c", text], cwd=folder, capture_output=True)
+    return done.stdout.decode() + done.stderr.decode()
+
+
+def edited(file, old, new, folder):
+    """What `solve` says of the shop's day with this edit."""
+    text = (TOP / file).read_text()
+    if old not in text:
+        return f"{file} has no {old!r}"
+    names = {RULES: RULES, DEMAND: DEMAND, file: "edited"}
+    (folder / "edited").write_text(text.replace(old, new, 1))
+    return run(f"./roster solve {names[RULES]} {names[DEMAND]} /tmp/edited.proof 1", folder)
+
+
+def wrong_faults(folder):
+    listed = re.findall(r"^\| `([^`]*)` \| [^|]* \|$", PAGE.partition("## When a line is refused")[2], re.M)
+    if listed != list(FAULTS):
+        yield f"the table of faults differs: {set(listed) ^ set(FAULTS)}"
+    many = {f"too many {what}, at most {most}": (RULES, old, new) for what, (most, old, new) in MANY.items()}
+    for fault, (file, old, new) in {**FAULTS, **many}.items():
+        said = edited(file, old, new, folder)
+        if not re.fullmatch(rf"{pathlib.Path(file).suffix[1:]}: (line \d+: )?{re.escape(fault)}\n", said):
+            yield f"{fault}: {said!r}"
+    if said := run(f"./roster solve /tmp/absent {DEMAND} /tmp/edited.proof 1", folder):
+        yield f"an absent file: {said!r}"
+
+
+def wrong_commands(folder):
+    for kind, _, text in blocks():
+        for command, shown in commands(text) if kind == "console" else ():
+            said = run(command, folder)
+            if not is_as_shown(shown, said):
+                yield f"$ {command}\n{said}"
+
+
+def main():
+    program = pathlib.Path(sys.argv[1]).resolve() if len(sys.argv) == 2 else PROGRAM
+    wrong = [f"not in {name}:\n{text}" for kind, name, text in blocks()
+             if kind in ("rules", "demand") and not is_in_examples(name, text)]
+    if program.exists():
+        with tempfile.TemporaryDirectory() as name:
+            folder = pathlib.Path(name)
+            (folder / "examples").symlink_to(TOP / "examples")
+            (folder / "roster").symlink_to(program)
+            wrong += [*wrong_commands(folder), *wrong_faults(folder)]
+    else:
+        print("the program is not built (run ./roster once): its commands are not checked")
+    if wrong:
+        sys.exit("\n".join(["docs/PLANNING.md is wrong:", *wrong]))
+    print("docs/PLANNING.md is right")
+
+
+if __name__ == "__main__":
+    main()
