@@ -126,7 +126,7 @@ def main():
             (folder / "roster").symlink_to(program)
             wrong += [*wrong_commands(folder), *wrong_faults(folder)]
     else:
-        print("the program is not built (run ./roster once): its commands are not checked")
+        print("the program is not built (run ./roster once): only rules and demands are checked, and no command")
     if wrong:
         sys.exit("\n".join(["docs/PLANNING.md is wrong:", *wrong]))
     print("docs/PLANNING.md is right")
