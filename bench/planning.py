@@ -126,10 +126,10 @@ def main():
             (folder / "roster").symlink_to(program)
             wrong += [*wrong_commands(folder), *wrong_faults(folder)]
     else:
-        print("the program is not built (run ./roster once): only rules and demands are checked, and no command")
+        print("the program is not built (run ./roster once): no command is checked")
     if wrong:
         sys.exit("\n".join(["docs/PLANNING.md is wrong:", *wrong]))
-    print("docs/PLANNING.md is right")
+    print("docs/PLANNING.md is right" + (" in its rules and demands" if not program.exists() else ""))
 
 
 if __name__ == "__main__":
