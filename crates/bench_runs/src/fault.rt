@@ -1,19 +1,31 @@
+use demand_text::DemandFault;
 use parse_graph::GraphFault;
 use roster_model::Memory;
 use rules_text::RulesFault;
 
-/// Why nothing was priced.
+/// Why nothing was done.
 #[derive(Clone, Copy, Debug, Drop)]
 pub enum BenchFault {
     Rules(RulesFault),
+    Demand(DemandFault),
     Graph(GraphFault),
     /// The grammar has no sound day.
     NoDay,
+    /// The day has no tree.
+    NoTree,
+    /// The head counts or a cell alone show that the day has no roster.
+    NoRoster,
 }
 
 impl From<RulesFault> for BenchFault {
     fn from(fault: RulesFault) -> BenchFault {
         BenchFault::Rules(fault)
+    }
+}
+
+impl From<DemandFault> for BenchFault {
+    fn from(fault: DemandFault) -> BenchFault {
+        BenchFault::Demand(fault)
     }
 }
 

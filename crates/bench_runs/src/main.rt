@@ -1,6 +1,7 @@
 //! The runs that the programs of bench/ time: the same work again and again, and what it came to.
 //!
-//! Words: what to do, how often, and how many or how wide. Standard input: a rules text.
+//! Words: what to do, how often, how many or how wide, a factor, and the name of the file of a demand
+//! text. Standard input: a rules text.
 //!
 //! - `fill` fills the table of all trees of the day, each time with other prices, and `cheapest` makes
 //!   one pass over the graph of all parses; both print the last least sum, or `none` where the day has
@@ -9,8 +10,11 @@
 //! - `build` builds the graph, and prints how many arcs it has.
 //! - `links` prints the graph, a line an arc: its rule and suffix, the node that it makes, and its
 //!   first part and what follows that, each a node `n`, a letter `code.period`, or `-`.
-//! - `row_step` steps one row of a tableau of so many entries, a last word being a factor of them, and
+//! - `row_step` steps one row of a tableau of so many entries, with the factor in each of them, and
 //!   prints a checksum. It reads no text.
+//! - `master` solves the master of the root of the day of both texts, each time with no trees at first,
+//!   and prints its rows, the trees that were priced out, its value and how many trees have a weight.
+//!   It stops before the first time where that is to be done 0 times.
 //! - `each` does each of these but `links` in short.
 #![tactic(auto)]
 
@@ -19,16 +23,19 @@ mod links;
 mod mults;
 mod prices;
 mod pricing;
+mod root;
 mod row_steps;
 
 use fault::BenchFault;
 use links::print_links;
 use mults::last_priced;
+use node_master::NodeEnd;
 use pricing::{built, last_cheapest, last_fill};
+use root::{RootEnd, last_root};
 use row_steps::row_steps;
 use rules_text::read_rules;
 use std::alloc::Global;
-use std::{env, io};
+use std::{env, fs, io};
 
 /// What was found.
 #[derive(Clone, Copy, Drop)]
@@ -45,6 +52,15 @@ struct Numbers {
     times: u32,
     count: u16,
     factor: u64,
+}
+
+/// What a call asks for.
+#[derive(Clone, Copy, Drop)]
+struct Call<'a> {
+    what: &'a str,
+    numbers: Numbers,
+    /// The name of the file of a demand text.
+    demand: &'a str,
 }
 
 /// Does what the word says, for the grammar of a rules text.
@@ -77,41 +93,90 @@ fn print_row_steps(rt: &HostRuntime, numbers: Numbers) -> io::Result<()> {
     println!(rt; "{sum}")
 }
 
-/// Does each thing in short.
-fn print_each(rt: &HostRuntime, text: &[u8], numbers: Numbers) -> io::Result<()> {
-    for what in ["fill", "cheapest", "mults", "build"] {
-        print_answer(rt, what, text, numbers)?;
+/// Prints what the master of a root came to.
+fn print_end(rt: &HostRuntime, root: &RootEnd) -> io::Result<()> {
+    print!(rt; "rows {} trees {} ", root.rows, root.trees)?;
+    match &root.end {
+        NodeEnd::Best { value, weights, .. } => {
+            println!(rt;
+                "value {}/{} weights {}",
+                value.num(),
+                value.den(),
+                weights.len()
+            )
+        }
+        NodeEnd::Failed(cause) => println!(rt; "{cause:?}"),
     }
-    print_row_steps(rt, numbers)
 }
 
-/// Returns the next word as a number, or the usual one.
-fn number(word: Option<String>, usual: u64) -> u64 {
-    match word {
-        Some(word) => word.parse().unwrap_or(usual),
-        None => usual,
+/// Solves the master of the root of a day so often, and prints what the last came to.
+fn print_root(rt: &HostRuntime, rules: &[u8], demand: &str, times: u32) -> io::Result<()> {
+    let demand = fs::read(rt, demand)?;
+    match last_root(rt.alloc(), rules, demand.as_slice(), times) {
+        Ok(Some(root)) => print_end(rt, &root),
+        Ok(None) => println!(rt; "ready"),
+        Err(fault) => println!(rt; "{fault:?}"),
+    }
+}
+
+/// Does each thing in short.
+fn print_each(rt: &HostRuntime, call: Call<'_>, text: &[u8]) -> io::Result<()> {
+    for what in ["fill", "cheapest", "mults", "build"] {
+        print_answer(rt, what, text, call.numbers)?;
+    }
+    print_row_steps(rt, call.numbers)?;
+    print_root(rt, text, call.demand, call.numbers.times)
+}
+
+/// Does what a call asks for with a rules text.
+fn print_text(rt: &HostRuntime, call: Call<'_>, text: &[u8]) -> io::Result<()> {
+    match call.what {
+        "links" => print_links(rt, text),
+        "each" => print_each(rt, call, text),
+        "master" => print_root(rt, text, call.demand, call.numbers.times),
+        what => print_answer(rt, what, text, call.numbers),
+    }
+}
+
+/// Does what a call asks for.
+fn print_call(rt: &HostRuntime, call: Call<'_>) -> io::Result<()> {
+    if call.what == "row_step" {
+        return print_row_steps(rt, call.numbers);
+    }
+    let text = io::read_to_string(rt.alloc(), rt.reader())?;
+    print_text(rt, call, text.as_bytes())
+}
+
+/// Returns the word at a place; the empty one where there is none.
+fn word(words: &[String], place: usize) -> &str {
+    match words.get(place) {
+        Some(word) => word.as_str(),
+        None => "",
+    }
+}
+
+/// Returns the word at a place as a number, or the usual one.
+fn number(words: &[String], place: usize, usual: u64) -> u64 {
+    word(words, place).parse().unwrap_or(usual)
+}
+
+/// Returns the call of the words.
+fn call_of(words: &[String]) -> Call<'_> {
+    Call {
+        what: word(words, 0),
+        numbers: Numbers {
+            times: number(words, 1, 3).min(u64::from(u32::MAX)) as u32,
+            count: number(words, 2, 5).min(u64::from(u16::MAX)) as u16,
+            factor: number(words, 3, 6),
+        },
+        demand: word(words, 4),
     }
 }
 
 fn main(rt: HostRuntime) -> io::Result<()> {
-    let mut words = env::args(&rt)?;
-    let _ = words.next();
-    let what = words.next().unwrap_or(String::new(rt.alloc()));
-    let times = number(words.next(), 3).min(u64::from(u32::MAX)) as u32;
-    let count = number(words.next(), 5).min(u64::from(u16::MAX)) as u16;
-    let factor = number(words.next(), 6);
-    let numbers = Numbers {
-        times,
-        count,
-        factor,
-    };
-    if what.as_str() == "row_step" {
-        return print_row_steps(&rt, numbers);
+    let mut words = Vec::new(rt.alloc());
+    for word in env::args(&rt)?.skip(1) {
+        words.push(word)?;
     }
-    let text = io::read_to_string(rt.alloc(), rt.reader())?;
-    match what.as_str() {
-        "links" => print_links(&rt, text.as_bytes()),
-        "each" => print_each(&rt, text.as_bytes(), numbers),
-        what => print_answer(&rt, what, text.as_bytes(), numbers),
-    }
+    print_call(&rt, call_of(words.as_slice()))
 }

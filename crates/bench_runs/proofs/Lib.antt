@@ -1,0 +1,3 @@
+mod FillSums
+mod RootCuts
+mod SomeTree
