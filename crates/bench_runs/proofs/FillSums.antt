@@ -1,5 +1,5 @@
 -- At the prices of a fill each tree has a sum.
-use Rattle.std.proofs.Common.{◌≡◌, ℕ, ℤ, ◌+◌, ◌*◌, Option, None, Some, refl}
+use Rattle.std.proofs.Common.{ℕ, ℤ, ◌+◌, ◌*◌, Option, None, Some, refl}
 use Rattle.std.specs.Prelude.{IsSome}
 use Rattle.std.proofs.lemmas.Bool.{false≢true}
 use Rattle.roster_model.specs.declared.grammar.Grammar.{Grammar}

@@ -1,5 +1,5 @@
 -- Where a day has an arc it has a tree.
-use Rattle.std.proofs.Common.{ℕ, ◌<◌, arith, List, [], ◌∷◌, length, refl}
+use Rattle.std.proofs.Common.{◌<◌, arith, List, [], ◌∷◌, length, refl}
 use Rattle.roster_model.specs.declared.grammar.ArcKey.{ArcKey}
 use Rattle.roster_model.specs.declared.grammar.Grammar.{Grammar}
 use Rattle.roster_model.specs.Trees.{Parts, IsDayTree}

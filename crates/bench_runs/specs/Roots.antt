@@ -1,5 +1,4 @@
 -- Days at whose root a master can be made.
-use Rattle.std.specs.Prelude.{ℕ}
 use Rattle.roster_model.specs.declared.instance.Instance.{Instance}
 use Rattle.roster_model.specs.Trees.{Parts, IsDayTree}
 use Rattle.bound_laws.specs.Infeasible.{IsPlainlyInfeasible}
