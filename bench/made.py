@@ -1,0 +1,44 @@
+#!/usr/bin/env python3
+"""Solves the days that are made from the numbers 0 to 30, and says how many are closed and how long they took.
+
+    bench/made.py [TURNS [PROGRAM]]
+
+PROGRAM is crates/shift_tool/out/shift_tool by default, which ./roster or the gate builds. Times are processor
+time of a whole call: making the day, its graph, the search, and the two texts.
+"""
+import os
+import resource
+import subprocess
+import sys
+import tempfile
+
+TOP = os.path.dirname(os.path.dirname(os.path.abspath(__file__)))
+DAYS = range(31)
+
+
+def call(program, number, turns, proof):
+    before = resource.getrusage(resource.RUSAGE_CHILDREN).ru_utime
+    run = subprocess.run([program, "make", str(number), proof, str(turns)], capture_output=True, text=True)
+    used = resource.getrusage(resource.RUSAGE_CHILDREN).ru_utime - before
+    if run.returncode not in (0, 8):
+        sys.exit(f"make {number}: status {run.returncode}: {run.stdout}{run.stderr}")
+    return run.returncode, dict(line.split(" ", 1) for line in run.stdout.splitlines()), 1000 * used
+
+
+def main():
+    turns = int(sys.argv[1]) if len(sys.argv) > 1 else 200
+    program = sys.argv[2] if len(sys.argv) > 2 else os.path.join(TOP, "crates/shift_tool/out/shift_tool")
+    if not os.access(program, os.X_OK):
+        sys.exit(f"{program} is not built: run ./roster or the gate first")
+    with tempfile.TemporaryDirectory() as folder:
+        calls = [call(program, number, turns, os.path.join(folder, "proof")) for number in DAYS]
+    closed = sum(status == 0 for status, _, _ in calls)
+    times = [time for _, _, time in calls]
+    most = max(int(said["processed"]) for _, said, _ in calls)
+    failed = sum(int(said["failed"]) for _, said, _ in calls)
+    print(f"{closed} of {len(calls)} days closed within {turns} turns, at most {most} nodes, {failed} without prices")
+    print(f"milliseconds: least {min(times):.0f}, mean {sum(times) / len(times):.0f}, most {max(times):.0f}")
+
+
+if __name__ == "__main__":
+    main()
