@@ -54,9 +54,9 @@ const FOUND: [(&[&str], &[u8], &[&str]); 7] = [
         &["report 1", "processed 1"],
     ),
     (
-        &["make", "7", "p", "1"],
+        &["make", "7", "p", "50"],
         &[0, 8],
-        &["make 7", "periods 26", "processed 1"],
+        &["make 7", "periods 26"],
     ),
 ];
 
@@ -81,13 +81,14 @@ fn rosters_are_found(rt: HostRuntime) -> Result<(), Fail> {
 }
 
 // The rules and the demand of days whose certificate is checked, and the turns of the search.
-const CHECKED: [(&str, &str, &str); 6] = [
+const CHECKED: [(&str, &str, &str); 7] = [
     ("g1", "q1", "10"),
     ("g2", "q2", "10"),
     ("g2", "q2", "1"),
     ("g6", "q7", "2047"),
     ("g2", "exact", "8191"),
     ("g3", "q3", "1"),
+    ("g3", "q3", "50"),
 ];
 
 #[test]
@@ -123,7 +124,7 @@ fn said(alloc: Global, words: &[&str], failing: u32) -> Result<Vec<u8>, Fail> {
 #[test]
 fn the_same_words_say_the_same_twice(rt: HostRuntime) -> Result<(), Fail> {
     let alloc = rt.alloc();
-    let words = ["make", "7", "p", "1"];
+    let words = ["make", "7", "p", "50"];
     let first = said(alloc, &words, 3)?;
     let second = said(alloc, &words, 4)?;
     assert!(rt; !first.is_empty());
