@@ -75,7 +75,7 @@ pub(crate) fn find_cheaper(held: &[Held], y: &[i128], kappa: i128) -> Option<usi
 }
 
 /// Returns a number that is above 2^56 in size: the denominator or a price.
-fn first_wide(y: &[i128], kappa: i128) -> Option<i128>
+pub(crate) fn first_wide(y: &[i128], kappa: i128) -> Option<i128>
     ensures some { IfSome result (λ z. (2 ^ 56 < unsigned_abs z) × AreWidePrices (length y.now) y.now kappa) }
     ensures kappa { IfNone result (unsigned_abs kappa ≤ 2 ^ 56) }
     ensures prices { IfNone result (All (λ (z : ℤ). unsigned_abs z ≤ 2 ^ 56) y.now) }

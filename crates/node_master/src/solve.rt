@@ -23,7 +23,9 @@ ghost use Rattle.node_master.specs.Priced.{AreNarrowPrices};
 
 use crate::columns::NodeColumns;
 use crate::ends::{Cause, NodeEnd, Weight};
-use crate::first::{desk_of, numbers_of};
+use crate::first::numbers_of;
+use crate::hint::{Hint, hinted_desk};
+use crate::hunt::hunt;
 use crate::weights::tree_weights;
 use cheapest_tree::Pricer;
 use fraction::Tally;
@@ -77,13 +79,14 @@ pub fn solve_node(
         }));
     }
     let rows = NodeRows::new(alloc, instance, cuts)?;
-    solve_rows(
+    solve_steered(
         alloc, instance, graph, pricer, pool, cuts, &rows, wanted, tally,
     )
 }
 
-/// Solves the master with these rows.
-fn solve_rows(
+/// Solves the master with these rows, steered to the basis that a hunt ends with.
+#[tactic(auto, using(crate::proofs::Hunting::grown_chain))]
+fn solve_steered(
     alloc: Global,
     instance: &Instance,
     graph: &Graph,
@@ -109,7 +112,40 @@ fn solve_rows(
     ensures grown { IsGrown pool.old pool.new }
     ensures counts { (tally.old.wide ≤ tally.new.wide) × (tally.old.spent ≤ tally.new.spent) }
 {
-    let mut desk = desk_of(alloc, instance, cuts, rows, pool, wanted)?;
+    let hint = hunt(alloc, instance, graph, pricer, pool, cuts, rows, wanted)?;
+    solve_rows(
+        alloc, instance, graph, pricer, pool, cuts, rows, &hint, tally,
+    )
+}
+
+/// Solves the master with these rows.
+fn solve_rows(
+    alloc: Global,
+    instance: &Instance,
+    graph: &Graph,
+    pricer: &mut Pricer,
+    pool: &mut Pool,
+    cuts: &[Cut],
+    rows: &NodeRows,
+    hint: &Hint,
+    tally: &mut Tally,
+) -> Result<NodeEnd, Memory>
+    requires sound { IsSoundInstance instance.now }
+    requires busy { IsPlainlyInfeasible instance.now → ⊥ }
+    requires graph { IsGraph instance.now.grammar graph.now }
+    requires tree { (t : Parts) × IsDayTree instance.now.grammar t }
+    requires pricer { IsMadeFor graph.now pricer.old }
+    requires pool { IsPool instance.now.grammar pool.old }
+    requires cuts { Each (IsNodeCut instance.now) cuts.now }
+    requires rows { AreRows instance.now cuts.now rows.now }
+    requires small { length (rows_of instance.now cuts.now) ≤ 1500 }
+    ensures end { IfOk result (EndsRight instance.now cuts.now pool.new tally.old tally.new) }
+    ensures pricer { IsMadeFor graph.now pricer.new }
+    ensures pool { IsPool instance.now.grammar pool.new }
+    ensures grown { IsGrown pool.old pool.new }
+    ensures counts { (tally.old.wide ≤ tally.new.wide) × (tally.old.spent ≤ tally.new.spent) }
+{
+    let mut desk = hinted_desk(alloc, instance, cuts, rows, pool, hint)?;
     let mut columns = NodeColumns {
         alloc,
         instance,

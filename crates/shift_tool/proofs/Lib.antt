@@ -8,3 +8,4 @@ pub mod Solves
 pub mod Same
 pub mod OneEndLemmas
 pub mod Makes
+pub mod Days

@@ -29,8 +29,14 @@ use Rattle.shift_tool.specs.Check.{SaysYes, SaysNo, Judgement, SaysProofFault, P
 use Rattle.shift_tool.specs.Check as checks
 use Rattle.shift_tool.specs.Explain.{SaysTree, SaysNone, Derivation, Explanation, AnswersExplain, SaysFault}
 use Rattle.shift_tool.specs.Explain as explains
+use Rattle.day_questions.specs.Ranked.{RankedAnswer}
+use Rattle.day_questions.specs.Next.{NextAnswer}
+use Rattle.day_questions.specs.Fitting.{FitsAnswer}
+use Rattle.day_questions.proofs.OnceLemmas.{one-ranked, one-next, one-fits}
+use Rattle.shift_tool.specs.Days.{DayAnswer, AnswersDay}
+use Rattle.shift_tool.specs.Days as days
 use Rattle.shift_tool.specs.OneAnswer.{AreSameButTree, HasOneAnswer}
-use Rattle.shift_tool.specs.Form.{Form, explain, check, solve, make, none, AnswersNoForm}
+use Rattle.shift_tool.specs.Form.{Form, explain, rank, next, fits, check, solve, make, none, AnswersNoForm}
 use Rattle.shift_tool.proofs.OneEndLemmas.{solve-ends, make-ends}
 use Rattle.shift_tool.proofs.Same.{same_text, same_ok, same_err, not_both, same_grammar, no_fault, faults_once}
 
@@ -122,8 +128,27 @@ explain_once : (held : Texts) (rules word : List ℕ) (s t : ℕ) (a b : List �
 explain_once held rules word s t a b h k =
     explained_once k.0 word s t a b (subst (λ (x : List ℕ). Explanation x word s a) (same_text held rules h.0 k.0 h.1 k.1) h.2) k.2
 
+-- where a grammar has one answer, a rules text has
+module _ (Answers : Grammar → ℕ → List ℕ → Type 0) (once : (g : Grammar) (s t : ℕ) (a b : List ℕ) → Answers g s a → Answers g t b → AreSame s t a b) where
+  day_once : (text : List ℕ) (s t : ℕ) (a b : List ℕ) → DayAnswer Answers text s a → DayAnswer Answers text t b → AreSame s t a b
+  day_once text s t a b (days.accepted g x xs e h) (days.accepted f y ys q k) =
+      once f s t a b (subst (λ (z : Grammar). Answers z s a) (same_grammar text g f e.reading q.reading) h) k
+  day_once text s t a b (days.accepted g x xs e h) (days.refused ys k) = absurd (no_fault text g k.fault e.reading k.reading)
+  day_once text s t a b (days.refused xs h) (days.accepted f y ys q k) = absurd (no_fault text f h.fault q.reading h.reading)
+  day_once text s t a b (days.refused xs h) (days.refused ys k) = (refl, faults_once text a b h k)
+
+  held_once : (held : Texts) (rules : List ℕ) (s t : ℕ) (a b : List ℕ) → AnswersDay Answers (Some held) rules s a → AnswersDay Answers (Some held) rules t b → AreSame s t a b
+  held_once held rules s t a b h k =
+      day_once k.0 s t a b (subst (λ (x : List ℕ). DayAnswer Answers x s a) (same_text held rules h.0 k.0 h.1 k.1) h.2) k.2
+
 pub has-one-answer : (f : Form) → HasOneAnswer f
 has-one-answer (explain rules word) = λ held s t a b. explain_once held rules word s t a b
+has-one-answer (rank rules most) =
+    λ held s t a b. held_once (λ g s o. RankedAnswer g most s o) (λ g. one-ranked g most) held rules s t a b
+has-one-answer (next rules prefix) =
+    λ held s t a b. held_once (λ g s o. NextAnswer g prefix s o) (λ g. one-next g prefix) held rules s t a b
+has-one-answer (fits rules pattern) =
+    λ held s t a b. held_once (λ g s o. FitsAnswer g pattern s o) (λ g. one-fits g pattern) held rules s t a b
 has-one-answer (check rules demand proof) = λ held s t a b. check_once held rules demand proof s t a b
 has-one-answer (solve rules demand proof turns) = λ held. solve-ends held rules demand turns
 has-one-answer (make number proof turns) = make-ends number turns

@@ -9,3 +9,4 @@ pub mod Asked
 pub mod Writer
 pub mod Solve
 pub mod Make
+pub mod Days

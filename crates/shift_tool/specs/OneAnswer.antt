@@ -5,8 +5,9 @@ use Rattle.roster_model.specs.declared.grammar.Step.{Step}
 use Rattle.shelf.specs.Shelf.{Texts}
 use Rattle.shift_report.specs.TreeText.{tree_text}
 use Rattle.shift_tool.specs.Check.{AnswersCheck}
+use Rattle.shift_tool.specs.Days.{AnswersRank, AnswersNext, AnswersFits}
 use Rattle.shift_tool.specs.Explain.{AnswersExplain}
-use Rattle.shift_tool.specs.Form.{Form, explain, check, solve, make, none, AnswersNoForm}
+use Rattle.shift_tool.specs.Form.{Form, explain, rank, next, fits, check, solve, make, none, AnswersNoForm}
 use Rattle.shift_tool.specs.Make.{AnswersMake}
 use Rattle.shift_tool.specs.Solve.{MasterView, AnswersSolve}
 use Rattle.shift_tool.specs.Writer.{Answers}
@@ -41,6 +42,15 @@ abbrev pub HasOneAnswer : Form → Type 0
 HasOneAnswer (explain rules word) =
     (held : Texts) (s t : ℕ) (a b : List ℕ) → AnswersExplain (Some held) rules word s a
     → AnswersExplain (Some held) rules word t b → (s ≡ t) × AreSameButTree word a b
+HasOneAnswer (rank rules most) =
+    (held : Texts) (s t : ℕ) (a b : List ℕ) → AnswersRank (Some held) rules most s a
+    → AnswersRank (Some held) rules most t b → (s ≡ t) × (a ≡ b)
+HasOneAnswer (next rules prefix) =
+    (held : Texts) (s t : ℕ) (a b : List ℕ) → AnswersNext (Some held) rules prefix s a
+    → AnswersNext (Some held) rules prefix t b → (s ≡ t) × (a ≡ b)
+HasOneAnswer (fits rules pattern) =
+    (held : Texts) (s t : ℕ) (a b : List ℕ) → AnswersFits (Some held) rules pattern s a
+    → AnswersFits (Some held) rules pattern t b → (s ≡ t) × (a ≡ b)
 HasOneAnswer (check rules demand proof) =
     (held : Texts) (s t : ℕ) (a b : List ℕ) → AnswersCheck (Some held) rules demand proof s a
     → AnswersCheck (Some held) rules demand proof t b → (s ≡ t) × (a ≡ b)

@@ -1,10 +1,11 @@
 -- What the program does, by its words.
 use Rattle.std.specs.Prelude.{ℕ, [], ◌∷◌}
-use Rattle.shift_tool.specs.Form.{Form, explain, check, solve, make, none, AnswersNoForm}
+use Rattle.shift_tool.specs.Form.{Form, explain, rank, next, fits, check, solve, make, none, AnswersNoForm}
 use Rattle.shelf.specs.Shelf.{Told}
 use Rattle.shift_tool.specs.Reader.{IsReader}
 use Rattle.shift_tool.specs.Writer.{IsWriter}
 use Rattle.shift_tool.specs.Explain.{AnswersExplain}
+use Rattle.shift_tool.specs.Days.{AnswersRank, AnswersNext, AnswersFits}
 use Rattle.shift_tool.specs.Check.{AnswersCheck}
 use Rattle.shift_tool.specs.Solve.{MasterView, AnswersSolve}
 use Rattle.shift_tool.specs.Make.{AnswersMake}
@@ -13,6 +14,12 @@ use Rattle.shift_tool.specs.Make.{AnswersMake}
 abbrev pub Does : Form → Told → Told → MasterView → ℕ → Type 0
 Does (explain rules word) before after m status =
     IsReader (AnswersExplain before.held rules word) (rules ∷ []) before after status
+Does (rank rules most) before after m status =
+    IsReader (AnswersRank before.held rules most) (rules ∷ []) before after status
+Does (next rules prefix) before after m status =
+    IsReader (AnswersNext before.held rules prefix) (rules ∷ []) before after status
+Does (fits rules pattern) before after m status =
+    IsReader (AnswersFits before.held rules pattern) (rules ∷ []) before after status
 Does (check rules demand proof) before after m status =
     IsReader (AnswersCheck before.held rules demand proof) (rules ∷ demand ∷ proof ∷ []) before after status
 Does (solve rules demand proof turns) before after m status =

@@ -1,6 +1,6 @@
 ghost use Rattle.std.specs.Prelude.{◌≡◌, IfSome, map, string_bytes};
-ghost use Rattle.shift_tool.specs.Form.{form_of, number_of_make, make_form, solve_form, turns_of};
-ghost use Rattle.shift_tool.specs.Asked.{asked, AreTurns, HasTurns};
+ghost use Rattle.shift_tool.specs.Form.{form_of, make_form, most_of, number_of_make, rank_form, short_form, solve_form, turns_of};
+ghost use Rattle.shift_tool.specs.Asked.{asked, AreTurns, HasNumbers, IsMost};
 
 use text_lines::read_within;
 
@@ -11,6 +11,21 @@ pub enum Form<'a> {
     Explain {
         rules: &'a str,
         word: &'a str,
+    },
+    /// The first trees of the day by cost, at most so many, by the rules text under a name.
+    Rank {
+        rules: &'a str,
+        most: u32,
+    },
+    /// The codes that may follow a prefix, by the rules text under a name.
+    Next {
+        rules: &'a str,
+        prefix: &'a str,
+    },
+    /// The shifts that fit a pattern, by the rules text under a name.
+    Fits {
+        rules: &'a str,
+        pattern: &'a str,
     },
     /// Whether a certificate is accepted, by the rules, demand and proof texts under names.
     Check {
@@ -47,6 +62,17 @@ fn turns_of(word: &str) -> Option<u32>
     }
 }
 
+// Returns how many trees a word asks for, 1 to 1,000.
+fn most_of(word: &str) -> Option<u32>
+    ensures says { result ≡ most_of word.now }
+    ensures within { IfSome result IsMost }
+{
+    match read_within(1, 1_000, (), (), word.as_bytes()) {
+        Ok(most) => Some(most as u32),
+        Err(()) => None,
+    }
+}
+
 // Returns the number of a day that a word says.
 fn number_of_make(word: &str) -> Option<u32>
     ensures { result ≡ number_of_make word.now }
@@ -57,11 +83,49 @@ fn number_of_make(word: &str) -> Option<u32>
     }
 }
 
+// Returns what `rank` asks for, where the last word says how many trees.
+fn rank_form<'a>(rules: &'a str, most: Option<u32>) -> Form<'a>
+    requires { IfSome most IsMost }
+    ensures asked { asked result ≡ rank_form rules.now most }
+    ensures numbers { HasNumbers result }
+{
+    match most {
+        Some(most) => Form::Rank { rules, most },
+        None => Form::None,
+    }
+}
+
+// Returns what three words ask for.
+fn short_form<'a>(command: &str, rules: &'a str, word: &'a str) -> Form<'a>
+    ensures asked { asked result ≡ short_form command.now rules.now word.now }
+    ensures numbers { HasNumbers result }
+{
+    if command == "explain" {
+        return Form::Explain { rules, word };
+    }
+    if command == "rank" {
+        return rank_form(rules, most_of(word));
+    }
+    if command == "next" {
+        return Form::Next {
+            rules,
+            prefix: word,
+        };
+    }
+    if command == "fits" {
+        return Form::Fits {
+            rules,
+            pattern: word,
+        };
+    }
+    Form::None
+}
+
 // Returns what `solve` asks for, where the last word says turns.
 fn solve_form<'a>(rules: &'a str, demand: &'a str, proof: &'a str, turns: Option<u32>) -> Form<'a>
     requires { IfSome turns AreTurns }
     ensures asked { asked result ≡ solve_form rules.now demand.now proof.now turns }
-    ensures turns { HasTurns result }
+    ensures numbers { HasNumbers result }
 {
     match turns {
         Some(turns) => Form::Solve {
@@ -78,7 +142,7 @@ fn solve_form<'a>(rules: &'a str, demand: &'a str, proof: &'a str, turns: Option
 fn make_form<'a>(number: Option<u32>, proof: &'a str, turns: Option<u32>) -> Form<'a>
     requires { IfSome turns AreTurns }
     ensures asked { asked result ≡ make_form number proof.now turns }
-    ensures turns { HasTurns result }
+    ensures numbers { HasNumbers result }
 {
     match (number, turns) {
         (Some(number), Some(turns)) => Form::Make {
@@ -93,13 +157,10 @@ fn make_form<'a>(number: Option<u32>, proof: &'a str, turns: Option<u32>) -> For
 /// Returns what the words ask for.
 pub fn form_of(words: &[String]) -> Form<'_>
     ensures asked { asked result ≡ form_of (map string_bytes words.now) }
-    ensures turns { HasTurns result }
+    ensures numbers { HasNumbers result }
 {
     match words {
-        [command, rules, word] if command.as_str() == "explain" => Form::Explain {
-            rules: rules.as_str(),
-            word: word.as_str(),
-        },
+        [command, rules, word] => short_form(command.as_str(), rules.as_str(), word.as_str()),
         [command, rules, demand, proof] if command.as_str() == "check" => Form::Check {
             rules: rules.as_str(),
             demand: demand.as_str(),

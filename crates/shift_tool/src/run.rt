@@ -7,15 +7,18 @@ ghost use Rattle.shift_tool.specs.Solve.{lent};
 
 use crate::check::check;
 use crate::explain::explain;
+use crate::fits::fits;
 use crate::form::{Form, form_of};
 use crate::make::make;
+use crate::next::next;
+use crate::rank::rank;
 use crate::say::say;
 use crate::solve::solve;
 use branch_price::Master;
 use shelf::Shelf;
 use std::alloc::Global;
 
-const NO_FORM: &[u8] = b"words: none of the four forms\n";
+const NO_FORM: &[u8] = b"words: none of the forms\n";
 
 // Says that the words have no form.
 fn refuse_words<S: Shelf>(shelf: &mut S) -> u8
@@ -28,8 +31,8 @@ fn refuse_words<S: Shelf>(shelf: &mut S) -> u8
 ///
 /// | status | comes |
 /// |---|---|
-/// | 0 | `explain RULES WORD`: the word is a shift; `check RULES DEMAND PROOF`: the certificate is accepted; `solve RULES DEMAND PROOF TURNS` and `make NUMBER PROOF TURNS`: a roster was found, and no allowed roster costs less |
-/// | 1 | `explain`: the word is no shift; `check`: the certificate is refused; `solve`: no roster is allowed |
+/// | 0 | `explain RULES WORD`: the word is a shift; `rank RULES MOST`: the day has a tree; `next RULES PREFIX`: some code may follow the prefix; `fits RULES PATTERN`: a shift fits; `check RULES DEMAND PROOF`: the certificate is accepted; `solve RULES DEMAND PROOF TURNS` and `make NUMBER PROOF TURNS`: a roster was found, and no allowed roster costs less |
+/// | 1 | `explain`: the word is no shift; `rank`: the day has no tree; `next`: no code may follow; `fits`: no shift fits; `check`: the certificate is refused; `solve`: no roster is allowed |
 /// | 2 | the words are none of the command's forms |
 /// | 3 | the rules text is refused |
 /// | 4 | `check`, `solve`: the demand text is refused |
@@ -39,7 +42,8 @@ fn refuse_words<S: Shelf>(shelf: &mut S) -> u8
 /// | 8 | `solve`, `make`: the turns ran out before the bound was the cost |
 /// | 9 | `solve`, `make`: the instance has more than 100,000 arcs |
 ///
-/// TURNS is a number from 1 to 10,000, and NUMBER one from 0 to 4,294,967,295. A command says its whole
+/// TURNS is a number from 1 to 10,000, MOST one from 1 to 1,000, and NUMBER one from 0 to 4,294,967,295. In
+/// PATTERN `#` stands for any code. A command says its whole
 /// answer at once; `solve` and `make` have stored the certificate under PROOF before. Status 6 or 7 ends it
 /// at the call that was refused. But for these two the same texts always have the same status, and the same
 /// text is said, save that `explain` may print another tree of the same cost, and that a search may use up
@@ -56,6 +60,9 @@ pub fn run<S: Shelf, M: Master>(
 {
     match form_of(words) {
         Form::Explain { rules, word } => explain(alloc, shelf, rules, word),
+        Form::Rank { rules, most } => rank(alloc, shelf, rules, most),
+        Form::Next { rules, prefix } => next(alloc, shelf, rules, prefix),
+        Form::Fits { rules, pattern } => fits(alloc, shelf, rules, pattern),
         Form::Check {
             rules,
             demand,

@@ -4,7 +4,8 @@ use std::alloc::Global;
 use std::test::Fail;
 
 // The words, the statuses that may come, and lines that are said.
-const FOUND: [(&[&str], &[u8], &[&str]); 7] = [
+const FOUND: [(&[&str], &[u8], &[&str]); 8] = [
+    (&["rank", "long", "1000"], &[0], &["trees 1000"]),
     (
         &["solve", "g2", "q2", "p", "10"],
         &[0],

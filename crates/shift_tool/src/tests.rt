@@ -111,6 +111,14 @@ mult 1 2
 end
 ";
 
+const EQUAL_RULES: &str = "periods 2
+work a
+start S
+rule S 3 = 'a' T
+rule S 3 = 'a' T
+rule T 0 = 'a'
+";
+
 const LONG: &str = "periods 96
 work a
 start S
@@ -135,7 +143,7 @@ need b 30 1 0 0 0 0 0 0 1 1 1 1 1 1 0 0 1 1 1 1 1 1 0 0 0 0
 ";
 
 // The texts that each shelf of a test holds, by name.
-const TEXTS: [(&str, &str); 29] = [
+const TEXTS: [(&str, &str); 30] = [
     ("g1", G1),
     ("g2", G2),
     ("g3", G3),
@@ -145,6 +153,7 @@ const TEXTS: [(&str, &str); 29] = [
     ("one", ONE_PERIOD),
     ("long", LONG),
     ("short_full_days", SHORT_FULL_DAYS),
+    ("equal_rules", EQUAL_RULES),
     ("cycle", CYCLE),
     ("empty", ""),
     ("q1", "heads 0 2\nneed a 10 3 1 2 2 1\n"),
@@ -191,7 +200,7 @@ pub fn answer(alloc: Global, shelf: &mut MemoryShelf, words: &[&str]) -> Result<
     Ok(run(alloc, shelf, owned.as_slice(), &mut PlainMaster::new()))
 }
 
-const NO_FORM: &str = "words: none of the four forms\n";
+const NO_FORM: &str = "words: none of the forms\n";
 
 const NO_DERIVATION: &str = "no derivation\n";
 
@@ -246,7 +255,49 @@ over a 0
 ";
 
 // The words, the status and what is said.
-const CASES: [(&[&str], u8, &str); 36] = [
+const CASES: [(&[&str], u8, &str); 58] = [
+    (
+        &["rank", "g1", "10"],
+        0,
+        "trees 5\ntree 1 4 ..aa\ntree 2 4 aa..\ntree 3 4 .aa.\ntree 4 5 .aaa\ntree 5 5 aaa.\n",
+    ),
+    (
+        &["rank", "g1", "2"],
+        0,
+        "trees 2\ntree 1 4 ..aa\ntree 2 4 aa..\n",
+    ),
+    (
+        &["rank", "g4", "5"],
+        0,
+        "trees 2\ntree 1 3 aa\ntree 2 5 aa\n",
+    ),
+    (
+        &["rank", "equal_rules", "5"],
+        0,
+        "trees 2\ntree 1 3 aa\ntree 2 3 aa\n",
+    ),
+    (&["rank", "one", "3"], 1, "trees 0\n"),
+    (&["rank", "g1", "0"], 2, NO_FORM),
+    (&["rank", "g1", "1001"], 2, NO_FORM),
+    (&["rank", "g1", "01"], 2, NO_FORM),
+    (&["rank", "absent", "1"], 6, ""),
+    (&["next", "g1", ".aa"], 0, "code a 5\ncode . 4\n"),
+    (&["next", "g1", ""], 0, "code a 4\ncode . 4\n"),
+    (&["next", "g1", ".."], 0, "code a 4\n"),
+    (&["next", "g1", "a."], 1, "longest 1\n"),
+    (&["next", "g1", "aaaa"], 1, "longest 3\n"),
+    (&["next", "g1", ".aa."], 1, "longest 4\n"),
+    (&["next", "g1", "a#"], 1, "longest 1\n"),
+    (&["next", "one", ""], 1, "no shift\n"),
+    (&["next", "empty", "a"], 3, "rules: no periods line\n"),
+    (
+        &["fits", "g1", "#a#."],
+        0,
+        "least 4\nat 1 a 4\nat 1 . 4\nat 3 a 4\nat 3 . 4\n",
+    ),
+    (&["fits", "g1", ".aa."], 0, "least 4\n"),
+    (&["fits", "g1", "a##a"], 1, "no shift\n"),
+    (&["fits", "g1", "##"], 1, "no shift\n"),
     (&["explain", "g1", ".aa."], 0, BLOCK),
     (
         &["explain", "g4", "aa"],

@@ -8,11 +8,25 @@ ghost use Rattle.tableau.specs.Cheaper.{IsCheaper};
 use crate::columns::Columns;
 use crate::small::{is_small, reduced_cost};
 
-/// A listed column, with its reduced cost.
+/// A listed column, with its reduced cost and the number of its entries that are not 0.
 #[derive(Clone, Copy, Drop)]
 struct Candidate {
     column: usize,
     reduced: i128,
+    length: usize,
+}
+
+impl Candidate {
+    /// Says whether the candidate has at most as low a reduced cost an entry as another one.
+    fn is_as_low(&self, other: &Candidate) -> bool {
+        match (
+            self.reduced.checked_mul(other.length as i128),
+            other.reduced.checked_mul(self.length as i128),
+        ) {
+            (Some(one), Some(two)) => one <= two,
+            _ => true,
+        }
+    }
 }
 
 /// Returns the reduced cost of a listed column, if it is negative and the column's entries and cost
@@ -37,7 +51,8 @@ fn cheaper<C: Columns>(columns: &C, prices: &[i64], column: usize) -> Option<i12
     if reduced < 0 { Some(reduced) } else { None }
 }
 
-/// Returns the column, if its reduced cost is negative and below that of the best one so far.
+/// Returns the column, if its reduced cost is negative and, divided by the number of its entries, below
+/// that of the best one so far.
 fn better<C: Columns>(
     columns: &C,
     prices: &[i64],
@@ -59,13 +74,19 @@ fn better<C: Columns>(
     let Some(reduced) = cheaper(columns, prices, column) else {
         return best;
     };
+    let next = Candidate {
+        column,
+        reduced,
+        length: columns.places(column).len(),
+    };
     match best {
-        Some(least) if least.reduced <= reduced => Some(least),
-        _ => Some(Candidate { column, reduced }),
+        Some(least) if least.is_as_low(&next) => Some(least),
+        _ => Some(next),
     }
 }
 
-/// Returns the wanted column of the most negative reduced cost.
+/// Returns the wanted column of the most negative reduced cost an entry: paths that divide by the number
+/// of entries are shorter, and their numbers smaller.
 pub(crate) fn choice<C: Columns>(columns: &C, prices: &[i64]) -> Option<usize>
     requires ready { C.Ready (C.state columns.now) }
     requires few { (C.program (C.site columns.now)).rows ≤ 1500 }

@@ -9,6 +9,7 @@ ghost use Rattle.tableau.specs.Faults.{fault_of};
 
 use crate::choice::choice;
 use crate::columns::{Columns, ColumnsFault};
+use crate::marks::is_among;
 use crate::sheet::{Entries, Sheet};
 use crate::simplex::LpFault;
 use crate::small::{check_column, reduced_cost};
@@ -61,7 +62,8 @@ pub(crate) fn enter<C: Columns>(
         return Err(LpFault::Wide(fault));
     }
     let reduced = reduced_cost(sheet.cost.as_slice(), columns.rows(), places, cost);
-    if let Err(fault) = turn(sheet, column, places, reduced, tally) {
+    let is_wanted = is_among(columns.wanted(), column);
+    if let Err(fault) = turn(sheet, column, is_wanted, places, reduced, tally) {
         return Err(LpFault::Wide(fault));
     }
     Ok(())

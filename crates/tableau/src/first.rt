@@ -12,6 +12,7 @@ ghost use Rattle.tableau.specs.Ends.{IsLpFault};
 use crate::columns::{Columns, ColumnsFault};
 use crate::enter::lp_fault;
 use crate::line::Line;
+use crate::marks::Marks;
 use crate::sheet::{Entries, Rows, Sheet};
 use crate::simplex::LpFault;
 use crate::small::{MOST_COST, fits_word, scaled_cost};
@@ -179,7 +180,13 @@ fn first_cost<C: Columns>(
 }
 
 /// Returns the lists of a tableau, with room for its turns.
-fn with_room(alloc: Global, rows: Rows, cost: Line, count: usize) -> Result<Sheet, Memory>
+fn with_room(
+    alloc: Global,
+    rows: Rows,
+    cost: Line,
+    wanted: &[u32],
+    count: usize,
+) -> Result<Sheet, Memory>
     requires few { count ≤ 1500 }
     ensures rows { IfOk result (λ sheet. sheet.rows ≡ rows) }
     ensures cost { IfOk result (λ sheet. sheet.cost ≡ cost) }
@@ -188,6 +195,9 @@ fn with_room(alloc: Global, rows: Rows, cost: Line, count: usize) -> Result<Shee
     ensures room { IfOk result (λ sheet. HasRoom count sheet.entries sheet.prices sheet.pivot) }
 {
     let Ok(basis) = numbers_below(alloc, count) else {
+        return Err(Memory);
+    };
+    let Ok(wanted) = Marks::below(alloc, wanted, count) else {
         return Err(Memory);
     };
     let Ok(entries) = vec![in alloc; 0i128; count] else {
@@ -203,6 +213,7 @@ fn with_room(alloc: Global, rows: Rows, cost: Line, count: usize) -> Result<Shee
         rows,
         cost,
         basis,
+        wanted,
         entries: Entries { numbers: entries },
         prices: Entries { numbers: prices },
         pivot,
@@ -243,7 +254,7 @@ pub(crate) fn start<C: Columns>(
         Ok(cost) => cost,
         Err(fault) => return Err(fault),
     };
-    match with_room(alloc, rows, cost, right.len()) {
+    match with_room(alloc, rows, cost, columns.wanted(), right.len()) {
         Ok(sheet) => Ok(sheet),
         Err(_) => Err(LpFault::Memory),
     }

@@ -3,6 +3,7 @@ ghost use Rattle.fraction.specs.Row.{at};
 ghost use Rattle.tableau.specs.Sheet.{AreCopied};
 
 use crate::line::Line;
+use crate::marks::Marks;
 use pivot_rows::PivotRow;
 use roster_model::Memory;
 use std::marker::Model;
@@ -44,6 +45,8 @@ pub(crate) struct Sheet {
     pub(crate) cost: Line,
     /// The basic column of each row.
     pub(crate) basis: Vec<usize>,
+    /// Whether the basic column of each row is wanted.
+    pub(crate) wanted: Marks,
     /// Room for the entries of a column.
     pub(crate) entries: Entries,
     /// Room for the prices.

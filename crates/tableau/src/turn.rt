@@ -96,12 +96,14 @@ impl Rows {
     }
 }
 
-/// Makes a column with a negative reduced cost basic in the row that leaves.
+/// Makes a column with a negative reduced cost basic in the row that leaves, and notes whether it is
+/// wanted.
 ///
 /// After an error some rows are stepped and others are not.
 pub(crate) fn turn(
     sheet: &mut Sheet,
     column: usize,
+    is_wanted: bool,
     places: &[Place],
     reduced: i128,
     tally: &mut Tally,
@@ -131,7 +133,11 @@ pub(crate) fn turn(
     ensures counted { MatchResult result (λ _. tally.new ≡ tally.old) (λ _. tally.new ≡ refused tally.old) }
 {
     sheet.entries.write(sheet.rows.as_slice(), places);
-    let row = leaving(sheet.rows.as_slice(), sheet.entries.as_slice());
+    let row = leaving(
+        sheet.rows.as_slice(),
+        sheet.entries.as_slice(),
+        &sheet.wanted,
+    );
     sheet.pivot.set(sheet.rows.as_slice()[row].as_slice());
     let factor = sheet.entries.as_slice()[row];
     sheet
@@ -139,5 +145,6 @@ pub(crate) fn turn(
         .step(row, sheet.entries.as_slice(), &sheet.pivot, tally)?;
     sheet.cost.step(factor, &sheet.pivot, -reduced, tally)?;
     sheet.basis[row] = column;
+    sheet.wanted.set(row, is_wanted);
     Ok(())
 }

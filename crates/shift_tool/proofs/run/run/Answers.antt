@@ -14,3 +14,12 @@ returns-in-Solve-clause-one_answer g c = has-one-answer (form_of (map string_byt
 
 pub returns-in-Make-clause-one_answer : goal.returns-in-Make-clause-one_answer
 returns-in-Make-clause-one_answer g c = has-one-answer (form_of (map string_bytes c.args.words.now))
+
+pub returns-in-Rank-clause-one_answer : goal.returns-in-Rank-clause-one_answer
+returns-in-Rank-clause-one_answer g c = has-one-answer (form_of (map string_bytes c.args.words.now))
+
+pub returns-in-Next-clause-one_answer : goal.returns-in-Next-clause-one_answer
+returns-in-Next-clause-one_answer g c = has-one-answer (form_of (map string_bytes c.args.words.now))
+
+pub returns-in-Fits-clause-one_answer : goal.returns-in-Fits-clause-one_answer
+returns-in-Fits-clause-one_answer g c = has-one-answer (form_of (map string_bytes c.args.words.now))

@@ -1,0 +1,103 @@
+#!/usr/bin/env python3
+"""Solves days, and says cost, bound, turns and processor time, beside two general solvers where they are installed.
+
+    bench/solve.py [--turns N] [--limit SECONDS] [--program PROGRAM] [--peers FOLDER] [FOLDER [DAY..]]
+
+FOLDER has DAY.rules and DAY.demand for each day, by default the days of examples/ that a planner would know. PROGRAM
+is crates/shift_tool/out/shift_tool by default, which ./roster or the gate builds. A run that takes longer than the
+limit is given up. Each row has the day, cost and bound, the turns used and those of them without prices, the processor
+seconds and the memory of `solve`, and the seconds of `check` on what it stored; each solve is made twice, and the two
+texts must be the same.
+
+With --peers, a folder with a program solve.py RULES DEMAND --solver cbc|highs --limit SECONDS, each row has also what
+CBC and HiGHS give within the limit, and the ratio of this program's seconds to those of the faster one that proved its
+optimum. They are Debian's packages: apt-get install --no-install-recommends coinor-cbc python3-scipy.
+"""
+import argparse
+import os
+import pathlib
+import signal
+import subprocess
+import sys
+import tempfile
+import time
+
+TOP = pathlib.Path(__file__).resolve().parent.parent
+SOLVERS = ("cbc", "highs")
+
+
+def run(words, limit):
+    """The status, what was said, processor seconds and megabytes of a run; no status where it was given up."""
+    with subprocess.Popen([str(word) for word in words], stdout=subprocess.PIPE, stderr=subprocess.DEVNULL) as child:
+        signal.signal(signal.SIGALRM, lambda *_: child.kill())
+        signal.alarm(int(limit) + 1)
+        said = child.stdout.read().decode()
+        _, ended, used = os.wait4(child.pid, 0)
+        signal.alarm(0)
+        child.returncode = os.waitstatus_to_exitcode(ended)
+    status = child.returncode if child.returncode >= 0 else None
+    return status, said, used.ru_utime + used.ru_stime, used.ru_maxrss / 1024
+
+
+def fields(said):
+    return dict(line.split(" ", 1) for line in said.splitlines() if " " in line)
+
+
+def solved(program, rules, demand, turns, limit):
+    """A row of this program on a day."""
+    with tempfile.TemporaryDirectory() as folder:
+        proof = pathlib.Path(folder, "proof")
+        words = [program, "solve", rules, demand, proof, turns]
+        status, said, seconds, memory = run(words, limit)
+        if status not in (0, 1, 8):
+            return None, f"given up after {seconds:.1f} s" if status is None else said.strip()
+        stored = proof.read_bytes()
+        if run(words, limit)[1] != said or proof.read_bytes() != stored:
+            sys.exit(f"{rules}: two runs differ")
+        checked, _, checking, _ = run([program, "check", rules, demand, proof], limit)
+        if checked != 0:
+            sys.exit(f"{rules}: its certificate is refused")
+    told = fields(said)
+    row = f"{told['cost']} / {told['bound']} | {told['processed']} ({told['failed']}) | {seconds:.2f} s, {memory:.0f} MB"
+    return seconds if status != 8 else None, f"{row} | check {checking:.2f} s"
+
+
+def peer(peers, solver, rules, demand, limit):
+    """What a general solver gives on a day, and its seconds where it proved an optimum."""
+    words = ["/usr/bin/python3", peers / "solve.py", rules, demand, "--solver", solver, "--limit", limit]
+    began = time.time()
+    status, said, _, _ = run(words, 3 * limit + 60)
+    told = fields(said)
+    if status != 0 or "time" not in told:
+        return None, f"{solver}: none after {time.time() - began:.0f} s"
+    seconds = float(told["time"])
+    closed = told["cost"] == told["bound"]
+    return seconds if closed else None, f"{solver} {told['cost']} / {told['bound']} {seconds:.2f} s"
+
+
+def main():
+    words = argparse.ArgumentParser(description=__doc__, formatter_class=argparse.RawDescriptionHelpFormatter)
+    words.add_argument("folder", nargs="?", type=pathlib.Path, default=TOP / "examples")
+    words.add_argument("days", nargs="*")
+    words.add_argument("--turns", type=int, default=200)
+    words.add_argument("--limit", type=int, default=60)
+    words.add_argument("--program", type=pathlib.Path, default=TOP / "crates/shift_tool/out/shift_tool")
+    words.add_argument("--peers", type=pathlib.Path)
+    given = words.parse_args()
+    if not os.access(given.program, os.X_OK):
+        sys.exit(f"{given.program} is not built: run ./roster or the gate first")
+    days = given.days or sorted(it.stem for it in given.folder.glob("*.demand") if it.with_suffix(".rules").exists())
+    for day in days:
+        rules, demand = given.folder / f"{day}.rules", given.folder / f"{day}.demand"
+        seconds, row = solved(given.program, rules, demand, given.turns, given.limit)
+        if given.peers:
+            found = [peer(given.peers, solver, rules, demand, given.limit) for solver in SOLVERS]
+            row += "".join(f" | {text}" for _, text in found)
+            best = min((it for it, _ in found if it is not None), default=None)
+            if seconds is not None and best:
+                row += f" | ratio {seconds / best:.2f}"
+        print(f"{day} | {row}", flush=True)
+
+
+if __name__ == "__main__":
+    main()

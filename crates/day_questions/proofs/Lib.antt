@@ -1,0 +1,15 @@
+pub mod Walking
+pub mod Summed
+pub mod Taken
+pub mod Placed
+pub mod PatternLaws
+pub mod Missed
+pub mod Powers
+pub mod Lining
+pub mod Asked
+pub mod Longer
+pub mod Coded
+pub mod Treed
+pub mod Nexts
+pub mod Fitted
+pub mod OnceLemmas

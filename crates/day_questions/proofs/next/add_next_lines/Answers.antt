@@ -1,0 +1,9 @@
+use Rattle.std.proofs.Common.{[], ◌∷◌}
+use Rattle.std.specs.Prelude.{codes}
+use Rattle.day_questions.proofs.Asked.{next-codes}
+use Rattle.day_questions.proofs.next.add_next_lines.Goals as goal
+
+pub returns : goal.returns
+returns c =
+    next-codes c.args.grammar.now (codes "code" ∷ []) c.args.prefix.now c.args.out.now c.add_code_lines.new.out
+    (rw (c.new-prices.ensures.grammar, c.new-prices.ensures.any, c.new-prices.ensures.pattern) at c.in_ok-add_code_lines.ensures)

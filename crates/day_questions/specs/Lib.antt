@@ -1,0 +1,12 @@
+pub mod Prices
+pub mod Small
+pub mod Shifts
+pub mod Lines
+pub mod Spelled
+pub mod Ranked
+pub mod Codes
+pub mod Fronts
+pub mod Next
+pub mod Fitting
+pub mod Laws
+pub mod Once

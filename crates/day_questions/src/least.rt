@@ -1,0 +1,21 @@
+ghost use Rattle.std.specs.Prelude.{IfOk};
+ghost use Rattle.roster_model.specs.Sound.{IsSound};
+ghost use Rattle.roster_model.specs.Sums.{IsLeast, tree_sum};
+ghost use Rattle.roster_model.specs.Trees.{IsDayTree};
+
+use roster_model::{Grammar, LetterPrice, Memory};
+use span_table::Table;
+use std::alloc::Global;
+
+/// Returns the least sum over all trees of the day under the prices; `None` where no tree has a sum.
+pub fn least_sum<P: LetterPrice>(
+    alloc: Global,
+    grammar: &Grammar,
+    prices: &P,
+) -> Result<Option<i128>, Memory>
+    requires { IsSound grammar.now }
+    ensures { IfOk result (IsLeast (IsDayTree grammar.now) (tree_sum (P.view prices.now) 1)) }
+{
+    let mut table = Table::for_instance(alloc, grammar)?;
+    Ok(table.least(grammar, prices))
+}

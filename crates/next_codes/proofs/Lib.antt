@@ -1,0 +1,7 @@
+mod Lowered
+mod Around
+mod Pushed
+mod Parted
+mod Opened
+mod Reached
+mod Made

@@ -1,0 +1,30 @@
+-- What marginals were made for, when they are filled.
+use Rattle.std.proofs.Common.{◌≡◌, ℕ, ◌<◌, ◌≤◌, ◌+◌, ◌-◌, ◌*◌, None, length, get_or, subst, sym, ◌∙◌}
+use Rattle.roster_model.specs.declared.grammar.Grammar.{Grammar}
+use Rattle.roster_model.specs.Sums.{PriceView}
+use Rattle.span_cells.specs.declared.slot.Layout.{Layout}
+use Rattle.span_cells.specs.Cells.{Held, AreMade}
+use Rattle.span_cells.proofs.CellsLemmas.{ready-made}
+use Rattle.next_codes.specs.declared.totals.Totals.{Totals}
+use Rattle.next_codes.specs.Marginals.{IsMarginal}
+use Rattle.next_codes.specs.Totals.{AreCounted, letter_total}
+use Rattle.next_codes.specs.Views.{MarginalsView, IsMadeFor, AreMarginals}
+
+abbrev pub view_of : Layout → Held → Totals → ℕ → ℕ → MarginalsView
+view_of lay h t codes periods = record { layout = lay; inside = h; totals = t; codes = codes; periods = periods }
+
+module _ (g : Grammar) (lay : Layout) (h k : Held) (t u : Totals) (codes periods : ℕ) (made : IsMadeFor g (view_of lay h t codes periods)) where
+  -- they stay made for the grammar
+  pub made-kept : ((m n : ℕ) → AreMade m n h → AreMade m n k) → (AreCounted g lay t → AreCounted g lay u) → IsMadeFor g (view_of lay k u codes periods)
+  made-kept cells counted = record {
+    ready = ready-made g lay h k made.ready cells;
+    codes = made.codes;
+    periods = made.periods;
+    counted = counted made.counted;
+  }
+
+  -- the totals of letters are the values
+  pub made-marginals : (p : PriceView) → ((c i : ℕ) → c < length g.codes → 1 ≤ i → i ≤ g.periods → IsMarginal g p c i (letter_total lay u c i)) → AreMarginals g p (view_of lay k u codes periods)
+  made-marginals p all c i lt one most =
+      let same : lay.spans ≡ periods = made.ready.layout.periods ∙ sym made.periods in
+      subst (λ (n : ℕ). IsMarginal g p c i (get_or u.letters.items (c * n + (i - 1)) None)) same (all c i lt one most)

@@ -1,0 +1,4 @@
+pub mod Marginals
+pub mod Totals
+pub mod Pushes
+pub mod Views

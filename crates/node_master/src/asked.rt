@@ -1,0 +1,106 @@
+ghost use Rattle.std.specs.Prelude.{◌≡◌, length, IfOk};
+
+use crate::desk::Held;
+use roster_model::Memory;
+use scout::Q24;
+use std::alloc::Global;
+
+/// The unit of a scout's prices, one in 2^24.
+pub(crate) const KAPPA: i128 = 16_777_216;
+
+/// A reduced cost above this, -2^-11, is taken for none.
+const CHEAPER: i128 = -8_192;
+
+/// What weights add up to.
+const WHOLE: i128 = 16;
+
+/// The prices at which trees are asked for.
+#[derive(Drop)]
+pub(crate) struct Asked {
+    /// Those asked at, in units of 2^-24.
+    pub(crate) y: Vec<i128>,
+    /// Those with the greatest bound so far.
+    best: Vec<i128>,
+    /// That bound.
+    bound: Option<i128>,
+}
+
+/// Leaves so many sixteenths of one list of prices and the rest of another.
+fn mix(out: &mut [i128], best: &[i128], prices: &[Q24], weight: i128) {
+    let other = WHOLE.saturating_sub(weight);
+    for ((number, old), price) in out.iter_mut().zip(best).zip(prices) {
+        let share = old.saturating_mul(weight);
+        let rest = i128::from(price.raw()).saturating_mul(other);
+        *number = share.saturating_add(rest) / WHOLE;
+    }
+}
+
+/// Returns the reduced cost of a column at prices in units of 2^-24.
+fn reduced_at(one: &Held, y: &[i128]) -> i128 {
+    let mut reduced = i128::from(one.cost).saturating_mul(KAPPA);
+    for place in one.places.as_slice() {
+        if let Some(price) = y.get(place.row as usize) {
+            reduced = reduced.saturating_sub(price.saturating_mul(i128::from(place.value)));
+        }
+    }
+    reduced
+}
+
+/// Returns what prices show of the least cost, where the least reduced cost of a tree is this.
+fn bound_at(right: &[i64], y: &[i128], heads: u32, reduced: i128) -> i128 {
+    let mut bound = reduced.min(0).saturating_mul(i128::from(heads));
+    for (side, price) in right.iter().zip(y) {
+        bound = bound.saturating_add(price.saturating_mul(i128::from(*side)));
+    }
+    bound
+}
+
+/// Copies prices.
+fn copy_prices(out: &mut [i128], prices: &[i128]) {
+    for (copy, price) in out.iter_mut().zip(prices) {
+        *copy = *price;
+    }
+}
+
+impl Asked {
+    /// Returns prices of 0 for so many rows.
+    pub(crate) fn new(alloc: Global, rows: usize) -> Result<Asked, Memory>
+        ensures { IfOk result (λ a. length a.y.items ≡ rows) }
+    {
+        let Ok(y) = vec![in alloc; 0i128; rows] else {
+            return Err(Memory);
+        };
+        let Ok(best) = vec![in alloc; 0i128; rows] else {
+            return Err(Memory);
+        };
+        Ok(Asked {
+            y,
+            best,
+            bound: None,
+        })
+    }
+
+    /// Asks at a scout's prices, of which so many sixteenths are in place of those of the best ones.
+    pub(crate) fn mix(&mut self, prices: &[Q24], weight: i128)
+        ensures { length self.new.y.items ≡ length self.old.y.items }
+    {
+        let weight = if self.bound.is_none() { 0 } else { weight };
+        mix(self.y.as_mut_slice(), self.best.as_slice(), prices, weight);
+    }
+
+    /// Notes the column of least reduced cost at the prices that were asked at. Says whether it is cheap.
+    pub(crate) fn note(&mut self, held: &[Held], column: usize, right: &[i64], heads: u32) -> bool
+        ensures { length self.new.y.items ≡ length self.old.y.items }
+    {
+        let Some(one) = held.get(column) else {
+            return false;
+        };
+        let reduced = reduced_at(one, self.y.as_slice());
+        let bound = bound_at(right, self.y.as_slice(), heads, reduced);
+        if self.bound.is_none_or(|best| best < bound) {
+            self.bound = Some(bound);
+            copy_prices(self.best.as_mut_slice(), self.y.as_slice());
+        }
+        reduced < CHEAPER
+    }
+}

@@ -1,0 +1,335 @@
+ghost use Rattle.std.specs.Prelude.{◌≡◌, ◌≤◌, length};
+ghost use Rattle.roster_model.specs.SoundInstance.{IsSoundInstance};
+ghost use Rattle.parse_graph.specs.Graphs.{IsGraph};
+ghost use Rattle.cheapest_tree.specs.Pricers.{IsMadeFor};
+ghost use Rattle.master_laws.specs.Rows.{rows_of};
+ghost use Rattle.master_rows.specs.NodeRows.{AreRows};
+ghost use Rattle.tree_pool.specs.Pools.{IsPool, IsGrown};
+ghost use Rattle.node_master.specs.Columns.{IsDesk};
+
+use crate::asked::{Asked, KAPPA};
+use crate::desk::Desk;
+use crate::first::desk_of;
+use crate::hint::Hint;
+use crate::listed::first_wide;
+use crate::scouting::{basic_own, basic_trees, list_trees, scout_of};
+use crate::trees::list_cheapest;
+use cheapest_tree::Pricer;
+use master_rows::NodeRows;
+use parse_graph::Graph;
+use roster_model::{Cut, Instance, Memory};
+use scout::{Limits, Scout, Scouted};
+use std::alloc::Global;
+use tree_pool::Pool;
+
+/// How many rounds of steps and of pricing a hunt takes.
+const ROUNDS: u32 = 2_000;
+
+/// The work at a scout, in entries touched, after which a hunt ends.
+const WORK: u64 = 8_000_000_000;
+
+/// The steps of a round.
+const LIMITS: Limits = Limits {
+    dual: 3_000,
+    primal: 20_000,
+};
+
+/// The weights of the best prices, in sixteenths, at which a round asks beside the scout's own.
+const WEIGHTS: [i128; 4] = [12, 9, 6, 3];
+
+/// Lists a tree of negative reduced cost at prices in units of 2^-24, and returns its column.
+fn ask(
+    alloc: Global,
+    instance: &Instance,
+    cuts: &[Cut],
+    graph: &Graph,
+    rows: &NodeRows,
+    y: &[i128],
+    pricer: &mut Pricer,
+    pool: &mut Pool,
+    desk: &mut Desk,
+) -> Result<Option<usize>, Memory>
+    requires sound { IsSoundInstance instance.now }
+    requires graph { IsGraph instance.now.grammar graph.now }
+    requires made { IsMadeFor graph.now pricer.old }
+    requires rows { AreRows instance.now cuts.now rows.now }
+    requires small { length (rows_of instance.now cuts.now) ≤ 1500 }
+    requires y { length y.now ≡ length (rows_of instance.now cuts.now) }
+    requires pool { IsPool instance.now.grammar pool.old }
+    requires desk { IsDesk instance.now cuts.now pool.old desk.old }
+    ensures made { IsMadeFor graph.now pricer.new }
+    ensures pool { IsPool instance.now.grammar pool.new }
+    ensures grown { IsGrown pool.old pool.new }
+    ensures desk { IsDesk instance.now cuts.now pool.new desk.new }
+{
+    if first_wide(y, KAPPA).is_some() {
+        return Ok(None);
+    }
+    list_cheapest(
+        alloc, instance, cuts, graph, rows, y, pricer, pool, desk, KAPPA,
+    )
+}
+
+/// Lists a tree at mixed prices, and says whether it is cheap.
+fn ask_mixed(
+    alloc: Global,
+    instance: &Instance,
+    cuts: &[Cut],
+    graph: &Graph,
+    rows: &NodeRows,
+    asked: &mut Asked,
+    pricer: &mut Pricer,
+    pool: &mut Pool,
+    desk: &mut Desk,
+    scout: &Scout,
+    weight: i128,
+) -> Result<bool, Memory>
+    requires sound { IsSoundInstance instance.now }
+    requires graph { IsGraph instance.now.grammar graph.now }
+    requires made { IsMadeFor graph.now pricer.old }
+    requires rows { AreRows instance.now cuts.now rows.now }
+    requires small { length (rows_of instance.now cuts.now) ≤ 1500 }
+    requires y { length asked.old.y.items ≡ length (rows_of instance.now cuts.now) }
+    requires pool { IsPool instance.now.grammar pool.old }
+    requires desk { IsDesk instance.now cuts.now pool.old desk.old }
+    ensures made { IsMadeFor graph.now pricer.new }
+    ensures pool { IsPool instance.now.grammar pool.new }
+    ensures grown { IsGrown pool.old pool.new }
+    ensures desk { IsDesk instance.now cuts.now pool.new desk.new }
+    ensures y { length asked.new.y.items ≡ length asked.old.y.items }
+{
+    asked.mix(scout.prices(), weight);
+    let found = ask(
+        alloc,
+        instance,
+        cuts,
+        graph,
+        rows,
+        asked.y.as_slice(),
+        pricer,
+        pool,
+        desk,
+    )?;
+    let Some(column) = found else {
+        return Ok(false);
+    };
+    Ok(asked.note(
+        desk.held.as_slice(),
+        column,
+        rows.right(),
+        instance.heads_max,
+    ))
+}
+
+/// Lists trees at mixed prices.
+#[tactic(auto, using(crate::proofs::Hunting::grown_chain, crate::proofs::Hunting::grown_same))]
+fn ask_all(
+    alloc: Global,
+    instance: &Instance,
+    cuts: &[Cut],
+    graph: &Graph,
+    rows: &NodeRows,
+    asked: &mut Asked,
+    pricer: &mut Pricer,
+    pool: &mut Pool,
+    desk: &mut Desk,
+    scout: &Scout,
+) -> Result<(), Memory>
+    requires sound { IsSoundInstance instance.now }
+    requires graph { IsGraph instance.now.grammar graph.now }
+    requires made { IsMadeFor graph.now pricer.old }
+    requires rows { AreRows instance.now cuts.now rows.now }
+    requires small { length (rows_of instance.now cuts.now) ≤ 1500 }
+    requires y { length asked.old.y.items ≡ length (rows_of instance.now cuts.now) }
+    requires pool { IsPool instance.now.grammar pool.old }
+    requires desk { IsDesk instance.now cuts.now pool.old desk.old }
+    ensures made { IsMadeFor graph.now pricer.new }
+    ensures pool { IsPool instance.now.grammar pool.new }
+    ensures grown { IsGrown pool.old pool.new }
+    ensures desk { IsDesk instance.now cuts.now pool.new desk.new }
+    ensures y { length asked.new.y.items ≡ length asked.old.y.items }
+{
+    for weight in WEIGHTS {
+        let _is_cheap = ask_mixed(
+            alloc, instance, cuts, graph, rows, asked, pricer, pool, desk, scout, weight,
+        )?;
+    }
+    Ok(())
+}
+
+/// Takes a round: runs the scout, and lists trees that are cheap there. Says whether there were any.
+#[tactic(auto, using(crate::proofs::Hunting::grown_chain))]
+fn hunt_once(
+    alloc: Global,
+    instance: &Instance,
+    cuts: &[Cut],
+    graph: &Graph,
+    rows: &NodeRows,
+    asked: &mut Asked,
+    pricer: &mut Pricer,
+    pool: &mut Pool,
+    desk: &mut Desk,
+    scout: &mut Scout,
+) -> Result<bool, Memory>
+    requires sound { IsSoundInstance instance.now }
+    requires graph { IsGraph instance.now.grammar graph.now }
+    requires made { IsMadeFor graph.now pricer.old }
+    requires rows { AreRows instance.now cuts.now rows.now }
+    requires small { length (rows_of instance.now cuts.now) ≤ 1500 }
+    requires y { length asked.old.y.items ≡ length (rows_of instance.now cuts.now) }
+    requires pool { IsPool instance.now.grammar pool.old }
+    requires desk { IsDesk instance.now cuts.now pool.old desk.old }
+    ensures made { IsMadeFor graph.now pricer.new }
+    ensures pool { IsPool instance.now.grammar pool.new }
+    ensures grown { IsGrown pool.old pool.new }
+    ensures desk { IsDesk instance.now cuts.now pool.new desk.new }
+    ensures y { length asked.new.y.items ≡ length asked.old.y.items }
+{
+    if scout.work() > WORK || scout.run(LIMITS) != Scouted::Optimal {
+        return Ok(false);
+    }
+    let first = desk.held.len();
+    let is_cheap = ask_mixed(
+        alloc, instance, cuts, graph, rows, asked, pricer, pool, desk, scout, 0,
+    )?;
+    if !is_cheap {
+        return Ok(false);
+    }
+    ask_all(
+        alloc, instance, cuts, graph, rows, asked, pricer, pool, desk, scout,
+    )?;
+    list_trees(scout, desk.held.as_slice(), first)?;
+    Ok(true)
+}
+
+/// Takes rounds until no tree is cheap.
+#[tactic(auto, using(crate::proofs::Hunting::grown_chain, crate::proofs::Hunting::grown_same))]
+fn hunt_rounds(
+    alloc: Global,
+    instance: &Instance,
+    cuts: &[Cut],
+    graph: &Graph,
+    rows: &NodeRows,
+    asked: &mut Asked,
+    pricer: &mut Pricer,
+    pool: &mut Pool,
+    desk: &mut Desk,
+    scout: &mut Scout,
+) -> Result<(), Memory>
+    requires sound { IsSoundInstance instance.now }
+    requires graph { IsGraph instance.now.grammar graph.now }
+    requires made { IsMadeFor graph.now pricer.old }
+    requires rows { AreRows instance.now cuts.now rows.now }
+    requires small { length (rows_of instance.now cuts.now) ≤ 1500 }
+    requires y { length asked.old.y.items ≡ length (rows_of instance.now cuts.now) }
+    requires pool { IsPool instance.now.grammar pool.old }
+    requires desk { IsDesk instance.now cuts.now pool.old desk.old }
+    ensures made { IsMadeFor graph.now pricer.new }
+    ensures pool { IsPool instance.now.grammar pool.new }
+    ensures grown { IsGrown pool.old pool.new }
+    ensures desk { IsDesk instance.now cuts.now pool.new desk.new }
+{
+    for _round in 0..ROUNDS {
+        let goes_on = hunt_once(
+            alloc, instance, cuts, graph, rows, asked, pricer, pool, desk, scout,
+        )?;
+        if !goes_on {
+            return Ok(());
+        }
+    }
+    Ok(())
+}
+
+/// Returns the basis of a scout of the columns at a desk.
+fn hint_of(alloc: Global, desk: &Desk, scout: &Scout) -> Result<Hint, Memory> {
+    let held = desk.held.as_slice();
+    Ok(Hint {
+        trees: basic_trees(alloc, held, scout)?,
+        own: basic_own(alloc, held, scout)?,
+    })
+}
+
+/// Hunts with a new scout, and returns its last basis.
+fn hunt_at(
+    alloc: Global,
+    instance: &Instance,
+    cuts: &[Cut],
+    graph: &Graph,
+    rows: &NodeRows,
+    asked: &mut Asked,
+    pricer: &mut Pricer,
+    pool: &mut Pool,
+    desk: &mut Desk,
+) -> Result<Hint, Memory>
+    requires sound { IsSoundInstance instance.now }
+    requires graph { IsGraph instance.now.grammar graph.now }
+    requires made { IsMadeFor graph.now pricer.old }
+    requires rows { AreRows instance.now cuts.now rows.now }
+    requires small { length (rows_of instance.now cuts.now) ≤ 1500 }
+    requires y { length asked.old.y.items ≡ length (rows_of instance.now cuts.now) }
+    requires pool { IsPool instance.now.grammar pool.old }
+    requires desk { IsDesk instance.now cuts.now pool.old desk.old }
+    ensures made { IsMadeFor graph.now pricer.new }
+    ensures pool { IsPool instance.now.grammar pool.new }
+    ensures grown { IsGrown pool.old pool.new }
+{
+    let mut scout = scout_of(alloc, desk.held.as_slice(), rows.right())?;
+    hunt_rounds(
+        alloc, instance, cuts, graph, rows, asked, pricer, pool, desk, &mut scout,
+    )?;
+    hint_of(alloc, desk, &scout)
+}
+
+/// Hunts at a desk, and returns the last basis.
+fn hunt_from(
+    alloc: Global,
+    instance: &Instance,
+    cuts: &[Cut],
+    graph: &Graph,
+    rows: &NodeRows,
+    pricer: &mut Pricer,
+    pool: &mut Pool,
+    desk: &mut Desk,
+) -> Result<Hint, Memory>
+    requires sound { IsSoundInstance instance.now }
+    requires graph { IsGraph instance.now.grammar graph.now }
+    requires made { IsMadeFor graph.now pricer.old }
+    requires rows { AreRows instance.now cuts.now rows.now }
+    requires small { length (rows_of instance.now cuts.now) ≤ 1500 }
+    requires pool { IsPool instance.now.grammar pool.old }
+    requires desk { IsDesk instance.now cuts.now pool.old desk.old }
+    ensures made { IsMadeFor graph.now pricer.new }
+    ensures pool { IsPool instance.now.grammar pool.new }
+    ensures grown { IsGrown pool.old pool.new }
+{
+    let mut asked = Asked::new(alloc, rows.right().len())?;
+    hunt_at(
+        alloc, instance, cuts, graph, rows, &mut asked, pricer, pool, desk,
+    )
+}
+
+/// Looks for a good basis of a node's master in fixed point, whose trees the pool gets, and returns it.
+/// It is a hint: whatever it is, what the master answers with it is right.
+pub(crate) fn hunt(
+    alloc: Global,
+    instance: &Instance,
+    graph: &Graph,
+    pricer: &mut Pricer,
+    pool: &mut Pool,
+    cuts: &[Cut],
+    rows: &NodeRows,
+    wanted: &[usize],
+) -> Result<Hint, Memory>
+    requires sound { IsSoundInstance instance.now }
+    requires graph { IsGraph instance.now.grammar graph.now }
+    requires pricer { IsMadeFor graph.now pricer.old }
+    requires pool { IsPool instance.now.grammar pool.old }
+    requires rows { AreRows instance.now cuts.now rows.now }
+    requires small { length (rows_of instance.now cuts.now) ≤ 1500 }
+    ensures pricer { IsMadeFor graph.now pricer.new }
+    ensures pool { IsPool instance.now.grammar pool.new }
+    ensures grown { IsGrown pool.old pool.new }
+{
+    let mut desk = desk_of(alloc, instance, cuts, rows, pool, wanted)?;
+    hunt_from(alloc, instance, cuts, graph, rows, pricer, pool, &mut desk)
+}

@@ -1,0 +1,142 @@
+ghost use Rattle.std.specs.Prelude.{◌≡◌};
+
+use crate::desk::{Held, Kind};
+use pivot_rows::Place;
+use roster_model::{List, Memory};
+use scout::{Key, Scout, Sign};
+use std::alloc::Global;
+
+/// What an artificial column costs in a scout at most.
+const ARTIFICIAL: i64 = 131_072;
+
+/// Sets the number of a row.
+fn set<T: Copy + Drop>(numbers: &mut [T], row: usize, number: T) {
+    if let Some(place) = numbers.get_mut(row) {
+        *place = number;
+    }
+}
+
+/// Sets the costs of the rows' own columns.
+fn set_costs(held: &[Held], missing: &mut [i64], beyond: &mut [Option<i64>]) {
+    for one in held {
+        match one.kind {
+            Kind::Missing(row) => set(missing, row, one.cost.min(ARTIFICIAL)),
+            Kind::Beyond(row) => set(beyond, row, Some(one.cost)),
+            Kind::OfTree(_) => {}
+        }
+    }
+}
+
+/// Lists the column of a tree in a scout.
+fn list_column(scout: &mut Scout, cost: i64, places: &[Place]) -> Result<(), Memory> {
+    let _number = scout.add_column(cost)?;
+    for place in places {
+        let sign = if place.value < 0 {
+            Sign::Minus
+        } else {
+            Sign::Plus
+        };
+        scout.add_entry(place.row, sign)?;
+    }
+    Ok(())
+}
+
+/// Lists the trees among columns in a scout, from a place on.
+pub(crate) fn list_trees(scout: &mut Scout, held: &[Held], first: usize) -> Result<(), Memory> {
+    for one in held.iter().skip(first) {
+        if let Kind::OfTree(_) = one.kind {
+            list_column(scout, one.cost, one.places.as_slice())?;
+        }
+    }
+    Ok(())
+}
+
+/// Returns a scout with the rows' own columns among these.
+fn scout_of_rows(alloc: Global, held: &[Held], right: &[i64]) -> Result<Scout, Memory> {
+    let Ok(mut missing) = vec![in alloc; 0i64; right.len()] else {
+        return Err(Memory);
+    };
+    let Ok(mut beyond) = vec![in alloc; None; right.len()] else {
+        return Err(Memory);
+    };
+    set_costs(held, missing.as_mut_slice(), beyond.as_mut_slice());
+    Scout::new(alloc, right, missing.as_slice(), beyond.as_slice())
+}
+
+/// Returns a scout with these columns, started for dual steps.
+pub(crate) fn scout_of(alloc: Global, held: &[Held], right: &[i64]) -> Result<Scout, Memory> {
+    let mut scout = scout_of_rows(alloc, held, right)?;
+    list_trees(&mut scout, held, 0)?;
+    let _started = scout.start_beyond();
+    Ok(scout)
+}
+
+/// Returns the place of the first tree among columns.
+fn first_tree(held: &[Held]) -> usize {
+    for (place, one) in held.iter().enumerate() {
+        if let Kind::OfTree(_) = one.kind {
+            return place;
+        }
+    }
+    held.len()
+}
+
+/// Returns the tree of the pool in the basis of a scout at a place, if there is one.
+fn basic_tree(held: &[Held], first: usize, scout: &Scout, place: usize) -> Option<usize> {
+    let Some(Key::Listed(number)) = scout.basic(place) else {
+        return None;
+    };
+    let one = held.get(first.saturating_add(number))?;
+    match one.kind {
+        Kind::OfTree(tree) => Some(tree),
+        _ => None,
+    }
+}
+
+/// Returns the trees of the pool in the basis of a scout, of which these are the columns.
+pub(crate) fn basic_trees(
+    alloc: Global,
+    held: &[Held],
+    scout: &Scout,
+) -> Result<List<usize>, Memory> {
+    let first = first_tree(held);
+    let mut trees = List::new(alloc);
+    for place in 0..scout.rows() {
+        if let Some(tree) = basic_tree(held, first, scout, place) {
+            trees.push(tree)?;
+        }
+    }
+    Ok(trees)
+}
+
+/// Whether a column is that of a row with this key.
+fn is_own(one: &Held, key: Key) -> bool {
+    match (one.kind, key) {
+        (Kind::Missing(row), Key::Missing(other)) => row == other,
+        (Kind::Beyond(row), Key::Beyond(other)) => row == other,
+        _ => false,
+    }
+}
+
+/// Returns the column of a row with this key.
+fn own_column(held: &[Held], key: Key) -> Option<u32> {
+    for (column, one) in held.iter().enumerate() {
+        if is_own(one, key) {
+            return u32::try_from(column).ok();
+        }
+    }
+    None
+}
+
+/// Returns the columns of the rows in the basis of a scout.
+pub(crate) fn basic_own(alloc: Global, held: &[Held], scout: &Scout) -> Result<List<u32>, Memory> {
+    let mut columns = List::new(alloc);
+    for place in 0..scout.rows() {
+        if let Some(key) = scout.basic(place) {
+            if let Some(column) = own_column(held, key) {
+                columns.push(column)?;
+            }
+        }
+    }
+    Ok(columns)
+}

@@ -1,0 +1,5 @@
+pub mod TightLeaves
+pub mod NodesAlone
+pub mod OneAnswer
+pub mod MoreHeads
+pub mod Points

@@ -1,0 +1,13 @@
+use Rattle.std.proofs.Common.{sym, subst}
+use Rattle.certificates.specs.declared.cert.Cert.{Cert}
+use Rattle.proof_check.specs.Verdicts.{IsVerdict}
+use Rattle.proof_reuse.specs.declared.nodes.Reused.{Reused}
+use Rattle.proof_reuse.specs.Reuse.{IsReuse}
+use Rattle.proof_reuse.proofs.NodesAlone.{told-is}
+use Rattle.proof_reuse.proofs.nodes.reuse.Goals as goal
+
+pub returns : goal.returns
+returns c =
+    let day = c.args.instance.now in
+    let verdict = subst (λ (n : Cert). IsVerdict day n c.judge.result) c.without_roster-nodes.ensures c.judge.ensures.verdict in
+    subst (λ (r : Reused). IsReuse day c.args.cert r) (sym c.told.ensures) (told-is day c.args.cert c.requires.sound c.requires.cert c.judge.result verdict)

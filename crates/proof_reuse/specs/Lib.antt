@@ -1,0 +1,3 @@
+pub mod Reuse
+pub mod Curves
+pub mod Laws

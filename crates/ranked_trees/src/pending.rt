@@ -1,0 +1,60 @@
+ghost use Rattle.std.specs.Prelude.{◌≡◌, [], ◌∷◌, OnOk, IfOk, MatchOption};
+
+use crate::frame::Frame;
+use roster_model::Memory;
+use std::alloc::Global;
+use std::marker::Model;
+
+/// What is still to be derived, side by side. A contract sees the frames in the order of their spans.
+#[derive(Drop)]
+pub struct Pending {
+    // The first frame stands last.
+    frames: Vec<Frame>,
+}
+
+impl Model for Pending {
+    ghost use Rattle.std.specs.Prelude.{List, reverse};
+    ghost use Rattle.ranked_trees.specs.declared.frame.Frame.{Frame};
+
+    ghost Value = { List Frame };
+
+    ghost view = { λ p. reverse p.frames.items };
+}
+
+impl Pending {
+    /// Returns nothing to derive.
+    pub fn new(alloc: Global) -> Pending
+        ensures { result ≡ [] }
+    {
+        Pending {
+            frames: Vec::new(alloc),
+        }
+    }
+
+    /// Puts a frame before the others.
+    pub fn push(&mut self, frame: Frame) -> Result<(), Memory>
+        ensures { OnOk result (self.new ≡ frame ∷ self.old) }
+    {
+        match self.frames.push(frame) {
+            Ok(()) => Ok(()),
+            Err(_) => Err(Memory),
+        }
+    }
+
+    /// Takes the first frame; `None` where there is none.
+    pub fn pop(&mut self) -> Option<Frame>
+        ensures { MatchOption result ((self.old ≡ []) × (self.new ≡ [])) (λ f. self.old ≡ f ∷ self.new) }
+    {
+        self.frames.pop()
+    }
+
+    /// Returns the same frames once more.
+    pub fn copy(&self, alloc: Global) -> Result<Pending, Memory>
+        ensures { IfOk result (λ p. p ≡ self.now) }
+    {
+        match Vec::from_slice(alloc, self.frames.as_slice()) {
+            Ok(frames) => Ok(Pending { frames }),
+            Err(_) => Err(Memory),
+        }
+    }
+}

@@ -1,0 +1,2 @@
+pub mod ReusedText
+pub mod CurveText

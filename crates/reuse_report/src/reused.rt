@@ -1,0 +1,29 @@
+ghost use Rattle.std.specs.Prelude.{◌≡◌, IfOk};
+ghost use Rattle.reuse_report.specs.ReusedText.{bound_text, reused_text};
+
+use bound_proof::amount_line;
+use certificates::Verdict;
+use proof_reuse::Reused;
+use roster_model::{List, Memory};
+use shift_report::write_verdict;
+use std::alloc::Global;
+
+/// Returns the line of a bound.
+fn write_bound(alloc: Global, bound: Option<u64>) -> Result<List<u8>, Memory>
+    ensures { IfOk result (λ text. text ≡ bound_text bound) }
+{
+    let mut out = List::new(alloc);
+    amount_line(&mut out, b"bound", bound)?;
+    Ok(out)
+}
+
+/// Returns what is said of an old certificate: the line `bound X`, where X is a number or `none`, or the
+/// line `no` with the number of the cause, its name and its values. After want of memory there is no text.
+pub fn write_reused(alloc: Global, reused: &Reused) -> Result<List<u8>, Memory>
+    ensures { IfOk result (λ text. text ≡ reused_text reused.now) }
+{
+    match *reused {
+        Reused::Bound(bound) => write_bound(alloc, bound),
+        Reused::Refused(why) => write_verdict(alloc, &Verdict::No(why)),
+    }
+}

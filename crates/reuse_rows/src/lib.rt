@@ -1,0 +1,5 @@
+//! Worked rows of old certificates and of curves, as tests over public calls.
+#![tactic(auto)]
+
+#[cfg(test)]
+mod tests;

@@ -1,0 +1,32 @@
+//! A linear program in fixed point, by the revised simplex method with a dense inverse of its basis.
+//!
+//! What it answers are hints for an exact method: a good basis, prices and values. Each call returns,
+//! no number wraps, and beyond its bounds it answers that it grew.
+#![tactic(auto)]
+
+mod column;
+mod compare;
+mod copying;
+mod fixed;
+mod inverse;
+mod key;
+mod line;
+mod listing;
+mod making;
+mod pivot;
+mod probing;
+mod refresh;
+mod run;
+mod scout;
+mod start;
+mod state;
+mod steps;
+mod sweeps;
+mod values;
+
+pub use fixed::{Grown, Q24, Q32};
+pub use key::Key;
+pub use probing::LastRow;
+pub use run::Sign;
+pub use scout::Scout;
+pub use steps::{Limits, Scouted};

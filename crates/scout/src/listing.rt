@@ -1,0 +1,67 @@
+use crate::column::{Column, Standing};
+use crate::run::{Run, Sign};
+use crate::state::State;
+use roster_model::Memory;
+
+/// Whether a run goes on with an entry in a row.
+fn goes_on(run: &Run, row: u32, sign: Sign) -> bool {
+    run.end == row && run.sign == sign
+}
+
+/// Makes the last run longer, if it goes on with an entry in a row. Says whether it was.
+fn lengthen(runs: &mut [Run], row: u32, sign: Sign) -> bool {
+    match runs.last_mut() {
+        Some(run) if goes_on(run, row, sign) => {
+            run.end = row.saturating_add(1);
+            true
+        }
+        _ => false,
+    }
+}
+
+impl State {
+    /// Lists a column without entries.
+    pub(crate) fn add_column(&mut self, cost: i64, standing: Standing) -> Result<(), Memory> {
+        let place = self.runs.len();
+        match self.columns.push(Column::new(cost, place, place, standing)) {
+            Ok(()) => Ok(()),
+            Err(_) => Err(Memory),
+        }
+    }
+
+    /// Adds an entry to the last column, in a row behind those of its other entries.
+    pub(crate) fn add_entry(&mut self, row: u32, sign: Sign) -> Result<(), Memory> {
+        let Some(column) = self.columns.as_mut_slice().last_mut() else {
+            return Ok(());
+        };
+        if column.first < column.end && lengthen(self.runs.as_mut_slice(), row, sign) {
+            return Ok(());
+        }
+        let end = row.saturating_add(1);
+        if self
+            .runs
+            .push(Run {
+                first: row,
+                end,
+                sign,
+            })
+            .is_err()
+        {
+            return Err(Memory);
+        }
+        column.end = self.runs.len();
+        Ok(())
+    }
+
+    /// Lists the column of one entry.
+    pub(crate) fn add_unit(
+        &mut self,
+        cost: i64,
+        row: u32,
+        sign: Sign,
+        standing: Standing,
+    ) -> Result<(), Memory> {
+        self.add_column(cost, standing)?;
+        self.add_entry(row, sign)
+    }
+}

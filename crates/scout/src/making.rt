@@ -1,0 +1,103 @@
+use crate::column::Standing;
+use crate::fixed::{Q24, Q32};
+use crate::line::{Entry, Line};
+use crate::run::Sign;
+use crate::state::{Desk, State};
+use roster_model::Memory;
+use std::alloc::{AllocError, Global};
+
+/// Returns rows of zeros.
+fn make_lines(alloc: Global, rows: usize) -> Result<Vec<Line>, AllocError> {
+    let mut lines = Vec::with_capacity(alloc, rows)?;
+    for _row in 0..rows {
+        lines.push(Line {
+            numbers: vec![in alloc; Q32(0); rows]?,
+        })?;
+    }
+    Ok(lines)
+}
+
+/// Returns an empty desk for so many rows.
+fn make_desk(alloc: Global, rows: usize) -> Result<Desk, AllocError> {
+    let mut sums = vec![in alloc; 0i64; rows]?;
+    sums.push(0)?;
+    Ok(Desk {
+        alphas: vec![in alloc; Q32(0); rows]?,
+        scaled: vec![in alloc; Q32(0); rows]?,
+        entries: Vec::with_capacity(alloc, rows)?,
+        sums,
+        taken: vec![in alloc; false; rows]?,
+        target: Vec::with_capacity(alloc, rows)?,
+    })
+}
+
+/// Returns a list of the right sides.
+fn make_right(alloc: Global, right: &[i64]) -> Result<Vec<i64>, AllocError> {
+    let mut sides = Vec::with_capacity(alloc, right.len())?;
+    for side in right {
+        sides.push(*side)?;
+    }
+    Ok(sides)
+}
+
+/// Returns a program without columns.
+fn make_empty(alloc: Global, right: &[i64]) -> Result<State, AllocError> {
+    let rows = right.len();
+    Ok(State {
+        right: make_right(alloc, right)?,
+        columns: Vec::new(alloc),
+        runs: Vec::new(alloc),
+        lines: make_lines(alloc, rows)?,
+        values: vec![in alloc; Q32(0); rows]?,
+        prices: vec![in alloc; Q24(0); rows]?,
+        basis: vec![in alloc; 0usize; rows]?,
+        norms: vec![in alloc; 0u64; rows]?,
+        has_norms: false,
+        priced: 0,
+        is_stale: true,
+        since: 0,
+        pivots: 0,
+        work: 0,
+        desk: make_desk(alloc, rows)?,
+    })
+}
+
+impl State {
+    /// Lists the columns of what is missing.
+    fn add_missing(&mut self, missing: &[i64]) -> Result<(), Memory> {
+        let mut row = 0u32;
+        for cost in missing {
+            self.add_unit(*cost, row, Sign::Plus, Standing::Free)?;
+            row = row.saturating_add(1);
+        }
+        Ok(())
+    }
+
+    /// Lists the columns of what is beyond.
+    fn add_beyond(&mut self, beyond: &[Option<i64>]) -> Result<(), Memory> {
+        let mut row = 0u32;
+        for cost in beyond {
+            match cost {
+                Some(cost) => self.add_unit(*cost, row, Sign::Minus, Standing::Free)?,
+                None => self.add_unit(0, row, Sign::Minus, Standing::Barred)?,
+            }
+            row = row.saturating_add(1);
+        }
+        Ok(())
+    }
+}
+
+/// Returns a program whose columns are those of what is missing and of what is beyond.
+pub(crate) fn make_state(
+    alloc: Global,
+    right: &[i64],
+    missing: &[i64],
+    beyond: &[Option<i64>],
+) -> Result<State, Memory> {
+    let Ok(mut state) = make_empty(alloc, right) else {
+        return Err(Memory);
+    };
+    state.add_missing(missing)?;
+    state.add_beyond(beyond)?;
+    Ok(state)
+}

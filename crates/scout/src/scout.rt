@@ -1,0 +1,237 @@
+ghost use Rattle.std.specs.Prelude.{◌≡◌, ◌+◌, ◌<◌, length, IfOk, IfSome, OnErr};
+ghost use Rattle.scout.specs.Sizes.{row_count, listed_count, SameSizes, IsKey};
+
+use crate::column::Standing;
+use crate::fixed::{Grown, Q24, Q32, product};
+use crate::key::Key;
+use crate::making::make_state;
+use crate::probing::{LastRow, Members};
+use crate::run::Sign;
+use crate::state::{State, cost_of};
+use crate::steps::{Limits, Scouted};
+use roster_model::Memory;
+use std::alloc::Global;
+
+/// The most columns that are listed.
+const COLUMNS: usize = 1_048_576;
+
+/// A linear program of rows with right sides and of columns with costs, whose entries are 1 and -1, and
+/// a basis of it.
+///
+/// Each row has a column whose one entry is 1, and perhaps one whose one entry is -1; further columns are
+/// listed under numbers from 0 on. What the calls answer is right within tolerances where no number grew,
+/// and nothing rests on it.
+#[derive(Drop)]
+pub struct Scout {
+    rows: usize,
+    count: usize,
+    state: State,
+}
+
+impl Scout {
+    /// Returns a program with these right sides. `missing` has the cost of each row's column of entry 1,
+    /// and `beyond` that of its column of entry -1, where it has one.
+    ///
+    /// It has no basis before a start.
+    pub fn new(
+        alloc: Global,
+        right: &[i64],
+        missing: &[i64],
+        beyond: &[Option<i64>],
+    ) -> Result<Scout, Memory>
+        ensures rows { IfOk result (λ s. row_count s ≡ length right.now) }
+        ensures count { IfOk result (λ s. listed_count s ≡ 0) }
+    {
+        Ok(Scout {
+            rows: right.len(),
+            count: 0,
+            state: make_state(alloc, right, missing, beyond)?,
+        })
+    }
+
+    /// Returns the number of rows.
+    pub fn rows(&self) -> usize
+        ensures { result ≡ row_count self.now }
+    {
+        self.rows
+    }
+
+    /// Returns how many columns are listed.
+    pub fn count(&self) -> usize
+        ensures { result ≡ listed_count self.now }
+    {
+        self.count
+    }
+
+    /// Lists a column without entries, and returns its number. Beyond 1,048,576 columns none is listed.
+    pub fn add_column(&mut self, cost: i64) -> Result<usize, Memory>
+        ensures rows { row_count self.new ≡ row_count self.old }
+        ensures number { IfOk result (λ number. number ≡ listed_count self.old) }
+        ensures more { IfOk result (λ _. listed_count self.new ≡ listed_count self.old + 1) }
+        ensures same { OnErr result (listed_count self.new ≡ listed_count self.old) }
+    {
+        if self.count >= COLUMNS {
+            return Err(Memory);
+        }
+        let number = self.count;
+        self.state.add_column(cost, Standing::Free)?;
+        self.count = number + 1;
+        Ok(number)
+    }
+
+    /// Adds an entry to the column that was listed last, in a row behind those of its other entries.
+    pub fn add_entry(&mut self, row: u32, sign: Sign) -> Result<(), Memory>
+        ensures { SameSizes self.old self.new }
+    {
+        self.state.add_entry(row, sign)
+    }
+
+    /// Sets the right side of a row; the next run works the values out again. Takes no memory.
+    pub fn set_right(&mut self, row: usize, right: i64)
+        ensures { SameSizes self.old self.new }
+    {
+        self.state.is_stale = true;
+        if let Some(side) = self.state.right.as_mut_slice().get_mut(row) {
+            *side = right;
+        }
+    }
+
+    /// Starts from a basis with these columns, as far as they are listed and independent; in the rows that
+    /// are left it has the columns of entry 1. Takes no memory.
+    pub fn start(&mut self, keys: &[Key]) -> Result<(), Grown>
+        ensures { SameSizes self.old self.new }
+    {
+        self.state.start(keys)
+    }
+
+    /// Starts from the columns of entry -1, and in rows without one of those of entry 1: no column has
+    /// a negative reduced cost there unless its own cost is negative. Takes no memory.
+    pub fn start_beyond(&mut self) -> Result<(), Grown>
+        ensures { SameSizes self.old self.new }
+    {
+        self.state.start_beyond(i64::MAX)
+    }
+
+    /// Starts from the columns of entry 1, and in rows of a negative right side of those of entry -1: no
+    /// value is negative there. Takes no memory.
+    pub fn start_missing(&mut self) -> Result<(), Grown>
+        ensures { SameSizes self.old self.new }
+    {
+        self.state.start_beyond(0)
+    }
+
+    /// Takes dual steps while a value is negative, and then primal steps while a listed column has
+    /// a negative reduced cost. Takes no memory.
+    pub fn run(&mut self, limits: Limits) -> Scouted
+        ensures { SameSizes self.old self.new }
+    {
+        self.state.run(limits)
+    }
+
+    /// Returns the column of a place in the program.
+    fn key_of(&self, place: usize) -> Option<Key>
+        ensures { IfSome result (IsKey self.now) }
+    {
+        if place < self.rows {
+            return Some(Key::Missing(place));
+        }
+        let behind = place - self.rows;
+        if behind < self.rows {
+            return Some(Key::Beyond(behind));
+        }
+        let number = behind - self.rows;
+        if number < self.count {
+            Some(Key::Listed(number))
+        } else {
+            None
+        }
+    }
+
+    /// Returns the column in the basis at a place below the number of rows.
+    pub fn basic(&self, place: usize) -> Option<Key>
+        ensures { IfSome result (IsKey self.now) }
+    {
+        match self.state.basis.as_slice().get(place) {
+            Some(column) => self.key_of(*column),
+            None => None,
+        }
+    }
+
+    /// Returns the values of the columns in the basis, by their places.
+    pub fn values(&self) -> &[Q32] {
+        self.state.values.as_slice()
+    }
+
+    /// Returns the prices of the rows.
+    pub fn prices(&self) -> &[Q24] {
+        self.state.prices.as_slice()
+    }
+
+    /// Returns the reduced cost of a listed column after a run.
+    pub fn reduced(&self, number: usize) -> Option<Q24> {
+        let place = self.rows.saturating_mul(2).saturating_add(number);
+        match self.state.columns.as_slice().get(place) {
+            Some(column) => Some(column.reduced),
+            None => None,
+        }
+    }
+
+    /// Returns what the basis costs, in units of 2^-32.
+    pub fn value(&self) -> i128 {
+        let mut total = 0i128;
+        for (value, place) in self
+            .state
+            .values
+            .as_slice()
+            .iter()
+            .zip(self.state.basis.as_slice())
+        {
+            let cost = cost_of(self.state.columns.as_slice(), *place);
+            total = total.saturating_add(product(value.0, cost));
+        }
+        total
+    }
+
+    /// Returns how many pivots all runs made.
+    pub fn pivots(&self) -> u64 {
+        self.state.pivots
+    }
+
+    /// Returns how many entries all steps have touched.
+    pub fn work(&self) -> u64 {
+        self.state.work
+    }
+
+    /// Becomes a copy of another program with as many rows. Takes memory only where the other has more
+    /// columns or entries than this one ever had.
+    pub fn copy_from(&mut self, other: &Scout) -> Result<(), Memory>
+        requires { row_count self.old ≡ row_count other.now }
+        ensures rows { row_count self.new ≡ row_count self.old }
+        ensures count { IfOk result (λ _. listed_count self.new ≡ listed_count other.now) }
+    {
+        self.state.copy_from(&other.state)?;
+        self.count = other.count;
+        Ok(())
+    }
+
+    /// Becomes a copy of another program with as many rows whose last row was empty; here that row is
+    /// this one, and the flagged listed columns have an entry 1 in it. A basis of the other with the new
+    /// row's slack, or its column of entry -1 where the other one is dear, is the basis: its reduced costs
+    /// stay. Takes memory as `copy_from` does.
+    pub fn copy_with_row(
+        &mut self,
+        other: &Scout,
+        row: LastRow,
+        flags: &[bool],
+    ) -> Result<Result<(), Grown>, Memory>
+        requires { row_count self.old ≡ row_count other.now }
+        ensures rows { row_count self.new ≡ row_count self.old }
+        ensures count { IfOk result (λ _. listed_count self.new ≡ listed_count other.now) }
+    {
+        let units = self.rows.saturating_mul(2);
+        let members = Members { units, flags };
+        self.state.copy_with(&other.state, members)?;
+        self.count = other.count;
+        Ok(self.state.change_last(row, members))
+    }
+}

@@ -1,0 +1,215 @@
+use crate::column::{Column, Standing};
+use crate::fixed::{Grown, ONE, Q32};
+use crate::key::Key;
+use crate::line::{Line, set_unit};
+use crate::state::{State, number_of, set_standing};
+use crate::sweeps::reset_weights;
+use crate::values::free_row;
+
+/// Leaves the unit matrix.
+fn reset_lines(lines: &mut [Line]) {
+    for (row, line) in lines.iter_mut().enumerate() {
+        set_unit(line.numbers.as_mut_slice(), row, Q32(ONE));
+    }
+}
+
+/// Leaves the basis of what is missing.
+fn reset_basis(basis: &mut [usize]) {
+    for (row, basic) in basis.iter_mut().enumerate() {
+        *basic = row;
+    }
+}
+
+/// Frees the basic columns.
+fn free_basic(columns: &mut [Column]) {
+    for column in columns.iter_mut() {
+        if column.is_basic() {
+            column.standing = Standing::Free;
+        }
+    }
+}
+
+/// Makes the columns of the basis basic.
+fn mark_basic(columns: &mut [Column], basis: &[usize]) {
+    for basic in basis {
+        set_standing(columns, *basic, Standing::Basic);
+    }
+}
+
+/// Leaves all rows free.
+fn reset_taken(taken: &mut [bool]) {
+    for is_taken in taken.iter_mut() {
+        *is_taken = false;
+    }
+}
+
+/// Takes a row, if it is there and free. Says whether it was.
+fn take(taken: &mut [bool], row: usize) -> bool {
+    match taken.get_mut(row) {
+        Some(is_taken) if !*is_taken => {
+            *is_taken = true;
+            true
+        }
+        _ => false,
+    }
+}
+
+/// Takes the rows whose columns of what is missing are wanted.
+fn take_missing(taken: &mut [bool], target: &[usize]) {
+    for place in target {
+        let _is_free = take(taken, *place);
+    }
+}
+
+/// Returns the place of a column in a program of so many rows.
+fn place_of(rows: usize, key: Key) -> usize {
+    match key {
+        Key::Missing(row) if row < rows => row,
+        Key::Beyond(row) if row < rows => rows.saturating_add(row),
+        Key::Listed(number) => rows.saturating_mul(2).saturating_add(number),
+        _ => usize::MAX,
+    }
+}
+
+impl State {
+    /// Wants a column in the basis that is to be made.
+    fn want(&mut self, place: usize) {
+        let target = &mut self.desk.target;
+        if target.len() < target.capacity() {
+            target.push_reserved(place);
+        }
+    }
+
+    /// Wants the columns with these keys.
+    fn want_keys(&mut self, keys: &[Key]) {
+        self.desk.target.clear();
+        let rows = self.lines.len();
+        for key in keys {
+            self.want(place_of(rows, *key));
+        }
+    }
+
+    /// Wants the columns of what is beyond in the rows whose right side is below a limit.
+    fn want_beyond(&mut self, limit: i64) {
+        self.desk.target.clear();
+        let rows = self.lines.len();
+        for row in 0..rows {
+            if let Some(right) = self.right.as_slice().get(row).copied() {
+                if right < limit {
+                    self.want(rows.saturating_add(row));
+                }
+            }
+        }
+    }
+
+    /// Wants the columns of the basis.
+    fn want_basis(&mut self) {
+        self.desk.target.clear();
+        for row in 0..self.basis.len() {
+            if let Some(place) = self.basis.as_slice().get(row).copied() {
+                self.want(place);
+            }
+        }
+    }
+
+    /// Puts the column of what is beyond a row into the basis, if there is one and the row is free.
+    fn put_beyond(&mut self, row: usize, place: usize) {
+        let is_free = match self.columns.as_slice().get(place) {
+            Some(column) => column.is_free(),
+            None => false,
+        };
+        if !is_free || !take(self.desk.taken.as_mut_slice(), row) {
+            return;
+        }
+        if let Some(line) = self.lines.as_mut_slice().get_mut(row) {
+            set_unit(line.numbers.as_mut_slice(), row, Q32(-ONE));
+        }
+        if let Some(basic) = self.basis.as_mut_slice().get_mut(row) {
+            *basic = place;
+        }
+    }
+
+    /// Puts a listed column into the basis, in the free row with its greatest entry.
+    fn put_listed(&mut self, place: usize) -> Result<(), Grown> {
+        self.fill_column(place)?;
+        let desk = &self.desk;
+        let Some(row) = free_row(desk.alphas.as_slice(), desk.taken.as_slice()) else {
+            return Ok(());
+        };
+        let pivot = number_of(self.desk.alphas.as_slice(), row)?;
+        self.scale_row(row, pivot)?;
+        self.step_inverse(row)?;
+        if let Some(basic) = self.basis.as_mut_slice().get_mut(row) {
+            *basic = place;
+        }
+        let _is_free = take(self.desk.taken.as_mut_slice(), row);
+        Ok(())
+    }
+
+    /// Puts the wanted columns of what is beyond into the basis.
+    fn put_all_beyond(&mut self) {
+        let rows = self.lines.len();
+        for number in 0..self.desk.target.len() {
+            if let Some(place) = self.desk.target.as_slice().get(number).copied() {
+                if place >= rows && place - rows < rows {
+                    self.put_beyond(place - rows, place);
+                }
+            }
+        }
+    }
+
+    /// Puts the wanted listed columns into the basis.
+    fn put_all_listed(&mut self) -> Result<(), Grown> {
+        let first = self.lines.len().saturating_mul(2);
+        for number in 0..self.desk.target.len() {
+            if let Some(place) = self.desk.target.as_slice().get(number).copied() {
+                if place >= first && place < self.columns.len() {
+                    self.put_listed(place)?;
+                }
+            }
+        }
+        Ok(())
+    }
+
+    /// Leaves the unit matrix as the inverse, and the columns of what is missing as the basis.
+    fn reset(&mut self) {
+        reset_lines(self.lines.as_mut_slice());
+        reset_basis(self.basis.as_mut_slice());
+        free_basic(self.columns.as_mut_slice());
+        reset_weights(self.columns.as_mut_slice());
+        reset_taken(self.desk.taken.as_mut_slice());
+        self.since = 0;
+        self.has_norms = false;
+    }
+
+    /// Makes the inverse anew from the wanted columns. A row for which none is left has that of what is
+    /// missing there.
+    fn make_anew(&mut self) -> Result<(), Grown> {
+        self.reset();
+        take_missing(self.desk.taken.as_mut_slice(), self.desk.target.as_slice());
+        self.put_all_beyond();
+        let put = self.put_all_listed();
+        mark_basic(self.columns.as_mut_slice(), self.basis.as_slice());
+        put?;
+        self.refresh()
+    }
+
+    /// Starts from a basis with these columns.
+    pub(crate) fn start(&mut self, keys: &[Key]) -> Result<(), Grown> {
+        self.want_keys(keys);
+        self.make_anew()
+    }
+
+    /// Starts from the columns of what is beyond in the rows whose right side is below a limit, and of
+    /// what is missing in the others.
+    pub(crate) fn start_beyond(&mut self, limit: i64) -> Result<(), Grown> {
+        self.want_beyond(limit);
+        self.make_anew()
+    }
+
+    /// Makes the inverse anew from its basis.
+    pub(crate) fn renew(&mut self) -> Result<(), Grown> {
+        self.want_basis();
+        self.make_anew()
+    }
+}

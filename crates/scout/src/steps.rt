@@ -1,0 +1,169 @@
+use crate::fixed::Grown;
+use crate::pivot::Step;
+use crate::state::State;
+use crate::sweeps::primal_entering;
+use crate::values::are_feasible;
+
+/// How many steps a run may take.
+#[derive(Clone, Copy, Drop)]
+pub struct Limits {
+    /// Dual steps, between two of its turns.
+    pub dual: u32,
+    /// Primal steps, between two of its turns.
+    pub primal: u32,
+}
+
+/// How a run ended.
+#[derive(Clone, Copy, Debug, PartialEq, Eq, Drop)]
+pub enum Scouted {
+    /// No value is negative, and no listed column has a negative reduced cost, within tolerances.
+    Optimal,
+    /// The steps were taken.
+    Spent,
+    /// A row cannot be met, or the cost has no least value, as far as can be seen.
+    Stuck,
+    /// A number left its bounds.
+    Grew,
+}
+
+/// After so many pivots the inverse is made anew.
+const PIVOTS: u32 = 250;
+
+/// How many turns of dual and primal steps a run takes.
+const TURNS: u32 = 4;
+
+/// Returns the answer that a step ends its loop with, if it does.
+fn ended(step: Result<Step, Grown>) -> Option<Scouted> {
+    match step {
+        Ok(Step::Stepped) => None,
+        Ok(Step::Done) => Some(Scouted::Optimal),
+        Ok(Step::Stuck) => Some(Scouted::Stuck),
+        Err(Grown) => Some(Scouted::Grew),
+    }
+}
+
+/// Returns the answer behind the last step.
+fn spent_unless(is_done: bool) -> Scouted {
+    if is_done {
+        Scouted::Optimal
+    } else {
+        Scouted::Spent
+    }
+}
+
+impl State {
+    /// Makes the inverse anew where many pivots were made.
+    fn renew_old(&mut self) -> Result<(), Grown> {
+        if self.since >= PIVOTS {
+            self.renew()
+        } else {
+            Ok(())
+        }
+    }
+
+    /// Takes one dual step.
+    fn next_dual(&mut self) -> Result<Step, Grown> {
+        self.renew_old()?;
+        self.dual_step()
+    }
+
+    /// Takes one primal step.
+    fn next_primal(&mut self) -> Result<Step, Grown> {
+        self.renew_old()?;
+        self.primal_step()
+    }
+
+    /// Takes dual steps until no value is negative.
+    fn run_dual(&mut self, most: u32) -> Scouted {
+        for _step in 0..most {
+            if let Some(answer) = ended(self.next_dual()) {
+                return answer;
+            }
+        }
+        spent_unless(are_feasible(self.values.as_slice()))
+    }
+
+    /// Takes primal steps until no column has a negative reduced cost.
+    fn run_primal(&mut self, most: u32) -> Scouted {
+        self.has_norms = false;
+        for _step in 0..most {
+            if let Some(answer) = ended(self.next_primal()) {
+                return answer;
+            }
+        }
+        spent_unless(primal_entering(self.columns.as_slice()).is_none())
+    }
+
+    /// Whether the basis is optimal.
+    fn is_optimal(&self) -> bool {
+        are_feasible(self.values.as_slice()) && primal_entering(self.columns.as_slice()).is_none()
+    }
+
+    /// Takes dual steps where a value is negative.
+    fn make_feasible(&mut self, limits: Limits) -> Scouted {
+        if are_feasible(self.values.as_slice()) {
+            return Scouted::Optimal;
+        }
+        let answer = self.run_dual(limits.dual);
+        if answer == Scouted::Spent {
+            let _steps = self.run_primal(limits.primal);
+        }
+        answer
+    }
+
+    /// Takes one turn of dual and primal steps. Says how the run ends, if it does.
+    fn turn(&mut self, limits: Limits) -> Option<Scouted> {
+        let answer = self.make_feasible(limits);
+        if answer != Scouted::Optimal {
+            return Some(answer);
+        }
+        let answer = self.run_primal(limits.primal);
+        if answer != Scouted::Optimal {
+            return Some(answer);
+        }
+        if self.since > 0 && self.refresh().is_err() {
+            return Some(Scouted::Grew);
+        }
+        if self.is_optimal() {
+            Some(Scouted::Optimal)
+        } else {
+            None
+        }
+    }
+
+    /// Takes turns until one ends.
+    fn run_turns(&mut self, limits: Limits) -> Scouted {
+        for _turn in 0..TURNS {
+            if let Some(answer) = self.turn(limits) {
+                return answer;
+            }
+        }
+        Scouted::Spent
+    }
+
+    /// Works out what changed since the last run.
+    fn prepare(&mut self) -> Result<(), Grown> {
+        if self.is_stale {
+            return self.refresh();
+        }
+        self.price_new();
+        Ok(())
+    }
+
+    /// Prepares, and takes turns until one ends.
+    fn run_prepared(&mut self, limits: Limits) -> Scouted {
+        match self.prepare() {
+            Ok(()) => self.run_turns(limits),
+            Err(Grown) => Scouted::Grew,
+        }
+    }
+
+    /// Runs, and where a number left its bounds once more from the same basis.
+    pub(crate) fn run(&mut self, limits: Limits) -> Scouted {
+        let answer = self.run_prepared(limits);
+        if answer != Scouted::Grew || self.renew().is_err() {
+            return answer;
+        }
+        self.run_turns(limits)
+    }
+}
