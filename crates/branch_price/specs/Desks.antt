@@ -17,4 +17,4 @@ pub record ArePricing (i : Instance) (v : GraphView) (p : Pricing) : Type 0 wher
 -- the desk was made for the instance and its graph
 pub record IsDesk (i : Instance) (v : GraphView) (d : Desk) : Type 0 where
   pub pricing : ArePricing i v d.pricing
-  pub rosters : IsDeskFor i.grammar d.rosters
+  pub rosters : IsDeskFor i d.rosters

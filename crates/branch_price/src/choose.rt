@@ -53,14 +53,14 @@ pub(crate) fn plan_for(
     requires loose { IsLooseAt instance.now graph.now cuts.now loose }
     requires shown { IsShown instance.now cuts.now pool.old weights.now value }
     requires pool { IsPool instance.now.grammar pool.old }
-    requires rosters { IsDeskFor instance.now.grammar rosters.old }
+    requires rosters { IsDeskFor instance.now rosters.old }
     requires best { IfSome best.old (IsGoodRoster instance.now) }
     ensures plan { IfOk result (λ plan. MatchOption plan (limit_of instance.now best.new ≤ value)
         (IsPlan instance.now graph.now cuts.now)) }
     ensures better { IsBetter instance.now best.old best.new }
     ensures pool { IsPool instance.now.grammar pool.new }
     ensures grown { IsGrown pool.old pool.new }
-    ensures rosters { IsDeskFor instance.now.grammar rosters.new }
+    ensures rosters { IsDeskFor instance.now rosters.new }
 {
     if limit(instance, best) <= value {
         return Ok(None);

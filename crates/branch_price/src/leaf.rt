@@ -45,7 +45,7 @@ pub(crate) fn pin_leaf(
     requires path { IsPath instance.now graph.now path.old }
     requires pinned { IsPinned instance.now path.old.cuts }
     requires pool { IsPool instance.now.grammar pool.old }
-    requires rosters { IsDeskFor instance.now.grammar rosters.old }
+    requires rosters { IsDeskFor instance.now rosters.old }
     requires node { (strict : Bool) × (before : ℕ) × (now : ℕ) × (low : ℕ)
         × AsksNode instance.now graph.now strict before now low progress.old leaf path.old.cuts }
     ensures turned { OnOk result ((strict : Bool) (before now low : ℕ)
@@ -54,7 +54,7 @@ pub(crate) fn pin_leaf(
     ensures path { IsPath instance.now graph.now path.new }
     ensures pool { IsPool instance.now.grammar pool.new }
     ensures grown { IsGrown pool.old pool.new }
-    ensures rosters { IsDeskFor instance.now.grammar rosters.new }
+    ensures rosters { IsDeskFor instance.now rosters.new }
 {
     let value = pinned_value(instance, graph, path);
     offer_least(

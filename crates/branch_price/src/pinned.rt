@@ -52,13 +52,13 @@ pub(crate) fn offer_least(
     requires value { IsPinnedValue instance.now path.now.cuts value }
     requires cuts { AskForArcs instance.now path.now.cuts }
     requires pool { IsPool instance.now.grammar pool.old }
-    requires rosters { IsDeskFor instance.now.grammar rosters.old }
+    requires rosters { IsDeskFor instance.now rosters.old }
     requires best { IfSome best.old (IsGoodRoster instance.now) }
     ensures reached { OnOk result (limit_of instance.now best.new ≤ value) }
     ensures better { IsBetter instance.now best.old best.new }
     ensures pool { IsPool instance.now.grammar pool.new }
     ensures grown { IsGrown pool.old pool.new }
-    ensures rosters { IsDeskFor instance.now.grammar rosters.new }
+    ensures rosters { IsDeskFor instance.now rosters.new }
 {
     if limit(instance, best) <= value {
         return Ok(());

@@ -121,10 +121,10 @@ pub(crate) fn offer_rounded(
     requires sound { IsSoundInstance instance.now }
     requires pool { IsPool instance.now.grammar pool.now }
     requires weights { All (λ w. w.column < length pool.now) weights.now }
-    requires rosters { IsDeskFor instance.now.grammar rosters.old }
+    requires rosters { IsDeskFor instance.now rosters.old }
     requires best { IfSome best.old (IsGoodRoster instance.now) }
     ensures better { IsBetter instance.now best.old best.new }
-    ensures rosters { IsDeskFor instance.now.grammar rosters.new }
+    ensures rosters { IsDeskFor instance.now rosters.new }
 {
     let columns = rounded(alloc, instance, weights)?;
     let found = roster_of(alloc, instance, pool, columns.as_slice(), rosters)?;

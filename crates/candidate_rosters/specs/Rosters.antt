@@ -4,7 +4,8 @@ use Rattle.roster_model.specs.declared.grammar.Grammar.{Grammar}
 use Rattle.roster_model.specs.declared.instance.Instance.{Instance}
 use Rattle.roster_model.specs.declared.instance.Shift.{Shift}
 use Rattle.roster_model.specs.Folds.{Each}
-use Rattle.roster_model.specs.Rosters.{ArePrices}
+use Rattle.roster_model.specs.Duties.{duty}
+use Rattle.roster_model.specs.Rosters.{ArePrices, IsTeamPrice}
 use Rattle.roster_model.specs.Trees.{Parts}
 use Rattle.span_table.specs.Tables.{IsMadeFor}
 use Rattle.certificates.specs.RosterCauses.{duties, stated_prices}
@@ -42,6 +43,12 @@ abbrev pub CostsAtMost : ℕ → Option Roster → Type 0
 CostsAtMost most None = ⊥
 CostsAtMost most (Some r) = r.cost ≤ most
 
--- the desk was made for the grammar
-abbrev pub IsDeskFor : Grammar → RosterDesk → Type 0
-IsDeskFor g d = IsMadeFor g d.table × (d.room ≡ [])
+-- each is a shift of its team, at its price
+abbrev pub AreKnown : Instance → List Shift → Type 0
+AreKnown i = Each (λ (s : Shift). IsTeamPrice i (duty s) s.price)
+
+-- the desk was made for the instance, and the prices that it knows are right
+pub record IsDeskFor (i : Instance) (d : RosterDesk) : Type 0 where
+  pub table : IsMadeFor i.grammar d.table
+  pub room : d.room ≡ []
+  pub known : AreKnown i d.known

@@ -7,21 +7,23 @@ use roster_part::ShiftRoom;
 use span_table::Table;
 use std::alloc::Global;
 
-/// What it takes to price words: a table, and room for 64 shifts.
+/// What it takes to price words: a table, room for 64 shifts, and the last prices that were asked for.
 #[derive(Drop)]
 pub struct RosterDesk {
     pub(crate) table: Table,
     pub(crate) room: ShiftRoom,
+    pub(crate) known: ShiftRoom,
 }
 
 impl RosterDesk {
     /// Returns a desk for the rosters of an instance. It takes all its memory here.
     pub fn for_instance(alloc: Global, instance: &Instance) -> Result<RosterDesk, Memory>
         requires { IsSoundInstance instance.now }
-        ensures { IfOk result (IsDeskFor instance.now.grammar) }
+        ensures { IfOk result (IsDeskFor instance.now) }
     {
         let table = Table::for_instance(alloc, &instance.grammar)?;
         let room = ShiftRoom::new(alloc)?;
-        Ok(RosterDesk { table, room })
+        let known = ShiftRoom::new(alloc)?;
+        Ok(RosterDesk { table, room, known })
     }
 }

@@ -33,7 +33,7 @@ pub fn least_roster(
     requires pricer { IsMadeFor graph.now pricer.old }
     requires prices { IsRoomFor prices.old instance.now }
     requires pool { IsPool instance.now.grammar pool.old }
-    requires desk { IsDeskFor instance.now.grammar desk.old }
+    requires desk { IsDeskFor instance.now desk.old }
     ensures roster { IfOk result (λ found. IfSome found (IsGoodRoster instance.now)) }
     ensures start { IfOk result (λ found. HasStart instance.now → StartsWith instance.now found) }
     ensures pricer { IsMadeFor graph.now pricer.new }
@@ -41,7 +41,7 @@ pub fn least_roster(
     ensures most { prices.new.most ≡ prices.old.most }
     ensures pool { IsPool instance.now.grammar pool.new }
     ensures grown { IsGrown pool.old pool.new }
-    ensures desk { IsDeskFor instance.now.grammar desk.new }
+    ensures desk { IsDeskFor instance.now desk.new }
 {
     price_by_costs(alloc, instance, prices)?;
     pricer.cheapest(graph, prices);

@@ -1,28 +1,76 @@
-ghost use Rattle.std.specs.Prelude.{◌≡◌, ◌≤◌, length};
+ghost use Rattle.std.specs.Prelude.{◌≡◌, ◌≤◌, ◌<◌, ◌∷◌, [], IfSome, length};
+ghost use Rattle.roster_model.specs.Folds.{In};
 ghost use Rattle.roster_model.specs.Rosters.{IsTeamPrice};
 ghost use Rattle.roster_model.specs.SoundInstance.{IsSoundInstance};
 ghost use Rattle.certificates.specs.Sound.{IsGroupNumber};
-ghost use Rattle.candidate_rosters.specs.Rosters.{IsDeskFor};
+ghost use Rattle.candidate_rosters.specs.Rosters.{AreKnown, IsDeskFor};
 ghost use Rattle.candidate_rosters.specs.Spelled.{IsTeamShift};
 
 use crate::desk::RosterDesk;
 use roster_model::Instance;
-use roster_part::least_price;
+use roster_part::{ShiftRoom, StatedShift, least_price};
 
-/// Returns the price of a shift of a team.
-pub fn price_of(instance: &Instance, group: u8, word: &[u8], desk: &mut RosterDesk) -> u64
+// How many prices are known at most.
+const MOST_KNOWN: usize = 64;
+
+// Returns the price that a word of a team has among the known ones.
+fn known_price(known: &[StatedShift], group: u8, word: &[u8]) -> Option<u64>
+    ensures { IfSome result (λ price. In (record { group = group; word = word.now; price = price }) known.now) }
+{
+    for shift in known {
+        if shift.group() == group && shift.word() == word {
+            return Some(shift.price());
+        }
+    }
+    None
+}
+
+// Adds a price to the known ones, all of which are forgotten first where there is no room.
+fn remember(instance: &Instance, known: &mut ShiftRoom, group: u8, word: &[u8], price: u64)
+    requires known { AreKnown instance.now known.old }
+    requires short { length word.now ≤ 96 }
+    requires price { IsTeamPrice instance.now (record { team = group; word = word.now }) price }
+    ensures { AreKnown instance.now known.new }
+{
+    if known.shifts().len() >= MOST_KNOWN {
+        known.clear();
+    }
+    known.keep(group, word, price);
+}
+
+// Finds the price of a shift of a team by the table.
+fn least_of(instance: &Instance, group: u8, word: &[u8], desk: &mut RosterDesk) -> u64
     requires sound { IsSoundInstance instance.now }
-    requires desk { IsDeskFor instance.now.grammar desk.old }
+    requires desk { IsDeskFor instance.now desk.old }
     requires group { IsGroupNumber instance.now.groups group }
     requires short { length word.now ≤ 96 }
     requires shift { IsTeamShift instance.now group word.now }
     ensures price { IsTeamPrice instance.now (record { team = group; word = word.now }) result }
-    ensures desk { IsDeskFor instance.now.grammar desk.new }
+    ensures desk { IsDeskFor instance.now desk.new }
 {
     desk.room.keep(group, word, 0);
     let Some(price) = least_price(instance, &desk.room.shifts()[0], &mut desk.table) else {
         unreachable!();
     };
     desk.room.clear();
+    price
+}
+
+/// Returns the price of a shift of a team. The last prices are known, and take no further look at the
+/// table.
+pub fn price_of(instance: &Instance, group: u8, word: &[u8], desk: &mut RosterDesk) -> u64
+    requires sound { IsSoundInstance instance.now }
+    requires desk { IsDeskFor instance.now desk.old }
+    requires group { IsGroupNumber instance.now.groups group }
+    requires short { length word.now ≤ 96 }
+    requires shift { IsTeamShift instance.now group word.now }
+    ensures price { IsTeamPrice instance.now (record { team = group; word = word.now }) result }
+    ensures desk { IsDeskFor instance.now desk.new }
+{
+    if let Some(price) = known_price(desk.known.shifts(), group, word) {
+        return price;
+    }
+    let price = least_of(instance, group, word, desk);
+    remember(instance, &mut desk.known, group, word, price);
     price
 }

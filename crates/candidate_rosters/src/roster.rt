@@ -30,12 +30,12 @@ pub struct Roster {
 // Returns the roster of shifts at their prices, where it is allowed.
 fn judged(instance: &Instance, shifts: List<Shift>, desk: &mut RosterDesk) -> Option<Roster>
     requires sound { IsSoundInstance instance.now }
-    requires desk { IsDeskFor instance.now.grammar desk.old }
+    requires desk { IsDeskFor instance.now desk.old }
     requires shifts { ArePricedShifts instance.now shifts }
     ensures roster { IfSome result (IsGoodRoster instance.now) }
     ensures cost { IsRoster instance.now (duties shifts) (stated_prices shifts)
         → CostsAtMost (roster_cost instance.now (duties shifts) (stated_prices shifts)) result }
-    ensures desk { IsDeskFor instance.now.grammar desk.new }
+    ensures desk { IsDeskFor instance.now desk.new }
 {
     desk.room.keep_all(shifts.as_slice());
     let stated = desk.room.shifts();
@@ -60,12 +60,12 @@ pub fn roster_of(
     requires sound { IsSoundInstance instance.now }
     requires pool { IsPool instance.now.grammar pool.now }
     requires columns { All (λ c. c < length pool.now) columns.now }
-    requires desk { IsDeskFor instance.now.grammar desk.old }
+    requires desk { IsDeskFor instance.now desk.old }
     ensures roster { IfOk result (λ found. IfSome found (IsGoodRoster instance.now)) }
     ensures cost { IfOk result (λ found. (ts : Items Parts) → AreTreesAt instance.now.grammar pool.now columns.now ts
         → IsTreeRoster instance.now ts → Each (Meets ts) (base_cuts instance.now)
         → CostsAtMost (trees_cost instance.now ts) found) }
-    ensures desk { IsDeskFor instance.now.grammar desk.new }
+    ensures desk { IsDeskFor instance.now desk.new }
 {
     if columns.len() > MOST_SHIFTS {
         return Ok(None);

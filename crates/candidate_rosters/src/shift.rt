@@ -24,10 +24,10 @@ pub fn shift_of(
     requires sound { IsSoundInstance instance.now }
     requires pool { IsPool instance.now.grammar pool.now }
     requires column { column < length pool.now }
-    requires desk { IsDeskFor instance.now.grammar desk.old }
+    requires desk { IsDeskFor instance.now desk.old }
     ensures shift { IfOk result (λ s. (t : Parts) → IsTreeAt instance.now.grammar pool.now column t
         → IsShiftOf instance.now t s) }
-    ensures desk { IsDeskFor instance.now.grammar desk.new }
+    ensures desk { IsDeskFor instance.now desk.new }
 {
     let group = group_of(instance, pool.tree(column).steps.as_slice());
     let word = word_of(alloc, &instance.grammar, pool.codes(column))?;

@@ -66,12 +66,12 @@ fn roster_with(
     requires graph { IsGraph instance.now.grammar graph.now }
     requires counts { CanBeTrees instance.now graph.now counts.now }
     requires pool { IsPool instance.now.grammar pool.old }
-    requires desk { IsDeskFor instance.now.grammar desk.old }
+    requires desk { IsDeskFor instance.now desk.old }
     ensures good { IfOk result (λ found. IfSome found (IsGoodRoster instance.now)) }
     ensures found { IfOk result (IsFoundFor instance.now graph.now counts.now) }
     ensures pool { IsPool instance.now.grammar pool.new }
     ensures grown { IsGrown pool.old pool.new }
-    ensures desk { IsDeskFor instance.now.grammar desk.new }
+    ensures desk { IsDeskFor instance.now desk.new }
 {
     let columns = columns_with(alloc, instance, graph, counts, pool)?;
     roster_of(alloc, instance, pool, columns.as_slice(), desk)
@@ -96,7 +96,7 @@ pub fn offer_counts(
     requires graph { IsGraph instance.now.grammar graph.now }
     requires counts { CanBeTrees instance.now graph.now counts.now }
     requires pool { IsPool instance.now.grammar pool.old }
-    requires desk { IsDeskFor instance.now.grammar desk.old }
+    requires desk { IsDeskFor instance.now desk.old }
     requires best { IfSome best.old (IsGoodRoster instance.now) }
     ensures better { IsBetter instance.now best.old best.new }
     ensures reached { OnOk result ((x : ℕ) (cuts : Items OneCut) (ws : Items (Weighted MasterKey))
@@ -104,7 +104,7 @@ pub fn offer_counts(
         → UsesArtificial instance.now cuts ws ⊎ (limit_of instance.now best.new ≤ x)) }
     ensures pool { IsPool instance.now.grammar pool.new }
     ensures grown { IsGrown pool.old pool.new }
-    ensures desk { IsDeskFor instance.now.grammar desk.new }
+    ensures desk { IsDeskFor instance.now desk.new }
 {
     let found = roster_with(alloc, instance, graph, counts, pool, desk)?;
     offer(instance, best, found);

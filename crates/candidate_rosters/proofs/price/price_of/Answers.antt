@@ -1,13 +1,13 @@
-use Rattle.std.proofs.Common.{◌≡◌, [], ◌∷◌, ◌++◌, List, get_or, ap, sym, subst, ◌∙◌, ℕ}
+use Rattle.std.proofs.Common.{subst, List}
 use Rattle.roster_model.specs.declared.instance.Shift.{Shift}
-use Rattle.roster_model.specs.Shifts.{IsShift}
+use Rattle.roster_model.specs.Duties.{duty}
+use Rattle.roster_model.specs.Folds.{In}
+use Rattle.roster_model.specs.Rosters.{IsTeamPrice}
+use Rattle.arc_laws.proofs.Folding.{Each-at}
 use Rattle.candidate_rosters.proofs.price.price_of.Goals as goal
 
-pub unreachable-requires : goal.unreachable-requires
-unreachable-requires c =
-    let own : Shift = record { group = c.args.group; word = c.args.word.now; price = 0 } in
-    let e : c.index-shifts-0.result ≡ own =
-    c.index-shifts-0.is ∙ ap (λ (q : List Shift). get_or q 0 c.index-shifts-0.result) (c.shifts.ensures ∙ c.keep.ensures ∙ ap (λ (q : List Shift). q ++ own ∷ []) c.requires.desk.1) in
-    let its = c.requires.shift in
-    c.in_default.ensures.value its.team its.listed (its.number ∙ ap (λ (s : Shift). s.group) (sym e))
-    (subst (λ (w : List ℕ). IsShift c.args.instance.now.grammar its.team.name w) (ap (λ (s : Shift). s.word) (sym e)) its.shift)
+pub returns-in-Some-clause-price : goal.returns-in-Some-clause-price
+returns-in-Some-clause-price c =
+    let own : Shift = record { group = c.args.group; word = c.args.word.now; price = c.in-Some.price } in
+    Each-at (λ (s : Shift). IsTeamPrice c.args.instance.now (duty s) s.price) own c.args.desk.now.known c.requires.desk.known
+    (subst (λ (shifts : List Shift). In own shifts) c.shifts.ensures c.in-Some.ensures)
