@@ -1,5 +1,3 @@
-ghost use Rattle.std.specs.Prelude.{◌<◌};
-
 use crate::columns::Columns;
 use crate::line::Line;
 use crate::marks::Marks;
