@@ -1,10 +1,11 @@
 -- Paths and faults while columns are listed and refusals counted.
-use Rattle.std.proofs.Common.{ℕ, ℤ, ◌≤◌, List, arith, inl, inr}
+use Rattle.std.proofs.Common.{ℕ, ℤ, ◌≤◌, ◌⊎◌, List, arith, inl, inr}
 use Rattle.linear_programs.specs.Program.{Program}
+use Rattle.linear_programs.specs.Tableau.{HasWidePath}
 use Rattle.fraction.specs.Range.{Counts}
 use Rattle.tableau.specs.Risen.{HasRisen}
 use Rattle.tableau.specs.Sheet.{IsOnPath}
-use Rattle.tableau.specs.Ends.{IsLpFault}
+use Rattle.tableau.specs.Ends.{IsLpFault, HasLargeColumn}
 use Rattle.tableau.specs.declared.simplex.LpFault.{LpFault}
 use Rattle.tableau.specs.declared.simplex.LpFault.TheVariants.{Wide, Spent, Memory}
 
@@ -19,3 +20,12 @@ pub fault_later : {K : Type 0} (p : Program K) (Lists : ℕ → K → Type 0) (p
 fault_later p Lists pivots old mid new (Wide fault) w s h = (risen_later old.wide mid.wide new.wide w h.0, h.1)
 fault_later p Lists pivots old mid new (Spent n) w s h = (h.0, risen_later old.spent mid.spent new.spent s h.1, h.2)
 fault_later p Lists pivots old mid new Memory w s h = tt
+
+pub fault_kept : {K : Type 0} (p : Program K) (Lists More : ℕ → K → Type 0) (pivots : ℕ) (old new : Counts) (f : LpFault) → ((j : ℕ) (k : K) → Lists j k → More j k) → IsLpFault p Lists pivots old new f → IsLpFault p More pivots old new f
+fault_kept {K} p Lists More pivots old new (Wide fault) more h = (h.0, by h.1)
+  where
+    by : HasWidePath p ⊎ HasLargeColumn p Lists → HasWidePath p ⊎ HasLargeColumn p More
+    by (inl w) = inl w
+    by (inr l) = inr (l.0, l.1, more l.0 l.1 l.2, l.3)
+fault_kept p Lists More pivots old new (Spent n) more h = h
+fault_kept p Lists More pivots old new Memory more h = h

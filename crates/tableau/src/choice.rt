@@ -6,7 +6,20 @@ ghost use Rattle.tableau.specs.Lines.{IsLine};
 ghost use Rattle.tableau.specs.Cheaper.{IsCheaper};
 
 use crate::columns::Columns;
+use crate::line::Line;
+use crate::marks::Marks;
+use crate::narrow::{Nominee, Nominees, narrowest_of};
 use crate::small::{is_small, reduced_cost};
+
+/// How the wanted column that enters is chosen. Paths of each rule are lawful, and where the numbers of one
+/// become wide those of another may not.
+#[derive(Clone, Copy, Drop)]
+pub(crate) enum Rule {
+    /// The one of the most negative reduced cost an entry.
+    Steepest,
+    /// Of so many of the most negative reduced cost an entry the one of the least pivot.
+    Narrowest(usize),
+}
 
 /// A listed column, with its reduced cost and the number of its entries that are not 0.
 #[derive(Clone, Copy, Drop)]
@@ -87,7 +100,7 @@ fn better<C: Columns>(
 
 /// Returns the wanted column of the most negative reduced cost an entry: paths that divide by the number
 /// of entries are shorter, and their numbers smaller.
-pub(crate) fn choice<C: Columns>(columns: &C, prices: &[i64]) -> Option<usize>
+fn steepest<C: Columns>(columns: &C, prices: &[i64]) -> Option<usize>
     requires ready { C.Ready (C.state columns.now) }
     requires few { (C.program (C.site columns.now)).rows ≤ 1500 }
     requires prices { IsLine ((C.program (C.site columns.now)).rows + 2) prices.now }
@@ -102,4 +115,63 @@ pub(crate) fn choice<C: Columns>(columns: &C, prices: &[i64]) -> Option<usize>
     }
     let least = best?;
     Some(least.column)
+}
+
+/// Returns the wanted column of the least pivot among so many of the most negative reduced cost an entry.
+fn narrowest<C: Columns>(
+    columns: &C,
+    prices: &[i64],
+    rows: &[Line],
+    basis: &[usize],
+    marks: &Marks,
+    most: usize,
+) -> Option<usize>
+    requires ready { C.Ready (C.state columns.now) }
+    requires few { (C.program (C.site columns.now)).rows ≤ 1500 }
+    requires prices { IsLine ((C.program (C.site columns.now)).rows + 2) prices.now }
+    requires kappa { pos 0 ≤ℤ at prices.now ((C.program (C.site columns.now)).rows + 1) }
+    ensures { IfSome result (λ column. IsCheaper (C.program (C.site columns.now)) (C.Lists (C.state columns.now))
+        (C.size (C.state columns.now)) prices.now column) }
+{
+    let count = columns.count();
+    let mut nominees = Nominees::new(most);
+    for number in columns.wanted() {
+        let column = *number as usize;
+        if let Some(reduced) = cheaper(columns, prices, column) {
+            let length = columns.places(column).len();
+            nominees.note(Nominee {
+                column,
+                reduced,
+                length,
+            });
+        }
+    }
+    let column = narrowest_of(columns, rows, basis, marks, &nominees)?;
+    if column >= count {
+        return None;
+    }
+    let _reduced = cheaper(columns, prices, column)?;
+    Some(column)
+}
+
+/// Returns a wanted column of negative reduced cost, if there is one, by a rule.
+pub(crate) fn choice<C: Columns>(
+    columns: &C,
+    prices: &[i64],
+    rows: &[Line],
+    basis: &[usize],
+    marks: &Marks,
+    rule: Rule,
+) -> Option<usize>
+    requires ready { C.Ready (C.state columns.now) }
+    requires few { (C.program (C.site columns.now)).rows ≤ 1500 }
+    requires prices { IsLine ((C.program (C.site columns.now)).rows + 2) prices.now }
+    requires kappa { pos 0 ≤ℤ at prices.now ((C.program (C.site columns.now)).rows + 1) }
+    ensures { IfSome result (λ column. IsCheaper (C.program (C.site columns.now)) (C.Lists (C.state columns.now))
+        (C.size (C.state columns.now)) prices.now column) }
+{
+    match rule {
+        Rule::Steepest => steepest(columns, prices),
+        Rule::Narrowest(most) => narrowest(columns, prices, rows, basis, marks, most),
+    }
 }

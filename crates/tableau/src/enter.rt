@@ -7,9 +7,10 @@ ghost use Rattle.tableau.specs.Cheaper.{IsCheaper};
 ghost use Rattle.tableau.specs.Ends.{IsLpFault};
 ghost use Rattle.tableau.specs.Faults.{fault_of};
 
-use crate::choice::choice;
+use crate::choice::{Rule, choice};
 use crate::columns::{Columns, ColumnsFault};
-use crate::marks::is_among;
+use crate::line::Line;
+use crate::marks::{Marks, is_among};
 use crate::sheet::{Entries, Sheet};
 use crate::simplex::LpFault;
 use crate::small::{check_column, reduced_cost};
@@ -70,9 +71,13 @@ pub(crate) fn enter<C: Columns>(
 }
 
 /// Returns a listed column of negative reduced cost at the prices of a cost row, or none where no
-/// column of the program has. There the prices are copied.
+/// column of the program has. There the prices are copied. A wanted column is chosen by the rule.
 pub(crate) fn entering<C: Columns>(
     columns: &mut C,
+    rows: &[Line],
+    basis: &[usize],
+    marks: &Marks,
+    rule: Rule,
     cost: &[i64],
     prices: &mut Entries,
     tally: &mut Tally,
@@ -96,7 +101,7 @@ pub(crate) fn entering<C: Columns>(
         (C.Lists (C.state columns.new)) n tally.old tally.new f) }
     ensures counts { (tally.old.wide ≤ tally.new.wide) × (tally.new.spent ≡ tally.old.spent) }
 {
-    if let Some(column) = choice(columns, cost) {
+    if let Some(column) = choice(columns, cost, rows, basis, marks, rule) {
         return Ok(Some(column));
     }
     prices.copy(cost);

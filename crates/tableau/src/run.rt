@@ -3,6 +3,7 @@ ghost use Rattle.linear_programs.specs.Program.{Program, IsSound};
 ghost use Rattle.tableau.specs.Running.{IsRunning, IsPriced};
 ghost use Rattle.tableau.specs.Ends.{IsLpFault};
 
+use crate::choice::Rule;
 use crate::columns::Columns;
 use crate::enter::{enter, entering};
 use crate::sheet::Sheet;
@@ -14,6 +15,7 @@ use fraction::{Budget, Tally};
 fn next<C: Columns>(
     columns: &mut C,
     sheet: &mut Sheet,
+    rule: Rule,
     budget: &mut Budget,
     pivots: u32,
     tally: &mut Tally,
@@ -39,7 +41,16 @@ fn next<C: Columns>(
     ensures counts { (tally.old.wide ≤ tally.new.wide) × (tally.old.spent ≤ tally.new.spent) }
 {
     let _before = tally.spent();
-    let column = match entering(columns, sheet.cost.as_slice(), &mut sheet.prices, tally) {
+    let column = match entering(
+        columns,
+        sheet.rows.as_slice(),
+        sheet.basis.as_slice(),
+        &sheet.wanted,
+        rule,
+        sheet.cost.as_slice(),
+        &mut sheet.prices,
+        tally,
+    ) {
         Ok(Some(column)) => column,
         Ok(None) => return Ok(false),
         Err(fault) => return Err(fault),
@@ -57,6 +68,7 @@ fn next<C: Columns>(
 pub(crate) fn run<C: Columns>(
     columns: &mut C,
     sheet: &mut Sheet,
+    rule: Rule,
     pivots: u32,
     tally: &mut Tally,
 ) -> Result<(), LpFault>
@@ -78,7 +90,7 @@ pub(crate) fn run<C: Columns>(
 {
     let mut budget = Budget::new(pivots);
     'turns: loop {
-        match next(columns, sheet, &mut budget, pivots, tally) {
+        match next(columns, sheet, rule, &mut budget, pivots, tally) {
             Ok(true) => {}
             Ok(false) => return Ok(()),
             Err(fault) => return Err(fault),

@@ -3,6 +3,7 @@ ghost use Rattle.linear_programs.specs.Program.{IsSound};
 ghost use Rattle.fraction.specs.Row.{at};
 ghost use Rattle.tableau.specs.Ends.{IsLpEnd, IsLpFault};
 
+use crate::choice::Rule;
 use crate::columns::Columns;
 use crate::finish::finish;
 use crate::first::start;
@@ -40,11 +41,12 @@ pub enum LpFault {
     Memory,
 }
 
-/// Solves the program of the columns.
-pub fn solve<C: Columns>(
+/// Solves the program of the columns by one rule.
+fn attempt<C: Columns>(
     alloc: Global,
     columns: &mut C,
     right: &[i64],
+    rule: Rule,
     pivots: u32,
     tally: &mut Tally,
 ) -> Result<LpEnd, LpFault>
@@ -66,11 +68,95 @@ pub fn solve<C: Columns>(
         Ok(sheet) => sheet,
         Err(fault) => return Err(fault),
     };
-    if let Err(fault) = run(columns, &mut sheet, pivots, tally) {
+    if let Err(fault) = run(columns, &mut sheet, rule, pivots, tally) {
         return Err(fault);
     }
     match finish(alloc, columns, sheet, tally) {
         Ok(end) => Ok(end),
         Err(fault) => Err(fault),
+    }
+}
+
+/// Solves the program from the start by a second rule, and where that path is given up by a third. What
+/// these refuse no tally counts.
+fn attempt_again<C: Columns>(
+    alloc: Global,
+    columns: &mut C,
+    right: &[i64],
+    pivots: u32,
+) -> Result<LpEnd, LpFault>
+    requires ready { C.Ready (C.state columns.old) }
+    requires sound { IsSound (C.program (C.site columns.old)) }
+    requires few { (C.program (C.site columns.old)).rows ≤ 1500 }
+    requires units { (r : ℕ) → r < (C.program (C.site columns.old)).rows → C.Lists (C.state columns.old) r ((C.program (C.site columns.old)).unit r) }
+    requires length { length right.now ≡ (C.program (C.site columns.old)).rows }
+    requires right { (r : ℕ) → r < (C.program (C.site columns.old)).rows → at right.now r ≡ (C.program (C.site columns.old)).right r }
+    requires costs { (k : C.Key) → (C.program (C.site columns.old)).belongs k → pos 0 ≤ℤ ((C.program (C.site columns.old)).column k).cost }
+    ensures end { IfOk result (λ end. IsLpEnd (C.program (C.site columns.old)) (C.Lists (C.state columns.new)) end.basic end.y end.kappa end.value) }
+    ensures site { C.site columns.new ≡ C.site columns.old }
+    ensures ready { C.Ready (C.state columns.new) }
+    ensures kept { C.Kept (C.state columns.old) (C.state columns.new) }
+{
+    let mut tally = Tally::new();
+    match attempt(
+        alloc,
+        columns,
+        right,
+        Rule::Narrowest(4),
+        pivots,
+        &mut tally,
+    ) {
+        Ok(end) => Ok(end),
+        Err(LpFault::Memory) => Err(LpFault::Memory),
+        Err(_) => attempt(
+            alloc,
+            columns,
+            right,
+            Rule::Narrowest(16),
+            pivots,
+            &mut tally,
+        ),
+    }
+}
+
+/// Says whether a number was too wide.
+fn is_wide(fault: LpFault) -> bool {
+    matches!(fault, LpFault::Wide(_))
+}
+
+/// Solves the program of the columns. Where a number of a path is too wide, a path of another rule is
+/// tried, and then one of a third.
+pub fn solve<C: Columns>(
+    alloc: Global,
+    columns: &mut C,
+    right: &[i64],
+    pivots: u32,
+    tally: &mut Tally,
+) -> Result<LpEnd, LpFault>
+    requires ready { C.Ready (C.state columns.old) }
+    requires sound { IsSound (C.program (C.site columns.old)) }
+    requires few { (C.program (C.site columns.old)).rows ≤ 1500 }
+    requires units { (r : ℕ) → r < (C.program (C.site columns.old)).rows → C.Lists (C.state columns.old) r ((C.program (C.site columns.old)).unit r) }
+    requires length { length right.now ≡ (C.program (C.site columns.old)).rows }
+    requires right { (r : ℕ) → r < (C.program (C.site columns.old)).rows → at right.now r ≡ (C.program (C.site columns.old)).right r }
+    requires costs { (k : C.Key) → (C.program (C.site columns.old)).belongs k → pos 0 ≤ℤ ((C.program (C.site columns.old)).column k).cost }
+    ensures end { IfOk result (λ end. IsLpEnd (C.program (C.site columns.old)) (C.Lists (C.state columns.new)) end.basic end.y end.kappa end.value) }
+    ensures fault { IfErr result (λ fault. IsLpFault (C.program (C.site columns.old)) (C.Lists (C.state columns.new)) pivots tally.old tally.new fault) }
+    ensures site { C.site columns.new ≡ C.site columns.old }
+    ensures ready { C.Ready (C.state columns.new) }
+    ensures kept { C.Kept (C.state columns.old) (C.state columns.new) }
+    ensures counts { (tally.old.wide ≤ tally.new.wide) × (tally.old.spent ≤ tally.new.spent) }
+{
+    let fault = match attempt(alloc, columns, right, Rule::Steepest, pivots, tally) {
+        Ok(end) => return Ok(end),
+        Err(fault) => fault,
+    };
+    if !is_wide(fault) {
+        return Err(fault);
+    }
+    match attempt_again(alloc, columns, right, pivots) {
+        Ok(end) => Ok(end),
+        Err(LpFault::Memory) => Err(LpFault::Memory),
+        Err(_) => Err(fault),
     }
 }

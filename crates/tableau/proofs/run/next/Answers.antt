@@ -11,7 +11,7 @@ entering-requires-clause-kappa g c =
     let p = g.C.Columns.program (g.C.Columns.site c.args.columns.now) in
     let run = c.requires.running in
     let tied = tied_of p (g.C.Columns.Lists (g.C.Columns.state c.args.columns.now)) c.args.sheet.now.rows c.args.sheet.now.cost c.args.sheet.now.basis.items run.steps c.requires.sound run.path in
-    rw c.as_slice.ensures tied.kappa
+    rw c.as_slice-3.ensures tied.kappa
 
 pub returns-in-Ok-None-clause-priced : goal.returns-in-Ok-None-clause-priced
 returns-in-Ok-None-clause-priced g c = λ no.
@@ -24,8 +24,8 @@ returns-in-Ok-None-clause-priced g c = λ no.
       sheet = run.sheet;
       steps = run.steps;
       path = path;
-      out = rw c.as_slice.ensures at (rw c.in-Ok-None.field-0-is at c.in-Ok-None.ensures.none);
-      copied = rw c.as_slice.ensures at (rw c.in-Ok-None.field-0-is at c.in-Ok-None.ensures.copied);
+      out = rw c.as_slice-3.ensures at (rw c.in-Ok-None.field-0-is at c.in-Ok-None.ensures.none);
+      copied = rw c.as_slice-3.ensures at (rw c.in-Ok-None.field-0-is at c.in-Ok-None.ensures.copied);
       long = c.in-Ok-None.ensures.length ∙ run.room.price;
     }
 
@@ -38,7 +38,7 @@ returns-then-not-take-clause-fault g c =
     let run = c.requires.running in
     let spent = c.if-not-take.ensures.spent in
     let steps : run.steps ≡ c.args.pivots = omega (arith, run.count, spent.0) in
-    let cheap = rw c.as_slice.ensures at (rw c.in-Ok-Some.field-0-is at c.in-Ok-Some.ensures.found) in
+    let cheap = rw c.as_slice-3.ensures at (rw c.in-Ok-Some.field-0-is at c.in-Ok-Some.ensures.found) in
     let path = subst (λ (n : ℕ). PivotPath p n (tableau_of p.rows run.path.keys c.args.sheet.now.rows c.args.sheet.now.cost)) steps run.path.path in
     let risen = spent_risen c.entering.new.tally c.take.new.tally spent.2 in
     (refl, rw c.in-Ok-Some.ensures.counts.1 at risen, (tableau_of p.rows run.path.keys c.args.sheet.now.rows c.args.sheet.now.cost, path, cheap.key, cheap.member, cheap.cheaper))

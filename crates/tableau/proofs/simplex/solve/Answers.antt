@@ -1,17 +1,18 @@
-use Rattle.std.proofs.Common.{arith}
-use Rattle.tableau.proofs.Running.{fault_later}
+use Rattle.std.proofs.Common.{◌∙◌}
+use Rattle.tableau.proofs.Running.{fault_kept}
 use Rattle.tableau.proofs.simplex.solve.Goals as goal
 
-pub returns-in-Err-clause-fault : goal.returns-in-Err-clause-fault
-returns-in-Err-clause-fault g c = c.in-Err.ensures.fault c.args.pivots
-
-pub run-requires-clause-running : goal.run-requires-clause-running
-run-requires-clause-running g c = c.in-Ok.ensures.running c.args.pivots
-
-pub returns-in-Err-finish-clause-fault : goal.returns-in-Err-finish-clause-fault
-returns-in-Err-finish-clause-fault g c =
+pub returns-in-Err-attempt_again : goal.returns-in-Err-attempt_again
+returns-in-Err-attempt_again g c =
     let p = g.C.Columns.program (g.C.Columns.site c.args.columns.now) in
-    let later = rw c.in_default.ensures.site at (c.in-Err-finish.ensures.fault c.args.pivots) in
-    fault_later p (g.C.Columns.Lists (g.C.Columns.state c.run.new.columns)) c.args.pivots c.args.tally.now c.run.new.tally c.finish.new.tally c.in-Err-finish.fault
-    (let a = c.in-Ok.ensures.counts.0 in let b = c.in_default.ensures.counts.0 in omega arith)
-    (let a = c.in-Ok.ensures.counts.1 in let b = c.in_default.ensures.counts.1 in omega arith) later
+    let old = g.C.Columns.state c.attempt.new.columns in
+    let new = g.C.Columns.state c.attempt_again.new.columns in
+    record {
+      end = tt;
+      fault = fault_kept p (g.C.Columns.Lists old) (g.C.Columns.Lists new) c.args.pivots c.args.tally.now c.attempt.new.tally c.in-Err.fault
+          (λ j k l. g.C.Columns.still old new j k c.in-Err-attempt_again.ensures.kept l) c.in-Err.ensures.fault;
+      site = c.in-Err-attempt_again.ensures.site ∙ c.in-Err.ensures.site;
+      ready = c.in-Err-attempt_again.ensures.ready;
+      kept = g.C.Columns.chain _ _ _ c.in-Err.ensures.kept c.in-Err-attempt_again.ensures.kept;
+      counts = c.in-Err.ensures.counts;
+    }
