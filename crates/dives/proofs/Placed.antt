@@ -1,5 +1,5 @@
 -- The price of an arc by its place in a graph.
-use Rattle.std.proofs.Common.{◌≡◌, ℕ, ℤ, pos, zero, suc, arith, cond, Some, None, List, [], ◌∷◌, refl, sym, subst, ap, ◌∙◌, slice_index_or, inl, inr, ◌⊎◌}
+use Rattle.std.proofs.Common.{◌≡◌, ℕ, ℤ, pos, zero, suc, arith, cond, Some, List, [], ◌∷◌, refl, sym, subst, ap, ◌∙◌, slice_index_or, inl, inr}
 use Rattle.std.specs.Prelude.{slice_get}
 use Rattle.std.proofs.lemmas.Option.{same_Some}
 use Rattle.roster_model.specs.declared.grammar.ArcKey.{ArcKey}

@@ -1,5 +1,5 @@
 -- Prices of arcs within 2^96 are small.
-use Rattle.std.proofs.Common.{◌^◌, ℕ, ℤ, pos, Bool, true, false, cond, List, [], ◌∷◌, All, arith}
+use Rattle.std.proofs.Common.{◌^◌, ℤ, pos, Bool, true, false, cond, List, [], ◌∷◌, All, arith}
 use Rattle.std.proofs.lemmas.Int.{ints}
 use Rattle.std.proofs.lemmas.List.Elements.{All-head, All-tail}
 use Rattle.roster_model.specs.declared.grammar.ArcKey.{ArcKey}

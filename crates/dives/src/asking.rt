@@ -69,13 +69,7 @@ fn limit(numbers: &mut [i128])
 }
 
 /// Gathers the prices of rows by cells and cuts.
-fn gather(
-    instance: &Instance,
-    cuts: &[Cut],
-    rows: &NodeRows,
-    prices: &[Q24],
-    quote: &mut Quote,
-)
+fn gather(instance: &Instance, cuts: &[Cut], rows: &NodeRows, prices: &[Q24], quote: &mut Quote)
     requires rows { AreRows instance.now cuts.now rows.now }
     requires quote { IsQuote instance.now cuts.now quote.old }
     ensures quote { IsQuote instance.now cuts.now quote.new }
@@ -166,7 +160,15 @@ pub(crate) fn ask(
     ensures pool { IsPool instance.now.grammar pool.new }
     ensures grown { IsGrown pool.old pool.new }
 {
-    if !find_cheap(instance, graph, cuts, rows, program.scout.prices(), pricer, desk) {
+    if !find_cheap(
+        instance,
+        graph,
+        cuts,
+        rows,
+        program.scout.prices(),
+        pricer,
+        desk,
+    ) {
         return Ok(false);
     }
     let column = pooled(instance, &desk.tree, pool)?;

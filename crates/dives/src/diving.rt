@@ -32,6 +32,7 @@ const WORK: u64 = 4_000_000_000;
 
 /// The steps of a run before its first prices, and the primal steps between two of them for each row.
 const DUAL: u32 = 3_000;
+
 const PRIMAL: usize = 2;
 
 /// Runs the program, and says whether its values can be used.
@@ -73,7 +74,9 @@ fn solve(
         if !run(program) {
             return Ok(false);
         }
-        if !ask(alloc, instance, graph, cuts, rows, pricer, desk, program, pool)? {
+        if !ask(
+            alloc, instance, graph, cuts, rows, pricer, desk, program, pool,
+        )? {
             return Ok(true);
         }
     }
@@ -109,7 +112,9 @@ fn step(
     if program.scout.work() > WORK {
         return Ok(false);
     }
-    if !solve(alloc, instance, graph, cuts, rows, pricer, desk, program, pool)? {
+    if !solve(
+        alloc, instance, graph, cuts, rows, pricer, desk, program, pool,
+    )? {
         return Ok(false);
     }
     let left = program.sum_up(graph, pool, &mut desk.arcs.sums) / ONE;
@@ -205,7 +210,14 @@ pub fn dive(
     let rows = NodeRows::new(alloc, instance, cuts)?;
     let mut program = begun_with(alloc, instance, cuts, &rows, pool, begun)?;
     step_down(
-        alloc, instance, graph, cuts, &rows, pricer, &mut program, pool,
+        alloc,
+        instance,
+        graph,
+        cuts,
+        &rows,
+        pricer,
+        &mut program,
+        pool,
     )?;
     Ok(program.fixed)
 }

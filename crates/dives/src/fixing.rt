@@ -82,7 +82,14 @@ fn fix_one(
     ensures pool { IsPool instance.now.grammar pool.new }
     ensures grown { IsGrown pool.old pool.new }
 {
-    let found = widest(instance, graph, &mut desk.arcs, pricer, &mut desk.tree, pool)?;
+    let found = widest(
+        instance,
+        graph,
+        &mut desk.arcs,
+        pricer,
+        &mut desk.tree,
+        pool,
+    )?;
     let Some(wide) = found else {
         return Ok(None);
     };

@@ -34,11 +34,7 @@ pub(crate) fn find_least<P: LetterPrice>(
 }
 
 /// Returns the number of the tree in the room, which the pool gets where it lacks it.
-pub(crate) fn pooled(
-    instance: &Instance,
-    room: &TreeRoom,
-    pool: &mut Pool,
-) -> Result<usize, Memory>
+pub(crate) fn pooled(instance: &Instance, room: &TreeRoom, pool: &mut Pool) -> Result<usize, Memory>
     requires sound { IsSoundInstance instance.now }
     requires steps { AreDaySteps instance.now.grammar room.now.steps }
     requires pool { IsPool instance.now.grammar pool.old }

@@ -12,5 +12,4 @@ mod sums;
 mod widest;
 mod widths;
 
-
 pub use diving::dive;

@@ -1,4 +1,4 @@
-use Rattle.std.proofs.Common.{◌≡◌, length}
+use Rattle.std.proofs.Common.{length}
 use Rattle.cheapest_tree.specs.Pricers.{IsMadeFor}
 use Rattle.tree_pool.specs.Pools.{IsPool, IsGrown}
 use Rattle.dives.specs.Parts.{IsProgram, IsDesk}

@@ -1,6 +1,3 @@
-use Rattle.std.proofs.Common.{ℤ, Some, Option, subst}
-use Rattle.roster_model.specs.Sums.{IsLeast, tree_sum}
-use Rattle.roster_model.specs.Trees.{IsDayTree}
 use Rattle.dives.proofs.Leasts.{asks-day, day-steps}
 use Rattle.dives.proofs.least.find_least.Goals as goal
 
