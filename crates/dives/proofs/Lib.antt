@@ -1,0 +1,4 @@
+mod Leasts
+mod Growing
+mod Placed
+mod Wide

@@ -1,0 +1,24 @@
+use Rattle.dives.proofs.Leasts.{asks-day, day-steps}
+use Rattle.dives.proofs.least.find_least.Goals as goal
+
+pub tree-requires-clause-asks : goal.tree-requires-clause-asks
+tree-requires-clause-asks g c =
+    let i = c.args.instance.now in
+    let p = g.P.LetterPrice.view c.args.prices.now in
+    let d = c.requires.sound.grammar in
+    let v = c.args.graph.now in
+    let least = rw c.in-Some.is at (c.cheapest.ensures.least i.grammar d c.requires.graph) in (
+      i.grammar,
+      asks-day i.grammar d p v c.cheapest.new.self c.requires.graph (c.cheapest.ensures.filled i.grammar d c.requires.graph) c.in-Some.least least c.args.room.now c.requires.room,
+    )
+
+pub returns-clause-found : goal.returns-clause-found
+returns-clause-found g c =
+    let i = c.args.instance.now in
+    let p = g.P.LetterPrice.view c.args.prices.now in
+    let d = c.requires.sound.grammar in
+    let v = c.args.graph.now in
+    let least = rw c.in-Some.is at (c.cheapest.ensures.least i.grammar d c.requires.graph) in
+    day-steps i.grammar p c.tree.new.room
+    (c.tree.ensures.tree i.grammar
+    (asks-day i.grammar d p v c.cheapest.new.self c.requires.graph (c.cheapest.ensures.filled i.grammar d c.requires.graph) c.in-Some.least least c.args.room.now c.requires.room))

@@ -1,0 +1,223 @@
+ghost use Rattle.std.specs.Prelude.{◌≡◌, ◌<◌, ◌≤◌, All, IfOk, OnOk, length};
+ghost use Rattle.roster_model.specs.Folds.{Each};
+ghost use Rattle.roster_model.specs.SoundInstance.{IsSoundInstance};
+ghost use Rattle.master_laws.specs.Rows.{rows_of};
+ghost use Rattle.master_rows.specs.NodeRows.{AreRows, IsSmallCut};
+ghost use Rattle.parse_graph.specs.Graphs.{IsGraph};
+ghost use Rattle.cheapest_tree.specs.Pricers.{IsMadeFor};
+ghost use Rattle.tree_pool.specs.Pools.{IsPool, IsGrown};
+ghost use Rattle.dives.specs.Parts.{IsProgram, IsDesk};
+
+use crate::asking::ask;
+use crate::desk::Desk;
+use crate::fixing::fix_some;
+use crate::program::Program;
+use crate::sums::ONE;
+use cheapest_tree::Pricer;
+use master_rows::NodeRows;
+use parse_graph::Graph;
+use roster_model::{Cut, Instance, List, Memory};
+use scout::{Limits, Scouted};
+use std::alloc::Global;
+use tree_pool::Pool;
+
+/// How many steps a dive takes.
+const STEPS: u32 = 200;
+
+/// How often a tree is asked for in a step.
+const ROUNDS: u32 = 30;
+
+/// The work at a scout, in entries touched, after which a dive takes no further step.
+const WORK: u64 = 4_000_000_000;
+
+/// The steps of a run before its first prices, and the primal steps between two of them for each row.
+const DUAL: u32 = 3_000;
+
+const PRIMAL: usize = 2;
+
+/// Runs the program, and says whether its values can be used.
+fn run(program: &mut Program) -> bool
+    ensures { program.new ≡ record program.old { scout = program.new.scout } }
+{
+    let primal = program.scout.rows().saturating_mul(PRIMAL).min(10_000) as u32;
+    let end = program.scout.run(Limits { dual: DUAL, primal });
+    end == Scouted::Optimal || end == Scouted::Spent
+}
+
+/// Runs the program with further trees that are cheap, and says whether its values can be used.
+fn solve(
+    alloc: Global,
+    instance: &Instance,
+    graph: &Graph,
+    cuts: &[Cut],
+    rows: &NodeRows,
+    pricer: &mut Pricer,
+    desk: &mut Desk,
+    program: &mut Program,
+    pool: &mut Pool,
+) -> Result<bool, Memory>
+    requires sound { IsSoundInstance instance.now }
+    requires graph { IsGraph instance.now.grammar graph.now }
+    requires rows { AreRows instance.now cuts.now rows.now }
+    requires few { length cuts.now ≤ 1500 }
+    requires pricer { IsMadeFor graph.now pricer.old }
+    requires desk { IsDesk instance.now cuts.now desk.old }
+    requires program { IsProgram (length pool.old) program.old }
+    requires pool { IsPool instance.now.grammar pool.old }
+    ensures program { OnOk result (IsProgram (length pool.new) program.new) }
+    ensures pricer { IsMadeFor graph.now pricer.new }
+    ensures desk { IsDesk instance.now cuts.now desk.new }
+    ensures pool { IsPool instance.now.grammar pool.new }
+    ensures grown { IsGrown pool.old pool.new }
+{
+    for _ in 0..ROUNDS {
+        if !run(program) {
+            return Ok(false);
+        }
+        if !ask(
+            alloc, instance, graph, cuts, rows, pricer, desk, program, pool,
+        )? {
+            return Ok(true);
+        }
+    }
+    Ok(run(program))
+}
+
+/// Takes a step: solves the program, and fixes trees by its weights. Says whether any was fixed.
+fn step(
+    alloc: Global,
+    instance: &Instance,
+    graph: &Graph,
+    cuts: &[Cut],
+    rows: &NodeRows,
+    pricer: &mut Pricer,
+    desk: &mut Desk,
+    program: &mut Program,
+    pool: &mut Pool,
+) -> Result<bool, Memory>
+    requires sound { IsSoundInstance instance.now }
+    requires graph { IsGraph instance.now.grammar graph.now }
+    requires rows { AreRows instance.now cuts.now rows.now }
+    requires few { length cuts.now ≤ 1500 }
+    requires pricer { IsMadeFor graph.now pricer.old }
+    requires desk { IsDesk instance.now cuts.now desk.old }
+    requires program { IsProgram (length pool.old) program.old }
+    requires pool { IsPool instance.now.grammar pool.old }
+    ensures program { OnOk result (IsProgram (length pool.new) program.new) }
+    ensures pricer { IsMadeFor graph.now pricer.new }
+    ensures desk { IsDesk instance.now cuts.now desk.new }
+    ensures pool { IsPool instance.now.grammar pool.new }
+    ensures grown { IsGrown pool.old pool.new }
+{
+    if program.scout.work() > WORK {
+        return Ok(false);
+    }
+    if !solve(
+        alloc, instance, graph, cuts, rows, pricer, desk, program, pool,
+    )? {
+        return Ok(false);
+    }
+    let left = program.sum_up(graph, pool, &mut desk.arcs.sums) / ONE;
+    fix_some(
+        alloc, instance, graph, cuts, rows, pricer, desk, program, pool, left,
+    )
+}
+
+/// Takes steps while trees are fixed.
+fn step_down(
+    alloc: Global,
+    instance: &Instance,
+    graph: &Graph,
+    cuts: &[Cut],
+    rows: &NodeRows,
+    pricer: &mut Pricer,
+    program: &mut Program,
+    pool: &mut Pool,
+) -> Result<(), Memory>
+    requires sound { IsSoundInstance instance.now }
+    requires graph { IsGraph instance.now.grammar graph.now }
+    requires rows { AreRows instance.now cuts.now rows.now }
+    requires few { length cuts.now ≤ 1500 }
+    requires pricer { IsMadeFor graph.now pricer.old }
+    requires program { IsProgram (length pool.old) program.old }
+    requires pool { IsPool instance.now.grammar pool.old }
+    ensures program { OnOk result (IsProgram (length pool.new) program.new) }
+    ensures pricer { IsMadeFor graph.now pricer.new }
+    ensures pool { IsPool instance.now.grammar pool.new }
+    ensures grown { IsGrown pool.old pool.new }
+{
+    let mut desk = Desk::new(alloc, instance, graph, cuts, rows)?;
+    for _ in 0..STEPS {
+        if !step(
+            alloc, instance, graph, cuts, rows, pricer, &mut desk, program, pool,
+        )? {
+            return Ok(());
+        }
+    }
+    Ok(())
+}
+
+/// Returns a program with these trees of the pool and with its last ones, twice as many as there are rows.
+fn begun_with(
+    alloc: Global,
+    instance: &Instance,
+    cuts: &[Cut],
+    rows: &NodeRows,
+    pool: &Pool,
+    begun: &[usize],
+) -> Result<Program, Memory>
+    requires rows { AreRows instance.now cuts.now rows.now }
+    ensures { IfOk result (IsProgram (length pool.now)) }
+{
+    let mut program = Program::new(alloc, instance, cuts, rows)?;
+    program.list_all(alloc, cuts, rows, pool, begun)?;
+    let last = rows.right().len().saturating_mul(2);
+    program.list_from(alloc, cuts, rows, pool, pool.len().saturating_sub(last))?;
+    let _started = program.scout.start_beyond();
+    Ok(program)
+}
+
+/// Dives from the node at a path of cuts, base cuts first, whose master has at most 1,500 rows, and returns
+/// the trees of the pool that it fixed: the begin of a roster, or all of it.
+///
+/// It solves the node's program in fixed point, fixes a few trees that its weights come near to, takes them
+/// off the program, and goes on so. Trees of the pool that are `begun` are listed in the program, beside the
+/// last ones of the pool: any list of numbers is lawful.
+///
+/// # Errors
+///
+/// `Memory` where memory runs out; the pool may have further trees.
+pub fn dive(
+    alloc: Global,
+    instance: &Instance,
+    graph: &Graph,
+    cuts: &[Cut],
+    pricer: &mut Pricer,
+    begun: &[usize],
+    pool: &mut Pool,
+) -> Result<List<usize>, Memory>
+    requires sound { IsSoundInstance instance.now }
+    requires graph { IsGraph instance.now.grammar graph.now }
+    requires cuts { Each IsSmallCut cuts.now }
+    requires small { length (rows_of instance.now cuts.now) ≤ 1500 }
+    requires pricer { IsMadeFor graph.now pricer.old }
+    requires pool { IsPool instance.now.grammar pool.old }
+    ensures within { IfOk result (λ found. All (λ c. c < length pool.new) found) }
+    ensures pricer { IsMadeFor graph.now pricer.new }
+    ensures pool { IsPool instance.now.grammar pool.new }
+    ensures grown { IsGrown pool.old pool.new }
+{
+    let rows = NodeRows::new(alloc, instance, cuts)?;
+    let mut program = begun_with(alloc, instance, cuts, &rows, pool, begun)?;
+    step_down(
+        alloc,
+        instance,
+        graph,
+        cuts,
+        &rows,
+        pricer,
+        &mut program,
+        pool,
+    )?;
+    Ok(program.fixed)
+}

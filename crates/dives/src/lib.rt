@@ -1,0 +1,15 @@
+//! Dives: rosters found from the fractional weights of the trees at a node's solution.
+#![tactic(auto)]
+
+mod asking;
+mod desk;
+mod diving;
+mod fixing;
+mod least;
+mod program;
+mod rows;
+mod sums;
+mod widest;
+mod widths;
+
+pub use diving::dive;

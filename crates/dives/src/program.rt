@@ -1,0 +1,178 @@
+ghost use Rattle.std.specs.Prelude.{ℕ, ◌≡◌, ◌<◌, IfOk, IfSome, OnOk, length};
+ghost use Rattle.master_rows.specs.NodeRows.{AreRows};
+ghost use Rattle.dives.specs.Parts.{IsProgram};
+
+use crate::rows::{list_places, scout_of, take_places};
+use crate::sums::{add, clear};
+use master_rows::NodeRows;
+use parse_graph::Graph;
+use roster_model::{Cut, Instance, List, Memory};
+use scout::{Key, Scout};
+use std::alloc::Global;
+use tree_pool::Pool;
+
+/// A node's program less the trees that are fixed.
+#[derive(Drop)]
+pub(crate) struct Program {
+    /// The program in fixed point.
+    pub scout: Scout,
+    /// Its right sides.
+    pub sides: Vec<i64>,
+    /// The trees of the pool that the scout has listed, by their numbers there.
+    pub listed: List<usize>,
+    /// The trees of the pool that are fixed.
+    pub fixed: List<usize>,
+}
+
+/// Returns a copy of numbers.
+fn copy_of(alloc: Global, numbers: &[i64]) -> Result<Vec<i64>, Memory> {
+    match Vec::from_slice(alloc, numbers) {
+        Ok(copy) => Ok(copy),
+        Err(_) => Err(Memory),
+    }
+}
+
+impl Program {
+    /// Returns the program of these rows without trees.
+    pub fn new(
+        alloc: Global,
+        instance: &Instance,
+        cuts: &[Cut],
+        rows: &NodeRows,
+    ) -> Result<Program, Memory>
+        requires rows { AreRows instance.now cuts.now rows.now }
+        ensures { (n : ℕ) → IfOk result (IsProgram n) }
+    {
+        let scout = scout_of(alloc, instance, cuts, rows)?;
+        let sides = copy_of(alloc, rows.right())?;
+        Ok(Program {
+            scout,
+            sides,
+            listed: List::new(alloc),
+            fixed: List::new(alloc),
+        })
+    }
+
+    /// Lists a tree of the pool.
+    pub fn list(
+        &mut self,
+        alloc: Global,
+        cuts: &[Cut],
+        rows: &NodeRows,
+        pool: &Pool,
+        column: usize,
+    ) -> Result<(), Memory>
+        requires column { column < length pool.now }
+        requires program { IsProgram (length pool.now) self.old }
+        ensures { OnOk result (IsProgram (length pool.now) self.new) }
+    {
+        let places = rows.places_of(alloc, cuts, pool, column)?;
+        self.listed.push(column)?;
+        list_places(
+            &mut self.scout,
+            i64::from(pool.cost(column)),
+            places.as_slice(),
+        )
+    }
+
+    /// Lists trees of the pool; numbers beyond it are left out.
+    pub fn list_all(
+        &mut self,
+        alloc: Global,
+        cuts: &[Cut],
+        rows: &NodeRows,
+        pool: &Pool,
+        columns: &[usize],
+    ) -> Result<(), Memory>
+        requires program { IsProgram (length pool.now) self.old }
+        ensures { OnOk result (IsProgram (length pool.now) self.new) }
+    {
+        for &column in columns {
+            if column < pool.len() {
+                self.list(alloc, cuts, rows, pool, column)?;
+            }
+        }
+        Ok(())
+    }
+
+    /// Lists the trees of the pool from a number on.
+    pub fn list_from(
+        &mut self,
+        alloc: Global,
+        cuts: &[Cut],
+        rows: &NodeRows,
+        pool: &Pool,
+        first: usize,
+    ) -> Result<(), Memory>
+        requires program { IsProgram (length pool.now) self.old }
+        ensures { OnOk result (IsProgram (length pool.now) self.new) }
+    {
+        for column in first..pool.len() {
+            self.list(alloc, cuts, rows, pool, column)?;
+        }
+        Ok(())
+    }
+
+    /// Fixes a tree of the pool: takes it off the right sides.
+    pub fn fix(
+        &mut self,
+        alloc: Global,
+        cuts: &[Cut],
+        rows: &NodeRows,
+        pool: &Pool,
+        column: usize,
+    ) -> Result<(), Memory>
+        requires column { column < length pool.now }
+        requires program { IsProgram (length pool.now) self.old }
+        ensures { OnOk result (IsProgram (length pool.now) self.new) }
+    {
+        let places = rows.places_of(alloc, cuts, pool, column)?;
+        self.fixed.push(column)?;
+        take_places(&mut self.scout, places.as_slice(), &mut self.sides);
+        Ok(())
+    }
+
+    /// Returns the tree of the pool in the scout's basis at a place, if there is one.
+    fn basic_tree(&self, place: usize, most: usize) -> Option<usize>
+        ensures { IfSome result (λ c. c < most) }
+    {
+        let Some(Key::Listed(number)) = self.scout.basic(place) else {
+            return None;
+        };
+        let column = *self.listed.as_slice().get(number)?;
+        if column < most { Some(column) } else { None }
+    }
+
+    /// Returns the weight of the column in the scout's basis at a place.
+    fn weight(&self, place: usize) -> i64 {
+        match self.scout.values().get(place) {
+            Some(value) => value.raw().max(0),
+            None => 0,
+        }
+    }
+
+    /// Adds the weight of the tree in the scout's basis at a place to the sums of its arcs, and returns it.
+    fn add_basic(&self, graph: &Graph, pool: &Pool, place: usize, sums: &mut [i64]) -> i64
+        ensures { length sums.new ≡ length sums.old }
+    {
+        let Some(column) = self.basic_tree(place, pool.len()) else {
+            return 0;
+        };
+        let weight = self.weight(place);
+        add(graph, pool.arcs(column), weight, sums);
+        weight
+    }
+
+    /// Sums the weights of the trees in the scout's basis by arc, and returns what they add up to.
+    pub fn sum_up(&self, graph: &Graph, pool: &Pool, sums: &mut [i64]) -> i64
+        ensures { length sums.new ≡ length sums.old }
+    {
+        clear(sums);
+        let mut total = 0i64;
+        for place in 0..self.scout.rows() {
+            let weight = self.add_basic(graph, pool, place, sums);
+            total = total.saturating_add(weight);
+        }
+        total
+    }
+}

@@ -1,0 +1,94 @@
+ghost use Rattle.std.specs.Prelude.{◌≡◌, ◌≤◌, ◌<◌, length};
+ghost use Rattle.master_laws.specs.Rows.{rows_of};
+ghost use Rattle.master_rows.specs.NodeRows.{AreRows};
+
+use master_rows::NodeRows;
+use pivot_rows::Place;
+use roster_model::{Cut, Instance, Memory};
+use scout::{Scout, Sign};
+use std::alloc::Global;
+
+/// What an artificial column costs.
+const ARTIFICIAL: i64 = 131_072;
+
+/// Sets the costs of a row's own columns.
+fn set_costs(
+    instance: &Instance,
+    cuts: &[Cut],
+    rows: &NodeRows,
+    row: usize,
+    missing: &mut [i64],
+    beyond: &mut [Option<i64>],
+)
+    requires rows { AreRows instance.now cuts.now rows.now }
+    requires row { row < length (rows_of instance.now cuts.now) }
+    ensures missing { length missing.new ≡ length missing.old }
+    ensures beyond { length beyond.new ≡ length beyond.old }
+{
+    if row < missing.len() {
+        missing[row] = rows.missing_cost(row, ARTIFICIAL);
+    }
+    if row < beyond.len() {
+        beyond[row] = rows.beyond_cost(row);
+    }
+}
+
+/// Returns a scout with these rows and without trees, started for dual steps.
+pub(crate) fn scout_of(
+    alloc: Global,
+    instance: &Instance,
+    cuts: &[Cut],
+    rows: &NodeRows,
+) -> Result<Scout, Memory>
+    requires rows { AreRows instance.now cuts.now rows.now }
+{
+    let count = rows.right().len();
+    let Ok(mut missing) = vec![in alloc; 0i64; count] else {
+        return Err(Memory);
+    };
+    let Ok(mut beyond) = vec![in alloc; None; count] else {
+        return Err(Memory);
+    };
+    for row in 0..count {
+        set_costs(
+            instance,
+            cuts,
+            rows,
+            row,
+            missing.as_mut_slice(),
+            beyond.as_mut_slice(),
+        );
+    }
+    Scout::new(alloc, rows.right(), missing.as_slice(), beyond.as_slice())
+}
+
+/// Lists a column in a scout.
+pub(crate) fn list_places(scout: &mut Scout, cost: i64, places: &[Place]) -> Result<(), Memory> {
+    let _number = scout.add_column(cost)?;
+    for place in places {
+        let sign = if place.value < 0 {
+            Sign::Minus
+        } else {
+            Sign::Plus
+        };
+        scout.add_entry(place.row, sign)?;
+    }
+    Ok(())
+}
+
+/// Takes an entry of a column off its row's right side.
+fn take_place(scout: &mut Scout, place: &Place, sides: &mut [i64]) {
+    let row = place.row as usize;
+    if row < sides.len() {
+        let side = sides[row].saturating_sub(place.value);
+        sides[row] = side;
+        scout.set_right(row, side);
+    }
+}
+
+/// Takes a column off the right sides.
+pub(crate) fn take_places(scout: &mut Scout, places: &[Place], sides: &mut [i64]) {
+    for place in places {
+        take_place(scout, place, sides);
+    }
+}

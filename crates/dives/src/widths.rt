@@ -1,0 +1,53 @@
+ghost use Rattle.std.specs.Prelude.{◌≡◌, ◌^◌, pos, All, slice_index_or};
+ghost use Rattle.roster_model.specs.Sums.{Within};
+ghost use Rattle.dives.specs.Widths.{StandOnce};
+
+use parse_graph::Graph;
+use roster_model::{ArcKey, LetterPrice};
+
+/// Prices of arcs alone: letters and rules cost nothing.
+#[derive(Clone, Copy)]
+pub struct Widths<'a> {
+    /// The graph with the arcs.
+    pub graph: &'a Graph,
+    /// The price of each arc of the graph.
+    pub prices: &'a [i128],
+    pub ghost once: { StandOnce graph.now.arcs },
+    pub ghost small: { All (Within (2 ^ 96)) prices.now },
+}
+
+/// Returns the price at a place, 0 behind the last one.
+fn price_at(prices: &[i128], place: u32) -> i128
+    requires small { All (Within (2 ^ 96)) prices.now }
+    ensures value { result ≡ slice_index_or prices.now place (pos 0) }
+    ensures within { Within (2 ^ 96) result }
+{
+    match prices.get(place as usize) {
+        Some(price) => *price,
+        None => 0,
+    }
+}
+
+impl<'a> LetterPrice for Widths<'a> {
+    ghost use Rattle.dives.specs.Widths.{width_view};
+    ghost use Rattle.dives.specs.Small.{view-small};
+
+    ghost view = { λ s. width_view s.graph.now.arcs s.prices.now };
+
+    fn letter(&self, code: u8, period: u8) -> Option<i128> {
+        Some(0)
+    }
+
+    fn arc(&self, arc: &ArcKey) -> i128 {
+        let Some(place) = self.graph.find(arc) else {
+            return 0;
+        };
+        price_at(self.prices, place)
+    }
+
+    fn rule(&self, rule: u8) -> i128 {
+        0
+    }
+
+    ghost all_within = { λ s. view-small s.graph.now.arcs s.prices.now s.small };
+}
