@@ -8,7 +8,7 @@ use std::simd::prelude::*;
 const LANES: usize = 8;
 
 /// Below this length the plain loop is at least as quick.
-const SHORT: usize = 32;
+const SHORT: usize = 64;
 
 /// A sum with its place.
 #[derive(Clone, Copy)]

@@ -96,24 +96,24 @@ fn the_last_of_many_sums_is_found(rt: HostRuntime) {
 
 #[test]
 fn equal_sums_in_other_lanes_do_not_come_first(rt: HostRuntime) {
-    let mut x = [5; 48];
-    for place in [9, 16, 34, 47] {
+    let mut x = [5; 75];
+    for place in [9, 16, 34, 47, 72] {
         x[place] = -2305843009213693952;
     }
-    let y = [-2305843009213693952; 48];
+    let y = [-2305843009213693952; 75];
     assert!(rt; are_small(&x) && are_small(&y));
     assert_eq!(rt; least_sum(&x, &y), Some((-4611686018427387904, 9)));
 }
 
 #[test]
-fn lengths_from_1_to_40_agree_with_the_plain_loop(rt: HostRuntime) {
-    let mut x = [0; 40];
-    let mut y = [0; 40];
-    for place in 0..40 {
+fn lengths_from_1_to_90_agree_with_the_plain_loop(rt: HostRuntime) {
+    let mut x = [0; 90];
+    let mut y = [0; 90];
+    for place in 0..90 {
         x[place] = (place as i64 * 37 + 11) % 23 - 9;
         y[place] = (place as i64 * 53 + 5) % 19 - 12;
     }
-    for length in 1..41 {
+    for length in 1..91 {
         let (front, other) = (&x[..length], &y[..length]);
         assert!(rt; are_small(front) && are_small(other));
         let agrees = match least_sum(front, other) {
