@@ -1,8 +1,8 @@
 -- Steps over eight lanes of sums, and the least of all lanes.
-use Rattle.std.proofs.Common.{◌≡◌, ℕ, zero, suc, ℤ, pos, ◌+◌, ◌*◌, ◌%◌, ◌/◌, ◌-◌, ◌^◌, ◌<◌, ◌≤◌, ◌+ℤ◌, ◌≤ℤ◌, ◌<ℤ◌, arith, List, [], ◌∷◌, map, length, get_or, replicate, Bool, true, false, cond, refl, sym, ap, subst, ◌∙◌, SFits, to_z, of_z, unsigned_abs, inl, inr, ◌⊎◌}
+use Rattle.std.proofs.Common.{◌≡◌, ℕ, zero, suc, ℤ, pos, ◌+◌, ◌%◌, ◌-◌, ◌^◌, ◌<◌, ◌≤◌, ◌+ℤ◌, ◌≤ℤ◌, ◌<ℤ◌, arith, List, [], ◌∷◌, map, length, get_or, replicate, Bool, true, false, cond, refl, sym, ap, subst, ◌∙◌, SFits, to_z, of_z, unsigned_abs, inl, inr, ◌⊎◌}
 use Rattle.std.specs.Int.{w64}
 use Rattle.std.proofs.lemmas.Int.{ints, to_z-of_z, wrapping_add_is, int_wrap_fits}
-use Rattle.std.proofs.lemmas.Simd.{length-zip2, get_or-zip2, length-chunk, get_or-chunk, tops_compared, length-sel_l, get_or-sel_l, get_or-replicate, length-replicate}
+use Rattle.std.proofs.lemmas.Simd.{length-zip2, get_or-zip2, length-chunk, get_or-chunk, tops_compared, length-sel_l, get_or-sel_l, get_or-replicate}
 use Rattle.std.proofs.lemmas.Bool.{cases_lt}
 use lib.Lanes.{zip2, sel_l, chunk, top}
 use lib.Signed.{lt_z}

@@ -1,6 +1,5 @@
-use Rattle.std.proofs.Common.{◌≡◌, ℕ, ℤ, ◌+◌, ◌≤ℤ◌, ◌<ℤ◌, arith, rules, SFits, ap, sym, subst, ◌∙◌, to_z, of_z, w64}
+use Rattle.std.proofs.Common.{◌≤ℤ◌, arith, rules, SFits, subst, w64}
 use Rattle.std.proofs.lemmas.Int.{ints, to_z-of_z}
-use Rattle.lane_min.specs.LeastSum.{sum_at, IsLeastSum}
 use Rattle.lane_min.proofs.LeastSumLemmas.{sum_kept, sum_taken}
 use Rattle.lane_min.proofs.least.least_from.Goals as goal
 use Rattle.lane_min.proofs.least.least_from.Goals.{then-sum-best, else-sum-best}

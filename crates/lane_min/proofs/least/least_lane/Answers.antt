@@ -1,6 +1,6 @@
-use Rattle.std.proofs.Common.{◌≡◌, ℕ, ℤ, pos, ◌<◌, ◌+◌, length, get_or, arith, rules, SFits, ap, refl, sym, subst, ◌∙◌, to_z, of_z, w64}
+use Rattle.std.proofs.Common.{◌≡◌, pos, get_or, arith, refl, subst, w64}
 use Rattle.std.proofs.lemmas.Int.{to_z-of_z}
-use Rattle.lane_min.proofs.RunningLemmas.{IsBestLane, bits, numbers, numbers_again, sum_fits, best_first, best_kept, best_taken, best_all}
+use Rattle.lane_min.proofs.RunningLemmas.{IsBestLane, numbers_again, sum_fits, best_first, best_kept, best_taken, best_all}
 use Rattle.lane_min.proofs.least.least_lane.Goals as goal
 use Rattle.lane_min.proofs.least.least_lane.Goals.{then-is_ahead, else-is_ahead}
 
