@@ -2,8 +2,10 @@
 #![tactic(auto)]
 
 mod counting;
+mod least;
 
 pub use counting::add_matches;
+pub use least::least_sum;
 
 #[cfg(test)]
 mod tests;
