@@ -16,6 +16,7 @@ use Rattle.roster_model.specs.declared.grammar.Grammar.{Grammar}
 use Rattle.linear_programs.specs.Solution.{Weighted}
 use Rattle.master_laws.specs.Master.{MasterKey}
 use Rattle.node_master.specs.Ends.{IsNodeCut, AreWeights}
+use Rattle.master_rows.specs.NodeRows.{IsSmallCut}
 use Rattle.tree_pool.specs.Pools.{PoolTree}
 use Rattle.node_master.specs.declared.ends.Weight.{Weight}
 use Rattle.growing_laws.specs.States.{IsPricedNode}
@@ -24,6 +25,9 @@ use Rattle.branch_price.proofs.Leaves.{AreLeafCuts}
 
 pub small-cuts : (i : Instance) (cuts : List Cut) → AreLeafCuts i cuts → All (λ (c : Cut). c.b ≤ 63) cuts
 small-cuts i cuts are = each_all (λ (c : Cut). c.b ≤ 63) cuts (Each-same (IsNodeCut i) (λ (c : Cut). c.b ≤ 63) cuts (λ c h. h.few) are.node)
+
+pub few-cuts : (i : Instance) (cuts : List Cut) → AreLeafCuts i cuts → Each IsSmallCut cuts
+few-cuts i cuts are = Each-same (IsNodeCut i) IsSmallCut cuts (λ c h. h.few) are.node
 
 pub is-shown : (i : Instance) (cuts : List Cut) (pool : List PoolTree) (prices : Prices) (weights : List Weight) (value : ℕ) → AreLeafCuts i cuts
     → IsSolved i cuts pool prices weights → IsPricedValue i prices cuts value → IsShown i cuts pool weights value

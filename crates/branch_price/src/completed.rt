@@ -1,5 +1,8 @@
-ghost use Rattle.std.specs.Prelude.{ℕ, ◌<◌, All, IfOk, IfSome, length};
+ghost use Rattle.std.specs.Prelude.{ℕ, ◌≤◌, ◌<◌, All, IfOk, IfSome, length};
+ghost use Rattle.roster_model.specs.Folds.{Each};
 ghost use Rattle.roster_model.specs.SoundInstance.{IsSoundInstance};
+ghost use Rattle.master_laws.specs.Rows.{rows_of};
+ghost use Rattle.master_rows.specs.NodeRows.{IsSmallCut};
 ghost use Rattle.parse_graph.specs.Graphs.{IsGraph};
 ghost use Rattle.tree_pool.specs.Pools.{IsPool, IsGrown};
 ghost use Rattle.candidate_rosters.specs.Rosters.{IsGoodRoster};
@@ -10,16 +13,17 @@ ghost use Rattle.branch_price.specs.Rounded.{AreFewer};
 use crate::desk::Desk;
 use crate::rounded::push_wholes;
 use candidate_rosters::{Roster, roster_of};
+use dives::dive;
 use node_master::{Pool, Weight};
 use offers::{limit, offer};
 use parse_graph::Graph;
-use roster_model::{Instance, List, Memory};
+use roster_model::{Cut, Instance, List, Memory};
 use roster_moves::complete;
 use std::alloc::Global;
 
-/// At every which node a roster is completed. This takes two passes over the graph for each shift, about as
-/// many as it takes to price a node, so it adds an eighth to a search.
-const EVERY: u32 = 8;
+/// At every which node a roster is looked for by a dive, which takes about as long as it takes to price the
+/// root.
+const EVERY: u32 = 4;
 
 /// Returns trees by weights rounded down: each as often as the whole part of its weight.
 fn wholes(alloc: Global, instance: &Instance, weights: &[Weight]) -> Result<List<usize>, Memory>
@@ -28,6 +32,79 @@ fn wholes(alloc: Global, instance: &Instance, weights: &[Weight]) -> Result<List
     let mut columns = List::new(alloc);
     push_wholes(&mut columns, weights, instance.heads_max as usize)?;
     Ok(columns)
+}
+
+/// Offers the roster of these trees, completed and exchanged.
+fn offer_begun(
+    alloc: Global,
+    instance: &Instance,
+    graph: &Graph,
+    begun: &[usize],
+    desk: &mut Desk,
+    pool: &mut Pool,
+    best: &mut Option<Roster>,
+) -> Result<(), Memory>
+    requires sound { IsSoundInstance instance.now }
+    requires graph { IsGraph instance.now.grammar graph.now }
+    requires begun { All (λ c. c < length pool.old) begun.now }
+    requires desk { IsDesk instance.now graph.now desk.old }
+    requires pool { IsPool instance.now.grammar pool.old }
+    requires best { IfSome best.old (IsGoodRoster instance.now) }
+    ensures better { IsBetter instance.now best.old best.new }
+    ensures desk { IsDesk instance.now graph.now desk.new }
+    ensures pool { IsPool instance.now.grammar pool.new }
+    ensures grown { IsGrown pool.old pool.new }
+{
+    let columns = complete(
+        alloc,
+        instance,
+        graph,
+        &mut desk.pricing.pricer,
+        &mut desk.pricing.room,
+        begun,
+        pool,
+    )?;
+    let found = roster_of(alloc, instance, pool, columns.as_slice(), &mut desk.rosters)?;
+    offer(instance, best, found);
+    Ok(())
+}
+
+/// Offers the roster of the trees that a dive fixes, completed and exchanged. Says whether it fixed any.
+fn offer_dived(
+    alloc: Global,
+    instance: &Instance,
+    graph: &Graph,
+    cuts: &[Cut],
+    desk: &mut Desk,
+    pool: &mut Pool,
+    best: &mut Option<Roster>,
+) -> Result<bool, Memory>
+    requires sound { IsSoundInstance instance.now }
+    requires graph { IsGraph instance.now.grammar graph.now }
+    requires cuts { Each IsSmallCut cuts.now }
+    requires small { length (rows_of instance.now cuts.now) ≤ 1500 }
+    requires desk { IsDesk instance.now graph.now desk.old }
+    requires pool { IsPool instance.now.grammar pool.old }
+    requires best { IfSome best.old (IsGoodRoster instance.now) }
+    ensures better { IsBetter instance.now best.old best.new }
+    ensures desk { IsDesk instance.now graph.now desk.new }
+    ensures pool { IsPool instance.now.grammar pool.new }
+    ensures grown { IsGrown pool.old pool.new }
+{
+    let begun = dive(
+        alloc,
+        instance,
+        graph,
+        cuts,
+        &mut desk.pricing.pricer,
+        &desk.wanted,
+        pool,
+    )?;
+    if begun.is_empty() {
+        return Ok(false);
+    }
+    offer_begun(alloc, instance, graph, begun.as_slice(), desk, pool, best)?;
+    Ok(true)
 }
 
 /// Offers the roster of the trees of a solution, with weights rounded down, completed and exchanged.
@@ -52,26 +129,17 @@ fn offer_completed(
     ensures grown { IsGrown pool.old pool.new }
 {
     let begun = wholes(alloc, instance, weights)?;
-    let columns = complete(
-        alloc,
-        instance,
-        graph,
-        &mut desk.pricing.pricer,
-        &mut desk.pricing.room,
-        begun.as_slice(),
-        pool,
-    )?;
-    let found = roster_of(alloc, instance, pool, columns.as_slice(), &mut desk.rosters)?;
-    offer(instance, best, found);
-    Ok(())
+    offer_begun(alloc, instance, graph, begun.as_slice(), desk, pool, best)
 }
 
-/// Offers such a roster at the first node and at every eighth one after it, unless the best roster already
-/// costs no more than the bound. So many nodes are processed before.
+/// Offers a roster found by a dive at the first node and at every fourth one after it, unless the best
+/// roster already costs no more than the bound. Where the dive fixes no tree, it offers the roster of the
+/// solution's trees in place of it. So many nodes are processed before.
 pub(crate) fn offer_at_some(
     alloc: Global,
     instance: &Instance,
     graph: &Graph,
+    cuts: &[Cut],
     weights: &[Weight],
     processed: u32,
     bound: u64,
@@ -81,6 +149,8 @@ pub(crate) fn offer_at_some(
 ) -> Result<(), Memory>
     requires sound { IsSoundInstance instance.now }
     requires graph { IsGraph instance.now.grammar graph.now }
+    requires cuts { Each IsSmallCut cuts.now }
+    requires small { length (rows_of instance.now cuts.now) ≤ 1500 }
     requires weights { All (λ w. w.column < length pool.old) weights.now }
     requires desk { IsDesk instance.now graph.now desk.old }
     requires pool { IsPool instance.now.grammar pool.old }
@@ -94,6 +164,9 @@ pub(crate) fn offer_at_some(
         return Ok(());
     }
     if limit(instance, best) <= bound {
+        return Ok(());
+    }
+    if offer_dived(alloc, instance, graph, cuts, desk, pool, best)? {
         return Ok(());
     }
     offer_completed(alloc, instance, graph, weights, desk, pool, best)

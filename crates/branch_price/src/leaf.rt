@@ -149,6 +149,7 @@ fn best_leaf(
         alloc,
         instance,
         graph,
+        cuts,
         weights,
         processed,
         leaf.bound,

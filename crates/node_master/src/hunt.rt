@@ -12,7 +12,7 @@ use crate::desk::Desk;
 use crate::first::desk_of;
 use crate::hint::Hint;
 use crate::listed::first_wide;
-use crate::scouting::{basic_own, basic_trees, list_trees, scout_of};
+use crate::scouting::{basic_own, basic_trees, likely_trees, list_trees, scout_of};
 use crate::trees::list_cheapest;
 use cheapest_tree::Pricer;
 use master_rows::NodeRows;
@@ -330,6 +330,7 @@ pub(crate) fn hunt(
     ensures pool { IsPool instance.now.grammar pool.new }
     ensures grown { IsGrown pool.old pool.new }
 {
-    let mut desk = desk_of(alloc, instance, cuts, rows, pool, wanted)?;
+    let trees = likely_trees(alloc, pool.len(), wanted, rows.right().len())?;
+    let mut desk = desk_of(alloc, instance, cuts, rows, pool, trees.as_slice())?;
     hunt_from(alloc, instance, cuts, graph, rows, pricer, pool, &mut desk)
 }

@@ -41,14 +41,46 @@ fn list_column(scout: &mut Scout, cost: i64, places: &[Place]) -> Result<(), Mem
     Ok(())
 }
 
-/// Lists the trees among columns in a scout, from a place on.
+/// Whether a column is among the first ones of a list.
+fn is_before(held: &[Held], place: usize, kind: Kind) -> bool {
+    held.iter().take(place).any(|one| one.kind == kind)
+}
+
+/// Lists the trees among columns in a scout, from a place on. A tree that is among the columns before gets
+/// a column without entries, which never enters.
 pub(crate) fn list_trees(scout: &mut Scout, held: &[Held], first: usize) -> Result<(), Memory> {
-    for one in held.iter().skip(first) {
+    for (place, one) in held.iter().enumerate().skip(first) {
         if let Kind::OfTree(_) = one.kind {
-            list_column(scout, one.cost, one.places.as_slice())?;
+            if is_before(held, place, one.kind) {
+                let _number = scout.add_column(0)?;
+            } else {
+                list_column(scout, one.cost, one.places.as_slice())?;
+            }
         }
     }
     Ok(())
+}
+
+/// How many trees of the pool a hunt begins with, for each row.
+const TREES: usize = 6;
+
+/// Returns trees of a pool of so many that may be good ones: the wanted ones, and the last ones.
+pub(crate) fn likely_trees(
+    alloc: Global,
+    count: usize,
+    wanted: &[usize],
+    rows: usize,
+) -> Result<List<usize>, Memory> {
+    let mut trees = List::new(alloc);
+    for tree in wanted {
+        trees.push(*tree)?;
+    }
+    for tree in count.saturating_sub(rows.saturating_mul(TREES))..count {
+        if !wanted.contains(&tree) {
+            trees.push(tree)?;
+        }
+    }
+    Ok(trees)
 }
 
 /// Returns a scout with the rows' own columns among these.

@@ -1,12 +1,15 @@
-use Rattle.std.proofs.Common.{All, ◌≤◌, List, sym, subst}
+use Rattle.std.proofs.Common.{All, ◌≤◌, List, length, sym, subst}
 use Rattle.std.proofs.lemmas.Result.{on_ok_weaker}
 use Rattle.roster_model.specs.declared.instance.Cut.{Cut}
+use Rattle.roster_model.specs.Folds.{Each}
 use Rattle.bound_laws.specs.Priced.{IsPricedValue}
+use Rattle.master_laws.specs.Rows.{rows_of}
+use Rattle.master_rows.specs.NodeRows.{IsSmallCut}
 use Rattle.branch_price.specs.Steps.{IsShown}
 use Rattle.branch_price.proofs.Leaves.{leaf-cuts}
 use Rattle.candidate_rosters.proofs.Having.{grown-more}
 use Rattle.branch_price.proofs.Bettered.{better-more, plan-later, weights-later}
-use Rattle.branch_price.proofs.Settled.{small-cuts, is-shown, priced-node, shown-within}
+use Rattle.branch_price.proofs.Settled.{small-cuts, few-cuts, is-shown, priced-node, shown-within}
 use Rattle.branch_price.proofs.Processed.{asks-priced, turned-by, loose-path}
 use Rattle.branch_price.proofs.leaf.best_leaf.Goals as goal
 
@@ -37,6 +40,16 @@ offer_at_some-requires-clause-weights c =
     weights-later c.args.pool.now c.plan_for.new.pool c.args.weights.now c.plan_for.ensures.grown
     (shown-within i p.cuts c.args.pool.now c.args.weights.now c.shown_value-value.result
     (is-shown i p.cuts c.args.pool.now c.args.prices c.args.weights.now c.shown_value-value.result are c.requires.solved value))
+
+pub offer_at_some-requires-clause-cuts : goal.offer_at_some-requires-clause-cuts
+offer_at_some-requires-clause-cuts c =
+    let r = c.requires.node in
+    let p = c.args.path.now in
+    let are = leaf-cuts c.args.instance.now c.args.graph.now r.0 r.1 r.2 r.3 c.args.progress.now c.args.leaf p.cuts c.requires.sound r.4 in
+    subst (λ (cs : List Cut). Each IsSmallCut cs) (sym c.cuts-cuts.ensures) (few-cuts c.args.instance.now p.cuts are)
+
+pub offer_at_some-requires-clause-small : goal.offer_at_some-requires-clause-small
+offer_at_some-requires-clause-small c = subst (λ (cs : List Cut). length (rows_of c.args.instance.now cs) ≤ 1500) (sym c.cuts-cuts.ensures) c.requires.solved.few
 
 pub returns-clause-grown : goal.returns-clause-grown
 returns-clause-grown c = grown-more c.args.pool.now c.plan_for.new.pool c.offer_at_some.new.pool c.plan_for.ensures.grown c.offer_at_some.ensures.grown
