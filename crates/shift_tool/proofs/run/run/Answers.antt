@@ -23,3 +23,6 @@ returns-in-Next-clause-one_answer g c = has-one-answer (form_of (map string_byte
 
 pub returns-in-Fits-clause-one_answer : goal.returns-in-Fits-clause-one_answer
 returns-in-Fits-clause-one_answer g c = has-one-answer (form_of (map string_bytes c.args.words.now))
+
+pub returns-in-Reuse-clause-one_answer : goal.returns-in-Reuse-clause-one_answer
+returns-in-Reuse-clause-one_answer g c = has-one-answer (form_of (map string_bytes c.args.words.now))
