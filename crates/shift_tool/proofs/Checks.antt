@@ -1,5 +1,5 @@
 -- The answers of commands that ask something of a certificate, from what their parts answer.
-use Rattle.std.proofs.Common.{◌≡◌, ◌≢◌, ℕ, List, Option, Result, Ok, Err, IfOk, ap, ◌∙◌}
+use Rattle.std.proofs.Common.{◌≡◌, ◌≢◌, ℕ, ◌<◌, List, Option, Result, Ok, Err, IfOk, arith, refl, ap, ◌∙◌}
 use Rattle.std.specs.Prelude.{Some, None, [], ◌∷◌}
 use Rattle.roster_model.specs.declared.grammar.Grammar.{Grammar}
 use Rattle.roster_model.specs.declared.instance.Instance.{Instance}
@@ -30,6 +30,11 @@ use Rattle.shelf.specs.Shelf.{Texts}
 use Rattle.shift_tool.specs.declared.answer.Answer.{Answer}
 use Rattle.shift_tool.specs.Check.{CertAnswers, Judgement, yes, no, verdict_status, ProofAnswers, AnswersProof, DemandAnswers, AnswersDemand, RulesAnswers}
 use Rattle.shift_tool.specs.Check as check
+use Rattle.proof_reuse.specs.declared.nodes.Reused.{Reused}
+use Rattle.proof_reuse.specs.declared.nodes.Reused.TheVariants.{Bound, Refused}
+use Rattle.shift_tool.specs.declared.ask.Question.{Question}
+use Rattle.shift_tool.specs.declared.ask.Question.TheVariants as questions
+use Rattle.shift_tool.specs.Reuse.{answers_to, reused_status}
 use Rattle.shift_tool.specs.Fetch.{IsAnswer}
 use Rattle.shelf.specs.Shelf.{Told}
 use Rattle.shift_tool.specs.Reader.{IsReader, HoldsAll}
@@ -102,3 +107,23 @@ pub proof-refused : (i : Instance) (text : List ℕ) (fault : PieceFault) (r : R
     → IfOk r (λ a. (a.status ≡ 5) × (a.output ≡ proof.fault_line (proof_fault fault))) → IfOk r (λ a. ProofAnswers Judgement i text a.status a.output)
 proof-refused i text fault (Err e) judged h = tt
 proof-refused i text fault (Ok a) judged h = rw h.0 (check.ProofAnswers.refused a.output (record { fault = proof_fault fault; reading = judged; line = h.1 }))
+
+-- no answer has the status of a refusal
+ends_at : (s n : ℕ) → s ≡ n → n < 6 → (s ≢ 6) × (s ≢ 7)
+ends_at s n e few = ((λ f. omega (arith, e, f, few)), (λ f. omega (arith, e, f, few)))
+
+judged_ends : (i : Instance) (c : Cert) (s : ℕ) (output : List ℕ) → Judgement i c s output → (s ≢ 6) × (s ≢ 7)
+judged_ends i c s output (yes x h) = ends_at s 0 refl (omega arith)
+judged_ends i c s output (no x h) = ends_at s 1 refl (omega arith)
+
+reused_at : (s : ℕ) (r : Reused) → s ≡ reused_status r → (s ≢ 6) × (s ≢ 7)
+reused_at s (Bound bound) e = ends_at s 0 e (omega arith)
+reused_at s (Refused why) e = ends_at s 1 e (omega arith)
+
+pub ended : (q : Question) (i : Instance) (c : Cert) (s : ℕ) (output : List ℕ) → answers_to q i c s output → (s ≢ 6) × (s ≢ 7)
+ended questions.Check i c s output h = judged_ends i c s output h
+ended questions.Reuse i c s output h = reused_at s h.reused h.status_is
+
+pub proof_ends : (A : CertAnswers) → ((i : Instance) (c : Cert) (s : ℕ) (output : List ℕ) → A i c s output → (s ≢ 6) × (s ≢ 7)) → (i : Instance) (text : List ℕ) (s : ℕ) (output : List ℕ) → ProofAnswers A i text s output → (s ≢ 6) × (s ≢ 7)
+proof_ends A each i text s output (check.ProofAnswers.accepted c t x e a) = each i c s output a
+proof_ends A each i text s output (check.ProofAnswers.refused x h) = ends_at s 5 refl (omega arith)
