@@ -20,12 +20,15 @@ use Rattle.demand_text.specs.InstanceOf.{instance_of}
 use Rattle.proof_pieces.specs.declared.fault.ProofFault.{ProofFault}
 use Rattle.proof_pieces.specs.CertOf.{proof_of}
 use Rattle.proof_pieces.specs.FaultLine as proof
+use Rattle.proof_reuse.specs.declared.nodes.Reused.{Reused}
+use Rattle.proof_reuse.proofs.OneAnswer.{one-answer}
+use Rattle.reuse_report.specs.ReusedText.{reused_text}
 use Rattle.demand_text.specs.FaultLine as demand
 use Rattle.rules_text.specs.FaultLine.{fault_line}
 use Rattle.shift_report.specs.TreeText.{tree_text}
 use Rattle.shelf.specs.Shelf.{Texts}
 use Rattle.shift_report.specs.VerdictText.{verdict_text}
-use Rattle.shift_tool.specs.Check.{SaysYes, SaysNo, Judgement, SaysProofFault, ProofAnswers, AnswersProof, SaysDemandFault, DemandAnswers, AnswersDemand, RulesAnswers, AnswersCheck}
+use Rattle.shift_tool.specs.Check.{SaysYes, SaysNo, Judgement, SaysProofFault, CertAnswers, ProofAnswers, AnswersProof, SaysDemandFault, DemandAnswers, AnswersDemand, RulesAnswers, AnswersTexts}
 use Rattle.shift_tool.specs.Check as checks
 use Rattle.shift_tool.specs.Explain.{SaysTree, SaysNone, Derivation, Explanation, AnswersExplain, SaysFault}
 use Rattle.shift_tool.specs.Explain as explains
@@ -35,8 +38,9 @@ use Rattle.day_questions.specs.Fitting.{FitsAnswer}
 use Rattle.day_questions.proofs.OnceLemmas.{one-ranked, one-next, one-fits}
 use Rattle.shift_tool.specs.Days.{DayAnswer, AnswersDay}
 use Rattle.shift_tool.specs.Days as days
+use Rattle.shift_tool.specs.Reuse.{Reusing, reused_status}
 use Rattle.shift_tool.specs.OneAnswer.{AreSameButTree, HasOneAnswer}
-use Rattle.shift_tool.specs.Form.{Form, explain, rank, next, fits, check, solve, make, none, AnswersNoForm}
+use Rattle.shift_tool.specs.Form.{Form, explain, rank, next, fits, check, reuse, solve, make, none, AnswersNoForm}
 use Rattle.shift_tool.proofs.OneEndLemmas.{solve-ends, make-ends}
 use Rattle.shift_tool.proofs.Same.{same_text, same_ok, same_err, not_both, same_grammar, no_fault, faults_once}
 
@@ -52,48 +56,56 @@ judged_once i c s t a b (checks.no x h) (checks.yes y k) = absurd (cause-refuses
 judged_once i c s t a b (checks.no x h) (checks.no y k) =
     (refl, h.line ∙ ap (λ (w : Why). verdict_text (No w)) (one-first i c h.why k.why h.cause k.cause) ∙ sym k.line)
 
-proof_once : (i : Instance) (text : List ℕ) (s t : ℕ) (a b : List ℕ) → ProofAnswers i text s a → ProofAnswers i text t b → AreSame s t a b
-proof_once i text s t a b (checks.ProofAnswers.accepted c x xs e h) (checks.ProofAnswers.accepted d y ys f k) =
-    judged_once i d s t a b (subst (λ (z : Cert). Judgement i z s a) (same_ok (proof_of i text) c d e f) h) k
-proof_once i text s t a b (checks.ProofAnswers.accepted c x xs e h) (checks.ProofAnswers.refused ys k) = absurd (not_both (proof_of i text) c k.fault e k.reading)
-proof_once i text s t a b (checks.ProofAnswers.refused xs h) (checks.ProofAnswers.accepted d y ys f k) = absurd (not_both (proof_of i text) d h.fault f h.reading)
-proof_once i text s t a b (checks.ProofAnswers.refused xs h) (checks.ProofAnswers.refused ys k) =
-    (refl, h.line ∙ ap (λ (x : ProofFault). proof.fault_line x) (same_err (proof_of i text) h.fault k.fault h.reading k.reading) ∙ sym k.line)
+-- what the nodes of an old certificate show is one answer
+reused_once : (i : Instance) (c : Cert) (s t : ℕ) (a b : List ℕ) → Reusing i c s a → Reusing i c t b → AreSame s t a b
+reused_once i c s t a b h k =
+    let same = one-answer i c h.reused k.reused h.is k.is in
+    (h.status_is ∙ ap (λ (r : Reused). reused_status r) same ∙ sym k.status_is, h.line ∙ ap (λ (r : Reused). reused_text r) same ∙ sym k.line)
 
-proofs_once : (held : Texts) (i : Instance) (name : List ℕ) (s t : ℕ) (a b : List ℕ) → AnswersProof (Some held) i name s a → AnswersProof (Some held) i name t b → AreSame s t a b
-proofs_once held i name s t a b h k =
-    proof_once i k.text s t a b (subst (λ (x : List ℕ). ProofAnswers i x s a) (same_text held name h.text k.text h.holds k.holds) h.answers) k.answers
+-- where a certificate has one answer, the three texts have
+module _ (A : CertAnswers) (once : (i : Instance) (c : Cert) (s t : ℕ) (a b : List ℕ) → A i c s a → A i c t b → AreSame s t a b) where
+  proof_once : (i : Instance) (text : List ℕ) (s t : ℕ) (a b : List ℕ) → ProofAnswers A i text s a → ProofAnswers A i text t b → AreSame s t a b
+  proof_once i text s t a b (checks.ProofAnswers.accepted c x xs e h) (checks.ProofAnswers.accepted d y ys f k) =
+      once i d s t a b (subst (λ (z : Cert). A i z s a) (same_ok (proof_of i text) c d e f) h) k
+  proof_once i text s t a b (checks.ProofAnswers.accepted c x xs e h) (checks.ProofAnswers.refused ys k) = absurd (not_both (proof_of i text) c k.fault e k.reading)
+  proof_once i text s t a b (checks.ProofAnswers.refused xs h) (checks.ProofAnswers.accepted d y ys f k) = absurd (not_both (proof_of i text) d h.fault f h.reading)
+  proof_once i text s t a b (checks.ProofAnswers.refused xs h) (checks.ProofAnswers.refused ys k) =
+      (refl, h.line ∙ ap (λ (x : ProofFault). proof.fault_line x) (same_err (proof_of i text) h.fault k.fault h.reading k.reading) ∙ sym k.line)
 
-demand_once : (held : Texts) (g : Grammar) (text name : List ℕ) (s t : ℕ) (a b : List ℕ) → DemandAnswers (Some held) g text name s a → DemandAnswers (Some held) g text name t b → AreSame s t a b
-demand_once held g text name s t a b (checks.DemandAnswers.accepted i x xs e h) (checks.DemandAnswers.accepted j y ys f k) =
-    proofs_once held j name s t a b
-    (subst (λ (z : Instance). AnswersProof (Some held) z name s a) (same_ok (instance_of g text) i j e.reading f.reading) h) k
-demand_once held g text name s t a b (checks.DemandAnswers.accepted i x xs e h) (checks.DemandAnswers.refused ys k) =
-    absurd (not_both (instance_of g text) i k.fault e.reading k.reading)
-demand_once held g text name s t a b (checks.DemandAnswers.refused xs h) (checks.DemandAnswers.accepted j y ys f k) =
-    absurd (not_both (instance_of g text) j h.fault f.reading h.reading)
-demand_once held g text name s t a b (checks.DemandAnswers.refused xs h) (checks.DemandAnswers.refused ys k) =
-    (refl, h.line ∙ ap (λ (x : DemandFault). demand.fault_line x) (same_err (instance_of g text) h.fault k.fault h.reading k.reading) ∙ sym k.line)
+  proofs_once : (held : Texts) (i : Instance) (name : List ℕ) (s t : ℕ) (a b : List ℕ) → AnswersProof A (Some held) i name s a → AnswersProof A (Some held) i name t b → AreSame s t a b
+  proofs_once held i name s t a b h k =
+      proof_once i k.text s t a b (subst (λ (x : List ℕ). ProofAnswers A i x s a) (same_text held name h.text k.text h.holds k.holds) h.answers) k.answers
 
-demands_once : (held : Texts) (g : Grammar) (name proof_name : List ℕ) (s t : ℕ) (a b : List ℕ) → AnswersDemand (Some held) g name proof_name s a → AnswersDemand (Some held) g name proof_name t b → AreSame s t a b
-demands_once held g name proof_name s t a b h k =
-    demand_once held g k.text proof_name s t a b
-    (subst (λ (x : List ℕ). DemandAnswers (Some held) g x proof_name s a) (same_text held name h.text k.text h.holds k.holds) h.answers) k.answers
+  demand_once : (held : Texts) (g : Grammar) (text name : List ℕ) (s t : ℕ) (a b : List ℕ) → DemandAnswers A (Some held) g text name s a → DemandAnswers A (Some held) g text name t b → AreSame s t a b
+  demand_once held g text name s t a b (checks.DemandAnswers.accepted i x xs e h) (checks.DemandAnswers.accepted j y ys f k) =
+      proofs_once held j name s t a b
+      (subst (λ (z : Instance). AnswersProof A (Some held) z name s a) (same_ok (instance_of g text) i j e.reading f.reading) h) k
+  demand_once held g text name s t a b (checks.DemandAnswers.accepted i x xs e h) (checks.DemandAnswers.refused ys k) =
+      absurd (not_both (instance_of g text) i k.fault e.reading k.reading)
+  demand_once held g text name s t a b (checks.DemandAnswers.refused xs h) (checks.DemandAnswers.accepted j y ys f k) =
+      absurd (not_both (instance_of g text) j h.fault f.reading h.reading)
+  demand_once held g text name s t a b (checks.DemandAnswers.refused xs h) (checks.DemandAnswers.refused ys k) =
+      (refl, h.line ∙ ap (λ (x : DemandFault). demand.fault_line x) (same_err (instance_of g text) h.fault k.fault h.reading k.reading) ∙ sym k.line)
 
-rules_once : (held : Texts) (text demand proof : List ℕ) (s t : ℕ) (a b : List ℕ) → RulesAnswers (Some held) text demand proof s a → RulesAnswers (Some held) text demand proof t b → AreSame s t a b
-rules_once held text demand proof s t a b (checks.RulesAnswers.accepted g x xs e h) (checks.RulesAnswers.accepted f y ys q k) =
-    demands_once held f demand proof s t a b
-    (subst (λ (z : Grammar). AnswersDemand (Some held) z demand proof s a) (same_grammar text g f e.reading q.reading) h) k
-rules_once held text demand proof s t a b (checks.RulesAnswers.accepted g x xs e h) (checks.RulesAnswers.refused ys k) =
-    absurd (no_fault text g k.fault e.reading k.reading)
-rules_once held text demand proof s t a b (checks.RulesAnswers.refused xs h) (checks.RulesAnswers.accepted f y ys q k) =
-    absurd (no_fault text f h.fault q.reading h.reading)
-rules_once held text demand proof s t a b (checks.RulesAnswers.refused xs h) (checks.RulesAnswers.refused ys k) = (refl, faults_once text a b h k)
+  demands_once : (held : Texts) (g : Grammar) (name proof_name : List ℕ) (s t : ℕ) (a b : List ℕ) → AnswersDemand A (Some held) g name proof_name s a → AnswersDemand A (Some held) g name proof_name t b → AreSame s t a b
+  demands_once held g name proof_name s t a b h k =
+      demand_once held g k.text proof_name s t a b
+      (subst (λ (x : List ℕ). DemandAnswers A (Some held) g x proof_name s a) (same_text held name h.text k.text h.holds k.holds) h.answers) k.answers
 
-check_once : (held : Texts) (rules demand proof : List ℕ) (s t : ℕ) (a b : List ℕ) → AnswersCheck (Some held) rules demand proof s a → AnswersCheck (Some held) rules demand proof t b → AreSame s t a b
-check_once held rules demand proof s t a b h k =
-    rules_once held k.text demand proof s t a b
-    (subst (λ (x : List ℕ). RulesAnswers (Some held) x demand proof s a) (same_text held rules h.text k.text h.holds k.holds) h.answers) k.answers
+  rules_once : (held : Texts) (text demand proof : List ℕ) (s t : ℕ) (a b : List ℕ) → RulesAnswers A (Some held) text demand proof s a → RulesAnswers A (Some held) text demand proof t b → AreSame s t a b
+  rules_once held text demand proof s t a b (checks.RulesAnswers.accepted g x xs e h) (checks.RulesAnswers.accepted f y ys q k) =
+      demands_once held f demand proof s t a b
+      (subst (λ (z : Grammar). AnswersDemand A (Some held) z demand proof s a) (same_grammar text g f e.reading q.reading) h) k
+  rules_once held text demand proof s t a b (checks.RulesAnswers.accepted g x xs e h) (checks.RulesAnswers.refused ys k) =
+      absurd (no_fault text g k.fault e.reading k.reading)
+  rules_once held text demand proof s t a b (checks.RulesAnswers.refused xs h) (checks.RulesAnswers.accepted f y ys q k) =
+      absurd (no_fault text f h.fault q.reading h.reading)
+  rules_once held text demand proof s t a b (checks.RulesAnswers.refused xs h) (checks.RulesAnswers.refused ys k) = (refl, faults_once text a b h k)
+
+  texts_once : (held : Texts) (rules demand proof : List ℕ) (s t : ℕ) (a b : List ℕ) → AnswersTexts A (Some held) rules demand proof s a → AnswersTexts A (Some held) rules demand proof t b → AreSame s t a b
+  texts_once held rules demand proof s t a b h k =
+      rules_once held k.text demand proof s t a b
+      (subst (λ (x : List ℕ). RulesAnswers A (Some held) x demand proof s a) (same_text held rules h.text k.text h.holds k.holds) h.answers) k.answers
 
 -- a word has one price
 one_price : (g : Grammar) (name : ℕ) (word : List ℕ) (p q : ℕ) → IsPrice g name word p → IsPrice g name word q → p ≡ q
@@ -149,7 +161,8 @@ has-one-answer (next rules prefix) =
     λ held s t a b. held_once (λ g s o. NextAnswer g prefix s o) (λ g. one-next g prefix) held rules s t a b
 has-one-answer (fits rules pattern) =
     λ held s t a b. held_once (λ g s o. FitsAnswer g pattern s o) (λ g. one-fits g pattern) held rules s t a b
-has-one-answer (check rules demand proof) = λ held s t a b. check_once held rules demand proof s t a b
+has-one-answer (check rules demand proof) = λ held s t a b. texts_once Judgement judged_once held rules demand proof s t a b
+has-one-answer (reuse rules demand proof) = λ held s t a b. texts_once Reusing reused_once held rules demand proof s t a b
 has-one-answer (solve rules demand proof turns) = λ held. solve-ends held rules demand turns
 has-one-answer (make number proof turns) = make-ends number turns
 has-one-answer none = λ s t a b h k. (h.two ∙ sym k.two, h.line ∙ sym k.line)

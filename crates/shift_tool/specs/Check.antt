@@ -1,4 +1,4 @@
--- What `check RULES DEMAND PROOF` answers.
+-- What commands that ask something of a certificate answer, and what `check RULES DEMAND PROOF` does.
 use Rattle.std.specs.Prelude.{ℕ, ◌≡◌, List, Option, Ok, Err}
 use Rattle.roster_model.specs.declared.grammar.Grammar.{Grammar}
 use Rattle.roster_model.specs.declared.instance.Instance.{Instance}
@@ -49,18 +49,22 @@ pub record SaysProofFault (i : Instance) (text output : List ℕ) : Type 0 where
   pub reading : proof_of i text ≡ Err fault
   pub line : output ≡ proof.fault_line fault
 
--- the answers to a proof text
-pub data ProofAnswers (i : Instance) (text : List ℕ) : ℕ → List ℕ → Type 0 where
-  accepted : (c : Cert) (status : ℕ) (output : List ℕ) → proof_of i text ≡ Ok c → Judgement i c status output
-      → ProofAnswers i text status output
-  refused : (output : List ℕ) → SaysProofFault i text output → ProofAnswers i text 5 output
+-- the answers for each certificate of an instance
+abbrev pub CertAnswers : Type 1
+CertAnswers = Instance → Cert → ℕ → List ℕ → Type 0
+
+-- the answers to a proof text, where `A` tells those for its certificate
+pub data ProofAnswers (A : CertAnswers) (i : Instance) (text : List ℕ) : ℕ → List ℕ → Type 0 where
+  accepted : (c : Cert) (status : ℕ) (output : List ℕ) → proof_of i text ≡ Ok c → A i c status output
+      → ProofAnswers A i text status output
+  refused : (output : List ℕ) → SaysProofFault i text output → ProofAnswers A i text 5 output
 
 -- the same, where the proof text stands under a name
-pub record AnswersProof (held : Option Texts) (i : Instance) (name : List ℕ) (status : ℕ)
+pub record AnswersProof (A : CertAnswers) (held : Option Texts) (i : Instance) (name : List ℕ) (status : ℕ)
     (output : List ℕ) : Type 0 where
   pub text : List ℕ
   pub holds : Holds held name text
-  pub answers : ProofAnswers i text status output
+  pub answers : ProofAnswers A i text status output
 
 -- the instance of an accepted demand text, which is sound
 pub record IsInstanceOf (g : Grammar) (text : List ℕ) (i : Instance) : Type 0 where
@@ -74,29 +78,36 @@ pub record SaysDemandFault (g : Grammar) (text output : List ℕ) : Type 0 where
   pub line : output ≡ demand.fault_line fault
 
 -- the answers to a demand text, and then to the proof text under a name
-pub data DemandAnswers (held : Option Texts) (g : Grammar) (text name : List ℕ) : ℕ → List ℕ → Type 0 where
+pub data DemandAnswers (A : CertAnswers) (held : Option Texts) (g : Grammar) (text name : List ℕ) :
+    ℕ → List ℕ → Type 0 where
   accepted : (i : Instance) (status : ℕ) (output : List ℕ) → IsInstanceOf g text i
-      → AnswersProof held i name status output
-      → DemandAnswers held g text name status output
-  refused : (output : List ℕ) → SaysDemandFault g text output → DemandAnswers held g text name 4 output
+      → AnswersProof A held i name status output
+      → DemandAnswers A held g text name status output
+  refused : (output : List ℕ) → SaysDemandFault g text output → DemandAnswers A held g text name 4 output
 
 -- the same, where the demand text stands under a name
-pub record AnswersDemand (held : Option Texts) (g : Grammar) (name proof_name : List ℕ) (status : ℕ)
-    (output : List ℕ) : Type 0 where
+pub record AnswersDemand (A : CertAnswers) (held : Option Texts) (g : Grammar) (name proof_name : List ℕ)
+    (status : ℕ) (output : List ℕ) : Type 0 where
   pub text : List ℕ
   pub holds : Holds held name text
-  pub answers : DemandAnswers held g text proof_name status output
+  pub answers : DemandAnswers A held g text proof_name status output
 
 -- the answers to a rules text, and then to the demand and proof texts under names
-pub data RulesAnswers (held : Option Texts) (text demand_name proof_name : List ℕ) : ℕ → List ℕ → Type 0 where
+pub data RulesAnswers (A : CertAnswers) (held : Option Texts) (text demand_name proof_name : List ℕ) :
+    ℕ → List ℕ → Type 0 where
   accepted : (g : Grammar) (status : ℕ) (output : List ℕ) → IsGrammarOf text g
-      → AnswersDemand held g demand_name proof_name status output
-      → RulesAnswers held text demand_name proof_name status output
-  refused : (output : List ℕ) → SaysFault text output → RulesAnswers held text demand_name proof_name 3 output
+      → AnswersDemand A held g demand_name proof_name status output
+      → RulesAnswers A held text demand_name proof_name status output
+  refused : (output : List ℕ) → SaysFault text output → RulesAnswers A held text demand_name proof_name 3 output
 
 -- the same, where the rules text stands under a name
-pub record AnswersCheck (held : Option Texts) (name demand_name proof_name : List ℕ) (status : ℕ)
-    (output : List ℕ) : Type 0 where
+pub record AnswersTexts (A : CertAnswers) (held : Option Texts) (name demand_name proof_name : List ℕ)
+    (status : ℕ) (output : List ℕ) : Type 0 where
   pub text : List ℕ
   pub holds : Holds held name text
-  pub answers : RulesAnswers held text demand_name proof_name status output
+  pub answers : RulesAnswers A held text demand_name proof_name status output
+
+-- whether the certificate is accepted
+abbrev pub AnswersCheck : Option Texts → List ℕ → List ℕ → List ℕ → ℕ → List ℕ → Type 0
+AnswersCheck held name demand_name proof_name status output =
+    AnswersTexts Judgement held name demand_name proof_name status output

@@ -4,14 +4,15 @@ use Rattle.std.specs.Str.{bytes_eq}
 use Rattle.text_lines.specs.Fields.{number_at}
 
 -- the words `explain RULES WORD`, `rank RULES MOST`, `next RULES PREFIX`, `fits RULES PATTERN`,
--- `check RULES DEMAND PROOF`, `solve RULES DEMAND PROOF TURNS` or `make NUMBER PROOF TURNS`; no other words
--- have a form
+-- `check RULES DEMAND PROOF`, `reuse RULES DEMAND PROOF`, `solve RULES DEMAND PROOF TURNS` or
+-- `make NUMBER PROOF TURNS`; no other words have a form
 pub data Form : Type 0 where
   explain : List ℕ → List ℕ → Form
   rank : List ℕ → ℕ → Form
   next : List ℕ → List ℕ → Form
   fits : List ℕ → List ℕ → Form
   check : List ℕ → List ℕ → List ℕ → Form
+  reuse : List ℕ → List ℕ → List ℕ → Form
   solve : List ℕ → List ℕ → List ℕ → ℕ → Form
   make : ℕ → List ℕ → ℕ → Form
   none : Form
@@ -57,7 +58,8 @@ short_form command rules word =
 abbrev pub long_form : List ℕ → List ℕ → List ℕ → List ℕ → Form
 long_form command a b c =
     if bytes_eq command (codes "check") then check a b c
-    else (if bytes_eq command (codes "make") then make_form (number_of_make a) b (turns_of c) else none)
+    else (if bytes_eq command (codes "reuse") then reuse a b c
+    else (if bytes_eq command (codes "make") then make_form (number_of_make a) b (turns_of c) else none))
 
 abbrev pub form_of : List (List ℕ) → Form
 form_of (command ∷ rules ∷ word ∷ []) = short_form command rules word

@@ -3,6 +3,7 @@ pub mod Reader
 pub mod Explain
 pub mod Fetch
 pub mod Check
+pub mod Reuse
 pub mod Run
 pub mod OneAnswer
 pub mod Asked

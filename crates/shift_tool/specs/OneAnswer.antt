@@ -7,8 +7,9 @@ use Rattle.shift_report.specs.TreeText.{tree_text}
 use Rattle.shift_tool.specs.Check.{AnswersCheck}
 use Rattle.shift_tool.specs.Days.{AnswersRank, AnswersNext, AnswersFits}
 use Rattle.shift_tool.specs.Explain.{AnswersExplain}
-use Rattle.shift_tool.specs.Form.{Form, explain, rank, next, fits, check, solve, make, none, AnswersNoForm}
+use Rattle.shift_tool.specs.Form.{Form, explain, rank, next, fits, check, reuse, solve, make, none, AnswersNoForm}
 use Rattle.shift_tool.specs.Make.{AnswersMake}
+use Rattle.shift_tool.specs.Reuse.{AnswersReuse}
 use Rattle.shift_tool.specs.Solve.{MasterView, AnswersSolve}
 use Rattle.shift_tool.specs.Writer.{Answers}
 
@@ -54,6 +55,9 @@ HasOneAnswer (fits rules pattern) =
 HasOneAnswer (check rules demand proof) =
     (held : Texts) (s t : ℕ) (a b : List ℕ) → AnswersCheck (Some held) rules demand proof s a
     → AnswersCheck (Some held) rules demand proof t b → (s ≡ t) × (a ≡ b)
+HasOneAnswer (reuse rules demand proof) =
+    (held : Texts) (s t : ℕ) (a b : List ℕ) → AnswersReuse (Some held) rules demand proof s a
+    → AnswersReuse (Some held) rules demand proof t b → (s ≡ t) × (a ≡ b)
 HasOneAnswer (solve rules demand proof turns) =
     (held : Texts) → HaveOneEnd (λ m. AnswersSolve (Some held) rules demand m turns)
 HasOneAnswer (make number proof turns) = HaveOneEnd (λ m. AnswersMake number m turns)

@@ -1,12 +1,13 @@
 -- What the program does, by its words.
 use Rattle.std.specs.Prelude.{ℕ, [], ◌∷◌}
-use Rattle.shift_tool.specs.Form.{Form, explain, rank, next, fits, check, solve, make, none, AnswersNoForm}
+use Rattle.shift_tool.specs.Form.{Form, explain, rank, next, fits, check, reuse, solve, make, none, AnswersNoForm}
 use Rattle.shelf.specs.Shelf.{Told}
 use Rattle.shift_tool.specs.Reader.{IsReader}
 use Rattle.shift_tool.specs.Writer.{IsWriter}
 use Rattle.shift_tool.specs.Explain.{AnswersExplain}
 use Rattle.shift_tool.specs.Days.{AnswersRank, AnswersNext, AnswersFits}
 use Rattle.shift_tool.specs.Check.{AnswersCheck}
+use Rattle.shift_tool.specs.Reuse.{AnswersReuse}
 use Rattle.shift_tool.specs.Solve.{MasterView, AnswersSolve}
 use Rattle.shift_tool.specs.Make.{AnswersMake}
 
@@ -22,6 +23,8 @@ Does (fits rules pattern) before after m status =
     IsReader (AnswersFits before.held rules pattern) (rules ∷ []) before after status
 Does (check rules demand proof) before after m status =
     IsReader (AnswersCheck before.held rules demand proof) (rules ∷ demand ∷ proof ∷ []) before after status
+Does (reuse rules demand proof) before after m status =
+    IsReader (AnswersReuse before.held rules demand proof) (rules ∷ demand ∷ proof ∷ []) before after status
 Does (solve rules demand proof turns) before after m status =
     IsWriter (AnswersSolve before.held rules demand m turns) (rules ∷ demand ∷ []) proof before after status
 Does (make number proof turns) before after m status =

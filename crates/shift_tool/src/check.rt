@@ -1,48 +1,18 @@
-ghost use Rattle.std.specs.Prelude.{◌≡◌, ◌≢◌, ◌≤◌, [], ◌∷◌, IfOk, length};
-ghost use Rattle.roster_model.specs.Sound.{IsPlain, IsSound};
+ghost use Rattle.std.specs.Prelude.{◌≡◌, ◌≤◌, IfOk, length};
 ghost use Rattle.roster_model.specs.SoundInstance.{IsSoundInstance};
-ghost use Rattle.demand_text.specs.FaultLine as demand_fault;
 ghost use Rattle.proof_pieces.specs.CertOf.{proof_fault};
 ghost use Rattle.proof_pieces.specs.FaultLine as proof_line;
 ghost use Rattle.proof_check.specs.Judging.{IsJudged};
 ghost use Rattle.shift_report.specs.VerdictText.{verdict_text};
-ghost use Rattle.shift_tool.specs.Check.{
-  AnswersCheck,
-  AnswersDemand,
-  AnswersProof,
-  DemandAnswers,
-  ProofAnswers,
-  RulesAnswers,
-  verdict_status,
-};
-ghost use Rattle.shift_tool.specs.Reader.{IsReader};
+ghost use Rattle.shift_tool.specs.Check.{Judgement, ProofAnswers, verdict_status};
 
 use crate::answer::Answer;
-use crate::explain::refusal;
-use crate::fetch::{fetched, say_answer};
 use certificates::Verdict;
-use demand_text::{DemandFault, read_demand};
 use proof_check::{Bench, Judged};
 use proof_pieces::{CertRoom, PieceFault, ProofFault};
-use roster_model::{Grammar, Instance, Memory};
-use rules_text::read_rules;
-use shelf::Shelf;
+use roster_model::{Instance, Memory};
 use shift_report::write_verdict;
 use std::alloc::Global;
-
-/// Says why a demand text is refused.
-pub fn demand_refusal(alloc: Global, fault: DemandFault) -> Result<Answer, Memory>
-    ensures { IfOk result (λ a. (fault ≢ DemandFault.Memory) × (a.status ≡ 4)
-        × (a.output ≡ demand_fault.fault_line fault)) }
-{
-    match fault {
-        DemandFault::Memory => Err(Memory),
-        _ => Ok(Answer {
-            status: 4,
-            output: demand_text::fault_line(alloc, &fault)?,
-        }),
-    }
-}
 
 // Says why a proof text is refused.
 fn proof_refusal(alloc: Global, fault: PieceFault) -> Result<Answer, Memory>
@@ -99,95 +69,13 @@ fn judged(alloc: Global, instance: &Instance, text: &[u8]) -> Result<Judged, Mem
     judged_in(alloc, instance, text, &mut room)
 }
 
-// What is answered to a proof text.
-fn judgement(alloc: Global, instance: &Instance, text: &[u8]) -> Result<Answer, Memory>
+/// Says whether the certificate of a proof text is accepted, or why the text or the certificate is refused.
+pub fn judgement(alloc: Global, instance: &Instance, text: &[u8]) -> Result<Answer, Memory>
     requires { IsSoundInstance instance.now }
-    ensures { IfOk result (λ a. ProofAnswers instance.now text.now a.status a.output) }
+    ensures { IfOk result (λ a. ProofAnswers Judgement instance.now text.now a.status a.output) }
 {
     match judged(alloc, instance, text)? {
         Judged::Said(verdict) => verdict_answer(alloc, &verdict),
         Judged::Fault(fault) => proof_refusal(alloc, fault),
     }
-}
-
-// Checks the certificate of the proof text under a name.
-fn check_proof<S: Shelf>(alloc: Global, shelf: &mut S, instance: &Instance, proof: &str) -> u8
-    requires { IsSoundInstance instance.now }
-    ensures { IsReader (AnswersProof (S.told shelf.old).held instance.now proof.now) (proof.now ∷ [])
-        (S.told shelf.old) (S.told shelf.new) result }
-{
-    let text = match fetched(alloc, shelf, proof) {
-        Ok(text) => text,
-        Err(status) => return status,
-    };
-    say_answer(shelf, judgement(alloc, instance, text.as_slice()))
-}
-
-// Checks a certificate by a demand text and the proof text under a name.
-fn check_demand_text<S: Shelf>(
-    alloc: Global,
-    shelf: &mut S,
-    grammar: Grammar,
-    text: &[u8],
-    proof: &str,
-) -> u8
-    requires sound { IsSound grammar }
-    requires plain { IsPlain grammar }
-    ensures { IsReader (DemandAnswers (S.told shelf.old).held grammar text.now proof.now) (proof.now ∷ [])
-        (S.told shelf.old) (S.told shelf.new) result }
-{
-    match read_demand(alloc, grammar, text) {
-        Ok(instance) => check_proof(alloc, shelf, &instance, proof),
-        Err(fault) => say_answer(shelf, demand_refusal(alloc, fault)),
-    }
-}
-
-// Checks a certificate by the demand and proof texts under names.
-fn check_demand<S: Shelf>(
-    alloc: Global,
-    shelf: &mut S,
-    grammar: Grammar,
-    demand: &str,
-    proof: &str,
-) -> u8
-    requires sound { IsSound grammar }
-    requires plain { IsPlain grammar }
-    ensures { IsReader (AnswersDemand (S.told shelf.old).held grammar demand.now proof.now)
-        (demand.now ∷ proof.now ∷ []) (S.told shelf.old) (S.told shelf.new) result }
-{
-    let text = match fetched(alloc, shelf, demand) {
-        Ok(text) => text,
-        Err(status) => return status,
-    };
-    check_demand_text(alloc, shelf, grammar, text.as_slice(), proof)
-}
-
-// Checks a certificate by a rules text and the demand and proof texts under names.
-fn check_rules_text<S: Shelf>(
-    alloc: Global,
-    shelf: &mut S,
-    text: &[u8],
-    demand: &str,
-    proof: &str,
-) -> u8
-    ensures { IsReader (RulesAnswers (S.told shelf.old).held text.now demand.now proof.now)
-        (demand.now ∷ proof.now ∷ []) (S.told shelf.old) (S.told shelf.new) result }
-{
-    match read_rules(alloc, text) {
-        Ok(grammar) => check_demand(alloc, shelf, grammar, demand, proof),
-        Err(fault) => say_answer(shelf, refusal(alloc, fault)),
-    }
-}
-
-/// Says whether a certificate is accepted, by the rules, demand and proof texts under names, or why
-/// a text or the certificate is refused. The texts are fetched and read in this order.
-pub fn check<S: Shelf>(alloc: Global, shelf: &mut S, rules: &str, demand: &str, proof: &str) -> u8
-    ensures { IsReader (AnswersCheck (S.told shelf.old).held rules.now demand.now proof.now)
-        (rules.now ∷ demand.now ∷ proof.now ∷ []) (S.told shelf.old) (S.told shelf.new) result }
-{
-    let text = match fetched(alloc, shelf, rules) {
-        Ok(text) => text,
-        Err(status) => return status,
-    };
-    check_rules_text(alloc, shelf, text.as_slice(), demand, proof)
 }

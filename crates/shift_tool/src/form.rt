@@ -33,6 +33,12 @@ pub enum Form<'a> {
         demand: &'a str,
         proof: &'a str,
     },
+    /// What the nodes of a certificate show on a day that it need not have been found for, by the same texts.
+    Reuse {
+        rules: &'a str,
+        demand: &'a str,
+        proof: &'a str,
+    },
     /// A roster of least cost by the rules and demand texts under names, found within so many turns; its
     /// certificate is stored under the name of the proof.
     Solve {
@@ -162,6 +168,11 @@ pub fn form_of(words: &[String]) -> Form<'_>
     match words {
         [command, rules, word] => short_form(command.as_str(), rules.as_str(), word.as_str()),
         [command, rules, demand, proof] if command.as_str() == "check" => Form::Check {
+            rules: rules.as_str(),
+            demand: demand.as_str(),
+            proof: proof.as_str(),
+        },
+        [command, rules, demand, proof] if command.as_str() == "reuse" => Form::Reuse {
             rules: rules.as_str(),
             demand: demand.as_str(),
             proof: proof.as_str(),

@@ -2,6 +2,7 @@
 #![tactic(auto)]
 
 mod answer;
+mod ask;
 mod check;
 #[cfg(test)]
 mod check_tests;
@@ -12,6 +13,7 @@ mod form;
 mod make;
 mod next;
 mod rank;
+mod reuse;
 mod run;
 mod say;
 mod solve;

@@ -5,7 +5,7 @@ ghost use Rattle.shift_tool.specs.Run.{Does};
 ghost use Rattle.shift_tool.specs.Reader.{IsReader};
 ghost use Rattle.shift_tool.specs.Solve.{lent};
 
-use crate::check::check;
+use crate::ask::{Question, ask};
 use crate::explain::explain;
 use crate::fits::fits;
 use crate::form::{Form, form_of};
@@ -31,12 +31,12 @@ fn refuse_words<S: Shelf>(shelf: &mut S) -> u8
 ///
 /// | status | comes |
 /// |---|---|
-/// | 0 | `explain RULES WORD`: the word is a shift; `rank RULES MOST`: the day has a tree; `next RULES PREFIX`: some code may follow the prefix; `fits RULES PATTERN`: a shift fits; `check RULES DEMAND PROOF`: the certificate is accepted; `solve RULES DEMAND PROOF TURNS` and `make NUMBER PROOF TURNS`: a roster was found, and no allowed roster costs less |
-/// | 1 | `explain`: the word is no shift; `rank`: the day has no tree; `next`: no code may follow; `fits`: no shift fits; `check`: the certificate is refused; `solve`: no roster is allowed |
+/// | 0 | `explain RULES WORD`: the word is a shift; `rank RULES MOST`: the day has a tree; `next RULES PREFIX`: some code may follow the prefix; `fits RULES PATTERN`: a shift fits; `check RULES DEMAND PROOF`: the certificate is accepted; `reuse RULES DEMAND PROOF`: its nodes show a bound on this day; `solve RULES DEMAND PROOF TURNS` and `make NUMBER PROOF TURNS`: a roster was found, and no allowed roster costs less |
+/// | 1 | `explain`: the word is no shift; `rank`: the day has no tree; `next`: no code may follow; `fits`: no shift fits; `check`: the certificate is refused; `reuse`: its nodes are; `solve`: no roster is allowed |
 /// | 2 | the words are none of the command's forms |
 /// | 3 | the rules text is refused |
-/// | 4 | `check`, `solve`: the demand text is refused |
-/// | 5 | `check`: the proof text is refused |
+/// | 4 | `check`, `reuse`, `solve`: the demand text is refused |
+/// | 5 | `check`, `reuse`: the proof text is refused |
 /// | 6 | the shelf refused a call |
 /// | 7 | memory did not suffice |
 /// | 8 | `solve`, `make`: the turns ran out before the bound was the cost |
@@ -67,7 +67,12 @@ pub fn run<S: Shelf, M: Master>(
             rules,
             demand,
             proof,
-        } => check(alloc, shelf, rules, demand, proof),
+        } => ask(alloc, shelf, rules, demand, proof, Question::Check),
+        Form::Reuse {
+            rules,
+            demand,
+            proof,
+        } => ask(alloc, shelf, rules, demand, proof, Question::Reuse),
         Form::Solve {
             rules,
             demand,

@@ -18,7 +18,7 @@ ghost use Rattle.shift_tool.specs.Solve.{
 ghost use Rattle.shift_tool.specs.Writer.{IsWriter};
 
 use crate::answer::Answer;
-use crate::check::demand_refusal;
+use crate::ask::demand_refusal;
 use crate::explain::refusal;
 use crate::fetch::{fetched, say_answer};
 use crate::store::store_and_say;

@@ -111,6 +111,19 @@ mult 1 2
 end
 ";
 
+const EMPTY_HALF: &str = "proof 1
+cost 4
+bound 4
+shift .aa 2
+shift aa. 2
+split 1 0 1 3 1 3
+priced 1
+price a 2 2 0
+priced 1
+price a 0 0 2
+end
+";
+
 const EQUAL_RULES: &str = "periods 2
 work a
 start S
@@ -143,7 +156,7 @@ need b 30 1 0 0 0 0 0 0 1 1 1 1 1 1 0 0 1 1 1 1 1 1 0 0 0 0
 ";
 
 // The texts that each shelf of a test holds, by name.
-const TEXTS: [(&str, &str); 30] = [
+const TEXTS: [(&str, &str); 32] = [
     ("g1", G1),
     ("g2", G2),
     ("g3", G3),
@@ -179,7 +192,9 @@ const TEXTS: [(&str, &str); 30] = [
         "mixed",
         "group F 0 1\ngroup H 1 2\nneed a 10 2 2 1\nheads 0 3\n",
     ),
+    ("two_each", "heads 0 3\nneed a 10 0 2 2 2\n"),
     ("halves", HALVES),
+    ("empty_half", EMPTY_HALF),
 ];
 
 /// Returns a shelf with the texts of the tests, whose calls of these numbers fail.
@@ -255,7 +270,7 @@ over a 0
 ";
 
 // The words, the status and what is said.
-const CASES: [(&[&str], u8, &str); 58] = [
+const CASES: [(&[&str], u8, &str); 61] = [
     (
         &["rank", "g1", "10"],
         0,
@@ -353,6 +368,17 @@ const CASES: [(&[&str], u8, &str); 58] = [
         "demand: line 4: heads and groups together\n",
     ),
     (&["check", "g1", "q1", "absent"], 6, ""),
+    (&["reuse", "g2", "two_each", "halves"], 0, "bound 6\n"),
+    (
+        &["reuse", "g2", "two_each", "empty_half"],
+        1,
+        "no 6 empty half: node 1\n",
+    ),
+    (
+        &["reuse", "g2", "two_each", "empty"],
+        5,
+        "proof: the text ends early\n",
+    ),
     (&["solve", "g1", "q1", "p", "10"], 0, BLOCKS),
     (&["solve", "one", "some", "p", "10"], 1, NO_ROSTER),
     (&["solve", "one", "any", "p", "10"], 0, NO_SHIFT),
