@@ -87,6 +87,10 @@ module _ (xs : List ArcPrice) (a : ArcKey) (sorted : AreSorted xs) where
     pub not-found : length xs ≤ n → listed_price xs a ≡ pos 0
     not-found out = listed-none xs a (λ k d l. other k d l (λ s. absurd (omega (arith, s, l, out))))
 
+-- where there are no entries an arc costs nothing
+pub no-entries : (xs : List ArcPrice) (a : ArcKey) → length xs ≡ 0 → listed_price xs a ≡ pos 0
+no-entries xs a none = listed-none xs a (λ k d l. absurd (omega (arith, l, none)))
+
 -- no entry has the arc where its mark is not set
 pub unmarked : (marks : List Bool) (xs : List ArcPrice) (a : ArcKey) → AreMarked marks xs → slice_get marks (mark_place a) ≡ Some false → listed_price xs a ≡ pos 0
 unmarked marks xs a all off = listed-none xs a (λ k d l. not-true (same_arc (get_or xs k d).arc a) (λ s.

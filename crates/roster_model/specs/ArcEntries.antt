@@ -1,5 +1,5 @@
 -- Entries of arcs in the order of arcs, and marks that tell where there are none.
-use Rattle.std.specs.Prelude.{ℕ, ℤ, ◌+ℤ◌, ◌≡◌, ◌<◌, ◌≤◌, ◌+◌, ◌*◌, Bool, true, false, ◌&&◌, ◌||◌, nat_lt, nat_eq, Some, List, [], ◌∷◌, All, length, slice_get, slice_index_or}
+use Rattle.std.specs.Prelude.{ℕ, ℤ, ◌+ℤ◌, ◌≡◌, ◌<◌, ◌≤◌, ◌+◌, ◌*◌, ◌%◌, Bool, true, false, ◌&&◌, ◌||◌, nat_lt, nat_eq, Some, List, [], ◌∷◌, All, length, slice_get, slice_index_or}
 use Rattle.roster_model.specs.declared.grammar.ArcKey.{ArcKey}
 use Rattle.roster_model.specs.declared.arc_prices.ArcPrice.{ArcPrice}
 use Rattle.roster_model.specs.Arcs.{arc_numbers}
@@ -20,11 +20,11 @@ pub record AreSorted (xs : List ArcPrice) : Type 0 where
   pub rising : (j k : ℕ) (d : ArcPrice) → j < k → k < length xs
       → is_before (slice_index_or xs j d).arc (slice_index_or xs k d).arc ≡ true
 
--- where the mark of the arcs of a suffix of a rule stands
+-- where the mark of an arc stands, which other arcs may share
 abbrev pub mark_place : ArcKey → ℕ
-mark_place a = a.rule * 8 + a.suffix
+mark_place a = ((a.rule * 8 + a.suffix) * 16 + (a.start * 1543 + a.len * 389) + a.part * 97) % 16384
 
--- some entry may have an arc of the suffix of the rule
+-- some entry may have the arc
 pub record IsMarked (marks : List Bool) (x : ArcPrice) : Type 0 where
   pub marked : slice_get marks (mark_place x.arc) ≡ Some false → ⊥
 

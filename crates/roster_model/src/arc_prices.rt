@@ -49,6 +49,9 @@ pub(crate) fn arc_price(entries: &[ArcPrice], marks: &[bool], arc: &ArcKey) -> i
     ensures value { result ≡ listed_price entries.now arc.now }
     ensures within { Within (2 ^ 96) result }
 {
+    if entries.is_empty() {
+        return 0;
+    }
     if is_unmarked(marks, arc) {
         return 0;
     }
@@ -59,7 +62,7 @@ pub(crate) fn arc_price(entries: &[ArcPrice], marks: &[bool], arc: &ArcKey) -> i
     }
 }
 
-/// Returns whether no entry has an arc of the same suffix of the same rule.
+/// Returns whether no entry has an arc whose mark stands where the arc's does.
 fn is_unmarked(marks: &[bool], arc: &ArcKey) -> bool
     ensures { IsTrue result ↔ (slice_get marks.now (mark_place arc.now) ≡ Some false) }
 {
@@ -69,11 +72,16 @@ fn is_unmarked(marks: &[bool], arc: &ArcKey) -> bool
     }
 }
 
-/// Returns where the mark of the arc's suffix stands.
+/// How many marks there are, so that few of some thousand arcs share one.
+pub(crate) const MARKS: usize = 16384;
+
+/// Returns where the mark of the arc stands.
 fn mark_place(arc: &ArcKey) -> usize
     ensures { result ≡ mark_place arc.now }
 {
-    arc.rule as usize * 8 + arc.suffix as usize
+    let suffix = arc.rule as usize * 8 + arc.suffix as usize;
+    let span = arc.start as usize * 1543 + arc.len as usize * 389;
+    (suffix * 16 + span + arc.part as usize * 97) % MARKS
 }
 
 /// Returns the first place from which on no entry's arc comes before this one.
@@ -258,7 +266,7 @@ fn put(entries: &mut Vec<ArcPrice>, place: usize, entry: ArcPrice)
     let _ = entries.insert(place, entry);
 }
 
-/// Marks the suffix of the arc.
+/// Sets the mark of the arc.
 fn mark(marks: &mut Vec<bool>, arc: &ArcKey)
     ensures here { slice_get marks.new.items (mark_place arc.now) ≡ Some false → ⊥ }
     ensures kept { (k : ℕ) → slice_get marks.new.items k ≡ Some false

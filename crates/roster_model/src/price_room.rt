@@ -2,7 +2,7 @@ ghost use Rattle.std.specs.Prelude.{◌≡◌, ◌≤◌, ◌*◌, ◌^◌, All,
 ghost use Rattle.roster_model.specs.ArcEntries.{AreSorted, AreMarked, IsEntryWithin};
 ghost use Rattle.roster_model.specs.Sums.{Within};
 
-use crate::arc_prices::{ArcPrice, arc_price, set_arcs, set_paid};
+use crate::arc_prices::{ArcPrice, MARKS, arc_price, set_arcs, set_paid};
 use crate::fill::{set_letters, set_rules};
 use crate::grammar::ArcKey;
 use crate::instance::{Cut, Instance, Mult, Prices};
@@ -55,7 +55,7 @@ impl PriceRoom {
         let codes = instance.grammar.codes.len();
         let letters = zeros(alloc, codes * periods)?;
         let rules = zeros(alloc, instance.grammar.rules.len())?;
-        let marks = no_marks(alloc, instance.grammar.rules.len())?;
+        let marks = no_marks(alloc)?;
         let Ok(arcs) = Vec::with_capacity(alloc, most) else {
             return Err(Memory);
         };
@@ -160,9 +160,9 @@ impl PriceRoom {
     }
 }
 
-/// Returns a mark for each of eight suffixes of each rule, from rule 0 on, none of them set.
-fn no_marks(alloc: Global, rules: usize) -> Result<Vec<bool>, Memory> {
-    match Vec::from_elem(alloc, false, rules.saturating_add(1).saturating_mul(8)) {
+/// Returns marks of arcs, none of them set.
+fn no_marks(alloc: Global) -> Result<Vec<bool>, Memory> {
+    match Vec::from_elem(alloc, false, MARKS) {
         Ok(marks) => Ok(marks),
         Err(_) => Err(Memory),
     }

@@ -1,9 +1,14 @@
 use Rattle.std.proofs.Common.{rules, arith, ◌≡◌, ◌<◌, ◌≤◌, length, get_or, sym, ◌∙◌}
+use Rattle.std.proofs.lemmas.Bool.{eqb-true}
 use Rattle.std.proofs.lemmas.Int.{ints}
-use Rattle.roster_model.proofs.Entries.{found, not-found, unmarked}
+use Rattle.roster_model.proofs.Entries.{found, no-entries, not-found, unmarked}
 use Rattle.roster_model.proofs.arc_prices.arc_price.Goals as goal
 use mir.Syntax.{w128}
 use mir.Val.{to_z, of_z}
+
+pub returns-then-is_empty-clause-value : goal.returns-then-is_empty-clause-value
+returns-then-is_empty-clause-value c =
+    sym (no-entries c.args.entries.now c.args.arc.now (eqb-true _ _ (sym c.if-is_empty.ensures)))
 
 pub returns-then-is_unmarked-clause-value : goal.returns-then-is_unmarked-clause-value
 returns-then-is_unmarked-clause-value c =
