@@ -1,0 +1,3 @@
+pub mod Elements
+pub mod Paints
+pub mod Sheets

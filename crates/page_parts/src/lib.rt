@@ -1,0 +1,14 @@
+//! The elements of a page that shows a roster, and how they are written: marks of the page's own,
+//! bytes of the texts, each escaped, numbers, rectangles and captions; the places of periods and rows;
+//! the colours of codes.
+#![tactic(auto)]
+
+mod area;
+mod element;
+mod paint;
+mod sheet;
+
+pub use area::Area;
+pub use element::{bar, caption, figure, given, marks, number};
+pub use paint::paint_of;
+pub use sheet::{Sheet, chart_width, left_of, middle_of, right_of, sheet_of, top_of};

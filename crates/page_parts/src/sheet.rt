@@ -1,0 +1,77 @@
+ghost use Rattle.std.specs.Prelude.{◌≡◌, ◌≤◌, ◌+◌, ◌*◌, ◌/◌, ◌^◌, min, max};
+ghost use Rattle.page_parts.specs.Sheets.{chart_width, left_of, middle_of, right_of, sheet_of, top_of, width_of};
+
+/// Where the periods stand on the charts of a page.
+#[derive(Clone, Copy, Debug, PartialEq, Eq, Drop)]
+pub struct Sheet {
+    /// Where the first period begins, from the left.
+    pub left: u32,
+    /// How wide a period is.
+    pub cell: u8,
+    /// How many periods there are.
+    pub periods: u8,
+}
+
+fn width_of(periods: u8) -> u8
+    ensures { result ≡ width_of periods }
+{
+    (960 / (periods as u32).max(1)).min(40) as u8
+}
+
+/// Returns the sheet of so many periods, with room for names of so many bytes, at most 40.
+pub fn sheet_of(periods: u8, longest: usize) -> Sheet
+    ensures { result ≡ sheet_of periods longest }
+{
+    Sheet {
+        left: 56 + 8 * longest.min(40) as u32,
+        cell: width_of(periods),
+        periods,
+    }
+}
+
+// The product of two small numbers.
+fn times(a: u8, b: u8) -> u64
+    ensures product { result ≡ a * b }
+    ensures small { result ≤ 65025 }
+{
+    u64::from(a) * u64::from(b)
+}
+
+/// Returns where the period behind so many begins.
+pub fn left_of(sheet: Sheet, place: u8) -> u64
+    ensures value { result ≡ left_of sheet place }
+    ensures small { result ≤ 2 ^ 33 }
+{
+    sheet.left as u64 + times(sheet.cell, place)
+}
+
+/// Returns where the middle of the period behind so many is.
+pub fn middle_of(sheet: Sheet, place: u8) -> u64
+    ensures value { result ≡ middle_of sheet place }
+    ensures small { result ≤ 2 ^ 34 }
+{
+    left_of(sheet, place) + (sheet.cell / 2) as u64
+}
+
+/// Returns where the last period ends.
+pub fn right_of(sheet: Sheet) -> u64
+    ensures value { result ≡ right_of sheet }
+    ensures small { result ≤ 2 ^ 33 }
+{
+    left_of(sheet, sheet.periods)
+}
+
+/// Returns how wide a chart is.
+pub fn chart_width(sheet: Sheet) -> u64
+    ensures { result ≡ chart_width sheet }
+{
+    right_of(sheet) + 72
+}
+
+/// Returns where a row begins, from 0.
+pub fn top_of(row: u8) -> u64
+    ensures value { result ≡ top_of row }
+    ensures small { result ≤ 6662 }
+{
+    32 + 26 * row as u64
+}

@@ -1,0 +1,10 @@
+use Rattle.std.proofs.Common.{append_assoc, append-nil}
+use Rattle.std.proofs.lemmas.Grind.{flat_map-append}
+use Rattle.page_text.specs.Charts.{limit_lines}
+use Rattle.page_text.proofs.chart.limit_lines.Goals as goal
+
+pub returns : goal.returns
+unfolding limit_lines
+returns c =
+    rw (c.in_ok-marks-3.ensures, c.in_ok-inked-2.ensures, c.in_ok-marks-2.ensures, c.in_ok-inked.ensures, c.in_ok-marks.ensures)
+    (simp (append_assoc, append-nil, flat_map-append))

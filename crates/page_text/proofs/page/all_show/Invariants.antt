@@ -1,0 +1,8 @@
+use Rattle.std.proofs.Common.{◌≡◌, ◌≤◌, ◌++◌, length}
+use Rattle.std.specs.List.{flat_map}
+use Rattle.page_parts.specs.Elements.{places, written}
+use Rattle.page_text.specs.Pages.{shows}
+use Rattle.page_text.proofs.page.all_show.Given as goal
+
+abbrev pub invariant-loop-place : goal.invariant-loop-place
+invariant-loop-place l = l.out ≡ l.fn.out ++ written (flat_map (shows) (places l.place))

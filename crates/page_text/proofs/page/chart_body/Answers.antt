@@ -1,0 +1,10 @@
+use Rattle.std.proofs.Common.{append_assoc, append-nil}
+use Rattle.std.proofs.lemmas.Grind.{flat_map-append}
+use Rattle.page_text.specs.Pages.{chart_body}
+use Rattle.page_text.proofs.page.chart_body.Goals as goal
+
+pub returns : goal.returns
+unfolding chart_body
+returns c =
+    rw (c.in_ok-marks.ensures, c.in_ok-ticks.ensures, c.in_ok-lines.ensures, c.in_ok-frame.ensures, c.in_ok-inked.ensures)
+    (simp (append_assoc, append-nil, flat_map-append))

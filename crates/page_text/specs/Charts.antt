@@ -1,0 +1,118 @@
+-- The charts of the coverage: for a code and period by period what is needed and what is had.
+use Rattle.std.specs.Prelude.{ℕ, ◌+◌, ◌-◌, ◌*◌, ◌/◌, List, [], ◌∷◌, ◌++◌, nat_eq, nat_lt, codes, max, min, if◌then◌else◌}
+use Rattle.std.specs.List.{flat_map}
+use Rattle.page_parts.specs.Elements.{Element, marks, given, number, bar, caption, figure}
+use Rattle.page_parts.specs.Sheets.{left_of, right_of, chart_width}
+use Rattle.page_parts.specs.declared.sheet.Sheet.{Sheet}
+use Rattle.page_text.specs.declared.column.Column.{Column}
+use Rattle.page_text.specs.declared.ink.Ink.{Ink}
+use Rattle.page_text.specs.declared.ink.Ink.TheVariants.{Bars, Need, Floor, Ceiling, Needed, Had, Short, Over}
+
+-- a ceiling of 64 is none, since no more employees work
+abbrev pub ceiling_of : Column → ℕ
+ceiling_of c = if nat_lt c.ceiling 64 then c.ceiling else 0
+
+-- the greatest count that a chart shows of a column
+abbrev pub peak : Column → ℕ
+peak c = max (max c.need c.have) (max c.floor (ceiling_of c))
+
+-- the greater of a count and of what the chart of a code shows of a column
+unfoldable pub higher : ℕ → ℕ → Column → ℕ
+higher code most c = if nat_eq c.code code then max most (peak c) else most
+
+-- the greatest count that the chart of a code shows, and at least `most`
+abbrev pub top_count : ℕ → List Column → ℕ → ℕ
+top_count code [] most = most
+top_count code (c ∷ cs) most = top_count code cs (higher code most c)
+
+-- how high one employee is
+abbrev pub unit_of : ℕ → ℕ
+unit_of top = min (96 / max top 1) 48
+
+-- where a chart ends at its bottom, and where a count ends above it
+abbrev pub base : ℕ
+base = 112
+
+abbrev pub level : ℕ → ℕ → ℕ
+level unit count = base - unit * count
+
+abbrev pub from_of : Sheet → Column → ℕ
+from_of s c = left_of s (c.period - 1)
+
+-- a bar of so many employees, down from a count
+unfoldable pub column_bar : List ℕ → Sheet → ℕ → Column → ℕ → ℕ → List Element
+column_bar class s unit c top count =
+    bar class (record { left = from_of s c; top = level unit top; width = s.cell; height = unit * count }) ∷ []
+
+-- the bars of a column: who is needed and there, who is missing, and who is there beyond the need
+unfoldable pub column_bars : Sheet → ℕ → Column → List Element
+column_bars s unit c =
+    column_bar (codes "have") s unit c (min c.need c.have) (min c.need c.have)
+    ++ (column_bar (codes "short") s unit c c.need c.short ++ column_bar (codes "over") s unit c c.have c.over)
+
+-- a step of a line: up or down to a count, and then to the end of the period
+unfoldable pub need_step : Sheet → ℕ → Column → List Element
+need_step s unit c =
+    marks (codes "V") ∷ number (level unit c.need) ∷ marks (codes "H") ∷ number (from_of s c + s.cell) ∷ []
+
+-- a line over one period at a count, where it is above 0
+unfoldable pub stroke : Sheet → ℕ → Column → ℕ → List Element
+stroke s unit c count =
+    if nat_lt 0 count then marks (codes "M") ∷ number (from_of s c) ∷ marks (codes " ") ∷ number (level unit count)
+    ∷ marks (codes "H") ∷ number (from_of s c + s.cell) ∷ [] else []
+
+-- a count in words
+unfoldable pub counted : ℕ → List Element
+counted n = marks (codes " ") ∷ number n ∷ []
+
+-- what a column brings to a chart
+abbrev pub ink_elements : Ink → Sheet → ℕ → Column → List Element
+ink_elements Bars s unit c = column_bars s unit c
+ink_elements Need s unit c = need_step s unit c
+ink_elements Floor s unit c = stroke s unit c c.floor
+ink_elements Ceiling s unit c = stroke s unit c (ceiling_of c)
+ink_elements Needed s unit c = counted c.need
+ink_elements Had s unit c = counted c.have
+ink_elements Short s unit c = counted c.short
+ink_elements Over s unit c = counted c.over
+
+-- the same, where the column is of a code
+unfoldable pub code_ink : Ink → Sheet → ℕ → ℕ → Column → List Element
+code_ink ink s unit code c = if nat_eq c.code code then ink_elements ink s unit c else []
+
+-- what the columns of a code bring
+abbrev pub inked : Ink → Sheet → ℕ → ℕ → List Column → List Element
+inked ink s unit code cs = flat_map (code_ink ink s unit code) cs
+
+-- the counts of a code in words, period by period
+unfoldable pub in_words : Sheet → ℕ → List Column → List Element
+in_words s code cs =
+    marks (codes "Needed by period:") ∷ inked Needed s 0 code cs
+    ++ (marks (codes ". At work:") ∷ inked Had s 0 code cs
+    ++ (marks (codes ". Short:") ∷ inked Short s 0 code cs
+    ++ (marks (codes ". Surplus:") ∷ inked Over s 0 code cs ++ marks (codes ".") ∷ [])))
+
+-- a line over the whole day
+unfoldable pub grid : Sheet → ℕ → List Element
+grid s top = bar (codes "grid") (record { left = s.left; top = top; width = right_of s - s.left; height = 1 }) ∷ []
+
+-- the lines at the bottom and at the greatest count, with their numbers
+unfoldable pub frame : Sheet → ℕ → ℕ → List Element
+frame s unit top =
+    grid s (level unit top) ++ (grid s base
+    ++ figure (codes "price") (s.left - 8) (level unit top + 4) top ∷ figure (codes "price") (s.left - 8) (base + 4) 0 ∷ [])
+
+-- the line of the need, from the bottom to the bottom
+unfoldable pub need_line : Sheet → ℕ → ℕ → List Column → List Element
+need_line s unit code cs =
+    marks (codes "<path class='need' d='M") ∷ number s.left ∷ marks (codes " ") ∷ number base ∷ inked Need s unit code cs
+    ++ (marks (codes "V") ∷ number base ∷ marks (codes "'/>") ∷ [])
+
+-- the lines of the floors and of the ceilings
+unfoldable pub limit_lines : Sheet → ℕ → ℕ → List Column → List Element
+limit_lines s unit code cs =
+    marks (codes "<path class='floor' d='") ∷ inked Floor s unit code cs
+    ++ (marks (codes "'/><path class='ceiling' d='") ∷ inked Ceiling s unit code cs ++ marks (codes "'/>") ∷ [])
+
+abbrev pub lines : Sheet → ℕ → ℕ → List Column → List Element
+lines s unit code cs = need_line s unit code cs ++ limit_lines s unit code cs

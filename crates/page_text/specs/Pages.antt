@@ -1,0 +1,123 @@
+-- The page.
+use Rattle.std.specs.Prelude.{ℕ, Bool, ◌+◌, ◌-◌, ◌*◌, List, [], ◌∷◌, ◌++◌, length, nat_lt, codes, if◌then◌else◌}
+use Rattle.std.specs.List.{flat_map}
+use Rattle.roster_model.specs.declared.grammar.CodeDef.{CodeDef}
+use Rattle.page_parts.specs.Elements.{Element, marks, given, number, caption, places}
+use Rattle.page_parts.specs.Sheets.{chart_width, sheet_of}
+use Rattle.page_parts.specs.declared.sheet.Sheet.{Sheet}
+use Rattle.page_text.specs.Charts.{column_bars, frame, in_words, inked, lines, top_count, unit_of}
+use Rattle.page_text.specs.Costs.{chip, costs, is_demanded, sentence}
+use Rattle.page_text.specs.Inputs.{each_from, longest}
+use Rattle.page_text.specs.declared.ink.Ink.TheVariants.{Bars}
+use Rattle.page_text.specs.RosterChart.{rows_elements, ticks}
+use Rattle.page_text.specs.Style.{style}
+use Rattle.page_text.specs.declared.column.Column.{Column}
+use Rattle.page_text.specs.declared.content.Content.{Content}
+use Rattle.page_text.specs.declared.row.Row.{Row}
+
+-- the size of a chart, in which it is drawn
+unfoldable pub size : ℕ → ℕ → List Element
+size width height =
+    marks (codes "' viewBox='0 0 ") ∷ number width ∷ marks (codes " ") ∷ number height ∷ marks (codes "' width='") ∷ number width
+    ∷ marks (codes "' height='") ∷ number height ∷ marks (codes "'>\n") ∷ []
+
+-- what a code of the legend means
+unfoldable pub work_word : Bool → List ℕ
+work_word work = if work then codes "work</li>" else codes "no work</li>"
+
+unfoldable pub legend_item : List CodeDef → CodeDef → List Element
+legend_item cs c = marks (codes "<li>") ∷ chip cs c.byte ++ marks (work_word c.work) ∷ []
+
+abbrev pub legend : List CodeDef → List Element
+legend cs = flat_map (legend_item cs) cs
+
+-- the word over the prices
+unfoldable pub price_head : Sheet → List Element
+price_head s = caption (codes "mark") (chart_width s - 14) 20 (codes "price") ∷ []
+
+-- how high the chart of so many rows is
+unfoldable pub height_of : ℕ → ℕ
+height_of rows = 40 + 26 * rows
+
+-- the chart of the shifts
+unfoldable pub shifts : Sheet → List CodeDef → List Row → List Element
+shifts s cs rows =
+    marks (codes "<section><h2>Shifts</h2>\n<ul class='legend'>") ∷ legend cs
+    ++ (marks (codes "</ul>\n<svg class='roster' role='group' aria-label='Shifts of the roster, one row a shift")
+    ∷ size (chart_width s) (height_of (length rows))
+    ++ (price_head s ++ (ticks s 20 ++ (rows_elements s cs rows
+    ++ marks (codes "</svg>\n<p class='hint'>Point at a shift, or go to it with the Tab key, and see how the rules derive it.</p></section>\n") ∷ []))))
+
+-- the chart of a code's coverage
+unfoldable pub chart_head : List CodeDef → Sheet → List Column → ℕ → CodeDef → List Element
+chart_head cs s columns place c =
+    (marks (codes "<figure><figcaption>") ∷ chip cs c.byte)
+    ++ (marks (codes "</figcaption><svg role='img' aria-label='Coverage of ") ∷ given (c.byte ∷ []) ∷ marks (codes ". ")
+    ∷ (in_words s place columns ++ size (chart_width s) 132))
+
+unfoldable pub chart_body : Sheet → List Column → ℕ → ℕ → ℕ → List Element
+chart_body s columns place top unit =
+    inked Bars s unit place columns
+    ++ (frame s unit top ++ (lines s unit place columns ++ (ticks s 127 ++ marks (codes "</svg></figure>\n") ∷ [])))
+
+unfoldable pub chart : List CodeDef → Sheet → List Column → ℕ → CodeDef → List Element
+chart cs s columns place c =
+    if is_demanded place columns then chart_head cs s columns place c
+    ++ chart_body s columns place (top_count place columns 0) (unit_of (top_count place columns 0)) else []
+
+abbrev pub charts : List CodeDef → Sheet → List Column → List Element
+charts cs s columns = each_from (chart cs s columns) 0 cs
+
+unfoldable pub chart_legend : List ℕ
+chart_legend =
+    codes "<section><h2>Coverage</h2>\n<ul class='legend'><li><span class='key have'></span>at work and needed</li><li><span class='key short'></span>short</li>"
+    ++ codes "<li><span class='key over'></span>surplus</li><li><span class='key need'></span>need</li><li><span class='key floor'></span>floor</li>"
+    ++ codes "<li><span class='key ceiling'></span>ceiling</li></ul>\n<div class='charts'>\n"
+
+unfoldable pub coverage : List CodeDef → Sheet → List Column → List Element
+coverage cs s columns = marks chart_legend ∷ (charts cs s columns ++ marks (codes "</div></section>\n") ∷ [])
+
+-- what shows the derivation of a shift that is pointed at
+unfoldable pub shows : ℕ → List Element
+shows k =
+    marks (codes "body:has(#r") ∷ number k ∷ marks (codes ":hover) #d") ∷ number k ∷ marks (codes "{display:block;z-index:2}body:has(#r")
+    ∷ number k ∷ marks (codes ":focus) #d") ∷ number k ∷ marks (codes "{display:block}\n") ∷ []
+
+abbrev pub all_show : List (List ℕ) → List Element
+all_show texts = flat_map shows (places (length texts))
+
+unfoldable pub derivation : ℕ → List ℕ → List Element
+derivation k text =
+    marks (codes "<pre class='derivation' id='d") ∷ number k ∷ marks (codes "'>") ∷ given text ∷ marks (codes "</pre>\n") ∷ []
+
+abbrev pub derivations : List (List ℕ) → List Element
+derivations texts = each_from derivation 0 texts
+
+unfoldable pub before_style : List ℕ
+before_style =
+    codes "<!DOCTYPE html>\n<html lang='en'>\n<head>\n<meta charset='utf-8'>\n"
+    ++ codes "<meta name='viewport' content='width=device-width, initial-scale=1'>\n<title>Roster</title>\n<style>\n"
+
+unfoldable pub head : List (List ℕ) → List Element
+head texts =
+    marks before_style ∷ marks style ∷ (all_show texts ++ marks (codes "</style>\n</head>\n<body>\n<main>\n<header><h1>Roster</h1><p>") ∷ [])
+
+unfoldable pub top_part : List CodeDef → Content → List Element
+top_part cs c =
+    head c.derivations ++ (sentence c.figures.cost c.figures.bound
+    ++ (marks (codes "</p></header>\n") ∷ costs cs c.figures c.columns))
+
+unfoldable pub shifts_part : Sheet → List CodeDef → List Row → List Element
+shifts_part s cs rows = if nat_lt 0 (length rows) then shifts s cs rows else []
+
+unfoldable pub coverage_part : Sheet → List CodeDef → List Column → List Element
+coverage_part s cs columns = if nat_lt 0 (length columns) then coverage cs s columns else []
+
+unfoldable pub body : Sheet → List CodeDef → Content → List Element
+body s cs c =
+    top_part cs c ++ (shifts_part s cs c.rows ++ (coverage_part s cs c.columns ++ (derivations c.derivations
+    ++ marks (codes "</main>\n</body>\n</html>\n") ∷ [])))
+
+-- the elements of the page, in order
+abbrev pub page : ℕ → List CodeDef → Content → List Element
+page periods cs c = body (sheet_of periods (longest c.rows 0)) cs c

@@ -1,0 +1,353 @@
+ghost use Rattle.std.specs.Prelude.{◌≡◌, ◌≤◌, ◌+◌, ◌*◌, ◌^◌, ◌++◌, OnOk};
+ghost use Rattle.page_parts.specs.Elements.{written};
+ghost use Rattle.page_text.specs.Charts.{
+  ceiling_of,
+  code_ink,
+  column_bar,
+  column_bars,
+  counted,
+  frame,
+  from_of,
+  grid,
+  higher,
+  in_words,
+  ink_elements,
+  inked,
+  level,
+  limit_lines,
+  lines,
+  need_line,
+  need_step,
+  peak,
+  stroke,
+  top_count,
+  unit_of,
+};
+
+use crate::column::Column;
+use crate::ink::Ink;
+use page_parts::{Area, Sheet, bar, figure, left_of, marks, number, right_of};
+use roster_model::{List, Memory};
+
+/// Where a chart ends at its bottom.
+const BASE: u64 = 112;
+
+// The ceiling of a column that a chart shows.
+fn ceiling_of(column: &Column) -> u32
+    ensures { result ≡ ceiling_of column.now }
+{
+    if column.ceiling < 64 {
+        column.ceiling
+    } else {
+        0
+    }
+}
+
+// The greatest count that a chart shows of a column.
+fn peak(column: &Column) -> u32
+    ensures { result ≡ peak column.now }
+{
+    let ceiling = ceiling_of(column);
+    column.need.max(column.have).max(column.floor.max(ceiling))
+}
+
+// The greater of a count and of what the chart of a code shows of a column.
+#[tactic(auto, unfolding(crate::specs::Charts::higher))]
+fn higher(code: u8, most: u32, column: &Column) -> u32
+    ensures { result ≡ higher code most column.now }
+{
+    if column.code == code {
+        most.max(peak(column))
+    } else {
+        most
+    }
+}
+
+/// Returns the greatest count that the chart of a code shows.
+pub(crate) fn top_count(code: u8, columns: &[Column]) -> u32
+    ensures { result ≡ top_count code columns.now 0 }
+{
+    let mut most: u32 = 0;
+    for column in columns {
+        most = higher(code, most, column);
+    }
+    most
+}
+
+/// Returns how high one employee is.
+pub(crate) fn unit_of(top: u32) -> u8
+    ensures { result ≡ unit_of top }
+{
+    (96 / top.max(1)).min(48) as u8
+}
+
+// How high so many employees are.
+fn height_of(unit: u8, count: u32) -> u64
+    ensures { result ≡ unit * count }
+{
+    u64::from(unit as u32) * u64::from(count)
+}
+
+// Where so many employees end above the bottom.
+fn level(unit: u8, count: u32) -> u64
+    ensures value { result ≡ level unit count }
+    ensures small { result ≤ 112 }
+{
+    BASE.saturating_sub(height_of(unit, count))
+}
+
+// Where the period of a column begins.
+fn from_of(sheet: Sheet, column: &Column) -> u64
+    ensures value { result ≡ from_of sheet column.now }
+    ensures small { result ≤ 2 ^ 33 }
+{
+    left_of(sheet, column.period.saturating_sub(1))
+}
+
+// Writes a bar of a column from a count down.
+#[tactic(auto, unfolding(crate::specs::Charts::column_bar))]
+fn column_bar(
+    out: &mut List<u8>,
+    class: &[u8],
+    sheet: Sheet,
+    unit: u8,
+    column: &Column,
+    top: u32,
+    count: u32,
+) -> Result<(), Memory>
+    ensures { OnOk result (out.new ≡ out.old ++ written (column_bar class.now sheet unit column.now top count)) }
+{
+    let area = Area {
+        left: from_of(sheet, column),
+        top: level(unit, top),
+        width: sheet.cell as u64,
+        height: height_of(unit, count),
+    };
+    bar(out, class, area)
+}
+
+// Writes the bars of a column.
+#[tactic(auto, unfolding(crate::specs::Charts::column_bars))]
+fn column_bars(out: &mut List<u8>, sheet: Sheet, unit: u8, column: &Column) -> Result<(), Memory>
+    ensures { OnOk result (out.new ≡ out.old ++ written (column_bars sheet unit column.now)) }
+{
+    let both = column.need.min(column.have);
+    column_bar(out, b"have", sheet, unit, column, both, both)?;
+    column_bar(
+        out,
+        b"short",
+        sheet,
+        unit,
+        column,
+        column.need,
+        column.short,
+    )?;
+    column_bar(out, b"over", sheet, unit, column, column.have, column.over)?;
+    Ok(())
+}
+
+// Writes a step of the line of the need.
+#[tactic(auto, unfolding(crate::specs::Charts::need_step))]
+fn need_step(out: &mut List<u8>, sheet: Sheet, unit: u8, column: &Column) -> Result<(), Memory>
+    ensures { OnOk result (out.new ≡ out.old ++ written (need_step sheet unit column.now)) }
+{
+    marks(out, b"V")?;
+    number(out, level(unit, column.need))?;
+    marks(out, b"H")?;
+    number(out, from_of(sheet, column) + sheet.cell as u64)?;
+    Ok(())
+}
+
+// Writes a line over one period at a count, where it is above 0.
+#[tactic(auto, unfolding(crate::specs::Charts::stroke))]
+fn stroke(
+    out: &mut List<u8>,
+    sheet: Sheet,
+    unit: u8,
+    column: &Column,
+    count: u32,
+) -> Result<(), Memory>
+    ensures { OnOk result (out.new ≡ out.old ++ written (stroke sheet unit column.now count)) }
+{
+    if count > 0 {
+        marks(out, b"M")?;
+        number(out, from_of(sheet, column))?;
+        marks(out, b" ")?;
+        number(out, level(unit, count))?;
+        marks(out, b"H")?;
+        number(out, from_of(sheet, column) + sheet.cell as u64)?;
+    }
+    Ok(())
+}
+
+// Writes a count in words.
+#[tactic(auto, unfolding(crate::specs::Charts::counted))]
+fn counted(out: &mut List<u8>, count: u32) -> Result<(), Memory>
+    ensures { OnOk result (out.new ≡ out.old ++ written (counted count)) }
+{
+    marks(out, b" ")?;
+    number(out, count as u64)?;
+    Ok(())
+}
+
+// Writes what a column brings to a chart.
+fn ink_elements(
+    out: &mut List<u8>,
+    ink: Ink,
+    sheet: Sheet,
+    unit: u8,
+    column: &Column,
+) -> Result<(), Memory>
+    ensures { OnOk result (out.new ≡ out.old ++ written (ink_elements ink sheet unit column.now)) }
+{
+    match ink {
+        Ink::Bars => column_bars(out, sheet, unit, column),
+        Ink::Need => need_step(out, sheet, unit, column),
+        Ink::Floor => stroke(out, sheet, unit, column, column.floor),
+        Ink::Ceiling => stroke(out, sheet, unit, column, ceiling_of(column)),
+        Ink::Needed => counted(out, column.need),
+        Ink::Had => counted(out, column.have),
+        Ink::Short => counted(out, column.short),
+        Ink::Over => counted(out, column.over),
+    }
+}
+
+// Writes what a column brings to a chart, where it is of the code.
+#[tactic(auto, unfolding(crate::specs::Charts::code_ink))]
+fn code_ink(
+    out: &mut List<u8>,
+    ink: Ink,
+    sheet: Sheet,
+    unit: u8,
+    code: u8,
+    column: &Column,
+) -> Result<(), Memory>
+    ensures { OnOk result (out.new ≡ out.old ++ written (code_ink ink sheet unit code column.now)) }
+{
+    if column.code == code {
+        ink_elements(out, ink, sheet, unit, column)?;
+    }
+    Ok(())
+}
+
+/// Writes what the columns of a code bring to a chart.
+pub(crate) fn inked(
+    out: &mut List<u8>,
+    ink: Ink,
+    sheet: Sheet,
+    unit: u8,
+    code: u8,
+    columns: &[Column],
+) -> Result<(), Memory>
+    ensures { OnOk result (out.new ≡ out.old ++ written (inked ink sheet unit code columns.now)) }
+{
+    for column in columns {
+        code_ink(out, ink, sheet, unit, code, column)?;
+    }
+    Ok(())
+}
+
+/// Writes the counts of a code in words, period by period.
+#[tactic(auto, unfolding(crate::specs::Charts::in_words))]
+pub(crate) fn in_words(
+    out: &mut List<u8>,
+    sheet: Sheet,
+    code: u8,
+    columns: &[Column],
+) -> Result<(), Memory>
+    ensures { OnOk result (out.new ≡ out.old ++ written (in_words sheet code columns.now)) }
+{
+    marks(out, b"Needed by period:")?;
+    inked(out, Ink::Needed, sheet, 0, code, columns)?;
+    marks(out, b". At work:")?;
+    inked(out, Ink::Had, sheet, 0, code, columns)?;
+    marks(out, b". Short:")?;
+    inked(out, Ink::Short, sheet, 0, code, columns)?;
+    marks(out, b". Surplus:")?;
+    inked(out, Ink::Over, sheet, 0, code, columns)?;
+    marks(out, b".")?;
+    Ok(())
+}
+
+// Writes a line over the whole day.
+#[tactic(auto, unfolding(crate::specs::Charts::grid))]
+fn grid(out: &mut List<u8>, sheet: Sheet, top: u64) -> Result<(), Memory>
+    ensures { OnOk result (out.new ≡ out.old ++ written (grid sheet top)) }
+{
+    let area = Area {
+        left: sheet.left as u64,
+        top,
+        width: right_of(sheet).saturating_sub(sheet.left as u64),
+        height: 1,
+    };
+    bar(out, b"grid", area)
+}
+
+/// Writes the lines at the bottom and at the greatest count, with their numbers.
+#[tactic(auto, unfolding(crate::specs::Charts::frame))]
+pub(crate) fn frame(out: &mut List<u8>, sheet: Sheet, unit: u8, top: u32) -> Result<(), Memory>
+    ensures { OnOk result (out.new ≡ out.old ++ written (frame sheet unit top)) }
+{
+    let beside = (sheet.left as u64).saturating_sub(8);
+    grid(out, sheet, level(unit, top))?;
+    grid(out, sheet, BASE)?;
+    figure(out, b"price", beside, level(unit, top) + 4, top as u64)?;
+    figure(out, b"price", beside, BASE + 4, 0)?;
+    Ok(())
+}
+
+// Writes the line of the need.
+#[tactic(auto, unfolding(crate::specs::Charts::need_line))]
+fn need_line(
+    out: &mut List<u8>,
+    sheet: Sheet,
+    unit: u8,
+    code: u8,
+    columns: &[Column],
+) -> Result<(), Memory>
+    ensures { OnOk result (out.new ≡ out.old ++ written (need_line sheet unit code columns.now)) }
+{
+    marks(out, b"<path class='need' d='M")?;
+    number(out, sheet.left as u64)?;
+    marks(out, b" ")?;
+    number(out, BASE)?;
+    inked(out, Ink::Need, sheet, unit, code, columns)?;
+    marks(out, b"V")?;
+    number(out, BASE)?;
+    marks(out, b"'/>")?;
+    Ok(())
+}
+
+// Writes the lines of the floors and of the ceilings.
+#[tactic(auto, unfolding(crate::specs::Charts::limit_lines))]
+fn limit_lines(
+    out: &mut List<u8>,
+    sheet: Sheet,
+    unit: u8,
+    code: u8,
+    columns: &[Column],
+) -> Result<(), Memory>
+    ensures { OnOk result (out.new ≡ out.old ++ written (limit_lines sheet unit code columns.now)) }
+{
+    marks(out, b"<path class='floor' d='")?;
+    inked(out, Ink::Floor, sheet, unit, code, columns)?;
+    marks(out, b"'/><path class='ceiling' d='")?;
+    inked(out, Ink::Ceiling, sheet, unit, code, columns)?;
+    marks(out, b"'/>")?;
+    Ok(())
+}
+
+/// Writes the lines of the need, of the floors and of the ceilings.
+pub(crate) fn lines(
+    out: &mut List<u8>,
+    sheet: Sheet,
+    unit: u8,
+    code: u8,
+    columns: &[Column],
+) -> Result<(), Memory>
+    ensures { OnOk result (out.new ≡ out.old ++ written (lines sheet unit code columns.now)) }
+{
+    need_line(out, sheet, unit, code, columns)?;
+    limit_lines(out, sheet, unit, code, columns)?;
+    Ok(())
+}

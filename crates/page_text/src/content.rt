@@ -1,0 +1,17 @@
+use crate::column::Column;
+use crate::figures::Figures;
+use crate::row::Row;
+use roster_model::List;
+
+/// What a page shows.
+#[derive(Debug, Drop)]
+pub struct Content {
+    /// What the roster costs.
+    pub figures: Figures,
+    /// The rows of the chart of shifts, at most 64.
+    pub rows: List<Row>,
+    /// For each row the text of its derivation.
+    pub derivations: List<List<u8>>,
+    /// How each cell is covered; nothing where there is no roster.
+    pub columns: List<Column>,
+}

@@ -1,0 +1,20 @@
+//! The page that shows a roster: its rows, bars and letters at their periods, how each code is covered, what
+//! the roster costs, and how each shift is derived.
+#![tactic(auto)]
+
+mod chart;
+mod column;
+mod content;
+mod costs;
+mod figures;
+mod ink;
+mod page;
+mod roster_chart;
+mod row;
+mod style;
+
+pub use column::{Column, add_columns};
+pub use content::Content;
+pub use figures::Figures;
+pub use page::write_page;
+pub use row::Row;

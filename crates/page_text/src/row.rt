@@ -1,0 +1,30 @@
+ghost use Rattle.std.specs.Prelude.{◌≡◌, ◌≤◌, max, length};
+ghost use Rattle.page_text.specs.Inputs.{longest};
+
+use roster_model::List;
+
+/// A row of the chart of shifts.
+#[derive(Debug, PartialEq, Eq, Drop)]
+pub struct Row {
+    /// The number of the employees' group, from 1, or 0 on a day without groups.
+    pub group: u8,
+    /// The name of the employees' group, or nothing on a day without groups.
+    pub name: List<u8>,
+    /// The byte of each period's code.
+    pub word: List<u8>,
+    /// What the shift costs.
+    pub price: u64,
+    /// How many employees have the shift.
+    pub count: u32,
+}
+
+/// Returns how long the longest name is.
+pub(crate) fn longest(rows: &[Row]) -> usize
+    ensures { result ≡ longest rows.now 0 }
+{
+    let mut most = 0;
+    for row in rows {
+        most = most.max(row.name.len());
+    }
+    most
+}
