@@ -20,8 +20,8 @@ record_of s g p w e f h =
 pub returns-then-eq : goal.returns-then-eq
 returns-then-eq c =
     let same : c.word.result.now ≡ c.args.word.now =
-        (slice_eq-Decides unsigned_Decides c.word.result.now c.args.word.now c.eq.result c.eq.ensures).0 c.if-eq.true in
+    (slice_eq-Decides unsigned_Decides c.word.result.now c.args.word.now c.eq.result c.eq.ensures).0 c.if-eq.true in
     let own = record_of c.shift-item.result c.args.group c.price.result c.args.word.now
-        (sym c.group.ensures ∙ c.if-group.true) (sym c.word.ensures ∙ same) c.price.ensures in
+    (sym c.group.ensures ∙ c.if-group.true) (sym c.word.ensures ∙ same) c.price.ensures in
     subst (λ (s : Shift). In s c.args.known.now) (sym c.shift-item.is ∙ own)
     (in_place c.args.known.now c.loop-shift.shift-index c.shift-item.result c.loop-shift-test.true)
