@@ -202,7 +202,7 @@ collect_shifts c [] ns = collect_nodes c ns ∙ ap (λ (xs : List Shift). ok_cer
 collect_shifts c (s ∷ ss) ns =
     collect_shifts (record c { shifts = c.shifts ++ s ∷ [] }) ss ns ∙ ap (λ (xs : List Shift). ok_cert (record c { shifts = xs; nodes = c.nodes ++ ns })) (append_assoc c.shifts (s ∷ []) ss)
 
-collect_cert : (c : Cert) → collected no_cert (cert_pieces c) ≡ Ok c
+pub collect_cert : (c : Cert) → collected no_cert (cert_pieces c) ≡ Ok c
 collect_cert c = collect_shifts (record { shifts = []; cost = c.cost; bound = c.bound; nodes = [] }) c.shifts c.nodes
 
 -- ---- bytes
@@ -242,11 +242,15 @@ cert_fine i c s h =
       ),
     )
 
+-- the lines of a sound certificate tell its pieces
+pub cert_read : (i : Instance) (c : Cert) → IsSoundInstance i → IsSoundCert i c → pieces_from i start no_place (numbered 1 (cert_lines i c)) ≡ cert_pieces c
+cert_read i c s h =
+    let few : length (preorder h.proof) ≤ 20001 = rw h.nodes.whole h.nodes.few in
+    let zeros : Each NoneIsZero (preorder h.proof) = rw h.nodes.whole h.listed in
+    lines_read i no_place h.proof c s (sym h.nodes.whole) few h.nodes.each zeros h.none h.few h.shifts h.cost h.bound
+
 pub cert_again : (i : Instance) (c : Cert) → IsSoundInstance i → IsSoundCert i c → length (cert_text i c) ≤ 1073741824 → proof_of i (cert_text i c) ≡ Ok c
 unfolding proof_of pieces_of pieces_left
 cert_again i c s h short =
     let items : text_items (cert_text i c) ≡ numbered 1 (cert_lines i c) = written_again 1 (cert_lines i c) (cert_fine i c s h) in
-    let few : length (preorder h.proof) ≤ 20001 = rw h.nodes.whole h.nodes.few in
-    let zeros : Each NoneIsZero (preorder h.proof) = rw h.nodes.whole h.listed in
-    let read = lines_read i no_place h.proof c s (sym h.nodes.whole) few h.nodes.each zeros h.none h.few h.shifts h.cost h.bound in
-    rw (le-ltb 1073741824 (length (cert_text i c)) short, items, read) (collect_cert c)
+    rw (le-ltb 1073741824 (length (cert_text i c)) short, items, cert_read i c s h) (collect_cert c)

@@ -29,7 +29,7 @@ mod read;
 mod write;
 
 pub use certificates::{Cert, Node, Why, is_sound_cert};
-pub use laws::written_again;
+pub use laws::{said_by_lines, written_again};
 pub use proof_pieces::{
     CertRoom, Piece, PieceFault, Pieces, ProofFault, accepted_pieces, fault_line, refused_pieces,
     told_before_a_fault, told_pieces_are_sound,
