@@ -75,6 +75,17 @@ fn is_open(day: &Instance, table: &Table) -> bool
     are_meetable(day)
 }
 
+/// Returns whether the day, which is sound, has a tree and is not plainly infeasible, by a table that is
+/// filled for these prices.
+fn is_open_day(alloc: Global, day: &Instance, prices: &PriceRoom) -> Result<bool, Memory>
+    requires { IsSoundInstance day.now }
+    ensures { IfOk result (λ answer. IsTrue answer → IsMasterDay day.now) }
+{
+    let mut table = Table::for_instance(alloc, &day.grammar)?;
+    table.least(&day.grammar, prices);
+    Ok(is_open(day, &table))
+}
+
 /// Returns whether a master can be made of the day.
 fn is_master_day(alloc: Global, day: &Instance) -> Result<bool, Memory>
     ensures { IfOk result (λ answer. IsTrue answer → IsMasterDay day.now) }
@@ -83,10 +94,7 @@ fn is_master_day(alloc: Global, day: &Instance) -> Result<bool, Memory>
         return Ok(false);
     }
     let prices = PriceRoom::for_cuts(alloc, day, 0)?;
-    let mut table = Table::for_instance(alloc, &day.grammar)?;
-    table.least(&day.grammar, &prices);
-    let is_open = is_open(day, &table);
-    Ok(is_open)
+    is_open_day(alloc, day, &prices)
 }
 
 /// Returns a sample day of which a master can be made.

@@ -7,12 +7,11 @@ ghost use Rattle.search_rows.specs.Days.{IsMasterDay, IsListedCut, AreLent};
 use crate::days::{graph_of, master_day};
 use cheapest_tree::Pricer;
 use fraction::{Frac, Tally};
-use node_master::{Cause, NodeEnd, solve_node};
+use node_master::{Cause, NodeEnd, Weight, solve_node};
 use parse_graph::Graph;
 use roster_model::{ArcKey, Cell, Cut, Group, Instance, Memory, Side};
 use sample_days::{CELL, DayParts, PAIRS, SPLIT_DAYS};
 use std::alloc::Global;
-use std::process::Abort;
 use std::test::Fail;
 use tree_pool::Pool;
 
@@ -203,152 +202,182 @@ fn solve(
     Ok(end)
 }
 
-/// Returns the value of the master at these cuts.
-fn value_at(
+/// What the master of a node shows.
+#[derive(Clone, Copy)]
+enum Want {
+    /// The numerator and the denominator of its value, in lowest terms.
+    Value(i128, i128),
+    /// A denominator of 1, a price of 1 for each of three cells, and three weights of a half.
+    Halves,
+    /// Why it is given up.
+    Cause(Cause),
+}
+
+/// The cuts of a node, and what its master shows.
+type Row<'a> = (&'a str, &'a [Cut], Want);
+
+fn is_half(weight: &Weight) -> bool {
+    weight.x.num() == 1 && weight.x.den() == 2
+}
+
+fn are_halves(end: &NodeEnd) -> bool {
+    match end {
+        NodeEnd::Best {
+            prices,
+            weights,
+            ..
+        } => {
+            prices.d == 1
+                && prices.cell.as_slice() == [1, 1, 1].as_slice()
+                && prices.mult.is_empty()
+                && weights.len() == 3
+                && weights.as_slice().iter().all(|weight| is_half(weight))
+        }
+        NodeEnd::Failed(_) => false,
+    }
+}
+
+fn shows(end: &NodeEnd, want: &Want) -> bool {
+    match (end, want) {
+        (NodeEnd::Best { value, .. }, Want::Value(num, den)) => {
+            value.num() == *num && value.den() == *den
+        }
+        (NodeEnd::Best { .. }, Want::Halves) => are_halves(end),
+        (NodeEnd::Failed(found), Want::Cause(cause)) => found == cause,
+        _ => false,
+    }
+}
+
+/// Whether the master at these cuts shows this.
+fn shows_at(
     alloc: Global,
     day: &Instance,
     graph: &Graph,
     lent: &mut Lent,
     cuts: &[Cut],
-) -> Result<Frac, Fail>
+    want: &Want,
+) -> Result<bool, Fail>
     requires day { IsMasterDay day.now }
     requires graph { IsGraph day.now.grammar graph.now }
     requires lent { AreLent day.now graph.now lent.old.pricer lent.old.pool }
     ensures { AreLent day.now graph.now lent.new.pricer lent.new.pool }
 {
-    match solve(alloc, day, graph, lent, cuts)? {
+    let end = solve(alloc, day, graph, lent, cuts)?;
+    Ok(shows(&end, want))
+}
+
+fn show_row(alloc: Global, day: &Instance, graph: &Graph, row: &Row<'_>) -> Result<(), Fail>
+    requires day { IsMasterDay day.now }
+    requires graph { IsGraph day.now.grammar graph.now }
+{
+    let (what, cuts, want) = row;
+    let mut lent = lent_for(alloc, day, graph)?;
+    if shows_at(alloc, day, graph, &mut lent, cuts, want)? {
+        return Ok(());
+    }
+    Err(Fail::from(*what))
+}
+
+fn show_rows(alloc: Global, day: &Instance, rows: &[Row<'_>]) -> Result<(), Fail>
+    requires { IsMasterDay day.now }
+{
+    let graph = graph_of(alloc, &day.grammar)?;
+    for row in rows {
+        show_row(alloc, day, &graph, row)?;
+    }
+    Ok(())
+}
+
+/// Shows what the masters of these nodes of a day show.
+fn show(alloc: Global, parts: &DayParts, rows: &[Row<'_>]) -> Result<(), Fail> {
+    let day = master_day(alloc, parts)?;
+    show_rows(alloc, &day, rows)
+}
+
+const PAIR_ROWS: [Row<'static>; 4] = [
+    ("the root", &[], Want::Value(3, 1)),
+    ("prices and weights of the root", &[], Want::Halves),
+    ("few trees with an arc", &[LOW], Want::Value(4, 1)),
+    ("many trees with an arc", &[HIGH], Want::Value(4, 1)),
+];
+
+#[test]
+fn masters_of_pairs(rt: HostRuntime) -> Result<(), Fail> {
+    show(rt.alloc(), &PAIR_DAY, &PAIR_ROWS)
+}
+
+#[test]
+fn too_many_rows(rt: HostRuntime) -> Result<(), Fail> {
+    // 1,496 rows of cuts beside three of cells and two of the heads.
+    let cuts = vec![in rt.alloc(); Cut { b: 2, ..LOW }; 1496]?;
+    let cause = Cause::Rows { count: 1501 };
+    show(
+        rt.alloc(),
+        &PAIR_DAY,
+        &[("too many", cuts.as_slice(), Want::Cause(cause))],
+    )
+}
+
+// Half a full day, and three half days.
+const GROUP_ROWS: [Row<'static>; 1] = [("base cuts", &BASE, Want::Value(7, 2))];
+
+// One shift at 2 leaves one of three periods, at 10 and the artificial 64 * (10 + 30 + 1).
+const FLOOR_ROWS: [Row<'static>; 1] = [("no roster", &[], Want::Value(2636, 1))];
+
+#[test]
+fn masters_of_groups_and_floors(rt: HostRuntime) -> Result<(), Fail> {
+    show(rt.alloc(), &GROUP_DAY, &GROUP_ROWS)?;
+    show(rt.alloc(), &FLOOR_DAY, &FLOOR_ROWS)
+}
+
+/// Returns the value of the master at the root.
+fn value_of(alloc: Global, day: &Instance, graph: &Graph, lent: &mut Lent) -> Result<Frac, Fail>
+    requires day { IsMasterDay day.now }
+    requires graph { IsGraph day.now.grammar graph.now }
+    requires lent { AreLent day.now graph.now lent.old.pricer lent.old.pool }
+    ensures { AreLent day.now graph.now lent.new.pricer lent.new.pool }
+{
+    match solve(alloc, day, graph, lent, &[])? {
         NodeEnd::Best { value, .. } => Ok(value),
         NodeEnd::Failed(_) => Err(Fail::from("no value")),
     }
 }
 
-/// Shows the value of the master at these cuts.
-fn show_value(
-    rt: &impl Abort,
+/// Whether a second call with what was lent to the first has the same value, and keeps its trees.
+fn is_same_again(
     alloc: Global,
     day: &Instance,
     graph: &Graph,
-    cuts: &[Cut],
-    value: Frac,
-) -> Result<(), Fail>
+    lent: &mut Lent,
+) -> Result<bool, Fail>
     requires day { IsMasterDay day.now }
     requires graph { IsGraph day.now.grammar graph.now }
+    requires lent { AreLent day.now graph.now lent.old.pricer lent.old.pool }
 {
-    let mut lent = lent_for(alloc, day, graph)?;
-    assert_eq!(rt; value_at(alloc, day, graph, &mut lent, cuts)?, value);
-    Ok(())
-}
-
-/// Shows a denominator of 1, a price of 1 for each of three cells, and three weights of a half.
-fn show_best(rt: &impl Abort, end: &NodeEnd) -> Result<(), Fail> {
-    let NodeEnd::Best {
-        prices,
-        weights,
-        ..
-    } = end
-    else {
-        return Err(Fail::from("no value"));
-    };
-    assert_eq!(rt; prices.d, 1);
-    assert_eq!(rt; prices.cell.as_slice(), [1, 1, 1].as_slice());
-    assert_eq!(rt; prices.mult.len(), 0);
-    assert_eq!(rt; weights.len(), 3);
-    for weight in weights.as_slice() {
-        assert_eq!(rt; weight.x, Frac::new(1, 2));
-    }
-    Ok(())
-}
-
-/// Shows prices and weights where there are no cuts.
-fn show_root(rt: &impl Abort, alloc: Global, day: &Instance, graph: &Graph) -> Result<(), Fail>
-    requires day { IsMasterDay day.now }
-    requires graph { IsGraph day.now.grammar graph.now }
-{
-    let mut lent = lent_for(alloc, day, graph)?;
-    let end = solve(alloc, day, graph, &mut lent, &[])?;
-    show_best(rt, &end)
-}
-
-/// Shows that a second call with the pool of the first has the same value, and keeps its trees.
-fn show_again(rt: &impl Abort, alloc: Global, day: &Instance, graph: &Graph) -> Result<(), Fail>
-    requires day { IsMasterDay day.now }
-    requires graph { IsGraph day.now.grammar graph.now }
-{
-    let mut lent = lent_for(alloc, day, graph)?;
-    let first = value_at(alloc, day, graph, &mut lent, &[])?;
+    let first = value_of(alloc, day, graph, lent)?;
     let trees = lent.pool.len();
-    let second = value_at(alloc, day, graph, &mut lent, &[])?;
-    assert_eq!(rt; second, first);
-    assert!(rt; lent.pool.len() >= trees);
-    Ok(())
+    let second = value_of(alloc, day, graph, lent)?;
+    Ok(second == first && lent.pool.len() >= trees)
 }
 
-/// Shows why the master at so many cuts is given up.
-fn show_cause(
-    rt: &impl Abort,
-    alloc: Global,
-    day: &Instance,
-    graph: &Graph,
-    cuts: &[Cut],
-    cause: Cause,
-) -> Result<(), Fail>
+fn is_same_with_a_pool(alloc: Global, day: &Instance, graph: &Graph) -> Result<bool, Fail>
     requires day { IsMasterDay day.now }
     requires graph { IsGraph day.now.grammar graph.now }
 {
     let mut lent = lent_for(alloc, day, graph)?;
-    let NodeEnd::Failed(found) = solve(alloc, day, graph, &mut lent, cuts)? else {
-        return Err(Fail::from("a value"));
-    };
-    assert_eq!(rt; found, cause);
-    Ok(())
+    is_same_again(alloc, day, graph, &mut lent)
 }
 
-/// Shows 1,496 rows of cuts beside three of cells and two of the heads.
-fn show_too_many(rt: &impl Abort, alloc: Global, day: &Instance, graph: &Graph) -> Result<(), Fail>
-    requires day { IsMasterDay day.now }
-    requires graph { IsGraph day.now.grammar graph.now }
+fn is_same_on(alloc: Global, day: &Instance) -> Result<bool, Fail>
+    requires { IsMasterDay day.now }
 {
-    let cuts = vec![in alloc; Cut { b: 2, ..LOW }; 1496]?;
-    let cause = Cause::Rows { count: 1501 };
-    show_cause(rt, alloc, day, graph, cuts.as_slice(), cause)
+    let graph = graph_of(alloc, &day.grammar)?;
+    is_same_with_a_pool(alloc, day, &graph)
 }
 
 #[test]
-fn the_root_of_pairs(rt: HostRuntime) -> Result<(), Fail> {
+fn the_root_of_pairs_again(rt: HostRuntime) -> Result<(), Fail> {
     let day = master_day(rt.alloc(), &PAIR_DAY)?;
-    let graph = graph_of(rt.alloc(), &day.grammar)?;
-    show_value(&rt, rt.alloc(), &day, &graph, &[], Frac::new(3, 1))?;
-    show_root(&rt, rt.alloc(), &day, &graph)?;
-    show_again(&rt, rt.alloc(), &day, &graph)
-}
-
-#[test]
-fn cuts_on_an_arc_of_pairs(rt: HostRuntime) -> Result<(), Fail> {
-    let day = master_day(rt.alloc(), &PAIR_DAY)?;
-    let graph = graph_of(rt.alloc(), &day.grammar)?;
-    show_value(&rt, rt.alloc(), &day, &graph, &[LOW], Frac::new(4, 1))?;
-    show_value(&rt, rt.alloc(), &day, &graph, &[HIGH], Frac::new(4, 1))
-}
-
-#[test]
-fn too_many_rows(rt: HostRuntime) -> Result<(), Fail> {
-    let day = master_day(rt.alloc(), &PAIR_DAY)?;
-    let graph = graph_of(rt.alloc(), &day.grammar)?;
-    show_too_many(&rt, rt.alloc(), &day, &graph)
-}
-
-#[test]
-fn base_cuts_of_groups(rt: HostRuntime) -> Result<(), Fail> {
-    let day = master_day(rt.alloc(), &GROUP_DAY)?;
-    let graph = graph_of(rt.alloc(), &day.grammar)?;
-    // Half a full day, and three half days.
-    show_value(&rt, rt.alloc(), &day, &graph, &BASE, Frac::new(7, 2))
-}
-
-#[test]
-fn floors_that_no_roster_meets(rt: HostRuntime) -> Result<(), Fail> {
-    let day = master_day(rt.alloc(), &FLOOR_DAY)?;
-    let graph = graph_of(rt.alloc(), &day.grammar)?;
-    // One shift at 2 leaves one of three periods, at 10 and the artificial 64 * (10 + 30 + 1).
-    show_value(&rt, rt.alloc(), &day, &graph, &[], Frac::new(2636, 1))
+    assert!(rt; is_same_on(rt.alloc(), &day)?);
+    Ok(())
 }
