@@ -61,11 +61,21 @@ pub fn fill<P: LetterPrice>(
     best: &mut [u32],
 )
     requires graph { HasGrammar graph.now }
-    requires made { IsMadeFor graph.now
-        (record { links = links.now; letters = letters.now; order = None; values = values.old; best = best.old }) }
+    requires made { IsMadeFor graph.now (record {
+      links = links.now;
+      letters = letters.now;
+      order = None;
+      values = values.old;
+      best = best.old;
+    }) }
     ensures filled { (g : Rules) → IsSound g → IsGraph g graph.now
-        → IsFilled g (P.view prices.now) graph.now
-        (record { links = links.now; letters = letters.now; order = None; values = values.new; best = best.new }) }
+        → IsFilled g (P.view prices.now) graph.now (record {
+          links = links.now;
+          letters = letters.now;
+          order = None;
+          values = values.new;
+          best = best.new;
+        }) }
 {
     begin(prices, letters, graph.nodes() as usize, values);
     let arcs = graph.arcs();

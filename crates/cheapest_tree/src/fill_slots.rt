@@ -37,12 +37,22 @@ pub fn fill_slots<P: LetterPrice>(
     best: &mut [u32],
 )
     requires graph { HasGrammar graph.now }
-    requires made { IsMadeFor graph.now
-        (record { links = links.now; letters = letters.now; order = order.now; values = values.old; best = best.old }) }
+    requires made { IsMadeFor graph.now (record {
+      links = links.now;
+      letters = letters.now;
+      order = order.now;
+      values = values.old;
+      best = best.old;
+    }) }
     requires room { length sums.old ≡ length values.old }
     ensures filled { (g : Rules) → IsSound g → IsGraph g graph.now
-        → IsFilled g (P.view prices.now) graph.now
-        (record { links = links.now; letters = letters.now; order = order.now; values = values.new; best = best.new }) }
+        → IsFilled g (P.view prices.now) graph.now (record {
+          links = links.now;
+          letters = letters.now;
+          order = order.now;
+          values = values.new;
+          best = best.new;
+        }) }
 {
     if let Some(order) = order {
         if fill_narrow(graph, prices, letters, order, sums, best) {

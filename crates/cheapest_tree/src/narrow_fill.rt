@@ -124,7 +124,8 @@ fn least_of_row<P: LetterPrice>(
     requires asks { (letters : Items Spot) × (best : Items ℕ)
         × AsksRow (P.view prices.now) graph.now letters order.now sums.now best place }
     ensures most { IfSome result (λ b. b.number ≤ℤ no_least) }
-    ensures found { IfSome result (λ b. FindsRow (P.view prices.now) graph.now order.now place (least_of b.number) b.arc) }
+    ensures found { IfSome result (λ b.
+        FindsRow (P.view prices.now) graph.now order.now place (least_of b.number) b.arc) }
 {
     let row = order.rows.as_slice()[place];
     let makers = order.makers.as_slice();
@@ -188,7 +189,8 @@ pub fn fill_narrow<P: LetterPrice>(
     requires order { IsOrder graph.now letters.now order.now }
     requires slots { length sums.old ≡ length graph.now.nodes + 1 + length letters.now }
     requires nodes { length best.old ≡ length graph.now.nodes }
-    ensures passed { IsTrue result → AreRowsPassed (P.view prices.now) graph.now letters.now order.now sums.new best.new
+    ensures passed { IsTrue result
+        → AreRowsPassed (P.view prices.now) graph.now letters.now order.now sums.new best.new
         (length order.now.rows) }
 {
     let mut rules = [0i64; CODES];

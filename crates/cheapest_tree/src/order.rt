@@ -1,4 +1,5 @@
-ghost use Rattle.std.specs.Prelude.{ℕ, ◌≡◌, ◌≤◌, ◌<◌, ◌+◌, ◌^◌, ◌∷◌, ◌++◌, [], Some, true, IsTrue, IfOk, IfSome, length, slice_get};
+ghost use Rattle.std.specs.Prelude.{ℕ, ◌≡◌, ◌≤◌, ◌<◌, ◌^◌, ◌∷◌, ◌++◌, [], Some, true, length, slice_get};
+ghost use Rattle.std.specs.Prelude.{IsTrue, IfOk, IfSome};
 ghost use Rattle.cheapest_tree.specs.declared.order.Maker.{Maker as Found};
 ghost use Rattle.cheapest_tree.specs.Orders.{code_of, IsMaker, IsReady, AreAdded, IsOrderSoFar, IsOrder};
 ghost use Rattle.cheapest_tree.specs.Links.{AreLinks};
@@ -103,7 +104,8 @@ fn add_maker(
 ) -> Result<bool, Memory>
     requires links { AreLinks graph.now letters.now links.now (length graph.now.arcs) }
     ensures { IfOk result (λ b. IsTrue b → (x : Found) × (makers.new ≡ makers.old ++ x ∷ [])
-        × (x.arc ≡ arc) × IsMaker graph.now letters.now node x × IsReady done.now x.first × IsReady done.now x.rest) }
+        × (x.arc ≡ arc) × IsMaker graph.now letters.now node x
+        × IsReady done.now x.first × IsReady done.now x.rest) }
 {
     let Some(maker) = maker_of(graph, links, letters, node, arc) else {
         return Ok(false);

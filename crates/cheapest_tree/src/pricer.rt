@@ -45,7 +45,13 @@ impl Model for Pricer {
 
     ghost Value = { PricerView };
 
-    ghost view = { λ s. record { links = s.links; letters = s.letters; order = s.order; values = s.values.items; best = s.best.items } };
+    ghost view = { λ s. record {
+      links = s.links;
+      letters = s.letters;
+      order = s.order;
+      values = s.values.items;
+      best = s.best.items;
+    } };
 
     ghost invariant = { λ s. length s.sums.items ≡ length s.values.items };
 }
