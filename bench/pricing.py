@@ -2,11 +2,12 @@
 """Times the pricing of all trees of a day on the graph of all parses, as ratios of one run.
 
 On a call centre's day of 96 periods (examples/g3.rules with windows four times as wide) a pass over the
-graph against a fill of the table, at most a fifth of which is asked; and against the same pass in plain
-Rust (bench/pricing.rs by `rustc -O`), at most 1.3 times which is asked. On a day of 80 periods that is
-cut in every way (examples/g5.rules, 85,400 arcs) the building of the graph against one pass over it, at
-most 300 times which is asked, and a pass with prices on the arcs of 10, 100 and 1,000 cuts against one with
-none on arcs. The program is crates/bench_runs, as `rt run` builds it there; the time
+graph against a fill of the table; and against the pass in plain Rust (bench/pricing.rs by `rustc -O`) in
+four forms: on 128-bit sums in the order of the arcs, which the program had before, on 64-bit sums in that
+order, on 64-bit sums with the arcs that make a node side by side, at most 1.2 times which is asked, and on
+128-bit sums in that way. On a day of 80 periods that is cut in every way (examples/g5.rules, 85,400 arcs)
+the building of the graph against one pass over it, and a pass with prices on the arcs of 10, 100 and 1,000
+cuts against one with none on arcs. The program is crates/bench_runs, as `rt run` builds it there; the time
 of a run that does the thing once is taken off. Sums that are printed for the same prices must agree.
 """
 import os
@@ -20,6 +21,12 @@ from explain import longer
 TOP = pathlib.Path(__file__).resolve().parent.parent
 PROGRAM = TOP / "crates" / "bench_runs" / "out" / "bench_runs"
 TURNS = 5
+FORMS = {
+    "old": "128-bit sums, by arcs",
+    "order": "64-bit sums, by arcs",
+    "rows": "64-bit sums, by nodes",
+    "wide": "128-bit sums, by nodes",
+}
 
 
 def seconds(words, given):
@@ -30,10 +37,10 @@ def seconds(words, given):
     return used.ru_utime, answer
 
 
-def each(words, given, times, count=0):
+def each(words, given, times, word=0):
     """The least time of doing it once more, and what was printed."""
-    once = min(seconds([*words, "1", str(count)], given)[0] for _ in range(TURNS))
-    runs = [seconds([*words, str(times + 1), str(count)], given) for _ in range(TURNS)]
+    once = min(seconds([*words, "1", str(word)], given)[0] for _ in range(TURNS))
+    runs = [seconds([*words, str(times + 1), str(word)], given) for _ in range(TURNS)]
     return (min(took for took, _ in runs) - once) / times, runs[0][1].strip()
 
 
@@ -52,14 +59,17 @@ def main():
         subprocess.run(["rustc", "--edition", "2024", "-O", "-o", plain, TOP / "bench" / "pricing.rs"], check=True)
         fill, filled = each([PROGRAM, "fill"], long, 200)
         passed, sum_passed = each([PROGRAM, "cheapest"], long, 2000)
-        rust, sum_rust = each([plain, links], long, 2000)
-        if sum_passed != sum_rust:
-            sys.exit(f"the sums differ: {sum_passed} and {sum_rust}")
+        forms = {}
+        for form in FORMS:
+            forms[form], sum_rust = each([plain, links], long, 2000, form)
+            if sum_passed != sum_rust:
+                sys.exit(f"the sums differ: {sum_passed} and {sum_rust}")
         again, filled_again = each([PROGRAM, "cheapest"], long, 200)
         if filled != filled_again:
             sys.exit(f"the sums differ: {filled} and {filled_again}")
         print(f"96 periods, {len(links.read_text().splitlines())} arcs: fill {1e6 * fill:.0f} us, pass {1e6 * passed:.0f} us, ratio {passed / fill:.3f}")
-        print(f"pass in plain Rust {1e6 * rust:.0f} us, ratio {passed / rust:.2f}")
+        for form, rust in forms.items():
+            print(f"pass in plain Rust, {FORMS[form]}: {1e6 * rust:.0f} us, ratio {passed / rust:.2f}")
         build, arcs = each([PROGRAM, "build"], short, 5)
         once, _ = each([PROGRAM, "cheapest"], short, 200)
         print(f"{arcs} arcs: build {1e3 * build:.1f} ms, pass {1e3 * once:.2f} ms, ratio {build / once:.0f}")

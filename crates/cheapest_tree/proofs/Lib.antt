@@ -8,3 +8,6 @@ pub mod PartsAtLemmas
 pub mod WalksLemmas
 pub mod RootLemmas
 pub mod UnderLemmas
+pub mod NarrowLemmas
+pub mod OrdersLemmas
+pub mod RowsLemmas

@@ -13,11 +13,13 @@ use Rattle.parse_graph.specs.Graphs.{GraphView, IsGraph, AreKids}
 use Rattle.parse_graph.specs.declared.kid.Kid.{Kid}
 use Rattle.parse_graph.specs.declared.kid.Kid.TheVariants.{Nothing, Letter, Node}
 use Rattle.span_cells.proofs.ChoicesLemmas.{on_some}
+use Rattle.cheapest_tree.specs.declared.order.Order.{Order}
 use Rattle.cheapest_tree.specs.declared.slots.Links.{Links}
 use Rattle.cheapest_tree.specs.declared.slots.Spot.{Spot}
 use Rattle.cheapest_tree.specs.AtNodes.{arc_total}
 use Rattle.cheapest_tree.specs.Numbering.{Grows}
-use Rattle.cheapest_tree.specs.Pricers.{value_at, IsSlot, IsLink, AreLinks, IsMadeFor, ArePriced, IsBest, AreBest}
+use Rattle.cheapest_tree.specs.Links.{IsSlot, IsLink, AreLinks}
+use Rattle.cheapest_tree.specs.Pricers.{value_at, IsMadeFor, ArePriced, IsFilled, IsBest, AreBest}
 use Rattle.cheapest_tree.specs.Passes.{AreLeastBefore}
 use Rattle.cheapest_tree.proofs.TopArcLemmas.{KidsLeast}
 use Rattle.cheapest_tree.proofs.PassesLemmas.{complete, one-arc, kids-least, kids-small, kids-inside, lesser-small, pass-next}
@@ -84,14 +86,20 @@ pub link-read : (v : GraphView) (letters : List Spot) (links : Links) (n : ℕ) 
 link-read v letters links n made_slots first_slots rest_slots are inside m f r = rw (m, f, r) (are.each n inside)
 
 -- other values and best arcs do as well
-pub made-kept : (v : GraphView) (links : Links) (letters : List Spot) (old new rest : List (Option ℤ)) (len : ℕ) (old_best new_best rest_best : List ℕ) (nodes : ℕ)
+pub made-kept : (v : GraphView) (links : Links) (letters : List Spot) (order : Option Order) (old new rest : List (Option ℤ)) (len : ℕ) (old_best new_best rest_best : List ℕ) (nodes : ℕ)
     → length new ≡ length old → length new ≡ len → length new_best ≡ length old_best → length new_best ≡ nodes
-    → IsMadeFor v (record { links = links; letters = letters; values = old; best = old_best })
-    → IsMadeFor v (record { links = links; letters = letters; values = take len (new ++ rest); best = take nodes (new_best ++ rest_best) })
-made-kept v links letters old new rest len old_best new_best rest_best nodes same room same_best room_best h =
-    subst (λ (b : List ℕ). IsMadeFor v (record { links = links; letters = letters; values = take len (new ++ rest); best = b })) (sym (take_at new_best rest_best nodes room_best))
-    (subst (λ (q : List (Option ℤ)). IsMadeFor v (record { links = links; letters = letters; values = q; best = new_best })) (sym (take_at new rest len room))
-    (record { links = h.links; slots = same ∙ h.slots; nodes = same_best ∙ h.nodes }))
+    → IsMadeFor v (record { links = links; letters = letters; order = order; values = old; best = old_best })
+    → IsMadeFor v (record { links = links; letters = letters; order = order; values = take len (new ++ rest); best = take nodes (new_best ++ rest_best) })
+made-kept v links letters order old new rest len old_best new_best rest_best nodes same room same_best room_best h =
+    subst (λ (b : List ℕ). IsMadeFor v (record { links = links; letters = letters; order = order; values = take len (new ++ rest); best = b })) (sym (take_at new_best rest_best nodes room_best))
+    (subst (λ (q : List (Option ℤ)). IsMadeFor v (record { links = links; letters = letters; order = order; values = q; best = new_best })) (sym (take_at new rest len room))
+    (record { links = h.links; order = h.order; slots = same ∙ h.slots; nodes = same_best ∙ h.nodes }))
+
+-- a filled pricer with another order is filled
+pub filled-with : (g : Grammar) (p : PriceView) (v : GraphView) (links : Links) (letters : List Spot) (one two : Option Order) (values : List (Option ℤ)) (best : List ℕ)
+    → IsFilled g p v (record { links = links; letters = letters; order = one; values = values; best = best })
+    → IsFilled g p v (record { links = links; letters = letters; order = two; values = values; best = best })
+filled-with g p v links letters one two values best h = record { priced = h.priced; nodes = h.nodes; arcs = h.arcs }
 
 -- the slots of nothing and of the letters stay as a node's value changes
 pub priced-kept : (p : PriceView) (letters : List Spot) (nodes : ℕ) (values : List (Option ℤ)) (k : ℕ) (w : Option ℤ) → k < nodes → ArePriced p letters nodes values → ArePriced p letters nodes (set values k w)

@@ -20,7 +20,8 @@ use Rattle.parse_graph.specs.Graphs.{GraphView, IsGraph, IsKid, AreKids, IsRoot}
 use Rattle.parse_graph.specs.declared.kid.Kid.{Kid}
 use Rattle.cheapest_tree.specs.declared.slots.Spot.{Spot}
 use Rattle.cheapest_tree.specs.AtNodes.{IsAt, sum_at, NodeLeast, top_arc, IsBefore, arc_total}
-use Rattle.cheapest_tree.specs.Pricers.{value_at, IsSlot, ArePriced}
+use Rattle.cheapest_tree.specs.Links.{IsSlot}
+use Rattle.cheapest_tree.specs.Pricers.{value_at, ArePriced}
 use Rattle.cheapest_tree.specs.Passes.{AreLeastBefore}
 use Rattle.cheapest_tree.proofs.StandLemmas.{arc-standing}
 use Rattle.cheapest_tree.proofs.AtNodesLemmas.{IsOfInstance, node-of, top-arc, top-made}

@@ -17,7 +17,8 @@ use Rattle.parse_graph.specs.Graphs.{GraphView, AreKids}
 use Rattle.cheapest_tree.specs.declared.slots.Links.{Links}
 use Rattle.cheapest_tree.specs.AtNodes.{IsAt, sum_at, top_arc, IsBefore, arc_total}
 use Rattle.cheapest_tree.specs.Passes.{AreLeastBefore}
-use Rattle.cheapest_tree.specs.Pricers.{PricerView, value_at, IsLink, IsMadeFor}
+use Rattle.cheapest_tree.specs.Links.{IsLink}
+use Rattle.cheapest_tree.specs.Pricers.{PricerView, value_at, IsMadeFor}
 use Rattle.cheapest_tree.specs.Under.{IsTop, IsReady, IsDayTreeUnder, AsksTreeUnder, HoldsLeastUnder}
 use Rattle.cheapest_tree.specs.Walks.{AsksArc, WritesUnder, WritesArc}
 use Rattle.cheapest_tree.proofs.StandLemmas.{arc-standing}

@@ -21,7 +21,8 @@ use Rattle.parse_graph.specs.declared.kid.Kid.{Kid}
 use Rattle.parse_graph.specs.declared.kid.Kid.TheVariants.{Nothing}
 use Rattle.cheapest_tree.specs.declared.slots.Links.{Links}
 use Rattle.cheapest_tree.specs.AtNodes.{IsAt, sum_at, NodeLeast, top_arc, arc_total, with_rule}
-use Rattle.cheapest_tree.specs.Pricers.{value_at, IsSlot, IsLink, IsBest}
+use Rattle.cheapest_tree.specs.Links.{IsSlot, IsLink}
+use Rattle.cheapest_tree.specs.Pricers.{value_at, IsBest}
 use Rattle.cheapest_tree.specs.Walks.{start_of, steps_of, HasRoom, AsksNode, WritesAt, AsksArc, WritesUnder, WritesArc, AsksSlot, WritesSlot, node_left, arc_left, slot_left}
 use Rattle.cheapest_tree.proofs.StandLemmas.{Standing, arc-standing}
 use Rattle.cheapest_tree.proofs.TopArcLemmas.{KidsLeast, arc-least}

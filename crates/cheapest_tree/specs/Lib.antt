@@ -1,6 +1,9 @@
 pub mod AtNodes
 pub mod Numbering
+pub mod Links
+pub mod Orders
 pub mod Pricers
 pub mod Passes
 pub mod Walks
 pub mod Under
+pub mod Narrow

@@ -1,13 +1,19 @@
 -- How far the values are filled.
-use Rattle.std.specs.Prelude.{ℕ, ℤ, ◌≡◌, ◌<◌, Option, None, Some, List, slice_get}
+use Rattle.std.specs.Prelude.{ℕ, ℤ, ◌≡◌, ◌+◌, ◌<◌, ◌≤◌, Option, None, Some, OnSome, List, length, slice_get, slice_index}
+use Rattle.roster_model.specs.declared.grammar.ArcKey.{ArcKey}
 use Rattle.roster_model.specs.declared.grammar.Grammar.{Grammar}
 use Rattle.roster_model.specs.Sums.{PriceView, IsLeast}
 use Rattle.roster_model.specs.Sound.{IsSound}
 use Rattle.arc_laws.specs.OrNodes.{OrNode}
 use Rattle.parse_graph.specs.Graphs.{GraphView, IsGraph}
+use Rattle.cheapest_tree.specs.declared.order.Maker.{Maker}
+use Rattle.cheapest_tree.specs.declared.order.Order.{Order}
+use Rattle.cheapest_tree.specs.declared.order.Row.{Row}
 use Rattle.cheapest_tree.specs.declared.slots.Spot.{Spot}
-use Rattle.cheapest_tree.specs.AtNodes.{IsAt, sum_at, top_arc, IsBefore}
-use Rattle.cheapest_tree.specs.Pricers.{value_at, ArePriced}
+use Rattle.cheapest_tree.specs.AtNodes.{IsAt, sum_at, NodeLeast, top_arc, IsBefore}
+use Rattle.cheapest_tree.specs.Narrow.{AreSmall}
+use Rattle.cheapest_tree.specs.Orders.{code_of, IsOrder}
+use Rattle.cheapest_tree.specs.Pricers.{value_at, ArePriced, IsBest}
 
 -- the slots of nothing and of the letters have their prices, and the nodes have no value yet
 pub record AreBegun (p : PriceView) (letters : List Spot) (nodes : ℕ)
@@ -24,3 +30,53 @@ AreLeastBefore g p v values n =
 -- whatever sound grammar the graph is of
 abbrev pub AreFilledBefore : PriceView → GraphView → List (Option ℤ) → ℕ → Type 0
 AreFilledBefore p v values n = (g : Grammar) → IsSound g → IsGraph g v → AreLeastBefore g p v values n
+
+-- the value of the node is the least sum of what stands there, and a best arc has it at the top
+abbrev pub IsDone : Grammar → PriceView → GraphView → List (Option ℤ) → List ℕ → ℕ → Type 0
+IsDone g p v values best m = (o : OrNode) → slice_get v.nodes m ≡ Some o
+    → NodeLeast g p o (value_at values m)
+    × OnSome (value_at values m) (IsBest g p v o (value_at values m) (slice_index best m))
+
+-- the nodes of the first j rows of an order have their values, and all values are small
+pub record AreRowsPassed (p : PriceView) (v : GraphView) (letters : List Spot) (order : Order)
+    (values : List (Option ℤ)) (best : List ℕ) (j : ℕ) : Type 0 where
+  pub slots : length values ≡ length v.nodes + 1 + length letters
+  pub nodes : length best ≡ length v.nodes
+  pub priced : ArePriced p letters (length v.nodes) values
+  pub small : AreSmall values
+  pub done : (g : Grammar) → IsSound g → IsGraph g v → (i : ℕ) (r : Row) → i < j
+      → slice_get order.rows i ≡ Some r → IsDone g p v values best r.node
+
+-- what is asked to pass the j-th row
+pub record AsksRow (p : PriceView) (v : GraphView) (letters : List Spot) (order : Order)
+    (values : List (Option ℤ)) (best : List ℕ) (j : ℕ) : Type 0 where
+  pub order_is : IsOrder v letters order
+  pub inside : j < length order.rows
+  pub passed : AreRowsPassed p v letters order values best j
+
+-- the value is the least sum of what stands at the node of the j-th row, and the arc has it at the top
+abbrev pub FindsRow : PriceView → GraphView → Order → ℕ → Option ℤ → ℕ → Type 0
+FindsRow p v order j value arc = (g : Grammar) → IsSound g → IsGraph g v → (r : Row)
+    → slice_get order.rows j ≡ Some r → (o : OrNode) → slice_get v.nodes r.node ≡ Some o
+    → NodeLeast g p o value × OnSome value (IsBest g p v o value arc)
+
+-- the arc and its slots are there, and its rule's code is right
+pub record CanPass (arcs : List ArcKey) (values : List (Option ℤ)) (x : Maker) : Type 0 where
+  pub key : ArcKey
+  pub at : slice_get arcs x.arc ≡ Some key
+  pub code : x.code ≡ code_of key.rule key.suffix
+  pub fits : x.code ≤ 256
+  pub first_in : x.first < length values
+  pub rest_in : x.rest < length values
+
+-- one of the first n arcs from a place on
+abbrev pub IsAmong : List ArcKey → List Maker → ℕ → ℕ → ArcKey → Type 0
+IsAmong listed makers begin n a = (i : ℕ) × (x : Maker) × (i < n)
+    × (slice_get makers (begin + i) ≡ Some x) × (slice_get listed x.arc ≡ Some a)
+
+-- the value is the least sum of what stands at the node with one of these arcs at the top, which the arc
+-- is
+pub record IsLeastAmong (g : Grammar) (p : PriceView) (v : GraphView) (makers : List Maker) (begin n : ℕ)
+    (o : OrNode) (value : Option ℤ) (arc : ℕ) : Type 0 where
+  pub least : IsLeast (λ t. IsAt g o t × IsAmong v.arcs makers begin n (top_arc o t)) (sum_at p o) value
+  pub best : OnSome value (IsBest g p v o value arc)

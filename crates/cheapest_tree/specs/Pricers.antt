@@ -1,5 +1,5 @@
 -- What a contract sees of a pricer, and what its values are.
-use Rattle.std.specs.Prelude.{ℕ, ℤ, pos, ◌≡◌, ◌+◌, ◌<◌, Option, None, Some, OnSome, List, length, slice_get, slice_index, slice_index_or}
+use Rattle.std.specs.Prelude.{ℕ, ℤ, pos, ◌≡◌, ◌+◌, Option, None, Some, IfSome, OnSome, List, length, slice_get, slice_index, slice_index_or}
 use Rattle.roster_model.specs.declared.grammar.ArcKey.{ArcKey}
 use Rattle.roster_model.specs.declared.grammar.Grammar.{Grammar}
 use Rattle.roster_model.specs.Sums.{PriceView, IsLeast}
@@ -8,17 +8,20 @@ use Rattle.roster_model.specs.Sound.{IsSound}
 use Rattle.tree_laws.specs.LeastTrees.{HasDaySum}
 use Rattle.arc_laws.specs.OrNodes.{OrNode, made}
 use Rattle.parse_graph.specs.Graphs.{GraphView, IsGraph}
-use Rattle.parse_graph.specs.declared.kid.Kid.{Kid}
-use Rattle.parse_graph.specs.declared.kid.Kid.TheVariants.{Nothing, Letter, Node}
+use Rattle.cheapest_tree.specs.declared.order.Order.{Order}
 use Rattle.cheapest_tree.specs.declared.slots.Links.{Links}
 use Rattle.cheapest_tree.specs.declared.slots.Spot.{Spot}
 use Rattle.cheapest_tree.specs.AtNodes.{NodeLeast, IsAt, sum_at, top_arc}
+use Rattle.cheapest_tree.specs.Links.{AreLinks}
+use Rattle.cheapest_tree.specs.Orders.{IsOrder}
 
--- the slots that the arcs join, the letters that have slots, the value in each slot, and the best arc
--- of each node; the slots of the nodes come first, then that of nothing, then those of the letters
+-- the slots that the arcs join, the letters that have slots, an order of the nodes, the value in each
+-- slot, and the best arc of each node; the slots of the nodes come first, then that of nothing, then
+-- those of the letters
 pub record PricerView : Type 0 where
   pub links : Links
   pub letters : List Spot
+  pub order : Option Order
   pub values : List (Option ℤ)
   pub best : List ℕ
 
@@ -26,36 +29,10 @@ pub record PricerView : Type 0 where
 abbrev pub value_at : List (Option ℤ) → ℕ → Option ℤ
 value_at values slot = slice_index_or values slot None
 
--- the slot of what is below an arc, where there are so many nodes
-abbrev pub IsSlot : ℕ → List Spot → Kid → ℕ → Type 0
-IsSlot nodes letters Nothing slot = slot ≡ nodes
-IsSlot nodes letters (Node n) slot = slot ≡ n
-IsSlot nodes letters (Letter code period) slot =
-    (j : ℕ) × (slot ≡ nodes + 1 + j) × (slice_get letters j ≡ Some (record { code = code; period = period }))
-
--- these are the slots of what the arc makes and of what is below it
-pub record IsLink (v : GraphView) (letters : List Spot)
-    (arc made_slot first_slot rest_slot : ℕ) : Type 0 where
-  pub made : slice_get v.made_by arc ≡ Some made_slot
-  pub kids : Kid × Kid
-  pub below_first : slice_get v.first arc ≡ Some kids.0
-  pub below_rest : slice_get v.rest arc ≡ Some kids.1
-  pub first : IsSlot (length v.nodes) letters kids.0 first_slot
-  pub rest : IsSlot (length v.nodes) letters kids.1 rest_slot
-
--- each of the three arrays has one entry for each of the first arcs, so many, and the three entries of
--- an arc are its slots
-pub record AreLinks (v : GraphView) (letters : List Spot) (links : Links) (count : ℕ) : Type 0 where
-  pub made : length links.made ≡ count
-  pub first : length links.first ≡ count
-  pub rest : length links.rest ≡ count
-  pub each : (arc : ℕ) → arc < count
-      → IsLink v letters arc (slice_index links.made arc) (slice_index links.first arc)
-      (slice_index links.rest arc)
-
 -- the pricer was made for the graph
 pub record IsMadeFor (v : GraphView) (w : PricerView) : Type 0 where
   pub links : AreLinks v w.letters w.links (length v.arcs)
+  pub order : IfSome w.order (IsOrder v w.letters)
   pub slots : length w.values ≡ length v.nodes + 1 + length w.letters
   pub nodes : length w.best ≡ length v.nodes
 

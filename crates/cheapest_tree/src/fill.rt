@@ -1,4 +1,4 @@
-ghost use Rattle.std.specs.Prelude.{◌≡◌, ◌<◌, ◌+◌, ◌^◌, IfSome, length};
+ghost use Rattle.std.specs.Prelude.{◌≡◌, ◌<◌, ◌+◌, ◌^◌, IfSome, None, length};
 ghost use Rattle.roster_model.specs.declared.grammar.Grammar.{Grammar as Rules};
 ghost use Rattle.roster_model.specs.Sound.{IsSound};
 ghost use Rattle.roster_model.specs.Sums.{Within};
@@ -61,11 +61,21 @@ pub fn fill<P: LetterPrice>(
     best: &mut [u32],
 )
     requires graph { HasGrammar graph.now }
-    requires made { IsMadeFor graph.now
-        (record { links = links.now; letters = letters.now; values = values.old; best = best.old }) }
+    requires made { IsMadeFor graph.now (record {
+      links = links.now;
+      letters = letters.now;
+      order = None;
+      values = values.old;
+      best = best.old;
+    }) }
     ensures filled { (g : Rules) → IsSound g → IsGraph g graph.now
-        → IsFilled g (P.view prices.now) graph.now
-        (record { links = links.now; letters = letters.now; values = values.new; best = best.new }) }
+        → IsFilled g (P.view prices.now) graph.now (record {
+          links = links.now;
+          letters = letters.now;
+          order = None;
+          values = values.new;
+          best = best.new;
+        }) }
 {
     begin(prices, letters, graph.nodes() as usize, values);
     let arcs = graph.arcs();

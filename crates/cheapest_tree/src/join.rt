@@ -1,5 +1,5 @@
 ghost use Rattle.std.specs.Prelude.{◌≡◌, ◌≤◌, ◌<◌, ◌*◌, ◌+◌, IfOk, OnOk, length};
-ghost use Rattle.cheapest_tree.specs.Pricers.{AreLinks};
+ghost use Rattle.cheapest_tree.specs.Links.{AreLinks};
 
 use crate::letters::Letters;
 use crate::slots::{Links, Spot};

@@ -21,7 +21,7 @@ pub struct Letters {
 impl Letters {
     ghost use Rattle.std.specs.Prelude.{◌≡◌, ◌≤◌, ◌^◌, IfOk, OnOk, Some, length, slice_get};
     ghost use Rattle.cheapest_tree.specs.Numbering.{Grows};
-    ghost use Rattle.cheapest_tree.specs.Pricers.{IsSlot};
+    ghost use Rattle.cheapest_tree.specs.Links.{IsSlot};
 
     /// Returns no letters.
     pub fn new(alloc: Global) -> Result<Letters, Memory>

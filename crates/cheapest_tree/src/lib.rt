@@ -2,8 +2,12 @@
 #![tactic(auto)]
 
 mod fill;
+mod fill_slots;
 mod join;
 mod letters;
+mod narrow;
+mod narrow_fill;
+mod order;
 mod pricer;
 mod slots;
 mod sums;

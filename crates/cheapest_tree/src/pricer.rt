@@ -9,8 +9,10 @@ ghost use Rattle.roster_model.specs.declared.grammar.ArcKey.{ArcKey as Key};
 ghost use Rattle.cheapest_tree.specs.Pricers.{IsMadeFor, IsFilled, AsksTree};
 ghost use Rattle.cheapest_tree.specs.Under.{IsTop, IsReady, IsDayTreeUnder, AsksTreeUnder, HoldsLeastUnder};
 
-use crate::fill::fill;
+use crate::fill_slots::fill_slots;
 use crate::join::join;
+use crate::narrow::Narrow;
+use crate::order::{Order, find_order};
 use crate::slots::{Links, Spot};
 use crate::under::least_under;
 use crate::walk::{write_node, write_under};
@@ -27,56 +29,77 @@ pub struct Pricer {
     links: Links,
     // The letters that have slots.
     letters: List<Spot>,
+    // An order of the nodes.
+    order: Option<Order>,
     // The value in each slot: those of the nodes, of nothing, and of the letters.
     values: Vec<Cell>,
+    // Those of a call whose prices are narrow.
+    sums: Vec<Narrow>,
     // For each node that has a value an arc with a tree of that sum, by its place.
     best: Vec<u32>,
 }
 
 impl Model for Pricer {
+    ghost use Rattle.std.specs.Prelude.{◌≡◌, length};
     ghost use Rattle.cheapest_tree.specs.Pricers.{PricerView};
 
     ghost Value = { PricerView };
 
-    ghost view = { λ s. record { links = s.links; letters = s.letters; values = s.values.items; best = s.best.items } };
+    ghost view = { λ s. record {
+      links = s.links;
+      letters = s.letters;
+      order = s.order;
+      values = s.values.items;
+      best = s.best.items;
+    } };
+
+    ghost invariant = { λ s. length s.sums.items ≡ length s.values.items };
 }
 
 // Empty cells for the slots, and a best arc for each node.
 #[derive(Drop)]
 struct Values {
-    sums: Vec<Cell>,
+    cells: Vec<Cell>,
+    sums: Vec<Narrow>,
     best: Vec<u32>,
 }
 
 // Takes the memory for the values of so many nodes, of nothing and of the letters.
 fn values_of(alloc: Global, nodes: u32, letters: &[Spot]) -> Result<Values, Memory>
+    ensures cells { IfOk result (λ v. length v.cells.items ≡ nodes + 1 + length letters.now) }
     ensures sums { IfOk result (λ v. length v.sums.items ≡ nodes + 1 + length letters.now) }
     ensures best { IfOk result (λ v. length v.best.items ≡ nodes) }
 {
     let count = nodes as usize + 1 + letters.len();
-    let Ok(sums) = vec![in alloc; Cell::new(None); count] else {
+    let Ok(cells) = vec![in alloc; Cell::new(None); count] else {
+        return Err(Memory);
+    };
+    let Ok(sums) = vec![in alloc; Narrow::none(); count] else {
         return Err(Memory);
     };
     let Ok(best) = vec![in alloc; 0; nodes as usize] else {
         return Err(Memory);
     };
-    Ok(Values { sums, best })
+    Ok(Values { cells, sums, best })
 }
 
 impl Pricer {
     /// Returns a pricer for the trees of a graph. Later calls take the same graph.
     ///
-    /// It has taken the memory for all of them: 12 bytes for each arc, 20 for each node, and
-    /// 18 for each letter.
+    /// It has taken the memory for all of them: 28 bytes for each arc, 40 for each node, and
+    /// 26 for each letter.
     pub fn new(alloc: Global, graph: &Graph) -> Result<Pricer, Memory>
         ensures { IfOk result (IsMadeFor graph.now) }
     {
         let joined = join(alloc, graph)?;
+        let order = find_order(alloc, graph, &joined.links, joined.letters.as_slice())?;
         let values = values_of(alloc, graph.nodes(), joined.letters.as_slice())?;
         Ok(Pricer {
             links: joined.links,
             letters: joined.letters,
-            values: values.sums,
+            order,
+            values: values.cells,
+            sums: values.sums,
             best: values.best,
         })
     }
@@ -92,11 +115,13 @@ impl Pricer {
             → IsFilled g (P.view prices.now) graph.now self.new }
         ensures kept { (v : GraphView) → IsMadeFor v self.old → IsMadeFor v self.new }
     {
-        fill(
+        fill_slots(
             graph,
             prices,
             &self.links,
             self.letters.as_slice(),
+            &self.order,
+            self.sums.as_mut_slice(),
             self.values.as_mut_slice(),
             self.best.as_mut_slice(),
         );

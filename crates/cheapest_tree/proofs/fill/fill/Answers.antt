@@ -5,7 +5,8 @@ use Rattle.std.proofs.lemmas.Option.{slice_get-get_or, slice_get_within}
 use Rattle.roster_model.specs.declared.grammar.ArcKey.{ArcKey}
 use Rattle.roster_model.specs.Sums.{Within, IsLesser}
 use Rattle.cheapest_tree.specs.AtNodes.{arc_total}
-use Rattle.cheapest_tree.specs.Pricers.{value_at, IsLink, AreBest}
+use Rattle.cheapest_tree.specs.Links.{IsLink}
+use Rattle.cheapest_tree.specs.Pricers.{value_at, AreBest}
 use Rattle.cheapest_tree.specs.declared.sums.Choice.{Choice}
 use Rattle.cheapest_tree.specs.Passes.{AreLeastBefore}
 use Rattle.cheapest_tree.proofs.PassesLemmas.{pass-ends}

@@ -1,5 +1,5 @@
 use Rattle.std.proofs.Common.{arith, length}
-use Rattle.cheapest_tree.specs.Pricers.{IsSlot}
+use Rattle.cheapest_tree.specs.Links.{IsSlot}
 use Rattle.cheapest_tree.proofs.LinksLemmas.{links-next}
 use Rattle.cheapest_tree.proofs.join.add.Goals as goal
 

@@ -1,5 +1,5 @@
 use Rattle.std.proofs.Common.{◌≤◌, ◌*◌, length}
-use Rattle.cheapest_tree.specs.Pricers.{AreLinks}
+use Rattle.cheapest_tree.specs.Links.{AreLinks}
 use Rattle.cheapest_tree.proofs.join.links_of.Given as goal
 
 abbrev pub invariant-loop-arc : goal.invariant-loop-arc
