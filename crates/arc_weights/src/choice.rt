@@ -1,4 +1,4 @@
-ghost use Rattle.std.specs.Prelude.{◌≡◌, ◌<◌, ◌≤◌, ◌%◌, ◌/◌, IfOk, MatchOption, length};
+ghost use Rattle.std.specs.Prelude.{◌≡◌, ◌<◌, ◌≤◌, ◌%◌, ◌/◌, IfOk, IfSome, MatchOption, length};
 ghost use Rattle.arc_weights.specs.Choices.{AreMultiples, IsPart, HaveFew, AreQuotients, IsLeft, IsFitted, IsChoice, HasNoChoice, IsAnswer};
 
 use crate::weighed::Weighed;
@@ -64,14 +64,43 @@ fn fitted(arc: u32, len: u8, low: u32, sum: u128, d: u128) -> Option<Candidate>
     })
 }
 
-// Returns the arc to split on and its sum rounded down.
-fn choose(graph: &Graph, arc_box: &ArcBox, sums: &[u128], d: u128) -> Option<(u32, u32)>
+// Returns an arc that is preferred and its sum rounded down, where it is one to choose.
+fn choose_preferred(
+    arc_box: &ArcBox,
+    preferred: Option<u32>,
+    sums: &[u128],
+    d: u128,
+) -> Option<(u32, u32)>
+    requires d { 1 ≤ d }
+    requires bounds { length arc_box.now.bounds ≡ length sums.now }
+    requires few { HaveFew d sums.now }
+    ensures { IfSome result (IsChoice arc_box.now.bounds d sums.now) }
+{
+    let arc = preferred?;
+    if arc as usize >= sums.len() {
+        return None;
+    }
+    let found = fitted(arc, 0, arc_box.low(arc), sums[arc as usize], d)?;
+    Some((found.arc, found.b))
+}
+
+// Returns the arc to split on and its sum rounded down: the preferred one where it is one to choose.
+fn choose(
+    graph: &Graph,
+    arc_box: &ArcBox,
+    preferred: Option<u32>,
+    sums: &[u128],
+    d: u128,
+) -> Option<(u32, u32)>
     requires d { 1 ≤ d }
     requires arcs { length sums.now ≡ length graph.now.arcs }
     requires bounds { length arc_box.now.bounds ≡ length graph.now.arcs }
     requires few { HaveFew d sums.now }
     ensures { MatchOption result (HasNoChoice arc_box.now.bounds d sums.now) (IsChoice arc_box.now.bounds d sums.now) }
 {
+    if let Some(choice) = choose_preferred(arc_box, preferred, sums, d) {
+        return Some(choice);
+    }
     let arcs = graph.arcs();
     let mut best: Option<Candidate> = None;
     for (place, sum) in sums.iter().enumerate() {
@@ -93,6 +122,7 @@ pub fn conclude(
     alloc: Global,
     graph: &Graph,
     arc_box: &ArcBox,
+    preferred: Option<u32>,
     sums: &[u128],
     d: u128,
 ) -> Result<Weighed, Memory>
@@ -106,7 +136,7 @@ pub fn conclude(
         let counts = quotients(alloc, sums, d)?;
         return Ok(Weighed::Whole(counts));
     }
-    match choose(graph, arc_box, sums, d) {
+    match choose(graph, arc_box, preferred, sums, d) {
         Some((arc, b)) => Ok(Weighed::Between { arc, b }),
         None => Ok(Weighed::Other),
     }

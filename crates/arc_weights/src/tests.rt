@@ -116,7 +116,16 @@ fn weigh_end(
     let NodeEnd::Best { weights, .. } = end else {
         return Err(Fail::from("no value"));
     };
-    let weighed = weigh(alloc, day, graph, &[], arc_box, pool, weights.as_slice())?;
+    let weighed = weigh(
+        alloc,
+        day,
+        graph,
+        &[],
+        arc_box,
+        pool,
+        weights.as_slice(),
+        None,
+    )?;
     Ok(weighed)
 }
 

@@ -31,8 +31,9 @@ pub enum Weighed {
 }
 
 /// Sums the weights of the trees at a node's solution by the trees' arcs. Of the arcs whose sum is a
-/// fraction the one with the greatest sum is answered; of those with the same sum rounded down, the one
-/// nearest to a half, and then the longest.
+/// fraction the one that is preferred is answered, whatever that is; where it is none of them, the one with
+/// the greatest sum; of those with the same sum rounded down, the one nearest to a half, and then the
+/// longest.
 pub fn weigh(
     alloc: Global,
     instance: &Instance,
@@ -41,6 +42,7 @@ pub fn weigh(
     arc_box: &ArcBox,
     pool: &Pool,
     weights: &[Weight],
+    preferred: Option<u32>,
 ) -> Result<Weighed, Memory>
     requires sound { IsSoundInstance instance.now }
     requires graph { IsGraph instance.now.grammar graph.now }
@@ -59,5 +61,5 @@ pub fn weigh(
         };
     };
     let sums = arc_sums(alloc, graph, pool, weights, d)?;
-    conclude(alloc, graph, arc_box, sums.as_slice(), d)
+    conclude(alloc, graph, arc_box, preferred, sums.as_slice(), d)
 }

@@ -9,6 +9,7 @@ ghost use Rattle.search_tree.specs.Trees.{IsPlan};
 ghost use Rattle.branch_price.specs.Steps.{IsShown};
 ghost use Rattle.branch_price.specs.Plans.{IsPlanAt};
 
+use crate::preferred::preferred_arc;
 use crate::rounded::offer_rounded;
 use arc_branch::ArcBox;
 use arc_weights::{Weighed, weigh};
@@ -65,7 +66,10 @@ pub(crate) fn plan_for(
     if limit(instance, best) <= value {
         return Ok(None);
     }
-    match weigh(alloc, instance, graph, cuts, arc_box, pool, weights)? {
+    let preferred = preferred_arc(alloc, instance, graph, cuts, arc_box, pool, weights, best)?;
+    match weigh(
+        alloc, instance, graph, cuts, arc_box, pool, weights, preferred,
+    )? {
         Weighed::Between { arc, b } => {
             offer_rounded(alloc, instance, weights, pool, rosters, best)?;
             Ok(Some(Plan { arc, b }))

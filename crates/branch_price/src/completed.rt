@@ -98,6 +98,7 @@ fn offer_dived(
         cuts,
         &mut desk.pricing.pricer,
         &desk.wanted,
+        limit(instance, best),
         pool,
     )?;
     if begun.is_empty() {

@@ -14,6 +14,7 @@ mod found;
 mod infeasible;
 mod leaf;
 mod pinned;
+mod preferred;
 mod progress;
 mod rounded;
 mod turn;

@@ -83,7 +83,8 @@ fn solve(
     Ok(run(program))
 }
 
-/// Takes a step: solves the program, and fixes trees by its weights. Says whether any was fixed.
+/// Takes a step: solves the program, and fixes trees by its weights. Says whether any was fixed; none is where
+/// the program's value comes near to a cost below which a roster is looked for.
 fn step(
     alloc: Global,
     instance: &Instance,
@@ -94,6 +95,7 @@ fn step(
     desk: &mut Desk,
     program: &mut Program,
     pool: &mut Pool,
+    cost: u64,
 ) -> Result<bool, Memory>
     requires sound { IsSoundInstance instance.now }
     requires graph { IsGraph instance.now.grammar graph.now }
@@ -117,6 +119,9 @@ fn step(
     )? {
         return Ok(false);
     }
+    if program.is_dear(cost) {
+        return Ok(false);
+    }
     let left = program.sum_up(graph, pool, &mut desk.arcs.sums) / ONE;
     fix_some(
         alloc, instance, graph, cuts, rows, pricer, desk, program, pool, left,
@@ -133,6 +138,7 @@ fn step_down(
     pricer: &mut Pricer,
     program: &mut Program,
     pool: &mut Pool,
+    cost: u64,
 ) -> Result<(), Memory>
     requires sound { IsSoundInstance instance.now }
     requires graph { IsGraph instance.now.grammar graph.now }
@@ -149,7 +155,7 @@ fn step_down(
     let mut desk = Desk::new(alloc, instance, graph, cuts, rows)?;
     for _ in 0..STEPS {
         if !step(
-            alloc, instance, graph, cuts, rows, pricer, &mut desk, program, pool,
+            alloc, instance, graph, cuts, rows, pricer, &mut desk, program, pool, cost,
         )? {
             return Ok(());
         }
@@ -181,7 +187,8 @@ fn begun_with(
 /// the trees of the pool that it fixed: the begin of a roster, or all of it.
 ///
 /// It solves the node's program in fixed point, fixes a few trees that its weights come near to, takes them
-/// off the program, and goes on so. Trees of the pool that are `begun` are listed in the program, beside the
+/// off the program, and goes on so, until its value shows that hardly a roster with them costs less than
+/// `cost`. Trees of the pool that are `begun` are listed in the program, beside the
 /// last ones of the pool: any list of numbers is lawful.
 ///
 /// # Errors
@@ -194,6 +201,7 @@ pub fn dive(
     cuts: &[Cut],
     pricer: &mut Pricer,
     begun: &[usize],
+    cost: u64,
     pool: &mut Pool,
 ) -> Result<List<usize>, Memory>
     requires sound { IsSoundInstance instance.now }
@@ -218,6 +226,7 @@ pub fn dive(
         pricer,
         &mut program,
         pool,
+        cost,
     )?;
     Ok(program.fixed)
 }

@@ -13,3 +13,4 @@ mod widest;
 mod widths;
 
 pub use diving::dive;
+pub use rows::{list_places, scout_of};

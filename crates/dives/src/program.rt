@@ -3,13 +3,16 @@ ghost use Rattle.master_rows.specs.NodeRows.{AreRows};
 ghost use Rattle.dives.specs.Parts.{IsProgram};
 
 use crate::rows::{list_places, scout_of, take_places};
-use crate::sums::{add, clear};
+use crate::sums::{ONE, add, clear};
 use master_rows::NodeRows;
 use parse_graph::Graph;
 use roster_model::{Cut, Instance, List, Memory};
 use scout::{Key, Scout};
 use std::alloc::Global;
 use tree_pool::Pool;
+
+/// How far a value may be from the right one, 2^-8 in units of 2^-32.
+const NEAR: i128 = 16_777_216;
 
 /// A node's program less the trees that are fixed.
 #[derive(Drop)]
@@ -22,6 +25,8 @@ pub(crate) struct Program {
     pub listed: List<usize>,
     /// The trees of the pool that are fixed.
     pub fixed: List<usize>,
+    /// What these cost.
+    cost: i128,
 }
 
 /// Returns a copy of numbers.
@@ -43,13 +48,14 @@ impl Program {
         requires rows { AreRows instance.now cuts.now rows.now }
         ensures { (n : ℕ) → IfOk result (IsProgram n) }
     {
-        let scout = scout_of(alloc, instance, cuts, rows)?;
+        let scout = scout_of(alloc, instance, cuts, rows, 0)?;
         let sides = copy_of(alloc, rows.right())?;
         Ok(Program {
             scout,
             sides,
             listed: List::new(alloc),
             fixed: List::new(alloc),
+            cost: 0,
         })
     }
 
@@ -128,8 +134,18 @@ impl Program {
     {
         let places = rows.places_of(alloc, cuts, pool, column)?;
         self.fixed.push(column)?;
+        self.cost = self.cost.saturating_add(i128::from(pool.cost(column)));
         take_places(&mut self.scout, places.as_slice(), &mut self.sides);
         Ok(())
+    }
+
+    /// Says whether the program's value, with what the fixed trees cost, is above this less 1, so that hardly
+    /// a roster with these trees costs less.
+    pub fn is_dear(&self, cost: u64) -> bool {
+        let fixed = self.cost.saturating_mul(i128::from(ONE));
+        let value = self.scout.value().saturating_add(fixed);
+        let most = i128::from(cost).saturating_sub(1);
+        value > most.saturating_mul(i128::from(ONE)).saturating_add(NEAR)
     }
 
     /// Returns the tree of the pool in the scout's basis at a place, if there is one.

@@ -33,23 +33,39 @@ fn set_costs(
     }
 }
 
-/// Returns a scout with these rows and without trees, started for dual steps.
-pub(crate) fn scout_of(
+/// Returns the right sides of rows, and 0 for so many behind them.
+fn sides_of(alloc: Global, rows: &NodeRows, empty: usize) -> Result<Vec<i64>, Memory> {
+    let Ok(mut sides) = Vec::from_slice(alloc, rows.right()) else {
+        return Err(Memory);
+    };
+    for _ in 0..empty {
+        if sides.push(0).is_err() {
+            return Err(Memory);
+        }
+    }
+    Ok(sides)
+}
+
+/// Returns a scout with the rows of a node's master, with so many rows without entries behind them, and
+/// without trees and a basis.
+pub fn scout_of(
     alloc: Global,
     instance: &Instance,
     cuts: &[Cut],
     rows: &NodeRows,
+    empty: usize,
 ) -> Result<Scout, Memory>
     requires rows { AreRows instance.now cuts.now rows.now }
 {
-    let count = rows.right().len();
+    let sides = sides_of(alloc, rows, empty)?;
+    let count = sides.len();
     let Ok(mut missing) = vec![in alloc; 0i64; count] else {
         return Err(Memory);
     };
     let Ok(mut beyond) = vec![in alloc; None; count] else {
         return Err(Memory);
     };
-    for row in 0..count {
+    for row in 0..rows.right().len() {
         set_costs(
             instance,
             cuts,
@@ -59,11 +75,16 @@ pub(crate) fn scout_of(
             beyond.as_mut_slice(),
         );
     }
-    Scout::new(alloc, rows.right(), missing.as_slice(), beyond.as_slice())
+    Scout::new(
+        alloc,
+        sides.as_slice(),
+        missing.as_slice(),
+        beyond.as_slice(),
+    )
 }
 
-/// Lists a column in a scout.
-pub(crate) fn list_places(scout: &mut Scout, cost: i64, places: &[Place]) -> Result<(), Memory> {
+/// Lists a column in a scout, with its entries in the order of the rows.
+pub fn list_places(scout: &mut Scout, cost: i64, places: &[Place]) -> Result<(), Memory> {
     let _number = scout.add_column(cost)?;
     for place in places {
         let sign = if place.value < 0 {

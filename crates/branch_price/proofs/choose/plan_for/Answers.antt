@@ -1,4 +1,8 @@
-use Rattle.std.proofs.Common.{ℕ, ◌<◌, List, ◌++◌, sym, subst}
+use Rattle.std.proofs.Common.{ℕ, ◌<◌, List, ◌++◌, arith, sym, subst}
+use Rattle.roster_model.specs.declared.instance.Cut.{Cut}
+use Rattle.master_laws.specs.Laws.{IsBelowHeads}
+use Rattle.master_rows.specs.NodeRows.{IsSmallCut}
+use Rattle.arc_laws.proofs.Folding.{Each-same}
 use Rattle.arc_weights.specs.Weighed.{IsWeighed, AreWhole}
 use Rattle.arc_weights.specs.declared.weighed.Weighed.{Weighed}
 use Rattle.offers.specs.Offers.{CanBeTrees, limit_of}
@@ -6,6 +10,11 @@ use Rattle.branch_price.proofs.Processed.{loose-within}
 use Rattle.branch_price.proofs.Settled.{shown-within}
 use Rattle.branch_price.proofs.Planned.{between-plan, least-plan, whole-trees, whole-reach, artificial-plan}
 use Rattle.branch_price.proofs.choose.plan_for.Goals as goal
+
+pub preferred_arc-requires-clause-cuts : goal.preferred_arc-requires-clause-cuts
+preferred_arc-requires-clause-cuts c =
+    let few = c.requires.sound.few in
+    Each-same (IsBelowHeads c.args.instance.now) IsSmallCut c.args.cuts.now (λ (k : Cut) h. omega (arith, h, few)) c.requires.shown.below
 
 pub offer_rounded-requires-clause-weights : goal.offer_rounded-requires-clause-weights
 offer_rounded-requires-clause-weights c = shown-within c.args.instance.now c.args.cuts.now c.args.pool.now c.args.weights.now c.args.value c.requires.shown

@@ -1,0 +1,68 @@
+ghost use Rattle.std.specs.Prelude.{◌≡◌, ◌≤◌, length};
+ghost use Rattle.roster_model.specs.Folds.{Each};
+ghost use Rattle.roster_model.specs.SoundInstance.{IsSoundInstance};
+ghost use Rattle.master_laws.specs.Rows.{rows_of};
+ghost use Rattle.master_rows.specs.NodeRows.{IsSmallCut};
+
+use arc_branch::ArcBox;
+use candidate_rosters::Roster;
+use fraction::Frac;
+use node_master::{Pool, Weight};
+use offers::limit;
+use parse_graph::Graph;
+use roster_model::{Cut, Instance, List, Memory};
+use split_probes::{Share, best_arc};
+use std::alloc::Global;
+
+/// The weight 1 of a share.
+const ONE: i128 = 4_294_967_296;
+
+/// The greatest weight.
+const MOST: i128 = 64 * ONE;
+
+/// Returns a weight in units of 2^-32.
+fn in_units(x: Frac) -> i64 {
+    (x.num().saturating_mul(ONE) / x.den()).clamp(0, MOST) as i64
+}
+
+/// Returns the weights as shares.
+fn shares_of(alloc: Global, weights: &[Weight]) -> Result<List<Share>, Memory> {
+    let mut shares = List::new(alloc);
+    for weight in weights {
+        shares.push(Share {
+            column: weight.column,
+            weight: in_units(weight.x),
+        })?;
+    }
+    Ok(shares)
+}
+
+/// Returns an arc on which a node may be split well, from the weights of the trees at its solution, where no
+/// roster that costs as much as the best one is looked for. It is a hint.
+pub(crate) fn preferred_arc(
+    alloc: Global,
+    instance: &Instance,
+    graph: &Graph,
+    cuts: &[Cut],
+    arc_box: &ArcBox,
+    pool: &Pool,
+    weights: &[Weight],
+    best: &Option<Roster>,
+) -> Result<Option<u32>, Memory>
+    requires sound { IsSoundInstance instance.now }
+    requires cuts { Each IsSmallCut cuts.now }
+    requires small { length (rows_of instance.now cuts.now) ≤ 1500 }
+    requires bounds { length arc_box.now.bounds ≡ length graph.now.arcs }
+{
+    let shares = shares_of(alloc, weights)?;
+    best_arc(
+        alloc,
+        instance,
+        graph,
+        cuts,
+        arc_box,
+        pool,
+        shares.as_slice(),
+        limit(instance, best),
+    )
+}

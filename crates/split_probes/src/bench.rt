@@ -1,0 +1,165 @@
+ghost use Rattle.std.specs.Prelude.{◌≤◌, length};
+ghost use Rattle.roster_model.specs.Folds.{Each};
+ghost use Rattle.roster_model.specs.SoundInstance.{IsSoundInstance};
+ghost use Rattle.master_laws.specs.Rows.{rows_of};
+ghost use Rattle.master_rows.specs.NodeRows.{IsSmallCut};
+
+use crate::shares::Share;
+use dives::{list_places, scout_of};
+use master_rows::NodeRows;
+use roster_model::{ArcKey, Cut, Instance, List, Memory};
+use scout::{LastRow, Limits, Scout, Scouted};
+use std::alloc::Global;
+use tree_pool::Pool;
+
+/// How many of the pool's last trees are listed for each row.
+const LISTED: usize = 3;
+
+/// The steps that solve a node's program.
+const SOLVE: Limits = Limits {
+    dual: 3_000,
+    primal: 3_000,
+};
+
+/// The steps that try a cut.
+const TRY: Limits = Limits {
+    dual: 20,
+    primal: 0,
+};
+
+/// A node's program in fixed point, and room to try cuts.
+#[derive(Drop)]
+pub(crate) struct Bench {
+    /// The program, whose last row has no entries.
+    base: Scout,
+    /// A copy in which that row is a cut.
+    copy: Scout,
+    /// The trees of the pool that are listed.
+    listed: List<usize>,
+    /// Which of these the cut counts.
+    flags: Vec<bool>,
+    /// The program's value, in units of 2^-32.
+    value: i128,
+    /// The most that a cut is told to add to it.
+    most: i128,
+}
+
+/// Lists a tree of the pool, if it is one.
+fn list_tree(
+    alloc: Global,
+    cuts: &[Cut],
+    rows: &NodeRows,
+    pool: &Pool,
+    column: usize,
+    scout: &mut Scout,
+    listed: &mut List<usize>,
+) -> Result<(), Memory> {
+    if column >= pool.len() {
+        return Ok(());
+    }
+    let places = rows.places_of(alloc, cuts, pool, column)?;
+    listed.push(column)?;
+    list_places(scout, i64::from(pool.cost(column)), places.as_slice())
+}
+
+/// Lists the trees with weight, and the pool's last ones.
+fn list_trees(
+    alloc: Global,
+    cuts: &[Cut],
+    rows: &NodeRows,
+    pool: &Pool,
+    shares: &[Share],
+    scout: &mut Scout,
+    listed: &mut List<usize>,
+) -> Result<(), Memory> {
+    for share in shares {
+        list_tree(alloc, cuts, rows, pool, share.column, scout, listed)?;
+    }
+    let last = rows.right().len().saturating_mul(LISTED);
+    for column in pool.len().saturating_sub(last)..pool.len() {
+        list_tree(alloc, cuts, rows, pool, column, scout, listed)?;
+    }
+    Ok(())
+}
+
+/// Solves a program, and says whether its value is one.
+fn solve(scout: &mut Scout) -> bool {
+    scout.start_beyond().is_ok() && scout.run(SOLVE) == Scouted::Optimal
+}
+
+/// Returns so many flags that are not set.
+fn flags_of(alloc: Global, count: usize) -> Result<Vec<bool>, Memory> {
+    match vec![in alloc; false; count] {
+        Ok(flags) => Ok(flags),
+        Err(_) => Err(Memory),
+    }
+}
+
+impl Bench {
+    /// Returns the program of a node, solved; `None` where it was not. No value from `limit` on is of use.
+    pub fn new(
+        alloc: Global,
+        instance: &Instance,
+        cuts: &[Cut],
+        pool: &Pool,
+        shares: &[Share],
+        limit: i128,
+    ) -> Result<Option<Bench>, Memory>
+        requires sound { IsSoundInstance instance.now }
+        requires cuts { Each IsSmallCut cuts.now }
+        requires small { length (rows_of instance.now cuts.now) ≤ 1500 }
+    {
+        let rows = NodeRows::new(alloc, instance, cuts)?;
+        let mut base = scout_of(alloc, instance, cuts, &rows, 1)?;
+        let mut listed = List::new(alloc);
+        list_trees(alloc, cuts, &rows, pool, shares, &mut base, &mut listed)?;
+        if !solve(&mut base) {
+            return Ok(None);
+        }
+        let copy = scout_of(alloc, instance, cuts, &rows, 1)?;
+        let flags = flags_of(alloc, listed.len())?;
+        let value = base.value();
+        Ok(Some(Bench {
+            base,
+            copy,
+            listed,
+            flags,
+            value,
+            most: limit.saturating_sub(value).max(0),
+        }))
+    }
+
+    /// Notes which of the listed trees have an arc.
+    pub fn note(&mut self, pool: &Pool, arc: &ArcKey) {
+        for (flag, column) in self.flags.iter_mut().zip(self.listed.as_slice()) {
+            *flag = *column < pool.len() && pool.has_arc(*column, arc);
+        }
+    }
+
+    /// Returns the most that a cut is told to add to the value.
+    pub fn most(&self) -> i128 {
+        self.most
+    }
+
+    /// Returns what a cut on the trees that were noted adds to the value.
+    pub fn gain(&mut self, cut: LastRow) -> Result<i128, Memory> {
+        if self.copy.rows() != self.base.rows() {
+            return Ok(0);
+        }
+        let begun = self.copy.copy_with_row(&self.base, cut, &self.flags)?;
+        if begun.is_err() {
+            return Ok(0);
+        }
+        match self.copy.run(TRY) {
+            Scouted::Stuck => Ok(self.most),
+            Scouted::Grew => Ok(0),
+            _ => Ok(
+                self.copy
+                    .value()
+                    .saturating_sub(self.value)
+                    .max(0)
+                    .min(self.most),
+            ),
+        }
+    }
+}

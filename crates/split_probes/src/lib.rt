@@ -1,0 +1,12 @@
+//! A choice among the splits of a node: the cuts of each are tried in fixed point, and an arc is named whose
+//! two halves both cost much.
+#![tactic(auto)]
+
+mod bench;
+mod candidates;
+mod probing;
+mod shares;
+mod sums;
+
+pub use probing::best_arc;
+pub use shares::Share;
