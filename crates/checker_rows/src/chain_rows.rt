@@ -1,7 +1,11 @@
+ghost use Rattle.std.specs.Prelude.{◌≤◌};
+ghost use Rattle.roster_model.specs.SoundInstance.{IsSoundInstance};
+
+use crate::days::sound_day;
 use certificates::{Cert, Node, is_sound_cert};
-use roster_model::{ArcKey, Instance, List, Memory, is_sound_instance};
-use sample_days::{ANY, DayParts, WORK, day};
-use std::alloc::{AllocError, Global};
+use roster_model::{ArcKey, Instance, List, Memory};
+use sample_days::{ANY, DayParts, RuleParts, WORK};
+use std::alloc::Global;
 use std::test::Fail;
 
 const ARC: ArcKey = ArcKey {
@@ -12,50 +16,69 @@ const ARC: ArcKey = ArcKey {
     part: 1,
 };
 
-/// A day of one period for one employee, without demands.
-fn one_period(alloc: Global) -> Result<Instance, Memory> {
-    let parts = DayParts {
-        periods: 1,
-        names: &["S"],
-        rules: &[(0, 0, &[WORK], ANY)],
-        start: 0,
-        heads: (0, 1),
-        groups: &[],
-        cells: &[],
-    };
-    day(alloc, &parts)
-}
+const RULES: [RuleParts<'static>; 1] = [(0, 0, &[WORK], ANY)];
 
-/// Splits of which each is the half of few trees of the one before, and bare leaves behind them.
-fn chain(alloc: Global, splits: usize, leaves: usize) -> Result<Cert, AllocError> {
-    let mut nodes = Vec::new(alloc);
-    for _ in 0..splits {
+/// A day of one period for one employee, without demands.
+const ONE_PERIOD: DayParts<'static> = DayParts {
+    periods: 1,
+    names: &["S"],
+    rules: &RULES,
+    start: 0,
+    heads: (0, 1),
+    groups: &[],
+    cells: &[],
+};
+
+fn push_splits(nodes: &mut List<Node>, count: usize) -> Result<(), Memory> {
+    for _ in 0..count {
         nodes.push(Node::Split {
             arc: ARC,
             b: 0,
             prices: None,
         })?;
     }
-    for _ in 0..leaves {
+    Ok(())
+}
+
+fn push_leaves(nodes: &mut List<Node>, count: usize) -> Result<(), Memory> {
+    for _ in 0..count {
         nodes.push(Node::Bare)?;
     }
+    Ok(())
+}
+
+/// Splits of which each is the half of few trees of the one before, and bare leaves behind them.
+fn chain(alloc: Global, splits: usize, leaves: usize) -> Result<Cert, Memory> {
+    let mut nodes = List::new(alloc);
+    push_splits(&mut nodes, splits)?;
+    push_leaves(&mut nodes, leaves)?;
     Ok(Cert {
         shifts: List::new(alloc),
         cost: None,
         bound: Some(0),
-        nodes: List::from_vec(nodes),
+        nodes,
     })
 }
 
-fn is_sound(day: &Instance, cert: &Cert) -> bool {
-    is_sound_instance(day) && is_sound_cert(day, cert)
+/// Whether the chain is sound for a sound day.
+fn is_sound(alloc: Global, day: &Instance, splits: usize, leaves: usize) -> Result<bool, Memory>
+    requires { IsSoundInstance day.now }
+{
+    let cert = chain(alloc, splits, leaves)?;
+    Ok(is_sound_cert(day, &cert))
+}
+
+/// Whether the splits are sound with one leaf more, and not with as many.
+fn are_chains(alloc: Global, day: &Instance, splits: usize) -> Result<bool, Memory>
+    requires day { IsSoundInstance day.now }
+    requires few { splits ≤ 10000 }
+{
+    Ok(is_sound(alloc, day, splits, splits + 1)? && !is_sound(alloc, day, splits, splits)?)
 }
 
 #[test]
 fn a_chain_of_ten_thousand_splits(rt: HostRuntime) -> Result<(), Fail> {
-    let alloc = rt.alloc();
-    let day = one_period(alloc)?;
-    assert!(rt; is_sound(&day, &chain(alloc, 10_000, 10_001)?));
-    assert!(rt; !is_sound(&day, &chain(alloc, 10_000, 10_000)?));
+    let day = sound_day(rt.alloc(), &ONE_PERIOD)?;
+    assert!(rt; are_chains(rt.alloc(), &day, 10_000)?);
     Ok(())
 }

@@ -4,6 +4,8 @@
 #[cfg(test)]
 mod chain_rows;
 #[cfg(test)]
+mod days;
+#[cfg(test)]
 mod pinned_rows;
 #[cfg(test)]
 mod priced_rows;

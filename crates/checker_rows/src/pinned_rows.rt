@@ -1,44 +1,14 @@
+ghost use Rattle.std.specs.Prelude.{◌≤◌, All, IsTrue};
+ghost use Rattle.roster_model.specs.SoundInstance.{IsSoundInstance};
+ghost use Rattle.span_arcs.specs.DayArcs.{IsDayArcsOf};
+
+use crate::days::{BLOCK_DAY, EXACT_DAY, FLOOR_DAY, PAIR_DAY, sound_day};
 use pinned_part::{Balances, first_loose, high, low, pinned_value};
-use roster_model::{ArcKey, Cell, Cut, Grammar, Instance, List, Side, is_sound_instance};
-use sample_days::{BLOCK_NAMES, BLOCKS, PAIRS, grammar};
+use roster_model::{ArcKey, Cut, Instance, Side};
+use sample_days::DayParts;
 use span_arcs::DayArcs;
 use std::alloc::{AllocError, Global};
 use std::test::Fail;
-
-/// What a day asks of the work code: the range of the heads, and of each period the need, the floor
-/// and the ceiling. A missing employee costs 10, and a further one `over`.
-#[derive(Clone, Copy)]
-struct Asked<'a> {
-    heads: (u32, u32),
-    over: u32,
-    periods: &'a [(u32, u32, u32)],
-}
-
-fn instance(alloc: Global, grammar: Grammar, asked: Asked) -> Result<Instance, AllocError> {
-    let mut cells = Vec::new(alloc);
-    let mut period = 0;
-    for (need, floor, ceiling) in asked.periods {
-        if period < 96 {
-            period += 1;
-        }
-        cells.push(Cell {
-            code: 0,
-            period,
-            need: *need,
-            under: 10,
-            over: asked.over,
-            floor: *floor,
-            ceiling: *ceiling,
-        })?;
-    }
-    Ok(Instance {
-        grammar,
-        heads_min: asked.heads.0,
-        heads_max: asked.heads.1,
-        groups: List::new(alloc),
-        cells: List::from_vec(cells),
-    })
-}
 
 /// The numbers of an arc.
 type ArcNumbers = (u8, u8, u8, u8, u8);
@@ -70,44 +40,56 @@ fn pinned(alloc: Global, arcs: &[ArcNumbers], counts: &[u32]) -> Result<Vec<Cut>
     Ok(cuts)
 }
 
-/// The pinned value and the first loose arc.
-fn judged(
-    rt: &HostRuntime,
-    instance: &Instance,
-    cuts: &[Cut],
-) -> Result<(u64, Option<ArcKey>), Fail> {
-    if !is_sound_instance(instance) {
-        return Err(Fail::from("no sound instance"));
-    }
-    if !cuts.iter().all(|cut| cut.b <= 63) {
-        return Err(Fail::from("a wide cut"));
-    }
-    let arcs = DayArcs::for_instance(rt.alloc(), &instance.grammar)?;
-    let mut balances = Balances::for_instance(rt.alloc(), &instance.grammar)?;
-    let value = pinned_value(instance, cuts, &arcs, &mut balances);
-    let loose = first_loose(instance, cuts, &arcs);
-    Ok((value, loose))
+fn are_small(cuts: &[Cut]) -> bool
+    ensures { IsTrue result → All (λ c. c.b ≤ 63) cuts.now }
+{
+    cuts.iter().all(|cut| cut.b <= 63)
 }
 
-const ONE_EACH: Asked = Asked {
-    heads: (0, 3),
-    over: 0,
-    periods: &[(1, 0, 64), (1, 0, 64), (1, 0, 64)],
-};
+/// A pinned value and a first loose arc.
+type Judged = (u64, Option<ArcKey>);
 
-const TWO_HEADS: Asked = Asked {
+fn judged_by(alloc: Global, day: &Instance, arcs: &DayArcs, cuts: &[Cut]) -> Result<Judged, Fail>
+    requires day { IsSoundInstance day.now }
+    requires arcs { IsDayArcsOf day.now.grammar arcs.now }
+    requires cuts { All (λ c. c.b ≤ 63) cuts.now }
+{
+    let mut balances = Balances::for_instance(alloc, &day.grammar)?;
+    let value = pinned_value(day, cuts, arcs, &mut balances);
+    Ok((value, first_loose(day, cuts, arcs)))
+}
+
+fn judged_on(alloc: Global, day: &Instance, cuts: &[Cut]) -> Result<Judged, Fail>
+    requires day { IsSoundInstance day.now }
+    requires cuts { All (λ c. c.b ≤ 63) cuts.now }
+{
+    let arcs = DayArcs::for_instance(alloc, &day.grammar)?;
+    judged_by(alloc, day, &arcs, cuts)
+}
+
+/// The pinned value and the first loose arc at these cuts of a day.
+fn judged(alloc: Global, parts: &DayParts, cuts: &[Cut]) -> Result<Judged, Fail> {
+    if !are_small(cuts) {
+        return Err(Fail::from("a wide cut"));
+    }
+    let day = sound_day(alloc, parts)?;
+    judged_on(alloc, &day, cuts)
+}
+
+/// The same where each of these arcs has its count.
+fn judged_at(
+    alloc: Global,
+    parts: &DayParts,
+    arcs: &[ArcNumbers],
+    counts: &[u32],
+) -> Result<Judged, Fail> {
+    let cuts = pinned(alloc, arcs, counts)?;
+    judged(alloc, parts, cuts.as_slice())
+}
+
+const TWO_HEADS: DayParts<'static> = DayParts {
     heads: (2, 3),
-    ..ONE_EACH
-};
-
-const FLOORS: Asked = Asked {
-    periods: &[(1, 1, 64), (1, 1, 64), (1, 1, 64)],
-    ..ONE_EACH
-};
-
-const CEILINGS: Asked = Asked {
-    periods: &[(1, 1, 1), (1, 1, 1), (1, 1, 1)],
-    ..ONE_EACH
+    ..PAIR_DAY
 };
 
 /// The arcs of the three rules, two of each.
@@ -120,31 +102,42 @@ const SIX: [ArcNumbers; 6] = [
     (3, 1, 2, 2, 1),
 ];
 
-/// Counts of the six arcs, and the pinned value.
-const CASES: [(Asked, [u32; 6], u64); 12] = [
-    (ONE_EACH, [0, 0, 0, 0, 0, 0], 30),
-    (ONE_EACH, [1, 1, 0, 0, 0, 0], 12),
-    (ONE_EACH, [1, 0, 0, 0, 0, 0], 61),
-    (ONE_EACH, [0, 1, 0, 0, 0, 0], 61),
-    (ONE_EACH, [1, 1, 1, 1, 0, 0], 4),
-    (ONE_EACH, [2, 2, 2, 2, 0, 0], 61),
+/// A day, counts of the six arcs, and the pinned value.
+type Case<'a> = (DayParts<'a>, [u32; 6], u64);
+
+const CASES: [Case<'static>; 12] = [
+    (PAIR_DAY, [0, 0, 0, 0, 0, 0], 30),
+    (PAIR_DAY, [1, 1, 0, 0, 0, 0], 12),
+    (PAIR_DAY, [1, 0, 0, 0, 0, 0], 61),
+    (PAIR_DAY, [0, 1, 0, 0, 0, 0], 61),
+    (PAIR_DAY, [1, 1, 1, 1, 0, 0], 4),
+    (PAIR_DAY, [2, 2, 2, 2, 0, 0], 61),
     (TWO_HEADS, [1, 1, 0, 0, 0, 0], 61),
     (TWO_HEADS, [1, 1, 1, 1, 0, 0], 4),
-    (FLOORS, [1, 1, 0, 0, 0, 0], 61),
-    (FLOORS, [1, 1, 1, 1, 0, 0], 4),
-    (CEILINGS, [1, 1, 1, 1, 0, 0], 61),
-    (CEILINGS, [0, 0, 0, 0, 0, 0], 61),
+    (FLOOR_DAY, [1, 1, 0, 0, 0, 0], 61),
+    (FLOOR_DAY, [1, 1, 1, 1, 0, 0], 4),
+    (EXACT_DAY, [1, 1, 1, 1, 0, 0], 61),
+    (EXACT_DAY, [0, 0, 0, 0, 0, 0], 61),
 ];
+
+/// Whether the pinned value of a row is right, and no arc is loose.
+fn is_pinned_at(alloc: Global, case: &Case<'_>) -> Result<bool, Fail> {
+    let (parts, counts, value) = case;
+    Ok(judged_at(alloc, parts, &SIX, counts)? == (*value, None))
+}
+
+fn are_pinned(alloc: Global, cases: &[Case<'_>]) -> Result<bool, Fail> {
+    for case in cases {
+        if !is_pinned_at(alloc, case)? {
+            return Ok(false);
+        }
+    }
+    Ok(true)
+}
 
 #[test]
 fn two_periods_of_three(rt: HostRuntime) -> Result<(), Fail> {
-    for (asked, counts, value) in &CASES {
-        let rules = grammar(rt.alloc(), 3, &["S"], &PAIRS, 0)?;
-        let day = instance(rt.alloc(), rules, *asked)?;
-        let cuts = pinned(rt.alloc(), &SIX, counts)?;
-        let found = judged(&rt, &day, cuts.as_slice())?;
-        assert!(rt; found == (*value, None), "at {counts:?}");
-    }
+    assert!(rt; are_pinned(rt.alloc(), &CASES)?);
     Ok(())
 }
 
@@ -169,12 +162,15 @@ const AT_LEAST_THREE: Cut = Cut {
     b: 2,
 };
 
+/// Whether the value and the first loose arc at these cuts of pairs are these.
+fn is_loose_at(alloc: Global, cuts: &[Cut], value: u64, arc: &ArcKey) -> Result<bool, Fail> {
+    Ok(judged(alloc, &PAIR_DAY, cuts)? == (value, Some(*arc)))
+}
+
 #[test]
 fn the_first_loose_arc(rt: HostRuntime) -> Result<(), Fail> {
-    let rules = grammar(rt.alloc(), 3, &["S"], &PAIRS, 0)?;
-    let day = instance(rt.alloc(), rules, ONE_EACH)?;
-    assert!(rt; judged(&rt, &day, &[])? == (30, Some(FIRST)));
-    assert!(rt; judged(&rt, &day, &[AT_LEAST_THREE])? == (61, Some(SECOND)));
+    assert!(rt; is_loose_at(rt.alloc(), &[], 30, &FIRST)?);
+    assert!(rt; is_loose_at(rt.alloc(), &[AT_LEAST_THREE], 61, &SECOND)?);
     Ok(())
 }
 
@@ -193,14 +189,18 @@ const PATH: [Cut; 3] = [
     },
 ];
 
+/// Whether the bounds of the two arcs are 2 and 2, and 0 and 3.
+fn are_bounds(cuts: &[Cut]) -> bool {
+    are_small(cuts)
+        && low(cuts, &FIRST) == 2
+        && high(3, cuts, &FIRST) == 2
+        && low(cuts, &SECOND) == 0
+        && high(3, cuts, &SECOND) == 3
+}
+
 #[test]
 fn bounds_of_a_path(rt: HostRuntime) {
-    let cuts = PATH.as_slice();
-    assert!(rt; cuts.iter().all(|cut| cut.b <= 63));
-    assert_eq!(rt; low(cuts, &FIRST), 2);
-    assert_eq!(rt; high(3, cuts, &FIRST), 2);
-    assert_eq!(rt; low(cuts, &SECOND), 0);
-    assert_eq!(rt; high(3, cuts, &SECOND), 3);
+    assert!(rt; are_bounds(&PATH));
 }
 
 /// The arcs of rest, two periods of work, rest.
@@ -214,22 +214,18 @@ const SEVEN: [ArcNumbers; 7] = [
     (8, 0, 4, 1, 1),
 ];
 
-const FOUR: Asked = Asked {
-    heads: (0, 2),
-    over: 3,
-    periods: &[(1, 0, 64), (2, 0, 64), (2, 0, 64), (1, 0, 64)],
-};
+/// Counts of the seven arcs, and the pinned value. Other arcs are loose.
+const BLOCK_CASES: [([u32; 7], u64); 3] = [
+    ([1, 1, 1, 1, 1, 1, 1], 44),
+    ([2, 2, 2, 2, 2, 2, 2], 28),
+    // The name of the run of two periods is used, and not made.
+    ([2, 2, 2, 2, 0, 2, 2], 173),
+];
 
 #[test]
 fn two_shifts_of_one_block(rt: HostRuntime) -> Result<(), Fail> {
-    let rules = grammar(rt.alloc(), 4, &BLOCK_NAMES, &BLOCKS, 0)?;
-    let day = instance(rt.alloc(), rules, FOUR)?;
-    let one = pinned(rt.alloc(), &SEVEN, &[1, 1, 1, 1, 1, 1, 1])?;
-    let two = pinned(rt.alloc(), &SEVEN, &[2, 2, 2, 2, 2, 2, 2])?;
-    // The name of the run of two periods is used, and not made.
-    let broken = pinned(rt.alloc(), &SEVEN, &[2, 2, 2, 2, 0, 2, 2])?;
-    assert_eq!(rt; judged(&rt, &day, one.as_slice())?.0, 44);
-    assert_eq!(rt; judged(&rt, &day, two.as_slice())?.0, 28);
-    assert_eq!(rt; judged(&rt, &day, broken.as_slice())?.0, 173);
+    for (counts, value) in BLOCK_CASES.as_slice() {
+        assert!(rt; judged_at(rt.alloc(), &BLOCK_DAY, &SEVEN, counts)?.0 == *value);
+    }
     Ok(())
 }

@@ -1,16 +1,18 @@
-ghost use Rattle.std.specs.Prelude.{◌≤◌, ◌^◌, All, IsTrue, length};
+ghost use Rattle.std.specs.Prelude.{◌≡◌, ◌≤◌, ◌^◌, All, IsTrue, length};
 ghost use Rattle.roster_model.specs.PriceLimits.{FitPrices, IsMult, AreRising};
+ghost use Rattle.roster_model.specs.PriceRooms.{IsRoomFor};
 ghost use Rattle.roster_model.specs.SoundInstance.{IsSoundInstance};
 ghost use Rattle.roster_model.specs.Sums.{Within};
+ghost use Rattle.span_table.specs.Tables.{IsMadeFor};
 
-use priced_part::priced_value;
-use roster_model::{
-    ArcKey, Cell, Cut, Group, Instance, Mult, PriceRoom, Side, Window, is_sound_instance,
+use crate::days::{
+    BLOCK_DAY, EXACT_DAY, FREE_DAY, FULL, GROUP_DAY, HALF, ONE_DAY, PAIR_DAY, sound_day,
 };
-use sample_days::{BLOCK_NAMES, BLOCKS, CELL, DayParts, PAIRS, SPLIT_DAYS, WORK, day};
+use priced_part::priced_value;
+use roster_model::{ArcKey, Cell, Cut, Group, Instance, Mult, PriceRoom, Side, Sym, Window};
+use sample_days::{ANY, CELL, DayParts, REST, RuleParts, WORK};
 use span_table::Table;
 use std::alloc::Global;
-use std::process::Abort;
 use std::test::Fail;
 
 /// Prices at a list of cuts, and the value that they show.
@@ -83,312 +85,303 @@ fn are_in_range(day: &Instance, case: &Case<'_>) -> bool
         && case.cuts.iter().all(|cut| cut.b <= 63)
 }
 
-/// Shows each case's prices in one room and one table.
-fn show(rt: &impl Abort, alloc: Global, parts: &DayParts, cases: &[Case]) -> Result<(), Fail> {
-    let day = day(alloc, parts)?;
-    assert!(rt; is_sound_instance(&day));
-    let mut room = PriceRoom::for_cuts(alloc, &day, 1)?;
-    let mut table = Table::for_instance(alloc, &day.grammar)?;
+/// Whether the prices of a case, which are in range, show what they are to.
+fn is_shown(day: &Instance, case: &Case<'_>, room: &mut PriceRoom, table: &mut Table) -> bool
+    requires day { IsSoundInstance day.now }
+    requires room { IsRoomFor room.old day.now }
+    requires most { room.old.most ≡ 1 }
+    requires made { IsMadeFor day.now.grammar table.old }
+    ensures room { IsRoomFor room.new day.now }
+    ensures most { room.new.most ≡ 1 }
+    ensures made { IsMadeFor day.now.grammar table.new }
+{
+    if !are_in_range(day, case) {
+        return false;
+    }
+    let shown = priced_value(day, case.d, case.cell, case.mult, case.cuts, room, table);
+    shown == case.shown
+}
+
+fn show_in(
+    day: &Instance,
+    cases: &[Case<'_>],
+    room: &mut PriceRoom,
+    table: &mut Table,
+) -> Result<(), Fail>
+    requires day { IsSoundInstance day.now }
+    requires room { IsRoomFor room.old day.now }
+    requires most { room.old.most ≡ 1 }
+    requires made { IsMadeFor day.now.grammar table.old }
+{
     for case in cases {
-        assert!(rt; are_in_range(&day, case), "{}", case.what);
-        let shown = priced_value(
-            &day, case.d, case.cell, case.mult, case.cuts, &mut room, &mut table,
-        );
-        assert_eq!(rt; shown, case.shown, "{}", case.what);
+        if !is_shown(day, case, room, table) {
+            return Err(Fail::from(case.what));
+        }
+    }
+    Ok(())
+}
+
+fn show_by(alloc: Global, day: &Instance, cases: &[Case<'_>], table: &mut Table) -> Result<(), Fail>
+    requires day { IsSoundInstance day.now }
+    requires made { IsMadeFor day.now.grammar table.old }
+{
+    let mut room = PriceRoom::for_cuts(alloc, day, 1)?;
+    show_in(day, cases, &mut room, table)
+}
+
+fn show_on(alloc: Global, day: &Instance, cases: &[Case<'_>]) -> Result<(), Fail>
+    requires { IsSoundInstance day.now }
+{
+    let mut table = Table::for_instance(alloc, &day.grammar)?;
+    show_by(alloc, day, cases, &mut table)
+}
+
+/// Shows each case's prices in one room and one table.
+fn show(alloc: Global, parts: &DayParts, cases: &[Case<'_>]) -> Result<(), Fail> {
+    let day = sound_day(alloc, parts)?;
+    show_on(alloc, &day, cases)
+}
+
+const BLOCK_CASES: [Case<'static>; 1] = [Case {
+    what: "the trees bring nothing, and the cells 1 + 4 + 4 + 1",
+    d: 1,
+    cell: &[1, 2, 2, 1],
+    mult: &[],
+    cuts: &[],
+    shown: 10,
+}];
+
+const PAID: Case<'static> = Case {
+    what: "the missing employee is paid",
+    d: 1,
+    cell: &[10],
+    mult: &[],
+    cuts: &[],
+    shown: 10,
+};
+
+const FREE_CASES: [Case<'static>; 2] = [
+    PAID,
+    Case {
+        what: "nothing is paid",
+        cell: &[0],
+        shown: 0,
+        ..PAID
+    },
+];
+
+const ONE_CASES: [Case<'static>; 1] = [Case {
+    what: "an employee is needed",
+    cell: &[0],
+    shown: 27,
+    ..PAID
+}];
+
+const PAIR_CASES: [Case<'static>; 5] = [
+    Case {
+        what: "the half of few trees",
+        d: 1,
+        cell: &[2, 2, 0],
+        mult: &[Mult { cut: 1, value: 2 }],
+        cuts: &[LOW],
+        shown: 4,
+    },
+    Case {
+        what: "the half of many trees",
+        d: 1,
+        cell: &[0, 0, 2],
+        mult: &[Mult { cut: 1, value: 2 }],
+        cuts: &[HIGH],
+        shown: 4,
+    },
+    Case {
+        what: "the cut has no multiplier",
+        d: 1,
+        cell: &[0, 0, 2],
+        mult: &[],
+        cuts: &[HIGH],
+        shown: 2,
+    },
+    Case {
+        what: "a part of a cost counts as a whole one",
+        d: 2,
+        cell: &[2, 2, 1],
+        mult: &[],
+        cuts: &[],
+        shown: 3,
+    },
+    Case {
+        what: "far below zero",
+        d: 1 << 30,
+        cell: &[1 << 80, 1 << 80, 1 << 80],
+        mult: &[],
+        cuts: &[],
+        shown: 0,
+    },
+];
+
+const SHUT_CELLS: [Cell; 3] = [
+    CELL,
+    Cell { period: 2, ..CELL },
+    Cell {
+        period: 3,
+        floor: 2,
+        ceiling: 1,
+        ..CELL
+    },
+];
+
+/// Pairs where no count of the last period is allowed.
+const SHUT_DAY: DayParts<'static> = DayParts {
+    cells: &SHUT_CELLS,
+    ..PAIR_DAY
+};
+
+const SHUT_CASES: [Case<'static>; 1] = [Case {
+    what: "a cell has no count in its range",
+    d: 1,
+    cell: &[0, 0, 0],
+    mult: &[],
+    cuts: &[],
+    shown: 61,
+}];
+
+const EXACT_CASES: [Case<'static>; 3] = [
+    Case {
+        what: "the half of few trees",
+        d: 1,
+        cell: &[59, 59, -57],
+        mult: &[Mult { cut: 1, value: 116 }],
+        cuts: &[LOW],
+        shown: 61,
+    },
+    Case {
+        what: "the half of many trees",
+        d: 1,
+        cell: &[-57, -57, 59],
+        mult: &[Mult { cut: 1, value: 116 }],
+        cuts: &[HIGH],
+        shown: 61,
+    },
+    Case {
+        what: "the multiplier is lower by one",
+        d: 1,
+        cell: &[59, 59, -57],
+        mult: &[Mult { cut: 1, value: 115 }],
+        cuts: &[LOW],
+        shown: 58,
+    },
+];
+
+/// The arc of the first group.
+const FULL_ARC: ArcKey = ArcKey {
+    rule: 6,
+    suffix: 0,
+    start: 1,
+    len: 2,
+    part: 2,
+};
+
+const HALF_ARC: ArcKey = ArcKey {
+    rule: 7,
+    ..FULL_ARC
+};
+
+/// At most one of the first group; at most two and at least one of the second.
+const GROUP_CUTS: [Cut; 3] = [
+    Cut {
+        arc: FULL_ARC,
+        side: Side::Low,
+        b: 1,
+    },
+    Cut {
+        arc: HALF_ARC,
+        side: Side::Low,
+        b: 2,
+    },
+    Cut {
+        arc: HALF_ARC,
+        side: Side::High,
+        b: 0,
+    },
+];
+
+const GROUP_CASES: [Case<'static>; 2] = [
+    Case {
+        what: "seven halves",
+        d: 2,
+        cell: &[3, 3],
+        mult: &[Mult { cut: 2, value: 1 }],
+        cuts: &GROUP_CUTS,
+        shown: 4,
+    },
+    Case {
+        what: "six halves",
+        d: 2,
+        cell: &[3, 3],
+        mult: &[],
+        cuts: &GROUP_CUTS,
+        shown: 3,
+    },
+];
+
+const SHORT_RULES: [RuleParts<'static>; 7] = [
+    (0, 0, &[Sym::Name(1)], ANY),
+    (0, 0, &[Sym::Name(2)], ANY),
+    (1, 3, &[WORK, WORK], Window { lo: 1, hi: 1 }),
+    (2, 1, &[WORK, REST], ANY),
+    (2, 1, &[REST, WORK], ANY),
+    (3, 0, &[Sym::Name(1)], ANY),
+    (3, 0, &[Sym::Name(2)], ANY),
+];
+
+const IDLE_GROUPS: [Group; 2] = [
+    Group {
+        heads_min: 1,
+        ..FULL
+    },
+    HALF,
+];
+
+/// Groups where a full day may stand on one period alone, so that there is none, and one is needed.
+const IDLE_GROUP_DAY: DayParts<'static> = DayParts {
+    rules: &SHORT_RULES,
+    heads: (2, 3),
+    groups: &IDLE_GROUPS,
+    ..GROUP_DAY
+};
+
+const IDLE_GROUP_CASES: [Case<'static>; 1] = [Case {
+    what: "a group that needs an employee has no shift",
+    d: 1,
+    cell: &[0, 0],
+    mult: &[],
+    cuts: &[],
+    shown: 139,
+}];
+
+/// A day, and what prices show there.
+type DayCases<'a> = (DayParts<'a>, &'a [Case<'a>]);
+
+const SHOWN: [DayCases<'static>; 8] = [
+    (BLOCK_DAY, &BLOCK_CASES),
+    (FREE_DAY, &FREE_CASES),
+    (ONE_DAY, &ONE_CASES),
+    (PAIR_DAY, &PAIR_CASES),
+    (SHUT_DAY, &SHUT_CASES),
+    (EXACT_DAY, &EXACT_CASES),
+    (GROUP_DAY, &GROUP_CASES),
+    (IDLE_GROUP_DAY, &IDLE_GROUP_CASES),
+];
+
+fn show_days(alloc: Global, days: &[DayCases<'_>]) -> Result<(), Fail> {
+    for (parts, cases) in days {
+        show(alloc, parts, cases)?;
     }
     Ok(())
 }
 
 #[test]
-fn one_block_on_four_periods(rt: HostRuntime) -> Result<(), Fail> {
-    let cells = [(1, 1), (2, 2), (3, 2), (4, 1)].map(|(period, need)| Cell {
-        period,
-        need,
-        over: 3,
-        ..CELL
-    });
-    let parts = DayParts {
-        periods: 4,
-        names: &BLOCK_NAMES,
-        rules: &BLOCKS,
-        start: 0,
-        heads: (0, 2),
-        groups: &[],
-        cells: &cells,
-    };
-    let case = Case {
-        what: "the trees bring nothing, and the cells 1 + 4 + 4 + 1",
-        d: 1,
-        cell: &[1, 2, 2, 1],
-        mult: &[],
-        cuts: &[],
-        shown: 10,
-    };
-    show(&rt, rt.alloc(), &parts, &[case])
-}
-
-#[test]
-fn a_day_without_a_shift(rt: HostRuntime) -> Result<(), Fail> {
-    let free = DayParts {
-        periods: 1,
-        names: &BLOCK_NAMES,
-        rules: &BLOCKS,
-        start: 0,
-        heads: (0, 2),
-        groups: &[],
-        cells: &[Cell { over: 3, ..CELL }],
-    };
-    let case = |what, price, shown| Case {
-        what,
-        d: 1,
-        cell: price,
-        mult: &[],
-        cuts: &[],
-        shown,
-    };
-    show(
-        &rt,
-        rt.alloc(),
-        &free,
-        &[
-            case("the missing employee is paid", &[10], 10),
-            case("nothing is paid", &[0], 0),
-        ],
-    )?;
-    let needed = DayParts {
-        heads: (1, 2),
-        ..free
-    };
-    show(
-        &rt,
-        rt.alloc(),
-        &needed,
-        &[case("an employee is needed", &[0], 27)],
-    )
-}
-
-#[test]
-fn cuts_on_an_arc(rt: HostRuntime) -> Result<(), Fail> {
-    let cells = [1, 2, 3].map(|period| Cell { period, ..CELL });
-    let parts = DayParts {
-        periods: 3,
-        names: &["S"],
-        rules: &PAIRS,
-        start: 0,
-        heads: (0, 3),
-        groups: &[],
-        cells: &cells,
-    };
-    let two = [Mult { cut: 1, value: 2 }];
-    let cases = [
-        Case {
-            what: "the half of few trees",
-            d: 1,
-            cell: &[2, 2, 0],
-            mult: &two,
-            cuts: &[LOW],
-            shown: 4,
-        },
-        Case {
-            what: "the half of many trees",
-            d: 1,
-            cell: &[0, 0, 2],
-            mult: &two,
-            cuts: &[HIGH],
-            shown: 4,
-        },
-        Case {
-            what: "the cut has no multiplier",
-            d: 1,
-            cell: &[0, 0, 2],
-            mult: &[],
-            cuts: &[HIGH],
-            shown: 2,
-        },
-        Case {
-            what: "a part of a cost counts as a whole one",
-            d: 2,
-            cell: &[2, 2, 1],
-            mult: &[],
-            cuts: &[],
-            shown: 3,
-        },
-        Case {
-            what: "far below zero",
-            d: 1 << 30,
-            cell: &[1 << 80, 1 << 80, 1 << 80],
-            mult: &[],
-            cuts: &[],
-            shown: 0,
-        },
-    ];
-    show(&rt, rt.alloc(), &parts, &cases)?;
-    let shut = [
-        cells[0],
-        cells[1],
-        Cell {
-            floor: 2,
-            ceiling: 1,
-            ..cells[2]
-        },
-    ];
-    let case = Case {
-        what: "a cell has no count in its range",
-        d: 1,
-        cell: &[0, 0, 0],
-        mult: &[],
-        cuts: &[],
-        shown: 61,
-    };
-    show(
-        &rt,
-        rt.alloc(),
-        &DayParts {
-            cells: &shut,
-            ..parts
-        },
-        &[case],
-    )
-}
-
-#[test]
-fn floors_and_ceilings(rt: HostRuntime) -> Result<(), Fail> {
-    let cells = [1, 2, 3].map(|period| Cell {
-        period,
-        floor: 1,
-        ceiling: 1,
-        ..CELL
-    });
-    let parts = DayParts {
-        periods: 3,
-        names: &["S"],
-        rules: &PAIRS,
-        start: 0,
-        heads: (0, 3),
-        groups: &[],
-        cells: &cells,
-    };
-    let cases = [
-        Case {
-            what: "the half of few trees",
-            d: 1,
-            cell: &[59, 59, -57],
-            mult: &[Mult { cut: 1, value: 116 }],
-            cuts: &[LOW],
-            shown: 61,
-        },
-        Case {
-            what: "the half of many trees",
-            d: 1,
-            cell: &[-57, -57, 59],
-            mult: &[Mult { cut: 1, value: 116 }],
-            cuts: &[HIGH],
-            shown: 61,
-        },
-        Case {
-            what: "the multiplier is lower by one",
-            d: 1,
-            cell: &[59, 59, -57],
-            mult: &[Mult { cut: 1, value: 115 }],
-            cuts: &[LOW],
-            shown: 58,
-        },
-    ];
-    show(&rt, rt.alloc(), &parts, &cases)
-}
-
-#[test]
-fn groups_of_employees(rt: HostRuntime) -> Result<(), Fail> {
-    let full = Group {
-        name: 1,
-        heads_min: 0,
-        heads_max: 1,
-    };
-    let half = Group {
-        name: 2,
-        heads_min: 1,
-        heads_max: 2,
-    };
-    let cells = [(1, 2), (2, 1)].map(|(period, need)| Cell {
-        period,
-        need,
-        over: 2,
-        ..CELL
-    });
-    let parts = DayParts {
-        periods: 2,
-        names: &["S", "F", "H", "*"],
-        rules: &SPLIT_DAYS,
-        start: 3,
-        heads: (1, 3),
-        groups: &[full, half],
-        cells: &cells,
-    };
-    let arc = |rule| ArcKey {
-        rule,
-        suffix: 0,
-        start: 1,
-        len: 2,
-        part: 2,
-    };
-    let cuts = [
-        Cut {
-            arc: arc(6),
-            side: Side::Low,
-            b: 1,
-        },
-        Cut {
-            arc: arc(7),
-            side: Side::Low,
-            b: 2,
-        },
-        Cut {
-            arc: arc(7),
-            side: Side::High,
-            b: 0,
-        },
-    ];
-    let cases = [
-        Case {
-            what: "seven halves",
-            d: 2,
-            cell: &[3, 3],
-            mult: &[Mult { cut: 2, value: 1 }],
-            cuts: &cuts,
-            shown: 4,
-        },
-        Case {
-            what: "six halves",
-            d: 2,
-            cell: &[3, 3],
-            mult: &[],
-            cuts: &cuts,
-            shown: 3,
-        },
-    ];
-    show(&rt, rt.alloc(), &parts, &cases)?;
-
-    let mut rules = SPLIT_DAYS;
-    rules[2] = (1, 3, &[WORK, WORK], Window { lo: 1, hi: 1 });
-    let needed = DayParts {
-        rules: &rules,
-        heads: (2, 3),
-        groups: &[
-            Group {
-                heads_min: 1,
-                ..full
-            },
-            half,
-        ],
-        ..parts
-    };
-    let case = Case {
-        what: "a group that needs an employee has no shift",
-        d: 1,
-        cell: &[0, 0],
-        mult: &[],
-        cuts: &[],
-        shown: 139,
-    };
-    show(&rt, rt.alloc(), &needed, &[case])
+fn values_of_prices(rt: HostRuntime) -> Result<(), Fail> {
+    show_days(rt.alloc(), &SHOWN)
 }

@@ -2,14 +2,15 @@ ghost use Rattle.std.specs.Prelude.{◌≤◌, All, IsTrue, length};
 ghost use Rattle.roster_model.specs.Folds.{Each};
 ghost use Rattle.roster_model.specs.SoundInstance.{IsSoundInstance};
 ghost use Rattle.certificates.specs.Sound.{IsGroupNumber, IsSoundShift, IsWordByte};
+ghost use Rattle.span_table.specs.Tables.{IsMadeFor};
 
+use crate::days::{BLOCK_DAY, EXACT_DAY, FULL_DAY, GROUP_DAY, sound_day};
 use certificates::Why;
-use roster_model::{Cell, Group, Instance, is_sound_instance};
+use roster_model::{Group, Instance};
 use roster_part::{ShiftRoom, StatedShift, coverage_fault, roster_fault};
-use sample_days::{BLOCK_NAMES, BLOCKS, CELL, DayParts, FULL_DAYS, PAIRS, SPLIT_DAYS, day};
+use sample_days::DayParts;
 use span_table::Table;
 use std::alloc::Global;
-use std::process::Abort;
 use std::test::Fail;
 
 /// A roster by the group, the word and the price of each shift, and what is wrong with it.
@@ -85,220 +86,193 @@ fn state(room: &mut ShiftRoom, stated: &[(u8, &str, u64)]) {
     }
 }
 
-/// Judges each case's roster with one table.
-fn judge(rt: &impl Abort, alloc: Global, parts: &DayParts, cases: &[Case]) -> Result<(), Fail> {
-    let day = day(alloc, parts)?;
-    assert!(rt; is_sound_instance(&day));
+/// Whether a roster that a text may have is judged as a case says.
+fn is_judged(day: &Instance, case: &Case<'_>, room: &ShiftRoom, table: &mut Table) -> bool
+    requires day { IsSoundInstance day.now }
+    requires made { IsMadeFor day.now.grammar table.old }
+    ensures { IsMadeFor day.now.grammar table.new }
+{
+    if !are_stated(day, room.shifts()) {
+        return false;
+    }
+    let fault = roster_fault(day, case.cost, room.shifts(), table);
+    let outside = coverage_fault(day, room.shifts());
+    fault == case.fault && outside == case.outside
+}
+
+fn judge_in(
+    day: &Instance,
+    cases: &[Case<'_>],
+    room: &mut ShiftRoom,
+    table: &mut Table,
+) -> Result<(), Fail>
+    requires day { IsSoundInstance day.now }
+    requires made { IsMadeFor day.now.grammar table.old }
+{
+    for case in cases {
+        state(room, case.shifts);
+        if !is_judged(day, case, room, table) {
+            return Err(Fail::from(case.what));
+        }
+    }
+    Ok(())
+}
+
+fn judge_on(alloc: Global, day: &Instance, cases: &[Case<'_>]) -> Result<(), Fail>
+    requires { IsSoundInstance day.now }
+{
     let mut table = Table::for_instance(alloc, &day.grammar)?;
     let mut room = ShiftRoom::new(alloc)?;
-    for case in cases {
-        state(&mut room, case.shifts);
-        assert!(rt; are_stated(&day, room.shifts()));
-        let fault = roster_fault(&day, case.cost, room.shifts(), &mut table);
-        assert_eq!(rt; fault, case.fault, "{}", case.what);
-        let outside = coverage_fault(&day, room.shifts());
-        assert_eq!(rt; outside, case.outside, "{}", case.what);
+    judge_in(day, cases, &mut room, &mut table)
+}
+
+/// Judges each case's roster with one table.
+fn judge(alloc: Global, parts: &DayParts, cases: &[Case<'_>]) -> Result<(), Fail> {
+    let day = sound_day(alloc, parts)?;
+    judge_on(alloc, &day, cases)
+}
+
+const BLOCK_ROSTER: Case<'static> = Case {
+    what: "right",
+    cost: 10,
+    shifts: &[(0, ".aaa", 5), (0, "aaa.", 5)],
+    fault: None,
+    outside: None,
+};
+
+const BLOCK_CASES: [Case<'static>; 6] = [
+    BLOCK_ROSTER,
+    Case {
+        what: "another cost",
+        cost: 9,
+        fault: Some(Why::WrongCost { said: 9, found: 10 }),
+        ..BLOCK_ROSTER
+    },
+    Case {
+        what: "a word without rest",
+        shifts: &[(0, "aaaa", 6), (0, ".aaa", 5), (0, "aaa.", 5)],
+        fault: Some(Why::NotAShift { shift: 1 }),
+        ..BLOCK_ROSTER
+    },
+    Case {
+        what: "another price, and a shorter word after it",
+        shifts: &[(0, ".aaa", 4), (0, "aaa", 5)],
+        fault: Some(Why::NotAShift { shift: 2 }),
+        ..BLOCK_ROSTER
+    },
+    Case {
+        what: "two other prices",
+        shifts: &[(0, ".aaa", 5), (0, "aaa.", 6), (0, "aa..", 5)],
+        fault: Some(Why::ShiftCost {
+            shift: 2,
+            said: 6,
+            least: 5,
+        }),
+        ..BLOCK_ROSTER
+    },
+    Case {
+        what: "too many employees",
+        shifts: &[(0, ".aaa", 5), (0, "aaa.", 5), (0, "aa..", 4)],
+        fault: Some(Why::WrongHeads { group: 0, count: 3 }),
+        ..BLOCK_ROSTER
+    },
+];
+
+const FULL_CASES: [Case<'static>; 2] = [
+    Case {
+        what: "the price of the other reading",
+        cost: 5,
+        shifts: &[(0, "aa", 5)],
+        fault: Some(Why::ShiftCost {
+            shift: 1,
+            said: 5,
+            least: 3,
+        }),
+        outside: None,
+    },
+    Case {
+        what: "nobody works",
+        cost: 20,
+        shifts: &[],
+        fault: Some(Why::WrongHeads { group: 0, count: 0 }),
+        outside: None,
+    },
+];
+
+const EXACT_CASES: [Case<'static>; 2] = [
+    Case {
+        what: "two in the second period",
+        cost: 4,
+        shifts: &[(0, ".aa", 2), (0, "aa.", 2)],
+        fault: None,
+        outside: Some(Why::Outside {
+            code: b'a',
+            period: 2,
+            have: 2,
+        }),
+    },
+    Case {
+        what: "nobody in the first period",
+        cost: 12,
+        shifts: &[(0, ".aa", 2)],
+        fault: None,
+        outside: Some(Why::Outside {
+            code: b'a',
+            period: 1,
+            have: 0,
+        }),
+    },
+];
+
+const GROUP_ROSTER: Case<'static> = Case {
+    what: "right",
+    cost: 4,
+    shifts: &[(1, "aa", 3), (2, "a.", 1)],
+    fault: None,
+    outside: None,
+};
+
+const GROUP_CASES: [Case<'static>; 4] = [
+    GROUP_ROSTER,
+    Case {
+        what: "a word of the other group",
+        shifts: &[(2, "aa", 3), (2, "a.", 1)],
+        fault: Some(Why::NotAShift { shift: 1 }),
+        ..GROUP_ROSTER
+    },
+    Case {
+        what: "nobody of the second group",
+        cost: 13,
+        shifts: &[(1, "aa", 3)],
+        fault: Some(Why::WrongHeads { group: 2, count: 0 }),
+        ..GROUP_ROSTER
+    },
+    Case {
+        what: "too many of the second group",
+        shifts: &[(2, "a.", 1), (2, ".a", 1), (2, "a.", 1)],
+        fault: Some(Why::WrongHeads { group: 2, count: 3 }),
+        ..GROUP_ROSTER
+    },
+];
+
+/// A day, and rosters of it.
+type DayCases<'a> = (DayParts<'a>, &'a [Case<'a>]);
+
+const JUDGED: [DayCases<'static>; 4] = [
+    (BLOCK_DAY, &BLOCK_CASES),
+    (FULL_DAY, &FULL_CASES),
+    (EXACT_DAY, &EXACT_CASES),
+    (GROUP_DAY, &GROUP_CASES),
+];
+
+fn judge_days(alloc: Global, days: &[DayCases<'_>]) -> Result<(), Fail> {
+    for (parts, cases) in days {
+        judge(alloc, parts, cases)?;
     }
     Ok(())
 }
 
 #[test]
-fn one_block_on_four_periods(rt: HostRuntime) -> Result<(), Fail> {
-    let cells = [(1, 1), (2, 2), (3, 2), (4, 1)].map(|(period, need)| Cell {
-        period,
-        need,
-        over: 3,
-        ..CELL
-    });
-    let parts = DayParts {
-        periods: 4,
-        names: &BLOCK_NAMES,
-        rules: &BLOCKS,
-        start: 0,
-        heads: (0, 2),
-        groups: &[],
-        cells: &cells,
-    };
-    let right = Case {
-        what: "right",
-        cost: 10,
-        shifts: &[(0, ".aaa", 5), (0, "aaa.", 5)],
-        fault: None,
-        outside: None,
-    };
-    let cases = [
-        right,
-        Case {
-            what: "another cost",
-            cost: 9,
-            fault: Some(Why::WrongCost { said: 9, found: 10 }),
-            ..right
-        },
-        Case {
-            what: "a word without rest",
-            shifts: &[(0, "aaaa", 6), (0, ".aaa", 5), (0, "aaa.", 5)],
-            fault: Some(Why::NotAShift { shift: 1 }),
-            ..right
-        },
-        Case {
-            what: "another price, and a shorter word after it",
-            shifts: &[(0, ".aaa", 4), (0, "aaa", 5)],
-            fault: Some(Why::NotAShift { shift: 2 }),
-            ..right
-        },
-        Case {
-            what: "two other prices",
-            shifts: &[(0, ".aaa", 5), (0, "aaa.", 6), (0, "aa..", 5)],
-            fault: Some(Why::ShiftCost {
-                shift: 2,
-                said: 6,
-                least: 5,
-            }),
-            ..right
-        },
-        Case {
-            what: "too many employees",
-            shifts: &[(0, ".aaa", 5), (0, "aaa.", 5), (0, "aa..", 4)],
-            fault: Some(Why::WrongHeads { group: 0, count: 3 }),
-            ..right
-        },
-    ];
-    judge(&rt, rt.alloc(), &parts, &cases)
-}
-
-#[test]
-fn the_cheaper_of_two_readings(rt: HostRuntime) -> Result<(), Fail> {
-    let cells = [1, 2].map(|period| Cell { period, ..CELL });
-    let parts = DayParts {
-        periods: 2,
-        names: &["S", "T"],
-        rules: &FULL_DAYS,
-        start: 0,
-        heads: (1, 1),
-        groups: &[],
-        cells: &cells,
-    };
-    let cases = [
-        Case {
-            what: "the price of the other reading",
-            cost: 5,
-            shifts: &[(0, "aa", 5)],
-            fault: Some(Why::ShiftCost {
-                shift: 1,
-                said: 5,
-                least: 3,
-            }),
-            outside: None,
-        },
-        Case {
-            what: "nobody works",
-            cost: 20,
-            shifts: &[],
-            fault: Some(Why::WrongHeads { group: 0, count: 0 }),
-            outside: None,
-        },
-    ];
-    judge(&rt, rt.alloc(), &parts, &cases)
-}
-
-#[test]
-fn floors_and_ceilings(rt: HostRuntime) -> Result<(), Fail> {
-    let cells = [1, 2, 3].map(|period| Cell {
-        period,
-        floor: 1,
-        ceiling: 1,
-        ..CELL
-    });
-    let parts = DayParts {
-        periods: 3,
-        names: &["S"],
-        rules: &PAIRS,
-        start: 0,
-        heads: (0, 3),
-        groups: &[],
-        cells: &cells,
-    };
-    let outside = |period, have| {
-        Some(Why::Outside {
-            code: b'a',
-            period,
-            have,
-        })
-    };
-    let cases = [
-        Case {
-            what: "two in the second period",
-            cost: 4,
-            shifts: &[(0, ".aa", 2), (0, "aa.", 2)],
-            fault: None,
-            outside: outside(2, 2),
-        },
-        Case {
-            what: "nobody in the first period",
-            cost: 12,
-            shifts: &[(0, ".aa", 2)],
-            fault: None,
-            outside: outside(1, 0),
-        },
-    ];
-    judge(&rt, rt.alloc(), &parts, &cases)
-}
-
-#[test]
-fn groups_of_employees(rt: HostRuntime) -> Result<(), Fail> {
-    let full = Group {
-        name: 1,
-        heads_min: 0,
-        heads_max: 1,
-    };
-    let half = Group {
-        name: 2,
-        heads_min: 1,
-        heads_max: 2,
-    };
-    let cells = [(1, 2), (2, 1)].map(|(period, need)| Cell {
-        period,
-        need,
-        over: 2,
-        ..CELL
-    });
-    let parts = DayParts {
-        periods: 2,
-        names: &["S", "F", "H", "*"],
-        rules: &SPLIT_DAYS,
-        start: 3,
-        heads: (1, 3),
-        groups: &[full, half],
-        cells: &cells,
-    };
-    let right = Case {
-        what: "right",
-        cost: 4,
-        shifts: &[(1, "aa", 3), (2, "a.", 1)],
-        fault: None,
-        outside: None,
-    };
-    let cases = [
-        right,
-        Case {
-            what: "a word of the other group",
-            shifts: &[(2, "aa", 3), (2, "a.", 1)],
-            fault: Some(Why::NotAShift { shift: 1 }),
-            ..right
-        },
-        Case {
-            what: "nobody of the second group",
-            cost: 13,
-            shifts: &[(1, "aa", 3)],
-            fault: Some(Why::WrongHeads { group: 2, count: 0 }),
-            ..right
-        },
-        Case {
-            what: "too many of the second group",
-            shifts: &[(2, "a.", 1), (2, ".a", 1), (2, "a.", 1)],
-            fault: Some(Why::WrongHeads { group: 2, count: 3 }),
-            ..right
-        },
-    ];
-    judge(&rt, rt.alloc(), &parts, &cases)
+fn faults_of_rosters(rt: HostRuntime) -> Result<(), Fail> {
+    judge_days(rt.alloc(), &JUDGED)
 }

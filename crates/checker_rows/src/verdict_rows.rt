@@ -1,452 +1,386 @@
+ghost use Rattle.std.specs.Prelude.{◌≡◌, ◌≤◌, length};
 ghost use Rattle.roster_model.specs.SoundInstance.{IsSoundInstance};
+ghost use Rattle.certificates.specs.Sound.{IsSoundCert};
+ghost use Rattle.proof_check.specs.Benches.{IsBenchFor, node_room};
 
+use crate::days::{
+    BLOCK_DAY, EXACT_DAY, FLOOR_DAY, FREE_DAY, FULL_DAY, GROUP_DAY, ONE_DAY, PAIR_DAY, sound_day,
+};
 use bound_proof::read_cert;
-use certificates::Why;
+use certificates::{Cert, Why};
 use proof_check::{Bench, Judged, Verdict};
 use proof_pieces::{CertRoom, PieceFault};
-use roster_model::{ArcKey, Cell, Group, Instance, is_sound_instance};
-use sample_days::{BLOCK_NAMES, BLOCKS, CELL, DayParts, FULL_DAYS, PAIRS, SPLIT_DAYS, day};
-use std::alloc::Global;
-use std::process::Abort;
+use roster_model::{ArcKey, Instance};
+use sample_days::{ANY, DayParts, REST, RuleParts, WORK};
+use std::alloc::{AllocError, Global};
 use std::test::Fail;
 
 /// A proof text, and the verdict on its certificate.
 type Case<'a> = (&'a str, Verdict);
 
-const fn yes(amount: u64) -> Verdict {
-    Verdict::Yes {
-        cost: Some(amount),
-        bound: Some(amount),
-    }
+/// Whether a text is judged piece by piece as it is to be, twice at one bench.
+fn judges_text(
+    day: &Instance,
+    bench: &mut Bench,
+    room: &mut CertRoom,
+    text: &str,
+    want: &Judged,
+) -> bool
+    requires day { IsSoundInstance day.now }
+    requires bench { IsBenchFor day.now bench.old }
+    requires nodes { node_room bench.old ≡ 20001 }
+    requires made { length day.now.cells ≤ room.old.most }
+{
+    let first = bench.judge_text(day, text.as_bytes(), room);
+    let second = bench.judge_text(day, text.as_bytes(), room);
+    first == *want && second == *want
 }
 
-const fn too_high(said: Option<u64>, shown: Option<u64>) -> Verdict {
-    Verdict::No(Why::BoundTooHigh { said, shown })
-}
-
-/// Judges one text piece by piece, twice at one bench.
-fn judge_pieces(
-    rt: &impl Abort,
+fn judges_in(
     alloc: Global,
     day: &Instance,
+    bench: &mut Bench,
     text: &str,
-    want: Judged,
-) -> Result<(), Fail>
+    want: &Judged,
+) -> Result<bool, Fail>
+    requires day { IsSoundInstance day.now }
+    requires bench { IsBenchFor day.now bench.old }
+    requires nodes { node_room bench.old ≡ 20001 }
+{
+    let mut room = CertRoom::for_instance(alloc, day)?;
+    Ok(judges_text(day, bench, &mut room, text, want))
+}
+
+/// Whether a text is judged so at a bench of its own.
+fn judges_pieces(alloc: Global, day: &Instance, text: &str, want: &Judged) -> Result<bool, Fail>
     requires { IsSoundInstance day.now }
 {
     let mut bench = Bench::for_texts(alloc, day)?;
-    let mut room = CertRoom::for_instance(alloc, day)?;
-    assert_eq!(rt;
-        bench.judge_text(day, text.as_bytes(), &mut room),
-        want,
-        "{text}"
-    );
-    assert_eq!(rt;
-        bench.judge_text(day, text.as_bytes(), &mut room),
-        want,
-        "again {text}"
-    );
-    Ok(())
+    judges_in(alloc, day, &mut bench, text, want)
 }
 
-/// Judges the certificate of one text, twice at one bench, and then the text itself.
-fn judge_case(
-    rt: &impl Abort,
-    alloc: Global,
-    day: &Instance,
-    text: &str,
-    want: Verdict,
-) -> Result<(), Fail>
+/// Whether a certificate is judged as it is to be, twice at one bench.
+fn judges_cert(alloc: Global, day: &Instance, cert: &Cert, want: &Verdict) -> Result<bool, Fail>
+    requires day { IsSoundInstance day.now }
+    requires cert { IsSoundCert day.now cert.now }
+{
+    let mut bench = Bench::for_proof(alloc, day, cert)?;
+    let first = bench.judge(day, cert);
+    let second = bench.judge(day, cert);
+    Ok(first == *want && second == *want)
+}
+
+/// Whether the certificate of a text is judged so.
+fn judges_read(alloc: Global, day: &Instance, text: &str, want: &Verdict) -> Result<bool, Fail>
     requires { IsSoundInstance day.now }
 {
-    let Ok(cert) = read_cert(alloc, day, text.as_bytes()) else {
-        panic!(rt; "{text}");
-    };
-    let mut bench = Bench::for_proof(alloc, day, &cert)?;
-    assert_eq!(rt; bench.judge(day, &cert), want, "{text}");
-    assert_eq!(rt; bench.judge(day, &cert), want, "again {text}");
-    judge_pieces(rt, alloc, day, text, Judged::Said(want))
+    let cert = read_cert(alloc, day, text.as_bytes())?;
+    judges_cert(alloc, day, &cert, want)
 }
 
-fn judge_all(rt: &impl Abort, alloc: Global, parts: &DayParts, cases: &[Case]) -> Result<(), Fail> {
-    let day = day(alloc, parts)?;
-    assert!(rt; is_sound_instance(&day));
+/// Judges the certificate of one text, and then the text itself.
+fn judge_case(alloc: Global, day: &Instance, text: &str, want: &Verdict) -> Result<(), Fail>
+    requires { IsSoundInstance day.now }
+{
+    if judges_read(alloc, day, text, want)?
+        && judges_pieces(alloc, day, text, &Judged::Said(*want))?
+    {
+        return Ok(());
+    }
+    Err(Fail::from(text))
+}
+
+fn judge_all(alloc: Global, parts: &DayParts, cases: &[Case<'_>]) -> Result<(), Fail> {
+    let day = sound_day(alloc, parts)?;
     for (text, want) in cases {
-        judge_case(rt, alloc, &day, text, *want)?;
+        judge_case(alloc, &day, text, want)?;
     }
     Ok(())
 }
 
-#[test]
-fn one_block_on_four_periods(rt: HostRuntime) -> Result<(), Fail> {
-    let cells = [(1, 1), (2, 2), (3, 2), (4, 1)].map(|(period, need)| Cell {
-        period,
-        need,
-        over: 3,
-        ..CELL
-    });
-    let parts = DayParts {
-        periods: 4,
-        names: &BLOCK_NAMES,
-        rules: &BLOCKS,
-        start: 0,
-        heads: (0, 2),
-        groups: &[],
-        cells: &cells,
-    };
-    let cases = [
-        (
-            "proof 1\ncost 10\nbound 10\nshift .aaa 5\nshift aaa. 5\npriced 1\nprice a 1 2 2 1\nend\n",
-            yes(10),
-        ),
-        (
-            "proof 1\ncost 10\nbound 11\nshift .aaa 5\nshift aaa. 5\npriced 1\nprice a 1 2 2 1\nend\n",
-            too_high(Some(11), Some(10)),
-        ),
-        (
-            "proof 1\ncost 9\nbound 10\nshift .aaa 5\nshift aaa. 5\npriced 1\nprice a 1 2 2 1\nend\n",
-            Verdict::No(Why::WrongCost { said: 9, found: 10 }),
-        ),
-        (
-            "proof 1\ncost 10\nbound 10\nshift aaaa 6\nshift aaa. 5\npriced 1\nprice a 1 2 2 1\nend\n",
-            Verdict::No(Why::NotAShift { shift: 1 }),
-        ),
-        (
-            "proof 1\ncost none\nbound 0\nbare\nend\n",
-            Verdict::Yes {
-                cost: None,
-                bound: Some(0),
-            },
-        ),
-        (
-            "proof 1\ncost none\nbound 1\nbare\nend\n",
-            too_high(Some(1), Some(0)),
-        ),
-    ];
-    judge_all(&rt, rt.alloc(), &parts, &cases)
-}
+const BLOCK_CASES: [Case<'static>; 6] = [
+    (
+        "proof 1\ncost 10\nbound 10\nshift .aaa 5\nshift aaa. 5\npriced 1\nprice a 1 2 2 1\nend\n",
+        Verdict::Yes {
+            cost: Some(10),
+            bound: Some(10),
+        },
+    ),
+    (
+        "proof 1\ncost 10\nbound 11\nshift .aaa 5\nshift aaa. 5\npriced 1\nprice a 1 2 2 1\nend\n",
+        Verdict::No(Why::BoundTooHigh {
+            said: Some(11),
+            shown: Some(10),
+        }),
+    ),
+    (
+        "proof 1\ncost 9\nbound 10\nshift .aaa 5\nshift aaa. 5\npriced 1\nprice a 1 2 2 1\nend\n",
+        Verdict::No(Why::WrongCost { said: 9, found: 10 }),
+    ),
+    (
+        "proof 1\ncost 10\nbound 10\nshift aaaa 6\nshift aaa. 5\npriced 1\nprice a 1 2 2 1\nend\n",
+        Verdict::No(Why::NotAShift { shift: 1 }),
+    ),
+    (
+        "proof 1\ncost none\nbound 0\nbare\nend\n",
+        Verdict::Yes {
+            cost: None,
+            bound: Some(0),
+        },
+    ),
+    (
+        "proof 1\ncost none\nbound 1\nbare\nend\n",
+        Verdict::No(Why::BoundTooHigh {
+            said: Some(1),
+            shown: Some(0),
+        }),
+    ),
+];
 
-#[test]
-fn prices_and_head_counts(rt: HostRuntime) -> Result<(), Fail> {
-    let cells = [1, 2].map(|period| Cell { period, ..CELL });
-    let parts = DayParts {
-        periods: 2,
-        names: &["S", "T"],
-        rules: &FULL_DAYS,
-        start: 0,
-        heads: (1, 1),
-        groups: &[],
-        cells: &cells,
-    };
-    let cases = [
-        (
-            "proof 1\ncost 5\nbound 3\nshift aa 5\npriced 1\nprice a 0 0\nend\n",
-            Verdict::No(Why::ShiftCost {
-                shift: 1,
-                said: 5,
-                least: 3,
-            }),
-        ),
-        (
-            "proof 1\ncost 3\nbound 3\nshift aa 3\npriced 1\nprice a 0 0\nend\n",
-            yes(3),
-        ),
-        (
-            "proof 1\ncost 20\nbound 3\npriced 1\nprice a 0 0\nend\n",
-            Verdict::No(Why::WrongHeads { group: 0, count: 0 }),
-        ),
-    ];
-    judge_all(&rt, rt.alloc(), &parts, &cases)
-}
+const FULL_CASES: [Case<'static>; 3] = [
+    (
+        "proof 1\ncost 5\nbound 3\nshift aa 5\npriced 1\nprice a 0 0\nend\n",
+        Verdict::No(Why::ShiftCost {
+            shift: 1,
+            said: 5,
+            least: 3,
+        }),
+    ),
+    (
+        "proof 1\ncost 3\nbound 3\nshift aa 3\npriced 1\nprice a 0 0\nend\n",
+        Verdict::Yes {
+            cost: Some(3),
+            bound: Some(3),
+        },
+    ),
+    (
+        "proof 1\ncost 20\nbound 3\npriced 1\nprice a 0 0\nend\n",
+        Verdict::No(Why::WrongHeads { group: 0, count: 0 }),
+    ),
+];
 
-#[test]
-fn a_day_without_a_shift(rt: HostRuntime) -> Result<(), Fail> {
-    let needed = DayParts {
-        periods: 1,
-        names: &BLOCK_NAMES,
-        rules: &BLOCKS,
-        start: 0,
-        heads: (1, 2),
-        groups: &[],
-        cells: &[Cell { over: 3, ..CELL }],
-    };
-    let none = [
-        (
-            "proof 1\ncost none\nbound none\npriced 1\nprice a 0\nend\n",
-            Verdict::Yes {
-                cost: None,
-                bound: None,
-            },
-        ),
-        (
-            "proof 1\ncost none\nbound 28\npriced 1\nprice a 0\nend\n",
-            too_high(Some(28), None),
-        ),
-    ];
-    judge_all(&rt, rt.alloc(), &needed, &none)?;
-    let free = DayParts {
-        heads: (0, 2),
-        ..needed
-    };
-    let case = (
-        "proof 1\ncost 10\nbound 10\npriced 1\nprice a 10\nend\n",
-        yes(10),
-    );
-    judge_all(&rt, rt.alloc(), &free, &[case])
-}
+const ONE_CASES: [Case<'static>; 2] = [
+    (
+        "proof 1\ncost none\nbound none\npriced 1\nprice a 0\nend\n",
+        Verdict::Yes {
+            cost: None,
+            bound: None,
+        },
+    ),
+    (
+        "proof 1\ncost none\nbound 28\npriced 1\nprice a 0\nend\n",
+        Verdict::No(Why::BoundTooHigh {
+            said: Some(28),
+            shown: None,
+        }),
+    ),
+];
 
-#[test]
-fn splits_of_pairs(rt: HostRuntime) -> Result<(), Fail> {
-    let cells = [1, 2, 3].map(|period| Cell { period, ..CELL });
-    let parts = DayParts {
-        periods: 3,
-        names: &["S"],
-        rules: &PAIRS,
-        start: 0,
-        heads: (0, 3),
-        groups: &[],
-        cells: &cells,
-    };
-    let arc = ArcKey {
-        rule: 1,
-        suffix: 0,
-        start: 1,
-        len: 3,
-        part: 1,
-    };
-    let cases = [
-        (
-            "proof 1\ncost 4\nbound 4\nshift .aa 2\nshift aa. 2\nsplit 1 0 1 3 1 0\npriced 1\nprice a 2 2 0\nmult 1 2\npriced 1\nprice a 0 0 2\nmult 1 2\nend\n",
-            yes(4),
-        ),
-        (
-            "proof 1\ncost 4\nbound 4\nshift .aa 2\nshift aa. 2\nsplit 1 0 1 3 1 0\npriced 1\nprice a 2 2 0\nmult 1 2\npriced 1\nprice a 0 0 2\nend\n",
-            too_high(Some(4), Some(2)),
-        ),
-        (
-            "proof 1\ncost 4\nbound 3\nshift .aa 2\nshift aa. 2\nsplit 1 0 1 3 1 0 1\nprice a 1 1 1\nbare\nbare\nend\n",
-            Verdict::Yes {
-                cost: Some(4),
-                bound: Some(3),
-            },
-        ),
-        (
-            "proof 1\ncost 4\nbound 0\nshift .aa 2\nshift aa. 2\npriced 1073741824\nprice a 1208925819614629174706176 1208925819614629174706176 1208925819614629174706176\nend\n",
-            Verdict::Yes {
-                cost: Some(4),
-                bound: Some(0),
-            },
-        ),
-        (
-            "proof 1\ncost 4\nbound 0\nshift .aa 2\nshift aa. 2\nsplit 1 0 1 3 1 3\nbare\nbare\nend\n",
-            Verdict::No(Why::EmptyHalf { node: 1 }),
-        ),
-        (
-            "proof 1\ncost 4\nbound 0\nshift .aa 2\nshift aa. 2\nsplit 1 0 1 3 2 0\nbare\nbare\nend\n",
-            Verdict::No(Why::NotAnArc { node: 1 }),
-        ),
-        (
-            "proof 1\ncost 4\nbound 0\nshift .aa 2\nshift aa. 2\npinned\nend\n",
-            Verdict::No(Why::NotPinned { node: 1, arc }),
-        ),
-        // The least number comes first, whatever the order of the nodes.
-        (
-            "proof 1\ncost 4\nbound 0\nshift .aa 2\nshift aa. 2\nsplit 1 0 1 3 1 0\npinned\nsplit 2 0 1 3 1 5\nsplit 1 0 1 3 2 0\nbare\nbare\nbare\nend\n",
-            Verdict::No(Why::NotAnArc { node: 4 }),
-        ),
-    ];
-    judge_all(&rt, rt.alloc(), &parts, &cases)
-}
+const FREE_CASES: [Case<'static>; 1] = [(
+    "proof 1\ncost 10\nbound 10\npriced 1\nprice a 10\nend\n",
+    Verdict::Yes {
+        cost: Some(10),
+        bound: Some(10),
+    },
+)];
 
-#[test]
-fn a_fault_comes_before_a_no(rt: HostRuntime) -> Result<(), Fail> {
-    let alloc = rt.alloc();
-    let cells = [1, 2, 3].map(|period| Cell { period, ..CELL });
-    let parts = DayParts {
-        periods: 3,
-        names: &["S"],
-        rules: &PAIRS,
-        start: 0,
-        heads: (0, 3),
-        groups: &[],
-        cells: &cells,
-    };
-    let day = day(alloc, &parts)?;
-    assert!(rt; is_sound_instance(&day));
-    // The split is on no arc.
-    let text =
-        "proof 1\ncost 4\nbound 4\nshift .aa 2\nshift aa. 2\nsplit 1 0 1 3 2 0\npriced 1\nprice a 2 2 0\nmult 1 2\npriced 1\nprice a 0 0 2\nmult 1 2\n";
-    judge_pieces(&rt, alloc, &day, text, Judged::Fault(PieceFault::CutShort))
-}
+const ARC: ArcKey = ArcKey {
+    rule: 1,
+    suffix: 0,
+    start: 1,
+    len: 3,
+    part: 1,
+};
 
-#[test]
-fn one_employee_of_pairs(rt: HostRuntime) -> Result<(), Fail> {
-    let cells = [1, 2, 3].map(|period| Cell { period, ..CELL });
-    let parts = DayParts {
-        periods: 3,
-        names: &["S"],
-        rules: &PAIRS[..1],
-        start: 0,
-        heads: (0, 1),
-        groups: &[],
-        cells: &cells,
-    };
-    // The one shift costs 2 and leaves a period; nobody leaves three.
-    let cases = [
-        (
-            "proof 1\ncost 12\nbound 12\nshift aa. 2\nsplit 1 0 1 3 1 0\nsplit 1 1 2 2 1 0\npinned\npinned\nsplit 1 1 2 2 1 0\npinned\npinned\nend\n",
-            yes(12),
-        ),
-        (
-            "proof 1\ncost 12\nbound 13\nshift aa. 2\nsplit 1 0 1 3 1 0\nsplit 1 1 2 2 1 0\npinned\npinned\nsplit 1 1 2 2 1 0\npinned\npinned\nend\n",
-            too_high(Some(13), Some(12)),
-        ),
-    ];
-    judge_all(&rt, rt.alloc(), &parts, &cases)
-}
-
-#[test]
-fn ten_thousand_splits(rt: HostRuntime) -> Result<(), Fail> {
-    let alloc = rt.alloc();
-    let cells = [1, 2, 3].map(|period| Cell { period, ..CELL });
-    let parts = DayParts {
-        periods: 3,
-        names: &["S"],
-        rules: &PAIRS,
-        start: 0,
-        heads: (0, 3),
-        groups: &[],
-        cells: &cells,
-    };
-    let mut text = String::new(alloc);
-    text.push_str("proof 1\ncost 4\nbound 0\nshift .aa 2\nshift aa. 2\n")?;
-    for _ in 0..10_000 {
-        text.push_str("split 1 0 1 3 1 0\n")?;
-    }
-    for _ in 0..10_001 {
-        text.push_str("bare\n")?;
-    }
-    text.push_str("end\n")?;
-    let day = day(alloc, &parts)?;
-    assert!(rt; is_sound_instance(&day));
-    let mut bench = Bench::for_texts(alloc, &day)?;
-    let mut room = CertRoom::for_instance(alloc, &day)?;
-    assert_eq!(rt;
-        bench.judge_text(&day, text.as_bytes(), &mut room),
-        Judged::Said(Verdict::No(Why::EmptyHalf { node: 2 }))
-    );
-    Ok(())
-}
-
-/// Three periods of at least one employee, and at most so many.
-fn at_least_one(ceiling: u32) -> [Cell; 3] {
-    [1, 2, 3].map(|period| Cell {
-        period,
-        floor: 1,
-        ceiling,
-        ..CELL
-    })
-}
-
-#[test]
-fn floors_and_ceilings(rt: HostRuntime) -> Result<(), Fail> {
-    let floors = at_least_one(64);
-    let parts = DayParts {
-        periods: 3,
-        names: &["S"],
-        rules: &PAIRS,
-        start: 0,
-        heads: (0, 3),
-        groups: &[],
-        cells: &floors,
-    };
-    let case = (
-        "proof 1\ncost 4\nbound 0\nshift .aa 2\nshift aa. 2\nbare\nend\n",
+const PAIR_CASES: [Case<'static>; 8] = [
+    (
+        "proof 1\ncost 4\nbound 4\nshift .aa 2\nshift aa. 2\nsplit 1 0 1 3 1 0\npriced 1\nprice a 2 2 0\nmult 1 2\npriced 1\nprice a 0 0 2\nmult 1 2\nend\n",
+        Verdict::Yes {
+            cost: Some(4),
+            bound: Some(4),
+        },
+    ),
+    (
+        "proof 1\ncost 4\nbound 4\nshift .aa 2\nshift aa. 2\nsplit 1 0 1 3 1 0\npriced 1\nprice a 2 2 0\nmult 1 2\npriced 1\nprice a 0 0 2\nend\n",
+        Verdict::No(Why::BoundTooHigh {
+            said: Some(4),
+            shown: Some(2),
+        }),
+    ),
+    (
+        "proof 1\ncost 4\nbound 3\nshift .aa 2\nshift aa. 2\nsplit 1 0 1 3 1 0 1\nprice a 1 1 1\nbare\nbare\nend\n",
+        Verdict::Yes {
+            cost: Some(4),
+            bound: Some(3),
+        },
+    ),
+    (
+        "proof 1\ncost 4\nbound 0\nshift .aa 2\nshift aa. 2\npriced 1073741824\nprice a 1208925819614629174706176 1208925819614629174706176 1208925819614629174706176\nend\n",
         Verdict::Yes {
             cost: Some(4),
             bound: Some(0),
         },
-    );
-    judge_all(&rt, rt.alloc(), &parts, &[case])?;
-    let both = at_least_one(1);
-    let cases = [
-        (
-            "proof 1\ncost 4\nbound 0\nshift .aa 2\nshift aa. 2\nbare\nend\n",
-            Verdict::No(Why::Outside {
-                code: b'a',
-                period: 2,
-                have: 2,
-            }),
-        ),
-        (
-            "proof 1\ncost none\nbound none\nsplit 1 0 1 3 1 0\npriced 1\nprice a 59 59 -57\nmult 1 116\npriced 1\nprice a -57 -57 59\nmult 1 116\nend\n",
-            Verdict::Yes {
-                cost: None,
-                bound: None,
-            },
-        ),
-        (
-            "proof 1\ncost none\nbound none\nsplit 1 0 1 3 1 0\npriced 1\nprice a 59 59 -57\nmult 1 115\npriced 1\nprice a -57 -57 59\nmult 1 116\nend\n",
-            too_high(None, Some(58)),
-        ),
-    ];
-    judge_all(
-        &rt,
-        rt.alloc(),
-        &DayParts {
-            cells: &both,
-            ..parts
+    ),
+    (
+        "proof 1\ncost 4\nbound 0\nshift .aa 2\nshift aa. 2\nsplit 1 0 1 3 1 3\nbare\nbare\nend\n",
+        Verdict::No(Why::EmptyHalf { node: 1 }),
+    ),
+    (
+        "proof 1\ncost 4\nbound 0\nshift .aa 2\nshift aa. 2\nsplit 1 0 1 3 2 0\nbare\nbare\nend\n",
+        Verdict::No(Why::NotAnArc { node: 1 }),
+    ),
+    (
+        "proof 1\ncost 4\nbound 0\nshift .aa 2\nshift aa. 2\npinned\nend\n",
+        Verdict::No(Why::NotPinned { node: 1, arc: ARC }),
+    ),
+    // The least number comes first, whatever the order of the nodes.
+    (
+        "proof 1\ncost 4\nbound 0\nshift .aa 2\nshift aa. 2\nsplit 1 0 1 3 1 0\npinned\nsplit 2 0 1 3 1 5\nsplit 1 0 1 3 2 0\nbare\nbare\nbare\nend\n",
+        Verdict::No(Why::NotAnArc { node: 4 }),
+    ),
+];
+
+const ONE_PAIR_RULES: [RuleParts<'static>; 1] = [(0, 2, &[WORK, WORK, REST], ANY)];
+
+/// The first of the three shifts of pairs alone, for one employee.
+const ONE_PAIR_DAY: DayParts<'static> = DayParts {
+    rules: &ONE_PAIR_RULES,
+    heads: (0, 1),
+    ..PAIR_DAY
+};
+
+// The one shift costs 2 and leaves a period; nobody leaves three.
+const ONE_PAIR_CASES: [Case<'static>; 2] = [
+    (
+        "proof 1\ncost 12\nbound 12\nshift aa. 2\nsplit 1 0 1 3 1 0\nsplit 1 1 2 2 1 0\npinned\npinned\nsplit 1 1 2 2 1 0\npinned\npinned\nend\n",
+        Verdict::Yes {
+            cost: Some(12),
+            bound: Some(12),
         },
-        &cases,
-    )
+    ),
+    (
+        "proof 1\ncost 12\nbound 13\nshift aa. 2\nsplit 1 0 1 3 1 0\nsplit 1 1 2 2 1 0\npinned\npinned\nsplit 1 1 2 2 1 0\npinned\npinned\nend\n",
+        Verdict::No(Why::BoundTooHigh {
+            said: Some(13),
+            shown: Some(12),
+        }),
+    ),
+];
+
+const FLOOR_CASES: [Case<'static>; 1] = [(
+    "proof 1\ncost 4\nbound 0\nshift .aa 2\nshift aa. 2\nbare\nend\n",
+    Verdict::Yes {
+        cost: Some(4),
+        bound: Some(0),
+    },
+)];
+
+const EXACT_CASES: [Case<'static>; 3] = [
+    (
+        "proof 1\ncost 4\nbound 0\nshift .aa 2\nshift aa. 2\nbare\nend\n",
+        Verdict::No(Why::Outside {
+            code: b'a',
+            period: 2,
+            have: 2,
+        }),
+    ),
+    (
+        "proof 1\ncost none\nbound none\nsplit 1 0 1 3 1 0\npriced 1\nprice a 59 59 -57\nmult 1 116\npriced 1\nprice a -57 -57 59\nmult 1 116\nend\n",
+        Verdict::Yes {
+            cost: None,
+            bound: None,
+        },
+    ),
+    (
+        "proof 1\ncost none\nbound none\nsplit 1 0 1 3 1 0\npriced 1\nprice a 59 59 -57\nmult 1 115\npriced 1\nprice a -57 -57 59\nmult 1 116\nend\n",
+        Verdict::No(Why::BoundTooHigh {
+            said: None,
+            shown: Some(58),
+        }),
+    ),
+];
+
+const GROUP_CASES: [Case<'static>; 4] = [
+    (
+        "proof 2\ncost 4\nbound 4\nshift F aa 3\nshift H a. 1\npriced 2\nprice a 3 3\nmult 2 1\nend\n",
+        Verdict::Yes {
+            cost: Some(4),
+            bound: Some(4),
+        },
+    ),
+    (
+        "proof 2\ncost 4\nbound 4\nshift F aa 3\nshift H a. 1\npriced 2\nprice a 3 3\nend\n",
+        Verdict::No(Why::BoundTooHigh {
+            said: Some(4),
+            shown: Some(3),
+        }),
+    ),
+    (
+        "proof 2\ncost 4\nbound 4\nshift H aa 3\nshift H a. 1\npriced 2\nprice a 3 3\nmult 2 1\nend\n",
+        Verdict::No(Why::NotAShift { shift: 1 }),
+    ),
+    (
+        "proof 2\ncost 13\nbound 4\nshift F aa 3\npriced 2\nprice a 3 3\nmult 2 1\nend\n",
+        Verdict::No(Why::WrongHeads { group: 2, count: 0 }),
+    ),
+];
+
+/// A day, and texts with their verdicts.
+type DayCases<'a> = (DayParts<'a>, &'a [Case<'a>]);
+
+const VERDICTS: [DayCases<'static>; 9] = [
+    (BLOCK_DAY, &BLOCK_CASES),
+    (FULL_DAY, &FULL_CASES),
+    (ONE_DAY, &ONE_CASES),
+    (FREE_DAY, &FREE_CASES),
+    (PAIR_DAY, &PAIR_CASES),
+    (ONE_PAIR_DAY, &ONE_PAIR_CASES),
+    (FLOOR_DAY, &FLOOR_CASES),
+    (EXACT_DAY, &EXACT_CASES),
+    (GROUP_DAY, &GROUP_CASES),
+];
+
+fn judge_days(alloc: Global, days: &[DayCases<'_>]) -> Result<(), Fail> {
+    for (parts, cases) in days {
+        judge_all(alloc, parts, cases)?;
+    }
+    Ok(())
 }
 
 #[test]
-fn groups_of_employees(rt: HostRuntime) -> Result<(), Fail> {
-    let groups = [
-        Group {
-            name: 1,
-            heads_min: 0,
-            heads_max: 1,
-        },
-        Group {
-            name: 2,
-            heads_min: 1,
-            heads_max: 2,
-        },
-    ];
-    let cells = [(1, 2), (2, 1)].map(|(period, need)| Cell {
-        period,
-        need,
-        over: 2,
-        ..CELL
-    });
-    let parts = DayParts {
-        periods: 2,
-        names: &["S", "F", "H", "*"],
-        rules: &SPLIT_DAYS,
-        start: 3,
-        heads: (1, 3),
-        groups: &groups,
-        cells: &cells,
-    };
-    let cases = [
-        (
-            "proof 2\ncost 4\nbound 4\nshift F aa 3\nshift H a. 1\npriced 2\nprice a 3 3\nmult 2 1\nend\n",
-            yes(4),
-        ),
-        (
-            "proof 2\ncost 4\nbound 4\nshift F aa 3\nshift H a. 1\npriced 2\nprice a 3 3\nend\n",
-            too_high(Some(4), Some(3)),
-        ),
-        (
-            "proof 2\ncost 4\nbound 4\nshift H aa 3\nshift H a. 1\npriced 2\nprice a 3 3\nmult 2 1\nend\n",
-            Verdict::No(Why::NotAShift { shift: 1 }),
-        ),
-        (
-            "proof 2\ncost 13\nbound 4\nshift F aa 3\npriced 2\nprice a 3 3\nmult 2 1\nend\n",
-            Verdict::No(Why::WrongHeads { group: 2, count: 0 }),
-        ),
-    ];
-    judge_all(&rt, rt.alloc(), &parts, &cases)
+fn verdicts(rt: HostRuntime) -> Result<(), Fail> {
+    judge_days(rt.alloc(), &VERDICTS)
+}
+
+/// Whether a text is judged so, piece by piece, on the day of pairs.
+fn judges_pairs(alloc: Global, text: &str, want: &Judged) -> Result<bool, Fail> {
+    let day = sound_day(alloc, &PAIR_DAY)?;
+    judges_pieces(alloc, &day, text, want)
+}
+
+#[test]
+fn a_fault_comes_before_a_no(rt: HostRuntime) -> Result<(), Fail> {
+    // The split is on no arc.
+    let text =
+        "proof 1\ncost 4\nbound 4\nshift .aa 2\nshift aa. 2\nsplit 1 0 1 3 2 0\npriced 1\nprice a 2 2 0\nmult 1 2\npriced 1\nprice a 0 0 2\nmult 1 2\n";
+    assert!(rt; judges_pairs(rt.alloc(), text, &Judged::Fault(PieceFault::CutShort))?);
+    Ok(())
+}
+
+/// The text of so many splits and one more leaf.
+fn text_of_splits(alloc: Global, splits: usize) -> Result<String, AllocError>
+    requires { splits ≤ 10000 }
+{
+    let inner = "split 1 0 1 3 1 0\n".repeat(alloc, splits)?;
+    let leaves = "bare\n".repeat(alloc, splits + 1)?;
+    let head = "proof 1\ncost 4\nbound 0\nshift .aa 2\nshift aa. 2\n";
+    [head, inner.as_str(), leaves.as_str(), "end\n"].concat(alloc)
+}
+
+#[test]
+fn ten_thousand_splits(rt: HostRuntime) -> Result<(), Fail> {
+    let text = text_of_splits(rt.alloc(), 10_000)?;
+    let want = Judged::Said(Verdict::No(Why::EmptyHalf { node: 2 }));
+    assert!(rt; judges_pairs(rt.alloc(), text.as_str(), &want)?);
+    Ok(())
 }
