@@ -250,8 +250,7 @@ fn accepts_from(alloc: Global, bytes: usize) -> Result<bool, Fail> {
 
 #[test]
 fn texts_that_end_early(rt: HostRuntime) -> Result<(), Fail> {
-    assert!(rt; SPLIT.len() == 133);
-    assert!(rt; accepts_from(rt.alloc(), 132)?);
+    assert!(rt; SPLIT.len() == 133 && accepts_from(rt.alloc(), 132)?);
     Ok(())
 }
 
@@ -334,11 +333,6 @@ const TEXTS: [Row; 26] = [
         "proof: line 6: unknown line\n",
     ),
 ];
-
-#[test]
-fn texts(rt: HostRuntime) -> Result<(), Fail> {
-    compare(rt.alloc(), &PLAIN, "", &TEXTS)
-}
 
 // The lines before those of the nodes.
 const HEAD: &'static str = "proof 1\ncost none\nbound 0\n";
@@ -429,11 +423,6 @@ const NODES: [Row; 38] = [
     ),
 ];
 
-#[test]
-fn nodes(rt: HostRuntime) -> Result<(), Fail> {
-    compare(rt.alloc(), &PLAIN, HEAD, &NODES)
-}
-
 const ORDERS: [Row; 5] = [
     ("priced 1\nprice b 1 2 3\nprice a 4 5 6\nend", ""),
     (
@@ -450,11 +439,6 @@ const ORDERS: [Row; 5] = [
     ),
     ("priced 1\nprice b 1 2 3\n", "proof: the text ends early\n"),
 ];
-
-#[test]
-fn demanded_codes_stand_in_order(rt: HostRuntime) -> Result<(), Fail> {
-    compare(rt.alloc(), &BOTH_DEMANDED, HEAD, &ORDERS)
-}
 
 const GROUPS: [Row; 9] = [
     ("proof 1", "proof: line 1: bad header\n"),
@@ -492,9 +476,26 @@ const GROUPS: [Row; 9] = [
     ),
 ];
 
+/// A day, first lines, and texts behind them.
+type Table<'a> = (Parts, &'a str, &'a [Row<'a>]);
+
+const TABLES: [Table<'static>; 4] = [
+    (PLAIN, "", &TEXTS),
+    (PLAIN, HEAD, &NODES),
+    (BOTH_DEMANDED, HEAD, &ORDERS),
+    (GROUPED, "", &GROUPS),
+];
+
+fn compare_all(alloc: Global, tables: &[Table<'_>]) -> Result<(), Fail> {
+    for (parts, head, rows) in tables {
+        compare(alloc, parts, head, rows)?;
+    }
+    Ok(())
+}
+
 #[test]
-fn groups(rt: HostRuntime) -> Result<(), Fail> {
-    compare(rt.alloc(), &GROUPED, "", &GROUPS)
+fn texts(rt: HostRuntime) -> Result<(), Fail> {
+    compare_all(rt.alloc(), &TABLES)
 }
 
 // A part that stands so many times, and the rest.
@@ -517,7 +518,7 @@ fn compare_repeated(
 }
 
 #[test]
-fn many_lines(rt: HostRuntime) -> Result<(), Fail> {
+fn limits_of_shifts(rt: HostRuntime) -> Result<(), Fail> {
     compare_repeated(
         rt.alloc(),
         "proof 1\ncost 1\nbound 1\n",
@@ -525,11 +526,7 @@ fn many_lines(rt: HostRuntime) -> Result<(), Fail> {
         64,
         "shift a x\n",
         "proof: line 68: out of range\n",
-    )
-}
-
-#[test]
-fn long_words(rt: HostRuntime) -> Result<(), Fail> {
+    )?;
     compare_repeated(
         rt.alloc(),
         "proof 1\ncost 1\nbound 1\nshift ",
@@ -554,17 +551,10 @@ fn compare_splits(alloc: Global, splits: usize, want: &str) -> Result<(), Fail> 
 }
 
 #[test]
-fn many_nodes(rt: HostRuntime) -> Result<(), Fail> {
-    compare_splits(rt.alloc(), 10_000, "")
-}
-
-#[test]
-fn too_many_nodes(rt: HostRuntime) -> Result<(), Fail> {
-    compare_splits(
-        rt.alloc(),
-        10_001,
-        "proof: line 20005: too many nodes, at most 20001\n",
-    )
+fn limit_of_nodes(rt: HostRuntime) -> Result<(), Fail> {
+    let fault = "proof: line 20005: too many nodes, at most 20001\n";
+    compare_splits(rt.alloc(), 10_000, "")?;
+    compare_splits(rt.alloc(), 10_001, fault)
 }
 
 const READ: &'static str = "proof 1\ncost 4\nbound none\nshift .aa 2\nsplit 1 0 1 3 2 5 7
@@ -584,13 +574,10 @@ fn is_first_shift(shifts: &[Shift], group: u8, word: &[u8], price: u64) -> bool 
     }
 }
 
-#[test]
-fn rosters_are_read(rt: HostRuntime) -> Result<(), Fail> {
-    let cert = read(rt.alloc())?;
-    assert!(rt; cert.cost == Some(4));
-    assert!(rt; cert.bound == None);
-    assert!(rt; is_first_shift(cert.shifts.as_slice(), 0, b".aa", 2));
-    Ok(())
+fn is_roster(cert: &Cert) -> bool {
+    cert.cost == Some(4)
+        && cert.bound == None
+        && is_first_shift(cert.shifts.as_slice(), 0, b".aa", 2)
 }
 
 fn are_prices(prices: &Prices, d: u64, cell: &[i128], mult: &[Mult]) -> bool {
@@ -623,13 +610,15 @@ fn is_priced(node: &Node) -> bool {
     }
 }
 
+fn are_nodes(nodes: &[Node]) -> bool {
+    nodes.len() == 3 && is_split(&nodes[0]) && is_priced(&nodes[2])
+}
+
 #[test]
-fn nodes_are_read(rt: HostRuntime) -> Result<(), Fail> {
+fn certificates_are_read(rt: HostRuntime) -> Result<(), Fail> {
     let cert = read(rt.alloc())?;
-    let nodes = cert.nodes.as_slice();
-    assert!(rt; nodes.len() == 3);
-    assert!(rt; is_split(&nodes[0]));
-    assert!(rt; is_priced(&nodes[2]));
+    assert!(rt; is_roster(&cert));
+    assert!(rt; are_nodes(cert.nodes.as_slice()));
     Ok(())
 }
 
@@ -709,18 +698,13 @@ fn is_written_again(alloc: Global, parts: &Parts, text: &str) -> Result<bool, Fa
     Ok(written.as_slice() == text.as_bytes())
 }
 
-#[test]
-fn certificates_are_written(rt: HostRuntime) -> Result<(), Fail> {
-    assert!(rt; is_written_again(rt.alloc(), &PLAIN, SPLIT)?);
-    assert!(rt; is_written_again(rt.alloc(), &PLAIN, READ)?);
-    Ok(())
-}
-
 const GROUPED_TEXT: &'static str = "proof 2\ncost none\nbound none\nsplit 7 0 1 2 2 1 3
 price a 3 -3\nmult 2 1\nbare\npinned\nend\n";
 
 #[test]
-fn texts_of_groups_are_written(rt: HostRuntime) -> Result<(), Fail> {
+fn certificates_are_written(rt: HostRuntime) -> Result<(), Fail> {
+    assert!(rt; is_written_again(rt.alloc(), &PLAIN, SPLIT)?);
+    assert!(rt; is_written_again(rt.alloc(), &PLAIN, READ)?);
     assert!(rt; is_written_again(rt.alloc(), &GROUPED, GROUPED_TEXT)?);
     Ok(())
 }

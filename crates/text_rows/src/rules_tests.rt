@@ -1,4 +1,4 @@
-use roster_model::{List, Memory};
+use roster_model::{Grammar, List, Memory};
 use rules_text::{fault_line, read_rules, write_rules};
 use std::alloc::{AllocError, Global};
 use std::test::Fail;
@@ -47,114 +47,149 @@ fn answer(alloc: Global, text: &[u8]) -> Result<List<u8>, Memory> {
     }
 }
 
-// What a text with the lines of a short grammar before it is answered.
-fn answer_after(alloc: Global, lines: &str) -> Result<List<u8>, Fail> {
-    let text = format!(in alloc; "periods 4\nwork a\nstart A\n{lines}")?;
-    Ok(answer(alloc, text.as_bytes())?)
+// Whether a text has this fault line; an accepted text has none.
+fn is_answered(alloc: Global, text: &[u8], want: &str) -> Result<bool, Fail> {
+    let said = answer(alloc, text)?;
+    Ok(said.as_slice() == want.as_bytes())
 }
 
-#[test]
-fn whole_texts(rt: HostRuntime) -> Result<(), Fail> {
-    for (text, want) in [
-        ("", "rules: no periods line\n"),
-        ("periods 4\n", "rules: no start line\n"),
-        ("start A\n", "rules: no periods line\n"),
-        (
-            "periods 4\nstart A\nrule A 0 = B\nrule B 0 = A",
-            "rules: line 3: a name leads back to itself by one-symbol rules\n",
-        ),
-        (
-            "periods 4\nstart A\nrule A 0 =",
-            "rules: line 3: empty right side\n",
-        ),
-        (
-            "periods 4\nstart A\nrule B 0 = C\nrule C 0 = D\nrule C 0 = C",
-            "rules: line 4: a name has no rule\n",
-        ),
-        (
-            "periods 4\nstart A\n\nwork a\nrule B 0 = 'a'",
-            "rules: line 2: a name has no rule\n",
-        ),
-        ("periods 4\nperiods 97\n", "rules: line 2: out of range\n"),
-        ("periods 4\nperiods 96\n", "rules: line 2: said twice\n"),
-        ("periods 0\n", "rules: line 1: out of range\n"),
-        ("periods 4 \r", "rules: line 1: bad byte\n"),
-        ("periods 04\r\n", "rules: line 1: bad number\n"),
-        ("\u{feff}periods 4", "rules: line 1: bad byte\n"),
-        ("start A\nstart 1\n", "rules: line 2: bad name\n"),
-        ("start A\nstart B\n", "rules: line 2: said twice\n"),
-        ("start len\n", "rules: line 1: bad name\n"),
-        ("work\n", "rules: line 1: unknown line\n"),
-        ("work a b a\n", "rules: line 1: said twice\n"),
-        ("work a\nidle b a\n", "rules: line 2: said twice\n"),
-        ("idle ab\n", "rules: line 1: bad name\n"),
-        (
-            "work 1 2 3 4 5 6 7 8 9\n",
-            "rules: line 1: too many work codes, at most 8\n",
-        ),
-        (
-            "idle a b c d e f g h i j k l m n o p q r s t u v w x y z 0 1 2 3 4 5 6 \x27",
-            "rules: line 1: too many codes, at most 32\n",
-        ),
-        (
-            "idle a b c d e f g h i j k l m n o p q r s t u v w x y z 0 1 2 3\nwork 4 5 6",
-            "rules: line 2: too many codes, at most 32\n",
-        ),
-        ("idle = \"\nperiods 1\nstart A\nrule A 0 = '='", ""),
-        ("stop\n", "rules: line 1: unknown line\n"),
-    ] {
-        let said = answer(rt.alloc(), text.as_bytes())?;
-        assert_eq!(rt; said.as_slice(), want.as_bytes(), "{text}");
+/// A text, and its fault line; an accepted text has none.
+type Row<'a> = (&'a str, &'a str);
+
+const TEXTS: [Row<'static>; 25] = [
+    ("", "rules: no periods line\n"),
+    ("periods 4\n", "rules: no start line\n"),
+    ("start A\n", "rules: no periods line\n"),
+    (
+        "periods 4\nstart A\nrule A 0 = B\nrule B 0 = A",
+        "rules: line 3: a name leads back to itself by one-symbol rules\n",
+    ),
+    (
+        "periods 4\nstart A\nrule A 0 =",
+        "rules: line 3: empty right side\n",
+    ),
+    (
+        "periods 4\nstart A\nrule B 0 = C\nrule C 0 = D\nrule C 0 = C",
+        "rules: line 4: a name has no rule\n",
+    ),
+    (
+        "periods 4\nstart A\n\nwork a\nrule B 0 = 'a'",
+        "rules: line 2: a name has no rule\n",
+    ),
+    ("periods 4\nperiods 97\n", "rules: line 2: out of range\n"),
+    ("periods 4\nperiods 96\n", "rules: line 2: said twice\n"),
+    ("periods 0\n", "rules: line 1: out of range\n"),
+    ("periods 4 \r", "rules: line 1: bad byte\n"),
+    ("periods 04\r\n", "rules: line 1: bad number\n"),
+    ("\u{feff}periods 4", "rules: line 1: bad byte\n"),
+    ("start A\nstart 1\n", "rules: line 2: bad name\n"),
+    ("start A\nstart B\n", "rules: line 2: said twice\n"),
+    ("start len\n", "rules: line 1: bad name\n"),
+    ("work\n", "rules: line 1: unknown line\n"),
+    ("work a b a\n", "rules: line 1: said twice\n"),
+    ("work a\nidle b a\n", "rules: line 2: said twice\n"),
+    ("idle ab\n", "rules: line 1: bad name\n"),
+    (
+        "work 1 2 3 4 5 6 7 8 9\n",
+        "rules: line 1: too many work codes, at most 8\n",
+    ),
+    (
+        "idle a b c d e f g h i j k l m n o p q r s t u v w x y z 0 1 2 3 4 5 6 \x27",
+        "rules: line 1: too many codes, at most 32\n",
+    ),
+    (
+        "idle a b c d e f g h i j k l m n o p q r s t u v w x y z 0 1 2 3\nwork 4 5 6",
+        "rules: line 2: too many codes, at most 32\n",
+    ),
+    ("idle = \"\nperiods 1\nstart A\nrule A 0 = '='", ""),
+    ("stop\n", "rules: line 1: unknown line\n"),
+];
+
+// Whether lines behind some first ones have this fault line.
+fn is_answered_after(alloc: Global, head: &str, lines: &str, want: &str) -> Result<bool, Fail> {
+    let text = [head, lines].concat(alloc)?;
+    is_answered(alloc, text.as_bytes(), want)
+}
+
+// Whether the texts, all behind the same first lines, have these fault lines.
+fn compare(alloc: Global, head: &str, rows: &[Row<'_>]) -> Result<(), Fail> {
+    for (lines, want) in rows {
+        if !is_answered_after(alloc, head, lines, want)? {
+            return Err(Fail::from(*lines));
+        }
     }
     Ok(())
 }
 
 #[test]
+fn whole_texts(rt: HostRuntime) -> Result<(), Fail> {
+    compare(rt.alloc(), "", &TEXTS)
+}
+
+const LINES: [Row<'static>; 24] = [
+    ("rule A 0 = 'a' len 2 2 begin 4 4", ""),
+    ("rule A 10000 = 'a' A end 1 96 len 96 96 begin 1 1", ""),
+    ("rule A 0 = len 1", "rules: line 4: unknown line\n"),
+    ("rule 1 x = 'a' len 1 2 3", "rules: line 4: unknown line\n"),
+    ("rule A 0 'a' 'a'", "rules: line 4: unknown line\n"),
+    ("rule A 0", "rules: line 4: unknown line\n"),
+    ("rule 1 x = 'a'", "rules: line 4: bad name\n"),
+    ("rule A x =", "rules: line 4: bad number\n"),
+    ("rule A -1 = 'a'", "rules: line 4: bad number\n"),
+    ("rule A 10001 =", "rules: line 4: out of range\n"),
+    (
+        "rule A 340282366920938463463374607431768211456 = 'a'",
+        "rules: line 4: out of range\n",
+    ),
+    ("rule A 0 = len 1 2", "rules: line 4: empty right side\n"),
+    ("rule A 0 = 'a' len begin 2", "rules: line 4: bad number\n"),
+    ("rule A 0 = A A 1 A A A A A A", "rules: line 4: bad name\n"),
+    (
+        "rule A 0 = A A A A A A A A 1",
+        "rules: line 4: too many symbols, at most 8\n",
+    ),
+    ("rule A 0 = 'a", "rules: line 4: bad name\n"),
+    ("rule A 0 = 'b' 1", "rules: line 4: unknown code\n"),
+    ("rule A 0 = '.'\nidle .", "rules: line 4: unknown code\n"),
+    ("rule A 0 = 'a' len 3 2", "rules: line 4: out of range\n"),
+    ("rule A 0 = 'a' len 0 2", "rules: line 4: out of range\n"),
+    ("rule A 0 = 'a' begin 1 97", "rules: line 4: out of range\n"),
+    (
+        "rule A 0 = 'a' end 1 2 end x 2",
+        "rules: line 4: said twice\n",
+    ),
+    (
+        "rule A 0 = B\nrule B 0 = C\nrule B 0 = 'a'\nrule C 0 = B",
+        "rules: line 4: a name leads back to itself by one-symbol rules\n",
+    ),
+    (
+        "rule A 0 = 'a'\nrule D 0 = B\nrule C 0 = C\nrule B 0 = D",
+        "rules: line 5: a name leads back to itself by one-symbol rules\n",
+    ),
+];
+
+#[test]
 fn rule_lines(rt: HostRuntime) -> Result<(), Fail> {
-    for (lines, want) in [
-        ("rule A 0 = 'a' len 2 2 begin 4 4", ""),
-        ("rule A 10000 = 'a' A end 1 96 len 96 96 begin 1 1", ""),
-        ("rule A 0 = len 1", "rules: line 4: unknown line\n"),
-        ("rule 1 x = 'a' len 1 2 3", "rules: line 4: unknown line\n"),
-        ("rule A 0 'a' 'a'", "rules: line 4: unknown line\n"),
-        ("rule A 0", "rules: line 4: unknown line\n"),
-        ("rule 1 x = 'a'", "rules: line 4: bad name\n"),
-        ("rule A x =", "rules: line 4: bad number\n"),
-        ("rule A -1 = 'a'", "rules: line 4: bad number\n"),
-        ("rule A 10001 =", "rules: line 4: out of range\n"),
-        (
-            "rule A 340282366920938463463374607431768211456 = 'a'",
-            "rules: line 4: out of range\n",
-        ),
-        ("rule A 0 = len 1 2", "rules: line 4: empty right side\n"),
-        ("rule A 0 = 'a' len begin 2", "rules: line 4: bad number\n"),
-        ("rule A 0 = A A 1 A A A A A A", "rules: line 4: bad name\n"),
-        (
-            "rule A 0 = A A A A A A A A 1",
-            "rules: line 4: too many symbols, at most 8\n",
-        ),
-        ("rule A 0 = 'a", "rules: line 4: bad name\n"),
-        ("rule A 0 = 'b' 1", "rules: line 4: unknown code\n"),
-        ("rule A 0 = '.'\nidle .", "rules: line 4: unknown code\n"),
-        ("rule A 0 = 'a' len 3 2", "rules: line 4: out of range\n"),
-        ("rule A 0 = 'a' len 0 2", "rules: line 4: out of range\n"),
-        ("rule A 0 = 'a' begin 1 97", "rules: line 4: out of range\n"),
-        (
-            "rule A 0 = 'a' end 1 2 end x 2",
-            "rules: line 4: said twice\n",
-        ),
-        (
-            "rule A 0 = B\nrule B 0 = C\nrule B 0 = 'a'\nrule C 0 = B",
-            "rules: line 4: a name leads back to itself by one-symbol rules\n",
-        ),
-        (
-            "rule A 0 = 'a'\nrule D 0 = B\nrule C 0 = C\nrule B 0 = D",
-            "rules: line 5: a name leads back to itself by one-symbol rules\n",
-        ),
-    ] {
-        let said = answer_after(rt.alloc(), lines)?;
-        assert_eq!(rt; said.as_slice(), want.as_bytes(), "{lines}");
-    }
+    compare(rt.alloc(), "periods 4\nwork a\nstart A\n", &LINES)
+}
+
+// The shifts with so many further rules, and a line behind them.
+fn many_rules(alloc: Global, count: usize, line: &str) -> Result<String, AllocError> {
+    let rules = "rule R 0 = '.'\n".repeat(alloc, count)?;
+    [SHIFTS, rules.as_str(), line].concat(alloc)
+}
+
+// Whether such a text has this fault line.
+fn is_many_rules(alloc: Global, line: &str, want: &str) -> Result<bool, Fail> {
+    let text = many_rules(alloc, 55, line)?;
+    is_answered(alloc, text.as_bytes(), want)
+}
+
+#[test]
+fn limit_of_rules(rt: HostRuntime) -> Result<(), Fail> {
+    let fault = "rules: line 69: too many rules, at most 64\n";
+    assert!(rt; is_many_rules(rt.alloc(), "", "")?);
+    assert!(rt; is_many_rules(rt.alloc(), "rule 1 x = '.'\n", fault)?);
     Ok(())
 }
 
@@ -168,58 +203,75 @@ fn many_names(alloc: Global, count: u32) -> Result<String, AllocError> {
     Ok(text)
 }
 
+// Whether so many names have this fault line.
+fn is_many_names(alloc: Global, count: u32, want: &str) -> Result<bool, Fail> {
+    let text = many_names(alloc, count)?;
+    is_answered(alloc, text.as_bytes(), want)
+}
+
 #[test]
-fn limits(rt: HostRuntime) -> Result<(), Fail> {
-    let mut text = String::from_str(rt.alloc(), SHIFTS)?;
-    for _ in 9..64 {
-        text.push_str("rule R 0 = '.'\n")?;
-    }
-    assert!(rt; answer(rt.alloc(), text.as_bytes())?.is_empty());
-    text.push_str("rule 1 x = '.'\n")?;
-    let said = answer(rt.alloc(), text.as_bytes())?;
-    assert_eq!(rt;
-        said.as_slice(),
-        b"rules: line 69: too many rules, at most 64\n".as_slice()
-    );
-
-    let most = many_names(rt.alloc(), 32)?;
-    assert!(rt; answer(rt.alloc(), most.as_bytes())?.is_empty());
-    let more = many_names(rt.alloc(), 33)?;
-    let said = answer(rt.alloc(), more.as_bytes())?;
-    assert_eq!(rt;
-        said.as_slice(),
-        b"rules: line 36: too many names, at most 32\n".as_slice()
-    );
-
-    let long = vec![in rt.alloc(); b'#'; 1_048_577]?;
-    let said = answer(rt.alloc(), &long)?;
-    assert_eq!(rt;
-        said.as_slice(),
-        b"rules: the text is too long\n".as_slice()
-    );
-    let said = answer(rt.alloc(), &long[1..])?;
-    assert_eq!(rt; said.as_slice(), b"rules: no periods line\n".as_slice());
+fn limit_of_names(rt: HostRuntime) -> Result<(), Fail> {
+    let fault = "rules: line 36: too many names, at most 32\n";
+    assert!(rt; is_many_names(rt.alloc(), 32, "")?);
+    assert!(rt; is_many_names(rt.alloc(), 33, fault)?);
     Ok(())
+}
+
+// Whether a comment of so many bytes has this fault line.
+fn is_comment(alloc: Global, count: usize, want: &str) -> Result<bool, Fail> {
+    let long = vec![in alloc; b'#'; count]?;
+    is_answered(alloc, &long, want)
+}
+
+#[test]
+fn limit_of_bytes(rt: HostRuntime) -> Result<(), Fail> {
+    assert!(rt; is_comment(rt.alloc(), 1_048_577, "rules: the text is too long\n")?);
+    assert!(rt; is_comment(rt.alloc(), 1_048_576, "rules: no periods line\n")?);
+    Ok(())
+}
+
+// Whether the grammars of two texts are the same.
+fn are_same(alloc: Global, one: &str, other: &str) -> Result<bool, Fail> {
+    let one = read_rules(alloc, one.as_bytes())?;
+    let other = read_rules(alloc, other.as_bytes())?;
+    Ok(one == other)
+}
+
+// Whether a grammar has two periods, two names and three rules, and starts with the first name.
+fn is_of_pairs(grammar: &Grammar) -> bool {
+    grammar.periods == 2
+        && grammar.names.len() == 2
+        && grammar.rules.len() == 3
+        && grammar.start == 0
+}
+
+fn are_pairs(alloc: Global) -> Result<bool, Fail> {
+    let grammar = read_rules(alloc, PAIRS.as_bytes())?;
+    Ok(is_of_pairs(&grammar))
 }
 
 #[test]
 fn grammars(rt: HostRuntime) -> Result<(), Fail> {
-    let shifts = read_rules(rt.alloc(), SHIFTS.as_bytes())?;
-    let spread = read_rules(rt.alloc(), SPREAD.as_bytes())?;
-    assert!(rt; shifts == spread);
-    let pairs = read_rules(rt.alloc(), PAIRS.as_bytes())?;
-    assert_eq!(rt;
-        (
-            pairs.periods,
-            pairs.names.len(),
-            pairs.rules.len(),
-            pairs.start
-        ),
-        (2, 2, 3, 0)
-    );
-    let text = write_rules(rt.alloc(), &pairs)?;
-    assert_eq!(rt; text.as_slice(), PAIRS.as_bytes());
-    let text = write_rules(rt.alloc(), &spread)?;
-    assert_eq!(rt; text.as_slice(), SHIFTS.as_bytes());
+    assert!(rt; are_same(rt.alloc(), SHIFTS, SPREAD)?);
+    assert!(rt; are_pairs(rt.alloc())?);
+    Ok(())
+}
+
+// The text of the grammar that a text says.
+fn again(alloc: Global, text: &str) -> Result<List<u8>, Fail> {
+    let grammar = read_rules(alloc, text.as_bytes())?;
+    Ok(write_rules(alloc, &grammar)?)
+}
+
+// Whether the grammar of a text is written so.
+fn is_written(alloc: Global, text: &str, want: &str) -> Result<bool, Fail> {
+    let written = again(alloc, text)?;
+    Ok(written.as_slice() == want.as_bytes())
+}
+
+#[test]
+fn written_texts(rt: HostRuntime) -> Result<(), Fail> {
+    assert!(rt; is_written(rt.alloc(), PAIRS, PAIRS)?);
+    assert!(rt; is_written(rt.alloc(), SPREAD, SHIFTS)?);
     Ok(())
 }

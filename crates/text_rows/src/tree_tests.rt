@@ -34,28 +34,48 @@ const RULES: [(u8, u32, &[Sym]); 9] = [
     (2, 0, &[REST, R]),
 ];
 
-fn grammar(alloc: Global) -> Result<Grammar, AllocError> {
+const NAMES: [&'static str; 4] = ["S", "W", "R", "A"];
+
+const CODES: [CodeDef; 2] = [
+    CodeDef {
+        byte: b'a',
+        work: true,
+    },
+    CodeDef {
+        byte: b'.',
+        work: false,
+    },
+];
+
+fn names(alloc: Global) -> Result<List<List<u8>>, AllocError> {
     let mut names = Vec::new(alloc);
-    for name in ["S", "W", "R", "A"] {
+    for name in NAMES.as_slice() {
         names.push(List::from_vec(name.as_bytes().to_vec(alloc)?))?;
     }
+    Ok(List::from_vec(names))
+}
+
+fn rules(alloc: Global) -> Result<List<Rule>, AllocError> {
     let mut rules = Vec::new(alloc);
-    for (left, cost, right) in RULES {
+    for (left, cost, right) in RULES.as_slice() {
         rules.push(Rule {
-            left,
-            cost,
+            left: *left,
+            cost: *cost,
             right: List::from_vec(right.to_vec(alloc)?),
             span: DAY,
             first: DAY,
             last: DAY,
         })?;
     }
-    let codes = [(b'a', true), (b'.', false)].map(|(byte, work)| CodeDef { byte, work });
+    Ok(List::from_vec(rules))
+}
+
+fn grammar(alloc: Global) -> Result<Grammar, AllocError> {
     Ok(Grammar {
         periods: 4,
-        codes: List::from_vec(codes.to_vec(alloc)?),
-        names: List::from_vec(names),
-        rules: List::from_vec(rules),
+        codes: List::from_vec(CODES.to_vec(alloc)?),
+        names: names(alloc)?,
+        rules: rules(alloc)?,
         start: 0,
     })
 }
@@ -69,26 +89,57 @@ fn have_rules(grammar: &Grammar, steps: &[Step]) -> bool
         .all(|step| 1 <= step.rule && usize::from(step.rule) <= rules)
 }
 
+// The text of a derivation of `.aa.` at 4.
+fn text(alloc: Global, steps: &[Step]) -> Result<List<u8>, Fail> {
+    let grammar = grammar(alloc)?;
+    if is_sound(&grammar) && have_rules(&grammar, steps) {
+        return Ok(
+            write_tree(alloc, &grammar, b".aa.", 4, steps)
+                .ok()
+                .ok_or("memory")?,
+        );
+    }
+    Err(Fail::from("not sound"))
+}
+
+const STEPS: [Step; 6] = [
+    Step {
+        rule: 4,
+        start: 1,
+        len: 4,
+    },
+    Step {
+        rule: 8,
+        start: 1,
+        len: 1,
+    },
+    Step {
+        rule: 5,
+        start: 2,
+        len: 2,
+    },
+    Step {
+        rule: 7,
+        start: 2,
+        len: 2,
+    },
+    Step {
+        rule: 6,
+        start: 3,
+        len: 1,
+    },
+    Step {
+        rule: 8,
+        start: 4,
+        len: 1,
+    },
+];
+
 #[test]
 fn a_derivation_is_written(rt: HostRuntime) -> Result<(), Fail> {
-    let alloc = rt.alloc();
-    let grammar = grammar(alloc)?;
-    let steps = [
-        (4, 1, 4),
-        (8, 1, 1),
-        (5, 2, 2),
-        (7, 2, 2),
-        (6, 3, 1),
-        (8, 4, 1),
-    ]
-    .map(|(rule, start, len)| Step { rule, start, len });
-    assert!(rt; is_sound(&grammar));
-    assert!(rt; have_rules(&grammar, &steps));
-    let text = write_tree(alloc, &grammar, b".aa.", 4, &steps)
-        .ok()
-        .ok_or("memory")?;
+    let text = text(rt.alloc(), &STEPS)?;
     let lines =
         b"word .aa.\ncost 4\nuse 4 S 1 4\nuse 8 R 1 1\nuse 5 W 2 2\nuse 7 A 2 2\nuse 6 A 3 1\nuse 8 R 4 1\n";
-    assert_eq!(rt; text.as_slice(), lines.as_slice());
+    assert!(rt; text.as_slice() == lines.as_slice());
     Ok(())
 }
