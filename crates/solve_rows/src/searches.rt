@@ -14,12 +14,11 @@ use proof_check::{Bench, Verdict};
 use roster_model::{Instance, Shift};
 use sample_days::DayParts;
 use std::alloc::Global;
-use std::process::Abort;
 use std::test::Fail;
 
-/// How a search is to end: its cost, its bound, how many nodes it split without prices, and the checker's
-/// yes to its certificate.
-#[derive(Clone, Copy)]
+/// How a search is to end: its cost, its bound, and how many nodes it split without prices. The checker
+/// says yes to each certificate.
+#[derive(Clone, Copy, Drop)]
 struct End {
     done: Done,
     cost: Option<u64>,
@@ -27,23 +26,54 @@ struct End {
     failed: u32,
 }
 
-const fn equal(cost: u64, failed: u32) -> End {
-    End {
-        done: Done::Equal,
-        cost: Some(cost),
-        bound: Some(cost),
-        failed,
-    }
+/// A shift's group, word and price.
+type ShiftParts<'a> = (u8, &'a str, u64);
+
+/// What a row tells of a certificate beside its cost and its bound.
+#[derive(Clone, Copy, Drop)]
+enum Told<'a> {
+    Nothing,
+    /// The number of its shifts.
+    Count(usize),
+    Shifts(&'a [ShiftParts<'a>; 2]),
+    /// Two words, each at this price, that are not the same.
+    TwoWords(u64),
+    /// Its one node is pinned.
+    OnePinned,
 }
 
-const NO_ROSTER: End = End {
-    done: Done::NoRoster,
-    cost: None,
-    bound: None,
-    failed: 0,
-};
+/// What a search with a plain master finds: how many turns it is given, how it ends, and how many nodes
+/// it processes, where the row tells it.
+#[derive(Clone, Copy, Drop)]
+struct Case<'a> {
+    what: &'a str,
+    parts: DayParts<'a>,
+    turns: u32,
+    end: End,
+    processed: Option<u32>,
+    told: Told<'a>,
+}
 
-/// Searches with a new pool.
+/// Searches in a graph with a new pool.
+fn searched_in<M: Master>(
+    alloc: Global,
+    day: &Instance,
+    graph: &Graph,
+    turns: u32,
+    master: &mut M,
+) -> Result<Found, Fail>
+    requires day { IsSoundInstance day.now }
+    requires graph { IsGraph day.now.grammar graph.now }
+    requires some { 1 ≤ turns }
+    requires few { turns ≤ 10000 }
+    ensures { IfOk result (λ f. IsSoundCert day.now f.cert) }
+{
+    let mut pool = Pool::new(alloc);
+    let found = search(alloc, day, graph, turns, &mut pool, master)?;
+    Ok(found)
+}
+
+/// Searches on a day.
 fn searched<M: Master>(
     alloc: Global,
     day: &Instance,
@@ -56,13 +86,11 @@ fn searched<M: Master>(
     ensures { IfOk result (λ f. IsSoundCert day.now f.cert) }
 {
     let graph = graph_of(alloc, &day.grammar)?;
-    let mut pool = Pool::new(alloc);
-    let found = search(alloc, day, &graph, turns, &mut pool, master)?;
-    Ok(found)
+    searched_in(alloc, day, &graph, turns, master)
 }
 
-/// Shows that the checker accepts a certificate.
-fn show_accepted(rt: &impl Abort, alloc: Global, day: &Instance, cert: &Cert) -> Result<(), Fail>
+/// Whether the checker accepts a certificate.
+fn is_accepted(alloc: Global, day: &Instance, cert: &Cert) -> Result<bool, Fail>
     requires day { IsSoundInstance day.now }
     requires cert { IsSoundCert day.now cert.now }
 {
@@ -71,193 +99,333 @@ fn show_accepted(rt: &impl Abort, alloc: Global, day: &Instance, cert: &Cert) ->
         cost: cert.cost,
         bound: cert.bound,
     };
-    assert_eq!(rt; bench.judge(day, cert), yes);
+    Ok(bench.judge(day, cert) == yes)
+}
+
+fn is_end(found: &Found, end: &End) -> bool {
+    found.done == end.done
+        && found.cert.cost == end.cost
+        && found.cert.bound == end.bound
+        && found.failed == end.failed
+}
+
+fn is_processed(found: &Found, processed: Option<u32>) -> bool {
+    match processed {
+        Some(number) => found.processed == number,
+        None => true,
+    }
+}
+
+fn is_shift(shift: &Shift, parts: &ShiftParts<'_>) -> bool {
+    let (group, word, price) = parts;
+    shift.group == *group && shift.word.as_slice() == word.as_bytes() && shift.price == *price
+}
+
+fn are_shifts(shifts: &[Shift], parts: &[ShiftParts<'_>; 2]) -> bool {
+    match shifts {
+        [first, second] => is_shift(first, &parts[0]) && is_shift(second, &parts[1]),
+        _ => false,
+    }
+}
+
+fn are_two_words(shifts: &[Shift], price: u64) -> bool {
+    match shifts {
+        [first, second] => {
+            first.price == price
+                && second.price == price
+                && first.word.as_slice() != second.word.as_slice()
+        }
+        _ => false,
+    }
+}
+
+fn is_one_pinned(nodes: &[Node]) -> bool {
+    match nodes {
+        [Node::Pinned] => true,
+        _ => false,
+    }
+}
+
+fn is_told(cert: &Cert, told: &Told<'_>) -> bool {
+    match told {
+        Told::Nothing => true,
+        Told::Count(count) => cert.shifts.len() == *count,
+        Told::Shifts(parts) => are_shifts(cert.shifts.as_slice(), parts),
+        Told::TwoWords(price) => are_two_words(cert.shifts.as_slice(), *price),
+        Told::OnePinned => is_one_pinned(cert.nodes.as_slice()),
+    }
+}
+
+fn is_found(found: &Found, case: &Case<'_>) -> bool {
+    is_end(found, &case.end)
+        && is_processed(found, case.processed)
+        && is_told(&found.cert, &case.told)
+}
+
+/// Whether a search with a plain master finds what the row tells.
+fn finds(alloc: Global, day: &Instance, case: &Case<'_>) -> Result<bool, Fail>
+    requires day { IsSoundInstance day.now }
+    requires some { 1 ≤ case.now.turns }
+    requires few { case.now.turns ≤ 10000 }
+{
+    let found = searched(alloc, day, case.turns, &mut PlainMaster::new())?;
+    Ok(is_found(&found, case) && is_accepted(alloc, day, &found.cert)?)
+}
+
+fn show(alloc: Global, case: &Case<'_>) -> Result<(), Fail> {
+    if case.turns < 1 || 10_000 < case.turns {
+        return Err(Fail::from("no such turns"));
+    }
+    let day = sound_day(alloc, &case.parts)?;
+    if finds(alloc, &day, case)? {
+        return Ok(());
+    }
+    Err(Fail::from(case.what))
+}
+
+const AT_FOUR: End = End {
+    done: Done::Equal,
+    cost: Some(4),
+    bound: Some(4),
+    failed: 0,
+};
+
+const PAIRS: Case<'static> = Case {
+    what: "pairs with turns enough",
+    parts: PAIR_DAY,
+    turns: 8191,
+    end: AT_FOUR,
+    processed: None,
+    told: Told::TwoWords(2),
+};
+
+/// A day without a roster, which one node shows.
+const ONE_PERIOD: Case<'static> = Case {
+    what: "no shift of one period",
+    parts: ONE_DAY,
+    turns: 10,
+    end: End {
+        done: Done::NoRoster,
+        cost: None,
+        bound: None,
+        failed: 0,
+    },
+    processed: Some(1),
+    told: Told::OnePinned,
+};
+
+const CASES: [Case<'static>; 13] = [
+    PAIRS,
+    Case {
+        what: "pairs with ten turns",
+        turns: 10,
+        told: Told::Nothing,
+        ..PAIRS
+    },
+    Case {
+        what: "pairs of uneven needs",
+        parts: UNEVEN_DAY,
+        end: End {
+            cost: Some(6),
+            bound: Some(6),
+            ..AT_FOUR
+        },
+        told: Told::Count(3),
+        ..PAIRS
+    },
+    Case {
+        what: "one word alone",
+        parts: FULL_DAY,
+        turns: 10,
+        end: End {
+            cost: Some(6),
+            bound: Some(6),
+            ..AT_FOUR
+        },
+        told: Told::Shifts(&[(0, "aa", 3), (0, "aa", 3)]),
+        ..PAIRS
+    },
+    Case {
+        what: "two blocks",
+        parts: BLOCK_DAY,
+        turns: 10,
+        end: End {
+            cost: Some(10),
+            bound: Some(10),
+            ..AT_FOUR
+        },
+        processed: Some(1),
+        told: Told::Shifts(&[(0, ".aaa", 5), (0, "aaa.", 5)]),
+    },
+    Case {
+        what: "no employee where none is asked for",
+        parts: FREE_DAY,
+        turns: 10,
+        end: End {
+            cost: Some(10),
+            bound: Some(10),
+            ..AT_FOUR
+        },
+        processed: Some(1),
+        told: Told::Count(0),
+    },
+    ONE_PERIOD,
+    Case {
+        what: "floors that no roster meets",
+        parts: FLOOR_DAY,
+        turns: 127,
+        processed: None,
+        told: Told::Nothing,
+        ..ONE_PERIOD
+    },
+    Case {
+        what: "floors that are ceilings",
+        parts: EXACT_DAY,
+        turns: 8191,
+        processed: None,
+        told: Told::Nothing,
+        ..ONE_PERIOD
+    },
+    Case {
+        what: "a floor above the heads",
+        parts: CROWD_DAY,
+        told: Told::Nothing,
+        ..ONE_PERIOD
+    },
+    Case {
+        what: "a group without a shift",
+        parts: IDLE_GROUP_DAY,
+        told: Told::Nothing,
+        ..ONE_PERIOD
+    },
+    Case {
+        what: "shifts of two groups",
+        parts: GROUP_DAY,
+        turns: 2047,
+        told: Told::Shifts(&[(1, "aa", 3), (2, "a.", 1)]),
+        ..PAIRS
+    },
+    Case {
+        what: "groups of fixed heads",
+        parts: FULL_GROUP_DAY,
+        turns: 6249,
+        end: End {
+            cost: Some(18),
+            bound: Some(18),
+            ..AT_FOUR
+        },
+        told: Told::Count(4),
+        ..PAIRS
+    },
+];
+
+fn show_all(alloc: Global, cases: &[Case<'_>]) -> Result<(), Fail> {
+    for case in cases {
+        show(alloc, case)?;
+    }
     Ok(())
-}
-
-fn show_end(rt: &impl Abort, found: &Found, end: End) {
-    assert_eq!(rt; found.done, end.done);
-    assert_eq!(rt; found.cert.cost, end.cost);
-    assert_eq!(rt; found.cert.bound, end.bound);
-    assert_eq!(rt; found.failed, end.failed);
-}
-
-/// Returns what a search with a plain master finds, and shows how it ends.
-fn found(
-    rt: &impl Abort,
-    alloc: Global,
-    parts: &DayParts,
-    turns: u32,
-    end: End,
-) -> Result<Found, Fail>
-    requires some { 1 ≤ turns }
-    requires few { turns ≤ 10000 }
-{
-    let day = sound_day(alloc, parts)?;
-    let found = searched(alloc, &day, turns, &mut PlainMaster::new())?;
-    show_end(rt, &found, end);
-    show_accepted(rt, alloc, &day, &found.cert)?;
-    Ok(found)
-}
-
-/// Shows how many nodes a search with a failing master processes, and that it counts each refused one.
-fn show_failing(
-    rt: &impl Abort,
-    alloc: Global,
-    turns: u32,
-    mut master: FailingMaster,
-    end: End,
-) -> Result<u32, Fail>
-    requires some { 1 ≤ turns }
-    requires few { turns ≤ 10000 }
-{
-    let day = sound_day(alloc, &PAIR_DAY)?;
-    let found = searched(alloc, &day, turns, &mut master)?;
-    show_end(rt, &found, end);
-    assert_eq!(rt; u64::from(found.failed), master.refused());
-    show_accepted(rt, alloc, &day, &found.cert)?;
-    Ok(found.processed)
-}
-
-fn is_shift(shift: &Shift, group: u8, word: &str, price: u64) -> bool {
-    shift.group == group && shift.word.as_slice() == word.as_bytes() && shift.price == price
 }
 
 #[test]
-fn pairs_with_turns_enough(rt: HostRuntime) -> Result<(), Fail> {
-    let found = found(&rt, rt.alloc(), &PAIR_DAY, 8191, equal(4, 0))?;
-    let [first, second] = found.cert.shifts.as_slice() else {
-        panic!(rt; "two shifts");
-    };
-    assert_eq!(rt; (first.price, second.price), (2, 2));
-    assert!(rt; first.word.as_slice() != second.word.as_slice());
-    Ok(())
+fn searches_with_a_plain_master(rt: HostRuntime) -> Result<(), Fail> {
+    show_all(rt.alloc(), &CASES)
 }
 
-#[test]
-fn pairs_with_ten_turns(rt: HostRuntime) -> Result<(), Fail> {
-    let _ = found(&rt, rt.alloc(), &PAIR_DAY, 10, equal(4, 0))?;
-    Ok(())
+fn is_after_one_turn(found: &Found) -> bool {
+    found.done == Done::TurnsOut
+        && found.processed == 1
+        && found.failed == 0
+        && found.cert.bound == Some(3)
+        && found.cert.cost.is_some_and(|cost| cost >= 4)
+}
+
+/// Whether the first of many turns on pairs shows a bound of 3.
+fn ends_after_one_turn(alloc: Global, day: &Instance) -> Result<bool, Fail>
+    requires { IsSoundInstance day.now }
+{
+    let found = searched(alloc, day, 1, &mut PlainMaster::new())?;
+    Ok(is_after_one_turn(&found) && is_accepted(alloc, day, &found.cert)?)
 }
 
 #[test]
 fn one_turn(rt: HostRuntime) -> Result<(), Fail> {
     let day = sound_day(rt.alloc(), &PAIR_DAY)?;
-    let found = searched(rt.alloc(), &day, 1, &mut PlainMaster::new())?;
-    assert_eq!(rt; found.done, Done::TurnsOut);
-    assert_eq!(rt; (found.processed, found.failed), (1, 0));
-    assert_eq!(rt; found.cert.bound, Some(3));
-    assert!(rt; found.cert.cost.is_some_and(|cost| cost >= 4));
-    show_accepted(&rt, rt.alloc(), &day, &found.cert)
-}
-
-#[test]
-fn pairs_of_uneven_needs(rt: HostRuntime) -> Result<(), Fail> {
-    let found = found(&rt, rt.alloc(), &UNEVEN_DAY, 8191, equal(6, 0))?;
-    assert_eq!(rt; found.cert.shifts.len(), 3);
+    assert!(rt; ends_after_one_turn(rt.alloc(), &day)?);
     Ok(())
 }
 
-#[test]
-fn one_word_alone(rt: HostRuntime) -> Result<(), Fail> {
-    let found = found(&rt, rt.alloc(), &FULL_DAY, 10, equal(6, 0))?;
-    let [first, second] = found.cert.shifts.as_slice() else {
-        panic!(rt; "two shifts");
-    };
-    assert!(rt; is_shift(first, 0, "aa", 3));
-    assert!(rt; is_shift(second, 0, "aa", 3));
-    Ok(())
+/// How a search on pairs with a failing master is to end.
+#[derive(Clone, Copy, Drop)]
+enum FailedEnd {
+    /// At cost 4, with so many failed nodes.
+    Equal(u32),
+    /// The turns ran out.
+    TurnsOut,
 }
 
-#[test]
-fn two_blocks(rt: HostRuntime) -> Result<(), Fail> {
-    let found = found(&rt, rt.alloc(), &BLOCK_DAY, 10, equal(10, 0))?;
-    assert_eq!(rt; found.processed, 1);
-    let [first, second] = found.cert.shifts.as_slice() else {
-        panic!(rt; "two shifts");
-    };
-    assert!(rt; is_shift(first, 0, ".aaa", 5));
-    assert!(rt; is_shift(second, 0, "aaa.", 5));
-    Ok(())
+fn is_failed_end(found: &Found, end: FailedEnd) -> bool {
+    match end {
+        FailedEnd::Equal(failed) => is_end(found, &End { failed, ..AT_FOUR }),
+        FailedEnd::TurnsOut => found.done == Done::TurnsOut,
+    }
 }
 
-#[test]
-fn no_shift_of_one_period(rt: HostRuntime) -> Result<(), Fail> {
-    let found = found(&rt, rt.alloc(), &ONE_DAY, 10, NO_ROSTER)?;
-    assert_eq!(rt; found.processed, 1);
-    assert_eq!(rt; found.cert.nodes.as_slice(), [Node::Pinned].as_slice());
-    Ok(())
+/// Whether a search with a failing master ends so, and counts each refused node.
+fn ends(
+    alloc: Global,
+    day: &Instance,
+    turns: u32,
+    master: &mut FailingMaster,
+    end: FailedEnd,
+    processed: Option<u32>,
+) -> Result<bool, Fail>
+    requires day { IsSoundInstance day.now }
+    requires some { 1 ≤ turns }
+    requires few { turns ≤ 10000 }
+{
+    let found = searched(alloc, day, turns, master)?;
+    Ok(
+        is_failed_end(&found, end)
+            && is_processed(&found, processed)
+            && u64::from(found.failed) == master.refused()
+            && is_accepted(alloc, day, &found.cert)?,
+    )
 }
 
-#[test]
-fn no_employee_where_none_is_asked_for(rt: HostRuntime) -> Result<(), Fail> {
-    let found = found(&rt, rt.alloc(), &FREE_DAY, 10, equal(10, 0))?;
-    assert_eq!(rt; found.processed, 1);
-    assert_eq!(rt; found.cert.shifts.len(), 0);
-    Ok(())
+/// Whether a search on pairs with this failing master does.
+fn ends_on_pairs(
+    alloc: Global,
+    turns: u32,
+    mut master: FailingMaster,
+    end: FailedEnd,
+    processed: Option<u32>,
+) -> Result<bool, Fail>
+    requires some { 1 ≤ turns }
+    requires few { turns ≤ 10000 }
+{
+    let day = sound_day(alloc, &PAIR_DAY)?;
+    ends(alloc, &day, turns, &mut master, end, processed)
 }
 
-#[test]
-fn floors_that_no_roster_meets(rt: HostRuntime) -> Result<(), Fail> {
-    let _ = found(&rt, rt.alloc(), &FLOOR_DAY, 127, NO_ROSTER)?;
-    let _ = found(&rt, rt.alloc(), &EXACT_DAY, 8191, NO_ROSTER)?;
-    Ok(())
-}
-
-#[test]
-fn a_floor_above_the_heads(rt: HostRuntime) -> Result<(), Fail> {
-    let found = found(&rt, rt.alloc(), &CROWD_DAY, 10, NO_ROSTER)?;
-    assert_eq!(rt; found.processed, 1);
-    Ok(())
-}
-
-#[test]
-fn shifts_of_two_groups(rt: HostRuntime) -> Result<(), Fail> {
-    let found = found(&rt, rt.alloc(), &GROUP_DAY, 2047, equal(4, 0))?;
-    let [first, second] = found.cert.shifts.as_slice() else {
-        panic!(rt; "two shifts");
-    };
-    assert!(rt; is_shift(first, 1, "aa", 3));
-    assert!(rt; is_shift(second, 2, "a.", 1));
-    Ok(())
-}
-
-#[test]
-fn groups_of_fixed_heads(rt: HostRuntime) -> Result<(), Fail> {
-    let found = found(&rt, rt.alloc(), &FULL_GROUP_DAY, 6249, equal(18, 0))?;
-    assert_eq!(rt; found.cert.shifts.len(), 4);
-    Ok(())
-}
-
-#[test]
-fn a_group_without_a_shift(rt: HostRuntime) -> Result<(), Fail> {
-    let found = found(&rt, rt.alloc(), &IDLE_GROUP_DAY, 10, NO_ROSTER)?;
-    assert_eq!(rt; found.processed, 1);
-    Ok(())
+/// Whether a search on pairs with a master that always fails does.
+fn ends_without_prices(alloc: Global, turns: u32, end: FailedEnd) -> Result<bool, Fail>
+    requires some { 1 ≤ turns }
+    requires few { turns ≤ 10000 }
+{
+    let master = FailingMaster::new(true, Vec::new(alloc));
+    ends_on_pairs(alloc, turns, master, end, Some(turns))
 }
 
 #[test]
 fn a_master_that_always_fails(rt: HostRuntime) -> Result<(), Fail> {
-    let master = FailingMaster::new(true, Vec::new(rt.alloc()));
-    let processed = show_failing(&rt, rt.alloc(), 8191, master, equal(4, 4095))?;
-    assert_eq!(rt; processed, 8191);
+    assert!(rt; ends_without_prices(rt.alloc(), 8191, FailedEnd::Equal(4095))?);
+    assert!(rt; ends_without_prices(rt.alloc(), 8190, FailedEnd::TurnsOut)?);
     Ok(())
-}
-
-#[test]
-fn one_turn_too_few(rt: HostRuntime) -> Result<(), Fail> {
-    let day = sound_day(rt.alloc(), &PAIR_DAY)?;
-    let mut master = FailingMaster::new(true, Vec::new(rt.alloc()));
-    let found = searched(rt.alloc(), &day, 8190, &mut master)?;
-    assert_eq!(rt; found.done, Done::TurnsOut);
-    assert_eq!(rt; found.processed, 8190);
-    assert_eq!(rt; u64::from(found.failed), master.refused());
-    show_accepted(&rt, rt.alloc(), &day, &found.cert)
 }
 
 #[test]
 fn a_master_that_fails_at_two_calls(rt: HostRuntime) -> Result<(), Fail> {
     let master = FailingMaster::new(false, vec![in rt.alloc(); 1, 2]?);
-    let _ = show_failing(&rt, rt.alloc(), 8191, master, equal(4, 2))?;
+    assert!(rt; ends_on_pairs(rt.alloc(), 8191, master, FailedEnd::Equal(2), None)?);
     Ok(())
 }
