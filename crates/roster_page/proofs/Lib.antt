@@ -1,0 +1,7 @@
+mod StepRules
+mod Derivations
+mod Starts
+mod RowLemmas
+mod PageLemmas
+pub mod Readers
+pub mod Checks
