@@ -2,6 +2,5 @@ mod StepRules
 mod Derivations
 mod Starts
 mod RowLemmas
-mod PageLemmas
 pub mod Readers
 pub mod Checks

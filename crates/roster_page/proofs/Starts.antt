@@ -1,8 +1,8 @@
 -- A rules text's grammar with another start.
-use Rattle.std.proofs.Common.{◌≡◌, ◌≢◌, ℕ, ◌<◌, List, length, ◌⊎◌, inl, inr}
-use Rattle.std.specs.Prelude.{Some, slice_get, true}
+use Rattle.std.proofs.Common.{◌≡◌, ◌≢◌, ℕ, ◌<◌, List, length, inl, inr}
+use Rattle.std.specs.Prelude.{Some, slice_get}
 use Rattle.roster_model.specs.declared.grammar.Grammar.{Grammar}
-use Rattle.roster_model.specs.Names.{added_name, is_name}
+use Rattle.roster_model.specs.Names.{added_name}
 use Rattle.roster_model.specs.Sound.{IsNameOf, IsPlain, IsSound}
 use Rattle.tree_laws.proofs.Rules.{All-slice_get}
 

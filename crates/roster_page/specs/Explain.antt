@@ -2,7 +2,7 @@
 use Rattle.std.specs.Prelude.{ℕ, ◌≡◌, List, Ok, Err, codes}
 use Rattle.roster_model.specs.declared.grammar.Grammar.{Grammar}
 use Rattle.roster_model.specs.Shifts.{IsShift, IsPrice, IsWordTree}
-use Rattle.roster_model.specs.Sound.{IsSound, IsPlain}
+use Rattle.roster_model.specs.Sound.{IsSound}
 use Rattle.roster_model.specs.Trees.{Parts, steps}
 use Rattle.roster_model.specs.Arcs.{cost}
 use Rattle.rules_text.specs.RulesOf.{IsReading}

@@ -1,6 +1,5 @@
 ghost use Rattle.std.specs.Prelude.{ℕ, ◌≡◌, ◌≤◌, IfOk, IfSome, List as Items, Ok as Is, length};
 ghost use Rattle.certificate_laws.specs.Accepted.{Accepts, IsStated};
-ghost use Rattle.certificate_laws.specs.Right.{YesIsRight};
 ghost use Rattle.certificates.specs.Sound.{IsSoundCert};
 ghost use Rattle.certificates.specs.declared.cert.Cert.{Cert as Certificate};
 ghost use Rattle.page_parts.specs.Elements.{written};
