@@ -126,13 +126,14 @@ def pictures(page, periods):
 
 
 def picture(page):
-    """The chart of the shifts and the first chart of the coverage, as one SVG file."""
+    """The chart of the shifts and the last chart of the coverage, as one SVG file."""
     text = page.read_text()
     style = re.search(r"<style>\n(.*?)</style>", text, re.S).group(1).split("@media print")[0]
     light, dark = re.findall(r":root\{[^}]*\}", style)
     rules = [rule for rule in re.findall(r"[^{}\n]+\{[^{}]*\}", style)
              if re.match(r"rect|path|svg text|\.hit\{|\.[wi]\d", rule)]
-    upper, lower = re.findall(r"<svg.*?</svg>", text, re.S)[:2]
+    charts = re.findall(r"<svg.*?</svg>", text, re.S)
+    upper, lower = charts[0], charts[-1]
     width, high, low = (int(re.search(word + r"='(\d+)'", chart).group(1)) for word, chart in
                         (("width", upper), ("height", upper), ("height", lower)))
     upper = re.sub(r" (tabindex|aria-describedby|id)='\w+'", "", upper)
