@@ -48,7 +48,8 @@ rect{fill:var(--c)}\n\
 svg text[class^=w],svg text[class^=i]{fill:var(--t);text-anchor:middle;\n\
 font:600 11px ui-monospace,'DejaVu Sans Mono',Menlo,Consolas,monospace}\n\
 svg text.tick{text-anchor:middle;fill:var(--dim);font-size:11px}\n\
-svg text.name,svg text.price{text-anchor:end;font-variant-numeric:tabular-nums}\n\
+svg text.name{text-anchor:end;font-family:ui-monospace,'DejaVu Sans Mono',Menlo,Consolas,monospace}\n\
+svg text.price{text-anchor:end;font-size:11px;font-variant-numeric:tabular-nums}\n\
 svg text.times{text-anchor:end;fill:var(--dim);font-weight:600}\n\
 svg text.mark{text-anchor:end;fill:var(--dim);font-size:11px}\n\
 .hit{fill:transparent;rx:6px}\n\
@@ -63,23 +64,26 @@ path.ceiling{stroke:#cc79a7;stroke-dasharray:2 3}\n\
 .hint{margin:.7rem 0 0;font-size:.85rem;color:var(--dim)}\n\
 .derivation{display:none;position:fixed;right:1rem;bottom:1rem;left:1rem;max-width:60rem;\n\
 max-height:48vh;margin:0 auto;padding:.9rem 1.2rem;overflow:auto;columns:15rem;\n\
+white-space:pre-wrap;overflow-wrap:anywhere;\n\
 column-rule:1px solid var(--line);pointer-events:none;background:var(--card);color:var(--ink);\n\
 border:1px solid var(--dim);border-radius:10px;box-shadow:0 8px 30px #0005;\n\
 font:12px/1.45 ui-monospace,'DejaVu Sans Mono',Menlo,Consolas,monospace}\n\
 @page{size:A4;margin:10mm}\n\
-@media print{:root{--page:#fff;--card:#fff;--ink:#000;--dim:#444;--line:#bbb;--have:#aab4bf;\n\
+@media print{:root{font-size:12px;--page:#fff;--card:#fff;--ink:#000;--dim:#444;--line:#bbb;\n\
+--have:#aab4bf;\n\
 --short:#d55e00;--over:#56b4e9;--off:#eceef0}\n\
 *{print-color-adjust:exact;-webkit-print-color-adjust:exact}\n\
 body{font-size:11px}\n\
-main{width:auto;padding:0}\n\
+main{width:auto;padding:0 1px}\n\
 h1{font-size:18px}header p{font-size:12px;margin:.1rem 0 .5rem}\n\
 dl{gap:.4rem;margin:0 0 .5rem}dl div{padding:.2rem .6rem;min-width:0}dd{font-size:14px}\n\
 section{padding:.5rem .6rem;margin:0 0 .5rem;break-inside:avoid}\n\
 .legend{margin:0 0 .4rem}\n\
-svg.roster{max-height:120mm;width:100%}\n\
-.charts{display:grid;grid-template-columns:repeat(2,minmax(0,1fr));gap:.4rem}\n\
+svg.roster{max-height:120mm}\n\
+.charts:has(figure:nth-child(4)){display:grid;grid-template-columns:repeat(2,minmax(0,1fr));\n\
+gap:.4rem}\n\
 figure+figure{margin-top:0}\n\
-.charts svg{width:100%;max-height:32mm}\n\
+.charts svg{max-height:32mm}\n\
 .hint,.derivation{display:none!important}}\n\
 ";
 

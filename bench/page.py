@@ -1,0 +1,164 @@
+#!/usr/bin/env python3
+"""Looks at pages of `./roster-page` in a headless browser: page.py [FOLDER [DAY..]]
+
+    apt-get install chromium poppler-utils fonts-dejavu-core
+
+For examples/ (g1, g6, and days that are solved here: the call centre, the shop, the ward) and for days that are
+made here (96 periods, 64 shifts, long names, codes that HTML has a use for, no roster) it draws the page, takes a
+picture in light, in dark, as printed and with a derivation shown into FOLDER (/tmp/roster-pages if none is given),
+and fails where an element of a chart lies outside its frame, a text is cut or two texts of a row overlap, a
+derivation leaves its frame, a page asks the network for something, the console says a word, or a printed day of
+at most 48 periods takes more than one page. From the page of the call centre it makes docs/page.svg anew.
+"""
+import pathlib
+import re
+import subprocess
+import sys
+
+TOP = pathlib.Path(__file__).resolve().parent.parent
+DAYS = {"g1": None, "g6": None, "call_centre": 300, "shop": 60, "ward": 60}
+
+
+def bare(cost, shifts):
+    return f"proof {2 if ' ' in shifts[0].rpartition(' ')[0] else 1}\ncost {cost}\nbound 0\n" + "".join(
+        f"shift {shift}\n" for shift in shifts) + "bare\nend\n"
+
+
+STEPS = "work a b c d e f g h\nidle . p q r s t\nstart S\nrule S 1 = X S\nrule S 1 = X\n" + "".join(
+    f"rule X 0 = '{code}'\n" for code in "abcdefgh.pqrst")
+WIDE = "W" * 32
+# Days that are made here: their rules, demand and certificate.
+MADE = {
+    "marks": ("periods 2\nwork < & \"\nidle >\nstart S\nrule S 1 = '<' '&'\nrule S 1 = '\"' '>'\n",
+              "heads 0 2\nneed < 5 1 1 0\nneed \" 5 1 1 1\n", bare(7, ['"> 1', "<& 1"])),
+    "none": ((TOP / "examples/g1.rules").read_text(), "heads 0 2\nneed a 10 3 1 2 2 1\n",
+             "proof 1\ncost none\nbound 0\nbare\nend\n"),
+    "crowd": ("periods 24\nwork a\nstart S\nrule S 1 = 'a'\nrule S 0 = 'a' S\n", "heads 0 64\nneed a 9 2" + " 0" * 24,
+              bare(64 + 64 * 48, ["a" * 24 + " 1"] * 64)),
+    "long": ("periods 96\n" + STEPS, "heads 0 40\nneed a 0 0" + " 3" * 96 + "\nleast a" + " 1" * 96 + "\nmost a" + " 40" * 96,
+             bare(30 * 96, [("abcdefgh.pqrst" * 8)[k % 14:][:96] + " 96" for k in range(30)])),
+    "names": (f"periods 48\nwork a\nidle .\nstart S\nrule S 0 = {WIDE}\nrule {WIDE} 9999 = 'a'\nrule {WIDE} 9999 = 'a' {WIDE}\n",
+              f"group {WIDE} 0 2\nneed a 10000 1" + " 64" * 48,
+              bare(2 * 48 * 9999 + 48 * 62 * 10000, [f"{WIDE} " + "a" * 48 + f" {48 * 9999}"] * 2)),
+}
+BROWSER = ["chromium", "--headless", "--no-sandbox", "--disable-gpu", "--hide-scrollbars", "--enable-logging=stderr",
+           "--log-level=0", "--virtual-time-budget=2000"]
+# Appended to a copy of the page: what lies outside, is cut or overlaps, one line each.
+LOOK = """<script>addEventListener('load',()=>{const said=[],near=1;
+for(const svg of document.querySelectorAll('svg')){const f=svg.getBoundingClientRect();
+for(const e of svg.querySelectorAll('rect,text,path')){const b=e.getBoundingClientRect();if(!b.width&&!b.height)continue;
+if(b.left<f.left-near||b.right>f.right+near||b.top<f.top-near||b.bottom>f.bottom+near)
+said.push('outside '+e.outerHTML.slice(0,120));}
+for(const g of svg.querySelectorAll('g.row')){const t=[...g.querySelectorAll('text')].map(e=>[e,e.getBoundingClientRect()])
+.filter(p=>p[1].width).sort((a,b)=>a[1].left-b[1].left);
+for(let i=1;i<t.length;i++)if(t[i][1].left<t[i-1][1].right-near)said.push('overlap '+t[i-1][0].outerHTML+t[i][0].outerHTML);}}
+for(const e of document.querySelectorAll('h1,h2,p,dt,dd,li,figcaption'))
+if(e.scrollWidth>e.clientWidth+near&&e.clientWidth)said.push('cut '+e.outerHTML.slice(0,120));
+for(const e of document.querySelectorAll('pre.derivation')){e.style.display='block';
+if(e.scrollWidth>e.clientWidth+near)said.push('wide derivation '+e.id);e.style.display='';}
+if(document.documentElement.scrollWidth>innerWidth+near)said.push('wider than the window');
+for(const e of performance.getEntriesByType('resource'))said.push('asks '+e.name);
+const p=document.createElement('pre');p.id='look';p.textContent=said.join('\\n');document.body.append(p);})</script>"""
+
+
+def run(words, **more):
+    return subprocess.run(words, capture_output=True, text=True, timeout=120, **more)
+
+
+def texts(folder, name):
+    """The rules, demand and certificate of a day, as files."""
+    if name in MADE:
+        paths = [folder / f"{name}.{word}" for word in ("rules", "demand", "proof")]
+        for path, text in zip(paths, MADE[name]):
+            path.write_text(text)
+        return paths
+    rules, demand = TOP / f"examples/{name}.rules", TOP / f"examples/{name}.demand"
+    proof = TOP / f"examples/{name}.proof"
+    if DAYS[name]:
+        proof = folder / f"{name}.proof"
+        if not proof.exists():
+            run([TOP / "roster", "solve", rules, demand, proof, str(DAYS[name])])
+    return rules, demand, proof
+
+
+def drawn(folder, name, rules, demand, proof):
+    """The page of a day, as a file."""
+    said = run([TOP / "roster-page", rules, demand, proof])
+    if said.returncode != 0:
+        raise SystemExit(f"{name}: status {said.returncode}: {said.stdout}{said.stderr}")
+    page = folder / f"{name}.html"
+    page.write_text(said.stdout)
+    return page
+
+
+def console(said):
+    return [line for line in said.stderr.splitlines() if "CONSOLE" in line]
+
+
+def faults(page, size):
+    """What the browser finds wrong with a page."""
+    copy = page.with_suffix(".look.html")
+    copy.write_text(page.read_text().replace("</body>", LOOK + "</body>"))
+    said = run(BROWSER + ["--dump-dom", f"--window-size={size}", f"file://{copy}"])
+    look = re.search(r'<pre id="look">(.*?)</pre>', said.stdout, re.S)
+    if not look:
+        return ["the page was not looked at"]
+    return [line for line in look.group(1).splitlines() if line] + console(said)
+
+
+def pictures(page, periods):
+    """Takes the three pictures; a day of at most 48 periods is one printed page."""
+    wrong = []
+    for word, scheme in ("light", 1), ("dark", 0):
+        said = run(BROWSER + [f"--screenshot={page.with_suffix(f'.{word}.png')}", "--window-size=1240,1400",
+                              f"--blink-settings=preferredColorScheme={scheme}", f"file://{page}"])
+        wrong += console(said)
+    shown = page.with_suffix(".shown.html")
+    shown.write_text(page.read_text().replace("</style>", "#d0{display:block}</style>"))
+    run(BROWSER + [f"--screenshot={page.with_suffix('.shown.png')}", "--window-size=1240,1400", f"file://{shown}"])
+    printed = page.with_suffix(".pdf")
+    run(BROWSER + [f"--print-to-pdf={printed}", "--no-pdf-header-footer", f"file://{page}"])
+    pages = re.search(r"Pages:\s+(\d+)", run(["pdfinfo", printed]).stdout)
+    if not pages or (periods <= 48 and pages.group(1) != "1"):
+        wrong.append(f"printed on {pages.group(1) if pages else 'no'} pages")
+    run(["pdftoppm", "-png", "-r", "80", "-singlefile", printed, page.with_suffix(".print")])
+    return wrong
+
+
+def picture(page):
+    """The chart of the shifts and the last chart of the coverage, as one SVG file."""
+    text = page.read_text()
+    style = re.search(r"<style>\n(.*?)</style>", text, re.S).group(1).split("@media print")[0]
+    light, dark = re.findall(r":root\{[^}]*\}", style)
+    rules = [rule for rule in re.findall(r"[^{}\n]+\{[^{}]*\}", style)
+             if re.match(r"rect|path|svg text|\.hit\{|\.[wi]\d", rule)]
+    charts = re.findall(r"<svg.*?</svg>", text, re.S)
+    upper, lower = charts[0], charts[-1]
+    width, high, low = (int(re.search(word + r"='(\d+)'", chart).group(1)) for word, chart in
+                        (("width", upper), ("height", upper), ("height", lower)))
+    upper = re.sub(r" (tabindex|aria-describedby|id)='\w+'", "", upper)
+    lower = lower.replace("<svg", f"<svg y='{high}'", 1)
+    return (f"<svg xmlns='http://www.w3.org/2000/svg' viewBox='0 0 {width} {high + low}' width='{width}' "
+            f"height='{high + low}'>\n<style>\n{light}\n@media(prefers-color-scheme:dark){{{dark}}}\n"
+            + "\n".join(rules) + f"\n</style>\n<rect style='fill:var(--card)' width='{width}' height='{high + low}'/>\n"
+            + upper + "\n" + lower + "\n</svg>\n")
+
+
+def main():
+    folder = pathlib.Path(sys.argv[1] if len(sys.argv) > 1 else "/tmp/roster-pages").resolve()
+    folder.mkdir(parents=True, exist_ok=True)
+    wrong = 0
+    for name in sys.argv[2:] or [*DAYS, *MADE]:
+        paths = texts(folder, name)
+        page = drawn(folder, name, *paths)
+        periods = int(re.search(r"^periods (\d+)", paths[0].read_text(), re.M).group(1))
+        said = faults(page, "1240,1400") + faults(page, "700,1400") + pictures(page, periods)
+        if name == "call_centre":
+            (TOP / "docs/page.svg").write_text(picture(page))
+        wrong += len(said)
+        print(f"{name}: {len(said)} faults", *said, sep="\n  ")
+    sys.exit(1 if wrong else 0)
+
+
+if __name__ == "__main__":
+    main()

@@ -1,0 +1,8 @@
+use roster_model::List;
+
+/// How a command ends: its status, and what it says.
+#[derive(Drop)]
+pub struct Answer {
+    pub status: u8,
+    pub output: List<u8>,
+}

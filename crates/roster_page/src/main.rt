@@ -1,0 +1,42 @@
+//! The program: the page of a certificate that it has checked itself.
+#![tactic(auto)]
+
+mod answer;
+mod check;
+mod derived;
+mod draw;
+mod explain;
+mod fetch;
+mod rows;
+mod run;
+mod say;
+#[cfg(test)]
+mod tests;
+
+use run::run;
+use shelf::DiskShelf;
+use std::env;
+use std::io::ErrorKind;
+use std::process::ExitCode;
+
+/// Want of memory before the words are known.
+const MEMORY: u8 = 7;
+
+fn main(rt: HostRuntime) -> ExitCode {
+    let alloc = rt.alloc();
+    let mut words = Vec::new(alloc);
+    match env::args(&rt) {
+        Ok(args) => {
+            for word in args.skip(1) {
+                if words.push(word).is_err() {
+                    return ExitCode::from(MEMORY);
+                }
+            }
+        }
+        Err(error) if error.kind() == ErrorKind::OutOfMemory => return ExitCode::from(MEMORY),
+        // Where a word is no text, the program passes no words.
+        Err(_) => {}
+    }
+    let mut shelf = DiskShelf::new(rt);
+    ExitCode::from(run(alloc, &mut shelf, words.as_slice()))
+}

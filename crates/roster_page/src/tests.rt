@@ -1,0 +1,449 @@
+use crate::run::run;
+use shelf::MemoryShelf;
+use std::alloc::Global;
+use std::test::Fail;
+
+const G1: &str = "\
+periods 4\n\
+work a\n\
+idle .\n\
+start S\n\
+rule S 0 = W\n\
+rule S 0 = R W\n\
+rule S 0 = W R\n\
+rule S 0 = R W R\n\
+rule W 2 = A len 2 3\n\
+rule A 1 = 'a'\n\
+rule A 1 = 'a' A\n\
+rule R 0 = '.'\n\
+rule R 0 = '.' R\n";
+
+const G3: &str = "\
+periods 24\n\
+work a b\n\
+idle . p m\n\
+start S\n\
+rule S 0 = D\n\
+rule S 0 = O D\n\
+rule S 0 = D O\n\
+rule S 0 = O D O\n\
+rule D 20 = B L B 'p' B len 8 16\n\
+rule D 20 = B 'p' B L B len 8 16\n\
+rule B 0 = X len 2 8\n\
+rule B 0 = Y len 2 8\n\
+rule X 1 = 'a'\n\
+rule X 1 = 'a' X\n\
+rule Y 1 = 'b'\n\
+rule Y 1 = 'b' Y\n\
+rule L 0 = 'm' 'm' begin 9 14\n\
+rule O 0 = '.'\n\
+rule O 0 = '.' O\n";
+
+const MARKS: &str =
+    "periods 2\nwork < & \"\nidle >\nstart S\nrule S 1 = '<' '&'\nrule S 1 = '\"' '>'\n";
+
+const CENTRE: &str = "\
+heads 0 1\n\
+need a 30 1 0 0 0 0 1 1 2 2 3 3 2 2 1 1 2 2 3 3 2 2 1 1 0 0\n\
+least a 0 0 0 0 1 0 0 0 0 0 0 0 0 0 0 0 0 0 0 0 0 0 0 0\n\
+most a 64 64 64 64 3 64 64 64 64 64 64 64 64 64 64 64 64 64 64 64 64 64 64 64\n";
+
+const ALL_DAY: &str = "\
+heads 0 1\n\
+need a 1 1 1 1 1 1 1 1 1 1 1 1 1 1 1 1 1 1 1 1 1 1 1 1 1 1 1 1 1 1 1 1 1 1 1 1 1 1 1 1 1 1 1 1 1 1 1 \
+1 1 1 1 1 1 1 1 1 1 1 1 1 1 1 1 1 1 1 1 1 1 1 1 1 1 1 1 1 1 1 1 1 1 1 1 1 1 1 1 1 1 1 1 1 1 1 1 1 1 \
+1\n";
+
+const BEST: &str =
+    "proof 1\ncost 10\nbound 10\nshift .aaa 5\nshift aaa. 5\npriced 1\nprice a 1 2 2 1\nend\n";
+
+const LONG: &str = "\
+proof 1\n\
+cost 97\n\
+bound 0\n\
+shift aaaaaaaaaaaaaaaaaaaaaaaaaaaaaaaaaaaaaaaaaaaaaaaaaaaaaaaaaaaaaaaaaaaaaaaaaaaaaaaaaaaaaaaaaaaaaa\
+a. 96\n\
+bare\n\
+end\n";
+
+// The texts that each shelf of a test holds, by name: rules, demands and certificates.
+const TEXTS: [(&str, &str); 22] = [
+    ("g1", G1),
+    ("g3", G3),
+    ("marks", MARKS),
+    ("letter", "periods 1\nwork a\nstart S\nrule S 1 = 'a'\n"),
+    ("pair", "periods 1\nwork a\nstart S\nrule S 1 = 'a' 'a'\n"),
+    (
+        "day",
+        "periods 96\nwork a\nidle .\nstart S\nrule S 1 = 'a' S\nrule S 1 = '.'\n",
+    ),
+    ("cycle", "periods 4\nstart A\nrule A 0 = B\nrule B 0 = A\n"),
+    ("two", "heads 0 2\nneed a 10 3 1 2 2 1\n"),
+    ("centre", CENTRE),
+    ("marked", "heads 0 2\nneed < 5 1 1 0\nneed \" 5 1 1 1\n"),
+    ("crowd", "heads 0 64\nneed a 9 2 0\n"),
+    ("some", "heads 1 2\nneed a 10 3 1\n"),
+    ("all_day", ALL_DAY),
+    ("fallen", "heads 2 1\n"),
+    ("best", BEST),
+    (
+        "high",
+        "proof 1\ncost 10\nbound 11\nshift .aaa 5\nshift aaa. 5\npriced 1\nprice a 1 2 2 1\nend\n",
+    ),
+    (
+        "shift",
+        "proof 1\ncost 808\nbound 0\nshift ....aaaammaapaa......... 28\nbare\nend\n",
+    ),
+    (
+        "mark",
+        "proof 1\ncost 7\nbound 0\nshift \"> 1\nshift <& 1\nbare\nend\n",
+    ),
+    ("stated", "proof 1\ncost none\nbound 0\nbare\nend\n"),
+    (
+        "none",
+        "proof 1\ncost none\nbound none\npriced 1\nprice a 0\nend\n",
+    ),
+    ("long", LONG),
+    ("empty", ""),
+];
+
+/// Returns a shelf with the texts of the tests, whose calls of these numbers fail.
+fn shelf(alloc: Global, failing: &[u32]) -> Result<MemoryShelf, Fail> {
+    let mut shelf = MemoryShelf::new(alloc, failing.to_vec(alloc)?);
+    for (name, text) in TEXTS {
+        shelf.put(name, text.as_bytes())?;
+    }
+    Ok(shelf)
+}
+
+/// Runs the program on these words, and returns its status.
+fn answer(alloc: Global, shelf: &mut MemoryShelf, words: &[&str]) -> Result<u8, Fail> {
+    let mut owned = Vec::new(alloc);
+    for word in words {
+        owned.push(String::from_str(alloc, word)?)?;
+    }
+    Ok(run(alloc, shelf, owned.as_slice()))
+}
+
+/// Whether a part stands somewhere in a text.
+fn has(text: &[u8], part: &str) -> bool {
+    let part = part.as_bytes();
+    part.len() > 0 && text.windows(part.len()).any(|window| window == part)
+}
+
+// The words, the number of the call that fails or 0, the status, and with what begins what is said.
+const ENDS: [(&[&str], u32, u8, &str); 12] = [
+    (&["g1", "two"], 0, 2, "words: RULES DEMAND PROOF\n"),
+    (
+        &["check", "g1", "two", "best"],
+        0,
+        2,
+        "words: RULES DEMAND PROOF\n",
+    ),
+    (
+        &["cycle", "absent", "absent"],
+        0,
+        3,
+        "rules: line 3: a name leads back to itself by one-symbol rules\n",
+    ),
+    (
+        &["g1", "fallen", "absent"],
+        0,
+        4,
+        "demand: line 1: out of range\n",
+    ),
+    (
+        &["g1", "two", "empty"],
+        0,
+        5,
+        "proof: the text ends early\n",
+    ),
+    (
+        &["g1", "two", "high"],
+        0,
+        1,
+        "no 8 bound too high: said 11 shown 10\n",
+    ),
+    (&["absent", "two", "best"], 0, 6, ""),
+    (&["g1", "two", "absent"], 0, 6, ""),
+    (&["g1", "two", "best"], 1, 6, ""),
+    (&["g1", "two", "best"], 3, 6, ""),
+    (
+        &["g1", "two", "best"],
+        4,
+        6,
+        "<!DOCTYPE html>\n<html lang='en'>\n",
+    ),
+    (
+        &["g1", "two", "best"],
+        0,
+        0,
+        "<!DOCTYPE html>\n<html lang='en'>\n",
+    ),
+];
+
+#[test]
+fn words_have_their_statuses(rt: HostRuntime) -> Result<(), Fail> {
+    let alloc = rt.alloc();
+    for (words, failing, status, said) in ENDS {
+        let mut shelf = shelf(alloc, &[failing])?;
+        let found = answer(alloc, &mut shelf, words)?;
+        assert_eq!(rt; found, status, "{words:?}");
+        assert!(rt; shelf.said().starts_with(said.as_bytes()), "{words:?}");
+        let is_whole = shelf.said().ends_with(b"</html>\n");
+        assert_eq!(rt; is_whole, status == 0, "{words:?}");
+        if status > 0 && status < 6 {
+            assert_eq!(rt; shelf.said(), said.as_bytes(), "{words:?}");
+        }
+    }
+    Ok(())
+}
+
+// The page of a day of four periods, behind its style.
+const BLOCKS: &str = "\
+</style>\n\
+</head>\n\
+<body>\n\
+<main>\n\
+<header><h1>Roster</h1><p>No allowed roster costs less.</p></header>\n\
+<dl><div><dt>Total cost</dt><dd>10</dd></div><div><dt>Bound</dt><dd>\
+10</dd></div><div><dt>Paid for shifts</dt><dd>10</dd></div><div><dt>\
+Penalties</dt><dd>0</dd></div><div><dt>Penalty for <span class='chip w0'>\
+a</span></dt><dd>0</dd></div></dl>\n\
+<section><h2>Shifts</h2>\n\
+<ul class='legend'><li><span class='chip w0'>a</span>work</li><li>\
+<span class='chip i0'>.</span>no work</li></ul>\n\
+<svg class='roster' role='group' aria-label='Shifts of the roster, one row a shift' viewBox='0 0 288 \
+92' width='288' height='92'>\n\
+<text class='mark' x='274' y='20'>price</text><text class='tick' x='76' y='20'>\
+1</text><text class='tick' x='116' y='20'>2</text><text class='tick' x='156' y='20'>\
+3</text><text class='tick' x='196' y='20'>4</text><g class='row' tabindex='0' role='img' id='r0' ari\
+a-describedby='d0' aria-label='1 of:  .aaa, price 5'><rect class='hit' x='4' y='30' width='280' heig\
+ht='26'/><text class='name' x='46' y='47'></text><text class='price' x='274' y='47'>\
+5</text><rect class='i0' x='56' y='32' width='39' height='22'/><text class='i0' x='76' y='47'>\
+.</text><rect class='w0' x='96' y='32' width='39' height='22'/><text class='w0' x='116' y='47'>\
+a</text><rect class='w0' x='136' y='32' width='39' height='22'/><text class='w0' x='156' y='47'>\
+a</text><rect class='w0' x='176' y='32' width='39' height='22'/><text class='w0' x='196' y='47'>\
+a</text></g>\n\
+<g class='row' tabindex='0' role='img' id='r1' aria-describedby='d1' aria-label='1 of:  aaa., price \
+5'><rect class='hit' x='4' y='56' width='280' height='26'/><text class='name' x='46' y='73'>\
+</text><text class='price' x='274' y='73'>5</text><rect class='w0' x='56' y='58' width='39' height='\
+22'/><text class='w0' x='76' y='73'>a</text><rect class='w0' x='96' y='58' width='39' height='22'/>\
+<text class='w0' x='116' y='73'>a</text><rect class='w0' x='136' y='58' width='39' height='22'/>\
+<text class='w0' x='156' y='73'>a</text><rect class='i0' x='176' y='58' width='39' height='22'/>\
+<text class='i0' x='196' y='73'>.</text></g>\n\
+</svg>\n\
+<p class='hint'>Point at a shift, or go to it with the Tab key, and see how the rules derive it.</p>\
+</section>\n\
+<section><h2>Coverage</h2>\n\
+<ul class='legend'><li><span class='key have'></span>at work and needed</li>\
+<li><span class='key short'></span>short</li><li><span class='key over'>\
+</span>surplus</li><li><span class='key need'></span>need</li><li>\
+<span class='key floor'></span>floor</li><li><span class='key ceiling'>\
+</span>ceiling</li></ul>\n\
+<div class='charts'>\n\
+<figure><figcaption><span class='chip w0'>a</span></figcaption><svg role='img' aria-label='Coverage \
+of a. Needed by period: 1 2 2 1. At work: 1 2 2 1. Short: 0 0 0 0. Surplus: 0 0 0 0.' viewBox='0 0 2\
+88 132' width='288' height='132'>\n\
+<rect class='have' x='56' y='64' width='40' height='48'/><rect class='short' x='56' y='64' width='40\
+' height='0'/><rect class='over' x='56' y='64' width='40' height='0'/>\
+<rect class='have' x='96' y='16' width='40' height='96'/><rect class='short' x='96' y='16' width='40\
+' height='0'/><rect class='over' x='96' y='16' width='40' height='0'/>\
+<rect class='have' x='136' y='16' width='40' height='96'/><rect class='short' x='136' y='16' width='\
+40' height='0'/><rect class='over' x='136' y='16' width='40' height='0'/>\
+<rect class='have' x='176' y='64' width='40' height='48'/><rect class='short' x='176' y='64' width='\
+40' height='0'/><rect class='over' x='176' y='64' width='40' height='0'/>\
+<rect class='grid' x='56' y='16' width='160' height='1'/><rect class='grid' x='56' y='112' width='16\
+0' height='1'/><text class='price' x='48' y='20'>2</text><text class='price' x='48' y='116'>\
+0</text><path class='need' d='M56 112V64H96V16H136V16H176V64H216V112'/>\
+<path class='floor' d=''/><path class='ceiling' d=''/><text class='tick' x='76' y='127'>\
+1</text><text class='tick' x='116' y='127'>2</text><text class='tick' x='156' y='127'>\
+3</text><text class='tick' x='196' y='127'>4</text></svg></figure>\n\
+</div></section>\n\
+<pre class='derivation' id='d0'>word .aaa\n\
+cost 5\n\
+use 2 S 1 4\n\
+use 8 R 1 1\n\
+use 5 W 2 3\n\
+use 7 A 2 3\n\
+use 7 A 3 2\n\
+use 6 A 4 1\n\
+</pre>\n\
+<pre class='derivation' id='d1'>word aaa.\n\
+cost 5\n\
+use 3 S 1 4\n\
+use 5 W 1 3\n\
+use 7 A 1 3\n\
+use 7 A 2 2\n\
+use 6 A 3 1\n\
+use 8 R 4 1\n\
+</pre>\n\
+</main>\n\
+</body>\n\
+</html>\n";
+
+// Rules, demand and certificate, and what stands on the page.
+const PAGES: [(&str, &str, &str, &[&str]); 6] = [
+    ("g1", "two", "best", &[BLOCKS]),
+    (
+        "g3",
+        "centre",
+        "shift",
+        &[
+            "<p>This roster costs at most 808 more than the best one.</p>",
+            "\
+<dt>Paid for shifts</dt><dd>28</dd></div><div><dt>Penalties</dt><dd>\
+780</dd></div><div><dt>Penalty for <span class='chip w0'>a</span></dt>\
+<dd>780</dd></div></dl>",
+            "\
+<rect class='i2' x='376' y='32' width='39' height='22'/><text class='i2' x='396' y='47'>\
+m</text>",
+            "\
+<rect class='i1' x='536' y='32' width='39' height='22'/><text class='i1' x='556' y='47'>\
+p</text><rect class='w0' x='576' y='32' width='39' height='22'/>",
+            "<text class='name' x='46' y='47'></text><text class='price' x='1074' y='47'>28</text>",
+            "\
+<rect class='have' x='336' y='80' width='40' height='32'/><rect class='short' x='336' y='48' width='\
+40' height='32'/><rect class='over' x='336' y='80' width='40' height='0'/>\
+<rect class='have' x='376' y='112' width='40' height='0'/><rect class='short' x='376' y='16' width='\
+40' height='96'/>",
+            "<path class='floor' d='M216 80H256'/><path class='ceiling' d='M216 16H256'/>",
+            "Short: 0 0 0 0 0 0 1 1 3 3 1 1 1 0 1 2 3 3 2 2 1 1 0 0. Surplus: 0",
+        ],
+    ),
+    (
+        "marks",
+        "marked",
+        "mark",
+        &[
+            "<p>This roster costs at most 7 more than the best one.</p>",
+            "\
+<ul class='legend'><li><span class='chip w0'>&lt;</span>work</li><li>\
+<span class='chip w1'>&amp;</span>work</li><li><span class='chip w2'>\
+&quot;</span>work</li><li><span class='chip i0'>&gt;</span>no work</li>\
+</ul>",
+            "aria-label='1 of:  &quot;&gt;, price 1'>",
+            "\
+<text class='w0' x='76' y='73'>&lt;</text><rect class='w1' x='96' y='58' width='39' height='22'/>\
+<text class='w1' x='116' y='73'>&amp;</text></g>",
+            "Coverage of &quot;. Needed by period: 1 1. At work: 1 0. Short: 0 1. Surplus: 0 0.",
+            "<rect class='short' x='96' y='64' width='40' height='48'/>",
+            "\
+<div><dt>Penalty for <span class='chip w0'>&lt;</span></dt><dd>0</dd>\
+</div><div><dt>Penalty for <span class='chip w2'>&quot;</span></dt>\
+<dd>5</dd></div></dl>",
+            "<pre class='derivation' id='d1'>word &lt;&amp;\ncost 1\nuse 1 S 1 2\n</pre>",
+        ],
+    ),
+    (
+        "g1",
+        "two",
+        "stated",
+        &[
+            "\
+<p>No roster is stated. Each allowed roster costs at least 0.</p></header>\n\
+<dl><div><dt>Total cost</dt><dd>none</dd></div><div><dt>Bound</dt>\
+<dd>0</dd></div>",
+            "<div><dt>Penalties</dt><dd>0</dd></div></dl>\n</main>\n</body>\n</html>\n",
+        ],
+    ),
+    (
+        "pair",
+        "some",
+        "none",
+        &[
+            "\
+<p>No roster is allowed.</p></header>\n\
+<dl><div><dt>Total cost</dt><dd>none</dd></div><div><dt>Bound</dt>\
+<dd>none</dd></div>",
+            "<div><dt>Penalties</dt><dd>0</dd></div></dl>\n</main>\n</body>\n</html>\n",
+        ],
+    ),
+    (
+        "day",
+        "all_day",
+        "long",
+        &[
+            "viewBox='0 0 1088 66' width='1088' height='66'>",
+            "\
+<text class='tick' x='941' y='20'>89</text><text class='tick' x='981' y='20'>\
+93</text><g class='row'",
+            "\
+<rect class='w0' x='996' y='32' width='9' height='22'/><text class='w0' x='1001' y='47'>\
+a</text><rect class='i0' x='1006' y='32' width='9' height='22'/><text class='i0' x='1011' y='47'>\
+.</text></g>",
+            "<rect class='short' x='1006' y='64' width='10' height='48'/>",
+            "\
+<pre class='derivation' id='d0'>word aaaaaaaaaaaaaaaaaaaaaaaaaaaaaaaaaaaaaaaaaaaaaaaaaaaaaaaaaaaaaaa\
+aaaaaaaaaaaaaaaaaaaaaaaaaaaaaaaa.\n\
+cost 96\n\
+use 1 S 1 96\n\
+use 1 S 2 95\n",
+        ],
+    ),
+];
+
+#[test]
+fn pages_show_their_rosters(rt: HostRuntime) -> Result<(), Fail> {
+    let alloc = rt.alloc();
+    for (rules, demand, proof, parts) in PAGES {
+        let mut shelf = shelf(alloc, &[])?;
+        let status = answer(alloc, &mut shelf, &[rules, demand, proof])?;
+        assert_eq!(rt; status, 0, "{proof}");
+        for part in parts {
+            assert!(rt; has(shelf.said(), part), "{proof}: {part}");
+        }
+    }
+    Ok(())
+}
+
+/// Returns the certificate of a roster of so many employees with one shift.
+fn crowd(alloc: Global, count: u8) -> Result<String, Fail> {
+    let mut text = format!(in alloc; "proof 1\ncost {}\nbound 0\n", 3 * u32::from(count))?;
+    for _ in 0..count {
+        text.push_str("shift a 1\n")?;
+    }
+    text.push_str("bare\nend\n")?;
+    Ok(text)
+}
+
+// How many employees have the shift, and what stands on the page.
+const CROWDS: [(u8, &[&str]); 2] = [
+    (
+        40,
+        &[
+            "viewBox='0 0 168 1080' width='168' height='1080'>",
+            "\
+id='r39' aria-describedby='d39' aria-label='1 of:  a, price 1'><rect class='hit' x='4' y='1044' widt\
+h='160' height='26'/>",
+            "<rect class='over' x='56' y='32' width='40' height='80'/>",
+        ],
+    ),
+    (
+        64,
+        &[
+            "viewBox='0 0 168 66' width='168' height='66'>",
+            "id='r0' aria-describedby='d0' aria-label='64 of:  a, price 1'>",
+            "\
+<text class='price' x='154' y='47'>1</text><text class='times' x='40' y='47'>\
+64</text><rect class='w0' x='56' y='32' width='39' height='22'/>",
+            "<rect class='over' x='56' y='48' width='40' height='64'/>",
+            "<dd>64</dd></div><div><dt>Penalties</dt><dd>128</dd></div>",
+        ],
+    ),
+];
+
+#[test]
+fn equal_shifts_have_one_row_where_there_are_many(rt: HostRuntime) -> Result<(), Fail> {
+    let alloc = rt.alloc();
+    for (count, parts) in CROWDS {
+        let mut shelf = shelf(alloc, &[])?;
+        shelf.put("so_many", crowd(alloc, count)?.as_bytes())?;
+        let status = answer(alloc, &mut shelf, &["letter", "crowd", "so_many"])?;
+        assert_eq!(rt; status, 0, "{count}");
+        for part in parts {
+            assert!(rt; has(shelf.said(), part), "{count}: {part}");
+        }
+    }
+    Ok(())
+}
