@@ -9,3 +9,7 @@ pub mod Same
 pub mod OneEndLemmas
 pub mod Makes
 pub mod Days
+pub mod Storing
+pub mod PointLemmas
+pub mod CurveAnswers
+pub mod CurveEnds

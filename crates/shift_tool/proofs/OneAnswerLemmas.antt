@@ -40,8 +40,9 @@ use Rattle.shift_tool.specs.Days.{DayAnswer, AnswersDay}
 use Rattle.shift_tool.specs.Days as days
 use Rattle.shift_tool.specs.Reuse.{Reusing, reused_status}
 use Rattle.shift_tool.specs.OneAnswer.{AreSameButTree, HasOneAnswer}
-use Rattle.shift_tool.specs.Form.{Form, explain, rank, next, fits, check, reuse, solve, make, none, AnswersNoForm}
+use Rattle.shift_tool.specs.Form.{Form, explain, rank, next, fits, check, reuse, solve, curve, make, none, AnswersNoForm}
 use Rattle.shift_tool.proofs.OneEndLemmas.{solve-ends, make-ends}
+use Rattle.shift_tool.proofs.CurveEnds.{curve-ends}
 use Rattle.shift_tool.proofs.Same.{same_text, same_ok, same_err, not_both, same_grammar, no_fault, faults_once}
 
 -- equal statuses and equal texts
@@ -164,5 +165,6 @@ has-one-answer (fits rules pattern) =
 has-one-answer (check rules demand proof) = λ held s t a b. texts_once Judgement judged_once held rules demand proof s t a b
 has-one-answer (reuse rules demand proof) = λ held s t a b. texts_once Reusing reused_once held rules demand proof s t a b
 has-one-answer (solve rules demand proof turns) = λ held. solve-ends held rules demand turns
+has-one-answer (curve rules demand proof turns) = λ held. curve-ends held rules demand proof turns
 has-one-answer (make number proof turns) = make-ends number turns
 has-one-answer none = λ s t a b h k. (h.two ∙ sym k.two, h.line ∙ sym k.line)

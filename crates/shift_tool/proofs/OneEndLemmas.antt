@@ -36,7 +36,7 @@ roster_or_none i d ds None r some k none = absurd (by_cases some)
     by_cases h = cc
 roster_or_none i d ds (Some amount) r some k none = k.none none ds amount r
 
-never_both : (i : Instance) (c d : Cert) → YesIsRight i c → YesIsRight i d → IsSome c.cost → d.bound ≡ None → ⊥
+pub never_both : (i : Instance) (c d : Cert) → YesIsRight i c → YesIsRight i d → IsSome c.cost → d.bound ≡ None → ⊥
 never_both i c d h k some none = roster_or_none i d (duties c.shifts) c.cost h.roster some k none
 
 two_ends : (i : Instance) (c d : Cert) (x y : Done) → YesIsRight i c → YesIsRight i d → IsDone c x → IsDone d y → done_status x ≢ 8 → done_status y ≢ 8 → done_status x ≡ done_status y
@@ -56,13 +56,13 @@ found_alike i m n turns s t a b x y f g h k = record {
 }
 
 -- the number of a day's arcs is one number
-many_or_few : (g : Grammar) (output : List ℕ) (n : ℕ) → SaysTooManyArcs g output → HasArcCount g n → ⊥
+pub many_or_few : (g : Grammar) (output : List ℕ) (n : ℕ) → SaysTooManyArcs g output → HasArcCount g n → ⊥
 many_or_few g output n h k = let same = ap (λ (xs : List ArcKey). length xs) (one-list g h.listed k.0 h.are k.1) in omega (arith, same, h.many, k.2, k.3)
 
 refused_alike : (s : ℕ) (a b : List ℕ) → a ≡ b → EndAlike s s a b None None
 refused_alike s a b e = record { refused = λ none. (refl, refl, e); found = λ p q. refl }
 
-arcs_alike : (g : Grammar) (a b : List ℕ) → SaysTooManyArcs g a → SaysTooManyArcs g b → a ≡ b
+pub arcs_alike : (g : Grammar) (a b : List ℕ) → SaysTooManyArcs g a → SaysTooManyArcs g b → a ≡ b
 arcs_alike g a b h k = h.line ∙ ap (λ (xs : List ArcKey). arcs_line (length xs)) (one-list g h.listed k.listed h.are k.are) ∙ sym k.line
 
 days_alike : (i : Instance) (m n : MasterView) (turns s t : ℕ) (a b : List ℕ) (x y : Option (List ℕ)) → Solving i m turns s a x → Solving i n turns t b y → EndAlike s t a b x y

@@ -2,7 +2,7 @@
 use Rattle.std.specs.Prelude.{ℕ, ◌≤◌}
 use Rattle.shift_tool.specs.declared.form.Form as program
 use Rattle.shift_tool.specs.declared.form.Form.TheVariants as variants
-use Rattle.shift_tool.specs.Form.{Form, explain, rank, next, fits, check, reuse, solve, make, none}
+use Rattle.shift_tool.specs.Form.{Form, explain, rank, next, fits, check, reuse, solve, curve, make, none}
 
 abbrev pub asked : program.Form → Form
 asked (variants.Explain rules word) = explain rules.now word.now
@@ -12,6 +12,7 @@ asked (variants.Fits rules pattern) = fits rules.now pattern.now
 asked (variants.Check rules demand proof) = check rules.now demand.now proof.now
 asked (variants.Reuse rules demand proof) = reuse rules.now demand.now proof.now
 asked (variants.Solve rules demand proof turns) = solve rules.now demand.now proof.now turns
+asked (variants.Curve rules demand proof turns) = curve rules.now demand.now proof.now turns
 asked (variants.Make number proof turns) = make number proof.now turns
 asked variants.None = none
 
@@ -32,5 +33,6 @@ HasNumbers (variants.Fits rules pattern) = Unit {0}
 HasNumbers (variants.Check rules demand proof) = Unit {0}
 HasNumbers (variants.Reuse rules demand proof) = Unit {0}
 HasNumbers (variants.Solve rules demand proof turns) = AreTurns turns
+HasNumbers (variants.Curve rules demand proof turns) = AreTurns turns
 HasNumbers (variants.Make number proof turns) = AreTurns turns
 HasNumbers variants.None = Unit {0}

@@ -4,8 +4,8 @@ use Rattle.std.specs.Str.{bytes_eq}
 use Rattle.text_lines.specs.Fields.{number_at}
 
 -- the words `explain RULES WORD`, `rank RULES MOST`, `next RULES PREFIX`, `fits RULES PATTERN`,
--- `check RULES DEMAND PROOF`, `reuse RULES DEMAND PROOF`, `solve RULES DEMAND PROOF TURNS` or
--- `make NUMBER PROOF TURNS`; no other words have a form
+-- `check RULES DEMAND PROOF`, `reuse RULES DEMAND PROOF`, `solve RULES DEMAND PROOF TURNS`,
+-- `curve RULES DEMAND PROOF TURNS` or `make NUMBER PROOF TURNS`; no other words have a form
 pub data Form : Type 0 where
   explain : List ℕ → List ℕ → Form
   rank : List ℕ → ℕ → Form
@@ -14,6 +14,7 @@ pub data Form : Type 0 where
   check : List ℕ → List ℕ → List ℕ → Form
   reuse : List ℕ → List ℕ → List ℕ → Form
   solve : List ℕ → List ℕ → List ℕ → ℕ → Form
+  curve : List ℕ → List ℕ → List ℕ → ℕ → Form
   make : ℕ → List ℕ → ℕ → Form
   none : Form
 
@@ -41,6 +42,10 @@ abbrev pub solve_form : List ℕ → List ℕ → List ℕ → Option ℕ → Fo
 solve_form rules demand proof (Some turns) = solve rules demand proof turns
 solve_form rules demand proof None = none
 
+abbrev pub curve_form : List ℕ → List ℕ → List ℕ → Option ℕ → Form
+curve_form rules demand proof (Some turns) = curve rules demand proof turns
+curve_form rules demand proof None = none
+
 abbrev pub make_form : Option ℕ → List ℕ → Option ℕ → Form
 make_form (Some number) proof (Some turns) = make number proof turns
 make_form (Some number) proof None = none
@@ -61,11 +66,16 @@ long_form command a b c =
     else (if bytes_eq command (codes "reuse") then reuse a b c
     else (if bytes_eq command (codes "make") then make_form (number_of_make a) b (turns_of c) else none))
 
+-- five words
+abbrev pub longest_form : List ℕ → List ℕ → List ℕ → List ℕ → List ℕ → Form
+longest_form command rules demand proof turns =
+    if bytes_eq command (codes "solve") then solve_form rules demand proof (turns_of turns)
+    else (if bytes_eq command (codes "curve") then curve_form rules demand proof (turns_of turns) else none)
+
 abbrev pub form_of : List (List ℕ) → Form
 form_of (command ∷ rules ∷ word ∷ []) = short_form command rules word
 form_of (command ∷ a ∷ b ∷ c ∷ []) = long_form command a b c
-form_of (command ∷ rules ∷ demand ∷ proof ∷ turns ∷ []) =
-    if bytes_eq command (codes "solve") then solve_form rules demand proof (turns_of turns) else none
+form_of (command ∷ rules ∷ demand ∷ proof ∷ turns ∷ []) = longest_form command rules demand proof turns
 form_of _ = none
 
 -- what is said where the words have no form

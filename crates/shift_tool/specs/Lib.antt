@@ -11,3 +11,6 @@ pub mod Writer
 pub mod Solve
 pub mod Make
 pub mod Days
+pub mod Series
+pub mod Curve
+pub mod Points

@@ -1,5 +1,5 @@
 -- The same texts have the same answer.
-use Rattle.std.specs.Prelude.{ℕ, ◌≡◌, ◌≢◌, ◌⊎◌, List, Option, None, Some}
+use Rattle.std.specs.Prelude.{ℕ, ◌≡◌, ◌≢◌, ◌⊎◌, List, [], Option, None, Some}
 use Rattle.roster_model.specs.declared.grammar.Grammar.{Grammar}
 use Rattle.roster_model.specs.declared.grammar.Step.{Step}
 use Rattle.shelf.specs.Shelf.{Texts}
@@ -7,10 +7,12 @@ use Rattle.shift_report.specs.TreeText.{tree_text}
 use Rattle.shift_tool.specs.Check.{AnswersCheck}
 use Rattle.shift_tool.specs.Days.{AnswersRank, AnswersNext, AnswersFits}
 use Rattle.shift_tool.specs.Explain.{AnswersExplain}
-use Rattle.shift_tool.specs.Form.{Form, explain, rank, next, fits, check, reuse, solve, make, none, AnswersNoForm}
+use Rattle.shift_tool.specs.Form.{Form, explain, rank, next, fits, check, reuse, solve, curve, make, none, AnswersNoForm}
+use Rattle.shift_tool.specs.Curve.{AnswersCurve}
 use Rattle.shift_tool.specs.Make.{AnswersMake}
 use Rattle.shift_tool.specs.Reuse.{AnswersReuse}
 use Rattle.shift_tool.specs.Solve.{MasterView, AnswersSolve}
+use Rattle.shift_tool.specs.Series.{Entry, answered, SeriesAnswers}
 use Rattle.shift_tool.specs.Writer.{Answers}
 
 -- two derivations of a word, at one price
@@ -37,6 +39,17 @@ abbrev pub HaveOneEnd : (MasterView → Answers) → Type 0
 HaveOneEnd A = (m n : MasterView) (s t : ℕ) (a b : List ℕ) (x y : Option (List ℕ)) → A m s a x → A n t b y
     → EndAlike s t a b x y
 
+-- two answers of a command that searches several times: a refusal of the texts, which alone stores nothing, is the
+-- only answer to them, and else they end alike unless some search used up its turns
+pub record EndsAlike (s t : ℕ) (a b : List ℕ) (x y : List Entry) : Type 0 where
+  pub refused : x ≡ [] → (y ≡ []) × (s ≡ t) × (a ≡ b)
+  pub found : s ≢ 8 → t ≢ 8 → s ≡ t
+
+-- whichever searches gave them
+abbrev pub HasOneEnd : (MasterView → SeriesAnswers) → Type 0
+HasOneEnd A = (m n : MasterView) (s t : ℕ) (a b : List ℕ) (x y : List Entry) → A m (answered s a) x
+    → A n (answered t b) y → EndsAlike s t a b x y
+
 -- whatever two answers the words allow over the same texts, their statuses are equal, and what is said
 -- is equal too, but for the tree of `explain` and for what a search finds
 abbrev pub HasOneAnswer : Form → Type 0
@@ -60,5 +73,7 @@ HasOneAnswer (reuse rules demand proof) =
     → AnswersReuse (Some held) rules demand proof t b → (s ≡ t) × (a ≡ b)
 HasOneAnswer (solve rules demand proof turns) =
     (held : Texts) → HaveOneEnd (λ m. AnswersSolve (Some held) rules demand m turns)
+HasOneAnswer (curve rules demand proof turns) =
+    (held : Texts) → HasOneEnd (λ m. AnswersCurve (Some held) rules demand proof m turns)
 HasOneAnswer (make number proof turns) = HaveOneEnd (λ m. AnswersMake number m turns)
 HasOneAnswer none = (s t : ℕ) (a b : List ℕ) → AnswersNoForm s a → AnswersNoForm t b → (s ≡ t) × (a ≡ b)

@@ -1,6 +1,6 @@
 -- What the program does, by its words.
 use Rattle.std.specs.Prelude.{ℕ, [], ◌∷◌}
-use Rattle.shift_tool.specs.Form.{Form, explain, rank, next, fits, check, reuse, solve, make, none, AnswersNoForm}
+use Rattle.shift_tool.specs.Form.{Form, explain, rank, next, fits, check, reuse, solve, curve, make, none, AnswersNoForm}
 use Rattle.shelf.specs.Shelf.{Told}
 use Rattle.shift_tool.specs.Reader.{IsReader}
 use Rattle.shift_tool.specs.Writer.{IsWriter}
@@ -9,7 +9,9 @@ use Rattle.shift_tool.specs.Days.{AnswersRank, AnswersNext, AnswersFits}
 use Rattle.shift_tool.specs.Check.{AnswersCheck}
 use Rattle.shift_tool.specs.Reuse.{AnswersReuse}
 use Rattle.shift_tool.specs.Solve.{MasterView, AnswersSolve}
+use Rattle.shift_tool.specs.Curve.{AnswersCurve}
 use Rattle.shift_tool.specs.Make.{AnswersMake}
+use Rattle.shift_tool.specs.Series.{IsSeriesWriter}
 
 -- over a shelf before and after, and with a master that was lent
 abbrev pub Does : Form → Told → Told → MasterView → ℕ → Type 0
@@ -27,6 +29,8 @@ Does (reuse rules demand proof) before after m status =
     IsReader (AnswersReuse before.held rules demand proof) (rules ∷ demand ∷ proof ∷ []) before after status
 Does (solve rules demand proof turns) before after m status =
     IsWriter (AnswersSolve before.held rules demand m turns) (rules ∷ demand ∷ []) proof before after status
+Does (curve rules demand proof turns) before after m status =
+    IsSeriesWriter (AnswersCurve before.held rules demand proof m turns) (rules ∷ demand ∷ []) before after status
 Does (make number proof turns) before after m status =
     IsWriter (AnswersMake number m turns) [] proof before after status
 Does none before after m status = IsReader AnswersNoForm [] before after status

@@ -1,5 +1,5 @@
 ghost use Rattle.std.specs.Prelude.{◌≡◌, IfSome, map, string_bytes};
-ghost use Rattle.shift_tool.specs.Form.{form_of, make_form, most_of, number_of_make, rank_form, short_form, solve_form, turns_of};
+ghost use Rattle.shift_tool.specs.Form.{curve_form, form_of, make_form, most_of, number_of_make, longest_form, rank_form, short_form, solve_form, turns_of};
 ghost use Rattle.shift_tool.specs.Asked.{asked, AreTurns, HasNumbers, IsMost};
 
 use text_lines::read_within;
@@ -47,7 +47,16 @@ pub enum Form<'a> {
         proof: &'a str,
         turns: u32,
     },
-    /// The same for a day that is made from a number.
+    /// The same for each greatest head count of the day; the certificates are stored under the name of the proof,
+    /// a full stop and the head count.
+    Curve {
+        rules: &'a str,
+        demand: &'a str,
+        proof: &'a str,
+        turns: u32,
+    },
+    /// A roster of least cost for a day that is made from a number, found within so many turns; its certificate is
+    /// stored under the name of the proof.
     Make {
         number: u32,
         proof: &'a str,
@@ -144,6 +153,43 @@ fn solve_form<'a>(rules: &'a str, demand: &'a str, proof: &'a str, turns: Option
     }
 }
 
+// Returns what `curve` asks for, where the last word says turns.
+fn curve_form<'a>(rules: &'a str, demand: &'a str, proof: &'a str, turns: Option<u32>) -> Form<'a>
+    requires { IfSome turns AreTurns }
+    ensures asked { asked result ≡ curve_form rules.now demand.now proof.now turns }
+    ensures numbers { HasNumbers result }
+{
+    match turns {
+        Some(turns) => Form::Curve {
+            rules,
+            demand,
+            proof,
+            turns,
+        },
+        None => Form::None,
+    }
+}
+
+// Returns what five words ask for.
+fn longest_form<'a>(
+    command: &str,
+    rules: &'a str,
+    demand: &'a str,
+    proof: &'a str,
+    turns: &str,
+) -> Form<'a>
+    ensures asked { asked result ≡ longest_form command.now rules.now demand.now proof.now turns.now }
+    ensures numbers { HasNumbers result }
+{
+    if command == "solve" {
+        return solve_form(rules, demand, proof, turns_of(turns));
+    }
+    if command == "curve" {
+        return curve_form(rules, demand, proof, turns_of(turns));
+    }
+    Form::None
+}
+
 // Returns what `make` asks for, where its words say a number and turns.
 fn make_form<'a>(number: Option<u32>, proof: &'a str, turns: Option<u32>) -> Form<'a>
     requires { IfSome turns AreTurns }
@@ -182,11 +228,12 @@ pub fn form_of(words: &[String]) -> Form<'_>
             proof.as_str(),
             turns_of(turns.as_str()),
         ),
-        [command, rules, demand, proof, turns] if command.as_str() == "solve" => solve_form(
+        [command, rules, demand, proof, turns] => longest_form(
+            command.as_str(),
             rules.as_str(),
             demand.as_str(),
             proof.as_str(),
-            turns_of(turns.as_str()),
+            turns.as_str(),
         ),
         _ => Form::None,
     }

@@ -6,6 +6,7 @@ mod ask;
 mod check;
 #[cfg(test)]
 mod check_tests;
+mod curve;
 mod explain;
 mod fetch;
 mod fits;

@@ -6,6 +6,7 @@ ghost use Rattle.shift_tool.specs.Reader.{IsReader};
 ghost use Rattle.shift_tool.specs.Solve.{lent};
 
 use crate::ask::{Question, ask};
+use crate::curve::curve;
 use crate::explain::explain;
 use crate::fits::fits;
 use crate::form::{Form, form_of};
@@ -31,20 +32,21 @@ fn refuse_words<S: Shelf>(shelf: &mut S) -> u8
 ///
 /// | status | comes |
 /// |---|---|
-/// | 0 | `explain RULES WORD`: the word is a shift; `rank RULES MOST`: the day has a tree; `next RULES PREFIX`: some code may follow the prefix; `fits RULES PATTERN`: a shift fits; `check RULES DEMAND PROOF`: the certificate is accepted; `reuse RULES DEMAND PROOF`: its nodes show a bound on this day; `solve RULES DEMAND PROOF TURNS` and `make NUMBER PROOF TURNS`: a roster was found, and no allowed roster costs less |
-/// | 1 | `explain`: the word is no shift; `rank`: the day has no tree; `next`: no code may follow; `fits`: no shift fits; `check`: the certificate is refused; `reuse`: its nodes are; `solve`: no roster is allowed |
+/// | 0 | `explain RULES WORD`: the word is a shift; `rank RULES MOST`: the day has a tree; `next RULES PREFIX`: some code may follow the prefix; `fits RULES PATTERN`: a shift fits; `check RULES DEMAND PROOF`: the certificate is accepted; `reuse RULES DEMAND PROOF`: its nodes show a bound on this day; `solve RULES DEMAND PROOF TURNS` and `make NUMBER PROOF TURNS`: a roster was found, and no allowed roster costs less; `curve RULES DEMAND PROOF TURNS`: so it is for some head count, and every point is closed |
+/// | 1 | `explain`: the word is no shift; `rank`: the day has no tree; `next`: no code may follow; `fits`: no shift fits; `check`: the certificate is refused; `reuse`: its nodes are; `solve`: no roster is allowed; `curve`: none is for any head count |
 /// | 2 | the words are none of the command's forms |
 /// | 3 | the rules text is refused |
-/// | 4 | `check`, `reuse`, `solve`: the demand text is refused |
+/// | 4 | `check`, `reuse`, `solve`, `curve`: the demand text is refused; `curve`: the day has groups |
 /// | 5 | `check`, `reuse`: the proof text is refused |
 /// | 6 | the shelf refused a call |
 /// | 7 | memory did not suffice |
-/// | 8 | `solve`, `make`: the turns ran out before the bound was the cost |
-/// | 9 | `solve`, `make`: the instance has more than 100,000 arcs |
+/// | 8 | `solve`, `make`: the turns ran out before the bound was the cost; `curve`: so they did for some head count |
+/// | 9 | `solve`, `curve`, `make`: the instance has more than 100,000 arcs |
 ///
 /// TURNS is a number from 1 to 10,000, MOST one from 1 to 1,000, and NUMBER one from 0 to 4,294,967,295. In
 /// PATTERN `#` stands for any code. A command says its whole
-/// answer at once; `solve` and `make` have stored the certificate under PROOF before. Status 6 or 7 ends it
+/// answer at once; `solve` and `make` have stored the certificate under PROOF before, and `curve` those of its
+/// points under PROOF, a full stop and the head count. Status 6 or 7 ends it
 /// at the call that was refused. But for these two the same texts always have the same status, and the same
 /// text is said, save that `explain` may print another tree of the same cost, and that a search may use up
 /// its turns or find another roster of least cost.
@@ -79,6 +81,12 @@ pub fn run<S: Shelf, M: Master>(
             proof,
             turns,
         } => solve(alloc, shelf, rules, demand, proof, turns, master),
+        Form::Curve {
+            rules,
+            demand,
+            proof,
+            turns,
+        } => curve(alloc, shelf, rules, demand, proof, turns, master),
         Form::Make {
             number,
             proof,

@@ -4,7 +4,7 @@ use std::alloc::Global;
 use std::test::Fail;
 
 // The words, the statuses that may come, and lines that are said.
-const FOUND: [(&[&str], &[u8], &[&str]); 8] = [
+const FOUND: [(&[&str], &[u8], &[&str]); 9] = [
     (&["rank", "long", "1000"], &[0], &["trees 1000"]),
     (
         &["solve", "g2", "q2", "p", "10"],
@@ -29,6 +29,7 @@ const FOUND: [(&[&str], &[u8], &[&str]); 8] = [
         &[1],
         &["result none", "cost none", "bound none"],
     ),
+    (&["curve", "g2", "q2", "p", "1"], &[8], &["curve 3"]),
     (
         &["solve", "g6", "q7", "p", "2047"],
         &[0],
@@ -81,37 +82,85 @@ fn rosters_are_found(rt: HostRuntime) -> Result<(), Fail> {
     Ok(())
 }
 
-// The rules and the demand of days whose certificate is checked, and the turns of the search.
-const CHECKED: [(&str, &str, &str); 7] = [
-    ("g1", "q1", "10"),
-    ("g2", "q2", "10"),
-    ("g2", "q2", "1"),
-    ("g6", "q7", "2047"),
-    ("g2", "exact", "8191"),
-    ("g3", "q3", "1"),
-    ("g3", "q3", "50"),
+// The words of a search, and those that check a certificate that it stored.
+const CHECKED: [(&[&str], &[&str]); 9] = [
+    (
+        &["solve", "g1", "q1", "p", "10"],
+        &["check", "g1", "q1", "p"],
+    ),
+    (
+        &["solve", "g2", "q2", "p", "10"],
+        &["check", "g2", "q2", "p"],
+    ),
+    (
+        &["solve", "g2", "q2", "p", "1"],
+        &["check", "g2", "q2", "p"],
+    ),
+    (
+        &["solve", "g6", "q7", "p", "2047"],
+        &["check", "g6", "q7", "p"],
+    ),
+    (
+        &["solve", "g2", "exact", "p", "8191"],
+        &["check", "g2", "exact", "p"],
+    ),
+    (
+        &["solve", "g3", "q3", "p", "1"],
+        &["check", "g3", "q3", "p"],
+    ),
+    (
+        &["solve", "g3", "q3", "p", "50"],
+        &["check", "g3", "q3", "p"],
+    ),
+    (
+        &["curve", "g1", "q1", "p", "10"],
+        &["check", "g1", "q1_one", "p.1"],
+    ),
+    (
+        &["curve", "g1", "q1", "p", "10"],
+        &["check", "g1", "q1", "p.2"],
+    ),
 ];
 
 #[test]
 fn stored_certificates_are_accepted(rt: HostRuntime) -> Result<(), Fail> {
     let alloc = rt.alloc();
-    for (rules, demand, turns) in CHECKED {
+    for (search, check) in CHECKED {
         let mut shelf = shelf(alloc, &[])?;
-        answer(alloc, &mut shelf, &["solve", rules, demand, "p", turns])?;
-        let found = answer(alloc, &mut shelf, &["check", rules, demand, "p"])?;
-        assert_eq!(rt; found, 0, "{rules} {demand} {turns}");
+        answer(alloc, &mut shelf, search)?;
+        let found = answer(alloc, &mut shelf, check)?;
+        assert_eq!(rt; found, 0, "{search:?} {check:?}");
     }
     Ok(())
 }
 
+// The words of a search whose fourth call is refused: the report of a roster, and the store of a second point.
+// Those that check the certificate that stands, and one that does not.
+const STANDING: [(&[&str], &[&str], &[&str]); 2] = [
+    (
+        &["solve", "g2", "q2", "p", "10"],
+        &["check", "g2", "q2", "p"],
+        &["check", "g2", "q2", "p.1"],
+    ),
+    (
+        &["curve", "g1", "q1", "p", "10"],
+        &["check", "g1", "q1_one", "p.1"],
+        &["check", "g1", "q1", "p"],
+    ),
+];
+
 #[test]
-fn a_certificate_stands_after_a_refused_say(rt: HostRuntime) -> Result<(), Fail> {
+fn certificates_stand_after_a_refused_call(rt: HostRuntime) -> Result<(), Fail> {
     let alloc = rt.alloc();
-    let mut shelf = shelf(alloc, &[4])?;
-    let refused = answer(alloc, &mut shelf, &["solve", "g2", "q2", "p", "10"])?;
-    assert_eq!(rt; refused, 6);
-    let accepted = answer(alloc, &mut shelf, &["check", "g2", "q2", "p"])?;
-    assert_eq!(rt; accepted, 0);
+    for (search, check, absent) in STANDING {
+        let mut shelf = shelf(alloc, &[4])?;
+        let refused = answer(alloc, &mut shelf, search)?;
+        assert_eq!(rt; refused, 6, "{search:?}");
+        let accepted = answer(alloc, &mut shelf, check)?;
+        assert_eq!(rt; accepted, 0, "{check:?}");
+        let never_stored = answer(alloc, &mut shelf, absent)?;
+        assert_eq!(rt; never_stored, 6, "{absent:?}");
+    }
     Ok(())
 }
 

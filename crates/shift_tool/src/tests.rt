@@ -156,7 +156,7 @@ need b 30 1 0 0 0 0 0 0 1 1 1 1 1 1 0 0 1 1 1 1 1 1 0 0 0 0
 ";
 
 // The texts that each shelf of a test holds, by name.
-const TEXTS: [(&str, &str); 32] = [
+const TEXTS: [(&str, &str); 33] = [
     ("g1", G1),
     ("g2", G2),
     ("g3", G3),
@@ -170,6 +170,7 @@ const TEXTS: [(&str, &str); 32] = [
     ("cycle", CYCLE),
     ("empty", ""),
     ("q1", "heads 0 2\nneed a 10 3 1 2 2 1\n"),
+    ("q1_one", "heads 0 1\nneed a 10 3 1 2 2 1\n"),
     ("some", "heads 1 2\nneed a 10 3 1\n"),
     ("any", "heads 0 2\nneed a 10 3 1\n"),
     ("q2", "heads 0 3\nneed a 10 0 1 1 1\n"),
@@ -254,6 +255,16 @@ processed 1
 failed 0
 ";
 
+const POINTS: &str = "curve 2
+heads 1 cost 35 bound 35 processed 1 failed 0
+heads 2 cost 10 bound 10 processed 1 failed 0
+";
+
+const NO_POINT: &str = "curve 2
+heads 1 cost none bound none processed 1 failed 0
+heads 2 cost none bound none processed 1 failed 0
+";
+
 const NO_SHIFT: &str = "report 1
 result optimal
 cost 10
@@ -270,7 +281,7 @@ over a 0
 ";
 
 // The words, the status and what is said.
-const CASES: [(&[&str], u8, &str); 61] = [
+const CASES: [(&[&str], u8, &str); 66] = [
     (
         &["rank", "g1", "10"],
         0,
@@ -394,6 +405,19 @@ const CASES: [(&[&str], u8, &str); 61] = [
         "graph: 147536 arcs, at most 100000\n",
     ),
     (&["solve", "absent", "q1", "p", "10"], 6, ""),
+    (&["curve", "g1", "q1", "p", "10"], 0, POINTS),
+    (&["curve", "one", "some", "p", "10"], 1, NO_POINT),
+    (&["curve", "g1", "q1", "p", "10001"], 2, NO_FORM),
+    (
+        &["curve", "g6", "q7", "p", "10"],
+        4,
+        "demand: groups have no curve\n",
+    ),
+    (
+        &["curve", "long", "one_head", "p", "10"],
+        9,
+        "graph: 147536 arcs, at most 100000\n",
+    ),
     (
         &["solve", "cycle", "absent", "p", "10"],
         3,

@@ -37,3 +37,6 @@ returns-in-Check-clause-does g c =
 pub returns-in-Reuse-clause-does : goal.returns-in-Reuse-clause-does
 returns-in-Reuse-clause-does g c =
     subst (λ (f : Form). Does f (g.S.Shelf.told c.args.shelf.now) (g.S.Shelf.told c.ask-in-Reuse.new.shelf) (lent (g.M.Master.strict c.args.master.now) (g.M.Master.refused c.args.master.now) (g.M.Master.refused c.args.master.now)) c.ask-in-Reuse.result) c.in-Reuse.ensures.asked c.ask-in-Reuse.ensures
+
+pub returns-in-Curve-clause-one_answer : goal.returns-in-Curve-clause-one_answer
+returns-in-Curve-clause-one_answer g c = has-one-answer (form_of (map string_bytes c.args.words.now))

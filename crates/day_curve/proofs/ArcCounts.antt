@@ -1,0 +1,32 @@
+-- A graph has as many arcs as the list of the arcs in their order.
+use Rattle.std.proofs.Common.{◌≡◌, arith, ◌*◌, List, [], ◌∷◌, length, refl, sym, ◌∙◌}
+use Rattle.roster_model.specs.declared.grammar.ArcKey.{ArcKey}
+use Rattle.roster_model.specs.declared.grammar.Grammar.{Grammar}
+use Rattle.roster_model.specs.Arcs.{same_arc, IsArc}
+use Rattle.roster_model.specs.Folds.{sum_n, count}
+use Rattle.arc_laws.specs.Lists.{AreArcs}
+use Rattle.arc_laws.proofs.Counting.{counted}
+use Rattle.arc_laws.proofs.Folding.{sum_n-same}
+use Rattle.arc_laws.proofs.SameArc.{rising-once}
+use Rattle.parse_graph.specs.Graphs.{GraphView, IsGraph, HasArcs}
+use Rattle.parse_graph.proofs.PlacesLemmas.{once-counted, in-graph, of-graph}
+use Rattle.parse_graph.proofs.SortedLemmas.{sorted-arcs}
+use Rattle.day_solver.specs.Solutions.{HasArcCount}
+
+ones : {A : Type 0} (xs : List A) → sum_n (λ x. 1) xs ≡ length xs
+ones [] = refl
+ones (x ∷ xs) = omega (arith, ones xs)
+
+module _ (g : Grammar) (xs : List ArcKey) (arcs : HasArcs g xs) (listed : List ArcKey) (are : AreArcs g listed) where
+  same-length : length xs ≡ length listed
+  same-length =
+      let once = counted (λ a. 1) listed xs (rising-once listed are.rising) (λ a h. are.whole a (in-graph g xs arcs a h)) in
+      sym (ones xs) ∙ sym once ∙ sum_n-same (λ a. count (same_arc a) xs * 1) (λ a. 1) listed (λ a h. one a (are.sound a h)) ∙ ones listed
+    where
+      one : (a : ArcKey) → IsArc g a → count (same_arc a) xs * 1 ≡ 1
+      one a is = let e = once-counted xs arcs.once a (of-graph g xs arcs a is) in omega (arith, e)
+
+pub graph-count : (g : Grammar) (v : GraphView) → IsGraph g v → HasArcCount g (length v.arcs)
+graph-count g v is =
+    let s = sorted-arcs g v.arcs (in-graph g v.arcs is.arcs) (of-graph g v.arcs is.arcs) in
+    (s.0, s.1, same-length g v.arcs is.arcs s.0 s.1, is.few)

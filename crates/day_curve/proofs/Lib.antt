@@ -1,0 +1,2 @@
+mod NodeValues
+mod ArcCounts

@@ -1,0 +1,7 @@
+//! The curve of a day's least costs over its greatest head count, with the text of each point's certificate.
+#![tactic(auto)]
+
+mod curve;
+mod solution;
+
+pub use curve::DayCurve;
