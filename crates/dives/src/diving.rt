@@ -83,8 +83,8 @@ fn solve(
     Ok(run(program))
 }
 
-/// Takes a step: solves the program, and fixes trees by its weights. Says whether any was fixed; none is where
-/// the program's value comes near to a cost below which a roster is looked for.
+/// Takes a step: solves the program, and fixes trees by its weights. Says whether any was fixed; none is
+/// where the program's value comes near to the cost below which a roster is looked for.
 fn step(
     alloc: Global,
     instance: &Instance,

@@ -21,6 +21,10 @@ const SOLVE: Limits = Limits {
     primal: 3_000,
 };
 
+/// No further cut is tried once the tries have touched so many times the entries that solving the program
+/// touched.
+const WORK: u64 = 2;
+
 /// The steps that try a cut.
 const TRY: Limits = Limits {
     dual: 20,
@@ -134,6 +138,11 @@ impl Bench {
         for (flag, column) in self.flags.iter_mut().zip(self.listed.as_slice()) {
             *flag = *column < pool.len() && pool.has_arc(*column, arc);
         }
+    }
+
+    /// Says whether so much was worked that no further cut is to be tried.
+    pub fn is_spent(&self) -> bool {
+        self.copy.work() > self.base.work().saturating_mul(WORK)
     }
 
     /// Returns the most that a cut is told to add to the value.

@@ -65,7 +65,7 @@ fn score(
     Ok(product(low, high))
 }
 
-/// Returns the arc of the greatest score, the first of several.
+/// Returns the arc of the greatest score of those that are tried, the first of several.
 fn best_of(
     graph: &Graph,
     pool: &Pool,
@@ -78,6 +78,9 @@ fn best_of(
     let mut greatest = 0i128;
     let mut found = None;
     for candidate in candidates {
+        if bench.is_spent() {
+            return Ok(found);
+        }
         let score = score(graph, pool, bench, candidate, greatest)?;
         if score > greatest {
             greatest = score;
