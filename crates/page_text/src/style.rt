@@ -63,7 +63,7 @@ path.floor{stroke:#009e73;stroke-dasharray:6 3}\n\
 path.ceiling{stroke:#cc79a7;stroke-dasharray:2 3}\n\
 .hint{margin:.7rem 0 0;font-size:.85rem;color:var(--dim)}\n\
 .derivation{display:none;position:fixed;right:1rem;bottom:1rem;left:1rem;max-width:60rem;\n\
-max-height:48vh;margin:0 auto;padding:.9rem 1.2rem;overflow:auto;columns:15rem;\n\
+max-height:90vh;margin:0 auto;padding:.9rem 1.2rem;overflow:auto;columns:11rem;\n\
 white-space:pre-wrap;overflow-wrap:anywhere;\n\
 column-rule:1px solid var(--line);pointer-events:none;background:var(--card);color:var(--ink);\n\
 border:1px solid var(--dim);border-radius:10px;box-shadow:0 8px 30px #0005;\n\
