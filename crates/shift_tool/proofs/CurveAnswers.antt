@@ -1,6 +1,5 @@
 -- The answers of `curve`, from what its parts answer.
-use Rattle.std.proofs.Common.{◌≡◌, ◌≢◌, ℕ, ◌+◌, ◌-◌, ◌<◌, ◌≤◌, arith, Bool, List, [], ◌∷◌, length, Option, None, Some, Result, Ok, Err, IfOk, refl, sym, ap, subst, ◌∙◌}
-use Rattle.std.specs.Prelude.{max}
+use Rattle.std.proofs.Common.{◌≡◌, ◌≢◌, ℕ, ◌+◌, ◌<◌, arith, Bool, List, [], ◌∷◌, length, Option, None, Some, Result, Ok, Err, IfOk, refl, sym, ap, subst, ◌∙◌}
 use Rattle.roster_model.specs.declared.grammar.Grammar.{Grammar}
 use Rattle.roster_model.specs.declared.instance.Done.{Done}
 use Rattle.roster_model.specs.declared.instance.Done.TheVariants.{Equal, NoRoster, TurnsOut}
@@ -33,7 +32,7 @@ use Rattle.shift_tool.specs.Fetch.{IsAnswer, IsFetch, NoAnswer}
 use Rattle.shift_tool.specs.Points.{FindsFirst, BreaksCurve, AnswersGroups}
 use Rattle.shift_tool.specs.Reader.{IsReader, HoldsAll}
 use Rattle.shift_tool.specs.Series.{Entry, End, answered, broken_off, IsSeriesWriter, StoresNoEntry}
-use Rattle.shift_tool.specs.Solve.{MasterView, SaysTooManyArcs, Finds}
+use Rattle.shift_tool.specs.Solve.{MasterView, SaysTooManyArcs}
 use Rattle.shift_tool.proofs.Solves.{IsArcsAnswer}
 use Rattle.shift_tool.proofs.Readers.{one_held}
 use Rattle.shift_tool.proofs.Storing.{widen, as_series, refused_fetch, after_fetch, broken_series, said_series}

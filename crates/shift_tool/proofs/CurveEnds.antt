@@ -1,8 +1,7 @@
 -- Curves over the same texts end alike.
-use Rattle.std.proofs.Common.{◌≡◌, ◌≢◌, ℕ, ◌+◌, ◌≤◌, ◌<◌, Bool, true, false, List, [], ◌∷◌, length, Option, None, Some, Result, Ok, Err, refl, sym, ap, subst, ◌∙◌, arith}
+use Rattle.std.proofs.Common.{◌≡◌, ◌≢◌, ℕ, ◌+◌, ◌<◌, Bool, true, false, List, [], ◌∷◌, length, Option, None, Some, refl, sym, ap, subst, ◌∙◌, arith}
 use Rattle.std.specs.Prelude.{IsSome, cond, ◌&&◌, is_none}
 use Rattle.std.specs.List.{list_all}
-use Rattle.std.specs.FinMap as fin
 use Rattle.roster_model.specs.declared.grammar.Grammar.{Grammar}
 use Rattle.roster_model.specs.declared.instance.Instance.{Instance}
 use Rattle.roster_model.specs.SoundInstance.{IsSoundInstance}
@@ -11,8 +10,7 @@ use Rattle.certificate_laws.specs.Right.{YesIsRight}
 use Rattle.demand_text.specs.declared.fault.DemandFault.{DemandFault}
 use Rattle.demand_text.specs.InstanceOf.{instance_of}
 use Rattle.demand_text.specs.FaultLine as demand
-use Rattle.branch_price.specs.declared.found.Found.{Found}
-use Rattle.proof_reuse.specs.Curves.{with_heads, first_heads, point_count}
+use Rattle.proof_reuse.specs.Curves.{with_heads, first_heads}
 use Rattle.reuse_report.specs.declared.points.CurvePoint.{CurvePoint}
 use Rattle.shelf.specs.Shelf.{Texts}
 use Rattle.shift_tool.specs.Curve.{Point, ArePoints, point_entries, said_points, is_same, is_closed, has_no_cost, curve_status, SaysCurve, Curving, CurvesDemand, AnswersCurveDemand, CurvesRules, AnswersCurve}

@@ -1,16 +1,16 @@
 -- Commands that read a rules text and answer a question about its day.
-use Rattle.std.proofs.Common.{◌≡◌, ◌≢◌, ℕ, List, [], ◌∷◌, Option, None, Some, Result, Ok, Err, IfOk, sym, subst}
+use Rattle.std.proofs.Common.{◌≡◌, ◌≢◌, ℕ, List, [], ◌∷◌, Result, Ok, Err, IfOk, sym, subst}
 use Rattle.roster_model.specs.declared.grammar.Grammar.{Grammar}
 use Rattle.roster_model.specs.declared.memory.Memory.{Memory}
 use Rattle.rules_text.specs.FaultLine.{fault_line}
 use Rattle.rules_text.specs.RulesOf.{IsReading}
 use Rattle.rules_text.specs.declared.fault.RulesFault.{RulesFault}
 use Rattle.rules_text.specs.declared.fault.RulesFault.TheVariants as faults
-use Rattle.shelf.specs.Shelf.{Texts, Told}
+use Rattle.shelf.specs.Shelf.{Told}
 use Rattle.shift_tool.specs.declared.answer.Answer.{Answer}
 use Rattle.shift_tool.specs.Days.{DayAnswer, AnswersDay, refused}
 use Rattle.shift_tool.specs.Fetch.{IsAnswer, IsFetch, NoAnswer}
-use Rattle.shift_tool.specs.Reader.{HoldsAll, IsReader}
+use Rattle.shift_tool.specs.Reader.{IsReader}
 use Rattle.shift_tool.proofs.Readers.{IsSaid, said_reader, widen, after_fetch}
 
 module _ (Answers : Grammar → ℕ → List ℕ → Type 0) where

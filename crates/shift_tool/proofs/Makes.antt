@@ -1,21 +1,20 @@
 -- The answers of `make`, from what its parts answer.
-use Rattle.std.proofs.Common.{◌≡◌, ◌≢◌, ℕ, ◌+◌, ◌<◌, List, [], ◌∷◌, ◌++◌, Option, None, Some, Result, Ok, Err, IfOk, map, refl, sym, subst, ◌∙◌, arith}
+use Rattle.std.proofs.Common.{◌≡◌, ◌≢◌, ℕ, ◌+◌, List, [], ◌∷◌, ◌++◌, Option, None, Some, Result, Ok, Err, IfOk, map, refl, sym, subst, ◌∙◌, arith}
 use Rattle.std.specs.List.{range_with_len}
 use Rattle.roster_model.specs.declared.instance.Cell.{Cell}
 use Rattle.roster_model.specs.declared.instance.Done.{Done}
 use Rattle.roster_model.specs.declared.instance.Done.TheVariants.{Equal, NoRoster, TurnsOut}
 use Rattle.roster_model.specs.declared.memory.Memory.{Memory}
-use Rattle.roster_model.specs.Demands.{PeriodDemand, Demand, cells_from, all_cells}
+use Rattle.roster_model.specs.Demands.{Demand, cells_from}
 use Rattle.roster_model.specs.Folds.{Each}
 use Rattle.certificates.specs.declared.cert.Cert.{Cert}
 use Rattle.candidate_rosters.specs.Starts.{IsFreeCell, HasStart}
 use Rattle.parse_graph.specs.declared.fault.GraphFault.{GraphFault}
 use Rattle.parse_graph.specs.Graphs.{IsRefused}
-use Rattle.branch_price.specs.declared.found.Found.{Found}
-use Rattle.branch_price.specs.Found.{IsFound, IsDone, AreCounted}
+use Rattle.branch_price.specs.Found.{IsDone, AreCounted}
 use Rattle.day_solver.specs.declared.solution.Solution.{Solution}
 use Rattle.day_solver.specs.Solutions.{IsSolution}
-use Rattle.made_days.specs.Made.{made_instance, made_demands, made_under, made_periods, asked}
+use Rattle.made_days.specs.Made.{made_instance, made_under, made_periods, asked}
 use Rattle.made_days.specs.Draws.{draw}
 use Rattle.roster_report.specs.SummaryText.{summary_text}
 use Rattle.shelf.specs.Shelf.{Told}

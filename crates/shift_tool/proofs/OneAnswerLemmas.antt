@@ -1,20 +1,14 @@
 -- The same texts have the same answer.
-use Rattle.std.proofs.Common.{◌≡◌, ℕ, List, Option, None, Some, Result, Ok, Err, refl, sym, ap, subst, ◌∙◌, ◌⊎◌, inl, inr, arith, ◌≤◌}
-use Rattle.std.specs.FinMap as fin
+use Rattle.std.proofs.Common.{◌≡◌, ℕ, List, Some, refl, sym, ap, subst, ◌∙◌, inl, inr, arith}
 use Rattle.roster_model.specs.declared.grammar.Grammar.{Grammar}
 use Rattle.roster_model.specs.declared.instance.Instance.{Instance}
 use Rattle.roster_model.specs.Shifts.{IsPrice}
 use Rattle.roster_model.specs.Trees.{steps}
 use Rattle.certificates.specs.declared.cert.Cert.{Cert}
 use Rattle.certificates.specs.declared.why.Why.{Why}
-use Rattle.certificates.specs.declared.verdict.Verdict.TheVariants.{Yes, No}
-use Rattle.certificate_laws.specs.Accepted.{Accepts}
-use Rattle.certificate_laws.specs.Causes.{Cause, IsFirstCause}
+use Rattle.certificates.specs.declared.verdict.Verdict.TheVariants.{No}
 use Rattle.certificate_laws.proofs.Refused.{refused as cause-refuses}
 use Rattle.certificate_laws.proofs.OneCause.{one-first}
-use Rattle.rules_text.specs.declared.fault.RulesFault.{RulesFault}
-use Rattle.rules_text.specs.RulesOf.{IsReading}
-use Rattle.rules_text.proofs.OneReading.{one_reading}
 use Rattle.demand_text.specs.declared.fault.DemandFault.{DemandFault}
 use Rattle.demand_text.specs.InstanceOf.{instance_of}
 use Rattle.proof_pieces.specs.declared.fault.ProofFault.{ProofFault}
@@ -24,7 +18,6 @@ use Rattle.proof_reuse.specs.declared.nodes.Reused.{Reused}
 use Rattle.proof_reuse.proofs.OneAnswer.{one-answer}
 use Rattle.reuse_report.specs.ReusedText.{reused_text}
 use Rattle.demand_text.specs.FaultLine as demand
-use Rattle.rules_text.specs.FaultLine.{fault_line}
 use Rattle.shift_report.specs.TreeText.{tree_text}
 use Rattle.shelf.specs.Shelf.{Texts}
 use Rattle.shift_report.specs.VerdictText.{verdict_text}
@@ -40,7 +33,7 @@ use Rattle.shift_tool.specs.Days.{DayAnswer, AnswersDay}
 use Rattle.shift_tool.specs.Days as days
 use Rattle.shift_tool.specs.Reuse.{Reusing, reused_status}
 use Rattle.shift_tool.specs.OneAnswer.{AreSameButTree, HasOneAnswer}
-use Rattle.shift_tool.specs.Form.{Form, explain, rank, next, fits, check, reuse, solve, curve, make, none, AnswersNoForm}
+use Rattle.shift_tool.specs.Form.{Form, explain, rank, next, fits, check, reuse, solve, curve, make, none}
 use Rattle.shift_tool.proofs.OneEndLemmas.{solve-ends, make-ends}
 use Rattle.shift_tool.proofs.CurveEnds.{curve-ends}
 use Rattle.shift_tool.proofs.Same.{same_text, same_ok, same_err, not_both, same_grammar, no_fault, faults_once}

@@ -1,7 +1,6 @@
 -- The points of a curve, one after another.
-use Rattle.std.proofs.Common.{◌≡◌, ◌≢◌, ℕ, ◌+◌, ◌<◌, ◌≤◌, arith, Bool, List, [], ◌∷◌, ◌++◌, length, refl, sym, ap, subst, ◌∙◌}
+use Rattle.std.proofs.Common.{◌≡◌, ℕ, ◌+◌, ◌<◌, arith, Bool, List, [], ◌∷◌, ◌++◌, length, refl, sym, ap, subst, ◌∙◌}
 use Rattle.roster_model.specs.declared.instance.Instance.{Instance}
-use Rattle.branch_price.specs.declared.found.Found.{Found}
 use Rattle.branch_price.specs.Found.{AreCounted}
 use Rattle.day_solver.specs.declared.solution.Solution.{Solution}
 use Rattle.day_solver.specs.Solutions.{IsSolution}

@@ -1,5 +1,5 @@
 -- A text has one reading.
-use Rattle.std.proofs.Common.{◌≡◌, ℕ, List, Option, None, Some, Result, Ok, Err, sym, ap, ◌∙◌}
+use Rattle.std.proofs.Common.{◌≡◌, ℕ, List, Some, Result, Ok, Err, sym, ap, ◌∙◌}
 use Rattle.std.specs.FinMap as fin
 use Rattle.roster_model.specs.declared.grammar.Grammar.{Grammar}
 use Rattle.rules_text.specs.declared.fault.RulesFault.{RulesFault}

@@ -1,6 +1,6 @@
 -- The answers of commands that search, from what their parts answer.
-use Rattle.std.proofs.Common.{◌≡◌, ◌≢◌, ℕ, ◌<◌, List, Option, Result, Ok, Err, IfOk, ap, refl, sym, subst, ◌∙◌}
-use Rattle.std.specs.Prelude.{Some, None, [], ◌∷◌, Bool, length}
+use Rattle.std.proofs.Common.{◌≡◌, ◌≢◌, ℕ, List, Option, Result, Ok, Err, IfOk, sym, subst, ◌∙◌}
+use Rattle.std.specs.Prelude.{Some, None, [], ◌∷◌}
 use Rattle.roster_model.specs.declared.grammar.Grammar.{Grammar}
 use Rattle.roster_model.specs.declared.instance.Instance.{Instance}
 use Rattle.roster_model.specs.declared.memory.Memory.{Memory}
@@ -23,7 +23,7 @@ use Rattle.day_solver.specs.Solutions.{IsSolution, IsReportText}
 use Rattle.shift_tool.specs.declared.answer.Answer.{Answer}
 use Rattle.shift_tool.specs.Fetch.{IsAnswer}
 use Rattle.shift_tool.specs.Reader.{IsReader, HoldsAll}
-use Rattle.shift_tool.specs.Writer.{Answers, IsWriter, IsStoredAnswer, StoresNothing}
+use Rattle.shift_tool.specs.Writer.{IsWriter, IsStoredAnswer, StoresNothing}
 use Rattle.shift_tool.specs.Solve.{MasterView, Finds, SaysTooManyArcs, Solving, SolvesDemand, AnswersSolveDemand, SolvesRules, done_status}
 use Rattle.shift_tool.specs.Solve as solves
 use Rattle.shift_tool.proofs.Writers.{widen, as_writer}

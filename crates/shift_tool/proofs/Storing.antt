@@ -1,11 +1,11 @@
 -- Commands that store several texts and then say an answer.
 use Rattle.std.proofs.Common.{◌≡◌, ◌≢◌, ℕ, ◌≤◌, ◌<◌, ◌-◌, ◌^◌, List, [], ◌∷◌, ◌++◌, Option, None, Some, arith, refl, sym, ap, subst, ◌∙◌, ◌⊎◌, inl, inr}
-use Rattle.std.specs.Prelude.{IfSome, IsSome, IsSomeAnd, IsTrue}
+use Rattle.std.specs.Prelude.{IfSome, IsSomeAnd}
 use Rattle.std.specs.FinMap as fin
-use Rattle.shelf.specs.Shelf.{Texts, Told, AgreesElsewhere, one_more}
+use Rattle.shelf.specs.Shelf.{Texts, Told, one_more}
 use Rattle.shift_tool.specs.Fetch.{IsFetch, NoAnswer}
 use Rattle.shift_tool.specs.Reader.{HoldsAll, Said, SaidLittle, IsReader}
-use Rattle.shift_tool.specs.Series.{Entry, with_entries, End, answered, broken_off, SeriesAnswers, AreStored, IsHeldAt, StoredFirst, StoredSome, SeriesFront, SaidSome, IsSeriesWriter, StoresNoEntry, IsStoredBy, BreaksOff, IsBrokenOff}
+use Rattle.shift_tool.specs.Series.{Entry, with_entries, End, answered, broken_off, SeriesAnswers, AreStored, StoredSome, SaidSome, IsSeriesWriter, StoresNoEntry, IsStoredBy, BreaksOff, IsBrokenOff}
 use Rattle.shift_tool.proofs.Readers.{more_faults, others_held, quiet_now, no_more}
 
 module _ (A B : SeriesAnswers) (each : (e : End) (entries : List Entry) → A e entries → B e entries) where

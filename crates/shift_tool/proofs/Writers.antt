@@ -1,8 +1,7 @@
 -- Commands that store a text and then say an answer.
-use Rattle.std.proofs.Common.{◌≡◌, ◌≢◌, ℕ, ◌≤◌, ◌<◌, ◌-◌, ◌^◌, List, [], ◌∷◌, ◌++◌, Option, None, Some, Result, Ok, Err, arith, refl, sym, subst, ◌∙◌, ◌⊎◌, inl, inr}
-use Rattle.std.specs.Prelude.{IfSome, IsSome, IsSomeAnd, IsTrue}
-use Rattle.std.specs.FinMap as fin
-use Rattle.shelf.specs.Shelf.{Texts, Told, AgreesElsewhere, one_more}
+use Rattle.std.proofs.Common.{◌≡◌, ℕ, List, [], ◌∷◌, Option, None, Some, arith, refl, sym, subst, inl, inr}
+use Rattle.std.specs.Prelude.{IfSome, IsSomeAnd}
+use Rattle.shelf.specs.Shelf.{Texts, Told, AgreesElsewhere}
 use Rattle.shift_tool.specs.Fetch.{IsFetch, NoAnswer}
 use Rattle.shift_tool.specs.Reader.{HoldsAll, Said, SaidLittle, IsReader}
 use Rattle.shift_tool.specs.Writer.{Answers, IsStored, WroteLittle, IsWriter, StoresNothing}

@@ -1,5 +1,5 @@
 -- What `curve RULES DEMAND PROOF TURNS` answers.
-use Rattle.std.specs.Prelude.{ℕ, ◌≡◌, ◌≢◌, ◌≤◌, ◌<◌, ◌+◌, ◌++◌, Bool, true, false, cond, nat_eq, is_none, List, [], ◌∷◌, Option, None, Some, codes, length}
+use Rattle.std.specs.Prelude.{ℕ, ◌≡◌, ◌≢◌, ◌<◌, ◌+◌, ◌++◌, Bool, true, false, cond, nat_eq, is_none, List, [], ◌∷◌, Option, None, Some, codes, length}
 use Rattle.std.specs.Fmt.{decimal}
 use Rattle.std.specs.List.{list_all}
 use Rattle.roster_model.specs.declared.grammar.Grammar.{Grammar}

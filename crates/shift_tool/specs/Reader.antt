@@ -1,5 +1,5 @@
 -- What a call of the program does to the shelf that it was lent.
-use Rattle.std.specs.Prelude.{ℕ, ◌≡◌, ◌≢◌, ◌⊎◌, ◌<◌, ◌≤◌, ◌-◌, ◌^◌, Bool, IsTrue, List, ◌++◌, Option, Some, IfSome, IsSome, IsSomeAnd}
+use Rattle.std.specs.Prelude.{ℕ, ◌≡◌, ◌≢◌, ◌⊎◌, ◌<◌, ◌≤◌, IsTrue, List, ◌++◌, Option, Some, IfSome, IsSome, IsSomeAnd}
 use Rattle.std.specs.FinMap as fin
 use Rattle.shelf.specs.Shelf.{Texts, Told, one_more, most_faults}
 use Rattle.roster_model.specs.Folds.{Each}

@@ -1,5 +1,5 @@
 -- What `solve RULES DEMAND PROOF TURNS` answers.
-use Rattle.std.specs.Prelude.{ℕ, ◌≡◌, ◌≤◌, ◌<◌, ◌++◌, Bool, List, [], ◌∷◌, Option, None, Some, Ok, Err, codes, length}
+use Rattle.std.specs.Prelude.{ℕ, ◌≡◌, ◌<◌, ◌++◌, Bool, List, Option, None, Some, Ok, codes, length}
 use Rattle.std.specs.Fmt.{decimal}
 use Rattle.roster_model.specs.declared.grammar.ArcKey.{ArcKey}
 use Rattle.roster_model.specs.declared.grammar.Grammar.{Grammar}
@@ -16,7 +16,6 @@ use Rattle.shelf.specs.Shelf.{Texts}
 use Rattle.shift_tool.specs.Check.{IsInstanceOf, SaysDemandFault}
 use Rattle.shift_tool.specs.Explain.{IsGrammarOf, SaysFault}
 use Rattle.shift_tool.specs.Reader.{Holds}
-use Rattle.shift_tool.specs.Writer.{Answers}
 
 -- a master: whether it refuses hard nodes alone, and how many nodes it had refused before and has refused now
 pub record MasterView : Type 0 where

@@ -1,5 +1,5 @@
 -- Parts of a command that stores one text and then says one answer.
-use Rattle.std.specs.Prelude.{ℕ, ◌≡◌, ◌≢◌, ◌⊎◌, ◌<◌, ◌≤◌, Bool, IsTrue, List, ◌++◌, Option, None, Some, Result, Ok, Err, IfSome, IsSomeAnd}
+use Rattle.std.specs.Prelude.{ℕ, ◌≡◌, ◌≢◌, ◌⊎◌, ◌<◌, ◌≤◌, IsTrue, List, ◌++◌, Option, None, Some, Result, Ok, Err, IfSome, IsSomeAnd}
 use Rattle.std.specs.FinMap as fin
 use Rattle.roster_model.specs.declared.memory.Memory.{Memory}
 use Rattle.shelf.specs.Shelf.{Texts, Told, AgreesElsewhere, one_more, most_faults}

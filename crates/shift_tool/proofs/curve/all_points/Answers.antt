@@ -1,6 +1,6 @@
-use Rattle.std.proofs.Common.{◌≡◌, ◌≤◌, ◌+◌, ◌<◌, ℕ, arith, refl, sym, ap, subst, ◌∙◌, rules}
+use Rattle.std.proofs.Common.{◌≡◌, ◌<◌, ℕ, arith, refl, subst, ◌∙◌, rules}
 use Rattle.std.proofs.lemmas.Result.{err_from_is_err_and}
-use Rattle.proof_reuse.specs.Curves.{CurveView, point_count}
+use Rattle.proof_reuse.specs.Curves.{point_count}
 use Rattle.shift_tool.proofs.PointLemmas.{first-none, next-curve, next-found, next-broken, none-begun}
 use Rattle.shift_tool.proofs.curve.all_points.Goals as goal
 

@@ -1,6 +1,4 @@
-use Rattle.std.proofs.Common.{subst, sym}
-use Rattle.proof_reuse.specs.Curves.{CurveView, point_count}
-use Rattle.shift_tool.proofs.CurveAnswers.{graph-refused, some-points}
+use Rattle.shift_tool.proofs.CurveAnswers.{graph-refused}
 use Rattle.shift_tool.proofs.curve.curve_plain.Goals as goal
 
 pub returns-in-Err : goal.returns-in-Err

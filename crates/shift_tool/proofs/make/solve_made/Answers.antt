@@ -1,5 +1,5 @@
 use Rattle.roster_model.specs.declared.instance.Instance.{Instance}
-use Rattle.std.proofs.Common.{List, ℕ, subst}
+use Rattle.std.proofs.Common.{subst}
 use Rattle.branch_price.specs.Found.{AreCounted}
 use Rattle.parse_graph.specs.Graphs.{IsRefused}
 use Rattle.day_solver.specs.Solutions.{IsSolution}

@@ -1,4 +1,3 @@
-use Rattle.shift_tool.specs.Solve.{lent}
 use Rattle.shift_tool.proofs.Solves.{demand-accepted, demand-refused}
 use Rattle.shift_tool.proofs.solve.solve_demand_text.Goals as goal
 
