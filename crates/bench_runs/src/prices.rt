@@ -1,7 +1,7 @@
 ghost use Rattle.std.specs.Prelude.{◌≡◌};
 ghost use Rattle.bench_runs.specs.Prices.{price_of};
 
-use roster_model::{ArcKey, LetterPrice};
+use roster_model::{ArcKey, ArcPrice, LetterPrice};
 
 /// The prices of one fill: those of letters and rules are 0 to 99, by their numbers and the number of
 /// the fill. Arcs cost nothing.
@@ -32,6 +32,10 @@ impl LetterPrice for FillPrices {
 
     fn arc(&self, arc: &ArcKey) -> i128 {
         0
+    }
+
+    fn arc_prices(&self) -> Option<&[ArcPrice]> {
+        Some(&[])
     }
 
     fn rule(&self, rule: u8) -> i128 {

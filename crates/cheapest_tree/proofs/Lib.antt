@@ -11,3 +11,4 @@ pub mod UnderLemmas
 pub mod NarrowLemmas
 pub mod OrdersLemmas
 pub mod RowsLemmas
+pub mod ExtrasLemmas

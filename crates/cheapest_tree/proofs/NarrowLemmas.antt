@@ -1,14 +1,18 @@
 -- Sums of numbers of 64 bits, of which one stands for none.
 use Rattle.std.proofs.Common.{◌≡◌, ℕ, zero, suc, ℤ, pos, ◌≤◌, ◌+ℤ◌, ◌≤ℤ◌, ◌<ℤ◌, ◌^◌, Bool, true, false, cond, List, Option, None, Some, IfSome, arith, refl, sym, ap, subst, ◌∙◌, ◌⊎◌, inl, inr}
-use Rattle.std.specs.Prelude.{slice_index_or}
+use Rattle.std.specs.Prelude.{slice_get, slice_index_or, length}
 use Rattle.std.specs.Ordering.{int_eq}
 use Rattle.std.specs.Cmp.{signed_Decides}
 use Rattle.std.proofs.lemmas.Int.{ints}
-use Rattle.std.proofs.lemmas.Option.{same_Some}
+use Rattle.std.proofs.lemmas.Option.{same_Some, slice_get_within}
+use Rattle.roster_model.specs.declared.grammar.ArcKey.{ArcKey}
 use Rattle.roster_model.specs.Sums.{PriceView, Within, plus, AtMost, IsLesser}
-use Rattle.cheapest_tree.specs.AtNodes.{with_rule}
+use Rattle.cheapest_tree.specs.declared.order.Maker.{Maker}
+use Rattle.cheapest_tree.specs.AtNodes.{with_rule, arc_total}
+use Rattle.cheapest_tree.specs.Extras.{number_at, AreCosts}
 use Rattle.cheapest_tree.specs.Narrow.{no_number, sum_of, no_least, least_of, IsBetter, AreRules}
 use Rattle.cheapest_tree.specs.Orders.{code_of}
+use Rattle.cheapest_tree.specs.Passes.{maker_price, CanAdd, CanPass}
 
 -- the sum that a number stands for, where one number stands for none
 abbrev Is : ℤ → ℤ → Option ℤ → Type 0
@@ -129,3 +133,32 @@ price-total p r (suc k) c rules are code fits x e is first rest =
     let none : slice_index_or rules c (pos 0) ≡ pos 0 = ap (λ (n : ℕ). slice_index_or rules n (pos 0)) code ∙ are.none in
     let same : e ≡ x = omega (arith, ints, is, none) in
     ap (λ (q : ℤ). plus first (plus (Some q) rest)) same
+
+module _ (p : PriceView) (arcs : List ArcKey) (rules extras : List ℤ) (rules_are : AreRules p rules) (extras_are : AreCosts p arcs extras) (values : List (Option ℤ)) (x : Maker) (can : CanPass arcs values x) where
+  -- the prices of an arc are there
+  pub can-add : CanAdd rules extras values x
+  can-add =
+      let inside = slice_get_within arcs x.arc can.key can.at in
+      record {
+        code_in = omega (arith, can.fits, rules_are.count);
+        arc_in = omega (arith, inside, extras_are.count);
+        first_in = can.first_in;
+        rest_in = can.rest_in;
+        rule = rules_are.small x.code (omega (arith, can.fits));
+        extra = extras_are.narrow x.arc;
+      }
+
+  -- and are what it costs
+  pub maker-total : (a : ArcKey) → slice_get arcs x.arc ≡ Some a → (first rest : Option ℤ) → plus first (plus (Some (maker_price rules extras x)) rest) ≡ arc_total p a first rest
+  maker-total a at first rest =
+      let same : can.key ≡ a = same_Some can.key a (sym can.at ∙ at) in
+      let code : x.code ≡ code_of a.rule a.suffix = can.code ∙ ap (λ (q : ArcKey). code_of q.rule q.suffix) same in
+      price-total p a.rule a.suffix x.code rules rules_are code can.fits (p.arc_of a) (maker_price rules extras x) (ap (λ (z : ℤ). number_at rules x.code +ℤ z) (extras_are.each x.arc a at)) first rest
+
+-- a better sum, of numbers that were read
+pub better-read : (sum : Option ℤ) (arc : ℕ) (f f2 r r2 : Option ℤ) (z z2 : ℤ) (maker : ℕ) (better : Option ℤ) (chosen : ℕ)
+    → IsBetter sum arc (plus f (plus (Some z) r)) maker better chosen → f ≡ f2 → r ≡ r2 → z ≡ z2 → IsBetter sum arc (plus f2 (plus (Some z2) r2)) maker better chosen
+better-read sum arc f f2 r r2 z z2 maker better chosen is first rest price =
+    subst (λ (q : Option ℤ). IsBetter sum arc (plus q (plus (Some z2) r2)) maker better chosen) first
+    (subst (λ (q : Option ℤ). IsBetter sum arc (plus f (plus (Some z2) q)) maker better chosen) rest
+    (subst (λ (q : ℤ). IsBetter sum arc (plus f (plus (Some q) r)) maker better chosen) price is))

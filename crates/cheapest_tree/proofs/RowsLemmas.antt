@@ -195,10 +195,10 @@ module _ (g : Grammar) (p : PriceView) (v : GraphView) (graph : IsGraph g v) (le
               let arc_is : x.0.arc ≡ w.0 = omega (arith, x.2) in
               (at.0, x.0, slice_get_within is_row.arcs at.0 (0 + w.0) here, x.1, ap (λ (q : ℕ). slice_get v.arcs q) arc_is ∙ w.1)
 
-module _ (p : PriceView) (v : GraphView) (letters : List Spot) (order : Order) where
+module _ (most : ℕ) (p : PriceView) (v : GraphView) (letters : List Spot) (order : Order) where
   -- at first no row is passed
   pub rows-begin : (values : List (Option ℤ)) (best : List ℕ) → length values ≡ length v.nodes + 1 + length letters → length best ≡ length v.nodes
-      → AreBegun p letters (length v.nodes) values → AreSmall values → AreRowsPassed p v letters order values best 0
+      → AreBegun p letters (length v.nodes) values → AreSmall most values → AreRowsPassed most p v letters order values best 0
   rows-begin values best slots nodes begun small = record {
     slots = slots;
     nodes = nodes;
@@ -211,8 +211,8 @@ module _ (p : PriceView) (v : GraphView) (letters : List Spot) (order : Order) w
       never q h = omega (arith, h)
 
   -- one more is
-  pub rows-next : (values : List (Option ℤ)) (best : List ℕ) (j : ℕ) → AsksRow p v letters order values best j → (row : Row) → slice_get order.rows j ≡ Some row
-      → (w : Option ℤ) (arc : ℕ) → FindsRow p v order j w arc → IfSome w (Within (2 ^ 59)) → AreRowsPassed p v letters order (set values row.node w) (set best row.node arc) (j + 1)
+  pub rows-next : (values : List (Option ℤ)) (best : List ℕ) (j : ℕ) → AsksRow most p v letters order values best j → (row : Row) → slice_get order.rows j ≡ Some row
+      → (w : Option ℤ) (arc : ℕ) → FindsRow p v order j w arc → IfSome w (Within most) → AreRowsPassed most p v letters order (set values row.node w) (set best row.node arc) (j + 1)
   rows-next values best j asks row at w arc finds within = record {
     slots = length-set values row.node w ∙ old.slots;
     nodes = length-set best row.node arc ∙ old.nodes;
@@ -221,7 +221,7 @@ module _ (p : PriceView) (v : GraphView) (letters : List Spot) (order : Order) w
     done = λ g sound graph i r lt here. done g sound graph i r here (before_or_last i j lt) (same_or_not r.node row.node);
   }
     where
-      old : AreRowsPassed p v letters order values best j
+      old : AreRowsPassed most p v letters order values best j
       old = asks.passed
 
       in_nodes : row.node < length v.nodes
@@ -233,11 +233,11 @@ module _ (p : PriceView) (v : GraphView) (letters : List Spot) (order : Order) w
       in_best : row.node < length best
       in_best = omega (arith, in_nodes, old.nodes)
 
-      small : (s : ℕ) → s < length (set values row.node w) → (s ≡ row.node) ⊎ (s ≢ row.node) → IfSome (value_at (set values row.node w) s) (Within (2 ^ 59))
-      small s lt (inl e) = subst (λ (q : Option ℤ). IfSome q (Within (2 ^ 59))) (sym (ap (λ (n : ℕ). value_at (set values row.node w) n) e ∙ get_or-set_same values row.node w None in_values)) within
+      small : (s : ℕ) → s < length (set values row.node w) → (s ≡ row.node) ⊎ (s ≢ row.node) → IfSome (value_at (set values row.node w) s) (Within most)
+      small s lt (inl e) = subst (λ (q : Option ℤ). IfSome q (Within most)) (sym (ap (λ (n : ℕ). value_at (set values row.node w) n) e ∙ get_or-set_same values row.node w None in_values)) within
       small s lt (inr ne) =
           let l = length-set values row.node w in
-          subst (λ (q : Option ℤ). IfSome q (Within (2 ^ 59))) (sym (get_or-set_other values row.node s w None ne)) (old.small s (omega (arith, lt, l)))
+          subst (λ (q : Option ℤ). IfSome q (Within most)) (sym (get_or-set_other values row.node s w None ne)) (old.small s (omega (arith, lt, l)))
 
       done : (g : Grammar) → IsSound g → IsGraph g v → (i : ℕ) (r : Row) → slice_get order.rows i ≡ Some r → (i < j) ⊎ (i ≡ j) → (r.node ≡ row.node) ⊎ (r.node ≢ row.node)
           → IsDone g p v (set values row.node w) (set best row.node arc) r.node
@@ -251,7 +251,7 @@ module _ (p : PriceView) (v : GraphView) (letters : List Spot) (order : Order) w
           absurd (ne (ap (λ (q : Row). q.node) same))
 
   -- in the end all are
-  pub rows-end : (values : List (Option ℤ)) (best : List ℕ) → IsOrder v letters order → AreRowsPassed p v letters order values best (length order.rows)
+  pub rows-end : (values : List (Option ℤ)) (best : List ℕ) → IsOrder v letters order → AreRowsPassed most p v letters order values best (length order.rows)
       → (links : Links) (o : Option Order) (g : Grammar) → IsSound g → IsGraph g v → IsFilled g p v (record { links = links; letters = letters; order = o; values = values; best = best })
   rows-end values best is passed links o g sound graph = record {
     priced = passed.priced;
@@ -271,22 +271,22 @@ which : (nodes count s : ℕ) → s < nodes + 1 + count → (s < nodes) ⊎ ((s 
 which nodes count s lt = grind (arith, lt)
 
 -- at first all sums are small
-pub small-begun : (nodes count : ℕ) (values : List (Option ℤ)) → length values ≡ nodes + 1 + count → ((n : ℕ) → n < nodes → value_at values n ≡ None) → value_at values nodes ≡ Some (pos 0)
-    → ((j : ℕ) → j < count → IfSome (value_at values (nodes + 1 + j)) (Within (2 ^ 59))) → AreSmall values
-small-begun nodes count values room none nothing letters s lt = by (which nodes count s (omega (arith, lt, room)))
+pub small-begun : (most nodes count : ℕ) (values : List (Option ℤ)) → length values ≡ nodes + 1 + count → ((n : ℕ) → n < nodes → value_at values n ≡ None) → value_at values nodes ≡ Some (pos 0)
+    → ((j : ℕ) → j < count → IfSome (value_at values (nodes + 1 + j)) (Within most)) → AreSmall most values
+small-begun most nodes count values room none nothing letters s lt = by (which nodes count s (omega (arith, lt, room)))
   where
-    by : (s < nodes) ⊎ ((s ≡ nodes) ⊎ ((nodes + 1 ≤ s) × (s < nodes + 1 + count))) → IfSome (value_at values s) (Within (2 ^ 59))
-    by (inl k) = subst (λ (q : Option ℤ). IfSome q (Within (2 ^ 59))) (sym (none s k)) tt
-    by (inr (inl e)) = subst (λ (q : Option ℤ). IfSome q (Within (2 ^ 59))) (sym (ap (λ (n : ℕ). value_at values n) e ∙ nothing)) (record { low = omega (arith, ints); high = omega (arith, ints) })
+    by : (s < nodes) ⊎ ((s ≡ nodes) ⊎ ((nodes + 1 ≤ s) × (s < nodes + 1 + count))) → IfSome (value_at values s) (Within most)
+    by (inl k) = subst (λ (q : Option ℤ). IfSome q (Within most)) (sym (none s k)) tt
+    by (inr (inl e)) = subst (λ (q : Option ℤ). IfSome q (Within most)) (sym (ap (λ (n : ℕ). value_at values n) e ∙ nothing)) (record { low = omega (arith, ints); high = omega (arith, ints) })
     by (inr (inr k)) =
         let same : nodes + 1 + (s - (nodes + 1)) ≡ s = omega (arith, k.0) in
-        subst (λ (n : ℕ). IfSome (value_at values n) (Within (2 ^ 59))) same (letters (s - (nodes + 1)) (omega (arith, k.0, k.1)))
+        subst (λ (n : ℕ). IfSome (value_at values n) (Within most)) same (letters (s - (nodes + 1)) (omega (arith, k.0, k.1)))
 
 -- a row that was read
 pub row-read : (order : Order) (rows : List Row) (place : ℕ) (d : Row) → place < length order.rows → rows ≡ order.rows → slice_get order.rows place ≡ Some (get_or rows place d)
 row-read order rows place d inside same = ap (λ (q : List Row). slice_get q place) (sym same) ∙ slice_get-get_or rows place d (omega (arith, ap length same, inside))
 
-module _ (p : PriceView) (v : GraphView) (letters : List Spot) (order : Order) (sums : List (Option ℤ)) (best : List ℕ) (place : ℕ) (asks : AsksRow p v letters order sums best place)
+module _ (most : ℕ) (p : PriceView) (v : GraphView) (letters : List Spot) (order : Order) (sums : List (Option ℤ)) (best : List ℕ) (place : ℕ) (asks : AsksRow most p v letters order sums best place)
     (r : Row) (at : slice_get order.rows place ≡ Some r) where
   is_row : IsRow v letters order.makers order.rows place r
   is_row = asks.order_is.rows place r at

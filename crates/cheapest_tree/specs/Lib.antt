@@ -7,3 +7,4 @@ pub mod Passes
 pub mod Walks
 pub mod Under
 pub mod Narrow
+pub mod Extras

@@ -27,9 +27,9 @@ same_number z false h = refl
 pub number_of-sum_of : (z : ℤ) → number_of (sum_of z) ≡ z
 number_of-sum_of z = same_number z (int_eq z no_number) (signed_Decides z no_number).0
 
--- each sum is at most 2^59 in size
-abbrev pub AreSmall : List (Option ℤ) → Type 0
-AreSmall values = (s : ℕ) → s < length values → IfSome (value_at values s) (Within (2 ^ 59))
+-- each sum is at most so great in size
+abbrev pub AreSmall : ℕ → List (Option ℤ) → Type 0
+AreSmall most values = (s : ℕ) → s < length values → IfSome (value_at values s) (Within most)
 
 -- above all sums of two small ones and a price, and below what comes of a number that stands for none
 abbrev pub no_least : ℤ

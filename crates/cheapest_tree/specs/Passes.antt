@@ -1,8 +1,8 @@
 -- How far the values are filled.
-use Rattle.std.specs.Prelude.{ℕ, ℤ, ◌≡◌, ◌+◌, ◌<◌, ◌≤◌, Option, None, Some, OnSome, List, length, slice_get, slice_index}
+use Rattle.std.specs.Prelude.{ℕ, ℤ, ◌≡◌, ◌+◌, ◌+ℤ◌, ◌<◌, ◌≤◌, ◌^◌, Option, None, Some, OnSome, List, length, slice_get, slice_index}
 use Rattle.roster_model.specs.declared.grammar.ArcKey.{ArcKey}
 use Rattle.roster_model.specs.declared.grammar.Grammar.{Grammar}
-use Rattle.roster_model.specs.Sums.{PriceView, IsLeast}
+use Rattle.roster_model.specs.Sums.{PriceView, Within, IsLeast}
 use Rattle.roster_model.specs.Sound.{IsSound}
 use Rattle.arc_laws.specs.OrNodes.{OrNode}
 use Rattle.parse_graph.specs.Graphs.{GraphView, IsGraph}
@@ -11,7 +11,8 @@ use Rattle.cheapest_tree.specs.declared.order.Order.{Order}
 use Rattle.cheapest_tree.specs.declared.order.Row.{Row}
 use Rattle.cheapest_tree.specs.declared.slots.Spot.{Spot}
 use Rattle.cheapest_tree.specs.AtNodes.{IsAt, sum_at, NodeLeast, top_arc, IsBefore}
-use Rattle.cheapest_tree.specs.Narrow.{AreSmall}
+use Rattle.cheapest_tree.specs.Extras.{number_at, AreCosts}
+use Rattle.cheapest_tree.specs.Narrow.{AreSmall, AreRules}
 use Rattle.cheapest_tree.specs.Orders.{code_of, IsOrder}
 use Rattle.cheapest_tree.specs.Pricers.{value_at, ArePriced, IsBest}
 
@@ -37,28 +38,48 @@ IsDone g p v values best m = (o : OrNode) → slice_get v.nodes m ≡ Some o
     → NodeLeast g p o (value_at values m)
     × OnSome (value_at values m) (IsBest g p v o (value_at values m) (slice_index best m))
 
--- the nodes of the first j rows of an order have their values, and all values are small
-pub record AreRowsPassed (p : PriceView) (v : GraphView) (letters : List Spot) (order : Order)
+-- the nodes of the first j rows of an order have their values, and all values are at most so great in size
+pub record AreRowsPassed (most : ℕ) (p : PriceView) (v : GraphView) (letters : List Spot) (order : Order)
     (values : List (Option ℤ)) (best : List ℕ) (j : ℕ) : Type 0 where
   pub slots : length values ≡ length v.nodes + 1 + length letters
   pub nodes : length best ≡ length v.nodes
   pub priced : ArePriced p letters (length v.nodes) values
-  pub small : AreSmall values
+  pub small : AreSmall most values
   pub done : (g : Grammar) → IsSound g → IsGraph g v → (i : ℕ) (r : Row) → i < j
       → slice_get order.rows i ≡ Some r → IsDone g p v values best r.node
 
 -- what is asked to pass the j-th row
-pub record AsksRow (p : PriceView) (v : GraphView) (letters : List Spot) (order : Order)
+pub record AsksRow (most : ℕ) (p : PriceView) (v : GraphView) (letters : List Spot) (order : Order)
     (values : List (Option ℤ)) (best : List ℕ) (j : ℕ) : Type 0 where
   pub order_is : IsOrder v letters order
   pub inside : j < length order.rows
-  pub passed : AreRowsPassed p v letters order values best j
+  pub passed : AreRowsPassed most p v letters order values best j
 
 -- the value is the least sum of what stands at the node of the j-th row, and the arc has it at the top
 abbrev pub FindsRow : PriceView → GraphView → Order → ℕ → Option ℤ → ℕ → Type 0
 FindsRow p v order j value arc = (g : Grammar) → IsSound g → IsGraph g v → (r : Row)
     → slice_get order.rows j ≡ Some r → (o : OrNode) → slice_get v.nodes r.node ≡ Some o
     → NodeLeast g p o value × OnSome value (IsBest g p v o value arc)
+
+-- what is asked to pass it with sums of 64 bits, at the prices of the rules and of the arcs
+pub record AsksNarrow (p : PriceView) (v : GraphView) (letters : List Spot) (order : Order)
+    (values : List (Option ℤ)) (best : List ℕ) (j : ℕ) (rules extras : List ℤ) : Type 0 where
+  pub row : AsksRow (2 ^ 59) p v letters order values best j
+  pub rules_are : AreRules p rules
+  pub extras_are : AreCosts p v.arcs extras
+
+-- what an arc costs, with its rule where it is of a whole right side
+abbrev pub maker_price : List ℤ → List ℤ → Maker → ℤ
+maker_price rules extras x = number_at rules x.code +ℤ number_at extras x.arc
+
+-- the slots and prices of an arc are there, and the prices are at most 2^43 in size
+pub record CanAdd (rules extras : List ℤ) (values : List (Option ℤ)) (x : Maker) : Type 0 where
+  pub code_in : x.code < length rules
+  pub arc_in : x.arc < length extras
+  pub first_in : x.first < length values
+  pub rest_in : x.rest < length values
+  pub rule : Within (2 ^ 43) (number_at rules x.code)
+  pub extra : Within (2 ^ 43) (number_at extras x.arc)
 
 -- the arc and its slots are there, and its rule's code is right
 pub record CanPass (arcs : List ArcKey) (values : List (Option ℤ)) (x : Maker) : Type 0 where

@@ -2,8 +2,10 @@ ghost use Rattle.std.specs.Prelude.{◌≡◌, length};
 ghost use Rattle.roster_model.specs.declared.grammar.Grammar.{Grammar as Rules};
 ghost use Rattle.roster_model.specs.Sound.{IsSound};
 ghost use Rattle.parse_graph.specs.Graphs.{HasGrammar, IsGraph};
+ghost use Rattle.cheapest_tree.specs.Extras.{AreFree};
 ghost use Rattle.cheapest_tree.specs.Pricers.{IsMadeFor, IsFilled};
 
+use crate::extras::Extras;
 use crate::fill::fill;
 use crate::narrow::Narrow;
 use crate::narrow_fill::fill_narrow;
@@ -32,6 +34,7 @@ pub fn fill_slots<P: LetterPrice>(
     links: &Links,
     letters: &[Spot],
     order: &Option<Order>,
+    extras: &mut Extras,
     sums: &mut [Narrow],
     values: &mut [Cell],
     best: &mut [u32],
@@ -45,6 +48,8 @@ pub fn fill_slots<P: LetterPrice>(
       best = best.old;
     }) }
     requires room { length sums.old ≡ length values.old }
+    requires free { AreFree (length graph.now.arcs) extras.old.prices.items }
+    ensures free { AreFree (length graph.now.arcs) extras.new.prices.items }
     ensures filled { (g : Rules) → IsSound g → IsGraph g graph.now
         → IsFilled g (P.view prices.now) graph.now (record {
           links = links.now;
@@ -54,11 +59,13 @@ pub fn fill_slots<P: LetterPrice>(
           best = best.new;
         }) }
 {
-    if let Some(order) = order {
-        if fill_narrow(graph, prices, letters, order, sums, best) {
-            copy(sums, values);
-            return;
-        }
+    let Some(order) = order else {
+        fill(graph, prices, links, letters, values, best);
+        return;
+    };
+    if fill_narrow(graph, prices, letters, order, extras, sums, best) {
+        copy(sums, values);
+        return;
     }
     fill(graph, prices, links, letters, values, best);
 }

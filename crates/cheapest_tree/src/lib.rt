@@ -1,6 +1,7 @@
 //! The cheapest tree of a day on the graph of all its parses, by one pass over the arcs.
 #![tactic(auto)]
 
+mod extras;
 mod fill;
 mod fill_slots;
 mod join;

@@ -1,17 +1,20 @@
-ghost use Rattle.std.specs.Prelude.{◌≡◌, ◌≤◌, ◌≤ℤ◌, ◌<◌, ◌+◌, ◌^◌, IsTrue, IfSome, List as Items, Option, Some, ℕ, ℤ, length, slice_get, slice_set};
+ghost use Rattle.std.specs.Prelude.{◌≡◌, ◌≤◌, ◌≤ℤ◌, ◌<◌, ◌+◌, ◌^◌, IsTrue, IfSome, List as Items, Some, ℕ, length, slice_set};
 ghost use Rattle.roster_model.specs.declared.grammar.ArcKey.{ArcKey as Key};
-ghost use Rattle.roster_model.specs.Sums.{plus, Within};
-ghost use Rattle.cheapest_tree.specs.AtNodes.{arc_total};
+ghost use Rattle.roster_model.specs.RoomPrices.{listed_price};
+ghost use Rattle.roster_model.specs.Sums.{PriceView, plus, Within};
+ghost use Rattle.parse_graph.specs.Graphs.{GraphView, HasGrammar};
+ghost use Rattle.cheapest_tree.specs.Extras.{AreFree, AreFreeBut, AreCosts};
 ghost use Rattle.cheapest_tree.specs.Narrow.{AreSmall, AreRules, IsBetter, least_of, no_least};
-ghost use Rattle.cheapest_tree.specs.Orders.{code_of, IsOrder};
-ghost use Rattle.cheapest_tree.specs.Passes.{AreBegun, CanPass, AsksRow, FindsRow, AreRowsPassed};
+ghost use Rattle.cheapest_tree.specs.Orders.{IsOrder};
+ghost use Rattle.cheapest_tree.specs.Passes.{AreBegun, CanAdd, maker_price, AsksNarrow, FindsRow, AreRowsPassed};
 ghost use Rattle.cheapest_tree.specs.Pricers.{value_at};
 
+use crate::extras::Extras;
 use crate::narrow::{Least, Narrow, narrow_price};
 use crate::order::{Maker, Order};
 use crate::slots::Spot;
 use parse_graph::Graph;
-use roster_model::{ArcKey, LetterPrice};
+use roster_model::{ArcPrice, LetterPrice};
 
 // How many codes of rules there are: 0, and 1 plus the number of each.
 const CODES: usize = 257;
@@ -57,7 +60,7 @@ fn begin<P: LetterPrice>(prices: &P, letters: &[Spot], nodes: usize, sums: &mut 
     requires slots { length sums.old ≡ nodes + 1 + length letters.now }
     requires room { length sums.old < 2 ^ 63 }
     ensures begun { IsTrue result → AreBegun (P.view prices.now) letters.now nodes sums.new }
-    ensures small { IsTrue result → AreSmall sums.new }
+    ensures small { IsTrue result → AreSmall (2 ^ 59) sums.new }
 {
     for node in 0..nodes {
         sums[node] = Narrow::none();
@@ -71,61 +74,36 @@ fn begin<P: LetterPrice>(prices: &P, letters: &[Spot], nodes: usize, sums: &mut 
     true
 }
 
-// Returns the price of an arc, with that of its rule where it is of a whole right side, whose code is
-// given; `None` where it is too wide.
-fn arc_price<P: LetterPrice>(prices: &P, rules: &[i64], key: &ArcKey, code: u16) -> Option<i64>
-    requires rules { AreRules (P.view prices.now) rules.now }
-    requires code { code ≡ code_of key.now.rule key.now.suffix }
-    requires fits { code ≤ 256 }
-    ensures within { IfSome result (Within (2 ^ 45)) }
-    ensures total { IfSome result (λ e. (first rest : Option ℤ)
-        → plus first (plus (Some e) rest) ≡ arc_total (P.view prices.now) key.now first rest) }
-{
-    let price = narrow_price(prices.arc(key))?;
-    Some(rules[code as usize] + price)
-}
-
-// Returns the better of a least sum and that of an arc; `None` where the arc's price is too wide.
-fn better<P: LetterPrice>(
-    arcs: &[ArcKey],
-    prices: &P,
-    rules: &[i64],
-    sums: &[Narrow],
-    maker: Maker,
-    least: Least,
-) -> Option<Least>
-    requires maker { CanPass arcs.now sums.now maker }
-    requires rules { AreRules (P.view prices.now) rules.now }
-    requires small { AreSmall sums.now }
+// Returns the better of a least sum and that of an arc.
+fn better(rules: &[i64], extras: &[i64], sums: &[Narrow], maker: Maker, least: Least) -> Least
+    requires maker { CanAdd rules.now extras.now sums.now maker }
+    requires small { AreSmall (2 ^ 59) sums.now }
     requires most { least.number ≤ℤ no_least }
-    ensures most { IfSome result (λ b. b.number ≤ℤ no_least) }
-    ensures better { IfSome result (λ b. (a : Key) → slice_get arcs.now maker.arc ≡ Some a
-        → IsBetter (least_of least.number) least.arc
-        (arc_total (P.view prices.now) a (value_at sums.now maker.first) (value_at sums.now maker.rest))
-        maker.arc (least_of b.number) b.arc) }
+    ensures most { result.number ≤ℤ no_least }
+    ensures better { IsBetter (least_of least.number) least.arc
+        (plus (value_at sums.now maker.first) (plus (Some (maker_price rules.now extras.now maker))
+        (value_at sums.now maker.rest))) maker.arc (least_of result.number) result.arc }
 {
-    let price = arc_price(prices, rules, &arcs[maker.arc as usize], maker.code)?;
+    let price = rules[maker.code as usize] + extras[maker.arc as usize];
     let first = sums[maker.first as usize];
     let rest = sums[maker.rest as usize];
-    Some(least.or(first, price, rest, maker.arc))
+    least.or(first, price, rest, maker.arc)
 }
 
-// Returns the least sum of what stands at the node of a row, with an arc that has it at the top; `None`
-// where the price of an arc is too wide.
-fn least_of_row<P: LetterPrice>(
-    graph: &Graph,
-    prices: &P,
+// Returns the least sum of what stands at the node of a row, with an arc that has it at the top.
+fn least_of_row(
     rules: &[i64],
+    extras: &[i64],
     order: &Order,
     sums: &[Narrow],
     place: usize,
-) -> Option<Least>
-    requires rules { AreRules (P.view prices.now) rules.now }
-    requires asks { (letters : Items Spot) × (best : Items ℕ)
-        × AsksRow (P.view prices.now) graph.now letters order.now sums.now best place }
-    ensures most { IfSome result (λ b. b.number ≤ℤ no_least) }
-    ensures found { IfSome result (λ b.
-        FindsRow (P.view prices.now) graph.now order.now place (least_of b.number) b.arc) }
+) -> Least
+    requires asks { (p : PriceView) × (v : GraphView) × (letters : Items Spot) × (best : Items ℕ)
+        × AsksNarrow p v letters order.now sums.now best place rules.now extras.now }
+    ensures most { result.number ≤ℤ no_least }
+    ensures found { (p : PriceView) (v : GraphView) (letters : Items Spot) (best : Items ℕ)
+        → AsksNarrow p v letters order.now sums.now best place rules.now extras.now
+        → FindsRow p v order.now place (least_of result.number) result.arc }
 {
     let row = order.rows.as_slice()[place];
     let makers = order.makers.as_slice();
@@ -133,39 +111,28 @@ fn least_of_row<P: LetterPrice>(
     let count = row.end as usize - begin;
     let mut least = Least::none();
     for index in 0..count {
-        least = better(
-            graph.arcs(),
-            prices,
-            rules,
-            sums,
-            makers[begin + index],
-            least,
-        )?;
+        least = better(rules, extras, sums, makers[begin + index], least);
     }
-    Some(least)
+    least
 }
 
 // Puts the least sum of a row's node into its slot, and an arc that has it, and returns true; false where
-// the price of an arc or the sum is too wide.
-fn pass_row<P: LetterPrice>(
-    graph: &Graph,
-    prices: &P,
+// the sum is too wide.
+fn pass_row(
     rules: &[i64],
+    extras: &[i64],
     order: &Order,
     sums: &mut [Narrow],
     best: &mut [u32],
     place: usize,
 ) -> bool
-    requires rules { AreRules (P.view prices.now) rules.now }
-    requires asks { (letters : Items Spot)
-        × AsksRow (P.view prices.now) graph.now letters order.now sums.old best.old place }
-    ensures passed { IsTrue result → (letters : Items Spot)
-        → AsksRow (P.view prices.now) graph.now letters order.now sums.old best.old place
-        → AreRowsPassed (P.view prices.now) graph.now letters order.now sums.new best.new (place + 1) }
+    requires asks { (p : PriceView) × (v : GraphView) × (letters : Items Spot)
+        × AsksNarrow p v letters order.now sums.old best.old place rules.now extras.now }
+    ensures passed { IsTrue result → (p : PriceView) (v : GraphView) (letters : Items Spot)
+        → AsksNarrow p v letters order.now sums.old best.old place rules.now extras.now
+        → AreRowsPassed (2 ^ 59) p v letters order.now sums.new best.new (place + 1) }
 {
-    let Some(least) = least_of_row(graph, prices, rules, order, sums, place) else {
-        return false;
-    };
+    let least = least_of_row(rules, extras, order, sums, place);
     let Some(sum) = least.sum() else {
         return false;
     };
@@ -175,22 +142,22 @@ fn pass_row<P: LetterPrice>(
     true
 }
 
-/// Puts into the slot of each node of the graph the least sum of what stands there, or none, and keeps
-/// an arc that has it at the top, and returns true; false where a price is beyond plus or minus 2^43,
-/// or a sum beyond 2^59. The slots hold any numbers then.
-pub fn fill_narrow<P: LetterPrice>(
+// Passes all rows with the prices of the arcs, and returns true; false where a price or a sum is too wide.
+fn pass<P: LetterPrice>(
     graph: &Graph,
     prices: &P,
     letters: &[Spot],
     order: &Order,
+    extras: &[i64],
     sums: &mut [Narrow],
     best: &mut [u32],
 ) -> bool
     requires order { IsOrder graph.now letters.now order.now }
     requires slots { length sums.old ≡ length graph.now.nodes + 1 + length letters.now }
     requires nodes { length best.old ≡ length graph.now.nodes }
+    requires extras { AreCosts (P.view prices.now) graph.now.arcs extras.now }
     ensures passed { IsTrue result
-        → AreRowsPassed (P.view prices.now) graph.now letters.now order.now sums.new best.new
+        → AreRowsPassed (2 ^ 59) (P.view prices.now) graph.now letters.now order.now sums.new best.new
         (length order.now.rows) }
 {
     let mut rules = [0i64; CODES];
@@ -201,9 +168,111 @@ pub fn fill_narrow<P: LetterPrice>(
         return false;
     }
     for place in 0..order.rows.len() {
-        if !pass_row(graph, prices, &rules, order, sums, best, place) {
+        if !pass_row(&rules, extras, order, sums, best, place) {
             return false;
         }
     }
     true
+}
+
+// Passes all rows where the entries add up to what the arcs cost.
+fn pass_listed<P: LetterPrice>(
+    graph: &Graph,
+    prices: &P,
+    entries: &[ArcPrice],
+    letters: &[Spot],
+    order: &Order,
+    extras: &mut Extras,
+    sums: &mut [Narrow],
+    best: &mut [u32],
+) -> bool
+    requires graph { HasGrammar graph.now }
+    requires entries { (a : Key) → (P.view prices.now).arc_of a ≡ listed_price entries.now a }
+    requires order { IsOrder graph.now letters.now order.now }
+    requires slots { length sums.old ≡ length graph.now.nodes + 1 + length letters.now }
+    requires nodes { length best.old ≡ length graph.now.nodes }
+    requires free { AreFree (length graph.now.arcs) extras.old.prices.items }
+    ensures passed { IsTrue result
+        → AreRowsPassed (2 ^ 59) (P.view prices.now) graph.now letters.now order.now sums.new best.new
+        (length order.now.rows) }
+    ensures count { length extras.new.prices.items ≡ length graph.now.arcs }
+    ensures free { AreFreeBut extras.new.places.items 0 (length entries.now) extras.new.prices.items }
+{
+    if !extras.add_all(graph, entries) {
+        return false;
+    }
+    pass(
+        graph,
+        prices,
+        letters,
+        order,
+        extras.prices.as_slice(),
+        sums,
+        best,
+    )
+}
+
+// Passes all rows where arcs are asked for one by one.
+fn pass_asked<P: LetterPrice>(
+    graph: &Graph,
+    prices: &P,
+    letters: &[Spot],
+    order: &Order,
+    extras: &mut Extras,
+    sums: &mut [Narrow],
+    best: &mut [u32],
+) -> bool
+    requires order { IsOrder graph.now letters.now order.now }
+    requires slots { length sums.old ≡ length graph.now.nodes + 1 + length letters.now }
+    requires nodes { length best.old ≡ length graph.now.nodes }
+    requires count { length extras.old.prices.items ≡ length graph.now.arcs }
+    ensures passed { IsTrue result
+        → AreRowsPassed (2 ^ 59) (P.view prices.now) graph.now letters.now order.now sums.new best.new
+        (length order.now.rows) }
+    ensures count { length extras.new.prices.items ≡ length graph.now.arcs }
+{
+    if !extras.ask_all(graph, prices) {
+        return false;
+    }
+    pass(
+        graph,
+        prices,
+        letters,
+        order,
+        extras.prices.as_slice(),
+        sums,
+        best,
+    )
+}
+
+/// Puts into the slot of each node of the graph the least sum of what stands there, or none, and keeps
+/// an arc that has it at the top, and returns true; false where a price is beyond plus or minus 2^43,
+/// or a sum beyond 2^59. The slots hold any numbers then.
+pub fn fill_narrow<P: LetterPrice>(
+    graph: &Graph,
+    prices: &P,
+    letters: &[Spot],
+    order: &Order,
+    extras: &mut Extras,
+    sums: &mut [Narrow],
+    best: &mut [u32],
+) -> bool
+    requires graph { HasGrammar graph.now }
+    requires order { IsOrder graph.now letters.now order.now }
+    requires slots { length sums.old ≡ length graph.now.nodes + 1 + length letters.now }
+    requires nodes { length best.old ≡ length graph.now.nodes }
+    requires free { AreFree (length graph.now.arcs) extras.old.prices.items }
+    ensures passed { IsTrue result
+        → AreRowsPassed (2 ^ 59) (P.view prices.now) graph.now letters.now order.now sums.new best.new
+        (length order.now.rows) }
+    ensures free { AreFree (length graph.now.arcs) extras.new.prices.items }
+{
+    let Some(entries) = prices.arc_prices() else {
+        let is_passed = pass_asked(graph, prices, letters, order, extras, sums, best);
+        extras.take_all_back();
+        return is_passed;
+    };
+    let is_passed = pass_listed(graph, prices, entries, letters, order, extras, sums, best);
+    extras.take_back(entries.len());
+    is_passed
 }

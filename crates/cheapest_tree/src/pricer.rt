@@ -9,6 +9,7 @@ ghost use Rattle.roster_model.specs.declared.grammar.ArcKey.{ArcKey as Key};
 ghost use Rattle.cheapest_tree.specs.Pricers.{IsMadeFor, IsFilled, AsksTree};
 ghost use Rattle.cheapest_tree.specs.Under.{IsTop, IsReady, IsDayTreeUnder, AsksTreeUnder, HoldsLeastUnder};
 
+use crate::extras::Extras;
 use crate::fill_slots::fill_slots;
 use crate::join::join;
 use crate::narrow::Narrow;
@@ -35,12 +36,15 @@ pub struct Pricer {
     values: Vec<Cell>,
     // Those of a call whose prices are narrow.
     sums: Vec<Narrow>,
+    // The prices of the arcs of such a call.
+    extras: Extras,
     // For each node that has a value an arc with a tree of that sum, by its place.
     best: Vec<u32>,
 }
 
 impl Model for Pricer {
     ghost use Rattle.std.specs.Prelude.{◌≡◌, length};
+    ghost use Rattle.cheapest_tree.specs.Extras.{AreFree};
     ghost use Rattle.cheapest_tree.specs.Pricers.{PricerView};
 
     ghost Value = { PricerView };
@@ -53,7 +57,8 @@ impl Model for Pricer {
       best = s.best.items;
     } };
 
-    ghost invariant = { λ s. length s.sums.items ≡ length s.values.items };
+    ghost invariant = { λ s. (length s.sums.items ≡ length s.values.items)
+        × AreFree (length s.links.made) s.extras.prices.items };
 }
 
 // Empty cells for the slots, and a best arc for each node.
@@ -86,18 +91,20 @@ fn values_of(alloc: Global, nodes: u32, letters: &[Spot]) -> Result<Values, Memo
 impl Pricer {
     /// Returns a pricer for the trees of a graph. Later calls take the same graph.
     ///
-    /// It has taken the memory for all of them: 28 bytes for each arc, 40 for each node, and
+    /// It has taken the memory for all of them: 40 bytes for each arc, 40 for each node, and
     /// 26 for each letter.
     pub fn new(alloc: Global, graph: &Graph) -> Result<Pricer, Memory>
         ensures { IfOk result (IsMadeFor graph.now) }
     {
         let joined = join(alloc, graph)?;
         let order = find_order(alloc, graph, &joined.links, joined.letters.as_slice())?;
+        let extras = Extras::new(alloc, graph.arcs().len())?;
         let values = values_of(alloc, graph.nodes(), joined.letters.as_slice())?;
         Ok(Pricer {
             links: joined.links,
             letters: joined.letters,
             order,
+            extras,
             values: values.cells,
             sums: values.sums,
             best: values.best,
@@ -121,6 +128,7 @@ impl Pricer {
             &self.links,
             self.letters.as_slice(),
             &self.order,
+            &mut self.extras,
             self.sums.as_mut_slice(),
             self.values.as_mut_slice(),
             self.best.as_mut_slice(),

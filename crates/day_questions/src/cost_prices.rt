@@ -2,7 +2,7 @@ ghost use Rattle.std.specs.Prelude.{◌≡◌, ◌≤◌, ℕ};
 ghost use Rattle.roster_model.specs.Arcs.{rule_cost};
 ghost use Rattle.roster_model.specs.Sound.{IsSound};
 
-use roster_model::{ArcKey, Grammar, LetterPrice};
+use roster_model::{ArcKey, ArcPrice, Grammar, LetterPrice};
 
 /// Prices under which the sum of a tree is its cost: a rule costs what it costs, and all else is free.
 #[derive(Clone, Copy)]
@@ -34,6 +34,10 @@ impl<'a> LetterPrice for CostPrices<'a> {
 
     fn arc(&self, arc: &ArcKey) -> i128 {
         0
+    }
+
+    fn arc_prices(&self) -> Option<&[ArcPrice]> {
+        Some(&[])
     }
 
     fn rule(&self, rule: u8) -> i128 {

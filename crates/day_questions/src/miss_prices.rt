@@ -3,7 +3,7 @@ ghost use Rattle.roster_model.specs.Sound.{IsSound};
 ghost use Rattle.day_questions.specs.Prices.{miss};
 
 use crate::periods::byte_at;
-use roster_model::{ArcKey, Grammar, LetterPrice};
+use roster_model::{ArcKey, ArcPrice, Grammar, LetterPrice};
 
 /// Prices of a prefix: a letter that misses it costs 2 to the power of the number of the periods behind the
 /// letter, and all else is free. So of two days the one that agrees longer with the prefix costs less.
@@ -51,6 +51,10 @@ impl<'a> LetterPrice for MissPrices<'a> {
 
     fn arc(&self, arc: &ArcKey) -> i128 {
         0
+    }
+
+    fn arc_prices(&self) -> Option<&[ArcPrice]> {
+        Some(&[])
     }
 
     fn rule(&self, rule: u8) -> i128 {

@@ -4,7 +4,7 @@ ghost use Rattle.roster_model.specs.Sound.{IsSound};
 ghost use Rattle.day_questions.specs.Prices.{takes};
 
 use crate::periods::byte_at;
-use roster_model::{ArcKey, Grammar, LetterPrice};
+use roster_model::{ArcKey, ArcPrice, Grammar, LetterPrice};
 
 /// Prices of a pattern: the letters that it takes are free and all others forbidden, an arc is free, and a
 /// rule costs what it costs. Each letter is taken at the periods behind the pattern.
@@ -62,6 +62,10 @@ impl<'a> LetterPrice for PatternPrices<'a> {
 
     fn arc(&self, arc: &ArcKey) -> i128 {
         0
+    }
+
+    fn arc_prices(&self) -> Option<&[ArcPrice]> {
+        Some(&[])
     }
 
     fn rule(&self, rule: u8) -> i128 {

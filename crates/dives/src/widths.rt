@@ -3,7 +3,7 @@ ghost use Rattle.roster_model.specs.Sums.{Within};
 ghost use Rattle.dives.specs.Widths.{StandOnce};
 
 use parse_graph::Graph;
-use roster_model::{ArcKey, LetterPrice};
+use roster_model::{ArcKey, ArcPrice, LetterPrice};
 
 /// Prices of arcs alone: letters and rules cost nothing.
 #[derive(Clone, Copy)]
@@ -43,6 +43,10 @@ impl<'a> LetterPrice for Widths<'a> {
             return 0;
         };
         price_at(self.prices, place)
+    }
+
+    fn arc_prices(&self) -> Option<&[ArcPrice]> {
+        None
     }
 
     fn rule(&self, rule: u8) -> i128 {

@@ -25,6 +25,7 @@ mod sound;
 mod sound_instance;
 mod unit_rules;
 
+pub use arc_prices::ArcPrice;
 pub use bounds::{greatest_cost, rounding_loss};
 pub use coverage::{covered, penalty};
 pub use cuts::{MOST_BASE_CUTS, base_cut_count};

@@ -194,6 +194,10 @@ impl LetterPrice for PriceRoom {
         arc_price(self.arcs.as_slice(), self.marks.as_slice(), arc)
     }
 
+    fn arc_prices(&self) -> Option<&[ArcPrice]> {
+        Some(self.arcs.as_slice())
+    }
+
     fn rule(&self, rule: u8) -> i128 {
         let Some(place) = (rule as usize).checked_sub(1) else {
             return 0;

@@ -1,6 +1,8 @@
 ghost use Rattle.std.specs.Prelude.{◌≡◌, ◌^◌, IfSome};
+ghost use Rattle.roster_model.specs.RoomPrices.{listed_price};
 ghost use Rattle.roster_model.specs.Sums.{PriceView, Within, AllWithin};
 
+use crate::arc_prices::ArcPrice;
 use crate::grammar::ArcKey;
 
 /// Prices of letters, arcs and rule uses, each within plus or minus 2^96.
@@ -19,6 +21,11 @@ pub trait LetterPrice {
     fn arc(&self, arc: &ArcKey) -> i128
         ensures value { result ≡ (view self.now).arc_of arc.now }
         ensures within { Within (2 ^ 96) result };
+
+    /// Returns entries that add up to what each arc costs, an arc with no entry costing nothing; `None`
+    /// where arcs are to be asked for one by one.
+    fn arc_prices(&self) -> Option<&[ArcPrice]>
+        ensures { IfSome result (λ xs. (a : ArcKey) → (view self.now).arc_of a ≡ listed_price xs.now a) };
 
     /// Returns the price of one use of a rule, by the rule's number from 1.
     fn rule(&self, rule: u8) -> i128

@@ -1,4 +1,4 @@
-use roster_model::{ArcKey, LetterPrice};
+use roster_model::{ArcKey, ArcPrice, LetterPrice};
 
 /// Prices under which everything is free: there is a least sum exactly where there is a tree.
 #[derive(Clone, Copy, Drop)]
@@ -16,6 +16,10 @@ impl LetterPrice for Free {
 
     fn arc(&self, arc: &ArcKey) -> i128 {
         0
+    }
+
+    fn arc_prices(&self) -> Option<&[ArcPrice]> {
+        Some(&[])
     }
 
     fn rule(&self, rule: u8) -> i128 {

@@ -5,7 +5,7 @@ ghost use Rattle.roster_model.specs.Sums.{IsLeast, tree_sum};
 ghost use Rattle.roster_model.specs.Trees.{IsTreeOf};
 ghost use Rattle.word_prices.specs.Prices.{word_view, IsPriceOrNone};
 
-use roster_model::{ArcKey, Grammar, LetterPrice};
+use roster_model::{ArcKey, ArcPrice, Grammar, LetterPrice};
 
 /// The prices of one word: its letters cost nothing and all others are forbidden, an arc costs
 /// nothing, and a rule its cost.
@@ -57,6 +57,10 @@ impl<'a> LetterPrice for WordPrices<'a> {
 
     fn arc(&self, arc: &ArcKey) -> i128 {
         0
+    }
+
+    fn arc_prices(&self) -> Option<&[ArcPrice]> {
+        Some(&[])
     }
 
     fn rule(&self, rule: u8) -> i128 {

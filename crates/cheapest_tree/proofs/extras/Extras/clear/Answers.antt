@@ -1,0 +1,17 @@
+use Rattle.std.proofs.Common.{arith, ◌≡◌, Some, ap, sym, ◌∙◌}
+use Rattle.std.specs.Prelude.{slice_get}
+use Rattle.std.proofs.lemmas.Option.{slice_get-get_or}
+use Rattle.cheapest_tree.proofs.ExtrasLemmas.{free-taken, free-past}
+use Rattle.cheapest_tree.proofs.extras.Extras.clear.Goals as goal
+
+pub returns-then-place-len-clause-free : goal.returns-then-place-len-clause-free
+returns-then-place-len-clause-free c = λ to free.
+    let places = c.args.self.now.places.items in
+    let at : slice_get places c.args.number ≡ Some c.index.result.now = slice_get-get_or places c.args.number c.index.result.now c.requires.number ∙ ap Some (sym c.index.ensures) in
+    free-past places c.args.number to c.index.result.now c.args.self.now.prices.items at free (omega (arith, c.if-place-len.true))
+
+pub returns-clause-free : goal.returns-clause-free
+returns-clause-free c = λ to free.
+    let places = c.args.self.now.places.items in
+    let at : slice_get places c.args.number ≡ Some c.index.result.now = slice_get-get_or places c.args.number c.index.result.now c.requires.number ∙ ap Some (sym c.index.ensures) in
+    free-taken places c.args.number to c.index.result.now c.args.self.now.prices.items at free (omega (arith, c.if-place-len.false))
