@@ -2,5 +2,6 @@ pub mod Periods
 pub mod Chains
 pub mod Cells
 pub mod Choices
+pub mod Splits
 pub mod Numbers
 pub mod Building

@@ -15,6 +15,7 @@ mod periods;
 mod points;
 mod present;
 mod slot;
+mod splits;
 mod sum_cells;
 mod sums;
 

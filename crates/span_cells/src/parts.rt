@@ -9,6 +9,7 @@ use crate::cells::Cells;
 use crate::layout::sum_at;
 use crate::points::split_points;
 use crate::slot::{Layout, Span, Suffix};
+use crate::splits::{least_split, split_of};
 use crate::sums::{self, Choice};
 use roster_model::{ArcKey, Grammar, LetterPrice, Rule, Sym};
 
@@ -150,6 +151,11 @@ pub fn least_part<P: LetterPrice, C: Cells>(
     ensures within { IfSome result.sum (Within (2 ^ 110)) }
 {
     let points = split_points(grammar, layout, cells, rule, suffix, span);
+    if let Some(split) = split_of(grammar, layout, cells, rule, suffix) {
+        return least_split(
+            grammar, prices, layout, cells, rule, suffix, split, points, span,
+        );
+    }
     let end = span.end();
     let mut best = Choice::none();
     let mut point = points.first_in(span.start + 1, end);

@@ -56,3 +56,8 @@ pub returns-clause-within : goal.returns-clause-within
 returns-clause-within g c =
     let most : c.args.span.len ≤ 96 = omega arith in
     parts_within c.args.grammar.now c.requires.sound _ (g.met.P.LetterPrice.all_within c.args.prices.now) c.args.suffix.rule c.args.suffix.from c.args.span.start c.args.span.len _ _ most (returns-clause-least g c)
+
+pub returns-in-Some-clause-within : goal.returns-in-Some-clause-within
+returns-in-Some-clause-within g c =
+    let most : c.args.span.len ≤ 96 = omega arith in
+    parts_within c.args.grammar.now c.requires.sound _ (g.met.P.LetterPrice.all_within c.args.prices.now) c.args.suffix.rule c.args.suffix.from c.args.span.start c.args.span.len _ _ most c.least_split.ensures.least
