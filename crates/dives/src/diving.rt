@@ -186,7 +186,7 @@ fn begun_with(
 /// Dives from the node at a path of cuts, base cuts first, whose master has at most 1,500 rows, and returns
 /// the trees of the pool that it fixed: the begin of a roster, or all of it.
 ///
-/// It solves the node's program in fixed point, fixes a few trees that its weights come near to, takes them
+/// It solves the node's program at a scout, fixes a few trees that its weights come near to, takes them
 /// off the program, and goes on so, until its value shows that hardly a roster with them costs less than
 /// `cost`. Trees of the pool that are `begun` are listed in the program, beside the
 /// last ones of the pool: any list of numbers is lawful.

@@ -17,7 +17,7 @@ const NEAR: i128 = 16_777_216;
 /// A node's program less the trees that are fixed.
 #[derive(Drop)]
 pub(crate) struct Program {
-    /// The program in fixed point.
+    /// The program at a scout.
     pub scout: Scout,
     /// Its right sides.
     pub sides: Vec<i64>,

@@ -308,7 +308,7 @@ fn hunt_from(
     )
 }
 
-/// Looks for a good basis of a node's master in fixed point, whose trees the pool gets, and returns it.
+/// Looks for a good basis of a node's master at a scout, whose trees the pool gets, and returns it.
 /// It is a hint: whatever it is, what the master answers with it is right.
 pub(crate) fn hunt(
     alloc: Global,

@@ -1,4 +1,4 @@
-use crate::fixed::{Q24, Q32};
+use crate::float::{Entry64, Price64, Weight64};
 use crate::run::Run;
 
 /// Whether a column may enter the basis.
@@ -15,33 +15,31 @@ pub(crate) enum Standing {
 /// A column, with what the steps keep of it.
 #[derive(Clone, Copy, Drop)]
 pub(crate) struct Column {
-    pub(crate) cost: i64,
+    /// Its reduced cost, 0 where it is not free.
+    pub(crate) reduced: Price64,
+    /// Its reference weight.
+    pub(crate) weight: Weight64,
+    /// Its entry in the row that leaves, in a dual step; 0 where it is not free.
+    pub(crate) entry: Entry64,
     /// Where its runs begin.
     pub(crate) first: usize,
     /// Where they end.
     pub(crate) end: usize,
+    pub(crate) cost: i64,
     pub(crate) standing: Standing,
-    pub(crate) reduced: Q24,
-    /// Its entry in the row that leaves, in a dual step.
-    pub(crate) entry: Q32,
-    /// Its reference weight, in units of 2^-8.
-    pub(crate) weight: u64,
 }
-
-/// The reference weight 1.
-pub(crate) const WEIGHT: u64 = 256;
 
 impl Column {
     /// Returns a column with these runs.
     pub(crate) fn new(cost: i64, first: usize, end: usize, standing: Standing) -> Column {
         Column {
-            cost,
+            reduced: 0.0,
+            weight: 1.0,
+            entry: 0.0,
             first,
             end,
+            cost,
             standing,
-            reduced: Q24(0),
-            entry: Q32(0),
-            weight: WEIGHT,
         }
     }
 

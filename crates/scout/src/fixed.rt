@@ -1,27 +1,15 @@
 ghost use Rattle.std.specs.Prelude.{◌≡◌, ◌≤◌, ◌^◌, ◌*ℤ◌, unsigned_abs};
 
-/// A number in units of 2^-32: entries of an inverse, and values of columns.
+use crate::float::{Price64, Value64};
+use std::num::saturating_f64_to_i64;
+
+/// A number in units of 2^-32: values of columns.
 #[derive(Clone, Copy, Drop)]
 pub struct Q32(pub(crate) i64);
 
 /// A number in units of 2^-24: prices and reduced costs.
 #[derive(Clone, Copy, Drop)]
 pub struct Q24(pub(crate) i64);
-
-/// The number 1.
-pub(crate) const ONE: i64 = 4_294_967_296;
-
-// A half of a unit of 2^-32, in units of 2^-64.
-const HALF: i128 = 2_147_483_648;
-
-/// The greatest entry of an inverse in size, 2^14.
-const MOST_ENTRY: u64 = 70_368_744_177_664;
-
-/// The greatest value, price or reduced cost in size: 2^19 in units of 2^-32, 2^27 in units of 2^-24.
-const MOST: u64 = 2_251_799_813_685_248;
-
-/// Entries below this size, 2^-25, become 0.
-const TINY: u64 = 128;
 
 /// Returns the product, which has room for a further sum.
 pub(crate) fn product(a: i64, b: i64) -> i128
@@ -31,28 +19,13 @@ pub(crate) fn product(a: i64, b: i64) -> i128
     i128::from(a) * i128::from(b)
 }
 
-/// Returns the number where it fits, and otherwise a number beyond every bound.
-pub(crate) fn saturated(number: i128) -> i64 {
-    match i64::try_from(number) {
-        Ok(number) => number,
-        Err(_) => i64::MAX,
+/// Returns the nearest whole number, or the last one on its side where it is beyond all.
+fn nearest(number: f64) -> i64 {
+    if number < 0.0 {
+        saturating_f64_to_i64(number - 0.5)
+    } else {
+        saturating_f64_to_i64(number + 0.5)
     }
-}
-
-/// Returns a number times a factor, rounded to the number's own unit.
-pub(crate) fn times(number: i64, factor: Q32) -> i64 {
-    saturated((product(number, factor.0) + HALF) >> 32)
-}
-
-/// Returns a number over a divisor, in the number's own unit; over 0 it is beyond every bound.
-pub(crate) fn over(number: i64, divisor: Q32) -> i64 {
-    if divisor.0 == 0 {
-        return i64::MAX;
-    }
-    if divisor.0 == ONE {
-        return number;
-    }
-    saturated(product(number, ONE) / i128::from(divisor.0))
 }
 
 impl Q32 {
@@ -63,33 +36,9 @@ impl Q32 {
         self.0
     }
 
-    /// Whether it may stand in an inverse.
-    pub(crate) fn is_entry(self) -> bool {
-        self.0.unsigned_abs() <= MOST_ENTRY
-    }
-
-    /// Whether it may be the value of a column.
-    pub(crate) fn is_value(self) -> bool {
-        self.0.unsigned_abs() <= MOST
-    }
-
-    /// Returns it less a factor's multiple of another.
-    pub(crate) fn less(self, factor: Q32, other: Q32) -> Q32 {
-        Q32(self.0.saturating_sub(times(other.0, factor)))
-    }
-
-    /// Returns it over a divisor.
-    pub(crate) fn divided(self, divisor: Q32) -> Q32 {
-        Q32(over(self.0, divisor))
-    }
-
-    /// Returns it, or 0 where it is below 2^-25 in size.
-    pub(crate) fn swept(self) -> Q32 {
-        if self.0.unsigned_abs() < TINY {
-            Q32(0)
-        } else {
-            self
-        }
+    /// Returns the number nearest to a value.
+    pub(crate) fn of(value: Value64) -> Q32 {
+        Q32(nearest(value * 4_294_967_296.0))
     }
 }
 
@@ -101,24 +50,9 @@ impl Q24 {
         self.0
     }
 
-    /// Whether it may be a price or a reduced cost.
-    pub(crate) fn is_price(self) -> bool {
-        self.0.unsigned_abs() <= MOST
-    }
-
-    /// Returns a whole number.
-    pub(crate) fn whole(number: i64) -> Q24 {
-        Q24(number.saturating_mul(16_777_216))
-    }
-
-    /// Returns it less a factor's multiple of another.
-    pub(crate) fn less(self, factor: Q32, other: Q24) -> Q24 {
-        Q24(self.0.saturating_sub(times(other.0, factor)))
-    }
-
-    /// Returns it and a factor's multiple of another.
-    pub(crate) fn plus(self, factor: Q32, other: Q24) -> Q24 {
-        Q24(self.0.saturating_add(times(other.0, factor)))
+    /// Returns the number nearest to a price.
+    pub(crate) fn of(price: Price64) -> Q24 {
+        Q24(nearest(price * 16_777_216.0))
     }
 }
 

@@ -1,97 +1,75 @@
-use crate::fixed::{Q24, Q32, product, saturated};
-use crate::line::{Entry, Line, copy_numbers, entry_in, norm_of, step_line};
-use crate::run::Run;
+use crate::float::{Entry64, Value64, Weight64, is_entry, is_value, swept};
+use crate::line::{Line, copy_numbers, norm_of, step_line, value_in};
+use crate::run::{Run, entry_by_sums};
+use crate::values::is_negative;
 
 /// Leaves the column with these runs in terms of the basis. Says whether all entries fit.
-pub(crate) fn fill_alphas(lines: &[Line], runs: &[Run], alphas: &mut [Q32]) -> bool {
+pub(crate) fn fill_alphas(lines: &[Line], runs: &[Run], alphas: &mut [Entry64]) -> bool {
     let mut fits = true;
     for (line, alpha) in lines.iter().zip(alphas.iter_mut()) {
-        let entry = entry_in(runs, line.numbers.as_slice());
-        fits = fits && entry.is_entry();
+        let entry = swept(entry_by_sums(runs, line.sums.as_slice()));
+        fits &= is_entry(entry);
         *alpha = entry;
     }
     fits
 }
 
-/// Steps a row of the inverse: the pivot's own becomes the scaled one. Says whether all entries fit.
-fn step(line: &mut [Q32], is_own: bool, alpha: Q32, scaled: &[Q32], entries: &[Entry]) -> bool {
-    if is_own {
-        copy_numbers(line, scaled);
-        return true;
+/// Steps a row of the inverse from a place on, before which the scaled row is 0.
+fn step_from(line: &mut [Entry64], alpha: Entry64, scaled: &[Entry64], first: usize) {
+    if let (Some(line), Some(scaled)) = (line.get_mut(first..), scaled.get(first..)) {
+        step_line(line, alpha, scaled);
     }
-    alpha.0 == 0 || step_line(line, alpha, entries)
 }
 
-/// Steps the rows of the inverse. Says whether all entries fit.
+/// Steps the rows of the inverse, of which the pivot's own becomes the scaled one. The scaled row is 0
+/// before a place. Returns how many rows were touched.
 pub(crate) fn step_lines(
     lines: &mut [Line],
     row: usize,
-    alphas: &[Q32],
-    scaled: &[Q32],
-    entries: &[Entry],
-) -> bool {
-    let mut fits = true;
+    alphas: &[Entry64],
+    scaled: &[Entry64],
+    first: usize,
+) -> u64 {
+    let mut touched = 0u64;
     for (place, (line, alpha)) in lines.iter_mut().zip(alphas).enumerate() {
-        let fit = step(
-            line.numbers.as_mut_slice(),
-            place == row,
-            *alpha,
-            scaled,
-            entries,
-        );
-        fits = fits && fit;
+        if *alpha != 0.0 {
+            touched = touched.saturating_add(1);
+            let sums = line.sums.as_mut_slice();
+            if place == row {
+                copy_numbers(sums, scaled);
+            } else {
+                step_from(sums, *alpha, scaled, first);
+            }
+        }
     }
-    fits
+    touched
 }
 
-/// Works the norms of all rows out.
-pub(crate) fn fill_norms(lines: &[Line], norms: &mut [u64]) {
-    for (line, norm) in lines.iter().zip(norms.iter_mut()) {
-        *norm = norm_of(line.numbers.as_slice());
-    }
-}
-
-/// Works the norms out of the rows that a pivot changed.
-pub(crate) fn renew_norms(lines: &[Line], alphas: &[Q32], norms: &mut [u64]) {
-    for ((line, alpha), norm) in lines.iter().zip(alphas).zip(norms.iter_mut()) {
-        if alpha.0 != 0 {
-            *norm = norm_of(line.numbers.as_slice());
+/// Works the norms out that are not known, of the rows whose value is negative.
+pub(crate) fn fill_norms(lines: &[Line], values: &[Value64], norms: &mut [Weight64]) {
+    for ((line, value), norm) in lines.iter().zip(values).zip(norms.iter_mut()) {
+        if is_negative(*value) && *norm == 0.0 {
+            *norm = norm_of(line.sums.as_slice());
         }
     }
 }
 
-/// Returns the product of a row with the right sides.
-fn value_in(line: &[Q32], right: &[i64]) -> Q32 {
-    let mut total = 0i128;
-    for (number, side) in line.iter().zip(right) {
-        if number.0 != 0 {
-            total = total.saturating_add(product(number.0, *side));
+/// Forgets the norms of the rows that a pivot changed.
+pub(crate) fn forget_norms(alphas: &[Entry64], norms: &mut [Weight64]) {
+    for (alpha, norm) in alphas.iter().zip(norms.iter_mut()) {
+        if *alpha != 0.0 {
+            *norm = 0.0;
         }
     }
-    Q32(saturated(total))
 }
 
 /// Works the values of the basic columns out. Says whether all fit.
-pub(crate) fn fill_values(lines: &[Line], right: &[i64], values: &mut [Q32]) -> bool {
+pub(crate) fn fill_values(lines: &[Line], right: &[Value64], values: &mut [Value64]) -> bool {
     let mut fits = true;
     for (line, value) in lines.iter().zip(values.iter_mut()) {
-        let found = value_in(line.numbers.as_slice(), right);
-        fits = fits && found.is_value();
+        let found = value_in(line.sums.as_slice(), right);
+        fits &= is_value(found);
         *value = found;
-    }
-    fits
-}
-
-/// Adds a row times the cost of its basic column to the prices. Says whether all fit.
-pub(crate) fn add_prices(line: &[Q32], cost: i64, prices: &mut [Q24]) -> bool {
-    let mut fits = true;
-    for (number, price) in line.iter().zip(prices.iter_mut()) {
-        if number.0 != 0 {
-            let share = saturated((product(number.0, cost) + 128) >> 8);
-            let raised = Q24(price.0.saturating_add(share));
-            fits = fits && raised.is_price();
-            *price = raised;
-        }
     }
     fits
 }

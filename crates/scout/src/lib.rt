@@ -1,13 +1,15 @@
-//! A linear program in fixed point, by the revised simplex method with a dense inverse of its basis.
+//! A linear program in floats of 64 bits, by the revised simplex method with a dense inverse of its
+//! basis.
 //!
-//! What it answers are hints for an exact method: a good basis, prices and values. Each call returns,
-//! no number wraps, and beyond its bounds it answers that it grew.
+//! What it answers are hints for an exact method: a good basis, and prices and values in fixed point. Each
+//! call returns, and beyond its bounds it answers that it grew.
 #![tactic(auto)]
 
 mod column;
 mod compare;
 mod copying;
 mod fixed;
+mod float;
 mod inverse;
 mod key;
 mod line;

@@ -1,118 +1,80 @@
-use crate::fixed::{Q24, Q32};
-use crate::run::{Run, signed};
+use crate::float::{Entry64, Value64, Weight64, is_sum};
 
-/// A row of the inverse.
+/// A row of the inverse, by the sums of its numbers before each place and behind the last: a column is
+/// a few runs, and its product with the row a few differences of sums.
 #[derive(Drop)]
 pub(crate) struct Line {
-    pub(crate) numbers: Vec<Q32>,
+    pub(crate) sums: Vec<Entry64>,
 }
 
-/// A number of a pivot's row that is not 0.
-#[derive(Clone, Copy, Drop)]
-pub(crate) struct Entry {
-    pub(crate) place: usize,
-    pub(crate) value: Q32,
+/// Subtracts a factor's multiple of a row from a row.
+pub(crate) fn step_line(line: &mut [Entry64], factor: Entry64, other: &[Entry64]) {
+    for (sum, share) in line.iter_mut().zip(other) {
+        *sum -= factor * *share;
+    }
 }
 
-/// Returns the sum of the numbers.
-fn sum_of(numbers: &[Q32]) -> i64 {
-    let mut total = 0i64;
-    for number in numbers {
-        total = total.saturating_add(number.0);
+/// Leaves a row over a divisor. Says whether all sums fit.
+pub(crate) fn scale(line: &[Entry64], divisor: Entry64, scaled: &mut [Entry64]) -> bool {
+    let factor = 1.0 / divisor;
+    let mut fits = true;
+    for (sum, out) in line.iter().zip(scaled.iter_mut()) {
+        let share = *sum * factor;
+        fits &= is_sum(share);
+        *out = share;
+    }
+    fits
+}
+
+/// Returns how many sums at the front are 0.
+pub(crate) fn zeros_of(sums: &[Entry64]) -> usize {
+    let mut zeros = 0usize;
+    for sum in sums {
+        if *sum != 0.0 {
+            return zeros;
+        }
+        zeros = zeros.saturating_add(1);
+    }
+    zeros
+}
+
+/// Returns the sums from the second one on.
+pub(crate) fn behind_first(sums: &[Entry64]) -> &[Entry64] {
+    match sums.get(1..) {
+        Some(rest) => rest,
+        None => &[],
+    }
+}
+
+/// Returns the squared norm of a row.
+pub(crate) fn norm_of(line: &[Entry64]) -> Weight64 {
+    let mut total = 0.0;
+    for (sum, next) in line.iter().zip(behind_first(line)) {
+        let number = *next - *sum;
+        total += number * number;
     }
     total
 }
 
-/// Returns the product of a column with a row.
-pub(crate) fn entry_in(runs: &[Run], line: &[Q32]) -> Q32 {
-    let mut total = 0i64;
-    for run in runs {
-        if let Some(part) = line.get(run.first as usize..run.end as usize) {
-            total = signed(total, run.sign, sum_of(part));
-        }
+/// Returns the product of a row with the right sides.
+pub(crate) fn value_in(line: &[Entry64], right: &[Value64]) -> Value64 {
+    let mut total = 0.0;
+    for ((sum, next), side) in line.iter().zip(behind_first(line)).zip(right) {
+        total += (*next - *sum) * *side;
     }
-    Q32(total).swept()
-}
-
-/// Leaves at each place the sum of the numbers before it.
-pub(crate) fn sum_up(numbers: &[Q32], sums: &mut [i64]) {
-    let mut total = 0i64;
-    let mut rest = sums.iter_mut();
-    if let Some(first) = rest.next() {
-        *first = 0;
-    }
-    for (number, sum) in numbers.iter().zip(rest) {
-        total = total.saturating_add(number.0);
-        *sum = total;
-    }
-}
-
-/// Leaves at each place the sum of the prices before it.
-pub(crate) fn sum_up_prices(prices: &[Q24], sums: &mut [i64]) {
-    let mut total = 0i64;
-    let mut rest = sums.iter_mut();
-    if let Some(first) = rest.next() {
-        *first = 0;
-    }
-    for (price, sum) in prices.iter().zip(rest) {
-        total = total.saturating_add(price.0);
-        *sum = total;
-    }
-}
-
-/// Subtracts a factor's multiple of a pivot's row from a row. Says whether all entries fit.
-pub(crate) fn step_line(line: &mut [Q32], factor: Q32, entries: &[Entry]) -> bool {
-    let mut fits = true;
-    for entry in entries {
-        if let Some(number) = line.get_mut(entry.place) {
-            let stepped = number.less(factor, entry.value);
-            fits = fits && stepped.is_entry();
-            *number = stepped.swept();
-        }
-    }
-    fits
-}
-
-/// Leaves a row over a divisor, and lists its numbers that are not 0. Says whether all entries fit.
-pub(crate) fn scale(
-    line: &[Q32],
-    divisor: Q32,
-    scaled: &mut [Q32],
-    entries: &mut Vec<Entry>,
-) -> bool {
-    let mut fits = true;
-    entries.clear();
-    for (place, (number, out)) in line.iter().zip(scaled.iter_mut()).enumerate() {
-        let value = number.divided(divisor).swept();
-        fits = fits && value.is_entry();
-        *out = value;
-        if value.0 != 0 && entries.len() < entries.capacity() {
-            entries.push_reserved(Entry { place, value });
-        }
-    }
-    fits
-}
-
-/// Returns the squared norm of a row in units of 2^-8, at least 1.
-pub(crate) fn norm_of(line: &[Q32]) -> u64 {
-    let mut total = 0u64;
-    for number in line {
-        let size = number.0.unsigned_abs() >> 20;
-        total = total.saturating_add(size.saturating_mul(size));
-    }
-    (total >> 16).max(1)
+    total
 }
 
 /// Copies numbers, as many as both have.
-pub(crate) fn copy_numbers(out: &mut [Q32], numbers: &[Q32]) {
+pub(crate) fn copy_numbers(out: &mut [Entry64], numbers: &[Entry64]) {
     for (copy, number) in out.iter_mut().zip(numbers) {
         *copy = *number;
     }
 }
 
-/// Leaves the row of the unit matrix with this number, times a number.
-pub(crate) fn set_unit(line: &mut [Q32], row: usize, number: Q32) {
+/// Leaves the sums of the row of the unit matrix with this number, times a number.
+pub(crate) fn set_unit(line: &mut [Entry64], row: usize, number: Entry64) {
     for (place, out) in line.iter_mut().enumerate() {
-        *out = if place == row { number } else { Q32(0) };
+        *out = if place > row { number } else { 0.0 };
     }
 }

@@ -3,19 +3,11 @@ use crate::run::{Run, Sign};
 use crate::state::State;
 use roster_model::Memory;
 
-/// Whether a run goes on with an entry in a row.
-fn goes_on(run: &Run, row: u32, sign: Sign) -> bool {
-    run.end == row && run.sign == sign
-}
-
 /// Makes the last run longer, if it goes on with an entry in a row. Says whether it was.
 fn lengthen(runs: &mut [Run], row: u32, sign: Sign) -> bool {
     match runs.last_mut() {
-        Some(run) if goes_on(run, row, sign) => {
-            run.end = row.saturating_add(1);
-            true
-        }
-        _ => false,
+        Some(run) => run.go_on(row, sign),
+        None => false,
     }
 }
 
@@ -37,16 +29,7 @@ impl State {
         if column.first < column.end && lengthen(self.runs.as_mut_slice(), row, sign) {
             return Ok(());
         }
-        let end = row.saturating_add(1);
-        if self
-            .runs
-            .push(Run {
-                first: row,
-                end,
-                sign,
-            })
-            .is_err()
-        {
+        if self.runs.push(Run::of_row(row, sign)).is_err() {
             return Err(Memory);
         }
         column.end = self.runs.len();

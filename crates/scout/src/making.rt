@@ -1,17 +1,26 @@
 use crate::column::Standing;
 use crate::fixed::{Q24, Q32};
-use crate::line::{Entry, Line};
+use crate::float::Value64;
+use crate::line::Line;
 use crate::run::Sign;
-use crate::state::{Desk, State};
+use crate::state::{Answers, Desk, State};
 use roster_model::Memory;
 use std::alloc::{AllocError, Global};
+use std::num::nearest_i64_to_f64;
+
+/// Returns so many zeros, and one more behind them.
+fn make_sums(alloc: Global, rows: usize) -> Result<Vec<f64>, AllocError> {
+    let mut sums = vec![in alloc; 0.0f64; rows]?;
+    sums.push(0.0)?;
+    Ok(sums)
+}
 
 /// Returns rows of zeros.
 fn make_lines(alloc: Global, rows: usize) -> Result<Vec<Line>, AllocError> {
     let mut lines = Vec::with_capacity(alloc, rows)?;
     for _row in 0..rows {
         lines.push(Line {
-            numbers: vec![in alloc; Q32(0); rows]?,
+            sums: make_sums(alloc, rows)?,
         })?;
     }
     Ok(lines)
@@ -19,23 +28,27 @@ fn make_lines(alloc: Global, rows: usize) -> Result<Vec<Line>, AllocError> {
 
 /// Returns an empty desk for so many rows.
 fn make_desk(alloc: Global, rows: usize) -> Result<Desk, AllocError> {
-    let mut sums = vec![in alloc; 0i64; rows]?;
-    sums.push(0)?;
     Ok(Desk {
-        alphas: vec![in alloc; Q32(0); rows]?,
-        scaled: vec![in alloc; Q32(0); rows]?,
-        entries: Vec::with_capacity(alloc, rows)?,
-        sums,
+        alphas: vec![in alloc; 0.0f64; rows]?,
+        scaled: make_sums(alloc, rows)?,
         taken: vec![in alloc; false; rows]?,
         target: Vec::with_capacity(alloc, rows)?,
     })
 }
 
+/// Returns answers of zeros for so many rows.
+fn make_answers(alloc: Global, rows: usize) -> Result<Answers, AllocError> {
+    Ok(Answers {
+        values: vec![in alloc; Q32(0); rows]?,
+        prices: vec![in alloc; Q24(0); rows]?,
+    })
+}
+
 /// Returns a list of the right sides.
-fn make_right(alloc: Global, right: &[i64]) -> Result<Vec<i64>, AllocError> {
+fn make_right(alloc: Global, right: &[i64]) -> Result<Vec<Value64>, AllocError> {
     let mut sides = Vec::with_capacity(alloc, right.len())?;
     for side in right {
-        sides.push(*side)?;
+        sides.push(nearest_i64_to_f64(*side))?;
     }
     Ok(sides)
 }
@@ -48,17 +61,20 @@ fn make_empty(alloc: Global, right: &[i64]) -> Result<State, AllocError> {
         columns: Vec::new(alloc),
         runs: Vec::new(alloc),
         lines: make_lines(alloc, rows)?,
-        values: vec![in alloc; Q32(0); rows]?,
-        prices: vec![in alloc; Q24(0); rows]?,
+        values: vec![in alloc; 0.0f64; rows]?,
+        price_sums: make_sums(alloc, rows)?,
         basis: vec![in alloc; 0usize; rows]?,
-        norms: vec![in alloc; 0u64; rows]?,
+        norms: vec![in alloc; 0.0f64; rows]?,
         has_norms: false,
         priced: 0,
         is_stale: true,
+        is_mispriced: true,
+        drift: 0,
         since: 0,
         pivots: 0,
         work: 0,
         desk: make_desk(alloc, rows)?,
+        answers: make_answers(alloc, rows)?,
     })
 }
 

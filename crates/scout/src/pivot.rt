@@ -1,10 +1,11 @@
 use crate::column::{Standing, own_runs};
-use crate::fixed::{Grown, Q32, fitting, over};
-use crate::inverse::{fill_alphas, fill_norms, renew_norms, step_lines};
-use crate::line::{scale, sum_up};
+use crate::fixed::{Grown, fitting};
+use crate::float::{Entry64, is_price, is_value};
+use crate::inverse::{fill_alphas, fill_norms, forget_norms, step_lines};
+use crate::line::{scale, step_line, zeros_of};
 use crate::state::{State, number_of, set_standing};
-use crate::sweeps::{Entering, dual_entering, fill_entries, primal_entering, sweep};
-use crate::values::{dual_leaving, leaving, step_prices, step_values};
+use crate::sweeps::{Entering, dual_entering, fill_entries, primal_entering, sweep, sweep_filled};
+use crate::values::{dual_leaving, leaving, step_values};
 
 /// What a step did.
 #[derive(Clone, Copy, Drop)]
@@ -15,11 +16,6 @@ pub(crate) enum Step {
     Done,
     /// No column could enter, or none leave.
     Stuck,
-}
-
-/// Returns how many rows a pivot changes.
-fn count_touched(alphas: &[Q32]) -> u64 {
-    alphas.iter().filter(|alpha| alpha.0 != 0).count() as u64
 }
 
 impl State {
@@ -33,41 +29,33 @@ impl State {
     }
 
     /// Leaves a row over its pivot at the desk.
-    pub(crate) fn scale_row(&mut self, row: usize, pivot: Q32) -> Result<(), Grown> {
+    pub(crate) fn scale_row(&mut self, row: usize, pivot: Entry64) -> Result<(), Grown> {
         let Some(line) = self.lines.as_slice().get(row) else {
             return Err(Grown);
         };
-        let numbers = line.numbers.as_slice();
-        let desk = &mut self.desk;
-        fitting(scale(
-            numbers,
-            pivot,
-            desk.scaled.as_mut_slice(),
-            &mut desk.entries,
-        ))
+        let sums = line.sums.as_slice();
+        fitting(scale(sums, pivot, self.desk.scaled.as_mut_slice()))
     }
 
     /// Steps the inverse, the scaled row being at the desk.
-    pub(crate) fn step_inverse(&mut self, row: usize) -> Result<(), Grown> {
-        let entries = self.desk.entries.as_slice();
-        let fits = step_lines(
+    pub(crate) fn step_inverse(&mut self, row: usize) {
+        let scaled = self.desk.scaled.as_slice();
+        let first = zeros_of(scaled);
+        let touched = step_lines(
             self.lines.as_mut_slice(),
             row,
             self.desk.alphas.as_slice(),
-            self.desk.scaled.as_slice(),
-            entries,
+            scaled,
+            first,
         );
-        let touched = self.lines.len() as u64;
-        self.work = self
-            .work
-            .saturating_add(touched.saturating_mul(entries.len() as u64));
-        fitting(fits)
+        let length = scaled.len().saturating_sub(first) as u64;
+        self.work = self.work.saturating_add(touched.saturating_mul(length));
     }
 
     /// Steps the values.
-    fn step_values(&mut self, row: usize, pivot: Q32) -> Result<(), Grown> {
+    fn step_values(&mut self, row: usize, pivot: Entry64) -> Result<(), Grown> {
         let value = number_of(self.values.as_slice(), row)?;
-        let step = Q32(over(value.0, pivot));
+        let step = value / pivot;
         let fits = step_values(
             self.values.as_mut_slice(),
             self.desk.alphas.as_slice(),
@@ -76,7 +64,7 @@ impl State {
         if let Some(value) = self.values.as_mut_slice().get_mut(row) {
             *value = step;
         }
-        fitting(fits && step.is_value())
+        fitting(fits && is_value(step))
     }
 
     /// Returns the reduced cost and the reference weight of a column.
@@ -100,32 +88,30 @@ impl State {
         }
     }
 
-    /// Steps prices, reduced costs and reference weights, the scaled row being at the desk.
-    fn step_costs(&mut self, entering: Entering) -> Result<(), Grown> {
-        let scaled = self.desk.scaled.as_slice();
-        let prices = step_prices(self.prices.as_mut_slice(), scaled, entering.reduced);
-        sum_up(scaled, self.desk.sums.as_mut_slice());
-        let reduced = sweep(
-            self.columns.as_mut_slice(),
-            self.runs.as_slice(),
-            self.desk.sums.as_slice(),
-            entering,
-        );
-        fitting(prices && reduced)
-    }
-
-    /// Makes a column, which is worked out at the desk, basic in a row.
-    fn pivot(&mut self, row: usize, column: usize) -> Result<Step, Grown> {
-        let pivot = number_of(self.desk.alphas.as_slice(), row)?;
+    /// Steps the values and the prices for a column, which is worked out at the desk and becomes basic in
+    /// a row. The scaled row is left at the desk, and what the column's costs were is returned.
+    fn begin_pivot(
+        &mut self,
+        row: usize,
+        column: usize,
+        pivot: Entry64,
+    ) -> Result<Entering, Grown> {
         let entering = self.entering(column)?;
+        fitting(is_price(entering.reduced))?;
         self.scale_row(row, pivot)?;
         self.step_values(row, pivot)?;
         self.exchange(row, column);
-        self.step_costs(entering)?;
-        self.step_inverse(row)?;
+        let scaled = self.desk.scaled.as_slice();
+        step_line(self.price_sums.as_mut_slice(), -entering.reduced, scaled);
+        Ok(entering)
+    }
+
+    /// Steps the inverse, and counts the pivot.
+    fn end_pivot(&mut self, row: usize) {
+        self.step_inverse(row);
+        self.drift = self.drift.saturating_add(1);
         self.since = self.since.saturating_add(1);
         self.pivots = self.pivots.saturating_add(1);
-        Ok(Step::Stepped)
     }
 
     /// Lets a column of negative reduced cost enter.
@@ -137,27 +123,39 @@ impl State {
         let Some(row) = leaving(self.values.as_slice(), self.desk.alphas.as_slice()) else {
             return Ok(Step::Stuck);
         };
-        self.pivot(row, column)
+        let pivot = number_of(self.desk.alphas.as_slice(), row)?;
+        let entering = self.begin_pivot(row, column, pivot)?;
+        sweep(
+            self.columns.as_mut_slice(),
+            self.runs.as_slice(),
+            self.desk.scaled.as_slice(),
+            entering,
+        );
+        self.end_pivot(row);
+        Ok(Step::Stepped)
     }
 
     /// Works the entries of the columns out in a row.
     fn fill_row(&mut self, row: usize) {
         if let Some(line) = self.lines.as_slice().get(row) {
-            sum_up(line.numbers.as_slice(), self.desk.sums.as_mut_slice());
+            fill_entries(
+                self.columns.as_mut_slice(),
+                self.runs.as_slice(),
+                line.sums.as_slice(),
+            );
         }
-        fill_entries(
-            self.columns.as_mut_slice(),
-            self.runs.as_slice(),
-            self.desk.sums.as_slice(),
-        );
     }
 
-    /// Works the norms of the inverse's rows out where they are not kept.
+    /// Works the norms of the rows out whose values are negative, where they are not kept.
     fn keep_norms(&mut self) {
         if !self.has_norms {
-            fill_norms(self.lines.as_slice(), self.norms.as_mut_slice());
+            for norm in self.norms.as_mut_slice().iter_mut() {
+                *norm = 0.0;
+            }
             self.has_norms = true;
         }
+        let values = self.values.as_slice();
+        fill_norms(self.lines.as_slice(), values, self.norms.as_mut_slice());
     }
 
     /// Lets a column leave whose value is negative.
@@ -171,9 +169,11 @@ impl State {
             return Ok(Step::Stuck);
         };
         self.fill_column(column)?;
-        let step = self.pivot(row, column)?;
-        let alphas = self.desk.alphas.as_slice();
-        renew_norms(self.lines.as_slice(), alphas, self.norms.as_mut_slice());
-        Ok(step)
+        let pivot = number_of(self.desk.alphas.as_slice(), row)?;
+        let entering = self.begin_pivot(row, column, pivot)?;
+        sweep_filled(self.columns.as_mut_slice(), pivot, entering);
+        self.end_pivot(row);
+        forget_norms(self.desk.alphas.as_slice(), self.norms.as_mut_slice());
+        Ok(Step::Stepped)
     }
 }

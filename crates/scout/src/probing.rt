@@ -1,9 +1,11 @@
 use crate::column::{Column, Standing, own_runs};
-use crate::fixed::{Grown, ONE, Q32, fitting};
-use crate::line::{copy_numbers, set_unit};
+use crate::fixed::{Grown, fitting};
+use crate::float::{Entry64, is_sum};
+use crate::line::{copy_numbers, set_unit, step_line};
 use crate::run::{Run, Sign};
 use crate::state::{State, set_standing};
 use roster_model::Memory;
+use std::num::nearest_i64_to_f64;
 
 /// What the last row of a program becomes.
 #[derive(Clone, Copy, Drop)]
@@ -38,20 +40,15 @@ impl Members<'_> {
     }
 }
 
-/// Subtracts a row from another. Says whether all entries fit.
-fn subtract(out: &mut [Q32], line: &[Q32]) -> bool {
-    let mut fits = true;
-    for (number, other) in out.iter_mut().zip(line) {
-        *number = Q32(number.0.saturating_sub(other.0));
-        fits = fits && number.is_entry();
-    }
-    fits
+/// Whether all sums of a row fit.
+fn are_sums(line: &[Entry64]) -> bool {
+    line.iter().all(|sum| is_sum(*sum))
 }
 
 /// Turns the signs of a row.
-fn negate(line: &mut [Q32]) {
-    for number in line.iter_mut() {
-        *number = Q32(number.0.saturating_neg());
+fn negate(line: &mut [Entry64]) {
+    for sum in line.iter_mut() {
+        *sum = -*sum;
     }
 }
 
@@ -73,6 +70,8 @@ fn set_cost(columns: &mut [Column], place: usize, cost: Option<i64>) {
             Some(_) => Standing::Free,
             None => Standing::Barred,
         };
+        column.reduced = 0.0;
+        column.entry = 0.0;
     }
 }
 
@@ -88,15 +87,7 @@ impl State {
         copy_runs(&mut self.runs, runs)?;
         if is_member {
             let row = u32::try_from(self.lines.len().saturating_sub(1)).unwrap_or(u32::MAX);
-            let end = row.saturating_add(1);
-            copy_runs(
-                &mut self.runs,
-                &[Run {
-                    first: row,
-                    end,
-                    sign: Sign::Plus,
-                }],
-            )?;
+            copy_runs(&mut self.runs, &[Run::of_row(row, Sign::Plus)])?;
         }
         let mut copy = *column;
         copy.first = first;
@@ -121,15 +112,13 @@ impl State {
     /// Works the last row of the inverse out for its column of entry 1. Says whether all entries fit.
     fn fill_last(&mut self, last: usize, members: Members<'_>) -> bool {
         let out = self.desk.scaled.as_mut_slice();
-        set_unit(out, last, Q32(ONE));
-        let mut fits = true;
+        set_unit(out, last, 1.0);
         for (line, basic) in self.lines.as_slice().iter().zip(self.basis.as_slice()) {
             if members.has(*basic) {
-                let fit = subtract(out, line.numbers.as_slice());
-                fits = fits && fit;
+                step_line(out, 1.0, line.sums.as_slice());
             }
         }
-        fits
+        are_sums(out)
     }
 
     /// Makes a column of the last row basic there, and puts the row of the inverse, which is at the desk.
@@ -143,7 +132,7 @@ impl State {
             negate(self.desk.scaled.as_mut_slice());
         }
         if let Some(line) = self.lines.as_mut_slice().get_mut(last) {
-            copy_numbers(line.numbers.as_mut_slice(), self.desk.scaled.as_slice());
+            copy_numbers(line.sums.as_mut_slice(), self.desk.scaled.as_slice());
         }
         set_standing(self.columns.as_mut_slice(), place, Standing::Basic);
         if let Some(basic) = self.basis.as_mut_slice().get_mut(last) {
@@ -154,7 +143,7 @@ impl State {
     /// Sets the right side and the costs of the last row.
     fn set_last(&mut self, last: usize, row: LastRow) {
         if let Some(side) = self.right.as_mut_slice().get_mut(last) {
-            *side = row.right;
+            *side = nearest_i64_to_f64(row.right);
         }
         let beyond = last.saturating_add(self.lines.len());
         set_cost(self.columns.as_mut_slice(), last, Some(row.missing));
@@ -170,6 +159,7 @@ impl State {
         self.put_last(last, row.missing == 0 || row.beyond.is_none());
         self.has_norms = false;
         self.is_stale = true;
+        self.is_mispriced = true;
         fitting(fits)
     }
 

@@ -11,6 +11,7 @@ use crate::state::{State, cost_of};
 use crate::steps::{Limits, Scouted};
 use roster_model::Memory;
 use std::alloc::Global;
+use std::num::nearest_i64_to_f64;
 
 /// The most columns that are listed.
 const COLUMNS: usize = 1_048_576;
@@ -92,7 +93,7 @@ impl Scout {
     {
         self.state.is_stale = true;
         if let Some(side) = self.state.right.as_mut_slice().get_mut(row) {
-            *side = right;
+            *side = nearest_i64_to_f64(right);
         }
     }
 
@@ -109,7 +110,7 @@ impl Scout {
     pub fn start_beyond(&mut self) -> Result<(), Grown>
         ensures { SameSizes self.old self.new }
     {
-        self.state.start_beyond(i64::MAX)
+        self.state.start_beyond(None)
     }
 
     /// Starts from the columns of entry 1, and in rows of a negative right side of those of entry -1: no
@@ -117,7 +118,7 @@ impl Scout {
     pub fn start_missing(&mut self) -> Result<(), Grown>
         ensures { SameSizes self.old self.new }
     {
-        self.state.start_beyond(0)
+        self.state.start_beyond(Some(0.0))
     }
 
     /// Takes dual steps while a value is negative, and then primal steps while a listed column has
@@ -159,19 +160,19 @@ impl Scout {
 
     /// Returns the values of the columns in the basis, by their places.
     pub fn values(&self) -> &[Q32] {
-        self.state.values.as_slice()
+        self.state.answers.values.as_slice()
     }
 
     /// Returns the prices of the rows.
     pub fn prices(&self) -> &[Q24] {
-        self.state.prices.as_slice()
+        self.state.answers.prices.as_slice()
     }
 
     /// Returns the reduced cost of a listed column after a run.
     pub fn reduced(&self, number: usize) -> Option<Q24> {
         let place = self.rows.saturating_mul(2).saturating_add(number);
         match self.state.columns.as_slice().get(place) {
-            Some(column) => Some(column.reduced),
+            Some(column) => Some(Q24::of(column.reduced)),
             None => None,
         }
     }
@@ -181,6 +182,7 @@ impl Scout {
         let mut total = 0i128;
         for (value, place) in self
             .state
+            .answers
             .values
             .as_slice()
             .iter()

@@ -1,5 +1,6 @@
 use crate::column::{Column, Standing};
-use crate::fixed::{Grown, ONE, Q32};
+use crate::fixed::Grown;
+use crate::float::Value64;
 use crate::key::Key;
 use crate::line::{Line, set_unit};
 use crate::state::{State, number_of, set_standing};
@@ -9,7 +10,7 @@ use crate::values::free_row;
 /// Leaves the unit matrix.
 fn reset_lines(lines: &mut [Line]) {
     for (row, line) in lines.iter_mut().enumerate() {
-        set_unit(line.numbers.as_mut_slice(), row, Q32(ONE));
+        set_unit(line.sums.as_mut_slice(), row, 1.0);
     }
 }
 
@@ -71,6 +72,14 @@ fn place_of(rows: usize, key: Key) -> usize {
     }
 }
 
+/// Whether a right side is below a limit, if there is one.
+fn is_below(right: Value64, limit: Option<Value64>) -> bool {
+    match limit {
+        Some(limit) => right < limit,
+        None => true,
+    }
+}
+
 impl State {
     /// Wants a column in the basis that is to be made.
     fn want(&mut self, place: usize) {
@@ -89,13 +98,13 @@ impl State {
         }
     }
 
-    /// Wants the columns of what is beyond in the rows whose right side is below a limit.
-    fn want_beyond(&mut self, limit: i64) {
+    /// Wants the columns of what is beyond in the rows whose right side is below a limit, or in all.
+    fn want_beyond(&mut self, limit: Option<Value64>) {
         self.desk.target.clear();
         let rows = self.lines.len();
         for row in 0..rows {
             if let Some(right) = self.right.as_slice().get(row).copied() {
-                if right < limit {
+                if is_below(right, limit) {
                     self.want(rows.saturating_add(row));
                 }
             }
@@ -122,7 +131,7 @@ impl State {
             return;
         }
         if let Some(line) = self.lines.as_mut_slice().get_mut(row) {
-            set_unit(line.numbers.as_mut_slice(), row, Q32(-ONE));
+            set_unit(line.sums.as_mut_slice(), row, -1.0);
         }
         if let Some(basic) = self.basis.as_mut_slice().get_mut(row) {
             *basic = place;
@@ -138,7 +147,7 @@ impl State {
         };
         let pivot = number_of(self.desk.alphas.as_slice(), row)?;
         self.scale_row(row, pivot)?;
-        self.step_inverse(row)?;
+        self.step_inverse(row);
         if let Some(basic) = self.basis.as_mut_slice().get_mut(row) {
             *basic = place;
         }
@@ -197,14 +206,18 @@ impl State {
     /// Starts from a basis with these columns.
     pub(crate) fn start(&mut self, keys: &[Key]) -> Result<(), Grown> {
         self.want_keys(keys);
-        self.make_anew()
+        let made = self.make_anew();
+        self.answer();
+        made
     }
 
-    /// Starts from the columns of what is beyond in the rows whose right side is below a limit, and of
-    /// what is missing in the others.
-    pub(crate) fn start_beyond(&mut self, limit: i64) -> Result<(), Grown> {
+    /// Starts from the columns of what is beyond in the rows whose right side is below a limit, or in all,
+    /// and of what is missing in the others.
+    pub(crate) fn start_beyond(&mut self, limit: Option<Value64>) -> Result<(), Grown> {
         self.want_beyond(limit);
-        self.make_anew()
+        let made = self.make_anew();
+        self.answer();
+        made
     }
 
     /// Makes the inverse anew from its basis.

@@ -27,7 +27,10 @@ pub enum Scouted {
 }
 
 /// After so many pivots the inverse is made anew.
-const PIVOTS: u32 = 250;
+const PIVOTS: u32 = 500;
+
+/// After so many pivots values and prices are worked out from the inverse at the end of a turn.
+const DRIFT: u32 = 50;
 
 /// How many turns of dual and primal steps a run takes.
 const TURNS: u32 = 4;
@@ -121,7 +124,7 @@ impl State {
         if answer != Scouted::Optimal {
             return Some(answer);
         }
-        if self.since > 0 && self.refresh().is_err() {
+        if self.drift > DRIFT && self.refresh().is_err() {
             return Some(Scouted::Grew);
         }
         if self.is_optimal() {
@@ -143,10 +146,13 @@ impl State {
 
     /// Works out what changed since the last run.
     fn prepare(&mut self) -> Result<(), Grown> {
-        if self.is_stale {
+        if self.is_mispriced {
             return self.refresh();
         }
         self.price_new();
+        if self.is_stale {
+            return self.renew_values();
+        }
         Ok(())
     }
 
@@ -159,11 +165,18 @@ impl State {
     }
 
     /// Runs, and where a number left its bounds once more from the same basis.
-    pub(crate) fn run(&mut self, limits: Limits) -> Scouted {
+    fn run_again(&mut self, limits: Limits) -> Scouted {
         let answer = self.run_prepared(limits);
         if answer != Scouted::Grew || self.renew().is_err() {
             return answer;
         }
         self.run_turns(limits)
+    }
+
+    /// Runs, and writes values and prices.
+    pub(crate) fn run(&mut self, limits: Limits) -> Scouted {
+        let answer = self.run_again(limits);
+        self.answer();
+        answer
     }
 }

@@ -1,69 +1,44 @@
-use crate::compare::{Candidate, Ratio};
-use crate::fixed::{Q24, Q32};
-use crate::sweeps::PIVOT;
+use crate::compare::Candidate;
+use crate::float::{Entry64, Value64, Weight64, is_value};
+use crate::sweeps::{NEVER, PIVOT};
 
 /// Values below this are infeasible, -2^-17.
-const FEASIBLE: i64 = -32_768;
+const FEASIBLE: Value64 = -7.62939453125e-6;
 
 /// What the ratio test of a primal step allows a value, 2^-17.
-const SLACK: i64 = 32_768;
+const SLACK: Value64 = 7.62939453125e-6;
 
-/// The greatest size of a value in a score, in units of 2^-24.
-const MOST_SIZE: u64 = 1_099_511_627_776;
+/// Whether a value is below 0.
+pub(crate) fn is_negative(value: Value64) -> bool {
+    value < FEASIBLE
+}
 
 /// Whether no value is below 0.
-pub(crate) fn are_feasible(values: &[Q32]) -> bool {
-    values.iter().all(|value| value.0 >= FEASIBLE)
+pub(crate) fn are_feasible(values: &[Value64]) -> bool {
+    values.iter().all(|value| *value >= FEASIBLE)
 }
 
 /// Takes a pivot's step of the values. Says whether all fit.
-pub(crate) fn step_values(values: &mut [Q32], alphas: &[Q32], step: Q32) -> bool {
+pub(crate) fn step_values(values: &mut [Value64], alphas: &[Entry64], step: Value64) -> bool {
     let mut fits = true;
     for (value, alpha) in values.iter_mut().zip(alphas) {
-        if alpha.0 != 0 {
-            *value = value.less(*alpha, step);
-            fits = fits && value.is_value();
-        }
+        let stepped = *value - *alpha * step;
+        fits &= is_value(stepped);
+        *value = stepped;
     }
     fits
 }
 
-/// Takes a pivot's step of the prices. Says whether all fit.
-pub(crate) fn step_prices(prices: &mut [Q24], scaled: &[Q32], reduced: Q24) -> bool {
-    let mut fits = true;
-    for (price, number) in prices.iter_mut().zip(scaled) {
-        if number.0 != 0 {
-            *price = price.plus(*number, reduced);
-            fits = fits && price.is_price();
-        }
-    }
-    fits
-}
-
-/// Returns the ratio of a row in a primal step, if its entry is positive enough: its value, and a slack,
-/// over the entry.
-fn primal_ratio(value: Q32, alpha: Q32, slack: i64) -> Option<Ratio> {
-    if alpha.0 < PIVOT {
-        return None;
-    }
-    let number = value.0.saturating_add(slack);
-    Some(Ratio {
-        number,
-        divisor: alpha.0,
-    })
-}
-
-/// Returns the least ratio of a primal step, with the slack.
-fn least_primal_ratio(values: &[Q32], alphas: &[Q32]) -> Option<Ratio> {
-    let mut least: Option<Ratio> = None;
+/// Returns the least ratio of a primal step, a value and the slack over its entry.
+fn least_primal_ratio(values: &[Value64], alphas: &[Entry64]) -> f64 {
+    let mut least = NEVER;
     for (value, alpha) in values.iter().zip(alphas) {
-        if let Some(ratio) = primal_ratio(*value, *alpha, SLACK) {
-            let number = ratio.number.max(0);
-            least = Ratio {
-                number,
-                divisor: ratio.divisor,
+        if *alpha >= PIVOT {
+            let value = if *value < 0.0 { 0.0 } else { *value };
+            let ratio = (value + SLACK) / *alpha;
+            if ratio < least {
+                least = ratio;
             }
-            .least(least);
         }
     }
     least
@@ -71,16 +46,14 @@ fn least_primal_ratio(values: &[Q32], alphas: &[Q32]) -> Option<Ratio> {
 
 /// Returns the row that leaves in a primal step: the one with the greatest entry among those within the
 /// least ratio.
-pub(crate) fn leaving(values: &[Q32], alphas: &[Q32]) -> Option<usize> {
-    let least = least_primal_ratio(values, alphas)?;
-    let mut greatest = 0;
+pub(crate) fn leaving(values: &[Value64], alphas: &[Entry64]) -> Option<usize> {
+    let least = least_primal_ratio(values, alphas);
+    let mut greatest = 0.0;
     let mut found = None;
     for (row, (value, alpha)) in values.iter().zip(alphas).enumerate() {
-        if let Some(ratio) = primal_ratio(*value, *alpha, 0) {
-            if ratio.divisor > greatest && !least.is_below(ratio) {
-                greatest = ratio.divisor;
-                found = Some(row);
-            }
+        if *alpha >= PIVOT && *alpha > greatest && *value <= least * *alpha {
+            greatest = *alpha;
+            found = Some(row);
         }
     }
     found
@@ -88,14 +61,13 @@ pub(crate) fn leaving(values: &[Q32], alphas: &[Q32]) -> Option<usize> {
 
 /// Returns the row that leaves in a dual step: the one whose negative value has the greatest square over
 /// the row's norm.
-pub(crate) fn dual_leaving(values: &[Q32], norms: &[u64]) -> Option<usize> {
+pub(crate) fn dual_leaving(values: &[Value64], norms: &[Weight64]) -> Option<usize> {
     let mut best: Option<Candidate> = None;
     for (place, (value, norm)) in values.iter().zip(norms).enumerate() {
-        if value.0 < FEASIBLE {
-            let size = (value.0.unsigned_abs() >> 8).min(MOST_SIZE);
+        if is_negative(*value) {
             best = Candidate {
                 place,
-                size,
+                square: *value * *value,
                 weight: *norm,
             }
             .best(best);
@@ -106,11 +78,11 @@ pub(crate) fn dual_leaving(values: &[Q32], norms: &[u64]) -> Option<usize> {
 }
 
 /// Returns the row not yet taken with the greatest entry in size, if that is a pivot.
-pub(crate) fn free_row(alphas: &[Q32], taken: &[bool]) -> Option<usize> {
-    let mut greatest = PIVOT.unsigned_abs();
+pub(crate) fn free_row(alphas: &[Entry64], taken: &[bool]) -> Option<usize> {
+    let mut greatest = PIVOT;
     let mut found = None;
     for (row, (alpha, is_taken)) in alphas.iter().zip(taken).enumerate() {
-        let size = alpha.0.unsigned_abs();
+        let size = alpha.abs();
         if !*is_taken && size > greatest {
             greatest = size;
             found = Some(row);

@@ -1,4 +1,4 @@
-//! Small linear programs in fixed point, as tests over public calls.
+//! Small linear programs, as tests over public calls.
 #![tactic(auto)]
 
 #[cfg(test)]

@@ -31,7 +31,7 @@ const TRY: Limits = Limits {
     primal: 0,
 };
 
-/// A node's program in fixed point, and room to try cuts.
+/// A node's program at a scout, and room to try cuts.
 #[derive(Drop)]
 pub(crate) struct Bench {
     /// The program, whose last row has no entries.

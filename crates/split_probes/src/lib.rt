@@ -1,4 +1,4 @@
-//! A choice among the splits of a node: the cuts of each are tried in fixed point, and an arc is named whose
+//! A choice among the splits of a node: the cuts of each are tried at a scout, and an arc is named whose
 //! two halves both cost much.
 #![tactic(auto)]
 

@@ -94,7 +94,7 @@ fn best_of(
 /// solution; `None` where it knows of none, or of one alone.
 ///
 /// Arcs whose trees weigh no whole number are tried: both halves of their splits are solved for a few steps
-/// in fixed point, over some trees of the pool, and the arc is named for which the product of what both add
+/// at a scout, over some trees of the pool, and the arc is named for which the product of what both add
 /// to the node's value is greatest. No roster that costs `limit` or more is looked for. It is a hint: that
 /// the split is sharp is for the caller to see.
 ///
