@@ -11,11 +11,12 @@ ghost use Rattle.branch_price.specs.Desks.{IsDesk};
 ghost use Rattle.branch_price.specs.Rounded.{AreFewer};
 
 use crate::desk::Desk;
+use crate::offered::offer_trees;
 use crate::rounded::push_wholes;
-use candidate_rosters::{Roster, roster_of};
+use candidate_rosters::Roster;
 use dives::dive;
 use node_master::{Pool, Weight};
-use offers::{limit, offer};
+use offers::limit;
 use parse_graph::Graph;
 use roster_model::{Cut, Instance, List, Memory};
 use roster_moves::complete;
@@ -23,7 +24,7 @@ use std::alloc::Global;
 
 /// At every which node a roster is looked for by a dive, which takes about as long as it takes to price the
 /// root.
-const EVERY: u32 = 4;
+const EVERY: u32 = 2;
 
 /// Returns trees by weights rounded down: each as often as the whole part of its weight.
 fn wholes(alloc: Global, instance: &Instance, weights: &[Weight]) -> Result<List<usize>, Memory>
@@ -64,9 +65,14 @@ fn offer_begun(
         begun,
         pool,
     )?;
-    let found = roster_of(alloc, instance, pool, columns.as_slice(), &mut desk.rosters)?;
-    offer(instance, best, found);
-    Ok(())
+    offer_trees(
+        alloc,
+        instance,
+        columns.as_slice(),
+        pool,
+        &mut desk.rosters,
+        best,
+    )
 }
 
 /// Offers the roster of the trees that a dive fixes, completed and exchanged. Says whether it fixed any.
@@ -133,10 +139,10 @@ fn offer_completed(
     offer_begun(alloc, instance, graph, begun.as_slice(), desk, pool, best)
 }
 
-/// Offers a roster found by a dive at the first node and at every fourth one after it, unless the best
-/// roster already costs no more than the bound. Where the dive fixes no tree, it offers the roster of the
-/// solution's trees in place of it. So many nodes are processed before.
-pub(crate) fn offer_at_some(
+/// Offers a roster, unless the best one already costs no more than the bound: at the first node and at every
+/// second one after it that of the trees that a dive fixes; at the others, and where the dive fixes none, that
+/// of the solution's trees. So many nodes are processed before.
+pub(crate) fn offer_at_node(
     alloc: Global,
     instance: &Instance,
     graph: &Graph,
@@ -161,13 +167,10 @@ pub(crate) fn offer_at_some(
     ensures pool { IsPool instance.now.grammar pool.new }
     ensures grown { IsGrown pool.old pool.new }
 {
-    if processed % EVERY != 0 {
-        return Ok(());
-    }
     if limit(instance, best) <= bound {
         return Ok(());
     }
-    if offer_dived(alloc, instance, graph, cuts, desk, pool, best)? {
+    if processed % EVERY == 0 && offer_dived(alloc, instance, graph, cuts, desk, pool, best)? {
         return Ok(());
     }
     offer_completed(alloc, instance, graph, weights, desk, pool, best)

@@ -12,7 +12,7 @@ ghost use Rattle.branch_price.specs.Desks.{IsDesk};
 ghost use Rattle.branch_price.specs.Steps.{AsksNode, IsTurned, IsGivenUp, IsSolved};
 
 use crate::choose::plan_for;
-use crate::completed::offer_at_some;
+use crate::completed::offer_at_node;
 use crate::counts::arc_at;
 use crate::desk::{Desk, want};
 use crate::pinned::{offer_least, pinned_value};
@@ -145,7 +145,7 @@ fn best_leaf(
         &mut progress.best,
     )?;
     let processed = progress.tree.processed();
-    offer_at_some(
+    offer_at_node(
         alloc,
         instance,
         graph,

@@ -13,6 +13,7 @@ mod desk;
 mod found;
 mod infeasible;
 mod leaf;
+mod offered;
 mod pinned;
 mod preferred;
 mod progress;

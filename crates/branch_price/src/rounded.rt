@@ -5,10 +5,10 @@ ghost use Rattle.candidate_rosters.specs.Rosters.{IsGoodRoster, IsDeskFor};
 ghost use Rattle.offers.specs.Offers.{IsBetter};
 ghost use Rattle.branch_price.specs.Rounded.{AreFewer};
 
-use candidate_rosters::{Roster, RosterDesk, roster_of};
+use crate::offered::offer_trees;
+use candidate_rosters::{Roster, RosterDesk};
 use fraction::Frac;
 use node_master::{Pool, Weight};
-use offers::offer;
 use roster_model::{Instance, List, Memory};
 use std::alloc::Global;
 
@@ -127,7 +127,5 @@ pub(crate) fn offer_rounded(
     ensures rosters { IsDeskFor instance.now rosters.new }
 {
     let columns = rounded(alloc, instance, weights)?;
-    let found = roster_of(alloc, instance, pool, columns.as_slice(), rosters)?;
-    offer(instance, best, found);
-    Ok(())
+    offer_trees(alloc, instance, columns.as_slice(), pool, rosters, best)
 }

@@ -30,8 +30,8 @@ plan_for-requires-clause-shown c =
     subst (λ (cs : List Cut). IsShown i cs c.args.pool.now c.args.weights.now c.shown_value-value.result) (sym c.cuts-cuts.ensures)
     (is-shown i p.cuts c.args.pool.now c.args.prices c.args.weights.now c.shown_value-value.result are c.requires.solved value)
 
-pub offer_at_some-requires-clause-weights : goal.offer_at_some-requires-clause-weights
-offer_at_some-requires-clause-weights c =
+pub offer_at_node-requires-clause-weights : goal.offer_at_node-requires-clause-weights
+offer_at_node-requires-clause-weights c =
     let r = c.requires.node in
     let i = c.args.instance.now in
     let p = c.args.path.now in
@@ -41,18 +41,18 @@ offer_at_some-requires-clause-weights c =
     (shown-within i p.cuts c.args.pool.now c.args.weights.now c.shown_value-value.result
     (is-shown i p.cuts c.args.pool.now c.args.prices c.args.weights.now c.shown_value-value.result are c.requires.solved value))
 
-pub offer_at_some-requires-clause-cuts : goal.offer_at_some-requires-clause-cuts
-offer_at_some-requires-clause-cuts c =
+pub offer_at_node-requires-clause-cuts : goal.offer_at_node-requires-clause-cuts
+offer_at_node-requires-clause-cuts c =
     let r = c.requires.node in
     let p = c.args.path.now in
     let are = leaf-cuts c.args.instance.now c.args.graph.now r.0 r.1 r.2 r.3 c.args.progress.now c.args.leaf p.cuts c.requires.sound r.4 in
     subst (λ (cs : List Cut). Each IsSmallCut cs) (sym c.cuts-cuts.ensures) (few-cuts c.args.instance.now p.cuts are)
 
-pub offer_at_some-requires-clause-small : goal.offer_at_some-requires-clause-small
-offer_at_some-requires-clause-small c = subst (λ (cs : List Cut). length (rows_of c.args.instance.now cs) ≤ 1500) (sym c.cuts-cuts.ensures) c.requires.solved.few
+pub offer_at_node-requires-clause-small : goal.offer_at_node-requires-clause-small
+offer_at_node-requires-clause-small c = subst (λ (cs : List Cut). length (rows_of c.args.instance.now cs) ≤ 1500) (sym c.cuts-cuts.ensures) c.requires.solved.few
 
 pub returns-clause-grown : goal.returns-clause-grown
-returns-clause-grown c = grown-more c.args.pool.now c.plan_for.new.pool c.offer_at_some.new.pool c.plan_for.ensures.grown c.offer_at_some.ensures.grown
+returns-clause-grown c = grown-more c.args.pool.now c.plan_for.new.pool c.offer_at_node.new.pool c.plan_for.ensures.grown c.offer_at_node.ensures.grown
 
 pub price-requires : goal.price-requires
 price-requires c =
@@ -64,9 +64,9 @@ price-requires c =
     let value = subst (λ (cs : List Cut). IsPricedValue i c.args.prices cs c.shown_value-value.result) c.cuts-cuts.ensures c.shown_value-value.ensures.value in
     let priced = priced-node i p.cuts c.args.pool.now c.args.prices c.args.weights.now c.shown_value-value.result are c.requires.solved value in
     let loose = loose-path i v p.cuts p.arc_box c.requires.path.left c.args.loose c.requires.loose c.requires.graph in
-    let better = better-more i c.args.progress.now.best c.plan_for.new.best c.offer_at_some.new.best c.in_ok-plan.ensures.better c.offer_at_some.ensures.better in
-    let plan = plan-later i v p.cuts c.in_ok-plan.plan c.shown_value-value.result c.plan_for.new.best c.offer_at_some.new.best c.offer_at_some.ensures.better (rw c.cuts-cuts.ensures at c.in_ok-plan.ensures.plan) in
-    asks-priced i v r.0 r.1 r.2 r.3 c.args.progress.now c.args.leaf p.cuts c.offer_at_some.new.best c.args.prices c.shown_value-value.result c.in_ok-plan.plan r.4
+    let better = better-more i c.args.progress.now.best c.plan_for.new.best c.offer_at_node.new.best c.in_ok-plan.ensures.better c.offer_at_node.ensures.better in
+    let plan = plan-later i v p.cuts c.in_ok-plan.plan c.shown_value-value.result c.plan_for.new.best c.offer_at_node.new.best c.offer_at_node.ensures.better (rw c.cuts-cuts.ensures at c.in_ok-plan.ensures.plan) in
+    asks-priced i v r.0 r.1 r.2 r.3 c.args.progress.now c.args.leaf p.cuts c.offer_at_node.new.best c.args.prices c.shown_value-value.result c.in_ok-plan.plan r.4
     better priced loose plan
 
 pub returns-clause-turned : goal.returns-clause-turned
@@ -76,13 +76,13 @@ returns-clause-turned c =
     let p = c.args.path.now in
     let value = subst (λ (cs : List Cut). IsPricedValue i c.args.prices cs c.shown_value-value.result) c.cuts-cuts.ensures c.shown_value-value.ensures.value in
     let loose = loose-path i v p.cuts p.arc_box c.requires.path.left c.args.loose c.requires.loose c.requires.graph in
-    let better = better-more i c.args.progress.now.best c.plan_for.new.best c.offer_at_some.new.best c.in_ok-plan.ensures.better c.offer_at_some.ensures.better in
-    let plan = plan-later i v p.cuts c.in_ok-plan.plan c.shown_value-value.result c.plan_for.new.best c.offer_at_some.new.best c.offer_at_some.ensures.better (rw c.cuts-cuts.ensures at c.in_ok-plan.ensures.plan) in
+    let better = better-more i c.args.progress.now.best c.plan_for.new.best c.offer_at_node.new.best c.in_ok-plan.ensures.better c.offer_at_node.ensures.better in
+    let plan = plan-later i v p.cuts c.in_ok-plan.plan c.shown_value-value.result c.plan_for.new.best c.offer_at_node.new.best c.offer_at_node.ensures.better (rw c.cuts-cuts.ensures at c.in_ok-plan.ensures.plan) in
     on_ok_weaker c.price.result
     (λ done strict before now low asked.
     let are = leaf-cuts i v strict before now low c.args.progress.now c.args.leaf p.cuts c.requires.sound asked in
     let priced = priced-node i p.cuts c.args.pool.now c.args.prices c.args.weights.now c.shown_value-value.result are c.requires.solved value in
-    turned-by i v strict before now now low c.args.progress.now c.args.leaf p.cuts c.offer_at_some.new.best c.price.new.self asked better
-    (done (asks-priced i v strict before now low c.args.progress.now c.args.leaf p.cuts c.offer_at_some.new.best c.args.prices c.shown_value-value.result c.in_ok-plan.plan asked
+    turned-by i v strict before now now low c.args.progress.now c.args.leaf p.cuts c.offer_at_node.new.best c.price.new.self asked better
+    (done (asks-priced i v strict before now low c.args.progress.now c.args.leaf p.cuts c.offer_at_node.new.best c.args.prices c.shown_value-value.result c.in_ok-plan.plan asked
     better priced loose plan)))
     c.price.ensures
