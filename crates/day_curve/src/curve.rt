@@ -5,9 +5,8 @@ ghost use Rattle.parse_graph.specs.Graphs.{IsRefused};
 ghost use Rattle.proof_reuse.specs.Curves.{point_count, point_day, point_heads};
 ghost use Rattle.roster_model.specs.SoundInstance.{IsSoundInstance};
 
-use crate::solution::{graph_of, with_text};
 use branch_price::Master;
-use day_solver::Solution;
+use day_solver::{Solution, graph_of, with_text};
 use parse_graph::{Graph, GraphFault};
 use proof_reuse::Curve;
 use roster_model::{Instance, Memory};

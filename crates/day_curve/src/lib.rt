@@ -2,6 +2,5 @@
 #![tactic(auto)]
 
 mod curve;
-mod solution;
 
 pub use curve::DayCurve;

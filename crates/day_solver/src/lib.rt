@@ -9,4 +9,4 @@ mod text;
 
 pub use report::solution_report;
 pub use solution::Solution;
-pub use solve::solve_day;
+pub use solve::{graph_of, solve_day, with_text};

@@ -14,14 +14,30 @@ use parse_graph::{Graph, GraphFault};
 use roster_model::{Grammar, Instance, Memory};
 use std::alloc::Global;
 
-/// Returns the graph of a day.
-fn graph_of(alloc: Global, grammar: &Grammar) -> Result<Graph, GraphFault>
+// Builds the graph of a day.
+fn built(alloc: Global, grammar: &Grammar) -> Result<Graph, GraphFault>
     requires { IsSound grammar.now }
     ensures graph { IfOk result (IsGraph grammar.now) }
     ensures refused { IfErr result (IsRefused grammar.now) }
 {
     let normal = normalise(alloc, grammar)?;
     Graph::build(alloc, grammar, &normal)
+}
+
+/// Returns the graph of a day.
+///
+/// # Errors
+///
+/// `TooManyArcs` exactly where the day has more than 100,000 arcs, with their number, and `Memory` where memory
+/// runs out.
+pub fn graph_of(alloc: Global, grammar: &Grammar) -> Result<Graph, GraphFault>
+    requires { IsSound grammar.now }
+    ensures graph { IfOk result (IsGraph grammar.now) }
+    ensures few { IfOk result (λ _. (count : ℕ) × HasArcCount grammar.now count) }
+    ensures refused { IfErr result (IsRefused grammar.now) }
+{
+    let graph = built(alloc, grammar)?;
+    Ok(graph)
 }
 
 /// Returns how many arcs a day has.
@@ -52,8 +68,9 @@ fn searched<M: Master>(
     search(alloc, instance, graph, turns, &mut pool, master)
 }
 
-/// Returns what was found with the text of its certificate.
-fn with_text(
+/// Returns what was found, within at most 10,000 turns, with the text of its certificate. After want of memory there
+/// is none.
+pub fn with_text(
     alloc: Global,
     instance: &Instance,
     graph: &Graph,

@@ -7,7 +7,7 @@ use Rattle.roster_model.specs.declared.instance.Instance.{Instance}
 use Rattle.roster_model.specs.declared.instance.Shift.{Shift}
 use Rattle.page_parts.specs.Elements.{places}
 use Rattle.page_text.specs.declared.row.Row.{Row}
-use Rattle.roster_page.specs.Explain.{Derivation}
+use Rattle.text_commands.specs.Explain.{Derivation}
 
 -- employees of one group with one word
 abbrev pub is_same : Shift → Shift → Bool

@@ -2,7 +2,7 @@
 use Rattle.std.specs.Prelude.{ℕ, ◌≡◌, List, [], ◌∷◌, codes}
 use Rattle.shelf.specs.Shelf.{Told}
 use Rattle.roster_page.specs.Check.{AnswersPage}
-use Rattle.roster_page.specs.Reader.{IsReader}
+use Rattle.text_commands.specs.Reader.{IsReader}
 
 -- what is said where the words are not three
 abbrev pub no_form_line : List ℕ

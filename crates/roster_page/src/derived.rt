@@ -2,10 +2,10 @@ ghost use Rattle.std.specs.Prelude.{◌≡◌, ◌≤◌, ◌<◌, ◌++◌, [],
 ghost use Rattle.roster_model.specs.Sound.{IsPlain, IsSound};
 ghost use Rattle.roster_page.specs.Rows.{AreDerived, IsDerived, rules_of, start_of};
 
-use crate::explain::derivation;
 use page_text::Row;
 use roster_model::{Grammar, Instance, List, Memory};
 use std::alloc::Global;
+use text_commands::explain::derivation;
 
 // The name that derives the words of a group.
 fn start_of(instance: &Instance, grammar: &Grammar, group: u8) -> u8

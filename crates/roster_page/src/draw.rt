@@ -11,7 +11,6 @@ ghost use Rattle.roster_report.specs.Reports.{IsReport};
 ghost use Rattle.rules_text.specs.RulesOf.{IsReading};
 ghost use Rattle.roster_page.specs.Draw.{IsContent, IsPage, columns_of};
 
-use crate::answer::Answer;
 use crate::derived::derivations;
 use crate::rows::rows_of;
 use bound_proof::read_cert;
@@ -21,6 +20,7 @@ use roster_model::{Done, Grammar, Instance, List, Memory};
 use roster_report::{Report, report_of};
 use rules_text::read_rules;
 use std::alloc::Global;
+use text_commands::answer::Answer;
 
 // Returns how each cell is covered, where there is a roster.
 fn columns_of(alloc: Global, instance: &Instance, cert: &Cert) -> Result<List<Column>, Memory>

@@ -1,15 +1,11 @@
 //! The program: the page of a certificate that it has checked itself.
 #![tactic(auto)]
 
-mod answer;
 mod check;
 mod derived;
 mod draw;
-mod explain;
-mod fetch;
 mod rows;
 mod run;
-mod say;
 #[cfg(test)]
 mod tests;
 

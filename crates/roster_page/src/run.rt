@@ -1,11 +1,11 @@
 ghost use Rattle.std.specs.Prelude.{[], map, string_bytes};
-ghost use Rattle.roster_page.specs.Reader.{IsReader};
+ghost use Rattle.text_commands.specs.Reader.{IsReader};
 ghost use Rattle.roster_page.specs.Run.{AnswersNoForm, Does};
 
 use crate::check::draw;
-use crate::say::say;
 use shelf::Shelf;
 use std::alloc::Global;
+use text_commands::say::say;
 
 const NO_FORM: &[u8] = b"words: RULES DEMAND PROOF\n";
 

@@ -1,162 +1,28 @@
 -- The same texts have the same answer.
-use Rattle.std.proofs.Common.{◌≡◌, ℕ, List, Some, refl, sym, ap, subst, ◌∙◌, inl, inr, arith}
-use Rattle.roster_model.specs.declared.grammar.Grammar.{Grammar}
-use Rattle.roster_model.specs.declared.instance.Instance.{Instance}
-use Rattle.roster_model.specs.Shifts.{IsPrice}
-use Rattle.roster_model.specs.Trees.{steps}
-use Rattle.certificates.specs.declared.cert.Cert.{Cert}
-use Rattle.certificates.specs.declared.why.Why.{Why}
-use Rattle.certificates.specs.declared.verdict.Verdict.TheVariants.{No}
-use Rattle.certificate_laws.proofs.Refused.{refused as cause-refuses}
-use Rattle.certificate_laws.proofs.OneCause.{one-first}
-use Rattle.demand_text.specs.declared.fault.DemandFault.{DemandFault}
-use Rattle.demand_text.specs.InstanceOf.{instance_of}
-use Rattle.proof_pieces.specs.declared.fault.ProofFault.{ProofFault}
-use Rattle.proof_pieces.specs.CertOf.{proof_of}
-use Rattle.proof_pieces.specs.FaultLine as proof
-use Rattle.proof_reuse.specs.declared.nodes.Reused.{Reused}
-use Rattle.proof_reuse.proofs.OneAnswer.{one-answer}
-use Rattle.reuse_report.specs.ReusedText.{reused_text}
-use Rattle.demand_text.specs.FaultLine as demand
-use Rattle.shift_report.specs.TreeText.{tree_text}
-use Rattle.shelf.specs.Shelf.{Texts}
-use Rattle.shift_report.specs.VerdictText.{verdict_text}
-use Rattle.shift_tool.specs.Check.{SaysYes, SaysNo, Judgement, SaysProofFault, CertAnswers, ProofAnswers, AnswersProof, SaysDemandFault, DemandAnswers, AnswersDemand, RulesAnswers, AnswersTexts}
-use Rattle.shift_tool.specs.Check as checks
-use Rattle.shift_tool.specs.Explain.{SaysTree, SaysNone, Derivation, Explanation, AnswersExplain, SaysFault}
-use Rattle.shift_tool.specs.Explain as explains
+use Rattle.std.proofs.Common.{sym, ◌∙◌}
+use Rattle.text_commands.specs.Check.{Judgement}
 use Rattle.day_questions.specs.Ranked.{RankedAnswer}
 use Rattle.day_questions.specs.Next.{NextAnswer}
 use Rattle.day_questions.specs.Fitting.{FitsAnswer}
 use Rattle.day_questions.proofs.OnceLemmas.{one-ranked, one-next, one-fits}
-use Rattle.shift_tool.specs.Days.{DayAnswer, AnswersDay}
-use Rattle.shift_tool.specs.Days as days
-use Rattle.shift_tool.specs.Reuse.{Reusing, reused_status}
-use Rattle.shift_tool.specs.OneAnswer.{AreSameButTree, HasOneAnswer}
+use Rattle.search_commands.specs.Reuse.{Reusing}
 use Rattle.shift_tool.specs.Form.{Form, explain, rank, next, fits, check, reuse, solve, curve, make, none}
-use Rattle.shift_tool.proofs.OneEndLemmas.{solve-ends, make-ends}
-use Rattle.shift_tool.proofs.CurveEnds.{curve-ends}
-use Rattle.shift_tool.proofs.Same.{same_text, same_ok, same_err, not_both, same_grammar, no_fault, faults_once}
-
--- equal statuses and equal texts
-abbrev AreSame : ℕ → ℕ → List ℕ → List ℕ → Type 0
-AreSame s t a b = (s ≡ t) × (a ≡ b)
-
--- a certificate is judged in one way
-judged_once : (i : Instance) (c : Cert) (s t : ℕ) (a b : List ℕ) → Judgement i c s a → Judgement i c t b → AreSame s t a b
-judged_once i c s t a b (checks.yes x h) (checks.yes y k) = (refl, h.lines ∙ sym k.lines)
-judged_once i c s t a b (checks.yes x h) (checks.no y k) = absurd (cause-refuses i c h.accepted k.why k.cause.holds)
-judged_once i c s t a b (checks.no x h) (checks.yes y k) = absurd (cause-refuses i c k.accepted h.why h.cause.holds)
-judged_once i c s t a b (checks.no x h) (checks.no y k) =
-    (refl, h.line ∙ ap (λ (w : Why). verdict_text (No w)) (one-first i c h.why k.why h.cause k.cause) ∙ sym k.line)
-
--- what the nodes of an old certificate show is one answer
-reused_once : (i : Instance) (c : Cert) (s t : ℕ) (a b : List ℕ) → Reusing i c s a → Reusing i c t b → AreSame s t a b
-reused_once i c s t a b h k =
-    let same = one-answer i c h.reused k.reused h.is k.is in
-    (h.status_is ∙ ap (λ (r : Reused). reused_status r) same ∙ sym k.status_is, h.line ∙ ap (λ (r : Reused). reused_text r) same ∙ sym k.line)
-
--- where a certificate has one answer, the three texts have
-module _ (A : CertAnswers) (once : (i : Instance) (c : Cert) (s t : ℕ) (a b : List ℕ) → A i c s a → A i c t b → AreSame s t a b) where
-  proof_once : (i : Instance) (text : List ℕ) (s t : ℕ) (a b : List ℕ) → ProofAnswers A i text s a → ProofAnswers A i text t b → AreSame s t a b
-  proof_once i text s t a b (checks.ProofAnswers.accepted c x xs e h) (checks.ProofAnswers.accepted d y ys f k) =
-      once i d s t a b (subst (λ (z : Cert). A i z s a) (same_ok (proof_of i text) c d e f) h) k
-  proof_once i text s t a b (checks.ProofAnswers.accepted c x xs e h) (checks.ProofAnswers.refused ys k) = absurd (not_both (proof_of i text) c k.fault e k.reading)
-  proof_once i text s t a b (checks.ProofAnswers.refused xs h) (checks.ProofAnswers.accepted d y ys f k) = absurd (not_both (proof_of i text) d h.fault f h.reading)
-  proof_once i text s t a b (checks.ProofAnswers.refused xs h) (checks.ProofAnswers.refused ys k) =
-      (refl, h.line ∙ ap (λ (x : ProofFault). proof.fault_line x) (same_err (proof_of i text) h.fault k.fault h.reading k.reading) ∙ sym k.line)
-
-  proofs_once : (held : Texts) (i : Instance) (name : List ℕ) (s t : ℕ) (a b : List ℕ) → AnswersProof A (Some held) i name s a → AnswersProof A (Some held) i name t b → AreSame s t a b
-  proofs_once held i name s t a b h k =
-      proof_once i k.text s t a b (subst (λ (x : List ℕ). ProofAnswers A i x s a) (same_text held name h.text k.text h.holds k.holds) h.answers) k.answers
-
-  demand_once : (held : Texts) (g : Grammar) (text name : List ℕ) (s t : ℕ) (a b : List ℕ) → DemandAnswers A (Some held) g text name s a → DemandAnswers A (Some held) g text name t b → AreSame s t a b
-  demand_once held g text name s t a b (checks.DemandAnswers.accepted i x xs e h) (checks.DemandAnswers.accepted j y ys f k) =
-      proofs_once held j name s t a b
-      (subst (λ (z : Instance). AnswersProof A (Some held) z name s a) (same_ok (instance_of g text) i j e.reading f.reading) h) k
-  demand_once held g text name s t a b (checks.DemandAnswers.accepted i x xs e h) (checks.DemandAnswers.refused ys k) =
-      absurd (not_both (instance_of g text) i k.fault e.reading k.reading)
-  demand_once held g text name s t a b (checks.DemandAnswers.refused xs h) (checks.DemandAnswers.accepted j y ys f k) =
-      absurd (not_both (instance_of g text) j h.fault f.reading h.reading)
-  demand_once held g text name s t a b (checks.DemandAnswers.refused xs h) (checks.DemandAnswers.refused ys k) =
-      (refl, h.line ∙ ap (λ (x : DemandFault). demand.fault_line x) (same_err (instance_of g text) h.fault k.fault h.reading k.reading) ∙ sym k.line)
-
-  demands_once : (held : Texts) (g : Grammar) (name proof_name : List ℕ) (s t : ℕ) (a b : List ℕ) → AnswersDemand A (Some held) g name proof_name s a → AnswersDemand A (Some held) g name proof_name t b → AreSame s t a b
-  demands_once held g name proof_name s t a b h k =
-      demand_once held g k.text proof_name s t a b
-      (subst (λ (x : List ℕ). DemandAnswers A (Some held) g x proof_name s a) (same_text held name h.text k.text h.holds k.holds) h.answers) k.answers
-
-  rules_once : (held : Texts) (text demand proof : List ℕ) (s t : ℕ) (a b : List ℕ) → RulesAnswers A (Some held) text demand proof s a → RulesAnswers A (Some held) text demand proof t b → AreSame s t a b
-  rules_once held text demand proof s t a b (checks.RulesAnswers.accepted g x xs e h) (checks.RulesAnswers.accepted f y ys q k) =
-      demands_once held f demand proof s t a b
-      (subst (λ (z : Grammar). AnswersDemand A (Some held) z demand proof s a) (same_grammar text g f e.reading q.reading) h) k
-  rules_once held text demand proof s t a b (checks.RulesAnswers.accepted g x xs e h) (checks.RulesAnswers.refused ys k) =
-      absurd (no_fault text g k.fault e.reading k.reading)
-  rules_once held text demand proof s t a b (checks.RulesAnswers.refused xs h) (checks.RulesAnswers.accepted f y ys q k) =
-      absurd (no_fault text f h.fault q.reading h.reading)
-  rules_once held text demand proof s t a b (checks.RulesAnswers.refused xs h) (checks.RulesAnswers.refused ys k) = (refl, faults_once text a b h k)
-
-  texts_once : (held : Texts) (rules demand proof : List ℕ) (s t : ℕ) (a b : List ℕ) → AnswersTexts A (Some held) rules demand proof s a → AnswersTexts A (Some held) rules demand proof t b → AreSame s t a b
-  texts_once held rules demand proof s t a b h k =
-      rules_once held k.text demand proof s t a b
-      (subst (λ (x : List ℕ). RulesAnswers A (Some held) x demand proof s a) (same_text held rules h.text k.text h.holds k.holds) h.answers) k.answers
-
--- a word has one price
-one_price : (g : Grammar) (name : ℕ) (word : List ℕ) (p q : ℕ) → IsPrice g name word p → IsPrice g name word q → p ≡ q
-one_price g name word p q h k =
-    omega (arith, h.least k.attained.0 k.attained.1, k.least h.attained.0 h.attained.1, h.attained.2, k.attained.2)
-
-derived_once : (g : Grammar) (word : List ℕ) (s t : ℕ) (a b : List ℕ) → Derivation g word s a → Derivation g word t b → (s ≡ t) × AreSameButTree word a b
-derived_once g word s t a b (explains.shift x h) (explains.shift y k) =
-    let same = one_price g g.start word h.price k.price h.is_price k.is_price in (
-      refl,
-      inr (record {
-        grammar = g;
-        price = k.price;
-        one = steps 1 h.tree;
-        other = steps 1 k.tree;
-        first = h.text ∙ ap (λ (p : ℕ). tree_text g word p (steps 1 h.tree)) same;
-        second = k.text;
-      }),
-    )
-derived_once g word s t a b (explains.shift x h) (explains.no_shift y k) = absurd (k.no_shift (h.tree, h.derives))
-derived_once g word s t a b (explains.no_shift x h) (explains.shift y k) = absurd (h.no_shift (k.tree, k.derives))
-derived_once g word s t a b (explains.no_shift x h) (explains.no_shift y k) = (refl, inl (h.line ∙ sym k.line))
-
-explained_once : (text word : List ℕ) (s t : ℕ) (a b : List ℕ) → Explanation text word s a → Explanation text word t b → (s ≡ t) × AreSameButTree word a b
-explained_once text word s t a b (explains.accepted g x xs e h) (explains.accepted f y ys q k) =
-    derived_once f word s t a b (subst (λ (z : Grammar). Derivation z word s a) (same_grammar text g f e.reading q.reading) h) k
-explained_once text word s t a b (explains.accepted g x xs e h) (explains.refused ys k) = absurd (no_fault text g k.fault e.reading k.reading)
-explained_once text word s t a b (explains.refused xs h) (explains.accepted f y ys q k) = absurd (no_fault text f h.fault q.reading h.reading)
-explained_once text word s t a b (explains.refused xs h) (explains.refused ys k) = (refl, inl (faults_once text a b h k))
-
-explain_once : (held : Texts) (rules word : List ℕ) (s t : ℕ) (a b : List ℕ) → AnswersExplain (Some held) rules word s a → AnswersExplain (Some held) rules word t b → (s ≡ t) × AreSameButTree word a b
-explain_once held rules word s t a b h k =
-    explained_once k.0 word s t a b (subst (λ (x : List ℕ). Explanation x word s a) (same_text held rules h.0 k.0 h.1 k.1) h.2) k.2
-
--- where a grammar has one answer, a rules text has
-module _ (Answers : Grammar → ℕ → List ℕ → Type 0) (once : (g : Grammar) (s t : ℕ) (a b : List ℕ) → Answers g s a → Answers g t b → AreSame s t a b) where
-  day_once : (text : List ℕ) (s t : ℕ) (a b : List ℕ) → DayAnswer Answers text s a → DayAnswer Answers text t b → AreSame s t a b
-  day_once text s t a b (days.accepted g x xs e h) (days.accepted f y ys q k) =
-      once f s t a b (subst (λ (z : Grammar). Answers z s a) (same_grammar text g f e.reading q.reading) h) k
-  day_once text s t a b (days.accepted g x xs e h) (days.refused ys k) = absurd (no_fault text g k.fault e.reading k.reading)
-  day_once text s t a b (days.refused xs h) (days.accepted f y ys q k) = absurd (no_fault text f h.fault q.reading h.reading)
-  day_once text s t a b (days.refused xs h) (days.refused ys k) = (refl, faults_once text a b h k)
-
-  held_once : (held : Texts) (rules : List ℕ) (s t : ℕ) (a b : List ℕ) → AnswersDay Answers (Some held) rules s a → AnswersDay Answers (Some held) rules t b → AreSame s t a b
-  held_once held rules s t a b h k =
-      day_once k.0 s t a b (subst (λ (x : List ℕ). DayAnswer Answers x s a) (same_text held rules h.0 k.0 h.1 k.1) h.2) k.2
+use Rattle.shift_tool.specs.OneAnswer.{HasOneAnswer}
+use Rattle.search_commands.proofs.OneEndLemmas.{solve-ends, make-ends}
+use Rattle.search_commands.proofs.CurveEnds.{curve-ends}
+use Rattle.search_commands.proofs.ReuseLemmas.{reused-once}
+use Rattle.text_commands.proofs.OnceLemmas.{judged-once, texts-once, explain-once, held-once}
 
 pub has-one-answer : (f : Form) → HasOneAnswer f
-has-one-answer (explain rules word) = λ held s t a b. explain_once held rules word s t a b
+has-one-answer (explain rules word) = λ held s t a b. explain-once held rules word s t a b
 has-one-answer (rank rules most) =
-    λ held s t a b. held_once (λ g s o. RankedAnswer g most s o) (λ g. one-ranked g most) held rules s t a b
+    λ held s t a b. held-once (λ g s o. RankedAnswer g most s o) (λ g. one-ranked g most) held rules s t a b
 has-one-answer (next rules prefix) =
-    λ held s t a b. held_once (λ g s o. NextAnswer g prefix s o) (λ g. one-next g prefix) held rules s t a b
+    λ held s t a b. held-once (λ g s o. NextAnswer g prefix s o) (λ g. one-next g prefix) held rules s t a b
 has-one-answer (fits rules pattern) =
-    λ held s t a b. held_once (λ g s o. FitsAnswer g pattern s o) (λ g. one-fits g pattern) held rules s t a b
-has-one-answer (check rules demand proof) = λ held s t a b. texts_once Judgement judged_once held rules demand proof s t a b
-has-one-answer (reuse rules demand proof) = λ held s t a b. texts_once Reusing reused_once held rules demand proof s t a b
+    λ held s t a b. held-once (λ g s o. FitsAnswer g pattern s o) (λ g. one-fits g pattern) held rules s t a b
+has-one-answer (check rules demand proof) = λ held s t a b. texts-once Judgement judged-once held rules demand proof s t a b
+has-one-answer (reuse rules demand proof) = λ held s t a b. texts-once Reusing reused-once held rules demand proof s t a b
 has-one-answer (solve rules demand proof turns) = λ held. solve-ends held rules demand turns
 has-one-answer (curve rules demand proof turns) = λ held. curve-ends held rules demand proof turns
 has-one-answer (make number proof turns) = make-ends number turns

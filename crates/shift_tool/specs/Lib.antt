@@ -1,16 +1,4 @@
 pub mod Form
-pub mod Reader
-pub mod Explain
-pub mod Fetch
-pub mod Check
-pub mod Reuse
+pub mod Asked
 pub mod Run
 pub mod OneAnswer
-pub mod Asked
-pub mod Writer
-pub mod Solve
-pub mod Make
-pub mod Days
-pub mod Series
-pub mod Curve
-pub mod Points

@@ -2,16 +2,16 @@
 use Rattle.std.specs.Prelude.{ℕ, [], ◌∷◌}
 use Rattle.shift_tool.specs.Form.{Form, explain, rank, next, fits, check, reuse, solve, curve, make, none, AnswersNoForm}
 use Rattle.shelf.specs.Shelf.{Told}
-use Rattle.shift_tool.specs.Reader.{IsReader}
-use Rattle.shift_tool.specs.Writer.{IsWriter}
-use Rattle.shift_tool.specs.Explain.{AnswersExplain}
-use Rattle.shift_tool.specs.Days.{AnswersRank, AnswersNext, AnswersFits}
-use Rattle.shift_tool.specs.Check.{AnswersCheck}
-use Rattle.shift_tool.specs.Reuse.{AnswersReuse}
-use Rattle.shift_tool.specs.Solve.{MasterView, AnswersSolve}
-use Rattle.shift_tool.specs.Curve.{AnswersCurve}
-use Rattle.shift_tool.specs.Make.{AnswersMake}
-use Rattle.shift_tool.specs.Series.{IsSeriesWriter}
+use Rattle.text_commands.specs.Reader.{IsReader}
+use Rattle.search_commands.specs.Writer.{IsWriter}
+use Rattle.text_commands.specs.Explain.{AnswersExplain}
+use Rattle.text_commands.specs.Days.{AnswersRank, AnswersNext, AnswersFits}
+use Rattle.text_commands.specs.Check.{AnswersCheck}
+use Rattle.search_commands.specs.Reuse.{AnswersReuse}
+use Rattle.search_commands.specs.Solve.{MasterView, AnswersSolve}
+use Rattle.search_commands.specs.Curve.{AnswersCurve}
+use Rattle.search_commands.specs.Make.{AnswersMake}
+use Rattle.search_commands.specs.Series.{IsSeriesWriter}
 
 -- over a shelf before and after, and with a master that was lent
 abbrev pub Does : Form → Told → Told → MasterView → ℕ → Type 0

@@ -1,26 +1,12 @@
 //! The program: answers for rosters by the words of its command line.
 #![tactic(auto)]
 
-mod answer;
-mod ask;
-mod check;
 #[cfg(test)]
 mod check_tests;
-mod curve;
-mod explain;
-mod fetch;
-mod fits;
 mod form;
-mod make;
-mod next;
-mod rank;
-mod reuse;
 mod run;
-mod say;
-mod solve;
 #[cfg(test)]
 mod solve_tests;
-mod store;
 #[cfg(test)]
 mod tests;
 

@@ -2,22 +2,23 @@ ghost use Rattle.std.specs.Prelude.{[], map, string_bytes};
 ghost use Rattle.shift_tool.specs.Form.{form_of, AnswersNoForm};
 ghost use Rattle.shift_tool.specs.OneAnswer.{HasOneAnswer};
 ghost use Rattle.shift_tool.specs.Run.{Does};
-ghost use Rattle.shift_tool.specs.Reader.{IsReader};
-ghost use Rattle.shift_tool.specs.Solve.{lent};
+ghost use Rattle.text_commands.specs.Reader.{IsReader};
+ghost use Rattle.search_commands.specs.Solve.{lent};
 
-use crate::ask::{Question, ask};
-use crate::curve::curve;
-use crate::explain::explain;
-use crate::fits::fits;
 use crate::form::{Form, form_of};
-use crate::make::make;
-use crate::next::next;
-use crate::rank::rank;
-use crate::say::say;
-use crate::solve::solve;
 use branch_price::Master;
+use search_commands::curve::curve;
+use search_commands::make::make;
+use search_commands::reuse::reuse;
+use search_commands::solve::solve;
 use shelf::Shelf;
 use std::alloc::Global;
+use text_commands::check::check;
+use text_commands::explain::explain;
+use text_commands::fits::fits;
+use text_commands::next::next;
+use text_commands::rank::rank;
+use text_commands::say::say;
 
 const NO_FORM: &[u8] = b"words: none of the forms\n";
 
@@ -69,12 +70,12 @@ pub fn run<S: Shelf, M: Master>(
             rules,
             demand,
             proof,
-        } => ask(alloc, shelf, rules, demand, proof, Question::Check),
+        } => check(alloc, shelf, rules, demand, proof),
         Form::Reuse {
             rules,
             demand,
             proof,
-        } => ask(alloc, shelf, rules, demand, proof, Question::Reuse),
+        } => reuse(alloc, shelf, rules, demand, proof),
         Form::Solve {
             rules,
             demand,

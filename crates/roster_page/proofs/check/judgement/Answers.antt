@@ -1,4 +1,6 @@
-use Rattle.roster_page.proofs.Checks.{proof-drawn, proof-refused, proof-refused-why, yes-accepted}
+use Rattle.roster_page.specs.Check.{Judgement}
+use Rattle.roster_page.proofs.Checks.{proof-drawn, proof-refused-why, yes-accepted}
+use Rattle.text_commands.proofs.Checks.{proof-refused}
 use Rattle.roster_page.proofs.check.judgement.Goals as goal
 
 pub page_answer-requires-clause-accepted : goal.page_answer-requires-clause-accepted
@@ -17,4 +19,4 @@ returns-in-Said-No c =
 
 pub returns-in-Fault : goal.returns-in-Fault
 returns-in-Fault c =
-    proof-refused c.args.instance.now c.args.rules.now c.args.text.now c.in-Fault.fault c.proof_refusal.result (rw c.in-Fault.is at c.in_ok-judged.ensures) c.proof_refusal.ensures
+    proof-refused (Judgement c.args.rules.now) c.args.instance.now c.args.text.now c.in-Fault.fault c.proof_refusal.result (rw c.in-Fault.is at c.in_ok-judged.ensures) c.proof_refusal.ensures

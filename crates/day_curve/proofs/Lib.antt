@@ -1,2 +1,0 @@
-mod NodeValues
-mod ArcCounts

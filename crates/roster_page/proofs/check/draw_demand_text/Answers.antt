@@ -1,8 +1,0 @@
-use Rattle.roster_page.proofs.Checks.{demand-accepted, demand-refused}
-use Rattle.roster_page.proofs.check.draw_demand_text.Goals as goal
-
-pub returns-in-Ok : goal.returns-in-Ok
-returns-in-Ok g c = demand-accepted _ _ _ c.args.grammar c.args.rules.now c.args.text.now c.args.proof.now c.in-Ok.instance c.in-Ok.ensures.value c.in-Ok.ensures.sound c.draw_proof.ensures
-
-pub returns-in-Err : goal.returns-in-Err
-returns-in-Err g c = demand-refused _ _ _ c.args.grammar c.args.rules.now c.args.text.now c.args.proof.now c.in-Err.fault c.demand_refusal.result c.demand_refusal.ensures c.in-Err.ensures.value c.say_answer.ensures

@@ -1,0 +1,184 @@
+-- The answers of `curve`, from what its parts answer.
+use Rattle.std.proofs.Common.{◌≡◌, ◌≢◌, ℕ, ◌+◌, ◌<◌, arith, Bool, List, [], ◌∷◌, length, Option, None, Some, Result, Ok, Err, IfOk, refl, sym, ap, subst, ◌∙◌}
+use Rattle.roster_model.specs.declared.grammar.Grammar.{Grammar}
+use Rattle.roster_model.specs.declared.instance.Done.{Done}
+use Rattle.roster_model.specs.declared.instance.Done.TheVariants.{Equal, NoRoster, TurnsOut}
+use Rattle.roster_model.specs.declared.instance.Instance.{Instance}
+use Rattle.roster_model.specs.declared.memory.Memory.{Memory}
+use Rattle.roster_model.specs.Folds.{Each}
+use Rattle.roster_model.specs.Sound.{IsSound}
+use Rattle.roster_model.specs.SoundInstance.{IsSoundInstance}
+use Rattle.branch_price.specs.declared.found.Found.{Found}
+use Rattle.branch_price.specs.Found.{IsFound, IsDone}
+use Rattle.day_solver.specs.Solutions.{HasArcCount}
+use Rattle.demand_text.specs.declared.fault.DemandFault.{DemandFault}
+use Rattle.demand_text.specs.declared.fault.DemandFault.TheVariants as demand_faults
+use Rattle.demand_text.specs.FaultLine as demand
+use Rattle.demand_text.specs.InstanceOf.{instance_of}
+use Rattle.parse_graph.specs.declared.fault.GraphFault.{GraphFault}
+use Rattle.parse_graph.specs.Graphs.{IsRefused}
+use Rattle.proof_reuse.specs.Curves.{with_heads, first_heads, point_count}
+use Rattle.reuse_report.specs.declared.points.CurvePoint.{CurvePoint}
+use Rattle.reuse_report.specs.CurveText.{curve_text}
+use Rattle.rules_text.specs.FaultLine.{fault_line}
+use Rattle.rules_text.specs.RulesOf.{IsReading}
+use Rattle.rules_text.specs.declared.fault.RulesFault.{RulesFault}
+use Rattle.rules_text.specs.declared.fault.RulesFault.TheVariants as rules_faults
+use Rattle.shelf.specs.Shelf.{Texts, Told}
+use Rattle.text_commands.specs.declared.answer.Answer.{Answer}
+use Rattle.search_commands.specs.Curve.{Point, ArePoints, said_points, point_entries, point_name, curve_status, SaysCurve, HasFirstPoints, Curving, CurvesDemand, AnswersCurveDemand, CurvesRules, AnswersCurve}
+use Rattle.search_commands.specs.Curve as curves
+use Rattle.text_commands.specs.Fetch.{IsAnswer, IsFetch, NoAnswer}
+use Rattle.search_commands.specs.Points.{FindsFirst, BreaksCurve, AnswersGroups}
+use Rattle.text_commands.specs.Reader.{IsReader, HoldsAll}
+use Rattle.search_commands.specs.Series.{Entry, End, answered, broken_off, IsSeriesWriter, StoresNoEntry}
+use Rattle.search_commands.specs.Solve.{MasterView, SaysTooManyArcs}
+use Rattle.search_commands.proofs.Solves.{IsArcsAnswer}
+use Rattle.text_commands.proofs.Readers.{one_held}
+use Rattle.search_commands.proofs.Storing.{widen, as_series, refused_fetch, after_fetch, broken_series, said_series}
+
+no_names : (held : Option Texts) (names : List (List ℕ)) → HoldsAll held names → HoldsAll held []
+no_names None names h = absurd h
+no_names (Some texts) names h = tt
+
+-- a search that did not end with its turns closed its point
+open_ran_out : (i : Instance) (strict : Bool) (turns : ℕ) (f : Found) (d : Done) → f.done ≡ d → IsDone f.cert d → IsFound i strict turns f → f.cert.bound ≢ f.cert.cost → f.processed ≡ turns
+open_ran_out i strict turns f Equal e done is ne = absurd (ne done.1)
+open_ran_out i strict turns f NoRoster e done is ne = absurd (ne (done.1 ∙ sym done.0))
+open_ran_out i strict turns f TurnsOut e done is ne = let ran = is.ran_out e in ran.all
+
+ran_out_each : (i : Instance) (strict : Bool) (turns h r : ℕ) (ps : List Point) → ArePoints i strict turns h r ps → Each (λ (p : CurvePoint). p.bound ≢ p.cost → p.processed ≡ turns) (said_points h ps)
+ran_out_each i strict turns h r [] are = tt
+ran_out_each i strict turns h r (p ∷ ps) are =
+    let searched = are.0.searched in
+    (open_ran_out (with_heads i h) strict turns p.found p.found.done refl searched.done searched, ran_out_each i strict turns (h + 1) p.refused ps are.1)
+
+-- a sound day has a point
+pub some-points : (i : Instance) → IsSoundInstance i → 0 < point_count i
+some-points i s = let order = s.order in let some = s.some in omega (arith, order, some)
+
+module _ (i : Instance) (proof : List ℕ) (m : MasterView) (turns : ℕ) where
+  refused_graph : i.groups ≡ [] → (fault : GraphFault) → IsRefused i.grammar fault → (r : Result Answer Memory) → IfOk r (IsArcsAnswer fault)
+      → (e : End) (stored : List Entry) → StoresNoEntry (IsAnswer r) e stored → Curving i proof m turns e stored
+  refused_graph plain fault refused r h (broken_off name) stored a = absurd a
+  refused_graph plain fault refused (Err x) h (answered status output) stored a = absurd a.0
+  refused_graph plain fault refused (Ok x) h (answered status output) stored a =
+      let s : status ≡ 9 = a.0.0 ∙ h.0 in
+      rw (s, a.1) (curves.too_many output plain (subst (λ (o : List ℕ). SaysTooManyArcs i.grammar o) (sym a.0.1) (h.1 i.grammar refused)))
+
+  with_groups : i.groups ≢ [] → (e : End) (stored : List Entry) → StoresNoEntry AnswersGroups e stored → Curving i proof m turns e stored
+  with_groups ne (broken_off name) stored a = absurd a
+  with_groups ne (answered status output) stored a = rw (a.0.four, a.1) (curves.groups output ne a.0.line)
+
+  module _ (before after : Told) (status : ℕ) where
+    pub graph-refused : i.groups ≡ [] → (fault : GraphFault) → IsRefused i.grammar fault → (r : Result Answer Memory) → IfOk r (IsArcsAnswer fault)
+        → IsReader (IsAnswer r) [] before after status → IsSeriesWriter (Curving i proof m turns) [] before after status
+    graph-refused plain fault refused r h reader =
+        widen (StoresNoEntry (IsAnswer r)) (Curving i proof m turns) (refused_graph plain fault refused r h) [] [] before after status (λ k. k) (as_series (IsAnswer r) [] before after status reader)
+
+    pub groups-said : i.groups ≢ [] → IsReader AnswersGroups [] before after status → IsSeriesWriter (Curving i proof m turns) [] before after status
+    groups-said ne reader =
+        widen (StoresNoEntry AnswersGroups) (Curving i proof m turns) (with_groups ne) [] [] before after status (λ k. k) (as_series AnswersGroups [] before after status reader)
+
+    pub curve-broken : i.groups ≡ [] → BreaksCurve i proof m turns before after status → IsSeriesWriter (Curving i proof m turns) [] before after status
+    curve-broken plain b =
+        let entries = point_entries proof (first_heads i) b.points in
+        let name = point_name proof (first_heads i + length b.points) in
+        broken_series (Curving i proof m turns) entries name before after status
+        (curves.broken name entries (record { plain = plain; points = b.points; fewer = b.fewer; are = b.are; stored_is = refl; next = refl })) b.broken
+
+    module _ (middle : Told) (said : List CurvePoint) (plain : i.groups ≡ []) (arcs : (n : ℕ) × HasArcCount i.grammar n) (f : FindsFirst i proof m turns (point_count i) before middle said) where
+      -- what is said of all points
+      all_said : (s : ℕ) (o : List ℕ) → s ≡ curve_status said → o ≡ curve_text said → Curving i proof m turns (answered s o) (point_entries proof (first_heads i) f.points)
+      all_said s o status_is text =
+          curves.found s o (point_entries proof (first_heads i) f.points) (record {
+            plain = plain;
+            arcs = arcs.0;
+            few = arcs.1;
+            points = f.points;
+            all = f.all;
+            are = f.are;
+            counted = f.counted;
+            stored_is = refl;
+            ran_out = ran_out_each i m.strict turns (first_heads i) m.before f.points f.are;
+            status_is = status_is ∙ ap (λ (ps : List CurvePoint). curve_status ps) f.is;
+            text = text ∙ ap (λ (ps : List CurvePoint). curve_text ps) f.is;
+          })
+
+      said_of : (r : Result Answer Memory) → IfOk r (λ a. (a.status ≡ curve_status said) × (a.output ≡ curve_text said))
+          → (s : ℕ) (o : List ℕ) → IsAnswer r s o → Curving i proof m turns (answered s o) (point_entries proof (first_heads i) f.points)
+      said_of (Err e) h s o a = absurd a
+      said_of (Ok x) h s o a = all_said s o (a.0 ∙ h.0) (a.1 ∙ h.1)
+
+      pub curve-said : (r : Result Answer Memory) → IfOk r (λ a. (a.status ≡ curve_status said) × (a.output ≡ curve_text said))
+          → IsReader (IsAnswer r) [] middle after status → IsSeriesWriter (Curving i proof m turns) [] before after status
+      curve-said r h reader =
+          said_series (Curving i proof m turns) (point_entries proof (first_heads i) f.points) (IsAnswer r) (curve_status said) (curve_text said) before middle after status
+          (said_of r h) (all_said (curve_status said) (curve_text said) refl refl) f.stored reader
+
+module _ (proof : List ℕ) (m : MasterView) (turns : ℕ) where
+  refused_demand : (g : Grammar) (text : List ℕ) (fault : DemandFault) (r : Result Answer Memory)
+      → IfOk r (λ a. (fault ≢ demand_faults.Memory) × (a.status ≡ 4) × (a.output ≡ demand.fault_line fault)) → (fault ≢ demand_faults.Memory → instance_of g text ≡ Err fault)
+      → (e : End) (stored : List Entry) → StoresNoEntry (IsAnswer r) e stored → CurvesDemand g text proof m turns e stored
+  refused_demand g text fault r h reading (broken_off name) stored a = absurd a
+  refused_demand g text fault (Err x) h reading (answered status output) stored a = absurd a.0
+  refused_demand g text fault (Ok x) h reading (answered status output) stored a =
+      let s : status ≡ 4 = a.0.0 ∙ h.1 in
+      rw (s, a.1) (curves.CurvesDemand.refused output (record { fault = fault; reading = reading h.0; line = a.0.1 ∙ h.2 }))
+
+  refused_rules : (held : Option Texts) (text demand_name : List ℕ) (fault : RulesFault) (r : Result Answer Memory)
+      → IfOk r (λ a. (fault ≢ rules_faults.Memory) × (a.status ≡ 3) × (a.output ≡ fault_line fault)) → (fault ≢ rules_faults.Memory → IsReading text (Err fault))
+      → (e : End) (stored : List Entry) → StoresNoEntry (IsAnswer r) e stored → CurvesRules held text demand_name proof m turns e stored
+  refused_rules held text demand_name fault r h reading (broken_off name) stored a = absurd a
+  refused_rules held text demand_name fault (Err x) h reading (answered status output) stored a = absurd a.0
+  refused_rules held text demand_name fault (Ok x) h reading (answered status output) stored a =
+      let s : status ≡ 3 = a.0.0 ∙ h.1 in
+      rw (s, a.1) (curves.CurvesRules.refused output (record { fault = fault; reading = reading h.0; line = a.0.1 ∙ h.2 }))
+
+  module _ (before after : Told) (status : ℕ) where
+    pub demand-refused : (g : Grammar) (text : List ℕ) (fault : DemandFault) (r : Result Answer Memory)
+        → IfOk r (λ a. (fault ≢ demand_faults.Memory) × (a.status ≡ 4) × (a.output ≡ demand.fault_line fault)) → (fault ≢ demand_faults.Memory → instance_of g text ≡ Err fault)
+        → IsReader (IsAnswer r) [] before after status → IsSeriesWriter (CurvesDemand g text proof m turns) [] before after status
+    demand-refused g text fault r h reading reader =
+        widen (StoresNoEntry (IsAnswer r)) (CurvesDemand g text proof m turns) (refused_demand g text fault r h reading) [] [] before after status (λ k. k) (as_series (IsAnswer r) [] before after status reader)
+
+    pub demand-accepted : (g : Grammar) (text : List ℕ) (i : Instance) → instance_of g text ≡ Ok i → IsSoundInstance i
+        → IsSeriesWriter (Curving i proof m turns) [] before after status → IsSeriesWriter (CurvesDemand g text proof m turns) [] before after status
+    demand-accepted g text i reading sound w =
+        widen (Curving i proof m turns) (CurvesDemand g text proof m turns) (λ e x a. curves.CurvesDemand.accepted i e x (record { reading = reading; sound = sound }) a) [] [] before after status (λ k. k) w
+
+    pub rules-refused : (text demand_name : List ℕ) (fault : RulesFault) (r : Result Answer Memory)
+        → IfOk r (λ a. (fault ≢ rules_faults.Memory) × (a.status ≡ 3) × (a.output ≡ fault_line fault)) → (fault ≢ rules_faults.Memory → IsReading text (Err fault))
+        → IsReader (IsAnswer r) [] before after status → IsSeriesWriter (CurvesRules before.held text demand_name proof m turns) (demand_name ∷ []) before after status
+    rules-refused text demand_name fault r h reading reader =
+        widen (StoresNoEntry (IsAnswer r)) (CurvesRules before.held text demand_name proof m turns) (refused_rules before.held text demand_name fault r h reading) (demand_name ∷ []) [] before after status
+        (no_names before.held (demand_name ∷ [])) (as_series (IsAnswer r) [] before after status reader)
+
+    pub rules-accepted : (text demand_name : List ℕ) (g : Grammar) → IsReading text (Ok g) → IsSound g
+        → IsSeriesWriter (AnswersCurveDemand before.held g demand_name proof m turns) (demand_name ∷ []) before after status
+        → IsSeriesWriter (CurvesRules before.held text demand_name proof m turns) (demand_name ∷ []) before after status
+    rules-accepted text demand_name g reading sound w =
+        widen (AnswersCurveDemand before.held g demand_name proof m turns) (CurvesRules before.held text demand_name proof m turns)
+        (λ e x a. curves.CurvesRules.accepted g e x (record { reading = reading; sound = sound }) a) (demand_name ∷ []) (demand_name ∷ []) before after status (λ k. k) w
+
+    -- a demand text that was fetched, and one that was not
+    pub demand-read : (g : Grammar) (name text : List ℕ) (middle : Told) → IsFetch name before middle text → IsSeriesWriter (CurvesDemand g text proof m turns) [] middle after status
+        → IsSeriesWriter (AnswersCurveDemand before.held g name proof m turns) (name ∷ []) before after status
+    demand-read g name text middle f w =
+        after_fetch (AnswersCurveDemand before.held g name proof m turns) name [] before middle after status text f
+        (widen (CurvesDemand g text proof m turns) (AnswersCurveDemand before.held g name proof m turns) (λ e x a. record { text = text; holds = f.holds; answers = a }) [] [] middle after status (λ k. k) w)
+
+    pub demand-unread : (g : Grammar) (name : List ℕ) → IsReader NoAnswer (name ∷ []) before after status → IsSeriesWriter (AnswersCurveDemand before.held g name proof m turns) (name ∷ []) before after status
+    demand-unread g name reader = refused_fetch (AnswersCurveDemand before.held g name proof m turns) name (name ∷ []) before after status (λ k. k) reader
+
+    -- a rules text that was fetched, and one that was not
+    pub rules-read : (name demand_name text : List ℕ) (middle : Told) → IsFetch name before middle text → IsSeriesWriter (CurvesRules middle.held text demand_name proof m turns) (demand_name ∷ []) middle after status
+        → IsSeriesWriter (AnswersCurve before.held name demand_name proof m turns) (name ∷ demand_name ∷ []) before after status
+    rules-read name demand_name text middle f w =
+        after_fetch (AnswersCurve before.held name demand_name proof m turns) name (demand_name ∷ []) before middle after status text f
+        (widen (CurvesRules middle.held text demand_name proof m turns) (AnswersCurve before.held name demand_name proof m turns)
+        (λ e x a. record { text = text; holds = f.holds; answers = subst (λ (h : Option Texts). CurvesRules h text demand_name proof m turns e x) f.held a }) (demand_name ∷ []) (demand_name ∷ []) middle after status (λ k. k) w)
+
+    pub rules-unread : (name demand_name : List ℕ) → IsReader NoAnswer (name ∷ []) before after status → IsSeriesWriter (AnswersCurve before.held name demand_name proof m turns) (name ∷ demand_name ∷ []) before after status
+    rules-unread name demand_name reader =
+        refused_fetch (AnswersCurve before.held name demand_name proof m turns) name (name ∷ demand_name ∷ []) before after status (one_held before.held name (demand_name ∷ [])) reader

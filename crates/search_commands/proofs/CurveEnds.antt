@@ -1,0 +1,138 @@
+-- Curves over the same texts end alike.
+use Rattle.std.proofs.Common.{◌≡◌, ◌≢◌, ℕ, ◌+◌, ◌<◌, Bool, true, false, List, [], ◌∷◌, length, Option, None, Some, refl, sym, ap, subst, ◌∙◌, arith}
+use Rattle.std.specs.Prelude.{IsSome, cond, ◌&&◌, is_none}
+use Rattle.std.specs.List.{list_all}
+use Rattle.roster_model.specs.declared.grammar.Grammar.{Grammar}
+use Rattle.roster_model.specs.declared.instance.Instance.{Instance}
+use Rattle.roster_model.specs.SoundInstance.{IsSoundInstance}
+use Rattle.certificates.specs.declared.cert.Cert.{Cert}
+use Rattle.certificate_laws.specs.Right.{YesIsRight}
+use Rattle.demand_text.specs.declared.fault.DemandFault.{DemandFault}
+use Rattle.demand_text.specs.InstanceOf.{instance_of}
+use Rattle.demand_text.specs.FaultLine as demand
+use Rattle.proof_reuse.specs.Curves.{with_heads, first_heads}
+use Rattle.reuse_report.specs.declared.points.CurvePoint.{CurvePoint}
+use Rattle.shelf.specs.Shelf.{Texts}
+use Rattle.search_commands.specs.Curve.{Point, ArePoints, point_entries, said_points, is_same, is_closed, has_no_cost, curve_status, SaysCurve, Curving, CurvesDemand, AnswersCurveDemand, CurvesRules, AnswersCurve}
+use Rattle.search_commands.specs.Curve as curves
+use Rattle.search_commands.specs.OneEnd.{EndsAlike}
+use Rattle.search_commands.specs.Series.{Entry, End, answered, broken_off}
+use Rattle.search_commands.specs.Solve.{MasterView}
+use Rattle.search_commands.proofs.CurveAnswers.{some-points}
+use Rattle.search_commands.proofs.OneEndLemmas.{never_both, many_or_few, arcs_alike}
+use Rattle.text_commands.proofs.Same.{same_text, same_ok, same_err, not_both, same_grammar, no_fault, faults_once}
+
+both : (a b : Bool) → (a && b) ≡ true → (a ≡ true) × (b ≡ true)
+both true b h = (refl, h)
+both false b h = let e : false ≡ true = h in cc
+
+joined : (a b : Bool) → a ≡ true → b ≡ true → (a && b) ≡ true
+joined true b e f = f
+joined false b e f = let clash : false ≡ true = e in cc
+
+-- a closed point without a cost has no bound
+no_bound : (a b : Option ℕ) → is_same a b ≡ true → is_none a ≡ true → b ≡ None
+no_bound None None e n = refl
+no_bound None (Some b) e n = let clash : false ≡ true = e in cc
+no_bound (Some a) b e n = let clash : false ≡ true = n in cc
+
+-- where no roster is allowed, none has a cost
+cost_none : (i : Instance) (c d : Cert) (cost : Option ℕ) → c.cost ≡ cost → YesIsRight i c → YesIsRight i d → d.bound ≡ None → is_none cost ≡ true
+cost_none i c d None e h k none = refl
+cost_none i c d (Some n) e h k none = absurd (never_both i c d h k (subst (λ (o : Option ℕ). IsSome o) (sym e) refl) none)
+
+-- two curves over the same head counts, the first closed and without costs
+none_alike : (i : Instance) (turns : ℕ) (s t : Bool) (h q r : ℕ) (xs ys : List Point) → length xs ≡ length ys → ArePoints i s turns h q xs → ArePoints i t turns h r ys
+    → list_all is_closed (said_points h xs) ≡ true → list_all has_no_cost (said_points h xs) ≡ true → list_all has_no_cost (said_points h ys) ≡ true
+none_alike i turns s t h q r [] [] e are is closed none = refl
+none_alike i turns s t h q r [] (y ∷ ys) e are is closed none = let clash : 0 ≡ length (y ∷ ys) = e in absurd (omega (arith, clash))
+none_alike i turns s t h q r (x ∷ xs) [] e are is closed none = let clash : length (x ∷ xs) ≡ 0 = e in absurd (omega (arith, clash))
+none_alike i turns s t h q r (x ∷ xs) (y ∷ ys) e are is closed none =
+    let shut = both (is_same x.found.cert.cost x.found.cert.bound) (list_all is_closed (said_points (h + 1) xs)) closed in
+    let bare = both (is_none x.found.cert.cost) (list_all has_no_cost (said_points (h + 1) xs)) none in
+    let bound = no_bound x.found.cert.cost x.found.cert.bound shut.0 bare.0 in
+    let here = cost_none (with_heads i h) y.found.cert x.found.cert y.found.cert.cost refl is.0.right are.0.right bound in
+    let same : length xs ≡ length ys = omega (arith, e) in
+    joined (is_none y.found.cert.cost) (list_all has_no_cost (said_points (h + 1) ys)) here
+    (none_alike i turns s t (h + 1) x.refused y.refused xs ys same are.1 is.1 shut.1 bare.1)
+
+all_closed : (a b : Bool) → ◌≢◌ {A = ℕ} (cond a (cond b 1 0) 8) 8 → a ≡ true
+all_closed true b h = refl
+all_closed false b h = absurd (h refl)
+
+one_bool : (a b : Bool) → (a ≡ true → b ≡ true) → (b ≡ true → a ≡ true) → a ≡ b
+one_bool true b f g = sym (f refl)
+one_bool false true f g = g refl
+one_bool false false f g = refl
+
+one_status : (a b c d : Bool) → a ≡ true → b ≡ true → c ≡ d → ◌≡◌ {A = ℕ} (cond a (cond c 1 0) 8) (cond b (cond d 1 0) 8)
+one_status a b c d e f g = rw (e, f, g) refl
+
+no_entries : (proof : List ℕ) (h : ℕ) (ps : List Point) → 0 < length ps → point_entries proof h ps ≡ [] → ⊥
+no_entries proof h [] some e = omega (arith, some)
+no_entries proof h (p ∷ ps) some e = cc
+
+-- two ends, where both are answers
+abbrev AlikeAt : End → End → List Entry → List Entry → Type 0
+AlikeAt (broken_off name) f x y = Unit {0}
+AlikeAt (answered s a) (broken_off name) x y = Unit {0}
+AlikeAt (answered s a) (answered t b) x y = EndsAlike s t a b x y
+
+refused_alike : (s : ℕ) (a b : List ℕ) → a ≡ b → EndsAlike s s a b [] []
+refused_alike s a b e = record { refused = λ none. (refl, refl, e); found = λ p q. refl }
+
+module _ (i : Instance) (sound : IsSoundInstance i) (proof : List ℕ) (m n : MasterView) (turns : ℕ) where
+  said_alike : (s t : ℕ) (a b : List ℕ) (x y : List Entry) → SaysCurve i proof m turns s a x → SaysCurve i proof n turns t b y → EndsAlike s t a b x y
+  said_alike s t a b x y h k =
+      let said : List Point → List CurvePoint = λ ps. said_points (first_heads i) ps in
+      let closed : List Point → Bool = λ ps. list_all is_closed (said ps) in
+      let bare : List Point → Bool = λ ps. list_all has_no_cost (said ps) in
+      let first : s ≢ 8 → closed h.points ≡ true = λ p. all_closed (closed h.points) (bare h.points) (subst (λ (z : ℕ). z ≢ 8) h.status_is p) in
+      let second : t ≢ 8 → closed k.points ≡ true = λ p. all_closed (closed k.points) (bare k.points) (subst (λ (z : ℕ). z ≢ 8) k.status_is p) in
+      let there = none_alike i turns m.strict n.strict (first_heads i) m.before n.before h.points k.points (h.all ∙ sym k.all) h.are k.are in
+      let back = none_alike i turns n.strict m.strict (first_heads i) n.before m.before k.points h.points (k.all ∙ sym h.all) k.are h.are in
+      record {
+        refused = λ e. absurd (no_entries proof (first_heads i) h.points (subst (λ (z : ℕ). 0 < z) (sym h.all) (some-points i sound)) (sym h.stored_is ∙ e));
+        found = λ p q.
+            let one = one_bool (bare h.points) (bare k.points) (there (first p)) (back (second q)) in
+            h.status_is ∙ one_status (closed h.points) (closed k.points) (bare h.points) (bare k.points) (first p) (second q) one ∙ sym k.status_is;
+      }
+
+  days_alike : (e f : End) (x y : List Entry) → Curving i proof m turns e x → Curving i proof n turns f y → AlikeAt e f x y
+  days_alike e f x y (curves.broken name z h) k = tt
+  days_alike e f x y (curves.found s a z h) (curves.broken name w k) = tt
+  days_alike e f x y (curves.found s a z h) (curves.found t b w k) = said_alike s t a b z w h k
+  days_alike e f x y (curves.found s a z h) (curves.too_many b plain k) = absurd (many_or_few i.grammar b h.arcs k h.few)
+  days_alike e f x y (curves.found s a z h) (curves.groups b some k) = absurd (some h.plain)
+  days_alike e f x y (curves.too_many a plain h) (curves.broken name w k) = tt
+  days_alike e f x y (curves.too_many a plain h) (curves.found t b w k) = absurd (many_or_few i.grammar a k.arcs h k.few)
+  days_alike e f x y (curves.too_many a plain h) (curves.too_many b same k) = refused_alike 9 a b (arcs_alike i.grammar a b h k)
+  days_alike e f x y (curves.too_many a plain h) (curves.groups b some k) = absurd (some plain)
+  days_alike e f x y (curves.groups a some h) (curves.broken name w k) = tt
+  days_alike e f x y (curves.groups a some h) (curves.found t b w k) = absurd (some k.plain)
+  days_alike e f x y (curves.groups a some h) (curves.too_many b plain k) = absurd (some plain)
+  days_alike e f x y (curves.groups a some h) (curves.groups b more k) = refused_alike 4 a b (h ∙ sym k)
+
+module _ (proof : List ℕ) (m n : MasterView) (turns : ℕ) where
+  demands_alike : (g : Grammar) (text : List ℕ) (e f : End) (x y : List Entry) → CurvesDemand g text proof m turns e x → CurvesDemand g text proof n turns f y → AlikeAt e f x y
+  demands_alike g text e f x y (curves.CurvesDemand.accepted i d z is h) (curves.CurvesDemand.accepted j c w js k) =
+      days_alike j js.sound proof m n turns e f x y (subst (λ (o : Instance). Curving o proof m turns e x) (same_ok (instance_of g text) i j is.reading js.reading) h) k
+  demands_alike g text e f x y (curves.CurvesDemand.accepted i d z is h) (curves.CurvesDemand.refused b k) = absurd (not_both (instance_of g text) i k.fault is.reading k.reading)
+  demands_alike g text e f x y (curves.CurvesDemand.refused a h) (curves.CurvesDemand.accepted j c w js k) = absurd (not_both (instance_of g text) j h.fault js.reading h.reading)
+  demands_alike g text e f x y (curves.CurvesDemand.refused a h) (curves.CurvesDemand.refused b k) =
+      refused_alike 4 a b (h.line ∙ ap (λ (z : DemandFault). demand.fault_line z) (same_err (instance_of g text) h.fault k.fault h.reading k.reading) ∙ sym k.line)
+
+  rules_alike : (held : Texts) (text demand : List ℕ) (e f : End) (x y : List Entry) → CurvesRules (Some held) text demand proof m turns e x → CurvesRules (Some held) text demand proof n turns f y → AlikeAt e f x y
+  rules_alike held text demand e f x y (curves.CurvesRules.accepted g d z is h) (curves.CurvesRules.accepted o c w js k) =
+      demands_alike o k.text e f x y
+      (subst (λ (u : List ℕ). CurvesDemand o u proof m turns e x) (same_text held demand h.text k.text h.holds k.holds)
+      (subst (λ (d : Grammar). CurvesDemand d h.text proof m turns e x) (same_grammar text g o is.reading js.reading) h.answers)) k.answers
+  rules_alike held text demand e f x y (curves.CurvesRules.accepted g d z is h) (curves.CurvesRules.refused b k) = absurd (no_fault text g k.fault is.reading k.reading)
+  rules_alike held text demand e f x y (curves.CurvesRules.refused a h) (curves.CurvesRules.accepted o c w js k) = absurd (no_fault text o h.fault js.reading h.reading)
+  rules_alike held text demand e f x y (curves.CurvesRules.refused a h) (curves.CurvesRules.refused b k) = refused_alike 3 a b (faults_once text a b h k)
+
+pub curve-ends : (held : Texts) (rules demand proof : List ℕ) (turns : ℕ) (m n : MasterView) (s t : ℕ) (a b : List ℕ) (x y : List Entry)
+    → AnswersCurve (Some held) rules demand proof m turns (answered s a) x → AnswersCurve (Some held) rules demand proof n turns (answered t b) y → EndsAlike s t a b x y
+curve-ends held rules demand proof turns m n s t a b x y h k =
+    rules_alike proof m n turns held k.text demand (answered s a) (answered t b) x y
+    (subst (λ (u : List ℕ). CurvesRules (Some held) u demand proof m turns (answered s a) x) (same_text held rules h.text k.text h.holds k.holds) h.answers) k.answers

@@ -1,0 +1,9 @@
+pub mod Writers
+pub mod Solves
+pub mod Makes
+pub mod ReuseLemmas
+pub mod Storing
+pub mod PointLemmas
+pub mod CurveAnswers
+pub mod OneEndLemmas
+pub mod CurveEnds

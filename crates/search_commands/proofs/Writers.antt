@@ -1,0 +1,90 @@
+-- Commands that store a text and then say an answer.
+use Rattle.std.proofs.Common.{◌≡◌, ℕ, List, [], ◌∷◌, Option, None, Some, arith, refl, sym, subst, inl, inr}
+use Rattle.std.specs.Prelude.{IfSome, IsSomeAnd}
+use Rattle.shelf.specs.Shelf.{Texts, Told, AgreesElsewhere}
+use Rattle.text_commands.specs.Fetch.{IsFetch, NoAnswer}
+use Rattle.text_commands.specs.Reader.{HoldsAll, Said, SaidLittle, IsReader}
+use Rattle.search_commands.specs.Writer.{Answers, IsStored, WroteLittle, IsWriter, StoresNothing}
+use Rattle.text_commands.proofs.Readers.{more_faults, others_held, quiet_now}
+
+module _ (A B : Answers) (each : (status : ℕ) (output : List ℕ) (stored : Option (List ℕ)) → A status output stored → B status output stored) where
+  little : (name : List ℕ) (before after : Told) (old new : List ℕ) → WroteLittle A name before after old new → WroteLittle B name before after old new
+  little name before after old new (inl same) = inl same
+  little name before after old new (inr f) = inr (record { status = f.status; output = f.output; stored = f.stored; answers = each f.status f.output f.stored f.answers; front = f.front; rest = f.rest; whole = f.whole; said = f.said; held = f.held })
+
+  fronts : (name : List ℕ) (before after : Told) (old new : Option (List ℕ)) → IfSome old (λ said. IsSomeAnd new (WroteLittle A name before after said)) → IfSome old (λ said. IsSomeAnd new (WroteLittle B name before after said))
+  fronts name before after None new h = tt
+  fronts name before after (Some said) None h = absurd h
+  fronts name before after (Some said) (Some now) h = little name before after said now h
+
+  -- more answers are allowed, and more names are asked for
+  pub widen : (ms ns : List (List ℕ)) (name : List ℕ) (before after : Told) (status : ℕ) → (HoldsAll before.held ms → HoldsAll before.held ns) → IsWriter A ns name before after status → IsWriter B ms name before after status
+  widen ms ns name before after status more w = record {
+    others = w.others;
+    answer = λ six seven. let a = w.answer six seven in (a.0, a.1, each status a.0 a.1 a.2, a.3, a.4);
+    front = fronts name before after before.said after.said w.front;
+    never_falls = w.never_falls;
+    cause = w.cause;
+    steady = λ steady holds few. w.steady steady (more holds) few;
+  }
+
+unchanged : (name : List ℕ) (old new : Option Texts) → new ≡ old → IfSome old (λ texts. IsSomeAnd new (AgreesElsewhere name texts))
+unchanged name None new e = tt
+unchanged name (Some t) new e = rw e (λ other ne. refl)
+
+module _ (A : ℕ → List ℕ → Type 0) (name : List ℕ) (before after : Told) (same : after.held ≡ before.held) where
+  reader_little : (old new : List ℕ) → SaidLittle A old new → WroteLittle (StoresNothing A) name before after old new
+  reader_little old new (inl e) = inl e
+  reader_little old new (inr f) = inr (record { status = f.status; output = f.output; stored = None; answers = (f.answers, refl); front = f.front; rest = f.rest; whole = f.whole; said = f.said; held = same })
+
+  reader_fronts : (old new : Option (List ℕ)) → IfSome old (λ said. IsSomeAnd new (SaidLittle A said)) → IfSome old (λ said. IsSomeAnd new (WroteLittle (StoresNothing A) name before after said))
+  reader_fronts None new h = tt
+  reader_fronts (Some said) None h = absurd h
+  reader_fronts (Some said) (Some now) h = reader_little said now h
+
+-- a command that stores nothing
+pub as_writer : (A : ℕ → List ℕ → Type 0) (names : List (List ℕ)) (name : List ℕ) (before after : Told) (status : ℕ) → IsReader A names before after status → IsWriter (StoresNothing A) names name before after status
+as_writer A names name before after status r = record {
+  others = unchanged name before.held after.held r.held;
+  answer = λ six seven. let a = r.answer six seven in (a.0, None, (a.1, refl), a.2, r.held);
+  front = reader_fronts A name before after r.held before.said after.said r.front;
+  never_falls = r.never_falls;
+  cause = r.cause;
+  steady = r.steady;
+}
+
+no_answer : (B : Answers) (status : ℕ) (output : List ℕ) (stored : Option (List ℕ)) → StoresNothing NoAnswer status output stored → B status output stored
+no_answer B status output stored h = absurd h.0
+
+-- a text that was not fetched
+pub refused_fetch : (B : Answers) (asked : List ℕ) (names : List (List ℕ)) (name : List ℕ) (before after : Told) (status : ℕ) → (HoldsAll before.held names → HoldsAll before.held (asked ∷ []))
+    → IsReader NoAnswer (asked ∷ []) before after status → IsWriter B names name before after status
+refused_fetch B asked names name before after status more r =
+    widen (StoresNothing NoAnswer) B (no_answer B) names (asked ∷ []) name before after status more (as_writer NoAnswer (asked ∷ []) name before after status r)
+
+module _ (A : Answers) (name : List ℕ) (before middle after : Told) (held : middle.held ≡ before.held) where
+  stored_since : (stored : Option (List ℕ)) → IsStored middle.held after.held name stored → IsStored before.held after.held name stored
+  stored_since stored h = subst (λ (x : Option Texts). IsStored x after.held name stored) held h
+
+  little_since : (old new : List ℕ) → WroteLittle A name middle after old new → WroteLittle A name before after old new
+  little_since old new (inl e) = inl e
+  little_since old new (inr f) = inr (record { status = f.status; output = f.output; stored = f.stored; answers = f.answers; front = f.front; rest = f.rest; whole = f.whole; said = f.said; held = stored_since f.stored f.held })
+
+  fronts_since : (old new : Option (List ℕ)) → IfSome old (λ said. IsSomeAnd new (WroteLittle A name middle after said)) → IfSome old (λ said. IsSomeAnd new (WroteLittle A name before after said))
+  fronts_since None new h = tt
+  fronts_since (Some said) None h = absurd h
+  fronts_since (Some said) (Some now) h = little_since said now h
+
+-- a command that goes on after it fetched a text
+pub after_fetch : (A : Answers) (asked : List ℕ) (names : List (List ℕ)) (name : List ℕ) (before middle after : Told) (status : ℕ) (text : List ℕ) → IsFetch asked before middle text → IsWriter A names name middle after status
+    → IsWriter A (asked ∷ names) name before after status
+after_fetch A asked names name before middle after status text f w = record {
+  others = subst (λ (x : Option Texts). IfSome x (λ texts. IsSomeAnd after.held (AgreesElsewhere name texts))) f.held w.others;
+  answer = λ six seven. let a = w.answer six seven in (a.0, a.1, a.2, subst (λ (said : Option (List ℕ)). Said said after.said a.0) f.said a.3, stored_since A name before middle after f.held a.1 a.4);
+  front = fronts_since A name before middle after f.held before.said after.said (subst (λ (old : Option (List ℕ)). IfSome old (λ said. IsSomeAnd after.said (WroteLittle A name middle after said))) f.said w.front);
+  never_falls = omega (arith, f.never_falls, w.never_falls);
+  cause = λ six. more_faults before.faults middle.faults after.faults f.never_falls (w.cause six);
+  steady = λ steady holds few.
+      let same = quiet_now asked names before.held before.faults middle.faults (f.quiet steady) holds in
+      w.steady (f.stays_steady steady) (subst (λ (h : Option Texts). HoldsAll h names) (sym f.held) (others_held before.held asked names holds)) (omega (arith, few, same));
+}

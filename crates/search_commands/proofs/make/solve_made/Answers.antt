@@ -1,0 +1,16 @@
+use Rattle.roster_model.specs.declared.instance.Instance.{Instance}
+use Rattle.std.proofs.Common.{subst}
+use Rattle.branch_price.specs.Found.{AreCounted}
+use Rattle.parse_graph.specs.Graphs.{IsRefused}
+use Rattle.day_solver.specs.Solutions.{IsSolution}
+use Rattle.search_commands.proofs.Makes.{made, graph-refused}
+use Rattle.search_commands.proofs.make.solve_made.Goals as goal
+
+pub returns-in-Ok : goal.returns-in-Ok
+returns-in-Ok g c =
+    let solution = subst (λ (i : Instance). IsSolution i (g.M.Master.strict c.args.master.now) c.args.turns c.in-Ok.solution) c.requires.made c.in-Ok.ensures.solution in
+    let counted = subst (λ (i : Instance). AreCounted i (g.M.Master.refused c.args.master.now) (g.M.Master.refused c.solve_day.new.master) c.in-Ok.solution.found) c.requires.made c.in-Ok.ensures.counted in
+    made c.args.number _ c.args.turns c.in-Ok.solution solution counted c.summary_answer.result c.summary_answer.ensures c.args.proof.now _ _ _ (rw c.as_slice.ensures at c.store_and_say.ensures)
+
+pub returns-in-Err : goal.returns-in-Err
+returns-in-Err g c = graph-refused c.args.number _ c.args.turns c.args.proof.now _ _ _ c.in-Err.fault (subst (λ (i : Instance). IsRefused i.grammar c.in-Err.fault) c.requires.made c.in-Err.ensures.refused) c.graph_refusal.result c.graph_refusal.ensures c.say_answer.ensures

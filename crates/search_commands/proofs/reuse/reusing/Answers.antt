@@ -1,0 +1,11 @@
+use Rattle.text_commands.specs.Check as check
+use Rattle.search_commands.specs.Reuse.{Reusing}
+use Rattle.text_commands.proofs.Checks.{text-refused}
+use Rattle.text_commands.proofs.Derivations.{IfOk-map}
+use Rattle.search_commands.proofs.reuse.reusing.Goals as goal
+
+pub returns-in-Ok : goal.returns-in-Ok
+returns-in-Ok c = IfOk-map _ _ _ (λ a h. check.ProofAnswers.accepted c.in-Ok.cert a.status a.output c.in-Ok.ensures.value h) c.reused.ensures
+
+pub returns-in-Err : goal.returns-in-Err
+returns-in-Err c = text-refused Reusing c.args.instance.now c.args.text.now c.in-Err.fault c.text_refusal.result c.in-Err.ensures.value c.text_refusal.ensures

@@ -1,0 +1,9 @@
+pub mod Writer
+pub mod Solve
+pub mod Make
+pub mod Reuse
+pub mod Statuses
+pub mod Series
+pub mod Curve
+pub mod Points
+pub mod OneEnd

@@ -1,0 +1,100 @@
+-- What `solve RULES DEMAND PROOF TURNS` answers.
+use Rattle.std.specs.Prelude.{ℕ, ◌≡◌, ◌<◌, ◌++◌, Bool, List, Option, None, Some, Ok, codes, length}
+use Rattle.std.specs.Fmt.{decimal}
+use Rattle.roster_model.specs.declared.grammar.ArcKey.{ArcKey}
+use Rattle.roster_model.specs.declared.grammar.Grammar.{Grammar}
+use Rattle.roster_model.specs.declared.instance.Done.{Done}
+use Rattle.roster_model.specs.declared.instance.Done.TheVariants.{Equal, NoRoster, TurnsOut}
+use Rattle.roster_model.specs.declared.instance.Instance.{Instance}
+use Rattle.arc_laws.specs.Lists.{AreArcs}
+use Rattle.certificate_laws.specs.Right.{YesIsRight}
+use Rattle.branch_price.specs.declared.found.Found.{Found}
+use Rattle.branch_price.specs.Found.{IsFound, AreCounted}
+use Rattle.day_solver.specs.Solutions.{HasArcCount, IsReportText}
+use Rattle.proof_pieces.specs.CertOf.{proof_of}
+use Rattle.shelf.specs.Shelf.{Texts}
+use Rattle.text_commands.specs.Check.{IsInstanceOf, SaysDemandFault}
+use Rattle.text_commands.specs.Explain.{IsGrammarOf, SaysFault}
+use Rattle.text_commands.specs.Reader.{Holds}
+
+-- a master: whether it refuses hard nodes alone, and how many nodes it had refused before and has refused now
+pub record MasterView : Type 0 where
+  pub strict : Bool
+  pub before : ℕ
+  pub now : ℕ
+
+abbrev pub lent : Bool → ℕ → ℕ → MasterView
+lent strict before now = record { strict = strict; before = before; now = now }
+
+-- 0 where the bound is the cost, 1 where no roster is allowed, and 8 where the turns ran out
+abbrev pub done_status : Done → ℕ
+done_status Equal = 0
+done_status NoRoster = 1
+done_status TurnsOut = 8
+
+-- What a search found and stored. The stored text denotes a certificate that is accepted, so what it
+-- states is true: its shifts are an allowed roster of exactly its cost, and no allowed roster costs less
+-- than its bound.
+pub record Finds (i : Instance) (m : MasterView) (turns status : ℕ) (stored : List ℕ) (f : Found) : Type 0 where
+  -- the certificate is accepted, its bound is what its tree shows, its nodes are right, and the status says
+  -- how the search ended: the bound is the cost, or no roster is allowed, unless all turns were used
+  pub searched : IsFound i m.strict turns f
+  pub counted : AreCounted i m.before m.now f
+  pub status_is : status ≡ done_status f.done
+  -- the stored text alone shows it
+  pub denotes : proof_of i stored ≡ Ok f.cert
+  pub right : YesIsRight i f.cert
+
+-- status 0, 1 or 8: the certificate is stored, and its report is said
+pub record SaysFound (i : Instance) (m : MasterView) (turns status : ℕ) (output stored : List ℕ) : Type 0 where
+  pub arcs : ℕ
+  pub few : HasArcCount i.grammar arcs
+  pub found : Found
+  pub finds : Finds i m turns status stored found
+  pub report : IsReportText i found output
+
+-- the line of an instance with too many arcs
+abbrev pub arcs_line : ℕ → List ℕ
+arcs_line count = codes "graph: " ++ decimal count ++ codes " arcs, at most 100000\n"
+
+-- status 9: the instance has more than 100,000 arcs
+pub record SaysTooManyArcs (g : Grammar) (output : List ℕ) : Type 0 where
+  pub listed : List ArcKey
+  pub are : AreArcs g listed
+  pub many : 100000 < length listed
+  pub line : output ≡ arcs_line (length listed)
+
+-- the answers for an instance
+pub data Solving (i : Instance) (m : MasterView) (turns : ℕ) : ℕ → List ℕ → Option (List ℕ) → Type 0 where
+  found : (status : ℕ) (output stored : List ℕ) → SaysFound i m turns status output stored
+      → Solving i m turns status output (Some stored)
+  too_many : (output : List ℕ) → SaysTooManyArcs i.grammar output → Solving i m turns 9 output None
+
+-- the answers to a demand text
+pub data SolvesDemand (g : Grammar) (text : List ℕ) (m : MasterView) (turns : ℕ) :
+    ℕ → List ℕ → Option (List ℕ) → Type 0 where
+  accepted : (i : Instance) (status : ℕ) (output : List ℕ) (stored : Option (List ℕ)) → IsInstanceOf g text i
+      → Solving i m turns status output stored → SolvesDemand g text m turns status output stored
+  refused : (output : List ℕ) → SaysDemandFault g text output → SolvesDemand g text m turns 4 output None
+
+-- the same, where the demand text stands under a name
+pub record AnswersSolveDemand (held : Option Texts) (g : Grammar) (name : List ℕ) (m : MasterView)
+    (turns status : ℕ) (output : List ℕ) (stored : Option (List ℕ)) : Type 0 where
+  pub text : List ℕ
+  pub holds : Holds held name text
+  pub answers : SolvesDemand g text m turns status output stored
+
+-- the answers to a rules text, and then to the demand text under a name
+pub data SolvesRules (held : Option Texts) (text demand_name : List ℕ) (m : MasterView) (turns : ℕ) :
+    ℕ → List ℕ → Option (List ℕ) → Type 0 where
+  accepted : (g : Grammar) (status : ℕ) (output : List ℕ) (stored : Option (List ℕ)) → IsGrammarOf text g
+      → AnswersSolveDemand held g demand_name m turns status output stored
+      → SolvesRules held text demand_name m turns status output stored
+  refused : (output : List ℕ) → SaysFault text output → SolvesRules held text demand_name m turns 3 output None
+
+-- the same, where the rules text stands under a name
+pub record AnswersSolve (held : Option Texts) (name demand_name : List ℕ) (m : MasterView) (turns status : ℕ)
+    (output : List ℕ) (stored : Option (List ℕ)) : Type 0 where
+  pub text : List ℕ
+  pub holds : Holds held name text
+  pub answers : SolvesRules held text demand_name m turns status output stored

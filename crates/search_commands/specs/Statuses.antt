@@ -1,0 +1,15 @@
+-- No answer for an old certificate has the status of a refusal.
+use Rattle.std.proofs.Common.{◌≡◌, ◌≢◌, ℕ, List, arith}
+use Rattle.roster_model.specs.declared.instance.Instance.{Instance}
+use Rattle.certificates.specs.declared.cert.Cert.{Cert}
+use Rattle.proof_reuse.specs.declared.nodes.Reused.{Reused}
+use Rattle.proof_reuse.specs.declared.nodes.Reused.TheVariants.{Bound, Refused}
+use Rattle.search_commands.specs.Reuse.{Reusing, reused_status}
+use Rattle.text_commands.specs.Statuses.{ends_at}
+
+reused_at : (s : ℕ) (r : Reused) → s ≡ reused_status r → (s ≢ 6) × (s ≢ 7)
+reused_at s (Bound bound) e = ends_at s 0 e (omega arith)
+reused_at s (Refused why) e = ends_at s 1 e (omega arith)
+
+pub reused-ends : (i : Instance) (c : Cert) (s : ℕ) (output : List ℕ) → Reusing i c s output → (s ≢ 6) × (s ≢ 7)
+reused-ends i c s output h = reused_at s h.reused h.status_is

@@ -1,0 +1,59 @@
+-- Parts of a command that stores one text and then says one answer.
+use Rattle.std.specs.Prelude.{ℕ, ◌≡◌, ◌≢◌, ◌⊎◌, ◌<◌, ◌≤◌, IsTrue, List, ◌++◌, Option, None, Some, Result, Ok, Err, IfSome, IsSomeAnd}
+use Rattle.std.specs.FinMap as fin
+use Rattle.roster_model.specs.declared.memory.Memory.{Memory}
+use Rattle.shelf.specs.Shelf.{Texts, Told, AgreesElsewhere, one_more, most_faults}
+use Rattle.text_commands.specs.declared.answer.Answer.{Answer}
+use Rattle.text_commands.specs.Reader.{HoldsAll, Said}
+
+-- answers by status, by what is said and by what is stored before, if anything is
+abbrev pub Answers : Type 1
+Answers = ℕ → List ℕ → Option (List ℕ) → Type 0
+
+-- nothing was stored, or this text under the name and nothing else
+abbrev pub IsStored : Option Texts → Option Texts → List ℕ → Option (List ℕ) → Type 0
+IsStored before after name None = after ≡ before
+IsStored before after name (Some text) = IfSome before (λ texts. after ≡ Some (fin.insert texts name text))
+
+-- a front of an output that some status allows was said, what goes with it is stored, and nothing else
+pub record WroteFront (A : Answers) (name : List ℕ) (before after : Told) (old new : List ℕ) : Type 0 where
+  pub status : ℕ
+  pub output : List ℕ
+  pub stored : Option (List ℕ)
+  pub answers : A status output stored
+  pub front : List ℕ
+  pub rest : List ℕ
+  pub whole : output ≡ front ++ rest
+  pub said : new ≡ old ++ front
+  pub held : IsStored before.held after.held name stored
+
+-- nothing was said, or a front of an allowed output
+abbrev pub WroteLittle : Answers → List ℕ → Told → Told → List ℕ → List ℕ → Type 0
+WroteLittle A name before after old new = (new ≡ old) ⊎ WroteFront A name before after old new
+
+-- What a command does that stores a text under a name. `A` says with which statuses it may end, what it
+-- says then and what it stores before; `names` are those of the texts that it fetches. Status 6 is a
+-- refusal of the shelf, and 7 want of memory.
+pub record IsWriter (A : Answers) (names : List (List ℕ)) (name : List ℕ) (before after : Told)
+    (status : ℕ) : Type 0 where
+  -- no other name changes, whatever the status
+  pub others : IfSome before.held (λ texts. IsSomeAnd after.held (AgreesElsewhere name texts))
+  -- an answer is one of the allowed ones: it is said whole, and what goes with it is stored
+  pub answer : status ≢ 6 → status ≢ 7 → (output : List ℕ) × (stored : Option (List ℕ)) × A status output stored
+      × Said before.said after.said output × IsStored before.held after.held name stored
+  -- after a refusal no more was said than a front of an allowed answer, once what goes with it was stored
+  pub front : IfSome before.said (λ said. IsSomeAnd after.said (WroteLittle A name before after said))
+  -- the shelf refuses only where it counts a fault, or its count stands at its last value
+  pub never_falls : before.faults ≤ after.faults
+  pub cause : status ≡ 6 → one_more before.faults ≤ after.faults
+  -- a steady shelf that holds the texts refuses nothing
+  pub steady : IsTrue before.steady → HoldsAll before.held names → before.faults < most_faults → status ≢ 6
+
+-- the one answer that was made, once the text was stored, unless memory ran out
+abbrev pub IsStoredAnswer : Result Answer Memory → List ℕ → Answers
+IsStoredAnswer (Ok a) text status output stored = (status ≡ a.status) × (output ≡ a.output) × (stored ≡ Some text)
+IsStoredAnswer (Err e) text status output stored = ⊥
+
+-- answers that store nothing
+abbrev pub StoresNothing : (ℕ → List ℕ → Type 0) → Answers
+StoresNothing A status output stored = A status output × (stored ≡ None)

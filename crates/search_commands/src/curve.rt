@@ -1,0 +1,364 @@
+ghost use Rattle.std.specs.Prelude.{ℕ, ◌≡◌, ◌≢◌, ◌≤◌, ◌<◌, ◌+◌, [], ◌∷◌, string_bytes, IfOk, MatchResult};
+ghost use Rattle.std.specs.List.{list_all};
+ghost use Rattle.day_solver.specs.Solutions.{HasArcCount};
+ghost use Rattle.proof_reuse.specs.Curves.{first_heads, point_count};
+ghost use Rattle.reuse_report.specs.CurveText.{curve_text};
+ghost use Rattle.roster_model.specs.Sound.{IsPlain, IsSound};
+ghost use Rattle.roster_model.specs.SoundInstance.{IsSoundInstance};
+ghost use Rattle.search_commands.specs.Curve.{
+  AnswersCurve,
+  AnswersCurveDemand,
+  Curving,
+  CurvesDemand,
+  CurvesRules,
+  curve_status,
+  has_no_cost,
+  is_closed,
+  point_name,
+};
+ghost use Rattle.search_commands.specs.Points.{AnswersGroups, BreaksCurve, FindsFirst, FindsPoint};
+ghost use Rattle.text_commands.specs.Reader.{IsReader};
+ghost use Rattle.search_commands.specs.Series.{IsBrokenOff, IsSeriesWriter, IsStoredBy};
+ghost use Rattle.search_commands.specs.Solve.{lent};
+
+use crate::solve::graph_refusal;
+use branch_price::Master;
+use day_curve::DayCurve;
+use demand_text::read_demand;
+use reuse_report::{CurvePoint, write_curve};
+use roster_model::{Grammar, Instance, Memory};
+use rules_text::read_rules;
+use shelf::Shelf;
+use std::alloc::Global;
+use text_commands::answer::Answer;
+use text_commands::ask::demand_refusal;
+use text_commands::explain::refusal;
+use text_commands::fetch::{fetched, say_answer};
+use text_commands::say::{MEMORY, say, status_of};
+
+const GROUPS: &[u8] = b"demand: groups have no curve\n";
+
+// Returns the name that a point's certificate is stored under.
+fn point_name(alloc: Global, proof: &str, heads: u32) -> Result<String, Memory>
+    ensures { IfOk result (λ name. string_bytes name ≡ point_name proof.now heads) }
+{
+    match format!(in alloc; "{proof}.{heads}") {
+        Ok(name) => Ok(name),
+        Err(_) => Err(Memory),
+    }
+}
+
+// Stores a text under a name, or returns the status of a refusal.
+fn store_text<S: Shelf>(shelf: &mut S, name: &str, text: &[u8]) -> Result<(), u8>
+    ensures { MatchResult result
+        (λ _. IsStoredBy (record { name = name.now; text = text.now } ∷ []) (S.told shelf.old) (S.told shelf.new))
+        (IsBrokenOff [] name.now (S.told shelf.old) (S.told shelf.new)) }
+{
+    match shelf.store(name, text) {
+        Ok(()) => Ok(()),
+        Err(fault) => Err(status_of(fault)),
+    }
+}
+
+// Stores the certificate of a point, or returns the status of a refusal.
+fn store_point<S: Shelf>(
+    alloc: Global,
+    shelf: &mut S,
+    proof: &str,
+    heads: u32,
+    text: &[u8],
+) -> Result<(), u8>
+    ensures { MatchResult result
+        (λ _. IsStoredBy (record { name = point_name proof.now heads; text = text.now } ∷ []) (S.told shelf.old)
+        (S.told shelf.new))
+        (IsBrokenOff [] (point_name proof.now heads) (S.told shelf.old) (S.told shelf.new)) }
+{
+    match point_name(alloc, proof, heads) {
+        Ok(name) => store_text(shelf, name.as_str(), text),
+        Err(Memory) => Err(MEMORY),
+    }
+}
+
+// Searches the next point of a curve and stores its certificate, or returns the status of a refusal.
+fn next_point<S: Shelf, M: Master>(
+    alloc: Global,
+    shelf: &mut S,
+    curve: &mut DayCurve,
+    proof: &str,
+    turns: u32,
+    master: &mut M,
+) -> Result<CurvePoint, u8>
+    requires more { curve.old.given < point_count curve.old.day }
+    requires some { 1 ≤ turns }
+    requires few { turns ≤ 10000 }
+    ensures given { IfOk result (λ _. curve.new ≡ record curve.old { given = curve.old.given + 1 }) }
+    ensures point { MatchResult result
+        (FindsPoint curve.old.day proof.now (lent (M.strict master.old) (M.refused master.old)
+        (M.refused master.new)) turns (first_heads curve.old.day + curve.old.given) (S.told shelf.old)
+        (S.told shelf.new))
+        (IsBrokenOff [] (point_name proof.now (first_heads curve.old.day + curve.old.given)) (S.told shelf.old)
+        (S.told shelf.new)) }
+    ensures strict_stays { M.strict master.new ≡ M.strict master.old }
+{
+    let solution = match curve.next(turns, master) {
+        Ok(solution) => solution,
+        Err(Memory) => return Err(MEMORY),
+    };
+    let heads = curve.heads();
+    store_point(alloc, shelf, proof, heads, solution.proof.as_slice())?;
+    Ok(CurvePoint::of(heads, &solution.found))
+}
+
+// Searches the points of a curve and stores their certificates, or returns the status of a refusal.
+fn all_points<S: Shelf, M: Master>(
+    alloc: Global,
+    shelf: &mut S,
+    curve: &mut DayCurve,
+    proof: &str,
+    turns: u32,
+    master: &mut M,
+) -> Result<Vec<CurvePoint>, u8>
+    requires none { curve.old.given ≡ 0 }
+    requires points { 0 < point_count curve.old.day }
+    requires some { 1 ≤ turns }
+    requires few { turns ≤ 10000 }
+    ensures { MatchResult result
+        (λ points. FindsFirst curve.old.day proof.now (lent (M.strict master.old) (M.refused master.old)
+        (M.refused master.new)) turns (point_count curve.old.day) (S.told shelf.old) (S.told shelf.new)
+        points.items)
+        (BreaksCurve curve.old.day proof.now (lent (M.strict master.old) (M.refused master.old)
+        (M.refused master.new)) turns (S.told shelf.old) (S.told shelf.new)) }
+{
+    let count = curve.points();
+    let Ok(mut points) = Vec::with_capacity(alloc, count as usize) else {
+        return Err(MEMORY);
+    };
+    for _ in 0..count {
+        let point = next_point(alloc, shelf, curve, proof, turns, master)?;
+        points.push_reserved(point);
+    }
+    Ok(points)
+}
+
+// Returns whether the cost and the bound of a point are one number, or both none.
+fn is_closed(point: &CurvePoint) -> bool
+    ensures { result ≡ is_closed point.now }
+{
+    match (point.cost, point.bound) {
+        (None, None) => true,
+        (Some(cost), Some(bound)) => cost == bound,
+        _ => false,
+    }
+}
+
+fn has_no_cost(point: &CurvePoint) -> bool
+    ensures { result ≡ has_no_cost point.now }
+{
+    point.cost.is_none()
+}
+
+// Returns whether no point is left open.
+fn are_closed(points: &[CurvePoint]) -> bool
+    ensures { result ≡ list_all is_closed points.now }
+{
+    points.iter().all(|point| is_closed(point))
+}
+
+// Returns whether no point has a cost.
+fn have_no_cost(points: &[CurvePoint]) -> bool
+    ensures { result ≡ list_all has_no_cost points.now }
+{
+    points.iter().all(|point| has_no_cost(point))
+}
+
+// Returns the status of a curve.
+fn status_of_points(points: &[CurvePoint]) -> u8
+    ensures { result ≡ curve_status points.now }
+{
+    if !are_closed(points) {
+        return 8;
+    }
+    if have_no_cost(points) {
+        return 1;
+    }
+    0
+}
+
+// Says the points of a curve.
+fn points_answer(alloc: Global, points: &[CurvePoint]) -> Result<Answer, Memory>
+    ensures { IfOk result (λ a. (a.status ≡ curve_status points.now) × (a.output ≡ curve_text points.now)) }
+{
+    Ok(Answer {
+        status: status_of_points(points),
+        output: write_curve(alloc, points)?,
+    })
+}
+
+// Searches a curve of which no point is given, stores the certificates of its points and says them.
+fn curve_points<S: Shelf, M: Master>(
+    alloc: Global,
+    shelf: &mut S,
+    curve: &mut DayCurve,
+    proof: &str,
+    turns: u32,
+    master: &mut M,
+) -> u8
+    requires none { curve.old.given ≡ 0 }
+    requires points { 0 < point_count curve.old.day }
+    requires plain { curve.old.day.groups ≡ [] }
+    requires arcs { (arcs : ℕ) × HasArcCount curve.old.day.grammar arcs }
+    requires some { 1 ≤ turns }
+    requires few { turns ≤ 10000 }
+    ensures { IsSeriesWriter (Curving curve.old.day proof.now (lent (M.strict master.old) (M.refused master.old)
+        (M.refused master.new)) turns) [] (S.told shelf.old) (S.told shelf.new) result }
+{
+    match all_points(alloc, shelf, curve, proof, turns, master) {
+        Ok(points) => say_answer(shelf, points_answer(alloc, points.as_slice())),
+        Err(status) => status,
+    }
+}
+
+// Searches the curve of an instance without groups, or says that it has too many arcs.
+fn curve_plain<S: Shelf, M: Master>(
+    alloc: Global,
+    shelf: &mut S,
+    instance: Instance,
+    proof: &str,
+    turns: u32,
+    master: &mut M,
+) -> u8
+    requires sound { IsSoundInstance instance }
+    requires plain { instance.groups ≡ [] }
+    requires some { 1 ≤ turns }
+    requires few { turns ≤ 10000 }
+    ensures { IsSeriesWriter (Curving instance proof.now (lent (M.strict master.old) (M.refused master.old)
+        (M.refused master.new)) turns) [] (S.told shelf.old) (S.told shelf.new) result }
+{
+    match DayCurve::new(alloc, instance) {
+        Ok(mut curve) => curve_points(alloc, shelf, &mut curve, proof, turns, master),
+        Err(fault) => say_answer(shelf, graph_refusal(alloc, fault)),
+    }
+}
+
+// Says that a day with groups has no curve.
+fn refuse_groups<S: Shelf>(shelf: &mut S) -> u8
+    ensures { IsReader AnswersGroups [] (S.told shelf.old) (S.told shelf.new) result }
+{
+    say(shelf, GROUPS, 4)
+}
+
+// Searches the curve of an instance, or says that it has groups.
+fn curve_instance<S: Shelf, M: Master>(
+    alloc: Global,
+    shelf: &mut S,
+    instance: Instance,
+    proof: &str,
+    turns: u32,
+    master: &mut M,
+) -> u8
+    requires sound { IsSoundInstance instance }
+    requires some { 1 ≤ turns }
+    requires few { turns ≤ 10000 }
+    ensures { IsSeriesWriter (Curving instance proof.now (lent (M.strict master.old) (M.refused master.old)
+        (M.refused master.new)) turns) [] (S.told shelf.old) (S.told shelf.new) result }
+{
+    if instance.groups.is_empty() {
+        return curve_plain(alloc, shelf, instance, proof, turns, master);
+    }
+    refuse_groups(shelf)
+}
+
+// Searches the curve of a demand text by the grammar of a rules text.
+fn curve_demand_text<S: Shelf, M: Master>(
+    alloc: Global,
+    shelf: &mut S,
+    grammar: Grammar,
+    text: &[u8],
+    proof: &str,
+    turns: u32,
+    master: &mut M,
+) -> u8
+    requires sound { IsSound grammar }
+    requires plain { IsPlain grammar }
+    requires some { 1 ≤ turns }
+    requires few { turns ≤ 10000 }
+    ensures { IsSeriesWriter (CurvesDemand grammar text.now proof.now (lent (M.strict master.old)
+        (M.refused master.old) (M.refused master.new)) turns) [] (S.told shelf.old) (S.told shelf.new) result }
+{
+    match read_demand(alloc, grammar, text) {
+        Ok(instance) => curve_instance(alloc, shelf, instance, proof, turns, master),
+        Err(fault) => say_answer(shelf, demand_refusal(alloc, fault)),
+    }
+}
+
+// Searches the curve of the demand text under a name by the grammar of a rules text.
+fn curve_demand<S: Shelf, M: Master>(
+    alloc: Global,
+    shelf: &mut S,
+    grammar: Grammar,
+    demand: &str,
+    proof: &str,
+    turns: u32,
+    master: &mut M,
+) -> u8
+    requires sound { IsSound grammar }
+    requires plain { IsPlain grammar }
+    requires some { 1 ≤ turns }
+    requires few { turns ≤ 10000 }
+    ensures { IsSeriesWriter (AnswersCurveDemand (S.told shelf.old).held grammar demand.now proof.now
+        (lent (M.strict master.old) (M.refused master.old) (M.refused master.new)) turns) (demand.now ∷ [])
+        (S.told shelf.old) (S.told shelf.new) result }
+{
+    match fetched(alloc, shelf, demand) {
+        Ok(text) => curve_demand_text(alloc, shelf, grammar, text.as_slice(), proof, turns, master),
+        Err(status) => status,
+    }
+}
+
+// Searches the curve of the demand text under a name by a rules text.
+fn curve_rules_text<S: Shelf, M: Master>(
+    alloc: Global,
+    shelf: &mut S,
+    text: &[u8],
+    demand: &str,
+    proof: &str,
+    turns: u32,
+    master: &mut M,
+) -> u8
+    requires some { 1 ≤ turns }
+    requires few { turns ≤ 10000 }
+    ensures { IsSeriesWriter (CurvesRules (S.told shelf.old).held text.now demand.now proof.now
+        (lent (M.strict master.old) (M.refused master.old) (M.refused master.new)) turns) (demand.now ∷ [])
+        (S.told shelf.old) (S.told shelf.new) result }
+{
+    match read_rules(alloc, text) {
+        Ok(grammar) => curve_demand(alloc, shelf, grammar, demand, proof, turns, master),
+        Err(fault) => say_answer(shelf, refusal(alloc, fault)),
+    }
+}
+
+/// Searches the curve of a day's least costs over its greatest head count, by the rules and demand texts under
+/// names, each point within so many turns; stores the certificate of each point under the name of the proof, a
+/// full stop and the head count, and then says the points; or says why a text is refused, that the day has
+/// groups, or that there are too many arcs. The texts are fetched and read in this order, before anything is
+/// stored.
+pub fn curve<S: Shelf, M: Master>(
+    alloc: Global,
+    shelf: &mut S,
+    rules: &str,
+    demand: &str,
+    proof: &str,
+    turns: u32,
+    master: &mut M,
+) -> u8
+    requires some { 1 ≤ turns }
+    requires few { turns ≤ 10000 }
+    ensures { IsSeriesWriter (AnswersCurve (S.told shelf.old).held rules.now demand.now proof.now
+        (lent (M.strict master.old) (M.refused master.old) (M.refused master.new)) turns)
+        (rules.now ∷ demand.now ∷ []) (S.told shelf.old) (S.told shelf.new) result }
+{
+    match fetched(alloc, shelf, rules) {
+        Ok(text) => curve_rules_text(alloc, shelf, text.as_slice(), demand, proof, turns, master),
+        Err(status) => status,
+    }
+}

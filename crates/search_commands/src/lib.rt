@@ -1,0 +1,9 @@
+//! Commands that stand on the search: a roster of least cost for a day, for one that is made from a number,
+//! for each greatest head count, and what an old certificate still shows.
+#![tactic(auto)]
+
+pub mod curve;
+pub mod make;
+pub mod reuse;
+pub mod solve;
+mod store;

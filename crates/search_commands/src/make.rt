@@ -1,0 +1,99 @@
+ghost use Rattle.std.specs.Prelude.{ℕ, ◌≡◌, ◌≤◌, [], IfOk};
+ghost use Rattle.roster_model.specs.SoundInstance.{IsSoundInstance};
+ghost use Rattle.made_days.specs.Made.{made_instance};
+ghost use Rattle.roster_report.specs.SummaryText.{summary_text};
+ghost use Rattle.search_commands.specs.Make.{AnswersMake, summary_of};
+ghost use Rattle.search_commands.specs.Solve.{done_status, lent};
+ghost use Rattle.search_commands.specs.Writer.{IsWriter};
+
+use crate::solve::{graph_refusal, status_of_done};
+use crate::store::store_and_say;
+use branch_price::Master;
+use day_solver::{Solution, solve_day};
+use made_days::make_instance;
+use roster_model::{Instance, Memory};
+use roster_report::{Summary, write_summary};
+use shelf::Shelf;
+use std::alloc::Global;
+use text_commands::answer::Answer;
+use text_commands::fetch::say_answer;
+use text_commands::say::MEMORY;
+
+// Says the summary of what a search found on the day that is made from a number.
+fn summary_answer(
+    alloc: Global,
+    number: u32,
+    instance: &Instance,
+    solution: &Solution,
+) -> Result<Answer, Memory>
+    requires { instance.now ≡ made_instance number }
+    ensures { IfOk result (λ a. (a.status ≡ done_status solution.now.found.done)
+        × (a.output ≡ summary_text (summary_of number solution.now.arcs solution.now.found))) }
+{
+    let found = &solution.found;
+    let summary = Summary {
+        number,
+        periods: instance.grammar.periods,
+        arcs: solution.arcs,
+        done: found.done,
+        cost: found.cert.cost,
+        bound: found.cert.bound,
+        processed: found.processed,
+        failed: found.failed,
+    };
+    Ok(Answer {
+        status: status_of_done(found.done),
+        output: write_summary(alloc, &summary)?,
+    })
+}
+
+// Searches the day that is made from a number.
+fn solve_made<S: Shelf, M: Master>(
+    alloc: Global,
+    shelf: &mut S,
+    number: u32,
+    instance: &Instance,
+    proof: &str,
+    turns: u32,
+    master: &mut M,
+) -> u8
+    requires made { instance.now ≡ made_instance number }
+    requires sound { IsSoundInstance instance.now }
+    requires some { 1 ≤ turns }
+    requires few { turns ≤ 10000 }
+    ensures { IsWriter (AnswersMake number (lent (M.strict master.old) (M.refused master.old)
+        (M.refused master.new)) turns) [] proof.now (S.told shelf.old) (S.told shelf.new)
+        result }
+{
+    match solve_day(alloc, instance, turns, master) {
+        Ok(solution) => store_and_say(
+            shelf,
+            proof,
+            solution.proof.as_slice(),
+            summary_answer(alloc, number, instance, &solution),
+        ),
+        Err(fault) => say_answer(shelf, graph_refusal(alloc, fault)),
+    }
+}
+
+/// Makes a day from a number, searches a roster of least cost for it within so many turns, stores its
+/// certificate under the name of the proof, and says a summary; or says that there are too many arcs.
+pub fn make<S: Shelf, M: Master>(
+    alloc: Global,
+    shelf: &mut S,
+    number: u32,
+    proof: &str,
+    turns: u32,
+    master: &mut M,
+) -> u8
+    requires some { 1 ≤ turns }
+    requires few { turns ≤ 10000 }
+    ensures { IsWriter (AnswersMake number (lent (M.strict master.old) (M.refused master.old)
+        (M.refused master.new)) turns) [] proof.now (S.told shelf.old) (S.told shelf.new)
+        result }
+{
+    match make_instance(alloc, number) {
+        Ok(instance) => solve_made(alloc, shelf, number, &instance, proof, turns, master),
+        Err(Memory) => MEMORY,
+    }
+}

@@ -1,0 +1,94 @@
+ghost use Rattle.std.specs.Prelude.{◌≡◌, ◌≢◌, [], ◌∷◌, IfOk};
+ghost use Rattle.roster_model.specs.SoundInstance.{IsSoundInstance};
+ghost use Rattle.certificates.specs.Sound.{IsSoundCert};
+ghost use Rattle.proof_pieces.specs.FaultLine as proof_line;
+ghost use Rattle.text_commands.specs.Check.{ProofAnswers};
+ghost use Rattle.search_commands.specs.Reuse.{AnswersReuse, Reusing, reused_status};
+ghost use Rattle.text_commands.specs.Reader.{IsReader};
+
+use bound_proof::read_cert;
+use certificates::Cert;
+use proof_pieces::ProofFault;
+use proof_reuse::Reused;
+use reuse_report::write_reused;
+use roster_model::{Instance, Memory};
+use shelf::Shelf;
+use std::alloc::Global;
+use text_commands::answer::Answer;
+use text_commands::ask::ask;
+use text_commands::question::Question;
+
+// Says why a proof text is refused.
+fn text_refusal(alloc: Global, fault: ProofFault) -> Result<Answer, Memory>
+    ensures { IfOk result (λ a. (fault ≢ ProofFault.Memory) × (a.status ≡ 5)
+        × (a.output ≡ proof_line.fault_line fault)) }
+{
+    match fault {
+        ProofFault::Memory => Err(Memory),
+        _ => Ok(Answer {
+            status: 5,
+            output: proof_pieces::fault_line(alloc, &fault)?,
+        }),
+    }
+}
+
+// Returns the status of what old nodes show: 0 for a bound, and 1 for a refusal.
+fn status_of_reused(reused: &Reused) -> u8
+    ensures { result ≡ reused_status reused.now }
+{
+    match reused {
+        Reused::Bound(_) => 0,
+        Reused::Refused(_) => 1,
+    }
+}
+
+// Says what the nodes of a certificate show.
+fn reused(alloc: Global, instance: &Instance, cert: Cert) -> Result<Answer, Memory>
+    requires sound { IsSoundInstance instance.now }
+    requires cert { IsSoundCert instance.now cert }
+    ensures { IfOk result (λ a. Reusing instance.now cert a.status a.output) }
+{
+    let reused = proof_reuse::reuse(alloc, instance, cert)?;
+    Ok(Answer {
+        status: status_of_reused(&reused),
+        output: write_reused(alloc, &reused)?,
+    })
+}
+
+// Says what the nodes of the certificate of a proof text show on a day that it need not have been found for, or
+// why the text or the nodes are refused.
+fn reusing(alloc: Global, instance: &Instance, text: &[u8]) -> Result<Answer, Memory>
+    requires { IsSoundInstance instance.now }
+    ensures { IfOk result (λ a. ProofAnswers Reusing instance.now text.now a.status a.output) }
+{
+    match read_cert(alloc, instance, text) {
+        Ok(cert) => reused(alloc, instance, cert),
+        Err(fault) => text_refusal(alloc, fault),
+    }
+}
+
+// What the nodes of a certificate show on the day, which it need not have been found for.
+struct OldNodes;
+
+impl Question for OldNodes {
+    ghost use Rattle.search_commands.specs.Reuse.{Reusing};
+    ghost use Rattle.search_commands.specs.Statuses.{reused-ends};
+
+    ghost answers = { λ _. Reusing };
+
+    ghost ends = { λ _. reused-ends };
+
+    fn answer(&self, alloc: Global, instance: &Instance, text: &[u8]) -> Result<Answer, Memory> {
+        reusing(alloc, instance, text)
+    }
+}
+
+/// Says what the nodes of a certificate show on a day that it need not have been found for, by the rules,
+/// demand and proof texts under names, or why a text or the nodes are refused. The texts are fetched and read in
+/// this order.
+pub fn reuse<S: Shelf>(alloc: Global, shelf: &mut S, rules: &str, demand: &str, proof: &str) -> u8
+    ensures { IsReader (AnswersReuse (S.told shelf.old).held rules.now demand.now proof.now)
+        (rules.now ∷ demand.now ∷ proof.now ∷ []) (S.told shelf.old) (S.told shelf.new) result }
+{
+    ask(alloc, shelf, rules, demand, proof, &OldNodes)
+}

@@ -1,0 +1,205 @@
+ghost use Rattle.std.specs.Prelude.{ℕ, ◌≡◌, ◌≢◌, ◌≤◌, [], ◌∷◌, Bool, IfOk};
+ghost use Rattle.roster_model.specs.Sound.{IsPlain, IsSound};
+ghost use Rattle.roster_model.specs.SoundInstance.{IsSoundInstance};
+ghost use Rattle.parse_graph.specs.Graphs.{IsRefused};
+ghost use Rattle.branch_price.specs.Found.{IsFound};
+ghost use Rattle.day_solver.specs.Solutions.{IsReportText};
+ghost use Rattle.search_commands.specs.Solve.{
+  AnswersSolve,
+  AnswersSolveDemand,
+  SaysTooManyArcs,
+  Solving,
+  SolvesDemand,
+  SolvesRules,
+  arcs_line,
+  done_status,
+  lent,
+};
+ghost use Rattle.search_commands.specs.Writer.{IsWriter};
+
+use crate::store::store_and_say;
+use branch_price::{Done, Found, Master};
+use day_solver::{solution_report, solve_day};
+use demand_text::read_demand;
+use parse_graph::GraphFault;
+use roster_model::{Grammar, Instance, List, Memory};
+use rules_text::read_rules;
+use shelf::Shelf;
+use std::alloc::Global;
+use text_commands::answer::Answer;
+use text_commands::ask::demand_refusal;
+use text_commands::explain::refusal;
+use text_commands::fetch::{fetched, say_answer};
+use text_lines::{put, write_number};
+
+/// Returns the status of a search that ended so.
+pub fn status_of_done(done: Done) -> u8
+    ensures { result ≡ done_status done }
+{
+    match done {
+        Done::Equal => 0,
+        Done::NoRoster => 1,
+        Done::TurnsOut => 8,
+    }
+}
+
+// Writes the line of an instance with too many arcs.
+fn arcs_line(alloc: Global, count: u64) -> Result<List<u8>, Memory>
+    ensures { IfOk result (λ line. line ≡ arcs_line count) }
+{
+    let mut out = List::new(alloc);
+    put(&mut out, b"graph: ")?;
+    write_number(&mut out, count as i128)?;
+    put(&mut out, b" arcs, at most 100000\n")?;
+    Ok(out)
+}
+
+/// Says that an instance has too many arcs.
+pub fn graph_refusal(alloc: Global, fault: GraphFault) -> Result<Answer, Memory>
+    ensures { IfOk result (λ a. (a.status ≡ 9) × ((g : Grammar) → IsRefused g fault
+        → SaysTooManyArcs g a.output)) }
+{
+    match fault {
+        GraphFault::TooManyArcs { count } => Ok(Answer {
+            status: 9,
+            output: arcs_line(alloc, count)?,
+        }),
+        GraphFault::Memory => Err(Memory),
+    }
+}
+
+// Says the report of what a search found.
+fn report_answer(alloc: Global, instance: &Instance, found: &Found) -> Result<Answer, Memory>
+    requires sound { IsSoundInstance instance.now }
+    requires found { (strict : Bool) × (turns : ℕ) × IsFound instance.now strict turns found.now }
+    ensures { IfOk result (λ a. (a.status ≡ done_status found.now.done)
+        × IsReportText instance.now found.now a.output) }
+{
+    Ok(Answer {
+        status: status_of_done(found.done),
+        output: solution_report(alloc, instance, found)?,
+    })
+}
+
+// Searches an instance, stores the certificate under a name, and says the report.
+fn solve_instance<S: Shelf, M: Master>(
+    alloc: Global,
+    shelf: &mut S,
+    instance: &Instance,
+    proof: &str,
+    turns: u32,
+    master: &mut M,
+) -> u8
+    requires sound { IsSoundInstance instance.now }
+    requires some { 1 ≤ turns }
+    requires few { turns ≤ 10000 }
+    ensures { IsWriter (Solving instance.now (lent (M.strict master.old) (M.refused master.old)
+        (M.refused master.new)) turns) [] proof.now (S.told shelf.old) (S.told shelf.new)
+        result }
+{
+    match solve_day(alloc, instance, turns, master) {
+        Ok(solution) => store_and_say(
+            shelf,
+            proof,
+            solution.proof.as_slice(),
+            report_answer(alloc, instance, &solution.found),
+        ),
+        Err(fault) => say_answer(shelf, graph_refusal(alloc, fault)),
+    }
+}
+
+// Solves a demand text by the grammar of a rules text.
+fn solve_demand_text<S: Shelf, M: Master>(
+    alloc: Global,
+    shelf: &mut S,
+    grammar: Grammar,
+    text: &[u8],
+    proof: &str,
+    turns: u32,
+    master: &mut M,
+) -> u8
+    requires sound { IsSound grammar }
+    requires plain { IsPlain grammar }
+    requires some { 1 ≤ turns }
+    requires few { turns ≤ 10000 }
+    ensures { IsWriter (SolvesDemand grammar text.now (lent (M.strict master.old) (M.refused master.old)
+        (M.refused master.new)) turns) [] proof.now (S.told shelf.old)
+        (S.told shelf.new) result }
+{
+    match read_demand(alloc, grammar, text) {
+        Ok(instance) => solve_instance(alloc, shelf, &instance, proof, turns, master),
+        Err(fault) => say_answer(shelf, demand_refusal(alloc, fault)),
+    }
+}
+
+// Solves the demand text under a name by the grammar of a rules text.
+fn solve_demand<S: Shelf, M: Master>(
+    alloc: Global,
+    shelf: &mut S,
+    grammar: Grammar,
+    demand: &str,
+    proof: &str,
+    turns: u32,
+    master: &mut M,
+) -> u8
+    requires sound { IsSound grammar }
+    requires plain { IsPlain grammar }
+    requires some { 1 ≤ turns }
+    requires few { turns ≤ 10000 }
+    ensures { IsWriter (AnswersSolveDemand (S.told shelf.old).held grammar demand.now (lent (M.strict master.old) (M.refused master.old)
+        (M.refused master.new)) turns)
+        (demand.now ∷ []) proof.now (S.told shelf.old) (S.told shelf.new) result }
+{
+    let text = match fetched(alloc, shelf, demand) {
+        Ok(text) => text,
+        Err(status) => return status,
+    };
+    solve_demand_text(alloc, shelf, grammar, text.as_slice(), proof, turns, master)
+}
+
+// Solves the demand text under a name by a rules text.
+fn solve_rules_text<S: Shelf, M: Master>(
+    alloc: Global,
+    shelf: &mut S,
+    text: &[u8],
+    demand: &str,
+    proof: &str,
+    turns: u32,
+    master: &mut M,
+) -> u8
+    requires some { 1 ≤ turns }
+    requires few { turns ≤ 10000 }
+    ensures { IsWriter (SolvesRules (S.told shelf.old).held text.now demand.now (lent (M.strict master.old) (M.refused master.old)
+        (M.refused master.new)) turns)
+        (demand.now ∷ []) proof.now (S.told shelf.old) (S.told shelf.new) result }
+{
+    match read_rules(alloc, text) {
+        Ok(grammar) => solve_demand(alloc, shelf, grammar, demand, proof, turns, master),
+        Err(fault) => say_answer(shelf, refusal(alloc, fault)),
+    }
+}
+
+/// Searches a roster of least cost by the rules and demand texts under names, within so many turns, stores
+/// its certificate under the name of the proof, and says the report; or says why a text is refused, or that
+/// there are too many arcs. The texts are fetched and read in this order, before anything is stored.
+pub fn solve<S: Shelf, M: Master>(
+    alloc: Global,
+    shelf: &mut S,
+    rules: &str,
+    demand: &str,
+    proof: &str,
+    turns: u32,
+    master: &mut M,
+) -> u8
+    requires some { 1 ≤ turns }
+    requires few { turns ≤ 10000 }
+    ensures { IsWriter (AnswersSolve (S.told shelf.old).held rules.now demand.now (lent (M.strict master.old) (M.refused master.old)
+        (M.refused master.new)) turns)
+        (rules.now ∷ demand.now ∷ []) proof.now (S.told shelf.old) (S.told shelf.new) result }
+{
+    let text = match fetched(alloc, shelf, rules) {
+        Ok(text) => text,
+        Err(status) => return status,
+    };
+    solve_rules_text(alloc, shelf, text.as_slice(), demand, proof, turns, master)
+}

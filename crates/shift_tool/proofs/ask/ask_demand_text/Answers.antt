@@ -1,9 +1,0 @@
-use Rattle.shift_tool.specs.Reuse.{answers_to}
-use Rattle.shift_tool.proofs.Checks.{demand-accepted, demand-refused}
-use Rattle.shift_tool.proofs.ask.ask_demand_text.Goals as goal
-
-pub returns-in-Ok : goal.returns-in-Ok
-returns-in-Ok g c = demand-accepted (answers_to c.args.question) _ _ _ c.args.grammar c.args.text.now c.args.proof.now c.in-Ok.instance c.in-Ok.ensures.value c.in-Ok.ensures.sound c.ask_proof.ensures
-
-pub returns-in-Err : goal.returns-in-Err
-returns-in-Err g c = demand-refused (answers_to c.args.question) _ _ _ c.args.grammar c.args.text.now c.args.proof.now c.in-Err.fault c.demand_refusal.result c.demand_refusal.ensures c.in-Err.ensures.value c.say_answer.ensures

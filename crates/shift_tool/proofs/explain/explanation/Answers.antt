@@ -1,9 +1,0 @@
-use Rattle.shift_tool.specs.Explain.{accepted}
-use Rattle.shift_tool.proofs.Derivations.{IfOk-map, fault-said}
-use Rattle.shift_tool.proofs.explain.explanation.Goals as goal
-
-pub returns-in-Ok : goal.returns-in-Ok
-returns-in-Ok c = IfOk-map _ _ _ (λ a h. accepted c.in-Ok.grammar a.status a.output (record { reading = c.in-Ok.ensures.value; sound = c.in-Ok.ensures.sound }) h) c.derivation.ensures
-
-pub returns-in-Err : goal.returns-in-Err
-returns-in-Err c = IfOk-map _ _ _ (λ a h. fault-said c.args.text.now c.args.word.now c.in-Err.fault a c.in-Err.ensures.value h) c.refusal.ensures

@@ -1,8 +1,0 @@
-use roster_model::List;
-
-/// How a command ends: its status, and what it says.
-#[derive(Drop)]
-pub struct Answer {
-    pub status: u8,
-    pub output: List<u8>,
-}

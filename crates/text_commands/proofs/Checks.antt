@@ -1,0 +1,110 @@
+-- The answers of commands that ask something of a certificate, from what their parts answer.
+use Rattle.std.proofs.Common.{◌≡◌, ◌≢◌, ℕ, ◌<◌, List, Option, Result, Ok, Err, IfOk, arith, refl, ap, ◌∙◌}
+use Rattle.std.specs.Prelude.{Some, None, [], ◌∷◌}
+use Rattle.roster_model.specs.declared.grammar.Grammar.{Grammar}
+use Rattle.roster_model.specs.declared.instance.Instance.{Instance}
+use Rattle.roster_model.specs.declared.memory.Memory.{Memory}
+use Rattle.certificates.specs.declared.cert.Cert.{Cert}
+use Rattle.certificates.specs.declared.verdict.Verdict.{Verdict}
+use Rattle.certificates.specs.declared.verdict.Verdict.TheVariants.{Yes, No}
+use Rattle.proof_check.specs.declared.judged.Judged.TheVariants.{Said, Fault}
+use Rattle.proof_check.specs.Judging.{IsJudged}
+use Rattle.proof_check.specs.Verdicts.{IsVerdict}
+use Rattle.shift_report.specs.VerdictText.{verdict_text}
+use Rattle.roster_model.specs.Sound.{IsSound}
+use Rattle.roster_model.specs.SoundInstance.{IsSoundInstance}
+use Rattle.demand_text.specs.declared.fault.DemandFault.{DemandFault}
+use Rattle.demand_text.specs.declared.fault.DemandFault.TheVariants as demand_faults
+use Rattle.demand_text.specs.FaultLine as demand
+use Rattle.demand_text.specs.InstanceOf.{instance_of}
+use Rattle.proof_pieces.specs.declared.fault.PieceFault.{PieceFault}
+use Rattle.proof_pieces.specs.declared.fault.ProofFault.{ProofFault}
+use Rattle.proof_pieces.specs.declared.fault.ProofFault.TheVariants as proof_faults
+use Rattle.proof_pieces.specs.CertOf.{proof_of, proof_fault}
+use Rattle.proof_pieces.specs.FaultLine as proof
+use Rattle.rules_text.specs.FaultLine.{fault_line}
+use Rattle.rules_text.specs.RulesOf.{IsReading}
+use Rattle.rules_text.specs.declared.fault.RulesFault.{RulesFault}
+use Rattle.rules_text.specs.declared.fault.RulesFault.TheVariants as rules_faults
+use Rattle.shelf.specs.Shelf.{Texts}
+use Rattle.text_commands.specs.declared.answer.Answer.{Answer}
+use Rattle.text_commands.specs.Check.{CertAnswers, Judgement, yes, no, verdict_status, ProofAnswers, AnswersProof, DemandAnswers, AnswersDemand, RulesAnswers}
+use Rattle.text_commands.specs.Check as check
+use Rattle.text_commands.specs.Fetch.{IsAnswer}
+use Rattle.shelf.specs.Shelf.{Told}
+use Rattle.text_commands.specs.Reader.{IsReader, HoldsAll}
+use Rattle.text_commands.specs.Statuses.{ends_at}
+use Rattle.text_commands.proofs.Readers.{widen}
+
+pub no_names : (held : Option Texts) (names : List (List ℕ)) → HoldsAll held names → HoldsAll held []
+no_names None names h = absurd h
+no_names (Some texts) names h = tt
+
+module _ (A : CertAnswers) where
+  refused_demand : (held : Option Texts) (g : Grammar) (text name : List ℕ) (fault : DemandFault) (r : Result Answer Memory)
+      → IfOk r (λ a. (fault ≢ demand_faults.Memory) × (a.status ≡ 4) × (a.output ≡ demand.fault_line fault)) → (fault ≢ demand_faults.Memory → instance_of g text ≡ Err fault)
+      → (status : ℕ) (output : List ℕ) → IsAnswer r status output → DemandAnswers A held g text name status output
+  refused_demand held g text name fault (Err e) h reading status output a = absurd a
+  refused_demand held g text name fault (Ok x) h reading status output a =
+      let s : status ≡ 4 = a.0 ∙ h.1 in
+      rw s (check.DemandAnswers.refused output (record { fault = fault; reading = reading h.0; line = a.1 ∙ h.2 }))
+
+  refused_rules : (held : Option Texts) (text demand_name proof_name : List ℕ) (fault : RulesFault) (r : Result Answer Memory)
+      → IfOk r (λ a. (fault ≢ rules_faults.Memory) × (a.status ≡ 3) × (a.output ≡ fault_line fault)) → (fault ≢ rules_faults.Memory → IsReading text (Err fault))
+      → (status : ℕ) (output : List ℕ) → IsAnswer r status output → RulesAnswers A held text demand_name proof_name status output
+  refused_rules held text demand_name proof_name fault (Err e) h reading status output a = absurd a
+  refused_rules held text demand_name proof_name fault (Ok x) h reading status output a =
+      let s : status ≡ 3 = a.0 ∙ h.1 in
+      rw s (check.RulesAnswers.refused output (record { fault = fault; reading = reading h.0; line = a.1 ∙ h.2 }))
+
+  pub text-refused : (i : Instance) (text : List ℕ) (fault : ProofFault) (r : Result Answer Memory) → (fault ≢ proof_faults.Memory → proof_of i text ≡ Err fault)
+      → IfOk r (λ a. (fault ≢ proof_faults.Memory) × (a.status ≡ 5) × (a.output ≡ proof.fault_line fault)) → IfOk r (λ a. ProofAnswers A i text a.status a.output)
+  text-refused i text fault (Err e) reading h = tt
+  text-refused i text fault (Ok a) reading h = rw h.1 (check.ProofAnswers.refused a.output (record { fault = fault; reading = reading h.0; line = h.2 }))
+
+  pub proof-refused : (i : Instance) (text : List ℕ) (fault : PieceFault) (r : Result Answer Memory) → IsJudged i text (Fault fault)
+      → IfOk r (λ a. (a.status ≡ 5) × (a.output ≡ proof.fault_line (proof_fault fault))) → IfOk r (λ a. ProofAnswers A i text a.status a.output)
+  proof-refused i text fault (Err e) judged h = tt
+  proof-refused i text fault (Ok a) judged h = rw h.0 (check.ProofAnswers.refused a.output (record { fault = proof_fault fault; reading = judged; line = h.1 }))
+
+module _ (A : CertAnswers) (before after : Told) (status : ℕ) where
+  pub demand-refused : (g : Grammar) (text name : List ℕ) (fault : DemandFault) (r : Result Answer Memory)
+      → IfOk r (λ a. (fault ≢ demand_faults.Memory) × (a.status ≡ 4) × (a.output ≡ demand.fault_line fault)) → (fault ≢ demand_faults.Memory → instance_of g text ≡ Err fault)
+      → IsReader (IsAnswer r) [] before after status → IsReader (DemandAnswers A before.held g text name) (name ∷ []) before after status
+  demand-refused g text name fault r h reading reader =
+      widen (IsAnswer r) (DemandAnswers A before.held g text name) (refused_demand A before.held g text name fault r h reading) (name ∷ []) [] before after status (no_names before.held (name ∷ [])) reader
+
+  pub demand-accepted : (g : Grammar) (text name : List ℕ) (i : Instance) → instance_of g text ≡ Ok i → IsSoundInstance i
+      → IsReader (AnswersProof A before.held i name) (name ∷ []) before after status → IsReader (DemandAnswers A before.held g text name) (name ∷ []) before after status
+  demand-accepted g text name i reading sound reader =
+      widen (AnswersProof A before.held i name) (DemandAnswers A before.held g text name) (λ s o a. check.DemandAnswers.accepted i s o (record { reading = reading; sound = sound }) a) (name ∷ []) (name ∷ []) before after status (λ h. h) reader
+
+  pub rules-refused : (text demand_name proof_name : List ℕ) (fault : RulesFault) (r : Result Answer Memory)
+      → IfOk r (λ a. (fault ≢ rules_faults.Memory) × (a.status ≡ 3) × (a.output ≡ fault_line fault)) → (fault ≢ rules_faults.Memory → IsReading text (Err fault))
+      → IsReader (IsAnswer r) [] before after status → IsReader (RulesAnswers A before.held text demand_name proof_name) (demand_name ∷ proof_name ∷ []) before after status
+  rules-refused text demand_name proof_name fault r h reading reader =
+      widen (IsAnswer r) (RulesAnswers A before.held text demand_name proof_name) (refused_rules A before.held text demand_name proof_name fault r h reading) (demand_name ∷ proof_name ∷ []) [] before after status
+      (no_names before.held (demand_name ∷ proof_name ∷ [])) reader
+
+  pub rules-accepted : (text demand_name proof_name : List ℕ) (g : Grammar) → IsReading text (Ok g) → IsSound g
+      → IsReader (AnswersDemand A before.held g demand_name proof_name) (demand_name ∷ proof_name ∷ []) before after status
+      → IsReader (RulesAnswers A before.held text demand_name proof_name) (demand_name ∷ proof_name ∷ []) before after status
+  rules-accepted text demand_name proof_name g reading sound reader =
+      widen (AnswersDemand A before.held g demand_name proof_name) (RulesAnswers A before.held text demand_name proof_name)
+      (λ s o a. check.RulesAnswers.accepted g s o (record { reading = reading; sound = sound }) a) (demand_name ∷ proof_name ∷ []) (demand_name ∷ proof_name ∷ []) before after status (λ h. h) reader
+
+-- the answer to a certificate, from its verdict
+judgement : (i : Instance) (c : Cert) (v : Verdict) → IsVerdict i c v → (output : List ℕ) → output ≡ verdict_text v → Judgement i c (verdict_status v) output
+judgement i c (Yes cost bound) h output text =
+    yes output (record { accepted = h.0; trusted = h.3; lines = text ∙ ap (λ x. verdict_text (Yes x bound)) h.1 ∙ ap (λ x. verdict_text (Yes c.cost x)) h.2 })
+judgement i c (No why) h output text = no output (record { why = why; cause = h; line = text })
+
+pub proof-judged : (i : Instance) (text : List ℕ) (v : Verdict) (r : Result Answer Memory) → IsJudged i text (Said v)
+    → IfOk r (λ a. (a.status ≡ verdict_status v) × (a.output ≡ verdict_text v)) → IfOk r (λ a. ProofAnswers Judgement i text a.status a.output)
+proof-judged i text v (Err e) judged h = tt
+proof-judged i text v (Ok a) judged h = rw h.0 (check.ProofAnswers.accepted judged.0 (verdict_status v) a.output judged.1 (judgement i judged.0 v judged.2 a.output h.1))
+
+-- nor has an answer to a proof text the status of a refusal, where none for its certificate has
+pub proof_ends : (A : CertAnswers) → ((i : Instance) (c : Cert) (s : ℕ) (output : List ℕ) → A i c s output → (s ≢ 6) × (s ≢ 7)) → (i : Instance) (text : List ℕ) (s : ℕ) (output : List ℕ) → ProofAnswers A i text s output → (s ≢ 6) × (s ≢ 7)
+proof_ends A each i text s output (check.ProofAnswers.accepted c t x e a) = each i c s output a
+proof_ends A each i text s output (check.ProofAnswers.refused x h) = ends_at s 5 refl (omega arith)

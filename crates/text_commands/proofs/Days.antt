@@ -1,0 +1,40 @@
+-- Commands that read a rules text and answer a question about its day.
+use Rattle.std.proofs.Common.{◌≡◌, ◌≢◌, ℕ, List, [], ◌∷◌, Result, Ok, Err, IfOk, sym, subst}
+use Rattle.roster_model.specs.declared.grammar.Grammar.{Grammar}
+use Rattle.roster_model.specs.declared.memory.Memory.{Memory}
+use Rattle.rules_text.specs.FaultLine.{fault_line}
+use Rattle.rules_text.specs.RulesOf.{IsReading}
+use Rattle.rules_text.specs.declared.fault.RulesFault.{RulesFault}
+use Rattle.rules_text.specs.declared.fault.RulesFault.TheVariants as faults
+use Rattle.shelf.specs.Shelf.{Told}
+use Rattle.text_commands.specs.declared.answer.Answer.{Answer}
+use Rattle.text_commands.specs.Days.{DayAnswer, AnswersDay, refused}
+use Rattle.text_commands.specs.Fetch.{IsAnswer, IsFetch, NoAnswer}
+use Rattle.text_commands.specs.Reader.{IsReader}
+use Rattle.text_commands.proofs.Readers.{IsSaid, said_reader, widen, after_fetch}
+
+module _ (Answers : Grammar → ℕ → List ℕ → Type 0) where
+  pub day-fault : (text : List ℕ) (fault : RulesFault) (r : Result Answer Memory) → (fault ≢ faults.Memory → IsReading text (Err fault))
+      → IfOk r (λ a. (fault ≢ faults.Memory) × (a.status ≡ 3) × (a.output ≡ fault_line fault)) → IfOk r (λ a. DayAnswer Answers text a.status a.output)
+  day-fault text fault (Err e) reading h = tt
+  day-fault text fault (Ok a) reading h =
+      subst (λ (n : ℕ). DayAnswer Answers text n a.output) (sym h.1) (refused a.output (record { fault = fault; reading = reading h.0; line = h.2 }))
+
+  pub day-said : (text : List ℕ) (a : Answer) (before after : Told) (status : ℕ) → DayAnswer Answers text a.status a.output → IsSaid a before after status
+      → IsReader (λ s o. DayAnswer Answers text s o) [] before after status
+  day-said text a before after status h said =
+      widen (IsAnswer (Ok a)) (λ s o. DayAnswer Answers text s o) each [] [] before after status (λ k. k) (said_reader a before after status said)
+    where
+      each : (s : ℕ) (o : List ℕ) → IsAnswer (Ok a) s o → DayAnswer Answers text s o
+      each s o k = subst (λ (n : ℕ). DayAnswer Answers text n o) (sym k.0) (subst (λ (x : List ℕ). DayAnswer Answers text a.status x) (sym k.1) h)
+
+  pub day-read : (name text : List ℕ) (before middle after : Told) (status : ℕ) → IsFetch name before middle text
+      → IsReader (λ s o. DayAnswer Answers text s o) [] middle after status → IsReader (λ s o. AnswersDay Answers before.held name s o) (name ∷ []) before after status
+  day-read name text before middle after status f reader =
+      after_fetch (λ s o. AnswersDay Answers before.held name s o) name [] before middle after status text f
+      (widen (λ s o. DayAnswer Answers text s o) (λ s o. AnswersDay Answers before.held name s o) (λ s o k. (text, f.holds, k)) [] [] middle after status (λ k. k) reader)
+
+  pub day-unread : (name : List ℕ) (before after : Told) (status : ℕ) → IsReader NoAnswer (name ∷ []) before after status
+      → IsReader (λ s o. AnswersDay Answers before.held name s o) (name ∷ []) before after status
+  day-unread name before after status reader =
+      widen NoAnswer (λ s o. AnswersDay Answers before.held name s o) (λ s o k. absurd k) (name ∷ []) (name ∷ []) before after status (λ k. k) reader

@@ -1,0 +1,7 @@
+mod StepRules
+pub mod Derivations
+pub mod Readers
+pub mod Checks
+pub mod Days
+pub mod Same
+pub mod OnceLemmas

@@ -1,0 +1,138 @@
+ghost use Rattle.std.specs.Prelude.{◌≡◌, ◌≢◌, [], ◌∷◌, IfOk};
+ghost use Rattle.roster_model.specs.Sound.{IsPlain, IsSound};
+ghost use Rattle.roster_model.specs.SoundInstance.{IsSoundInstance};
+ghost use Rattle.demand_text.specs.FaultLine as demand_fault;
+ghost use Rattle.text_commands.specs.Check.{
+  AnswersDemand,
+  AnswersProof,
+  AnswersTexts,
+  DemandAnswers,
+  RulesAnswers,
+};
+ghost use Rattle.text_commands.specs.Reader.{IsReader};
+
+use crate::answer::Answer;
+use crate::explain::refusal;
+use crate::fetch::{fetched, say_answer};
+use crate::question::Question;
+use demand_text::{DemandFault, read_demand};
+use roster_model::{Grammar, Instance, Memory};
+use rules_text::read_rules;
+use shelf::Shelf;
+use std::alloc::Global;
+
+/// Says why a demand text is refused.
+pub fn demand_refusal(alloc: Global, fault: DemandFault) -> Result<Answer, Memory>
+    ensures { IfOk result (λ a. (fault ≢ DemandFault.Memory) × (a.status ≡ 4)
+        × (a.output ≡ demand_fault.fault_line fault)) }
+{
+    match fault {
+        DemandFault::Memory => Err(Memory),
+        _ => Ok(Answer {
+            status: 4,
+            output: demand_text::fault_line(alloc, &fault)?,
+        }),
+    }
+}
+
+// Asks something of the certificate of the proof text under a name.
+fn ask_proof<S: Shelf, Q: Question>(
+    alloc: Global,
+    shelf: &mut S,
+    instance: &Instance,
+    proof: &str,
+    question: &Q,
+) -> u8
+    requires { IsSoundInstance instance.now }
+    ensures { IsReader (AnswersProof (Q.answers question.now) (S.told shelf.old).held instance.now proof.now)
+        (proof.now ∷ []) (S.told shelf.old) (S.told shelf.new) result }
+{
+    let text = match fetched(alloc, shelf, proof) {
+        Ok(text) => text,
+        Err(status) => return status,
+    };
+    say_answer(shelf, question.answer(alloc, instance, text.as_slice()))
+}
+
+// Asks something of a certificate by a demand text and the proof text under a name.
+fn ask_demand_text<S: Shelf, Q: Question>(
+    alloc: Global,
+    shelf: &mut S,
+    grammar: Grammar,
+    text: &[u8],
+    proof: &str,
+    question: &Q,
+) -> u8
+    requires sound { IsSound grammar }
+    requires plain { IsPlain grammar }
+    ensures { IsReader (DemandAnswers (Q.answers question.now) (S.told shelf.old).held
+        grammar text.now proof.now) (proof.now ∷ []) (S.told shelf.old) (S.told shelf.new) result }
+{
+    match read_demand(alloc, grammar, text) {
+        Ok(instance) => ask_proof(alloc, shelf, &instance, proof, question),
+        Err(fault) => say_answer(shelf, demand_refusal(alloc, fault)),
+    }
+}
+
+// Asks something of a certificate by the demand and proof texts under names.
+fn ask_demand<S: Shelf, Q: Question>(
+    alloc: Global,
+    shelf: &mut S,
+    grammar: Grammar,
+    demand: &str,
+    proof: &str,
+    question: &Q,
+) -> u8
+    requires sound { IsSound grammar }
+    requires plain { IsPlain grammar }
+    ensures { IsReader (AnswersDemand (Q.answers question.now) (S.told shelf.old).held
+        grammar demand.now proof.now)
+        (demand.now ∷ proof.now ∷ []) (S.told shelf.old) (S.told shelf.new) result }
+{
+    let text = match fetched(alloc, shelf, demand) {
+        Ok(text) => text,
+        Err(status) => return status,
+    };
+    ask_demand_text(alloc, shelf, grammar, text.as_slice(), proof, question)
+}
+
+/// Asks something of a certificate by a rules text and the demand and proof texts under names, and says the
+/// answer, or why a text is refused. The texts are read in this order.
+pub fn ask_rules_text<S: Shelf, Q: Question>(
+    alloc: Global,
+    shelf: &mut S,
+    text: &[u8],
+    demand: &str,
+    proof: &str,
+    question: &Q,
+) -> u8
+    ensures { IsReader (RulesAnswers (Q.answers question.now) (S.told shelf.old).held
+        text.now demand.now proof.now)
+        (demand.now ∷ proof.now ∷ []) (S.told shelf.old) (S.told shelf.new) result }
+{
+    match read_rules(alloc, text) {
+        Ok(grammar) => ask_demand(alloc, shelf, grammar, demand, proof, question),
+        Err(fault) => say_answer(shelf, refusal(alloc, fault)),
+    }
+}
+
+/// Asks something of a certificate, by the rules, demand and proof texts under names, and says the answer, or
+/// why a text is refused. The texts are fetched and read in this order.
+pub fn ask<S: Shelf, Q: Question>(
+    alloc: Global,
+    shelf: &mut S,
+    rules: &str,
+    demand: &str,
+    proof: &str,
+    question: &Q,
+) -> u8
+    ensures { IsReader (AnswersTexts (Q.answers question.now) (S.told shelf.old).held
+        rules.now demand.now proof.now)
+        (rules.now ∷ demand.now ∷ proof.now ∷ []) (S.told shelf.old) (S.told shelf.new) result }
+{
+    let text = match fetched(alloc, shelf, rules) {
+        Ok(text) => text,
+        Err(status) => return status,
+    };
+    ask_rules_text(alloc, shelf, text.as_slice(), demand, proof, question)
+}

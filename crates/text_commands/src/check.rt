@@ -1,0 +1,110 @@
+ghost use Rattle.std.specs.Prelude.{◌≡◌, ◌≤◌, [], ◌∷◌, IfOk, length};
+ghost use Rattle.roster_model.specs.SoundInstance.{IsSoundInstance};
+ghost use Rattle.proof_pieces.specs.CertOf.{proof_fault};
+ghost use Rattle.proof_pieces.specs.FaultLine as proof_line;
+ghost use Rattle.proof_check.specs.Judging.{IsJudged};
+ghost use Rattle.shift_report.specs.VerdictText.{verdict_text};
+ghost use Rattle.text_commands.specs.Check.{AnswersCheck, Judgement, ProofAnswers, verdict_status};
+ghost use Rattle.text_commands.specs.Reader.{IsReader};
+
+use crate::answer::Answer;
+use crate::ask::ask;
+use crate::question::Question;
+use certificates::Verdict;
+use proof_check::{Bench, Judged};
+use proof_pieces::{CertRoom, PieceFault, ProofFault};
+use roster_model::{Instance, Memory};
+use shelf::Shelf;
+use shift_report::write_verdict;
+use std::alloc::Global;
+
+/// Says why a proof text is refused.
+pub fn proof_refusal(alloc: Global, fault: PieceFault) -> Result<Answer, Memory>
+    ensures { IfOk result (λ a. (a.status ≡ 5) × (a.output ≡ proof_line.fault_line (proof_fault fault))) }
+{
+    Ok(Answer {
+        status: 5,
+        output: proof_pieces::fault_line(alloc, &ProofFault::from(fault))?,
+    })
+}
+
+// Returns the status of a verdict: 0 for a yes, and 1 for a no.
+fn status_of_verdict(verdict: &Verdict) -> u8
+    ensures { result ≡ verdict_status verdict.now }
+{
+    match verdict {
+        Verdict::Yes { .. } => 0,
+        Verdict::No(_) => 1,
+    }
+}
+
+/// Says a verdict.
+pub fn verdict_answer(alloc: Global, verdict: &Verdict) -> Result<Answer, Memory>
+    ensures { IfOk result (λ a. (a.status ≡ verdict_status verdict.now)
+        × (a.output ≡ verdict_text verdict.now)) }
+{
+    Ok(Answer {
+        status: status_of_verdict(verdict),
+        output: write_verdict(alloc, verdict)?,
+    })
+}
+
+// Judges a proof text in the room for its pieces. No list of its nodes is held.
+fn judged_in(
+    alloc: Global,
+    instance: &Instance,
+    text: &[u8],
+    room: &mut CertRoom,
+) -> Result<Judged, Memory>
+    requires sound { IsSoundInstance instance.now }
+    requires made { length instance.now.cells ≤ room.old.most }
+    ensures { IfOk result (IsJudged instance.now text.now) }
+{
+    let mut bench = Bench::for_texts(alloc, instance)?;
+    Ok(bench.judge_text(instance, text, room))
+}
+
+/// Judges a proof text.
+pub fn judged(alloc: Global, instance: &Instance, text: &[u8]) -> Result<Judged, Memory>
+    requires { IsSoundInstance instance.now }
+    ensures { IfOk result (IsJudged instance.now text.now) }
+{
+    let mut room = CertRoom::for_instance(alloc, instance)?;
+    judged_in(alloc, instance, text, &mut room)
+}
+
+// Says whether the certificate of a proof text is accepted, or why the text or the certificate is refused.
+fn judgement(alloc: Global, instance: &Instance, text: &[u8]) -> Result<Answer, Memory>
+    requires { IsSoundInstance instance.now }
+    ensures { IfOk result (λ a. ProofAnswers Judgement instance.now text.now a.status a.output) }
+{
+    match judged(alloc, instance, text)? {
+        Judged::Said(verdict) => verdict_answer(alloc, &verdict),
+        Judged::Fault(fault) => proof_refusal(alloc, fault),
+    }
+}
+
+// Whether a certificate is accepted.
+struct Acceptance;
+
+impl Question for Acceptance {
+    ghost use Rattle.text_commands.specs.Check.{Judgement};
+    ghost use Rattle.text_commands.specs.Statuses.{judged-ends};
+
+    ghost answers = { λ _. Judgement };
+
+    ghost ends = { λ _. judged-ends };
+
+    fn answer(&self, alloc: Global, instance: &Instance, text: &[u8]) -> Result<Answer, Memory> {
+        judgement(alloc, instance, text)
+    }
+}
+
+/// Says whether a certificate is accepted, by the rules, demand and proof texts under names, or why a text or the
+/// certificate is refused. The texts are fetched and read in this order.
+pub fn check<S: Shelf>(alloc: Global, shelf: &mut S, rules: &str, demand: &str, proof: &str) -> u8
+    ensures { IsReader (AnswersCheck (S.told shelf.old).held rules.now demand.now proof.now)
+        (rules.now ∷ demand.now ∷ proof.now ∷ []) (S.told shelf.old) (S.told shelf.new) result }
+{
+    ask(alloc, shelf, rules, demand, proof, &Acceptance)
+}

@@ -1,0 +1,123 @@
+ghost use Rattle.std.specs.Prelude.{◌≡◌, ◌≢◌, [], ◌∷◌, IfOk, length, codes};
+ghost use Rattle.roster_model.specs.Shifts.{IsPrice};
+ghost use Rattle.roster_model.specs.Sound.{IsSound};
+ghost use Rattle.span_table.specs.Tables.{IsMadeFor, IsFilled};
+ghost use Rattle.word_prices.specs.Prices.{word_view};
+ghost use Rattle.rules_text.specs.FaultLine.{fault_line};
+ghost use Rattle.text_commands.specs.Explain.{AnswersExplain, Derivation, Explanation, SaysTree};
+ghost use Rattle.text_commands.specs.Reader.{IsReader};
+
+use crate::answer::Answer;
+use crate::say::{MEMORY, say, status_of};
+use roster_model::{Grammar, List, Memory, TreeRoom};
+use rules_text::{RulesFault, fault_line, read_rules};
+use shelf::Shelf;
+use shift_report::write_tree;
+use span_table::Table;
+use std::alloc::Global;
+use word_prices::WordPrices;
+
+const NO_DERIVATION: &[u8] = b"no derivation\n";
+
+fn no_derivation(alloc: Global) -> Result<Answer, Memory>
+    ensures { IfOk result (λ a. (a.status ≡ 1) × (a.output ≡ codes "no derivation\n")) }
+{
+    match Vec::from_slice(alloc, NO_DERIVATION) {
+        Ok(bytes) => Ok(Answer {
+            status: 1,
+            output: List::from_vec(bytes),
+        }),
+        Err(_) => Err(Memory),
+    }
+}
+
+// Says the price of a word, and the tree of least sum that a filled table has for it.
+fn tree(alloc: Global, prices: &WordPrices<'_>, table: &Table, price: u64) -> Result<Answer, Memory>
+    requires sound { IsSound prices.now.grammar.now }
+    requires made { IsMadeFor prices.now.grammar.now table.now }
+    requires filled { IsFilled prices.now.grammar.now (word_view prices.now.grammar.now prices.now.word.now)
+        table.now }
+    requires length { length prices.now.word.now ≡ prices.now.grammar.now.periods }
+    requires price { IsPrice prices.now.grammar.now prices.now.grammar.now.start prices.now.word.now price }
+    ensures { IfOk result (λ a. (a.status ≡ 0) × SaysTree prices.now.grammar.now prices.now.word.now
+        a.output) }
+{
+    let grammar = prices.grammar;
+    let mut room = TreeRoom::for_grammar(alloc, grammar)?;
+    table.tree(grammar, prices, &mut room);
+    Ok(Answer {
+        status: 0,
+        output: write_tree(alloc, grammar, prices.word, price, room.steps())?,
+    })
+}
+
+// Says the price of a word and a tree of that cost, by a table for its grammar, or that there is none.
+fn derivation_by(
+    alloc: Global,
+    prices: &WordPrices<'_>,
+    table: &mut Table,
+) -> Result<Answer, Memory>
+    requires sound { IsSound prices.now.grammar.now }
+    requires made { IsMadeFor prices.now.grammar.now table.old }
+    requires length { length prices.now.word.now ≡ prices.now.grammar.now.periods }
+    ensures { IfOk result (λ a. Derivation prices.now.grammar.now prices.now.word.now a.status a.output) }
+{
+    let grammar = prices.grammar;
+    let least = table.least(grammar, prices);
+    match prices.price(grammar.start, least) {
+        Some(price) => tree(alloc, prices, table, price),
+        None => no_derivation(alloc),
+    }
+}
+
+/// Says the price of a word by a sound grammar and a tree of that cost, or that there is none.
+pub fn derivation(alloc: Global, grammar: &Grammar, word: &[u8]) -> Result<Answer, Memory>
+    requires { IsSound grammar.now }
+    ensures { IfOk result (λ a. Derivation grammar.now word.now a.status a.output) }
+{
+    if word.len() != grammar.periods as usize {
+        return no_derivation(alloc);
+    }
+    let prices = WordPrices::new(grammar, word);
+    let mut table = Table::for_instance(alloc, grammar)?;
+    derivation_by(alloc, &prices, &mut table)
+}
+
+// Says why a rules text is refused.
+pub fn refusal(alloc: Global, fault: RulesFault) -> Result<Answer, Memory>
+    ensures { IfOk result (λ a. (fault ≢ RulesFault.Memory) × (a.status ≡ 3)
+        × (a.output ≡ fault_line fault)) }
+{
+    match fault {
+        RulesFault::Memory => Err(Memory),
+        _ => Ok(Answer {
+            status: 3,
+            output: fault_line(alloc, &fault)?,
+        }),
+    }
+}
+
+// What is answered to a rules text and a word.
+fn explanation(alloc: Global, text: &[u8], word: &[u8]) -> Result<Answer, Memory>
+    ensures { IfOk result (λ a. Explanation text.now word.now a.status a.output) }
+{
+    match read_rules(alloc, text) {
+        Ok(grammar) => derivation(alloc, &grammar, word),
+        Err(fault) => refusal(alloc, fault),
+    }
+}
+
+/// Says the price of a word by the rules text under a name, and a tree of that cost.
+pub fn explain<S: Shelf>(alloc: Global, shelf: &mut S, rules: &str, word: &str) -> u8
+    ensures { IsReader (AnswersExplain (S.told shelf.old).held rules.now word.now) (rules.now ∷ [])
+        (S.told shelf.old) (S.told shelf.new) result }
+{
+    let mut text = Vec::new(alloc);
+    if let Err(fault) = shelf.fetch(rules, &mut text) {
+        return status_of(fault);
+    }
+    match explanation(alloc, text.as_slice(), word.as_bytes()) {
+        Ok(answer) => say(shelf, answer.output.as_slice(), answer.status),
+        Err(Memory) => MEMORY,
+    }
+}

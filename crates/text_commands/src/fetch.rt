@@ -1,0 +1,33 @@
+ghost use Rattle.std.specs.Prelude.{◌≢◌, ◌∷◌, [], IfOk, IfErr};
+ghost use Rattle.text_commands.specs.Fetch.{IsAnswer, IsFetch, NoAnswer};
+ghost use Rattle.text_commands.specs.Reader.{IsReader};
+
+use crate::answer::Answer;
+use crate::say::{MEMORY, say, status_of};
+use roster_model::Memory;
+use shelf::Shelf;
+use std::alloc::Global;
+
+/// Returns the text under a name, or the status of a refusal.
+pub fn fetched<S: Shelf>(alloc: Global, shelf: &mut S, name: &str) -> Result<Vec<u8>, u8>
+    ensures text { IfOk result (λ text. IsFetch name.now (S.told shelf.old) (S.told shelf.new) text.items) }
+    ensures refusal { IfErr result (λ status. IsReader NoAnswer (name.now ∷ []) (S.told shelf.old)
+        (S.told shelf.new) status) }
+{
+    let mut text = Vec::new(alloc);
+    if let Err(fault) = shelf.fetch(name, &mut text) {
+        return Err(status_of(fault));
+    }
+    Ok(text)
+}
+
+/// Says an answer at once, and returns its status, or that of a refusal.
+pub fn say_answer<S: Shelf>(shelf: &mut S, answer: Result<Answer, Memory>) -> u8
+    requires { IfOk answer (λ a. (a.status ≢ 6) × (a.status ≢ 7)) }
+    ensures { IsReader (IsAnswer answer) [] (S.told shelf.old) (S.told shelf.new) result }
+{
+    match answer {
+        Ok(answer) => say(shelf, answer.output.as_slice(), answer.status),
+        Err(Memory) => MEMORY,
+    }
+}

@@ -1,0 +1,52 @@
+ghost use Rattle.std.specs.Prelude.{◌≢◌, ◌≤◌, ◌∷◌, [], IfOk};
+ghost use Rattle.day_questions.specs.Next.{NextAnswer};
+ghost use Rattle.text_commands.specs.Days.{AnswersNext, DayAnswer};
+ghost use Rattle.text_commands.specs.Reader.{IsReader};
+
+use crate::answer::Answer;
+use crate::explain::refusal;
+use crate::fetch::fetched;
+use crate::say::{MEMORY, say};
+use day_questions::next_answer;
+use roster_model::Memory;
+use rules_text::read_rules;
+use shelf::Shelf;
+use std::alloc::Global;
+
+// What is answered to a rules text and a prefix.
+fn following(alloc: Global, text: &[u8], prefix: &[u8]) -> Result<Answer, Memory>
+    ensures { IfOk result (λ a. DayAnswer (λ g s o. NextAnswer g prefix.now s o) text.now a.status a.output) }
+{
+    match read_rules(alloc, text) {
+        Ok(grammar) => {
+            let answer = next_answer(alloc, &grammar, prefix)?;
+            Ok(Answer {
+                status: answer.status,
+                output: answer.output,
+            })
+        }
+        Err(fault) => refusal(alloc, fault),
+    }
+}
+
+// Says what is answered to a rules text.
+fn say_following<S: Shelf>(alloc: Global, shelf: &mut S, text: &[u8], prefix: &[u8]) -> u8
+    ensures { IsReader (λ s o. DayAnswer (λ g s o. NextAnswer g prefix.now s o) text.now s o) []
+        (S.told shelf.old) (S.told shelf.new) result }
+{
+    match following(alloc, text, prefix) {
+        Ok(answer) => say(shelf, answer.output.as_slice(), answer.status),
+        Err(Memory) => MEMORY,
+    }
+}
+
+/// Says the codes that may follow a prefix by the rules text under a name.
+pub fn next<S: Shelf>(alloc: Global, shelf: &mut S, rules: &str, prefix: &str) -> u8
+    ensures { IsReader (AnswersNext (S.told shelf.old).held rules.now prefix.now) (rules.now ∷ [])
+        (S.told shelf.old) (S.told shelf.new) result }
+{
+    match fetched(alloc, shelf, rules) {
+        Ok(text) => say_following(alloc, shelf, text.as_slice(), prefix.as_bytes()),
+        Err(status) => status,
+    }
+}
