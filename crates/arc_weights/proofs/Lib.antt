@@ -5,4 +5,3 @@ pub mod RowBounds
 pub mod Units
 pub mod Fine
 pub mod Weighing
-pub mod RowDays

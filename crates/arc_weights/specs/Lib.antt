@@ -3,4 +3,3 @@ pub mod Denominators
 pub mod Sums
 pub mod Choices
 pub mod Loops
-pub mod RowDays

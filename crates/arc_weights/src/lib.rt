@@ -5,8 +5,6 @@ mod apart;
 mod choice;
 mod denominator;
 mod sums;
-#[cfg(test)]
-mod tests;
 mod weighed;
 
 pub use weighed::{Weighed, weigh};

@@ -1,4 +1,4 @@
-ghost use Rattle.std.specs.Prelude.{◌≡◌, ◌<◌, IfOk, length};
+ghost use Rattle.std.specs.Prelude.{◌≡◌, ◌<◌, IfOk, IfSome, length};
 ghost use Rattle.roster_model.specs.SoundInstance.{IsSoundInstance};
 ghost use Rattle.parse_graph.specs.Graphs.{IsGraph};
 
@@ -85,62 +85,55 @@ const SIX: [ArcKey; 6] = [
 ];
 
 /// The number of an arc in the graph.
-fn number(graph: &Graph, arc: &ArcKey) -> Result<u32, Fail>
-    ensures { IfOk result (λ p. p < length graph.now.arcs) }
+fn number(graph: &Graph, arc: &ArcKey) -> Option<u32>
+    ensures { IfSome result (λ p. p < length graph.now.arcs) }
 {
-    let Some(place) = graph.arcs().iter().position(|other| *other == *arc) else {
-        return Err(Fail::from("no arc"));
-    };
-    Ok(place as u32)
+    let place = graph.arcs().iter().position(|other| *other == *arc)?;
+    Some(place as u32)
 }
 
 /// Cuts an arc of the box, where the number is within its bounds.
-fn cut(
-    arc_box: &mut ArcBox,
-    graph: &Graph,
-    arc: &ArcKey,
-    side: Side,
-    b: u32,
-) -> Result<(u32, u32), Fail>
+fn cut(arc_box: &mut ArcBox, graph: &Graph, arc: &ArcKey, side: Side, b: u32) -> Option<(u32, u32)>
     requires { length arc_box.old.bounds ≡ length graph.now.arcs }
     ensures arcs { length arc_box.new.bounds ≡ length graph.now.arcs }
     ensures places { arc_box.new.places ≡ arc_box.old.places }
 {
     let arc = number(graph, arc)?;
     if arc_box.low(arc) <= b && b < arc_box.high(arc) {
-        return Ok(arc_box.cut(arc, side, b));
+        return Some(arc_box.cut(arc, side, b));
     }
-    Err(Fail::from("not within the bounds"))
+    None
 }
 
-/// Leaves an arc of the box one count.
-fn pin(arc_box: &mut ArcBox, graph: &Graph, arc: &ArcKey, count: u32) -> Result<(), Fail>
+/// Leaves an arc of the box one count, and returns whether it could.
+fn pin(arc_box: &mut ArcBox, graph: &Graph, arc: &ArcKey, count: u32) -> bool
     requires { length arc_box.old.bounds ≡ length graph.now.arcs }
     ensures arcs { length arc_box.new.bounds ≡ length graph.now.arcs }
     ensures places { arc_box.new.places ≡ arc_box.old.places }
 {
-    if count > 0 {
-        cut(arc_box, graph, arc, Side::High, count - 1)?;
+    if count > 0 && cut(arc_box, graph, arc, Side::High, count - 1).is_none() {
+        return false;
     }
-    cut(arc_box, graph, arc, Side::Low, count)?;
-    Ok(())
+    cut(arc_box, graph, arc, Side::Low, count).is_some()
 }
 
-/// Leaves the six arcs one count each.
-fn pin_all(arc_box: &mut ArcBox, graph: &Graph, counts: &[u32]) -> Result<(), Fail>
+/// Leaves the six arcs one count each, and returns whether it could.
+fn pin_all(arc_box: &mut ArcBox, graph: &Graph, counts: &[u32]) -> bool
     requires { length arc_box.old.bounds ≡ length graph.now.arcs }
     ensures arcs { length arc_box.new.bounds ≡ length graph.now.arcs }
     ensures places { arc_box.new.places ≡ arc_box.old.places }
 {
     for (arc, count) in SIX.iter().zip(counts) {
-        pin(arc_box, graph, arc, *count)?;
+        if !pin(arc_box, graph, arc, *count) {
+            return false;
+        }
     }
-    Ok(())
+    true
 }
 
 /// What the box costs that leaves the six arcs these counts.
 fn cost_on(
-    rt: &HostRuntime,
+    alloc: Global,
     day: &Instance,
     graph: &Graph,
     counts: &[u32],
@@ -148,26 +141,25 @@ fn cost_on(
     requires sound { IsSoundInstance day.now }
     requires graph { IsGraph day.now.grammar graph.now }
 {
-    let Ok(mut arc_box) = ArcBox::new(rt.alloc(), day, graph) else {
-        return Err(Fail::from("memory"));
-    };
-    pin_all(&mut arc_box, graph, counts)?;
-    if !arc_box.pinned() {
-        return Err(Fail::from("not pinned"));
+    let mut arc_box = ArcBox::new(alloc, day, graph)?;
+    if pin_all(&mut arc_box, graph, counts) && arc_box.pinned() {
+        return Ok(arc_box.pinned_cost(day, graph));
     }
-    Ok(arc_box.pinned_cost(day, graph))
+    Err(Fail::from("not pinned"))
 }
 
 /// What a box of a sound day costs that leaves the six arcs these counts.
-fn cost_of(rt: &HostRuntime, day: &Instance, counts: &[u32]) -> Result<Option<u64>, Fail>
+fn cost_of(alloc: Global, day: &Instance, counts: &[u32]) -> Result<Option<u64>, Fail>
     requires { IsSoundInstance day.now }
 {
-    let graph = graph_of(rt.alloc(), &day.grammar)?;
-    cost_on(rt, day, &graph, counts)
+    let graph = graph_of(alloc, &day.grammar)?;
+    cost_on(alloc, day, &graph, counts)
 }
 
-/// Counts of the six arcs, and what they cost.
-const CASES: [(Asked, [u32; 6], Option<u64>); 10] = [
+/// What a day asks, counts of the six arcs, and what they cost.
+type Case = (Asked, [u32; 6], Option<u64>);
+
+const CASES: [Case; 10] = [
     (ONE_EACH, [0, 0, 0, 0, 0, 0], Some(30)),
     (ONE_EACH, [1, 1, 0, 0, 0, 0], Some(12)),
     (ONE_EACH, [1, 0, 0, 0, 0, 0], None),
@@ -181,24 +173,42 @@ const CASES: [(Asked, [u32; 6], Option<u64>); 10] = [
 ];
 
 /// A day that asks this.
-fn sound_day(rt: &HostRuntime, asked: Asked) -> Result<Instance, Fail>
+fn sound_day(alloc: Global, asked: Asked) -> Result<Instance, Fail>
     ensures { IfOk result IsSoundInstance }
 {
-    let day = instance(rt.alloc(), asked)?;
+    let day = instance(alloc, asked)?;
     if is_sound_instance(&day) {
         return Ok(day);
     }
     Err(Fail::from("no sound instance"))
 }
 
-#[test]
-fn costs_of_pinned_boxes(rt: HostRuntime) -> Result<(), Fail> {
-    for (asked, counts, cost) in &CASES {
-        let day = sound_day(&rt, *asked)?;
-        let found = cost_of(&rt, &day, counts)?;
-        assert!(rt; found == *cost, "at {counts:?}");
+/// Whether the counts cost this on a day.
+fn is_cost(alloc: Global, day: &Instance, counts: &[u32], cost: Option<u64>) -> Result<bool, Fail>
+    requires { IsSoundInstance day.now }
+{
+    Ok(cost_of(alloc, day, counts)? == cost)
+}
+
+/// Whether the counts of a case cost what they should.
+fn is_right(alloc: Global, case: &Case) -> Result<bool, Fail> {
+    let (asked, counts, cost) = case;
+    let day = sound_day(alloc, *asked)?;
+    is_cost(alloc, &day, counts, *cost)
+}
+
+fn show_all(alloc: Global, cases: &[Case]) -> Result<(), Fail> {
+    for case in cases {
+        if !is_right(alloc, case)? {
+            return Err(Fail::from("another cost"));
+        }
     }
     Ok(())
+}
+
+#[test]
+fn costs_of_pinned_boxes(rt: HostRuntime) -> Result<(), Fail> {
+    show_all(rt.alloc(), &CASES)
 }
 
 type LowAndHigh = (u32, u32);
@@ -210,43 +220,39 @@ fn bounds(arc_box: &ArcBox, arc: u32) -> LowAndHigh
     (arc_box.low(arc), arc_box.high(arc))
 }
 
-/// What a cut at 0 answers, the bounds after it, and those after they are set back.
-fn cut_and_back(arc_box: &mut ArcBox, graph: &Graph) -> Result<[LowAndHigh; 3], Fail>
+/// Whether a cut at 0 answers the bounds before it, and they are as they should be after it and after they
+/// are set back.
+fn is_cut_and_back(arc_box: &mut ArcBox, graph: &Graph) -> bool
     requires { length arc_box.old.bounds ≡ length graph.now.arcs }
 {
-    let first = number(graph, &FIRST)?;
-    let before = cut(arc_box, graph, &FIRST, Side::Low, 0)?;
+    let Some(first) = number(graph, &FIRST) else {
+        return false;
+    };
+    let before = cut(arc_box, graph, &FIRST, Side::Low, 0);
     let after = bounds(arc_box, first);
     arc_box.set_back(first, (0, 3));
-    Ok([before, after, bounds(arc_box, first)])
+    before == Some((0, 3)) && after == (0, 0) && bounds(arc_box, first) == (0, 3)
 }
 
-/// What a cut and its undoing answer, and the first loose arc after them.
-type CutAndBack = ([LowAndHigh; 3], Option<u32>);
-
-fn cut_on(rt: &HostRuntime, day: &Instance, graph: &Graph) -> Result<CutAndBack, Fail>
+/// Whether a cut and its undoing leave the first arc loose.
+fn is_loose_again(alloc: Global, day: &Instance, graph: &Graph) -> Result<bool, Fail>
     requires sound { IsSoundInstance day.now }
     requires graph { IsGraph day.now.grammar graph.now }
 {
-    let Ok(mut arc_box) = ArcBox::new(rt.alloc(), day, graph) else {
-        return Err(Fail::from("memory"));
-    };
-    let found = cut_and_back(&mut arc_box, graph)?;
-    Ok((found, arc_box.first_loose()))
+    let mut arc_box = ArcBox::new(alloc, day, graph)?;
+    Ok(is_cut_and_back(&mut arc_box, graph) && arc_box.first_loose() == Some(0))
 }
 
-fn cut_of(rt: &HostRuntime, day: &Instance) -> Result<CutAndBack, Fail>
+fn has_cut_and_back(alloc: Global, day: &Instance) -> Result<bool, Fail>
     requires { IsSoundInstance day.now }
 {
-    let graph = graph_of(rt.alloc(), &day.grammar)?;
-    cut_on(rt, day, &graph)
+    let graph = graph_of(alloc, &day.grammar)?;
+    is_loose_again(alloc, day, &graph)
 }
 
 #[test]
 fn a_cut_and_back(rt: HostRuntime) -> Result<(), Fail> {
-    let day = sound_day(&rt, ONE_EACH)?;
-    let (found, loose) = cut_of(&rt, &day)?;
-    assert!(rt; found == [(0, 3), (0, 0), (0, 3)]);
-    assert!(rt; loose == Some(0));
+    let day = sound_day(rt.alloc(), ONE_EACH)?;
+    assert!(rt; has_cut_and_back(rt.alloc(), &day)?);
     Ok(())
 }

@@ -1,12 +1,10 @@
-ghost use Rattle.std.specs.Prelude.{◌<◌, IfOk, length};
-ghost use Rattle.roster_model.specs.Sound.{IsSound};
+ghost use Rattle.std.specs.Prelude.{◌<◌, IfSome, length};
 
 use crate::days::{build, graph_of, one_block, three_words};
 use parse_graph::{Graph, GraphFault, Kid};
-use roster_model::{ArcKey, Grammar, Sym, is_sound};
+use roster_model::{ArcKey, Grammar, Memory, Sym, is_sound};
 use sample_days::{ANY, RuleParts, WORK, grammar};
 use std::alloc::Global;
-use std::process::Abort;
 use std::test::Fail;
 
 /// All ways to cut the day in two, again and again.
@@ -26,139 +24,131 @@ const fn key(rule: u8, suffix: u8, start: u8, len: u8, part: u8) -> ArcKey {
 }
 
 /// Returns the number of an arc of the graph.
-fn number_of(rt: &impl Abort, graph: &Graph, arc: &ArcKey) -> Result<u32, Fail>
-    ensures { IfOk result (λ number. number < length graph.now.arcs) }
+fn number_of(graph: &Graph, arc: &ArcKey) -> Option<u32>
+    ensures { IfSome result (λ number. number < length graph.now.arcs) }
 {
-    let Some(number) = graph.find(arc) else {
-        return Err(Fail::from("no arc"));
-    };
-    assert!(rt; (number as usize) < graph.arcs().len());
-    Ok(number)
+    let number = graph.find(arc)?;
+    if (number as usize) < graph.arcs().len() {
+        return Some(number);
+    }
+    None
 }
 
-fn show_size(rt: &impl Abort, graph: &Graph, nodes: u32, arcs: usize) {
-    assert_eq!(rt; graph.nodes(), nodes);
-    assert_eq!(rt; graph.arcs().len(), arcs);
+fn has_size(graph: &Graph, nodes: u32, arcs: usize) -> bool {
+    graph.nodes() == nodes && graph.arcs().len() == arcs
 }
 
-/// Shows how many arcs make the root, which none uses.
-fn show_root(rt: &impl Abort, graph: &Graph, makers: usize) -> Result<(), Fail> {
+/// Whether so many arcs make the root, which none uses.
+fn has_root(graph: &Graph, makers: usize) -> bool {
     let Some(root) = graph.root() else {
-        return Err(Fail::from("no root"));
+        return false;
     };
-    assert!(rt; root < graph.nodes());
-    assert_eq!(rt; graph.users(root).len(), 0);
-    assert_eq!(rt; graph.makers(root).len(), makers);
-    Ok(())
+    root < graph.nodes() && graph.users(root).is_empty() && graph.makers(root).len() == makers
 }
 
-fn show_children(rt: &impl Abort, graph: &Graph, arc: u32, kids: (Kid, Kid))
-    requires { arc < length graph.now.arcs }
-{
-    let (first, rest) = graph.children(arc);
-    assert_eq!(rt; first, kids.0);
-    assert_eq!(rt; rest, kids.1);
-}
-
-/// Returns the node that follows the first part of an arc.
-fn rest_node(rt: &impl Abort, graph: &Graph, arc: u32) -> Result<u32, Fail>
-    requires { arc < length graph.now.arcs }
-    ensures { IfOk result (λ node. node < length graph.now.nodes) }
-{
-    let (_, rest) = graph.children(arc);
-    let Kid::Node(node) = rest else {
-        return Err(Fail::from("no node"));
+/// Whether these two are below an arc.
+fn has_children(graph: &Graph, arc: &ArcKey, kids: (Kid, Kid)) -> bool {
+    let Some(number) = number_of(graph, arc) else {
+        return false;
     };
-    assert!(rt; node < graph.nodes());
-    Ok(node)
+    let (first, rest) = graph.children(number);
+    first == kids.0 && rest == kids.1
 }
 
-/// Shows that an arc makes the root, that this letter is its first part, and that it alone uses the
-/// node that follows.
-fn show_top(rt: &impl Abort, graph: &Graph, top: u32, letter: Kid) -> Result<(), Fail>
-    requires { top < length graph.now.arcs }
-{
-    assert!(rt; graph.root() == Some(graph.made_by(top)));
-    let (first, _) = graph.children(top);
-    assert_eq!(rt; first, letter);
-    let node = rest_node(rt, graph, top)?;
-    assert_eq!(rt; graph.users(node), [top].as_slice());
-    Ok(())
+/// Whether one arc alone uses what follows its first part.
+fn is_used_once(graph: &Graph, rest: Kid, arc: u32) -> bool {
+    match rest {
+        Kid::Node(node) => node < graph.nodes() && graph.users(node) == [arc].as_slice(),
+        _ => false,
+    }
 }
 
-/// Returns the grammar, if it is sound.
-fn sound(grammar: Grammar) -> Result<Grammar, Fail>
-    ensures { IfOk result IsSound }
-{
-    if is_sound(&grammar) {
-        return Ok(grammar);
+/// Whether an arc makes the root, this letter is its first part, and it alone uses the node that
+/// follows.
+fn is_top(graph: &Graph, arc: &ArcKey, letter: Kid) -> bool {
+    let Some(top) = number_of(graph, arc) else {
+        return false;
+    };
+    let (first, rest) = graph.children(top);
+    graph.root() == Some(graph.made_by(top)) && first == letter && is_used_once(graph, rest, top)
+}
+
+/// Returns the graph of a grammar, if it is sound.
+fn sound_graph(alloc: Global, grammar: &Grammar) -> Result<Graph, Fail> {
+    if is_sound(grammar) {
+        return graph_of(alloc, grammar);
     }
     Err(Fail::from("no sound grammar"))
 }
 
 fn block_graph(alloc: Global) -> Result<Graph, Fail> {
-    let grammar = sound(one_block(alloc)?)?;
-    graph_of(alloc, &grammar)
+    let grammar = one_block(alloc)?;
+    sound_graph(alloc, &grammar)
 }
 
 fn words_graph(alloc: Global) -> Result<Graph, Fail> {
-    let grammar = sound(three_words(alloc)?)?;
-    graph_of(alloc, &grammar)
+    let grammar = three_words(alloc)?;
+    sound_graph(alloc, &grammar)
 }
 
-/// The grammar of all cuts in two of a day of so many periods.
-fn halves(alloc: Global, periods: u8) -> Result<Grammar, Fail>
-    ensures { IfOk result IsSound }
-{
-    sound(grammar(alloc, periods, &["S"], &HALVES, 0)?)
+/// Whether the graph is that of one block.
+fn is_block_graph(graph: &Graph) -> bool {
+    has_size(graph, 20, 24) && graph.find(&key(1, 0, 1, 4, 4)).is_none()
 }
 
 #[test]
 fn one_block_has_24_arcs(rt: HostRuntime) -> Result<(), Fail> {
     let graph = block_graph(rt.alloc())?;
-    show_size(&rt, &graph, 20, 24);
-    assert_eq!(rt; graph.find(&key(1, 0, 1, 4, 4)), None);
+    assert!(rt; is_block_graph(&graph));
     Ok(())
+}
+
+/// The two letters of the last part of the second word.
+const LETTERS: (Kid, Kid) = (
+    Kid::Letter { code: 0, period: 2 },
+    Kid::Letter { code: 0, period: 3 },
+);
+
+/// Whether the graph is that of three words.
+fn is_words_graph(graph: &Graph) -> bool {
+    has_size(graph, 4, 6)
+        && has_root(graph, 3)
+        && is_top(
+            graph,
+            &key(2, 0, 1, 3, 1),
+            Kid::Letter { code: 1, period: 1 },
+        )
+        && has_children(graph, &key(2, 1, 2, 2, 1), LETTERS)
 }
 
 #[test]
 fn three_words_have_six_arcs(rt: HostRuntime) -> Result<(), Fail> {
     let graph = words_graph(rt.alloc())?;
-    show_size(&rt, &graph, 4, 6);
-    show_root(&rt, &graph, 3)
-}
-
-#[test]
-fn an_arc_and_what_is_below_it(rt: HostRuntime) -> Result<(), Fail> {
-    let graph = words_graph(rt.alloc())?;
-    let top = number_of(&rt, &graph, &key(2, 0, 1, 3, 1))?;
-    show_top(&rt, &graph, top, Kid::Letter { code: 1, period: 1 })
-}
-
-#[test]
-fn an_arc_of_two_letters(rt: HostRuntime) -> Result<(), Fail> {
-    let graph = words_graph(rt.alloc())?;
-    let arc = number_of(&rt, &graph, &key(2, 1, 2, 2, 1))?;
-    let first = Kid::Letter { code: 0, period: 2 };
-    let rest = Kid::Letter { code: 0, period: 3 };
-    show_children(&rt, &graph, arc, (first, rest));
+    assert!(rt; is_words_graph(&graph));
     Ok(())
 }
 
-#[test]
-fn a_day_of_many_arcs(rt: HostRuntime) -> Result<(), Fail> {
-    let grammar = halves(rt.alloc(), 80)?;
-    let graph = graph_of(rt.alloc(), &grammar)?;
-    assert_eq!(rt; graph.arcs().len(), 85_400);
-    Ok(())
+/// The number of arcs of a grammar's graph, if the grammar is sound.
+fn count_arcs(alloc: Global, grammar: &Grammar) -> Option<Result<usize, GraphFault>> {
+    if !is_sound(grammar) {
+        return None;
+    }
+    match build(alloc, grammar) {
+        Ok(graph) => Some(Ok(graph.arcs().len())),
+        Err(fault) => Some(Err(fault)),
+    }
+}
+
+/// Whether all cuts in two of a day of so many periods have so many arcs, or too many.
+fn is_count(alloc: Global, periods: u8, count: Result<usize, GraphFault>) -> Result<bool, Memory> {
+    let grammar = grammar(alloc, periods, &["S"], &HALVES, 0)?;
+    Ok(count_arcs(alloc, &grammar) == Some(count))
 }
 
 #[test]
-fn too_many_arcs(rt: HostRuntime) -> Result<(), Fail> {
-    let grammar = halves(rt.alloc(), 96)?;
-    let Err(fault) = build(rt.alloc(), &grammar) else {
-        return Err(Fail::from("a graph"));
-    };
-    assert_eq!(rt; fault, GraphFault::TooManyArcs { count: 147_536 });
+fn days_of_many_arcs(rt: HostRuntime) -> Result<(), Memory> {
+    let many = GraphFault::TooManyArcs { count: 147_536 };
+    assert!(rt; is_count(rt.alloc(), 80, Ok(85_400))?);
+    assert!(rt; is_count(rt.alloc(), 96, Err(many))?);
     Ok(())
 }

@@ -11,3 +11,5 @@ mod graphs;
 mod normal_forms;
 #[cfg(test)]
 mod prices;
+#[cfg(test)]
+mod splits;

@@ -1,5 +1,6 @@
 ghost use Rattle.std.specs.Prelude.{◌≡◌, ◌≤◌, ◌<◌, ◌+◌, ◌^◌, All, IsTrue, IfOk, length};
 ghost use Rattle.roster_model.specs.PriceLimits.{FitPrices, IsMult, AreRising};
+ghost use Rattle.roster_model.specs.PriceRooms.{IsRoomFor};
 ghost use Rattle.roster_model.specs.SoundInstance.{IsSoundInstance};
 ghost use Rattle.roster_model.specs.Sound.{IsSound};
 ghost use Rattle.roster_model.specs.Sums.{Within};
@@ -18,7 +19,6 @@ use roster_model::{
 use sample_days::{BLOCK_NAMES, BLOCKS, CELL, DayParts, day};
 use span_table::Table;
 use std::alloc::Global;
-use std::process::Abort;
 use std::test::Fail;
 use word_prices::WordPrices;
 
@@ -125,61 +125,120 @@ fn write_cheapest<P: LetterPrice>(
     Some(least)
 }
 
-/// Shows the least sums of prices of the cells.
-fn show_prices(rt: &impl Abort, alloc: Global, day: &Instance, graph: &Graph) -> Result<(), Fail>
+/// Whether these prices of the cells have this least sum.
+fn is_least(
+    day: &Instance,
+    graph: &Graph,
+    prices: &mut PriceRoom,
+    rooms: &mut Rooms,
+    cell: &[i128],
+    least: i128,
+) -> bool
+    requires sound { IsSoundInstance day.now }
+    requires graph { IsGraph day.now.grammar graph.now }
+    requires prices { IsRoomFor prices.old day.now }
+    requires most { prices.old.most ≡ 1 }
+    requires rooms { AreMadeFor day.now.grammar graph.now rooms.old.pricer rooms.old.tree }
+    ensures prices { IsRoomFor prices.new day.now }
+    ensures most { prices.new.most ≡ 1 }
+    ensures rooms { AreMadeFor day.now.grammar graph.now rooms.new.pricer rooms.new.tree }
+{
+    if !are_in_range(day, cell, &[], &[]) {
+        return false;
+    }
+    prices.set_parts(day, 1, cell, &[], &[]);
+    write_cheapest(&day.grammar, graph, rooms, &*prices) == Some(least)
+}
+
+/// Prices of the cells, and their least sums.
+const LEAST: [([i128; 4], i128); 4] = [
+    ([1, 2, 2, 1], 0),
+    ([-GREAT; 4], 2417851639229258349412356),
+    ([EDGE; 4], -26388279066619),
+    ([EDGE + 1; 4], -26388279066622),
+];
+
+fn are_least(day: &Instance, graph: &Graph, prices: &mut PriceRoom, rooms: &mut Rooms) -> bool
+    requires sound { IsSoundInstance day.now }
+    requires graph { IsGraph day.now.grammar graph.now }
+    requires prices { IsRoomFor prices.old day.now }
+    requires most { prices.old.most ≡ 1 }
+    requires rooms { AreMadeFor day.now.grammar graph.now rooms.old.pricer rooms.old.tree }
+{
+    for (cell, least) in &LEAST {
+        if !is_least(day, graph, prices, rooms, cell, *least) {
+            return false;
+        }
+    }
+    true
+}
+
+/// Whether prices of the cells have their least sums.
+fn has_least_sums(alloc: Global, day: &Instance, graph: &Graph) -> Result<bool, Fail>
     requires sound { IsSoundInstance day.now }
     requires graph { IsGraph day.now.grammar graph.now }
 {
     let mut prices = PriceRoom::for_cuts(alloc, day, 1)?;
     let mut rooms = rooms_for(alloc, &day.grammar, graph)?;
-    let cases = [
-        ([1, 2, 2, 1], 0),
-        ([-GREAT; 4], 2417851639229258349412356),
-        ([EDGE; 4], -26388279066619),
-        ([EDGE + 1; 4], -26388279066622),
-    ];
-    for (cell, least) in &cases {
-        assert!(rt; are_in_range(day, cell, &[], &[]));
-        prices.set_parts(day, 1, cell, &[], &[]);
-        let sum = write_cheapest(&day.grammar, graph, &mut rooms, &prices);
-        assert_eq!(rt; sum, Some(*least));
+    Ok(are_least(day, graph, &mut prices, &mut rooms))
+}
+
+/// The rule uses of the one tree of the last word: rule, start and length.
+const USES: [(u8, u8, u8); 6] = [
+    (4, 1, 4),
+    (8, 1, 1),
+    (5, 2, 2),
+    (7, 2, 2),
+    (6, 3, 1),
+    (8, 4, 1),
+];
+
+/// Words, and their prices.
+const WORDS: [(&str, Option<i128>); 4] = [
+    ("aaaa", None),
+    ("a...", None),
+    (".aaa", Some(5)),
+    (".aa.", Some(4)),
+];
+
+fn is_priced(
+    grammar: &Grammar,
+    graph: &Graph,
+    rooms: &mut Rooms,
+    word: &str,
+    price: Option<i128>,
+) -> bool
+    requires sound { IsSound grammar.now }
+    requires graph { IsGraph grammar.now graph.now }
+    requires made { AreMadeFor grammar.now graph.now rooms.old.pricer rooms.old.tree }
+    ensures { AreMadeFor grammar.now graph.now rooms.new.pricer rooms.new.tree }
+{
+    let prices = WordPrices::new(grammar, word.as_bytes());
+    write_cheapest(grammar, graph, rooms, &prices) == price
+}
+
+/// Whether the words have their prices.
+fn are_priced(grammar: &Grammar, graph: &Graph, rooms: &mut Rooms) -> bool
+    requires sound { IsSound grammar.now }
+    requires graph { IsGraph grammar.now graph.now }
+    requires made { AreMadeFor grammar.now graph.now rooms.old.pricer rooms.old.tree }
+{
+    for (word, price) in &WORDS {
+        if !is_priced(grammar, graph, rooms, word, *price) {
+            return false;
+        }
     }
-    Ok(())
+    true
 }
 
-/// Shows the steps of the one tree of the last word.
-fn show_steps(rt: &impl Abort, steps: &[Step]) {
-    let uses = [
-        (4, 1, 4),
-        (8, 1, 1),
-        (5, 2, 2),
-        (7, 2, 2),
-        (6, 3, 1),
-        (8, 4, 1),
-    ];
-    let wanted = uses.map(|(rule, start, len)| Step { rule, start, len });
-    assert_eq!(rt; steps, wanted.as_slice());
-}
-
-/// Shows the prices of words, and the one tree of the last of them.
-fn show_words(rt: &impl Abort, alloc: Global, grammar: &Grammar, graph: &Graph) -> Result<(), Fail>
+/// Whether the words have their prices, and the last one its one tree.
+fn has_prices(alloc: Global, grammar: &Grammar, graph: &Graph) -> Result<bool, Fail>
     requires sound { IsSound grammar.now }
     requires graph { IsGraph grammar.now graph.now }
 {
     let mut rooms = rooms_for(alloc, grammar, graph)?;
-    let cases = [
-        ("aaaa", None),
-        ("a...", None),
-        (".aaa", Some(5)),
-        (".aa.", Some(4)),
-    ];
-    for (word, least) in &cases {
-        let prices = WordPrices::new(grammar, word.as_bytes());
-        let sum = write_cheapest(grammar, graph, &mut rooms, &prices);
-        assert_eq!(rt; sum, *least);
-    }
-    show_steps(rt, rooms.tree.steps());
-    Ok(())
+    let steps = USES.map(|(rule, start, len)| Step { rule, start, len });
+    Ok(are_priced(grammar, graph, &mut rooms) && rooms.tree.steps() == steps.as_slice())
 }
 
 /// The next number of a sequence that looks like chance.
@@ -203,22 +262,55 @@ fn side(seed: u32) -> Side {
     }
 }
 
-/// Shows that the table has the same least sums, at prices that look like chance and with a
-/// multiplier on each arc in turn.
-fn show_same(
-    rt: &impl Abort,
-    alloc: Global,
+/// A multiplier of the one cut.
+const MULT: [Mult; 1] = [Mult { cut: 1, value: 7 }];
+
+/// Whether the table has the same least sum at these prices, with a multiplier on the one cut.
+fn is_same_at(
     day: &Instance,
     graph: &Graph,
+    prices: &mut PriceRoom,
+    rooms: &mut Rooms,
     table: &mut Table,
-) -> Result<(), Fail>
+    cell: &[i128],
+    cut: Cut,
+) -> bool
     requires sound { IsSoundInstance day.now }
     requires graph { IsGraph day.now.grammar graph.now }
+    requires prices { IsRoomFor prices.old day.now }
+    requires most { prices.old.most ≡ 1 }
+    requires rooms { AreMadeFor day.now.grammar graph.now rooms.old.pricer rooms.old.tree }
+    requires table { IsTableFor day.now.grammar table.old }
+    ensures prices { IsRoomFor prices.new day.now }
+    ensures most { prices.new.most ≡ 1 }
+    ensures rooms { AreMadeFor day.now.grammar graph.now rooms.new.pricer rooms.new.tree }
+    ensures table { IsTableFor day.now.grammar table.new }
+{
+    let cuts = [cut];
+    if !are_in_range(day, cell, &MULT, &cuts) {
+        return false;
+    }
+    prices.set_parts(day, 1, cell, &MULT, &cuts);
+    let least = table.least(&day.grammar, &*prices);
+    write_cheapest(&day.grammar, graph, rooms, &*prices) == least
+}
+
+/// Whether the table has the same least sums, at prices that look like chance and with a multiplier on
+/// each arc in turn.
+fn is_same(
+    day: &Instance,
+    graph: &Graph,
+    prices: &mut PriceRoom,
+    rooms: &mut Rooms,
+    table: &mut Table,
+) -> bool
+    requires sound { IsSoundInstance day.now }
+    requires graph { IsGraph day.now.grammar graph.now }
+    requires prices { IsRoomFor prices.old day.now }
+    requires most { prices.old.most ≡ 1 }
+    requires rooms { AreMadeFor day.now.grammar graph.now rooms.old.pricer rooms.old.tree }
     requires table { IsTableFor day.now.grammar table.old }
 {
-    let mut prices = PriceRoom::for_cuts(alloc, day, 1)?;
-    let mut rooms = rooms_for(alloc, &day.grammar, graph)?;
-    let mult = [Mult { cut: 1, value: 7 }];
     let mut a = 1;
     for arc in graph.arcs() {
         let b = next(a);
@@ -226,46 +318,64 @@ fn show_same(
         let d = next(c);
         a = next(d);
         let cell = [price(a), price(b), price(c), price(d)];
-        let cut = [Cut {
+        let cut = Cut {
             arc: *arc,
             side: side(b),
             b: 0,
-        }];
-        assert!(rt; are_in_range(day, &cell, &mult, &cut));
-        prices.set_parts(day, 1, &cell, &mult, &cut);
-        let least = table.least(&day.grammar, &prices);
-        let sum = write_cheapest(&day.grammar, graph, &mut rooms, &prices);
-        assert_eq!(rt; sum, least, "at {arc:?}, {cell:?}");
+        };
+        if !is_same_at(day, graph, prices, rooms, table, &cell, cut) {
+            return false;
+        }
     }
-    Ok(())
+    true
 }
 
-#[test]
-fn least_sums_at_prices(rt: HostRuntime) -> Result<(), Fail> {
-    let day = sound_day(rt.alloc())?;
-    let graph = graph_of(rt.alloc(), &day.grammar)?;
-    show_prices(&rt, rt.alloc(), &day, &graph)
+/// Whether a table has the least sums of the pricer.
+fn has_same_sums(
+    alloc: Global,
+    day: &Instance,
+    graph: &Graph,
+    table: &mut Table,
+) -> Result<bool, Fail>
+    requires sound { IsSoundInstance day.now }
+    requires graph { IsGraph day.now.grammar graph.now }
+    requires table { IsTableFor day.now.grammar table.old }
+{
+    let mut prices = PriceRoom::for_cuts(alloc, day, 1)?;
+    let mut rooms = rooms_for(alloc, &day.grammar, graph)?;
+    Ok(is_same(day, graph, &mut prices, &mut rooms, table))
 }
 
-#[test]
-fn least_sums_of_words(rt: HostRuntime) -> Result<(), Fail> {
-    let day = sound_day(rt.alloc())?;
-    let graph = graph_of(rt.alloc(), &day.grammar)?;
-    show_words(&rt, rt.alloc(), &day.grammar, &graph)
-}
-
-/// Shows on a graph what the table has.
-fn show_table(rt: &impl Abort, alloc: Global, day: &Instance, graph: &Graph) -> Result<(), Fail>
+fn has_sums_of_a_table(alloc: Global, day: &Instance, graph: &Graph) -> Result<bool, Fail>
     requires sound { IsSoundInstance day.now }
     requires graph { IsGraph day.now.grammar graph.now }
 {
     let mut table = Table::for_instance(alloc, &day.grammar)?;
-    show_same(rt, alloc, day, graph, &mut table)
+    has_same_sums(alloc, day, graph, &mut table)
+}
+
+/// Whether the pricer of a graph has the least sums of prices, of words, and of the table.
+fn has_sums_on(alloc: Global, day: &Instance, graph: &Graph) -> Result<bool, Fail>
+    requires sound { IsSoundInstance day.now }
+    requires graph { IsGraph day.now.grammar graph.now }
+{
+    Ok(
+        has_least_sums(alloc, day, graph)?
+            && has_prices(alloc, &day.grammar, graph)?
+            && has_sums_of_a_table(alloc, day, graph)?,
+    )
+}
+
+fn has_sums(alloc: Global, day: &Instance) -> Result<bool, Fail>
+    requires { IsSoundInstance day.now }
+{
+    let graph = graph_of(alloc, &day.grammar)?;
+    has_sums_on(alloc, day, &graph)
 }
 
 #[test]
-fn least_sums_of_the_table(rt: HostRuntime) -> Result<(), Fail> {
+fn least_sums(rt: HostRuntime) -> Result<(), Fail> {
     let day = sound_day(rt.alloc())?;
-    let graph = graph_of(rt.alloc(), &day.grammar)?;
-    show_table(&rt, rt.alloc(), &day, &graph)
+    assert!(rt; has_sums(rt.alloc(), &day)?);
+    Ok(())
 }

@@ -6,8 +6,6 @@ mod building;
 mod entries;
 mod rows;
 mod sense;
-#[cfg(test)]
-mod tests;
 
 pub use rows::{NodeRows, count_rows};
 pub use sense::Sense;

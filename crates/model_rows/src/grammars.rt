@@ -1,4 +1,8 @@
-use roster_model::{CodeDef, Grammar, List, Step, Sym, TreeRoom, is_plain, is_sound, unit_ranks};
+ghost use Rattle.std.specs.Prelude.{◌<◌, length};
+
+use roster_model::{
+    CodeDef, Grammar, List, Memory, Step, Sym, TreeRoom, is_plain, is_sound, unit_ranks,
+};
 use sample_days::{ANY, BLOCK_NAMES, BLOCKS, FULL_DAYS, RuleParts, WORK, grammar};
 use std::alloc::Global;
 use std::test::Fail;
@@ -53,74 +57,111 @@ const CASES: [Case<'static>; 10] = [
 ];
 
 /// Whether the grammar is as sound as it is said to be.
-fn is_right(alloc: Global, case: &Case) -> Result<bool, Fail> {
+fn is_right(alloc: Global, case: &Case<'_>) -> Result<bool, Fail> {
     let (_, names, rules, start, sound) = case;
     let grammar = grammar(alloc, 2, names, rules, *start)?;
     Ok(is_sound(&grammar) == *sound)
 }
 
-#[test]
-fn grammars_are_sound_up_to_one_change(rt: HostRuntime) -> Result<(), Fail> {
-    for case in CASES.as_slice() {
-        assert!(rt; is_right(rt.alloc(), case)?, "{}", case.0);
+fn show_all(alloc: Global, cases: &[Case<'_>]) -> Result<(), Fail> {
+    for case in cases {
+        if !is_right(alloc, case)? {
+            return Err(Fail::from(case.0));
+        }
     }
     Ok(())
 }
 
 #[test]
+fn grammars_are_sound_up_to_one_change(rt: HostRuntime) -> Result<(), Fail> {
+    show_all(rt.alloc(), &CASES)
+}
+
+const CODE: CodeDef = CodeDef {
+    byte: b'a',
+    work: true,
+};
+
+const TWICE: [CodeDef; 2] = [CODE, CODE];
+
+#[test]
 fn a_code_stands_once(rt: HostRuntime) -> Result<(), Fail> {
-    let work = CodeDef {
-        byte: b'a',
-        work: true,
-    };
     let mut grammar = grammar(rt.alloc(), 2, &NAMES, &FULL_DAYS, 0)?;
-    grammar.codes = List::from_vec([work, work].to_vec(rt.alloc())?);
+    grammar.codes = List::from_vec(TWICE.to_vec(rt.alloc())?);
     assert!(rt; !is_sound(&grammar));
     Ok(())
 }
 
-/// One block of work on four periods.
-fn blocks(alloc: Global) -> Result<Grammar, Fail> {
-    Ok(grammar(alloc, 4, &BLOCK_NAMES, &BLOCKS, 0)?)
+/// Whether the ranks by one-symbol rules of a grammar with four names are these.
+fn are_ranks(grammar: &Grammar, ranks: [u8; 4]) -> bool {
+    if !is_plain(grammar) || !is_sound(grammar) {
+        return false;
+    }
+    match unit_ranks(grammar) {
+        Ok(found) => &found[..4] == ranks.as_slice(),
+        Err(_) => false,
+    }
 }
 
-#[test]
-fn ranks_of_one_symbol_rules(rt: HostRuntime) -> Result<(), Fail> {
-    let grammar = blocks(rt.alloc())?;
-    assert!(rt; is_plain(&grammar));
-    assert!(rt; is_sound(&grammar));
-    let ranks = unit_ranks(&grammar).ok().ok_or("a cycle")?;
-    assert_eq!(rt; &ranks[..4], [0, 1, 0, 2].as_slice());
-    Ok(())
-}
+const ROOT: Step = Step {
+    rule: 1,
+    start: 1,
+    len: 4,
+};
 
-#[test]
-fn a_room_holds_steps(rt: HostRuntime) -> Result<(), Fail> {
-    let grammar = blocks(rt.alloc())?;
-    assert!(rt; is_sound(&grammar));
-    let mut room = TreeRoom::for_grammar(rt.alloc(), &grammar)?;
-    let root = Step {
-        rule: 1,
-        start: 1,
-        len: 4,
-    };
-    room.push(root);
-    assert_eq!(rt; room.steps(), [root].as_slice());
+/// Whether a room holds a step that is pushed, and nothing when it is cleared.
+fn holds(room: &mut TreeRoom) -> bool
+    requires { length room.old.steps < room.old.most }
+{
+    room.push(ROOT);
+    let held = room.steps() == [ROOT].as_slice();
     room.clear();
-    assert!(rt; room.steps().is_empty());
+    held && room.steps().is_empty()
+}
+
+fn has_room(alloc: Global, grammar: &Grammar) -> Result<bool, Fail> {
+    if !is_sound(grammar) {
+        return Ok(false);
+    }
+    let mut room = TreeRoom::for_grammar(alloc, grammar)?;
+    Ok(holds(&mut room))
+}
+
+#[test]
+fn one_block_of_work(rt: HostRuntime) -> Result<(), Fail> {
+    let grammar = grammar(rt.alloc(), 4, &BLOCK_NAMES, &BLOCKS, 0)?;
+    assert!(rt; are_ranks(&grammar, [0, 1, 0, 2]));
+    assert!(rt; has_room(rt.alloc(), &grammar)?);
     Ok(())
+}
+
+fn pushed(alloc: Global) -> Result<List<i32>, Memory> {
+    let mut list = List::new(alloc);
+    list.push(7)?;
+    list.push(8)?;
+    Ok(list)
+}
+
+/// Whether the lists are the same, as long as this, and not empty.
+fn are_same(one: &List<i32>, other: &List<i32>, len: usize) -> bool {
+    one == other && one.len() == len && !one.is_empty()
+}
+
+fn list_of(alloc: Global, items: &[i32]) -> Result<List<i32>, Fail> {
+    Ok(List::from_vec(items.to_vec(alloc)?))
+}
+
+/// Whether the list of the items has 7 and 8.
+fn has_both(alloc: Global, list: &List<i32>, items: &[i32]) -> Result<bool, Fail> {
+    let other = list_of(alloc, items)?;
+    Ok(are_same(list, &other, 2))
 }
 
 #[test]
 fn lists(rt: HostRuntime) -> Result<(), Fail> {
-    let mut list = List::new(rt.alloc());
-    assert!(rt; list.is_empty());
-    list.push(7)?;
-    list.push(8)?;
-    assert_eq!(rt; list.len(), 2);
-    let same = List::from_vec([7, 8].to_vec(rt.alloc())?);
-    assert!(rt; list == same);
-    assert!(rt; list != List::from_vec([7].to_vec(rt.alloc())?));
-    assert_eq!(rt; list.into_vec().as_slice(), [7, 8].as_slice());
+    let list = pushed(rt.alloc())?;
+    assert!(rt; has_both(rt.alloc(), &list, &[7, 8])?);
+    assert!(rt; !has_both(rt.alloc(), &list, &[7])?);
+    assert!(rt; list.into_vec().as_slice() == [7, 8].as_slice());
     Ok(())
 }

@@ -11,6 +11,3 @@ pub use column::{Place, entry_in};
 pub use laws::row_steps_exist;
 pub use row::{MOST, PivotRow};
 pub use step::step_row;
-
-#[cfg(test)]
-mod tests;

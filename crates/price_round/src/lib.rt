@@ -4,8 +4,6 @@
 mod denominator;
 mod floors;
 mod round;
-#[cfg(test)]
-mod tests;
 
 pub use denominator::least_denominator;
 pub use round::{RoundFault, to_prices};

@@ -35,8 +35,6 @@ mod report;
 mod said;
 mod shifts;
 mod summary;
-#[cfg(test)]
-mod tests;
 mod write;
 
 pub use cover::Cover;

@@ -4,8 +4,6 @@
 mod balance;
 mod fault;
 mod take;
-#[cfg(test)]
-mod tests;
 mod trees;
 
 pub use fault::SplitFault;

@@ -3,8 +3,6 @@
 
 mod laws;
 mod seats;
-#[cfg(test)]
-mod tests;
 mod tree;
 
 pub use laws::{count_rises, few_seats, leaf_in_hand, limit_falls, short_paths};

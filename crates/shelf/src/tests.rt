@@ -3,7 +3,6 @@ use crate::{DiskShelf, MemoryShelf, QuietShelf, Shelf, ShelfFault};
 use std::alloc::Global;
 use std::io;
 use std::io::{ErrorKind, Read, Write};
-use std::process::Abort;
 use std::test::Fail;
 
 // Gives or takes one byte a call, and then is interrupted.
@@ -58,105 +57,94 @@ impl Write for Full {
     }
 }
 
-// What every shelf answers with ample memory and names that nothing holds yet.
-fn check_answers<S: Shelf>(rt: &impl Abort, alloc: Global, shelf: &mut S) -> Result<(), Fail> {
-    let failed = Err(ShelfFault::Failed);
-    for text in ["first\n", "", "2\r\n#"] {
+const HELD: &str = "shelf_text.txt";
+
+/// Texts, and what a buffer that began with `in:` has once they were fetched into it.
+const TEXTS: [(&str, &str); 3] = [
+    ("first\n", "in:first\n"),
+    ("", "in:"),
+    ("2\r\n#", "in:2\r\n#"),
+];
+
+const ALL_SAID: &str = "first\n2\r\n#";
+
+/// Whether a text is fetched as it was stored, behind what the buffer has, and an absent name is refused.
+fn fetches<S: Shelf>(shelf: &mut S, into: &mut Vec<u8>, text: &str, want: &str) -> bool {
+    shelf.store(HELD, text.as_bytes()).is_ok()
+        && shelf.fetch(HELD, into).is_ok()
+        && shelf.fetch("shelf_absent.txt", into) == Err(ShelfFault::Failed)
+        && into.as_slice() == want.as_bytes()
+}
+
+/// Whether a shelf with ample memory answers as it should, where nothing is held yet.
+fn answers<S: Shelf>(alloc: Global, shelf: &mut S) -> Result<bool, Fail> {
+    for (text, want) in &TEXTS {
         let mut into = b"in:".to_vec(alloc)?;
-        assert_eq!(rt;
-            shelf.store("shelf_text.txt", text.as_bytes()),
-            Ok(()),
-            "storing {text:?}"
-        );
-        assert_eq!(rt;
-            shelf.fetch("shelf_text.txt", &mut into),
-            Ok(()),
-            "fetching {text:?}"
-        );
-        assert_eq!(rt; into.len(), 3 + text.len(), "after {text:?}");
-        assert!(rt; into.as_slice().starts_with(b"in:"), "after {text:?}");
-        assert!(rt;
-            into.as_slice().ends_with(text.as_bytes()),
-            "after {text:?}"
-        );
-        assert_eq!(rt; shelf.fetch("shelf_absent.txt", &mut into), failed);
-        assert_eq!(rt; into.len(), 3 + text.len(), "after the absent name");
-        assert_eq!(rt; shelf.say(text.as_bytes()), Ok(()), "saying {text:?}");
+        if !fetches(shelf, &mut into, text, want) || shelf.say(text.as_bytes()).is_err() {
+            return Ok(false);
+        }
     }
+    Ok(true)
+}
+
+#[test]
+fn a_quiet_shelf_answers(rt: HostRuntime) -> Result<(), Fail> {
+    let mut shelf = QuietShelf::new(rt.alloc());
+    shelf.put(HELD, b"put")?;
+    assert!(rt; answers(rt.alloc(), &mut shelf)?);
+    assert!(rt; shelf.said() == ALL_SAID.as_bytes());
     Ok(())
 }
 
 #[test]
-fn every_shelf_answers(rt: HostRuntime) -> Result<(), Fail> {
-    let alloc = rt.alloc();
-    let mut quiet = QuietShelf::new(alloc);
-    quiet.put("shelf_text.txt", b"put")?;
-    check_answers(&rt, alloc, &mut quiet)?;
-    assert_eq!(rt; quiet.text("shelf_text.txt"), Some(b"2\r\n#".as_slice()));
-    assert_eq!(rt; quiet.text("shelf_absent.txt"), None);
-    assert_eq!(rt; quiet.said(), b"first\n2\r\n#".as_slice());
-    assert_eq!(rt; quiet.faults(), 3);
-    let mut memory = MemoryShelf::new(alloc, Vec::new(alloc));
-    check_answers(&rt, alloc, &mut memory)?;
-    check_answers(&rt, alloc, &mut DiskShelf::new(rt))
+fn a_memory_shelf_answers(rt: HostRuntime) -> Result<(), Fail> {
+    let mut shelf = MemoryShelf::new(rt.alloc(), Vec::new(rt.alloc()));
+    shelf.put(HELD, b"put")?;
+    assert!(rt; answers(rt.alloc(), &mut shelf)?);
+    assert!(rt; shelf.said() == ALL_SAID.as_bytes());
+    Ok(())
 }
 
 #[test]
-fn listed_calls_fail(rt: HostRuntime) -> Result<(), Fail> {
+fn the_disk_answers(rt: HostRuntime) -> Result<(), Fail> {
     let alloc = rt.alloc();
-    let mut shelf = MemoryShelf::new(alloc, [2, 4, 9].to_vec(alloc)?);
-    let mut into = Vec::new(alloc);
-    shelf.put("a", b"old")?;
-    let answers = [
-        ("a", true),
-        ("a", false),
-        ("a", true),
-        ("a", false),
-        ("b", false),
-        ("a", true),
-    ];
-    for (i, (name, answered)) in answers.iter().enumerate() {
-        assert_eq!(rt;
-            shelf.fetch(name, &mut into).is_ok(),
-            *answered,
-            "call {}",
-            i + 1
-        );
+    if answers(alloc, &mut DiskShelf::new(rt))? {
+        return Ok(());
     }
-    assert_eq!(rt; into.as_slice(), b"oldoldold".as_slice());
-    assert_eq!(rt; shelf.faults(), 3);
-    Ok(())
+    Err(Fail::from("another answer"))
+}
+
+/// Whether what a reader gives is appended, and a fault after so many calls is told.
+fn reads(into: &mut Vec<u8>) -> bool {
+    read_bytes(&mut b"text".as_slice(), into).is_ok()
+        && read_bytes(&mut Interrupted { calls: 2 }, into) == Err(ShelfFault::Failed)
+        && into.as_slice() == b"textaa".as_slice()
 }
 
 #[test]
-fn failing_calls_keep_the_text_and_say_half(rt: HostRuntime) -> Result<(), Fail> {
-    let alloc = rt.alloc();
-    let mut shelf = MemoryShelf::new(alloc, [1, 2].to_vec(alloc)?);
-    shelf.put("a", b"old")?;
-    assert_eq!(rt; shelf.store("a", b"new"), Err(ShelfFault::Failed));
-    assert_eq!(rt; shelf.text("a"), Some(b"old".as_slice()));
-    assert_eq!(rt; shelf.say(b"abcde"), Err(ShelfFault::Failed));
-    assert_eq!(rt; shelf.say(b"fg"), Ok(()));
-    assert_eq!(rt; shelf.said(), b"abfg".as_slice());
+fn reading_stops_at_a_fault(rt: HostRuntime) -> Result<(), Fail> {
+    let mut into = Vec::new(rt.alloc());
+    assert!(rt; reads(&mut into));
     Ok(())
 }
 
+/// How many calls a writer answers, and whether it took three bytes then.
+const WRITERS: [(u8, bool); 2] = [(3, true), (2, false)];
+
+fn writes_until_a_fault() -> bool {
+    for (calls, whole) in &WRITERS {
+        if write_bytes(&mut Interrupted { calls: *calls }, b"bcd").is_ok() != *whole {
+            return false;
+        }
+    }
+    true
+}
+
 #[test]
-fn streams_stop_at_faults(rt: HostRuntime) -> Result<(), Fail> {
-    let alloc = rt.alloc();
-    let failed = Err(ShelfFault::Failed);
-    let mut into = Vec::new(alloc);
-    assert_eq!(rt; read_bytes(&mut b"text".as_slice(), &mut into), Ok(()));
-    assert_eq!(rt;
-        read_bytes(&mut Interrupted { calls: 2 }, &mut into),
-        failed
-    );
-    assert_eq!(rt; into.as_slice(), b"textaa".as_slice());
-    assert_eq!(rt; write_bytes(&mut into, b"bc"), Ok(()));
-    assert_eq!(rt; into.as_slice(), b"textaabc".as_slice());
-    assert_eq!(rt; write_bytes(&mut Interrupted { calls: 3 }, b"bcd"), Ok(()));
-    assert_eq!(rt; write_bytes(&mut Interrupted { calls: 2 }, b"bcd"), failed);
-    assert_eq!(rt; write_bytes(&mut Full, b"bcd"), failed);
-    assert_eq!(rt; write_bytes(&mut Full, b""), Ok(()));
+fn writing_stops_at_a_fault(rt: HostRuntime) -> Result<(), Fail> {
+    let mut into = b"text".to_vec(rt.alloc())?;
+    assert!(rt; write_bytes(&mut into, b"bc").is_ok() && into.as_slice() == b"textbc".as_slice());
+    assert!(rt; writes_until_a_fault());
+    assert!(rt; write_bytes(&mut Full, b"bcd").is_err() && write_bytes(&mut Full, b"").is_ok());
     Ok(())
 }

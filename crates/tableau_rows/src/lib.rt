@@ -1,10 +1,15 @@
-//! Worked rows of the simplex method, as tests over public calls.
+//! Worked rows of the simplex method, of the rows of a master and of its rounded prices, as tests over
+//! public calls.
 #![tactic(auto)]
 
 #[cfg(test)]
 mod listed;
 #[cfg(test)]
+mod node_rows;
+#[cfg(test)]
 mod reduced;
+#[cfg(test)]
+mod rounded;
 #[cfg(test)]
 mod sound;
 #[cfg(test)]

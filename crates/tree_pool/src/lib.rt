@@ -11,6 +11,3 @@ mod tree;
 
 pub use pool::Pool;
 pub use tree::Tree;
-
-#[cfg(test)]
-mod tests;

@@ -2,24 +2,25 @@ ghost use Rattle.std.specs.Prelude.{◌≡◌, IfOk};
 ghost use Rattle.roster_model.specs.Room.{most_uses};
 ghost use Rattle.roster_model.specs.Sound.{IsSound};
 ghost use Rattle.span_arcs.specs.DayArcs.{IsDayArcsOf};
+ghost use Rattle.span_table.specs.Tables.{IsMadeFor};
 
 use roster_model::{ArcKey, Grammar, Step, Sym, TreeRoom, is_sound};
 use sample_days::{ANY, BLOCK_NAMES, BLOCKS, FULL_DAYS, RuleParts, WORK, grammar};
 use span_arcs::DayArcs;
 use span_table::Table;
+use std::alloc::Global;
 use std::test::Fail;
 use word_prices::WordPrices;
 
+/// The periods, names and rules of a grammar that starts with its first name.
+type Parts<'a> = (u8, &'a [&'a str], &'a [RuleParts<'a>]);
+
 /// A grammar that is sound.
-fn sound_grammar(
-    rt: &HostRuntime,
-    periods: u8,
-    names: &[&str],
-    rules: &[RuleParts],
-) -> Result<Grammar, Fail>
+fn sound_grammar(alloc: Global, parts: &Parts<'_>) -> Result<Grammar, Fail>
     ensures { IfOk result IsSound }
 {
-    let grammar = grammar(rt.alloc(), periods, names, rules, 0)?;
+    let (periods, names, rules) = parts;
+    let grammar = grammar(alloc, *periods, names, rules, 0)?;
     if is_sound(&grammar) {
         return Ok(grammar);
     }
@@ -30,29 +31,77 @@ const BLOCK: Sym = Sym::Name(1);
 
 const IDLE: Sym = Sym::Name(2);
 
-/// Words of four periods, and their prices by the rules of one block.
-const PRICED: [(&str, Option<i128>); 4] = [
+const BLOCK_PARTS: Parts<'static> = (4, &BLOCK_NAMES, &BLOCKS);
+
+const FULL_PARTS: Parts<'static> = (2, &["S", "T"], &FULL_DAYS);
+
+const CHAIN: [RuleParts<'static>; 3] = [
+    (0, 1, &[BLOCK, IDLE], ANY),
+    (2, 10, &[BLOCK], ANY),
+    (1, 100, &[WORK], ANY),
+];
+
+const CHAIN_PARTS: Parts<'static> = (2, &["S", "T", "U"], &CHAIN);
+
+/// A word, and its price.
+type Priced<'a> = (&'a str, Option<i128>);
+
+const BLOCK_WORDS: [Priced<'static>; 4] = [
     ("aaaa", None),
     ("a...", None),
     (".aaa", Some(5)),
     (".aa.", Some(4)),
 ];
 
+/// A grammar, and words of it.
+type Row<'a> = (Parts<'a>, &'a [Priced<'a>]);
+
+/// One block, the lesser of two trees, and the sum down a chain.
+const WORDS: [Row<'static>; 3] = [
+    (BLOCK_PARTS, &BLOCK_WORDS),
+    (FULL_PARTS, &[("aa", Some(3))]),
+    (CHAIN_PARTS, &[("aa", Some(211))]),
+];
+
+/// Whether the table, filled for a word, tells its price.
+fn tells_price(grammar: &Grammar, table: &mut Table, word: &str, price: Option<i128>) -> bool
+    requires sound { IsSound grammar.now }
+    requires made { IsMadeFor grammar.now table.old }
+    ensures { IsMadeFor grammar.now table.new }
+{
+    let prices = WordPrices::new(grammar, word.as_bytes());
+    table.least(grammar, &prices) == price && table.value(grammar, grammar.start) == price
+}
+
 /// Whether one table, filled for one word after another, tells their prices.
-fn tells_prices(
-    rt: &HostRuntime,
-    grammar: &Grammar,
-    words: &[(&str, Option<i128>)],
-) -> Result<bool, Fail>
+fn tells_prices(grammar: &Grammar, table: &mut Table, words: &[Priced<'_>]) -> bool
+    requires sound { IsSound grammar.now }
+    requires made { IsMadeFor grammar.now table.old }
+{
+    for (word, price) in words {
+        if !tells_price(grammar, table, word, *price) {
+            return false;
+        }
+    }
+    true
+}
+
+fn has_prices(alloc: Global, grammar: &Grammar, words: &[Priced<'_>]) -> Result<bool, Fail>
     requires { IsSound grammar.now }
 {
-    let mut table = Table::for_instance(rt.alloc(), grammar)?;
-    for (word, least) in words {
-        let prices = WordPrices::new(grammar, word.as_bytes());
-        if table.least(grammar, &prices) != *least {
-            return Ok(false);
-        }
-        if table.value(grammar, grammar.start) != *least {
+    let mut table = Table::for_instance(alloc, grammar)?;
+    Ok(tells_prices(grammar, &mut table, words))
+}
+
+/// Whether a grammar's words have these prices.
+fn are_priced(alloc: Global, parts: &Parts<'_>, words: &[Priced<'_>]) -> Result<bool, Fail> {
+    let grammar = sound_grammar(alloc, parts)?;
+    has_prices(alloc, &grammar, words)
+}
+
+fn are_all_priced(alloc: Global, rows: &[Row<'_>]) -> Result<bool, Fail> {
+    for (parts, words) in rows {
+        if !are_priced(alloc, parts, words)? {
             return Ok(false);
         }
     }
@@ -60,15 +109,14 @@ fn tells_prices(
 }
 
 #[test]
-fn words_of_one_block(rt: HostRuntime) -> Result<(), Fail> {
-    let grammar = sound_grammar(&rt, 4, &BLOCK_NAMES, &BLOCKS)?;
-    assert!(rt; tells_prices(&rt, &grammar, PRICED.as_slice())?);
+fn prices_of_words(rt: HostRuntime) -> Result<(), Fail> {
+    assert!(rt; are_all_priced(rt.alloc(), &WORDS)?);
     Ok(())
 }
 
 /// Writes a tree of least sum of a word into the room.
 fn write_tree(
-    rt: &HostRuntime,
+    alloc: Global,
     grammar: &Grammar,
     word: &[u8],
     room: &mut TreeRoom,
@@ -76,7 +124,7 @@ fn write_tree(
     requires sound { IsSound grammar.now }
     requires room { room.old.most ≡ most_uses grammar.now }
 {
-    let mut table = Table::for_instance(rt.alloc(), grammar)?;
+    let mut table = Table::for_instance(alloc, grammar)?;
     let prices = WordPrices::new(grammar, word);
     if table.least(grammar, &prices).is_none() {
         return Err(Fail::from("no tree"));
@@ -86,16 +134,11 @@ fn write_tree(
 }
 
 /// Whether these are the steps of the tree that is found for a word.
-fn is_tree_of(
-    rt: &HostRuntime,
-    grammar: &Grammar,
-    word: &[u8],
-    steps: &[Step],
-) -> Result<bool, Fail>
+fn is_tree_of(alloc: Global, grammar: &Grammar, word: &[u8], steps: &[Step]) -> Result<bool, Fail>
     requires { IsSound grammar.now }
 {
-    let mut room = TreeRoom::for_grammar(rt.alloc(), grammar)?;
-    write_tree(rt, grammar, word, &mut room)?;
+    let mut room = TreeRoom::for_grammar(alloc, grammar)?;
+    write_tree(alloc, grammar, word, &mut room)?;
     Ok(room.steps() == steps)
 }
 
@@ -111,29 +154,9 @@ const USES: [(u8, u8, u8); 6] = [
 
 #[test]
 fn the_tree_of_a_word(rt: HostRuntime) -> Result<(), Fail> {
-    let grammar = sound_grammar(&rt, 4, &BLOCK_NAMES, &BLOCKS)?;
+    let grammar = sound_grammar(rt.alloc(), &BLOCK_PARTS)?;
     let steps = USES.map(|(rule, start, len)| Step { rule, start, len });
-    assert!(rt; is_tree_of(&rt, &grammar, b".aa.", steps.as_slice())?);
-    Ok(())
-}
-
-const CHAIN: [RuleParts; 3] = [
-    (0, 1, &[BLOCK, IDLE], ANY),
-    (2, 10, &[BLOCK], ANY),
-    (1, 100, &[WORK], ANY),
-];
-
-#[test]
-fn the_lesser_of_two_trees(rt: HostRuntime) -> Result<(), Fail> {
-    let grammar = sound_grammar(&rt, 2, &["S", "T"], &FULL_DAYS)?;
-    assert!(rt; tells_prices(&rt, &grammar, &[("aa", Some(3))])?);
-    Ok(())
-}
-
-#[test]
-fn the_sum_down_a_chain(rt: HostRuntime) -> Result<(), Fail> {
-    let grammar = sound_grammar(&rt, 2, &["S", "T", "U"], &CHAIN)?;
-    assert!(rt; tells_prices(&rt, &grammar, &[("aa", Some(211))])?);
+    assert!(rt; is_tree_of(rt.alloc(), &grammar, b".aa.", steps.as_slice())?);
     Ok(())
 }
 
@@ -218,20 +241,17 @@ fn are_others_none(grammar: &Grammar, arcs: &DayArcs) -> bool
     true
 }
 
-/// Whether the arcs are told in order, and whether the other keys are told from them.
-fn tells_arcs(rt: &HostRuntime, grammar: &Grammar) -> Result<(bool, bool), Fail>
+/// Whether the arcs are told in order, and the other keys are told from them.
+fn tells_arcs(alloc: Global, grammar: &Grammar) -> Result<bool, Fail>
     requires { IsSound grammar.now }
 {
-    let arcs = DayArcs::for_instance(rt.alloc(), grammar)?;
-    Ok((
-        are_in_order(grammar, &arcs),
-        are_others_none(grammar, &arcs),
-    ))
+    let arcs = DayArcs::for_instance(alloc, grammar)?;
+    Ok(are_in_order(grammar, &arcs) && are_others_none(grammar, &arcs))
 }
 
 #[test]
 fn the_arcs_of_one_block(rt: HostRuntime) -> Result<(), Fail> {
-    let grammar = sound_grammar(&rt, 4, &BLOCK_NAMES, &BLOCKS)?;
-    assert_eq!(rt; tells_arcs(&rt, &grammar)?, (true, true));
+    let grammar = sound_grammar(rt.alloc(), &BLOCK_PARTS)?;
+    assert!(rt; tells_arcs(rt.alloc(), &grammar)?);
     Ok(())
 }

@@ -1,0 +1,84 @@
+ghost use Rattle.std.specs.Prelude.{◌≡◌, IfOk, length};
+ghost use Rattle.parse_graph.specs.Graphs.{HasGrammar};
+
+use crate::days::{graph_of, three_words};
+use parse_graph::Graph;
+use roster_model::{List, Step, is_sound};
+use roster_split::{SplitFault, split};
+use std::alloc::Global;
+use std::test::Fail;
+
+/// The graph of three words of three letters.
+fn words_graph(alloc: Global) -> Result<Graph, Fail>
+    ensures { IfOk result HasGrammar }
+{
+    let grammar = three_words(alloc)?;
+    if is_sound(&grammar) {
+        return graph_of(alloc, &grammar);
+    }
+    Err(Fail::from("no sound grammar"))
+}
+
+/// Counts of the arcs: these two for the arcs of the second rule, and 0 for the others.
+fn counts_of(alloc: Global, graph: &Graph, whole: u32, rest: u32) -> Result<List<u32>, Fail> {
+    let mut counts = List::new(alloc);
+    for arc in graph.arcs() {
+        counts.push(match (arc.rule, arc.suffix) {
+            (2, 0) => whole,
+            (2, _) => rest,
+            _ => 0,
+        })?;
+    }
+    Ok(counts)
+}
+
+/// The one step of a tree of the second rule.
+const STEP: Step = Step {
+    rule: 2,
+    start: 1,
+    len: 3,
+};
+
+fn are_two_trees(trees: &[List<Step>]) -> bool {
+    match trees {
+        [first, second] => {
+            first.as_slice() == [STEP].as_slice() && second.as_slice() == [STEP].as_slice()
+        }
+        _ => false,
+    }
+}
+
+/// Whether the counts are those of two trees of the second rule, or a node is made and used as often as
+/// this.
+fn splits(alloc: Global, graph: &Graph, counts: &[u32], uneven: Option<(u64, u64)>) -> bool
+    requires graph { HasGrammar graph.now }
+    requires counts { length counts.now ≡ length graph.now.arcs }
+{
+    match split(alloc, graph, counts) {
+        Ok(trees) => uneven.is_none() && are_two_trees(trees.as_slice()),
+        Err(SplitFault::Unbalanced { made, used, .. }) => uneven == Some((made, used)),
+        Err(SplitFault::Memory) => false,
+    }
+}
+
+/// Whether that is told of these counts of the second rule.
+fn tells(
+    alloc: Global,
+    graph: &Graph,
+    whole: u32,
+    rest: u32,
+    uneven: Option<(u64, u64)>,
+) -> Result<bool, Fail>
+    requires { HasGrammar graph.now }
+{
+    let counts = counts_of(alloc, graph, whole, rest)?;
+    Ok(counts.len() == graph.arcs().len() && splits(alloc, graph, counts.as_slice(), uneven))
+}
+
+#[test]
+fn counts_of_one_rule(rt: HostRuntime) -> Result<(), Fail> {
+    let graph = words_graph(rt.alloc())?;
+    assert!(rt; tells(rt.alloc(), &graph, 2, 2, None)?);
+    assert!(rt; tells(rt.alloc(), &graph, 2, 3, Some((3, 2)))?);
+    Ok(())
+}
