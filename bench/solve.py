@@ -11,7 +11,8 @@ texts must be the same.
 
 With --peers, a folder with a program solve.py RULES DEMAND --solver cbc|highs --limit SECONDS, each row has also what
 CBC and HiGHS give within the limit, and the ratio of this program's seconds to those of the faster one that proved its
-optimum. They are Debian's packages: apt-get install --no-install-recommends coinor-cbc python3-scipy.
+optimum: processor seconds of the whole call in each case, for the peers with the model that a script builds. They are
+Debian's packages: apt-get install --no-install-recommends coinor-cbc python3-scipy.
 """
 import argparse
 import os
@@ -20,7 +21,6 @@ import signal
 import subprocess
 import sys
 import tempfile
-import time
 
 TOP = pathlib.Path(__file__).resolve().parent.parent
 SOLVERS = ("cbc", "highs")
@@ -65,12 +65,10 @@ def solved(program, rules, demand, turns, limit):
 def peer(peers, solver, rules, demand, limit):
     """What a general solver gives on a day, and its seconds where it proved an optimum."""
     words = ["/usr/bin/python3", peers / "solve.py", rules, demand, "--solver", solver, "--limit", limit]
-    began = time.time()
-    status, said, _, _ = run(words, 3 * limit + 60)
+    status, said, seconds, _ = run(words, 3 * limit + 60)
     told = fields(said)
-    if status != 0 or "time" not in told:
-        return None, f"{solver}: none after {time.time() - began:.0f} s"
-    seconds = float(told["time"])
+    if status != 0 or "cost" not in told:
+        return None, f"{solver}: none after {seconds:.0f} s"
     closed = told["cost"] == told["bound"]
     return seconds if closed else None, f"{solver} {told['cost']} / {told['bound']} {seconds:.2f} s"
 
