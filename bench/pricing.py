@@ -7,8 +7,10 @@ four forms: on 128-bit sums in the order of the arcs, which the program had befo
 order, on 64-bit sums with the arcs that make a node side by side, at most 1.2 times which is asked, and on
 128-bit sums in that way. On a day of 80 periods that is cut in every way (examples/g5.rules, 85,400 arcs)
 the building of the graph against one pass over it, and a pass with prices on the arcs of 10, 100 and 1,000
-cuts against one with none on arcs. The program is crates/bench_runs, as `rt run` builds it there; the time
-of a run that does the thing once is taken off. Sums that are printed for the same prices must agree.
+cuts against one with none on arcs. On the first day again, a pass with wide prices against one with narrow
+prices, and against the first form in plain Rust, which stands for the pass that it was: at most 0.7 of that
+is asked. The program is crates/bench_runs, as `rt run` builds it there; the time of a run that does the thing
+once is taken off. Sums that are printed for the same prices must agree.
 """
 import os
 import pathlib
@@ -21,6 +23,8 @@ from explain import longer
 TOP = pathlib.Path(__file__).resolve().parent.parent
 PROGRAM = TOP / "crates" / "bench_runs" / "out" / "bench_runs"
 TURNS = 5
+# rule costs times this are wide prices
+WIDE = 2**48
 FORMS = {
     "old": "128-bit sums, by arcs",
     "order": "64-bit sums, by arcs",
@@ -37,10 +41,11 @@ def seconds(words, given):
     return used.ru_utime, answer
 
 
-def each(words, given, times, word=0):
+def each(words, given, times, *more):
     """The least time of doing it once more, and what was printed."""
-    once = min(seconds([*words, "1", str(word)], given)[0] for _ in range(TURNS))
-    runs = [seconds([*words, str(times + 1), str(word)], given) for _ in range(TURNS)]
+    more = [str(word) for word in more]
+    once = min(seconds([*words, "1", *more], given)[0] for _ in range(TURNS))
+    runs = [seconds([*words, str(times + 1), *more], given) for _ in range(TURNS)]
     return (min(took for took, _ in runs) - once) / times, runs[0][1].strip()
 
 
@@ -71,11 +76,17 @@ def main():
         for form, rust in forms.items():
             print(f"pass in plain Rust, {FORMS[form]}: {1e6 * rust:.0f} us, ratio {passed / rust:.2f}")
         build, arcs = each([PROGRAM, "build"], short, 5)
-        once, _ = each([PROGRAM, "cheapest"], short, 200)
+        once, _ = each([PROGRAM, "mults"], short, 4000, 0, 1)
         print(f"{arcs} arcs: build {1e3 * build:.1f} ms, pass {1e3 * once:.2f} ms, ratio {build / once:.0f}")
         for count in (10, 100, 1000):
-            paid, _ = each([PROGRAM, "mults"], short, 200, count)
+            paid, _ = each([PROGRAM, "mults"], short, 4000, count, 1)
             print(f"pass with prices on {count} arcs: {1e3 * paid:.2f} ms, ratio {paid / once:.2f}")
+        narrow, least = each([PROGRAM, "mults"], long, 2000, 0, 1)
+        wide, most = each([PROGRAM, "mults"], long, 2000, 0, WIDE)
+        old, _ = each([plain, links], long, 2000, "old")
+        if int(most) != WIDE * int(least):
+            sys.exit(f"the sums differ: {least} and {most}")
+        print(f"wide pass: {1e6 * wide:.0f} us, ratio to a narrow one {wide / narrow:.2f}, to what it was {wide / old:.2f}")
 
 
 if __name__ == "__main__":

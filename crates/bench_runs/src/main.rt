@@ -6,7 +6,8 @@
 //! - `fill` fills the table of all trees of the day, each time with other prices, and `cheapest` makes
 //!   one pass over the graph of all parses; both print the last least sum, or `none` where the day has
 //!   no tree.
-//! - `mults` makes such passes with a price on the arc of each of so many cuts.
+//! - `mults` makes such passes with a price on the arc of each of so many cuts, all prices times the
+//!   factor.
 //! - `build` builds the graph, and prints how many arcs it has.
 //! - `links` prints the graph, a line an arc: its rule and suffix, the node that it makes, and its
 //!   first part and what follows that, each a node `n`, a letter `code.period`, or `-`.
@@ -70,7 +71,10 @@ fn answer(alloc: Global, what: &str, text: &[u8], numbers: Numbers) -> Result<Fo
     match what {
         "cheapest" => Ok(Found::Sum(last_cheapest(alloc, &grammar, times)?)),
         "build" => Ok(Found::Arcs(built(alloc, &grammar, times)?)),
-        "mults" => Ok(Found::Sum(last_priced(alloc, grammar, times, numbers.count)?)),
+        "mults" => {
+            let least = last_priced(alloc, grammar, times, numbers.count, numbers.factor)?;
+            Ok(Found::Sum(least))
+        }
         _ => Ok(Found::Sum(last_fill(alloc, &grammar, times)?)),
     }
 }

@@ -46,32 +46,34 @@ fn cuts_of(alloc: Global, graph: &Graph, count: u16) -> Result<List<Cut>, Memory
     Ok(cuts)
 }
 
-/// What a tree is paid for the arcs of so many cuts, 1 to 100.
-fn paid_for(alloc: Global, count: usize) -> Result<List<i128>, Memory>
+/// What a tree is paid for the arcs of so many cuts, 1 to 100 times the factor.
+fn paid_for(alloc: Global, count: usize, factor: u64) -> Result<List<i128>, Memory>
     ensures count { IfOk result (λ paid. length paid ≡ count) }
     ensures small { IfOk result (λ paid. All (Within (2 ^ 80)) paid) }
 {
     let mut paid = List::new(alloc);
     for number in 0..count {
-        paid.push(1 + (number % 100) as i128)?;
+        paid.push((1 + (number % 100) as i128) * i128::from(factor))?;
     }
     Ok(paid)
 }
 
-/// A room that holds what so many cuts pay, at rule costs.
+/// A room that holds what so many cuts pay, at rule costs, each times the factor.
 fn prices_of(
     alloc: Global,
     day: &Instance,
     graph: &Graph,
     count: u16,
+    factor: u64,
 ) -> Result<PriceRoom, BenchFault>
     requires sound { IsSoundInstance day.now }
     requires cells { length day.now.cells ≡ 0 }
 {
     let cuts = cuts_of(alloc, graph, count)?;
-    let paid = paid_for(alloc, cuts.len())?;
+    let paid = paid_for(alloc, cuts.len(), factor)?;
     let mut prices = PriceRoom::for_cuts(alloc, day, cuts.len())?;
-    prices.set_wide(day, 1, &[], paid.as_slice(), cuts.as_slice());
+    let unit = u128::from(factor.max(1));
+    prices.set_wide(day, unit, &[], paid.as_slice(), cuts.as_slice());
     Ok(prices)
 }
 
@@ -87,25 +89,26 @@ fn passed(graph: &Graph, pricer: &mut Pricer, prices: &PriceRoom, times: u32) ->
     least
 }
 
-/// Passes over the graph with a price on the arc of each of so many cuts.
+/// Passes over the graph with a price on the arc of each of so many cuts, and the factor.
 fn priced(
     alloc: Global,
     day: &Instance,
     graph: &Graph,
     count: u16,
+    factor: u64,
     times: u32,
 ) -> Result<Option<i128>, BenchFault>
     requires sound { IsSoundInstance day.now }
     requires cells { length day.now.cells ≡ 0 }
     requires graph { IsGraph day.now.grammar graph.now }
 {
-    let prices = prices_of(alloc, day, graph, count)?;
+    let prices = prices_of(alloc, day, graph, count, factor)?;
     let mut pricer = Pricer::new(alloc, graph)?;
     Ok(passed(graph, &mut pricer, &prices, times))
 }
 
 /// Returns the last least sum of so many passes over the graph of a grammar, with a price on the arc
-/// of each of so many cuts.
+/// of each of so many cuts. All prices are multiples of the factor.
 ///
 /// # Errors
 ///
@@ -115,8 +118,9 @@ pub fn last_priced(
     grammar: Grammar,
     times: u32,
     count: u16,
+    factor: u64,
 ) -> Result<Option<i128>, BenchFault> {
     let day = day_of(alloc, grammar)?;
     let graph = graph_of(alloc, &day.grammar)?;
-    priced(alloc, &day, &graph, count, times)
+    priced(alloc, &day, &graph, count, factor, times)
 }

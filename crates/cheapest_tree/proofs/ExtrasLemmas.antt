@@ -1,5 +1,5 @@
 -- What the arcs of a graph cost, by their places.
-use Rattle.std.proofs.Common.{◌≡◌, ◌≢◌, ℕ, ℤ, pos, ◌<◌, ◌≤◌, ◌+◌, ◌+ℤ◌, ◌^◌, Bool, true, false, cond, List, ◌∷◌, Some, arith, refl, subst, sym, ap, ◌∙◌, ◌⊎◌, inl, inr, length, get_or, set, drop}
+use Rattle.std.proofs.Common.{◌≡◌, ◌≢◌, ℕ, ℤ, pos, ◌<◌, ◌≤◌, ◌+◌, ◌+ℤ◌, Bool, true, false, cond, List, Some, arith, refl, subst, sym, ap, ◌∙◌, ◌⊎◌, inl, inr, length, get_or, set, drop}
 use Rattle.std.specs.Prelude.{slice_get, IsTrue, IsFalse}
 use Rattle.std.proofs.lemmas.Int.{ints}
 use Rattle.std.proofs.lemmas.Option.{same_Some, slice_get_within, slice_get-get_or}
@@ -12,7 +12,7 @@ use Rattle.roster_model.specs.RoomPrices.{entry_price, listed_price}
 use Rattle.roster_model.specs.Sums.{Within}
 use Rattle.arc_laws.proofs.SameArc.{Told, arc_tells, same_arc-refl}
 use Rattle.parse_graph.proofs.PlacesLemmas.{In-at}
-use Rattle.cheapest_tree.specs.Extras.{number_at, AreNarrow, AreFreeBut, IsAdded}
+use Rattle.cheapest_tree.specs.Extras.{number_at, AreWithin, AreFreeBut, IsAdded}
 
 same_or_not : (a b : ℕ) → (a ≡ b) ⊎ (a ≢ b)
 same_or_not a b = grind arith
@@ -75,13 +75,13 @@ module _ (arcs : List ArcKey) (entries : List ArcPrice) where
       let rest : listed_price (drop n entries) a ≡ pos 0 = at_drop_all (λ (es : List ArcPrice). listed_price es a) entries n all in
       omega (arith, ints, so_far k a here, rest)
 
--- a narrow number in the place of another
-pub narrow-set : (old : List ℤ) (p : ℕ) (z : ℤ) → p < length old → AreNarrow old → Within (2 ^ 43) z → AreNarrow (set old p z)
-narrow-set old p z inside narrow within k = by (same_or_not k p)
+-- a small number in the place of another
+pub within-set : (most : ℕ) (old : List ℤ) (p : ℕ) (z : ℤ) → p < length old → AreWithin most old → Within most z → AreWithin most (set old p z)
+within-set most old p z inside small within k = by (same_or_not k p)
   where
-    by : (k ≡ p) ⊎ (k ≢ p) → Within (2 ^ 43) (number_at (set old p z) k)
-    by (inl e) = subst (Within (2 ^ 43)) (sym (ap (λ (n : ℕ). number_at (set old p z) n) e ∙ get_or-set_same old p z (pos 0) inside)) within
-    by (inr ne) = subst (Within (2 ^ 43)) (sym (get_or-set_other old p k z (pos 0) ne)) (narrow k)
+    by : (k ≡ p) ⊎ (k ≢ p) → Within most (number_at (set old p z) k)
+    by (inl e) = subst (Within most) (sym (ap (λ (n : ℕ). number_at (set old p z) n) e ∙ get_or-set_same old p z (pos 0) inside)) within
+    by (inr ne) = subst (Within most) (sym (get_or-set_other old p k z (pos 0) ne)) (small k)
 
 -- one more place is listed, and its number may be any
 pub free-added : (places : List ℕ) (n p : ℕ) (old : List ℤ) (z : ℤ) → n < length places → AreFreeBut places 0 n old → AreFreeBut (set places n p) 0 (n + 1) (set old p z)
@@ -156,16 +156,16 @@ free-all places n m old all free k = by all (free k)
 pub number-read : (xs : List ℤ) (k : ℕ) (d r : ℤ) → k < length xs → r ≡ get_or xs k d → r ≡ number_at xs k
 number-read xs k d r lt e = e ∙ same_Some (get_or xs k d) (get_or xs k (pos 0)) (sym (slice_get-get_or xs k d lt) ∙ slice_get-get_or xs k (pos 0) lt)
 
--- all are narrow where those that are there are
-pub narrow-all : (xs : List ℤ) → ((k : ℕ) → k < length xs → Within (2 ^ 43) (number_at xs k)) → AreNarrow xs
-narrow-all xs each k = by (inside_or_past k (length xs))
+-- all are small where those that are there are
+pub within-all : (most : ℕ) (xs : List ℤ) → ((k : ℕ) → k < length xs → Within most (number_at xs k)) → AreWithin most xs
+within-all most xs each k = by (inside_or_past k (length xs))
   where
     inside_or_past : (k n : ℕ) → (k < n) ⊎ (n ≤ k)
     inside_or_past k n = grind arith
 
-    by : (k < length xs) ⊎ (length xs ≤ k) → Within (2 ^ 43) (number_at xs k)
+    by : (k < length xs) ⊎ (length xs ≤ k) → Within most (number_at xs k)
     by (inl lt) = each k lt
-    by (inr past) = subst (Within (2 ^ 43)) (sym (get_or_past xs k (pos 0) past)) (record { low = omega (arith, ints); high = omega (arith, ints) })
+    by (inr past) = subst (Within most) (sym (get_or_past xs k (pos 0) past)) (record { low = omega (arith, ints); high = omega (arith, ints) })
 
 -- a place is listed whether or not a price was added
 pub free-raised : (places : List ℕ) (n p : ℕ) (old new : List ℤ) (z : ℤ) (done : Bool) → n < length places → AreFreeBut places 0 n old → (IsTrue done → new ≡ set old p z) → (IsFalse done → new ≡ old)

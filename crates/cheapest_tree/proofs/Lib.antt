@@ -8,7 +8,7 @@ pub mod PartsAtLemmas
 pub mod WalksLemmas
 pub mod RootLemmas
 pub mod UnderLemmas
-pub mod NarrowLemmas
+pub mod NumbersLemmas
 pub mod OrdersLemmas
 pub mod RowsLemmas
 pub mod ExtrasLemmas

@@ -1,5 +1,5 @@
 -- One pass over the nodes in their order: each gets the least sum over all arcs that make it.
-use Rattle.std.proofs.Common.{◌≡◌, ◌≢◌, ℕ, zero, suc, ℤ, pos, ◌<◌, ◌≤◌, ◌+◌, ◌-◌, ◌^◌, Bool, true, false, cond, List, [], ◌∷◌, Option, None, Some, IfSome, arith, refl, subst, sym, ap, ◌∙◌, ◌⊎◌, inl, inr, length, get_or, set}
+use Rattle.std.proofs.Common.{◌≡◌, ◌≢◌, ℕ, zero, suc, ℤ, pos, ◌<◌, ◌≤◌, ◌+◌, ◌-◌, Bool, true, false, cond, List, [], ◌∷◌, Option, None, Some, IfSome, arith, refl, subst, sym, ap, ◌∙◌, ◌⊎◌, inl, inr, length, get_or, set}
 use Rattle.std.proofs.lemmas.Bool.{eq-eqb}
 use Rattle.std.proofs.lemmas.Int.{ints}
 use Rattle.std.specs.Prelude.{slice_get, slice_index, OnSome}
@@ -23,7 +23,7 @@ use Rattle.cheapest_tree.specs.declared.slots.Links.{Links}
 use Rattle.cheapest_tree.specs.declared.slots.Spot.{Spot}
 use Rattle.cheapest_tree.specs.AtNodes.{IsAt, sum_at, NodeLeast, top_arc, arc_total}
 use Rattle.cheapest_tree.specs.Links.{IsSlot}
-use Rattle.cheapest_tree.specs.Narrow.{AreSmall, IsBetter}
+use Rattle.cheapest_tree.specs.Numbers.{AreSmall, IsBetter}
 use Rattle.cheapest_tree.specs.Orders.{IsMaker, IsEarlier, IsRow, IsOrder}
 use Rattle.cheapest_tree.specs.Passes.{AreBegun, IsDone, AreRowsPassed, AsksRow, FindsRow, CanPass, IsAmong, IsLeastAmong}
 use Rattle.cheapest_tree.specs.Pricers.{value_at, ArePriced, IsFilled, IsBest}

@@ -1,5 +1,5 @@
 -- What each arc of a graph costs in a pass, by its place.
-use Rattle.std.specs.Prelude.{ℕ, ℤ, pos, ◌≡◌, ◌+ℤ◌, ◌<◌, ◌≤◌, ◌^◌, ◌⊎◌, List, Some, length, slice_get, slice_index_or}
+use Rattle.std.specs.Prelude.{ℕ, ℤ, pos, ◌≡◌, ◌+ℤ◌, ◌<◌, ◌≤◌, ◌⊎◌, List, Some, length, slice_get, slice_index_or}
 use Rattle.roster_model.specs.declared.arc_prices.ArcPrice.{ArcPrice}
 use Rattle.roster_model.specs.declared.grammar.ArcKey.{ArcKey}
 use Rattle.roster_model.specs.RoomPrices.{entry_price}
@@ -9,9 +9,9 @@ use Rattle.roster_model.specs.Sums.{PriceView, Within}
 abbrev pub number_at : List ℤ → ℕ → ℤ
 number_at numbers k = slice_index_or numbers k (pos 0)
 
--- each is at most 2^43 in size
-abbrev pub AreNarrow : List ℤ → Type 0
-AreNarrow numbers = (k : ℕ) → Within (2 ^ 43) (number_at numbers k)
+-- each is at most so great in size
+abbrev pub AreWithin : ℕ → List ℤ → Type 0
+AreWithin most numbers = (k : ℕ) → Within most (number_at numbers k)
 
 -- so many numbers, and all are 0
 pub record AreFree (many : ℕ) (numbers : List ℤ) : Type 0 where
@@ -23,11 +23,11 @@ abbrev pub AreFreeBut : List ℕ → ℕ → ℕ → List ℤ → Type 0
 AreFreeBut places from to numbers = (k : ℕ) → (number_at numbers k ≡ pos 0)
     ⊎ ((i : ℕ) × (from ≤ i) × (i < to) × (slice_get places i ≡ Some k))
 
--- the number of each arc is what it costs
-pub record AreCosts (p : PriceView) (arcs : List ArcKey) (numbers : List ℤ) : Type 0 where
+-- the number of each arc is what it costs, at most so great in size
+pub record AreCosts (most : ℕ) (p : PriceView) (arcs : List ArcKey) (numbers : List ℤ) : Type 0 where
   pub count : length numbers ≡ length arcs
   pub each : (k : ℕ) (a : ArcKey) → slice_get arcs k ≡ Some a → number_at numbers k ≡ p.arc_of a
-  pub narrow : AreNarrow numbers
+  pub small : AreWithin most numbers
 
 -- the price of an entry was added to the number of its arc
 abbrev pub IsAdded : List ArcKey → ArcPrice → List ℤ → List ℤ → Type 0

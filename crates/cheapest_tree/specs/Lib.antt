@@ -6,5 +6,6 @@ pub mod Pricers
 pub mod Passes
 pub mod Walks
 pub mod Under
-pub mod Narrow
+pub mod Numbers
 pub mod Extras
+pub mod Rooms

@@ -1,5 +1,5 @@
 -- How far the values are filled.
-use Rattle.std.specs.Prelude.{ℕ, ℤ, ◌≡◌, ◌+◌, ◌+ℤ◌, ◌<◌, ◌≤◌, ◌^◌, Option, None, Some, OnSome, List, length, slice_get, slice_index}
+use Rattle.std.specs.Prelude.{ℕ, ℤ, ◌≡◌, ◌+◌, ◌+ℤ◌, ◌<◌, ◌≤◌, Option, None, Some, OnSome, List, length, slice_get, slice_index}
 use Rattle.roster_model.specs.declared.grammar.ArcKey.{ArcKey}
 use Rattle.roster_model.specs.declared.grammar.Grammar.{Grammar}
 use Rattle.roster_model.specs.Sums.{PriceView, Within, IsLeast}
@@ -12,7 +12,7 @@ use Rattle.cheapest_tree.specs.declared.order.Row.{Row}
 use Rattle.cheapest_tree.specs.declared.slots.Spot.{Spot}
 use Rattle.cheapest_tree.specs.AtNodes.{IsAt, sum_at, NodeLeast, top_arc, IsBefore}
 use Rattle.cheapest_tree.specs.Extras.{number_at, AreCosts}
-use Rattle.cheapest_tree.specs.Narrow.{AreSmall, AreRules}
+use Rattle.cheapest_tree.specs.Numbers.{Limits, AreSmall, AreRules}
 use Rattle.cheapest_tree.specs.Orders.{code_of, IsOrder}
 use Rattle.cheapest_tree.specs.Pricers.{value_at, ArePriced, IsBest}
 
@@ -61,25 +61,25 @@ FindsRow p v order j value arc = (g : Grammar) → IsSound g → IsGraph g v →
     → slice_get order.rows j ≡ Some r → (o : OrNode) → slice_get v.nodes r.node ≡ Some o
     → NodeLeast g p o value × OnSome value (IsBest g p v o value arc)
 
--- what is asked to pass it with sums of 64 bits, at the prices of the rules and of the arcs
-pub record AsksNarrow (p : PriceView) (v : GraphView) (letters : List Spot) (order : Order)
+-- what is asked to pass it in numbers of one width, at the prices of the rules and of the arcs
+pub record AsksPass (m : Limits) (p : PriceView) (v : GraphView) (letters : List Spot) (order : Order)
     (values : List (Option ℤ)) (best : List ℕ) (j : ℕ) (rules extras : List ℤ) : Type 0 where
-  pub row : AsksRow (2 ^ 59) p v letters order values best j
-  pub rules_are : AreRules p rules
-  pub extras_are : AreCosts p v.arcs extras
+  pub row : AsksRow m.sum p v letters order values best j
+  pub rules_are : AreRules m.price p rules
+  pub extras_are : AreCosts m.price p v.arcs extras
 
 -- what an arc costs, with its rule where it is of a whole right side
 abbrev pub maker_price : List ℤ → List ℤ → Maker → ℤ
 maker_price rules extras x = number_at rules x.code +ℤ number_at extras x.arc
 
--- the slots and prices of an arc are there, and the prices are at most 2^43 in size
-pub record CanAdd (rules extras : List ℤ) (values : List (Option ℤ)) (x : Maker) : Type 0 where
+-- the slots and prices of an arc are there, and the prices are at most so great in size
+pub record CanAdd (most : ℕ) (rules extras : List ℤ) (values : List (Option ℤ)) (x : Maker) : Type 0 where
   pub code_in : x.code < length rules
   pub arc_in : x.arc < length extras
   pub first_in : x.first < length values
   pub rest_in : x.rest < length values
-  pub rule : Within (2 ^ 43) (number_at rules x.code)
-  pub extra : Within (2 ^ 43) (number_at extras x.arc)
+  pub rule : Within most (number_at rules x.code)
+  pub extra : Within most (number_at extras x.arc)
 
 -- the arc and its slots are there, and its rule's code is right
 pub record CanPass (arcs : List ArcKey) (values : List (Option ℤ)) (x : Maker) : Type 0 where

@@ -1,21 +1,22 @@
-ghost use Rattle.std.specs.Prelude.{◌≡◌, ◌+◌, ◌+ℤ◌, ◌<◌, ◌≤◌, ◌^◌, ◌⊎◌, IsTrue, IsFalse, IfOk, IfSome, IfNone, Some, List as Items, ℕ, length, slice_get, slice_set};
+ghost use Rattle.std.specs.Prelude.{◌≡◌, ◌+◌, ◌+ℤ◌, ◌<◌, ◌≤◌, ◌⊎◌, IsTrue, IsFalse, IfOk, IfSome, IfNone, Some, List as Items, ℕ, length, slice_get, slice_set};
 ghost use Rattle.roster_model.specs.declared.grammar.ArcKey.{ArcKey as Key};
 ghost use Rattle.roster_model.specs.Folds.{In};
 ghost use Rattle.roster_model.specs.RoomPrices.{listed_price};
 ghost use Rattle.roster_model.specs.Sums.{Within};
 ghost use Rattle.parse_graph.specs.Graphs.{HasGrammar};
-ghost use Rattle.cheapest_tree.specs.Extras.{number_at, AreNarrow, AreFree, AreFreeBut, AreCosts, IsAdded};
+ghost use Rattle.cheapest_tree.specs.Extras.{number_at, AreWithin, AreFree, AreFreeBut, AreCosts, IsAdded};
 
-use crate::narrow::narrow_price;
+use crate::least::Price;
+use crate::number::Number;
 use parse_graph::Graph;
 use roster_model::{ArcKey, ArcPrice, LetterPrice, Memory};
 use std::alloc::Global;
 
 /// What each arc of a graph costs in a pass.
 #[derive(Drop)]
-pub struct Extras {
+pub struct Extras<N: Number> {
     /// The price of each arc, by its place; 0 between passes.
-    pub prices: Vec<i64>,
+    pub prices: Vec<Price<N>>,
     /// For the entries of a pass the places of their arcs, as many as there are arcs at most. They are
     /// looked at first the next time, and may be any numbers.
     pub places: Vec<u32>,
@@ -35,20 +36,20 @@ fn place_of(graph: &Graph, arc: &ArcKey, known: u32) -> Option<u32>
 }
 
 // Returns the price of an entry; `None` where it is too wide.
-fn price_of(entry: &ArcPrice) -> Option<i64>
+fn price_of<N: Number>(entry: &ArcPrice) -> Option<Price<N>>
     ensures same { IfSome result (λ z. z ≡ entry.now.price) }
-    ensures within { IfSome result (Within (2 ^ 43)) }
+    ensures within { IfSome result (Within N.limits.price) }
 {
-    let price = narrow_price(entry.price)?;
+    let price = Price::new(entry.price)?;
     Some(price)
 }
 
-impl Extras {
+impl<N: Number> Extras<N> {
     /// Returns no prices, for so many arcs.
-    pub fn new(alloc: Global, arcs: usize) -> Result<Extras, Memory>
+    pub fn new(alloc: Global, arcs: usize) -> Result<Extras<N>, Memory>
         ensures { IfOk result (λ e. AreFree arcs e.prices.items) }
     {
-        let Ok(prices) = vec![in alloc; 0; arcs] else {
+        let Ok(prices) = vec![in alloc; Price::zero(); arcs] else {
             return Err(Memory);
         };
         let Ok(places) = vec![in alloc; 0; arcs] else {
@@ -58,17 +59,17 @@ impl Extras {
     }
 
     // Adds to the price of the arc at a place, and returns true; false where their sum is too wide.
-    fn raise(&mut self, place: usize, price: i64) -> bool
+    fn raise(&mut self, place: usize, price: Price<N>) -> bool
         requires place { place < length self.old.prices.items }
-        requires price { Within (2 ^ 43) price }
-        requires narrow { AreNarrow self.old.prices.items }
+        requires price { Within N.limits.price price }
+        requires small { AreWithin N.limits.price self.old.prices.items }
         ensures raised { IsTrue result → self.new.prices.items
             ≡ slice_set self.old.prices.items place (number_at self.old.prices.items place +ℤ price) }
         ensures kept { IsFalse result → self.new.prices.items ≡ self.old.prices.items }
-        ensures narrow { AreNarrow self.new.prices.items }
+        ensures small { AreWithin N.limits.price self.new.prices.items }
         ensures places { self.new.places.items ≡ self.old.places.items }
     {
-        let Some(sum) = narrow_price(i128::from(self.prices[place] + price)) else {
+        let Some(sum) = self.prices[place].raised(price) else {
             return false;
         };
         self.prices[place] = sum;
@@ -81,12 +82,12 @@ impl Extras {
         requires graph { HasGrammar graph.now }
         requires count { length self.old.prices.items ≡ length graph.now.arcs }
         requires number { number < length self.old.places.items }
-        requires narrow { AreNarrow self.old.prices.items }
+        requires small { AreWithin N.limits.price self.old.prices.items }
         requires free { AreFreeBut self.old.places.items 0 number self.old.prices.items }
         ensures added { IsTrue result → IsAdded graph.now.arcs entry.now self.old.prices.items self.new.prices.items }
         ensures count { length self.new.prices.items ≡ length graph.now.arcs }
         ensures places { length self.new.places.items ≡ length self.old.places.items }
-        ensures narrow { AreNarrow self.new.prices.items }
+        ensures small { AreWithin N.limits.price self.new.prices.items }
         ensures free { AreFreeBut self.new.places.items 0 (number + 1) self.new.prices.items }
     {
         let Some(place) = place_of(graph, &entry.arc, self.places[number]) else {
@@ -107,7 +108,7 @@ impl Extras {
         ensures added { IsTrue result → (k : ℕ) (a : Key) → slice_get graph.now.arcs k ≡ Some a
             → number_at self.new.prices.items k ≡ listed_price entries.now a }
         ensures count { length self.new.prices.items ≡ length graph.now.arcs }
-        ensures narrow { AreNarrow self.new.prices.items }
+        ensures small { AreWithin N.limits.price self.new.prices.items }
         ensures free { AreFreeBut self.new.places.items 0 (length entries.now) self.new.prices.items }
     {
         if entries.len() > self.places.len() {
@@ -124,12 +125,12 @@ impl Extras {
     /// Asks for the price of each arc, and returns true; false where one is too wide.
     pub fn ask_all<P: LetterPrice>(&mut self, graph: &Graph, prices: &P) -> bool
         requires count { length self.old.prices.items ≡ length graph.now.arcs }
-        ensures costs { IsTrue result → AreCosts (P.view prices.now) graph.now.arcs self.new.prices.items }
+        ensures costs { IsTrue result → AreCosts N.limits.price (P.view prices.now) graph.now.arcs self.new.prices.items }
         ensures count { length self.new.prices.items ≡ length graph.now.arcs }
     {
         let arcs = graph.arcs();
         for place in 0..arcs.len() {
-            let Some(price) = narrow_price(prices.arc(&arcs[place])) else {
+            let Some(price) = Price::new(prices.arc(&arcs[place])) else {
                 return false;
             };
             self.prices[place] = price;
@@ -149,7 +150,7 @@ impl Extras {
         if place >= self.prices.len() {
             return;
         }
-        self.prices[place] = 0;
+        self.prices[place] = Price::zero();
     }
 
     // Returns how many of so many entries have places.
@@ -177,6 +178,6 @@ impl Extras {
     pub fn take_all_back(&mut self)
         ensures { AreFree (length self.old.prices.items) self.new.prices.items }
     {
-        self.prices.fill(0);
+        self.prices.fill(Price::zero());
     }
 }

@@ -1,23 +1,28 @@
-ghost use Rattle.std.specs.Prelude.{◌≡◌, length};
+ghost use Rattle.std.specs.Prelude.{◌≡◌, ◌+◌, IsTrue, length};
 ghost use Rattle.roster_model.specs.declared.grammar.Grammar.{Grammar as Rules};
 ghost use Rattle.roster_model.specs.Sound.{IsSound};
 ghost use Rattle.parse_graph.specs.Graphs.{HasGrammar, IsGraph};
-ghost use Rattle.cheapest_tree.specs.Extras.{AreFree};
+ghost use Rattle.cheapest_tree.specs.Numbers.{AreSmall};
+ghost use Rattle.cheapest_tree.specs.Orders.{IsOrder};
+ghost use Rattle.cheapest_tree.specs.Passes.{AreRowsPassed};
 ghost use Rattle.cheapest_tree.specs.Pricers.{IsMadeFor, IsFilled};
+ghost use Rattle.cheapest_tree.specs.Rooms.{IsRoomFor};
 
-use crate::extras::Extras;
 use crate::fill::fill;
-use crate::narrow::Narrow;
-use crate::narrow_fill::fill_narrow;
+use crate::least::Sum;
+use crate::number::Number;
 use crate::order::Order;
+use crate::pass_room::PassRoom;
+use crate::row_fill::fill_rows;
 use crate::slots::{Links, Spot};
 use parse_graph::Graph;
 use roster_model::LetterPrice;
 use span_cells::Cell;
 
 // Puts all sums into the cells.
-fn copy(sums: &[Narrow], values: &mut [Cell])
-    requires { length sums.now ≡ length values.old }
+fn copy<N: Number>(sums: &[Sum<N>], values: &mut [Cell])
+    requires count { length sums.now ≡ length values.old }
+    requires small { AreSmall N.limits.sum sums.now }
     ensures { values.new ≡ sums.now }
 {
     for slot in 0..sums.len() {
@@ -25,17 +30,56 @@ fn copy(sums: &[Narrow], values: &mut [Cell])
     }
 }
 
+// Passes all rows of an order in numbers of one width, puts the sums into the cells, and returns true;
+// false where a price or a sum is beyond the limits of these numbers.
+fn fill_cells<N: Number, P: LetterPrice>(
+    graph: &Graph,
+    prices: &P,
+    letters: &[Spot],
+    order: &Order,
+    room: &mut PassRoom<N>,
+    values: &mut [Cell],
+    best: &mut [u32],
+) -> bool
+    requires graph { HasGrammar graph.now }
+    requires order { IsOrder graph.now letters.now order.now }
+    requires slots { length values.old ≡ length graph.now.nodes + 1 + length letters.now }
+    requires nodes { length best.old ≡ length graph.now.nodes }
+    requires room { IsRoomFor (length graph.now.arcs) (length values.old) room.old }
+    ensures room { IsRoomFor (length graph.now.arcs) (length values.old) room.new }
+    ensures passed { IsTrue result
+        → AreRowsPassed N.limits.sum (P.view prices.now) graph.now letters.now order.now values.new best.new
+        (length order.now.rows) }
+{
+    let rules = room.rules.as_mut_slice();
+    let sums = room.sums.as_mut_slice();
+    if !fill_rows(
+        graph,
+        prices,
+        letters,
+        order,
+        rules,
+        &mut room.extras,
+        sums,
+        best,
+    ) {
+        return false;
+    }
+    copy(room.sums.as_slice(), values);
+    true
+}
+
 /// Puts into the slot of each node of the graph the least sum of what stands there, or none, and keeps
-/// an arc that has it at the top. Where the prices are narrow and there is an order of the nodes, the
-/// sums are found in numbers of 64 bits, row by row.
+/// an arc that has it at the top. Where there is an order of the nodes, the sums are found row by row, in
+/// numbers of 64 bits where the prices are narrow, and else of 128 bits.
 pub fn fill_slots<P: LetterPrice>(
     graph: &Graph,
     prices: &P,
     links: &Links,
     letters: &[Spot],
     order: &Option<Order>,
-    extras: &mut Extras,
-    sums: &mut [Narrow],
+    narrow: &mut PassRoom<i64>,
+    wide: &mut PassRoom<i128>,
     values: &mut [Cell],
     best: &mut [u32],
 )
@@ -47,9 +91,10 @@ pub fn fill_slots<P: LetterPrice>(
       values = values.old;
       best = best.old;
     }) }
-    requires room { length sums.old ≡ length values.old }
-    requires free { AreFree (length graph.now.arcs) extras.old.prices.items }
-    ensures free { AreFree (length graph.now.arcs) extras.new.prices.items }
+    requires narrow { IsRoomFor (length graph.now.arcs) (length values.old) narrow.old }
+    requires wide { IsRoomFor (length graph.now.arcs) (length values.old) wide.old }
+    ensures narrow { IsRoomFor (length graph.now.arcs) (length values.old) narrow.new }
+    ensures wide { IsRoomFor (length graph.now.arcs) (length values.old) wide.new }
     ensures filled { (g : Rules) → IsSound g → IsGraph g graph.now
         → IsFilled g (P.view prices.now) graph.now (record {
           links = links.now;
@@ -63,8 +108,10 @@ pub fn fill_slots<P: LetterPrice>(
         fill(graph, prices, links, letters, values, best);
         return;
     };
-    if fill_narrow(graph, prices, letters, order, extras, sums, best) {
-        copy(sums, values);
+    if fill_cells(graph, prices, letters, order, narrow, values, best) {
+        return;
+    }
+    if fill_cells(graph, prices, letters, order, wide, values, best) {
         return;
     }
     fill(graph, prices, links, letters, values, best);

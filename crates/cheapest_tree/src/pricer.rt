@@ -9,11 +9,10 @@ ghost use Rattle.roster_model.specs.declared.grammar.ArcKey.{ArcKey as Key};
 ghost use Rattle.cheapest_tree.specs.Pricers.{IsMadeFor, IsFilled, AsksTree};
 ghost use Rattle.cheapest_tree.specs.Under.{IsTop, IsReady, IsDayTreeUnder, AsksTreeUnder, HoldsLeastUnder};
 
-use crate::extras::Extras;
 use crate::fill_slots::fill_slots;
 use crate::join::join;
-use crate::narrow::Narrow;
 use crate::order::{Order, find_order};
+use crate::pass_room::PassRoom;
 use crate::slots::{Links, Spot};
 use crate::under::least_under;
 use crate::walk::{write_node, write_under};
@@ -34,18 +33,17 @@ pub struct Pricer {
     order: Option<Order>,
     // The value in each slot: those of the nodes, of nothing, and of the letters.
     values: Vec<Cell>,
-    // Those of a call whose prices are narrow.
-    sums: Vec<Narrow>,
-    // The prices of the arcs of such a call.
-    extras: Extras,
+    // What a call works in whose prices are narrow, and one whose prices are wide.
+    narrow: PassRoom<i64>,
+    wide: PassRoom<i128>,
     // For each node that has a value an arc with a tree of that sum, by its place.
     best: Vec<u32>,
 }
 
 impl Model for Pricer {
-    ghost use Rattle.std.specs.Prelude.{◌≡◌, length};
-    ghost use Rattle.cheapest_tree.specs.Extras.{AreFree};
+    ghost use Rattle.std.specs.Prelude.{length};
     ghost use Rattle.cheapest_tree.specs.Pricers.{PricerView};
+    ghost use Rattle.cheapest_tree.specs.Rooms.{IsRoomFor};
 
     ghost Value = { PricerView };
 
@@ -57,56 +55,54 @@ impl Model for Pricer {
       best = s.best.items;
     } };
 
-    ghost invariant = { λ s. (length s.sums.items ≡ length s.values.items)
-        × AreFree (length s.links.made) s.extras.prices.items };
+    ghost invariant = { λ s. IsRoomFor (length s.links.made) (length s.values.items) s.narrow
+        × IsRoomFor (length s.links.made) (length s.values.items) s.wide };
 }
 
 // Empty cells for the slots, and a best arc for each node.
 #[derive(Drop)]
 struct Values {
     cells: Vec<Cell>,
-    sums: Vec<Narrow>,
     best: Vec<u32>,
 }
 
 // Takes the memory for the values of so many nodes, of nothing and of the letters.
 fn values_of(alloc: Global, nodes: u32, letters: &[Spot]) -> Result<Values, Memory>
     ensures cells { IfOk result (λ v. length v.cells.items ≡ nodes + 1 + length letters.now) }
-    ensures sums { IfOk result (λ v. length v.sums.items ≡ nodes + 1 + length letters.now) }
     ensures best { IfOk result (λ v. length v.best.items ≡ nodes) }
 {
     let count = nodes as usize + 1 + letters.len();
     let Ok(cells) = vec![in alloc; Cell::new(None); count] else {
         return Err(Memory);
     };
-    let Ok(sums) = vec![in alloc; Narrow::none(); count] else {
-        return Err(Memory);
-    };
     let Ok(best) = vec![in alloc; 0; nodes as usize] else {
         return Err(Memory);
     };
-    Ok(Values { cells, sums, best })
+    Ok(Values { cells, best })
 }
 
 impl Pricer {
     /// Returns a pricer for the trees of a graph. Later calls take the same graph.
     ///
-    /// It has taken the memory for all of them: 40 bytes for each arc, 40 for each node, and
-    /// 26 for each letter.
+    /// It has taken the memory for all of them: 60 bytes for each arc, 56 for each node, and
+    /// 42 for each letter.
     pub fn new(alloc: Global, graph: &Graph) -> Result<Pricer, Memory>
         ensures { IfOk result (IsMadeFor graph.now) }
     {
         let joined = join(alloc, graph)?;
         let order = find_order(alloc, graph, &joined.links, joined.letters.as_slice())?;
-        let extras = Extras::new(alloc, graph.arcs().len())?;
         let values = values_of(alloc, graph.nodes(), joined.letters.as_slice())?;
+        let slots = values.cells.len();
+        let arcs = graph.arcs().len();
+        let narrow = PassRoom::new(alloc, arcs, slots)?;
+        let wide = PassRoom::new(alloc, arcs, slots)?;
         Ok(Pricer {
             links: joined.links,
             letters: joined.letters,
             order,
-            extras,
             values: values.cells,
-            sums: values.sums,
+            narrow,
+            wide,
             best: values.best,
         })
     }
@@ -128,8 +124,8 @@ impl Pricer {
             &self.links,
             self.letters.as_slice(),
             &self.order,
-            &mut self.extras,
-            self.sums.as_mut_slice(),
+            &mut self.narrow,
+            &mut self.wide,
             self.values.as_mut_slice(),
             self.best.as_mut_slice(),
         );

@@ -13,3 +13,5 @@ mod normal_forms;
 mod prices;
 #[cfg(test)]
 mod splits;
+#[cfg(test)]
+mod widths;

@@ -1,13 +1,13 @@
 use Rattle.std.proofs.Common.{◌≡◌, length}
-use Rattle.cheapest_tree.specs.Extras.{AreNarrow, AreFreeBut}
+use Rattle.cheapest_tree.specs.Extras.{AreWithin, AreFreeBut}
 use Rattle.cheapest_tree.proofs.ExtrasLemmas.{AreAddedTo}
 use Rattle.cheapest_tree.proofs.extras.Extras.add_all.Given as goal
 
 abbrev pub invariant-loop-number : goal.invariant-loop-number
-invariant-loop-number l = record {
+invariant-loop-number g l = record {
   added : AreAddedTo l.graph.arcs l.entries l.number l.self.prices.items;
   count : length l.self.prices.items ≡ length l.graph.arcs;
   places : length l.self.places.items ≡ length l.initial.self.places.items;
-  narrow : AreNarrow l.self.prices.items;
+  small : AreWithin g.N.Number.limits.price l.self.prices.items;
   free : AreFreeBut l.self.places.items 0 l.number l.self.prices.items;
 }

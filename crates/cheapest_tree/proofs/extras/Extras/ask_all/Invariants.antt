@@ -1,4 +1,4 @@
-use Rattle.std.proofs.Common.{◌≡◌, ◌<◌, ◌^◌, ℕ, Some, length}
+use Rattle.std.proofs.Common.{◌≡◌, ◌<◌, ℕ, Some, length}
 use Rattle.std.specs.Prelude.{slice_get}
 use Rattle.roster_model.specs.declared.grammar.ArcKey.{ArcKey}
 use Rattle.roster_model.specs.Sums.{Within}
@@ -8,6 +8,6 @@ use Rattle.cheapest_tree.proofs.extras.Extras.ask_all.Given as goal
 abbrev pub invariant-loop-place : goal.invariant-loop-place
 invariant-loop-place g l = record {
   each : (k : ℕ) (a : ArcKey) → k < l.place → slice_get l.graph.arcs k ≡ Some a → number_at l.self.prices.items k ≡ (g.P.LetterPrice.view l.prices).arc_of a;
-  narrow : (k : ℕ) → k < l.place → Within (2 ^ 43) (number_at l.self.prices.items k);
+  small : (k : ℕ) → k < l.place → Within g.N.Number.limits.price (number_at l.self.prices.items k);
   count : length l.self.prices.items ≡ length l.graph.arcs;
 }

@@ -1,9 +1,9 @@
-use Rattle.std.proofs.Common.{arith, ◌≡◌, ◌≤◌, ◌⊎◌, length, ap, ◌∙◌}
+use Rattle.std.proofs.Common.{arith, length, ap, ◌∙◌}
 use Rattle.cheapest_tree.proofs.ExtrasLemmas.{free-all, either-past}
 use Rattle.cheapest_tree.proofs.extras.Extras.take_back.Goals as goal
 
 pub loop-number-preserved : goal.loop-number-preserved
-loop-number-preserved c =
+loop-number-preserved g c =
     let inv = c.loop-number.invariant in
     record {
       count = c.clear.ensures.count ∙ inv.count;
@@ -12,7 +12,7 @@ loop-number-preserved c =
     }
 
 pub returns : goal.returns
-returns c =
+returns g c =
     let inv = c.loop-number.invariant in
     let places = ap length inv.places in
     record {

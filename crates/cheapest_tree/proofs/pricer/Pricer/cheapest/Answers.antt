@@ -35,6 +35,16 @@ returns-clause-least g c = λ g2 sound graph.
     subst (λ (q : Option ℤ). IsLeast (IsDayTree g2) (tree_sum (g.P.LetterPrice.view c.args.prices.now) 1) q) (sym read)
     (day-least g2 (g.P.LetterPrice.view c.args.prices.now) c.args.graph.now graph c.fill_slots.new.values (c.fill_slots.ensures.filled g2 sound graph).nodes c.in_ok-root.root e)
 
+pub returns-in_err-root-clause-filled : goal.returns-in_err-root-clause-filled
+returns-in_err-root-clause-filled g c = λ g2 sound graph.
+    subst (λ (q : List ℕ). IsFilled g2 (g.P.LetterPrice.view c.args.prices.now) c.args.graph.now
+    (record { links = c.self.inside.links; letters = c.self.inside.letters; order = c.self.inside.order; values = take c.self.inside.values.len (c.fill_slots.new.values ++ drop (length c.fill_slots.new.values) c.self.inside.values.items); best = q }))
+    (sym (take_at c.fill_slots.new.best (drop (length c.fill_slots.new.best) c.self.inside.best.items) c.self.inside.best.len (omega arith)))
+    (subst (λ (q : List (Option ℤ)). IsFilled g2 (g.P.LetterPrice.view c.args.prices.now) c.args.graph.now
+    (record { links = c.self.inside.links; letters = c.self.inside.letters; order = c.self.inside.order; values = q; best = c.fill_slots.new.best }))
+    (sym (take_at c.fill_slots.new.values (drop (length c.fill_slots.new.values) c.self.inside.values.items) c.self.inside.values.len (omega arith)))
+    (rw (← c.as_slice.ensures) (c.fill_slots.ensures.filled g2 sound graph)))
+
 pub returns-clause-filled : goal.returns-clause-filled
 returns-clause-filled g c = λ g2 sound graph.
     subst (λ (q : List ℕ). IsFilled g2 (g.P.LetterPrice.view c.args.prices.now) c.args.graph.now

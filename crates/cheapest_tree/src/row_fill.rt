@@ -1,32 +1,30 @@
-ghost use Rattle.std.specs.Prelude.{◌≡◌, ◌≤◌, ◌≤ℤ◌, ◌<◌, ◌+◌, ◌^◌, IsTrue, IfSome, List as Items, Some, ℕ, length, slice_set};
+ghost use Rattle.std.specs.Prelude.{◌≡◌, ◌≤◌, ◌≤ℤ◌, ◌<◌, ◌+◌, ◌^◌, IsTrue, IfSome, List as Items, Some, ℕ, pos, length, slice_set};
 ghost use Rattle.roster_model.specs.declared.grammar.ArcKey.{ArcKey as Key};
 ghost use Rattle.roster_model.specs.RoomPrices.{listed_price};
 ghost use Rattle.roster_model.specs.Sums.{PriceView, plus, Within};
 ghost use Rattle.parse_graph.specs.Graphs.{GraphView, HasGrammar};
 ghost use Rattle.cheapest_tree.specs.Extras.{AreFree, AreFreeBut, AreCosts};
-ghost use Rattle.cheapest_tree.specs.Narrow.{AreSmall, AreRules, IsBetter, least_of, no_least};
+ghost use Rattle.cheapest_tree.specs.Numbers.{AreSmall, AreRules, IsBetter, sum_but};
 ghost use Rattle.cheapest_tree.specs.Orders.{IsOrder};
-ghost use Rattle.cheapest_tree.specs.Passes.{AreBegun, CanAdd, maker_price, AsksNarrow, FindsRow, AreRowsPassed};
+ghost use Rattle.cheapest_tree.specs.Passes.{AreBegun, CanAdd, maker_price, AsksPass, FindsRow, AreRowsPassed};
 ghost use Rattle.cheapest_tree.specs.Pricers.{value_at};
 
 use crate::extras::Extras;
-use crate::narrow::{Least, Narrow, narrow_price};
+use crate::least::{Least, Price, Sum};
+use crate::number::Number;
 use crate::order::{Maker, Order};
 use crate::slots::Spot;
 use parse_graph::Graph;
 use roster_model::{ArcPrice, LetterPrice};
 
-// How many codes of rules there are: 0, and 1 plus the number of each.
-const CODES: usize = 257;
-
 // Puts the price of each rule at its number plus 1, and returns true; false where one is too wide.
-fn put_rules<P: LetterPrice>(prices: &P, rules: &mut [i64]) -> bool
+fn put_rules<N: Number, P: LetterPrice>(prices: &P, rules: &mut [Price<N>]) -> bool
     requires { length rules.old ≡ 257 }
-    ensures { IsTrue result → AreRules (P.view prices.now) rules.new }
+    ensures { IsTrue result → AreRules N.limits.price (P.view prices.now) rules.new }
 {
-    rules[0] = 0;
+    rules[0] = Price::zero();
     for rule in 0..256usize {
-        let Some(price) = narrow_price(prices.rule(rule as u8)) else {
+        let Some(price) = Price::new(prices.rule(rule as u8)) else {
             return false;
         };
         rules[rule + 1] = price;
@@ -36,36 +34,46 @@ fn put_rules<P: LetterPrice>(prices: &P, rules: &mut [i64]) -> bool
 
 // Puts the price of a letter, or none where it is forbidden, into a slot, and returns true; false where
 // the price is too wide.
-fn put_letter<P: LetterPrice>(prices: &P, letter: Spot, slot: usize, sums: &mut [Narrow]) -> bool
+fn put_letter<N: Number, P: LetterPrice>(
+    prices: &P,
+    letter: Spot,
+    slot: usize,
+    sums: &mut [Sum<N>],
+) -> bool
     requires slot { slot < length sums.old }
     ensures put { IsTrue result → sums.new
         ≡ slice_set sums.old slot ((P.view prices.now).letter_at letter.code letter.period) }
     ensures small { IsTrue result → IfSome ((P.view prices.now).letter_at letter.code letter.period)
-        (Within (2 ^ 59)) }
+        (Within N.limits.sum) }
 {
     let Some(price) = prices.letter(letter.code, letter.period) else {
-        sums[slot] = Narrow::none();
+        sums[slot] = Sum::none();
         return true;
     };
-    let Some(price) = narrow_price(price) else {
+    let Some(price) = Price::new(price) else {
         return false;
     };
-    sums[slot] = Narrow::new(price);
+    sums[slot] = Sum::new(price);
     true
 }
 
 // Puts the prices of the letters into their slots, 0 into that of nothing, and none into those of so
 // many nodes, and returns true; false where a price is too wide.
-fn begin<P: LetterPrice>(prices: &P, letters: &[Spot], nodes: usize, sums: &mut [Narrow]) -> bool
+fn begin<N: Number, P: LetterPrice>(
+    prices: &P,
+    letters: &[Spot],
+    nodes: usize,
+    sums: &mut [Sum<N>],
+) -> bool
     requires slots { length sums.old ≡ nodes + 1 + length letters.now }
     requires room { length sums.old < 2 ^ 63 }
     ensures begun { IsTrue result → AreBegun (P.view prices.now) letters.now nodes sums.new }
-    ensures small { IsTrue result → AreSmall (2 ^ 59) sums.new }
+    ensures small { IsTrue result → AreSmall N.limits.sum sums.new }
 {
     for node in 0..nodes {
-        sums[node] = Narrow::none();
+        sums[node] = Sum::none();
     }
-    sums[nodes] = Narrow::new(0);
+    sums[nodes] = Sum::new(Price::zero());
     for index in 0..letters.len() {
         if !put_letter(prices, letters[index], nodes + 1 + index, sums) {
             return false;
@@ -75,35 +83,42 @@ fn begin<P: LetterPrice>(prices: &P, letters: &[Spot], nodes: usize, sums: &mut 
 }
 
 // Returns the better of a least sum and that of an arc.
-fn better(rules: &[i64], extras: &[i64], sums: &[Narrow], maker: Maker, least: Least) -> Least
-    requires maker { CanAdd rules.now extras.now sums.now maker }
-    requires small { AreSmall (2 ^ 59) sums.now }
-    requires most { least.number ≤ℤ no_least }
-    ensures most { result.number ≤ℤ no_least }
-    ensures better { IsBetter (least_of least.number) least.arc
+fn better<N: Number>(
+    rules: &[Price<N>],
+    extras: &[Price<N>],
+    sums: &[Sum<N>],
+    maker: Maker,
+    least: Least<N>,
+) -> Least<N>
+    requires maker { CanAdd N.limits.price rules.now extras.now sums.now maker }
+    requires small { AreSmall N.limits.sum sums.now }
+    requires most { N.value least.number ≤ℤ pos N.limits.least }
+    ensures most { N.value result.number ≤ℤ pos N.limits.least }
+    ensures better { IsBetter (sum_but N.limits.least (N.value least.number)) least.arc
         (plus (value_at sums.now maker.first) (plus (Some (maker_price rules.now extras.now maker))
-        (value_at sums.now maker.rest))) maker.arc (least_of result.number) result.arc }
+        (value_at sums.now maker.rest))) maker.arc (sum_but N.limits.least (N.value result.number)) result.arc }
 {
-    let price = rules[maker.code as usize] + extras[maker.arc as usize];
+    let rule = rules[maker.code as usize];
+    let prices = rule.plus(extras[maker.arc as usize]);
     let first = sums[maker.first as usize];
     let rest = sums[maker.rest as usize];
-    least.or(first, price, rest, maker.arc)
+    least.or(first, prices, rest, maker.arc)
 }
 
 // Returns the least sum of what stands at the node of a row, with an arc that has it at the top.
-fn least_of_row(
-    rules: &[i64],
-    extras: &[i64],
+fn least_of_row<N: Number>(
+    rules: &[Price<N>],
+    extras: &[Price<N>],
     order: &Order,
-    sums: &[Narrow],
+    sums: &[Sum<N>],
     place: usize,
-) -> Least
+) -> Least<N>
     requires asks { (p : PriceView) × (v : GraphView) × (letters : Items Spot) × (best : Items ℕ)
-        × AsksNarrow p v letters order.now sums.now best place rules.now extras.now }
-    ensures most { result.number ≤ℤ no_least }
+        × AsksPass N.limits p v letters order.now sums.now best place rules.now extras.now }
+    ensures most { N.value result.number ≤ℤ pos N.limits.least }
     ensures found { (p : PriceView) (v : GraphView) (letters : Items Spot) (best : Items ℕ)
-        → AsksNarrow p v letters order.now sums.now best place rules.now extras.now
-        → FindsRow p v order.now place (least_of result.number) result.arc }
+        → AsksPass N.limits p v letters order.now sums.now best place rules.now extras.now
+        → FindsRow p v order.now place (sum_but N.limits.least (N.value result.number)) result.arc }
 {
     let row = order.rows.as_slice()[place];
     let makers = order.makers.as_slice();
@@ -116,59 +131,65 @@ fn least_of_row(
     least
 }
 
+// Puts a sum into a slot.
+fn put<N: Number>(sums: &mut [Sum<N>], slot: usize, sum: Sum<N>)
+    requires { slot < length sums.old }
+    ensures { sums.new ≡ slice_set sums.old slot sum }
+{
+    sums[slot] = sum;
+}
+
 // Puts the least sum of a row's node into its slot, and an arc that has it, and returns true; false where
 // the sum is too wide.
-fn pass_row(
-    rules: &[i64],
-    extras: &[i64],
+fn pass_row<N: Number>(
+    rules: &[Price<N>],
+    extras: &[Price<N>],
     order: &Order,
-    sums: &mut [Narrow],
+    sums: &mut [Sum<N>],
     best: &mut [u32],
     place: usize,
 ) -> bool
     requires asks { (p : PriceView) × (v : GraphView) × (letters : Items Spot)
-        × AsksNarrow p v letters order.now sums.old best.old place rules.now extras.now }
+        × AsksPass N.limits p v letters order.now sums.old best.old place rules.now extras.now }
     ensures passed { IsTrue result → (p : PriceView) (v : GraphView) (letters : Items Spot)
-        → AsksNarrow p v letters order.now sums.old best.old place rules.now extras.now
-        → AreRowsPassed (2 ^ 59) p v letters order.now sums.new best.new (place + 1) }
+        → AsksPass N.limits p v letters order.now sums.old best.old place rules.now extras.now
+        → AreRowsPassed N.limits.sum p v letters order.now sums.new best.new (place + 1) }
 {
     let least = least_of_row(rules, extras, order, sums, place);
     let Some(sum) = least.sum() else {
         return false;
     };
     let node = order.rows.as_slice()[place].node as usize;
-    sums[node] = sum;
+    put(sums, node, sum);
     best[node] = least.arc;
     true
 }
 
 // Passes all rows with the prices of the arcs, and returns true; false where a price or a sum is too wide.
-fn pass<P: LetterPrice>(
+fn pass<N: Number, P: LetterPrice>(
     graph: &Graph,
     prices: &P,
     letters: &[Spot],
     order: &Order,
-    extras: &[i64],
-    sums: &mut [Narrow],
+    rules: &[Price<N>],
+    extras: &[Price<N>],
+    sums: &mut [Sum<N>],
     best: &mut [u32],
 ) -> bool
     requires order { IsOrder graph.now letters.now order.now }
     requires slots { length sums.old ≡ length graph.now.nodes + 1 + length letters.now }
     requires nodes { length best.old ≡ length graph.now.nodes }
-    requires extras { AreCosts (P.view prices.now) graph.now.arcs extras.now }
+    requires rules { AreRules N.limits.price (P.view prices.now) rules.now }
+    requires extras { AreCosts N.limits.price (P.view prices.now) graph.now.arcs extras.now }
     ensures passed { IsTrue result
-        → AreRowsPassed (2 ^ 59) (P.view prices.now) graph.now letters.now order.now sums.new best.new
+        → AreRowsPassed N.limits.sum (P.view prices.now) graph.now letters.now order.now sums.new best.new
         (length order.now.rows) }
 {
-    let mut rules = [0i64; CODES];
-    if !put_rules(prices, &mut rules) {
-        return false;
-    }
     if !begin(prices, letters, graph.nodes() as usize, sums) {
         return false;
     }
     for place in 0..order.rows.len() {
-        if !pass_row(&rules, extras, order, sums, best, place) {
+        if !pass_row(rules, extras, order, sums, best, place) {
             return false;
         }
     }
@@ -176,24 +197,26 @@ fn pass<P: LetterPrice>(
 }
 
 // Passes all rows where the entries add up to what the arcs cost.
-fn pass_listed<P: LetterPrice>(
+fn pass_listed<N: Number, P: LetterPrice>(
     graph: &Graph,
     prices: &P,
     entries: &[ArcPrice],
     letters: &[Spot],
     order: &Order,
-    extras: &mut Extras,
-    sums: &mut [Narrow],
+    rules: &[Price<N>],
+    extras: &mut Extras<N>,
+    sums: &mut [Sum<N>],
     best: &mut [u32],
 ) -> bool
     requires graph { HasGrammar graph.now }
     requires entries { (a : Key) → (P.view prices.now).arc_of a ≡ listed_price entries.now a }
     requires order { IsOrder graph.now letters.now order.now }
+    requires rules { AreRules N.limits.price (P.view prices.now) rules.now }
     requires slots { length sums.old ≡ length graph.now.nodes + 1 + length letters.now }
     requires nodes { length best.old ≡ length graph.now.nodes }
     requires free { AreFree (length graph.now.arcs) extras.old.prices.items }
     ensures passed { IsTrue result
-        → AreRowsPassed (2 ^ 59) (P.view prices.now) graph.now letters.now order.now sums.new best.new
+        → AreRowsPassed N.limits.sum (P.view prices.now) graph.now letters.now order.now sums.new best.new
         (length order.now.rows) }
     ensures count { length extras.new.prices.items ≡ length graph.now.arcs }
     ensures free { AreFreeBut extras.new.places.items 0 (length entries.now) extras.new.prices.items }
@@ -206,6 +229,7 @@ fn pass_listed<P: LetterPrice>(
         prices,
         letters,
         order,
+        rules,
         extras.prices.as_slice(),
         sums,
         best,
@@ -213,21 +237,23 @@ fn pass_listed<P: LetterPrice>(
 }
 
 // Passes all rows where arcs are asked for one by one.
-fn pass_asked<P: LetterPrice>(
+fn pass_asked<N: Number, P: LetterPrice>(
     graph: &Graph,
     prices: &P,
     letters: &[Spot],
     order: &Order,
-    extras: &mut Extras,
-    sums: &mut [Narrow],
+    rules: &[Price<N>],
+    extras: &mut Extras<N>,
+    sums: &mut [Sum<N>],
     best: &mut [u32],
 ) -> bool
     requires order { IsOrder graph.now letters.now order.now }
+    requires rules { AreRules N.limits.price (P.view prices.now) rules.now }
     requires slots { length sums.old ≡ length graph.now.nodes + 1 + length letters.now }
     requires nodes { length best.old ≡ length graph.now.nodes }
     requires count { length extras.old.prices.items ≡ length graph.now.arcs }
     ensures passed { IsTrue result
-        → AreRowsPassed (2 ^ 59) (P.view prices.now) graph.now letters.now order.now sums.new best.new
+        → AreRowsPassed N.limits.sum (P.view prices.now) graph.now letters.now order.now sums.new best.new
         (length order.now.rows) }
     ensures count { length extras.new.prices.items ≡ length graph.now.arcs }
 {
@@ -239,6 +265,7 @@ fn pass_asked<P: LetterPrice>(
         prices,
         letters,
         order,
+        rules,
         extras.prices.as_slice(),
         sums,
         best,
@@ -246,33 +273,40 @@ fn pass_asked<P: LetterPrice>(
 }
 
 /// Puts into the slot of each node of the graph the least sum of what stands there, or none, and keeps
-/// an arc that has it at the top, and returns true; false where a price is beyond plus or minus 2^43,
-/// or a sum beyond 2^59. The slots hold any numbers then.
-pub fn fill_narrow<P: LetterPrice>(
+/// an arc that has it at the top, and returns true; false where a price
+/// or a sum is beyond the limits of the numbers. The slots hold any numbers then.
+pub fn fill_rows<N: Number, P: LetterPrice>(
     graph: &Graph,
     prices: &P,
     letters: &[Spot],
     order: &Order,
-    extras: &mut Extras,
-    sums: &mut [Narrow],
+    rules: &mut [Price<N>],
+    extras: &mut Extras<N>,
+    sums: &mut [Sum<N>],
     best: &mut [u32],
 ) -> bool
     requires graph { HasGrammar graph.now }
     requires order { IsOrder graph.now letters.now order.now }
+    requires rules { length rules.old ≡ 257 }
     requires slots { length sums.old ≡ length graph.now.nodes + 1 + length letters.now }
     requires nodes { length best.old ≡ length graph.now.nodes }
     requires free { AreFree (length graph.now.arcs) extras.old.prices.items }
     ensures passed { IsTrue result
-        → AreRowsPassed (2 ^ 59) (P.view prices.now) graph.now letters.now order.now sums.new best.new
+        → AreRowsPassed N.limits.sum (P.view prices.now) graph.now letters.now order.now sums.new best.new
         (length order.now.rows) }
     ensures free { AreFree (length graph.now.arcs) extras.new.prices.items }
 {
+    if !put_rules(prices, rules) {
+        return false;
+    }
     let Some(entries) = prices.arc_prices() else {
-        let is_passed = pass_asked(graph, prices, letters, order, extras, sums, best);
+        let is_passed = pass_asked(graph, prices, letters, order, rules, extras, sums, best);
         extras.take_all_back();
         return is_passed;
     };
-    let is_passed = pass_listed(graph, prices, entries, letters, order, extras, sums, best);
+    let is_passed = pass_listed(
+        graph, prices, entries, letters, order, rules, extras, sums, best,
+    );
     extras.take_back(entries.len());
     is_passed
 }

@@ -1,9 +1,9 @@
-use Rattle.std.proofs.Common.{◌≡◌, ◌<◌, ◌+◌, ◌^◌, ℕ, None, Some, IfSome, pos, length}
+use Rattle.std.proofs.Common.{◌≡◌, ◌<◌, ◌+◌, ℕ, None, Some, IfSome, pos, length}
 use Rattle.std.specs.Prelude.{slice_get}
 use Rattle.roster_model.specs.Sums.{Within}
 use Rattle.cheapest_tree.specs.declared.slots.Spot.{Spot}
 use Rattle.cheapest_tree.specs.Pricers.{value_at}
-use Rattle.cheapest_tree.proofs.narrow_fill.begin.Given as goal
+use Rattle.cheapest_tree.proofs.row_fill.begin.Given as goal
 
 abbrev pub invariant-loop-node : goal.invariant-loop-node
 invariant-loop-node g l = record {
@@ -17,5 +17,5 @@ invariant-loop-index g l = record {
   none : (n : ℕ) → n < l.nodes → value_at l.sums n ≡ None;
   nothing : value_at l.sums l.nodes ≡ Some (pos 0);
   spots : (j : ℕ) (s : Spot) → j < l.index → slice_get l.letters j ≡ Some s → value_at l.sums (l.nodes + 1 + j) ≡ (g.P.LetterPrice.view l.prices).letter_at s.code s.period;
-  small : (j : ℕ) → j < l.index → IfSome (value_at l.sums (l.nodes + 1 + j)) (Within (2 ^ 59));
+  small : (j : ℕ) → j < l.index → IfSome (value_at l.sums (l.nodes + 1 + j)) (Within g.N.Number.limits.sum);
 }

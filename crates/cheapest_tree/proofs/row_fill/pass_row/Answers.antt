@@ -1,0 +1,28 @@
+use Rattle.std.proofs.Common.{◌+◌, ℤ, List, Option, get_or, set, sym, subst}
+use Rattle.cheapest_tree.specs.Passes.{FindsRow, AreRowsPassed}
+use Rattle.cheapest_tree.proofs.RowsLemmas.{row-read, row-node, rows-next}
+use Rattle.cheapest_tree.proofs.row_fill.pass_row.Goals as goal
+
+pub put-requires : goal.put-requires
+put-requires g c =
+    let h = c.requires.asks in
+    let asks = h.3.row in
+    let at = row-read c.args.order.now c.as_slice.result.now c.args.place (record { node = 0; begin = 0; end = 0 }) asks.inside c.as_slice.ensures in
+    (row-node g.N.Number.limits.sum h.0 h.1 h.2 c.args.order.now c.args.sums.now c.args.best.now c.args.place asks _ at).0
+
+pub bounds-best-node : goal.bounds-best-node
+bounds-best-node g c =
+    let h = c.requires.asks in
+    let asks = h.3.row in
+    let at = row-read c.args.order.now c.as_slice.result.now c.args.place (record { node = 0; begin = 0; end = 0 }) asks.inside c.as_slice.ensures in
+    (row-node g.N.Number.limits.sum h.0 h.1 h.2 c.args.order.now c.args.sums.now c.args.best.now c.args.place asks _ at).1
+
+pub returns : goal.returns
+returns g c = record {
+  passed = λ done p v letters given.
+      let asks = given.row in
+      let at = row-read c.args.order.now c.as_slice.result.now c.args.place (record { node = 0; begin = 0; end = 0 }) asks.inside c.as_slice.ensures in
+      subst (λ (q : List (Option ℤ)). AreRowsPassed g.N.Number.limits.sum p v letters c.args.order.now q (set c.args.best.now (get_or c.as_slice.result.now c.args.place (record { node = 0; begin = 0; end = 0 })).node c.least_of_row-least.result.arc) (c.args.place + 1)) (sym c.put.ensures)
+      (rows-next g.N.Number.limits.sum p v letters c.args.order.now c.args.sums.now c.args.best.now c.args.place asks _ at c.in-Some.sum c.least_of_row-least.result.arc
+      (subst (λ (q : Option ℤ). FindsRow p v c.args.order.now c.args.place q c.least_of_row-least.result.arc) (sym c.in-Some.ensures.sum) (c.least_of_row-least.ensures.found p v letters c.args.best.now given)) c.in-Some.ensures.small);
+}

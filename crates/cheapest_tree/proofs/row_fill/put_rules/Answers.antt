@@ -1,0 +1,21 @@
+use Rattle.std.proofs.Common.{arith, ◌≡◌, ◌+◌, ◌<◌, length, ◌∙◌}
+use Rattle.std.proofs.lemmas.Int.{ints}
+use Rattle.std.proofs.lemmas.List.{length-set}
+use Rattle.cheapest_tree.proofs.NumbersLemmas.{rules-none, rules-each, rules-small}
+use Rattle.cheapest_tree.proofs.row_fill.put_rules.Goals as goal
+
+pub loop-rule-preserved : goal.loop-rule-preserved
+loop-rule-preserved g c =
+    let inv = c.loop-rule.invariant in
+    let rules = c.loop-rule.rules in
+    let n = c.loop-rule.rule in
+    let z = c.in-Some.price in
+    let price = c.rule.ensures in
+    let inside : n + 1 < length rules = omega (arith, inv.count, c.loop-rule-test.true) in
+    let read : z ≡ c.rule.result = omega (arith, ints, c.in-Some.ensures.same, price.within.low, price.within.high) in
+    record {
+      count = length-set rules (n + 1) z ∙ inv.count;
+      none = rules-none rules n z inside ∙ inv.none;
+      each = rules-each rules n z inside (g.P.LetterPrice.view c.args.prices.now).rule_of (read ∙ price.value) inv.each;
+      small = rules-small rules n z inside g.N.Number.limits.price c.in-Some.ensures.within inv.small;
+    }

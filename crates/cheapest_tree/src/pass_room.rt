@@ -1,0 +1,42 @@
+use crate::extras::Extras;
+use crate::least::{Price, Sum};
+use crate::number::Number;
+use roster_model::Memory;
+use std::alloc::Global;
+
+// How many codes of rules there are: 0, and 1 plus the number of each.
+const CODES: usize = 257;
+
+/// What a pass in numbers of one width works in.
+#[derive(Drop)]
+pub struct PassRoom<N: Number> {
+    /// The price of each rule at its number plus 1, and 0 at 0.
+    pub rules: Vec<Price<N>>,
+    /// What each arc costs.
+    pub extras: Extras<N>,
+    /// The sum in each slot.
+    pub sums: Vec<Sum<N>>,
+}
+
+impl<N: Number> PassRoom<N> {
+    ghost use Rattle.std.specs.Prelude.{IfOk};
+    ghost use Rattle.cheapest_tree.specs.Rooms.{IsRoomFor};
+
+    /// Returns room for so many arcs and slots.
+    pub fn new(alloc: Global, arcs: usize, slots: usize) -> Result<PassRoom<N>, Memory>
+        ensures { IfOk result (IsRoomFor arcs slots) }
+    {
+        let Ok(rules) = vec![in alloc; Price::zero(); CODES] else {
+            return Err(Memory);
+        };
+        let extras = Extras::new(alloc, arcs)?;
+        let Ok(sums) = vec![in alloc; Sum::none(); slots] else {
+            return Err(Memory);
+        };
+        Ok(PassRoom {
+            rules,
+            extras,
+            sums,
+        })
+    }
+}
