@@ -1,4 +1,3 @@
-use crate::float::{Entry64, Price64, Weight64};
 use crate::run::Run;
 
 /// Whether a column may enter the basis.
@@ -12,15 +11,9 @@ pub(crate) enum Standing {
     Barred,
 }
 
-/// A column, with what the steps keep of it.
+/// A column.
 #[derive(Clone, Copy, Drop)]
 pub(crate) struct Column {
-    /// Its reduced cost, 0 where it is not free.
-    pub(crate) reduced: Price64,
-    /// Its reference weight.
-    pub(crate) weight: Weight64,
-    /// Its entry in the row that leaves, in a dual step; 0 where it is not free.
-    pub(crate) entry: Entry64,
     /// Where its runs begin.
     pub(crate) first: usize,
     /// Where they end.
@@ -33,9 +26,6 @@ impl Column {
     /// Returns a column with these runs.
     pub(crate) fn new(cost: i64, first: usize, end: usize, standing: Standing) -> Column {
         Column {
-            reduced: 0.0,
-            weight: 1.0,
-            entry: 0.0,
             first,
             end,
             cost,
@@ -58,6 +48,14 @@ impl Column {
 pub(crate) fn own_runs<'a>(runs: &'a [Run], column: &Column) -> &'a [Run] {
     match runs.get(column.first..column.end) {
         Some(own) => own,
+        None => &[],
+    }
+}
+
+/// Returns the runs of the column at a place.
+pub(crate) fn runs_at<'a>(runs: &'a [Run], columns: &[Column], place: usize) -> &'a [Run] {
+    match columns.get(place) {
+        Some(column) => own_runs(runs, column),
         None => &[],
     }
 }

@@ -1,4 +1,6 @@
-use crate::line::{Line, copy_numbers};
+use crate::figures::Figures;
+use crate::kernel::{Kernel, push_if_room};
+use crate::line::{Line, copy_numbers, front};
 use crate::state::State;
 use roster_model::Memory;
 
@@ -10,38 +12,75 @@ fn copy_items<T: Copy>(out: &mut [T], items: &[T]) {
 }
 
 /// Copies a list.
-fn copy_list<T: Copy + Drop>(out: &mut Vec<T>, items: &[T]) -> Result<(), Memory> {
+pub(crate) fn copy_list<T: Copy + Drop>(out: &mut Vec<T>, items: &[T]) -> Result<(), Memory> {
     out.clear();
-    for item in items {
-        if out.push(*item).is_err() {
-            return Err(Memory);
-        }
+    match out.extend_from_slice(items) {
+        Ok(()) => Ok(()),
+        Err(_) => Err(Memory),
     }
-    Ok(())
 }
 
-/// Copies rows.
-fn copy_lines(out: &mut [Line], lines: &[Line]) {
-    for (copy, line) in out.iter_mut().zip(lines) {
-        copy_numbers(copy.sums.as_mut_slice(), line.sums.as_slice());
+/// Copies so many rows of the inverse, and as many of their numbers.
+fn copy_lines(out: &mut [Line], lines: &[Line], count: usize) {
+    for (copy, line) in out.iter_mut().zip(lines).take(count) {
+        copy_numbers(
+            copy.numbers.as_mut_slice(),
+            front(line.numbers.as_slice(), count),
+        );
+    }
+}
+
+/// Copies a list that has room already, as far as the room goes.
+fn copy_reserved(out: &mut Vec<usize>, items: &[usize]) {
+    out.clear();
+    for item in items {
+        push_if_room(out, *item);
+    }
+}
+
+impl Kernel {
+    /// Becomes a copy of another kernel.
+    fn copy_from(&mut self, other: &Kernel) {
+        copy_lines(
+            self.lines.as_mut_slice(),
+            other.lines.as_slice(),
+            other.size(),
+        );
+        copy_reserved(&mut self.listed, other.listed.as_slice());
+        copy_reserved(&mut self.tight, other.tight.as_slice());
+        copy_items(self.slots.as_mut_slice(), other.slots.as_slice());
+    }
+}
+
+impl Figures {
+    /// Becomes a copy of others.
+    fn copy_from(&mut self, other: &Figures) -> Result<(), Memory> {
+        copy_list(&mut self.reduced, other.reduced.as_slice())?;
+        copy_list(&mut self.weights, other.weights.as_slice())?;
+        copy_list(&mut self.entries, other.entries.as_slice())?;
+        self.make_room()
     }
 }
 
 impl State {
     /// Copies all but the columns.
-    pub(crate) fn copy_numbers(&mut self, other: &State) {
+    fn copy_numbers(&mut self, other: &State) {
         copy_items(self.right.as_mut_slice(), other.right.as_slice());
-        copy_lines(self.lines.as_mut_slice(), other.lines.as_slice());
+        self.kernel.copy_from(&other.kernel);
+        copy_items(self.own.as_mut_slice(), other.own.as_slice());
         copy_items(self.values.as_mut_slice(), other.values.as_slice());
-        copy_items(self.price_sums.as_mut_slice(), other.price_sums.as_slice());
-        copy_items(self.basis.as_mut_slice(), other.basis.as_slice());
         copy_items(self.norms.as_mut_slice(), other.norms.as_slice());
+        copy_items(self.prices.as_mut_slice(), other.prices.as_slice());
         self.has_norms = other.has_norms;
         self.priced = other.priced;
         self.is_stale = other.is_stale;
         self.is_mispriced = other.is_mispriced;
         self.drift = other.drift;
         self.since = other.since;
+        copy_items(
+            self.answers.basis.as_mut_slice(),
+            other.answers.basis.as_slice(),
+        );
         copy_items(
             self.answers.values.as_mut_slice(),
             other.answers.values.as_slice(),
@@ -56,6 +95,7 @@ impl State {
     pub(crate) fn copy_from(&mut self, other: &State) -> Result<(), Memory> {
         copy_list(&mut self.columns, other.columns.as_slice())?;
         copy_list(&mut self.runs, other.runs.as_slice())?;
+        self.figures.copy_from(&other.figures)?;
         self.copy_numbers(other);
         Ok(())
     }

@@ -1,5 +1,5 @@
-//! A linear program in floats of 64 bits, by the revised simplex method with a dense inverse of its
-//! basis.
+//! A linear program in floats of 64 bits, by the revised simplex method with the inverse of its basis's
+//! kernel.
 //!
 //! What it answers are hints for an exact method: a good basis, and prices and values in fixed point. Each
 //! call returns, and beyond its bounds it answers that it grew.
@@ -8,9 +8,11 @@
 mod column;
 mod compare;
 mod copying;
+mod expressing;
+mod figures;
 mod fixed;
 mod float;
-mod inverse;
+mod kernel;
 mod key;
 mod line;
 mod listing;
@@ -18,8 +20,10 @@ mod making;
 mod pivot;
 mod probing;
 mod refresh;
+mod rows;
 mod run;
 mod scout;
+mod seats;
 mod start;
 mod state;
 mod steps;

@@ -1,80 +1,86 @@
-use crate::float::{Entry64, Value64, Weight64, is_sum};
+use crate::float::{Entry64, Value64, is_sum};
 
-/// A row of the inverse, by the sums of its numbers before each place and behind the last: a column is
-/// a few runs, and its product with the row a few differences of sums.
+/// The numbers of a listed column's row of the inverse, by the slots of the tight rows.
 #[derive(Drop)]
 pub(crate) struct Line {
-    pub(crate) sums: Vec<Entry64>,
+    pub(crate) numbers: Vec<Entry64>,
 }
 
-/// Subtracts a factor's multiple of a row from a row.
-pub(crate) fn step_line(line: &mut [Entry64], factor: Entry64, other: &[Entry64]) {
-    for (sum, share) in line.iter_mut().zip(other) {
-        *sum -= factor * *share;
+/// Returns so many numbers at the front, or as many as there are.
+pub(crate) fn front(numbers: &[f64], count: usize) -> &[f64] {
+    match numbers.get(..count) {
+        Some(front) => front,
+        None => numbers,
     }
 }
 
-/// Leaves a row over a divisor. Says whether all sums fit.
-pub(crate) fn scale(line: &[Entry64], divisor: Entry64, scaled: &mut [Entry64]) -> bool {
-    let factor = 1.0 / divisor;
+/// Returns so many numbers at the front to be changed, or none where there are fewer.
+pub(crate) fn front_mut(numbers: &mut [f64], count: usize) -> &mut [f64] {
+    match numbers.get_mut(..count) {
+        Some(front) => front,
+        None => &mut [],
+    }
+}
+
+/// Subtracts a factor's multiple of numbers from numbers.
+pub(crate) fn step_line(line: &mut [f64], factor: f64, other: &[f64]) {
+    for (number, share) in line.iter_mut().zip(other) {
+        *number -= factor * *share;
+    }
+}
+
+/// Multiplies numbers by a factor. Says whether all fit.
+pub(crate) fn scale(line: &mut [Entry64], factor: Entry64) -> bool {
     let mut fits = true;
-    for (sum, out) in line.iter().zip(scaled.iter_mut()) {
-        let share = *sum * factor;
+    for number in line.iter_mut() {
+        let share = *number * factor;
         fits &= is_sum(share);
-        *out = share;
+        *number = share;
     }
     fits
 }
 
-/// Returns how many sums at the front are 0.
-pub(crate) fn zeros_of(sums: &[Entry64]) -> usize {
-    let mut zeros = 0usize;
-    for sum in sums {
-        if *sum != 0.0 {
-            return zeros;
-        }
-        zeros = zeros.saturating_add(1);
-    }
-    zeros
-}
-
-/// Returns the sums from the second one on.
-pub(crate) fn behind_first(sums: &[Entry64]) -> &[Entry64] {
-    match sums.get(1..) {
-        Some(rest) => rest,
-        None => &[],
-    }
-}
-
-/// Returns the squared norm of a row.
-pub(crate) fn norm_of(line: &[Entry64]) -> Weight64 {
+/// Returns the product of two rows of numbers.
+pub(crate) fn product_of(line: &[Entry64], other: &[Value64]) -> Value64 {
     let mut total = 0.0;
-    for (sum, next) in line.iter().zip(behind_first(line)) {
-        let number = *next - *sum;
-        total += number * number;
-    }
-    total
-}
-
-/// Returns the product of a row with the right sides.
-pub(crate) fn value_in(line: &[Entry64], right: &[Value64]) -> Value64 {
-    let mut total = 0.0;
-    for ((sum, next), side) in line.iter().zip(behind_first(line)).zip(right) {
-        total += (*next - *sum) * *side;
+    for (number, value) in line.iter().zip(other) {
+        total += *number * *value;
     }
     total
 }
 
 /// Copies numbers, as many as both have.
-pub(crate) fn copy_numbers(out: &mut [Entry64], numbers: &[Entry64]) {
+pub(crate) fn copy_numbers(out: &mut [f64], numbers: &[f64]) {
     for (copy, number) in out.iter_mut().zip(numbers) {
         *copy = *number;
     }
 }
 
-/// Leaves the sums of the row of the unit matrix with this number, times a number.
-pub(crate) fn set_unit(line: &mut [Entry64], row: usize, number: Entry64) {
-    for (place, out) in line.iter_mut().enumerate() {
-        *out = if place > row { number } else { 0.0 };
+/// Sets numbers to one value.
+pub(crate) fn set_all(numbers: &mut [f64], value: f64) {
+    for number in numbers.iter_mut() {
+        *number = value;
+    }
+}
+
+/// Sets the number at a place, if there is one.
+pub(crate) fn set_at(numbers: &mut [f64], place: usize, value: f64) {
+    if let Some(number) = numbers.get_mut(place) {
+        *number = value;
+    }
+}
+
+/// Adds to the number at a place, if there is one.
+pub(crate) fn add_at(numbers: &mut [f64], place: usize, value: f64) {
+    if let Some(number) = numbers.get_mut(place) {
+        *number += value;
+    }
+}
+
+/// Returns the number at a place, 0 where there is none.
+pub(crate) fn at(numbers: &[f64], place: usize) -> f64 {
+    match numbers.get(place) {
+        Some(number) => *number,
+        None => 0.0,
     }
 }

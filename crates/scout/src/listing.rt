@@ -15,10 +15,14 @@ impl State {
     /// Lists a column without entries.
     pub(crate) fn add_column(&mut self, cost: i64, standing: Standing) -> Result<(), Memory> {
         let place = self.runs.len();
-        match self.columns.push(Column::new(cost, place, place, standing)) {
-            Ok(()) => Ok(()),
-            Err(_) => Err(Memory),
+        if self
+            .columns
+            .push(Column::new(cost, place, place, standing))
+            .is_err()
+        {
+            return Err(Memory);
         }
+        self.figures.add()
     }
 
     /// Adds an entry to the last column, in a row behind those of its other entries.

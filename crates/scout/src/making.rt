@@ -1,18 +1,30 @@
 use crate::column::Standing;
+use crate::figures::Figures;
 use crate::fixed::{Q24, Q32};
 use crate::float::Value64;
+use crate::kernel::{Kernel, LOOSE};
 use crate::line::Line;
 use crate::run::Sign;
-use crate::state::{Answers, Desk, State};
+use crate::state::{Answers, Desk, NO_COLUMN, State};
 use roster_model::Memory;
 use std::alloc::{AllocError, Global};
 use std::num::nearest_i64_to_f64;
 
+/// Returns so many zeros.
+fn make_zeros(alloc: Global, count: usize) -> Result<Vec<f64>, AllocError> {
+    vec![in alloc; 0.0f64; count]
+}
+
 /// Returns so many zeros, and one more behind them.
 fn make_sums(alloc: Global, rows: usize) -> Result<Vec<f64>, AllocError> {
-    let mut sums = vec![in alloc; 0.0f64; rows]?;
+    let mut sums = make_zeros(alloc, rows)?;
     sums.push(0.0)?;
     Ok(sums)
+}
+
+/// Returns two zeros for each row.
+fn make_posts(alloc: Global, rows: usize) -> Result<Vec<f64>, AllocError> {
+    make_zeros(alloc, rows.saturating_mul(2))
 }
 
 /// Returns rows of zeros.
@@ -20,17 +32,30 @@ fn make_lines(alloc: Global, rows: usize) -> Result<Vec<Line>, AllocError> {
     let mut lines = Vec::with_capacity(alloc, rows)?;
     for _row in 0..rows {
         lines.push(Line {
-            sums: make_sums(alloc, rows)?,
+            numbers: make_zeros(alloc, rows)?,
         })?;
     }
     Ok(lines)
 }
 
+/// Returns room for a kernel, with no column.
+fn make_kernel(alloc: Global, rows: usize) -> Result<Kernel, AllocError> {
+    Ok(Kernel {
+        lines: make_lines(alloc, rows)?,
+        listed: Vec::with_capacity(alloc, rows)?,
+        tight: Vec::with_capacity(alloc, rows)?,
+        slots: vec![in alloc; LOOSE; rows]?,
+    })
+}
+
 /// Returns an empty desk for so many rows.
 fn make_desk(alloc: Global, rows: usize) -> Result<Desk, AllocError> {
     Ok(Desk {
-        alphas: vec![in alloc; 0.0f64; rows]?,
-        scaled: make_sums(alloc, rows)?,
+        picks: Vec::with_capacity(alloc, rows)?,
+        alphas: make_posts(alloc, rows)?,
+        row: make_zeros(alloc, rows)?,
+        sums: make_sums(alloc, rows)?,
+        changes: make_sums(alloc, rows)?,
         taken: vec![in alloc; false; rows]?,
         target: Vec::with_capacity(alloc, rows)?,
     })
@@ -39,6 +64,7 @@ fn make_desk(alloc: Global, rows: usize) -> Result<Desk, AllocError> {
 /// Returns answers of zeros for so many rows.
 fn make_answers(alloc: Global, rows: usize) -> Result<Answers, AllocError> {
     Ok(Answers {
+        basis: vec![in alloc; 0usize; rows]?,
         values: vec![in alloc; Q32(0); rows]?,
         prices: vec![in alloc; Q24(0); rows]?,
     })
@@ -53,6 +79,16 @@ fn make_right(alloc: Global, right: &[i64]) -> Result<Vec<Value64>, AllocError> 
     Ok(sides)
 }
 
+/// Returns what is kept of no column.
+fn make_figures(alloc: Global) -> Figures {
+    Figures {
+        reduced: Vec::new(alloc),
+        weights: Vec::new(alloc),
+        entries: Vec::new(alloc),
+        touched: Vec::new(alloc),
+    }
+}
+
 /// Returns a program without columns.
 fn make_empty(alloc: Global, right: &[i64]) -> Result<State, AllocError> {
     let rows = right.len();
@@ -60,12 +96,13 @@ fn make_empty(alloc: Global, right: &[i64]) -> Result<State, AllocError> {
         right: make_right(alloc, right)?,
         columns: Vec::new(alloc),
         runs: Vec::new(alloc),
-        lines: make_lines(alloc, rows)?,
-        values: vec![in alloc; 0.0f64; rows]?,
-        price_sums: make_sums(alloc, rows)?,
-        basis: vec![in alloc; 0usize; rows]?,
-        norms: vec![in alloc; 0.0f64; rows]?,
+        figures: make_figures(alloc),
+        kernel: make_kernel(alloc, rows)?,
+        own: vec![in alloc; NO_COLUMN; rows]?,
+        values: make_posts(alloc, rows)?,
+        norms: make_posts(alloc, rows)?,
         has_norms: false,
+        prices: make_zeros(alloc, rows)?,
         priced: 0,
         is_stale: true,
         is_mispriced: true,

@@ -1,11 +1,12 @@
-use crate::column::{Standing, own_runs};
+use crate::column::Standing;
 use crate::fixed::{Grown, fitting};
-use crate::float::{Entry64, is_price, is_value};
-use crate::inverse::{fill_alphas, fill_norms, forget_norms, step_lines};
-use crate::line::{scale, step_line, zeros_of};
-use crate::state::{State, number_of, set_standing};
-use crate::sweeps::{Entering, dual_entering, fill_entries, primal_entering, sweep, sweep_filled};
-use crate::values::{dual_leaving, leaving, step_values};
+use crate::float::{Entry64, Price64, is_price, is_value};
+use crate::line::add_at;
+use crate::rows::Own;
+use crate::seats::Seat;
+use crate::state::{Post, State, number_of, post_of};
+use crate::sweeps::{Entering, dual_entering, primal_entering};
+use crate::values::{dual_leaving, leaving, reset_norms, step_norms, step_values};
 
 /// What a step did.
 #[derive(Clone, Copy, Drop)]
@@ -18,97 +19,74 @@ pub(crate) enum Step {
     Stuck,
 }
 
+/// A pivot: what leaves, and what enters.
+#[derive(Clone, Copy, Drop)]
+struct Pivot {
+    /// The number of the post of the column that leaves.
+    number: usize,
+    /// The place of the column that enters.
+    place: usize,
+    /// Its entry at the post.
+    entry: Entry64,
+    /// What the row that leaves has in a row of its own, over the entry.
+    own: Own,
+}
+
 impl State {
-    /// Works a column out in terms of the basis.
-    pub(crate) fn fill_column(&mut self, column: usize) -> Result<(), Grown> {
-        let Some(entering) = self.columns.as_slice().get(column) else {
-            return Err(Grown);
-        };
-        let runs = own_runs(self.runs.as_slice(), entering);
-        fitting(fill_alphas(self.lines.as_slice(), runs, self.desk.alphas.as_mut_slice()))
-    }
-
-    /// Leaves a row over its pivot at the desk.
-    pub(crate) fn scale_row(&mut self, row: usize, pivot: Entry64) -> Result<(), Grown> {
-        let Some(line) = self.lines.as_slice().get(row) else {
-            return Err(Grown);
-        };
-        let sums = line.sums.as_slice();
-        fitting(scale(sums, pivot, self.desk.scaled.as_mut_slice()))
-    }
-
-    /// Steps the inverse, the scaled row being at the desk.
-    pub(crate) fn step_inverse(&mut self, row: usize) {
-        let scaled = self.desk.scaled.as_slice();
-        let first = zeros_of(scaled);
-        let touched = step_lines(
-            self.lines.as_mut_slice(),
-            row,
-            self.desk.alphas.as_slice(),
-            scaled,
-            first,
-        );
-        let length = scaled.len().saturating_sub(first) as u64;
-        self.work = self.work.saturating_add(touched.saturating_mul(length));
-    }
-
-    /// Steps the values.
-    fn step_values(&mut self, row: usize, pivot: Entry64) -> Result<(), Grown> {
-        let value = number_of(self.values.as_slice(), row)?;
-        let step = value / pivot;
+    /// Steps the values, and returns that of the column that enters.
+    fn step_values(&mut self, number: usize, entry: Entry64) -> Result<f64, Grown> {
+        let value = number_of(self.values.as_slice(), number)?;
+        let step = value / entry;
         let fits = step_values(
             self.values.as_mut_slice(),
             self.desk.alphas.as_slice(),
             step,
         );
-        if let Some(value) = self.values.as_mut_slice().get_mut(row) {
-            *value = step;
-        }
-        fitting(fits && is_value(step))
+        fitting(fits && is_value(step))?;
+        Ok(step)
     }
 
     /// Returns the reduced cost and the reference weight of a column.
-    fn entering(&self, column: usize) -> Result<Entering, Grown> {
-        match self.columns.as_slice().get(column) {
-            Some(column) => Ok(Entering {
-                reduced: column.reduced,
-                weight: column.weight,
-            }),
-            None => Err(Grown),
+    fn entering(&self, place: usize) -> Result<Entering, Grown> {
+        Ok(Entering {
+            reduced: number_of(self.figures.reduced.as_slice(), place)?,
+            weight: number_of(self.figures.weights.as_slice(), place)?,
+        })
+    }
+
+    /// Steps the prices for a column that enters at a reduced cost, the scaled row being at the desk.
+    fn step_prices(&mut self, own: Own, reduced: Price64) {
+        let prices = self.prices.as_mut_slice();
+        for (row, number) in self
+            .kernel
+            .tight
+            .as_slice()
+            .iter()
+            .zip(self.desk.row.as_slice())
+        {
+            add_at(prices, *row, reduced * *number);
         }
+        add_at(prices, own.row, reduced * own.number);
     }
 
-    /// Puts a column into the basis in place of that of a row.
-    fn exchange(&mut self, row: usize, column: usize) {
-        let columns = self.columns.as_mut_slice();
-        if let Some(basic) = self.basis.as_mut_slice().get_mut(row) {
-            set_standing(columns, *basic, Standing::Free);
-            set_standing(columns, column, Standing::Basic);
-            *basic = column;
-        }
+    /// Makes a column basic in place of the one at a post, and returns the place of that.
+    fn exchange(&mut self, post: Post, place: usize) -> usize {
+        let leaving = self.basic_at(post);
+        self.stand(leaving, Standing::Free);
+        self.stand(place, Standing::Basic);
+        leaving
     }
 
-    /// Steps the values and the prices for a column, which is worked out at the desk and becomes basic in
-    /// a row. The scaled row is left at the desk, and what the column's costs were is returned.
-    fn begin_pivot(
-        &mut self,
-        row: usize,
-        column: usize,
-        pivot: Entry64,
-    ) -> Result<Entering, Grown> {
-        let entering = self.entering(column)?;
-        fitting(is_price(entering.reduced))?;
-        self.scale_row(row, pivot)?;
-        self.step_values(row, pivot)?;
-        self.exchange(row, column);
-        let scaled = self.desk.scaled.as_slice();
-        step_line(self.price_sums.as_mut_slice(), -entering.reduced, scaled);
-        Ok(entering)
-    }
-
-    /// Steps the inverse, and counts the pivot.
-    fn end_pivot(&mut self, row: usize) {
-        self.step_inverse(row);
+    /// Ends a pivot: seats the column that enters, and counts.
+    fn end_pivot(&mut self, pivot: Pivot, value: f64) {
+        let norm = step_norms(
+            self.norms.as_mut_slice(),
+            self.desk.alphas.as_slice(),
+            pivot.number,
+            pivot.entry,
+        );
+        let post = post_of(pivot.number, self.right.len());
+        self.enter(post, pivot.own, pivot.place, Seat { value, norm });
         self.drift = self.drift.saturating_add(1);
         self.since = self.since.saturating_add(1);
         self.pivots = self.pivots.saturating_add(1);
@@ -116,64 +94,75 @@ impl State {
 
     /// Lets a column of negative reduced cost enter.
     pub(crate) fn primal_step(&mut self) -> Result<Step, Grown> {
-        let Some(column) = primal_entering(self.columns.as_slice()) else {
+        let Some(place) = primal_entering(&self.figures) else {
             return Ok(Step::Done);
         };
-        self.fill_column(column)?;
-        let Some(row) = leaving(self.values.as_slice(), self.desk.alphas.as_slice()) else {
+        self.fill_column(place)?;
+        let Some(number) = leaving(self.values.as_slice(), self.desk.alphas.as_slice()) else {
             return Ok(Step::Stuck);
         };
-        let pivot = number_of(self.desk.alphas.as_slice(), row)?;
-        let entering = self.begin_pivot(row, column, pivot)?;
-        sweep(
-            self.columns.as_mut_slice(),
-            self.runs.as_slice(),
-            self.desk.scaled.as_slice(),
-            entering,
+        let entry = number_of(self.desk.alphas.as_slice(), number)?;
+        let entering = self.entering(place)?;
+        fitting(is_price(entering.reduced))?;
+        let post = post_of(number, self.right.len());
+        let row = self.fill_row(post);
+        let own = self.scale_row(row, entry).ok_or(Grown)?;
+        self.sum_row(own);
+        let value = self.step_values(number, entry)?;
+        self.step_prices(own, entering.reduced);
+        let _leaving = self.exchange(post, place);
+        self.sweep(own, entering);
+        self.end_pivot(
+            Pivot {
+                number,
+                place,
+                entry,
+                own,
+            },
+            value,
         );
-        self.end_pivot(row);
         Ok(Step::Stepped)
     }
 
-    /// Works the entries of the columns out in a row.
-    fn fill_row(&mut self, row: usize) {
-        if let Some(line) = self.lines.as_slice().get(row) {
-            fill_entries(
-                self.columns.as_mut_slice(),
-                self.runs.as_slice(),
-                line.sums.as_slice(),
-            );
-        }
-    }
-
-    /// Works the norms of the rows out whose values are negative, where they are not kept.
+    /// Gives each post the reference weight 1 where weights are not kept.
     fn keep_norms(&mut self) {
         if !self.has_norms {
-            for norm in self.norms.as_mut_slice().iter_mut() {
-                *norm = 0.0;
-            }
+            reset_norms(self.norms.as_mut_slice());
             self.has_norms = true;
         }
-        let values = self.values.as_slice();
-        fill_norms(self.lines.as_slice(), values, self.norms.as_mut_slice());
     }
 
     /// Lets a column leave whose value is negative.
     pub(crate) fn dual_step(&mut self) -> Result<Step, Grown> {
         self.keep_norms();
-        let Some(row) = dual_leaving(self.values.as_slice(), self.norms.as_slice()) else {
+        let Some(number) = dual_leaving(self.values.as_slice(), self.norms.as_slice()) else {
             return Ok(Step::Done);
         };
-        self.fill_row(row);
-        let Some(column) = dual_entering(self.columns.as_slice()) else {
+        let post = post_of(number, self.right.len());
+        let row = self.fill_row(post);
+        self.sum_row(row);
+        self.touch_all(row);
+        let Some(place) = dual_entering(&self.figures) else {
             return Ok(Step::Stuck);
         };
-        self.fill_column(column)?;
-        let pivot = number_of(self.desk.alphas.as_slice(), row)?;
-        let entering = self.begin_pivot(row, column, pivot)?;
-        sweep_filled(self.columns.as_mut_slice(), pivot, entering);
-        self.end_pivot(row);
-        forget_norms(self.desk.alphas.as_slice(), self.norms.as_mut_slice());
+        self.fill_column(place)?;
+        let entry = number_of(self.desk.alphas.as_slice(), number)?;
+        let entering = self.entering(place)?;
+        fitting(is_price(entering.reduced))?;
+        let own = self.scale_row(row, entry).ok_or(Grown)?;
+        let value = self.step_values(number, entry)?;
+        self.step_prices(own, entering.reduced);
+        let leaving = self.exchange(post, place);
+        self.sweep_touched(leaving, entry, entering);
+        self.end_pivot(
+            Pivot {
+                number,
+                place,
+                entry,
+                own,
+            },
+            value,
+        );
         Ok(Step::Stepped)
     }
 }

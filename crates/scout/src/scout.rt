@@ -152,7 +152,7 @@ impl Scout {
     pub fn basic(&self, place: usize) -> Option<Key>
         ensures { IfSome result (IsKey self.now) }
     {
-        match self.state.basis.as_slice().get(place) {
+        match self.state.answers.basis.as_slice().get(place) {
             Some(column) => self.key_of(*column),
             None => None,
         }
@@ -171,8 +171,8 @@ impl Scout {
     /// Returns the reduced cost of a listed column after a run.
     pub fn reduced(&self, number: usize) -> Option<Q24> {
         let place = self.rows.saturating_mul(2).saturating_add(number);
-        match self.state.columns.as_slice().get(place) {
-            Some(column) => Some(Q24::of(column.reduced)),
+        match self.state.figures.reduced.as_slice().get(place) {
+            Some(reduced) => Some(Q24::of(*reduced)),
             None => None,
         }
     }
@@ -186,7 +186,7 @@ impl Scout {
             .values
             .as_slice()
             .iter()
-            .zip(self.state.basis.as_slice())
+            .zip(self.state.answers.basis.as_slice())
         {
             let cost = cost_of(self.state.columns.as_slice(), *place);
             total = total.saturating_add(product(value.0, cost));
@@ -234,6 +234,7 @@ impl Scout {
         let members = Members { units, flags };
         self.state.copy_with(&other.state, members)?;
         self.count = other.count;
-        Ok(self.state.change_last(row, members))
+        self.state.change_last(row);
+        Ok(Ok(()))
     }
 }

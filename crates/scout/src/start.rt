@@ -2,22 +2,15 @@ use crate::column::{Column, Standing};
 use crate::fixed::Grown;
 use crate::float::Value64;
 use crate::key::Key;
-use crate::line::{Line, set_unit};
-use crate::state::{State, number_of, set_standing};
-use crate::sweeps::reset_weights;
-use crate::values::free_row;
-
-/// Leaves the unit matrix.
-fn reset_lines(lines: &mut [Line]) {
-    for (row, line) in lines.iter_mut().enumerate() {
-        set_unit(line.sums.as_mut_slice(), row, 1.0);
-    }
-}
+use crate::line::set_all;
+use crate::seats::Seat;
+use crate::state::{NO_COLUMN, Post, State, number_of, set_standing};
+use crate::values::{free_row, reset_norms};
 
 /// Leaves the basis of what is missing.
-fn reset_basis(basis: &mut [usize]) {
-    for (row, basic) in basis.iter_mut().enumerate() {
-        *basic = row;
+fn reset_own(own: &mut [usize]) {
+    for (row, place) in own.iter_mut().enumerate() {
+        *place = row;
     }
 }
 
@@ -92,7 +85,7 @@ impl State {
     /// Wants the columns with these keys.
     fn want_keys(&mut self, keys: &[Key]) {
         self.desk.target.clear();
-        let rows = self.lines.len();
+        let rows = self.rows();
         for key in keys {
             self.want(place_of(rows, *key));
         }
@@ -101,7 +94,7 @@ impl State {
     /// Wants the columns of what is beyond in the rows whose right side is below a limit, or in all.
     fn want_beyond(&mut self, limit: Option<Value64>) {
         self.desk.target.clear();
-        let rows = self.lines.len();
+        let rows = self.rows();
         for row in 0..rows {
             if let Some(right) = self.right.as_slice().get(row).copied() {
                 if is_below(right, limit) {
@@ -114,8 +107,15 @@ impl State {
     /// Wants the columns of the basis.
     fn want_basis(&mut self) {
         self.desk.target.clear();
-        for row in 0..self.basis.len() {
-            if let Some(place) = self.basis.as_slice().get(row).copied() {
+        for row in 0..self.own.len() {
+            if let Some(place) = self.own.as_slice().get(row).copied() {
+                if place != NO_COLUMN {
+                    self.want(place);
+                }
+            }
+        }
+        for slot in 0..self.kernel.size() {
+            if let Some(place) = self.kernel.listed.as_slice().get(slot).copied() {
                 self.want(place);
             }
         }
@@ -130,34 +130,39 @@ impl State {
         if !is_free || !take(self.desk.taken.as_mut_slice(), row) {
             return;
         }
-        if let Some(line) = self.lines.as_mut_slice().get_mut(row) {
-            set_unit(line.sums.as_mut_slice(), row, -1.0);
+        if let Some(own) = self.own.as_mut_slice().get_mut(row) {
+            *own = place;
         }
-        if let Some(basic) = self.basis.as_mut_slice().get_mut(row) {
-            *basic = place;
-        }
+    }
+
+    /// Returns the row not yet taken in which a column has its greatest entry, which is at the desk.
+    fn free_row(&self) -> Option<usize> {
+        let alphas = self.desk.alphas.as_slice().get(self.rows()..)?;
+        free_row(alphas, self.desk.taken.as_slice())
     }
 
     /// Puts a listed column into the basis, in the free row with its greatest entry.
     fn put_listed(&mut self, place: usize) -> Result<(), Grown> {
         self.fill_column(place)?;
-        let desk = &self.desk;
-        let Some(row) = free_row(desk.alphas.as_slice(), desk.taken.as_slice()) else {
+        let Some(row) = self.free_row() else {
             return Ok(());
         };
-        let pivot = number_of(self.desk.alphas.as_slice(), row)?;
-        self.scale_row(row, pivot)?;
-        self.step_inverse(row);
-        if let Some(basic) = self.basis.as_mut_slice().get_mut(row) {
-            *basic = place;
-        }
+        let number = row.saturating_add(self.rows());
+        let entry = number_of(self.desk.alphas.as_slice(), number)?;
+        let own = self.fill_row(Post::Row(row));
+        let own = self.scale_row(own, entry).ok_or(Grown)?;
+        let seat = Seat {
+            value: 0.0,
+            norm: 1.0,
+        };
+        self.enter(Post::Row(row), own, place, seat);
         let _is_free = take(self.desk.taken.as_mut_slice(), row);
         Ok(())
     }
 
     /// Puts the wanted columns of what is beyond into the basis.
     fn put_all_beyond(&mut self) {
-        let rows = self.lines.len();
+        let rows = self.rows();
         for number in 0..self.desk.target.len() {
             if let Some(place) = self.desk.target.as_slice().get(number).copied() {
                 if place >= rows && place - rows < rows {
@@ -169,7 +174,7 @@ impl State {
 
     /// Puts the wanted listed columns into the basis.
     fn put_all_listed(&mut self) -> Result<(), Grown> {
-        let first = self.lines.len().saturating_mul(2);
+        let first = self.rows().saturating_mul(2);
         for number in 0..self.desk.target.len() {
             if let Some(place) = self.desk.target.as_slice().get(number).copied() {
                 if place >= first && place < self.columns.len() {
@@ -180,12 +185,14 @@ impl State {
         Ok(())
     }
 
-    /// Leaves the unit matrix as the inverse, and the columns of what is missing as the basis.
+    /// Leaves the columns of what is missing as the basis.
     fn reset(&mut self) {
-        reset_lines(self.lines.as_mut_slice());
-        reset_basis(self.basis.as_mut_slice());
+        self.kernel.clear();
+        reset_own(self.own.as_mut_slice());
         free_basic(self.columns.as_mut_slice());
-        reset_weights(self.columns.as_mut_slice());
+        set_all(self.figures.weights.as_mut_slice(), 1.0);
+        set_all(self.values.as_mut_slice(), 0.0);
+        reset_norms(self.norms.as_mut_slice());
         reset_taken(self.desk.taken.as_mut_slice());
         self.since = 0;
         self.has_norms = false;
@@ -198,7 +205,8 @@ impl State {
         take_missing(self.desk.taken.as_mut_slice(), self.desk.target.as_slice());
         self.put_all_beyond();
         let put = self.put_all_listed();
-        mark_basic(self.columns.as_mut_slice(), self.basis.as_slice());
+        mark_basic(self.columns.as_mut_slice(), self.own.as_slice());
+        mark_basic(self.columns.as_mut_slice(), self.kernel.listed.as_slice());
         put?;
         self.refresh()
     }

@@ -1,50 +1,69 @@
 use crate::column::{Column, Standing};
+use crate::figures::Figures;
 use crate::fixed::{Grown, Q24, Q32};
 use crate::float::{Entry64, Price64, Value64, Weight64};
-use crate::line::Line;
+use crate::kernel::Kernel;
 use crate::run::Run;
 use std::num::nearest_i64_to_f64;
+
+/// An entry of a column in a tight row: the row's slot, and whether the entry is 1 or -1.
+#[derive(Clone, Copy, Drop)]
+pub(crate) struct Pick {
+    pub(crate) slot: usize,
+    pub(crate) entry: Entry64,
+}
 
 /// The room in which a step works.
 #[derive(Drop)]
 pub(crate) struct Desk {
-    /// The column that enters, in terms of the basis.
+    /// The entries in tight rows of the column that enters.
+    pub(crate) picks: Vec<Pick>,
+    /// The column that enters, in terms of the basis: by posts.
     pub(crate) alphas: Vec<Entry64>,
-    /// The sums of the row that leaves, over its pivot.
-    pub(crate) scaled: Vec<Entry64>,
+    /// The numbers of the row of the inverse that leaves, by slots.
+    pub(crate) row: Vec<Entry64>,
+    /// The sums of that row's numbers before each row of the program, and behind the last.
+    pub(crate) sums: Vec<Entry64>,
+    /// What changes from each row to the next where columns are taken off a row's number.
+    pub(crate) changes: Vec<f64>,
     /// The rows that have a column of a basis that is being made.
     pub(crate) taken: Vec<bool>,
     /// The columns of a basis that is to be made.
     pub(crate) target: Vec<usize>,
 }
 
-/// What a program answers, in fixed point.
+/// What a program answers.
 #[derive(Drop)]
 pub(crate) struct Answers {
-    /// The values of the basic columns.
+    /// The places of the basic columns.
+    pub(crate) basis: Vec<usize>,
+    /// Their values, in fixed point.
     pub(crate) values: Vec<Q32>,
-    /// The prices of the rows.
+    /// The prices of the rows, in fixed point.
     pub(crate) prices: Vec<Q24>,
 }
 
 /// A program with a basis. Its columns are those of what is missing in each row, those of what is beyond
 /// in each row, and then the listed ones.
+///
+/// What is kept by posts has first a number for each listed column of the basis, as many as there may be,
+/// and then one for each row, for its own column in the basis: 0 where it has none.
 #[derive(Drop)]
 pub(crate) struct State {
     pub(crate) right: Vec<Value64>,
     pub(crate) columns: Vec<Column>,
     pub(crate) runs: Vec<Run>,
-    /// The inverse of the basis, row by row.
-    pub(crate) lines: Vec<Line>,
-    /// The values of the basic columns.
+    pub(crate) figures: Figures,
+    pub(crate) kernel: Kernel,
+    /// The place of each loose row's own column in the basis; of no column for a tight row.
+    pub(crate) own: Vec<usize>,
+    /// The values of the basic columns, by posts.
     pub(crate) values: Vec<Value64>,
-    /// The sums of the rows' prices before each row and behind the last.
-    pub(crate) price_sums: Vec<Price64>,
-    /// The basic column of each row of the inverse.
-    pub(crate) basis: Vec<usize>,
-    /// The squared norms of the inverse's rows while they are kept, 0 where one is not known.
+    /// The reference weights of dual steps, by posts, while they are kept.
     pub(crate) norms: Vec<Weight64>,
     pub(crate) has_norms: bool,
+    /// The prices of the rows.
+    pub(crate) prices: Vec<Price64>,
     /// How many columns have reduced costs.
     pub(crate) priced: usize,
     /// Whether the values are to be worked out again.
@@ -63,6 +82,27 @@ pub(crate) struct State {
     pub(crate) answers: Answers,
 }
 
+/// The place of no column.
+pub(crate) const NO_COLUMN: usize = usize::MAX;
+
+/// Where a basic column stands.
+#[derive(Clone, Copy, Drop)]
+pub(crate) enum Post {
+    /// Among the listed ones.
+    Listed(usize),
+    /// In a row that it is the own column of.
+    Row(usize),
+}
+
+/// Returns the post with this number, in a program of so many rows.
+pub(crate) fn post_of(number: usize, rows: usize) -> Post {
+    if number < rows {
+        Post::Listed(number)
+    } else {
+        Post::Row(number - rows)
+    }
+}
+
 /// Returns the cost of a column.
 pub(crate) fn cost_of(columns: &[Column], place: usize) -> i64 {
     match columns.get(place) {
@@ -76,21 +116,58 @@ pub(crate) fn cost64_of(columns: &[Column], place: usize) -> Price64 {
     nearest_i64_to_f64(cost_of(columns, place))
 }
 
-/// Gives a column, which enters or leaves the basis, its standing. Its entry in the row that it leaves
-/// is 1.
+/// Sets the standing of a column.
 pub(crate) fn set_standing(columns: &mut [Column], place: usize, standing: Standing) {
     if let Some(column) = columns.get_mut(place) {
         column.standing = standing;
-        column.reduced = 0.0;
-        column.weight = 1.0;
-        column.entry = if standing == Standing::Free { 1.0 } else { 0.0 };
     }
 }
 
-/// Returns the number of a row.
-pub(crate) fn number_of(numbers: &[f64], row: usize) -> Result<f64, Grown> {
-    match numbers.get(row) {
+/// Returns the number at a place.
+pub(crate) fn number_of(numbers: &[f64], place: usize) -> Result<f64, Grown> {
+    match numbers.get(place) {
         Some(number) => Ok(*number),
         None => Err(Grown),
+    }
+}
+
+/// Returns the place at a place.
+pub(crate) fn place_at(places: &[usize], at: usize) -> usize {
+    match places.get(at) {
+        Some(place) => *place,
+        None => NO_COLUMN,
+    }
+}
+
+/// Returns the entry of a row's own column at this place, in a program of so many rows; 0 where there is
+/// none.
+pub(crate) fn sign_of(place: usize, rows: usize) -> Entry64 {
+    if place < rows {
+        1.0
+    } else if place == NO_COLUMN {
+        0.0
+    } else {
+        -1.0
+    }
+}
+
+impl State {
+    /// Returns how many rows there are.
+    pub(crate) fn rows(&self) -> usize {
+        self.right.len()
+    }
+
+    /// Gives a column, which enters or leaves the basis, its standing.
+    pub(crate) fn stand(&mut self, place: usize, standing: Standing) {
+        set_standing(self.columns.as_mut_slice(), place, standing);
+        self.figures.reset(place);
+    }
+
+    /// Returns the place of the basic column at a post.
+    pub(crate) fn basic_at(&self, post: Post) -> usize {
+        match post {
+            Post::Listed(slot) => place_at(self.kernel.listed.as_slice(), slot),
+            Post::Row(row) => place_at(self.own.as_slice(), row),
+        }
     }
 }

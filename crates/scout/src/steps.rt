@@ -94,12 +94,12 @@ impl State {
                 return answer;
             }
         }
-        spent_unless(primal_entering(self.columns.as_slice()).is_none())
+        spent_unless(primal_entering(&self.figures).is_none())
     }
 
     /// Whether the basis is optimal.
     fn is_optimal(&self) -> bool {
-        are_feasible(self.values.as_slice()) && primal_entering(self.columns.as_slice()).is_none()
+        are_feasible(self.values.as_slice()) && primal_entering(&self.figures).is_none()
     }
 
     /// Takes dual steps where a value is negative.

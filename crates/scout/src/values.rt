@@ -1,6 +1,6 @@
 use crate::compare::Candidate;
 use crate::float::{Entry64, Value64, Weight64, is_value};
-use crate::sweeps::{NEVER, PIVOT};
+use crate::sweeps::{MOST_WEIGHT, NEVER, PIVOT};
 
 /// Values below this are infeasible, -2^-17.
 const FEASIBLE: Value64 = -7.62939453125e-6;
@@ -44,7 +44,7 @@ fn least_primal_ratio(values: &[Value64], alphas: &[Entry64]) -> f64 {
     least
 }
 
-/// Returns the row that leaves in a primal step: the one with the greatest entry among those within the
+/// Returns the post that leaves in a primal step: the one with the greatest entry among those within the
 /// least ratio.
 pub(crate) fn leaving(values: &[Value64], alphas: &[Entry64]) -> Option<usize> {
     let least = least_primal_ratio(values, alphas);
@@ -59,8 +59,8 @@ pub(crate) fn leaving(values: &[Value64], alphas: &[Entry64]) -> Option<usize> {
     found
 }
 
-/// Returns the row that leaves in a dual step: the one whose negative value has the greatest square over
-/// the row's norm.
+/// Returns the post that leaves in a dual step: the one whose negative value has the greatest square over
+/// its reference weight.
 pub(crate) fn dual_leaving(values: &[Value64], norms: &[Weight64]) -> Option<usize> {
     let mut best: Option<Candidate> = None;
     for (place, (value, norm)) in values.iter().zip(norms).enumerate() {
@@ -77,7 +77,44 @@ pub(crate) fn dual_leaving(values: &[Value64], norms: &[Weight64]) -> Option<usi
     Some(found.place)
 }
 
-/// Returns the row not yet taken with the greatest entry in size, if that is a pivot.
+/// Gives each post the reference weight 1.
+pub(crate) fn reset_norms(norms: &mut [Weight64]) {
+    for norm in norms.iter_mut() {
+        *norm = 1.0;
+    }
+}
+
+/// Returns a reference weight within its bound.
+fn bounded(norm: Weight64) -> Weight64 {
+    if norm < MOST_WEIGHT {
+        norm
+    } else {
+        MOST_WEIGHT
+    }
+}
+
+/// Takes a pivot's step of the reference weights of dual steps, and returns that of the column that enters
+/// at a post with this entry.
+pub(crate) fn step_norms(
+    norms: &mut [Weight64],
+    alphas: &[Entry64],
+    number: usize,
+    entry: Entry64,
+) -> Weight64 {
+    let share = match norms.get(number) {
+        Some(norm) => *norm / (entry * entry),
+        None => 1.0,
+    };
+    for (norm, alpha) in norms.iter_mut().zip(alphas) {
+        let square = *alpha * *alpha * share;
+        if square > *norm {
+            *norm = bounded(square);
+        }
+    }
+    if share > 1.0 { bounded(share) } else { 1.0 }
+}
+
+/// Returns the loose row not yet taken with the greatest entry in size, if that is a pivot.
 pub(crate) fn free_row(alphas: &[Entry64], taken: &[bool]) -> Option<usize> {
     let mut greatest = PIVOT;
     let mut found = None;
