@@ -1,26 +1,57 @@
-ghost use Rattle.std.specs.Prelude.{◌≡◌, ◌<◌, All, IfOk, length};
+ghost use Rattle.std.specs.Prelude.{◌≡◌, ◌<◌, All, IfOk, OnOk, length};
 ghost use Rattle.roster_model.specs.PriceRooms.{IsRoomFor};
 ghost use Rattle.roster_model.specs.SoundInstance.{IsSoundInstance};
 ghost use Rattle.parse_graph.specs.Graphs.{IsGraph};
 ghost use Rattle.cheapest_tree.specs.Pricers.{IsMadeFor};
 ghost use Rattle.tree_pool.specs.Pools.{IsPool, IsGrown};
+ghost use Rattle.roster_moves.specs.Drafts.{IsDraft};
 
+use crate::copying::{copied_all, drafted};
 use crate::draft::Draft;
 use crate::exchanging::exchange_all;
 use crate::growing::fill_up;
+use crate::renewing::renew_all;
 use cheapest_tree::Pricer;
 use parse_graph::Graph;
 use roster_model::{Instance, List, Memory, PriceRoom};
 use std::alloc::Global;
 use tree_pool::Pool;
 
-/// Completes a roster, and then exchanges its shifts one by one.
+/// Completes a draft, exchanges its trees one by one, and then renews a few at a time.
+fn improve(
+    instance: &Instance,
+    graph: &Graph,
+    pricer: &mut Pricer,
+    prices: &mut PriceRoom,
+    tried: &mut Pool,
+    draft: &mut Draft,
+) -> Result<(), Memory>
+    requires sound { IsSoundInstance instance.now }
+    requires graph { IsGraph instance.now.grammar graph.now }
+    requires pricer { IsMadeFor graph.now pricer.old }
+    requires prices { IsRoomFor prices.old instance.now }
+    requires tried { IsPool instance.now.grammar tried.old }
+    requires draft { IsDraft instance.now (length tried.old) draft.old }
+    ensures draft { OnOk result (IsDraft instance.now (length tried.new) draft.new) }
+    ensures pricer { IsMadeFor graph.now pricer.new }
+    ensures prices { IsRoomFor prices.new instance.now }
+    ensures most { prices.new.most ≡ prices.old.most }
+    ensures tried { IsPool instance.now.grammar tried.new }
+{
+    fill_up(instance, graph, pricer, prices, tried, draft)?;
+    exchange_all(instance, graph, pricer, prices, tried, draft)?;
+    renew_all(instance, graph, pricer, prices, tried, draft)
+}
+
+/// Completes a roster, exchanges its shifts one by one, and then renews two or three at a time.
 ///
 /// The trees stand in the pool, some of them several times. First further trees of the day are added: where
 /// a team has fewer than its least number a cheapest one of such a team, and else one that saves, of a team
-/// that is not full. Then each tree gives way to a cheapest one of its team. A tree costs what the roster's
-/// cost rises by it, where a count outside of its cell's range counts as more than any cost. The roster that
-/// comes of it need not be allowed.
+/// that is not full. Then each tree gives way to a cheapest one of its team. Then two or three trees, which are
+/// drawn by numbers that look like chance, give way together to cheapest ones of their teams, one after
+/// another, unless the roster would then cost more. A tree costs what the roster's cost rises by it, where a
+/// count outside of its cell's range counts as more than any cost. The roster that comes of it need not be
+/// allowed. Of the trees that are tried the pool gets those alone that stand in the roster at the end.
 ///
 /// # Errors
 ///
@@ -47,9 +78,8 @@ pub fn complete(
     ensures pool { IsPool instance.now.grammar pool.new }
     ensures grown { IsGrown pool.old pool.new }
 {
-    let mut draft = Draft::new(alloc, instance)?;
-    draft.push_all(instance, pool, columns)?;
-    fill_up(instance, graph, pricer, prices, pool, &mut draft)?;
-    exchange_all(instance, graph, pricer, prices, pool, &mut draft)?;
-    Ok(List::from_vec(draft.columns))
+    let mut tried = Pool::new(alloc);
+    let mut draft = drafted(alloc, instance, pool, columns, &mut tried)?;
+    improve(instance, graph, pricer, prices, &mut tried, &mut draft)?;
+    copied_all(alloc, instance, &tried, draft.columns.as_slice(), pool)
 }

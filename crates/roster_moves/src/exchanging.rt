@@ -15,6 +15,58 @@ use parse_graph::Graph;
 use roster_model::{Instance, Memory, PriceRoom};
 use tree_pool::Pool;
 
+/// Puts in place of a tree, which is not counted, a cheapest one of its team.
+pub(crate) fn refill(
+    instance: &Instance,
+    graph: &Graph,
+    pricer: &mut Pricer,
+    prices: &mut PriceRoom,
+    pool: &mut Pool,
+    draft: &mut Draft,
+    place: usize,
+) -> Result<(), Memory>
+    requires sound { IsSoundInstance instance.now }
+    requires graph { IsGraph instance.now.grammar graph.now }
+    requires pricer { IsMadeFor graph.now pricer.old }
+    requires prices { IsRoomFor prices.old instance.now }
+    requires pool { IsPool instance.now.grammar pool.old }
+    requires draft { IsDraft instance.now (length pool.old) draft.old }
+    requires place { place < length draft.old.columns.items }
+    ensures draft { OnOk result (IsDraft instance.now (length pool.new) draft.new) }
+    ensures length { length draft.new.columns.items ≡ length draft.old.columns.items }
+    ensures pricer { IsMadeFor graph.now pricer.new }
+    ensures prices { IsRoomFor prices.new instance.now }
+    ensures most { prices.new.most ≡ prices.old.most }
+    ensures pool { IsPool instance.now.grammar pool.new }
+    ensures grown { IsGrown pool.old pool.new }
+{
+    let column = draft.columns[place];
+    let Some(team) = team_of(instance, pool, column) else {
+        count_in(
+            instance.cells.as_slice(),
+            pool.codes(column),
+            &mut draft.counts,
+        );
+        return Ok(());
+    };
+    let cells = instance.cells.as_slice();
+    let least = draft.price(instance, graph, pricer, prices);
+    let found = least_column(
+        instance,
+        graph,
+        pricer,
+        prices,
+        least,
+        &team,
+        &mut draft.room,
+        pool,
+    )?;
+    let new = found.unwrap_or(column);
+    count_in(cells, pool.codes(new), &mut draft.counts);
+    draft.columns[place] = new;
+    Ok(())
+}
+
 /// Puts in place of a tree a cheapest one of its team, the others being as they are.
 fn exchange(
     instance: &Instance,
@@ -41,26 +93,12 @@ fn exchange(
     ensures grown { IsGrown pool.old pool.new }
 {
     let column = draft.columns[place];
-    let Some(team) = team_of(instance, pool, column) else {
-        return Ok(());
-    };
-    let cells = instance.cells.as_slice();
-    count_out(cells, pool.codes(column), &mut draft.counts);
-    let least = draft.price(instance, graph, pricer, prices);
-    let found = least_column(
-        instance,
-        graph,
-        pricer,
-        prices,
-        least,
-        &team,
-        &mut draft.room,
-        pool,
-    )?;
-    let new = found.unwrap_or(column);
-    count_in(cells, pool.codes(new), &mut draft.counts);
-    draft.columns[place] = new;
-    Ok(())
+    count_out(
+        instance.cells.as_slice(),
+        pool.codes(column),
+        &mut draft.counts,
+    );
+    refill(instance, graph, pricer, prices, pool, draft, place)
 }
 
 /// Exchanges each tree once, in their order.

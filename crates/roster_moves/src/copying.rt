@@ -1,0 +1,68 @@
+ghost use Rattle.std.specs.Prelude.{◌≡◌, ◌<◌, All, IfOk, length};
+ghost use Rattle.roster_model.specs.SoundInstance.{IsSoundInstance};
+ghost use Rattle.tree_pool.specs.Pools.{IsPool, IsGrown};
+ghost use Rattle.roster_moves.specs.Drafts.{IsDraft};
+
+use crate::draft::Draft;
+use roster_model::{Instance, List, Memory};
+use std::alloc::Global;
+use tree_pool::Pool;
+
+/// Puts a tree of a pool into another pool, where it lacks it, and returns its number there.
+fn copied(instance: &Instance, from: &Pool, column: usize, to: &mut Pool) -> Result<usize, Memory>
+    requires sound { IsSoundInstance instance.now }
+    requires from { IsPool instance.now.grammar from.now }
+    requires column { column < length from.now }
+    requires to { IsPool instance.now.grammar to.old }
+    ensures to { IsPool instance.now.grammar to.new }
+    ensures grown { IsGrown to.old to.new }
+    ensures within { IfOk result (λ c. c < length to.new) }
+{
+    to.add(&instance.grammar, from.tree(column).steps.as_slice())
+}
+
+/// Returns a draft of trees of a pool, which are put into another pool.
+pub(crate) fn drafted(
+    alloc: Global,
+    instance: &Instance,
+    from: &Pool,
+    columns: &[usize],
+    to: &mut Pool,
+) -> Result<Draft, Memory>
+    requires sound { IsSoundInstance instance.now }
+    requires from { IsPool instance.now.grammar from.now }
+    requires columns { All (λ c. c < length from.now) columns.now }
+    requires to { IsPool instance.now.grammar to.old }
+    ensures to { IsPool instance.now.grammar to.new }
+    ensures draft { IfOk result (IsDraft instance.now (length to.new)) }
+{
+    let mut draft = Draft::new(alloc, instance)?;
+    for &column in columns {
+        let copy = copied(instance, from, column, to)?;
+        draft.push(instance, to, copy)?;
+    }
+    Ok(draft)
+}
+
+/// Puts trees of a pool into another pool, and returns their numbers there.
+pub(crate) fn copied_all(
+    alloc: Global,
+    instance: &Instance,
+    from: &Pool,
+    columns: &[usize],
+    to: &mut Pool,
+) -> Result<List<usize>, Memory>
+    requires sound { IsSoundInstance instance.now }
+    requires from { IsPool instance.now.grammar from.now }
+    requires columns { All (λ c. c < length from.now) columns.now }
+    requires to { IsPool instance.now.grammar to.old }
+    ensures to { IsPool instance.now.grammar to.new }
+    ensures grown { IsGrown to.old to.new }
+    ensures within { IfOk result (λ found. All (λ c. c < length to.new) found) }
+{
+    let mut found = List::new(alloc);
+    for &column in columns {
+        found.push(copied(instance, from, column, to)?)?;
+    }
+    Ok(found)
+}
