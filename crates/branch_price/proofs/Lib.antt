@@ -13,3 +13,4 @@ pub mod Looping
 pub mod ShownLimit
 pub mod Ending
 pub mod Bettered
+pub mod AskedAgain

@@ -11,6 +11,7 @@ ghost use Rattle.node_path.specs.Paths.{IsPath};
 ghost use Rattle.branch_price.specs.Desks.{IsDesk};
 ghost use Rattle.branch_price.specs.Steps.{AsksNode, IsTurned, IsGivenUp, IsSolved};
 
+use crate::asking::node;
 use crate::choose::plan_for;
 use crate::completed::offer_at_node;
 use crate::counts::arc_at;
@@ -196,7 +197,7 @@ pub(crate) fn price_leaf<M: Master>(
     ensures pool { IsPool instance.now.grammar pool.new }
     ensures grown { IsGrown pool.old pool.new }
 {
-    let end = master.node(
+    let end = node(
         alloc,
         instance,
         graph,
@@ -204,6 +205,7 @@ pub(crate) fn price_leaf<M: Master>(
         pool,
         path.cuts(),
         &desk.wanted,
+        master,
     )?;
     match end {
         NodeEnd::Failed(_) => fail_leaf(instance, graph, path, loose, progress, leaf),

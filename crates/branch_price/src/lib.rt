@@ -5,6 +5,7 @@
 //! Solving Huge Integer Programs", Operations Research 46, 1998).
 #![tactic(auto)]
 
+mod asking;
 mod branching;
 mod choose;
 mod completed;

@@ -31,7 +31,7 @@ fail_leaf-requires-clause-node g c =
     let i = c.args.instance.now in
     let strict = g.M.Master.strict c.args.master.now in
     let now = g.M.Master.refused c.args.master.now in
-    let later = g.M.Master.refused c.node.new.self in
+    let later = g.M.Master.refused c.node.new.master in
     let ends = subst (λ (e : NodeEnd). EndsWell i c.cuts.result.now c.node.new.pool now later strict e) c.in-Failed.is c.in_ok-end.ensures.end in (
       strict,
       r.0,
@@ -48,7 +48,7 @@ best_leaf-requires-clause-solved g c =
     let i = c.args.instance.now in
     let strict = g.M.Master.strict c.args.master.now in
     let now = g.M.Master.refused c.args.master.now in
-    let later = g.M.Master.refused c.node.new.self in
+    let later = g.M.Master.refused c.node.new.master in
     let ends = subst (λ (e : NodeEnd). EndsWell i c.cuts.result.now c.node.new.pool now later strict e) c.in-Best.is c.in_ok-end.ensures.end in
     let own = rw c.cuts.ensures at ends in
     subst (λ (ws : List Weight). IsSolved i c.args.path.now.cuts c.node.new.pool c.in-Best.prices ws) (sym c.as_slice.ensures)
@@ -59,7 +59,7 @@ returns-in-Failed-clause-turned g c =
     let i = c.args.instance.now in
     let strict = g.M.Master.strict c.args.master.now in
     let now = g.M.Master.refused c.args.master.now in
-    let later = g.M.Master.refused c.node.new.self in
+    let later = g.M.Master.refused c.node.new.master in
     let ends = subst (λ (e : NodeEnd). EndsWell i c.cuts.result.now c.node.new.pool now later strict e) c.in-Failed.is c.in_ok-end.ensures.end in
     let given = subst (λ (cs : List Cut). IsGivenUp i strict now later cs) c.cuts.ensures
     (given-up i c.cuts.result.now c.node.new.pool now later strict c.in-Failed.field-0 ends c.node.ensures.rises c.node.ensures.within) in
@@ -70,7 +70,7 @@ returns-in-Best-clause-turned g c =
     let i = c.args.instance.now in
     let strict = g.M.Master.strict c.args.master.now in
     let now = g.M.Master.refused c.args.master.now in
-    let later = g.M.Master.refused c.node.new.self in
+    let later = g.M.Master.refused c.node.new.master in
     on_ok_weaker c.best_leaf.result
     (λ turned before low asked. turned strict before later low
     (later-node i c.args.graph.now strict before now later low c.args.progress.now c.args.leaf c.args.path.now.cuts asked c.node.ensures.rises c.node.ensures.within))

@@ -1,0 +1,19 @@
+use Rattle.std.proofs.lemmas.Result.{IfOk-weaker}
+use Rattle.node_master.specs.declared.ends.NodeEnd.{NodeEnd}
+use Rattle.search_master.specs.Refusals.{EndsWell}
+use Rattle.branch_price.proofs.AskedAgain.{ends-since}
+use Rattle.branch_price.proofs.asking.node.Goals as goal
+
+pub returns-clause-end : goal.returns-clause-end
+returns-clause-end g c =
+    let i = c.args.instance.now in
+    let cuts = c.args.cuts.now in
+    let pool = c.node-2.new.pool in
+    let before = g.M.Master.refused c.args.master.now in
+    let middle = g.M.Master.refused c.node.new.self in
+    let now = g.M.Master.refused c.node-2.new.self in
+    let strict = g.M.Master.strict c.args.master.now in
+    let other = g.M.Master.strict c.node.new.self in
+    IfOk-weaker c.node-2.result _ _
+    (λ (end : NodeEnd) (ends : EndsWell i cuts pool middle now other end). ends-since i cuts pool before middle now strict other end c.node.ensures.rises c.node.ensures.strict_stays ends)
+    c.node-2.ensures.end

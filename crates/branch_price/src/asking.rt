@@ -1,0 +1,59 @@
+ghost use Rattle.std.specs.Prelude.{◌≡◌, ◌≤◌, ◌<◌, ◌-◌, ◌^◌, IfOk, length};
+ghost use Rattle.roster_model.specs.Folds.{Each};
+ghost use Rattle.roster_model.specs.SoundInstance.{IsSoundInstance};
+ghost use Rattle.roster_model.specs.Trees.{Parts, IsDayTree};
+ghost use Rattle.bound_laws.specs.Infeasible.{IsPlainlyInfeasible};
+ghost use Rattle.parse_graph.specs.Graphs.{IsGraph};
+ghost use Rattle.cheapest_tree.specs.Pricers.{IsMadeFor};
+ghost use Rattle.tree_pool.specs.Pools.{IsPool, IsGrown};
+ghost use Rattle.node_master.specs.Ends.{IsNodeCut};
+ghost use Rattle.search_master.specs.Refusals.{EndsWell};
+
+use cheapest_tree::Pricer;
+use node_master::{Cause, NodeEnd, Pool};
+use parse_graph::Graph;
+use roster_model::{Cut, Instance, Memory};
+use search_master::Master;
+use std::alloc::Global;
+
+/// Says whether a node was given up for a number that was too wide.
+fn is_wide(end: &NodeEnd) -> bool {
+    matches!(end, NodeEnd::Failed(Cause::Wide(_)))
+}
+
+/// Prices the node at a path of cuts. Where it is given up for a number that was too wide, it is asked once
+/// more, with no tree wanted: the pool has more trees by then, and it may end at another solution, with
+/// smaller numbers.
+pub(crate) fn node<M: Master>(
+    alloc: Global,
+    instance: &Instance,
+    graph: &Graph,
+    pricer: &mut Pricer,
+    pool: &mut Pool,
+    cuts: &[Cut],
+    wanted: &[usize],
+    master: &mut M,
+) -> Result<NodeEnd, Memory>
+    requires sound { IsSoundInstance instance.now }
+    requires busy { IsPlainlyInfeasible instance.now → ⊥ }
+    requires graph { IsGraph instance.now.grammar graph.now }
+    requires tree { (t : Parts) × IsDayTree instance.now.grammar t }
+    requires pricer { IsMadeFor graph.now pricer.old }
+    requires pool { IsPool instance.now.grammar pool.old }
+    requires cuts { Each (IsNodeCut instance.now) cuts.now }
+    requires few { length cuts.now < 2 ^ 31 }
+    ensures end { IfOk result (EndsWell instance.now cuts.now pool.new (M.refused master.old)
+        (M.refused master.new) (M.strict master.old)) }
+    ensures rises { M.refused master.old ≤ M.refused master.new }
+    ensures within { M.refused master.new ≤ 2 ^ 64 - 1 }
+    ensures strict_stays { M.strict master.new ≡ M.strict master.old }
+    ensures pricer { IsMadeFor graph.now pricer.new }
+    ensures pool { IsPool instance.now.grammar pool.new }
+    ensures grown { IsGrown pool.old pool.new }
+{
+    let end = master.node(alloc, instance, graph, pricer, pool, cuts, wanted)?;
+    if !is_wide(&end) {
+        return Ok(end);
+    }
+    master.node(alloc, instance, graph, pricer, pool, cuts, &[])
+}
