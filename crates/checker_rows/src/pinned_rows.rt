@@ -102,33 +102,33 @@ const SIX: [ArcNumbers; 6] = [
     (3, 1, 2, 2, 1),
 ];
 
-/// A day, counts of the six arcs, and the pinned value.
-type Case<'a> = (DayParts<'a>, [u32; 6], u64);
+/// Counts of the six arcs, and the pinned value.
+type Case = ([u32; 6], u64);
 
-const CASES: [Case<'static>; 12] = [
-    (PAIR_DAY, [0, 0, 0, 0, 0, 0], 30),
-    (PAIR_DAY, [1, 1, 0, 0, 0, 0], 12),
-    (PAIR_DAY, [1, 0, 0, 0, 0, 0], 61),
-    (PAIR_DAY, [0, 1, 0, 0, 0, 0], 61),
-    (PAIR_DAY, [1, 1, 1, 1, 0, 0], 4),
-    (PAIR_DAY, [2, 2, 2, 2, 0, 0], 61),
-    (TWO_HEADS, [1, 1, 0, 0, 0, 0], 61),
-    (TWO_HEADS, [1, 1, 1, 1, 0, 0], 4),
-    (FLOOR_DAY, [1, 1, 0, 0, 0, 0], 61),
-    (FLOOR_DAY, [1, 1, 1, 1, 0, 0], 4),
-    (EXACT_DAY, [1, 1, 1, 1, 0, 0], 61),
-    (EXACT_DAY, [0, 0, 0, 0, 0, 0], 61),
+const PAIR_CASES: [Case; 6] = [
+    ([0, 0, 0, 0, 0, 0], 30),
+    ([1, 1, 0, 0, 0, 0], 12),
+    ([1, 0, 0, 0, 0, 0], 61),
+    ([0, 1, 0, 0, 0, 0], 61),
+    ([1, 1, 1, 1, 0, 0], 4),
+    ([2, 2, 2, 2, 0, 0], 61),
 ];
 
+const TWO_HEADS_CASES: [Case; 2] = [([1, 1, 0, 0, 0, 0], 61), ([1, 1, 1, 1, 0, 0], 4)];
+
+const FLOOR_CASES: [Case; 2] = [([1, 1, 0, 0, 0, 0], 61), ([1, 1, 1, 1, 0, 0], 4)];
+
+const EXACT_CASES: [Case; 2] = [([1, 1, 1, 1, 0, 0], 61), ([0, 0, 0, 0, 0, 0], 61)];
+
 /// Whether the pinned value of a row is right, and no arc is loose.
-fn is_pinned_at(alloc: Global, case: &Case<'_>) -> Result<bool, Fail> {
-    let (parts, counts, value) = case;
+fn is_pinned_at(alloc: Global, parts: &DayParts, case: &Case) -> Result<bool, Fail> {
+    let (counts, value) = case;
     Ok(judged_at(alloc, parts, &SIX, counts)? == (*value, None))
 }
 
-fn are_pinned(alloc: Global, cases: &[Case<'_>]) -> Result<bool, Fail> {
+fn are_pinned(alloc: Global, parts: &DayParts, cases: &[Case]) -> Result<bool, Fail> {
     for case in cases {
-        if !is_pinned_at(alloc, case)? {
+        if !is_pinned_at(alloc, parts, case)? {
             return Ok(false);
         }
     }
@@ -137,7 +137,15 @@ fn are_pinned(alloc: Global, cases: &[Case<'_>]) -> Result<bool, Fail> {
 
 #[test]
 fn two_periods_of_three(rt: HostRuntime) -> Result<(), Fail> {
-    assert!(rt; are_pinned(rt.alloc(), &CASES)?);
+    assert!(rt; are_pinned(rt.alloc(), &PAIR_DAY, &PAIR_CASES)?);
+    assert!(rt; are_pinned(rt.alloc(), &TWO_HEADS, &TWO_HEADS_CASES)?);
+    Ok(())
+}
+
+#[test]
+fn two_periods_of_three_with_bounds(rt: HostRuntime) -> Result<(), Fail> {
+    assert!(rt; are_pinned(rt.alloc(), &FLOOR_DAY, &FLOOR_CASES)?);
+    assert!(rt; are_pinned(rt.alloc(), &EXACT_DAY, &EXACT_CASES)?);
     Ok(())
 }
 

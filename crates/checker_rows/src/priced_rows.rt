@@ -360,28 +360,34 @@ const IDLE_GROUP_CASES: [Case<'static>; 1] = [Case {
     shown: 139,
 }];
 
-/// A day, and what prices show there.
-type DayCases<'a> = (DayParts<'a>, &'a [Case<'a>]);
-
-const SHOWN: [DayCases<'static>; 8] = [
-    (BLOCK_DAY, &BLOCK_CASES),
-    (FREE_DAY, &FREE_CASES),
-    (ONE_DAY, &ONE_CASES),
-    (PAIR_DAY, &PAIR_CASES),
-    (SHUT_DAY, &SHUT_CASES),
-    (EXACT_DAY, &EXACT_CASES),
-    (GROUP_DAY, &GROUP_CASES),
-    (IDLE_GROUP_DAY, &IDLE_GROUP_CASES),
-];
-
-fn show_days(alloc: Global, days: &[DayCases<'_>]) -> Result<(), Fail> {
-    for (parts, cases) in days {
-        show(alloc, parts, cases)?;
-    }
-    Ok(())
+#[test]
+fn values_on_blocks(rt: HostRuntime) -> Result<(), Fail> {
+    show(rt.alloc(), &BLOCK_DAY, &BLOCK_CASES)
 }
 
 #[test]
-fn values_of_prices(rt: HostRuntime) -> Result<(), Fail> {
-    show_days(rt.alloc(), &SHOWN)
+fn values_on_one_period(rt: HostRuntime) -> Result<(), Fail> {
+    show(rt.alloc(), &FREE_DAY, &FREE_CASES)?;
+    show(rt.alloc(), &ONE_DAY, &ONE_CASES)
+}
+
+#[test]
+fn values_on_pairs(rt: HostRuntime) -> Result<(), Fail> {
+    show(rt.alloc(), &PAIR_DAY, &PAIR_CASES)
+}
+
+#[test]
+fn values_with_floors_and_ceilings(rt: HostRuntime) -> Result<(), Fail> {
+    show(rt.alloc(), &SHUT_DAY, &SHUT_CASES)?;
+    show(rt.alloc(), &EXACT_DAY, &EXACT_CASES)
+}
+
+#[test]
+fn values_with_groups(rt: HostRuntime) -> Result<(), Fail> {
+    show(rt.alloc(), &GROUP_DAY, &GROUP_CASES)
+}
+
+#[test]
+fn values_without_a_shift(rt: HostRuntime) -> Result<(), Fail> {
+    show(rt.alloc(), &IDLE_GROUP_DAY, &IDLE_GROUP_CASES)
 }

@@ -255,24 +255,22 @@ const GROUP_CASES: [Case<'static>; 4] = [
     },
 ];
 
-/// A day, and rosters of it.
-type DayCases<'a> = (DayParts<'a>, &'a [Case<'a>]);
-
-const JUDGED: [DayCases<'static>; 4] = [
-    (BLOCK_DAY, &BLOCK_CASES),
-    (FULL_DAY, &FULL_CASES),
-    (EXACT_DAY, &EXACT_CASES),
-    (GROUP_DAY, &GROUP_CASES),
-];
-
-fn judge_days(alloc: Global, days: &[DayCases<'_>]) -> Result<(), Fail> {
-    for (parts, cases) in days {
-        judge(alloc, parts, cases)?;
-    }
-    Ok(())
+#[test]
+fn faults_on_blocks(rt: HostRuntime) -> Result<(), Fail> {
+    judge(rt.alloc(), &BLOCK_DAY, &BLOCK_CASES)
 }
 
 #[test]
-fn faults_of_rosters(rt: HostRuntime) -> Result<(), Fail> {
-    judge_days(rt.alloc(), &JUDGED)
+fn faults_on_full_days(rt: HostRuntime) -> Result<(), Fail> {
+    judge(rt.alloc(), &FULL_DAY, &FULL_CASES)
+}
+
+#[test]
+fn faults_at_exact_counts(rt: HostRuntime) -> Result<(), Fail> {
+    judge(rt.alloc(), &EXACT_DAY, &EXACT_CASES)
+}
+
+#[test]
+fn faults_in_groups(rt: HostRuntime) -> Result<(), Fail> {
+    judge(rt.alloc(), &GROUP_DAY, &GROUP_CASES)
 }

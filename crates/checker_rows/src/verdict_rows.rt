@@ -325,31 +325,41 @@ const GROUP_CASES: [Case<'static>; 4] = [
     ),
 ];
 
-/// A day, and texts with their verdicts.
-type DayCases<'a> = (DayParts<'a>, &'a [Case<'a>]);
-
-const VERDICTS: [DayCases<'static>; 9] = [
-    (BLOCK_DAY, &BLOCK_CASES),
-    (FULL_DAY, &FULL_CASES),
-    (ONE_DAY, &ONE_CASES),
-    (FREE_DAY, &FREE_CASES),
-    (PAIR_DAY, &PAIR_CASES),
-    (ONE_PAIR_DAY, &ONE_PAIR_CASES),
-    (FLOOR_DAY, &FLOOR_CASES),
-    (EXACT_DAY, &EXACT_CASES),
-    (GROUP_DAY, &GROUP_CASES),
-];
-
-fn judge_days(alloc: Global, days: &[DayCases<'_>]) -> Result<(), Fail> {
-    for (parts, cases) in days {
-        judge_all(alloc, parts, cases)?;
-    }
-    Ok(())
+#[test]
+fn verdicts_on_blocks(rt: HostRuntime) -> Result<(), Fail> {
+    judge_all(rt.alloc(), &BLOCK_DAY, &BLOCK_CASES)
 }
 
 #[test]
-fn verdicts(rt: HostRuntime) -> Result<(), Fail> {
-    judge_days(rt.alloc(), &VERDICTS)
+fn verdicts_on_full_days(rt: HostRuntime) -> Result<(), Fail> {
+    judge_all(rt.alloc(), &FULL_DAY, &FULL_CASES)
+}
+
+#[test]
+fn verdicts_on_one_period(rt: HostRuntime) -> Result<(), Fail> {
+    judge_all(rt.alloc(), &ONE_DAY, &ONE_CASES)?;
+    judge_all(rt.alloc(), &FREE_DAY, &FREE_CASES)
+}
+
+#[test]
+fn verdicts_on_pairs(rt: HostRuntime) -> Result<(), Fail> {
+    judge_all(rt.alloc(), &PAIR_DAY, &PAIR_CASES)
+}
+
+#[test]
+fn verdicts_on_one_pair(rt: HostRuntime) -> Result<(), Fail> {
+    judge_all(rt.alloc(), &ONE_PAIR_DAY, &ONE_PAIR_CASES)
+}
+
+#[test]
+fn verdicts_on_floors_and_ceilings(rt: HostRuntime) -> Result<(), Fail> {
+    judge_all(rt.alloc(), &FLOOR_DAY, &FLOOR_CASES)?;
+    judge_all(rt.alloc(), &EXACT_DAY, &EXACT_CASES)
+}
+
+#[test]
+fn verdicts_on_groups(rt: HostRuntime) -> Result<(), Fail> {
+    judge_all(rt.alloc(), &GROUP_DAY, &GROUP_CASES)
 }
 
 /// Whether a text is judged so, piece by piece, on the day of pairs.

@@ -6,9 +6,13 @@ mod check_tests;
 mod form;
 mod run;
 #[cfg(test)]
+mod runs;
+#[cfg(test)]
 mod solve_tests;
 #[cfg(test)]
 mod tests;
+#[cfg(test)]
+mod texts;
 
 use branch_price::PlainMaster;
 use run::run;

@@ -214,7 +214,8 @@ const ONE_PERIOD: Case<'static> = Case {
     told: Told::OnePinned,
 };
 
-const CASES: [Case<'static>; 13] = [
+/// Pairs of periods.
+const PAIR_CASES: [Case<'static>; 3] = [
     PAIRS,
     Case {
         what: "pairs with ten turns",
@@ -233,6 +234,10 @@ const CASES: [Case<'static>; 13] = [
         told: Told::Count(3),
         ..PAIRS
     },
+];
+
+/// Days whose rosters are told word by word.
+const WORD_CASES: [Case<'static>; 2] = [
     Case {
         what: "one word alone",
         parts: FULL_DAY,
@@ -257,6 +262,10 @@ const CASES: [Case<'static>; 13] = [
         processed: Some(1),
         told: Told::Shifts(&[(0, ".aaa", 5), (0, "aaa.", 5)]),
     },
+];
+
+/// Days of one period.
+const ONE_CASES: [Case<'static>; 2] = [
     Case {
         what: "no employee where none is asked for",
         parts: FREE_DAY,
@@ -270,6 +279,10 @@ const CASES: [Case<'static>; 13] = [
         told: Told::Count(0),
     },
     ONE_PERIOD,
+];
+
+/// Floors and ceilings that no roster meets.
+const FLOOR_CASES: [Case<'static>; 3] = [
     Case {
         what: "floors that no roster meets",
         parts: FLOOR_DAY,
@@ -292,6 +305,10 @@ const CASES: [Case<'static>; 13] = [
         told: Told::Nothing,
         ..ONE_PERIOD
     },
+];
+
+/// Two groups.
+const GROUP_CASES: [Case<'static>; 3] = [
     Case {
         what: "a group without a shift",
         parts: IDLE_GROUP_DAY,
@@ -327,8 +344,28 @@ fn show_all(alloc: Global, cases: &[Case<'_>]) -> Result<(), Fail> {
 }
 
 #[test]
-fn searches_with_a_plain_master(rt: HostRuntime) -> Result<(), Fail> {
-    show_all(rt.alloc(), &CASES)
+fn rosters_of_pairs(rt: HostRuntime) -> Result<(), Fail> {
+    show_all(rt.alloc(), &PAIR_CASES)
+}
+
+#[test]
+fn rosters_word_by_word(rt: HostRuntime) -> Result<(), Fail> {
+    show_all(rt.alloc(), &WORD_CASES)
+}
+
+#[test]
+fn days_of_one_period(rt: HostRuntime) -> Result<(), Fail> {
+    show_all(rt.alloc(), &ONE_CASES)
+}
+
+#[test]
+fn floors_without_a_roster(rt: HostRuntime) -> Result<(), Fail> {
+    show_all(rt.alloc(), &FLOOR_CASES)
+}
+
+#[test]
+fn rosters_of_groups(rt: HostRuntime) -> Result<(), Fail> {
+    show_all(rt.alloc(), &GROUP_CASES)
 }
 
 fn is_after_one_turn(found: &Found) -> bool {

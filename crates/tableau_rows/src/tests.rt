@@ -2,7 +2,6 @@ use crate::listed::{ColumnParts, program_of};
 use crate::sound::is_sound;
 use fraction::{Frac, Tally};
 use std::alloc::Global;
-use std::process::Abort;
 use std::test::Fail;
 use tableau::{Basic, LpEnd, LpFault, solve};
 
@@ -102,8 +101,10 @@ const LARGE_ROW: Row = Row {
     ..PAIR_ROW
 };
 
-const ROWS: [Row; 10] = [
-    PAIR_ROW,
+const FOUND: [Row; 4] = [PAIR_ROW, ZERO_ROW, CHANGED_ROW, BEYOND_ROW];
+
+/// Programs whose pivots run out.
+const SPENT: [Row; 3] = [
     Row {
         pivots: 2,
         answer: Answer::Spent,
@@ -114,14 +115,15 @@ const ROWS: [Row; 10] = [
         answer: Answer::Spent,
         ..PAIR_ROW
     },
-    ZERO_ROW,
-    CHANGED_ROW,
     Row {
         pivots: 1,
         answer: Answer::Spent,
         ..CHANGED_ROW
     },
-    BEYOND_ROW,
+];
+
+/// Programs whose numbers are too wide.
+const WIDE: [Row; 3] = [
     LARGE_ROW,
     // Costs of units above 2^39.
     Row {
@@ -195,10 +197,30 @@ fn is_answered(alloc: Global, row: Row) -> Result<bool, Fail> {
     Ok(is_answer(row, &answer, (tally.wide(), tally.spent())))
 }
 
-#[test]
-fn programs_of_three_rows(rt: HostRuntime) -> Result<(), Fail> {
-    for (number, row) in ROWS.iter().enumerate() {
-        assert!(rt; is_answered(rt.alloc(), *row)?, "row {number}");
+/// Says whether each answer comes.
+fn are_answered(alloc: Global, rows: &[Row]) -> Result<bool, Fail> {
+    for row in rows {
+        if !is_answered(alloc, *row)? {
+            return Ok(false);
+        }
     }
+    Ok(true)
+}
+
+#[test]
+fn programs_with_an_end(rt: HostRuntime) -> Result<(), Fail> {
+    assert!(rt; are_answered(rt.alloc(), &FOUND)?);
+    Ok(())
+}
+
+#[test]
+fn programs_whose_pivots_run_out(rt: HostRuntime) -> Result<(), Fail> {
+    assert!(rt; are_answered(rt.alloc(), &SPENT)?);
+    Ok(())
+}
+
+#[test]
+fn programs_of_wide_numbers(rt: HostRuntime) -> Result<(), Fail> {
+    assert!(rt; are_answered(rt.alloc(), &WIDE)?);
     Ok(())
 }

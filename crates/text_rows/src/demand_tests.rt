@@ -103,7 +103,8 @@ fn is_answered(alloc: Global, text: &[u8], want: &str) -> Result<bool, Fail> {
 /// A text, and its fault line; an accepted text has none.
 type Row<'a> = (&'a str, &'a str);
 
-const TEXTS: [Row<'static>; 55] = [
+/// Whole texts, and counts of needs.
+const WHOLE: [Row<'static>; 8] = [
     ("", "demand: no heads line\n"),
     ("heads 0 2", ""),
     ("heads 0 2\nneed a 10 3 1 2 2 1\n", ""),
@@ -115,6 +116,10 @@ const TEXTS: [Row<'static>; 55] = [
     ),
     ("need a 10 3\n", "demand: line 1: wrong count of needs\n"),
     ("need a 10\n", "demand: line 1: unknown line\n"),
+];
+
+/// Lines of needs.
+const NEEDS: [Row<'static>; 13] = [
     (
         "need a 10 3 65 2 2 1 1",
         "demand: line 1: wrong count of needs\n",
@@ -137,6 +142,10 @@ const TEXTS: [Row<'static>; 55] = [
         "need b 0 0 0 0 0 0\nneed b x y",
         "demand: line 2: said twice\n",
     ),
+];
+
+/// Lines of head counts.
+const HEADS: [Row<'static>; 12] = [
     ("heads 2 1", "demand: line 1: out of range\n"),
     ("heads 0 0", "demand: line 1: out of range\n"),
     ("heads 65 65", "demand: line 1: out of range\n"),
@@ -149,6 +158,10 @@ const TEXTS: [Row<'static>; 55] = [
     ("heads 0 1 \r", "demand: line 1: bad byte\n"),
     ("heads 0 \u{e9}", "demand: line 1: bad byte\n"),
     ("heard 0 1", "demand: line 1: unknown line\n"),
+];
+
+/// Floors and ceilings.
+const BOUNDS: [Row<'static>; 8] = [
     (
         "least a 0 0 0 0\nneed a 0 0 0 0 0 0",
         "demand: line 1: no need line before\n",
@@ -175,6 +188,10 @@ const TEXTS: [Row<'static>; 55] = [
         "need a 0 0 0 0 0 0\nleast a 0 0 0 x",
         "demand: line 2: bad number\n",
     ),
+];
+
+/// Lines of groups.
+const GROUPS: [Row<'static>; 14] = [
     ("group F 0 1\ngroup H 1 2", ""),
     (
         "group F 0 1\nheads x 3",
@@ -217,8 +234,28 @@ fn compare(alloc: Global, rows: &[Row<'_>]) -> Result<(), Fail> {
 }
 
 #[test]
-fn texts(rt: HostRuntime) -> Result<(), Fail> {
-    compare(rt.alloc(), &TEXTS)
+fn whole_texts(rt: HostRuntime) -> Result<(), Fail> {
+    compare(rt.alloc(), &WHOLE)
+}
+
+#[test]
+fn lines_of_needs(rt: HostRuntime) -> Result<(), Fail> {
+    compare(rt.alloc(), &NEEDS)
+}
+
+#[test]
+fn lines_of_heads(rt: HostRuntime) -> Result<(), Fail> {
+    compare(rt.alloc(), &HEADS)
+}
+
+#[test]
+fn floors_and_ceilings(rt: HostRuntime) -> Result<(), Fail> {
+    compare(rt.alloc(), &BOUNDS)
+}
+
+#[test]
+fn lines_of_groups(rt: HostRuntime) -> Result<(), Fail> {
+    compare(rt.alloc(), &GROUPS)
 }
 
 // Whether a comment of so many bytes has this fault line.

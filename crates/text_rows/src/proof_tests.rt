@@ -254,7 +254,8 @@ fn texts_that_end_early(rt: HostRuntime) -> Result<(), Fail> {
     Ok(())
 }
 
-const TEXTS: [Row; 26] = [
+/// First lines.
+const HEADERS: [Row; 5] = [
     ("", "proof: the text ends early\n"),
     ("proof 7", "proof: line 1: bad header\n"),
     ("proof 2", "proof: line 1: bad header\n"),
@@ -263,6 +264,10 @@ const TEXTS: [Row; 26] = [
         "# none\n\nproof 1\n\tcost none # all\r\nbound 0\r\nbare\r\nend\r\n",
         "",
     ),
+];
+
+/// Costs and bounds.
+const COSTS: [Row; 7] = [
     ("proof 1\ncost 010", "proof: line 2: bad number\n"),
     (
         "proof 1\ncost 1099511627777",
@@ -276,6 +281,10 @@ const TEXTS: [Row; 26] = [
         "proof 1\ncost 1099511627776\nbound 1099511627776\nbare\nend",
         "",
     ),
+];
+
+/// Lines of shifts.
+const SHIFTS: [Row; 5] = [
     (
         "proof 1\ncost none\nbound none\nshift aaa 1",
         "proof: line 4: unknown line\n",
@@ -296,6 +305,10 @@ const TEXTS: [Row; 26] = [
         "proof 1\ncost 1\nbound 1\nshift a \u{e9}",
         "proof: line 4: bad byte\n",
     ),
+];
+
+/// Ends of texts.
+const ENDS: [Row; 9] = [
     (
         "proof 1\ncost 1\nbound 1\nsplit 1 0 1 3 1 0\nshift a 1",
         "proof: line 5: unknown line\n",
@@ -337,13 +350,18 @@ const TEXTS: [Row; 26] = [
 // The lines before those of the nodes.
 const HEAD: &'static str = "proof 1\ncost none\nbound 0\n";
 
-const NODES: [Row; 38] = [
+/// Leaves.
+const LEAVES: [Row; 6] = [
     ("pinned\nend", ""),
     ("bare bare", "proof: line 4: unknown line\n"),
     ("priced", "proof: line 4: unknown line\n"),
     ("priced 0", "proof: line 4: out of range\n"),
     ("priced 1073741825", "proof: line 4: out of range\n"),
     ("priced x", "proof: line 4: bad number\n"),
+];
+
+/// Splits.
+const SPLITS: [Row; 12] = [
     ("split 1 0 1 3 1", "proof: line 4: unknown line\n"),
     ("split 1 0 1 3 1 0 1 1", "proof: line 4: unknown line\n"),
     ("split 0 x 1 3 1 0", "proof: line 4: out of range\n"),
@@ -359,6 +377,10 @@ const NODES: [Row; 38] = [
         "split 1 6 96 96 96 63\nbare",
         "proof: the text ends early\n",
     ),
+];
+
+/// Prices.
+const PRICES: [Row; 8] = [
     ("priced 1\nprice a 1 2", "proof: line 5: unknown line\n"),
     ("priced 1\nprice b 1 2 3", "proof: line 5: unknown line\n"),
     ("priced 1\nprice a 1 2 3 4", "proof: line 5: unknown line\n"),
@@ -376,6 +398,10 @@ const NODES: [Row; 38] = [
         "priced 1\nprice a 1 2 3\nprice a 1 2 3",
         "proof: line 6: text after the end\n",
     ),
+];
+
+/// Multipliers.
+const MULTS: [Row; 12] = [
     (
         "priced 1\nprice a 1 2 3\nmult 1 x",
         "proof: line 6: out of range\n",
@@ -476,26 +502,47 @@ const GROUPS: [Row; 9] = [
     ),
 ];
 
-/// A day, first lines, and texts behind them.
-type Table<'a> = (Parts, &'a str, &'a [Row<'a>]);
-
-const TABLES: [Table<'static>; 4] = [
-    (PLAIN, "", &TEXTS),
-    (PLAIN, HEAD, &NODES),
-    (BOTH_DEMANDED, HEAD, &ORDERS),
-    (GROUPED, "", &GROUPS),
-];
-
-fn compare_all(alloc: Global, tables: &[Table<'_>]) -> Result<(), Fail> {
-    for (parts, head, rows) in tables {
-        compare(alloc, parts, head, rows)?;
-    }
-    Ok(())
+// Whether the texts of the plain day, all behind the same first lines, have these fault lines.
+fn compare_plain(alloc: Global, head: &str, rows: &[Row]) -> Result<(), Fail> {
+    compare(alloc, &PLAIN, head, rows)
 }
 
 #[test]
-fn texts(rt: HostRuntime) -> Result<(), Fail> {
-    compare_all(rt.alloc(), &TABLES)
+fn first_lines(rt: HostRuntime) -> Result<(), Fail> {
+    compare_plain(rt.alloc(), "", &HEADERS)?;
+    compare_plain(rt.alloc(), "", &COSTS)
+}
+
+#[test]
+fn shifts_and_ends(rt: HostRuntime) -> Result<(), Fail> {
+    compare_plain(rt.alloc(), "", &SHIFTS)?;
+    compare_plain(rt.alloc(), "", &ENDS)
+}
+
+#[test]
+fn leaves_and_splits(rt: HostRuntime) -> Result<(), Fail> {
+    compare_plain(rt.alloc(), HEAD, &LEAVES)?;
+    compare_plain(rt.alloc(), HEAD, &SPLITS)
+}
+
+#[test]
+fn prices_of_nodes(rt: HostRuntime) -> Result<(), Fail> {
+    compare_plain(rt.alloc(), HEAD, &PRICES)
+}
+
+#[test]
+fn multipliers_of_nodes(rt: HostRuntime) -> Result<(), Fail> {
+    compare_plain(rt.alloc(), HEAD, &MULTS)
+}
+
+#[test]
+fn orders_of_prices(rt: HostRuntime) -> Result<(), Fail> {
+    compare(rt.alloc(), &BOTH_DEMANDED, HEAD, &ORDERS)
+}
+
+#[test]
+fn texts_of_groups(rt: HostRuntime) -> Result<(), Fail> {
+    compare(rt.alloc(), &GROUPED, "", &GROUPS)
 }
 
 // A part that stands so many times, and the rest.
@@ -514,7 +561,7 @@ fn compare_repeated(
     want: &str,
 ) -> Result<(), Fail> {
     let lines = repeated(alloc, part, times, rest)?;
-    compare(alloc, &PLAIN, head, &[(lines.as_str(), want)])
+    compare_plain(alloc, head, &[(lines.as_str(), want)])
 }
 
 #[test]

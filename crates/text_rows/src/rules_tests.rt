@@ -56,7 +56,8 @@ fn is_answered(alloc: Global, text: &[u8], want: &str) -> Result<bool, Fail> {
 /// A text, and its fault line; an accepted text has none.
 type Row<'a> = (&'a str, &'a str);
 
-const TEXTS: [Row<'static>; 25] = [
+/// What lacks in a grammar.
+const GRAMMARS: [Row<'static>; 7] = [
     ("", "rules: no periods line\n"),
     ("periods 4\n", "rules: no start line\n"),
     ("start A\n", "rules: no periods line\n"),
@@ -76,18 +77,30 @@ const TEXTS: [Row<'static>; 25] = [
         "periods 4\nstart A\n\nwork a\nrule B 0 = 'a'",
         "rules: line 2: a name has no rule\n",
     ),
+];
+
+/// Lines of periods.
+const PERIODS: [Row<'static>; 6] = [
     ("periods 4\nperiods 97\n", "rules: line 2: out of range\n"),
     ("periods 4\nperiods 96\n", "rules: line 2: said twice\n"),
     ("periods 0\n", "rules: line 1: out of range\n"),
     ("periods 4 \r", "rules: line 1: bad byte\n"),
     ("periods 04\r\n", "rules: line 1: bad number\n"),
     ("\u{feff}periods 4", "rules: line 1: bad byte\n"),
+];
+
+/// Lines of names and codes.
+const NAMES: [Row<'static>; 6] = [
     ("start A\nstart 1\n", "rules: line 2: bad name\n"),
     ("start A\nstart B\n", "rules: line 2: said twice\n"),
     ("start len\n", "rules: line 1: bad name\n"),
     ("work\n", "rules: line 1: unknown line\n"),
     ("work a b a\n", "rules: line 1: said twice\n"),
     ("work a\nidle b a\n", "rules: line 2: said twice\n"),
+];
+
+/// Lines of codes.
+const CODES: [Row<'static>; 6] = [
     ("idle ab\n", "rules: line 1: bad name\n"),
     (
         "work 1 2 3 4 5 6 7 8 9\n",
@@ -123,10 +136,18 @@ fn compare(alloc: Global, head: &str, rows: &[Row<'_>]) -> Result<(), Fail> {
 
 #[test]
 fn whole_texts(rt: HostRuntime) -> Result<(), Fail> {
-    compare(rt.alloc(), "", &TEXTS)
+    compare(rt.alloc(), "", &GRAMMARS)?;
+    compare(rt.alloc(), "", &PERIODS)
 }
 
-const LINES: [Row<'static>; 24] = [
+#[test]
+fn names_and_codes(rt: HostRuntime) -> Result<(), Fail> {
+    compare(rt.alloc(), "", &NAMES)?;
+    compare(rt.alloc(), "", &CODES)
+}
+
+/// Forms of rule lines.
+const FORMS: [Row<'static>; 8] = [
     ("rule A 0 = 'a' len 2 2 begin 4 4", ""),
     ("rule A 10000 = 'a' A end 1 96 len 96 96 begin 1 1", ""),
     ("rule A 0 = len 1", "rules: line 4: unknown line\n"),
@@ -135,6 +156,10 @@ const LINES: [Row<'static>; 24] = [
     ("rule A 0", "rules: line 4: unknown line\n"),
     ("rule 1 x = 'a'", "rules: line 4: bad name\n"),
     ("rule A x =", "rules: line 4: bad number\n"),
+];
+
+/// Costs and symbols.
+const SYMBOLS: [Row<'static>; 8] = [
     ("rule A -1 = 'a'", "rules: line 4: bad number\n"),
     ("rule A 10001 =", "rules: line 4: out of range\n"),
     (
@@ -149,6 +174,10 @@ const LINES: [Row<'static>; 24] = [
         "rules: line 4: too many symbols, at most 8\n",
     ),
     ("rule A 0 = 'a", "rules: line 4: bad name\n"),
+];
+
+/// Codes, windows and cycles.
+const WINDOWS: [Row<'static>; 8] = [
     ("rule A 0 = 'b' 1", "rules: line 4: unknown code\n"),
     ("rule A 0 = '.'\nidle .", "rules: line 4: unknown code\n"),
     ("rule A 0 = 'a' len 3 2", "rules: line 4: out of range\n"),
@@ -168,9 +197,21 @@ const LINES: [Row<'static>; 24] = [
     ),
 ];
 
+const HEAD: &str = "periods 4\nwork a\nstart A\n";
+
 #[test]
-fn rule_lines(rt: HostRuntime) -> Result<(), Fail> {
-    compare(rt.alloc(), "periods 4\nwork a\nstart A\n", &LINES)
+fn forms_of_rule_lines(rt: HostRuntime) -> Result<(), Fail> {
+    compare(rt.alloc(), HEAD, &FORMS)
+}
+
+#[test]
+fn symbols_of_rule_lines(rt: HostRuntime) -> Result<(), Fail> {
+    compare(rt.alloc(), HEAD, &SYMBOLS)
+}
+
+#[test]
+fn windows_of_rule_lines(rt: HostRuntime) -> Result<(), Fail> {
+    compare(rt.alloc(), HEAD, &WINDOWS)
 }
 
 // The shifts with so many further rules, and a line behind them.

@@ -17,8 +17,8 @@ const ARC: ArcKey = ArcKey {
     part: 1,
 };
 
-/// A yes has three lines, and a no has one.
-const LINES: [(Verdict, &'static str); 13] = [
+/// A yes has three lines. A no of a roster has one.
+const ROSTERS: [(Verdict, &'static str); 7] = [
     (
         Verdict::Yes {
             cost: Some(10),
@@ -57,6 +57,10 @@ const LINES: [(Verdict, &'static str); 13] = [
         Verdict::No(Why::WrongCost { said: 9, found: 10 }),
         "no 4 wrong cost: said 9 found 10\n",
     ),
+];
+
+/// A no of a node, a bound or a count has one line.
+const NODES: [(Verdict, &'static str); 6] = [
     (
         Verdict::No(Why::NotAnArc { node: 1 }),
         "no 5 not an arc: node 1\n",
@@ -103,6 +107,11 @@ fn says_all(alloc: Global, lines: &[(Verdict, &str)]) -> Result<(), Fail> {
 }
 
 #[test]
-fn lines_of_verdicts(rt: HostRuntime) -> Result<(), Fail> {
-    says_all(rt.alloc(), &LINES)
+fn verdicts_on_rosters(rt: HostRuntime) -> Result<(), Fail> {
+    says_all(rt.alloc(), &ROSTERS)
+}
+
+#[test]
+fn verdicts_on_nodes(rt: HostRuntime) -> Result<(), Fail> {
+    says_all(rt.alloc(), &NODES)
 }
