@@ -1,6 +1,6 @@
 -- A layout with slots for all suffixes and then for all names is one of the grammar.
 use Rattle.std.proofs.Common.{◌≡◌, ℕ, ◌<◌, ◌≤◌, List, [], ◌∷◌, Some, arith, length}
-use Rattle.std.specs.Prelude.{slice_index}
+use Rattle.std.specs.Prelude.{slice_get, slice_index}
 use Rattle.std.proofs.Math.Nat.{mul-le-mul_right}
 use Rattle.roster_model.specs.declared.grammar.Grammar.{Grammar}
 use Rattle.roster_model.specs.declared.grammar.Rule.{Rule}
@@ -10,15 +10,23 @@ use Rattle.roster_model.specs.Sound.{IsSound}
 use Rattle.tree_laws.proofs.Rules.{rule_at-within, sound-rule, sound-symbol}
 use Rattle.span_cells.specs.declared.slot.Layout.{Layout}
 use Rattle.span_cells.specs.declared.slot.Slot.{Slot}
-use Rattle.span_cells.specs.declared.slot.Slot.TheVariants.{OfSuffix}
+use Rattle.span_cells.specs.declared.slot.Slot.TheVariants.{OfName, OfSuffix}
 use Rattle.span_cells.specs.Cells.{IsLayoutOf}
 use Rattle.span_cells.specs.Chains.{AreChained}
-use Rattle.span_cells.specs.Building.{SuffixSlots, AreNamed}
+use Rattle.span_cells.specs.Building.{SuffixSlots, AreNamed, IsSlotOf}
+use Rattle.span_cells.specs.Lengths.{AreLengths}
+
+-- each slot stands for a name or for a suffix that wants one
+pub slots-stand : (g : Grammar) (base slots : List Slot) (starts names : List ℕ) → SuffixSlots g base starts (length g.rules) → AreNamed g base slots names
+    → (s : ℕ) (w : Slot) → slice_get slots s ≡ Some w → IsSlotOf g w
+slots-stand g base slots starts names a b s (OfName x) e = omega (arith, (b.placed.only s x e).0, b.count)
+slots-stand g base slots starts names a b s (OfSuffix x) e = a.only s (OfSuffix x) (b.placed.suffixes s x e)
 
 -- the parts of a layout make one of the grammar
 pub layout-made : (g : Grammar) (sound : IsSound g) (lay : Layout) (base : List Slot) → lay.spans ≡ g.periods
-    → SuffixSlots g base lay.suffixes.items (length g.rules) → AreNamed g base lay.slots.items lay.names.items → AreChained g lay.chains → IsLayoutOf g lay
-layout-made g sound lay base periods a b chains = record {
+    → SuffixSlots g base lay.suffixes.items (length g.rules) → AreNamed g base lay.slots.items lay.names.items → AreChained g lay.chains
+    → AreLengths g lay.slots.items lay.lengths.items (length lay.slots.items) → IsLayoutOf g lay
+layout-made g sound lay base periods a b chains lengths = record {
   periods = periods;
   few = few;
   all_names = b.count;
@@ -30,6 +38,7 @@ layout-made g sound lay base periods a b chains = record {
   parted = λ s x e. a.only s (OfSuffix x) (b.placed.suffixes s x e);
   order = λ r y rule at right. order r y rule at right;
   chains = chains;
+  lengths = lengths;
 }
   where
     few : length lay.slots.items < 65536

@@ -1,5 +1,6 @@
 pub mod ChoicesLemmas
 pub mod Slots
+pub mod LengthsLemmas
 pub mod SplitsLemmas
 pub mod PartsLemmas
 pub mod CellsLemmas

@@ -1,5 +1,5 @@
 -- The loop over the lengths that a first part may have.
-use Rattle.std.proofs.Common.{◌≡◌, ℕ, zero, suc, ◌<◌, ◌≤◌, ◌+◌, ◌-◌, List, ◌∷◌, Option, None, arith, refl, length, drop, get_or, subst, sym, ap, ◌∙◌, ◌⊎◌, inl, inr, add-one}
+use Rattle.std.proofs.Common.{◌≡◌, ◌≢◌, ℕ, zero, suc, ◌<◌, ◌≤◌, ◌+◌, ◌-◌, List, ◌∷◌, Option, None, arith, refl, length, drop, get_or, subst, sym, ap, ◌∙◌, ◌⊎◌, inl, inr, add-one}
 use Rattle.std.proofs.Math.Seq.{drop-cons}
 use Rattle.std.specs.Prelude.{ℤ}
 use Rattle.roster_model.specs.declared.grammar.Grammar.{Grammar}
@@ -49,6 +49,20 @@ module _ (g : Grammar) (p : PriceView) (r k i l : ℕ) (xs : List Sym) (d : Sym)
       let next = parts-next (get_or xs k d) (m + n) None best best refl more (none (m + n) (omega arith) (omega arith)) (IsLesser-none best) in
       let e : m + n + 1 ≡ m + suc n = omega arith in
       subst (λ (q : ℕ). Least q best) e next
+
+  -- one length alone
+  pub parts-only : (m : ℕ) (sum next : Option ℤ) → ((q : ℕ) → 1 ≤ q → q < l → q ≢ m → ChosenPart g p r k (get_or xs k d) xs i l q None)
+      → ChosenPart g p r k (get_or xs k d) xs i l m sum → IsLesser None sum next → PartsLeast g p r k (drop k xs) i l next
+  parts-only m sum next others c lesser =
+      let low = c.low in
+      let high = c.high in
+      let e : 1 + (m - 1) ≡ m = omega (arith, low) in
+      let f : m + 1 + (l - (m + 1)) ≡ l = omega (arith, high) in
+      let before = subst (λ (q : ℕ). Least q None) e
+      (parts_skip 1 (m - 1) None (λ q le lt. others q le (omega (arith, lt, low, high)) (omega (arith, lt, low))) parts-begin) in
+      let there = parts-next (get_or xs k d) m sum None next refl before c lesser in
+      parts-end next (subst (λ (q : ℕ). Least q next) f
+      (parts_skip (m + 1) (l - (m + 1)) next (λ q le lt. others q (omega (arith, le)) (omega (arith, lt, high)) (omega (arith, le))) there))
 
   -- from a split point to the next one
   pub parts-skip : (points : Periods) (a b : ℕ) (best : Option ℤ)

@@ -16,13 +16,14 @@ use Rattle.span_cells.specs.declared.slot.Layout.{Layout}
 use Rattle.span_cells.specs.Cells.{Held, IsLayoutOf, Right, cell, spot, name_slot, suffix_slot}
 use Rattle.span_cells.specs.Choices.{ChosenPart}
 use Rattle.span_cells.specs.Periods.{Has, set_at}
+use Rattle.span_cells.specs.Splits.{IsCode}
 use Rattle.span_cells.proofs.Slots.{name_slot-within, suffix_slot-within}
 
 one_or_not : (l : ℕ) → (l ≡ 1) ⊎ (l ≢ 1)
 one_or_not l = grind arith
 
 -- what is noted where there is a sum is noted, or there is none
-noted_or_none : (v : Option ℤ) (P : Type 0) → (IsSome v → P) → P ⊎ (v ≡ None)
+pub noted_or_none : (v : Option ℤ) (P : Type 0) → (IsSome v → P) → P ⊎ (v ≡ None)
 noted_or_none None P f = inr refl
 noted_or_none (Some z) P f = inl (f refl)
 
@@ -118,3 +119,8 @@ no-split g p r k s xs i l m v w one less a b none = record {
   rest = b;
   sum = no_plus v w (p.arc_of (arc_at r k i l m)) none;
 }
+
+-- a code stands on one period alone
+pub code-alone : (g : Grammar) (p : PriceView) (s : Sym) (i m : ℕ) → IsCode s → m ≢ 1 → SymbolLeast g p s i m None
+code-alone g p (Code c) i m code other = code-none g p i m c other
+code-alone g p (Name x) i m code other = absurd code

@@ -62,3 +62,8 @@ pub record AreNamed (g : Grammar) (base slots : List Slot) (names : List ℕ) : 
   pub ranked : IsRanked g (slice_index ranks) (length g.names)
   pub count : length names ≡ length g.names
   pub placed : NameSlots ranks base slots names (λ x. Unit {0}) (length g.names * length g.names)
+
+-- a slot that stands for a name, or for a suffix that wants one
+abbrev pub IsSlotOf : Grammar → Slot → Type 0
+IsSlotOf g (OfName x) = x < length g.names
+IsSlotOf g (OfSuffix x) = HasSlot g x

@@ -12,6 +12,7 @@ use Rattle.span_cells.specs.declared.slot.Slot.{Slot}
 use Rattle.span_cells.specs.declared.slot.Slot.TheVariants.{OfName, OfSuffix}
 use Rattle.span_cells.specs.declared.slot.Suffix.{Suffix}
 use Rattle.span_cells.specs.Chains.{AreChained}
+use Rattle.span_cells.specs.Lengths.{AreLengths}
 use Rattle.span_cells.specs.Periods.{IsNoted, Keeps}
 
 -- how many cells there are: one for each slot on each span of the day
@@ -72,8 +73,8 @@ pub record HasSlot (g : Grammar) (s : Suffix) : Type 0 where
   pub two : s.from + 2 ≤ length rule.right
 
 -- The layout is one of the grammar: its day, a slot for each name and each suffix that wants one, and
--- no other, the right name of a one-symbol rule has an earlier slot than the left one, and the rules
--- are chained.
+-- no other, the right name of a one-symbol rule has an earlier slot than the left one, the rules are
+-- chained, and what each slot stands for has its lengths.
 pub record IsLayoutOf (g : Grammar) (lay : Layout) : Type 0 where
   pub periods : lay.spans ≡ g.periods
   pub few : length lay.slots.items < 65536
@@ -88,6 +89,7 @@ pub record IsLayoutOf (g : Grammar) (lay : Layout) : Type 0 where
   pub order : (r y : ℕ) (rule : Rule) → rule_at g r ≡ Some rule → rule.right ≡ Name y ∷ []
       → name_slot lay y < name_slot lay rule.left
   pub chains : AreChained g lay.chains
+  pub lengths : AreLengths g lay.slots.items lay.lengths.items (length lay.slots.items)
 
 -- the cells were made for the grammar
 pub record IsReady (g : Grammar) (lay : Layout) (h : Held) : Type 0 where

@@ -1,5 +1,6 @@
 pub mod Periods
 pub mod Chains
+pub mod Lengths
 pub mod Cells
 pub mod Choices
 pub mod Splits

@@ -2,9 +2,15 @@
 use Rattle.std.specs.Prelude.{ℕ, ◌<◌, List, length}
 use Rattle.roster_model.specs.declared.grammar.Grammar.{Grammar}
 use Rattle.roster_model.specs.declared.grammar.Sym.{Sym}
+use Rattle.roster_model.specs.declared.grammar.Sym.TheVariants.{Code, Name}
 use Rattle.roster_model.specs.Sums.{PriceView, SymbolLeast, PartsLeast}
 use Rattle.span_cells.specs.declared.slot.Layout.{Layout}
 use Rattle.span_cells.specs.Cells.{Held, Right, cell}
+
+-- the symbol is a code
+abbrev pub IsCode : Sym → Type 0
+IsCode (Code c) = Unit {0}
+IsCode (Name x) = ⊥
 
 -- where a span is right, the cell of the slot has the least sum of the symbol's trees on it
 pub record IsSymbolSlot (g : Grammar) (lay : Layout) (h : Held) (symbol : Sym) (s : ℕ) : Type 0 where

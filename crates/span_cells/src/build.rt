@@ -5,6 +5,7 @@ ghost use Rattle.span_cells.specs.Cells.{IsLayoutOf};
 ghost use Rattle.span_cells.specs.Building.{AddsSuffixes, SuffixSlots, IsPlaced, IsDone, NameSlots, AreNamed};
 
 use crate::chains::Chains;
+use crate::lengths::slot_lengths;
 use crate::names::rule_of;
 use crate::slot::{Layout, Slot, Suffix};
 use roster_model::{Grammar, List, Memory, unit_ranks};
@@ -109,11 +110,14 @@ pub fn layout_of(alloc: Global, grammar: &Grammar) -> Result<Layout, Memory>
     let mut slots = List::new(alloc);
     let suffixes = add_rules(alloc, grammar, &mut slots)?;
     let names = add_names(alloc, grammar, &mut slots)?;
+    let slots = slots.into_vec();
+    let lengths = slot_lengths(alloc, grammar, slots.as_slice())?;
     Ok(Layout {
         spans: SpanIndex::new(grammar.periods),
-        slots: slots.into_vec(),
+        slots,
         names,
         suffixes: suffixes.into_vec(),
         chains: Chains::new(alloc, grammar)?,
+        lengths,
     })
 }

@@ -41,6 +41,32 @@ fn slot_least<P: LetterPrice, C: Cells>(
     }
 }
 
+// The least sum of what a slot stands for on a span; none at once where the span has a length that it
+// never has.
+fn cell_least<P: LetterPrice, C: Cells>(
+    grammar: &Grammar,
+    prices: &P,
+    layout: &Layout,
+    cells: &C,
+    slot: usize,
+    span: Span,
+) -> Option<i128>
+    requires sound { IsSound grammar.now }
+    requires ready { IsReady grammar.now layout.now (C.held cells.now) }
+    requires day { InDay grammar.now.periods span.start span.len }
+    requires slot { slot < length layout.now.slots.items }
+    requires before { RightBefore grammar.now (P.view prices.now) layout.now (C.held cells.now)
+        (place layout.now slot span.start span.len) }
+    ensures least { (what : Use) → slice_get layout.now.slots.items slot ≡ Some what
+        → SlotLeast grammar.now (P.view prices.now) what span.start span.len result }
+    ensures within { IfSome result (Within (2 ^ 110)) }
+{
+    if !layout.lengths[slot].holds(span.len) {
+        return None;
+    }
+    slot_least(grammar, prices, layout, cells, slot, span)
+}
+
 // Puts the sum of a slot on a span at a place, and notes the span where there is one.
 fn put<C: Cells>(
     layout: &Layout,
@@ -89,7 +115,7 @@ fn fill_span<P: LetterPrice, C: Cells>(
     let span = Span { start, len };
     let width = layout.slots.len();
     for slot in 0..width {
-        let sum = slot_least(grammar, prices, layout, cells, slot, span);
+        let sum = cell_least(grammar, prices, layout, cells, slot, span);
         put(layout, cells, place * width + slot, slot, span, sum);
     }
 }

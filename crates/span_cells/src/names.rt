@@ -49,6 +49,9 @@ pub fn right_least<P: LetterPrice, C: Cells>(
     if right.len() == 1 {
         let only = right[0];
         let part = symbol_least(grammar, prices, layout, cells, only, span);
+        if part.is_none() {
+            return None;
+        }
         let arc = prices.arc(&ArcKey {
             rule: number,
             suffix: 0,
@@ -96,6 +99,9 @@ fn rule_least<P: LetterPrice, C: Cells>(
         return None;
     }
     let parts = right_least(grammar, prices, layout, cells, rule, number, span);
+    if parts.is_none() {
+        return None;
+    }
     let cost = prices.rule(number);
     sums::add(Some(cost), parts)
 }

@@ -4,6 +4,7 @@ ghost use Rattle.roster_model.specs.Sound.{IsSound};
 ghost use Rattle.roster_model.specs.Sums.{Within, SymbolLeast, PartsLeast};
 ghost use Rattle.span_cells.specs.Cells.{IsReady, NameRight, Right, ShorterRight};
 ghost use Rattle.span_cells.specs.Choices.{ChosenPart};
+ghost use Rattle.span_cells.specs.Splits.{IsCode};
 
 use crate::cells::Cells;
 use crate::layout::sum_at;
@@ -112,8 +113,11 @@ fn part_least<P: LetterPrice, C: Cells>(
         len: span.len - part,
     };
     let head = symbol_least(grammar, prices, layout, cells, symbol, first);
+    if head.is_none() {
+        return None;
+    }
     let tail = rest_least(grammar, prices, layout, cells, rule, next, others);
-    if head.is_none() || tail.is_none() {
+    if tail.is_none() {
         return None;
     }
     let arc = prices.arc(&ArcKey {
@@ -124,6 +128,38 @@ fn part_least<P: LetterPrice, C: Cells>(
         part,
     });
     sums::add_part(head, arc, tail)
+}
+
+// The least sum of the parts of a suffix on a span whose first symbol is a code, and the length of a
+// first part that has it, which is one period.
+fn code_part<P: LetterPrice, C: Cells>(
+    grammar: &Grammar,
+    prices: &P,
+    layout: &Layout,
+    cells: &C,
+    rule: &Rule,
+    suffix: Suffix,
+    span: Span,
+) -> Choice
+    requires sound { IsSound grammar.now }
+    requires ready { IsReady grammar.now layout.now (C.held cells.now) }
+    requires day { InDay grammar.now.periods span.start span.len }
+    requires rule { rule_at grammar.now suffix.rule ≡ Some rule.now }
+    requires within { suffix.from + 2 ≤ length rule.now.right }
+    requires code { IsCode (slice_index_or rule.now.right suffix.from (Sym.Code 0)) }
+    requires shorter { ShorterRight grammar.now (P.view prices.now) layout.now (C.held cells.now) span.len }
+    ensures least { PartsLeast grammar.now (P.view prices.now) suffix.rule suffix.from
+        (drop suffix.from rule.now.right) span.start span.len result.sum }
+    ensures chosen { OnSome result.sum (ChosenPart grammar.now (P.view prices.now) suffix.rule suffix.from
+        (slice_index_or rule.now.right suffix.from (Sym.Code 0)) rule.now.right span.start span.len
+        result.number result.sum) }
+{
+    let none = Choice::none();
+    if span.len == 1 {
+        return none;
+    }
+    let sum = part_least(grammar, prices, layout, cells, rule, suffix, span, 1);
+    none.or(sum, 1)
 }
 
 /// Returns the least sum of the parts of a suffix of two or more symbols on a span, and the length of
@@ -150,12 +186,13 @@ pub fn least_part<P: LetterPrice, C: Cells>(
         result.number result.sum) }
     ensures within { IfSome result.sum (Within (2 ^ 110)) }
 {
-    let points = split_points(grammar, layout, cells, rule, suffix, span);
-    if let Some(split) = split_of(grammar, layout, cells, rule, suffix) {
-        return least_split(
-            grammar, prices, layout, cells, rule, suffix, split, points, span,
-        );
+    if let Sym::Code(_) = rule.right.as_slice()[suffix.from as usize] {
+        return code_part(grammar, prices, layout, cells, rule, suffix, span);
     }
+    if let Some(split) = split_of(grammar, layout, cells, rule, suffix) {
+        return least_split(grammar, prices, layout, cells, rule, suffix, split, span);
+    }
+    let points = split_points(grammar, layout, cells, rule, suffix, span);
     let end = span.end();
     let mut best = Choice::none();
     let mut point = points.first_in(span.start + 1, end);

@@ -1,6 +1,7 @@
 ghost use Rattle.std.specs.Prelude.{◌≡◌, ◌<◌, ◌+◌};
 
 use crate::chains::Chains;
+use crate::lengths::Lengths;
 use span_forms::SpanIndex;
 
 /// A span of the day.
@@ -53,4 +54,6 @@ pub struct Layout {
     pub suffixes: Vec<usize>,
     /// The rules of each name.
     pub chains: Chains,
+    /// For each slot the lengths of the spans on which what it stands for can have trees.
+    pub lengths: Vec<Lengths>,
 }

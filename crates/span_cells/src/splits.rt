@@ -1,17 +1,17 @@
-ghost use Rattle.std.specs.Prelude.{ℕ, ◌≡◌, ◌≤◌, ◌<◌, ◌+◌, ◌-◌, ◌^◌, ◌⊎◌, pos, Some, None, IfSome, OnSome, length, drop, slice_index_or};
+ghost use Rattle.std.specs.Prelude.{ℕ, ◌≡◌, ◌≤◌, ◌<◌, ◌+◌, ◌-◌, ◌^◌, pos, Some, None, IfSome, OnSome, length, drop, slice_index_or};
 ghost use Rattle.std.specs.Bool.{OnTrue};
 ghost use Rattle.roster_model.specs.declared.grammar.ArcKey.{ArcKey as Arc};
 ghost use Rattle.roster_model.specs.Grammar.{rule_at, InDay};
 ghost use Rattle.roster_model.specs.Sound.{IsSound, Exists};
 ghost use Rattle.roster_model.specs.Sums.{Within, PartsLeast};
 ghost use Rattle.tree_laws.specs.Laws.{arc_at};
-ghost use Rattle.span_cells.specs.Cells.{IsReady, ShorterRight};
+ghost use Rattle.span_cells.specs.Cells.{AreMade, IsReady, ShorterRight, cell_count, spot, spot_count};
 ghost use Rattle.span_cells.specs.Choices.{ChosenPart};
-ghost use Rattle.span_cells.specs.Periods.{Has};
+ghost use Rattle.span_cells.specs.Periods.{Has, set_at};
 ghost use Rattle.span_cells.specs.Splits.{IsSymbolSlot, IsRestSlot};
 
 use crate::cells::Cells;
-use crate::layout::{slot_of, sum_at};
+use crate::layout::{slot_of, spot_of, sum_at};
 use crate::periods::Periods;
 use crate::slot::{Layout, Span, Suffix};
 use crate::sums::{self, Choice};
@@ -170,9 +170,28 @@ fn split_least<P: LetterPrice, C: Cells>(
     sums::add_part(head, arc, tail)
 }
 
+// The split points of a suffix on a span, with cells for its first symbol and for the others.
+fn slot_points<C: Cells>(layout: &Layout, cells: &C, split: Split, span: Span) -> Periods
+    requires few { length layout.now.slots.items < 65536 }
+    requires made { AreMade (cell_count layout.now) (spot_count layout.now) (C.held cells.now) }
+    requires periods { layout.now.spans ≤ 96 }
+    requires day { InDay layout.now.spans span.start span.len }
+    requires head { split.head < length layout.now.slots.items }
+    requires tail { split.tail < length layout.now.slots.items }
+    ensures { (n : ℕ)
+        → Has (set_at (C.held cells.now).present.ends.items (spot layout.now split.head span.start)) n
+        → Has (set_at (C.held cells.now).present.starts.items
+        (spot layout.now split.tail (span.start + span.len))) n
+        → Has result n }
+{
+    let from = spot_of(layout, split.head, span.start);
+    let to = spot_of(layout, split.tail, span.end());
+    let present = cells.present();
+    present.ends[from].both(present.starts[to])
+}
+
 /// Returns the least sum of the parts of a suffix on a span, with cells for its first symbol and for
-/// the others, and the length of a first part that has it. No first part that ends elsewhere than at
-/// the points has a sum with what follows it.
+/// the others, and the length of a first part that has it.
 pub fn least_split<P: LetterPrice, C: Cells>(
     grammar: &Grammar,
     prices: &P,
@@ -181,7 +200,6 @@ pub fn least_split<P: LetterPrice, C: Cells>(
     rule: &Rule,
     suffix: Suffix,
     split: Split,
-    points: Periods,
     span: Span,
 ) -> Choice
     requires sound { IsSound grammar.now }
@@ -194,9 +212,6 @@ pub fn least_split<P: LetterPrice, C: Cells>(
         (slice_index_or rule.now.right suffix.from (Sym.Code 0)) split.head }
     requires tail { IsRestSlot grammar.now layout.now (C.held cells.now) suffix.rule (suffix.from + 1)
         (drop (suffix.from + 1) rule.now.right) split.tail }
-    requires points { (m : ℕ) → 1 ≤ m → m < span.len → Has points (span.start + m)
-        ⊎ ChosenPart grammar.now (P.view prices.now) suffix.rule suffix.from
-        (slice_index_or rule.now.right suffix.from (Sym.Code 0)) rule.now.right span.start span.len m None }
     ensures least { PartsLeast grammar.now (P.view prices.now) suffix.rule suffix.from
         (drop suffix.from rule.now.right) span.start span.len result.sum }
     ensures chosen { OnSome result.sum (ChosenPart grammar.now (P.view prices.now) suffix.rule suffix.from
@@ -205,6 +220,7 @@ pub fn least_split<P: LetterPrice, C: Cells>(
 {
     let free = is_free(prices);
     let end = span.end();
+    let points = slot_points(layout, cells, split, span);
     let mut best = Choice::none();
     let mut point = points.first_in(span.start + 1, end);
     while point < end {

@@ -14,11 +14,11 @@ loop-slot-init g c = record {
   made = λ m n h. h;
 }
 
-pub slot_least-sum-requires-clause-ready : goal.slot_least-sum-requires-clause-ready
-slot_least-sum-requires-clause-ready g c = ready-made c.args.grammar.now c.args.layout.now (g.C.Cells.held c.args.cells.now) (g.C.Cells.held c.loop-slot.cells) c.requires.ready c.loop-slot.invariant.made
+pub cell_least-sum-requires-clause-ready : goal.cell_least-sum-requires-clause-ready
+cell_least-sum-requires-clause-ready g c = ready-made c.args.grammar.now c.args.layout.now (g.C.Cells.held c.args.cells.now) (g.C.Cells.held c.loop-slot.cells) c.requires.ready c.loop-slot.invariant.made
 
-pub slot_least-sum-requires-clause-before : goal.slot_least-sum-requires-clause-before
-slot_least-sum-requires-clause-before g c =
+pub cell_least-sum-requires-clause-before : goal.cell_least-sum-requires-clause-before
+cell_least-sum-requires-clause-before g c =
     let at : c.args.place * length c.args.layout.now.slots.items + c.loop-slot.slot ≡ place c.args.layout.now c.loop-slot.slot c.span-start.result.0 c.span-start.result.1 =
     ap (λ (q : ℕ). q * length c.args.layout.now.slots.items + c.loop-slot.slot) (sym c.span-start.ensures.place) in
     subst (λ (q : ℕ). RightBefore c.args.grammar.now (g.P.LetterPrice.view c.args.prices.now) c.args.layout.now (g.C.Cells.held c.loop-slot.cells) q) at c.loop-slot.invariant.before
@@ -38,8 +38,8 @@ put-requires-clause-sum g c =
     let lay = c.args.layout.now in
     let lt : c.loop-slot.slot < length c.args.layout.now.slots.items = omega arith in
     let here = slice_get-get_or lay.slots.items c.loop-slot.slot (OfName 0) lt in
-    c.requires.fits c.loop-slot.slot c.span-start.result.0 c.span-start.result.1 (get_or lay.slots.items c.loop-slot.slot (OfName 0)) c.slot_least-sum.result here
-    (c.slot_least-sum.ensures.least (get_or lay.slots.items c.loop-slot.slot (OfName 0)) here) c.slot_least-sum.ensures.within
+    c.requires.fits c.loop-slot.slot c.span-start.result.0 c.span-start.result.1 (get_or lay.slots.items c.loop-slot.slot (OfName 0)) c.cell_least-sum.result here
+    (c.cell_least-sum.ensures.least (get_or lay.slots.items c.loop-slot.slot (OfName 0)) here) c.cell_least-sum.ensures.within
 
 pub loop-slot-preserved : goal.loop-slot-preserved
 loop-slot-preserved g c =
@@ -57,14 +57,14 @@ loop-slot-preserved g c =
     let inside = mul-add-lt c.args.place (length c.args.layout.now.slots.items) c.loop-slot.slot (shorter c.args.layout.now.spans c.args.layout.now.spans) c.requires.place lt in
     let cells = (c.loop-slot.invariant.made _ _ c.requires.ready.made).cells in
     let room : c.args.place * length c.args.layout.now.slots.items + c.loop-slot.slot < length (g.C.Cells.held c.loop-slot.cells).sums = omega (arith, inside, cells) in
-    let put = subst (λ (q : ℕ). IsPut lay q slot c.span-start.result.0 c.span-start.result.1 c.slot_least-sum.result old new)
+    let put = subst (λ (q : ℕ). IsPut lay q slot c.span-start.result.0 c.span-start.result.1 c.cell_least-sum.result old new)
     (ap (λ (q : ℕ). c.args.place * q + c.loop-slot.slot) width) c.put.ensures in
     record {
       before = λ s i l what h there less.
           right-set c.args.grammar.now (g.P.LetterPrice.view c.args.prices.now) lay c.requires.ready.layout old new slot c.span-start.result.0 c.span-start.result.1 n
-          (get_or lay.slots.items slot (OfName 0)) c.slot_least-sum.result here day at room put c.loop-slot.invariant.before
-          (c.slot_least-sum.ensures.least (get_or lay.slots.items slot (OfName 0)) here) s i l what h there (omega (arith, less));
-      made = λ m k h. put-made lay n slot c.span-start.result.0 c.span-start.result.1 c.slot_least-sum.result old new put m k (c.loop-slot.invariant.made m k h);
+          (get_or lay.slots.items slot (OfName 0)) c.cell_least-sum.result here day at room put c.loop-slot.invariant.before
+          (c.cell_least-sum.ensures.least (get_or lay.slots.items slot (OfName 0)) here) s i l what h there (omega (arith, less));
+      made = λ m k h. put-made lay n slot c.span-start.result.0 c.span-start.result.1 c.cell_least-sum.result old new put m k (c.loop-slot.invariant.made m k h);
     }
 
 pub returns-clause-made : goal.returns-clause-made

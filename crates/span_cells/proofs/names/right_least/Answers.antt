@@ -23,16 +23,16 @@ least_part-requires-clause-within g c =
     let other : length c.as_slice-right.result.now ≢ 1 = c.if-right-eq1.false in
     omega (arith, ne, some, other)
 
-pub returns-then-right-eq1-clause-least : goal.returns-then-right-eq1-clause-least
-returns-then-right-eq1-clause-least g c =
+pub returns-else-is_none-clause-least : goal.returns-else-is_none-clause-least
+returns-else-is_none-clause-least g c =
     let one : length c.args.rule.now.right ≡ 1 = ap length (sym c.as_slice-right.ensures) ∙ c.if-right-eq1.true in
     let only = here_only c.args.rule.now.right (Code 0) _ one (ap (λ r. get_or r 0 (Code 0)) (sym c.as_slice-right.ensures)) in
     let same : to_z w128 (of_z w128 c.arc-arc.result) ≡ c.arc-arc.result = omega (arith, ints) in
     rw (c.add.ensures, same, c.arc-arc.ensures.value, only)
     (only-least c.args.grammar.now (g.P.LetterPrice.view c.args.prices.now) c.args.span.start c.args.span.len c.args.number _ c.symbol_least-part.result c.symbol_least-part.ensures.least)
 
-pub returns-then-right-eq1-clause-within : goal.returns-then-right-eq1-clause-within
-returns-then-right-eq1-clause-within g c =
+pub returns-else-is_none-clause-within : goal.returns-else-is_none-clause-within
+returns-else-is_none-clause-within g c =
     let most : c.args.span.len ≤ 96 = omega arith in
     parts_within c.args.grammar.now c.requires.sound _ (g.met.P.LetterPrice.all_within c.args.prices.now) c.args.number 0 c.args.span.start c.args.span.len _ _ most
-    (returns-then-right-eq1-clause-least g c)
+    (returns-else-is_none-clause-least g c)

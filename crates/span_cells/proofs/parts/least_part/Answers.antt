@@ -61,3 +61,8 @@ pub returns-in-Some-clause-within : goal.returns-in-Some-clause-within
 returns-in-Some-clause-within g c =
     let most : c.args.span.len ≤ 96 = omega arith in
     parts_within c.args.grammar.now c.requires.sound _ (g.met.P.LetterPrice.all_within c.args.prices.now) c.args.suffix.rule c.args.suffix.from c.args.span.start c.args.span.len _ _ most c.least_split.ensures.least
+
+pub returns-in-Code-clause-within : goal.returns-in-Code-clause-within
+returns-in-Code-clause-within g c =
+    let most : c.args.span.len ≤ 96 = omega arith in
+    parts_within c.args.grammar.now c.requires.sound _ (g.met.P.LetterPrice.all_within c.args.prices.now) c.args.suffix.rule c.args.suffix.from c.args.span.start c.args.span.len _ _ most c.code_part.ensures.least

@@ -1,5 +1,4 @@
-use Rattle.std.proofs.Common.{arith, ◌≡◌, ap, ◌∙◌, get_or, false, not, ◌⊎◌, inl, inr}
-use Rattle.std.specs.Option.{is_some}
+use Rattle.std.proofs.Common.{arith, ◌≡◌, ap, ◌∙◌, ◌+◌, ◌-◌, get_or, not, inl, inr}
 use Rattle.std.proofs.lemmas.Int.{ints}
 use mir.Val.{to_z, of_z}
 use mir.Syntax.{w128}
@@ -10,8 +9,8 @@ use Rattle.roster_model.specs.declared.grammar.Sym.TheVariants.{Name, Code}
 use Rattle.tree_laws.proofs.Rules.{sound-symbol}
 use Rattle.tree_laws.proofs.Symbols.{here}
 use Rattle.span_cells.proofs.ChoicesLemmas.{no-sum}
+use Rattle.span_cells.proofs.PointsLemmas.{rest-value}
 use Rattle.span_cells.proofs.parts.part_least.Goals as goal
-use Rattle.span_cells.proofs.parts.part_least.Goals.{then-is_none-via-then-is_none, then-is_none-via-else-is_none+then-is_none-2}
 
 pub symbol_least-head-requires-clause-name : goal.symbol_least-head-requires-clause-name
 symbol_least-head-requires-clause-name g c =
@@ -22,19 +21,32 @@ symbol_least-head-requires-clause-name g c =
 
 pub returns-then-is_none : goal.returns-then-is_none
 returns-then-is_none g c =
-    let none : (is_some c.symbol_least-head.result ≡ false) ⊎ (is_some c.rest_least-tail.result ≡ false) = elim c.then-is_none.branch [
-      | then-is_none-via-then-is_none w ↦ inl (c.is_none.ensures ∙ ap not w.if-is_none.true)
-      | then-is_none-via-else-is_none+then-is_none-2 w ↦ inr (w.is_none-else-is_none.ensures ∙ ap not w.if-is_none-2.true)
-    ] in
+    let gr = c.args.grammar.now in
+    let i = c.args.span.start + c.args.part in
+    let l = c.args.span.len - c.args.part in
+    let day : InDay c.args.grammar.now.periods (c.args.span.start + c.args.part) (c.args.span.len - c.args.part) = record { begins = omega arith; some = omega arith; within = omega arith } in
+    let w = rest-value gr (g.P.LetterPrice.view c.args.prices.now) i l c.args.layout.now c.requires.ready.layout (g.C.Cells.held c.args.cells.now) (c.requires.shorter i l day (omega arith))
+    c.args.suffix.rule (c.args.suffix.from + 1) c.args.rule.now c.requires.sound c.requires.rule (omega arith) (omega arith) in
     record {
       head = c.symbol_least-head.result;
-      tail = c.rest_least-tail.result;
+      tail = w.0;
       low = c.requires.some;
       high = c.requires.others;
       first = rw (← c.as_slice.ensures) c.symbol_least-head.ensures.least;
-      rest = c.rest_least-tail.ensures.least;
-      sum = no-sum c.symbol_least-head.result c.rest_least-tail.result _ none;
+      rest = w.1;
+      sum = no-sum c.symbol_least-head.result w.0 _ (inl (c.is_none.ensures ∙ ap not c.if-is_none.true));
     }
+
+pub returns-then-is_none-2 : goal.returns-then-is_none-2
+returns-then-is_none-2 g c = record {
+  head = c.symbol_least-head.result;
+  tail = c.rest_least-tail.result;
+  low = c.requires.some;
+  high = c.requires.others;
+  first = rw (← c.as_slice.ensures) c.symbol_least-head.ensures.least;
+  rest = c.rest_least-tail.ensures.least;
+  sum = no-sum c.symbol_least-head.result c.rest_least-tail.result _ (inr (c.is_none-2.ensures ∙ ap not c.if-is_none-2.true));
+}
 
 pub returns : goal.returns
 returns g c =

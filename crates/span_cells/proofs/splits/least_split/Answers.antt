@@ -1,6 +1,7 @@
-use Rattle.std.proofs.Common.{arith, ◌≡◌, ◌+◌, ◌-◌, None, refl, sym, subst, ℕ}
+use Rattle.std.proofs.Common.{arith, ◌≡◌, ◌<◌, ◌≤◌, ◌+◌, ◌-◌, None, refl, sym, subst, ℕ, get_or}
 use Rattle.roster_model.specs.declared.grammar.Sym.TheVariants.{Code}
 use Rattle.span_cells.proofs.ChoicesLemmas.{part-next}
+use Rattle.span_cells.proofs.SplitsLemmas.{split-told}
 use Rattle.span_cells.proofs.PartsLemmas.{Least, parts-begin, parts-next, parts-skip, parts-end}
 use Rattle.span_cells.proofs.splits.least_split.Goals as goal
 
@@ -9,6 +10,11 @@ loop-point-init g c =
     let gr = c.args.grammar.now in
     let p = g.P.LetterPrice.view c.args.prices.now in
     let i = c.args.span.start in
+    let told = λ (m : ℕ) (one : 1 ≤ m) (less : m < c.args.span.len). split-told gr p c.args.layout.now (g.C.Cells.held c.args.cells.now) c.args.suffix.rule c.args.suffix.from i c.args.span.len
+    c.args.rule.now.right (get_or c.args.rule.now.right c.args.suffix.from (Code 0)) c.args.split.head c.args.split.tail c.slot_points-points.result
+    c.slot_points-points.ensures c.requires.head c.requires.tail m one less
+    (c.requires.shorter i m (record { begins = omega arith; some = omega arith; within = omega (arith, less) }) less)
+    (c.requires.shorter (i + m) (c.args.span.len - m) (record { begins = omega (arith, one); some = omega (arith, less); within = omega (arith, less) }) (omega (arith, one, less))) in
     let one : i + 1 - i ≡ 1 = omega arith in
     let begin = subst (λ (n : ℕ). Least gr p c.args.suffix.rule c.args.suffix.from i c.args.span.len c.args.rule.now.right (Code 0) c.requires.within n None) (sym one)
     (parts-begin gr p c.args.suffix.rule c.args.suffix.from i c.args.span.len c.args.rule.now.right (Code 0) c.requires.within) in
@@ -16,8 +22,8 @@ loop-point-init g c =
       low = c.first_in-point.ensures.low;
       high = c.first_in-point.ensures.high;
       least = rw c.none-best.ensures
-          (parts-skip gr p c.args.suffix.rule c.args.suffix.from i c.args.span.len c.args.rule.now.right (Code 0) c.requires.within c.args.points
-          (i + 1) c.first_in-point.result None c.requires.points
+          (parts-skip gr p c.args.suffix.rule c.args.suffix.from i c.args.span.len c.args.rule.now.right (Code 0) c.requires.within c.slot_points-points.result
+          (i + 1) c.first_in-point.result None told
           (omega arith) c.first_in-point.ensures.low (omega (arith, c.first_in-point.ensures.high, c.end-end.ensures))
           (λ n le lt has. c.first_in-point.ensures.first n le (omega (arith, lt, c.end-end.ensures)) has) begin);
       chosen = rw c.none-best.ensures tt;
@@ -28,6 +34,11 @@ loop-point-preserved g c =
     let gr = c.args.grammar.now in
     let p = g.P.LetterPrice.view c.args.prices.now in
     let i = c.args.span.start in
+    let told = λ (m : ℕ) (one : 1 ≤ m) (less : m < c.args.span.len). split-told gr p c.args.layout.now (g.C.Cells.held c.args.cells.now) c.args.suffix.rule c.args.suffix.from i c.args.span.len
+    c.args.rule.now.right (get_or c.args.rule.now.right c.args.suffix.from (Code 0)) c.args.split.head c.args.split.tail c.slot_points-points.result
+    c.slot_points-points.ensures c.requires.head c.requires.tail m one less
+    (c.requires.shorter i m (record { begins = omega arith; some = omega arith; within = omega (arith, less) }) less)
+    (c.requires.shorter (i + m) (c.args.span.len - m) (record { begins = omega (arith, one); some = omega (arith, less); within = omega (arith, less) }) (omega (arith, one, less))) in
     let point = c.loop-point.point in
     let next = c.first_in-point-in-loop-point in
     let k : point - i + 1 ≡ point + 1 - i = omega (arith, c.loop-point.invariant.low) in
@@ -37,8 +48,8 @@ loop-point-preserved g c =
     record {
       low = omega (arith, next.ensures.low, c.loop-point.invariant.low);
       high = next.ensures.high;
-      least = parts-skip gr p c.args.suffix.rule c.args.suffix.from i c.args.span.len c.args.rule.now.right (Code 0) c.requires.within c.args.points
-          (point + 1) next.result c.or-best.result.sum c.requires.points
+      least = parts-skip gr p c.args.suffix.rule c.args.suffix.from i c.args.span.len c.args.rule.now.right (Code 0) c.requires.within c.slot_points-points.result
+          (point + 1) next.result c.or-best.result.sum told
           (omega (arith, c.loop-point.invariant.low)) next.ensures.low (omega (arith, next.ensures.high, c.end-end.ensures))
           (λ n le lt has. next.ensures.first n le (omega (arith, lt, c.end-end.ensures)) has) more;
       chosen = part-next gr p c.args.suffix.rule c.args.suffix.from _ c.args.rule.now.right i c.args.span.len c.loop-point.best c.or-best.result c.split_least-sum.result (point - i)
