@@ -3,11 +3,13 @@
 
 mod fault;
 mod graph;
+mod guesses;
 mod joints;
 mod kid;
 mod level;
 mod links;
 mod node;
+mod room;
 mod rows;
 mod search;
 mod walk;

@@ -8,9 +8,11 @@ ghost use Rattle.parse_graph.specs.Nodes.{or_node};
 ghost use Rattle.span_arcs.specs.Shapes.{IsShaped};
 ghost use Rattle.parse_graph.specs.Linked.{IsListed, UsesListed, AddsNode, uses_of, IsLinked, IsPlaceOf};
 
+use crate::guesses::Guesses;
 use crate::kid::Kid;
 use crate::level::rule_of;
 use crate::node::NodeKey;
+use crate::room::with_room;
 use crate::rows::Entry;
 use indexmap::IndexSet;
 use roster_model::{ArcKey, Grammar, List, Memory, Sym};
@@ -66,8 +68,9 @@ fn made_key(grammar: &Grammar, arc: &ArcKey) -> NodeKey
     }
 }
 
-// The kid of a node that has a number.
-fn node_kid(nodes: &IndexSet<NodeKey>, key: NodeKey) -> Kid
+// The kid of a node that has a number, which is looked for in the set.
+#[cold]
+fn sought_kid(nodes: &IndexSet<NodeKey>, key: NodeKey) -> Kid
     requires few { length nodes.now.keys ≤ 100000 }
     requires listed { IsListed (map or_node nodes.now.keys) (or_node key) }
     ensures { IsKid (map or_node nodes.now.keys) (or_node key) result }
@@ -78,8 +81,21 @@ fn node_kid(nodes: &IndexSet<NodeKey>, key: NodeKey) -> Kid
     Kid::Node(number as u32)
 }
 
+// The kid of a node that has a number.
+#[inline(always)]
+fn node_kid(nodes: &IndexSet<NodeKey>, guesses: &Guesses, key: NodeKey) -> Kid
+    requires few { length nodes.now.keys ≤ 100000 }
+    requires listed { IsListed (map or_node nodes.now.keys) (or_node key) }
+    ensures { IsKid (map or_node nodes.now.keys) (or_node key) result }
+{
+    match guesses.number(nodes, &key) {
+        Some(number) => Kid::Node(number),
+        None => sought_kid(nodes, key),
+    }
+}
+
 // The kid of a symbol on a span, that of a code at the span's first period.
-fn symbol_kid(nodes: &IndexSet<NodeKey>, symbol: Sym, start: u8, len: u8) -> Kid
+fn symbol_kid(nodes: &IndexSet<NodeKey>, guesses: &Guesses, symbol: Sym, start: u8, len: u8) -> Kid
     requires few { length nodes.now.keys ≤ 100000 }
     requires listed { IsListed (map or_node nodes.now.keys) (symbol_node symbol start len) }
     ensures { IsKid (map or_node nodes.now.keys) (symbol_node symbol start len) result }
@@ -89,12 +105,17 @@ fn symbol_kid(nodes: &IndexSet<NodeKey>, symbol: Sym, start: u8, len: u8) -> Kid
             code,
             period: start,
         },
-        Sym::Name(name) => node_kid(nodes, NodeKey::Name { name, start, len }),
+        Sym::Name(name) => node_kid(nodes, guesses, NodeKey::Name { name, start, len }),
     }
 }
 
 // The kids of an arc.
-fn kids_of(grammar: &Grammar, nodes: &IndexSet<NodeKey>, arc: &ArcKey) -> (Kid, Kid)
+fn kids_of(
+    grammar: &Grammar,
+    nodes: &IndexSet<NodeKey>,
+    guesses: &Guesses,
+    arc: &ArcKey,
+) -> (Kid, Kid)
     requires sound { IsSound grammar.now }
     requires shaped { IsShaped grammar.now arc.now }
     requires few { length nodes.now.keys ≤ 100000 }
@@ -103,14 +124,14 @@ fn kids_of(grammar: &Grammar, nodes: &IndexSet<NodeKey>, arc: &ArcKey) -> (Kid, 
 {
     let right = rule_of(grammar, arc.rule).right.as_slice();
     let from = arc.suffix as usize;
-    let first = symbol_kid(nodes, right[from], arc.start, arc.part);
+    let first = symbol_kid(nodes, guesses, right[from], arc.start, arc.part);
     if from + 1 == right.len() {
         return (first, Kid::Nothing);
     }
     let start = arc.start + arc.part;
     let len = arc.len - arc.part;
     if from + 2 == right.len() {
-        let last = symbol_kid(nodes, right[from + 1], start, len);
+        let last = symbol_kid(nodes, guesses, right[from + 1], start, len);
         return (first, last);
     }
     let key = NodeKey::Suffix {
@@ -119,17 +140,27 @@ fn kids_of(grammar: &Grammar, nodes: &IndexSet<NodeKey>, arc: &ArcKey) -> (Kid, 
         start,
         len,
     };
-    let rest = node_kid(nodes, key);
+    let rest = node_kid(nodes, guesses, key);
     (first, rest)
 }
 
 // Numbers a node, if it has no number yet.
-fn number_of(nodes: &mut IndexSet<NodeKey>, key: NodeKey) -> Result<u32, Memory>
+fn number_of(
+    nodes: &mut IndexSet<NodeKey>,
+    guesses: &mut Guesses,
+    key: NodeKey,
+) -> Result<u32, Memory>
     requires { length nodes.old.keys ≤ 100000 }
     ensures { IfOk result (AddsNode (map or_node nodes.old.keys) (or_node key) (map or_node nodes.new.keys)) }
 {
+    if let Some(number) = guesses.number(nodes, &key) {
+        return Ok(number);
+    }
     match nodes.insert_full(key) {
-        Ok((number, _)) => Ok(number as u32),
+        Ok((number, _)) => {
+            guesses.keep(&key, number as u32);
+            Ok(number as u32)
+        }
         Err(_) => Err(Memory),
     }
 }
@@ -145,6 +176,20 @@ fn add_use(users: &mut List<Entry>, kid: Kid, arc: u32) -> Result<(), Memory>
 }
 
 impl ArcLinks {
+    // No arcs, with room for so many.
+    fn new(alloc: Global, arcs: usize) -> Result<ArcLinks, Memory>
+        ensures { IfOk result (λ links. links ≡ record { made_by = []; first = []; rest = [] }) }
+    {
+        let made_by = with_room(alloc, arcs)?;
+        let first = with_room(alloc, arcs)?;
+        let rest = with_room(alloc, arcs)?;
+        Ok(ArcLinks {
+            made_by,
+            first,
+            rest,
+        })
+    }
+
     // Adds an arc's node and its kids.
     fn push(&mut self, made: u32, kids: (Kid, Kid)) -> Result<(), Memory>
         ensures { OnOk result (self.new ≡ record {
@@ -160,6 +205,16 @@ impl ArcLinks {
 }
 
 impl Entries {
+    // No arcs, with room for so many.
+    fn new(alloc: Global, arcs: usize) -> Result<Entries, Memory>
+        requires { arcs ≤ 100000 }
+        ensures { IfOk result (λ entries. entries ≡ record { makers = []; users = [] }) }
+    {
+        let makers = with_room(alloc, arcs)?;
+        let users = with_room(alloc, 2 * arcs)?;
+        Ok(Entries { makers, users })
+    }
+
     // Adds an arc to the makers of its node and to the users of its kids.
     fn push(&mut self, arc: u32, made: u32, kids: (Kid, Kid)) -> Result<(), Memory>
         ensures { OnOk result (self.new ≡ record {
@@ -177,28 +232,24 @@ impl Entries {
 }
 
 impl Links {
-    // No arcs and no nodes.
-    fn new(alloc: Global) -> Links
-        ensures nodes { result.nodes.keys ≡ [] }
-        ensures arcs { result.arcs ≡ record { made_by = []; first = []; rest = [] } }
-        ensures entries { result.entries ≡ record { makers = []; users = [] } }
+    // No arcs and no nodes, with room for so many arcs.
+    fn new(alloc: Global, arcs: usize) -> Result<Links, Memory>
+        requires { arcs ≤ 100000 }
+        ensures nodes { IfOk result (λ links. links.nodes.keys ≡ []) }
+        ensures arcs { IfOk result (λ links. links.arcs ≡ record { made_by = []; first = []; rest = [] }) }
+        ensures entries { IfOk result (λ links. links.entries ≡ record { makers = []; users = [] }) }
     {
-        Links {
+        let links = ArcLinks::new(alloc, arcs)?;
+        let entries = Entries::new(alloc, arcs)?;
+        Ok(Links {
             nodes: IndexSet::new(alloc),
-            arcs: ArcLinks {
-                made_by: List::new(alloc),
-                first: List::new(alloc),
-                rest: List::new(alloc),
-            },
-            entries: Entries {
-                makers: List::new(alloc),
-                users: List::new(alloc),
-            },
-        }
+            arcs: links,
+            entries,
+        })
     }
 
     // Adds an arc, after all those that make what it uses.
-    fn add(&mut self, grammar: &Grammar, arc: &ArcKey) -> Result<(), Memory>
+    fn add(&mut self, grammar: &Grammar, guesses: &mut Guesses, arc: &ArcKey) -> Result<(), Memory>
         requires sound { IsSound grammar.now }
         requires shaped { IsShaped grammar.now arc.now }
         requires uses { UsesListed grammar.now (map or_node self.old.nodes.keys) arc.now }
@@ -208,8 +259,8 @@ impl Links {
             → IsLinked grammar.now (arcs ++ arc.now ∷ []) self.new) }
     {
         let number = self.arcs.made_by.len() as u32;
-        let kids = kids_of(grammar, &self.nodes, arc);
-        let made = number_of(&mut self.nodes, made_key(grammar, arc))?;
+        let kids = kids_of(grammar, &self.nodes, guesses, arc);
+        let made = number_of(&mut self.nodes, guesses, made_key(grammar, arc))?;
         self.arcs.push(made, kids)?;
         self.entries.push(number, made, kids)?;
         Ok(())
@@ -225,9 +276,10 @@ pub fn link(alloc: Global, grammar: &Grammar, arcs: &[ArcKey]) -> Result<Links, 
     requires few { length arcs.now ≤ 100000 }
     ensures { IfOk result (IsLinked grammar.now arcs.now) }
 {
-    let mut links = Links::new(alloc);
+    let mut guesses = Guesses::new(alloc, arcs.len())?;
+    let mut links = Links::new(alloc, arcs.len())?;
     for arc in arcs {
-        links.add(grammar, arc)?;
+        links.add(grammar, &mut guesses, arc)?;
     }
     Ok(links)
 }

@@ -42,10 +42,11 @@ pub fn list_arcs(
     let mut arcs = List::new(alloc);
     let mut next = day.next_arc(grammar, None);
     while let Some(arc) = next {
-        arcs.push(arc)?;
-        next = day.next_arc(grammar, Some(arc));
+        let last = day.list_run(grammar, arc, &mut arcs)?;
+        arcs.push(last)?;
+        next = day.next_arc(grammar, Some(last));
         if arcs.len() > 100_000 {
-            let count = count_arcs(grammar, day, 100_001, next);
+            let count = count_arcs(grammar, day, arcs.len() as u64, next);
             return Err(GraphFault::TooManyArcs { count });
         }
     }

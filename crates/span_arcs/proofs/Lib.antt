@@ -7,3 +7,4 @@ pub mod FlagsLemmas
 pub mod SplitsLemmas
 pub mod ShapesLemmas
 pub mod AheadLemmas
+pub mod RunsLemmas

@@ -73,8 +73,8 @@ fn is_marked(
     }
 }
 
-// Whether a suffix has parts on a span, the first of them so many periods long.
-fn has_split(
+/// Returns whether a suffix has parts on a span, the first of them so many periods long.
+pub fn has_split(
     grammar: &Grammar,
     layout: &Layout,
     cells: &FreeCells,

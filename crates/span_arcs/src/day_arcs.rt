@@ -1,15 +1,17 @@
-ghost use Rattle.std.specs.Prelude.{◌↔◌, ◌≡◌, IsTrue, IfOk, length};
+ghost use Rattle.std.specs.Prelude.{◌↔◌, ◌≡◌, ◌≤◌, IsTrue, IfOk, Some, length};
 ghost use Rattle.roster_model.specs.Arcs.{IsArc};
 ghost use Rattle.roster_model.specs.Sound.{IsSound};
 ghost use Rattle.span_cells.specs.Cells.{cell_count};
+ghost use Rattle.span_arcs.specs.Ahead.{IsPassed};
 ghost use Rattle.span_arcs.specs.DayArcs.{IsDayArcsOf, IsDerivedOf};
 ghost use Rattle.span_arcs.specs.Marks.{AreMarked};
-ghost use Rattle.span_arcs.specs.Order.{IsNextArc};
+ghost use Rattle.span_arcs.specs.Order.{IsNextArc, key_number};
 
 use crate::arcs::{is_arc, next_arc};
 use crate::derived::Derived;
 use crate::marks::mark_all;
-use roster_model::{ArcKey, Grammar, Memory};
+use crate::runs::list_run;
+use roster_model::{ArcKey, Grammar, List, Memory};
 use span_cells::count_cells;
 use std::alloc::Global;
 use std::marker::Model;
@@ -96,6 +98,36 @@ impl DayArcs {
             &self.derived.free,
             self.marks.as_slice(),
             after,
+        )
+    }
+
+    /// Lists an arc of the instance and those after it with the same rule, suffix, start and length,
+    /// but for the last of these, which it returns: the arcs that are listed are all that come before
+    /// it where they were all that come before the given one.
+    ///
+    /// # Errors
+    ///
+    /// `Memory` where memory runs out; some of the arcs may be listed then.
+    pub fn list_run(
+        &self,
+        grammar: &Grammar,
+        arc: ArcKey,
+        arcs: &mut List<ArcKey>,
+    ) -> Result<ArcKey, Memory>
+        requires sound { IsSound grammar.now }
+        requires arcs { IsDayArcsOf grammar.now self.now }
+        requires arc { IsArc grammar.now arc }
+        ensures passed { IfOk result (λ last. IsPassed grammar.now arcs.old (Some arc)
+            → IsPassed grammar.now arcs.new (Some last)) }
+        ensures later { IfOk result (λ last. key_number arc ≤ key_number last) }
+    {
+        list_run(
+            grammar,
+            &self.derived.layout,
+            &self.derived.free,
+            self.marks.as_slice(),
+            arc,
+            arcs,
         )
     }
 }

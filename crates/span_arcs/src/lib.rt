@@ -8,5 +8,6 @@ mod derived;
 mod free;
 mod free_cells;
 mod marks;
+mod runs;
 
 pub use day_arcs::DayArcs;

@@ -9,7 +9,7 @@ use Rattle.parse_graph.proofs.GraphsLemmas.{uses-listed}
 use Rattle.parse_graph.proofs.links.link.Goals as goal
 
 pub loop-arc-init : goal.loop-arc-init
-loop-arc-init c = let e = c.new-links.ensures in rw (e.nodes, e.arcs, e.entries) (linked-none c.args.grammar.now)
+loop-arc-init c = let e = c.in_ok-links.ensures in rw (e.nodes, e.arcs, e.entries) (linked-none c.args.grammar.now)
 
 pub add-requires-clause-uses : goal.add-requires-clause-uses
 add-requires-clause-uses c =

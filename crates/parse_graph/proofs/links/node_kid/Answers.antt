@@ -1,9 +1,5 @@
-use Rattle.parse_graph.proofs.NodesLemmas.{found-at, not-none, kid-at}
-use Rattle.std.proofs.Common.{sym, ◌∙◌}
+use Rattle.parse_graph.proofs.NodesLemmas.{kid-at}
 use Rattle.parse_graph.proofs.links.node_kid.Goals as goal
 
-pub returns : goal.returns
-returns c = kid-at c.args.nodes.now.keys c.args.key c.in-Some.number (found-at c.args.nodes.now.keys c.args.key c.in-Some.number (sym c.get_index_of.ensures.index ∙ c.in-Some.is))
-
-pub unreachable-requires : goal.unreachable-requires
-unreachable-requires c = not-none c.args.nodes.now.keys c.args.key c.get_index_of.result c.requires.listed c.get_index_of.ensures.found c.in_default.is
+pub returns-in-Some : goal.returns-in-Some
+returns-in-Some c = kid-at c.args.nodes.now.keys c.args.key c.in-Some.number c.in-Some.ensures

@@ -1,0 +1,14 @@
+ghost use Rattle.std.specs.Prelude.{◌≡◌, [], IfOk};
+
+use roster_model::{List, Memory};
+use std::alloc::Global;
+
+/// Returns a list of no items, with room for so many.
+pub fn with_room<T>(alloc: Global, items: usize) -> Result<List<T>, Memory>
+    ensures { IfOk result (λ list. list ≡ []) }
+{
+    match Vec::with_capacity(alloc, items) {
+        Ok(list) => Ok(List::from_vec(list)),
+        Err(_) => Err(Memory),
+    }
+}
