@@ -1,7 +1,7 @@
 use Rattle.std.specs.Prelude.{ℕ, ◌≡◌, ◌<◌}
 use Rattle.scout.specs.declared.scout.Scout.{Scout}
-use Rattle.scout.specs.declared.key.Key.{Key}
-use Rattle.scout.specs.declared.key.Key.TheVariants.{Missing, Beyond, Listed}
+use Rattle.float_simplex.specs.declared.key.Key.{Key}
+use Rattle.float_simplex.specs.declared.key.Key.TheVariants.{Missing, Beyond, Listed}
 
 -- how many rows a program has
 abbrev pub row_count : Scout → ℕ

@@ -1,38 +1,10 @@
-//! A linear program in floats of 64 bits, by the revised simplex method with the inverse of its basis's
-//! kernel.
+//! A linear program of rows and listed columns that is solved in floats of 64 bits.
 //!
 //! What it answers are hints for an exact method: a good basis, and prices and values in fixed point. Each
 //! call returns, and beyond its bounds it answers that it grew.
 #![tactic(auto)]
 
-mod column;
-mod compare;
-mod copying;
-mod expressing;
-mod figures;
-mod fixed;
-mod float;
-mod kernel;
-mod key;
-mod line;
-mod listing;
-mod making;
-mod pivot;
-mod probing;
-mod refresh;
-mod rows;
-mod run;
 mod scout;
-mod seats;
-mod start;
-mod state;
-mod steps;
-mod sweeps;
-mod values;
 
-pub use fixed::{Grown, Q24, Q32};
-pub use key::Key;
-pub use probing::LastRow;
-pub use run::Sign;
+pub use float_simplex::{Grown, Key, LastRow, Limits, Q24, Q32, Scouted, Sign};
 pub use scout::Scout;
-pub use steps::{Limits, Scouted};

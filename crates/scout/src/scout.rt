@@ -1,20 +1,20 @@
-ghost use Rattle.std.specs.Prelude.{◌≡◌, ◌+◌, ◌<◌, length, IfOk, IfSome, OnErr};
+ghost use Rattle.std.specs.Prelude.{◌≡◌, ◌≤◌, ◌+◌, ◌<◌, ◌^◌, ◌*ℤ◌, unsigned_abs, length, IfOk, IfSome, OnErr};
 ghost use Rattle.scout.specs.Sizes.{row_count, listed_count, SameSizes, IsKey};
 
-use crate::column::Standing;
-use crate::fixed::{Grown, Q24, Q32, product};
-use crate::key::Key;
-use crate::making::make_state;
-use crate::probing::{LastRow, Members};
-use crate::run::Sign;
-use crate::state::{State, cost_of};
-use crate::steps::{Limits, Scouted};
+use float_simplex::{Grown, Key, LastRow, Limits, Q24, Q32, Scouted, Sign, State};
 use roster_model::Memory;
 use std::alloc::Global;
-use std::num::nearest_i64_to_f64;
 
 /// The most columns that are listed.
 const COLUMNS: usize = 1_048_576;
+
+/// Returns the product, which has room for a further sum.
+fn product(a: i64, b: i64) -> i128
+    ensures value { result ≡ a *ℤ b }
+    ensures size { unsigned_abs result ≤ 2 ^ 126 }
+{
+    i128::from(a) * i128::from(b)
+}
 
 /// A linear program of rows with right sides and of columns with costs, whose entries are 1 and -1, and
 /// a basis of it.
@@ -46,7 +46,7 @@ impl Scout {
         Ok(Scout {
             rows: right.len(),
             count: 0,
-            state: make_state(alloc, right, missing, beyond)?,
+            state: State::new(alloc, right, missing, beyond)?,
         })
     }
 
@@ -75,7 +75,7 @@ impl Scout {
             return Err(Memory);
         }
         let number = self.count;
-        self.state.add_column(cost, Standing::Free)?;
+        self.state.add_free(cost)?;
         self.count = number + 1;
         Ok(number)
     }
@@ -91,10 +91,7 @@ impl Scout {
     pub fn set_right(&mut self, row: usize, right: i64)
         ensures { SameSizes self.old self.new }
     {
-        self.state.is_stale = true;
-        if let Some(side) = self.state.right.as_mut_slice().get_mut(row) {
-            *side = nearest_i64_to_f64(right);
-        }
+        self.state.set_side(row, right);
     }
 
     /// Starts from a basis with these columns, as far as they are listed and independent; in the rows that
@@ -110,7 +107,7 @@ impl Scout {
     pub fn start_beyond(&mut self) -> Result<(), Grown>
         ensures { SameSizes self.old self.new }
     {
-        self.state.start_beyond(None)
+        self.state.start_beyond()
     }
 
     /// Starts from the columns of entry 1, and in rows of a negative right side of those of entry -1: no
@@ -118,7 +115,7 @@ impl Scout {
     pub fn start_missing(&mut self) -> Result<(), Grown>
         ensures { SameSizes self.old self.new }
     {
-        self.state.start_beyond(Some(0.0))
+        self.state.start_missing()
     }
 
     /// Takes dual steps while a value is negative, and then primal steps while a listed column has
@@ -126,6 +123,14 @@ impl Scout {
     pub fn run(&mut self, limits: Limits) -> Scouted
         ensures { SameSizes self.old self.new }
     {
+        self.state.run(limits)
+    }
+
+    /// Takes the perturbations off the right sides, and runs. Further runs are without them. Takes no memory.
+    pub fn settle(&mut self, limits: Limits) -> Scouted
+        ensures { SameSizes self.old self.new }
+    {
+        self.state.settle();
         self.state.run(limits)
     }
 
@@ -152,7 +157,7 @@ impl Scout {
     pub fn basic(&self, place: usize) -> Option<Key>
         ensures { IfSome result (IsKey self.now) }
     {
-        match self.state.answers.basis.as_slice().get(place) {
+        match self.state.basis().get(place) {
             Some(column) => self.key_of(*column),
             None => None,
         }
@@ -160,48 +165,38 @@ impl Scout {
 
     /// Returns the values of the columns in the basis, by their places.
     pub fn values(&self) -> &[Q32] {
-        self.state.answers.values.as_slice()
+        self.state.values()
     }
 
     /// Returns the prices of the rows.
     pub fn prices(&self) -> &[Q24] {
-        self.state.answers.prices.as_slice()
+        self.state.prices()
     }
 
     /// Returns the reduced cost of a listed column after a run.
     pub fn reduced(&self, number: usize) -> Option<Q24> {
-        let place = self.rows.saturating_mul(2).saturating_add(number);
-        match self.state.figures.reduced.as_slice().get(place) {
-            Some(reduced) => Some(Q24::of(*reduced)),
-            None => None,
-        }
+        self.state
+            .reduced(self.rows.saturating_mul(2).saturating_add(number))
     }
 
-    /// Returns what the basis costs, in units of 2^-32.
+    /// Returns what the basis costs, in units of 2^-32, less what the perturbations are worth.
     pub fn value(&self) -> i128 {
-        let mut total = 0i128;
-        for (value, place) in self
-            .state
-            .answers
-            .values
-            .as_slice()
-            .iter()
-            .zip(self.state.answers.basis.as_slice())
-        {
-            let cost = cost_of(self.state.columns.as_slice(), *place);
-            total = total.saturating_add(product(value.0, cost));
+        let worth = i128::from(self.state.perturbation_worth().raw());
+        let mut total = 0i128.saturating_sub(worth);
+        for (value, place) in self.state.values().iter().zip(self.state.basis()) {
+            total = total.saturating_add(product(value.raw(), self.state.cost(*place)));
         }
         total
     }
 
     /// Returns how many pivots all runs made.
     pub fn pivots(&self) -> u64 {
-        self.state.pivots
+        self.state.pivots()
     }
 
     /// Returns how many entries all steps have touched.
     pub fn work(&self) -> u64 {
-        self.state.work
+        self.state.work()
     }
 
     /// Becomes a copy of another program with as many rows. Takes memory only where the other has more
@@ -230,11 +225,8 @@ impl Scout {
         ensures rows { row_count self.new ≡ row_count self.old }
         ensures count { IfOk result (λ _. listed_count self.new ≡ listed_count other.now) }
     {
-        let units = self.rows.saturating_mul(2);
-        let members = Members { units, flags };
-        self.state.copy_with(&other.state, members)?;
+        self.state.copy_with_row(&other.state, row, flags)?;
         self.count = other.count;
-        self.state.change_last(row);
         Ok(Ok(()))
     }
 }

@@ -48,6 +48,9 @@ fn three_halves_cost_3(rt: HostRuntime) {
     assert!(rt; scout.start_beyond().is_ok());
     assert_eq!(rt; scout.run(LIMITS), Scouted::Optimal);
     assert!(rt; is_about(scout.value(), 3));
+    assert_eq!(rt; scout.settle(LIMITS), Scouted::Optimal);
+    assert!(rt; is_about(scout.value(), 3));
+    assert!(rt; scout.values().iter().any(|value| value.raw() == ONE / 2));
 }
 
 #[test]

@@ -12,6 +12,11 @@ fn lengthen(runs: &mut [Run], row: u32, sign: Sign) -> bool {
 }
 
 impl State {
+    /// Lists a column without entries, which may enter.
+    pub fn add_free(&mut self, cost: i64) -> Result<(), Memory> {
+        self.add_column(cost, Standing::Free)
+    }
+
     /// Lists a column without entries.
     pub(crate) fn add_column(&mut self, cost: i64, standing: Standing) -> Result<(), Memory> {
         let place = self.runs.len();
@@ -26,7 +31,7 @@ impl State {
     }
 
     /// Adds an entry to the last column, in a row behind those of its other entries.
-    pub(crate) fn add_entry(&mut self, row: u32, sign: Sign) -> Result<(), Memory> {
+    pub fn add_entry(&mut self, row: u32, sign: Sign) -> Result<(), Memory> {
         let Some(column) = self.columns.as_mut_slice().last_mut() else {
             return Ok(());
         };

@@ -1,8 +1,8 @@
 use crate::column::{Standing, own_runs};
+use crate::line::set_at;
 use crate::run::{Run, Sign};
 use crate::state::{State, set_standing};
 use roster_model::Memory;
-use std::num::nearest_i64_to_f64;
 
 /// What the last row of a program becomes.
 #[derive(Clone, Copy, Drop)]
@@ -17,11 +17,11 @@ pub struct LastRow {
 
 /// The listed columns that have an entry 1 in the last row.
 #[derive(Clone, Copy, Drop)]
-pub(crate) struct Members<'a> {
+struct Members<'a> {
     /// How many columns stand before the listed ones.
-    pub(crate) units: usize,
+    units: usize,
     /// Whether each listed column is one.
-    pub(crate) flags: &'a [bool],
+    flags: &'a [bool],
 }
 
 impl Members<'_> {
@@ -102,11 +102,10 @@ impl State {
     }
 
     /// Sets the right side and the costs of the last row, in which the basis has the column of entry 1.
-    pub(crate) fn change_last(&mut self, row: LastRow) {
+    fn change_last(&mut self, row: LastRow) {
         let last = self.last_row();
-        if let Some(side) = self.right.as_mut_slice().get_mut(last) {
-            *side = nearest_i64_to_f64(row.right);
-        }
+        set_at(self.perturbations.as_mut_slice(), last, 0.0);
+        self.set_side(last, row.right);
         self.set_cost(last, Some(row.missing));
         self.set_cost(last.saturating_add(self.rows()), row.beyond);
         self.put_last(last, row.missing == 0 || row.beyond.is_none());
@@ -115,9 +114,18 @@ impl State {
         self.is_mispriced = true;
     }
 
-    /// Becomes a copy of another program with as many rows, whose last row is empty; here it has members.
-    pub(crate) fn copy_with(&mut self, other: &State, members: Members<'_>) -> Result<(), Memory> {
+    /// Becomes a copy of another program with as many rows whose last row is empty and loose; here that row is
+    /// this one, and the flagged listed columns have an entry 1 in it. Takes memory as `copy_from` does.
+    pub fn copy_with_row(
+        &mut self,
+        other: &State,
+        row: LastRow,
+        flags: &[bool],
+    ) -> Result<(), Memory> {
+        let units = self.rows().saturating_mul(2);
         self.copy_from(other)?;
-        self.lengthen_members(members)
+        self.lengthen_members(Members { units, flags })?;
+        self.change_last(row);
+        Ok(())
     }
 }

@@ -66,6 +66,10 @@ impl State {
     /// Copies all but the columns.
     fn copy_numbers(&mut self, other: &State) {
         copy_items(self.right.as_mut_slice(), other.right.as_slice());
+        copy_items(
+            self.perturbations.as_mut_slice(),
+            other.perturbations.as_slice(),
+        );
         self.kernel.copy_from(&other.kernel);
         copy_items(self.own.as_mut_slice(), other.own.as_slice());
         copy_items(self.values.as_mut_slice(), other.values.as_slice());
@@ -91,8 +95,9 @@ impl State {
         );
     }
 
-    /// Becomes a copy of another program with as many rows.
-    pub(crate) fn copy_from(&mut self, other: &State) -> Result<(), Memory> {
+    /// Becomes a copy of another program with as many rows. Takes memory only where the other has more columns
+    /// or entries than this one ever had.
+    pub fn copy_from(&mut self, other: &State) -> Result<(), Memory> {
         copy_list(&mut self.columns, other.columns.as_slice())?;
         copy_list(&mut self.runs, other.runs.as_slice())?;
         self.figures.copy_from(&other.figures)?;

@@ -49,8 +49,11 @@ pub(crate) struct Answers {
 /// What is kept by posts has first a number for each listed column of the basis, as many as there may be,
 /// and then one for each row, for its own column in the basis: 0 where it has none.
 #[derive(Drop)]
-pub(crate) struct State {
+pub struct State {
+    /// The right sides, perturbed.
     pub(crate) right: Vec<Value64>,
+    /// How far each is perturbed.
+    pub(crate) perturbations: Vec<Value64>,
     pub(crate) columns: Vec<Column>,
     pub(crate) runs: Vec<Run>,
     pub(crate) figures: Figures,
@@ -169,5 +172,46 @@ impl State {
             Post::Listed(slot) => place_at(self.kernel.listed.as_slice(), slot),
             Post::Row(row) => place_at(self.own.as_slice(), row),
         }
+    }
+}
+
+impl State {
+    /// Returns the places of the basic columns: first come those of what is missing in each row, then those of
+    /// what is beyond, and then the listed ones.
+    pub fn basis(&self) -> &[usize] {
+        self.answers.basis.as_slice()
+    }
+
+    /// Returns the values of the basic columns.
+    pub fn values(&self) -> &[Q32] {
+        self.answers.values.as_slice()
+    }
+
+    /// Returns the prices of the rows.
+    pub fn prices(&self) -> &[Q24] {
+        self.answers.prices.as_slice()
+    }
+
+    /// Returns the reduced cost of the column at a place after a run.
+    pub fn reduced(&self, place: usize) -> Option<Q24> {
+        match self.figures.reduced.as_slice().get(place) {
+            Some(reduced) => Some(Q24::of(*reduced)),
+            None => None,
+        }
+    }
+
+    /// Returns what the column at a place costs, 0 where there is none.
+    pub fn cost(&self, place: usize) -> i64 {
+        cost_of(self.columns.as_slice(), place)
+    }
+
+    /// Returns how many pivots all runs made.
+    pub fn pivots(&self) -> u64 {
+        self.pivots
+    }
+
+    /// Returns how many entries all steps have touched.
+    pub fn work(&self) -> u64 {
+        self.work
     }
 }

@@ -174,7 +174,7 @@ impl State {
     }
 
     /// Runs, and writes values and prices.
-    pub(crate) fn run(&mut self, limits: Limits) -> Scouted {
+    pub fn run(&mut self, limits: Limits) -> Scouted {
         let answer = self.run_again(limits);
         self.answer();
         answer

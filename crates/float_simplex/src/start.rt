@@ -212,16 +212,26 @@ impl State {
     }
 
     /// Starts from a basis with these columns.
-    pub(crate) fn start(&mut self, keys: &[Key]) -> Result<(), Grown> {
+    pub fn start(&mut self, keys: &[Key]) -> Result<(), Grown> {
         self.want_keys(keys);
         let made = self.make_anew();
         self.answer();
         made
     }
 
+    /// Starts from the columns of what is beyond, and of what is missing in rows without one.
+    pub fn start_beyond(&mut self) -> Result<(), Grown> {
+        self.start_below(None)
+    }
+
+    /// Starts from the columns of what is missing, and of what is beyond in rows of a negative right side.
+    pub fn start_missing(&mut self) -> Result<(), Grown> {
+        self.start_below(Some(0.0))
+    }
+
     /// Starts from the columns of what is beyond in the rows whose right side is below a limit, or in all,
     /// and of what is missing in the others.
-    pub(crate) fn start_beyond(&mut self, limit: Option<Value64>) -> Result<(), Grown> {
+    fn start_below(&mut self, limit: Option<Value64>) -> Result<(), Grown> {
         self.want_beyond(limit);
         let made = self.make_anew();
         self.answer();

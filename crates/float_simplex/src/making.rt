@@ -94,6 +94,7 @@ fn make_empty(alloc: Global, right: &[i64]) -> Result<State, AllocError> {
     let rows = right.len();
     Ok(State {
         right: make_right(alloc, right)?,
+        perturbations: make_zeros(alloc, rows)?,
         columns: Vec::new(alloc),
         runs: Vec::new(alloc),
         figures: make_figures(alloc),
@@ -140,17 +141,21 @@ impl State {
     }
 }
 
-/// Returns a program whose columns are those of what is missing and of what is beyond.
-pub(crate) fn make_state(
-    alloc: Global,
-    right: &[i64],
-    missing: &[i64],
-    beyond: &[Option<i64>],
-) -> Result<State, Memory> {
-    let Ok(mut state) = make_empty(alloc, right) else {
-        return Err(Memory);
-    };
-    state.add_missing(missing)?;
-    state.add_beyond(beyond)?;
-    Ok(state)
+impl State {
+    /// Returns a program with these right sides, perturbed, whose columns are those of what is missing in each
+    /// row, of entry 1, and of what is beyond, of entry -1, where they cost this.
+    pub fn new(
+        alloc: Global,
+        right: &[i64],
+        missing: &[i64],
+        beyond: &[Option<i64>],
+    ) -> Result<State, Memory> {
+        let Ok(mut state) = make_empty(alloc, right) else {
+            return Err(Memory);
+        };
+        state.add_missing(missing)?;
+        state.add_beyond(beyond)?;
+        state.perturb(missing, beyond);
+        Ok(state)
+    }
 }

@@ -1,4 +1,4 @@
-ghost use Rattle.std.specs.Prelude.{◌≡◌, ◌≤◌, ◌^◌, ◌*ℤ◌, unsigned_abs};
+ghost use Rattle.std.specs.Prelude.{◌≡◌};
 
 use crate::float::{Price64, Value64};
 use std::num::saturating_f64_to_i64;
@@ -10,14 +10,6 @@ pub struct Q32(pub(crate) i64);
 /// A number in units of 2^-24: prices and reduced costs.
 #[derive(Clone, Copy, Drop)]
 pub struct Q24(pub(crate) i64);
-
-/// Returns the product, which has room for a further sum.
-pub(crate) fn product(a: i64, b: i64) -> i128
-    ensures value { result ≡ a *ℤ b }
-    ensures size { unsigned_abs result ≤ 2 ^ 126 }
-{
-    i128::from(a) * i128::from(b)
-}
 
 /// Returns the nearest whole number, or the last one on its side where it is beyond all.
 fn nearest(number: f64) -> i64 {

@@ -1,0 +1,100 @@
+use crate::fixed::Q32;
+use crate::float::Value64;
+use crate::line::at;
+use crate::state::State;
+use std::num::nearest_i64_to_f64;
+
+/// How far a right side is perturbed at least, 2^-12.
+const LEAST: Value64 = 2.44140625e-4;
+
+/// What spreads the rows' perturbations: 2^16 over the golden ratio.
+const SPREAD: usize = 40_503;
+
+/// How many perturbations there are.
+const COUNT: usize = 65_536;
+
+/// Returns how far the right side of a row is perturbed, towards the cheaper of the row's own columns: so what
+/// could be met before still can.
+fn perturbation_of(row: usize, missing: i64, beyond: Option<i64>) -> Value64 {
+    let number = (row % COUNT).saturating_mul(SPREAD) % COUNT;
+    let share = nearest_i64_to_f64(number as i64) / nearest_i64_to_f64(COUNT as i64);
+    let size = LEAST + LEAST * share;
+    match beyond {
+        Some(cost) if cost < missing => -size,
+        _ => size,
+    }
+}
+
+/// Sets the perturbations of rows whose own columns cost this.
+fn set_perturbations(perturbations: &mut [Value64], missing: &[i64], beyond: &[Option<i64>]) {
+    let costs = missing.iter().zip(beyond);
+    for ((row, perturbation), (missing, beyond)) in perturbations
+        .iter_mut()
+        .enumerate()
+        .zip(costs)
+    {
+        *perturbation = perturbation_of(row, *missing, *beyond);
+    }
+}
+
+/// Adds so many times the perturbations to right sides.
+fn add_times(right: &mut [Value64], perturbations: &[Value64], times: f64) {
+    for (side, perturbation) in right.iter_mut().zip(perturbations) {
+        *side += *perturbation * times;
+    }
+}
+
+/// Leaves no perturbations.
+fn clear(perturbations: &mut [Value64]) {
+    for perturbation in perturbations.iter_mut() {
+        *perturbation = 0.0;
+    }
+}
+
+impl State {
+    /// Perturbs the right sides a little, each by an amount of its own, so that few values of a basis are 0
+    /// and few steps leave the value of the program as it is.
+    pub(crate) fn perturb(&mut self, missing: &[i64], beyond: &[Option<i64>]) {
+        set_perturbations(self.perturbations.as_mut_slice(), missing, beyond);
+        add_times(
+            self.right.as_mut_slice(),
+            self.perturbations.as_slice(),
+            1.0,
+        );
+    }
+
+    /// Takes the perturbations off the right sides; the next run works the values out again.
+    pub fn settle(&mut self) {
+        add_times(
+            self.right.as_mut_slice(),
+            self.perturbations.as_slice(),
+            -1.0,
+        );
+        clear(self.perturbations.as_mut_slice());
+        self.is_stale = true;
+    }
+
+    /// Sets the right side of a row, before it is perturbed; the next run works the values out again. Takes
+    /// no memory.
+    pub fn set_side(&mut self, row: usize, right: i64) {
+        let perturbation = at(self.perturbations.as_slice(), row);
+        if let Some(side) = self.right.as_mut_slice().get_mut(row) {
+            *side = nearest_i64_to_f64(right) + perturbation;
+        }
+        self.is_stale = true;
+    }
+
+    /// Returns what the perturbations add to the program's value.
+    pub fn perturbation_worth(&self) -> Q32 {
+        let mut worth = 0.0;
+        for (price, perturbation) in self
+            .prices
+            .as_slice()
+            .iter()
+            .zip(self.perturbations.as_slice())
+        {
+            worth += *price * *perturbation;
+        }
+        Q32::of(worth)
+    }
+}
