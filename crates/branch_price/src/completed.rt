@@ -15,7 +15,7 @@ use crate::offered::offer_trees;
 use crate::rounded::push_wholes;
 use candidate_rosters::Roster;
 use dives::dive;
-use node_master::{Pool, Weight};
+use node_master::{FULL, Pool, Weight};
 use offers::limit;
 use parse_graph::Graph;
 use roster_model::{Cut, Instance, List, Memory};
@@ -170,7 +170,10 @@ pub(crate) fn offer_at_node(
     if limit(instance, best) <= bound {
         return Ok(());
     }
-    if processed % EVERY == 0 && offer_dived(alloc, instance, graph, cuts, desk, pool, best)? {
+    if processed % EVERY == 0
+        && pool.len() < FULL
+        && offer_dived(alloc, instance, graph, cuts, desk, pool, best)?
+    {
         return Ok(());
     }
     offer_completed(alloc, instance, graph, weights, desk, pool, best)

@@ -4,8 +4,10 @@
 
 mod building;
 mod entries;
+mod ranking;
 mod rows;
 mod sense;
 
+pub use ranking::reduced_at;
 pub use rows::{NodeRows, count_rows};
 pub use sense::Sense;

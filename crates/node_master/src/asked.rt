@@ -1,6 +1,7 @@
 ghost use Rattle.std.specs.Prelude.{◌≡◌, length, IfOk};
 
 use crate::desk::Held;
+use master_rows::reduced_at;
 use roster_model::Memory;
 use scout::Q24;
 use std::alloc::Global;
@@ -33,17 +34,6 @@ fn mix(out: &mut [i128], best: &[i128], prices: &[Q24], weight: i128) {
         let rest = i128::from(price.raw()).saturating_mul(other);
         *number = share.saturating_add(rest) / WHOLE;
     }
-}
-
-/// Returns the reduced cost of a column at prices in units of 2^-24.
-fn reduced_at(one: &Held, y: &[i128]) -> i128 {
-    let mut reduced = i128::from(one.cost).saturating_mul(KAPPA);
-    for place in one.places.as_slice() {
-        if let Some(price) = y.get(place.row as usize) {
-            reduced = reduced.saturating_sub(price.saturating_mul(i128::from(place.value)));
-        }
-    }
-    reduced
 }
 
 /// Returns what prices show of the least cost, where the least reduced cost of a tree is this.
@@ -95,7 +85,7 @@ impl Asked {
         let Some(one) = held.get(column) else {
             return false;
         };
-        let reduced = reduced_at(one, self.y.as_slice());
+        let reduced = reduced_at(one.cost, one.places.as_slice(), self.y.as_slice());
         let bound = bound_at(right, self.y.as_slice(), heads, reduced);
         if self.bound.is_none_or(|best| best < bound) {
             self.bound = Some(bound);

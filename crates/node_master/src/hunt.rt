@@ -8,16 +8,18 @@ ghost use Rattle.tree_pool.specs.Pools.{IsPool, IsGrown};
 ghost use Rattle.node_master.specs.Columns.{IsDesk};
 
 use crate::asked::{Asked, KAPPA};
+use crate::bases::{Bases, Basis};
 use crate::desk::Desk;
 use crate::first::desk_of;
 use crate::hint::Hint;
 use crate::listed::first_wide;
-use crate::scouting::{basic_own, basic_trees, likely_trees, list_trees, scout_of};
+use crate::scouting::{basic_own, basic_trees, begin, list_trees, own_keys, prices_of, scout_of};
+use crate::starting::{Start, start_of};
 use crate::trees::list_cheapest;
 use cheapest_tree::Pricer;
 use master_rows::NodeRows;
 use parse_graph::Graph;
-use roster_model::{Cut, Instance, Memory};
+use roster_model::{Cut, Instance, List, Memory};
 use scout::{Limits, Scout, Scouted};
 use std::alloc::Global;
 use tree_pool::Pool;
@@ -37,7 +39,11 @@ const LIMITS: Limits = Limits {
 /// The weights of the best prices, in sixteenths, at which a round asks beside the scout's own.
 const WEIGHTS: [i128; 4] = [12, 9, 6, 3];
 
-/// Lists a tree of negative reduced cost at prices in units of 2^-24, and returns its column.
+/// From so many trees on the pool is full: a hunt asks for no further ones.
+pub const FULL: usize = 20_000;
+
+/// Lists a tree of negative reduced cost at prices in units of 2^-24, and returns its column. No tree is asked
+/// for where the pool is full.
 fn ask(
     alloc: Global,
     instance: &Instance,
@@ -62,7 +68,7 @@ fn ask(
     ensures grown { IsGrown pool.old pool.new }
     ensures desk { IsDesk instance.now cuts.now pool.new desk.new }
 {
-    if first_wide(y, KAPPA).is_some() {
+    if pool.len() >= FULL || first_wide(y, KAPPA).is_some() {
         return Ok(None);
     }
     list_cheapest(
@@ -249,7 +255,25 @@ fn hint_of(alloc: Global, desk: &Desk, scout: &Scout) -> Result<Hint, Memory> {
     })
 }
 
-/// Hunts with a new scout, and returns its last basis.
+/// Keeps the basis of a scout of the columns at a desk.
+fn keep_basis(
+    alloc: Global,
+    cuts: &[Cut],
+    desk: &Desk,
+    scout: &Scout,
+    bases: &mut Bases,
+) -> Result<(), Memory> {
+    let mut path = List::new(alloc);
+    path.extend_from_slice(cuts)?;
+    bases.keep(Basis {
+        cuts: path,
+        trees: basic_trees(alloc, desk.held.as_slice(), scout)?,
+        own: own_keys(alloc, scout)?,
+        prices: prices_of(alloc, scout)?,
+    })
+}
+
+/// Hunts with a new scout, and returns its last basis, which is kept.
 fn hunt_at(
     alloc: Global,
     instance: &Instance,
@@ -260,6 +284,8 @@ fn hunt_at(
     pricer: &mut Pricer,
     pool: &mut Pool,
     desk: &mut Desk,
+    start: &Start,
+    bases: &mut Bases,
 ) -> Result<Hint, Memory>
     requires sound { IsSoundInstance instance.now }
     requires graph { IsGraph instance.now.grammar graph.now }
@@ -274,9 +300,12 @@ fn hunt_at(
     ensures grown { IsGrown pool.old pool.new }
 {
     let mut scout = scout_of(alloc, desk.held.as_slice(), rows.right())?;
+    begin(&mut scout, start.keys.as_slice());
     hunt_rounds(
         alloc, instance, cuts, graph, rows, asked, pricer, pool, desk, &mut scout,
     )?;
+    let _settled = scout.settle(LIMITS);
+    keep_basis(alloc, cuts, desk, &scout, bases)?;
     hint_of(alloc, desk, &scout)
 }
 
@@ -290,6 +319,8 @@ fn hunt_from(
     pricer: &mut Pricer,
     pool: &mut Pool,
     desk: &mut Desk,
+    start: &Start,
+    bases: &mut Bases,
 ) -> Result<Hint, Memory>
     requires sound { IsSoundInstance instance.now }
     requires graph { IsGraph instance.now.grammar graph.now }
@@ -304,13 +335,12 @@ fn hunt_from(
 {
     let mut asked = Asked::new(alloc, rows.right().len())?;
     hunt_at(
-        alloc, instance, cuts, graph, rows, &mut asked, pricer, pool, desk,
+        alloc, instance, cuts, graph, rows, &mut asked, pricer, pool, desk, start, bases,
     )
 }
 
-/// Looks for a good basis of a node's master at a scout, whose trees the pool gets, and returns it.
-/// It is a hint: whatever it is, what the master answers with it is right.
-pub(crate) fn hunt(
+/// Looks for a good basis with a start, whose trees and further ones of the pool are listed.
+fn hunt_with(
     alloc: Global,
     instance: &Instance,
     graph: &Graph,
@@ -318,7 +348,8 @@ pub(crate) fn hunt(
     pool: &mut Pool,
     cuts: &[Cut],
     rows: &NodeRows,
-    wanted: &[usize],
+    start: &Start,
+    bases: &mut Bases,
 ) -> Result<Hint, Memory>
     requires sound { IsSoundInstance instance.now }
     requires graph { IsGraph instance.now.grammar graph.now }
@@ -330,7 +361,39 @@ pub(crate) fn hunt(
     ensures pool { IsPool instance.now.grammar pool.new }
     ensures grown { IsGrown pool.old pool.new }
 {
-    let trees = likely_trees(alloc, pool.len(), wanted, rows.right().len())?;
-    let mut desk = desk_of(alloc, instance, cuts, rows, pool, trees.as_slice())?;
-    hunt_from(alloc, instance, cuts, graph, rows, pricer, pool, &mut desk)
+    let trees = start.trees.as_slice();
+    let mut desk = desk_of(alloc, instance, cuts, rows, pool, trees)?;
+    hunt_from(
+        alloc, instance, cuts, graph, rows, pricer, pool, &mut desk, start, bases,
+    )
+}
+
+/// Looks for a good basis of a node's master in fixed point, from the last one of the nearest node above
+/// it that is kept. The pool gets its trees. It is a hint: whatever it is, what the master answers with it
+/// is right.
+pub(crate) fn hunt(
+    alloc: Global,
+    instance: &Instance,
+    graph: &Graph,
+    pricer: &mut Pricer,
+    pool: &mut Pool,
+    cuts: &[Cut],
+    rows: &NodeRows,
+    wanted: &[usize],
+    bases: &mut Bases,
+) -> Result<Hint, Memory>
+    requires sound { IsSoundInstance instance.now }
+    requires graph { IsGraph instance.now.grammar graph.now }
+    requires pricer { IsMadeFor graph.now pricer.old }
+    requires pool { IsPool instance.now.grammar pool.old }
+    requires rows { AreRows instance.now cuts.now rows.now }
+    requires small { length (rows_of instance.now cuts.now) ≤ 1500 }
+    ensures pricer { IsMadeFor graph.now pricer.new }
+    ensures pool { IsPool instance.now.grammar pool.new }
+    ensures grown { IsGrown pool.old pool.new }
+{
+    let start = start_of(alloc, cuts, rows, pool, wanted, bases)?;
+    hunt_with(
+        alloc, instance, graph, pricer, pool, cuts, rows, &start, bases,
+    )
 }

@@ -3,7 +3,7 @@ ghost use Rattle.std.specs.Prelude.{◌≡◌};
 use crate::desk::{Held, Kind};
 use pivot_rows::Place;
 use roster_model::{List, Memory};
-use scout::{Key, Scout, Sign};
+use scout::{Key, Limits, Scout, Scouted, Sign};
 use std::alloc::Global;
 
 /// What an artificial column costs in a scout at most.
@@ -61,28 +61,6 @@ pub(crate) fn list_trees(scout: &mut Scout, held: &[Held], first: usize) -> Resu
     Ok(())
 }
 
-/// How many trees of the pool a hunt begins with, for each row.
-const TREES: usize = 6;
-
-/// Returns trees of a pool of so many that may be good ones: the wanted ones, and the last ones.
-pub(crate) fn likely_trees(
-    alloc: Global,
-    count: usize,
-    wanted: &[usize],
-    rows: usize,
-) -> Result<List<usize>, Memory> {
-    let mut trees = List::new(alloc);
-    for tree in wanted {
-        trees.push(*tree)?;
-    }
-    for tree in count.saturating_sub(rows.saturating_mul(TREES))..count {
-        if !wanted.contains(&tree) {
-            trees.push(tree)?;
-        }
-    }
-    Ok(trees)
-}
-
 /// Returns a scout with the rows' own columns among these.
 fn scout_of_rows(alloc: Global, held: &[Held], right: &[i64]) -> Result<Scout, Memory> {
     let Ok(mut missing) = vec![in alloc; 0i64; right.len()] else {
@@ -93,6 +71,44 @@ fn scout_of_rows(alloc: Global, held: &[Held], right: &[i64]) -> Result<Scout, M
     };
     set_costs(held, missing.as_mut_slice(), beyond.as_mut_slice());
     Scout::new(alloc, right, missing.as_slice(), beyond.as_slice())
+}
+
+/// The steps within which a start from a basis comes to an end.
+const BEGIN: Limits = Limits {
+    dual: 400,
+    primal: 400,
+};
+
+/// Starts a scout from a basis, if there is one; where that comes to no end soon, from the rows' own columns
+/// again.
+pub(crate) fn begin(scout: &mut Scout, keys: &[Key]) {
+    if keys.is_empty() {
+        return;
+    }
+    if scout.start(keys).is_err() || scout.run(BEGIN) != Scouted::Optimal {
+        let _started = scout.start_beyond();
+    }
+}
+
+/// Returns the columns of rows in the basis of a scout.
+pub(crate) fn own_keys(alloc: Global, scout: &Scout) -> Result<List<Key>, Memory> {
+    let mut keys = List::new(alloc);
+    for place in 0..scout.rows() {
+        match scout.basic(place) {
+            Some(Key::Listed(_)) | None => {}
+            Some(key) => keys.push(key)?,
+        }
+    }
+    Ok(keys)
+}
+
+/// Returns the prices of the rows of a scout, in units of 2^-24.
+pub(crate) fn prices_of(alloc: Global, scout: &Scout) -> Result<List<i128>, Memory> {
+    let mut prices = List::new(alloc);
+    for price in scout.prices() {
+        prices.push(i128::from(price.raw()))?;
+    }
+    Ok(prices)
 }
 
 /// Returns a scout with these columns, started for dual steps.

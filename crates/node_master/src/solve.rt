@@ -21,6 +21,7 @@ ghost use Rattle.node_master.specs.Columns.{HasKey};
 ghost use Rattle.node_master.specs.Ends.{IsNodeCut, EndsRight, IsFailedBy, AreTreeWeights};
 ghost use Rattle.node_master.specs.Priced.{AreNarrowPrices};
 
+use crate::bases::Bases;
 use crate::columns::NodeColumns;
 use crate::ends::{Cause, NodeEnd, Weight};
 use crate::first::numbers_of;
@@ -72,6 +73,43 @@ pub fn solve_node(
     ensures grown { IsGrown pool.old pool.new }
     ensures counts { (tally.old.wide ≤ tally.new.wide) × (tally.old.spent ≤ tally.new.spent) }
 {
+    let mut bases = Bases::new(alloc);
+    solve_node_from(
+        alloc, instance, graph, pricer, pool, cuts, wanted, &mut bases, tally,
+    )
+}
+
+/// Solves the master of a node as `solve_node` does. The hunt for a good basis begins with that of the nearest
+/// node above, if it is kept, and that of this node is kept: they are hints.
+///
+/// Trees of the pool that are `wanted` steer the solution, the most wanted first: any list of numbers
+/// is lawful. Whatever the answer, the pricer is still one made for the graph, and the pool has its
+/// old trees under their numbers, and beside them only further trees of the day.
+pub fn solve_node_from(
+    alloc: Global,
+    instance: &Instance,
+    graph: &Graph,
+    pricer: &mut Pricer,
+    pool: &mut Pool,
+    cuts: &[Cut],
+    wanted: &[usize],
+    bases: &mut Bases,
+    tally: &mut Tally,
+) -> Result<NodeEnd, Memory>
+    requires sound { IsSoundInstance instance.now }
+    requires busy { IsPlainlyInfeasible instance.now → ⊥ }
+    requires graph { IsGraph instance.now.grammar graph.now }
+    requires tree { (t : Parts) × IsDayTree instance.now.grammar t }
+    requires pricer { IsMadeFor graph.now pricer.old }
+    requires pool { IsPool instance.now.grammar pool.old }
+    requires cuts { Each (IsNodeCut instance.now) cuts.now }
+    requires few { length cuts.now < 2 ^ 31 }
+    ensures end { IfOk result (EndsRight instance.now cuts.now pool.new tally.old tally.new) }
+    ensures pricer { IsMadeFor graph.now pricer.new }
+    ensures pool { IsPool instance.now.grammar pool.new }
+    ensures grown { IsGrown pool.old pool.new }
+    ensures counts { (tally.old.wide ≤ tally.new.wide) × (tally.old.spent ≤ tally.new.spent) }
+{
     let count = count_rows(instance, cuts);
     if count > ROWS {
         return Ok(NodeEnd::Failed(Cause::Rows {
@@ -80,7 +118,7 @@ pub fn solve_node(
     }
     let rows = NodeRows::new(alloc, instance, cuts)?;
     solve_steered(
-        alloc, instance, graph, pricer, pool, cuts, &rows, wanted, tally,
+        alloc, instance, graph, pricer, pool, cuts, &rows, wanted, bases, tally,
     )
 }
 
@@ -95,6 +133,7 @@ fn solve_steered(
     cuts: &[Cut],
     rows: &NodeRows,
     wanted: &[usize],
+    bases: &mut Bases,
     tally: &mut Tally,
 ) -> Result<NodeEnd, Memory>
     requires sound { IsSoundInstance instance.now }
@@ -112,7 +151,9 @@ fn solve_steered(
     ensures grown { IsGrown pool.old pool.new }
     ensures counts { (tally.old.wide ≤ tally.new.wide) × (tally.old.spent ≤ tally.new.spent) }
 {
-    let hint = hunt(alloc, instance, graph, pricer, pool, cuts, rows, wanted)?;
+    let hint = hunt(
+        alloc, instance, graph, pricer, pool, cuts, rows, wanted, bases,
+    )?;
     solve_rows(
         alloc, instance, graph, pricer, pool, cuts, rows, &hint, tally,
     )

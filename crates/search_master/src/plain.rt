@@ -1,10 +1,18 @@
-ghost use Rattle.std.specs.Prelude.{◌≡◌, ◌≤◌, ◌-◌, ◌^◌};
+ghost use Rattle.std.specs.Prelude.{◌≡◌, ◌≤◌, ◌<◌, ◌+◌, ◌-◌, ◌^◌, IfOk, length};
+ghost use Rattle.roster_model.specs.Folds.{Each};
+ghost use Rattle.roster_model.specs.SoundInstance.{IsSoundInstance};
+ghost use Rattle.roster_model.specs.Trees.{Parts, IsDayTree};
+ghost use Rattle.bound_laws.specs.Infeasible.{IsPlainlyInfeasible};
+ghost use Rattle.parse_graph.specs.Graphs.{IsGraph};
+ghost use Rattle.cheapest_tree.specs.Pricers.{IsMadeFor};
+ghost use Rattle.tree_pool.specs.Pools.{IsPool, IsGrown};
+ghost use Rattle.node_master.specs.Ends.{IsNodeCut, EndsRight};
 ghost use Rattle.search_master.specs.Refusals.{Refuses, refusals, counted};
 
 use crate::master::Master;
 use cheapest_tree::Pricer;
 use fraction::Tally;
-use node_master::{Cause, NodeEnd, Pool, solve_node};
+use node_master::{Bases, Cause, NodeEnd, Pool, solve_node_from};
 use parse_graph::Graph;
 use roster_model::{Cut, Instance, Memory};
 use std::alloc::Global;
@@ -14,6 +22,8 @@ use std::alloc::Global;
 pub struct PlainMaster {
     tally: Tally,
     refused: u64,
+    /// The last bases of nodes: hints.
+    bases: Option<Bases>,
 }
 
 /// Returns whether a node was given up for a number too wide, or for want of pivots.
@@ -43,6 +53,14 @@ fn count_end(refused: u64, end: &NodeEnd) -> u64
     }
 }
 
+/// Returns the bases that were kept, or none.
+fn kept(alloc: Global, bases: Option<Bases>) -> Bases {
+    match bases {
+        Some(bases) => bases,
+        None => Bases::new(alloc),
+    }
+}
+
 impl PlainMaster {
     /// Returns a master that has refused no node.
     pub fn new() -> PlainMaster
@@ -51,6 +69,7 @@ impl PlainMaster {
         PlainMaster {
             tally: Tally::new(),
             refused: 0,
+            bases: None,
         }
     }
 
@@ -60,6 +79,47 @@ impl PlainMaster {
         ensures { result ≡ self.now.refused }
     {
         self.refused
+    }
+
+    /// Solves a node's program with the bases that were kept, and keeps one more.
+    fn solve(
+        &mut self,
+        alloc: Global,
+        instance: &Instance,
+        graph: &Graph,
+        pricer: &mut Pricer,
+        pool: &mut Pool,
+        cuts: &[Cut],
+        wanted: &[usize],
+    ) -> Result<NodeEnd, Memory>
+        requires sound { IsSoundInstance instance.now }
+        requires busy { IsPlainlyInfeasible instance.now → ⊥ }
+        requires graph { IsGraph instance.now.grammar graph.now }
+        requires tree { (t : Parts) × IsDayTree instance.now.grammar t }
+        requires pricer { IsMadeFor graph.now pricer.old }
+        requires pool { IsPool instance.now.grammar pool.old }
+        requires cuts { Each (IsNodeCut instance.now) cuts.now }
+        requires few { length cuts.now < 2 ^ 31 }
+        ensures end { IfOk result (EndsRight instance.now cuts.now pool.new self.old.tally self.new.tally) }
+        ensures refused { self.new.refused ≡ self.old.refused }
+        ensures pricer { IsMadeFor graph.now pricer.new }
+        ensures pool { IsPool instance.now.grammar pool.new }
+        ensures grown { IsGrown pool.old pool.new }
+    {
+        let mut bases = kept(alloc, self.bases.take());
+        let end = solve_node_from(
+            alloc,
+            instance,
+            graph,
+            pricer,
+            pool,
+            cuts,
+            wanted,
+            &mut bases,
+            &mut self.tally,
+        )?;
+        self.bases = Some(bases);
+        Ok(end)
     }
 
     // Counts a node that is refused without being looked at.
@@ -91,16 +151,7 @@ impl Master for PlainMaster {
         wanted: &[usize],
     ) -> Result<NodeEnd, Memory> {
         let refused = self.refused;
-        let end = solve_node(
-            alloc,
-            instance,
-            graph,
-            pricer,
-            pool,
-            cuts,
-            wanted,
-            &mut self.tally,
-        )?;
+        let end = self.solve(alloc, instance, graph, pricer, pool, cuts, wanted)?;
         self.refused = count_end(refused, &end);
         Ok(end)
     }

@@ -1,6 +1,6 @@
 use Rattle.std.proofs.Common.{rules, arith, ◌<◌, ◌^◌}
 use Rattle.node_master.proofs.EndsLemmas.{few_rows, small_path}
-use Rattle.node_master.proofs.solve.solve_node.Goals as goal
+use Rattle.node_master.proofs.solve.solve_node_from.Goals as goal
 
 pub overflow_cast-result : goal.overflow_cast-result
 overflow_cast-result c =

@@ -1,0 +1,132 @@
+use crate::bases::{Bases, Basis};
+use master_rows::NodeRows;
+use roster_model::{Cut, List, Memory, Side};
+use scout::Key;
+use std::alloc::Global;
+use tree_pool::Pool;
+
+/// How many trees of the pool a hunt begins with, for each row, where no basis is known: the last ones.
+const LAST: usize = 6;
+
+/// How many trees it begins with, for each row, where one is: the best ones at the prices there.
+const BEST: usize = 2;
+
+/// What a hunt begins with.
+#[derive(Drop)]
+pub(crate) struct Start {
+    /// Trees of the pool, those of the basis first.
+    pub(crate) trees: List<usize>,
+    /// The basis, by the keys that its columns have in the scout; none where it is not known.
+    pub(crate) keys: List<Key>,
+}
+
+/// Returns trees, and behind them others that are not among them.
+fn joined(alloc: Global, first: &[usize], others: &[usize]) -> Result<List<usize>, Memory> {
+    let mut trees = List::new(alloc);
+    trees.extend_from_slice(first)?;
+    for tree in others {
+        if !first.contains(tree) {
+            trees.push(*tree)?;
+        }
+    }
+    Ok(trees)
+}
+
+/// Returns the last trees of a pool of so many, so many of them.
+fn last_trees(alloc: Global, count: usize, last: usize) -> Result<List<usize>, Memory> {
+    let mut trees = List::new(alloc);
+    for tree in count.saturating_sub(last)..count {
+        trees.push(tree)?;
+    }
+    Ok(trees)
+}
+
+/// Adds the columns of rows below a number.
+fn add_own(keys: &mut List<Key>, own: &[Key], end: usize) -> Result<(), Memory> {
+    for key in own {
+        let is_there = match *key {
+            Key::Missing(row) | Key::Beyond(row) => row < end,
+            Key::Listed(_) => false,
+        };
+        if is_there {
+            keys.push(*key)?;
+        }
+    }
+    Ok(())
+}
+
+/// Adds columns of the rows of further cuts, from a row on, at which prices of 0 are lawful.
+fn add_further(keys: &mut List<Key>, cuts: &[Cut], first: usize) -> Result<(), Memory> {
+    let mut row = first;
+    for cut in cuts {
+        let key = match cut.side {
+            Side::Low => Key::Missing(row),
+            Side::High => Key::Beyond(row),
+        };
+        keys.push(key)?;
+        row = row.saturating_add(1);
+    }
+    Ok(())
+}
+
+/// Returns the keys of a basis of a node above, with columns of the rows of the cuts that it lacks; there are
+/// so many rows in all.
+fn keys_of(alloc: Global, cuts: &[Cut], rows: usize, basis: &Basis) -> Result<List<Key>, Memory> {
+    let further = cuts.get(basis.cuts.len()..).unwrap_or(&[]);
+    let end = rows.saturating_sub(further.len());
+    let mut keys = List::new(alloc);
+    add_own(&mut keys, basis.own.as_slice(), end)?;
+    add_further(&mut keys, further, end)?;
+    for tree in 0..basis.trees.len() {
+        keys.push(Key::Listed(tree))?;
+    }
+    Ok(keys)
+}
+
+/// Returns what a hunt begins with from the basis of a node above.
+fn start_from(
+    alloc: Global,
+    cuts: &[Cut],
+    rows: &NodeRows,
+    pool: &Pool,
+    basis: &Basis,
+) -> Result<Start, Memory> {
+    let count = rows.right().len();
+    let most = count.saturating_mul(BEST);
+    let best = rows.best_trees(alloc, cuts, pool, basis.prices.as_slice(), most)?;
+    Ok(Start {
+        trees: joined(alloc, basis.trees.as_slice(), best.as_slice())?,
+        keys: keys_of(alloc, cuts, count, basis)?,
+    })
+}
+
+/// Returns what a hunt begins with where no basis is known.
+fn start_without(
+    alloc: Global,
+    rows: &NodeRows,
+    pool: &Pool,
+    wanted: &[usize],
+) -> Result<Start, Memory> {
+    let most = rows.right().len().saturating_mul(LAST);
+    let last = last_trees(alloc, pool.len(), most)?;
+    Ok(Start {
+        trees: joined(alloc, wanted, last.as_slice())?,
+        keys: List::new(alloc),
+    })
+}
+
+/// Returns what a hunt begins with at the node at a path of cuts: the basis of the nearest node above it that
+/// is kept. Where none is, or where no tree is wanted, it begins without one.
+pub(crate) fn start_of(
+    alloc: Global,
+    cuts: &[Cut],
+    rows: &NodeRows,
+    pool: &Pool,
+    wanted: &[usize],
+    bases: &Bases,
+) -> Result<Start, Memory> {
+    match bases.nearest(cuts) {
+        Some(basis) if !wanted.is_empty() => start_from(alloc, cuts, rows, pool, basis),
+        _ => start_without(alloc, rows, pool, wanted),
+    }
+}
