@@ -13,7 +13,10 @@ use std::alloc::Global;
 use tree_pool::Pool;
 
 /// How many of the pool's last trees are listed for each row.
-const LISTED: usize = 3;
+const LAST: usize = 1;
+
+/// How many of its best ones at the prices then are listed beside them, for each row.
+const BEST: usize = 2;
 
 /// The steps that solve a node's program.
 const SOLVE: Limits = Limits {
@@ -23,11 +26,11 @@ const SOLVE: Limits = Limits {
 
 /// No further cut is tried once the tries have touched so many times the entries that solving the program
 /// touched.
-const WORK: u64 = 2;
+const WORK: u64 = 6;
 
 /// The steps that try a cut.
 const TRY: Limits = Limits {
-    dual: 20,
+    dual: 40,
     primal: 0,
 };
 
@@ -79,16 +82,52 @@ fn list_trees(
     for share in shares {
         list_tree(alloc, cuts, rows, pool, share.column, scout, listed)?;
     }
-    let last = rows.right().len().saturating_mul(LISTED);
+    let last = rows.right().len().saturating_mul(LAST);
     for column in pool.len().saturating_sub(last)..pool.len() {
         list_tree(alloc, cuts, rows, pool, column, scout, listed)?;
     }
     Ok(())
 }
 
+/// Returns the prices of the rows of a scout, in units of 2^-24.
+fn prices_of(alloc: Global, scout: &Scout) -> Result<List<i128>, Memory> {
+    let mut prices = List::new(alloc);
+    for price in scout.prices() {
+        prices.push(i128::from(price.raw()))?;
+    }
+    Ok(prices)
+}
+
+/// Lists the best trees of the pool at a scout's prices that are not listed yet.
+fn list_best(
+    alloc: Global,
+    cuts: &[Cut],
+    rows: &NodeRows,
+    pool: &Pool,
+    scout: &mut Scout,
+    listed: &mut List<usize>,
+) -> Result<(), Memory> {
+    let prices = prices_of(alloc, scout)?;
+    let most = rows.right().len().saturating_mul(BEST);
+    let best = rows.best_trees(alloc, cuts, pool, prices.as_slice(), most)?;
+    let count = listed.len();
+    for column in best.as_slice() {
+        let is_new = match listed.as_slice().get(..count) {
+            Some(before) => !before.contains(column),
+            None => true,
+        };
+        if is_new {
+            list_tree(alloc, cuts, rows, pool, *column, scout, listed)?;
+        }
+    }
+    Ok(())
+}
+
 /// Solves a program, and says whether its value is one.
 fn solve(scout: &mut Scout) -> bool {
-    scout.start_beyond().is_ok() && scout.run(SOLVE) == Scouted::Optimal
+    scout.start_beyond().is_ok()
+        && scout.run(SOLVE) == Scouted::Optimal
+        && scout.settle(SOLVE) == Scouted::Optimal
 }
 
 /// Returns so many flags that are not set.
@@ -118,6 +157,10 @@ impl Bench {
         let mut listed = List::new(alloc);
         list_trees(alloc, cuts, &rows, pool, shares, &mut base, &mut listed)?;
         if !solve(&mut base) {
+            return Ok(None);
+        }
+        list_best(alloc, cuts, &rows, pool, &mut base, &mut listed)?;
+        if base.run(SOLVE) != Scouted::Optimal {
             return Ok(None);
         }
         let copy = scout_of(alloc, instance, cuts, &rows, 1)?;
