@@ -7,3 +7,8 @@ pub returns : goal.returns
 returns c =
     next-codes c.args.grammar.now (codes "code" ∷ []) c.args.prefix.now c.args.out.now c.add_code_lines.new.out
     (rw (c.new-prices.ensures.grammar, c.new-prices.ensures.any, c.new-prices.ensures.pattern) at c.in_ok-add_code_lines.ensures)
+
+pub add_code_lines-requires-clause-filled : goal.add_code_lines-requires-clause-filled
+add_code_lines-requires-clause-filled c =
+    let same = c.new-prices.ensures.grammar in
+    rw same (rw same at c.fill.ensures.marginals)

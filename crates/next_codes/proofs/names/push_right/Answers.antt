@@ -19,3 +19,11 @@ pub push_parts-requires-clause-around : goal.push_parts-requires-clause-around
 push_parts-requires-clause-around g c =
     let same : to_z w128 (of_z w128 c.args.outside) ≡ c.args.outside = omega (arith, ints) in
     rw same c.requires.around
+
+pub returns-else-len-eq1-clause-done : goal.returns-else-len-eq1-clause-done
+returns-else-len-eq1-clause-done g c =
+    let same : to_z w128 (of_z w128 c.args.outside) ≡ c.args.outside = omega (arith, ints) in
+    record {
+      only = λ a one h. absurd (omega (arith, one, c.len.ensures, c.if-len-eq1.false));
+      parts = λ two. rw same at c.push_parts.ensures.done;
+    }
