@@ -173,13 +173,14 @@ fn lent_for(alloc: Global, day: &Instance, graph: &Graph) -> Result<Lent, Memory
     })
 }
 
-/// Solves the master at these cuts.
+/// Solves the master at these cuts, where these trees are wanted.
 fn solve(
     alloc: Global,
     day: &Instance,
     graph: &Graph,
     lent: &mut Lent,
     cuts: &[Cut],
+    wanted: &[usize],
 ) -> Result<NodeEnd, Fail>
     requires day { IsMasterDay day.now }
     requires graph { IsGraph day.now.grammar graph.now }
@@ -196,7 +197,7 @@ fn solve(
         &mut lent.pricer,
         &mut lent.pool,
         cuts,
-        &[],
+        wanted,
         &mut lent.tally,
     )?;
     Ok(end)
@@ -262,7 +263,7 @@ fn shows_at(
     requires lent { AreLent day.now graph.now lent.old.pricer lent.old.pool }
     ensures { AreLent day.now graph.now lent.new.pricer lent.new.pool }
 {
-    let end = solve(alloc, day, graph, lent, cuts)?;
+    let end = solve(alloc, day, graph, lent, cuts, &[])?;
     Ok(shows(&end, want))
 }
 
@@ -330,20 +331,27 @@ fn masters_of_groups_and_floors(rt: HostRuntime) -> Result<(), Fail> {
     show(rt.alloc(), &FLOOR_DAY, &FLOOR_ROWS)
 }
 
-/// Returns the value of the master at the root.
-fn value_of(alloc: Global, day: &Instance, graph: &Graph, lent: &mut Lent) -> Result<Frac, Fail>
+/// Returns the value of the master at the root, where these trees are wanted.
+fn value_of(
+    alloc: Global,
+    day: &Instance,
+    graph: &Graph,
+    lent: &mut Lent,
+    wanted: &[usize],
+) -> Result<Frac, Fail>
     requires day { IsMasterDay day.now }
     requires graph { IsGraph day.now.grammar graph.now }
     requires lent { AreLent day.now graph.now lent.old.pricer lent.old.pool }
     ensures { AreLent day.now graph.now lent.new.pricer lent.new.pool }
 {
-    match solve(alloc, day, graph, lent, &[])? {
+    match solve(alloc, day, graph, lent, &[], wanted)? {
         NodeEnd::Best { value, .. } => Ok(value),
         NodeEnd::Failed(_) => Err(Fail::from("no value")),
     }
 }
 
-/// Whether a second call with what was lent to the first has the same value, and keeps its trees.
+/// Whether further calls with what was lent to the first have the same value, and keep its trees: where no
+/// tree is wanted, one that the pool lacks, some twice, and one alone.
 fn is_same_again(
     alloc: Global,
     day: &Instance,
@@ -354,10 +362,14 @@ fn is_same_again(
     requires graph { IsGraph day.now.grammar graph.now }
     requires lent { AreLent day.now graph.now lent.old.pricer lent.old.pool }
 {
-    let first = value_of(alloc, day, graph, lent)?;
+    let first = value_of(alloc, day, graph, lent, &[])?;
     let trees = lent.pool.len();
-    let second = value_of(alloc, day, graph, lent)?;
-    Ok(second == first && lent.pool.len() >= trees)
+    let second = value_of(alloc, day, graph, lent, &[])?;
+    let third = value_of(alloc, day, graph, lent, &[99])?;
+    let fourth = value_of(alloc, day, graph, lent, &[0, 0, 1])?;
+    let fifth = value_of(alloc, day, graph, lent, &[2])?;
+    let values = [second, third, fourth, fifth];
+    Ok(values.iter().all(|value| *value == first) && lent.pool.len() >= trees)
 }
 
 fn is_same_with_a_pool(alloc: Global, day: &Instance, graph: &Graph) -> Result<bool, Fail>

@@ -270,3 +270,30 @@ pub fn graph_of(alloc: Global, grammar: &Grammar) -> Result<Graph, Fail>
         Err(_) => Err(Fail::from("no graph")),
     }
 }
+
+/// Returns a cell of work for each of 96 periods, where one employee is needed.
+fn long_cells() -> [Cell; 96] {
+    let mut cells = [BLOCK; 96];
+    let mut period = 0u8;
+    for cell in cells.iter_mut() {
+        period = period.saturating_add(1);
+        cell.period = period;
+    }
+    cells
+}
+
+/// Returns a day of 96 periods with one block of two or three of them, for at most three employees.
+pub fn long_day(alloc: Global) -> Result<Instance, Fail>
+    ensures { IfOk result IsSoundInstance }
+{
+    let cells = long_cells();
+    sound_day(
+        alloc,
+        &DayParts {
+            periods: 96,
+            heads: (0, 3),
+            cells: &cells,
+            ..BLOCK_DAY
+        },
+    )
+}

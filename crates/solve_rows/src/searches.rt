@@ -5,7 +5,7 @@ ghost use Rattle.certificates.specs.Sound.{IsSoundCert};
 
 use crate::days::{
     BLOCK_DAY, CROWD_DAY, EXACT_DAY, FLOOR_DAY, FREE_DAY, FULL_DAY, FULL_GROUP_DAY, GROUP_DAY,
-    IDLE_GROUP_DAY, ONE_DAY, PAIR_DAY, UNEVEN_DAY, graph_of, sound_day,
+    IDLE_GROUP_DAY, ONE_DAY, PAIR_DAY, UNEVEN_DAY, graph_of, long_day, sound_day,
 };
 use branch_price::{Done, FailingMaster, Found, Master, PlainMaster, Pool, search};
 use certificates::{Cert, Node};
@@ -464,5 +464,58 @@ fn a_master_that_always_fails(rt: HostRuntime) -> Result<(), Fail> {
 fn a_master_that_fails_at_two_calls(rt: HostRuntime) -> Result<(), Fail> {
     let master = FailingMaster::new(false, vec![in rt.alloc(); 1, 2]?);
     assert!(rt; ends_on_pairs(rt.alloc(), 8191, master, FailedEnd::Equal(2), None)?);
+    Ok(())
+}
+
+/// Whether the checker says yes to what a search with a master finds.
+fn is_accepted_with<M: Master>(
+    alloc: Global,
+    day: &Instance,
+    turns: u32,
+    master: &mut M,
+) -> Result<bool, Fail>
+    requires day { IsSoundInstance day.now }
+    requires some { 1 ≤ turns }
+    requires few { turns ≤ 10000 }
+{
+    let found = searched(alloc, day, turns, master)?;
+    is_accepted(alloc, day, &found.cert)
+}
+
+#[test]
+fn one_turn_on_96_periods(rt: HostRuntime) -> Result<(), Fail> {
+    let day = long_day(rt.alloc())?;
+    assert!(rt; is_accepted_with(rt.alloc(), &day, 1, &mut PlainMaster::new())?);
+    Ok(())
+}
+
+/// Whether the checker says yes to what a search of the long day with a failing master finds.
+fn is_accepted_failing(alloc: Global, mut master: FailingMaster) -> Result<bool, Fail> {
+    let day = long_day(alloc)?;
+    is_accepted_with(alloc, &day, 60, &mut master)
+}
+
+#[test]
+fn failing_masters_on_96_periods(rt: HostRuntime) -> Result<(), Fail> {
+    let always = FailingMaster::new(true, Vec::new(rt.alloc()));
+    assert!(rt; is_accepted_failing(rt.alloc(), always)?);
+    let twice = FailingMaster::new(false, vec![in rt.alloc(); 1, 2]?);
+    assert!(rt; is_accepted_failing(rt.alloc(), twice)?);
+    Ok(())
+}
+
+/// Whether two searches of a day find the same certificate.
+fn is_found_again(alloc: Global, day: &Instance) -> Result<bool, Fail>
+    requires { IsSoundInstance day.now }
+{
+    let first = searched(alloc, day, 8191, &mut PlainMaster::new())?;
+    let second = searched(alloc, day, 8191, &mut PlainMaster::new())?;
+    Ok(first.cert == second.cert)
+}
+
+#[test]
+fn the_same_certificate_again(rt: HostRuntime) -> Result<(), Fail> {
+    let day = sound_day(rt.alloc(), &UNEVEN_DAY)?;
+    assert!(rt; is_found_again(rt.alloc(), &day)?);
     Ok(())
 }
