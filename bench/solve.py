@@ -1,13 +1,16 @@
 #!/usr/bin/env python3
 """Solves days, and says cost, bound, turns and processor time, beside two general solvers where they are installed.
 
-    bench/solve.py [--turns N] [--limit SECONDS] [--program PROGRAM] [--peers FOLDER] [FOLDER [DAY..]]
+    bench/solve.py [--turns N] [--limit SECONDS] [--program PROGRAM] [--peers FOLDER] [--parts] [FOLDER [DAY..]]
 
 FOLDER has DAY.rules and DAY.demand for each day, by default the days of examples/ that a planner would know. PROGRAM
 is crates/shift_tool/out/shift_tool by default, which ./roster or the gate builds. A run that takes longer than the
 limit is given up. Each row has the day, cost and bound, the turns used and those of them without prices, the processor
 seconds and the memory of `solve`, and the seconds of `check` on what it stored; each solve is made twice, and the two
 texts must be the same.
+
+With --parts each row ends with processor seconds by part, from samples of one more run by Debian's linux-perf. The
+widest number of the exact path at a root is told by bench/master.rs.
 
 With --peers, a folder with a program solve.py RULES DEMAND --solver cbc|highs --limit SECONDS, each row has also what
 CBC and HiGHS give within the limit, and the ratio of this program's seconds to those of the faster one that proved its
@@ -17,6 +20,8 @@ Debian's packages: apt-get install --no-install-recommends coinor-cbc python3-sc
 import argparse
 import os
 import pathlib
+import re
+import shutil
 import signal
 import subprocess
 import sys
@@ -24,6 +29,13 @@ import tempfile
 
 TOP = pathlib.Path(__file__).resolve().parent.parent
 SOLVERS = ("cbc", "highs")
+# The crates that do each part of a search.
+PARTS = {
+    "scout": {"float_simplex", "scout"},
+    "exact path": {"tableau", "pivot_rows", "fraction"},
+    "passes": {"cheapest_tree"},
+    "tables": {"span_cells", "span_table"},
+}
 
 
 def run(words, limit):
@@ -73,6 +85,27 @@ def peer(peers, solver, rules, demand, limit):
     return seconds if closed else None, f"{solver} {told['cost']} / {told['bound']} {seconds:.2f} s"
 
 
+def by_part(program, rules, demand, turns):
+    """The processor seconds of a search by part, from samples: each counts for the crate of its function."""
+    with tempfile.TemporaryDirectory() as name:
+        folder = pathlib.Path(name)
+        shutil.copy(rules, folder / "rules")
+        shutil.copy(demand, folder / "demand")
+        record = ["perf", "record", "-q", "-e", "cpu-clock", "-F", "199", "-o", "samples"]
+        before = os.times().children_user
+        subprocess.run([*record, program.resolve(), "solve", "rules", "demand", "proof", str(turns)], cwd=folder,
+                       stdout=subprocess.DEVNULL, check=False)
+        seconds = os.times().children_user - before
+        said = subprocess.run(["perf", "report", "-i", "samples", "--stdio", "-g", "none", "--sort", "symbol"],
+                              cwd=folder, capture_output=True, text=True, check=True).stdout
+    shares = dict.fromkeys([*PARTS, "the rest"], 0.0)
+    for share, function in re.findall(r"^ *([0-9.]+)% +\[\S\] (\S+)", said, re.M):
+        crate = function.partition("::")[0]
+        part = next((it for it, crates in PARTS.items() if crate in crates), "the rest")
+        shares[part] += float(share)
+    return ", ".join(f"{part} {share * seconds / 100:.2f}" for part, share in shares.items())
+
+
 def main():
     words = argparse.ArgumentParser(description=__doc__, formatter_class=argparse.RawDescriptionHelpFormatter)
     words.add_argument("folder", nargs="?", type=pathlib.Path, default=TOP / "examples")
@@ -81,6 +114,7 @@ def main():
     words.add_argument("--limit", type=int, default=60)
     words.add_argument("--program", type=pathlib.Path, default=TOP / "crates/shift_tool/out/shift_tool")
     words.add_argument("--peers", type=pathlib.Path)
+    words.add_argument("--parts", action="store_true")
     given = words.parse_args()
     if not os.access(given.program, os.X_OK):
         sys.exit(f"{given.program} is not built: run ./roster or the gate first")
@@ -94,6 +128,8 @@ def main():
             best = min((it for it, _ in found if it is not None), default=None)
             if seconds is not None and best:
                 row += f" | ratio {seconds / best:.2f}"
+        if given.parts:
+            row += f" | {by_part(given.program, rules, demand, given.turns)}"
         print(f"{day} | {row}", flush=True)
 
 
