@@ -12,7 +12,7 @@ use Rattle.roster_model.specs.Grammar.{InDay}
 use Rattle.roster_model.specs.Trees.{Parts, done, letter, uses}
 use Rattle.roster_model.specs.Sums.{IsLeast, AtMost, parts_sum, tree_sum, arc_sum}
 use Rattle.span_forms.specs.Places.{shorter, place_of}
-use Rattle.span_forms.proofs.Rows.{place-within, place-before, place-apart}
+use Rattle.span_forms.proofs.Rows.{place-within, place-before, place-apart, shorter-next}
 use Rattle.tree_laws.proofs.PartLoop.{less_or_same}
 use Rattle.tree_laws.proofs.Rules.{rule_at-within}
 use Rattle.span_cells.specs.declared.slot.Layout.{Layout}
@@ -255,3 +255,21 @@ module _ (g : Grammar) (lay : Layout) where
 -- each arc of a tree of the day is one of the instance
 pub day-stands : (g : Grammar) → TreesStand g (Name g.start) 1 g.periods
 day-stands g t h a has = (t, h, has)
+
+-- the last span of a length stands right before the first one of the next
+pub row-before : (n i l : ℕ) → i ≡ 1 → l ≤ n → 1 ≤ place_of n i l → place_of n (n + 2 - l) (l - 1) ≡ place_of n i l - 1
+row-before n i zero first fits some = let e = ap (λ (q : ℕ). q - 1) first in absurd (omega (arith, some, e))
+row-before n i (suc zero) first fits some = let e = ap (λ (q : ℕ). q - 1) first in absurd (omega (arith, some, e))
+row-before n i (suc (suc l)) first fits some =
+    let next = shorter-next n (suc l) (omega arith) in
+    let one : suc (suc l) - 1 ≡ suc l = omega arith in
+    let two : suc (suc l) - 1 - 1 ≡ l = omega arith in
+    let three : suc l - 1 ≡ l = omega arith in
+    let a = ap (shorter n) one in
+    let b = ap (shorter n) two in
+    let c = ap (shorter n) three in
+    omega (arith, next, a, b, c, first, fits, some)
+
+-- the whole day is the last span
+pub day-last : (n : ℕ) → 1 ≤ n → place_of n 1 n ≡ shorter n n - 1
+day-last n one = let next = shorter-next n n one in omega (arith, next, one)

@@ -44,6 +44,7 @@ fn has_span(grammar: &Grammar, arc: &ArcKey) -> bool
 
 // Whether the parts of a suffix on a span are marked, those of a whole right side by the name on its
 // left.
+#[inline(always)]
 fn is_marked(
     grammar: &Grammar,
     layout: &Layout,
@@ -74,6 +75,7 @@ fn is_marked(
 }
 
 /// Returns whether a suffix has parts on a span, the first of them so many periods long.
+#[inline(always)]
 pub fn has_split(
     grammar: &Grammar,
     layout: &Layout,
@@ -256,6 +258,7 @@ fn next_suffix(grammar: &Grammar, arc: ArcKey) -> Option<ArcKey>
 }
 
 // The first key after this one that may be an arc.
+#[inline(always)]
 fn step(
     grammar: &Grammar,
     layout: &Layout,

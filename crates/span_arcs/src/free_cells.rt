@@ -3,7 +3,7 @@ ghost use Rattle.roster_model.specs.Sound.{IsSound};
 ghost use Rattle.span_cells.specs.Cells.{AreMade, IsLayoutOf, IsReady};
 
 use roster_model::{Grammar, Memory};
-use span_cells::{Cells, Layout, Present, Span, count_cells, count_spots};
+use span_cells::{Cells, Layout, NO_NUMBER, Present, Span, count_cells, count_spots};
 use std::alloc::Global;
 use std::marker::Model;
 
@@ -62,6 +62,10 @@ impl Cells for FreeCells {
 
     fn sum(&self, place: usize) -> Option<i128> {
         if self.there[place] { Some(0) } else { None }
+    }
+
+    fn number(&self, place: usize) -> i128 {
+        if self.there[place] { 0 } else { NO_NUMBER }
     }
 
     fn set(&mut self, place: usize, sum: Option<i128>) {

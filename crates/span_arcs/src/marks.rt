@@ -2,7 +2,7 @@ ghost use Rattle.std.specs.Prelude.{◌≡◌, ◌≤◌, ◌<◌, ◌+◌, ◌-
 ghost use Rattle.roster_model.specs.declared.grammar.Rule.{Rule as RuleValue};
 ghost use Rattle.roster_model.specs.Grammar.{rule_at, InDay};
 ghost use Rattle.roster_model.specs.Sound.{IsSound, Exists};
-ghost use Rattle.span_forms.specs.Places.{shorter};
+ghost use Rattle.span_forms.specs.Places.{shorter, place_of};
 ghost use Rattle.span_cells.specs.declared.slot.Slot.{Slot as Use};
 ghost use Rattle.span_cells.specs.Cells.{IsLayoutOf, IsReady, AreFilled, cell_count, place, name_slot, suffix_slot};
 ghost use Rattle.span_arcs.specs.Marks.{free_view, mark, TreesStand, PartsStand, IsBefore, SymbolMarked, RestMarked, SplitMarked, PartsClosed, RuleClosed, SlotClosed, AreTrue, ClosedFrom, Adds, AreMarked};
@@ -272,19 +272,43 @@ fn mark_slot(
     }
 }
 
-// Marks what the marked slots of the span at a place are made of.
+// The span that comes before one: by length, then by start.
+fn before(periods: u8, span: Span) -> Span
+    requires few { periods ≤ 96 }
+    requires day { InDay periods span.start span.len }
+    ensures place { 1 ≤ place_of periods span.start span.len
+        → place_of periods result.start result.len ≡ place_of periods span.start span.len - 1 }
+    ensures day { 1 ≤ place_of periods span.start span.len → InDay periods result.start result.len }
+{
+    if span.start > 1 {
+        Span {
+            start: span.start - 1,
+            len: span.len,
+        }
+    } else {
+        Span {
+            start: periods + 2 - span.len,
+            len: span.len - 1,
+        }
+    }
+}
+
+// Marks what the marked slots of a span are made of, which stands at a place.
 fn mark_span(
     grammar: &Grammar,
     layout: &Layout,
     cells: &FreeCells,
     marks: &mut [bool],
     place: usize,
+    span: Span,
 )
     requires sound { IsSound grammar.now }
     requires ready { IsReady grammar.now layout.now cells.now }
     requires filled { AreFilled grammar.now free_view layout.now cells.now }
     requires count { length marks.old ≡ cell_count layout.now }
     requires place { place < shorter layout.now.spans layout.now.spans }
+    requires day { InDay layout.now.spans span.start span.len }
+    requires at { place_of layout.now.spans span.start span.len ≡ place }
     requires truth { AreTrue grammar.now layout.now marks.old }
     requires closed { ClosedFrom grammar.now layout.now marks.old
         ((place + 1) * length layout.now.slots.items) }
@@ -292,8 +316,6 @@ fn mark_span(
         marks.new }
     ensures closed { ClosedFrom grammar.now layout.now marks.new (place * length layout.now.slots.items) }
 {
-    let (start, len) = layout.spans.span(place);
-    let span = Span { start, len };
     for slot in (0..layout.slots.len()).rev() {
         mark_slot(grammar, layout, cells, marks, slot, span);
     }
@@ -309,8 +331,13 @@ fn mark_spans(grammar: &Grammar, layout: &Layout, cells: &FreeCells, marks: &mut
     ensures adds { Adds grammar.now layout.now (cell_count layout.now) marks.old marks.new }
     ensures closed { ClosedFrom grammar.now layout.now marks.new 0 }
 {
+    let mut span = Span {
+        start: 1,
+        len: grammar.periods,
+    };
     for place in (0..layout.spans.count()).rev() {
-        mark_span(grammar, layout, cells, marks, place);
+        mark_span(grammar, layout, cells, marks, place, span);
+        span = before(grammar.periods, span);
     }
 }
 

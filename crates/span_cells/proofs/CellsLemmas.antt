@@ -1,5 +1,5 @@
 -- The cells are filled in the order of their places.
-use Rattle.std.proofs.Common.{◌≡◌, ◌≢◌, ℕ, ℤ, ◌<◌, ◌+◌, ◌*◌, List, [], Option, None, Some, arith, refl, subst, sym, ap, ◌∙◌, ◌⊎◌, inl, inr, length, get_or, get_or-set_other, get_or-set_same}
+use Rattle.std.proofs.Common.{◌≡◌, ◌≢◌, ℕ, zero, suc, ℤ, ◌<◌, ◌≤◌, ◌+◌, ◌*◌, List, [], Option, None, Some, arith, refl, subst, sym, ap, ◌∙◌, ◌⊎◌, inl, inr, length, get_or, get_or-set_other, get_or-set_same}
 use Rattle.std.specs.Prelude.{IsSome, slice_get}
 use Rattle.std.proofs.lemmas.List.{length-set}
 use Rattle.std.proofs.lemmas.Nat.{mul-add-lt}
@@ -137,3 +137,8 @@ module _ (g : Grammar) (p : PriceView) (lay : Layout) (fits : IsLayoutOf g lay) 
 pub filled-later : (g : Grammar) (p : PriceView) (lay : Layout) → IsLayoutOf g lay → IsSound g → (h : Held) → AreFilled g p lay h → (x i l : ℕ) → InDay g.periods i l → LaterRight g p lay h x i l
 filled-later g p lay fits sound h filled x i l day r y rule at left right =
     (filled-right g p lay fits h filled i l day).names y (sound-symbol g sound r 0 rule (Name y) [] at right)
+
+-- a day that has a span has a period
+pub some-periods : (n : ℕ) → 0 < shorter n n → 1 ≤ n
+some-periods zero h = absurd (omega (arith, h))
+some-periods (suc n) h = omega arith

@@ -7,6 +7,8 @@ use Rattle.roster_model.specs.declared.grammar.Sym.{Sym}
 use Rattle.roster_model.specs.Sums.{PriceView, plus}
 use Rattle.span_cells.specs.Choices.{ChosenPart, ChosenRule}
 use Rattle.span_cells.specs.declared.sums.Choice.{Choice}
+use Rattle.span_cells.specs.declared.sums.LeastPart.{LeastPart}
+use Rattle.span_cells.specs.Numbers.{sum_below}
 
 -- what holds at all holds where there is a sum
 pub on_some : (v : Option ℤ) (P : Type 0) → P → OnSome v P
@@ -26,6 +28,12 @@ module _ (g : Grammar) (p : PriceView) (r k : ℕ) (s : Sym) (xs : List Sym) (i 
       → (next ≡ best) ⊎ ((next.sum ≡ sum) × (next.number ≡ part)) → OnSome next.sum (ChosenPart g p r k s xs i l next.number next.sum)
   part-next best next sum part h c (inl e) = subst (λ (n : Choice). OnSome n.sum (ChosenPart g p r k s xs i l n.number n.sum)) (sym e) h
   part-next best next sum part h c (inr e) = rw (e.0, e.1) (on_some sum _ c)
+
+  -- so was the better of two that are numbers
+  pub number-next : (best next : LeastPart) (number : ℤ) (part : ℕ) → OnSome (sum_below best.number) (ChosenPart g p r k s xs i l best.part (sum_below best.number)) → ChosenPart g p r k s xs i l part (sum_below number)
+      → (next ≡ best) ⊎ (next ≡ record { number = number; part = part }) → OnSome (sum_below next.number) (ChosenPart g p r k s xs i l next.part (sum_below next.number))
+  number-next best next number part h c (inl e) = subst (λ (n : LeastPart). OnSome (sum_below n.number) (ChosenPart g p r k s xs i l n.part (sum_below n.number))) (sym e) h
+  number-next best next number part h c (inr e) = rw e (on_some (sum_below number) _ c)
 
 module _ (g : Grammar) (p : PriceView) (x i l : ℕ) where
   -- the better of two rules was chosen well

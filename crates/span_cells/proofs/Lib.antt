@@ -1,4 +1,5 @@
 pub mod ChoicesLemmas
+pub mod NumbersLemmas
 pub mod Slots
 pub mod LengthsLemmas
 pub mod SplitsLemmas

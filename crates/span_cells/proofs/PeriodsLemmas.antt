@@ -1,8 +1,8 @@
 -- Bits of sets of periods.
 use Rattle.std.proofs.Common.{◌≡◌, ◌≢◌, ℕ, ◌<◌, ◌≤◌, ◌+◌, ◌-◌, ◌*◌, ◌/◌, ◌%◌, ◌^◌, ◌⊎◌, inl, inr, arith, ap, sym, ◌∙◌, subst, bit_or, bit_and}
-use Rattle.std.specs.Int.{bit_at, w128, trailing_zeros}
+use Rattle.std.specs.Int.{bit_at, w64, w128, trailing_zeros}
 use Rattle.std.proofs.lemmas.Nat.{shr-shr}
-use Rattle.std.proofs.lemmas.Nat.Bits.{bit_at-lt, bit_at_set_same, bit_at_set_other, bit_at_and, bit_at-trailing_zeros, bit_at-zero}
+use Rattle.std.proofs.lemmas.Nat.Bits.{bit_at-lt, bit_at_set_same, bit_at_set_other, bit_at_and, bit_at-trailing_zeros, bit_at-zero, bit_at_cat_low}
 
 same_or_not : (a b : ℕ) → (a ≡ b) ⊎ (a ≢ b)
 same_or_not a b = grind arith
@@ -46,6 +46,28 @@ lowest n some few = let t = bit_at-trailing_zeros w128 n some few in (t.0, t.1, 
     by : (i : ℕ) → bit_at n i ≡ 1 → ((j : ℕ) → j < trailing_zeros w128 n → bit_at n j ≡ 0) → (i < trailing_zeros w128 n) ⊎ (trailing_zeros w128 n ≤ i) → trailing_zeros w128 n ≤ i
     by i h low (inr q) = q
     by i h low (inl q) = let z = low i q in absurd (omega (arith, sym z ∙ h))
+
+-- the low half of a number has its low bits
+low-half : (n i : ℕ) → i < 64 → bit_at n i ≡ bit_at (n % 2 ^ 64) i
+low-half n i lt = let e : n / 2 ^ 64 * 2 ^ 64 + n % 2 ^ 64 ≡ n = omega arith in
+    ap (λ (q : ℕ). bit_at q i) (sym e) ∙ bit_at_cat_low (n / 2 ^ 64) 64 (n % 2 ^ 64) i lt
+
+-- the lowest bit of a low half that has one is the lowest of all
+pub lowest-half : (n h : ℕ) → h ≡ n % 2 ^ 64 → 0 < h
+    → (trailing_zeros w64 h < 64) × (bit_at n (trailing_zeros w64 h) ≡ 1) × ((i : ℕ) → bit_at n i ≡ 1 → trailing_zeros w64 h ≤ i)
+lowest-half n h is some =
+    let few : h < 2 ^ 64 = omega (arith, is) in
+    let t = bit_at-trailing_zeros w64 h some few in
+    (t.0, low-half n (trailing_zeros w64 h) t.0 ∙ ap (λ (q : ℕ). bit_at q (trailing_zeros w64 h)) (sym is) ∙ t.1, λ i b. by i b t.0 t.2 (before i))
+  where
+    before : (i : ℕ) → (i < trailing_zeros w64 h) ⊎ (trailing_zeros w64 h ≤ i)
+    before i = grind arith
+
+    by : (i : ℕ) → bit_at n i ≡ 1 → trailing_zeros w64 h < 64 → ((j : ℕ) → j < trailing_zeros w64 h → bit_at h j ≡ 0) → (i < trailing_zeros w64 h) ⊎ (trailing_zeros w64 h ≤ i) → trailing_zeros w64 h ≤ i
+    by i b fits low (inr q) = q
+    by i b fits low (inl q) =
+        let z : bit_at n i ≡ 0 = low-half n i (omega (arith, q, fits)) ∙ ap (λ (x : ℕ). bit_at x i) (sym is) ∙ low i q in
+        absurd (omega (arith, sym z ∙ b))
 
 -- both or either bit
 pub both-bits : (a b i : ℕ) → bit_at (bit_and a b) i ≡ 1 → (bit_at a i ≡ 1) × (bit_at b i ≡ 1)

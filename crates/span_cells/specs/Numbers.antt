@@ -1,12 +1,12 @@
 -- A sum that may not be there, as one number.
-use Rattle.std.specs.Prelude.{ℤ, pos, ◌≡◌, ◌-◌, ◌^◌, Bool, true, false, cond, Option, None, Some, refl}
+use Rattle.std.specs.Prelude.{ℤ, pos, ◌≡◌, ◌^◌, Bool, true, false, cond, Option, None, Some, refl, int_lt}
 use Rattle.std.specs.Ordering.{int_eq}
 use Rattle.std.specs.Cmp.{signed_Decides}
 use Rattle.std.proofs.Common.{sym}
 
--- the greatest number of 128 bits stands for none
+-- one number stands for none, so high that the sum of two with the price of an arc is high too, and fits
 abbrev pub no_number : ℤ
-no_number = pos (2 ^ 127 - 1)
+no_number = pos (2 ^ 125)
 
 -- the sum that a number stands for
 abbrev pub sum_of : ℤ → Option ℤ
@@ -24,3 +24,11 @@ same_number z false h = refl
 -- the number of a sum is the number that it was read from
 pub number_of-sum_of : (z : ℤ) → number_of (sum_of z) ≡ z
 number_of-sum_of z = same_number z (int_eq z no_number) (signed_Decides z no_number).0
+
+-- from this number on, a sum of numbers is none
+abbrev pub no_least : ℤ
+no_least = pos (2 ^ 119)
+
+-- the sum that a sum of numbers comes to
+abbrev pub sum_below : ℤ → Option ℤ
+sum_below z = cond (int_lt z no_least) (Some z) None

@@ -1,9 +1,14 @@
 ghost use Rattle.std.specs.Prelude.{◌≡◌, ◌^◌, IfSome};
 ghost use Rattle.roster_model.specs.Sums.{Within};
+ghost use Rattle.span_cells.specs.Numbers.{number_of};
 
 use std::marker::Model;
 
-/// A sum that may not be there, in sixteen bytes: the greatest number stands for none.
+/// The number that stands for a sum that is not there. With the number of any sum and the price of an
+/// arc it comes to more than any sum, and two of them fit.
+pub const NO_NUMBER: i128 = 1 << 125;
+
+/// A sum that may not be there, in sixteen bytes: one number stands for none.
 #[derive(Clone, Copy, Drop)]
 pub struct Cell {
     number: i128,
@@ -29,7 +34,7 @@ impl Cell {
         ensures { result ≡ sum }
     {
         Cell {
-            number: sum.unwrap_or(i128::MAX),
+            number: sum.unwrap_or(NO_NUMBER),
         }
     }
 
@@ -37,10 +42,17 @@ impl Cell {
     pub fn sum(&self) -> Option<i128>
         ensures { result ≡ self.now }
     {
-        if self.number == i128::MAX {
+        if self.number == NO_NUMBER {
             None
         } else {
             Some(self.number)
         }
+    }
+
+    /// Returns the number of the sum.
+    pub fn number(&self) -> i128
+        ensures { result ≡ number_of self.now }
+    {
+        self.number
     }
 }

@@ -1,5 +1,6 @@
 ghost use Rattle.std.specs.Prelude.{◌≡◌, ◌<◌, ◌+◌, ℤ, Option, None, length, slice_index_or, slice_set};
 ghost use Rattle.span_cells.specs.Cells.{Held};
+ghost use Rattle.span_cells.specs.Numbers.{number_of};
 ghost use Rattle.span_cells.specs.Periods.{IsNoted, Keeps};
 
 use crate::present::Present;
@@ -17,6 +18,11 @@ pub trait Cells {
     fn sum(&self, place: usize) -> Option<i128>
         requires { place < length (held self.now).sums }
         ensures { result ≡ slice_index_or (held self.now).sums place None };
+
+    /// Returns the number of the sum at a place.
+    fn number(&self, place: usize) -> i128
+        requires { place < length (held self.now).sums }
+        ensures { result ≡ number_of (slice_index_or (held self.now).sums place None) };
 
     /// Puts a sum that the cells can hold at a place.
     fn set(&mut self, place: usize, sum: Option<i128>)

@@ -2,7 +2,7 @@ ghost use Rattle.std.specs.Prelude.{ℕ, ◌≡◌, ◌≤◌, ◌<◌, ◌+◌,
 ghost use Rattle.roster_model.specs.Grammar.{InDay};
 ghost use Rattle.roster_model.specs.Sound.{IsSound};
 ghost use Rattle.roster_model.specs.Sums.{Within};
-ghost use Rattle.span_forms.specs.Places.{shorter};
+ghost use Rattle.span_forms.specs.Places.{shorter, place_of};
 ghost use Rattle.span_cells.specs.declared.slot.Slot.{Slot as Use};
 ghost use Rattle.span_cells.specs.Cells.{IsReady, IsPut, AreMade, SlotLeast, FitsCells, RightBefore, AreFilled, cell_count, spot_count, place};
 
@@ -93,17 +93,41 @@ fn put<C: Cells>(
     }
 }
 
-// Fills the cells of the span at a place.
+// The span that comes after one: by length, then by start.
+fn after(periods: u8, span: Span) -> Span
+    requires few { periods ≤ 96 }
+    requires day { InDay periods span.start span.len }
+    ensures place { place_of periods result.start result.len ≡ place_of periods span.start span.len + 1 }
+    ensures day { place_of periods result.start result.len < shorter periods periods
+        → InDay periods result.start result.len }
+{
+    if span.end() <= periods {
+        Span {
+            start: span.start + 1,
+            len: span.len,
+        }
+    } else {
+        Span {
+            start: 1,
+            len: span.len + 1,
+        }
+    }
+}
+
+// Fills the cells of a span, which stands at a place.
 fn fill_span<P: LetterPrice, C: Cells>(
     grammar: &Grammar,
     prices: &P,
     layout: &Layout,
     cells: &mut C,
     place: usize,
+    span: Span,
 )
     requires sound { IsSound grammar.now }
     requires ready { IsReady grammar.now layout.now (C.held cells.old) }
     requires place { place < shorter layout.now.spans layout.now.spans }
+    requires day { InDay layout.now.spans span.start span.len }
+    requires at { place_of layout.now.spans span.start span.len ≡ place }
     requires before { RightBefore grammar.now (P.view prices.now) layout.now (C.held cells.old)
         (place * length layout.now.slots.items) }
     requires fits { FitsCells grammar.now (P.view prices.now) layout.now C.can_hold }
@@ -111,8 +135,6 @@ fn fill_span<P: LetterPrice, C: Cells>(
     ensures before { RightBefore grammar.now (P.view prices.now) layout.now (C.held cells.new)
         ((place + 1) * length layout.now.slots.items) }
 {
-    let (start, len) = layout.spans.span(place);
-    let span = Span { start, len };
     let width = layout.slots.len();
     for slot in 0..width {
         let sum = cell_least(grammar, prices, layout, cells, slot, span);
@@ -134,7 +156,9 @@ pub fn fill_cells<P: LetterPrice, C: Cells>(
     ensures filled { AreFilled grammar.now (P.view prices.now) layout.now (C.held cells.new) }
 {
     cells.clear();
+    let mut span = Span { start: 1, len: 1 };
     for place in 0..layout.spans.count() {
-        fill_span(grammar, prices, layout, cells, place);
+        fill_span(grammar, prices, layout, cells, place, span);
+        span = after(grammar.periods, span);
     }
 }

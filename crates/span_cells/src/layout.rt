@@ -3,6 +3,7 @@ ghost use Rattle.roster_model.specs.Grammar.{rule_at, InDay};
 ghost use Rattle.roster_model.specs.Sound.{IsSound};
 ghost use Rattle.span_forms.specs.Places.{shorter};
 ghost use Rattle.span_cells.specs.Cells.{IsLayoutOf, place, cell, cell_count, spot, spot_count, suffix_slot};
+ghost use Rattle.span_cells.specs.Numbers.{number_of};
 
 use crate::cells::Cells;
 use crate::slot::{Layout, Span, Suffix};
@@ -71,4 +72,16 @@ pub fn sum_at<C: Cells>(layout: &Layout, cells: &C, slot: usize, span: Span) -> 
     ensures { result ≡ cell layout.now (C.held cells.now) slot span.start span.len }
 {
     cells.sum(place_of(layout, slot, span))
+}
+
+/// Returns the number of the sum in the cell of a slot on a span.
+pub fn number_at<C: Cells>(layout: &Layout, cells: &C, slot: usize, span: Span) -> i128
+    requires day { InDay layout.now.spans span.start span.len }
+    requires slot { slot < length layout.now.slots.items }
+    requires room { shorter layout.now.spans layout.now.spans * length layout.now.slots.items < 2 ^ 64 }
+    requires cells { length (C.held cells.now).sums ≡ shorter layout.now.spans layout.now.spans * length
+        layout.now.slots.items }
+    ensures { result ≡ number_of (cell layout.now (C.held cells.now) slot span.start span.len) }
+{
+    cells.number(place_of(layout, slot, span))
 }

@@ -21,11 +21,11 @@ mod sum_cells;
 mod sums;
 
 pub use build::layout_of;
-pub use cell::Cell;
+pub use cell::{Cell, NO_NUMBER};
 pub use cells::Cells;
 pub use chains::Chains;
 pub use fill::fill_cells;
-pub use layout::{count_cells, count_spots, place_of, slot_of, sum_at};
+pub use layout::{count_cells, count_spots, number_at, place_of, slot_of, sum_at};
 pub use lengths::Lengths;
 pub use names::{least_rule, rule_of};
 pub use parts::{least_part, rest_least, symbol_least};

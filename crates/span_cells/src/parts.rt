@@ -77,6 +77,7 @@ pub fn rest_least<P: LetterPrice, C: Cells>(
 
 // The least sum of the parts of a suffix of two or more symbols on a span, the first of them so many
 // periods long.
+#[inline(always)]
 fn part_least<P: LetterPrice, C: Cells>(
     grammar: &Grammar,
     prices: &P,

@@ -1,4 +1,4 @@
-ghost use Rattle.std.specs.Prelude.{ℕ, ◌≤◌, ◌<◌, ◌↔◌, ◌≡◌, ◌⊎◌};
+ghost use Rattle.std.specs.Prelude.{ℕ, ◌≤◌, ◌<◌, ◌↔◌, ◌≡◌, ◌⊎◌, ◌%◌, ◌^◌};
 ghost use Rattle.std.specs.Int.{bit_at};
 ghost use Rattle.span_cells.specs.Periods.{Has};
 
@@ -9,6 +9,13 @@ pub struct Periods {
     bits: u128,
 }
 
+// The low half of a number.
+fn low_half(bits: u128) -> u64
+    ensures { result ≡ bits % 2 ^ 64 }
+{
+    (bits % (1 << 64)) as u64
+}
+
 // The place of the lowest bit that is 1.
 fn lowest_bit(bits: u128) -> u8
     requires { 0 < bits }
@@ -16,7 +23,12 @@ fn lowest_bit(bits: u128) -> u8
     ensures there { bit_at bits result ≡ 1 }
     ensures first { (n : ℕ) → bit_at bits n ≡ 1 → result ≤ n }
 {
-    bits.trailing_zeros() as u8
+    let low = low_half(bits);
+    if low != 0 {
+        low.trailing_zeros() as u8
+    } else {
+        bits.trailing_zeros() as u8
+    }
 }
 
 impl Periods {

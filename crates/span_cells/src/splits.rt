@@ -7,14 +7,15 @@ ghost use Rattle.roster_model.specs.Sums.{Within, PartsLeast};
 ghost use Rattle.tree_laws.specs.Laws.{arc_at};
 ghost use Rattle.span_cells.specs.Cells.{AreMade, IsReady, ShorterRight, cell_count, spot, spot_count};
 ghost use Rattle.span_cells.specs.Choices.{ChosenPart};
+ghost use Rattle.span_cells.specs.Numbers.{sum_below};
 ghost use Rattle.span_cells.specs.Periods.{Has, set_at};
 ghost use Rattle.span_cells.specs.Splits.{IsSymbolSlot, IsRestSlot};
 
 use crate::cells::Cells;
-use crate::layout::{slot_of, spot_of, sum_at};
+use crate::layout::{number_at, slot_of, spot_of};
 use crate::periods::Periods;
 use crate::slot::{Layout, Span, Suffix};
-use crate::sums::{self, Choice};
+use crate::sums::{Choice, LeastPart};
 use roster_model::{ArcKey, Grammar, LetterPrice, Rule, Sym};
 
 /// The slots of a first part and of what follows it.
@@ -123,7 +124,7 @@ pub fn split_of<C: Cells>(
     Some(Split { head, tail })
 }
 
-// The least sum of the parts of a suffix on a span, the first of them so many periods long.
+// The least sum of the parts of a suffix on a span, the first of them so many periods long, as a number.
 fn split_least<P: LetterPrice, C: Cells>(
     grammar: &Grammar,
     prices: &P,
@@ -135,7 +136,7 @@ fn split_least<P: LetterPrice, C: Cells>(
     free: bool,
     span: Span,
     part: u8,
-) -> Option<i128>
+) -> i128
     requires sound { IsSound grammar.now }
     requires ready { IsReady grammar.now layout.now (C.held cells.now) }
     requires day { InDay grammar.now.periods span.start span.len }
@@ -151,7 +152,7 @@ fn split_least<P: LetterPrice, C: Cells>(
     requires free { OnTrue free ((a : Arc) → (P.view prices.now).arc_of a ≡ pos 0) }
     ensures { ChosenPart grammar.now (P.view prices.now) suffix.rule suffix.from
         (slice_index_or rule.now.right suffix.from (Sym.Code 0)) rule.now.right span.start span.len part
-        result }
+        (sum_below result) }
 {
     let first = Span {
         start: span.start,
@@ -161,13 +162,10 @@ fn split_least<P: LetterPrice, C: Cells>(
         start: span.start + part,
         len: span.len - part,
     };
-    let head = sum_at(layout, cells, split.head, first);
-    let tail = sum_at(layout, cells, split.tail, others);
-    if head.is_none() || tail.is_none() {
-        return None;
-    }
+    let head = number_at(layout, cells, split.head, first);
+    let tail = number_at(layout, cells, split.tail, others);
     let arc = arc_price(prices, free, suffix, span, part);
-    sums::add_part(head, arc, tail)
+    head + (arc + tail)
 }
 
 // The split points of a suffix on a span, with cells for its first symbol and for the others.
@@ -221,15 +219,15 @@ pub fn least_split<P: LetterPrice, C: Cells>(
     let free = is_free(prices);
     let end = span.end();
     let points = slot_points(layout, cells, split, span);
-    let mut best = Choice::none();
+    let mut best = LeastPart::none();
     let mut point = points.first_in(span.start + 1, end);
     while point < end {
         let part = point - span.start;
-        let sum = split_least(
+        let number = split_least(
             grammar, prices, layout, cells, rule, suffix, split, free, span, part,
         );
-        best = best.or(sum, part);
+        best.take(number, part);
         point = points.first_in(point + 1, end);
     }
-    best
+    best.choice()
 }

@@ -63,6 +63,10 @@ impl Cells for SumCells {
         self.cells[place].sum()
     }
 
+    fn number(&self, place: usize) -> i128 {
+        self.cells[place].number()
+    }
+
     fn set(&mut self, place: usize, sum: Option<i128>) {
         self.cells[place] = Cell::new(sum);
     }

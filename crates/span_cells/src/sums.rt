@@ -1,5 +1,6 @@
 ghost use Rattle.std.specs.Prelude.{◌≡◌, ◌≤◌, ◌<◌, ◌^◌, ◌⊎◌, IfSome, Some};
 ghost use Rattle.roster_model.specs.Sums.{plus, Within, IsLesser};
+ghost use Rattle.span_cells.specs.Numbers.{sum_below};
 
 /// Returns the sum of two sums, none where either is not there.
 pub fn add(a: Option<i128>, b: Option<i128>) -> Option<i128>
@@ -51,6 +52,57 @@ impl Choice {
             (_, None) => self,
             (Some(x), Some(y)) if x <= y => self,
             _ => Choice { sum, number },
+        }
+    }
+}
+
+// From this number on, a sum of numbers is none.
+const NO_LEAST: i128 = 1 << 119;
+
+/// A least sum so far as a number, and the length of the first part that has it.
+#[derive(Clone, Copy, Drop)]
+pub struct LeastPart {
+    /// The number, 2^119 where nothing so far has a sum.
+    pub number: i128,
+    /// The length of the first part, 0 where nothing has a sum.
+    pub part: u8,
+}
+
+impl LeastPart {
+    /// Returns what stands for none.
+    pub fn none() -> LeastPart
+        ensures { sum_below result.number ≡ None }
+    {
+        LeastPart {
+            number: NO_LEAST,
+            part: 0,
+        }
+    }
+
+    /// Takes the new one in its place where that is better; where they are equal, it stays.
+    pub fn take(&mut self, number: i128, part: u8)
+        ensures lesser { IsLesser (sum_below self.old.number) (sum_below number) (sum_below self.new.number) }
+        ensures chosen { (self.new ≡ self.old) ⊎ (self.new ≡ record { number = number; part = part }) }
+    {
+        if number < self.number {
+            self.number = number;
+            self.part = part;
+        }
+    }
+
+    /// Returns the choice that this is.
+    pub fn choice(self) -> Choice
+        ensures sum { result.sum ≡ sum_below self.number }
+        ensures number { result.number ≡ self.part }
+    {
+        let sum = if self.number < NO_LEAST {
+            Some(self.number)
+        } else {
+            None
+        };
+        Choice {
+            sum,
+            number: self.part,
         }
     }
 }

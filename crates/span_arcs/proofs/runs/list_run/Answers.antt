@@ -1,4 +1,4 @@
-use Rattle.std.proofs.Common.{arith, ◌≡◌, ◌≢◌, ◌≤◌, ◌<◌, ◌+◌, List, Some, length, refl, sym, subst}
+use Rattle.std.proofs.Common.{arith, ◌≢◌, ◌≤◌, ◌+◌, List, Some, length, refl, sym, subst}
 use Rattle.roster_model.specs.declared.grammar.ArcKey.{ArcKey}
 use Rattle.roster_model.specs.declared.grammar.Sym.TheVariants.{Code}
 use Rattle.span_cells.proofs.CellsLemmas.{filled-shorter}

@@ -1,6 +1,10 @@
 use Rattle.std.proofs.Common.{arith, ◌≡◌, ◌<◌, ◌≤◌, ◌+◌, ◌-◌, None, refl, sym, subst, ℕ, get_or}
 use Rattle.roster_model.specs.declared.grammar.Sym.TheVariants.{Code}
-use Rattle.span_cells.proofs.ChoicesLemmas.{part-next}
+use Rattle.std.proofs.lemmas.Int.{ints}
+use mir.Val.{to_z, of_z}
+use mir.Syntax.{w128}
+use Rattle.span_cells.specs.Numbers.{sum_below}
+use Rattle.span_cells.proofs.ChoicesLemmas.{number-next}
 use Rattle.span_cells.proofs.SplitsLemmas.{split-told}
 use Rattle.span_cells.proofs.PartsLemmas.{Least, parts-begin, parts-next, parts-skip, parts-end}
 use Rattle.span_cells.proofs.splits.least_split.Goals as goal
@@ -42,22 +46,27 @@ loop-point-preserved g c =
     let point = c.loop-point.point in
     let next = c.first_in-point-in-loop-point in
     let k : point - i + 1 ≡ point + 1 - i = omega (arith, c.loop-point.invariant.low) in
-    let more = subst (λ (n : ℕ). Least gr p c.args.suffix.rule c.args.suffix.from i c.args.span.len c.args.rule.now.right (Code 0) c.requires.within n c.or-best.result.sum) k
+    let same : to_z w128 (of_z w128 c.split_least-number.result) ≡ c.split_least-number.result = omega (arith, ints) in
+    let more = subst (λ (n : ℕ). Least gr p c.args.suffix.rule c.args.suffix.from i c.args.span.len c.args.rule.now.right (Code 0) c.requires.within n (sum_below c.take.new.self.number)) k
     (parts-next gr p c.args.suffix.rule c.args.suffix.from i c.args.span.len c.args.rule.now.right (Code 0) c.requires.within
-    _ (point - i) c.split_least-sum.result c.loop-point.best.sum c.or-best.result.sum refl c.loop-point.invariant.least c.split_least-sum.ensures c.or-best.ensures.lesser) in
+    _ (point - i) (sum_below c.split_least-number.result) (sum_below c.loop-point.best.number) (sum_below c.take.new.self.number) refl c.loop-point.invariant.least c.split_least-number.ensures (rw same at c.take.ensures.lesser)) in
     record {
       low = omega (arith, next.ensures.low, c.loop-point.invariant.low);
       high = next.ensures.high;
       least = parts-skip gr p c.args.suffix.rule c.args.suffix.from i c.args.span.len c.args.rule.now.right (Code 0) c.requires.within c.slot_points-points.result
-          (point + 1) next.result c.or-best.result.sum told
+          (point + 1) next.result (sum_below c.take.new.self.number) told
           (omega (arith, c.loop-point.invariant.low)) next.ensures.low (omega (arith, next.ensures.high, c.end-end.ensures))
           (λ n le lt has. next.ensures.first n le (omega (arith, lt, c.end-end.ensures)) has) more;
-      chosen = part-next gr p c.args.suffix.rule c.args.suffix.from _ c.args.rule.now.right i c.args.span.len c.loop-point.best c.or-best.result c.split_least-sum.result (point - i)
-          c.loop-point.invariant.chosen c.split_least-sum.ensures c.or-best.ensures.chosen;
+      chosen = number-next gr p c.args.suffix.rule c.args.suffix.from _ c.args.rule.now.right i c.args.span.len c.loop-point.best c.take.new.self c.split_least-number.result (point - i)
+          c.loop-point.invariant.chosen c.split_least-number.ensures (rw same at c.take.ensures.chosen);
     }
 
 pub returns-clause-least : goal.returns-clause-least
 returns-clause-least g c =
     let same : c.loop-point.point - c.args.span.start ≡ c.args.span.len = omega (arith, c.loop-point.invariant.high, c.loop-point-test.false, c.end-end.ensures) in
-    parts-end c.args.grammar.now (g.P.LetterPrice.view c.args.prices.now) c.args.suffix.rule c.args.suffix.from c.args.span.start c.args.span.len c.args.rule.now.right (Code 0) c.requires.within
-    c.loop-point.best.sum (rw same at c.loop-point.invariant.least)
+    rw c.choice.ensures.sum
+    (parts-end c.args.grammar.now (g.P.LetterPrice.view c.args.prices.now) c.args.suffix.rule c.args.suffix.from c.args.span.start c.args.span.len c.args.rule.now.right (Code 0) c.requires.within
+    (sum_below c.loop-point.best.number) (rw same at c.loop-point.invariant.least))
+
+pub returns-clause-chosen : goal.returns-clause-chosen
+returns-clause-chosen g c = rw (c.choice.ensures.sum, c.choice.ensures.number) c.loop-point.invariant.chosen
