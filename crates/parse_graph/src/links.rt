@@ -95,6 +95,7 @@ fn node_kid(nodes: &IndexSet<NodeKey>, guesses: &Guesses, key: NodeKey) -> Kid
 }
 
 // The kid of a symbol on a span, that of a code at the span's first period.
+#[inline(always)]
 fn symbol_kid(nodes: &IndexSet<NodeKey>, guesses: &Guesses, symbol: Sym, start: u8, len: u8) -> Kid
     requires few { length nodes.now.keys ≤ 100000 }
     requires listed { IsListed (map or_node nodes.now.keys) (symbol_node symbol start len) }
