@@ -13,7 +13,7 @@ use crate::desk::Desk;
 use crate::first::desk_of;
 use crate::hint::Hint;
 use crate::listed::first_wide;
-use crate::scouting::{basic_own, basic_trees, begin, list_trees, own_keys, prices_of, scout_of};
+use crate::scouting::{basic_own, basic_trees, begin, list_trees, own_keys, scout_of};
 use crate::starting::{Start, start_of};
 use crate::trees::list_cheapest;
 use cheapest_tree::Pricer;
@@ -269,7 +269,7 @@ fn keep_basis(
         cuts: path,
         trees: basic_trees(alloc, desk.held.as_slice(), scout)?,
         own: own_keys(alloc, scout)?,
-        prices: prices_of(alloc, scout)?,
+        prices: scout.list_prices(alloc)?,
     })
 }
 

@@ -102,15 +102,6 @@ pub(crate) fn own_keys(alloc: Global, scout: &Scout) -> Result<List<Key>, Memory
     Ok(keys)
 }
 
-/// Returns the prices of the rows of a scout, in units of 2^-24.
-pub(crate) fn prices_of(alloc: Global, scout: &Scout) -> Result<List<i128>, Memory> {
-    let mut prices = List::new(alloc);
-    for price in scout.prices() {
-        prices.push(i128::from(price.raw()))?;
-    }
-    Ok(prices)
-}
-
 /// Returns a scout with these columns, started for dual steps.
 pub(crate) fn scout_of(alloc: Global, held: &[Held], right: &[i64]) -> Result<Scout, Memory> {
     let mut scout = scout_of_rows(alloc, held, right)?;

@@ -1,20 +1,18 @@
 ghost use Rattle.std.specs.Prelude.{◌≡◌, ◌^◌, All, length};
 ghost use Rattle.roster_model.specs.Sums.{Within};
 
+use crate::weighing::OUTSIDE;
 use roster_model::{Cell, penalty};
-
-/// What a count weighs that is outside of its cell's range: more than any roster costs.
-const OUTSIDE: i128 = 1 << 40;
 
 /// Returns what it is worth that one more employee brings a cell's count into its range, or out of it.
 fn range_saving(cell: &Cell, count: u32) -> i128
     ensures { Within (2 ^ 41) result }
 {
     if count < cell.floor {
-        return OUTSIDE;
+        return i128::from(OUTSIDE);
     }
     if count >= cell.ceiling {
-        return -OUTSIDE;
+        return -i128::from(OUTSIDE);
     }
     0
 }

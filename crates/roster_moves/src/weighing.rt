@@ -6,7 +6,7 @@ use tree_pool::Pool;
 
 /// What a count weighs for each employee by whom it is outside of its cell's range: more than any roster
 /// costs.
-const OUTSIDE: u64 = 1 << 40;
+pub(crate) const OUTSIDE: u64 = 1 << 40;
 
 /// Returns what a count weighs at a cell.
 fn weight(cell: &Cell, count: u32) -> u64 {

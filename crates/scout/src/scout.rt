@@ -2,7 +2,7 @@ ghost use Rattle.std.specs.Prelude.{◌≡◌, ◌≤◌, ◌+◌, ◌<◌, ◌^
 ghost use Rattle.scout.specs.Sizes.{row_count, listed_count, SameSizes, IsKey};
 
 use float_simplex::{Grown, Key, LastRow, Limits, Q24, Q32, Scouted, Sign, State};
-use roster_model::Memory;
+use roster_model::{List, Memory};
 use std::alloc::Global;
 
 /// The most columns that are listed.
@@ -171,6 +171,19 @@ impl Scout {
     /// Returns the prices of the rows.
     pub fn prices(&self) -> &[Q24] {
         self.state.prices()
+    }
+
+    /// Returns the prices of the rows as numbers, in units of 2^-24.
+    ///
+    /// # Errors
+    ///
+    /// `Memory` where memory runs out.
+    pub fn list_prices(&self, alloc: Global) -> Result<List<i128>, Memory> {
+        let mut prices = List::new(alloc);
+        for price in self.state.prices() {
+            prices.push(i128::from(price.raw()))?;
+        }
+        Ok(prices)
     }
 
     /// Returns the reduced cost of a listed column after a run.

@@ -89,15 +89,6 @@ fn list_trees(
     Ok(())
 }
 
-/// Returns the prices of the rows of a scout, in units of 2^-24.
-fn prices_of(alloc: Global, scout: &Scout) -> Result<List<i128>, Memory> {
-    let mut prices = List::new(alloc);
-    for price in scout.prices() {
-        prices.push(i128::from(price.raw()))?;
-    }
-    Ok(prices)
-}
-
 /// Lists the best trees of the pool at a scout's prices that are not listed yet.
 fn list_best(
     alloc: Global,
@@ -107,7 +98,7 @@ fn list_best(
     scout: &mut Scout,
     listed: &mut List<usize>,
 ) -> Result<(), Memory> {
-    let prices = prices_of(alloc, scout)?;
+    let prices = scout.list_prices(alloc)?;
     let most = rows.right().len().saturating_mul(BEST);
     let best = rows.best_trees(alloc, cuts, pool, prices.as_slice(), most)?;
     let count = listed.len();
