@@ -42,7 +42,7 @@ def main():
         long = folder / "long.rules"
         long.write_text(longer(short.read_text()))
         other = folder / "explain"
-        subprocess.run(["rustc", "-O", "-o", other, TOP / "bench" / "explain.rs"], check=True)
+        subprocess.run(["rustc", "--edition", "2024", "-O", "-o", other, TOP / "bench" / "explain.rs"], check=True)
         least = {}
         for name, rules, word in (("24", short, SHORT), ("96", long, LONG)):
             costs = set()

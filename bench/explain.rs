@@ -2,86 +2,17 @@
 // by symbol or suffix and span, bottom up, split only where both parts have sums), with bounds checks
 // and panics where Rust has them.
 // Words: RULES WORD. Prints the cost, or `no derivation`.
-use std::collections::HashMap;
+#[path = "grammar.rs"]
+mod grammar;
 
-#[derive(Clone, Copy)]
-enum Sym {
-    Code(u8),
-    Name(usize),
-}
-
-struct Rule {
-    left: usize,
-    cost: i128,
-    right: Vec<Sym>,
-    windows: [(u8, u8); 3],
-}
-
-struct Grammar {
-    periods: u8,
-    names: Vec<String>,
-    rules: Vec<Rule>,
-    start: usize,
-}
-
-fn number(names: &mut Vec<String>, known: &mut HashMap<String, usize>, name: &str) -> usize {
-    *known.entry(name.to_string()).or_insert_with(|| {
-        names.push(name.to_string());
-        names.len() - 1
-    })
-}
-
-fn read(text: &str) -> Grammar {
-    let (mut periods, mut start) = (0, String::new());
-    let (mut names, mut known, mut rules) = (Vec::new(), HashMap::new(), Vec::new());
-    for line in text.lines() {
-        let line = line.split('#').next().unwrap();
-        let words: Vec<&str> = line.split_whitespace().collect();
-        match words.as_slice() {
-            ["periods", n] => periods = n.parse().unwrap(),
-            ["start", name] => start = name.to_string(),
-            ["rule", left, cost, "=", rest @ ..] => {
-                let left = number(&mut names, &mut known, left);
-                let split = rest
-                    .iter()
-                    .position(|w| ["len", "begin", "end"].contains(w))
-                    .unwrap_or(rest.len());
-                let right = rest[..split]
-                    .iter()
-                    .map(|w| match w.as_bytes() {
-                        [b'\'', byte, b'\''] => Sym::Code(*byte),
-                        _ => Sym::Name(number(&mut names, &mut known, w)),
-                    })
-                    .collect();
-                let mut windows = [(1, 96); 3];
-                for w in rest[split..].chunks(3) {
-                    let place = ["len", "begin", "end"].iter().position(|x| *x == w[0]).unwrap();
-                    windows[place] = (w[1].parse().unwrap(), w[2].parse().unwrap());
-                }
-                rules.push(Rule { left, cost: cost.parse().unwrap(), right, windows });
-            }
-            _ => {}
-        }
-    }
-    let start = known[&start];
-    Grammar { periods, names, rules, start }
-}
+use grammar::{Grammar, Layout, Slot, Sym, read};
 
 const NONE: i128 = i128::MAX;
-
-#[derive(Clone, Copy)]
-enum Slot {
-    OfName(usize),
-    OfSuffix(usize, usize),
-}
 
 struct Table<'a> {
     grammar: &'a Grammar,
     word: &'a [u8],
-    slots: Vec<Slot>,
-    names: Vec<usize>,
-    suffixes: Vec<usize>,
-    rules: Vec<Vec<usize>>,
+    layout: Layout,
     cells: Vec<i128>,
     ends: Vec<u128>,
     starts: Vec<u128>,
@@ -102,26 +33,26 @@ impl Table<'_> {
             Sym::Code(byte) => {
                 if len == 1 && self.word[start as usize - 1] == byte { 0 } else { NONE }
             }
-            Sym::Name(name) => self.cells[self.place(start, len) * self.slots.len() + self.names[name]],
+            Sym::Name(name) => self.cells[self.place(start, len) * self.layout.slots.len() + self.layout.names[name]],
         }
     }
 
     fn symbol_ends(&self, symbol: Sym, start: u8) -> u128 {
         match symbol {
             Sym::Code(_) => 1 << (start + 1),
-            Sym::Name(name) => self.ends[start as usize * self.slots.len() + self.names[name]],
+            Sym::Name(name) => self.ends[start as usize * self.layout.slots.len() + self.layout.names[name]],
         }
     }
 
     fn rest_starts(&self, rule: usize, from: usize, end: u8) -> u128 {
         let right = &self.grammar.rules[rule].right;
-        let row = end as usize * self.slots.len();
+        let row = end as usize * self.layout.slots.len();
         if from + 1 < right.len() {
-            return self.starts[row + self.suffixes[rule] + (from - 1)];
+            return self.starts[row + self.layout.suffixes[rule] + (from - 1)];
         }
         match right[from] {
             Sym::Code(_) => 1 << (end - 1),
-            Sym::Name(name) => self.starts[row + self.names[name]],
+            Sym::Name(name) => self.starts[row + self.layout.names[name]],
         }
     }
 
@@ -130,8 +61,8 @@ impl Table<'_> {
         if from + 1 == right.len() {
             self.symbol(right[from], start, len)
         } else {
-            let slot = self.suffixes[rule] + (from - 1);
-            self.cells[self.place(start, len) * self.slots.len() + slot]
+            let slot = self.layout.suffixes[rule] + (from - 1);
+            self.cells[self.place(start, len) * self.layout.slots.len() + slot]
         }
     }
 
@@ -154,7 +85,7 @@ impl Table<'_> {
 
     fn name(&self, name: usize, start: u8, len: u8) -> i128 {
         let mut best = NONE;
-        for &number in &self.rules[name] {
+        for &number in &self.layout.rules[name] {
             let rule = &self.grammar.rules[number];
             let [span, first, last] = rule.windows;
             let end = start + len - 1;
@@ -182,12 +113,12 @@ impl Table<'_> {
         let mut place = 0;
         for len in 1..=self.grammar.periods {
             for start in 1..=self.grammar.periods + 1 - len {
-                for slot in 0..self.slots.len() {
-                    let sum = match self.slots[slot] {
+                for slot in 0..self.layout.slots.len() {
+                    let sum = match self.layout.slots[slot] {
                         Slot::OfName(name) => self.name(name, start, len),
                         Slot::OfSuffix(rule, from) => self.split(rule, from, start, len),
                     };
-                    let width = self.slots.len();
+                    let width = self.layout.slots.len();
                     self.cells[place * width + slot] = sum;
                     if sum != NONE {
                         self.ends[start as usize * width + slot] |= 1 << (start + len);
@@ -200,22 +131,6 @@ impl Table<'_> {
     }
 }
 
-// The names, a one-symbol rule's right name before its left one.
-fn order(grammar: &Grammar) -> Vec<usize> {
-    let count = grammar.names.len();
-    let mut rank = vec![0; count];
-    for _ in 0..count {
-        for rule in &grammar.rules {
-            if let [Sym::Name(right)] = rule.right[..] {
-                rank[right] = rank[right].max(rank[rule.left] + 1);
-            }
-        }
-    }
-    let mut names: Vec<usize> = (0..count).collect();
-    names.sort_by_key(|name| usize::MAX - rank[*name]);
-    names
-}
-
 fn main() {
     let args: Vec<String> = std::env::args().collect();
     let text = std::fs::read_to_string(&args[1]).unwrap();
@@ -226,25 +141,11 @@ fn main() {
         println!("no derivation");
         return;
     }
-    let (mut slots, mut suffixes) = (Vec::new(), Vec::new());
-    for (number, rule) in grammar.rules.iter().enumerate() {
-        suffixes.push(slots.len());
-        for from in 1..rule.right.len().saturating_sub(1) {
-            slots.push(Slot::OfSuffix(number, from));
-        }
-    }
-    let mut names = vec![0; grammar.names.len()];
-    for name in order(&grammar) {
-        names[name] = slots.len();
-        slots.push(Slot::OfName(name));
-    }
-    let cells = vec![NONE; n * (n + 1) / 2 * slots.len()];
-    let rules = (0..grammar.names.len())
-        .map(|name| (0..grammar.rules.len()).filter(|rule| grammar.rules[*rule].left == name).collect())
-        .collect();
-    let ends = vec![0; (n + 2) * slots.len()];
+    let layout = Layout::new(&grammar);
+    let cells = vec![NONE; n * (n + 1) / 2 * layout.slots.len()];
+    let ends = vec![0; (n + 2) * layout.slots.len()];
     let starts = ends.clone();
-    let mut table = Table { grammar: &grammar, word, slots, names, suffixes, rules, cells, ends, starts };
+    let mut table = Table { grammar: &grammar, word, layout, cells, ends, starts };
     table.fill();
     match table.symbol(Sym::Name(grammar.start), 1, grammar.periods) {
         NONE => println!("no derivation"),
