@@ -1,10 +1,12 @@
-//! Worked rows of the checker and of its parts, as tests over public calls.
+//! Worked rows of the checker, of its parts and of its kernels over lanes, as tests over public calls.
 #![tactic(auto)]
 
 #[cfg(test)]
 mod chain_rows;
 #[cfg(test)]
 mod days;
+#[cfg(test)]
+mod lane_rows;
 #[cfg(test)]
 mod pinned_rows;
 #[cfg(test)]

@@ -8,7 +8,7 @@ use Rattle.linear_programs.proofs.Ring.{dif, dif_up, dif_add, dif_mul, dif_same,
 use borrow.Author.Differences.{up, down}
 use Rattle.fraction.specs.Range.{InRange}
 use Rattle.fraction.specs.Sum.{IsCommonForm, SumFits, DifferenceFits}
-use Rattle.fraction.proofs.Reduced.{gcd_positive}
+use Rattle.fraction.proofs.LowestTerms.{gcd_positive}
 
 -- a fact stands whatever the option is
 pub IfNone-any : {T : Type 0} (o : Option T) (P : Type 0) → P → IfNone o P

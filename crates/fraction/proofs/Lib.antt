@@ -2,8 +2,8 @@ pub mod Gcds
 pub mod Entries
 pub mod Rows
 pub mod Order
-pub mod Reduced
-pub mod Coprime
+pub mod LowestTerms
+pub mod CoprimeProducts
 pub mod Products
 pub mod CommonForms
 pub mod Inverses

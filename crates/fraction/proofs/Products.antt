@@ -7,7 +7,7 @@ use borrow.Author.Differences.{up, down}
 use lib.IntN.{*ℤ_comm}
 use Rattle.fraction.specs.Range.{InRange}
 use Rattle.fraction.specs.Fraction.{IsFraction}
-use Rattle.fraction.proofs.Coprime.{crosswise, only_form}
+use Rattle.fraction.proofs.CoprimeProducts.{crosswise, only_form}
 
 swap4' : (a a' b b' c c' d d' : ℕ) → (dif a a' *ℤ dif b b') *ℤ (dif c c' *ℤ dif d d') ≡ (dif a a' *ℤ dif c c') *ℤ (dif b b' *ℤ dif d d')
 swap4' a a' b b' c c' d d' = simp dif_mul (dif_same _ _ _ _ (omega arith))

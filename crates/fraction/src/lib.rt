@@ -25,6 +25,3 @@ pub use multiplication::{div, mul};
 pub use row::row_step;
 pub use tally::Tally;
 pub use wide::TooWide;
-
-#[cfg(test)]
-mod tests;

@@ -6,6 +6,3 @@ mod least;
 
 pub use counting::add_matches;
 pub use least::least_sum;
-
-#[cfg(test)]
-mod tests;

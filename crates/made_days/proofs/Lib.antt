@@ -1,4 +1,4 @@
-mod ByTests
 mod Draws
+mod ListTests
 mod MadeDay
 mod SoundDay

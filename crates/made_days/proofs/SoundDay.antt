@@ -19,7 +19,7 @@ use Rattle.roster_model.specs.SoundInstance.{IsSoundInstance}
 use Rattle.roster_model.specs.UnitRules.{IsRanked}
 use Rattle.made_days.specs.Draws.{draw, after}
 use Rattle.made_days.specs.Made.{made_codes, made_names, made_rules, made_grammar, asked, drawn, made_periods, made_cost, made_under, made_demands, made_instance}
-use Rattle.made_days.proofs.ByTests.{each_all, each_at, each_by, apart_at, in_order}
+use Rattle.made_days.proofs.ListTests.{each_all, each_at, each_by, apart_at, in_order}
 use Rattle.made_days.proofs.Draws.{answer_below}
 
 sound_codes : AreCodes made_codes

@@ -9,8 +9,6 @@ mod generator;
 mod laws;
 mod made;
 mod parts;
-#[cfg(test)]
-mod tests;
 
 pub use laws::each_day_is_sound;
 pub use made::make_instance;

@@ -4,8 +4,6 @@
 mod entry;
 mod leaf;
 mod queue;
-#[cfg(test)]
-mod tests;
 
 pub use leaf::{Kept, OpenLeaf, Plan};
 pub use queue::OpenNodes;

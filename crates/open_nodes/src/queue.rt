@@ -29,7 +29,8 @@ impl Model for OpenNodes {
 
     ghost view = { λ q. map (leaf_of q.kept) (heap_items q.heap) };
 
-    ghost invariant = { λ q. IsHeap ⟦<Entry as Ord>⟧.cmp (heap_items q.heap) × AreHeld (heap_items q.heap) q.kept };
+    ghost invariant = { λ q. IsHeap ⟦<Entry as Ord>⟧.cmp (heap_items q.heap)
+        × AreHeld (heap_items q.heap) q.kept };
 }
 
 impl OpenNodes {

@@ -1,15 +1,10 @@
 //! The program: the page of a certificate that it has checked itself.
 #![tactic(auto)]
 
-mod check;
-mod derived;
-mod draw;
-mod rows;
-mod run;
 #[cfg(test)]
 mod tests;
 
-use run::run;
+use page_command::run;
 use shelf::DiskShelf;
 use std::env;
 use std::io::ErrorKind;

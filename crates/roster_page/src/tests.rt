@@ -1,4 +1,4 @@
-use crate::run::run;
+use page_command::run;
 use shelf::MemoryShelf;
 use std::alloc::Global;
 use std::test::Fail;
@@ -131,8 +131,10 @@ fn has(text: &[u8], part: &str) -> bool {
     part.len() > 0 && text.windows(part.len()).any(|window| window == part)
 }
 
-// The words, the number of the call that fails or 0, the status, and with what begins what is said.
-const ENDS: [(&[&str], u32, u8, &str); 12] = [
+/// The words, the number of the call that fails or 0, the status, and with what begins what is said.
+type End<'a> = (&'a [&'a str], u32, u8, &'a str);
+
+const ENDS: [End<'static>; 12] = [
     (&["g1", "two"], 0, 2, "words: RULES DEMAND PROOF\n"),
     (
         &["check", "g1", "two", "best"],
@@ -182,19 +184,28 @@ const ENDS: [(&[&str], u32, u8, &str); 12] = [
     ),
 ];
 
+/// Whether a text may be said with the status: a whole page with 0, the line with 1 to 5, else no whole page.
+fn may_be_said(text: &[u8], status: u8, said: &str) -> bool {
+    let said = said.as_bytes();
+    match status {
+        0 => text.starts_with(said) && text.ends_with(b"</html>\n"),
+        1..=5 => text == said,
+        _ => text.starts_with(said) && !text.ends_with(b"</html>\n"),
+    }
+}
+
+/// Whether the program ends so on the words of a case.
+fn ends_so(alloc: Global, end: &End<'_>) -> Result<bool, Fail> {
+    let (words, failing, status, said) = *end;
+    let mut shelf = shelf(alloc, &[failing])?;
+    let found = answer(alloc, &mut shelf, words)?;
+    Ok(found == status && may_be_said(shelf.said(), status, said))
+}
+
 #[test]
 fn words_have_their_statuses(rt: HostRuntime) -> Result<(), Fail> {
-    let alloc = rt.alloc();
-    for (words, failing, status, said) in ENDS {
-        let mut shelf = shelf(alloc, &[failing])?;
-        let found = answer(alloc, &mut shelf, words)?;
-        assert_eq!(rt; found, status, "{words:?}");
-        assert!(rt; shelf.said().starts_with(said.as_bytes()), "{words:?}");
-        let is_whole = shelf.said().ends_with(b"</html>\n");
-        assert_eq!(rt; is_whole, status == 0, "{words:?}");
-        if status > 0 && status < 6 {
-            assert_eq!(rt; shelf.said(), said.as_bytes(), "{words:?}");
-        }
+    for end in &ENDS {
+        assert!(rt; ends_so(rt.alloc(), end)?, "{:?}", end.0);
     }
     Ok(())
 }
@@ -282,8 +293,10 @@ use 8 R 4 1\n\
 </body>\n\
 </html>\n";
 
-// Rules, demand and certificate, and what stands on the page.
-const PAGES: [(&str, &str, &str, &[&str]); 6] = [
+/// Rules, demand and certificate, and what stands on the page.
+type Page<'a> = (&'a str, &'a str, &'a str, &'a [&'a str]);
+
+const PAGES: [Page<'static>; 6] = [
     ("g1", "two", "best", &[BLOCKS]),
     (
         "g3",
@@ -383,16 +396,23 @@ use 1 S 2 95\n",
     ),
 ];
 
+/// Whether the parts stand on the page of three texts.
+fn shows(alloc: Global, shelf: &mut MemoryShelf, page: &Page<'_>) -> Result<bool, Fail> {
+    let (rules, demand, proof, parts) = *page;
+    let status = answer(alloc, shelf, &[rules, demand, proof])?;
+    Ok(status == 0 && parts.iter().all(|part| has(shelf.said(), part)))
+}
+
+/// Whether the page of a case is as it should be, on a shelf of its own.
+fn shows_alone(alloc: Global, page: &Page<'_>) -> Result<bool, Fail> {
+    let mut shelf = shelf(alloc, &[])?;
+    shows(alloc, &mut shelf, page)
+}
+
 #[test]
 fn pages_show_their_rosters(rt: HostRuntime) -> Result<(), Fail> {
-    let alloc = rt.alloc();
-    for (rules, demand, proof, parts) in PAGES {
-        let mut shelf = shelf(alloc, &[])?;
-        let status = answer(alloc, &mut shelf, &[rules, demand, proof])?;
-        assert_eq!(rt; status, 0, "{proof}");
-        for part in parts {
-            assert!(rt; has(shelf.said(), part), "{proof}: {part}");
-        }
+    for page in &PAGES {
+        assert!(rt; shows_alone(rt.alloc(), page)?, "{}", page.2);
     }
     Ok(())
 }
@@ -407,8 +427,17 @@ fn crowd(alloc: Global, count: u8) -> Result<String, Fail> {
     Ok(text)
 }
 
-// How many employees have the shift, and what stands on the page.
-const CROWDS: [(u8, &[&str]); 2] = [
+/// Puts the certificate of such a roster on the shelf.
+fn put_crowd(alloc: Global, shelf: &mut MemoryShelf, count: u8) -> Result<(), Fail> {
+    let text = crowd(alloc, count)?;
+    shelf.put("so_many", text.as_bytes())?;
+    Ok(())
+}
+
+/// How many employees have the shift, and what stands on the page.
+type Crowd<'a> = (u8, &'a [&'a str]);
+
+const CROWDS: [Crowd<'static>; 2] = [
     (
         40,
         &[
@@ -433,17 +462,18 @@ h='160' height='26'/>",
     ),
 ];
 
+/// Whether the page of a crowd is as it should be.
+fn shows_crowd(alloc: Global, crowd: &Crowd<'_>) -> Result<bool, Fail> {
+    let (count, parts) = *crowd;
+    let mut shelf = shelf(alloc, &[])?;
+    put_crowd(alloc, &mut shelf, count)?;
+    shows(alloc, &mut shelf, &("letter", "crowd", "so_many", parts))
+}
+
 #[test]
 fn equal_shifts_have_one_row_where_there_are_many(rt: HostRuntime) -> Result<(), Fail> {
-    let alloc = rt.alloc();
-    for (count, parts) in CROWDS {
-        let mut shelf = shelf(alloc, &[])?;
-        shelf.put("so_many", crowd(alloc, count)?.as_bytes())?;
-        let status = answer(alloc, &mut shelf, &["letter", "crowd", "so_many"])?;
-        assert_eq!(rt; status, 0, "{count}");
-        for part in parts {
-            assert!(rt; has(shelf.said(), part), "{count}: {part}");
-        }
+    for crowd in &CROWDS {
+        assert!(rt; shows_crowd(rt.alloc(), crowd)?, "{}", crowd.0);
     }
     Ok(())
 }

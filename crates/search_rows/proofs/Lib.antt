@@ -1,2 +1,2 @@
 pub mod ListedCuts
-pub mod Staffing
+pub mod StaffedDays

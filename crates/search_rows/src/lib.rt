@@ -1,7 +1,9 @@
-//! Worked rows of the master of a node, as tests over public calls.
+//! Worked rows of the master of a node and of the open leaves, as tests over public calls.
 #![tactic(auto)]
 
 #[cfg(test)]
 mod days;
+#[cfg(test)]
+mod leaves;
 #[cfg(test)]
 mod masters;

@@ -3,8 +3,6 @@
 
 #[cfg(test)]
 mod check_tests;
-mod form;
-mod run;
 #[cfg(test)]
 mod runs;
 #[cfg(test)]
@@ -15,7 +13,7 @@ mod tests;
 mod texts;
 
 use branch_price::PlainMaster;
-use run::run;
+use command_line::run;
 use shelf::DiskShelf;
 use std::env;
 use std::io::ErrorKind;

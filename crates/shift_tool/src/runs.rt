@@ -1,8 +1,8 @@
 //! Runs of the program over shelves in memory, and transcripts of what it answers.
 
-use crate::run::run;
 use crate::texts::TEXTS;
 use branch_price::PlainMaster;
+use command_line::run;
 use shelf::MemoryShelf;
 use std::alloc::{AllocError, Global};
 use std::test::Fail;

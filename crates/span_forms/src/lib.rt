@@ -8,6 +8,3 @@ mod stand;
 pub use index::SpanIndex;
 pub use laws::places_differ;
 pub use stand::may_stand;
-
-#[cfg(test)]
-mod tests;

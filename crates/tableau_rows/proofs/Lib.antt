@@ -1,2 +1,2 @@
 mod SoundTables
-mod Further
+mod NumbersBelow

@@ -1,7 +1,9 @@
-//! Worked rows of the simplex method, of the rows of a master and of its rounded prices, as tests over
+//! Worked rows of fractions, of the simplex method, of the rows of a master and of its rounded prices, as tests over
 //! public calls.
 #![tactic(auto)]
 
+#[cfg(test)]
+mod fractions;
 #[cfg(test)]
 mod listed;
 #[cfg(test)]

@@ -8,7 +8,7 @@ use Rattle.text_lines.specs.declared.number.NumberFault.{NumberFault}
 use Rattle.text_lines.specs.declared.number.NumberFault.TheVariants.{Form, Wide}
 use Rattle.text_lines.specs.Numbers.{natural_of}
 use Rattle.text_lines.specs.Fields.{in_range, number_at}
-use Rattle.text_lines.proofs.Again.{natural_again}
+use Rattle.text_lines.proofs.NumbersLemmas.{natural_again}
 use Rattle.text_lines.proofs.ListLemmas.{at_least}
 use Rattle.text_lines.proofs.StepsLemmas.{passed, same_ok}
 

@@ -14,8 +14,6 @@ mod line;
 mod lines;
 mod number;
 mod scan;
-#[cfg(test)]
-mod tests;
 mod within;
 mod words;
 

@@ -1,8 +1,10 @@
-//! Worked rows of the texts, as tests over public calls: rules, demand and proof texts, and reports.
+//! Worked rows of the texts, as tests over public calls: lines and numbers, rules, demand and proof texts, and reports.
 #![tactic(auto)]
 
 #[cfg(test)]
 mod demand_tests;
+#[cfg(test)]
+mod line_tests;
 #[cfg(test)]
 mod proof_tests;
 #[cfg(test)]

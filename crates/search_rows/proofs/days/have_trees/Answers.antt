@@ -1,5 +1,5 @@
 use Rattle.std.proofs.Common.{◌≤◌, length, refl, arith, ap}
-use Rattle.search_rows.proofs.Staffing.{trees-next, trees-all}
+use Rattle.search_rows.proofs.StaffedDays.{trees-next, trees-all}
 use Rattle.search_rows.proofs.days.have_trees.Goals as goal
 
 pub loop-group-preserved : goal.loop-group-preserved

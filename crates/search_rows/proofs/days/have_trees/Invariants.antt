@@ -1,4 +1,4 @@
-use Rattle.search_rows.proofs.Staffing.{TreesBefore}
+use Rattle.search_rows.proofs.StaffedDays.{TreesBefore}
 use Rattle.search_rows.proofs.days.have_trees.Given as goal
 
 abbrev pub invariant-loop-group : goal.invariant-loop-group

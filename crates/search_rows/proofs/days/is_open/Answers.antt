@@ -1,5 +1,5 @@
 use Rattle.std.proofs.Common.{refl}
-use Rattle.search_rows.proofs.Staffing.{not-plainly}
+use Rattle.search_rows.proofs.StaffedDays.{not-plainly}
 use Rattle.search_rows.proofs.days.is_open.Goals as goal
 
 pub returns-clause-busy : goal.returns-clause-busy

@@ -4,7 +4,7 @@ use Rattle.std.proofs.lemmas.Option.{slice_get_read}
 use Rattle.linear_programs.specs.Program.{reduced}
 use Rattle.fraction.specs.Row.{at}
 use Rattle.tableau_rows.specs.Tables.{column_of}
-use Rattle.tableau_rows.proofs.Further.{further}
+use Rattle.tableau_rows.proofs.NumbersBelow.{further}
 use Rattle.tableau_rows.proofs.reduced.find_cheaper.Goals as goal
 
 pub loop-place-preserved : goal.loop-place-preserved

@@ -1,0 +1,98 @@
+ghost use Rattle.std.specs.Prelude.{[], map, string_bytes};
+ghost use Rattle.command_line.specs.Form.{form_of, AnswersNoForm};
+ghost use Rattle.command_line.specs.OneAnswer.{HasOneAnswer};
+ghost use Rattle.command_line.specs.Run.{Does};
+ghost use Rattle.text_commands.specs.Reader.{IsReader};
+ghost use Rattle.search_commands.specs.Solve.{lent};
+
+use crate::form::{Form, form_of};
+use branch_price::Master;
+use search_commands::curve::curve;
+use search_commands::make::make;
+use search_commands::reuse::reuse;
+use search_commands::solve::solve;
+use shelf::Shelf;
+use std::alloc::Global;
+use text_commands::check::check;
+use text_commands::explain::explain;
+use text_commands::fits::fits;
+use text_commands::next::next;
+use text_commands::rank::rank;
+use text_commands::say::say;
+
+const NO_FORM: &[u8] = b"words: none of the forms\n";
+
+// Says that the words have no form.
+fn refuse_words<S: Shelf>(shelf: &mut S) -> u8
+    ensures { IsReader AnswersNoForm [] (S.told shelf.old) (S.told shelf.new) result }
+{
+    say(shelf, NO_FORM, 2)
+}
+
+/// Does what the words of the command line ask for, and returns the status:
+///
+/// | status | comes |
+/// |---|---|
+/// | 0 | `explain RULES WORD`: the word is a shift; `rank RULES MOST`: the day has a tree; `next RULES PREFIX`: some code may follow the prefix; `fits RULES PATTERN`: a shift fits; `check RULES DEMAND PROOF`: the certificate is accepted; `reuse RULES DEMAND PROOF`: its nodes show a bound on this day; `solve RULES DEMAND PROOF TURNS` and `make NUMBER PROOF TURNS`: a roster was found, and no allowed roster costs less; `curve RULES DEMAND PROOF TURNS`: so it is for some head count, and every point is closed |
+/// | 1 | `explain`: the word is no shift; `rank`: the day has no tree; `next`: no code may follow; `fits`: no shift fits; `check`: the certificate is refused; `reuse`: its nodes are; `solve`: no roster is allowed; `curve`: none is for any head count |
+/// | 2 | the words are none of the command's forms |
+/// | 3 | the rules text is refused |
+/// | 4 | `check`, `reuse`, `solve`, `curve`: the demand text is refused; `curve`: the day has groups |
+/// | 5 | `check`, `reuse`: the proof text is refused |
+/// | 6 | the shelf refused a call |
+/// | 7 | memory did not suffice |
+/// | 8 | `solve`, `make`: the turns ran out before the bound was the cost; `curve`: so they did for some head count |
+/// | 9 | `solve`, `curve`, `make`: the instance has more than 100,000 arcs |
+///
+/// TURNS is a number from 1 to 10,000, MOST one from 1 to 1,000, and NUMBER one from 0 to 4,294,967,295. In
+/// PATTERN `#` stands for any code. A command says its whole
+/// answer at once; `solve` and `make` have stored the certificate under PROOF before, and `curve` those of its
+/// points under PROOF, a full stop and the head count. Status 6 or 7 ends it
+/// at the call that was refused. But for these two the same texts always have the same status, and the same
+/// text is said, save that `explain` may print another tree of the same cost, and that a search may use up
+/// its turns or find another roster of least cost.
+pub fn run<S: Shelf, M: Master>(
+    alloc: Global,
+    shelf: &mut S,
+    words: &[String],
+    master: &mut M,
+) -> u8
+    ensures does { Does (form_of (map string_bytes words.now)) (S.told shelf.old) (S.told shelf.new)
+        (lent (M.strict master.old) (M.refused master.old) (M.refused master.new)) result }
+    ensures one_answer { HasOneAnswer (form_of (map string_bytes words.now)) }
+{
+    match form_of(words) {
+        Form::Explain { rules, word } => explain(alloc, shelf, rules, word),
+        Form::Rank { rules, most } => rank(alloc, shelf, rules, most),
+        Form::Next { rules, prefix } => next(alloc, shelf, rules, prefix),
+        Form::Fits { rules, pattern } => fits(alloc, shelf, rules, pattern),
+        Form::Check {
+            rules,
+            demand,
+            proof,
+        } => check(alloc, shelf, rules, demand, proof),
+        Form::Reuse {
+            rules,
+            demand,
+            proof,
+        } => reuse(alloc, shelf, rules, demand, proof),
+        Form::Solve {
+            rules,
+            demand,
+            proof,
+            turns,
+        } => solve(alloc, shelf, rules, demand, proof, turns, master),
+        Form::Curve {
+            rules,
+            demand,
+            proof,
+            turns,
+        } => curve(alloc, shelf, rules, demand, proof, turns, master),
+        Form::Make {
+            number,
+            proof,
+            turns,
+        } => make(alloc, shelf, number, proof, turns, master),
+        Form::None => refuse_words(shelf),
+    }
+}

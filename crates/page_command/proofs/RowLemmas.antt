@@ -1,0 +1,49 @@
+-- Rows and derivations, one after another.
+use Rattle.std.proofs.Common.{◌≡◌, ℕ, suc, ◌+◌, ◌<◌, List, [], ◌∷◌, ◌++◌, length, length-append, take, get_or, arith, refl, sym, ap, ◌∙◌, append-nil, add-one}
+use Rattle.std.proofs.lemmas.Grind.{flat_map-append}
+use Rattle.std.proofs.lemmas.List.{take_more}
+use Rattle.std.specs.List.{flat_map}
+use Rattle.std.specs.Prelude.{None, Some, slice_get}
+use Rattle.page_parts.specs.Elements.{places}
+use Rattle.roster_model.specs.declared.grammar.Grammar.{Grammar}
+use Rattle.roster_model.specs.declared.instance.Instance.{Instance}
+use Rattle.roster_model.specs.declared.instance.Shift.{Shift}
+use Rattle.page_text.specs.declared.row.Row.{Row}
+use Rattle.page_command.specs.Rows.{AreDerived, IsDerived, own_row, rows_at}
+
+-- the rows behind so many shifts, where there is a shift and where there is none
+pub row-there : (i : Instance) (shifts : List Shift) (k : ℕ) (s : Shift) → slice_get shifts k ≡ Some s → own_row i shifts k s ≡ rows_at i shifts k
+row-there i shifts k s e = rw (e, rows_at) refl
+
+pub row-past : (i : Instance) (shifts : List Shift) (k : ℕ) (rows : List Row) → slice_get shifts k ≡ None → rows ≡ rows ++ rows_at i shifts k
+row-past i shifts k rows e = rw (e, rows_at) (sym (append-nil rows))
+
+-- one more place
+pub rows_more : (f : ℕ → List Row) (n : ℕ) (before after : List Row) → before ≡ flat_map f (places n) → after ≡ before ++ f n → after ≡ flat_map f (places (n + 1))
+rows_more f n before after e h =
+    rw (add-one n) (h ∙ ap (λ (t : List Row). t ++ f n) e ∙ ap (λ (t : List Row). flat_map f (places n) ++ t) (sym (append-nil (f n))) ∙ sym (flat_map-append f (places n) (n ∷ [])))
+
+-- one more text
+pub count_more : (before after : List (List ℕ)) (text : List ℕ) (k : ℕ) → length before ≡ k → after ≡ before ++ text ∷ [] → length after ≡ k + 1
+count_more before after text k h e = rw e (omega (arith, h, length-append before (text ∷ [])))
+
+module _ (i : Instance) (g : Grammar) where
+  push : (rows : List Row) (texts : List (List ℕ)) (row : Row) (text : List ℕ) → AreDerived i g rows texts → IsDerived i g row text → AreDerived i g (rows ++ row ∷ []) (texts ++ text ∷ [])
+  push [] [] row text h d = (d, tt)
+  push [] (t ∷ ts) row text h d = absurd h
+  push (r ∷ rs) [] row text h d = absurd h
+  push (r ∷ rs) (t ∷ ts) row text h d = (h.0, push rs ts row text h.1 d)
+
+  -- one more row
+  pub derived_more : (rows : List Row) (k : ℕ) (none : Row) (before after : List (List ℕ)) (text : List ℕ) → k < length rows → AreDerived i g (take k rows) before → IsDerived i g (get_or rows k none) text
+      → after ≡ before ++ text ∷ [] → AreDerived i g (take (k + 1) rows) after
+  derived_more rows k none before after text lt h d e =
+      let pushed = push (take k rows) before (get_or rows k none) text h d in
+      rw (e, take_more rows k none lt) pushed
+
+  -- there is a text for each row
+  pub as_many : (rows : List Row) (texts : List (List ℕ)) → AreDerived i g rows texts → length texts ≡ length rows
+  as_many [] [] h = refl
+  as_many [] (t ∷ ts) h = absurd h
+  as_many (r ∷ rs) [] h = absurd h
+  as_many (r ∷ rs) (t ∷ ts) h = ap suc (as_many rs ts h.1)

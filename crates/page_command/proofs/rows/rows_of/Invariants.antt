@@ -1,0 +1,11 @@
+use Rattle.std.proofs.Common.{◌≡◌, ◌≤◌, length}
+use Rattle.std.specs.List.{flat_map}
+use Rattle.page_parts.specs.Elements.{places}
+use Rattle.page_command.specs.Rows.{rows_at}
+use Rattle.page_command.proofs.rows.rows_of.Given as goal
+
+abbrev pub invariant-loop-place : goal.invariant-loop-place
+invariant-loop-place l = record {
+  rows : l.rows ≡ flat_map (rows_at l.instance l.shifts) (places l.place);
+  few : length l.rows ≤ l.place;
+}
