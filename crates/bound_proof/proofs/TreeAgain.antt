@@ -11,14 +11,15 @@ use Rattle.roster_model.specs.declared.instance.Instance.{Instance}
 use Rattle.roster_model.specs.declared.instance.Mult.{Mult}
 use Rattle.roster_model.specs.declared.instance.Prices.{Prices}
 use Rattle.roster_model.specs.Folds.{Each}
-use Rattle.roster_model.specs.PriceLimits.{IsMult, AreRising, FitPrices}
+use Rattle.roster_model.specs.PriceLimits.{IsMult, AreRising, FitPrices, nonzero}
+use Rattle.roster_model.proofs.Mults.{nonzero-all}
 use Rattle.roster_model.specs.SoundInstance.{IsSoundInstance}
 use Rattle.roster_model.specs.Sums.{Within}
 use Rattle.certificates.specs.declared.cert.Node.{Node}
 use Rattle.certificates.specs.declared.cert.Node.TheVariants as of
 use Rattle.certificates.specs.Nodes.{Proof, split, priced, pinned, bare, preorder}
 use Rattle.certificates.specs.Sound.{IsSoundNode, ListNoZero, NoneIsZero}
-use Rattle.certificates.proofs.Rising.{all_each}
+use Rattle.certificates.proofs.WalksLemmas.{all_each}
 use Rattle.proof_pieces.specs.declared.node.NodeLine.{NodeLine}
 use Rattle.proof_pieces.specs.declared.node.NodeLine.TheVariants.{Split, Priced}
 use Rattle.proof_pieces.specs.Ahead.{NoMult}
@@ -113,12 +114,13 @@ module _ (i : Instance) (h : NodeLine) (p : Place) where
       let least : 0 < n = omega (arith, s.grammar.some_period) in
       let lines : length pr.cell / n ≡ w.lines = ap (λ (m : ℕ). m / n) made ∙ mul-div_cancel w.lines least in
       let whole : length pr.cell ≡ length pr.cell / n * n = made ∙ ap (λ (m : ℕ). m * n) (sym lines) in
+      let all : nonzero pr.mult ≡ length pr.mult = nonzero-all pr.mult some in
       let are : Each (IsMult (cut_count i p)) pr.mult = all_each (IsMult (cut_count i p)) pr.mult (rw e at fit.mults) in
       let ls : List (List (List ℕ)) = price_lines i 0 (length pr.cell / n) pr.cell in
       let behind : Items = numbered (k + length ls) (map mult_words pr.mult) ++ rest in
       ap (pieces_from i (block h [] []) p) (numbered-then k ls (map mult_words pr.mult) rest)
       ∙ prices_read k 0 (length pr.cell / n) [] pr.cell behind refl whole (omega (arith, fit.cells)) (omega arith) (all_each (Within (2 ^ 80)) pr.cell fit.each)
-      ∙ mults_read (k + length ls) pr.cell [] pr.mult rest fit.cells small (omega (arith, fit.few)) are some fit.rising (above_none pr.mult are)
+      ∙ mults_read (k + length ls) pr.cell [] pr.mult rest fit.cells small (omega (arith, all, fit.few)) are some fit.rising (above_none pr.mult are)
       ∙ block_done i h p pr.cell pr.mult rest fit.cells other
 
 has_line : (i : Instance) (cuts : List Cut) (x : Node) → IsSoundNode i cuts x → HasLine i x

@@ -13,13 +13,13 @@ use Rattle.roster_model.specs.declared.instance.Prices.{Prices}
 use Rattle.roster_model.specs.Agreement.{Agree}
 use Rattle.roster_model.specs.Arcs.{Letter, IsArc, same_arc, rule_cost}
 use Rattle.roster_model.specs.Coverage.{is_at}
-use Rattle.roster_model.specs.PriceLimits.{IsMult, AreRising, FitPrices}
+use Rattle.roster_model.specs.PriceLimits.{IsMult, AreRising, FitPrices, nonzero}
 use Rattle.roster_model.specs.Reduced.{cell_prices, cut_prices, signed, letter_price, arc_price, reduced_view}
 use Rattle.roster_model.specs.Sound.{IsSound}
 use Rattle.roster_model.specs.Sums.{Within, AtMost, tree_sum}
 use Rattle.roster_model.specs.Trees.{IsDayTree}
 use Rattle.roster_model.proofs.Agreed.{tree_same}
-use Rattle.tree_laws.proofs.Least.{IsLeast-sums}
+use Rattle.tree_laws.proofs.LeastValues.{IsLeast-sums}
 use Rattle.bound_laws.specs.Lagrangian.{IsLeastReduced}
 use Rattle.bound_laws.proofs.ReducedCosts.{reduced-cost}
 use Rattle.branch_price.specs.Infeasible.{ArePlain, IsPlainLeast}
@@ -96,7 +96,7 @@ plain-fit i p cuts h = record {
   small = let e = h.one in omega arith;
   cells = h.each;
   each = All-weaker (λ (z : ℤ). z ≡ pos 0) (Within (2 ^ 80)) (λ z e. record { low = omega (arith, ints, e); high = omega (arith, ints, e) }) p.cell h.zero;
-  few = let e = ap (λ (ms : List Mult). length ms) h.none in omega (arith, e);
+  few = let e = ap nonzero h.none in omega (arith, e);
   mults = subst (λ (ms : List Mult). All (IsMult (length cuts)) ms) (sym h.none) (All-nil (IsMult (length cuts)));
   rising = subst (λ (ms : List Mult). AreRising ms) (sym h.none) tt;
 }

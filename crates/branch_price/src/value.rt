@@ -1,4 +1,6 @@
-ghost use Rattle.std.specs.Prelude.{◌≤◌, ◌≡◌, All, length};
+ghost use Rattle.std.specs.Prelude.{◌≤◌, ◌≡◌, pos, ◌<ℤ◌, All, length};
+ghost use Rattle.roster_model.specs.declared.instance.Mult.{Mult as Multiplier};
+ghost use Rattle.roster_model.specs.Folds.{Each};
 ghost use Rattle.roster_model.specs.PriceLimits.{FitPrices};
 ghost use Rattle.roster_model.specs.SoundInstance.{IsSoundInstance};
 ghost use Rattle.bound_laws.specs.Priced.{IsPricedValue};
@@ -25,6 +27,7 @@ pub(crate) fn shown_value(
     requires pricing { ArePricing instance.now graph.now pricing.old }
     requires told { TellsDerived instance.now.grammar derives.now }
     requires fit { FitPrices instance.now prices.now.d prices.now.cell prices.now.mult cuts.now }
+    requires positive { Each (λ (m : Multiplier). pos 0 <ℤ m.value) prices.now.mult }
     requires small { All (λ c. c.b ≤ 63) cuts.now }
     ensures value { IsPricedValue instance.now prices.now cuts.now result }
     ensures pricing { ArePricing instance.now graph.now pricing.new }

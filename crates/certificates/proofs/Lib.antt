@@ -1,4 +1,4 @@
-pub mod Unique
-pub mod Rising
-pub mod Joined
+pub mod OneTree
+pub mod WalksLemmas
+pub mod JoinedLists
 pub mod Forests

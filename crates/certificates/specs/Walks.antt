@@ -1,7 +1,7 @@
 -- Certificates' numbers and nodes as a walk without memory meets them.
 use Rattle.std.specs.Prelude.{ℕ, ℤ, ◌≡◌, ◌<◌, ◌≤◌, ◌^◌, All, List, [], ◌∷◌, length}
 use Rattle.roster_model.specs.declared.instance.Mult.{Mult}
-use Rattle.roster_model.specs.PriceLimits.{IsMult}
+use Rattle.roster_model.specs.PriceLimits.{IsMult, nonzero}
 use Rattle.roster_model.specs.Sums.{Within}
 
 -- the numbers of the cuts rise, from one above the last
@@ -16,8 +16,8 @@ pub record HasPrices (cells d : ℕ) (cell : List ℤ) : Type 0 where
   pub whole : length cell ≡ cells
   pub each : All (Within (2 ^ 80)) cell
 
--- multipliers of so many cuts
+-- multipliers of so many cuts, at most 1,500 of them not 0
 pub record HasMults (cuts : ℕ) (mult : List Mult) : Type 0 where
-  pub few : length mult ≤ 1500
+  pub few : nonzero mult ≤ 1500
   pub each : All (IsMult cuts) mult
   pub rising : RisesFrom 0 mult

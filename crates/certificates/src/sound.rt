@@ -1,7 +1,7 @@
-ghost use Rattle.std.specs.Prelude.{◌≡◌, ◌≤◌, ◌≤ℤ◌, ◌^◌, pos, ◌↔◌, All, IsTrue, IfSome, length, List as Items};
+ghost use Rattle.std.specs.Prelude.{◌≡◌, ◌≤◌, ◌≤ℤ◌, ◌^◌, pos, ◌↔◌, All, IsTrue, IfSome, count_by, length, List as Items};
 ghost use Rattle.roster_model.specs.declared.instance.Cut.{Cut};
 ghost use Rattle.roster_model.specs.Folds.{Each};
-ghost use Rattle.roster_model.specs.PriceLimits.{IsMult, FitPrices};
+ghost use Rattle.roster_model.specs.PriceLimits.{IsMult, FitPrices, is_nonzero};
 ghost use Rattle.roster_model.specs.SoundInstance.{IsSoundInstance};
 ghost use Rattle.roster_model.specs.Sums.{Within};
 ghost use Rattle.certificates.specs.Sound.{most_cost, most_rule, IsKey, IsWordByte, IsGroupNumber, IsSoundShift, ListNoZero, NoneIsZero, IsSoundCert};
@@ -145,7 +145,7 @@ fn is_in_day(number: u8) -> bool
 
 /// Returns whether the prices are within the limits, one for each cell, with multipliers by rising
 /// numbers of cuts, of which there are so many.
-#[tactic(auto, using(crate::proofs::Rising::fit))]
+#[tactic(auto, using(crate::proofs::WalksLemmas::fit))]
 pub(crate) fn are_fit(instance: &Instance, cuts: usize, prices: &Prices) -> bool
     ensures { (path : Items Cut) → length path ≡ cuts
         → (IsTrue result ↔ FitPrices instance.now prices.now.d prices.now.cell prices.now.mult path) }
@@ -169,12 +169,22 @@ fn is_price(price: i128) -> bool
     -MOST_PRICE <= price && price <= MOST_PRICE
 }
 
+/// Returns how many of the multipliers are not 0.
+fn count_nonzero(mult: &[Mult]) -> usize
+    ensures { result ≡ count_by is_nonzero mult.now }
+{
+    mult.iter().filter(|m| m.value != 0).count()
+}
+
 /// Returns whether the multipliers are in their range, by rising numbers of cuts.
+#[tactic(auto, using(crate::proofs::WalksLemmas::nonzero_counted))]
 fn are_mults(prices: &Prices, cuts: usize) -> bool
     ensures { IsTrue result ↔ HasMults cuts prices.now.mult }
 {
     let mult = prices.mult.as_slice();
-    mult.len() <= MOST_MULTIPLIERS && mult.iter().all(|m| is_mult(m, cuts)) && are_rising(mult)
+    count_nonzero(mult) <= MOST_MULTIPLIERS
+        && mult.iter().all(|m| is_mult(m, cuts))
+        && are_rising(mult)
 }
 
 fn is_mult(mult: &Mult, cuts: usize) -> bool

@@ -1,11 +1,11 @@
 ghost use Rattle.std.specs.Prelude.{◌≡◌, IfOk};
 ghost use Rattle.roster_model.specs.Sound.{IsSound};
-ghost use Rattle.parse_graph.specs.Graphs.{IsGraph};
+ghost use Rattle.parse_graph.specs.Graphs.{HasGrammar, IsGraph};
 ghost use Rattle.sample_days.specs.RestAndWork.{rest_and_work};
 
 use grammar_core::normalise;
 use parse_graph::{Graph, GraphFault};
-use roster_model::{Grammar, Memory};
+use roster_model::{Grammar, Memory, is_sound};
 use sample_days::{BLOCK_NAMES, BLOCKS, PAIRS, grammar};
 use std::alloc::Global;
 use std::test::Fail;
@@ -29,6 +29,24 @@ pub fn build(alloc: Global, grammar: &Grammar) -> Result<Graph, GraphFault>
 {
     let normal = normalise(alloc, grammar)?;
     Graph::build(alloc, grammar, &normal)
+}
+
+/// Returns the graph of a grammar, if it is sound.
+pub fn sound_graph(alloc: Global, grammar: &Grammar) -> Result<Graph, Fail>
+    ensures { IfOk result HasGrammar }
+{
+    if is_sound(grammar) {
+        return graph_of(alloc, grammar);
+    }
+    Err(Fail::from("no sound grammar"))
+}
+
+/// Returns the graph of three words of three letters.
+pub fn words_graph(alloc: Global) -> Result<Graph, Fail>
+    ensures { IfOk result HasGrammar }
+{
+    let grammar = three_words(alloc)?;
+    sound_graph(alloc, &grammar)
 }
 
 /// Returns the graph of a sound grammar.

@@ -1,6 +1,6 @@
 ghost use Rattle.std.specs.Prelude.{◌<◌, IfSome, length};
 
-use crate::days::{build, graph_of, one_block, three_words};
+use crate::days::{build, one_block, sound_graph, words_graph};
 use parse_graph::{Graph, GraphFault, Kid};
 use roster_model::{ArcKey, Grammar, Memory, Sym, is_sound};
 use sample_days::{ANY, RuleParts, WORK, grammar};
@@ -73,21 +73,8 @@ fn is_top(graph: &Graph, arc: &ArcKey, letter: Kid) -> bool {
     graph.root() == Some(graph.made_by(top)) && first == letter && is_used_once(graph, rest, top)
 }
 
-/// Returns the graph of a grammar, if it is sound.
-fn sound_graph(alloc: Global, grammar: &Grammar) -> Result<Graph, Fail> {
-    if is_sound(grammar) {
-        return graph_of(alloc, grammar);
-    }
-    Err(Fail::from("no sound grammar"))
-}
-
 fn block_graph(alloc: Global) -> Result<Graph, Fail> {
     let grammar = one_block(alloc)?;
-    sound_graph(alloc, &grammar)
-}
-
-fn words_graph(alloc: Global) -> Result<Graph, Fail> {
-    let grammar = three_words(alloc)?;
     sound_graph(alloc, &grammar)
 }
 

@@ -1,5 +1,5 @@
 ghost use Rattle.std.specs.Prelude.{◌≡◌, ◌≤◌, ◌<◌, ◌+◌, ◌^◌, All, IsTrue, IfOk, length};
-ghost use Rattle.roster_model.specs.PriceLimits.{FitPrices, IsMult, AreRising};
+ghost use Rattle.roster_model.specs.PriceLimits.{FitPrices, IsMult, AreRising, nonzero};
 ghost use Rattle.roster_model.specs.PriceRooms.{IsRoomFor};
 ghost use Rattle.roster_model.specs.SoundInstance.{IsSoundInstance};
 ghost use Rattle.roster_model.specs.Sound.{IsSound};
@@ -73,6 +73,7 @@ fn are_few(mult: &[Mult]) -> bool
 fn is_alone(mult: &[Mult]) -> bool
     ensures rising { IsTrue result → AreRising mult.now }
     ensures few { IsTrue result → length mult.now ≤ 1 }
+    ensures nonzero { IsTrue result → nonzero mult.now ≤ 1 }
 {
     are_few(mult)
 }

@@ -1,23 +1,12 @@
-ghost use Rattle.std.specs.Prelude.{◌≡◌, IfOk, length};
+ghost use Rattle.std.specs.Prelude.{◌≡◌, length};
 ghost use Rattle.parse_graph.specs.Graphs.{HasGrammar};
 
-use crate::days::{graph_of, three_words};
+use crate::days::words_graph;
 use parse_graph::Graph;
-use roster_model::{List, Step, is_sound};
+use roster_model::{List, Step};
 use roster_split::{SplitFault, split};
 use std::alloc::Global;
 use std::test::Fail;
-
-/// The graph of three words of three letters.
-fn words_graph(alloc: Global) -> Result<Graph, Fail>
-    ensures { IfOk result HasGrammar }
-{
-    let grammar = three_words(alloc)?;
-    if is_sound(&grammar) {
-        return graph_of(alloc, &grammar);
-    }
-    Err(Fail::from("no sound grammar"))
-}
 
 /// Counts of the arcs: these two for the arcs of the second rule, and 0 for the others.
 fn counts_of(alloc: Global, graph: &Graph, whole: u32, rest: u32) -> Result<List<u32>, Fail> {

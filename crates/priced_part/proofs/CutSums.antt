@@ -1,6 +1,8 @@
 -- The sum over the cuts, by the listed multipliers one after another.
-use Rattle.std.proofs.Common.{◌≡◌, ◌≢◌, ℕ, zero, suc, ◌+◌, ◌-◌, ◌<◌, ◌≤◌, inl, inr, List, [], ◌∷◌, length, get_or, drop, subst, refl, ap, ◌∙◌, arith, Some}
-use Rattle.std.specs.Prelude.{ℤ, pos, ◌+ℤ◌, slice_get}
+use Rattle.std.proofs.Common.{◌≡◌, ◌≢◌, ℕ, zero, suc, ◌+◌, ◌-◌, ◌*◌, ◌<◌, ◌≤◌, inl, inr, Bool, true, false, cond, List, [], ◌∷◌, length, get_or, drop, subst, refl, ap, ◌∙◌, arith, Some}
+use Rattle.std.specs.Prelude.{ℤ, pos, ◌+ℤ◌, not, slice_get}
+use Rattle.std.specs.Ordering.{int_eq}
+use Rattle.std.specs.Cmp.{signed_Decides}
 use Rattle.std.proofs.lemmas.Int.{ints}
 use Rattle.std.proofs.lemmas.List.{at_drop_more, at_drop_all}
 use Rattle.std.proofs.lemmas.Option.{same_Some, none-some}
@@ -10,8 +12,10 @@ use Rattle.roster_model.specs.declared.instance.Mult.{Mult}
 use Rattle.roster_model.specs.declared.instance.Side.{Side}
 use Rattle.roster_model.specs.declared.instance.Side.TheVariants.{Low, High}
 use Rattle.roster_model.specs.Folds.{Each, sum_z}
-use Rattle.roster_model.specs.PriceLimits.{AreRising}
+use Rattle.roster_model.specs.PriceLimits.{AreRising, Lacks}
 use Rattle.roster_model.specs.Reduced.{mult_of, cut_prices}
+use Rattle.roster_model.specs.Sums.{Within}
+use Rattle.roster_model.proofs.Mults.{lacked}
 use Rattle.bound_laws.specs.Lagrangian.{share_of, cut_share}
 
 abbrev cuts_sum : ℕ → List Cut → List Mult → ℤ
@@ -21,16 +25,13 @@ no_share : (s : Side) (b : ℕ) → share_of s (pos 0) b ≡ pos 0
 no_share Low b = omega (arith, ints)
 no_share High b = omega (arith, ints)
 
--- no multiplier of the cut stands further on
-abbrev Lacks : ℕ → List Mult → Type 0
-Lacks j ms = Each (λ (m : Mult). m.cut ≢ j) ms
-
-lacked : (j : ℕ) (ms : List Mult) → Lacks j ms → mult_of ms j ≡ pos 0
-lacked j [] h = refl
-lacked j (m ∷ ms) h = elim (eqb_tells m.cut j) [
-  | inl p ↦ absurd (h.0 p.1)
-  | inr p ↦ rw p.0 (lacked j ms h.1)
-]
+-- what a cut brings is 0 where its multiplier is 0
+pub share-within : (s : Side) (z : ℤ) (b n : ℕ) → Within n (share_of s z b) → Within (n * cond (not (int_eq z (pos 0))) 1 0) (share_of s z b)
+share-within s z b n w = by (int_eq z (pos 0)) (signed_Decides z (pos 0)).0
+  where
+    by : (t : Bool) → (t ≡ true → z ≡ pos 0) → Within (n * cond (not t) 1 0) (share_of s z b)
+    by true is = rw (is refl) (let e = no_share s b in record { low = omega (arith, ints, e); high = omega (arith, ints, e) })
+    by false is = record { low = omega (arith, ints, w.low); high = omega (arith, ints, w.high) }
 
 none : (j : ℕ) (cs : List Cut) → cuts_sum j cs [] ≡ pos 0
 none j [] = refl

@@ -1,9 +1,9 @@
-pub mod Searching
+pub mod ListSearch
 pub mod UnstaffableTeams
 pub mod Penalties
 pub mod LeastCounts
 pub mod CellSums
 pub mod CutSums
-pub mod Reducing
-pub mod Rounding
+pub mod LeastReduced
+pub mod WholeCosts
 pub mod DerivedNames

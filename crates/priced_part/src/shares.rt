@@ -2,7 +2,7 @@ ghost use Rattle.std.specs.Prelude.{◌≡◌, ◌≤◌, ◌*◌, ◌^◌, ◌*
 ghost use Rattle.roster_model.specs.Coverage.{penalty};
 ghost use Rattle.roster_model.specs.Folds.{sum_z};
 ghost use Rattle.roster_model.specs.Limits.{IsLimitedCell};
-ghost use Rattle.roster_model.specs.PriceLimits.{IsMult, AreRising, FitPrices};
+ghost use Rattle.roster_model.specs.PriceLimits.{IsMult, AreRising, FitPrices, nonzero};
 ghost use Rattle.roster_model.specs.Reduced.{cell_prices, cut_prices};
 ghost use Rattle.roster_model.specs.SoundInstance.{IsSoundInstance};
 ghost use Rattle.roster_model.specs.Sums.{Within};
@@ -109,12 +109,12 @@ fn share_of(cut: &Cut, mult: i128) -> i128
 
 /// Returns the sum of the cuts' shares, of which those without a multiplier are 0.
 fn cuts_share(mult: &[Mult], cuts: &[Cut]) -> i128
-    requires few { length mult.now ≤ 1500 }
+    requires few { nonzero mult.now ≤ 1500 }
     requires mults { All (IsMult (length cuts.now)) mult.now }
     requires rising { AreRising mult.now }
     requires small { All (λ c. c.b ≤ 63) cuts.now }
     ensures value { result ≡ sum_z cut_share (cut_prices 1 cuts.now mult.now) }
-    ensures within { Within (2 ^ 87 * length mult.now) result }
+    ensures within { Within (2 ^ 87 * nonzero mult.now) result }
 {
     let mut sum = 0;
     for m in mult {

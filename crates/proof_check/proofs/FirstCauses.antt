@@ -12,7 +12,7 @@ use Rattle.certificates.specs.RosterCauses.{IsFirstOutside}
 use Rattle.certificate_laws.specs.Accepted.{IsStated, bound_number, Accepts}
 use Rattle.certificate_laws.specs.Causes.{Cause, cause_number, stated_bound, IsFirstCause}
 use Rattle.certificate_laws.specs.Shown.{Shows}
-use Rattle.certificate_laws.proofs.Refused.{no-shift-refused, mispriced-refused, heads-refused, cost-refused, no-arc-cause, half-cause, pinned-cause, above-cause}
+use Rattle.certificate_laws.proofs.NoCause.{no-shift-refused, mispriced-refused, heads-refused, cost-refused, no-arc-cause, half-cause, pinned-cause, above-cause}
 use Rattle.roster_part.specs.Faults.{IsRosterCause, HasNoOtherWord, HasNoOtherPrice, HasNoOtherHeads}
 use Rattle.proof_check.specs.Verdicts.{HasRightRoster, IsCoverageRight, States}
 use Rattle.proof_check.specs.Walked.{AreOnArcs, LeaveBoth, AreTight, IsVisitsCause}

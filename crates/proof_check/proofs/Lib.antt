@@ -3,9 +3,9 @@ pub mod Paths
 pub mod BaseCuts
 pub mod Firsts
 pub mod VisitCauses
-pub mod Closing
+pub mod StacksLemmas
 pub mod NextNodes
 pub mod FirstCauses
-pub mod Walking
-pub mod Deciding
-pub mod Judging
+pub mod StepsLemmas
+pub mod VerdictsLemmas
+pub mod JudgingLemmas

@@ -12,7 +12,7 @@ use Rattle.proof_check.specs.OpenSplits.{path, ValueAfter, VisitsAfter, ValueNex
 use Rattle.proof_check.proofs.OpenSplitsLemmas.{value-split, value-leaf, visits-split, visits-leaf}
 use Rattle.proof_pieces.specs.PieceList.{after_leaf}
 use Rattle.proof_check.specs.Stacks.{StackView, AreSmall, halves_of}
-use Rattle.proof_check.proofs.Closing.{small-more}
+use Rattle.proof_check.proofs.StacksLemmas.{small-more}
 use Rattle.proof_check.specs.Steps.{way, halves_after, MayFollow, IsShown}
 
 -- a leaf ends halves

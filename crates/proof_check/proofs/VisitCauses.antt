@@ -1,13 +1,13 @@
 -- The first cause among the nodes so far, once one more node is seen.
 use Rattle.std.proofs.Common.{◌≡◌, ℕ, arith, ◌+◌, Option, None, Some, List, [], ◌∷◌, ◌++◌, length}
 use Rattle.roster_model.specs.declared.instance.Instance.{Instance}
-use Rattle.arc_laws.proofs.Folding.{Each-same, Each-append}
+use Rattle.arc_laws.proofs.FoldsLemmas.{Each-same, Each-append}
 use Rattle.certificates.specs.declared.why.Why.{Why}
 use Rattle.certificates.specs.declared.why.Why.TheVariants.{NotAShift, ShiftCost, WrongHeads, WrongCost, NotAnArc, EmptyHalf, NotPinned, BoundTooHigh, Outside}
 use Rattle.certificates.specs.Nodes.{Visit}
 use Rattle.certificates.specs.NodeCauses.{SplitsNoArc, HasEmptyHalf, IsFirstNoArc, IsFirstEmptyHalf, IsFirstUnpinned}
 use Rattle.certificate_laws.specs.Accepted.{IsOnArc, LeavesBoth, IsTight}
-use Rattle.certificate_laws.proofs.Refused.{no-arc-refused, empty-half-refused, unpinned-refused}
+use Rattle.certificate_laws.proofs.NoCause.{no-arc-refused, empty-half-refused, unpinned-refused}
 use Rattle.proof_check.specs.Walked.{IsVisitCause, AreOnArcs, LeaveBoth, AreTight, IsVisitsCause, lesser_cause}
 use Rattle.proof_check.proofs.Firsts.{first-stays, first-added}
 

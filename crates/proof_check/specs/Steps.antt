@@ -7,7 +7,7 @@ use Rattle.certificates.specs.declared.cert.Node.{Node}
 use Rattle.certificates.specs.declared.cert.Node.TheVariants.{Split, Priced, Pinned, Bare}
 use Rattle.certificates.specs.declared.why.Why.{Why}
 use Rattle.certificates.specs.Nodes.{Proof, preorder, Visit, visits}
-use Rattle.certificates.specs.Sound.{IsSoundNode}
+use Rattle.certificates.specs.Sound.{IsSoundNode, NoneIsZero}
 use Rattle.proof_check.specs.OpenSplits.{path, LeadsTo, MakeVisits, ValueNext, VisitsNext}
 use Rattle.proof_check.specs.Rooms.{AreTablesFor, AreRoomsFor}
 use Rattle.proof_check.specs.declared.walker.Walker.{Walker}
@@ -30,11 +30,13 @@ way s = path s.base s.splits
 abbrev pub next_visit : StackView → Node → Visit
 next_visit s node = record { path = way s; node = node }
 
--- the node may come next: one more split may be open, and the node is sound on its path
+-- the node may come next: one more split may be open, and the node is sound on its path and lists no
+-- multiplier of 0
 pub record MayFollow (i : Instance) (s : StackView) (node : Node) : Type 0 where
   pub room : length s.splits < s.most
   pub small : AreSmall (way s)
   pub sound : IsSoundNode i (way s) node
+  pub listed : NoneIsZero node
 
 -- the halves that are open after a node: a split opens its Low half, and a leaf ends the halves of
 -- which it is the last node

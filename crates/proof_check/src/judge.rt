@@ -3,7 +3,7 @@ ghost use Rattle.roster_model.specs.Folds.{Each};
 ghost use Rattle.roster_model.specs.SoundInstance.{IsSoundInstance};
 ghost use Rattle.certificates.specs.declared.cert.Cert.{Cert as Stated};
 ghost use Rattle.certificates.specs.Nodes.{Proof};
-ghost use Rattle.certificates.specs.Sound.{IsSoundCert, IsSoundProof, IsSoundShift};
+ghost use Rattle.certificates.specs.Sound.{IsSoundCert, IsSoundProof, IsSoundShift, NoneIsZero};
 ghost use Rattle.certificate_laws.specs.Causes.{IsFirstCause};
 ghost use Rattle.roster_part.specs.Faults.{IsCoverageCause};
 ghost use Rattle.proof_check.specs.Steps.{IsWalkerFor};
@@ -23,6 +23,7 @@ impl Walker {
         requires sound { IsSoundInstance instance.now }
         requires walker { IsWalkerFor instance.now self.old }
         requires proof { (p : Proof) × IsSoundProof instance.now nodes.now p }
+        requires listed { Each NoneIsZero nodes.now }
         requires room { length nodes.now ≤ self.old.stack.most }
         ensures walked { IsWalked instance.now nodes.now result }
         ensures walker { IsWalkerFor instance.now self.new }

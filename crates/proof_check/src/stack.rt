@@ -32,9 +32,11 @@ impl Model for Stack {
 
     ghost Value = { StackView };
 
-    ghost view = { λ s. record { base = take s.base s.path.items; splits = reverse s.frames.items; most = s.most } };
+    ghost view = { λ s. record
+        { base = take s.base s.path.items; splits = reverse s.frames.items; most = s.most } };
 
-    ghost invariant = { λ s. IsStack s.base s.most s.frames.items s.path.items (vec_capacity s.frames) (vec_capacity s.path) };
+    ghost invariant = { λ s. IsStack s.base s.most s.frames.items s.path.items (vec_capacity s.frames)
+        (vec_capacity s.path) };
 }
 
 /// Returns what a split shows whose halves show this at least.

@@ -1,7 +1,7 @@
 ghost use Rattle.std.specs.Prelude.{◌≡◌, ◌≤◌, ◌<◌, Option, IfOk, IfSome, IsTrue, length};
 ghost use Rattle.roster_model.specs.SoundInstance.{IsSoundInstance};
 ghost use Rattle.roster_model.specs.declared.instance.Prices.{Prices as NodePrices};
-ghost use Rattle.certificates.specs.Sound.{AreFit, IsSoundNode};
+ghost use Rattle.certificates.specs.Sound.{AreFit, IsSoundNode, ListNoZero, NoneIsZero};
 ghost use Rattle.bound_laws.specs.Priced.{IsPricedValue};
 ghost use Rattle.proof_check.specs.OpenSplits.{IsLeaf, IsLeafValue, IsOwnValue};
 ghost use Rattle.proof_check.specs.Steps.{IsWalkerFor, way, next_visit, MayFollow, IsShown, IsStep};
@@ -56,6 +56,7 @@ impl Walker {
         requires sound { IsSoundInstance instance.now }
         requires walker { IsWalkerFor instance.now self.old }
         requires fit { AreFit instance.now (way self.old.stack) (prices_of prices.now) }
+        requires listed { ListNoZero (prices_of prices.now) }
         requires small { AreSmall (way self.old.stack) }
         ensures value { IsPricedValue instance.now (prices_of prices.now) (way self.old.stack) result }
         ensures walker { IsWalkerFor instance.now self.new }
@@ -82,6 +83,7 @@ impl Walker {
         requires sound { IsSoundInstance instance.now }
         requires walker { IsWalkerFor instance.now self.old }
         requires fit { IfSome (own_prices prices.now) (AreFit instance.now (way self.old.stack)) }
+        requires listed { IfSome (own_prices prices.now) ListNoZero }
         requires small { AreSmall (way self.old.stack) }
         ensures value { IsTrue is_right → IsOwnValue instance.now (way self.old.stack) (own_prices prices.now)
             result }
@@ -100,6 +102,7 @@ impl Walker {
         requires walker { IsWalkerFor instance.now self.old }
         requires leaf { IsLeaf (node_of leaf.now) }
         requires fit { IsSoundNode instance.now (way self.old.stack) (node_of leaf.now) }
+        requires listed { NoneIsZero (node_of leaf.now) }
         requires small { AreSmall (way self.old.stack) }
         ensures value { IsTrue is_right → IsLeafValue instance.now (way self.old.stack) (node_of leaf.now)
             result }

@@ -8,11 +8,12 @@ use Rattle.roster_model.specs.declared.instance.Cut.{Cut}
 use Rattle.roster_model.specs.declared.instance.Instance.{Instance}
 use Rattle.roster_model.specs.declared.instance.Mult.{Mult}
 use Rattle.roster_model.specs.Folds.{Each}
-use Rattle.roster_model.specs.PriceLimits.{IsMult, AreRising, FitPrices}
+use Rattle.roster_model.specs.PriceLimits.{IsMult, AreRising, FitPrices, nonzero}
+use Rattle.roster_model.proofs.Mults.{nonzero-le}
 use Rattle.roster_model.specs.SoundInstance.{IsSoundInstance}
 use Rattle.roster_model.specs.Sums.{Within}
 use Rattle.text_lines.specs.Steps.{each}
-use Rattle.certificates.proofs.Rising.{each_all}
+use Rattle.certificates.proofs.WalksLemmas.{each_all}
 use Rattle.proof_pieces.specs.Fields.{number_at, signed_at}
 use Rattle.proof_pieces.specs.PriceLines.{due_byte, price_step, price_line, mult_cut, last_cut, mult_of, mult_line}
 use Rattle.proof_pieces.proofs.FieldsKept.{IsDenominator, signed_within}
@@ -122,7 +123,7 @@ block_fits i cuts n d cs ms e b all den = record {
   small = den.1;
   cells = omega (arith, b.whole.within);
   each = each_all (Within (2 ^ 80)) cs b.each;
-  few = b.few;
+  few = let few = nonzero-le ms in omega (arith, few, b.few);
   mults = rw e (each_all (IsMult n) ms b.mults);
   rising = b.rising;
 }

@@ -217,11 +217,11 @@ pub record IsAdded (old new : List Bool) (xs ys : List ArcPrice) (e : ArcPrice) 
   pub value : (a : ArcKey) → listed_price ys a ≡ listed_price xs a +ℤ entry_price a e
   pub sorted : AreSorted ys
   pub marked : AreMarked new ys
-  pub small : (n : ℕ) → All (IsEntryWithin n) xs → All (IsEntryWithin (n + 2 ^ 80)) ys
+  pub small : (n k : ℕ) → All (IsEntryWithin n) xs → IsEntryWithin k e → All (IsEntryWithin (n + k)) ys
   pub long : length ys ≤ length xs + 1
 
 module _ (old new : List Bool) (xs ys : List ArcPrice) (n : ℕ) (e d : ArcPrice) (sorted : AreSorted xs) (marks : AreMarked old xs)
-    (kept : (k : ℕ) → slice_get new k ≡ Some false → slice_get old k ≡ Some false) (own : IsEntryWithin (2 ^ 80) e) where
+    (kept : (k : ℕ) → slice_get new k ≡ Some false → slice_get old k ≡ Some false) where
   pub added-to : n < length xs → same_arc (get_or xs n d).arc e.arc ≡ true → ys ≡ set xs n (raised (get_or xs n d) e.price) → IsAdded old new xs ys e
   added-to l same is = record {
     value = λ a.
@@ -229,9 +229,9 @@ module _ (old new : List Bool) (xs ys : List ArcPrice) (n : ℕ) (e d : ArcPrice
         ∙ ap (λ (b : ArcKey). listed_price xs a +ℤ cond (same_arc b a) e.price (pos 0)) (same-arc (get_or xs n d).arc e.arc same);
     sorted = rw is (sorted-raised xs n d e.price l sorted);
     marked = rw is (All-set (IsMarked new) xs n (raised (get_or xs n d) e.price) (record { marked = (still n d l).marked }) (still-marked old new xs kept marks));
-    small = λ m all. rw is (All-set (IsEntryWithin (m + 2 ^ 80)) xs n (raised (get_or xs n d) e.price)
-        (raised-within m (2 ^ 80) (m + 2 ^ 80) (get_or xs n d) e.price refl (all n d l).price own.price)
-        (entries-wider m (m + 2 ^ 80) xs (omega arith) all));
+    small = λ m k all own. rw is (All-set (IsEntryWithin (m + k)) xs n (raised (get_or xs n d) e.price)
+        (raised-within m k (m + k) (get_or xs n d) e.price refl (all n d l).price own.price)
+        (entries-wider m (m + k) xs (omega arith) all));
     long = omega (arith, ap length is, length-set xs n (raised (get_or xs n d) e.price));
   }
     where
@@ -244,7 +244,7 @@ module _ (old new : List Bool) (xs ys : List ArcPrice) (n : ℕ) (e d : ArcPrice
     value = λ a. ap (λ (zs : List ArcPrice). listed_price zs a) is ∙ listed-insert xs n e a;
     sorted = rw is (sorted-insert xs n e sorted h apart);
     marked = rw is (All-insert (IsMarked new) xs n e (still-marked old new xs kept marks) (record { marked = mark }));
-    small = λ m all. rw is (All-insert (IsEntryWithin (m + 2 ^ 80)) xs n e (entries-wider m (m + 2 ^ 80) xs (omega arith) all)
-        (record { price = wider (2 ^ 80) (m + 2 ^ 80) e.price (omega arith) own.price }));
+    small = λ m k all own. rw is (All-insert (IsEntryWithin (m + k)) xs n e (entries-wider m (m + k) xs (omega arith) all)
+        (record { price = wider k (m + k) e.price (omega arith) own.price }));
     long = omega (arith, ap length is, length-insert xs n e h.within);
   }

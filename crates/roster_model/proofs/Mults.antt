@@ -1,8 +1,10 @@
 -- What the listed multipliers make of the price of an arc.
-use Rattle.std.proofs.Common.{◌≡◌, ℕ, zero, suc, ◌+◌, ◌-◌, ◌<◌, ◌≤◌, inl, inr, Bool, true, false, cond, List, [], ◌∷◌, length, get_or, drop, subst, refl, sym, ap, ◌∙◌, arith, Some}
-use Rattle.std.specs.Prelude.{ℤ, pos, neg_ℤ, ◌+ℤ◌, slice_get}
+use Rattle.std.proofs.Common.{◌≡◌, ℕ, zero, suc, ◌+◌, ◌-◌, ◌*◌, ◌^◌, ◌<◌, ◌≤◌, inl, inr, Bool, true, false, cond, List, [], ◌∷◌, ◌++◌, length, get_or, drop, take, subst, refl, sym, ap, ◌∙◌, arith, Some}
+use Rattle.std.specs.Prelude.{ℤ, pos, neg_ℤ, ◌+ℤ◌, ◌≤ℤ◌, not, slice_get}
+use Rattle.std.specs.Ordering.{int_eq}
+use Rattle.std.specs.Cmp.{signed_Decides}
 use Rattle.std.proofs.lemmas.Int.{ints}
-use Rattle.std.proofs.lemmas.List.{at_drop_more, at_drop_all}
+use Rattle.std.proofs.lemmas.List.{at_drop_more, at_drop_all, take_more}
 use Rattle.std.proofs.lemmas.Option.{same_Some, none-some}
 use Rattle.std.proofs.lemmas.Bool.Decides.{eqb_tells}
 use Rattle.roster_model.specs.declared.grammar.ArcKey.{ArcKey}
@@ -13,9 +15,10 @@ use Rattle.roster_model.specs.declared.instance.Side.TheVariants.{Low, High}
 use Rattle.roster_model.specs.declared.arc_prices.ArcPrice.{ArcPrice}
 use Rattle.roster_model.specs.Arcs.{same_arc}
 use Rattle.roster_model.specs.Folds.{Each}
-use Rattle.roster_model.specs.PriceLimits.{AreRising, Lacks}
+use Rattle.roster_model.specs.PriceLimits.{AreRising, Lacks, is_nonzero, nonzero}
 use Rattle.roster_model.specs.RoomPrices.{entry_price, listed_price}
 use Rattle.roster_model.specs.Reduced.{CutPrice, mult_of, cut_prices, cuts_paid, signed, arc_price}
+use Rattle.roster_model.specs.Sums.{Within}
 
 -- what a cut with this multiplier adds to the price of the arc
 abbrev pub cut_share : ArcKey → Cut → ℤ → ℤ
@@ -138,3 +141,49 @@ pub paid-all : (cuts : List Cut) (prices : List ℤ) (k : ℕ) (xs : List ArcPri
 paid-all cuts prices k xs l h a =
     let rest : arc_price (cuts_paid (drop k cuts) (drop k prices)) a ≡ pos 0 = at_drop_all (λ (cs : List Cut). arc_price (cuts_paid cs (drop k prices)) a) cuts k l in
     omega (arith, ints, h a, rest)
+
+-- ---- how many multipliers are not 0
+
+at-most-one : (b : Bool) → cond b 1 0 ≤ 1
+at-most-one true = omega arith
+at-most-one false = omega arith
+
+pub nonzero-le : (ms : List Mult) → nonzero ms ≤ length ms
+nonzero-le [] = omega arith
+nonzero-le (m ∷ ms) = let e = at-most-one (is_nonzero m) in let f = nonzero-le ms in omega (arith, e, f)
+
+pub nonzero-take : (k : ℕ) (ms : List Mult) → nonzero (take k ms) ≤ nonzero ms
+nonzero-take zero ms = omega arith
+nonzero-take (suc k) [] = omega arith
+nonzero-take (suc k) (m ∷ ms) = let e = nonzero-take k ms in omega (arith, e)
+
+nonzero-put : (ms : List Mult) (x : Mult) → nonzero (ms ++ x ∷ []) ≡ nonzero ms + cond (is_nonzero x) 1 0
+nonzero-put [] x = omega arith
+nonzero-put (m ∷ ms) x = let e = nonzero-put ms x in omega (arith, e)
+
+pub nonzero-more : (ms : List Mult) (k : ℕ) (d : Mult) → k < length ms → nonzero (take (k + 1) ms) ≡ nonzero (take k ms) + cond (is_nonzero (get_or ms k d)) 1 0
+nonzero-more ms k d l = ap nonzero (take_more ms k d l) ∙ nonzero-put (take k ms) (get_or ms k d)
+
+signed-within : (s : Side) (z : ℤ) (n : ℕ) → pos 0 ≤ℤ z → z ≤ℤ pos n → Within n (signed s z)
+signed-within Low z n l h = record { low = omega (arith, ints, l, h); high = omega (arith, ints, l, h) }
+signed-within High z n l h = record { low = omega (arith, ints, l, h); high = omega (arith, ints, l, h) }
+
+-- what a multiplier adds is 0 where it is 0
+pub share-within : (s : Side) (z : ℤ) (n : ℕ) → pos 0 ≤ℤ z → z ≤ℤ pos n → Within (n * cond (not (int_eq z (pos 0))) 1 0) (signed s z)
+share-within s z n l h = by (int_eq z (pos 0)) (signed_Decides z (pos 0)).0
+  where
+    by : (b : Bool) → (b ≡ true → z ≡ pos 0) → Within (n * cond (not b) 1 0) (signed s z)
+    by true is = let e = is refl in signed-within s z (n * 0) l (omega (arith, ints, e))
+    by false is = signed-within s z (n * 1) l (omega (arith, ints, h))
+
+counts : (z : ℤ) → pos 1 ≤ℤ z → ◌≡◌ {A = ℕ} (cond (not (int_eq z (pos 0))) 1 0) 1
+counts z l = by (int_eq z (pos 0)) (signed_Decides z (pos 0)).0
+  where
+    by : (b : Bool) → (b ≡ true → z ≡ pos 0) → ◌≡◌ {A = ℕ} (cond (not b) 1 0) 1
+    by true is = let e = is refl in absurd (omega (arith, ints, l, e))
+    by false is = refl
+
+-- each multiplier counts where none is 0
+pub nonzero-all : (ms : List Mult) → Each (λ (m : Mult). pos 1 ≤ℤ m.value) ms → nonzero ms ≡ length ms
+nonzero-all [] h = refl
+nonzero-all (m ∷ ms) h = let e = counts m.value h.0 in let f = nonzero-all ms h.1 in omega (arith, e, f)

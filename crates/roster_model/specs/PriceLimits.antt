@@ -1,9 +1,10 @@
 -- Prices that fit an instance and a path of cuts.
-use Rattle.std.specs.Prelude.{ℕ, ℤ, pos, ◌≡◌, ◌≢◌, ◌≤◌, ◌<◌, ◌≤ℤ◌, ◌^◌, List, [], ◌∷◌, All, length}
+use Rattle.std.specs.Prelude.{ℕ, ℤ, pos, ◌≡◌, ◌≢◌, ◌≤◌, ◌<◌, ◌≤ℤ◌, ◌^◌, Bool, not, List, [], ◌∷◌, All, length}
+use Rattle.std.specs.Ordering.{int_eq}
 use Rattle.roster_model.specs.declared.instance.Cut.{Cut}
 use Rattle.roster_model.specs.declared.instance.Instance.{Instance}
 use Rattle.roster_model.specs.declared.instance.Mult.{Mult}
-use Rattle.roster_model.specs.Folds.{Each}
+use Rattle.roster_model.specs.Folds.{count, Each}
 use Rattle.roster_model.specs.Sums.{Within}
 
 -- a multiplier of one of the cuts, 0 to 2^80
@@ -12,6 +13,14 @@ pub record IsMult (cuts : ℕ) (m : Mult) : Type 0 where
   pub last : m.cut ≤ cuts
   pub least : pos 0 ≤ℤ m.value
   pub most : m.value ≤ℤ pos (2 ^ 80)
+
+-- the multiplier is not 0
+abbrev pub is_nonzero : Mult → Bool
+is_nonzero m = not (int_eq m.value (pos 0))
+
+-- how many of the multipliers are not 0
+abbrev pub nonzero : List Mult → ℕ
+nonzero ms = count is_nonzero ms
 
 -- the numbers of the cuts rise
 abbrev pub AreRising : List Mult → Type 0
@@ -25,7 +34,7 @@ pub record FitPrices (i : Instance) (d : ℕ) (cell : List ℤ) (mult : List Mul
   pub small : d ≤ 2 ^ 30
   pub cells : length cell ≡ length i.cells
   pub each : All (Within (2 ^ 80)) cell
-  pub few : length mult ≤ 1500
+  pub few : nonzero mult ≤ 1500
   pub mults : All (IsMult (length cuts)) mult
   pub rising : AreRising mult
 

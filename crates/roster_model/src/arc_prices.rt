@@ -26,7 +26,7 @@ ghost use Rattle.std.specs.Prelude.{
 ghost use Rattle.std.specs.List.{insert};
 ghost use Rattle.roster_model.specs.ArcEntries.{is_before, mark_place, AreSorted, AreMarked, IsEntryWithin, IsSearched, raised};
 ghost use Rattle.roster_model.specs.Arcs.{same_arc};
-ghost use Rattle.roster_model.specs.PriceLimits.{IsMult, AreRising};
+ghost use Rattle.roster_model.specs.PriceLimits.{IsMult, AreRising, nonzero};
 ghost use Rattle.roster_model.specs.Reduced.{signed, cut_prices, cuts_paid, arc_price};
 ghost use Rattle.roster_model.specs.RoomPrices.{entry_price, listed_price};
 ghost use Rattle.roster_model.specs.Sums.{Within};
@@ -153,7 +153,7 @@ pub(crate) fn set_arcs(
     cuts: &[Cut],
 )
     requires room { length mult.now ≤ vec_capacity entries.old }
-    requires few { length mult.now ≤ 65536 }
+    requires few { nonzero mult.now ≤ 65536 }
     requires mults { All (IsMult (length cuts.now)) mult.now }
     requires rising { AreRising mult.now }
     ensures value { (a : ArcKey) → listed_price entries.new.items a
@@ -207,8 +207,8 @@ fn add(entries: &mut Vec<ArcPrice>, marks: &mut Vec<bool>, entry: ArcPrice)
         ≡ listed_price entries.old.items a +ℤ entry_price a entry }
     ensures sorted { AreSorted entries.new.items }
     ensures marked { AreMarked marks.new.items entries.new.items }
-    ensures small { (n : ℕ) → All (IsEntryWithin n) entries.old.items
-        → All (IsEntryWithin (n + 2 ^ 80)) entries.new.items }
+    ensures small { (n k : ℕ) → All (IsEntryWithin n) entries.old.items → IsEntryWithin k entry
+        → All (IsEntryWithin (n + k)) entries.new.items }
     ensures length { length entries.new.items ≤ length entries.old.items + 1 }
     ensures capacity { vec_capacity entries.old ≤ vec_capacity entries.new }
 {
@@ -240,7 +240,8 @@ fn raise(entries: &mut Vec<ArcPrice>, place: usize, entry: &ArcPrice)
     requires small { All (IsEntryWithin (2 ^ 96)) entries.old.items }
     requires within { IsEntryWithin (2 ^ 80) entry.now }
     ensures items { (d : ArcPrice) → entries.new.items
-        ≡ slice_set entries.old.items place (raised (slice_index_or entries.old.items place d) entry.now.price) }
+        ≡ slice_set entries.old.items place
+        (raised (slice_index_or entries.old.items place d) entry.now.price) }
     ensures capacity { vec_capacity entries.old ≤ vec_capacity entries.new }
 {
     let sum = sum_of(&entries[place], entry);

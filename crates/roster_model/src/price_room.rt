@@ -93,8 +93,8 @@ impl PriceRoom {
     }
 
     /// Holds the prices that these parts make: a denominator of 1 to 2^30, a price for each cell
-    /// within plus or minus 2^80, and at most 1,500 multipliers of cuts, each 0 to 2^80, by rising
-    /// numbers of cuts. Takes no memory.
+    /// within plus or minus 2^80, and multipliers of cuts, each 0 to 2^80 and at most 1,500 of them not
+    /// 0, by rising numbers of cuts. Takes no memory.
     pub fn set_parts(
         &mut self,
         instance: &Instance,
@@ -208,5 +208,6 @@ impl LetterPrice for PriceRoom {
         }
     }
 
-    ghost all_within = { λ s. view-small s.periods s.letters.items s.rules.items s.arcs.items s.small_letters s.small_rules s.sorted_arcs s.small_arcs };
+    ghost all_within = { λ s. view-small s.periods s.letters.items s.rules.items s.arcs.items s.small_letters
+        s.small_rules s.sorted_arcs s.small_arcs };
 }

@@ -1,7 +1,13 @@
+use Rattle.std.proofs.Common.{arith, pos}
+use Rattle.std.specs.Prelude.{◌≤ℤ◌, ◌<ℤ◌}
+use Rattle.std.proofs.lemmas.Int.{ints}
+use Rattle.roster_model.specs.declared.instance.Mult.{Mult}
 use Rattle.roster_model.specs.declared.instance.Prices.{Prices}
 use Rattle.roster_model.specs.PriceRooms.{price_view}
 use Rattle.roster_model.proofs.RoomWithin.{room-within}
-use Rattle.priced_part.proofs.Reducing.{least-reduced, least-small}
+use Rattle.roster_model.proofs.Mults.{nonzero-all}
+use Rattle.arc_laws.proofs.FoldsLemmas.{Each-same}
+use Rattle.priced_part.proofs.LeastReduced.{least-reduced, least-small}
 use Rattle.branch_price.proofs.value.shown_value.Goals as goal
 
 pub value_from_least-requires-clause-least : goal.value_from_least-requires-clause-least
@@ -16,3 +22,9 @@ value_from_least-requires-clause-within c =
     let g = c.args.instance.now.grammar in
     least-small g c.requires.sound.grammar (price_view c.set_parts.new.self) (room-within c.set_parts.new.self) c.cheapest-least.result
     (c.cheapest-least.ensures.least g c.requires.sound.grammar c.requires.graph)
+
+pub set_parts-requires-clause-few : goal.set_parts-requires-clause-few
+set_parts-requires-clause-few c =
+    let listed = Each-same (λ (m : Mult). pos 0 <ℤ m.value) (λ (m : Mult). pos 1 ≤ℤ m.value) c.args.prices.now.mult (λ m h. omega (arith, ints, h)) c.requires.positive in
+    let all = nonzero-all c.args.prices.now.mult listed in
+    rw c.as_slice-mult.ensures (omega (arith, all, c.requires.fit.few, c.requires.pricing.most))

@@ -1,4 +1,4 @@
-use Rattle.certificates.proofs.Unique.{same_start}
+use Rattle.certificates.proofs.OneTree.{same_start}
 use Rattle.certificates.proofs.laws.one_tree.Goals as goal
 
 pub returns : goal.returns

@@ -1,5 +1,5 @@
 use Rattle.std.proofs.Common.{refl}
-use Rattle.certificates.proofs.Rising.{fit}
+use Rattle.certificates.proofs.WalksLemmas.{fit}
 use Rattle.certificates.proofs.sound.are_fit.Goals as goal
 
 pub returns-then-are_prices : goal.returns-then-are_prices

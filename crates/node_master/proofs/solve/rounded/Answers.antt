@@ -1,5 +1,6 @@
 use Rattle.std.proofs.Common.{◌≡◌, ◌∙◌, arith, rules, to_z, of_z, refl, take}
 use mir.Syntax.{w128}
+use Rattle.roster_model.proofs.Mults.{nonzero-le}
 use Rattle.master_laws.specs.Rounding.{cell_lines, line_sums}
 use Rattle.master_laws.proofs.Signs.{cuts_signed}
 use Rattle.fraction.specs.Row.{at}
@@ -45,7 +46,8 @@ returns-in-Ok-clause-fit c =
     let cells = c.in-Ok.ensures.cells in
     let mults = c.in-Ok.ensures.mults in
     let short = c.in-Ok.ensures.few in
-    record { positive = d.0; small = d.1; cells = cells.0 ∙ c.len-cells.ensures; each = cells.1; few = omega (arith, short, few); mults = mults.0; rising = mults.1 }
+    let less = nonzero-le c.in-Ok.prices.mult in
+    record { positive = d.0; small = d.1; cells = cells.0 ∙ c.len-cells.ensures; each = cells.1; few = omega (arith, less, short, few); mults = mults.0; rising = mults.1 }
 
 pub returns-in-Err-clause-tally : goal.returns-in-Err-clause-tally
 returns-in-Err-clause-tally c =

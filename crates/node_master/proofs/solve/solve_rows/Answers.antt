@@ -5,7 +5,7 @@ use Rattle.tableau.specs.Ends.{IsLpEnd}
 use Rattle.master_laws.specs.Rows.{rows_of}
 use Rattle.master_laws.specs.Master.{MasterKey, missing, master}
 use Rattle.master_laws.proofs.RowSums.{master_sound}
-use Rattle.master_laws.proofs.Small.{small}
+use Rattle.master_laws.proofs.RowSizes.{small}
 use Rattle.node_master.specs.declared.desk.Kind.{Kind}
 use Rattle.node_master.specs.Columns.{NodeSite, HasKey, IsKey, site_program}
 use Rattle.node_master.proofs.EndsLemmas.{given_up, best_end, basics_below, small_path, narrow_end, best_of}

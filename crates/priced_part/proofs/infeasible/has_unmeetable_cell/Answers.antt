@@ -1,6 +1,6 @@
 use Rattle.std.proofs.Common.{◌<◌, get_or, length, refl, arith, ap}
 use Rattle.roster_model.specs.declared.instance.Cell.{Cell}
-use Rattle.priced_part.proofs.Searching.{In-get_or}
+use Rattle.priced_part.proofs.ListSearch.{In-get_or}
 use Rattle.priced_part.proofs.infeasible.has_unmeetable_cell.Goals as goal
 
 abbrev no_cell : Cell

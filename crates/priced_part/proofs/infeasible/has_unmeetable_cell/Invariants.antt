@@ -1,6 +1,6 @@
 use Rattle.std.proofs.Common.{◌<◌, min}
 use Rattle.roster_model.specs.declared.instance.Cell.{Cell}
-use Rattle.priced_part.proofs.Searching.{StandsFrom}
+use Rattle.priced_part.proofs.ListSearch.{StandsFrom}
 use Rattle.priced_part.proofs.infeasible.has_unmeetable_cell.Given as goal
 
 abbrev pub invariant-loop-cell : goal.invariant-loop-cell

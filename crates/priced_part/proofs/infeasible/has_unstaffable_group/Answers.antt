@@ -3,7 +3,7 @@ use Rattle.std.proofs.lemmas.Bool.{false≢true}
 use Rattle.roster_model.specs.declared.instance.Group.{Group}
 use Rattle.priced_part.specs.Filled.{NeedsInVain}
 use Rattle.priced_part.proofs.DerivedNames.{in-vain}
-use Rattle.priced_part.proofs.Searching.{In-get_or, stands-next}
+use Rattle.priced_part.proofs.ListSearch.{In-get_or, stands-next}
 use Rattle.priced_part.proofs.infeasible.has_unstaffable_group.Goals as goal
 
 abbrev no_group : Group

@@ -8,7 +8,7 @@ use Rattle.roster_model.specs.declared.instance.Prices.{Prices}
 use Rattle.roster_model.specs.GreatestCost.{greatest_cost}
 use Rattle.bound_laws.specs.Lagrangian.{lagrangian_sum}
 use Rattle.bound_laws.specs.Priced.{rounded_up}
-use Rattle.priced_part.proofs.Rounding.{whole_up}
+use Rattle.priced_part.proofs.WholeCosts.{whole_up}
 use Rattle.priced_part.proofs.priced.value_from_least.Goals as goal
 
 pub returns-then-is_plainly_infeasible : goal.returns-then-is_plainly_infeasible

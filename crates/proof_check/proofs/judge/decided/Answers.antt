@@ -1,4 +1,4 @@
-use Rattle.proof_check.proofs.Deciding.{node-decides, bound-decides, coverage-decides, yes-decides}
+use Rattle.proof_check.proofs.VerdictsLemmas.{node-decides, bound-decides, coverage-decides, yes-decides}
 use Rattle.proof_check.proofs.judge.decided.Goals as goal
 
 pub returns-in-Some : goal.returns-in-Some

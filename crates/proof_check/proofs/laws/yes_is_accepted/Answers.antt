@@ -4,7 +4,7 @@ use Rattle.certificates.specs.declared.cert.Cert.{Cert}
 use Rattle.certificates.specs.declared.verdict.Verdict.{Verdict}
 use Rattle.certificates.specs.declared.verdict.Verdict.TheVariants.{Yes, No}
 use Rattle.certificate_laws.specs.Accepted.{Accepts}
-use Rattle.certificate_laws.proofs.Refused.{refused}
+use Rattle.certificate_laws.proofs.NoCause.{refused}
 use Rattle.proof_check.specs.Verdicts.{IsVerdict}
 use Rattle.proof_check.specs.YesOrNo.{IsYes}
 use Rattle.proof_check.proofs.laws.yes_is_accepted.Goals as goal

@@ -10,7 +10,7 @@ raises : (c : goal.After-raise) → IsAdded c.args.marks.now.items c.mark.new.ma
 raises c =
     let there = rw c.as_slice-2.ensures.value at (c.has_arc.ensures.there (search rules)) in
     added-to c.args.marks.now.items c.mark.new.marks.items c.args.entries.now.items c.raise.new.entries.items c.place_of-place.result c.args.entry no_entry
-    c.requires.sorted c.requires.marked c.mark.ensures.kept c.requires.entry there.0 (there.1 no_entry) (c.raise.ensures.items no_entry)
+    c.requires.sorted c.requires.marked c.mark.ensures.kept there.0 (there.1 no_entry) (c.raise.ensures.items no_entry)
 
 pub returns-then-has_arc-clause-value : goal.returns-then-has_arc-clause-value
 returns-then-has_arc-clause-value c = (raises c).value
@@ -30,7 +30,7 @@ returns-then-has_arc-clause-length c = (raises c).long
 puts : (c : goal.After-put) → IsAdded c.args.marks.now.items c.mark.new.marks.items c.args.entries.now.items c.put.new.entries.items c.args.entry
 puts c =
     put-in c.args.marks.now.items c.mark.new.marks.items c.args.entries.now.items c.put.new.entries.items c.place_of-place.result c.args.entry no_entry
-    c.requires.sorted c.requires.marked c.mark.ensures.kept c.requires.entry (rw c.as_slice.ensures.value at c.place_of-place.ensures) c.mark.ensures.here
+    c.requires.sorted c.requires.marked c.mark.ensures.kept (rw c.as_slice.ensures.value at c.place_of-place.ensures) c.mark.ensures.here
     (rw c.as_slice-2.ensures.value at (c.has_arc.ensures.other (search rules))) c.put.ensures.items
 
 pub returns-else-has_arc-clause-value : goal.returns-else-has_arc-clause-value

@@ -27,7 +27,7 @@ loop-place-preserved c =
           (rw same at c.paid_entry.ensures.value) c.add.ensures.value i.value;
       sorted = c.add.ensures.sorted;
       marked = c.add.ensures.marked;
-      small = entries-wider (2 ^ 80 * k + 2 ^ 80) (2 ^ 80 * (k + 1)) _ (omega arith) (c.add.ensures.small (2 ^ 80 * k) i.small);
+      small = entries-wider (2 ^ 80 * k + 2 ^ 80) (2 ^ 80 * (k + 1)) _ (omega arith) (c.add.ensures.small (2 ^ 80 * k) (2 ^ 80) i.small c.paid_entry.ensures.small);
       long = omega (arith, i.long, c.add.ensures.length);
       capacity = omega (arith, c.add.ensures.capacity, i.capacity);
     }

@@ -3,7 +3,7 @@ use Rattle.proof_check.specs.declared.frame.Frame.{Frame}
 use Rattle.proof_check.specs.OpenSplits.{path, joined}
 use Rattle.proof_check.specs.Stacks.{StackView, AreSmall, IsClosing}
 use Rattle.proof_check.specs.Stacks.{halves_of}
-use Rattle.proof_check.proofs.Closing.{small-turned, closed, turned-halves}
+use Rattle.proof_check.proofs.StacksLemmas.{small-turned, closed, turned-halves}
 use Rattle.proof_check.proofs.stack.Stack.close.Goals as goal
 
 pub returns-in-Low-clause-small : goal.returns-in-Low-clause-small

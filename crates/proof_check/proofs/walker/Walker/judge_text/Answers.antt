@@ -6,7 +6,7 @@ use Rattle.proof_pieces.specs.Told.{Told, told, told_answer}
 use Rattle.proof_check.specs.declared.walker.Walker.{Walker}
 use Rattle.proof_check.specs.Stacks.{StackView}
 use Rattle.proof_check.specs.Judging.{IsJudging}
-use Rattle.proof_check.proofs.Judging.{any-halves, nothing-judged, one-judged, is-done, all-judged, all-sound, shifts-sound}
+use Rattle.proof_check.proofs.JudgingLemmas.{any-halves, nothing-judged, one-judged, is-done, all-judged, all-sound, shifts-sound}
 use Rattle.proof_check.proofs.walker.Walker.judge_text.Goals as goal
 
 pub loop-answer-init : goal.loop-answer-init

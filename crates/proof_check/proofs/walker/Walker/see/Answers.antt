@@ -1,5 +1,5 @@
 use Rattle.proof_check.specs.Views.{node_of}
-use Rattle.proof_check.proofs.Judging.{told-follows, node-taken}
+use Rattle.proof_check.proofs.JudgingLemmas.{told-follows, node-taken}
 use Rattle.proof_check.proofs.walker.Walker.see.Goals as goal
 
 pub step-walk-requires-clause-node : goal.step-walk-requires-clause-node

@@ -5,7 +5,7 @@ use Rattle.proof_pieces.specs.declared.piece.Piece.{Piece}
 use Rattle.proof_pieces.specs.Told.{Told, cost, bound, shift, told}
 use Rattle.proof_pieces.specs.ToldSound.{IsToldSound}
 use Rattle.proof_check.specs.Judging.{place_at}
-use Rattle.proof_check.proofs.Judging.{retold, cost-taken, bound-taken, shift-taken}
+use Rattle.proof_check.proofs.JudgingLemmas.{retold, cost-taken, bound-taken, shift-taken}
 use Rattle.proof_check.proofs.walker.Walker.take.Goals as goal
 
 pub returns-in-Cost : goal.returns-in-Cost

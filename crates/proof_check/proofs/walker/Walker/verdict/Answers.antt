@@ -1,5 +1,5 @@
 use Rattle.std.proofs.Common.{sym, ◌∙◌}
-use Rattle.proof_check.proofs.Judging.{seen-walked}
+use Rattle.proof_check.proofs.JudgingLemmas.{seen-walked}
 use Rattle.proof_check.proofs.walker.Walker.verdict.Goals as goal
 
 pub returns-in-Some-clause-verdict : goal.returns-in-Some-clause-verdict

@@ -3,7 +3,7 @@ use Rattle.certificates.specs.declared.cert.Node.{Node}
 use Rattle.proof_check.specs.Stacks.{StackView}
 use Rattle.proof_check.specs.Steps.{MayFollow, IsStep}
 use Rattle.proof_check.proofs.BaseCuts.{small-base}
-use Rattle.proof_check.proofs.Walking.{may-follow, next-node, start-walk, end-walk}
+use Rattle.proof_check.proofs.StepsLemmas.{may-follow, next-node, start-walk, end-walk}
 use Rattle.proof_check.proofs.walker.Walker.walk.Goals as goal
 
 pub loop-node-init : goal.loop-node-init
@@ -22,7 +22,7 @@ step-walk-requires-clause-node c =
     let i = c.args.instance.now in
     let q = c.requires.proof in
     let w = c.loop-node.invariant in
-    let may = may-follow i q.0 c.args.nodes.now q.1 c.loop-node.node-index c.loop-node.self.stack c.loop-node.walk (w.walking q.0 q.1) c.node-item.result c.loop-node-test.true (omega (arith, w.most, c.requires.room)) in
+    let may = may-follow i q.0 c.args.nodes.now q.1 c.loop-node.node-index c.loop-node.self.stack c.loop-node.walk (w.walking q.0 q.1) c.node-item.result c.loop-node-test.true c.requires.listed (omega (arith, w.most, c.requires.room)) in
     subst (λ (n : Node). MayFollow i c.loop-node.self.stack n) (sym c.node-item.is ∙ sym c.view_node.ensures) may
 
 pub loop-node-preserved : goal.loop-node-preserved

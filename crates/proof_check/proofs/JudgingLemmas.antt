@@ -32,7 +32,7 @@ use Rattle.proof_check.specs.Judging.{place_at, IsReady, HasSeen, IsTaken, IsJud
 use Rattle.proof_check.specs.Verdicts.{States, IsWalked}
 use Rattle.proof_check.proofs.BaseCuts.{small-base}
 use Rattle.proof_check.proofs.Paths.{length-path}
-use Rattle.proof_check.proofs.Walking.{next-node, start-walk, end-walk}
+use Rattle.proof_check.proofs.StepsLemmas.{next-node, start-walk, end-walk}
 
 length-halves : (st : List Frame) → length (halves_of st) ≡ length st
 length-halves [] = refl
@@ -45,7 +45,7 @@ told-follows i b s x r t =
     let base : length b.stack.base ≡ length (base_cuts i) = ap (λ (cs : List Cut). length cs) r.bench.base in
     let halves = length-halves b.stack.splits in
     let few : s.walk.nodes < 20001 = t.1 in
-    record { room = omega (arith, r.deep, r.most, few); small = r.small; sound = t.2.paths (way b.stack) (omega (arith, long, base, halves)) }
+    record { room = omega (arith, r.deep, r.most, few); small = r.small; sound = t.2.paths (way b.stack) (omega (arith, long, base, halves)); listed = t.2.listed }
 
 abbrev place_of : ℕ → List Bool → Place
 place_of n hs = record { nodes = n; halves = hs }

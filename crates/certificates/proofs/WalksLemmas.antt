@@ -1,12 +1,13 @@
 -- Rising numbers of cuts, each above the one before, are each above all before.
-use Rattle.std.proofs.Common.{◌≡◌, ℕ, arith, ◌<◌, ◌≤◌, ◌↔◌, All, List, [], ◌∷◌, length, subst, sym}
+use Rattle.std.proofs.Common.{◌≡◌, ℕ, arith, ◌+◌, ◌<◌, ◌≤◌, ◌↔◌, All, Bool, true, false, cond, count_by, List, [], ◌∷◌, length, refl, subst, sym}
 use Rattle.std.specs.Prelude.{ℤ}
+use Rattle.std.proofs.lemmas.List.Recursion.{is_count_by}
 use Rattle.std.proofs.lemmas.List.Elements.{All-head, All-tail, All-nil, All-cons}
 use Rattle.roster_model.specs.declared.instance.Cut.{Cut}
 use Rattle.roster_model.specs.declared.instance.Instance.{Instance}
 use Rattle.roster_model.specs.declared.instance.Mult.{Mult}
 use Rattle.roster_model.specs.Folds.{Each}
-use Rattle.roster_model.specs.PriceLimits.{IsMult, AreRising, FitPrices}
+use Rattle.roster_model.specs.PriceLimits.{IsMult, AreRising, FitPrices, is_nonzero, nonzero}
 use Rattle.certificates.specs.Walks.{RisesFrom, HasPrices, HasMults}
 
 pub all_each : {A : Type 0} (P : A → Type 0) (xs : List A) → All P xs → Each P xs
@@ -32,6 +33,13 @@ rises last (m ∷ ms) above h = (above.0, rises m.cut ms h.0 h.1)
 positive : (n : ℕ) (ms : List Mult) → Each (IsMult n) ms → Each (λ (m : Mult). 0 < m.cut) ms
 positive n [] h = tt
 positive n (m ∷ ms) h = (h.0.first, positive n ms h.1)
+
+counted : (b : Bool) (n : ℕ) → cond b 1 0 + n ≡ cond b (1 + n) n
+counted true n = refl
+counted false n = omega arith
+
+pub nonzero_counted : (ms : List Mult) → nonzero ms ≡ count_by is_nonzero ms
+nonzero_counted ms = is_count_by nonzero is_nonzero refl (λ x xs. counted (is_nonzero x) (nonzero xs)) ms
 
 -- prices and multipliers that fit the cuts
 pub fit : (i : Instance) (d : ℕ) (cell : List ℤ) (mult : List Mult) (cuts : ℕ) (path : List Cut) → length path ≡ cuts → ((HasPrices (length i.cells) d cell × HasMults cuts mult) ↔ FitPrices i d cell mult path)

@@ -11,12 +11,12 @@ use Rattle.certificates.specs.declared.cert.Node.{Node}
 use Rattle.certificates.specs.declared.cert.Node.TheVariants.{Split, Priced, Pinned, Bare}
 use Rattle.certificates.specs.declared.why.Why.{Why}
 use Rattle.certificates.specs.Nodes.{Proof, split, priced, pinned, bare, preorder, Visit, visits, low_cut, high_cut}
-use Rattle.certificates.specs.Sound.{IsSoundVisit, IsSoundProof}
+use Rattle.certificates.specs.Sound.{IsSoundVisit, IsSoundProof, NoneIsZero}
 use Rattle.proof_check.specs.declared.frame.Frame.{Frame}
 use Rattle.certificate_laws.specs.Shown.{Shows}
 use Rattle.proof_check.specs.OpenSplits.{path, LeadsTo, MakeVisits, ValueNext, VisitsNext}
 use Rattle.proof_check.proofs.OpenSplitsLemmas.{visits-split, visits-leaf, visits-start, not-yet, at-end, whole-shows}
-use Rattle.certificate_laws.proofs.Unique.{same-proof}
+use Rattle.certificate_laws.proofs.OneProof.{same-proof}
 use Rattle.proof_check.specs.declared.walk.Walk.{Walk}
 use Rattle.proof_check.specs.Stacks.{StackView, AreSmall}
 use Rattle.proof_check.specs.Steps.{next_visit, MayFollow, IsStep, IsWalking}
@@ -68,6 +68,11 @@ no-causes (Some a) (Some b) e = by (nat_lt (cause_number b) (cause_number a)) e
     by true e = cc
     by false e = cc
 
+listed-at : (ns : List Node) (k : ℕ) (d : Node) → Each NoneIsZero ns → k < length ns → NoneIsZero (get_or ns k d)
+listed-at [] k d all l = absurd (omega (arith, l))
+listed-at (n ∷ ns) zero d all l = all.0
+listed-at (n ∷ ns) (suc k) d all l = listed-at ns k d all.1 (omega (arith, l))
+
 -- what comes next starts the visits that are left
 module _ (i : Instance) (p : Proof) (nodes : List Node) (sound : IsSoundProof i nodes p) (k : ℕ) (stack : StackView) (walk : Walk) (w : IsWalking i p k stack walk) (d : Node) (here : k < length nodes) where
   left : drop k (preorder p) ≡ get_or nodes k d ∷ drop (suc k) (preorder p)
@@ -81,11 +86,11 @@ module _ (i : Instance) (p : Proof) (nodes : List Node) (sound : IsSoundProof i 
       (not-yet (base_cuts i) walk.shown stack.splits (get_or nodes k d) (drop (suc k) (preorder p)) (drop k (visits (base_cuts i) p)) coming)
 
   -- the next node may follow
-  pub may-follow : length nodes ≤ stack.most → MayFollow i stack (get_or nodes k d)
-  may-follow few =
+  pub may-follow : Each NoneIsZero nodes → length nodes ≤ stack.most → MayFollow i stack (get_or nodes k d)
+  may-follow all few =
       let f = first-visit stack.base stack.splits (get_or nodes k d) (drop (suc k) (preorder p)) (drop k (visits (base_cuts i) p)) made in
       let each = subst (λ (vs : List Visit). Each (IsSoundVisit i) vs) f.1 (Each-drop (IsSoundVisit i) k (visits (base_cuts i) p) sound.each) in
-      record { room = omega (arith, w.deep); small = w.small; sound = each.0 }
+      record { room = omega (arith, w.deep); small = w.small; sound = each.0; listed = listed-at nodes k d all here }
 
   module _ (new : StackView) (after : Walk) (s : IsStep i stack walk (get_or nodes k d) new after) where
     taken : (us : List Visit) × (drop k (visits (base_cuts i) p) ≡ next_visit stack (get_or nodes k d) ∷ us) × VisitsNext stack.base after.shown new.splits (drop (suc k) (preorder p)) us
