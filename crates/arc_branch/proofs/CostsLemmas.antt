@@ -16,17 +16,17 @@ use Rattle.arc_laws.specs.OrNodes.{OrNode, name, suffix, leaf, same_node, made, 
 use Rattle.arc_laws.specs.Lists.{AreArcs}
 use Rattle.arc_laws.specs.Balance.{made_sum, used_sum}
 use Rattle.arc_laws.specs.Counts.{AreCounts, counts_cost, letter_count, top_cost}
-use Rattle.arc_laws.proofs.Counting.{counted}
-use Rattle.arc_laws.proofs.Folding.{sum_n-same, Each-same, Each-in}
+use Rattle.arc_laws.proofs.ArcSums.{counted}
+use Rattle.arc_laws.proofs.FoldsLemmas.{sum_n-same, Each-same, Each-in}
 use Rattle.arc_laws.proofs.SameArc.{rising-once}
 use Rattle.bound_laws.specs.Pinned.{IsPinnedValue}
 use Rattle.parse_graph.specs.Graphs.{GraphView, HasArcs, IsGraph}
 use Rattle.parse_graph.proofs.PlacesLemmas.{once-counted, in-graph, of-graph}
-use Rattle.parse_graph.proofs.SortedLemmas.{sorted-arcs}
+use Rattle.parse_graph.proofs.ArcOrderLemmas.{sorted-arcs}
 use Rattle.pinned_part.specs.Net.{IsNet, AreAllowed, cell_size}
-use Rattle.pinned_part.proofs.Netting.{allowed-counts, counts-allowed, penalties-same}
-use Rattle.pinned_part.proofs.Placing.{made-placed, used-placed}
-use Rattle.pinned_part.proofs.Touched.{AreNodesPlaced}
+use Rattle.pinned_part.proofs.NetLemmas.{allowed-counts, counts-allowed, penalties-same}
+use Rattle.pinned_part.proofs.PlacesLemmas.{made-placed, used-placed}
+use Rattle.pinned_part.proofs.NodeSums.{AreNodesPlaced}
 use Rattle.arc_branch.specs.Boxes.{BoxView}
 use Rattle.arc_branch.specs.Costs.{low_of, IsCostOf, pinned_number}
 use Rattle.arc_branch.specs.Paths.{IsBoxOf}

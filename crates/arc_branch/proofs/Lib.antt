@@ -1,4 +1,4 @@
 pub mod LowLemmas
 pub mod CostsLemmas
 pub mod PathsLemmas
-pub mod CountedLemmas
+pub mod LowSumsLemmas

@@ -1,7 +1,7 @@
-pub mod Folding
+pub mod FoldsLemmas
 pub mod SameArc
-pub mod Counting
-pub mod Balanced
+pub mod ArcSums
+pub mod BalanceLemmas
 pub mod Once
 pub mod RuleCosts
 pub mod Totals

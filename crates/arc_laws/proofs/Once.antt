@@ -12,9 +12,9 @@ use Rattle.roster_model.specs.UnitRules.{IsRanked}
 use Rattle.roster_model.specs.Trees.{Parts, done, letter, uses, span_length, Derive, IsDayTree}
 use Rattle.roster_model.specs.Arcs.{arc_of_part, parts_arcs, arcs}
 use Rattle.arc_laws.specs.OrNodes.{OrNode, name, suffix, leaf, same_node, left_of, right_of, made_by, made}
-use Rattle.arc_laws.proofs.Folding.{sum_n-append}
+use Rattle.arc_laws.proofs.FoldsLemmas.{sum_n-append}
 use Rattle.arc_laws.proofs.SameArc.{and_both}
-use Rattle.arc_laws.proofs.Balanced.{made_total, left_of-is, right_of-is, drop-next, no_symbols}
+use Rattle.arc_laws.proofs.BalanceLemmas.{made_total, left_of-is, right_of-is, drop-next, no_symbols}
 
 abbrev begin : OrNode → ℕ
 begin (name x i l) = i

@@ -5,7 +5,7 @@ use Rattle.roster_model.specs.declared.grammar.Grammar.{Grammar}
 use Rattle.roster_model.specs.Folds.{In}
 use Rattle.roster_model.specs.Arcs.{ComesFirst, ArcBefore, arc_numbers}
 use Rattle.arc_laws.specs.Lists.{IsRising, AreArcs}
-use Rattle.arc_laws.proofs.Folding.{Each-at}
+use Rattle.arc_laws.proofs.FoldsLemmas.{Each-at}
 
 first_one_way : (xs ys : List ℕ) → ComesFirst xs ys → ComesFirst ys xs → ⊥
 first_one_way [] ys h k = h

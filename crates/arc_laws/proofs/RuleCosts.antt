@@ -9,7 +9,7 @@ use Rattle.roster_model.specs.Folds.{sum_n, Each}
 use Rattle.roster_model.specs.Arcs.{arc_of_part, parts_arcs, arcs, used_rules, rule_cost, cost}
 use Rattle.roster_model.specs.Cuts.{arcs_of}
 use Rattle.arc_laws.specs.Counts.{cost_at, top_cost}
-use Rattle.arc_laws.proofs.Folding.{sum_n-append}
+use Rattle.arc_laws.proofs.FoldsLemmas.{sum_n-append}
 
 module _ (g : Grammar) where
   abbrev opening : ℕ → ℕ → Parts → ℕ

@@ -13,10 +13,10 @@ use Rattle.arc_laws.specs.TreeLists.{has_letter, letters_of}
 use Rattle.arc_laws.specs.Lists.{AreArcs, HoldsArcsOnce}
 use Rattle.arc_laws.specs.Balance.{made_sum, used_sum, IsBalanced}
 use Rattle.arc_laws.specs.Counts.{top_cost, root_count}
-use Rattle.arc_laws.proofs.Folding.{sum_n-append, sum_n-same, count-append, count-none, In-append, Each-same}
+use Rattle.arc_laws.proofs.FoldsLemmas.{sum_n-append, sum_n-same, count-append, count-none, In-append, Each-same}
 use Rattle.arc_laws.proofs.SameArc.{Told, arc_tells, rising-once}
-use Rattle.arc_laws.proofs.Counting.{counted}
-use Rattle.arc_laws.proofs.Balanced.{used_total, made_total, tree_balanced}
+use Rattle.arc_laws.proofs.ArcSums.{counted}
+use Rattle.arc_laws.proofs.BalanceLemmas.{used_total, made_total, tree_balanced}
 use Rattle.arc_laws.proofs.RuleCosts.{tops_total}
 use Rattle.arc_laws.proofs.Once.{made-once}
 

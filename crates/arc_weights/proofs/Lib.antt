@@ -1,7 +1,7 @@
 pub mod Steps
 pub mod Multiples
-pub mod Adding
+pub mod SumsLemmas
 pub mod RowBounds
 pub mod Units
-pub mod Fine
-pub mod Weighing
+pub mod FineWeights
+pub mod WeighedLemmas

@@ -17,7 +17,7 @@ use Rattle.node_master.specs.declared.ends.Weight.{Weight}
 use Rattle.node_master.specs.Ends.{IsWeight, AreWeights, IsOther}
 use Rattle.arc_weights.specs.Denominators.{den_of, AreOver}
 use Rattle.arc_weights.specs.Sums.{unit, arcs_of_some, arcs_at, arc_units, AreInPool}
-use Rattle.arc_weights.proofs.Adding.{get_lt}
+use Rattle.arc_weights.proofs.SumsLemmas.{get_lt}
 
 -- the share in whole numbers
 share_is : (num den : ℤ) (n q : ℕ) → 0 < q → pos 0 <ℤ den → pos n *ℤ den ≡ num *ℤ pos q → n * unsigned_abs den ≡ unsigned_abs num * q

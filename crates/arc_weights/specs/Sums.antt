@@ -21,7 +21,8 @@ arcs_at columns j = arcs_of_some (slice_get columns j)
 
 -- the weight of the trees with the arc, as a number of parts 1 / d
 abbrev pub arc_units : ℕ → List PoolTree → ArcKey → List Weight → ℕ
-arc_units d columns a weights = sum_n (λ (x : Weight). unit d x * count (same_arc a) (arcs_at columns x.column)) weights
+arc_units d columns a weights =
+    sum_n (λ (x : Weight). unit d x * count (same_arc a) (arcs_at columns x.column)) weights
 
 -- each arc stands at one place
 abbrev pub StandOnce : List ArcKey → Type 0
@@ -41,7 +42,8 @@ AreAdded listed units added old new =
 
 -- each weight is one of a tree of the pool, and small
 abbrev pub AreInPool : ℕ → List PoolTree → List Weight → Type 0
-AreInPool d columns weights = Each (λ (x : Weight). (x.column < length columns) × (unit d x < 2 ^ 128)) weights
+AreInPool d columns weights =
+    Each (λ (x : Weight). (x.column < length columns) × (unit d x < 2 ^ 128)) weights
 
 -- the sums of all arcs are small
 abbrev pub HaveRoomFor : ℕ → List ArcKey → List PoolTree → List Weight → Type 0

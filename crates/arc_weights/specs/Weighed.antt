@@ -23,7 +23,8 @@ pub record IsBetween (i : Instance) (v : GraphView) (cuts : List Cut) (columns :
   pub low : lo cuts key ≤ b
   pub high : b < hi i.heads_max cuts key
   pub more : (w : AreLeastWeights i cuts columns weights) → w.d * b < arc_weight key (w.trees ++ w.others)
-  pub less : (w : AreLeastWeights i cuts columns weights) → arc_weight key (w.trees ++ w.others) < w.d * (b + 1)
+  pub less : (w : AreLeastWeights i cuts columns weights) → arc_weight key (w.trees ++ w.others)
+      < w.d * (b + 1)
 
 -- the trees of each arc weigh a whole number together
 pub record AreWhole (i : Instance) (v : GraphView) (cuts : List Cut) (columns : List PoolTree)

@@ -96,7 +96,8 @@ fn choose(
     requires arcs { length sums.now ≡ length graph.now.arcs }
     requires bounds { length arc_box.now.bounds ≡ length graph.now.arcs }
     requires few { HaveFew d sums.now }
-    ensures { MatchOption result (HasNoChoice arc_box.now.bounds d sums.now) (IsChoice arc_box.now.bounds d sums.now) }
+    ensures { MatchOption result (HasNoChoice arc_box.now.bounds d sums.now)
+        (IsChoice arc_box.now.bounds d sums.now) }
 {
     if let Some(choice) = choose_preferred(arc_box, preferred, sums, d) {
         return Some(choice);

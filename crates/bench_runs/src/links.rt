@@ -1,8 +1,10 @@
+ghost use Rattle.roster_model.specs.Sound.{IsSound};
+
 use crate::fault::BenchFault;
 use crate::pricing::graph_of;
 use parse_graph::{Graph, Kid};
+use roster_model::Grammar;
 use rules_text::read_rules;
-use std::alloc::Global;
 use std::fmt::{self, Display, Formatter, Write};
 use std::io;
 
@@ -20,18 +22,26 @@ impl Display for KidWord {
     }
 }
 
-/// Returns the graph of the grammar of a rules text.
-fn read_graph(alloc: Global, text: &[u8]) -> Result<Graph, BenchFault> {
-    let grammar = read_rules(alloc, text)?;
-    graph_of(alloc, &grammar)
-}
-
 /// Prints the graph of the grammar of a rules text, a line an arc.
 pub fn print_links(rt: &HostRuntime, text: &[u8]) -> io::Result<()> {
-    let graph = match read_graph(rt.alloc(), text) {
-        Ok(graph) => graph,
-        Err(fault) => return println!(rt; "{fault:?}"),
-    };
+    match read_rules(rt.alloc(), text) {
+        Ok(grammar) => print_graph(rt, &grammar),
+        Err(fault) => println!(rt; "{:?}", BenchFault::Rules(fault)),
+    }
+}
+
+/// Prints the graph of a sound grammar.
+fn print_graph(rt: &HostRuntime, grammar: &Grammar) -> io::Result<()>
+    requires { IsSound grammar.now }
+{
+    match graph_of(rt.alloc(), grammar) {
+        Ok(graph) => print_arcs(rt, &graph),
+        Err(fault) => println!(rt; "{fault:?}"),
+    }
+}
+
+/// Prints the arcs of a graph, a line an arc.
+fn print_arcs(rt: &HostRuntime, graph: &Graph) -> io::Result<()> {
     for place in 0..graph.arcs().len() {
         let arc = graph.arcs()[place];
         let (first, rest) = graph.children(place as u32);

@@ -15,12 +15,12 @@ use Rattle.roster_model.specs.Cuts.{lo, hi, group_arc, group_cuts, cuts_from, ba
 use Rattle.roster_model.specs.Folds.{sum_n, count, Each, In}
 use Rattle.roster_model.specs.SoundInstance.{IsSoundInstance, IsGroup, HasGroups}
 use Rattle.roster_model.specs.Teams.{Team, teams, teams_of, teams_from}
-use Rattle.arc_laws.proofs.Folding.{Each-append, Each-at}
+use Rattle.arc_laws.proofs.FoldsLemmas.{Each-append, Each-at}
 use Rattle.arc_laws.proofs.SameArc.{Told, arc_tells, same_arc-true}
 use Rattle.bound_laws.specs.Counted.{AsksForArc}
 use Rattle.bound_laws.specs.DutyTrees.{own_rules}
 use Rattle.bound_laws.specs.Infeasible.{IsPlainlyInfeasible}
-use Rattle.bound_laws.proofs.Ready.{IsReady, arc_of_team}
+use Rattle.bound_laws.proofs.ReadyInstances.{IsReady, arc_of_team}
 use Rattle.bound_laws.proofs.SoundReady.{ready}
 
 -- a group's range is one, within the day's

@@ -15,7 +15,7 @@ use Rattle.roster_model.specs.Cuts.{arcs_of, arc_count, KeepsTo, Meets}
 use Rattle.roster_model.specs.SoundInstance.{IsSoundInstance}
 use Rattle.arc_laws.specs.Counts.{letter_count, AreCounts}
 use Rattle.arc_laws.specs.Lists.{HoldsArcsOnce}
-use Rattle.arc_laws.proofs.Folding.{sum_n-same, count-append, Each-same, Each-in, Each-at}
+use Rattle.arc_laws.proofs.FoldsLemmas.{sum_n-same, count-append, Each-same, Each-in, Each-at}
 use Rattle.arc_laws.proofs.PathBounds.{bounds-keep}
 use Rattle.arc_laws.proofs.SameArc.{same_arc-refl, same_arc-true}
 use Rattle.arc_laws.proofs.Totals.{listed-roots, listed-leaves, listed-costs}

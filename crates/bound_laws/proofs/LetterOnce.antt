@@ -11,7 +11,7 @@ use Rattle.roster_model.specs.Folds.{count, Each}
 use Rattle.roster_model.specs.Arcs.{letters}
 use Rattle.roster_model.specs.Coverage.{is_at}
 use Rattle.arc_laws.specs.TreeLists.{letters_of}
-use Rattle.arc_laws.proofs.Folding.{count-append}
+use Rattle.arc_laws.proofs.FoldsLemmas.{count-append}
 use Rattle.bound_laws.specs.TreeRosters.{tree_cover}
 
 module _ (g : Grammar) (c : Cell) where

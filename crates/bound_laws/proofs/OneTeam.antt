@@ -7,7 +7,7 @@ use Rattle.roster_model.specs.Trees.{Parts, IsTreeOf, IsDayTree}
 use Rattle.roster_model.specs.Folds.{count, Each, In}
 use Rattle.roster_model.specs.Arcs.{arcs, same_arc}
 use Rattle.roster_model.specs.Teams.{Team, teams, teams_of, teams_from}
-use Rattle.bound_laws.proofs.Ready.{IsWrap, arc_of_team}
+use Rattle.bound_laws.proofs.ReadyInstances.{IsWrap, arc_of_team}
 
 module _ (i : Instance) (none : i.groups ≡ []) (team : Team) (listed : In team (teams i)) where
   name : team.name ≡ i.grammar.start

@@ -12,7 +12,7 @@ use Rattle.roster_model.specs.Cuts.{arc_count, Meets, lo}
 use Rattle.roster_model.specs.GreatestCost.{greatest_cost}
 use Rattle.arc_laws.specs.Lists.{AreArcs}
 use Rattle.arc_laws.specs.Counts.{letter_count, AreCounts, counts_cost}
-use Rattle.arc_laws.proofs.Folding.{sum_n-same, Each-same}
+use Rattle.arc_laws.proofs.FoldsLemmas.{sum_n-same, Each-same}
 use Rattle.arc_laws.proofs.PathBounds.{tight_count}
 use Rattle.arc_laws.proofs.Totals.{arc_count-le, trees-balanced, root-counts, leaves-count, arcs-pay}
 use Rattle.bound_laws.specs.TreeRosters.{tree_cover, IsCovered, IsTreeRoster, trees_cost}

@@ -10,7 +10,7 @@ use Rattle.roster_model.specs.Teams.{Team, teams, teams_of}
 use Rattle.roster_model.specs.Coverage.{covers_cell}
 use Rattle.roster_model.specs.Rosters.{ArePrices, is_in_team, HasHeads, IsRoster}
 use Rattle.roster_model.specs.SoundInstance.{IsSoundInstance}
-use Rattle.arc_laws.proofs.Folding.{count-le-length, Each-same}
+use Rattle.arc_laws.proofs.FoldsLemmas.{count-le-length, Each-same}
 use Rattle.bound_laws.specs.Plain.{IsFree, IsPlainDay, AreShifts, IsPlainRoster}
 
 -- the one team of the day

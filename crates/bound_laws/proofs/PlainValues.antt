@@ -13,11 +13,11 @@ use Rattle.roster_model.specs.Teams.{Team}
 use Rattle.roster_model.specs.GreatestCost.{greatest_cost}
 use Rattle.roster_model.specs.Reduced.{CellPrice, cell_prices, cut_prices, letter_price, arc_price}
 use Rattle.roster_model.specs.SoundInstance.{IsSoundInstance}
-use Rattle.arc_laws.proofs.Folding.{Each-at, Each-same}
+use Rattle.arc_laws.proofs.FoldsLemmas.{Each-at, Each-same}
 use Rattle.bound_laws.specs.Infeasible.{IsPlainlyInfeasible}
 use Rattle.bound_laws.specs.Lagrangian.{trees_share, cell_share, cut_share, lagrangian_sum, IsLeastReduced, IsLagrangian}
 use Rattle.bound_laws.specs.Plain.{IsFree, IsPlainDay, plain_share, plain_relaxed, IsPlainLagrangian}
-use Rattle.bound_laws.proofs.Additive.{tree_sum-value}
+use Rattle.bound_laws.proofs.TreeValues.{tree_sum-value}
 use Rattle.bound_laws.proofs.Relaxation.{each_cell}
 use Rattle.bound_laws.proofs.PlainRosters.{day_team, one-team, only-team}
 

@@ -9,7 +9,7 @@ use Rattle.roster_model.specs.Sums.{tree_sum}
 use Rattle.roster_model.specs.Folds.{sum_z}
 use Rattle.roster_model.specs.Arcs.{letters, arcs, used_rules, rule_cost, cost}
 use Rattle.roster_model.specs.Reduced.{cell_prices, cut_prices, letter_price, arc_price, reduced_view}
-use Rattle.bound_laws.proofs.Additive.{tree_sum-value}
+use Rattle.bound_laws.proofs.TreeValues.{tree_sum-value}
 use Rattle.bound_laws.proofs.WholeSums.{sum_z-neg, sum_z-scale, sum_z-pos}
 
 pub reduced-cost : (i : Instance) (p : Prices) (cuts : List Cut) (t : Parts) → IsDayTree i.grammar t

@@ -17,9 +17,9 @@ use Rattle.roster_model.specs.Folds.{sum_z, sum_n, Each}
 use Rattle.roster_model.specs.Arcs.{letters, arcs, used_rules, rule_cost, cost, same_arc}
 use Rattle.roster_model.specs.Coverage.{is_at, penalty}
 use Rattle.linear_programs.proofs.Ring.{*ℤ-+ℤ, neg-*ℤ}
-use Rattle.arc_laws.proofs.Folding.{Each-same}
+use Rattle.arc_laws.proofs.FoldsLemmas.{Each-same}
 use Rattle.bound_laws.proofs.WholeSums.{sum_z-append, sum_z-add, sum_z-neg, sum_z-scale, sum_z-pos, sum_z-le, exchange}
-use Rattle.bound_laws.proofs.Additive.{tree_value, tree_sum-value}
+use Rattle.bound_laws.proofs.TreeValues.{tree_value, tree_sum-value}
 use Rattle.roster_model.specs.Cuts.{arcs_of, arc_count, KeepsTo, Meets}
 use Rattle.roster_model.specs.Reduced.{CellPrice, CutPrice, cell_prices, cut_prices, mult_of, signed, letter_price, arc_price, view_of}
 use Rattle.bound_laws.specs.Lagrangian.{trees_share, least_from, cell_at, cell_share, share_of, cut_share, lagrangian_sum, IsLeastReduced}

@@ -13,8 +13,8 @@ use Rattle.roster_model.specs.Sound.{Exists, IsSound}
 use Rattle.roster_model.specs.Coverage.{code_byte}
 use Rattle.roster_model.specs.Demands.{PeriodDemand, Demand, IsDemand, AreCells, cells_from, all_cells}
 use Rattle.tree_laws.proofs.Rules.{sound-rule}
-use Rattle.arc_laws.proofs.Folding.{Each-append}
-use Rattle.bound_laws.proofs.Ready.{IsCode, IsSymbol, HasCodes}
+use Rattle.arc_laws.proofs.FoldsLemmas.{Each-append}
+use Rattle.bound_laws.proofs.ReadyInstances.{IsCode, IsSymbol, HasCodes}
 
 pub All-each : {A : Type 0} (P : A → Type 0) (xs : List A) → All P xs → Each P xs
 All-each P [] h = tt

@@ -13,7 +13,7 @@ use Rattle.roster_model.specs.Sound.{Exists, IsRule}
 use Rattle.roster_model.specs.Extension.{group_rule, extended}
 use Rattle.roster_model.specs.SoundInstance.{IsGroup, IsGroupedBy}
 use Rattle.roster_model.specs.Teams.{Team, teams_from}
-use Rattle.arc_laws.proofs.Folding.{Each-append, Each-same}
+use Rattle.arc_laws.proofs.FoldsLemmas.{Each-append, Each-same}
 use Rattle.bound_laws.specs.DutyTrees.{own_rules}
 use Rattle.bound_laws.proofs.Groups.{IsOther, added_rule, IsExtended}
 use Rattle.bound_laws.proofs.SoundCodes.{All-each}

@@ -9,7 +9,7 @@ use Rattle.roster_model.specs.SoundInstance.{IsSoundInstance, HasGroups}
 use Rattle.roster_model.specs.Teams.{Team, teams, teams_of, teams_from}
 use Rattle.tree_laws.specs.Parts.{root}
 use Rattle.bound_laws.specs.DutyTrees.{own_rules}
-use Rattle.bound_laws.proofs.Ready.{IsWrap, IsReady}
+use Rattle.bound_laws.proofs.ReadyInstances.{IsWrap, IsReady}
 use Rattle.bound_laws.proofs.TeamNumbers.{least-from, most-from}
 use Rattle.bound_laws.proofs.OneTeam.{wrap_plain, unwrap_plain}
 use Rattle.bound_laws.proofs.Groups.{wrap_group, unwrap_group}

@@ -11,8 +11,8 @@ use Rattle.roster_model.specs.Trees.{Parts, done, letter, uses, span_length, Der
 use Rattle.roster_model.specs.Folds.{count, Each}
 use Rattle.roster_model.specs.Arcs.{Letter, letters}
 use Rattle.roster_model.specs.Coverage.{code_byte, has_at, covers_cell, is_at}
-use Rattle.arc_laws.proofs.Folding.{Each-append}
-use Rattle.bound_laws.proofs.Ready.{IsCode, IsSymbol, HasCodes}
+use Rattle.arc_laws.proofs.FoldsLemmas.{Each-append}
+use Rattle.bound_laws.proofs.ReadyInstances.{IsCode, IsSymbol, HasCodes}
 
 abbrev codes_of : Parts → List ℕ
 codes_of done = []

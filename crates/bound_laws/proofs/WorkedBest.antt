@@ -19,7 +19,7 @@ use Rattle.bound_laws.specs.Lagrangian.{trees_share, cell_share, lagrangian_sum,
 use Rattle.bound_laws.specs.WorkedBest.{shift_rule, one, day, first, second, third, ones, zeros, WorkedBest}
 use Rattle.bound_laws.proofs.ReducedCosts.{reduced-cost}
 use Rattle.bound_laws.proofs.Relaxation.{cell_share-le}
-use Rattle.bound_laws.proofs.Unique.{one-lagrangian}
+use Rattle.bound_laws.proofs.OneValue.{one-lagrangian}
 
 -- ---- the trees of the day
 code_rule : (r : ℕ) (rule : Rule) → rule_at day.grammar r ≡ Some rule → ((r ≡ 1) × (rule ≡ shift_rule 0 0 1)) ⊎ ((r ≡ 2) × (rule ≡ shift_rule 1 0 0)) ⊎ ((r ≡ 3) × (rule ≡ shift_rule 0 1 0))

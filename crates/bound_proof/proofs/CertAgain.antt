@@ -23,7 +23,7 @@ use Rattle.certificates.specs.declared.cert.Node.{Node}
 use Rattle.certificates.specs.declared.cert.Node.TheVariants as of
 use Rattle.certificates.specs.Nodes.{Proof, split, priced, pinned, bare, preorder, low_cut, high_cut, visits}
 use Rattle.certificates.specs.Sound.{most_cost, IsSoundVisit, IsSoundShift, IsSoundCert, IsGroupNumber, NoneIsZero}
-use Rattle.certificates.proofs.Joined.{each_parts}
+use Rattle.certificates.proofs.JoinedLists.{each_parts}
 use Rattle.proof_pieces.specs.declared.fault.ProofFault.{ProofFault}
 use Rattle.proof_pieces.specs.Ahead.{NoShift}
 use Rattle.proof_pieces.specs.CertOf.{no_cert, collected, node_pieces, shift_pieces, cert_pieces, proof_of}

@@ -10,8 +10,8 @@ use Rattle.certificates.specs.declared.cert.Node.{Node}
 use Rattle.certificates.specs.declared.cert.Node.TheVariants.{Split, Priced, Pinned, Bare}
 use Rattle.certificates.specs.Nodes.{Proof, split, priced, pinned, bare, preorder, low_cut, high_cut, visits}
 use Rattle.certificates.specs.Sound.{IsSoundNode, IsSoundVisit, IsSoundCert}
-use Rattle.certificates.proofs.Rising.{each_all}
-use Rattle.certificates.proofs.Joined.{each_parts}
+use Rattle.certificates.proofs.WalksLemmas.{each_all}
+use Rattle.certificates.proofs.JoinedLists.{each_parts}
 use Rattle.bound_proof.specs.Written.{HasPrices}
 use Rattle.text_lines.proofs.ListLemmas.{Each-append}
 

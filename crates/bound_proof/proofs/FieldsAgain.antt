@@ -10,7 +10,7 @@ use Rattle.std.proofs.lemmas.Slice.Eq.{bytes_eq-Decides}
 use Rattle.text_lines.specs.declared.number.NumberFault.TheVariants.{Form}
 use Rattle.text_lines.specs.Numbers.{is_plain, natural_of, number_text}
 use Rattle.text_lines.specs.Steps.{each}
-use Rattle.text_lines.proofs.Again.{natural_again, number_again}
+use Rattle.text_lines.proofs.NumbersLemmas.{natural_again, number_again}
 use Rattle.roster_model.specs.declared.grammar.ArcKey.{ArcKey}
 use Rattle.roster_model.specs.declared.instance.Group.{Group}
 use Rattle.roster_model.specs.declared.instance.Instance.{Instance}

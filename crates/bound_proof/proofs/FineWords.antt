@@ -1,10 +1,9 @@
 -- The lines of a sound certificate are lines of words.
-use Rattle.std.proofs.Common.{◌≡◌, ℕ, ℤ, pos, negsuc, zero, suc, ◌+◌, ◌-◌, ◌*◌, ◌%◌, ◌/◌, ◌<◌, ◌≤◌, ◌^◌, true, false, not, ◌&&◌, ◌||◌, List, [], ◌∷◌, ◌++◌, length, get_or, map, take, drop, Option, Some, None, refl, ap, ◌∙◌, arith, inl, inr, eqb, leb, ltb, length-append}
+use Rattle.std.proofs.Common.{◌≡◌, ℕ, ℤ, pos, negsuc, zero, suc, ◌+◌, ◌-◌, ◌*◌, ◌/◌, ◌<◌, ◌≤◌, ◌^◌, true, false, List, [], ◌∷◌, length, get_or, map, take, drop, Option, Some, None, refl, ap, ◌∙◌, arith, inl, inr, length-append}
 use Rattle.std.specs.Prelude.{codes, slice_get, IfSome, All}
 use Rattle.std.specs.List.{list_all}
 use Rattle.std.specs.Fmt.{decimal}
-use Rattle.std.proofs.lemmas.Bool.{and_from, and_parts, or_cases, leb-true, lt-ltb, le-leb, ne_eqb, eqb-true}
-use Rattle.std.proofs.lemmas.Fmt.{decimal_by_steps_wide}
+use Rattle.std.proofs.lemmas.Bool.{and_from, lt-ltb}
 use Rattle.std.proofs.lemmas.Int.{ints}
 use Rattle.std.proofs.lemmas.List.Elements.{All-head, All-tail}
 use Rattle.std.proofs.lemmas.Option.{slice_get_within, slice_get-get_or}
@@ -22,7 +21,7 @@ use Rattle.roster_model.specs.declared.instance.Prices.{Prices}
 use Rattle.roster_model.specs.declared.instance.Shift.{Shift}
 use Rattle.roster_model.specs.Folds.{Each}
 use Rattle.roster_model.specs.Limits.{IsDayCell}
-use Rattle.roster_model.specs.Names.{is_code_byte, is_letter, is_name_byte, is_name, is_window_word, added_name}
+use Rattle.roster_model.specs.Names.{is_code_byte, added_name}
 use Rattle.roster_model.specs.PriceLimits.{IsMult, FitPrices}
 use Rattle.roster_model.specs.Sound.{IsSound}
 use Rattle.roster_model.specs.SoundInstance.{IsGroup, HasGroups, IsSoundInstance}
@@ -31,10 +30,11 @@ use Rattle.roster_model.proofs.SoundCells.{cells_of_day}
 use Rattle.certificates.specs.declared.cert.Node.{Node}
 use Rattle.certificates.specs.declared.cert.Node.TheVariants.{Split, Priced, Pinned, Bare}
 use Rattle.certificates.specs.Sound.{most_cost, most_rule, IsKey, IsGroupNumber, IsWordByte, IsSoundShift, IsSoundNode}
-use Rattle.certificates.proofs.Rising.{all_each}
+use Rattle.certificates.proofs.WalksLemmas.{all_each}
 use Rattle.proof_pieces.specs.PriceLines.{code_byte, due_byte}
 use Rattle.bound_proof.specs.Written.{header_words, amount_word, amount_words, name_word, shift_words, shift_line, head_words, price_lines, mult_words, block_lines, node_lines}
 use Rattle.text_lines.proofs.ListLemmas.{Each-append}
+use Rattle.text_lines.proofs.WordLemmas.{word_byte, code_byte_fine, name_fine, digits_written, number_written}
 use Rattle.bound_proof.proofs.TreeAgain.{each_take}
 
 -- a word that can be written
@@ -56,71 +56,18 @@ pub lines_fine : (ls : List (List (List ℕ))) → Each IsFineLine ls → list_a
 lines_fine [] h = refl
 lines_fine (l ∷ ls) h = and_from _ _ h.0 (lines_fine ls h.1)
 
-word_byte : (b : ℕ) → 33 ≤ b → b ≤ 126 → (b ≡ 35 → ⊥) → is_word_byte b ≡ true
-word_byte b low high ne = and_from _ _ (and_from _ _ (le-leb 33 b low) (le-leb b 126 high)) (ap not (ne_eqb b 35 ne))
-
 -- ---- names and codes
-
-code_byte_fine : (b : ℕ) → is_code_byte b ≡ true → is_word_byte b ≡ true
-code_byte_fine b e =
-    let a = and_parts (leb 33 b && leb b 126 && not (eqb b 39)) (not (eqb b 35)) e in
-    let c = and_parts (leb 33 b && leb b 126) (not (eqb b 39)) a.0 in
-    and_from _ _ c.0 a.1
-
-letter_byte : (b : ℕ) → is_letter b ≡ true → is_word_byte b ≡ true
-letter_byte b e = elim (or_cases (leb 65 b && leb b 90) (leb 97 b && leb b 122) e) [
-  | inl h ↦ let p = and_parts _ _ h in let low : 65 ≤ b = leb-true 65 b p.0 in let high : b ≤ 90 = leb-true b 90 p.1 in word_byte b (omega arith) (omega arith) (λ q. omega (arith, q))
-  | inr h ↦ let p = and_parts _ _ h in let low : 97 ≤ b = leb-true 97 b p.0 in let high : b ≤ 122 = leb-true b 122 p.1 in word_byte b (omega arith) (omega arith) (λ q. omega (arith, q))
-]
-
-name_byte : (b : ℕ) → is_name_byte b ≡ true → is_word_byte b ≡ true
-name_byte b e = elim (or_cases (is_letter b || (leb 48 b && leb b 57)) (eqb b 95) e) [
-  | inl h ↦ elim (or_cases (is_letter b) (leb 48 b && leb b 57) h) [
-    | inl l ↦ letter_byte b l
-    | inr d ↦ let p = and_parts _ _ d in let low : 48 ≤ b = leb-true 48 b p.0 in let high : b ≤ 57 = leb-true b 57 p.1 in word_byte b (omega arith) (omega arith) (λ q. omega (arith, q))
-  ]
-  | inr h ↦ let same : b ≡ 95 = eqb-true b 95 h in word_byte b (omega arith) (omega arith) (λ q. omega (arith, q))
-]
-
-all_bytes : (xs : List ℕ) → list_all is_name_byte xs ≡ true → list_all is_word_byte xs ≡ true
-all_bytes [] h = refl
-all_bytes (x ∷ xs) h = let t = and_parts (is_name_byte x) (list_all is_name_byte xs) h in and_from _ _ (name_byte x t.0) (all_bytes xs t.1)
-
-name_fine : (w : List ℕ) → is_name w ≡ true → IsFine w
-unfolding is_name
-name_fine w e =
-    let a = and_parts _ (not (is_window_word w)) e in
-    let b = and_parts _ (list_all is_name_byte w) a.0 in
-    let c = and_parts _ (is_letter (get_or w 0 0)) b.0 in
-    let d = and_parts (ltb 0 (length w)) (leb (length w) 32) c.0 in
-    and_from _ _ d.0 (all_bytes w b.1)
 
 pub any_name_fine : (g : Grammar) → IsSound g → (x : ℕ) → x < length g.names → IsFine (get_or g.names x [])
 any_name_fine g s x lt = elim (s.names.each x (get_or g.names x []) (slice_get-get_or g.names x [] lt)) [
-  | inl h ↦ name_fine _ h
+  | inl h ↦ (name_fine _ h).written
   | inr h ↦ rw h.0 refl
 ]
 
 -- ---- numbers
 
-digit_byte : (n : ℕ) → n < 10 → is_word_byte (48 + n) ≡ true
-digit_byte n lt = word_byte (48 + n) (omega arith) (omega arith) (λ q. omega (arith, q))
-
-all_append : (ds : List ℕ) (d : ℕ) → list_all is_word_byte ds ≡ true → is_word_byte d ≡ true → list_all is_word_byte (ds ++ d ∷ []) ≡ true
-all_append [] d h e = and_from _ _ e refl
-all_append (x ∷ ds) d h e = let t = and_parts (is_word_byte x) (list_all is_word_byte ds) h in and_from _ _ t.0 (all_append ds d t.1 e)
-
-record IsWritten (n : ℕ) (ds : List ℕ) : Type 0 where
-  some : 0 < length ds
-  bytes : list_all is_word_byte ds ≡ true
-
-digits_written : (n : ℕ) → n < 10 ^ 64 → IsWritten n (decimal n)
-digits_written = decimal_by_steps_wide IsWritten
-    (λ n lt. record { some = omega arith; bytes = and_from _ _ (digit_byte n lt) refl })
-    (λ n ds ge h. record { some = omega (arith, length-append ds ((48 + n % 10) ∷ [])); bytes = all_append ds (48 + n % 10) h.bytes (digit_byte (n % 10) (omega arith)) })
-
 pub number_fine : (n : ℕ) → n < 10 ^ 64 → IsFine (decimal n)
-number_fine n lt = let h = digits_written n lt in and_from _ _ (lt-ltb 0 _ h.some) h.bytes
+number_fine n lt = number_written n lt
 
 signed_fine : (z : ℤ) → Within (2 ^ 80) z → IsFine (number_text z)
 signed_fine (pos n) w = let high = w.high in number_fine n (omega (arith, ints, high))

@@ -6,9 +6,9 @@ mod TextAgain
 pub mod FineWords
 mod CertAgain
 mod Sizes
-pub mod Spelling
+pub mod NumberWords
 mod SaidWords
 mod SaidLinesLemmas
-mod Agreeing
+mod LineAgreement
 mod SamePieces
 mod SaysLemmas

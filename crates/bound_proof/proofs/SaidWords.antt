@@ -31,7 +31,7 @@ use Rattle.proof_pieces.specs.PieceList.{is_end, node_of}
 use Rattle.proof_pieces.specs.PriceLines.{due_byte, price_step, price_line, is_mult, last_cut, mult_of, mult_line}
 use Rattle.proof_pieces.specs.ShiftLines.{version, is_pair, is_header, amount_line, shift_width, is_shift, letters_of, shift_of, shift_at}
 use Rattle.bound_proof.specs.Written.{header_words, amount_word, amount_words, name_word, shift_words, shift_line, head_words, price_words, mult_words, end_words}
-use Rattle.bound_proof.proofs.Spelling.{natural_is}
+use Rattle.bound_proof.proofs.NumberWords.{natural_is}
 
 same_word : (v w : List ℕ) → bytes_eq v w ≡ true → v ≡ w
 same_word v w t = (bytes_eq-Decides v w).0 t

@@ -17,7 +17,7 @@ use Rattle.proof_pieces.specs.PriceLines.{is_mult}
 use Rattle.proof_pieces.specs.ShiftLines.{is_header, is_shift}
 use Rattle.proof_pieces.specs.Told.{Told, cost, bound, shift, node}
 use Rattle.bound_proof.specs.SaidLines.{HaveWords}
-use Rattle.bound_proof.proofs.Agreeing.{Agree, agree_amounts, agree_node, agree_price_line, agree_mult_line, agree_shift_line}
+use Rattle.bound_proof.proofs.LineAgreement.{Agree, agree_amounts, agree_node, agree_price_line, agree_mult_line, agree_shift_line}
 
 -- no fault is told
 abbrev pub AllOk : Given → Type 0

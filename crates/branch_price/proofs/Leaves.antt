@@ -7,14 +7,14 @@ use Rattle.roster_model.specs.declared.instance.Instance.{Instance}
 use Rattle.roster_model.specs.Cuts.{base_cuts}
 use Rattle.roster_model.specs.Folds.{Each}
 use Rattle.roster_model.specs.SoundInstance.{IsSoundInstance}
-use Rattle.arc_laws.proofs.Folding.{Each-same}
+use Rattle.arc_laws.proofs.FoldsLemmas.{Each-same}
 use Rattle.certificates.specs.Nodes.{low_cut, high_cut}
 use Rattle.master_laws.specs.Laws.{IsBelowHeads}
 use Rattle.node_master.specs.Ends.{IsNodeCut}
 use Rattle.growing_laws.specs.Grown.{Grown, tip, fork, Leaf, fresh, valued, fixed, SomeTip, raised, tip_bound}
 use Rattle.growing_laws.specs.Boxes.{IsOpenLeaf}
 use Rattle.growing_laws.specs.States.{IsSplit, IsSplitAt}
-use Rattle.growing_laws.proofs.Growing.{some-both, forks-map}
+use Rattle.growing_laws.proofs.GrownLemmas.{some-both, forks-map}
 use Rattle.open_nodes.specs.declared.leaf.Plan.{Plan}
 use Rattle.open_nodes.specs.declared.leaf.OpenLeaf.{OpenLeaf}
 use Rattle.search_tree.specs.Views.{TreeView, Site, IsPlace}

@@ -18,7 +18,7 @@ use Rattle.roster_model.proofs.CutCounts.{base_length}
 use Rattle.roster_model.specs.Arcs.{same_arc}
 use Rattle.roster_model.specs.Folds.{sum_n, Each}
 use Rattle.roster_model.specs.SoundInstance.{IsSoundInstance, IsGroup, HasGroups}
-use Rattle.arc_laws.proofs.Folding.{Each-append}
+use Rattle.arc_laws.proofs.FoldsLemmas.{Each-append}
 use Rattle.bound_laws.proofs.BaseCuts.{IsRange}
 use Rattle.certificates.specs.Nodes.{low_cut, high_cut}
 use Rattle.master_laws.specs.Laws.{IsBelowHeads}

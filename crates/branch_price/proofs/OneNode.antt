@@ -18,14 +18,14 @@ use Rattle.roster_model.specs.Teams.{Team, teams}
 use Rattle.roster_model.proofs.SoundCells.{few_cells}
 use Rattle.arc_laws.specs.Counts.{AreCounts}
 use Rattle.arc_laws.specs.Lists.{AreArcs}
-use Rattle.arc_laws.proofs.Folding.{Each-at}
+use Rattle.arc_laws.proofs.FoldsLemmas.{Each-at}
 use Rattle.bound_laws.specs.BestPrices.{AreBest, loss}
 use Rattle.bound_laws.specs.Infeasible.{IsPlainlyInfeasible}
 use Rattle.bound_laws.specs.Lagrangian.{IsLagrangian, lagrangian_sum}
 use Rattle.bound_laws.specs.Pinned.{IsPinned, IsPinnedValue}
 use Rattle.bound_laws.specs.Priced.{IsPricedValue}
 use Rattle.bound_laws.proofs.SoundReady.{ready}
-use Rattle.priced_part.proofs.Rounding.{whole_up}
+use Rattle.priced_part.proofs.WholeCosts.{whole_up}
 use Rattle.certificates.specs.declared.cert.Node.{Node}
 use Rattle.certificates.specs.declared.cert.Node.TheVariants.{Split, Priced, Pinned, Bare}
 use Rattle.certificates.specs.Nodes.{Visit, priced, pinned}

@@ -5,7 +5,7 @@ use Rattle.roster_model.specs.declared.instance.Cut.{Cut}
 use Rattle.roster_model.specs.declared.instance.Instance.{Instance}
 use Rattle.roster_model.specs.Cuts.{lo, hi}
 use Rattle.roster_model.specs.Folds.{Each}
-use Rattle.arc_laws.proofs.Folding.{Each-append}
+use Rattle.arc_laws.proofs.FoldsLemmas.{Each-append}
 use Rattle.arc_laws.proofs.PathBounds.{Keeps, bounds-hold, bounds-keep}
 use Rattle.arc_laws.proofs.SameArc.{Told, arc_tells}
 use Rattle.certificates.specs.Nodes.{low_cut, high_cut}
@@ -19,7 +19,7 @@ use Rattle.bound_laws.specs.Infeasible.{IsPlainlyInfeasible}
 use Rattle.bound_laws.proofs.BaseCuts.{base-open, base-asks}
 use Rattle.parse_graph.specs.Graphs.{GraphView}
 use Rattle.growing_laws.specs.States.{IsSplit}
-use Rattle.growing_laws.proofs.Growing.{forks-map}
+use Rattle.growing_laws.proofs.GrownLemmas.{forks-map}
 use Rattle.open_nodes.specs.declared.leaf.OpenLeaf.{OpenLeaf}
 use Rattle.branch_price.specs.declared.progress.Progress.{Progress}
 use Rattle.branch_price.specs.Plans.{AskForArcs}

@@ -15,7 +15,7 @@ use Rattle.roster_model.specs.GreatestCost.{greatest_cost}
 use Rattle.roster_model.specs.SoundInstance.{IsSoundInstance}
 use Rattle.arc_laws.specs.Counts.{AreCounts, counts_cost}
 use Rattle.arc_laws.specs.Lists.{AreArcs}
-use Rattle.arc_laws.proofs.Folding.{sum_n-same}
+use Rattle.arc_laws.proofs.FoldsLemmas.{sum_n-same}
 use Rattle.arc_laws.proofs.Totals.{arcs-once}
 use Rattle.arc_branch.specs.Boxes.{BoxView, bounds_at}
 use Rattle.arc_branch.specs.Paths.{IsBoxOf}

@@ -13,24 +13,24 @@ use Rattle.bound_laws.specs.Counted.{HaveCounts}
 use Rattle.bound_laws.specs.Infeasible.{IsPlainlyInfeasible}
 use Rattle.bound_laws.specs.Pinned.{IsPinnedValue}
 use Rattle.bound_laws.proofs.Counted.{makes-roster}
-use Rattle.bound_laws.proofs.Greatest.{trees_cost-le}
-use Rattle.bound_laws.proofs.Realised.{has-trees, stand-for}
+use Rattle.bound_laws.proofs.TreeCosts.{trees_cost-le}
+use Rattle.bound_laws.proofs.RosterTrees.{has-trees, stand-for}
 use Rattle.bound_laws.proofs.SoundReady.{ready}
 use Rattle.certificates.specs.Nodes.{low_cut}
 use Rattle.certificates.specs.RosterCauses.{duties, stated_prices}
 use Rattle.certificate_laws.proofs.ShownBound.{shows-le}
-use Rattle.split_laws.proofs.Whole.{split-balanced}
+use Rattle.split_laws.proofs.SplitsLemmas.{split-balanced}
 use Rattle.parse_graph.specs.Graphs.{GraphView, IsGraph}
 use Rattle.parse_graph.proofs.PlacesLemmas.{of-graph}
 use Rattle.growing_laws.specs.Grown.{Grown, tip, fork, Leaf, fresh, valued, fixed, Own, OnTips, OnForks, leaf_value, raised, proof_of, shown}
 use Rattle.growing_laws.specs.States.{IsLeaf, IsOwn, IsSplit, IsTip, IsGrowing, OwnShows}
-use Rattle.growing_laws.proofs.Growing.{tips-map, forks-map}
-use Rattle.growing_laws.proofs.Stating.{growing-proves}
+use Rattle.growing_laws.proofs.GrownLemmas.{tips-map, forks-map}
+use Rattle.growing_laws.proofs.StatesLemmas.{growing-proves}
 use Rattle.candidate_rosters.specs.declared.roster.Roster.{Roster}
 use Rattle.candidate_rosters.specs.Rosters.{IsGoodRoster}
 use Rattle.offers.specs.Offers.{limit_of}
-use Rattle.offers.proofs.Moving.{balanced-moved}
-use Rattle.branch_price.proofs.EndedSound.{nodes-sound}
+use Rattle.offers.proofs.GraphCounts.{balanced-moved}
+use Rattle.branch_price.proofs.SoundEnds.{nodes-sound}
 
 -- where no leaf and no split shows more than u, neither does the tree
 shown-at-most : (u above : ℕ) (cuts : List Cut) (t : Grown) → OnTips (λ up path k l. leaf_value l ≤ u) above cuts t

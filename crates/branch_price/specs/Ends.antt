@@ -25,9 +25,9 @@ use Rattle.offers.specs.Offers.{limit_of, cost_of}
 use Rattle.branch_price.specs.declared.progress.Progress.{Progress}
 use Rattle.branch_price.specs.Searching.{site_of, IsSearching}
 
--- no open leaf leaves a bound below the limit
-abbrev pub IsShut : Instance → ℕ → Grown → Type 0
-IsShut i limit t = OnTips (λ up path k l. IsOpenLeaf l → limit ≤ tip_bound up l) 0 (base_cuts i) t
+-- the bound of each open leaf reaches the limit
+abbrev pub LeavesReach : Instance → ℕ → Grown → Type 0
+LeavesReach i limit t = OnTips (λ up path k l. IsOpenLeaf l → limit ≤ tip_bound up l) 0 (base_cuts i) t
 
 -- what is known of the tree at the end, whatever waits
 pub record IsFinal (s : Site) (now low : ℕ) (p : Progress) (t : Grown) : Type 0 where
@@ -48,7 +48,7 @@ pub record IsNext (i : Instance) (old new : Progress) (next : Option OpenLeaf) :
   pub taken : (v : GraphView) (strict : Bool) (before now low : ℕ) (t : Grown)
       → IsSearching (site_of i v strict before) now low [] old t
       → MatchOption next
-      (IsShut i (limit_of i old.best) t × IsFinal (site_of i v strict before) now low new t)
+      (LeavesReach i (limit_of i old.best) t × IsFinal (site_of i v strict before) now low new t)
       (λ leaf. (leaf.bound < limit_of i old.best)
       × IsSearching (site_of i v strict before) now leaf.bound (leaf ∷ []) new t)
 

@@ -66,7 +66,8 @@ pub record IsFound (i : Instance) (strict : Bool) (turns : ℕ) (f : Found) : Ty
   pub nodes : preorder proof ≡ f.cert.nodes
   pub shows : Shows i (base_cuts i) proof (bound_number i f.cert.bound)
   pub ascending : AreAscending f.cert.shifts
-  pub each : Each (λ (v : Visit). IsFoundNode i strict (bound_number i f.cert.bound) v v.node) (visits (base_cuts i) proof)
+  pub each : Each (λ (v : Visit). IsFoundNode i strict (bound_number i f.cert.bound) v v.node)
+      (visits (base_cuts i) proof)
   pub sharp : Each (λ (v : Visit). IsSharpNode i v v.node) (visits (base_cuts i) proof)
   pub processed : f.processed ≡ count is_processed f.cert.nodes
   pub failed : f.failed ≡ count is_unpriced f.cert.nodes
@@ -78,4 +79,5 @@ pub record IsFound (i : Instance) (strict : Bool) (turns : ℕ) (f : Found) : Ty
 -- each node that failed for another cause than its rows was counted by the master
 abbrev pub AreCounted : Instance → ℕ → ℕ → Found → Type 0
 AreCounted i before now f =
-    now ≢ last_count → (proof : Proof) → preorder proof ≡ f.cert.nodes → f.failed + before ≤ now + count (is_too_long i) (visits (base_cuts i) proof)
+    now ≢ last_count → (proof : Proof) → preorder proof ≡ f.cert.nodes → f.failed + before ≤ now
+    + count (is_too_long i) (visits (base_cuts i) proof)

@@ -15,7 +15,8 @@ abbrev pub site_of : Instance → GraphView → Bool → ℕ → Site
 site_of i v strict before = record { day = i; graph = v; strict = strict; before = before }
 
 -- the tree is right for the cost of the best roster, which is allowed and no dearer than the first one
-pub record IsSearching (s : Site) (now low : ℕ) (hand : List OpenLeaf) (p : Progress) (t : Grown) : Type 0 where
+pub record IsSearching (s : Site) (now low : ℕ) (hand : List OpenLeaf) (p : Progress)
+    (t : Grown) : Type 0 where
   pub tree : IsTree s (limit_of s.day p.best) now low hand p.tree t
   pub best : IfSome p.best (IsGoodRoster s.day)
   pub start : HasStart s.day → StartsWith s.day p.best

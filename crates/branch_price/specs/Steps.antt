@@ -77,5 +77,6 @@ pub record AsksHalf (i : Instance) (v : GraphView) (strict : Bool) (before now l
 
 -- nothing is processed, and the best roster is one of equal shifts of least price where this is allowed
 pub record IsBegun (i : Instance) (v : GraphView) (p : Progress) : Type 0 where
-  pub is : (strict : Bool) (before : ℕ) → (t : Grown) × IsSearching (site_of i v strict before) before 0 [] p t
+  pub is : (strict : Bool) (before : ℕ) → (t : Grown)
+      × IsSearching (site_of i v strict before) before 0 [] p t
   pub none : p.tree.processed ≡ 0

@@ -78,7 +78,8 @@ fn found(
     done: Done,
 ) -> Result<Found, Memory>
     requires sound { IsSoundInstance instance.now }
-    requires end { (a : AsksEnd instance.now) × IsEnd instance.now a.graph a.strict a.before a.now a.turns progress
+    requires end { (a : AsksEnd instance.now)
+        × IsEnd instance.now a.graph a.strict a.before a.now a.turns progress
         bound done }
     ensures found { IfOk result (λ f. (a : AsksEnd instance.now)
         → IsEnd instance.now a.graph a.strict a.before a.now a.turns progress bound done

@@ -46,7 +46,8 @@ trees_like (suc n) t = t ∷ trees_like n t
 abbrev pub AreLed : Instance → List Team → List Parts → Type 0
 AreLed i [] ts = ts ≡ []
 AreLed i (o ∷ os) ts =
-    (t : Parts) × (rest : List Parts) × (0 < o.least → IsLeader i o t) × (ts ≡ trees_like o.least t ++ rest) × AreLed i os rest
+    (t : Parts) × (rest : List Parts) × (0 < o.least → IsLeader i o t) × (ts ≡ trees_like o.least t ++ rest)
+    × AreLed i os rest
 
 -- so are the columns
 abbrev pub AreLedAt : Instance → List PoolTree → List Team → List ℕ → Type 0
@@ -54,7 +55,8 @@ AreLedAt i pool os columns = (ts : List Parts) × AreTreesAt i.grammar pool colu
 
 -- whatever columns there were of other teams, now there are those of this team as well
 abbrev pub Leads : Instance → List PoolTree → List PoolTree → Team → List ℕ → List ℕ → Type 0
-Leads i old_pool new_pool o old new = (os : List Team) → AreLedAt i old_pool os old → AreLedAt i new_pool (os ++ o ∷ []) new
+Leads i old_pool new_pool o old new = (os : List Team) → AreLedAt i old_pool os old
+    → AreLedAt i new_pool (os ++ o ∷ []) new
 
 -- the same number many times
 abbrev pub numbers_like : ℕ → ℕ → List ℕ

@@ -24,7 +24,8 @@ copies (suc n) d = d ∷ copies n d
 abbrev pub AreFewest : Instance → List Team → List Duty → Type 0
 AreFewest i [] ds = ds ≡ []
 AreFewest i (t ∷ ts) ds =
-    (w : List ℕ) × (rest : List Duty) × (0 < t.least → IsCheapest i t w) × (ds ≡ copies t.least (record { team = t.number; word = w }) ++ rest) × AreFewest i ts rest
+    (w : List ℕ) × (rest : List Duty) × (0 < t.least → IsCheapest i t w)
+    × (ds ≡ copies t.least (record { team = t.number; word = w }) ++ rest) × AreFewest i ts rest
 
 pub record IsStart (i : Instance) (ds : List Duty) : Type 0 where
   pub fewest : AreFewest i (teams i) ds
@@ -41,7 +42,8 @@ pub record HasStart (i : Instance) : Type 0 where
 
 -- the cost is a number, at most that of some such roster
 abbrev pub IsAtMostStart : Instance → Option ℕ → Type 0
-IsAtMostStart i cost = (n : ℕ) × (cost ≡ Some n) × (ds : List Duty) × (m : ℕ) × IsStart i ds × Costs i ds m × (n ≤ m)
+IsAtMostStart i cost = (n : ℕ) × (cost ≡ Some n) × (ds : List Duty) × (m : ℕ) × IsStart i ds × Costs i ds m
+    × (n ≤ m)
 
 -- there is a roster, and it costs no more than some such one
 abbrev pub StartsWith : Instance → Option Roster → Type 0

@@ -82,7 +82,8 @@ pub fn leaders(
     requires costs { AreCosts instance.now.grammar (price_view prices.now) }
     requires pool { IsPool instance.now.grammar pool.old }
     ensures led { IfOk result (λ found. IfSome found (AreLedAt instance.now pool.new (teams instance.now))) }
-    ensures none { IfOk result (λ found. IfNone found ((o : TeamOf) × In o (teams instance.now) × LacksTree instance.now o)) }
+    ensures none { IfOk result
+        (λ found. IfNone found ((o : TeamOf) × In o (teams instance.now) × LacksTree instance.now o)) }
     ensures pool { IsPool instance.now.grammar pool.new }
     ensures grown { IsGrown pool.old pool.new }
 {

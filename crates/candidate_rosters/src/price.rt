@@ -15,7 +15,8 @@ const MOST_KNOWN: usize = 64;
 
 // Returns the price that a word of a team has among the known ones.
 fn known_price(known: &[StatedShift], group: u8, word: &[u8]) -> Option<u64>
-    ensures { IfSome result (λ price. In (record { group = group; word = word.now; price = price }) known.now) }
+    ensures { IfSome result
+        (λ price. In (record { group = group; word = word.now; price = price }) known.now) }
 {
     for shift in known {
         if shift.group() == group && shift.word() == word {

@@ -62,7 +62,8 @@ pub fn roster_of(
     requires columns { All (λ c. c < length pool.now) columns.now }
     requires desk { IsDeskFor instance.now desk.old }
     ensures roster { IfOk result (λ found. IfSome found (IsGoodRoster instance.now)) }
-    ensures cost { IfOk result (λ found. (ts : Items Parts) → AreTreesAt instance.now.grammar pool.now columns.now ts
+    ensures cost { IfOk result
+        (λ found. (ts : Items Parts) → AreTreesAt instance.now.grammar pool.now columns.now ts
         → IsTreeRoster instance.now ts → Each (Meets ts) (base_cuts instance.now)
         → CostsAtMost (trees_cost instance.now ts) found) }
     ensures desk { IsDeskFor instance.now desk.new }

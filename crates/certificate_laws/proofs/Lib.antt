@@ -1,6 +1,6 @@
 pub mod Lists
-pub mod Unique
+pub mod OneProof
 pub mod ShownBound
 pub mod RightLemmas
-pub mod Refused
+pub mod NoCause
 pub mod OneCause

@@ -23,8 +23,8 @@ use Rattle.certificates.specs.NodeCauses.{IsFirstNoArc, IsFirstEmptyHalf, IsFirs
 use Rattle.certificates.specs.RosterCauses.{duties, IsFirstMispriced, IsFirstOutOfRange, IsMiscounted, IsFirstOutside}
 use Rattle.certificate_laws.specs.Causes.{stated_bound, IsAbove, Cause, cause_number, IsFirstCause}
 use Rattle.certificate_laws.specs.Shown.{Shows}
-use Rattle.certificate_laws.proofs.Refused.{one-team-price, one-prices}
-use Rattle.certificate_laws.proofs.Unique.{same-proof, one-shown}
+use Rattle.certificate_laws.proofs.NoCause.{one-team-price, one-prices}
+use Rattle.certificate_laws.proofs.OneProof.{same-proof, one-shown}
 
 order : (k m : ℕ) → (k < m) ⊎ ((m < k) ⊎ (k ≡ m))
 order k m = grind arith

@@ -7,8 +7,8 @@ use Rattle.roster_model.specs.Duties.{Duty}
 use Rattle.roster_model.specs.Folds.{Each}
 use Rattle.roster_model.specs.Rosters.{Costs}
 use Rattle.roster_model.specs.SoundInstance.{IsSoundInstance}
-use Rattle.bound_laws.proofs.CostsLess.{roster-costs-le}
-use Rattle.bound_laws.proofs.Realised.{has-trees, stand-for, not-infeasible}
+use Rattle.bound_laws.proofs.RosterCosts.{roster-costs-le}
+use Rattle.bound_laws.proofs.RosterTrees.{has-trees, stand-for, not-infeasible}
 use Rattle.bound_laws.proofs.SoundReady.{ready}
 use Rattle.certificates.specs.declared.cert.Cert.{Cert}
 use Rattle.certificates.specs.Nodes.{Proof, visits}
@@ -18,7 +18,7 @@ use Rattle.certificates.specs.RosterCauses.{stated_prices}
 use Rattle.certificate_laws.specs.Accepted.{IsStated, bound_number, IsProved, Accepts}
 use Rattle.certificate_laws.specs.Right.{YesIsRight}
 use Rattle.certificate_laws.proofs.ShownBound.{shows-le}
-use Rattle.certificate_laws.proofs.Unique.{same-proof}
+use Rattle.certificate_laws.proofs.OneProof.{same-proof}
 
 module _ (i : Instance) (sound : IsSoundInstance i) where
   -- each allowed roster costs at least what the tree proves

@@ -10,7 +10,7 @@ use Rattle.roster_model.specs.Cuts.{Meets}
 use Rattle.roster_model.specs.Folds.{Each}
 use Rattle.roster_model.specs.PriceLimits.{IsMult}
 use Rattle.roster_model.specs.SoundInstance.{IsSoundInstance}
-use Rattle.arc_laws.proofs.Folding.{Each-append}
+use Rattle.arc_laws.proofs.FoldsLemmas.{Each-append}
 use Rattle.bound_laws.specs.Infeasible.{IsPlainlyInfeasible}
 use Rattle.bound_laws.specs.Laws.{AreNotNegative}
 use Rattle.bound_laws.specs.Priced.{IsPricedValue}

@@ -12,7 +12,7 @@ use Rattle.roster_model.specs.Arcs.{parts_arcs, IsArc}
 use Rattle.tree_laws.specs.Laws.{arc_at}
 use Rattle.tree_laws.specs.Parts.{first}
 use Rattle.arc_laws.specs.OrNodes.{OrNode, name, suffix, leaf, right_of, made_by, made}
-use Rattle.arc_laws.proofs.Balanced.{left_of-is, right_of-is}
+use Rattle.arc_laws.proofs.BalanceLemmas.{left_of-is, right_of-is}
 use Rattle.parse_graph.specs.Graphs.{GraphView, IsGraph}
 use Rattle.span_arcs.specs.Marks.{TreesStand, PartsStand}
 use Rattle.cheapest_tree.specs.AtNodes.{IsAt, top_arc}

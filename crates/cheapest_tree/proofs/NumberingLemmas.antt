@@ -4,7 +4,7 @@ use Rattle.std.specs.Prelude.{slice_get}
 use Rattle.std.proofs.lemmas.List.{get_or-set_same, get_or-set_other, length-set, get_or-replicate, get_or_past, length-replicate}
 use Rattle.std.proofs.lemmas.Grind.{get_or_default_zero}
 use Rattle.span_cells.proofs.CellsLemmas.{same-row}
-use Rattle.tree_laws.proofs.Pushing.{push-kept, push-here}
+use Rattle.tree_laws.proofs.ListPushes.{push-kept, push-here}
 use Rattle.cheapest_tree.specs.declared.slots.Spot.{Spot}
 use Rattle.cheapest_tree.specs.Numbering.{AreNumbered, Grows}
 

@@ -14,7 +14,7 @@ use Rattle.tree_laws.proofs.Splits.{joined}
 use Rattle.tree_laws.proofs.Ends.{last_sum, only_sum, rooted}
 use Rattle.tree_laws.proofs.Size.{steps-beside, use_count-beside}
 use Rattle.arc_laws.specs.OrNodes.{OrNode, left_of, right_of, made, symbol_node, used_by, used}
-use Rattle.arc_laws.proofs.Balanced.{left_of-is, right_of-is, drop-next}
+use Rattle.arc_laws.proofs.BalanceLemmas.{left_of-is, right_of-is, drop-next}
 use Rattle.cheapest_tree.specs.AtNodes.{IsAt, sum_at, top_arc, arc_total}
 use Rattle.cheapest_tree.specs.Walks.{steps_of}
 use Rattle.cheapest_tree.proofs.StandLemmas.{Standing, IsCut, Fits}

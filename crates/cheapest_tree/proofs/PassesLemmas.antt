@@ -12,7 +12,7 @@ use Rattle.roster_model.specs.Trees.{Parts, IsDayTree}
 use Rattle.roster_model.specs.Folds.{In}
 use Rattle.roster_model.specs.Sound.{IsSound}
 use Rattle.roster_model.specs.Sums.{PriceView, Within, AllWithin, IsLeast, IsLesser, tree_sum}
-use Rattle.tree_laws.proofs.Least.{IsLeast-empty, IsLeast-same, IsLeast-union}
+use Rattle.tree_laws.proofs.LeastValues.{IsLeast-empty, IsLeast-same, IsLeast-union}
 use Rattle.tree_laws.proofs.Ends.{code-least, last_sum}
 use Rattle.tree_laws.proofs.Bounds.{sum-small}
 use Rattle.arc_laws.specs.OrNodes.{OrNode, name, suffix, leaf, made, used, root_of}

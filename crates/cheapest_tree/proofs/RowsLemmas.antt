@@ -10,7 +10,7 @@ use Rattle.roster_model.specs.declared.grammar.Grammar.{Grammar}
 use Rattle.roster_model.specs.Sound.{IsSound}
 use Rattle.roster_model.specs.Sums.{PriceView, Within, IsLeast}
 use Rattle.roster_model.specs.Trees.{Parts}
-use Rattle.tree_laws.proofs.Least.{IsLeast-empty, IsLeast-same, IsLeast-union}
+use Rattle.tree_laws.proofs.LeastValues.{IsLeast-empty, IsLeast-same, IsLeast-union}
 use Rattle.tree_laws.proofs.Ends.{code-least}
 use Rattle.arc_laws.specs.OrNodes.{OrNode, name, suffix, leaf, same_node, made, used}
 use Rattle.parse_graph.specs.Graphs.{GraphView, IsGraph, IsKid, AreKids, places, places_from}

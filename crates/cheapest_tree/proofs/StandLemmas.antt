@@ -11,7 +11,7 @@ use Rattle.roster_model.specs.Folds.{In}
 use Rattle.roster_model.specs.Arcs.{arcs, parts_arcs, IsArc}
 use Rattle.tree_laws.specs.Laws.{arc_at}
 use Rattle.tree_laws.specs.Parts.{beside}
-use Rattle.arc_laws.proofs.Balanced.{drop-next}
+use Rattle.arc_laws.proofs.BalanceLemmas.{drop-next}
 use Rattle.span_arcs.specs.Marks.{TreesStand, PartsStand}
 use Rattle.span_arcs.proofs.StandLemmas.{In-either, some-covered, beside-arcs, last-arcs, only-arcs, first-stands, rest-stands, last-stands, only-stands, right-stands}
 use Rattle.span_arcs.proofs.MarksLemmas.{day-stands}

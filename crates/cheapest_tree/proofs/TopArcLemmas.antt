@@ -12,11 +12,11 @@ use Rattle.roster_model.specs.Trees.{Parts, done, letter, uses, Derive, On}
 use Rattle.roster_model.specs.Sums.{PriceView, plus, tree_sum, parts_sum, IsLeast, AtMost, SymbolLeast, PartsLeast}
 use Rattle.tree_laws.specs.Laws.{arc_at}
 use Rattle.tree_laws.specs.Parts.{first}
-use Rattle.tree_laws.proofs.Least.{IsLeast-same}
+use Rattle.tree_laws.proofs.LeastValues.{IsLeast-same}
 use Rattle.tree_laws.proofs.Splits.{split-least}
 use Rattle.tree_laws.proofs.Ends.{last-least, only-least, rooted}
 use Rattle.arc_laws.specs.OrNodes.{OrNode, name, suffix, left_of, right_of, made_by, made, symbol_node, rest_node, used_by, used}
-use Rattle.arc_laws.proofs.Balanced.{left_of-is, right_of-is, drop-next}
+use Rattle.arc_laws.proofs.BalanceLemmas.{left_of-is, right_of-is, drop-next}
 use Rattle.cheapest_tree.specs.AtNodes.{IsAt, sum_at, NodeLeast, top_arc, arc_total, with_rule}
 use Rattle.cheapest_tree.proofs.StandLemmas.{Standing, IsCut, Fits, LastFits}
 

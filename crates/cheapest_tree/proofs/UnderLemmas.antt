@@ -10,7 +10,7 @@ use Rattle.roster_model.specs.Trees.{Parts, IsDayTree, steps}
 use Rattle.roster_model.specs.Sums.{PriceView, Within, AllWithin, IsLeast, tree_sum}
 use Rattle.tree_laws.specs.Parts.{use_count}
 use Rattle.tree_laws.proofs.Bounds.{few-steps}
-use Rattle.tree_laws.proofs.Least.{IsLeast-same}
+use Rattle.tree_laws.proofs.LeastValues.{IsLeast-same}
 use Rattle.tree_laws.proofs.Size.{length-steps}
 use Rattle.arc_laws.specs.OrNodes.{OrNode, made, used, root_of}
 use Rattle.parse_graph.specs.Graphs.{GraphView, AreKids}

@@ -13,7 +13,7 @@ use Rattle.roster_model.specs.Folds.{In}
 use Rattle.roster_model.specs.Sums.{PriceView, plus, IsLeast}
 use Rattle.roster_model.specs.Room.{RoomView}
 use Rattle.tree_laws.specs.Parts.{use_count}
-use Rattle.tree_laws.proofs.Least.{IsLeast-one}
+use Rattle.tree_laws.proofs.LeastValues.{IsLeast-one}
 use Rattle.tree_laws.proofs.Size.{length-steps}
 use Rattle.arc_laws.specs.OrNodes.{OrNode, name, suffix, leaf, made_by, made, used_by, used}
 use Rattle.parse_graph.specs.Graphs.{GraphView, IsKid, AreKids}

@@ -30,7 +30,8 @@ abbrev pub number_but : ℕ → Option ℤ → ℤ
 number_but none None = pos none
 number_but none (Some z) = z
 
-same_number : (none : ℕ) (z : ℤ) (b : Bool) → (b ≡ true → z ≡ pos none) → number_but none (cond b None (Some z)) ≡ z
+same_number : (none : ℕ) (z : ℤ) (b : Bool) → (b ≡ true → z ≡ pos none)
+    → number_but none (cond b None (Some z)) ≡ z
 same_number none z true h = sym (h refl)
 same_number none z false h = refl
 

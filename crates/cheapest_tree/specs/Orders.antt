@@ -54,7 +54,8 @@ pub record IsRow (v : GraphView) (letters : List Spot) (makers : List Maker) (ro
       × IsEarlier v rows j x.first × IsEarlier v rows j x.rest
 
 -- rows in order, and all nodes that are done have one
-pub record IsOrderSoFar (v : GraphView) (letters : List Spot) (done : List Bool) (order : Order) : Type 0 where
+pub record IsOrderSoFar (v : GraphView) (letters : List Spot) (done : List Bool)
+    (order : Order) : Type 0 where
   pub rows : (j : ℕ) (row : Row) → slice_get order.rows j ≡ Some row
       → IsRow v letters order.makers order.rows j row
   pub found : (s : ℕ) → slice_get done s ≡ Some true → (j : ℕ) × (row : Row)

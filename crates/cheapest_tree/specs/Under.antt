@@ -28,7 +28,8 @@ pub record IsReady (g : Grammar) (p : PriceView) (v : GraphView) (w : PricerView
   pub filled : IsFilled g p v w
 
 -- of some pricer that is filled these are the links and the values
-pub record AsksSum (p : PriceView) (v : GraphView) (links : Links) (values : List (Option ℤ)) (arc : ℕ) : Type 0 where
+pub record AsksSum (p : PriceView) (v : GraphView) (links : Links) (values : List (Option ℤ))
+    (arc : ℕ) : Type 0 where
   pub g : Grammar
   pub w : PricerView
   pub ready : IsReady g p v w

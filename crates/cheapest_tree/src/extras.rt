@@ -84,7 +84,8 @@ impl<N: Number> Extras<N> {
         requires number { number < length self.old.places.items }
         requires small { AreWithin N.limits.price self.old.prices.items }
         requires free { AreFreeBut self.old.places.items 0 number self.old.prices.items }
-        ensures added { IsTrue result → IsAdded graph.now.arcs entry.now self.old.prices.items self.new.prices.items }
+        ensures added { IsTrue result
+            → IsAdded graph.now.arcs entry.now self.old.prices.items self.new.prices.items }
         ensures count { length self.new.prices.items ≡ length graph.now.arcs }
         ensures places { length self.new.places.items ≡ length self.old.places.items }
         ensures small { AreWithin N.limits.price self.new.prices.items }
@@ -125,7 +126,8 @@ impl<N: Number> Extras<N> {
     /// Asks for the price of each arc, and returns true; false where one is too wide.
     pub fn ask_all<P: LetterPrice>(&mut self, graph: &Graph, prices: &P) -> bool
         requires count { length self.old.prices.items ≡ length graph.now.arcs }
-        ensures costs { IsTrue result → AreCosts N.limits.price (P.view prices.now) graph.now.arcs self.new.prices.items }
+        ensures costs { IsTrue result
+            → AreCosts N.limits.price (P.view prices.now) graph.now.arcs self.new.prices.items }
         ensures count { length self.new.prices.items ≡ length graph.now.arcs }
     {
         let arcs = graph.arcs();

@@ -172,8 +172,10 @@ impl Pricer {
         room: &mut TreeRoom,
     )
         requires made { IsMadeFor graph.now self.now }
-        requires asks { (g : Rules) × (a : Key) × AsksTreeUnder g (P.view prices.now) graph.now self.now arc a room.old }
-        ensures tree { (g : Rules) (a : Key) → AsksTreeUnder g (P.view prices.now) graph.now self.now arc a room.old
+        requires asks { (g : Rules) × (a : Key)
+            × AsksTreeUnder g (P.view prices.now) graph.now self.now arc a room.old }
+        ensures tree { (g : Rules) (a : Key)
+            → AsksTreeUnder g (P.view prices.now) graph.now self.now arc a room.old
             → HoldsLeastUnder g (P.view prices.now) a room.new }
         ensures kept { room.new.most ≡ room.old.most }
     {

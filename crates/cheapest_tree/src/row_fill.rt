@@ -96,7 +96,8 @@ fn better<N: Number>(
     ensures most { N.value result.number ≤ℤ pos N.limits.least }
     ensures better { IsBetter (sum_but N.limits.least (N.value least.number)) least.arc
         (plus (value_at sums.now maker.first) (plus (Some (maker_price rules.now extras.now maker))
-        (value_at sums.now maker.rest))) maker.arc (sum_but N.limits.least (N.value result.number)) result.arc }
+        (value_at sums.now maker.rest))) maker.arc
+        (sum_but N.limits.least (N.value result.number)) result.arc }
 {
     let rule = rules[maker.code as usize];
     let prices = rule.plus(extras[maker.arc as usize]);

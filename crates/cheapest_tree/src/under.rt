@@ -20,7 +20,8 @@ pub fn least_under<P: LetterPrice>(
 ) -> Option<i128>
     requires { AsksSum (P.view prices.now) graph.now links.now values.now arc }
     ensures { (asked : AsksSum (P.view prices.now) graph.now links.now values.now arc) (a : Key)
-        → IsTop asked.g graph.now arc a → IsLeast (IsDayTreeUnder asked.g a) (tree_sum (P.view prices.now) 1) result }
+        → IsTop asked.g graph.now arc a
+        → IsLeast (IsDayTreeUnder asked.g a) (tree_sum (P.view prices.now) 1) result }
 {
     let place = arc as usize;
     let first = values[links.first.as_slice()[place] as usize].sum();

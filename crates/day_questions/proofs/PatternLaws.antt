@@ -12,9 +12,9 @@ use Rattle.next_codes.specs.Marginals.{HasLetter, IsDayTreeWith}
 use Rattle.day_questions.specs.Prices.{at_period, pattern_view}
 use Rattle.day_questions.specs.Shifts.{TakesFront, IsLeastPrice}
 use Rattle.day_questions.specs.Laws.{SumsAreCosts, IsSumOf, TakesWith, PatternSums, LeastSums, MarginalPrices}
-use Rattle.day_questions.proofs.Summed.{letters_sum, tree-summed}
-use Rattle.day_questions.proofs.Taken.{price_by, taken-free, free-taken, plus-parts}
-use Rattle.day_questions.proofs.Placed.{letter-byte, byte-letter}
+use Rattle.day_questions.proofs.TreeSums.{letters_sum, tree-summed}
+use Rattle.day_questions.proofs.PatternLetters.{price_by, taken-free, free-taken, plus-parts}
+use Rattle.day_questions.proofs.LetterBytes.{letter-byte, byte-letter}
 
 pub pattern-sums : PatternSums
 pattern-sums g any pattern sound short = record { taken = taken; priced = priced }

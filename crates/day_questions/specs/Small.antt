@@ -41,7 +41,8 @@ pattern-small g any pattern few =
 pub miss-small : (g : Grammar) (prefix : List ℕ) → g.periods ≤ 96 → AllWithin (2 ^ 96) (miss_view g prefix)
 miss-small g prefix few =
     byte-small g (λ i b. Some (pos (miss (at_period prefix i) b (g.periods - i)))) (λ r. 0)
-    (λ i b. natural (miss (at_period prefix i) b (g.periods - i)) (by (at_period prefix i) b (g.periods - i) (omega (arith, few))))
+    (λ i b. natural (miss (at_period prefix i) b (g.periods - i))
+    (by (at_period prefix i) b (g.periods - i) (omega (arith, few))))
     (λ r. omega arith)
   where
     power : (k : ℕ) → k ≤ 96 → ◌≤◌ (2 ^ k) (2 ^ 96)

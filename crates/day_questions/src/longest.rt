@@ -27,7 +27,8 @@ fn bits(number: u128) -> u8
 // misses.
 fn longest_of(grammar: &Grammar, prefix: &[u8], sum: i128) -> usize
     requires sound { IsSound grammar.now }
-    requires least { IsLeast (IsDayTree grammar.now) (tree_sum (miss_view grammar.now prefix.now) 1) (Some sum) }
+    requires least { IsLeast (IsDayTree grammar.now) (tree_sum (miss_view grammar.now prefix.now) 1)
+        (Some sum) }
     ensures { IsLongest grammar.now prefix.now result }
 {
     let behind = bits(sum as u128);

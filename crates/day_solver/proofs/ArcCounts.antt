@@ -5,12 +5,12 @@ use Rattle.roster_model.specs.declared.grammar.Grammar.{Grammar}
 use Rattle.roster_model.specs.Arcs.{same_arc, IsArc}
 use Rattle.roster_model.specs.Folds.{sum_n, count}
 use Rattle.arc_laws.specs.Lists.{AreArcs}
-use Rattle.arc_laws.proofs.Counting.{counted}
-use Rattle.arc_laws.proofs.Folding.{sum_n-same}
+use Rattle.arc_laws.proofs.ArcSums.{counted}
+use Rattle.arc_laws.proofs.FoldsLemmas.{sum_n-same}
 use Rattle.arc_laws.proofs.SameArc.{rising-once}
 use Rattle.parse_graph.specs.Graphs.{GraphView, IsGraph, HasArcs}
 use Rattle.parse_graph.proofs.PlacesLemmas.{once-counted, in-graph, of-graph}
-use Rattle.parse_graph.proofs.SortedLemmas.{sorted-arcs}
+use Rattle.parse_graph.proofs.ArcOrderLemmas.{sorted-arcs}
 use Rattle.day_solver.specs.Solutions.{HasArcCount}
 
 ones : {A : Type 0} (xs : List A) → sum_n (λ x. 1) xs ≡ length xs

@@ -4,12 +4,12 @@ use Rattle.roster_model.specs.declared.instance.Cut.{Cut}
 use Rattle.roster_model.specs.declared.instance.Instance.{Instance}
 use Rattle.roster_model.specs.Cuts.{base_cuts}
 use Rattle.roster_model.specs.Folds.{sum_n, count, Each}
-use Rattle.arc_laws.proofs.Folding.{count-append, sum_n-append, Each-same}
+use Rattle.arc_laws.proofs.FoldsLemmas.{count-append, sum_n-append, Each-same}
 use Rattle.certificates.specs.declared.cert.Node.{Node}
 use Rattle.certificates.specs.declared.cert.Node.TheVariants.{Split, Priced, Pinned, Bare}
 use Rattle.certificates.specs.Kinds.{is_processed}
 use Rattle.certificates.specs.Nodes.{Proof, split, priced, pinned, bare, preorder, Visit, visits, low_cut, high_cut}
-use Rattle.certificates.proofs.Joined.{each_parts}
+use Rattle.certificates.proofs.JoinedLists.{each_parts}
 use Rattle.certificate_laws.specs.Accepted.{bound_number}
 use Rattle.bound_proof.specs.Written.{node_values}
 use Rattle.branch_price.specs.declared.found.Found.{Found}

@@ -78,7 +78,8 @@ pub fn with_text(
 ) -> Result<Solution, Memory>
     requires sound { IsSoundInstance instance.now }
     requires graph { IsGraph instance.now.grammar graph.now }
-    requires found { (strict : Bool) × (turns : ℕ) × (turns ≤ 10000) × IsFound instance.now strict turns found }
+    requires found { (strict : Bool) × (turns : ℕ) × (turns ≤ 10000)
+        × IsFound instance.now strict turns found }
     ensures solution { IfOk result (λ s. (strict : Bool) (turns : ℕ) → IsFound instance.now strict turns found
         → IsSolution instance.now strict turns s) }
     ensures same { IfOk result (λ s. s.found ≡ found) }

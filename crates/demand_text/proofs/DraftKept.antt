@@ -22,7 +22,7 @@ use Rattle.demand_text.specs.Lines.{has_group, has_need, has_bound, most_heads, 
 use Rattle.demand_text.specs.Steps.{◌>>=◌}
 use Rattle.demand_text.proofs.GroupSums.{most_more}
 use Rattle.text_lines.proofs.StepsLemmas.{each_keeps, passed, bind_ok, same_ok, err, ok}
-use Rattle.demand_text.proofs.Kept.{work_is, name_within, counts_are, range_within}
+use Rattle.demand_text.proofs.FieldsKept.{work_is, name_within, counts_are, range_within}
 use Rattle.text_lines.proofs.FieldsLemmas.{number_within}
 use Rattle.text_lines.proofs.ListLemmas.{apart_more, none_passes, Each-push, fewer}
 

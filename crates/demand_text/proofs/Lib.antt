@@ -1,6 +1,6 @@
 pub mod CellLists
 pub mod GroupSums
-pub mod Kept
+pub mod FieldsKept
 pub mod DraftKept
 pub mod Extension
 pub mod SoundInstances

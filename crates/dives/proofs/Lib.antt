@@ -1,4 +1,4 @@
-mod Leasts
-mod Growing
-mod Placed
-mod Wide
+mod LeastTrees
+mod PoolGrowth
+mod ArcPrices
+mod WidePrices

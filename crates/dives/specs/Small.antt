@@ -14,13 +14,16 @@ chosen : (b : Bool) (p q : ℤ) → Within (2 ^ 96) p → Within (2 ^ 96) q → 
 chosen true p q h k = h
 chosen false p q h k = k
 
-price-small : (listed : List ArcKey) (prices : List ℤ) → All (Within (2 ^ 96)) prices → (a : ArcKey) → Within (2 ^ 96) (price_at listed prices a)
+price-small : (listed : List ArcKey) (prices : List ℤ) → All (Within (2 ^ 96)) prices → (a : ArcKey)
+    → Within (2 ^ 96) (price_at listed prices a)
 price-small [] prices all a = nothing
 price-small (b ∷ bs) [] all a = nothing
 price-small (b ∷ bs) (p ∷ ps) all a =
-    chosen (same_arc a b) p (price_at bs ps a) (All-head (Within (2 ^ 96)) p ps all) (price-small bs ps (All-tail (Within (2 ^ 96)) p ps all) a)
+    chosen (same_arc a b) p (price_at bs ps a) (All-head (Within (2 ^ 96)) p ps all)
+    (price-small bs ps (All-tail (Within (2 ^ 96)) p ps all) a)
 
-pub view-small : (listed : List ArcKey) (prices : List ℤ) → All (Within (2 ^ 96)) prices → AllWithin (2 ^ 96) (width_view listed prices)
+pub view-small : (listed : List ArcKey) (prices : List ℤ) → All (Within (2 ^ 96)) prices
+    → AllWithin (2 ^ 96) (width_view listed prices)
 view-small listed prices all = record {
   letters = λ c i. nothing;
   arcs = price-small listed prices all;

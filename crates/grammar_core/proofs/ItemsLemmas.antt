@@ -12,7 +12,7 @@ use Rattle.grammar_core.specs.declared.normal.Second.{Second}
 use Rattle.grammar_core.specs.declared.normal.Second.TheVariants.{Nothing, One, Rest}
 use Rattle.grammar_core.specs.Items.{item_count, Follows, IsItem, ItemBefore, AreItems}
 use Rattle.grammar_core.specs.Adding.{Continues, IsItemOf, AddsItems, ItemsOfFirst}
-use Rattle.tree_laws.proofs.Pushing.{push-kept, push-here, push-cases}
+use Rattle.tree_laws.proofs.ListPushes.{push-kept, push-here, push-cases}
 
 -- no item yet
 pub adds-init : (r : ℕ) (right : List Sym) (old : List Item) → AddsItems r right 0 old old

@@ -6,7 +6,7 @@ use Rattle.roster_model.specs.declared.grammar.Grammar.{Grammar}
 use Rattle.roster_model.specs.UnitRules.{IsRanked}
 use Rattle.grammar_core.specs.Items.{IsOrder}
 use Rattle.grammar_core.specs.Adding.{IsPlaced, IsDone, AreOrdered}
-use Rattle.tree_laws.proofs.Pushing.{push-kept, push-here, push-cases}
+use Rattle.tree_laws.proofs.ListPushes.{push-kept, push-here, push-cases}
 
 -- no name yet
 pub order-init : (ranks : List ℕ) (names : ℕ) (done : ℕ → Type 0) → ((x : ℕ) → x < names → done x → ⊥) → AreOrdered ranks names done []

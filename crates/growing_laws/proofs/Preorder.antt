@@ -5,13 +5,13 @@ use Rattle.std.proofs.lemmas.List.{append-nil, length-set}
 use Rattle.std.proofs.lemmas.Bool.{eq-eqb}
 use Rattle.roster_model.specs.declared.grammar.ArcKey.{ArcKey}
 use Rattle.roster_model.specs.Folds.{count, In, Each}
-use Rattle.arc_laws.proofs.Folding.{count-append, Each-at}
+use Rattle.arc_laws.proofs.FoldsLemmas.{count-append, Each-at}
 use Rattle.certificates.specs.declared.cert.Node.{Node}
 use Rattle.certificates.specs.Nodes.{preorder}
 use Rattle.growing_laws.specs.declared.seat.Seat.{Seat}
 use Rattle.growing_laws.specs.Grown.{Grown, tip, fork, Leaf, fresh, valued, fixed, Own, raised, numbers, proof_of}
 use Rattle.growing_laws.specs.Seats.{number, leaf_node, IsLeafSeat, IsForkSeat, AreSeated, all_nodes, all_numbers, halves_of, IsHead, seat_at, HoldTree, AreOpen, IsListing, pushed_halves, HasHalves}
-use Rattle.growing_laws.proofs.Seating.{in-left, in-right, number-in, give-nodes}
+use Rattle.growing_laws.proofs.SeatsLemmas.{in-left, in-right, number-in, give-nodes}
 
 snoc-same : (xs ys : List ℕ) (a b : ℕ) → xs ++ a ∷ [] ≡ ys ++ b ∷ [] → (xs ≡ ys) × (a ≡ b)
 snoc-same [] [] a b e = (refl, head-same a b e)

@@ -2,12 +2,12 @@ pub mod Ring
 pub mod Totals
 pub mod RowSteps
 pub mod Duality
-pub mod Tied
+pub mod TiedTableau
 pub mod Start
 pub mod Pivot
 pub mod Solutions
 pub mod Paths
 pub mod RowLaws
-pub mod Worked
+pub mod ExampleLemmas
 pub mod Orders
 pub mod Values

@@ -2,7 +2,7 @@
 use Rattle.std.proofs.Common.{ℕ}
 use Rattle.linear_programs.specs.Program.{Program, IsSound}
 use Rattle.linear_programs.specs.Tableau.{Tableau, PivotPath, start, step}
-use Rattle.linear_programs.proofs.Tied.{IsTied}
+use Rattle.linear_programs.proofs.TiedTableau.{IsTied}
 use Rattle.linear_programs.proofs.Start.{start_tied}
 use Rattle.linear_programs.proofs.Pivot.{step_keeps}
 

@@ -3,7 +3,7 @@ use Rattle.std.proofs.Common.{◌≡◌, ℕ, ℤ, ◌+◌, ◌<◌, arith, pos,
 use Rattle.std.proofs.lemmas.Bool.{eq-eqb, ne_eqb, cases_eq}
 use Rattle.linear_programs.specs.Program.{Column, Program, reduced}
 use Rattle.linear_programs.specs.Tableau.{Tableau, entry, whole_row, cost_row, padded_row, IsStep}
-use Rattle.linear_programs.proofs.Tied.{IsTied}
+use Rattle.linear_programs.proofs.TiedTableau.{IsTied}
 use Rattle.linear_programs.proofs.RowSteps.{step_dot, factor_positive}
 use Rattle.linear_programs.proofs.Totals.{total-same}
 use Rattle.std.proofs.lemmas.Int.{ints}

@@ -9,7 +9,7 @@ use Rattle.linear_programs.specs.Sums.{total, dot}
 use Rattle.linear_programs.specs.Program.{Column, Program, reduced, IsPricedOut}
 use Rattle.linear_programs.specs.Solution.{Weighted, Each, weighted_sum, brought, cost_of, IsSolution, IsValue, Uses, weight_where, IsBasic}
 use Rattle.linear_programs.specs.Tableau.{Tableau, entry, on_basis, IsTableauSolution}
-use Rattle.linear_programs.proofs.Tied.{IsTied}
+use Rattle.linear_programs.proofs.TiedTableau.{IsTied}
 use Rattle.linear_programs.proofs.Ring.{*ℤ-assoc, *ℤ-+ℤ, *ℤ--ℤ, same_factor}
 use Rattle.linear_programs.proofs.Totals.{total-same, total-zero, total-add, total-scale, dot-add_right, dot-scale_right, dot-zero_right, dot-same_right}
 use Rattle.linear_programs.proofs.Duality.{weak_duality, swapped}

@@ -5,7 +5,7 @@ use Rattle.std.proofs.lemmas.Bool.{eq-eqb, ne_eqb, cases_eq}
 use Rattle.linear_programs.specs.Sums.{dot}
 use Rattle.linear_programs.specs.Program.{Program, IsSound, unit_vector}
 use Rattle.linear_programs.specs.Tableau.{Tableau, IsStart, entry}
-use Rattle.linear_programs.proofs.Tied.{IsTied}
+use Rattle.linear_programs.proofs.TiedTableau.{IsTied}
 use Rattle.linear_programs.proofs.Totals.{total-same, total-zero, dot-comm, dot-same_right}
 
 unit_here : (r : ℕ) → unit_vector r r ≡ pos 1

@@ -11,7 +11,7 @@ use Rattle.linear_programs.proofs.Orders.{times_swap, times_le, le_factor}
 use Rattle.linear_programs.proofs.Ring.{*ℤ-assoc, same_factor}
 use Rattle.linear_programs.proofs.Solutions.{solution_cost}
 use Rattle.linear_programs.proofs.Start.{dot-unit}
-use Rattle.linear_programs.proofs.Tied.{IsTied}
+use Rattle.linear_programs.proofs.TiedTableau.{IsTied}
 use Rattle.linear_programs.proofs.Totals.{dot-comm}
 
 -- ---- solutions with the same sums

@@ -12,7 +12,7 @@ use Rattle.roster_model.specs.Arcs.{letters, arcs, same_arc}
 use Rattle.roster_model.specs.Coverage.{is_at}
 use Rattle.roster_model.specs.Cuts.{arcs_of, arc_count}
 use Rattle.arc_laws.specs.TreeLists.{letters_of}
-use Rattle.arc_laws.proofs.Folding.{count-append}
+use Rattle.arc_laws.proofs.FoldsLemmas.{count-append}
 use Rattle.bound_laws.specs.TreeRosters.{tree_cover}
 use Rattle.linear_programs.specs.Program.{reduced}
 use Rattle.linear_programs.specs.Sums.{dot}

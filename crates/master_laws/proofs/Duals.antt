@@ -15,7 +15,7 @@ use Rattle.master_laws.specs.Rounding.{CellLine, line_sum}
 use Rattle.master_laws.proofs.RowSums.{worth, IsGood}
 use Rattle.master_laws.proofs.Lines.{line_total, cells_of, OfLine}
 use Rattle.master_laws.proofs.Numbers.{add_times, neg_times, times_mono}
-use Rattle.master_laws.proofs.Rounded.{IsClean}
+use Rattle.master_laws.proofs.RoundingLemmas.{IsClean}
 
 -- prices of a cell's rows, and what the heads' rows pay for each employee at the cell
 record Dual (k d most : ℕ) (q : CellPrice) : Type 0 where

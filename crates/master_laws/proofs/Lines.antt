@@ -6,7 +6,7 @@ use Rattle.roster_model.specs.declared.instance.Cut.{Cut}
 use Rattle.roster_model.specs.declared.instance.Instance.{Instance}
 use Rattle.roster_model.specs.Folds.{sum_z, Each}
 use Rattle.bound_laws.proofs.WholeSums.{sum_z-append}
-use Rattle.arc_laws.proofs.Folding.{Each-append}
+use Rattle.arc_laws.proofs.FoldsLemmas.{Each-append}
 use Rattle.master_laws.specs.Rows.{Row, cell_row, floor_row, ceiling_row, least_row, most_row, cut_row, has_floor, has_ceiling, cell_rows, floor_rows, ceiling_rows, cut_rows, rows_of}
 use Rattle.master_laws.specs.Rounding.{CellLine, lines_from, cell_lines, first_ceiling, first_head, numbers_from}
 use Rattle.master_laws.proofs.RowSums.{RowPrice, rows_in, priced}

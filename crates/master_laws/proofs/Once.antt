@@ -10,7 +10,7 @@ use Rattle.roster_model.specs.Trees.{Parts, done, letter, uses, span_length, Der
 use Rattle.roster_model.specs.Folds.{count}
 use Rattle.roster_model.specs.Arcs.{letters}
 use Rattle.roster_model.specs.Coverage.{is_at}
-use Rattle.arc_laws.proofs.Folding.{count-append}
+use Rattle.arc_laws.proofs.FoldsLemmas.{count-append}
 use Rattle.master_laws.specs.Rows.{cell_count}
 
 module _ (g : Grammar) (c : Cell) where

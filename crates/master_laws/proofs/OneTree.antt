@@ -13,10 +13,10 @@ use Rattle.roster_model.specs.Folds.{sum_z, sum_n, count, Each, In}
 use Rattle.roster_model.specs.Arcs.{Letter, letters, arcs, cost, rule_cost, same_arc}
 use Rattle.roster_model.specs.Coverage.{is_at}
 use Rattle.roster_model.specs.Reduced.{CellPrice, CutPrice, cell_prices, cut_prices, signed, letter_price, arc_price, reduced_view}
-use Rattle.arc_laws.proofs.Folding.{Each-in}
+use Rattle.arc_laws.proofs.FoldsLemmas.{Each-in}
 use Rattle.bound_laws.specs.Infeasible.{IsPlainlyInfeasible}
 use Rattle.bound_laws.specs.Lagrangian.{IsLeastReduced}
-use Rattle.bound_laws.proofs.Additive.{tree_sum-value}
+use Rattle.bound_laws.proofs.TreeValues.{tree_sum-value}
 use Rattle.bound_laws.proofs.Relaxation.{reduced_of, reduced_total}
 use Rattle.master_laws.specs.Rows.{cell_count, tree_arcs}
 

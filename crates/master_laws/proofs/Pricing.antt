@@ -13,7 +13,7 @@ use Rattle.roster_model.specs.Folds.{sum_z}
 use Rattle.roster_model.specs.Arcs.{cost, rule_cost}
 use Rattle.roster_model.specs.Reduced.{CellPrice, CutPrice, cell_prices, signed, letter_price, arc_price, cuts_paid}
 use Rattle.linear_programs.specs.Program.{IsPricedOut, reduced}
-use Rattle.bound_laws.proofs.Additive.{tree_sum-value}
+use Rattle.bound_laws.proofs.TreeValues.{tree_sum-value}
 use Rattle.master_laws.specs.Rows.{Row, rows_of, side_row, cell_count, tree_arcs, HoldsAt}
 use Rattle.master_laws.specs.Master.{missing, beyond, tree, HasBeyond, master}
 use Rattle.master_laws.specs.Rounding.{CellLine, cell_lines, line_sum, line_sums, first_ceiling, first_head, numbers_from}
@@ -21,7 +21,7 @@ use Rattle.master_laws.specs.Pricing.{row_view}
 use Rattle.master_laws.proofs.RowSums.{worth, priced_dot}
 use Rattle.master_laws.proofs.Lines.{at, cells_of, cells_of-lines, built_sum, cut_numbers, priced_built}
 use Rattle.master_laws.proofs.Numbers.{neg_times}
-use Rattle.master_laws.proofs.Rounded.{lines_clean}
+use Rattle.master_laws.proofs.RoundingLemmas.{lines_clean}
 use Rattle.master_laws.proofs.RoundedValue.{lines_count}
 use Rattle.master_laws.proofs.OneTree.{one_total}
 

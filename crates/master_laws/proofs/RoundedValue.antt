@@ -34,7 +34,7 @@ use Rattle.master_laws.proofs.Lines.{cells_of, built, built_sum, line_total, cut
 use Rattle.master_laws.proofs.Signs.{built_good}
 use Rattle.linear_programs.proofs.Orders.{times_add, times_times, times_swap, times_le, scale_le, le_factor}
 use Rattle.master_laws.proofs.Numbers.{add_times, times_neg, times_mono, times_fall}
-use Rattle.master_laws.proofs.Rounded.{AreNear, AreNearMults, all_near_one, all_near_none, mults_near_one, mults_near_none, IsClean, lines_clean, line_count, lines_le, covers_le, cuts_le, cuts_pay}
+use Rattle.master_laws.proofs.RoundingLemmas.{AreNear, AreNearMults, all_near_one, all_near_none, mults_near_one, mults_near_none, IsClean, lines_clean, line_count, lines_le, covers_le, cuts_le, cuts_pay}
 use Rattle.master_laws.proofs.OneTree.{one_total, red, attained, cells_have}
 
 pub lines_count : (f : Cell → ℕ) (t : Parts) (same : (c : Cell) → cell_count c t ≡ f c) (ls : List CellLine) → Each IsClean ls

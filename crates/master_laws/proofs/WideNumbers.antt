@@ -7,10 +7,10 @@ use Rattle.roster_model.specs.declared.instance.Cell.{Cell}
 use Rattle.roster_model.specs.declared.instance.Cut.{Cut}
 use Rattle.roster_model.specs.declared.instance.Instance.{Instance}
 use Rattle.roster_model.specs.Folds.{Each, In}
-use Rattle.arc_laws.proofs.Folding.{In-append}
+use Rattle.arc_laws.proofs.FoldsLemmas.{In-append}
 use Rattle.master_laws.specs.Rows.{Row, floor_row, ceiling_row, has_floor, has_ceiling, floor_rows, ceiling_rows, rows_of}
 use Rattle.master_laws.specs.Rounding.{lines_from, cell_lines, first_ceiling, first_head, line_sums, numbers_from, IsMadeWhole, IsDenominator, IsFloor}
-use Rattle.master_laws.proofs.Small.{row_count}
+use Rattle.master_laws.proofs.RowSizes.{row_count}
 
 either : (a b : ℕ) → (a ≤ b) ⊎ (b + 1 ≤ a)
 either a b = grind arith

@@ -33,17 +33,22 @@ other_weights (w ∷ ws) = other_first w.key w.weight (other_weights ws)
 -- a basic solution of least cost stays one where its weights are sorted so
 abbrev pub WeightsApart : Type 0
 WeightsApart =
-    (i : Instance) (cuts : List Cut) (ws : List (Weighted MasterKey)) (q : ℕ) → IsBasic (master i cuts) ws q → CostsLeast (master i cuts) ws q
-    → IsBasic (master i cuts) (tree_weights ws ++ other_weights ws) q × CostsLeast (master i cuts) (tree_weights ws ++ other_weights ws) q
+    (i : Instance) (cuts : List Cut) (ws : List (Weighted MasterKey)) (q : ℕ) → IsBasic (master i cuts) ws q
+    → CostsLeast (master i cuts) ws q
+    → IsBasic (master i cuts) (tree_weights ws ++ other_weights ws) q
+    × CostsLeast (master i cuts) (tree_weights ws ++ other_weights ws) q
 
 -- what the end of a pivot path tells, v / q being its value over kappa
 pub record IsPathEnd (i : Instance) (cuts : List Cut) (t : Tableau MasterKey) (v : ℤ) (q : ℕ) : Type 0 where
   pub prices : ArePricesOf i cuts t.y t.kappa v q
   pub value : IsValue (master i cuts) v q
-  pub basic : (w : ℕ → ℕ) (d : ℕ) → IsTableauSolution (master i cuts) t w d → IsBasic (master i cuts) (on_basis t.basis w (master i cuts).rows) d
-  pub least : (w : ℕ → ℕ) (d : ℕ) → IsTableauSolution (master i cuts) t w d → CostsLeast (master i cuts) (on_basis t.basis w (master i cuts).rows) d
+  pub basic : (w : ℕ → ℕ) (d : ℕ) → IsTableauSolution (master i cuts) t w d
+      → IsBasic (master i cuts) (on_basis t.basis w (master i cuts).rows) d
+  pub least : (w : ℕ → ℕ) (d : ℕ) → IsTableauSolution (master i cuts) t w d
+      → CostsLeast (master i cuts) (on_basis t.basis w (master i cuts).rows) d
 
 abbrev pub PathEnds : Type 0
 PathEnds =
-    (i : Instance) (cuts : List Cut) (n : ℕ) (t : Tableau MasterKey) (v : ℤ) (q : ℕ) → PivotPath (master i cuts) n t → IsPricedOut (master i cuts) t.y t.kappa
+    (i : Instance) (cuts : List Cut) (n : ℕ) (t : Tableau MasterKey) (v : ℤ) (q : ℕ)
+    → PivotPath (master i cuts) n t → IsPricedOut (master i cuts) t.y t.kappa
     → 0 < q → v *ℤ t.kappa ≡ t.value *ℤ pos q → IsPathEnd i cuts t v q

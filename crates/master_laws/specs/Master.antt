@@ -46,9 +46,12 @@ IsArtificial x = is_artificial x.sense ≡ true
 
 -- the column of each key, artificial ones costing k
 abbrev pub column_of : Instance → ℕ → List Row → MasterKey → Column
-column_of i k rows (missing r) = record { entry = unit_vector r; cost = number_at (λ x. pos (missing_cost k x.sense)) rows r }
-column_of i k rows (beyond r) = record { entry = λ j. neg_ℤ (unit_vector r j); cost = number_at (λ x. pos (beyond_cost x.sense)) rows r }
-column_of i k rows (tree t) = record { entry = number_at (λ x. pos (x.brings t)) rows; cost = pos (cost i.grammar t) }
+column_of i k rows (missing r) =
+    record { entry = unit_vector r; cost = number_at (λ x. pos (missing_cost k x.sense)) rows r }
+column_of i k rows (beyond r) =
+    record { entry = λ j. neg_ℤ (unit_vector r j); cost = number_at (λ x. pos (beyond_cost x.sense)) rows r }
+column_of i k rows (tree t) =
+    record { entry = number_at (λ x. pos (x.brings t)) rows; cost = pos (cost i.grammar t) }
 
 abbrev pub Belongs : Instance → List Row → MasterKey → Type 0
 Belongs i rows (missing r) = r < length rows

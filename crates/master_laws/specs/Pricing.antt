@@ -9,4 +9,5 @@ use Rattle.master_laws.specs.Rounding.{cell_lines, line_sums, first_head, number
 -- The prices, over kappa, under which the sum of a tree is the reduced cost of its column and the
 -- prices of the two heads rows.
 abbrev pub row_view : Instance → List Cut → (ℕ → ℤ) → ℕ → PriceView
-row_view i cuts y kappa = view_of i.grammar kappa (cell_prices i.cells (line_sums (cell_lines i y))) (cuts_paid cuts (numbers_from y (first_head i + 2) cuts))
+row_view i cuts y kappa = view_of i.grammar kappa (cell_prices i.cells (line_sums (cell_lines i y)))
+    (cuts_paid cuts (numbers_from y (first_head i + 2) cuts))

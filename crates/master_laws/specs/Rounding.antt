@@ -21,7 +21,12 @@ pub record CellLine : Type 0 where
 abbrev pub lines_from : (ℕ → ℤ) → ℕ → ℕ → ℕ → List Cell → List CellLine
 lines_from y j f e [] = []
 lines_from y j f e (c ∷ cs) =
-    record { cell = c; own = y j; floor = cond (has_floor c) (y f) (pos 0); ceiling = cond (has_ceiling c) (y e) (pos 0) }
+    record {
+      cell = c;
+      own = y j;
+      floor = cond (has_floor c) (y f) (pos 0);
+      ceiling = cond (has_ceiling c) (y e) (pos 0);
+    }
     ∷ lines_from y (suc j) (f + cond (has_floor c) 1 0) (e + cond (has_ceiling c) 1 0) cs
 
 -- the first rows of ceilings, of the heads and of the cuts
@@ -78,24 +83,28 @@ AreFloors kappa d (x ∷ xs) [] = ⊥
 -- the multiplier of each cut, numbered from j, is the size of its number, rounded down
 abbrev pub AreMults : ℤ → ℕ → List Mult → ℕ → List Cut → List ℤ → Type 0
 AreMults kappa d ms j [] [] = Unit {0}
-AreMults kappa d ms j (c ∷ cs) (x ∷ xs) = IsFloor kappa d (neg_ℤ (signed c.side x)) (mult_of ms j) × AreMults kappa d ms (j + 1) cs xs
+AreMults kappa d ms j (c ∷ cs) (x ∷ xs) = IsFloor kappa d (neg_ℤ (signed c.side x)) (mult_of ms j)
+    × AreMults kappa d ms (j + 1) cs xs
 AreMults kappa d ms j [] (x ∷ xs) = ⊥
 AreMults kappa d ms j (c ∷ cs) [] = ⊥
 
 -- prices of cells and cuts from these numbers over kappa; the signs of the cuts' numbers make rounding down one towards 0
-pub record AreRounded (kappa : ℤ) (cells : List ℤ) (cuts : List Cut) (numbers : List ℤ) (p : Prices) : Type 0 where
+pub record AreRounded (kappa : ℤ) (cells : List ℤ) (cuts : List Cut) (numbers : List ℤ)
+    (p : Prices) : Type 0 where
   pub denominator : IsDenominator kappa (cells ++ numbers) p.d
   pub cell : AreFloors kappa p.d cells p.cell
   pub mult : AreMults kappa p.d p.mult 1 cuts numbers
 
 -- prices from the prices y / kappa of a master's rows
 abbrev pub AreRoundedFrom : Instance → List Cut → (ℕ → ℤ) → ℤ → Prices → Type 0
-AreRoundedFrom i cuts y kappa p = AreRounded kappa (line_sums (cell_lines i y)) cuts (numbers_from y (first_head i + 2) cuts) p
+AreRoundedFrom i cuts y kappa p =
+    AreRounded kappa (line_sums (cell_lines i y)) cuts (numbers_from y (first_head i + 2) cuts) p
 
 -- where a rounded number is above 2^80 in size, some price of a row is above 2^56
 abbrev pub WideRounding : Type 0
 WideRounding =
     (i : Instance) (cuts : List Cut) (y : ℕ → ℤ) (kappa : ℤ) (d : ℕ) (x p : ℤ) → pos 0 <ℤ kappa
     → IsDenominator kappa (line_sums (cell_lines i y) ++ numbers_from y (first_head i + 2) cuts) d
-    → In x (line_sums (cell_lines i y) ++ numbers_from y (first_head i + 2) cuts) → IsFloor kappa d x p ⊎ IsFloor kappa d (neg_ℤ x) p → 2 ^ 80 < unsigned_abs p
+    → In x (line_sums (cell_lines i y) ++ numbers_from y (first_head i + 2) cuts) → IsFloor kappa d x p
+    ⊎ IsFloor kappa d (neg_ℤ x) p → 2 ^ 80 < unsigned_abs p
     → (r : ℕ) × (r < length (rows_of i cuts)) × (2 ^ 56 < unsigned_abs (y r))

@@ -12,7 +12,8 @@ use Rattle.master_laws.specs.Master.{MasterKey, missing, beyond, tree, IsArtific
 -- A node whose master may be given up: it has more than 1,500 rows, or a pivot path that is wide, or
 -- one of 5,000 steps that is not at its end.
 abbrev pub IsHard : Instance → List Cut → Type 0
-IsHard i cuts = (1500 < length (rows_of i cuts)) ⊎ HasWidePath (master i cuts) ⊎ HasOpenPath (master i cuts) 5000
+IsHard i cuts = (1500 < length (rows_of i cuts)) ⊎ HasWidePath (master i cuts)
+    ⊎ HasOpenPath (master i cuts) 5000
 
 abbrev pub arcs_in : ArcKey → MasterKey → ℕ
 arcs_in a (missing r) = 0
@@ -44,10 +45,12 @@ AreFine ws q = (d : ℕ) → 1 ≤ d → IsTreeDenominator ws q d → 2 ^ 100 < 
 
 -- a basic solution of least cost in which the arc's weight is strictly between b and b + 1, or an
 -- artificial column has a weight, or the weights are fine
-pub record IsSharpBy (i : Instance) (cuts : List Cut) (a : ArcKey) (b : ℕ) (ws : List (Weighted MasterKey)) (q : ℕ) : Type 0 where
+pub record IsSharpBy (i : Instance) (cuts : List Cut) (a : ArcKey) (b : ℕ) (ws : List (Weighted MasterKey))
+    (q : ℕ) : Type 0 where
   pub basic : IsBasic (master i cuts) ws q
   pub least : CostsLeast (master i cuts) ws q
-  pub reason : ((q * b < arc_weight a ws) × (arc_weight a ws < q * (b + 1))) ⊎ UsesArtificial i cuts ws ⊎ AreFine ws q
+  pub reason : ((q * b < arc_weight a ws) × (arc_weight a ws < q * (b + 1))) ⊎ UsesArtificial i cuts ws
+      ⊎ AreFine ws q
 
 -- the split of the node on the arc at b is sharp
 abbrev pub IsSharp : Instance → List Cut → ArcKey → ℕ → Type 0

@@ -14,13 +14,15 @@ use Rattle.master_laws.specs.Master.{MasterKey, master}
 use Rattle.master_laws.specs.Sharp.{arc_weight}
 
 -- the arcs of the instance have these whole weights
-pub record HasCounts (i : Instance) (cuts : List Cut) (ws : List (Weighted MasterKey)) (q : ℕ) (listed : List ArcKey) (value : ArcKey → ℕ) : Type 0 where
+pub record HasCounts (i : Instance) (cuts : List Cut) (ws : List (Weighted MasterKey)) (q : ℕ)
+    (listed : List ArcKey) (value : ArcKey → ℕ) : Type 0 where
   pub solution : IsSolution (master i cuts) ws q
   pub arcs : AreArcs i.grammar listed
   pub whole : (a : ArcKey) → In a listed → arc_weight a ws ≡ q * value a
 
 -- so many of these trees of the day have each arc
-pub record HaveCounts (i : Instance) (listed : List ArcKey) (value : ArcKey → ℕ) (ts : List Parts) : Type 0 where
+pub record HaveCounts (i : Instance) (listed : List ArcKey) (value : ArcKey → ℕ)
+    (ts : List Parts) : Type 0 where
   pub day : Each (IsDayTree i.grammar) ts
   pub counts : (a : ArcKey) → In a listed → arc_count a ts ≡ value a
 
@@ -30,7 +32,8 @@ pub record CanBeSplit (i : Instance) (listed : List ArcKey) (value : ArcKey → 
   pub few : (a : ArcKey) → In a listed → value a ≤ i.heads_max
 
 -- trees with the number and the coverage of an allowed roster, that meet the cuts and cost no more than the solution
-pub record MeetNode (i : Instance) (cuts : List Cut) (ws : List (Weighted MasterKey)) (q : ℕ) (ts : List Parts) : Type 0 where
+pub record MeetNode (i : Instance) (cuts : List Cut) (ws : List (Weighted MasterKey)) (q : ℕ)
+    (ts : List Parts) : Type 0 where
   pub roster : IsTreeRoster i ts
   pub meets : Each (Meets ts) cuts
   pub cost : (pos q *ℤ pos (trees_cost i ts)) ≤ℤ cost_of (master i cuts).column ws

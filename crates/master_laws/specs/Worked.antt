@@ -15,7 +15,14 @@ use Rattle.master_laws.specs.Master.{master}
 
 -- a shift of three letters at the cost 2
 abbrev pub shift_rule : ℕ → ℕ → ℕ → Rule
-shift_rule a b c = record { left = 0; cost = 2; right = Code a ∷ Code b ∷ Code c ∷ []; span = any_window; first = any_window; last = any_window }
+shift_rule a b c = record {
+  left = 0;
+  cost = 2;
+  right = Code a ∷ Code b ∷ Code c ∷ [];
+  span = any_window;
+  first = any_window;
+  last = any_window;
+}
 
 -- one employee is needed in the period
 abbrev pub one : ℕ → Cell

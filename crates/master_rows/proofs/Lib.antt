@@ -1,6 +1,6 @@
-pub mod Added
-pub mod Brought
+pub mod AddedRows
 pub mod CellPrices
-pub mod Chained
-pub mod Listed
+pub mod EntriesLemmas
+pub mod NodeRowsLemmas
 pub mod RowNumbers
+pub mod TreeEntries

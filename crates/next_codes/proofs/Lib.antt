@@ -1,7 +1,7 @@
-mod Lowered
-mod Around
-mod Pushed
-mod Parted
-mod Opened
-mod Reached
-mod Made
+mod LoweredTotals
+mod Surroundings
+mod PushesLemmas
+mod PartPushes
+mod SlotTotals
+mod MarginalsLemmas
+mod ViewsLemmas

@@ -39,13 +39,13 @@ use Rattle.master_laws.specs.Laws.{AreSmall, IsBelowHeads, ArePricesOf}
 use Rattle.master_laws.specs.Rounding.{AreRoundedFrom}
 use Rattle.master_laws.specs.Sharp.{UsesArtificial}
 use Rattle.master_laws.specs.WholeCounts.{MeetNode}
-use Rattle.master_laws.proofs.Close.{are_best, counts_close}
+use Rattle.master_laws.proofs.BestPrices.{are_best, counts_close}
 use Rattle.master_laws.proofs.Ends.{path_end, weights_apart}
 use Rattle.master_laws.proofs.Rivals.{rivals_less}
 use Rattle.master_laws.proofs.RoundedValue.{rounded_value}
 use Rattle.master_laws.proofs.RowSums.{master_sound}
-use Rattle.master_laws.proofs.Small.{row_count, small}
-use Rattle.master_laws.proofs.Whole.{meet_node}
+use Rattle.master_laws.proofs.RowSizes.{row_count, small}
+use Rattle.master_laws.proofs.WholeCountsLemmas.{meet_node}
 use Rattle.master_rows.specs.NodeRows.{IsSmallCut}
 use Rattle.tableau.specs.declared.simplex.Basic.{Basic}
 use Rattle.tableau.specs.declared.simplex.LpFault.{LpFault}

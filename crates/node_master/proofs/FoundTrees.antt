@@ -17,7 +17,7 @@ use Rattle.master_laws.specs.Master.{tree, master}
 use Rattle.master_laws.specs.Pricing.{row_view}
 use Rattle.master_laws.specs.Rounding.{first_head}
 use Rattle.master_laws.proofs.Pricing.{trees_priced}
-use Rattle.master_laws.proofs.Small.{row_count}
+use Rattle.master_laws.proofs.RowSizes.{row_count}
 use Rattle.node_master.specs.Priced.{heads_price, HoldsCheaper, HasNoCheaper}
 
 pub heads_within : (i : Instance) (cuts : List Cut) (n : ℕ) → n ≡ length (rows_of i cuts) → first_head i + 1 < n

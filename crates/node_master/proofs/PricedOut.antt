@@ -14,7 +14,7 @@ use Rattle.fraction.specs.Row.{at}
 use Rattle.master_laws.specs.Rows.{Row, rows_of, HoldsAt}
 use Rattle.master_laws.specs.Master.{MasterKey, missing, beyond, tree, HasBeyond, master}
 use Rattle.master_laws.specs.Laws.{AreSmall}
-use Rattle.master_laws.proofs.Small.{small}
+use Rattle.master_laws.proofs.RowSizes.{small}
 use Rattle.master_rows.specs.NodeRows.{IsSmallCut}
 use Rattle.pivot_rows.specs.declared.column.Place.{Place}
 use Rattle.pivot_rows.specs.Columns.{number_in, AreRising, AreWithin, AreUnits}

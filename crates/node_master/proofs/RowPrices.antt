@@ -12,7 +12,7 @@ use Rattle.fraction.specs.Range.{Counts}
 use Rattle.fraction.specs.Row.{at}
 use Rattle.master_laws.specs.Rows.{rows_of, has_floor, has_ceiling}
 use Rattle.master_laws.specs.Rounding.{CellLine, lines_from, cell_lines, line_sum, line_sums, first_ceiling, first_head, numbers_from}
-use Rattle.master_laws.proofs.Small.{row_count}
+use Rattle.master_laws.proofs.RowSizes.{row_count}
 use Rattle.master_laws.proofs.WideNumbers.{wide_rounding}
 use Rattle.price_round.specs.Faults.{IsRoundFault}
 use Rattle.price_round.specs.declared.round.RoundFault.{RoundFault}

@@ -34,13 +34,26 @@ impl<'i, 'g, 'c, 'r, 'p, 'q, 'd> Columns for NodeColumns<'i, 'g, 'c, 'r, 'p, 'q,
 
     ghost Site = { NodeSite };
 
-    ghost site = { λ s. record { instance = s.instance.now; cuts = s.cuts.now; pricer = s.pricer.ghost_name; pool = s.pool.ghost_name } };
+    ghost site = { λ s. record {
+      instance = s.instance.now;
+      cuts = s.cuts.now;
+      pricer = s.pricer.ghost_name;
+      pool = s.pool.ghost_name;
+    } };
 
     ghost program = { site_program };
 
     ghost State = { NodeState };
 
-    ghost state = { λ s. record { instance = s.instance.now; cuts = s.cuts.now; graph = s.graph.now; rows = s.rows.now; pricer = s.pricer.now; pool = s.pool.now; desk = s.desk.now } };
+    ghost state = { λ s. record {
+      instance = s.instance.now;
+      cuts = s.cuts.now;
+      graph = s.graph.now;
+      rows = s.rows.now;
+      pricer = s.pricer.now;
+      pool = s.pool.now;
+      desk = s.desk.now;
+    } };
 
     ghost Ready = { IsReady };
 

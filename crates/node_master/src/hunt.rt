@@ -128,7 +128,7 @@ fn ask_mixed(
 }
 
 /// Lists trees at mixed prices.
-#[tactic(auto, using(crate::proofs::Hunting::grown_chain, crate::proofs::Hunting::grown_same))]
+#[tactic(auto, using(crate::proofs::PoolGrowth::grown_chain, crate::proofs::PoolGrowth::grown_same))]
 fn ask_all(
     alloc: Global,
     instance: &Instance,
@@ -164,7 +164,7 @@ fn ask_all(
 }
 
 /// Takes a round: runs the scout, and lists trees that are cheap there. Says whether there were any.
-#[tactic(auto, using(crate::proofs::Hunting::grown_chain))]
+#[tactic(auto, using(crate::proofs::PoolGrowth::grown_chain))]
 fn hunt_once(
     alloc: Global,
     instance: &Instance,
@@ -209,7 +209,7 @@ fn hunt_once(
 }
 
 /// Takes rounds until no tree is cheap.
-#[tactic(auto, using(crate::proofs::Hunting::grown_chain, crate::proofs::Hunting::grown_same))]
+#[tactic(auto, using(crate::proofs::PoolGrowth::grown_chain, crate::proofs::PoolGrowth::grown_same))]
 fn hunt_rounds(
     alloc: Global,
     instance: &Instance,

@@ -123,7 +123,7 @@ pub fn solve_node_from(
 }
 
 /// Solves the master with these rows, steered to the basis that a hunt ends with.
-#[tactic(auto, using(crate::proofs::Hunting::grown_chain))]
+#[tactic(auto, using(crate::proofs::PoolGrowth::grown_chain))]
 fn solve_steered(
     alloc: Global,
     instance: &Instance,

@@ -8,13 +8,13 @@ use Rattle.roster_model.specs.declared.instance.Instance.{Instance}
 use Rattle.roster_model.specs.Arcs.{IsArc}
 use Rattle.roster_model.specs.Cuts.{base_cuts}
 use Rattle.roster_model.specs.Folds.{count, In, Each}
-use Rattle.arc_laws.proofs.Folding.{Each-at}
+use Rattle.arc_laws.proofs.FoldsLemmas.{Each-at}
 use Rattle.certificates.specs.Nodes.{low_cut, high_cut}
 use Rattle.growing_laws.specs.declared.seat.Seat.{Seat}
 use Rattle.growing_laws.specs.Grown.{Grown, tip, fork, OnForks, numbers}
 use Rattle.growing_laws.specs.Seats.{number, seat_at, StandsAt, LeadsUp}
 use Rattle.growing_laws.specs.States.{IsSplitAt}
-use Rattle.growing_laws.proofs.Seating.{in-left, in-right, leads-up}
+use Rattle.growing_laws.proofs.SeatsLemmas.{in-left, in-right, leads-up}
 use Rattle.node_path.specs.Paths.{IsNode}
 use Rattle.node_path.specs.Steps.{AreWithin, IsClimbed, IsClimbing}
 

@@ -1,4 +1,4 @@
 mod BaseLemmas
 mod ClimbLemmas
-mod GoingLemmas
+mod StepsLemmas
 mod TurnsLemmas

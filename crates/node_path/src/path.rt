@@ -33,7 +33,8 @@ impl Model for NodePath {
 
     ghost Value = { PathView };
 
-    ghost view = { λ p. record { cuts = p.cuts.items; arc_box = p.arc_box; base = p.base; turns = p.turns.items } };
+    ghost view = { λ p. record
+        { cuts = p.cuts.items; arc_box = p.arc_box; base = p.base; turns = p.turns.items } };
 }
 
 impl NodePath {
@@ -93,7 +94,8 @@ impl NodePath {
         requires path { IsPath instance.now graph.now self.old }
         requires node { (t : Grown) × (path : List OneCut) × IsNode instance.now seats.now number t path }
         ensures path { OnOk result (IsPath instance.now graph.now self.new) }
-        ensures cuts { OnOk result ((t : Grown) (path : List OneCut) → IsNode instance.now seats.now number t path
+        ensures cuts { OnOk result
+            ((t : Grown) (path : List OneCut) → IsNode instance.now seats.now number t path
             → self.new.cuts ≡ path) }
     {
         go_back(&mut self.arc_box, &mut self.turns);

@@ -19,7 +19,8 @@ pub(crate) fn narrow(arc_box: &mut ArcBox, graph: &Graph, cut: &Cut) -> Option<T
     requires { (i : Day) × (above : List OneCut) × CanCut i graph.now above cut.now arc_box.old }
     ensures left { (i : Day) (above : List OneCut) → CanCut i graph.now above cut.now arc_box.old
         → IsBoxOf i graph.now (above ++ cut.now ∷ []) arc_box.new }
-    ensures turn { IfSome result (λ turn. (i : Day) (above : List OneCut) → CanCut i graph.now above cut.now arc_box.old
+    ensures turn { IfSome result
+        (λ turn. (i : Day) (above : List OneCut) → CanCut i graph.now above cut.now arc_box.old
         → IsTurn i graph.now above cut.now turn) }
     ensures none { IfNone result (In cut.now.arc graph.now.arcs → ⊥) }
 {
@@ -38,7 +39,8 @@ fn turn_at(
     requires { (i : Day) × (above : List OneCut) × CanCut i graph.now above cut.now arc_box.old }
     ensures left { (i : Day) (above : List OneCut) → CanCut i graph.now above cut.now arc_box.old
         → IsBoxOf i graph.now (above ++ cut.now ∷ []) arc_box.new }
-    ensures turned { OnOk result ((i : Day) (base above : List OneCut) → CanCut i graph.now above cut.now arc_box.old
+    ensures turned { OnOk result
+        ((i : Day) (base above : List OneCut) → CanCut i graph.now above cut.now arc_box.old
         → IsArc i.grammar cut.now.arc → AreTurns i graph.now base turns.old.items above
         → AreTurns i graph.now base turns.new.items (above ++ cut.now ∷ [])) }
 {

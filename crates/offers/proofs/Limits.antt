@@ -4,7 +4,7 @@ use Rattle.roster_model.specs.declared.instance.Instance.{Instance}
 use Rattle.roster_model.specs.GreatestCost.{greatest_cost}
 use Rattle.roster_model.specs.SoundInstance.{IsSoundInstance}
 use Rattle.certificates.specs.RosterCauses.{duties, stated_prices}
-use Rattle.bound_laws.proofs.CostsLess.{roster-costs-le}
+use Rattle.bound_laws.proofs.RosterCosts.{roster-costs-le}
 use Rattle.candidate_rosters.specs.declared.roster.Roster.{Roster}
 use Rattle.candidate_rosters.specs.Rosters.{IsGoodRoster}
 use Rattle.offers.specs.Offers.{limit_of}

@@ -30,11 +30,13 @@ attribute name n = name ++ (decimal n ++ codes "'")
 
 -- the first mark of a caption
 unfoldable pub at : List ℕ → ℕ → ℕ → List ℕ
-at class x y = codes "<text class='" ++ (class ++ (attribute (codes "' x='") x ++ (attribute (codes " y='") y ++ codes ">")))
+at class x y = codes "<text class='"
+    ++ (class ++ (attribute (codes "' x='") x ++ (attribute (codes " y='") y ++ codes ">")))
 
 unfoldable pub area_text : Area → List ℕ
 area_text a =
-    attribute (codes "' x='") a.left ++ (attribute (codes " y='") a.top ++ (attribute (codes " width='") a.width
+    attribute (codes "' x='") a.left
+    ++ (attribute (codes " y='") a.top ++ (attribute (codes " width='") a.width
     ++ attribute (codes " height='") a.height))
 
 unfoldable pub element_text : Element → List ℕ

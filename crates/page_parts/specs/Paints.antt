@@ -11,7 +11,8 @@ abbrev pub paint_from : List CodeDef → ℕ → ℕ → ℕ → List ℕ
 paint_from [] byte works idles = paint false works idles
 paint_from (c ∷ cs) byte works idles =
     if nat_eq c.byte byte then paint c.work works idles
-    else (if c.work then paint_from cs byte (min (works + 1) 7) idles else paint_from cs byte works (min (idles + 1) 4))
+    else (if c.work then paint_from cs byte (min (works + 1) 7) idles
+    else paint_from cs byte works (min (idles + 1) 4))
 
 -- Codes of work have eight colours in the order of the codes, `w0` to `w7`, and others five, `i0` to `i4`,
 -- of which the last may stand for several.

@@ -8,7 +8,8 @@ width_of periods = min (960 / max periods 1) 40
 
 -- the sheet of so many periods, with room for names of so many bytes
 abbrev pub sheet_of : ℕ → ℕ → Sheet
-sheet_of periods longest = record { left = 56 + 8 * min longest 40; cell = width_of periods; periods = periods }
+sheet_of periods longest =
+    record { left = 56 + 8 * min longest 40; cell = width_of periods; periods = periods }
 
 -- where the period behind so many begins
 abbrev pub left_of : Sheet → ℕ → ℕ

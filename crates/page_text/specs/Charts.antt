@@ -42,13 +42,15 @@ from_of s c = left_of s (c.period - 1)
 -- a bar of so many employees, down from a count
 unfoldable pub column_bar : List ℕ → Sheet → ℕ → Column → ℕ → ℕ → List Element
 column_bar class s unit c top count =
-    bar class (record { left = from_of s c; top = level unit top; width = s.cell; height = unit * count }) ∷ []
+    bar class (record { left = from_of s c; top = level unit top; width = s.cell; height = unit * count })
+    ∷ []
 
 -- the bars of a column: who is needed and there, who is missing, and who is there beyond the need
 unfoldable pub column_bars : Sheet → ℕ → Column → List Element
 column_bars s unit c =
     column_bar (codes "have") s unit c (min c.need c.have) (min c.need c.have)
-    ++ (column_bar (codes "short") s unit c c.need c.short ++ column_bar (codes "over") s unit c c.have c.over)
+    ++ (column_bar (codes "short") s unit c c.need c.short
+    ++ column_bar (codes "over") s unit c c.have c.over)
 
 -- a step of a line: up or down to a count, and then to the end of the period
 unfoldable pub need_step : Sheet → ℕ → Column → List Element
@@ -58,7 +60,8 @@ need_step s unit c =
 -- a line over one period at a count, where it is above 0
 unfoldable pub stroke : Sheet → ℕ → Column → ℕ → List Element
 stroke s unit c count =
-    if nat_lt 0 count then marks (codes "M") ∷ number (from_of s c) ∷ marks (codes " ") ∷ number (level unit count)
+    if nat_lt 0 count then marks (codes "M") ∷ number (from_of s c) ∷ marks (codes " ")
+    ∷ number (level unit count)
     ∷ marks (codes "H") ∷ number (from_of s c + s.cell) ∷ [] else []
 
 -- a count in words
@@ -94,25 +97,29 @@ in_words s code cs =
 
 -- a line over the whole day
 unfoldable pub grid : Sheet → ℕ → List Element
-grid s top = bar (codes "grid") (record { left = s.left; top = top; width = right_of s - s.left; height = 1 }) ∷ []
+grid s top = bar (codes "grid") (record { left = s.left; top = top; width = right_of s - s.left; height = 1 })
+    ∷ []
 
 -- the lines at the bottom and at the greatest count, with their numbers
 unfoldable pub frame : Sheet → ℕ → ℕ → List Element
 frame s unit top =
     grid s (level unit top) ++ (grid s base
-    ++ figure (codes "price") (s.left - 8) (level unit top + 4) top ∷ figure (codes "price") (s.left - 8) (base + 4) 0 ∷ [])
+    ++ figure (codes "price") (s.left - 8) (level unit top + 4) top
+    ∷ figure (codes "price") (s.left - 8) (base + 4) 0 ∷ [])
 
 -- the line of the need, from the bottom to the bottom
 unfoldable pub need_line : Sheet → ℕ → ℕ → List Column → List Element
 need_line s unit code cs =
-    marks (codes "<path class='need' d='M") ∷ number s.left ∷ marks (codes " ") ∷ number base ∷ inked Need s unit code cs
+    marks (codes "<path class='need' d='M") ∷ number s.left ∷ marks (codes " ") ∷ number base
+    ∷ inked Need s unit code cs
     ++ (marks (codes "V") ∷ number base ∷ marks (codes "'/>") ∷ [])
 
 -- the lines of the floors and of the ceilings
 unfoldable pub limit_lines : Sheet → ℕ → ℕ → List Column → List Element
 limit_lines s unit code cs =
     marks (codes "<path class='floor' d='") ∷ inked Floor s unit code cs
-    ++ (marks (codes "'/><path class='ceiling' d='") ∷ inked Ceiling s unit code cs ++ marks (codes "'/>") ∷ [])
+    ++ (marks (codes "'/><path class='ceiling' d='") ∷ inked Ceiling s unit code cs ++ marks (codes "'/>")
+    ∷ [])
 
 abbrev pub lines : Sheet → ℕ → ℕ → List Column → List Element
 lines s unit code cs = need_line s unit code cs ++ limit_lines s unit code cs

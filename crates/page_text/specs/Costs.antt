@@ -10,7 +10,8 @@ use Rattle.page_text.specs.Inputs.{each_from}
 
 -- the sentence of a roster that costs at most so much more than the best one
 unfoldable pub dearer : ℕ → List Element
-dearer more = marks (codes "This roster costs at most ") ∷ number more ∷ marks (codes " more than the best one.") ∷ []
+dearer more = marks (codes "This roster costs at most ") ∷ number more
+    ∷ marks (codes " more than the best one.") ∷ []
 
 -- the sentence of a roster of least cost
 unfoldable pub none_less : List Element
@@ -23,7 +24,8 @@ gap cost bound = if nat_lt bound cost then dearer (cost - bound) else none_less
 -- the sentence where there is no roster, but a bound
 unfoldable pub no_roster : ℕ → List Element
 no_roster bound =
-    marks (codes "No roster is stated. Each allowed roster costs at least ") ∷ number bound ∷ marks (codes ".") ∷ []
+    marks (codes "No roster is stated. Each allowed roster costs at least ") ∷ number bound
+    ∷ marks (codes ".") ∷ []
 
 -- the sentence where no roster is allowed
 unfoldable pub none_allowed : List Element
@@ -44,7 +46,8 @@ amount None = marks (codes "none") ∷ []
 -- a code in its colour
 unfoldable pub chip : List CodeDef → ℕ → List Element
 chip cs byte =
-    marks (codes "<span class='chip ") ∷ marks (paint_of cs byte) ∷ marks (codes "'>") ∷ given (byte ∷ []) ∷ marks (codes "</span>") ∷ []
+    marks (codes "<span class='chip ") ∷ marks (paint_of cs byte) ∷ marks (codes "'>") ∷ given (byte ∷ [])
+    ∷ marks (codes "</span>") ∷ []
 
 -- some column is of the code
 abbrev pub is_demanded : ℕ → List Column → Bool

@@ -18,7 +18,8 @@ use Rattle.page_text.specs.declared.row.Row.{Row}
 -- the size of a chart, in which it is drawn
 unfoldable pub size : ℕ → ℕ → List Element
 size width height =
-    marks (codes "' viewBox='0 0 ") ∷ number width ∷ marks (codes " ") ∷ number height ∷ marks (codes "' width='") ∷ number width
+    marks (codes "' viewBox='0 0 ") ∷ number width ∷ marks (codes " ") ∷ number height
+    ∷ marks (codes "' width='") ∷ number width
     ∷ marks (codes "' height='") ∷ number height ∷ marks (codes "'>\n") ∷ []
 
 -- what a code of the legend means
@@ -52,13 +53,15 @@ shifts s cs rows =
 unfoldable pub chart_head : List CodeDef → Sheet → List Column → ℕ → CodeDef → List Element
 chart_head cs s columns place c =
     (marks (codes "<figure><figcaption>") ∷ chip cs c.byte)
-    ++ (marks (codes "</figcaption><svg role='img' aria-label='Coverage of ") ∷ given (c.byte ∷ []) ∷ marks (codes ". ")
+    ++ (marks (codes "</figcaption><svg role='img' aria-label='Coverage of ") ∷ given (c.byte ∷ [])
+    ∷ marks (codes ". ")
     ∷ (in_words s place columns ++ size (chart_width s) 132))
 
 unfoldable pub chart_body : Sheet → List Column → ℕ → ℕ → ℕ → List Element
 chart_body s columns place top unit =
     inked Bars s unit place columns
-    ++ (frame s unit top ++ (lines s unit place columns ++ (ticks s 127 ++ marks (codes "</svg></figure>\n") ∷ [])))
+    ++ (frame s unit top
+    ++ (lines s unit place columns ++ (ticks s 127 ++ marks (codes "</svg></figure>\n") ∷ [])))
 
 unfoldable pub chart : List CodeDef → Sheet → List Column → ℕ → CodeDef → List Element
 chart cs s columns place c =
@@ -80,7 +83,8 @@ coverage cs s columns = marks chart_legend ∷ (charts cs s columns ++ marks (co
 -- what shows the derivation of a shift that is pointed at
 unfoldable pub shows : ℕ → List Element
 shows k =
-    marks (codes "body:has(#r") ∷ number k ∷ marks (codes ":hover) #d") ∷ number k ∷ marks (codes "{display:block;z-index:2}body:has(#r")
+    marks (codes "body:has(#r") ∷ number k ∷ marks (codes ":hover) #d") ∷ number k
+    ∷ marks (codes "{display:block;z-index:2}body:has(#r")
     ∷ number k ∷ marks (codes ":focus) #d") ∷ number k ∷ marks (codes "{display:block}\n") ∷ []
 
 abbrev pub all_show : List (List ℕ) → List Element
@@ -88,7 +92,8 @@ all_show texts = flat_map shows (places (length texts))
 
 unfoldable pub derivation : ℕ → List ℕ → List Element
 derivation k text =
-    marks (codes "<pre class='derivation' id='d") ∷ number k ∷ marks (codes "'>") ∷ given text ∷ marks (codes "</pre>\n") ∷ []
+    marks (codes "<pre class='derivation' id='d") ∷ number k ∷ marks (codes "'>") ∷ given text
+    ∷ marks (codes "</pre>\n") ∷ []
 
 abbrev pub derivations : List (List ℕ) → List Element
 derivations texts = each_from derivation 0 texts
@@ -100,7 +105,8 @@ before_style =
 
 unfoldable pub head : List (List ℕ) → List Element
 head texts =
-    marks before_style ∷ marks style ∷ (all_show texts ++ marks (codes "</style>\n</head>\n<body>\n<main>\n<header><h1>Roster</h1><p>") ∷ [])
+    marks before_style ∷ marks style ∷
+    (all_show texts ++ marks (codes "</style>\n</head>\n<body>\n<main>\n<header><h1>Roster</h1><p>") ∷ [])
 
 unfoldable pub top_part : List CodeDef → Content → List Element
 top_part cs c =

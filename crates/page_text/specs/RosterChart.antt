@@ -12,7 +12,8 @@ use Rattle.page_text.specs.declared.row.Row.{Row}
 -- a letter of a row, at the period behind so many
 unfoldable pub letter : Sheet → List CodeDef → ℕ → ℕ → ℕ → List Element
 letter s cs row place byte =
-    bar (paint_of cs byte) (record { left = left_of s place; top = top_of row; width = s.cell - 1; height = 22 })
+    bar (paint_of cs byte)
+    (record { left = left_of s place; top = top_of row; width = s.cell - 1; height = 22 })
     ∷ caption (paint_of cs byte) (middle_of s place) (top_of row + 15) (byte ∷ []) ∷ []
 
 -- the same, where the word has a letter there
@@ -36,7 +37,8 @@ row_words r =
 
 unfoldable pub row_head : ℕ → Row → List Element
 row_head k r =
-    (marks (codes "<g class='row' tabindex='0' role='img' id='r") ∷ number k ∷ marks (codes "' aria-describedby='d") ∷ number k
+    (marks (codes "<g class='row' tabindex='0' role='img' id='r") ∷ number k
+    ∷ marks (codes "' aria-describedby='d") ∷ number k
     ∷ marks (codes "' aria-label='") ∷ [])
     ++ (row_words r ++ marks (codes "'>") ∷ [])
 
@@ -48,7 +50,8 @@ row_frame s k r =
 
 unfoldable pub row_elements : Sheet → List CodeDef → ℕ → Row → List Element
 row_elements s cs k r =
-    row_head k r ++ (row_frame s k r ++ (times k r.count ++ (cells s cs k r.word ++ marks (codes "</g>\n") ∷ [])))
+    row_head k r ++ (row_frame s k r
+    ++ (times k r.count ++ (cells s cs k r.word ++ marks (codes "</g>\n") ∷ [])))
 
 -- every how many periods the axis has a number
 abbrev pub step_of : ℕ → ℕ
@@ -57,7 +60,8 @@ step_of periods = if nat_lt periods 25 then 1 else (if nat_lt periods 49 then 2 
 -- the number of a period over its middle
 unfoldable pub tick : Sheet → ℕ → ℕ → List Element
 tick s top place =
-    if nat_eq (place % step_of s.periods) 0 then figure (codes "tick") (middle_of s place) top (place + 1) ∷ [] else []
+    if nat_eq (place % step_of s.periods) 0 then figure (codes "tick") (middle_of s place) top (place + 1)
+    ∷ [] else []
 
 abbrev pub ticks : Sheet → ℕ → List Element
 ticks s top = flat_map (tick s top) (places s.periods)

@@ -115,7 +115,8 @@ fn column_bar(
     top: u32,
     count: u32,
 ) -> Result<(), Memory>
-    ensures { OnOk result (out.new ≡ out.old ++ written (column_bar class.now sheet unit column.now top count)) }
+    ensures { OnOk result
+        (out.new ≡ out.old ++ written (column_bar class.now sheet unit column.now top count)) }
 {
     let area = Area {
         left: from_of(sheet, column),

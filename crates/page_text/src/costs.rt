@@ -165,7 +165,8 @@ fn demanded_cost(
     place: u8,
     code: &CodeDef,
 ) -> Result<(), Memory>
-    ensures { OnOk result (out.new ≡ out.old ++ written (demanded_cost codes.now columns.now place code.now)) }
+    ensures { OnOk result
+        (out.new ≡ out.old ++ written (demanded_cost codes.now columns.now place code.now)) }
 {
     marks(out, b"<div><dt>Penalty for ")?;
     chip(out, codes, code.byte)?;

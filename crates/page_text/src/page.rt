@@ -136,7 +136,8 @@ fn chart_head(
     place: u8,
     code: &CodeDef,
 ) -> Result<(), Memory>
-    ensures { OnOk result (out.new ≡ out.old ++ written (chart_head codes.now sheet columns.now place code.now)) }
+    ensures { OnOk result
+        (out.new ≡ out.old ++ written (chart_head codes.now sheet columns.now place code.now)) }
 {
     marks(out, b"<figure><figcaption>")?;
     chip(out, codes, code.byte)?;

@@ -21,7 +21,7 @@ use Rattle.parse_graph.specs.Nodes.{or_node}
 use Rattle.span_arcs.specs.Shapes.{IsShaped}
 use Rattle.parse_graph.proofs.PlacesLemmas.{In-at}
 use Rattle.span_arcs.proofs.ShapesLemmas.{arc-shaped}
-use Rattle.parse_graph.proofs.UsedLemmas.{used-made, root-made}
+use Rattle.parse_graph.proofs.ArcUsesLemmas.{used-made, root-made}
 
 -- the items before a place
 at-taken : (arcs : List ArcKey) (k q : ℕ) (b : ArcKey) → k ≤ length arcs → q < k → slice_get arcs q ≡ Some b → slice_get (take k arcs) q ≡ Some b

@@ -1,10 +1,10 @@
 pub mod PlacesLemmas
-pub mod SortedLemmas
+pub mod ArcOrderLemmas
 pub mod RankLemmas
 pub mod LevelsLemmas
 pub mod InOrderLemmas
 pub mod ListsLemmas
 pub mod NodesLemmas
-pub mod UsedLemmas
+pub mod ArcUsesLemmas
 pub mod LinkedLemmas
 pub mod GraphsLemmas

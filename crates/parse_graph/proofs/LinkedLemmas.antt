@@ -7,7 +7,7 @@ use Rattle.roster_model.specs.declared.grammar.ArcKey.{ArcKey}
 use Rattle.roster_model.specs.declared.grammar.Grammar.{Grammar}
 use Rattle.roster_model.specs.declared.grammar.Sym.{Sym}
 use Rattle.roster_model.specs.declared.grammar.Sym.TheVariants.{Code, Name}
-use Rattle.tree_laws.proofs.Pushing.{push-kept, push-here, push-cases}
+use Rattle.tree_laws.proofs.ListPushes.{push-kept, push-here, push-cases}
 use Rattle.arc_laws.specs.OrNodes.{OrNode, name, suffix, leaf, same_node, right_of, made, symbol_node, rest_node, used_by, used}
 use Rattle.parse_graph.specs.declared.kid.Kid.{Kid}
 use Rattle.parse_graph.specs.declared.kid.Kid.TheVariants.{Nothing, Letter, Node}
@@ -16,7 +16,7 @@ use Rattle.parse_graph.specs.Graphs.{places_from, places, is_among, IsKid, AreKi
 use Rattle.parse_graph.specs.Lists.{items_of}
 use Rattle.parse_graph.specs.Linked.{AddsNode, uses_of, AreLinked}
 use Rattle.parse_graph.proofs.ListsLemmas.{items-append, item-own, item-other}
-use Rattle.parse_graph.proofs.UsedLemmas.{same-node, own-node, other-node, is_inner, made-inner}
+use Rattle.parse_graph.proofs.ArcUsesLemmas.{same-node, own-node, other-node, is_inner, made-inner}
 
 module _ {A : Type 0} (p : A → Bool) where
   places-push : (k : ℕ) (xs : List A) (x : A) → places_from k p (xs ++ x ∷ []) ≡ places_from k p xs ++ cond (p x) ((k + length xs) ∷ []) []

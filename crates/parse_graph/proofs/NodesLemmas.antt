@@ -7,7 +7,7 @@ use Rattle.std.proofs.lemmas.Option.{same_Some, slice_get-get_or, slice_get-map}
 use Rattle.std.proofs.lemmas.List.{length-map}
 use Rattle.std.proofs.lemmas.List.Quantifiers.{position-Some}
 use Rattle.indexmap.specs.IndexSet.{insert_key}
-use Rattle.tree_laws.proofs.Pushing.{push-cases}
+use Rattle.tree_laws.proofs.ListPushes.{push-cases}
 use Rattle.arc_laws.specs.OrNodes.{OrNode}
 use Rattle.arc_laws.proofs.SameArc.{and_both}
 use Rattle.parse_graph.specs.declared.node.NodeKey.{NodeKey}

@@ -1,6 +1,6 @@
 pub mod Paths
-pub mod Placing
-pub mod Touched
-pub mod Adding
-pub mod Netting
-pub mod Pinning
+pub mod PlacesLemmas
+pub mod NodeSums
+pub mod RowChanges
+pub mod NetLemmas
+pub mod PinnedValues

@@ -6,7 +6,7 @@ use Rattle.std.proofs.lemmas.Nat.Gcd.{dvd_antisymm, IsGcd-from_mod, IsGcd-from_z
 use native.Mathlib.Nat.{one-dvd}
 use Rattle.linear_programs.specs.RowStep.{IsCommonFactor}
 use Rattle.fraction.proofs.Rows.{IsCommonFactor-none, IsCommonFactor-more}
-use Rattle.fraction.proofs.Coprime.{IsGcd-times}
+use Rattle.fraction.proofs.CoprimeProducts.{IsGcd-times}
 
 -- two numbers have a greatest common divisor
 gcd_within : (f a b : ℕ) → b ≤ f → (g : ℕ) × IsGcd a b g

@@ -1,8 +1,8 @@
 pub mod Factors
 pub mod Steps
-pub mod Copied
-pub mod Listed
+pub mod RowCopies
+pub mod PlacesLemmas
 pub mod Sizes
-pub mod Divided
+pub mod QuotientsLemmas
 pub mod Entries
-pub mod Unlisted
+pub mod SparseSteps

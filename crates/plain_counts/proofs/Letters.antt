@@ -11,11 +11,11 @@ use Rattle.arc_laws.specs.OrNodes.{OrNode, name, suffix, leaf, same_node, made, 
 use Rattle.arc_laws.specs.Balance.{used_sum, IsBalanced}
 use Rattle.arc_laws.specs.Counts.{root_count}
 use Rattle.arc_laws.specs.Lists.{AreArcs}
-use Rattle.arc_laws.proofs.Folding.{sum_n-same}
+use Rattle.arc_laws.proofs.FoldsLemmas.{sum_n-same}
 use Rattle.arc_laws.proofs.SameArc.{and_both}
 use Rattle.plain_counts.proofs.Nodes.{same_node-true, same_node-refl}
 use Rattle.plain_counts.proofs.Totals.{Weighted, total, equal_totals}
-use Rattle.plain_counts.proofs.Covering.{is_on, covers_period}
+use Rattle.plain_counts.proofs.ArcPeriods.{is_on, covers_period}
 
 module _ (g : Grammar) (p : ℕ) where
   -- a name or a suffix on the period, save the root

@@ -1,5 +1,5 @@
 pub mod Nodes
 pub mod Totals
-pub mod Covering
+pub mod ArcPeriods
 pub mod Letters
-pub mod Pinned
+pub mod PinnedValues

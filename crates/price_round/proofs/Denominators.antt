@@ -5,8 +5,8 @@ use Rattle.std.proofs.lemmas.Int.{ints}
 use Rattle.std.proofs.lemmas.Nat.Gcd.{dvd_trans}
 use Rattle.std.proofs.Math.Nat.{div-mul_cancel, mul-div_cancel'}
 use native.Mathlib.Nat.{le_antisymm, le_of_mul-le-mul_right, dvd-mul_left, dvd-mul_right, le_of_dvd}
-use Rattle.fraction.proofs.Coprime.{gauss}
-use Rattle.fraction.proofs.Reduced.{gcd_positive, reduced_quot}
+use Rattle.fraction.proofs.CoprimeProducts.{gauss}
+use Rattle.fraction.proofs.LowestTerms.{gcd_positive, reduced_quot}
 use Rattle.master_laws.specs.Rounding.{IsMadeWhole}
 use Rattle.price_round.specs.Denominators.{IsNext, IsPast}
 

@@ -9,7 +9,7 @@ use Rattle.roster_model.specs.Folds.{Each}
 use Rattle.roster_model.specs.PriceLimits.{IsMult, AreRising, Lacks}
 use Rattle.roster_model.specs.Reduced.{mult_of, signed}
 use Rattle.roster_model.proofs.Mults.{lacked}
-use Rattle.arc_laws.proofs.Folding.{Each-same, Each-append}
+use Rattle.arc_laws.proofs.FoldsLemmas.{Each-same, Each-append}
 use Rattle.bound_laws.proofs.SoundCodes.{All-each}
 use Rattle.master_laws.specs.Rounding.{IsFloor, AreFloors, AreMults}
 use Rattle.master_laws.specs.Laws.{HasSign, HaveSigns}

@@ -4,7 +4,7 @@ use Rattle.std.specs.Int.{◌∣◌}
 use native.Mathlib.Nat.{one-dvd, le_of_dvd, dvd-mul_right}
 use native.Mathlib.Numerals.{add-one}
 use Rattle.roster_model.specs.Folds.{Each}
-use Rattle.arc_laws.proofs.Folding.{Each-append}
+use Rattle.arc_laws.proofs.FoldsLemmas.{Each-append}
 use Rattle.master_laws.specs.Rounding.{IsMadeWhole, IsLeastWhole}
 use Rattle.master_laws.proofs.Lines.{Each-front, Each-back}
 use Rattle.price_round.specs.Denominators.{IsNext, IsPast, AreAllPast, IsLeastFor}

@@ -1,5 +1,5 @@
 pub mod PriceBlock
-pub mod Empty
+pub mod LongTexts
 pub mod Ends
 pub mod FineItems
 pub mod FieldsKept

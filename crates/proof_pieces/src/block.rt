@@ -189,7 +189,8 @@ pub fn price_block(
     ensures value { (h : NodeLine) (n : ℕ) → MatchResult result
         (λ _. pieces_from instance.now (block h [] []) (record { nodes = n; halves = room.old.halves })
         lines.old
-        ≡ Ok (node (node_of h room.new.cell room.new.mult)) ∷ pieces_from instance.now nodes (node_read h (record { nodes = n; halves = room.old.halves })) lines.new)
+        ≡ Ok (node (node_of h room.new.cell room.new.mult)) ∷ pieces_from instance.now nodes
+        (node_read h (record { nodes = n; halves = room.old.halves })) lines.new)
         (λ e. pieces_from instance.now (block h [] []) (record { nodes = n; halves = room.old.halves })
         lines.old ≡ Err e ∷ []) }
     ensures kept { room.new ≡ record room.old { d = d; cell = room.new.cell; mult = room.new.mult } }

@@ -29,9 +29,17 @@ impl Model for CertRoom {
 
     ghost Value = { RoomView };
 
-    ghost view = { λ r. record { word = r.word.items; d = r.d; cell = r.cells.items; mult = r.mults.items; halves = reverse r.halves.items; most = r.most } };
+    ghost view = { λ r. record {
+      word = r.word.items;
+      d = r.d;
+      cell = r.cells.items;
+      mult = r.mults.items;
+      halves = reverse r.halves.items;
+      most = r.most;
+    } };
 
-    ghost invariant = { λ r. (96 ≤ vec_capacity r.word) × (r.most ≤ vec_capacity r.cells) × (1500 ≤ vec_capacity r.mults) × (20001 ≤ vec_capacity r.halves) };
+    ghost invariant = { λ r. (96 ≤ vec_capacity r.word) × (r.most ≤ vec_capacity r.cells)
+        × (1500 ≤ vec_capacity r.mults) × (20001 ≤ vec_capacity r.halves) };
 }
 
 fn with_room<T>(alloc: Global, most: usize) -> Result<Vec<T>, Memory>

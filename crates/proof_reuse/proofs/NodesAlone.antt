@@ -7,7 +7,7 @@ use Rattle.roster_model.specs.Folds.{Each}
 use Rattle.roster_model.specs.GreatestCost.{greatest_cost}
 use Rattle.roster_model.specs.Rosters.{Costs}
 use Rattle.roster_model.specs.SoundInstance.{IsSoundInstance}
-use Rattle.bound_laws.proofs.Realised.{has-trees, stand-for, not-infeasible}
+use Rattle.bound_laws.proofs.RosterTrees.{has-trees, stand-for, not-infeasible}
 use Rattle.bound_laws.proofs.SoundReady.{ready}
 use Rattle.certificates.specs.declared.cert.Cert.{Cert}
 use Rattle.certificates.specs.declared.verdict.Verdict.{Verdict}
@@ -20,9 +20,9 @@ use Rattle.certificate_laws.specs.Causes.{Cause, cause_number, IsFirstCause}
 use Rattle.certificate_laws.specs.Accepted.{Accepts}
 use Rattle.certificate_laws.specs.Shown.{Shows}
 use Rattle.certificate_laws.specs.Right.{YesIsRight}
-use Rattle.certificate_laws.proofs.Refused.{refused}
+use Rattle.certificate_laws.proofs.NoCause.{refused}
 use Rattle.certificate_laws.proofs.ShownBound.{shows-le}
-use Rattle.certificate_laws.proofs.Unique.{same-proof}
+use Rattle.certificate_laws.proofs.OneProof.{same-proof}
 use Rattle.proof_check.specs.Verdicts.{IsVerdict}
 use Rattle.proof_reuse.specs.Reuse.{nodes_only, IsOnNodes, IsFirstNodeCause, IsLowerBound, IsShownBound, IsReuse, reuse_of}
 use Rattle.proof_reuse.proofs.TightLeaves.{all-tight}

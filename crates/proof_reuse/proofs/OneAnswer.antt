@@ -9,7 +9,7 @@ use Rattle.certificates.specs.Nodes.{Proof}
 use Rattle.certificate_laws.specs.Causes.{Cause, cause_number, IsFirstCause}
 use Rattle.certificate_laws.specs.Shown.{Shows}
 use Rattle.certificate_laws.proofs.OneCause.{one-first}
-use Rattle.certificate_laws.proofs.Unique.{same-proof, one-shown}
+use Rattle.certificate_laws.proofs.OneProof.{same-proof, one-shown}
 use Rattle.proof_reuse.specs.declared.nodes.Reused.{Reused}
 use Rattle.proof_reuse.specs.declared.nodes.Reused.TheVariants.{Bound, Refused}
 use Rattle.proof_reuse.specs.Reuse.{nodes_only, bound_of, IsFirstNodeCause, IsShownBound, IsReuse}

@@ -11,7 +11,7 @@ use Rattle.roster_model.specs.Trees.{On, steps}
 use Rattle.roster_model.specs.Sums.{PriceView, AllWithin, Within, parts_sum}
 use Rattle.roster_model.specs.Sound.{IsSound}
 use Rattle.tree_laws.specs.Parts.{first, root}
-use Rattle.tree_laws.proofs.Least.{IsLeast-one}
+use Rattle.tree_laws.proofs.LeastValues.{IsLeast-one}
 use Rattle.tree_laws.proofs.Bounds.{few-steps, sum-small}
 use Rattle.tree_laws.proofs.Ends.{last_sum}
 use Rattle.ranked_trees.specs.declared.candidate.Candidate.{Candidate}
@@ -24,10 +24,10 @@ use Rattle.ranked_trees.specs.Children.{IsChild, HasChild, AreChildren}
 use Rattle.ranked_trees.specs.Progresses.{IsProgress, CanTake, AreOffered, Branches, frames_left, steps_left}
 use Rattle.ranked_trees.specs.Walks.{first_with}
 use Rattle.ranked_trees.proofs.UsesLemmas.{apart-extend_left}
-use Rattle.ranked_trees.proofs.HasLemmas.{has-first}
+use Rattle.ranked_trees.proofs.CandidatesLemmas.{has-first}
 use Rattle.ranked_trees.proofs.FrameLemmas.{symbol-here, symbol-none, letter-on}
 use Rattle.ranked_trees.proofs.OfferLemmas.{each-map}
-use Rattle.ranked_trees.proofs.OfferedLemmas.{all-offered}
+use Rattle.ranked_trees.proofs.OfferListLemmas.{all-offered}
 use Rattle.ranked_trees.proofs.ProgressLemmas.{is-split}
 use Rattle.ranked_trees.proofs.GoesLemmas.{split-end, split-letter}
 use Rattle.ranked_trees.proofs.ChildrenLemmas.{split-children, first-comes, aside-others}

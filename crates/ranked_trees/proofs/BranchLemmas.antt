@@ -8,7 +8,7 @@ use Rattle.ranked_trees.specs.Candidates.{IsApart, AreAside}
 use Rattle.ranked_trees.specs.Children.{TakesLeast}
 use Rattle.ranked_trees.specs.Progresses.{IsOffered, AreOffered, CanTake}
 use Rattle.ranked_trees.proofs.OfferLemmas.{each-left, each-right, each-join}
-use Rattle.ranked_trees.proofs.OfferedLemmas.{offered-takes, offered-more}
+use Rattle.ranked_trees.proofs.OfferListLemmas.{offered-takes, offered-more}
 
 each-without : (P : Candidate → Type 0) (made : Child → Candidate) (front back : List Child) (b : Child) → Each P (map made (front ++ b ∷ back)) → Each P (map made (front ++ back))
 each-without P made [] back b h = h.1

@@ -21,7 +21,7 @@ use Rattle.ranked_trees.specs.Children.{IsChild, HasChild, ChildBefore, AreInOrd
 use Rattle.ranked_trees.specs.Progresses.{GoesOn, IsSplit}
 use Rattle.ranked_trees.specs.Walks.{first_with}
 use Rattle.ranked_trees.proofs.UsesLemmas.{uses-under}
-use Rattle.ranked_trees.proofs.HasLemmas.{has-least, has-first, less_or_same}
+use Rattle.ranked_trees.proofs.CandidatesLemmas.{has-least, has-first, less_or_same}
 use Rattle.ranked_trees.proofs.FrameLemmas.{use-on, right-is}
 use Rattle.ranked_trees.proofs.OfferLemmas.{each-left, each-right, each-join, each-map}
 use Rattle.ranked_trees.proofs.GoesLemmas.{goes-child, has-use}

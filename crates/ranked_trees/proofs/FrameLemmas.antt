@@ -12,7 +12,7 @@ use Rattle.roster_model.specs.Grammar.{rule_at}
 use Rattle.roster_model.specs.Trees.{Parts, done, letter, uses, span_length, Derive, On}
 use Rattle.roster_model.specs.Sums.{PriceView, parts_sum, arc_sum, plus, AtMost, PartsLeast, SymbolLeast}
 use Rattle.tree_laws.specs.Laws.{arc_at}
-use Rattle.tree_laws.proofs.Least.{IsLeast-empty}
+use Rattle.tree_laws.proofs.LeastValues.{IsLeast-empty}
 use Rattle.tree_laws.proofs.Ends.{last-least}
 use Rattle.ranked_trees.specs.Frames.{right_of}
 

@@ -18,7 +18,7 @@ use Rattle.ranked_trees.specs.Candidates.{Completes, Leasts, Has, IsCandidate, c
 use Rattle.ranked_trees.specs.Children.{IsChild}
 use Rattle.ranked_trees.specs.Progresses.{GoesOn, IsSplit}
 use Rattle.ranked_trees.specs.Walks.{first_with}
-use Rattle.ranked_trees.proofs.HasLemmas.{leasts-one}
+use Rattle.ranked_trees.proofs.CandidatesLemmas.{leasts-one}
 use Rattle.ranked_trees.proofs.FrameLemmas.{right-is, plus-parts, plus-both, nothing-on, nothing-least, letter-on, on-letter, IsLetter, letter-least}
 
 module _ (g : Grammar) (p : PriceView) (c d : Candidate) (zc zd e : ℤ) (us : List Step) (is : IsCandidate g p c) (lc : Leasts g p c.pending zc) (ld : Leasts g p d.pending zd)

@@ -1,14 +1,14 @@
 pub mod UsesLemmas
-pub mod HasLemmas
+pub mod CandidatesLemmas
 pub mod OfferLemmas
 pub mod ProgressLemmas
 pub mod FrameLemmas
 pub mod GoesLemmas
 pub mod ChildrenLemmas
-pub mod OfferedLemmas
+pub mod OfferListLemmas
 pub mod PlaceLemmas
 pub mod UseLemmas
-pub mod AddingLemmas
+pub mod ChildListLemmas
 pub mod BranchLemmas
 pub mod AdvanceLemmas
 pub mod StartLemmas

@@ -8,7 +8,7 @@ use Rattle.ranked_trees.specs.declared.ranking.Ranked.{Ranked}
 use Rattle.ranked_trees.specs.Candidates.{Has, OneHas, IsApart, Comes, AreOrdered, IsAside, AreAside, Precedes}
 use Rattle.ranked_trees.specs.Progresses.{IsOffered, IsAfter, IsGood, IsBeyond, IsProgress}
 use Rattle.ranked_trees.proofs.UsesLemmas.{apart-swap, precedes-through}
-use Rattle.ranked_trees.proofs.HasLemmas.{comes-has}
+use Rattle.ranked_trees.proofs.CandidatesLemmas.{comes-has}
 
 module _ {A : Type 0} (P : A → Type 0) where
   pub each-join : (xs ys : List A) → Each P xs → Each P ys → Each P (xs ++ ys)

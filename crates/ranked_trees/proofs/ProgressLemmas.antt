@@ -12,7 +12,7 @@ use Rattle.ranked_trees.specs.Ranking.{IsRankedTree, IsRanking, RankedBefore, Ar
 use Rattle.ranked_trees.specs.Candidates.{Has, OneHas, IsCandidate, Completes, Leasts, IsApart, Comes, IsAside, AreAside, Precedes}
 use Rattle.ranked_trees.specs.Progresses.{IsAfter, IsGood, IsBeyond, IsProgress, GoesOn, IsSplit}
 use Rattle.ranked_trees.proofs.UsesLemmas.{uses-extend_left, apart-extend_left}
-use Rattle.ranked_trees.proofs.HasLemmas.{comes-has}
+use Rattle.ranked_trees.proofs.CandidatesLemmas.{comes-has}
 use Rattle.ranked_trees.proofs.OfferLemmas.{each-join, each-map}
 
 -- a list that goes on with some rule uses stays apart from the others

@@ -17,7 +17,7 @@ use Rattle.ranked_trees.specs.Frames.{IsFrame, FrameLeast}
 use Rattle.ranked_trees.specs.Ranking.{IsRankedTree}
 use Rattle.ranked_trees.specs.Candidates.{Has, IsCandidate}
 use Rattle.ranked_trees.specs.Progresses.{IsProgress}
-use Rattle.ranked_trees.proofs.HasLemmas.{leasts-one}
+use Rattle.ranked_trees.proofs.CandidatesLemmas.{leasts-one}
 use Rattle.ranked_trees.proofs.ProgressLemmas.{is-begun, is-begun_empty}
 
 -- the start name on the whole day

@@ -89,7 +89,8 @@ pub record IsSplit (g : Grammar) (p : PriceView) (c b : Candidate) (es : List Ca
 -- candidates were put among others, one after another
 abbrev pub AreOffered : ℕ → List Candidate → List Candidate → List Candidate → Type 0
 AreOffered room [] old new = new ≡ old
-AreOffered room (e ∷ es) old new = (mid : List Candidate) × IsOffered room e old mid × AreOffered room es mid new
+AreOffered room (e ∷ es) old new = (mid : List Candidate) × IsOffered room e old mid
+    × AreOffered room es mid new
 
 -- what is asked of those among which candidates are put
 pub record CanTake (room : ℕ) (cs es : List Candidate) : Type 0 where

@@ -1,3 +1,3 @@
-mod Asking
+mod LeastTrees
 mod PoolTrees
-mod Drafting
+mod DraftsLemmas

@@ -1,6 +1,6 @@
 pub mod Items
-pub mod Numbered
-pub mod Pricing
-pub mod Counting
-pub mod Causing
-pub mod Tallied
+pub mod TeamNumbers
+pub mod WordPrices
+pub mod ShiftCounts
+pub mod FaultsLemmas
+pub mod CountersLemmas

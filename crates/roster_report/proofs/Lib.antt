@@ -1,10 +1,10 @@
-mod Exact
+mod ExactReadings
 mod FineLines
 mod LineForms
 pub mod Lines
+mod NumberWords
 mod ReadLoops
 mod ReadTexts
 mod ReportForms
-mod Spelling
 pub mod Sums
 mod WholeForms

@@ -31,8 +31,8 @@ use Rattle.roster_report.specs.Readable.{IsAmount}
 use Rattle.roster_report.specs.Readings.{line_next}
 use Rattle.roster_report.specs.ReportText.{header_line, done_word, result_line, number_line, part_name}
 use Rattle.roster_report.specs.Writable.{IsWritableShift}
-use Rattle.roster_report.proofs.Exact.{Line, IsExact, line_exact}
-use Rattle.roster_report.proofs.Spelling.{number_is, number_whole}
+use Rattle.roster_report.proofs.ExactReadings.{Line, IsExact, line_exact}
+use Rattle.roster_report.proofs.NumberWords.{number_is, number_whole}
 
 same_bytes : (w : List ℕ) → bytes_eq w w ≡ true
 same_bytes w = (bytes_eq-Decides w w).1 refl

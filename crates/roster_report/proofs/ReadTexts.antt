@@ -19,7 +19,7 @@ use Rattle.roster_report.specs.Readings.{Items, ended, Reads}
 use Rattle.roster_report.specs.ReportReading.{report_reading, report_of}
 use Rattle.roster_report.specs.ReportText.{report_lines, report_text}
 use Rattle.roster_report.specs.Writable.{IsSmall, IsSmallCover, HasSmallNumbers}
-use Rattle.roster_report.proofs.Exact.{Lines, Front, Apart, Refuses}
+use Rattle.roster_report.proofs.ExactReadings.{Lines, Front, Apart, Refuses}
 use Rattle.roster_report.proofs.FineLines.{report_again}
 use Rattle.roster_report.proofs.WholeForms.{Whole, report_exact}
 

@@ -20,10 +20,10 @@ use Rattle.roster_report.specs.LineWords.{most_count, number_word, number_or_zer
 use Rattle.roster_report.specs.Readable.{IsCount, HasCounts}
 use Rattle.roster_report.specs.ReportReading.{shifts_reading, code_reading, covers_reading}
 use Rattle.roster_report.specs.ReportText.{part_of, parts_of, part_line, code_lines, cover_lines}
-use Rattle.roster_report.proofs.Exact.{Lines, Form, IsExact, Nothing, Then, done_exact, then_exact, same_exact}
+use Rattle.roster_report.proofs.ExactReadings.{Lines, Form, IsExact, Nothing, Then, done_exact, then_exact, same_exact}
 use Rattle.roster_report.proofs.LineForms as one
 use Rattle.roster_report.proofs.LineForms.{Number, Header, End, Amount, OneShift, IsReadableShift, OnePart, AreCounts, part_words}
-use Rattle.roster_report.proofs.Spelling.{number_is, number_whole}
+use Rattle.roster_report.proofs.NumberWords.{number_is, number_whole}
 
 -- a line, and the lines behind it
 pub line_first : (l : List (List ℕ)) (u v ls rest : Lines) → u ≡ l ∷ [] → ls ≡ u ++ v → v ≡ rest → ls ≡ l ∷ rest

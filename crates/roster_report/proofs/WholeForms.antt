@@ -19,7 +19,7 @@ use Rattle.roster_report.specs.ReportReading.{head_reading, roster_reading, cost
 use Rattle.roster_report.specs.Reports.{IsOfNoRoster}
 use Rattle.roster_report.specs.ReportText.{header_line, result_line, number_line, head_lines, cover_lines, roster_lines, cost_lines, report_lines}
 use Rattle.roster_report.specs.Writable.{IsWritableShift, HasCover}
-use Rattle.roster_report.proofs.Exact.{Lines, Form, IsExact, Nothing, Then, done_exact, then_exact, same_exact}
+use Rattle.roster_report.proofs.ExactReadings.{Lines, Form, IsExact, Nothing, Then, done_exact, then_exact, same_exact}
 use Rattle.roster_report.proofs.LineForms.{Number, Header, End, Amount, IsReadableShift, number_exact, header_exact, amount_exact}
 use Rattle.roster_report.proofs.LineForms as one
 use Rattle.roster_report.proofs.ReportForms.{line_first, Shifts, Covers, shifts_exact, covers_exact}

@@ -31,7 +31,8 @@ number_line first n = first ∷ decimal n ∷ []
 -- the lines that each report has
 abbrev pub head_lines : List Group → Report → List (List (List ℕ))
 head_lines groups r =
-    header_line groups ∷ result_line r.done ∷ amount_words (codes "cost") r.cost ∷ amount_words (codes "bound") r.bound
+    header_line groups ∷ result_line r.done ∷ amount_words (codes "cost") r.cost
+    ∷ amount_words (codes "bound") r.bound
     ∷ number_line (codes "processed") r.processed ∷ number_line (codes "failed") r.failed ∷ []
 
 abbrev pub part_name : Part → List ℕ
@@ -56,7 +57,8 @@ part_line part byte covers = part_name part ∷ (byte ∷ []) ∷ parts_of part 
 -- the four lines of a code
 abbrev pub code_lines : ℕ → List Cover → List (List (List ℕ))
 code_lines byte covers =
-    part_line Need byte covers ∷ part_line Have byte covers ∷ part_line Short byte covers ∷ part_line Over byte covers
+    part_line Need byte covers ∷ part_line Have byte covers ∷ part_line Short byte covers
+    ∷ part_line Over byte covers
     ∷ []
 
 -- the lines of so many codes, whose first cell stands behind so many cells

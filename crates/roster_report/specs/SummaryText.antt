@@ -8,7 +8,8 @@ use Rattle.roster_report.specs.ReportText.{result_line, number_line}
 -- what a summary says of its day
 abbrev pub day_lines : Summary → List (List (List ℕ))
 day_lines s =
-    number_line (codes "make") s.number ∷ number_line (codes "periods") s.periods ∷ number_line (codes "arcs") s.arcs ∷ []
+    number_line (codes "make") s.number ∷ number_line (codes "periods") s.periods
+    ∷ number_line (codes "arcs") s.arcs ∷ []
 
 -- what a summary says of the search
 abbrev pub search_lines : Summary → List (List (List ℕ))

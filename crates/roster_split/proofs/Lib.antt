@@ -1,4 +1,4 @@
 pub mod Places
-pub mod Evening
-pub mod Taking
-pub mod Splitting
+pub mod EvensLemmas
+pub mod TakingLemmas
+pub mod SplitsLemmas

@@ -7,7 +7,7 @@ use Rattle.roster_model.specs.Arcs.{same_arc}
 use Rattle.arc_laws.proofs.SameArc.{Told, arc_tells, same_arc-refl}
 use Rattle.parse_graph.specs.Graphs.{places_from}
 use Rattle.parse_graph.proofs.PlacesLemmas.{Once, once-rest}
-use Rattle.split_laws.proofs.Take.{taken}
+use Rattle.split_laws.proofs.TakenCounts.{taken}
 use Rattle.roster_split.specs.Counts.{count_of}
 
 -- the count of an arc is that at its place

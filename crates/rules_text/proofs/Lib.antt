@@ -6,7 +6,7 @@ pub mod WindowsKept
 pub mod Orders
 pub mod RuleKept
 pub mod LinesKept
-pub mod Finished
+pub mod EndKept
 pub mod WrittenLemmas
 pub mod RuleSound
 pub mod RuleAgain

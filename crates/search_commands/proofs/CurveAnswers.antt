@@ -35,7 +35,7 @@ use Rattle.search_commands.specs.Series.{Entry, End, answered, broken_off, IsSer
 use Rattle.search_commands.specs.Solve.{MasterView, SaysTooManyArcs}
 use Rattle.search_commands.proofs.Solves.{IsArcsAnswer}
 use Rattle.text_commands.proofs.Readers.{one_held}
-use Rattle.search_commands.proofs.Storing.{widen, as_series, refused_fetch, after_fetch, broken_series, said_series}
+use Rattle.search_commands.proofs.SeriesLemmas.{widen, as_series, refused_fetch, after_fetch, broken_series, said_series}
 
 no_names : (held : Option Texts) (names : List (List ℕ)) → HoldsAll held names → HoldsAll held []
 no_names None names h = absurd h

@@ -20,7 +20,7 @@ use Rattle.search_commands.specs.Series.{Entry, End, answered, broken_off}
 use Rattle.search_commands.specs.Solve.{MasterView}
 use Rattle.search_commands.proofs.CurveAnswers.{some-points}
 use Rattle.search_commands.proofs.OneEndLemmas.{never_both, many_or_few, arcs_alike}
-use Rattle.text_commands.proofs.Same.{same_text, same_ok, same_err, not_both, same_grammar, no_fault, faults_once}
+use Rattle.text_commands.proofs.OneReading.{same_text, same_ok, same_err, not_both, same_grammar, no_fault, faults_once}
 
 both : (a b : Bool) → (a && b) ≡ true → (a ≡ true) × (b ≡ true)
 both true b h = (refl, h)

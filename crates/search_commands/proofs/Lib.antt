@@ -2,7 +2,7 @@ pub mod Writers
 pub mod Solves
 pub mod Makes
 pub mod ReuseLemmas
-pub mod Storing
+pub mod SeriesLemmas
 pub mod PointLemmas
 pub mod CurveAnswers
 pub mod OneEndLemmas

@@ -25,7 +25,7 @@ use Rattle.search_commands.specs.Make as makes
 use Rattle.search_commands.specs.OneEnd.{EndAlike}
 use Rattle.search_commands.specs.Solve.{MasterView, Finds, SaysTooManyArcs, Solving, SolvesDemand, AnswersSolveDemand, SolvesRules, AnswersSolve, done_status, arcs_line}
 use Rattle.search_commands.specs.Solve as solves
-use Rattle.text_commands.proofs.Same.{same_text, same_ok, same_err, not_both, same_grammar, no_fault, faults_once}
+use Rattle.text_commands.proofs.OneReading.{same_text, same_ok, same_err, not_both, same_grammar, no_fault, faults_once}
 
 -- an allowed roster and the word that none is allowed
 roster_or_none : (i : Instance) (d : Cert) (ds : List Duty) (cost : Option ℕ) → IfSome cost (λ amount. Costs i ds amount) → IsSome cost → YesIsRight i d → d.bound ≡ None → ⊥

@@ -13,7 +13,7 @@ use Rattle.search_commands.specs.Points.{FindsPoint, FindsFirst, BreaksCurve}
 use Rattle.search_commands.specs.Series.{Entry, IsStoredBy, IsBrokenOff}
 use Rattle.search_commands.specs.Solve.{MasterView, lent, done_status, Finds}
 use Rattle.search_commands.proofs.Solves.{finds}
-use Rattle.search_commands.proofs.Storing.{none_yet, stored_more, broken_later, out_of_memory}
+use Rattle.search_commands.proofs.SeriesLemmas.{none_yet, stored_more, broken_later, out_of_memory}
 
 -- one point more is the one of the next head count
 next_heads : (h n : ℕ) → h + 1 + n ≡ h + (n + 1)

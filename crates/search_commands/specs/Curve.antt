@@ -32,7 +32,8 @@ pub record Point : Type 0 where
 abbrev pub ArePoints : Instance → Bool → ℕ → ℕ → ℕ → List Point → Type 0
 ArePoints i strict turns heads refused [] = Unit {0}
 ArePoints i strict turns heads refused (p ∷ ps) =
-    Finds (with_heads i heads) (lent strict refused p.refused) turns (done_status p.found.done) p.stored p.found
+    Finds (with_heads i heads) (lent strict refused p.refused) turns
+    (done_status p.found.done) p.stored p.found
     × ArePoints i strict turns (heads + 1) p.refused ps
 
 -- how many nodes the master had refused after the points
@@ -81,7 +82,8 @@ pub record SaysCurve (i : Instance) (proof : List ℕ) (m : MasterView) (turns s
   pub counted : refused_after m.before points ≡ m.now
   pub stored_is : stored ≡ point_entries proof (first_heads i) points
   -- a point that is not closed used all its turns
-  pub ran_out : Each (λ (p : CurvePoint). p.bound ≢ p.cost → p.processed ≡ turns) (said_points (first_heads i) points)
+  pub ran_out : Each (λ (p : CurvePoint). p.bound ≢ p.cost → p.processed ≡ turns)
+      (said_points (first_heads i) points)
   pub status_is : status ≡ curve_status (said_points (first_heads i) points)
   pub text : output ≡ curve_text (said_points (first_heads i) points)
 
@@ -100,14 +102,17 @@ abbrev pub groups_line : List ℕ
 groups_line = codes "demand: groups have no curve\n"
 
 -- the answers for an instance
-pub data Curving (i : Instance) (proof : List ℕ) (m : MasterView) (turns : ℕ) : End → List Entry → Type 0 where
-  found : (status : ℕ) (output : List ℕ) (stored : List Entry) → SaysCurve i proof m turns status output stored
+pub data Curving (i : Instance) (proof : List ℕ) (m : MasterView) (turns : ℕ) : End → List Entry
+    → Type 0 where
+  found : (status : ℕ) (output : List ℕ) (stored : List Entry)
+      → SaysCurve i proof m turns status output stored
       → Curving i proof m turns (answered status output) stored
   broken : (name : List ℕ) (stored : List Entry) → HasFirstPoints i proof m turns name stored
       → Curving i proof m turns (broken_off name) stored
   too_many : (output : List ℕ) → i.groups ≡ [] → SaysTooManyArcs i.grammar output
       → Curving i proof m turns (answered 9 output) []
-  groups : (output : List ℕ) → i.groups ≢ [] → output ≡ groups_line → Curving i proof m turns (answered 4 output) []
+  groups : (output : List ℕ) → i.groups ≢ [] → output ≡ groups_line
+      → Curving i proof m turns (answered 4 output) []
 
 -- the answers to a demand text
 pub data CurvesDemand (g : Grammar) (text proof : List ℕ) (m : MasterView) (turns : ℕ) :

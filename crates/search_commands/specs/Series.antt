@@ -98,7 +98,8 @@ BreaksOff before after entries name =
     IfSome before (λ texts. IsSomeAnd after (AgreesElsewhere name (with_entries texts entries)))
 
 -- these texts were stored, and then the store under the name was refused, or memory ran out
-pub record IsBrokenOff (entries : List Entry) (name : List ℕ) (before after : Told) (status : ℕ) : Type 0 where
+pub record IsBrokenOff (entries : List Entry) (name : List ℕ) (before after : Told)
+    (status : ℕ) : Type 0 where
   pub refused : (status ≡ 6) ⊎ (status ≡ 7)
   pub held : BreaksOff before.held after.held entries name
   pub said : after.said ≡ before.said

@@ -35,7 +35,8 @@ done_status TurnsOut = 8
 -- What a search found and stored. The stored text denotes a certificate that is accepted, so what it
 -- states is true: its shifts are an allowed roster of exactly its cost, and no allowed roster costs less
 -- than its bound.
-pub record Finds (i : Instance) (m : MasterView) (turns status : ℕ) (stored : List ℕ) (f : Found) : Type 0 where
+pub record Finds (i : Instance) (m : MasterView) (turns status : ℕ) (stored : List ℕ)
+    (f : Found) : Type 0 where
   -- the certificate is accepted, its bound is what its tree shows, its nodes are right, and the status says
   -- how the search ended: the bound is the cost, or no roster is allowed, unless all turns were used
   pub searched : IsFound i m.strict turns f
@@ -46,7 +47,8 @@ pub record Finds (i : Instance) (m : MasterView) (turns status : ℕ) (stored : 
   pub right : YesIsRight i f.cert
 
 -- status 0, 1 or 8: the certificate is stored, and its report is said
-pub record SaysFound (i : Instance) (m : MasterView) (turns status : ℕ) (output stored : List ℕ) : Type 0 where
+pub record SaysFound (i : Instance) (m : MasterView) (turns status : ℕ)
+    (output stored : List ℕ) : Type 0 where
   pub arcs : ℕ
   pub few : HasArcCount i.grammar arcs
   pub found : Found
@@ -90,7 +92,8 @@ pub data SolvesRules (held : Option Texts) (text demand_name : List ℕ) (m : Ma
   accepted : (g : Grammar) (status : ℕ) (output : List ℕ) (stored : Option (List ℕ)) → IsGrammarOf text g
       → AnswersSolveDemand held g demand_name m turns status output stored
       → SolvesRules held text demand_name m turns status output stored
-  refused : (output : List ℕ) → SaysFault text output → SolvesRules held text demand_name m turns 3 output None
+  refused : (output : List ℕ) → SaysFault text output
+      → SolvesRules held text demand_name m turns 3 output None
 
 -- the same, where the rules text stands under a name
 pub record AnswersSolve (held : Option Texts) (name demand_name : List ℕ) (m : MasterView) (turns status : ℕ)

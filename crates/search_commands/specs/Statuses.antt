@@ -11,5 +11,6 @@ reused_at : (s : ℕ) (r : Reused) → s ≡ reused_status r → (s ≢ 6) × (s
 reused_at s (Bound bound) e = ends_at s 0 e (omega arith)
 reused_at s (Refused why) e = ends_at s 1 e (omega arith)
 
-pub reused-ends : (i : Instance) (c : Cert) (s : ℕ) (output : List ℕ) → Reusing i c s output → (s ≢ 6) × (s ≢ 7)
+pub reused-ends : (i : Instance) (c : Cert) (s : ℕ) (output : List ℕ) → Reusing i c s output → (s ≢ 6)
+    × (s ≢ 7)
 reused-ends i c s output h = reused_at s h.reused h.status_is

@@ -39,7 +39,8 @@ pub record IsWriter (A : Answers) (names : List (List ℕ)) (name : List ℕ) (b
   -- no other name changes, whatever the status
   pub others : IfSome before.held (λ texts. IsSomeAnd after.held (AgreesElsewhere name texts))
   -- an answer is one of the allowed ones: it is said whole, and what goes with it is stored
-  pub answer : status ≢ 6 → status ≢ 7 → (output : List ℕ) × (stored : Option (List ℕ)) × A status output stored
+  pub answer : status ≢ 6 → status ≢ 7 → (output : List ℕ) × (stored : Option (List ℕ))
+      × A status output stored
       × Said before.said after.said output × IsStored before.held after.held name stored
   -- after a refusal no more was said than a front of an allowed answer, once what goes with it was stored
   pub front : IfSome before.said (λ said. IsSomeAnd after.said (WroteLittle A name before after said))
@@ -51,7 +52,8 @@ pub record IsWriter (A : Answers) (names : List (List ℕ)) (name : List ℕ) (b
 
 -- the one answer that was made, once the text was stored, unless memory ran out
 abbrev pub IsStoredAnswer : Result Answer Memory → List ℕ → Answers
-IsStoredAnswer (Ok a) text status output stored = (status ≡ a.status) × (output ≡ a.output) × (stored ≡ Some text)
+IsStoredAnswer (Ok a) text status output stored = (status ≡ a.status) × (output ≡ a.output)
+    × (stored ≡ Some text)
 IsStoredAnswer (Err e) text status output stored = ⊥
 
 -- answers that store nothing

@@ -51,7 +51,8 @@ fn point_name(alloc: Global, proof: &str, heads: u32) -> Result<String, Memory>
 // Stores a text under a name, or returns the status of a refusal.
 fn store_text<S: Shelf>(shelf: &mut S, name: &str, text: &[u8]) -> Result<(), u8>
     ensures { MatchResult result
-        (λ _. IsStoredBy (record { name = name.now; text = text.now } ∷ []) (S.told shelf.old) (S.told shelf.new))
+        (λ _. IsStoredBy (record { name = name.now; text = text.now } ∷ []) (S.told shelf.old)
+        (S.told shelf.new))
         (IsBrokenOff [] name.now (S.told shelf.old) (S.told shelf.new)) }
 {
     match shelf.store(name, text) {
@@ -69,7 +70,8 @@ fn store_point<S: Shelf>(
     text: &[u8],
 ) -> Result<(), u8>
     ensures { MatchResult result
-        (λ _. IsStoredBy (record { name = point_name proof.now heads; text = text.now } ∷ []) (S.told shelf.old)
+        (λ _. IsStoredBy (record { name = point_name proof.now heads; text = text.now } ∷ [])
+        (S.told shelf.old)
         (S.told shelf.new))
         (IsBrokenOff [] (point_name proof.now heads) (S.told shelf.old) (S.told shelf.new)) }
 {
@@ -96,7 +98,8 @@ fn next_point<S: Shelf, M: Master>(
         (FindsPoint curve.old.day proof.now (lent (M.strict master.old) (M.refused master.old)
         (M.refused master.new)) turns (first_heads curve.old.day + curve.old.given) (S.told shelf.old)
         (S.told shelf.new))
-        (IsBrokenOff [] (point_name proof.now (first_heads curve.old.day + curve.old.given)) (S.told shelf.old)
+        (IsBrokenOff [] (point_name proof.now (first_heads curve.old.day + curve.old.given))
+        (S.told shelf.old)
         (S.told shelf.new)) }
     ensures strict_stays { M.strict master.new ≡ M.strict master.old }
 {
@@ -209,7 +212,8 @@ fn curve_points<S: Shelf, M: Master>(
     requires arcs { (arcs : ℕ) × HasArcCount curve.old.day.grammar arcs }
     requires some { 1 ≤ turns }
     requires few { turns ≤ 10000 }
-    ensures { IsSeriesWriter (Curving curve.old.day proof.now (lent (M.strict master.old) (M.refused master.old)
+    ensures { IsSeriesWriter
+        (Curving curve.old.day proof.now (lent (M.strict master.old) (M.refused master.old)
         (M.refused master.new)) turns) [] (S.told shelf.old) (S.told shelf.new) result }
 {
     match all_points(alloc, shelf, curve, proof, turns, master) {
@@ -283,7 +287,8 @@ fn curve_demand_text<S: Shelf, M: Master>(
     requires some { 1 ≤ turns }
     requires few { turns ≤ 10000 }
     ensures { IsSeriesWriter (CurvesDemand grammar text.now proof.now (lent (M.strict master.old)
-        (M.refused master.old) (M.refused master.new)) turns) [] (S.told shelf.old) (S.told shelf.new) result }
+        (M.refused master.old) (M.refused master.new)) turns) [] (S.told shelf.old)
+        (S.told shelf.new) result }
 {
     match read_demand(alloc, grammar, text) {
         Ok(instance) => curve_instance(alloc, shelf, instance, proof, turns, master),

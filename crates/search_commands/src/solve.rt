@@ -146,7 +146,8 @@ fn solve_demand<S: Shelf, M: Master>(
     requires plain { IsPlain grammar }
     requires some { 1 ≤ turns }
     requires few { turns ≤ 10000 }
-    ensures { IsWriter (AnswersSolveDemand (S.told shelf.old).held grammar demand.now (lent (M.strict master.old) (M.refused master.old)
+    ensures { IsWriter (AnswersSolveDemand (S.told shelf.old).held grammar demand.now
+        (lent (M.strict master.old) (M.refused master.old)
         (M.refused master.new)) turns)
         (demand.now ∷ []) proof.now (S.told shelf.old) (S.told shelf.new) result }
 {
@@ -169,7 +170,8 @@ fn solve_rules_text<S: Shelf, M: Master>(
 ) -> u8
     requires some { 1 ≤ turns }
     requires few { turns ≤ 10000 }
-    ensures { IsWriter (SolvesRules (S.told shelf.old).held text.now demand.now (lent (M.strict master.old) (M.refused master.old)
+    ensures { IsWriter (SolvesRules (S.told shelf.old).held text.now demand.now
+        (lent (M.strict master.old) (M.refused master.old)
         (M.refused master.new)) turns)
         (demand.now ∷ []) proof.now (S.told shelf.old) (S.told shelf.new) result }
 {
@@ -193,7 +195,8 @@ pub fn solve<S: Shelf, M: Master>(
 ) -> u8
     requires some { 1 ≤ turns }
     requires few { turns ≤ 10000 }
-    ensures { IsWriter (AnswersSolve (S.told shelf.old).held rules.now demand.now (lent (M.strict master.old) (M.refused master.old)
+    ensures { IsWriter (AnswersSolve (S.told shelf.old).held rules.now demand.now
+        (lent (M.strict master.old) (M.refused master.old)
         (M.refused master.new)) turns)
         (rules.now ∷ demand.now ∷ []) proof.now (S.told shelf.old) (S.told shelf.new) result }
 {

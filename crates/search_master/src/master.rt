@@ -43,7 +43,8 @@ pub trait Master {
         requires pool { IsPool instance.now.grammar pool.old }
         requires cuts { Each (IsNodeCut instance.now) cuts.now }
         requires few { length cuts.now < 2 ^ 31 }
-        ensures end { IfOk result (EndsWell instance.now cuts.now pool.new (refused self.old) (refused self.new)
+        ensures end { IfOk result
+            (EndsWell instance.now cuts.now pool.new (refused self.old) (refused self.new)
             (strict self.old)) }
         ensures rises { refused self.old ≤ refused self.new }
         ensures within { refused self.new ≤ 2 ^ 64 - 1 }

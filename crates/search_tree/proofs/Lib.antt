@@ -1,8 +1,8 @@
 pub mod TreeLaws
-pub mod Finding
-pub mod Queueing
-pub mod Regrow
-pub mod Reseating
-pub mod Stepping
-pub mod Leading
-pub mod Taking
+pub mod NumberedLeaves
+pub mod WaitingLeaves
+pub mod Regrowth
+pub mod StepsLemmas
+pub mod LeafSteps
+pub mod AskedLemmas
+pub mod NextLeaves

@@ -7,7 +7,7 @@ use Rattle.roster_model.specs.declared.instance.Cut.{Cut}
 use Rattle.roster_model.specs.declared.instance.Instance.{Instance}
 use Rattle.roster_model.specs.Cuts.{base_cuts}
 use Rattle.roster_model.specs.Folds.{count, In}
-use Rattle.arc_laws.proofs.Folding.{Each-same, Each-at}
+use Rattle.arc_laws.proofs.FoldsLemmas.{Each-same, Each-at}
 use Rattle.certificates.specs.Nodes.{low_cut, high_cut, visits}
 use Rattle.parse_graph.specs.Graphs.{GraphView}
 use Rattle.growing_laws.specs.Grown.{Grown, tip, fork, Leaf, fresh, valued, fixed, SomeTip, raised, tip_bound, busy, numbers, proof_of}
@@ -15,9 +15,9 @@ use Rattle.growing_laws.specs.Boxes.{IsOpenLeaf}
 use Rattle.growing_laws.specs.Opens.{Entry, opens, SameEntries, IsEntryOf}
 use Rattle.growing_laws.specs.Seats.{StandsAt}
 use Rattle.growing_laws.specs.States.{IsTip}
-use Rattle.growing_laws.proofs.Growing.{tips-map, some-both}
-use Rattle.growing_laws.proofs.Stating.{growing-raised}
-use Rattle.growing_laws.proofs.Opening.{opens-sound}
+use Rattle.growing_laws.proofs.GrownLemmas.{tips-map, some-both}
+use Rattle.growing_laws.proofs.StatesLemmas.{growing-raised}
+use Rattle.growing_laws.proofs.OpensLemmas.{opens-sound}
 use Rattle.open_nodes.specs.declared.leaf.Plan.{Plan}
 use Rattle.open_nodes.specs.declared.leaf.OpenLeaf.{OpenLeaf}
 use Rattle.search_tree.specs.Views.{IsLeafAt, entry_of}

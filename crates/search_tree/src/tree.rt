@@ -59,7 +59,8 @@ impl Model for SearchTree {
 
     ghost Value = { TreeView };
 
-    ghost view = { λ t. record { seats = t.seats.items; waiting = t.waiting; processed = t.processed; failed = t.failed } };
+    ghost view = { λ t. record
+        { seats = t.seats.items; waiting = t.waiting; processed = t.processed; failed = t.failed } };
 }
 
 impl SearchTree {
@@ -141,7 +142,8 @@ impl SearchTree {
     pub fn pin(&mut self, leaf: OpenLeaf, value: u64)
         requires { AsksPinned self.old leaf value }
         ensures { (asked : AsksPinned self.old leaf value)
-            → IsProcessed asked.taken.site asked.taken.limit asked.taken.now asked.taken.low self.old self.new }
+            → IsProcessed asked.taken.site asked.taken.limit asked.taken.now asked.taken.low self.old
+            self.new }
     {
         mark_leaf(&mut self.seats, leaf.kept.seat, Node::Pinned, value);
         self.processed += 1;
@@ -157,7 +159,8 @@ impl SearchTree {
     ) -> Result<(), Memory>
         requires { AsksPriced self.old leaf prices value plan }
         ensures { OnOk result ((asked : AsksPriced self.old leaf prices value plan)
-            → IsProcessed asked.taken.site asked.taken.limit asked.taken.now asked.taken.low self.old self.new) }
+            → IsProcessed asked.taken.site asked.taken.limit asked.taken.now asked.taken.low self.old
+            self.new) }
     {
         mark_leaf(
             &mut self.seats,

@@ -41,7 +41,7 @@ texts_of m = fin.from_entries (map entry_of m.entries)
 abbrev pub one_more : ℕ → ℕ
 one_more n = min (n + 1) (2 ^ 64 - 1)
 
--- the count of faults never falls, and a call that failed one_more it or found it at its last value
+-- the count of faults never falls, and a call that failed raised it or found it at its last value
 pub record HasCause (before now : ℕ) (result : Result (Unit {0}) ShelfFault) : Type 0 where
   pub never_falls : before ≤ now
   pub failed : result ≡ Err Failed → one_more before ≤ now

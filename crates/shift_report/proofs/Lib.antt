@@ -1,2 +1,2 @@
 pub mod WrittenSteps
-pub mod Joined
+pub mod TextParts

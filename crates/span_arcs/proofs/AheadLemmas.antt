@@ -8,7 +8,7 @@ use Rattle.roster_model.specs.declared.grammar.Grammar.{Grammar}
 use Rattle.roster_model.specs.Arcs.{IsArc, ArcBefore, ComesFirst, arc_numbers}
 use Rattle.roster_model.specs.Folds.{Each, In}
 use Rattle.arc_laws.specs.Lists.{IsRising, AreArcs}
-use Rattle.arc_laws.proofs.Folding.{Each-append, Each-same, In-append}
+use Rattle.arc_laws.proofs.FoldsLemmas.{Each-append, Each-same, In-append}
 use Rattle.span_arcs.specs.Ahead.{IsAhead, IsPassed}
 use Rattle.span_arcs.specs.Order.{IsNextArc, IsSmall}
 use Rattle.span_arcs.proofs.OrderLemmas.{before-lower, comes-first, keys_left}

@@ -1,6 +1,6 @@
 pub mod StandLemmas
 pub mod MarksLemmas
-pub mod ClosedLemmas
+pub mod PartMarksLemmas
 pub mod ArcsLemmas
 pub mod OrderLemmas
 pub mod FlagsLemmas

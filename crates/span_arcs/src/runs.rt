@@ -34,8 +34,10 @@ fn next_split(
     requires points { (m : ℕ) → HasSplit grammar.now (drop suffix.from rule.now.right) span.start span.len m
         → Has points (span.start + m) }
     requires part { part ≤ span.len }
-    ensures next { IsLongerPart grammar.now (drop suffix.from rule.now.right) span.start span.len part result }
-    ensures split { IfSome result (HasSplit grammar.now (drop suffix.from rule.now.right) span.start span.len) }
+    ensures next { IsLongerPart grammar.now
+        (drop suffix.from rule.now.right) span.start span.len part result }
+    ensures split { IfSome result
+        (HasSplit grammar.now (drop suffix.from rule.now.right) span.start span.len) }
 {
     if part == span.len {
         return None;

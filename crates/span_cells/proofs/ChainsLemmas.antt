@@ -10,7 +10,7 @@ use Rattle.roster_model.specs.Grammar.{rule_at}
 use Rattle.roster_model.specs.Trees.{Parts, done, letter, uses, On}
 use Rattle.roster_model.specs.Sums.{PriceView, IsLeast, IsLesser, tree_sum}
 use Rattle.tree_laws.specs.Parts.{root}
-use Rattle.tree_laws.proofs.Least.{IsLeast-same}
+use Rattle.tree_laws.proofs.LeastValues.{IsLeast-same}
 use Rattle.tree_laws.proofs.RuleLoop.{ByFirst, names-taken}
 use Rattle.tree_laws.proofs.Rules.{rule_at-within, rule_here, sound-rule}
 use Rattle.roster_model.specs.Sound.{IsSound}

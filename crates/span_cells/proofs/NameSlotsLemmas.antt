@@ -8,7 +8,7 @@ use Rattle.span_cells.specs.declared.slot.Suffix.{Suffix}
 use Rattle.span_cells.specs.Building.{IsPlaced, IsDone, NameSlots, AreNamed}
 use Rattle.roster_model.specs.declared.grammar.Grammar.{Grammar}
 use Rattle.roster_model.specs.UnitRules.{IsRanked}
-use Rattle.tree_laws.proofs.Pushing.{push-kept, push-here, push-cases}
+use Rattle.tree_laws.proofs.ListPushes.{push-kept, push-here, push-cases}
 
 -- no name yet
 pub names-init : (ranks : List ℕ) (base : List Slot) (names : List ℕ) (done : ℕ → Type 0)

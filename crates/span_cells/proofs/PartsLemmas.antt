@@ -6,7 +6,7 @@ use Rattle.roster_model.specs.declared.grammar.Grammar.{Grammar}
 use Rattle.roster_model.specs.declared.grammar.Sym.{Sym}
 use Rattle.roster_model.specs.Sums.{PriceView, IsLeast, IsLesser, parts_sum, PartsLeast}
 use Rattle.tree_laws.specs.Laws.{arc_at}
-use Rattle.tree_laws.proofs.Least.{IsLesser-none}
+use Rattle.tree_laws.proofs.LeastValues.{IsLesser-none}
 use Rattle.tree_laws.proofs.PartLoop.{Before, suffix-init}
 use Rattle.tree_laws.proofs.Symbols.{here, step, end}
 use Rattle.span_cells.specs.Choices.{ChosenPart}

@@ -12,7 +12,7 @@ use Rattle.span_cells.specs.declared.slot.Slot.{Slot}
 use Rattle.span_cells.specs.declared.slot.Slot.TheVariants.{OfSuffix}
 use Rattle.span_cells.specs.Cells.{HasSlot}
 use Rattle.span_cells.specs.Building.{AddsSuffixes, SuffixSlots, IsSuffixSlot}
-use Rattle.tree_laws.proofs.Pushing.{push-kept, push-here, push-cases}
+use Rattle.tree_laws.proofs.ListPushes.{push-kept, push-here, push-cases}
 
 -- the slot of suffix j of rule r
 abbrev at_suffix : ℕ → ℕ → Slot

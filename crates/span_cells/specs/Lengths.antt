@@ -31,7 +31,8 @@ HoldRule g rule b =
 
 -- so has what is below the uses of the rules of a name up to a number
 abbrev pub HoldRules : Grammar → ℕ → ℕ → Lengths → Type 0
-HoldRules g x n b = (r : ℕ) (rule : Rule) → r ≤ n → rule_at g r ≡ Some rule → rule.left ≡ x → HoldRule g rule b
+HoldRules g x n b = (r : ℕ) (rule : Rule) → r ≤ n → rule_at g r ≡ Some rule → rule.left ≡ x
+    → HoldRule g rule b
 
 -- what a slot stands for has one of these lengths
 abbrev pub HoldSlot : Grammar → Slot → Lengths → Type 0

@@ -10,7 +10,7 @@ use Rattle.roster_model.specs.Sums.{PriceView, plus, tree_sum, parts_sum, Symbol
 use Rattle.roster_model.specs.Room.{RoomView}
 use Rattle.tree_laws.specs.Parts.{beside}
 use Rattle.tree_laws.specs.Laws.{arc_at}
-use Rattle.tree_laws.proofs.Least.{IsLeast-one}
+use Rattle.tree_laws.proofs.LeastValues.{IsLeast-one}
 use Rattle.tree_laws.proofs.Splits.{joined}
 use Rattle.tree_laws.proofs.Ends.{last-least, last_sum, only-least, only_sum, rooted}
 use Rattle.tree_laws.proofs.Size.{steps-beside, use_count-beside, length-steps}

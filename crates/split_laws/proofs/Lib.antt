@@ -1,6 +1,6 @@
 pub mod Shape
-pub mod Build
-pub mod Take
-pub mod Walk
-pub mod Whole
-pub mod Filling
+pub mod NodesLemmas
+pub mod TakenCounts
+pub mod OwingLemmas
+pub mod SplitsLemmas
+pub mod FillingLemmas

@@ -10,8 +10,8 @@ use Rattle.roster_model.specs.Trees.{Parts, done, letter, uses, span_length, Der
 use Rattle.roster_model.specs.Folds.{In}
 use Rattle.roster_model.specs.Sums.{arc}
 use Rattle.roster_model.specs.Arcs.{arc_of_part, parts_arcs, arcs, IsArc}
-use Rattle.arc_laws.proofs.Folding.{In-append}
-use Rattle.arc_laws.proofs.Balanced.{drop-next}
+use Rattle.arc_laws.proofs.FoldsLemmas.{In-append}
+use Rattle.arc_laws.proofs.BalanceLemmas.{drop-next}
 use Rattle.span_arcs.proofs.StandLemmas.{some-covered}
 
 -- a letter spans one period

@@ -1,12 +1,12 @@
 pub mod Ratios
 pub mod Turns
-pub mod Bounded
-pub mod Padded
+pub mod PositiveEntries
+pub mod PaddedRows
 pub mod Paths
 pub mod Ends
 pub mod Places
 pub mod Counts
-pub mod Entering
-pub mod Running
+pub mod EnteringColumns
+pub mod LaterFaults
 pub mod Starts
 pub mod Shares

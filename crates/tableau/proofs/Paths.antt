@@ -11,7 +11,7 @@ use Rattle.pivot_rows.specs.Rows.{StepsTo, IsWideStep}
 use Rattle.pivot_rows.proofs.Steps.{a_step}
 use Rattle.tableau.specs.Lines.{row_at, AreLines, IsLeaving, padded, HasWideRow, AreStepped}
 use Rattle.tableau.specs.Sheet.{tableau_of}
-use Rattle.tableau.proofs.Padded.{padded_below, padded_last}
+use Rattle.tableau.proofs.PaddedRows.{padded_below, padded_last}
 
 -- a row that has its right side at place m
 pub whole_at : (m : ℕ) (f : ℕ → ℤ) (k : ℕ) → whole_row m f (f m) k ≡ f k

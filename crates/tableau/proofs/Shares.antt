@@ -5,7 +5,7 @@ use lib.IntN.{*ℤ_comm}
 use Rattle.linear_programs.specs.Program.{Program, IsSound}
 use Rattle.linear_programs.specs.Tableau.{entry, on_basis, IsTableauSolution}
 use Rattle.linear_programs.proofs.Ring.{*ℤ-assoc, same_factor}
-use Rattle.linear_programs.proofs.Tied.{IsTied}
+use Rattle.linear_programs.proofs.TiedTableau.{IsTied}
 use Rattle.linear_programs.proofs.Solutions.{tableau_solution}
 use Rattle.fraction.specs.Row.{at}
 use Rattle.fraction.specs.declared.frac.Frac.{Frac}
@@ -16,7 +16,7 @@ use Rattle.tableau.specs.Running.{IsPriced}
 use Rattle.tableau.specs.Finish.{IsShare, AreShares}
 use Rattle.tableau.specs.Ends.{IsLpEnd, AreBasicWeights}
 use Rattle.tableau.proofs.Ends.{path_prices}
-use Rattle.tableau.proofs.Entering.{tied_of, same_reduced}
+use Rattle.tableau.proofs.EnteringColumns.{tied_of, same_reduced}
 use Rattle.tableau.proofs.Starts.{narrow_at, at_narrow}
 
 -- one more row's share behind the others

@@ -13,7 +13,8 @@ abbrev pub HasLargePlace : List Place → Type 0
 HasLargePlace ps = (k : ℕ) × (k < length ps) × (1 < unsigned_abs (place_at ps k).value)
 
 -- a listed column of the program with a negative reduced cost at the prices of a cost row
-pub record IsCheaper {K : Type 0} (p : Program K) (Lists : ℕ → K → Type 0) (size : ℕ) (cost : List ℤ) (column : ℕ) : Type 0 where
+pub record IsCheaper {K : Type 0} (p : Program K) (Lists : ℕ → K → Type 0) (size : ℕ) (cost : List ℤ)
+    (column : ℕ) : Type 0 where
   pub within : column < size
   pub key : K
   pub listed : Lists column key

@@ -13,7 +13,8 @@ use Rattle.tableau.specs.declared.simplex.LpFault.{LpFault}
 use Rattle.tableau.specs.declared.simplex.LpFault.TheVariants.{Wide, Spent, Memory}
 
 -- the weight of a listed column, in units of 1 / d
-pub record IsBasicWeight {K : Type 0} (Lists : ℕ → K → Type 0) (d : ℕ) (b : Basic) (w : Weighted K) : Type 0 where
+pub record IsBasicWeight {K : Type 0} (Lists : ℕ → K → Type 0) (d : ℕ) (b : Basic)
+    (w : Weighted K) : Type 0 where
   pub column : Lists b.col w.key
   pub share : b.x.num *ℤ pos d ≡ pos w.weight *ℤ b.x.den
 
@@ -24,7 +25,8 @@ AreBasicWeights Lists d [] (w ∷ ws) = ⊥
 AreBasicWeights Lists d (b ∷ bs) [] = ⊥
 
 -- the end of a pivot path that leaves no column a negative reduced cost
-pub record IsLpEnd {K : Type 0} (p : Program K) (Lists : ℕ → K → Type 0) (basic : List Basic) (y : List ℤ) (kappa : ℤ) (value : Frac) : Type 0 where
+pub record IsLpEnd {K : Type 0} (p : Program K) (Lists : ℕ → K → Type 0) (basic : List Basic) (y : List ℤ)
+    (kappa : ℤ) (value : Frac) : Type 0 where
   pub steps : ℕ
   pub tableau : Tableau K
   pub path : PivotPath p steps tableau
@@ -42,9 +44,12 @@ pub record IsLpEnd {K : Type 0} (p : Program K) (Lists : ℕ → K → Type 0) (
 -- a listed column has an entry other than -1, 0 and 1, or a cost above 2^39
 abbrev pub HasLargeColumn : {K : Type 0} → Program K → (ℕ → K → Type 0) → Type 0
 HasLargeColumn {K} p Lists =
-    (j : ℕ) × (k : K) × Lists j k × (((r : ℕ) × (r < p.rows) × (1 < unsigned_abs ((p.column k).entry r))) ⊎ (pos (2 ^ 39) <ℤ (p.column k).cost))
+    (j : ℕ) × (k : K) × Lists j k × (((r : ℕ) × (r < p.rows) × (1 < unsigned_abs ((p.column k).entry r)))
+    ⊎ (pos (2 ^ 39) <ℤ (p.column k).cost))
 
 abbrev pub IsLpFault : {K : Type 0} → Program K → (ℕ → K → Type 0) → ℕ → Counts → Counts → LpFault → Type 0
-IsLpFault p Lists pivots old new (Wide fault) = HasRisen old.wide new.wide × (HasWidePath p ⊎ HasLargeColumn p Lists)
-IsLpFault p Lists pivots old new (Spent n) = (n ≡ pivots) × HasRisen old.spent new.spent × HasOpenPath p pivots
+IsLpFault p Lists pivots old new (Wide fault) = HasRisen old.wide new.wide
+    × (HasWidePath p ⊎ HasLargeColumn p Lists)
+IsLpFault p Lists pivots old new (Spent n) = (n ≡ pivots) × HasRisen old.spent new.spent
+    × HasOpenPath p pivots
 IsLpFault p Lists pivots old new Memory = Unit {0}

@@ -13,6 +13,7 @@ pub record IsShare (m : ℕ) (row : List ℤ) (entry : ℕ → ℤ) (column : �
 -- the basic columns of the first n rows with their weights, the last row first
 abbrev pub AreShares : ℕ → List (List ℤ) → (ℕ → ℕ → ℤ) → List ℕ → List Basic → ℕ → Type 0
 AreShares m rows entry basis [] zero = Unit {0}
-AreShares m rows entry basis (b ∷ bs) (suc n) = IsShare m (row_at rows n) (entry n) (slice_index basis n) b × AreShares m rows entry basis bs n
+AreShares m rows entry basis (b ∷ bs) (suc n) = IsShare m (row_at rows n) (entry n) (slice_index basis n) b
+    × AreShares m rows entry basis bs n
 AreShares m rows entry basis [] (suc n) = ⊥
 AreShares m rows entry basis (b ∷ bs) zero = ⊥

@@ -28,5 +28,6 @@ pub record IsFirstCost {K : Type 0} (p : Program K) (right : List ℤ) (cost : L
 
 -- a right side is above 2^56 in size, which was counted, or memory did not suffice
 abbrev pub IsRightFault : List ℤ → Counts → Counts → ColumnsFault → Type 0
-IsRightFault right old new (Wide fault) = (new ≡ refused old) × ((r : ℕ) × (r < length right) × (2 ^ 56 < unsigned_abs (at right r)))
+IsRightFault right old new (Wide fault) = (new ≡ refused old)
+    × ((r : ℕ) × (r < length right) × (2 ^ 56 < unsigned_abs (at right r)))
 IsRightFault right old new Memory = new ≡ old

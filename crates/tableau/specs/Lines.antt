@@ -24,7 +24,8 @@ pub record AreLines (m : ℕ) (rows : List (List ℤ)) : Type 0 where
 -- a column's entry in each of the first n rows, at most 2^68 in size
 abbrev pub AreEntries : ℕ → List (List ℤ) → List Place → List ℤ → ℕ → Type 0
 AreEntries m rows column entries n =
-    (r : ℕ) → r < n → (at entries r ≡ dot m (at (row_at rows r)) (number_in column)) × (unsigned_abs (at entries r) ≤ 2 ^ 68)
+    (r : ℕ) → r < n → (at entries r ≡ dot m (at (row_at rows r)) (number_in column))
+    × (unsigned_abs (at entries r) ≤ 2 ^ 68)
 
 -- of the first n rows, row t has an entry above 0 and the least right side divided by its entry
 pub record IsLeaving (m : ℕ) (rows : List (List ℤ)) (entries : List ℤ) (n t : ℕ) : Type 0 where
@@ -38,7 +39,8 @@ abbrev pub padded : List ℤ → List ℤ
 padded row = row ++ zeros 1
 
 -- each of the first n rows but row t is stepped, and the others are as before
-pub record AreStepped (old : List (List ℤ)) (entries : List ℤ) (t : ℕ) (new : List (List ℤ)) (n : ℕ) : Type 0 where
+pub record AreStepped (old : List (List ℤ)) (entries : List ℤ) (t : ℕ) (new : List (List ℤ))
+    (n : ℕ) : Type 0 where
   pub stepped : (r : ℕ) → r < n → r ≢ t
       → StepsTo (row_at old r) (at entries t) (padded (row_at old t)) (at entries r) (row_at new r)
   pub same : row_at new t ≡ row_at old t
@@ -57,6 +59,8 @@ pub record IsTurn (m : ℕ) (rows : List (List ℤ)) (cost entries : List ℤ) (
   pub prices : StepsTo cost (at entries t) (padded (row_at rows t)) (neg_ℤ reduced) left
 
 -- the turn leads to a number above 2^56 in size
-pub record IsWideTurn (m : ℕ) (rows : List (List ℤ)) (cost entries : List ℤ) (reduced : ℤ) (t : ℕ) : Type 0 where
+pub record IsWideTurn (m : ℕ) (rows : List (List ℤ)) (cost entries : List ℤ) (reduced : ℤ)
+    (t : ℕ) : Type 0 where
   pub leaving : IsLeaving m rows entries m t
-  pub wide : HasWideRow m rows entries t ⊎ IsWideStep cost (at entries t) (padded (row_at rows t)) (neg_ℤ reduced)
+  pub wide : HasWideRow m rows entries t
+      ⊎ IsWideStep cost (at entries t) (padded (row_at rows t)) (neg_ℤ reduced)

@@ -5,7 +5,8 @@ use Rattle.fraction.specs.Row.{at}
 use Rattle.tableau.specs.Sheet.{IsSheet, IsOnPath, HasRoom, AreCopied}
 
 -- a path leads to the lists, and as many pivots are left as it lacks of all
-pub record IsRunning {K : Type 0} (p : Program K) (Lists : ℕ → K → Type 0) (rows : List (List ℤ)) (cost : List ℤ) (basis : List ℕ)
+pub record IsRunning {K : Type 0} (p : Program K) (Lists : ℕ → K → Type 0) (rows : List (List ℤ))
+    (cost : List ℤ) (basis : List ℕ)
     (entries prices pivot : List ℤ) (pivots left : ℕ) : Type 0 where
   pub sheet : IsSheet p.rows rows cost basis
   pub room : HasRoom p.rows entries prices pivot
@@ -14,7 +15,8 @@ pub record IsRunning {K : Type 0} (p : Program K) (Lists : ℕ → K → Type 0)
   pub path : IsOnPath p Lists rows cost basis steps
 
 -- a path leads to the lists, and leaves no column a negative reduced cost at the copied prices
-pub record IsPriced {K : Type 0} (p : Program K) (Lists : ℕ → K → Type 0) (rows : List (List ℤ)) (cost : List ℤ) (basis : List ℕ)
+pub record IsPriced {K : Type 0} (p : Program K) (Lists : ℕ → K → Type 0) (rows : List (List ℤ))
+    (cost : List ℤ) (basis : List ℕ)
     (prices : List ℤ) : Type 0 where
   pub sheet : IsSheet p.rows rows cost basis
   pub steps : ℕ

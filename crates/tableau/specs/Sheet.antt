@@ -23,7 +23,8 @@ pub record IsSheet (m : ℕ) (rows : List (List ℤ)) (cost : List ℤ) (basis :
   pub columns : length basis ≡ m
 
 -- a path of n steps leads to the tableau of the lists, whose basic columns are listed
-pub record IsOnPath {K : Type 0} (p : Program K) (Lists : ℕ → K → Type 0) (rows : List (List ℤ)) (cost : List ℤ)
+pub record IsOnPath {K : Type 0} (p : Program K) (Lists : ℕ → K → Type 0) (rows : List (List ℤ))
+    (cost : List ℤ)
     (basis : List ℕ) (n : ℕ) : Type 0 where
   pub keys : ℕ → K
   pub path : PivotPath p n (tableau_of p.rows keys rows cost)

@@ -47,7 +47,8 @@ impl Candidate {
 fn cheaper<C: Columns>(columns: &C, prices: &[i64], column: usize) -> Option<i128>
     requires ready { C.Ready (C.state columns.now) }
     requires column { column < C.size (C.state columns.now) }
-    requires keys { (j : ℕ) → j < C.size (C.state columns.now) → (k : C.Key) × C.Lists (C.state columns.now) j k
+    requires keys { (j : ℕ) → j < C.size (C.state columns.now) → (k : C.Key)
+        × C.Lists (C.state columns.now) j k
         × (C.program (C.site columns.now)).belongs k }
     requires few { (C.program (C.site columns.now)).rows ≤ 1500 }
     requires prices { IsLine ((C.program (C.site columns.now)).rows + 2) prices.now }
@@ -74,12 +75,14 @@ fn better<C: Columns>(
 ) -> Option<Candidate>
     requires ready { C.Ready (C.state columns.now) }
     requires column { column < C.size (C.state columns.now) }
-    requires keys { (j : ℕ) → j < C.size (C.state columns.now) → (k : C.Key) × C.Lists (C.state columns.now) j k
+    requires keys { (j : ℕ) → j < C.size (C.state columns.now) → (k : C.Key)
+        × C.Lists (C.state columns.now) j k
         × (C.program (C.site columns.now)).belongs k }
     requires few { (C.program (C.site columns.now)).rows ≤ 1500 }
     requires prices { IsLine ((C.program (C.site columns.now)).rows + 2) prices.now }
     requires kappa { pos 0 ≤ℤ at prices.now ((C.program (C.site columns.now)).rows + 1) }
-    requires best { IfSome best (λ b. IsCheaper (C.program (C.site columns.now)) (C.Lists (C.state columns.now))
+    requires best { IfSome best
+        (λ b. IsCheaper (C.program (C.site columns.now)) (C.Lists (C.state columns.now))
         (C.size (C.state columns.now)) prices.now b.column) }
     ensures { IfSome result (λ b. IsCheaper (C.program (C.site columns.now)) (C.Lists (C.state columns.now))
         (C.size (C.state columns.now)) prices.now b.column) }
@@ -105,7 +108,8 @@ fn steepest<C: Columns>(columns: &C, prices: &[i64]) -> Option<usize>
     requires few { (C.program (C.site columns.now)).rows ≤ 1500 }
     requires prices { IsLine ((C.program (C.site columns.now)).rows + 2) prices.now }
     requires kappa { pos 0 ≤ℤ at prices.now ((C.program (C.site columns.now)).rows + 1) }
-    ensures { IfSome result (λ column. IsCheaper (C.program (C.site columns.now)) (C.Lists (C.state columns.now))
+    ensures { IfSome result
+        (λ column. IsCheaper (C.program (C.site columns.now)) (C.Lists (C.state columns.now))
         (C.size (C.state columns.now)) prices.now column) }
 {
     let _count = columns.count();
@@ -130,7 +134,8 @@ fn narrowest<C: Columns>(
     requires few { (C.program (C.site columns.now)).rows ≤ 1500 }
     requires prices { IsLine ((C.program (C.site columns.now)).rows + 2) prices.now }
     requires kappa { pos 0 ≤ℤ at prices.now ((C.program (C.site columns.now)).rows + 1) }
-    ensures { IfSome result (λ column. IsCheaper (C.program (C.site columns.now)) (C.Lists (C.state columns.now))
+    ensures { IfSome result
+        (λ column. IsCheaper (C.program (C.site columns.now)) (C.Lists (C.state columns.now))
         (C.size (C.state columns.now)) prices.now column) }
 {
     let count = columns.count();
@@ -167,7 +172,8 @@ pub(crate) fn choice<C: Columns>(
     requires few { (C.program (C.site columns.now)).rows ≤ 1500 }
     requires prices { IsLine ((C.program (C.site columns.now)).rows + 2) prices.now }
     requires kappa { pos 0 ≤ℤ at prices.now ((C.program (C.site columns.now)).rows + 1) }
-    ensures { IfSome result (λ column. IsCheaper (C.program (C.site columns.now)) (C.Lists (C.state columns.now))
+    ensures { IfSome result
+        (λ column. IsCheaper (C.program (C.site columns.now)) (C.Lists (C.state columns.now))
         (C.size (C.state columns.now)) prices.now column) }
 {
     match rule {

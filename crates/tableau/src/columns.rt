@@ -124,6 +124,7 @@ pub trait Columns {
             <ℤ pos 0))) }
         ensures none { IfOk result (λ answer. IfNone answer
             (IsPricedOut (program (site self.old)) (at y.now) kappa)) }
-        ensures wide { IfErr result (IsColumnsFault (program (site self.old)).rows y.now kappa tally.old tally.new) }
+        ensures wide { IfErr result
+            (IsColumnsFault (program (site self.old)).rows y.now kappa tally.old tally.new) }
         ensures counts { (tally.old.wide ≤ tally.new.wide) × (tally.new.spent ≡ tally.old.spent) };
 }

@@ -39,16 +39,20 @@ pub(crate) fn enter<C: Columns>(
     requires costs { (k : C.Key) → (C.program (C.site columns.now)).belongs k
         → pos 0 ≤ℤ ((C.program (C.site columns.now)).column k).cost }
     requires few { (C.program (C.site columns.now)).rows ≤ 1500 }
-    requires sheet { IsSheet (C.program (C.site columns.now)).rows sheet.old.rows sheet.old.cost sheet.old.basis.items }
-    requires room { HasRoom (C.program (C.site columns.now)).rows sheet.old.entries sheet.old.prices sheet.old.pivot }
+    requires sheet { IsSheet
+        (C.program (C.site columns.now)).rows sheet.old.rows sheet.old.cost sheet.old.basis.items }
+    requires room { HasRoom
+        (C.program (C.site columns.now)).rows sheet.old.entries sheet.old.prices sheet.old.pivot }
     requires path { (n : ℕ) × IsOnPath (C.program (C.site columns.now)) (C.Lists (C.state columns.now))
         sheet.old.rows sheet.old.cost sheet.old.basis.items n }
     requires column { IsCheaper (C.program (C.site columns.now)) (C.Lists (C.state columns.now))
         (C.size (C.state columns.now)) sheet.old.cost column }
-    ensures path { IfOk result (λ _. (n : ℕ) → IsOnPath (C.program (C.site columns.now)) (C.Lists (C.state columns.now))
+    ensures path { IfOk result
+        (λ _. (n : ℕ) → IsOnPath (C.program (C.site columns.now)) (C.Lists (C.state columns.now))
         sheet.old.rows sheet.old.cost sheet.old.basis.items n → IsOnPath (C.program (C.site columns.now))
         (C.Lists (C.state columns.now)) sheet.new.rows sheet.new.cost sheet.new.basis.items (n + 1)) }
-    ensures sheet { IfOk result (λ _. IsSheet (C.program (C.site columns.now)).rows sheet.new.rows sheet.new.cost
+    ensures sheet { IfOk result
+        (λ _. IsSheet (C.program (C.site columns.now)).rows sheet.new.rows sheet.new.cost
         sheet.new.basis.items) }
     ensures room { IfOk result (λ _. HasRoom (C.program (C.site columns.now)).rows sheet.new.entries
         sheet.new.prices sheet.new.pivot) }

@@ -68,7 +68,8 @@ fn basics<C: Columns>(
         (slice_index basis.now r) k × (pos 0 <ℤ dot (length rows.now) (at (row_at rows.now r))
         ((C.program (C.site columns.now)).column k).entry) }
     ensures shares { IfOk result (λ basic. (keys : ℕ → C.Key) → ((r : ℕ) → r < length rows.now →
-        C.Lists (C.state columns.now) (slice_index basis.now r) (keys r)) → AreShares (length rows.now) rows.now
+        C.Lists (C.state columns.now) (slice_index basis.now r) (keys r))
+        → AreShares (length rows.now) rows.now
         (λ r. ((C.program (C.site columns.now)).column (keys r)).entry) basis.now basic (length rows.now)) }
     ensures fault { (n : ℕ) → IfErr result (λ f. IsLpFault (C.program (C.site columns.now))
         (C.Lists (C.state columns.now)) n tally.old tally.new f) }
@@ -99,7 +100,8 @@ pub(crate) fn finish<C: Columns>(
     requires ready { C.Ready (C.state columns.now) }
     requires sound { IsSound (C.program (C.site columns.now)) }
     requires few { (C.program (C.site columns.now)).rows ≤ 1500 }
-    requires priced { IsPriced (C.program (C.site columns.now)) (C.Lists (C.state columns.now)) sheet.rows sheet.cost
+    requires priced { IsPriced (C.program (C.site columns.now))
+        (C.Lists (C.state columns.now)) sheet.rows sheet.cost
         sheet.basis.items sheet.prices }
     ensures end { IfOk result (λ end. IsLpEnd (C.program (C.site columns.now)) (C.Lists (C.state columns.now))
         end.basic end.y end.kappa end.value) }

@@ -85,11 +85,13 @@ fn unit_costs<C: Columns>(
     tally: &mut Tally,
 ) -> Result<Vec<i64>, LpFault>
     requires ready { C.Ready (C.state columns.now) }
-    requires units { (r : ℕ) → r < rows → C.Lists (C.state columns.now) r ((C.program (C.site columns.now)).unit r) }
+    requires units { (r : ℕ) → r < rows
+        → C.Lists (C.state columns.now) r ((C.program (C.site columns.now)).unit r) }
     requires costs { (r : ℕ) → r < rows → pos 0 ≤ℤ ((C.program (C.site columns.now)).column
         ((C.program (C.site columns.now)).unit r)).cost }
     ensures length { IfOk result (λ v. length v.items ≡ rows) }
-    ensures costs { IfOk result (λ v. (r : ℕ) → r < rows → at v.items r ≡ ((C.program (C.site columns.now)).column
+    ensures costs { IfOk result
+        (λ v. (r : ℕ) → r < rows → at v.items r ≡ ((C.program (C.site columns.now)).column
         ((C.program (C.site columns.now)).unit r)).cost) }
     ensures small { IfOk result (λ v. (r : ℕ) → r < rows → at v.items r ≤ℤ pos (2 ^ 39)) }
     ensures same { IfOk result (λ _. tally.new ≡ tally.old) }
@@ -154,7 +156,8 @@ fn first_cost<C: Columns>(
     requires units { (r : ℕ) → r < length right.now → C.Lists (C.state columns.now) r
         ((C.program (C.site columns.now)).unit r) }
     requires length { length right.now ≡ (C.program (C.site columns.now)).rows }
-    requires right { (r : ℕ) → r < length right.now → at right.now r ≡ (C.program (C.site columns.now)).right r }
+    requires right { (r : ℕ) → r < length right.now → at right.now r
+        ≡ (C.program (C.site columns.now)).right r }
     requires feasible { (r : ℕ) → r < length right.now → pos 0 ≤ℤ at right.now r }
     requires narrow { AreNarrow right.now }
     requires costs { (r : ℕ) → r < length right.now → pos 0 ≤ℤ ((C.program (C.site columns.now)).column
@@ -238,7 +241,8 @@ pub(crate) fn start<C: Columns>(
     requires costs { (k : C.Key) → (C.program (C.site columns.now)).belongs k
         → pos 0 ≤ℤ ((C.program (C.site columns.now)).column k).cost }
     ensures running { (n : ℕ) → IfOk result (λ sheet. IsRunning (C.program (C.site columns.now))
-        (C.Lists (C.state columns.now)) sheet.rows sheet.cost sheet.basis.items sheet.entries sheet.prices sheet.pivot n n) }
+        (C.Lists (C.state columns.now)) sheet.rows sheet.cost sheet.basis.items sheet.entries sheet.prices
+        sheet.pivot n n) }
     ensures fault { (n : ℕ) → IfErr result (λ f. IsLpFault (C.program (C.site columns.now))
         (C.Lists (C.state columns.now)) n tally.old tally.new f) }
     ensures counts { (tally.old.wide ≤ tally.new.wide) × (tally.new.spent ≡ tally.old.spent) }

@@ -53,7 +53,8 @@ impl Line {
         ensures line { IfOk result (λ _. IsLine (length self.old) self.new) }
         ensures length { length self.new ≡ length self.old }
         ensures wide { IfErr result (λ _. IsWideStep self.old factor other.now entry) }
-        ensures counted { MatchResult result (λ _. tally.new ≡ tally.old) (λ _. tally.new ≡ refused tally.old) }
+        ensures counted { MatchResult result (λ _. tally.new ≡ tally.old)
+            (λ _. tally.new ≡ refused tally.old) }
     {
         step_row(&mut self.numbers, factor, other, entry, tally)
     }

@@ -25,18 +25,22 @@ fn next<C: Columns>(
     requires costs { (k : C.Key) → (C.program (C.site columns.old)).belongs k
         → pos 0 ≤ℤ ((C.program (C.site columns.old)).column k).cost }
     requires few { (C.program (C.site columns.old)).rows ≤ 1500 }
-    requires running { IsRunning (C.program (C.site columns.old)) (C.Lists (C.state columns.old)) sheet.old.rows
-        sheet.old.cost sheet.old.basis.items sheet.old.entries sheet.old.prices sheet.old.pivot pivots budget.old }
+    requires running { IsRunning (C.program (C.site columns.old))
+        (C.Lists (C.state columns.old)) sheet.old.rows
+        sheet.old.cost sheet.old.basis.items sheet.old.entries sheet.old.prices sheet.old.pivot pivots
+        budget.old }
     ensures running { IfOk result (λ more. IsTrue more → IsRunning (C.program (C.site columns.old))
         (C.Lists (C.state columns.new)) sheet.new.rows sheet.new.cost sheet.new.basis.items sheet.new.entries
         sheet.new.prices sheet.new.pivot pivots budget.new) }
     ensures less { IfOk result (λ more. IsTrue more → budget.new < budget.old) }
     ensures priced { IfOk result (λ more. more ≡ false → IsPriced (C.program (C.site columns.old))
-        (C.Lists (C.state columns.new)) sheet.new.rows sheet.new.cost sheet.new.basis.items sheet.new.prices) }
+        (C.Lists (C.state columns.new)) sheet.new.rows sheet.new.cost sheet.new.basis.items
+        sheet.new.prices) }
     ensures site { C.site columns.new ≡ C.site columns.old }
     ensures ready { C.Ready (C.state columns.new) }
     ensures kept { C.Kept (C.state columns.old) (C.state columns.new) }
-    ensures fault { IfErr result (λ f. IsLpFault (C.program (C.site columns.old)) (C.Lists (C.state columns.new))
+    ensures fault { IfErr result
+        (λ f. IsLpFault (C.program (C.site columns.old)) (C.Lists (C.state columns.new))
         pivots tally.old tally.new f) }
     ensures counts { (tally.old.wide ≤ tally.new.wide) × (tally.old.spent ≤ tally.new.spent) }
 {
@@ -77,14 +81,18 @@ pub(crate) fn run<C: Columns>(
     requires costs { (k : C.Key) → (C.program (C.site columns.old)).belongs k
         → pos 0 ≤ℤ ((C.program (C.site columns.old)).column k).cost }
     requires few { (C.program (C.site columns.old)).rows ≤ 1500 }
-    requires running { IsRunning (C.program (C.site columns.old)) (C.Lists (C.state columns.old)) sheet.old.rows
-        sheet.old.cost sheet.old.basis.items sheet.old.entries sheet.old.prices sheet.old.pivot pivots pivots }
-    ensures priced { IfOk result (λ _. IsPriced (C.program (C.site columns.old)) (C.Lists (C.state columns.new))
+    requires running { IsRunning (C.program (C.site columns.old))
+        (C.Lists (C.state columns.old)) sheet.old.rows
+        sheet.old.cost sheet.old.basis.items sheet.old.entries sheet.old.prices sheet.old.pivot pivots
+        pivots }
+    ensures priced { IfOk result
+        (λ _. IsPriced (C.program (C.site columns.old)) (C.Lists (C.state columns.new))
         sheet.new.rows sheet.new.cost sheet.new.basis.items sheet.new.prices) }
     ensures site { C.site columns.new ≡ C.site columns.old }
     ensures ready { C.Ready (C.state columns.new) }
     ensures kept { C.Kept (C.state columns.old) (C.state columns.new) }
-    ensures fault { IfErr result (λ f. IsLpFault (C.program (C.site columns.old)) (C.Lists (C.state columns.new))
+    ensures fault { IfErr result
+        (λ f. IsLpFault (C.program (C.site columns.old)) (C.Lists (C.state columns.new))
         pivots tally.old tally.new f) }
     ensures counts { (tally.old.wide ≤ tally.new.wide) × (tally.old.spent ≤ tally.new.spent) }
 {

@@ -53,12 +53,17 @@ fn attempt<C: Columns>(
     requires ready { C.Ready (C.state columns.old) }
     requires sound { IsSound (C.program (C.site columns.old)) }
     requires few { (C.program (C.site columns.old)).rows ≤ 1500 }
-    requires units { (r : ℕ) → r < (C.program (C.site columns.old)).rows → C.Lists (C.state columns.old) r ((C.program (C.site columns.old)).unit r) }
+    requires units { (r : ℕ) → r < (C.program (C.site columns.old)).rows
+        → C.Lists (C.state columns.old) r ((C.program (C.site columns.old)).unit r) }
     requires length { length right.now ≡ (C.program (C.site columns.old)).rows }
-    requires right { (r : ℕ) → r < (C.program (C.site columns.old)).rows → at right.now r ≡ (C.program (C.site columns.old)).right r }
-    requires costs { (k : C.Key) → (C.program (C.site columns.old)).belongs k → pos 0 ≤ℤ ((C.program (C.site columns.old)).column k).cost }
-    ensures end { IfOk result (λ end. IsLpEnd (C.program (C.site columns.old)) (C.Lists (C.state columns.new)) end.basic end.y end.kappa end.value) }
-    ensures fault { IfErr result (λ fault. IsLpFault (C.program (C.site columns.old)) (C.Lists (C.state columns.new)) pivots tally.old tally.new fault) }
+    requires right { (r : ℕ) → r < (C.program (C.site columns.old)).rows → at right.now r
+        ≡ (C.program (C.site columns.old)).right r }
+    requires costs { (k : C.Key) → (C.program (C.site columns.old)).belongs k
+        → pos 0 ≤ℤ ((C.program (C.site columns.old)).column k).cost }
+    ensures end { IfOk result (λ end. IsLpEnd (C.program (C.site columns.old))
+        (C.Lists (C.state columns.new)) end.basic end.y end.kappa end.value) }
+    ensures fault { IfErr result (λ fault. IsLpFault (C.program (C.site columns.old))
+        (C.Lists (C.state columns.new)) pivots tally.old tally.new fault) }
     ensures site { C.site columns.new ≡ C.site columns.old }
     ensures ready { C.Ready (C.state columns.new) }
     ensures kept { C.Kept (C.state columns.old) (C.state columns.new) }
@@ -88,11 +93,15 @@ fn attempt_again<C: Columns>(
     requires ready { C.Ready (C.state columns.old) }
     requires sound { IsSound (C.program (C.site columns.old)) }
     requires few { (C.program (C.site columns.old)).rows ≤ 1500 }
-    requires units { (r : ℕ) → r < (C.program (C.site columns.old)).rows → C.Lists (C.state columns.old) r ((C.program (C.site columns.old)).unit r) }
+    requires units { (r : ℕ) → r < (C.program (C.site columns.old)).rows
+        → C.Lists (C.state columns.old) r ((C.program (C.site columns.old)).unit r) }
     requires length { length right.now ≡ (C.program (C.site columns.old)).rows }
-    requires right { (r : ℕ) → r < (C.program (C.site columns.old)).rows → at right.now r ≡ (C.program (C.site columns.old)).right r }
-    requires costs { (k : C.Key) → (C.program (C.site columns.old)).belongs k → pos 0 ≤ℤ ((C.program (C.site columns.old)).column k).cost }
-    ensures end { IfOk result (λ end. IsLpEnd (C.program (C.site columns.old)) (C.Lists (C.state columns.new)) end.basic end.y end.kappa end.value) }
+    requires right { (r : ℕ) → r < (C.program (C.site columns.old)).rows → at right.now r
+        ≡ (C.program (C.site columns.old)).right r }
+    requires costs { (k : C.Key) → (C.program (C.site columns.old)).belongs k
+        → pos 0 ≤ℤ ((C.program (C.site columns.old)).column k).cost }
+    ensures end { IfOk result (λ end. IsLpEnd (C.program (C.site columns.old))
+        (C.Lists (C.state columns.new)) end.basic end.y end.kappa end.value) }
     ensures site { C.site columns.new ≡ C.site columns.old }
     ensures ready { C.Ready (C.state columns.new) }
     ensures kept { C.Kept (C.state columns.old) (C.state columns.new) }
@@ -136,12 +145,17 @@ pub fn solve<C: Columns>(
     requires ready { C.Ready (C.state columns.old) }
     requires sound { IsSound (C.program (C.site columns.old)) }
     requires few { (C.program (C.site columns.old)).rows ≤ 1500 }
-    requires units { (r : ℕ) → r < (C.program (C.site columns.old)).rows → C.Lists (C.state columns.old) r ((C.program (C.site columns.old)).unit r) }
+    requires units { (r : ℕ) → r < (C.program (C.site columns.old)).rows
+        → C.Lists (C.state columns.old) r ((C.program (C.site columns.old)).unit r) }
     requires length { length right.now ≡ (C.program (C.site columns.old)).rows }
-    requires right { (r : ℕ) → r < (C.program (C.site columns.old)).rows → at right.now r ≡ (C.program (C.site columns.old)).right r }
-    requires costs { (k : C.Key) → (C.program (C.site columns.old)).belongs k → pos 0 ≤ℤ ((C.program (C.site columns.old)).column k).cost }
-    ensures end { IfOk result (λ end. IsLpEnd (C.program (C.site columns.old)) (C.Lists (C.state columns.new)) end.basic end.y end.kappa end.value) }
-    ensures fault { IfErr result (λ fault. IsLpFault (C.program (C.site columns.old)) (C.Lists (C.state columns.new)) pivots tally.old tally.new fault) }
+    requires right { (r : ℕ) → r < (C.program (C.site columns.old)).rows → at right.now r
+        ≡ (C.program (C.site columns.old)).right r }
+    requires costs { (k : C.Key) → (C.program (C.site columns.old)).belongs k
+        → pos 0 ≤ℤ ((C.program (C.site columns.old)).column k).cost }
+    ensures end { IfOk result (λ end. IsLpEnd (C.program (C.site columns.old))
+        (C.Lists (C.state columns.new)) end.basic end.y end.kappa end.value) }
+    ensures fault { IfErr result (λ fault. IsLpFault (C.program (C.site columns.old))
+        (C.Lists (C.state columns.new)) pivots tally.old tally.new fault) }
     ensures site { C.site columns.new ≡ C.site columns.old }
     ensures ready { C.Ready (C.state columns.new) }
     ensures kept { C.Kept (C.state columns.old) (C.state columns.new) }

@@ -86,7 +86,8 @@ pub(crate) fn reduced_cost(prices: &[i64], rows: usize, places: &[Place], cost: 
     requires units { AreUnits places.now }
     requires low { pos 0 ≤ℤ cost }
     requires high { cost ≤ℤ pos (2 ^ 39) }
-    ensures value { result ≡ at prices.now (rows + 1) *ℤ cost -ℤ dot rows (at prices.now) (number_in places.now) }
+    ensures value { result
+        ≡ at prices.now (rows + 1) *ℤ cost -ℤ dot rows (at prices.now) (number_in places.now) }
     ensures size { result <ℤ pos 0 → unsigned_abs result ≤ 2 ^ 68 }
 {
     scaled_cost(prices[rows + 1], cost) - entry_in(prices, places)

@@ -87,10 +87,12 @@ impl Rows {
         requires sizes { (r : ℕ) → r < length self.old → unsigned_abs (at entries.now r) ≤ 2 ^ 68 }
         requires positive { pos 0 <ℤ at entries.now leaving }
         requires pivot { pivot.now ≡ padded (row_at self.old leaving) }
-        ensures stepped { IfOk result (λ _. AreStepped self.old entries.now leaving self.new (length self.old)) }
+        ensures stepped { IfOk result
+            (λ _. AreStepped self.old entries.now leaving self.new (length self.old)) }
         ensures lines { IfOk result (λ _. AreLines (length self.old) self.new) }
         ensures wide { IfErr result (λ _. HasWideRow (length self.old) self.old entries.now leaving) }
-        ensures counted { MatchResult result (λ _. tally.new ≡ tally.old) (λ _. tally.new ≡ refused tally.old) }
+        ensures counted { MatchResult result (λ _. tally.new ≡ tally.old)
+            (λ _. tally.new ≡ refused tally.old) }
     {
         step_rows(&mut self.lines, leaving, entries, pivot, tally)
     }
@@ -119,11 +121,13 @@ pub(crate) fn turn(
     requires some { (r : ℕ) × (r < length sheet.old.rows)
         × (pos 0 <ℤ dot (length sheet.old.rows) (at (row_at sheet.old.rows r)) (number_in places.now)) }
     ensures turned { IfOk result (λ _. (t : ℕ)
-        × AreEntries (length sheet.old.rows) sheet.old.rows places.now sheet.new.entries (length sheet.old.rows)
+        × AreEntries (length sheet.old.rows) sheet.old.rows places.now sheet.new.entries
+        (length sheet.old.rows)
         × IsTurn (length sheet.old.rows) sheet.old.rows sheet.old.cost sheet.new.entries reduced t
         sheet.new.rows sheet.new.cost
         × (sheet.new.basis.items ≡ slice_set sheet.old.basis.items t column)) }
-    ensures sheet { IfOk result (λ _. IsSheet (length sheet.old.rows) sheet.new.rows sheet.new.cost sheet.new.basis.items) }
+    ensures sheet { IfOk result
+        (λ _. IsSheet (length sheet.old.rows) sheet.new.rows sheet.new.cost sheet.new.basis.items) }
     ensures entries { length sheet.new.entries ≡ length sheet.old.entries }
     ensures prices { sheet.new.prices ≡ sheet.old.prices }
     ensures pivot { length sheet.new.pivot ≡ length sheet.old.pivot }

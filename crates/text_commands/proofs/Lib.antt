@@ -3,5 +3,5 @@ pub mod Derivations
 pub mod Readers
 pub mod Checks
 pub mod Days
-pub mod Same
+pub mod OneReading
 pub mod OnceLemmas

@@ -7,7 +7,7 @@ use Rattle.roster_model.specs.Trees.{steps}
 use Rattle.certificates.specs.declared.cert.Cert.{Cert}
 use Rattle.certificates.specs.declared.why.Why.{Why}
 use Rattle.certificates.specs.declared.verdict.Verdict.TheVariants.{No}
-use Rattle.certificate_laws.proofs.Refused.{refused as cause-refuses}
+use Rattle.certificate_laws.proofs.NoCause.{refused as cause-refuses}
 use Rattle.certificate_laws.proofs.OneCause.{one-first}
 use Rattle.demand_text.specs.declared.fault.DemandFault.{DemandFault}
 use Rattle.demand_text.specs.InstanceOf.{instance_of}
@@ -24,7 +24,7 @@ use Rattle.text_commands.specs.Explain.{Derivation, Explanation, AnswersExplain}
 use Rattle.text_commands.specs.Explain as explains
 use Rattle.text_commands.specs.Days.{DayAnswer, AnswersDay}
 use Rattle.text_commands.specs.Days as days
-use Rattle.text_commands.proofs.Same.{same_text, same_ok, same_err, not_both, same_grammar, no_fault, faults_once}
+use Rattle.text_commands.proofs.OneReading.{same_text, same_ok, same_err, not_both, same_grammar, no_fault, faults_once}
 use Rattle.text_commands.specs.SameTexts.{AreSameButTree}
 
 -- equal statuses and equal texts

@@ -98,7 +98,8 @@ pub data RulesAnswers (A : CertAnswers) (held : Option Texts) (text demand_name 
   accepted : (g : Grammar) (status : ℕ) (output : List ℕ) → IsGrammarOf text g
       → AnswersDemand A held g demand_name proof_name status output
       → RulesAnswers A held text demand_name proof_name status output
-  refused : (output : List ℕ) → SaysFault text output → RulesAnswers A held text demand_name proof_name 3 output
+  refused : (output : List ℕ) → SaysFault text output
+      → RulesAnswers A held text demand_name proof_name 3 output
 
 -- the same, where the rules text stands under a name
 pub record AnswersTexts (A : CertAnswers) (held : Option Texts) (name demand_name proof_name : List ℕ)

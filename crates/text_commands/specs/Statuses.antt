@@ -7,6 +7,7 @@ use Rattle.text_commands.specs.Check.{Judgement, yes, no}
 pub ends_at : (s n : ℕ) → s ≡ n → n < 6 → (s ≢ 6) × (s ≢ 7)
 ends_at s n e few = ((λ f. omega (arith, e, f, few)), (λ f. omega (arith, e, f, few)))
 
-pub judged-ends : (i : Instance) (c : Cert) (s : ℕ) (output : List ℕ) → Judgement i c s output → (s ≢ 6) × (s ≢ 7)
+pub judged-ends : (i : Instance) (c : Cert) (s : ℕ) (output : List ℕ) → Judgement i c s output → (s ≢ 6)
+    × (s ≢ 7)
 judged-ends i c s output (yes x h) = ends_at s 0 refl (omega arith)
 judged-ends i c s output (no x h) = ends_at s 1 refl (omega arith)

@@ -15,7 +15,8 @@ use std::alloc::Global;
 
 // What is answered to a rules text and a pattern.
 fn fitting(alloc: Global, text: &[u8], pattern: &[u8]) -> Result<Answer, Memory>
-    ensures { IfOk result (λ a. DayAnswer (λ g s o. FitsAnswer g pattern.now s o) text.now a.status a.output) }
+    ensures { IfOk result
+        (λ a. DayAnswer (λ g s o. FitsAnswer g pattern.now s o) text.now a.status a.output) }
 {
     match read_rules(alloc, text) {
         Ok(grammar) => {

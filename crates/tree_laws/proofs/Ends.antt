@@ -9,7 +9,7 @@ use Rattle.roster_model.specs.declared.grammar.Sym.TheVariants.{Code, Name}
 use Rattle.roster_model.specs.Grammar.{rule_at, Stands}
 use Rattle.roster_model.specs.Trees.{Parts, done, letter, uses, span_length, Derive}
 use Rattle.roster_model.specs.Sums.{PriceView, parts_sum, tree_sum, IsLeast, plus, AtMost}
-use Rattle.tree_laws.proofs.Least.{IsLeast-empty, IsLeast-sums}
+use Rattle.tree_laws.proofs.LeastValues.{IsLeast-empty, IsLeast-sums}
 use Rattle.roster_model.specs.Trees.{On}
 use Rattle.roster_model.specs.Sums.{SymbolLeast, PartsLeast}
 use Rattle.tree_laws.specs.Parts.{root}

@@ -1,5 +1,5 @@
 pub mod Rules
-pub mod Least
+pub mod LeastValues
 pub mod Splits
 pub mod Ends
 pub mod PartLoop
@@ -8,4 +8,4 @@ pub mod Symbols
 pub mod Size
 pub mod Bounds
 pub mod Ranks
-pub mod Pushing
+pub mod ListPushes

@@ -6,7 +6,7 @@ use Rattle.roster_model.specs.declared.grammar.Sym.TheVariants.{Code, Name}
 use Rattle.roster_model.specs.Trees.{Parts, done, letter, uses, span_length, Derive}
 use Rattle.roster_model.specs.Sums.{PriceView, parts_sum, IsLeast, plus}
 use Rattle.roster_model.specs.Sums.{IsLesser}
-use Rattle.tree_laws.proofs.Least.{IsLeast-empty, IsLeast-same, IsLeast-union}
+use Rattle.tree_laws.proofs.LeastValues.{IsLeast-empty, IsLeast-same, IsLeast-union}
 use Rattle.roster_model.specs.Trees.{On}
 use Rattle.roster_model.specs.Sums.{SymbolLeast, PartsLeast}
 use Rattle.tree_laws.specs.Parts.{first}

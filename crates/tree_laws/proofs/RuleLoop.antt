@@ -5,7 +5,7 @@ use Rattle.roster_model.specs.declared.grammar.Sym.TheVariants.{Name}
 use Rattle.roster_model.specs.Trees.{Parts, done, letter, uses}
 use Rattle.roster_model.specs.Sums.{PriceView, tree_sum, IsLeast}
 use Rattle.roster_model.specs.Sums.{IsLesser}
-use Rattle.tree_laws.proofs.Least.{IsLeast-empty, IsLeast-same, IsLeast-union}
+use Rattle.tree_laws.proofs.LeastValues.{IsLeast-empty, IsLeast-same, IsLeast-union}
 use Rattle.roster_model.specs.Trees.{On}
 use Rattle.roster_model.specs.Sums.{SymbolLeast}
 use Rattle.tree_laws.specs.Parts.{root}

@@ -11,7 +11,7 @@ use Rattle.roster_model.specs.Folds.{sum_n}
 use Rattle.roster_model.specs.Sound.{IsSound}
 use Rattle.roster_model.specs.Trees.{Parts, done, letter, uses, Derive, IsDayTree, steps}
 use Rattle.roster_model.proofs.CostBounds.{uses-le}
-use Rattle.arc_laws.proofs.Folding.{sum_n-append}
+use Rattle.arc_laws.proofs.FoldsLemmas.{sum_n-append}
 use Rattle.tree_laws.proofs.Bounds.{few-steps}
 use Rattle.tree_pool.specs.Costs.{HasRule, step_cost}
 

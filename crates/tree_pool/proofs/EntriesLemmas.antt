@@ -8,7 +8,7 @@ use Rattle.std.proofs.lemmas.Option.{same_Some, slice_get-get_or, slice_get-map}
 use Rattle.roster_model.specs.declared.grammar.Grammar.{Grammar}
 use Rattle.roster_model.specs.declared.grammar.Step.{Step}
 use Rattle.roster_model.specs.Trees.{Parts}
-use Rattle.tree_laws.proofs.Pushing.{push-here, push-cases}
+use Rattle.tree_laws.proofs.ListPushes.{push-here, push-cases}
 use Rattle.tree_pool.specs.declared.facts.Facts.{Facts}
 use Rattle.tree_pool.specs.declared.tree.Tree.{Tree}
 use Rattle.tree_pool.specs.contracts.tree.TreePartialEq.TheImpl.{eq-value}

@@ -25,7 +25,8 @@ same : (a b : Step) → same_step a b ≡ true → a ≡ b
 same a b e =
     let h = and-both (nat_eq a.rule b.rule) (nat_eq a.start b.start && nat_eq a.len b.len) e in
     let k = and-both (nat_eq a.start b.start) (nat_eq a.len b.len) h.1 in
-    three a.rule b.rule a.start b.start a.len b.len (eqb-true a.rule b.rule h.0) (eqb-true a.start b.start k.0)
+    three a.rule b.rule a.start b.start a.len b.len (eqb-true a.rule b.rule h.0)
+    (eqb-true a.start b.start k.0)
     (eqb-true a.len b.len k.1)
   where
     three : (r r' i i' l l' : ℕ) → r ≡ r' → i ≡ i' → l ≡ l'

@@ -24,7 +24,7 @@ use Rattle.tree_laws.proofs.Size.{length-steps}
 use Rattle.tree_laws.proofs.Bounds.{few-steps}
 use Rattle.roster_model.specs.Shifts.{IsShift, IsPrice, IsWordTree}
 use Rattle.word_prices.specs.Prices.{code_price, free_only, letter_of, word_view, SumsAreCosts, LeastTree}
-use Rattle.word_prices.proofs.Placed.{Has, Has-append, Has-front, Has-back, Has-whole, Has-self}
+use Rattle.word_prices.proofs.WordLetters.{Has, Has-append, Has-front, Has-back, Has-whole, Has-self}
 
 pub sum_n-append : {A : Type 0} (f : A → ℕ) (xs ys : List A) → sum_n f (xs ++ ys) ≡ sum_n f xs + sum_n f ys
 sum_n-append f [] ys = omega arith

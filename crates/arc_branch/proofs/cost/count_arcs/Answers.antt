@@ -1,6 +1,6 @@
 use Rattle.std.proofs.Common.{arith, ◌∙◌}
 use Rattle.roster_model.specs.declared.grammar.ArcKey.{ArcKey}
-use Rattle.arc_branch.proofs.CountedLemmas.{shaped-at, net-more, paid-more, room-at, within-more}
+use Rattle.arc_branch.proofs.LowSumsLemmas.{shaped-at, net-more, paid-more, room-at, within-more}
 use Rattle.arc_branch.proofs.cost.count_arcs.Goals as goal
 
 abbrev no_arc : ArcKey

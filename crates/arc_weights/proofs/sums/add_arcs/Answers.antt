@@ -3,7 +3,7 @@ use Rattle.std.specs.Prelude.{slice_index}
 use Rattle.std.proofs.Math.ListN.{drop_of_length-le}
 use Rattle.roster_model.specs.declared.grammar.ArcKey.{ArcKey}
 use Rattle.arc_weights.proofs.Steps.{cons_of}
-use Rattle.arc_weights.proofs.Adding.{place_within, sum_fits, sum_added, none_added, all_added}
+use Rattle.arc_weights.proofs.SumsLemmas.{place_within, sum_fits, sum_added, none_added, all_added}
 use Rattle.arc_weights.proofs.sums.add_arcs.Goals as goal
 use Rattle.arc_weights.proofs.sums.add_arcs.Goals.{in-Some, in_default}
 

@@ -3,7 +3,7 @@ use Rattle.std.proofs.Math.Seq.{take-append_seam}
 use Rattle.std.proofs.Math.ListN.{drop_of_length-le}
 use Rattle.arc_weights.specs.Loops.{AreSummedBefore}
 use Rattle.arc_weights.proofs.Steps.{cons_at}
-use Rattle.arc_weights.proofs.Adding.{room_left, next_summed, all_summed}
+use Rattle.arc_weights.proofs.SumsLemmas.{room_left, next_summed, all_summed}
 use Rattle.arc_weights.proofs.sums.arc_sums.Goals as goal
 
 -- a list of the same length is written back whole

@@ -1,7 +1,7 @@
 use Rattle.std.proofs.Common.{rules, ◌≡◌, Result, Ok, Err, IfOk}
 use Rattle.arc_weights.specs.Denominators.{AreAllPast}
 use Rattle.arc_weights.specs.Choices.{IsAnswer}
-use Rattle.arc_weights.proofs.Weighing.{past_is, pool_is, room_is, few_is, answer_is}
+use Rattle.arc_weights.proofs.WeighedLemmas.{past_is, pool_is, room_is, few_is, answer_is}
 use Rattle.arc_weights.proofs.weighed.weigh.Goals as goal
 
 pub returns-then-are_apart : goal.returns-then-are_apart

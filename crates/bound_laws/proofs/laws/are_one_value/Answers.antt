@@ -1,4 +1,4 @@
-use Rattle.bound_laws.proofs.Unique.{one-lagrangian, one-priced, one-pinned, one-points}
+use Rattle.bound_laws.proofs.OneValue.{one-lagrangian, one-priced, one-pinned, one-points}
 use Rattle.bound_laws.proofs.laws.are_one_value.Goals as goal
 
 pub returns : goal.returns

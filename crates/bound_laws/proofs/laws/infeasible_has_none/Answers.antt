@@ -1,4 +1,4 @@
-use Rattle.bound_laws.proofs.Realised.{not-infeasible}
+use Rattle.bound_laws.proofs.RosterTrees.{not-infeasible}
 use Rattle.bound_laws.proofs.SoundReady.{ready}
 use Rattle.bound_laws.proofs.laws.infeasible_has_none.Goals as goal
 

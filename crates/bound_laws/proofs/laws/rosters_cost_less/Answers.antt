@@ -1,4 +1,4 @@
-use Rattle.bound_laws.proofs.CostsLess.{roster-costs-le}
+use Rattle.bound_laws.proofs.RosterCosts.{roster-costs-le}
 use Rattle.bound_laws.proofs.laws.rosters_cost_less.Goals as goal
 
 pub returns : goal.returns

@@ -1,4 +1,4 @@
-use Rattle.bound_laws.proofs.Realised.{has-trees}
+use Rattle.bound_laws.proofs.RosterTrees.{has-trees}
 use Rattle.bound_laws.proofs.SoundReady.{ready}
 use Rattle.bound_laws.proofs.laws.rosters_have_trees.Goals as goal
 

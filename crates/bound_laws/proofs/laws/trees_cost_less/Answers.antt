@@ -1,4 +1,4 @@
-use Rattle.bound_laws.proofs.Greatest.{trees_cost-le}
+use Rattle.bound_laws.proofs.TreeCosts.{trees_cost-le}
 use Rattle.bound_laws.proofs.laws.trees_cost_less.Goals as goal
 
 pub returns : goal.returns

@@ -1,5 +1,5 @@
 use Rattle.bound_laws.proofs.SoundReady.{ready}
-use Rattle.bound_laws.proofs.Spelled.{spelled-by}
+use Rattle.bound_laws.proofs.SpelledRosters.{spelled-by}
 use Rattle.bound_laws.proofs.laws.trees_spell_rosters.Goals as goal
 
 pub returns : goal.returns

@@ -1,4 +1,4 @@
-use Rattle.bound_laws.proofs.Realised.{stand-for}
+use Rattle.bound_laws.proofs.RosterTrees.{stand-for}
 use Rattle.bound_laws.proofs.SoundReady.{ready}
 use Rattle.bound_laws.proofs.laws.trees_stand_for_rosters.Goals as goal
 

@@ -1,7 +1,7 @@
 use Rattle.std.proofs.lemmas.Result.{IfOk-weaker}
 use Rattle.node_master.specs.declared.ends.NodeEnd.{NodeEnd}
 use Rattle.search_master.specs.Refusals.{EndsWell}
-use Rattle.branch_price.proofs.AskedAgain.{ends-since}
+use Rattle.branch_price.proofs.NodeRepeats.{ends-since}
 use Rattle.branch_price.proofs.asking.node.Goals as goal
 
 pub returns-clause-end : goal.returns-clause-end

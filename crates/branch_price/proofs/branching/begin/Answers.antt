@@ -1,4 +1,4 @@
-use Rattle.branch_price.proofs.Looping.{begun-is}
+use Rattle.branch_price.proofs.EndsLemmas.{begun-is}
 use Rattle.branch_price.proofs.branching.begin.Goals as goal
 
 pub returns-clause-begun : goal.returns-clause-begun

@@ -1,4 +1,4 @@
-use Rattle.branch_price.proofs.Ended.{is-found, are-counted}
+use Rattle.branch_price.proofs.FoundLemmas.{is-found, are-counted}
 use Rattle.branch_price.proofs.branching.found.Goals as goal
 
 pub returns : goal.returns

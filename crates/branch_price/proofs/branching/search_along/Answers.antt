@@ -1,8 +1,8 @@
 use Rattle.std.proofs.Common.{arith, ◌∙◌, refl, sym}
 use Rattle.std.proofs.lemmas.Result.{IfOk-weaker}
-use Rattle.candidate_rosters.proofs.Having.{grown-more}
+use Rattle.candidate_rosters.proofs.PoolNumbers.{grown-more}
 use Rattle.branch_price.specs.Found.{IsFound, AreCounted}
-use Rattle.branch_price.proofs.Ending.{begun-loops, asks-turn, turn-loops, turn-nears, turns-end, closed-end}
+use Rattle.branch_price.proofs.LoopsLemmas.{begun-loops, asks-turn, turn-loops, turn-nears, turns-end, closed-end}
 use Rattle.branch_price.proofs.branching.search_along.Goals as goal
 
 pub loop-leaf-init : goal.loop-leaf-init

@@ -2,13 +2,13 @@ use Rattle.std.proofs.Common.{ℕ, ◌<◌, List, ◌++◌, arith, sym, subst}
 use Rattle.roster_model.specs.declared.instance.Cut.{Cut}
 use Rattle.master_laws.specs.Laws.{IsBelowHeads}
 use Rattle.master_rows.specs.NodeRows.{IsSmallCut}
-use Rattle.arc_laws.proofs.Folding.{Each-same}
+use Rattle.arc_laws.proofs.FoldsLemmas.{Each-same}
 use Rattle.arc_weights.specs.Weighed.{IsWeighed, AreWhole}
 use Rattle.arc_weights.specs.declared.weighed.Weighed.{Weighed}
 use Rattle.offers.specs.Offers.{CanBeTrees, limit_of}
-use Rattle.branch_price.proofs.Processed.{loose-within}
-use Rattle.branch_price.proofs.Settled.{shown-within}
-use Rattle.branch_price.proofs.Planned.{between-plan, least-plan, whole-trees, whole-reach, artificial-plan}
+use Rattle.branch_price.proofs.StepsLemmas.{loose-within}
+use Rattle.branch_price.proofs.ShownValues.{shown-within}
+use Rattle.branch_price.proofs.PlansLemmas.{between-plan, least-plan, whole-trees, whole-reach, artificial-plan}
 use Rattle.branch_price.proofs.choose.plan_for.Goals as goal
 
 pub preferred_arc-requires-clause-cuts : goal.preferred_arc-requires-clause-cuts

@@ -7,10 +7,10 @@ use Rattle.master_laws.specs.Rows.{rows_of}
 use Rattle.master_rows.specs.NodeRows.{IsSmallCut}
 use Rattle.branch_price.specs.Steps.{IsShown}
 use Rattle.branch_price.proofs.Leaves.{leaf-cuts}
-use Rattle.candidate_rosters.proofs.Having.{grown-more}
-use Rattle.branch_price.proofs.Bettered.{better-more, plan-later, weights-later}
-use Rattle.branch_price.proofs.Settled.{small-cuts, few-cuts, is-shown, priced-node, shown-within}
-use Rattle.branch_price.proofs.Processed.{asks-priced, turned-by, loose-path}
+use Rattle.candidate_rosters.proofs.PoolNumbers.{grown-more}
+use Rattle.branch_price.proofs.BetterRosters.{better-more, plan-later, weights-later}
+use Rattle.branch_price.proofs.ShownValues.{small-cuts, few-cuts, is-shown, priced-node, shown-within}
+use Rattle.branch_price.proofs.StepsLemmas.{asks-priced, turned-by, loose-path}
 use Rattle.branch_price.proofs.leaf.best_leaf.Goals as goal
 
 pub shown_value-value-requires-clause-small : goal.shown_value-value-requires-clause-small

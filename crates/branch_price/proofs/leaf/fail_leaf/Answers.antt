@@ -1,5 +1,5 @@
 use Rattle.std.proofs.lemmas.Result.{on_ok_weaker}
-use Rattle.branch_price.proofs.Processed.{asks-failed, turned-by, same-best, middle-split}
+use Rattle.branch_price.proofs.StepsLemmas.{asks-failed, turned-by, same-best, middle-split}
 use Rattle.branch_price.proofs.leaf.fail_leaf.Goals as goal
 
 pub fail-requires : goal.fail-requires

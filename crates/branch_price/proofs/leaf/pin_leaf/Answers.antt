@@ -2,7 +2,7 @@ use Rattle.std.proofs.Common.{sym, subst}
 use Rattle.node_path.specs.Paths.{PathView}
 use Rattle.branch_price.specs.Plans.{AskForArcs}
 use Rattle.branch_price.proofs.OpenPaths.{leaf-asks}
-use Rattle.branch_price.proofs.Processed.{asks-pinned, turned-by}
+use Rattle.branch_price.proofs.StepsLemmas.{asks-pinned, turned-by}
 use Rattle.branch_price.proofs.leaf.pin_leaf.Goals as goal
 
 pub offer_least-requires-clause-cuts : goal.offer_least-requires-clause-cuts

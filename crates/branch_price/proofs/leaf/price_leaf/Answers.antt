@@ -8,7 +8,7 @@ use Rattle.node_master.specs.Ends.{IsNodeCut}
 use Rattle.search_master.specs.Refusals.{EndsWell}
 use Rattle.branch_price.specs.Steps.{IsSolved, IsGivenUp}
 use Rattle.branch_price.proofs.Leaves.{leaf-cuts}
-use Rattle.branch_price.proofs.Processed.{later-node, given-up}
+use Rattle.branch_price.proofs.StepsLemmas.{later-node, given-up}
 use Rattle.branch_price.proofs.leaf.price_leaf.Goals as goal
 
 pub node-requires-clause-cuts : goal.node-requires-clause-cuts

@@ -1,7 +1,7 @@
 use Rattle.std.proofs.Common.{◌≡◌, ◌+◌, ℕ, List, [], ◌∷◌, ◌++◌, take, get_or, sym, subst, ◌∙◌}
 use Rattle.std.proofs.lemmas.List.{take_more, take_all}
 use Rattle.roster_model.specs.declared.grammar.Step.{Step}
-use Rattle.candidate_rosters.proofs.Having.{HaveSteps, have-kept, have-next, have-within, grown-more, trees-at, day-steps}
+use Rattle.candidate_rosters.proofs.PoolNumbers.{HaveSteps, have-kept, have-next, have-within, grown-more, trees-at, day-steps}
 use Rattle.candidate_rosters.proofs.columns.columns_of.Goals as goal
 
 pub add-requires-clause-steps : goal.add-requires-clause-steps

@@ -1,6 +1,6 @@
 use Rattle.std.proofs.Common.{take}
 use Rattle.tree_pool.specs.Pools.{IsPool, IsGrown}
-use Rattle.candidate_rosters.proofs.Having.{HaveSteps}
+use Rattle.candidate_rosters.proofs.PoolNumbers.{HaveSteps}
 use Rattle.candidate_rosters.proofs.columns.columns_of.Given as goal
 
 abbrev pub invariant-loop-tree : goal.invariant-loop-tree

@@ -1,6 +1,6 @@
 use Rattle.std.proofs.Common.{◌∙◌}
 use Rattle.roster_model.specs.PriceRooms.{price_view}
-use Rattle.candidate_rosters.proofs.Costing.{costs-are}
+use Rattle.candidate_rosters.proofs.CostPrices.{costs-are}
 use Rattle.candidate_rosters.proofs.costs.price_by_costs.Goals as goal
 
 pub returns-clause-costs : goal.returns-clause-costs

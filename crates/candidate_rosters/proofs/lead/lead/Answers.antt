@@ -1,7 +1,7 @@
 use Rattle.std.proofs.Common.{◌≡◌, []}
 use Rattle.roster_model.specs.PriceRooms.{price_view}
 use Rattle.roster_part.specs.TeamViews.{team_view}
-use Rattle.candidate_rosters.proofs.Leading.{asks-plain, plain-leader}
+use Rattle.candidate_rosters.proofs.LeadersLemmas.{asks-plain, plain-leader}
 use Rattle.candidate_rosters.proofs.lead.lead.Goals as goal
 
 pub returns-clause-yes : goal.returns-clause-yes

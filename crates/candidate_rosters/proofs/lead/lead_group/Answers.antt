@@ -5,7 +5,7 @@ use Rattle.roster_model.specs.declared.grammar.ArcKey.{ArcKey}
 use Rattle.roster_model.specs.Folds.{In}
 use Rattle.roster_model.specs.PriceRooms.{price_view}
 use Rattle.roster_part.specs.TeamViews.{team_view}
-use Rattle.candidate_rosters.proofs.Leading.{none-of, there-of, key_of, group-leader, none-under, none-found, asks-group, is-ready, is-top}
+use Rattle.candidate_rosters.proofs.LeadersLemmas.{none-of, there-of, key_of, group-leader, none-under, none-found, asks-group, is-ready, is-top}
 use Rattle.candidate_rosters.proofs.lead.lead_group.Goals as goal
 
 pub returns-in_default-clause-no : goal.returns-in_default-clause-no

@@ -1,6 +1,6 @@
 use Rattle.std.proofs.Common.{◌∙◌}
 use Rattle.roster_part.specs.TeamViews.{team_view}
-use Rattle.candidate_rosters.proofs.Following.{leads-none, leads-some}
+use Rattle.candidate_rosters.proofs.LeaderColumns.{leads-none, leads-some}
 use Rattle.candidate_rosters.proofs.leaders.add_team.Goals as goal
 
 pub returns-then-team-eq0-clause-yes : goal.returns-then-team-eq0-clause-yes

@@ -2,8 +2,8 @@ use Rattle.std.proofs.Common.{◌∙◌}
 use Rattle.roster_model.specs.Teams.{teams}
 use Rattle.roster_part.specs.TeamViews.{team_view}
 use Rattle.roster_part.proofs.Items.{get-in}
-use Rattle.candidate_rosters.proofs.Having.{grown-more}
-use Rattle.candidate_rosters.proofs.Following.{led-place}
+use Rattle.candidate_rosters.proofs.PoolNumbers.{grown-more}
+use Rattle.candidate_rosters.proofs.LeaderColumns.{led-place}
 use Rattle.candidate_rosters.proofs.leaders.leaders.Goals as goal
 
 pub add_team-requires-clause-team : goal.add_team-requires-clause-team

@@ -1,4 +1,4 @@
-use Rattle.candidate_rosters.proofs.Following.{copies-next}
+use Rattle.candidate_rosters.proofs.LeaderColumns.{copies-next}
 use Rattle.candidate_rosters.proofs.leaders.push_copies.Goals as goal
 
 pub loop-preserved : goal.loop-preserved

@@ -9,7 +9,7 @@ use Rattle.candidate_rosters.specs.declared.roster.Roster.{Roster}
 use Rattle.candidate_rosters.specs.Leaders.{AreLedAt}
 use Rattle.candidate_rosters.specs.Rosters.{AreTreesAt, CostsAtMost}
 use Rattle.candidate_rosters.specs.Starts.{HasStart, StartsWith}
-use Rattle.candidate_rosters.proofs.Starting.{lacking, led-within, led-roster, starts, if_none, if_some, if_ok}
+use Rattle.candidate_rosters.proofs.StartsLemmas.{lacking, led-within, led-roster, starts, if_none, if_some, if_ok}
 use Rattle.candidate_rosters.proofs.least.least_roster.Goals as goal
 
 pub returns-in_default-clause-start : goal.returns-in_default-clause-start

@@ -1,7 +1,7 @@
 use Rattle.std.proofs.Common.{◌≤◌, ℕ, Option, None, Some, arith}
 use Rattle.candidate_rosters.specs.declared.roster.Roster.{Roster}
 use Rattle.candidate_rosters.specs.Rosters.{CostsAtMost}
-use Rattle.candidate_rosters.proofs.Gathering.{trees-long, priced-shifts, spelled-roster}
+use Rattle.candidate_rosters.proofs.OrderedShifts.{trees-long, priced-shifts, spelled-roster}
 use Rattle.candidate_rosters.proofs.roster.roster_of.Goals as goal
 
 pub returns-then-columns-gt-MOST_SHIFTS-clause-cost : goal.returns-then-columns-gt-MOST_SHIFTS-clause-cost

@@ -1,7 +1,7 @@
 use Rattle.std.proofs.Common.{ℕ, List, sym, subst, ap, ◌∙◌, length, arith}
 use Rattle.roster_model.specs.Rosters.{IsTeamPrice}
 use Rattle.candidate_rosters.specs.Spelled.{IsTeamShift}
-use Rattle.candidate_rosters.proofs.Shifting.{uses-are, codes-fit, group-fits, short, team-shift, shift-is}
+use Rattle.candidate_rosters.proofs.SpelledLemmas.{uses-are, codes-fit, group-fits, short, team-shift, shift-is}
 use Rattle.candidate_rosters.proofs.shift.shift_of.Goals as goal
 
 pub group_of-group-requires-clause-uses : goal.group_of-group-requires-clause-uses

@@ -1,5 +1,5 @@
 use Rattle.std.proofs.Common.{refl, false}
-use Rattle.candidate_rosters.proofs.Spelling.{bytes-next}
+use Rattle.candidate_rosters.proofs.TreeWords.{bytes-next}
 use Rattle.candidate_rosters.proofs.word.word_of.Goals as goal
 
 pub loop-code-preserved : goal.loop-code-preserved

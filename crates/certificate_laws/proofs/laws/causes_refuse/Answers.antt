@@ -1,4 +1,4 @@
-use Rattle.certificate_laws.proofs.Refused.{refused}
+use Rattle.certificate_laws.proofs.NoCause.{refused}
 use Rattle.certificate_laws.proofs.laws.causes_refuse.Goals as goal
 
 pub returns : goal.returns

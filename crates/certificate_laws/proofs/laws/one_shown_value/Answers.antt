@@ -1,4 +1,4 @@
-use Rattle.certificate_laws.proofs.Unique.{one-shown}
+use Rattle.certificate_laws.proofs.OneProof.{one-shown}
 use Rattle.certificate_laws.proofs.laws.one_shown_value.Goals as goal
 
 pub returns : goal.returns

@@ -2,8 +2,8 @@ use Rattle.std.proofs.Common.{◌+◌, refl, get_or}
 use Rattle.std.proofs.lemmas.Bool.{ne_eqb}
 use Rattle.day_questions.specs.Fitting.{SaysPeriod}
 use Rattle.day_questions.specs.Shifts.{any_code}
-use Rattle.day_questions.proofs.Lining.{added-none, added-more, added-all}
-use Rattle.day_questions.proofs.Fitted.{open-next, closed-said}
+use Rattle.day_questions.proofs.LinesLemmas.{added-none, added-more, added-all}
+use Rattle.day_questions.proofs.FittingLemmas.{open-next, closed-said}
 use Rattle.day_questions.proofs.fits.add_period_lines.Goals.{then-byte-eq-ANY+in_ok-add_code_lines, else-byte-eq-ANY}
 use Rattle.day_questions.proofs.fits.add_period_lines.Goals as goal
 

@@ -1,5 +1,5 @@
-use Rattle.day_questions.proofs.Asked.{other-length}
-use Rattle.day_questions.proofs.Fitted.{none-fits, ok-none}
+use Rattle.day_questions.proofs.ShiftQuestions.{other-length}
+use Rattle.day_questions.proofs.FittingLemmas.{none-fits, ok-none}
 use Rattle.day_questions.proofs.fits.fits_answer.Goals as goal
 
 pub returns-then-pattern-grammar : goal.returns-then-pattern-grammar

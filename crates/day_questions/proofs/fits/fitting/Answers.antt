@@ -1,4 +1,4 @@
-use Rattle.day_questions.proofs.Fitted.{fitting-answer}
+use Rattle.day_questions.proofs.FittingLemmas.{fitting-answer}
 use Rattle.day_questions.proofs.fits.fitting.Goals as goal
 
 pub returns : goal.returns

@@ -1,8 +1,8 @@
 use Rattle.std.proofs.Common.{◌<◌, false, length, get_or, arith, refl, ap}
 use Rattle.roster_model.specs.declared.grammar.CodeDef.{CodeDef}
 use Rattle.day_questions.specs.Fronts.{front_words}
-use Rattle.day_questions.proofs.Coded.{code_says, code-said}
-use Rattle.day_questions.proofs.Lining.{added-none, added-more, added-all}
+use Rattle.day_questions.proofs.CodesLemmas.{code_says, code-said}
+use Rattle.day_questions.proofs.LinesLemmas.{added-none, added-more, added-all}
 use Rattle.day_questions.proofs.lines.add_code_lines.Goals as goal
 
 pub loop-place-init : goal.loop-place-init

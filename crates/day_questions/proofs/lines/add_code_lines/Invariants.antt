@@ -1,7 +1,7 @@
 use Rattle.std.proofs.Common.{take}
 use Rattle.day_questions.specs.Fronts.{front_words}
 use Rattle.day_questions.specs.Lines.{AddsLines}
-use Rattle.day_questions.proofs.Coded.{code_says}
+use Rattle.day_questions.proofs.CodesLemmas.{code_says}
 use Rattle.day_questions.proofs.lines.add_code_lines.Given as goal
 
 abbrev pub invariant-loop-place : goal.invariant-loop-place

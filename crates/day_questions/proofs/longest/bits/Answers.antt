@@ -1,4 +1,4 @@
-use Rattle.day_questions.proofs.Missed.{bits-are}
+use Rattle.day_questions.proofs.Misses.{bits-are}
 use Rattle.day_questions.proofs.longest.bits.Goals as goal
 
 pub returns-clause-within : goal.returns-clause-within

@@ -1,5 +1,5 @@
-use Rattle.day_questions.proofs.Missed.{no-misses}
-use Rattle.day_questions.proofs.Longer.{ok-longest, ok-no_shift}
+use Rattle.day_questions.proofs.Misses.{no-misses}
+use Rattle.day_questions.proofs.LongestTexts.{ok-longest, ok-no_shift}
 use Rattle.day_questions.proofs.longest.longest_answer.Goals as goal
 
 pub returns-in-Some : goal.returns-in-Some

@@ -1,5 +1,5 @@
 use Rattle.std.proofs.Common.{arith}
-use Rattle.day_questions.proofs.Missed.{least-misses, small-misses, kept-misses, is-longest}
+use Rattle.day_questions.proofs.Misses.{least-misses, small-misses, kept-misses, is-longest}
 use Rattle.day_questions.proofs.longest.longest_of.Goals as goal
 
 pub overflow_cast-sum : goal.overflow_cast-sum

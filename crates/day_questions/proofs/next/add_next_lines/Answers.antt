@@ -1,6 +1,6 @@
 use Rattle.std.proofs.Common.{[], ◌∷◌}
 use Rattle.std.specs.Prelude.{codes}
-use Rattle.day_questions.proofs.Asked.{next-codes}
+use Rattle.day_questions.proofs.ShiftQuestions.{next-codes}
 use Rattle.day_questions.proofs.next.add_next_lines.Goals as goal
 
 pub returns : goal.returns

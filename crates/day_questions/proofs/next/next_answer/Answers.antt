@@ -1,5 +1,5 @@
 use Rattle.std.proofs.Common.{◌≡◌, Bool, true, false, sym, ◌∙◌}
-use Rattle.day_questions.proofs.Nexts.{next-some, next-longest}
+use Rattle.day_questions.proofs.NextLemmas.{next-some, next-longest}
 use Rattle.day_questions.proofs.next.next_answer.Goals as goal
 
 pub returns-then-is_empty : goal.returns-then-is_empty

@@ -1,7 +1,7 @@
 use Rattle.std.proofs.Common.{[], ◌∷◌}
 use Rattle.std.specs.Prelude.{codes}
-use Rattle.day_questions.proofs.Asked.{past-day}
-use Rattle.day_questions.proofs.Nexts.{next-text, next-none}
+use Rattle.day_questions.proofs.ShiftQuestions.{past-day}
+use Rattle.day_questions.proofs.NextLemmas.{next-text, next-none}
 use Rattle.day_questions.proofs.next.next_lines.Goals as goal
 
 pub returns-then-grammar-prefix : goal.returns-then-grammar-prefix

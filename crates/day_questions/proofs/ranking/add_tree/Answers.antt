@@ -1,4 +1,4 @@
-use Rattle.day_questions.proofs.Treed.{tree-said}
+use Rattle.day_questions.proofs.RankedLemmas.{tree-said}
 use Rattle.day_questions.proofs.ranking.add_tree.Goals as goal
 
 pub returns : goal.returns

@@ -1,7 +1,7 @@
 use Rattle.std.proofs.Common.{refl, sym}
 use Rattle.day_questions.specs.Ranked.{SaysTree}
-use Rattle.day_questions.proofs.Lining.{added-none, added-more, added-all}
-use Rattle.day_questions.proofs.Treed.{tree-next}
+use Rattle.day_questions.proofs.LinesLemmas.{added-none, added-more, added-all}
+use Rattle.day_questions.proofs.RankedLemmas.{tree-next}
 use Rattle.day_questions.proofs.ranking.add_trees.Goals as goal
 
 pub loop-place-init : goal.loop-place-init

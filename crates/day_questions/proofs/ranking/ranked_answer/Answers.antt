@@ -1,6 +1,6 @@
 use Rattle.std.proofs.Common.{◌≡◌, Bool, true, false, sym, ◌∙◌}
 use Rattle.day_questions.specs.Ranked.{some}
-use Rattle.day_questions.proofs.Treed.{trees-none}
+use Rattle.day_questions.proofs.RankedLemmas.{trees-none}
 use Rattle.day_questions.proofs.ranking.ranked_answer.Goals as goal
 
 pub returns-then-is_empty : goal.returns-then-is_empty

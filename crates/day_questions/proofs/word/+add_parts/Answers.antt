@@ -3,7 +3,7 @@ use Rattle.roster_model.specs.declared.grammar.Sym.{Sym}
 use Rattle.roster_model.specs.declared.grammar.Sym.TheVariants.{Name}
 use Rattle.tree_laws.proofs.Rules.{sound-rule}
 use Rattle.day_questions.specs.Spelled.{AsksParts, GivesWord}
-use Rattle.day_questions.proofs.Walking.{name-inner, name-others, name-fewer}
+use Rattle.day_questions.proofs.SpelledLemmas.{name-inner, name-others, name-fewer}
 use Rattle.day_questions.proofs.word.+add_parts.Goals as goal
 
 pub add_parts-requires-in-Name : goal.add_parts-requires-in-Name

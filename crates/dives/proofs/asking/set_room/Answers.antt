@@ -1,4 +1,4 @@
-use Rattle.dives.proofs.Wide.{are-wide}
+use Rattle.dives.proofs.WidePrices.{are-wide}
 use Rattle.dives.proofs.asking.set_room.Goals as goal
 
 pub set_wide-requires-clause-fit : goal.set_wide-requires-clause-fit

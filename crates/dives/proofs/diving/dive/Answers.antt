@@ -1,5 +1,5 @@
 use Rattle.std.proofs.Common.{arith}
-use Rattle.master_laws.proofs.Small.{row_count}
+use Rattle.master_laws.proofs.RowSizes.{row_count}
 use Rattle.dives.proofs.diving.dive.Goals as goal
 
 pub step_down-requires-clause-few : goal.step_down-requires-clause-few

@@ -1,4 +1,4 @@
-use Rattle.dives.proofs.Leasts.{asks-day, day-steps}
+use Rattle.dives.proofs.LeastTrees.{asks-day, day-steps}
 use Rattle.dives.proofs.least.find_least.Goals as goal
 
 pub tree-requires-clause-asks : goal.tree-requires-clause-asks

@@ -1,4 +1,4 @@
-use Rattle.growing_laws.proofs.Halving.{few-nodes}
+use Rattle.growing_laws.proofs.BoxesLemmas.{few-nodes}
 use Rattle.growing_laws.proofs.laws.few_nodes.Goals as goal
 
 pub returns : goal.returns

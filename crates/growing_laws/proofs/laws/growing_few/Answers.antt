@@ -1,4 +1,4 @@
-use Rattle.growing_laws.proofs.Stating.{growing-few}
+use Rattle.growing_laws.proofs.StatesLemmas.{growing-few}
 use Rattle.growing_laws.proofs.laws.growing_few.Goals as goal
 
 pub returns : goal.returns

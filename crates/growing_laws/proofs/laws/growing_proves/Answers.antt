@@ -1,4 +1,4 @@
-use Rattle.growing_laws.proofs.Stating.{growing-proves}
+use Rattle.growing_laws.proofs.StatesLemmas.{growing-proves}
 use Rattle.growing_laws.proofs.laws.growing_proves.Goals as goal
 
 pub returns : goal.returns

@@ -1,4 +1,4 @@
-use Rattle.growing_laws.proofs.Stating.{growing-put}
+use Rattle.growing_laws.proofs.StatesLemmas.{growing-put}
 use Rattle.growing_laws.proofs.laws.growing_put.Goals as goal
 
 pub returns : goal.returns

@@ -1,4 +1,4 @@
-use Rattle.growing_laws.proofs.Counting.{grown-counts}
+use Rattle.growing_laws.proofs.NodeCounts.{grown-counts}
 use Rattle.growing_laws.proofs.laws.grown_counts.Goals as goal
 
 pub returns : goal.returns

@@ -1,4 +1,4 @@
-use Rattle.growing_laws.proofs.Growing.{grown-shows}
+use Rattle.growing_laws.proofs.GrownLemmas.{grown-shows}
 use Rattle.growing_laws.proofs.laws.grown_shows.Goals as goal
 
 pub returns : goal.returns

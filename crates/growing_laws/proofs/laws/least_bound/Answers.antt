@@ -1,4 +1,4 @@
-use Rattle.growing_laws.proofs.Growing.{least-bound}
+use Rattle.growing_laws.proofs.GrownLemmas.{least-bound}
 use Rattle.growing_laws.proofs.laws.least_bound.Goals as goal
 
 pub returns : goal.returns

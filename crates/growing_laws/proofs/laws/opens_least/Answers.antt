@@ -1,4 +1,4 @@
-use Rattle.growing_laws.proofs.Opening.{opens-least}
+use Rattle.growing_laws.proofs.OpensLemmas.{opens-least}
 use Rattle.growing_laws.proofs.laws.opens_least.Goals as goal
 
 pub returns : goal.returns

@@ -1,4 +1,4 @@
-use Rattle.growing_laws.proofs.Opening.{opens-sound}
+use Rattle.growing_laws.proofs.OpensLemmas.{opens-sound}
 use Rattle.growing_laws.proofs.laws.opens_sound.Goals as goal
 
 pub returns : goal.returns

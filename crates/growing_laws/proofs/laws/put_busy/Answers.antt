@@ -1,4 +1,4 @@
-use Rattle.growing_laws.proofs.Counting.{put-busy}
+use Rattle.growing_laws.proofs.NodeCounts.{put-busy}
 use Rattle.growing_laws.proofs.laws.put_busy.Goals as goal
 
 pub returns : goal.returns

@@ -1,4 +1,4 @@
-use Rattle.growing_laws.proofs.Counting.{put-missed}
+use Rattle.growing_laws.proofs.NodeCounts.{put-missed}
 use Rattle.growing_laws.proofs.laws.put_missed.Goals as goal
 
 pub returns : goal.returns

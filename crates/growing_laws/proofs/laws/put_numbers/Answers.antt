@@ -1,4 +1,4 @@
-use Rattle.growing_laws.proofs.Seating.{put-numbers}
+use Rattle.growing_laws.proofs.SeatsLemmas.{put-numbers}
 use Rattle.growing_laws.proofs.laws.put_numbers.Goals as goal
 
 pub returns : goal.returns

@@ -1,4 +1,4 @@
-use Rattle.growing_laws.proofs.Opening.{put-opens}
+use Rattle.growing_laws.proofs.OpensLemmas.{put-opens}
 use Rattle.growing_laws.proofs.laws.put_opens.Goals as goal
 
 pub returns : goal.returns

@@ -1,4 +1,4 @@
-use Rattle.growing_laws.proofs.Growing.{put-rises}
+use Rattle.growing_laws.proofs.GrownLemmas.{put-rises}
 use Rattle.growing_laws.proofs.laws.put_rises.Goals as goal
 
 pub returns : goal.returns

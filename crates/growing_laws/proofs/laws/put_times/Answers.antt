@@ -1,4 +1,4 @@
-use Rattle.growing_laws.proofs.Counting.{put-times}
+use Rattle.growing_laws.proofs.NodeCounts.{put-times}
 use Rattle.growing_laws.proofs.laws.put_times.Goals as goal
 
 pub returns : goal.returns

@@ -1,4 +1,4 @@
-use Rattle.growing_laws.proofs.Seating.{seated-put}
+use Rattle.growing_laws.proofs.SeatsLemmas.{seated-put}
 use Rattle.growing_laws.proofs.laws.seated_put.Goals as goal
 
 pub returns : goal.returns

@@ -1,4 +1,4 @@
-use Rattle.growing_laws.proofs.Seating.{give-nodes}
+use Rattle.growing_laws.proofs.SeatsLemmas.{give-nodes}
 use Rattle.growing_laws.proofs.laws.seats_give_nodes.Goals as goal
 
 pub returns : goal.returns

@@ -1,4 +1,4 @@
-use Rattle.growing_laws.proofs.Seating.{leads-up}
+use Rattle.growing_laws.proofs.SeatsLemmas.{leads-up}
 use Rattle.growing_laws.proofs.laws.seats_lead_up.Goals as goal
 
 pub returns : goal.returns

@@ -1,7 +1,7 @@
 use Rattle.linear_programs.specs.Example.{example_program, last_tableau}
 use Rattle.linear_programs.proofs.Paths.{path_tied}
 use Rattle.linear_programs.proofs.Solutions.{tied_value}
-use Rattle.linear_programs.proofs.Worked.{example_sound, example_path, example_priced_out}
+use Rattle.linear_programs.proofs.ExampleLemmas.{example_sound, example_path, example_priced_out}
 use Rattle.linear_programs.proofs.laws.example_is_optimal.Goals as goal
 
 pub returns-clause-sound : goal.returns-clause-sound

@@ -1,4 +1,4 @@
-use Rattle.master_laws.proofs.Whole.{meet_node}
+use Rattle.master_laws.proofs.WholeCountsLemmas.{meet_node}
 use Rattle.master_laws.proofs.laws.counts_meet.Goals as goal
 
 pub returns : goal.returns

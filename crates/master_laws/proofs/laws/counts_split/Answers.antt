@@ -1,4 +1,4 @@
-use Rattle.master_laws.proofs.Whole.{can_be_split}
+use Rattle.master_laws.proofs.WholeCountsLemmas.{can_be_split}
 use Rattle.master_laws.proofs.laws.counts_split.Goals as goal
 
 pub returns : goal.returns

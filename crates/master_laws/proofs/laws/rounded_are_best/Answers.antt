@@ -1,4 +1,4 @@
-use Rattle.master_laws.proofs.Close.{are_best}
+use Rattle.master_laws.proofs.BestPrices.{are_best}
 use Rattle.master_laws.proofs.laws.rounded_are_best.Goals as goal
 
 pub returns : goal.returns

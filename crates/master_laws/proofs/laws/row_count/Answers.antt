@@ -1,4 +1,4 @@
-use Rattle.master_laws.proofs.Small.{row_count}
+use Rattle.master_laws.proofs.RowSizes.{row_count}
 use Rattle.master_laws.proofs.laws.row_count.Goals as goal
 
 pub returns : goal.returns

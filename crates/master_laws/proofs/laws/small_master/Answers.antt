@@ -1,4 +1,4 @@
-use Rattle.master_laws.proofs.Small.{small}
+use Rattle.master_laws.proofs.RowSizes.{small}
 use Rattle.master_laws.proofs.laws.small_master.Goals as goal
 
 pub returns : goal.returns

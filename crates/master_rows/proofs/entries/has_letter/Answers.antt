@@ -1,5 +1,5 @@
 use Rattle.std.proofs.Common.{arith}
-use Rattle.master_rows.proofs.Listed.{none_before, letter_some, letter_none}
+use Rattle.master_rows.proofs.EntriesLemmas.{none_before, letter_some, letter_none}
 use Rattle.master_rows.proofs.entries.has_letter.Goals as goal
 
 pub returns-then-letter-eq0 : goal.returns-then-letter-eq0

@@ -15,8 +15,8 @@ use Rattle.span_cells.proofs.PartsLemmas.{two-here}
 use Rattle.span_cells.proofs.Slots.{name_slot-within, suffix_slot-within}
 use Rattle.next_codes.specs.declared.totals.Totals.{Totals}
 use Rattle.next_codes.specs.Totals.{IsLowered, PartsThrough, rest_total}
-use Rattle.next_codes.proofs.Lowered.{lowered-cell, through-cell}
-use Rattle.next_codes.proofs.Around.{through-end}
+use Rattle.next_codes.proofs.LoweredTotals.{lowered-cell, through-cell}
+use Rattle.next_codes.proofs.Surroundings.{through-end}
 use Rattle.next_codes.proofs.lowering.lower_rest.Goals as goal
 
 pub returns-then-from-right-clause-lowered : goal.returns-then-from-right-clause-lowered

@@ -9,8 +9,8 @@ use Rattle.span_cells.specs.Cells.{name_slot, place}
 use Rattle.span_cells.specs.declared.slot.Slot.TheVariants.{OfName}
 use Rattle.next_codes.specs.declared.totals.Totals.{Totals}
 use Rattle.next_codes.specs.Totals.{IsLowered, letter_place}
-use Rattle.next_codes.proofs.Lowered.{lowered-cell, lowered-letter, through-cell, through-letter}
-use Rattle.next_codes.proofs.Around.{through-code}
+use Rattle.next_codes.proofs.LoweredTotals.{lowered-cell, lowered-letter, through-cell, through-letter}
+use Rattle.next_codes.proofs.Surroundings.{through-code}
 use Rattle.next_codes.proofs.lowering.lower_symbol.Goals as goal
 
 pub returns-in-Code-clause-lowered : goal.returns-in-Code-clause-lowered

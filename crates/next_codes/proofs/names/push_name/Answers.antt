@@ -4,8 +4,8 @@ use mir.Val.{to_z, of_z}
 use mir.Syntax.{w128}
 use Rattle.span_cells.specs.Cells.{name_slot, place}
 use Rattle.span_cells.proofs.ChainsLemmas.{first-read, next-read}
-use Rattle.next_codes.proofs.Lowered.{lowered-none, lowered-twice}
-use Rattle.next_codes.proofs.Pushed.{name-lower, name-begin, name-skip, name-more}
+use Rattle.next_codes.proofs.LoweredTotals.{lowered-none, lowered-twice}
+use Rattle.next_codes.proofs.PushesLemmas.{name-lower, name-begin, name-skip, name-more}
 use Rattle.next_codes.proofs.names.push_name.Goals as goal
 
 pub loop-number-init : goal.loop-number-init

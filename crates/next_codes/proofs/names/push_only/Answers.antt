@@ -6,8 +6,8 @@ use Rattle.roster_model.specs.declared.grammar.Sym.TheVariants.{Name, Code}
 use Rattle.tree_laws.proofs.Rules.{sound-symbol}
 use Rattle.tree_laws.proofs.Symbols.{here, here_only}
 use Rattle.span_cells.proofs.CellsLemmas.{filled-right}
-use Rattle.next_codes.proofs.Around.{through-small}
-use Rattle.next_codes.proofs.Parted.{both-small, small-sum, small-fits, only-through, only-some}
+use Rattle.next_codes.proofs.Surroundings.{through-small}
+use Rattle.next_codes.proofs.PartPushes.{both-small, small-sum, small-fits, only-through, only-some}
 use Rattle.next_codes.proofs.names.push_only.Goals as goal
 
 pub symbol_least-part-requires-clause-name : goal.symbol_least-part-requires-clause-name

@@ -4,8 +4,8 @@ use Rattle.std.proofs.lemmas.Option.{same_Some}
 use Rattle.roster_model.specs.declared.grammar.Rule.{Rule}
 use Rattle.next_codes.specs.Pushes.{RightDone}
 use Rattle.tree_laws.proofs.Bounds.{Within-more}
-use Rattle.next_codes.proofs.Around.{around-rule}
-use Rattle.next_codes.proofs.Parted.{small-sum}
+use Rattle.next_codes.proofs.Surroundings.{around-rule}
+use Rattle.next_codes.proofs.PartPushes.{small-sum}
 use Rattle.next_codes.proofs.names.push_rule.Goals as goal
 
 pub push_right-requires-clause-around : goal.push_right-requires-clause-around

@@ -8,10 +8,10 @@ use Rattle.span_forms.specs.Places.{place_of}
 use Rattle.tree_laws.proofs.Rules.{sound-symbol}
 use Rattle.tree_laws.proofs.Symbols.{here}
 use Rattle.span_cells.proofs.CellsLemmas.{filled-right}
-use Rattle.next_codes.proofs.Around.{through-small}
-use Rattle.next_codes.proofs.Lowered.{lowered-twice, lowered-counted, row-before, name-before}
-use Rattle.next_codes.proofs.Parted.{all-small, small-sum, small-fits, first-through, others-through, part-some}
-use Rattle.next_codes.proofs.Pushed.{due-lower}
+use Rattle.next_codes.proofs.Surroundings.{through-small}
+use Rattle.next_codes.proofs.LoweredTotals.{lowered-twice, lowered-counted, row-before, name-before}
+use Rattle.next_codes.proofs.PartPushes.{all-small, small-sum, small-fits, first-through, others-through, part-some}
+use Rattle.next_codes.proofs.PushesLemmas.{due-lower}
 use Rattle.next_codes.proofs.parts.push_part.Goals as goal
 
 pub symbol_least-head-requires-clause-name : goal.symbol_least-head-requires-clause-name

@@ -5,9 +5,9 @@ use mir.Syntax.{w128}
 use Rattle.span_forms.specs.Places.{place_of}
 use Rattle.span_cells.proofs.CellsLemmas.{filled-shorter}
 use Rattle.next_codes.specs.Pushes.{PartsDone}
-use Rattle.next_codes.proofs.Lowered.{lowered-none, lowered-twice}
-use Rattle.next_codes.proofs.Parted.{parts-begin, parts-more, parts-skip}
-use Rattle.next_codes.proofs.Pushed.{parts-lower}
+use Rattle.next_codes.proofs.LoweredTotals.{lowered-none, lowered-twice}
+use Rattle.next_codes.proofs.PartPushes.{parts-begin, parts-more, parts-skip}
+use Rattle.next_codes.proofs.PushesLemmas.{parts-lower}
 use Rattle.next_codes.proofs.parts.push_parts.Goals as goal
 
 pub loop-point-init : goal.loop-point-init

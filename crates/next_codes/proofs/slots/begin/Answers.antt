@@ -7,11 +7,11 @@ use Rattle.roster_model.specs.declared.grammar.Sym.TheVariants.{Name}
 use Rattle.roster_model.specs.Grammar.{InDay}
 use Rattle.roster_model.specs.Trees.{On}
 use Rattle.roster_model.specs.Sums.{tree_sum}
-use Rattle.tree_laws.proofs.Least.{IsLeast-one}
+use Rattle.tree_laws.proofs.LeastValues.{IsLeast-one}
 use Rattle.span_cells.specs.Cells.{name_slot, place}
 use Rattle.span_cells.proofs.CellsLemmas.{filled-right}
-use Rattle.next_codes.proofs.Lowered.{lowered-counted}
-use Rattle.next_codes.proofs.Opened.{through-day, same-name}
+use Rattle.next_codes.proofs.LoweredTotals.{lowered-counted}
+use Rattle.next_codes.proofs.SlotTotals.{through-day, same-name}
 use Rattle.next_codes.proofs.slots.begin.Goals as goal
 
 pub symbol_least-requires-clause-name : goal.symbol_least-requires-clause-name

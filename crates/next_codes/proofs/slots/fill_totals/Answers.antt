@@ -1,7 +1,7 @@
 use Rattle.roster_model.specs.declared.grammar.Sym.TheVariants.{Name}
 use Rattle.span_cells.specs.Cells.{cell_count}
-use Rattle.next_codes.proofs.Pushed.{due-lower}
-use Rattle.next_codes.proofs.Reached.{reached}
+use Rattle.next_codes.proofs.PushesLemmas.{due-lower}
+use Rattle.next_codes.proofs.MarginalsLemmas.{reached}
 use Rattle.next_codes.proofs.slots.fill_totals.Goals as goal
 
 pub returns-clause-marginals : goal.returns-clause-marginals

@@ -4,8 +4,8 @@ use Rattle.span_forms.specs.Places.{shorter}
 use Rattle.span_cells.specs.Cells.{cell_count}
 use Rattle.next_codes.specs.Totals.{AreLowered}
 use Rattle.next_codes.specs.Pushes.{DoneFrom}
-use Rattle.next_codes.proofs.Lowered.{lowered-none, lowered-more, lowered-twice, lowered-counted}
-use Rattle.next_codes.proofs.Pushed.{from-end}
+use Rattle.next_codes.proofs.LoweredTotals.{lowered-none, lowered-more, lowered-twice, lowered-counted}
+use Rattle.next_codes.proofs.PushesLemmas.{from-end}
 use Rattle.next_codes.proofs.slots.push_all.Goals as goal
 
 pub loop-place-init : goal.loop-place-init

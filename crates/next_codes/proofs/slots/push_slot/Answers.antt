@@ -9,9 +9,9 @@ use Rattle.span_cells.specs.declared.slot.Slot.TheVariants.{OfName, OfSuffix}
 use Rattle.span_cells.specs.Cells.{name_slot, place}
 use Rattle.span_cells.proofs.Slots.{slot_here}
 use Rattle.next_codes.specs.Totals.{AreLowered}
-use Rattle.next_codes.proofs.Lowered.{lowered-none, lowered-more}
-use Rattle.next_codes.proofs.Opened.{outside-of, total-read, total-small, inside-small, less-small, slot-empty, small-less, less-fits, less-more}
-use Rattle.next_codes.proofs.Pushed.{from-slot, slot-none, slot-name, slot-suffix}
+use Rattle.next_codes.proofs.LoweredTotals.{lowered-none, lowered-more}
+use Rattle.next_codes.proofs.SlotTotals.{outside-of, total-read, total-small, inside-small, less-small, slot-empty, small-less, less-fits, less-more}
+use Rattle.next_codes.proofs.PushesLemmas.{from-slot, slot-none, slot-name, slot-suffix}
 use Rattle.next_codes.proofs.slots.push_slot.Goals as goal
 
 pub returns-in_default-clause-done : goal.returns-in_default-clause-done

@@ -1,7 +1,7 @@
 use Rattle.std.proofs.Common.{arith, ℕ, ◌≡◌, ◌+◌, ◌-◌, ◌*◌, length, ap}
 use Rattle.span_forms.specs.Places.{place_of}
 use Rattle.next_codes.specs.Totals.{AreLowered}
-use Rattle.next_codes.proofs.Lowered.{lowered-none, lowered-more, lowered-twice, lowered-counted}
+use Rattle.next_codes.proofs.LoweredTotals.{lowered-none, lowered-more, lowered-twice, lowered-counted}
 use Rattle.next_codes.proofs.slots.push_span.Goals as goal
 
 pub loop-slot-init : goal.loop-slot-init

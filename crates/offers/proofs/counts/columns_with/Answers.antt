@@ -1,5 +1,5 @@
 use Rattle.std.proofs.Common.{◌∙◌}
-use Rattle.offers.proofs.Moving.{has-balance, split-of, columns-of}
+use Rattle.offers.proofs.GraphCounts.{has-balance, split-of, columns-of}
 use Rattle.offers.proofs.counts.columns_with.Goals as goal
 
 pub trees_with-requires : goal.trees_with-requires

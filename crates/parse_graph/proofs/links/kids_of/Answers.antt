@@ -4,7 +4,7 @@ use Rattle.roster_model.specs.declared.grammar.Rule.{Rule}
 use Rattle.roster_model.specs.declared.grammar.Sym.TheVariants.{Code}
 use Rattle.roster_model.specs.Folds.{In}
 use Rattle.arc_laws.specs.OrNodes.{OrNode, suffix}
-use Rattle.parse_graph.proofs.UsedLemmas.{used-more}
+use Rattle.parse_graph.proofs.ArcUsesLemmas.{used-more}
 use Rattle.parse_graph.proofs.links.kids_of.Goals as goal
 
 pub node_kid-rest-requires-clause-listed : goal.node_kid-rest-requires-clause-listed

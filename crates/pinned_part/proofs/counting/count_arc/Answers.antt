@@ -3,7 +3,7 @@ use Rattle.std.specs.Prelude.{IfSome, map}
 use Rattle.arc_laws.specs.OrNodes.{used}
 use Rattle.pinned_part.specs.Places.{node_place, place_count}
 use Rattle.pinned_part.specs.Net.{one_or_two}
-use Rattle.pinned_part.proofs.Adding.{counted-one, counted-two}
+use Rattle.pinned_part.proofs.RowChanges.{counted-one, counted-two}
 use Rattle.pinned_part.proofs.counting.count_arc.Goals as goal
 
 pub returns-in-Some : goal.returns-in-Some

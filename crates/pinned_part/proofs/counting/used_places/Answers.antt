@@ -4,8 +4,8 @@ use Rattle.std.proofs.lemmas.Option.{same_Some}
 use Rattle.roster_model.specs.declared.grammar.Rule.{Rule}
 use Rattle.roster_model.specs.declared.grammar.Sym.TheVariants.{Code}
 use Rattle.arc_laws.specs.OrNodes.{right_of, used_by}
-use Rattle.arc_laws.proofs.Balanced.{right_of-is}
-use Rattle.pinned_part.proofs.Placing.{used-more}
+use Rattle.arc_laws.proofs.BalanceLemmas.{right_of-is}
+use Rattle.pinned_part.proofs.PlacesLemmas.{used-more}
 use Rattle.pinned_part.proofs.counting.used_places.Goals as goal
 
 pub returns-else-from-right-2-clause-places : goal.returns-else-from-right-2-clause-places

@@ -1,5 +1,5 @@
 use Rattle.std.proofs.Common.{arith}
-use Rattle.pinned_part.proofs.Placing.{few-nodes, span-within}
+use Rattle.pinned_part.proofs.PlacesLemmas.{few-nodes, span-within}
 use Rattle.pinned_part.proofs.places.span_place.Goals as goal
 
 pub overflow_mul-result : goal.overflow_mul-result

@@ -6,7 +6,7 @@ use Rattle.roster_model.specs.Folds.{sum_n, Each}
 use Rattle.roster_model.proofs.CostBounds.{cells-le}
 use Rattle.roster_model.proofs.SoundCells.{cells_of_day}
 use Rattle.pinned_part.specs.Net.{cell_size}
-use Rattle.pinned_part.proofs.Pinning.{allowed-told}
+use Rattle.pinned_part.proofs.PinnedValues.{allowed-told}
 use Rattle.pinned_part.proofs.value.allowed_penalties.Goals as goal
 
 pub penalties-requires-clause-cells : goal.penalties-requires-clause-cells

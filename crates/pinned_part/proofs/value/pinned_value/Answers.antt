@@ -1,5 +1,5 @@
 use Rattle.std.proofs.Common.{ap, ◌+◌, ℕ}
-use Rattle.pinned_part.proofs.Pinning.{pinned-cost, pinned-none}
+use Rattle.pinned_part.proofs.PinnedValues.{pinned-cost, pinned-none}
 use Rattle.pinned_part.proofs.value.pinned_value.Goals as goal
 
 pub returns-in-Some-clause-value : goal.returns-in-Some-clause-value

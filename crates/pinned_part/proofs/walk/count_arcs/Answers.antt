@@ -3,10 +3,10 @@ use Rattle.std.proofs.lemmas.Nat.{mul-le}
 use Rattle.roster_model.specs.declared.grammar.ArcKey.{ArcKey}
 use Rattle.roster_model.specs.Cuts.{lo}
 use Rattle.arc_laws.specs.Counts.{top_cost}
-use Rattle.arc_laws.proofs.Folding.{sum_n-append}
+use Rattle.arc_laws.proofs.FoldsLemmas.{sum_n-append}
 use Rattle.span_arcs.specs.Ahead.{IsPassed}
 use Rattle.pinned_part.specs.Net.{IsCounted}
-use Rattle.pinned_part.proofs.Netting.{net-none, net-step, net-small}
+use Rattle.pinned_part.proofs.NetLemmas.{net-none, net-step, net-small}
 use Rattle.span_arcs.proofs.ShapesLemmas.{arc-split, arc-small}
 use Rattle.span_arcs.proofs.AheadLemmas.{passed-first, passed-step, passed-end, passed-few}
 use Rattle.pinned_part.proofs.Paths.{lo_small, paid-small}

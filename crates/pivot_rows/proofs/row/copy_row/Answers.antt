@@ -1,6 +1,6 @@
 use Rattle.std.proofs.Common.{length, ◌≡◌, ◌∙◌, ◌-◌, rules, refl}
 use Rattle.pivot_rows.specs.Rows.{zeros}
-use Rattle.pivot_rows.proofs.Copied.{copied, zeros_are}
+use Rattle.pivot_rows.proofs.RowCopies.{copied, zeros_are}
 use Rattle.pivot_rows.proofs.row.copy_row.Goals as goal
 
 pub returns : goal.returns

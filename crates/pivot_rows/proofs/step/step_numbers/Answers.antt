@@ -4,7 +4,7 @@ use Rattle.std.proofs.lemmas.Int.{to_z-of_z}
 use Rattle.std.proofs.lemmas.Result.{IfOk-weaker, IfErr-weaker}
 use Rattle.linear_programs.specs.RowStep.{IsCommonFactor}
 use Rattle.pivot_rows.specs.Quotients.{AreDivided, IsWideDivided, whole}
-use Rattle.pivot_rows.proofs.Divided.{divided_steps, divided_wide}
+use Rattle.pivot_rows.proofs.QuotientsLemmas.{divided_steps, divided_wide}
 use Rattle.pivot_rows.proofs.step.step_numbers.Goals as goal
 
 pub returns-clause-step : goal.returns-clause-step

@@ -2,7 +2,7 @@ use Rattle.std.proofs.Common.{arith, ◌≡◌, pos, rules, IfOk}
 use Rattle.std.proofs.lemmas.Int.{ints, to_z-of_z}
 use Rattle.std.proofs.lemmas.Result.{IfOk-weaker}
 use Rattle.pivot_rows.specs.Rows.{StepsTo}
-use Rattle.pivot_rows.proofs.Divided.{left_primitive, still_steps}
+use Rattle.pivot_rows.proofs.QuotientsLemmas.{left_primitive, still_steps}
 use Rattle.pivot_rows.proofs.step.step_row.Goals as goal
 
 pub returns-clause-primitive : goal.returns-clause-primitive

@@ -3,7 +3,7 @@ use Rattle.std.specs.Int.{w128, IsGcd}
 use Rattle.std.proofs.lemmas.Int.{to_z-of_z}
 use Rattle.std.proofs.lemmas.Result.{IfOk-weaker, IfErr-weaker}
 use Rattle.pivot_rows.specs.Rows.{IsWideStep, StepsTo}
-use Rattle.pivot_rows.proofs.Divided.{shared_positive, shared_steps, shared_wide}
+use Rattle.pivot_rows.proofs.QuotientsLemmas.{shared_positive, shared_steps, shared_wide}
 use Rattle.pivot_rows.proofs.step.step_shared.Goals as goal
 
 pub shared_out-factor_left-requires-clause-positive : goal.shared_out-factor_left-requires-clause-positive

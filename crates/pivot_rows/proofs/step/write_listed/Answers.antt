@@ -6,7 +6,7 @@ use Rattle.std.proofs.lemmas.Result.{err_from_is_err_and}
 use Rattle.std.proofs.lemmas.List.Elements.{All-set}
 use Rattle.fraction.specs.Row.{at}
 use Rattle.pivot_rows.specs.Quotients.{whole}
-use Rattle.pivot_rows.proofs.Unlisted.{listed_divided, past_end}
+use Rattle.pivot_rows.proofs.SparseSteps.{listed_divided, past_end}
 use Rattle.pivot_rows.proofs.step.write_listed.Goals as goal
 
 pub returns-then-place-row-clause-divided : goal.returns-then-place-row-clause-divided

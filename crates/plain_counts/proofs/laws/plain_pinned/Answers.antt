@@ -1,4 +1,4 @@
-use Rattle.plain_counts.proofs.Pinned.{plain-pinned, pinned-plain}
+use Rattle.plain_counts.proofs.PinnedValues.{plain-pinned, pinned-plain}
 use Rattle.plain_counts.proofs.laws.plain_pinned.Goals as goal
 
 pub returns : goal.returns

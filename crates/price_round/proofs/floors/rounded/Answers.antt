@@ -1,6 +1,6 @@
 use Rattle.std.proofs.Common.{to_z-of_z, refl, inl, SFits, rules}
 use Rattle.std.specs.Int.{w128}
-use Rattle.price_round.proofs.Rounded.{floor_is, wide_is}
+use Rattle.price_round.proofs.FloorsLemmas.{floor_is, wide_is}
 use Rattle.price_round.proofs.floors.rounded.Goals as goal
 
 pub returns-in-Ok-clause-floor : goal.returns-in-Ok-clause-floor

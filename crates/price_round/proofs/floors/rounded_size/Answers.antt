@@ -2,7 +2,7 @@ use Rattle.std.proofs.Common.{pos, to_z-of_z, refl, inl, SFits, rules, arith, ne
 use Rattle.std.specs.Int.{w128}
 use Rattle.std.proofs.lemmas.Int.{ints}
 use Rattle.fraction.specs.Scaled.{scaled_floor}
-use Rattle.price_round.proofs.Rounded.{size_is, size_nonneg, size_most, size_wide}
+use Rattle.price_round.proofs.FloorsLemmas.{size_is, size_nonneg, size_most, size_wide}
 use Rattle.price_round.proofs.floors.rounded_size.Goals as goal
 
 -- what is known of the floor

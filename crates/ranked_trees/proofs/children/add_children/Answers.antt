@@ -7,7 +7,7 @@ use Rattle.ranked_trees.specs.declared.candidate.Child.{Child}
 use Rattle.ranked_trees.specs.Frames.{right_of}
 use Rattle.ranked_trees.specs.Children.{AreChildrenTo}
 use Rattle.ranked_trees.proofs.FrameLemmas.{symbol-here}
-use Rattle.ranked_trees.proofs.AddingLemmas.{children-more, children-skip}
+use Rattle.ranked_trees.proofs.ChildListLemmas.{children-more, children-skip}
 use Rattle.ranked_trees.proofs.children.add_children.Goals.{in-Some+else-is_err, in_default}
 use Rattle.ranked_trees.proofs.children.add_children.Goals as goal
 

@@ -6,7 +6,7 @@ use Rattle.roster_model.specs.declared.grammar.Sym.TheVariants.{Name}
 use Rattle.ranked_trees.specs.Frames.{right_of}
 use Rattle.ranked_trees.specs.Children.{AreChildren}
 use Rattle.ranked_trees.proofs.FrameLemmas.{symbol-here}
-use Rattle.ranked_trees.proofs.AddingLemmas.{children-begin, children-next, children-pass, children-end}
+use Rattle.ranked_trees.proofs.ChildListLemmas.{children-begin, children-next, children-pass, children-end}
 use Rattle.ranked_trees.proofs.children.children_of.Goals.{then-rule_of-name+in_ok-add_children, else-rule_of-name}
 use Rattle.ranked_trees.proofs.children.children_of.Goals as goal
 

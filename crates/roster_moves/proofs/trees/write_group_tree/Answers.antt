@@ -3,8 +3,8 @@ use Rattle.std.specs.Prelude.{slice_get}
 use Rattle.std.proofs.lemmas.Option.{slice_get_within}
 use Rattle.roster_model.specs.PriceRooms.{price_view}
 use Rattle.roster_part.specs.TeamViews.{team_view}
-use Rattle.candidate_rosters.proofs.Leading.{key_of, there-of}
-use Rattle.roster_moves.proofs.Asking.{is-ready, is-top, asks-under, under-steps}
+use Rattle.candidate_rosters.proofs.LeadersLemmas.{key_of, there-of}
+use Rattle.roster_moves.proofs.LeastTrees.{is-ready, is-top, asks-under, under-steps}
 use Rattle.roster_moves.proofs.trees.write_group_tree.Goals as goal
 
 pub sum_under-requires-clause-arc : goal.sum_under-requires-clause-arc

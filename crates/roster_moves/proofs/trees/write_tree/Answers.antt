@@ -1,6 +1,6 @@
 use Rattle.roster_model.specs.PriceRooms.{price_view}
-use Rattle.candidate_rosters.proofs.Leading.{there-of}
-use Rattle.roster_moves.proofs.Asking.{asks-day, day-steps}
+use Rattle.candidate_rosters.proofs.LeadersLemmas.{there-of}
+use Rattle.roster_moves.proofs.LeastTrees.{asks-day, day-steps}
 use Rattle.roster_moves.proofs.trees.write_tree.Goals as goal
 
 pub tree-requires-clause-asks : goal.tree-requires-clause-asks

@@ -1,5 +1,5 @@
 use Rattle.std.proofs.Common.{List, ℕ, get_or, drop, ◌++◌, ap, ◌∙◌}
-use Rattle.roster_part.proofs.Tallied.{word_added}
+use Rattle.roster_part.proofs.CountersLemmas.{word_added}
 use Rattle.roster_part.proofs.counter.add_word.Goals as goal
 
 pub returns-clause-counts : goal.returns-clause-counts

@@ -1,6 +1,6 @@
 use Rattle.std.proofs.Common.{replicate, refl}
 use Rattle.std.proofs.lemmas.Simd.{get_or-replicate}
-use Rattle.roster_part.proofs.Tallied.{tallied-none, tallied-few}
+use Rattle.roster_part.proofs.CountersLemmas.{tallied-none, tallied-few}
 use Rattle.roster_part.proofs.counter.letter_counts.Goals as goal
 
 pub loop-shift-init : goal.loop-shift-init

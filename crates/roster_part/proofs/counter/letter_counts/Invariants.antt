@@ -1,4 +1,4 @@
-use Rattle.roster_part.proofs.Tallied.{AreTallied}
+use Rattle.roster_part.proofs.CountersLemmas.{AreTallied}
 use Rattle.roster_part.proofs.counter.letter_counts.Given as goal
 
 abbrev pub invariant-loop-shift : goal.invariant-loop-shift

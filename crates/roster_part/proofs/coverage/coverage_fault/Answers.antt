@@ -5,7 +5,7 @@ use Rattle.roster_model.specs.declared.instance.Cell.{Cell}
 use Rattle.roster_model.specs.Coverage.{covered, IsWithinCell}
 use Rattle.roster_model.proofs.SoundCells.{cells_of_day}
 use Rattle.certificates.specs.RosterCauses.{duties, IsOutside}
-use Rattle.roster_part.proofs.Causing.{never_outside}
+use Rattle.roster_part.proofs.FaultsLemmas.{never_outside}
 use Rattle.roster_part.proofs.Items.{before-all, before-next, first-here}
 use Rattle.roster_part.proofs.coverage.coverage_fault.Goals as goal
 use Rattle.roster_part.proofs.coverage.coverage_fault.Goals.{then-have-cell-via-then-have-cell, then-have-cell-via-else-have-cell+then-cell-have}

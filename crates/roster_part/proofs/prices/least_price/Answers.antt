@@ -4,7 +4,7 @@ use Rattle.roster_model.specs.Sums.{IsLeast, tree_sum}
 use Rattle.roster_model.specs.Trees.{IsTreeOf}
 use Rattle.word_prices.proofs.Costs.{shift-length}
 use Rattle.word_prices.specs.Prices.{word_view}
-use Rattle.roster_part.proofs.Pricing.{told}
+use Rattle.roster_part.proofs.WordPrices.{told}
 use Rattle.roster_part.proofs.prices.least_price.Goals as goal
 
 pub returns-then-word-grammar-clause-value : goal.returns-then-word-grammar-clause-value

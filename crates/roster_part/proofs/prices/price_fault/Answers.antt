@@ -1,7 +1,7 @@
 use Rattle.std.proofs.Common.{refl, arith}
 use Rattle.std.proofs.lemmas.Option.{slice_get_read}
 use Rattle.roster_part.proofs.Items.{before-next}
-use Rattle.roster_part.proofs.Pricing.{HasPrice, so_far, no_shift-first, all_priced}
+use Rattle.roster_part.proofs.WordPrices.{HasPrice, so_far, no_shift-first, all_priced}
 use Rattle.roster_part.proofs.prices.price_fault.Goals as goal
 
 pub loop-place-preserved : goal.loop-place-preserved

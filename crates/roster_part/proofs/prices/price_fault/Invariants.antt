@@ -1,7 +1,7 @@
 use Rattle.roster_model.specs.declared.grammar.Grammar.{Grammar}
 use Rattle.span_table.specs.Tables.{IsMadeFor}
 use Rattle.roster_part.proofs.Items.{Before}
-use Rattle.roster_part.proofs.Pricing.{HasPrice, IsFirstSoFar}
+use Rattle.roster_part.proofs.WordPrices.{HasPrice, IsFirstSoFar}
 use Rattle.roster_part.proofs.prices.price_fault.Given as goal
 
 abbrev pub invariant-loop-place : goal.invariant-loop-place

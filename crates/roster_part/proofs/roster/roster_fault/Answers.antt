@@ -1,4 +1,4 @@
-use Rattle.roster_part.proofs.Causing.{heads_cause, cost_told}
+use Rattle.roster_part.proofs.FaultsLemmas.{heads_cause, cost_told}
 use Rattle.roster_part.proofs.roster.roster_fault.Goals as goal
 
 pub returns-in-Some-heads_fault-clause-value : goal.returns-in-Some-heads_fault-clause-value

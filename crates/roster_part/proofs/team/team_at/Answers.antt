@@ -1,6 +1,6 @@
 use Rattle.std.proofs.Common.{refl}
 use Rattle.std.proofs.lemmas.Option.{slice_get_read, slice_get_past}
-use Rattle.roster_part.proofs.Numbered.{team_at-group, team_at-lone}
+use Rattle.roster_part.proofs.TeamNumbers.{team_at-group, team_at-lone}
 use Rattle.roster_part.proofs.team.team_at.Goals as goal
 
 pub returns-in-Some : goal.returns-in-Some

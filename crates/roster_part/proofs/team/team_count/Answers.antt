@@ -1,5 +1,5 @@
 use Rattle.std.proofs.Common.{◌∙◌}
-use Rattle.roster_part.proofs.Numbered.{team_count-is}
+use Rattle.roster_part.proofs.TeamNumbers.{team_count-is}
 use Rattle.roster_part.proofs.team.team_count.Goals as goal
 
 pub returns : goal.returns

@@ -1,7 +1,7 @@
 use Rattle.std.proofs.Common.{◌≡◌, ◌<◌, get_or, length, arith}
 use Rattle.std.proofs.lemmas.Option.{slice_get-get_or}
 use Rattle.roster_model.specs.declared.instance.Group.{Group}
-use Rattle.roster_part.proofs.Numbered.{group_named, group_within, lone_named}
+use Rattle.roster_part.proofs.TeamNumbers.{group_named, group_within, lone_named}
 use Rattle.roster_part.proofs.team.team_name.Goals as goal
 
 abbrev no_group : Group

@@ -5,8 +5,8 @@ use Rattle.roster_model.specs.Teams.{Team, teams}
 use Rattle.certificates.specs.RosterCauses.{duties, IsOutOfRange}
 use Rattle.roster_part.specs.TeamViews.{team_view}
 use Rattle.roster_part.proofs.Items.{before-next, first-here}
-use Rattle.roster_part.proofs.Causing.{never_out}
-use Rattle.roster_part.proofs.Counting.{members-are}
+use Rattle.roster_part.proofs.FaultsLemmas.{never_out}
+use Rattle.roster_part.proofs.ShiftCounts.{members-are}
 use Rattle.roster_part.proofs.totals.heads_fault.Goals as goal
 use Rattle.roster_part.proofs.totals.heads_fault.Goals.{then-count-team-via-then-count-team, then-count-team-via-else-count-team+then-team-count}
 

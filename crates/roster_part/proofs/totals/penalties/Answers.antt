@@ -3,7 +3,7 @@ use Rattle.roster_model.specs.declared.instance.Cell.{Cell}
 use Rattle.roster_model.specs.Coverage.{covered, penalty}
 use Rattle.roster_model.specs.Limits.{IsDayCell}
 use Rattle.certificates.specs.RosterCauses.{duties}
-use Rattle.roster_part.proofs.Counting.{penalty-few, cells-next}
+use Rattle.roster_part.proofs.ShiftCounts.{penalty-few, cells-next}
 use Rattle.roster_part.proofs.totals.penalties.Goals as goal
 
 abbrev no_cell : Cell

@@ -4,7 +4,7 @@ use Rattle.roster_model.specs.Coverage.{covered, penalty}
 use Rattle.roster_model.specs.Folds.{sum_n}
 use Rattle.certificates.specs.RosterCauses.{duties}
 use Rattle.roster_part.specs.Counters.{IsCounterFor}
-use Rattle.roster_part.proofs.Counting.{rest_cells}
+use Rattle.roster_part.proofs.ShiftCounts.{rest_cells}
 use Rattle.roster_part.proofs.totals.penalties.Given as goal
 
 abbrev pub invariant-loop-cell : goal.invariant-loop-cell

@@ -2,7 +2,7 @@ use Rattle.std.proofs.Common.{◌≡◌, ℕ, ◌<◌, false, true, Option, Some
 use Rattle.std.specs.Prelude.{nat_eq}
 use Rattle.std.specs.Option.{option_eq}
 use Rattle.std.proofs.lemmas.Bool.{eq-eqb}
-use Rattle.roster_split.proofs.Evening.{makers-within, makers-few, users-within, users-few, uneven, even-next, even-sums}
+use Rattle.roster_split.proofs.EvensLemmas.{makers-within, makers-few, users-within, users-few, uneven, even-next, even-sums}
 use Rattle.roster_split.proofs.balance.check_balance.Goals as goal
 
 pub sum_at-made-requires-clause-within : goal.sum_at-made-requires-clause-within

@@ -4,7 +4,7 @@ use Rattle.roster_model.specs.declared.grammar.Step.{Step}
 use Rattle.split_laws.specs.Nodes.{steps_of}
 use Rattle.roster_split.specs.Stacks.{pushed_kid}
 use Rattle.roster_split.specs.Taking.{IsTaking}
-use Rattle.roster_split.proofs.Taking.{begun, asks-arc, arc-inside, falls, next, ended}
+use Rattle.roster_split.proofs.TakingLemmas.{begun, asks-arc, arc-inside, falls, next, ended}
 use Rattle.roster_split.proofs.take.take_tree.Goals as goal
 
 pub loop-node-init : goal.loop-node-init

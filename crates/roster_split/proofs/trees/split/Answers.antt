@@ -4,7 +4,7 @@ use Rattle.parse_graph.specs.Graphs.{GraphView}
 use Rattle.roster_split.specs.declared.fault.SplitFault.{SplitFault}
 use Rattle.roster_split.specs.declared.fault.SplitFault.TheVariants.{Unbalanced, Memory}
 use Rattle.roster_split.specs.Evens.{HasCounts, IsUneven, IsFault}
-use Rattle.roster_split.proofs.Evening.{balanced}
+use Rattle.roster_split.proofs.EvensLemmas.{balanced}
 use Rattle.roster_split.proofs.trees.split.Goals as goal
 
 -- a fault that tells the first uneven node is one

@@ -5,8 +5,8 @@ use Rattle.roster_model.specs.declared.grammar.Step.{Step}
 use Rattle.roster_split.specs.Taking.{AsksTree, TakesTree}
 use Rattle.roster_split.specs.Splits.{IsSplit, IsSplitting}
 use Rattle.roster_split.specs.Evens.{HasCounts}
-use Rattle.roster_split.proofs.Evening.{makers-within, makers-few}
-use Rattle.roster_split.proofs.Splitting.{counts-of, no-trees, root-at, began, asks, further, ended}
+use Rattle.roster_split.proofs.EvensLemmas.{makers-within, makers-few}
+use Rattle.roster_split.proofs.SplitsLemmas.{counts-of, no-trees, root-at, began, asks, further, ended}
 use Rattle.roster_split.proofs.trees.take_trees.Goals as goal
 
 -- a list of the same length is written back whole

@@ -1,4 +1,4 @@
-use Rattle.rules_text.proofs.Finished.{parsed_keeps}
+use Rattle.rules_text.proofs.EndKept.{parsed_keeps}
 use Rattle.rules_text.proofs.read.read_rules.Goals as goal
 
 pub without_cycle-requires : goal.without_cycle-requires

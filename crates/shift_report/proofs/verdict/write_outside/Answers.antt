@@ -1,7 +1,7 @@
 use Rattle.std.proofs.Common.{ap, ◌++◌, ◌∙◌, append_assoc, ◌∷◌, []}
 use Rattle.std.specs.Prelude.{codes}
 use Rattle.shift_report.specs.VerdictText.{field}
-use Rattle.shift_report.proofs.Joined.{three}
+use Rattle.shift_report.proofs.TextParts.{three}
 use Rattle.shift_report.proofs.verdict.write_outside.Goals as goal
 
 pub returns : goal.returns

@@ -4,7 +4,7 @@ use Rattle.span_cells.specs.Cells.{place}
 use Rattle.span_arcs.specs.Marks.{free_view, SplitsMarked}
 use Rattle.span_cells.proofs.CellsLemmas.{filled-shorter}
 use Rattle.span_arcs.proofs.MarksLemmas.{adds-none, adds-more, splits-next}
-use Rattle.span_arcs.proofs.ClosedLemmas.{splits-begin, splits-skip, splits-end}
+use Rattle.span_arcs.proofs.PartMarksLemmas.{splits-begin, splits-skip, splits-end}
 use Rattle.span_arcs.proofs.SplitsLemmas.{split-noted}
 use Rattle.span_arcs.proofs.marks.mark_parts.Goals as goal
 

@@ -10,7 +10,7 @@ use Rattle.span_cells.specs.Cells.{suffix_slot}
 use Rattle.span_arcs.specs.Marks.{PartsStand}
 use Rattle.span_arcs.proofs.MarksLemmas.{adds-one, mark-one}
 use Rattle.span_cells.proofs.Slots.{suffix_slot-within}
-use Rattle.span_arcs.proofs.ClosedLemmas.{last-of-rest, before-end, rest-by-slot}
+use Rattle.span_arcs.proofs.PartMarksLemmas.{last-of-rest, before-end, rest-by-slot}
 use Rattle.span_arcs.proofs.marks.mark_rest.Goals as goal
 
 pub mark_symbol-requires-clause-stand : goal.mark_symbol-requires-clause-stand

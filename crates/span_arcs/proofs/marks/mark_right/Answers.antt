@@ -4,7 +4,7 @@ use Rattle.tree_laws.proofs.Symbols.{here_only}
 use Rattle.tree_laws.proofs.Rules.{sound-rule}
 use Rattle.span_cells.specs.Cells.{place, name_slot}
 use Rattle.span_arcs.proofs.MarksLemmas.{adds-up}
-use Rattle.span_arcs.proofs.ClosedLemmas.{only-before, only-of-right, only-closed}
+use Rattle.span_arcs.proofs.PartMarksLemmas.{only-before, only-of-right, only-closed}
 use Rattle.span_arcs.proofs.marks.mark_right.Goals as goal
 
 pub mark_symbol-requires-clause-stand : goal.mark_symbol-requires-clause-stand

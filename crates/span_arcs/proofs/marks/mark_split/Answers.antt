@@ -6,7 +6,7 @@ use Rattle.tree_laws.proofs.Symbols.{here}
 use Rattle.span_cells.specs.Cells.{place}
 use Rattle.span_arcs.specs.Marks.{HasSome}
 use Rattle.span_arcs.proofs.MarksLemmas.{adds-more, symbol-kept, span-before}
-use Rattle.span_arcs.proofs.ClosedLemmas.{first-of-two, rest-of-two, before-end}
+use Rattle.span_arcs.proofs.PartMarksLemmas.{first-of-two, rest-of-two, before-end}
 use Rattle.span_arcs.proofs.marks.mark_split.Goals as goal
 
 pub mark_symbol-requires-clause-stand : goal.mark_symbol-requires-clause-stand

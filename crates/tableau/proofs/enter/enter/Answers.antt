@@ -4,7 +4,7 @@ use Rattle.std.proofs.lemmas.Int.{to_z-of_z, ints}
 use Rattle.fraction.specs.Row.{at}
 use Rattle.tableau.proofs.Counts.{refused_risen, refused_counts}
 use Rattle.tableau.proofs.Places.{reduced_is}
-use Rattle.tableau.proofs.Entering.{tied_of, some_entry, refused_column}
+use Rattle.tableau.proofs.EnteringColumns.{tied_of, some_entry, refused_column}
 use Rattle.tableau.proofs.Ends.{on_path_turn, wide_turn}
 use Rattle.tableau.proofs.enter.enter.Goals as goal
 

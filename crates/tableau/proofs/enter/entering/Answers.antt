@@ -3,7 +3,7 @@ use Rattle.std.specs.Int.{w64, w128}
 use Rattle.std.proofs.lemmas.Int.{to_z-of_z}
 use Rattle.fraction.specs.Row.{at}
 use Rattle.tableau.specs.Sheet.{AreCopied}
-use Rattle.tableau.proofs.Entering.{found_cheaper, none_priced}
+use Rattle.tableau.proofs.EnteringColumns.{found_cheaper, none_priced}
 use Rattle.tableau.proofs.enter.entering.Goals as goal
 
 pub returns-in-Ok-clause-found : goal.returns-in-Ok-clause-found

@@ -1,7 +1,7 @@
 use Rattle.std.proofs.Common.{◌≡◌, ◌+◌, arith, pos, ◌<ℤ◌, SFits, rules, slice_index_or, sym}
 use Rattle.std.specs.Int.{w128, w64}
 use Rattle.std.proofs.lemmas.Int.{to_z-of_z, ints}
-use Rattle.tableau.proofs.Entering.{tied_of}
+use Rattle.tableau.proofs.EnteringColumns.{tied_of}
 use Rattle.tableau.proofs.Shares.{end_of}
 use Rattle.tableau.proofs.finish.finish.Goals as goal
 

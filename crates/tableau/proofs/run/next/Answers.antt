@@ -2,8 +2,8 @@ use Rattle.std.proofs.Common.{◌≡◌, ℕ, ◌+◌, arith, refl, ◌∙◌, s
 use Rattle.linear_programs.specs.Tableau.{PivotPath}
 use Rattle.tableau.specs.Sheet.{tableau_of}
 use Rattle.tableau.proofs.Counts.{spent_risen}
-use Rattle.tableau.proofs.Entering.{tied_of}
-use Rattle.tableau.proofs.Running.{on_path_kept, fault_later}
+use Rattle.tableau.proofs.EnteringColumns.{tied_of}
+use Rattle.tableau.proofs.LaterFaults.{on_path_kept, fault_later}
 use Rattle.tableau.proofs.run.next.Goals as goal
 
 pub entering-requires-clause-kappa : goal.entering-requires-clause-kappa

@@ -1,4 +1,4 @@
-use Rattle.tableau.proofs.Running.{fault_later}
+use Rattle.tableau.proofs.LaterFaults.{fault_later}
 use Rattle.tableau.proofs.run.run.Goals as goal
 
 pub returns-in-Err-clause-fault : goal.returns-in-Err-clause-fault

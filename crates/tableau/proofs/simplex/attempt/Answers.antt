@@ -1,5 +1,5 @@
 use Rattle.std.proofs.Common.{arith}
-use Rattle.tableau.proofs.Running.{fault_later}
+use Rattle.tableau.proofs.LaterFaults.{fault_later}
 use Rattle.tableau.proofs.simplex.attempt.Goals as goal
 
 pub returns-in-Err-clause-fault : goal.returns-in-Err-clause-fault

@@ -1,5 +1,5 @@
 use Rattle.std.proofs.Common.{◌∙◌}
-use Rattle.tableau.proofs.Running.{fault_kept}
+use Rattle.tableau.proofs.LaterFaults.{fault_kept}
 use Rattle.tableau.proofs.simplex.solve.Goals as goal
 
 pub returns-in-Err-attempt_again : goal.returns-in-Err-attempt_again

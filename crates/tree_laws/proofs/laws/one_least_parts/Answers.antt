@@ -1,6 +1,6 @@
 use Rattle.roster_model.specs.Trees.{On}
 use Rattle.roster_model.specs.Sums.{parts_sum}
-use Rattle.tree_laws.proofs.Least.{IsLeast-one}
+use Rattle.tree_laws.proofs.LeastValues.{IsLeast-one}
 use Rattle.tree_laws.proofs.laws.one_least_parts.Goals as goal
 
 pub returns : goal.returns

@@ -1,7 +1,7 @@
 use Rattle.std.proofs.Common.{[], ◌∷◌}
 use Rattle.roster_model.specs.Trees.{On}
 use Rattle.roster_model.specs.Sums.{tree_sum}
-use Rattle.tree_laws.proofs.Least.{IsLeast-one}
+use Rattle.tree_laws.proofs.LeastValues.{IsLeast-one}
 use Rattle.tree_laws.proofs.laws.one_least_tree.Goals as goal
 
 pub returns : goal.returns

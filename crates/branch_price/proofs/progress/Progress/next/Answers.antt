@@ -1,4 +1,4 @@
-use Rattle.branch_price.proofs.Looping.{next-is}
+use Rattle.branch_price.proofs.EndsLemmas.{next-is}
 use Rattle.branch_price.proofs.progress.Progress.next.Goals as goal
 
 pub returns : goal.returns

@@ -1,6 +1,6 @@
 use Rattle.std.proofs.Common.{◌≡◌, rules, sym, ◌∙◌, to_z, of_z}
 use mir.Syntax.{w128}
-use Rattle.dives.proofs.Placed.{found-price, no-price}
+use Rattle.dives.proofs.ArcPrices.{found-price, no-price}
 use Rattle.dives.proofs.widths.WidthsLetterPrice.arc.Goals as goal
 
 pub returns-in_default-clause-value : goal.returns-in_default-clause-value

@@ -6,7 +6,7 @@ use Rattle.roster_model.specs.declared.instance.Side.TheVariants.{Low}
 use Rattle.roster_model.specs.Arcs.{same_arc}
 use Rattle.roster_model.specs.Folds.{count}
 use Rattle.tree_pool.specs.Pools.{PoolTree}
-use Rattle.master_rows.proofs.Listed.{listed_step}
+use Rattle.master_rows.proofs.EntriesLemmas.{listed_step}
 use Rattle.master_rows.proofs.entries.Entries.add_cuts.Goals as goal
 
 pub loop-cut-preserved : goal.loop-cut-preserved

@@ -1,7 +1,7 @@
 use Rattle.std.proofs.Common.{ℕ, ℤ, pos, arith, ap, ◌∙◌}
 use Rattle.std.proofs.lemmas.Option.{slice_get-get_or}
 use Rattle.master_rows.specs.declared.rows.CellLetter.{CellLetter}
-use Rattle.master_rows.proofs.Listed.{listed_step}
+use Rattle.master_rows.proofs.EntriesLemmas.{listed_step}
 use Rattle.master_rows.proofs.entries.Entries.add_letters.Goals as goal
 
 pub loop-letter-preserved : goal.loop-letter-preserved

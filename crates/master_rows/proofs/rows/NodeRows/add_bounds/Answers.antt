@@ -1,7 +1,7 @@
 use Rattle.std.proofs.Common.{◌≡◌, ◌≤◌, arith, Bool, true, false, cond, refl, ◌∙◌}
 use mir.Val.{bool_byte}
 use Rattle.roster_model.specs.declared.instance.Cell.{Cell}
-use Rattle.master_rows.proofs.Added.{bounds_more, floors_before, ceilings_before}
+use Rattle.master_rows.proofs.AddedRows.{bounds_more, floors_before, ceilings_before}
 use Rattle.master_rows.proofs.rows.NodeRows.add_bounds.Goals as goal
 
 byte_is : (b : Bool) → bool_byte b ≡ cond b 1 0

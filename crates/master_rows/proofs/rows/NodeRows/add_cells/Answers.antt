@@ -1,4 +1,4 @@
-use Rattle.master_rows.proofs.Added.{cells_step}
+use Rattle.master_rows.proofs.AddedRows.{cells_step}
 use Rattle.master_rows.proofs.rows.NodeRows.add_cells.Goals as goal
 
 pub loop-cell-preserved : goal.loop-cell-preserved

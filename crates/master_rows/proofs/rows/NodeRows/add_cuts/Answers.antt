@@ -1,4 +1,4 @@
-use Rattle.master_rows.proofs.Added.{cuts_step}
+use Rattle.master_rows.proofs.AddedRows.{cuts_step}
 use Rattle.master_rows.proofs.rows.NodeRows.add_cuts.Goals as goal
 
 pub loop-cut-preserved : goal.loop-cut-preserved

@@ -3,9 +3,9 @@ use Rattle.std.specs.Int.{w64}
 use Rattle.roster_model.specs.declared.instance.Cell.{Cell}
 use Rattle.roster_model.proofs.CostBounds.{cells-le}
 use Rattle.master_laws.specs.Rounding.{first_ceiling}
-use Rattle.master_rows.proofs.Added.{floors-le}
+use Rattle.master_rows.proofs.AddedRows.{floors-le}
 use Rattle.master_rows.proofs.RowNumbers.{ceilings_begin}
-use Rattle.master_rows.proofs.Chained.{chained, ceilings_at}
+use Rattle.master_rows.proofs.NodeRowsLemmas.{chained, ceilings_at}
 use Rattle.master_rows.proofs.rows.NodeRows.new.Goals as goal
 
 few : (c : goal.After-rows-7-1) → length c.as_slice-cells.result.now ≤ 768

@@ -1,5 +1,5 @@
 use Rattle.std.proofs.Common.{ℕ, ℤ}
-use Rattle.master_rows.proofs.Brought.{listed_all}
+use Rattle.master_rows.proofs.TreeEntries.{listed_all}
 use Rattle.master_rows.proofs.rows.NodeRows.places_of.Goals as goal
 
 pub returns : goal.returns

@@ -1,7 +1,7 @@
 use Rattle.std.proofs.Common.{◌≡◌, sym, subst}
 use Rattle.span_cells.proofs.CellsLemmas.{ready-made}
 use Rattle.next_codes.specs.Views.{MarginalsView, IsMadeFor}
-use Rattle.next_codes.proofs.Made.{view_of, made-kept, made-marginals}
+use Rattle.next_codes.proofs.ViewsLemmas.{view_of, made-kept, made-marginals}
 use Rattle.next_codes.proofs.marginals.Marginals.fill.Goals as goal
 
 pub fill_totals-requires-clause-ready : goal.fill_totals-requires-clause-ready

@@ -5,7 +5,7 @@ use Rattle.arc_branch.specs.Paths.{IsBoxOf}
 use Rattle.node_path.specs.declared.turn.Turn.{Turn}
 use Rattle.node_path.specs.Paths.{PathView, IsPath, AreTurns}
 use Rattle.node_path.specs.Steps.{CanGoDown, HasTurned}
-use Rattle.node_path.proofs.GoingLemmas.{on-ok, base-first, base-fits, base-below, can-go, arrived}
+use Rattle.node_path.proofs.StepsLemmas.{on-ok, base-first, base-fits, base-below, can-go, arrived}
 use Rattle.node_path.proofs.path.NodePath.go_to.Goals as goal
 
 pub follow-requires-clause-base : goal.follow-requires-clause-base

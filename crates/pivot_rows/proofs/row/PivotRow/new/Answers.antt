@@ -1,5 +1,5 @@
 use Rattle.std.proofs.Common.{replicate, pos, ◌≡◌, ◌∙◌, rules}
-use Rattle.pivot_rows.proofs.Copied.{zeros_are}
+use Rattle.pivot_rows.proofs.RowCopies.{zeros_are}
 use Rattle.pivot_rows.proofs.row.PivotRow.new.Goals as goal
 
 pub returns : goal.returns

@@ -1,4 +1,4 @@
-use Rattle.proof_pieces.proofs.Empty.{too_long_reader}
+use Rattle.proof_pieces.proofs.LongTexts.{too_long_reader}
 use Rattle.proof_pieces.proofs.pieces.Pieces.new.Goals as goal
 
 pub returns-then-text-gt-MOST_TEXT-clause-value : goal.returns-then-text-gt-MOST_TEXT-clause-value

@@ -1,6 +1,6 @@
 use Rattle.std.proofs.Common.{arith}
-use Rattle.roster_part.proofs.Counting.{covered-few}
-use Rattle.roster_part.proofs.Tallied.{covered-held}
+use Rattle.roster_part.proofs.ShiftCounts.{covered-few}
+use Rattle.roster_part.proofs.CountersLemmas.{covered-held}
 use Rattle.roster_part.proofs.counter.Counter.coverage.Goals as goal
 
 pub returns-clause-within : goal.returns-clause-within

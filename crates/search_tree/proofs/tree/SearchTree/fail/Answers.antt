@@ -4,7 +4,7 @@ use Rattle.search_tree.specs.Views.{TreeView}
 use Rattle.search_tree.specs.Steps.{IsHalfOf}
 use Rattle.search_tree.specs.Asked.{AsksFailed, IsProcessed}
 use Rattle.search_tree.specs.contracts.tree.SearchTree.{the_view}
-use Rattle.search_tree.proofs.Leading.{leaf-room, failed-step}
+use Rattle.search_tree.proofs.AskedLemmas.{leaf-room, failed-step}
 use Rattle.search_tree.proofs.tree.SearchTree.fail.Goals as goal
 
 -- src/tree.rt:175:19

@@ -6,7 +6,7 @@ use Rattle.open_nodes.specs.Queues.{SameLeaves}
 use Rattle.roster_model.specs.Folds.{count}
 use Rattle.search_tree.specs.Trees.{IsTree}
 use Rattle.search_tree.specs.Steps.{half_seat}
-use Rattle.search_tree.proofs.Taking.{first-tree}
+use Rattle.search_tree.proofs.NextLeaves.{first-tree}
 use Rattle.search_tree.proofs.tree.SearchTree.new.Goals as goal
 
 -- src/tree.rt:67:5

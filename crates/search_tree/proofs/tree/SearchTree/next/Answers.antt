@@ -4,7 +4,7 @@ use Rattle.open_nodes.specs.declared.leaf.OpenLeaf.{OpenLeaf as Waiting}
 use Rattle.search_tree.specs.Views.{TreeView}
 use Rattle.search_tree.specs.Trees.{IsTree}
 use Rattle.search_tree.specs.contracts.tree.SearchTree.{the_view}
-use Rattle.search_tree.proofs.Taking.{next-none, next-past, next-left, next-some}
+use Rattle.search_tree.proofs.NextLeaves.{next-none, next-past, next-left, next-some}
 use Rattle.search_tree.proofs.tree.SearchTree.next.Goals.{then-leaf-limit, else-leaf-limit}
 use Rattle.search_tree.proofs.tree.SearchTree.next.Goals as goal
 

@@ -2,7 +2,7 @@ use Rattle.std.proofs.Common.{◌+◌, ◌<◌, length, sym, subst, refl}
 use Rattle.search_tree.specs.Views.{TreeView}
 use Rattle.search_tree.specs.Asked.{AsksPinned, IsProcessed}
 use Rattle.search_tree.specs.contracts.tree.SearchTree.{the_view}
-use Rattle.search_tree.proofs.Leading.{leaf-room, pinned-step}
+use Rattle.search_tree.proofs.AskedLemmas.{leaf-room, pinned-step}
 use Rattle.search_tree.proofs.tree.SearchTree.pin.Goals as goal
 
 -- src/tree.rt:141:9

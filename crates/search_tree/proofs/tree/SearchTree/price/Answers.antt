@@ -5,7 +5,7 @@ use Rattle.open_nodes.specs.Queues.{SameLeaves}
 use Rattle.search_tree.specs.Views.{TreeView}
 use Rattle.search_tree.specs.Asked.{AsksPriced, IsProcessed}
 use Rattle.search_tree.specs.contracts.tree.SearchTree.{the_view}
-use Rattle.search_tree.proofs.Leading.{leaf-room, priced-step}
+use Rattle.search_tree.proofs.AskedLemmas.{leaf-room, priced-step}
 use Rattle.search_tree.proofs.tree.SearchTree.price.Goals as goal
 
 -- src/tree.rt:157:9

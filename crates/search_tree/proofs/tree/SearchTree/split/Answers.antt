@@ -3,7 +3,7 @@ use Rattle.search_tree.specs.Views.{TreeView}
 use Rattle.search_tree.specs.Steps.{IsHalfOf}
 use Rattle.search_tree.specs.Asked.{AsksSplit, IsHalved}
 use Rattle.search_tree.specs.contracts.tree.SearchTree.{the_view}
-use Rattle.search_tree.proofs.Leading.{split-room, split-step}
+use Rattle.search_tree.proofs.AskedLemmas.{split-room, split-step}
 use Rattle.search_tree.proofs.tree.SearchTree.split.Goals as goal
 
 -- src/tree.rt:130:19

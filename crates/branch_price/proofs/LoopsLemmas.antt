@@ -1,0 +1,172 @@
+-- The turns of a search, and its two ends.
+use Rattle.std.proofs.Common.{◌≡◌, ℕ, arith, ◌+◌, ◌≤◌, ◌<◌, inl, inr, max, Bool, Option, None, Some, IfSome, List, [], ◌∷◌, ◌++◌, length, refl, sym, subst, ap, ◌∙◌}
+use Rattle.std.specs.Prelude.{◌≢◌}
+use Rattle.roster_model.specs.declared.instance.Cut.{Cut}
+use Rattle.roster_model.specs.declared.instance.Done.{Done}
+use Rattle.roster_model.specs.declared.instance.Done.TheVariants.{Equal, NoRoster, TurnsOut}
+use Rattle.roster_model.specs.declared.instance.Instance.{Instance}
+use Rattle.roster_model.specs.Cuts.{base_cuts}
+use Rattle.roster_model.specs.GreatestCost.{greatest_cost}
+use Rattle.roster_model.specs.SoundInstance.{IsSoundInstance}
+use Rattle.bound_laws.specs.Infeasible.{IsPlainlyInfeasible}
+use Rattle.certificates.specs.Nodes.{low_cut, high_cut}
+use Rattle.certificate_laws.specs.Accepted.{bound_number}
+use Rattle.parse_graph.specs.Graphs.{GraphView, IsGraph}
+use Rattle.growing_laws.specs.Grown.{Grown, tip, fork, SomeTip, raised, tip_bound, shown}
+use Rattle.growing_laws.specs.Boxes.{IsOpenLeaf}
+use Rattle.growing_laws.specs.States.{IsTip}
+use Rattle.growing_laws.proofs.GrownLemmas.{some-map, some-both, least-bound}
+use Rattle.growing_laws.proofs.StatesLemmas.{growing-closed, growing-few}
+use Rattle.open_nodes.specs.declared.leaf.OpenLeaf.{OpenLeaf}
+use Rattle.search_tree.specs.Views.{TreeView}
+use Rattle.search_tree.proofs.TreeLaws.{queued-leaf}
+use Rattle.candidate_rosters.specs.declared.roster.Roster.{Roster}
+use Rattle.offers.specs.Offers.{limit_of, cost_of}
+use Rattle.offers.proofs.Limits.{cost-most, limit-most}
+use Rattle.branch_price.specs.declared.progress.Progress.{Progress}
+use Rattle.branch_price.specs.Searching.{site_of, IsSearching}
+use Rattle.branch_price.specs.Steps.{AsksTurn, IsTurned, IsBegun}
+use Rattle.branch_price.specs.Ends.{IsNext, IsEnd, IsDoneAt, IsClosedBy}
+use Rattle.branch_price.specs.Loops.{IsLooping}
+use Rattle.branch_price.proofs.EndsLemmas.{final-is}
+use Rattle.branch_price.proofs.ShownLimit.{shown-limit}
+
+-- what holds of some leaf and speaks of none
+some-fact : (C : Type 0) (above : ℕ) (cuts : List Cut) (t : Grown) → SomeTip (λ up path k l. C) above cuts t → C
+some-fact C above cuts (tip k l) h = h
+some-fact C above cuts (fork k a b own low high) (inl h) = some-fact C (raised above own) (cuts ++ low_cut a b ∷ []) low h
+some-fact C above cuts (fork k a b own low high) (inr h) = some-fact C (raised above own) (cuts ++ high_cut a b ∷ []) high h
+
+pub begun-loops : (i : Instance) (v : GraphView) (strict : Bool) (before turns : ℕ) (p : Progress) → IsBegun i v p
+    → IsLooping i v strict before before turns p
+begun-loops i v strict before turns p is =
+    let t = is.is strict before in
+    let none = is.none in
+    record { low = 0; tree = t.0; is = t.1; rises = omega arith; within = omega (arith, none) }
+
+module _ (i : Instance) (v : GraphView) (strict : Bool) (before now turns : ℕ) (few : turns ≤ 10000) (old p : Progress) (leaf : OpenLeaf)
+    (is : IsLooping i v strict before now turns old) (next : IsNext i old p (Some leaf)) where
+  taken : (leaf.bound < limit_of i old.best) × IsSearching (site_of i v strict before) now leaf.bound (leaf ∷ []) p is.tree
+  taken = next.taken v strict before now is.low is.tree is.is
+
+  below : leaf.bound < limit_of i p.best
+  below = subst (λ (r : Option Roster). leaf.bound < limit_of i r) (sym next.best) taken.0
+
+  processed-less : p.tree.processed ≢ turns → p.tree.processed < turns
+  processed-less apart = let e = next.processed in let w = is.within in order p.tree.processed turns apart (omega (arith, e, w))
+    where
+      order : (n m : ℕ) → n ≢ m → n ≤ m → n < m
+      order n m h le = grind arith
+
+  pub asks-turn : (same : Bool) → same ≡ strict → p.tree.processed ≢ turns → AsksTurn i v same now p leaf
+  asks-turn same e apart = record {
+    before = before;
+    tree = is.tree;
+    is = subst (λ (s : Bool). IsSearching (site_of i v s before) now leaf.bound (leaf ∷ []) p is.tree) (sym e) taken.1;
+    below = below;
+    few = let k = processed-less apart in omega (arith, k, few);
+  }
+
+  pub turn-loops : (same : Bool) → same ≡ strict → p.tree.processed ≢ turns → (later : ℕ) → now ≤ later → (new : Progress)
+      → ((asked : AsksTurn i v same now p leaf) → IsTurned i v same asked.before later leaf.bound p new)
+      → IsLooping i v strict before later turns new
+  turn-loops same e apart later le new turned =
+      let asked : AsksTurn i v same now p leaf = record {
+        before = before;
+        tree = is.tree;
+        is = subst (λ (s : Bool). IsSearching (site_of i v s before) now leaf.bound (leaf ∷ []) p is.tree) (sym e) taken.1;
+        below = below;
+        few = let k = processed-less apart in omega (arith, k, few);
+      } in
+      let t : IsTurned i v same before later leaf.bound p new = turned asked in
+      let k = processed-less apart in
+      let one = t.processed in
+      let up = is.rises in
+      record {
+        low = leaf.bound;
+        tree = t.tree;
+        is = subst (λ (s : Bool). IsSearching (site_of i v s before) later leaf.bound [] new t.tree) e t.is;
+        rises = omega (arith, up, le);
+        within = omega (arith, one, k);
+      }
+
+  -- one more node is processed
+  pub turn-nears : (same : Bool) → same ≡ strict → p.tree.processed ≢ turns → (later : ℕ) (new : Progress)
+      → ((asked : AsksTurn i v same now p leaf) → IsTurned i v same asked.before later leaf.bound p new)
+      → (old.tree.processed < turns) × (new.tree.processed ≡ old.tree.processed + 1)
+  turn-nears same e apart later new turned =
+      let t = turned (asks-turn same e apart) in
+      let one = t.processed in
+      let k = processed-less apart in
+      let s = next.processed in
+      (omega (arith, k, s), omega (arith, one, s))
+
+  leaf-open : SomeTip (λ up path k l. (k ≡ leaf.kept.seat) × IsOpenLeaf l × (tip_bound up l ≡ leaf.bound)) 0 (base_cuts i) is.tree
+  leaf-open = queued-leaf is.tree leaf p.tree.waiting (base_cuts i) taken.1.tree.queue
+
+  -- the tree shows the bound of the leaf in hand
+  shown-leaf : shown is.tree ≡ leaf.bound
+  shown-leaf =
+      let least = least-bound 0 (base_cuts i) is.tree in
+      let w = max 0 (shown is.tree) in
+      let under : w ≤ leaf.bound = some-fact (w ≤ leaf.bound) 0 (base_cuts i) is.tree
+      (some-both (λ up path k l. w ≤ tip_bound up l) (λ up path k l. (k ≡ leaf.kept.seat) × IsOpenLeaf l × (tip_bound up l ≡ leaf.bound)) (λ up path k l. w ≤ leaf.bound)
+      (λ up path k l g h. let e = h.2 in omega (arith, g, e)) 0 (base_cuts i) is.tree least.each leaf-open) in
+      let over : leaf.bound ≤ w = some-fact (leaf.bound ≤ w) 0 (base_cuts i) is.tree
+      (some-both (IsTip i (limit_of i p.best) leaf.bound (length p.tree.seats) is.tree) (λ up path k l. tip_bound up l ≡ w) (λ up path k l. leaf.bound ≤ w)
+      (λ up path k l g h. let b = g.bound in omega (arith, b, h)) 0 (base_cuts i) is.tree taken.1.tree.growing.tips least.attained) in
+      omega (arith, under, over)
+
+  pub turns-end : IsSoundInstance i → p.tree.processed ≡ turns → IsEnd i v strict before now turns p (Some leaf.bound) TurnsOut
+  turns-end sound all = record {
+    low = leaf.bound;
+    tree = is.tree;
+    final = final-is (site_of i v strict before) now leaf.bound (leaf ∷ []) p is.tree taken.1;
+    shows = shown-leaf;
+    small = let m = limit-most i p.best sound taken.1.best in omega (arith, m, below);
+    within = omega (arith, all);
+    few = few;
+    ended = λ e. let s : leaf.bound ≡ limit_of i p.best = ap (bound_number i) e in omega (arith, s, below);
+    spent = λ done. record {
+      all = all;
+      few = λ points are.
+          let some = some-map (λ up path k l. (k ≡ leaf.kept.seat) × IsOpenLeaf l × (tip_bound up l ≡ leaf.bound)) (λ up path k l. IsOpenLeaf l) (λ up path k l h. h.1) 0 (base_cuts i) is.tree leaf-open in
+          let few = growing-few i strict (limit_of i p.best) leaf.bound (length p.tree.seats) points is.tree sound taken.1.tree.growing are some in
+          let e = taken.1.tree.processed in
+          omega (arith, few, e, all);
+    };
+  }
+
+-- where no open leaf leaves a bound below the limit, the bound is the cost of the best roster
+module _ (i : Instance) (sound : IsSoundInstance i) (busy : IsPlainlyInfeasible i → ⊥) (v : GraphView) (graph : IsGraph i.grammar v) (strict : Bool) (before now turns : ℕ) (few : turns ≤ 10000) where
+  shows-limit : (old p : Progress) (is : IsLooping i v strict before now turns old) → IsNext i old p None → shown is.tree ≡ limit_of i p.best
+  shows-limit old p is next =
+      let end = next.taken v strict before now is.low is.tree is.is in
+      let best : limit_of i p.best ≡ limit_of i old.best = ap (limit_of i) next.best in
+      let over = growing-closed i strict (limit_of i old.best) is.low (length old.tree.seats) is.tree is.is.tree.growing end.0 in
+      let under = shown-limit i sound v graph busy strict (limit_of i p.best) is.low (length p.tree.seats) is.tree end.1.growing p.best end.1.best in
+      omega (arith, best, over, under)
+
+  closed-at : (old : Progress) (w : TreeView) (best : Option Roster) (is : IsLooping i v strict before now turns old) → IsNext i old (record { tree = w; best = best }) None
+      → (bound : Option ℕ) (done : Done) → bound ≡ cost_of best → IfSome bound (λ b. b ≤ greatest_cost i) → IsDoneAt (cost_of best) bound done → done ≢ TurnsOut
+      → IsEnd i v strict before now turns (record { tree = w; best = best }) bound done
+  closed-at old w best is next bound done same small ended more = record {
+    low = is.low;
+    tree = is.tree;
+    final = (next.taken v strict before now is.low is.tree is.is).1;
+    shows = shows-limit old (record { tree = w; best = best }) is next ∙ ap (bound_number i) (sym same);
+    small = small;
+    within = let e = next.processed in let k = is.within in omega (arith, e, k);
+    few = few;
+    ended = ended;
+    spent = λ e. absurd (more e);
+  }
+
+  pub closed-end : (old : Progress) (w : TreeView) (best : Option Roster) (is : IsLooping i v strict before now turns old) → IsNext i old (record { tree = w; best = best }) None
+      → (said : Option ℕ × Done) → IsClosedBy best said → IsEnd i v strict before now turns (record { tree = w; best = best }) said.0 said.1
+  closed-end old w None is next said closed =
+      subst (λ (s : Option ℕ × Done). IsEnd i v strict before now turns (record { tree = w; best = None }) s.0 s.1) (sym closed)
+      (closed-at old w None is next None NoRoster refl tt (refl, refl) (λ e. absurd (cc)))
+  closed-end old w (Some r) is next said closed =
+      subst (λ (s : Option ℕ × Done). IsEnd i v strict before now turns (record { tree = w; best = Some r }) s.0 s.1) (sym closed)
+      (closed-at old w (Some r) is next (Some r.cost) Equal refl (cost-most i r sound (next.taken v strict before now is.low is.tree is.is).1.best) (refl, refl) (λ e. absurd (cc)))
