@@ -8,7 +8,7 @@ use roster_model::{List, Memory};
 use std::alloc::Global;
 
 // An arc whose sum is a fraction.
-#[derive(Clone, Copy, Debug, Drop)]
+#[derive(Clone, Copy, Drop)]
 struct Candidate {
     arc: u32,
     // Its sum rounded down.

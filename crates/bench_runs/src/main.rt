@@ -27,12 +27,15 @@ mod pricing;
 mod root;
 mod row_steps;
 
+ghost use Rattle.roster_model.specs.Sound.{IsSound};
+
 use fault::BenchFault;
 use links::print_links;
 use mults::last_priced;
 use node_master::NodeEnd;
 use pricing::{built, last_cheapest, last_fill};
 use root::{RootEnd, last_root};
+use roster_model::Grammar;
 use row_steps::row_steps;
 use rules_text::read_rules;
 use std::alloc::Global;
@@ -64,19 +67,36 @@ struct Call<'a> {
     demand: &'a str,
 }
 
+/// Passes over the graph of a rules text with a price on the arc of each of so many cuts.
+fn priced(alloc: Global, text: &[u8], numbers: Numbers) -> Result<Found, BenchFault> {
+    let grammar = read_rules(alloc, text)?;
+    let least = last_priced(alloc, grammar, numbers.times, numbers.count, numbers.factor)?;
+    Ok(Found::Sum(least))
+}
+
+/// Does what the word says for a grammar.
+fn for_grammar(
+    alloc: Global,
+    what: &str,
+    grammar: &Grammar,
+    times: u32,
+) -> Result<Found, BenchFault>
+    requires { IsSound grammar.now }
+{
+    match what {
+        "cheapest" => Ok(Found::Sum(last_cheapest(alloc, grammar, times)?)),
+        "build" => Ok(Found::Arcs(built(alloc, grammar, times)?)),
+        _ => Ok(Found::Sum(last_fill(alloc, grammar, times)?)),
+    }
+}
+
 /// Does what the word says, for the grammar of a rules text.
 fn answer(alloc: Global, what: &str, text: &[u8], numbers: Numbers) -> Result<Found, BenchFault> {
-    let grammar = read_rules(alloc, text)?;
-    let times = numbers.times;
-    match what {
-        "cheapest" => Ok(Found::Sum(last_cheapest(alloc, &grammar, times)?)),
-        "build" => Ok(Found::Arcs(built(alloc, &grammar, times)?)),
-        "mults" => {
-            let least = last_priced(alloc, grammar, times, numbers.count, numbers.factor)?;
-            Ok(Found::Sum(least))
-        }
-        _ => Ok(Found::Sum(last_fill(alloc, &grammar, times)?)),
+    if what == "mults" {
+        return priced(alloc, text, numbers);
     }
+    let grammar = read_rules(alloc, text)?;
+    for_grammar(alloc, what, &grammar, numbers.times)
 }
 
 /// Does what the word says, and prints what was found.

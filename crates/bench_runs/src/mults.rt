@@ -107,6 +107,21 @@ fn priced(
     Ok(passed(graph, &mut pricer, &prices, times))
 }
 
+/// Builds the graph of a day, and passes over it so.
+fn priced_day(
+    alloc: Global,
+    day: &Instance,
+    count: u16,
+    factor: u64,
+    times: u32,
+) -> Result<Option<i128>, BenchFault>
+    requires sound { IsSoundInstance day.now }
+    requires cells { length day.now.cells ≡ 0 }
+{
+    let graph = graph_of(alloc, &day.grammar)?;
+    priced(alloc, day, &graph, count, factor, times)
+}
+
 /// Returns the last least sum of so many passes over the graph of a grammar, with a price on the arc
 /// of each of so many cuts. All prices are multiples of the factor.
 ///
@@ -121,6 +136,5 @@ pub fn last_priced(
     factor: u64,
 ) -> Result<Option<i128>, BenchFault> {
     let day = day_of(alloc, grammar)?;
-    let graph = graph_of(alloc, &day.grammar)?;
-    priced(alloc, &day, &graph, count, factor, times)
+    priced_day(alloc, &day, count, factor, times)
 }

@@ -55,6 +55,14 @@ fn passed(graph: &Graph, pricer: &mut Pricer, times: u32) -> Option<i128>
     least
 }
 
+/// Makes a pricer and so many passes over the graph, and returns the last least sum.
+fn last_pass(alloc: Global, graph: &Graph, times: u32) -> Result<Option<i128>, BenchFault>
+    requires { HasGrammar graph.now }
+{
+    let mut pricer = Pricer::new(alloc, graph)?;
+    Ok(passed(graph, &mut pricer, times))
+}
+
 /// Returns the last least sum of so many passes over the graph of a sound grammar.
 pub fn last_cheapest(
     alloc: Global,
@@ -64,8 +72,7 @@ pub fn last_cheapest(
     requires { IsSound grammar.now }
 {
     let graph = graph_of(alloc, grammar)?;
-    let mut pricer = Pricer::new(alloc, &graph)?;
-    Ok(passed(&graph, &mut pricer, times))
+    last_pass(alloc, &graph, times)
 }
 
 /// Builds the graph of a sound grammar so often, and returns how many arcs it has.

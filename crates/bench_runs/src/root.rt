@@ -127,18 +127,19 @@ fn solve_again(
     day: &Instance,
     graph: &Graph,
     cuts: &[Cut],
+    pricer: &mut Pricer,
     times: u32,
-) -> Result<Option<RootEnd>, Memory>
+) -> Result<Option<RootEnd>, BenchFault>
     requires sound { IsSoundInstance day.now }
     requires open { IsOpenDay day.now }
     requires graph { IsGraph day.now.grammar graph.now }
+    requires pricer { IsMadeFor graph.now pricer.old }
     requires cuts { Each (IsNodeCut day.now) cuts.now }
     requires few { length cuts.now ≤ 16 }
 {
-    let mut pricer = Pricer::new(alloc, graph)?;
     let mut last = None;
     for _ in 0..times {
-        last = Some(solve_root(alloc, day, graph, cuts, &mut pricer)?);
+        last = Some(solve_root(alloc, day, graph, cuts, pricer)?);
     }
     Ok(last)
 }
@@ -148,14 +149,45 @@ fn solve_open(
     alloc: Global,
     day: &Instance,
     graph: &Graph,
+    pricer: &mut Pricer,
     times: u32,
-) -> Result<Option<RootEnd>, Memory>
+) -> Result<Option<RootEnd>, BenchFault>
+    requires sound { IsSoundInstance day.now }
+    requires open { IsOpenDay day.now }
+    requires graph { IsGraph day.now.grammar graph.now }
+    requires pricer { IsMadeFor graph.now pricer.old }
+{
+    let cuts = base_cuts(alloc, day)?;
+    solve_again(alloc, day, graph, &cuts, pricer, times)
+}
+
+/// Makes a pricer of the graph, and solves the master of the root with it.
+fn solve_on(
+    alloc: Global,
+    day: &Instance,
+    graph: &Graph,
+    times: u32,
+) -> Result<Option<RootEnd>, BenchFault>
     requires sound { IsSoundInstance day.now }
     requires open { IsOpenDay day.now }
     requires graph { IsGraph day.now.grammar graph.now }
 {
-    let cuts = base_cuts(alloc, day)?;
-    solve_again(alloc, day, graph, &cuts, times)
+    let mut pricer = Pricer::new(alloc, graph)?;
+    solve_open(alloc, day, graph, &mut pricer, times)
+}
+
+/// Solves the master of the root over the graph of a day, where the day is one that has such a master.
+fn solve_checked(
+    alloc: Global,
+    day: &Instance,
+    graph: &Graph,
+    times: u32,
+) -> Result<Option<RootEnd>, BenchFault>
+    requires sound { IsSoundInstance day.now }
+    requires graph { IsGraph day.now.grammar graph.now }
+{
+    check_day(alloc, day, graph)?;
+    solve_on(alloc, day, graph, times)
 }
 
 /// Solves the master of the root of a day so often; `None` where that is not asked for.
@@ -163,9 +195,7 @@ fn solve_day(alloc: Global, day: &Instance, times: u32) -> Result<Option<RootEnd
     requires sound { IsSoundInstance day.now }
 {
     let graph = graph_of(alloc, &day.grammar)?;
-    check_day(alloc, day, &graph)?;
-    let last = solve_open(alloc, day, &graph, times)?;
-    Ok(last)
+    solve_checked(alloc, day, &graph, times)
 }
 
 /// Reads a day of two texts.

@@ -161,6 +161,37 @@ fn search_along<M: Master>(
     found(alloc, instance, progress, bound, done)
 }
 
+/// Searches at a desk, from the root.
+fn search_at<M: Master>(
+    alloc: Global,
+    instance: &Instance,
+    graph: &Graph,
+    derives: &[bool],
+    turns: u32,
+    desk: &mut Desk,
+    pool: &mut Pool,
+    master: &mut M,
+) -> Result<Found, Memory>
+    requires sound { IsSoundInstance instance.now }
+    requires busy { IsPlainlyInfeasible instance.now → ⊥ }
+    requires graph { IsGraph instance.now.grammar graph.now }
+    requires told { TellsDerived instance.now.grammar derives.now }
+    requires few { turns ≤ 10000 }
+    requires desk { IsDesk instance.now graph.now desk.old }
+    requires pool { IsPool instance.now.grammar pool.old }
+    ensures found { IfOk result (IsFound instance.now (M.strict master.old) turns) }
+    ensures counted { IfOk result (AreCounted instance.now (M.refused master.old) (M.refused master.new)) }
+    ensures rises { M.refused master.old ≤ M.refused master.new }
+    ensures strict_stays { M.strict master.new ≡ M.strict master.old }
+    ensures pool { IsPool instance.now.grammar pool.new }
+    ensures grown { IsGrown pool.old pool.new }
+{
+    let mut path = NodePath::new(alloc, instance, graph)?;
+    search_along(
+        alloc, instance, graph, derives, turns, &mut path, desk, pool, master,
+    )
+}
+
 /// Searches a day that is not plainly infeasible.
 fn search_day<M: Master>(
     alloc: Global,
@@ -184,11 +215,12 @@ fn search_day<M: Master>(
     ensures pool { IsPool instance.now.grammar pool.new }
     ensures grown { IsGrown pool.old pool.new }
 {
-    let mut desk = Desk::new(alloc, instance, graph)?;
-    let mut path = NodePath::new(alloc, instance, graph)?;
-    search_along(
-        alloc, instance, graph, derives, turns, &mut path, &mut desk, pool, master,
-    )
+    match Desk::new(alloc, instance, graph) {
+        Ok(mut desk) => search_at(
+            alloc, instance, graph, derives, turns, &mut desk, pool, master,
+        ),
+        Err(fault) => Err(fault),
+    }
 }
 
 /// Searches for a roster of least cost, with at most so many turns, 1 to 10,000. Each turn processes one

@@ -83,6 +83,28 @@ within-set most old p z inside small within k = by (same_or_not k p)
     by (inl e) = subst (Within most) (sym (ap (λ (n : ℕ). number_at (set old p z) n) e ∙ get_or-set_same old p z (pos 0) inside)) within
     by (inr ne) = subst (Within most) (sym (get_or-set_other old p k z (pos 0) ne)) (small k)
 
+before_or_here : (k n : ℕ) → k < n + 1 → (k < n) ⊎ (k ≡ n)
+before_or_here k n h = grind (arith, h)
+
+-- one more arc was asked for, and its number is what it costs
+pub asked-each : (cost : ArcKey → ℤ) (arcs : List ArcKey) (old : List ℤ) (n : ℕ) (one : ArcKey) (z : ℤ) → n < length old → slice_get arcs n ≡ Some one → z ≡ cost one
+    → ((k : ℕ) (a : ArcKey) → k < n → slice_get arcs k ≡ Some a → number_at old k ≡ cost a)
+    → (k : ℕ) (a : ArcKey) → k < n + 1 → slice_get arcs k ≡ Some a → number_at (set old n z) k ≡ cost a
+asked-each cost arcs old n one z inside at costs before k a lt here = by (before_or_here k n lt)
+  where
+    by : (k < n) ⊎ (k ≡ n) → number_at (set old n z) k ≡ cost a
+    by (inl less) = get_or-set_other old n k z (pos 0) (λ (same : k ≡ n). absurd (omega (arith, less, same))) ∙ before k a less here
+    by (inr e) =
+        ap (λ (q : ℕ). number_at (set old n z) q) e ∙ get_or-set_same old n z (pos 0) inside ∙ costs ∙ ap cost (same_Some one a (sym at ∙ ap (λ (q : ℕ). slice_get arcs q) (sym e) ∙ here))
+
+-- and it is small
+pub asked-small : (most : ℕ) (old : List ℤ) (n : ℕ) (z : ℤ) → n < length old → Within most z → ((k : ℕ) → k < n → Within most (number_at old k)) → (k : ℕ) → k < n + 1 → Within most (number_at (set old n z) k)
+asked-small most old n z inside small before k lt = by (before_or_here k n lt)
+  where
+    by : (k < n) ⊎ (k ≡ n) → Within most (number_at (set old n z) k)
+    by (inl less) = subst (Within most) (sym (get_or-set_other old n k z (pos 0) (λ (same : k ≡ n). absurd (omega (arith, less, same))))) (before k less)
+    by (inr e) = subst (Within most) (sym (ap (λ (q : ℕ). number_at (set old n z) q) e ∙ get_or-set_same old n z (pos 0) inside)) small
+
 -- one more place is listed, and its number may be any
 pub free-added : (places : List ℕ) (n p : ℕ) (old : List ℤ) (z : ℤ) → n < length places → AreFreeBut places 0 n old → AreFreeBut (set places n p) 0 (n + 1) (set old p z)
 free-added places n p old z inside free k = by (same_or_not k p) (free k)

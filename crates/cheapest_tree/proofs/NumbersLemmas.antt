@@ -157,6 +157,12 @@ module _ (rules : List ℤ) (n : ℕ) (z : ℤ) (inside : n + 1 < length rules) 
       by (inl e) = subst (Within most) (sym (ap (λ (q : ℕ). get_or next q (pos 0)) e ∙ get_or-set_same rules (n + 1) z (pos 0) inside)) within
       by (inr h) = subst (Within most) (sym (other k (λ e. omega (arith, e, h)))) (small k (omega (arith, h)))
 
+-- the first of the rules' prices is 0
+pub first-small : (most : ℕ) (rules : List ℤ) (z : ℤ) → 0 < length rules → z ≡ pos 0 → (k : ℕ) → k ≤ 0 → Within most (get_or (set rules 0 z) k (pos 0))
+first-small most rules z inside is k le =
+    let e : k ≡ 0 = omega (arith, le) in
+    subst (Within most) (sym (ap (λ (q : ℕ). get_or (set rules 0 z) q (pos 0)) e ∙ get_or-set_same rules 0 z (pos 0) inside ∙ is)) (record { low = omega (arith, ints); high = omega (arith, ints) })
+
 -- how great the sum of two prices is
 pub two-prices : (most : ℕ) (x y z : ℤ) → Within most x → Within most y → z ≡ x +ℤ y → Within (most + most) z
 two-prices most x y z one two is = record { low = omega (arith, ints, one.low, two.low, is); high = omega (arith, ints, one.high, two.high, is) }

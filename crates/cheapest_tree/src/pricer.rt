@@ -7,6 +7,7 @@ ghost use Rattle.tree_laws.specs.LeastTrees.{HoldsLeastTree};
 ghost use Rattle.parse_graph.specs.Graphs.{GraphView, HasGrammar, IsGraph};
 ghost use Rattle.roster_model.specs.declared.grammar.ArcKey.{ArcKey as Key};
 ghost use Rattle.cheapest_tree.specs.Pricers.{IsMadeFor, IsFilled, AsksTree};
+ghost use Rattle.cheapest_tree.specs.Rooms.{IsRoomFor};
 ghost use Rattle.cheapest_tree.specs.Under.{IsTop, IsReady, IsDayTreeUnder, AsksTreeUnder, HoldsLeastUnder};
 
 use crate::fill_slots::fill_slots;
@@ -81,6 +82,45 @@ fn values_of(alloc: Global, nodes: u32, letters: &[Spot]) -> Result<Values, Memo
     Ok(Values { cells, best })
 }
 
+// What calls work in.
+#[derive(Drop)]
+struct Rooms {
+    narrow: PassRoom<i64>,
+    wide: PassRoom<i128>,
+}
+
+// Takes the memory for passes over so many arcs and slots.
+fn rooms_of(alloc: Global, arcs: usize, slots: usize) -> Result<Rooms, Memory>
+    ensures narrow { IfOk result (λ r. IsRoomFor arcs slots r.narrow) }
+    ensures wide { IfOk result (λ r. IsRoomFor arcs slots r.wide) }
+{
+    let narrow = PassRoom::new(alloc, arcs, slots)?;
+    let wide = PassRoom::new(alloc, arcs, slots)?;
+    Ok(Rooms { narrow, wide })
+}
+
+// What the calls of a pricer change.
+#[derive(Drop)]
+struct Work {
+    values: Values,
+    rooms: Rooms,
+}
+
+// Takes the memory for what the calls of a pricer change, where these letters have slots.
+fn work_of(alloc: Global, graph: &Graph, letters: &[Spot]) -> Result<Work, Memory>
+    ensures cells { IfOk result (λ w. length w.values.cells.items
+        ≡ length graph.now.nodes + 1 + length letters.now) }
+    ensures best { IfOk result (λ w. length w.values.best.items ≡ length graph.now.nodes) }
+    ensures narrow { IfOk result (λ w. IsRoomFor (length graph.now.arcs) (length w.values.cells.items)
+        w.rooms.narrow) }
+    ensures wide { IfOk result (λ w. IsRoomFor (length graph.now.arcs) (length w.values.cells.items)
+        w.rooms.wide) }
+{
+    let values = values_of(alloc, graph.nodes(), letters)?;
+    let rooms = rooms_of(alloc, graph.arcs().len(), values.cells.len())?;
+    Ok(Work { values, rooms })
+}
+
 impl Pricer {
     /// Returns a pricer for the trees of a graph. Later calls take the same graph.
     ///
@@ -91,18 +131,14 @@ impl Pricer {
     {
         let joined = join(alloc, graph)?;
         let order = find_order(alloc, graph, &joined.links, joined.letters.as_slice())?;
-        let values = values_of(alloc, graph.nodes(), joined.letters.as_slice())?;
-        let slots = values.cells.len();
-        let arcs = graph.arcs().len();
-        let narrow = PassRoom::new(alloc, arcs, slots)?;
-        let wide = PassRoom::new(alloc, arcs, slots)?;
+        let Work { values, rooms } = work_of(alloc, graph, joined.letters.as_slice())?;
         Ok(Pricer {
             links: joined.links,
             letters: joined.letters,
             order,
             values: values.cells,
-            narrow,
-            wide,
+            narrow: rooms.narrow,
+            wide: rooms.wide,
             best: values.best,
         })
     }

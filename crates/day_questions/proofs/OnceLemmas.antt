@@ -1,13 +1,13 @@
 -- Each question has one answer.
-use Rattle.std.proofs.Common.{◌≡◌, ◌⊎◌, inl, inr, ℕ, zero, suc, ℤ, pos, ◌+◌, ◌-◌, ◌<◌, ◌≤◌, ◌==◌, Bool, true, false, Option, None, Some, List, [], ◌∷◌, ◌++◌, length, arith, refl, sym, ap, subst, ◌∙◌}
-use Rattle.std.specs.Prelude.{codes, ◌<ℤ◌}
+use Rattle.std.proofs.Common.{◌≡◌, ◌⊎◌, inl, inr, ℕ, pos, ◌+◌, ◌-◌, ◌≤◌, ◌==◌, Bool, true, false, Option, None, Some, List, [], ◌∷◌, ◌++◌, length, arith, refl, sym, ap, subst, ◌∙◌}
+use Rattle.std.specs.Prelude.{codes}
 use Rattle.std.proofs.lemmas.Int.{ints}
 use Rattle.roster_model.specs.declared.grammar.CodeDef.{CodeDef}
 use Rattle.roster_model.specs.declared.grammar.Grammar.{Grammar}
 use Rattle.roster_model.specs.Arcs.{ComesFirst}
 use Rattle.roster_model.specs.Folds.{Each, In}
 use Rattle.roster_model.specs.Shifts.{IsShift, IsPrice}
-use Rattle.roster_model.specs.Trees.{Parts, IsDayTree, steps}
+use Rattle.roster_model.specs.Trees.{Parts, IsDayTree}
 use Rattle.text_lines.specs.Numbers.{number_text}
 use Rattle.text_lines.specs.Written.{written}
 use Rattle.grammar_core.specs.Lists.{IsSpanTree}
@@ -24,7 +24,7 @@ use Rattle.day_questions.specs.Once.{OneNextAnswer, OneFitsAnswer, OneRankedAnsw
 use Rattle.day_questions.specs.Prices.{cost_view}
 use Rattle.day_questions.specs.Ranked.{SaysTree, IsTreesText, RankedAnswer, tree_line, count_line}
 use Rattle.day_questions.specs.Ranked as ranked
-use Rattle.day_questions.specs.Shifts.{IsLeastOf, IsLeastPrice, IsLongest, Fits, Begins, any_code}
+use Rattle.day_questions.specs.Shifts.{IsLeastOf, IsLeastPrice, Fits, Begins, any_code}
 
 -- ---- lines
 

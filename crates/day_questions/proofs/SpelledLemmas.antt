@@ -88,3 +88,11 @@ module _ (g : Grammar) where
             let others = steps (step.start + step.len) o.more ++ a.rest in
             let r = gives step.start o.inner others (inside-of a.tree a.rest o) o.is in
             omega (arith, ap length r.0, ap length o.is, length-append (steps step.start o.inner) others)
+
+      -- and then the word of all is added
+      pub name-gives : (old mid new : List ℕ) (left end : List Step) → GivesWord g rule.right below old left mid → GivesWord g ss left mid end new → GivesWord g (Name x ∷ ss) xs old end new
+      name-gives old mid new left end gives more i t rest h e =
+          let o = open_first i t rest h e in
+          let r = gives step.start o.inner (steps (step.start + step.len) o.more ++ rest) (inside-of t rest o) o.is in
+          let s = more (step.start + step.len) o.more rest o.others r.0 in
+          (s.0, s.1 ∙ ap (λ (w : List ℕ). w ++ word g o.more) r.1 ∙ append_assoc old (word g o.inner) (word g o.more) ∙ sym (ap (λ (w : List ℕ). old ++ w) o.spells))

@@ -26,8 +26,7 @@ fn add_next_lines(
     let mut marginals = Marginals::for_instance(alloc, grammar)?;
     marginals.fill(grammar, &prices);
     let period = prefix.len() as u8 + 1;
-    add_code_lines(&prices, &marginals, period, Front::Code, out)?;
-    Ok(())
+    add_code_lines(&prices, &marginals, period, Front::Code, out)
 }
 
 // Returns the lines of the codes that may follow a prefix.

@@ -1,7 +1,7 @@
 use roster_model::{Group, List};
 
 /// How many employees may work: 0 to 64 at least, 1 to 64 at most.
-#[derive(Clone, Copy, Debug, PartialEq, Eq, Drop)]
+#[derive(Clone, Copy, Drop)]
 pub struct Heads {
     pub least: u32,
     pub most: u32,

@@ -4,6 +4,7 @@ ghost use Rattle.demand_text.specs.FaultLine.{line_of, fault_text, fault_line};
 use crate::fault::DemandFault;
 use roster_model::{List, Memory};
 use std::alloc::Global;
+use std::fmt;
 use text_lines::{put, put_place};
 
 fn line_of(fault: &DemandFault) -> Option<u32>
@@ -26,24 +27,33 @@ fn line_of(fault: &DemandFault) -> Option<u32>
 }
 
 #[tactic(auto, unfolding(crate::specs::FaultLine::fault_text))]
-fn text_of(fault: &DemandFault) -> &'static [u8]
+fn text_of(fault: &DemandFault) -> &'static str
     ensures { result.now ≡ fault_text fault.now }
 {
     match *fault {
-        DemandFault::BadByte { .. } => b"bad byte",
-        DemandFault::UnknownLine { .. } => b"unknown line",
-        DemandFault::BadNumber { .. } => b"bad number",
-        DemandFault::OutOfRange { .. } => b"out of range",
-        DemandFault::NotWork { .. } => b"not a work code",
-        DemandFault::Twice { .. } => b"said twice",
-        DemandFault::WrongCount { .. } => b"wrong count of needs",
-        DemandFault::NoHeads => b"no heads line",
-        DemandFault::TooLong => b"the text is too long",
-        DemandFault::NoNeed { .. } => b"no need line before",
-        DemandFault::NoName { .. } => b"no such name",
-        DemandFault::Mixed { .. } => b"heads and groups together",
-        DemandFault::TooManyGroups { .. } => b"too many groups, at most 8",
-        DemandFault::Memory => b"out of memory",
+        DemandFault::BadByte { .. } => "bad byte",
+        DemandFault::UnknownLine { .. } => "unknown line",
+        DemandFault::BadNumber { .. } => "bad number",
+        DemandFault::OutOfRange { .. } => "out of range",
+        DemandFault::NotWork { .. } => "not a work code",
+        DemandFault::Twice { .. } => "said twice",
+        DemandFault::WrongCount { .. } => "wrong count of needs",
+        DemandFault::NoHeads => "no heads line",
+        DemandFault::TooLong => "the text is too long",
+        DemandFault::NoNeed { .. } => "no need line before",
+        DemandFault::NoName { .. } => "no such name",
+        DemandFault::Mixed { .. } => "heads and groups together",
+        DemandFault::TooManyGroups { .. } => "too many groups, at most 8",
+        DemandFault::Memory => "out of memory",
+    }
+}
+
+impl fmt::Display for DemandFault {
+    fn fmt<W: fmt::Write>(&self, f: &mut fmt::Formatter<W>) -> fmt::Result {
+        if let Some(line) = line_of(self) {
+            write!(f, "line {line}: ")?;
+        }
+        f.write_str(text_of(self))
     }
 }
 
@@ -55,7 +65,7 @@ pub fn fault_line(alloc: Global, fault: &DemandFault) -> Result<List<u8>, Memory
     let mut out = List::new(alloc);
     put(&mut out, b"demand: ")?;
     put_place(&mut out, line_of(fault))?;
-    put(&mut out, text_of(fault))?;
+    put(&mut out, text_of(fault).as_bytes())?;
     out.push(b'\n')?;
     Ok(out)
 }

@@ -7,7 +7,7 @@ use roster_model::{Cell, List, Memory};
 use text_lines::field;
 
 /// A number of a cell.
-#[derive(Clone, Copy, Debug, PartialEq, Eq, Drop)]
+#[derive(Clone, Copy, Drop)]
 pub enum NumberOf {
     Need,
     Floor,

@@ -31,8 +31,7 @@ fn heads_line(out: &mut List<u8>, least: u32, most: u32) -> Result<(), Memory>
     put(out, b"heads")?;
     field(out, least as u64)?;
     field(out, most as u64)?;
-    out.push(b'\n')?;
-    Ok(())
+    out.push(b'\n')
 }
 
 fn name(out: &mut List<u8>, names: &[List<u8>], number: u8) -> Result<(), Memory>
@@ -50,8 +49,7 @@ fn group_line(out: &mut List<u8>, names: &[List<u8>], group: &Group) -> Result<(
     name(out, names, group.name)?;
     field(out, group.heads_min as u64)?;
     field(out, group.heads_max as u64)?;
-    out.push(b'\n')?;
-    Ok(())
+    out.push(b'\n')
 }
 
 fn group_lines(out: &mut List<u8>, names: &[List<u8>], groups: &[Group]) -> Result<(), Memory>
@@ -91,8 +89,7 @@ fn need_line(
     field(out, under as u64)?;
     field(out, over as u64)?;
     numbers(out, NumberOf::Need, cells)?;
-    out.push(b'\n')?;
-    Ok(())
+    out.push(b'\n')
 }
 
 // Writes the line of a bound, where it is not this number in every cell.
@@ -112,8 +109,7 @@ fn bound_line(
     put(out, first)?;
     word(out, &[code])?;
     numbers(out, which, cells)?;
-    out.push(b'\n')?;
-    Ok(())
+    out.push(b'\n')
 }
 
 // Writes the lines of the cells of one demand.
@@ -126,8 +122,7 @@ fn code_lines(out: &mut List<u8>, grammar: &Grammar, cells: &[Cell]) -> Result<(
     let code = grammar.codes.as_slice()[first.code as usize].byte;
     need_line(out, code, first.under, first.over, cells)?;
     bound_line(out, b"least", code, NumberOf::Floor, 0, cells)?;
-    bound_line(out, b"most", code, NumberOf::Ceiling, 64, cells)?;
-    Ok(())
+    bound_line(out, b"most", code, NumberOf::Ceiling, 64, cells)
 }
 
 // Writes the lines of the cells of all demands.

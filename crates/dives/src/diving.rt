@@ -163,6 +163,25 @@ fn step_down(
     Ok(())
 }
 
+/// Lists these trees of the pool and its last ones, twice as many as there are rows, and starts the scout.
+fn begin(
+    alloc: Global,
+    cuts: &[Cut],
+    rows: &NodeRows,
+    pool: &Pool,
+    begun: &[usize],
+    program: &mut Program,
+) -> Result<(), Memory>
+    requires { IsProgram (length pool.now) program.old }
+    ensures { OnOk result (IsProgram (length pool.now) program.new) }
+{
+    program.list_all(alloc, cuts, rows, pool, begun)?;
+    let last = rows.right().len().saturating_mul(2);
+    program.list_from(alloc, cuts, rows, pool, pool.len().saturating_sub(last))?;
+    let _started = program.scout.start_beyond();
+    Ok(())
+}
+
 /// Returns a program with these trees of the pool and with its last ones, twice as many as there are rows.
 fn begun_with(
     alloc: Global,
@@ -176,11 +195,46 @@ fn begun_with(
     ensures { IfOk result (IsProgram (length pool.now)) }
 {
     let mut program = Program::new(alloc, instance, cuts, rows)?;
-    program.list_all(alloc, cuts, rows, pool, begun)?;
-    let last = rows.right().len().saturating_mul(2);
-    program.list_from(alloc, cuts, rows, pool, pool.len().saturating_sub(last))?;
-    let _started = program.scout.start_beyond();
+    begin(alloc, cuts, rows, pool, begun, &mut program)?;
     Ok(program)
+}
+
+/// Dives from a node, of which the master's rows are given, and returns the trees that it fixed.
+fn dive_over(
+    alloc: Global,
+    instance: &Instance,
+    graph: &Graph,
+    cuts: &[Cut],
+    rows: &NodeRows,
+    pricer: &mut Pricer,
+    begun: &[usize],
+    cost: u64,
+    pool: &mut Pool,
+) -> Result<List<usize>, Memory>
+    requires sound { IsSoundInstance instance.now }
+    requires graph { IsGraph instance.now.grammar graph.now }
+    requires rows { AreRows instance.now cuts.now rows.now }
+    requires few { length cuts.now ≤ 1500 }
+    requires pricer { IsMadeFor graph.now pricer.old }
+    requires pool { IsPool instance.now.grammar pool.old }
+    ensures within { IfOk result (λ found. All (λ c. c < length pool.new) found) }
+    ensures pricer { IsMadeFor graph.now pricer.new }
+    ensures pool { IsPool instance.now.grammar pool.new }
+    ensures grown { IsGrown pool.old pool.new }
+{
+    let mut program = begun_with(alloc, instance, cuts, rows, pool, begun)?;
+    step_down(
+        alloc,
+        instance,
+        graph,
+        cuts,
+        rows,
+        pricer,
+        &mut program,
+        pool,
+        cost,
+    )?;
+    Ok(program.fixed)
 }
 
 /// Dives from the node at a path of cuts, base cuts first, whose master has at most 1,500 rows, and returns
@@ -216,17 +270,7 @@ pub fn dive(
     ensures grown { IsGrown pool.old pool.new }
 {
     let rows = NodeRows::new(alloc, instance, cuts)?;
-    let mut program = begun_with(alloc, instance, cuts, &rows, pool, begun)?;
-    step_down(
-        alloc,
-        instance,
-        graph,
-        cuts,
-        &rows,
-        pricer,
-        &mut program,
-        pool,
-        cost,
-    )?;
-    Ok(program.fixed)
+    dive_over(
+        alloc, instance, graph, cuts, &rows, pricer, begun, cost, pool,
+    )
 }

@@ -1,7 +1,7 @@
 use crate::run::Run;
 
 /// Whether a column may enter the basis.
-#[derive(Clone, Copy, PartialEq, Eq, Drop)]
+#[derive(Clone, Copy, Drop)]
 pub(crate) enum Standing {
     /// It is in the basis.
     Basic,
@@ -35,12 +35,12 @@ impl Column {
 
     /// Whether it may enter the basis.
     pub(crate) fn is_free(&self) -> bool {
-        self.standing == Standing::Free
+        matches!(self.standing, Standing::Free)
     }
 
     /// Whether it is in the basis.
     pub(crate) fn is_basic(&self) -> bool {
-        self.standing == Standing::Basic
+        matches!(self.standing, Standing::Basic)
     }
 }
 
@@ -57,5 +57,13 @@ pub(crate) fn runs_at<'a>(runs: &'a [Run], columns: &[Column], place: usize) -> 
     match columns.get(place) {
         Some(column) => own_runs(runs, column),
         None => &[],
+    }
+}
+
+/// Whether the column at a place may enter the basis.
+pub(crate) fn is_free_at(columns: &[Column], place: usize) -> bool {
+    match columns.get(place) {
+        Some(column) => column.is_free(),
+        None => false,
     }
 }

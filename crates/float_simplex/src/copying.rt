@@ -1,15 +1,8 @@
 use crate::figures::Figures;
 use crate::kernel::{Kernel, push_if_room};
-use crate::line::{Line, copy_numbers, front};
+use crate::line::{Line, copy_items, front};
 use crate::state::State;
 use roster_model::Memory;
-
-/// Copies items, as many as both have.
-fn copy_items<T: Copy>(out: &mut [T], items: &[T]) {
-    for (copy, item) in out.iter_mut().zip(items) {
-        *copy = *item;
-    }
-}
 
 /// Copies a list.
 pub(crate) fn copy_list<T: Copy + Drop>(out: &mut Vec<T>, items: &[T]) -> Result<(), Memory> {
@@ -23,7 +16,7 @@ pub(crate) fn copy_list<T: Copy + Drop>(out: &mut Vec<T>, items: &[T]) -> Result
 /// Copies so many rows of the inverse, and as many of their numbers.
 fn copy_lines(out: &mut [Line], lines: &[Line], count: usize) {
     for (copy, line) in out.iter_mut().zip(lines).take(count) {
-        copy_numbers(
+        copy_items(
             copy.numbers.as_mut_slice(),
             front(line.numbers.as_slice(), count),
         );

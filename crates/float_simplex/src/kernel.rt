@@ -1,5 +1,6 @@
 use crate::float::Entry64;
-use crate::line::{Line, at, copy_numbers, set_at};
+use crate::line::{Line, at, copy_items, set_all, set_at};
+use crate::state::place_at;
 
 /// The slot of a row that has none.
 pub(crate) const LOOSE: usize = usize::MAX;
@@ -26,17 +27,18 @@ pub(crate) fn slot_of(slots: &[usize], row: usize) -> usize {
     }
 }
 
-/// Sets the slot of a row.
-fn set_slot(slots: &mut [usize], row: usize, slot: usize) {
-    if let Some(own) = slots.get_mut(row) {
-        *own = slot;
-    }
-}
-
 /// Adds a number behind the last one, where there is room for it.
 pub(crate) fn push_if_room(numbers: &mut Vec<usize>, number: usize) {
     if numbers.len() < numbers.capacity() {
         numbers.push_reserved(number);
+    }
+}
+
+/// Moves the numbers of so many rows from one slot to another.
+fn move_numbers(lines: &mut [Line], count: usize, from: usize, to: usize) {
+    for line in lines.iter_mut().take(count) {
+        let number = at(line.numbers.as_slice(), from);
+        set_at(line.numbers.as_mut_slice(), to, number);
     }
 }
 
@@ -50,18 +52,14 @@ impl Kernel {
     pub(crate) fn clear(&mut self) {
         self.listed.clear();
         self.tight.clear();
-        for slot in self.slots.as_mut_slice().iter_mut() {
-            *slot = LOOSE;
-        }
+        set_all(self.slots.as_mut_slice(), LOOSE);
     }
 
     /// Puts a listed column in place of another one, with its row of the inverse.
     pub(crate) fn replace_listed(&mut self, slot: usize, place: usize, row: &[Entry64]) {
-        if let Some(listed) = self.listed.as_mut_slice().get_mut(slot) {
-            *listed = place;
-        }
+        set_at(self.listed.as_mut_slice(), slot, place);
         if let Some(line) = self.lines.as_mut_slice().get_mut(slot) {
-            copy_numbers(line.numbers.as_mut_slice(), row);
+            copy_items(line.numbers.as_mut_slice(), row);
         }
     }
 
@@ -81,16 +79,12 @@ impl Kernel {
         let last = self.tight.len().saturating_sub(1);
         if slot < self.tight.len() {
             let row = self.tight.swap_remove(slot);
-            set_slot(self.slots.as_mut_slice(), row, LOOSE);
+            set_at(self.slots.as_mut_slice(), row, LOOSE);
         }
         if slot < last {
-            let moved = self.tight.as_slice().get(slot).copied().unwrap_or(LOOSE);
-            set_slot(self.slots.as_mut_slice(), moved, slot);
-            let count = self.listed.len();
-            for line in self.lines.as_mut_slice().iter_mut().take(count) {
-                let number = at(line.numbers.as_slice(), last);
-                set_at(line.numbers.as_mut_slice(), slot, number);
-            }
+            let moved = place_at(self.tight.as_slice(), slot);
+            set_at(self.slots.as_mut_slice(), moved, slot);
+            move_numbers(self.lines.as_mut_slice(), self.listed.len(), last, slot);
         }
     }
 
@@ -120,10 +114,10 @@ impl Kernel {
     ) {
         self.set_slot_numbers(slot, alphas, own);
         if let Some(tight) = self.tight.as_mut_slice().get_mut(slot) {
-            set_slot(self.slots.as_mut_slice(), *tight, LOOSE);
+            set_at(self.slots.as_mut_slice(), *tight, LOOSE);
             *tight = row;
         }
-        set_slot(self.slots.as_mut_slice(), row, slot);
+        set_at(self.slots.as_mut_slice(), row, slot);
     }
 
     /// Takes a listed column in, and a loose row.
@@ -140,9 +134,9 @@ impl Kernel {
         push_if_room(&mut self.tight, row);
         push_if_room(&mut self.listed, place);
         self.set_slot_numbers(slot, alphas, own);
-        set_slot(self.slots.as_mut_slice(), row, slot);
+        set_at(self.slots.as_mut_slice(), row, slot);
         if let Some(line) = self.lines.as_mut_slice().get_mut(column) {
-            copy_numbers(line.numbers.as_mut_slice(), numbers);
+            copy_items(line.numbers.as_mut_slice(), numbers);
             set_at(line.numbers.as_mut_slice(), slot, own);
         }
     }

@@ -49,24 +49,24 @@ pub(crate) fn product_of(line: &[Entry64], other: &[Value64]) -> Value64 {
     total
 }
 
-/// Copies numbers, as many as both have.
-pub(crate) fn copy_numbers(out: &mut [f64], numbers: &[f64]) {
-    for (copy, number) in out.iter_mut().zip(numbers) {
-        *copy = *number;
+/// Copies items, as many as both have.
+pub(crate) fn copy_items<T: Copy>(out: &mut [T], items: &[T]) {
+    for (copy, item) in out.iter_mut().zip(items) {
+        *copy = *item;
     }
 }
 
-/// Sets numbers to one value.
-pub(crate) fn set_all(numbers: &mut [f64], value: f64) {
-    for number in numbers.iter_mut() {
-        *number = value;
+/// Sets items to one value.
+pub(crate) fn set_all<T: Copy>(items: &mut [T], value: T) {
+    for item in items.iter_mut() {
+        *item = value;
     }
 }
 
-/// Sets the number at a place, if there is one.
-pub(crate) fn set_at(numbers: &mut [f64], place: usize, value: f64) {
-    if let Some(number) = numbers.get_mut(place) {
-        *number = value;
+/// Sets the item at a place, if there is one.
+pub(crate) fn set_at<T: Copy>(items: &mut [T], place: usize, value: T) {
+    if let Some(item) = items.get_mut(place) {
+        *item = value;
     }
 }
 

@@ -89,21 +89,52 @@ fn make_figures(alloc: Global) -> Figures {
     }
 }
 
-/// Returns a program without columns.
-fn make_empty(alloc: Global, right: &[i64]) -> Result<State, AllocError> {
-    let rows = right.len();
-    Ok(State {
-        right: make_right(alloc, right)?,
-        perturbations: make_zeros(alloc, rows)?,
+/// Returns a kernel without room.
+fn blank_kernel(alloc: Global) -> Kernel {
+    Kernel {
+        lines: Vec::new(alloc),
+        listed: Vec::new(alloc),
+        tight: Vec::new(alloc),
+        slots: Vec::new(alloc),
+    }
+}
+
+/// Returns a desk without room.
+fn blank_desk(alloc: Global) -> Desk {
+    Desk {
+        picks: Vec::new(alloc),
+        alphas: Vec::new(alloc),
+        row: Vec::new(alloc),
+        sums: Vec::new(alloc),
+        changes: Vec::new(alloc),
+        taken: Vec::new(alloc),
+        target: Vec::new(alloc),
+    }
+}
+
+/// Returns no answers.
+fn blank_answers(alloc: Global) -> Answers {
+    Answers {
+        basis: Vec::new(alloc),
+        values: Vec::new(alloc),
+        prices: Vec::new(alloc),
+    }
+}
+
+/// Returns a program without rows or columns.
+fn make_blank(alloc: Global) -> State {
+    State {
+        right: Vec::new(alloc),
+        perturbations: Vec::new(alloc),
         columns: Vec::new(alloc),
         runs: Vec::new(alloc),
         figures: make_figures(alloc),
-        kernel: make_kernel(alloc, rows)?,
-        own: vec![in alloc; NO_COLUMN; rows]?,
-        values: make_posts(alloc, rows)?,
-        norms: make_posts(alloc, rows)?,
+        kernel: blank_kernel(alloc),
+        own: Vec::new(alloc),
+        values: Vec::new(alloc),
+        norms: Vec::new(alloc),
         has_norms: false,
-        prices: make_zeros(alloc, rows)?,
+        prices: Vec::new(alloc),
         priced: 0,
         is_stale: true,
         is_mispriced: true,
@@ -111,9 +142,37 @@ fn make_empty(alloc: Global, right: &[i64]) -> Result<State, AllocError> {
         since: 0,
         pivots: 0,
         work: 0,
-        desk: make_desk(alloc, rows)?,
-        answers: make_answers(alloc, rows)?,
-    })
+        desk: blank_desk(alloc),
+        answers: blank_answers(alloc),
+    }
+}
+
+impl State {
+    /// Takes the right sides, with zeros for what else is kept of rows.
+    fn take_right(&mut self, alloc: Global, right: &[i64]) -> Result<(), AllocError> {
+        let rows = right.len();
+        self.right = make_right(alloc, right)?;
+        self.perturbations = make_zeros(alloc, rows)?;
+        self.own = vec![in alloc; NO_COLUMN; rows]?;
+        self.values = make_posts(alloc, rows)?;
+        self.norms = make_posts(alloc, rows)?;
+        self.prices = make_zeros(alloc, rows)?;
+        Ok(())
+    }
+
+    /// Makes room for steps over so many rows and for what they answer.
+    fn take_room(&mut self, alloc: Global, rows: usize) -> Result<(), AllocError> {
+        self.kernel = make_kernel(alloc, rows)?;
+        self.desk = make_desk(alloc, rows)?;
+        self.answers = make_answers(alloc, rows)?;
+        Ok(())
+    }
+
+    /// Takes the right sides, and makes room for as many rows.
+    fn take_rows(&mut self, alloc: Global, right: &[i64]) -> Result<(), AllocError> {
+        self.take_right(alloc, right)?;
+        self.take_room(alloc, right.len())
+    }
 }
 
 impl State {
@@ -142,6 +201,23 @@ impl State {
 }
 
 impl State {
+    /// Takes the right sides, lists the columns of what is missing and of what is beyond, and perturbs.
+    fn begin(
+        &mut self,
+        alloc: Global,
+        right: &[i64],
+        missing: &[i64],
+        beyond: &[Option<i64>],
+    ) -> Result<(), Memory> {
+        if self.take_rows(alloc, right).is_err() {
+            return Err(Memory);
+        }
+        self.add_missing(missing)?;
+        self.add_beyond(beyond)?;
+        self.perturb(missing, beyond);
+        Ok(())
+    }
+
     /// Returns a program with these right sides, perturbed, whose columns are those of what is missing in each
     /// row, of entry 1, and of what is beyond, of entry -1, where they cost this.
     pub fn new(
@@ -150,12 +226,8 @@ impl State {
         missing: &[i64],
         beyond: &[Option<i64>],
     ) -> Result<State, Memory> {
-        let Ok(mut state) = make_empty(alloc, right) else {
-            return Err(Memory);
-        };
-        state.add_missing(missing)?;
-        state.add_beyond(beyond)?;
-        state.perturb(missing, beyond);
+        let mut state = make_blank(alloc);
+        state.begin(alloc, right, missing, beyond)?;
         Ok(state)
     }
 }

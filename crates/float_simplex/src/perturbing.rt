@@ -1,6 +1,6 @@
 use crate::fixed::Q32;
 use crate::float::Value64;
-use crate::line::at;
+use crate::line::{at, product_of, set_all, set_at, step_line};
 use crate::state::State;
 use std::num::nearest_i64_to_f64;
 
@@ -37,40 +37,26 @@ fn set_perturbations(perturbations: &mut [Value64], missing: &[i64], beyond: &[O
     }
 }
 
-/// Adds so many times the perturbations to right sides.
-fn add_times(right: &mut [Value64], perturbations: &[Value64], times: f64) {
-    for (side, perturbation) in right.iter_mut().zip(perturbations) {
-        *side += *perturbation * times;
-    }
-}
-
-/// Leaves no perturbations.
-fn clear(perturbations: &mut [Value64]) {
-    for perturbation in perturbations.iter_mut() {
-        *perturbation = 0.0;
-    }
-}
-
 impl State {
     /// Perturbs the right sides a little, each by an amount of its own, so that few values of a basis are 0
     /// and few steps leave the value of the program as it is.
     pub(crate) fn perturb(&mut self, missing: &[i64], beyond: &[Option<i64>]) {
         set_perturbations(self.perturbations.as_mut_slice(), missing, beyond);
-        add_times(
+        step_line(
             self.right.as_mut_slice(),
+            -1.0,
             self.perturbations.as_slice(),
-            1.0,
         );
     }
 
     /// Takes the perturbations off the right sides; the next run works the values out again.
     pub fn settle(&mut self) {
-        add_times(
+        step_line(
             self.right.as_mut_slice(),
+            1.0,
             self.perturbations.as_slice(),
-            -1.0,
         );
-        clear(self.perturbations.as_mut_slice());
+        set_all(self.perturbations.as_mut_slice(), 0.0);
         self.is_stale = true;
     }
 
@@ -78,23 +64,16 @@ impl State {
     /// no memory.
     pub fn set_side(&mut self, row: usize, right: i64) {
         let perturbation = at(self.perturbations.as_slice(), row);
-        if let Some(side) = self.right.as_mut_slice().get_mut(row) {
-            *side = nearest_i64_to_f64(right) + perturbation;
-        }
+        set_at(
+            self.right.as_mut_slice(),
+            row,
+            nearest_i64_to_f64(right) + perturbation,
+        );
         self.is_stale = true;
     }
 
     /// Returns what the perturbations add to the program's value.
     pub fn perturbation_worth(&self) -> Q32 {
-        let mut worth = 0.0;
-        for (price, perturbation) in self
-            .prices
-            .as_slice()
-            .iter()
-            .zip(self.perturbations.as_slice())
-        {
-            worth += *price * *perturbation;
-        }
-        Q32::of(worth)
+        Q32::of(product_of(self.prices.as_slice(), self.perturbations.as_slice()))
     }
 }

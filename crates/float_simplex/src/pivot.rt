@@ -1,12 +1,12 @@
 use crate::column::Standing;
 use crate::fixed::{Grown, fitting};
 use crate::float::{Entry64, Price64, is_price, is_value};
-use crate::line::add_at;
+use crate::line::{add_at, set_all};
 use crate::rows::Own;
 use crate::seats::Seat;
 use crate::state::{Post, State, number_of, post_of};
 use crate::sweeps::{Entering, dual_entering, primal_entering};
-use crate::values::{dual_leaving, leaving, reset_norms, step_norms, step_values};
+use crate::values::{dual_leaving, leaving, step_norms, step_values};
 
 /// What a step did.
 #[derive(Clone, Copy, Drop)]
@@ -127,7 +127,7 @@ impl State {
     /// Gives each post the reference weight 1 where weights are not kept.
     fn keep_norms(&mut self) {
         if !self.has_norms {
-            reset_norms(self.norms.as_mut_slice());
+            set_all(self.norms.as_mut_slice(), 1.0);
             self.has_norms = true;
         }
     }

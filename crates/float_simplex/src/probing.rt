@@ -96,9 +96,7 @@ impl State {
             last.saturating_add(self.rows())
         };
         set_standing(self.columns.as_mut_slice(), place, Standing::Basic);
-        if let Some(own) = self.own.as_mut_slice().get_mut(last) {
-            *own = place;
-        }
+        set_at(self.own.as_mut_slice(), last, place);
     }
 
     /// Sets the right side and the costs of the last row, in which the basis has the column of entry 1.

@@ -121,12 +121,8 @@ impl State {
 
     /// Writes a basic column's place and value.
     fn write_basic(&mut self, at: usize, place: usize, value: f64) {
-        if let Some(basic) = self.answers.basis.as_mut_slice().get_mut(at) {
-            *basic = place;
-        }
-        if let Some(answer) = self.answers.values.as_mut_slice().get_mut(at) {
-            *answer = Q32::of(value);
-        }
+        set_at(self.answers.basis.as_mut_slice(), at, place);
+        set_at(self.answers.values.as_mut_slice(), at, Q32::of(value));
     }
 
     /// Writes the listed columns of the basis, and returns how many they are.

@@ -1,7 +1,7 @@
 use crate::column::{Column, runs_at};
 use crate::float::{Entry64, is_sum};
 use crate::kernel::{LOOSE, slot_of};
-use crate::line::{Line, at, copy_numbers, front, front_mut, scale, set_all, step_line};
+use crate::line::{Line, at, copy_items, front, front_mut, scale, set_all, step_line};
 use crate::run::Run;
 use crate::state::{Post, State, place_at, sign_of};
 
@@ -79,7 +79,7 @@ impl State {
         match post {
             Post::Listed(slot) => {
                 if let Some(line) = self.kernel.lines.as_slice().get(slot) {
-                    copy_numbers(out, line.numbers.as_slice());
+                    copy_items(out, line.numbers.as_slice());
                 }
                 Own::none()
             }

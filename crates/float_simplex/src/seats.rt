@@ -26,9 +26,7 @@ impl State {
 
     /// Sets a row's own column in the basis.
     fn set_own(&mut self, row: usize, place: usize) {
-        if let Some(own) = self.own.as_mut_slice().get_mut(row) {
-            *own = place;
-        }
+        set_at(self.own.as_mut_slice(), row, place);
     }
 
     /// Makes a tight row loose, with a column of its own.

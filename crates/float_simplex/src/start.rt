@@ -1,11 +1,11 @@
-use crate::column::{Column, Standing};
+use crate::column::{Column, Standing, is_free_at};
 use crate::fixed::Grown;
 use crate::float::Value64;
 use crate::key::Key;
-use crate::line::set_all;
+use crate::line::{at, set_all, set_at};
 use crate::seats::Seat;
-use crate::state::{NO_COLUMN, Post, State, number_of, set_standing};
-use crate::values::{free_row, reset_norms};
+use crate::state::{NO_COLUMN, Post, State, number_of, place_at, set_standing};
+use crate::values::free_row;
 
 /// Leaves the basis of what is missing.
 fn reset_own(own: &mut [usize]) {
@@ -27,13 +27,6 @@ fn free_basic(columns: &mut [Column]) {
 fn mark_basic(columns: &mut [Column], basis: &[usize]) {
     for basic in basis {
         set_standing(columns, *basic, Standing::Basic);
-    }
-}
-
-/// Leaves all rows free.
-fn reset_taken(taken: &mut [bool]) {
-    for is_taken in taken.iter_mut() {
-        *is_taken = false;
     }
 }
 
@@ -96,10 +89,8 @@ impl State {
         self.desk.target.clear();
         let rows = self.rows();
         for row in 0..rows {
-            if let Some(right) = self.right.as_slice().get(row).copied() {
-                if is_below(right, limit) {
-                    self.want(rows.saturating_add(row));
-                }
+            if is_below(at(self.right.as_slice(), row), limit) {
+                self.want(rows.saturating_add(row));
             }
         }
     }
@@ -108,30 +99,21 @@ impl State {
     fn want_basis(&mut self) {
         self.desk.target.clear();
         for row in 0..self.own.len() {
-            if let Some(place) = self.own.as_slice().get(row).copied() {
-                if place != NO_COLUMN {
-                    self.want(place);
-                }
+            let place = place_at(self.own.as_slice(), row);
+            if place != NO_COLUMN {
+                self.want(place);
             }
         }
         for slot in 0..self.kernel.size() {
-            if let Some(place) = self.kernel.listed.as_slice().get(slot).copied() {
-                self.want(place);
-            }
+            let place = place_at(self.kernel.listed.as_slice(), slot);
+            self.want(place);
         }
     }
 
     /// Puts the column of what is beyond a row into the basis, if there is one and the row is free.
     fn put_beyond(&mut self, row: usize, place: usize) {
-        let is_free = match self.columns.as_slice().get(place) {
-            Some(column) => column.is_free(),
-            None => false,
-        };
-        if !is_free || !take(self.desk.taken.as_mut_slice(), row) {
-            return;
-        }
-        if let Some(own) = self.own.as_mut_slice().get_mut(row) {
-            *own = place;
+        if is_free_at(self.columns.as_slice(), place) && take(self.desk.taken.as_mut_slice(), row) {
+            set_at(self.own.as_mut_slice(), row, place);
         }
     }
 
@@ -164,10 +146,9 @@ impl State {
     fn put_all_beyond(&mut self) {
         let rows = self.rows();
         for number in 0..self.desk.target.len() {
-            if let Some(place) = self.desk.target.as_slice().get(number).copied() {
-                if place >= rows && place - rows < rows {
-                    self.put_beyond(place - rows, place);
-                }
+            let place = place_at(self.desk.target.as_slice(), number);
+            if place >= rows && place - rows < rows {
+                self.put_beyond(place - rows, place);
             }
         }
     }
@@ -176,10 +157,9 @@ impl State {
     fn put_all_listed(&mut self) -> Result<(), Grown> {
         let first = self.rows().saturating_mul(2);
         for number in 0..self.desk.target.len() {
-            if let Some(place) = self.desk.target.as_slice().get(number).copied() {
-                if place >= first && place < self.columns.len() {
-                    self.put_listed(place)?;
-                }
+            let place = place_at(self.desk.target.as_slice(), number);
+            if place >= first && place < self.columns.len() {
+                self.put_listed(place)?;
             }
         }
         Ok(())
@@ -192,8 +172,8 @@ impl State {
         free_basic(self.columns.as_mut_slice());
         set_all(self.figures.weights.as_mut_slice(), 1.0);
         set_all(self.values.as_mut_slice(), 0.0);
-        reset_norms(self.norms.as_mut_slice());
-        reset_taken(self.desk.taken.as_mut_slice());
+        set_all(self.norms.as_mut_slice(), 1.0);
+        set_all(self.desk.taken.as_mut_slice(), false);
         self.since = 0;
         self.has_norms = false;
     }

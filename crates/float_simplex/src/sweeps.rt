@@ -1,12 +1,11 @@
-use crate::column::{Column, own_runs};
+use crate::column::{Column, is_free_at, own_runs};
 use crate::compare::Candidate;
 use crate::figures::Figures;
 use crate::float::{Entry64, Price64, Weight64, swept};
-use crate::kernel::LOOSE;
 use crate::line::{at, set_all};
 use crate::rows::Own;
 use crate::run::{Run, entry_by_sums};
-use crate::state::State;
+use crate::state::{State, place_at};
 use std::num::nearest_i64_to_f64;
 
 /// Reduced costs that a column enters at are below this, -2^-11.
@@ -97,26 +96,15 @@ fn step_at(
     entry: Entry64,
     entering: Entering,
 ) {
-    let is_free = match columns.get(place) {
-        Some(column) => column.is_free(),
-        None => false,
-    };
-    if !is_free {
-        return;
-    }
-    let reduced = figures.reduced.as_mut_slice().get_mut(place);
-    let weight = figures.weights.as_mut_slice().get_mut(place);
-    if let (Some(reduced), Some(weight)) = (reduced, weight) {
-        entering.step(entry, reduced, weight);
+    if is_free_at(columns, place) {
+        figures.step(place, entry, entering);
     }
 }
 
 /// Touches the column at a place, if it may enter.
 fn touch_free(columns: &[Column], figures: &mut Figures, place: usize, entry: Entry64) {
-    if let Some(column) = columns.get(place) {
-        if column.is_free() {
-            figures.touch(place, entry);
-        }
+    if is_free_at(columns, place) {
+        figures.touch(place, entry);
     }
 }
 
@@ -138,9 +126,8 @@ fn touch_listed(
 }
 
 impl Figures {
-    /// Takes a dual pivot's step of the touched column at a place.
-    fn step_touched(&mut self, place: usize, factor: f64, entering: Entering) {
-        let entry = at(self.entries.as_slice(), place) * factor;
+    /// Takes a pivot's step of the column at a place.
+    fn step(&mut self, place: usize, entry: Entry64, entering: Entering) {
         let reduced = self.reduced.as_mut_slice().get_mut(place);
         let weight = self.weights.as_mut_slice().get_mut(place);
         if let (Some(reduced), Some(weight)) = (reduced, weight) {
@@ -151,9 +138,9 @@ impl Figures {
     /// Takes a dual pivot's step of the touched columns.
     fn step_all_touched(&mut self, factor: f64, entering: Entering) {
         for number in 0..self.touched.len() {
-            if let Some(place) = self.touched.as_slice().get(number).copied() {
-                self.step_touched(place, factor, entering);
-            }
+            let place = place_at(self.touched.as_slice(), number);
+            let entry = at(self.entries.as_slice(), place) * factor;
+            self.step(place, entry, entering);
         }
     }
 }
@@ -174,13 +161,7 @@ impl State {
     /// desk.
     pub(crate) fn sweep(&mut self, own: Own, entering: Entering) {
         for slot in 0..self.kernel.size() {
-            let row = self
-                .kernel
-                .tight
-                .as_slice()
-                .get(slot)
-                .copied()
-                .unwrap_or(LOOSE);
+            let row = place_at(self.kernel.tight.as_slice(), slot);
             let number = at(self.desk.row.as_slice(), slot);
             self.sweep_row(row, number, entering);
         }
@@ -226,13 +207,7 @@ impl State {
     pub(crate) fn touch_all(&mut self, own: Own) {
         self.figures.touched.clear();
         for slot in 0..self.kernel.size() {
-            let row = self
-                .kernel
-                .tight
-                .as_slice()
-                .get(slot)
-                .copied()
-                .unwrap_or(LOOSE);
+            let row = place_at(self.kernel.tight.as_slice(), slot);
             let number = at(self.desk.row.as_slice(), slot);
             self.touch_row(row, number);
         }
@@ -265,9 +240,9 @@ pub(crate) fn primal_entering(figures: &Figures) -> Option<usize> {
     Some(found.place)
 }
 
-/// Returns a reduced cost, 0 where it is negative.
-fn at_least_0(reduced: Price64) -> Price64 {
-    if reduced < 0.0 { 0.0 } else { reduced }
+/// Returns a number, 0 where it is negative.
+pub(crate) fn at_least_0(number: f64) -> f64 {
+    if number < 0.0 { 0.0 } else { number }
 }
 
 /// A touched column.

@@ -1,6 +1,6 @@
 use crate::compare::Candidate;
 use crate::float::{Entry64, Value64, Weight64, is_value};
-use crate::sweeps::{MOST_WEIGHT, NEVER, PIVOT};
+use crate::sweeps::{MOST_WEIGHT, NEVER, PIVOT, at_least_0};
 
 /// Values below this are infeasible, -2^-17.
 const FEASIBLE: Value64 = -7.62939453125e-6;
@@ -34,8 +34,7 @@ fn least_primal_ratio(values: &[Value64], alphas: &[Entry64]) -> f64 {
     let mut least = NEVER;
     for (value, alpha) in values.iter().zip(alphas) {
         if *alpha >= PIVOT {
-            let value = if *value < 0.0 { 0.0 } else { *value };
-            let ratio = (value + SLACK) / *alpha;
+            let ratio = (at_least_0(*value) + SLACK) / *alpha;
             if ratio < least {
                 least = ratio;
             }
@@ -75,13 +74,6 @@ pub(crate) fn dual_leaving(values: &[Value64], norms: &[Weight64]) -> Option<usi
     }
     let found = best?;
     Some(found.place)
-}
-
-/// Gives each post the reference weight 1.
-pub(crate) fn reset_norms(norms: &mut [Weight64]) {
-    for norm in norms.iter_mut() {
-        *norm = 1.0;
-    }
 }
 
 /// Returns a reference weight within its bound.

@@ -4,7 +4,7 @@ ghost use Rattle.made_days.specs.Draws.{next, answer};
 use std::marker::Model;
 
 /// Draws numbers, one after another, as its first state decides; contracts see it as its state.
-#[derive(Debug, Drop)]
+#[derive(Drop)]
 pub(crate) struct Generator {
     state: u64,
 }

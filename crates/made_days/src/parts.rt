@@ -71,7 +71,7 @@ const BLOCK_LENGTHS: Window = Window { lo: 2, hi: 8 };
 const MEAL_BEGINS: Window = Window { lo: 9, hi: 14 };
 
 /// A rule of the day; its cost is the day's where it has none of its own.
-#[derive(Clone, Copy, Debug, Drop)]
+#[derive(Clone, Copy, Drop)]
 pub(crate) struct RuleParts<'a> {
     left: u8,
     cost: Option<u32>,

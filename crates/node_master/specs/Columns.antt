@@ -1,5 +1,5 @@
 -- The listed columns of a node's master.
-use Rattle.std.specs.Prelude.{ℕ, ◌≡◌, ◌≤◌, ◌<◌, ◌+◌, ◌++◌, Some, List, All, length, slice_get}
+use Rattle.std.specs.Prelude.{ℕ, ◌≡◌, ◌≤◌, ◌<◌, ◌+◌, ◌++◌, Some, List, [], All, length, slice_get}
 use Rattle.std.specs.Borrow.{GName}
 use Rattle.roster_model.specs.declared.grammar.Grammar.{Grammar}
 use Rattle.roster_model.specs.declared.instance.Cut.{Cut}
@@ -84,6 +84,15 @@ pub record AreHeld (i : Instance) (cuts : List Cut) (pool : List PoolTree) (held
 pub record IsDesk (i : Instance) (cuts : List Cut) (pool : List PoolTree) (desk : Desk) : Type 0 where
   pub held : AreHeld i cuts pool desk.held
   pub wanted : All (λ (j : ℕ). j < length desk.held) desk.wanted
+  pub prices : IsRoomFor desk.prices i
+  pub few : length cuts ≤ desk.prices.most
+  pub tree : desk.tree.most ≡ most_uses i.grammar
+  pub numbers : length desk.numbers.items ≡ length i.cells + 2 + length cuts
+
+-- the desk is that of a node, with no column listed
+pub record IsEmptyDesk (i : Instance) (cuts : List Cut) (desk : Desk) : Type 0 where
+  pub held : desk.held ≡ []
+  pub wanted : desk.wanted ≡ []
   pub prices : IsRoomFor desk.prices i
   pub few : length cuts ≤ desk.prices.most
   pub tree : desk.tree.most ≡ most_uses i.grammar

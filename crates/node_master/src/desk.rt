@@ -2,7 +2,7 @@ use pivot_rows::Place;
 use roster_model::{List, PriceRoom, TreeRoom};
 
 /// What a listed column is.
-#[derive(Clone, Copy, Debug, PartialEq, Eq, Drop)]
+#[derive(Clone, Copy, Drop)]
 pub(crate) enum Kind {
     /// What is missing in a row.
     Missing(usize),

@@ -8,7 +8,7 @@ ghost use Rattle.bound_laws.specs.BestPrices.{artificial_cost};
 ghost use Rattle.master_laws.specs.Rows.{rows_of};
 ghost use Rattle.master_rows.specs.NodeRows.{AreRows};
 ghost use Rattle.tree_pool.specs.Pools.{PoolTree, IsPool};
-ghost use Rattle.node_master.specs.Columns.{AreTold, HasMissing, HasBeyonds, HasMore, AreHeld, IsDesk};
+ghost use Rattle.node_master.specs.Columns.{AreTold, HasMissing, HasBeyonds, HasMore, AreHeld, IsDesk, IsEmptyDesk};
 
 use crate::desk::{Desk, Held, Kind};
 use crate::trees::tree_column;
@@ -171,6 +171,25 @@ pub(crate) fn numbers_of(instance: &Instance, cuts: &[Cut]) -> usize
     instance.cells.len() + 2 + cuts.len()
 }
 
+/// Returns a desk for the node at a path of cuts, at which no column is listed.
+fn empty_desk(alloc: Global, instance: &Instance, cuts: &[Cut]) -> Result<Desk, Memory>
+    requires sound { IsSoundInstance instance.now }
+    requires small { length (rows_of instance.now cuts.now) ≤ 1500 }
+    ensures { IfOk result (IsEmptyDesk instance.now cuts.now) }
+{
+    let count = numbers_of(instance, cuts);
+    let Ok(numbers) = vec![in alloc; 0i128; count] else {
+        return Err(Memory);
+    };
+    Ok(Desk {
+        held: List::new(alloc),
+        wanted: List::new(alloc),
+        prices: PriceRoom::for_cuts(alloc, instance, cuts.len())?,
+        tree: TreeRoom::for_grammar(alloc, &instance.grammar)?,
+        numbers,
+    })
+}
+
 /// Returns a desk for the node at a path of cuts, with the rows' own columns and these trees of the
 /// pool listed.
 pub(crate) fn desk_of(
@@ -187,17 +206,7 @@ pub(crate) fn desk_of(
     requires pool { IsPool instance.now.grammar pool.now }
     ensures { IfOk result (IsDesk instance.now cuts.now pool.now) }
 {
-    let count = numbers_of(instance, cuts);
-    let Ok(numbers) = vec![in alloc; 0i128; count] else {
-        return Err(Memory);
-    };
-    let mut desk = Desk {
-        held: List::new(alloc),
-        wanted: List::new(alloc),
-        prices: PriceRoom::for_cuts(alloc, instance, cuts.len())?,
-        tree: TreeRoom::for_grammar(alloc, &instance.grammar)?,
-        numbers,
-    };
+    let mut desk = empty_desk(alloc, instance, cuts)?;
     list_columns(
         alloc,
         instance,

@@ -41,17 +41,25 @@ fn list_column(scout: &mut Scout, cost: i64, places: &[Place]) -> Result<(), Mem
     Ok(())
 }
 
-/// Whether a column is among the first ones of a list.
-fn is_before(held: &[Held], place: usize, kind: Kind) -> bool {
-    held.iter().take(place).any(|one| one.kind == kind)
+/// Whether a column is that of a tree of the pool.
+fn is_of_tree(one: &Held, tree: usize) -> bool {
+    match one.kind {
+        Kind::OfTree(number) => number == tree,
+        _ => false,
+    }
+}
+
+/// Whether the column of a tree is among the first ones of a list.
+fn is_before(held: &[Held], place: usize, tree: usize) -> bool {
+    held.iter().take(place).any(|one| is_of_tree(one, tree))
 }
 
 /// Lists the trees among columns in a scout, from a place on. A tree that is among the columns before gets
 /// a column without entries, which never enters.
 pub(crate) fn list_trees(scout: &mut Scout, held: &[Held], first: usize) -> Result<(), Memory> {
     for (place, one) in held.iter().enumerate().skip(first) {
-        if let Kind::OfTree(_) = one.kind {
-            if is_before(held, place, one.kind) {
+        if let Kind::OfTree(tree) = one.kind {
+            if is_before(held, place, tree) {
                 let _number = scout.add_column(0)?;
             } else {
                 list_column(scout, one.cost, one.places.as_slice())?;

@@ -1,5 +1,6 @@
 ghost use Rattle.std.specs.Prelude.{ℕ, ◌≡◌, ◌≤◌, ◌<◌, ◌+◌, ◌^◌, pos, ◌<ℤ◌, All, List as Items, length, IfOk};
 ghost use Rattle.roster_model.specs.declared.grammar.Grammar.{Grammar as Rules};
+ghost use Rattle.tableau.specs.Ends.{IsLpEnd};
 ghost use Rattle.tableau.specs.declared.simplex.Basic.{Basic as BasicColumn};
 ghost use Rattle.roster_model.specs.declared.instance.Mult.{Mult as Multiplier};
 ghost use Rattle.roster_model.specs.Folds.{Each};
@@ -17,12 +18,13 @@ ghost use Rattle.master_laws.specs.Rounding.{AreRoundedFrom};
 ghost use Rattle.master_rows.specs.NodeRows.{AreRows};
 ghost use Rattle.tree_pool.specs.Pools.{IsPool, IsGrown};
 ghost use Rattle.tree_pool.specs.Pools.{PoolTree};
-ghost use Rattle.node_master.specs.Columns.{HasKey};
+ghost use Rattle.node_master.specs.Columns.{HasKey, IsDesk};
 ghost use Rattle.node_master.specs.Ends.{IsNodeCut, EndsRight, IsFailedBy, AreTreeWeights};
 ghost use Rattle.node_master.specs.Priced.{AreNarrowPrices};
 
 use crate::bases::Bases;
 use crate::columns::NodeColumns;
+use crate::desk::Desk;
 use crate::ends::{Cause, NodeEnd, Weight};
 use crate::first::numbers_of;
 use crate::hint::{Hint, hinted_desk};
@@ -35,7 +37,7 @@ use parse_graph::Graph;
 use price_round::{RoundFault, to_prices};
 use roster_model::{Cut, Instance, List, Memory, Prices};
 use std::alloc::Global;
-use tableau::{Basic, LpFault, solve};
+use tableau::{Basic, LpEnd, LpFault, solve};
 use tree_pool::Pool;
 
 /// How many pivots a node is allowed.
@@ -187,6 +189,39 @@ fn solve_rows(
     ensures counts { (tally.old.wide ≤ tally.new.wide) × (tally.old.spent ≤ tally.new.spent) }
 {
     let mut desk = hinted_desk(alloc, instance, cuts, rows, pool, hint)?;
+    solve_at(
+        alloc, instance, graph, pricer, pool, cuts, rows, &mut desk, tally,
+    )
+}
+
+/// Solves the master of the columns at a desk.
+fn solve_at(
+    alloc: Global,
+    instance: &Instance,
+    graph: &Graph,
+    pricer: &mut Pricer,
+    pool: &mut Pool,
+    cuts: &[Cut],
+    rows: &NodeRows,
+    desk: &mut Desk,
+    tally: &mut Tally,
+) -> Result<NodeEnd, Memory>
+    requires sound { IsSoundInstance instance.now }
+    requires busy { IsPlainlyInfeasible instance.now → ⊥ }
+    requires graph { IsGraph instance.now.grammar graph.now }
+    requires tree { (t : Parts) × IsDayTree instance.now.grammar t }
+    requires pricer { IsMadeFor graph.now pricer.old }
+    requires pool { IsPool instance.now.grammar pool.old }
+    requires cuts { Each (IsNodeCut instance.now) cuts.now }
+    requires rows { AreRows instance.now cuts.now rows.now }
+    requires small { length (rows_of instance.now cuts.now) ≤ 1500 }
+    requires desk { IsDesk instance.now cuts.now pool.old desk.old }
+    ensures end { IfOk result (EndsRight instance.now cuts.now pool.new tally.old tally.new) }
+    ensures pricer { IsMadeFor graph.now pricer.new }
+    ensures pool { IsPool instance.now.grammar pool.new }
+    ensures grown { IsGrown pool.old pool.new }
+    ensures counts { (tally.old.wide ≤ tally.new.wide) × (tally.old.spent ≤ tally.new.spent) }
+{
     let mut columns = NodeColumns {
         alloc,
         instance,
@@ -195,13 +230,36 @@ fn solve_rows(
         rows,
         pricer,
         pool,
-        desk: &mut desk,
+        desk,
     };
-    let end = match solve(alloc, &mut columns, rows.right(), PIVOTS, tally) {
-        Ok(end) => end,
-        Err(fault) => return failed(fault),
-    };
-    let weights = listed_weights(alloc, &columns, end.basic.as_slice())?;
+    match solve(alloc, &mut columns, rows.right(), PIVOTS, tally) {
+        Ok(end) => best_end(alloc, instance, cuts, rows, &columns, &end, tally),
+        Err(fault) => failed(fault),
+    }
+}
+
+/// Returns the answer to a program that was solved: its prices, rounded, its value and its weights.
+fn best_end(
+    alloc: Global,
+    instance: &Instance,
+    cuts: &[Cut],
+    rows: &NodeRows,
+    columns: &NodeColumns<'_, '_, '_, '_, '_, '_, '_>,
+    end: &LpEnd,
+    tally: &mut Tally,
+) -> Result<NodeEnd, Memory>
+    requires sound { IsSoundInstance instance.now }
+    requires busy { IsPlainlyInfeasible instance.now → ⊥ }
+    requires tree { (t : Parts) × IsDayTree instance.now.grammar t }
+    requires rows { AreRows instance.now cuts.now rows.now }
+    requires small { length (rows_of instance.now cuts.now) ≤ 1500 }
+    requires end { IsLpEnd (master instance.now cuts.now)
+        (HasKey instance.now.grammar columns.now.pool.now columns.now.desk.now.held)
+        end.now.basic end.now.y end.now.kappa end.now.value }
+    ensures end { IfOk result (EndsRight instance.now cuts.now columns.now.pool.now tally.old tally.new) }
+    ensures tally { tally.new ≡ tally.old }
+{
+    let weights = listed_weights(alloc, columns, end.basic.as_slice())?;
     let prices = round(
         alloc,
         instance,

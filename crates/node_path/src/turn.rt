@@ -1,5 +1,5 @@
 /// A cut on the way down: its arc's number, and the least and the greatest count that the arc had before.
-#[derive(Clone, Copy, Debug, PartialEq, Eq, Drop)]
+#[derive(Clone, Copy, Drop)]
 pub(crate) struct Turn {
     pub arc: u32,
     pub low: u32,

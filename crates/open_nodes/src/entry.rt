@@ -2,7 +2,7 @@ use std::cmp::Reverse;
 
 /// What the heap has of an open leaf. The greatest comes first: that of the least bound, of these the
 /// deepest one, and of these the one with the greatest seat.
-#[derive(Clone, Copy, Debug, PartialEq, Eq, PartialOrd, Ord, Drop)]
+#[derive(Clone, Copy, PartialEq, Eq, PartialOrd, Ord, Drop)]
 pub(crate) struct Entry {
     pub bound: Reverse<u64>,
     pub depth: u32,

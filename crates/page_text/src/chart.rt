@@ -1,4 +1,5 @@
-ghost use Rattle.std.specs.Prelude.{◌≡◌, ◌≤◌, ◌+◌, ◌*◌, ◌^◌, ◌++◌, OnOk};
+ghost use Rattle.std.specs.Prelude.{◌≡◌, ◌≤◌, ◌+◌, ◌*◌, ◌^◌, ◌++◌, ◌∷◌, OnOk};
+ghost use Rattle.page_parts.specs.Elements as page;
 ghost use Rattle.page_parts.specs.Elements.{written};
 ghost use Rattle.page_text.specs.Charts.{
   ceiling_of,
@@ -26,7 +27,8 @@ ghost use Rattle.page_text.specs.Charts.{
 
 use crate::column::Column;
 use crate::ink::Ink;
-use page_parts::{Area, Sheet, bar, figure, left_of, marks, number, right_of};
+use crate::label::labelled;
+use page_parts::{Area, Sheet, bar, figure, left_of, marks, right_of};
 use roster_model::{List, Memory};
 
 /// Where a chart ends at its bottom.
@@ -143,8 +145,7 @@ fn column_bars(out: &mut List<u8>, sheet: Sheet, unit: u8, column: &Column) -> R
         column.need,
         column.short,
     )?;
-    column_bar(out, b"over", sheet, unit, column, column.have, column.over)?;
-    Ok(())
+    column_bar(out, b"over", sheet, unit, column, column.have, column.over)
 }
 
 // Writes a step of the line of the need.
@@ -152,11 +153,8 @@ fn column_bars(out: &mut List<u8>, sheet: Sheet, unit: u8, column: &Column) -> R
 fn need_step(out: &mut List<u8>, sheet: Sheet, unit: u8, column: &Column) -> Result<(), Memory>
     ensures { OnOk result (out.new ≡ out.old ++ written (need_step sheet unit column.now)) }
 {
-    marks(out, b"V")?;
-    number(out, level(unit, column.need))?;
-    marks(out, b"H")?;
-    number(out, from_of(sheet, column) + sheet.cell as u64)?;
-    Ok(())
+    labelled(out, b"V", level(unit, column.need))?;
+    labelled(out, b"H", from_of(sheet, column) + sheet.cell as u64)
 }
 
 // Writes a line over one period at a count, where it is above 0.
@@ -171,12 +169,9 @@ fn stroke(
     ensures { OnOk result (out.new ≡ out.old ++ written (stroke sheet unit column.now count)) }
 {
     if count > 0 {
-        marks(out, b"M")?;
-        number(out, from_of(sheet, column))?;
-        marks(out, b" ")?;
-        number(out, level(unit, count))?;
-        marks(out, b"H")?;
-        number(out, from_of(sheet, column) + sheet.cell as u64)?;
+        labelled(out, b"M", from_of(sheet, column))?;
+        labelled(out, b" ", level(unit, count))?;
+        labelled(out, b"H", from_of(sheet, column) + sheet.cell as u64)?;
     }
     Ok(())
 }
@@ -186,9 +181,7 @@ fn stroke(
 fn counted(out: &mut List<u8>, count: u32) -> Result<(), Memory>
     ensures { OnOk result (out.new ≡ out.old ++ written (counted count)) }
 {
-    marks(out, b" ")?;
-    number(out, count as u64)?;
-    Ok(())
+    labelled(out, b" ", count as u64)
 }
 
 // Writes what a column brings to a chart.
@@ -248,6 +241,22 @@ pub(crate) fn inked(
     Ok(())
 }
 
+// Writes marks, and a count of each column of a code behind them.
+fn labelled_counts(
+    out: &mut List<u8>,
+    label: &[u8],
+    ink: Ink,
+    sheet: Sheet,
+    code: u8,
+    columns: &[Column],
+) -> Result<(), Memory>
+    ensures { OnOk result
+        (out.new ≡ out.old ++ written (page.marks label.now ∷ inked ink sheet 0 code columns.now)) }
+{
+    marks(out, label)?;
+    inked(out, ink, sheet, 0, code, columns)
+}
+
 /// Writes the counts of a code in words, period by period.
 #[tactic(auto, unfolding(crate::specs::Charts::in_words))]
 pub(crate) fn in_words(
@@ -258,16 +267,11 @@ pub(crate) fn in_words(
 ) -> Result<(), Memory>
     ensures { OnOk result (out.new ≡ out.old ++ written (in_words sheet code columns.now)) }
 {
-    marks(out, b"Needed by period:")?;
-    inked(out, Ink::Needed, sheet, 0, code, columns)?;
-    marks(out, b". At work:")?;
-    inked(out, Ink::Had, sheet, 0, code, columns)?;
-    marks(out, b". Short:")?;
-    inked(out, Ink::Short, sheet, 0, code, columns)?;
-    marks(out, b". Surplus:")?;
-    inked(out, Ink::Over, sheet, 0, code, columns)?;
-    marks(out, b".")?;
-    Ok(())
+    labelled_counts(out, b"Needed by period:", Ink::Needed, sheet, code, columns)?;
+    labelled_counts(out, b". At work:", Ink::Had, sheet, code, columns)?;
+    labelled_counts(out, b". Short:", Ink::Short, sheet, code, columns)?;
+    labelled_counts(out, b". Surplus:", Ink::Over, sheet, code, columns)?;
+    marks(out, b".")
 }
 
 // Writes a line over the whole day.
@@ -293,8 +297,7 @@ pub(crate) fn frame(out: &mut List<u8>, sheet: Sheet, unit: u8, top: u32) -> Res
     grid(out, sheet, level(unit, top))?;
     grid(out, sheet, BASE)?;
     figure(out, b"price", beside, level(unit, top) + 4, top as u64)?;
-    figure(out, b"price", beside, BASE + 4, 0)?;
-    Ok(())
+    figure(out, b"price", beside, BASE + 4, 0)
 }
 
 // Writes the line of the need.
@@ -308,15 +311,11 @@ fn need_line(
 ) -> Result<(), Memory>
     ensures { OnOk result (out.new ≡ out.old ++ written (need_line sheet unit code columns.now)) }
 {
-    marks(out, b"<path class='need' d='M")?;
-    number(out, sheet.left as u64)?;
-    marks(out, b" ")?;
-    number(out, BASE)?;
+    labelled(out, b"<path class='need' d='M", sheet.left as u64)?;
+    labelled(out, b" ", BASE)?;
     inked(out, Ink::Need, sheet, unit, code, columns)?;
-    marks(out, b"V")?;
-    number(out, BASE)?;
-    marks(out, b"'/>")?;
-    Ok(())
+    labelled(out, b"V", BASE)?;
+    marks(out, b"'/>")
 }
 
 // Writes the lines of the floors and of the ceilings.
@@ -334,8 +333,7 @@ fn limit_lines(
     inked(out, Ink::Floor, sheet, unit, code, columns)?;
     marks(out, b"'/><path class='ceiling' d='")?;
     inked(out, Ink::Ceiling, sheet, unit, code, columns)?;
-    marks(out, b"'/>")?;
-    Ok(())
+    marks(out, b"'/>")
 }
 
 /// Writes the lines of the need, of the floors and of the ceilings.
@@ -349,6 +347,5 @@ pub(crate) fn lines(
     ensures { OnOk result (out.new ≡ out.old ++ written (lines sheet unit code columns.now)) }
 {
     need_line(out, sheet, unit, code, columns)?;
-    limit_lines(out, sheet, unit, code, columns)?;
-    Ok(())
+    limit_lines(out, sheet, unit, code, columns)
 }

@@ -1,4 +1,5 @@
-ghost use Rattle.std.specs.Prelude.{◌≡◌, ◌≤◌, ◌++◌, length, OnOk};
+ghost use Rattle.std.specs.Prelude.{◌≡◌, ◌≤◌, ◌++◌, ◌∷◌, length, OnOk};
+ghost use Rattle.page_parts.specs.Elements as page;
 ghost use Rattle.page_parts.specs.Elements.{written};
 ghost use Rattle.page_text.specs.Costs.{
   amount,
@@ -21,7 +22,8 @@ ghost use Rattle.page_text.specs.Costs.{
 
 use crate::column::Column;
 use crate::figures::Figures;
-use page_parts::{given, marks, number, paint_of};
+use crate::label::{labelled, labelled_text};
+use page_parts::{marks, number, paint_of};
 use roster_model::{CodeDef, List, Memory};
 
 // Writes the sentence of a roster that costs at most so much more than the best one.
@@ -29,10 +31,8 @@ use roster_model::{CodeDef, List, Memory};
 fn dearer(out: &mut List<u8>, more: u64) -> Result<(), Memory>
     ensures { OnOk result (out.new ≡ out.old ++ written (dearer more)) }
 {
-    marks(out, b"This roster costs at most ")?;
-    number(out, more)?;
-    marks(out, b" more than the best one.")?;
-    Ok(())
+    labelled(out, b"This roster costs at most ", more)?;
+    marks(out, b" more than the best one.")
 }
 
 // Writes the sentence of a roster of least cost.
@@ -67,13 +67,12 @@ fn gap(out: &mut List<u8>, cost: u64, bound: u64) -> Result<(), Memory>
 fn no_roster(out: &mut List<u8>, bound: u64) -> Result<(), Memory>
     ensures { OnOk result (out.new ≡ out.old ++ written (no_roster bound)) }
 {
-    marks(
+    labelled(
         out,
         b"No roster is stated. Each allowed roster costs at least ",
+        bound,
     )?;
-    number(out, bound)?;
-    marks(out, b".")?;
-    Ok(())
+    marks(out, b".")
 }
 
 // Writes how good the roster is, where there is a bound.
@@ -113,6 +112,14 @@ fn amount(out: &mut List<u8>, value: Option<u64>) -> Result<(), Memory>
     }
 }
 
+// Writes marks, and a cost or a bound behind them.
+fn labelled_amount(out: &mut List<u8>, label: &[u8], value: Option<u64>) -> Result<(), Memory>
+    ensures { OnOk result (out.new ≡ out.old ++ written (page.marks label.now ∷ amount value)) }
+{
+    marks(out, label)?;
+    amount(out, value)
+}
+
 /// Writes a code in its colour.
 #[tactic(auto, unfolding(crate::specs::Costs::chip))]
 pub(crate) fn chip(out: &mut List<u8>, codes: &[CodeDef], byte: u8) -> Result<(), Memory>
@@ -120,10 +127,8 @@ pub(crate) fn chip(out: &mut List<u8>, codes: &[CodeDef], byte: u8) -> Result<()
 {
     marks(out, b"<span class='chip ")?;
     marks(out, &paint_of(codes, byte))?;
-    marks(out, b"'>")?;
-    given(out, &[byte])?;
-    marks(out, b"</span>")?;
-    Ok(())
+    labelled_text(out, b"'>", &[byte])?;
+    marks(out, b"</span>")
 }
 
 /// Returns whether some column is of the code.
@@ -170,10 +175,8 @@ fn demanded_cost(
 {
     marks(out, b"<div><dt>Penalty for ")?;
     chip(out, codes, code.byte)?;
-    marks(out, b"</dt><dd>")?;
-    number(out, penalties(place, columns))?;
-    marks(out, b"</dd></div>")?;
-    Ok(())
+    labelled(out, b"</dt><dd>", penalties(place, columns))?;
+    marks(out, b"</dd></div>")
 }
 
 // Writes the penalties of a code that is demanded.
@@ -217,16 +220,19 @@ pub(crate) fn costs(
     requires { length codes.now ≤ 32 }
     ensures { OnOk result (out.new ≡ out.old ++ written (costs codes.now figures columns.now)) }
 {
-    marks(out, b"<dl><div><dt>Total cost</dt><dd>")?;
-    amount(out, figures.cost)?;
-    marks(out, b"</dd></div><div><dt>Bound</dt><dd>")?;
-    amount(out, figures.bound)?;
-    marks(out, b"</dd></div><div><dt>Paid for shifts</dt><dd>")?;
-    number(out, figures.paid)?;
-    marks(out, b"</dd></div><div><dt>Penalties</dt><dd>")?;
-    number(out, figures.penalty)?;
+    labelled_amount(out, b"<dl><div><dt>Total cost</dt><dd>", figures.cost)?;
+    labelled_amount(out, b"</dd></div><div><dt>Bound</dt><dd>", figures.bound)?;
+    labelled(
+        out,
+        b"</dd></div><div><dt>Paid for shifts</dt><dd>",
+        figures.paid,
+    )?;
+    labelled(
+        out,
+        b"</dd></div><div><dt>Penalties</dt><dd>",
+        figures.penalty,
+    )?;
     marks(out, b"</dd></div>")?;
     code_costs(out, codes, columns)?;
-    marks(out, b"</dl>\n")?;
-    Ok(())
+    marks(out, b"</dl>\n")
 }

@@ -1,5 +1,5 @@
 /// What a column brings to a chart.
-#[derive(Clone, Copy, Debug, PartialEq, Eq, Drop)]
+#[derive(Clone, Copy, Drop)]
 pub(crate) enum Ink {
     /// Its bars.
     Bars,

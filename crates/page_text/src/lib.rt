@@ -8,6 +8,7 @@ mod content;
 mod costs;
 mod figures;
 mod ink;
+mod label;
 mod page;
 mod roster_chart;
 mod row;

@@ -1,4 +1,4 @@
-ghost use Rattle.std.specs.Prelude.{◌≡◌, ◌≤◌, ◌++◌, length, IfOk, OnOk};
+ghost use Rattle.std.specs.Prelude.{◌≡◌, ◌≤◌, ◌++◌, codes as text, length, IfOk, OnOk};
 ghost use Rattle.page_parts.specs.Elements.{written};
 ghost use Rattle.page_text.specs.Pages.{
   all_show,
@@ -32,10 +32,11 @@ use crate::column::Column;
 use crate::content::Content;
 use crate::costs::{chip, costs, is_demanded, sentence};
 use crate::ink::Ink;
+use crate::label::{labelled, labelled_text};
 use crate::roster_chart::{rows, ticks};
 use crate::row::{Row, longest};
 use crate::style::style;
-use page_parts::{Sheet, caption, chart_width, given, marks, number, sheet_of};
+use page_parts::{Sheet, caption, chart_width, marks, sheet_of};
 use roster_model::{CodeDef, List, Memory};
 use std::alloc::Global;
 
@@ -44,16 +45,11 @@ use std::alloc::Global;
 fn size(out: &mut List<u8>, width: u64, height: u64) -> Result<(), Memory>
     ensures { OnOk result (out.new ≡ out.old ++ written (size width height)) }
 {
-    marks(out, b"' viewBox='0 0 ")?;
-    number(out, width)?;
-    marks(out, b" ")?;
-    number(out, height)?;
-    marks(out, b"' width='")?;
-    number(out, width)?;
-    marks(out, b"' height='")?;
-    number(out, height)?;
-    marks(out, b"'>\n")?;
-    Ok(())
+    labelled(out, b"' viewBox='0 0 ", width)?;
+    labelled(out, b" ", height)?;
+    labelled(out, b"' width='", width)?;
+    labelled(out, b"' height='", height)?;
+    marks(out, b"'>\n")
 }
 
 // What a code of the legend means.
@@ -71,8 +67,7 @@ fn legend_item(out: &mut List<u8>, codes: &[CodeDef], code: &CodeDef) -> Result<
 {
     marks(out, b"<li>")?;
     chip(out, codes, code.byte)?;
-    marks(out, work_word(code.work))?;
-    Ok(())
+    marks(out, work_word(code.work))
 }
 
 // Writes the codes of the legend.
@@ -103,6 +98,22 @@ fn height_of(rows: usize) -> u64
     40 + 26 * rows as u64
 }
 
+// What stands between the legend and the size of the chart of the shifts.
+fn roster_start() -> &'static [u8]
+    ensures { result.now
+        ≡ text "</ul>\n<svg class='roster' role='group' aria-label='Shifts of the roster, one row a shift" }
+{
+    b"</ul>\n<svg class='roster' role='group' aria-label='Shifts of the roster, one row a shift"
+}
+
+// What stands behind the rows.
+fn roster_end() -> &'static [u8]
+    ensures { result.now
+        ≡ text "</svg>\n<p class='hint'>Point at a shift, or go to it with the Tab key, and see how the rules derive it.</p></section>\n" }
+{
+    b"</svg>\n<p class='hint'>Point at a shift, or go to it with the Tab key, and see how the rules derive it.</p></section>\n"
+}
+
 // Writes the chart of the shifts.
 #[tactic(auto, unfolding(crate::specs::Pages::shifts))]
 fn shifts(out: &mut List<u8>, sheet: Sheet, codes: &[CodeDef], shown: &[Row]) -> Result<(), Memory>
@@ -111,19 +122,12 @@ fn shifts(out: &mut List<u8>, sheet: Sheet, codes: &[CodeDef], shown: &[Row]) ->
 {
     marks(out, b"<section><h2>Shifts</h2>\n<ul class='legend'>")?;
     legend(out, codes)?;
-    marks(
-        out,
-        b"</ul>\n<svg class='roster' role='group' aria-label='Shifts of the roster, one row a shift",
-    )?;
+    marks(out, roster_start())?;
     size(out, chart_width(sheet), height_of(shown.len()))?;
     price_head(out, sheet)?;
     ticks(out, sheet, 20)?;
     rows(out, sheet, codes, shown)?;
-    marks(
-        out,
-        b"</svg>\n<p class='hint'>Point at a shift, or go to it with the Tab key, and see how the rules derive it.</p></section>\n",
-    )?;
-    Ok(())
+    marks(out, roster_end())
 }
 
 // Writes the beginning of the chart of a code.
@@ -141,15 +145,14 @@ fn chart_head(
 {
     marks(out, b"<figure><figcaption>")?;
     chip(out, codes, code.byte)?;
-    marks(
+    labelled_text(
         out,
         b"</figcaption><svg role='img' aria-label='Coverage of ",
+        &[code.byte],
     )?;
-    given(out, &[code.byte])?;
     marks(out, b". ")?;
     in_words(out, sheet, place, columns)?;
-    size(out, chart_width(sheet), 132)?;
-    Ok(())
+    size(out, chart_width(sheet), 132)
 }
 
 // Writes what stands in the chart of a code.
@@ -168,8 +171,7 @@ fn chart_body(
     frame(out, sheet, unit, top)?;
     lines(out, sheet, unit, place, columns)?;
     ticks(out, sheet, 127)?;
-    marks(out, b"</svg></figure>\n")?;
-    Ok(())
+    marks(out, b"</svg></figure>\n")
 }
 
 // Writes the chart of a code that is demanded.
@@ -237,8 +239,7 @@ fn coverage(
 {
     marks(out, chart_legend())?;
     charts(out, codes, sheet, columns)?;
-    marks(out, b"</div></section>\n")?;
-    Ok(())
+    marks(out, b"</div></section>\n")
 }
 
 // Writes what shows a derivation.
@@ -246,16 +247,11 @@ fn coverage(
 fn shows(out: &mut List<u8>, place: u64) -> Result<(), Memory>
     ensures { OnOk result (out.new ≡ out.old ++ written (shows place)) }
 {
-    marks(out, b"body:has(#r")?;
-    number(out, place)?;
-    marks(out, b":hover) #d")?;
-    number(out, place)?;
-    marks(out, b"{display:block;z-index:2}body:has(#r")?;
-    number(out, place)?;
-    marks(out, b":focus) #d")?;
-    number(out, place)?;
-    marks(out, b"{display:block}\n")?;
-    Ok(())
+    labelled(out, b"body:has(#r", place)?;
+    labelled(out, b":hover) #d", place)?;
+    labelled(out, b"{display:block;z-index:2}body:has(#r", place)?;
+    labelled(out, b":focus) #d", place)?;
+    marks(out, b"{display:block}\n")
 }
 
 // Writes what shows the derivations.
@@ -274,12 +270,9 @@ fn all_show(out: &mut List<u8>, texts: &[List<u8>]) -> Result<(), Memory>
 fn derivation(out: &mut List<u8>, place: u64, text: &List<u8>) -> Result<(), Memory>
     ensures { OnOk result (out.new ≡ out.old ++ written (derivation place text.now)) }
 {
-    marks(out, b"<pre class='derivation' id='d")?;
-    number(out, place)?;
-    marks(out, b"'>")?;
-    given(out, text.as_slice())?;
-    marks(out, b"</pre>\n")?;
-    Ok(())
+    labelled(out, b"<pre class='derivation' id='d", place)?;
+    labelled_text(out, b"'>", text.as_slice())?;
+    marks(out, b"</pre>\n")
 }
 
 // Writes the derivations of the rows.
@@ -306,6 +299,13 @@ fn before_style() -> &'static [u8]
     HEAD
 }
 
+// What stands between the style and the sentence of how good the roster is.
+fn after_style() -> &'static [u8]
+    ensures { result.now ≡ text "</style>\n</head>\n<body>\n<main>\n<header><h1>Roster</h1><p>" }
+{
+    b"</style>\n</head>\n<body>\n<main>\n<header><h1>Roster</h1><p>"
+}
+
 // Writes the head of the page.
 #[tactic(auto, unfolding(crate::specs::Pages::head))]
 fn head(out: &mut List<u8>, texts: &[List<u8>]) -> Result<(), Memory>
@@ -315,11 +315,7 @@ fn head(out: &mut List<u8>, texts: &[List<u8>]) -> Result<(), Memory>
     marks(out, before_style())?;
     marks(out, style())?;
     all_show(out, texts)?;
-    marks(
-        out,
-        b"</style>\n</head>\n<body>\n<main>\n<header><h1>Roster</h1><p>",
-    )?;
-    Ok(())
+    marks(out, after_style())
 }
 
 // Writes the head, and what the roster costs.
@@ -332,8 +328,7 @@ fn top_part(out: &mut List<u8>, codes: &[CodeDef], content: &Content) -> Result<
     head(out, content.derivations.as_slice())?;
     sentence(out, content.figures.cost, content.figures.bound)?;
     marks(out, b"</p></header>\n")?;
-    costs(out, codes, content.figures, content.columns.as_slice())?;
-    Ok(())
+    costs(out, codes, content.figures, content.columns.as_slice())
 }
 
 // Writes the chart of the shifts, where there are any.
@@ -387,8 +382,7 @@ fn body(
     shifts_part(out, sheet, codes, content.rows.as_slice())?;
     coverage_part(out, sheet, codes, content.columns.as_slice())?;
     derivations(out, content.derivations.as_slice())?;
-    marks(out, b"</main>\n</body>\n</html>\n")?;
-    Ok(())
+    marks(out, b"</main>\n</body>\n</html>\n")
 }
 
 /// Returns the page of a roster: one HTML page that stands for itself. After want of memory there is none.

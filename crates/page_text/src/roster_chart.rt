@@ -15,10 +15,11 @@ ghost use Rattle.page_text.specs.RosterChart.{
   times,
 };
 
+use crate::label::{labelled, labelled_text};
 use crate::row::Row;
 use page_parts::{
-    Area, Sheet, bar, caption, chart_width, figure, given, left_of, marks, middle_of, number,
-    paint_of, top_of,
+    Area, Sheet, bar, caption, chart_width, figure, left_of, marks, middle_of, number, paint_of,
+    top_of,
 };
 use roster_model::{CodeDef, List, Memory};
 
@@ -48,8 +49,7 @@ fn letter(
         middle_of(sheet, place),
         top_of(row) + 15,
         &[byte],
-    )?;
-    Ok(())
+    )
 }
 
 // Writes the letter that a word has there, if any.
@@ -103,13 +103,9 @@ fn row_words(out: &mut List<u8>, row: &Row) -> Result<(), Memory>
     ensures { OnOk result (out.new ≡ out.old ++ written (row_words row.now)) }
 {
     number(out, row.count as u64)?;
-    marks(out, b" of: ")?;
-    given(out, row.name.as_slice())?;
-    marks(out, b" ")?;
-    given(out, row.word.as_slice())?;
-    marks(out, b", price ")?;
-    number(out, row.price)?;
-    Ok(())
+    labelled_text(out, b" of: ", row.name.as_slice())?;
+    labelled_text(out, b" ", row.word.as_slice())?;
+    labelled(out, b", price ", row.price)
 }
 
 // Writes the beginning of a row.
@@ -117,14 +113,15 @@ fn row_words(out: &mut List<u8>, row: &Row) -> Result<(), Memory>
 fn row_head(out: &mut List<u8>, place: u8, row: &Row) -> Result<(), Memory>
     ensures { OnOk result (out.new ≡ out.old ++ written (row_head place row.now)) }
 {
-    marks(out, b"<g class='row' tabindex='0' role='img' id='r")?;
-    number(out, place as u64)?;
-    marks(out, b"' aria-describedby='d")?;
-    number(out, place as u64)?;
+    labelled(
+        out,
+        b"<g class='row' tabindex='0' role='img' id='r",
+        place as u64,
+    )?;
+    labelled(out, b"' aria-describedby='d", place as u64)?;
     marks(out, b"' aria-label='")?;
     row_words(out, row)?;
-    marks(out, b"'>")?;
-    Ok(())
+    marks(out, b"'>")
 }
 
 // Writes what stands beside the letters of a row.
@@ -142,8 +139,7 @@ fn row_frame(out: &mut List<u8>, sheet: Sheet, place: u8, row: &Row) -> Result<(
     let name = (sheet.left as u64).saturating_sub(10);
     caption(out, b"name", name, top_of(place) + 15, row.name.as_slice())?;
     let price = chart_width(sheet).saturating_sub(14);
-    figure(out, b"price", price, top_of(place) + 15, row.price)?;
-    Ok(())
+    figure(out, b"price", price, top_of(place) + 15, row.price)
 }
 
 // Writes a row.
@@ -161,8 +157,7 @@ fn row(
     row_frame(out, sheet, place, row)?;
     times(out, place, row.count)?;
     cells(out, sheet, codes, place, row.word.as_slice())?;
-    marks(out, b"</g>\n")?;
-    Ok(())
+    marks(out, b"</g>\n")
 }
 
 /// Writes the rows of a chart, one a shift.

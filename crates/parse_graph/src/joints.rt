@@ -72,6 +72,17 @@ fn lists_of(alloc: Global, links: &Links) -> Result<NodeLists, Memory>
     })
 }
 
+// What joins linked arcs and their nodes.
+fn joined(links: Links, nodes: NodeLists, root: Option<u32>) -> Joints
+    ensures { result ≡ record { links = links.arcs; nodes = nodes; root = root } }
+{
+    Joints {
+        links: links.arcs,
+        nodes,
+        root,
+    }
+}
+
 /// Joins the arcs of the instance, which stand in an order in which each is after all those that make
 /// what it uses.
 pub fn join(alloc: Global, grammar: &Grammar, arcs: &[ArcKey]) -> Result<Joints, Memory>
@@ -82,10 +93,11 @@ pub fn join(alloc: Global, grammar: &Grammar, arcs: &[ArcKey]) -> Result<Joints,
     ensures { IfOk result (AreJoints grammar.now arcs.now) }
 {
     let links = link(alloc, grammar, arcs)?;
-    let nodes = lists_of(alloc, &links)?;
-    Ok(Joints {
-        root: root_of(grammar, &links.nodes),
-        links: links.arcs,
-        nodes,
-    })
+    match lists_of(alloc, &links) {
+        Ok(nodes) => {
+            let root = root_of(grammar, &links.nodes);
+            Ok(joined(links, nodes, root))
+        }
+        Err(fault) => Err(fault),
+    }
 }

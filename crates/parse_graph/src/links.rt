@@ -266,6 +266,22 @@ impl Links {
         self.entries.push(number, made, kids)?;
         Ok(())
     }
+
+    // Adds the arcs of the instance to no arcs.
+    fn add_all(&mut self, alloc: Global, grammar: &Grammar, arcs: &[ArcKey]) -> Result<(), Memory>
+        requires sound { IsSound grammar.now }
+        requires arcs { HasArcs grammar.now arcs.now }
+        requires shaped { All (IsShaped grammar.now) arcs.now }
+        requires few { length arcs.now ≤ 100000 }
+        requires none { IsLinked grammar.now [] self.old }
+        ensures { OnOk result (IsLinked grammar.now arcs.now self.new) }
+    {
+        let mut guesses = Guesses::new(alloc, arcs.len())?;
+        for arc in arcs {
+            self.add(grammar, &mut guesses, arc)?;
+        }
+        Ok(())
+    }
 }
 
 /// Links the arcs of the instance, which stand in an order in which each is after all those that make
@@ -277,12 +293,11 @@ pub fn link(alloc: Global, grammar: &Grammar, arcs: &[ArcKey]) -> Result<Links, 
     requires few { length arcs.now ≤ 100000 }
     ensures { IfOk result (IsLinked grammar.now arcs.now) }
 {
-    let mut guesses = Guesses::new(alloc, arcs.len())?;
     let mut links = Links::new(alloc, arcs.len())?;
-    for arc in arcs {
-        links.add(grammar, &mut guesses, arc)?;
+    match links.add_all(alloc, grammar, arcs) {
+        Ok(()) => Ok(links),
+        Err(fault) => Err(fault),
     }
-    Ok(links)
 }
 
 /// Returns the nodes in the order of their numbers.

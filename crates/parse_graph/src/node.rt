@@ -1,5 +1,5 @@
 /// A node of the graph: a name, or a suffix of a rule from its second symbol on, on a span.
-#[derive(Clone, Copy, Debug, PartialEq, Eq, Hash, Drop)]
+#[derive(Clone, Copy, PartialEq, Eq, Hash, Drop)]
 pub enum NodeKey {
     Name {
         name: u8,

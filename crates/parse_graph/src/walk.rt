@@ -1,4 +1,4 @@
-ghost use Rattle.std.specs.Prelude.{◌≡◌, ◌≤◌, IfOk, IfErr, length, List as Items};
+ghost use Rattle.std.specs.Prelude.{◌≡◌, ◌≤◌, [], IfOk, OnOk, IfErr, length, List as Items};
 ghost use Rattle.roster_model.specs.declared.grammar.ArcKey.{ArcKey as Arc};
 ghost use Rattle.roster_model.specs.Sound.{IsSound};
 ghost use Rattle.span_arcs.specs.Ahead.{IsPassed};
@@ -28,6 +28,27 @@ fn count_arcs(grammar: &Grammar, day: &DayArcs, passed: u64, first: Option<ArcKe
     count
 }
 
+// Lists the arcs of the instance in their order, where they are at most 100,000.
+fn list_all(grammar: &Grammar, day: &DayArcs, arcs: &mut List<ArcKey>) -> Result<(), GraphFault>
+    requires sound { IsSound grammar.now }
+    requires day { IsDayArcsOf grammar.now day.now }
+    requires none { arcs.old ≡ [] }
+    ensures listed { OnOk result (AreListed grammar.now arcs.new) }
+    ensures refused { IfErr result (IsRefused grammar.now) }
+{
+    let mut next = day.next_arc(grammar, None);
+    while let Some(arc) = next {
+        let last = day.list_run(grammar, arc, arcs)?;
+        arcs.push(last)?;
+        next = day.next_arc(grammar, Some(last));
+        if arcs.len() > 100_000 {
+            let count = count_arcs(grammar, day, arcs.len() as u64, next);
+            return Err(GraphFault::TooManyArcs { count });
+        }
+    }
+    Ok(())
+}
+
 /// Returns the arcs of the instance in their order, where they are at most 100,000.
 pub fn list_arcs(
     alloc: Global,
@@ -40,15 +61,8 @@ pub fn list_arcs(
     ensures refused { IfErr result (IsRefused grammar.now) }
 {
     let mut arcs = List::new(alloc);
-    let mut next = day.next_arc(grammar, None);
-    while let Some(arc) = next {
-        let last = day.list_run(grammar, arc, &mut arcs)?;
-        arcs.push(last)?;
-        next = day.next_arc(grammar, Some(last));
-        if arcs.len() > 100_000 {
-            let count = count_arcs(grammar, day, arcs.len() as u64, next);
-            return Err(GraphFault::TooManyArcs { count });
-        }
+    match list_all(grammar, day, &mut arcs) {
+        Ok(()) => Ok(arcs),
+        Err(fault) => Err(fault),
     }
-    Ok(arcs)
 }

@@ -1,7 +1,7 @@
 use roster_model::Cut;
 
 /// A split of which one half is open.
-#[derive(Clone, Copy, Debug, PartialEq, Eq, Drop)]
+#[derive(Clone, Copy, Drop)]
 pub struct Frame {
     /// The cut of the open half.
     pub cut: Cut,

@@ -5,7 +5,7 @@ use certificates::Node;
 use roster_model::{ArcKey, Mult, Prices};
 
 /// The prices of a node in parts that stand elsewhere.
-#[derive(Clone, Copy, Debug, Drop)]
+#[derive(Clone, Copy, Drop)]
 pub(crate) struct PricesView<'a> {
     /// The denominator, 1 to 2^30.
     pub d: u64,
@@ -16,7 +16,7 @@ pub(crate) struct PricesView<'a> {
 }
 
 /// A node of a certificate whose prices stand elsewhere.
-#[derive(Clone, Copy, Debug, Drop)]
+#[derive(Clone, Copy, Drop)]
 pub(crate) enum NodeView<'a> {
     /// A split.
     Split {

@@ -5,7 +5,7 @@ ghost use Rattle.proof_check.specs.Walked.{lesser_cause};
 use certificates::Why;
 
 /// Where a walk over the nodes of a certificate stands.
-#[derive(Clone, Copy, Debug, Drop)]
+#[derive(Clone, Copy, Drop)]
 pub(crate) struct Walk {
     /// How many nodes were seen.
     pub nodes: u32,

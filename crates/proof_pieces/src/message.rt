@@ -4,6 +4,7 @@ ghost use Rattle.proof_pieces.specs.FaultLine.{line_of, fault_text, fault_line};
 use crate::fault::ProofFault;
 use roster_model::{List, Memory};
 use std::alloc::Global;
+use std::fmt;
 use text_lines::{put, put_place};
 
 fn line_of(fault: &ProofFault) -> Option<u32>
@@ -22,20 +23,29 @@ fn line_of(fault: &ProofFault) -> Option<u32>
 }
 
 #[tactic(auto, unfolding(crate::specs::FaultLine::fault_text))]
-fn text_of(fault: &ProofFault) -> &'static [u8]
+fn text_of(fault: &ProofFault) -> &'static str
     ensures { result.now ≡ fault_text fault.now }
 {
     match *fault {
-        ProofFault::BadByte { .. } => b"bad byte",
-        ProofFault::UnknownLine { .. } => b"unknown line",
-        ProofFault::BadNumber { .. } => b"bad number",
-        ProofFault::OutOfRange { .. } => b"out of range",
-        ProofFault::BadHeader { .. } => b"bad header",
-        ProofFault::CutShort => b"the text ends early",
-        ProofFault::Trailing { .. } => b"text after the end",
-        ProofFault::TooManyNodes { .. } => b"too many nodes, at most 20001",
-        ProofFault::TooLong => b"the text is too long",
-        ProofFault::Memory => b"out of memory",
+        ProofFault::BadByte { .. } => "bad byte",
+        ProofFault::UnknownLine { .. } => "unknown line",
+        ProofFault::BadNumber { .. } => "bad number",
+        ProofFault::OutOfRange { .. } => "out of range",
+        ProofFault::BadHeader { .. } => "bad header",
+        ProofFault::CutShort => "the text ends early",
+        ProofFault::Trailing { .. } => "text after the end",
+        ProofFault::TooManyNodes { .. } => "too many nodes, at most 20001",
+        ProofFault::TooLong => "the text is too long",
+        ProofFault::Memory => "out of memory",
+    }
+}
+
+impl fmt::Display for ProofFault {
+    fn fmt<W: fmt::Write>(&self, f: &mut fmt::Formatter<W>) -> fmt::Result {
+        if let Some(line) = line_of(self) {
+            write!(f, "line {line}: ")?;
+        }
+        f.write_str(text_of(self))
     }
 }
 
@@ -47,7 +57,7 @@ pub fn fault_line(alloc: Global, fault: &ProofFault) -> Result<List<u8>, Memory>
     let mut out = List::new(alloc);
     put(&mut out, b"proof: ")?;
     put_place(&mut out, line_of(fault))?;
-    put(&mut out, text_of(fault))?;
+    put(&mut out, text_of(fault).as_bytes())?;
     out.push(b'\n')?;
     Ok(out)
 }

@@ -20,7 +20,7 @@ use roster_model::Instance;
 use text_lines::BadByte;
 
 /// A piece, and what the text goes on with behind it.
-#[derive(Clone, Copy, Debug, PartialEq, Eq, Drop)]
+#[derive(Clone, Copy, Drop)]
 pub struct Next {
     pub piece: Piece,
     pub stage: Stage,

@@ -1,6 +1,9 @@
-ghost use Rattle.std.specs.Prelude.{◌≡◌, ◌<◌, IfOk};
+ghost use Rattle.std.specs.Prelude.{ℕ, ◌≡◌, ◌<◌, List, ◌∷◌, Err, IfOk, MatchOption};
+ghost use Rattle.std.specs.Option.{option_copied};
+ghost use Rattle.roster_model.specs.declared.instance.Group.{Group};
 ghost use Rattle.certificates.specs.Sound.{most_rule};
-ghost use Rattle.proof_pieces.specs.NodeLines.{arc_at, split_of, split_at, priced_at, leaf_at, node_at};
+ghost use Rattle.proof_pieces.specs.NodeLines.{arc_at, own_at, split_of, split_at, priced_at, leaf_at, node_at};
+ghost use Rattle.proof_pieces.specs.declared.fault.PieceFault.TheVariants.{UnknownLine};
 
 use crate::fault::PieceFault;
 use crate::field::number;
@@ -9,7 +12,7 @@ use roster_model::{ArcKey, Group};
 use text_lines::{Line, Words};
 
 /// What the line of a node says.
-#[derive(Clone, Copy, Debug, PartialEq, Eq, Drop)]
+#[derive(Clone, Copy, Drop)]
 pub enum NodeLine {
     Split {
         arc: ArcKey,
@@ -38,23 +41,58 @@ fn most_rule(groups: &[Group]) -> u128
     if groups.is_empty() { 64 } else { 72 }
 }
 
-#[tactic(auto, unfolding(crate::specs::NodeLines::arc_at))]
-fn arc(
-    line: u32,
-    groups: &[Group],
-    rule: &[u8],
-    suffix: &[u8],
-    start: &[u8],
-    len: &[u8],
-    part: &[u8],
-) -> Result<ArcKey, PieceFault>
-    ensures { result ≡ arc_at line groups.now rule.now suffix.now start.now len.now part.now }
+// The words of an arc.
+#[derive(Clone, Copy, Drop)]
+struct ArcWords<'a> {
+    rule: &'a [u8],
+    suffix: &'a [u8],
+    start: &'a [u8],
+    len: &'a [u8],
+    part: &'a [u8],
+}
+
+// Takes the words of a split's arc.
+#[tactic(auto, unfolding(crate::specs::NodeLines::split_at))]
+fn arc_words<'a>(words: &mut Words<'a>) -> Option<ArcWords<'a>>
+    ensures { MatchOption result
+        ((k : ℕ) (groups : List Group) (n : ℕ) → split_at k groups n words.old ≡ Err (UnknownLine k))
+        (λ a. words.old ≡ a.rule.now ∷ a.suffix.now ∷ a.start.now ∷ a.len.now ∷ a.part.now ∷ words.new) }
 {
-    let rule = number(line, 1, most_rule(groups), rule)? as u8;
-    let suffix = number(line, 0, 6, suffix)? as u8;
-    let start = number(line, 1, 96, start)? as u8;
-    let len = number(line, 1, 96, len)? as u8;
-    let part = number(line, 1, 96, part)? as u8;
+    let Some(rule) = words.next() else {
+        return None;
+    };
+    let Some(suffix) = words.next() else {
+        return None;
+    };
+    let Some(start) = words.next() else {
+        return None;
+    };
+    let Some(len) = words.next() else {
+        return None;
+    };
+    let Some(part) = words.next() else {
+        return None;
+    };
+    Some(ArcWords {
+        rule,
+        suffix,
+        start,
+        len,
+        part,
+    })
+}
+
+// Reads an arc.
+#[tactic(auto, unfolding(crate::specs::NodeLines::arc_at))]
+fn arc(line: u32, groups: &[Group], words: &ArcWords<'_>) -> Result<ArcKey, PieceFault>
+    ensures { result ≡ arc_at line groups.now words.now.rule.now words.now.suffix.now words.now.start.now
+        words.now.len.now words.now.part.now }
+{
+    let rule = number(line, 1, most_rule(groups), words.rule)? as u8;
+    let suffix = number(line, 0, 6, words.suffix)? as u8;
+    let start = number(line, 1, 96, words.start)? as u8;
+    let len = number(line, 1, 96, words.len)? as u8;
+    let part = number(line, 1, 96, words.part)? as u8;
     Ok(ArcKey {
         rule,
         suffix,
@@ -64,7 +102,36 @@ fn arc(
     })
 }
 
-#[tactic(auto, unfolding(crate::specs::NodeLines::split_of, crate::specs::NodeLines::split_at))]
+// Reads the denominator of a split's prices, where it has some.
+fn own(line: u32, word: Option<&[u8]>) -> Result<Option<u64>, PieceFault>
+    ensures { result ≡ own_at line (option_copied word.entry) }
+{
+    let Some(word) = word else {
+        return Ok(None);
+    };
+    let d = number(line, 1, MOST_DENOMINATOR, word)? as u64;
+    Ok(Some(d))
+}
+
+// Reads the numbers of a split.
+#[tactic(auto, unfolding(crate::specs::NodeLines::split_of))]
+fn split_of(
+    line: u32,
+    groups: &[Group],
+    words: &ArcWords<'_>,
+    b: &[u8],
+    d: Option<&[u8]>,
+) -> Result<NodeLine, PieceFault>
+    ensures { result ≡ split_of line groups.now words.now.rule.now words.now.suffix.now words.now.start.now
+        words.now.len.now words.now.part.now b.now (option_copied d.entry) }
+{
+    let arc = arc(line, groups, words)?;
+    let b = number(line, 0, 63, b)? as u32;
+    let d = own(line, d)?;
+    Ok(NodeLine::Split { arc, b, d })
+}
+
+#[tactic(auto, unfolding(crate::specs::NodeLines::split_at))]
 fn split(
     line: u32,
     groups: &[Group],
@@ -74,42 +141,20 @@ fn split(
     ensures value { result ≡ split_at line groups.now nodes words.old }
     ensures few { IfOk result (λ _. nodes < 20001) }
 {
-    let Some(rule) = words.next() else {
-        return Err(PieceFault::UnknownLine { line });
-    };
-    let Some(suffix) = words.next() else {
-        return Err(PieceFault::UnknownLine { line });
-    };
-    let Some(start) = words.next() else {
-        return Err(PieceFault::UnknownLine { line });
-    };
-    let Some(len) = words.next() else {
-        return Err(PieceFault::UnknownLine { line });
-    };
-    let Some(part) = words.next() else {
+    let Some(arc) = arc_words(words) else {
         return Err(PieceFault::UnknownLine { line });
     };
     let Some(b) = words.next() else {
         return Err(PieceFault::UnknownLine { line });
     };
-    let Some(d) = words.next() else {
-        if MOST_LINES <= nodes {
-            return Err(PieceFault::TooManyNodes { line });
-        }
-        let arc = arc(line, groups, rule, suffix, start, len, part)?;
-        let b = number(line, 0, 63, b)? as u32;
-        return Ok(NodeLine::Split { arc, b, d: None });
-    };
+    let d = words.next();
     if let Some(_) = words.next() {
         return Err(PieceFault::UnknownLine { line });
     }
     if MOST_LINES <= nodes {
         return Err(PieceFault::TooManyNodes { line });
     }
-    let arc = arc(line, groups, rule, suffix, start, len, part)?;
-    let b = number(line, 0, 63, b)? as u32;
-    let d = Some(number(line, 1, MOST_DENOMINATOR, d)? as u64);
-    Ok(NodeLine::Split { arc, b, d })
+    split_of(line, groups, &arc, b, d)
 }
 
 #[tactic(auto, unfolding(crate::specs::NodeLines::priced_at))]

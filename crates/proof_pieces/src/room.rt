@@ -59,9 +59,7 @@ fn fill(items: &mut Vec<u8>, bytes: &[u8])
     ensures room { vec_capacity items.old ≤ vec_capacity items.new }
 {
     items.clear();
-    for byte in bytes {
-        let _ = items.push(*byte);
-    }
+    let _ = items.extend_from_slice(bytes);
 }
 
 // Ends the halves of which a leaf is the last node.

@@ -1,5 +1,5 @@
 /// What a proof text goes on with.
-#[derive(Clone, Copy, Debug, PartialEq, Eq, Drop)]
+#[derive(Clone, Copy, Drop)]
 pub enum Stage {
     /// The text has too many bytes.
     TooLong,

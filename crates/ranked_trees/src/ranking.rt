@@ -84,6 +84,56 @@ fn start<P: LetterPrice>(
     Ok(waiting)
 }
 
+// Returns the trees of the day that begin with a candidate, one after another, until no candidate waits.
+fn rank_waiting<P: LetterPrice>(
+    alloc: Global,
+    grammar: &Grammar,
+    prices: &P,
+    sums: &Sums,
+    most: u32,
+    waiting: &mut Vec<Candidate>,
+) -> Result<List<Ranked>, Memory>
+    requires sums { IsSums grammar.now (P.view prices.now) sums.now }
+    requires progress { IsProgress grammar.now (P.view prices.now) most [] waiting.old.items [] }
+    ensures { IfOk result (IsRanking grammar.now (P.view prices.now) most) }
+{
+    let mut given = List::new(alloc);
+    while !waiting.is_empty() {
+        let mut current = waiting.remove(0);
+        descend(
+            alloc,
+            grammar,
+            prices,
+            sums,
+            most as usize,
+            given.as_slice(),
+            &mut current,
+            waiting,
+        )?;
+        given.push(Ranked {
+            sum: current.sum,
+            tree: current.steps,
+        })?;
+    }
+    Ok(given)
+}
+
+// Returns the first trees of the day by the table of least sums.
+fn rank_by<P: LetterPrice>(
+    alloc: Global,
+    grammar: &Grammar,
+    prices: &P,
+    sums: &Sums,
+    most: u32,
+) -> Result<List<Ranked>, Memory>
+    requires sums { IsSums grammar.now (P.view prices.now) sums.now }
+    requires some { 1 ≤ most }
+    ensures { IfOk result (IsRanking grammar.now (P.view prices.now) most) }
+{
+    let mut waiting = start(alloc, grammar, prices, sums, most)?;
+    rank_waiting(alloc, grammar, prices, sums, most, &mut waiting)
+}
+
 /// Returns the first trees of the day in ascending order of their sums, and trees of equal sums in
 /// ascending order of their rule uses: `most` of them, or all where there are fewer. A tree with a
 /// forbidden letter has no sum and is left out.
@@ -103,24 +153,5 @@ pub fn rank<P: LetterPrice>(
     ensures { IfOk result (IsRanking grammar.now (P.view prices.now) most) }
 {
     let sums = sums_of(alloc, grammar, prices)?;
-    let mut waiting = start(alloc, grammar, prices, &sums, most)?;
-    let mut given = List::new(alloc);
-    while !waiting.is_empty() {
-        let mut current = waiting.remove(0);
-        descend(
-            alloc,
-            grammar,
-            prices,
-            &sums,
-            most as usize,
-            given.as_slice(),
-            &mut current,
-            &mut waiting,
-        )?;
-        given.push(Ranked {
-            sum: current.sum,
-            tree: current.steps,
-        })?;
-    }
-    Ok(given)
+    rank_by(alloc, grammar, prices, &sums, most)
 }

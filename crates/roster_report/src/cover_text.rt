@@ -16,8 +16,7 @@ fn part_line(out: &mut List<u8>, part: Part, code: u8, covers: &[Cover]) -> Resu
     put(out, part_name(part))?;
     word(out, &[code])?;
     numbers(out, part, covers)?;
-    out.push(b'\n')?;
-    Ok(())
+    out.push(b'\n')
 }
 
 // Writes the lines of a code's cells.
@@ -27,8 +26,7 @@ fn code_lines(out: &mut List<u8>, code: u8, covers: &[Cover]) -> Result<(), Memo
     part_line(out, Part::Need, code, covers)?;
     part_line(out, Part::Have, code, covers)?;
     part_line(out, Part::Short, code, covers)?;
-    part_line(out, Part::Over, code, covers)?;
-    Ok(())
+    part_line(out, Part::Over, code, covers)
 }
 
 /// Writes the lines of the cells of all codes.

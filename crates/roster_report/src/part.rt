@@ -7,7 +7,7 @@ use roster_model::{List, Memory};
 use text_lines::field;
 
 /// One of the numbers of a cell's cover.
-#[derive(Clone, Copy, Debug, PartialEq, Eq, Drop)]
+#[derive(Clone, Copy, Drop)]
 pub(crate) enum Part {
     Need,
     Have,

@@ -193,8 +193,7 @@ fn roster_lines(
     shifts(alloc, &mut report.shifts, lines, instance, count)?;
     report.paid = number_line(lines, u64::MAX, b"paid")?;
     report.penalty = number_line(lines, u64::MAX, b"penalty")?;
-    cover_lines(&mut report.cover, lines, instance)?;
-    Ok(())
+    cover_lines(&mut report.cover, lines, instance)
 }
 
 // Reads the lines behind the head, where there is a cost.

@@ -34,8 +34,7 @@ fn day_lines(out: &mut List<u8>, summary: &Summary) -> Result<(), Memory>
 {
     number_line(out, b"make", summary.number as u64)?;
     number_line(out, b"periods", summary.periods as u64)?;
-    number_line(out, b"arcs", summary.arcs as u64)?;
-    Ok(())
+    number_line(out, b"arcs", summary.arcs as u64)
 }
 
 // Writes what a summary says of the search.
@@ -46,8 +45,7 @@ fn search_lines(out: &mut List<u8>, summary: &Summary) -> Result<(), Memory>
     amount_line(out, b"cost", summary.cost)?;
     amount_line(out, b"bound", summary.bound)?;
     number_line(out, b"processed", summary.processed as u64)?;
-    number_line(out, b"failed", summary.failed as u64)?;
-    Ok(())
+    number_line(out, b"failed", summary.failed as u64)
 }
 
 /// Writes the text of a summary, with one space between words and no comment. After want of memory

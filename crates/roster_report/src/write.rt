@@ -29,8 +29,7 @@ fn header_line(out: &mut List<u8>, groups: &[Group]) -> Result<(), Memory>
     } else {
         word(out, b"2")?;
     }
-    out.push(b'\n')?;
-    Ok(())
+    out.push(b'\n')
 }
 
 fn done_word(done: Done) -> &'static [u8]
@@ -49,8 +48,7 @@ pub(crate) fn result_line(out: &mut List<u8>, done: Done) -> Result<(), Memory>
 {
     put(out, b"result")?;
     word(out, done_word(done))?;
-    out.push(b'\n')?;
-    Ok(())
+    out.push(b'\n')
 }
 
 /// Writes a line of a word and a number.
@@ -59,8 +57,7 @@ pub(crate) fn number_line(out: &mut List<u8>, first: &[u8], number: u64) -> Resu
 {
     put(out, first)?;
     field(out, number)?;
-    out.push(b'\n')?;
-    Ok(())
+    out.push(b'\n')
 }
 
 // Writes the lines that each report has.
@@ -72,8 +69,7 @@ fn head_lines(out: &mut List<u8>, groups: &[Group], report: &Report) -> Result<(
     amount_line(out, b"cost", report.cost)?;
     amount_line(out, b"bound", report.bound)?;
     number_line(out, b"processed", report.processed as u64)?;
-    number_line(out, b"failed", report.failed as u64)?;
-    Ok(())
+    number_line(out, b"failed", report.failed as u64)
 }
 
 // Writes the lines of a roster.
@@ -87,8 +83,7 @@ fn roster_lines(out: &mut List<u8>, instance: &Instance, report: &Report) -> Res
     shift_lines(out, instance, report.shifts.as_slice())?;
     number_line(out, b"paid", report.paid)?;
     number_line(out, b"penalty", report.penalty)?;
-    cover_lines(out, instance, report.cover.as_slice())?;
-    Ok(())
+    cover_lines(out, instance, report.cover.as_slice())
 }
 
 // Writes the lines of the roster, where there is one.

@@ -51,6 +51,11 @@ fault_text (UnitCycle k word) = codes "a name leads back to itself by one-symbol
 fault_text TooLong = codes "the text is too long"
 fault_text Memory = codes "out of memory"
 
+-- what there is too much of, and the most that there may be, behind the words `too many`
+abbrev pub most_text : RulesFault → List ℕ
+most_text (TooMany k what most) = limit_text what ++ codes ", at most " ++ decimal most
+most_text _ = []
+
 -- the fault, after the word `rules` and its line
 abbrev pub fault_line : RulesFault → List ℕ
 fault_line e = codes "rules: " ++ place_text (line_of e) ++ fault_text e ++ 10 ∷ []

@@ -1,4 +1,4 @@
-ghost use Rattle.std.specs.Prelude.{◌≡◌, ◌+◌, ◌≤◌, ◌^◌, ◌<◌, length, IfOk};
+ghost use Rattle.std.specs.Prelude.{◌≡◌, ◌+◌, ◌≤◌, ◌^◌, ◌<◌, Ok, length, IfOk};
 ghost use Rattle.roster_model.specs.Sound.{has_rule, IsSound, IsPlain};
 ghost use Rattle.rules_text.specs.Drafts.{IsParsed};
 ghost use Rattle.rules_text.specs.RulesOf.{unruled, parsed, with_start, finish, IsValue};
@@ -8,7 +8,7 @@ use crate::draft::{Draft, Parsed};
 use crate::fault::RulesFault;
 use crate::place::Place;
 use crate::rules::Rules;
-use roster_model::{Grammar, Memory, Rule, unit_ranks};
+use roster_model::{Grammar, Rule, unit_ranks};
 use std::alloc::Global;
 
 fn has_rule(rules: &[Rule], name: usize) -> bool
@@ -54,8 +54,8 @@ fn start_of(draft: &Draft) -> Result<(u8, u8), RulesFault>
 }
 
 // Makes a grammar of the draft's lists.
-fn parsed(alloc: Global, draft: Draft, periods: u8, start: u8) -> Result<Parsed, Memory>
-    ensures { IfOk result (λ p. p ≡ parsed draft periods start) }
+fn parsed(alloc: Global, draft: Draft, periods: u8, start: u8) -> Result<Parsed, RulesFault>
+    ensures { Reads (λ p. p) result (Ok (parsed draft periods start)) }
 {
     let Draft { codes, rules, .. } = draft;
     let Rules { names, rules } = rules;
@@ -74,9 +74,10 @@ fn parsed(alloc: Global, draft: Draft, periods: u8, start: u8) -> Result<Parsed,
 pub fn finish(alloc: Global, draft: Draft) -> Result<Parsed, RulesFault>
     ensures { Reads (λ p. p) result (finish draft) }
 {
-    let (periods, start) = start_of(&draft)?;
-    let made = parsed(alloc, draft, periods, start)?;
-    Ok(made)
+    match start_of(&draft) {
+        Ok((periods, start)) => parsed(alloc, draft, periods, start),
+        Err(fault) => Err(fault),
+    }
 }
 
 /// Refuses a grammar whose one-symbol rules lead from a name back to it.

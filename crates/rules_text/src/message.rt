@@ -1,9 +1,10 @@
 ghost use Rattle.std.specs.Prelude.{◌≡◌, ◌++◌, [], ◌∷◌, IfOk, OnOk};
-ghost use Rattle.rules_text.specs.FaultLine.{line_of, limit_text, fault_text, fault_line};
+ghost use Rattle.rules_text.specs.FaultLine.{line_of, limit_text, most_text, fault_text, fault_line};
 
 use crate::fault::{Limit, RulesFault};
 use roster_model::{List, Memory};
 use std::alloc::Global;
+use std::fmt;
 use text_lines::{put, put_place, write_number};
 
 fn line_of(fault: &RulesFault) -> Option<u32>
@@ -40,34 +41,64 @@ fn put_limit(out: &mut List<u8>, what: Limit) -> Result<(), Memory>
     }
 }
 
+// The text of a fault, or of `TooMany` the words before what there is too much of.
 #[tactic(auto, unfolding(crate::specs::FaultLine::fault_text))]
-fn put_text(out: &mut List<u8>, fault: &RulesFault) -> Result<(), Memory>
-    ensures { OnOk result (out.new ≡ out.old ++ fault_text fault.now) }
+fn text_of(fault: &RulesFault) -> &'static str
+    ensures { result.now ++ most_text fault.now ≡ fault_text fault.now }
 {
     match *fault {
-        RulesFault::BadByte { .. } => put(out, b"bad byte"),
-        RulesFault::UnknownLine { .. } => put(out, b"unknown line"),
-        RulesFault::BadNumber { .. } => put(out, b"bad number"),
-        RulesFault::OutOfRange { .. } => put(out, b"out of range"),
-        RulesFault::BadName { .. } => put(out, b"bad name"),
-        RulesFault::Twice { .. } => put(out, b"said twice"),
-        RulesFault::UnknownCode { .. } => put(out, b"unknown code"),
-        RulesFault::TooMany { what, most, .. } => {
-            put(out, b"too many ")?;
-            put_limit(out, what)?;
-            put(out, b", at most ")?;
-            write_number(out, most as i128)
-        }
-        RulesFault::EmptyRight { .. } => put(out, b"empty right side"),
-        RulesFault::NoPeriods => put(out, b"no periods line"),
-        RulesFault::NoStart => put(out, b"no start line"),
-        RulesFault::NoRule { .. } => put(out, b"a name has no rule"),
-        RulesFault::UnitCycle { .. } => {
-            put(out, b"a name leads back to itself by one-symbol rules")
-        }
-        RulesFault::TooLong => put(out, b"the text is too long"),
-        RulesFault::Memory => put(out, b"out of memory"),
+        RulesFault::BadByte { .. } => "bad byte",
+        RulesFault::UnknownLine { .. } => "unknown line",
+        RulesFault::BadNumber { .. } => "bad number",
+        RulesFault::OutOfRange { .. } => "out of range",
+        RulesFault::BadName { .. } => "bad name",
+        RulesFault::Twice { .. } => "said twice",
+        RulesFault::UnknownCode { .. } => "unknown code",
+        RulesFault::TooMany { .. } => "too many ",
+        RulesFault::EmptyRight { .. } => "empty right side",
+        RulesFault::NoPeriods => "no periods line",
+        RulesFault::NoStart => "no start line",
+        RulesFault::NoRule { .. } => "a name has no rule",
+        RulesFault::UnitCycle { .. } => "a name leads back to itself by one-symbol rules",
+        RulesFault::TooLong => "the text is too long",
+        RulesFault::Memory => "out of memory",
     }
+}
+
+// Appends what there is too much of, and the most that there may be.
+fn put_most(out: &mut List<u8>, fault: &RulesFault) -> Result<(), Memory>
+    ensures { OnOk result (out.new ≡ out.old ++ most_text fault.now) }
+{
+    let RulesFault::TooMany { what, most, .. } = *fault else {
+        return Ok(());
+    };
+    put_limit(out, what)?;
+    put(out, b", at most ")?;
+    write_number(out, most as i128)
+}
+
+impl fmt::Display for RulesFault {
+    fn fmt<W: fmt::Write>(&self, f: &mut fmt::Formatter<W>) -> fmt::Result {
+        if let Some(line) = line_of(self) {
+            write!(f, "line {line}: ")?;
+        }
+        f.write_str(text_of(self))?;
+        match *self {
+            RulesFault::TooMany { what, most, .. } => write!(f, "{what}, at most {most}"),
+            _ => Ok(()),
+        }
+    }
+}
+
+// Appends the line that tells a fault.
+fn put_line(out: &mut List<u8>, fault: &RulesFault) -> Result<(), Memory>
+    ensures { OnOk result (out.new ≡ out.old ++ fault_line fault.now) }
+{
+    put(out, b"rules: ")?;
+    put_place(out, line_of(fault))?;
+    put(out, text_of(fault).as_bytes())?;
+    put_most(out, fault)?;
+    out.push(b'\n')
 }
 
 /// Returns the line that tells a fault, as `rules: line 3: empty right side` with a line feed. A
@@ -76,9 +107,6 @@ pub fn fault_line(alloc: Global, fault: &RulesFault) -> Result<List<u8>, Memory>
     ensures { IfOk result (λ text. text ≡ fault_line fault.now) }
 {
     let mut out = List::new(alloc);
-    put(&mut out, b"rules: ")?;
-    put_place(&mut out, line_of(fault))?;
-    put_text(&mut out, fault)?;
-    out.push(b'\n')?;
+    put_line(&mut out, fault)?;
     Ok(out)
 }

@@ -41,8 +41,7 @@ fn window(out: &mut List<u8>, name: &[u8], window: Window) -> Result<(), Memory>
     }
     word(out, name)?;
     field(out, window.lo as u64)?;
-    field(out, window.hi as u64)?;
-    Ok(())
+    field(out, window.hi as u64)
 }
 
 fn symbols(
@@ -65,8 +64,7 @@ fn periods_line(out: &mut List<u8>, periods: u8) -> Result<(), Memory>
 {
     put(out, b"periods")?;
     field(out, periods as u64)?;
-    out.push(b'\n')?;
-    Ok(())
+    out.push(b'\n')
 }
 
 fn code_line(out: &mut List<u8>, code: CodeDef) -> Result<(), Memory>
@@ -98,8 +96,7 @@ fn start_line(out: &mut List<u8>, names: &[List<u8>], start: u8) -> Result<(), M
 {
     put(out, b"start")?;
     name(out, names, start)?;
-    out.push(b'\n')?;
-    Ok(())
+    out.push(b'\n')
 }
 
 fn rule_line(
@@ -119,8 +116,7 @@ fn rule_line(
     window(out, b"len", rule.span)?;
     window(out, b"begin", rule.first)?;
     window(out, b"end", rule.last)?;
-    out.push(b'\n')?;
-    Ok(())
+    out.push(b'\n')
 }
 
 fn rule_lines(

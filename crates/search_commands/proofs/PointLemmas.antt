@@ -1,5 +1,6 @@
 -- The points of a curve, one after another.
-use Rattle.std.proofs.Common.{◌≡◌, ℕ, ◌+◌, ◌<◌, arith, Bool, List, [], ◌∷◌, ◌++◌, length, refl, sym, ap, subst, ◌∙◌}
+use Rattle.std.proofs.Common.{◌≡◌, ℕ, ◌+◌, ◌<◌, arith, Bool, List, [], ◌∷◌, ◌++◌, length, Result, Ok, Err, IfOk, refl, sym, ap, subst, ◌∙◌}
+use Rattle.std.specs.Prelude.{MatchResult}
 use Rattle.roster_model.specs.declared.instance.Instance.{Instance}
 use Rattle.branch_price.specs.Found.{AreCounted}
 use Rattle.day_solver.specs.declared.solution.Solution.{Solution}
@@ -140,6 +141,14 @@ point-found old new proof m turns heads before after s said e h solution counted
       is = is ∙ ap (λ (k : ℕ). point_of k s.found) here;
       stored = subst (λ (k : ℕ). IsStoredBy (record { name = point_name proof k; text = s.proof } ∷ []) before after) here stored;
     }
+
+-- how the next point ends, by how storing it ends
+pub point-ends : (old new : CurveView) (proof : List ℕ) (m : MasterView) (turns heads : ℕ) (before after : Told) (s : Solution) (r : Result CurvePoint ℕ) → new ≡ record old { given = old.given + 1 } → heads ≡ point_heads new
+    → IsSolution (point_day new) m.strict turns s → AreCounted (point_day new) m.before m.now s.found → IfOk r (λ said. said ≡ point_of heads s.found)
+    → MatchResult r (λ said. IsStoredBy (record { name = point_name proof heads; text = s.proof } ∷ []) before after) (IsBrokenOff [] (point_name proof heads) before after)
+    → MatchResult r (FindsPoint old.day proof m turns (first_heads old.day + old.given) before after) (IsBrokenOff [] (point_name proof (first_heads old.day + old.given)) before after)
+point-ends old new proof m turns heads before after s (Ok said) e h solution counted is stored = point-found old new proof m turns heads before after s said e h solution counted is stored
+point-ends old new proof m turns heads before after s (Err status) e h solution counted is broken = point-broken old new proof heads status before after e h broken
 
 pub not-begun : (name : List ℕ) (told : Told) → IsBrokenOff [] name told told 7
 not-begun name told = out_of_memory [] name told told (none_yet told)

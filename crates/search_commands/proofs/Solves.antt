@@ -1,6 +1,6 @@
 -- The answers of commands that search, from what their parts answer.
 use Rattle.std.proofs.Common.{◌≡◌, ◌≢◌, ℕ, List, Option, Result, Ok, Err, IfOk, sym, subst, ◌∙◌}
-use Rattle.std.specs.Prelude.{Some, None, [], ◌∷◌}
+use Rattle.std.specs.Prelude.{[], ◌∷◌}
 use Rattle.roster_model.specs.declared.grammar.Grammar.{Grammar}
 use Rattle.roster_model.specs.declared.instance.Instance.{Instance}
 use Rattle.roster_model.specs.declared.memory.Memory.{Memory}
@@ -21,13 +21,14 @@ use Rattle.branch_price.specs.Found.{AreCounted}
 use Rattle.day_solver.specs.declared.solution.Solution.{Solution}
 use Rattle.day_solver.specs.Solutions.{IsSolution, IsReportText}
 use Rattle.text_commands.specs.declared.answer.Answer.{Answer}
-use Rattle.text_commands.specs.Fetch.{IsAnswer}
-use Rattle.text_commands.specs.Reader.{IsReader, HoldsAll}
+use Rattle.text_commands.specs.Fetch.{IsAnswer, IsFetch, NoAnswer}
+use Rattle.text_commands.specs.Reader.{IsReader}
 use Rattle.search_commands.specs.Writer.{IsWriter, IsStoredAnswer, StoresNothing}
-use Rattle.search_commands.specs.Solve.{MasterView, Finds, SaysTooManyArcs, Solving, SolvesDemand, AnswersSolveDemand, SolvesRules, done_status}
+use Rattle.search_commands.specs.Solve.{MasterView, Finds, SaysTooManyArcs, Solving, SolvesDemand, AnswersSolveDemand, SolvesRules, AnswersSolve, done_status}
 use Rattle.search_commands.specs.Solve as solves
-use Rattle.search_commands.proofs.Writers.{widen, as_writer}
+use Rattle.search_commands.proofs.Writers.{widen, as_writer, refused_fetch, after_fetch}
 use Rattle.text_commands.proofs.Checks.{no_names}
+use Rattle.text_commands.proofs.Readers.{one_held}
 
 refused_demand : (g : Grammar) (text : List ℕ) (m : MasterView) (turns : ℕ) (fault : DemandFault) (r : Result Answer Memory)
     → IfOk r (λ a. (fault ≢ demand_faults.Memory) × (a.status ≡ 4) × (a.output ≡ demand.fault_line fault)) → (fault ≢ demand_faults.Memory → instance_of g text ≡ Err fault)
@@ -109,3 +110,25 @@ module _ (name : List ℕ) (before after : Told) (status : ℕ) (m : MasterView)
   rules-accepted text demand_name g reading sound w =
       widen (AnswersSolveDemand before.held g demand_name m turns) (SolvesRules before.held text demand_name m turns)
       (λ s o x a. solves.SolvesRules.accepted g s o x (record { reading = reading; sound = sound }) a) (demand_name ∷ []) (demand_name ∷ []) name before after status (λ h. h) w
+
+  -- a demand text that was fetched, and one that was not
+  pub demand-read : (g : Grammar) (asked text : List ℕ) (middle : Told) → IsFetch asked before middle text → IsWriter (SolvesDemand g text m turns) [] name middle after status
+      → IsWriter (AnswersSolveDemand before.held g asked m turns) (asked ∷ []) name before after status
+  demand-read g asked text middle f w =
+      after_fetch (AnswersSolveDemand before.held g asked m turns) asked [] name before middle after status text f
+      (widen (SolvesDemand g text m turns) (AnswersSolveDemand before.held g asked m turns) (λ s o x a. record { text = text; holds = f.holds; answers = a }) [] [] name middle after status (λ h. h) w)
+
+  pub demand-unread : (g : Grammar) (asked : List ℕ) → IsReader NoAnswer (asked ∷ []) before after status → IsWriter (AnswersSolveDemand before.held g asked m turns) (asked ∷ []) name before after status
+  demand-unread g asked reader = refused_fetch (AnswersSolveDemand before.held g asked m turns) asked (asked ∷ []) name before after status (λ h. h) reader
+
+  -- a rules text that was fetched, and one that was not
+  pub rules-read : (asked demand_name text : List ℕ) (middle : Told) → IsFetch asked before middle text → IsWriter (SolvesRules middle.held text demand_name m turns) (demand_name ∷ []) name middle after status
+      → IsWriter (AnswersSolve before.held asked demand_name m turns) (asked ∷ demand_name ∷ []) name before after status
+  rules-read asked demand_name text middle f w =
+      after_fetch (AnswersSolve before.held asked demand_name m turns) asked (demand_name ∷ []) name before middle after status text f
+      (widen (SolvesRules middle.held text demand_name m turns) (AnswersSolve before.held asked demand_name m turns)
+      (λ s o x a. record { text = text; holds = f.holds; answers = subst (λ (h : Option Texts). SolvesRules h text demand_name m turns s o x) f.held a }) (demand_name ∷ []) (demand_name ∷ []) name middle after status (λ h. h) w)
+
+  pub rules-unread : (asked demand_name : List ℕ) → IsReader NoAnswer (asked ∷ []) before after status → IsWriter (AnswersSolve before.held asked demand_name m turns) (asked ∷ demand_name ∷ []) name before after status
+  rules-unread asked demand_name reader =
+      refused_fetch (AnswersSolve before.held asked demand_name m turns) asked (asked ∷ demand_name ∷ []) name before after status (one_held before.held asked (demand_name ∷ [])) reader

@@ -2,7 +2,7 @@ ghost use Rattle.std.specs.Prelude.{ℕ, ◌≡◌, ◌≢◌, ◌≤◌, ◌<�
 ghost use Rattle.std.specs.List.{list_all};
 ghost use Rattle.day_solver.specs.Solutions.{HasArcCount};
 ghost use Rattle.proof_reuse.specs.Curves.{first_heads, point_count};
-ghost use Rattle.reuse_report.specs.CurveText.{curve_text};
+ghost use Rattle.reuse_report.specs.CurveText.{curve_text, point_of};
 ghost use Rattle.roster_model.specs.Sound.{IsPlain, IsSound};
 ghost use Rattle.roster_model.specs.SoundInstance.{IsSoundInstance};
 ghost use Rattle.search_commands.specs.Curve.{
@@ -24,6 +24,7 @@ ghost use Rattle.search_commands.specs.Solve.{lent};
 use crate::solve::graph_refusal;
 use branch_price::Master;
 use day_curve::DayCurve;
+use day_solver::Solution;
 use demand_text::read_demand;
 use reuse_report::{CurvePoint, write_curve};
 use roster_model::{Grammar, Instance, Memory};
@@ -81,6 +82,27 @@ fn store_point<S: Shelf>(
     }
 }
 
+// Stores the certificate of a solution and returns the point, or the status of a refusal.
+fn solved_point<S: Shelf>(
+    alloc: Global,
+    shelf: &mut S,
+    proof: &str,
+    heads: u32,
+    solution: &Solution,
+) -> Result<CurvePoint, u8>
+    ensures is { IfOk result (λ point. point ≡ point_of heads solution.now.found) }
+    ensures stored { MatchResult result
+        (λ _. IsStoredBy (record { name = point_name proof.now heads; text = solution.now.proof } ∷ [])
+        (S.told shelf.old)
+        (S.told shelf.new))
+        (IsBrokenOff [] (point_name proof.now heads) (S.told shelf.old) (S.told shelf.new)) }
+{
+    match store_point(alloc, shelf, proof, heads, solution.proof.as_slice()) {
+        Ok(()) => Ok(CurvePoint::of(heads, &solution.found)),
+        Err(status) => Err(status),
+    }
+}
+
 // Searches the next point of a curve and stores its certificate, or returns the status of a refusal.
 fn next_point<S: Shelf, M: Master>(
     alloc: Global,
@@ -103,13 +125,10 @@ fn next_point<S: Shelf, M: Master>(
         (S.told shelf.new)) }
     ensures strict_stays { M.strict master.new ≡ M.strict master.old }
 {
-    let solution = match curve.next(turns, master) {
-        Ok(solution) => solution,
-        Err(Memory) => return Err(MEMORY),
-    };
-    let heads = curve.heads();
-    store_point(alloc, shelf, proof, heads, solution.proof.as_slice())?;
-    Ok(CurvePoint::of(heads, &solution.found))
+    match curve.next(turns, master) {
+        Ok(solution) => solved_point(alloc, shelf, proof, curve.heads(), &solution),
+        Err(Memory) => Err(MEMORY),
+    }
 }
 
 // Searches the points of a curve and stores their certificates, or returns the status of a refusal.
@@ -222,6 +241,28 @@ fn curve_points<S: Shelf, M: Master>(
     }
 }
 
+// Searches a curve that was just made, stores the certificates of its points and says them.
+fn curve_made<S: Shelf, M: Master>(
+    alloc: Global,
+    shelf: &mut S,
+    mut curve: DayCurve,
+    proof: &str,
+    turns: u32,
+    master: &mut M,
+) -> u8
+    requires none { curve.given ≡ 0 }
+    requires points { 0 < point_count curve.day }
+    requires plain { curve.day.groups ≡ [] }
+    requires arcs { (arcs : ℕ) × HasArcCount curve.day.grammar arcs }
+    requires some { 1 ≤ turns }
+    requires few { turns ≤ 10000 }
+    ensures { IsSeriesWriter
+        (Curving curve.day proof.now (lent (M.strict master.old) (M.refused master.old)
+        (M.refused master.new)) turns) [] (S.told shelf.old) (S.told shelf.new) result }
+{
+    curve_points(alloc, shelf, &mut curve, proof, turns, master)
+}
+
 // Searches the curve of an instance without groups, or says that it has too many arcs.
 fn curve_plain<S: Shelf, M: Master>(
     alloc: Global,
@@ -239,7 +280,7 @@ fn curve_plain<S: Shelf, M: Master>(
         (M.refused master.new)) turns) [] (S.told shelf.old) (S.told shelf.new) result }
 {
     match DayCurve::new(alloc, instance) {
-        Ok(mut curve) => curve_points(alloc, shelf, &mut curve, proof, turns, master),
+        Ok(curve) => curve_made(alloc, shelf, curve, proof, turns, master),
         Err(fault) => say_answer(shelf, graph_refusal(alloc, fault)),
     }
 }

@@ -151,11 +151,10 @@ fn solve_demand<S: Shelf, M: Master>(
         (M.refused master.new)) turns)
         (demand.now ∷ []) proof.now (S.told shelf.old) (S.told shelf.new) result }
 {
-    let text = match fetched(alloc, shelf, demand) {
-        Ok(text) => text,
-        Err(status) => return status,
-    };
-    solve_demand_text(alloc, shelf, grammar, text.as_slice(), proof, turns, master)
+    match fetched(alloc, shelf, demand) {
+        Ok(text) => solve_demand_text(alloc, shelf, grammar, text.as_slice(), proof, turns, master),
+        Err(status) => status,
+    }
 }
 
 // Solves the demand text under a name by a rules text.
@@ -200,9 +199,8 @@ pub fn solve<S: Shelf, M: Master>(
         (M.refused master.new)) turns)
         (rules.now ∷ demand.now ∷ []) proof.now (S.told shelf.old) (S.told shelf.new) result }
 {
-    let text = match fetched(alloc, shelf, rules) {
-        Ok(text) => text,
-        Err(status) => return status,
-    };
-    solve_rules_text(alloc, shelf, text.as_slice(), demand, proof, turns, master)
+    match fetched(alloc, shelf, rules) {
+        Ok(text) => solve_rules_text(alloc, shelf, text.as_slice(), demand, proof, turns, master),
+        Err(status) => status,
+    }
 }

@@ -18,9 +18,10 @@ pub fn add_part(first: Option<i128>, arc: i128, rest: Option<i128>) -> Option<i1
     requires rest { IfSome rest (Within (2 ^ 110)) }
     ensures { result ≡ plus first (plus (Some arc) rest) }
 {
-    let head = first?;
-    let tail = rest?;
-    Some(head + (arc + tail))
+    match (first, rest) {
+        (Some(head), Some(tail)) => Some(head + (arc + tail)),
+        _ => None,
+    }
 }
 
 /// A least sum so far, and the number of what has it: a rule's number, or a first part's length.

@@ -2,7 +2,7 @@ ghost use Rattle.std.specs.Prelude.{◌≤◌, length};
 ghost use Rattle.roster_model.specs.Folds.{Each};
 ghost use Rattle.roster_model.specs.SoundInstance.{IsSoundInstance};
 ghost use Rattle.master_laws.specs.Rows.{rows_of};
-ghost use Rattle.master_rows.specs.NodeRows.{IsSmallCut};
+ghost use Rattle.master_rows.specs.NodeRows.{AreRows, IsSmallCut};
 
 use crate::shares::Share;
 use dives::{list_places, scout_of};
@@ -129,6 +129,27 @@ fn flags_of(alloc: Global, count: usize) -> Result<Vec<bool>, Memory> {
     }
 }
 
+/// Returns the program of a node with no trees, and room to try cuts.
+fn without_trees(
+    alloc: Global,
+    instance: &Instance,
+    cuts: &[Cut],
+    rows: &NodeRows,
+) -> Result<Bench, Memory>
+    requires { AreRows instance.now cuts.now rows.now }
+{
+    let base = scout_of(alloc, instance, cuts, rows, 1)?;
+    let copy = scout_of(alloc, instance, cuts, rows, 1)?;
+    Ok(Bench {
+        base,
+        copy,
+        listed: List::new(alloc),
+        flags: Vec::new(alloc),
+        value: 0,
+        most: 0,
+    })
+}
+
 impl Bench {
     /// Returns the program of a node, solved; `None` where it was not. No value from `limit` on is of use.
     pub fn new(
@@ -144,27 +165,51 @@ impl Bench {
         requires small { length (rows_of instance.now cuts.now) ≤ 1500 }
     {
         let rows = NodeRows::new(alloc, instance, cuts)?;
-        let mut base = scout_of(alloc, instance, cuts, &rows, 1)?;
-        let mut listed = List::new(alloc);
-        list_trees(alloc, cuts, &rows, pool, shares, &mut base, &mut listed)?;
-        if !solve(&mut base) {
-            return Ok(None);
+        Bench::over(alloc, instance, cuts, &rows, pool, shares, limit)
+    }
+
+    /// Returns the program over a node's rows, solved; `None` where it was not.
+    fn over(
+        alloc: Global,
+        instance: &Instance,
+        cuts: &[Cut],
+        rows: &NodeRows,
+        pool: &Pool,
+        shares: &[Share],
+        limit: i128,
+    ) -> Result<Option<Bench>, Memory>
+        requires { AreRows instance.now cuts.now rows.now }
+    {
+        let mut bench = without_trees(alloc, instance, cuts, rows)?;
+        if bench.fill(alloc, cuts, rows, pool, shares, limit)? {
+            return Ok(Some(bench));
         }
-        list_best(alloc, cuts, &rows, pool, &mut base, &mut listed)?;
+        Ok(None)
+    }
+
+    /// Lists trees and solves the program, twice. Says whether it is solved.
+    fn fill(
+        &mut self,
+        alloc: Global,
+        cuts: &[Cut],
+        rows: &NodeRows,
+        pool: &Pool,
+        shares: &[Share],
+        limit: i128,
+    ) -> Result<bool, Memory> {
+        let (base, listed) = (&mut self.base, &mut self.listed);
+        list_trees(alloc, cuts, rows, pool, shares, base, listed)?;
+        if !solve(base) {
+            return Ok(false);
+        }
+        list_best(alloc, cuts, rows, pool, base, listed)?;
         if base.run(SOLVE) != Scouted::Optimal {
-            return Ok(None);
+            return Ok(false);
         }
-        let copy = scout_of(alloc, instance, cuts, &rows, 1)?;
-        let flags = flags_of(alloc, listed.len())?;
-        let value = base.value();
-        Ok(Some(Bench {
-            base,
-            copy,
-            listed,
-            flags,
-            value,
-            most: limit.saturating_sub(value).max(0),
-        }))
+        self.value = base.value();
+        self.most = limit.saturating_sub(self.value).max(0);
+        self.flags = flags_of(alloc, listed.len())?;
+        Ok(true)
     }
 
     /// Notes which of the listed trees have an arc.

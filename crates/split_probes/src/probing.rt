@@ -11,7 +11,7 @@ use crate::shares::Share;
 use crate::sums::sums_of;
 use arc_branch::ArcBox;
 use parse_graph::Graph;
-use roster_model::{Cut, Instance, Memory};
+use roster_model::{Cut, Instance, List, Memory};
 use scout::LastRow;
 use std::alloc::Global;
 use tree_pool::Pool;
@@ -90,6 +90,44 @@ fn best_of(
     Ok(found)
 }
 
+/// Returns the arcs that are tried.
+fn tried(
+    alloc: Global,
+    graph: &Graph,
+    arc_box: &ArcBox,
+    pool: &Pool,
+    shares: &[Share],
+) -> Result<List<Candidate>, Memory>
+    requires { length arc_box.now.bounds ≡ length graph.now.arcs }
+    ensures { IfOk result (AreBelow (length graph.now.arcs)) }
+{
+    let sums = sums_of(alloc, graph, pool, shares)?;
+    candidates_of(alloc, graph, arc_box, sums.as_slice())
+}
+
+/// Returns the best of the arcs that are tried, at the node's program.
+fn best_tried(
+    alloc: Global,
+    instance: &Instance,
+    graph: &Graph,
+    cuts: &[Cut],
+    pool: &Pool,
+    shares: &[Share],
+    candidates: &[Candidate],
+    limit: i128,
+) -> Result<Option<u32>, Memory>
+    requires sound { IsSoundInstance instance.now }
+    requires cuts { Each IsSmallCut cuts.now }
+    requires small { length (rows_of instance.now cuts.now) ≤ 1500 }
+    requires below { AreBelow (length graph.now.arcs) candidates.now }
+    ensures { IfOk result (λ found. IfSome found (λ arc. arc < length graph.now.arcs)) }
+{
+    match Bench::new(alloc, instance, cuts, pool, shares, limit)? {
+        Some(mut bench) => best_of(graph, pool, &mut bench, candidates),
+        None => Ok(None),
+    }
+}
+
 /// Returns an arc of the graph on which a node may be split well, from the weights of the trees at its
 /// solution; `None` where it knows of none, or of one alone.
 ///
@@ -117,14 +155,19 @@ pub fn best_arc(
     requires bounds { length arc_box.now.bounds ≡ length graph.now.arcs }
     ensures { IfOk result (λ found. IfSome found (λ arc. arc < length graph.now.arcs)) }
 {
-    let sums = sums_of(alloc, graph, pool, shares)?;
-    let candidates = candidates_of(alloc, graph, arc_box, sums.as_slice())?;
+    let candidates = tried(alloc, graph, arc_box, pool, shares)?;
     if candidates.len() < 2 {
         return Ok(None);
     }
     let limit = i128::from(limit).saturating_mul(i128::from(ONE));
-    let Some(mut bench) = Bench::new(alloc, instance, cuts, pool, shares, limit)? else {
-        return Ok(None);
-    };
-    best_of(graph, pool, &mut bench, candidates.as_slice())
+    best_tried(
+        alloc,
+        instance,
+        graph,
+        cuts,
+        pool,
+        shares,
+        candidates.as_slice(),
+        limit,
+    )
 }

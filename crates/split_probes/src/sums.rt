@@ -10,7 +10,7 @@ use tree_pool::Pool;
 const SPREAD: u64 = 11_400_714_819_323_198_485;
 
 /// What the trees of an arc weigh together, in units of 2^-32, and a mark of which trees these are.
-#[derive(Clone, Copy, Debug, Drop)]
+#[derive(Clone, Copy, Drop)]
 pub(crate) struct ArcSum {
     pub weight: i64,
     pub mark: u64,

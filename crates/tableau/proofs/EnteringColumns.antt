@@ -1,5 +1,5 @@
 -- Columns that enter, and prices that are copied.
-use Rattle.std.proofs.Common.{◌≡◌, ℕ, ℤ, ◌+◌, ◌<◌, ◌^◌, pos, ◌*ℤ◌, ◌-ℤ◌, ◌≤ℤ◌, ◌<ℤ◌, List, sym, ap, ◌⊎◌, inl, inr, Option, Some, None, IfSome, IfNone}
+use Rattle.std.proofs.Common.{◌≡◌, ℕ, ℤ, ◌+◌, ◌<◌, ◌^◌, pos, ◌*ℤ◌, ◌-ℤ◌, ◌≤ℤ◌, ◌<ℤ◌, List, sym, ap, ◌⊎◌, inl, inr, Option, Some, None, IfSome, IfNone, arith, unsigned_abs}
 use Rattle.linear_programs.specs.Sums.{dot}
 use Rattle.linear_programs.specs.Program.{Column, Program, IsSound, reduced, IsPricedOut}
 use Rattle.linear_programs.proofs.TiedTableau.{IsTied}
@@ -8,10 +8,15 @@ use Rattle.linear_programs.proofs.Totals.{total-same, dot-same_right}
 use Rattle.fraction.specs.Row.{at}
 use Rattle.pivot_rows.specs.declared.column.Place.{Place}
 use Rattle.pivot_rows.specs.Columns.{IsColumn, number_in}
-use Rattle.tableau.specs.Lines.{row_at}
+use Rattle.tableau.specs.Lines.{row_at, IsLine}
 use Rattle.tableau.specs.Sheet.{tableau_of, AreCopied, IsOnPath}
 use Rattle.tableau.specs.Cheaper.{IsCheaper, HasLargePlace}
-use Rattle.tableau.specs.Ends.{HasLargeColumn}
+use Rattle.tableau.specs.Ends.{HasLargeColumn, IsLpFault}
+use Rattle.tableau.specs.Faults.{fault_of}
+use Rattle.tableau.specs.Refused.{AreWidePrices, IsColumnsFault}
+use Rattle.tableau.specs.declared.columns.ColumnsFault.{ColumnsFault}
+use Rattle.tableau.specs.declared.columns.ColumnsFault.TheVariants.{Wide, Memory}
+use Rattle.fraction.specs.Range.{Counts}
 use Rattle.tableau.proofs.PositiveEntries.{has_entry}
 use Rattle.tableau.proofs.Places.{large_column}
 
@@ -34,6 +39,16 @@ module _ {K : Type 0} (p : Program K) (Lists : ℕ → K → Type 0) (size : ℕ
   pub none_priced : (answer : Option ℕ) → IfNone answer (IsPricedOut p (at y) kappa) → IfNone answer (IsPricedOut p (at cost) (at cost (p.rows + 1)))
   none_priced None h = λ k b. rw (same_reduced p.rows y cost kappa (p.column k) copied, is) at (h k b)
   none_priced (Some j) h = tt
+
+-- copied prices are never too wide
+pub priced_fault : {K : Type 0} (p : Program K) (Lists : ℕ → K → Type 0) (n : ℕ) (y cost : List ℤ) (kappa : ℤ) (old new : Counts) → AreCopied p.rows y cost → kappa ≡ at cost (p.rows + 1) → IsLine (p.rows + 2) cost
+    → (f : ColumnsFault) → IsColumnsFault p.rows y kappa old new f → IsLpFault p Lists n old new (fault_of f)
+priced_fault p Lists n y cost kappa old new copied is line Memory h = tt
+priced_fault p Lists n y cost kappa old new copied is line (Wide fault) h = absurd (by h.1)
+  where
+    by : AreWidePrices p.rows y kappa → ⊥
+    by (inl w) = let narrow = line.narrow (p.rows + 1) (pos 0) (omega (arith, line.long)) in omega (arith, ap unsigned_abs is, narrow, w)
+    by (inr w) = let narrow = line.narrow w.0 (pos 0) (omega (arith, line.long, w.1)) in omega (arith, ap unsigned_abs (copied w.0 w.1), narrow, w.2)
 
 -- what is known of a path's tableau
 pub tied_of : {K : Type 0} (p : Program K) (Lists : ℕ → K → Type 0) (rows : List (List ℤ)) (cost : List ℤ) (basis : List ℕ) (n : ℕ) → IsSound p → (o : IsOnPath p Lists rows cost basis n) → IsTied p (tableau_of p.rows o.keys rows cost)

@@ -36,3 +36,12 @@ module _ (m : ℕ) (rows : List (List ℤ)) (entries : List ℤ) (n t : ℕ) (l 
       by : (r : ℕ) → r < n + 1 → pos 0 <ℤ at entries r → (r ≡ n) ⊎ (r ≡ n → ⊥) → (at (row_at rows t) m *ℤ at entries r) ≤ℤ (at (row_at rows r) m *ℤ at entries t)
       by r h p (inl e) = rw e (higher (rw e at p))
       by r h p (inr e) = l.least r (omega arith) p
+
+module _ (m : ℕ) (rows : List (List ℤ)) (entries : List ℤ) (n : ℕ) where
+  -- the first row with an entry above 0
+  pub first_leaves : pos 0 <ℤ at entries n → ((r : ℕ) → r < n → at entries r ≤ℤ pos 0) → IsLeaving m rows entries (n + 1) n
+  first_leaves positive before = record { within = omega arith; positive = positive; least = λ r h p. by r h p (cases_eq r n) }
+    where
+      by : (r : ℕ) → r < n + 1 → pos 0 <ℤ at entries r → (r ≡ n) ⊎ (r ≡ n → ⊥) → (at (row_at rows n) m *ℤ at entries r) ≤ℤ (at (row_at rows r) m *ℤ at entries n)
+      by r h p (inl e) = rw e (omega (arith, ints))
+      by r h p (inr e) = let low = before r (omega (arith, h, e)) in absurd (omega (arith, ints, low, p))

@@ -1,6 +1,9 @@
 -- The lists of the first tableau, written one number after another.
-use Rattle.std.proofs.Common.{◌≡◌, ℕ, ℤ, zero, suc, ◌+◌, ◌<◌, ◌≤◌, ◌^◌, arith, pos, ◌+ℤ◌, ◌*ℤ◌, ◌≤ℤ◌, unsigned_abs, List, [], ◌∷◌, ◌++◌, length, get_or, refl, sym, ap, ◌∙◌, ◌⊎◌, inl, inr, add-one, length-append}
+use Rattle.std.proofs.Common.{◌≡◌, ℕ, ℤ, zero, suc, ◌+◌, ◌<◌, ◌≤◌, ◌≢◌, ◌^◌, arith, pos, ◌+ℤ◌, ◌*ℤ◌, ◌≤ℤ◌, unsigned_abs, List, [], ◌∷◌, ◌++◌, length, get_or, refl, sym, ap, ◌∙◌, ◌⊎◌, inl, inr, add-one, length-append}
 use Rattle.std.specs.Prelude.{slice_index}
+use Rattle.std.proofs.Common.{set, replicate, get_or-set_other, get_or-set_same}
+use Rattle.std.proofs.Math.ListN.{length-set, length-replicate}
+use Rattle.std.proofs.lemmas.List.{get_or-replicate}
 use Rattle.std.proofs.lemmas.Int.{ints}
 use Rattle.std.proofs.lemmas.Bool.{cases_eq, eq-eqb, ne_eqb}
 use Rattle.std.proofs.lemmas.List.Elements.{All-from_get_or}
@@ -63,6 +66,24 @@ narrow_at row h = All-from_get_or (λ z. unsigned_abs z ≤ 2 ^ 56) row (pos 0) 
 
 pub at_narrow : (row : List ℤ) (r : ℕ) → AreNarrow row → r < length row → unsigned_abs (at row r) ≤ 2 ^ 56
 at_narrow row r h b = h r (pos 0) b
+
+-- a 1 in its place and the right side last, where all was 0
+pub unit_written : (m place : ℕ) (right : ℤ) (blank : List ℤ) → place < m → blank ≡ replicate (m + 1) (pos 0) → IsUnitLine m place right (set (set blank place (pos 1)) m right)
+unit_written m place right blank h e = record {
+  long = length-set (set blank place (pos 1)) m right ∙ long;
+  units = λ i k. (let ne : i ≢ m = omega (arith, k) in rw get_or-set_other (by i k (cases_eq i place)));
+  last = (let inside : m < length (set blank place (pos 1)) = omega (arith, long) in rw get_or-set_same refl);
+}
+  where
+    all : length blank ≡ m + 1
+    all = ap length e ∙ length-replicate (m + 1) (pos 0)
+
+    long : length (set blank place (pos 1)) ≡ m + 1
+    long = length-set blank place (pos 1) ∙ all
+
+    by : (i : ℕ) → i < m → (i ≡ place) ⊎ (i ≡ place → ⊥) → at (set blank place (pos 1)) i ≡ unit_vector place i
+    by i k (inl q) = let inside : place < length blank = omega (arith, h, all) in rw (q, get_or-set_same, eq-eqb place place refl) refl
+    by i k (inr q) = rw (get_or-set_other, ne_eqb place i (λ r. q (sym r)), e) (get_or-replicate (m + 1) i (pos 0) (pos 0) (omega (arith, k)))
 
 pub unit_is_line : (m place : ℕ) (right : ℤ) (row : List ℤ) → place < m → unsigned_abs right ≤ 2 ^ 56 → IsUnitLine m place right row → IsLine (m + 1) row
 unit_is_line m place right row h n u = record {

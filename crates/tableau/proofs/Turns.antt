@@ -1,6 +1,8 @@
 -- Rows and entries written one after another.
-use Rattle.std.proofs.Common.{◌≡◌, ℕ, zero, suc, ◌<◌, ◌≤◌, ◌+◌, ◌-◌, ◌^◌, ◌≢◌, arith, length, get_or, set, List, ℤ, unsigned_abs, [], ◌∷◌, ◌++◌, refl, sym, ap, inl, inr, get_or-set_other, get_or-set_same, ◌⊎◌, ◌∙◌, length-append}
+use Rattle.std.proofs.Common.{◌≡◌, ℕ, zero, suc, ◌<◌, ◌≤◌, ◌+◌, ◌-◌, ◌^◌, ◌≢◌, arith, length, get_or, set, List, ℤ, unsigned_abs, [], ◌∷◌, ◌++◌, refl, sym, ap, take, drop, inl, inr, get_or-set_other, get_or-set_same, ◌⊎◌, ◌∙◌, length-append}
 use Rattle.std.proofs.Math.ListN.{length-set}
+use Rattle.std.proofs.Math.Seq.{take-append_seam}
+use Rattle.std.specs.Prelude.{Result, Ok, Err, IfOk}
 use Rattle.std.proofs.lemmas.Bool.{cases_eq}
 use Rattle.std.proofs.lemmas.List.Elements.{All-append}
 use Rattle.std.proofs.Common.{SFits, rules}
@@ -9,7 +11,7 @@ use Rattle.fraction.specs.Row.{at}
 use Rattle.linear_programs.specs.Sums.{dot}
 use Rattle.pivot_rows.specs.declared.column.Place.{Place}
 use Rattle.pivot_rows.specs.Columns.{number_in, AreWithin}
-use Rattle.pivot_rows.specs.Rows.{AreNarrow, StepsTo, IsWideStep, zeros}
+use Rattle.pivot_rows.specs.Rows.{AreNarrow, IsPrimitive, StepsTo, IsWideStep, zeros}
 use Rattle.tableau.specs.Lines.{row_at, AreLines, IsLine, AreEntries, AreStepped, HasWideRow, padded}
 
 -- within a list the default does not matter
@@ -90,3 +92,11 @@ padded_is row read new n e f h =
 -- an entry is within 128 bits
 pub entry_fits : (m : ℕ) (rows : List (List ℤ)) (column : List Place) (entries : List ℤ) (r : ℕ) → AreEntries m rows column entries m → r < m → SFits w128 (at entries r)
 entry_fits m rows column entries r e h = let s = (e r h).1 in search rules
+
+-- numbers that were written in place of all others
+pub written_back : (new old : List ℤ) (n : ℕ) → n ≡ length new → take n (new ++ drop (length new) old) ≡ new
+written_back new old n e = rw e (take-append_seam new (drop (length new) old))
+
+pub stepped_line : {A E : Type 0} (result : Result A E) (row : List ℤ) (n : ℕ) → length row ≡ n → IfOk result (λ _. AreNarrow row) → IfOk result (λ _. IsPrimitive row) → IfOk result (λ _. IsLine n row)
+stepped_line (Ok x) row n l narrow primitive = record { long = l; narrow = narrow; primitive = primitive }
+stepped_line (Err e) row n l narrow primitive = tt

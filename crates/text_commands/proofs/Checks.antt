@@ -1,5 +1,5 @@
 -- The answers of commands that ask something of a certificate, from what their parts answer.
-use Rattle.std.proofs.Common.{◌≡◌, ◌≢◌, ℕ, ◌<◌, List, Option, Result, Ok, Err, IfOk, arith, refl, ap, ◌∙◌}
+use Rattle.std.proofs.Common.{◌≡◌, ◌≢◌, ℕ, List, Option, Result, Ok, Err, IfOk, arith, refl, ap, subst, ◌∙◌}
 use Rattle.std.specs.Prelude.{Some, None, [], ◌∷◌}
 use Rattle.roster_model.specs.declared.grammar.Grammar.{Grammar}
 use Rattle.roster_model.specs.declared.instance.Instance.{Instance}
@@ -28,13 +28,13 @@ use Rattle.rules_text.specs.declared.fault.RulesFault.{RulesFault}
 use Rattle.rules_text.specs.declared.fault.RulesFault.TheVariants as rules_faults
 use Rattle.shelf.specs.Shelf.{Texts}
 use Rattle.text_commands.specs.declared.answer.Answer.{Answer}
-use Rattle.text_commands.specs.Check.{CertAnswers, Judgement, yes, no, verdict_status, ProofAnswers, AnswersProof, DemandAnswers, AnswersDemand, RulesAnswers}
+use Rattle.text_commands.specs.Check.{CertAnswers, Judgement, yes, no, verdict_status, ProofAnswers, AnswersProof, DemandAnswers, AnswersDemand, RulesAnswers, AnswersTexts}
 use Rattle.text_commands.specs.Check as check
-use Rattle.text_commands.specs.Fetch.{IsAnswer}
+use Rattle.text_commands.specs.Fetch.{IsAnswer, IsFetch, NoAnswer}
 use Rattle.shelf.specs.Shelf.{Told}
 use Rattle.text_commands.specs.Reader.{IsReader, HoldsAll}
 use Rattle.text_commands.specs.Statuses.{ends_at}
-use Rattle.text_commands.proofs.Readers.{widen}
+use Rattle.text_commands.proofs.Readers.{widen, after_fetch, one_held}
 
 pub no_names : (held : Option Texts) (names : List (List ℕ)) → HoldsAll held names → HoldsAll held []
 no_names None names h = absurd h
@@ -92,6 +92,28 @@ module _ (A : CertAnswers) (before after : Told) (status : ℕ) where
   rules-accepted text demand_name proof_name g reading sound reader =
       widen (AnswersDemand A before.held g demand_name proof_name) (RulesAnswers A before.held text demand_name proof_name)
       (λ s o a. check.RulesAnswers.accepted g s o (record { reading = reading; sound = sound }) a) (demand_name ∷ proof_name ∷ []) (demand_name ∷ proof_name ∷ []) before after status (λ h. h) reader
+
+  -- a demand text that was fetched
+  pub demand-read : (g : Grammar) (name proof_name text : List ℕ) (middle : Told) → IsFetch name before middle text
+      → IsReader (DemandAnswers A middle.held g text proof_name) (proof_name ∷ []) middle after status
+      → IsReader (AnswersDemand A before.held g name proof_name) (name ∷ proof_name ∷ []) before after status
+  demand-read g name proof_name text middle f reader =
+      after_fetch (AnswersDemand A before.held g name proof_name) name (proof_name ∷ []) before middle after status text f
+      (widen (DemandAnswers A middle.held g text proof_name) (AnswersDemand A before.held g name proof_name)
+      (λ s o a. record { text = text; holds = f.holds; answers = subst (λ (h : Option Texts). DemandAnswers A h g text proof_name s o) f.held a }) (proof_name ∷ []) (proof_name ∷ []) middle after status (λ h. h) reader)
+
+  -- a rules text that was fetched
+  pub rules-read : (name demand_name proof_name text : List ℕ) (middle : Told) → IsFetch name before middle text
+      → IsReader (RulesAnswers A middle.held text demand_name proof_name) (demand_name ∷ proof_name ∷ []) middle after status
+      → IsReader (AnswersTexts A before.held name demand_name proof_name) (name ∷ demand_name ∷ proof_name ∷ []) before after status
+  rules-read name demand_name proof_name text middle f reader =
+      after_fetch (AnswersTexts A before.held name demand_name proof_name) name (demand_name ∷ proof_name ∷ []) before middle after status text f
+      (widen (RulesAnswers A middle.held text demand_name proof_name) (AnswersTexts A before.held name demand_name proof_name)
+      (λ s o a. record { text = text; holds = f.holds; answers = subst (λ (h : Option Texts). RulesAnswers A h text demand_name proof_name s o) f.held a }) (demand_name ∷ proof_name ∷ []) (demand_name ∷ proof_name ∷ []) middle after status (λ h. h) reader)
+
+-- a text that was not fetched
+pub unread : (B : ℕ → List ℕ → Type 0) (name : List ℕ) (names : List (List ℕ)) (before after : Told) (status : ℕ) → IsReader NoAnswer (name ∷ []) before after status → IsReader B (name ∷ names) before after status
+unread B name names before after status reader = widen NoAnswer B (λ s o k. absurd k) (name ∷ names) (name ∷ []) before after status (one_held before.held name names) reader
 
 -- the answer to a certificate, from its verdict
 judgement : (i : Instance) (c : Cert) (v : Verdict) → IsVerdict i c v → (output : List ℕ) → output ≡ verdict_text v → Judgement i c (verdict_status v) output

@@ -9,9 +9,9 @@ use Rattle.rules_text.specs.declared.fault.RulesFault.TheVariants as faults
 use Rattle.shelf.specs.Shelf.{Told}
 use Rattle.text_commands.specs.declared.answer.Answer.{Answer}
 use Rattle.text_commands.specs.Days.{DayAnswer, AnswersDay, refused}
-use Rattle.text_commands.specs.Fetch.{IsAnswer, IsFetch, NoAnswer}
+use Rattle.text_commands.specs.Fetch.{IsFetch, NoAnswer}
 use Rattle.text_commands.specs.Reader.{IsReader}
-use Rattle.text_commands.proofs.Readers.{IsSaid, said_reader, widen, after_fetch}
+use Rattle.text_commands.proofs.Readers.{IsSaid, one-said, widen, after_fetch}
 
 module _ (Answers : Grammar → ℕ → List ℕ → Type 0) where
   pub day-fault : (text : List ℕ) (fault : RulesFault) (r : Result Answer Memory) → (fault ≢ faults.Memory → IsReading text (Err fault))
@@ -22,11 +22,7 @@ module _ (Answers : Grammar → ℕ → List ℕ → Type 0) where
 
   pub day-said : (text : List ℕ) (a : Answer) (before after : Told) (status : ℕ) → DayAnswer Answers text a.status a.output → IsSaid a before after status
       → IsReader (λ s o. DayAnswer Answers text s o) [] before after status
-  day-said text a before after status h said =
-      widen (IsAnswer (Ok a)) (λ s o. DayAnswer Answers text s o) each [] [] before after status (λ k. k) (said_reader a before after status said)
-    where
-      each : (s : ℕ) (o : List ℕ) → IsAnswer (Ok a) s o → DayAnswer Answers text s o
-      each s o k = subst (λ (n : ℕ). DayAnswer Answers text n o) (sym k.0) (subst (λ (x : List ℕ). DayAnswer Answers text a.status x) (sym k.1) h)
+  day-said text a before after status h said = one-said (λ s o. DayAnswer Answers text s o) a before after status h said
 
   pub day-read : (name text : List ℕ) (before middle after : Told) (status : ℕ) → IsFetch name before middle text
       → IsReader (λ s o. DayAnswer Answers text s o) [] middle after status → IsReader (λ s o. AnswersDay Answers before.held name s o) (name ∷ []) before after status

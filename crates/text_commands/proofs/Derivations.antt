@@ -1,5 +1,5 @@
--- The answers of `explain` for a sound grammar.
-use Rattle.std.proofs.Common.{◌≡◌, ◌≢◌, ℕ, ℤ, pos, List, Option, None, Some, Result, Ok, Err, IfOk, length, refl}
+-- The answers of `explain`.
+use Rattle.std.proofs.Common.{◌≡◌, ◌≢◌, ℕ, ℤ, pos, List, Option, None, Some, Result, Ok, Err, IfOk, length, refl, [], ◌∷◌}
 use Rattle.std.specs.Prelude.{codes, IsSome}
 use Rattle.roster_model.specs.declared.grammar.Grammar.{Grammar}
 use Rattle.roster_model.specs.Arcs.{cost}
@@ -13,7 +13,11 @@ use Rattle.rules_text.specs.FaultLine.{fault_line}
 use Rattle.rules_text.specs.RulesOf.{IsReading}
 use Rattle.rules_text.specs.declared.fault.RulesFault.{RulesFault}
 use Rattle.rules_text.specs.declared.fault.RulesFault.TheVariants.{Memory}
-use Rattle.text_commands.specs.Explain.{SaysTree, Derivation, Explanation, shift, no_shift, refused}
+use Rattle.shelf.specs.Shelf.{Told}
+use Rattle.text_commands.specs.Explain.{SaysTree, Derivation, Explanation, AnswersExplain, shift, no_shift, refused}
+use Rattle.text_commands.specs.Fetch.{IsFetch, NoAnswer}
+use Rattle.text_commands.specs.Reader.{IsReader}
+use Rattle.text_commands.proofs.Readers.{widen, after_fetch}
 use Rattle.word_prices.specs.Prices.{word_view}
 use Rattle.word_prices.proofs.Costs.{least-tree, word-sums, shift-length}
 
@@ -56,3 +60,15 @@ module _ (g : Grammar) (w : List ℕ) (sound : IsSound g) where
 pub fault-said : (text w : List ℕ) (fault : RulesFault) (a : Answer) → (fault ≢ Memory → IsReading text (Err fault))
     → (fault ≢ Memory) × (a.status ≡ 3) × (a.output ≡ fault_line fault) → Explanation text w a.status a.output
 fault-said text w fault a reading h = rw h.1 (refused a.output (record { fault = fault; reading = reading h.0; line = h.2 }))
+
+module _ (w name : List ℕ) (before : Told) where
+  pub word-read : (text : List ℕ) (middle after : Told) (status : ℕ) → IsFetch name before middle text
+      → IsReader (λ s o. Explanation text w s o) [] middle after status → IsReader (λ s o. AnswersExplain before.held name w s o) (name ∷ []) before after status
+  word-read text middle after status f reader =
+      after_fetch (λ s o. AnswersExplain before.held name w s o) name [] before middle after status text f
+      (widen (λ s o. Explanation text w s o) (λ s o. AnswersExplain before.held name w s o) (λ s o k. (text, f.holds, k)) [] [] middle after status (λ k. k) reader)
+
+  pub word-unread : (after : Told) (status : ℕ) → IsReader NoAnswer (name ∷ []) before after status
+      → IsReader (λ s o. AnswersExplain before.held name w s o) (name ∷ []) before after status
+  word-unread after status reader =
+      widen NoAnswer (λ s o. AnswersExplain before.held name w s o) (λ s o k. absurd k) (name ∷ []) (name ∷ []) before after status (λ k. k) reader

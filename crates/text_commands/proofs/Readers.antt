@@ -100,3 +100,11 @@ said_reader a before after status h = record {
     which (inl same) six seven = same
     which (inr (inl e)) six seven = absurd (six e)
     which (inr (inr e)) six seven = absurd (seven e)
+
+-- a command that says one of the answers at once
+module _ (A : ℕ → List ℕ → Type 0) where
+  pub one-said : (a : Answer) (before after : Told) (status : ℕ) → A a.status a.output → IsSaid a before after status → IsReader A [] before after status
+  one-said a before after status h said = widen (IsAnswer (Ok a)) A each [] [] before after status (λ k. k) (said_reader a before after status said)
+    where
+      each : (s : ℕ) (o : List ℕ) → IsAnswer (Ok a) s o → A s o
+      each s o k = subst (λ (n : ℕ). A n o) (sym k.0) (subst (λ (x : List ℕ). A a.status x) (sym k.1) h)

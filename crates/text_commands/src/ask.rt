@@ -89,11 +89,10 @@ fn ask_demand<S: Shelf, Q: Question>(
         grammar demand.now proof.now)
         (demand.now ∷ proof.now ∷ []) (S.told shelf.old) (S.told shelf.new) result }
 {
-    let text = match fetched(alloc, shelf, demand) {
-        Ok(text) => text,
-        Err(status) => return status,
-    };
-    ask_demand_text(alloc, shelf, grammar, text.as_slice(), proof, question)
+    match fetched(alloc, shelf, demand) {
+        Ok(text) => ask_demand_text(alloc, shelf, grammar, text.as_slice(), proof, question),
+        Err(status) => status,
+    }
 }
 
 /// Asks something of a certificate by a rules text and the demand and proof texts under names, and says the
@@ -130,9 +129,8 @@ pub fn ask<S: Shelf, Q: Question>(
         rules.now demand.now proof.now)
         (rules.now ∷ demand.now ∷ proof.now ∷ []) (S.told shelf.old) (S.told shelf.new) result }
 {
-    let text = match fetched(alloc, shelf, rules) {
-        Ok(text) => text,
-        Err(status) => return status,
-    };
-    ask_rules_text(alloc, shelf, text.as_slice(), demand, proof, question)
+    match fetched(alloc, shelf, rules) {
+        Ok(text) => ask_rules_text(alloc, shelf, text.as_slice(), demand, proof, question),
+        Err(status) => status,
+    }
 }

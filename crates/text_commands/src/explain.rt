@@ -8,7 +8,8 @@ ghost use Rattle.text_commands.specs.Explain.{AnswersExplain, Derivation, Explan
 ghost use Rattle.text_commands.specs.Reader.{IsReader};
 
 use crate::answer::Answer;
-use crate::say::{MEMORY, say, status_of};
+use crate::fetch::fetched;
+use crate::say::{MEMORY, say};
 use roster_model::{Grammar, List, Memory, TreeRoom};
 use rules_text::{RulesFault, fault_line, read_rules};
 use shelf::Shelf;
@@ -107,17 +108,24 @@ fn explanation(alloc: Global, text: &[u8], word: &[u8]) -> Result<Answer, Memory
     }
 }
 
+// Says what is answered to a rules text and a word.
+fn say_explanation<S: Shelf>(alloc: Global, shelf: &mut S, text: &[u8], word: &[u8]) -> u8
+    ensures { IsReader (λ s o. Explanation text.now word.now s o) [] (S.told shelf.old) (S.told shelf.new)
+        result }
+{
+    match explanation(alloc, text, word) {
+        Ok(answer) => say(shelf, answer.output.as_slice(), answer.status),
+        Err(Memory) => MEMORY,
+    }
+}
+
 /// Says the price of a word by the rules text under a name, and a tree of that cost.
 pub fn explain<S: Shelf>(alloc: Global, shelf: &mut S, rules: &str, word: &str) -> u8
     ensures { IsReader (AnswersExplain (S.told shelf.old).held rules.now word.now) (rules.now ∷ [])
         (S.told shelf.old) (S.told shelf.new) result }
 {
-    let mut text = Vec::new(alloc);
-    if let Err(fault) = shelf.fetch(rules, &mut text) {
-        return status_of(fault);
-    }
-    match explanation(alloc, text.as_slice(), word.as_bytes()) {
-        Ok(answer) => say(shelf, answer.output.as_slice(), answer.status),
-        Err(Memory) => MEMORY,
+    match fetched(alloc, shelf, rules) {
+        Ok(text) => say_explanation(alloc, shelf, text.as_slice(), word.as_bytes()),
+        Err(status) => status,
     }
 }

@@ -1,5 +1,6 @@
 ghost use Rattle.std.specs.Prelude.{◌≢◌, ◌≤◌, ◌∷◌, [], IfOk};
 ghost use Rattle.day_questions.specs.Fitting.{FitsAnswer};
+ghost use Rattle.roster_model.specs.Sound.{IsSound};
 ghost use Rattle.text_commands.specs.Days.{AnswersFits, DayAnswer};
 ghost use Rattle.text_commands.specs.Reader.{IsReader};
 
@@ -8,10 +9,24 @@ use crate::explain::refusal;
 use crate::fetch::fetched;
 use crate::say::{MEMORY, say};
 use day_questions::fits_answer;
-use roster_model::Memory;
+use roster_model::{Grammar, Memory};
 use rules_text::read_rules;
 use shelf::Shelf;
 use std::alloc::Global;
+
+// What is answered to a pattern by a sound grammar.
+fn fitting_by(alloc: Global, grammar: &Grammar, pattern: &[u8]) -> Result<Answer, Memory>
+    requires { IsSound grammar.now }
+    ensures { IfOk result (λ a. FitsAnswer grammar.now pattern.now a.status a.output) }
+{
+    match fits_answer(alloc, grammar, pattern) {
+        Ok(answer) => Ok(Answer {
+            status: answer.status,
+            output: answer.output,
+        }),
+        Err(Memory) => Err(Memory),
+    }
+}
 
 // What is answered to a rules text and a pattern.
 fn fitting(alloc: Global, text: &[u8], pattern: &[u8]) -> Result<Answer, Memory>
@@ -19,13 +34,7 @@ fn fitting(alloc: Global, text: &[u8], pattern: &[u8]) -> Result<Answer, Memory>
         (λ a. DayAnswer (λ g s o. FitsAnswer g pattern.now s o) text.now a.status a.output) }
 {
     match read_rules(alloc, text) {
-        Ok(grammar) => {
-            let answer = fits_answer(alloc, &grammar, pattern)?;
-            Ok(Answer {
-                status: answer.status,
-                output: answer.output,
-            })
-        }
+        Ok(grammar) => fitting_by(alloc, &grammar, pattern),
         Err(fault) => refusal(alloc, fault),
     }
 }

@@ -1,5 +1,6 @@
 ghost use Rattle.std.specs.Prelude.{◌≢◌, ◌≤◌, ◌∷◌, [], IfOk};
 ghost use Rattle.day_questions.specs.Next.{NextAnswer};
+ghost use Rattle.roster_model.specs.Sound.{IsSound};
 ghost use Rattle.text_commands.specs.Days.{AnswersNext, DayAnswer};
 ghost use Rattle.text_commands.specs.Reader.{IsReader};
 
@@ -8,23 +9,31 @@ use crate::explain::refusal;
 use crate::fetch::fetched;
 use crate::say::{MEMORY, say};
 use day_questions::next_answer;
-use roster_model::Memory;
+use roster_model::{Grammar, Memory};
 use rules_text::read_rules;
 use shelf::Shelf;
 use std::alloc::Global;
+
+// What is answered to a prefix by a sound grammar.
+fn following_by(alloc: Global, grammar: &Grammar, prefix: &[u8]) -> Result<Answer, Memory>
+    requires { IsSound grammar.now }
+    ensures { IfOk result (λ a. NextAnswer grammar.now prefix.now a.status a.output) }
+{
+    match next_answer(alloc, grammar, prefix) {
+        Ok(answer) => Ok(Answer {
+            status: answer.status,
+            output: answer.output,
+        }),
+        Err(Memory) => Err(Memory),
+    }
+}
 
 // What is answered to a rules text and a prefix.
 fn following(alloc: Global, text: &[u8], prefix: &[u8]) -> Result<Answer, Memory>
     ensures { IfOk result (λ a. DayAnswer (λ g s o. NextAnswer g prefix.now s o) text.now a.status a.output) }
 {
     match read_rules(alloc, text) {
-        Ok(grammar) => {
-            let answer = next_answer(alloc, &grammar, prefix)?;
-            Ok(Answer {
-                status: answer.status,
-                output: answer.output,
-            })
-        }
+        Ok(grammar) => following_by(alloc, &grammar, prefix),
         Err(fault) => refusal(alloc, fault),
     }
 }

@@ -1,5 +1,6 @@
 ghost use Rattle.std.specs.Prelude.{◌≤◌, ◌∷◌, [], IfOk};
 ghost use Rattle.day_questions.specs.Ranked.{RankedAnswer};
+ghost use Rattle.roster_model.specs.Sound.{IsSound};
 ghost use Rattle.text_commands.specs.Days.{AnswersRank, DayAnswer};
 ghost use Rattle.text_commands.specs.Reader.{IsReader};
 
@@ -8,10 +9,26 @@ use crate::explain::refusal;
 use crate::fetch::fetched;
 use crate::say::{MEMORY, say};
 use day_questions::ranked_answer;
-use roster_model::Memory;
+use roster_model::{Grammar, Memory};
 use rules_text::read_rules;
 use shelf::Shelf;
 use std::alloc::Global;
+
+// What is answered to a number of trees by a sound grammar.
+fn ranking_by(alloc: Global, grammar: &Grammar, most: u32) -> Result<Answer, Memory>
+    requires sound { IsSound grammar.now }
+    requires some { 1 ≤ most }
+    requires few { most ≤ 1000 }
+    ensures { IfOk result (λ a. RankedAnswer grammar.now most a.status a.output) }
+{
+    match ranked_answer(alloc, grammar, most) {
+        Ok(answer) => Ok(Answer {
+            status: answer.status,
+            output: answer.output,
+        }),
+        Err(Memory) => Err(Memory),
+    }
+}
 
 // What is answered to a rules text and a number of trees.
 fn ranking(alloc: Global, text: &[u8], most: u32) -> Result<Answer, Memory>
@@ -20,13 +37,7 @@ fn ranking(alloc: Global, text: &[u8], most: u32) -> Result<Answer, Memory>
     ensures { IfOk result (λ a. DayAnswer (λ g s o. RankedAnswer g most s o) text.now a.status a.output) }
 {
     match read_rules(alloc, text) {
-        Ok(grammar) => {
-            let answer = ranked_answer(alloc, &grammar, most)?;
-            Ok(Answer {
-                status: answer.status,
-                output: answer.output,
-            })
-        }
+        Ok(grammar) => ranking_by(alloc, &grammar, most),
         Err(fault) => refusal(alloc, fault),
     }
 }

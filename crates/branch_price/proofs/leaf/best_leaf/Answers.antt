@@ -86,3 +86,12 @@ returns-clause-turned c =
     (done (asks-priced i v strict before now low c.args.progress.now c.args.leaf p.cuts c.offer_at_node.new.best c.args.prices c.shown_value-value.result c.in_ok-plan.plan asked
     better priced loose plan)))
     c.price.ensures
+
+pub offer_at_node-requires-clause-desk : goal.offer_at_node-requires-clause-desk
+offer_at_node-requires-clause-desk c = record { pricing = c.shown_value-value.ensures.pricing; rosters = c.plan_for.ensures.rosters }
+
+pub returns-in_err-plan-clause-desk : goal.returns-in_err-plan-clause-desk
+returns-in_err-plan-clause-desk c = record { pricing = c.shown_value-value.ensures.pricing; rosters = c.plan_for.ensures.rosters }
+
+pub returns-in_err-offer_at_node-clause-grown : goal.returns-in_err-offer_at_node-clause-grown
+returns-in_err-offer_at_node-clause-grown c = grown-more c.args.pool.now c.plan_for.new.pool c.offer_at_node.new.pool c.plan_for.ensures.grown c.offer_at_node.ensures.grown

@@ -9,6 +9,7 @@ use Rattle.search_master.specs.Refusals.{EndsWell}
 use Rattle.branch_price.specs.Steps.{IsSolved, IsGivenUp}
 use Rattle.branch_price.proofs.Leaves.{leaf-cuts}
 use Rattle.branch_price.proofs.StepsLemmas.{later-node, given-up}
+use Rattle.candidate_rosters.proofs.PoolNumbers.{grown-more}
 use Rattle.branch_price.proofs.leaf.price_leaf.Goals as goal
 
 pub node-requires-clause-cuts : goal.node-requires-clause-cuts
@@ -75,3 +76,21 @@ returns-in-Best-clause-turned g c =
     (λ turned before low asked. turned strict before later low
     (later-node i c.args.graph.now strict before now later low c.args.progress.now c.args.leaf c.args.path.now.cuts asked c.node.ensures.rises c.node.ensures.within))
     c.best_leaf.ensures.turned
+
+pub returns-in_err-end-clause-desk : goal.returns-in_err-end-clause-desk
+returns-in_err-end-clause-desk g c =
+    let d = c.requires.desk in
+    record { pricing = record { pricer = c.node.ensures.pricer; room = d.pricing.room; most = d.pricing.most }; rosters = d.rosters }
+
+pub best_leaf-requires-clause-desk : goal.best_leaf-requires-clause-desk
+best_leaf-requires-clause-desk g c =
+    let d = c.requires.desk in
+    record { pricing = record { pricer = c.node.ensures.pricer; room = d.pricing.room; most = d.pricing.most }; rosters = d.rosters }
+
+pub returns-in-Failed-clause-desk : goal.returns-in-Failed-clause-desk
+returns-in-Failed-clause-desk g c =
+    let d = c.requires.desk in
+    record { pricing = record { pricer = c.node.ensures.pricer; room = d.pricing.room; most = d.pricing.most }; rosters = d.rosters }
+
+pub returns-in-Best-clause-grown : goal.returns-in-Best-clause-grown
+returns-in-Best-clause-grown g c = grown-more c.args.pool.now c.node.new.pool c.best_leaf.new.pool c.node.ensures.grown c.best_leaf.ensures.grown

@@ -65,3 +65,6 @@ returns-in-Some-clause-turned g c =
     half-turned c.args.instance.now c.args.graph.now strict asked.before now (g.M.Master.refused c.price_leaf.new.master) c.args.leaf.bound c.args.progress.now c.halve.new.progress c.price_leaf.new.progress c.in_ok-leaf.leaf half
     (turned asked.before c.args.leaf.bound at))
     c.price_leaf.ensures.turned
+
+pub returns-in-None-clause-desk : goal.returns-in-None-clause-desk
+returns-in-None-clause-desk g c = record { pricing = c.requires.desk.pricing; rosters = c.pin_leaf.ensures.rosters }

@@ -12,6 +12,15 @@ use Rattle.candidate_rosters.specs.Starts.{HasStart, StartsWith}
 use Rattle.candidate_rosters.proofs.StartsLemmas.{lacking, led-within, led-roster, starts, if_none, if_some, if_ok}
 use Rattle.candidate_rosters.proofs.least.least_roster.Goals as goal
 
+pub cheapest-requires-clause-graph : goal.cheapest-requires-clause-graph
+cheapest-requires-clause-graph c = (c.args.instance.now.grammar, c.requires.sound.grammar, c.requires.graph)
+
+pub leaders-requires-clause-filled : goal.leaders-requires-clause-filled
+leaders-requires-clause-filled c = c.cheapest.ensures.filled c.args.instance.now.grammar c.requires.sound.grammar c.requires.graph
+
+pub leaders-requires-clause-made : goal.leaders-requires-clause-made
+leaders-requires-clause-made c = c.cheapest.ensures.kept c.args.graph.now c.requires.pricer
+
 pub returns-in_default-clause-start : goal.returns-in_default-clause-start
 returns-in_default-clause-start c = λ h.
     let team = if_none c.in_ok-columns.field-0 _ c.in_default.is c.in_ok-columns.ensures.none in

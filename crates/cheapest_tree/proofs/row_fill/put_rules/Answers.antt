@@ -1,8 +1,20 @@
-use Rattle.std.proofs.Common.{arith, ◌≡◌, ◌+◌, ◌<◌, length, ◌∙◌}
+use Rattle.std.proofs.Common.{arith, ◌≡◌, ◌+◌, ◌<◌, pos, length, ◌∙◌}
 use Rattle.std.proofs.lemmas.Int.{ints}
-use Rattle.std.proofs.lemmas.List.{length-set}
-use Rattle.cheapest_tree.proofs.NumbersLemmas.{rules-none, rules-each, rules-small}
+use Rattle.std.proofs.lemmas.List.{get_or-set_same, length-set}
+use Rattle.cheapest_tree.proofs.NumbersLemmas.{first-small, rules-none, rules-each, rules-small}
 use Rattle.cheapest_tree.proofs.row_fill.put_rules.Goals as goal
+
+pub loop-rule-init : goal.loop-rule-init
+loop-rule-init g c =
+    let rules = c.args.rules.now in
+    let z = c.zero.result in
+    let inside : 0 < length rules = omega (arith, c.requires) in
+    record {
+      count = length-set rules 0 z ∙ c.requires;
+      none = get_or-set_same rules 0 z (pos 0) inside ∙ c.zero.ensures;
+      each = λ r lt. absurd (omega (arith, lt));
+      small = λ k le. first-small g.N.Number.limits.price rules z inside c.zero.ensures k le;
+    }
 
 pub loop-rule-preserved : goal.loop-rule-preserved
 loop-rule-preserved g c =
@@ -18,4 +30,14 @@ loop-rule-preserved g c =
       none = rules-none rules n z inside ∙ inv.none;
       each = rules-each rules n z inside (g.P.LetterPrice.view c.args.prices.now).rule_of (read ∙ price.value) inv.each;
       small = rules-small rules n z inside g.N.Number.limits.price c.in-Some.ensures.within inv.small;
+    }
+
+pub returns : goal.returns
+returns g c = λ yes.
+    let inv = c.loop-rule.invariant in
+    record {
+      count = inv.count;
+      none = inv.none;
+      each = λ r lt. inv.each r (omega (arith, lt, c.loop-rule-test.false));
+      small = λ k lt. inv.small k (omega (arith, lt, c.loop-rule-test.false));
     }

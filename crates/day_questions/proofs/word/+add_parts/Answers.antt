@@ -1,9 +1,10 @@
-use Rattle.std.proofs.Common.{arith, ◌≡◌, ◌∷◌, ◌∙◌, ℕ, ◌+◌, ◌*◌, ◌<◌, ◌≤◌, length, List, ap, subst}
+use Rattle.std.proofs.Common.{arith, ◌≡◌, ◌∷◌, ◌∙◌, ℕ, ◌+◌, ◌*◌, ◌<◌, ◌≤◌, length, List, ap, sym, subst}
+use Rattle.std.proofs.lemmas.Result.{IfOk-weaker}
 use Rattle.roster_model.specs.declared.grammar.Sym.{Sym}
 use Rattle.roster_model.specs.declared.grammar.Sym.TheVariants.{Name}
 use Rattle.tree_laws.proofs.Rules.{sound-rule}
 use Rattle.day_questions.specs.Spelled.{AsksParts, GivesWord}
-use Rattle.day_questions.proofs.SpelledLemmas.{name-inner, name-others, name-fewer}
+use Rattle.day_questions.proofs.SpelledLemmas.{name-inner, name-others, name-fewer, name-gives}
 use Rattle.day_questions.proofs.word.+add_parts.Goals as goal
 
 pub add_parts-requires-in-Name : goal.add_parts-requires-in-Name
@@ -37,3 +38,21 @@ add_parts-requires-in-Name-2 t c =
       subst (λ (n : ℕ). length c.in_ok-left-in-Name.left.now * 9 + length c.in-Some.others.now < n) c.decreases (omega (arith, fewer, some, count)),
       (c.requires.sound, others),
     )
+
+pub returns-in_ok-left-in-Name : goal.returns-in_ok-left-in-Name
+returns-in_ok-left-in-Name t c =
+    let g = c.args.grammar.now in
+    let x = c.in-Name.field-0 in
+    let xs = c.args.steps.now in
+    let below = c.in-Some-first_and_rest.below.now in
+    let left = c.in_ok-left-in-Name.left.now in
+    let others = c.in-Some.others.now in
+    let old = c.args.out.now in
+    let mid = c.add_parts-in-Name.new.out in
+    let new = c.add_parts-in-Name-2.new.out in
+    let named : c.args.symbols.now ≡ Name x ∷ others = c.in-Some.ensures ∙ ap (λ (s : Sym). s ∷ others) c.in-Name.is in
+    let gives = subst (λ (ss : List Sym). GivesWord g ss below old left mid) c.as_slice.ensures c.in_ok-left-in-Name.ensures in
+    IfOk-weaker c.add_parts-in-Name-2.result (λ r. GivesWord g others left mid r.now new) (λ r. GivesWord g c.args.symbols.now xs old r.now new)
+    (λ r more. subst (λ (ss : List Sym). GivesWord g ss xs old r.now new) (sym named)
+    (name-gives g x others c.in-Some-first_and_rest.step xs below c.in-Some-first_and_rest.ensures c.rule_of-rule.result.now c.rule_of-rule.ensures old mid new left r.now gives more))
+    c.add_parts-in-Name-2.ensures

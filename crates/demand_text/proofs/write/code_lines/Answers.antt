@@ -1,3 +1,4 @@
+use Rattle.std.proofs.lemmas.Result.{on_ok_weaker}
 use Rattle.demand_text.proofs.OneCode.{has_first, lines_joined}
 use Rattle.demand_text.proofs.write.code_lines.Goals as goal
 
@@ -9,6 +10,6 @@ bounds-as_slice-first c = rw c.as_slice.ensures (has_first c.args.grammar.now c.
 
 pub returns : goal.returns
 returns c =
-    lines_joined c.args.grammar.now.codes c.args.cells.now c.args.out.now c.need_line.new.out c.bound_line.new.out c.bound_line-2.new.out
+    on_ok_weaker c.bound_line-2.result (λ e. lines_joined c.args.grammar.now.codes c.args.cells.now c.args.out.now c.need_line.new.out c.bound_line.new.out c.bound_line-2.new.out
     (has_first c.args.grammar.now c.args.cells.now c.requires.sound.some_period c.requires.one).some
-    (rw c.as_slice.ensures at c.in_ok-need_line.ensures) (rw c.as_slice.ensures at c.in_ok-bound_line.ensures) (rw c.as_slice.ensures at c.in_ok-bound_line-2.ensures)
+    (rw c.as_slice.ensures at c.in_ok-need_line.ensures) (rw c.as_slice.ensures at c.in_ok-bound_line.ensures) (rw c.as_slice.ensures at e)) c.bound_line-2.ensures

@@ -1,3 +1,4 @@
+use Rattle.std.proofs.lemmas.Result.{on_ok_weaker}
 use Rattle.std.proofs.Common.{[], ◌∷◌}
 use Rattle.std.specs.Fmt.{decimal}
 use Rattle.std.specs.Prelude.{codes}
@@ -8,6 +9,6 @@ use Rattle.demand_text.proofs.write.need_line.Goals as goal
 
 pub returns : goal.returns
 returns c =
-    line_joined c.args.out.now _ _ _ c.push.new.self (codes "need") ((c.args.code ∷ []) ∷ decimal c.args.under ∷ decimal c.args.over ∷ []) (numbers_of Need c.args.cells.now)
+    on_ok_weaker c.push.result (λ e. line_joined c.args.out.now _ _ _ c.push.new.self (codes "need") ((c.args.code ∷ []) ∷ decimal c.args.under ∷ decimal c.args.over ∷ []) (numbers_of Need c.args.cells.now)
     c.in_ok-put.ensures.ok (three_words _ _ _ _ (c.args.code ∷ []) (decimal c.args.under) (decimal c.args.over) c.in_ok-word.ensures c.in_ok-field.ensures c.in_ok-field-2.ensures)
-    c.in_ok-numbers.ensures c.in_ok-push.ensures.ok
+    c.in_ok-numbers.ensures e) c.push.ensures.ok

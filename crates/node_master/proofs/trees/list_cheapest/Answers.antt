@@ -6,6 +6,13 @@ use Rattle.node_master.specs.Columns.{AreHeld}
 use Rattle.node_master.proofs.HeldColumns.{held_grow, held_push, wanted_push, desk_after, listed_key}
 use Rattle.node_master.proofs.trees.list_cheapest.Goals as goal
 
+pub returns-then-not-found-clause-desk : goal.returns-then-not-found-clause-desk
+returns-then-not-found-clause-desk c =
+    let d = c.requires.desk in
+    desk_after c.args.instance.now c.args.cuts.now c.args.pool.now c.args.pool.now c.args.desk.now
+    record { held = c.args.desk.now.held; wanted = c.args.desk.now.wanted; prices = c.set_prices.new.prices; tree = c.find_tree-found.new.room; numbers = with_items c.args.desk.now.numbers c.set_prices.new.numbers }
+    d d.held d.wanted c.set_prices.ensures.room c.set_prices.ensures.most c.find_tree-found.ensures.room (sym (with_items c.args.desk.now.numbers c.set_prices.new.numbers).ok.0 ∙ c.args.desk.now.numbers.ok.0)
+
 pub returns-in_err-column-clause-desk : goal.returns-in_err-column-clause-desk
 returns-in_err-column-clause-desk c =
     let i = c.args.instance.now in

@@ -41,6 +41,12 @@ bounds-y-head-2 c =
     let l = heads_within r.0 r.1 (length c.args.y.now) r.3 in
     omega arith
 
+pub overflow_add-result-2 : goal.overflow_add-result-2
+overflow_add-result-2 c =
+    let a = at_narrow c.args.y.now c.requires.narrow c.first_head-head.result in
+    let b = at_narrow c.args.y.now c.requires.narrow (c.first_head-head.result + 1) in
+    omega (arith, ints, a, b)
+
 pub returns : goal.returns
 returns c = record {
   value = λ i cuts rows.

@@ -1,4 +1,5 @@
-use Rattle.std.proofs.Common.{append_assoc, append-nil}
+use Rattle.std.proofs.lemmas.Result.{on_ok_weaker}
+use Rattle.std.proofs.Common.{◌∙◌, append_assoc, append-nil}
 use Rattle.std.proofs.lemmas.Grind.{flat_map-append}
 use Rattle.page_text.specs.Pages.{body}
 use Rattle.page_text.proofs.page.body.Goals as goal
@@ -6,5 +7,5 @@ use Rattle.page_text.proofs.page.body.Goals as goal
 pub returns : goal.returns
 unfolding body
 returns c =
-    rw (c.in_ok-marks.ensures, c.in_ok-derivations.ensures, c.in_ok-coverage_part.ensures, c.in_ok-shifts_part.ensures, c.in_ok-top_part.ensures, c.as_slice.ensures, c.as_slice-2.ensures, c.as_slice-3.ensures)
-    (simp (append_assoc, append-nil, flat_map-append))
+    on_ok_weaker c.marks.result (λ e. e ∙ rw (c.in_ok-derivations.ensures, c.in_ok-coverage_part.ensures, c.in_ok-shifts_part.ensures, c.in_ok-top_part.ensures, c.as_slice.ensures, c.as_slice-2.ensures, c.as_slice-3.ensures)
+    (simp (append_assoc, append-nil, flat_map-append))) c.marks.ensures

@@ -1,4 +1,5 @@
-use Rattle.std.proofs.Common.{append_assoc, append-nil}
+use Rattle.std.proofs.lemmas.Result.{on_ok_weaker}
+use Rattle.std.proofs.Common.{◌∙◌, append_assoc, append-nil}
 use Rattle.std.proofs.lemmas.Grind.{flat_map-append}
 use Rattle.page_text.specs.Pages.{coverage}
 use Rattle.page_text.proofs.page.coverage.Goals as goal
@@ -6,5 +7,5 @@ use Rattle.page_text.proofs.page.coverage.Goals as goal
 pub returns : goal.returns
 unfolding coverage
 returns c =
-    rw (c.in_ok-marks-2.ensures, c.in_ok-charts.ensures, c.in_ok-marks.ensures, c.chart_legend.ensures)
-    (simp (append_assoc, append-nil, flat_map-append))
+    on_ok_weaker c.marks-2.result (λ e. e ∙ rw (c.in_ok-charts.ensures, c.in_ok-marks.ensures, c.chart_legend.ensures)
+    (simp (append_assoc, append-nil, flat_map-append))) c.marks-2.ensures

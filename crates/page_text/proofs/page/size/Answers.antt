@@ -1,10 +1,10 @@
-use Rattle.std.proofs.Common.{append_assoc, append-nil}
-use Rattle.std.proofs.lemmas.Grind.{flat_map-append}
+use Rattle.std.proofs.lemmas.Result.{on_ok_weaker}
+use Rattle.std.proofs.Common.{◌∙◌, append_assoc, append-nil}
 use Rattle.page_text.specs.Pages.{size}
 use Rattle.page_text.proofs.page.size.Goals as goal
 
 pub returns : goal.returns
 unfolding size
 returns c =
-    rw (c.in_ok-marks-5.ensures, c.in_ok-number-4.ensures, c.in_ok-marks-4.ensures, c.in_ok-number-3.ensures, c.in_ok-marks-3.ensures, c.in_ok-number-2.ensures, c.in_ok-marks-2.ensures, c.in_ok-number.ensures, c.in_ok-marks.ensures)
-    (simp (append_assoc, append-nil, flat_map-append))
+    on_ok_weaker c.marks.result (λ e. e ∙ rw (c.in_ok-labelled-4.ensures, c.in_ok-labelled-3.ensures, c.in_ok-labelled-2.ensures, c.in_ok-labelled.ensures)
+    (simp (append_assoc, append-nil))) c.marks.ensures

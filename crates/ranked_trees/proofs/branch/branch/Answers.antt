@@ -1,6 +1,9 @@
-use Rattle.std.proofs.Common.{◌≡◌, ◌≤◌, ◌<◌, arith, refl, subst, sym, ap, ◌∙◌, length, slice_index_or}
+use Rattle.std.proofs.Common.{◌≡◌, ◌≤◌, ◌<◌, List, map, take, arith, refl, subst, sym, ap, ◌∙◌, length, slice_index_or}
 use Rattle.ranked_trees.specs.declared.candidate.Child.{Child}
+use Rattle.std.proofs.lemmas.List.{take_all}
 use Rattle.ranked_trees.specs.Candidates.{child_of}
+use Rattle.ranked_trees.specs.Progresses.{AreOffered}
+use Rattle.ranked_trees.proofs.AdvanceLemmas.{on_ok}
 use Rattle.ranked_trees.proofs.BranchLemmas.{others-take, each-others, each-taken, each-at, step-offered, step-takes}
 use Rattle.ranked_trees.proofs.branch.branch.Goals as goal
 
@@ -30,3 +33,16 @@ loop-place-preserved c =
 
 pub go_on-requires-clause-part : goal.go_on-requires-clause-part
 go_on-requires-clause-part c = each-taken (λ (ch : Child). ch.len ≤ c.args.frame.span.len) c.args.children.now.items c.take_least-best.new.children.items c.take_least-best.result c.take_least-best.ensures c.requires.short
+
+pub returns : goal.returns
+returns c =
+    let made = child_of c.args.current.now.steps c.args.frame c.args.current.now.pending in
+    let all : take c.loop-place.place c.take_least-best.new.children.items ≡ c.take_least-best.new.children.items = take_all c.loop-place.place c.take_least-best.new.children.items (omega (arith, c.loop-place-test.false, c.len-place-end.ensures)) in
+    on_ok c.go_on.result _ _
+    (λ on. record {
+      taken = c.take_least-best.result;
+      others = c.take_least-best.new.children.items;
+      takes = c.take_least-best.ensures;
+      goes_on = on;
+      offered = subst (λ (q : List Child). AreOffered c.args.room (map made q) c.args.waiting.now.items c.loop-place.waiting.items) all c.loop-place.invariant.offered;
+    }) c.go_on.ensures

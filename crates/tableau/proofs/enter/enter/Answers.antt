@@ -126,3 +126,53 @@ returns-clause-path g c =
 pub returns-clause-room : goal.returns-clause-room
 returns-clause-room g c =
     record { entry = c.turn.ensures.entries ∙ c.requires.room.entry; price = ap length c.turn.ensures.prices ∙ c.requires.room.price; numbers = c.turn.ensures.pivot ∙ c.requires.room.numbers }
+
+pub check_column-requires : goal.check_column-requires
+check_column-requires g c =
+    let cheap = c.requires.column in
+    let own = c.cost-cost.ensures cheap.key cheap.listed in
+    let f : SFits w64 c.cost-cost.result = search rules in
+    simp to_z-of_z (rw own (c.requires.costs cheap.key cheap.member))
+
+pub reduced_cost-reduced-requires-clause-narrow : goal.reduced_cost-reduced-requires-clause-narrow
+reduced_cost-reduced-requires-clause-narrow g c =
+    rw c.as_slice.ensures c.requires.sheet.prices.narrow
+
+pub reduced_cost-reduced-requires-clause-within : goal.reduced_cost-reduced-requires-clause-within
+reduced_cost-reduced-requires-clause-within g c =
+    let cheap = c.requires.column in
+    let column = c.places-places.ensures cheap.key cheap.listed in
+    rw c.rows.ensures column.within
+
+pub reduced_cost-reduced-requires-clause-rising : goal.reduced_cost-reduced-requires-clause-rising
+reduced_cost-reduced-requires-clause-rising g c =
+    let cheap = c.requires.column in
+    let column = c.places-places.ensures cheap.key cheap.listed in
+    column.rising
+
+pub reduced_cost-reduced-requires-clause-low : goal.reduced_cost-reduced-requires-clause-low
+reduced_cost-reduced-requires-clause-low g c =
+    let cheap = c.requires.column in
+    let own = c.cost-cost.ensures cheap.key cheap.listed in
+    let f : SFits w64 c.cost-cost.result = search rules in
+    simp to_z-of_z (rw own (c.requires.costs cheap.key cheap.member))
+
+pub turn-requires-clause-sheet : goal.turn-requires-clause-sheet
+turn-requires-clause-sheet g c =
+    rw c.requires.sheet.lines.count c.requires.sheet
+
+pub turn-requires-clause-within : goal.turn-requires-clause-within
+turn-requires-clause-within g c =
+    let cheap = c.requires.column in
+    let column = c.places-places.ensures cheap.key cheap.listed in
+    rw c.requires.sheet.lines.count column.within
+
+pub turn-requires-clause-rising : goal.turn-requires-clause-rising
+turn-requires-clause-rising g c =
+    let cheap = c.requires.column in
+    let column = c.places-places.ensures cheap.key cheap.listed in
+    column.rising
+
+pub returns-clause-sheet : goal.returns-clause-sheet
+returns-clause-sheet g c =
+    rw c.requires.sheet.lines.count at c.in_default-turn.ensures.sheet

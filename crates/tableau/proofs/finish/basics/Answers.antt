@@ -32,3 +32,10 @@ returns-clause-shares g c = λ keys listed.
     let p = g.C.Columns.program (g.C.Columns.site c.args.columns.now) in
     let none : c.rows.row ≡ zero = omega (arith, c.rows-test.false) in
     share_all (length c.args.rows.now) c.args.rows.now (λ k. (p.column (keys k)).entry) c.args.basis.now c.rows.basic c.rows.row none (c.rows.invariant.shares keys listed)
+
+pub basic_of-requires-clause-row : goal.basic_of-requires-clause-row
+basic_of-requires-clause-row g c =
+    let r = c.rows.row - 1 in
+    let inside : c.rows.row - 1 < length c.args.rows.now = omega (arith, c.rows.invariant.inside, c.rows-test.true) in
+    let e = c.as_slice.ensures ∙ row_is c.args.rows.now r c.index-rows-row.result inside c.index-rows-row.is in
+    rw e (c.requires.lines.each r inside)

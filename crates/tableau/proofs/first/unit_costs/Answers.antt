@@ -31,3 +31,8 @@ loop-row-preserved g c =
       small = rw items (pushed (λ (r : ℕ) (z : ℤ). z ≤ℤ pos (2 ^ 39)) c.loop-row.costs.items c.loop-row.row c.cost-cost.result c.loop-row.invariant.length c.loop-row.invariant.small small);
       tally = c.in_default.ensures.counted ∙ c.loop-row.invariant.tally;
     }
+
+pub cost-cost-requires-clause-column : goal.cost-cost-requires-clause-column
+cost-cost-requires-clause-column g c =
+    let p = g.C.Columns.program (g.C.Columns.site c.args.columns.now) in
+    c.count-count.ensures.inside c.loop-row.row (p.unit c.loop-row.row) (c.requires.units c.loop-row.row c.loop-row-test.true)

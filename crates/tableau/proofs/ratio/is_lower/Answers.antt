@@ -1,9 +1,9 @@
-use Rattle.std.proofs.Common.{◌≡◌, rules, to_z, of_z, T, not, Bool, true, false, arith}
+use Rattle.std.proofs.Common.{◌≡◌, pos, slice_index_or, SFits, rules, to_z, of_z, T, not, Bool, true, false, arith}
 use Rattle.std.specs.Prelude.{◌*ℤ◌, ◌≤ℤ◌}
 use Rattle.std.specs.Bool.{OnTrue, OnFalse}
 use Rattle.std.specs.Int.Signed.{lt_z_yes, lt_z_no}
-use Rattle.std.proofs.lemmas.Int.{ints}
-use mir.Syntax.{w128}
+use Rattle.std.proofs.lemmas.Int.{to_z-of_z, ints}
+use mir.Syntax.{w64, w128}
 use Rattle.fraction.specs.Row.{at}
 use Rattle.tableau.proofs.ratio.is_lower.Goals as goal
 
@@ -32,3 +32,8 @@ returns-clause-higher c =
     let a : c.scaled-low.result ≡ at c.args.first.now c.args.right *ℤ c.args.other = search rules in
     let b : c.scaled-high.result ≡ at c.args.second.now c.args.right *ℤ c.args.entry = search rules in
     omega (arith, ints))
+
+pub scaled-high-requires-clause-number : goal.scaled-high-requires-clause-number
+scaled-high-requires-clause-number c =
+    let f : SFits w64 (slice_index_or c.args.second.now c.args.right (pos 0)) = search rules in
+    simp to_z-of_z (c.requires.second c.args.right (pos 0) c.requires.two)

@@ -1,4 +1,5 @@
 use Rattle.std.proofs.Common.{◌≡◌, ℕ, ◌+◌, arith, refl, ◌∙◌, subst}
+use Rattle.std.proofs.lemmas.Bool.{false≢true}
 use Rattle.linear_programs.specs.Tableau.{PivotPath}
 use Rattle.tableau.specs.Sheet.{tableau_of}
 use Rattle.tableau.proofs.Counts.{spent_risen}
@@ -71,3 +72,23 @@ returns-in-Err-enter-clause-fault g c =
     let p = g.C.Columns.program (g.C.Columns.site c.args.columns.now) in
     let later = rw (c.in-Ok-Some.ensures.site, c.if-not-take.ensures.taken.1) at (c.in-Err-enter.ensures.fault c.args.pivots) in
     fault_later p (g.C.Columns.Lists (g.C.Columns.state c.entering.new.columns)) c.args.pivots c.args.tally.now c.entering.new.tally c.enter.new.tally c.in-Err-enter.fault c.in-Ok-Some.ensures.counts.0 (let s = c.in-Ok-Some.ensures.counts.1 in omega arith) later
+
+pub entering-requires-clause-cost : goal.entering-requires-clause-cost
+entering-requires-clause-cost g c =
+    rw c.as_slice-3.ensures c.requires.running.sheet.prices
+
+pub returns-in-Ok-None-clause-running : goal.returns-in-Ok-None-clause-running
+returns-in-Ok-None-clause-running g c =
+    λ yes. absurd (false≢true yes)
+
+pub enter-requires-clause-sound : goal.enter-requires-clause-sound
+enter-requires-clause-sound g c =
+    rw c.in-Ok-Some.ensures.site c.requires.sound
+
+pub enter-requires-clause-costs : goal.enter-requires-clause-costs
+enter-requires-clause-costs g c =
+    rw c.in-Ok-Some.ensures.site c.requires.costs
+
+pub enter-requires-clause-sheet : goal.enter-requires-clause-sheet
+enter-requires-clause-sheet g c =
+    rw c.in-Ok-Some.ensures.site c.requires.running.sheet

@@ -16,3 +16,11 @@ returns-in-Err-attempt_again g c =
       kept = g.C.Columns.chain _ _ _ c.in-Err.ensures.kept c.in-Err-attempt_again.ensures.kept;
       counts = c.in-Err.ensures.counts;
     }
+
+pub returns-in-Ok-attempt_again-clause-kept : goal.returns-in-Ok-attempt_again-clause-kept
+returns-in-Ok-attempt_again-clause-kept g c =
+    g.C.Columns.chain _ _ _ c.in-Err.ensures.kept c.in-Ok-attempt_again.ensures.kept
+
+pub returns-in-Err-Memory-clause-kept : goal.returns-in-Err-Memory-clause-kept
+returns-in-Err-Memory-clause-kept g c =
+    g.C.Columns.chain _ _ _ c.in-Err.ensures.kept c.in-Err-Memory.ensures.kept

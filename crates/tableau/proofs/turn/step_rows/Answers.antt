@@ -1,9 +1,9 @@
-use Rattle.std.proofs.Common.{◌<◌, ◌+◌, arith, pos, length, slice_index_or, SFits, rules, ap, sym, ◌∙◌}
+use Rattle.std.proofs.Common.{◌<◌, ◌+◌, arith, pos, length, slice_index_or, SFits, rules, ap, refl, sym, ◌∙◌}
 use Rattle.std.specs.Int.{w128}
 use Rattle.std.proofs.lemmas.Int.{to_z-of_z}
 use Rattle.std.proofs.lemmas.Result.{err_from_is_err_and}
-use Rattle.tableau.specs.Lines.{IsLine}
-use Rattle.tableau.proofs.Turns.{row_is, lines_set, stepped_more, stepped_past, wide_row}
+use Rattle.tableau.specs.Lines.{row_at, IsLine}
+use Rattle.tableau.proofs.Turns.{row_is, lines_set, stepped_more, stepped_past, wide_row, padded_long, padded_narrow}
 use Rattle.tableau.proofs.turn.step_rows.Goals as goal
 use Rattle.tableau.proofs.turn.step_rows.Goals.{then-row-leaving+in_ok-step, else-row-leaving}
 
@@ -43,3 +43,22 @@ returns-in_err-step-clause-wide c =
     let p = err_from_is_err_and c.from_residual.result c.from_residual.ensures.1 in
     rw p.1
     (wide_row c.args.rows.now c.args.entries.now c.args.leaving c.loop-row.rows c.loop-row.row c.loop-row.invariant.stepped (length c.args.rows.now) c.index-rows-row.result c.args.pivot.now (omega arith) c.if-row-leaving.true now c.requires.pivot (rw (sym c.index-rows-row.is) at wide))
+
+pub step-requires-clause-line : goal.step-requires-clause-line
+step-requires-clause-line c =
+    let inside : c.loop-row.row < length c.loop-row.rows = omega (arith, c.loop-row.auto.rows, c.loop-row-test.true) in
+    let read = sym c.index-rows-row.is ∙ row_is c.loop-row.rows c.loop-row.row c.index-rows-row.result inside c.index-rows-row.is in
+    let line = c.loop-row.invariant.lines.each c.loop-row.row c.loop-row-test.true in
+    rw read (record { long = refl; narrow = line.narrow; primitive = line.primitive })
+
+pub step-requires-clause-lengths : goal.step-requires-clause-lengths
+step-requires-clause-lengths c =
+    let inside : c.loop-row.row < length c.loop-row.rows = omega (arith, c.loop-row.auto.rows, c.loop-row-test.true) in
+    let read = sym c.index-rows-row.is ∙ row_is c.loop-row.rows c.loop-row.row c.index-rows-row.result inside c.index-rows-row.is in
+    let line = c.loop-row.invariant.lines.each c.loop-row.row c.loop-row-test.true in
+    let pivot = ap length c.requires.pivot ∙ padded_long (row_at c.args.rows.now c.args.leaving) in
+    omega (arith, ap length read, line.long, pivot, (c.requires.lines.each c.args.leaving c.requires.leaving).long)
+
+pub step-requires-clause-other : goal.step-requires-clause-other
+step-requires-clause-other c =
+    rw c.requires.pivot (padded_narrow (row_at c.args.rows.now c.args.leaving) (c.requires.lines.each c.args.leaving c.requires.leaving).narrow)

@@ -1,11 +1,11 @@
 use Rattle.day_questions.specs.Fitting.{FitsAnswer}
 use Rattle.text_commands.specs.Days.{accepted}
 use Rattle.text_commands.proofs.Days.{day-fault}
+use Rattle.text_commands.proofs.Derivations.{IfOk-map}
 use Rattle.text_commands.proofs.fits.fitting.Goals as goal
 
-pub returns-in_ok-answer-in-Ok : goal.returns-in_ok-answer-in-Ok
-returns-in_ok-answer-in-Ok c =
-    accepted c.in-Ok.grammar c.in_ok-answer-in-Ok.answer.status c.in_ok-answer-in-Ok.answer.output (record { reading = c.in-Ok.ensures.value; sound = c.in-Ok.ensures.sound }) c.in_ok-answer-in-Ok.ensures
+pub returns-in-Ok : goal.returns-in-Ok
+returns-in-Ok c = IfOk-map _ _ _ (λ a h. accepted c.in-Ok.grammar a.status a.output (record { reading = c.in-Ok.ensures.value; sound = c.in-Ok.ensures.sound }) h) c.fitting_by.ensures
 
 pub returns-in-Err : goal.returns-in-Err
 returns-in-Err c = day-fault (λ g s o. FitsAnswer g c.args.pattern.now s o) c.args.text.now c.in-Err.fault c.refusal.result c.in-Err.ensures.value c.refusal.ensures

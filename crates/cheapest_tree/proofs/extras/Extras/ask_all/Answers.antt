@@ -1,7 +1,30 @@
-use Rattle.std.proofs.Common.{arith, ap, length}
-use Rattle.std.proofs.lemmas.Option.{slice_get_within}
-use Rattle.cheapest_tree.proofs.ExtrasLemmas.{within-all}
+use Rattle.std.proofs.Common.{arith, ◌≡◌, ◌<◌, List, Some, get_or, sym, ap, ◌∙◌, length}
+use Rattle.std.specs.Prelude.{slice_get}
+use Rattle.std.proofs.lemmas.Int.{ints}
+use Rattle.std.proofs.lemmas.List.{length-set}
+use Rattle.std.proofs.lemmas.Option.{slice_get-get_or, slice_get_within}
+use Rattle.roster_model.specs.declared.grammar.ArcKey.{ArcKey}
+use Rattle.cheapest_tree.proofs.ExtrasLemmas.{asked-each, asked-small, within-all}
 use Rattle.cheapest_tree.proofs.extras.Extras.ask_all.Goals as goal
+
+pub loop-place-preserved : goal.loop-place-preserved
+loop-place-preserved g c =
+    let inv = c.loop-place.invariant in
+    let numbers = c.loop-place.self.prices.items in
+    let n = c.loop-place.place in
+    let z = c.in-Some.price in
+    let asked = c.arc.ensures in
+    let arcs = ap length c.arcs-arcs.ensures.arcs in
+    let inside : n < length numbers = omega (arith, c.loop-place-test.true, arcs, inv.count) in
+    let read : z ≡ c.arc.result = omega (arith, ints, c.in-Some.ensures.same, asked.within.low, asked.within.high) in
+    let one : ArcKey = get_or c.arcs-arcs.result.now n (record { rule = 0; suffix = 0; start = 0; len = 0; part = 0 }) in
+    let at : slice_get c.args.graph.now.arcs n ≡ Some one =
+    ap (λ (q : List ArcKey). slice_get q n) (sym c.arcs-arcs.ensures.arcs) ∙ slice_get-get_or c.arcs-arcs.result.now n (record { rule = 0; suffix = 0; start = 0; len = 0; part = 0 }) c.loop-place-test.true in
+    record {
+      each = asked-each (g.P.LetterPrice.view c.args.prices.now).arc_of c.args.graph.now.arcs numbers n one z inside at (read ∙ asked.value) inv.each;
+      small = asked-small g.N.Number.limits.price numbers n z inside c.in-Some.ensures.within inv.small;
+      count = length-set numbers n z ∙ inv.count;
+    }
 
 pub returns-clause-costs : goal.returns-clause-costs
 returns-clause-costs g c = λ yes.

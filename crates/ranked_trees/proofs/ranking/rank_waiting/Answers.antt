@@ -11,7 +11,7 @@ use Rattle.ranked_trees.specs.Progresses.{IsProgress}
 use Rattle.ranked_trees.proofs.StartLemmas.{front}
 use Rattle.ranked_trees.proofs.AdvanceLemmas.{small-sum}
 use Rattle.ranked_trees.proofs.ProgressLemmas.{is-given, is-ranking}
-use Rattle.ranked_trees.proofs.ranking.rank.Goals as goal
+use Rattle.ranked_trees.proofs.ranking.rank_waiting.Goals as goal
 
 pub descend-requires-clause-progress : goal.descend-requires-clause-progress
 descend-requires-clause-progress g c =
@@ -24,7 +24,7 @@ pub loop-alloc-preserved : goal.loop-alloc-preserved
 loop-alloc-preserved g c =
     let p = g.P.LetterPrice.view c.args.prices.now in
     let now = subst (λ (rs : List Ranked). IsProgress c.args.grammar.now (g.P.LetterPrice.view c.args.prices.now) c.args.most rs (c.descend.new.current ∷ c.descend.new.waiting.items) []) c.as_slice.ensures c.in_ok-descend.ensures.progress in
-    let small = small-sum c.args.grammar.now p c.descend.new.current c.requires.sound (g.met.P.LetterPrice.all_within c.args.prices.now) now.kept.0.is in
+    let small = small-sum c.args.grammar.now p c.descend.new.current c.requires.sums.sound (g.met.P.LetterPrice.all_within c.args.prices.now) now.kept.0.is in
     let same : to_z w128 (of_z w128 c.descend.new.current.sum) ≡ c.descend.new.current.sum = omega (arith, ints, small) in
     let pushed = rw same at c.in_ok-push.ensures.ok in
     rw pushed (is-given c.args.grammar.now p c.args.most c.loop-alloc.given c.descend.new.current c.descend.new.waiting.items c.in_ok-descend.ensures.whole now)

@@ -1,16 +1,16 @@
-use Rattle.std.proofs.Common.{arith, ◌∷◌, [], List, length, length-append, ap, subst, sym, Option}
+use Rattle.std.proofs.Common.{arith, List, length, ap, subst, sym, Option}
 use Rattle.roster_model.specs.declared.grammar.ArcKey.{ArcKey}
 use Rattle.span_arcs.specs.Ahead.{IsPassed}
 use Rattle.span_arcs.proofs.AheadLemmas.{passed-first, passed-step, passed-end, next-fewer}
 use Rattle.parse_graph.proofs.GraphsLemmas.{all-shaped}
 use Rattle.span_arcs.proofs.ShapesLemmas.{arc-small}
-use Rattle.parse_graph.proofs.walk.list_arcs.Goals as goal
+use Rattle.parse_graph.proofs.walk.list_all.Goals as goal
 
 pub loop-next-init : goal.loop-next-init
 loop-next-init c = record {
-  passed = subst (λ (xs : List ArcKey). IsPassed c.args.grammar.now xs c.next_arc-next.result) (sym c.new-arcs.ensures)
+  passed = subst (λ (xs : List ArcKey). IsPassed c.args.grammar.now xs c.next_arc-next.result) (sym c.requires.none)
       (passed-first c.args.grammar.now c.next_arc-next.result c.next_arc-next.ensures);
-  few = let e = ap length c.new-arcs.ensures in omega (arith, e);
+  few = let e = ap length c.requires.none in omega (arith, e);
 }
 
 pub list_run-requires-clause-arc : goal.list_run-requires-clause-arc

@@ -1,7 +1,7 @@
 use Rattle.std.proofs.Common.{◌≤◌, length}
 use Rattle.span_arcs.proofs.OrderLemmas.{keys_left}
 use Rattle.span_arcs.specs.Ahead.{IsPassed}
-use Rattle.parse_graph.proofs.walk.list_arcs.Given as goal
+use Rattle.parse_graph.proofs.walk.list_all.Given as goal
 
 abbrev pub invariant-loop-next : goal.invariant-loop-next
 invariant-loop-next l = record {
