@@ -1,9 +1,6 @@
 //! The program: the page of a certificate that it has checked itself.
 #![tactic(auto)]
 
-#[cfg(test)]
-mod tests;
-
 use page_command::run;
 use shelf::DiskShelf;
 use std::env;

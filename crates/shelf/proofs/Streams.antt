@@ -1,9 +1,11 @@
 -- What loops over reads and writes keep.
-use Rattle.std.proofs.Common.{◌≡◌, ◌≤◌, ◌+◌, ℕ, List, [], ◌++◌, length, take, drop, Option, Some, None, append_assoc, arith, rules}
+use Rattle.std.proofs.Common.{◌≡◌, ◌≤◌, ◌+◌, ℕ, List, [], ◌++◌, length, take, drop, Option, Some, None, ◌-◌, append_assoc, sym, arith, rules}
 use Rattle.std.specs.Prelude.{IfSome}
 use Rattle.std.specs.Io.KnownBytes.{Consumes, Appends, IsAtEnd}
+use Rattle.std.proofs.lemmas.List.{length-append}
 use Rattle.std.proofs.Math.Seq.{take-add}
 use Rattle.std.proofs.lemmas.Grind.{common_steps}
+use Rattle.shelf.specs.Shelf.{Begins}
 
 -- the bytes taken so far were appended, and so many may still be read
 pub record ReadSoFar (start now : Option (List ℕ)) (old new : List ℕ) (limit left : ℕ) : Type 0 where
@@ -11,6 +13,16 @@ pub record ReadSoFar (start now : Option (List ℕ)) (old new : List ℕ) (limit
   pub appended : new ≡ old ++ taken
   pub counted : length taken + left ≡ limit
   pub consumed : Consumes start now taken
+
+-- what is there began so
+pub read_begins : (start now : Option (List ℕ)) (old new : List ℕ) (limit left : ℕ) → ReadSoFar start now old new limit left → Begins old new
+read_begins start now old new limit left so_far = (so_far.taken, so_far.appended)
+
+-- no more than the limit was read
+pub read_within : (start now : Option (List ℕ)) (old new : List ℕ) (limit left : ℕ) → ReadSoFar start now old new limit left
+    → length new ≤ length old + limit
+read_within start now old new limit left so_far =
+    rw so_far.appended (rw (length-append old so_far.taken) (omega (arith, so_far.counted)))
 
 -- at the end of the reader all its bytes are there, or those up to the limit
 pub read_to_end : (start now next : Option (List ℕ)) (old new part : List ℕ) (limit left : ℕ) → ReadSoFar start now old new limit left
@@ -34,6 +46,25 @@ read_to_limit (Some xs) (Some ys) old new limit left so_far full =
     let consumed : xs ≡ so_far.taken ++ ys = so_far.consumed in
     let whole : take limit xs ≡ so_far.taken = grind (arith, common_steps, so_far.counted) in
     rw (whole) so_far.appended
+
+-- after a further read more of the reader's bytes are there
+pub read_more : (start now next : Option (List ℕ)) (old new all piece : List ℕ) (limit left count : ℕ) → ReadSoFar start now old new limit left
+    → Consumes now next piece → all ≡ new ++ piece → length piece ≡ count → count ≤ left → ReadSoFar start next old all limit (left - count)
+read_more start now next old new all piece limit left count so_far more is long within = record {
+  taken = so_far.taken ++ piece;
+  appended = rw (is, so_far.appended) (append_assoc old so_far.taken piece);
+  counted = rw (length-append so_far.taken piece) (omega (arith, so_far.counted, long, within));
+  consumed = consumed start now next so_far.consumed more;
+}
+  where
+    consumed : (s n t : Option (List ℕ)) → Consumes s n so_far.taken → Consumes n t piece → Consumes s t (so_far.taken ++ piece)
+    consumed None n t a b = search rules
+    consumed (Some xs) None t a b = absurd a
+    consumed (Some xs) (Some ys) None a b = absurd b
+    consumed (Some xs) (Some ys) (Some zs) a b =
+        let first : xs ≡ so_far.taken ++ ys = a in
+        let then : ys ≡ piece ++ zs = b in
+        rw (first, then) (sym (append_assoc so_far.taken piece zs))
 
 -- the first bytes were written
 pub record WrittenSoFar (start now : Option (List ℕ)) (bytes : List ℕ) (done : ℕ) : Type 0 where

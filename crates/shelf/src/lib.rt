@@ -16,6 +16,4 @@ pub use fault::ShelfFault;
 pub use memory::MemoryShelf;
 pub use quiet::QuietShelf;
 pub use shelf::Shelf;
-
-#[cfg(test)]
-mod tests;
+pub use stream::{read_bytes, write_bytes};

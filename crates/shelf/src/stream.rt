@@ -11,7 +11,11 @@ const READ_LIMIT: usize = 1_073_741_825;
 
 /// Appends the bytes that the reader has left, but at most 1,073,741,825. An interrupted read is
 /// not tried again.
-pub(crate) fn read_bytes<F: Read>(from: &mut F, into: &mut Vec<u8>) -> Result<(), ShelfFault>
+///
+/// # Errors
+///
+/// `Failed` where a read is refused, `Memory` where memory runs out; what was read until then is appended.
+pub fn read_bytes<F: Read>(from: &mut F, into: &mut Vec<u8>) -> Result<(), ShelfFault>
     ensures begins { Begins into.old.items into.new.items }
     ensures limit { length into.new.items ≤ length into.old.items + read_limit }
     ensures whole { OnOk result (IfSome (F.remaining from.old)
@@ -36,7 +40,11 @@ pub(crate) fn read_bytes<F: Read>(from: &mut F, into: &mut Vec<u8>) -> Result<()
 
 /// Writes all of the bytes. An interrupted write is not tried again, and a write that takes
 /// nothing is a fault.
-pub(crate) fn write_bytes<W: Write>(to: &mut W, bytes: &[u8]) -> Result<(), ShelfFault>
+///
+/// # Errors
+///
+/// `Failed` where a write is refused or takes nothing; a first part of the bytes may be written.
+pub fn write_bytes<W: Write>(to: &mut W, bytes: &[u8]) -> Result<(), ShelfFault>
     ensures whole { OnOk result (Appends (W.contents to.old) (W.contents to.new) bytes.now) }
     ensures part { AppendsPart (W.contents to.old) (W.contents to.new) bytes.now }
     ensures only { IfErr result (λ fault. fault ≡ ShelfFault.Failed) }

@@ -1,17 +1,6 @@
 //! The program: answers for rosters by the words of its command line.
 #![tactic(auto)]
 
-#[cfg(test)]
-mod check_tests;
-#[cfg(test)]
-mod runs;
-#[cfg(test)]
-mod solve_tests;
-#[cfg(test)]
-mod tests;
-#[cfg(test)]
-mod texts;
-
 use branch_price::PlainMaster;
 use command_line::run;
 use shelf::DiskShelf;

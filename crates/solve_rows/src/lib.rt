@@ -1,7 +1,9 @@
-//! Worked rows of searches, as tests over public calls.
+//! Worked rows of searches, of old certificates and of curves, as tests over public calls.
 #![tactic(auto)]
 
 #[cfg(test)]
 mod days;
+#[cfg(test)]
+mod reused;
 #[cfg(test)]
 mod searches;

@@ -1,7 +1,8 @@
-ghost use Rattle.std.specs.Prelude.{◌≤◌, IfOk};
+ghost use Rattle.std.specs.Prelude.{◌≤◌, IfOk, length};
 ghost use Rattle.roster_model.specs.SoundInstance.{IsSoundInstance};
 ghost use Rattle.parse_graph.specs.Graphs.{IsGraph};
 ghost use Rattle.certificates.specs.Sound.{IsSoundCert};
+ghost use Rattle.proof_check.specs.Benches.{IsBenchFor, node_room};
 
 use crate::days::{
     BLOCK_DAY, CROWD_DAY, EXACT_DAY, FLOOR_DAY, FREE_DAY, FULL_DAY, FULL_GROUP_DAY, GROUP_DAY,
@@ -89,17 +90,27 @@ fn searched<M: Master>(
     searched_in(alloc, day, &graph, turns, master)
 }
 
+/// Whether the checker accepts a certificate at a bench.
+fn is_accepted_at(day: &Instance, bench: &mut Bench, cert: &Cert) -> bool
+    requires day { IsSoundInstance day.now }
+    requires cert { IsSoundCert day.now cert.now }
+    requires bench { IsBenchFor day.now bench.old }
+    requires room { length cert.now.nodes ≤ node_room bench.old }
+{
+    let yes = Verdict::Yes {
+        cost: cert.cost,
+        bound: cert.bound,
+    };
+    bench.judge(day, cert) == yes
+}
+
 /// Whether the checker accepts a certificate.
 fn is_accepted(alloc: Global, day: &Instance, cert: &Cert) -> Result<bool, Fail>
     requires day { IsSoundInstance day.now }
     requires cert { IsSoundCert day.now cert.now }
 {
     let mut bench = Bench::for_proof(alloc, day, cert)?;
-    let yes = Verdict::Yes {
-        cost: cert.cost,
-        bound: cert.bound,
-    };
-    Ok(bench.judge(day, cert) == yes)
+    Ok(is_accepted_at(day, &mut bench, cert))
 }
 
 fn is_end(found: &Found, end: &End) -> bool {
@@ -172,15 +183,21 @@ fn finds(alloc: Global, day: &Instance, case: &Case<'_>) -> Result<bool, Fail>
     Ok(is_found(&found, case) && is_accepted(alloc, day, &found.cert)?)
 }
 
-fn show(alloc: Global, case: &Case<'_>) -> Result<(), Fail> {
+fn show_on(alloc: Global, day: &Instance, case: &Case<'_>) -> Result<(), Fail>
+    requires { IsSoundInstance day.now }
+{
     if case.turns < 1 || 10_000 < case.turns {
         return Err(Fail::from("no such turns"));
     }
-    let day = sound_day(alloc, &case.parts)?;
-    if finds(alloc, &day, case)? {
+    if finds(alloc, day, case)? {
         return Ok(());
     }
     Err(Fail::from(case.what))
+}
+
+fn show(alloc: Global, case: &Case<'_>) -> Result<(), Fail> {
+    let day = sound_day(alloc, &case.parts)?;
+    show_on(alloc, &day, case)
 }
 
 const AT_FOUR: End = End {
@@ -215,7 +232,7 @@ const ONE_PERIOD: Case<'static> = Case {
 };
 
 /// Pairs of periods.
-const PAIR_CASES: [Case<'static>; 3] = [
+static PAIR_CASES: [Case<'static>; 3] = [
     PAIRS,
     Case {
         what: "pairs with ten turns",
@@ -237,7 +254,7 @@ const PAIR_CASES: [Case<'static>; 3] = [
 ];
 
 /// Days whose rosters are told word by word.
-const WORD_CASES: [Case<'static>; 2] = [
+static WORD_CASES: [Case<'static>; 2] = [
     Case {
         what: "one word alone",
         parts: FULL_DAY,
@@ -265,7 +282,7 @@ const WORD_CASES: [Case<'static>; 2] = [
 ];
 
 /// Days of one period.
-const ONE_CASES: [Case<'static>; 2] = [
+static ONE_CASES: [Case<'static>; 2] = [
     Case {
         what: "no employee where none is asked for",
         parts: FREE_DAY,
@@ -282,7 +299,7 @@ const ONE_CASES: [Case<'static>; 2] = [
 ];
 
 /// Floors and ceilings that no roster meets.
-const FLOOR_CASES: [Case<'static>; 3] = [
+static FLOOR_CASES: [Case<'static>; 3] = [
     Case {
         what: "floors that no roster meets",
         parts: FLOOR_DAY,
@@ -308,7 +325,7 @@ const FLOOR_CASES: [Case<'static>; 3] = [
 ];
 
 /// Two groups.
-const GROUP_CASES: [Case<'static>; 3] = [
+static GROUP_CASES: [Case<'static>; 3] = [
     Case {
         what: "a group without a shift",
         parts: IDLE_GROUP_DAY,
@@ -384,10 +401,18 @@ fn ends_after_one_turn(alloc: Global, day: &Instance) -> Result<bool, Fail>
     Ok(is_after_one_turn(&found) && is_accepted(alloc, day, &found.cert)?)
 }
 
+/// Pairs of even needs.
+static EVEN: DayParts<'static> = PAIR_DAY;
+
+/// The same on pairs of even needs.
+fn ends_on_pairs_after_one_turn(alloc: Global) -> Result<bool, Fail> {
+    let day = sound_day(alloc, &EVEN)?;
+    ends_after_one_turn(alloc, &day)
+}
+
 #[test]
 fn one_turn(rt: HostRuntime) -> Result<(), Fail> {
-    let day = sound_day(rt.alloc(), &PAIR_DAY)?;
-    assert!(rt; ends_after_one_turn(rt.alloc(), &day)?);
+    assert!(rt; ends_on_pairs_after_one_turn(rt.alloc())?);
     Ok(())
 }
 
@@ -433,15 +458,15 @@ fn ends(
 fn ends_on_pairs(
     alloc: Global,
     turns: u32,
-    mut master: FailingMaster,
+    master: &mut FailingMaster,
     end: FailedEnd,
     processed: Option<u32>,
 ) -> Result<bool, Fail>
     requires some { 1 ≤ turns }
     requires few { turns ≤ 10000 }
 {
-    let day = sound_day(alloc, &PAIR_DAY)?;
-    ends(alloc, &day, turns, &mut master, end, processed)
+    let day = sound_day(alloc, &EVEN)?;
+    ends(alloc, &day, turns, master, end, processed)
 }
 
 /// Whether a search on pairs with a master that always fails does.
@@ -449,8 +474,8 @@ fn ends_without_prices(alloc: Global, turns: u32, end: FailedEnd) -> Result<bool
     requires some { 1 ≤ turns }
     requires few { turns ≤ 10000 }
 {
-    let master = FailingMaster::new(true, Vec::new(alloc));
-    ends_on_pairs(alloc, turns, master, end, Some(turns))
+    let mut master = FailingMaster::new(true, Vec::new(alloc));
+    ends_on_pairs(alloc, turns, &mut master, end, Some(turns))
 }
 
 #[test]
@@ -460,10 +485,20 @@ fn a_master_that_always_fails(rt: HostRuntime) -> Result<(), Fail> {
     Ok(())
 }
 
+/// Returns a master that fails at its first two calls.
+fn failing_twice(alloc: Global) -> Result<FailingMaster, Fail> {
+    Ok(FailingMaster::new(false, vec![in alloc; 1, 2]?))
+}
+
+/// Whether a search on pairs with a master that fails at two calls ends at cost 4.
+fn ends_after_two_faults(alloc: Global) -> Result<bool, Fail> {
+    let mut master = failing_twice(alloc)?;
+    ends_on_pairs(alloc, 8191, &mut master, FailedEnd::Equal(2), None)
+}
+
 #[test]
 fn a_master_that_fails_at_two_calls(rt: HostRuntime) -> Result<(), Fail> {
-    let master = FailingMaster::new(false, vec![in rt.alloc(); 1, 2]?);
-    assert!(rt; ends_on_pairs(rt.alloc(), 8191, master, FailedEnd::Equal(2), None)?);
+    assert!(rt; ends_after_two_faults(rt.alloc())?);
     Ok(())
 }
 
@@ -482,26 +517,41 @@ fn is_accepted_with<M: Master>(
     is_accepted(alloc, day, &found.cert)
 }
 
+/// The same on the long day.
+fn is_accepted_on_96<M: Master>(alloc: Global, turns: u32, master: &mut M) -> Result<bool, Fail>
+    requires some { 1 ≤ turns }
+    requires few { turns ≤ 10000 }
+{
+    let day = long_day(alloc)?;
+    is_accepted_with(alloc, &day, turns, master)
+}
+
 #[test]
 fn one_turn_on_96_periods(rt: HostRuntime) -> Result<(), Fail> {
-    let day = long_day(rt.alloc())?;
-    assert!(rt; is_accepted_with(rt.alloc(), &day, 1, &mut PlainMaster::new())?);
+    assert!(rt; is_accepted_on_96(rt.alloc(), 1, &mut PlainMaster::new())?);
     Ok(())
 }
 
-/// Whether the checker says yes to what a search of the long day with a failing master finds.
+/// The same for sixty turns with a failing master.
 fn is_accepted_failing(alloc: Global, mut master: FailingMaster) -> Result<bool, Fail> {
-    let day = long_day(alloc)?;
-    is_accepted_with(alloc, &day, 60, &mut master)
+    is_accepted_on_96(alloc, 60, &mut master)
 }
 
 #[test]
 fn failing_masters_on_96_periods(rt: HostRuntime) -> Result<(), Fail> {
     let always = FailingMaster::new(true, Vec::new(rt.alloc()));
     assert!(rt; is_accepted_failing(rt.alloc(), always)?);
-    let twice = FailingMaster::new(false, vec![in rt.alloc(); 1, 2]?);
+    let twice = failing_twice(rt.alloc())?;
     assert!(rt; is_accepted_failing(rt.alloc(), twice)?);
     Ok(())
+}
+
+/// Whether a search of a day finds this certificate.
+fn is_certificate(alloc: Global, day: &Instance, cert: &Cert) -> Result<bool, Fail>
+    requires { IsSoundInstance day.now }
+{
+    let found = searched(alloc, day, 8191, &mut PlainMaster::new())?;
+    Ok(found.cert == *cert)
 }
 
 /// Whether two searches of a day find the same certificate.
@@ -509,13 +559,20 @@ fn is_found_again(alloc: Global, day: &Instance) -> Result<bool, Fail>
     requires { IsSoundInstance day.now }
 {
     let first = searched(alloc, day, 8191, &mut PlainMaster::new())?;
-    let second = searched(alloc, day, 8191, &mut PlainMaster::new())?;
-    Ok(first.cert == second.cert)
+    is_certificate(alloc, day, &first.cert)
+}
+
+/// Pairs of uneven needs.
+static UNEVEN: DayParts<'static> = UNEVEN_DAY;
+
+/// The same on pairs of uneven needs.
+fn is_found_again_on_pairs(alloc: Global) -> Result<bool, Fail> {
+    let day = sound_day(alloc, &UNEVEN)?;
+    is_found_again(alloc, &day)
 }
 
 #[test]
 fn the_same_certificate_again(rt: HostRuntime) -> Result<(), Fail> {
-    let day = sound_day(rt.alloc(), &UNEVEN_DAY)?;
-    assert!(rt; is_found_again(rt.alloc(), &day)?);
+    assert!(rt; is_found_again_on_pairs(rt.alloc())?);
     Ok(())
 }

@@ -1,5 +1,5 @@
-//! Worked rows of fractions, of the simplex method, of the rows of a master and of its rounded prices, as tests over
-//! public calls.
+//! Worked rows of fractions, of the simplex method, of scouts, of the rows of a master and of its rounded prices, as
+//! tests over public calls.
 #![tactic(auto)]
 
 #[cfg(test)]
@@ -12,6 +12,8 @@ mod node_rows;
 mod reduced;
 #[cfg(test)]
 mod rounded;
+#[cfg(test)]
+mod scouts;
 #[cfg(test)]
 mod sound;
 #[cfg(test)]

@@ -1,5 +1,3 @@
-ghost use Rattle.roster_model.specs.SoundInstance.{IsSoundInstance};
-
 use master_rows::{NodeRows, count_rows};
 use roster_model::{ArcKey, Cell, Cut, Instance, Memory, Side, is_sound_instance};
 use sample_days::{BLOCK_NAMES, BLOCKS, CELL, DayParts, day};
@@ -13,7 +11,7 @@ const SECOND: Cell = Cell {
     ..CELL
 };
 
-const DAY: DayParts<'static> = DayParts {
+static DAY: DayParts<'static> = DayParts {
     periods: 2,
     names: &BLOCK_NAMES,
     rules: &BLOCKS,
@@ -39,22 +37,23 @@ const CUT: Cut = Cut {
 /// The needs, a floor, a ceiling, the heads and the cut.
 const RIGHT: [i64; 7] = [1, 1, 1, 2, 1, 3, 5];
 
-/// Whether these are the rows of the day with the cut.
-fn are_rows(alloc: Global, day: &Instance) -> Result<bool, Memory>
-    requires { IsSoundInstance day.now }
-{
+/// Whether the day is sound, and these are its rows with the cut.
+fn are_rows(alloc: Global, day: &Instance) -> Result<bool, Memory> {
     let cuts = [CUT];
-    if count_rows(day, &cuts) != 7 {
+    if !is_sound_instance(day) || count_rows(day, &cuts) != 7 {
         return Ok(false);
     }
     let rows = NodeRows::new(alloc, day, &cuts)?;
     Ok(rows.first_head() == 4 && rows.right() == RIGHT.as_slice())
 }
 
+fn are_rows_of_the_day(alloc: Global) -> Result<bool, Memory> {
+    let day = day(alloc, &DAY)?;
+    are_rows(alloc, &day)
+}
+
 #[test]
 fn rows_in_their_order(rt: HostRuntime) -> Result<(), Memory> {
-    let day = day(rt.alloc(), &DAY)?;
-    assert!(rt; is_sound_instance(&day));
-    assert!(rt; are_rows(rt.alloc(), &day)?);
+    assert!(rt; are_rows_of_the_day(rt.alloc())?);
     Ok(())
 }

@@ -1,4 +1,6 @@
-use crate::listed::{ColumnParts, program_of};
+ghost use Rattle.std.specs.Prelude.{◌≡◌};
+
+use crate::listed::{ColumnParts, Listed, program_of};
 use crate::sound::is_sound;
 use fraction::{Frac, Tally};
 use std::alloc::Global;
@@ -19,7 +21,7 @@ enum Answer {
 struct End {
     value: (i128, i128),
     prices: [i128; 3],
-    basic: [(usize, (i128, i128)); 3],
+    basic: &'static [(usize, (i128, i128)); 3],
 }
 
 /// A program of three rows, whose unit columns have one cost, and its answer.
@@ -43,7 +45,7 @@ const PAIR_ROW: Row = Row {
     answer: Answer::End(End {
         value: (3, 1),
         prices: [1, 1, 1],
-        basic: [(5, (1, 2)), (4, (1, 2)), (3, (1, 2))],
+        basic: &[(5, (1, 2)), (4, (1, 2)), (3, (1, 2))],
     }),
 };
 
@@ -54,7 +56,7 @@ const ZERO_ROW: Row = Row {
     answer: Answer::End(End {
         value: (10, 1),
         prices: [-8, -8, 10],
-        basic: [(2, (1, 1)), (4, (0, 1)), (5, (0, 1))],
+        basic: &[(2, (1, 1)), (4, (0, 1)), (5, (0, 1))],
     }),
     ..PAIR_ROW
 };
@@ -66,7 +68,7 @@ const CHANGED_ROW: Row = Row {
     answer: Answer::End(End {
         value: (5, 1),
         prices: [-15, 10, 10],
-        basic: [(2, (0, 1)), (1, (0, 1)), (4, (1, 1))],
+        basic: &[(2, (0, 1)), (1, (0, 1)), (4, (1, 1))],
     }),
     ..PAIR_ROW
 };
@@ -83,7 +85,7 @@ const BEYOND_ROW: Row = Row {
     answer: Answer::End(End {
         value: (4, 1),
         prices: [1, 2, 0],
-        basic: [(4, (1, 1)), (3, (1, 1)), (5, (1, 1))],
+        basic: &[(4, (1, 1)), (3, (1, 1)), (5, (1, 1))],
     }),
     ..PAIR_ROW
 };
@@ -101,10 +103,10 @@ const LARGE_ROW: Row = Row {
     ..PAIR_ROW
 };
 
-const FOUND: [Row; 4] = [PAIR_ROW, ZERO_ROW, CHANGED_ROW, BEYOND_ROW];
+static FOUND: [Row; 4] = [PAIR_ROW, ZERO_ROW, CHANGED_ROW, BEYOND_ROW];
 
 /// Programs whose pivots run out.
-const SPENT: [Row; 3] = [
+static SPENT: [Row; 3] = [
     Row {
         pivots: 2,
         answer: Answer::Spent,
@@ -123,7 +125,7 @@ const SPENT: [Row; 3] = [
 ];
 
 /// Programs whose numbers are too wide.
-const WIDE: [Row; 3] = [
+static WIDE: [Row; 3] = [
     LARGE_ROW,
     // Costs of units above 2^39.
     Row {
@@ -161,7 +163,7 @@ fn is_basic(basic: Basic, (column, weight): (usize, (i128, i128))) -> bool {
     basic.col == column && is_fraction(basic.x, weight)
 }
 
-fn has_basic(basic: &[Basic], expected: [(usize, (i128, i128)); 3]) -> bool {
+fn has_basic(basic: &[Basic], expected: &[(usize, (i128, i128)); 3]) -> bool {
     let [first, second, third] = basic else {
         return false;
     };
@@ -176,7 +178,7 @@ fn is_end(end: &LpEnd, expected: End) -> bool {
 }
 
 /// Says whether an answer is that of the row, and whether the refusals that it comes from were counted.
-fn is_answer(row: Row, answer: &Result<LpEnd, LpFault>, counts: (u64, u64)) -> bool {
+fn is_answer(row: &Row, answer: &Result<LpEnd, LpFault>, counts: (u64, u64)) -> bool {
     match (answer, row.answer) {
         (Ok(end), Answer::End(expected)) => is_end(end, expected) && counts == (0, 0),
         (Err(LpFault::Wide(_)), Answer::Wide) => counts == (1, 0),
@@ -187,20 +189,27 @@ fn is_answer(row: Row, answer: &Result<LpEnd, LpFault>, counts: (u64, u64)) -> b
 }
 
 /// Solves the program of a row, and says whether its answer comes.
-fn is_answered(alloc: Global, row: Row) -> Result<bool, Fail> {
-    let mut program = program_of(alloc, row.right, row.cost, row.columns)?;
-    if !is_sound(&program) {
+fn is_solved(alloc: Global, row: &Row, program: &mut Listed) -> Result<bool, Fail>
+    requires { program.old.right ≡ row.now.right }
+{
+    if !is_sound(program) {
         return Err(Fail::from("no sound program"));
     }
     let mut tally = Tally::new();
-    let answer = solve(alloc, &mut program, &row.right, row.pivots, &mut tally);
+    let answer = solve(alloc, program, &row.right, row.pivots, &mut tally);
     Ok(is_answer(row, &answer, (tally.wide(), tally.spent())))
+}
+
+/// Says whether the answer to a row comes.
+fn is_answered(alloc: Global, row: &Row) -> Result<bool, Fail> {
+    let mut program = program_of(alloc, row.right, row.cost, row.columns)?;
+    is_solved(alloc, row, &mut program)
 }
 
 /// Says whether each answer comes.
 fn are_answered(alloc: Global, rows: &[Row]) -> Result<bool, Fail> {
     for row in rows {
-        if !is_answered(alloc, *row)? {
+        if !is_answered(alloc, row)? {
             return Ok(false);
         }
     }

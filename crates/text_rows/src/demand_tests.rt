@@ -1,14 +1,11 @@
 ghost use Rattle.std.specs.Prelude.{IfOk};
 ghost use Rattle.roster_model.specs.SoundInstance.{IsSoundInstance};
 
+use crate::grammars::{GrammarParts, grammar};
 use demand_text::{DemandFault, fault_line, read_demand, write_demand};
-use roster_model::{
-    Cell, CodeDef, Grammar, Group, Instance, List, Rule, Sym, Window, is_plain, is_sound,
-};
+use roster_model::{Cell, CodeDef, Grammar, Group, Instance, List, Rule, Sym, is_plain, is_sound};
 use std::alloc::{AllocError, Global};
 use std::test::Fail;
-
-const DAY: Window = Window { lo: 1, hi: 96 };
 
 const A: CodeDef = CodeDef {
     byte: b'a',
@@ -20,63 +17,55 @@ const REST: CodeDef = CodeDef {
     work: false,
 };
 
-const CODES: [CodeDef; 4] = [
-    A,
-    REST,
-    CodeDef { byte: b'b', ..A },
-    CodeDef { byte: b'c', ..A },
-];
+/// A code alone.
+const LETTER: &'static [Sym] = &[Sym::Code(0)];
 
-const NAMES: [&'static str; 11] = [
-    "S", "F", "H", "N1", "N2", "N3", "N4", "N5", "N6", "N7", "N8",
-];
+/// A day of four periods, on which a name leads to each of the other names.
+static DAY: GrammarParts = GrammarParts {
+    periods: 4,
+    codes: &[
+        A,
+        REST,
+        CodeDef { byte: b'b', ..A },
+        CodeDef { byte: b'c', ..A },
+    ],
+    names: &[
+        "S", "F", "H", "N1", "N2", "N3", "N4", "N5", "N6", "N7", "N8",
+    ],
+    rules: &[
+        (0, 1, &[Sym::Name(1)]),
+        (0, 1, &[Sym::Name(2)]),
+        (0, 1, &[Sym::Name(3)]),
+        (0, 1, &[Sym::Name(4)]),
+        (0, 1, &[Sym::Name(5)]),
+        (0, 1, &[Sym::Name(6)]),
+        (0, 1, &[Sym::Name(7)]),
+        (0, 1, &[Sym::Name(8)]),
+        (0, 1, &[Sym::Name(9)]),
+        (0, 1, &[Sym::Name(10)]),
+        (1, 1, LETTER),
+        (2, 1, LETTER),
+        (3, 1, LETTER),
+        (4, 1, LETTER),
+        (5, 1, LETTER),
+        (6, 1, LETTER),
+        (7, 1, LETTER),
+        (8, 1, LETTER),
+        (9, 1, LETTER),
+        (10, 1, LETTER),
+    ],
+    start: 0,
+};
 
-fn names(alloc: Global) -> Result<List<List<u8>>, AllocError> {
-    let mut names = Vec::new(alloc);
-    for name in NAMES.as_slice() {
-        names.push(List::from_vec(name.as_bytes().to_vec(alloc)?))?;
-    }
-    Ok(List::from_vec(names))
-}
-
-fn rule(alloc: Global, left: u8, right: Sym) -> Result<Rule, AllocError> {
-    Ok(Rule {
-        left,
-        cost: 1,
-        right: List::from_vec([right].as_slice().to_vec(alloc)?),
-        span: DAY,
-        first: DAY,
-        last: DAY,
-    })
-}
-
-// A rule from the first name to each of the others, and one from each of these to a code.
-fn rules(alloc: Global) -> Result<List<Rule>, AllocError> {
-    let mut rules = Vec::new(alloc);
-    for place in 1..11 {
-        rules.push(rule(alloc, 0, Sym::Name(place))?)?;
-    }
-    for place in 1..11 {
-        rules.push(rule(alloc, place, Sym::Code(0))?)?;
-    }
-    Ok(List::from_vec(rules))
-}
-
-// A day of four periods, on which a name leads to each of the other names.
-fn grammar(alloc: Global) -> Result<Grammar, AllocError> {
-    Ok(Grammar {
-        periods: 4,
-        codes: List::from_vec(CODES.to_vec(alloc)?),
-        names: names(alloc)?,
-        rules: rules(alloc)?,
-        start: 0,
-    })
+// The grammar of that day.
+fn day(alloc: Global) -> Result<Grammar, AllocError> {
+    grammar(alloc, &DAY)
 }
 
 fn instance(alloc: Global, text: &[u8]) -> Result<Result<Instance, DemandFault>, Fail>
     ensures { IfOk result (λ read. IfOk read IsSoundInstance) }
 {
-    let grammar = grammar(alloc)?;
+    let grammar = day(alloc)?;
     if !is_sound(&grammar) {
         return Err(Fail::from("not sound"));
     }

@@ -2,34 +2,25 @@ ghost use Rattle.std.specs.Prelude.{◌≤◌, length, IfOk};
 ghost use Rattle.roster_model.specs.SoundInstance.{IsSoundInstance};
 ghost use Rattle.proof_pieces.specs.PieceList.{Follows};
 
+use crate::grammars::{GrammarParts, grammar};
 use bound_proof::{
     CertRoom, Node, Piece, PieceFault, Pieces, ProofFault, fault_line, read_cert, write_cert,
 };
 use certificates::Cert;
 use roster_model::{
-    ArcKey, Cell, CodeDef, Grammar, Group, Instance, List, Mult, Prices, Rule, Shift, Sym, Window,
-    is_sound_instance,
+    ArcKey, Cell, CodeDef, Group, Instance, List, Mult, Prices, Shift, Sym, is_sound_instance,
 };
 use std::alloc::{AllocError, Global};
 use std::test::Fail;
-
-const DAY: Window = Window { lo: 1, hi: 96 };
 
 const A: Sym = Sym::Code(0);
 
 const REST: Sym = Sym::Code(1);
 
-/// A rule: its left side, its cost and its right side.
-type RuleParts = (u8, u32, &'static [Sym]);
-
 /// The parts of a day.
 #[derive(Clone, Copy, Drop)]
 struct Parts {
-    periods: u8,
-    codes: &'static [CodeDef],
-    names: &'static [&'static str],
-    rules: &'static [RuleParts],
-    start: u8,
+    grammar: GrammarParts,
     heads: (u32, u32),
     groups: &'static [Group],
     /// The demanded codes, whose prices are due in this order.
@@ -51,44 +42,51 @@ const BYTE_B: CodeDef = CodeDef {
     work: true,
 };
 
-/// A day of three periods with one name, of whose two work codes one is demanded.
-const PLAIN: Parts = Parts {
-    periods: 3,
-    codes: &[BYTE_A, BYTE_REST, BYTE_B],
-    names: &["S"],
-    rules: &[
-        (0, 2, &[A, A, REST]),
-        (0, 2, &[REST, A, A]),
-        (0, 2, &[A, REST, A]),
-    ],
-    start: 0,
+/// The parts of [`PLAIN`], which another day shares.
+const PLAIN_PARTS: Parts = Parts {
+    grammar: GrammarParts {
+        periods: 3,
+        codes: &[BYTE_A, BYTE_REST, BYTE_B],
+        names: &["S"],
+        rules: &[
+            (0, 2, &[A, A, REST]),
+            (0, 2, &[REST, A, A]),
+            (0, 2, &[A, REST, A]),
+        ],
+        start: 0,
+    },
     heads: (0, 3),
     groups: &[],
     demanded: &[0],
 };
 
+/// A day of three periods with one name, of whose two work codes one is demanded.
+static PLAIN: Parts = PLAIN_PARTS;
+
 /// The same day with both work codes demanded.
-const BOTH_DEMANDED: Parts = Parts {
+static BOTH_DEMANDED: Parts = Parts {
     demanded: &[2, 0],
-    ..PLAIN
+    ..PLAIN_PARTS
 };
 
 /// A day of two periods with the groups `F`, 0 to 1 employees, and `H`, 1 to 2. Its base cuts are a
 /// Low and a High one of each but the High one of `F`.
-const GROUPED: Parts = Parts {
-    periods: 2,
-    codes: &[BYTE_A, BYTE_REST],
-    names: &["S", "F", "H", "*"],
-    rules: &[
-        (0, 0, &[Sym::Name(1)]),
-        (0, 0, &[Sym::Name(2)]),
-        (1, 3, &[A, A]),
-        (2, 1, &[A, REST]),
-        (2, 1, &[REST, A]),
-        (3, 0, &[Sym::Name(1)]),
-        (3, 0, &[Sym::Name(2)]),
-    ],
-    start: 3,
+static GROUPED: Parts = Parts {
+    grammar: GrammarParts {
+        periods: 2,
+        codes: &[BYTE_A, BYTE_REST],
+        names: &["S", "F", "H", "*"],
+        rules: &[
+            (0, 0, &[Sym::Name(1)]),
+            (0, 0, &[Sym::Name(2)]),
+            (1, 3, &[A, A]),
+            (2, 1, &[A, REST]),
+            (2, 1, &[REST, A]),
+            (3, 0, &[Sym::Name(1)]),
+            (3, 0, &[Sym::Name(2)]),
+        ],
+        start: 3,
+    },
     heads: (1, 3),
     groups: &[
         Group {
@@ -104,29 +102,6 @@ const GROUPED: Parts = Parts {
     ],
     demanded: &[0],
 };
-
-fn names(alloc: Global, names: &[&str]) -> Result<List<List<u8>>, AllocError> {
-    let mut list = Vec::new(alloc);
-    for name in names {
-        list.push(List::from_vec(name.as_bytes().to_vec(alloc)?))?;
-    }
-    Ok(List::from_vec(list))
-}
-
-fn rules(alloc: Global, rules: &[RuleParts]) -> Result<List<Rule>, AllocError> {
-    let mut list = Vec::new(alloc);
-    for (left, cost, right) in rules {
-        list.push(Rule {
-            left: *left,
-            cost: *cost,
-            right: List::from_vec(right.to_vec(alloc)?),
-            span: DAY,
-            first: DAY,
-            last: DAY,
-        })?;
-    }
-    Ok(List::from_vec(list))
-}
 
 fn cells(alloc: Global, codes: &[u8], periods: u8) -> Result<List<Cell>, AllocError> {
     let mut cells = Vec::new(alloc);
@@ -146,23 +121,13 @@ fn cells(alloc: Global, codes: &[u8], periods: u8) -> Result<List<Cell>, AllocEr
     Ok(List::from_vec(cells))
 }
 
-fn grammar(alloc: Global, parts: &Parts) -> Result<Grammar, AllocError> {
-    Ok(Grammar {
-        periods: parts.periods,
-        codes: List::from_vec(parts.codes.to_vec(alloc)?),
-        names: names(alloc, parts.names)?,
-        rules: rules(alloc, parts.rules)?,
-        start: parts.start,
-    })
-}
-
 fn day(alloc: Global, parts: &Parts) -> Result<Instance, AllocError> {
     Ok(Instance {
-        grammar: grammar(alloc, parts)?,
+        grammar: grammar(alloc, &parts.grammar)?,
         heads_min: parts.heads.0,
         heads_max: parts.heads.1,
         groups: List::from_vec(parts.groups.to_vec(alloc)?),
-        cells: cells(alloc, parts.demanded, parts.periods)?,
+        cells: cells(alloc, parts.demanded, parts.grammar.periods)?,
     })
 }
 
@@ -215,12 +180,19 @@ fn joined_answers(
 }
 
 // Whether the texts, all behind the same first lines, have these fault lines.
-fn compare(alloc: Global, parts: &Parts, head: &str, rows: &[Row]) -> Result<(), Fail> {
-    let instance = sound(alloc, parts)?;
+fn all_answer(alloc: Global, instance: &Instance, head: &str, rows: &[Row]) -> Result<(), Fail>
+    requires { IsSoundInstance instance.now }
+{
     for (lines, want) in rows {
-        joined_answers(alloc, &instance, head, lines, want)?;
+        joined_answers(alloc, instance, head, lines, want)?;
     }
     Ok(())
+}
+
+// The same for the texts of a day.
+fn compare(alloc: Global, parts: &Parts, head: &str, rows: &[Row]) -> Result<(), Fail> {
+    let instance = sound(alloc, parts)?;
+    all_answer(alloc, &instance, head, rows)
 }
 
 // Two shifts of price 2, and a split at the root whose halves have prices.
@@ -237,20 +209,27 @@ fn accepts(alloc: Global, instance: &Instance, bytes: usize) -> Result<bool, Fai
     Ok(answer(alloc, instance, text)?.is_empty())
 }
 
-// Whether the text is accepted from so many bytes on.
-fn accepts_from(alloc: Global, bytes: usize) -> Result<bool, Fail> {
-    let instance = sound(alloc, &PLAIN)?;
+// Whether the text is accepted from so many bytes on, and no shorter start of it.
+fn accepts_from(alloc: Global, instance: &Instance, bytes: usize) -> Result<bool, Fail>
+    requires { IsSoundInstance instance.now }
+{
     for end in 0..SPLIT.len() + 1 {
-        if accepts(alloc, &instance, end)? != (bytes <= end) {
+        if accepts(alloc, instance, end)? != (bytes <= end) {
             return Ok(false);
         }
     }
     Ok(true)
 }
 
+// The same on the plain day.
+fn plain_accepts_from(alloc: Global, bytes: usize) -> Result<bool, Fail> {
+    let instance = sound(alloc, &PLAIN)?;
+    accepts_from(alloc, &instance, bytes)
+}
+
 #[test]
 fn texts_that_end_early(rt: HostRuntime) -> Result<(), Fail> {
-    assert!(rt; SPLIT.len() == 133 && accepts_from(rt.alloc(), 132)?);
+    assert!(rt; SPLIT.len() == 133 && plain_accepts_from(rt.alloc(), 132)?);
     Ok(())
 }
 
@@ -607,9 +586,17 @@ fn limit_of_nodes(rt: HostRuntime) -> Result<(), Fail> {
 const READ: &'static str = "proof 1\ncost 4\nbound none\nshift .aa 2\nsplit 1 0 1 3 2 5 7
 price a -2 2 0\npinned\npriced 9\nprice a 0 0 2\nmult 1 3\nend\n";
 
-fn read(alloc: Global) -> Result<Cert, Fail> {
+// The certificate of a text.
+fn read(alloc: Global, instance: &Instance, text: &str) -> Result<Cert, Fail>
+    requires { IsSoundInstance instance.now }
+{
+    Ok(read_cert(alloc, instance, text.as_bytes())?)
+}
+
+// The certificate of a text of the plain day.
+fn read_plain(alloc: Global, text: &str) -> Result<Cert, Fail> {
     let instance = sound(alloc, &PLAIN)?;
-    Ok(read_cert(alloc, &instance, READ.as_bytes())?)
+    read(alloc, &instance, text)
 }
 
 fn is_first_shift(shifts: &[Shift], group: u8, word: &[u8], price: u64) -> bool {
@@ -663,7 +650,7 @@ fn are_nodes(nodes: &[Node]) -> bool {
 
 #[test]
 fn certificates_are_read(rt: HostRuntime) -> Result<(), Fail> {
-    let cert = read(rt.alloc())?;
+    let cert = read_plain(rt.alloc(), READ)?;
     assert!(rt; is_roster(&cert));
     assert!(rt; are_nodes(cert.nodes.as_slice()));
     Ok(())
@@ -711,10 +698,18 @@ fn are_read(instance: &Instance, room: &mut CertRoom) -> bool
         && holds(room, b"a.", 2, &[3, -3], &[Mult { cut: 2, value: 1 }])
 }
 
+// The same with a new room.
+fn are_read_anew(alloc: Global, instance: &Instance) -> Result<bool, Fail>
+    requires { IsSoundInstance instance.now }
+{
+    let mut room = CertRoom::for_instance(alloc, instance)?;
+    Ok(are_read(instance, &mut room))
+}
+
+// The same on the grouped day.
 fn reads_pieces(alloc: Global) -> Result<bool, Fail> {
     let instance = sound(alloc, &GROUPED)?;
-    let mut room = CertRoom::for_instance(alloc, &instance)?;
-    Ok(are_read(&instance, &mut room))
+    are_read_anew(alloc, &instance)
 }
 
 #[test]
@@ -739,10 +734,20 @@ fn again(alloc: Global, instance: &Instance, text: &[u8]) -> Result<List<u8>, Fa
 }
 
 // Whether the certificate that a text says is written as the same text.
-fn is_written_again(alloc: Global, parts: &Parts, text: &str) -> Result<bool, Fail> {
+fn is_same(alloc: Global, instance: &Instance, text: &str) -> Result<(), Fail>
+    requires { IsSoundInstance instance.now }
+{
+    let written = again(alloc, instance, text.as_bytes())?;
+    if written.as_slice() != text.as_bytes() {
+        return Err(Fail::from(text));
+    }
+    Ok(())
+}
+
+// The same for a text of a day.
+fn is_written_again(alloc: Global, parts: &Parts, text: &str) -> Result<(), Fail> {
     let instance = sound(alloc, parts)?;
-    let written = again(alloc, &instance, text.as_bytes())?;
-    Ok(written.as_slice() == text.as_bytes())
+    is_same(alloc, &instance, text)
 }
 
 const GROUPED_TEXT: &'static str = "proof 2\ncost none\nbound none\nsplit 7 0 1 2 2 1 3
@@ -750,8 +755,7 @@ price a 3 -3\nmult 2 1\nbare\npinned\nend\n";
 
 #[test]
 fn certificates_are_written(rt: HostRuntime) -> Result<(), Fail> {
-    assert!(rt; is_written_again(rt.alloc(), &PLAIN, SPLIT)?);
-    assert!(rt; is_written_again(rt.alloc(), &PLAIN, READ)?);
-    assert!(rt; is_written_again(rt.alloc(), &GROUPED, GROUPED_TEXT)?);
-    Ok(())
+    is_written_again(rt.alloc(), &PLAIN, SPLIT)?;
+    is_written_again(rt.alloc(), &PLAIN, READ)?;
+    is_written_again(rt.alloc(), &GROUPED, GROUPED_TEXT)
 }

@@ -271,11 +271,16 @@ fn limit_of_bytes(rt: HostRuntime) -> Result<(), Fail> {
     Ok(())
 }
 
+// Whether the grammar of a text is this one.
+fn is_grammar(alloc: Global, grammar: &Grammar, text: &str) -> Result<bool, Fail> {
+    let read = read_rules(alloc, text.as_bytes())?;
+    Ok(read == *grammar)
+}
+
 // Whether the grammars of two texts are the same.
 fn are_same(alloc: Global, one: &str, other: &str) -> Result<bool, Fail> {
-    let one = read_rules(alloc, one.as_bytes())?;
-    let other = read_rules(alloc, other.as_bytes())?;
-    Ok(one == other)
+    let grammar = read_rules(alloc, one.as_bytes())?;
+    is_grammar(alloc, &grammar, other)
 }
 
 // Whether a grammar has two periods, two names and three rules, and starts with the first name.

@@ -2,12 +2,11 @@ ghost use Rattle.std.specs.Prelude.{◌↔◌, All, IsTrue};
 ghost use Rattle.roster_model.specs.declared.grammar.Step.{Step};
 ghost use Rattle.shift_report.specs.TreeText.{HasRule};
 
-use roster_model::{CodeDef, Grammar, List, Rule, Step, Sym, Window, is_sound};
+use crate::grammars::{GrammarParts, grammar};
+use roster_model::{CodeDef, Grammar, List, Step, Sym, is_sound};
 use shift_report::write_tree;
-use std::alloc::{AllocError, Global};
+use std::alloc::Global;
 use std::test::Fail;
-
-const DAY: Window = Window { lo: 1, hi: 96 };
 
 const S: Sym = Sym::Name(0);
 
@@ -21,64 +20,33 @@ const WORK: Sym = Sym::Code(0);
 
 const REST: Sym = Sym::Code(1);
 
-// A block of work between rests: the left side, cost and right side of each rule.
-const RULES: [(u8, u32, &[Sym]); 9] = [
-    (0, 0, &[W]),
-    (0, 0, &[R, W]),
-    (0, 0, &[W, R]),
-    (0, 0, &[R, W, R]),
-    (1, 2, &[A]),
-    (3, 1, &[WORK]),
-    (3, 1, &[WORK, A]),
-    (2, 0, &[REST]),
-    (2, 0, &[REST, R]),
-];
-
-const NAMES: [&'static str; 4] = ["S", "W", "R", "A"];
-
-const CODES: [CodeDef; 2] = [
-    CodeDef {
-        byte: b'a',
-        work: true,
-    },
-    CodeDef {
-        byte: b'.',
-        work: false,
-    },
-];
-
-fn names(alloc: Global) -> Result<List<List<u8>>, AllocError> {
-    let mut names = Vec::new(alloc);
-    for name in NAMES.as_slice() {
-        names.push(List::from_vec(name.as_bytes().to_vec(alloc)?))?;
-    }
-    Ok(List::from_vec(names))
-}
-
-fn rules(alloc: Global) -> Result<List<Rule>, AllocError> {
-    let mut rules = Vec::new(alloc);
-    for (left, cost, right) in RULES.as_slice() {
-        rules.push(Rule {
-            left: *left,
-            cost: *cost,
-            right: List::from_vec(right.to_vec(alloc)?),
-            span: DAY,
-            first: DAY,
-            last: DAY,
-        })?;
-    }
-    Ok(List::from_vec(rules))
-}
-
-fn grammar(alloc: Global) -> Result<Grammar, AllocError> {
-    Ok(Grammar {
-        periods: 4,
-        codes: List::from_vec(CODES.to_vec(alloc)?),
-        names: names(alloc)?,
-        rules: rules(alloc)?,
-        start: 0,
-    })
-}
+/// A block of work between rests.
+static BLOCK: GrammarParts = GrammarParts {
+    periods: 4,
+    codes: &[
+        CodeDef {
+            byte: b'a',
+            work: true,
+        },
+        CodeDef {
+            byte: b'.',
+            work: false,
+        },
+    ],
+    names: &["S", "W", "R", "A"],
+    rules: &[
+        (0, 0, &[W]),
+        (0, 0, &[R, W]),
+        (0, 0, &[W, R]),
+        (0, 0, &[R, W, R]),
+        (1, 2, &[A]),
+        (3, 1, &[WORK]),
+        (3, 1, &[WORK, A]),
+        (2, 0, &[REST]),
+        (2, 0, &[REST, R]),
+    ],
+    start: 0,
+};
 
 fn have_rules(grammar: &Grammar, steps: &[Step]) -> bool
     ensures { IsTrue result ↔ All (λ (s : Step). HasRule grammar.now s.rule) steps.now }
@@ -89,17 +57,22 @@ fn have_rules(grammar: &Grammar, steps: &[Step]) -> bool
         .all(|step| 1 <= step.rule && usize::from(step.rule) <= rules)
 }
 
-// The text of a derivation of `.aa.` at 4.
-fn text(alloc: Global, steps: &[Step]) -> Result<List<u8>, Fail> {
-    let grammar = grammar(alloc)?;
-    if is_sound(&grammar) && have_rules(&grammar, steps) {
+// The text of a derivation of `.aa.` at 4 by a grammar.
+fn text_by(alloc: Global, grammar: &Grammar, steps: &[Step]) -> Result<List<u8>, Fail> {
+    if is_sound(grammar) && have_rules(grammar, steps) {
         return Ok(
-            write_tree(alloc, &grammar, b".aa.", 4, steps)
+            write_tree(alloc, grammar, b".aa.", 4, steps)
                 .ok()
                 .ok_or("memory")?,
         );
     }
     Err(Fail::from("not sound"))
+}
+
+// The same on the day of a block.
+fn text(alloc: Global, steps: &[Step]) -> Result<List<u8>, Fail> {
+    let grammar = grammar(alloc, &BLOCK)?;
+    text_by(alloc, &grammar, steps)
 }
 
 const STEPS: [Step; 6] = [

@@ -1,5 +1,4 @@
-use crate::stream::{read_bytes, write_bytes};
-use crate::{DiskShelf, MemoryShelf, QuietShelf, Shelf, ShelfFault};
+use shelf::{DiskShelf, MemoryShelf, QuietShelf, Shelf, ShelfFault, read_bytes, write_bytes};
 use std::alloc::Global;
 use std::io;
 use std::io::{ErrorKind, Read, Write};

@@ -1,7 +1,7 @@
 ghost use Rattle.std.specs.Prelude.{◌≤◌, length};
 ghost use Rattle.roster_model.specs.SoundInstance.{IsSoundInstance};
 
-use crate::days::{BLOCK_DAY, sound_day};
+use crate::report_days::{BLOCK_DAY, sound_day};
 use roster_model::{Done, Instance, List, Memory};
 use roster_report::{Cover, Report, ReportFault, read_report};
 use std::alloc::Global;

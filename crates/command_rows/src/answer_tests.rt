@@ -1,4 +1,4 @@
-use crate::runs::{answer, case_of, shelf_after, shelf_of};
+use crate::runs::{Case, answer, case_of, shelf_after, shelf_of};
 use std::alloc::Global;
 use std::test::Fail;
 
@@ -272,12 +272,16 @@ rules: line 3: a name leads back to itself by one-symbol rules
 demand: line 1: out of range
 ";
 
+/// Whether a case has its answer.
+fn has_answer(alloc: Global, case: &Case<'_>) -> Result<bool, Fail> {
+    let shelf = shelf_after(alloc, case)?;
+    Ok(shelf.said() == case.said.as_bytes())
+}
+
 /// Whether each case of a transcript has its answer.
 pub fn have_answers(alloc: Global, transcript: &str) -> Result<(), Fail> {
     for text in transcript.split('>').skip(1) {
-        let case = case_of(text);
-        let shelf = shelf_after(alloc, &case)?;
-        if shelf.said() != case.said.as_bytes() {
+        if !has_answer(alloc, &case_of(text))? {
             return Err(Fail::from(text));
         }
     }

@@ -107,12 +107,18 @@ const TEXTS: [(&str, &str); 22] = [
     ("empty", ""),
 ];
 
+/// Puts the texts of the tests on a shelf.
+fn put_texts(shelf: &mut MemoryShelf) -> Result<(), Fail> {
+    for (name, text) in &TEXTS {
+        shelf.put(name, text.as_bytes())?;
+    }
+    Ok(())
+}
+
 /// Returns a shelf with the texts of the tests, whose calls of these numbers fail.
 fn shelf(alloc: Global, failing: &[u32]) -> Result<MemoryShelf, Fail> {
     let mut shelf = MemoryShelf::new(alloc, failing.to_vec(alloc)?);
-    for (name, text) in TEXTS {
-        shelf.put(name, text.as_bytes())?;
-    }
+    put_texts(&mut shelf)?;
     Ok(shelf)
 }
 
@@ -409,12 +415,19 @@ fn shows_alone(alloc: Global, page: &Page<'_>) -> Result<bool, Fail> {
     shows(alloc, &mut shelf, page)
 }
 
-#[test]
-fn pages_show_their_rosters(rt: HostRuntime) -> Result<(), Fail> {
-    for page in &PAGES {
-        assert!(rt; shows_alone(rt.alloc(), page)?, "{}", page.2);
+/// Shows that each page shows its roster.
+fn show_all(alloc: Global, pages: &[Page<'_>]) -> Result<(), Fail> {
+    for page in pages {
+        if !shows_alone(alloc, page)? {
+            return Err(Fail::from(page.2));
+        }
     }
     Ok(())
+}
+
+#[test]
+fn pages_show_their_rosters(rt: HostRuntime) -> Result<(), Fail> {
+    show_all(rt.alloc(), &PAGES)
 }
 
 /// Returns the certificate of a roster of so many employees with one shift.

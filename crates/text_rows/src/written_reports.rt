@@ -5,7 +5,7 @@ ghost use Rattle.roster_model.specs.Folds.{Each};
 ghost use Rattle.roster_model.specs.SoundInstance.{IsSoundInstance};
 ghost use Rattle.span_table.specs.Tables.{IsMadeFor};
 
-use crate::days::{BLOCK_DAY, GROUP_DAY, sound_day};
+use crate::report_days::{BLOCK_DAY, GROUP_DAY, sound_day};
 use certificates::{Cert, Node, is_sound_cert};
 use roster_model::{Done, Instance, List, Memory, Shift};
 use roster_part::{ShiftRoom, StatedShift, coverage_fault, roster_fault};

@@ -1,5 +1,5 @@
+use crate::answer_tests::have_answers;
 use crate::runs::{answer, shelf_of};
-use crate::tests::have_answers;
 use std::alloc::Global;
 use std::test::Fail;
 

@@ -12,13 +12,19 @@ fn first_line(text: &str) -> (&str, &str) {
     text.split_once('\n').unwrap_or((text, ""))
 }
 
-/// Returns a shelf with the texts of the tests, whose calls of these numbers fail.
-pub fn shelf_of(alloc: Global, failing: &[u32]) -> Result<MemoryShelf, Fail> {
-    let mut shelf = MemoryShelf::new(alloc, failing.to_vec(alloc)?);
+/// Puts the texts of the tests on a shelf.
+fn put_texts(shelf: &mut MemoryShelf) -> Result<(), Fail> {
     for part in TEXTS.split('@').skip(1) {
         let (name, text) = first_line(part);
         shelf.put(name.trim(), text.as_bytes())?;
     }
+    Ok(())
+}
+
+/// Returns a shelf with the texts of the tests, whose calls of these numbers fail.
+pub fn shelf_of(alloc: Global, failing: &[u32]) -> Result<MemoryShelf, Fail> {
+    let mut shelf = MemoryShelf::new(alloc, failing.to_vec(alloc)?);
+    put_texts(&mut shelf)?;
     Ok(shelf)
 }
 
@@ -68,13 +74,19 @@ fn may_come(status: u8, statuses: &str) -> bool {
         .any(|word| word.parse::<u8>() == Ok(status))
 }
 
-/// Runs the case, whose status has to be one that may come, and returns the shelf.
-pub fn shelf_after(alloc: Global, case: &Case<'_>) -> Result<MemoryShelf, Fail> {
-    let mut shelf = shelf_of(alloc, &[])?;
+/// Runs the case on a shelf. Its status has to be one that may come.
+fn run_case(alloc: Global, shelf: &mut MemoryShelf, case: &Case<'_>) -> Result<(), Fail> {
     shelf.put("proof", case.proof.as_bytes())?;
-    let status = answer(alloc, &mut shelf, case.words)?;
+    let status = answer(alloc, shelf, case.words)?;
     if !may_come(status, case.statuses) || shelf.faults() != u64::from(status == 6) {
         return Err(Fail::from(case.words));
     }
+    Ok(())
+}
+
+/// Runs the case, whose status has to be one that may come, and returns the shelf.
+pub fn shelf_after(alloc: Global, case: &Case<'_>) -> Result<MemoryShelf, Fail> {
+    let mut shelf = shelf_of(alloc, &[])?;
+    run_case(alloc, &mut shelf, case)?;
     Ok(shelf)
 }

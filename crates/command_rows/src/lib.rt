@@ -1,0 +1,17 @@
+//! Transcripts of the two programs over shelves in memory, and what shelves answer, as tests over public calls.
+#![tactic(auto)]
+
+#[cfg(test)]
+mod answer_tests;
+#[cfg(test)]
+mod check_tests;
+#[cfg(test)]
+mod page_tests;
+#[cfg(test)]
+mod runs;
+#[cfg(test)]
+mod shelf_tests;
+#[cfg(test)]
+mod solve_tests;
+#[cfg(test)]
+mod texts;

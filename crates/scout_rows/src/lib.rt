@@ -1,5 +1,0 @@
-//! Small linear programs, as tests over public calls.
-#![tactic(auto)]
-
-#[cfg(test)]
-mod tests;
