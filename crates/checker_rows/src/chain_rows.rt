@@ -19,7 +19,7 @@ const ARC: ArcKey = ArcKey {
 const RULES: [RuleParts<'static>; 1] = [(0, 0, &[WORK], ANY)];
 
 /// A day of one period for one employee, without demands.
-const ONE_PERIOD: DayParts<'static> = DayParts {
+static ONE_PERIOD: DayParts<'static> = DayParts {
     periods: 1,
     names: &["S"],
     rules: &RULES,

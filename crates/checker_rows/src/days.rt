@@ -8,8 +8,8 @@ use std::test::Fail;
 
 const PAIR_CELLS: [Cell; 3] = [CELL, Cell { period: 2, ..CELL }, Cell { period: 3, ..CELL }];
 
-/// Two of three periods at 2, where each period needs one employee.
-pub const PAIR_DAY: DayParts<'static> = DayParts {
+/// The parts of [`PAIR_DAY`], which other days share.
+pub const PAIR_PARTS: DayParts<'static> = DayParts {
     periods: 3,
     names: &["S"],
     rules: &PAIRS,
@@ -18,6 +18,9 @@ pub const PAIR_DAY: DayParts<'static> = DayParts {
     groups: &[],
     cells: &PAIR_CELLS,
 };
+
+/// Two of three periods at 2, where each period needs one employee.
+pub static PAIR_DAY: DayParts<'static> = PAIR_PARTS;
 
 const FLOOR: Cell = Cell { floor: 1, ..CELL };
 
@@ -28,9 +31,9 @@ const FLOOR_CELLS: [Cell; 3] = [
 ];
 
 /// The same with at least one employee in each period.
-pub const FLOOR_DAY: DayParts<'static> = DayParts {
+pub static FLOOR_DAY: DayParts<'static> = DayParts {
     cells: &FLOOR_CELLS,
-    ..PAIR_DAY
+    ..PAIR_PARTS
 };
 
 const EXACT: Cell = Cell {
@@ -45,9 +48,9 @@ const EXACT_CELLS: [Cell; 3] = [
 ];
 
 /// The same with exactly one employee in each period.
-pub const EXACT_DAY: DayParts<'static> = DayParts {
+pub static EXACT_DAY: DayParts<'static> = DayParts {
     cells: &EXACT_CELLS,
-    ..PAIR_DAY
+    ..PAIR_PARTS
 };
 
 const BLOCK: Cell = Cell { over: 3, ..CELL };
@@ -67,8 +70,8 @@ const BLOCK_CELLS: [Cell; 4] = [
     Cell { period: 4, ..BLOCK },
 ];
 
-/// One block of two or three of four periods, where the inner periods need two employees.
-pub const BLOCK_DAY: DayParts<'static> = DayParts {
+/// The parts of [`BLOCK_DAY`], which other days share.
+const BLOCK_PARTS: DayParts<'static> = DayParts {
     periods: 4,
     names: &BLOCK_NAMES,
     rules: &BLOCKS,
@@ -78,26 +81,32 @@ pub const BLOCK_DAY: DayParts<'static> = DayParts {
     cells: &BLOCK_CELLS,
 };
 
+/// One block of two or three of four periods, where the inner periods need two employees.
+pub static BLOCK_DAY: DayParts<'static> = BLOCK_PARTS;
+
 const ONE_CELLS: [Cell; 1] = [BLOCK];
 
-/// One period, where each shift has two or three, for one or two employees.
-pub const ONE_DAY: DayParts<'static> = DayParts {
+/// The parts of [`ONE_DAY`], which other days share.
+const ONE_PARTS: DayParts<'static> = DayParts {
     periods: 1,
     heads: (1, 2),
     cells: &ONE_CELLS,
-    ..BLOCK_DAY
+    ..BLOCK_PARTS
 };
 
+/// One period, where each shift has two or three, for one or two employees.
+pub static ONE_DAY: DayParts<'static> = ONE_PARTS;
+
 /// The same where no employee is asked for.
-pub const FREE_DAY: DayParts<'static> = DayParts {
+pub static FREE_DAY: DayParts<'static> = DayParts {
     heads: (0, 2),
-    ..ONE_DAY
+    ..ONE_PARTS
 };
 
 const FULL_CELLS: [Cell; 2] = [CELL, Cell { period: 2, ..CELL }];
 
 /// Both of two periods at 5 or at 3, for one employee, where each period needs one.
-pub const FULL_DAY: DayParts<'static> = DayParts {
+pub static FULL_DAY: DayParts<'static> = DayParts {
     periods: 2,
     names: &["S", "T"],
     rules: &FULL_DAYS,
@@ -136,8 +145,8 @@ const GROUP_CELLS: [Cell; 2] = [
     },
 ];
 
-/// Full and half days, of groups of their own.
-pub const GROUP_DAY: DayParts<'static> = DayParts {
+/// The parts of [`GROUP_DAY`], which other days share.
+pub const GROUP_PARTS: DayParts<'static> = DayParts {
     periods: 2,
     names: &["S", "F", "H", "*"],
     rules: &SPLIT_DAYS,
@@ -146,6 +155,9 @@ pub const GROUP_DAY: DayParts<'static> = DayParts {
     groups: &GROUPS,
     cells: &GROUP_CELLS,
 };
+
+/// Full and half days, of groups of their own.
+pub static GROUP_DAY: DayParts<'static> = GROUP_PARTS;
 
 /// Returns a sample day, which is sound.
 pub fn sound_day(alloc: Global, parts: &DayParts) -> Result<Instance, Fail>

@@ -2,7 +2,7 @@ ghost use Rattle.std.specs.Prelude.{◌≤◌, All, IsTrue};
 ghost use Rattle.roster_model.specs.SoundInstance.{IsSoundInstance};
 ghost use Rattle.span_arcs.specs.DayArcs.{IsDayArcsOf};
 
-use crate::days::{BLOCK_DAY, EXACT_DAY, FLOOR_DAY, PAIR_DAY, sound_day};
+use crate::days::{BLOCK_DAY, EXACT_DAY, FLOOR_DAY, PAIR_DAY, PAIR_PARTS, sound_day};
 use pinned_part::{Balances, first_loose, high, low, pinned_value};
 use roster_model::{ArcKey, Cut, Instance, Side};
 use sample_days::DayParts;
@@ -40,7 +40,8 @@ fn pinned(alloc: Global, arcs: &[ArcNumbers], counts: &[u32]) -> Result<Vec<Cut>
     Ok(cuts)
 }
 
-fn are_small(cuts: &[Cut]) -> bool
+/// Returns whether the cuts are within the counts of employees.
+pub fn are_small(cuts: &[Cut]) -> bool
     ensures { IsTrue result → All (λ c. c.b ≤ 63) cuts.now }
 {
     cuts.iter().all(|cut| cut.b <= 63)
@@ -87,13 +88,13 @@ fn judged_at(
     judged(alloc, parts, cuts.as_slice())
 }
 
-const TWO_HEADS: DayParts<'static> = DayParts {
+static TWO_HEADS: DayParts<'static> = DayParts {
     heads: (2, 3),
-    ..PAIR_DAY
+    ..PAIR_PARTS
 };
 
 /// The arcs of the three rules, two of each.
-const SIX: [ArcNumbers; 6] = [
+static SIX: [ArcNumbers; 6] = [
     (1, 0, 1, 3, 1),
     (1, 1, 2, 2, 1),
     (2, 0, 1, 3, 1),
@@ -105,7 +106,7 @@ const SIX: [ArcNumbers; 6] = [
 /// Counts of the six arcs, and the pinned value.
 type Case = ([u32; 6], u64);
 
-const PAIR_CASES: [Case; 6] = [
+static PAIR_CASES: [Case; 6] = [
     ([0, 0, 0, 0, 0, 0], 30),
     ([1, 1, 0, 0, 0, 0], 12),
     ([1, 0, 0, 0, 0, 0], 61),
@@ -114,11 +115,11 @@ const PAIR_CASES: [Case; 6] = [
     ([2, 2, 2, 2, 0, 0], 61),
 ];
 
-const TWO_HEADS_CASES: [Case; 2] = [([1, 1, 0, 0, 0, 0], 61), ([1, 1, 1, 1, 0, 0], 4)];
+static TWO_HEADS_CASES: [Case; 2] = [([1, 1, 0, 0, 0, 0], 61), ([1, 1, 1, 1, 0, 0], 4)];
 
-const FLOOR_CASES: [Case; 2] = [([1, 1, 0, 0, 0, 0], 61), ([1, 1, 1, 1, 0, 0], 4)];
+static FLOOR_CASES: [Case; 2] = [([1, 1, 0, 0, 0, 0], 61), ([1, 1, 1, 1, 0, 0], 4)];
 
-const EXACT_CASES: [Case; 2] = [([1, 1, 1, 1, 0, 0], 61), ([0, 0, 0, 0, 0, 0], 61)];
+static EXACT_CASES: [Case; 2] = [([1, 1, 1, 1, 0, 0], 61), ([0, 0, 0, 0, 0, 0], 61)];
 
 /// Whether the pinned value of a row is right, and no arc is loose.
 fn is_pinned_at(alloc: Global, parts: &DayParts, case: &Case) -> Result<bool, Fail> {
@@ -182,7 +183,7 @@ fn the_first_loose_arc(rt: HostRuntime) -> Result<(), Fail> {
     Ok(())
 }
 
-const PATH: [Cut; 3] = [
+static PATH: [Cut; 3] = [
     Cut {
         b: 0,
         ..AT_LEAST_THREE
@@ -212,7 +213,7 @@ fn bounds_of_a_path(rt: HostRuntime) {
 }
 
 /// The arcs of rest, two periods of work, rest.
-const SEVEN: [ArcNumbers; 7] = [
+static SEVEN: [ArcNumbers; 7] = [
     (4, 0, 1, 4, 1),
     (4, 1, 2, 3, 2),
     (5, 0, 2, 2, 2),
@@ -223,7 +224,7 @@ const SEVEN: [ArcNumbers; 7] = [
 ];
 
 /// Counts of the seven arcs, and the pinned value. Other arcs are loose.
-const BLOCK_CASES: [([u32; 7], u64); 3] = [
+static BLOCK_CASES: [([u32; 7], u64); 3] = [
     ([1, 1, 1, 1, 1, 1, 1], 44),
     ([2, 2, 2, 2, 2, 2, 2], 28),
     // The name of the run of two periods is used, and not made.

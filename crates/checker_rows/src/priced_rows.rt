@@ -6,8 +6,10 @@ ghost use Rattle.roster_model.specs.Sums.{Within};
 ghost use Rattle.span_table.specs.Tables.{IsMadeFor};
 
 use crate::days::{
-    BLOCK_DAY, EXACT_DAY, FREE_DAY, FULL, GROUP_DAY, HALF, ONE_DAY, PAIR_DAY, sound_day,
+    BLOCK_DAY, EXACT_DAY, FREE_DAY, FULL, GROUP_DAY, GROUP_PARTS, HALF, ONE_DAY, PAIR_DAY,
+    PAIR_PARTS, sound_day,
 };
+use crate::pinned_rows::are_small;
 use priced_part::priced_value;
 use roster_model::{ArcKey, Cell, Cut, Group, Instance, Mult, PriceRoom, Side, Sym, Window};
 use sample_days::{ANY, CELL, DayParts, REST, RuleParts, WORK};
@@ -70,6 +72,20 @@ fn is_alone(mult: &[Mult]) -> bool
     are_few(mult)
 }
 
+/// Returns whether each price is in range.
+fn are_prices(cell: &[i128]) -> bool
+    ensures { IsTrue result → All (Within (2 ^ 80)) cell.now }
+{
+    cell.iter().all(|price| is_price(*price))
+}
+
+/// Returns whether each multiplier is of one of so many cuts, and in range.
+fn are_mults(mult: &[Mult], cuts: usize) -> bool
+    ensures { IsTrue result → All (IsMult cuts) mult.now }
+{
+    mult.iter().all(|mult| is_mult(mult, cuts))
+}
+
 /// Returns whether the prices, with at most one multiplier, are in range.
 fn are_in_range(day: &Instance, case: &Case<'_>) -> bool
     ensures fit { IsTrue result → FitPrices day.now case.now.d case.now.cell.now case.now.mult.now
@@ -80,10 +96,10 @@ fn are_in_range(day: &Instance, case: &Case<'_>) -> bool
     1 <= case.d
         && case.d <= 1 << 30
         && case.cell.len() == day.cells.len()
-        && case.cell.iter().all(|price| is_price(*price))
+        && are_prices(case.cell)
         && is_alone(case.mult)
-        && case.mult.iter().all(|mult| is_mult(mult, case.cuts.len()))
-        && case.cuts.iter().all(|cut| cut.b <= 63)
+        && are_mults(case.mult, case.cuts.len())
+        && are_small(case.cuts)
 }
 
 /// Whether the prices of a case, which are in range, show what they are to.
@@ -143,7 +159,7 @@ fn show(alloc: Global, parts: &DayParts, cases: &[Case<'_>]) -> Result<(), Fail>
     show_on(alloc, &day, cases)
 }
 
-const BLOCK_CASES: [Case<'static>; 1] = [Case {
+static BLOCK_CASES: [Case<'static>; 1] = [Case {
     what: "the trees bring nothing, and the cells 1 + 4 + 4 + 1",
     d: 1,
     cell: &[1, 2, 2, 1],
@@ -161,7 +177,7 @@ const PAID: Case<'static> = Case {
     shown: 10,
 };
 
-const FREE_CASES: [Case<'static>; 2] = [
+static FREE_CASES: [Case<'static>; 2] = [
     PAID,
     Case {
         what: "nothing is paid",
@@ -171,14 +187,14 @@ const FREE_CASES: [Case<'static>; 2] = [
     },
 ];
 
-const ONE_CASES: [Case<'static>; 1] = [Case {
+static ONE_CASES: [Case<'static>; 1] = [Case {
     what: "an employee is needed",
     cell: &[0],
     shown: 27,
     ..PAID
 }];
 
-const PAIR_CASES: [Case<'static>; 5] = [
+static PAIR_CASES: [Case<'static>; 5] = [
     Case {
         what: "the half of few trees",
         d: 1,
@@ -233,12 +249,12 @@ const SHUT_CELLS: [Cell; 3] = [
 ];
 
 /// Pairs where no count of the last period is allowed.
-const SHUT_DAY: DayParts<'static> = DayParts {
+static SHUT_DAY: DayParts<'static> = DayParts {
     cells: &SHUT_CELLS,
-    ..PAIR_DAY
+    ..PAIR_PARTS
 };
 
-const SHUT_CASES: [Case<'static>; 1] = [Case {
+static SHUT_CASES: [Case<'static>; 1] = [Case {
     what: "a cell has no count in its range",
     d: 1,
     cell: &[0, 0, 0],
@@ -247,7 +263,7 @@ const SHUT_CASES: [Case<'static>; 1] = [Case {
     shown: 61,
 }];
 
-const EXACT_CASES: [Case<'static>; 3] = [
+static EXACT_CASES: [Case<'static>; 3] = [
     Case {
         what: "the half of few trees",
         d: 1,
@@ -307,7 +323,7 @@ const GROUP_CUTS: [Cut; 3] = [
     },
 ];
 
-const GROUP_CASES: [Case<'static>; 2] = [
+static GROUP_CASES: [Case<'static>; 2] = [
     Case {
         what: "seven halves",
         d: 2,
@@ -345,14 +361,14 @@ const IDLE_GROUPS: [Group; 2] = [
 ];
 
 /// Groups where a full day may stand on one period alone, so that there is none, and one is needed.
-const IDLE_GROUP_DAY: DayParts<'static> = DayParts {
+static IDLE_GROUP_DAY: DayParts<'static> = DayParts {
     rules: &SHORT_RULES,
     heads: (2, 3),
     groups: &IDLE_GROUPS,
-    ..GROUP_DAY
+    ..GROUP_PARTS
 };
 
-const IDLE_GROUP_CASES: [Case<'static>; 1] = [Case {
+static IDLE_GROUP_CASES: [Case<'static>; 1] = [Case {
     what: "a group that needs an employee has no shift",
     d: 1,
     cell: &[0, 0],

@@ -118,12 +118,25 @@ fn judge_in(
     Ok(())
 }
 
+/// Judges each case's roster with a room of its own.
+fn judge_by(
+    alloc: Global,
+    day: &Instance,
+    cases: &[Case<'_>],
+    table: &mut Table,
+) -> Result<(), Fail>
+    requires day { IsSoundInstance day.now }
+    requires made { IsMadeFor day.now.grammar table.old }
+{
+    let mut room = ShiftRoom::new(alloc)?;
+    judge_in(day, cases, &mut room, table)
+}
+
 fn judge_on(alloc: Global, day: &Instance, cases: &[Case<'_>]) -> Result<(), Fail>
     requires { IsSoundInstance day.now }
 {
     let mut table = Table::for_instance(alloc, &day.grammar)?;
-    let mut room = ShiftRoom::new(alloc)?;
-    judge_in(day, cases, &mut room, &mut table)
+    judge_by(alloc, day, cases, &mut table)
 }
 
 /// Judges each case's roster with one table.
@@ -140,7 +153,7 @@ const BLOCK_ROSTER: Case<'static> = Case {
     outside: None,
 };
 
-const BLOCK_CASES: [Case<'static>; 6] = [
+static BLOCK_CASES: [Case<'static>; 6] = [
     BLOCK_ROSTER,
     Case {
         what: "another cost",
@@ -178,7 +191,7 @@ const BLOCK_CASES: [Case<'static>; 6] = [
     },
 ];
 
-const FULL_CASES: [Case<'static>; 2] = [
+static FULL_CASES: [Case<'static>; 2] = [
     Case {
         what: "the price of the other reading",
         cost: 5,
@@ -199,7 +212,7 @@ const FULL_CASES: [Case<'static>; 2] = [
     },
 ];
 
-const EXACT_CASES: [Case<'static>; 2] = [
+static EXACT_CASES: [Case<'static>; 2] = [
     Case {
         what: "two in the second period",
         cost: 4,
@@ -232,7 +245,7 @@ const GROUP_ROSTER: Case<'static> = Case {
     outside: None,
 };
 
-const GROUP_CASES: [Case<'static>; 4] = [
+static GROUP_CASES: [Case<'static>; 4] = [
     GROUP_ROSTER,
     Case {
         what: "a word of the other group",

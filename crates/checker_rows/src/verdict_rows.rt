@@ -4,13 +4,14 @@ ghost use Rattle.certificates.specs.Sound.{IsSoundCert};
 ghost use Rattle.proof_check.specs.Benches.{IsBenchFor, node_room};
 
 use crate::days::{
-    BLOCK_DAY, EXACT_DAY, FLOOR_DAY, FREE_DAY, FULL_DAY, GROUP_DAY, ONE_DAY, PAIR_DAY, sound_day,
+    BLOCK_DAY, EXACT_DAY, FLOOR_DAY, FREE_DAY, FULL_DAY, GROUP_DAY, ONE_DAY, PAIR_DAY, PAIR_PARTS,
+    sound_day,
 };
 use bound_proof::read_cert;
 use certificates::{Cert, Why};
 use proof_check::{Bench, Judged, Verdict};
 use proof_pieces::{CertRoom, PieceFault};
-use roster_model::{ArcKey, Instance};
+use roster_model::{ArcKey, Instance, Memory};
 use sample_days::{ANY, DayParts, REST, RuleParts, WORK};
 use std::alloc::{AllocError, Global};
 use std::test::Fail;
@@ -60,14 +61,24 @@ fn judges_pieces(alloc: Global, day: &Instance, text: &str, want: &Judged) -> Re
 }
 
 /// Whether a certificate is judged as it is to be, twice at one bench.
-fn judges_cert(alloc: Global, day: &Instance, cert: &Cert, want: &Verdict) -> Result<bool, Fail>
+fn judges_at(day: &Instance, bench: &mut Bench, cert: &Cert, want: &Verdict) -> bool
+    requires day { IsSoundInstance day.now }
+    requires cert { IsSoundCert day.now cert.now }
+    requires bench { IsBenchFor day.now bench.old }
+    requires room { length cert.now.nodes ≤ node_room bench.old }
+{
+    let first = bench.judge(day, cert);
+    let second = bench.judge(day, cert);
+    first == *want && second == *want
+}
+
+/// Whether a certificate is judged so at a bench of its own.
+fn judges_cert(alloc: Global, day: &Instance, cert: &Cert, want: &Verdict) -> Result<bool, Memory>
     requires day { IsSoundInstance day.now }
     requires cert { IsSoundCert day.now cert.now }
 {
     let mut bench = Bench::for_proof(alloc, day, cert)?;
-    let first = bench.judge(day, cert);
-    let second = bench.judge(day, cert);
-    Ok(first == *want && second == *want)
+    Ok(judges_at(day, &mut bench, cert, want))
 }
 
 /// Whether the certificate of a text is judged so.
@@ -75,7 +86,7 @@ fn judges_read(alloc: Global, day: &Instance, text: &str, want: &Verdict) -> Res
     requires { IsSoundInstance day.now }
 {
     let cert = read_cert(alloc, day, text.as_bytes())?;
-    judges_cert(alloc, day, &cert, want)
+    Ok(judges_cert(alloc, day, &cert, want)?)
 }
 
 /// Judges the certificate of one text, and then the text itself.
@@ -90,15 +101,23 @@ fn judge_case(alloc: Global, day: &Instance, text: &str, want: &Verdict) -> Resu
     Err(Fail::from(text))
 }
 
-fn judge_all(alloc: Global, parts: &DayParts, cases: &[Case<'_>]) -> Result<(), Fail> {
-    let day = sound_day(alloc, parts)?;
+/// Judges each case on a day.
+fn judge_on(alloc: Global, day: &Instance, cases: &[Case<'_>]) -> Result<(), Fail>
+    requires { IsSoundInstance day.now }
+{
     for (text, want) in cases {
-        judge_case(alloc, &day, text, want)?;
+        judge_case(alloc, day, text, want)?;
     }
     Ok(())
 }
 
-const BLOCK_CASES: [Case<'static>; 6] = [
+/// Judges each case on a sample day.
+fn judge_all(alloc: Global, parts: &DayParts, cases: &[Case<'_>]) -> Result<(), Fail> {
+    let day = sound_day(alloc, parts)?;
+    judge_on(alloc, &day, cases)
+}
+
+static BLOCK_CASES: [Case<'static>; 6] = [
     (
         "proof 1\ncost 10\nbound 10\nshift .aaa 5\nshift aaa. 5\npriced 1\nprice a 1 2 2 1\nend\n",
         Verdict::Yes {
@@ -137,7 +156,7 @@ const BLOCK_CASES: [Case<'static>; 6] = [
     ),
 ];
 
-const FULL_CASES: [Case<'static>; 3] = [
+static FULL_CASES: [Case<'static>; 3] = [
     (
         "proof 1\ncost 5\nbound 3\nshift aa 5\npriced 1\nprice a 0 0\nend\n",
         Verdict::No(Why::ShiftCost {
@@ -159,7 +178,7 @@ const FULL_CASES: [Case<'static>; 3] = [
     ),
 ];
 
-const ONE_CASES: [Case<'static>; 2] = [
+static ONE_CASES: [Case<'static>; 2] = [
     (
         "proof 1\ncost none\nbound none\npriced 1\nprice a 0\nend\n",
         Verdict::Yes {
@@ -176,7 +195,7 @@ const ONE_CASES: [Case<'static>; 2] = [
     ),
 ];
 
-const FREE_CASES: [Case<'static>; 1] = [(
+static FREE_CASES: [Case<'static>; 1] = [(
     "proof 1\ncost 10\nbound 10\npriced 1\nprice a 10\nend\n",
     Verdict::Yes {
         cost: Some(10),
@@ -192,7 +211,7 @@ const ARC: ArcKey = ArcKey {
     part: 1,
 };
 
-const PAIR_CASES: [Case<'static>; 8] = [
+static PAIR_CASES: [Case<'static>; 8] = [
     (
         "proof 1\ncost 4\nbound 4\nshift .aa 2\nshift aa. 2\nsplit 1 0 1 3 1 0\npriced 1\nprice a 2 2 0\nmult 1 2\npriced 1\nprice a 0 0 2\nmult 1 2\nend\n",
         Verdict::Yes {
@@ -243,14 +262,14 @@ const PAIR_CASES: [Case<'static>; 8] = [
 const ONE_PAIR_RULES: [RuleParts<'static>; 1] = [(0, 2, &[WORK, WORK, REST], ANY)];
 
 /// The first of the three shifts of pairs alone, for one employee.
-const ONE_PAIR_DAY: DayParts<'static> = DayParts {
+static ONE_PAIR_DAY: DayParts<'static> = DayParts {
     rules: &ONE_PAIR_RULES,
     heads: (0, 1),
-    ..PAIR_DAY
+    ..PAIR_PARTS
 };
 
 // The one shift costs 2 and leaves a period; nobody leaves three.
-const ONE_PAIR_CASES: [Case<'static>; 2] = [
+static ONE_PAIR_CASES: [Case<'static>; 2] = [
     (
         "proof 1\ncost 12\nbound 12\nshift aa. 2\nsplit 1 0 1 3 1 0\nsplit 1 1 2 2 1 0\npinned\npinned\nsplit 1 1 2 2 1 0\npinned\npinned\nend\n",
         Verdict::Yes {
@@ -267,7 +286,7 @@ const ONE_PAIR_CASES: [Case<'static>; 2] = [
     ),
 ];
 
-const FLOOR_CASES: [Case<'static>; 1] = [(
+static FLOOR_CASES: [Case<'static>; 1] = [(
     "proof 1\ncost 4\nbound 0\nshift .aa 2\nshift aa. 2\nbare\nend\n",
     Verdict::Yes {
         cost: Some(4),
@@ -275,7 +294,7 @@ const FLOOR_CASES: [Case<'static>; 1] = [(
     },
 )];
 
-const EXACT_CASES: [Case<'static>; 3] = [
+static EXACT_CASES: [Case<'static>; 3] = [
     (
         "proof 1\ncost 4\nbound 0\nshift .aa 2\nshift aa. 2\nbare\nend\n",
         Verdict::No(Why::Outside {
@@ -300,7 +319,7 @@ const EXACT_CASES: [Case<'static>; 3] = [
     ),
 ];
 
-const GROUP_CASES: [Case<'static>; 4] = [
+static GROUP_CASES: [Case<'static>; 4] = [
     (
         "proof 2\ncost 4\nbound 4\nshift F aa 3\nshift H a. 1\npriced 2\nprice a 3 3\nmult 2 1\nend\n",
         Verdict::Yes {

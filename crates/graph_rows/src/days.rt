@@ -1,12 +1,13 @@
 ghost use Rattle.std.specs.Prelude.{◌≡◌, IfOk};
 ghost use Rattle.roster_model.specs.Sound.{IsSound};
+ghost use Rattle.roster_model.specs.SoundInstance.{IsSoundInstance};
 ghost use Rattle.parse_graph.specs.Graphs.{HasGrammar, IsGraph};
 ghost use Rattle.sample_days.specs.RestAndWork.{rest_and_work};
 
 use grammar_core::normalise;
 use parse_graph::{Graph, GraphFault};
-use roster_model::{Grammar, Memory, is_sound};
-use sample_days::{BLOCK_NAMES, BLOCKS, PAIRS, grammar};
+use roster_model::{Cell, Grammar, Instance, Memory, is_sound, is_sound_instance};
+use sample_days::{BLOCK_NAMES, BLOCKS, DayParts, PAIRS, day, grammar};
 use std::alloc::Global;
 use std::test::Fail;
 
@@ -15,6 +16,31 @@ pub fn one_block(alloc: Global) -> Result<Grammar, Memory>
     ensures { IfOk result (λ grammar. grammar ≡ rest_and_work) }
 {
     grammar(alloc, 4, &BLOCK_NAMES, &BLOCKS, 0)
+}
+
+/// The day of one block with these demands.
+fn block_day(alloc: Global, cells: &[Cell]) -> Result<Instance, Memory> {
+    let parts = DayParts {
+        periods: 4,
+        names: &BLOCK_NAMES,
+        rules: &BLOCKS,
+        start: 0,
+        heads: (0, 2),
+        groups: &[],
+        cells,
+    };
+    day(alloc, &parts)
+}
+
+/// Returns the day of one block with these demands, if it is sound.
+pub fn sound_day(alloc: Global, cells: &[Cell]) -> Result<Instance, Fail>
+    ensures { IfOk result IsSoundInstance }
+{
+    let day = block_day(alloc, cells)?;
+    if is_sound_instance(&day) {
+        return Ok(day);
+    }
+    Err(Fail::from("no sound day"))
 }
 
 /// Three words of three letters, each at cost 2.

@@ -9,46 +9,28 @@ ghost use Rattle.parse_graph.specs.Graphs.{IsGraph};
 ghost use Rattle.span_table.specs.Tables.{IsMadeFor as IsTableFor};
 ghost use Rattle.graph_rows.specs.Rooms.{AreMadeFor};
 
-use crate::days::graph_of;
+use crate::days::{graph_of, sound_day};
 use cheapest_tree::Pricer;
 use parse_graph::Graph;
 use roster_model::{
     Cell, Cut, Grammar, Instance, LetterPrice, Memory, Mult, PriceRoom, Side, Step, TreeRoom,
-    is_sound_instance,
 };
-use sample_days::{BLOCK_NAMES, BLOCKS, CELL, DayParts, day};
+use sample_days::CELL;
 use span_table::Table;
 use std::alloc::Global;
 use std::test::Fail;
 use word_prices::WordPrices;
 
-/// A day of four periods with one block, and a demand in each period.
-fn block_day(alloc: Global) -> Result<Instance, Memory> {
+/// The sound day of one block with a demand in each period.
+fn needed_day(alloc: Global) -> Result<Instance, Fail>
+    ensures { IfOk result IsSoundInstance }
+{
     let cells = [1, 2, 3, 4].map(|period| Cell {
         period,
         over: 3,
         ..CELL
     });
-    let parts = DayParts {
-        periods: 4,
-        names: &BLOCK_NAMES,
-        rules: &BLOCKS,
-        start: 0,
-        heads: (0, 2),
-        groups: &[],
-        cells: &cells,
-    };
-    day(alloc, &parts)
-}
-
-fn sound_day(alloc: Global) -> Result<Instance, Fail>
-    ensures { IfOk result IsSoundInstance }
-{
-    let day = block_day(alloc)?;
-    if is_sound_instance(&day) {
-        return Ok(day);
-    }
-    Err(Fail::from("no sound day"))
+    sound_day(alloc, &cells)
 }
 
 fn is_price(price: i128) -> bool
@@ -376,7 +358,7 @@ fn has_sums(alloc: Global, day: &Instance) -> Result<bool, Fail>
 
 #[test]
 fn least_sums(rt: HostRuntime) -> Result<(), Fail> {
-    let day = sound_day(rt.alloc())?;
+    let day = needed_day(rt.alloc())?;
     assert!(rt; has_sums(rt.alloc(), &day)?);
     Ok(())
 }

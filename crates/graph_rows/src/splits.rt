@@ -37,6 +37,15 @@ fn are_two_trees(trees: &[List<Step>]) -> bool {
     }
 }
 
+/// Whether a node is made and used as often as this.
+fn is_uneven(fault: &SplitFault, uneven: Option<(u64, u64)>) -> bool {
+    match (fault, uneven) {
+        (SplitFault::Unbalanced { made, used, .. }, Some((many, few))) => *made == many
+            && *used == few,
+        _ => false,
+    }
+}
+
 /// Whether the counts are those of two trees of the second rule, or a node is made and used as often as
 /// this.
 fn splits(alloc: Global, graph: &Graph, counts: &[u32], uneven: Option<(u64, u64)>) -> bool
@@ -45,8 +54,7 @@ fn splits(alloc: Global, graph: &Graph, counts: &[u32], uneven: Option<(u64, u64
 {
     match split(alloc, graph, counts) {
         Ok(trees) => uneven.is_none() && are_two_trees(trees.as_slice()),
-        Err(SplitFault::Unbalanced { made, used, .. }) => uneven == Some((made, used)),
-        Err(SplitFault::Memory) => false,
+        Err(fault) => is_uneven(&fault, uneven),
     }
 }
 

@@ -1,15 +1,14 @@
-ghost use Rattle.std.specs.Prelude.{◌^◌, [], IsTrue, IfOk};
+ghost use Rattle.std.specs.Prelude.{◌^◌, [], IsTrue};
 ghost use Rattle.roster_model.specs.PriceLimits.{AreWide};
+ghost use Rattle.roster_model.specs.Sound.{IsSound};
 ghost use Rattle.roster_model.specs.SoundInstance.{IsSoundInstance};
 ghost use Rattle.roster_model.specs.Sums.{Within};
-ghost use Rattle.parse_graph.specs.Graphs.{IsGraph};
+ghost use Rattle.parse_graph.specs.Graphs.{HasGrammar, IsGraph};
 
-use crate::days::{graph_of, one_block};
+use crate::days::{graph_of, sound_day};
 use cheapest_tree::Pricer;
 use parse_graph::Graph;
-use roster_model::{
-    ArcKey, Cut, Instance, LetterPrice, List, Memory, PriceRoom, Side, is_sound_instance,
-};
+use roster_model::{ArcKey, Cut, Grammar, Instance, LetterPrice, List, Memory, PriceRoom, Side};
 use span_table::Table;
 use std::alloc::Global;
 use std::process::Abort;
@@ -23,23 +22,6 @@ const BEHIND: ArcKey = ArcKey {
     len: 1,
     part: 1,
 };
-
-/// A day of one block, with no demands.
-fn sound_day(alloc: Global) -> Result<Instance, Fail>
-    ensures { IfOk result IsSoundInstance }
-{
-    let day = Instance {
-        grammar: one_block(alloc)?,
-        heads_min: 0,
-        heads_max: 1,
-        groups: List::new(alloc),
-        cells: List::new(alloc),
-    };
-    if is_sound_instance(&day) {
-        return Ok(day);
-    }
-    Err(Fail::from("no sound day"))
-}
 
 fn is_price(price: i128) -> bool
     ensures { IsTrue result → Within (2 ^ 80) price }
@@ -87,6 +69,30 @@ fn paid_for(alloc: Global, count: usize, unit: i64) -> Result<List<i128>, Memory
     Ok(paid)
 }
 
+/// Returns the least sum that the table has at prices.
+fn least_of_table<P: LetterPrice>(
+    alloc: Global,
+    grammar: &Grammar,
+    prices: &P,
+) -> Result<Option<i128>, Memory>
+    requires { IsSound grammar.now }
+{
+    let mut table = Table::for_instance(alloc, grammar)?;
+    Ok(table.least(grammar, prices))
+}
+
+/// Returns the least sum that the pricer of a graph has at prices.
+fn least_of_graph<P: LetterPrice>(
+    alloc: Global,
+    graph: &Graph,
+    prices: &P,
+) -> Result<Option<i128>, Memory>
+    requires { HasGrammar graph.now }
+{
+    let mut pricer = Pricer::new(alloc, graph)?;
+    Ok(pricer.cheapest(graph, prices))
+}
+
 /// Shows that the table and the pricer have the same least sum at prices.
 fn show_least<P: LetterPrice>(
     rt: &impl Abort,
@@ -98,10 +104,8 @@ fn show_least<P: LetterPrice>(
     requires sound { IsSoundInstance day.now }
     requires graph { IsGraph day.now.grammar graph.now }
 {
-    let mut table = Table::for_instance(alloc, &day.grammar)?;
-    let least = table.least(&day.grammar, prices);
-    let mut pricer = Pricer::new(alloc, graph)?;
-    assert_eq!(rt; pricer.cheapest(graph, prices), least);
+    let least = least_of_table(alloc, &day.grammar, prices)?;
+    assert_eq!(rt; least_of_graph(alloc, graph, prices)?, least);
     Ok(())
 }
 
@@ -149,10 +153,25 @@ fn show_unit(
     )
 }
 
+/// Shows that the least sums are the same where the cuts pay multiples of 1 and of 2^60.
+fn show_units(rt: &impl Abort, alloc: Global, day: &Instance, graph: &Graph) -> Result<(), Fail>
+    requires sound { IsSoundInstance day.now }
+    requires graph { IsGraph day.now.grammar graph.now }
+{
+    show_unit(rt, alloc, day, graph, 1)?;
+    show_unit(rt, alloc, day, graph, 1 << 60)
+}
+
+/// Shows that on the graph of a day.
+fn show_day(rt: &impl Abort, alloc: Global, day: &Instance) -> Result<(), Fail>
+    requires { IsSoundInstance day.now }
+{
+    let graph = graph_of(alloc, &day.grammar)?;
+    show_units(rt, alloc, day, &graph)
+}
+
 #[test]
 fn least_sums_where_cuts_pay(rt: HostRuntime) -> Result<(), Fail> {
-    let day = sound_day(rt.alloc())?;
-    let graph = graph_of(rt.alloc(), &day.grammar)?;
-    show_unit(&rt, rt.alloc(), &day, &graph, 1)?;
-    show_unit(&rt, rt.alloc(), &day, &graph, 1 << 60)
+    let day = sound_day(rt.alloc(), &[])?;
+    show_day(&rt, rt.alloc(), &day)
 }

@@ -18,7 +18,7 @@ use tree_pool::Pool;
 const PAIR_CELLS: [Cell; 3] = [CELL, Cell { period: 2, ..CELL }, Cell { period: 3, ..CELL }];
 
 /// Two of three periods at 2, where each period needs one employee.
-const PAIR_DAY: DayParts<'static> = DayParts {
+const PAIR_PARTS: DayParts<'static> = DayParts {
     periods: 3,
     names: &["S"],
     rules: &PAIRS,
@@ -27,6 +27,8 @@ const PAIR_DAY: DayParts<'static> = DayParts {
     groups: &[],
     cells: &PAIR_CELLS,
 };
+
+static PAIR_DAY: DayParts<'static> = PAIR_PARTS;
 
 const FLOOR_CELLS: [Cell; 3] = [
     Cell { floor: 1, ..CELL },
@@ -43,10 +45,10 @@ const FLOOR_CELLS: [Cell; 3] = [
 ];
 
 /// The same with one employee, where each period has a floor of one.
-const FLOOR_DAY: DayParts<'static> = DayParts {
+static FLOOR_DAY: DayParts<'static> = DayParts {
     heads: (0, 1),
     cells: &FLOOR_CELLS,
-    ..PAIR_DAY
+    ..PAIR_PARTS
 };
 
 const GROUPS: [Group; 2] = [
@@ -76,7 +78,7 @@ const GROUP_CELLS: [Cell; 2] = [
 ];
 
 /// Full and half days, of groups of their own.
-const GROUP_DAY: DayParts<'static> = DayParts {
+static GROUP_DAY: DayParts<'static> = DayParts {
     periods: 2,
     names: &["S", "F", "H", "*"],
     rules: &SPLIT_DAYS,
@@ -267,26 +269,47 @@ fn shows_at(
     Ok(shows(&end, want))
 }
 
+fn show_with(
+    alloc: Global,
+    day: &Instance,
+    graph: &Graph,
+    lent: &mut Lent,
+    row: &Row<'_>,
+) -> Result<(), Fail>
+    requires day { IsMasterDay day.now }
+    requires graph { IsGraph day.now.grammar graph.now }
+    requires lent { AreLent day.now graph.now lent.old.pricer lent.old.pool }
+{
+    let (what, cuts, want) = row;
+    if shows_at(alloc, day, graph, lent, cuts, want)? {
+        return Ok(());
+    }
+    Err(Fail::from(*what))
+}
+
 fn show_row(alloc: Global, day: &Instance, graph: &Graph, row: &Row<'_>) -> Result<(), Fail>
     requires day { IsMasterDay day.now }
     requires graph { IsGraph day.now.grammar graph.now }
 {
-    let (what, cuts, want) = row;
     let mut lent = lent_for(alloc, day, graph)?;
-    if shows_at(alloc, day, graph, &mut lent, cuts, want)? {
-        return Ok(());
+    show_with(alloc, day, graph, &mut lent, row)
+}
+
+fn show_each(alloc: Global, day: &Instance, graph: &Graph, rows: &[Row<'_>]) -> Result<(), Fail>
+    requires day { IsMasterDay day.now }
+    requires graph { IsGraph day.now.grammar graph.now }
+{
+    for row in rows {
+        show_row(alloc, day, graph, row)?;
     }
-    Err(Fail::from(*what))
+    Ok(())
 }
 
 fn show_rows(alloc: Global, day: &Instance, rows: &[Row<'_>]) -> Result<(), Fail>
     requires { IsMasterDay day.now }
 {
     let graph = graph_of(alloc, &day.grammar)?;
-    for row in rows {
-        show_row(alloc, day, &graph, row)?;
-    }
-    Ok(())
+    show_each(alloc, day, &graph, rows)
 }
 
 /// Shows what the masters of these nodes of a day show.
