@@ -1,6 +1,6 @@
 pub mod ArcOrders
 pub mod Costs
 pub mod Entries
-pub mod Hashes
 pub mod Letters
+pub mod Orders
 pub mod Pools

@@ -3,8 +3,10 @@
 
 mod arcs;
 mod costs;
+mod entry;
 mod facts;
 mod letters;
+mod order;
 mod pool;
 mod rules;
 mod tree;

@@ -6,9 +6,9 @@ ghost use Rattle.roster_model.specs.Arcs.{same_arc};
 ghost use Rattle.tree_pool.specs.Entries.{seen};
 ghost use Rattle.tree_pool.specs.Pools.{PoolTree, IsPool, IsGrown, IsAdded, AreDaySteps};
 
-use crate::facts::{Facts, facts_of};
+use crate::entry::{Entry, entry_of};
+use crate::order::{place_of, put};
 use crate::tree::Tree;
-use indexmap::IndexMap;
 use roster_model::{ArcKey, Grammar, List, Memory, Step};
 use std::alloc::Global;
 use std::marker::Model;
@@ -17,17 +17,22 @@ use std::marker::Model;
 #[derive(Drop)]
 pub struct Pool {
     alloc: Global,
-    trees: IndexMap<Tree, Facts>,
+    entries: List<Entry>,
+    /// The numbers of the trees, in the order of their rule uses.
+    order: Vec<usize>,
 }
 
 impl Model for Pool {
     ghost use Rattle.std.specs.Prelude.{List as Items};
     ghost use Rattle.tree_pool.specs.Entries.{all_seen};
+    ghost use Rattle.tree_pool.specs.Orders.{IsOrder};
     ghost use Rattle.tree_pool.specs.Pools.{PoolTree};
 
     ghost Value = { Items PoolTree };
 
-    ghost view = { λ p. all_seen p.trees.entries };
+    ghost view = { λ p. all_seen p.entries };
+
+    ghost invariant = { λ p. IsOrder p.entries p.order.items };
 }
 
 impl Pool {
@@ -37,7 +42,8 @@ impl Pool {
     {
         Pool {
             alloc,
-            trees: IndexMap::new(alloc),
+            entries: List::new(alloc),
+            order: Vec::new(alloc),
         }
     }
 
@@ -45,7 +51,7 @@ impl Pool {
     pub fn len(&self) -> usize
         ensures { result ≡ length self.now }
     {
-        self.trees.len()
+        self.entries.len()
     }
 
     /// Returns a tree.
@@ -53,7 +59,7 @@ impl Pool {
         requires { column < length self.now }
         ensures { (x : PoolTree) → slice_get self.now column ≡ Some x → result.now.steps ≡ x.steps }
     {
-        self.entry(column).0
+        &self.entry(column).tree
     }
 
     /// Returns the codes of a tree's letters by period, the first period first.
@@ -61,7 +67,7 @@ impl Pool {
         requires { column < length self.now }
         ensures { (x : PoolTree) → slice_get self.now column ≡ Some x → result.now ≡ x.codes }
     {
-        self.entry(column).1.codes.as_slice()
+        self.entry(column).facts.codes.as_slice()
     }
 
     /// Returns the cost of a tree.
@@ -69,7 +75,7 @@ impl Pool {
         requires { column < length self.now }
         ensures { (x : PoolTree) → slice_get self.now column ≡ Some x → result ≡ x.cost }
     {
-        self.entry(column).1.cost
+        self.entry(column).facts.cost
     }
 
     /// Returns the arcs of a tree in their order, each as often as it stands there.
@@ -77,7 +83,7 @@ impl Pool {
         requires { column < length self.now }
         ensures { (x : PoolTree) → slice_get self.now column ≡ Some x → result.now ≡ x.arcs }
     {
-        self.entry(column).1.arcs.as_slice()
+        self.entry(column).facts.arcs.as_slice()
     }
 
     /// Says whether a tree has an arc. Takes no memory.
@@ -86,7 +92,7 @@ impl Pool {
         ensures { (x : PoolTree) → slice_get self.now column ≡ Some x →
             IsTrue result ↔ (0 < count (same_arc arc.now) x.arcs) }
     {
-        self.entry(column).1.arcs.has(arc)
+        self.entry(column).facts.arcs.has(arc)
     }
 
     /// Adds a tree of the day, or finds it where it is in the pool, and returns its number. After an
@@ -102,35 +108,20 @@ impl Pool {
             × (x.steps ≡ steps.now)) }
         ensures kept { IfErr result (λ _. self.new ≡ self.old) }
     {
-        let tree = tree_of(self.alloc, steps)?;
-        if let Some(number) = self.trees.get_index_of(&tree) {
-            return Ok(number);
-        }
-        let number = self.trees.len();
-        let facts = facts_of(self.alloc, grammar, steps)?;
-        match self.trees.insert(tree, facts) {
-            Ok(_) => Ok(number),
-            Err(_) => Err(Memory),
+        match place_of(self.entries.as_slice(), self.order.as_slice(), steps) {
+            Ok(place) => Ok(self.order.as_slice()[place]),
+            Err(place) => {
+                let entry = entry_of(self.alloc, grammar, steps)?;
+                put(&mut self.entries, &mut self.order, place, entry)
+            }
         }
     }
 
     // Returns a tree with what is asked of it.
-    fn entry(&self, column: usize) -> (&Tree, &Facts)
+    fn entry(&self, column: usize) -> &Entry
         requires { column < length self.now }
-        ensures { slice_get self.now column ≡ Some (seen result.0.now result.1.now) }
+        ensures { slice_get self.now column ≡ Some (seen result.now) }
     {
-        let Some(entry) = self.trees.get_index(column) else {
-            unreachable!();
-        };
-        entry
+        &self.entries.as_slice()[column]
     }
-}
-
-// Returns the tree of some steps.
-fn tree_of(alloc: Global, steps: &[Step]) -> Result<Tree, Memory>
-    ensures { IfOk result (λ t. t.steps ≡ steps.now) }
-{
-    let mut list = List::new(alloc);
-    list.extend_from_slice(steps)?;
-    Ok(Tree { steps: list })
 }

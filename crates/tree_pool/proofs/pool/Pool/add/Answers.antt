@@ -1,64 +1,45 @@
-use Rattle.std.proofs.Common.{inl, inr, refl, ◌<◌, ◌≡◌, ◌∷◌, [], ◌++◌, None, List, subst, sym, ap, ◌∙◌, length}
-use Rattle.std.specs.Map.{lookup}
-use Rattle.std.specs.Prelude.{slice_get}
-use Rattle.indexmap.proofs.CallerLemmas.{insert_entry-new}
-use Rattle.tree_pool.specs.Entries.{seen, all_seen}
-use Rattle.tree_pool.specs.Pools.{PoolTree, IsPool}
-use Rattle.tree_pool.proofs.EntriesLemmas.{Entry, tree_eq, found-entry, nothing-found, seen-more, seen-count, within-seen, seen-last, pool-more}
+use Rattle.std.proofs.Common.{subst, sym}
+use Rattle.tree_pool.specs.Pools.{IsPool}
+use Rattle.tree_pool.proofs.EntriesLemmas.{found-entry, put-order, put-pool, put-grown, put-added, put-found}
 use Rattle.tree_pool.proofs.pool.Pool.add.Goals as goal
 
-pub returns-in-Some-clause-found : goal.returns-in-Some-clause-found
-returns-in-Some-clause-found c =
-    let x = found-entry c.self.inside.trees.entries c.in_ok-tree.tree c.in-Some.number (sym c.get_index_of.ensures.index ∙ c.in-Some.is) in
-    rw (← c.self.view_is) (x.0, x.1, x.2 ∙ c.in_ok-tree.ensures)
+pub invariant_of-self : goal.invariant_of-self
+invariant_of-self c =
+    let place = rw (c.as_slice.ensures, c.as_slice-2.ensures.value) at c.in-Err.ensures.place in
+    put-order c.args.grammar.now c.self.inside.entries c.in_ok-entry-in-Err.entry c.self.inside.order.items c.self.invariant c.args.steps.now c.in-Err.place place
+    (subst (IsPool c.args.grammar.now) (sym c.self.view_is) c.requires.pool) c.in_ok-entry-in-Err.ensures.tree c.requires.steps c.in_ok-entry-in-Err.ensures.facts
+    c.put.result c.put.new.entries c.put.new.order.items c.put.ensures.entries c.put.ensures.order c.put.ensures.number c.put.ensures.kept
 
-pub returns-in-Some-clause-added : goal.returns-in-Some-clause-added
-returns-in-Some-clause-added c =
-    let l : c.in-Some.number < length c.args.self.now = rw (← c.self.view_is) (within-seen c.self.inside.trees.entries c.in-Some.number c.in-Some.ensures.within) in
-    inl (refl, l)
+pub returns-in_ok-entry-in-Err-clause-pool : goal.returns-in_ok-entry-in-Err-clause-pool
+returns-in_ok-entry-in-Err-clause-pool c =
+    let place = rw (c.as_slice.ensures, c.as_slice-2.ensures.value) at c.in-Err.ensures.place in
+    put-pool c.args.grammar.now c.self.inside.entries c.in_ok-entry-in-Err.entry c.self.inside.order.items c.self.invariant c.args.steps.now c.in-Err.place place
+    (subst (IsPool c.args.grammar.now) (sym c.self.view_is) c.requires.pool) c.in_ok-entry-in-Err.ensures.tree c.requires.steps c.in_ok-entry-in-Err.ensures.facts
+    c.put.result c.put.new.entries c.put.new.order.items c.put.ensures.entries c.put.ensures.order c.put.ensures.number c.put.ensures.kept
 
-pub returns-in-Ok-clause-added : goal.returns-in-Ok-clause-added
-returns-in-Ok-clause-added c =
-    let es = c.self.inside.trees.entries in
-    let tree = c.in_ok-tree.tree in
-    let facts = c.in_ok-facts.facts in
-    let none : lookup (tree_eq c.in_ok-tree.tree) c.self.inside.trees.entries ≡ None = nothing-found c.get_index_of.result _ c.get_index_of.ensures.found c.in_default.is in
-    let more = c.in-Ok.ensures.entries ∙ insert_entry-new tree_eq c.self.inside.trees tree facts none in
-    inr (
-      seen tree facts,
-      ap all_seen more ∙ seen-more c.args.grammar.now es tree facts ∙ ap (λ (xs : List PoolTree). xs ++ seen tree facts ∷ []) c.self.view_is,
-      c.len-number.ensures.len ∙ seen-count c.args.grammar.now es tree facts ∙ ap length c.self.view_is,
-    )
+pub returns-in_ok-entry-in-Err-clause-grown : goal.returns-in_ok-entry-in-Err-clause-grown
+returns-in_ok-entry-in-Err-clause-grown c =
+    let place = rw (c.as_slice.ensures, c.as_slice-2.ensures.value) at c.in-Err.ensures.place in
+    rw (← c.self.view_is) (put-grown c.args.grammar.now c.self.inside.entries c.in_ok-entry-in-Err.entry c.self.inside.order.items c.self.invariant c.args.steps.now c.in-Err.place place
+    (subst (IsPool c.args.grammar.now) (sym c.self.view_is) c.requires.pool) c.in_ok-entry-in-Err.ensures.tree c.requires.steps c.in_ok-entry-in-Err.ensures.facts
+    c.put.result c.put.new.entries c.put.new.order.items c.put.ensures.entries c.put.ensures.order c.put.ensures.number c.put.ensures.kept)
 
-pub returns-in-Ok-clause-pool : goal.returns-in-Ok-clause-pool
-returns-in-Ok-clause-pool c =
-    let es = c.self.inside.trees.entries in
-    let tree = c.in_ok-tree.tree in
-    let facts = c.in_ok-facts.facts in
-    let none : lookup (tree_eq c.in_ok-tree.tree) c.self.inside.trees.entries ≡ None = nothing-found c.get_index_of.result _ c.get_index_of.ensures.found c.in_default.is in
-    let more = c.in-Ok.ensures.entries ∙ insert_entry-new tree_eq c.self.inside.trees tree facts none in
-    let pool = subst (IsPool c.args.grammar.now) (sym c.self.view_is) c.requires.pool in
-    let all = pool-more c.args.grammar.now es tree facts c.args.steps.now pool none c.in_ok-tree.ensures c.requires.steps c.in_ok-facts.ensures in
-    subst (IsPool c.args.grammar.now) (sym (ap all_seen more ∙ seen-more c.args.grammar.now es tree facts)) all
+pub returns-in_ok-entry-in-Err-clause-found : goal.returns-in_ok-entry-in-Err-clause-found
+returns-in_ok-entry-in-Err-clause-found c =
+    let place = rw (c.as_slice.ensures, c.as_slice-2.ensures.value) at c.in-Err.ensures.place in
+    put-found c.args.grammar.now c.self.inside.entries c.in_ok-entry-in-Err.entry c.self.inside.order.items c.self.invariant c.args.steps.now c.in-Err.place place
+    (subst (IsPool c.args.grammar.now) (sym c.self.view_is) c.requires.pool) c.in_ok-entry-in-Err.ensures.tree c.requires.steps c.in_ok-entry-in-Err.ensures.facts
+    c.put.result c.put.new.entries c.put.new.order.items c.put.ensures.entries c.put.ensures.order c.put.ensures.number c.put.ensures.kept
 
-pub returns-in-Ok-clause-grown : goal.returns-in-Ok-clause-grown
-returns-in-Ok-clause-grown c =
-    let es = c.self.inside.trees.entries in
-    let tree = c.in_ok-tree.tree in
-    let facts = c.in_ok-facts.facts in
-    let none : lookup (tree_eq c.in_ok-tree.tree) c.self.inside.trees.entries ≡ None = nothing-found c.get_index_of.result _ c.get_index_of.ensures.found c.in_default.is in
-    let more = c.in-Ok.ensures.entries ∙ insert_entry-new tree_eq c.self.inside.trees tree facts none in
-    (seen tree facts ∷ [], ap all_seen more ∙ seen-more c.args.grammar.now es tree facts ∙ ap (λ (xs : List PoolTree). xs ++ seen tree facts ∷ []) c.self.view_is)
+pub returns-in_ok-entry-in-Err-clause-added : goal.returns-in_ok-entry-in-Err-clause-added
+returns-in_ok-entry-in-Err-clause-added c =
+    let place = rw (c.as_slice.ensures, c.as_slice-2.ensures.value) at c.in-Err.ensures.place in
+    rw (← c.self.view_is) (put-added c.args.grammar.now c.self.inside.entries c.in_ok-entry-in-Err.entry c.self.inside.order.items c.self.invariant c.args.steps.now c.in-Err.place place
+    (subst (IsPool c.args.grammar.now) (sym c.self.view_is) c.requires.pool) c.in_ok-entry-in-Err.ensures.tree c.requires.steps c.in_ok-entry-in-Err.ensures.facts
+    c.put.result c.put.new.entries c.put.new.order.items c.put.ensures.entries c.put.ensures.order c.put.ensures.number c.put.ensures.kept)
 
 pub returns-in-Ok-clause-found : goal.returns-in-Ok-clause-found
 returns-in-Ok-clause-found c =
-    let es = c.self.inside.trees.entries in
-    let tree = c.in_ok-tree.tree in
-    let facts = c.in_ok-facts.facts in
-    let none : lookup (tree_eq c.in_ok-tree.tree) c.self.inside.trees.entries ≡ None = nothing-found c.get_index_of.result _ c.get_index_of.ensures.found c.in_default.is in
-    let more = c.in-Ok.ensures.entries ∙ insert_entry-new tree_eq c.self.inside.trees tree facts none in (
-      seen tree facts,
-      ap (slice_get (all_seen c.insert.new.self.entries)) c.len-number.ensures.len ∙ ap (λ (xs : List Entry). slice_get (all_seen xs) (length es)) more
-          ∙ seen-last c.args.grammar.now es tree facts,
-      c.in_ok-tree.ensures,
-    )
+    let found = rw (c.as_slice.ensures, c.as_slice-2.ensures.value) at c.in-Ok.ensures.found in
+    rw (← c.self.view_is, c.as_slice-in-Ok.ensures.value)
+    (found-entry c.self.inside.entries c.self.inside.order.items c.self.invariant c.args.steps.now c.in-Ok.place found)
