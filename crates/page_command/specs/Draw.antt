@@ -6,9 +6,9 @@ use Rattle.roster_model.specs.declared.instance.Done.TheVariants.{Equal}
 use Rattle.certificates.specs.declared.cert.Cert.{Cert}
 use Rattle.certificates.specs.RosterCauses.{duties}
 use Rattle.page_parts.specs.Elements.{written}
-use Rattle.page_text.specs.Inputs.{column_of}
+use Rattle.page_costs.specs.Columns.{column_of}
+use Rattle.page_costs.specs.declared.column.Column.{Column}
 use Rattle.page_text.specs.Pages.{page}
-use Rattle.page_text.specs.declared.column.Column.{Column}
 use Rattle.page_text.specs.declared.content.Content.{Content}
 use Rattle.roster_report.specs.Reports.{IsReport}
 use Rattle.roster_report.specs.declared.report.Report.{Report}

@@ -51,6 +51,11 @@ element_text (figure class x y n) = at class x y ++ (decimal n ++ codes "</text>
 abbrev pub written : List Element → List ℕ
 written es = flat_map element_text es
 
+-- the elements of items in order, each with its number
+abbrev pub each_from : {A : Type 0} → (ℕ → A → List Element) → ℕ → List A → List Element
+each_from f k [] = []
+each_from f k (x ∷ xs) = f k x ++ each_from f (k + 1) xs
+
 -- the numbers below n, from 0
 abbrev pub places : ℕ → List ℕ
 places zero = []

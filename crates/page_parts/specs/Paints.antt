@@ -1,5 +1,5 @@
 -- The colours of codes.
-use Rattle.std.specs.Prelude.{ℕ, ◌+◌, Bool, true, false, nat_eq, min, List, [], ◌∷◌, if◌then◌else◌}
+use Rattle.std.specs.Prelude.{ℕ, ◌+◌, Bool, false, nat_eq, min, List, [], ◌∷◌, if◌then◌else◌}
 use Rattle.roster_model.specs.declared.grammar.CodeDef.{CodeDef}
 
 -- the colour of work, or that of what is no work, by its number

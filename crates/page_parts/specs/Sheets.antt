@@ -1,5 +1,5 @@
 -- The places of periods and rows.
-use Rattle.std.specs.Prelude.{ℕ, ◌+◌, ◌-◌, ◌*◌, ◌/◌, min, max}
+use Rattle.std.specs.Prelude.{ℕ, ◌+◌, ◌*◌, ◌/◌, min, max}
 use Rattle.page_parts.specs.declared.sheet.Sheet.{Sheet}
 
 -- how wide a period is

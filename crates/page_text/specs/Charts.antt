@@ -1,10 +1,10 @@
 -- The charts of the coverage: for a code and period by period what is needed and what is had.
 use Rattle.std.specs.Prelude.{ℕ, ◌+◌, ◌-◌, ◌*◌, ◌/◌, List, [], ◌∷◌, ◌++◌, nat_eq, nat_lt, codes, max, min, if◌then◌else◌}
 use Rattle.std.specs.List.{flat_map}
-use Rattle.page_parts.specs.Elements.{Element, marks, given, number, bar, caption, figure}
-use Rattle.page_parts.specs.Sheets.{left_of, right_of, chart_width}
+use Rattle.page_parts.specs.Elements.{Element, marks, number, bar, figure}
+use Rattle.page_parts.specs.Sheets.{left_of, right_of}
 use Rattle.page_parts.specs.declared.sheet.Sheet.{Sheet}
-use Rattle.page_text.specs.declared.column.Column.{Column}
+use Rattle.page_costs.specs.declared.column.Column.{Column}
 use Rattle.page_text.specs.declared.ink.Ink.{Ink}
 use Rattle.page_text.specs.declared.ink.Ink.TheVariants.{Bars, Need, Floor, Ceiling, Needed, Had, Short, Over}
 

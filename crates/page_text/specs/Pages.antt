@@ -2,16 +2,16 @@
 use Rattle.std.specs.Prelude.{ℕ, Bool, ◌+◌, ◌-◌, ◌*◌, List, [], ◌∷◌, ◌++◌, length, nat_lt, codes, if◌then◌else◌}
 use Rattle.std.specs.List.{flat_map}
 use Rattle.roster_model.specs.declared.grammar.CodeDef.{CodeDef}
-use Rattle.page_parts.specs.Elements.{Element, marks, given, number, caption, places}
+use Rattle.page_parts.specs.Elements.{Element, each_from, marks, given, number, caption, places}
 use Rattle.page_parts.specs.Sheets.{chart_width, sheet_of}
 use Rattle.page_parts.specs.declared.sheet.Sheet.{Sheet}
-use Rattle.page_text.specs.Charts.{column_bars, frame, in_words, inked, lines, top_count, unit_of}
-use Rattle.page_text.specs.Costs.{chip, costs, is_demanded, sentence}
-use Rattle.page_text.specs.Inputs.{each_from, longest}
+use Rattle.page_costs.specs.Costs.{chip, costs, is_demanded, sentence}
+use Rattle.page_costs.specs.declared.column.Column.{Column}
+use Rattle.page_text.specs.Charts.{frame, in_words, inked, lines, top_count, unit_of}
+use Rattle.page_text.specs.Inputs.{longest}
 use Rattle.page_text.specs.declared.ink.Ink.TheVariants.{Bars}
 use Rattle.page_text.specs.RosterChart.{rows_elements, ticks}
 use Rattle.page_text.specs.Style.{style}
-use Rattle.page_text.specs.declared.column.Column.{Column}
 use Rattle.page_text.specs.declared.content.Content.{Content}
 use Rattle.page_text.specs.declared.row.Row.{Row}
 

@@ -1,12 +1,11 @@
 -- The chart of the shifts: one row a shift, a bar for each period.
-use Rattle.std.specs.Prelude.{ℕ, zero, suc, ◌+◌, ◌-◌, ◌*◌, ◌%◌, None, Some, List, [], ◌∷◌, ◌++◌, nat_eq, nat_lt, slice_get, codes, length, if◌then◌else◌}
+use Rattle.std.specs.Prelude.{ℕ, ◌+◌, ◌-◌, ◌%◌, None, Some, List, [], ◌∷◌, ◌++◌, nat_eq, nat_lt, slice_get, codes, if◌then◌else◌}
 use Rattle.std.specs.List.{flat_map}
 use Rattle.roster_model.specs.declared.grammar.CodeDef.{CodeDef}
-use Rattle.page_parts.specs.Elements.{Element, marks, given, number, bar, caption, figure, places}
+use Rattle.page_parts.specs.Elements.{Element, each_from, marks, given, number, bar, caption, figure, places}
 use Rattle.page_parts.specs.Paints.{paint_of}
-use Rattle.page_parts.specs.Sheets.{left_of, middle_of, right_of, chart_width, top_of}
+use Rattle.page_parts.specs.Sheets.{left_of, middle_of, chart_width, top_of}
 use Rattle.page_parts.specs.declared.sheet.Sheet.{Sheet}
-use Rattle.page_text.specs.Inputs.{each_from}
 use Rattle.page_text.specs.declared.row.Row.{Row}
 
 -- a letter of a row, at the period behind so many

@@ -25,10 +25,9 @@ ghost use Rattle.page_text.specs.Charts.{
   unit_of,
 };
 
-use crate::column::Column;
 use crate::ink::Ink;
-use crate::label::labelled;
-use page_parts::{Area, Sheet, bar, figure, left_of, marks, right_of};
+use page_costs::Column;
+use page_parts::{Area, Sheet, bar, figure, labelled, left_of, marks, right_of};
 use roster_model::{List, Memory};
 
 /// Where a chart ends at its bottom.

@@ -1,6 +1,5 @@
-use crate::column::Column;
-use crate::figures::Figures;
 use crate::row::Row;
+use page_costs::{Column, Figures};
 use roster_model::List;
 
 /// What a page shows.

@@ -3,19 +3,13 @@
 #![tactic(auto)]
 
 mod chart;
-mod column;
 mod content;
-mod costs;
-mod figures;
 mod ink;
-mod label;
 mod page;
 mod roster_chart;
 mod row;
 mod style;
 
-pub use column::{Column, add_columns};
 pub use content::Content;
-pub use figures::Figures;
 pub use page::write_page;
 pub use row::Row;

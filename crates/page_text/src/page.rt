@@ -28,15 +28,14 @@ ghost use Rattle.page_text.specs.Pages.{
 };
 
 use crate::chart::{frame, in_words, inked, lines, top_count, unit_of};
-use crate::column::Column;
 use crate::content::Content;
-use crate::costs::{chip, costs, is_demanded, sentence};
 use crate::ink::Ink;
-use crate::label::{labelled, labelled_text};
 use crate::roster_chart::{rows, ticks};
 use crate::row::{Row, longest};
 use crate::style::style;
-use page_parts::{Sheet, caption, chart_width, marks, sheet_of};
+use page_costs::Column;
+use page_costs::costs::{chip, costs, is_demanded, sentence};
+use page_parts::{Sheet, caption, chart_width, labelled, labelled_text, marks, sheet_of};
 use roster_model::{CodeDef, List, Memory};
 use std::alloc::Global;
 

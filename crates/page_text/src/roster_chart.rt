@@ -15,11 +15,10 @@ ghost use Rattle.page_text.specs.RosterChart.{
   times,
 };
 
-use crate::label::{labelled, labelled_text};
 use crate::row::Row;
 use page_parts::{
-    Area, Sheet, bar, caption, chart_width, figure, left_of, marks, middle_of, number, paint_of,
-    top_of,
+    Area, Sheet, bar, caption, chart_width, figure, labelled, labelled_text, left_of, marks,
+    middle_of, number, paint_of, top_of,
 };
 use roster_model::{CodeDef, List, Memory};
 

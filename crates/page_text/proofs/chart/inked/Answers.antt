@@ -1,8 +1,6 @@
-use Rattle.std.proofs.Common.{[]}
-use Rattle.std.specs.Prelude.{false}
 use Rattle.page_text.specs.Charts.{code_ink}
-use Rattle.page_text.specs.declared.column.Column.{Column}
-use Rattle.page_text.proofs.Loops.{more}
+use Rattle.page_costs.specs.declared.column.Column.{Column}
+use Rattle.page_parts.proofs.ElementsLemmas.{more}
 use Rattle.page_text.proofs.chart.inked.Goals as goal
 
 abbrev nothing : Column

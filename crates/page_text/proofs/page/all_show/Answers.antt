@@ -1,5 +1,5 @@
 use Rattle.page_text.specs.Pages.{shows}
-use Rattle.page_text.proofs.Loops.{more_places}
+use Rattle.page_parts.proofs.ElementsLemmas.{more_places}
 use Rattle.page_text.proofs.page.all_show.Goals as goal
 
 pub loop-place-preserved : goal.loop-place-preserved

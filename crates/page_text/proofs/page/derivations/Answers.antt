@@ -1,6 +1,6 @@
 use Rattle.std.proofs.Common.{◌+◌, ap}
 use Rattle.page_text.specs.Pages.{derivation}
-use Rattle.page_text.proofs.Loops.{more_from}
+use Rattle.page_parts.proofs.ElementsLemmas.{more_from}
 use Rattle.page_text.proofs.page.derivations.Goals as goal
 
 pub loop-text-preserved : goal.loop-text-preserved

@@ -1,6 +1,5 @@
 use Rattle.std.proofs.Common.{◌≡◌, ◌++◌, take}
-use Rattle.page_text.specs.Inputs.{each_from}
-use Rattle.page_parts.specs.Elements.{written}
+use Rattle.page_parts.specs.Elements.{each_from, written}
 use Rattle.page_text.specs.Pages.{derivation}
 use Rattle.page_text.proofs.page.derivations.Given as goal
 

@@ -1,6 +1,6 @@
 use Rattle.std.proofs.Common.{◌+◌, ap}
 use Rattle.page_text.specs.RosterChart.{row_elements}
-use Rattle.page_text.proofs.Loops.{more_from}
+use Rattle.page_parts.proofs.ElementsLemmas.{more_from}
 use Rattle.page_text.proofs.roster_chart.rows.Goals as goal
 
 pub loop-shift-preserved : goal.loop-shift-preserved

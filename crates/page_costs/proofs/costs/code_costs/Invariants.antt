@@ -1,8 +1,7 @@
 use Rattle.std.proofs.Common.{◌≡◌, ◌++◌, take}
-use Rattle.page_text.specs.Inputs.{each_from}
-use Rattle.page_parts.specs.Elements.{written}
-use Rattle.page_text.specs.Costs.{code_cost}
-use Rattle.page_text.proofs.costs.code_costs.Given as goal
+use Rattle.page_parts.specs.Elements.{each_from, written}
+use Rattle.page_costs.specs.Costs.{code_cost}
+use Rattle.page_costs.proofs.costs.code_costs.Given as goal
 
 abbrev pub invariant-loop-code : goal.invariant-loop-code
 invariant-loop-code l = record {

@@ -1,6 +1,6 @@
 use Rattle.std.proofs.Common.{◌≡◌, drop}
-use Rattle.page_text.specs.Costs.{penalties}
-use Rattle.page_text.proofs.costs.penalties.Given as goal
+use Rattle.page_costs.specs.Costs.{penalties}
+use Rattle.page_costs.proofs.costs.penalties.Given as goal
 
 abbrev pub invariant-loop-column : goal.invariant-loop-column
 invariant-loop-column l = penalties l.code l.columns 0 ≡ penalties l.code (drop l.column-index l.columns) l.sum

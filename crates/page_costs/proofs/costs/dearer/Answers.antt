@@ -1,7 +1,7 @@
 use Rattle.std.proofs.lemmas.Result.{on_ok_weaker}
 use Rattle.std.proofs.Common.{◌∙◌, append_assoc, append-nil}
-use Rattle.page_text.specs.Costs.{dearer}
-use Rattle.page_text.proofs.costs.dearer.Goals as goal
+use Rattle.page_costs.specs.Costs.{dearer}
+use Rattle.page_costs.proofs.costs.dearer.Goals as goal
 
 pub returns : goal.returns
 unfolding dearer

@@ -1,12 +1,11 @@
 -- What the roster costs, and how good it is.
-use Rattle.std.specs.Prelude.{ℕ, ◌+◌, ◌-◌, ◌^◌, Option, None, Some, List, [], ◌∷◌, ◌++◌, Bool, true, false, nat_eq, nat_lt, min, codes, if◌then◌else◌}
+use Rattle.std.specs.Prelude.{ℕ, ◌+◌, ◌-◌, ◌^◌, Option, None, Some, List, [], ◌∷◌, ◌++◌, Bool, nat_eq, nat_lt, min, codes, if◌then◌else◌}
 use Rattle.std.specs.List.{list_any}
 use Rattle.roster_model.specs.declared.grammar.CodeDef.{CodeDef}
-use Rattle.page_parts.specs.Elements.{Element, marks, given, number}
+use Rattle.page_parts.specs.Elements.{Element, each_from, marks, given, number}
 use Rattle.page_parts.specs.Paints.{paint_of}
-use Rattle.page_text.specs.declared.column.Column.{Column}
-use Rattle.page_text.specs.declared.figures.Figures.{Figures}
-use Rattle.page_text.specs.Inputs.{each_from}
+use Rattle.page_costs.specs.declared.column.Column.{Column}
+use Rattle.page_costs.specs.declared.figures.Figures.{Figures}
 
 -- the sentence of a roster that costs at most so much more than the best one
 unfoldable pub dearer : ℕ → List Element

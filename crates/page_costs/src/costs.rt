@@ -1,7 +1,7 @@
 ghost use Rattle.std.specs.Prelude.{◌≡◌, ◌≤◌, ◌++◌, ◌∷◌, length, OnOk};
 ghost use Rattle.page_parts.specs.Elements as page;
 ghost use Rattle.page_parts.specs.Elements.{written};
-ghost use Rattle.page_text.specs.Costs.{
+ghost use Rattle.page_costs.specs.Costs.{
   amount,
   chip,
   code_cost,
@@ -22,8 +22,7 @@ ghost use Rattle.page_text.specs.Costs.{
 
 use crate::column::Column;
 use crate::figures::Figures;
-use crate::label::{labelled, labelled_text};
-use page_parts::{marks, number, paint_of};
+use page_parts::{labelled, labelled_text, marks, number, paint_of};
 use roster_model::{CodeDef, List, Memory};
 
 // Writes the sentence of a roster that costs at most so much more than the best one.
@@ -86,13 +85,10 @@ fn sentence_over(out: &mut List<u8>, cost: Option<u64>, bound: u64) -> Result<()
     }
 }
 
-/// Writes how good the roster is.
+/// Appends the sentence of how good the roster is, or of what the bound says where there is none. After want
+/// of memory a part of it may stand there.
 #[tactic(auto, unfolding(crate::specs::Costs::sentence))]
-pub(crate) fn sentence(
-    out: &mut List<u8>,
-    cost: Option<u64>,
-    bound: Option<u64>,
-) -> Result<(), Memory>
+pub fn sentence(out: &mut List<u8>, cost: Option<u64>, bound: Option<u64>) -> Result<(), Memory>
     ensures { OnOk result (out.new ≡ out.old ++ written (sentence cost bound)) }
 {
     match bound {
@@ -120,9 +116,9 @@ fn labelled_amount(out: &mut List<u8>, label: &[u8], value: Option<u64>) -> Resu
     amount(out, value)
 }
 
-/// Writes a code in its colour.
+/// Appends the byte of a code, escaped, in its colour. After want of memory a part of it may stand there.
 #[tactic(auto, unfolding(crate::specs::Costs::chip))]
-pub(crate) fn chip(out: &mut List<u8>, codes: &[CodeDef], byte: u8) -> Result<(), Memory>
+pub fn chip(out: &mut List<u8>, codes: &[CodeDef], byte: u8) -> Result<(), Memory>
     ensures { OnOk result (out.new ≡ out.old ++ written (chip codes.now byte)) }
 {
     marks(out, b"<span class='chip ")?;
@@ -132,7 +128,7 @@ pub(crate) fn chip(out: &mut List<u8>, codes: &[CodeDef], byte: u8) -> Result<()
 }
 
 /// Returns whether some column is of the code.
-pub(crate) fn is_demanded(code: u8, columns: &[Column]) -> bool
+pub fn is_demanded(code: u8, columns: &[Column]) -> bool
     ensures { result ≡ is_demanded code columns.now }
 {
     columns.iter().any(|column| column.code == code)
@@ -209,9 +205,10 @@ fn code_costs(out: &mut List<u8>, codes: &[CodeDef], columns: &[Column]) -> Resu
     Ok(())
 }
 
-/// Writes what the roster costs.
+/// Appends what the roster costs: its figures, and the penalties of each code that is demanded. After want of
+/// memory a part of it may stand there.
 #[tactic(auto, unfolding(crate::specs::Costs::costs))]
-pub(crate) fn costs(
+pub fn costs(
     out: &mut List<u8>,
     codes: &[CodeDef],
     figures: Figures,

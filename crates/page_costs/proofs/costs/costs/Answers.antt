@@ -1,8 +1,8 @@
 use Rattle.std.proofs.lemmas.Result.{on_ok_weaker}
 use Rattle.std.proofs.Common.{◌∙◌, append_assoc, append-nil}
 use Rattle.std.proofs.lemmas.Grind.{flat_map-append}
-use Rattle.page_text.specs.Costs.{costs}
-use Rattle.page_text.proofs.costs.costs.Goals as goal
+use Rattle.page_costs.specs.Costs.{costs}
+use Rattle.page_costs.proofs.costs.costs.Goals as goal
 
 pub returns : goal.returns
 unfolding costs

@@ -2,11 +2,11 @@ ghost use Rattle.std.specs.Prelude.{◌≡◌, ◌++◌, ◌∷◌, [], OnOk};
 ghost use Rattle.page_parts.specs.Elements as page;
 ghost use Rattle.page_parts.specs.Elements.{written};
 
-use page_parts::{given, marks, number};
+use crate::element::{given, marks, number};
 use roster_model::{List, Memory};
 
-/// Writes marks, and a number behind them.
-pub(crate) fn labelled(out: &mut List<u8>, label: &[u8], value: u64) -> Result<(), Memory>
+/// Appends marks, and a number behind them. After want of memory a part of them may stand there.
+pub fn labelled(out: &mut List<u8>, label: &[u8], value: u64) -> Result<(), Memory>
     ensures { OnOk result
         (out.new ≡ out.old ++ written (page.marks label.now ∷ page.number value ∷ [])) }
 {
@@ -14,8 +14,9 @@ pub(crate) fn labelled(out: &mut List<u8>, label: &[u8], value: u64) -> Result<(
     number(out, value)
 }
 
-/// Writes marks, and bytes of the texts behind them.
-pub(crate) fn labelled_text(out: &mut List<u8>, label: &[u8], text: &[u8]) -> Result<(), Memory>
+/// Appends marks, and bytes of the texts behind them, each escaped. After want of memory a part of them may
+/// stand there.
+pub fn labelled_text(out: &mut List<u8>, label: &[u8], text: &[u8]) -> Result<(), Memory>
     ensures { OnOk result
         (out.new ≡ out.old ++ written (page.marks label.now ∷ page.given text.now ∷ [])) }
 {

@@ -1,7 +1,7 @@
 ghost use Rattle.std.specs.Prelude.{◌≡◌, ◌≤◌, ◌++◌, All, length, map, OnOk};
 ghost use Rattle.roster_model.specs.Duties.{duty};
 ghost use Rattle.roster_model.specs.Limits.{IsDayCell};
-ghost use Rattle.page_text.specs.Inputs.{column_of};
+ghost use Rattle.page_costs.specs.Columns.{column_of};
 
 use roster_model::{Cell, Grammar, List, Memory, Shift, covered, penalty};
 

@@ -1,10 +1,9 @@
 -- Elements that are written one item after another.
-use Rattle.std.proofs.Common.{◌≡◌, ℕ, zero, suc, ◌+◌, ◌<◌, List, [], ◌∷◌, ◌++◌, length, take, get_or, refl, sym, ap, ◌∙◌, arith, append_assoc, append-nil, add-one}
+use Rattle.std.proofs.Common.{◌≡◌, ℕ, zero, suc, ◌+◌, ◌<◌, List, [], ◌∷◌, ◌++◌, length, take, get_or, sym, ap, ◌∙◌, arith, append_assoc, append-nil, add-one}
 use Rattle.std.proofs.lemmas.Grind.{flat_map-append}
 use Rattle.std.proofs.lemmas.List.{take_more}
 use Rattle.std.specs.List.{flat_map}
-use Rattle.page_parts.specs.Elements.{Element, element_text, places, written}
-use Rattle.page_text.specs.Inputs.{each_from}
+use Rattle.page_parts.specs.Elements.{Element, each_from, element_text, places, written}
 
 joined : (es fs : List Element) (o0 o1 o2 : List ℕ) → o1 ≡ o0 ++ written es → o2 ≡ o1 ++ written fs → o2 ≡ o0 ++ written (es ++ fs)
 joined es fs o0 o1 o2 e h =

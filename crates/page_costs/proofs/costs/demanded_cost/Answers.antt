@@ -1,8 +1,8 @@
 use Rattle.std.proofs.lemmas.Result.{on_ok_weaker}
 use Rattle.std.proofs.Common.{◌∙◌, append_assoc, append-nil}
 use Rattle.std.proofs.lemmas.Grind.{flat_map-append}
-use Rattle.page_text.specs.Costs.{demanded_cost}
-use Rattle.page_text.proofs.costs.demanded_cost.Goals as goal
+use Rattle.page_costs.specs.Costs.{demanded_cost}
+use Rattle.page_costs.proofs.costs.demanded_cost.Goals as goal
 
 pub returns : goal.returns
 unfolding demanded_cost

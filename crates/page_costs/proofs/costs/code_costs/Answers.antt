@@ -1,9 +1,9 @@
-use Rattle.std.proofs.Common.{◌+◌, [], ap}
+use Rattle.std.proofs.Common.{◌+◌, ap}
 use Rattle.std.specs.Prelude.{false}
-use Rattle.page_text.specs.Costs.{code_cost}
+use Rattle.page_costs.specs.Costs.{code_cost}
 use Rattle.roster_model.specs.declared.grammar.CodeDef.{CodeDef}
-use Rattle.page_text.proofs.Loops.{more_from}
-use Rattle.page_text.proofs.costs.code_costs.Goals as goal
+use Rattle.page_parts.proofs.ElementsLemmas.{more_from}
+use Rattle.page_costs.proofs.costs.code_costs.Goals as goal
 
 abbrev nothing : CodeDef
 nothing = record { byte = 0; work = false }
