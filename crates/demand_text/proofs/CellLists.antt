@@ -2,8 +2,8 @@
 use Rattle.std.proofs.Common.{◌≡◌, ℕ, zero, suc, ◌+◌, ◌<◌, List, [], ◌∷◌, ◌++◌, length, take, get_or, map, refl, sym, ap, ◌∙◌, arith, append_assoc, append-nil, add-one, add-zero}
 use Rattle.roster_model.specs.declared.instance.Cell.{Cell}
 use Rattle.roster_model.specs.Demands.{PeriodDemand, Demand, demand_cell, cells_from, demand_cells, all_cells}
-use Rattle.demand_text.specs.declared.draft.Bound.{Bound}
-use Rattle.demand_text.specs.declared.draft.Need.{Need}
+use Rattle.demand_lines.specs.declared.draft.Bound.{Bound}
+use Rattle.demand_lines.specs.declared.draft.Need.{Need}
 use Rattle.demand_text.specs.InstanceOf.{bound_of, periods_from, demand_of}
 
 module _ (l m : List Bound) (d : Demand) (code x : ℕ) where

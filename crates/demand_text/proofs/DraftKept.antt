@@ -10,16 +10,18 @@ use Rattle.roster_model.specs.declared.grammar.Grammar.{Grammar}
 use Rattle.roster_model.specs.declared.instance.Group.{Group}
 use Rattle.roster_model.specs.Folds.{Each}
 use Rattle.roster_model.specs.SoundInstance.{IsGroup, AreGroups}
-use Rattle.demand_text.specs.declared.draft.Bound.{Bound}
-use Rattle.demand_text.specs.declared.draft.Draft.{Draft}
-use Rattle.demand_text.specs.declared.draft.Need.{Need}
-use Rattle.demand_text.specs.declared.fault.DemandFault.{DemandFault}
-use Rattle.demand_text.specs.declared.fault.DemandFault.TheVariants.{UnknownLine, Twice, NoNeed}
+use Rattle.demand_lines.specs.declared.draft.Bound.{Bound}
+use Rattle.demand_lines.specs.declared.draft.Draft.{Draft}
+use Rattle.demand_lines.specs.declared.draft.Need.{Need}
+use Rattle.demand_lines.specs.declared.fault.DemandFault.{DemandFault}
+use Rattle.demand_lines.specs.declared.fault.DemandFault.TheVariants.{UnknownLine, Twice, NoNeed}
+use Rattle.demand_lines.specs.Fields.{number_at, work_at, name_at, range_at}
+use Rattle.demand_lines.specs.Teams.{has_group, most_heads, heads_at, group_of, group_at}
+use Rattle.demand_lines.specs.Steps.{◌>>=◌}
+use Rattle.demand_text.specs.Counts.{counts_at}
+use Rattle.demand_text.specs.Lines.{has_need, has_bound, need_of, need_at, bound_at, line_at, item_at}
 use Rattle.demand_text.specs.Drafts.{AreCounts, IsNeed, AreApart, AreBounds, IsDraft}
-use Rattle.demand_text.specs.Fields.{number_at, work_at, name_at, counts_at, range_at}
 use Rattle.demand_text.specs.InstanceOf.{no_draft, draft_of}
-use Rattle.demand_text.specs.Lines.{has_group, has_need, has_bound, most_heads, heads_at, group_of, group_at, need_of, need_at, bound_at, line_at, item_at}
-use Rattle.demand_text.specs.Steps.{◌>>=◌}
 use Rattle.demand_text.proofs.GroupSums.{most_more}
 use Rattle.text_lines.proofs.StepsLemmas.{each_keeps, passed, bind_ok, same_ok, err, ok}
 use Rattle.demand_text.proofs.FieldsKept.{work_is, name_within, counts_are, range_within}

@@ -12,13 +12,14 @@ use Rattle.roster_model.specs.declared.grammar.CodeDef.{CodeDef}
 use Rattle.roster_model.specs.declared.grammar.Grammar.{Grammar}
 use Rattle.roster_model.specs.Demands.{PeriodDemand, Demand, demand_cell, cells_from, IsWork}
 use Rattle.roster_model.specs.Sound.{AreCodes, IsSound}
+use Rattle.demand_lines.specs.declared.fault.DemandFault.TheVariants.{BadNumber, OutOfRange}
+use Rattle.demand_lines.specs.Fields.{work_at, name_at, range_at}
+use Rattle.demand_lines.specs.Steps.{each}
+use Rattle.demand_text.specs.Counts.{count_at, counts_at}
 use Rattle.demand_text.specs.declared.number_of.NumberOf.{NumberOf}
 use Rattle.demand_text.specs.declared.number_of.NumberOf.TheVariants.{Need, Floor, Ceiling}
 use Rattle.demand_text.specs.Drafts.{AreCounts}
 use Rattle.text_lines.proofs.FieldsLemmas.{number_at_again, position_at}
-use Rattle.demand_text.specs.declared.fault.DemandFault.TheVariants.{BadNumber, OutOfRange}
-use Rattle.demand_text.specs.Fields.{work_at, name_at, count_at, counts_at, range_at}
-use Rattle.demand_text.specs.Steps.{each}
 use Rattle.demand_text.specs.Written.{name_of, code_byte, number_of, numbers_of}
 use Rattle.text_lines.proofs.StepsLemmas.{ok}
 

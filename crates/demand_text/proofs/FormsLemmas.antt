@@ -12,18 +12,20 @@ use Rattle.roster_model.specs.declared.grammar.Grammar.{Grammar}
 use Rattle.roster_model.specs.declared.instance.Group.{Group}
 use Rattle.roster_model.specs.declared.instance.Instance.{Instance}
 use Rattle.roster_model.specs.Folds.{Each, count}
-use Rattle.demand_text.specs.declared.draft.Bound.{Bound}
-use Rattle.demand_text.specs.declared.draft.Draft.{Draft}
-use Rattle.demand_text.specs.declared.draft.Heads.{Heads}
-use Rattle.demand_text.specs.declared.draft.Need.{Need}
-use Rattle.demand_text.specs.declared.fault.DemandFault.{DemandFault}
-use Rattle.demand_text.specs.declared.fault.DemandFault.TheVariants.{UnknownLine, Twice, NoNeed, Mixed, TooManyGroups, TooLong, NoHeads, WrongCount}
-use Rattle.demand_text.specs.FaultLine.{line_of}
-use Rattle.demand_text.specs.Fields.{number_at, work_at, name_at, count_at, counts_at, range_at}
+use Rattle.demand_lines.specs.declared.draft.Bound.{Bound}
+use Rattle.demand_lines.specs.declared.draft.Draft.{Draft}
+use Rattle.demand_lines.specs.declared.draft.Heads.{Heads}
+use Rattle.demand_lines.specs.declared.draft.Need.{Need}
+use Rattle.demand_lines.specs.declared.fault.DemandFault.{DemandFault}
+use Rattle.demand_lines.specs.declared.fault.DemandFault.TheVariants.{UnknownLine, Twice, NoNeed, Mixed, TooManyGroups, TooLong, NoHeads, WrongCount}
+use Rattle.demand_lines.specs.FaultLine.{line_of}
+use Rattle.demand_lines.specs.Fields.{number_at, work_at, name_at, range_at}
+use Rattle.demand_lines.specs.Teams.{has_group, most_heads, heads_at, group_of, group_at}
+use Rattle.demand_lines.specs.Steps.{◌>>=◌, each}
+use Rattle.demand_text.specs.Counts.{count_at, counts_at}
+use Rattle.demand_text.specs.Lines.{has_need, has_bound, need_of, need_at, bound_at, line_at, item_at}
 use Rattle.demand_text.specs.Forms.{IsForm, heads, group, need, least, most, HasForm, begins, HaveTeams, IsComplete, IsFirstRefused, AllStand}
 use Rattle.demand_text.specs.InstanceOf.{heads_of, made, finish, no_draft, draft_of, instance_of}
-use Rattle.demand_text.specs.Lines.{has_group, has_need, has_bound, most_heads, heads_at, group_of, group_at, need_of, need_at, bound_at, line_at, item_at}
-use Rattle.demand_text.specs.Steps.{◌>>=◌, each}
 use Rattle.demand_text.proofs.DraftKept.{draft_keeps}
 use Rattle.demand_text.proofs.RefusedLines.{item_line}
 

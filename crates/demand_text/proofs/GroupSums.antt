@@ -3,8 +3,8 @@ use Rattle.std.proofs.Common.{◌≡◌, ℕ, ◌+◌, ◌≤◌, List, [], ◌�
 use Rattle.std.proofs.lemmas.List.Elements.{All-head, All-tail}
 use Rattle.roster_model.specs.declared.instance.Group.{Group}
 use Rattle.roster_model.specs.SoundInstance.{IsGroup}
+use Rattle.demand_lines.specs.Teams.{most_heads}
 use Rattle.demand_text.specs.InstanceOf.{least_heads}
-use Rattle.demand_text.specs.Lines.{most_heads}
 
 -- the least numbers are no more than the greatest
 pub in_order : (names : ℕ) (groups : List Group) → All (IsGroup names) groups → least_heads groups ≤ most_heads groups

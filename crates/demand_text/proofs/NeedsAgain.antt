@@ -10,20 +10,20 @@ use Rattle.roster_model.specs.declared.grammar.Grammar.{Grammar}
 use Rattle.roster_model.specs.Demands.{PeriodDemand, Demand, cells_from, demand_cells, IsPeriodDemand, IsDemand, AreOnce}
 use Rattle.roster_model.specs.Folds.{Each}
 use Rattle.roster_model.specs.Sound.{AreCodes}
-use Rattle.demand_text.specs.declared.draft.Bound.{Bound}
-use Rattle.demand_text.specs.declared.draft.Draft.{Draft}
-use Rattle.demand_text.specs.declared.draft.Need as draft
+use Rattle.demand_lines.specs.declared.draft.Bound.{Bound}
+use Rattle.demand_lines.specs.declared.draft.Draft.{Draft}
+use Rattle.demand_lines.specs.declared.draft.Need as draft
+use Rattle.demand_lines.specs.Steps.{each}
+use Rattle.demand_lines.specs.declared.fault.DemandFault.TheVariants.{BadNumber, OutOfRange}
+use Rattle.demand_text.specs.Lines.{has_need, has_bound, need_of, need_at, bound_at, line_at, item_at}
 use Rattle.demand_text.specs.declared.number_of.NumberOf.{NumberOf}
 use Rattle.demand_text.specs.declared.number_of.NumberOf.TheVariants.{Need, Floor, Ceiling}
 use Rattle.demand_text.specs.Drafts.{AreCounts}
-use Rattle.demand_text.specs.Lines.{has_need, has_bound, need_of, need_at, bound_at, line_at, item_at}
-use Rattle.demand_text.specs.Steps.{each}
 use Rattle.demand_text.specs.Written.{code_byte, numbers_of, are_all, need_line, bound_lines, code_lines, demand_lines}
 use Rattle.demand_text.proofs.CellsAgain.{need_for, bound_for, bounds_for}
 use Rattle.text_lines.proofs.WrittenLemmas.{parts_again}
 use Rattle.demand_text.proofs.FieldsAgain.{work_again, counts_at_again, asked, numbers_are}
 use Rattle.text_lines.proofs.FieldsLemmas.{number_at_again}
-use Rattle.demand_text.specs.declared.fault.DemandFault.TheVariants.{BadNumber, OutOfRange}
 use Rattle.text_lines.proofs.StepsLemmas.{ok}
 
 asked_within : (which : NumberOf) (p : PeriodDemand) → IsPeriodDemand p → asked which p ≤ 64

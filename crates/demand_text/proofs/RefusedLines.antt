@@ -10,14 +10,16 @@ use Rattle.text_lines.proofs.StepsLemmas.{ok}
 use Rattle.roster_model.specs.declared.grammar.CodeDef.{CodeDef}
 use Rattle.roster_model.specs.declared.grammar.Grammar.{Grammar}
 use Rattle.roster_model.specs.declared.instance.Group.{Group}
-use Rattle.demand_text.specs.declared.draft.Bound.{Bound}
-use Rattle.demand_text.specs.declared.draft.Draft.{Draft}
-use Rattle.demand_text.specs.declared.draft.Need.{Need}
-use Rattle.demand_text.specs.declared.fault.DemandFault.{DemandFault}
-use Rattle.demand_text.specs.declared.fault.DemandFault.TheVariants.{BadByte, BadNumber, OutOfRange, NotWork, NoName, WrongCount, UnknownLine, Twice, NoNeed, Mixed, TooManyGroups}
-use Rattle.demand_text.specs.FaultLine.{line_of}
-use Rattle.demand_text.specs.Fields.{number_at, found_or, work_at, name_at, count_at, counts_at, range_at}
-use Rattle.demand_text.specs.Lines.{has_group, has_need, has_bound, most_heads, heads_at, group_of, group_at, need_of, need_at, bound_at, line_at, item_at}
+use Rattle.demand_lines.specs.declared.draft.Bound.{Bound}
+use Rattle.demand_lines.specs.declared.draft.Draft.{Draft}
+use Rattle.demand_lines.specs.declared.draft.Need.{Need}
+use Rattle.demand_lines.specs.declared.fault.DemandFault.{DemandFault}
+use Rattle.demand_lines.specs.declared.fault.DemandFault.TheVariants.{BadByte, BadNumber, OutOfRange, NotWork, NoName, WrongCount, UnknownLine, Twice, NoNeed, Mixed, TooManyGroups}
+use Rattle.demand_lines.specs.FaultLine.{line_of}
+use Rattle.demand_lines.specs.Fields.{number_at, found_or, work_at, name_at, range_at}
+use Rattle.demand_lines.specs.Teams.{has_group, most_heads, heads_at, group_of, group_at}
+use Rattle.demand_text.specs.Counts.{count_at, counts_at}
+use Rattle.demand_text.specs.Lines.{has_need, has_bound, need_of, need_at, bound_at, line_at, item_at}
 
 abbrev On : {A : Type 0} → ℕ → Result A DemandFault → Type 0
 On k r = At line_of k r

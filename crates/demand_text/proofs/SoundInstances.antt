@@ -8,13 +8,13 @@ use Rattle.roster_model.specs.Demands.{Demand, IsPeriodDemand, IsDemand, AreOnce
 use Rattle.roster_model.specs.Folds.{Each}
 use Rattle.roster_model.specs.Sound.{IsSound, IsPlain}
 use Rattle.roster_model.specs.SoundInstance.{AreGroups, IsSoundInstance}
-use Rattle.demand_text.specs.declared.draft.Bound.{Bound}
-use Rattle.demand_text.specs.declared.draft.Draft.{Draft}
-use Rattle.demand_text.specs.declared.draft.Heads.{Heads}
-use Rattle.demand_text.specs.declared.draft.Need.{Need}
+use Rattle.demand_lines.specs.declared.draft.Bound.{Bound}
+use Rattle.demand_lines.specs.declared.draft.Draft.{Draft}
+use Rattle.demand_lines.specs.declared.draft.Heads.{Heads}
+use Rattle.demand_lines.specs.declared.draft.Need.{Need}
+use Rattle.demand_lines.specs.Teams.{most_heads}
 use Rattle.demand_text.specs.Drafts.{AreHeads, AreCounts, IsNeed, AreApart, AreBounds, IsDraft}
 use Rattle.demand_text.specs.InstanceOf.{bound_of, periods_from, demand_of, cells_of, least_heads, heads_of, day_grammar, made}
-use Rattle.demand_text.specs.Lines.{most_heads}
 use Rattle.demand_text.proofs.Extension.{extension_sound}
 use Rattle.demand_text.proofs.GroupSums.{in_order, some_heads}
 use Rattle.text_lines.proofs.StepsLemmas.{same_ok, ok}

@@ -10,12 +10,13 @@ use Rattle.roster_model.specs.declared.grammar.Grammar.{Grammar}
 use Rattle.roster_model.specs.declared.instance.Group.{Group}
 use Rattle.roster_model.specs.Sound.{IsSound}
 use Rattle.roster_model.specs.SoundInstance.{IsGroup, AreGroups}
-use Rattle.demand_text.specs.declared.draft.Draft.{Draft}
-use Rattle.demand_text.specs.declared.draft.Heads.{Heads}
+use Rattle.demand_lines.specs.declared.draft.Draft.{Draft}
+use Rattle.demand_lines.specs.declared.draft.Heads.{Heads}
+use Rattle.demand_lines.specs.Teams.{has_group, most_heads, heads_at, group_of, group_at}
+use Rattle.demand_lines.specs.Steps.{each}
+use Rattle.demand_text.specs.Lines.{line_at, item_at}
 use Rattle.demand_text.specs.Drafts.{AreHeads}
 use Rattle.demand_text.specs.InstanceOf.{no_draft}
-use Rattle.demand_text.specs.Lines.{has_group, most_heads, heads_at, group_of, group_at, line_at, item_at}
-use Rattle.demand_text.specs.Steps.{each}
 use Rattle.demand_text.specs.Written.{name_of, heads_line, group_line}
 use Rattle.demand_text.proofs.FieldsAgain.{name_again, range_again}
 use Rattle.text_lines.proofs.StepsLemmas.{ok}

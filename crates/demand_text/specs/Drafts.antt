@@ -4,11 +4,11 @@ use Rattle.roster_model.specs.declared.grammar.Grammar.{Grammar}
 use Rattle.roster_model.specs.Demands.{IsWork}
 use Rattle.roster_model.specs.Folds.{Each}
 use Rattle.roster_model.specs.SoundInstance.{AreGroups}
-use Rattle.demand_text.specs.declared.draft.Bound.{Bound}
-use Rattle.demand_text.specs.declared.draft.Draft.{Draft}
-use Rattle.demand_text.specs.declared.draft.Heads.{Heads}
-use Rattle.demand_text.specs.declared.draft.Need.{Need}
-use Rattle.demand_text.specs.Lines.{most_heads}
+use Rattle.demand_lines.specs.declared.draft.Bound.{Bound}
+use Rattle.demand_lines.specs.declared.draft.Draft.{Draft}
+use Rattle.demand_lines.specs.declared.draft.Heads.{Heads}
+use Rattle.demand_lines.specs.declared.draft.Need.{Need}
+use Rattle.demand_lines.specs.Teams.{most_heads}
 
 pub record AreHeads (h : Heads) : Type 0 where
   pub order : h.least ≤ h.most

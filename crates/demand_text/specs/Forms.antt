@@ -6,11 +6,11 @@ use Rattle.text_lines.specs.Refusals as refusals
 use Rattle.text_lines.specs.declared.line.BadByte as bad
 use Rattle.roster_model.specs.Folds.{Each, count}
 use Rattle.roster_model.specs.declared.grammar.Grammar.{Grammar}
-use Rattle.demand_text.specs.declared.draft.Draft.{Draft}
-use Rattle.demand_text.specs.declared.fault.DemandFault.{DemandFault}
-use Rattle.demand_text.specs.FaultLine.{line_of}
-use Rattle.demand_text.specs.InstanceOf.{no_draft, draft_of}
+use Rattle.demand_lines.specs.declared.draft.Draft.{Draft}
+use Rattle.demand_lines.specs.declared.fault.DemandFault.{DemandFault}
+use Rattle.demand_lines.specs.FaultLine.{line_of}
 use Rattle.demand_text.specs.Lines.{item_at}
+use Rattle.demand_text.specs.InstanceOf.{no_draft, draft_of}
 
 -- words of one of the five forms, with a number for each period where numbers of periods are due
 pub data IsForm (periods : ℕ) (ws : List (List ℕ)) : Type 0 where

@@ -8,14 +8,15 @@ use Rattle.roster_model.specs.Demands.{PeriodDemand, Demand, all_cells}
 use Rattle.roster_model.specs.Extension.{extended}
 use Rattle.roster_model.specs.Folds.{sum_n}
 use Rattle.text_lines.specs.Lines.{text_items}
-use Rattle.demand_text.specs.declared.draft.Bound.{Bound}
-use Rattle.demand_text.specs.declared.draft.Draft.{Draft}
-use Rattle.demand_text.specs.declared.draft.Heads.{Heads}
-use Rattle.demand_text.specs.declared.draft.Need.{Need}
-use Rattle.demand_text.specs.declared.fault.DemandFault.{DemandFault}
-use Rattle.demand_text.specs.declared.fault.DemandFault.TheVariants.{NoHeads, TooLong}
-use Rattle.demand_text.specs.Lines.{most_heads, item_at}
-use Rattle.demand_text.specs.Steps.{◌>>=◌, each}
+use Rattle.demand_lines.specs.declared.draft.Bound.{Bound}
+use Rattle.demand_lines.specs.declared.draft.Draft.{Draft}
+use Rattle.demand_lines.specs.declared.draft.Heads.{Heads}
+use Rattle.demand_lines.specs.declared.draft.Need.{Need}
+use Rattle.demand_lines.specs.declared.fault.DemandFault.{DemandFault}
+use Rattle.demand_lines.specs.declared.fault.DemandFault.TheVariants.{NoHeads, TooLong}
+use Rattle.demand_lines.specs.Teams.{most_heads}
+use Rattle.demand_lines.specs.Steps.{◌>>=◌, each}
+use Rattle.demand_text.specs.Lines.{item_at}
 
 -- the bound of a code in the period at a place, from 0, or this number where no line bounds the code
 abbrev pub bound_of : List Bound → ℕ → ℕ → ℕ → ℕ

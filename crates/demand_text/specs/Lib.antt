@@ -1,6 +1,4 @@
-pub mod Steps
-pub mod FaultLine
-pub mod Fields
+pub mod Counts
 pub mod Lines
 pub mod InstanceOf
 pub mod Drafts

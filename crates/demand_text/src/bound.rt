@@ -1,7 +1,7 @@
 ghost use Rattle.std.specs.Prelude.{◌≡◌, slice_index_or};
 ghost use Rattle.demand_text.specs.InstanceOf.{bound_of};
 
-use crate::draft::Bound;
+use demand_lines::Bound;
 
 // The number of the period at a place, from 0, or this number past the last.
 fn count_or(bound: &Bound, place: usize, otherwise: u32) -> u32

@@ -4,7 +4,7 @@ ghost use Rattle.roster_model.specs.Folds.{Each};
 ghost use Rattle.demand_text.specs.InstanceOf.{demand_of};
 
 use crate::bound::bound_of;
-use crate::draft::{Bound, Need};
+use demand_lines::{Bound, Need};
 use roster_model::{Cell, List, Memory};
 use std::alloc::Global;
 

@@ -1,9 +1,8 @@
 ghost use Rattle.std.specs.Prelude.{◌≡◌, ◌<◌, ◌^◌, [], length};
-ghost use Rattle.demand_text.specs.Fields.{count_at, counts_at};
-ghost use Rattle.demand_text.specs.Steps.{Reads, each};
+ghost use Rattle.demand_lines.specs.Steps.{Reads, each};
+ghost use Rattle.demand_text.specs.Counts.{count_at, counts_at};
 
-use crate::fault::DemandFault;
-use crate::field::number;
+use demand_lines::{DemandFault, number};
 use roster_model::List;
 use std::alloc::Global;
 use text_lines::Words;
@@ -31,7 +30,7 @@ fn numbers(alloc: Global, line: u32, words: &mut Words<'_>) -> Result<List<u32>,
 }
 
 /// Reads a number from 0 to 64 for each period.
-#[tactic(auto, unfolding(crate::specs::Fields::counts_at))]
+#[tactic(auto, unfolding(crate::specs::Counts::counts_at))]
 pub fn counts(
     alloc: Global,
     line: u32,

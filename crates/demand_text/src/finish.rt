@@ -1,17 +1,15 @@
 ghost use Rattle.std.specs.Prelude.{◌≡◌, ◌≤◌, All, length, IfOk};
 ghost use Rattle.roster_model.specs.Sound.{IsSound, IsPlain};
 ghost use Rattle.roster_model.specs.SoundInstance.{IsSoundInstance};
-ghost use Rattle.demand_text.specs.declared.draft.Need.{Need};
+ghost use Rattle.demand_lines.specs.declared.draft.Need.{Need};
+ghost use Rattle.demand_lines.specs.Teams.{most_heads};
+ghost use Rattle.demand_lines.specs.Steps.{Reads};
 ghost use Rattle.demand_text.specs.Drafts.{IsDraft};
 ghost use Rattle.demand_text.specs.InstanceOf.{least_heads, heads_of, cells_of, instance_with, finish};
-ghost use Rattle.demand_text.specs.Lines.{most_heads};
-ghost use Rattle.demand_text.specs.Steps.{Reads};
 
 use crate::cells::cells;
-use crate::draft::{Draft, Heads};
 use crate::extend::day_grammar;
-use crate::fault::DemandFault;
-use crate::heads::most_heads;
+use demand_lines::{DemandFault, Draft, Heads, most_heads};
 use roster_model::{Cell, Grammar, Group, Instance, List, Memory};
 use std::alloc::Global;
 

@@ -16,24 +16,17 @@
 
 mod bound;
 mod cells;
-mod code;
 mod counts;
-mod draft;
 mod extend;
-mod fault;
-mod field;
 mod finish;
-mod heads;
 mod laws;
 mod line;
-mod message;
 mod need;
 mod number_of;
 mod read;
 mod write;
 
-pub use fault::DemandFault;
+pub use demand_lines::{DemandFault, fault_line};
 pub use laws::{accepted_lines, extension_is_sound, refused_line, written_again};
-pub use message::fault_line;
 pub use read::read_demand;
 pub use write::write_demand;

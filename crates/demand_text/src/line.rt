@@ -1,12 +1,10 @@
 ghost use Rattle.std.specs.Prelude.{◌≡◌};
 ghost use Rattle.roster_model.specs.Sound.{IsSound, IsPlain};
+ghost use Rattle.demand_lines.specs.Steps.{Reads};
 ghost use Rattle.demand_text.specs.Lines.{line_at};
-ghost use Rattle.demand_text.specs.Steps.{Reads};
 
-use crate::draft::Draft;
-use crate::fault::DemandFault;
-use crate::heads::{group, heads};
 use crate::need::{bound, need};
+use demand_lines::{DemandFault, Draft, read_group, read_heads};
 use roster_model::Grammar;
 use std::alloc::Global;
 use text_lines::Line;
@@ -30,9 +28,9 @@ pub fn line(
         return Err(DemandFault::UnknownLine { line: number });
     };
     if first == b"heads".as_slice() {
-        heads(draft, number, &mut words)
+        read_heads(draft, number, &mut words)
     } else if first == b"group".as_slice() {
-        group(grammar, draft, number, &mut words)
+        read_group(grammar, draft, number, &mut words)
     } else if first == b"need".as_slice() {
         need(alloc, grammar, &mut draft.needs, number, &mut words)
     } else if first == b"least".as_slice() {

@@ -1,13 +1,10 @@
 ghost use Rattle.std.specs.Prelude.{◌≡◌};
 ghost use Rattle.roster_model.specs.Sound.{IsSound};
+ghost use Rattle.demand_lines.specs.Steps.{Reads};
 ghost use Rattle.demand_text.specs.Lines.{has_need, has_bound, need_of, need_at, bound_at};
-ghost use Rattle.demand_text.specs.Steps.{Reads};
 
-use crate::code::work;
 use crate::counts::counts;
-use crate::draft::{Bound, Draft, Need};
-use crate::fault::DemandFault;
-use crate::field::number;
+use demand_lines::{Bound, DemandFault, Need, number, work};
 use roster_model::{Grammar, List};
 use std::alloc::Global;
 use text_lines::Words;

@@ -1,14 +1,13 @@
 ghost use Rattle.std.specs.Prelude.{◌≡◌, ◌<◌, ◌^◌, length, IfOk};
 ghost use Rattle.roster_model.specs.Sound.{IsSound, IsPlain};
 ghost use Rattle.roster_model.specs.SoundInstance.{IsSoundInstance};
-ghost use Rattle.demand_text.specs.InstanceOf.{no_draft, draft_of, instance_of};
+ghost use Rattle.demand_lines.specs.Steps.{Reads};
 ghost use Rattle.demand_text.specs.Lines.{item_at};
-ghost use Rattle.demand_text.specs.Steps.{Reads};
+ghost use Rattle.demand_text.specs.InstanceOf.{no_draft, draft_of, instance_of};
 
-use crate::draft::Draft;
-use crate::fault::DemandFault;
 use crate::finish::finish;
 use crate::line::line;
+use demand_lines::{DemandFault, Draft};
 use roster_model::{Grammar, Instance, List};
 use std::alloc::Global;
 use text_lines::{BadByte, Line, Lines};

@@ -7,9 +7,9 @@ use Rattle.roster_model.specs.declared.instance.Instance.{Instance}
 use Rattle.roster_model.specs.SoundInstance.{IsSoundInstance}
 use Rattle.certificates.specs.declared.cert.Cert.{Cert}
 use Rattle.certificate_laws.specs.Right.{YesIsRight}
-use Rattle.demand_text.specs.declared.fault.DemandFault.{DemandFault}
+use Rattle.demand_lines.specs.declared.fault.DemandFault.{DemandFault}
+use Rattle.demand_lines.specs.FaultLine as demand
 use Rattle.demand_text.specs.InstanceOf.{instance_of}
-use Rattle.demand_text.specs.FaultLine as demand
 use Rattle.proof_reuse.specs.Curves.{with_heads, first_heads}
 use Rattle.reuse_report.specs.declared.points.CurvePoint.{CurvePoint}
 use Rattle.shelf.specs.Shelf.{Texts}

@@ -12,9 +12,9 @@ use Rattle.certificates.specs.declared.cert.Cert.{Cert}
 use Rattle.certificates.specs.RosterCauses.{duties}
 use Rattle.certificate_laws.specs.Right.{YesIsRight}
 use Rattle.arc_laws.proofs.OneList.{one-list}
-use Rattle.demand_text.specs.declared.fault.DemandFault.{DemandFault}
+use Rattle.demand_lines.specs.declared.fault.DemandFault.{DemandFault}
+use Rattle.demand_lines.specs.FaultLine as demand
 use Rattle.demand_text.specs.InstanceOf.{instance_of}
-use Rattle.demand_text.specs.FaultLine as demand
 use Rattle.branch_price.specs.declared.found.Found.{Found}
 use Rattle.branch_price.specs.Found.{IsDone}
 use Rattle.day_solver.specs.Solutions.{HasArcCount}

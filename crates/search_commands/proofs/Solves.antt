@@ -6,9 +6,9 @@ use Rattle.roster_model.specs.declared.instance.Instance.{Instance}
 use Rattle.roster_model.specs.declared.memory.Memory.{Memory}
 use Rattle.roster_model.specs.Sound.{IsSound}
 use Rattle.roster_model.specs.SoundInstance.{IsSoundInstance}
-use Rattle.demand_text.specs.declared.fault.DemandFault.{DemandFault}
-use Rattle.demand_text.specs.declared.fault.DemandFault.TheVariants as demand_faults
-use Rattle.demand_text.specs.FaultLine as demand
+use Rattle.demand_lines.specs.declared.fault.DemandFault.{DemandFault}
+use Rattle.demand_lines.specs.declared.fault.DemandFault.TheVariants as demand_faults
+use Rattle.demand_lines.specs.FaultLine as demand
 use Rattle.demand_text.specs.InstanceOf.{instance_of}
 use Rattle.rules_text.specs.FaultLine.{fault_line}
 use Rattle.rules_text.specs.RulesOf.{IsReading}

@@ -13,9 +13,9 @@ use Rattle.proof_check.specs.Verdicts.{IsVerdict}
 use Rattle.shift_report.specs.VerdictText.{verdict_text}
 use Rattle.roster_model.specs.Sound.{IsSound}
 use Rattle.roster_model.specs.SoundInstance.{IsSoundInstance}
-use Rattle.demand_text.specs.declared.fault.DemandFault.{DemandFault}
-use Rattle.demand_text.specs.declared.fault.DemandFault.TheVariants as demand_faults
-use Rattle.demand_text.specs.FaultLine as demand
+use Rattle.demand_lines.specs.declared.fault.DemandFault.{DemandFault}
+use Rattle.demand_lines.specs.declared.fault.DemandFault.TheVariants as demand_faults
+use Rattle.demand_lines.specs.FaultLine as demand
 use Rattle.demand_text.specs.InstanceOf.{instance_of}
 use Rattle.proof_pieces.specs.declared.fault.PieceFault.{PieceFault}
 use Rattle.proof_pieces.specs.declared.fault.ProofFault.{ProofFault}

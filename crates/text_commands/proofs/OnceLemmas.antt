@@ -9,12 +9,12 @@ use Rattle.certificates.specs.declared.why.Why.{Why}
 use Rattle.certificates.specs.declared.verdict.Verdict.TheVariants.{No}
 use Rattle.certificate_laws.proofs.NoCause.{refused as cause-refuses}
 use Rattle.certificate_laws.proofs.OneCause.{one-first}
-use Rattle.demand_text.specs.declared.fault.DemandFault.{DemandFault}
+use Rattle.demand_lines.specs.declared.fault.DemandFault.{DemandFault}
+use Rattle.demand_lines.specs.FaultLine as demand
 use Rattle.demand_text.specs.InstanceOf.{instance_of}
 use Rattle.proof_pieces.specs.declared.fault.ProofFault.{ProofFault}
 use Rattle.proof_pieces.specs.CertOf.{proof_of}
 use Rattle.proof_pieces.specs.FaultLine as proof
-use Rattle.demand_text.specs.FaultLine as demand
 use Rattle.shift_report.specs.TreeText.{tree_text}
 use Rattle.shelf.specs.Shelf.{Texts}
 use Rattle.shift_report.specs.VerdictText.{verdict_text}

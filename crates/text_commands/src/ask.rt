@@ -1,7 +1,7 @@
 ghost use Rattle.std.specs.Prelude.{◌≡◌, ◌≢◌, [], ◌∷◌, IfOk};
 ghost use Rattle.roster_model.specs.Sound.{IsPlain, IsSound};
 ghost use Rattle.roster_model.specs.SoundInstance.{IsSoundInstance};
-ghost use Rattle.demand_text.specs.FaultLine as demand_fault;
+ghost use Rattle.demand_lines.specs.FaultLine as demand_fault;
 ghost use Rattle.text_commands.specs.Check.{
   AnswersDemand,
   AnswersProof,
@@ -15,7 +15,8 @@ use crate::answer::Answer;
 use crate::explain::refusal;
 use crate::fetch::{fetched, say_answer};
 use crate::question::Question;
-use demand_text::{DemandFault, read_demand};
+use demand_lines::DemandFault;
+use demand_text::read_demand;
 use roster_model::{Grammar, Instance, Memory};
 use rules_text::read_rules;
 use shelf::Shelf;
@@ -30,7 +31,7 @@ pub fn demand_refusal(alloc: Global, fault: DemandFault) -> Result<Answer, Memor
         DemandFault::Memory => Err(Memory),
         _ => Ok(Answer {
             status: 4,
-            output: demand_text::fault_line(alloc, &fault)?,
+            output: demand_lines::fault_line(alloc, &fault)?,
         }),
     }
 }

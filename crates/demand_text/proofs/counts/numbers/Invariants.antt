@@ -1,6 +1,6 @@
 use Rattle.std.proofs.Common.{◌≡◌, [], length}
-use Rattle.demand_text.specs.Fields.{count_at}
-use Rattle.demand_text.specs.Steps.{each}
+use Rattle.demand_lines.specs.Steps.{each}
+use Rattle.demand_text.specs.Counts.{count_at}
 use Rattle.demand_text.proofs.counts.numbers.Given as goal
 
 abbrev pub invariant-loop-word : goal.invariant-loop-word

@@ -1,8 +1,8 @@
 use Rattle.std.proofs.Common.{◌≡◌, length}
 use Rattle.text_lines.specs.Lines.{text_items}
-use Rattle.demand_text.specs.InstanceOf.{no_draft}
+use Rattle.demand_lines.specs.Steps.{each}
 use Rattle.demand_text.specs.Lines.{item_at}
-use Rattle.demand_text.specs.Steps.{each}
+use Rattle.demand_text.specs.InstanceOf.{no_draft}
 use Rattle.demand_text.proofs.read.lines.Given as goal
 
 abbrev pub invariant-loop-next : goal.invariant-loop-next

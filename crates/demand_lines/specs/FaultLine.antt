@@ -1,8 +1,8 @@
 -- The one line that tells a fault.
 use Rattle.std.specs.Prelude.{ℕ, List, [], ◌∷◌, ◌++◌, Option, Some, None, codes}
 use Rattle.text_lines.specs.Places.{place_text}
-use Rattle.demand_text.specs.declared.fault.DemandFault.{DemandFault}
-use Rattle.demand_text.specs.declared.fault.DemandFault.TheVariants.{BadByte, UnknownLine, BadNumber, OutOfRange, NotWork, Twice, WrongCount, NoHeads, TooLong, NoNeed, NoName, Mixed, TooManyGroups, Memory}
+use Rattle.demand_lines.specs.declared.fault.DemandFault.{DemandFault}
+use Rattle.demand_lines.specs.declared.fault.DemandFault.TheVariants.{BadByte, UnknownLine, BadNumber, OutOfRange, NotWork, Twice, WrongCount, NoHeads, TooLong, NoNeed, NoName, Mixed, TooManyGroups, Memory}
 
 -- the line that a fault carries
 abbrev pub line_of : DemandFault → Option ℕ

@@ -1,12 +1,12 @@
 -- The words of a line: codes, names and numbers.
-use Rattle.std.specs.Prelude.{ℕ, ◌&&◌, ◌==◌, ◌++◌, not, max, min, length, position, slice_index, List, [], ◌∷◌, Option, Some, None, if◌then◌else◌, Result, Ok, Err}
+use Rattle.std.specs.Prelude.{ℕ, ◌&&◌, ◌==◌, not, max, length, position, slice_index, List, Option, Some, None, if◌then◌else◌, Result, Ok, Err}
 use Rattle.std.specs.Str.{bytes_eq}
 use Rattle.text_lines.specs.Fields as fields
 use Rattle.roster_model.specs.declared.grammar.CodeDef.{CodeDef}
-use Rattle.demand_text.specs.declared.draft.Heads.{Heads}
-use Rattle.demand_text.specs.declared.fault.DemandFault.{DemandFault}
-use Rattle.demand_text.specs.declared.fault.DemandFault.TheVariants.{BadNumber, OutOfRange, NotWork, NoName, WrongCount}
-use Rattle.demand_text.specs.Steps.{◌>>=◌, each}
+use Rattle.demand_lines.specs.declared.draft.Heads.{Heads}
+use Rattle.demand_lines.specs.declared.fault.DemandFault.{DemandFault}
+use Rattle.demand_lines.specs.declared.fault.DemandFault.TheVariants.{BadNumber, OutOfRange, NotWork, NoName}
+use Rattle.demand_lines.specs.Steps.{◌>>=◌}
 
 -- the number from low to high that a word of line k says
 abbrev pub number_at : ℕ → ℕ → ℕ → List ℕ → Result ℕ DemandFault
@@ -26,17 +26,6 @@ work_at k defs w =
 -- the number of a name
 unfoldable pub name_at : ℕ → List (List ℕ) → List ℕ → Result ℕ DemandFault
 name_at k names w = found_or (NoName k) (position (λ n. bytes_eq n w) names)
-
--- one more number of a period, from 0 to 64
-abbrev pub count_at : ℕ → List ℕ → List ℕ → Result (List ℕ) DemandFault
-count_at k counts w = number_at k 0 64 w >>= λ n. Ok (counts ++ n ∷ [])
-
--- The numbers of all periods. A fault that carries their number has no room for one of 2^32 or
--- more, which no text within its limit holds.
-unfoldable pub counts_at : ℕ → ℕ → List (List ℕ) → Result (List ℕ) DemandFault
-counts_at k periods ws =
-    if not (length ws == periods) then Err (WrongCount k (min (length ws) 4294967295)) else each
-    (count_at k) [] ws
 
 -- how many employees may work: at least 0 to 64, and at most 1 up to the limit, and no fewer
 unfoldable pub range_at : ℕ → ℕ → List ℕ → List ℕ → Result Heads DemandFault

@@ -36,7 +36,7 @@ pub enum DemandFault {
 
 impl From<Memory> for DemandFault {
     ghost use Rattle.std.specs.Prelude.{◌≡◌};
-    ghost use Rattle.demand_text.specs.declared.fault.DemandFault.TheVariants.{Memory as out_of_memory};
+    ghost use Rattle.demand_lines.specs.declared.fault.DemandFault.TheVariants.{Memory as out_of_memory};
 
     ghost from_gives = { λ _ fault. fault ≡ out_of_memory };
 

@@ -1,5 +1,5 @@
 ghost use Rattle.std.specs.Prelude.{◌≡◌, ◌++◌, [], ◌∷◌, IfOk};
-ghost use Rattle.demand_text.specs.FaultLine.{line_of, fault_text, fault_line};
+ghost use Rattle.demand_lines.specs.FaultLine.{line_of, fault_text, fault_line};
 
 use crate::fault::DemandFault;
 use roster_model::{List, Memory};

@@ -2,8 +2,8 @@
 pub use Rattle.text_lines.specs.Steps.{◌>>=◌, each}
 use Rattle.std.specs.Prelude.{Result}
 use Rattle.text_lines.specs.Steps as steps
-use Rattle.demand_text.specs.declared.fault.DemandFault.{DemandFault}
-use Rattle.demand_text.specs.declared.fault.DemandFault.TheVariants.{Memory}
+use Rattle.demand_lines.specs.declared.fault.DemandFault.{DemandFault}
+use Rattle.demand_lines.specs.declared.fault.DemandFault.TheVariants.{Memory}
 
 -- what a call gave, seen by view, is what the text says, unless memory ran out
 abbrev pub Reads : {A B : Type 0} → (A → B) → Result A DemandFault → Result B DemandFault → Type 0

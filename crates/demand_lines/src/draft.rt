@@ -3,7 +3,9 @@ use roster_model::{Group, List};
 /// How many employees may work: 0 to 64 at least, 1 to 64 at most.
 #[derive(Clone, Copy, Drop)]
 pub struct Heads {
+    /// The least number of employees, no more than the greatest.
     pub least: u32,
+    /// The greatest number of employees.
     pub most: u32,
 }
 
@@ -29,12 +31,17 @@ pub struct Bound {
     pub counts: List<u32>,
 }
 
-/// What the lines so far say.
+/// What the lines so far say, each list in the order of its lines.
 #[derive(Drop)]
 pub struct Draft {
+    /// What the `heads` line says; none where groups are.
     pub heads: Option<Heads>,
+    /// The groups, at most 8, each of another name, with at most 64 employees together.
     pub groups: List<Group>,
+    /// The need lines, each of another code.
     pub needs: List<Need>,
+    /// The `least` lines, each of another code that has a need line.
     pub least: List<Bound>,
+    /// The `most` lines, each of another code that has a need line.
     pub most: List<Bound>,
 }

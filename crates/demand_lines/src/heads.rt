@@ -1,8 +1,8 @@
 ghost use Rattle.std.specs.Prelude.{◌≡◌, ◌-◌, ◌≤◌, length};
 ghost use Rattle.roster_model.specs.Sound.{IsPlain};
-ghost use Rattle.demand_text.specs.Fields.{range_at};
-ghost use Rattle.demand_text.specs.Lines.{has_group, most_heads, heads_at, group_of, group_at};
-ghost use Rattle.demand_text.specs.Steps.{Reads};
+ghost use Rattle.demand_lines.specs.Fields.{range_at};
+ghost use Rattle.demand_lines.specs.Teams.{has_group, most_heads, heads_at, group_of, group_at};
+ghost use Rattle.demand_lines.specs.Steps.{Reads};
 
 use crate::code::name;
 use crate::draft::{Draft, Heads};
@@ -21,9 +21,11 @@ fn range(line: u32, limit: u32, low: &[u8], high: &[u8]) -> Result<Heads, Demand
     Ok(Heads { least, most })
 }
 
-/// Reads a heads line, behind its first word.
-#[tactic(auto, unfolding(crate::specs::Lines::heads_at))]
-pub fn heads(draft: &mut Draft, line: u32, words: &mut Words<'_>) -> Result<(), DemandFault>
+/// Reads a heads line, behind its first word: how many employees may work, where no group was named.
+/// The fault carries the line, and comes in the order of `heads_at`; after it nothing is said of the
+/// draft. Takes no memory.
+#[tactic(auto, unfolding(crate::specs::Teams::heads_at))]
+pub fn read_heads(draft: &mut Draft, line: u32, words: &mut Words<'_>) -> Result<(), DemandFault>
     ensures value { Reads (λ _. (draft.new)) result (heads_at line draft.old words.old) }
 {
     let Some(low) = words.next() else {
@@ -52,7 +54,7 @@ fn has_group(groups: &[Group], name: u8) -> bool
     groups.iter().any(|group| group.name == name)
 }
 
-/// Returns the greatest numbers of employees of the groups, together.
+/// Returns the greatest numbers of employees of the groups, at most eight, together.
 pub fn most_heads(groups: &[Group]) -> u64
     requires { length groups.now ≤ 8 }
     ensures { result ≡ most_heads groups.now }
@@ -73,7 +75,7 @@ fn free_heads(groups: &[Group]) -> u32
 }
 
 // Reads a group line, which has the words that must stand there.
-#[tactic(auto, unfolding(crate::specs::Lines::group_of))]
+#[tactic(auto, unfolding(crate::specs::Teams::group_of))]
 fn group_of(
     grammar: &Grammar,
     groups: &mut List<Group>,
@@ -104,9 +106,11 @@ fn group_of(
     Ok(())
 }
 
-/// Reads a group line, behind its first word.
-#[tactic(auto, unfolding(crate::specs::Lines::group_at))]
-pub fn group(
+/// Reads a group line, behind its first word: a name of the rules that no group has, and how many
+/// employees of it may work, where no heads line was said. The fault carries the line, and comes in the
+/// order of `group_at`; after it nothing is said of the draft. `Memory` may come at any time.
+#[tactic(auto, unfolding(crate::specs::Teams::group_at))]
+pub fn read_group(
     grammar: &Grammar,
     draft: &mut Draft,
     line: u32,

@@ -1,6 +1,6 @@
 ghost use Rattle.std.specs.Prelude.{◌≡◌, ◌<◌, ◌≤◌, ◌==◌, ◌&&◌, length, IfSome, position};
 ghost use Rattle.std.specs.Str.{bytes_eq};
-ghost use Rattle.demand_text.specs.Fields.{work_at, name_at};
+ghost use Rattle.demand_lines.specs.Fields.{work_at, name_at};
 
 use crate::fault::DemandFault;
 use roster_model::{CodeDef, List};
@@ -12,7 +12,8 @@ fn place_of(codes: &[CodeDef], byte: u8) -> Option<usize>
     codes.iter().position(|def| def.work && def.byte == byte)
 }
 
-/// Reads a work code, and gives its number.
+/// Reads a work code, and gives its number, which is its position in `codes`. `NotWork` carries the
+/// line, where the word is none of these.
 #[tactic(auto, unfolding(crate::specs::Fields::work_at))]
 pub fn work(line: u32, codes: &[CodeDef], word: &[u8]) -> Result<u8, DemandFault>
     requires { length codes.now ≤ 32 }

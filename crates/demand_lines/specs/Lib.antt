@@ -1,0 +1,4 @@
+pub mod Steps
+pub mod FaultLine
+pub mod Fields
+pub mod Teams
