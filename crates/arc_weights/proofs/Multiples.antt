@@ -5,7 +5,7 @@ use Rattle.std.proofs.lemmas.Nat.Gcd.{IsGcd-swap, dvd_trans, le_of_dvd}
 use native.Mathlib.Nat.{one-dvd}
 use Rattle.fraction.proofs.LowestTerms.{gcd_positive}
 use Rattle.price_round.proofs.Denominators.{part_some, lcm_old, lcm_new, lcm_into}
-use Rattle.node_master.specs.declared.ends.Weight.{Weight}
+use Rattle.node_columns.specs.declared.weights.Weight.{Weight}
 use Rattle.arc_weights.specs.Denominators.{den_of, IsCommonMultiple, IsPast, AreOver, AreAllPast}
 use Rattle.arc_weights.specs.Loops.{IsCommonBefore}
 

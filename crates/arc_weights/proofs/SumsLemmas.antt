@@ -9,7 +9,7 @@ use Rattle.roster_model.specs.Arcs.{same_arc}
 use Rattle.arc_laws.proofs.SameArc.{Told, arc_tells, same_arc-refl}
 use Rattle.parse_graph.proofs.PlacesLemmas.{In-at}
 use Rattle.tree_pool.specs.Pools.{PoolTree}
-use Rattle.node_master.specs.declared.ends.Weight.{Weight}
+use Rattle.node_columns.specs.declared.weights.Weight.{Weight}
 use Rattle.arc_weights.specs.Sums.{unit, arcs_of_some, arcs_at, arc_units, StandOnce, HaveRoom, AreInPool, AreSums}
 use Rattle.arc_weights.specs.Loops.{AreAddedBefore, AreSummedBefore}
 

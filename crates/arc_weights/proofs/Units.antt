@@ -13,8 +13,9 @@ use Rattle.master_laws.specs.Master.{MasterKey, missing, beyond, tree}
 use Rattle.master_laws.specs.Sharp.{arcs_in, arc_weight}
 use Rattle.master_laws.proofs.Copies.{repeat, with, copies}
 use Rattle.tree_pool.specs.Pools.{PoolTree}
-use Rattle.node_master.specs.declared.ends.Weight.{Weight}
-use Rattle.node_master.specs.Ends.{IsWeight, AreWeights, IsOther}
+use Rattle.node_columns.specs.declared.weights.Weight.{Weight}
+use Rattle.node_columns.specs.Weights.{IsWeight, AreWeights}
+use Rattle.node_master.specs.Ends.{IsOther}
 use Rattle.arc_weights.specs.Denominators.{den_of, AreOver}
 use Rattle.arc_weights.specs.Sums.{unit, arcs_of_some, arcs_at, arc_units, AreInPool}
 use Rattle.arc_weights.proofs.SumsLemmas.{get_lt}

@@ -16,7 +16,7 @@ use Rattle.arc_branch.specs.Boxes.{BoxView}
 use Rattle.arc_branch.specs.Paths.{IsBoxOf}
 use Rattle.master_laws.specs.Sharp.{UsesArtificial, AreFine, arc_weight}
 use Rattle.tree_pool.specs.Pools.{PoolTree, IsPool}
-use Rattle.node_master.specs.declared.ends.Weight.{Weight}
+use Rattle.node_columns.specs.declared.weights.Weight.{Weight}
 use Rattle.node_master.specs.Ends.{AreLeastWeights}
 use Rattle.roster_split.specs.Counts.{count_of}
 use Rattle.roster_split.proofs.Places.{count-at}

@@ -2,7 +2,7 @@
 use Rattle.std.specs.Prelude.{ℕ, ◌≢◌, ◌<◌, ◌≤◌, ◌^◌, List, [], ◌∷◌, unsigned_abs}
 use Rattle.std.specs.Int.{◌∣◌}
 use Rattle.roster_model.specs.Folds.{Each}
-use Rattle.node_master.specs.declared.ends.Weight.{Weight}
+use Rattle.node_columns.specs.declared.weights.Weight.{Weight}
 
 abbrev pub den_of : Weight → ℕ
 den_of x = unsigned_abs x.x.den

@@ -7,7 +7,7 @@ use Rattle.roster_model.specs.Arcs.{same_arc}
 use Rattle.tree_pool.specs.Pools.{PoolTree}
 use Rattle.arc_branch.specs.declared.bounds.Bounds.{Bounds}
 use Rattle.arc_branch.specs.Boxes.{bounds_at}
-use Rattle.node_master.specs.declared.ends.Weight.{Weight}
+use Rattle.node_columns.specs.declared.weights.Weight.{Weight}
 use Rattle.arc_weights.specs.declared.choice.Candidate.{Candidate}
 use Rattle.arc_weights.specs.Denominators.{AreOver}
 use Rattle.arc_weights.specs.Sums.{AreInPool, arc_units}

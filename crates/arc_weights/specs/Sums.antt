@@ -4,7 +4,7 @@ use Rattle.roster_model.specs.declared.grammar.ArcKey.{ArcKey}
 use Rattle.roster_model.specs.Folds.{Each, count, sum_n}
 use Rattle.roster_model.specs.Arcs.{same_arc}
 use Rattle.tree_pool.specs.Pools.{PoolTree}
-use Rattle.node_master.specs.declared.ends.Weight.{Weight}
+use Rattle.node_columns.specs.declared.weights.Weight.{Weight}
 use Rattle.arc_weights.specs.Denominators.{den_of}
 
 -- a weight as a number of parts 1 / d

@@ -9,7 +9,7 @@ use Rattle.parse_graph.specs.Graphs.{GraphView}
 use Rattle.tree_pool.specs.Pools.{PoolTree}
 use Rattle.master_laws.specs.Sharp.{UsesArtificial, AreFine, arc_weight}
 use Rattle.master_laws.specs.WholeCounts.{HasCounts}
-use Rattle.node_master.specs.declared.ends.Weight.{Weight}
+use Rattle.node_columns.specs.declared.weights.Weight.{Weight}
 use Rattle.node_master.specs.Ends.{AreLeastWeights}
 use Rattle.roster_split.specs.Counts.{count_of}
 use Rattle.arc_weights.specs.declared.weighed.Weighed.{Weighed}

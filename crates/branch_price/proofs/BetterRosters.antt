@@ -5,7 +5,7 @@ use Rattle.roster_model.specs.declared.instance.Cut.{Cut}
 use Rattle.roster_model.specs.declared.instance.Instance.{Instance}
 use Rattle.parse_graph.specs.Graphs.{GraphView}
 use Rattle.tree_pool.specs.Pools.{PoolTree, IsGrown}
-use Rattle.node_master.specs.declared.ends.Weight.{Weight}
+use Rattle.node_columns.specs.declared.weights.Weight.{Weight}
 use Rattle.candidate_rosters.specs.declared.roster.Roster.{Roster}
 use Rattle.offers.specs.Offers.{limit_of, IsBetter}
 use Rattle.open_nodes.specs.declared.leaf.Plan.{Plan}

@@ -18,7 +18,7 @@ use Rattle.parse_graph.specs.Graphs.{GraphView, IsGraph}
 use Rattle.parse_graph.proofs.PlacesLemmas.{in-graph, of-graph}
 use Rattle.parse_graph.proofs.ArcOrderLemmas.{sorted-arcs}
 use Rattle.tree_pool.specs.Pools.{PoolTree}
-use Rattle.node_master.specs.declared.ends.Weight.{Weight}
+use Rattle.node_columns.specs.declared.weights.Weight.{Weight}
 use Rattle.node_master.specs.Ends.{AreLeastWeights}
 use Rattle.roster_split.specs.Counts.{count_of}
 use Rattle.arc_weights.specs.Weighed.{IsBetween, AreWhole}

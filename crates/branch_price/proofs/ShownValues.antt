@@ -15,10 +15,11 @@ use Rattle.std.proofs.lemmas.Option.{slice_get_within}
 use Rattle.roster_model.specs.declared.grammar.Grammar.{Grammar}
 use Rattle.linear_programs.specs.Solution.{Weighted}
 use Rattle.master_laws.specs.Master.{MasterKey}
-use Rattle.node_master.specs.Ends.{IsNodeCut, AreWeights}
+use Rattle.node_columns.specs.Weights.{AreWeights}
+use Rattle.node_master.specs.Ends.{IsNodeCut}
 use Rattle.master_rows.specs.NodeRows.{IsSmallCut}
 use Rattle.tree_pool.specs.Pools.{PoolTree}
-use Rattle.node_master.specs.declared.ends.Weight.{Weight}
+use Rattle.node_columns.specs.declared.weights.Weight.{Weight}
 use Rattle.growing_laws.specs.States.{IsPricedNode}
 use Rattle.branch_price.specs.Steps.{IsSolved, IsShown}
 use Rattle.branch_price.proofs.Leaves.{AreLeafCuts}

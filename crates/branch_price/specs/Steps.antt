@@ -12,7 +12,7 @@ use Rattle.master_laws.specs.Laws.{IsBelowHeads}
 use Rattle.master_laws.specs.Rows.{rows_of}
 use Rattle.master_laws.specs.Sharp.{IsHard}
 use Rattle.tree_pool.specs.Pools.{PoolTree}
-use Rattle.node_master.specs.declared.ends.Weight.{Weight}
+use Rattle.node_columns.specs.declared.weights.Weight.{Weight}
 use Rattle.node_master.specs.Ends.{IsBest}
 use Rattle.growing_laws.specs.Grown.{Grown, fresh}
 use Rattle.open_nodes.specs.declared.leaf.OpenLeaf.{OpenLeaf}

@@ -53,12 +53,13 @@ use Rattle.tableau.specs.declared.simplex.LpFault.TheVariants.{Wide as LpWide, S
 use Rattle.tableau.specs.Ends.{AreBasicWeights, IsLpEnd, IsLpFault, HasLargeColumn}
 use Rattle.tableau.specs.Risen.{HasRisen}
 use Rattle.tree_pool.specs.Pools.{PoolTree}
+use Rattle.node_columns.specs.declared.desk.Held.{Held}
+use Rattle.node_columns.specs.declared.weights.Weight.{Weight}
+use Rattle.node_columns.specs.Columns.{HasKey}
+use Rattle.node_columns.specs.Priced.{AreNarrowPrices}
+use Rattle.node_columns.specs.Weights.{AreTreeWeights}
 use Rattle.node_master.specs.declared.ends.NodeEnd.{NodeEnd}
-use Rattle.node_master.specs.declared.ends.Weight.{Weight}
-use Rattle.node_master.specs.declared.desk.Held.{Held}
-use Rattle.node_master.specs.Columns.{HasKey}
-use Rattle.node_master.specs.Priced.{AreNarrowPrices}
-use Rattle.node_master.specs.Ends.{IsNodeCut, EndsRight, IsFailedBy, IsOther, IsBest, AreTreeWeights, ClosesWhole}
+use Rattle.node_master.specs.Ends.{IsNodeCut, EndsRight, IsFailedBy, IsOther, IsBest, ClosesWhole}
 
 -- a solution of least cost has the program's value
 least_value : {K : Type 0} (p : Program K) (v : ℤ) (q : ℕ) (ws : List (Weighted K)) (d : ℕ) → IsValue p v q → IsSolution p ws d → CostsLeast p ws d

@@ -1,7 +1,6 @@
 -- How the master of a node ends.
-use Rattle.std.specs.Prelude.{ℕ, ℤ, pos, unsigned_abs, ◌≡◌, ◌≤◌, ◌<◌, ◌-◌, ◌*ℤ◌, ◌+ℤ◌, ◌≤ℤ◌, ◌<ℤ◌, ◌⊎◌, Some, List, [], ◌∷◌, ◌++◌, length, slice_get, Result, Ok, IsErr}
+use Rattle.std.specs.Prelude.{ℕ, ℤ, pos, unsigned_abs, ◌≡◌, ◌≤◌, ◌<◌, ◌-◌, ◌*ℤ◌, ◌+ℤ◌, ◌≤ℤ◌, ◌<ℤ◌, ◌⊎◌, List, ◌++◌, length, Result, Ok, IsErr}
 use Rattle.roster_model.specs.declared.grammar.ArcKey.{ArcKey}
-use Rattle.roster_model.specs.declared.grammar.Grammar.{Grammar}
 use Rattle.roster_model.specs.declared.instance.Cut.{Cut}
 use Rattle.roster_model.specs.declared.instance.Instance.{Instance}
 use Rattle.roster_model.specs.declared.instance.Mult.{Mult}
@@ -22,17 +21,15 @@ use Rattle.bound_laws.specs.Priced.{IsPricedValue}
 use Rattle.bound_laws.specs.TreeRosters.{IsTreeRoster, trees_cost}
 use Rattle.master_laws.specs.Rows.{rows_of}
 use Rattle.master_laws.specs.Master.{MasterKey, missing, beyond, tree, master}
-use Rattle.master_laws.specs.Ends.{tree_first, tree_weights}
 use Rattle.master_laws.specs.Laws.{IsBelowHeads}
 use Rattle.master_laws.specs.Sharp.{UsesArtificial}
 use Rattle.master_laws.specs.WholeCounts.{HasCounts, HaveCounts}
-use Rattle.tableau.specs.declared.simplex.Basic.{Basic}
 use Rattle.tableau.specs.declared.simplex.LpFault.{LpFault}
 use Rattle.tableau.specs.declared.simplex.LpFault.TheVariants.{Wide as LpWide, Spent as LpSpent, Memory as LpMemory}
-use Rattle.tableau.specs.Ends.{AreBasicWeights}
 use Rattle.tableau.specs.Risen.{HasRisen}
-use Rattle.tree_pool.specs.Pools.{PoolTree, IsPoolTree}
-use Rattle.node_master.specs.declared.ends.Weight.{Weight}
+use Rattle.tree_pool.specs.Pools.{PoolTree}
+use Rattle.node_columns.specs.declared.weights.Weight.{Weight}
+use Rattle.node_columns.specs.Weights.{AreWeights}
 use Rattle.node_master.specs.declared.ends.Cause.TheVariants.{Rows, Wide, Spent}
 use Rattle.node_master.specs.declared.ends.NodeEnd.{NodeEnd}
 use Rattle.node_master.specs.declared.ends.NodeEnd.TheVariants.{Best, Failed}
@@ -42,43 +39,6 @@ pub record IsNodeCut (i : Instance) (c : Cut) : Type 0 where
   pub arc : IsArc i.grammar c.arc ⊎ ((r : ℕ) × (length i.grammar.rules - length i.groups < r)
       × (r ≤ length i.grammar.rules) × (c.arc ≡ group_arc i.grammar.periods r))
   pub few : c.b ≤ 63
-
--- the fraction is n / d
-abbrev pub IsShare : Frac → ℕ → ℕ → Type 0
-IsShare x n d = pos n *ℤ x.den ≡ x.num *ℤ pos d
-
--- a weight above 0 of a tree of the pool, as one in units of 1 / d
-pub record IsWeight (g : Grammar) (columns : List PoolTree) (d : ℕ) (x : Weight)
-    (w : Weighted MasterKey) : Type 0 where
-  pub held : PoolTree
-  pub column : slice_get columns x.column ≡ Some held
-  pub some : Parts
-  pub is : IsPoolTree g some held
-  pub key : w.key ≡ tree some
-  pub share : IsShare x.x w.weight d
-  pub positive : 0 < w.weight
-
-abbrev pub AreWeights : Grammar → List PoolTree → ℕ → List Weight → List (Weighted MasterKey) → Type 0
-AreWeights g columns d [] [] = Unit {0}
-AreWeights g columns d (x ∷ xs) (w ∷ ws) = IsWeight g columns d x w × AreWeights g columns d xs ws
-AreWeights g columns d [] (w ∷ ws) = ⊥
-AreWeights g columns d (x ∷ xs) [] = ⊥
-
--- the weights of a basic solution's trees, whatever its weights over d
-abbrev pub AreTreeWeights : Grammar → (ℕ → MasterKey → Type 0) → List PoolTree → List Basic → List Weight
-    → Type 0
-AreTreeWeights g Listed columns basic weights = (d : ℕ) (ws : List (Weighted MasterKey)) → 0 < d
-    → AreBasicWeights Listed d basic ws → AreWeights g columns d weights (tree_weights ws)
-
--- the weight is not among those above 0 of trees
-abbrev pub IsLeftOut : Weighted MasterKey → Type 0
-IsLeftOut w = (ws : List (Weighted MasterKey)) → tree_first w.key w.weight ws ≡ ws
-
--- the weight is one above 0 of a tree of the pool
-pub record IsTaken (g : Grammar) (columns : List PoolTree) (d : ℕ) (x : Weight)
-    (w : Weighted MasterKey) : Type 0 where
-  pub first : (ws : List (Weighted MasterKey)) → tree_first w.key w.weight ws ≡ w ∷ ws
-  pub is : IsWeight g columns d x w
 
 -- a column that is no tree
 abbrev pub IsOther : MasterKey → Type 0

@@ -1,7 +1,7 @@
 ghost use Rattle.std.specs.Prelude.{◌≡◌, length, IfOk};
 
-use crate::desk::Held;
 use master_rows::reduced_at;
+use node_columns::Held;
 use roster_model::Memory;
 use scout::Q24;
 use std::alloc::Global;

@@ -5,11 +5,10 @@ ghost use Rattle.roster_model.specs.SoundInstance.{IsSoundInstance};
 ghost use Rattle.master_laws.specs.Rows.{rows_of};
 ghost use Rattle.master_rows.specs.NodeRows.{AreRows};
 ghost use Rattle.tree_pool.specs.Pools.{PoolTree, IsPool};
-ghost use Rattle.node_master.specs.Columns.{IsDesk};
+ghost use Rattle.node_columns.specs.Columns.{IsDesk};
 
-use crate::desk::Desk;
-use crate::first::desk_of;
 use master_rows::NodeRows;
+use node_columns::{Desk, desk_of};
 use roster_model::{Cut, Instance, List, Memory};
 use std::alloc::Global;
 use tree_pool::Pool;

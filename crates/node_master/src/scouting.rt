@@ -1,6 +1,6 @@
 ghost use Rattle.std.specs.Prelude.{◌≡◌};
 
-use crate::desk::{Held, Kind};
+use node_columns::{Held, Kind};
 use pivot_rows::Place;
 use roster_model::{List, Memory};
 use scout::{Key, Limits, Scout, Scouted, Sign};

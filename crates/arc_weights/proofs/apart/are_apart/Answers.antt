@@ -1,6 +1,6 @@
 use Rattle.std.proofs.Common.{rules, ◌≢◌, ◌+◌, sym, subst, List}
 use Rattle.std.proofs.lemmas.List.{take_rest}
-use Rattle.node_master.specs.declared.ends.Weight.{Weight}
+use Rattle.node_columns.specs.declared.weights.Weight.{Weight}
 use Rattle.arc_weights.specs.Denominators.{AreApart}
 use Rattle.roster_model.specs.Folds.{Each}
 use Rattle.arc_weights.proofs.Steps.{cons_at}

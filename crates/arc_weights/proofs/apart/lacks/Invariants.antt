@@ -1,6 +1,6 @@
 use Rattle.std.proofs.Common.{◌≢◌, drop}
 use Rattle.roster_model.specs.Folds.{Each}
-use Rattle.node_master.specs.declared.ends.Weight.{Weight}
+use Rattle.node_columns.specs.declared.weights.Weight.{Weight}
 use Rattle.arc_weights.proofs.apart.lacks.Given as goal
 
 abbrev pub invariant-loop-weight : goal.invariant-loop-weight

@@ -1,5 +1,5 @@
 use Rattle.std.proofs.Common.{ℕ, ◌<◌, All}
-use Rattle.node_master.specs.declared.ends.Weight.{Weight}
+use Rattle.node_columns.specs.declared.weights.Weight.{Weight}
 use Rattle.branch_price.specs.Rounded.{AreFewer}
 use Rattle.branch_price.proofs.rounded.rounded.Given as goal
 

@@ -1,7 +1,7 @@
 use Rattle.std.proofs.Common.{◌≡◌, length}
 use Rattle.cheapest_tree.specs.Pricers.{IsMadeFor}
 use Rattle.tree_pool.specs.Pools.{IsPool, IsGrown}
-use Rattle.node_master.specs.Columns.{IsDesk}
+use Rattle.node_columns.specs.Columns.{IsDesk}
 use Rattle.node_master.proofs.hunt.ask_all.Given as goal
 
 abbrev pub invariant-loop-weight : goal.invariant-loop-weight

@@ -1,7 +1,7 @@
 use Rattle.std.proofs.Common.{◌≡◌, rules, to_z, of_z}
 use mir.Syntax.{w128}
 use Rattle.node_master.proofs.EndsLemmas.{best_end, basics_below, narrow_end, out_end}
-use Rattle.node_master.proofs.RowPrices.{few_cuts}
+use Rattle.node_columns.proofs.RowPrices.{few_cuts}
 use Rattle.node_master.proofs.solve.best_end.Goals as goal
 
 pub listed_weights-requires : goal.listed_weights-requires

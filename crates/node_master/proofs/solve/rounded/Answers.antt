@@ -4,7 +4,8 @@ use Rattle.roster_model.proofs.Mults.{nonzero-le}
 use Rattle.master_laws.specs.Rounding.{cell_lines, line_sums}
 use Rattle.master_laws.proofs.Signs.{cuts_signed}
 use Rattle.fraction.specs.Row.{at}
-use Rattle.node_master.proofs.RowPrices.{cell_part, numbers_part, not_wide, few_cuts}
+use Rattle.node_columns.proofs.RowPrices.{cell_part, few_cuts}
+use Rattle.node_master.proofs.RoundedRows.{numbers_part, not_wide}
 use Rattle.node_master.proofs.solve.rounded.Goals as goal
 
 pub to_prices-requires-clause-few : goal.to_prices-requires-clause-few

@@ -5,8 +5,8 @@ use Rattle.master_laws.specs.Rows.{rows_of}
 use Rattle.master_laws.specs.Master.{MasterKey, missing, master}
 use Rattle.master_laws.proofs.RowSums.{master_sound}
 use Rattle.master_laws.proofs.RowSizes.{small}
-use Rattle.node_master.specs.declared.desk.Kind.{Kind}
-use Rattle.node_master.specs.Columns.{NodeSite, HasKey, IsKey, site_program}
+use Rattle.node_columns.specs.declared.desk.Kind.{Kind}
+use Rattle.node_columns.specs.Columns.{NodeSite, HasKey, IsKey, site_program}
 use Rattle.node_master.proofs.EndsLemmas.{given_up, small_path}
 use Rattle.node_master.proofs.solve.solve_at.Goals as goal
 

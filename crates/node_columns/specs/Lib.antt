@@ -1,0 +1,4 @@
+pub mod Columns
+pub mod Kept
+pub mod Priced
+pub mod Weights

@@ -1,0 +1,49 @@
+-- The weights of the trees among the columns of a node's master.
+use Rattle.std.specs.Prelude.{ℕ, pos, ◌≡◌, ◌<◌, ◌*ℤ◌, Some, List, [], ◌∷◌, slice_get}
+use Rattle.roster_model.specs.declared.grammar.Grammar.{Grammar}
+use Rattle.roster_model.specs.Trees.{Parts}
+use Rattle.linear_programs.specs.Solution.{Weighted}
+use Rattle.fraction.specs.declared.frac.Frac.{Frac}
+use Rattle.master_laws.specs.Master.{MasterKey, tree}
+use Rattle.master_laws.specs.Ends.{tree_first, tree_weights}
+use Rattle.tableau.specs.declared.simplex.Basic.{Basic}
+use Rattle.tableau.specs.Ends.{AreBasicWeights}
+use Rattle.tree_pool.specs.Pools.{PoolTree, IsPoolTree}
+use Rattle.node_columns.specs.declared.weights.Weight.{Weight}
+
+-- the fraction is n / d
+abbrev pub IsShare : Frac → ℕ → ℕ → Type 0
+IsShare x n d = pos n *ℤ x.den ≡ x.num *ℤ pos d
+
+-- a weight above 0 of a tree of the pool, as one in units of 1 / d
+pub record IsWeight (g : Grammar) (columns : List PoolTree) (d : ℕ) (x : Weight)
+    (w : Weighted MasterKey) : Type 0 where
+  pub held : PoolTree
+  pub column : slice_get columns x.column ≡ Some held
+  pub some : Parts
+  pub is : IsPoolTree g some held
+  pub key : w.key ≡ tree some
+  pub share : IsShare x.x w.weight d
+  pub positive : 0 < w.weight
+
+abbrev pub AreWeights : Grammar → List PoolTree → ℕ → List Weight → List (Weighted MasterKey) → Type 0
+AreWeights g columns d [] [] = Unit {0}
+AreWeights g columns d (x ∷ xs) (w ∷ ws) = IsWeight g columns d x w × AreWeights g columns d xs ws
+AreWeights g columns d [] (w ∷ ws) = ⊥
+AreWeights g columns d (x ∷ xs) [] = ⊥
+
+-- the weights of a basic solution's trees, whatever its weights over d
+abbrev pub AreTreeWeights : Grammar → (ℕ → MasterKey → Type 0) → List PoolTree → List Basic → List Weight
+    → Type 0
+AreTreeWeights g Listed columns basic weights = (d : ℕ) (ws : List (Weighted MasterKey)) → 0 < d
+    → AreBasicWeights Listed d basic ws → AreWeights g columns d weights (tree_weights ws)
+
+-- the weight is not among those above 0 of trees
+abbrev pub IsLeftOut : Weighted MasterKey → Type 0
+IsLeftOut w = (ws : List (Weighted MasterKey)) → tree_first w.key w.weight ws ≡ ws
+
+-- the weight is one above 0 of a tree of the pool
+pub record IsTaken (g : Grammar) (columns : List PoolTree) (d : ℕ) (x : Weight)
+    (w : Weighted MasterKey) : Type 0 where
+  pub first : (ws : List (Weighted MasterKey)) → tree_first w.key w.weight ws ≡ w ∷ ws
+  pub is : IsWeight g columns d x w

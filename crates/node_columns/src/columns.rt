@@ -1,0 +1,129 @@
+use crate::desk::Desk;
+use crate::listed::{check_narrow, find_cheaper};
+use crate::trees::list_cheapest;
+use cheapest_tree::Pricer;
+use fraction::Tally;
+use master_rows::NodeRows;
+use parse_graph::Graph;
+use pivot_rows::Place;
+use roster_model::{Cut, Instance, Memory};
+use std::alloc::Global;
+use tableau::{Columns, ColumnsFault};
+use tree_pool::Pool;
+
+/// The columns of a node's master: all that it is made of is lent. After want of memory the listed
+/// columns are as before, and the pool may have grown.
+#[derive(Drop)]
+pub struct NodeColumns<'i, 'g, 'c, 'r, 'p, 'q, 'd> {
+    /// Where memory is taken.
+    pub alloc: Global,
+    /// The day.
+    pub instance: &'i Instance,
+    /// The graph of its parses.
+    pub graph: &'g Graph,
+    /// The node's path of cuts, base cuts first.
+    pub cuts: &'c [Cut],
+    /// The rows of its master, 1,500 at most.
+    pub rows: &'r NodeRows,
+    /// A pricer made for the graph.
+    pub pricer: &'p mut Pricer,
+    /// The trees that were found, which gets each one that is listed.
+    pub pool: &'q mut Pool,
+    /// The listed columns.
+    pub desk: &'d mut Desk,
+}
+
+impl<'i, 'g, 'c, 'r, 'p, 'q, 'd> Columns for NodeColumns<'i, 'g, 'c, 'r, 'p, 'q, 'd> {
+    ghost use Rattle.std.specs.Prelude.{length};
+    ghost use Rattle.master_laws.specs.Master.{MasterKey};
+    ghost use Rattle.node_columns.specs.Columns.{NodeSite, NodeState, site_program, Lists, IsReady, IsKept};
+    ghost use Rattle.node_columns.specs.Kept.{kept-same, kept-chain, kept-still};
+
+    ghost Key = { MasterKey };
+
+    ghost Site = { NodeSite };
+
+    ghost site = { λ s. record {
+      instance = s.instance.now;
+      cuts = s.cuts.now;
+      pricer = s.pricer.ghost_name;
+      pool = s.pool.ghost_name;
+    } };
+
+    ghost program = { site_program };
+
+    ghost State = { NodeState };
+
+    ghost state = { λ s. record {
+      instance = s.instance.now;
+      cuts = s.cuts.now;
+      graph = s.graph.now;
+      rows = s.rows.now;
+      pricer = s.pricer.now;
+      pool = s.pool.now;
+      desk = s.desk.now;
+    } };
+
+    ghost Ready = { IsReady };
+
+    ghost Lists = { Lists };
+
+    ghost size = { λ s. length s.desk.held };
+
+    ghost Kept = { IsKept };
+
+    ghost same = { kept-same };
+
+    ghost chain = { kept-chain };
+
+    ghost still = { kept-still };
+
+    fn rows(&self) -> usize {
+        self.rows.right().len()
+    }
+
+    fn count(&self) -> usize {
+        self.desk.held.len()
+    }
+
+    fn places(&self, column: usize) -> &[Place] {
+        self.desk.held.as_slice()[column].places.as_slice()
+    }
+
+    fn cost(&self, column: usize) -> i64 {
+        self.desk.held.as_slice()[column].cost
+    }
+
+    fn wanted(&self) -> &[u32] {
+        self.desk.wanted.as_slice()
+    }
+
+    fn price_out(
+        &mut self,
+        y: &[i128],
+        kappa: i128,
+        tally: &mut Tally,
+    ) -> Result<Option<usize>, ColumnsFault> {
+        if let Err(fault) = check_narrow(y, kappa, tally) {
+            return Err(ColumnsFault::Wide(fault));
+        }
+        if let Some(column) = find_cheaper(self.desk.held.as_slice(), y, kappa) {
+            return Ok(Some(column));
+        }
+        match list_cheapest(
+            self.alloc,
+            self.instance,
+            self.cuts,
+            self.graph,
+            self.rows,
+            y,
+            self.pricer,
+            self.pool,
+            self.desk,
+            kappa,
+        ) {
+            Ok(found) => Ok(found),
+            Err(Memory) => Err(ColumnsFault::Memory),
+        }
+    }
+}

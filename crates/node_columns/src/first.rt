@@ -1,0 +1,222 @@
+ghost use Rattle.std.specs.Prelude.{ℕ, ◌≡◌, ◌≤◌, ◌<◌, ◌+◌, ◌^◌, pos, [], ◌∷◌, All, List as Items, length, IfOk};
+ghost use Rattle.roster_model.specs.declared.instance.Cut.{Cut as PathCut};
+ghost use Rattle.roster_model.specs.declared.instance.Instance.{Instance as Day};
+ghost use Rattle.roster_model.specs.PriceRooms.{IsRoomFor};
+ghost use Rattle.roster_model.specs.Room.{most_uses};
+ghost use Rattle.roster_model.specs.SoundInstance.{IsSoundInstance};
+ghost use Rattle.bound_laws.specs.BestPrices.{artificial_cost};
+ghost use Rattle.master_laws.specs.Rows.{rows_of};
+ghost use Rattle.master_rows.specs.NodeRows.{AreRows};
+ghost use Rattle.tree_pool.specs.Pools.{PoolTree, IsPool};
+ghost use Rattle.node_columns.specs.Columns.{AreTold, HasMissing, HasBeyonds, HasMore, AreHeld, IsDesk, IsEmptyDesk};
+
+use crate::desk::{Desk, Held, Kind};
+use crate::trees::tree_column;
+use master_rows::NodeRows;
+use pivot_rows::Place;
+use roster_model::{Cut, Instance, List, Memory, PriceRoom, TreeRoom, greatest_cost};
+use std::alloc::Global;
+use tree_pool::Pool;
+
+/// Returns a list of one entry.
+fn one_place(alloc: Global, row: usize, value: i64) -> Result<List<Place>, Memory>
+    requires { row < 2 ^ 32 }
+    ensures { IfOk result (λ places. places ≡ record { row = row; value = value } ∷ []) }
+{
+    let mut places = List::new(alloc);
+    places.push(Place {
+        row: row as u32,
+        value,
+    })?;
+    Ok(places)
+}
+
+/// Returns what an artificial column costs.
+fn artificial_price(instance: &Instance) -> i64
+    requires { IsSoundInstance instance.now }
+    ensures { result ≡ pos (artificial_cost instance.now) }
+{
+    let price = 64 * (greatest_cost(instance) + 1);
+    price as i64
+}
+
+/// Lists the column of what is missing in each row, in the order of the rows.
+fn add_missing(
+    alloc: Global,
+    rows: &NodeRows,
+    artificial: i64,
+    held: &mut List<Held>,
+) -> Result<(), Memory>
+    requires rows { (i : Day) × (cuts : Items PathCut) × AreRows i cuts rows.now
+        × (length (rows_of i cuts) ≤ 1500)
+        × (artificial ≡ pos (artificial_cost i)) }
+    requires none { held.old ≡ [] }
+    ensures { IfOk result (λ _. (i : Day) (cuts : Items PathCut) → AreRows i cuts rows.now →
+        artificial ≡ pos (artificial_cost i) → (pool : Items PoolTree) →
+        AreTold i cuts pool held.new × HasMissing (length (rows_of i cuts)) held.new) }
+{
+    for row in 0..rows.right().len() {
+        held.push(Held {
+            kind: Kind::Missing(row),
+            places: one_place(alloc, row, 1)?,
+            cost: rows.missing_cost(row, artificial),
+        })?;
+    }
+    Ok(())
+}
+
+/// Lists the column of what is beyond in each row that has one.
+fn add_beyond(alloc: Global, rows: &NodeRows, held: &mut List<Held>) -> Result<(), Memory>
+    requires rows { (i : Day) × (cuts : Items PathCut) × AreRows i cuts rows.now
+        × (length (rows_of i cuts) ≤ 1500) }
+    ensures more { HasMore held.old held.new }
+    ensures listed { IfOk result (λ _. (i : Day) (cuts : Items PathCut) → AreRows i cuts rows.now →
+        (pool : Items PoolTree) → AreTold i cuts pool held.old →
+        AreTold i cuts pool held.new × HasBeyonds i cuts (length (rows_of i cuts)) held.new) }
+{
+    for row in 0..rows.right().len() {
+        if let Some(cost) = rows.beyond_cost(row) {
+            held.push(Held {
+                kind: Kind::Beyond(row),
+                places: one_place(alloc, row, -1)?,
+                cost,
+            })?;
+        }
+    }
+    Ok(())
+}
+
+/// Lists a tree of the pool, and lists it as wanted.
+fn add_tree(
+    alloc: Global,
+    cuts: &[Cut],
+    rows: &NodeRows,
+    pool: &Pool,
+    tree: usize,
+    held: &mut List<Held>,
+    wanted: &mut List<u32>,
+) -> Result<(), Memory>
+    requires tree { tree < length pool.now }
+    requires wanted { All (λ (j : ℕ). j < length held.old) wanted.old }
+    ensures more { HasMore held.old held.new }
+    ensures wanted { IfOk result (λ _. All (λ (j : ℕ). j < length held.new) wanted.new) }
+    ensures listed { IfOk result (λ _. (i : Day) → AreRows i cuts.now rows.now → IsPool i.grammar pool.now →
+        AreTold i cuts.now pool.now held.old → AreTold i cuts.now pool.now held.new) }
+{
+    let column = held.len();
+    held.push(tree_column(alloc, cuts, rows, pool, tree)?)?;
+    if let Ok(number) = u32::try_from(column) {
+        wanted.push(number)?;
+    }
+    Ok(())
+}
+
+/// Lists trees of the pool, and lists them as wanted; numbers beyond the pool are left out.
+fn add_trees(
+    alloc: Global,
+    cuts: &[Cut],
+    rows: &NodeRows,
+    pool: &Pool,
+    trees: &[usize],
+    held: &mut List<Held>,
+    wanted: &mut List<u32>,
+) -> Result<(), Memory>
+    requires wanted { All (λ (j : ℕ). j < length held.old) wanted.old }
+    ensures more { HasMore held.old held.new }
+    ensures wanted { IfOk result (λ _. All (λ (j : ℕ). j < length held.new) wanted.new) }
+    ensures listed { IfOk result (λ _. (i : Day) → AreRows i cuts.now rows.now → IsPool i.grammar pool.now →
+        AreTold i cuts.now pool.now held.old → AreTold i cuts.now pool.now held.new) }
+{
+    for tree in trees {
+        if *tree < pool.len() {
+            add_tree(alloc, cuts, rows, pool, *tree, held, wanted)?;
+        }
+    }
+    Ok(())
+}
+
+/// Lists the rows' own columns, and then the wanted trees of the pool.
+fn list_columns(
+    alloc: Global,
+    instance: &Instance,
+    cuts: &[Cut],
+    rows: &NodeRows,
+    pool: &Pool,
+    trees: &[usize],
+    held: &mut List<Held>,
+    wanted: &mut List<u32>,
+) -> Result<(), Memory>
+    requires sound { IsSoundInstance instance.now }
+    requires rows { AreRows instance.now cuts.now rows.now }
+    requires small { length (rows_of instance.now cuts.now) ≤ 1500 }
+    requires pool { IsPool instance.now.grammar pool.now }
+    requires none { held.old ≡ [] }
+    requires unwanted { wanted.old ≡ [] }
+    ensures held { IfOk result (λ _. AreHeld instance.now cuts.now pool.now held.new) }
+    ensures wanted { IfOk result (λ _. All (λ (j : ℕ). j < length held.new) wanted.new) }
+{
+    add_missing(alloc, rows, artificial_price(instance), held)?;
+    add_beyond(alloc, rows, held)?;
+    add_trees(alloc, cuts, rows, pool, trees, held, wanted)?;
+    Ok(())
+}
+
+/// Returns how many numbers the prices of the rows make by cells and cuts: one for each cell, for both
+/// rows of the heads and for each cut.
+pub fn numbers_of(instance: &Instance, cuts: &[Cut]) -> usize
+    requires sound { IsSoundInstance instance.now }
+    requires small { length (rows_of instance.now cuts.now) ≤ 1500 }
+    ensures { result ≡ length instance.now.cells + 2 + length cuts.now }
+{
+    instance.cells.len() + 2 + cuts.len()
+}
+
+/// Returns a desk for the node at a path of cuts, at which no column is listed.
+fn empty_desk(alloc: Global, instance: &Instance, cuts: &[Cut]) -> Result<Desk, Memory>
+    requires sound { IsSoundInstance instance.now }
+    requires small { length (rows_of instance.now cuts.now) ≤ 1500 }
+    ensures { IfOk result (IsEmptyDesk instance.now cuts.now) }
+{
+    let count = numbers_of(instance, cuts);
+    let Ok(numbers) = vec![in alloc; 0i128; count] else {
+        return Err(Memory);
+    };
+    Ok(Desk {
+        held: List::new(alloc),
+        wanted: List::new(alloc),
+        prices: PriceRoom::for_cuts(alloc, instance, cuts.len())?,
+        tree: TreeRoom::for_grammar(alloc, &instance.grammar)?,
+        numbers,
+    })
+}
+
+/// Returns a desk for the node at a path of cuts, with the rows' own columns and these trees of the
+/// pool listed, and the trees wanted. Numbers beyond the pool are left out. Nothing is kept after
+/// want of memory.
+pub fn desk_of(
+    alloc: Global,
+    instance: &Instance,
+    cuts: &[Cut],
+    rows: &NodeRows,
+    pool: &Pool,
+    trees: &[usize],
+) -> Result<Desk, Memory>
+    requires sound { IsSoundInstance instance.now }
+    requires rows { AreRows instance.now cuts.now rows.now }
+    requires small { length (rows_of instance.now cuts.now) ≤ 1500 }
+    requires pool { IsPool instance.now.grammar pool.now }
+    ensures { IfOk result (IsDesk instance.now cuts.now pool.now) }
+{
+    let mut desk = empty_desk(alloc, instance, cuts)?;
+    list_columns(
+        alloc,
+        instance,
+        cuts,
+        rows,
+        pool,
+        trees,
+        &mut desk.held,
+        &mut desk.wanted,
+    )?;
+    Ok(desk)
+}

@@ -1,0 +1,17 @@
+//! The columns of the master of one node: trees and the rows' own, listed on a desk, found by a
+//! cheapest tree, and their weights.
+#![tactic(auto)]
+
+mod columns;
+mod desk;
+mod first;
+mod listed;
+mod trees;
+mod weights;
+
+pub use columns::NodeColumns;
+pub use desk::{Desk, Held, Kind};
+pub use first::{desk_of, numbers_of};
+pub use listed::first_wide;
+pub use trees::list_cheapest;
+pub use weights::{Weight, tree_weights};

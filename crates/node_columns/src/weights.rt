@@ -1,0 +1,62 @@
+ghost use Rattle.std.specs.Prelude.{ℕ, ◌<◌, List as Items, length, All, IfOk, IfSome, IfNone};
+ghost use Rattle.linear_programs.specs.Solution.{Weighted};
+ghost use Rattle.master_laws.specs.Master.{MasterKey};
+ghost use Rattle.tableau.specs.Ends.{IsBasicWeight};
+ghost use Rattle.roster_model.specs.declared.grammar.Grammar.{Grammar as Rules};
+ghost use Rattle.tableau.specs.declared.simplex.Basic.{Basic as BasicColumn};
+ghost use Rattle.tree_pool.specs.Pools.{PoolTree};
+ghost use Rattle.node_columns.specs.Columns.{HasKey};
+ghost use Rattle.node_columns.specs.Weights.{AreTreeWeights, IsLeftOut, IsTaken};
+
+use crate::desk::{Held, Kind};
+use fraction::Frac;
+use roster_model::{List, Memory};
+use std::alloc::Global;
+use tableau::Basic;
+
+/// The weight of a tree of the pool.
+#[derive(Clone, Copy, Debug, PartialEq, Eq, Drop)]
+pub struct Weight {
+    /// The number of the tree in the pool.
+    pub column: usize,
+    /// Its weight, above 0.
+    pub x: Frac,
+}
+
+/// Returns the weight of a basic column where it is a tree's and above 0.
+fn tree_weight(held: &[Held], basic: &Basic) -> Option<Weight>
+    requires { basic.now.col < length held.now }
+    ensures none { IfNone result ((g : Rules) (pool : Items PoolTree) (d : ℕ) (w : Weighted MasterKey)
+        → 0 < d →
+        IsBasicWeight (HasKey g pool held.now) d basic.now w → IsLeftOut w) }
+    ensures some { IfSome result (λ x. (g : Rules) (pool : Items PoolTree) (d : ℕ)
+        (w : Weighted MasterKey) → 0 < d →
+        IsBasicWeight (HasKey g pool held.now) d basic.now w → IsTaken g pool d x w) }
+{
+    let Kind::OfTree(tree) = held[basic.col].kind else {
+        return None;
+    };
+    if basic.x.num() == 0 {
+        return None;
+    }
+    Some(Weight {
+        column: tree,
+        x: basic.x,
+    })
+}
+
+/// Returns the weights above 0 of trees among those of basic columns, in the order of these; `held` are
+/// the columns that are listed. Nothing is kept after want of memory.
+pub fn tree_weights(alloc: Global, held: &[Held], basic: &[Basic]) -> Result<List<Weight>, Memory>
+    requires { All (λ (b : BasicColumn). b.col < length held.now) basic.now }
+    ensures { IfOk result (λ weights. (g : Rules) (pool : Items PoolTree) →
+        AreTreeWeights g (HasKey g pool held.now) pool basic.now weights) }
+{
+    let mut weights = List::new(alloc);
+    for one in basic {
+        if let Some(weight) = tree_weight(held, one) {
+            weights.push(weight)?;
+        }
+    }
+    Ok(weights)
+}
