@@ -25,7 +25,7 @@ const ADDED: [RuleParts<'static>; 3] = [
     (2, 0, &[S], ANY),
 ];
 
-const CASES: [Case<'static>; 10] = [
+static CASES: [Case<'static>; 10] = [
     ("as it is", &NAMES, &FULL_DAYS, 0, true),
     ("with the added name", &ADDED_NAMES, &ADDED, 2, true),
     ("the added name is no start", &ADDED_NAMES, &ADDED, 0, false),
@@ -82,13 +82,23 @@ const CODE: CodeDef = CodeDef {
     work: true,
 };
 
-const TWICE: [CodeDef; 2] = [CODE, CODE];
+static TWICE: [CodeDef; 2] = [CODE, CODE];
+
+/// Whether the grammar is sound once it has these codes.
+fn is_sound_by(alloc: Global, grammar: &mut Grammar, codes: &[CodeDef]) -> Result<bool, Fail> {
+    grammar.codes = List::from_vec(codes.to_vec(alloc)?);
+    Ok(is_sound(grammar))
+}
+
+/// Whether the grammar of full days is sound by these codes.
+fn are_sound_codes(alloc: Global, codes: &[CodeDef]) -> Result<bool, Fail> {
+    let mut grammar = grammar(alloc, 2, &NAMES, &FULL_DAYS, 0)?;
+    is_sound_by(alloc, &mut grammar, codes)
+}
 
 #[test]
 fn a_code_stands_once(rt: HostRuntime) -> Result<(), Fail> {
-    let mut grammar = grammar(rt.alloc(), 2, &NAMES, &FULL_DAYS, 0)?;
-    grammar.codes = List::from_vec(TWICE.to_vec(rt.alloc())?);
-    assert!(rt; !is_sound(&grammar));
+    assert!(rt; !are_sound_codes(rt.alloc(), &TWICE)?);
     Ok(())
 }
 
@@ -127,11 +137,28 @@ fn has_room(alloc: Global, grammar: &Grammar) -> Result<bool, Fail> {
     Ok(holds(&mut room))
 }
 
+/// The grammar of one block of work.
+pub fn one_block(alloc: Global) -> Result<Grammar, Memory> {
+    grammar(alloc, 4, &BLOCK_NAMES, &BLOCKS, 0)
+}
+
+/// Whether the grammar has these ranks, and a room for its trees.
+fn has_ranks_and_room(alloc: Global, grammar: &Grammar, ranks: [u8; 4]) -> Result<bool, Fail> {
+    if !are_ranks(grammar, ranks) {
+        return Ok(false);
+    }
+    has_room(alloc, grammar)
+}
+
+/// Whether the grammar of one block has these ranks, and a room for its trees.
+fn is_of_one_block(alloc: Global, ranks: [u8; 4]) -> Result<bool, Fail> {
+    let grammar = one_block(alloc)?;
+    has_ranks_and_room(alloc, &grammar, ranks)
+}
+
 #[test]
 fn one_block_of_work(rt: HostRuntime) -> Result<(), Fail> {
-    let grammar = grammar(rt.alloc(), 4, &BLOCK_NAMES, &BLOCKS, 0)?;
-    assert!(rt; are_ranks(&grammar, [0, 1, 0, 2]));
-    assert!(rt; has_room(rt.alloc(), &grammar)?);
+    assert!(rt; is_of_one_block(rt.alloc(), [0, 1, 0, 2])?);
     Ok(())
 }
 

@@ -2,12 +2,13 @@ ghost use Rattle.std.specs.Prelude.{◌≡◌, length};
 ghost use Rattle.roster_model.specs.PriceRooms.{IsRoomFor};
 ghost use Rattle.roster_model.specs.SoundInstance.{IsSoundInstance};
 
+use crate::grammars::one_block;
 use roster_model::{
     ArcKey, Cell, Cut, Grammar, Group, Instance, LetterPrice, List, Memory, Mult, PriceRoom,
     Prices, Rule, Shift, Side, Sym, covered, greatest_cost, is_sound_instance, penalty,
     rounding_loss,
 };
-use sample_days::{ANY, BLOCK_NAMES, BLOCKS, DayParts, day, grammar};
+use sample_days::{ANY, BLOCK_NAMES, BLOCKS, DayParts, day};
 use std::alloc::{AllocError, Global};
 use std::test::Fail;
 
@@ -76,7 +77,7 @@ const PLAIN_CASE: Case<'static> = Case {
     sound: true,
 };
 
-const PLAIN_CASES: [Case<'static>; 5] = [
+static PLAIN_CASES: [Case<'static>; 5] = [
     PLAIN_CASE,
     Case {
         what: "no demand",
@@ -103,7 +104,7 @@ const PLAIN_CASES: [Case<'static>; 5] = [
     },
 ];
 
-const CELL_CASES: [Case<'static>; 4] = [
+static CELL_CASES: [Case<'static>; 4] = [
     Case {
         what: "periods out of order",
         cells: &[SECOND, CELL],
@@ -139,7 +140,7 @@ const GROUPED: Case<'static> = Case {
     sound: true,
 };
 
-const GROUP_CASES: [Case<'static>; 5] = [
+static GROUP_CASES: [Case<'static>; 5] = [
     GROUPED,
     Case {
         what: "other sums",
@@ -214,11 +215,16 @@ fn day_of(alloc: Global, case: &Case<'_>) -> Result<Instance, Memory> {
     day(alloc, &parts)
 }
 
+/// Whether a day, whose grammar is extended, is as sound as it is said to be.
+fn is_right_extended(alloc: Global, day: &mut Instance, case: &Case<'_>) -> Result<bool, Fail> {
+    extend(alloc, &mut day.grammar, case.leads)?;
+    Ok(is_sound_instance(day) == case.sound)
+}
+
 /// Whether the instance is as sound as it is said to be.
 fn is_right(alloc: Global, case: &Case<'_>) -> Result<bool, Fail> {
     let mut day = day_of(alloc, case)?;
-    extend(alloc, &mut day.grammar, case.leads)?;
-    Ok(is_sound_instance(&day) == case.sound)
+    is_right_extended(alloc, &mut day, case)
 }
 
 fn show_all(alloc: Global, cases: &[Case<'_>]) -> Result<(), Fail> {
@@ -254,7 +260,7 @@ fn penalties_by_hand(rt: HostRuntime) {
     }
 }
 
-const ONE_DAY: DayParts<'static> = DayParts {
+static ONE_DAY: DayParts<'static> = DayParts {
     periods: 1,
     cells: &[CELL],
     ..PLAIN
@@ -271,7 +277,7 @@ fn the_greatest_cost_by_hand(rt: HostRuntime) -> Result<(), Fail> {
     Ok(())
 }
 
-const THREE_DAY: DayParts<'static> = DayParts {
+static THREE_DAY: DayParts<'static> = DayParts {
     periods: 3,
     heads: (0, 3),
     cells: &[CELL, SECOND, THIRD],
@@ -329,15 +335,19 @@ fn are_covered(alloc: Global, grammar: &Grammar) -> Result<bool, Fail> {
     Ok(true)
 }
 
+fn is_one_block_covered(alloc: Global) -> Result<bool, Fail> {
+    let grammar = one_block(alloc)?;
+    are_covered(alloc, &grammar)
+}
+
 #[test]
 fn coverage_of_words(rt: HostRuntime) -> Result<(), Fail> {
-    let grammar = grammar(rt.alloc(), 4, &BLOCK_NAMES, &BLOCKS, 0)?;
-    assert!(rt; are_covered(rt.alloc(), &grammar)?);
+    assert!(rt; is_one_block_covered(rt.alloc())?);
     Ok(())
 }
 
 /// A day of two periods without demand.
-const FREE_DAY: DayParts<'static> = DayParts {
+static FREE_DAY: DayParts<'static> = DayParts {
     cells: &[],
     ..PLAIN
 };
@@ -398,9 +408,13 @@ fn tells_both(alloc: Global, day: &Instance) -> Result<bool, Fail> {
     Ok(tells_a_multiplier(alloc, day, &mut room)? && tells_no_multiplier(alloc, day, &mut room))
 }
 
+fn tells_both_of(alloc: Global, parts: &DayParts) -> Result<bool, Fail> {
+    let day = day(alloc, parts)?;
+    tells_both(alloc, &day)
+}
+
 #[test]
 fn a_room_holds_the_last_prices(rt: HostRuntime) -> Result<(), Fail> {
-    let day = day(rt.alloc(), &FREE_DAY)?;
-    assert!(rt; tells_both(rt.alloc(), &day)?);
+    assert!(rt; tells_both_of(rt.alloc(), &FREE_DAY)?);
     Ok(())
 }

@@ -1,10 +1,9 @@
 use made_days::make_instance;
-use roster_model::Cell;
-use std::process::Abort;
+use roster_model::{Cell, Grammar, Instance};
 use std::test::Fail;
 
 /// The needs of the day of 7, first of `a` and then of `b`.
-const NEEDS: [u32; 52] = [
+static NEEDS: [u32; 52] = [
     1, 1, 3, 0, 0, 3, 2, 3, 3, 0, 0, 1, 2, 1, 3, 0, 3, 0, 1, 2, 2, 1, 0, 0, 1, 1, 1, 1, 1, 2, 1, 2,
     2, 0, 1, 1, 0, 1, 2, 1, 2, 2, 2, 0, 2, 2, 0, 2, 0, 2, 2, 2,
 ];
@@ -16,26 +15,30 @@ fn have_needs(cells: &[Cell], needs: &[u32]) -> bool {
         .all(|(cell, need)| cell.need == *need)
 }
 
+/// Whether the day has 26 periods and 15 rules, and one of them costs 17.
+fn is_grammar_of_seven(grammar: &Grammar) -> bool {
+    grammar.periods == 26
+        && grammar.rules.len() == 15
+        && grammar.rules.as_slice().iter().any(|rule| rule.cost == 17)
+}
+
+/// Whether each cell has its need, and they all cost the same.
+fn are_cells_of_seven(cells: &[Cell]) -> bool {
+    cells.len() == 52
+        && have_needs(cells, &NEEDS)
+        && cells.iter().all(|cell| cell.under == 26 && cell.over == 1)
+}
+
+fn is_day_of_seven(day: &Instance) -> bool {
+    is_grammar_of_seven(&day.grammar)
+        && day.heads_min == 0
+        && day.heads_max == 10
+        && are_cells_of_seven(day.cells.as_slice())
+}
+
 #[test]
-fn day_of_seven(rt: HostRuntime) {
-    let day = make_instance(rt.alloc(), 7).expect(&rt, "the day of 7");
-    assert_eq!(rt; day.grammar.periods, 26);
-    assert_eq!(rt; day.grammar.rules.len(), 15);
-    assert_eq!(rt; day.heads_min, 0);
-    assert_eq!(rt; day.heads_max, 10);
-    assert_eq!(rt; day.cells.len(), 52);
-    assert!(rt; have_needs(day.cells.as_slice(), &NEEDS));
-    assert!(rt;
-        day.cells
-            .as_slice()
-            .iter()
-            .all(|cell| cell.under == 26 && cell.over == 1)
-    );
-    assert!(rt;
-        day.grammar
-            .rules
-            .as_slice()
-            .iter()
-            .any(|rule| rule.cost == 17)
-    );
+fn day_of_seven(rt: HostRuntime) -> Result<(), Fail> {
+    let day = make_instance(rt.alloc(), 7)?;
+    assert!(rt; is_day_of_seven(&day));
+    Ok(())
 }

@@ -3,6 +3,16 @@ use span_forms::{SpanIndex, may_stand};
 
 const ALL: Window = Window { lo: 1, hi: 96 };
 
+/// Whether the rule may stand on the spans of a day of four periods that it should.
+fn stands_as_it_should(rule: &Rule) -> bool {
+    for (start, len, stands) in [(2, 2, true), (2, 3, false), (1, 3, true), (1, 1, false)] {
+        if may_stand(rule, 4, start, len) != stands {
+            return false;
+        }
+    }
+    true
+}
+
 #[test]
 fn stands_within_its_windows(rt: HostRuntime) {
     let rule = Rule {
@@ -13,18 +23,23 @@ fn stands_within_its_windows(rt: HostRuntime) {
         first: ALL,
         last: Window { lo: 1, hi: 3 },
     };
-    for (start, len, stands) in [(2, 2, true), (2, 3, false), (1, 3, true), (1, 1, false)] {
-        assert_eq!(rt; may_stand(&rule, 4, start, len), stands, "at {start} {len}");
+    assert!(rt; stands_as_it_should(&rule));
+}
+
+/// Whether the places of a day of four periods and their spans are told from each other.
+fn are_places_of_spans() -> bool {
+    let spans = SpanIndex::new(4);
+    for (place, span) in [(0, (1, 1)), (3, (4, 1)), (4, (1, 2)), (9, (1, 4))] {
+        if spans.place(span.0, span.1) != place || spans.span(place) != span {
+            return false;
+        }
     }
+    true
 }
 
 #[test]
 fn numbers_every_span(rt: HostRuntime) {
     assert_eq!(rt; SpanIndex::new(96).count(), 4656);
-    let spans = SpanIndex::new(4);
-    assert_eq!(rt; spans.count(), 10);
-    for (place, span) in [(0, (1, 1)), (3, (4, 1)), (4, (1, 2)), (9, (1, 4))] {
-        assert_eq!(rt; spans.place(span.0, span.1), place, "of {place}");
-        assert!(rt; spans.span(place) == span, "at {place}");
-    }
+    assert_eq!(rt; SpanIndex::new(4).count(), 10);
+    assert!(rt; are_places_of_spans());
 }

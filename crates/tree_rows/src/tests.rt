@@ -33,6 +33,9 @@ const IDLE: Sym = Sym::Name(2);
 
 const BLOCK_PARTS: Parts<'static> = (4, &BLOCK_NAMES, &BLOCKS);
 
+/// The day of one block.
+static BLOCK_DAY: Parts<'static> = BLOCK_PARTS;
+
 const FULL_PARTS: Parts<'static> = (2, &["S", "T"], &FULL_DAYS);
 
 const CHAIN: [RuleParts<'static>; 3] = [
@@ -57,7 +60,7 @@ const BLOCK_WORDS: [Priced<'static>; 4] = [
 type Row<'a> = (Parts<'a>, &'a [Priced<'a>]);
 
 /// One block, the lesser of two trees, and the sum down a chain.
-const WORDS: [Row<'static>; 3] = [
+static WORDS: [Row<'static>; 3] = [
     (BLOCK_PARTS, &BLOCK_WORDS),
     (FULL_PARTS, &[("aa", Some(3))]),
     (CHAIN_PARTS, &[("aa", Some(211))]),
@@ -114,54 +117,91 @@ fn prices_of_words(rt: HostRuntime) -> Result<(), Fail> {
     Ok(())
 }
 
-/// Writes a tree of least sum of a word into the room.
-fn write_tree(
-    alloc: Global,
-    grammar: &Grammar,
-    word: &[u8],
-    room: &mut TreeRoom,
-) -> Result<(), Fail>
+/// Whether a word has a tree, and one of least sum is written into the room.
+fn writes_tree(grammar: &Grammar, table: &mut Table, word: &[u8], room: &mut TreeRoom) -> bool
     requires sound { IsSound grammar.now }
+    requires made { IsMadeFor grammar.now table.old }
     requires room { room.old.most ≡ most_uses grammar.now }
 {
-    let mut table = Table::for_instance(alloc, grammar)?;
     let prices = WordPrices::new(grammar, word);
     if table.least(grammar, &prices).is_none() {
-        return Err(Fail::from("no tree"));
+        return false;
     }
     table.tree(grammar, &prices, room);
-    Ok(())
+    true
+}
+
+/// Whether these are the steps of the tree that the table finds for a word.
+fn finds_tree(
+    alloc: Global,
+    grammar: &Grammar,
+    table: &mut Table,
+    word: &[u8],
+    steps: &[Step],
+) -> Result<bool, Fail>
+    requires sound { IsSound grammar.now }
+    requires made { IsMadeFor grammar.now table.old }
+{
+    let mut room = TreeRoom::for_grammar(alloc, grammar)?;
+    Ok(writes_tree(grammar, table, word, &mut room) && room.steps() == steps)
 }
 
 /// Whether these are the steps of the tree that is found for a word.
 fn is_tree_of(alloc: Global, grammar: &Grammar, word: &[u8], steps: &[Step]) -> Result<bool, Fail>
     requires { IsSound grammar.now }
 {
-    let mut room = TreeRoom::for_grammar(alloc, grammar)?;
-    write_tree(alloc, grammar, word, &mut room)?;
-    Ok(room.steps() == steps)
+    let mut table = Table::for_instance(alloc, grammar)?;
+    finds_tree(alloc, grammar, &mut table, word, steps)
+}
+
+/// Whether a word has a tree of these steps on the day of one block.
+fn has_tree(alloc: Global, word: &[u8], steps: &[Step]) -> Result<bool, Fail> {
+    let grammar = sound_grammar(alloc, &BLOCK_DAY)?;
+    is_tree_of(alloc, &grammar, word, steps)
 }
 
 /// The rules of the tree of `.aa.`, with the starts and lengths of their spans.
-const USES: [(u8, u8, u8); 6] = [
-    (4, 1, 4),
-    (8, 1, 1),
-    (5, 2, 2),
-    (7, 2, 2),
-    (6, 3, 1),
-    (8, 4, 1),
+static USES: [Step; 6] = [
+    Step {
+        rule: 4,
+        start: 1,
+        len: 4,
+    },
+    Step {
+        rule: 8,
+        start: 1,
+        len: 1,
+    },
+    Step {
+        rule: 5,
+        start: 2,
+        len: 2,
+    },
+    Step {
+        rule: 7,
+        start: 2,
+        len: 2,
+    },
+    Step {
+        rule: 6,
+        start: 3,
+        len: 1,
+    },
+    Step {
+        rule: 8,
+        start: 4,
+        len: 1,
+    },
 ];
 
 #[test]
 fn the_tree_of_a_word(rt: HostRuntime) -> Result<(), Fail> {
-    let grammar = sound_grammar(rt.alloc(), &BLOCK_PARTS)?;
-    let steps = USES.map(|(rule, start, len)| Step { rule, start, len });
-    assert!(rt; is_tree_of(rt.alloc(), &grammar, b".aa.", steps.as_slice())?);
+    assert!(rt; has_tree(rt.alloc(), b".aa.", &USES)?);
     Ok(())
 }
 
 // The arcs of the days of one block, in order.
-const ARCS: [(u8, u8, u8, u8, u8); 24] = [
+static ARCS: [(u8, u8, u8, u8, u8); 24] = [
     (2, 0, 1, 4, 1),
     (2, 0, 1, 4, 2),
     (3, 0, 1, 4, 2),
@@ -189,7 +229,7 @@ const ARCS: [(u8, u8, u8, u8, u8); 24] = [
 ];
 
 // Keys that are no arcs of these days.
-const OTHERS: [(u8, u8, u8, u8, u8); 6] = [
+static OTHERS: [(u8, u8, u8, u8, u8); 6] = [
     (1, 0, 1, 4, 4),
     (4, 1, 1, 3, 2),
     (6, 0, 1, 1, 1),
@@ -249,9 +289,14 @@ fn tells_arcs(alloc: Global, grammar: &Grammar) -> Result<bool, Fail>
     Ok(are_in_order(grammar, &arcs) && are_others_none(grammar, &arcs))
 }
 
+/// Whether that holds of the arcs of the day of one block.
+fn tells_arcs_of_one_block(alloc: Global) -> Result<bool, Fail> {
+    let grammar = sound_grammar(alloc, &BLOCK_DAY)?;
+    tells_arcs(alloc, &grammar)
+}
+
 #[test]
 fn the_arcs_of_one_block(rt: HostRuntime) -> Result<(), Fail> {
-    let grammar = sound_grammar(rt.alloc(), &BLOCK_PARTS)?;
-    assert!(rt; tells_arcs(rt.alloc(), &grammar)?);
+    assert!(rt; tells_arcs_of_one_block(rt.alloc())?);
     Ok(())
 }
