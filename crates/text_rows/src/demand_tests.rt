@@ -1,9 +1,12 @@
 ghost use Rattle.std.specs.Prelude.{IfOk};
+ghost use Rattle.roster_model.specs.Sound.{IsSound, IsPlain};
 ghost use Rattle.roster_model.specs.SoundInstance.{IsSoundInstance};
 
 use crate::grammars::{GrammarParts, grammar};
-use demand_text::{DemandFault, fault_line, read_demand, write_demand};
-use roster_model::{Cell, CodeDef, Grammar, Group, Instance, List, Rule, Sym, is_plain, is_sound};
+use demand_text::{fault_line, read_demand, write_demand};
+use roster_model::{
+    Cell, CodeDef, Grammar, Group, Instance, List, Memory, Rule, Sym, is_plain, is_sound,
+};
 use std::alloc::{AllocError, Global};
 use std::test::Fail;
 
@@ -62,25 +65,41 @@ fn day(alloc: Global) -> Result<Grammar, AllocError> {
     grammar(alloc, &DAY)
 }
 
-fn instance(alloc: Global, text: &[u8]) -> Result<Result<Instance, DemandFault>, Fail>
-    ensures { IfOk result (λ read. IfOk read IsSoundInstance) }
+// The same, which is sound and plain.
+fn sound_day(alloc: Global) -> Result<Grammar, Fail>
+    ensures sound { IfOk result IsSound }
+    ensures plain { IfOk result IsPlain }
 {
     let grammar = day(alloc)?;
-    if !is_sound(&grammar) {
-        return Err(Fail::from("not sound"));
+    if is_sound(&grammar) && is_plain(&grammar) {
+        return Ok(grammar);
     }
-    if !is_plain(&grammar) {
-        return Err(Fail::from("not plain"));
-    }
-    Ok(read_demand(alloc, grammar, text))
+    Err(Fail::from("not sound and plain"))
 }
 
-// The fault line of a text that is refused; nothing for one that is accepted.
-fn answer(alloc: Global, text: &[u8]) -> Result<List<u8>, Fail> {
-    match instance(alloc, text)? {
+// The instance of a text.
+fn instance(alloc: Global, text: &[u8]) -> Result<Instance, Fail>
+    ensures { IfOk result IsSoundInstance }
+{
+    let grammar = sound_day(alloc)?;
+    Ok(read_demand(alloc, grammar, text)?)
+}
+
+// The fault line of a text by a grammar, if it is refused; nothing if it is accepted.
+fn answer_by(alloc: Global, grammar: Grammar, text: &[u8]) -> Result<List<u8>, Memory>
+    requires sound { IsSound grammar }
+    requires plain { IsPlain grammar }
+{
+    match read_demand(alloc, grammar, text) {
         Ok(_) => Ok(List::new(alloc)),
-        Err(fault) => Ok(fault_line(alloc, &fault)?),
+        Err(fault) => fault_line(alloc, &fault),
     }
+}
+
+// The same by the grammar of the day.
+fn answer(alloc: Global, text: &[u8]) -> Result<List<u8>, Fail> {
+    let grammar = sound_day(alloc)?;
+    Ok(answer_by(alloc, grammar, text)?)
 }
 
 // Whether a text has this fault line; an accepted text has none.
@@ -314,12 +333,15 @@ fn is_extended(grammar: &Grammar) -> bool {
 const GROUPED: &'static str = "group H 1 2\ngroup F 0 1\nneed b 30 1 5 6 7 8\nneed a 20 2 1 2 3 4
 least a 0 0 0 3\nmost b 9 9 9 9\n";
 
+// Whether the instance is the one of [`GROUPED`].
+fn is_grouped(instance: &Instance) -> bool {
+    are_heads(instance) && are_cells(instance.cells.as_slice()) && is_extended(&instance.grammar)
+}
+
 #[test]
 fn instances(rt: HostRuntime) -> Result<(), Fail> {
-    let instance = instance(rt.alloc(), GROUPED.as_bytes())??;
-    assert!(rt; are_heads(&instance));
-    assert!(rt; are_cells(instance.cells.as_slice()));
-    assert!(rt; is_extended(&instance.grammar));
+    let instance = instance(rt.alloc(), GROUPED.as_bytes())?;
+    assert!(rt; is_grouped(&instance));
     Ok(())
 }
 
@@ -332,7 +354,7 @@ const WRITTEN: [&'static str; 4] = [
 
 // The text of the instance that a text says.
 fn again(alloc: Global, text: &str) -> Result<List<u8>, Fail> {
-    let instance = instance(alloc, text.as_bytes())??;
+    let instance = instance(alloc, text.as_bytes())?;
     Ok(write_demand(alloc, &instance)?)
 }
 

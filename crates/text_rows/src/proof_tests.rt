@@ -122,12 +122,16 @@ fn cells(alloc: Global, codes: &[u8], periods: u8) -> Result<List<Cell>, AllocEr
 }
 
 fn day(alloc: Global, parts: &Parts) -> Result<Instance, AllocError> {
+    let groups = List::from_vec(parts.groups.to_vec(alloc)?);
+    let cells = cells(alloc, parts.demanded, parts.grammar.periods)?;
+    let grammar = grammar(alloc, &parts.grammar)?;
+    let (heads_min, heads_max) = parts.heads;
     Ok(Instance {
-        grammar: grammar(alloc, &parts.grammar)?,
-        heads_min: parts.heads.0,
-        heads_max: parts.heads.1,
-        groups: List::from_vec(parts.groups.to_vec(alloc)?),
-        cells: cells(alloc, parts.demanded, parts.grammar.periods)?,
+        grammar,
+        heads_min,
+        heads_max,
+        groups,
+        cells,
     })
 }
 

@@ -59,7 +59,7 @@ fn joined(alloc: Global, front: &str, end: &str) -> Result<List<u8>, Memory> {
 /// A text in two parts, and for which fault it is refused.
 type Row<'a> = (&'a str, &'a str, Option<ReportFault>);
 
-const ROWS: [Row<'static>; 6] = [
+static ROWS: [Row<'static>; 6] = [
     (FRONT, "over\ta 0 0 0 0 # none\r\n", None),
     (FRONT, "", Some(ReportFault::CutShort)),
     (

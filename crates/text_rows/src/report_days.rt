@@ -24,7 +24,7 @@ const BLOCK_CELLS: [Cell; 4] = [
 ];
 
 /// One block of two or three of four periods, where the inner periods need two employees.
-pub const BLOCK_DAY: DayParts<'static> = DayParts {
+pub const BLOCK_PARTS: DayParts<'static> = DayParts {
     periods: 4,
     names: &BLOCK_NAMES,
     rules: &BLOCKS,
@@ -33,6 +33,9 @@ pub const BLOCK_DAY: DayParts<'static> = DayParts {
     groups: &[],
     cells: &BLOCK_CELLS,
 };
+
+/// The same day.
+pub static BLOCK_DAY: DayParts<'static> = BLOCK_PARTS;
 
 const GROUP_CELLS: [Cell; 2] = [
     Cell {

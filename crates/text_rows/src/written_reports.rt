@@ -5,7 +5,7 @@ ghost use Rattle.roster_model.specs.Folds.{Each};
 ghost use Rattle.roster_model.specs.SoundInstance.{IsSoundInstance};
 ghost use Rattle.span_table.specs.Tables.{IsMadeFor};
 
-use crate::report_days::{BLOCK_DAY, GROUP_DAY, sound_day};
+use crate::report_days::{BLOCK_PARTS, GROUP_DAY, sound_day};
 use certificates::{Cert, Node, is_sound_cert};
 use roster_model::{Done, Instance, List, Memory, Shift};
 use roster_part::{ShiftRoom, StatedShift, coverage_fault, roster_fault};
@@ -32,7 +32,7 @@ struct Case<'a> {
 }
 
 const FOUND: Case<'static> = Case {
-    day: BLOCK_DAY,
+    day: BLOCK_PARTS,
     done: Done::Equal,
     cost: Some(10),
     bound: Some(10),
@@ -56,7 +56,7 @@ const FOUND: Case<'static> = Case {
         over a 0 0 0 0\n",
 };
 
-const CASES: [Case<'static>; 3] = [
+static CASES: [Case<'static>; 3] = [
     FOUND,
     Case {
         done: Done::NoRoster,
@@ -201,25 +201,25 @@ fn has_text(alloc: Global, day: &Instance, cert: &Cert, case: &Case<'_>) -> Resu
     Ok(text.as_slice() == case.text.as_bytes())
 }
 
-/// Whether the report of a case has its text.
-fn is_right(alloc: Global, day: &Instance, case: &Case<'_>) -> Result<bool, Memory>
+/// Whether the report of a case on its day has its text.
+fn is_right_on(alloc: Global, day: &Instance, case: &Case<'_>) -> Result<bool, Fail>
     requires { IsSoundInstance day.now }
 {
     let cert = cert(alloc, case)?;
     Ok(is_sound_cert(day, &cert) && has_text(alloc, day, &cert, case)?)
 }
 
-fn show(alloc: Global, case: &Case<'_>) -> Result<(), Fail> {
+/// Whether the report of a case has its text.
+fn is_right(alloc: Global, case: &Case<'_>) -> Result<bool, Fail> {
     let day = sound_day(alloc, &case.day)?;
-    if is_right(alloc, &day, case)? {
-        return Ok(());
-    }
-    Err(Fail::from(case.text))
+    is_right_on(alloc, &day, case)
 }
 
 fn show_all(alloc: Global, cases: &[Case<'_>]) -> Result<(), Fail> {
     for case in cases {
-        show(alloc, case)?;
+        if !is_right(alloc, case)? {
+            return Err(Fail::from(case.text));
+        }
     }
     Ok(())
 }
