@@ -35,7 +35,11 @@ fn print_graph(rt: &HostRuntime, grammar: &Grammar) -> io::Result<()>
     requires { IsSound grammar.now }
 {
     match graph_of(rt.alloc(), grammar) {
-        Ok(graph) => print_arcs(rt, &graph),
+        Ok(graph) => {
+            let printed = print_arcs(rt, &graph);
+            drop(graph);
+            printed
+        }
         Err(fault) => println!(rt; "{fault:?}"),
     }
 }

@@ -96,7 +96,9 @@ fn answer(alloc: Global, what: &str, text: &[u8], numbers: Numbers) -> Result<Fo
         return priced(alloc, text, numbers);
     }
     let grammar = read_rules(alloc, text)?;
-    for_grammar(alloc, what, &grammar, numbers.times)
+    let found = for_grammar(alloc, what, &grammar, numbers.times);
+    drop(grammar);
+    found
 }
 
 /// Does what the word says, and prints what was found.
@@ -136,8 +138,14 @@ fn print_end(rt: &HostRuntime, root: &RootEnd) -> io::Result<()> {
 /// Solves the master of the root of a day so often, and prints what the last came to.
 fn print_root(rt: &HostRuntime, rules: &[u8], demand: &str, times: u32) -> io::Result<()> {
     let demand = fs::read(rt, demand)?;
-    match last_root(rt.alloc(), rules, demand.as_slice(), times) {
-        Ok(Some(root)) => print_end(rt, &root),
+    let last = last_root(rt.alloc(), rules, demand.as_slice(), times);
+    drop(demand);
+    match last {
+        Ok(Some(root)) => {
+            let printed = print_end(rt, &root);
+            drop(root);
+            printed
+        }
         Ok(None) => println!(rt; "ready"),
         Err(fault) => println!(rt; "{fault:?}"),
     }

@@ -46,6 +46,13 @@ fn cuts_of(alloc: Global, graph: &Graph, count: u16) -> Result<List<Cut>, Memory
     Ok(cuts)
 }
 
+/// What a tree is paid for the arc of one of the cuts, 1 to 100 times the factor.
+fn payment(number: usize, factor: u64) -> i128
+    ensures { Within (2 ^ 80) result }
+{
+    ((1 + number as u128 % 100) * factor as u128) as i128
+}
+
 /// What a tree is paid for the arcs of so many cuts, 1 to 100 times the factor.
 fn paid_for(alloc: Global, count: usize, factor: u64) -> Result<List<i128>, Memory>
     ensures count { IfOk result (λ paid. length paid ≡ count) }
@@ -53,7 +60,7 @@ fn paid_for(alloc: Global, count: usize, factor: u64) -> Result<List<i128>, Memo
 {
     let mut paid = List::new(alloc);
     for number in 0..count {
-        paid.push((1 + (number % 100) as i128) * i128::from(factor))?;
+        paid.push(payment(number, factor))?;
     }
     Ok(paid)
 }
@@ -89,6 +96,21 @@ fn passed(graph: &Graph, pricer: &mut Pricer, prices: &PriceRoom, times: u32) ->
     least
 }
 
+/// Makes a pricer and so many passes over the graph at the same prices, and returns the last least sum.
+fn priced_at(
+    alloc: Global,
+    graph: &Graph,
+    prices: &PriceRoom,
+    times: u32,
+) -> Result<Option<i128>, BenchFault>
+    requires { HasGrammar graph.now }
+{
+    let mut pricer = Pricer::new(alloc, graph)?;
+    let least = passed(graph, &mut pricer, prices, times);
+    drop(pricer);
+    Ok(least)
+}
+
 /// Passes over the graph with a price on the arc of each of so many cuts, and the factor.
 fn priced(
     alloc: Global,
@@ -103,8 +125,9 @@ fn priced(
     requires graph { IsGraph day.now.grammar graph.now }
 {
     let prices = prices_of(alloc, day, graph, count, factor)?;
-    let mut pricer = Pricer::new(alloc, graph)?;
-    Ok(passed(graph, &mut pricer, &prices, times))
+    let least = priced_at(alloc, graph, &prices, times);
+    drop(prices);
+    least
 }
 
 /// Builds the graph of a day, and passes over it so.
@@ -119,7 +142,9 @@ fn priced_day(
     requires cells { length day.now.cells ≡ 0 }
 {
     let graph = graph_of(alloc, &day.grammar)?;
-    priced(alloc, day, &graph, count, factor, times)
+    let least = priced(alloc, day, &graph, count, factor, times);
+    drop(graph);
+    least
 }
 
 /// Returns the last least sum of so many passes over the graph of a grammar, with a price on the arc
@@ -136,5 +161,7 @@ pub fn last_priced(
     factor: u64,
 ) -> Result<Option<i128>, BenchFault> {
     let day = day_of(alloc, grammar)?;
-    priced_day(alloc, &day, count, factor, times)
+    let least = priced_day(alloc, &day, count, factor, times);
+    drop(day);
+    least
 }

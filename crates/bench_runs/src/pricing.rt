@@ -39,8 +39,9 @@ pub fn graph_of(alloc: Global, grammar: &Grammar) -> Result<Graph, BenchFault>
     ensures { IfOk result (IsGraph grammar.now) }
 {
     let normal = normalise(alloc, grammar)?;
-    let graph = Graph::build(alloc, grammar, &normal)?;
-    Ok(graph)
+    let graph = Graph::build(alloc, grammar, &normal);
+    drop(normal);
+    Ok(graph?)
 }
 
 /// Makes so many passes over the graph, and returns the last least sum.
@@ -60,7 +61,9 @@ fn last_pass(alloc: Global, graph: &Graph, times: u32) -> Result<Option<i128>, B
     requires { HasGrammar graph.now }
 {
     let mut pricer = Pricer::new(alloc, graph)?;
-    Ok(passed(graph, &mut pricer, times))
+    let least = passed(graph, &mut pricer, times);
+    drop(pricer);
+    Ok(least)
 }
 
 /// Returns the last least sum of so many passes over the graph of a sound grammar.
@@ -72,7 +75,19 @@ pub fn last_cheapest(
     requires { IsSound grammar.now }
 {
     let graph = graph_of(alloc, grammar)?;
-    last_pass(alloc, &graph, times)
+    let least = last_pass(alloc, &graph, times);
+    drop(graph);
+    least
+}
+
+/// Builds the graph of a sound grammar, and returns how many arcs it has.
+fn count_arcs(alloc: Global, grammar: &Grammar) -> Result<usize, BenchFault>
+    requires { IsSound grammar.now }
+{
+    let graph = graph_of(alloc, grammar)?;
+    let arcs = graph.arcs().len();
+    drop(graph);
+    Ok(arcs)
 }
 
 /// Builds the graph of a sound grammar so often, and returns how many arcs it has.
@@ -81,7 +96,7 @@ pub fn built(alloc: Global, grammar: &Grammar, times: u32) -> Result<usize, Benc
 {
     let mut arcs = 0;
     for _ in 0..times {
-        arcs = graph_of(alloc, grammar)?.arcs().len();
+        arcs = count_arcs(alloc, grammar)?;
     }
     Ok(arcs)
 }

@@ -112,11 +112,13 @@ fn solve_root(
 {
     let mut pool = Pool::new(alloc);
     let mut tally = Tally::new();
-    let end = solve_node(alloc, day, graph, pricer, &mut pool, cuts, &[], &mut tally)?;
+    let end = solve_node(alloc, day, graph, pricer, &mut pool, cuts, &[], &mut tally);
+    let trees = pool.len();
+    drop(pool);
     Ok(RootEnd {
         rows: count_rows(day, cuts),
-        trees: pool.len(),
-        end,
+        trees,
+        end: end?,
     })
 }
 
@@ -137,11 +139,13 @@ fn solve_again(
     requires cuts { Each (IsNodeCut day.now) cuts.now }
     requires few { length cuts.now ≤ 16 }
 {
-    let mut last = None;
-    for _ in 0..times {
-        last = Some(solve_root(alloc, day, graph, cuts, pricer)?);
+    if times == 0 {
+        return Ok(None);
     }
-    Ok(last)
+    for _ in 1..times {
+        drop(solve_root(alloc, day, graph, cuts, pricer)?);
+    }
+    Ok(Some(solve_root(alloc, day, graph, cuts, pricer)?))
 }
 
 /// Solves the master of the root under the cuts with which each path begins.
@@ -173,7 +177,9 @@ fn solve_on(
     requires graph { IsGraph day.now.grammar graph.now }
 {
     let mut pricer = Pricer::new(alloc, graph)?;
-    solve_open(alloc, day, graph, &mut pricer, times)
+    let last = solve_open(alloc, day, graph, &mut pricer, times);
+    drop(pricer);
+    last
 }
 
 /// Solves the master of the root over the graph of a day, where the day is one that has such a master.
@@ -195,7 +201,9 @@ fn solve_day(alloc: Global, day: &Instance, times: u32) -> Result<Option<RootEnd
     requires sound { IsSoundInstance day.now }
 {
     let graph = graph_of(alloc, &day.grammar)?;
-    solve_checked(alloc, day, &graph, times)
+    let last = solve_checked(alloc, day, &graph, times);
+    drop(graph);
+    last
 }
 
 /// Reads a day of two texts.
@@ -221,5 +229,7 @@ pub fn last_root(
     times: u32,
 ) -> Result<Option<RootEnd>, BenchFault> {
     let day = read_day(alloc, rules, demand)?;
-    solve_day(alloc, &day, times)
+    let last = solve_day(alloc, &day, times);
+    drop(day);
+    last
 }
