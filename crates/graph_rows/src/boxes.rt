@@ -153,7 +153,9 @@ fn cost_of(alloc: Global, day: &Instance, counts: &[u32]) -> Result<Option<u64>,
     requires { IsSoundInstance day.now }
 {
     let graph = graph_of(alloc, &day.grammar)?;
-    cost_on(alloc, day, &graph, counts)
+    let cost = cost_on(alloc, day, &graph, counts);
+    drop(graph);
+    cost
 }
 
 /// What a day asks, counts of the six arcs, and what they cost.
@@ -180,6 +182,7 @@ fn sound_day(alloc: Global, asked: Asked) -> Result<Instance, Fail>
     if is_sound_instance(&day) {
         return Ok(day);
     }
+    drop(day);
     Err(Fail::from("no sound instance"))
 }
 
@@ -194,7 +197,9 @@ fn is_cost(alloc: Global, day: &Instance, counts: &[u32], cost: Option<u64>) -> 
 fn is_right(alloc: Global, case: &Case) -> Result<bool, Fail> {
     let (asked, counts, cost) = case;
     let day = sound_day(alloc, *asked)?;
-    is_cost(alloc, &day, counts, *cost)
+    let is_cost = is_cost(alloc, &day, counts, *cost);
+    drop(day);
+    is_cost
 }
 
 fn show_all(alloc: Global, cases: &[Case]) -> Result<(), Fail> {
@@ -247,12 +252,16 @@ fn has_cut_and_back(alloc: Global, day: &Instance) -> Result<bool, Fail>
     requires { IsSoundInstance day.now }
 {
     let graph = graph_of(alloc, &day.grammar)?;
-    is_loose_again(alloc, day, &graph)
+    let is_loose = is_loose_again(alloc, day, &graph);
+    drop(graph);
+    is_loose
 }
 
 #[test]
 fn a_cut_and_back(rt: HostRuntime) -> Result<(), Fail> {
     let day = sound_day(rt.alloc(), ONE_EACH)?;
-    assert!(rt; has_cut_and_back(rt.alloc(), &day)?);
+    let is_back = has_cut_and_back(rt.alloc(), &day);
+    drop(day);
+    assert!(rt; is_back?);
     Ok(())
 }

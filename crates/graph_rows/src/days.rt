@@ -40,6 +40,7 @@ pub fn sound_day(alloc: Global, cells: &[Cell]) -> Result<Instance, Fail>
     if is_sound_instance(&day) {
         return Ok(day);
     }
+    drop(day);
     Err(Fail::from("no sound day"))
 }
 

@@ -86,7 +86,9 @@ fn is_block_graph(graph: &Graph) -> bool {
 #[test]
 fn one_block_has_24_arcs(rt: HostRuntime) -> Result<(), Fail> {
     let graph = block_graph(rt.alloc())?;
-    assert!(rt; is_block_graph(&graph));
+    let is_right = is_block_graph(&graph);
+    drop(graph);
+    assert!(rt; is_right);
     Ok(())
 }
 
@@ -111,7 +113,9 @@ fn is_words_graph(graph: &Graph) -> bool {
 #[test]
 fn three_words_have_six_arcs(rt: HostRuntime) -> Result<(), Fail> {
     let graph = words_graph(rt.alloc())?;
-    assert!(rt; is_words_graph(&graph));
+    let is_right = is_words_graph(&graph);
+    drop(graph);
+    assert!(rt; is_right);
     Ok(())
 }
 
@@ -121,7 +125,11 @@ fn count_arcs(alloc: Global, grammar: &Grammar) -> Option<Result<usize, GraphFau
         return None;
     }
     match build(alloc, grammar) {
-        Ok(graph) => Some(Ok(graph.arcs().len())),
+        Ok(graph) => {
+            let count = graph.arcs().len();
+            drop(graph);
+            Some(Ok(count))
+        }
         Err(fault) => Some(Err(fault)),
     }
 }

@@ -1,3 +1,6 @@
+ghost use Rattle.std.specs.Prelude.{◌≡◌};
+ghost use Rattle.sample_days.specs.RestAndWork.{rest_and_work};
+
 use crate::days::{one_block, three_words};
 use grammar_core::{Item, Second, items_to_tree, normalise, tree_to_items};
 use roster_model::{ArcKey, Grammar, Memory, Step, Sym, is_sound};
@@ -14,7 +17,7 @@ const RUN: Sym = Sym::Name(3);
 /// An item by its rule, its suffix and its two parts.
 type ItemParts = (u8, u8, Sym, Second);
 
-const BLOCK_ITEMS: [ItemParts; 10] = [
+static BLOCK_ITEMS: [ItemParts; 10] = [
     (1, 0, BLOCK, Second::Nothing),
     (2, 0, IDLE, Second::One(BLOCK)),
     (3, 0, BLOCK, Second::One(IDLE)),
@@ -27,7 +30,7 @@ const BLOCK_ITEMS: [ItemParts; 10] = [
     (9, 0, REST, Second::One(IDLE)),
 ];
 
-const WORD_ITEMS: [ItemParts; 6] = [
+static WORD_ITEMS: [ItemParts; 6] = [
     (1, 0, WORK, Second::Rest(1)),
     (1, 1, WORK, Second::One(REST)),
     (2, 0, REST, Second::Rest(3)),
@@ -66,21 +69,61 @@ fn is_normal(
 #[test]
 fn the_items_of_one_block(rt: HostRuntime) -> Result<(), Memory> {
     let grammar = one_block(rt.alloc())?;
-    assert!(rt; is_normal(rt.alloc(), &grammar, &BLOCK_ITEMS, &[3, 1, 0, 2])?);
+    let is_normal = is_normal(rt.alloc(), &grammar, &BLOCK_ITEMS, &[3, 1, 0, 2]);
+    drop(grammar);
+    assert!(rt; is_normal?);
     Ok(())
 }
 
 #[test]
 fn the_items_of_three_words(rt: HostRuntime) -> Result<(), Memory> {
     let grammar = three_words(rt.alloc())?;
-    assert!(rt; is_normal(rt.alloc(), &grammar, &WORD_ITEMS, &[0])?);
+    let is_normal = is_normal(rt.alloc(), &grammar, &WORD_ITEMS, &[0]);
+    drop(grammar);
+    assert!(rt; is_normal?);
     Ok(())
 }
 
-#[test]
-fn the_arcs_of_a_word(rt: HostRuntime) -> Result<(), Fail> {
-    let grammar = one_block(rt.alloc())?;
-    assert!(rt; is_sound(&grammar));
+/// An arc by its rule, its suffix, its start, its length and its part.
+type ArcParts = (u8, u8, u8, u8, u8);
+
+/// The arcs of the tree of the word.
+static ARCS: [ArcParts; 7] = [
+    (4, 0, 1, 4, 1),
+    (8, 0, 1, 1, 1),
+    (4, 1, 2, 3, 2),
+    (5, 0, 2, 2, 2),
+    (7, 0, 2, 2, 1),
+    (6, 0, 3, 1, 1),
+    (8, 0, 4, 1, 1),
+];
+
+fn is_arc(arc: &ArcKey, parts: &ArcParts) -> bool {
+    let (rule, suffix, start, len, part) = *parts;
+    *arc == ArcKey {
+        rule,
+        suffix,
+        start,
+        len,
+        part,
+    }
+}
+
+fn are_arcs(arcs: &[ArcKey], parts: &[ArcParts]) -> bool {
+    arcs.len() == parts.len()
+        && arcs
+            .iter()
+            .zip(parts)
+            .all(|(arc, parts)| is_arc(arc, parts))
+}
+
+/// Whether the tree of the word has its arcs, and these have the tree again.
+fn has_arcs_of_a_word(alloc: Global, grammar: &Grammar) -> Result<bool, Memory>
+    requires { grammar.now ≡ rest_and_work }
+{
+    if !is_sound(grammar) {
+        return Ok(false);
+    }
     tree_of_a_block();
     let tree = [
         Step {
@@ -114,25 +157,21 @@ fn the_arcs_of_a_word(rt: HostRuntime) -> Result<(), Fail> {
             len: 1,
         },
     ];
-    let arcs = tree_to_items(rt.alloc(), &grammar, &tree)?;
-    let keys = [
-        (4, 0, 1, 4, 1),
-        (8, 0, 1, 1, 1),
-        (4, 1, 2, 3, 2),
-        (5, 0, 2, 2, 2),
-        (7, 0, 2, 2, 1),
-        (6, 0, 3, 1, 1),
-        (8, 0, 4, 1, 1),
-    ];
-    let keys = keys.map(|(rule, suffix, start, len, part)| ArcKey {
-        rule,
-        suffix,
-        start,
-        len,
-        part,
-    });
-    assert!(rt; arcs.as_slice() == keys.as_slice());
-    let back = items_to_tree(rt.alloc(), &grammar, arcs.as_slice())?;
-    assert!(rt; back.as_slice() == tree.as_slice());
+    let arcs = tree_to_items(alloc, grammar, &tree)?;
+    let are_arcs = are_arcs(arcs.as_slice(), &ARCS);
+    let back = items_to_tree(alloc, grammar, arcs.as_slice());
+    drop(arcs);
+    let back = back?;
+    let is_back = back.as_slice() == tree.as_slice();
+    drop(back);
+    Ok(are_arcs && is_back)
+}
+
+#[test]
+fn the_arcs_of_a_word(rt: HostRuntime) -> Result<(), Fail> {
+    let grammar = one_block(rt.alloc())?;
+    let has_arcs = has_arcs_of_a_word(rt.alloc(), &grammar);
+    drop(grammar);
+    assert!(rt; has_arcs?);
     Ok(())
 }

@@ -86,8 +86,8 @@ fn rooms_for(alloc: Global, grammar: &Grammar, graph: &Graph) -> Result<Rooms, F
     requires { IsSound grammar.now }
     ensures { IfOk result (λ r. AreMadeFor grammar.now graph.now r.pricer r.tree) }
 {
-    let pricer = Pricer::new(alloc, graph)?;
     let tree = TreeRoom::for_grammar(alloc, grammar)?;
+    let pricer = Pricer::new(alloc, graph)?;
     Ok(Rooms { pricer, tree })
 }
 
@@ -163,7 +163,10 @@ fn has_least_sums(alloc: Global, day: &Instance, graph: &Graph) -> Result<bool, 
 {
     let mut prices = PriceRoom::for_cuts(alloc, day, 1)?;
     let mut rooms = rooms_for(alloc, &day.grammar, graph)?;
-    Ok(are_least(day, graph, &mut prices, &mut rooms))
+    let are_least = are_least(day, graph, &mut prices, &mut rooms);
+    drop(rooms);
+    drop(prices);
+    Ok(are_least)
 }
 
 /// The rule uses of the one tree of the last word: rule, start and length.
@@ -221,7 +224,10 @@ fn has_prices(alloc: Global, grammar: &Grammar, graph: &Graph) -> Result<bool, F
 {
     let mut rooms = rooms_for(alloc, grammar, graph)?;
     let steps = USES.map(|(rule, start, len)| Step { rule, start, len });
-    Ok(are_priced(grammar, graph, &mut rooms) && rooms.tree.steps() == steps.as_slice())
+    let are_right = are_priced(grammar, graph, &mut rooms)
+        && rooms.tree.steps() == steps.as_slice();
+    drop(rooms);
+    Ok(are_right)
 }
 
 /// The next number of a sequence that looks like chance.
@@ -326,7 +332,10 @@ fn has_same_sums(
 {
     let mut prices = PriceRoom::for_cuts(alloc, day, 1)?;
     let mut rooms = rooms_for(alloc, &day.grammar, graph)?;
-    Ok(is_same(day, graph, &mut prices, &mut rooms, table))
+    let is_same = is_same(day, graph, &mut prices, &mut rooms, table);
+    drop(rooms);
+    drop(prices);
+    Ok(is_same)
 }
 
 fn has_sums_of_a_table(alloc: Global, day: &Instance, graph: &Graph) -> Result<bool, Fail>
@@ -353,12 +362,16 @@ fn has_sums(alloc: Global, day: &Instance) -> Result<bool, Fail>
     requires { IsSoundInstance day.now }
 {
     let graph = graph_of(alloc, &day.grammar)?;
-    has_sums_on(alloc, day, &graph)
+    let has_sums = has_sums_on(alloc, day, &graph);
+    drop(graph);
+    has_sums
 }
 
 #[test]
 fn least_sums(rt: HostRuntime) -> Result<(), Fail> {
     let day = needed_day(rt.alloc())?;
-    assert!(rt; has_sums(rt.alloc(), &day)?);
+    let has_sums = has_sums(rt.alloc(), &day);
+    drop(day);
+    assert!(rt; has_sums?);
     Ok(())
 }

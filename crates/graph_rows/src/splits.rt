@@ -72,10 +72,18 @@ fn tells(
     Ok(counts.len() == graph.arcs().len() && splits(alloc, graph, counts.as_slice(), uneven))
 }
 
+/// Whether that is told of counts of two trees, and of counts that are uneven.
+fn tells_both(alloc: Global, graph: &Graph) -> Result<bool, Fail>
+    requires { HasGrammar graph.now }
+{
+    Ok(tells(alloc, graph, 2, 2, None)? && tells(alloc, graph, 2, 3, Some((3, 2)))?)
+}
+
 #[test]
 fn counts_of_one_rule(rt: HostRuntime) -> Result<(), Fail> {
     let graph = words_graph(rt.alloc())?;
-    assert!(rt; tells(rt.alloc(), &graph, 2, 2, None)?);
-    assert!(rt; tells(rt.alloc(), &graph, 2, 3, Some((3, 2)))?);
+    let are_told = tells_both(rt.alloc(), &graph);
+    drop(graph);
+    assert!(rt; are_told?);
     Ok(())
 }

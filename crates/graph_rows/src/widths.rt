@@ -90,7 +90,9 @@ fn least_of_graph<P: LetterPrice>(
     requires { HasGrammar graph.now }
 {
     let mut pricer = Pricer::new(alloc, graph)?;
-    Ok(pricer.cheapest(graph, prices))
+    let least = pricer.cheapest(graph, prices);
+    drop(pricer);
+    Ok(least)
 }
 
 /// Shows that the table and the pricer have the same least sum at prices.
@@ -167,11 +169,15 @@ fn show_day(rt: &impl Abort, alloc: Global, day: &Instance) -> Result<(), Fail>
     requires { IsSoundInstance day.now }
 {
     let graph = graph_of(alloc, &day.grammar)?;
-    show_units(rt, alloc, day, &graph)
+    let shown = show_units(rt, alloc, day, &graph);
+    drop(graph);
+    shown
 }
 
 #[test]
 fn least_sums_where_cuts_pay(rt: HostRuntime) -> Result<(), Fail> {
     let day = sound_day(rt.alloc(), &[])?;
-    show_day(&rt, rt.alloc(), &day)
+    let shown = show_day(&rt, rt.alloc(), &day);
+    drop(day);
+    shown
 }

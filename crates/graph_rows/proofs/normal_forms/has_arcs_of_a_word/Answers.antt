@@ -2,7 +2,7 @@ use Rattle.std.proofs.Common.{◌≡◌, refl, subst, sym, ◌∙◌}
 use Rattle.roster_model.specs.declared.grammar.Grammar.{Grammar}
 use Rattle.sample_days.specs.RestAndWork.{rest_and_work, block_tree, IsTreeOfBlock}
 use Rattle.grammar_core.specs.Lists.{IsSpanTree}
-use Rattle.graph_rows.proofs.normal_forms.the_arcs_of_a_word.Goals as goal
+use Rattle.graph_rows.proofs.normal_forms.has_arcs_of_a_word.Goals as goal
 
 spans : (g : Grammar) → g ≡ rest_and_work → IsTreeOfBlock → IsSpanTree g 1 block_tree
 spans g e block =
@@ -10,10 +10,10 @@ spans g e block =
     subst (λ (h : Grammar). IsSpanTree h 1 block_tree) (sym e) is
 
 pub tree_to_items-requires-clause-tree : goal.tree_to_items-requires-clause-tree
-tree_to_items-requires-clause-tree g c =
-    record { start = 1; tree = block_tree; is_tree = spans c.in_ok-grammar.grammar c.in_ok-grammar.ensures c.tree_of_a_block.ensures; steps = refl }
+tree_to_items-requires-clause-tree c =
+    record { start = 1; tree = block_tree; is_tree = spans c.args.grammar.now c.requires c.tree_of_a_block.ensures; steps = refl }
 
-pub items_to_tree-requires-clause-arcs : goal.items_to_tree-requires-clause-arcs
-items_to_tree-requires-clause-arcs g c =
-    let is = spans c.in_ok-grammar.grammar c.in_ok-grammar.ensures c.tree_of_a_block.ensures in
-    record { start = 1; tree = block_tree; is_tree = is; arcs = c.as_slice-3.ensures ∙ c.in_ok-arcs.ensures 1 block_tree is refl }
+pub items_to_tree-back-requires-clause-arcs : goal.items_to_tree-back-requires-clause-arcs
+items_to_tree-back-requires-clause-arcs c =
+    let is = spans c.args.grammar.now c.requires c.tree_of_a_block.ensures in
+    record { start = 1; tree = block_tree; is_tree = is; arcs = c.as_slice-2.ensures ∙ c.in_ok-arcs.ensures 1 block_tree is refl }
