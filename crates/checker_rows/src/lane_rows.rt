@@ -3,15 +3,24 @@ ghost use Rattle.lane_min.specs.LeastSum.{AreSmall};
 
 use lane_min::{add_matches, least_sum};
 
-#[test]
-fn letters_are_counted_by_place(rt: HostRuntime) {
+/// Whether the letters of three words after each other have the counts that they should.
+fn are_counted_by_place() -> bool {
     let mut counts = [0, 0, 0, 0];
     add_matches(&mut counts, b".aaa", b'a');
-    assert_eq!(rt; counts, [0, 1, 1, 1]);
+    if counts != [0, 1, 1, 1] {
+        return false;
+    }
     add_matches(&mut counts, b"aba.", b'a');
-    assert_eq!(rt; counts, [1, 1, 2, 1]);
+    if counts != [1, 1, 2, 1] {
+        return false;
+    }
     add_matches(&mut counts, b"aba.", b'c');
-    assert_eq!(rt; counts, [1, 1, 2, 1]);
+    counts == [1, 1, 2, 1]
+}
+
+#[test]
+fn letters_are_counted_by_place(rt: HostRuntime) {
+    assert!(rt; are_counted_by_place());
 }
 
 #[test]
@@ -105,6 +114,29 @@ fn equal_sums_in_other_lanes_do_not_come_first(rt: HostRuntime) {
     assert_eq!(rt; least_sum(&x, &y), Some((-4611686018427387904, 9)));
 }
 
+/// Whether the least sum is the one that the plain loop finds.
+fn agrees(x: &[i64], y: &[i64]) -> bool
+    requires { length x.now ≡ length y.now }
+{
+    if !are_small(x) || !are_small(y) {
+        return false;
+    }
+    match least_sum(x, y) {
+        None => false,
+        Some((sum, place)) => is_least(x, y, sum, place),
+    }
+}
+
+/// Whether that holds of each front of the numbers.
+fn agree_at_each_length(x: &[i64; 90], y: &[i64; 90]) -> bool {
+    for length in 1..91 {
+        if !agrees(&x[..length], &y[..length]) {
+            return false;
+        }
+    }
+    true
+}
+
 #[test]
 fn lengths_from_1_to_90_agree_with_the_plain_loop(rt: HostRuntime) {
     let mut x = [0; 90];
@@ -113,13 +145,5 @@ fn lengths_from_1_to_90_agree_with_the_plain_loop(rt: HostRuntime) {
         x[place] = (place as i64 * 37 + 11) % 23 - 9;
         y[place] = (place as i64 * 53 + 5) % 19 - 12;
     }
-    for length in 1..91 {
-        let (front, other) = (&x[..length], &y[..length]);
-        assert!(rt; are_small(front) && are_small(other));
-        let agrees = match least_sum(front, other) {
-            None => false,
-            Some((sum, place)) => is_least(front, other, sum, place),
-        };
-        assert!(rt; agrees);
-    }
+    assert!(rt; agree_at_each_length(&x, &y));
 }

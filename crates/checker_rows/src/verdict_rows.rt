@@ -37,27 +37,27 @@ fn judges_text(
     first == *want && second == *want
 }
 
+/// Whether a text is judged so at a bench of its own, in a room.
 fn judges_in(
     alloc: Global,
     day: &Instance,
-    bench: &mut Bench,
+    room: &mut CertRoom,
     text: &str,
     want: &Judged,
-) -> Result<bool, Fail>
+) -> Result<bool, Memory>
     requires day { IsSoundInstance day.now }
-    requires bench { IsBenchFor day.now bench.old }
-    requires nodes { node_room bench.old ≡ 20001 }
+    requires made { length day.now.cells ≤ room.old.most }
 {
-    let mut room = CertRoom::for_instance(alloc, day)?;
-    Ok(judges_text(day, bench, &mut room, text, want))
+    let mut bench = Bench::for_texts(alloc, day)?;
+    Ok(judges_text(day, &mut bench, room, text, want))
 }
 
-/// Whether a text is judged so at a bench of its own.
+/// Whether a text is judged so at a bench and in a room of its own.
 fn judges_pieces(alloc: Global, day: &Instance, text: &str, want: &Judged) -> Result<bool, Fail>
     requires { IsSoundInstance day.now }
 {
-    let mut bench = Bench::for_texts(alloc, day)?;
-    judges_in(alloc, day, &mut bench, text, want)
+    let mut room = CertRoom::for_instance(alloc, day)?;
+    Ok(judges_in(alloc, day, &mut room, text, want)?)
 }
 
 /// Whether a certificate is judged as it is to be, twice at one bench.
@@ -383,8 +383,10 @@ fn verdicts_on_groups(rt: HostRuntime) -> Result<(), Fail> {
 
 /// Whether a text is judged so, piece by piece, on the day of pairs.
 fn judges_pairs(alloc: Global, text: &str, want: &Judged) -> Result<bool, Fail> {
-    let day = sound_day(alloc, &PAIR_DAY)?;
-    judges_pieces(alloc, &day, text, want)
+    match sound_day(alloc, &PAIR_DAY) {
+        Ok(day) => judges_pieces(alloc, &day, text, want),
+        Err(fail) => Err(fail),
+    }
 }
 
 #[test]
