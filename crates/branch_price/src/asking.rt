@@ -55,5 +55,6 @@ pub(crate) fn node<M: Master>(
     if !is_wide(&end) {
         return Ok(end);
     }
+    drop(end);
     master.node(alloc, instance, graph, pricer, pool, cuts, &[])
 }

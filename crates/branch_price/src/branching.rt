@@ -215,12 +215,12 @@ fn search_day<M: Master>(
     ensures pool { IsPool instance.now.grammar pool.new }
     ensures grown { IsGrown pool.old pool.new }
 {
-    match Desk::new(alloc, instance, graph) {
-        Ok(mut desk) => search_at(
-            alloc, instance, graph, derives, turns, &mut desk, pool, master,
-        ),
-        Err(fault) => Err(fault),
-    }
+    let mut desk = Desk::new(alloc, instance, graph)?;
+    let found = search_at(
+        alloc, instance, graph, derives, turns, &mut desk, pool, master,
+    );
+    drop(desk);
+    found
 }
 
 /// Searches for a roster of least cost, with at most so many turns, 1 to 10,000. Each turn processes one

@@ -35,8 +35,13 @@ fn pricing_of(alloc: Global, instance: &Instance, graph: &Graph) -> Result<Prici
     ensures { IfOk result (ArePricing instance.now graph.now) }
 {
     let pricer = Pricer::new(alloc, graph)?;
-    let room = PriceRoom::for_cuts(alloc, instance, MOST_MULTIPLIERS)?;
-    Ok(Pricing { pricer, room })
+    match PriceRoom::for_cuts(alloc, instance, MOST_MULTIPLIERS) {
+        Ok(room) => Ok(Pricing { pricer, room }),
+        Err(fault) => {
+            drop(pricer);
+            Err(fault)
+        }
+    }
 }
 
 impl Desk {
@@ -46,12 +51,17 @@ impl Desk {
         ensures { IfOk result (IsDesk instance.now graph.now) }
     {
         let pricing = pricing_of(alloc, instance, graph)?;
-        let rosters = RosterDesk::for_instance(alloc, instance)?;
-        Ok(Desk {
-            pricing,
-            rosters,
-            wanted: Vec::new(alloc),
-        })
+        match RosterDesk::for_instance(alloc, instance) {
+            Ok(rosters) => Ok(Desk {
+                pricing,
+                rosters,
+                wanted: Vec::new(alloc),
+            }),
+            Err(fault) => {
+                drop(pricing);
+                Err(fault)
+            }
+        }
     }
 }
 

@@ -35,8 +35,12 @@ fn plain_room(alloc: Global, instance: &Instance) -> Result<PriceRoom, Memory>
     ensures { IfOk result (HoldsPlain instance.now) }
 {
     let prices = plain_prices(alloc, instance)?;
-    let mut room = PriceRoom::for_cuts(alloc, instance, 0)?;
+    let Ok(mut room) = PriceRoom::for_cuts(alloc, instance, 0) else {
+        drop(prices);
+        return Err(Memory);
+    };
     room.set(instance, &prices, &[]);
+    drop(prices);
     Ok(room)
 }
 
@@ -46,9 +50,15 @@ pub(crate) fn derived(alloc: Global, instance: &Instance) -> Result<[bool; MOST_
     ensures { IfOk result (TellsDerived instance.now.grammar) }
 {
     let room = plain_room(alloc, instance)?;
-    let mut table = Table::for_instance(alloc, &instance.grammar)?;
+    let Ok(mut table) = Table::for_instance(alloc, &instance.grammar) else {
+        drop(room);
+        return Err(Memory);
+    };
     table.least(&instance.grammar, &room);
-    Ok(derived_names(&instance.grammar, &table))
+    drop(room);
+    let derived = derived_names(&instance.grammar, &table);
+    drop(table);
+    Ok(derived)
 }
 
 /// Returns the least cost of a tree of the day; `None` exactly where it has none.
@@ -57,8 +67,14 @@ fn least_cost(alloc: Global, instance: &Instance) -> Result<Option<i128>, Memory
     ensures { IfOk result (IsPlainLeast instance.now) }
 {
     let room = plain_room(alloc, instance)?;
-    let mut table = Table::for_instance(alloc, &instance.grammar)?;
-    Ok(table.least(&instance.grammar, &room))
+    let Ok(mut table) = Table::for_instance(alloc, &instance.grammar) else {
+        drop(room);
+        return Err(Memory);
+    };
+    let least = table.least(&instance.grammar, &room);
+    drop(table);
+    drop(room);
+    Ok(least)
 }
 
 /// Returns the one node of a day that is plainly infeasible: one with prices of 0, or where the day has no

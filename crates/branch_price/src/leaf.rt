@@ -129,10 +129,13 @@ fn best_leaf(
     ensures pool { IsPool instance.now.grammar pool.new }
     ensures grown { IsGrown pool.old pool.new }
 {
-    want(&mut desk.wanted, weights)?;
+    let Ok(()) = want(&mut desk.wanted, weights) else {
+        drop(prices);
+        return Err(Memory);
+    };
     let cuts = path.cuts();
     let value = shown_value(instance, graph, &mut desk.pricing, derives, &prices, cuts);
-    let plan = plan_for(
+    let Ok(plan) = plan_for(
         alloc,
         instance,
         graph,
@@ -144,9 +147,12 @@ fn best_leaf(
         pool,
         &mut desk.rosters,
         &mut progress.best,
-    )?;
+    ) else {
+        drop(prices);
+        return Err(Memory);
+    };
     let processed = progress.tree.processed();
-    offer_at_node(
+    let Ok(()) = offer_at_node(
         alloc,
         instance,
         graph,
@@ -157,7 +163,10 @@ fn best_leaf(
         desk,
         pool,
         &mut progress.best,
-    )?;
+    ) else {
+        drop(prices);
+        return Err(Memory);
+    };
     progress.tree.price(leaf, prices, value, plan)
 }
 

@@ -11,7 +11,7 @@ use Rattle.roster_model.specs.Folds.{sum_z}
 use Rattle.roster_model.specs.Reduced.{cell_prices, cut_prices, letter_price, arc_price, view_of, reduced_view}
 use Rattle.roster_model.specs.SoundInstance.{IsSoundInstance}
 use Rattle.roster_model.specs.Sums.{PriceView, tree_sum}
-use Rattle.roster_model.proofs.Agreed.{tree_same}
+use Rattle.roster_model.proofs.AgreementLemmas.{tree_same}
 use Rattle.bound_laws.proofs.ReducedCosts.{reduced-cost}
 use Rattle.candidate_rosters.specs.Leaders.{AreCosts}
 

@@ -19,6 +19,7 @@ use parse_graph::Graph;
 use roster_model::{Cut, Instance, List, Memory};
 use scout::{Limits, Scouted};
 use std::alloc::Global;
+use std::mem;
 use tree_pool::Pool;
 
 /// How many steps a dive takes.
@@ -195,8 +196,13 @@ fn begun_with(
     ensures { IfOk result (IsProgram (length pool.now)) }
 {
     let mut program = Program::new(alloc, instance, cuts, rows)?;
-    begin(alloc, cuts, rows, pool, begun, &mut program)?;
-    Ok(program)
+    match begin(alloc, cuts, rows, pool, begun, &mut program) {
+        Ok(()) => Ok(program),
+        Err(fault) => {
+            drop(program);
+            Err(fault)
+        }
+    }
 }
 
 /// Dives from a node, of which the master's rows are given, and returns the trees that it fixed.
@@ -223,7 +229,7 @@ fn dive_over(
     ensures grown { IsGrown pool.old pool.new }
 {
     let mut program = begun_with(alloc, instance, cuts, rows, pool, begun)?;
-    step_down(
+    let end = step_down(
         alloc,
         instance,
         graph,
@@ -233,8 +239,13 @@ fn dive_over(
         &mut program,
         pool,
         cost,
-    )?;
-    Ok(program.fixed)
+    );
+    let fixed = mem::replace(&mut program.fixed, List::new(alloc));
+    drop(program);
+    match end {
+        Ok(()) => Ok(fixed),
+        Err(fault) => Err(fault),
+    }
 }
 
 /// Dives from the node at a path of cuts, base cuts first, whose master has at most 1,500 rows, and returns
@@ -270,7 +281,9 @@ pub fn dive(
     ensures grown { IsGrown pool.old pool.new }
 {
     let rows = NodeRows::new(alloc, instance, cuts)?;
-    dive_over(
+    let found = dive_over(
         alloc, instance, graph, cuts, &rows, pricer, begun, cost, pool,
-    )
+    );
+    drop(rows);
+    found
 }

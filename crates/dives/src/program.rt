@@ -48,15 +48,20 @@ impl Program {
         requires rows { AreRows instance.now cuts.now rows.now }
         ensures { (n : ℕ) → IfOk result (IsProgram n) }
     {
-        let scout = scout_of(alloc, instance, cuts, rows, 0)?;
         let sides = copy_of(alloc, rows.right())?;
-        Ok(Program {
-            scout,
-            sides,
-            listed: List::new(alloc),
-            fixed: List::new(alloc),
-            cost: 0,
-        })
+        match scout_of(alloc, instance, cuts, rows, 0) {
+            Ok(scout) => Ok(Program {
+                scout,
+                sides,
+                listed: List::new(alloc),
+                fixed: List::new(alloc),
+                cost: 0,
+            }),
+            Err(fault) => {
+                drop(sides);
+                Err(fault)
+            }
+        }
     }
 
     /// Lists a tree of the pool.

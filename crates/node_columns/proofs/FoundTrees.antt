@@ -8,7 +8,7 @@ use Rattle.roster_model.specs.Room.{RoomView}
 use Rattle.roster_model.specs.SoundInstance.{IsSoundInstance}
 use Rattle.roster_model.specs.Sums.{PriceView, IsLeast, AtMost, tree_sum}
 use Rattle.roster_model.specs.Trees.{Parts, IsDayTree}
-use Rattle.roster_model.proofs.Agreed.{tree_same}
+use Rattle.roster_model.proofs.AgreementLemmas.{tree_same}
 use Rattle.tree_laws.specs.LeastTrees.{HasDaySum, HoldsLeastTree}
 use Rattle.linear_programs.specs.Program.{reduced}
 use Rattle.fraction.specs.Row.{at}

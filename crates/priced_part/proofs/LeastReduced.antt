@@ -11,7 +11,7 @@ use Rattle.roster_model.specs.Reduced.{reduced_view}
 use Rattle.roster_model.specs.Sound.{IsSound}
 use Rattle.roster_model.specs.Sums.{PriceView, Within, AllWithin, plus, parts_sum, tree_sum, IsLeast}
 use Rattle.roster_model.specs.Trees.{Parts, done, letter, uses, IsTreeOf, IsDayTree}
-use Rattle.roster_model.proofs.Agreed.{tree_same}
+use Rattle.roster_model.proofs.AgreementLemmas.{tree_same}
 use Rattle.tree_laws.proofs.LeastValues.{IsLeast-sums}
 use Rattle.tree_laws.proofs.Bounds.{symbol_within}
 use Rattle.bound_laws.specs.Lagrangian.{IsLeastReduced}

@@ -11,9 +11,9 @@ pub mod SoundCells
 pub mod CostBounds
 pub mod DemandCells
 pub mod LowerRanks
-pub mod Extended
+pub mod ExtensionLemmas
 pub mod Mults
-pub mod Agreed
+pub mod AgreementLemmas
 pub mod LetterNumbers
 pub mod RoomAgrees
 pub mod CutCounts

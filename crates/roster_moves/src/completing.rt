@@ -43,6 +43,35 @@ fn improve(
     renew_all(instance, graph, pricer, prices, tried, draft)
 }
 
+/// Improves a draft, and puts its trees into the pool.
+fn improve_into(
+    alloc: Global,
+    instance: &Instance,
+    graph: &Graph,
+    pricer: &mut Pricer,
+    prices: &mut PriceRoom,
+    tried: &mut Pool,
+    draft: &mut Draft,
+    pool: &mut Pool,
+) -> Result<List<usize>, Memory>
+    requires sound { IsSoundInstance instance.now }
+    requires graph { IsGraph instance.now.grammar graph.now }
+    requires pricer { IsMadeFor graph.now pricer.old }
+    requires prices { IsRoomFor prices.old instance.now }
+    requires pool { IsPool instance.now.grammar pool.old }
+    requires tried { IsPool instance.now.grammar tried.old }
+    requires draft { IsDraft instance.now (length tried.old) draft.old }
+    ensures within { IfOk result (λ found. All (λ c. c < length pool.new) found) }
+    ensures pricer { IsMadeFor graph.now pricer.new }
+    ensures prices { IsRoomFor prices.new instance.now }
+    ensures most { prices.new.most ≡ prices.old.most }
+    ensures pool { IsPool instance.now.grammar pool.new }
+    ensures grown { IsGrown pool.old pool.new }
+{
+    improve(instance, graph, pricer, prices, tried, draft)?;
+    copied_all(alloc, instance, tried, draft.columns.as_slice(), pool)
+}
+
 /// Completes a roster, exchanges its shifts one by one, and then renews two or three at a time.
 ///
 /// The trees stand in the pool, some of them several times. First further trees of the day are added: where
@@ -79,7 +108,18 @@ pub fn complete(
     ensures grown { IsGrown pool.old pool.new }
 {
     let mut tried = Pool::new(alloc);
-    let mut draft = drafted(alloc, instance, pool, columns, &mut tried)?;
-    improve(instance, graph, pricer, prices, &mut tried, &mut draft)?;
-    copied_all(alloc, instance, &tried, draft.columns.as_slice(), pool)
+    match drafted(alloc, instance, pool, columns, &mut tried) {
+        Ok(mut draft) => {
+            let found = improve_into(
+                alloc, instance, graph, pricer, prices, &mut tried, &mut draft, pool,
+            );
+            drop(draft);
+            drop(tried);
+            found
+        }
+        Err(fault) => {
+            drop(tried);
+            Err(fault)
+        }
+    }
 }

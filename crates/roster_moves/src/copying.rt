@@ -1,4 +1,4 @@
-ghost use Rattle.std.specs.Prelude.{◌≡◌, ◌<◌, All, IfOk, length};
+ghost use Rattle.std.specs.Prelude.{◌≡◌, ◌<◌, All, IfOk, OnOk, length};
 ghost use Rattle.roster_model.specs.SoundInstance.{IsSoundInstance};
 ghost use Rattle.tree_pool.specs.Pools.{IsPool, IsGrown};
 ghost use Rattle.roster_moves.specs.Drafts.{IsDraft};
@@ -21,6 +21,29 @@ fn copied(instance: &Instance, from: &Pool, column: usize, to: &mut Pool) -> Res
     to.add(&instance.grammar, from.tree(column).steps.as_slice())
 }
 
+/// Adds trees of a pool to a draft without trees, and puts them into another pool.
+fn draft_all(
+    instance: &Instance,
+    from: &Pool,
+    columns: &[usize],
+    to: &mut Pool,
+    draft: &mut Draft,
+) -> Result<(), Memory>
+    requires sound { IsSoundInstance instance.now }
+    requires from { IsPool instance.now.grammar from.now }
+    requires columns { All (λ c. c < length from.now) columns.now }
+    requires to { IsPool instance.now.grammar to.old }
+    requires draft { IsDraft instance.now 0 draft.old }
+    ensures to { IsPool instance.now.grammar to.new }
+    ensures draft { OnOk result (IsDraft instance.now (length to.new) draft.new) }
+{
+    for &column in columns {
+        let copy = copied(instance, from, column, to)?;
+        draft.push(instance, to, copy)?;
+    }
+    Ok(())
+}
+
 /// Returns a draft of trees of a pool, which are put into another pool.
 pub(crate) fn drafted(
     alloc: Global,
@@ -37,11 +60,13 @@ pub(crate) fn drafted(
     ensures draft { IfOk result (IsDraft instance.now (length to.new)) }
 {
     let mut draft = Draft::new(alloc, instance)?;
-    for &column in columns {
-        let copy = copied(instance, from, column, to)?;
-        draft.push(instance, to, copy)?;
+    match draft_all(instance, from, columns, to, &mut draft) {
+        Ok(()) => Ok(draft),
+        Err(fault) => {
+            drop(draft);
+            Err(fault)
+        }
     }
-    Ok(draft)
 }
 
 /// Puts trees of a pool into another pool, and returns their numbers there.

@@ -3,7 +3,7 @@ use Rattle.roster_model.specs.PriceRooms.{price_view}
 use Rattle.priced_part.proofs.LeastReduced.{filled-for_all}
 use Rattle.branch_price.proofs.infeasible.derived.Goals as goal
 
-pub derived_names-requires-clause-filled : goal.derived_names-requires-clause-filled
-derived_names-requires-clause-filled c =
+pub derived_names-derived-requires-clause-filled : goal.derived_names-derived-requires-clause-filled
+derived_names-derived-requires-clause-filled c =
     let h = c.in_ok-room.ensures in
     filled-for_all c.args.instance.now c.requires.grammar (price_view c.in_ok-room.room) h.0 [] h.2 c.least.new.self c.least.ensures.filled

@@ -8,5 +8,5 @@ pub returns : goal.returns
 returns c =
     let i = c.args.instance.now in
     let h = c.in_ok-room.ensures in
-    plain-least i c.requires.grammar h.0 h.1 c.least.result
-    (least-reduced i c.requires.grammar (price_view c.in_ok-room.room) h.0 [] h.2 c.least.result c.least.ensures.least)
+    plain-least i c.requires.grammar h.0 h.1 c.least-least.result
+    (least-reduced i c.requires.grammar (price_view c.in_ok-room.room) h.0 [] h.2 c.least-least.result c.least-least.ensures.least)

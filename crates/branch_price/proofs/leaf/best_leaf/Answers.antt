@@ -64,9 +64,9 @@ price-requires c =
     let value = subst (λ (cs : List Cut). IsPricedValue i c.args.prices cs c.shown_value-value.result) c.cuts-cuts.ensures c.shown_value-value.ensures.value in
     let priced = priced-node i p.cuts c.args.pool.now c.args.prices c.args.weights.now c.shown_value-value.result are c.requires.solved value in
     let loose = loose-path i v p.cuts p.arc_box c.requires.path.left c.args.loose c.requires.loose c.requires.graph in
-    let better = better-more i c.args.progress.now.best c.plan_for.new.best c.offer_at_node.new.best c.in_ok-plan.ensures.better c.offer_at_node.ensures.better in
-    let plan = plan-later i v p.cuts c.in_ok-plan.plan c.shown_value-value.result c.plan_for.new.best c.offer_at_node.new.best c.offer_at_node.ensures.better (rw c.cuts-cuts.ensures at c.in_ok-plan.ensures.plan) in
-    asks-priced i v r.0 r.1 r.2 r.3 c.args.progress.now c.args.leaf p.cuts c.offer_at_node.new.best c.args.prices c.shown_value-value.result c.in_ok-plan.plan r.4
+    let better = better-more i c.args.progress.now.best c.plan_for.new.best c.offer_at_node.new.best c.plan_for.ensures.better c.offer_at_node.ensures.better in
+    let plan = plan-later i v p.cuts c.in-Ok-plan_for.plan c.shown_value-value.result c.plan_for.new.best c.offer_at_node.new.best c.offer_at_node.ensures.better (rw c.cuts-cuts.ensures at c.in-Ok-plan_for.ensures.plan) in
+    asks-priced i v r.0 r.1 r.2 r.3 c.args.progress.now c.args.leaf p.cuts c.offer_at_node.new.best c.args.prices c.shown_value-value.result c.in-Ok-plan_for.plan r.4
     better priced loose plan
 
 pub returns-clause-turned : goal.returns-clause-turned
@@ -76,22 +76,22 @@ returns-clause-turned c =
     let p = c.args.path.now in
     let value = subst (λ (cs : List Cut). IsPricedValue i c.args.prices cs c.shown_value-value.result) c.cuts-cuts.ensures c.shown_value-value.ensures.value in
     let loose = loose-path i v p.cuts p.arc_box c.requires.path.left c.args.loose c.requires.loose c.requires.graph in
-    let better = better-more i c.args.progress.now.best c.plan_for.new.best c.offer_at_node.new.best c.in_ok-plan.ensures.better c.offer_at_node.ensures.better in
-    let plan = plan-later i v p.cuts c.in_ok-plan.plan c.shown_value-value.result c.plan_for.new.best c.offer_at_node.new.best c.offer_at_node.ensures.better (rw c.cuts-cuts.ensures at c.in_ok-plan.ensures.plan) in
+    let better = better-more i c.args.progress.now.best c.plan_for.new.best c.offer_at_node.new.best c.plan_for.ensures.better c.offer_at_node.ensures.better in
+    let plan = plan-later i v p.cuts c.in-Ok-plan_for.plan c.shown_value-value.result c.plan_for.new.best c.offer_at_node.new.best c.offer_at_node.ensures.better (rw c.cuts-cuts.ensures at c.in-Ok-plan_for.ensures.plan) in
     on_ok_weaker c.price.result
     (λ done strict before now low asked.
     let are = leaf-cuts i v strict before now low c.args.progress.now c.args.leaf p.cuts c.requires.sound asked in
     let priced = priced-node i p.cuts c.args.pool.now c.args.prices c.args.weights.now c.shown_value-value.result are c.requires.solved value in
     turned-by i v strict before now now low c.args.progress.now c.args.leaf p.cuts c.offer_at_node.new.best c.price.new.self asked better
-    (done (asks-priced i v strict before now low c.args.progress.now c.args.leaf p.cuts c.offer_at_node.new.best c.args.prices c.shown_value-value.result c.in_ok-plan.plan asked
+    (done (asks-priced i v strict before now low c.args.progress.now c.args.leaf p.cuts c.offer_at_node.new.best c.args.prices c.shown_value-value.result c.in-Ok-plan_for.plan asked
     better priced loose plan)))
     c.price.ensures
 
 pub offer_at_node-requires-clause-desk : goal.offer_at_node-requires-clause-desk
 offer_at_node-requires-clause-desk c = record { pricing = c.shown_value-value.ensures.pricing; rosters = c.plan_for.ensures.rosters }
 
-pub returns-in_err-plan-clause-desk : goal.returns-in_err-plan-clause-desk
-returns-in_err-plan-clause-desk c = record { pricing = c.shown_value-value.ensures.pricing; rosters = c.plan_for.ensures.rosters }
+pub returns-in_default-plan_for-clause-desk : goal.returns-in_default-plan_for-clause-desk
+returns-in_default-plan_for-clause-desk c = record { pricing = c.shown_value-value.ensures.pricing; rosters = c.plan_for.ensures.rosters }
 
-pub returns-in_err-offer_at_node-clause-grown : goal.returns-in_err-offer_at_node-clause-grown
-returns-in_err-offer_at_node-clause-grown c = grown-more c.args.pool.now c.plan_for.new.pool c.offer_at_node.new.pool c.plan_for.ensures.grown c.offer_at_node.ensures.grown
+pub returns-in_default-offer_at_node-clause-grown : goal.returns-in_default-offer_at_node-clause-grown
+returns-in_default-offer_at_node-clause-grown c = grown-more c.args.pool.now c.plan_for.new.pool c.offer_at_node.new.pool c.plan_for.ensures.grown c.offer_at_node.ensures.grown

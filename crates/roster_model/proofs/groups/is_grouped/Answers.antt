@@ -1,4 +1,4 @@
-use Rattle.roster_model.proofs.Extended.{grouped, parts}
+use Rattle.roster_model.proofs.ExtensionLemmas.{grouped, parts}
 use Rattle.roster_model.proofs.groups.is_grouped.Goals as goal
 
 pub returns : goal.returns

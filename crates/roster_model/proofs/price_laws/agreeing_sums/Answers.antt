@@ -1,4 +1,4 @@
-use Rattle.roster_model.proofs.Agreed.{tree_same}
+use Rattle.roster_model.proofs.AgreementLemmas.{tree_same}
 use Rattle.roster_model.proofs.price_laws.agreeing_sums.Goals as goal
 
 pub returns : goal.returns

@@ -1,7 +1,7 @@
 use Rattle.std.proofs.Common.{length}
 use Rattle.tree_pool.specs.Pools.{IsPool}
 use Rattle.roster_moves.specs.Drafts.{IsDraft}
-use Rattle.roster_moves.proofs.copying.drafted.Given as goal
+use Rattle.roster_moves.proofs.copying.draft_all.Given as goal
 
 abbrev pub invariant-loop-column : goal.invariant-loop-column
 invariant-loop-column l = record {
