@@ -12,16 +12,18 @@ use Rattle.roster_model.specs.Folds.{sum_n, count, Each}
 use Rattle.roster_model.specs.Limits.{IsDayCell}
 use Rattle.roster_model.specs.SoundInstance.{IsSoundInstance}
 use Rattle.roster_model.proofs.SoundCells.{cells_of_day}
+use Rattle.roster_model.proofs.EachLemmas.{Each-weaker, Each-in}
 use Rattle.arc_laws.specs.OrNodes.{OrNode, name, suffix, leaf, same_node, made, used, root_of}
 use Rattle.arc_laws.specs.Lists.{AreArcs}
 use Rattle.arc_laws.specs.Balance.{made_sum, used_sum}
 use Rattle.arc_laws.specs.Counts.{AreCounts, counts_cost, letter_count, top_cost}
 use Rattle.arc_laws.proofs.ArcSums.{counted}
-use Rattle.arc_laws.proofs.FoldsLemmas.{sum_n-same, Each-same, Each-in}
+use Rattle.arc_laws.proofs.FoldsLemmas.{sum_n-same}
 use Rattle.arc_laws.proofs.SameArc.{rising-once}
+use Rattle.arc_laws.proofs.StandOnceLemmas.{once-counted}
 use Rattle.bound_laws.specs.Pinned.{IsPinnedValue}
 use Rattle.parse_graph.specs.Graphs.{GraphView, HasArcs, IsGraph}
-use Rattle.parse_graph.proofs.PlacesLemmas.{once-counted, in-graph, of-graph}
+use Rattle.parse_graph.proofs.PlacesLemmas.{in-graph, of-graph}
 use Rattle.parse_graph.proofs.ArcOrderLemmas.{sorted-arcs}
 use Rattle.pinned_part.specs.Net.{IsNet, AreAllowed, cell_size}
 use Rattle.pinned_part.proofs.NetLemmas.{allowed-counts, counts-allowed, penalties-same}
@@ -57,7 +59,7 @@ module _ (i : Instance) (v : ArcKey → ℕ) (xs : List ArcKey) (w : ArcKey → 
         };
         enough = omega (arith, h.enough, r);
         few = omega (arith, h.few, r);
-        cells = Each-same (λ (c : Cell). IsWithinCell c (letter_count i.grammar xs v c)) (λ (c : Cell). IsWithinCell c (letter_count i.grammar ys w c)) i.cells
+        cells = Each-weaker (λ (c : Cell). IsWithinCell c (letter_count i.grammar xs v c)) (λ (c : Cell). IsWithinCell c (letter_count i.grammar ys w c)) i.cells
             (λ c k. subst (λ (n : ℕ). IsWithinCell c n) (letters_same c) k) h.cells;
       }
 

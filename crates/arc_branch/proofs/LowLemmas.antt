@@ -6,14 +6,16 @@ use Rattle.std.proofs.lemmas.Option.{same_Some}
 use Rattle.roster_model.specs.declared.grammar.ArcKey.{ArcKey}
 use Rattle.roster_model.specs.Folds.{In}
 use Rattle.roster_model.specs.Arcs.{same_arc}
+use Rattle.roster_model.proofs.EachLemmas.{get-in}
 use Rattle.arc_laws.proofs.SameArc.{Told, arc_tells, same_arc-refl}
-use Rattle.parse_graph.proofs.PlacesLemmas.{Once, In-at, once-rest, once-apart}
+use Rattle.arc_laws.specs.Lists.{StandOnce}
+use Rattle.arc_laws.proofs.StandOnceLemmas.{once-rest, once-apart}
 use Rattle.arc_branch.specs.declared.bounds.Bounds.{Bounds}
 use Rattle.arc_branch.specs.Boxes.{bounds_at, IsSmall}
 use Rattle.arc_branch.specs.Costs.{low_of}
 
 -- the least count of an arc is that at its place
-pub low-at : (xs : List ArcKey) (bounds : List Bounds) → length bounds ≡ length xs → Once xs → (p : ℕ) (a : ArcKey) → slice_get xs p ≡ Some a → low_of xs bounds a ≡ (bounds_at bounds p).low
+pub low-at : (xs : List ArcKey) (bounds : List Bounds) → length bounds ≡ length xs → StandOnce xs → (p : ℕ) (a : ArcKey) → slice_get xs p ≡ Some a → low_of xs bounds a ≡ (bounds_at bounds p).low
 low-at [] bounds same once p a e = cc
 low-at (x ∷ xs) [] same once p a e = absurd (omega (arith, same))
 low-at (x ∷ xs) (b ∷ bounds) same once zero a e =
@@ -24,7 +26,7 @@ low-at (x ∷ xs) (b ∷ bounds) same once (suc p) a e =
     by (arc_tells x a) (low-at xs bounds (omega (arith, same)) (once-rest x xs once) p a e)
   where
     by : Told x a → low_of xs bounds a ≡ (bounds_at bounds p).low → cond (same_arc x a) b.low (low_of xs bounds a) ≡ (bounds_at bounds p).low
-    by (inl t) ih = absurd (once-apart x xs once (subst (λ (y : ArcKey). In y xs) (sym t.2) (In-at xs p a e)))
+    by (inl t) ih = absurd (once-apart x xs once (subst (λ (y : ArcKey). In y xs) (sym t.2) (get-in xs p a e)))
     by (inr t) ih = rw t.0 ih
 
 -- no least count is large

@@ -1,8 +1,9 @@
 -- One cut more on a path, and what it leaves of a box.
-use Rattle.std.proofs.Common.{◌≡◌, ◌≢◌, ℕ, arith, ◌≤◌, ◌<◌, max, Bool, true, false, cond, List, [], ◌∷◌, ◌++◌, Option, None, Some, length, get_or, set, refl, ap, sym, subst, ◌∙◌, ◌⊎◌, inl, inr, get_or-set_same, get_or-set_other}
+use Rattle.std.proofs.Common.{◌≡◌, ◌≢◌, ℕ, arith, ◌≤◌, ◌<◌, max, Bool, false, cond, List, [], ◌∷◌, ◌++◌, Option, None, Some, length, get_or, set, refl, ap, sym, subst, ◌∙◌, ◌⊎◌, inl, inr, get_or-set_same, get_or-set_other}
 use Rattle.std.specs.Prelude.{slice_get, ◌↔◌, MatchOption}
 use Rattle.std.proofs.lemmas.List.{length-set}
 use Rattle.std.proofs.lemmas.Option.{same_Some, slice_get_within, slice_get-get_or}
+use Rattle.std.proofs.lemmas.Bool.{cases_eq}
 use Rattle.roster_model.specs.declared.grammar.ArcKey.{ArcKey}
 use Rattle.roster_model.specs.declared.instance.Cut.{Cut}
 use Rattle.roster_model.specs.declared.instance.Instance.{Instance}
@@ -11,42 +12,12 @@ use Rattle.roster_model.specs.declared.instance.Side.TheVariants.{Low, High}
 use Rattle.roster_model.specs.Arcs.{same_arc, IsArc}
 use Rattle.roster_model.specs.Cuts.{lo, hi, at_least, at_most}
 use Rattle.arc_laws.proofs.SameArc.{Told, arc_tells, same_arc-refl}
+use Rattle.arc_laws.proofs.PathBounds.{lo_more, hi_more}
 use Rattle.bound_laws.specs.Pinned.{IsPinned}
 use Rattle.parse_graph.specs.Graphs.{GraphView, IsGraph}
 use Rattle.arc_branch.specs.declared.bounds.Bounds.{Bounds}
 use Rattle.arc_branch.specs.Boxes.{BoxView, bounds_at, halved, IsPinnedBox, IsFirstOpen}
 use Rattle.arc_branch.specs.Paths.{IsBoxOf, WasBoxOf, IsLooseAt, CutsElsewhere}
-
-abbrev least_of : Cut → ArcKey → ℕ
-least_of c a = cond (same_arc c.arc a) (at_least c.side c.b) 0
-
--- the last cut's least count
-lo_more : (cuts : List Cut) (c : Cut) (a : ArcKey) → lo (cuts ++ c ∷ []) a ≡ max (lo cuts a) (least_of c a)
-lo_more [] c a = swap (least_of c a)
-  where
-    swap : (n : ℕ) → max n 0 ≡ max 0 n
-    swap n = grind arith
-lo_more (d ∷ cuts) c a = join (least_of d a) (lo cuts a) (least_of c a) _ (lo_more cuts c a)
-  where
-    join : (x y z w : ℕ) → w ≡ max y z → max x w ≡ max (max x y) z
-    join x y z w e = grind arith
-
--- the last cut's greatest count
-hi_more : (most : ℕ) (cuts : List Cut) (c : Cut) (a : ArcKey) → hi most (cuts ++ c ∷ []) a ≡ cond (same_arc c.arc a) (at_most c.side c.b (hi most cuts a)) (hi most cuts a)
-hi_more most [] c a = refl
-hi_more most (d ∷ cuts) c a = by (same_arc d.arc a) (same_arc c.arc a) d.side c.side d.b c.b _ (hi most cuts a) (hi_more most cuts c a)
-  where
-    by : (s t : Bool) (x y : Side) (p q m n : ℕ) → m ≡ cond t (at_most y q n) n
-        → cond s (at_most x p m) m ≡ cond t (at_most y q (cond s (at_most x p n) n)) (cond s (at_most x p n) n)
-    by false t x y p q m n e = e
-    by true false x y p q m n e = ap (λ (k : ℕ). at_most x p k) e
-    by true true Low Low p q m n e = grind arith
-    by true true Low High p q m n e = grind arith
-    by true true High Low p q m n e = grind arith
-    by true true High High p q m n e = e
-
-same_or : (q p : ℕ) → (q ≡ p) ⊎ (q ≢ p)
-same_or q p = grind arith
 
 module _ (i : Instance) (v : GraphView) (graph : IsGraph i.grammar v) (cuts : List Cut) (p : ℕ) (a : ArcKey) (at : slice_get v.arcs p ≡ Some a) (side : Side) (n : ℕ) where
   abbrev c : Cut
@@ -97,8 +68,8 @@ module _ (i : Instance) (v : GraphView) (graph : IsGraph i.grammar v) (cuts : Li
       → IsBoxOf i v new (record { bounds = set bounds p y; places = places })
   box_set old new bounds places y h low high lows highs = record {
     made = record { arcs = length-set bounds p y ∙ h.made.arcs; places = h.made.places };
-    low = λ q x e. low_of q x e (same_or q p);
-    high = λ q x e. high_of q x e (same_or q p);
+    low = λ q x e. low_of q x e (cases_eq q p);
+    high = λ q x e. high_of q x e (cases_eq q p);
   }
     where
       within : p < length bounds

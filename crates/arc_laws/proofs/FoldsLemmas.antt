@@ -1,6 +1,6 @@
 -- Sums and counts over lists: joined, term by term, and what holds of each item.
-use Rattle.std.proofs.Common.{◌≡◌, ℕ, arith, ◌+◌, ◌≤◌, Bool, true, false, cond, List, [], ◌∷◌, ◌++◌, length, sym, refl, subst, ◌⊎◌, inl, inr}
-use Rattle.roster_model.specs.Folds.{sum_n, count, Each, In}
+use Rattle.std.proofs.Common.{◌≡◌, ℕ, arith, ◌+◌, ◌≤◌, Bool, true, false, cond, List, [], ◌∷◌, ◌++◌, length, refl, ◌⊎◌, inl, inr}
+use Rattle.roster_model.specs.Folds.{sum_n, count, In}
 
 module _ {A : Type 0} where
   pub count-append : (p : A → Bool) (xs ys : List A) → count p (xs ++ ys) ≡ count p xs + count p ys
@@ -34,24 +34,6 @@ module _ {A : Type 0} where
       one : (b : Bool) → count p xs ≤ length xs → cond b 1 0 + count p xs ≤ length (x ∷ xs)
       one true h = omega arith
       one false h = omega arith
-
-  pub Each-same : (P Q : A → Type 0) (xs : List A) → ((x : A) → P x → Q x) → Each P xs → Each Q xs
-  Each-same P Q [] f h = tt
-  Each-same P Q (x ∷ xs) f h = (f x h.0, Each-same P Q xs f h.1)
-
-  pub Each-append : (P : A → Type 0) (xs ys : List A) → Each P xs → Each P ys → Each P (xs ++ ys)
-  Each-append P [] ys h k = k
-  Each-append P (x ∷ xs) ys h k = (h.0, Each-append P xs ys h.1 k)
-
-  pub Each-at : (P : A → Type 0) (x : A) (xs : List A) → Each P xs → In x xs → P x
-  Each-at P x [] h i = absurd i
-  Each-at P x (y ∷ ys) h (inl e) = subst P (sym e) h.0
-  Each-at P x (y ∷ ys) h (inr i) = Each-at P x ys h.1 i
-
-  -- what holds of each item by a reason of its own
-  pub Each-in : (P : A → Type 0) (xs : List A) → ((x : A) → In x xs → P x) → Each P xs
-  Each-in P [] f = tt
-  Each-in P (x ∷ xs) f = (f x (inl refl), Each-in P xs (λ y h. f y (inr h)))
 
   pub In-append : (x : A) (xs ys : List A) → In x (xs ++ ys) → In x xs ⊎ In x ys
   In-append x [] ys h = inr h

@@ -7,3 +7,7 @@ pub mod RuleCosts
 pub mod Totals
 pub mod PathBounds
 pub mod OneList
+pub mod ListEnds
+pub mod AtNodesLemmas
+pub mod PartCuts
+pub mod StandOnceLemmas

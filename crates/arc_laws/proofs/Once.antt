@@ -1,7 +1,7 @@
 -- In a tree each name or suffix on a span is made at most once, so each arc stands at most once.
 use Rattle.std.proofs.Common.{◌≡◌, ℕ, zero, suc, arith, ◌+◌, ◌≤◌, ◌<◌, Bool, true, false, cond, Option, None, Some, List, [], ◌∷◌, ◌++◌, drop, sym, refl, ap, subst, ◌∙◌, ◌⊎◌, inl, inr}
 use Rattle.std.specs.Prelude.{nat_eq}
-use Rattle.std.proofs.lemmas.Bool.{eqb-true}
+use Rattle.std.proofs.lemmas.Bool.{eqb-true, and_parts}
 use Rattle.roster_model.specs.declared.grammar.ArcKey.{ArcKey}
 use Rattle.roster_model.specs.declared.grammar.Grammar.{Grammar}
 use Rattle.roster_model.specs.declared.grammar.Rule.{Rule}
@@ -13,7 +13,6 @@ use Rattle.roster_model.specs.Trees.{Parts, done, letter, uses, span_length, Der
 use Rattle.roster_model.specs.Arcs.{arc_of_part, parts_arcs, arcs}
 use Rattle.arc_laws.specs.OrNodes.{OrNode, name, suffix, leaf, same_node, left_of, right_of, made_by, made}
 use Rattle.arc_laws.proofs.FoldsLemmas.{sum_n-append}
-use Rattle.arc_laws.proofs.SameArc.{and_both}
 use Rattle.arc_laws.proofs.BalanceLemmas.{made_total, left_of-is, right_of-is, drop-next, no_symbols}
 
 abbrev begin : OrNode → ℕ
@@ -68,12 +67,12 @@ module _ (g : Grammar) (rank : ℕ → ℕ) (names : ℕ) (ranked : IsRanked g r
   is_made (name x j n) r (suc k) i l e = cc
   is_made (suffix q n j s) r zero i l e = cc
   is_made (name x j n) r zero i l e =
-      let a = and_both _ (nat_eq n l) e in
-      let b = and_both (nat_eq x (left_of g r)) (nat_eq j i) a.0 in
+      let a = and_parts _ (nat_eq n l) e in
+      let b = and_parts (nat_eq x (left_of g r)) (nat_eq j i) a.0 in
       record { begins = eqb-true j i b.1; sized = eqb-true n l a.1; named = λ h. eqb-true x (left_of g r) b.0 }
   is_made (suffix q n j s) r (suc k) i l e =
-      let a = and_both _ (nat_eq s l) e in
-      let b = and_both _ (nat_eq j i) a.0 in
+      let a = and_parts _ (nat_eq s l) e in
+      let b = and_parts _ (nat_eq j i) a.0 in
       record { begins = eqb-true j i b.1; sized = eqb-true s l a.1; named = λ h. absurd (omega arith) }
 
   module _ (o : OrNode) where

@@ -1,19 +1,12 @@
 -- A rising list is told by what stands in it.
-use Rattle.std.proofs.Common.{◌≡◌, ℕ, arith, List, [], ◌∷◌, sym, refl, ap, subst, ◌∙◌, inl, inr}
+use Rattle.std.proofs.Common.{◌≡◌, List, [], ◌∷◌, sym, refl, ap, subst, ◌∙◌, inl, inr}
 use Rattle.roster_model.specs.declared.grammar.ArcKey.{ArcKey}
 use Rattle.roster_model.specs.declared.grammar.Grammar.{Grammar}
 use Rattle.roster_model.specs.Folds.{In}
-use Rattle.roster_model.specs.Arcs.{ComesFirst, ArcBefore, arc_numbers}
+use Rattle.roster_model.specs.Arcs.{ArcBefore, arc_numbers}
+use Rattle.roster_model.proofs.ComesFirstLemmas.{first_one_way}
+use Rattle.roster_model.proofs.EachLemmas.{Each-at}
 use Rattle.arc_laws.specs.Lists.{IsRising, AreArcs}
-use Rattle.arc_laws.proofs.FoldsLemmas.{Each-at}
-
-first_one_way : (xs ys : List ℕ) → ComesFirst xs ys → ComesFirst ys xs → ⊥
-first_one_way [] ys h k = h
-first_one_way (x ∷ xs) [] h k = h
-first_one_way (x ∷ xs) (y ∷ ys) (inl h) (inl k) = absurd (omega arith)
-first_one_way (x ∷ xs) (y ∷ ys) (inl h) (inr k) = absurd (omega (arith, k.0))
-first_one_way (x ∷ xs) (y ∷ ys) (inr h) (inl k) = absurd (omega (arith, h.0))
-first_one_way (x ∷ xs) (y ∷ ys) (inr h) (inr k) = first_one_way xs ys h.1 k.1
 
 one_way : (a b : ArcKey) → ArcBefore a b → ArcBefore b a → ⊥
 one_way a b h k = first_one_way (arc_numbers a) (arc_numbers b) h k

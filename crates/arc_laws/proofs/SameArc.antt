@@ -1,24 +1,19 @@
 -- Whether two arcs are the same, and the order of arcs.
 use Rattle.std.proofs.Common.{◌≡◌, ℕ, arith, ◌+◌, Bool, true, false, cond, List, [], ◌∷◌, sym, refl, subst, ◌⊎◌, inl, inr}
-use Rattle.std.specs.Prelude.{◌&&◌, nat_eq}
-use Rattle.std.proofs.lemmas.Bool.{eqb-true, eq-eqb}
+use Rattle.std.specs.Prelude.{nat_eq}
+use Rattle.std.proofs.lemmas.Bool.{eqb-true, eq-eqb, and_parts}
 use Rattle.roster_model.specs.declared.grammar.ArcKey.{ArcKey}
 use Rattle.roster_model.specs.Folds.{count, Each, In}
-use Rattle.roster_model.specs.Arcs.{same_arc, ComesFirst, ArcBefore, arc_numbers}
+use Rattle.roster_model.specs.Arcs.{same_arc, ArcBefore, arc_numbers}
+use Rattle.roster_model.proofs.ComesFirstLemmas.{first_apart}
 use Rattle.arc_laws.specs.Lists.{IsRising}
-
-pub and_both : (s t : Bool) → (s && t) ≡ true → (s ≡ true) × (t ≡ true)
-and_both true true e = (refl, refl)
-and_both true false e = cc
-and_both false true e = cc
-and_both false false e = cc
 
 pub same_arc-true : (a b : ArcKey) → same_arc a b ≡ true → a ≡ b
 same_arc-true a b e =
-    let h4 = and_both _ (nat_eq a.part b.part) e in
-    let h3 = and_both _ (nat_eq a.len b.len) h4.0 in
-    let h2 = and_both _ (nat_eq a.start b.start) h3.0 in
-    let h1 = and_both (nat_eq a.rule b.rule) (nat_eq a.suffix b.suffix) h2.0 in
+    let h4 = and_parts _ (nat_eq a.part b.part) e in
+    let h3 = and_parts _ (nat_eq a.len b.len) h4.0 in
+    let h2 = and_parts _ (nat_eq a.start b.start) h3.0 in
+    let h1 = and_parts (nat_eq a.rule b.rule) (nat_eq a.suffix b.suffix) h2.0 in
     let e0 = eqb-true a.rule b.rule h1.0 in
     let e1 = eqb-true a.suffix b.suffix h1.1 in
     let e2 = eqb-true a.start b.start h2.1 in
@@ -50,12 +45,6 @@ arc_tells a b = pick (same_arc a b) (same_arc b a) refl refl
     pick true t e f = let same = same_arc-true a b e in let g : same_arc b a ≡ true = rw same (same_arc-refl b) in inl (e, g, same)
     pick false true e f = let same = same_arc-true b a f in let g : same_arc a b ≡ true = rw same (same_arc-refl a) in cc
     pick false false e f = inr (e, f)
-
--- no list of numbers comes before itself
-first_apart : (xs : List ℕ) → ComesFirst xs xs → ⊥
-first_apart [] h = h
-first_apart (x ∷ xs) (inl h) = absurd (omega arith)
-first_apart (x ∷ xs) (inr h) = first_apart xs h.1
 
 -- an arc that comes before others is none of them
 before_none : (a : ArcKey) (listed : List ArcKey) → Each (ArcBefore a) listed → count (same_arc a) listed ≡ 0

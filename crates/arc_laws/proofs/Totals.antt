@@ -8,19 +8,20 @@ use Rattle.roster_model.specs.Folds.{sum_n, count, Each, In}
 use Rattle.roster_model.specs.Arcs.{Letter, letters, arcs, cost, same_arc, IsArc}
 use Rattle.roster_model.specs.Sound.{IsSound}
 use Rattle.roster_model.specs.Cuts.{arcs_of, arc_count}
+use Rattle.roster_model.proofs.EachLemmas.{Each-weaker}
 use Rattle.arc_laws.specs.OrNodes.{OrNode, name, suffix, leaf, same_node, made_by, made, used, root_of}
 use Rattle.arc_laws.specs.TreeLists.{has_letter, letters_of}
 use Rattle.arc_laws.specs.Lists.{AreArcs, HoldsArcsOnce}
 use Rattle.arc_laws.specs.Balance.{made_sum, used_sum, IsBalanced}
 use Rattle.arc_laws.specs.Counts.{top_cost, root_count}
-use Rattle.arc_laws.proofs.FoldsLemmas.{sum_n-append, sum_n-same, count-append, count-none, In-append, Each-same}
+use Rattle.arc_laws.proofs.FoldsLemmas.{sum_n-append, sum_n-same, count-append, count-none, In-append}
 use Rattle.arc_laws.proofs.SameArc.{Told, arc_tells, rising-once}
 use Rattle.arc_laws.proofs.ArcSums.{counted}
 use Rattle.arc_laws.proofs.BalanceLemmas.{used_total, made_total, tree_balanced}
 use Rattle.arc_laws.proofs.RuleCosts.{tops_total}
 use Rattle.arc_laws.proofs.Once.{made-once}
 
-same_node-refl : (o : OrNode) → same_node o o ≡ true
+pub same_node-refl : (o : OrNode) → same_node o o ≡ true
 same_node-refl (name x i l) = let a = eq-eqb x x refl in let b = eq-eqb i i refl in let c = eq-eqb l l refl in rw (a, b, c)
 same_node-refl (suffix r k i l) = let a = eq-eqb r r refl in let b = eq-eqb k k refl in let c = eq-eqb i i refl in let d = eq-eqb l l refl in rw (a, b, c, d)
 same_node-refl (leaf l) = let a = eq-eqb l.code l.code refl in let b = eq-eqb l.period l.period refl in rw (a, b)
@@ -72,7 +73,7 @@ module _ (g : Grammar) where
 
   module _ (sound : IsSound g) where
     once_each : (o : OrNode) (ts : List Parts) → Each (IsDayTree g) ts → Each (λ t. made_total g (same_node o) (arcs 1 t) ≤ 1) ts
-    once_each o ts day = Each-same (IsDayTree g) _ ts (λ t d. made-once g sound.ranks.0 (length g.names) sound.ranks.1 o t d) day
+    once_each o ts day = Each-weaker (IsDayTree g) _ ts (λ t d. made-once g sound.ranks.0 (length g.names) sound.ranks.1 o t d) day
 
     pub node_once : (t : Parts) (o : OrNode) → IsDayTree g t → count (λ a. same_node o (made g a)) (arcs 1 t) ≤ 1
     node_once t o d = omega (arith, made_count (same_node o) (arcs 1 t), made-once g sound.ranks.0 (length g.names) sound.ranks.1 o t d)

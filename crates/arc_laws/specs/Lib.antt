@@ -5,3 +5,4 @@ pub mod Balance
 pub mod Counts
 pub mod Loose
 pub mod Laws
+pub mod AtNodes

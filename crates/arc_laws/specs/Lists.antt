@@ -1,5 +1,5 @@
 -- The arcs of the instance as a list.
-use Rattle.std.specs.Prelude.{◌≡◌, List, [], ◌∷◌}
+use Rattle.std.specs.Prelude.{◌≡◌, List, [], ◌∷◌, ℕ, Some, slice_get}
 use Rattle.roster_model.specs.declared.grammar.ArcKey.{ArcKey}
 use Rattle.roster_model.specs.declared.grammar.Grammar.{Grammar}
 use Rattle.roster_model.specs.Folds.{count, Each, In}
@@ -21,3 +21,7 @@ pub record HoldsArcsOnce (g : Grammar) (listed : List ArcKey) : Type 0 where
   pub sound : (a : ArcKey) → In a listed → IsArc g a
   pub whole : (a : ArcKey) → IsArc g a → In a listed
   pub once : (a : ArcKey) → In a listed → count (same_arc a) listed ≡ 1
+
+-- each arc stands at one place
+abbrev pub StandOnce : List ArcKey → Type 0
+StandOnce listed = (p q : ℕ) (a : ArcKey) → slice_get listed p ≡ Some a → slice_get listed q ≡ Some a → p ≡ q

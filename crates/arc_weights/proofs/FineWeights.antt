@@ -2,15 +2,14 @@
 use Rattle.std.proofs.Common.{true≢false, ◌≡◌, ◌≢◌, ℕ, arith, ◌+◌, ◌*◌, ◌<◌, Bool, true, false, cond, List, [], ◌∷◌, ◌++◌, Some, refl, sym, ap, ◌∙◌, subst, unsigned_abs, ◌⊎◌, inl, inr}
 use Rattle.std.specs.Prelude.{◌&&◌, nat_eq, slice_get}
 use Rattle.std.specs.Int.{◌∣◌}
-use Rattle.std.proofs.lemmas.Bool.{eqb-true, eq-eqb}
+use Rattle.std.proofs.lemmas.Bool.{eqb-true, eq-eqb, and_parts}
 use Rattle.std.proofs.lemmas.Option.{same_Some}
 use native.Mathlib.Nat.{dvd-mul_left}
 use Rattle.roster_model.specs.declared.grammar.Grammar.{Grammar}
 use Rattle.roster_model.specs.declared.grammar.Step.{Step}
 use Rattle.roster_model.specs.Trees.{Parts, steps}
 use Rattle.roster_model.specs.Folds.{Each, In}
-use Rattle.arc_laws.proofs.FoldsLemmas.{Each-at}
-use Rattle.arc_laws.proofs.SameArc.{and_both}
+use Rattle.roster_model.proofs.EachLemmas.{Each-at, Each-in}
 use Rattle.fraction.proofs.CoprimeProducts.{gauss}
 use Rattle.linear_programs.specs.Solution.{Weighted, weight_where}
 use Rattle.master_laws.specs.Master.{MasterKey, missing, beyond, tree}
@@ -44,8 +43,8 @@ step_refl x = both_true _ _ (eq-eqb x.rule x.rule refl) (both_true _ _ (eq-eqb x
 step_true : (x y : Step) → same_step x y ≡ true → x ≡ y
 unfolding same_step
 step_true x y e =
-    let a = and_both (nat_eq x.rule y.rule) _ e in
-    let b = and_both (nat_eq x.start y.start) _ a.1 in
+    let a = and_parts (nat_eq x.rule y.rule) _ e in
+    let b = and_parts (nat_eq x.start y.start) _ a.1 in
     three x.rule y.rule x.start y.start x.len y.len (eqb-true x.rule y.rule a.0) (eqb-true x.start y.start b.0) (eqb-true x.len y.len b.1)
   where
     three : (r r' i i' l l' : ℕ) → r ≡ r' → i ≡ i' → l ≡ l' → ◌≡◌ {A = Step} (record { rule = r; start = i; len = l }) (record { rule = r'; start = i'; len = l' })
@@ -62,7 +61,7 @@ steps_true [] [] e = refl
 steps_true [] (y ∷ ys) e = cc
 steps_true (x ∷ xs) [] e = cc
 steps_true (x ∷ xs) (y ∷ ys) e =
-    let a = and_both (same_step x y) (same_steps xs ys) e in
+    let a = and_parts (same_step x y) (same_steps xs ys) e in
     ap (λ (z : Step). z ∷ xs) (step_true x y a.0) ∙ ap (λ (zs : List Step). y ∷ zs) (steps_true xs ys a.1)
 
 -- ---- one tree's weight
@@ -78,10 +77,6 @@ where_none t (w ∷ ws) h = by w.key h.0 (where_none t ws h.1)
     by (missing r) o ih = omega (arith, ih)
     by (beyond r) o ih = omega (arith, ih)
     by (tree p) o ih = absurd o
-
-each_in : {A : Type 0} (P : A → Type 0) (xs : List A) → ((x : A) → In x xs → P x) → Each P xs
-each_in P [] h = tt
-each_in P (x ∷ xs) h = (h x (inl refl), each_in P xs (λ y k. h y (inr k)))
 
 module _ (g : Grammar) (columns : List PoolTree) (q : ℕ) (pool : IsPool g columns) where
   -- the test of the tree with a column
@@ -145,7 +140,7 @@ module _ (g : Grammar) (columns : List PoolTree) (q : ℕ) (pool : IsPool g colu
   -- the denominator of each weight divides each common one of the trees' weights
   pub are_fine : (q_some : 0 < q) (xs : List Weight) (trees others : List (Weighted MasterKey)) → AreWeights g columns q xs trees → Each (λ (w : Weighted MasterKey). IsOther w.key) others → AreApart xs
       → AreAllPast xs → AreFine (trees ++ others) q
-  are_fine q_some xs trees others are other apart past k some den = past k some (each_in (λ (x : Weight). den_of x ∣ k) xs divides)
+  are_fine q_some xs trees others are other apart past k some den = past k some (Each-in (λ (x : Weight). den_of x ∣ k) xs divides)
     where
       times : (n b a w : ℕ) → w * b ≡ a * q → k * w ≡ q * n → n * b ≡ a * k
       times n b a w s e =

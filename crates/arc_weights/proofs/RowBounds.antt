@@ -12,15 +12,16 @@ use Rattle.roster_model.specs.Folds.{sum_n, Each}
 use Rattle.roster_model.specs.Arcs.{same_arc}
 use Rattle.roster_model.specs.Cuts.{at_least as least_on, at_most as most_on, lo, hi}
 use Rattle.roster_model.specs.SoundInstance.{IsSoundInstance}
+use Rattle.roster_model.proofs.EachLemmas.{Each-right}
 use Rattle.arc_laws.proofs.SameArc.{Told, arc_tells}
 use Rattle.arc_laws.proofs.Totals.{arc_count-le}
 use Rattle.bound_laws.specs.BestPrices.{artificial_cost}
 use Rattle.linear_programs.specs.Solution.{Weighted, IsSolution, Uses}
-use Rattle.master_laws.specs.Rows.{at_least, at_most, Row, rows_of, most_row, side_row, cut_row, cell_rows, floor_rows, ceiling_rows, cut_rows, tree_arcs}
+use Rattle.master_laws.specs.Rows.{at_least, at_most, Row, rows_of, most_row, side_row, cut_row, cell_rows, floor_rows, ceiling_rows, tree_arcs}
 use Rattle.master_laws.specs.Master.{MasterKey, missing, beyond, tree, master}
 use Rattle.master_laws.specs.Sharp.{UsesArtificial, arc_weight}
-use Rattle.master_laws.proofs.Lines.{Each-back}
 use Rattle.master_laws.proofs.Copies.{IsRow, copies, copies_day, copies_arcs, sum_arcs, sum_ones, each_row, most_kept, least_kept, artificial_at}
+use Rattle.master_laws.proofs.WholeCountsLemmas.{each_cut_row}
 
 row_of : MasterKey → ℕ
 row_of (missing r) = r
@@ -56,16 +57,12 @@ uses_is (w ∷ ws) r = by (uses_is ws r)
     by (inl u) = inl (inr u)
     by (inr none) = here none w.key refl w.weight refl
 
-each_cut : (P : Row → Type 0) (cs : List Cut) → Each P (cut_rows cs) → Each (λ (c : Cut). P (cut_row c)) cs
-each_cut P [] h = tt
-each_cut P (c ∷ cs) h = (h.0, each_cut P cs h.1)
-
 heads_rows : (P : Row → Type 0) (i : Instance) (cuts : List Cut) → Each P (rows_of i cuts) → P (most_row i.heads_max) × Each (λ (c : Cut). P (cut_row c)) cuts
 heads_rows P i cuts h =
-    let a = Each-back P (cell_rows i.cells) _ h in
-    let b = Each-back P (floor_rows i.cells) _ a in
-    let c = Each-back P (ceiling_rows i.cells) _ b in
-    (c.1.0, each_cut P cuts c.1.1)
+    let a = Each-right P (cell_rows i.cells) _ h in
+    let b = Each-right P (floor_rows i.cells) _ a in
+    let c = Each-right P (ceiling_rows i.cells) _ b in
+    (c.1.0, each_cut_row P cuts c.1.1)
 
 module _ (i : Instance) (cuts : List Cut) (ws : List (Weighted MasterKey)) (q : ℕ) (solution : IsSolution (master i cuts) ws q) where
   abbrev us : List Parts

@@ -6,11 +6,12 @@ use Rattle.std.proofs.lemmas.List.{get_or-set_same, get_or-set_other}
 use Rattle.roster_model.specs.declared.grammar.ArcKey.{ArcKey}
 use Rattle.roster_model.specs.Folds.{count, In}
 use Rattle.roster_model.specs.Arcs.{same_arc}
+use Rattle.roster_model.proofs.EachLemmas.{get-in}
 use Rattle.arc_laws.proofs.SameArc.{Told, arc_tells, same_arc-refl}
-use Rattle.parse_graph.proofs.PlacesLemmas.{In-at}
+use Rattle.arc_laws.specs.Lists.{StandOnce}
 use Rattle.tree_pool.specs.Pools.{PoolTree}
 use Rattle.node_columns.specs.declared.weights.Weight.{Weight}
-use Rattle.arc_weights.specs.Sums.{unit, arcs_of_some, arcs_at, arc_units, StandOnce, HaveRoom, AreInPool, AreSums}
+use Rattle.arc_weights.specs.Sums.{unit, arcs_of_some, arcs_at, arc_units, HaveRoom, AreInPool, AreSums}
 use Rattle.arc_weights.specs.Loops.{AreAddedBefore, AreSummedBefore}
 
 -- what stands at a place is within the list
@@ -79,7 +80,7 @@ module _ (listed : List ArcKey) (units : ℕ) (added : List ArcKey) (old sums : 
       by : (p : ℕ) (a : ArcKey) → slice_get listed p ≡ Some a → Told a arc
           → slice_index sums p + units * (cond (same_arc a arc) 1 0 + count (same_arc a) (drop (k + 1) added)) ≡ slice_index old p + units * count (same_arc a) added
           → slice_index sums p + units * count (same_arc a) (drop (k + 1) added) ≡ slice_index old p + units * count (same_arc a) added
-      by p a e (inl t) l = absurd (absent (subst (λ (x : ArcKey). In x listed) t.2 (In-at listed p a e)))
+      by p a e (inl t) l = absurd (absent (subst (λ (x : ArcKey). In x listed) t.2 (get-in listed p a e)))
       by p a e (inr t) l = let l' : slice_index sums p + units * (0 + count (same_arc a) (drop (k + 1) added)) ≡ slice_index old p + units * count (same_arc a) added = rw t.0 at l in omega (arith, l')
 
 -- the arcs are added

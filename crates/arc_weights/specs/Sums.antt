@@ -24,10 +24,6 @@ abbrev pub arc_units : ℕ → List PoolTree → ArcKey → List Weight → ℕ
 arc_units d columns a weights =
     sum_n (λ (x : Weight). unit d x * count (same_arc a) (arcs_at columns x.column)) weights
 
--- each arc stands at one place
-abbrev pub StandOnce : List ArcKey → Type 0
-StandOnce listed = (p q : ℕ) (a : ArcKey) → slice_get listed p ≡ Some a → slice_get listed q ≡ Some a → p ≡ q
-
 -- each sum has room for the arcs that are added to it
 abbrev pub HaveRoom : List ArcKey → ℕ → List ArcKey → List ℕ → Type 0
 HaveRoom listed units added sums =

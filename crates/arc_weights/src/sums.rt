@@ -1,6 +1,7 @@
 ghost use Rattle.std.specs.Prelude.{ℕ, ◌≡◌, ◌<◌, ◌≤◌, ◌*◌, ◌+◌, ◌^◌, IfOk, length};
 ghost use Rattle.roster_model.specs.Folds.{Each};
-ghost use Rattle.arc_weights.specs.Sums.{unit, StandOnce, HaveRoom, AreAdded, AreInPool, HaveRoomFor, AreSums};
+ghost use Rattle.arc_laws.specs.Lists.{StandOnce};
+ghost use Rattle.arc_weights.specs.Sums.{unit, HaveRoom, AreAdded, AreInPool, HaveRoomFor, AreSums};
 
 use node_master::{Pool, Weight};
 use parse_graph::Graph;

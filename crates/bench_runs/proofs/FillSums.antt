@@ -1,18 +1,13 @@
 -- At the prices of a fill each tree has a sum.
-use Rattle.std.proofs.Common.{ℕ, ℤ, ◌+◌, ◌*◌, Option, None, Some, refl}
+use Rattle.std.proofs.Common.{ℕ, ◌+◌, ◌*◌, Some, refl}
 use Rattle.std.specs.Prelude.{IsSome}
-use Rattle.std.proofs.lemmas.Bool.{false≢true}
 use Rattle.roster_model.specs.declared.grammar.Grammar.{Grammar}
 use Rattle.roster_model.specs.Sums.{plus, parts_sum, tree_sum}
 use Rattle.roster_model.specs.Trees.{Parts, done, letter, uses}
 use Rattle.span_table.specs.Tables.{TableView, IsFilled}
 use Rattle.priced_part.specs.Filled.{IsFilledForAll}
+use Rattle.priced_part.proofs.LeastReduced.{plus-some}
 use Rattle.bench_runs.specs.Prices.{price_of, fill_view}
-
-plus-some : (a b : Option ℤ) → IsSome a → IsSome b → IsSome (plus a b)
-plus-some None b h k = absurd (false≢true h)
-plus-some (Some x) None h k = absurd (false≢true k)
-plus-some (Some x) (Some y) h k = refl
 
 parts-some : (f : ℕ) (t : Parts) (r k i : ℕ) → IsSome (parts_sum (fill_view f) r k i t)
 parts-some f done r k i = refl

@@ -13,7 +13,7 @@ use Rattle.roster_model.specs.Cuts.{group_arc, group_cuts, cuts_from, base_cuts}
 use Rattle.roster_model.specs.Extension.{group_rule}
 use Rattle.roster_model.specs.Folds.{sum_n, Each}
 use Rattle.roster_model.specs.SoundInstance.{IsSoundInstance, IsGroup, HasGroups}
-use Rattle.arc_laws.proofs.FoldsLemmas.{Each-append}
+use Rattle.roster_model.proofs.EachLemmas.{Each-append}
 use Rattle.node_master.specs.Ends.{IsNodeCut}
 
 -- a group has at most 64 employees

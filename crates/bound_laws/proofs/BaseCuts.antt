@@ -15,7 +15,7 @@ use Rattle.roster_model.specs.Cuts.{lo, hi, group_arc, group_cuts, cuts_from, ba
 use Rattle.roster_model.specs.Folds.{sum_n, count, Each, In}
 use Rattle.roster_model.specs.SoundInstance.{IsSoundInstance, IsGroup, HasGroups}
 use Rattle.roster_model.specs.Teams.{Team, teams, teams_of, teams_from}
-use Rattle.arc_laws.proofs.FoldsLemmas.{Each-append, Each-at}
+use Rattle.roster_model.proofs.EachLemmas.{Each-append, Each-at}
 use Rattle.arc_laws.proofs.SameArc.{Told, arc_tells, same_arc-true}
 use Rattle.bound_laws.specs.Counted.{AsksForArc}
 use Rattle.bound_laws.specs.DutyTrees.{own_rules}
@@ -90,7 +90,7 @@ module _ (i : Instance) (a : ArcKey) where
           omega (arith, o.0, o.1, ih)
 
 -- each group's greatest number is at most their sum
-ranges : (names top : ℕ) (gs : List Group) → All (IsGroup names) gs → sum_n (λ (g : Group). g.heads_max) gs ≤ top → Each (IsRange top) gs
+pub ranges : (names top : ℕ) (gs : List Group) → All (IsGroup names) gs → sum_n (λ (g : Group). g.heads_max) gs ≤ top → Each (IsRange top) gs
 ranges names top [] all le = tt
 ranges names top (g ∷ gs) all le =
     let h = All-head (IsGroup names) g gs all in

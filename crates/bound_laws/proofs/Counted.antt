@@ -13,9 +13,10 @@ use Rattle.roster_model.specs.Arcs.{arcs, same_arc, IsArc}
 use Rattle.roster_model.specs.Coverage.{penalty, IsWithinCell}
 use Rattle.roster_model.specs.Cuts.{arcs_of, arc_count, KeepsTo, Meets}
 use Rattle.roster_model.specs.SoundInstance.{IsSoundInstance}
+use Rattle.roster_model.proofs.EachLemmas.{Each-weaker, Each-at, Each-in}
 use Rattle.arc_laws.specs.Counts.{letter_count, AreCounts}
 use Rattle.arc_laws.specs.Lists.{HoldsArcsOnce}
-use Rattle.arc_laws.proofs.FoldsLemmas.{sum_n-same, count-append, Each-same, Each-in, Each-at}
+use Rattle.arc_laws.proofs.FoldsLemmas.{sum_n-same, count-append}
 use Rattle.arc_laws.proofs.PathBounds.{bounds-keep}
 use Rattle.arc_laws.proofs.SameArc.{same_arc-refl, same_arc-true}
 use Rattle.arc_laws.proofs.Totals.{listed-roots, listed-leaves, listed-costs}
@@ -44,7 +45,7 @@ module _ (i : Instance) (listed : List ArcKey) (value : ArcKey → ℕ) (ts : Li
           day = have.day;
           enough = omega (arith, e, are.enough);
           few = omega (arith, e, are.few);
-          coverage = Each-same (λ (c : Cell). IsWithinCell c (letter_count i.grammar listed value c)) (IsCovered i ts) i.cells
+          coverage = Each-weaker (λ (c : Cell). IsWithinCell c (letter_count i.grammar listed value c)) (IsCovered i ts) i.cells
               (λ c h. let l = letters_are c in record {
                 range = record { floor = omega (arith, l, h.floor); ceiling = omega (arith, l, h.ceiling) };
                 heads = omega (arith, cover-le i.grammar ts c have.day, root);

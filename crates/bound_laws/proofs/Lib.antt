@@ -25,3 +25,4 @@ pub mod LetterOnce
 pub mod Counted
 pub mod ReducedCosts
 pub mod WorkedBest
+pub mod WorkedDayLemmas

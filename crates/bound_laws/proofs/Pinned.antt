@@ -10,9 +10,10 @@ use Rattle.roster_model.specs.Sound.{IsSound}
 use Rattle.roster_model.specs.Coverage.{penalty}
 use Rattle.roster_model.specs.Cuts.{arc_count, Meets, lo}
 use Rattle.roster_model.specs.GreatestCost.{greatest_cost}
+use Rattle.roster_model.proofs.EachLemmas.{Each-weaker}
 use Rattle.arc_laws.specs.Lists.{AreArcs}
 use Rattle.arc_laws.specs.Counts.{letter_count, AreCounts, counts_cost}
-use Rattle.arc_laws.proofs.FoldsLemmas.{sum_n-same, Each-same}
+use Rattle.arc_laws.proofs.FoldsLemmas.{sum_n-same}
 use Rattle.arc_laws.proofs.PathBounds.{tight_count}
 use Rattle.arc_laws.proofs.Totals.{arc_count-le, trees-balanced, root-counts, leaves-count, arcs-pay}
 use Rattle.bound_laws.specs.TreeRosters.{tree_cover, IsCovered, IsTreeRoster, trees_cost}
@@ -30,7 +31,7 @@ module _ (i : Instance) (sound : IsSound i.grammar) (ts : List Parts) (roster : 
           balanced = trees-balanced i.grammar ts listed value roster.day are same;
           enough = omega (arith, root, roster.enough);
           few = omega (arith, root, roster.few);
-          cells = Each-same (IsCovered i ts) _ i.cells (λ c h. let e = letters_are c in record { floor = omega (arith, h.range.floor); ceiling = omega (arith, h.range.ceiling) }) roster.coverage;
+          cells = Each-weaker (IsCovered i ts) _ i.cells (λ c h. let e = letters_are c in record { floor = omega (arith, h.range.floor); ceiling = omega (arith, h.range.ceiling) }) roster.coverage;
         }
 
     pub counts-cost : counts_cost i listed value ≡ trees_cost i ts

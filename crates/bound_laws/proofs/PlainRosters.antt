@@ -10,7 +10,8 @@ use Rattle.roster_model.specs.Teams.{Team, teams, teams_of}
 use Rattle.roster_model.specs.Coverage.{covers_cell}
 use Rattle.roster_model.specs.Rosters.{ArePrices, is_in_team, HasHeads, IsRoster}
 use Rattle.roster_model.specs.SoundInstance.{IsSoundInstance}
-use Rattle.arc_laws.proofs.FoldsLemmas.{count-le-length, Each-same}
+use Rattle.roster_model.proofs.EachLemmas.{Each-weaker}
+use Rattle.arc_laws.proofs.FoldsLemmas.{count-le-length}
 use Rattle.bound_laws.specs.Plain.{IsFree, IsPlainDay, AreShifts, IsPlainRoster}
 
 -- the one team of the day
@@ -65,6 +66,6 @@ plain-roster i ds ps sound day r =
     record {
       shifts = to_prices i day.groups ds ps r.shifts;
       heads = subst (λ (ts : List Team). Each (HasHeads ds) ts) (sym (one-team i day.groups)) (one, tt);
-      coverage = Each-same IsFree _ i.cells
+      coverage = Each-weaker IsFree _ i.cells
           (λ c free. let m = count-le-length (λ (d : Duty). covers_cell i.grammar c d.word) ds in record { floor = omega (arith, free.floor); ceiling = omega (arith, m, free.ceiling, r.few, sound.few) }) day.cells;
     }

@@ -13,7 +13,7 @@ use Rattle.roster_model.specs.Teams.{Team}
 use Rattle.roster_model.specs.GreatestCost.{greatest_cost}
 use Rattle.roster_model.specs.Reduced.{CellPrice, cell_prices, cut_prices, letter_price, arc_price}
 use Rattle.roster_model.specs.SoundInstance.{IsSoundInstance}
-use Rattle.arc_laws.proofs.FoldsLemmas.{Each-at, Each-same}
+use Rattle.roster_model.proofs.EachLemmas.{Each-weaker, Each-at}
 use Rattle.bound_laws.specs.Infeasible.{IsPlainlyInfeasible}
 use Rattle.bound_laws.specs.Lagrangian.{trees_share, cell_share, cut_share, lagrangian_sum, IsLeastReduced, IsLagrangian}
 use Rattle.bound_laws.specs.Plain.{IsFree, IsPlainDay, plain_share, plain_relaxed, IsPlainLagrangian}
@@ -35,7 +35,7 @@ module _ (i : Instance) (p : Prices) (cuts : List Cut) (sound : IsSoundInstance 
   same_relaxed z =
       ap (λ (s : ℤ). trees_share i.heads_min i.heads_max z +ℤ s +ℤ sum_z cut_share (cut_prices 1 cuts p.mult))
       (sum_each (cell_share p.d i.heads_max) (plain_share p.d i.heads_max) (cell_prices i.cells p.cell)
-      (Each-same (λ (q : CellPrice). IsFree q.cell) _ (cell_prices i.cells p.cell) (λ q h. free_share p.d i.heads_max q sound.few h) (each_cell IsFree i.cells p.cell day.cells)))
+      (Each-weaker (λ (q : CellPrice). IsFree q.cell) _ (cell_prices i.cells p.cell) (λ q h. free_share p.d i.heads_max q sound.few h) (each_cell IsFree i.cells p.cell day.cells)))
 
   -- a least reduced cost is none exactly where the day has no tree
   none_of : (z : Option ℤ) → IsLeastReduced i p cuts z → z ≡ None → (t : Parts) → IsDayTree i.grammar t → ⊥

@@ -17,11 +17,11 @@ use Rattle.roster_model.specs.Folds.{sum_z, sum_n, Each}
 use Rattle.roster_model.specs.Arcs.{letters, arcs, used_rules, rule_cost, cost, same_arc}
 use Rattle.roster_model.specs.Coverage.{is_at, penalty}
 use Rattle.linear_programs.proofs.Ring.{*ℤ-+ℤ, neg-*ℤ}
-use Rattle.arc_laws.proofs.FoldsLemmas.{Each-same}
 use Rattle.bound_laws.proofs.WholeSums.{sum_z-append, sum_z-add, sum_z-neg, sum_z-scale, sum_z-pos, sum_z-le, exchange}
 use Rattle.bound_laws.proofs.TreeValues.{tree_value, tree_sum-value}
 use Rattle.roster_model.specs.Cuts.{arcs_of, arc_count, KeepsTo, Meets}
 use Rattle.roster_model.specs.Reduced.{CellPrice, CutPrice, cell_prices, cut_prices, mult_of, signed, letter_price, arc_price, view_of}
+use Rattle.roster_model.proofs.EachLemmas.{Each-weaker}
 use Rattle.bound_laws.specs.Lagrangian.{trees_share, least_from, cell_at, cell_share, share_of, cut_share, lagrangian_sum, IsLeastReduced}
 use Rattle.arc_laws.specs.TreeLists.{letters_of}
 use Rattle.bound_laws.specs.TreeRosters.{tree_cover, IsCovered, IsTreeRoster, trees_cost}
@@ -138,7 +138,7 @@ lagrangian_sum-le i p cuts z ts least roster meets nonneg =
     let heads = trees_share-le i.heads_min i.heads_max z (reduced_of i.grammar p.d ps ks) ts roster.enough roster.few (each_reduced i.grammar p.d ps ks z ts least.least roster.day) in
     let total = reduced_total i.grammar p.d ps ks ts in
     let cells = sum_z-le (cell_share p.d i.heads_max) (λ (q : CellPrice). cell_at p.d q (tree_cover ts q.cell)) ps
-    (Each-same (λ (q : CellPrice). IsCovered i ts q.cell) _ ps (λ q h. cell_share-le p.d i.heads_max q (tree_cover ts q.cell) h.range.floor h.range.ceiling h.heads) (each_cell (IsCovered i ts) i.cells p.cell roster.coverage)) in
+    (Each-weaker (λ (q : CellPrice). IsCovered i ts q.cell) _ ps (λ q h. cell_share-le p.d i.heads_max q (tree_cover ts q.cell) h.range.floor h.range.ceiling h.heads) (each_cell (IsCovered i ts) i.cells p.cell roster.coverage)) in
     let apart = sum_z-add (λ (q : CellPrice). pos p.d *ℤ pos (penalty q.cell (tree_cover ts q.cell))) (λ (q : CellPrice). q.price *ℤ pos (tree_cover ts q.cell)) ps in
     let pens = sum_cells (λ c. pos p.d *ℤ pos (penalty c (tree_cover ts c))) i.cells p.cell
     ∙ sum_z-scale (pos p.d) (λ c. pos (penalty c (tree_cover ts c))) i.cells

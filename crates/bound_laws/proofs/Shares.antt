@@ -11,6 +11,7 @@ use Rattle.roster_model.specs.Coverage.{penalty}
 use Rattle.roster_model.specs.Limits.{IsLimitedCell}
 use Rattle.roster_model.specs.Reduced.{CellPrice}
 use Rattle.bound_laws.specs.Lagrangian.{trees_share, least_from, cell_at, cell_share, share_of}
+use Rattle.tree_laws.proofs.Bounds.{Within-more}
 
 times_le : (a b x y : ℕ) → a ≤ x → b ≤ y → a * b ≤ x * y
 times_le a b x y h k = let l = mul-le-mul_right b h in let r = mul-le-mul_left x k in omega (arith, l, r)
@@ -24,9 +25,6 @@ times_within m k n (negsuc x) h w =
     let l = times_le (suc x) k m n (omega (arith, ints, w.low)) h in
     record { low = omega (arith, ints, l); high = omega (arith, ints) }
 
-more_within : (m n : ℕ) (z : ℤ) → m ≤ n → Within m z → Within n z
-more_within m n z h w = record { low = omega (arith, ints, w.low); high = omega (arith, ints, w.high) }
-
 neg_within : (m : ℕ) (z : ℤ) → Within m z → Within m (neg_ℤ z)
 neg_within m z w = record { low = omega (arith, ints, w.high); high = omega (arith, ints, w.low) }
 
@@ -36,8 +34,8 @@ turned a (negsuc z) = omega (arith, ints)
 
 pub heads-within : (a b : ℕ) (z : Option ℤ) → a ≤ 64 → b ≤ 64 → IfSome z (Within (2 ^ 110)) → Within (2 ^ 116) (trees_share a b z)
 heads-within a b None h k w = record { low = omega (arith, ints); high = omega (arith, ints) }
-heads-within a b (Some (pos z)) h k w = rw (turned a (pos z)) (more_within (2 ^ 110 * 64) (2 ^ 116) (pos z *ℤ pos a) (omega arith) (times_within (2 ^ 110) a 64 (pos z) h w))
-heads-within a b (Some (negsuc z)) h k w = rw (turned b (negsuc z)) (more_within (2 ^ 110 * 64) (2 ^ 116) (negsuc z *ℤ pos b) (omega arith) (times_within (2 ^ 110) b 64 (negsuc z) k w))
+heads-within a b (Some (pos z)) h k w = rw (turned a (pos z)) (Within-more (2 ^ 110 * 64) (2 ^ 116) (pos z *ℤ pos a) (omega arith) (times_within (2 ^ 110) a 64 (pos z) h w))
+heads-within a b (Some (negsuc z)) h k w = rw (turned b (negsuc z)) (Within-more (2 ^ 110 * 64) (2 ^ 116) (negsuc z *ℤ pos b) (omega arith) (times_within (2 ^ 110) b 64 (negsuc z) k w))
 
 penalty_le : (c : Cell) (n : ℕ) → n ≤ 64 → IsLimitedCell c → penalty c n ≤ 1280000
 penalty_le c n h l =
@@ -66,5 +64,5 @@ pub least-within : (d most : ℕ) (q : CellPrice) → d ≤ 2 ^ 30 → most ≤ 
 least-within d most q hd hm l w = least_within (cell_at d q) (2 ^ 87) q.cell.floor (min q.cell.ceiling most - q.cell.floor) (λ k h. cells-within d k q hd (omega (arith, h, l.floor)) l w)
 
 pub cuts-within : (s : Side) (m : ℤ) (b : ℕ) → b ≤ 64 → Within (2 ^ 80) m → Within (2 ^ 87) (share_of s m b)
-cuts-within Low m b h w = neg_within (2 ^ 87) (m *ℤ pos b) (more_within (2 ^ 80 * 64) (2 ^ 87) (m *ℤ pos b) (omega arith) (times_within (2 ^ 80) b 64 m h w))
-cuts-within High m b h w = more_within (2 ^ 80 * 65) (2 ^ 87) (m *ℤ pos (b + 1)) (omega arith) (times_within (2 ^ 80) (b + 1) 65 m (omega arith) w)
+cuts-within Low m b h w = neg_within (2 ^ 87) (m *ℤ pos b) (Within-more (2 ^ 80 * 64) (2 ^ 87) (m *ℤ pos b) (omega arith) (times_within (2 ^ 80) b 64 m h w))
+cuts-within High m b h w = Within-more (2 ^ 80 * 65) (2 ^ 87) (m *ℤ pos (b + 1)) (omega arith) (times_within (2 ^ 80) (b + 1) 65 m (omega arith) w)

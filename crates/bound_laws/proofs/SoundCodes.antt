@@ -1,8 +1,7 @@
 -- The codes, the rules' symbols and the cells of a sound instance exist.
-use Rattle.std.proofs.Common.{◌≡◌, ℕ, arith, ◌+◌, ◌≤◌, ◌<◌, All, Option, None, Some, List, [], ◌∷◌, length, false, ap, subst, sym, ◌∙◌, ◌⊎◌, inl, inr}
+use Rattle.std.proofs.Common.{◌≡◌, ℕ, arith, ◌+◌, ◌≤◌, ◌<◌, Option, None, Some, List, [], ◌∷◌, length, false, ap, subst, sym, ◌∙◌, ◌⊎◌, inl, inr}
 use Rattle.std.specs.Prelude.{slice_get}
 use Rattle.std.proofs.lemmas.Option.{slice_get-get_or}
-use Rattle.std.proofs.lemmas.List.Elements.{All-head, All-tail}
 use Rattle.roster_model.specs.declared.grammar.CodeDef.{CodeDef}
 use Rattle.roster_model.specs.declared.grammar.Grammar.{Grammar}
 use Rattle.roster_model.specs.declared.grammar.Sym.{Sym}
@@ -12,13 +11,9 @@ use Rattle.roster_model.specs.Folds.{Each}
 use Rattle.roster_model.specs.Sound.{Exists, IsSound}
 use Rattle.roster_model.specs.Coverage.{code_byte}
 use Rattle.roster_model.specs.Demands.{PeriodDemand, Demand, IsDemand, AreCells, cells_from, all_cells}
+use Rattle.roster_model.proofs.EachLemmas.{all_each, Each-append}
 use Rattle.tree_laws.proofs.Rules.{sound-rule}
-use Rattle.arc_laws.proofs.FoldsLemmas.{Each-append}
 use Rattle.bound_laws.proofs.ReadyInstances.{IsCode, IsSymbol, HasCodes}
-
-pub All-each : {A : Type 0} (P : A → Type 0) (xs : List A) → All P xs → Each P xs
-All-each P [] h = tt
-All-each P (x ∷ xs) h = (All-head P x xs h, All-each P xs (All-tail P x xs h))
 
 code_at : (g : Grammar) (c : ℕ) → c < length g.codes → IsCode g c
 code_at g c h = (_, slice_get-get_or g.codes c (record { byte = 0; work = false }) h)
@@ -33,7 +28,7 @@ byte_at g c d e = ap (λ (o : Option CodeDef). elim o as (λ v. ℕ) [ None ↦ 
 
 pub has-codes : (g : Grammar) → IsSound g → HasCodes g
 has-codes g sound = record {
-  symbols = λ r rule at. symbols_are g rule.right (All-each (Exists (length g.codes) (length g.names)) rule.right (sound-rule g sound r rule at).symbols);
+  symbols = λ r rule at. symbols_are g rule.right (all_each (Exists (length g.codes) (length g.names)) rule.right (sound-rule g sound r rule at).symbols);
   apart = λ c d hc hd e. pick c d hc hd e (order c d);
 }
   where

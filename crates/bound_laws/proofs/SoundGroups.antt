@@ -13,15 +13,9 @@ use Rattle.roster_model.specs.Sound.{Exists, IsRule}
 use Rattle.roster_model.specs.Extension.{group_rule, extended}
 use Rattle.roster_model.specs.SoundInstance.{IsGroup, IsGroupedBy}
 use Rattle.roster_model.specs.Teams.{Team, teams_from}
-use Rattle.arc_laws.proofs.FoldsLemmas.{Each-append, Each-same}
+use Rattle.roster_model.proofs.EachLemmas.{all_each, Each-weaker, Each-append, Each-get}
 use Rattle.bound_laws.specs.DutyTrees.{own_rules}
 use Rattle.bound_laws.proofs.Groups.{IsOther, added_rule, IsExtended}
-use Rattle.bound_laws.proofs.SoundCodes.{All-each}
-
-Each-get : {A : Type 0} (P : A → Type 0) (xs : List A) (k : ℕ) (x : A) → Each P xs → slice_get xs k ≡ Some x → P x
-Each-get P [] k x h e = cc
-Each-get P (y ∷ ys) zero x h e = let same : y ≡ x = cc in subst P same h.0
-Each-get P (y ∷ ys) (suc k) x h e = Each-get P ys k x h.1 e
 
 -- an item of the second list, by its place there
 get-append : {A : Type 0} (xs ys : List A) (k : ℕ) (x : A) → slice_get ys k ≡ Some x → slice_get (xs ++ ys) (length xs + k) ≡ Some x
@@ -78,7 +72,7 @@ other_symbols g (Name x ∷ ss) h = (h.0, other_symbols g ss h.1)
 
 module _ (i : Instance) (g : Grammar) (by : IsGroupedBy i g) where
   groups : Each (IsGroup (length g.names)) i.groups
-  groups = All-each (IsGroup (length g.names)) i.groups by.groups.each
+  groups = all_each (IsGroup (length g.names)) i.groups by.groups.each
 
   added : (o : Team) → In o (teams_from 1 i.groups) → rule_at i.grammar (own_rules i + o.number) ≡ Some (added_rule i.grammar o.name)
   added o h =
@@ -104,9 +98,9 @@ module _ (i : Instance) (g : Grammar) (by : IsGroupedBy i g) where
       all : Each Free i.grammar.rules
       all = subst (λ (q : Grammar). Each (λ (rule : Rule). Each (IsFree q.start) rule.right) q.rules) (sym by.grammar)
           (Each-append (λ (rule : Rule). Each (IsFree (length g.names)) rule.right) g.rules _
-          (Each-same (IsRule (length g.codes) (length g.names)) _ g.rules
-          (λ rule s. free_symbols g (length g.names) (length g.names) (length g.codes) rule.right (omega arith) (All-each (Exists (length g.codes) (length g.names)) rule.right s.symbols))
-          (All-each (IsRule (length g.codes) (length g.names)) g.rules by.sound.rules))
+          (Each-weaker (IsRule (length g.codes) (length g.names)) _ g.rules
+          (λ rule s. free_symbols g (length g.names) (length g.names) (length g.codes) rule.right (omega arith) (all_each (Exists (length g.codes) (length g.names)) rule.right s.symbols))
+          (all_each (IsRule (length g.codes) (length g.names)) g.rules by.sound.rules))
           (free_groups g (length g.names) (length g.names) i.groups (omega arith) groups))
 
   start : i.grammar.start ≡ length g.names

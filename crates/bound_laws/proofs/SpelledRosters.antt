@@ -1,5 +1,5 @@
 -- Trees that meet the base cuts spell an allowed roster.
-use Rattle.std.proofs.Common.{◌≡◌, ℕ, arith, ◌+◌, ◌-◌, ◌≤◌, Bool, true, false, cond, List, [], ◌∷◌, ◌++◌, length, refl, subst}
+use Rattle.std.proofs.Common.{◌≡◌, ℕ, arith, ◌+◌, ◌-◌, ◌≤◌, Bool, true, false, cond, List, [], ◌∷◌, length, refl, subst}
 use Rattle.std.specs.Prelude.{nat_lt}
 use Rattle.roster_model.specs.declared.instance.Cell.{Cell}
 use Rattle.roster_model.specs.declared.instance.Group.{Group}
@@ -12,20 +12,13 @@ use Rattle.roster_model.specs.Duties.{Duty}
 use Rattle.roster_model.specs.Coverage.{covered, IsWithinCell}
 use Rattle.roster_model.specs.Rosters.{ArePrices, is_in_team, HasHeads}
 use Rattle.roster_model.specs.Cuts.{arc_count, Meets, group_arc, group_cuts, cuts_from, base_cuts}
+use Rattle.roster_model.proofs.EachLemmas.{Each-left, Each-right}
 use Rattle.bound_laws.specs.TreeRosters.{tree_cover, IsCovered, IsTreeRoster}
 use Rattle.bound_laws.specs.DutyTrees.{own_rules, AreDutyTrees}
 use Rattle.bound_laws.specs.Laws.{IsSpelledBy}
 use Rattle.bound_laws.proofs.ReadyInstances.{IsCode, arc_of_team, IsReady}
 use Rattle.bound_laws.proofs.RosterTrees.{in_teams, heads, realise, same_penalties}
 use Rattle.arc_laws.proofs.FoldsLemmas.{count-le-length}
-
-Each-left : {A : Type 0} (P : A → Type 0) (xs ys : List A) → Each P (xs ++ ys) → Each P xs
-Each-left P [] ys h = tt
-Each-left P (x ∷ xs) ys h = (h.0, Each-left P xs ys h.1)
-
-Each-right : {A : Type 0} (P : A → Type 0) (xs ys : List A) → Each P (xs ++ ys) → Each P ys
-Each-right P [] ys h = h
-Each-right P (x ∷ xs) ys h = Each-right P xs ys h.1
 
 module _ (i : Instance) (ready : IsReady i) (ts : List Parts) (ds : List Duty) where
   -- the cuts of a group keep its count in its range

@@ -1,10 +1,10 @@
 -- Teams have different numbers, and together the heads of the day.
-use Rattle.std.proofs.Common.{◌≡◌, ℕ, arith, ◌+◌, ◌≤◌, ◌<◌, Bool, true, false, cond, List, [], ◌∷◌, sym, refl, ap, ◌∙◌, ◌⊎◌, inl, inr}
+use Rattle.std.proofs.Common.{◌≡◌, ℕ, arith, ◌+◌, ◌≤◌, ◌<◌, Bool, true, false, cond, List, [], ◌∷◌, refl, ◌⊎◌, inl, inr}
 use Rattle.std.specs.Prelude.{nat_eq, ◌≢◌}
 use Rattle.std.proofs.lemmas.Bool.Decides.{eqb_tells}
 use Rattle.roster_model.specs.declared.instance.Instance.{Instance}
 use Rattle.roster_model.specs.declared.instance.Group.{Group}
-use Rattle.roster_model.specs.Folds.{sum_n, In}
+use Rattle.roster_model.specs.Folds.{sum_n}
 use Rattle.roster_model.specs.Teams.{Team, teams_of, teams_from}
 
 abbrev hits : ℕ → List Team → ℕ
@@ -33,24 +33,6 @@ team_hits i [] d = by (nat_eq d 0)
     by true = omega arith
     by false = omega arith
 team_hits i (g ∷ gs) d = hits_one d 1 (g ∷ gs)
-
-from_at : (k : ℕ) (gs : List Group) (a : Team) → In a (teams_from k gs) → k ≤ a.number
-from_at k [] a h = absurd h
-from_at k (g ∷ gs) a (inl e) = let f = ap (λ (t : Team). t.number) e in omega arith
-from_at k (g ∷ gs) a (inr h) = omega (arith, from_at (k + 1) gs a h)
-
-from_apart : (k : ℕ) (gs : List Group) (a b : Team) → In a (teams_from k gs) → In b (teams_from k gs) → a.number ≡ b.number → a ≡ b
-from_apart k [] a b h l e = absurd h
-from_apart k (g ∷ gs) a b (inl h) (inl l) e = h ∙ sym l
-from_apart k (g ∷ gs) a b (inl h) (inr l) e = let f = ap (λ (t : Team). t.number) h in let m = from_at (k + 1) gs b l in absurd (omega arith)
-from_apart k (g ∷ gs) a b (inr h) (inl l) e = let f = ap (λ (t : Team). t.number) l in let m = from_at (k + 1) gs a h in absurd (omega arith)
-from_apart k (g ∷ gs) a b (inr h) (inr l) e = from_apart (k + 1) gs a b h l e
-
-pub team_apart : (i : Instance) (gs : List Group) (a b : Team) → In a (teams_of i gs) → In b (teams_of i gs) → a.number ≡ b.number → a ≡ b
-team_apart i [] a b (inl h) (inl l) e = h ∙ sym l
-team_apart i [] a b (inl h) (inr l) e = absurd l
-team_apart i [] a b (inr h) l e = absurd h
-team_apart i (g ∷ gs) a b h l e = from_apart 1 (g ∷ gs) a b h l e
 
 pub least-from : (k : ℕ) (gs : List Group) → sum_n (λ (t : Team). t.least) (teams_from k gs) ≡ sum_n (λ (g : Group). g.heads_min) gs
 least-from k [] = refl

@@ -1,7 +1,8 @@
 -- A tree has a cell's letter as often as its word has it.
-use Rattle.std.proofs.Common.{◌≡◌, ℕ, suc, arith, ◌+◌, ◌-◌, ◌≤◌, ◌<◌, Bool, true, false, cond, Option, None, Some, List, [], ◌∷◌, ◌++◌, length, map, sym, refl, ap, subst, ◌∙◌, ◌⊎◌, inl, inr}
+use Rattle.std.proofs.Common.{◌≡◌, ℕ, suc, arith, ◌+◌, ◌-◌, ◌≤◌, ◌<◌, Bool, true, false, cond, Option, None, Some, List, [], ◌∷◌, ◌++◌, length, map, sym, refl, ap, subst, ◌∙◌, ◌⊎◌, inl, inr, length-append}
 use Rattle.std.specs.Prelude.{nat_eq, ◌&&◌, ◌≢◌}
 use Rattle.std.proofs.lemmas.Bool.Decides.{eqb_tells}
+use Rattle.std.proofs.lemmas.List.{map-append}
 use Rattle.roster_model.specs.declared.grammar.Grammar.{Grammar}
 use Rattle.roster_model.specs.declared.grammar.CodeDef.{CodeDef}
 use Rattle.roster_model.specs.declared.grammar.Sym.{Sym}
@@ -11,36 +12,15 @@ use Rattle.roster_model.specs.Trees.{Parts, done, letter, uses, span_length, Der
 use Rattle.roster_model.specs.Folds.{count, Each}
 use Rattle.roster_model.specs.Arcs.{Letter, letters}
 use Rattle.roster_model.specs.Coverage.{code_byte, has_at, covers_cell, is_at}
-use Rattle.arc_laws.proofs.FoldsLemmas.{Each-append}
+use Rattle.roster_model.proofs.EachLemmas.{Each-append}
 use Rattle.bound_laws.proofs.ReadyInstances.{IsCode, IsSymbol, HasCodes}
-
-abbrev codes_of : Parts → List ℕ
-codes_of done = []
-codes_of (letter c rest) = c ∷ codes_of rest
-codes_of (uses r n inner rest) = codes_of inner ++ codes_of rest
-
-abbrev number : ℕ → List ℕ → List Letter
-number i [] = []
-number i (c ∷ cs) = record { code = c; period = i } ∷ number (i + 1) cs
-
-number-append : (i : ℕ) (xs ys : List ℕ) → number i (xs ++ ys) ≡ number i xs ++ number (i + length xs) ys
-number-append i [] ys = let e : i + 0 ≡ i = omega arith in rw e
-number-append i (x ∷ xs) ys =
-    let e : i + 1 + length xs ≡ i + length (x ∷ xs) = omega arith in
-    ap (λ (zs : List Letter). record { code = x; period = i } ∷ zs) (number-append (i + 1) xs ys ∙ ap (λ (j : ℕ). number (i + 1) xs ++ number j ys) e)
-
-length_both : (xs ys : List ℕ) → length (xs ++ ys) ≡ length xs + length ys
-length_both [] ys = omega arith
-length_both (x ∷ xs) ys = omega (arith, length_both xs ys)
-
-map_both : (f : ℕ → ℕ) (xs ys : List ℕ) → map f (xs ++ ys) ≡ map f xs ++ map f ys
-map_both f [] ys = refl
-map_both f (x ∷ xs) ys = ap (λ (zs : List ℕ). f x ∷ zs) (map_both f xs ys)
+use Rattle.tree_laws.specs.Letters.{codes_of, placed}
+use Rattle.tree_laws.proofs.LettersLemmas.{placed-append}
 
 module _ (g : Grammar) (has : HasCodes g) where
   record Spelled (i : ℕ) (t : Parts) : Type 0 where
     long : length (codes_of t) ≡ span_length t
-    placed : letters i t ≡ number i (codes_of t)
+    letters_are : letters i t ≡ placed i (codes_of t)
     spelled : word g t ≡ map (code_byte g) (codes_of t)
     valid : Each (IsCode g) (codes_of t)
 
@@ -51,7 +31,7 @@ module _ (g : Grammar) (has : HasCodes g) where
       a ∙ ap (λ (x : ℕ). x ∷ []) (sym b)
 
   spell : (t : Parts) (ss : List Sym) (i : ℕ) → Each (IsSymbol g) ss → Derive g ss i t → Spelled i t
-  spell done ss i v d = record { long = refl; placed = refl; spelled = refl; valid = tt }
+  spell done ss i v d = record { long = refl; letters_are = refl; spelled = refl; valid = tt }
   spell (letter c rest) [] i v d = absurd d
   spell (letter c rest) (Name x ∷ ss) i v d = absurd d
   spell (letter c rest) (Code b ∷ ss) i v d =
@@ -59,7 +39,7 @@ module _ (g : Grammar) (has : HasCodes g) where
       let code : IsCode g c = subst (λ (x : ℕ). IsCode g x) d.0 v.0 in
       record {
         long = omega (arith, more.long);
-        placed = ap (λ (xs : List Letter). record { code = c; period = i } ∷ xs) more.placed;
+        letters_are = ap (λ (xs : List Letter). record { code = c; period = i } ∷ xs) more.letters_are;
         spelled = ap (λ (xs : List ℕ). xs ++ word g rest) (byte_is c code) ∙ ap (λ (xs : List ℕ). code_byte g c ∷ xs) more.spelled;
         valid = (code, more.valid);
       }
@@ -70,10 +50,10 @@ module _ (g : Grammar) (has : HasCodes g) where
       let inside = spell inner d.0.right i (has.symbols q d.0 d.1) d.6 in
       let len : i + length (codes_of inner) ≡ i + n = omega (arith, inside.long, d.5) in
       record {
-        long = omega (arith, length_both (codes_of inner) (codes_of rest), inside.long, more.long, d.5);
-        placed = ap (λ (xs : List Letter). xs ++ letters (i + n) rest) inside.placed ∙ ap (λ (xs : List Letter). number i (codes_of inner) ++ xs) more.placed
-            ∙ ap (λ (j : ℕ). number i (codes_of inner) ++ number j (codes_of rest)) (sym len) ∙ sym (number-append i (codes_of inner) (codes_of rest));
-        spelled = ap (λ (xs : List ℕ). xs ++ word g rest) inside.spelled ∙ ap (λ (xs : List ℕ). map (code_byte g) (codes_of inner) ++ xs) more.spelled ∙ sym (map_both (code_byte g) (codes_of inner) (codes_of rest));
+        long = omega (arith, length-append (codes_of inner) (codes_of rest), inside.long, more.long, d.5);
+        letters_are = ap (λ (xs : List Letter). xs ++ letters (i + n) rest) inside.letters_are ∙ ap (λ (xs : List Letter). placed i (codes_of inner) ++ xs) more.letters_are
+            ∙ ap (λ (j : ℕ). placed i (codes_of inner) ++ placed j (codes_of rest)) (sym len) ∙ sym (placed-append i (codes_of inner) (codes_of rest));
+        spelled = ap (λ (xs : List ℕ). xs ++ word g rest) inside.spelled ∙ ap (λ (xs : List ℕ). map (code_byte g) (codes_of inner) ++ xs) more.spelled ∙ sym (map-append (code_byte g) (codes_of inner) (codes_of rest));
         valid = Each-append (IsCode g) (codes_of inner) (codes_of rest) inside.valid more.valid;
       }
 
@@ -89,23 +69,23 @@ module _ (g : Grammar) (has : HasCodes g) where
         pick (inr a) (inl b) = absurd (a.1 (sym (has.apart x c.code h code b.1)))
         pick (inr a) (inr b) = a.0 ∙ sym b.0
 
-    late : (i : ℕ) (cs : List ℕ) → c.period < i → count (is_at c) (number i cs) ≡ 0
+    late : (i : ℕ) (cs : List ℕ) → c.period < i → count (is_at c) (placed i cs) ≡ 0
     late i [] h = refl
     late i (x ∷ cs) h = pick (eqb_tells c.period i) (nat_eq c.code x) (late (i + 1) cs (omega arith))
       where
-        pick : ((nat_eq c.period i ≡ true) × (c.period ≡ i)) ⊎ ((nat_eq c.period i ≡ false) × (c.period ≢ i)) → (b : Bool) → count (is_at c) (number (i + 1) cs) ≡ 0
-            → cond (b && nat_eq c.period i) 1 0 + count (is_at c) (number (i + 1) cs) ≡ 0
+        pick : ((nat_eq c.period i ≡ true) × (c.period ≡ i)) ⊎ ((nat_eq c.period i ≡ false) × (c.period ≢ i)) → (b : Bool) → count (is_at c) (placed (i + 1) cs) ≡ 0
+            → cond (b && nat_eq c.period i) 1 0 + count (is_at c) (placed (i + 1) cs) ≡ 0
         pick (inl a) b ih = absurd (omega (arith, a.1))
         pick (inr a) true ih = rw a.0 (omega arith)
         pick (inr a) false ih = omega arith
 
-    at_place : (i : ℕ) (cs : List ℕ) → Each (IsCode g) cs → i ≤ c.period → count (is_at c) (number i cs) ≡ cond (has_at (code_byte g c.code) (map (code_byte g) cs) (c.period - i)) 1 0
+    at_place : (i : ℕ) (cs : List ℕ) → Each (IsCode g) cs → i ≤ c.period → count (is_at c) (placed i cs) ≡ cond (has_at (code_byte g c.code) (map (code_byte g) cs) (c.period - i)) 1 0
     at_place i [] v h = refl
     at_place i (x ∷ cs) v h = pick (eqb_tells c.period i) (λ less. at_place (i + 1) cs v.1 less)
       where
         pick : ((nat_eq c.period i ≡ true) × (c.period ≡ i)) ⊎ ((nat_eq c.period i ≡ false) × (c.period ≢ i))
-            → (i + 1 ≤ c.period → count (is_at c) (number (i + 1) cs) ≡ cond (has_at (code_byte g c.code) (map (code_byte g) cs) (c.period - (i + 1))) 1 0)
-            → cond (nat_eq c.code x && nat_eq c.period i) 1 0 + count (is_at c) (number (i + 1) cs) ≡ cond (has_at (code_byte g c.code) (map (code_byte g) (x ∷ cs)) (c.period - i)) 1 0
+            → (i + 1 ≤ c.period → count (is_at c) (placed (i + 1) cs) ≡ cond (has_at (code_byte g c.code) (map (code_byte g) cs) (c.period - (i + 1))) 1 0)
+            → cond (nat_eq c.code x && nat_eq c.period i) 1 0 + count (is_at c) (placed (i + 1) cs) ≡ cond (has_at (code_byte g c.code) (map (code_byte g) (x ∷ cs)) (c.period - i)) 1 0
         pick (inl a) ih =
             let e : c.period - i ≡ 0 = omega (arith, a.1) in
             let z = late (i + 1) cs (omega (arith, a.1)) in
@@ -119,13 +99,13 @@ module _ (g : Grammar) (has : HasCodes g) where
             let e : c.period - i ≡ suc (c.period - (i + 1)) = omega arith in
             rw (e, a.0) (skip (nat_eq c.code x) (ih less))
           where
-            skip : (b : Bool) → count (is_at c) (number (i + 1) cs) ≡ cond (has_at (code_byte g c.code) (map (code_byte g) cs) (c.period - (i + 1))) 1 0
-                → cond (b && false) 1 0 + count (is_at c) (number (i + 1) cs) ≡ cond (has_at (code_byte g c.code) (map (code_byte g) cs) (c.period - (i + 1))) 1 0
+            skip : (b : Bool) → count (is_at c) (placed (i + 1) cs) ≡ cond (has_at (code_byte g c.code) (map (code_byte g) cs) (c.period - (i + 1))) 1 0
+                → cond (b && false) 1 0 + count (is_at c) (placed (i + 1) cs) ≡ cond (has_at (code_byte g c.code) (map (code_byte g) cs) (c.period - (i + 1))) 1 0
             skip true h = omega (arith, h)
             skip false h = omega (arith, h)
 
     pub tree_has : (x : ℕ) (t : Parts) → Derive g (Name x ∷ []) 1 t → 1 ≤ c.period → count (is_at c) (letters 1 t) ≡ cond (covers_cell g c (word g t)) 1 0
     tree_has x t d h =
         let s = spell t (Name x ∷ []) 1 (tt, tt) d in
-        ap (count (is_at c)) s.placed ∙ at_place 1 (codes_of t) s.valid h
+        ap (count (is_at c)) s.letters_are ∙ at_place 1 (codes_of t) s.valid h
         ∙ ap (λ (w : List ℕ). cond (has_at (code_byte g c.code) w (c.period - 1)) 1 0) (sym s.spelled)

@@ -13,3 +13,4 @@ pub mod SmallShares
 pub mod WorkedGroups
 pub mod WorkedFloors
 pub mod WorkedBest
+pub mod WorkedDay

@@ -23,7 +23,6 @@ use Rattle.certificates.specs.declared.cert.Node.{Node}
 use Rattle.certificates.specs.declared.cert.Node.TheVariants as of
 use Rattle.certificates.specs.Nodes.{Proof, split, priced, pinned, bare, preorder, low_cut, high_cut, visits}
 use Rattle.certificates.specs.Sound.{most_cost, IsSoundVisit, IsSoundShift, IsSoundCert, IsGroupNumber, NoneIsZero}
-use Rattle.certificates.proofs.JoinedLists.{each_parts}
 use Rattle.proof_pieces.specs.declared.fault.ProofFault.{ProofFault}
 use Rattle.proof_pieces.specs.Ahead.{NoShift}
 use Rattle.proof_pieces.specs.CertOf.{no_cert, collected, node_pieces, shift_pieces, cert_pieces, proof_of}
@@ -34,11 +33,12 @@ use Rattle.proof_pieces.specs.ShiftLines.{version, is_shift, letters_of, shift_o
 use Rattle.proof_pieces.specs.Told.{cost, bound, shift, node, done}
 use Rattle.bound_proof.specs.Written.{header_words, amount_words, name_word, shift_words, shift_line, node_lines, tree_lines, end_words, cert_lines, cert_text}
 use Rattle.roster_model.proofs.CutCounts.{base_length, few_groups}
-use Rattle.bound_proof.proofs.FieldsAgain.{same_bytes, amount_line_again}
+use Rattle.roster_model.proofs.EachLemmas.{Each-append, each_parts}
+use Rattle.bound_proof.proofs.FieldsAgain.{amount_line_again}
 use Rattle.text_lines.proofs.FieldsLemmas.{number_at_again, position_at}
 use Rattle.proof_pieces.specs.declared.fault.PieceFault.TheVariants.{BadNumber, OutOfRange}
 use Rattle.bound_proof.proofs.FineWords.{IsFineLine, lines_fine, header_fine, amounts_fine, shift_fine, node_fine, name_within}
-use Rattle.text_lines.proofs.ListLemmas.{Each-append}
+use Rattle.text_lines.proofs.WordLemmas.{same_bytes}
 use Rattle.bound_proof.proofs.TextAgain.{tree_told}
 use Rattle.bound_proof.proofs.TreeAgain.{nodes_then, numbered-then, tree_lines-append}
 

@@ -5,15 +5,13 @@ use Rattle.roster_model.specs.declared.instance.Cut.{Cut}
 use Rattle.roster_model.specs.declared.instance.Instance.{Instance}
 use Rattle.roster_model.specs.Cuts.{base_cuts}
 use Rattle.roster_model.specs.Folds.{Each}
+use Rattle.roster_model.proofs.EachLemmas.{each_all, Each-append, each_parts}
 use Rattle.certificates.specs.declared.cert.Cert.{Cert}
 use Rattle.certificates.specs.declared.cert.Node.{Node}
 use Rattle.certificates.specs.declared.cert.Node.TheVariants.{Split, Priced, Pinned, Bare}
 use Rattle.certificates.specs.Nodes.{Proof, split, priced, pinned, bare, preorder, low_cut, high_cut, visits}
 use Rattle.certificates.specs.Sound.{IsSoundNode, IsSoundVisit, IsSoundCert}
-use Rattle.certificates.proofs.WalksLemmas.{each_all}
-use Rattle.certificates.proofs.JoinedLists.{each_parts}
 use Rattle.bound_proof.specs.Written.{HasPrices}
-use Rattle.text_lines.proofs.ListLemmas.{Each-append}
 
 has_prices : (i : Instance) (cuts : List Cut) (x : Node) → IsSoundNode i cuts x → HasPrices i x
 has_prices i cuts (Split a b None) s = tt

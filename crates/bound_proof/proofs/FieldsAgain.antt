@@ -25,6 +25,7 @@ use Rattle.proof_pieces.specs.declared.fault.PieceFault.{PieceFault}
 use Rattle.proof_pieces.specs.declared.node.NodeLine.{NodeLine}
 use Rattle.proof_pieces.specs.declared.node.NodeLine.TheVariants.{Split, Priced, Pinned, Bare}
 use Rattle.text_lines.proofs.FieldsLemmas.{number_at_again}
+use Rattle.text_lines.proofs.WordLemmas.{same_bytes}
 use Rattle.proof_pieces.specs.declared.fault.PieceFault.TheVariants.{BadNumber, OutOfRange}
 use Rattle.proof_pieces.specs.Fields.{signed_at, amount_at}
 use Rattle.proof_pieces.specs.NodeLines.{arc_at, split_of, split_at, priced_at, leaf_at, node_at}
@@ -32,9 +33,6 @@ use Rattle.proof_pieces.specs.PriceLines.{due_byte, price_step, price_line, last
 use Rattle.proof_pieces.specs.ShiftLines.{amount_line}
 use Rattle.bound_proof.specs.Written.{amount_word, amount_words, own_words, head_words, price_words, mult_words}
 use Rattle.proof_pieces.proofs.FieldsKept.{IsDenominator}
-
-pub same_bytes : (w : List ℕ) → bytes_eq w w ≡ true
-same_bytes w = (bytes_eq-Decides w w).1 refl
 
 pub signed_again : (k : ℕ) (z : ℤ) → Within (2 ^ 80) z → signed_at k (number_text z) ≡ Ok z
 unfolding signed_at

@@ -27,13 +27,12 @@ use Rattle.roster_model.specs.Sound.{IsSound}
 use Rattle.roster_model.specs.SoundInstance.{IsGroup, HasGroups, IsSoundInstance}
 use Rattle.roster_model.specs.Sums.{Within}
 use Rattle.roster_model.proofs.SoundCells.{cells_of_day}
+use Rattle.roster_model.proofs.EachLemmas.{all_each, Each-append}
 use Rattle.certificates.specs.declared.cert.Node.{Node}
 use Rattle.certificates.specs.declared.cert.Node.TheVariants.{Split, Priced, Pinned, Bare}
 use Rattle.certificates.specs.Sound.{most_cost, most_rule, IsKey, IsGroupNumber, IsWordByte, IsSoundShift, IsSoundNode}
-use Rattle.certificates.proofs.WalksLemmas.{all_each}
 use Rattle.proof_pieces.specs.PriceLines.{code_byte, due_byte}
 use Rattle.bound_proof.specs.Written.{header_words, amount_word, amount_words, name_word, shift_words, shift_line, head_words, price_lines, mult_words, block_lines, node_lines}
-use Rattle.text_lines.proofs.ListLemmas.{Each-append}
 use Rattle.text_lines.proofs.WordLemmas.{word_byte, code_byte_fine, name_fine, digits_written, number_written}
 use Rattle.bound_proof.proofs.TreeAgain.{each_take}
 

@@ -25,6 +25,7 @@ use Rattle.proof_pieces.specs.PieceList.{Given, Place, Spot, Reader, too_long, s
 use Rattle.proof_pieces.specs.PriceLines.{due_byte, price_line, is_mult, mult_line}
 use Rattle.proof_pieces.specs.ShiftLines.{is_header, amount_line, is_shift, shift_at}
 use Rattle.proof_pieces.specs.Told.{cost, bound, shift, node}
+use Rattle.proof_pieces.proofs.PiecesKept.{not_whole, said_ok}
 use Rattle.bound_proof.specs.SaidLines.{HaveWords}
 use Rattle.bound_proof.specs.Written.{header_words, amount_words, shift_line, price_words, price_lines, mult_words, block_lines, node_lines, tree_lines, end_words, cert_lines}
 use Rattle.bound_proof.proofs.SaidWords.{line_words, header_said, end_said, amounts_said, shift_said, node_said, OneLine, price_said, OneMult, mult_said}
@@ -338,16 +339,8 @@ line_said i (block h cs ms) p c cert line items go some known e = block_said i h
 line_said i ended p c cert line items go some known e = absurd cc
 line_said i over p c cert line items go some known e = absurd cc
 
--- a text does not end behind a price block
-not_whole : (b : Bool) (n : Node) (f : PieceFault) (c cert : Cert) → collected c (cond b [] (Ok (node n) ∷ []) ++ Err f ∷ []) ≡ Ok cert → ⊥
-not_whole true n f c cert e = cc
-not_whole false n f c cert e = cc
-
 abbrev ok_cert : Cert → Result Cert ProofFault
 ok_cert x = Ok x
-
-same_cert : (x y : Cert) → ok_cert x ≡ ok_cert y → x ≡ y
-same_cert x y e = cc
 
 end_of_lines : (i : Instance) (t : Spot) (c cert : Cert) → collected c (at_end i t) ≡ Ok cert → Said i t c cert []
 end_of_lines i too_long c cert e = absurd cc
@@ -357,7 +350,7 @@ end_of_lines i (bounds paid) c cert e = absurd cc
 end_of_lines i (shifts n) c cert e = absurd cc
 end_of_lines i nodes c cert e = absurd cc
 end_of_lines i (block h cs ms) c cert e = absurd (not_whole (ltb (length cs) (length i.cells)) (node_of h cs ms) CutShort c cert e)
-end_of_lines i ended c cert e = (refl, sym (same_cert c cert e))
+end_of_lines i ended c cert e = (refl, sym (said_ok c cert e))
 end_of_lines i over c cert e = absurd cc
 
 no_bad_line : (i : Instance) (t : Spot) (c cert : Cert) (k : ℕ) → collected c (at_bad i t k) ≡ Ok cert → ⊥

@@ -25,13 +25,12 @@ use Rattle.roster_model.specs.PriceLimits.{IsMult, FitPrices}
 use Rattle.roster_model.specs.Sound.{IsSound}
 use Rattle.roster_model.specs.SoundInstance.{HasGroups, IsSoundInstance}
 use Rattle.roster_model.specs.Sums.{Within}
+use Rattle.roster_model.proofs.EachLemmas.{all_each, each_parts}
 use Rattle.certificates.specs.declared.cert.Cert.{Cert}
 use Rattle.certificates.specs.declared.cert.Node.{Node}
 use Rattle.certificates.specs.declared.cert.Node.TheVariants.{Split, Priced, Pinned, Bare}
 use Rattle.certificates.specs.Nodes.{Proof, split, priced, pinned, bare, preorder, low_cut, high_cut, visits}
 use Rattle.certificates.specs.Sound.{most_cost, most_rule, IsKey, IsGroupNumber, IsSoundShift, IsSoundNode, IsSoundVisit, IsSoundCert}
-use Rattle.certificates.proofs.WalksLemmas.{all_each}
-use Rattle.certificates.proofs.JoinedLists.{each_parts}
 use Rattle.proof_pieces.specs.PriceLines.{due_byte}
 use Rattle.bound_proof.specs.Written.{header_words, amount_word, amount_words, name_word, shift_words, shift_line, head_words, price_lines, mult_words, block_lines, node_lines, tree_lines, end_words, cert_text, node_values}
 use Rattle.bound_proof.proofs.CertAgain.{few_base_cuts}

@@ -6,11 +6,11 @@ use Rattle.roster_model.specs.declared.instance.Instance.{Instance}
 use Rattle.roster_model.specs.Cuts.{base_cuts}
 use Rattle.roster_model.specs.Folds.{Each}
 use Rattle.roster_model.specs.SoundInstance.{IsSoundInstance}
+use Rattle.roster_model.proofs.EachLemmas.{each_parts}
 use Rattle.certificates.specs.declared.cert.Node.{Node}
 use Rattle.certificates.specs.declared.cert.Node.TheVariants as of
 use Rattle.certificates.specs.Nodes.{Proof, split, priced, pinned, bare, preorder, low_cut, high_cut, visits}
 use Rattle.certificates.specs.Sound.{IsSoundVisit, NoneIsZero}
-use Rattle.certificates.proofs.JoinedLists.{each_parts}
 use Rattle.proof_pieces.specs.Ahead.{NoMult}
 use Rattle.proof_pieces.specs.Items.{Items}
 use Rattle.proof_pieces.specs.PieceList.{Given, Place, wants, after_leaf, node_read, cut_count, nodes, pieces_from}

@@ -6,6 +6,7 @@ use Rattle.std.proofs.Math.Nat.{mul-div_cancel}
 use Rattle.text_lines.specs.declared.line.BadByte.{BadByte}
 use Rattle.text_lines.specs.Lines.{TextLine}
 use Rattle.text_lines.specs.Written.{numbered}
+use Rattle.text_lines.proofs.WordLemmas.{same_bytes}
 use Rattle.roster_model.specs.declared.instance.Cut.{Cut}
 use Rattle.roster_model.specs.declared.instance.Instance.{Instance}
 use Rattle.roster_model.specs.declared.instance.Mult.{Mult}
@@ -15,11 +16,11 @@ use Rattle.roster_model.specs.PriceLimits.{IsMult, AreRising, FitPrices, nonzero
 use Rattle.roster_model.proofs.Mults.{nonzero-all}
 use Rattle.roster_model.specs.SoundInstance.{IsSoundInstance}
 use Rattle.roster_model.specs.Sums.{Within}
+use Rattle.roster_model.proofs.EachLemmas.{all_each}
 use Rattle.certificates.specs.declared.cert.Node.{Node}
 use Rattle.certificates.specs.declared.cert.Node.TheVariants as of
 use Rattle.certificates.specs.Nodes.{Proof, split, priced, pinned, bare, preorder}
 use Rattle.certificates.specs.Sound.{IsSoundNode, ListNoZero, NoneIsZero}
-use Rattle.certificates.proofs.WalksLemmas.{all_each}
 use Rattle.proof_pieces.specs.declared.node.NodeLine.{NodeLine}
 use Rattle.proof_pieces.specs.declared.node.NodeLine.TheVariants.{Split, Priced}
 use Rattle.proof_pieces.specs.Ahead.{NoMult}
@@ -29,7 +30,7 @@ use Rattle.proof_pieces.specs.PriceLines.{due_byte, price_line, last_cut}
 use Rattle.proof_pieces.specs.Told.{node}
 use Rattle.bound_proof.specs.Written.{price_words, price_lines, mult_words, block_lines, node_lines, tree_lines}
 use Rattle.proof_pieces.proofs.BlockKept.{last_is}
-use Rattle.bound_proof.proofs.FieldsAgain.{same_bytes, HasLine, line_of_node, node_again, price_line_again, mult_line_again}
+use Rattle.bound_proof.proofs.FieldsAgain.{HasLine, line_of_node, node_again, price_line_again, mult_line_again}
 use Rattle.proof_pieces.proofs.PriceBlock.{price_read, mult_read, block_done, cells_whole}
 
 -- nodes, told one after another, and what follows

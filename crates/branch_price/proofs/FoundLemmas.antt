@@ -1,5 +1,5 @@
 -- At the end of a search its tree is what a certificate needs.
-use Rattle.std.proofs.Common.{◌≡◌, ℕ, arith, ◌≤◌, Bool, cond, Option, None, Some, IfSome, List, [], ◌∷◌, ◌++◌, length, length-append, refl, sym, ap, subst, ◌∙◌}
+use Rattle.std.proofs.Common.{◌≡◌, ℕ, arith, ◌≤◌, Bool, Option, None, Some, IfSome, List, [], ◌∷◌, ◌++◌, length, length-append, refl, sym, ap, subst, ◌∙◌}
 use Rattle.std.proofs.lemmas.List.{append-nil}
 use Rattle.roster_model.specs.declared.grammar.ArcKey.{ArcKey}
 use Rattle.roster_model.specs.declared.instance.Cut.{Cut}
@@ -14,14 +14,13 @@ use Rattle.roster_model.specs.SoundInstance.{IsSoundInstance}
 use Rattle.bound_laws.proofs.OneValue.{one-priced}
 use Rattle.certificates.specs.declared.cert.Cert.{Cert}
 use Rattle.certificates.specs.declared.cert.Node.{Node}
-use Rattle.certificates.specs.declared.cert.Node.TheVariants.{Split, Priced, Pinned, Bare}
+use Rattle.certificates.specs.declared.cert.Node.TheVariants.{Split}
 use Rattle.certificates.specs.Kinds as kinds
 use Rattle.certificates.specs.Nodes.{Proof, Visit, visits, preorder, low_cut, high_cut}
 use Rattle.certificates.specs.Sound.{most_cost, IsSoundCert, IsSoundShift, NoneIsZero}
 use Rattle.certificates.proofs.OneTree.{same_start}
 use Rattle.certificate_laws.specs.Accepted.{IsStated, bound_number}
 use Rattle.certificate_laws.specs.Shown.{Shows}
-use Rattle.growing_laws.specs.Grown as grown
 use Rattle.growing_laws.specs.Grown.{Grown, tip, fork, Leaf, fresh, valued, fixed, Own, OnTips, OnForks, prices_of, leaf_proof, proof_of, raised, numbers, busy, missed, shown}
 use Rattle.growing_laws.specs.States.{IsLeaf, IsOwn, IsSplit, IsTip, IsGrowing, OwnShows, IsGrownProof}
 use Rattle.growing_laws.proofs.NodeCounts.{grown-counts}
@@ -45,23 +44,6 @@ forks-both : (P Q R : ForkFact) → ((path : List Cut) (a : ArcKey) (b : ℕ) (o
 forks-both P Q R f cuts (tip k l) p q = tt
 forks-both P Q R f cuts (fork k a b own low high) p q =
     (f cuts a b own p.0 q.0, forks-both P Q R f (cuts ++ low_cut a b ∷ []) low p.1 q.1, forks-both P Q R f (cuts ++ high_cut a b ∷ []) high p.2 q.2)
-
-count-same : (p q : Node → Bool) → ((x : Node) → p x ≡ q x) → (xs : List Node) → count p xs ≡ count q xs
-count-same p q f [] = refl
-count-same p q f (x ∷ xs) = let e = f x in let rest = count-same p q f xs in let one : ◌≡◌ {A = ℕ} (cond (p x) 1 0) (cond (q x) 1 0) = ap (λ (b : Bool). cond b 1 0) e in omega (arith, one, rest)
-
-same_processed : (x : Node) → kinds.is_processed x ≡ grown.is_processed x
-same_processed (Split a b own) = refl
-same_processed (Priced p) = refl
-same_processed Pinned = refl
-same_processed Bare = refl
-
-same_unpriced : (x : Node) → kinds.is_unpriced x ≡ grown.is_unpriced x
-same_unpriced (Split a b None) = refl
-same_unpriced (Split a b (Some p)) = refl
-same_unpriced (Priced p) = refl
-same_unpriced Pinned = refl
-same_unpriced Bare = refl
 
 -- the nodes of a certificate are those of one tree
 one-tree : (p q : Proof) → preorder p ≡ preorder q → p ≡ q
@@ -222,8 +204,8 @@ module _ (i : Instance) (sound : IsSoundInstance i) (a : AsksEnd i) (p : Progres
     ascending = says.ascending;
     each = each-found i a.strict (limit_of i p.best) is.low (length p.tree.seats) is.tree is.final.growing (bound_number i bound) is.shows;
     sharp = each-sharp i a.strict (limit_of i p.best) is.low (length p.tree.seats) is.tree is.final.growing;
-    processed = busy_is ∙ is.final.processed ∙ sym (grown-counts is.tree).0 ∙ sym (count-same kinds.is_processed grown.is_processed same_processed (preorder (proof_of is.tree))) ∙ ap (count kinds.is_processed) (sym all);
-    failed = missed_is ∙ is.final.failed ∙ sym (grown-counts is.tree).1 ∙ sym (count-same kinds.is_unpriced grown.is_unpriced same_unpriced (preorder (proof_of is.tree))) ∙ ap (count kinds.is_unpriced) (sym all);
+    processed = busy_is ∙ is.final.processed ∙ sym (grown-counts is.tree).0 ∙ ap (count kinds.is_processed) (sym all);
+    failed = missed_is ∙ is.final.failed ∙ sym (grown-counts is.tree).1 ∙ ap (count kinds.is_unpriced) (sym all);
     within = let w = is.within in omega (arith, busy_is, w);
     done = done-of (record { shifts = shifts; cost = cost; bound = bound; nodes = nodes }) done (subst (λ (x : Option ℕ). IsDoneAt x bound done) (sym (same-cost p.best shifts cost said)) is.ended);
     ran_out = λ e. let s = is.spent e in record { all = busy_is ∙ s.all; few = s.few };

@@ -7,7 +7,7 @@ use Rattle.roster_model.specs.declared.instance.Instance.{Instance}
 use Rattle.roster_model.specs.Cuts.{base_cuts}
 use Rattle.roster_model.specs.Folds.{Each}
 use Rattle.roster_model.specs.SoundInstance.{IsSoundInstance}
-use Rattle.arc_laws.proofs.FoldsLemmas.{Each-same}
+use Rattle.roster_model.proofs.EachLemmas.{Each-weaker}
 use Rattle.certificates.specs.Nodes.{low_cut, high_cut}
 use Rattle.master_laws.specs.Laws.{IsBelowHeads}
 use Rattle.node_master.specs.Ends.{IsNodeCut}
@@ -84,8 +84,8 @@ leaf-cuts i v strict before now low p leaf cuts sound asked =
     let few = asked.few in
     let base : length (base_cuts i) ≤ 16 = base-few i sound in
     record {
-      node = Each-same (IsGoodCut i) (IsNodeCut i) cuts (λ c h. h.node) good;
-      below = Each-same (IsGoodCut i) (IsBelowHeads i) cuts (λ c h. h.below) good;
+      node = Each-weaker (IsGoodCut i) (IsNodeCut i) cuts (λ c h. h.node) good;
+      below = Each-weaker (IsGoodCut i) (IsBelowHeads i) cuts (λ c h. h.below) good;
       based = path-based (base_cuts i) asked.tree leaf.kept.seat cuts asked.place.stands;
       few = omega (arith, short, busy, few, base);
     }

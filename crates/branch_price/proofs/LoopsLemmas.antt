@@ -1,7 +1,6 @@
 -- The turns of a search, and its two ends.
-use Rattle.std.proofs.Common.{◌≡◌, ℕ, arith, ◌+◌, ◌≤◌, ◌<◌, inl, inr, max, Bool, Option, None, Some, IfSome, List, [], ◌∷◌, ◌++◌, length, refl, sym, subst, ap, ◌∙◌}
+use Rattle.std.proofs.Common.{◌≡◌, ℕ, arith, ◌+◌, ◌≤◌, ◌<◌, max, Bool, Option, None, Some, IfSome, [], ◌∷◌, length, refl, sym, subst, ap, ◌∙◌}
 use Rattle.std.specs.Prelude.{◌≢◌}
-use Rattle.roster_model.specs.declared.instance.Cut.{Cut}
 use Rattle.roster_model.specs.declared.instance.Done.{Done}
 use Rattle.roster_model.specs.declared.instance.Done.TheVariants.{Equal, NoRoster, TurnsOut}
 use Rattle.roster_model.specs.declared.instance.Instance.{Instance}
@@ -9,14 +8,13 @@ use Rattle.roster_model.specs.Cuts.{base_cuts}
 use Rattle.roster_model.specs.GreatestCost.{greatest_cost}
 use Rattle.roster_model.specs.SoundInstance.{IsSoundInstance}
 use Rattle.bound_laws.specs.Infeasible.{IsPlainlyInfeasible}
-use Rattle.certificates.specs.Nodes.{low_cut, high_cut}
 use Rattle.certificate_laws.specs.Accepted.{bound_number}
 use Rattle.parse_graph.specs.Graphs.{GraphView, IsGraph}
-use Rattle.growing_laws.specs.Grown.{Grown, tip, fork, SomeTip, raised, tip_bound, shown}
+use Rattle.growing_laws.specs.Grown.{SomeTip, tip_bound, shown}
 use Rattle.growing_laws.specs.Boxes.{IsOpenLeaf}
 use Rattle.growing_laws.specs.States.{IsTip}
 use Rattle.growing_laws.proofs.GrownLemmas.{some-map, some-both, least-bound}
-use Rattle.growing_laws.proofs.StatesLemmas.{growing-closed, growing-few}
+use Rattle.growing_laws.proofs.StatesLemmas.{growing-closed, growing-few, some-fact}
 use Rattle.open_nodes.specs.declared.leaf.OpenLeaf.{OpenLeaf}
 use Rattle.search_tree.specs.Views.{TreeView}
 use Rattle.search_tree.proofs.TreeLaws.{queued-leaf}
@@ -30,12 +28,6 @@ use Rattle.branch_price.specs.Ends.{IsNext, IsEnd, IsDoneAt, IsClosedBy}
 use Rattle.branch_price.specs.Loops.{IsLooping}
 use Rattle.branch_price.proofs.EndsLemmas.{final-is}
 use Rattle.branch_price.proofs.ShownLimit.{shown-limit}
-
--- what holds of some leaf and speaks of none
-some-fact : (C : Type 0) (above : ℕ) (cuts : List Cut) (t : Grown) → SomeTip (λ up path k l. C) above cuts t → C
-some-fact C above cuts (tip k l) h = h
-some-fact C above cuts (fork k a b own low high) (inl h) = some-fact C (raised above own) (cuts ++ low_cut a b ∷ []) low h
-some-fact C above cuts (fork k a b own low high) (inr h) = some-fact C (raised above own) (cuts ++ high_cut a b ∷ []) high h
 
 pub begun-loops : (i : Instance) (v : GraphView) (strict : Bool) (before turns : ℕ) (p : Progress) → IsBegun i v p
     → IsLooping i v strict before before turns p

@@ -1,10 +1,9 @@
 -- The cuts on the way to a node are ones that a master takes.
-use Rattle.std.proofs.Common.{◌≡◌, ℕ, arith, ◌+◌, ◌-◌, ◌*◌, ◌≤◌, ◌<◌, Bool, true, false, cond, All, List, [], ◌∷◌, ◌++◌, length, map, length-append, refl, ap, sym, subst, ◌∙◌, inl, inr}
+use Rattle.std.proofs.Common.{◌≡◌, ℕ, arith, ◌+◌, ◌-◌, ◌*◌, ◌≤◌, ◌<◌, Bool, true, false, cond, List, [], ◌∷◌, ◌++◌, length, map, length-append, refl, ap, sym, subst, ◌∙◌, inl, inr}
 use Rattle.std.specs.Prelude.{nat_lt}
 use mathlib.Core.List.{append_assoc, append-nil}
 use Rattle.std.proofs.lemmas.Bool.Decides.{nat_tests}
 use Rattle.std.proofs.lemmas.List.{length-map}
-use Rattle.std.proofs.lemmas.List.Elements.{All-head, All-tail}
 use Rattle.roster_model.specs.declared.grammar.ArcKey.{ArcKey}
 use Rattle.roster_model.specs.declared.grammar.Grammar.{Grammar}
 use Rattle.roster_model.specs.Extension.{group_rule}
@@ -17,9 +16,9 @@ use Rattle.roster_model.specs.Cuts.{hi, at_most, group_arc, group_cuts, group_cu
 use Rattle.roster_model.proofs.CutCounts.{base_length}
 use Rattle.roster_model.specs.Arcs.{same_arc}
 use Rattle.roster_model.specs.Folds.{sum_n, Each}
-use Rattle.roster_model.specs.SoundInstance.{IsSoundInstance, IsGroup, HasGroups}
-use Rattle.arc_laws.proofs.FoldsLemmas.{Each-append}
-use Rattle.bound_laws.proofs.BaseCuts.{IsRange}
+use Rattle.roster_model.specs.SoundInstance.{IsSoundInstance, HasGroups}
+use Rattle.roster_model.proofs.EachLemmas.{Each-append}
+use Rattle.bound_laws.proofs.BaseCuts.{IsRange, ranges}
 use Rattle.certificates.specs.Nodes.{low_cut, high_cut}
 use Rattle.master_laws.specs.Laws.{IsBelowHeads}
 use Rattle.node_master.specs.Ends.{IsNodeCut}
@@ -110,25 +109,18 @@ module _ (i : Instance) (few : i.heads_max ≤ 64) where
   from-good r (g ∷ gs) above within ranges = Each-append (IsGoodCut i) (group_cuts i r g) (cuts_from i (r + 1) gs)
       (group-good r g above (omega (arith, within)) ranges.0) (from-good (r + 1) gs (omega (arith, above)) (omega (arith, within)) ranges.1)
 
--- each group's greatest number is at most their sum
-ranges-of : (names top : ℕ) (gs : List Group) → All (IsGroup names) gs → sum_n (λ (g : Group). g.heads_max) gs ≤ top → Each (IsRange top) gs
-ranges-of names top [] all le = tt
-ranges-of names top (g ∷ gs) all le =
-    let h = All-head (IsGroup names) g gs all in
-    (record { some = h.some; order = h.order; within = omega (arith, le) }, ranges-of names top gs (All-tail (IsGroup names) g gs all) (omega (arith, le)))
-
 pub base-good : (i : Instance) → IsSoundInstance i → Each (IsGoodCut i) (base_cuts i)
 base-good i sound = by i.groups refl sound.groups
   where
     by : (gs : List Group) → i.groups ≡ gs → HasGroups i gs → Each (IsGoodCut i) (base_cuts i)
     by [] e h = let base : base_cuts i ≡ [] = rw e refl in subst (λ (cs : List Cut). Each (IsGoodCut i) cs) (sym base) tt
     by (g ∷ gs) e h =
-        let ranges = ranges-of (length h.0.names) i.heads_max i.groups h.1.groups.each (omega (arith, h.1.most)) in
+        let fit = ranges (length h.0.names) i.heads_max i.groups h.1.groups.each (omega (arith, h.1.most)) in
         let rules : length i.grammar.rules ≡ length (h.0.rules ++ map (group_rule (length h.0.names)) i.groups) = ap (λ (x : Grammar). length x.rules) h.1.grammar in
         let sum = length-append h.0.rules (map (group_rule (length h.0.names)) i.groups) in
         let same = length-map i.groups (group_rule (length h.0.names)) in
         let enough : length i.groups ≤ length i.grammar.rules = omega (arith, rules, sum, same) in
-        from-good i sound.few (length i.grammar.rules - length i.groups + 1) i.groups (omega arith) (omega (arith, enough)) ranges
+        from-good i sound.few (length i.grammar.rules - length i.groups + 1) i.groups (omega arith) (omega (arith, enough)) fit
 
 count-few : (most : ℕ) (gs : List Group) → sum_n (group_cut_count most) gs ≤ 2 * length gs
 count-few most [] = omega arith

@@ -16,9 +16,9 @@ use Rattle.roster_model.specs.SoundInstance.{IsSoundInstance}
 use Rattle.roster_model.specs.Shifts.{IsShift}
 use Rattle.roster_model.specs.Teams.{Team, teams}
 use Rattle.roster_model.proofs.SoundCells.{few_cells}
+use Rattle.roster_model.proofs.EachLemmas.{Each-at}
 use Rattle.arc_laws.specs.Counts.{AreCounts}
 use Rattle.arc_laws.specs.Lists.{AreArcs}
-use Rattle.arc_laws.proofs.FoldsLemmas.{Each-at}
 use Rattle.bound_laws.specs.BestPrices.{AreBest, loss}
 use Rattle.bound_laws.specs.Infeasible.{IsPlainlyInfeasible}
 use Rattle.bound_laws.specs.Lagrangian.{IsLagrangian, lagrangian_sum}

@@ -5,7 +5,6 @@ use Rattle.roster_model.specs.declared.instance.Cut.{Cut}
 use Rattle.roster_model.specs.declared.instance.Instance.{Instance}
 use Rattle.roster_model.specs.Cuts.{lo, hi}
 use Rattle.roster_model.specs.Folds.{Each}
-use Rattle.arc_laws.proofs.FoldsLemmas.{Each-append}
 use Rattle.arc_laws.proofs.PathBounds.{Keeps, bounds-hold, bounds-keep}
 use Rattle.arc_laws.proofs.SameArc.{Told, arc_tells}
 use Rattle.certificates.specs.Nodes.{low_cut, high_cut}
@@ -14,6 +13,7 @@ use Rattle.growing_laws.specs.Seats.{StandsAt}
 use Rattle.growing_laws.specs.States.{IsSplitAt}
 use Rattle.roster_model.specs.Cuts.{base_cuts}
 use Rattle.roster_model.specs.SoundInstance.{IsSoundInstance}
+use Rattle.roster_model.proofs.EachLemmas.{Each-append}
 use Rattle.bound_laws.specs.Counted.{AsksForArc}
 use Rattle.bound_laws.specs.Infeasible.{IsPlainlyInfeasible}
 use Rattle.bound_laws.proofs.BaseCuts.{base-open, base-asks}

@@ -7,17 +7,16 @@ use Rattle.roster_model.specs.declared.instance.Mult.{Mult}
 use Rattle.roster_model.specs.declared.instance.Prices.{Prices}
 use Rattle.roster_model.specs.Folds.{Each}
 use Rattle.roster_model.specs.PriceLimits.{IsMult, AreRising}
-use Rattle.certificates.proofs.WalksLemmas.{each_all, all_each}
-use Rattle.arc_laws.proofs.FoldsLemmas.{Each-same}
 use Rattle.bound_laws.specs.Priced.{IsPricedValue}
+use Rattle.roster_model.specs.Limits.{IsSmallCut}
 use Rattle.master_laws.proofs.RowSizes.{row_count}
 use Rattle.std.proofs.lemmas.Option.{slice_get_within}
 use Rattle.roster_model.specs.declared.grammar.Grammar.{Grammar}
+use Rattle.roster_model.proofs.EachLemmas.{all_each, each_all, Each-weaker}
 use Rattle.linear_programs.specs.Solution.{Weighted}
 use Rattle.master_laws.specs.Master.{MasterKey}
 use Rattle.node_columns.specs.Weights.{AreWeights}
 use Rattle.node_master.specs.Ends.{IsNodeCut}
-use Rattle.master_rows.specs.NodeRows.{IsSmallCut}
 use Rattle.tree_pool.specs.Pools.{PoolTree}
 use Rattle.node_columns.specs.declared.weights.Weight.{Weight}
 use Rattle.growing_laws.specs.States.{IsPricedNode}
@@ -25,10 +24,10 @@ use Rattle.branch_price.specs.Steps.{IsSolved, IsShown}
 use Rattle.branch_price.proofs.Leaves.{AreLeafCuts}
 
 pub small-cuts : (i : Instance) (cuts : List Cut) → AreLeafCuts i cuts → All (λ (c : Cut). c.b ≤ 63) cuts
-small-cuts i cuts are = each_all (λ (c : Cut). c.b ≤ 63) cuts (Each-same (IsNodeCut i) (λ (c : Cut). c.b ≤ 63) cuts (λ c h. h.few) are.node)
+small-cuts i cuts are = each_all (λ (c : Cut). c.b ≤ 63) cuts (Each-weaker (IsNodeCut i) (λ (c : Cut). c.b ≤ 63) cuts (λ c h. h.few) are.node)
 
 pub few-cuts : (i : Instance) (cuts : List Cut) → AreLeafCuts i cuts → Each IsSmallCut cuts
-few-cuts i cuts are = Each-same (IsNodeCut i) IsSmallCut cuts (λ c h. h.few) are.node
+few-cuts i cuts are = Each-weaker (IsNodeCut i) IsSmallCut cuts (λ c h. h.few) are.node
 
 pub is-shown : (i : Instance) (cuts : List Cut) (pool : List PoolTree) (prices : Prices) (weights : List Weight) (value : ℕ) → AreLeafCuts i cuts
     → IsSolved i cuts pool prices weights → IsPricedValue i prices cuts value → IsShown i cuts pool weights value
@@ -45,7 +44,7 @@ rising-few top (m ∷ ms) n le above within rising =
     omega (arith, k, lt)
 
 all-some : (top : ℕ) (ms : List Mult) → Each (IsMult top) ms → Each (λ (m : Mult). 0 < m.cut) ms
-all-some top ms h = Each-same (IsMult top) (λ (m : Mult). 0 < m.cut) ms (λ m k. let f = k.first in omega (arith, f)) h
+all-some top ms h = Each-weaker (IsMult top) (λ (m : Mult). 0 < m.cut) ms (λ m k. let f = k.first in omega (arith, f)) h
 
 -- the prices of a solved node, with what they show
 pub priced-node : (i : Instance) (cuts : List Cut) (pool : List PoolTree) (prices : Prices) (weights : List Weight) (value : ℕ) → AreLeafCuts i cuts
@@ -59,7 +58,7 @@ priced-node i cuts pool prices weights value are solved shows =
     let mults = rising-few (length cuts) prices.mult 0 (omega arith) (all-some (length cuts) prices.mult each) each fit.rising in
     record {
       fit = fit;
-      listed = Each-same (λ (m : Mult). pos 0 <ℤ m.value) (λ (m : Mult). pos 1 ≤ℤ m.value) prices.mult (λ m h. omega (arith, ints, h)) solved.best.positive;
+      listed = Each-weaker (λ (m : Mult). pos 0 <ℤ m.value) (λ (m : Mult). pos 1 ≤ℤ m.value) prices.mult (λ m h. omega (arith, ints, h)) solved.best.positive;
       few = omega (arith, rows, few, cells, mults);
       value = shows;
       best = solved.best.best are.below;

@@ -16,8 +16,8 @@ use Rattle.roster_model.specs.Limits.{IsLimitedCell}
 use Rattle.roster_model.specs.SoundInstance.{IsSoundInstance, HasGroups}
 use Rattle.roster_model.proofs.CostBounds.{shifts-le, cells-le}
 use Rattle.roster_model.proofs.SoundCells.{cells_limited}
+use Rattle.roster_model.proofs.EachLemmas.{Each-append}
 use Rattle.tree_laws.proofs.Rules.{rule_at-within, sound-rule}
-use Rattle.arc_laws.proofs.FoldsLemmas.{Each-append}
 use Rattle.certificates.specs.declared.cert.Node.{Node}
 use Rattle.certificates.specs.declared.cert.Node.TheVariants.{Split}
 use Rattle.certificates.specs.Nodes.{visits, preorder, low_cut, high_cut}

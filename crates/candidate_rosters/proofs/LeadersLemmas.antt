@@ -17,6 +17,7 @@ use Rattle.roster_model.specs.SoundInstance.{IsSoundInstance, HasGroups}
 use Rattle.roster_model.specs.Sums.{PriceView, IsLeast, AtMost, tree_sum}
 use Rattle.roster_model.specs.Teams.{Team, teams, teams_of, teams_from}
 use Rattle.roster_model.specs.Trees.{Parts, done, letter, uses, On, Derive, IsDayTree}
+use Rattle.roster_model.proofs.EachLemmas.{get-in}
 use Rattle.tree_laws.specs.LeastTrees.{HasDaySum, HoldsLeastTree}
 use Rattle.tree_laws.specs.Laws.{arc_at}
 use Rattle.tree_laws.specs.Parts.{first}
@@ -31,7 +32,6 @@ use Rattle.cheapest_tree.specs.Pricers.{PricerView, IsFilled, AsksTree}
 use Rattle.cheapest_tree.specs.Under.{IsTop, IsReady, IsDayTreeUnder, AsksTreeUnder, HoldsLeastUnder}
 use Rattle.cheapest_tree.proofs.AtNodesLemmas.{whole-in}
 use Rattle.cheapest_tree.proofs.TopArcLemmas.{only-first}
-use Rattle.roster_part.proofs.Items.{get-in}
 use Rattle.candidate_rosters.specs.Leaders.{AreCosts, IsTeamTree, HoldsLeader}
 
 -- sums that are costs compare as those

@@ -12,8 +12,8 @@ use Rattle.bound_laws.specs.DutyTrees.{own_rules}
 use Rattle.bound_laws.specs.Laws.{IsOfTeam}
 use Rattle.bound_laws.proofs.DayTeams.{team-of}
 use Rattle.certificates.specs.Sound.{IsGroupNumber}
-use Rattle.tree_pool.specs.Pools.{AreDaySteps}
 use Rattle.candidate_rosters.specs.Spelled.{IsOfNumber}
+use Rattle.tree_laws.specs.DaySteps.{AreDaySteps}
 
 -- the numbers of teams are those of groups
 from_number : (k : ℕ) (gs : List Group) (t : Team) → In t (teams_from k gs) → (k ≤ t.number) × (t.number < k + length gs)

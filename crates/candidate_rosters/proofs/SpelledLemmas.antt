@@ -17,10 +17,11 @@ use Rattle.roster_model.proofs.CostBounds.{rule_cost-le, uses-le}
 use Rattle.bound_laws.proofs.TreeCosts.{cost-le}
 use Rattle.bound_laws.specs.DutyTrees.{own_rules}
 use Rattle.certificates.specs.Sound.{IsGroupNumber, IsWordByte}
-use Rattle.tree_pool.specs.Pools.{PoolTree, IsPoolTree, IsPool, AreDaySteps}
+use Rattle.tree_pool.specs.Pools.{PoolTree, IsPoolTree, IsPool}
 use Rattle.candidate_rosters.specs.Spelled.{IsTreeAt, IsOfNumber, IsTeamShift, IsShiftOf}
 use Rattle.candidate_rosters.proofs.Numbers.{group-number}
 use Rattle.candidate_rosters.proofs.TreeWords.{codes-exist, word-is, word-fine, word-long}
+use Rattle.tree_laws.specs.DaySteps.{AreDaySteps}
 
 -- no price is great
 small_price : (i : Instance) → IsSoundInstance i → (t : Parts) (x : ℕ) (price : ℕ) → (d : Rattle.roster_model.specs.Trees.IsTreeOf i.grammar x t) → cost i.grammar t ≡ price → price ≤ 2 ^ 40

@@ -1,7 +1,7 @@
 -- The word of a tree of the pool, by its codes.
 use Rattle.std.proofs.Common.{All, ◌≡◌, ℕ, suc, ◌<◌, ◌+◌, true, Option, None, Some, List, [], ◌∷◌, ◌++◌, arith, refl, subst, sym, ap, ◌∙◌, length, map, take, get_or}
 use Rattle.std.proofs.lemmas.Option.{slice_get_within, slice_get-get_or}
-use Rattle.std.proofs.lemmas.List.{take_more}
+use Rattle.std.proofs.lemmas.List.{take_more, map-append}
 use Rattle.std.proofs.lemmas.List.Elements.{All-nil, All-cons}
 use Rattle.roster_model.specs.declared.grammar.CodeDef.{CodeDef}
 use Rattle.roster_model.specs.declared.grammar.Grammar.{Grammar}
@@ -13,12 +13,12 @@ use Rattle.roster_model.specs.Arcs.{Letter}
 use Rattle.roster_model.specs.Coverage.{code_byte}
 use Rattle.roster_model.specs.Names.{is_code_byte}
 use Rattle.roster_model.specs.Sound.{IsSound}
-use Rattle.arc_laws.proofs.FoldsLemmas.{Each-append}
+use Rattle.roster_model.proofs.EachLemmas.{Each-append}
 use Rattle.bound_laws.proofs.ReadyInstances.{IsCode, IsSymbol, HasCodes}
 use Rattle.bound_laws.proofs.SoundCodes.{has-codes}
 use Rattle.certificates.specs.Sound.{IsWordByte}
 use Rattle.tree_laws.proofs.Rules.{All-slice_get}
-use Rattle.tree_pool.specs.Letters.{codes_of}
+use Rattle.tree_laws.specs.Letters.{codes_of}
 use Rattle.tree_pool.specs.Pools.{PoolTree, letters_from, IsPoolTree}
 use Rattle.tree_pool.proofs.LettersLemmas.{letters-are, length-codes}
 
@@ -39,10 +39,6 @@ same_letters i (x ∷ xs) (y ∷ ys) e =
     let head : x ≡ y = ap first_code e in
     let tail : xs ≡ ys = same_letters (suc i) xs ys (ap rest_of e) in
     cc (head, tail)
-
-map_both : (f : ℕ → ℕ) (xs ys : List ℕ) → map f (xs ++ ys) ≡ map f xs ++ map f ys
-map_both f [] ys = refl
-map_both f (x ∷ xs) ys = ap (λ (zs : List ℕ). f x ∷ zs) (map_both f xs ys)
 
 module _ (g : Grammar) (sound : IsSound g) where
   byte_is : (c : ℕ) → IsCode g c → byte_of g c ≡ code_byte g c ∷ []
@@ -73,7 +69,7 @@ module _ (g : Grammar) (sound : IsSound g) where
       let has : HasCodes g = has-codes g sound in
       let inside = spell inner d.0.right i (has.symbols q d.0 d.1) d.6 in
       record {
-        spelled = ap (λ (xs : List ℕ). xs ++ word g rest) inside.spelled ∙ ap (λ (xs : List ℕ). map (code_byte g) (codes_of inner) ++ xs) more.spelled ∙ sym (map_both (code_byte g) (codes_of inner) (codes_of rest));
+        spelled = ap (λ (xs : List ℕ). xs ++ word g rest) inside.spelled ∙ ap (λ (xs : List ℕ). map (code_byte g) (codes_of inner) ++ xs) more.spelled ∙ sym (map-append (code_byte g) (codes_of inner) (codes_of rest));
         valid = Each-append (IsCode g) (codes_of inner) (codes_of rest) inside.valid more.valid;
       }
 
@@ -130,4 +126,4 @@ pub bytes-next : (g : Grammar) (cs : List ℕ) (k c : ℕ) (d : CodeDef) (defs :
 bytes-next g cs k c d defs old new inside is there same e f =
     let byte : (get_or defs c d).byte ≡ code_byte g (get_or cs k 0) = ap (λ (q : List CodeDef). (get_or q c d).byte) same ∙ byte_read g c d there ∙ ap (code_byte g) is in
     f ∙ ap (λ (q : List ℕ). q ++ (get_or defs c d).byte ∷ []) e ∙ ap (λ (b : ℕ). map (code_byte g) (take k cs) ++ b ∷ []) byte
-    ∙ sym (map_both (code_byte g) (take k cs) (get_or cs k 0 ∷ [])) ∙ ap (map (code_byte g)) (sym (take_more cs k 0 inside))
+    ∙ sym (map-append (code_byte g) (take k cs) (get_or cs k 0 ∷ [])) ∙ ap (map (code_byte g)) (sym (take_more cs k 0 inside))

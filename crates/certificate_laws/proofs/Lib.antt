@@ -1,4 +1,3 @@
-pub mod Lists
 pub mod OneProof
 pub mod ShownBound
 pub mod RightLemmas

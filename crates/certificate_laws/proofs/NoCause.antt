@@ -14,7 +14,8 @@ use Rattle.roster_model.specs.Rosters.{IsTeamPrice, ArePrices, HasHeads, roster_
 use Rattle.roster_model.specs.Coverage.{covered, IsWithinCell}
 use Rattle.roster_model.specs.Shifts.{IsPrice}
 use Rattle.roster_model.specs.Teams.{Team, teams}
-use Rattle.bound_laws.proofs.TeamNumbers.{team_apart}
+use Rattle.roster_model.proofs.TeamNumbers.{team_apart}
+use Rattle.roster_model.proofs.EachLemmas.{Each-get}
 use Rattle.certificates.specs.declared.cert.Cert.{Cert}
 use Rattle.certificates.specs.declared.cert.Node.{Node}
 use Rattle.certificates.specs.declared.cert.Node.TheVariants.{Split, Priced, Pinned, Bare}
@@ -28,7 +29,6 @@ use Rattle.certificates.specs.RosterCauses.{stated_prices}
 use Rattle.certificate_laws.specs.Accepted.{IsOnArc, LeavesBoth, IsTight, IsStated, bound_number, Accepts}
 use Rattle.certificate_laws.specs.Causes.{Cause}
 use Rattle.certificate_laws.specs.Shown.{Shows}
-use Rattle.certificate_laws.proofs.Lists.{Each-get}
 use Rattle.certificate_laws.proofs.OneProof.{same-proof, one-shown}
 
 one-price : (g : Grammar) (x : ℕ) (w : List ℕ) (a b : ℕ) → IsPrice g x w a → IsPrice g x w b → a ≡ b
@@ -143,7 +143,7 @@ module _ (i : Instance) (c : Cert) (p : Proof) (whole : preorder p ≡ c.nodes) 
       let value = one-shown i (base_cuts i) p v a.value shows (subst (λ (q : Proof). Shows i (base_cuts i) q a.value) same a.shows) in
       omega (arith, a.less, enough)
 
-has-cost : {P : ℕ → Type 0} (cost : Option ℕ) → IsSome cost → IfSome cost P → (amount : ℕ) × (cost ≡ Some amount) × P amount
+pub has-cost : {P : ℕ → Type 0} (cost : Option ℕ) → IsSome cost → IfSome cost P → (amount : ℕ) × (cost ≡ Some amount) × P amount
 has-cost None h k = cc
 has-cost (Some n) h k = (n, refl, k)
 

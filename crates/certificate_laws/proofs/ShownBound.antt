@@ -10,7 +10,7 @@ use Rattle.roster_model.specs.Cuts.{Meets}
 use Rattle.roster_model.specs.Folds.{Each}
 use Rattle.roster_model.specs.PriceLimits.{IsMult}
 use Rattle.roster_model.specs.SoundInstance.{IsSoundInstance}
-use Rattle.arc_laws.proofs.FoldsLemmas.{Each-append}
+use Rattle.roster_model.proofs.EachLemmas.{Each-append, Each-left, Each-right}
 use Rattle.bound_laws.specs.Infeasible.{IsPlainlyInfeasible}
 use Rattle.bound_laws.specs.Laws.{AreNotNegative}
 use Rattle.bound_laws.specs.Priced.{IsPricedValue}
@@ -21,7 +21,6 @@ use Rattle.certificates.specs.Nodes.{Proof, split, priced, pinned, bare, Visit, 
 use Rattle.certificates.specs.Sound.{AreFit, IsSoundVisit}
 use Rattle.certificate_laws.specs.Accepted.{IsTight}
 use Rattle.certificate_laws.specs.Shown.{Shows, IsSplitValue}
-use Rattle.certificate_laws.proofs.Lists.{Each-left, Each-right}
 
 -- prices that fit have no negative multiplier
 not-negative : (i : Instance) (p : Prices) (cuts : List Cut) → AreFit i cuts p → AreNotNegative p

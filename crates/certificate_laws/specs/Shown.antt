@@ -20,3 +20,8 @@ Shows i cuts (split a b own low high) v =
 Shows i cuts (priced p) v = IsPricedValue i p cuts v
 Shows i cuts pinned v = IsPinnedValue i cuts v
 Shows i cuts bare v = v ≡ 0
+
+-- the lesser value of the halves of a split, raised to its own value where it has one
+abbrev pub joined : Option ℕ → ℕ → ℕ
+joined None lesser = lesser
+joined (Some own) lesser = max own lesser

@@ -10,13 +10,12 @@ use Rattle.roster_model.specs.declared.instance.Side.TheVariants.{Low}
 use Rattle.roster_model.specs.Cuts.{base_cuts}
 use Rattle.roster_model.specs.Folds.{Each}
 use Rattle.roster_model.specs.PriceLimits.{IsMult}
-use Rattle.arc_laws.proofs.FoldsLemmas.{Each-append}
+use Rattle.roster_model.proofs.EachLemmas.{Each-append, each_parts}
 use Rattle.certificates.specs.declared.cert.Node.{Node}
 use Rattle.certificates.specs.declared.cert.Node.TheVariants.{Split, Priced, Pinned, Bare}
 use Rattle.certificates.specs.Forests.{IsSoundBelow, IsForest, due_after, due_high, due}
 use Rattle.certificates.specs.Nodes.{Proof, split, priced, pinned, bare, preorder, low_cut, high_cut, visits}
 use Rattle.certificates.specs.Sound.{AreFit, IsSoundNode, IsSoundVisit, IsSoundProof}
-use Rattle.certificates.proofs.JoinedLists.{each_parts}
 
 longer : (path : List Cut) (c : Cut) (n : ℕ) → length path ≡ n → length (path ++ c ∷ []) ≡ n + 1
 longer path c n e = length-append path (c ∷ []) ∙ ap (λ (k : ℕ). k + 1) e

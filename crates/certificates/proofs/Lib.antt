@@ -1,4 +1,4 @@
 pub mod OneTree
 pub mod WalksLemmas
-pub mod JoinedLists
 pub mod Forests
+pub mod StatedPrices

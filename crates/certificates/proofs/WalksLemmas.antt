@@ -2,21 +2,13 @@
 use Rattle.std.proofs.Common.{◌≡◌, ℕ, arith, ◌+◌, ◌<◌, ◌≤◌, ◌↔◌, All, Bool, true, false, cond, count_by, List, [], ◌∷◌, length, refl, subst, sym}
 use Rattle.std.specs.Prelude.{ℤ}
 use Rattle.std.proofs.lemmas.List.Recursion.{is_count_by}
-use Rattle.std.proofs.lemmas.List.Elements.{All-head, All-tail, All-nil, All-cons}
 use Rattle.roster_model.specs.declared.instance.Cut.{Cut}
 use Rattle.roster_model.specs.declared.instance.Instance.{Instance}
 use Rattle.roster_model.specs.declared.instance.Mult.{Mult}
 use Rattle.roster_model.specs.Folds.{Each}
 use Rattle.roster_model.specs.PriceLimits.{IsMult, AreRising, FitPrices, is_nonzero, nonzero}
+use Rattle.roster_model.proofs.EachLemmas.{all_each}
 use Rattle.certificates.specs.Walks.{RisesFrom, HasPrices, HasMults}
-
-pub all_each : {A : Type 0} (P : A → Type 0) (xs : List A) → All P xs → Each P xs
-all_each P [] h = tt
-all_each P (x ∷ xs) h = (All-head P x xs h, all_each P xs (All-tail P x xs h))
-
-pub each_all : {A : Type 0} (P : A → Type 0) (xs : List A) → Each P xs → All P xs
-each_all P [] h = All-nil P
-each_all P (x ∷ xs) h = All-cons P x xs h.0 (each_all P xs h.1)
 
 all_above : (a b : ℕ) (ms : List Mult) → a ≤ b → RisesFrom b ms → Each (λ (m : Mult). a < m.cut) ms
 all_above a b [] le h = tt

@@ -13,10 +13,12 @@ use Rattle.tree_laws.specs.Laws.{arc_at}
 use Rattle.tree_laws.specs.Parts.{first}
 use Rattle.arc_laws.specs.OrNodes.{OrNode, name, suffix, leaf, right_of, made_by, made}
 use Rattle.arc_laws.proofs.BalanceLemmas.{left_of-is, right_of-is}
+use Rattle.arc_laws.specs.AtNodes.{IsAt}
+use Rattle.arc_laws.proofs.PartCuts.{IsCut}
 use Rattle.parse_graph.specs.Graphs.{GraphView, IsGraph}
 use Rattle.span_arcs.specs.Marks.{TreesStand, PartsStand}
-use Rattle.cheapest_tree.specs.AtNodes.{IsAt, top_arc}
-use Rattle.cheapest_tree.proofs.StandLemmas.{Standing, IsCut, arc-standing}
+use Rattle.cheapest_tree.specs.AtNodes.{top_arc}
+use Rattle.cheapest_tree.proofs.StandLemmas.{Standing, arc-standing}
 
 -- a suffix of two or more symbols on a span of the day, whose parts stand
 pub record HasSuffix (g : Grammar) (r k i l : ℕ) : Type 0 where

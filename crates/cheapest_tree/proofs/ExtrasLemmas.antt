@@ -4,18 +4,16 @@ use Rattle.std.specs.Prelude.{slice_get, IsTrue, IsFalse}
 use Rattle.std.proofs.lemmas.Int.{ints}
 use Rattle.std.proofs.lemmas.Option.{same_Some, slice_get_within, slice_get-get_or}
 use Rattle.std.proofs.lemmas.List.{get_or-set_same, get_or-set_other, get_or_past, at_drop_more, at_drop_all, length-set}
+use Rattle.std.proofs.lemmas.Bool.{cases_eq}
 use Rattle.roster_model.specs.declared.arc_prices.ArcPrice.{ArcPrice}
 use Rattle.roster_model.specs.declared.grammar.ArcKey.{ArcKey}
 use Rattle.roster_model.specs.Arcs.{same_arc}
 use Rattle.roster_model.specs.Folds.{In}
 use Rattle.roster_model.specs.RoomPrices.{entry_price, listed_price}
 use Rattle.roster_model.specs.Sums.{Within}
+use Rattle.roster_model.proofs.EachLemmas.{get-in}
 use Rattle.arc_laws.proofs.SameArc.{Told, arc_tells, same_arc-refl}
-use Rattle.parse_graph.proofs.PlacesLemmas.{In-at}
 use Rattle.cheapest_tree.specs.Extras.{number_at, AreWithin, AreFreeBut, IsAdded}
-
-same_or_not : (a b : ℕ) → (a ≡ b) ⊎ (a ≢ b)
-same_or_not a b = grind arith
 
 before_or_last : (i n : ℕ) → n ≤ i → (n + 1 ≤ i) ⊎ (i ≡ n)
 before_or_last i n h = grind (arith, h)
@@ -37,7 +35,7 @@ module _ (arcs : List ArcKey) (x : ArcPrice) (old : List ℤ) where
   -- the price of an entry is added where its arc stands
   pub added-at : (p : ℕ) → ((p q : ℕ) (a : ArcKey) → slice_get arcs p ≡ Some a → slice_get arcs q ≡ Some a → p ≡ q)
       → slice_get arcs p ≡ Some x.arc → p < length old → IsAdded arcs x old (set old p (number_at old p +ℤ x.price))
-  added-at p once at inside k a here = by (same_or_not k p)
+  added-at p once at inside k a here = by (cases_eq k p)
     where
       by : (k ≡ p) ⊎ (k ≢ p) → number_at (set old p (number_at old p +ℤ x.price)) k ≡ number_at old k +ℤ entry_price a x
       by (inl e) =
@@ -55,7 +53,7 @@ module _ (arcs : List ArcKey) (x : ArcPrice) (old : List ℤ) where
   -- and nowhere where the graph lacks the arc
   pub added-none : (In x.arc arcs → ⊥) → IsAdded arcs x old old
   added-none lacks k a here =
-      let price = other_price a x (λ (same : x.arc ≡ a). lacks (In-at arcs k x.arc (here ∙ ap Some (sym same)))) in
+      let price = other_price a x (λ (same : x.arc ≡ a). lacks (get-in arcs k x.arc (here ∙ ap Some (sym same)))) in
       omega (arith, ints, price)
 
 -- what is left of the entries adds up with what was added
@@ -77,7 +75,7 @@ module _ (arcs : List ArcKey) (entries : List ArcPrice) where
 
 -- a small number in the place of another
 pub within-set : (most : ℕ) (old : List ℤ) (p : ℕ) (z : ℤ) → p < length old → AreWithin most old → Within most z → AreWithin most (set old p z)
-within-set most old p z inside small within k = by (same_or_not k p)
+within-set most old p z inside small within k = by (cases_eq k p)
   where
     by : (k ≡ p) ⊎ (k ≢ p) → Within most (number_at (set old p z) k)
     by (inl e) = subst (Within most) (sym (ap (λ (n : ℕ). number_at (set old p z) n) e ∙ get_or-set_same old p z (pos 0) inside)) within
@@ -107,7 +105,7 @@ asked-small most old n z inside small before k lt = by (before_or_here k n lt)
 
 -- one more place is listed, and its number may be any
 pub free-added : (places : List ℕ) (n p : ℕ) (old : List ℤ) (z : ℤ) → n < length places → AreFreeBut places 0 n old → AreFreeBut (set places n p) 0 (n + 1) (set old p z)
-free-added places n p old z inside free k = by (same_or_not k p) (free k)
+free-added places n p old z inside free k = by (cases_eq k p) (free k)
   where
     here : slice_get (set places n p) n ≡ Some p
     here = slice_get-get_or (set places n p) n 0 (omega (arith, inside, length-set places n p)) ∙ ap Some (get_or-set_same places n p 0 inside)
@@ -149,7 +147,7 @@ free-wider places n m old le free k = by (free k)
 module _ (places : List ℕ) (n m p : ℕ) (old : List ℤ) (at : slice_get places n ≡ Some p) (free : AreFreeBut places n m old) where
   left : (new : List ℤ) (k : ℕ) → (k ≡ p → number_at new k ≡ pos 0) → (k ≢ p → number_at new k ≡ number_at old k)
       → (number_at new k ≡ pos 0) ⊎ ((i : ℕ) × (n + 1 ≤ i) × (i < m) × (slice_get places i ≡ Some k))
-  left new k here other = by (same_or_not k p) (free k)
+  left new k here other = by (cases_eq k p) (free k)
     where
       by : (k ≡ p) ⊎ (k ≢ p) → (number_at old k ≡ pos 0) ⊎ ((i : ℕ) × (n ≤ i) × (i < m) × (slice_get places i ≡ Some k)) → (number_at new k ≡ pos 0) ⊎ ((i : ℕ) × (n + 1 ≤ i) × (i < m) × (slice_get places i ≡ Some k))
       by (inl e) h = inl (here e)

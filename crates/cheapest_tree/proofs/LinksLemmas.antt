@@ -4,6 +4,7 @@ use Rattle.std.specs.Prelude.{slice_get, slice_index, OnSome}
 use Rattle.std.proofs.lemmas.Option.{same_Some, slice_get-get_or, get_or_from_slice_get}
 use Rattle.std.proofs.Math.Seq.{get_or-append_seam}
 use Rattle.std.proofs.lemmas.List.{get_or_append_left, get_or-set_same, get_or-set_other, take_at}
+use Rattle.std.proofs.lemmas.Bool.{cases_eq}
 use Rattle.roster_model.specs.declared.grammar.ArcKey.{ArcKey}
 use Rattle.roster_model.specs.declared.grammar.Grammar.{Grammar}
 use Rattle.roster_model.specs.Sound.{IsSound}
@@ -23,9 +24,6 @@ use Rattle.cheapest_tree.specs.Pricers.{value_at, IsMadeFor, ArePriced, IsFilled
 use Rattle.cheapest_tree.specs.Passes.{AreLeastBefore}
 use Rattle.cheapest_tree.proofs.TopArcLemmas.{KidsLeast}
 use Rattle.cheapest_tree.proofs.PassesLemmas.{complete, one-arc, kids-least, kids-small, kids-inside, lesser-small, pass-next}
-
-same_or_not : (a b : ℕ) → (a ≡ b) ⊎ (a ≢ b)
-same_or_not a b = grind arith
 
 -- a value that was read
 pub value-read : (xs : List (Option ℤ)) (k : ℕ) (d r : Option ℤ) → k < length xs → r ≡ get_or xs k d → r ≡ value_at xs k
@@ -139,7 +137,7 @@ module _ (g : Grammar) (p : PriceView) (v : GraphView) (graph : IsGraph g v) (le
     pub best-next : (best : List ℕ) (w : Option ℤ) (b : ℕ) → (((w ≡ value_at values made_slot) × (b ≡ slice_index best made_slot))
         ⊎ ((w ≡ arc_total p a (value_at values first_slot) (value_at values rest_slot)) × (b ≡ n)))
         → made_slot < length values → made_slot < length best → AreBest g p v values best → AreBest g p v (set values made_slot w) (set best made_slot b)
-    best-next best w b chosen inside room old m o there = by (same_or_not m made_slot)
+    best-next best w b chosen inside room old m o there = by (cases_eq m made_slot)
       where
         its : ((w ≡ value_at values made_slot) × (b ≡ slice_index best made_slot)) ⊎ ((w ≡ arc_total p a (value_at values first_slot) (value_at values rest_slot)) × (b ≡ n))
             → OnSome w (IsBest g p v (made g a) w b)

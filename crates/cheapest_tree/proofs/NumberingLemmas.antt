@@ -1,21 +1,16 @@
 -- The numbers of letters, as they are given.
-use Rattle.std.proofs.Common.{◌≡◌, ◌≢◌, ℕ, zero, suc, ◌<◌, ◌≤◌, ◌+◌, ◌-◌, ◌*◌, List, [], ◌∷◌, ◌++◌, Some, arith, subst, sym, ap, ◌∙◌, ◌⊎◌, inl, inr, length, length-append, get_or, set, replicate}
+use Rattle.std.proofs.Common.{◌≡◌, ◌≢◌, ℕ, zero, suc, ◌<◌, ◌+◌, ◌-◌, ◌*◌, List, [], ◌∷◌, ◌++◌, Some, arith, subst, sym, ap, ◌∙◌, ◌⊎◌, inl, inr, length, length-append, get_or, set, replicate}
 use Rattle.std.specs.Prelude.{slice_get}
 use Rattle.std.proofs.lemmas.List.{get_or-set_same, get_or-set_other, length-set, get_or-replicate, get_or_past, length-replicate}
 use Rattle.std.proofs.lemmas.Grind.{get_or_default_zero}
+use Rattle.std.proofs.lemmas.Bool.{cases_eq, cases_lt}
 use Rattle.span_cells.proofs.CellsLemmas.{same-row}
 use Rattle.tree_laws.proofs.ListPushes.{push-kept, push-here}
 use Rattle.cheapest_tree.specs.declared.slots.Spot.{Spot}
 use Rattle.cheapest_tree.specs.Numbering.{AreNumbered, Grows}
 
-same_or_not : (a b : ℕ) → (a ≡ b) ⊎ (a ≢ b)
-same_or_not a b = grind arith
-
-below_or_not : (a b : ℕ) → (a < b) ⊎ (b ≤ a)
-below_or_not a b = grind arith
-
 all_zero : (n k : ℕ) → get_or {A = ℕ} (replicate n 0) k 0 ≡ 0
-all_zero n k = elim (below_or_not k n) [
+all_zero n k = elim (cases_lt k n) [
   | inl lt ↦ get_or-replicate n k 0 0 lt
   | inr le ↦ get_or_past {X = ℕ} (replicate n 0) k 0 (omega (arith, length-replicate {A = ℕ} n 0))
 ]
@@ -42,7 +37,7 @@ pub numbered-next : (listed : List Spot) (numbers : List ℕ) → AreNumbered li
     → AreNumbered (listed ++ record { code = c; period = i } ∷ []) (set numbers (c * 256 + i) (length listed + 1))
 numbered-next listed numbers are c i lc li = record {
   count = length-set numbers (c * 256 + i) (length listed + 1) ∙ are.count;
-  known = λ d k j ld lk h. by d k j ld lk h (same_or_not (d * 256 + k) (c * 256 + i));
+  known = λ d k j ld lk h. by d k j ld lk h (cases_eq (d * 256 + k) (c * 256 + i));
 }
   where
     spot : Spot

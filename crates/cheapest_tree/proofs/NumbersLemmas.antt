@@ -14,6 +14,7 @@ use Rattle.cheapest_tree.specs.Extras.{number_at, AreCosts}
 use Rattle.cheapest_tree.specs.Numbers.{Limits, AreLimits, sum_but, IsBetter, AreRules}
 use Rattle.cheapest_tree.specs.Orders.{code_of}
 use Rattle.cheapest_tree.specs.Passes.{maker_price, CanAdd, CanPass}
+use Rattle.tree_laws.proofs.LeastValues.{AtMost-refl}
 
 -- the sum that a number stands for, where one number stands for none
 abbrev Is : ℕ → ℤ → Option ℤ → Type 0
@@ -34,12 +35,8 @@ is_none : (none : ℕ) (z : ℤ) → Is none z None → z ≡ pos none
 is_none none z (inl h) = h.1
 is_none none z (inr h) = let no : None ≡ Some z = h in cc
 
-at_most_same : (v : Option ℤ) → AtMost v v
-at_most_same None = tt
-at_most_same (Some z) = omega (arith, ints)
-
 held_stays : (h : Option ℤ) → IsLesser h None h
-held_stays h = record { one = inl refl; left = at_most_same h; right = tt }
+held_stays h = record { one = inl refl; left = AtMost-refl h; right = tt }
 
 -- a number below that of no least sum is a sum
 pub below-some : (none : ℕ) (z : ℤ) → z <ℤ pos none → sum_but none z ≡ Some z

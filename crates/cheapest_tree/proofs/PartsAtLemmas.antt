@@ -15,9 +15,10 @@ use Rattle.tree_laws.proofs.Ends.{last_sum, only_sum, rooted}
 use Rattle.tree_laws.proofs.Size.{steps-beside, use_count-beside}
 use Rattle.arc_laws.specs.OrNodes.{OrNode, left_of, right_of, made, symbol_node, used_by, used}
 use Rattle.arc_laws.proofs.BalanceLemmas.{left_of-is, right_of-is, drop-next}
-use Rattle.cheapest_tree.specs.AtNodes.{IsAt, sum_at, top_arc, arc_total}
-use Rattle.cheapest_tree.specs.Walks.{steps_of}
-use Rattle.cheapest_tree.proofs.StandLemmas.{Standing, IsCut, Fits}
+use Rattle.arc_laws.specs.AtNodes.{IsAt, steps_of}
+use Rattle.arc_laws.proofs.PartCuts.{Fits, IsCut}
+use Rattle.cheapest_tree.specs.AtNodes.{sum_at, top_arc, arc_total}
+use Rattle.cheapest_tree.proofs.StandLemmas.{Standing}
 use Rattle.cheapest_tree.proofs.TopArcLemmas.{plus-nothing, only-first}
 
 module _ (g : Grammar) (p : PriceView) where

@@ -4,6 +4,7 @@ use Rattle.std.specs.Prelude.{slice_get}
 use Rattle.std.proofs.lemmas.Int.{ints}
 use Rattle.std.proofs.lemmas.Option.{same_Some, slice_get_within}
 use Rattle.std.proofs.lemmas.List.{get_or-set_same, get_or-set_other}
+use Rattle.std.proofs.lemmas.Bool.{cases_eq}
 use Rattle.roster_model.specs.declared.grammar.ArcKey.{ArcKey}
 use Rattle.roster_model.specs.declared.grammar.Grammar.{Grammar}
 use Rattle.roster_model.specs.declared.grammar.Sym.TheVariants.{Name}
@@ -16,19 +17,17 @@ use Rattle.tree_laws.proofs.LeastValues.{IsLeast-empty, IsLeast-same, IsLeast-un
 use Rattle.tree_laws.proofs.Ends.{code-least, last_sum}
 use Rattle.tree_laws.proofs.Bounds.{sum-small}
 use Rattle.arc_laws.specs.OrNodes.{OrNode, name, suffix, leaf, made, used, root_of}
+use Rattle.arc_laws.specs.AtNodes.{IsAt}
 use Rattle.parse_graph.specs.Graphs.{GraphView, IsGraph, IsKid, AreKids, IsRoot}
 use Rattle.parse_graph.specs.declared.kid.Kid.{Kid}
 use Rattle.cheapest_tree.specs.declared.slots.Spot.{Spot}
-use Rattle.cheapest_tree.specs.AtNodes.{IsAt, sum_at, NodeLeast, top_arc, IsBefore, arc_total}
+use Rattle.cheapest_tree.specs.AtNodes.{sum_at, NodeLeast, top_arc, IsBefore, arc_total}
 use Rattle.cheapest_tree.specs.Links.{IsSlot}
 use Rattle.cheapest_tree.specs.Pricers.{value_at, ArePriced}
 use Rattle.cheapest_tree.specs.Passes.{AreLeastBefore}
 use Rattle.cheapest_tree.proofs.StandLemmas.{arc-standing}
 use Rattle.cheapest_tree.proofs.AtNodesLemmas.{IsOfInstance, node-of, top-arc, top-made}
 use Rattle.cheapest_tree.proofs.TopArcLemmas.{KidsLeast, arc-least}
-
-same_or_not : (a b : ℕ) → (a ≡ b) ⊎ (a ≢ b)
-same_or_not a b = grind arith
 
 below_or_same : (q n : ℕ) → q < n + 1 → (q < n) ⊎ (q ≡ n)
 below_or_same q n h = grind arith
@@ -106,7 +105,7 @@ module _ (g : Grammar) (p : PriceView) (v : GraphView) (graph : IsGraph g v) whe
 
     -- the arc may lower the value of the node that it makes, and of no other
     pub pass-next : (w : Option ℤ) → IsLesser (value_at values k) (arc_total p a first rest) w → k < length values → AreLeastBefore g p v (set values k w) (n + 1)
-    pass-next w lesser inside m o there = by (same_or_not m k)
+    pass-next w lesser inside m o there = by (cases_eq m k)
       where
         wider : (t : Parts) (o : OrNode) → IsBefore v.arcs n (top_arc o t) → IsBefore v.arcs (n + 1) (top_arc o t)
         wider t o h = (h.0, omega (arith, h.1), h.2)

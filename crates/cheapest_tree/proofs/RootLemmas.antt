@@ -1,11 +1,11 @@
 -- The walk from the root into an empty room.
-use Rattle.std.proofs.Common.{◌≡◌, ℕ, ℤ, ◌+◌, ◌≤◌, List, [], ◌++◌, Option, None, Some, arith, refl, subst, ap, ◌∙◌, length}
-use Rattle.std.specs.Prelude.{IsSome, slice_get}
+use Rattle.std.proofs.Common.{◌≡◌, ℕ, ℤ, ◌+◌, ◌≤◌, List, [], ◌++◌, Option, Some, arith, subst, ap, ◌∙◌, length}
+use Rattle.std.specs.Prelude.{slice_get}
 use Rattle.roster_model.specs.declared.grammar.Grammar.{Grammar}
 use Rattle.roster_model.specs.declared.grammar.Step.{Step}
 use Rattle.roster_model.specs.Room.{RoomView, most_uses}
 use Rattle.roster_model.specs.Trees.{Parts, IsDayTree, steps}
-use Rattle.roster_model.specs.Sums.{PriceView, IsLeast, AtMost, tree_sum}
+use Rattle.roster_model.specs.Sums.{PriceView, tree_sum}
 use Rattle.tree_laws.specs.Parts.{use_count}
 use Rattle.tree_laws.proofs.Bounds.{few-steps}
 use Rattle.tree_laws.proofs.Size.{length-steps}
@@ -13,17 +13,9 @@ use Rattle.arc_laws.specs.OrNodes.{root_of}
 use Rattle.parse_graph.specs.Graphs.{GraphView, IsRoot}
 use Rattle.cheapest_tree.specs.declared.slots.Links.{Links}
 use Rattle.tree_laws.specs.LeastTrees.{HoldsLeastTree}
+use Rattle.tree_laws.proofs.LeastValues.{least_there}
 use Rattle.cheapest_tree.specs.Pricers.{PricerView, value_at, IsMadeFor, AsksTree}
 use Rattle.cheapest_tree.specs.Walks.{AsksNode, WritesAt, WritesNode}
-
--- where something has a sum, there is a least one
-pub least-there : {A : Type 0} (P : A → Type 0) (sum : A → Option ℤ) (v : Option ℤ) (a : A) → IsLeast P sum v → P a → IsSome (sum a) → (y : ℤ) × (v ≡ Some y)
-least-there P sum (Some y) a h k some = (y, refl)
-least-there P sum None a h k some = absurd (none (sum a) (h.least a k) some)
-  where
-    none : (w : Option ℤ) → AtMost None w → IsSome w → ⊥
-    none None m s = cc
-    none (Some z) m s = m
 
 module _ (g : Grammar) (p : PriceView) (v : GraphView) (w : PricerView) (links : Links) (best : List ℕ) (old room : RoomView) (n : ℕ) (asks : AsksTree g p v w old)
     (made : IsMadeFor v w) (same_links : w.links ≡ links) (same_best : w.best ≡ best) (cleared : room ≡ record old { steps = [] }) (root : v.root ≡ Some n) where
@@ -33,7 +25,7 @@ module _ (g : Grammar) (p : PriceView) (v : GraphView) (w : PricerView) (links :
 
   -- and has a value
   pub root-value : (y : ℤ) × (value_at w.values n ≡ Some y)
-  root-value = least-there (IsDayTree g) (tree_sum p 1) (value_at w.values n) asks.sum.0 (asks.filled.nodes n (root_of g) root-there) asks.sum.1 asks.sum.2
+  root-value = least_there (IsDayTree g) (tree_sum p 1) (value_at w.values n) asks.sum.0 (asks.filled.nodes n (root_of g) root-there) asks.sum.1 asks.sum.2
 
   -- what is asked at the root
   abbrev pub asks-root : AsksNode v links best n room

@@ -1,6 +1,6 @@
 -- One pass over the nodes in their order: each gets the least sum over all arcs that make it.
 use Rattle.std.proofs.Common.{◌≡◌, ◌≢◌, ℕ, zero, suc, ℤ, pos, ◌<◌, ◌≤◌, ◌+◌, ◌-◌, Bool, true, false, cond, List, [], ◌∷◌, Option, None, Some, IfSome, arith, refl, subst, sym, ap, ◌∙◌, ◌⊎◌, inl, inr, length, get_or, set}
-use Rattle.std.proofs.lemmas.Bool.{eq-eqb}
+use Rattle.std.proofs.lemmas.Bool.{cases_eq}
 use Rattle.std.proofs.lemmas.Int.{ints}
 use Rattle.std.specs.Prelude.{slice_get, slice_index, OnSome}
 use Rattle.std.proofs.lemmas.Option.{same_Some, slice_get_within, slice_get-get_or}
@@ -13,6 +13,8 @@ use Rattle.roster_model.specs.Trees.{Parts}
 use Rattle.tree_laws.proofs.LeastValues.{IsLeast-empty, IsLeast-same, IsLeast-union}
 use Rattle.tree_laws.proofs.Ends.{code-least}
 use Rattle.arc_laws.specs.OrNodes.{OrNode, name, suffix, leaf, same_node, made, used}
+use Rattle.arc_laws.proofs.Totals.{same_node-refl}
+use Rattle.arc_laws.specs.AtNodes.{IsAt}
 use Rattle.parse_graph.specs.Graphs.{GraphView, IsGraph, IsKid, AreKids, places, places_from}
 use Rattle.parse_graph.specs.declared.kid.Kid.{Kid}
 use Rattle.span_cells.proofs.ChoicesLemmas.{on_some}
@@ -21,7 +23,7 @@ use Rattle.cheapest_tree.specs.declared.order.Order.{Order}
 use Rattle.cheapest_tree.specs.declared.order.Row.{Row}
 use Rattle.cheapest_tree.specs.declared.slots.Links.{Links}
 use Rattle.cheapest_tree.specs.declared.slots.Spot.{Spot}
-use Rattle.cheapest_tree.specs.AtNodes.{IsAt, sum_at, NodeLeast, top_arc, arc_total}
+use Rattle.cheapest_tree.specs.AtNodes.{sum_at, NodeLeast, top_arc, arc_total}
 use Rattle.cheapest_tree.specs.Links.{IsSlot}
 use Rattle.cheapest_tree.specs.Numbers.{AreSmall, IsBetter}
 use Rattle.cheapest_tree.specs.Orders.{IsMaker, IsEarlier, IsRow, IsOrder}
@@ -32,19 +34,11 @@ use Rattle.cheapest_tree.proofs.LinksLemmas.{link-made, link-kids, priced-kept}
 use Rattle.cheapest_tree.proofs.StandLemmas.{arc-standing}
 use Rattle.cheapest_tree.proofs.TopArcLemmas.{KidsLeast, arc-least}
 
-same_or_not : (a b : ℕ) → (a ≡ b) ⊎ (a ≢ b)
-same_or_not a b = grind arith
-
 before_or_last : (i n : ℕ) → i < n + 1 → (i < n) ⊎ (i ≡ n)
 before_or_last i n h = grind (arith, h)
 
-no_item : {A : Type 0} (x : A) → None ≡ Some x → ⊥
+pub no_item : {A : Type 0} (x : A) → None ≡ Some x → ⊥
 no_item x e = cc
-
-same_node-refl : (o : OrNode) → same_node o o ≡ true
-same_node-refl (name x i l) = let a = eq-eqb x x refl in let b = eq-eqb i i refl in let c = eq-eqb l l refl in rw (a, b, c)
-same_node-refl (suffix r k i l) = let a = eq-eqb r r refl in let b = eq-eqb k k refl in let c = eq-eqb i i refl in let d = eq-eqb l l refl in rw (a, b, c, d)
-same_node-refl (leaf l) = let a = eq-eqb l.code l.code refl in let b = eq-eqb l.period l.period refl in rw (a, b)
 
 -- an item that passes is among those whose places are listed
 module _ {A : Type 0} (p : A → Bool) where
@@ -217,8 +211,8 @@ module _ (most : ℕ) (p : PriceView) (v : GraphView) (letters : List Spot) (ord
     slots = length-set values row.node w ∙ old.slots;
     nodes = length-set best row.node arc ∙ old.nodes;
     priced = priced-kept p letters (length v.nodes) values row.node w in_nodes old.priced;
-    small = λ s lt. small s lt (same_or_not s row.node);
-    done = λ g sound graph i r lt here. done g sound graph i r here (before_or_last i j lt) (same_or_not r.node row.node);
+    small = λ s lt. small s lt (cases_eq s row.node);
+    done = λ g sound graph i r lt here. done g sound graph i r here (before_or_last i j lt) (cases_eq r.node row.node);
   }
     where
       old : AreRowsPassed most p v letters order values best j

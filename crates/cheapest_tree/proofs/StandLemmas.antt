@@ -1,5 +1,5 @@
 -- What stands at what an arc of the instance makes has all its arcs in the instance.
-use Rattle.std.proofs.Common.{◌≡◌, ℕ, zero, suc, ◌<◌, ◌≤◌, ◌+◌, ◌-◌, List, [], ◌∷◌, ◌++◌, Some, arith, refl, subst, sym, inl, inr, drop}
+use Rattle.std.proofs.Common.{◌≡◌, ℕ, zero, suc, ◌≤◌, ◌+◌, ◌-◌, List, [], ◌∷◌, ◌++◌, Some, arith, refl, subst, sym, inl, inr, drop}
 use Rattle.roster_model.specs.declared.grammar.ArcKey.{ArcKey}
 use Rattle.roster_model.specs.declared.grammar.Grammar.{Grammar}
 use Rattle.roster_model.specs.declared.grammar.Rule.{Rule}
@@ -12,26 +12,10 @@ use Rattle.roster_model.specs.Arcs.{arcs, parts_arcs, IsArc}
 use Rattle.tree_laws.specs.Laws.{arc_at}
 use Rattle.tree_laws.specs.Parts.{beside}
 use Rattle.arc_laws.proofs.BalanceLemmas.{drop-next}
+use Rattle.arc_laws.proofs.PartCuts.{Fits, LastFits, IsCut}
 use Rattle.span_arcs.specs.Marks.{TreesStand, PartsStand}
 use Rattle.span_arcs.proofs.StandLemmas.{In-either, some-covered, beside-arcs, last-arcs, only-arcs, first-stands, rest-stands, last-stands, only-stands, right-stands}
 use Rattle.span_arcs.proofs.MarksLemmas.{day-stands}
-
--- a letter covers one period
-abbrev pub Fits : Sym → ℕ → Type 0
-Fits (Code c) l = l ≡ 1
-Fits (Name x) l = Unit {0}
-
--- so does a last one
-abbrev pub LastFits : List Sym → ℕ → Type 0
-LastFits [] l = Unit {0}
-LastFits (s ∷ []) l = Fits s l
-LastFits (s ∷ x ∷ ss) l = Unit {0}
-
--- the only symbol is the whole right side and the part all of the span, or others follow the first part
-abbrev pub IsCut : ℕ → List Sym → ℕ → ℕ → Type 0
-IsCut k [] l m = ⊥
-IsCut k (s ∷ []) l m = (k ≡ 0) × (m ≡ l) × Fits s l
-IsCut k (s ∷ x ∷ ss) l m = (1 ≤ m) × (m < l) × Fits s m × LastFits (x ∷ ss) (l - m)
 
 -- what stands at the name, or at the suffix of these symbols, has all its arcs in the instance
 abbrev pub Here : Grammar → ℕ → Rule → ℕ → List Sym → ℕ → ℕ → Type 0

@@ -17,8 +17,10 @@ use Rattle.tree_laws.proofs.Splits.{split-least}
 use Rattle.tree_laws.proofs.Ends.{last-least, only-least, rooted}
 use Rattle.arc_laws.specs.OrNodes.{OrNode, name, suffix, left_of, right_of, made_by, made, symbol_node, rest_node, used_by, used}
 use Rattle.arc_laws.proofs.BalanceLemmas.{left_of-is, right_of-is, drop-next}
-use Rattle.cheapest_tree.specs.AtNodes.{IsAt, sum_at, NodeLeast, top_arc, arc_total, with_rule}
-use Rattle.cheapest_tree.proofs.StandLemmas.{Standing, IsCut, Fits, LastFits}
+use Rattle.arc_laws.specs.AtNodes.{IsAt}
+use Rattle.arc_laws.proofs.PartCuts.{Fits, LastFits, IsCut}
+use Rattle.cheapest_tree.specs.AtNodes.{sum_at, NodeLeast, top_arc, arc_total, with_rule}
+use Rattle.cheapest_tree.proofs.StandLemmas.{Standing}
 
 module _ (g : Grammar) (p : PriceView) where
   -- v and w are the least sums of what is below an arc: its first part, and what follows it

@@ -10,12 +10,13 @@ use Rattle.roster_model.specs.Trees.{Parts, IsDayTree, steps}
 use Rattle.roster_model.specs.Sums.{PriceView, Within, AllWithin, IsLeast, tree_sum}
 use Rattle.tree_laws.specs.Parts.{use_count}
 use Rattle.tree_laws.proofs.Bounds.{few-steps}
-use Rattle.tree_laws.proofs.LeastValues.{IsLeast-same}
+use Rattle.tree_laws.proofs.LeastValues.{IsLeast-same, least_there}
 use Rattle.tree_laws.proofs.Size.{length-steps}
 use Rattle.arc_laws.specs.OrNodes.{OrNode, made, used, root_of}
+use Rattle.arc_laws.specs.AtNodes.{IsAt}
 use Rattle.parse_graph.specs.Graphs.{GraphView, AreKids}
 use Rattle.cheapest_tree.specs.declared.slots.Links.{Links}
-use Rattle.cheapest_tree.specs.AtNodes.{IsAt, sum_at, top_arc, IsBefore, arc_total}
+use Rattle.cheapest_tree.specs.AtNodes.{sum_at, top_arc, IsBefore, arc_total}
 use Rattle.cheapest_tree.specs.Passes.{AreLeastBefore}
 use Rattle.cheapest_tree.specs.Links.{IsLink}
 use Rattle.cheapest_tree.specs.Pricers.{PricerView, value_at, IsMadeFor}
@@ -26,7 +27,6 @@ use Rattle.cheapest_tree.proofs.AtNodesLemmas.{node-of, top-arc}
 use Rattle.cheapest_tree.proofs.TopArcLemmas.{KidsLeast, arc-least}
 use Rattle.cheapest_tree.proofs.PassesLemmas.{kids-least, kids-small, kids-inside}
 use Rattle.cheapest_tree.proofs.LinksLemmas.{link-kids, value-read}
-use Rattle.cheapest_tree.proofs.RootLemmas.{least-there}
 
 module _ (g : Grammar) (p : PriceView) (v : GraphView) (w : PricerView) (ready : IsReady g p v w) (made_for : IsMadeFor v w) (arc : ℕ) (inside : arc < length v.arcs) where
   pub its-key : (a : ArcKey) × (slice_get v.arcs arc ≡ Some a)
@@ -80,7 +80,7 @@ module _ (g : Grammar) (p : PriceView) (v : GraphView) (w : PricerView) (links :
   day = day-under g p v w asks.ready made_for arc inside a asks.top.at asks.top.makes
 
   pub there : (y : ℤ) × (total ≡ Some y)
-  there = least-there (IsDayTreeUnder g a) (tree_sum p 1) total asks.sum.0 day asks.sum.1 asks.sum.2
+  there = least_there (IsDayTreeUnder g a) (tree_sum p 1) total asks.sum.0 day asks.sum.1 asks.sum.2
 
   -- what is asked of the walk
   abbrev pub asks-under : AsksArc v links best arc room

@@ -1,56 +1,39 @@
 -- The walk down a tree of least sum: what it may ask at each step, and what it has written after it.
 use Rattle.std.proofs.Common.{◌≡◌, ℕ, zero, suc, ℤ, ◌<◌, ◌≤◌, ◌+◌, List, [], ◌∷◌, ◌++◌, Option, None, Some, arith, refl, subst, sym, ap, ◌∙◌, ◌⊎◌, inl, inr, length, length-append, append_assoc, get_or}
-use Rattle.std.specs.Prelude.{slice_get, slice_index, OnSome}
+use Rattle.std.specs.Prelude.{slice_get, slice_index}
 use Rattle.std.proofs.lemmas.List.{append-nil}
 use Rattle.std.proofs.lemmas.Option.{slice_get_within, slice_get-get_or, get_or_from_slice_get}
 use Rattle.roster_model.specs.declared.grammar.ArcKey.{ArcKey}
 use Rattle.roster_model.specs.declared.grammar.Step.{Step}
 use Rattle.roster_model.specs.declared.grammar.Sym.TheVariants.{Code, Name}
 use Rattle.roster_model.specs.declared.grammar.Sym.{Sym}
-use Rattle.roster_model.specs.declared.grammar.Grammar.{Grammar}
 use Rattle.roster_model.specs.Trees.{Parts, done, letter, uses, On, steps}
 use Rattle.roster_model.specs.Folds.{In}
 use Rattle.roster_model.specs.Sums.{PriceView, plus, IsLeast}
 use Rattle.roster_model.specs.Room.{RoomView}
 use Rattle.tree_laws.specs.Parts.{use_count}
-use Rattle.tree_laws.proofs.LeastValues.{IsLeast-one}
+use Rattle.tree_laws.proofs.LeastValues.{IsLeast-one, left_there, right_there, at_sum}
 use Rattle.tree_laws.proofs.Size.{length-steps}
-use Rattle.arc_laws.specs.OrNodes.{OrNode, name, suffix, leaf, made_by, made, used_by, used}
+use Rattle.arc_laws.specs.OrNodes.{OrNode, name, suffix, leaf, made, used_by, used}
+use Rattle.arc_laws.specs.AtNodes.{IsAt, start_of, steps_of}
+use Rattle.arc_laws.proofs.AtNodesLemmas.{made_start}
 use Rattle.parse_graph.specs.Graphs.{GraphView, IsKid, AreKids}
 use Rattle.parse_graph.specs.declared.kid.Kid.{Kid}
 use Rattle.parse_graph.specs.declared.kid.Kid.TheVariants.{Nothing}
 use Rattle.cheapest_tree.specs.declared.slots.Links.{Links}
-use Rattle.cheapest_tree.specs.AtNodes.{IsAt, sum_at, NodeLeast, top_arc, arc_total, with_rule}
+use Rattle.cheapest_tree.specs.AtNodes.{sum_at, NodeLeast, top_arc, arc_total, with_rule}
 use Rattle.cheapest_tree.specs.Links.{IsSlot, IsLink}
 use Rattle.cheapest_tree.specs.Pricers.{value_at, IsBest}
-use Rattle.cheapest_tree.specs.Walks.{start_of, steps_of, HasRoom, AsksNode, WritesAt, AsksArc, WritesUnder, WritesArc, AsksSlot, WritesSlot, node_left, arc_left, slot_left}
+use Rattle.cheapest_tree.specs.Walks.{HasRoom, AsksNode, WritesAt, AsksArc, WritesUnder, WritesArc, AsksSlot, WritesSlot, node_left, arc_left, slot_left}
 use Rattle.cheapest_tree.proofs.StandLemmas.{Standing, arc-standing}
 use Rattle.cheapest_tree.proofs.TopArcLemmas.{KidsLeast, arc-least}
 use Rattle.cheapest_tree.proofs.PassesLemmas.{kids-least}
 use Rattle.cheapest_tree.proofs.LinksLemmas.{link-kids}
 use Rattle.cheapest_tree.proofs.PartsAtLemmas.{KidsAt, first_sum, rest_sum, Built, built}
 
-at_some : (v : Option ℤ) (z : ℤ) (P : Type 0) → v ≡ Some z → OnSome v P → P
-at_some None z P e h = cc
-at_some (Some y) z P e h = h
-
--- a sum that is there has both its parts
-left_there : (a b : Option ℤ) (z : ℤ) → plus a b ≡ Some z → (y : ℤ) × (a ≡ Some y)
-left_there None b z e = cc
-left_there (Some y) b z e = (y, refl)
-
-right_there : (a b : Option ℤ) (z : ℤ) → plus a b ≡ Some z → (y : ℤ) × (b ≡ Some y)
-right_there None b z e = cc
-right_there (Some y) None z e = cc
-right_there (Some y) (Some x) z e = (x, refl)
-
 parts_there : (p : PriceView) (r k : ℕ) (v : Option ℤ) (z : ℤ) → with_rule p r k v ≡ Some z → (y : ℤ) × (v ≡ Some y)
 parts_there p r zero v z e = right_there (Some (p.rule_of r)) v z e
 parts_there p r (suc k) v z e = (z, e)
-
-made_start : (g : Grammar) (r k i l : ℕ) → start_of (made_by g r k i l) ≡ i
-made_start g r zero i l = refl
-made_start g r (suc k) i l = refl
 
 head_start : List OrNode → ℕ
 head_start [] = 0
@@ -79,7 +62,7 @@ module _ (v : GraphView) (links : Links) (best : List ℕ) (m : ℕ) (room : Roo
   -- the arc that the walk takes at a node
   pub its-best : IsBest asked.g asked.p v asked.node (value_at asked.w.values m) (slice_index best m)
   its-best = subst (λ (q : List ℕ). IsBest asked.g asked.p v asked.node (value_at asked.w.values m) (slice_index q m)) asked.same_best
-      (at_some (value_at asked.w.values m) asked.sum _ asked.value (asked.filled.arcs m asked.node asked.at))
+      (at_sum (value_at asked.w.values m) asked.sum _ asked.value (asked.filled.arcs m asked.node asked.at))
 
   pub node-inside : m < length best
   node-inside = let lt = slice_get_within v.nodes m asked.node asked.at in let e = ap length (sym asked.same_best) ∙ asked.made.nodes in omega (arith, lt, e)
@@ -423,7 +406,7 @@ module _ (v : GraphView) (links : Links) (best : List ℕ) (a : ℕ) (room : Roo
         earlier n b e there has =
             let there2 : slice_get v.nodes slot ≡ Some o = ap (λ (q : ℕ). slice_get v.nodes q) e ∙ there in
             let c = subst (λ (q : List ℕ). IsBest asked.g asked.p v o (value_at asked.w.values slot) (slice_index q slot)) asked.same_best
-            (at_some (value_at asked.w.values slot) y _ value (asked.filled.arcs slot o there2)) in
+            (at_sum (value_at asked.w.values slot) y _ value (asked.filled.arcs slot o there2)) in
             let same : slice_index best slot ≡ b = get_or_from_slice_get best slot b 0 has in
             let up = asked.graph.arcs.upward a (slice_index best slot) asked.chosen.key c.key asked.chosen.at c.at (subst (λ (q : OrNode). In q (used asked.g asked.chosen.key)) (sym c.makes) below) in
             omega (arith, up, same)

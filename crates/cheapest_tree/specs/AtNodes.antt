@@ -1,19 +1,13 @@
 -- What stands at a node of the graph, its arc at the top, and its least sum.
-use Rattle.std.specs.Prelude.{ℕ, ℤ, zero, suc, ◌≡◌, ◌<◌, Option, Some, List, [], ◌∷◌, drop, slice_get}
+use Rattle.std.specs.Prelude.{ℕ, ℤ, zero, suc, ◌≡◌, ◌<◌, Option, Some, List, slice_get}
 use Rattle.roster_model.specs.declared.grammar.ArcKey.{ArcKey}
 use Rattle.roster_model.specs.declared.grammar.Grammar.{Grammar}
-use Rattle.roster_model.specs.declared.grammar.Sym.TheVariants.{Code, Name}
-use Rattle.roster_model.specs.Trees.{Parts, done, letter, uses, On}
+use Rattle.roster_model.specs.Trees.{Parts, done, letter, uses}
 use Rattle.roster_model.specs.Sums.{PriceView, plus, tree_sum, parts_sum, IsLeast}
-use Rattle.arc_laws.specs.OrNodes.{OrNode, name, suffix, leaf, right_of}
+use Rattle.arc_laws.specs.OrNodes.{OrNode, name, suffix, leaf}
+use Rattle.arc_laws.specs.AtNodes.{IsAt}
 use Rattle.tree_laws.specs.Parts.{first, root}
 use Rattle.tree_laws.specs.Laws.{arc_at}
-
--- the parts stand at the node: a tree of its name, parts of its suffix's symbols, or its letter
-abbrev pub IsAt : Grammar → OrNode → Parts → Type 0
-IsAt g (name x i l) t = On g (Name x ∷ []) i l t
-IsAt g (suffix r k i l) t = On g (drop k (right_of g r)) i l t
-IsAt g (leaf l) t = On g (Code l.code ∷ []) l.period 1 t
 
 -- the sum of what stands at a node
 abbrev pub sum_at : PriceView → OrNode → Parts → Option ℤ

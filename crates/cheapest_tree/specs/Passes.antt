@@ -5,12 +5,13 @@ use Rattle.roster_model.specs.declared.grammar.Grammar.{Grammar}
 use Rattle.roster_model.specs.Sums.{PriceView, Within, IsLeast}
 use Rattle.roster_model.specs.Sound.{IsSound}
 use Rattle.arc_laws.specs.OrNodes.{OrNode}
+use Rattle.arc_laws.specs.AtNodes.{IsAt}
 use Rattle.parse_graph.specs.Graphs.{GraphView, IsGraph}
 use Rattle.cheapest_tree.specs.declared.order.Maker.{Maker}
 use Rattle.cheapest_tree.specs.declared.order.Order.{Order}
 use Rattle.cheapest_tree.specs.declared.order.Row.{Row}
 use Rattle.cheapest_tree.specs.declared.slots.Spot.{Spot}
-use Rattle.cheapest_tree.specs.AtNodes.{IsAt, sum_at, NodeLeast, top_arc, IsBefore}
+use Rattle.cheapest_tree.specs.AtNodes.{sum_at, NodeLeast, top_arc, IsBefore}
 use Rattle.cheapest_tree.specs.Extras.{number_at, AreCosts}
 use Rattle.cheapest_tree.specs.Numbers.{Limits, AreSmall, AreRules}
 use Rattle.cheapest_tree.specs.Orders.{code_of, IsOrder}

@@ -7,11 +7,12 @@ use Rattle.roster_model.specs.Room.{RoomView, most_uses}
 use Rattle.roster_model.specs.Sound.{IsSound}
 use Rattle.tree_laws.specs.LeastTrees.{HasDaySum}
 use Rattle.arc_laws.specs.OrNodes.{OrNode, made}
+use Rattle.arc_laws.specs.AtNodes.{IsAt}
 use Rattle.parse_graph.specs.Graphs.{GraphView, IsGraph}
 use Rattle.cheapest_tree.specs.declared.order.Order.{Order}
 use Rattle.cheapest_tree.specs.declared.slots.Links.{Links}
 use Rattle.cheapest_tree.specs.declared.slots.Spot.{Spot}
-use Rattle.cheapest_tree.specs.AtNodes.{NodeLeast, IsAt, sum_at, top_arc}
+use Rattle.cheapest_tree.specs.AtNodes.{NodeLeast, sum_at, top_arc}
 use Rattle.cheapest_tree.specs.Links.{AreLinks}
 use Rattle.cheapest_tree.specs.Orders.{IsOrder}
 

@@ -1,32 +1,18 @@
 -- What the walk down a tree of least sum asks, and what it writes.
-use Rattle.std.specs.Prelude.{ℕ, ℤ, zero, suc, ◌≡◌, ◌+◌, ◌*◌, ◌<◌, ◌≤◌, Option, None, Some, List, [], ◌∷◌, ◌++◌, length, slice_get}
+use Rattle.std.specs.Prelude.{ℕ, ℤ, ◌≡◌, ◌+◌, ◌*◌, ◌<◌, ◌≤◌, Option, None, Some, List, ◌++◌, length, slice_get}
 use Rattle.roster_model.specs.declared.grammar.ArcKey.{ArcKey}
 use Rattle.roster_model.specs.declared.grammar.Grammar.{Grammar}
-use Rattle.roster_model.specs.declared.grammar.Step.{Step}
 use Rattle.roster_model.specs.Trees.{Parts, steps}
 use Rattle.roster_model.specs.Sums.{PriceView, IsLeast}
 use Rattle.roster_model.specs.Room.{RoomView}
 use Rattle.roster_model.specs.Sound.{IsSound}
 use Rattle.tree_laws.specs.Parts.{use_count}
-use Rattle.arc_laws.specs.OrNodes.{OrNode, name, suffix, leaf}
+use Rattle.arc_laws.specs.OrNodes.{OrNode}
+use Rattle.arc_laws.specs.AtNodes.{IsAt, start_of}
 use Rattle.parse_graph.specs.Graphs.{GraphView, IsGraph}
 use Rattle.cheapest_tree.specs.declared.slots.Links.{Links}
-use Rattle.cheapest_tree.specs.AtNodes.{IsAt, sum_at, NodeLeast, top_arc}
+use Rattle.cheapest_tree.specs.AtNodes.{sum_at, NodeLeast, top_arc}
 use Rattle.cheapest_tree.specs.Pricers.{PricerView, value_at, IsMadeFor, IsFilled, IsBest}
-
--- the first period of a node
-abbrev pub start_of : OrNode → ℕ
-start_of (name x i l) = i
-start_of (suffix r k i l) = i
-start_of (leaf l) = l.period
-
--- the arc of a whole right side is a rule use
-abbrev pub steps_at : ℕ → ℕ → ℕ → ℕ → List Step
-steps_at zero r i l = record { rule = r; start = i; len = l } ∷ []
-steps_at (suc k) r i l = []
-
-abbrev pub steps_of : ArcKey → List Step
-steps_of a = steps_at a.suffix a.rule a.start a.len
 
 -- there is room for the steps of all that stands at the node
 abbrev pub HasRoom : Grammar → OrNode → RoomView → Type 0

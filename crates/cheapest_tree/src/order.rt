@@ -1,5 +1,4 @@
-ghost use Rattle.std.specs.Prelude.{ℕ, ◌≡◌, ◌≤◌, ◌<◌, ◌^◌, ◌∷◌, ◌++◌, [], Some, true, length, slice_get};
-ghost use Rattle.std.specs.Prelude.{IsTrue, IfOk, IfSome};
+ghost use Rattle.std.specs.Prelude.{ℕ, ◌≡◌, ◌≤◌, ◌<◌, ◌^◌, ◌∷◌, ◌++◌, [], Some, true, length, slice_get, IsTrue, IfOk, IfSome};
 ghost use Rattle.cheapest_tree.specs.declared.order.Maker.{Maker as Found};
 ghost use Rattle.cheapest_tree.specs.Orders.{code_of, IsMaker, IsReady, AreAdded, IsOrderSoFar, IsOrder};
 ghost use Rattle.cheapest_tree.specs.Links.{AreLinks};

@@ -1,5 +1,6 @@
 ghost use Rattle.std.specs.Prelude.{◌≡◌, ◌<◌, ◌++◌, length};
-ghost use Rattle.cheapest_tree.specs.Walks.{steps_of, AsksNode, WritesNode, AsksArc, WritesArc, AsksSlot, WritesSlot};
+ghost use Rattle.arc_laws.specs.AtNodes.{steps_of};
+ghost use Rattle.cheapest_tree.specs.Walks.{AsksNode, WritesNode, AsksArc, WritesArc, AsksSlot, WritesSlot};
 
 use crate::slots::Links;
 use parse_graph::Graph;

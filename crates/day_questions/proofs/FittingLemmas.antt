@@ -1,6 +1,7 @@
 -- What is answered of the shifts that fit.
 use Rattle.std.proofs.Common.{◌≡◌, ℕ, ℤ, pos, ◌+◌, ◌==◌, Bool, true, false, Option, None, Some, List, [], ◌∷◌, ◌++◌, Result, Ok, Err, IfOk, length, append_assoc, append-nil, eq-eqb, arith, refl, sym, ap, subst, ◌∙◌}
 use Rattle.std.specs.Prelude.{codes}
+use Rattle.std.proofs.lemmas.Option.{same_Some}
 use Rattle.roster_model.specs.declared.grammar.Grammar.{Grammar}
 use Rattle.roster_model.specs.declared.memory.Memory.{Memory}
 use Rattle.roster_model.specs.Shifts.{IsShift}
@@ -18,7 +19,6 @@ use Rattle.day_questions.specs.Codes.{AddsCodeLines}
 use Rattle.day_questions.specs.Fitting.{SaysWhere, SaysPeriod, AddsOpenLines, FitsAnswer, IsLeastSum, at_words, some, none}
 use Rattle.day_questions.specs.Laws.{TakesWith, IsSumOf}
 use Rattle.day_questions.proofs.ShiftQuestions.{fitting-codes, least-fitting}
-use Rattle.day_questions.proofs.PatternLetters.{same-some}
 
 module _ (g : Grammar) (sound : IsSound g) (pattern : List ℕ) (long : length pattern ≡ g.periods) where
   -- the lines of an open period
@@ -51,7 +51,7 @@ module _ (g : Grammar) (sound : IsSound g) (pattern : List ℕ) (long : length p
           none_some : (z : ℤ) → Some z ≡ None → ⊥
           none_some z e = cc
       by (Some price, is, h2) =
-          let sum : z ≡ pos price = same-some z (pos price) is in
+          let sum : z ≡ pos price = same_Some z (pos price) is in
           let first : o3 ≡ o0 ++ written ((codes "least" ∷ number_text z ∷ []) ∷ []) = line_of o0 o1 o2 o3 (codes "least") (number_text z) e1 e2 e3 in
           let whole = line_then o0 o3 o4 (codes "least" ∷ number_text z ∷ []) h.lines first h.text in
           some price h.lines o4 h2 h.each

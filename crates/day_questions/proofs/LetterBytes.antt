@@ -2,6 +2,7 @@
 use Rattle.std.proofs.Common.{◌≡◌, ◌⊎◌, inl, inr, ℕ, zero, suc, ◌+◌, ◌<◌, Option, None, Some, List, [], ◌∷◌, ◌++◌, length, length-append, map, arith, refl, sym, ap, subst, ◌∙◌}
 use Rattle.std.specs.Prelude.{slice_get}
 use Rattle.std.proofs.lemmas.Option.{same_Some}
+use Rattle.std.proofs.lemmas.List.{map-append}
 use Rattle.roster_model.specs.declared.grammar.CodeDef.{CodeDef}
 use Rattle.roster_model.specs.declared.grammar.Grammar.{Grammar}
 use Rattle.roster_model.specs.declared.grammar.Sym.{Sym}
@@ -11,39 +12,11 @@ use Rattle.roster_model.specs.Coverage.{code_byte}
 use Rattle.roster_model.specs.Folds.{Each, In}
 use Rattle.roster_model.specs.Sound.{IsSound}
 use Rattle.roster_model.specs.Trees.{Parts, done, letter, uses, span_length, Derive, word}
+use Rattle.roster_model.proofs.EachLemmas.{Each-append, Each-get}
 use Rattle.word_prices.proofs.Costs.{Are}
 use Rattle.day_questions.proofs.TreeSums.{code-at, spelled-by, right-are}
-
--- the codes of the letters in order
-abbrev pub codes_of : Parts → List ℕ
-codes_of done = []
-codes_of (letter c rest) = c ∷ codes_of rest
-codes_of (uses r n inner rest) = codes_of inner ++ codes_of rest
-
--- letters of these codes, from period i on
-abbrev pub placed : ℕ → List ℕ → List Letter
-placed i [] = []
-placed i (c ∷ cs) = record { code = c; period = i } ∷ placed (i + 1) cs
-
-placed-append : (i : ℕ) (xs ys : List ℕ) → placed i (xs ++ ys) ≡ placed i xs ++ placed (i + length xs) ys
-placed-append i [] ys = let e : i ≡ i + 0 = omega arith in ap (λ (n : ℕ). placed n ys) e
-placed-append i (x ∷ xs) ys =
-    let e : i + 1 + length xs ≡ i + length (x ∷ xs) = omega arith in
-    let own : Letter = record { code = x; period = i } in
-    ap (λ (zs : List Letter). own ∷ zs) (placed-append (i + 1) xs ys ∙ ap (λ (j : ℕ). placed (i + 1) xs ++ placed j ys) e)
-
-map_both : (f : ℕ → ℕ) (xs ys : List ℕ) → map f (xs ++ ys) ≡ map f xs ++ map f ys
-map_both f [] ys = refl
-map_both f (x ∷ xs) ys = ap (λ (zs : List ℕ). f x ∷ zs) (map_both f xs ys)
-
-each_both : (P : ℕ → Type 0) (xs ys : List ℕ) → Each P xs → Each P ys → Each P (xs ++ ys)
-each_both P [] ys h k = k
-each_both P (x ∷ xs) ys h k = (h.0, each_both P xs ys h.1 k)
-
-each_at : (P : ℕ → Type 0) (xs : List ℕ) (k x : ℕ) → Each P xs → slice_get xs k ≡ Some x → P x
-each_at P [] k x h e = cc
-each_at P (y ∷ ys) zero x h e = subst P (same_Some y x e) h.0
-each_at P (y ∷ ys) (suc k) x h e = each_at P ys k x h.1 e
+use Rattle.tree_laws.specs.Letters.{codes_of, placed}
+use Rattle.tree_laws.proofs.LettersLemmas.{placed-append}
 
 -- a letter among placed ones
 pub placed-in : (cs : List ℕ) (j i c : ℕ) → In (record { code = c; period = i }) (placed j cs) → (k : ℕ) × (i ≡ j + k) × (slice_get cs k ≡ Some c)
@@ -115,8 +88,8 @@ module _ (g : Grammar) (sound : IsSound g) where
         long = length-append (codes_of inner) (codes_of rest) ∙ omega (arith, inside.long, more.long, d.5);
         letters_are = ap (λ (ls : List Letter). ls ++ letters (i + n) rest) inside.letters_are ∙ ap (λ (ls : List Letter). placed i (codes_of inner) ++ ls) more.letters_are
             ∙ ap (λ (j : ℕ). placed i (codes_of inner) ++ placed j (codes_of rest)) len ∙ sym (placed-append i (codes_of inner) (codes_of rest));
-        spelled = ap (λ (xs : List ℕ). xs ++ word g rest) inside.spelled ∙ ap (λ (xs : List ℕ). map (code_byte g) (codes_of inner) ++ xs) more.spelled ∙ sym (map_both (code_byte g) (codes_of inner) (codes_of rest));
-        valid = each_both (λ c. c < length g.codes) (codes_of inner) (codes_of rest) inside.valid more.valid;
+        spelled = ap (λ (xs : List ℕ). xs ++ word g rest) inside.spelled ∙ ap (λ (xs : List ℕ). map (code_byte g) (codes_of inner) ++ xs) more.spelled ∙ sym (map-append (code_byte g) (codes_of inner) (codes_of rest));
+        valid = Each-append (λ c. c < length g.codes) (codes_of inner) (codes_of rest) inside.valid more.valid;
       }
 
   -- two codes with one byte are one
@@ -146,7 +119,7 @@ module _ (g : Grammar) (sound : IsSound g) where
     pub byte-letter : (k : ℕ) → slice_get (word g t) k ≡ Some def.byte → In (record { code = c; period = suc k }) (letters 1 t)
     byte-letter k h =
         let r = unmapped (code_byte g) (codes_of t) k def.byte (sym (ap (λ (w : List ℕ). slice_get w k) own.spelled) ∙ h) in
-        let here = each_at (λ x. x < length g.codes) (codes_of t) k r.0 own.valid r.1 in
+        let here = Each-get (λ x. x < length g.codes) (codes_of t) k r.0 own.valid r.1 in
         let other = code-at g r.0 here in
         let same : r.0 ≡ c = same_code r.0 c other.0 def other.1 at (sym (byte_is r.0 other.0 other.1) ∙ r.2) in
         let there = in-placed (codes_of t) 1 k c (r.1 ∙ ap (λ (n : ℕ). Some n) same) in

@@ -16,10 +16,11 @@ use Rattle.roster_model.specs.Sound.{IsSound}
 use Rattle.roster_model.specs.Sums.{AtMost, IsLeast, plus, tree_sum}
 use Rattle.roster_model.specs.Trees.{Parts, IsDayTree, word}
 use Rattle.word_prices.proofs.Costs.{shift-length}
+use Rattle.word_prices.proofs.WordLetters.{at_front}
 use Rattle.day_questions.specs.Prices.{at_period, miss, miss_view}
 use Rattle.day_questions.specs.Shifts.{Begins, BeginsSome, IsLongest}
 use Rattle.day_questions.proofs.TreeSums.{letters_sum, tree-summed}
-use Rattle.day_questions.proofs.PatternLetters.{behind-front, behind-all}
+use Rattle.day_questions.proofs.PatternLetters.{behind-all}
 
 -- what a word misses of a prefix
 abbrev pub missed : List ℕ → List ℕ → ℕ
@@ -148,7 +149,7 @@ module _ (g : Grammar) (sound : IsSound g) where
   misses-summed [] w front e = let nil = append-nil front in rw nil (rest_free front w (length front) (omega arith))
   misses-summed (x ∷ xs) [] front e = refl
   misses-summed (x ∷ xs) (b ∷ bs) front e =
-      let at : at_period (front ++ x ∷ xs) (length front + 1) ≡ Some x = ap (at_period (front ++ x ∷ xs)) (add-one (length front)) ∙ behind-front front xs x in
+      let at : at_period (front ++ x ∷ xs) (length front + 1) ≡ Some x = ap (at_period (front ++ x ∷ xs)) (add-one (length front)) ∙ at_front front xs x in
       let left : g.periods - (length front + 1) ≡ length bs = omega (arith, e) in
       let own : miss (at_period (front ++ x ∷ xs) (length front + 1)) b (g.periods - (length front + 1)) ≡ (if x == b then 0 else 2 ^ length bs) =
       ap (λ (o : Option ℕ). miss o b (g.periods - (length front + 1))) at ∙ ap (λ (n : ℕ). if x == b then 0 else 2 ^ n) left in

@@ -4,10 +4,10 @@ use Rattle.std.specs.Prelude.{codes}
 use Rattle.std.proofs.lemmas.Int.{ints}
 use Rattle.roster_model.specs.declared.grammar.CodeDef.{CodeDef}
 use Rattle.roster_model.specs.declared.grammar.Grammar.{Grammar}
-use Rattle.roster_model.specs.Arcs.{ComesFirst}
 use Rattle.roster_model.specs.Folds.{Each, In}
 use Rattle.roster_model.specs.Shifts.{IsShift, IsPrice}
 use Rattle.roster_model.specs.Trees.{Parts, IsDayTree}
+use Rattle.roster_model.proofs.ComesFirstLemmas.{first_one_way}
 use Rattle.text_lines.specs.Numbers.{number_text}
 use Rattle.text_lines.specs.Written.{written}
 use Rattle.grammar_core.specs.Lists.{IsSpanTree}
@@ -102,19 +102,11 @@ one-fits g pattern s t a b h k = by s t a b h k
 
 -- ---- rankings
 
-not_both_first : (xs ys : List ℕ) → ComesFirst xs ys → ComesFirst ys xs → ⊥
-not_both_first [] ys h k = h
-not_both_first (x ∷ xs) [] h k = h
-not_both_first (x ∷ xs) (y ∷ ys) (inl h) (inl k) = absurd (omega (arith, h, k))
-not_both_first (x ∷ xs) (y ∷ ys) (inl h) (inr k) = absurd (omega (arith, h, k.0))
-not_both_first (x ∷ xs) (y ∷ ys) (inr h) (inl k) = absurd (omega (arith, h.0, k))
-not_both_first (x ∷ xs) (y ∷ ys) (inr h) (inr k) = not_both_first xs ys h.1 k.1
-
 not_both : (a b : Ranked) → RankedBefore a b → RankedBefore b a → ⊥
 not_both a b (inl h) (inl k) = absurd (omega (arith, ints, h, k))
 not_both a b (inl h) (inr k) = absurd (omega (arith, ints, h, k.0))
 not_both a b (inr h) (inl k) = absurd (omega (arith, ints, h.0, k))
-not_both a b (inr h) (inr k) = not_both_first (use_numbers a.tree) (use_numbers b.tree) h.1 k.1
+not_both a b (inr h) (inr k) = first_one_way (use_numbers a.tree) (use_numbers b.tree) h.1 k.1
 
 each_in : (P : Ranked → Type 0) (xs : List Ranked) (x : Ranked) → Each P xs → In x xs → P x
 each_in P [] x h k = absurd k

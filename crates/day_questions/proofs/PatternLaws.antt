@@ -7,13 +7,13 @@ use Rattle.roster_model.specs.Arcs.{cost, rule_cost}
 use Rattle.roster_model.specs.Shifts.{IsShift, IsWordTree}
 use Rattle.roster_model.specs.Sums.{AtMost, IsLeast, PriceView, plus, tree_sum}
 use Rattle.roster_model.specs.Trees.{Parts, IsDayTree, word}
-use Rattle.word_prices.proofs.Costs.{shift-length}
+use Rattle.word_prices.proofs.Costs.{shift-length, plus_parts}
 use Rattle.next_codes.specs.Marginals.{HasLetter, IsDayTreeWith}
 use Rattle.day_questions.specs.Prices.{at_period, pattern_view}
 use Rattle.day_questions.specs.Shifts.{TakesFront, IsLeastPrice}
 use Rattle.day_questions.specs.Laws.{SumsAreCosts, IsSumOf, TakesWith, PatternSums, LeastSums, MarginalPrices}
 use Rattle.day_questions.proofs.TreeSums.{letters_sum, tree-summed}
-use Rattle.day_questions.proofs.PatternLetters.{price_by, taken-free, free-taken, plus-parts}
+use Rattle.day_questions.proofs.PatternLetters.{price_by, taken-free, free-taken}
 use Rattle.day_questions.proofs.LetterBytes.{letter-byte, byte-letter}
 
 pub pattern-sums : PatternSums
@@ -30,7 +30,7 @@ pattern-sums g any pattern sound short = record { taken = taken; priced = priced
 
     taken : (t : Parts) (z : ℤ) → IsDayTree g t → tree_sum (pattern_view g any pattern) 1 t ≡ Some z → TakesFront any pattern (word g t)
     taken t z d e =
-        let both = plus-parts (letters_sum (price_by any pattern) 1 (word g t)) (Some (pos (cost g t))) z (sym (summed t d) ∙ e) in
+        let both = plus_parts (letters_sum (price_by any pattern) 1 (word g t)) (Some (pos (cost g t))) z (sym (summed t d) ∙ e) in
         free-taken any pattern (word g t) [] both.0 (whole t d) both.2
 
     priced : (t : Parts) → IsDayTree g t → TakesFront any pattern (word g t) → tree_sum (pattern_view g any pattern) 1 t ≡ Some (pos (cost g t))

@@ -1,30 +1,18 @@
 -- Letters under the prices of a pattern.
-use Rattle.std.proofs.Common.{◌≡◌, ℕ, zero, suc, ℤ, pos, ◌+ℤ◌, ◌+◌, ◌≤◌, Bool, true, false, Option, None, Some, List, [], ◌∷◌, ◌++◌, length, length-append, append_assoc, add-one, arith, refl, sym, ap, ◌∙◌}
+use Rattle.std.proofs.Common.{◌≡◌, ℕ, zero, suc, ℤ, pos, ◌+◌, ◌≤◌, Bool, true, false, Option, None, Some, List, [], ◌∷◌, ◌++◌, length, length-append, append_assoc, add-one, arith, refl, sym, ap, ◌∙◌}
 use Rattle.std.specs.Prelude.{slice_get}
 use Rattle.std.proofs.lemmas.List.{append-nil}
 use Rattle.roster_model.specs.Sums.{plus}
 use Rattle.day_questions.specs.Prices.{at_period, takes, free_where}
 use Rattle.day_questions.specs.Shifts.{TakesFront}
 use Rattle.day_questions.proofs.TreeSums.{letters_sum}
-
--- what stands behind a front, and behind all
-pub behind-front : (front rest : List ℕ) (y : ℕ) → slice_get (front ++ y ∷ rest) (length front) ≡ Some y
-behind-front [] rest y = refl
-behind-front (x ∷ front) rest y = behind-front front rest y
+use Rattle.word_prices.proofs.Costs.{plus_parts}
+use Rattle.word_prices.proofs.WordLetters.{at_front}
 
 pub behind-all : (xs : List ℕ) (k : ℕ) → length xs ≤ k → slice_get xs k ≡ None
 behind-all [] k h = refl
 behind-all (x ∷ xs) zero h = absurd (omega arith)
 behind-all (x ∷ xs) (suc k) h = behind-all xs k (omega arith)
-
--- both parts of a sum
-pub plus-parts : (x y : Option ℤ) (z : ℤ) → plus x y ≡ Some z → (a b : ℤ) × (x ≡ Some a) × (y ≡ Some b) × (a +ℤ b ≡ z)
-plus-parts None y z e = cc
-plus-parts (Some a) None z e = cc
-plus-parts (Some a) (Some b) z e = (a, b, refl, refl, cc)
-
-pub same-some : (y z : ℤ) → Some y ≡ Some z → y ≡ z
-same-some y z e = cc
 
 free_is : (t : Bool) (a : ℤ) → free_where t ≡ Some a → t ≡ true
 free_is true a e = refl
@@ -49,7 +37,7 @@ module _ (any : Option ℕ) where
       rw (own, ih) refl
 
   here_is : (front xs : List ℕ) (x : ℕ) → at_period (front ++ x ∷ xs) (length front + 1) ≡ Some x
-  here_is front xs x = ap (at_period (front ++ x ∷ xs)) (add-one (length front)) ∙ behind-front front xs x
+  here_is front xs x = ap (at_period (front ++ x ∷ xs)) (add-one (length front)) ∙ at_front front xs x
 
   longer : (front : List ℕ) (x : ℕ) → length (front ++ x ∷ []) ≡ length front + 1
   longer front x = length-append front (x ∷ [])
@@ -74,7 +62,7 @@ module _ (any : Option ℕ) where
   free-taken [] w front z long e = tt
   free-taken (x ∷ xs) [] front z long e = absurd (omega arith)
   free-taken (x ∷ xs) (b ∷ bs) front z long e =
-      let both = plus-parts (price_by (front ++ x ∷ xs) (length front + 1) b) (letters_sum (price_by (front ++ x ∷ xs)) (length front + 1 + 1) bs) z e in
+      let both = plus_parts (price_by (front ++ x ∷ xs) (length front + 1) b) (letters_sum (price_by (front ++ x ∷ xs)) (length front + 1 + 1) bs) z e in
       let own : free_where (takes any (Some x) b) ≡ Some both.0 = sym (ap (λ (o : Option ℕ). free_where (takes any o b)) (here_is front xs x)) ∙ both.2 in
       let same : letters_sum (price_by ((front ++ x ∷ []) ++ xs)) (length (front ++ x ∷ []) + 1) bs ≡ Some both.1 =
       ap (λ (n : ℕ). letters_sum (price_by ((front ++ x ∷ []) ++ xs)) (n + 1) bs) (longer front x)

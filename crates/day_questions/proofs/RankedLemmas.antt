@@ -3,6 +3,7 @@ use Rattle.std.proofs.Common.{◌≡◌, ◌⊎◌, inl, inr, ℕ, zero, suc, �
 use Rattle.std.specs.Prelude.{codes}
 use Rattle.std.specs.Fmt.{decimal}
 use Rattle.std.proofs.lemmas.Int.{ints}
+use Rattle.std.proofs.lemmas.Option.{same_Some}
 use Rattle.roster_model.specs.declared.grammar.Grammar.{Grammar}
 use Rattle.roster_model.specs.declared.grammar.Step.{Step}
 use Rattle.roster_model.specs.Arcs.{cost, rule_cost}
@@ -18,8 +19,9 @@ use Rattle.ranked_trees.specs.Ranking.{IsRankedTree, IsRanking}
 use Rattle.day_questions.specs.Prices.{cost_view}
 use Rattle.day_questions.specs.Lines.{Line}
 use Rattle.day_questions.specs.Ranked.{tree_line, count_line, SaysTree, AddsTree, IsTreesText, RankedAnswer, none}
-use Rattle.day_questions.specs.Spelled.{AddsWord, AreDaySteps}
+use Rattle.day_questions.specs.Spelled.{AddsWord}
 use Rattle.day_questions.proofs.TreeSums.{letters_sum, tree-summed}
+use Rattle.tree_laws.specs.DaySteps.{AreDaySteps}
 
 free_letters : (i : ℕ) (w : List ℕ) → letters_sum (λ i b. Some (pos 0)) i w ≡ Some (pos 0)
 free_letters i [] = refl
@@ -33,9 +35,6 @@ costs-summed g sound t d =
   where
     zero_more : (n : ℕ) → pos 0 +ℤ pos n ≡ pos n
     zero_more n = omega (arith, ints)
-
-same_sum : (y z : ℤ) → Some y ≡ Some z → y ≡ z
-same_sum y z e = cc
 
 tree_joined : (o0 o1 o2 o3 o4 o5 o6 a b w : List ℕ) → o1 ≡ o0 ++ codes "tree" → o2 ≡ o1 ++ tail (a ∷ []) → o3 ≡ o2 ++ tail (b ∷ []) → o4 ≡ o3 ++ 32 ∷ []
     → o5 ≡ o4 ++ w → o6 ≡ o5 ++ 10 ∷ [] → o6 ≡ o0 ++ written ((codes "tree" ∷ a ∷ b ∷ w ∷ []) ∷ [])
@@ -52,7 +51,7 @@ module _ (g : Grammar) (sound : IsSound g) where
       → o1 ≡ o0 ++ codes "tree" → o2 ≡ o1 ++ tail (decimal j ∷ []) → o3 ≡ o2 ++ tail (number_text r.sum ∷ []) → o4 ≡ o3 ++ 32 ∷ []
       → AddsWord g uses o4 o5 → o6 ≡ o5 ++ 10 ∷ [] → AddsTree g j r o0 o6
   tree-said r is j uses o0 o1 o2 o3 o4 o5 o6 same e1 e2 e3 e4 e5 e6 =
-      let sum : r.sum ≡ pos (cost g is.tree) = same_sum r.sum (pos (cost g is.tree)) (sym is.sum ∙ costs-summed g sound is.tree is.of_day) in
+      let sum : r.sum ≡ pos (cost g is.tree) = same_Some r.sum (pos (cost g is.tree)) (sym is.sum ∙ costs-summed g sound is.tree is.of_day) in
       let text = tree_joined o0 o1 o2 o3 o4 o5 o6 (decimal j) (number_text r.sum) (word g is.tree) e1 e2 e3 e4 (e5 is.tree is.of_day (same ∙ is.uses)) e6 in
       record {
         lines = tree_line g j is.tree ∷ [];

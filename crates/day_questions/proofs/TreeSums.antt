@@ -1,22 +1,22 @@
 -- Under prices of bytes the sum of a tree is that of its word's letters and of its rule uses.
-use Rattle.std.proofs.Common.{◌≡◌, ℕ, zero, suc, ℤ, pos, ◌+◌, ◌<◌, Option, None, Some, List, [], ◌∷◌, ◌++◌, All, length, arith, refl, sym, ap, ◌∙◌}
+use Rattle.std.proofs.Common.{◌≡◌, ℕ, zero, suc, ℤ, pos, ◌+◌, ◌<◌, Option, None, Some, List, [], ◌∷◌, ◌++◌, length, arith, refl, sym, ap, ◌∙◌}
 use Rattle.std.specs.Prelude.{slice_get}
 use Rattle.std.proofs.lemmas.Int.{ints}
 use Rattle.std.proofs.lemmas.List.{append-nil}
-use Rattle.std.proofs.lemmas.List.Elements.{All-head, All-tail}
 use Rattle.roster_model.specs.declared.grammar.CodeDef.{CodeDef}
 use Rattle.roster_model.specs.declared.grammar.Grammar.{Grammar}
 use Rattle.roster_model.specs.declared.grammar.Rule.{Rule}
 use Rattle.roster_model.specs.declared.grammar.Sym.{Sym}
 use Rattle.roster_model.specs.declared.grammar.Sym.TheVariants.{Code, Name}
 use Rattle.roster_model.specs.Grammar.{rule_at}
-use Rattle.roster_model.specs.Folds.{sum_n, Each}
+use Rattle.roster_model.specs.Folds.{sum_n}
 use Rattle.roster_model.specs.Arcs.{used_rules}
 use Rattle.roster_model.specs.Sound.{Exists, IsSound}
 use Rattle.roster_model.specs.Sums.{arc_sum, parts_sum, tree_sum, plus}
 use Rattle.roster_model.specs.Trees.{Parts, done, letter, uses, Derive, byte_of, word, IsTreeOf}
+use Rattle.roster_model.proofs.EachLemmas.{all_each}
 use Rattle.tree_laws.proofs.Rules.{sound-rule}
-use Rattle.word_prices.proofs.Costs.{sum_n-append, Are, length-word}
+use Rattle.word_prices.proofs.Costs.{sum_n-append, Are, length-word, some_at}
 use Rattle.day_questions.specs.Prices.{byte_view, code_price}
 
 -- the sum of the letters of a word that begins at period i
@@ -62,15 +62,6 @@ letters_sum-append price (x ∷ xs) ys i =
 
 -- ---- symbols that exist
 
-each_of : {A : Type 0} (P : A → Type 0) (xs : List A) → All P xs → Each P xs
-each_of P [] h = tt
-each_of P (x ∷ xs) h = (All-head P x xs h, each_of P xs (All-tail P x xs h))
-
-some_at : {A : Type 0} (xs : List A) (k : ℕ) → k < length xs → (x : A) × (slice_get xs k ≡ Some x)
-some_at [] k h = absurd (omega arith)
-some_at (x ∷ xs) zero h = (x, refl)
-some_at (x ∷ xs) (suc k) h = some_at xs k (omega arith)
-
 pub code-at : (g : Grammar) (c : ℕ) → c < length g.codes → (d : CodeDef) × (slice_get g.codes c ≡ Some d)
 code-at g c h = some_at g.codes c h
 
@@ -79,7 +70,7 @@ spelled-by g c d at = ap (λ (o : Option CodeDef). elim o as (λ v. List ℕ) [ 
 
 module _ (g : Grammar) (sound : IsSound g) where
   pub right-are : (r : ℕ) (rule : Rule) → rule_at g r ≡ Some rule → Are g sound rule.right
-  right-are r rule at = each_of (Exists (length g.codes) (length g.names)) rule.right (sound-rule g sound r rule at).symbols
+  right-are r rule at = all_each (Exists (length g.codes) (length g.names)) rule.right (sound-rule g sound r rule at).symbols
 
   -- ---- sums of trees
 

@@ -5,21 +5,9 @@ use Rattle.roster_model.specs.declared.grammar.Step.{Step}
 use Rattle.roster_model.specs.declared.grammar.Sym.{Sym}
 use Rattle.roster_model.specs.Trees.{Parts, Derive, IsDayTree, steps, word}
 
--- the rule uses of a tree of the day
-abbrev pub AreDaySteps : Grammar → List Step → Type 0
-AreDaySteps g xs = (t : Parts) × IsDayTree g t × (xs ≡ steps 1 t)
-
 -- the word of each tree of the day with these steps is added
 abbrev pub AddsWord : Grammar → List Step → List ℕ → List ℕ → Type 0
 AddsWord g xs old new = (t : Parts) → IsDayTree g t → xs ≡ steps 1 t → new ≡ old ++ word g t
-
--- the first steps are those of parts that the symbols derive
-pub record AsksParts (g : Grammar) (ss : List Sym) (xs : List Step) : Type 0 where
-  pub start : ℕ
-  pub tree : Parts
-  pub derive : Derive g ss start tree
-  pub rest : List Step
-  pub is : xs ≡ steps start tree ++ rest
 
 -- the steps of all such parts are taken, and their word is added
 abbrev pub GivesWord : Grammar → List Sym → List Step → List ℕ → List Step → List ℕ → Type 0

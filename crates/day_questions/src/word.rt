@@ -1,7 +1,8 @@
 ghost use Rattle.std.specs.Prelude.{◌≡◌, [], ◌∷◌, IfOk, MatchOption, OnOk, ◌++◌};
 ghost use Rattle.roster_model.specs.Sound.{IsSound};
 ghost use Rattle.roster_model.specs.Trees.{byte_of};
-ghost use Rattle.day_questions.specs.Spelled.{AddsWord, AreDaySteps, AsksParts, GivesWord};
+ghost use Rattle.tree_laws.specs.DaySteps.{AsksParts, AreDaySteps};
+ghost use Rattle.day_questions.specs.Spelled.{AddsWord, GivesWord};
 
 use crate::rules::rule_of;
 use roster_model::{Grammar, List, Memory, Step, Sym};

@@ -8,8 +8,9 @@ use Rattle.arc_laws.specs.Lists.{AreArcs}
 use Rattle.arc_laws.proofs.ArcSums.{counted}
 use Rattle.arc_laws.proofs.FoldsLemmas.{sum_n-same}
 use Rattle.arc_laws.proofs.SameArc.{rising-once}
+use Rattle.arc_laws.proofs.StandOnceLemmas.{once-counted}
 use Rattle.parse_graph.specs.Graphs.{GraphView, IsGraph, HasArcs}
-use Rattle.parse_graph.proofs.PlacesLemmas.{once-counted, in-graph, of-graph}
+use Rattle.parse_graph.proofs.PlacesLemmas.{in-graph, of-graph}
 use Rattle.parse_graph.proofs.ArcOrderLemmas.{sorted-arcs}
 use Rattle.day_solver.specs.Solutions.{HasArcCount}
 

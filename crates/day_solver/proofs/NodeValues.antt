@@ -4,12 +4,12 @@ use Rattle.roster_model.specs.declared.instance.Cut.{Cut}
 use Rattle.roster_model.specs.declared.instance.Instance.{Instance}
 use Rattle.roster_model.specs.Cuts.{base_cuts}
 use Rattle.roster_model.specs.Folds.{sum_n, count, Each}
-use Rattle.arc_laws.proofs.FoldsLemmas.{count-append, sum_n-append, Each-same}
+use Rattle.roster_model.proofs.EachLemmas.{Each-weaker, each_parts}
+use Rattle.arc_laws.proofs.FoldsLemmas.{count-append, sum_n-append}
 use Rattle.certificates.specs.declared.cert.Node.{Node}
 use Rattle.certificates.specs.declared.cert.Node.TheVariants.{Split, Priced, Pinned, Bare}
 use Rattle.certificates.specs.Kinds.{is_processed}
 use Rattle.certificates.specs.Nodes.{Proof, split, priced, pinned, bare, preorder, Visit, visits, low_cut, high_cut}
-use Rattle.certificates.proofs.JoinedLists.{each_parts}
 use Rattle.certificate_laws.specs.Accepted.{bound_number}
 use Rattle.bound_proof.specs.Written.{node_values}
 use Rattle.branch_price.specs.declared.found.Found.{Found}
@@ -45,7 +45,7 @@ node-few i strict bound v Bare h = omega arith
 pub found-few : (i : Instance) (strict : Bool) (turns : ℕ) (f : Found) → turns ≤ 10000 → IsFound i strict turns f → HasFewValues f.cert
 found-few i strict turns f few is =
     let bound : ℕ = bound_number i f.cert.bound in
-    let each = Each-same (λ (v : Visit). IsFoundNode i strict bound v v.node) (ListsFew 1498) (visits (base_cuts i) is.proof) (λ v h. node-few i strict bound v v.node h) is.each in
+    let each = Each-weaker (λ (v : Visit). IsFoundNode i strict bound v v.node) (ListsFew 1498) (visits (base_cuts i) is.proof) (λ v h. node-few i strict bound v v.node h) is.each in
     let most = subst (λ (ns : List Node). sum_n node_values ns ≤ 1498 * count is_processed ns) is.nodes (listed-most 1498 (base_cuts i) is.proof each) in
     let processed = is.processed in
     let within = is.within in

@@ -10,6 +10,7 @@ use Rattle.roster_model.specs.declared.grammar.Grammar.{Grammar}
 use Rattle.roster_model.specs.declared.instance.Group.{Group}
 use Rattle.roster_model.specs.Folds.{Each}
 use Rattle.roster_model.specs.SoundInstance.{IsGroup, AreGroups}
+use Rattle.roster_model.proofs.EachLemmas.{Each-push}
 use Rattle.demand_lines.specs.declared.draft.Bound.{Bound}
 use Rattle.demand_lines.specs.declared.draft.Draft.{Draft}
 use Rattle.demand_lines.specs.declared.draft.Need.{Need}
@@ -26,7 +27,7 @@ use Rattle.demand_text.proofs.GroupSums.{most_more}
 use Rattle.text_lines.proofs.StepsLemmas.{each_keeps, passed, bind_ok, same_ok, err, ok}
 use Rattle.demand_text.proofs.FieldsKept.{work_is, name_within, counts_are, range_within}
 use Rattle.text_lines.proofs.FieldsLemmas.{number_within}
-use Rattle.text_lines.proofs.ListLemmas.{apart_more, none_passes, Each-push, fewer}
+use Rattle.text_lines.proofs.ListLemmas.{apart_more, none_passes, fewer}
 
 heads_keep : (k : ℕ) (g : Grammar) (d new : Draft) (ws : List (List ℕ)) → IsDraft g d → heads_at k d ws ≡ Ok new → IsDraft g new
 unfolding heads_at

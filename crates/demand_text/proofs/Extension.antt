@@ -1,5 +1,5 @@
 -- The extension of a sound plain grammar by groups of its names is sound.
-use Rattle.std.proofs.Common.{◌≡◌, ℕ, zero, suc, ◌+◌, ◌<◌, ◌≤◌, inl, inr, ◌⊎◌, Bool, true, false, ◌||◌, cond, eqb, nat_eq, max, List, [], ◌∷◌, ◌++◌, Some, length, get_or, map, refl, sym, ap, subst, ◌∙◌, arith, All, append_assoc, length-append}
+use Rattle.std.proofs.Common.{◌≡◌, ℕ, zero, suc, ◌+◌, ◌<◌, ◌≤◌, inl, inr, ◌⊎◌, Bool, true, false, ◌||◌, cond, eqb, nat_eq, max, List, [], ◌∷◌, ◌++◌, Some, length, get_or, map, refl, sym, ap, subst, ◌∙◌, arith, All, length-append}
 use Rattle.std.specs.Prelude.{slice_get, ◌≢◌}
 use Rattle.std.proofs.lemmas.Bool.{cases_lt}
 use Rattle.std.proofs.lemmas.Bool.Decides.{eqb_tells}
@@ -18,6 +18,7 @@ use Rattle.roster_model.specs.Names.{added_name}
 use Rattle.roster_model.specs.Sound.{Exists, IsWindow, IsRule, IsNameOf, names_of, appearances, AreInOrder, has_rule, AreNames, IsSound, IsPlain}
 use Rattle.roster_model.specs.SoundInstance.{IsGroup, AreGroups}
 use Rattle.roster_model.specs.UnitRules.{IsRanked}
+use Rattle.roster_model.proofs.ExtensionLemmas.{appearances-append}
 use Rattle.text_lines.proofs.ListLemmas.{apart_more, last_or_before}
 
 -- an item of two lists, one after the other
@@ -28,12 +29,6 @@ split_at (y ∷ xs) ys zero x e = inl e
 split_at (y ∷ xs) ys (suc k) x e = split_at xs ys k x e
 
 -- ---- the order of first appearance
-
-appearances-append : (rs qs : List Rule) → appearances (rs ++ qs) ≡ appearances rs ++ appearances qs
-appearances-append [] qs = refl
-appearances-append (r ∷ rs) qs =
-    ap (λ (xs : List ℕ). (r.left ∷ names_of r.right) ++ xs) (appearances-append rs qs)
-    ∙ sym (append_assoc (r.left ∷ names_of r.right) (appearances rs) (appearances qs))
 
 -- how many numbers are known after these have appeared
 abbrev known : ℕ → List ℕ → ℕ

@@ -20,8 +20,9 @@ use Rattle.demand_text.specs.declared.number_of.NumberOf.{NumberOf}
 use Rattle.demand_text.specs.declared.number_of.NumberOf.TheVariants.{Need, Floor, Ceiling}
 use Rattle.demand_text.specs.Drafts.{AreCounts}
 use Rattle.text_lines.proofs.FieldsLemmas.{number_at_again, position_at}
-use Rattle.demand_text.specs.Written.{name_of, code_byte, number_of, numbers_of}
+use Rattle.demand_text.specs.Written.{code_byte, number_of, numbers_of}
 use Rattle.text_lines.proofs.StepsLemmas.{ok}
+use Rattle.text_lines.specs.Names.{name_of}
 
 second_false : (a b : Bool) → b ≡ false → (a && b) ≡ false
 second_false true b e = e

@@ -8,6 +8,7 @@ use Rattle.std.proofs.lemmas.Option.{slice_get-get_or}
 use Rattle.roster_model.specs.declared.grammar.CodeDef.{CodeDef}
 use Rattle.roster_model.specs.declared.grammar.Grammar.{Grammar}
 use Rattle.roster_model.specs.Demands.{IsWork}
+use Rattle.roster_model.proofs.EachLemmas.{Each-push}
 use Rattle.demand_lines.specs.declared.draft.Heads.{Heads}
 use Rattle.demand_lines.specs.declared.fault.DemandFault.{DemandFault}
 use Rattle.demand_lines.specs.declared.fault.DemandFault.TheVariants.{WrongCount}
@@ -16,7 +17,7 @@ use Rattle.demand_lines.specs.Steps.{each}
 use Rattle.demand_text.specs.Counts.{count_at, counts_at}
 use Rattle.demand_text.specs.Drafts.{AreCounts}
 use Rattle.text_lines.proofs.FieldsLemmas.{number_within}
-use Rattle.text_lines.proofs.ListLemmas.{Each-push, not_false, same_number}
+use Rattle.text_lines.proofs.ListLemmas.{not_false, same_number}
 use Rattle.text_lines.proofs.StepsLemmas.{each_keeps, passed, bind_ok, same_ok}
 
 -- ---- fields

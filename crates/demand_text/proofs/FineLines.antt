@@ -6,19 +6,20 @@ use Rattle.std.specs.Fmt.{decimal}
 use Rattle.std.proofs.lemmas.Bool.{and_from, lt-ltb}
 use Rattle.std.proofs.lemmas.List.{length-map}
 use Rattle.std.proofs.lemmas.Option.{slice_get_within}
-use Rattle.text_lines.proofs.ListLemmas.{Each-append}
 use Rattle.text_lines.proofs.WordLemmas.{IsFine, code_byte_fine, name_fine, number_fine, literal, words_written, spaced_short}
 use Rattle.text_lines.specs.Written.{are_written, spaced, written}
+use Rattle.text_lines.specs.Names.{name_of}
 use Rattle.roster_model.specs.declared.grammar.Grammar.{Grammar}
 use Rattle.roster_model.specs.declared.instance.Group.{Group}
 use Rattle.roster_model.specs.Demands.{Demand, IsDemand, demand_cells}
 use Rattle.roster_model.specs.Folds.{Each}
 use Rattle.roster_model.specs.Names.{is_name}
 use Rattle.roster_model.specs.Sound.{AreCodes}
+use Rattle.roster_model.proofs.EachLemmas.{Each-append}
 use Rattle.demand_text.specs.declared.number_of.NumberOf.{NumberOf}
 use Rattle.demand_text.specs.declared.number_of.NumberOf.TheVariants.{Need, Floor, Ceiling}
 use Rattle.demand_text.specs.Drafts.{AreCounts}
-use Rattle.demand_text.specs.Written.{name_of, code_byte, heads_line, group_line, numbers_of, are_all, need_line, bound_lines, code_lines, demand_lines}
+use Rattle.demand_text.specs.Written.{code_byte, heads_line, group_line, numbers_of, are_all, need_line, bound_lines, code_lines, demand_lines}
 use Rattle.demand_text.proofs.FieldsAgain.{asked, numbers_are}
 use Rattle.demand_text.proofs.NeedsAgain.{counts_within, shape}
 

@@ -2,12 +2,13 @@
 use Rattle.std.proofs.Common.{◌≡◌, ℕ, ◌+◌, ◌-◌, ◌≤◌, Bool, true, false, cond, not, eqb, leb, ltb, min, List, [], ◌∷◌, ◌++◌, length, Option, Some, None, Result, Ok, Err, refl, sym, ap, ◌∙◌, arith, inl, inr, ◌⊎◌, subst, length-append}
 use Rattle.std.specs.Prelude.{codes, is_some}
 use Rattle.std.specs.Str.{bytes_eq}
-use Rattle.std.proofs.lemmas.Slice.Eq.{bytes_eq-Decides}
 use Rattle.text_lines.specs.Lines.{TextLine, text_items}
 use Rattle.text_lines.specs.declared.line.BadByte as bad
-use Rattle.text_lines.proofs.ListLemmas.{at_least, not_false, same_number}
+use Rattle.text_lines.proofs.ListLemmas.{at_least, not_false, same_number, one_if, has, none_there}
 use Rattle.text_lines.proofs.RefusalsLemmas.{first_refused}
 use Rattle.text_lines.proofs.StepsLemmas.{err, ok, passed, bind_ok, same_ok}
+use Rattle.text_lines.proofs.WordLemmas.{the_bytes}
+use Rattle.text_lines.specs.Refusals.{begins}
 use Rattle.roster_model.specs.declared.grammar.Grammar.{Grammar}
 use Rattle.roster_model.specs.declared.instance.Group.{Group}
 use Rattle.roster_model.specs.declared.instance.Instance.{Instance}
@@ -24,16 +25,10 @@ use Rattle.demand_lines.specs.Teams.{has_group, most_heads, heads_at, group_of, 
 use Rattle.demand_lines.specs.Steps.{◌>>=◌, each}
 use Rattle.demand_text.specs.Counts.{count_at, counts_at}
 use Rattle.demand_text.specs.Lines.{has_need, has_bound, need_of, need_at, bound_at, line_at, item_at}
-use Rattle.demand_text.specs.Forms.{IsForm, heads, group, need, least, most, HasForm, begins, HaveTeams, IsComplete, IsFirstRefused, AllStand}
+use Rattle.demand_text.specs.Forms.{IsForm, heads, group, need, least, most, HasForm, HaveTeams, IsComplete, IsFirstRefused, AllStand}
 use Rattle.demand_text.specs.InstanceOf.{heads_of, made, finish, no_draft, draft_of, instance_of}
 use Rattle.demand_text.proofs.DraftKept.{draft_keeps}
 use Rattle.demand_text.proofs.RefusedLines.{item_line}
-
-abbrev one_if : Bool → ℕ
-one_if t = cond t 1 0
-
-abbrev has : {A : Type 0} → Option A → ℕ
-has o = one_if (is_some o)
 
 -- a heads line or group lines, and not both
 abbrev IsAlone : Draft → Type 0
@@ -48,13 +43,6 @@ record Stands (periods : ℕ) (d new : Draft) (ws : List (List ℕ)) : Type 0 wh
   heads_said : has new.heads ≡ one_if (begins (codes "heads") (line_with ws)) + has d.heads
   groups_said : length new.groups ≡ one_if (begins (codes "group") (line_with ws)) + length d.groups
   alone : IsAlone d → IsAlone new
-
-same_word : (w v : List ℕ) → bytes_eq w v ≡ true → w ≡ v
-same_word w v e = (bytes_eq-Decides w v).0 e
-
-none_there : {A : Type 0} (o : Option A) → is_some o ≡ false → has o ≡ 0
-none_there None e = refl
-none_there (Some x) e = absurd cc
 
 heads_stand : (p k : ℕ) (d new : Draft) (ws : List (List ℕ)) → heads_at k d ws ≡ Ok new → Stands p d new (codes "heads" ∷ ws)
 unfolding heads_at
@@ -169,7 +157,7 @@ line_stands k g d new [] e = absurd cc
 line_stands k g d new (w ∷ ws) e = by (bytes_eq w (codes "heads")) (bytes_eq w (codes "group")) (bytes_eq w (codes "need")) (bytes_eq w (codes "least")) (bytes_eq w (codes "most")) refl refl refl refl refl e
   where
     at : (v : List ℕ) → bytes_eq w v ≡ true → Stands g.periods d new (v ∷ ws) → Stands g.periods d new (w ∷ ws)
-    at v h s = subst (λ (x : List ℕ). Stands g.periods d new (x ∷ ws)) (sym (same_word w v h)) s
+    at v h s = subst (λ (x : List ℕ). Stands g.periods d new (x ∷ ws)) (sym (the_bytes w v h)) s
 
     by : (p q r t u : Bool) → bytes_eq w (codes "heads") ≡ p → bytes_eq w (codes "group") ≡ q → bytes_eq w (codes "need") ≡ r → bytes_eq w (codes "least") ≡ t → bytes_eq w (codes "most") ≡ u
         → cond p (heads_at k d ws) (cond q (group_at k g d ws) (cond r (need_at k g d.needs ws >>= λ (n : List Need). ok (record d { needs = n })) (cond t (bound_at k g d.needs d.least ws >>= λ (n : List Bound). ok (record d { least = n }))

@@ -17,9 +17,10 @@ use Rattle.demand_lines.specs.Steps.{each}
 use Rattle.demand_text.specs.Lines.{line_at, item_at}
 use Rattle.demand_text.specs.Drafts.{AreHeads}
 use Rattle.demand_text.specs.InstanceOf.{no_draft}
-use Rattle.demand_text.specs.Written.{name_of, heads_line, group_line}
+use Rattle.demand_text.specs.Written.{heads_line, group_line}
 use Rattle.demand_text.proofs.FieldsAgain.{name_again, range_again}
 use Rattle.text_lines.proofs.StepsLemmas.{ok}
+use Rattle.text_lines.specs.Names.{name_of}
 
 pub heads_again : (k : ℕ) (g : Grammar) (h : Heads) → AreHeads h → line_at k g no_draft (heads_line h.least h.most) ≡ Ok (record no_draft { heads = Some h })
 unfolding line_at heads_at

@@ -20,6 +20,7 @@ use Rattle.roster_model.specs.Names.{is_name, added_name}
 use Rattle.roster_model.specs.Sound.{IsSound, IsPlain}
 use Rattle.roster_model.specs.SoundInstance.{IsGroup, AreGroups, HasGroups, IsSoundInstance}
 use Rattle.roster_model.proofs.SoundCells.{few_demands}
+use Rattle.roster_model.proofs.EachLemmas.{Each-append}
 use Rattle.demand_lines.specs.declared.draft.Draft.{Draft}
 use Rattle.demand_lines.specs.declared.draft.Heads.{Heads}
 use Rattle.demand_lines.specs.Teams.{most_heads}
@@ -27,12 +28,12 @@ use Rattle.demand_lines.specs.Steps.{each}
 use Rattle.demand_text.specs.Lines.{item_at}
 use Rattle.demand_text.specs.Drafts.{AreHeads}
 use Rattle.demand_text.specs.InstanceOf.{cells_of, least_heads, heads_of, day_grammar, made, finish, no_draft, draft_of, instance_of}
-use Rattle.demand_text.specs.Written.{name_of, group_line, team_lines, demand_lines, AreDemandsOf, demand_text}
+use Rattle.demand_text.specs.Written.{group_line, team_lines, demand_lines, AreDemandsOf, demand_text}
 use Rattle.demand_text.proofs.CellsAgain.{all_again}
 use Rattle.text_lines.proofs.WrittenLemmas.{parts_again}
 use Rattle.demand_text.proofs.FineLines.{IsFineLine, heads_fine, group_fine, demands_fine, demands_few, lines_written, lines_short}
-use Rattle.text_lines.proofs.ListLemmas.{Each-append}
 use Rattle.text_lines.proofs.StepsLemmas.{ok}
+use Rattle.text_lines.specs.Names.{name_of}
 use Rattle.demand_text.proofs.NeedsAgain.{after, demands_again, none_new}
 use Rattle.demand_text.proofs.TeamsAgain.{heads_again, grouped, groups_again}
 

@@ -1,9 +1,9 @@
 -- The forms of lines, and the line that is refused.
-use Rattle.std.specs.Prelude.{ℕ, ◌≡◌, ◌≤◌, ◌⊎◌, Bool, false, List, [], ◌∷◌, length, Result, Ok, Err, codes, slice_index_or}
-use Rattle.std.specs.Str.{bytes_eq}
+use Rattle.std.specs.Prelude.{ℕ, ◌≡◌, ◌≤◌, ◌⊎◌, List, [], ◌∷◌, length, Result, Ok, Err, codes}
 use Rattle.text_lines.specs.Lines.{TextLine, text_items}
 use Rattle.text_lines.specs.Refusals as refusals
 use Rattle.text_lines.specs.declared.line.BadByte as bad
+use Rattle.text_lines.specs.Refusals.{begins}
 use Rattle.roster_model.specs.Folds.{Each, count}
 use Rattle.roster_model.specs.declared.grammar.Grammar.{Grammar}
 use Rattle.demand_lines.specs.declared.draft.Draft.{Draft}
@@ -27,11 +27,6 @@ pub data IsForm (periods : ℕ) (ws : List (List ℕ)) : Type 0 where
 abbrev pub HasForm : ℕ → Result TextLine bad.BadByte → Type 0
 HasForm periods (Ok line) = IsForm periods line.words
 HasForm periods (Err b) = ⊥
-
--- the first word of a line is this one
-abbrev pub begins : List ℕ → Result TextLine bad.BadByte → Bool
-begins w (Ok line) = bytes_eq (slice_index_or line.words 0 []) w
-begins w (Err b) = false
 
 -- one heads line, or else one to eight group lines
 abbrev pub HaveTeams : ℕ → ℕ → Type 0

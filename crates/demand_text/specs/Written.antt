@@ -1,8 +1,9 @@
 -- The text of an instance.
-use Rattle.std.specs.Prelude.{ℕ, ◌≡◌, ◌<◌, Bool, false, ◌==◌, List, [], ◌∷◌, ◌++◌, map, length, codes, slice_index_or, if◌then◌else◌}
+use Rattle.std.specs.Prelude.{ℕ, ◌≡◌, ◌<◌, Bool, ◌==◌, List, [], ◌∷◌, ◌++◌, map, length, codes, if◌then◌else◌}
 use Rattle.std.specs.Fmt.{decimal}
 use Rattle.std.specs.List.{list_all}
 use Rattle.text_lines.specs.Written.{written}
+use Rattle.text_lines.specs.Names.{name_of, code_of}
 use Rattle.roster_model.specs.declared.grammar.CodeDef.{CodeDef}
 use Rattle.roster_model.specs.declared.instance.Cell.{Cell}
 use Rattle.roster_model.specs.declared.instance.Group.{Group}
@@ -11,12 +12,6 @@ use Rattle.roster_model.specs.Demands.{Demand, IsDemand, AreOnce, demand_cells, 
 use Rattle.roster_model.specs.Folds.{Each}
 use Rattle.demand_text.specs.declared.number_of.NumberOf.{NumberOf}
 use Rattle.demand_text.specs.declared.number_of.NumberOf.TheVariants.{Need, Floor, Ceiling}
-
-abbrev pub name_of : List (List ℕ) → ℕ → List ℕ
-name_of ns x = slice_index_or ns x []
-
-abbrev pub code_of : List CodeDef → ℕ → CodeDef
-code_of defs c = slice_index_or defs c (record { byte = 0; work = false })
 
 abbrev pub code_byte : List CodeDef → ℕ → ℕ
 code_byte defs c = (code_of defs c).byte

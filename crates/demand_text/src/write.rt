@@ -1,12 +1,12 @@
 ghost use Rattle.std.specs.Prelude.{◌≡◌, ◌≤◌, ◌<◌, ◌++◌, [], ◌∷◌, List as Items, All, codes as text, length, map, IfOk, OnOk};
 ghost use Rattle.std.specs.Fmt.{decimal};
+ghost use Rattle.text_lines.specs.Names.{name_of};
 ghost use Rattle.text_lines.specs.Written.{written, tail};
 ghost use Rattle.roster_model.specs.Demands.{Demand, IsDemand, all_cells, AreCells, IsOneDemand};
 ghost use Rattle.roster_model.specs.Folds.{Each};
 ghost use Rattle.roster_model.specs.Sound.{IsSound};
 ghost use Rattle.roster_model.specs.SoundInstance.{IsGroup, IsSoundInstance};
 ghost use Rattle.demand_text.specs.Written.{
-  name_of,
   code_byte,
   heads_line,
   group_line,

@@ -6,9 +6,10 @@ use Rattle.roster_model.specs.declared.grammar.ArcKey.{ArcKey}
 use Rattle.roster_model.specs.Arcs.{same_arc}
 use Rattle.roster_model.specs.Folds.{In}
 use Rattle.arc_laws.proofs.SameArc.{Told, arc_tells, same_arc-refl}
+use Rattle.arc_laws.specs.Lists.{StandOnce}
 use Rattle.parse_graph.specs.Graphs.{GraphView, IsGraph}
 use Rattle.roster_model.specs.declared.grammar.Grammar.{Grammar}
-use Rattle.dives.specs.Widths.{StandOnce, price_at}
+use Rattle.dives.specs.Widths.{price_at}
 
 -- the arcs behind the first stand at one place too
 rest-once : (b : ArcKey) (bs : List ArcKey) → StandOnce (b ∷ bs) → StandOnce bs

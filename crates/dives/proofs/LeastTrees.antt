@@ -6,10 +6,8 @@ use Rattle.roster_model.specs.Room.{RoomView, most_uses}
 use Rattle.roster_model.specs.Sound.{IsSound}
 use Rattle.roster_model.specs.Sums.{PriceView, IsLeast, tree_sum}
 use Rattle.roster_model.specs.Trees.{IsDayTree}
-use Rattle.tree_laws.specs.LeastTrees.{HoldsLeastTree}
 use Rattle.parse_graph.specs.Graphs.{GraphView, IsGraph}
 use Rattle.cheapest_tree.specs.Pricers.{PricerView, IsFilled, AsksTree}
-use Rattle.tree_pool.specs.Pools.{AreDaySteps}
 
 pub asks-day : (g : Grammar) → IsSound g → (p : PriceView) (v : GraphView) (w : PricerView) → IsGraph g v → IsFilled g p v w
     → (z : ℤ) → IsLeast (IsDayTree g) (tree_sum p 1) (Some z) → (room : RoomView) → room.most ≡ most_uses g → AsksTree g p v w room
@@ -20,7 +18,3 @@ asks-day g sound p v w graph filled z least room space = record {
   sum = (least.attained.0, least.attained.1, subst IsSome (sym least.attained.2) refl);
   space = space;
 }
-
--- the room holds the steps of a tree of the day
-pub day-steps : (g : Grammar) (p : PriceView) (room : RoomView) → HoldsLeastTree g p room → AreDaySteps g room.steps
-day-steps g p room h = (h.tree, h.of_day, h.held)

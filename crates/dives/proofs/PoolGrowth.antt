@@ -1,15 +1,9 @@
 -- Trees of a growing pool.
-use Rattle.std.proofs.Common.{All, ℕ, ◌<◌, ◌≤◌, List, arith, length, length-append, ap, ◌∙◌}
+use Rattle.std.proofs.Common.{List, length}
 use Rattle.tree_pool.specs.Pools.{PoolTree, IsGrown}
+use Rattle.tree_pool.proofs.PoolGrowth.{grown-length, more-columns}
 use Rattle.dives.specs.declared.program.Program.{Program}
 use Rattle.dives.specs.Parts.{IsProgram}
-
-pub grown-length : (old new : List PoolTree) → IsGrown old new → length old ≤ length new
-grown-length old new grown = let e = ap length grown.1 ∙ length-append old grown.0 in omega (arith, e)
-
--- what is below a number is below a greater one
-pub more-columns : (n m : ℕ) (cs : List ℕ) → n ≤ m → All (λ (c : ℕ). c < n) cs → All (λ (c : ℕ). c < m) cs
-more-columns n m cs le all k d lt = let h = all k d lt in omega (arith, h, le)
 
 pub grown-program : (old new : List PoolTree) (p : Program) → IsGrown old new → IsProgram (length old) p → IsProgram (length new) p
 grown-program old new p grown is = more-columns (length old) (length new) p.fixed (grown-length old new grown) is

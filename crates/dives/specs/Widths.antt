@@ -1,12 +1,8 @@
 -- Prices of the arcs of a graph.
-use Rattle.std.specs.Prelude.{ℕ, ℤ, pos, ◌≡◌, cond, Some, List, [], ◌∷◌, slice_get}
+use Rattle.std.specs.Prelude.{ℤ, pos, cond, Some, List, [], ◌∷◌}
 use Rattle.roster_model.specs.declared.grammar.ArcKey.{ArcKey}
 use Rattle.roster_model.specs.Arcs.{same_arc}
 use Rattle.roster_model.specs.Sums.{PriceView}
-
--- each arc stands at one place
-abbrev pub StandOnce : List ArcKey → Type 0
-StandOnce listed = (p q : ℕ) (a : ArcKey) → slice_get listed p ≡ Some a → slice_get listed q ≡ Some a → p ≡ q
 
 -- the price of an arc, 0 where it is not listed or has no price
 abbrev pub price_at : List ArcKey → List ℤ → ArcKey → ℤ

@@ -5,7 +5,8 @@ ghost use Rattle.roster_model.specs.Sums.{Within};
 ghost use Rattle.master_rows.specs.NodeRows.{AreRows};
 ghost use Rattle.parse_graph.specs.Graphs.{IsGraph};
 ghost use Rattle.cheapest_tree.specs.Pricers.{IsMadeFor};
-ghost use Rattle.tree_pool.specs.Pools.{IsPool, IsGrown, AreDaySteps};
+ghost use Rattle.tree_laws.specs.DaySteps.{AreDaySteps};
+ghost use Rattle.tree_pool.specs.Pools.{IsPool, IsGrown};
 ghost use Rattle.dives.specs.Parts.{IsProgram, IsQuote, IsDesk};
 
 use crate::desk::{Desk, Quote};

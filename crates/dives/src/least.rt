@@ -3,7 +3,8 @@ ghost use Rattle.roster_model.specs.Room.{most_uses};
 ghost use Rattle.roster_model.specs.SoundInstance.{IsSoundInstance};
 ghost use Rattle.parse_graph.specs.Graphs.{IsGraph};
 ghost use Rattle.cheapest_tree.specs.Pricers.{IsMadeFor};
-ghost use Rattle.tree_pool.specs.Pools.{IsPool, IsGrown, AreDaySteps};
+ghost use Rattle.tree_laws.specs.DaySteps.{AreDaySteps};
+ghost use Rattle.tree_pool.specs.Pools.{IsPool, IsGrown};
 
 use cheapest_tree::Pricer;
 use parse_graph::Graph;

@@ -1,14 +1,16 @@
 -- Two fractions over their least common denominator.
-use Rattle.std.proofs.Common.{◌≡◌, ℕ, ℤ, ◌<◌, arith, pos, negsuc, ◌+ℤ◌, ◌-ℤ◌, ◌*ℤ◌, neg_ℤ, ◌<ℤ◌, ◌≤ℤ◌, unsigned_abs, subst, sym, ap, ◌∙◌, Option, Some, None, refl}
+use Rattle.std.proofs.Common.{◌≡◌, ℕ, ℤ, arith, pos, ◌+ℤ◌, ◌-ℤ◌, ◌*ℤ◌, neg_ℤ, ◌<ℤ◌, ◌≤ℤ◌, unsigned_abs, subst, sym, ap, ◌∙◌, Option, Some, None}
 use Rattle.std.specs.Prelude.{IfNone}
 use Rattle.std.specs.Int.{IsGcd}
 use Rattle.std.proofs.lemmas.Int.{ints}
 use Rattle.std.proofs.lemmas.Nat.Gcd.{same_from_IsGcd}
 use Rattle.linear_programs.proofs.Ring.{dif, dif_up, dif_add, dif_mul, dif_same, mul_pos, pos_factor, same_factor, neg-*ℤ, *ℤ-assoc}
+use Rattle.linear_programs.proofs.Solutions.{natural}
 use borrow.Author.Differences.{up, down}
 use Rattle.fraction.specs.Range.{InRange}
 use Rattle.fraction.specs.Sum.{IsCommonForm, SumFits, DifferenceFits}
 use Rattle.fraction.proofs.LowestTerms.{gcd_positive}
+use Rattle.fraction.proofs.Products.{size_positive}
 
 -- a fact stands whatever the option is
 pub IfNone-any : {T : Type 0} (o : Option T) (P : Type 0) → P → IfNone o P
@@ -53,16 +55,8 @@ difference_ratio n d m e l r a x y hl hr ha h =
     sum_ratio n d (neg_ℤ m) e l (neg_ℤ r) a x y hl (neg-*ℤ r e ∙ ap neg_ℤ hr ∙ sym (neg-*ℤ m a)) ha h
     ∙ ap (λ (z : ℤ). (n *ℤ e +ℤ z) *ℤ y) (neg-*ℤ m d)
 
--- a natural for a whole number that is not negative
-natural : (z : ℤ) → pos 0 ≤ℤ z → pos (unsigned_abs z) ≡ z
-natural (pos n) h = refl
-natural (negsuc n) h = absurd (omega (arith, ints))
-
-size_of_positive : (z : ℤ) → pos 0 <ℤ z → 0 < unsigned_abs z
-size_of_positive z h = omega (arith, ints)
-
 pub factor_positive : (d e f : ℤ) → pos 0 <ℤ e → IsGcd (unsigned_abs d) (unsigned_abs e) (unsigned_abs f) → pos 0 ≤ℤ f → pos 0 <ℤ f
-factor_positive d e f he h s = let p = gcd_positive _ _ _ h (size_of_positive e he) in omega (arith, ints)
+factor_positive d e f he h s = let p = gcd_positive _ _ _ h (size_positive e he) in omega (arith, ints)
 
 module _ (n d m e f u v : ℤ) (hd : pos 0 <ℤ d) (he : pos 0 <ℤ e) (h : IsGcd (unsigned_abs d) (unsigned_abs e) (unsigned_abs f)) (s : pos 0 ≤ℤ f) (du : f *ℤ u ≡ d) (ev : f *ℤ v ≡ e) where
   pub form_is : (l r a : ℤ) → l ≡ n *ℤ v → r ≡ m *ℤ u → a ≡ u *ℤ e → InRange l → InRange r → InRange a → IsCommonForm n d m e l r a

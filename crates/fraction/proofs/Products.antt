@@ -18,7 +18,7 @@ swap4 a b c d = simp dif_up at (swap4' (up a) (down a) (up b) (down b) (up c) (d
 sizes : (a b c d : ℤ) → a *ℤ b ≡ c *ℤ d → unsigned_abs a * unsigned_abs b ≡ unsigned_abs c * unsigned_abs d
 sizes a b c d e = sym (unsigned_abs-mul a b) ∙ ap unsigned_abs e ∙ unsigned_abs-mul c d
 
-size_positive : (z : ℤ) → pos 0 <ℤ z → 0 < unsigned_abs z
+pub size_positive : (z : ℤ) → pos 0 <ℤ z → 0 < unsigned_abs z
 size_positive z h = omega (arith, ints)
 
 module _ (n d m e l c r b : ℤ) (first : IsFraction n d) (second : IsFraction m e) (left : IsFraction l c) (right : IsFraction r b) (le : l *ℤ e ≡ n *ℤ c) (re : r *ℤ d ≡ m *ℤ b) where

@@ -15,13 +15,11 @@ use Rattle.roster_model.specs.Trees.{Parts, done, letter, uses, span_length, Der
 use Rattle.roster_model.specs.Arcs.{arcs, parts_arcs}
 use Rattle.tree_laws.specs.Laws.{arc_at}
 use Rattle.tree_laws.proofs.Rules.{sound-rule}
+use Rattle.tree_laws.proofs.ListPushes.{same_head, same_tail}
 use Rattle.grammar_core.specs.Lists.{StepsTellTree, ArcsTellTree, ListsTellOneTree}
 use Rattle.grammar_core.specs.Walks.{has_arc, own_arcs}
 use Rattle.grammar_core.proofs.PartsLemmas.{own_arc}
-use Rattle.grammar_core.proofs.ToTreeLemmas.{nothing, or_false, first_key, same_first}
-
-same_rest : {X : Type 0} (x y : X) (xs ys : List X) → x ∷ xs ≡ y ∷ ys → xs ≡ ys
-same_rest x y xs ys e = cc
+use Rattle.grammar_core.proofs.ToTreeLemmas.{nothing, or_false, first_key}
 
 -- two uses of one rule number have one rule
 one_rule : (g : Grammar) (q r : ℕ) (a b : Rule) → q ≡ r → rule_at g q ≡ Some a → rule_at g r ≡ Some b → b ≡ a
@@ -37,8 +35,8 @@ same-steps g (Code c ∷ ss) i (letter d more) (letter d' more') xs ys h k e =
 same-steps g (Name x ∷ ss) i (uses q z inner more) (uses q' z' inner' more') xs ys h k e =
     let a : Step = record { rule = q; start = i; len = z } in
     let b : Step = record { rule = q'; start = i; len = z' } in
-    let head : a ≡ b = same_first a b ((steps i inner ++ steps (i + z) more) ++ xs) ((steps i inner' ++ steps (i + z') more') ++ ys) e in
-    let tail = same_rest a b ((steps i inner ++ steps (i + z) more) ++ xs) ((steps i inner' ++ steps (i + z') more') ++ ys) e in
+    let head : a ≡ b = same_head a b ((steps i inner ++ steps (i + z) more) ++ xs) ((steps i inner' ++ steps (i + z') more') ++ ys) e in
+    let tail = same_tail a b ((steps i inner ++ steps (i + z) more) ++ xs) ((steps i inner' ++ steps (i + z') more') ++ ys) e in
     let rules : q ≡ q' = ap (λ (s : Step). s.rule) head in
     let lens : z ≡ z' = ap (λ (s : Step). s.len) head in
     let same : k.0 ≡ h.0 = one_rule g q q' h.0 k.0 rules h.1 k.1 in
@@ -63,7 +61,7 @@ same-steps g (Name x ∷ ss) i (uses q z inner more) (letter d more') xs ys h k 
 
 -- the arcs of two first parts tell their lengths, and what comes after is the same
 same_own : (b : Bool) (a c : ArcKey) (xs ys : List ArcKey) → cond b (a ∷ []) [] ++ xs ≡ cond b (c ∷ []) [] ++ ys → (b ≡ true → a ≡ c) × (xs ≡ ys)
-same_own true a c xs ys e = (λ h. same_first a c xs ys e, same_rest a c xs ys e)
+same_own true a c xs ys e = (λ h. same_head a c xs ys e, same_tail a c xs ys e)
 same_own false a c xs ys e = (λ h. cc, e)
 
 no_more : (ss : List Sym) → length ss ≤ 0 → ss ≡ []
@@ -116,7 +114,7 @@ same-arcs g sound (Name x ∷ ss) r k i l (uses q z inner more) (uses q' z' inne
     let firsts : arc_at q 0 i z key.0 ∷ (key.1 ++ (parts_arcs r (suc k) (i + z) more ++ xs)) ≡ arc_at q' 0 i z' key'.0 ∷ (key'.1 ++ (parts_arcs r (suc k) (i + z') more' ++ ys)) =
     ap (λ zs. zs ++ (parts_arcs r (suc k) (i + z) more ++ xs)) (sym key.2) ∙ rest ∙ ap (λ zs. zs ++ (parts_arcs r (suc k) (i + z') more' ++ ys)) key'.2 in
     let rules : q ≡ q' = ap (λ (a : ArcKey). a.rule)
-    (same_first (arc_at q 0 i z key.0) (arc_at q' 0 i z' key'.0) (key.1 ++ (parts_arcs r (suc k) (i + z) more ++ xs)) (key'.1 ++ (parts_arcs r (suc k) (i + z') more' ++ ys)) firsts) in
+    (same_head (arc_at q 0 i z key.0) (arc_at q' 0 i z' key'.0) (key.1 ++ (parts_arcs r (suc k) (i + z) more ++ xs)) (key'.1 ++ (parts_arcs r (suc k) (i + z') more' ++ ys)) firsts) in
     let same : j.0.0 ≡ h.0.0 = one_rule g q q' h.0.0 j.0.0 rules h.0.1 j.0.1 in
     let inside = same-arcs g sound h.0.0.right q 0 i z inner inner' (parts_arcs r (suc k) (i + z) more ++ xs) (parts_arcs r (suc k) (i + z') more' ++ ys) (h.0.6, h.0.5)
     (subst (λ (w : Rule). Derive g w.right i inner') same j.0.6, j.0.5 ∙ sym lens) (rest ∙ ap (λ n. parts_arcs n 0 i inner' ++ (parts_arcs r (suc k) (i + z') more' ++ ys)) (sym rules)) in
@@ -148,7 +146,7 @@ pub steps_tell : StepsTellTree
 steps_tell g i j t u a b e =
     let p = root_step g a.name i a.len t a.on in
     let q = root_step g b.name j b.len u b.on in
-    let head : p.0 ≡ q.0 = same_first p.0 q.0 p.1 q.1 (sym p.3 ∙ e ∙ q.3) in
+    let head : p.0 ≡ q.0 = same_head p.0 q.0 p.1 q.1 (sym p.3 ∙ e ∙ q.3) in
     let starts : j ≡ i = sym q.4 ∙ ap (λ (s : Step). s.start) (sym head) ∙ p.4 in
     let rules : q.2 ≡ p.2 = one_rule g p.0.rule q.0.rule p.2 q.2 (ap (λ (s : Step). s.rule) head) p.5 q.5 in
     let names : b.name ≡ a.name = sym q.6 ∙ ap (λ (r : Rule). r.left) rules ∙ p.6 in
@@ -179,7 +177,7 @@ pub arcs_tell : ArcsTellTree
 arcs_tell g i j t u sound a b e =
     let p = root_key g sound a.name i a.len t a.on in
     let q = root_key g sound b.name j b.len u b.on in
-    let head : p.0 ≡ q.0 = same_first p.0 q.0 p.1 q.1 (sym p.3 ∙ e ∙ q.3) in
+    let head : p.0 ≡ q.0 = same_head p.0 q.0 p.1 q.1 (sym p.3 ∙ e ∙ q.3) in
     let starts : j ≡ i = sym q.4 ∙ ap (λ (k : ArcKey). k.start) (sym head) ∙ p.4 in
     let lens : b.len ≡ a.len = sym q.5 ∙ ap (λ (k : ArcKey). k.len) (sym head) ∙ p.5 in
     let rules : q.2 ≡ p.2 = one_rule g p.0.rule q.0.rule p.2 q.2 (ap (λ (k : ArcKey). k.rule) head) p.6 q.6 in

@@ -5,8 +5,9 @@ use Rattle.std.proofs.lemmas.Option.{slice_get_within}
 use Rattle.roster_model.specs.declared.grammar.Grammar.{Grammar}
 use Rattle.roster_model.specs.UnitRules.{IsRanked}
 use Rattle.grammar_core.specs.Items.{IsOrder}
-use Rattle.grammar_core.specs.Adding.{IsPlaced, IsDone, AreOrdered}
+use Rattle.grammar_core.specs.Adding.{AreOrdered}
 use Rattle.tree_laws.proofs.ListPushes.{push-kept, push-here, push-cases}
+use Rattle.tree_laws.specs.RankOrder.{IsPlaced, IsDone}
 
 -- no name yet
 pub order-init : (ranks : List ℕ) (names : ℕ) (done : ℕ → Type 0) → ((x : ℕ) → x < names → done x → ⊥) → AreOrdered ranks names done []

@@ -14,6 +14,7 @@ use Rattle.roster_model.specs.Trees.{Parts, done, letter, uses, Derive, On, step
 use Rattle.roster_model.specs.Arcs.{arcs, parts_arcs}
 use Rattle.tree_laws.specs.Laws.{arc_at}
 use Rattle.tree_laws.proofs.Rules.{sound-rule}
+use Rattle.tree_laws.proofs.ListPushes.{same_head, same_tail}
 use Rattle.grammar_core.specs.declared.suffix.Suffix.{Suffix}
 use Rattle.grammar_core.specs.Walks.{own_arcs, next_len, AsksTree, AsksParts, TurnsTree, TurnsParts}
 use Rattle.grammar_core.proofs.PartsLemmas.{Split, split}
@@ -139,12 +140,6 @@ module _ (g : Grammar) (rule : Rule) (x : Suffix) (s : Sym) (lt : x.from < lengt
 -- the rule use of a step, as its whole right side
 abbrev pub whole : Step → Suffix
 whole step = record { rule = step.rule; from = 0; start = step.start; len = step.len }
-
-same_head : {X : Type 0} (x y : X) (xs ys : List X) → x ∷ xs ≡ y ∷ ys → x ≡ y
-same_head x y xs ys e = cc
-
-same_tail : {X : Type 0} (x y : X) (xs ys : List X) → x ∷ xs ≡ y ∷ ys → xs ≡ ys
-same_tail x y xs ys e = cc
 
 module _ (g : Grammar) (sound : IsSound g) (rule : Rule) (step : Step) (at : rule_at g step.rule ≡ Some rule) where
   -- a tree of a name is a rule use and the parts of its right side

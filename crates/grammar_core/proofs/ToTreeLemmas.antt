@@ -15,6 +15,7 @@ use Rattle.roster_model.specs.Trees.{Parts, done, letter, uses, Derive, On, step
 use Rattle.roster_model.specs.Arcs.{arcs, parts_arcs}
 use Rattle.tree_laws.specs.Laws.{arc_at}
 use Rattle.tree_laws.proofs.Rules.{sound-rule}
+use Rattle.tree_laws.proofs.ListPushes.{same_head}
 use Rattle.grammar_core.specs.declared.suffix.Suffix.{Suffix}
 use Rattle.grammar_core.specs.Walks.{has_arc, AsksTree, AsksParts, TurnsTree, TurnsParts}
 use Rattle.grammar_core.proofs.PartsLemmas.{Split}
@@ -180,9 +181,6 @@ first_key g q i z (Name c ∷ ss) (uses r n own rest) some h =
 first_key g q i z (Name c ∷ ss) done some h = absurd h.0
 first_key g q i z (Name c ∷ ss) (letter d rest) some h = absurd h.0
 
-pub same_first : {X : Type 0} (x y : X) (xs ys : List X) → x ∷ xs ≡ y ∷ ys → x ≡ y
-same_first x y xs ys e = cc
-
 module _ (g : Grammar) (sound : IsSound g) (rule : Rule) (key : ArcKey) (at : rule_at g key.rule ≡ Some rule) where
   -- a tree of a name is a rule use and the parts of its right side
   use_inner : (n i l : ℕ) (t : Parts) (xs rest ys : List ArcKey) → On g (Name n ∷ []) i l t → xs ≡ arcs i t ++ rest → xs ≡ key ∷ ys
@@ -192,7 +190,7 @@ module _ (g : Grammar) (sound : IsSound g) (rule : Rule) (key : ArcKey) (at : ru
       let some = (sound-rule g sound q h.0.0 h.0.1).some in
       let k = first_key g q i z h.0.0.right inner some (h.0.6, h.0.5) in
       let joined : key ∷ ys ≡ arc_at q 0 i z k.0 ∷ (k.1 ++ rest) = sym f ∙ e ∙ ap (λ zs. zs ++ rest) k.2 in
-      let head : key ≡ arc_at q 0 i z k.0 = same_first key (arc_at q 0 i z k.0) ys (k.1 ++ rest) joined in
+      let head : key ≡ arc_at q 0 i z k.0 = same_head key (arc_at q 0 i z k.0) ys (k.1 ++ rest) joined in
       let starts : key.start ≡ i = ap (λ (w : ArcKey). w.start) head in
       let lens : key.len ≡ z = ap (λ (w : ArcKey). w.len) head in
       let rules : key.rule ≡ q = ap (λ (w : ArcKey). w.rule) head in

@@ -41,14 +41,6 @@ pub record ItemsOfFirst (g : Grammar) (n : ℕ) (items : List Item) : Type 0 whe
   pub order : (p q : ℕ) (a b : Item) → p < q → slice_get items p ≡ Some a → slice_get items q ≡ Some b
       → ItemBefore a b
 
--- a name of a higher rank, or one of this rank below x
-abbrev pub IsPlaced : List ℕ → ℕ → ℕ → ℕ → Type 0
-IsPlaced ranks rank x y = (rank < slice_index ranks y) ⊎ ((slice_index ranks y ≡ rank) × (y < x))
-
--- a name that is done after so many turns over n ranks, the highest first
-abbrev pub IsDone : List ℕ → ℕ → ℕ → ℕ → Type 0
-IsDone ranks n turn y = n ≤ slice_index ranks y + turn
-
 -- the names that are done, of so many names, stand in order, each once, those of a higher rank first
 pub record AreOrdered (ranks : List ℕ) (names : ℕ) (done : ℕ → Type 0) (order : List ℕ) : Type 0 where
   pub each : (p x : ℕ) → slice_get order p ≡ Some x → (x < names) × done x

@@ -1,7 +1,8 @@
 ghost use Rattle.std.specs.Prelude.{ℕ, ◌≡◌, ◌<◌, ◌≤◌, [], length, slice_index, IfOk, OnOk};
 ghost use Rattle.roster_model.specs.Sound.{IsSound};
 ghost use Rattle.grammar_core.specs.Items.{IsOrder};
-ghost use Rattle.grammar_core.specs.Adding.{AreOrdered, IsPlaced, IsDone};
+ghost use Rattle.tree_laws.specs.RankOrder.{IsPlaced, IsDone};
+ghost use Rattle.grammar_core.specs.Adding.{AreOrdered};
 
 use roster_model::{Grammar, List, Memory, unit_ranks};
 use std::alloc::Global;

@@ -1,23 +1,11 @@
 -- No box has more points than all counts together.
-use Rattle.std.proofs.Common.{◌≡◌, ℕ, zero, suc, arith, ◌+◌, ◌*◌, ◌≤◌, Bool, true, false, cond, List, [], ◌∷◌, length}
+use Rattle.std.proofs.Common.{◌≡◌, ℕ, zero, suc, arith, ◌+◌, ◌*◌, ◌≤◌, List, [], ◌∷◌, length}
 use Rattle.std.specs.Prelude.{◌^◌}
 use Rattle.std.proofs.Math.Nat.{pow-succ', pow-zero}
 use Rattle.roster_model.specs.declared.grammar.ArcKey.{ArcKey}
 use Rattle.roster_model.specs.declared.instance.Cut.{Cut}
-use Rattle.roster_model.specs.declared.instance.Side.{Side}
-use Rattle.roster_model.specs.declared.instance.Side.TheVariants.{Low, High}
-use Rattle.roster_model.specs.Arcs.{same_arc}
-use Rattle.roster_model.specs.Cuts.{hi, at_most}
 use Rattle.growing_laws.specs.Boxes.{room, size}
-
-hi_le : (most : ℕ) (cuts : List Cut) (a : ArcKey) → hi most cuts a ≤ most
-hi_le most [] a = omega arith
-hi_le most (c ∷ cuts) a = by (same_arc c.arc a) c.side c.b (hi_le most cuts a)
-  where
-    by : (s : Bool) (side : Side) (b : ℕ) → hi most cuts a ≤ most → cond s (at_most side b (hi most cuts a)) (hi most cuts a) ≤ most
-    by false side b h = h
-    by true Low b h = omega (arith, h)
-    by true High b h = h
+use Rattle.arc_laws.proofs.PathBounds.{hi_le}
 
 room_le : (most : ℕ) (cuts : List Cut) (a : ArcKey) → room most cuts a ≤ most + 1
 room_le most cuts a = omega (arith, hi_le most cuts a)

@@ -1,44 +1,17 @@
 -- A split halves the points of a box, so a tree of splits has no more leaves than points.
-use Rattle.std.proofs.Common.{◌≡◌, ℕ, zero, suc, arith, ◌+◌, ◌*◌, ◌≤◌, ◌<◌, max, Bool, true, false, cond, List, [], ◌∷◌, ◌++◌, refl, ap, subst, ◌∙◌, inl, inr}
+use Rattle.std.proofs.Common.{◌≡◌, ℕ, zero, suc, arith, ◌+◌, ◌*◌, ◌≤◌, ◌<◌, max, Bool, true, false, cond, List, [], ◌∷◌, ◌++◌, refl, subst, ◌∙◌, inl, inr}
 use Rattle.std.specs.Prelude.{min}
 use Rattle.roster_model.specs.declared.grammar.ArcKey.{ArcKey}
 use Rattle.roster_model.specs.declared.instance.Cut.{Cut}
-use Rattle.roster_model.specs.declared.instance.Side.{Side}
-use Rattle.roster_model.specs.declared.instance.Side.TheVariants.{Low, High}
 use Rattle.roster_model.specs.Arcs.{same_arc}
-use Rattle.roster_model.specs.Cuts.{lo, hi, at_least, at_most}
+use Rattle.roster_model.specs.Cuts.{lo, hi}
 use Rattle.roster_model.specs.Folds.{count, In}
 use Rattle.arc_laws.proofs.SameArc.{Told, arc_tells}
+use Rattle.arc_laws.proofs.PathBounds.{lo_more, hi_more}
 use Rattle.certificates.specs.Nodes.{low_cut, high_cut}
 use Rattle.growing_laws.specs.Grown.{tip, fork, fresh, valued, fixed, SomeTip, busy, raised}
 use Rattle.growing_laws.specs.Boxes.{room, size, IsOpenBox, IsOpenLeaf}
 use Rattle.growing_laws.specs.Laws.{FewNodes, IsWithin}
-
-abbrev least_of : Cut → ArcKey → ℕ
-least_of c a = cond (same_arc c.arc a) (at_least c.side c.b) 0
-
-lo_more : (cuts : List Cut) (c : Cut) (a : ArcKey) → lo (cuts ++ c ∷ []) a ≡ max (lo cuts a) (least_of c a)
-lo_more [] c a = swap (least_of c a)
-  where
-    swap : (n : ℕ) → max n 0 ≡ max 0 n
-    swap n = grind arith
-lo_more (d ∷ cuts) c a = join (least_of d a) (lo cuts a) (least_of c a) _ (lo_more cuts c a)
-  where
-    join : (x y z w : ℕ) → w ≡ max y z → max x w ≡ max (max x y) z
-    join x y z w e = grind arith
-
-hi_more : (most : ℕ) (cuts : List Cut) (c : Cut) (a : ArcKey) → hi most (cuts ++ c ∷ []) a ≡ cond (same_arc c.arc a) (at_most c.side c.b (hi most cuts a)) (hi most cuts a)
-hi_more most [] c a = refl
-hi_more most (d ∷ cuts) c a = by (same_arc d.arc a) (same_arc c.arc a) d.side c.side d.b c.b _ (hi most cuts a) (hi_more most cuts c a)
-  where
-    by : (s t : Bool) (x y : Side) (p q m n : ℕ) → m ≡ cond t (at_most y q n) n
-        → cond s (at_most x p m) m ≡ cond t (at_most y q (cond s (at_most x p n) n)) (cond s (at_most x p n) n)
-    by false t x y p q m n e = e
-    by true false x y p q m n e = ap (λ (k : ℕ). at_most x p k) e
-    by true true Low Low p q m n e = grind arith
-    by true true Low High p q m n e = grind arith
-    by true true High Low p q m n e = grind arith
-    by true true High High p q m n e = e
 
 module _ (most : ℕ) (cuts : List Cut) (a : ArcKey) (b : ℕ) where
   abbrev below : List Cut

@@ -5,10 +5,10 @@ use Rattle.std.proofs.lemmas.Bool.{eqb-true, eq-eqb}
 use Rattle.roster_model.specs.declared.grammar.ArcKey.{ArcKey}
 use Rattle.roster_model.specs.declared.instance.Cut.{Cut}
 use Rattle.roster_model.specs.declared.instance.Instance.{Instance}
-use Rattle.arc_laws.proofs.FoldsLemmas.{Each-append}
+use Rattle.roster_model.proofs.EachLemmas.{Each-append}
 use Rattle.certificates.specs.Nodes.{low_cut, high_cut}
-use Rattle.certificate_laws.specs.Shown.{Shows, IsSplitValue}
-use Rattle.growing_laws.specs.Grown.{joined, Grown, tip, fork, Leaf, fresh, valued, fixed, Own, OnTips, OnForks, SomeTip, IsRightLeaf, IsRightOwn, IsLeastBound, raised, leaf_value, leaf_proof, tip_bound, prices_of, value_of, shown}
+use Rattle.certificate_laws.specs.Shown.{Shows, IsSplitValue, joined}
+use Rattle.growing_laws.specs.Grown.{Grown, tip, fork, Leaf, fresh, valued, fixed, Own, OnTips, OnForks, SomeTip, IsRightLeaf, IsRightOwn, IsLeastBound, raised, leaf_value, leaf_proof, tip_bound, prices_of, value_of, shown}
 use Rattle.growing_laws.specs.Laws.{GrownShows, LeastBound, PutTips, PutForks, PutRises, GrownVisits}
 
 abbrev pub TipFact : Type 1

@@ -5,7 +5,8 @@ use Rattle.std.proofs.lemmas.Bool.{eqb-true, eq-eqb}
 use Rattle.roster_model.specs.Folds.{count}
 use Rattle.arc_laws.proofs.FoldsLemmas.{count-append}
 use Rattle.certificates.specs.Nodes.{preorder, low_cut, high_cut}
-use Rattle.growing_laws.specs.Grown.{tip, fork, fresh, valued, fixed, Own, raised, leaf_busy, proof_of, put, times, busy, missed, unpriced, is_processed, is_unpriced}
+use Rattle.certificates.specs.Kinds.{is_processed, is_unpriced}
+use Rattle.growing_laws.specs.Grown.{tip, fork, fresh, valued, fixed, Own, raised, leaf_busy, proof_of, put, times, busy, missed, unpriced}
 use Rattle.growing_laws.specs.Laws.{PutTimes, PutBusy, PutMissed, GrownCounts}
 use Rattle.growing_laws.proofs.GrownLemmas.{told}
 

@@ -1,8 +1,9 @@
 -- The entries of a queue against the open leaves.
-use Rattle.std.proofs.Common.{◌≡◌, arith, ◌+◌, ◌*◌, ◌≤◌, true, false, cond, List, [], ◌∷◌, ◌++◌, refl, ◌⊎◌, inl, inr}
+use Rattle.std.proofs.Common.{◌≡◌, arith, ◌+◌, ◌*◌, ◌≤◌, true, false, cond, [], ◌∷◌, ◌++◌, refl, ◌⊎◌, inl, inr}
 use Rattle.std.specs.Prelude.{◌≢◌, nat_eq}
-use Rattle.roster_model.specs.Folds.{count, Each}
-use Rattle.arc_laws.proofs.FoldsLemmas.{count-append, Each-append, Each-same}
+use Rattle.roster_model.specs.Folds.{count}
+use Rattle.roster_model.proofs.EachLemmas.{Each-weaker, Each-append, each_parts}
+use Rattle.arc_laws.proofs.FoldsLemmas.{count-append}
 use Rattle.certificates.specs.Nodes.{low_cut, high_cut}
 use Rattle.growing_laws.specs.Grown.{tip, fork, fresh, valued, fixed, raised, put}
 use Rattle.growing_laws.specs.Opens.{Entry, leaf_entries, opens, IsEntryOf, PutOpens, OpensSound, OpensLeast}
@@ -28,17 +29,13 @@ opens-sound above cuts (tip k (valued o)) = ((refl, tt, refl), tt)
 opens-sound above cuts (tip k (fixed v)) = tt
 opens-sound above cuts (fork k a b own low high) =
     Each-append (λ e. IsEntryOf e above cuts (fork k a b own low high)) (opens (raised above own) low) (opens (raised above own) high)
-    (Each-same (λ e. IsEntryOf e (raised above own) (cuts ++ low_cut a b ∷ []) low) (λ e. IsEntryOf e above cuts (fork k a b own low high)) (opens (raised above own) low) (λ e h. inl h) (opens-sound (raised above own) (cuts ++ low_cut a b ∷ []) low))
-    (Each-same (λ e. IsEntryOf e (raised above own) (cuts ++ high_cut a b ∷ []) high) (λ e. IsEntryOf e above cuts (fork k a b own low high)) (opens (raised above own) high) (λ e h. inr h) (opens-sound (raised above own) (cuts ++ high_cut a b ∷ []) high))
-
-each-left : (P : Entry → Type 0) (xs ys : List Entry) → Each P (xs ++ ys) → Each P xs × Each P ys
-each-left P [] ys h = (tt, h)
-each-left P (x ∷ xs) ys h = let r = each-left P xs ys h.1 in ((h.0, r.0), r.1)
+    (Each-weaker (λ e. IsEntryOf e (raised above own) (cuts ++ low_cut a b ∷ []) low) (λ e. IsEntryOf e above cuts (fork k a b own low high)) (opens (raised above own) low) (λ e h. inl h) (opens-sound (raised above own) (cuts ++ low_cut a b ∷ []) low))
+    (Each-weaker (λ e. IsEntryOf e (raised above own) (cuts ++ high_cut a b ∷ []) high) (λ e. IsEntryOf e above cuts (fork k a b own low high)) (opens (raised above own) high) (λ e h. inr h) (opens-sound (raised above own) (cuts ++ high_cut a b ∷ []) high))
 
 pub opens-least : OpensLeast
 opens-least v above cuts (tip k fresh) h = λ o. h.0
 opens-least v above cuts (tip k (valued w)) h = λ o. h.0
 opens-least v above cuts (tip k (fixed w)) h = λ o. absurd o
 opens-least v above cuts (fork k a b own low high) h =
-    let r = each-left (λ (e : Entry). v ≤ e.bound) (opens (raised above own) low) (opens (raised above own) high) h in
+    let r = each_parts (λ (e : Entry). v ≤ e.bound) (opens (raised above own) low) (opens (raised above own) high) h in
     (opens-least v (raised above own) (cuts ++ low_cut a b ∷ []) low r.0, opens-least v (raised above own) (cuts ++ high_cut a b ∷ []) high r.1)

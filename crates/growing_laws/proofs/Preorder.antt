@@ -5,31 +5,15 @@ use Rattle.std.proofs.lemmas.List.{append-nil, length-set}
 use Rattle.std.proofs.lemmas.Bool.{eq-eqb}
 use Rattle.roster_model.specs.declared.grammar.ArcKey.{ArcKey}
 use Rattle.roster_model.specs.Folds.{count, In, Each}
-use Rattle.arc_laws.proofs.FoldsLemmas.{count-append, Each-at}
+use Rattle.roster_model.proofs.EachLemmas.{Each-at}
+use Rattle.arc_laws.proofs.FoldsLemmas.{count-append}
+use Rattle.arc_laws.proofs.ListEnds.{snoc-same, no-snoc}
 use Rattle.certificates.specs.declared.cert.Node.{Node}
 use Rattle.certificates.specs.Nodes.{preorder}
 use Rattle.growing_laws.specs.declared.seat.Seat.{Seat}
 use Rattle.growing_laws.specs.Grown.{Grown, tip, fork, Leaf, fresh, valued, fixed, Own, raised, numbers, proof_of}
 use Rattle.growing_laws.specs.Seats.{number, leaf_node, IsLeafSeat, IsForkSeat, AreSeated, all_nodes, all_numbers, halves_of, IsHead, seat_at, HoldTree, AreOpen, IsListing, pushed_halves, HasHalves}
 use Rattle.growing_laws.proofs.SeatsLemmas.{in-left, in-right, number-in, give-nodes}
-
-snoc-same : (xs ys : List ℕ) (a b : ℕ) → xs ++ a ∷ [] ≡ ys ++ b ∷ [] → (xs ≡ ys) × (a ≡ b)
-snoc-same [] [] a b e = (refl, head-same a b e)
-  where
-    head-same : (a b : ℕ) → ◌≡◌ {A = List ℕ} (a ∷ []) (b ∷ []) → a ≡ b
-    head-same a b e = cc
-snoc-same [] (y ∷ ys) a b e = absurd (omega (arith, ap length e, length-append ys (b ∷ [])))
-snoc-same (x ∷ xs) [] a b e = absurd (omega (arith, ap length e, length-append xs (a ∷ [])))
-snoc-same (x ∷ xs) (y ∷ ys) a b e = join (parts x y (xs ++ a ∷ []) (ys ++ b ∷ []) e) (snoc-same xs ys a b (parts x y (xs ++ a ∷ []) (ys ++ b ∷ []) e).1)
-  where
-    parts : (x y : ℕ) (us vs : List ℕ) → ◌≡◌ {A = List ℕ} (x ∷ us) (y ∷ vs) → (x ≡ y) × (us ≡ vs)
-    parts x y us vs e = (cc, cc)
-
-    join : (x ≡ y) × (xs ++ a ∷ [] ≡ ys ++ b ∷ []) → (xs ≡ ys) × (a ≡ b) → (x ∷ xs ≡ y ∷ ys) × (a ≡ b)
-    join p q = let f = p.0 in let g = q.0 in (cc, q.1)
-
-no-snoc : (xs : List ℕ) (a : ℕ) → xs ++ a ∷ [] ≡ [] → ⊥
-no-snoc xs a e = omega (arith, ap length e, length-append xs (a ∷ []))
 
 -- a number that is not counted is none of the list
 apart : (k j : ℕ) (xs : List ℕ) → count (nat_eq k) xs ≡ 0 → In j xs → j ≢ k

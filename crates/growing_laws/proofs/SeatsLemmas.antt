@@ -26,7 +26,7 @@ number-in (tip k l) = inl refl
 number-in (fork k a b own low high) = inl refl
 
 -- the top of a tree keeps its number
-number-put : (n : ℕ) (new t : Grown) → number new ≡ n → number (put n new t) ≡ number t
+pub number-put : (n : ℕ) (new t : Grown) → number new ≡ n → number (put n new t) ≡ number t
 number-put n new (fork k a b own low high) e = refl
 number-put n new (tip k l) e = by (told k n)
   where

@@ -19,14 +19,14 @@ use Rattle.growing_laws.proofs.BoxesLemmas.{few-nodes}
 use Rattle.bound_laws.proofs.BaseCuts.{base-open}
 use Rattle.growing_laws.proofs.Base.{size_le}
 
-tips-both : (P Q R : TipFact) → ((up : ℕ) (path : List Cut) (k : ℕ) (l : Leaf) → P up path k l → Q up path k l → R up path k l) → (above : ℕ) (cuts : List Cut) (t : Grown)
+pub tips-both : (P Q R : TipFact) → ((up : ℕ) (path : List Cut) (k : ℕ) (l : Leaf) → P up path k l → Q up path k l → R up path k l) → (above : ℕ) (cuts : List Cut) (t : Grown)
     → OnTips P above cuts t → OnTips Q above cuts t → OnTips R above cuts t
 tips-both P Q R f above cuts (tip k l) p q = f above cuts k l p q
 tips-both P Q R f above cuts (fork k a b own low high) p q =
     (tips-both P Q R f (raised above own) (cuts ++ low_cut a b ∷ []) low p.0 q.0, tips-both P Q R f (raised above own) (cuts ++ high_cut a b ∷ []) high p.1 q.1)
 
 -- a fact of some leaf that does not speak of it
-some-fact : (C : Type 0) (above : ℕ) (cuts : List Cut) (t : Grown) → SomeTip (λ up path k l. C) above cuts t → C
+pub some-fact : (C : Type 0) (above : ℕ) (cuts : List Cut) (t : Grown) → SomeTip (λ up path k l. C) above cuts t → C
 some-fact C above cuts (tip k l) h = h
 some-fact C above cuts (fork k a b own low high) (inl h) = some-fact C (raised above own) (cuts ++ low_cut a b ∷ []) low h
 some-fact C above cuts (fork k a b own low high) (inr h) = some-fact C (raised above own) (cuts ++ high_cut a b ∷ []) high h

@@ -1,20 +1,14 @@
 -- The tree of a search while it grows: each leaf has a number, and what prices or counts show.
-use Rattle.std.specs.Prelude.{ℕ, ◌≡◌, ◌≤◌, ◌+◌, ◌⊎◌, max, min, cond, nat_eq, Bool, true, false, Option, None, Some, List, [], ◌∷◌, ◌++◌}
+use Rattle.std.specs.Prelude.{ℕ, ◌≡◌, ◌≤◌, ◌+◌, ◌⊎◌, max, min, cond, nat_eq, Option, None, Some, List, [], ◌∷◌, ◌++◌}
 use Rattle.roster_model.specs.declared.grammar.ArcKey.{ArcKey}
 use Rattle.roster_model.specs.declared.instance.Cut.{Cut}
 use Rattle.roster_model.specs.declared.instance.Instance.{Instance}
 use Rattle.roster_model.specs.declared.instance.Prices.{Prices}
-use Rattle.certificates.specs.declared.cert.Node.{Node}
-use Rattle.certificates.specs.declared.cert.Node.TheVariants.{Split, Priced, Pinned, Bare}
 use Rattle.certificates.specs.Nodes as nodes
 use Rattle.certificates.specs.Nodes.{Proof, low_cut, high_cut}
 use Rattle.bound_laws.specs.Pinned.{IsPinnedValue}
 use Rattle.bound_laws.specs.Priced.{IsPricedValue}
-
--- the lesser value of the halves of a split, raised to its own value where it has one
-abbrev pub joined : Option ℕ → ℕ → ℕ
-joined None lesser = lesser
-joined (Some own) lesser = max own lesser
+use Rattle.certificate_laws.specs.Shown.{joined}
 
 -- prices and what they show
 pub record Own : Type 0 where
@@ -138,16 +132,3 @@ unpriced (Some o) = 0
 abbrev pub missed : Grown → ℕ
 missed (tip k l) = 0
 missed (fork k a b own low high) = unpriced own + missed low + missed high
-
-abbrev pub is_processed : Node → Bool
-is_processed (Split a b own) = true
-is_processed (Priced p) = true
-is_processed Pinned = true
-is_processed Bare = false
-
-abbrev pub is_unpriced : Node → Bool
-is_unpriced (Split a b None) = true
-is_unpriced (Split a b (Some p)) = false
-is_unpriced (Priced p) = false
-is_unpriced Pinned = false
-is_unpriced Bare = false

@@ -7,8 +7,9 @@ use Rattle.roster_model.specs.Arcs.{same_arc}
 use Rattle.roster_model.specs.Folds.{count, Each, In}
 use Rattle.certificates.specs.declared.cert.Node.TheVariants.{Split}
 use Rattle.certificates.specs.Nodes.{preorder, Visit, visits}
+use Rattle.certificates.specs.Kinds.{is_processed, is_unpriced}
 use Rattle.certificate_laws.specs.Shown.{Shows}
-use Rattle.growing_laws.specs.Grown.{Grown, Leaf, Own, OnTips, OnForks, SomeTip, IsRightLeaf, IsRightOwn, IsLeastBound, leaf_value, proof_of, prices_of, leaf_proof, shown, put, times, leaf_busy, busy, missed, is_processed, is_unpriced}
+use Rattle.growing_laws.specs.Grown.{Grown, Leaf, Own, OnTips, OnForks, SomeTip, IsRightLeaf, IsRightOwn, IsLeastBound, leaf_value, proof_of, prices_of, leaf_proof, shown, put, times, leaf_busy, busy, missed}
 use Rattle.growing_laws.specs.Boxes.{size, IsOpenBox, IsHalving, IsLooseLeaf, IsOpenLeaf}
 
 -- a tree with right values shows what it says

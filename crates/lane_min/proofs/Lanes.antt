@@ -16,7 +16,7 @@ matched_few byte x = one (eqb x byte)
 fits : (a b : ℕ) → a < 2 ^ 32 - 1 → b ≤ 1 → (a + b) % 2 ^ 32 ≡ a + b
 fits a b l m = omega arith
 
-place : (at k : ℕ) → at ≤ k → at + (k - at) ≡ k
+pub place : (at k : ℕ) → at ≤ k → at + (k - at) ≡ k
 place at k l = omega arith
 
 module _ (counts word : List ℕ) (byte at : ℕ) where

@@ -57,9 +57,6 @@ add_bits a b = (a + b) % 2 ^ 64
 abbrev pub less_bits : ℕ → ℕ → Bool
 less_bits a b = lt_z (to_z w64 a) (to_z w64 b)
 
-place : (at k : ℕ) → at ≤ k → at + (k - at) ≡ k
-place at k l = omega arith
-
 -- ---- the sums of one step
 module _ (x y : List ℤ) (at : ℕ) where
   abbrev pub lane_bits : List ℕ

@@ -28,14 +28,14 @@ abbrev pub others : (ℕ → ℕ) → ℕ → ℕ → ℕ
 others e zero r = 1
 others e (suc n) r = cond (nat_eq r n) (units e n) (e n * others e n r)
 
-units_positive : (e : ℕ → ℕ) (n : ℕ) → ((r : ℕ) → r < n → 0 < e r) → 0 < units e n
+pub units_positive : (e : ℕ → ℕ) (n : ℕ) → ((r : ℕ) → r < n → 0 < e r) → 0 < units e n
 units_positive e zero h = omega arith
 units_positive e (suc n) h =
     let a = h n (omega arith) in
     let b = units_positive e n (λ r k. h r (omega arith)) in
     omega (arith, mul-le 1 1 (e n) (units e n) a b)
 
-others-times : (e : ℕ → ℕ) (n r : ℕ) → r < n → others e n r * e r ≡ units e n
+pub others-times : (e : ℕ → ℕ) (n r : ℕ) → r < n → others e n r * e r ≡ units e n
 others-times e zero r h = absurd (omega arith)
 others-times e (suc n) r h = by (λ l. others-times e n r l) (cases_eq r n)
   where

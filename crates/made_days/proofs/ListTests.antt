@@ -1,18 +1,13 @@
 -- What holds of each item of a list, by a test that computes.
-use Rattle.std.proofs.Common.{◌≡◌, ◌≢◌, ℕ, zero, suc, ◌<◌, ◌+◌, Bool, true, not, ◌&&◌, eqb, List, [], ◌∷◌, Some, max, All, inl, inr, subst, arith}
+use Rattle.std.proofs.Common.{◌≡◌, ◌≢◌, ℕ, zero, suc, ◌<◌, ◌+◌, Bool, true, not, ◌&&◌, eqb, List, [], ◌∷◌, Some, max, inl, inr, subst, arith}
 use Rattle.std.specs.Prelude.{slice_get}
 use Rattle.std.specs.List.{list_all}
 use Rattle.std.proofs.lemmas.Bool.{and_parts, eqb-false, not-true}
 use Rattle.std.proofs.lemmas.Bool.Decides.{leb_tells}
-use Rattle.std.proofs.lemmas.List.Elements.{All-nil, All-cons}
 use Rattle.std.proofs.lemmas.Option.{same_Some, none-some}
 use Rattle.roster_model.specs.Folds.{Each}
 use Rattle.roster_model.specs.Order.{known_after}
 use Rattle.roster_model.specs.Sound.{AreInOrder}
-
-pub each_all : {A : Type 0} (P : A → Type 0) (xs : List A) → Each P xs → All P xs
-each_all P [] h = All-nil P
-each_all P (x ∷ xs) h = All-cons P x xs h.0 (each_all P xs h.1)
 
 pub each_at : {A : Type 0} (P : A → Type 0) (xs : List A) → Each P xs
     → (k : ℕ) (x : A) → slice_get xs k ≡ Some x → P x

@@ -17,9 +17,10 @@ use Rattle.roster_model.specs.Names.{is_code_byte, is_name, is_window_word, adde
 use Rattle.roster_model.specs.Sound.{Exists, IsWindow, IsRule, AreCodes, has_rule, appearances, AreNames, IsSound, IsPlain}
 use Rattle.roster_model.specs.SoundInstance.{IsSoundInstance}
 use Rattle.roster_model.specs.UnitRules.{IsRanked}
+use Rattle.roster_model.proofs.EachLemmas.{each_all}
 use Rattle.made_days.specs.Draws.{draw, after}
 use Rattle.made_days.specs.Made.{made_codes, made_names, made_rules, made_grammar, asked, drawn, made_periods, made_cost, made_under, made_demands, made_instance}
-use Rattle.made_days.proofs.ListTests.{each_all, each_at, each_by, apart_at, in_order}
+use Rattle.made_days.proofs.ListTests.{each_at, each_by, apart_at, in_order}
 use Rattle.made_days.proofs.Draws.{answer_below}
 
 sound_codes : AreCodes made_codes

@@ -5,8 +5,8 @@ use Rattle.roster_model.specs.declared.instance.Cell.{Cell}
 use Rattle.roster_model.specs.declared.instance.Cut.{Cut}
 use Rattle.roster_model.specs.declared.instance.Instance.{Instance}
 use Rattle.roster_model.specs.Folds.{sum_z, Each}
+use Rattle.roster_model.proofs.EachLemmas.{Each-append, Each-left, Each-right}
 use Rattle.bound_laws.proofs.WholeSums.{sum_z-append}
-use Rattle.arc_laws.proofs.FoldsLemmas.{Each-append}
 use Rattle.master_laws.specs.Rows.{Row, cell_row, floor_row, ceiling_row, least_row, most_row, cut_row, has_floor, has_ceiling, cell_rows, floor_rows, ceiling_rows, cut_rows, rows_of}
 use Rattle.master_laws.specs.Rounding.{CellLine, lines_from, cell_lines, first_ceiling, first_head, numbers_from}
 use Rattle.master_laws.proofs.RowSums.{RowPrice, rows_in, priced}
@@ -115,14 +115,6 @@ built_sum f i ls l m cuts xs =
     omega (arith, ints)
 
 -- ---- what holds of each
-module _ {A : Type 0} where
-  pub Each-front : (P : A → Type 0) (xs ys : List A) → Each P (xs ++ ys) → Each P xs
-  Each-front P [] ys h = tt
-  Each-front P (x ∷ xs) ys h = (h.0, Each-front P xs ys h.1)
-
-  pub Each-back : (P : A → Type 0) (xs ys : List A) → Each P (xs ++ ys) → Each P ys
-  Each-back P [] ys h = h
-  Each-back P (x ∷ xs) ys h = Each-back P xs ys h.1
 
 -- what holds of each of a cell's rows
 pub record OfLine (P : RowPrice → Type 0) (l : CellLine) : Type 0 where
@@ -152,10 +144,10 @@ lines_each P [] a b c = tt
 lines_each P (l ∷ ls) a b c = (
   record {
     own = a.0;
-    floor = each_one P (has_floor l.cell) (at (floor_row l.cell) l.floor) (Each-front P _ (floor_prices ls) b);
-    ceiling = each_one P (has_ceiling l.cell) (at (ceiling_row l.cell) l.ceiling) (Each-front P _ (ceiling_prices ls) c);
+    floor = each_one P (has_floor l.cell) (at (floor_row l.cell) l.floor) (Each-left P _ (floor_prices ls) b);
+    ceiling = each_one P (has_ceiling l.cell) (at (ceiling_row l.cell) l.ceiling) (Each-left P _ (ceiling_prices ls) c);
   },
-  lines_each P ls a.1 (Each-back P _ (floor_prices ls) b) (Each-back P _ (ceiling_prices ls) c),
+  lines_each P ls a.1 (Each-right P _ (floor_prices ls) b) (Each-right P _ (ceiling_prices ls) c),
 )
 
 pub record OfBuilt (P : RowPrice → Type 0) (i : Instance) (ls : List CellLine) (l m : ℤ) (cuts : List Cut) (xs : List ℤ) : Type 0 where
@@ -171,11 +163,11 @@ to_built P i ls l m cuts xs h =
 
 pub of_built : (P : RowPrice → Type 0) (i : Instance) (ls : List CellLine) (l m : ℤ) (cuts : List Cut) (xs : List ℤ) → Each P (built i ls l m cuts xs) → OfBuilt P i ls l m cuts xs
 of_built P i ls l m cuts xs h =
-    let a = Each-back P (own_prices ls) _ h in
-    let b = Each-back P (floor_prices ls) _ a in
-    let c = Each-back P (ceiling_prices ls) _ b in
+    let a = Each-right P (own_prices ls) _ h in
+    let b = Each-right P (floor_prices ls) _ a in
+    let c = Each-right P (ceiling_prices ls) _ b in
     record {
-      lines = lines_each P ls (Each-front P (own_prices ls) _ h) (Each-front P (floor_prices ls) _ a) (Each-front P (ceiling_prices ls) _ b);
+      lines = lines_each P ls (Each-left P (own_prices ls) _ h) (Each-left P (floor_prices ls) _ a) (Each-left P (ceiling_prices ls) _ b);
       least = c.0;
       most = c.1.0;
       numbered = c.1.1;

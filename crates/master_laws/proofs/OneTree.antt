@@ -13,7 +13,7 @@ use Rattle.roster_model.specs.Folds.{sum_z, sum_n, count, Each, In}
 use Rattle.roster_model.specs.Arcs.{Letter, letters, arcs, cost, rule_cost, same_arc}
 use Rattle.roster_model.specs.Coverage.{is_at}
 use Rattle.roster_model.specs.Reduced.{CellPrice, CutPrice, cell_prices, cut_prices, signed, letter_price, arc_price, reduced_view}
-use Rattle.arc_laws.proofs.FoldsLemmas.{Each-in}
+use Rattle.roster_model.proofs.EachLemmas.{Each-in}
 use Rattle.bound_laws.specs.Infeasible.{IsPlainlyInfeasible}
 use Rattle.bound_laws.specs.Lagrangian.{IsLeastReduced}
 use Rattle.bound_laws.proofs.TreeValues.{tree_sum-value}

@@ -18,6 +18,7 @@ use Rattle.roster_model.specs.Arcs.{cost}
 use Rattle.roster_model.specs.Reduced.{CellPrice, CutPrice, cell_prices, cut_prices, signed}
 use Rattle.roster_model.specs.GreatestCost.{greatest_cost}
 use Rattle.roster_model.specs.SoundInstance.{IsSoundInstance}
+use Rattle.roster_model.proofs.EachLemmas.{Each-left, Each-right}
 use Rattle.arc_laws.proofs.Totals.{arc_once}
 use Rattle.linear_programs.specs.Program.{IsPricedOut}
 use Rattle.linear_programs.specs.Sums.{dot}
@@ -30,7 +31,7 @@ use Rattle.master_laws.specs.Master.{master}
 use Rattle.master_laws.specs.Rounding.{CellLine, cell_lines, first_ceiling, first_head, numbers_from, line_sum, line_sums, IsMadeWhole, AreRoundedFrom, IsDenominator}
 use Rattle.master_laws.specs.Laws.{ArePricesOf, IsBelowHeads}
 use Rattle.master_laws.proofs.RowSums.{priced, worth, IsGood, priced_dot, out_tree}
-use Rattle.master_laws.proofs.Lines.{cells_of, built, built_sum, line_total, cut_numbers, OfBuilt, priced_built, cells_of-lines, Each-front, Each-back}
+use Rattle.master_laws.proofs.Lines.{cells_of, built, built_sum, line_total, cut_numbers, OfBuilt, priced_built, cells_of-lines}
 use Rattle.master_laws.proofs.Signs.{built_good}
 use Rattle.linear_programs.proofs.Orders.{times_add, times_times, times_swap, times_le, scale_le, le_factor}
 use Rattle.master_laws.proofs.Numbers.{add_times, times_neg, times_mono, times_fall}
@@ -181,8 +182,8 @@ rounded_value i cuts y kappa v q p t l sound busy day below prices rounded lag =
       0 * (i.heads_max * (2 * length cuts + length i.cells)),
       omega arith,
       rw e (value_le i cuts y kappa p 0 sound busy prices.positive prices.priced
-          (all_near_none kappa p.d prices.positive (line_sums (cell_lines i y)) p.cell (Each-front (IsMadeWhole kappa p.d) (line_sums (cell_lines i y)) _ exact.0.whole) rounded.cell)
-          (mults_near_none kappa p.d prices.positive p.mult 1 cuts (numbers_from y (first_head i + 2) cuts) (Each-back (IsMadeWhole kappa p.d) (line_sums (cell_lines i y)) _ exact.0.whole) rounded.mult)
+          (all_near_none kappa p.d prices.positive (line_sums (cell_lines i y)) p.cell (Each-left (IsMadeWhole kappa p.d) (line_sums (cell_lines i y)) _ exact.0.whole) rounded.cell)
+          (mults_near_none kappa p.d prices.positive p.mult 1 cuts (numbers_from y (first_head i + 2) cuts) (Each-right (IsMadeWhole kappa p.d) (line_sums (cell_lines i y)) _ exact.0.whole) rounded.mult)
           below t lag.z day lag.least),
     )
     rounded_at (inr wide) V e = (

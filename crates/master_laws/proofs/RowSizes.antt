@@ -21,7 +21,7 @@ use Rattle.roster_model.specs.Room.{most_uses}
 use Rattle.roster_model.specs.SoundInstance.{IsSoundInstance}
 use Rattle.roster_model.proofs.SoundCells.{cells_limited}
 use Rattle.roster_model.proofs.CostBounds.{rule_cost-le, uses-le, shifts-le, cells-le}
-use Rattle.arc_laws.proofs.FoldsLemmas.{Each-append, Each-same}
+use Rattle.roster_model.proofs.EachLemmas.{Each-weaker, Each-append}
 use Rattle.arc_laws.proofs.Totals.{arc_once}
 use Rattle.linear_programs.specs.Program.{unit_vector}
 use Rattle.bound_laws.specs.BestPrices.{artificial_cost}
@@ -31,7 +31,7 @@ use Rattle.master_laws.specs.Master.{MasterKey, missing, beyond, tree, missing_c
 use Rattle.master_laws.specs.Laws.{AreSmall}
 use Rattle.master_laws.proofs.Once.{cell_once}
 
-length-cell_rows : (cs : List Cell) → length (cell_rows cs) ≡ length cs
+pub length-cell_rows : (cs : List Cell) → length (cell_rows cs) ≡ length cs
 length-cell_rows [] = refl
 length-cell_rows (c ∷ cs) = omega (arith, length-cell_rows cs)
 
@@ -134,7 +134,7 @@ module _ (i : Instance) (sound : IsSoundInstance i) where
       let rows = rows_of i cuts in
       let each = small_rows cuts below in
       record {
-        right = λ r. number_small 64 (λ (x : Row). x.right) rows (Each-same (IsSmallRow i) _ rows (λ x h. h.right) each) r;
+        right = λ r. number_small 64 (λ (x : Row). x.right) rows (Each-weaker (IsSmallRow i) _ rows (λ x h. h.right) each) r;
         entry = entries each;
         cost = costs each;
       }
@@ -143,10 +143,10 @@ module _ (i : Instance) (sound : IsSoundInstance i) where
       entries each (missing s) r b = unit_small s r
       entries each (beyond s) r b = let u = unit_small s r in record { low = omega (arith, ints, u.high); high = omega (arith, ints, u.low) }
       entries each (tree t) r b =
-          let u = number_small 1 (λ (x : Row). x.brings t) (rows_of i cuts) (Each-same (IsSmallRow i) _ (rows_of i cuts) (λ x h. h.brings t b) each) r in
+          let u = number_small 1 (λ (x : Row). x.brings t) (rows_of i cuts) (Each-weaker (IsSmallRow i) _ (rows_of i cuts) (λ x h. h.brings t b) each) r in
           record { low = omega (arith, ints, u.0); high = u.1 }
 
       costs : Each (IsSmallRow i) (rows_of i cuts) → (k : MasterKey) → (master i cuts).belongs k → (pos 0 ≤ℤ ((master i cuts).column k).cost) × (((master i cuts).column k).cost ≤ℤ pos (2 ^ 39))
-      costs each (missing s) b = number_small (2 ^ 39) (λ (x : Row). missing_cost (artificial_cost i) x.sense) (rows_of i cuts) (Each-same (IsSmallRow i) _ (rows_of i cuts) (λ x h. h.missing) each) s
-      costs each (beyond s) b = number_small (2 ^ 39) (λ (x : Row). beyond_cost x.sense) (rows_of i cuts) (Each-same (IsSmallRow i) _ (rows_of i cuts) (λ x h. h.beyond) each) s
+      costs each (missing s) b = number_small (2 ^ 39) (λ (x : Row). missing_cost (artificial_cost i) x.sense) (rows_of i cuts) (Each-weaker (IsSmallRow i) _ (rows_of i cuts) (λ x h. h.missing) each) s
+      costs each (beyond s) b = number_small (2 ^ 39) (λ (x : Row). beyond_cost x.sense) (rows_of i cuts) (Each-weaker (IsSmallRow i) _ (rows_of i cuts) (λ x h. h.beyond) each) s
       costs each (tree t) b = let a = tree_cost-le t b in (omega (arith, ints), omega (arith, ints))

@@ -1,7 +1,6 @@
 -- Whole counts of a solution: they can be split, and trees that have them meet the node.
 use Rattle.std.proofs.Common.{true≢false, ◌≡◌, ℕ, ℤ, zero, suc, arith, pos, negsuc, neg_ℤ, ◌+ℤ◌, ◌-ℤ◌, ◌*ℤ◌, ◌≤ℤ◌, ◌+◌, ◌-◌, ◌*◌, ◌≤◌, ◌<◌, Bool, true, false, cond, List, [], ◌∷◌, length, refl, sym, ap, ◌∙◌, subst, ◌⊎◌, inl, inr, ltb-false, ltb-true}
 use Rattle.std.specs.Prelude.{nat_lt}
-use Rattle.std.proofs.Math.Nat.{mul-le-mul_left}
 use Rattle.std.proofs.lemmas.Int.{ints}
 use Rattle.roster_model.specs.declared.grammar.ArcKey.{ArcKey}
 use Rattle.roster_model.specs.declared.grammar.Grammar.{Grammar}
@@ -16,14 +15,16 @@ use Rattle.roster_model.specs.Arcs.{arcs, cost, same_arc, IsArc}
 use Rattle.roster_model.specs.Coverage.{penalty}
 use Rattle.roster_model.specs.Cuts.{arcs_of, arc_count, KeepsTo, Meets}
 use Rattle.roster_model.specs.SoundInstance.{IsSoundInstance}
+use Rattle.roster_model.proofs.EachLemmas.{Each-weaker, Each-left, Each-right}
 use Rattle.arc_laws.specs.OrNodes.{OrNode, name, suffix, same_node, made, used}
 use Rattle.arc_laws.specs.Balance.{made_sum, used_sum}
 use Rattle.arc_laws.specs.Counts.{top_cost}
-use Rattle.arc_laws.proofs.FoldsLemmas.{In-append, Each-same}
+use Rattle.arc_laws.proofs.FoldsLemmas.{In-append}
 use Rattle.arc_laws.proofs.SameArc.{Told, arc_tells, same_arc-refl}
 use Rattle.arc_laws.proofs.Totals.{arc_count-le, trees-balanced, root-counts, leaves-count, arcs-pay}
 use Rattle.bound_laws.specs.BestPrices.{artificial_cost}
 use Rattle.bound_laws.specs.TreeRosters.{tree_cover, IsCovered, IsTreeRoster, trees_cost}
+use Rattle.bound_laws.specs.Counted.{HaveCounts}
 use Rattle.linear_programs.specs.Sums.{dot}
 use Rattle.linear_programs.specs.Solution.{Weighted, IsSolution, brought, cost_of, Uses}
 use Rattle.linear_programs.proofs.Ring.{*ℤ-+ℤ, *ℤ--ℤ}
@@ -34,23 +35,13 @@ use Rattle.master_laws.specs.Rows.{at_least, at_most, Row, rows_of, number_at, H
 use Rattle.master_laws.specs.Master.{MasterKey, missing, beyond, tree, is_artificial, IsArtificial, column_of, program_of}
 use Rattle.master_laws.specs.Rounding.{CellLine}
 use Rattle.master_laws.specs.Sharp.{UsesArtificial}
-use Rattle.master_laws.specs.WholeCounts.{HasCounts, HaveCounts, CanBeSplit, MeetNode}
+use Rattle.master_laws.specs.WholeCounts.{HasCounts, CanBeSplit, MeetNode}
 use Rattle.master_laws.proofs.RowSums.{RowPrice, rows_in, price_at, worth, IsGood, listed_dot, out_missing, out_beyond}
-use Rattle.master_laws.proofs.Lines.{at, cells_of, built, built_rows, built_sum, line_total, cut_numbers, AreMany, OfLine, to_built, Each-front, Each-back}
+use Rattle.master_laws.proofs.Lines.{at, cells_of, built, built_rows, built_sum, line_total, cut_numbers, AreMany, OfLine, to_built}
 use Rattle.master_laws.proofs.Duals.{slope_high, slope_low}
 use Rattle.master_laws.proofs.Once.{cell_once}
 use Rattle.master_laws.proofs.Copies.{copies, copies_day, copies_arcs, sum_arcs, sum_cover, sum_ones, each_row, most_kept, least_kept, artificial_at, red_of, trees_reduced}
-
--- ---- products with a number above 0
-either : (a b : ℕ) → (a ≤ b) ⊎ (b + 1 ≤ a)
-either a b = grind arith
-
-cancel_le : (q x y : ℕ) → 0 < q → q * x ≤ q * y → x ≤ y
-cancel_le q x y h l = by (either x y)
-  where
-    by : (x ≤ y) ⊎ (y + 1 ≤ x) → x ≤ y
-    by (inl e) = e
-    by (inr e) = absurd (omega (arith, mul-le-mul_left q e))
+use Rattle.master_laws.proofs.WideNumbers.{cancel_le}
 
 cancel : (q x y : ℕ) → 0 < q → q * x ≡ q * y → x ≡ y
 cancel q x y h e = let a = cancel_le q x y h (omega arith) in let b = cancel_le q y x h (omega arith) in omega arith
@@ -99,12 +90,12 @@ artificial_is (x ∷ rows) zero = by (is_artificial x.sense)
     by false = inr (λ e. true≢false (sym e))
 artificial_is (x ∷ rows) (suc r) = artificial_is rows r
 
-row_of : MasterKey → ℕ
+pub row_of : MasterKey → ℕ
 row_of (missing r) = r
 row_of (beyond r) = r
 row_of (tree t) = 0
 
-is_missing : MasterKey → Bool
+pub is_missing : MasterKey → Bool
 is_missing (missing r) = true
 is_missing (beyond r) = false
 is_missing (tree t) = false
@@ -141,7 +132,7 @@ uses_is rows (w ∷ ws) = by (uses_is rows ws)
 -- ---- the rows of a master, by cells and cuts
 each_floor : (P : Row → Type 0) (cs : List Cell) → Each P (floor_rows cs) → Each (λ (c : Cell). has_floor c ≡ true → P (floor_row c)) cs
 each_floor P [] h = tt
-each_floor P (c ∷ cs) h = (one (has_floor c) (Each-front P _ (floor_rows cs) h), each_floor P cs (Each-back P (cond (has_floor c) (floor_row c ∷ []) []) (floor_rows cs) h))
+each_floor P (c ∷ cs) h = (one (has_floor c) (Each-left P _ (floor_rows cs) h), each_floor P cs (Each-right P (cond (has_floor c) (floor_row c ∷ []) []) (floor_rows cs) h))
   where
     one : (b : Bool) → Each P (cond b (floor_row c ∷ []) []) → b ≡ true → P (floor_row c)
     one true k e = k.0
@@ -149,13 +140,13 @@ each_floor P (c ∷ cs) h = (one (has_floor c) (Each-front P _ (floor_rows cs) h
 
 each_ceiling : (P : Row → Type 0) (cs : List Cell) → Each P (ceiling_rows cs) → Each (λ (c : Cell). has_ceiling c ≡ true → P (ceiling_row c)) cs
 each_ceiling P [] h = tt
-each_ceiling P (c ∷ cs) h = (one (has_ceiling c) (Each-front P _ (ceiling_rows cs) h), each_ceiling P cs (Each-back P (cond (has_ceiling c) (ceiling_row c ∷ []) []) (ceiling_rows cs) h))
+each_ceiling P (c ∷ cs) h = (one (has_ceiling c) (Each-left P _ (ceiling_rows cs) h), each_ceiling P cs (Each-right P (cond (has_ceiling c) (ceiling_row c ∷ []) []) (ceiling_rows cs) h))
   where
     one : (b : Bool) → Each P (cond b (ceiling_row c ∷ []) []) → b ≡ true → P (ceiling_row c)
     one true k e = k.0
     one false k e = absurd (true≢false (sym e))
 
-each_cut_row : (P : Row → Type 0) (cs : List Cut) → Each P (cut_rows cs) → Each (λ (c : Cut). P (cut_row c)) cs
+pub each_cut_row : (P : Row → Type 0) (cs : List Cut) → Each P (cut_rows cs) → Each (λ (c : Cut). P (cut_row c)) cs
 each_cut_row P [] h = tt
 each_cut_row P (c ∷ cs) h = (h.0, each_cut_row P cs h.1)
 
@@ -168,12 +159,12 @@ record OfRows (P : Row → Type 0) (i : Instance) (cuts : List Cut) : Type 0 whe
 
 of_rows : (P : Row → Type 0) (i : Instance) (cuts : List Cut) → Each P (rows_of i cuts) → OfRows P i cuts
 of_rows P i cuts h =
-    let a = Each-back P (cell_rows i.cells) _ h in
-    let b = Each-back P (floor_rows i.cells) _ a in
-    let c = Each-back P (ceiling_rows i.cells) _ b in
+    let a = Each-right P (cell_rows i.cells) _ h in
+    let b = Each-right P (floor_rows i.cells) _ a in
+    let c = Each-right P (ceiling_rows i.cells) _ b in
     record {
-      floors = each_floor P i.cells (Each-front P (floor_rows i.cells) _ a);
-      ceilings = each_ceiling P i.cells (Each-front P (ceiling_rows i.cells) _ b);
+      floors = each_floor P i.cells (Each-left P (floor_rows i.cells) _ a);
+      ceilings = each_ceiling P i.cells (Each-left P (ceiling_rows i.cells) _ b);
       least = c.0;
       most = c.1.0;
       cut = each_cut_row P cuts c.1.1;
@@ -298,7 +289,7 @@ module _ (i : Instance) (cuts : List Cut) (ws : List (Weighted MasterKey)) (q : 
         day = have.day;
         enough = heads_enough;
         few = heads_few;
-        coverage = Each-same _ (IsCovered i ts) i.cells cell_covered (both _ _ i.cells (keep_least none).floors keep_most.ceilings);
+        coverage = Each-weaker _ (IsCovered i ts) i.cells cell_covered (both _ _ i.cells (keep_least none).floors keep_most.ceilings);
       }
 
       cut_met : (c : Cut) → (KeepsLeast (cut_row c) × KeepsMost (cut_row c)) → Meets ts c
@@ -310,7 +301,7 @@ module _ (i : Instance) (cuts : List Cut) (ws : List (Weighted MasterKey)) (q : 
           by High b a k = let m = k.0 refl in let s = sum_arcs a us in cancel_le q (b + 1) (arc_count a ts) some (omega (arith, arcs_scale a))
 
       pub meets : Each (Meets ts) cuts
-      meets = Each-same _ (Meets ts) cuts cut_met (both _ _ cuts (keep_least none).cut keep_most.cut)
+      meets = Each-weaker _ (Meets ts) cuts cut_met (both _ _ cuts (keep_least none).cut keep_most.cut)
 
     -- ---- what they cost
     slope : Cell → ℤ

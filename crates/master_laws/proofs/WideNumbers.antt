@@ -15,7 +15,7 @@ use Rattle.master_laws.proofs.RowSizes.{row_count}
 either : (a b : ℕ) → (a ≤ b) ⊎ (b + 1 ≤ a)
 either a b = grind arith
 
-cancel_le : (q x y : ℕ) → 0 < q → q * x ≤ q * y → x ≤ y
+pub cancel_le : (q x y : ℕ) → 0 < q → q * x ≤ q * y → x ≤ y
 cancel_le q x y h l = by (either x y)
   where
     by : (x ≤ y) ⊎ (y + 1 ≤ x) → x ≤ y
@@ -76,7 +76,7 @@ one_of a b c h = by (either (unsigned_abs a) (2 ^ 56)) (either (unsigned_abs b) 
         last : (a b c : ℤ) → unsigned_abs a ≤ 2 ^ 56 → unsigned_abs b ≤ 2 ^ 56 → 2 ^ 58 < unsigned_abs (a +ℤ b +ℤ c) → 2 ^ 56 < unsigned_abs c
         last a b c k l h = omega (arith, ints)
 
-one_length : (b : Bool) (x : Row) (xs : List Row) → length (cond b (x ∷ []) [] ++ xs) ≡ cond b 1 0 + length xs
+pub one_length : (b : Bool) (x : Row) (xs : List Row) → length (cond b (x ∷ []) [] ++ xs) ≡ cond b 1 0 + length xs
 one_length true x xs = omega arith
 one_length false x xs = omega arith
 

@@ -18,11 +18,12 @@ use Rattle.bound_laws.specs.Lagrangian.{IsLagrangian}
 use Rattle.bound_laws.specs.BestPrices.{IsRival, AreBest, loss}
 use Rattle.bound_laws.specs.Priced.{IsPricedValue}
 use Rattle.bound_laws.specs.TreeRosters.{trees_cost}
+use Rattle.bound_laws.specs.Counted.{HaveCounts}
 use Rattle.master_laws.specs.Rows.{rows_of, floor_rows, ceiling_rows, HoldsAt}
 use Rattle.master_laws.specs.Master.{MasterKey, missing, beyond, tree, HasBeyond, master}
 use Rattle.master_laws.specs.Sharp.{UsesArtificial}
 use Rattle.master_laws.specs.Pricing.{row_view}
-use Rattle.master_laws.specs.WholeCounts.{HasCounts, HaveCounts, CanBeSplit, MeetNode}
+use Rattle.master_laws.specs.WholeCounts.{HasCounts, CanBeSplit, MeetNode}
 use Rattle.master_laws.specs.Rounding.{numbers_from, first_head, AreRoundedFrom}
 
 -- each row of a master has its unit column, and no right side is negative

@@ -3,9 +3,9 @@ use Rattle.std.specs.Prelude.{ℕ, pos, ◌≡◌, ◌≤◌, ◌*◌, ◌*ℤ�
 use Rattle.roster_model.specs.declared.grammar.ArcKey.{ArcKey}
 use Rattle.roster_model.specs.declared.instance.Cut.{Cut}
 use Rattle.roster_model.specs.declared.instance.Instance.{Instance}
-use Rattle.roster_model.specs.Trees.{Parts, IsDayTree}
+use Rattle.roster_model.specs.Trees.{Parts}
 use Rattle.roster_model.specs.Folds.{Each, In}
-use Rattle.roster_model.specs.Cuts.{arc_count, Meets}
+use Rattle.roster_model.specs.Cuts.{Meets}
 use Rattle.arc_laws.specs.Lists.{AreArcs}
 use Rattle.arc_laws.specs.Balance.{IsBalanced}
 use Rattle.linear_programs.specs.Solution.{Weighted, IsSolution, cost_of}
@@ -19,12 +19,6 @@ pub record HasCounts (i : Instance) (cuts : List Cut) (ws : List (Weighted Maste
   pub solution : IsSolution (master i cuts) ws q
   pub arcs : AreArcs i.grammar listed
   pub whole : (a : ArcKey) → In a listed → arc_weight a ws ≡ q * value a
-
--- so many of these trees of the day have each arc
-pub record HaveCounts (i : Instance) (listed : List ArcKey) (value : ArcKey → ℕ)
-    (ts : List Parts) : Type 0 where
-  pub day : Each (IsDayTree i.grammar) ts
-  pub counts : (a : ArcKey) → In a listed → arc_count a ts ≡ value a
 
 -- such counts can be split into trees
 pub record CanBeSplit (i : Instance) (listed : List ArcKey) (value : ArcKey → ℕ) : Type 0 where

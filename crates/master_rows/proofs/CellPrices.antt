@@ -6,9 +6,10 @@ use Rattle.roster_model.specs.declared.instance.Cell.{Cell}
 use Rattle.roster_model.specs.declared.instance.Cut.{Cut}
 use Rattle.roster_model.specs.declared.instance.Instance.{Instance}
 use Rattle.fraction.specs.Row.{at}
-use Rattle.master_laws.specs.Rows.{Row, rows_of, floor_rows, ceiling_rows, has_floor, has_ceiling, floor_row, ceiling_row}
+use Rattle.master_laws.specs.Rows.{rows_of, floor_rows, ceiling_rows, has_floor, has_ceiling, floor_row, ceiling_row}
 use Rattle.master_laws.specs.Rounding.{lines_from, line_sums, cell_lines, first_ceiling, first_head, numbers_from}
 use Rattle.master_laws.proofs.RowSizes.{row_count}
+use Rattle.master_laws.proofs.WideNumbers.{one_length}
 use Rattle.master_rows.specs.declared.rows.BoundRows.{BoundRows}
 use Rattle.master_rows.specs.declared.rows.NodeRows.{NodeRows}
 use Rattle.master_rows.specs.NodeRows.{bounds_from, price_in, prices_from, IsBelow, AreRows}
@@ -40,11 +41,6 @@ pub sums_are : (y : ℕ → ℤ) (j f e : ℕ) (cs : List Cell) → prices_from 
 sums_are y j f e [] = refl
 sums_are y j f e (c ∷ cs) =
     rw (picked y (has_floor c) f, picked y (has_ceiling c) e, sums_are y (suc j) (f + cond (has_floor c) 1 0) (e + cond (has_ceiling c) 1 0) cs) refl
-
--- ---- where the rows of floors and ceilings stand
-one_length : (b : Bool) (x : Row) (xs : List Row) → length (cond b (x ∷ []) [] ++ xs) ≡ cond b 1 0 + length xs
-one_length true x xs = omega arith
-one_length false x xs = omega arith
 
 one_below : (b : Bool) (r m n : ℕ) → r + (cond b 1 0 + m) ≤ n → IfSome (cond b (Some r) None) (λ k. k < n)
 one_below true r m n h = omega arith

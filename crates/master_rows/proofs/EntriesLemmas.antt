@@ -4,7 +4,7 @@ use Rattle.std.specs.Prelude.{nat_eq, ◌&&◌, slice_get}
 use Rattle.std.proofs.lemmas.Bool.Decides.{eqb_tells}
 use Rattle.std.proofs.lemmas.Option.{slice_get-get_or, slice_get_past}
 use Rattle.roster_model.specs.Folds.{Each, count}
-use Rattle.arc_laws.proofs.FoldsLemmas.{Each-same, Each-append}
+use Rattle.roster_model.proofs.EachLemmas.{Each-weaker, Each-append}
 use Rattle.pivot_rows.specs.declared.column.Place.{Place}
 use Rattle.pivot_rows.specs.Columns.{IsColumn, AreRising, AreWithin, number_in}
 use Rattle.tree_pool.specs.Pools.{letters_from}
@@ -79,7 +79,7 @@ rising_more [] p h l = (tt, tt)
 rising_more (q ∷ ps) p h l = (Each-append (λ (s : Place). q.row < s.row) ps (p ∷ []) h.0 (l.0, tt), rising_more ps p h.1 l.1)
 
 more_within : (n : ℕ) (ps : List Place) → AreWithin n ps → AreWithin (n + 1) ps
-more_within n ps h = Each-same (λ (p : Place). p.row < n) (λ (p : Place). p.row < n + 1) ps (λ (p : Place) l. omega (arith, l)) h
+more_within n ps h = Each-weaker (λ (p : Place). p.row < n) (λ (p : Place). p.row < n + 1) ps (λ (p : Place) l. omega (arith, l)) h
 
 below_or : (r n : ℕ) → r < n + 1 → (r < n) ⊎ (r ≡ n)
 below_or r n h = grind arith

@@ -9,6 +9,7 @@ use Rattle.fraction.specs.Row.{at}
 use Rattle.master_laws.specs.Rows.{Row, Sense as RowSense, about, at_least, at_most, number_at, HoldsAt, rows_of, cell_rows, floor_rows, ceiling_rows, has_floor, has_ceiling, floor_row, ceiling_row}
 use Rattle.master_laws.specs.Master.{missing_cost, beyond_cost, has_beyond, HasBeyond}
 use Rattle.master_laws.specs.Rounding.{first_ceiling, first_head}
+use Rattle.master_laws.proofs.RowSizes.{length-cell_rows}
 use Rattle.master_rows.specs.declared.rows.NodeRows.{NodeRows}
 use Rattle.master_rows.specs.declared.building.Kind.{Kind}
 use Rattle.master_rows.specs.declared.building.Kind.TheVariants.{Need, Floor, Ceiling}
@@ -107,16 +108,12 @@ pub kinds_length : (k : Kind) (cs : List Cell) → length (kind_cells k cs) ≡ 
 kinds_length k [] = refl
 kinds_length k (c ∷ cs) = omega (arith, length-append (kind_cell k c) (kind_cells k cs), length-append (kind_row k c) (kind_rows k cs), one_each k c, kinds_length k cs)
 
-pub cell_rows_length : (cs : List Cell) → length (cell_rows cs) ≡ length cs
-cell_rows_length [] = refl
-cell_rows_length (c ∷ cs) = ap suc (cell_rows_length cs)
-
 pub letters_length : (cs : List Cell) → length (letters_of cs) ≡ length cs
 letters_length [] = refl
 letters_length (c ∷ cs) = ap suc (letters_length cs)
 
 needs_length : (cs : List Cell) → length (kind_cells Need cs) ≡ length cs
-needs_length cs = kinds_length Need cs ∙ ap length (needs_are cs) ∙ cell_rows_length cs
+needs_length cs = kinds_length Need cs ∙ ap length (needs_are cs) ∙ length-cell_rows cs
 
 floors_length : (cs : List Cell) → length (kind_cells Floor cs) ≡ length (floor_rows cs)
 floors_length cs = kinds_length Floor cs ∙ ap length (floors_are cs)

@@ -14,7 +14,7 @@ use Rattle.roster_model.specs.Arcs.{Letter, letters, same_arc}
 use Rattle.arc_laws.proofs.Totals.{arc_once}
 use Rattle.master_laws.specs.Rows.{Row, number_at, rows_of, cell_rows, floor_rows, ceiling_rows, cut_rows, side_row, least_row, most_row, floor_row, ceiling_row, has_floor, has_ceiling, cell_count, tree_arcs}
 use Rattle.master_laws.specs.Rounding.{first_head}
-use Rattle.master_laws.proofs.RowSizes.{row_count}
+use Rattle.master_laws.proofs.RowSizes.{row_count, length-cell_rows}
 use Rattle.pivot_rows.specs.Columns.{IsColumn}
 use Rattle.tree_pool.specs.Pools.{PoolTree, IsPoolTree, letters_from}
 use Rattle.master_rows.specs.declared.rows.NodeRows.{NodeRows}
@@ -25,7 +25,7 @@ use Rattle.master_rows.specs.declared.building.Kind.TheVariants.{Need, Floor, Ce
 use Rattle.master_rows.specs.NodeRows.{is_letter, letter_of, letters_of, kind_row, kind_rows, kind_cell, kind_cells, row_cells, AreRows}
 use Rattle.master_rows.specs.Entries.{with_entry, AreListed}
 use Rattle.master_rows.proofs.EntriesLemmas.{listed_0, listed_step}
-use Rattle.master_rows.proofs.RowNumbers.{needs_are, floors_are, ceilings_are, heads_begin, cell_rows_length}
+use Rattle.master_rows.proofs.RowNumbers.{needs_are, floors_are, ceilings_are, heads_begin}
 
 -- what a tree brings to row r
 abbrev pub brought : Parts → List Row → ℕ → ℤ
@@ -105,7 +105,7 @@ module _ (i : Instance) (cuts : List Cut) (rows : NodeRows) (are : AreRows i cut
   length_before : length before ≡ first_head i
   unfolding before
   length_before =
-      omega (arith, length-append (cell_rows i.cells) (floor_rows i.cells ++ ceiling_rows i.cells), length-append (floor_rows i.cells) (ceiling_rows i.cells), cell_rows_length i.cells)
+      omega (arith, length-append (cell_rows i.cells) (floor_rows i.cells ++ ceiling_rows i.cells), length-append (floor_rows i.cells) (ceiling_rows i.cells), length-cell_rows i.cells)
 
   brings_before : Brings (row_cells i.cells) before
   unfolding before

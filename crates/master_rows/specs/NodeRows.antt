@@ -15,10 +15,6 @@ use Rattle.master_rows.specs.declared.building.Kind.TheVariants.{Need, Floor, Ce
 use Rattle.master_rows.specs.declared.sense.Sense.{Sense}
 use Rattle.master_rows.specs.declared.sense.Sense.TheVariants.{About, AtLeast, AtMost}
 
--- at most 63 trees are counted by a cut
-abbrev pub IsSmallCut : Cut → Type 0
-IsSmallCut c = c.b ≤ 63
-
 -- the letter at its period
 abbrev pub is_letter : CellLetter → Letter → Bool
 is_letter c l = nat_eq c.code l.code && nat_eq c.period l.period

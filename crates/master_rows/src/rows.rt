@@ -11,7 +11,8 @@ ghost use Rattle.master_laws.specs.Master.{missing_cost, beyond_cost, HasBeyond}
 ghost use Rattle.master_laws.specs.Rounding.{cell_lines, line_sums, first_head, numbers_from};
 ghost use Rattle.pivot_rows.specs.Columns.{IsColumn};
 ghost use Rattle.tree_pool.specs.Pools.{PoolTree, IsPoolTree};
-ghost use Rattle.master_rows.specs.NodeRows.{AreRows, IsSmallCut, IsBelow, price_in, prices_from};
+ghost use Rattle.roster_model.specs.Limits.{IsSmallCut};
+ghost use Rattle.master_rows.specs.NodeRows.{AreRows, IsBelow, price_in, prices_from};
 
 use crate::building::Kind;
 use crate::entries::Entries;

@@ -3,6 +3,7 @@ use Rattle.std.proofs.Common.{◌≡◌, ◌≢◌, ℕ, ℤ, ◌<◌, ◌≤◌
 use Rattle.std.specs.Prelude.{slice_get}
 use Rattle.std.proofs.Math.Nat.{mul-le-mul_right}
 use Rattle.std.proofs.lemmas.Option.{same_Some, slice_get_within}
+use Rattle.std.proofs.lemmas.Bool.{cases_eq}
 use Rattle.roster_model.specs.declared.grammar.Grammar.{Grammar}
 use Rattle.roster_model.specs.Grammar.{InDay}
 use Rattle.roster_model.specs.Sums.{PriceView, AtMost}
@@ -17,12 +18,9 @@ use Rattle.span_cells.proofs.Slots.{name_slot-within}
 use Rattle.next_codes.specs.declared.totals.Totals.{Totals}
 use Rattle.next_codes.specs.Totals.{letter_place, AreCounted, SlotThrough, LetterThrough, AreThrough, IsLowered, AreLowered}
 
-same_or_not : (a b : ℕ) → (a ≡ b) ⊎ (a ≢ b)
-same_or_not a b = grind arith
-
 -- a list in which one place was lowered is at most what it was
 pub lowered-most : (n : ℕ) (v : Option ℤ) (xs ys : List (Option ℤ)) → IsLowered n v xs ys → (q : ℕ) → AtMost (get_or ys q None) (get_or xs q None)
-lowered-most n v xs ys low q = by (same_or_not q n)
+lowered-most n v xs ys low q = by (cases_eq q n)
   where
     by : (q ≡ n) ⊎ (q ≢ n) → AtMost (get_or ys q None) (get_or xs q None)
     by (inl e) = rw e low.here.left
@@ -31,7 +29,7 @@ lowered-most n v xs ys low q = by (same_or_not q n)
 -- what is at a place was there or is the new one at its place
 pub lowered-cases : (n : ℕ) (v : Option ℤ) (xs ys : List (Option ℤ)) → IsLowered n v xs ys → (q : ℕ) (z : ℤ) → get_or ys q None ≡ Some z
     → (get_or xs q None ≡ Some z) ⊎ ((q ≡ n) × (v ≡ Some z))
-lowered-cases n v xs ys low q z e = by (same_or_not q n)
+lowered-cases n v xs ys low q z e = by (cases_eq q n)
   where
     which : (q ≡ n) → (get_or ys n None ≡ get_or xs n None) ⊎ (get_or ys n None ≡ v) → (get_or xs q None ≡ Some z) ⊎ ((q ≡ n) × (v ≡ Some z))
     which same (inl was) = inl (ap (λ (k : ℕ). get_or xs k None) same ∙ sym was ∙ ap (λ (k : ℕ). get_or ys k None) (sym same) ∙ e)

@@ -18,7 +18,8 @@ use Rattle.tree_laws.specs.Laws.{arc_at}
 use Rattle.tree_laws.proofs.Ends.{code-least, code-none}
 use Rattle.tree_laws.proofs.LeastValues.{AtMost-none, IsLeast-one}
 use Rattle.tree_laws.proofs.Rules.{sound-symbol, sound-rule, rule_at-within}
-use Rattle.tree_laws.proofs.Symbols.{here, here_last, rest-last}
+use Rattle.tree_laws.proofs.Symbols.{here, here_last, rest-last, drop_none}
+use Rattle.tree_laws.proofs.Splits.{arc_more}
 use Rattle.span_cells.proofs.PartsLemmas.{two-here}
 use Rattle.span_cells.specs.declared.slot.Layout.{Layout}
 use Rattle.span_cells.specs.declared.slot.Slot.TheVariants.{OfName, OfSuffix}
@@ -57,25 +58,11 @@ some_period g s ss j (letter d rest) h = omega arith
 some_period g (Code c) ss j (uses q n inner rest) h = absurd h
 some_period g (Name c) ss j (uses q n inner rest) h = omega (arith, h.4)
 
--- the arc of a part that others follow
-arc_more : (g : Grammar) (p : PriceView) (r k i s j : ℕ) (x : Sym) (ss : List Sym) (u : Parts) → Derive g (x ∷ ss) j u → arc_sum p r k i s u ≡ p.arc_of (arc_at r k i (s + span_length u) s)
-arc_more g p r zero i s j x ss u h = refl
-arc_more g p r (suc k) i s j (Code c) ss done h = absurd h
-arc_more g p r (suc k) i s j (Name c) ss done h = absurd h
-arc_more g p r (suc k) i s j x ss (letter d rest) h = refl
-arc_more g p r (suc k) i s j x ss (uses q n inner rest) h = refl
-
 -- no symbols derive nothing
 nothing_left : (g : Grammar) (j : ℕ) (u : Parts) → Derive g [] j u → u ≡ done
 nothing_left g j done h = refl
 nothing_left g j (letter c rest) h = absurd h
 nothing_left g j (uses q n inner rest) h = absurd h
-
-drop_none : (xs : List Sym) (k : ℕ) → length xs ≤ k → drop k xs ≡ []
-drop_none [] zero h = refl
-drop_none [] (suc k) h = refl
-drop_none (x ∷ xs) zero h = absurd (omega arith)
-drop_none (x ∷ xs) (suc k) h = drop_none xs k (omega arith)
 
 module _ (g : Grammar) (p : PriceView) (lay : Layout) (t : Totals) where
   -- what is due for less around is due for more

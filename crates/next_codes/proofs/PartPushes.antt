@@ -19,6 +19,7 @@ use Rattle.span_cells.specs.declared.periods.Periods.{Periods}
 use Rattle.span_cells.specs.Periods.{Has}
 use Rattle.span_cells.specs.Choices.{ChosenPart}
 use Rattle.tree_laws.proofs.PartLoop.{less_or_same}
+use Rattle.tree_laws.proofs.Bounds.{within-at}
 use Rattle.next_codes.specs.declared.totals.Totals.{Totals}
 use Rattle.next_codes.specs.Totals.{PartsAround, SymbolThrough, PartsThrough}
 use Rattle.next_codes.specs.Pushes.{symbol_of, SymbolDue, RestDue, PartDone, PartsDone, RightDone}
@@ -36,21 +37,18 @@ all-there None y e z h = cc
 all-there (Some a) None e z h = cc
 all-there (Some a) (Some b) e z h = (a, b, refl, refl, sym (same_Some (a +ℤ (e +ℤ b)) z h))
 
-within_at : (v : Option ℤ) (n : ℕ) (z : ℤ) → v ≡ Some z → IfSome v (Within n) → Within n z
-within_at v n z e h = rw e at h
-
 -- it is small
 pub all-small : (x y : Option ℤ) (e z : ℤ) → IfSome x (Within (2 ^ 110)) → Within (2 ^ 96) e → IfSome y (Within (2 ^ 110)) → plus x (plus (Some e) y) ≡ Some z → Within (2 ^ 112) z
 all-small x y e z hx he hy h =
     let k = all-there x y e z h in
-    let a = within_at x (2 ^ 110) k.0 k.2 hx in
-    let b = within_at y (2 ^ 110) k.1 k.3 hy in
+    let a = within-at x (2 ^ 110) k.0 k.2 hx in
+    let b = within-at y (2 ^ 110) k.1 k.3 hy in
     record { low = omega (arith, ints, a.low, he.low, b.low, k.4); high = omega (arith, ints, a.high, he.high, b.high, k.4) }
 
 pub both-small : (x : Option ℤ) (e z : ℤ) → IfSome x (Within (2 ^ 110)) → Within (2 ^ 96) e → plus x (Some e) ≡ Some z → Within (2 ^ 112) z
 both-small x e z hx he h =
     let k = both-there x (Some e) z h in
-    let a = within_at x (2 ^ 110) k.0 k.2 hx in
+    let a = within-at x (2 ^ 110) k.0 k.2 hx in
     let b = same_Some e k.1 k.3 in
     record { low = omega (arith, ints, a.low, he.low, b, k.4); high = omega (arith, ints, a.high, he.high, b, k.4) }
 

@@ -15,7 +15,6 @@ use Rattle.master_laws.specs.Rows.{Row, rows_of, HoldsAt}
 use Rattle.master_laws.specs.Master.{MasterKey, missing, beyond, tree, HasBeyond, master}
 use Rattle.master_laws.specs.Laws.{AreSmall}
 use Rattle.master_laws.proofs.RowSizes.{small}
-use Rattle.master_rows.specs.NodeRows.{IsSmallCut}
 use Rattle.pivot_rows.specs.declared.column.Place.{Place}
 use Rattle.pivot_rows.specs.Columns.{number_in, AreRising, AreWithin, AreUnits}
 use Rattle.pivot_rows.proofs.Entries.{places_sum, places_sum_is}
@@ -24,6 +23,7 @@ use Rattle.node_columns.specs.declared.desk.Kind.{Kind}
 use Rattle.node_columns.specs.declared.desk.Held.{Held}
 use Rattle.node_columns.specs.Columns.{IsKey, Tells, IsHeld, AreHeld}
 use Rattle.node_columns.specs.Priced.{IsPlain, places_worth, listed_reduced, HasNoCheaper}
+use Rattle.roster_model.specs.Limits.{IsSmallCut}
 
 -- ---- the sum over the places
 worth_is : (y : List ℤ) (ps : List Place) → places_worth y ps ≡ places_sum (at y) ps

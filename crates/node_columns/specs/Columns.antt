@@ -15,13 +15,14 @@ use Rattle.cheapest_tree.specs.Pricers.{PricerView, IsMadeFor}
 use Rattle.master_laws.specs.Rows.{rows_of, HoldsAt}
 use Rattle.master_laws.specs.Master.{MasterKey, missing, beyond, tree, HasBeyond, master}
 use Rattle.master_rows.specs.declared.rows.NodeRows.{NodeRows}
-use Rattle.master_rows.specs.NodeRows.{AreRows, IsSmallCut}
+use Rattle.master_rows.specs.NodeRows.{AreRows}
 use Rattle.pivot_rows.specs.Columns.{IsColumn}
 use Rattle.tree_pool.specs.Pools.{PoolTree, IsPool, IsGrown, IsPoolTree}
 use Rattle.node_columns.specs.declared.desk.Kind.{Kind}
 use Rattle.node_columns.specs.declared.desk.Kind.TheVariants.{Missing, Beyond, OfTree}
 use Rattle.node_columns.specs.declared.desk.Held.{Held}
 use Rattle.node_columns.specs.declared.desk.Desk.{Desk}
+use Rattle.roster_model.specs.Limits.{IsSmallCut}
 
 -- whose master it is, and the names of what is lent
 pub record NodeSite : Type 0 where

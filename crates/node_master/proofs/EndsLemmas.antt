@@ -1,12 +1,11 @@
 -- How the master of a node ends.
-use Rattle.std.proofs.Common.{true≢false, ◌≡◌, ℕ, ℤ, arith, pos, neg_ℤ, ◌+ℤ◌, ◌*ℤ◌, ◌<ℤ◌, ◌≤ℤ◌, ◌^◌, ◌<◌, ◌≤◌, unsigned_abs, Bool, true, false, cond, List, [], ◌∷◌, ◌++◌, length, sym, ap, subst, ◌∙◌, ◌⊎◌, inl, inr, IfOk}
+use Rattle.std.proofs.Common.{true≢false, ◌≡◌, ℕ, ℤ, arith, pos, neg_ℤ, ◌+ℤ◌, ◌*ℤ◌, ◌<ℤ◌, ◌≤ℤ◌, ◌^◌, ◌<◌, ◌≤◌, unsigned_abs, true, false, List, [], ◌∷◌, ◌++◌, length, sym, ap, subst, ◌∙◌, ◌⊎◌, inl, inr, IfOk}
 use Rattle.std.specs.Prelude.{Result, Ok, Err, All}
 use Rattle.std.proofs.lemmas.List.Elements.{All-nil, All-cons}
 use Rattle.std.proofs.lemmas.Option.{slice_get_within}
 use Rattle.std.proofs.lemmas.Int.{ints}
 use lib.IntN.{*ℤ_comm}
 use Rattle.roster_model.specs.declared.grammar.Grammar.{Grammar}
-use Rattle.roster_model.specs.declared.instance.Cell.{Cell}
 use Rattle.roster_model.specs.declared.instance.Cut.{Cut}
 use Rattle.roster_model.specs.declared.instance.Instance.{Instance}
 use Rattle.roster_model.specs.declared.instance.Mult.{Mult}
@@ -32,7 +31,8 @@ use Rattle.bound_laws.specs.Infeasible.{IsPlainlyInfeasible}
 use Rattle.bound_laws.specs.Lagrangian.{IsLagrangian}
 use Rattle.bound_laws.specs.Priced.{IsPricedValue}
 use Rattle.bound_laws.specs.TreeRosters.{IsTreeRoster, trees_cost}
-use Rattle.master_laws.specs.Rows.{floor_row, ceiling_row, floor_rows, ceiling_rows, has_floor, has_ceiling, rows_of}
+use Rattle.roster_model.specs.Limits.{IsSmallCut}
+use Rattle.master_laws.specs.Rows.{rows_of}
 use Rattle.master_laws.specs.Master.{MasterKey, missing, beyond, tree, master}
 use Rattle.master_laws.specs.Ends.{IsPathEnd, tree_weights, other_weights, other_first}
 use Rattle.master_laws.specs.Laws.{AreSmall, IsBelowHeads, ArePricesOf}
@@ -46,7 +46,6 @@ use Rattle.master_laws.proofs.RoundedValue.{rounded_value}
 use Rattle.master_laws.proofs.RowSums.{master_sound}
 use Rattle.master_laws.proofs.RowSizes.{row_count, small}
 use Rattle.master_laws.proofs.WholeCountsLemmas.{meet_node}
-use Rattle.master_rows.specs.NodeRows.{IsSmallCut}
 use Rattle.tableau.specs.declared.simplex.Basic.{Basic}
 use Rattle.tableau.specs.declared.simplex.LpFault.{LpFault}
 use Rattle.tableau.specs.declared.simplex.LpFault.TheVariants.{Wide as LpWide, Spent as LpSpent, Memory as LpMemory}
@@ -60,6 +59,7 @@ use Rattle.node_columns.specs.Priced.{AreNarrowPrices}
 use Rattle.node_columns.specs.Weights.{AreTreeWeights}
 use Rattle.node_master.specs.declared.ends.NodeEnd.{NodeEnd}
 use Rattle.node_master.specs.Ends.{IsNodeCut, EndsRight, IsFailedBy, IsOther, IsBest, ClosesWhole}
+use Rattle.master_rows.proofs.AddedRows.{floors-le, ceilings-le}
 
 -- a solution of least cost has the program's value
 least_value : {K : Type 0} (p : Program K) (v : ℤ) (q : ℕ) (ws : List (Weighted K)) (d : ℕ) → IsValue p v q → IsSolution p ws d → CostsLeast p ws d
@@ -135,25 +135,8 @@ module _ (i : Instance) (cuts : List Cut) (listed : ℕ → MasterKey → Type 0
                 sound busy day below few (omega (arith, ints)) (omega arith) fit.positive (prices_of h) rounded is cost m,
           )
 
--- ---- rows
-few_floors : (cs : List Cell) → length (floor_rows cs) ≤ length cs
-few_floors [] = omega arith
-few_floors (c ∷ cs) = by (has_floor c) (few_floors cs)
-  where
-    by : (b : Bool) → length (floor_rows cs) ≤ length cs → length (cond b (floor_row c ∷ []) [] ++ floor_rows cs) ≤ length (c ∷ cs)
-    by true h = omega arith
-    by false h = omega arith
-
-few_ceilings : (cs : List Cell) → length (ceiling_rows cs) ≤ length cs
-few_ceilings [] = omega arith
-few_ceilings (c ∷ cs) = by (has_ceiling c) (few_ceilings cs)
-  where
-    by : (b : Bool) → length (ceiling_rows cs) ≤ length cs → length (cond b (ceiling_row c ∷ []) [] ++ ceiling_rows cs) ≤ length (c ∷ cs)
-    by true h = omega arith
-    by false h = omega arith
-
 pub few_rows : (i : Instance) (cuts : List Cut) → IsSoundInstance i → length cuts < 2 ^ 31 → length (rows_of i cuts) < 2 ^ 32
-few_rows i cuts sound few = omega (arith, row_count i cuts, few_floors i.cells, few_ceilings i.cells, cells-le i sound)
+few_rows i cuts sound few = omega (arith, row_count i cuts, floors-le i.cells, ceilings-le i.cells, cells-le i sound)
 
 -- ---- kappa
 pub kappa_some : (i : Instance) (cuts : List Cut) (Listed : ℕ → MasterKey → Type 0) (basic : List Basic) (y : List ℤ) (kappa : ℤ) (value : Frac) → IsLpEnd (master i cuts) Listed basic y kappa value → pos 0 <ℤ kappa

@@ -19,11 +19,12 @@ use Rattle.bound_laws.specs.Lagrangian.{IsLagrangian}
 use Rattle.bound_laws.specs.BestPrices.{loss, IsRival, AreBest}
 use Rattle.bound_laws.specs.Priced.{IsPricedValue}
 use Rattle.bound_laws.specs.TreeRosters.{IsTreeRoster, trees_cost}
+use Rattle.bound_laws.specs.Counted.{HaveCounts}
 use Rattle.master_laws.specs.Rows.{rows_of}
 use Rattle.master_laws.specs.Master.{MasterKey, missing, beyond, tree, master}
 use Rattle.master_laws.specs.Laws.{IsBelowHeads}
 use Rattle.master_laws.specs.Sharp.{UsesArtificial}
-use Rattle.master_laws.specs.WholeCounts.{HasCounts, HaveCounts}
+use Rattle.master_laws.specs.WholeCounts.{HasCounts}
 use Rattle.tableau.specs.declared.simplex.LpFault.{LpFault}
 use Rattle.tableau.specs.declared.simplex.LpFault.TheVariants.{Wide as LpWide, Spent as LpSpent, Memory as LpMemory}
 use Rattle.tableau.specs.Risen.{HasRisen}

@@ -13,7 +13,7 @@ use Rattle.roster_model.specs.Arcs.{same_arc}
 use Rattle.roster_model.specs.Cuts.{lo, hi, group_arc, cuts_from, base_cuts}
 use Rattle.roster_model.specs.Folds.{sum_n, Each}
 use Rattle.roster_model.specs.SoundInstance.{IsSoundInstance, IsGroup, HasGroups}
-use Rattle.arc_laws.proofs.FoldsLemmas.{Each-append}
+use Rattle.roster_model.proofs.EachLemmas.{Each-append}
 use Rattle.arc_laws.proofs.SameArc.{Told, arc_tells, same_arc-refl}
 use Rattle.node_path.specs.Steps.{IsWithin, AreWithin}
 

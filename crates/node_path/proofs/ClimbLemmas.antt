@@ -8,7 +8,7 @@ use Rattle.roster_model.specs.declared.instance.Instance.{Instance}
 use Rattle.roster_model.specs.Arcs.{IsArc}
 use Rattle.roster_model.specs.Cuts.{base_cuts}
 use Rattle.roster_model.specs.Folds.{count, In, Each}
-use Rattle.arc_laws.proofs.FoldsLemmas.{Each-at}
+use Rattle.roster_model.proofs.EachLemmas.{Each-at}
 use Rattle.certificates.specs.Nodes.{low_cut, high_cut}
 use Rattle.growing_laws.specs.declared.seat.Seat.{Seat}
 use Rattle.growing_laws.specs.Grown.{Grown, tip, fork, OnForks, numbers}

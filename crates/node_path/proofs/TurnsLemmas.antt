@@ -1,35 +1,24 @@
 -- Turns: what the cuts of a path had before them.
-use Rattle.std.proofs.Common.{◌≡◌, ℕ, zero, suc, arith, ◌+◌, ◌≤◌, ◌<◌, Bool, true, false, cond, List, [], ◌∷◌, ◌++◌, length, take, refl, ap, sym, subst, ◌∙◌, Some, append_assoc}
+use Rattle.std.proofs.Common.{◌≡◌, ℕ, zero, suc, arith, ◌+◌, ◌≤◌, ◌<◌, List, [], ◌∷◌, ◌++◌, length, take, refl, ap, sym, subst, ◌∙◌, Some, append_assoc}
 use Rattle.std.specs.Prelude.{slice_get}
 use Rattle.std.proofs.lemmas.List.{append-nil}
 use Rattle.std.proofs.lemmas.Option.{same_Some, slice_get_within}
 use Rattle.roster_model.specs.declared.grammar.ArcKey.{ArcKey}
 use Rattle.roster_model.specs.declared.instance.Cut.{Cut}
 use Rattle.roster_model.specs.declared.instance.Instance.{Instance}
-use Rattle.roster_model.specs.declared.instance.Side.{Side}
-use Rattle.roster_model.specs.declared.instance.Side.TheVariants.{Low, High}
-use Rattle.roster_model.specs.Arcs.{same_arc, IsArc}
-use Rattle.roster_model.specs.Cuts.{hi, at_most}
-use Rattle.roster_model.specs.Folds.{In, Each}
+use Rattle.roster_model.specs.Arcs.{IsArc}
+use Rattle.roster_model.specs.Folds.{In}
+use Rattle.roster_model.proofs.EachLemmas.{get-in}
 use Rattle.parse_graph.specs.Graphs.{GraphView, IsGraph}
-use Rattle.parse_graph.proofs.PlacesLemmas.{In-at}
 use Rattle.arc_branch.specs.Boxes.{BoxView}
 use Rattle.node_path.specs.declared.turn.Turn.{Turn}
 use Rattle.node_path.specs.Paths.{IsTurn, AreTurns}
 use Rattle.node_path.specs.Steps.{IsWithin, AreWithin, HasTurned}
+use Rattle.arc_laws.proofs.PathBounds.{hi_le}
 
 -- an arc of the instance is one of the graph
 pub arc-listed : (i : Instance) (v : GraphView) (a : ArcKey) → IsGraph i.grammar v → (In a v.arcs → ⊥) → IsArc i.grammar a → ⊥
-arc-listed i v a graph none is = let r = graph.arcs.whole a is in none (In-at v.arcs r.0 a r.1)
-
-hi_le : (most : ℕ) (cuts : List Cut) (a : ArcKey) → hi most cuts a ≤ most
-hi_le most [] a = omega arith
-hi_le most (c ∷ cuts) a = by (same_arc c.arc a) c.side c.b (hi_le most cuts a)
-  where
-    by : (s : Bool) (side : Side) (b : ℕ) → hi most cuts a ≤ most → cond s (at_most side b (hi most cuts a)) (hi most cuts a) ≤ most
-    by false side b h = h
-    by true Low b h = omega (arith, h)
-    by true High b h = h
+arc-listed i v a graph none is = let r = graph.arcs.whole a is in none (get-in v.arcs r.0 a r.1)
 
 module _ (i : Instance) (v : GraphView) where
   -- one turn more
@@ -88,11 +77,6 @@ within-at i above (x ∷ cuts) zero c are at =
     subst (λ (xs : List Cut). IsWithin i xs c) (sym (append-nil above)) (subst (λ (y : Cut). IsWithin i above y) same are.0)
 within-at i above (x ∷ cuts) (suc k) c are at =
     subst (λ (xs : List Cut). IsWithin i xs c) (append_assoc above (x ∷ []) (take k cuts)) (within-at i (above ++ x ∷ []) cuts k c are.1 at)
-
-pub each-at : (P : Cut → Type 0) (cuts : List Cut) (k : ℕ) (c : Cut) → Each P cuts → slice_get cuts k ≡ Some c → P c
-each-at P [] k c h at = cc
-each-at P (x ∷ cuts) zero c h at = subst P (same_Some x c at) h.0
-each-at P (x ∷ cuts) (suc k) c h at = each-at P cuts k c h.1 at
 
 pub take-more : (above cuts : List Cut) (k : ℕ) (c : Cut) → slice_get cuts k ≡ Some c → (above ++ take k cuts) ++ c ∷ [] ≡ above ++ take (k + 1) cuts
 take-more above [] k c at = cc

@@ -13,8 +13,9 @@ use Rattle.arc_laws.specs.Balance.{made_sum, used_sum, IsBalanced}
 use Rattle.arc_laws.proofs.ArcSums.{counted}
 use Rattle.arc_laws.proofs.FoldsLemmas.{sum_n-same}
 use Rattle.arc_laws.proofs.SameArc.{rising-once}
+use Rattle.arc_laws.proofs.StandOnceLemmas.{once-counted}
 use Rattle.parse_graph.specs.Graphs.{GraphView, HasArcs, IsGraph}
-use Rattle.parse_graph.proofs.PlacesLemmas.{once-counted, in-graph, of-graph}
+use Rattle.parse_graph.proofs.PlacesLemmas.{in-graph, of-graph}
 use Rattle.roster_split.specs.Counts.{count_of}
 use Rattle.roster_model.specs.declared.grammar.Step.{Step}
 use Rattle.roster_split.specs.Splits.{HasBalance, IsSplit}

@@ -10,10 +10,10 @@ use Rattle.arc_laws.specs.Lists.{AreArcs}
 use Rattle.arc_laws.specs.Balance.{IsBalanced}
 use Rattle.linear_programs.specs.Solution.{Weighted}
 use Rattle.bound_laws.specs.TreeRosters.{IsTreeRoster, trees_cost}
+use Rattle.bound_laws.specs.Counted.{HaveCounts}
 use Rattle.certificate_laws.specs.Accepted.{bound_number}
 use Rattle.master_laws.specs.Master.{MasterKey}
 use Rattle.master_laws.specs.Sharp.{UsesArtificial}
-use Rattle.master_laws.specs.WholeCounts.{HaveCounts}
 use Rattle.parse_graph.specs.Graphs.{GraphView}
 use Rattle.roster_split.specs.Counts.{count_of}
 use Rattle.candidate_rosters.specs.declared.roster.Roster.{Roster}

@@ -13,8 +13,7 @@ use Rattle.tree_laws.proofs.Symbols.{here, here_last}
 use Rattle.arc_laws.specs.OrNodes.{OrNode, name, suffix, leaf, same_node, right_of, made_by, made, symbol_node, rest_node, used_by, used, root_of}
 use Rattle.arc_laws.proofs.BalanceLemmas.{left_of-is, right_of-is, tree_balanced, used_total}
 use Rattle.arc_laws.proofs.FoldsLemmas.{count-none}
-use Rattle.arc_laws.proofs.SameArc.{and_both}
-use Rattle.std.proofs.lemmas.Bool.{eqb-true, eq-eqb}
+use Rattle.std.proofs.lemmas.Bool.{eqb-true, eq-eqb, and_parts}
 
 pub made-name : (g : Grammar) (r k i l : ℕ) (rule : Rule) → rule_at g r ≡ Some rule → k ≡ 0 → made_by g r k i l ≡ name rule.left i l
 made-name g r zero i l rule at z = ap (λ (x : ℕ). name x i l) (left_of-is g r rule at)
@@ -50,16 +49,16 @@ module _ (g : Grammar) (a : ArcKey) (rule : Rule) (at : rule_at g a.rule ≡ Som
 
 pub same-node : (o p : OrNode) → same_node o p ≡ true → o ≡ p
 same-node (name x i l) (name y j m) h =
-    let p = and_both (nat_eq x y && nat_eq i j) (nat_eq l m) h in
-    let q = and_both (nat_eq x y) (nat_eq i j) p.0 in
+    let p = and_parts (nat_eq x y && nat_eq i j) (nat_eq l m) h in
+    let q = and_parts (nat_eq x y) (nat_eq i j) p.0 in
     rw (eqb-true x y q.0, eqb-true i j q.1, eqb-true l m p.1) refl
 same-node (suffix r k i l) (suffix s n j m) h =
-    let p = and_both (nat_eq r s && nat_eq k n && nat_eq i j) (nat_eq l m) h in
-    let q = and_both (nat_eq r s && nat_eq k n) (nat_eq i j) p.0 in
-    let z = and_both (nat_eq r s) (nat_eq k n) q.0 in
+    let p = and_parts (nat_eq r s && nat_eq k n && nat_eq i j) (nat_eq l m) h in
+    let q = and_parts (nat_eq r s && nat_eq k n) (nat_eq i j) p.0 in
+    let z = and_parts (nat_eq r s) (nat_eq k n) q.0 in
     rw (eqb-true r s z.0, eqb-true k n z.1, eqb-true i j q.1, eqb-true l m p.1) refl
 same-node (leaf a) (leaf b) h =
-    let p = and_both (nat_eq a.code b.code) (nat_eq a.period b.period) h in
+    let p = and_parts (nat_eq a.code b.code) (nat_eq a.period b.period) h in
     ap leaf (letters-same a.code b.code a.period b.period (eqb-true a.code b.code p.0) (eqb-true a.period b.period p.1))
   where
     letters-same : (c d i j : ℕ) → c ≡ d → i ≡ j → ◌≡◌ {A = Letter} (record { code = c; period = i }) (record { code = d; period = j })

@@ -6,6 +6,7 @@ use Rattle.std.proofs.lemmas.List.{get_or-take, length-take-le, length-map}
 use Rattle.roster_model.specs.declared.grammar.ArcKey.{ArcKey}
 use Rattle.roster_model.specs.declared.grammar.Grammar.{Grammar}
 use Rattle.roster_model.specs.Folds.{In}
+use Rattle.roster_model.proofs.EachLemmas.{get-in}
 use Rattle.arc_laws.specs.Lists.{AreArcs}
 use Rattle.arc_laws.specs.OrNodes.{OrNode, name, suffix, leaf, used, root_of}
 use Rattle.parse_graph.specs.declared.kid.Kid.{Kid}
@@ -19,7 +20,6 @@ use Rattle.parse_graph.specs.Lists.{AreRows}
 use Rattle.parse_graph.specs.Linked.{UsesListed, IsPlaceOf, AreLinked, IsLinked}
 use Rattle.parse_graph.specs.Nodes.{or_node}
 use Rattle.span_arcs.specs.Shapes.{IsShaped}
-use Rattle.parse_graph.proofs.PlacesLemmas.{In-at}
 use Rattle.span_arcs.proofs.ShapesLemmas.{arc-shaped}
 use Rattle.parse_graph.proofs.ArcUsesLemmas.{used-made, root-made}
 
@@ -71,7 +71,7 @@ graph-is g arcs keys numbers firsts rests me ue makers users root has few h rows
 
 -- the arcs of the instance have their shape
 pub all-shaped : (g : Grammar) (listed : List ArcKey) → AreArcs g listed → All (IsShaped g) listed
-all-shaped g listed are = λ k d l. arc-shaped g (get_or listed k d) (are.sound _ (In-at listed k _ (slice_get-get_or listed k d l)))
+all-shaped g listed are = λ k d l. arc-shaped g (get_or listed k d) (are.sound _ (get-in listed k _ (slice_get-get_or listed k d l)))
 
 -- what linked arcs and their rows make
 pub joints-are : (g : Grammar) (arcs : List ArcKey) (links : Links) (j : Joints) → HasArcs g arcs → length arcs ≤ 100000 → IsLinked g arcs links → j.links ≡ links.arcs → j.nodes.keys ≡ links.nodes.keys

@@ -1,16 +1,15 @@
 -- A search among the arcs in their order.
 use Rattle.std.proofs.Common.{◌≡◌, ℕ, arith, ◌+◌, ◌<◌, ◌≤◌, Bool, true, List, Some, length, refl, sym, ap, subst, ◌∙◌, ◌⊎◌, inl, inr}
-use Rattle.std.proofs.lemmas.Bool.{eqb-true, eq-eqb}
-use Rattle.arc_laws.proofs.SameArc.{and_both}
+use Rattle.std.proofs.lemmas.Bool.{eqb-true, eq-eqb, and_parts}
 use Rattle.std.specs.Prelude.{slice_get, nat_eq, ◌&&◌}
 use Rattle.std.proofs.lemmas.Option.{same_Some, slice_get_within, slice_get-get_or}
 use Rattle.roster_model.specs.declared.grammar.ArcKey.{ArcKey}
 use Rattle.roster_model.specs.Arcs.{ArcBefore, arc_numbers}
 use Rattle.roster_model.specs.Folds.{In}
-use Rattle.span_arcs.proofs.OrderLemmas.{comes-first}
+use Rattle.roster_model.proofs.ComesFirstLemmas.{first_apart, first_through}
+use Rattle.roster_model.proofs.EachLemmas.{in-get}
 use Rattle.parse_graph.specs.Levels.{AreInOrder}
-use Rattle.parse_graph.proofs.LevelsLemmas.{not_before, three}
-use Rattle.parse_graph.proofs.PlacesLemmas.{at-In}
+use Rattle.parse_graph.proofs.LevelsLemmas.{three}
 
 -- the arcs before low come before the arc, and those from high on do not
 pub record IsSearched (arcs : List ArcKey) (places : List ℕ) (arc : ArcKey) (low high : ℕ) : Type 0 where
@@ -39,7 +38,7 @@ module _ (arcs : List ArcKey) (places : List ℕ) (arc : ArcKey) (ordered : AreI
     }
       where
         by : (k p : ℕ) (a : ArcKey) → slice_get places k ≡ Some p → slice_get arcs p ≡ Some a → (k < m) ⊎ ((k ≡ m) ⊎ (m < k)) → k < m + 1 → ArcBefore a arc
-        by k p a e f (inl l) n = comes-first (arc_numbers a) (arc_numbers b) (arc_numbers arc) (ordered.rising k m p q a b l e at f here) less
+        by k p a e f (inl l) n = first_through (arc_numbers a) (arc_numbers b) (arc_numbers arc) (ordered.rising k m p q a b l e at f here) less
         by k p a e f (inr (inl s)) n =
             let same = same_Some p q (sym e ∙ ap (slice_get places) s ∙ at) in
             subst (λ (x : ArcKey). ArcBefore x arc) (same_Some b a (sym here ∙ sym (ap (slice_get arcs) same) ∙ f)) less
@@ -58,17 +57,17 @@ module _ (arcs : List ArcKey) (places : List ℕ) (arc : ArcKey) (ordered : AreI
         by k p a e f (inr (inl s)) n less =
             let same = same_Some p q (sym e ∙ ap (slice_get places) s ∙ at) in
             more (subst (λ (x : ArcKey). ArcBefore x arc) (same_Some a b (sym f ∙ ap (slice_get arcs) same ∙ here)) less)
-        by k p a e f (inr (inr l)) n less = more (comes-first (arc_numbers b) (arc_numbers a) (arc_numbers arc) (ordered.rising m k q p b a l at e here f) less)
+        by k p a e f (inr (inr l)) n less = more (first_through (arc_numbers b) (arc_numbers a) (arc_numbers arc) (ordered.rising m k q p b a l at e here f) less)
 
   -- an arc that stands in the list stands where the search ends
   pub searched-end : (low high : ℕ) → IsSearched arcs places arc low high → high ≤ low → In arc arcs → (p : ℕ) × (slice_get places low ≡ Some p) × (slice_get arcs p ≡ Some arc)
   searched-end low high h end there =
-      let p = at-In arcs arc there in
+      let p = in-get arcs arc there in
       let k = ordered.whole p.0 (slice_get_within arcs p.0 arc p.1) in
       by p.0 k.0 p.1 k.1 (three k.0 low)
     where
       by : (p k : ℕ) → slice_get arcs p ≡ Some arc → slice_get places k ≡ Some p → (k < low) ⊎ ((k ≡ low) ⊎ (low < k)) → (p : ℕ) × (slice_get places low ≡ Some p) × (slice_get arcs p ≡ Some arc)
-      by p k e f (inl l) = absurd (not_before (arc_numbers arc) (h.under k p arc l f e))
+      by p k e f (inl l) = absurd (first_apart (arc_numbers arc) (h.under k p arc l f e))
       by p k e f (inr (inl s)) = (p, sym (ap (slice_get places) s) ∙ f, e)
       by p k e f (inr (inr l)) =
           let inside : low < length places = omega (arith, l, slice_get_within places k p f) in
@@ -83,10 +82,10 @@ arc_eq a b = nat_eq a.rule b.rule && (nat_eq a.suffix b.suffix && (nat_eq a.star
 
 pub same-arc : (a b : ArcKey) → arc_eq a b ≡ true → a ≡ b
 same-arc a b h =
-    let p = and_both (nat_eq a.rule b.rule) (nat_eq a.suffix b.suffix && (nat_eq a.start b.start && (nat_eq a.len b.len && nat_eq a.part b.part))) h in
-    let q = and_both (nat_eq a.suffix b.suffix) (nat_eq a.start b.start && (nat_eq a.len b.len && nat_eq a.part b.part)) p.1 in
-    let r = and_both (nat_eq a.start b.start) (nat_eq a.len b.len && nat_eq a.part b.part) q.1 in
-    let s = and_both (nat_eq a.len b.len) (nat_eq a.part b.part) r.1 in
+    let p = and_parts (nat_eq a.rule b.rule) (nat_eq a.suffix b.suffix && (nat_eq a.start b.start && (nat_eq a.len b.len && nat_eq a.part b.part))) h in
+    let q = and_parts (nat_eq a.suffix b.suffix) (nat_eq a.start b.start && (nat_eq a.len b.len && nat_eq a.part b.part)) p.1 in
+    let r = and_parts (nat_eq a.start b.start) (nat_eq a.len b.len && nat_eq a.part b.part) q.1 in
+    let s = and_parts (nat_eq a.len b.len) (nat_eq a.part b.part) r.1 in
     five a.rule b.rule a.suffix b.suffix a.start b.start a.len b.len a.part b.part (eqb-true a.rule b.rule p.0) (eqb-true a.suffix b.suffix q.0) (eqb-true a.start b.start r.0) (eqb-true a.len b.len s.0) (eqb-true a.part b.part s.1)
   where
     five : (r r' k k' i i' l l' s s' : ℕ) → r ≡ r' → k ≡ k' → i ≡ i' → l ≡ l' → s ≡ s'

@@ -9,6 +9,7 @@ use Rattle.roster_model.specs.declared.grammar.Sym.{Sym}
 use Rattle.roster_model.specs.declared.grammar.Sym.TheVariants.{Code, Name}
 use Rattle.tree_laws.proofs.ListPushes.{push-kept, push-here, push-cases}
 use Rattle.arc_laws.specs.OrNodes.{OrNode, name, suffix, leaf, same_node, right_of, made, symbol_node, rest_node, used_by, used}
+use Rattle.arc_laws.specs.AtNodes.{start_of}
 use Rattle.parse_graph.specs.declared.kid.Kid.{Kid}
 use Rattle.parse_graph.specs.declared.kid.Kid.TheVariants.{Nothing, Letter, Node}
 use Rattle.parse_graph.specs.declared.rows.Entry.{Entry}
@@ -45,13 +46,7 @@ items-none m (e ∷ es) h =
     ∙ ap (λ (xs : List ℕ). xs ++ items_of m es) (item-other m e (λ q. absurd (omega (arith, q, h 0 e (omega arith)))))
     ∙ items-none m es (λ k d l. h (suc k) d (omega (arith, l)))
 
--- the first part begins where the arc does, and what follows it later
-abbrev node_start : OrNode → ℕ
-node_start (name x i l) = i
-node_start (suffix r k i l) = i
-node_start (leaf a) = a.period
-
-start-of : (s : Sym) (i l : ℕ) → node_start (symbol_node s i l) ≡ i
+start-of : (s : Sym) (i l : ℕ) → start_of (symbol_node s i l) ≡ i
 start-of (Code c) i l = refl
 start-of (Name x) i l = refl
 
@@ -64,17 +59,17 @@ used-apart g a u v some e same = by (drop a.suffix (right_of g a.rule)) e
     second : (x y : OrNode) (xs ys : List OrNode) → x ∷ xs ≡ y ∷ ys → xs ≡ ys
     second x y xs ys e = cc
 
-    late : (ss : List Sym) → rest_node ss a.rule (suc a.suffix) (a.start + a.part) (a.len - a.part) ≡ v ∷ [] → node_start v ≡ a.start + a.part
+    late : (ss : List Sym) → rest_node ss a.rule (suc a.suffix) (a.start + a.part) (a.len - a.part) ≡ v ∷ [] → start_of v ≡ a.start + a.part
     late [] f = cc
-    late (s ∷ []) f = sym (ap node_start (first _ _ _ _ f)) ∙ start-of s (a.start + a.part) (a.len - a.part)
-    late (s ∷ x ∷ ss) f = sym (ap node_start (first _ _ _ _ f))
+    late (s ∷ []) f = sym (ap start_of (first _ _ _ _ f)) ∙ start-of s (a.start + a.part) (a.len - a.part)
+    late (s ∷ x ∷ ss) f = sym (ap start_of (first _ _ _ _ f))
 
     by : (ss : List Sym) → used_by ss a ≡ u ∷ v ∷ [] → ⊥
     by [] f = cc
     by (s ∷ ss) f =
-        let early = sym (ap node_start (first _ _ _ _ f)) ∙ start-of s a.start a.part in
+        let early = sym (ap start_of (first _ _ _ _ f)) ∙ start-of s a.start a.part in
         let after = late ss (second _ _ _ _ f) in
-        absurd (omega (arith, early, after, ap node_start same, some))
+        absurd (omega (arith, early, after, ap start_of same, some))
 
 module _ (listed : List OrNode) (once : (n m : ℕ) (o : OrNode) → slice_get listed n ≡ Some o → slice_get listed m ≡ Some o → n ≡ m) (m : ℕ) (o : OrNode) (at : slice_get listed m ≡ Some o) (num : ℕ) where
   node-use : (n : ℕ) (u : OrNode) → slice_get listed n ≡ Some u → items_of m (uses_of (Node n) num) ≡ cond (same_node o u) (num ∷ []) []

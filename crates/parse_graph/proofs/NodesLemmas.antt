@@ -2,14 +2,13 @@
 use Rattle.std.proofs.Common.{◌≡◌, ℕ, zero, suc, Bool, true, false, List, [], ◌∷◌, ◌++◌, Option, None, Some, length, get_or, map, refl, sym, ap, subst, ◌∙◌, ◌⊎◌, inl, inr, true≢false, is_some, if◌then◌else◌}
 use Rattle.std.specs.Prelude.{slice_get, nat_eq, ◌&&◌, ◌||◌, option_map, position}
 use Rattle.std.specs.List.{list_any}
-use Rattle.std.proofs.lemmas.Bool.{eqb-true, eq-eqb}
+use Rattle.std.proofs.lemmas.Bool.{eqb-true, eq-eqb, and_parts}
 use Rattle.std.proofs.lemmas.Option.{same_Some, slice_get-get_or, slice_get-map}
 use Rattle.std.proofs.lemmas.List.{length-map}
 use Rattle.std.proofs.lemmas.List.Quantifiers.{position-Some}
 use Rattle.indexmap.specs.IndexSet.{insert_key}
 use Rattle.tree_laws.proofs.ListPushes.{push-cases}
 use Rattle.arc_laws.specs.OrNodes.{OrNode}
-use Rattle.arc_laws.proofs.SameArc.{and_both}
 use Rattle.parse_graph.specs.declared.node.NodeKey.{NodeKey}
 use Rattle.parse_graph.specs.declared.node.NodeKey.TheVariants.{Name, Suffix}
 use Rattle.parse_graph.specs.declared.kid.Kid.TheVariants.{Node}
@@ -23,13 +22,13 @@ key_eq = eq-value.it
 
 same-key : (x y : NodeKey) → key_eq x y ≡ true → x ≡ y
 same-key (Name a i l) (Name b j m) h =
-    let p = and_both (nat_eq a b) (nat_eq i j && nat_eq l m) h in
-    let q = and_both (nat_eq i j) (nat_eq l m) p.1 in
+    let p = and_parts (nat_eq a b) (nat_eq i j && nat_eq l m) h in
+    let q = and_parts (nat_eq i j) (nat_eq l m) p.1 in
     rw (eqb-true a b p.0, eqb-true i j q.0, eqb-true l m q.1) refl
 same-key (Suffix r k i l) (Suffix s n j m) h =
-    let p = and_both (nat_eq r s) (nat_eq k n && (nat_eq i j && nat_eq l m)) h in
-    let q = and_both (nat_eq k n) (nat_eq i j && nat_eq l m) p.1 in
-    let z = and_both (nat_eq i j) (nat_eq l m) q.1 in
+    let p = and_parts (nat_eq r s) (nat_eq k n && (nat_eq i j && nat_eq l m)) h in
+    let q = and_parts (nat_eq k n) (nat_eq i j && nat_eq l m) p.1 in
+    let z = and_parts (nat_eq i j) (nat_eq l m) q.1 in
     rw (eqb-true r s p.0, eqb-true k n q.0, eqb-true i j z.0, eqb-true l m z.1) refl
 same-key (Name a i l) (Suffix s n j m) h = absurd (true≢false (sym h))
 same-key (Suffix r k i l) (Name b j m) h = absurd (true≢false (sym h))

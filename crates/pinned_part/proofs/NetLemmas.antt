@@ -15,11 +15,12 @@ use Rattle.roster_model.specs.Folds.{sum_n, count, Each, In}
 use Rattle.roster_model.specs.Arcs.{Letter, letters, arcs, IsArc}
 use Rattle.roster_model.specs.Limits.{IsDayCell}
 use Rattle.roster_model.specs.Sound.{IsSound}
+use Rattle.roster_model.proofs.EachLemmas.{Each-at, Each-in}
 use Rattle.arc_laws.specs.OrNodes.{OrNode, name, suffix, leaf, made, made_by, right_of, used, used_by, same_node, root_of}
 use Rattle.arc_laws.specs.Balance.{made_sum, used_sum, IsBalanced}
 use Rattle.arc_laws.specs.Counts.{letter_count, root_count, AreCounts}
 use Rattle.arc_laws.proofs.BalanceLemmas.{tree_balanced}
-use Rattle.arc_laws.proofs.FoldsLemmas.{sum_n-append, sum_n-same, sum_n-zero, count-none, count-le-length, Each-in, Each-at}
+use Rattle.arc_laws.proofs.FoldsLemmas.{sum_n-append, sum_n-same, sum_n-zero, count-none, count-le-length}
 use Rattle.arc_laws.proofs.Totals.{made_count, node_once}
 use Rattle.pinned_part.specs.Places.{node_place, place_count, IsPlaced}
 use Rattle.pinned_part.specs.Net.{made_in, used_in, at, IsCounted, IsNet, AreZero, size_at, cell_size, AreAllowed}

@@ -15,8 +15,8 @@ use Rattle.roster_model.specs.Grammar.{rule_at}
 use Rattle.roster_model.specs.Sound.{IsSound}
 use Rattle.tree_laws.proofs.Rules.{sound-rule}
 use Rattle.arc_laws.specs.Counts.{top_cost, cost_at}
-use Rattle.pinned_part.specs.SmallCuts.{IsSmallCut}
 use Rattle.roster_model.specs.Cuts.{lo, hi, at_least, at_most}
+use Rattle.roster_model.specs.Limits.{IsSmallCut}
 
 -- the next cut and those after it
 pub lo_next : (cuts : List Cut) (a : ArcKey) (k : ℕ) (d : Cut) → k < length cuts → lo (drop k cuts) a ≡ max (cond (same_arc (get_or cuts k d).arc a) (at_least (get_or cuts k d).side (get_or cuts k d).b) 0) (lo (drop (suc k) cuts) a)

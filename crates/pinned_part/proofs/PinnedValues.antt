@@ -11,7 +11,7 @@ use Rattle.roster_model.specs.GreatestCost.{greatest_cost}
 use Rattle.roster_model.specs.SoundInstance.{IsSoundInstance}
 use Rattle.roster_model.proofs.CostBounds.{cells-le}
 use Rattle.roster_model.proofs.SoundCells.{cells_of_day}
-use Rattle.arc_laws.proofs.FoldsLemmas.{Each-in}
+use Rattle.roster_model.proofs.EachLemmas.{Each-in}
 use Rattle.bound_laws.specs.Pinned.{IsPinnedValue}
 use Rattle.pinned_part.specs.Counted.{AreCounted}
 use Rattle.pinned_part.specs.Net.{AreZero, IsWithinHeads, AreAllowed, cell_size}

@@ -1,7 +1,7 @@
 -- Each node has a place of its own.
 use Rattle.std.proofs.Common.{◌≡◌, ℕ, zero, suc, arith, ◌+◌, ◌-◌, ◌*◌, ◌^◌, ◌<◌, ◌≤◌, Bool, true, false, List, [], ◌∷◌, length, drop, get_or, refl, ap, sym, subst, ◌∙◌, ◌⊎◌, inl, inr, add-one}
 use Rattle.std.specs.Prelude.{nat_eq, ◌&&◌}
-use Rattle.std.proofs.lemmas.Bool.{eqb-true, eq-eqb}
+use Rattle.std.proofs.lemmas.Bool.{eqb-true, eq-eqb, and_parts}
 use Rattle.std.proofs.lemmas.Nat.{mul-add-lt, mul-le}
 use Rattle.std.proofs.Math.Seq.{drop-cons}
 use Rattle.tree_laws.proofs.Symbols.{here, here_last}
@@ -19,7 +19,6 @@ use Rattle.span_forms.proofs.Rows.{place-within, place-apart, shorter-small}
 use Rattle.span_cells.proofs.CellsLemmas.{same-row}
 use Rattle.arc_laws.specs.OrNodes.{OrNode, name, suffix, leaf, same_node, made, made_by, symbol_node, used, used_by}
 use Rattle.arc_laws.proofs.BalanceLemmas.{left_of-is, right_of-is}
-use Rattle.arc_laws.proofs.SameArc.{and_both}
 use Rattle.span_arcs.specs.Shapes.{IsSplit}
 use Rattle.pinned_part.specs.Places.{width, node_count, place_count, span_place, node_place, IsPlaced}
 
@@ -111,22 +110,22 @@ node-itself (leaf c) = let a = eq-eqb c.code c.code refl in let b = eq-eqb c.per
 -- and as no other
 pub node-same : (o q : OrNode) → same_node o q ≡ true → o ≡ q
 node-same (name x i l) (name y j m) e =
-    let h2 = and_both (nat_eq x y && nat_eq i j) (nat_eq l m) e in
-    let h1 = and_both (nat_eq x y) (nat_eq i j) h2.0 in
+    let h2 = and_parts (nat_eq x y && nat_eq i j) (nat_eq l m) e in
+    let h1 = and_parts (nat_eq x y) (nat_eq i j) h2.0 in
     rw (eqb-true x y h1.0, eqb-true i j h1.1, eqb-true l m h2.1) refl
 node-same (name x i l) (suffix q n j m) e = cc
 node-same (name x i l) (leaf c) e = cc
 node-same (suffix r k i l) (name y j m) e = cc
 node-same (suffix r k i l) (suffix q n j m) e =
-    let h3 = and_both (nat_eq r q && nat_eq k n && nat_eq i j) (nat_eq l m) e in
-    let h2 = and_both (nat_eq r q && nat_eq k n) (nat_eq i j) h3.0 in
-    let h1 = and_both (nat_eq r q) (nat_eq k n) h2.0 in
+    let h3 = and_parts (nat_eq r q && nat_eq k n && nat_eq i j) (nat_eq l m) e in
+    let h2 = and_parts (nat_eq r q && nat_eq k n) (nat_eq i j) h3.0 in
+    let h1 = and_parts (nat_eq r q) (nat_eq k n) h2.0 in
     rw (eqb-true r q h1.0, eqb-true k n h1.1, eqb-true i j h2.1, eqb-true l m h3.1) refl
 node-same (suffix r k i l) (leaf c) e = cc
 node-same (leaf c) (name y j m) e = cc
 node-same (leaf c) (suffix q n j m) e = cc
 node-same (leaf c) (leaf d) e =
-    let h = and_both (nat_eq c.code d.code) (nat_eq c.period d.period) e in
+    let h = and_parts (nat_eq c.code d.code) (nat_eq c.period d.period) e in
     letters c.code c.period d.code d.period (eqb-true c.code d.code h.0) (eqb-true c.period d.period h.1)
   where
     letters : (a b x y : ℕ) → a ≡ x → b ≡ y → leaf (record { code = a; period = b }) ≡ leaf (record { code = x; period = y })

@@ -1,4 +1,3 @@
-pub mod SmallCuts
 pub mod Places
 pub mod Net
 pub mod Counted

@@ -1,6 +1,6 @@
 ghost use Rattle.std.specs.Prelude.{◌≡◌, ◌≤◌, All};
 ghost use Rattle.roster_model.specs.Cuts.{lo, hi};
-ghost use Rattle.pinned_part.specs.SmallCuts.{IsSmallCut};
+ghost use Rattle.roster_model.specs.Limits.{IsSmallCut};
 
 use roster_model::{ArcKey, Cut, Side};
 

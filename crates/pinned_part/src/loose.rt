@@ -3,7 +3,7 @@ ghost use Rattle.roster_model.specs.SoundInstance.{IsSoundInstance};
 ghost use Rattle.arc_laws.specs.Loose.{IsLoose, IsFirstLoose};
 ghost use Rattle.bound_laws.specs.Pinned.{IsPinned};
 ghost use Rattle.span_arcs.specs.DayArcs.{IsDayArcsOf};
-ghost use Rattle.pinned_part.specs.SmallCuts.{IsSmallCut};
+ghost use Rattle.roster_model.specs.Limits.{IsSmallCut};
 
 use crate::bounds::{high, low};
 use roster_model::{ArcKey, Cut, Instance};

@@ -6,7 +6,7 @@ ghost use Rattle.roster_model.specs.Folds.{sum_n};
 ghost use Rattle.roster_model.specs.SoundInstance.{IsSoundInstance};
 ghost use Rattle.bound_laws.specs.Pinned.{IsPinnedValue};
 ghost use Rattle.span_arcs.specs.DayArcs.{IsDayArcsOf};
-ghost use Rattle.pinned_part.specs.SmallCuts.{IsSmallCut};
+ghost use Rattle.roster_model.specs.Limits.{IsSmallCut};
 ghost use Rattle.pinned_part.specs.Net.{AreAllowed, cell_size};
 ghost use Rattle.pinned_part.specs.Places.{place_count};
 ghost use Rattle.pinned_part.specs.Rooms.{IsRoomFor};

@@ -4,7 +4,7 @@ ghost use Rattle.arc_laws.specs.Counts.{top_cost};
 ghost use Rattle.span_arcs.specs.DayArcs.{IsDayArcsOf};
 ghost use Rattle.span_arcs.specs.Shapes.{IsSplit};
 ghost use Rattle.pinned_part.specs.Places.{place_count};
-ghost use Rattle.pinned_part.specs.SmallCuts.{IsSmallCut};
+ghost use Rattle.roster_model.specs.Limits.{IsSmallCut};
 ghost use Rattle.pinned_part.specs.Counted.{AreCounted};
 
 use crate::bounds::low;

@@ -1,7 +1,7 @@
 -- Of balanced counts, no letter is counted more often than the root.
 use Rattle.std.proofs.Common.{◌≡◌, ℕ, zero, suc, arith, ◌+◌, ◌*◌, ◌≤◌, Bool, true, false, cond, not, List, [], ◌∷◌, ◌++◌, sym, refl, ap, ◌∙◌, inl, inr}
 use Rattle.std.specs.Prelude.{nat_eq, ◌&&◌}
-use Rattle.std.proofs.lemmas.Bool.{eqb-true, eq-eqb}
+use Rattle.std.proofs.lemmas.Bool.{eqb-true, eq-eqb, and_parts}
 use Rattle.std.proofs.lemmas.Bool.Decides.{nat_tests}
 use Rattle.roster_model.specs.declared.grammar.ArcKey.{ArcKey}
 use Rattle.roster_model.specs.declared.grammar.Grammar.{Grammar}
@@ -12,7 +12,6 @@ use Rattle.arc_laws.specs.Balance.{used_sum, IsBalanced}
 use Rattle.arc_laws.specs.Counts.{root_count}
 use Rattle.arc_laws.specs.Lists.{AreArcs}
 use Rattle.arc_laws.proofs.FoldsLemmas.{sum_n-same}
-use Rattle.arc_laws.proofs.SameArc.{and_both}
 use Rattle.plain_counts.proofs.Nodes.{same_node-true, same_node-refl}
 use Rattle.plain_counts.proofs.Totals.{Weighted, total, equal_totals}
 use Rattle.plain_counts.proofs.ArcPeriods.{is_on, covers_period}
@@ -62,7 +61,7 @@ module _ (g : Grammar) (p : ℕ) where
       by : (b : Bool) → count inner os + count (same_node (leaf l)) os ≤ count (is_on p) os → same_node (leaf l) (leaf a) ≡ b
           → count inner (leaf a ∷ os) + count (same_node (leaf l)) (leaf a ∷ os) ≤ count (is_on p) (leaf a ∷ os)
       by true rest h =
-          let both = and_both (nat_eq l.code a.code) (nat_eq l.period a.period) h in
+          let both = and_parts (nat_eq l.code a.code) (nat_eq l.period a.period) h in
           let same = eqb-true l.period a.period both.1 in
           let on = eq-eqb a.period p (sym same ∙ e) in
           rw (h, on) (omega (arith, rest))
@@ -122,7 +121,7 @@ module _ (g : Grammar) (value : ArcKey → ℕ) where
 
     agree : (o : OrNode) → inner g l.period o ≡ true → total (same_node o) (made_list listed) ≡ total (same_node o) (used_list listed)
     agree (name x i n) e =
-        let both = and_both _ (not (same_node (root_of g) (name x i n))) e in
+        let both = and_parts _ (not (same_node (root_of g) (name x i n))) e in
         made_total (same_node (name x i n)) listed ∙ balanced.names x i n (other (name x i n) (not_true _ both.1)) ∙ sym (used_total (same_node (name x i n)) listed)
     agree (suffix r k i n) e = made_total (same_node (suffix r k i n)) listed ∙ balanced.suffixes r k i n ∙ sym (used_total (same_node (suffix r k i n)) listed)
     agree (leaf a) e = cc

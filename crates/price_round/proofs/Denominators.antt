@@ -4,14 +4,11 @@ use Rattle.std.specs.Int.{IsGcd, ◌∣◌}
 use Rattle.std.proofs.lemmas.Int.{ints}
 use Rattle.std.proofs.lemmas.Nat.Gcd.{dvd_trans}
 use Rattle.std.proofs.Math.Nat.{div-mul_cancel, mul-div_cancel'}
-use native.Mathlib.Nat.{le_antisymm, le_of_mul-le-mul_right, dvd-mul_left, dvd-mul_right, le_of_dvd}
-use Rattle.fraction.proofs.CoprimeProducts.{gauss}
+use native.Mathlib.Nat.{dvd-mul_left, dvd-mul_right, le_of_dvd}
+use Rattle.fraction.proofs.CoprimeProducts.{gauss, cancel}
 use Rattle.fraction.proofs.LowestTerms.{gcd_positive, reduced_quot}
 use Rattle.master_laws.specs.Rounding.{IsMadeWhole}
 use Rattle.price_round.specs.Denominators.{IsNext, IsPast}
-
-cancel : (x n d : ℕ) → 0 < d → x * d ≡ n * d → x ≡ n
-cancel x n d p e = le_antisymm (le_of_mul-le-mul_right (omega (arith, e)) p) (le_of_mul-le-mul_right (omega (arith, e)) p)
 
 divides : (k n m : ℕ) → k * m ≡ n → k ∣ n
 divides k n m e = subst (λ j. k ∣ j) e (dvd-mul_right k m)

@@ -9,8 +9,7 @@ use Rattle.roster_model.specs.Folds.{Each}
 use Rattle.roster_model.specs.PriceLimits.{IsMult, AreRising, Lacks}
 use Rattle.roster_model.specs.Reduced.{mult_of, signed}
 use Rattle.roster_model.proofs.Mults.{lacked}
-use Rattle.arc_laws.proofs.FoldsLemmas.{Each-same, Each-append}
-use Rattle.bound_laws.proofs.SoundCodes.{All-each}
+use Rattle.roster_model.proofs.EachLemmas.{all_each, Each-weaker, Each-append}
 use Rattle.master_laws.specs.Rounding.{IsFloor, AreFloors, AreMults}
 use Rattle.master_laws.specs.Laws.{HasSign, HaveSigns}
 use Rattle.price_round.specs.Floors.{AreMultsOf, with_mult}
@@ -72,7 +71,7 @@ module _ (kappa : ℤ) (d : ℕ) where
     count = simp length-append
 
     before : Each (λ (m : Mult). m.cut ≤ length cs) ms
-    before = Each-same (IsMult (length cs)) (λ (m : Mult). m.cut ≤ length cs) ms (λ (m : Mult) i. i.last) (All-each (IsMult (length cs)) ms h.each)
+    before = Each-weaker (IsMult (length cs)) (λ (m : Mult). m.cut ≤ length cs) ms (λ (m : Mult) i. i.last) (all_each (IsMult (length cs)) ms h.each)
 
     one : 1 + length cs ≡ length cs + 1
     one = omega arith
@@ -94,7 +93,7 @@ module _ (kappa : ℤ) (d : ℕ) where
               (rw (one, own ms m (later (length cs) ms before)) f) h.floors;
           each = rw count (All-push (IsMult (length cs + 1)) ms m (wider (length cs) (length cs + 1) ms (omega arith) h.each)
               (record { first = omega arith; last = omega arith; least = omega (arith, ints); most = most }));
-          rising = rising_more ms m h.rising (Each-same (λ (n : Mult). n.cut ≤ length cs) (λ (n : Mult). n.cut < m.cut) ms (λ (n : Mult) l. omega (arith, l)) before);
+          rising = rising_more ms m h.rising (Each-weaker (λ (n : Mult). n.cut ≤ length cs) (λ (n : Mult). n.cut < m.cut) ms (λ (n : Mult) l. omega (arith, l)) before);
           few = rw (count, length-append ms (m ∷ [])) (omega (arith, h.few));
           above = Each-append (λ (n : Mult). pos 0 <ℤ n.value) ms (m ∷ []) h.above (some, tt);
         }

@@ -4,9 +4,8 @@ use Rattle.std.specs.Int.{◌∣◌}
 use native.Mathlib.Nat.{one-dvd, le_of_dvd, dvd-mul_right}
 use native.Mathlib.Numerals.{add-one}
 use Rattle.roster_model.specs.Folds.{Each}
-use Rattle.arc_laws.proofs.FoldsLemmas.{Each-append}
+use Rattle.roster_model.proofs.EachLemmas.{Each-append, Each-left, Each-right}
 use Rattle.master_laws.specs.Rounding.{IsMadeWhole, IsLeastWhole}
-use Rattle.master_laws.proofs.Lines.{Each-front, Each-back}
 use Rattle.price_round.specs.Denominators.{IsNext, IsPast, AreAllPast, IsLeastFor}
 
 pub first : (kappa : ℤ) → IsLeastFor kappa [] 1
@@ -16,7 +15,7 @@ next_of : (kappa : ℤ) (xs : List ℤ) (x : ℤ) (d l : ℕ) → IsLeastFor kap
 next_of kappa xs x d l h n = record {
   some = n.some;
   few = n.few;
-  into = λ e w. n.into e (h.into e (Each-front (IsMadeWhole kappa e) xs (x ∷ []) w)) (Each-back (IsMadeWhole kappa e) xs (x ∷ []) w).0;
+  into = λ e w. n.into e (h.into e (Each-left (IsMadeWhole kappa e) xs (x ∷ []) w)) (Each-right (IsMadeWhole kappa e) xs (x ∷ []) w).0;
   made = λ e w. Each-append (IsMadeWhole kappa e) xs (x ∷ []) (h.made e (n.old e w)) (n.made e w, tt);
 }
 
@@ -34,10 +33,10 @@ module _ (kappa : ℤ) (before xs : List ℤ) where
   pub past : (k d : ℕ) → k < length xs → IsLeastFor kappa (before ++ take k xs) d → IsPast d (get_or xs k (pos 0)) kappa → AreAllPast kappa (before ++ xs)
   past k d h f p e some all =
       let P : ℤ → Type 0 = IsMadeWhole kappa e in
-      let taken = each_take P (suc k) xs (Each-back P before xs all) in
+      let taken = each_take P (suc k) xs (Each-right P before xs all) in
       let taken' : Each P (take k xs ++ get_or xs k (pos 0) ∷ []) = rw (take-suc xs k (pos 0) h) at taken in
-      let front = Each-append P before (take k xs) (Each-front P before xs all) (Each-front P (take k xs) _ taken') in
-      p e some (f.into e front) (Each-back P (take k xs) _ taken').0
+      let front = Each-append P before (take k xs) (Each-left P before xs all) (Each-left P (take k xs) _ taken') in
+      p e some (f.into e front) (Each-right P (take k xs) _ taken').0
 
   pub last : (k d : ℕ) → length xs ≤ k → IsLeastFor kappa (before ++ take k xs) d → IsLeastFor kappa (before ++ xs) d
   last k d h f = rw (take_all k xs h) at f
@@ -49,4 +48,4 @@ pub whole : (kappa : ℤ) (xs : List ℤ) (d : ℕ) → IsLeastFor kappa xs d �
 whole kappa xs d h = record { some = h.some; whole = h.made d (subst (λ n. d ∣ n) (omega arith) (dvd-mul_right d 1)); least = λ e s w. le_of_dvd s (h.into e w) }
 
 pub still_past : (kappa : ℤ) (xs ys : List ℤ) → AreAllPast kappa xs → AreAllPast kappa (xs ++ ys)
-still_past kappa xs ys h e some all = h e some (Each-front (IsMadeWhole kappa e) xs ys all)
+still_past kappa xs ys h e some all = h e some (Each-left (IsMadeWhole kappa e) xs ys all)

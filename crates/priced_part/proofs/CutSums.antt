@@ -11,11 +11,11 @@ use Rattle.roster_model.specs.declared.instance.Cut.{Cut}
 use Rattle.roster_model.specs.declared.instance.Mult.{Mult}
 use Rattle.roster_model.specs.declared.instance.Side.{Side}
 use Rattle.roster_model.specs.declared.instance.Side.TheVariants.{Low, High}
-use Rattle.roster_model.specs.Folds.{Each, sum_z}
+use Rattle.roster_model.specs.Folds.{sum_z}
 use Rattle.roster_model.specs.PriceLimits.{AreRising, Lacks}
 use Rattle.roster_model.specs.Reduced.{mult_of, cut_prices}
 use Rattle.roster_model.specs.Sums.{Within}
-use Rattle.roster_model.proofs.Mults.{lacked}
+use Rattle.roster_model.proofs.Mults.{lacked, lacks}
 use Rattle.bound_laws.specs.Lagrangian.{share_of, cut_share}
 
 abbrev cuts_sum : ℕ → List Cut → List Mult → ℤ
@@ -57,10 +57,6 @@ taken m ms j (suc k) (x ∷ cs) c h e at = elim (eqb_tells m.cut j) [
   | inl p ↦ absurd (omega (arith, p.1))
   | inr p ↦ rw p.0 (omega (arith, ints, taken m ms (j + 1) k cs c h (omega arith) at))
 ]
-
-lacks : (j : ℕ) (ms : List Mult) → Each (λ (n : Mult). j < n.cut) ms → Lacks j ms
-lacks j [] h = tt
-lacks j (m ∷ ms) h = (λ e. let l = h.0 in absurd (omega arith), lacks j ms h.1)
 
 module _ (cuts : List Cut) (mult : List Mult) (k : ℕ) where
   abbrev pub mults_sum : ℤ

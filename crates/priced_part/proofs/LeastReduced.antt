@@ -20,7 +20,7 @@ use Rattle.priced_part.specs.Filled.{IsFilledForAll}
 use Rattle.std.proofs.Common.{List}
 use Rattle.std.proofs.lemmas.Bool.{false≢true}
 
-plus-some : (a b : Option ℤ) → IsSome a → IsSome b → IsSome (plus a b)
+pub plus-some : (a b : Option ℤ) → IsSome a → IsSome b → IsSome (plus a b)
 plus-some None b h k = absurd (false≢true h)
 plus-some (Some x) None h k = absurd (false≢true k)
 plus-some (Some x) (Some y) h k = refl

@@ -12,14 +12,10 @@ use Rattle.certificates.specs.RosterCauses.{IsFirstOutside}
 use Rattle.certificate_laws.specs.Accepted.{IsStated, bound_number, Accepts}
 use Rattle.certificate_laws.specs.Causes.{Cause, cause_number, stated_bound, IsFirstCause}
 use Rattle.certificate_laws.specs.Shown.{Shows}
-use Rattle.certificate_laws.proofs.NoCause.{no-shift-refused, mispriced-refused, heads-refused, cost-refused, no-arc-cause, half-cause, pinned-cause, above-cause}
+use Rattle.certificate_laws.proofs.NoCause.{no-shift-refused, mispriced-refused, heads-refused, cost-refused, no-arc-cause, half-cause, pinned-cause, above-cause, has-cost}
 use Rattle.roster_part.specs.Faults.{IsRosterCause, HasNoOtherWord, HasNoOtherPrice, HasNoOtherHeads}
 use Rattle.proof_check.specs.Verdicts.{HasRightRoster, IsCoverageRight, States}
 use Rattle.proof_check.specs.Walked.{AreOnArcs, LeaveBoth, AreTight, IsVisitsCause}
-
-some-cost : {P : ℕ → Type 0} (cost : Option ℕ) → IsSome cost → IfSome cost P → (amount : ℕ) × (cost ≡ Some amount) × P amount
-some-cost None h k = cc
-some-cost (Some n) h k = (n, refl, k)
 
 module _ (i : Instance) (c : Cert) where
   -- no cause of lesser number holds
@@ -90,12 +86,12 @@ module _ (i : Instance) (c : Cert) where
 
   -- a roster that is stated rightly has none of the causes 1 to 4
   pub from-roster : HasRightRoster i c.cost c.shifts → NoneBelow 5
-  from-roster r (NotAShift k) h = let s = some-cost c.cost h.0 r in absurd (no-shift-refused i c.shifts k s.2.prices h.1)
-  from-roster r (ShiftCost k said least) h = let s = some-cost c.cost h.0 r in absurd (mispriced-refused i c.shifts k said least s.2.prices h.1)
-  from-roster r (WrongHeads g n) h = let s = some-cost c.cost h.0 r in absurd (heads-refused i c.shifts g n s.2.heads h.1)
+  from-roster r (NotAShift k) h = let s = has-cost c.cost h.0 r in absurd (no-shift-refused i c.shifts k s.2.prices h.1)
+  from-roster r (ShiftCost k said least) h = let s = has-cost c.cost h.0 r in absurd (mispriced-refused i c.shifts k said least s.2.prices h.1)
+  from-roster r (WrongHeads g n) h = let s = has-cost c.cost h.0 r in absurd (heads-refused i c.shifts g n s.2.heads h.1)
   from-roster r (WrongCost said found) h =
       let e = h.0 in
-      let s = some-cost c.cost (subst (λ (o : Option ℕ). IsSome o) (sym e) refl) r in
+      let s = has-cost c.cost (subst (λ (o : Option ℕ). IsSome o) (sym e) refl) r in
       let amount : s.0 ≡ said = cc in
       absurd (cost-refused i c.shifts said found s.2.prices (sym s.2.total ∙ amount) h.1)
   from-roster r (NotAnArc n) h = omega arith

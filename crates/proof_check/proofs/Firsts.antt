@@ -2,8 +2,8 @@
 use Rattle.std.proofs.Common.{◌≡◌, ℕ, zero, suc, arith, ◌+◌, ◌-◌, ◌<◌, Some, List, [], ◌∷◌, ◌++◌, length, sym, refl, ◌∙◌}
 use Rattle.std.specs.Prelude.{slice_get}
 use Rattle.roster_model.specs.Folds.{Each}
+use Rattle.roster_model.proofs.EachLemmas.{Each-get}
 use Rattle.certificates.specs.First.{IsFirst}
-use Rattle.certificate_laws.proofs.Lists.{Each-get}
 
 module _ {A : Type 0} where
   get-within : (xs : List A) (k : ℕ) (x : A) → slice_get xs k ≡ Some x → k < length xs

@@ -6,10 +6,11 @@ use Rattle.roster_model.specs.declared.instance.Cut.{Cut}
 use Rattle.roster_model.specs.declared.instance.Side.{Side}
 use Rattle.roster_model.specs.declared.instance.Side.TheVariants.{Low, High}
 use Rattle.proof_check.specs.declared.frame.Frame.{Frame}
-use Rattle.proof_check.specs.OpenSplits.{path, joined}
+use Rattle.proof_check.specs.OpenSplits.{path}
 use Rattle.proof_check.proofs.OpenSplitsLemmas.{value-high, visits-high}
 use Rattle.proof_pieces.specs.PieceList.{after_leaf}
 use Rattle.proof_check.specs.Stacks.{StackView, AreSmall, is_high, halves_of, IsClosing}
+use Rattle.certificate_laws.specs.Shown.{joined}
 
 -- one more cut is small
 pub small-more : (cuts : List Cut) (c : Cut) → AreSmall cuts → c.b ≤ 63 → AreSmall (cuts ++ c ∷ [])

@@ -1,7 +1,7 @@
 -- The first cause among the nodes so far, once one more node is seen.
 use Rattle.std.proofs.Common.{◌≡◌, ℕ, arith, ◌+◌, Option, None, Some, List, [], ◌∷◌, ◌++◌, length}
 use Rattle.roster_model.specs.declared.instance.Instance.{Instance}
-use Rattle.arc_laws.proofs.FoldsLemmas.{Each-same, Each-append}
+use Rattle.roster_model.proofs.EachLemmas.{Each-weaker, Each-append}
 use Rattle.certificates.specs.declared.why.Why.{Why}
 use Rattle.certificates.specs.declared.why.Why.TheVariants.{NotAShift, ShiftCost, WrongHeads, WrongCost, NotAnArc, EmptyHalf, NotPinned, BoundTooHigh, Outside}
 use Rattle.certificates.specs.Nodes.{Visit}
@@ -31,10 +31,10 @@ module _ (i : Instance) (vs : List Visit) (v : Visit) (n : ℕ) (count : n ≡ l
   pinned-stays m a f = record { visit = f.visit; first = first-stays _ vs (v ∷ []) m f.visit f.first; arc = f.arc }
 
   arc-added : (m : ℕ) → AreOnArcs i vs → (m ≡ n) × SplitsNoArc i v.node → IsFirstNoArc i (vs ++ v ∷ []) m
-  arc-added m h k = (v, first-added _ vs v m (Each-same _ _ vs (λ u g w. no-arc-refused i u.node g w) h) k.1 (omega (arith, k.0)))
+  arc-added m h k = (v, first-added _ vs v m (Each-weaker _ _ vs (λ u g w. no-arc-refused i u.node g w) h) k.1 (omega (arith, k.0)))
 
   half-added : (m : ℕ) → LeaveBoth i vs → m ≡ n → HasEmptyHalf i v.path v.node → IsFirstEmptyHalf i (vs ++ v ∷ []) m
-  half-added m h e k = (v, first-added _ vs v m (Each-same _ _ vs (λ u g w. empty-half-refused i u.path u.node g w) h) k (omega (arith, e)))
+  half-added m h e k = (v, first-added _ vs v m (Each-weaker _ _ vs (λ u g w. empty-half-refused i u.path u.node g w) h) k (omega (arith, e)))
 
   pub one-more : (why own : Option Why) → IsVisitsCause i vs why → IsVisitCause i v n own → IsVisitsCause i (vs ++ v ∷ []) (lesser_cause why own)
   one-more None None h k = (arcs-more h.0 k.on_arc, halves-more h.1 k.halves, tight-more h.2 k.tight)
@@ -43,7 +43,7 @@ module _ (i : Instance) (vs : List Visit) (v : Visit) (n : ℕ) (count : n ≡ l
   one-more None (Some (NotPinned m a)) h k = (
     arcs-more h.0 k.1,
     halves-more h.1 k.2,
-    record { visit = v; first = first-added _ vs v m (Each-same _ _ vs (λ u g w. unpinned-refused i u.path u.node g w) h.2) k.3 (omega (arith, k.0)); arc = k.4 },
+    record { visit = v; first = first-added _ vs v m (Each-weaker _ _ vs (λ u g w. unpinned-refused i u.path u.node g w) h.2) k.3 (omega (arith, k.0)); arc = k.4 },
   )
   one-more (Some (NotAnArc m)) None h k = arc-stays m h
   one-more (Some (NotAnArc m)) (Some (NotAnArc q)) h k = arc-stays m h

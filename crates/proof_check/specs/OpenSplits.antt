@@ -1,5 +1,5 @@
 -- A walk over the nodes in preorder with a stack of open splits.
-use Rattle.std.specs.Prelude.{ℕ, ◌≡◌, max, min, Option, None, Some, List, [], ◌∷◌, ◌++◌}
+use Rattle.std.specs.Prelude.{ℕ, ◌≡◌, min, Option, None, Some, List, [], ◌∷◌, ◌++◌}
 use Rattle.roster_model.specs.declared.instance.Cut.{Cut}
 use Rattle.roster_model.specs.declared.instance.Instance.{Instance}
 use Rattle.roster_model.specs.declared.instance.Prices.{Prices}
@@ -10,17 +10,12 @@ use Rattle.certificates.specs.declared.cert.Node.{Node}
 use Rattle.certificates.specs.declared.cert.Node.TheVariants.{Split, Priced, Pinned, Bare}
 use Rattle.certificates.specs.Nodes.{Proof, preorder, Visit, visits, high_cut}
 use Rattle.proof_check.specs.declared.frame.Frame.{Frame}
-use Rattle.certificate_laws.specs.Shown.{Shows}
+use Rattle.certificate_laws.specs.Shown.{Shows, joined}
 
 -- the cuts on the way to the next node, where the innermost split is the first of the list
 abbrev pub path : List Cut → List Frame → List Cut
 path base [] = base
 path base (f ∷ st) = path base st ++ f.cut ∷ []
-
--- what a split shows whose halves show this at least
-abbrev pub joined : Option ℕ → ℕ → ℕ
-joined None lesser = lesser
-joined (Some own) lesser = max own lesser
 
 -- where the half that was read last shows x, the nodes that follow lead to v
 abbrev pub ValueAfter : Instance → List Cut → List Frame → ℕ → List Node → ℕ → Type 0

@@ -12,13 +12,13 @@ use Rattle.roster_model.specs.PriceLimits.{IsMult, AreRising, FitPrices, nonzero
 use Rattle.roster_model.proofs.Mults.{nonzero-le}
 use Rattle.roster_model.specs.SoundInstance.{IsSoundInstance}
 use Rattle.roster_model.specs.Sums.{Within}
+use Rattle.roster_model.proofs.EachLemmas.{each_all, Each-push, Each-weaker}
 use Rattle.text_lines.specs.Steps.{each}
-use Rattle.certificates.proofs.WalksLemmas.{each_all}
 use Rattle.proof_pieces.specs.Fields.{number_at, signed_at}
 use Rattle.proof_pieces.specs.PriceLines.{due_byte, price_step, price_line, mult_cut, last_cut, mult_of, mult_line}
 use Rattle.proof_pieces.proofs.FieldsKept.{IsDenominator, signed_within}
 use Rattle.text_lines.proofs.FieldsLemmas.{number_within}
-use Rattle.text_lines.proofs.ListLemmas.{Each-push, Each-weaker, same_number, fewer}
+use Rattle.text_lines.proofs.ListLemmas.{same_number, fewer}
 use Rattle.text_lines.proofs.StepsLemmas.{same_ok, bind_ok, passed, held, each_keeps}
 use Rattle.proof_pieces.proofs.PriceBlock.{AreWhole, none_whole, one_line_whole}
 

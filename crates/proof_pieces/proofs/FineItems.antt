@@ -5,11 +5,11 @@ use Rattle.std.specs.List.{slice_split, onto_first, list_all, position_or_len}
 use Rattle.std.specs.Str.Lines.{lines}
 use Rattle.std.proofs.lemmas.Bool.{or_parts, and_parts, leb-true, ltb-true, eqb-false}
 use Rattle.roster_model.specs.Folds.{Each}
+use Rattle.roster_model.proofs.EachLemmas.{Each-append}
 use Rattle.certificates.specs.Sound.{IsWordByte}
 use Rattle.text_lines.specs.declared.line.BadByte.{BadByte}
 use Rattle.text_lines.specs.Words.{words, is_blank, is_word}
 use Rattle.text_lines.specs.Lines.{TextLine, is_line_byte, is_mark, before_comment, line_items, items_from, rest_items, text_items}
-use Rattle.text_lines.proofs.ListLemmas.{Each-append}
 
 abbrev AreFineParts : List (List ℕ) → Type 0
 AreFineParts ws = Each (λ (w : List ℕ). Each IsWordByte w) ws

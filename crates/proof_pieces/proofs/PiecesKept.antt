@@ -85,7 +85,7 @@ Tells i over p c given cert = Unit {0}
 abbrev ok_cert : Cert → Result Cert ProofFault
 ok_cert x = Ok x
 
-said_ok : (x y : Cert) → ok_cert x ≡ ok_cert y → x ≡ y
+pub said_ok : (x y : Cert) → ok_cert x ≡ ok_cert y → x ≡ y
 said_ok x y e = cc
 
 -- one more node, which is due
@@ -289,7 +289,7 @@ line_tells i ended p c cert line go s f known e = absurd cc
 line_tells i over p c cert line go s f known e = tt
 
 -- a text does not end behind a price block
-not_whole : (b : Bool) (n : Node) (f : PieceFault) (c cert : Cert) → collected c (cond b [] (Ok (node n) ∷ []) ++ Err f ∷ []) ≡ Ok cert → ⊥
+pub not_whole : (b : Bool) (n : Node) (f : PieceFault) (c cert : Cert) → collected c (cond b [] (Ok (node n) ∷ []) ++ Err f ∷ []) ≡ Ok cert → ⊥
 not_whole true n f c cert e = cc
 not_whole false n f c cert e = cc
 

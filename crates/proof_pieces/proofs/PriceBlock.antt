@@ -1,15 +1,13 @@
 -- The lines of a price block, one by one.
-use Rattle.std.proofs.Common.{◌≡◌, ℕ, ℤ, ◌+◌, ◌*◌, ◌<◌, ◌≤◌, true, List, [], ◌∷◌, length, Ok, Err, refl, ap, ◌∙◌, inl, inr, arith, length-append}
+use Rattle.std.proofs.Common.{◌≡◌, ℕ, ℤ, ◌+◌, ◌*◌, ◌<◌, ◌≤◌, true, List, [], ◌∷◌, length, Ok, Err, refl, ap, ◌∙◌, inl, inr, arith}
 use Rattle.std.proofs.lemmas.Bool.{cases_lt, lt-ltb, le-ltb}
 use Rattle.std.proofs.Math.Nat.{mul-le-mul_left}
 use Rattle.text_lines.specs.Lines.{TextLine}
-use Rattle.roster_model.specs.declared.grammar.Grammar.{Grammar}
 use Rattle.roster_model.specs.declared.instance.Instance.{Instance}
 use Rattle.roster_model.specs.declared.instance.Mult.{Mult}
-use Rattle.roster_model.specs.Demands.{Demand, IsDemand, demand_cells, all_cells}
-use Rattle.roster_model.specs.Folds.{Each}
+use Rattle.roster_model.specs.Demands.{Demand}
 use Rattle.roster_model.specs.SoundInstance.{IsSoundInstance}
-use Rattle.roster_model.proofs.SoundCells.{length-cells_from}
+use Rattle.roster_model.proofs.SoundCells.{length-all_cells}
 use Rattle.proof_pieces.specs.declared.fault.PieceFault.{PieceFault}
 use Rattle.proof_pieces.specs.declared.node.NodeLine.{NodeLine}
 use Rattle.proof_pieces.specs.Ahead.{NoMult}
@@ -17,11 +15,6 @@ use Rattle.proof_pieces.specs.Items.{Items}
 use Rattle.proof_pieces.specs.PieceList.{Place, block, nodes, cut_count, node_of, node_read, pieces_from}
 use Rattle.proof_pieces.specs.PriceLines.{price_line, is_mult, mult_line}
 use Rattle.proof_pieces.specs.Told.{node}
-
-length-all_cells : (g : Grammar) (ds : List Demand) → Each (IsDemand g) ds → length (all_cells ds) ≡ length ds * g.periods
-length-all_cells g [] h = omega arith
-length-all_cells g (d ∷ ds) h =
-    omega (arith, length-append (demand_cells d) (all_cells ds), length-cells_from d 1 d.periods, h.0.whole, length-all_cells g ds h.1)
 
 -- so many prices are those of whole lines
 pub record AreWhole (periods most n : ℕ) : Type 0 where

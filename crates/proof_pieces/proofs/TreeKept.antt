@@ -7,13 +7,13 @@ use Rattle.roster_model.specs.declared.instance.Instance.{Instance}
 use Rattle.roster_model.specs.declared.instance.Prices.{Prices}
 use Rattle.roster_model.specs.Cuts.{base_cuts}
 use Rattle.roster_model.specs.Folds.{Each}
+use Rattle.roster_model.proofs.EachLemmas.{Each-append}
 use Rattle.certificates.specs.declared.cert.Node.{Node}
 use Rattle.certificates.specs.declared.cert.Node.TheVariants.{Split}
 use Rattle.certificates.specs.Nodes.{Proof, split, preorder, low_cut, high_cut, visits}
 use Rattle.certificates.specs.Sound.{IsSoundVisit, IsSoundProof}
 use Rattle.proof_pieces.specs.PieceList.{Place, no_place, wants, after_leaf, leaf_read, split_read}
 use Rattle.proof_pieces.specs.ToldSound.{SoundNode}
-use Rattle.text_lines.proofs.ListLemmas.{Each-append}
 
 -- a tree at the depth n is sound
 abbrev pub SoundTree : Instance → ℕ → Proof → Type 0

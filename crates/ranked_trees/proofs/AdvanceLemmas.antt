@@ -10,6 +10,7 @@ use Rattle.roster_model.specs.Room.{most_uses}
 use Rattle.roster_model.specs.Trees.{On, steps}
 use Rattle.roster_model.specs.Sums.{PriceView, AllWithin, Within, parts_sum}
 use Rattle.roster_model.specs.Sound.{IsSound}
+use Rattle.roster_model.proofs.EachLemmas.{Each-weaker}
 use Rattle.tree_laws.specs.Parts.{first, root}
 use Rattle.tree_laws.proofs.LeastValues.{IsLeast-one}
 use Rattle.tree_laws.proofs.Bounds.{few-steps, sum-small}
@@ -26,7 +27,6 @@ use Rattle.ranked_trees.specs.Walks.{first_with}
 use Rattle.ranked_trees.proofs.UsesLemmas.{apart-extend_left}
 use Rattle.ranked_trees.proofs.CandidatesLemmas.{has-first}
 use Rattle.ranked_trees.proofs.FrameLemmas.{symbol-here, symbol-none, letter-on}
-use Rattle.ranked_trees.proofs.OfferLemmas.{each-map}
 use Rattle.ranked_trees.proofs.OfferListLemmas.{all-offered}
 use Rattle.ranked_trees.proofs.ProgressLemmas.{is-split}
 use Rattle.ranked_trees.proofs.GoesLemmas.{split-end, split-letter}
@@ -113,12 +113,12 @@ module _ (g : Grammar) (p : PriceView) (most : ℕ) (rs : List Ranked) (sum : �
     children-some = some-children
 
     pub children-short : Each (λ (ch : Child). ch.len ≤ f.span.len) chs
-    children-short = each-map (IsChild g p f x base) (λ (ch : Child). ch.len ≤ f.span.len) chs (λ ch h. h.high) are.each
+    children-short = Each-weaker (IsChild g p f x base) (λ (ch : Child). ch.len ≤ f.span.len) chs (λ ch h. h.high) are.each
 
     pub children-take : (room : ℕ) → length rs + (room + 1) ≡ most → CanTake room ws (map (child_of ss f fs) chs)
     children-take room size = record {
       ordered = is.ordered.1;
-      aside = aside-others ss f fs ws chs are.ordered (λ a. each-map (Comes (first_with sum ss f fs)) (λ (d : Candidate). IsApart (ss ++ use_of f a.rule a.len ∷ []) d.steps) ws
+      aside = aside-others ss f fs ws chs are.ordered (λ a. Each-weaker (Comes (first_with sum ss f fs)) (λ (d : Candidate). IsApart (ss ++ use_of f a.rule a.len ∷ []) d.steps) ws
           (λ d k. apart-extend_left ss d.steps (use_of f a.rule a.len ∷ []) k.apart) is.ordered.0);
       few = omega (arith, is.few, size);
     }

@@ -2,12 +2,12 @@
 use Rattle.std.proofs.Common.{◌≡◌, ℕ, zero, suc, ◌<◌, ◌+◌, List, [], ◌∷◌, ◌++◌, arith, subst, sym, ap, ◌∙◌, length, map, take, drop, get_or}
 use Rattle.std.proofs.lemmas.List.{take_more, drop_more, map-append}
 use Rattle.roster_model.specs.Folds.{Each}
+use Rattle.roster_model.proofs.EachLemmas.{Each-append, Each-left, Each-right}
 use Rattle.ranked_trees.specs.declared.candidate.Candidate.{Candidate}
 use Rattle.ranked_trees.specs.declared.candidate.Child.{Child}
 use Rattle.ranked_trees.specs.Candidates.{IsApart, AreAside}
 use Rattle.ranked_trees.specs.Children.{TakesLeast}
 use Rattle.ranked_trees.specs.Progresses.{IsOffered, AreOffered, CanTake}
-use Rattle.ranked_trees.proofs.OfferLemmas.{each-left, each-right, each-join}
 use Rattle.ranked_trees.proofs.OfferListLemmas.{offered-takes, offered-more}
 
 each-without : (P : Candidate → Type 0) (made : Child → Candidate) (front back : List Child) (b : Child) → Each P (map made (front ++ b ∷ back)) → Each P (map made (front ++ back))
@@ -28,10 +28,10 @@ others-take room made chs others b cs t h = record {
 pub each-others : (P : Child → Type 0) (chs others : List Child) (b : Child) → TakesLeast chs b others → Each P chs → Each P others
 each-others P chs others b t h =
     let at = subst (Each P) t.from h in
-    subst (Each P) (sym t.to) (each-join P t.front t.back (each-left P t.front (b ∷ t.back) at) (each-right P t.front (b ∷ t.back) at).1)
+    subst (Each P) (sym t.to) (Each-append P t.front t.back (Each-left P t.front (b ∷ t.back) at) (Each-right P t.front (b ∷ t.back) at).1)
 
 pub each-taken : (P : Child → Type 0) (chs others : List Child) (b : Child) → TakesLeast chs b others → Each P chs → P b
-each-taken P chs others b t h = (each-right P t.front (b ∷ t.back) (subst (Each P) t.from h)).0
+each-taken P chs others b t h = (Each-right P t.front (b ∷ t.back) (subst (Each P) t.from h)).0
 
 pub each-at : (P : Child → Type 0) (chs : List Child) (n : ℕ) (d : Child) → n < length chs → Each P chs → P (get_or chs n d)
 each-at P [] n d l h = absurd (omega (arith, l))

@@ -8,6 +8,7 @@ use Rattle.roster_model.specs.Folds.{Each}
 use Rattle.roster_model.specs.Grammar.{rule_at}
 use Rattle.roster_model.specs.Trees.{Parts, On}
 use Rattle.roster_model.specs.Sums.{PriceView}
+use Rattle.roster_model.proofs.EachLemmas.{Each-append, Each-weaker}
 use Rattle.tree_laws.specs.Parts.{first, root}
 use Rattle.tree_laws.proofs.Rules.{rule_at-within}
 use Rattle.ranked_trees.specs.declared.candidate.Child.{Child}
@@ -15,7 +16,6 @@ use Rattle.ranked_trees.specs.declared.frame.Frame.{Frame}
 use Rattle.ranked_trees.specs.Frames.{OnFrame, frame_sum, symbols, after_part}
 use Rattle.ranked_trees.specs.Children.{IsChild, HasNoSum, HasChild, IsEarlier, ChildBefore, AreInOrder, AreChildrenTo, AreChildren}
 use Rattle.ranked_trees.proofs.FrameLemmas.{use-on, IsUse}
-use Rattle.ranked_trees.proofs.OfferLemmas.{each-join, each-map}
 
 child-left : (chs : List Child) (a : Child) (q m : ℕ) → HasChild chs q m → HasChild (chs ++ a ∷ []) q m
 child-left [] a q m h = absurd h
@@ -28,7 +28,7 @@ child-last (b ∷ chs) a q m e f = inr (child-last chs a q m e f)
 
 order-push : (chs : List Child) (a : Child) → AreInOrder chs → Each (λ (b : Child). ChildBefore b a) chs → AreInOrder (chs ++ a ∷ [])
 order-push [] a h k = (tt, tt)
-order-push (b ∷ chs) a h k = (each-join (ChildBefore b) chs (a ∷ []) h.0 (k.0, tt), order-push chs a h.1 k.1)
+order-push (b ∷ chs) a h k = (Each-append (ChildBefore b) chs (a ∷ []) h.0 (k.0, tt), order-push chs a h.1 k.1)
 
 earlier-more : (q m r n : ℕ) → IsEarlier q m r n → IsEarlier q m r (n + 1)
 earlier-more q m r n (inl h) = inl h
@@ -81,11 +81,11 @@ module _ (g : Grammar) (p : PriceView) (f : Frame) (x : ℕ) (name : symbols g f
   pub children-more : (q m : ℕ) (chs : List Child) (a : Child) → AreChildrenTo g p f x base q m chs → IsChild g p f x base a → a.rule ≡ q → a.len ≡ m
       → AreChildrenTo g p f x base q (m + 1) (chs ++ a ∷ [])
   children-more q m chs a are is e l = record {
-    each = each-join (IsChild g p f x base) chs (a ∷ []) are.each (is, tt);
-    ordered = order-push chs a are.ordered (each-map (λ (b : Child). IsEarlier b.rule b.len q m) (λ (b : Child). ChildBefore b a) chs
+    each = Each-append (IsChild g p f x base) chs (a ∷ []) are.each (is, tt);
+    ordered = order-push chs a are.ordered (Each-weaker (λ (b : Child). IsEarlier b.rule b.len q m) (λ (b : Child). ChildBefore b a) chs
         (λ b h. subst (λ r. IsEarlier b.rule b.len r a.len) (sym e) (subst (λ n. IsEarlier b.rule b.len q n) (sym l) h)) are.earlier);
-    earlier = each-join (λ (b : Child). IsEarlier b.rule b.len q (m + 1)) chs (a ∷ [])
-        (each-map (λ (b : Child). IsEarlier b.rule b.len q m) (λ (b : Child). IsEarlier b.rule b.len q (m + 1)) chs (λ b h. earlier-more b.rule b.len q m h) are.earlier)
+    earlier = Each-append (λ (b : Child). IsEarlier b.rule b.len q (m + 1)) chs (a ∷ [])
+        (Each-weaker (λ (b : Child). IsEarlier b.rule b.len q m) (λ (b : Child). IsEarlier b.rule b.len q (m + 1)) chs (λ b h. earlier-more b.rule b.len q m h) are.earlier)
         (inr (e, omega (arith, l)), tt);
     complete = λ t z on sum h. by t z on sum (earlier_or (root t) (first t) q m h);
   }
@@ -99,7 +99,7 @@ module _ (g : Grammar) (p : PriceView) (f : Frame) (x : ℕ) (name : symbols g f
   children-skip q m chs are none = record {
     each = are.each;
     ordered = are.ordered;
-    earlier = each-map (λ (b : Child). IsEarlier b.rule b.len q m) (λ (b : Child). IsEarlier b.rule b.len q (m + 1)) chs (λ b h. earlier-more b.rule b.len q m h) are.earlier;
+    earlier = Each-weaker (λ (b : Child). IsEarlier b.rule b.len q m) (λ (b : Child). IsEarlier b.rule b.len q (m + 1)) chs (λ b h. earlier-more b.rule b.len q m h) are.earlier;
     complete = λ t z on sum h. by t z on sum (earlier_or (root t) (first t) q m h);
   }
     where
@@ -112,7 +112,7 @@ module _ (g : Grammar) (p : PriceView) (f : Frame) (x : ℕ) (name : symbols g f
   children-next q m chs long are = record {
     each = are.each;
     ordered = are.ordered;
-    earlier = each-map (λ (b : Child). IsEarlier b.rule b.len q m) (λ (b : Child). IsEarlier b.rule b.len (q + 1) 1) chs (λ b h. earlier-next b.rule b.len q m h) are.earlier;
+    earlier = Each-weaker (λ (b : Child). IsEarlier b.rule b.len q m) (λ (b : Child). IsEarlier b.rule b.len (q + 1) 1) chs (λ b h. earlier-next b.rule b.len q m h) are.earlier;
     complete = λ t z on sum h. by t z on sum h;
   }
     where
@@ -129,7 +129,7 @@ module _ (g : Grammar) (p : PriceView) (f : Frame) (x : ℕ) (name : symbols g f
   children-pass q rule chs here other are = record {
     each = are.each;
     ordered = are.ordered;
-    earlier = each-map (λ (b : Child). IsEarlier b.rule b.len q 1) (λ (b : Child). IsEarlier b.rule b.len (q + 1) 1) chs (λ b h. earlier-next b.rule b.len q 1 h) are.earlier;
+    earlier = Each-weaker (λ (b : Child). IsEarlier b.rule b.len q 1) (λ (b : Child). IsEarlier b.rule b.len (q + 1) 1) chs (λ b h. earlier-next b.rule b.len q 1 h) are.earlier;
     complete = λ t z on sum h. by t z on sum h;
   }
     where

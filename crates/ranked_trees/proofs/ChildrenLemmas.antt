@@ -8,6 +8,7 @@ use Rattle.roster_model.specs.Folds.{Each}
 use Rattle.roster_model.specs.Trees.{Parts, uses, On}
 use Rattle.roster_model.specs.Sums.{PriceView}
 use Rattle.roster_model.specs.Sound.{IsSound}
+use Rattle.roster_model.proofs.EachLemmas.{Each-append, Each-left, Each-right, Each-weaker}
 use Rattle.tree_laws.proofs.Rules.{sound-rule, rule_at-within}
 use Rattle.tree_laws.specs.Parts.{first, root}
 use Rattle.ranked_trees.specs.declared.candidate.Candidate.{Candidate}
@@ -23,7 +24,6 @@ use Rattle.ranked_trees.specs.Walks.{first_with}
 use Rattle.ranked_trees.proofs.UsesLemmas.{uses-under}
 use Rattle.ranked_trees.proofs.CandidatesLemmas.{has-least, has-first, less_or_same}
 use Rattle.ranked_trees.proofs.FrameLemmas.{use-on, right-is}
-use Rattle.ranked_trees.proofs.OfferLemmas.{each-left, each-right, each-join, each-map}
 use Rattle.ranked_trees.proofs.GoesLemmas.{goes-child, has-use}
 
 uses-child : (ss : List Step) (f : Frame) (a b : Child) → ChildBefore a b → UsesBefore (ss ++ use_of f a.rule a.len ∷ []) (ss ++ use_of f b.rule b.len ∷ [])
@@ -34,8 +34,8 @@ in_order-middle : (front back : List Child) (b : Child) → AreInOrder (front ++
 in_order-middle [] back b h = (tt, h.0, h.1)
 in_order-middle (a ∷ front) back b h =
     let more = in_order-middle front back b h.1 in
-    let others = each-right (ChildBefore a) front (b ∷ back) h.0 in
-    ((others.0, more.0), more.1, (each-join (ChildBefore a) front back (each-left (ChildBefore a) front (b ∷ back) h.0) others.1, more.2))
+    let others = Each-right (ChildBefore a) front (b ∷ back) h.0 in
+    ((others.0, more.0), more.1, (Each-append (ChildBefore a) front back (Each-left (ChildBefore a) front (b ∷ back) h.0) others.1, more.2))
 
 each-child : (P : Candidate → Type 0) (made : Child → Candidate) (chs : List Child) → Each (λ (a : Child). P (made a)) chs → Each P (map made chs)
 each-child P made [] h = tt
@@ -48,7 +48,7 @@ aside-children ss f fs b [] h k = tt
 aside-children ss f fs b (a ∷ os) h k = (
   (k.0, tt),
   each-child (λ (d : Candidate). IsApart (ss ++ use_of f a.rule a.len ∷ []) d.steps) (child_of ss f fs) os
-      (each-map (ChildBefore a) (λ (d : Child). IsApart (ss ++ use_of f a.rule a.len ∷ []) (ss ++ use_of f d.rule d.len ∷ [])) os (λ d q. inl (uses-child ss f a d q)) h.0),
+      (Each-weaker (ChildBefore a) (λ (d : Child). IsApart (ss ++ use_of f a.rule a.len ∷ []) (ss ++ use_of f d.rule d.len ∷ [])) os (λ d q. inl (uses-child ss f a d q)) h.0),
   aside-children ss f fs b os h.1 k.1,
 )
 
@@ -59,7 +59,7 @@ aside-others ss f fs cs [] h k = tt
 aside-others ss f fs cs (a ∷ os) h k = (
   k a,
   each-child (λ (d : Candidate). IsApart (ss ++ use_of f a.rule a.len ∷ []) d.steps) (child_of ss f fs) os
-      (each-map (ChildBefore a) (λ (d : Child). IsApart (ss ++ use_of f a.rule a.len ∷ []) (ss ++ use_of f d.rule d.len ∷ [])) os (λ d q. inl (uses-child ss f a d q)) h.0),
+      (Each-weaker (ChildBefore a) (λ (d : Child). IsApart (ss ++ use_of f a.rule a.len ∷ []) (ss ++ use_of f d.rule d.len ∷ [])) os (λ d q. inl (uses-child ss f a d q)) h.0),
   aside-others ss f fs cs os h.1 k,
 )
 
@@ -94,7 +94,7 @@ module _ (g : Grammar) (p : PriceView) (sound : IsSound g) (sum : ℤ) (ss : Lis
   goes ch h = goes-child g p sum ss f fs is x name ch base above h (frame_inside ch h) (inside ch.len h.high)
 
   all-goes : (chs : List Child) → Each (IsChild g p f x base) chs → Each (GoesOn g p (first_with sum ss f fs)) (map (child_of ss f fs) chs)
-  all-goes chs h = each-child (GoesOn g p (first_with sum ss f fs)) (child_of ss f fs) chs (each-map (IsChild g p f x base) _ chs goes h)
+  all-goes chs h = each-child (GoesOn g p (first_with sum ss f fs)) (child_of ss f fs) chs (Each-weaker (IsChild g p f x base) _ chs goes h)
 
   module _ (r : Ranked) (h : Has g p (first_with sum ss f fs) r) (q m : ℕ) (t u : Parts) (e : h.completes.0 ≡ uses q m t u) (on : On g (Name x ∷ symbols g (after_part f 1)) f.span.start f.span.len (uses q m t u)) where
     one-has : (chs : List Child) → Each (IsChild g p f x base) chs → HasChild chs q m → OneHas g p (map (child_of ss f fs) chs) r
@@ -117,18 +117,18 @@ module _ (g : Grammar) (p : PriceView) (sound : IsSound g) (sum : ℤ) (ss : Lis
     each-at = subst (Each (IsChild g p f x base)) takes.from are.each
 
     b-is : IsChild g p f x base b
-    b-is = (each-right (IsChild g p f x base) takes.front (b ∷ takes.back) each-at).0
+    b-is = (Each-right (IsChild g p f x base) takes.front (b ∷ takes.back) each-at).0
 
     others-are : Each (IsChild g p f x base) others
     others-are = subst (Each (IsChild g p f x base)) (sym takes.to)
-        (each-join (IsChild g p f x base) takes.front takes.back (each-left (IsChild g p f x base) takes.front (b ∷ takes.back) each-at) (each-right (IsChild g p f x base) takes.front (b ∷ takes.back) each-at).1)
+        (Each-append (IsChild g p f x base) takes.front takes.back (Each-left (IsChild g p f x base) takes.front (b ∷ takes.back) each-at) (Each-right (IsChild g p f x base) takes.front (b ∷ takes.back) each-at).1)
 
     middle : Each (λ (a : Child). ChildBefore a b) takes.front × Each (ChildBefore b) takes.back × AreInOrder (takes.front ++ takes.back)
     middle = in_order-middle takes.front takes.back b (subst AreInOrder takes.from are.ordered)
 
     no-less : Each (λ (a : Child). b.sum ≤ℤ a.sum) others
     no-less = subst (Each (λ (a : Child). b.sum ≤ℤ a.sum)) (sym takes.to)
-        (each-join (λ (a : Child). b.sum ≤ℤ a.sum) takes.front takes.back (each-map (λ (a : Child). b.sum <ℤ a.sum) (λ (a : Child). b.sum ≤ℤ a.sum) takes.front (λ a h. omega (arith, ints, h)) takes.least.before) takes.least.after)
+        (Each-append (λ (a : Child). b.sum ≤ℤ a.sum) takes.front takes.back (Each-weaker (λ (a : Child). b.sum <ℤ a.sum) (λ (a : Child). b.sum ≤ℤ a.sum) takes.front (λ a h. omega (arith, ints, h)) takes.least.before) takes.least.after)
 
     has-b : (r : Ranked) → Has g p (first_with sum ss f fs) r → OneHas g p (child_of ss f fs b ∷ map (child_of ss f fs) others) r
     has-b r h = subst (λ q. OneHas g p (child_of ss f fs b ∷ map (child_of ss f fs) q) r) (sym takes.to)
@@ -153,9 +153,9 @@ module _ (g : Grammar) (p : PriceView) (sound : IsSound g) (sum : ℤ) (ss : Lis
 
     apart-b : Each (λ (a : Child). IsApart (ss ++ use_of f a.rule a.len ∷ []) (ss ++ use_of f b.rule b.len ∷ [])) others
     apart-b = subst (Each (λ (a : Child). IsApart (ss ++ use_of f a.rule a.len ∷ []) (ss ++ use_of f b.rule b.len ∷ []))) (sym takes.to)
-        (each-join _ takes.front takes.back
-        (each-map (λ (a : Child). ChildBefore a b) _ takes.front (λ a h. inl (uses-child ss f a b h)) middle.0)
-        (each-map (ChildBefore b) _ takes.back (λ a h. inr (uses-child ss f b a h)) middle.1))
+        (Each-append _ takes.front takes.back
+        (Each-weaker (λ (a : Child). ChildBefore a b) _ takes.front (λ a h. inl (uses-child ss f a b h)) middle.0)
+        (Each-weaker (ChildBefore b) _ takes.back (λ a h. inr (uses-child ss f b a h)) middle.1))
 
     -- a candidate is split into its children
     pub split-children : IsSplit g p (first_with sum ss f fs) (child_of ss f fs b) (map (child_of ss f fs) others)
@@ -170,7 +170,7 @@ module _ (g : Grammar) (p : PriceView) (sound : IsSound g) (sum : ℤ) (ss : Lis
     -- and the first of least sum comes before the others
     pub first-comes : Each (Comes (child_of ss f fs b)) (map (child_of ss f fs) others)
     first-comes = subst (λ q. Each (Comes (child_of ss f fs b)) (map (child_of ss f fs) q)) (sym takes.to)
-        (each-child (Comes (child_of ss f fs b)) (child_of ss f fs) (takes.front ++ takes.back) (each-join _ takes.front takes.back
+        (each-child (Comes (child_of ss f fs b)) (child_of ss f fs) (takes.front ++ takes.back) (Each-append _ takes.front takes.back
         (both takes.front middle.0 takes.least.before) (later takes.back middle.1 takes.least.after)))
       where
         both : (os : List Child) → Each (λ (a : Child). ChildBefore a b) os → Each (λ (a : Child). b.sum <ℤ a.sum) os → Each (λ (a : Child). Comes (child_of ss f fs b) (child_of ss f fs a)) os

@@ -3,6 +3,7 @@ use Rattle.std.proofs.Common.{◌≡◌, ℕ, ◌<◌, ◌+◌, List, [], ◌∷
 use Rattle.roster_model.specs.declared.grammar.Grammar.{Grammar}
 use Rattle.roster_model.specs.Folds.{Each, In}
 use Rattle.roster_model.specs.Sums.{PriceView}
+use Rattle.roster_model.proofs.EachLemmas.{Each-append, Each-left, Each-right, Each-weaker}
 use Rattle.ranked_trees.specs.declared.candidate.Candidate.{Candidate}
 use Rattle.ranked_trees.specs.declared.ranking.Ranked.{Ranked}
 use Rattle.ranked_trees.specs.Candidates.{Has, OneHas, IsApart, Comes, AreOrdered, IsAside, AreAside, Precedes}
@@ -11,29 +12,13 @@ use Rattle.ranked_trees.proofs.UsesLemmas.{apart-swap, precedes-through}
 use Rattle.ranked_trees.proofs.CandidatesLemmas.{comes-has}
 
 module _ {A : Type 0} (P : A → Type 0) where
-  pub each-join : (xs ys : List A) → Each P xs → Each P ys → Each P (xs ++ ys)
-  each-join [] ys h k = k
-  each-join (x ∷ xs) ys h k = (h.0, each-join xs ys h.1 k)
-
-  pub each-left : (xs ys : List A) → Each P (xs ++ ys) → Each P xs
-  each-left [] ys h = tt
-  each-left (x ∷ xs) ys h = (h.0, each-left xs ys h.1)
-
-  pub each-right : (xs ys : List A) → Each P (xs ++ ys) → Each P ys
-  each-right [] ys h = h
-  each-right (x ∷ xs) ys h = each-right xs ys h.1
-
   -- all but the last
   pub each-but_last : (xs ys : List A) (l : A) → Each P (xs ++ (ys ++ l ∷ [])) → Each P (xs ++ ys)
-  each-but_last xs ys l h = each-join xs ys (each-left xs (ys ++ l ∷ []) h) (each-left ys (l ∷ []) (each-right xs (ys ++ l ∷ []) h))
+  each-but_last xs ys l h = Each-append P xs ys (Each-left P xs (ys ++ l ∷ []) h) (Each-left P ys (l ∷ []) (Each-right P xs (ys ++ l ∷ []) h))
 
   -- and one put among them
   pub each-put : (xs ys : List A) (e : A) → P e → Each P (xs ++ ys) → Each P (xs ++ e ∷ ys)
-  each-put xs ys e h k = each-join xs (e ∷ ys) (each-left xs ys k) (h, each-right xs ys k)
-
-pub each-map : {A : Type 0} (P Q : A → Type 0) (xs : List A) → ((x : A) → P x → Q x) → Each P xs → Each Q xs
-each-map P Q [] f h = tt
-each-map P Q (x ∷ xs) f h = (f x h.0, each-map P Q xs f h.1)
+  each-put xs ys e h k = Each-append P xs (e ∷ ys) (Each-left P xs ys k) (h, Each-right P xs ys k)
 
 pub ordered-put : (xs ys : List Candidate) (e : Candidate) → AreOrdered (xs ++ ys) → Each (λ (d : Candidate). Comes d e) xs → Each (Comes e) ys
     → AreOrdered (xs ++ e ∷ ys)
@@ -42,12 +27,12 @@ ordered-put (x ∷ xs) ys e h a b = (each-put (Comes x) xs ys e a.0 h.0, ordered
 
 pub ordered-left : (xs ys : List Candidate) → AreOrdered (xs ++ ys) → AreOrdered xs
 ordered-left [] ys h = tt
-ordered-left (x ∷ xs) ys h = (each-left (Comes x) xs ys h.0, ordered-left xs ys h.1)
+ordered-left (x ∷ xs) ys h = (Each-left (Comes x) xs ys h.0, ordered-left xs ys h.1)
 
 -- all come before the last
 ordered-last : (xs : List Candidate) (l : Candidate) → AreOrdered (xs ++ l ∷ []) → Each (λ (d : Candidate). Comes d l) xs
 ordered-last [] l h = tt
-ordered-last (x ∷ xs) l h = ((each-right (Comes x) xs (l ∷ []) h.0).0, ordered-last xs l h.1)
+ordered-last (x ∷ xs) l h = ((Each-right (Comes x) xs (l ∷ []) h.0).0, ordered-last xs l h.1)
 
 -- the others stay apart from all as one of them is put among those
 pub aside-put : (es xs ys : List Candidate) (e : Candidate) → IsAside e.steps es → AreAside es (xs ++ ys) → AreAside es (xs ++ e ∷ ys)
@@ -112,7 +97,7 @@ module _ (g : Grammar) (p : PriceView) where
       ascending = is.ascending;
       kept = each-put (IsGood g p rs) xs ys e is.offered.0 (each-but_last (IsGood g p rs) xs ys l is.kept);
       offered = is.offered.1;
-      ordered = ordered-put xs ys e (ordered-left (xs ++ ys) (l ∷ []) in_order) a (each-left (Comes e) ys (l ∷ []) b);
+      ordered = ordered-put xs ys e (ordered-left (xs ++ ys) (l ∷ []) in_order) a (Each-left (Comes e) ys (l ∷ []) b);
       aside = aside-put es xs ys e is.aside.1 (aside-but_last es xs ys l is.aside.2);
       covered = λ r tree. by r (is.covered r tree);
       few = omega (arith, sizes);
@@ -125,7 +110,7 @@ module _ (g : Grammar) (p : PriceView) where
         sizes = omega (arith, full, size, length-append xs (ys ++ l ∷ []), length-append ys (l ∷ []), length-append xs (e ∷ ys))
 
         before_last : Each (λ (d : Candidate). Comes d l) (xs ++ e ∷ ys)
-        before_last = each-put (λ (d : Candidate). Comes d l) xs ys e (each-right (Comes e) ys (l ∷ []) b).0 (ordered-last (xs ++ ys) l in_order)
+        before_last = each-put (λ (d : Candidate). Comes d l) xs ys e (Each-right (Comes e) ys (l ∷ []) b).0 (ordered-last (xs ++ ys) l in_order)
 
         by : (r : Ranked) → In r rs ⊎ (IsAfter rs r × (OneHas g p (xs ++ (ys ++ l ∷ [])) r ⊎ (OneHas g p (e ∷ es) r ⊎ IsBeyond most rs (xs ++ (ys ++ l ∷ [])) r)))
             → In r rs ⊎ (IsAfter rs r × (OneHas g p (xs ++ e ∷ ys) r ⊎ (OneHas g p es r ⊎ IsBeyond most rs (xs ++ e ∷ ys) r)))
@@ -137,7 +122,7 @@ module _ (g : Grammar) (p : PriceView) where
             last (inr k) = inr (
               after,
               inr (inr (record {
-                after = each-map (λ (d : Candidate). Comes d l) (λ (d : Candidate). Precedes d r) (xs ++ e ∷ ys) (λ d q. comes-has g p d l r q k) before_last;
+                after = Each-weaker (λ (d : Candidate). Comes d l) (λ (d : Candidate). Precedes d r) (xs ++ e ∷ ys) (λ d q. comes-has g p d l r q k) before_last;
                 full = sizes;
               })),
             )
@@ -146,7 +131,7 @@ module _ (g : Grammar) (p : PriceView) where
         by r (inr (after, inr (inr h))) = inr (
           after,
           inr (inr (record {
-            after = each-put (λ (d : Candidate). Precedes d r) xs ys e (precedes-through e l r (each-right (Comes e) ys (l ∷ []) b).0 (each-right (λ (d : Candidate). Precedes d r) ys (l ∷ []) (each-right (λ (d : Candidate). Precedes d r) xs (ys ++ l ∷ []) h.after)).0)
+            after = each-put (λ (d : Candidate). Precedes d r) xs ys e (precedes-through e l r (Each-right (Comes e) ys (l ∷ []) b).0 (Each-right (λ (d : Candidate). Precedes d r) ys (l ∷ []) (Each-right (λ (d : Candidate). Precedes d r) xs (ys ++ l ∷ []) h.after)).0)
                 (each-but_last (λ (d : Candidate). Precedes d r) xs ys l h.after);
             full = sizes;
           })),
@@ -172,7 +157,7 @@ module _ (g : Grammar) (p : PriceView) where
         by r (inr (after, inr (inl (inl h)))) = inr (
           after,
           inr (inr (record {
-            after = each-map (λ (d : Candidate). Comes d e) (λ (d : Candidate). Precedes d r) cs (λ d k. comes-has g p d e r k h) a;
+            after = Each-weaker (λ (d : Candidate). Comes d e) (λ (d : Candidate). Precedes d r) cs (λ d k. comes-has g p d e r k h) a;
             full = omega (arith, full, size);
           })),
         )

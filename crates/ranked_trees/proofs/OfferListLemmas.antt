@@ -3,11 +3,12 @@ use Rattle.std.proofs.Common.{◌≡◌, ℕ, ◌<◌, ◌+◌, List, [], ◌∷
 use Rattle.roster_model.specs.declared.grammar.Grammar.{Grammar}
 use Rattle.roster_model.specs.Folds.{Each}
 use Rattle.roster_model.specs.Sums.{PriceView}
+use Rattle.roster_model.proofs.EachLemmas.{Each-left}
 use Rattle.ranked_trees.specs.declared.candidate.Candidate.{Candidate}
 use Rattle.ranked_trees.specs.declared.ranking.Ranked.{Ranked}
 use Rattle.ranked_trees.specs.Candidates.{Comes, AreOrdered, AreAside}
 use Rattle.ranked_trees.specs.Progresses.{IsOffered, AreOffered, CanTake, IsProgress}
-use Rattle.ranked_trees.proofs.OfferLemmas.{each-left, ordered-put, ordered-left, aside-put, aside-but_last, offered}
+use Rattle.ranked_trees.proofs.OfferLemmas.{ordered-put, ordered-left, aside-put, aside-but_last, offered}
 
 -- what takes one takes the next
 pub offered-takes : (room : ℕ) (e : Candidate) (es old new : List Candidate) → IsOffered room e old new → CanTake room old (e ∷ es) → CanTake room new es
@@ -27,7 +28,7 @@ offered-takes room e es old new (inr (inl h)) k =
     let size : length old ≡ length (h.front ++ (h.back ++ h.last ∷ [])) = ap length h.from in
     let full : length old ≡ room = h.full in
     subst (λ cs. CanTake room cs es) (sym h.to) (record {
-      ordered = ordered-put h.front h.back e (ordered-left (h.front ++ h.back) (h.last ∷ []) ordered) h.before (each-left (Comes e) h.back (h.last ∷ []) h.after);
+      ordered = ordered-put h.front h.back e (ordered-left (h.front ++ h.back) (h.last ∷ []) ordered) h.before (Each-left (Comes e) h.back (h.last ∷ []) h.after);
       aside = aside-put es h.front h.back e k.aside.1 (aside-but_last es h.front h.back h.last aside);
       few = omega (arith, size, full, length-append h.front (h.back ++ h.last ∷ []), length-append h.back (h.last ∷ []), length-append h.front (e ∷ h.back));
     })

@@ -4,12 +4,12 @@ use Rattle.std.specs.List.{remove}
 use Rattle.std.proofs.lemmas.List.{take_more}
 use Rattle.roster_model.specs.declared.grammar.Step.{Step}
 use Rattle.roster_model.specs.Folds.{Each}
+use Rattle.roster_model.proofs.EachLemmas.{Each-append}
 use Rattle.ranked_trees.specs.declared.candidate.Candidate.{Candidate}
 use Rattle.ranked_trees.specs.declared.candidate.Child.{Child}
 use Rattle.ranked_trees.specs.Candidates.{IsApart, Comes, AreOrdered, IsAside}
 use Rattle.ranked_trees.specs.Children.{child_at, TakesLeast}
 use Rattle.ranked_trees.proofs.UsesLemmas.{comes-through}
-use Rattle.ranked_trees.proofs.OfferLemmas.{each-join}
 
 each_through : (e x : Candidate) (xs : List Candidate) → Comes e x → IsAside e.steps xs → Each (Comes x) xs → Each (Comes e) xs
 each_through e x [] h a k = tt
@@ -27,7 +27,7 @@ none-later (x ∷ xs) e = none-later xs e
 
 -- one more item has the property
 pub each-next : {A : Type 0} (P : A → Type 0) (xs : List A) (k : ℕ) (d : A) → k < length xs → P (get_or xs k d) → Each P (take k xs) → Each P (take (k + 1) xs)
-each-next P xs k d l h e = subst (Each P) (sym (take_more xs k d l)) (each-join P (take k xs) (get_or xs k d ∷ []) e (h, tt))
+each-next P xs k d l h e = subst (Each P) (sym (take_more xs k d l)) (Each-append P (take k xs) (get_or xs k d ∷ []) e (h, tt))
 
 -- apart from each is apart from one
 pub aside-at : (ss : List Step) (cs : List Candidate) (n : ℕ) (d : Candidate) → n < length cs → IsAside ss cs → IsApart ss (get_or cs n d).steps

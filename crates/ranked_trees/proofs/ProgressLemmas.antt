@@ -6,6 +6,7 @@ use Rattle.roster_model.specs.declared.grammar.Grammar.{Grammar}
 use Rattle.roster_model.specs.declared.grammar.Step.{Step}
 use Rattle.roster_model.specs.Folds.{Each, In}
 use Rattle.roster_model.specs.Sums.{PriceView}
+use Rattle.roster_model.proofs.EachLemmas.{Each-append, Each-weaker}
 use Rattle.ranked_trees.specs.declared.candidate.Candidate.{Candidate}
 use Rattle.ranked_trees.specs.declared.ranking.Ranked.{Ranked}
 use Rattle.ranked_trees.specs.Ranking.{IsRankedTree, IsRanking, RankedBefore, AreAscending, UsesBefore}
@@ -13,11 +14,10 @@ use Rattle.ranked_trees.specs.Candidates.{Has, OneHas, IsCandidate, Completes, L
 use Rattle.ranked_trees.specs.Progresses.{IsAfter, IsGood, IsBeyond, IsProgress, GoesOn, IsSplit}
 use Rattle.ranked_trees.proofs.UsesLemmas.{uses-extend_left, apart-extend_left}
 use Rattle.ranked_trees.proofs.CandidatesLemmas.{comes-has}
-use Rattle.ranked_trees.proofs.OfferLemmas.{each-join, each-map}
 
 -- a list that goes on with some rule uses stays apart from the others
 goes_aside : (ss us ts : List Step) (cs : List Candidate) → ts ≡ ss ++ us → IsAside ss cs → IsAside ts cs
-goes_aside ss us ts cs e h = each-map (λ (d : Candidate). IsApart ss d.steps) (λ (d : Candidate). IsApart ts d.steps) cs
+goes_aside ss us ts cs e h = Each-weaker (λ (d : Candidate). IsApart ss d.steps) (λ (d : Candidate). IsApart ts d.steps) cs
     (λ d k. subst (λ (q : List Step). IsApart q d.steps) (sym e) (apart-extend_left ss d.steps us k)) h
 
 comes-goes : (c b d : Candidate) (us : List Step) → b.steps ≡ c.steps ++ us → b.sum ≡ c.sum → Comes c d → Comes b d
@@ -40,7 +40,7 @@ module _ (g : Grammar) (p : PriceView) (most : ℕ) where
     good d h = record { is = h.is; later = λ r k. is.kept.0.later r (h.has r k) }
 
     apart_from : IsAside c.steps ws
-    apart_from = each-map (Comes c) (λ (d : Candidate). IsApart c.steps d.steps) ws (λ d k. k.apart) is.ordered.0
+    apart_from = Each-weaker (Comes c) (λ (d : Candidate). IsApart c.steps d.steps) ws (λ d k. k.apart) is.ordered.0
 
     all_aside : (os : List Candidate) → Each (GoesOn g p c) os → AreAside os (b ∷ []) → AreAside os (b ∷ ws)
     all_aside [] h k = tt
@@ -52,8 +52,8 @@ module _ (g : Grammar) (p : PriceView) (most : ℕ) where
       given = is.given;
       ascending = is.ascending;
       kept = (good b split.first, is.kept.1);
-      offered = each-map (GoesOn g p c) (IsGood g p rs) es good split.others;
-      ordered = (each-map (Comes c) (Comes b) ws (λ d k. comes-goes c b d split.first.further split.first.steps split.sum k) is.ordered.0, is.ordered.1);
+      offered = Each-weaker (GoesOn g p c) (IsGood g p rs) es good split.others;
+      ordered = (Each-weaker (Comes c) (Comes b) ws (λ d k. comes-goes c b d split.first.further split.first.steps split.sum k) is.ordered.0, is.ordered.1);
       aside = all_aside es split.others split.aside;
       covered = λ r tree. by r (is.covered r tree);
       few = is.few;
@@ -88,7 +88,7 @@ module _ (g : Grammar) (p : PriceView) (most : ℕ) where
 
   ascending-push : (rs : List Ranked) (r : Ranked) → AreAscending rs → IsAfter rs r → AreAscending (rs ++ r ∷ [])
   ascending-push [] r h k = (tt, tt)
-  ascending-push (q ∷ rs) r h k = (each-join (RankedBefore q) rs (r ∷ []) h.0 (k.0, tt), ascending-push rs r h.1 k.1)
+  ascending-push (q ∷ rs) r h k = (Each-append (RankedBefore q) rs (r ∷ []) h.0 (k.0, tt), ascending-push rs r h.1 k.1)
 
   module _ (rs : List Ranked) (c : Candidate) (ws : List Candidate) (whole : c.pending ≡ []) (is : IsProgress g p most rs (c ∷ ws) []) where
     has_it : Has g p c (record { sum = c.sum; tree = c.steps })
@@ -112,7 +112,7 @@ module _ (g : Grammar) (p : PriceView) (most : ℕ) where
         ap (λ (a : ℤ). made a r.tree) sum ∙ ap (λ (ss : List Step). made c.sum ss) uses
 
     afterwards : (r : Ranked) → IsAfter rs r → RankedBefore (record { sum = c.sum; tree = c.steps }) r → IsAfter (rs ++ record { sum = c.sum; tree = c.steps } ∷ []) r
-    afterwards r h k = each-join (λ (q : Ranked). RankedBefore q r) rs (_ ∷ []) h (k, tt)
+    afterwards r h k = Each-append (λ (q : Ranked). RankedBefore q r) rs (_ ∷ []) h (k, tt)
 
     goods : (ds : List Candidate) → Each (IsGood g p rs) ds → Each (Comes c) ds → Each (IsGood g p (rs ++ record { sum = c.sum; tree = c.steps } ∷ [])) ds
     goods [] h k = tt
@@ -126,7 +126,7 @@ module _ (g : Grammar) (p : PriceView) (most : ℕ) where
     -- the first candidate's tree is given
     pub is-given : IsProgress g p most (rs ++ record { sum = c.sum; tree = c.steps } ∷ []) ws []
     is-given = record {
-      given = each-join (IsRankedTree g p) rs _ is.given (is.kept.0.is.of_day _ has_it, tt);
+      given = Each-append (IsRankedTree g p) rs _ is.given (is.kept.0.is.of_day _ has_it, tt);
       ascending = ascending-push rs _ is.ascending (is.kept.0.later _ has_it);
       kept = goods ws is.kept.1 is.ordered.0;
       offered = tt;

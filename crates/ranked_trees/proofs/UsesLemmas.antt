@@ -3,6 +3,7 @@ use Rattle.std.proofs.Common.{◌≡◌, ℕ, ℤ, ◌<ℤ◌, List, [], ◌∷�
 use Rattle.std.proofs.lemmas.Int.{ints}
 use Rattle.roster_model.specs.declared.grammar.Step.{Step}
 use Rattle.roster_model.specs.Arcs.{ComesFirst}
+use Rattle.roster_model.proofs.ComesFirstLemmas.{first_through, first_one_way}
 use Rattle.ranked_trees.specs.declared.candidate.Candidate.{Candidate}
 use Rattle.ranked_trees.specs.declared.ranking.Ranked.{Ranked}
 use Rattle.ranked_trees.specs.Ranking.{use_numbers, UsesBefore, RankedBefore}
@@ -21,23 +22,6 @@ first_extends (x ∷ xs) (y ∷ ys) us vs (inr h) = inr (h.0, first_extends xs y
 first_under : (us xs ys : List ℕ) → ComesFirst xs ys → ComesFirst (us ++ xs) (us ++ ys)
 first_under [] xs ys h = h
 first_under (u ∷ us) xs ys h = inr (refl, first_under us xs ys h)
-
-first_through : (xs ys zs : List ℕ) → ComesFirst xs ys → ComesFirst ys zs → ComesFirst xs zs
-first_through [] ys zs h k = absurd h
-first_through (x ∷ xs) [] zs h k = absurd h
-first_through (x ∷ xs) (y ∷ ys) [] h k = absurd k
-first_through (x ∷ xs) (y ∷ ys) (z ∷ zs) (inl a) (inl b) = inl (omega (arith, a, b))
-first_through (x ∷ xs) (y ∷ ys) (z ∷ zs) (inl a) (inr b) = inl (omega (arith, a, b.0))
-first_through (x ∷ xs) (y ∷ ys) (z ∷ zs) (inr a) (inl b) = inl (omega (arith, a.0, b))
-first_through (x ∷ xs) (y ∷ ys) (z ∷ zs) (inr a) (inr b) = inr (a.0 ∙ b.0, first_through xs ys zs a.1 b.1)
-
-first_one_way : (xs ys : List ℕ) → ComesFirst xs ys → ComesFirst ys xs → ⊥
-first_one_way [] ys h k = absurd h
-first_one_way (x ∷ xs) [] h k = absurd h
-first_one_way (x ∷ xs) (y ∷ ys) (inl a) (inl b) = omega (arith, a, b)
-first_one_way (x ∷ xs) (y ∷ ys) (inl a) (inr b) = omega (arith, a, b.0)
-first_one_way (x ∷ xs) (y ∷ ys) (inr a) (inl b) = omega (arith, a.0, b)
-first_one_way (x ∷ xs) (y ∷ ys) (inr a) (inr b) = first_one_way xs ys a.1 b.1
 
 -- what comes before stays before, however both go on
 pub uses-extend : (ss ts us vs : List Step) → UsesBefore ss ts → UsesBefore (ss ++ us) (ts ++ vs)

@@ -12,6 +12,9 @@ use Rattle.roster_model.specs.RoundingLoss.{rounding_loss}
 use Rattle.roster_model.specs.Sound.{IsRule, IsSound}
 use Rattle.roster_model.specs.SoundInstance.{IsSoundInstance}
 use Rattle.roster_model.proofs.SoundCells.{few_cells}
+use Rattle.roster_model.specs.declared.instance.Cell.{Cell}
+use Rattle.roster_model.specs.Coverage.{penalty}
+use Rattle.roster_model.specs.Limits.{IsLimitedCell}
 
 pub rule_cost-le : (codes names : ℕ) (rules : List Rule) → All (IsRule codes names) rules → greatest_rule_cost rules ≤ 10000
 rule_cost-le codes names [] h = omega arith
@@ -41,3 +44,9 @@ module _ (i : Instance) (s : IsSoundInstance i) where
 
   pub loss-within : (h p k n : ℕ) → h ≡ i.heads_max → p ≡ i.grammar.periods → k ≤ 1500 → n ≡ length i.cells → h * (p + 2 * k + n) ≤ 247296
   loss-within h p k n a b few d = rw (a, b, d) (loss-le k few)
+
+pub penalty_le : (c : Cell) (n : ℕ) → n ≤ 64 → IsLimitedCell c → penalty c n ≤ 1280000
+penalty_le c n h l =
+    let a = mul-le c.under (c.need - n) 10000 64 l.under (omega (arith, l.need)) in
+    let b = mul-le c.over (n - c.need) 10000 64 l.over (omega arith) in
+    omega (arith, a, b)

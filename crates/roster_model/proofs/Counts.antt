@@ -19,7 +19,7 @@ cond_le : (a b : Bool) → (a ≡ true → b ≡ true) → cond a 1 0 ≤ cond b
 cond_le true b h = omega (arith, cond_yes b (h refl))
 cond_le false b h = omega arith
 
-cond_small : (b : Bool) → cond b 1 0 ≤ 1
+pub cond_small : (b : Bool) → cond b 1 0 ≤ 1
 cond_small true = omega arith
 cond_small false = omega arith
 

@@ -68,7 +68,7 @@ no_group_has a x (g ∷ gs) l = elim (eqb_tells a x) [
 
 -- ---- the order of first appearance
 
-appearances-append : (rs qs : List Rule) → appearances (rs ++ qs) ≡ appearances rs ++ appearances qs
+pub appearances-append : (rs qs : List Rule) → appearances (rs ++ qs) ≡ appearances rs ++ appearances qs
 appearances-append [] qs = refl
 appearances-append (r ∷ rs) qs =
     ap (λ (xs : List ℕ). (r.left ∷ names_of r.right) ++ xs) (appearances-append rs qs)

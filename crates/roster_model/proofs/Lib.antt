@@ -19,3 +19,6 @@ pub mod RoomAgrees
 pub mod CutCounts
 pub mod Entries
 pub mod RoomWithin
+pub mod EachLemmas
+pub mod TeamNumbers
+pub mod ComesFirstLemmas

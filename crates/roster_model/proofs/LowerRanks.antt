@@ -1,13 +1,10 @@
 -- Ranks of the first n names, from ranks of more: how many of these names have a lower rank.
 use Rattle.std.proofs.Common.{◌≡◌, ℕ, zero, suc, ◌+◌, ◌<◌, ◌≤◌, ◌⊎◌, inl, inr, Bool, true, false, cond, nat_lt, refl, ap, arith}
 use Rattle.std.proofs.lemmas.Bool.{lt-ltb, ltb-true}
+use Rattle.roster_model.proofs.Counts.{cond_small}
 
 one : (b : Bool) → b ≡ true → ◌≡◌ {A = ℕ} (cond b 1 0) 1
 one b e = ap (λ (x : Bool). cond x 1 0) e
-
-small : (b : Bool) → cond b 1 0 ≤ 1
-small true = omega arith
-small false = omega arith
 
 grows : (a b : Bool) → (a ≡ true → b ≡ true) → cond a 1 0 ≤ cond b 1 0
 grows true b h = omega (arith, one b (h refl))
@@ -21,7 +18,7 @@ module _ (f : ℕ → ℕ) where
 
   lower-le : (x n : ℕ) → lower x n ≤ n
   lower-le x zero = omega arith
-  lower-le x (suc n) = omega (arith, small (nat_lt (f n) (f x)), lower-le x n)
+  lower-le x (suc n) = omega (arith, cond_small (nat_lt (f n) (f x)), lower-le x n)
 
   not_itself : (x : ℕ) → ◌≡◌ {A = ℕ} (cond (nat_lt (f x) (f x)) 1 0) 0
   not_itself x = no (nat_lt (f x) (f x)) (λ e. let l = ltb-true (f x) (f x) e in absurd (omega arith))
@@ -34,7 +31,7 @@ module _ (f : ℕ → ℕ) where
   lower-lt x zero l = absurd (omega arith)
   lower-lt x (suc n) l = elim (at x n l) [
     | inl e ↦ omega (arith, one-same x n e, lower-le x n)
-    | inr k ↦ omega (arith, small (nat_lt (f n) (f x)), lower-lt x n k)
+    | inr k ↦ omega (arith, cond_small (nat_lt (f n) (f x)), lower-lt x n k)
   ]
     where
       at : (x n : ℕ) → x < suc n → (x ≡ n) ⊎ (x < n)

@@ -19,6 +19,7 @@ use Rattle.roster_model.specs.PriceLimits.{AreRising, Lacks, is_nonzero, nonzero
 use Rattle.roster_model.specs.RoomPrices.{entry_price, listed_price}
 use Rattle.roster_model.specs.Reduced.{CutPrice, mult_of, cut_prices, cuts_paid, signed, arc_price}
 use Rattle.roster_model.specs.Sums.{Within}
+use Rattle.roster_model.proofs.Counts.{cond_small}
 
 -- what a cut with this multiplier adds to the price of the arc
 abbrev pub cut_share : ArcKey → Cut → ℤ → ℤ
@@ -144,13 +145,9 @@ paid-all cuts prices k xs l h a =
 
 -- ---- how many multipliers are not 0
 
-at-most-one : (b : Bool) → cond b 1 0 ≤ 1
-at-most-one true = omega arith
-at-most-one false = omega arith
-
 pub nonzero-le : (ms : List Mult) → nonzero ms ≤ length ms
 nonzero-le [] = omega arith
-nonzero-le (m ∷ ms) = let e = at-most-one (is_nonzero m) in let f = nonzero-le ms in omega (arith, e, f)
+nonzero-le (m ∷ ms) = let e = cond_small (is_nonzero m) in let f = nonzero-le ms in omega (arith, e, f)
 
 pub nonzero-take : (k : ℕ) (ms : List Mult) → nonzero (take k ms) ≤ nonzero ms
 nonzero-take zero ms = omega arith

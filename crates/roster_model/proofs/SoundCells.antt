@@ -15,7 +15,7 @@ pub length-cells_from : (d : Demand) (k : ℕ) (ps : List PeriodDemand) → leng
 length-cells_from d k [] = refl
 length-cells_from d k (p ∷ ps) = omega (arith, length-cells_from d (k + 1) ps)
 
-length-all_cells : (g : Grammar) (ds : List Demand) → Each (IsDemand g) ds → length (all_cells ds) ≡ length ds * g.periods
+pub length-all_cells : (g : Grammar) (ds : List Demand) → Each (IsDemand g) ds → length (all_cells ds) ≡ length ds * g.periods
 length-all_cells g [] h = omega arith
 length-all_cells g (d ∷ ds) h =
     omega (arith, length-append (demand_cells d) (all_cells ds), length-cells_from d 1 d.periods, h.0.whole, length-all_cells g ds h.1)

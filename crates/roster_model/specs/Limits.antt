@@ -3,6 +3,7 @@ use Rattle.std.specs.Prelude.{◌≤◌}
 use Rattle.roster_model.specs.declared.grammar.Grammar.{Grammar}
 use Rattle.roster_model.specs.declared.instance.Cell.{Cell}
 use Rattle.roster_model.specs.Demands.{IsWork}
+use Rattle.roster_model.specs.declared.instance.Cut.{Cut}
 
 -- the numbers of a cell are small
 pub record IsLimitedCell (c : Cell) : Type 0 where
@@ -18,3 +19,7 @@ pub record IsDayCell (g : Grammar) (c : Cell) : Type 0 where
   pub first : 1 ≤ c.period
   pub last : c.period ≤ g.periods
   pub limited : IsLimitedCell c
+
+-- at most 63 trees are counted by a cut
+abbrev pub IsSmallCut : Cut → Type 0
+IsSmallCut c = c.b ≤ 63

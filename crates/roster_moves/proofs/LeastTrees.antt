@@ -10,12 +10,11 @@ use Rattle.roster_model.specs.SoundInstance.{IsSoundInstance}
 use Rattle.roster_model.specs.Sums.{PriceView, IsLeast, tree_sum}
 use Rattle.roster_model.specs.Teams.{Team, teams}
 use Rattle.roster_model.specs.Trees.{IsDayTree}
-use Rattle.tree_laws.specs.LeastTrees.{HoldsLeastTree}
 use Rattle.parse_graph.specs.Graphs.{GraphView, IsGraph}
 use Rattle.cheapest_tree.specs.Pricers.{PricerView, IsFilled, AsksTree}
 use Rattle.cheapest_tree.specs.Under.{IsTop, IsReady, IsDayTreeUnder, AsksTreeUnder, HoldsLeastUnder}
-use Rattle.tree_pool.specs.Pools.{AreDaySteps}
 use Rattle.candidate_rosters.proofs.LeadersLemmas.{key_of, makes-root}
+use Rattle.tree_laws.specs.DaySteps.{AreDaySteps}
 
 module _ (i : Instance) (sound : IsSoundInstance i) (p : PriceView) (v : GraphView) (w : PricerView) (graph : IsGraph i.grammar v) (filled : IsFilled i.grammar p v w) where
   pub is-ready : IsReady i.grammar p v w
@@ -44,10 +43,6 @@ module _ (i : Instance) (sound : IsSoundInstance i) (p : PriceView) (v : GraphVi
       sum = (least.attained.0, least.attained.1, subst IsSome (sym least.attained.2) refl);
       space = space;
     }
-
--- the room holds the steps of a tree of the day
-pub day-steps : (g : Grammar) (p : PriceView) (room : RoomView) → HoldsLeastTree g p room → AreDaySteps g room.steps
-day-steps g p room h = (h.tree, h.of_day, h.held)
 
 pub under-steps : (g : Grammar) (p : PriceView) (a : ArcKey) (room : RoomView) → HoldsLeastUnder g p a room → AreDaySteps g room.steps
 under-steps g p a room h = (h.tree, h.of_day.0, h.held)

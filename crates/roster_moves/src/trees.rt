@@ -11,7 +11,8 @@ ghost use Rattle.bound_laws.specs.DutyTrees.{own_rules};
 ghost use Rattle.parse_graph.specs.Graphs.{IsGraph};
 ghost use Rattle.cheapest_tree.specs.Pricers.{IsMadeFor, IsFilled};
 ghost use Rattle.roster_part.specs.TeamViews.{team_view};
-ghost use Rattle.tree_pool.specs.Pools.{IsPool, IsGrown, AreDaySteps};
+ghost use Rattle.tree_laws.specs.DaySteps.{AreDaySteps};
+ghost use Rattle.tree_pool.specs.Pools.{IsPool, IsGrown};
 
 use cheapest_tree::Pricer;
 use parse_graph::Graph;

@@ -1,9 +1,9 @@
 -- What holds of the items of a list, by their places.
-use Rattle.std.proofs.Common.{All, ◌≡◌, ℕ, zero, suc, ◌+◌, ◌-◌, ◌<◌, ◌≤◌, arith, Some, List, [], ◌∷◌, length, refl, sym, subst, ◌∙◌, inl, inr, ◌⊎◌}
+use Rattle.std.proofs.Common.{◌≡◌, ℕ, suc, ◌+◌, ◌-◌, ◌<◌, ◌≤◌, arith, Some, List, [], ◌∷◌, length, refl, sym, subst, ◌∙◌, inl, inr, ◌⊎◌}
 use Rattle.std.specs.Prelude.{slice_get}
-use Rattle.std.proofs.lemmas.Option.{none-some, same_Some, slice_get_within}
-use Rattle.std.proofs.lemmas.List.Elements.{All-head, All-tail}
-use Rattle.roster_model.specs.Folds.{Each, In}
+use Rattle.std.proofs.lemmas.Option.{same_Some, slice_get_within}
+use Rattle.roster_model.specs.Folds.{Each}
+use Rattle.roster_model.proofs.EachLemmas.{Each-get}
 use Rattle.certificates.specs.First.{IsFirst}
 
 module _ {A : Type 0} where
@@ -30,11 +30,6 @@ module _ {A : Type 0} where
           pick (inl s) = h.each j x s at
           pick (inr s) = here-is j x (omega arith) at
 
-  pub get-each : (P : A → Type 0) (xs : List A) (j : ℕ) (x : A) → Each P xs → slice_get xs j ≡ Some x → P x
-  get-each P [] j x h at = absurd (none-some x at)
-  get-each P (y ∷ ys) zero x h at = subst P (same_Some y x at) h.0
-  get-each P (y ∷ ys) (suc j) x h at = get-each P ys j x h.1 at
-
   each-of : (P : A → Type 0) (xs : List A) → ((j : ℕ) (x : A) → slice_get xs j ≡ Some x → P x) → Each P xs
   each-of P [] f = tt
   each-of P (y ∷ ys) f = (f 0 y refl, each-of P ys (λ j x at. f (suc j) x at))
@@ -56,13 +51,4 @@ module _ {A : Type 0} where
 
   -- where all items fail a property, none is the first with it
   pub no-first : (P Q : A → Type 0) (xs : List A) (k : ℕ) (y : A) → ((x : A) → Q x → P x → ⊥) → Each Q xs → IsFirst P xs k y → ⊥
-  no-first P Q xs k y apart h f = apart y (get-each Q xs (k - 1) y h f.place) f.meets
-
-  pub all-each : (P : A → Type 0) (xs : List A) → All P xs → Each P xs
-  all-each P [] h = tt
-  all-each P (x ∷ xs) h = (All-head P x xs h, all-each P xs (All-tail P x xs h))
-
-  pub get-in : (xs : List A) (j : ℕ) (x : A) → slice_get xs j ≡ Some x → In x xs
-  get-in [] j x at = absurd (none-some x at)
-  get-in (y ∷ ys) zero x at = inl (sym (same_Some y x at))
-  get-in (y ∷ ys) (suc j) x at = inr (get-in ys j x at)
+  no-first P Q xs k y apart h f = apart y (Each-get Q xs (k - 1) y h f.place) f.meets

@@ -1,14 +1,15 @@
 -- The teams of a day by their places and numbers.
-use Rattle.std.proofs.Common.{◌≡◌, ℕ, zero, suc, ◌+◌, ◌<◌, ◌≤◌, max, arith, None, Some, List, [], ◌∷◌, length, ap, refl, sym, subst, ◌∙◌, inl, inr}
+use Rattle.std.proofs.Common.{◌≡◌, ℕ, zero, suc, ◌+◌, ◌<◌, ◌≤◌, max, arith, None, Some, List, [], ◌∷◌, length, ap, refl, sym, subst, ◌∙◌, inl}
 use Rattle.std.specs.Prelude.{slice_get}
 use Rattle.std.proofs.lemmas.Option.{none-some, same_Some, slice_get-get_or}
 use Rattle.roster_model.specs.declared.instance.Group.{Group}
 use Rattle.roster_model.specs.declared.instance.Instance.{Instance}
 use Rattle.roster_model.specs.Folds.{In}
 use Rattle.roster_model.specs.Teams.{Team, teams, teams_of, teams_from}
+use Rattle.roster_model.proofs.TeamNumbers.{team_apart}
+use Rattle.roster_model.proofs.EachLemmas.{get-in}
 use Rattle.certificates.specs.Sound.{IsGroupNumber}
 use Rattle.roster_part.specs.TeamViews.{IsTeamName}
-use Rattle.roster_part.proofs.Items.{get-in}
 
 abbrev group_team : ℕ → Group → Team
 group_team n g = record { number = n; name = g.name; least = g.heads_min; most = g.heads_max }
@@ -27,29 +28,7 @@ teams_from-at k (x ∷ gs) zero n g at e =
     ap (λ (y : Group). Some (group_team k y)) (same_Some x g at) ∙ ap (λ (a : ℕ). Some (group_team a g)) number
 teams_from-at k (x ∷ gs) (suc m) n g at e = teams_from-at (k + 1) gs m n g at (omega arith)
 
-from_at : (k : ℕ) (gs : List Group) (a : Team) → In a (teams_from k gs) → k ≤ a.number
-from_at k [] a h = absurd h
-from_at k (g ∷ gs) a (inl e) = let f = ap (λ (t : Team). t.number) e in omega arith
-from_at k (g ∷ gs) a (inr h) = omega (arith, from_at (k + 1) gs a h)
-
-from_apart : (k : ℕ) (gs : List Group) (a b : Team) → In a (teams_from k gs) → In b (teams_from k gs) → a.number ≡ b.number → a ≡ b
-from_apart k [] a b h l e = absurd h
-from_apart k (g ∷ gs) a b (inl h) (inl l) e = h ∙ sym l
-from_apart k (g ∷ gs) a b (inl h) (inr l) e = let f = ap (λ (t : Team). t.number) h in let m = from_at (k + 1) gs b l in absurd (omega arith)
-from_apart k (g ∷ gs) a b (inr h) (inl l) e = let f = ap (λ (t : Team). t.number) l in let m = from_at (k + 1) gs a h in absurd (omega arith)
-from_apart k (g ∷ gs) a b (inr h) (inr l) e = from_apart (k + 1) gs a b h l e
-
 module _ (i : Instance) where
-  apart : (gs : List Group) (a b : Team) → In a (teams_of i gs) → In b (teams_of i gs) → a.number ≡ b.number → a ≡ b
-  apart [] a b (inl h) (inl l) e = h ∙ sym l
-  apart [] a b (inl h) (inr l) e = absurd l
-  apart [] a b (inr h) l e = absurd h
-  apart (g ∷ gs) a b h l e = from_apart 1 (g ∷ gs) a b h l e
-
-  -- two teams of one number are one
-  pub team_apart : (a b : Team) → In a (teams i) → In b (teams i) → a.number ≡ b.number → a ≡ b
-  team_apart a b h l e = apart i.groups a b h l e
-
   count_of : (gs : List Group) → length (teams_of i gs) ≡ max (length gs) 1
   count_of [] = refl
   count_of (g ∷ gs) = omega (arith, length-teams_from 1 (g ∷ gs))
@@ -79,7 +58,7 @@ module _ (i : Instance) where
 
   -- the only team of its number
   named : (t : Team) → In t (teams i) → IsTeamName i t.number t.name
-  named t at = record { team = t; listed = at; numbered = refl; named = refl; only = λ u there e. ap (λ (x : Team). x.name) (team_apart u t there at e) }
+  named t at = record { team = t; listed = at; numbered = refl; named = refl; only = λ u there e. ap (λ (x : Team). x.name) (team_apart i i.groups u t there at e) }
 
   pub group_named : (k n : ℕ) (g : Group) → slice_get i.groups k ≡ Some g → n ≡ k + 1 → IsTeamName i n g.name
   group_named k n g at e = subst (λ (m : ℕ). IsTeamName i m g.name) (sym e) (named (group_team (k + 1) g) (get-in (teams i) k _ (team_at-group k g at)))

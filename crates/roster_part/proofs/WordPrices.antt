@@ -17,7 +17,7 @@ use Rattle.certificates.specs.RosterCauses.{stated_prices}
 use Rattle.roster_part.specs.Faults.{IsPriceCause, HasNoOtherWord, HasNoOtherPrice}
 use Rattle.roster_part.specs.TeamViews.{IsTeamName}
 use Rattle.roster_part.proofs.Items.{Before, before-next, before-all, first-here, no-first}
-use Rattle.roster_part.proofs.TeamNumbers.{team_apart}
+use Rattle.roster_model.proofs.TeamNumbers.{team_apart}
 
 module _ (i : Instance) where
   -- the word is a shift of its team
@@ -33,7 +33,7 @@ module _ (i : Instance) where
 
   one_price : (s : Shift) (p q : ℕ) → IsTeamPrice i (duty s) p → IsTeamPrice i (duty s) q → p ≡ q
   one_price s p q h k =
-      let same = team_apart i h.team k.team h.listed k.listed (h.numbered ∙ sym k.numbered) in
+      let same = team_apart i i.groups h.team k.team h.listed k.listed (h.numbered ∙ sym k.numbered) in
       let other : IsPrice i.grammar h.team.name s.word q = subst (λ (t : Team). IsPrice i.grammar t.name s.word q) (sym same) k.priced in
       let a = h.priced.least other.attained.0 other.attained.1 in
       let b = other.least h.priced.attained.0 h.priced.attained.1 in

@@ -4,10 +4,9 @@ ghost use Rattle.roster_model.specs.Duties.{duty};
 ghost use Rattle.roster_model.specs.Folds.{Each};
 ghost use Rattle.roster_model.specs.Rosters.{ArePrices, IsTeamPrice};
 ghost use Rattle.roster_model.specs.SoundInstance.{IsSoundInstance};
-ghost use Rattle.certificates.specs.RosterCauses.{duties, IsNoShift};
+ghost use Rattle.certificates.specs.RosterCauses.{duties, IsNoShift, stated_prices};
 ghost use Rattle.certificates.specs.Sound.{IsGroupNumber, IsSoundShift};
 ghost use Rattle.span_table.specs.Tables.{IsMadeFor};
-ghost use Rattle.certificates.specs.RosterCauses.{stated_prices};
 ghost use Rattle.roster_part.specs.Faults.{IsPriceCause};
 
 use crate::stated::StatedShift;

@@ -3,10 +3,9 @@ ghost use Rattle.roster_model.specs.declared.grammar.Grammar.{Grammar as Rules};
 ghost use Rattle.roster_model.specs.Folds.{Each};
 ghost use Rattle.roster_model.specs.SoundInstance.{IsSoundInstance};
 ghost use Rattle.roster_model.specs.Rosters.{roster_cost};
-ghost use Rattle.certificates.specs.RosterCauses.{duties};
+ghost use Rattle.certificates.specs.RosterCauses.{duties, stated_prices};
 ghost use Rattle.certificates.specs.Sound.{IsSoundShift};
 ghost use Rattle.span_table.specs.Tables.{IsMadeFor};
-ghost use Rattle.certificates.specs.RosterCauses.{stated_prices};
 ghost use Rattle.roster_part.specs.Faults.{IsRightlyStated, IsRosterCause};
 
 use crate::prices::price_fault;

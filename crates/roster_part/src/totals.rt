@@ -5,9 +5,8 @@ ghost use Rattle.roster_model.specs.Limits.{IsDayCell};
 ghost use Rattle.roster_model.specs.Rosters.{HasHeads, roster_cost};
 ghost use Rattle.roster_model.specs.SoundInstance.{IsSoundInstance};
 ghost use Rattle.roster_model.specs.Teams.{teams};
-ghost use Rattle.certificates.specs.RosterCauses.{duties};
+ghost use Rattle.certificates.specs.RosterCauses.{duties, stated_prices};
 ghost use Rattle.certificates.specs.Sound.{IsSoundShift};
-ghost use Rattle.certificates.specs.RosterCauses.{stated_prices};
 ghost use Rattle.roster_part.specs.Faults.{IsHeadsCause};
 
 use crate::counter::Counter;

@@ -7,7 +7,6 @@ use Rattle.std.proofs.lemmas.Option.{slice_get-get_or}
 use Rattle.std.proofs.Math.Nat.{mul-div-le}
 use Rattle.text_lines.specs.Lines.{text_items}
 use Rattle.text_lines.specs.Written.{numbered}
-use Rattle.text_lines.proofs.ListLemmas.{Each-append}
 use Rattle.text_lines.proofs.WrittenAgain.{written_again}
 use Rattle.roster_model.specs.declared.instance.Done.{Done}
 use Rattle.roster_model.specs.declared.instance.Done.TheVariants.{Equal, NoRoster, TurnsOut}
@@ -16,6 +15,7 @@ use Rattle.roster_model.specs.declared.instance.Instance.{Instance}
 use Rattle.roster_model.specs.declared.instance.Shift.{Shift}
 use Rattle.roster_model.specs.Folds.{Each}
 use Rattle.roster_model.specs.SoundInstance.{HasGroups, IsSoundInstance}
+use Rattle.roster_model.proofs.EachLemmas.{Each-append}
 use Rattle.certificates.specs.Sound.{IsGroupNumber}
 use Rattle.proof_pieces.specs.PriceLines.{due_byte}
 use Rattle.bound_proof.specs.Written.{amount_word, amount_words, name_word, shift_words, shift_line}

@@ -6,5 +6,4 @@ mod NumberWords
 mod ReadLoops
 mod ReadTexts
 mod ReportForms
-pub mod Sums
 mod WholeForms

@@ -9,10 +9,10 @@ use Rattle.std.proofs.lemmas.Bool.{and_parts, and_from, eqb-true, eq-eqb, le-ltb
 use Rattle.std.proofs.lemmas.List.Quantifiers.{position-Some}
 use Rattle.std.proofs.lemmas.List.Sums.{position_or_len_is}
 use Rattle.std.proofs.lemmas.Option.{slice_get-get_or}
-use Rattle.std.proofs.lemmas.Slice.Eq.{bytes_eq-Decides}
 use Rattle.text_lines.specs.Numbers.{is_plain, natural_of}
 use Rattle.text_lines.proofs.FieldsLemmas.{position_at}
 use Rattle.text_lines.proofs.ListLemmas.{at_least}
+use Rattle.text_lines.proofs.WordLemmas.{same_bytes, the_bytes}
 use Rattle.roster_model.specs.declared.instance.Done.{Done}
 use Rattle.roster_model.specs.declared.instance.Done.TheVariants.{Equal, NoRoster, TurnsOut}
 use Rattle.roster_model.specs.declared.instance.Group.{Group}
@@ -33,12 +33,6 @@ use Rattle.roster_report.specs.ReportText.{header_line, done_word, result_line, 
 use Rattle.roster_report.specs.Writable.{IsWritableShift}
 use Rattle.roster_report.proofs.ExactReadings.{Line, IsExact, line_exact}
 use Rattle.roster_report.proofs.NumberWords.{number_is, number_whole}
-
-same_bytes : (w : List ℕ) → bytes_eq w w ≡ true
-same_bytes w = (bytes_eq-Decides w w).1 refl
-
-the_bytes : (v w : List ℕ) → bytes_eq v w ≡ true → v ≡ w
-the_bytes v w h = (bytes_eq-Decides v w).0 h
 
 -- what is said by a word behind the first
 and_then_some : {A B : Type 0} (f : A → Option B) (o : Option A) (b : B) → option_and_then f o ≡ Some b → (a : A) × (o ≡ Some a) × (f a ≡ Some b)

@@ -4,11 +4,11 @@ use Rattle.std.specs.Prelude.{◌≢◌, IfSome, IfOk, IfErr, MatchResult}
 use Rattle.text_lines.specs.Lines.{text_items}
 use Rattle.text_lines.specs.Written.{numbered}
 use Rattle.text_lines.specs.Steps as steps
-use Rattle.text_lines.proofs.ListLemmas.{Each-weaker}
 use Rattle.text_lines.proofs.StepsLemmas.{bind_ok, same_ok, err}
 use Rattle.roster_model.specs.declared.instance.Instance.{Instance}
 use Rattle.roster_model.specs.declared.instance.Shift.{Shift}
 use Rattle.roster_model.specs.SoundInstance.{IsSoundInstance}
+use Rattle.roster_model.proofs.EachLemmas.{Each-weaker}
 use Rattle.proof_pieces.proofs.FineItems.{text_fine}
 use Rattle.roster_report.specs.declared.cover.Cover.{Cover}
 use Rattle.roster_report.specs.declared.fault.ReportFault.{ReportFault}

@@ -2,13 +2,13 @@
 use Rattle.std.proofs.Common.{◌≡◌, ℕ, ◌*◌, ◌/◌, ◌<◌, ◌≤◌, List, [], ◌∷◌, ◌++◌, length, map, Option, Some, None, refl, sym, ap, ◌∙◌, subst, arith, append-nil}
 use Rattle.std.specs.Prelude.{codes, IfSome}
 use Rattle.std.proofs.Math.Nat.{mul-div_cancel}
-use Rattle.text_lines.proofs.ListLemmas.{Each-weaker}
 use Rattle.roster_model.specs.declared.instance.Done.{Done}
 use Rattle.roster_model.specs.declared.instance.Group.{Group}
 use Rattle.roster_model.specs.declared.instance.Instance.{Instance}
 use Rattle.roster_model.specs.declared.instance.Shift.{Shift}
 use Rattle.roster_model.specs.Folds.{Each}
 use Rattle.roster_model.specs.SoundInstance.{IsSoundInstance}
+use Rattle.roster_model.proofs.EachLemmas.{Each-weaker}
 use Rattle.proof_pieces.proofs.PriceBlock.{cells_whole}
 use Rattle.bound_proof.specs.Written.{amount_words, shift_line}
 use Rattle.roster_report.specs.declared.cover.Cover.{Cover}

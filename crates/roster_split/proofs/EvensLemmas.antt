@@ -5,18 +5,21 @@ use Rattle.std.proofs.lemmas.Option.{same_Some, slice_get_within, slice_get-get_
 use Rattle.roster_model.specs.declared.grammar.ArcKey.{ArcKey}
 use Rattle.roster_model.specs.declared.grammar.Sym.{Sym}
 use Rattle.roster_model.specs.Folds.{In, count}
+use Rattle.roster_model.proofs.EachLemmas.{in-get}
 use Rattle.arc_laws.specs.OrNodes.{OrNode, name, suffix, leaf, same_node, made, used, used_by, symbol_node, right_of, root_of}
 use Rattle.arc_laws.specs.Balance.{made_sum, used_sum, IsBalanced}
 use Rattle.arc_laws.proofs.FoldsLemmas.{sum_n-same}
 use Rattle.arc_laws.proofs.BalanceLemmas.{right_of-is}
+use Rattle.arc_laws.specs.AtNodes.{start_of}
+use Rattle.arc_laws.proofs.PartCuts.{IsCut}
 use Rattle.parse_graph.specs.Graphs.{GraphView, IsRoot, places_from, places, is_among, IsKid, AreKids}
-use Rattle.split_laws.specs.Nodes.{IsInner, start_of}
-use Rattle.split_laws.proofs.Shape.{arc-shape, IsCut}
+use Rattle.split_laws.specs.Nodes.{IsInner}
+use Rattle.split_laws.proofs.Shape.{arc-shape}
 use Rattle.split_laws.proofs.NodesLemmas.{symbol_start}
 use Rattle.split_laws.proofs.OwingLemmas.{cond-one}
 use Rattle.parse_graph.proofs.ArcUsesLemmas.{same-node, own-node}
 use Rattle.split_laws.proofs.TakenCounts.{positive, In-count}
-use Rattle.parse_graph.proofs.PlacesLemmas.{at-In, place-sum}
+use Rattle.parse_graph.proofs.PlacesLemmas.{place-sum}
 use Rattle.roster_split.specs.Counts.{count_of}
 use Rattle.roster_split.specs.Evens.{HasCounts, IsEven, AreEven, IsFirstUneven}
 use Rattle.roster_split.specs.Counts.{sum_at}
@@ -57,7 +60,7 @@ module _ (v : GraphView) (counts : List ℕ) (asked : HasCounts v counts) where
 
   uses-once : (a : ArcKey) → In a v.arcs → (o : OrNode) → cond (is_among o (used asked.g a)) 1 0 ≡ count (same_node o) (used asked.g a)
   uses-once a h o =
-      let r = at-In v.arcs a h in
+      let r = in-get v.arcs a h in
       let st = arc-shape asked.g a (asked.graph.arcs.sound r.0 a r.1) in
       let right = ap (λ (xs : List Sym). drop a.suffix xs) (right_of-is asked.g a.rule st.rule st.at) in
       once-by (drop a.suffix (right_of asked.g a.rule)) a a.suffix a.len (subst (λ (q : List Sym). IsCut a.suffix q a.len a.part) (sym right) st.cut) o
@@ -117,7 +120,7 @@ module _ (v : GraphView) (counts : List ℕ) (asked : HasCounts v counts) where
   made-node o some =
       let r = positive (count_of v.arcs counts) (λ a. cond (same_node o (made asked.g a)) 1 0) v.arcs some in
       let e = same-node o (made asked.g r.0) (cond-one (same_node o (made asked.g r.0)) r.3) in
-      let p = at-In v.arcs r.0 r.1 in
+      let p = in-get v.arcs r.0 r.1 in
       let m = asked.graph.made_by p.0 r.0 p.1 in
       (m.0, m.2 ∙ ap Some (sym e))
 
@@ -126,7 +129,7 @@ module _ (v : GraphView) (counts : List ℕ) (asked : HasCounts v counts) where
       let r = positive (count_of v.arcs counts) (λ a. count (same_node o) (used asked.g a)) v.arcs some in
       let i = In-count (same_node o) (used asked.g r.0) r.3 in
       let e = same-node o i.0 i.2 in
-      let p = at-In v.arcs r.0 r.1 in
+      let p = in-get v.arcs r.0 r.1 in
       let k = asked.graph.kids p.0 r.0 p.1 in
       kids-node (used asked.g r.0) k.0 k.3 o inner (subst (λ (x : OrNode). In x (used asked.g r.0)) (sym e) i.1)
 

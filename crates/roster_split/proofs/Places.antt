@@ -5,13 +5,14 @@ use Rattle.std.proofs.lemmas.Option.{same_Some}
 use Rattle.roster_model.specs.declared.grammar.ArcKey.{ArcKey}
 use Rattle.roster_model.specs.Arcs.{same_arc}
 use Rattle.arc_laws.proofs.SameArc.{Told, arc_tells, same_arc-refl}
+use Rattle.arc_laws.specs.Lists.{StandOnce}
+use Rattle.arc_laws.proofs.StandOnceLemmas.{once-rest}
 use Rattle.parse_graph.specs.Graphs.{places_from}
-use Rattle.parse_graph.proofs.PlacesLemmas.{Once, once-rest}
 use Rattle.split_laws.proofs.TakenCounts.{taken}
 use Rattle.roster_split.specs.Counts.{count_of}
 
 -- the count of an arc is that at its place
-pub count-at : (arcs : List ArcKey) (counts : List ℕ) → Once arcs → (p : ℕ) (a : ArcKey) → slice_get arcs p ≡ Some a → count_of arcs counts a ≡ slice_index counts p
+pub count-at : (arcs : List ArcKey) (counts : List ℕ) → StandOnce arcs → (p : ℕ) (a : ArcKey) → slice_get arcs p ≡ Some a → count_of arcs counts a ≡ slice_index counts p
 count-at [] counts once p a e = cc
 count-at (x ∷ arcs) [] once p a e = refl
 count-at (x ∷ arcs) (c ∷ counts) once zero a e =
@@ -25,7 +26,7 @@ count-at (x ∷ arcs) (c ∷ counts) once (suc p) a e = by (arc_tells x a) (coun
     by (inr t) ih = rw t.0 ih
 
 -- one less at its place is one less of the arc
-pub count-less : (arcs : List ArcKey) (counts : List ℕ) → Once arcs → (p : ℕ) (key : ArcKey) → slice_get arcs p ≡ Some key → length counts ≡ length arcs
+pub count-less : (arcs : List ArcKey) (counts : List ℕ) → StandOnce arcs → (p : ℕ) (key : ArcKey) → slice_get arcs p ≡ Some key → length counts ≡ length arcs
     → (a : ArcKey) → taken key (count_of arcs counts) a ≡ count_of arcs (set counts p (slice_index counts p - 1)) a
 count-less [] counts once p key e same a = cc
 count-less (x ∷ arcs) [] once p key e same a = absurd (omega (arith, same))

@@ -8,14 +8,15 @@ use Rattle.roster_model.specs.Trees.{Parts, IsDayTree, steps}
 use Rattle.roster_model.specs.Folds.{In, count}
 use Rattle.roster_model.specs.Arcs.{arcs, same_arc}
 use Rattle.roster_model.specs.Cuts.{arcs_of, arc_count}
+use Rattle.roster_model.proofs.EachLemmas.{Each-append, in-get}
 use Rattle.arc_laws.specs.OrNodes.{same_node, made, root_of}
 use Rattle.arc_laws.specs.Counts.{root_count}
-use Rattle.arc_laws.proofs.FoldsLemmas.{count-append, Each-append}
+use Rattle.arc_laws.proofs.FoldsLemmas.{count-append}
 use Rattle.parse_graph.specs.Graphs.{GraphView, IsRoot, places}
 use Rattle.split_laws.specs.Owing.{Owes}
 use Rattle.split_laws.specs.Nodes.{copies}
 use Rattle.split_laws.proofs.SplitsLemmas.{start-owes, none-left}
-use Rattle.parse_graph.proofs.PlacesLemmas.{at-In, place-sum}
+use Rattle.parse_graph.proofs.PlacesLemmas.{place-sum}
 use Rattle.roster_split.specs.Counts.{count_of}
 use Rattle.roster_split.specs.Taking.{AsksTree, TakesTree}
 use Rattle.roster_split.specs.Evens.{HasCounts}
@@ -37,7 +38,7 @@ module _ (v : GraphView) (counts : List ℕ) (asked : HasBalance v counts) where
   no-trees none = record { trees = []; uses = refl; are = record { day = tt; number = sym (nothing v.arcs (λ a h. no_arc a h)); counts = λ a h. absurd (no_arc a h) } }
     where
       no_arc : (a : ArcKey) → In a v.arcs → ⊥
-      no_arc a h = let r = at-In v.arcs a h in let is = asked.graph.arcs.sound r.0 a r.1 in subst (λ (o : _). IsRoot asked.g v.nodes o) none asked.graph.root is.0 is.1
+      no_arc a h = let r = in-get v.arcs a h in let is = asked.graph.arcs.sound r.0 a r.1 in subst (λ (o : _). IsRoot asked.g v.nodes o) none asked.graph.root is.0 is.1
 
       nothing : (xs : List ArcKey) → ((a : ArcKey) → In a xs → ⊥) → root_count asked.g xs (count_of v.arcs counts) ≡ 0
       nothing [] h = refl

@@ -1,5 +1,5 @@
 -- One arc is taken from what is left.
-use Rattle.std.proofs.Common.{length-append, ◌≡◌, ℕ, zero, suc, arith, ◌+◌, ◌-◌, ◌≤◌, ◌<◌, Bool, true, List, [], ◌∷◌, ◌++◌, Some, All, length, set, get_or, refl, ap, sym, subst, ◌∙◌}
+use Rattle.std.proofs.Common.{◌≡◌, ℕ, zero, suc, arith, ◌+◌, ◌-◌, ◌≤◌, ◌<◌, Bool, true, List, [], ◌∷◌, ◌++◌, Some, All, length, set, get_or, refl, ap, sym, subst, ◌∙◌}
 use Rattle.std.specs.Prelude.{slice_get, slice_index}
 use Rattle.std.proofs.lemmas.List.{append-nil, length-set}
 use Rattle.std.proofs.lemmas.Option.{same_Some, slice_get_within, slice_get-get_or, get_or_from_slice_get}
@@ -9,18 +9,22 @@ use Rattle.roster_model.specs.declared.grammar.Step.{Step}
 use Rattle.roster_model.specs.Trees.{Parts, steps}
 use Rattle.roster_model.specs.Folds.{count, In}
 use Rattle.roster_model.specs.Arcs.{arcs, same_arc}
+use Rattle.roster_model.proofs.EachLemmas.{get-in, in-get}
 use Rattle.arc_laws.specs.OrNodes.{OrNode, name, suffix, leaf, same_node, made, used, root_of}
 use Rattle.arc_laws.proofs.FoldsLemmas.{count-append}
+use Rattle.arc_laws.proofs.ListEnds.{snoc-same, no-snoc}
+use Rattle.arc_laws.specs.AtNodes.{steps_of}
+use Rattle.arc_laws.proofs.StandOnceLemmas.{once-counted}
 use Rattle.parse_graph.specs.Graphs.{GraphView, IsGraph, places, IsKid, AreKids}
 use Rattle.parse_graph.specs.declared.kid.Kid.{Kid}
-use Rattle.split_laws.specs.Nodes.{IsInner, steps_of, push_inner, stack_after}
+use Rattle.split_laws.specs.Nodes.{IsInner, push_inner, stack_after}
 use Rattle.split_laws.specs.Filling.{AllAt, Filled, Walking}
 use Rattle.split_laws.proofs.FillingLemmas.{advance}
 use Rattle.split_laws.proofs.Shape.{Shape, arc-shape}
 use Rattle.parse_graph.proofs.ArcUsesLemmas.{same-node, own-node}
 use Rattle.split_laws.proofs.TakenCounts.{taken}
 use Rattle.split_laws.proofs.OwingLemmas.{inner-made, Chosen, chosen}
-use Rattle.parse_graph.proofs.PlacesLemmas.{at-In, In-at, once-counted, in-graph}
+use Rattle.parse_graph.proofs.PlacesLemmas.{in-graph}
 use Rattle.roster_split.specs.Counts.{count_of}
 use Rattle.roster_split.specs.Stacks.{AreStacked, pushed_kid}
 use Rattle.roster_split.specs.Taking.{AsksArc, TakesArc, AsksTree, TakesTree, IsTaking, total}
@@ -66,7 +70,7 @@ module _ (v : GraphView) (left : List ℕ) (number : ℕ) (asked : AsksArc v lef
     pub some-left : (k : ℕ) × (k < length makers) × (1 ≤ slice_index left (slice_index makers k))
     some-left =
         let p = pick in
-        let q = at-In v.arcs p.arc p.is in
+        let q = in-get v.arcs p.arc p.is in
         let t : same_node asked.node (made asked.g p.arc) ≡ true = subst (λ (o : OrNode). same_node asked.node o ≡ true) (sym p.makes) (own-node asked.node) in
         let w = places-whole (λ a. same_node asked.node (made asked.g a)) 0 v.arcs q.0 p.arc q.1 t in
         let e : slice_get makers w.0 ≡ Some (0 + q.0) = subst (λ (xs : List ℕ). slice_get xs w.0 ≡ Some (0 + q.0)) (sym makers-are) w.1 in
@@ -78,24 +82,6 @@ module _ (v : GraphView) (left : List ℕ) (number : ℕ) (asked : AsksArc v lef
 
     pub takes : (arc : ℕ) (new : List ℕ) (k : ℕ) → slice_get makers k ≡ Some arc → 1 ≤ slice_index left arc → new ≡ set left arc (slice_index left arc - 1) → TakesArc asked.g v asked.node left new arc
     takes arc new k e some is = let m = maker-at k arc e in record { key = m.0; at = m.1; makes = m.2; some = some; taken = is }
-
-snoc-same : (xs ys : List ℕ) (a b : ℕ) → xs ++ a ∷ [] ≡ ys ++ b ∷ [] → (xs ≡ ys) × (a ≡ b)
-snoc-same [] [] a b e = (refl, head-same a b e)
-  where
-    head-same : (a b : ℕ) → ◌≡◌ {A = List ℕ} (a ∷ []) (b ∷ []) → a ≡ b
-    head-same a b e = cc
-snoc-same [] (y ∷ ys) a b e = absurd (omega (arith, ap length e, length-append ys (b ∷ [])))
-snoc-same (x ∷ xs) [] a b e = absurd (omega (arith, ap length e, length-append xs (a ∷ [])))
-snoc-same (x ∷ xs) (y ∷ ys) a b e = join (parts x y (xs ++ a ∷ []) (ys ++ b ∷ []) e) (snoc-same xs ys a b (parts x y (xs ++ a ∷ []) (ys ++ b ∷ []) e).1)
-  where
-    parts : (x y : ℕ) (us vs : List ℕ) → ◌≡◌ {A = List ℕ} (x ∷ us) (y ∷ vs) → (x ≡ y) × (us ≡ vs)
-    parts x y us vs e = (cc, cc)
-
-    join : (x ≡ y) × (xs ++ a ∷ [] ≡ ys ++ b ∷ []) → (xs ≡ ys) × (a ≡ b) → (x ∷ xs ≡ y ∷ ys) × (a ≡ b)
-    join p q = let f = p.0 in let g = q.0 in (cc, q.1)
-
-no-snoc : (xs : List ℕ) (a : ℕ) → xs ++ a ∷ [] ≡ [] → ⊥
-no-snoc xs a e = omega (arith, ap length e, length-append xs (a ∷ []))
 
 total-set : (xs : List ℕ) (p : ℕ) → p < length xs → 1 ≤ slice_index xs p → total (set xs p (slice_index xs p - 1)) < total xs
 total-set [] p lt some = absurd (omega (arith, lt))
@@ -191,7 +177,7 @@ module _ (v : GraphView) (old : List ℕ) (root : ℕ) (asked : AsksTree v old r
         let t = took in
         let c : Chosen asked.g v.arcs (shapes asked.g v asked.graph) (once asked.g v asked.graph) (count_of v.arcs now) o.top = record {
           arc = t.key;
-          is = In-at v.arcs arc t.key t.at;
+          is = get-in v.arcs arc t.key t.at;
           some = let n = count-at v.arcs now asked.graph.arcs.once arc t.key t.at in let m = t.some in omega (arith, n, m);
           makes = t.makes;
         } in

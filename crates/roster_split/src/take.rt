@@ -1,5 +1,5 @@
 ghost use Rattle.std.specs.Prelude.{ℕ, ◌≡◌, ◌≤◌, ◌<◌, ◌++◌, Some, All, IfOk, OnOk, length, slice_get, slice_index};
-ghost use Rattle.split_laws.specs.Nodes.{steps_of};
+ghost use Rattle.arc_laws.specs.AtNodes.{steps_of};
 ghost use Rattle.roster_split.specs.Taking.{AsksArc, TakesArc, AsksTree, TakesTree};
 ghost use Rattle.roster_split.specs.Stacks.{pushed_kid};
 

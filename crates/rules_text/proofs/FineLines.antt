@@ -5,9 +5,9 @@ use Rattle.std.specs.List.{list_all}
 use Rattle.std.specs.Fmt.{decimal}
 use Rattle.std.proofs.lemmas.Bool.{and_from, lt-ltb}
 use Rattle.std.proofs.lemmas.List.{length-map}
-use Rattle.text_lines.proofs.ListLemmas.{Each-append, Each-map}
 use Rattle.text_lines.proofs.WordLemmas.{IsFine, code_byte_fine, name_fine, number_fine, literal, words_written, spaced_short}
 use Rattle.text_lines.specs.Written.{are_written, spaced, written}
+use Rattle.text_lines.specs.Names.{code_of}
 use Rattle.roster_model.specs.declared.grammar.Sym.{Sym}
 use Rattle.roster_model.specs.declared.grammar.Sym.TheVariants.{Code, Name}
 use Rattle.roster_model.specs.declared.grammar.CodeDef.{CodeDef}
@@ -16,7 +16,8 @@ use Rattle.roster_model.specs.declared.grammar.Rule.{Rule}
 use Rattle.roster_model.specs.Folds.{Each}
 use Rattle.roster_model.specs.Names.{is_code_byte, is_name}
 use Rattle.roster_model.specs.Sound.{Exists, IsWindow, IsRule}
-use Rattle.rules_text.specs.Written.{code_of, symbol_word, window_words, periods_line, code_line, start_line, rule_line}
+use Rattle.roster_model.proofs.EachLemmas.{Each-append, Each-map}
+use Rattle.rules_text.specs.Written.{symbol_word, window_words, periods_line, code_line, start_line, rule_line}
 use Rattle.rules_text.proofs.RuleSound.{NamesSound, CodesSound}
 
 -- lines

@@ -6,8 +6,7 @@ use Rattle.std.proofs.lemmas.Bool.{le-ltb, lt-ltb, or_cases, eqb-true}
 use Rattle.std.proofs.lemmas.List.{length-map}
 use Rattle.std.proofs.lemmas.List.Elements.{All-head, All-tail}
 use Rattle.std.proofs.Math.Seq.{take-length}
-use Rattle.text_lines.specs.declared.line.BadByte.{BadByte}
-use Rattle.text_lines.specs.Lines.{TextLine, text_items}
+use Rattle.text_lines.specs.Lines.{text_items}
 use Rattle.text_lines.specs.Written.{numbered}
 use Rattle.text_lines.proofs.WrittenAgain.{written_again}
 use Rattle.roster_model.specs.declared.grammar.CodeDef.{CodeDef}
@@ -24,19 +23,21 @@ use Rattle.rules_text.specs.Names.{has_name, place_of}
 use Rattle.rules_text.specs.Lines.{periods_at, start_at, line_at, item_at}
 use Rattle.rules_text.specs.RulesOf.{unruled, finish, no_draft, draft_of, parsed_of, IsReading}
 use Rattle.rules_text.specs.Drafts.{known_after, IsDraft}
-use Rattle.rules_text.specs.Written.{name_of, periods_line, code_line, start_line, rule_line, grammar_lines, rules_text}
+use Rattle.rules_text.specs.Written.{periods_line, code_line, start_line, rule_line, grammar_lines, rules_text}
 use Rattle.text_lines.proofs.StepsLemmas.{ok, each-append}
 use Rattle.rules_text.proofs.Places.{any_place}
 use Rattle.rules_text.proofs.Orders.{known-append}
 use Rattle.rules_text.proofs.LinesKept.{draft_keeps}
 use Rattle.roster_model.proofs.StepRules.{no_cycle}
+use Rattle.roster_model.proofs.EachLemmas.{Each-append, Each-map}
 use Rattle.rules_text.proofs.RuleSound.{NamesSound, CodesSound, names_sound, codes_sound}
 use Rattle.text_lines.proofs.FieldsLemmas.{number_at_again}
 use Rattle.rules_text.specs.declared.fault.RulesFault.TheVariants.{BadNumber, OutOfRange}
 use Rattle.rules_text.proofs.CodesAgain.{codes_again}
 use Rattle.rules_text.proofs.RulesAgain.{known_within, with_rules, rules_again}
 use Rattle.rules_text.proofs.FineLines.{IsFineLine, periods_fine, code_fine, start_fine, rule_fine, lines_written, lines_short}
-use Rattle.text_lines.proofs.ListLemmas.{Each-append, Each-map}
+use Rattle.text_lines.proofs.WrittenLemmas.{numbered-append}
+use Rattle.text_lines.specs.Names.{name_of}
 
 -- all names are known at the end
 
@@ -76,12 +77,6 @@ all_known g s =
         omega (arith, e, le, last)
 
 -- the lines
-
-numbered-append : (k : ℕ) (ls ms : List (List (List ℕ))) → numbered k (ls ++ ms) ≡ numbered k ls ++ numbered (k + length ls) ms
-numbered-append k [] ms = ap (λ (n : ℕ). numbered n ms) (omega arith)
-numbered-append k (l ∷ ls) ms =
-    let line : Result TextLine BadByte = Ok (record { number = k; words = l }) in
-    ap (λ (is : List (Result TextLine BadByte)). line ∷ is) (numbered-append (k + 1) ls ms ∙ ap (λ (n : ℕ). numbered (k + 1) ls ++ numbered n ms) (omega arith))
 
 periods_again : (k n : ℕ) → 1 ≤ n → n ≤ 96 → line_at k no_draft (periods_line n) ≡ Ok (record no_draft { periods = Some n })
 unfolding line_at periods_at

@@ -1,10 +1,9 @@
 -- Lines that stand have one of the five forms.
-use Rattle.std.proofs.Common.{◌≡◌, ℕ, suc, ◌+◌, Bool, true, false, cond, not, ◌&&◌, List, [], ◌∷◌, ◌++◌, take, drop, Option, Some, None, Result, Ok, Err, refl, sym, ap, ◌∙◌, arith, subst}
+use Rattle.std.proofs.Common.{◌≡◌, ℕ, suc, ◌+◌, Bool, true, false, cond, not, ◌&&◌, List, [], ◌∷◌, ◌++◌, take, drop, Some, Result, Ok, Err, refl, sym, ap, ◌∙◌, arith, subst}
 use Rattle.std.specs.Prelude.{codes, is_some}
 use Rattle.std.specs.Str.{bytes_eq}
 use Rattle.std.proofs.lemmas.Bool.{and_parts}
 use Rattle.std.proofs.lemmas.List.{take-append-drop}
-use Rattle.std.proofs.lemmas.Slice.Eq.{bytes_eq-Decides}
 use Rattle.text_lines.specs.Lines.{TextLine}
 use Rattle.text_lines.specs.declared.line.BadByte as bad
 use Rattle.roster_model.specs.declared.grammar.CodeDef.{CodeDef}
@@ -17,27 +16,17 @@ use Rattle.rules_text.specs.Steps.{◌>>=◌, each}
 use Rattle.rules_text.specs.Fields.{number_at}
 use Rattle.rules_text.specs.RuleLine.{are_windows, symbol_count, rule_of, rule_at}
 use Rattle.rules_text.specs.Lines.{declare_at, codes_at, periods_at, start_at, line_at, item_at}
-use Rattle.rules_text.specs.Forms.{IsForm, periods, work, idle, start, rule, HasForm, begins}
+use Rattle.rules_text.specs.Forms.{IsForm, periods, work, idle, start, rule, HasForm}
 use Rattle.text_lines.proofs.StepsLemmas.{held, passed, bind_ok, same_ok, err, ok}
-
-abbrev pub one_if : Bool → ℕ
-one_if t = cond t 1 0
-
-abbrev pub has : {A : Type 0} → Option A → ℕ
-has o = one_if (is_some o)
+use Rattle.text_lines.proofs.WordLemmas.{the_bytes}
+use Rattle.text_lines.proofs.ListLemmas.{one_if, has, none_there}
+use Rattle.text_lines.specs.Refusals.{begins}
 
 -- what a line that stands is, and what it adds
 record Stands (d new : Draft) (ws : List (List ℕ)) : Type 0 where
   form : IsForm ws
   periods_said : has new.periods ≡ one_if (begins (codes "periods") (Ok (record { number = 0; words = ws }))) + has d.periods
   start_said : has new.start ≡ one_if (begins (codes "start") (Ok (record { number = 0; words = ws }))) + has d.start
-
-same_word : (w v : List ℕ) → bytes_eq w v ≡ true → w ≡ v
-same_word w v e = (bytes_eq-Decides w v).0 e
-
-none_there : {A : Type 0} (o : Option A) → is_some o ≡ false → has o ≡ 0
-none_there None e = refl
-none_there (Some x) e = absurd cc
 
 periods_stand : (k : ℕ) (d new : Draft) (ws : List (List ℕ)) → periods_at k d ws ≡ Ok new → Stands d new (codes "periods" ∷ ws)
 unfolding periods_at
@@ -88,7 +77,7 @@ rule_form k defs st new (name ∷ cost ∷ mark ∷ rest) e =
     let form = held (bytes_eq mark (codes "=") && are_windows (drop n rest)) (UnknownLine k) (rule_of k defs st name cost (take n rest) (drop n rest)) new e in
     let parts = and_parts (bytes_eq mark (codes "=")) (are_windows (drop n rest)) form.0 in
     let line : List ℕ → List (List ℕ) → List (List ℕ) = λ m r. codes "rule" ∷ name ∷ cost ∷ m ∷ r in
-    rule name cost (take n rest) (drop n rest) (ap (λ (m : List ℕ). line m rest) (same_word mark (codes "=") parts.0) ∙ ap (line (codes "=")) (sym (joined n rest))) (symbols_plain rest) parts.1
+    rule name cost (take n rest) (drop n rest) (ap (λ (m : List ℕ). line m rest) (the_bytes mark (codes "=") parts.0) ∙ ap (line (codes "=")) (sym (joined n rest))) (symbols_plain rest) parts.1
 
 rules_stand : (k : ℕ) (d new : Draft) (ws : List (List ℕ)) → (rule_at k d.codes d.rules ws >>= λ (r : Rules). ok (record d { rules = r })) ≡ Ok new → Stands d new (codes "rule" ∷ ws)
 rules_stand k d new ws e =
@@ -111,7 +100,7 @@ line_stands k d new [] e = absurd cc
 line_stands k d new (w ∷ ws) e = by (bytes_eq w (codes "periods")) (bytes_eq w (codes "work")) (bytes_eq w (codes "idle")) (bytes_eq w (codes "start")) (bytes_eq w (codes "rule")) refl refl refl refl refl e
   where
     at : (v : List ℕ) → bytes_eq w v ≡ true → Stands d new (v ∷ ws) → Stands d new (w ∷ ws)
-    at v h s = subst (λ (x : List ℕ). Stands d new (x ∷ ws)) (sym (same_word w v h)) s
+    at v h s = subst (λ (x : List ℕ). Stands d new (x ∷ ws)) (sym (the_bytes w v h)) s
 
     by : (p q r t u : Bool) → bytes_eq w (codes "periods") ≡ p → bytes_eq w (codes "work") ≡ q → bytes_eq w (codes "idle") ≡ r → bytes_eq w (codes "start") ≡ t → bytes_eq w (codes "rule") ≡ u
         → cond p (periods_at k d ws) (cond q (codes_at k true d ws) (cond r (codes_at k false d ws) (cond t (start_at k d ws) (cond u (rule_at k d.codes d.rules ws >>= λ (x : Rules). ok (record d { rules = x })) (err (UnknownLine k)))))) ≡ ok new → Stands d new (w ∷ ws)

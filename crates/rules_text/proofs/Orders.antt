@@ -1,9 +1,8 @@
 -- Numbers in order of first appearance.
-use Rattle.std.proofs.Common.{◌≡◌, ℕ, ◌+◌, max, List, [], ◌∷◌, ◌++◌, refl, sym, ap, ◌∙◌, append_assoc}
-use Rattle.roster_model.specs.declared.grammar.Rule.{Rule}
+use Rattle.std.proofs.Common.{◌≡◌, ℕ, ◌+◌, max, List, [], ◌∷◌, ◌++◌, refl, ap}
 use Rattle.roster_model.specs.declared.grammar.Sym.{Sym}
 use Rattle.roster_model.specs.declared.grammar.Sym.TheVariants.{Code, Name}
-use Rattle.roster_model.specs.Sound.{AreInOrder, names_of, appearances}
+use Rattle.roster_model.specs.Sound.{AreInOrder, names_of}
 use Rattle.rules_text.specs.Drafts.{known_after}
 
 pub order-append : (m : ℕ) (xs ys : List ℕ) → AreInOrder m xs → AreInOrder (known_after m xs) ys → AreInOrder m (xs ++ ys)
@@ -22,8 +21,3 @@ pub names-append : (ss ts : List Sym) → names_of (ss ++ ts) ≡ names_of ss ++
 names-append [] ts = refl
 names-append (Code c ∷ ss) ts = names-append ss ts
 names-append (Name x ∷ ss) ts = ap (λ (l : List ℕ). x ∷ l) (names-append ss ts)
-
-pub appearances-append : (rs qs : List Rule) → appearances (rs ++ qs) ≡ appearances rs ++ appearances qs
-appearances-append [] qs = refl
-appearances-append (r ∷ rs) qs =
-    ap (λ (l : List ℕ). (r.left ∷ names_of r.right) ++ l) (appearances-append rs qs) ∙ sym (append_assoc (r.left ∷ names_of r.right) (appearances rs) (appearances qs))

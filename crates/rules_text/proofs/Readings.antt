@@ -11,8 +11,9 @@ use Rattle.rules_text.specs.Steps.{◌>>=◌}
 use Rattle.rules_text.specs.RulesOf.{some_periods, some_start, finish, no_draft, draft_of, parsed_of, IsOutcome, IsReading}
 use Rattle.rules_text.specs.Forms.{IsComplete, IsFirstRefused, AllStand}
 use Rattle.text_lines.proofs.StepsLemmas.{passed, bind_ok, err}
+use Rattle.text_lines.proofs.ListLemmas.{has}
 use Rattle.rules_text.proofs.FaultAt.{refused_at}
-use Rattle.rules_text.proofs.LineForms.{has, all_add}
+use Rattle.rules_text.proofs.LineForms.{all_add}
 
 some_number : (o : Option ℕ) (n : ℕ) → some_periods o ≡ Ok n → has o ≡ 1
 some_number None n e = absurd cc

@@ -23,9 +23,10 @@ use Rattle.roster_model.specs.Sound.{IsWindow, names_of}
 use Rattle.rules_text.specs.Names.{Named, has_name, place_of, name_at}
 use Rattle.rules_text.specs.Fields.{number_at}
 use Rattle.rules_text.specs.RuleLine.{symbol_at, bounds_at, written, with_window, window_at, windows_at, are_windows, symbol_count, no_windows, whole, rule_of, rule_at}
-use Rattle.rules_text.specs.Written.{name_of, code_of, symbol_word, window_words, all_window_words, rule_words}
+use Rattle.rules_text.specs.Written.{symbol_word, window_words, all_window_words, rule_words}
 use Rattle.rules_text.specs.Drafts.{known_after}
 use Rattle.text_lines.proofs.StepsLemmas.{ok}
+use Rattle.text_lines.specs.Names.{name_of, code_of}
 use Rattle.rules_text.proofs.Places.{any_place}
 use Rattle.rules_text.proofs.RuleSound.{NamesSound, CodesSound, SymbolsSound, RuleSound}
 

@@ -9,6 +9,7 @@ use Rattle.roster_model.specs.declared.grammar.Rule.{Rule}
 use Rattle.roster_model.specs.declared.grammar.Sym.{Sym}
 use Rattle.roster_model.specs.declared.grammar.Sym.TheVariants.{Code, Name}
 use Rattle.roster_model.specs.Sound.{Exists, IsRule, AreInOrder, names_of, appearances}
+use Rattle.roster_model.proofs.ExtensionLemmas.{appearances-append}
 use Rattle.rules_text.specs.declared.fault.RulesFault.TheVariants.{BadName, EmptyRight}
 use Rattle.rules_text.specs.declared.rules.Rules.{Rules}
 use Rattle.rules_text.specs.Steps.{◌>>=◌, each}
@@ -21,7 +22,7 @@ use Rattle.text_lines.proofs.ListLemmas.{fewer}
 use Rattle.rules_text.proofs.NamesKept.{IsNumbered, name_keeps}
 use Rattle.rules_text.proofs.WindowsKept.{windows_keep, whole_window}
 use Rattle.text_lines.proofs.FieldsLemmas.{number_within}
-use Rattle.rules_text.proofs.Orders.{order-append, known-append, names-append, appearances-append}
+use Rattle.rules_text.proofs.Orders.{order-append, known-append, names-append}
 
 pub exists_more : (c d n m : ℕ) → c ≤ d → n ≤ m → (s : Sym) → Exists c n s → Exists d m s
 exists_more c d n m cd nm (Code k) h = omega arith

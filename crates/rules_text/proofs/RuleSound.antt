@@ -15,9 +15,9 @@ use Rattle.roster_model.specs.declared.grammar.Rule.{Rule}
 use Rattle.roster_model.specs.declared.grammar.Grammar.{Grammar}
 use Rattle.roster_model.specs.Names.{is_name, is_code_byte}
 use Rattle.text_lines.proofs.FieldsLemmas.{position_at}
+use Rattle.text_lines.specs.Names.{name_of, code_of}
 use Rattle.roster_model.specs.Sound.{Exists, IsWindow, IsRule, AreCodes, AreNames, IsPlain, AreInOrder, names_of}
 use Rattle.rules_text.specs.Names.{place_of}
-use Rattle.rules_text.specs.Written.{name_of, code_of}
 
 pub record NamesSound (ns : List (List ℕ)) : Type 0 where
   pub few : length ns ≤ 32

@@ -1,8 +1,8 @@
 -- The forms of lines, and the line that is refused.
-use Rattle.std.specs.Prelude.{ℕ, ◌≡◌, Bool, true, false, List, [], ◌∷◌, ◌++◌, Some, Result, Ok, Err, codes, slice_index_or}
-use Rattle.std.specs.Str.{bytes_eq}
+use Rattle.std.specs.Prelude.{ℕ, ◌≡◌, true, false, List, [], ◌∷◌, ◌++◌, Some, Result, Ok, Err, codes}
 use Rattle.text_lines.specs.Lines.{TextLine, text_items}
 use Rattle.text_lines.specs.declared.line.BadByte as bad
+use Rattle.text_lines.specs.Refusals.{begins}
 use Rattle.roster_model.specs.Folds.{Each, count}
 use Rattle.roster_model.specs.Names.{is_window_word}
 use Rattle.rules_text.specs.declared.fault.RulesFault.{RulesFault}
@@ -26,11 +26,6 @@ pub data IsForm (ws : List (List ℕ)) : Type 0 where
 abbrev pub HasForm : Result TextLine bad.BadByte → Type 0
 HasForm (Ok line) = IsForm line.words
 HasForm (Err b) = ⊥
-
--- the first word of a line is this one
-abbrev pub begins : List ℕ → Result TextLine bad.BadByte → Bool
-begins w (Ok line) = bytes_eq (slice_index_or line.words 0 []) w
-begins w (Err b) = false
 
 -- lines of the five forms, with one line for the periods and one for the start
 pub record IsComplete (text : List ℕ) : Type 0 where

@@ -1,19 +1,14 @@
 -- The text of a grammar.
-use Rattle.std.specs.Prelude.{ℕ, false, ◌&&◌, ◌==◌, List, [], ◌∷◌, ◌++◌, map, codes, slice_index_or, if◌then◌else◌}
+use Rattle.std.specs.Prelude.{ℕ, ◌&&◌, ◌==◌, List, [], ◌∷◌, ◌++◌, map, codes, if◌then◌else◌}
 use Rattle.std.specs.Fmt.{decimal}
 use Rattle.text_lines.specs.Written.{written}
+use Rattle.text_lines.specs.Names.{name_of, code_of}
 use Rattle.roster_model.specs.declared.grammar.Sym.{Sym}
 use Rattle.roster_model.specs.declared.grammar.Sym.TheVariants.{Code, Name}
 use Rattle.roster_model.specs.declared.grammar.CodeDef.{CodeDef}
 use Rattle.roster_model.specs.declared.grammar.Window.{Window}
 use Rattle.roster_model.specs.declared.grammar.Rule.{Rule}
 use Rattle.roster_model.specs.declared.grammar.Grammar.{Grammar}
-
-abbrev pub name_of : List (List ℕ) → ℕ → List ℕ
-name_of ns x = slice_index_or ns x []
-
-abbrev pub code_of : List CodeDef → ℕ → CodeDef
-code_of defs c = slice_index_or defs c (record { byte = 0; work = false })
 
 -- a code between two `'`, or a name
 abbrev pub symbol_word : List CodeDef → List (List ℕ) → Sym → List ℕ

@@ -2,7 +2,8 @@ ghost use Rattle.std.specs.Prelude.{◌≡◌, ◌<◌, ◌++◌, [], ◌∷◌,
 ghost use Rattle.std.specs.Fmt.{decimal};
 ghost use Rattle.text_lines.specs.Written.{written, tail};
 ghost use Rattle.roster_model.specs.Sound.{Exists, IsRule, IsSound, IsPlain};
-ghost use Rattle.rules_text.specs.Written.{name_of, code_of, symbol_word, window_words, periods_line, code_line, start_line, rule_line, rules_text};
+ghost use Rattle.text_lines.specs.Names.{name_of, code_of};
+ghost use Rattle.rules_text.specs.Written.{symbol_word, window_words, periods_line, code_line, start_line, rule_line, rules_text};
 
 use roster_model::{CodeDef, Grammar, List, Memory, Rule, Sym, Window};
 use std::alloc::Global;

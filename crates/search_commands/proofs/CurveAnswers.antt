@@ -1,5 +1,5 @@
 -- The answers of `curve`, from what its parts answer.
-use Rattle.std.proofs.Common.{◌≡◌, ◌≢◌, ℕ, ◌+◌, ◌<◌, arith, Bool, List, [], ◌∷◌, length, Option, None, Some, Result, Ok, Err, IfOk, refl, sym, ap, subst, ◌∙◌}
+use Rattle.std.proofs.Common.{◌≡◌, ◌≢◌, ℕ, ◌+◌, ◌<◌, arith, Bool, List, [], ◌∷◌, length, Option, Result, Ok, Err, IfOk, refl, sym, ap, subst, ◌∙◌}
 use Rattle.roster_model.specs.declared.grammar.Grammar.{Grammar}
 use Rattle.roster_model.specs.declared.instance.Done.{Done}
 use Rattle.roster_model.specs.declared.instance.Done.TheVariants.{Equal, NoRoster, TurnsOut}
@@ -30,16 +30,13 @@ use Rattle.search_commands.specs.Curve.{Point, ArePoints, said_points, point_ent
 use Rattle.search_commands.specs.Curve as curves
 use Rattle.text_commands.specs.Fetch.{IsAnswer, IsFetch, NoAnswer}
 use Rattle.search_commands.specs.Points.{FindsFirst, BreaksCurve, AnswersGroups}
-use Rattle.text_commands.specs.Reader.{IsReader, HoldsAll}
+use Rattle.text_commands.specs.Reader.{IsReader}
 use Rattle.search_commands.specs.Series.{Entry, End, answered, broken_off, IsSeriesWriter, StoresNoEntry}
 use Rattle.search_commands.specs.Solve.{MasterView, SaysTooManyArcs}
 use Rattle.search_commands.proofs.Solves.{IsArcsAnswer}
 use Rattle.text_commands.proofs.Readers.{one_held}
+use Rattle.text_commands.proofs.Checks.{no_names}
 use Rattle.search_commands.proofs.SeriesLemmas.{widen, as_series, refused_fetch, after_fetch, broken_series, said_series}
-
-no_names : (held : Option Texts) (names : List (List ℕ)) → HoldsAll held names → HoldsAll held []
-no_names None names h = absurd h
-no_names (Some texts) names h = tt
 
 -- a search that did not end with its turns closed its point
 open_ran_out : (i : Instance) (strict : Bool) (turns : ℕ) (f : Found) (d : Done) → f.done ≡ d → IsDone f.cert d → IsFound i strict turns f → f.cert.bound ≢ f.cert.cost → f.processed ≡ turns

@@ -4,7 +4,7 @@ use Rattle.std.specs.Prelude.{◌≢◌, nat_eq}
 use Rattle.roster_model.specs.declared.instance.Cut.{Cut}
 use Rattle.roster_model.specs.Cuts.{base_cuts}
 use Rattle.roster_model.specs.Folds.{Each}
-use Rattle.arc_laws.proofs.FoldsLemmas.{Each-at, Each-in, Each-same}
+use Rattle.roster_model.proofs.EachLemmas.{Each-weaker, Each-at, Each-in}
 use Rattle.growing_laws.specs.Grown.{Grown, tip, Leaf, fresh, valued, fixed, OnTips, tip_bound}
 use Rattle.growing_laws.specs.Boxes.{IsOpenLeaf}
 use Rattle.growing_laws.specs.Opens.{Entry, opens, SameEntries}
@@ -12,7 +12,7 @@ use Rattle.growing_laws.specs.Seats.{HoldTree}
 use Rattle.growing_laws.specs.States.{IsTip, IsLeaf}
 use Rattle.growing_laws.proofs.GrownLemmas.{told}
 use Rattle.growing_laws.proofs.OpensLemmas.{opens-least}
-use Rattle.growing_laws.proofs.StatesLemmas.{growing-raised}
+use Rattle.growing_laws.proofs.StatesLemmas.{growing-raised, tips-both}
 use Rattle.open_nodes.specs.declared.leaf.OpenLeaf.{OpenLeaf}
 use Rattle.open_nodes.specs.Queues.{SameLeaves}
 use Rattle.search_tree.specs.Views.{TreeView, Site, entry_of}
@@ -21,7 +21,6 @@ use Rattle.search_tree.specs.Steps.{half_seat}
 use Rattle.search_tree.proofs.TreeLaws.{is_entry, entry-self, entry-in, queued-leaf}
 use Rattle.search_tree.proofs.NumberedLeaves.{is-one, is-none}
 use Rattle.search_tree.proofs.WaitingLeaves.{same-each, same-entries, in-count, entry-tip}
-use Rattle.search_tree.proofs.Regrowth.{tips-both}
 
 each-entry : (P : Entry → Type 0) (xs : List OpenLeaf) → Each (λ (o : OpenLeaf). P (entry_of o)) xs → Each P (map entry_of xs)
 each-entry P [] h = tt
@@ -46,7 +45,7 @@ pub next-past : (s : Site) (limit now low : ℕ) (w : TreeView) (t : Grown) (lea
     → OnTips (λ up path k l. IsOpenLeaf l → limit ≤ tip_bound up l) 0 (base_cuts s.day) t
 next-past s limit now low w t leaf rest is same least past = least-open limit w.waiting (base_cuts s.day) t is.queue
     (same-each (λ (o : OpenLeaf). limit ≤ o.bound) (leaf ∷ rest) w.waiting (flip w.waiting (leaf ∷ rest) same)
-    (past, Each-same (λ (o : OpenLeaf). leaf.bound ≤ o.bound) (λ (o : OpenLeaf). limit ≤ o.bound) rest (λ o h. omega (arith, past, h)) least))
+    (past, Each-weaker (λ (o : OpenLeaf). leaf.bound ≤ o.bound) (λ (o : OpenLeaf). limit ≤ o.bound) rest (λ o h. omega (arith, past, h)) least))
 
 -- the leaf that is taken last is in hand
 pub next-left : (s : Site) (limit now low : ℕ) (w : TreeView) (t : Grown) (leaf : OpenLeaf) (rest : List OpenLeaf) → IsTree s limit now low [] w t → SameLeaves w.waiting (leaf ∷ rest)

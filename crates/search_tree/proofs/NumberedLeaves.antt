@@ -1,15 +1,16 @@
 -- The one leaf of a number, and what stands in its place.
-use Rattle.std.proofs.Common.{◌≡◌, ℕ, zero, suc, arith, ◌+◌, ◌*◌, ◌≤◌, Bool, true, false, cond, None, Some, List, [], ◌∷◌, ◌++◌, length, refl, sym, subst, ◌∙◌, ◌⊎◌, inl, inr}
+use Rattle.std.proofs.Common.{◌≡◌, ℕ, zero, suc, arith, ◌+◌, ◌*◌, ◌≤◌, Bool, true, false, cond, None, Some, List, [], ◌∷◌, ◌++◌, length, refl, sym, subst, ◌⊎◌, inl, inr}
 use Rattle.std.specs.Prelude.{◌≢◌, nat_eq}
 use Rattle.std.proofs.lemmas.Bool.{eq-eqb}
 use Rattle.std.proofs.lemmas.List.{length-append}
 use Rattle.roster_model.specs.declared.instance.Cut.{Cut}
 use Rattle.roster_model.specs.Folds.{count, Each}
-use Rattle.arc_laws.proofs.FoldsLemmas.{count-append, Each-append}
+use Rattle.roster_model.proofs.EachLemmas.{Each-append, each_parts}
+use Rattle.arc_laws.proofs.FoldsLemmas.{count-append}
 use Rattle.certificates.specs.Nodes.{low_cut, high_cut, Visit, visits}
 use Rattle.growing_laws.specs.Grown.{Grown, tip, fork, Leaf, fresh, valued, fixed, OnTips, raised, leaf_proof, proof_of, numbers, put, times, busy, missed}
 use Rattle.growing_laws.specs.Opens.{Entry, opens}
-use Rattle.growing_laws.specs.Seats.{AtLeaf, IsUnsplit, number}
+use Rattle.growing_laws.specs.Seats.{AtLeaf, IsUnsplit}
 use Rattle.growing_laws.proofs.GrownLemmas.{TipFact, told}
 use Rattle.search_tree.specs.Views.{IsLeafAt}
 
@@ -65,14 +66,6 @@ tips-leaf P n above cuts (fork k a b own low high) h = (tips-leaf P n (raised ab
 pub only-leaf : (P : ℕ → Type 0) (above : ℕ) (cuts : List Cut) (t : Grown) (n up : ℕ) (path : List Cut) (l : Leaf) → IsLeafAt above cuts t n up path l → times n t ≡ 1 → P up → AtLeaf P n above t
 only-leaf P above cuts t n up path l e one h = tips-leaf P n above cuts t (only-tips (λ up path k l. P up) above cuts t n up path l e one h)
 
-pub number-put : (n : ℕ) (new t : Grown) → number new ≡ n → number (put n new t) ≡ number t
-number-put n new (fork k a b own low high) e = refl
-number-put n new (tip k l) e = by (told k n)
-  where
-    by : (k ≡ n) × (nat_eq k n ≡ true) ⊎ (k ≢ n) × (nat_eq k n ≡ false) → number (cond (nat_eq k n) new (tip k l)) ≡ k
-    by (inl h) = rw h.1 (e ∙ sym h.0)
-    by (inr h) = rw h.1 refl
-
 pub put-length : (n : ℕ) (new t : Grown) → length (numbers (put n new t)) + times n t ≡ length (numbers t) + times n t * length (numbers new)
 put-length n new (tip k l) = by (told k n)
   where
@@ -86,10 +79,6 @@ put-length n new (fork k a b own low high) =
     let y = length-append (numbers low) (numbers high) in
     omega (arith, p, q, x, y)
 
-each-left : {A : Type 0} (P : A → Type 0) (xs ys : List A) → Each P (xs ++ ys) → Each P xs × Each P ys
-each-left P [] ys h = (tt, h)
-each-left P (x ∷ xs) ys h = let r = each-left P xs ys h.1 in ((h.0, r.0), r.1)
-
 pub put-each : (P : ℕ → Type 0) (n : ℕ) (new t : Grown) → Each P (numbers new) → Each P (numbers t) → Each P (numbers (put n new t))
 put-each P n new (tip k l) h g = by (told k n)
   where
@@ -97,7 +86,7 @@ put-each P n new (tip k l) h g = by (told k n)
     by (inl e) = rw e.1 h
     by (inr e) = rw e.1 g
 put-each P n new (fork k a b own low high) h g =
-    let r = each-left P (numbers low) (numbers high) g.1 in
+    let r = each_parts P (numbers low) (numbers high) g.1 in
     (g.0, Each-append P (numbers (put n new low)) (numbers (put n new high)) (put-each P n new low h r.0) (put-each P n new high h r.1))
 
 -- a number that stands nowhere, and one that stands once

@@ -5,9 +5,9 @@ use Rattle.roster_model.specs.declared.instance.Cut.{Cut}
 use Rattle.roster_model.specs.declared.instance.Instance.{Instance}
 use Rattle.roster_model.specs.Cuts.{base_cuts}
 use Rattle.roster_model.specs.Folds.{count, Each, In}
-use Rattle.arc_laws.proofs.FoldsLemmas.{Each-same, Each-in, Each-append, Each-at}
-use Rattle.certificates.specs.Nodes.{low_cut, high_cut, visits}
-use Rattle.growing_laws.specs.Grown.{Grown, tip, fork, Leaf, fresh, valued, fixed, OnTips, raised, tip_bound, leaf_busy, leaf_proof, proof_of, numbers, put, times, busy, missed}
+use Rattle.roster_model.proofs.EachLemmas.{Each-weaker, Each-append, Each-at, Each-in}
+use Rattle.certificates.specs.Nodes.{visits}
+use Rattle.growing_laws.specs.Grown.{Grown, tip, fork, Leaf, fresh, valued, fixed, OnTips, tip_bound, leaf_busy, leaf_proof, proof_of, numbers, put, times, busy, missed}
 use Rattle.growing_laws.specs.declared.seat.Seat.{Seat}
 use Rattle.growing_laws.specs.Boxes.{IsOpenLeaf}
 use Rattle.growing_laws.specs.Opens.{Entry, leaf_entries, opens, SameEntries}
@@ -16,20 +16,14 @@ use Rattle.growing_laws.specs.States.{IsTip, IsGraft}
 use Rattle.growing_laws.proofs.GrownLemmas.{TipFact, told, tips-map, put-tips}
 use Rattle.growing_laws.proofs.NodeCounts.{put-busy, put-missed}
 use Rattle.growing_laws.proofs.OpensLemmas.{put-opens}
-use Rattle.growing_laws.proofs.SeatsLemmas.{seated-put, put-numbers}
-use Rattle.growing_laws.proofs.StatesLemmas.{growing-put}
+use Rattle.growing_laws.proofs.SeatsLemmas.{seated-put, put-numbers, number-put}
+use Rattle.growing_laws.proofs.StatesLemmas.{growing-put, tips-both}
 use Rattle.open_nodes.specs.declared.leaf.OpenLeaf.{OpenLeaf}
 use Rattle.open_nodes.specs.Queues.{SameLeaves}
 use Rattle.search_tree.specs.Views.{TreeView, Site, IsLeafAt, entry_of}
 use Rattle.search_tree.specs.Trees.{last_count, is_too_long, HasPlan, IsPlanned, IsTree}
-use Rattle.search_tree.proofs.NumberedLeaves.{at-leaf, only-tips, only-leaf, number-put, put-length, put-each, put-visits, unsplit-once, is-one, is-none}
+use Rattle.search_tree.proofs.NumberedLeaves.{at-leaf, only-tips, only-leaf, put-length, put-each, put-visits, unsplit-once, is-one, is-none}
 use Rattle.search_tree.proofs.WaitingLeaves.{same-each, same-entries, map-append, entry-tip, queued, waits-apart}
-
-pub tips-both : (P Q R : TipFact) → ((up : ℕ) (path : List Cut) (k : ℕ) (l : Leaf) → P up path k l → Q up path k l → R up path k l) → (above : ℕ) (cuts : List Cut) (t : Grown)
-    → OnTips P above cuts t → OnTips Q above cuts t → OnTips R above cuts t
-tips-both P Q R f above cuts (tip k l) p q = f above cuts k l p q
-tips-both P Q R f above cuts (fork k a b own low high) p q =
-    (tips-both P Q R f (raised above own) (cuts ++ low_cut a b ∷ []) low p.0 q.0, tips-both P Q R f (raised above own) (cuts ++ high_cut a b ∷ []) high p.1 q.1)
 
 one-times : (x n : ℕ) → x ≡ 1 → x * n ≡ n
 one-times x n e = rw e (omega arith)
@@ -111,7 +105,7 @@ module _ (old seats : List Seat) (k up : ℕ) (new t : Grown) (is : HoldTree old
     root = number-put k new t g.top ∙ is.root;
     once = once_put;
     size = let p = put-length k new t in let x = one-times (times k t) (length (numbers new)) one in let e = g.size in let f = is.size in omega (arith, p, x, e, f, one);
-    within = put-each (λ j. j < length seats) k new t g.within (Each-same (λ j. j < length old) (λ j. j < length seats) (numbers t) (λ j h. let m = more in omega (arith, h, m)) is.within);
+    within = put-each (λ j. j < length seats) k new t g.within (Each-weaker (λ j. j < length old) (λ j. j < length seats) (numbers t) (λ j h. let m = more in omega (arith, h, m)) is.within);
   }
 
 leaf-entry : (up k bound : ℕ) (l : Leaf) → IsOpenLeaf l → tip_bound up l ≡ bound → leaf_entries up k l ≡ record { seat = k; bound = bound } ∷ []

@@ -7,7 +7,7 @@ use Rattle.roster_model.specs.declared.instance.Cut.{Cut}
 use Rattle.roster_model.specs.declared.instance.Instance.{Instance}
 use Rattle.roster_model.specs.Cuts.{base_cuts}
 use Rattle.roster_model.specs.Folds.{count, In}
-use Rattle.arc_laws.proofs.FoldsLemmas.{Each-same, Each-at}
+use Rattle.roster_model.proofs.EachLemmas.{Each-weaker, Each-at}
 use Rattle.certificates.specs.Nodes.{low_cut, high_cut, visits}
 use Rattle.parse_graph.specs.Graphs.{GraphView}
 use Rattle.growing_laws.specs.Grown.{Grown, tip, fork, Leaf, fresh, valued, fixed, SomeTip, raised, tip_bound, busy, numbers, proof_of}
@@ -42,7 +42,7 @@ limit-falls s limit less now low hand w t is le = record {
   held = is.held;
   unsplit = is.unsplit;
   queue = is.queue;
-  planned = Each-same (IsPlanned s.day s.graph limit t) (IsPlanned s.day s.graph less t) (hand ++ w.waiting) (planned-less s.day s.graph limit less t le) is.planned;
+  planned = Each-weaker (IsPlanned s.day s.graph limit t) (IsPlanned s.day s.graph less t) (hand ++ w.waiting) (planned-less s.day s.graph limit less t le) is.planned;
   processed = is.processed;
   failed = is.failed;
   counted = is.counted;

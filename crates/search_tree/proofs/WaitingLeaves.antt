@@ -4,7 +4,7 @@ use Rattle.std.specs.Prelude.{◌≢◌, ◌&&◌, nat_eq}
 use Rattle.std.proofs.lemmas.Bool.{eqb-true, eq-eqb, false≢true}
 use Rattle.roster_model.specs.declared.instance.Cut.{Cut}
 use Rattle.roster_model.specs.Folds.{count, Each, In}
-use Rattle.arc_laws.proofs.FoldsLemmas.{Each-at, Each-in}
+use Rattle.roster_model.proofs.EachLemmas.{Each-at, Each-in}
 use Rattle.certificates.specs.Nodes.{low_cut, high_cut}
 use Rattle.growing_laws.specs.Grown.{Grown, tip, fork, Leaf, OnTips, raised, tip_bound, times}
 use Rattle.growing_laws.specs.Boxes.{IsOpenLeaf}

@@ -1,32 +1,25 @@
 -- The arcs that a walk has passed, and those ahead of it.
-use Rattle.std.proofs.Common.{◌≡◌, ℕ, arith, ◌<◌, ◌≤◌, List, [], ◌∷◌, ◌++◌, Option, None, Some, length, sym, subst, ◌⊎◌, inl, inr}
+use Rattle.std.proofs.Common.{◌≡◌, arith, ◌<◌, ◌≤◌, List, [], ◌∷◌, ◌++◌, Option, None, Some, length, sym, subst, ◌⊎◌, inl, inr}
 use Rattle.std.specs.Prelude.{IfSome}
 use Rattle.std.proofs.lemmas.List.{length-append}
 use Rattle.std.proofs.lemmas.Option.{same_Some}
 use Rattle.roster_model.specs.declared.grammar.ArcKey.{ArcKey}
 use Rattle.roster_model.specs.declared.grammar.Grammar.{Grammar}
-use Rattle.roster_model.specs.Arcs.{IsArc, ArcBefore, ComesFirst, arc_numbers}
+use Rattle.roster_model.specs.Arcs.{IsArc, ArcBefore, arc_numbers}
 use Rattle.roster_model.specs.Folds.{Each, In}
+use Rattle.roster_model.proofs.ComesFirstLemmas.{first_one_way, first_through}
+use Rattle.roster_model.proofs.EachLemmas.{Each-weaker, Each-append}
 use Rattle.arc_laws.specs.Lists.{IsRising, AreArcs}
-use Rattle.arc_laws.proofs.FoldsLemmas.{Each-append, Each-same, In-append}
+use Rattle.arc_laws.proofs.FoldsLemmas.{In-append}
 use Rattle.span_arcs.specs.Ahead.{IsAhead, IsPassed}
 use Rattle.span_arcs.specs.Order.{IsNextArc, IsSmall}
-use Rattle.span_arcs.proofs.OrderLemmas.{before-lower, comes-first, keys_left}
+use Rattle.span_arcs.proofs.OrderLemmas.{before-lower, keys_left}
 use Rattle.span_arcs.proofs.StandLemmas.{In-left, In-right}
-
--- one list of numbers does not come before another both ways
-one_way : (xs ys : List ℕ) → ComesFirst xs ys → ComesFirst ys xs → ⊥
-one_way [] ys h k = h
-one_way (x ∷ xs) [] h k = h
-one_way (x ∷ xs) (y ∷ ys) (inl h) (inl k) = absurd (omega arith)
-one_way (x ∷ xs) (y ∷ ys) (inl h) (inr k) = absurd (omega (arith, k.0))
-one_way (x ∷ xs) (y ∷ ys) (inr h) (inl k) = absurd (omega (arith, h.0))
-one_way (x ∷ xs) (y ∷ ys) (inr h) (inr k) = one_way xs ys h.1 k.1
 
 -- what is ahead of an arc does not come before it
 pub not-behind : (a x : ArcKey) → IsAhead (Some a) x → ArcBefore x a → ⊥
-not-behind a x (inl e) h = let k = subst (λ (y : ArcKey). ArcBefore y a) e h in one_way (arc_numbers a) (arc_numbers a) k k
-not-behind a x (inr b) h = one_way (arc_numbers x) (arc_numbers a) h b
+not-behind a x (inl e) h = let k = subst (λ (y : ArcKey). ArcBefore y a) e h in first_one_way (arc_numbers a) (arc_numbers a) k k
+not-behind a x (inr b) h = first_one_way (arc_numbers x) (arc_numbers a) h b
 
 -- at the first arc all are ahead
 pub first-ahead : (g : Grammar) (r : Option ArcKey) → IsNextArc g None r → (x : ArcKey) → IsArc g x → IsAhead r x
@@ -112,7 +105,7 @@ module _ (g : Grammar) (small : (x : ArcKey) → IsArc g x → IsSmall x) (liste
         sound = sound_more;
         whole = whole_more (Some b) n;
         rising = rising-push listed a h.rising h.before;
-        before = Each-append (λ x. ArcBefore x b) listed (a ∷ []) (Each-same (λ x. ArcBefore x a) (λ x. ArcBefore x b) listed (λ x e. comes-first (arc_numbers x) (arc_numbers a) (arc_numbers b) e n.1) h.before) (n.1, tt);
+        before = Each-append (λ x. ArcBefore x b) listed (a ∷ []) (Each-weaker (λ x. ArcBefore x a) (λ x. ArcBefore x b) listed (λ x e. first_through (arc_numbers x) (arc_numbers a) (arc_numbers b) e n.1) h.before) (n.1, tt);
         next_arc = n.0;
         few = omega (arith, l, h.few, k);
       }

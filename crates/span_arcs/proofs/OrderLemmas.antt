@@ -4,9 +4,10 @@ use Rattle.roster_model.specs.declared.grammar.ArcKey.{ArcKey}
 use Rattle.roster_model.specs.declared.grammar.Grammar.{Grammar}
 use Rattle.roster_model.specs.declared.grammar.Rule.{Rule}
 use Rattle.roster_model.specs.declared.grammar.Sym.{Sym}
-use Rattle.roster_model.specs.Arcs.{IsArc, ArcBefore, ComesFirst, arc_numbers}
+use Rattle.roster_model.specs.Arcs.{IsArc, ArcBefore, arc_numbers}
 use Rattle.roster_model.specs.Grammar.{rule_at}
 use Rattle.roster_model.specs.Sound.{IsSound}
+use Rattle.roster_model.proofs.ComesFirstLemmas.{first_through}
 use Rattle.std.proofs.lemmas.Option.{same_Some}
 use Rattle.tree_laws.proofs.Rules.{sound-rule, rule_at-within}
 use Rattle.span_cells.specs.declared.slot.Layout.{Layout}
@@ -130,19 +131,9 @@ step-suffix g a x t none full last (inr (e, inr (f, inr (d, inl h)))) = absurd (
 step-suffix g a x t none full last (inr (e, inr (f, inr (d, inr (c, inl h))))) = absurd (none (e, f, d, c, h))
 step-suffix g a x t none full last (inr (e, inr (f, inr (d, inr (c, inr (p, h)))))) = absurd h
 
--- the order goes on
-pub comes-first : (xs ys zs : List ℕ) → ComesFirst xs ys → ComesFirst ys zs → ComesFirst xs zs
-comes-first [] ys zs h k = absurd h
-comes-first (x ∷ xs) [] zs h k = absurd h
-comes-first (x ∷ xs) (y ∷ ys) [] h k = absurd k
-comes-first (x ∷ xs) (y ∷ ys) (z ∷ zs) (inl a) (inl b) = inl (omega (arith, a, b))
-comes-first (x ∷ xs) (y ∷ ys) (z ∷ zs) (inl a) (inr (f, k)) = inl (omega (arith, a, f))
-comes-first (x ∷ xs) (y ∷ ys) (z ∷ zs) (inr (e, h)) (inl b) = inl (omega (arith, e, b))
-comes-first (x ∷ xs) (y ∷ ys) (z ∷ zs) (inr (e, h)) (inr (f, k)) = inr (e ∙ f, comes-first xs ys zs h k)
-
 after-later : (after : Option ArcKey) (a b : ArcKey) → IsAfter after a → ArcBefore a b → IsAfter after b
 after-later None a b h k = tt
-after-later (Some c) a b h k = comes-first (arc_numbers c) (arc_numbers a) (arc_numbers b) h k
+after-later (Some c) a b h k = first_through (arc_numbers c) (arc_numbers a) (arc_numbers b) h k
 
 -- a later suffix is a later key
 later-before : (a b : ArcKey) → IsLaterSuffix a b → ArcBefore a b

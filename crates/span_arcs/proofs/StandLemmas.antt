@@ -1,5 +1,5 @@
 -- Parts of a tree whose arcs are all of the instance stay so when they are put together otherwise.
-use Rattle.std.proofs.Common.{◌≡◌, ℕ, zero, suc, ◌≤◌, ◌+◌, List, [], ◌∷◌, ◌++◌, Some, arith, refl, subst, sym, ap, ◌⊎◌, inl, inr}
+use Rattle.std.proofs.Common.{◌≡◌, ℕ, zero, suc, ◌≤◌, ◌+◌, List, [], ◌∷◌, ◌++◌, Some, arith, refl, sym, ap, ◌⊎◌, inl, inr}
 use Rattle.std.proofs.lemmas.List.{append-nil}
 use Rattle.roster_model.specs.declared.grammar.ArcKey.{ArcKey}
 use Rattle.roster_model.specs.declared.grammar.Grammar.{Grammar}
@@ -13,6 +13,7 @@ use Rattle.roster_model.specs.Arcs.{arcs, parts_arcs, arc_of_part, IsArc}
 use Rattle.tree_laws.specs.Laws.{arc_at}
 use Rattle.tree_laws.specs.Parts.{beside}
 use Rattle.tree_laws.proofs.Ends.{rooted}
+use Rattle.tree_laws.proofs.Splits.{moved}
 use Rattle.span_arcs.specs.Marks.{free_view, HasSome, TreesStand, PartsStand}
 
 -- what is in either list is in both together
@@ -39,9 +40,6 @@ some-covered g (Code c) ss i (uses q n inner rest) h = absurd h
 some-covered g (Name x) ss i done h = absurd h
 some-covered g (Name x) ss i (letter d rest) h = absurd h
 some-covered g (Name x) ss i (uses q n inner rest) h = omega (arith, h.4)
-
-moved : (g : Grammar) (ss : List Sym) (u : Parts) (i j : ℕ) → i ≡ j → Derive g ss i u → Derive g ss j u
-moved g ss u i j e h = subst (λ y. Derive g ss y u) e h
 
 -- the arc of a first part that others follow
 arc_first : (g : Grammar) (r k i s j : ℕ) (x : Sym) (ss : List Sym) (u : Parts) → Derive g (x ∷ ss) j u

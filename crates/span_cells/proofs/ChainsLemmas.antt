@@ -3,6 +3,7 @@ use Rattle.std.proofs.Common.{◌≡◌, ◌≢◌, ℕ, ℤ, ◌<◌, ◌≤◌
 use Rattle.std.specs.Prelude.{slice_index}
 use Rattle.std.proofs.lemmas.List.{length-set, get_or_read}
 use Rattle.std.proofs.lemmas.Option.{same_Some, slice_get-get_or}
+use Rattle.std.proofs.lemmas.Bool.{cases_eq, cases_lt}
 use Rattle.roster_model.specs.declared.grammar.Grammar.{Grammar}
 use Rattle.roster_model.specs.declared.grammar.Rule.{Rule}
 use Rattle.roster_model.specs.declared.grammar.Sym.TheVariants.{Name}
@@ -16,12 +17,6 @@ use Rattle.tree_laws.proofs.Rules.{rule_at-within, rule_here, sound-rule}
 use Rattle.roster_model.specs.Sound.{IsSound}
 use Rattle.span_cells.specs.declared.slot.Layout.{Layout}
 use Rattle.span_cells.specs.Chains.{IsFirstRule, AreChainedFrom, AreChained}
-
-same_or_not : (a b : ℕ) → (a ≡ b) ⊎ (a ≢ b)
-same_or_not a b = grind arith
-
-before_or_not : (a b : ℕ) → (a < b) ⊎ (b ≤ a)
-before_or_not a b = grind arith
 
 -- beyond the last rule there is none
 pub none-first : (g : Grammar) (x m : ℕ) → m ≡ length g.rules + 1 → IsFirstRule g x m m
@@ -44,7 +39,7 @@ module _ (g : Grammar) (sound : IsSound g) (first next : List ℕ) (k : ℕ) (ru
   chained-next = record {
     names = rw length-set chained.names;
     rules = rw length-set chained.rules;
-    begins = λ x lt. begins x lt (same_or_not x rule.left);
+    begins = λ x lt. begins x lt (cases_eq x rule.left);
     goes = λ r o le at'. goes r o at' (k_or_later r le);
   }
     where
@@ -99,7 +94,7 @@ module _ (g : Grammar) (p : PriceView) (x i l : ℕ) where
   -- from one rule of the name to the next
   pub names-skip : (m n : ℕ) (best : Option ℤ) → IsFirstRule g x m n → IsLeast (ByFirst g p x i l m) (tree_sum p i) best → IsLeast (ByFirst g p x i l n) (tree_sum p i) best
   names-skip m n best first h =
-      IsLeast-same (ByFirst g p x i l m) (ByFirst g p x i l n) (tree_sum p i) best (λ t q. (q.0, omega (arith, q.1, first.low))) (λ t q. (q.0, below t q (before_or_not (root t) m))) h
+      IsLeast-same (ByFirst g p x i l m) (ByFirst g p x i l n) (tree_sum p i) best (λ t q. (q.0, omega (arith, q.1, first.low))) (λ t q. (q.0, below t q (cases_lt (root t) m))) h
     where
       below : (t : Parts) → ByFirst g p x i l n t → (root t < m) ⊎ (m ≤ root t) → root t < m
       below t q (inl lt) = lt

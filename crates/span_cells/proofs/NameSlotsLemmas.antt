@@ -5,10 +5,11 @@ use Rattle.std.proofs.lemmas.Option.{slice_get_within}
 use Rattle.span_cells.specs.declared.slot.Slot.{Slot}
 use Rattle.span_cells.specs.declared.slot.Slot.TheVariants.{OfName, OfSuffix}
 use Rattle.span_cells.specs.declared.slot.Suffix.{Suffix}
-use Rattle.span_cells.specs.Building.{IsPlaced, IsDone, NameSlots, AreNamed}
+use Rattle.span_cells.specs.Building.{NameSlots, AreNamed}
 use Rattle.roster_model.specs.declared.grammar.Grammar.{Grammar}
 use Rattle.roster_model.specs.UnitRules.{IsRanked}
 use Rattle.tree_laws.proofs.ListPushes.{push-kept, push-here, push-cases}
+use Rattle.tree_laws.specs.RankOrder.{IsPlaced, IsDone}
 
 -- no name yet
 pub names-init : (ranks : List ℕ) (base : List Slot) (names : List ℕ) (done : ℕ → Type 0)

@@ -3,13 +3,11 @@ use Rattle.std.proofs.Common.{◌≡◌, ◌≢◌, ℕ, ◌<◌, ◌≤◌, ◌
 use Rattle.std.specs.Int.{bit_at, w64, w128, trailing_zeros}
 use Rattle.std.proofs.lemmas.Nat.{shr-shr}
 use Rattle.std.proofs.lemmas.Nat.Bits.{bit_at-lt, bit_at_set_same, bit_at_set_other, bit_at_and, bit_at-trailing_zeros, bit_at-zero, bit_at_cat_low}
-
-same_or_not : (a b : ℕ) → (a ≡ b) ⊎ (a ≢ b)
-same_or_not a b = grind arith
+use Rattle.std.proofs.lemmas.Bool.{cases_eq}
 
 -- one bit more
 pub set-kept : (n k i : ℕ) → k < 128 → bit_at n i ≡ 1 → bit_at (bit_or n (1 * 2 ^ k % 2 ^ 128)) i ≡ 1
-set-kept n k i lt h = by (same_or_not i k)
+set-kept n k i lt h = by (cases_eq i k)
   where
     by : (i ≡ k) ⊎ (i ≢ k) → bit_at (bit_or n (1 * 2 ^ k % 2 ^ 128)) i ≡ 1
     by (inl e) = subst (λ (q : ℕ). bit_at (bit_or n (1 * 2 ^ k % 2 ^ 128)) q ≡ 1) (sym e) (bit_at_set_same w128 n k lt)
@@ -17,7 +15,7 @@ set-kept n k i lt h = by (same_or_not i k)
 
 -- and no other
 pub set-only : (n k i : ℕ) → k < 128 → bit_at (bit_or n (1 * 2 ^ k % 2 ^ 128)) i ≡ 1 → (i ≡ k) ⊎ (bit_at n i ≡ 1)
-set-only n k i lt h = by (same_or_not i k)
+set-only n k i lt h = by (cases_eq i k)
   where
     by : (i ≡ k) ⊎ (i ≢ k) → (i ≡ k) ⊎ (bit_at n i ≡ 1)
     by (inl e) = inl e

@@ -33,14 +33,6 @@ pub record SuffixSlots (g : Grammar) (slots : List Slot) (starts : List ℕ) (n 
       (OfSuffix (record { rule = r; from = j }))
   pub only : (s : ℕ) (w : Slot) → slice_get slots s ≡ Some w → IsSuffixSlot g w
 
--- a name of a higher rank, or one of this rank below x
-abbrev pub IsPlaced : List ℕ → ℕ → ℕ → ℕ → Type 0
-IsPlaced ranks rank x y = (rank < slice_index ranks y) ⊎ ((slice_index ranks y ≡ rank) × (y < x))
-
--- a name that is done after so many turns over n ranks, the highest first
-abbrev pub IsDone : List ℕ → ℕ → ℕ → ℕ → Type 0
-IsDone ranks n turn y = n ≤ slice_index ranks y + turn
-
 -- The names that are done, at most m, have got slots after those of the base, the higher ranks
 -- first, and nothing else has.
 pub record NameSlots (ranks : List ℕ) (base slots : List Slot) (names : List ℕ) (done : ℕ → Type 0)

@@ -2,7 +2,8 @@ ghost use Rattle.std.specs.Prelude.{ℕ, ◌≡◌, ◌≤◌, ◌<◌, ◌+◌,
 ghost use Rattle.roster_model.specs.Sound.{IsSound};
 ghost use Rattle.span_cells.specs.declared.slot.Slot.{Slot as Use};
 ghost use Rattle.span_cells.specs.Cells.{IsLayoutOf};
-ghost use Rattle.span_cells.specs.Building.{AddsSuffixes, SuffixSlots, IsPlaced, IsDone, NameSlots, AreNamed};
+ghost use Rattle.tree_laws.specs.RankOrder.{IsPlaced, IsDone};
+ghost use Rattle.span_cells.specs.Building.{AddsSuffixes, SuffixSlots, NameSlots, AreNamed};
 
 use crate::chains::Chains;
 use crate::lengths::slot_lengths;

@@ -1,6 +1,6 @@
 -- What each call of the walk asks follows from what its caller was asked.
-use Rattle.std.proofs.Common.{◌≡◌, ℕ, zero, suc, ℤ, ◌<◌, ◌≤◌, ◌+◌, ◌-◌, List, [], ◌∷◌, ◌++◌, Option, None, Some, arith, refl, subst, sym, ap, ◌∙◌, length, drop, get_or, add-one}
-use Rattle.std.specs.Prelude.{OnSome, IsSome}
+use Rattle.std.proofs.Common.{◌≡◌, ℕ, zero, suc, ℤ, ◌<◌, ◌≤◌, ◌+◌, ◌-◌, List, [], ◌∷◌, ◌++◌, Option, Some, arith, refl, subst, sym, ap, ◌∙◌, length, drop, get_or, add-one}
+use Rattle.std.specs.Prelude.{OnSome}
 use Rattle.std.proofs.Math.Seq.{drop-cons}
 use Rattle.std.proofs.lemmas.Option.{same_Some}
 use Rattle.roster_model.specs.declared.grammar.Grammar.{Grammar}
@@ -11,7 +11,7 @@ use Rattle.roster_model.specs.declared.grammar.Sym.TheVariants.{Code, Name}
 use Rattle.roster_model.specs.Grammar.{rule_at}
 use Rattle.roster_model.specs.Trees.{On, IsDayTree, steps}
 use Rattle.roster_model.specs.Room.{most_uses}
-use Rattle.roster_model.specs.Sums.{PriceView, SymbolLeast, PartsLeast, IsLeast, AtMost, tree_sum}
+use Rattle.roster_model.specs.Sums.{PriceView, SymbolLeast, PartsLeast, tree_sum}
 use Rattle.roster_model.specs.Sound.{Exists, IsSound}
 use Rattle.roster_model.specs.Room.{RoomView}
 use Rattle.tree_laws.proofs.Rules.{rule_at-within, sound-rule, sound-symbol}
@@ -23,17 +23,13 @@ use Rattle.span_table.specs.Walks.{HasParts, HasRoom, AsksTree, AsksParts, Write
 use Rattle.tree_laws.proofs.Bounds.{few-steps}
 use Rattle.tree_laws.proofs.Size.{length-steps}
 use Rattle.tree_laws.specs.LeastTrees.{HasDaySum, HoldsLeastTree}
+use Rattle.tree_laws.proofs.LeastValues.{least_there, at_sum}
 use Rattle.span_table.specs.Tables.{TableView, IsMadeFor, IsFilled}
 use Rattle.span_cells.proofs.CellsLemmas.{filled-right}
 use Rattle.span_table.proofs.TablesLemmas.{day-least}
 use Rattle.span_cells.proofs.PointsLemmas.{symbol-value}
 use Rattle.span_cells.proofs.Slots.{name_slot-within}
 use Rattle.span_table.proofs.WalksLemmas.{one_tree, one_parts, last-has, last-writes, first-has, others-has, first-room, rest-room, split-writes, rule-has, rule-room, rule-writes}
-
--- where there is a sum, what holds at a sum holds
-at_sum : (v : Option ℤ) (z : ℤ) (P : Type 0) → v ≡ Some z → OnSome v P → P
-at_sum None z P e h = cc
-at_sum (Some y) z P e h = h
 
 module _ (g : Grammar) (p : PriceView) (lay : Layout) (h : Held) (rule : Rule) (r k i l : ℕ) (room : RoomView) (asks : AsksParts g p lay h rule r k i l room) (d s : Sym) (is : get_or rule.right k d ≡ s) where
   -- the symbol exists
@@ -210,15 +206,6 @@ module _ (g : Grammar) (lay : Layout) (fits : IsLayoutOf g lay) where
   -- to the parts of a rule
   pub falls-rule : (y left l : ℕ) → left ≡ y → parts_measure lay left 0 l < tree_measure lay (Name y) l
   falls-rule y left l e = let k = ap (name_slot lay) e in omega (arith, k)
-
--- where something has a sum, there is a least one
-least_there : {A : Type 0} (P : A → Type 0) (sum : A → Option ℤ) (v : Option ℤ) (a : A) → IsLeast P sum v → P a → IsSome (sum a) → (y : ℤ) × (v ≡ Some y)
-least_there P sum (Some y) a h k some = (y, refl)
-least_there P sum None a h k some = absurd (none (sum a) (h.least a k) some)
-  where
-    none : (w : Option ℤ) → AtMost None w → IsSome w → ⊥
-    none None m s = cc
-    none (Some z) m s = m
 
 -- what is asked to write a tree of the day into an empty room for the grammar's trees
 pub asks-day : (g : Grammar) (p : PriceView) (t : TableView) (room : RoomView) → IsSound g → IsMadeFor g t → IsFilled g p t → HasDaySum g p → room.most ≡ most_uses g → room.steps ≡ []

@@ -1,5 +1,5 @@
 -- The walk down a tree of least sum: what it may ask at each step, and what it has written after it.
-use Rattle.std.proofs.Common.{◌≡◌, ℕ, zero, suc, ℤ, ◌<◌, ◌+◌, ◌-◌, List, [], ◌∷◌, ◌++◌, Option, None, Some, arith, refl, subst, sym, ap, ◌∙◌, length, length-append, append_assoc, drop}
+use Rattle.std.proofs.Common.{◌≡◌, ℕ, zero, suc, ℤ, ◌<◌, ◌+◌, ◌-◌, List, [], ◌∷◌, ◌++◌, Option, Some, arith, subst, sym, ap, ◌∙◌, length, length-append, append_assoc, drop}
 use Rattle.std.proofs.lemmas.List.{append-nil}
 use Rattle.roster_model.specs.declared.grammar.Grammar.{Grammar}
 use Rattle.roster_model.specs.declared.grammar.Step.{Step}
@@ -10,22 +10,12 @@ use Rattle.roster_model.specs.Sums.{PriceView, plus, tree_sum, parts_sum, Symbol
 use Rattle.roster_model.specs.Room.{RoomView}
 use Rattle.tree_laws.specs.Parts.{beside}
 use Rattle.tree_laws.specs.Laws.{arc_at}
-use Rattle.tree_laws.proofs.LeastValues.{IsLeast-one}
+use Rattle.tree_laws.proofs.LeastValues.{IsLeast-one, left_there, right_there}
 use Rattle.tree_laws.proofs.Splits.{joined}
 use Rattle.tree_laws.proofs.Ends.{last-least, last_sum, only-least, only_sum, rooted}
 use Rattle.tree_laws.proofs.Size.{steps-beside, use_count-beside, length-steps}
 use Rattle.span_cells.specs.Choices.{ChosenPart, ChosenRule}
 use Rattle.span_table.specs.Walks.{HasTree, HasParts, HasRoom, WritesTree, WritesParts}
-
--- a sum that is there has both its parts
-left_there : (a b : Option ℤ) (z : ℤ) → plus a b ≡ Some z → (y : ℤ) × (a ≡ Some y)
-left_there None b z e = cc
-left_there (Some y) b z e = (y, refl)
-
-right_there : (a b : Option ℤ) (z : ℤ) → plus a b ≡ Some z → (y : ℤ) × (b ≡ Some y)
-right_there None b z e = cc
-right_there (Some y) None z e = cc
-right_there (Some y) (Some x) z e = (x, refl)
 
 module _ (g : Grammar) (p : PriceView) where
   -- a symbol has one least sum

@@ -1,15 +1,17 @@
 -- Taking an arc writes its rule use and opens the nodes that it uses.
-use Rattle.std.proofs.Common.{◌≡◌, ℕ, zero, suc, arith, ◌+◌, ◌*◌, cond, List, [], ◌∷◌, ◌++◌, refl, ap, sym, subst, ◌∙◌, append_assoc}
+use Rattle.std.proofs.Common.{◌≡◌, ℕ, arith, ◌+◌, ◌*◌, cond, List, [], ◌∷◌, ◌++◌, refl, ap, sym, subst, ◌∙◌, append_assoc}
 use Rattle.roster_model.specs.declared.grammar.ArcKey.{ArcKey}
 use Rattle.roster_model.specs.declared.grammar.Grammar.{Grammar}
 use Rattle.roster_model.specs.declared.grammar.Step.{Step}
 use Rattle.roster_model.specs.Trees.{Parts, done, letter, steps}
 use Rattle.roster_model.specs.Folds.{count, In}
 use Rattle.roster_model.specs.Arcs.{same_arc}
-use Rattle.arc_laws.specs.OrNodes.{OrNode, name, suffix, leaf, same_node, made_by, made, used}
+use Rattle.arc_laws.specs.OrNodes.{OrNode, name, suffix, leaf, same_node, made, used}
 use Rattle.arc_laws.specs.Balance.{made_sum, used_sum}
 use Rattle.arc_laws.proofs.FoldsLemmas.{count-append, sum_n-same}
-use Rattle.split_laws.specs.Nodes.{IsAt, arcs_at, IsInner, start_of, steps_of, push_inner, stack_after}
+use Rattle.arc_laws.specs.AtNodes.{IsAt, start_of, steps_of}
+use Rattle.arc_laws.proofs.AtNodesLemmas.{made_start}
+use Rattle.split_laws.specs.Nodes.{arcs_at, IsInner, push_inner, stack_after}
 use Rattle.split_laws.specs.Owing.{Owes}
 use Rattle.split_laws.specs.Filling.{AllAt, all_steps, all_arcs, Filled, Walking}
 use Rattle.split_laws.proofs.Shape.{Shape}
@@ -27,10 +29,6 @@ owes-same g listed value other pending same owes = record { each = λ o inner. a
         let m = sum_n-same (λ a. value a * cond (same_node o (made g a)) 1 0) (λ a. other a * cond (same_node o (made g a)) 1 0) listed (λ a h. ap (λ (n : ℕ). n * cond (same_node o (made g a)) 1 0) (same a)) in
         let u = sum_n-same (λ a. value a * count (same_node o) (used g a)) (λ a. other a * count (same_node o) (used g a)) listed (λ a h. ap (λ (n : ℕ). n * count (same_node o) (used g a)) (same a)) in
         omega (arith, e, m, u)
-
-made-start : (g : Grammar) (r k i l : ℕ) → start_of (made_by g r k i l) ≡ i
-made-start g r zero i l = refl
-made-start g r (suc k) i l = refl
 
 module _ (g : Grammar) where
   -- letters are not owed
@@ -110,7 +108,7 @@ module _ (g : Grammar) where
             let b = built g c.arc (shapes c.arc c.is) k.first k.second k.kids in
             let at : IsAt g o b.whole = subst (λ (q : OrNode). IsAt g q b.whole) c.makes b.on in
             let f = w.fills (b.whole ∷ k.others) (at, k.all) in
-            let start : start_of o ≡ c.arc.start = ap start_of (sym c.makes) ∙ made-start g c.arc.rule c.arc.suffix c.arc.start c.arc.len in
+            let start : start_of o ≡ c.arc.start = ap start_of (sym c.makes) ∙ made_start g c.arc.rule c.arc.suffix c.arc.start c.arc.len in
             let here : steps (start_of o) b.whole ≡ steps_of c.arc ++ kid_steps (used g c.arc) k.first k.second = ap (λ (n : ℕ). steps n b.whole) start ∙ b.written in
             let arcs_here : arcs_at o b.whole ≡ c.arc ∷ kid_arcs (used g c.arc) k.first k.second = subst (λ (q : OrNode). arcs_at q b.whole ≡ c.arc ∷ kid_arcs (used g c.arc) k.first k.second) c.makes b.listed in
             record {

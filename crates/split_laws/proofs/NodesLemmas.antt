@@ -1,5 +1,5 @@
 -- What stands at the node that an arc makes is put together from what stands below it, and so are its arcs.
-use Rattle.std.proofs.Common.{◌≡◌, ℕ, zero, suc, pos, ◌<◌, ◌+◌, ◌-◌, List, [], ◌∷◌, ◌++◌, Some, arith, refl, subst, sym, ap, ◌∙◌, drop}
+use Rattle.std.proofs.Common.{◌≡◌, ℕ, zero, suc, ◌<◌, ◌+◌, ◌-◌, List, [], ◌∷◌, ◌++◌, arith, refl, subst, sym, ap, ◌∙◌, drop}
 use Rattle.std.proofs.lemmas.List.{append-nil}
 use Rattle.roster_model.specs.declared.grammar.ArcKey.{ArcKey}
 use Rattle.roster_model.specs.declared.grammar.Grammar.{Grammar}
@@ -7,7 +7,6 @@ use Rattle.roster_model.specs.declared.grammar.Step.{Step}
 use Rattle.roster_model.specs.declared.grammar.Sym.{Sym}
 use Rattle.roster_model.specs.declared.grammar.Sym.TheVariants.{Code, Name}
 use Rattle.roster_model.specs.Trees.{Parts, done, letter, uses, On, steps}
-use Rattle.roster_model.specs.Sums.{PriceView}
 use Rattle.roster_model.specs.Arcs.{parts_arcs, arcs}
 use Rattle.tree_laws.specs.Laws.{arc_at}
 use Rattle.tree_laws.specs.Parts.{beside}
@@ -15,13 +14,12 @@ use Rattle.tree_laws.proofs.Ends.{rooted}
 use Rattle.tree_laws.proofs.Size.{steps-beside}
 use Rattle.arc_laws.specs.OrNodes.{OrNode, left_of, right_of, made, symbol_node, used_by, used}
 use Rattle.arc_laws.proofs.BalanceLemmas.{left_of-is, right_of-is, drop-next}
+use Rattle.arc_laws.specs.AtNodes.{IsAt, start_of, steps_of}
+use Rattle.arc_laws.proofs.PartCuts.{Fits, IsCut}
 use Rattle.span_arcs.proofs.StandLemmas.{beside-arcs, last-arcs, only-arcs}
-use Rattle.split_laws.specs.Nodes.{IsAt, arcs_at, start_of, steps_of}
-use Rattle.split_laws.proofs.Shape.{Shape, IsCut, Fits}
-
--- any prices: the lemma on the tree of a rule speaks of sums too
-no_prices : PriceView
-no_prices = record { letter_at = λ c i. Some (pos 0); arc_of = λ a. pos 0; rule_of = λ r. pos 0 }
+use Rattle.span_arcs.specs.Marks.{free_view}
+use Rattle.split_laws.specs.Nodes.{arcs_at}
+use Rattle.split_laws.proofs.Shape.{Shape}
 
 -- the arcs of what stands below an arc
 abbrev pub kid_arcs : List OrNode → Parts → Parts → List ArcKey
@@ -116,7 +114,7 @@ module _ (g : Grammar) where
       let on : On g st.rule.right i l c.parts = subst (λ (q : List Sym). On g q i l c.parts) right c.on in
       record {
         whole = uses r l c.parts done;
-        on = rooted g no_prices i l r (left_of g r) st.rule c.parts st.at (sym left) (st.stands refl) st.some on;
+        on = rooted g free_view i l r (left_of g r) st.rule c.parts st.at (sym left) (st.stands refl) st.some on;
         listed = c.listed;
         written = append-nil (record { rule = r; start = i; len = l } ∷ steps i c.parts) ∙ ap (λ (q : List Step). record { rule = r; start = i; len = l } ∷ q) c.written;
       }

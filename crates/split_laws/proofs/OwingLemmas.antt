@@ -9,7 +9,8 @@ use Rattle.roster_model.specs.Cuts.{arcs_of, arc_count}
 use Rattle.arc_laws.specs.OrNodes.{OrNode, name, suffix, leaf, same_node, made_by, made, used, root_of}
 use Rattle.arc_laws.specs.Balance.{made_sum, used_sum}
 use Rattle.arc_laws.proofs.FoldsLemmas.{count-append}
-use Rattle.split_laws.specs.Nodes.{IsAt, arcs_at, IsInner, copies}
+use Rattle.arc_laws.specs.AtNodes.{IsAt}
+use Rattle.split_laws.specs.Nodes.{arcs_at, IsInner, copies}
 use Rattle.split_laws.specs.Owing.{Owes, Taken}
 use Rattle.split_laws.proofs.Shape.{Shape}
 use Rattle.split_laws.proofs.NodesLemmas.{KidsAt, kid_arcs, built, Uses, uses_one, uses_two, uses-some}

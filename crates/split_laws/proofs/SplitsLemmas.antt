@@ -8,16 +8,18 @@ use Rattle.roster_model.specs.Trees.{Parts, IsDayTree}
 use Rattle.roster_model.specs.Folds.{sum_n, count, In}
 use Rattle.roster_model.specs.Arcs.{arcs, letters, IsArc}
 use Rattle.roster_model.specs.Sound.{IsSound}
+use Rattle.roster_model.proofs.EachLemmas.{get-in, in-get}
 use Rattle.arc_laws.specs.OrNodes.{OrNode, name, suffix, leaf, same_node, made, used, root_of}
 use Rattle.arc_laws.specs.Balance.{made_sum, used_sum, IsBalanced}
 use Rattle.arc_laws.specs.Counts.{root_count}
 use Rattle.arc_laws.proofs.FoldsLemmas.{count-none}
 use Rattle.arc_laws.proofs.BalanceLemmas.{used_total, tree_balanced}
 use Rattle.arc_laws.proofs.Once.{made-once}
+use Rattle.arc_laws.proofs.StandOnceLemmas.{once-counted}
 use Rattle.split_laws.specs.Nodes.{IsInner, copies}
 use Rattle.split_laws.specs.Owing.{Owes}
 use Rattle.parse_graph.specs.Graphs.{HasArcs}
-use Rattle.parse_graph.proofs.PlacesLemmas.{In-at, at-In, once-counted, in-graph}
+use Rattle.parse_graph.proofs.PlacesLemmas.{in-graph}
 use Rattle.split_laws.specs.Splits.{AreTreesOf}
 use Rattle.split_laws.proofs.Shape.{arc-shape}
 use Rattle.parse_graph.proofs.ArcUsesLemmas.{same-node, own-node}
@@ -86,7 +88,7 @@ module _ (g : Grammar) where
         where
           later : (b : ArcKey) → In b listed → In (made g a) (used g b) → 1 ≤ left b → ⊥
           later b is uses some =
-              let q = at-In listed b is in
+              let q = in-get listed b is in
               let lt = has.upward q.0 p b a q.1 at uses in
               let z = rec q.0 b (omega (arith, h, lt)) q.1 in
               omega (arith, z, some)
@@ -101,7 +103,7 @@ module _ (g : Grammar) where
           by zero e = e
           by (suc x) e =
               let s : ◌≡◌ {A = ℕ} (cond (same_node (made g a) (made g a)) 1 0) 1 = rw (own-node (made g a)) refl in
-              let m = sum-some left (λ b. cond (same_node (made g a) (made g b)) 1 0) listed a (In-at listed p a at) (omega (arith, e)) (omega (arith, s)) in
+              let m = sum-some left (λ b. cond (same_node (made g a) (made g b)) 1 0) listed a (get-in listed p a at) (omega (arith, e)) (omega (arith, s)) in
               let w = owes.each (made g a) (inner-made g a) in
               absurd (found (positive left (λ b. count (same_node (made g a)) (used g b)) listed (omega (arith, m, w))))
 
@@ -110,7 +112,7 @@ module _ (g : Grammar) where
       none_from (suc n) p a h at = none_next n (λ q b k e. none_from n q b k e) p a h at
 
       pub none-left : (a : ArcKey) → In a listed → left a ≡ 0
-      none-left a h = let r = at-In listed a h in none_from (length listed) r.0 a (omega arith) r.1
+      none-left a h = let r = in-get listed a h in none_from (length listed) r.0 a (omega arith) r.1
 
     pub split-balanced : (value : ArcKey → ℕ) → IsBalanced g listed value → (ts : List Parts) × AreTreesOf g listed value ts
     split-balanced value b =

@@ -7,7 +7,8 @@ use Rattle.roster_model.specs.Trees.{Parts, steps}
 use Rattle.roster_model.specs.Folds.{count}
 use Rattle.roster_model.specs.Arcs.{same_arc}
 use Rattle.arc_laws.specs.OrNodes.{OrNode}
-use Rattle.split_laws.specs.Nodes.{IsAt, arcs_at, start_of}
+use Rattle.arc_laws.specs.AtNodes.{IsAt, start_of}
+use Rattle.split_laws.specs.Nodes.{arcs_at}
 use Rattle.split_laws.specs.Owing.{Owes}
 
 -- parts stand at each of the nodes

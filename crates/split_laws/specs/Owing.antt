@@ -7,7 +7,8 @@ use Rattle.roster_model.specs.Folds.{count}
 use Rattle.roster_model.specs.Arcs.{same_arc}
 use Rattle.arc_laws.specs.OrNodes.{OrNode, same_node}
 use Rattle.arc_laws.specs.Balance.{made_sum, used_sum}
-use Rattle.split_laws.specs.Nodes.{IsAt, arcs_at, IsInner}
+use Rattle.arc_laws.specs.AtNodes.{IsAt}
+use Rattle.split_laws.specs.Nodes.{arcs_at, IsInner}
 
 -- each name or suffix on a span is made as often as it is used and pending together
 pub record Owes (g : Grammar) (listed : List ArcKey) (value : ArcKey → ℕ)

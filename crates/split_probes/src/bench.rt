@@ -2,7 +2,8 @@ ghost use Rattle.std.specs.Prelude.{◌≤◌, length};
 ghost use Rattle.roster_model.specs.Folds.{Each};
 ghost use Rattle.roster_model.specs.SoundInstance.{IsSoundInstance};
 ghost use Rattle.master_laws.specs.Rows.{rows_of};
-ghost use Rattle.master_rows.specs.NodeRows.{AreRows, IsSmallCut};
+ghost use Rattle.roster_model.specs.Limits.{IsSmallCut};
+ghost use Rattle.master_rows.specs.NodeRows.{AreRows};
 
 use crate::shares::Share;
 use dives::{list_places, scout_of};

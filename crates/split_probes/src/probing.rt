@@ -2,7 +2,7 @@ ghost use Rattle.std.specs.Prelude.{◌≡◌, ◌≤◌, ◌<◌, IfOk, IfSome,
 ghost use Rattle.roster_model.specs.Folds.{Each};
 ghost use Rattle.roster_model.specs.SoundInstance.{IsSoundInstance};
 ghost use Rattle.master_laws.specs.Rows.{rows_of};
-ghost use Rattle.master_rows.specs.NodeRows.{IsSmallCut};
+ghost use Rattle.roster_model.specs.Limits.{IsSmallCut};
 ghost use Rattle.split_probes.specs.Chosen.{AreBelow};
 
 use crate::bench::Bench;

@@ -1,8 +1,7 @@
 -- A column of negative reduced cost has an entry above 0, since no column costs less than 0.
 use Rattle.std.proofs.Common.{◌≡◌, ℕ, ℤ, ◌*◌, ◌<◌, ◌≤◌, arith, pos, negsuc, suc, zero, ◌+ℤ◌, ◌*ℤ◌, ◌≤ℤ◌, ◌<ℤ◌, unsigned_abs, sym, ap, ◌∙◌, ◌⊎◌, inl, inr, refl}
-use Rattle.std.proofs.lemmas.Nat.{mul-le}
 use Rattle.std.proofs.lemmas.Int.{ints}
-use Rattle.std.proofs.lemmas.Bool.{cases_eq, eq-eqb, ne_eqb}
+use Rattle.std.proofs.lemmas.Bool.{cases_eq}
 use Rattle.linear_programs.specs.Sums.{dot}
 use Rattle.linear_programs.specs.Program.{Column, Program, reduced}
 use Rattle.linear_programs.specs.Solution.{brought}
@@ -11,7 +10,7 @@ use Rattle.linear_programs.proofs.TiedTableau.{IsTied}
 use Rattle.linear_programs.proofs.Ring.{mul_nonneg}
 use Rattle.linear_programs.proofs.Orders.{le_factor}
 use Rattle.linear_programs.proofs.Totals.{dot-add_right, dot-scale_right, dot-zero_right, dot-same_right}
-use Rattle.linear_programs.proofs.Solutions.{units, others, pivot_size, pivot_size_is, sizes_positive, row_seen}
+use Rattle.linear_programs.proofs.Solutions.{units, others, pivot_size, pivot_size_is, sizes_positive, row_seen, units_positive, others-times}
 
 below_last : (n : ℕ) (f : ℕ → ℤ) → ((r : ℕ) → r < n → f r ≤ℤ pos 0) → f n ≤ℤ pos 0 → (r : ℕ) → r < suc n → f r ≤ℤ pos 0
 below_last n f before last r h = by (cases_eq r n)
@@ -30,22 +29,6 @@ some_above (suc n) f = by (some_above n f) (f n) refl
     by (inr h) (pos (suc k)) e = inl (n, omega arith, omega (arith, ints))
     by (inr h) (pos zero) e = inr (below_last n f h (omega (arith, ints)))
     by (inr h) (negsuc k) e = inr (below_last n f h (omega (arith, ints)))
-
--- the common denominator of the basic columns' entries
-units_positive : (e : ℕ → ℕ) (n : ℕ) → ((r : ℕ) → r < n → 0 < e r) → 0 < units e n
-units_positive e zero h = omega arith
-units_positive e (suc n) h =
-    let a = h n (omega arith) in
-    let b = units_positive e n (λ r k. h r (omega arith)) in
-    omega (arith, mul-le 1 1 (e n) (units e n) a b)
-
-others-times : (e : ℕ → ℕ) (n r : ℕ) → r < n → others e n r * e r ≡ units e n
-others-times e zero r h = absurd (omega arith)
-others-times e (suc n) r h = by (λ l. others-times e n r l) (cases_eq r n)
-  where
-    by : (r < n → others e n r * e r ≡ units e n) → (r ≡ n) ⊎ (r ≡ n → ⊥) → others e (suc n) r * e r ≡ units e (suc n)
-    by rec (inl q) = rw (q, eq-eqb n n refl) (omega arith)
-    by rec (inr q) = let k = rec (omega arith) in rw (ne_eqb r n q) (omega (arith, ap (λ x. e n * x) k))
 
 -- a number that is not above 0, and its size
 against : (e : ℕ) (x : ℤ) → x ≤ℤ pos 0 → pos e *ℤ x +ℤ pos (unsigned_abs x * e) ≡ pos 0

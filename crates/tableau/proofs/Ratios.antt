@@ -8,7 +8,7 @@ use Rattle.linear_programs.proofs.Orders.{scale_le, le_factor}
 use Rattle.fraction.specs.Row.{at}
 use Rattle.tableau.specs.Lines.{row_at, IsLeaving}
 
-turned : (a b c : ℤ) → a *ℤ (b *ℤ c) ≡ c *ℤ (b *ℤ a)
+pub turned : (a b c : ℤ) → a *ℤ (b *ℤ c) ≡ c *ℤ (b *ℤ a)
 turned a b c = *ℤ_comm a (b *ℤ c) ∙ ap (λ (z : ℤ). z *ℤ a) (*ℤ_comm b c) ∙ *ℤ-assoc c b a
 
 -- a / d ≤ b / e ≤ c / f, by products

@@ -18,6 +18,7 @@ use Rattle.tableau.specs.Ends.{IsLpEnd, AreBasicWeights}
 use Rattle.tableau.proofs.Ends.{path_prices}
 use Rattle.tableau.proofs.EnteringColumns.{tied_of, same_reduced}
 use Rattle.tableau.proofs.Starts.{narrow_at, at_narrow}
+use Rattle.tableau.proofs.Ratios.{turned}
 
 -- one more row's share behind the others
 pub share_more : (m : ℕ) (rows : List (List ℤ)) (e : ℕ → ℕ → ℤ) (basis : List ℕ) (list : List Basic) (b : Basic) (k n : ℕ) → k ≡ suc n → IsShare m (row_at rows n) (e n) (slice_index basis n) b
@@ -30,9 +31,6 @@ pub share_all : (m : ℕ) (rows : List (List ℤ)) (e : ℕ → ℕ → ℤ) (ba
 share_all m rows e basis list k none before =
     let nothing : AreShares m rows e basis [] zero = tt in
     rw append-nil at (before [] (subst (λ (j : ℕ). AreShares m rows e basis [] j) (sym none) nothing))
-
-turned : (a b c : ℤ) → a *ℤ (b *ℤ c) ≡ c *ℤ (b *ℤ a)
-turned a b c = *ℤ_comm a (b *ℤ c) ∙ ap (λ (z : ℤ). z *ℤ a) (*ℤ_comm b c) ∙ *ℤ-assoc c b a
 
 -- a quotient as a weight
 as_weight : (e num den right w d : ℤ) → pos 0 <ℤ e → num *ℤ e ≡ right *ℤ den → w *ℤ e ≡ d *ℤ right → num *ℤ d ≡ w *ℤ den

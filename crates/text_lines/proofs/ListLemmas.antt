@@ -1,30 +1,12 @@
 -- Lists of which each item meets a demand, lists with one more item, and tests of numbers.
-use Rattle.std.proofs.Common.{◌≡◌, ℕ, zero, suc, ◌<◌, ◌≤◌, Bool, true, false, not, ltb, leb, eqb, List, [], ◌∷◌, ◌++◌, length, map, Some, refl, sym, ap, ◌∙◌, arith, inl, inr, ◌⊎◌}
-use Rattle.std.specs.Prelude.{All, slice_get, ◌≢◌}
+use Rattle.std.proofs.Common.{◌≡◌, ℕ, zero, suc, ◌<◌, ◌≤◌, Bool, true, false, not, ltb, leb, eqb, List, [], ◌∷◌, ◌++◌, length, Some, refl, sym, ap, ◌∙◌, arith, inl, inr, ◌⊎◌, cond, Option, None}
+use Rattle.std.specs.Prelude.{slice_get, ◌≢◌, is_some}
 use Rattle.std.specs.List.{list_any, list_all}
 use Rattle.std.proofs.lemmas.Bool.{and_from, and_parts, or_parts, cases_lt, lt-ltb, le-leb}
 use Rattle.std.proofs.lemmas.Bool.Decides.{eqb_tells}
-use Rattle.std.proofs.lemmas.List.Elements.{All-head, All-tail}
 use Rattle.std.proofs.lemmas.Option.{slice_get_within}
-use Rattle.roster_model.specs.Folds.{Each}
 
 -- ---- each item
-
-pub Each-push : {X : Type 0} (P : X → Type 0) (xs : List X) (x : X) → Each P xs → P x → Each P (xs ++ x ∷ [])
-Each-push P [] x h p = (p, tt)
-Each-push P (y ∷ xs) x h p = (h.0, Each-push P xs x h.1 p)
-
-pub Each-append : {X : Type 0} (P : X → Type 0) (xs ys : List X) → Each P xs → Each P ys → Each P (xs ++ ys)
-Each-append P [] ys h k = k
-Each-append P (x ∷ xs) ys h k = (h.0, Each-append P xs ys h.1 k)
-
-pub Each-weaker : {X : Type 0} (P Q : X → Type 0) (xs : List X) → ((x : X) → P x → Q x) → Each P xs → Each Q xs
-Each-weaker P Q [] f h = tt
-Each-weaker P Q (x ∷ xs) f h = (f x h.0, Each-weaker P Q xs f h.1)
-
-pub Each-map : {A B : Type 0} (P : A → Type 0) (Q : B → Type 0) (f : A → B) → ((x : A) → P x → Q (f x)) → (xs : List A) → All P xs → Each Q (map f xs)
-Each-map P Q f more [] h = tt
-Each-map P Q f more (x ∷ xs) h = (more x (All-head P x xs h), Each-map P Q f more xs (All-tail P x xs h))
 
 pub all_append : {X : Type 0} (p : X → Bool) (xs ys : List X) → list_all p xs ≡ true → list_all p ys ≡ true → list_all p (xs ++ ys) ≡ true
 all_append p [] ys h k = k
@@ -92,3 +74,13 @@ same_number a b h = elim (eqb_tells a b) [
   | inl p ↦ p.1
   | inr p ↦ let no = p.0 in absurd cc
 ]
+
+abbrev pub one_if : Bool → ℕ
+one_if t = cond t 1 0
+
+abbrev pub has : {A : Type 0} → Option A → ℕ
+has o = one_if (is_some o)
+
+pub none_there : {A : Type 0} (o : Option A) → is_some o ≡ false → has o ≡ 0
+none_there None e = refl
+none_there (Some x) e = absurd cc

@@ -4,6 +4,8 @@ use Rattle.std.specs.List.{list_all}
 use Rattle.std.specs.Fmt.{decimal}
 use Rattle.std.proofs.lemmas.Bool.{and_from, and_parts, or_cases, leb-true, lt-ltb, le-leb, ne_eqb, eqb-true}
 use Rattle.std.proofs.lemmas.Fmt.{decimal_by_steps_wide, length-decimal-le_wide}
+use Rattle.std.specs.Str.{bytes_eq}
+use Rattle.std.proofs.lemmas.Slice.Eq.{bytes_eq-Decides}
 use Rattle.roster_model.specs.Folds.{Each}
 use Rattle.roster_model.specs.Names.{is_code_byte, is_letter, is_name_byte, is_name, is_window_word}
 use Rattle.text_lines.specs.Written.{is_word_byte, is_written, spaced}
@@ -87,3 +89,9 @@ spaced_short (w ∷ []) h = omega (arith, h.0.short)
 spaced_short (w ∷ v ∷ ws) h =
     let more : length (spaced (v ∷ ws)) ≤ 33 * length (v ∷ ws) = spaced_short (v ∷ ws) h.1 in
     omega (arith, h.0.short, more, length-append w (32 ∷ spaced (v ∷ ws)))
+
+pub same_bytes : (w : List ℕ) → bytes_eq w w ≡ true
+same_bytes w = (bytes_eq-Decides w w).1 refl
+
+pub the_bytes : (v w : List ℕ) → bytes_eq v w ≡ true → v ≡ w
+the_bytes v w h = (bytes_eq-Decides v w).0 h

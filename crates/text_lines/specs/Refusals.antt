@@ -1,5 +1,6 @@
 -- The line of a text that is refused.
-use Rattle.std.specs.Prelude.{ℕ, ◌≡◌, List, ◌∷◌, ◌++◌, Option, Some, Result, Ok, Err}
+use Rattle.std.specs.Prelude.{ℕ, ◌≡◌, List, ◌∷◌, ◌++◌, Option, Some, Result, Ok, Err, Bool, false, [], slice_index_or}
+use Rattle.std.specs.Str.{bytes_eq}
 use Rattle.text_lines.specs.declared.line.BadByte.{BadByte}
 use Rattle.text_lines.specs.Lines.{TextLine}
 use Rattle.text_lines.specs.Steps.{each}
@@ -20,3 +21,8 @@ pub record IsFirstRefused {E S : Type 0} (step : S → Result TextLine BadByte �
   pub stand : each step start before ≡ Ok draft
   pub refused : step draft line ≡ Err e
   pub carried : line_of e ≡ Some (number_of line)
+
+-- the first word of a line is this one
+abbrev pub begins : List ℕ → Result TextLine BadByte → Bool
+begins w (Ok line) = bytes_eq (slice_index_or line.words 0 []) w
+begins w (Err b) = false

@@ -27,7 +27,7 @@ count_parts g (uses r n inner rest) (Name x ∷ ss) i h =
 pub Within-more : (m n : ℕ) (z : ℤ) → m ≤ n → Within m z → Within n z
 Within-more m n z h w = record { low = omega (arith, ints, w.low); high = omega (arith, ints, w.high) }
 
-within-at : (v : Option ℤ) (n : ℕ) (z : ℤ) → v ≡ Some z → IfSome v (Within n) → Within n z
+pub within-at : (v : Option ℤ) (n : ℕ) (z : ℤ) → v ≡ Some z → IfSome v (Within n) → Within n z
 within-at v n z e h = rw e at h
 
 module _ (g : Grammar) (sound : IsSound g) where

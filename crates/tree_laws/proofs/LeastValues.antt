@@ -1,7 +1,8 @@
 -- The algebra of least values: nothing, two parts, one set for another, and that there is one.
 use Rattle.std.proofs.Common.{◌≡◌, ℤ, ◌≤ℤ◌, Option, None, Some, IfSome, arith, refl, subst, sym, ap, ◌∙◌, ◌⊎◌, inl, inr}
 use Rattle.std.proofs.lemmas.Int.{ints}
-use Rattle.roster_model.specs.Sums.{IsLeast, IsLesser, AtMost}
+use Rattle.std.specs.Prelude.{IsSome, OnSome}
+use Rattle.roster_model.specs.Sums.{IsLeast, IsLesser, AtMost, plus}
 
 ≤ℤ-trans : (a b c : ℤ) → a ≤ℤ b → b ≤ℤ c → a ≤ℤ c
 ≤ℤ-trans a b c h k = omega (arith, ints)
@@ -81,3 +82,27 @@ module _ {A : Type 0} where
   -- there is one least value
   pub IsLeast-one : (P : A → Type 0) (sum : A → Option ℤ) (v w : Option ℤ) → IsLeast P sum v → IsLeast P sum w → v ≡ w
   IsLeast-one P sum v w h k = AtMost-same v w (IsLeast-below P sum v w h k) (IsLeast-below P sum w v k h)
+
+-- where something has a sum, there is a least one
+pub least_there : {A : Type 0} (P : A → Type 0) (sum : A → Option ℤ) (v : Option ℤ) (a : A) → IsLeast P sum v → P a → IsSome (sum a) → (y : ℤ) × (v ≡ Some y)
+least_there P sum (Some y) a h k some = (y, refl)
+least_there P sum None a h k some = absurd (none (sum a) (h.least a k) some)
+  where
+    none : (w : Option ℤ) → AtMost None w → IsSome w → ⊥
+    none None m s = cc
+    none (Some z) m s = m
+
+-- a sum that is there has both its parts
+pub left_there : (a b : Option ℤ) (z : ℤ) → plus a b ≡ Some z → (y : ℤ) × (a ≡ Some y)
+left_there None b z e = cc
+left_there (Some y) b z e = (y, refl)
+
+pub right_there : (a b : Option ℤ) (z : ℤ) → plus a b ≡ Some z → (y : ℤ) × (b ≡ Some y)
+right_there None b z e = cc
+right_there (Some y) None z e = cc
+right_there (Some y) (Some x) z e = (x, refl)
+
+-- where there is a sum, what holds at a sum holds
+pub at_sum : (v : Option ℤ) (z : ℤ) (P : Type 0) → v ≡ Some z → OnSome v P → P
+at_sum None z P e h = cc
+at_sum (Some y) z P e h = h

@@ -9,3 +9,5 @@ pub mod Size
 pub mod Bounds
 pub mod Ranks
 pub mod ListPushes
+pub mod DayStepsLemmas
+pub mod LettersLemmas

@@ -25,3 +25,9 @@ module _ {X : Type 0} where
       one : (slice_get xs s ≡ Some w) ⊎ ((s ≡ length xs) × (w ≡ y)) → (slice_get xs s ≡ Some w) ⊎ ((suc s ≡ length (x ∷ xs)) × (w ≡ y))
       one (inl h) = inl h
       one (inr h) = inr (omega arith, h.1)
+
+pub same_head : {X : Type 0} (x y : X) (xs ys : List X) → x ∷ xs ≡ y ∷ ys → x ≡ y
+same_head x y xs ys e = cc
+
+pub same_tail : {X : Type 0} (x y : X) (xs ys : List X) → x ∷ xs ≡ y ∷ ys → xs ≡ ys
+same_tail x y xs ys e = cc

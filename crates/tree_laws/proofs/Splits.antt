@@ -11,7 +11,7 @@ use Rattle.tree_laws.specs.Laws.{arc_at}
 use Rattle.roster_model.specs.Sums.{SymbolLeast, PartsLeast}
 use Rattle.tree_laws.specs.Parts.{first, beside}
 
-arc_more : (g : Grammar) (p : PriceView) (r k i s j : ℕ) (x : Sym) (ss : List Sym) (u : Parts) → Derive g (x ∷ ss) j u
+pub arc_more : (g : Grammar) (p : PriceView) (r k i s j : ℕ) (x : Sym) (ss : List Sym) (u : Parts) → Derive g (x ∷ ss) j u
     → arc_sum p r k i s u ≡ p.arc_of (arc_at r k i (s + span_length u) s)
 arc_more g p r zero i s j x ss u h = refl
 arc_more g p r (suc k) i s j (Code c) ss done h = absurd h
@@ -19,7 +19,7 @@ arc_more g p r (suc k) i s j (Name c) ss done h = absurd h
 arc_more g p r (suc k) i s j x ss (letter d rest) h = refl
 arc_more g p r (suc k) i s j x ss (uses q n inner rest) h = refl
 
-moved : (g : Grammar) (ss : List Sym) (u : Parts) (i j : ℕ) → i ≡ j → Derive g ss i u → Derive g ss j u
+pub moved : (g : Grammar) (ss : List Sym) (u : Parts) (i j : ℕ) → i ≡ j → Derive g ss i u → Derive g ss j u
 moved g ss u i j e h = subst (λ y. Derive g ss y u) e h
 
 module _ (g : Grammar) (p : PriceView) (r k i m n l : ℕ) (x : Sym) (ss : List Sym) (fits : m + n ≡ l) where

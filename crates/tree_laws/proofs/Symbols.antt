@@ -15,7 +15,7 @@ use Rattle.tree_laws.proofs.Ends.{last-least}
 pub here : (xs : List Sym) (k : ℕ) (d x : Sym) → k < length xs → get_or xs k d ≡ x → drop k xs ≡ x ∷ drop (suc k) xs
 here xs k d x h e = rw (drop-cons xs k d h, e)
 
-drop_none : (xs : List Sym) (k : ℕ) → length xs ≤ k → drop k xs ≡ []
+pub drop_none : (xs : List Sym) (k : ℕ) → length xs ≤ k → drop k xs ≡ []
 drop_none [] zero h = refl
 drop_none [] (suc k) h = refl
 drop_none (x ∷ xs) zero h = absurd (omega arith)

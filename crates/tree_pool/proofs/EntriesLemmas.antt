@@ -11,8 +11,9 @@ use Rattle.tree_laws.proofs.ListPushes.{push-here, push-cases}
 use Rattle.tree_pool.specs.declared.entry.Entry.{Entry}
 use Rattle.tree_pool.specs.Entries.{seen, all_seen, TellFacts}
 use Rattle.tree_pool.specs.Orders.{steps_of, IsOrder, IsFoundAt, IsPlaceFor}
-use Rattle.tree_pool.specs.Pools.{PoolTree, IsPool, IsPoolTree, IsGrown, IsAdded, AreDaySteps}
+use Rattle.tree_pool.specs.Pools.{PoolTree, IsPool, IsPoolTree, IsGrown, IsAdded}
 use Rattle.tree_pool.proofs.OrdersLemmas.{entry-at, steps-at, found-within, none-there, order-more}
+use Rattle.tree_laws.specs.DaySteps.{AreDaySteps}
 
 at-seen : (es : List Entry) (n : ℕ) (x : PoolTree) → slice_get (all_seen es) n ≡ Some x → (e : Entry) × (slice_get es n ≡ Some e) × (seen e ≡ x)
 at-seen [] n x h = cc

@@ -4,3 +4,4 @@ pub mod EntriesLemmas
 pub mod FactsLemmas
 pub mod LettersLemmas
 pub mod OrdersLemmas
+pub mod PoolGrowth

@@ -43,10 +43,6 @@ abbrev pub IsAdded : List PoolTree → List PoolTree → ℕ → Type 0
 IsAdded old new n =
     ((new ≡ old) × (n < length old)) ⊎ ((x : PoolTree) × (new ≡ old ++ x ∷ []) × (n ≡ length old))
 
--- the rule uses are those of a tree of the day
-abbrev pub AreDaySteps : Grammar → List Step → Type 0
-AreDaySteps g xs = (t : Parts) × IsDayTree g t × (xs ≡ steps 1 t)
-
 -- the arcs of each tree of the day with these steps, in any order
 abbrev pub HasArcsOf : Grammar → List Step → List ArcKey → Type 0
 HasArcsOf g xs listed =

@@ -1,7 +1,7 @@
 ghost use Rattle.std.specs.Prelude.{◌≡◌, IfOk};
 ghost use Rattle.roster_model.specs.Sound.{IsSound};
 ghost use Rattle.tree_pool.specs.Entries.{TellFacts};
-ghost use Rattle.tree_pool.specs.Pools.{AreDaySteps};
+ghost use Rattle.tree_laws.specs.DaySteps.{AreDaySteps};
 
 use crate::facts::{Facts, facts_of};
 use crate::tree::Tree;

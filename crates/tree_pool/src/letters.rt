@@ -1,7 +1,7 @@
 ghost use Rattle.std.specs.Prelude.{◌≡◌, [], ◌∷◌, IfOk, MatchOption};
 ghost use Rattle.roster_model.specs.Sound.{IsSound};
-ghost use Rattle.tree_pool.specs.Letters.{AsksParts, GivesCodes, AreCodesOf};
-ghost use Rattle.tree_pool.specs.Pools.{AreDaySteps};
+ghost use Rattle.tree_laws.specs.DaySteps.{AsksParts, AreDaySteps};
+ghost use Rattle.tree_pool.specs.Letters.{GivesCodes, AreCodesOf};
 
 use crate::rules::rule_of;
 use roster_model::{Grammar, List, Memory, Step, Sym};

@@ -1,12 +1,11 @@
 -- Sums under the prices of a word are costs.
-use Rattle.std.proofs.Common.{◌≡◌, ℕ, zero, suc, ℤ, pos, ◌+ℤ◌, ◌+◌, ◌*◌, ◌^◌, ◌-◌, ◌<◌, ◌≤◌, Bool, true, false, ◌==◌, if◌then◌else◌, Option, None, Some, List, [], ◌∷◌, ◌++◌, All, length, length-append, arith, rules, refl, sym, ap, eq-eqb, SFits, to_z, of_z, ◌∙◌}
+use Rattle.std.proofs.Common.{◌≡◌, ℕ, zero, suc, ℤ, pos, ◌+ℤ◌, ◌+◌, ◌*◌, ◌^◌, ◌-◌, ◌<◌, ◌≤◌, Bool, true, false, ◌==◌, if◌then◌else◌, Option, None, Some, List, [], ◌∷◌, ◌++◌, length, length-append, arith, rules, refl, sym, ap, eq-eqb, SFits, to_z, of_z, ◌∙◌}
 use Rattle.std.specs.Prelude.{slice_get}
 use Rattle.std.proofs.Math.Nat.{mul-le-mul_right}
 use Rattle.std.specs.Int.{w128}
 use Rattle.std.proofs.lemmas.Int.{ints, to_z-of_z}
 use Rattle.std.proofs.lemmas.Bool.{eqb-true}
 use Rattle.std.proofs.lemmas.Option.{same_Some}
-use Rattle.std.proofs.lemmas.List.Elements.{All-head, All-tail}
 use Rattle.roster_model.specs.declared.grammar.CodeDef.{CodeDef}
 use Rattle.roster_model.specs.declared.grammar.Grammar.{Grammar}
 use Rattle.roster_model.specs.declared.grammar.Rule.{Rule}
@@ -23,6 +22,7 @@ use Rattle.tree_laws.proofs.Rules.{sound-rule}
 use Rattle.tree_laws.proofs.Size.{length-steps}
 use Rattle.tree_laws.proofs.Bounds.{few-steps}
 use Rattle.roster_model.specs.Shifts.{IsShift, IsPrice, IsWordTree}
+use Rattle.roster_model.proofs.EachLemmas.{all_each}
 use Rattle.word_prices.specs.Prices.{code_price, free_only, letter_of, word_view, SumsAreCosts, LeastTree}
 use Rattle.word_prices.proofs.WordLetters.{Has, Has-append, Has-front, Has-back, Has-whole, Has-self}
 
@@ -34,17 +34,13 @@ append-nil : (xs : List ℕ) → xs ++ [] ≡ xs
 append-nil [] = refl
 append-nil (x ∷ xs) = ap (λ (ys : List ℕ). x ∷ ys) (append-nil xs)
 
-some_at : {A : Type 0} (xs : List A) (k : ℕ) → k < length xs → (x : A) × (slice_get xs k ≡ Some x)
+pub some_at : {A : Type 0} (xs : List A) (k : ℕ) → k < length xs → (x : A) × (slice_get xs k ≡ Some x)
 some_at [] k h = absurd (omega arith)
 some_at (x ∷ xs) zero h = (x, refl)
 some_at (x ∷ xs) (suc k) h = some_at xs k (omega arith)
 
-each_of : {A : Type 0} (P : A → Type 0) (xs : List A) → All P xs → Each P xs
-each_of P [] h = tt
-each_of P (x ∷ xs) h = (All-head P x xs h, each_of P xs (All-tail P x xs h))
-
 -- both parts of a sum
-plus_parts : (x y : Option ℤ) (z : ℤ) → plus x y ≡ Some z → (a b : ℤ) × (x ≡ Some a) × (y ≡ Some b) × (a +ℤ b ≡ z)
+pub plus_parts : (x y : Option ℤ) (z : ℤ) → plus x y ≡ Some z → (a b : ℤ) × (x ≡ Some a) × (y ≡ Some b) × (a +ℤ b ≡ z)
 plus_parts None y z e = cc
 plus_parts (Some a) None z e = cc
 plus_parts (Some a) (Some b) z e = (a, b, refl, refl, cc)
@@ -117,7 +113,7 @@ module _ (g : Grammar) (sound : IsSound g) where
   Are ss = Each (Exists (length g.codes) (length g.names)) ss
 
   right_are : (r : ℕ) (rule : Rule) → rule_at g r ≡ Some rule → Are rule.right
-  right_are r rule at = each_of (Exists (length g.codes) (length g.names)) rule.right (sound-rule g sound r rule at).symbols
+  right_are r rule at = all_each (Exists (length g.codes) (length g.names)) rule.right (sound-rule g sound r rule at).symbols
 
   -- a word has as many letters as its tree covers
   pub length-word : (t : Parts) (i : ℕ) (ss : List Sym) → Are ss → Derive g ss i t → length (word g t) ≡ span_length t

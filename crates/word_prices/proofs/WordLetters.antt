@@ -25,7 +25,7 @@ Has-back w (x ∷ xs) ys i h =
     rw e (Has-back w xs ys (i + 1) h.1)
 
 -- the first letter behind a front
-at_front : (front rest : List ℕ) (y : ℕ) → slice_get (front ++ y ∷ rest) (length front) ≡ Some y
+pub at_front : (front rest : List ℕ) (y : ℕ) → slice_get (front ++ y ∷ rest) (length front) ≡ Some y
 at_front [] rest y = refl
 at_front (x ∷ front) rest y = at_front front rest y
 

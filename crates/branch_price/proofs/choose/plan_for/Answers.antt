@@ -1,8 +1,6 @@
 use Rattle.std.proofs.Common.{ℕ, ◌<◌, List, ◌++◌, arith, sym, subst}
 use Rattle.roster_model.specs.declared.instance.Cut.{Cut}
 use Rattle.master_laws.specs.Laws.{IsBelowHeads}
-use Rattle.master_rows.specs.NodeRows.{IsSmallCut}
-use Rattle.arc_laws.proofs.FoldsLemmas.{Each-same}
 use Rattle.arc_weights.specs.Weighed.{IsWeighed, AreWhole}
 use Rattle.arc_weights.specs.declared.weighed.Weighed.{Weighed}
 use Rattle.offers.specs.Offers.{CanBeTrees, limit_of}
@@ -10,11 +8,13 @@ use Rattle.branch_price.proofs.StepsLemmas.{loose-within}
 use Rattle.branch_price.proofs.ShownValues.{shown-within}
 use Rattle.branch_price.proofs.PlansLemmas.{between-plan, least-plan, whole-trees, whole-reach, artificial-plan}
 use Rattle.branch_price.proofs.choose.plan_for.Goals as goal
+use Rattle.roster_model.specs.Limits.{IsSmallCut}
+use Rattle.roster_model.proofs.EachLemmas.{Each-weaker}
 
 pub preferred_arc-requires-clause-cuts : goal.preferred_arc-requires-clause-cuts
 preferred_arc-requires-clause-cuts c =
     let few = c.requires.sound.few in
-    Each-same (IsBelowHeads c.args.instance.now) IsSmallCut c.args.cuts.now (λ (k : Cut) h. omega (arith, h, few)) c.requires.shown.below
+    Each-weaker (IsBelowHeads c.args.instance.now) IsSmallCut c.args.cuts.now (λ (k : Cut) h. omega (arith, h, few)) c.requires.shown.below
 
 pub offer_rounded-requires-clause-weights : goal.offer_rounded-requires-clause-weights
 offer_rounded-requires-clause-weights c = shown-within c.args.instance.now c.args.cuts.now c.args.pool.now c.args.weights.now c.args.value c.requires.shown

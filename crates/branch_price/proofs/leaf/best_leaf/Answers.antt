@@ -3,8 +3,8 @@ use Rattle.std.proofs.lemmas.Result.{on_ok_weaker}
 use Rattle.roster_model.specs.declared.instance.Cut.{Cut}
 use Rattle.roster_model.specs.Folds.{Each}
 use Rattle.bound_laws.specs.Priced.{IsPricedValue}
+use Rattle.roster_model.specs.Limits.{IsSmallCut}
 use Rattle.master_laws.specs.Rows.{rows_of}
-use Rattle.master_rows.specs.NodeRows.{IsSmallCut}
 use Rattle.branch_price.specs.Steps.{IsShown}
 use Rattle.branch_price.proofs.Leaves.{leaf-cuts}
 use Rattle.candidate_rosters.proofs.PoolNumbers.{grown-more}

@@ -6,7 +6,7 @@ use Rattle.roster_model.specs.declared.instance.Prices.{Prices}
 use Rattle.roster_model.specs.PriceRooms.{price_view}
 use Rattle.roster_model.proofs.RoomWithin.{room-within}
 use Rattle.roster_model.proofs.Mults.{nonzero-all}
-use Rattle.arc_laws.proofs.FoldsLemmas.{Each-same}
+use Rattle.roster_model.proofs.EachLemmas.{Each-weaker}
 use Rattle.priced_part.proofs.LeastReduced.{least-reduced, least-small}
 use Rattle.branch_price.proofs.value.shown_value.Goals as goal
 
@@ -25,6 +25,6 @@ value_from_least-requires-clause-within c =
 
 pub set_parts-requires-clause-few : goal.set_parts-requires-clause-few
 set_parts-requires-clause-few c =
-    let listed = Each-same (λ (m : Mult). pos 0 <ℤ m.value) (λ (m : Mult). pos 1 ≤ℤ m.value) c.args.prices.now.mult (λ m h. omega (arith, ints, h)) c.requires.positive in
+    let listed = Each-weaker (λ (m : Mult). pos 0 <ℤ m.value) (λ (m : Mult). pos 1 ≤ℤ m.value) c.args.prices.now.mult (λ m h. omega (arith, ints, h)) c.requires.positive in
     let all = nonzero-all c.args.prices.now.mult listed in
     rw c.as_slice-mult.ensures (omega (arith, all, c.requires.fit.few, c.requires.pricing.most))

@@ -3,7 +3,7 @@ use Rattle.roster_model.specs.declared.instance.Shift.{Shift}
 use Rattle.roster_model.specs.Duties.{duty}
 use Rattle.roster_model.specs.Folds.{In}
 use Rattle.roster_model.specs.Rosters.{IsTeamPrice}
-use Rattle.arc_laws.proofs.FoldsLemmas.{Each-at}
+use Rattle.roster_model.proofs.EachLemmas.{Each-at}
 use Rattle.candidate_rosters.proofs.price.price_of.Goals as goal
 
 pub returns-in-Some-clause-price : goal.returns-in-Some-clause-price

@@ -1,10 +1,14 @@
-use Rattle.std.proofs.Common.{arith, ◌≡◌, ◌∷◌, ◌∙◌, ℕ, ◌+◌, ◌*◌, ◌<◌, ◌≤◌, length, List, ap, sym, subst}
+use Rattle.std.proofs.Common.{arith, ◌≡◌, ◌∷◌, ◌++◌, ◌∙◌, ℕ, ◌+◌, ◌*◌, ◌<◌, ◌≤◌, length, List, ap, sym, subst}
 use Rattle.std.proofs.lemmas.Result.{IfOk-weaker}
+use Rattle.roster_model.specs.declared.grammar.Step.{Step}
 use Rattle.roster_model.specs.declared.grammar.Sym.{Sym}
 use Rattle.roster_model.specs.declared.grammar.Sym.TheVariants.{Name}
+use Rattle.roster_model.specs.Trees.{Parts, Derive, steps}
 use Rattle.tree_laws.proofs.Rules.{sound-rule}
-use Rattle.day_questions.specs.Spelled.{AsksParts, GivesWord}
-use Rattle.day_questions.proofs.SpelledLemmas.{name-inner, name-others, name-fewer, name-gives}
+use Rattle.tree_laws.specs.DaySteps.{AsksParts}
+use Rattle.tree_laws.proofs.DayStepsLemmas.{name-inner, name-others, name-fewer}
+use Rattle.day_questions.specs.Spelled.{GivesWord}
+use Rattle.day_questions.proofs.SpelledLemmas.{name-gives}
 use Rattle.day_questions.proofs.word.+add_parts.Goals as goal
 
 pub add_parts-requires-in-Name : goal.add_parts-requires-in-Name
@@ -31,10 +35,11 @@ add_parts-requires-in-Name-2 t c =
     let named : c.args.symbols.now ≡ Name x ∷ c.in-Some.others.now = c.in-Some.ensures ∙ ap (λ (s : Sym). s ∷ c.in-Some.others.now) c.in-Name.is in
     let asks = subst (λ (ss : List Sym). AsksParts g ss c.args.steps.now) named c.requires.parts in
     let gives = subst (λ (ss : List Sym). GivesWord g ss below c.args.out.now left c.add_parts-in-Name.new.out) c.as_slice.ensures c.in_ok-left-in-Name.ensures in
+    let taken = λ (i : ℕ) (t : Parts) (rest : List Step) (h : Derive g c.rule_of-rule.result.now.right i t) (e : below ≡ steps i t ++ rest). (gives i t rest h e).0 in
     let some = ap length named in
     let count = ap length c.in-Some-first_and_rest.ensures in
-    let fewer = name-fewer g x c.in-Some.others.now step c.args.steps.now below c.in-Some-first_and_rest.ensures c.rule_of-rule.result.now c.rule_of-rule.ensures c.args.out.now c.add_parts-in-Name.new.out left gives asks in
-    let others = name-others g x c.in-Some.others.now step c.args.steps.now below c.in-Some-first_and_rest.ensures c.rule_of-rule.result.now c.rule_of-rule.ensures c.args.out.now c.add_parts-in-Name.new.out left gives asks in (
+    let fewer = name-fewer g x c.in-Some.others.now step c.args.steps.now below c.in-Some-first_and_rest.ensures c.rule_of-rule.result.now c.rule_of-rule.ensures left taken asks in
+    let others = name-others g x c.in-Some.others.now step c.args.steps.now below c.in-Some-first_and_rest.ensures c.rule_of-rule.result.now c.rule_of-rule.ensures left taken asks in (
       subst (λ (n : ℕ). length c.in_ok-left-in-Name.left.now * 9 + length c.in-Some.others.now < n) c.decreases (omega (arith, fewer, some, count)),
       (c.requires.sound, others),
     )

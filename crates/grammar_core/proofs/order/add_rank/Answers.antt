@@ -1,8 +1,9 @@
 use Rattle.std.proofs.Common.{arith, ◌≡◌, ◌<◌, ◌∙◌, ℕ, subst}
-use Rattle.grammar_core.specs.Adding.{AreOrdered, IsPlaced}
+use Rattle.grammar_core.specs.Adding.{AreOrdered}
 use Rattle.grammar_core.proofs.OrderLemmas.{rank-taken, rank-passed}
 use Rattle.grammar_core.proofs.order.add_rank.Goals as goal
 use Rattle.grammar_core.proofs.order.add_rank.Goals.{then-ranks-name+in_ok-push, else-ranks-name}
+use Rattle.tree_laws.specs.RankOrder.{IsPlaced}
 
 pub loop-name-preserved : goal.loop-name-preserved
 loop-name-preserved c =

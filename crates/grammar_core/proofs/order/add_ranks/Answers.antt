@@ -1,7 +1,8 @@
 use Rattle.std.proofs.Common.{arith, ◌≡◌, ◌+◌, ◌-◌, ℕ, subst}
 use Rattle.grammar_core.proofs.OrderLemmas.{order-init, turn-begins, turn-ends}
-use Rattle.grammar_core.specs.Adding.{IsDone, AreOrdered}
+use Rattle.grammar_core.specs.Adding.{AreOrdered}
 use Rattle.grammar_core.proofs.order.add_ranks.Goals as goal
+use Rattle.tree_laws.specs.RankOrder.{IsDone}
 
 pub loop-turn-init : goal.loop-turn-init
 loop-turn-init c = rw c.requires.empty (order-init c.args.ranks.now c.args.names (IsDone c.args.ranks.now c.args.names 0) (λ x lt d. omega (arith, c.requires.below x lt, d)))

@@ -1,9 +1,10 @@
 use Rattle.std.proofs.Common.{ℕ, length, subst, arith}
 use Rattle.std.specs.Prelude.{slice_index}
 use Rattle.roster_model.proofs.StepRules.{no_cycle}
-use Rattle.grammar_core.specs.Adding.{IsDone, AreOrdered}
+use Rattle.grammar_core.specs.Adding.{AreOrdered}
 use Rattle.grammar_core.proofs.OrderLemmas.{all-names}
 use Rattle.tree_laws.proofs.Ranks.{rank-below}
+use Rattle.tree_laws.specs.RankOrder.{IsDone}
 use Rattle.grammar_core.proofs.order.order_of.Goals as goal
 
 pub unreachable-requires : goal.unreachable-requires

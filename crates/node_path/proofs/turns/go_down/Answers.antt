@@ -3,10 +3,11 @@ use Rattle.std.proofs.lemmas.Option.{slice_get-get_or}
 use Rattle.roster_model.specs.declared.instance.Cut.{Cut}
 use Rattle.roster_model.specs.declared.instance.Instance.{Instance}
 use Rattle.roster_model.specs.Arcs.{IsArc}
+use Rattle.roster_model.proofs.EachLemmas.{Each-get}
 use Rattle.arc_branch.specs.Paths.{IsBoxOf}
 use Rattle.node_path.specs.Paths.{AreTurns}
 use Rattle.node_path.specs.Steps.{CanGoDown, CanCut}
-use Rattle.node_path.proofs.TurnsLemmas.{within-at, each-at, take-more}
+use Rattle.node_path.proofs.TurnsLemmas.{within-at, take-more}
 use Rattle.node_path.proofs.turns.go_down.Goals as goal
 
 pub turn_at-requires : goal.turn_at-requires
@@ -25,5 +26,5 @@ loop-cut-preserved c =
     λ i above h. record { graph = h.graph; left = c.loop-cut.invariant.0 i above h; within = within-at i above cuts k _ h.within at } in (
       λ i above h. subst (λ (xs : List Cut). IsBoxOf i v xs c.turn_at.new.arc_box) (take-more above cuts k _ at) (c.in_ok-turn_at.ensures.left i (above ++ take k cuts) (can i above h)),
       λ i above h are. subst (λ (xs : List Cut). AreTurns i v above c.turn_at.new.turns.items xs) (take-more above cuts k _ at)
-          (c.in_ok-turn_at.ensures.turned i above (above ++ take k cuts) (can i above h) (each-at (λ (x : Cut). IsArc i.grammar x.arc) cuts k _ h.arcs at) (c.loop-cut.invariant.1 i above h are)),
+          (c.in_ok-turn_at.ensures.turned i above (above ++ take k cuts) (can i above h) (Each-get (λ (x : Cut). IsArc i.grammar x.arc) cuts k _ h.arcs at) (c.loop-cut.invariant.1 i above h are)),
     )

@@ -1,7 +1,7 @@
 use Rattle.std.proofs.Common.{ℕ, ◌≡◌, ◌≤◌, ◌+◌, ◌*◌, ◌^◌}
 use Rattle.roster_model.specs.Folds.{sum_n}
 use Rattle.certificates.specs.RosterCauses.{stated_prices}
-use Rattle.roster_part.proofs.ShiftCounts.{rest_paid}
+use Rattle.certificates.proofs.StatedPrices.{rest_paid}
 use Rattle.roster_part.proofs.totals.paid.Given as goal
 
 abbrev pub invariant-loop-shift : goal.invariant-loop-shift

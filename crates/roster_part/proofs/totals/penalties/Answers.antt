@@ -2,8 +2,9 @@ use Rattle.std.proofs.Common.{get_or, ap, arith}
 use Rattle.roster_model.specs.declared.instance.Cell.{Cell}
 use Rattle.roster_model.specs.Coverage.{covered, penalty}
 use Rattle.roster_model.specs.Limits.{IsDayCell}
+use Rattle.roster_model.proofs.CostBounds.{penalty_le}
 use Rattle.certificates.specs.RosterCauses.{duties}
-use Rattle.roster_part.proofs.ShiftCounts.{penalty-few, cells-next}
+use Rattle.roster_part.proofs.ShiftCounts.{cells-next}
 use Rattle.roster_part.proofs.totals.penalties.Goals as goal
 
 abbrev no_cell : Cell
@@ -14,7 +15,7 @@ overflow_add-sum c =
     let k = c.loop-cell.cell-index in
     let cell : Cell = get_or c.args.cells.now k no_cell in
     let is : IsDayCell c.args.grammar.now cell = c.requires.cells k no_cell c.loop-cell-test.true in
-    let few = penalty-few cell c.coverage.result c.coverage.ensures.within is.limited in
+    let few = penalty_le cell c.coverage.result c.coverage.ensures.within is.limited in
     omega (arith, few, c.penalty-sum.ensures, c.loop-cell.invariant.within, c.loop-cell-test.true, c.requires.few_cells)
 
 pub loop-cell-preserved : goal.loop-cell-preserved
@@ -22,7 +23,7 @@ loop-cell-preserved c =
     let k = c.loop-cell.cell-index in
     let cell : Cell = get_or c.args.cells.now k no_cell in
     let is : IsDayCell c.args.grammar.now cell = c.requires.cells k no_cell c.loop-cell-test.true in
-    let few = penalty-few cell c.coverage.result c.coverage.ensures.within is.limited in
+    let few = penalty_le cell c.coverage.result c.coverage.ensures.within is.limited in
     let i = c.loop-cell.invariant in
     let next = cells-next (λ (x : Cell). penalty x (covered c.args.grammar.now x (duties c.args.shifts.now))) c.args.cells.now k no_cell c.loop-cell-test.true in
     let same = ap (penalty cell) c.coverage.ensures.value in

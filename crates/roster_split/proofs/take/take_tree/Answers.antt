@@ -1,11 +1,11 @@
 use Rattle.std.proofs.Common.{◌≡◌, ℕ, List, [], ◌∷◌, ◌++◌, length, arith, get_or, ap, refl, sym, subst, ◌∙◌}
 use Rattle.roster_model.specs.declared.grammar.ArcKey.{ArcKey}
 use Rattle.roster_model.specs.declared.grammar.Step.{Step}
-use Rattle.split_laws.specs.Nodes.{steps_of}
 use Rattle.roster_split.specs.Stacks.{pushed_kid}
 use Rattle.roster_split.specs.Taking.{IsTaking}
 use Rattle.roster_split.proofs.TakingLemmas.{begun, asks-arc, arc-inside, falls, next, ended}
 use Rattle.roster_split.proofs.take.take_tree.Goals as goal
+use Rattle.arc_laws.specs.AtNodes.{steps_of}
 
 pub loop-node-init : goal.loop-node-init
 loop-node-init c = λ asked.

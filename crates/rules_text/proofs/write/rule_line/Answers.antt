@@ -2,9 +2,10 @@ use Rattle.std.proofs.lemmas.Result.{on_ok_weaker}
 use Rattle.std.specs.Prelude.{codes}
 use Rattle.std.specs.Fmt.{decimal}
 use Rattle.std.proofs.Common.{map}
-use Rattle.rules_text.specs.Written.{symbol_word, window_words, name_of}
+use Rattle.rules_text.specs.Written.{symbol_word, window_words}
 use Rattle.rules_text.proofs.WrittenLemmas.{rule_joined}
 use Rattle.rules_text.proofs.write.rule_line.Goals as goal
+use Rattle.text_lines.specs.Names.{name_of}
 
 pub returns : goal.returns
 returns c =

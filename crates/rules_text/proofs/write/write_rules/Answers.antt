@@ -1,7 +1,8 @@
 use Rattle.std.proofs.Common.{map}
-use Rattle.rules_text.specs.Written.{name_of, periods_line, code_line, start_line, rule_line}
+use Rattle.rules_text.specs.Written.{periods_line, code_line, start_line, rule_line}
 use Rattle.rules_text.proofs.WrittenLemmas.{lines_joined}
 use Rattle.rules_text.proofs.write.write_rules.Goals as goal
+use Rattle.text_lines.specs.Names.{name_of}
 
 pub returns : goal.returns
 returns c =

@@ -1,9 +1,12 @@
-use Rattle.std.proofs.Common.{arith, ◌≡◌, ◌∷◌, ◌∙◌, ℕ, ◌+◌, ◌*◌, ◌<◌, ◌≤◌, length, List, ap, subst}
+use Rattle.std.proofs.Common.{arith, ◌≡◌, ◌∷◌, ◌++◌, ◌∙◌, ℕ, ◌+◌, ◌*◌, ◌<◌, ◌≤◌, length, List, ap, subst}
+use Rattle.roster_model.specs.declared.grammar.Step.{Step}
 use Rattle.roster_model.specs.declared.grammar.Sym.{Sym}
 use Rattle.roster_model.specs.declared.grammar.Sym.TheVariants.{Name}
+use Rattle.roster_model.specs.Trees.{Parts, Derive, steps}
 use Rattle.tree_laws.proofs.Rules.{sound-rule}
-use Rattle.tree_pool.specs.Letters.{AsksParts, GivesCodes}
-use Rattle.tree_pool.proofs.LettersLemmas.{name-inner, name-others, name-fewer}
+use Rattle.tree_laws.specs.DaySteps.{AsksParts}
+use Rattle.tree_laws.proofs.DayStepsLemmas.{name-inner, name-others, name-fewer}
+use Rattle.tree_pool.specs.Letters.{GivesCodes}
 use Rattle.tree_pool.proofs.letters.+add_codes.Goals as goal
 
 pub add_codes-requires-in-Name : goal.add_codes-requires-in-Name
@@ -30,10 +33,11 @@ add_codes-requires-in-Name-2 t c =
     let named : c.args.symbols.now ≡ Name x ∷ c.in-Some.others.now = c.in-Some.ensures ∙ ap (λ (s : Sym). s ∷ c.in-Some.others.now) c.in-Name.is in
     let asks = subst (λ (ss : List Sym). AsksParts g ss c.args.steps.now) named c.requires.parts in
     let gives = subst (λ (ss : List Sym). GivesCodes g ss below c.args.codes.now left c.add_codes-in-Name.new.codes) c.as_slice.ensures c.in_ok-left-in-Name.ensures in
+    let taken = λ (i : ℕ) (t : Parts) (rest : List Step) (h : Derive g c.rule_of-rule.result.now.right i t) (e : below ≡ steps i t ++ rest). (gives i t rest h e).0 in
     let some = ap length named in
     let count = ap length c.in-Some-first_and_rest.ensures in
-    let fewer = name-fewer g x c.in-Some.others.now step c.args.steps.now below c.in-Some-first_and_rest.ensures c.rule_of-rule.result.now c.rule_of-rule.ensures c.args.codes.now c.add_codes-in-Name.new.codes left gives asks in
-    let others = name-others g x c.in-Some.others.now step c.args.steps.now below c.in-Some-first_and_rest.ensures c.rule_of-rule.result.now c.rule_of-rule.ensures c.args.codes.now c.add_codes-in-Name.new.codes left gives asks in (
+    let fewer = name-fewer g x c.in-Some.others.now step c.args.steps.now below c.in-Some-first_and_rest.ensures c.rule_of-rule.result.now c.rule_of-rule.ensures left taken asks in
+    let others = name-others g x c.in-Some.others.now step c.args.steps.now below c.in-Some-first_and_rest.ensures c.rule_of-rule.result.now c.rule_of-rule.ensures left taken asks in (
       subst (λ (n : ℕ). length c.in_ok-left-in-Name.left.now * 9 + length c.in-Some.others.now < n) c.decreases (omega (arith, fewer, some, count)),
       (c.requires.sound, others),
     )
