@@ -1,10 +1,9 @@
 ghost use Rattle.std.specs.Prelude.{◌≤◌};
 ghost use Rattle.roster_model.specs.SoundInstance.{IsSoundInstance};
 
-use crate::days::sound_day;
 use certificates::{Cert, Node, is_sound_cert};
 use roster_model::{ArcKey, Instance, List, Memory};
-use sample_days::{ANY, DayParts, RuleParts, WORK};
+use sample_days::{ANY, DayParts, RuleParts, WORK, sound_day};
 use std::alloc::Global;
 use std::test::Fail;
 

@@ -2,10 +2,10 @@ ghost use Rattle.std.specs.Prelude.{◌≤◌, All, IsTrue};
 ghost use Rattle.roster_model.specs.SoundInstance.{IsSoundInstance};
 ghost use Rattle.span_arcs.specs.DayArcs.{IsDayArcsOf};
 
-use crate::days::{BLOCK_DAY, EXACT_DAY, FLOOR_DAY, PAIR_DAY, PAIR_PARTS, sound_day};
+use crate::days::{BLOCK_DAY, EXACT_DAY, FLOOR_DAY, PAIR_DAY};
 use pinned_part::{Balances, first_loose, high, low, pinned_value};
 use roster_model::{ArcKey, Cut, Instance, Side};
-use sample_days::DayParts;
+use sample_days::{DayParts, PAIR_PARTS, sound_day};
 use span_arcs::DayArcs;
 use std::alloc::{AllocError, Global};
 use std::test::Fail;

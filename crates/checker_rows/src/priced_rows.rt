@@ -5,14 +5,13 @@ ghost use Rattle.roster_model.specs.SoundInstance.{IsSoundInstance};
 ghost use Rattle.roster_model.specs.Sums.{Within};
 ghost use Rattle.span_table.specs.Tables.{IsMadeFor};
 
-use crate::days::{
-    BLOCK_DAY, EXACT_DAY, FREE_DAY, FULL, GROUP_DAY, GROUP_PARTS, HALF, ONE_DAY, PAIR_DAY,
-    PAIR_PARTS, sound_day,
-};
+use crate::days::{BLOCK_DAY, EXACT_DAY, FREE_DAY, GROUP_DAY, ONE_DAY, PAIR_DAY};
 use crate::pinned_rows::are_small;
 use priced_part::priced_value;
 use roster_model::{ArcKey, Cell, Cut, Group, Instance, Mult, PriceRoom, Side, Sym, Window};
-use sample_days::{ANY, CELL, DayParts, REST, RuleParts, WORK};
+use sample_days::{
+    ANY, CELL, DayParts, FULL, GROUP_PARTS, HALF, PAIR_PARTS, REST, RuleParts, WORK, sound_day,
+};
 use span_table::Table;
 use std::alloc::Global;
 use std::test::Fail;

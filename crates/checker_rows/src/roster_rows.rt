@@ -4,11 +4,11 @@ ghost use Rattle.roster_model.specs.SoundInstance.{IsSoundInstance};
 ghost use Rattle.certificates.specs.Sound.{IsGroupNumber, IsSoundShift, IsWordByte};
 ghost use Rattle.span_table.specs.Tables.{IsMadeFor};
 
-use crate::days::{BLOCK_DAY, EXACT_DAY, FULL_DAY, GROUP_DAY, sound_day};
+use crate::days::{BLOCK_DAY, EXACT_DAY, FULL_DAY, GROUP_DAY};
 use certificates::Why;
 use roster_model::{Group, Instance};
 use roster_part::{ShiftRoom, StatedShift, coverage_fault, roster_fault};
-use sample_days::DayParts;
+use sample_days::{DayParts, sound_day};
 use span_table::Table;
 use std::alloc::Global;
 use std::test::Fail;

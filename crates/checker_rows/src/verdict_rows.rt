@@ -4,15 +4,14 @@ ghost use Rattle.certificates.specs.Sound.{IsSoundCert};
 ghost use Rattle.proof_check.specs.Benches.{IsBenchFor, node_room};
 
 use crate::days::{
-    BLOCK_DAY, EXACT_DAY, FLOOR_DAY, FREE_DAY, FULL_DAY, GROUP_DAY, ONE_DAY, PAIR_DAY, PAIR_PARTS,
-    sound_day,
+    BLOCK_DAY, EXACT_DAY, FLOOR_DAY, FREE_DAY, FULL_DAY, GROUP_DAY, ONE_DAY, PAIR_DAY,
 };
 use bound_proof::read_cert;
 use certificates::{Cert, Why};
 use proof_check::{Bench, Judged, Verdict};
 use proof_pieces::{CertRoom, PieceFault};
 use roster_model::{ArcKey, Instance, Memory};
-use sample_days::{ANY, DayParts, REST, RuleParts, WORK};
+use sample_days::{ANY, DayParts, PAIR_PARTS, REST, RuleParts, WORK, sound_day};
 use std::alloc::{AllocError, Global};
 use std::test::Fail;
 

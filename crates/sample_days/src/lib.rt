@@ -4,11 +4,16 @@
 //! small grammars: each has an empty body, and its contract is what the definitions say of one worked case.
 #![tactic(auto)]
 
+mod days;
 mod grammars;
 mod parts;
 mod rest_and_work;
 mod two_readings;
 
+pub use days::{
+    BLOCK, BLOCK_PARTS, EXACT_PARTS, FLOOR_CELLS, FULL, GROUP_PARTS, HALF, ONE_PARTS, PAIR_PARTS,
+    sound_day,
+};
 pub use grammars::{BLOCK_NAMES, BLOCKS, CELL, FULL_DAYS, PAIRS, SPLIT_DAYS};
 pub use parts::{ANY, DayParts, REST, RuleParts, WORK, day, grammar};
 pub use rest_and_work::{sum_of_a_block, tree_of_a_block};

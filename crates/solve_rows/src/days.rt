@@ -5,25 +5,13 @@ ghost use Rattle.parse_graph.specs.Graphs.{IsGraph};
 
 use grammar_core::normalise;
 use parse_graph::{Graph, GraphFault};
-use roster_model::{Cell, Grammar, Group, Instance, Sym, Window, is_sound_instance};
+use roster_model::{Cell, Grammar, Group, Instance, Sym, Window};
 use sample_days::{
-    ANY, BLOCK_NAMES, BLOCKS, CELL, DayParts, PAIRS, REST, RuleParts, SPLIT_DAYS, WORK, day,
+    ANY, BLOCK, BLOCK_PARTS, CELL, DayParts, FLOOR_CELLS, GROUP_PARTS, ONE_PARTS, PAIR_PARTS, REST,
+    RuleParts, WORK, sound_day,
 };
 use std::alloc::Global;
 use std::test::Fail;
-
-const PAIR_CELLS: [Cell; 3] = [CELL, Cell { period: 2, ..CELL }, Cell { period: 3, ..CELL }];
-
-/// Two of three periods at 2, where each period needs one employee.
-pub const PAIR_DAY: DayParts<'static> = DayParts {
-    periods: 3,
-    names: &["S"],
-    rules: &PAIRS,
-    start: 0,
-    heads: (0, 3),
-    groups: &[],
-    cells: &PAIR_CELLS,
-};
 
 const UNEVEN_CELLS: [Cell; 3] = [
     CELL,
@@ -39,10 +27,10 @@ const UNEVEN_CELLS: [Cell; 3] = [
     },
 ];
 
-/// The same where the second and the third period need two employees.
+/// [`PAIR_PARTS`] where the second and the third period need two employees.
 pub const UNEVEN_DAY: DayParts<'static> = DayParts {
     cells: &UNEVEN_CELLS,
-    ..PAIR_DAY
+    ..PAIR_PARTS
 };
 
 const FULL_RULES: [RuleParts<'static>; 1] = [(0, 3, &[WORK, WORK], ANY)];
@@ -61,40 +49,14 @@ pub const FULL_DAY: DayParts<'static> = DayParts {
     periods: 2,
     rules: &FULL_RULES,
     cells: &FULL_CELLS,
-    ..PAIR_DAY
+    ..PAIR_PARTS
 };
 
-const EXACT: Cell = Cell {
-    floor: 1,
-    ceiling: 1,
-    ..CELL
-};
-
-const EXACT_CELLS: [Cell; 3] = [
-    EXACT,
-    Cell { period: 2, ..EXACT },
-    Cell { period: 3, ..EXACT },
-];
-
-/// The same where each period has exactly one employee, so that the shifts have three periods in all.
-pub const EXACT_DAY: DayParts<'static> = DayParts {
-    cells: &EXACT_CELLS,
-    ..PAIR_DAY
-};
-
-const FLOOR: Cell = Cell { floor: 1, ..CELL };
-
-const FLOOR_CELLS: [Cell; 3] = [
-    FLOOR,
-    Cell { period: 2, ..FLOOR },
-    Cell { period: 3, ..FLOOR },
-];
-
-/// The same with one employee, where each period has a floor of one.
+/// [`PAIR_PARTS`] with one employee, where each period has a floor of one.
 pub const FLOOR_DAY: DayParts<'static> = DayParts {
     heads: (0, 1),
     cells: &FLOOR_CELLS,
-    ..PAIR_DAY
+    ..PAIR_PARTS
 };
 
 const CROWD_CELLS: [Cell; 3] = [
@@ -103,91 +65,16 @@ const CROWD_CELLS: [Cell; 3] = [
     Cell { period: 3, ..CELL },
 ];
 
-/// The same where the first period has a floor of four, above the three employees.
+/// [`PAIR_PARTS`] where the first period has a floor of four, above the three employees.
 pub const CROWD_DAY: DayParts<'static> = DayParts {
     cells: &CROWD_CELLS,
-    ..PAIR_DAY
+    ..PAIR_PARTS
 };
 
-const BLOCK: Cell = Cell { over: 3, ..CELL };
-
-const BLOCK_CELLS: [Cell; 4] = [
-    BLOCK,
-    Cell {
-        period: 2,
-        need: 2,
-        ..BLOCK
-    },
-    Cell {
-        period: 3,
-        need: 2,
-        ..BLOCK
-    },
-    Cell { period: 4, ..BLOCK },
-];
-
-/// One block of two or three of four periods, where the inner periods need two employees.
-pub const BLOCK_DAY: DayParts<'static> = DayParts {
-    periods: 4,
-    names: &BLOCK_NAMES,
-    rules: &BLOCKS,
-    start: 0,
-    heads: (0, 2),
-    groups: &[],
-    cells: &BLOCK_CELLS,
-};
-
-const ONE_CELLS: [Cell; 1] = [BLOCK];
-
-/// One period, where each shift has two or three, for one or two employees.
-pub const ONE_DAY: DayParts<'static> = DayParts {
-    periods: 1,
-    heads: (1, 2),
-    cells: &ONE_CELLS,
-    ..BLOCK_DAY
-};
-
-/// The same where no employee is asked for.
+/// [`ONE_PARTS`] where no employee is asked for.
 pub const FREE_DAY: DayParts<'static> = DayParts {
     heads: (0, 2),
-    ..ONE_DAY
-};
-
-const GROUP_CELLS: [Cell; 2] = [
-    Cell {
-        need: 2,
-        over: 2,
-        ..CELL
-    },
-    Cell {
-        period: 2,
-        over: 2,
-        ..CELL
-    },
-];
-
-const GROUPS: [Group; 2] = [
-    Group {
-        name: 1,
-        heads_min: 0,
-        heads_max: 1,
-    },
-    Group {
-        name: 2,
-        heads_min: 1,
-        heads_max: 2,
-    },
-];
-
-/// Full and half days, of groups of their own.
-pub const GROUP_DAY: DayParts<'static> = DayParts {
-    periods: 2,
-    names: &["S", "F", "H", "*"],
-    rules: &SPLIT_DAYS,
-    start: 3,
-    heads: (1, 3),
-    groups: &GROUPS,
-    cells: &GROUP_CELLS,
+    ..ONE_PARTS
 };
 
 const FULL_GROUPS: [Group; 2] = [
@@ -203,11 +90,11 @@ const FULL_GROUPS: [Group; 2] = [
     },
 ];
 
-/// The same with three full days and one half day.
+/// [`GROUP_PARTS`] with three full days and one half day.
 pub const FULL_GROUP_DAY: DayParts<'static> = DayParts {
     heads: (4, 4),
     groups: &FULL_GROUPS,
-    ..GROUP_DAY
+    ..GROUP_PARTS
 };
 
 const SHORT_RULES: [RuleParts<'static>; 7] = [
@@ -233,24 +120,13 @@ const IDLE_GROUPS: [Group; 2] = [
     },
 ];
 
-/// The same with one full day, where a full day may stand on one period alone, so that there is none.
+/// [`GROUP_PARTS`] with one full day, where a full day may stand on one period alone, so that there is none.
 pub const IDLE_GROUP_DAY: DayParts<'static> = DayParts {
     rules: &SHORT_RULES,
     heads: (2, 3),
     groups: &IDLE_GROUPS,
-    ..GROUP_DAY
+    ..GROUP_PARTS
 };
-
-/// Returns a sample day, which is sound.
-pub fn sound_day(alloc: Global, parts: &DayParts) -> Result<Instance, Fail>
-    ensures { IfOk result IsSoundInstance }
-{
-    let day = day(alloc, parts)?;
-    if is_sound_instance(&day) {
-        return Ok(day);
-    }
-    Err(Fail::from("no sound day"))
-}
 
 fn build(alloc: Global, grammar: &Grammar) -> Result<Graph, GraphFault>
     requires { IsSound grammar.now }
@@ -293,7 +169,7 @@ pub fn long_day(alloc: Global) -> Result<Instance, Fail>
             periods: 96,
             heads: (0, 3),
             cells: &cells,
-            ..BLOCK_DAY
+            ..BLOCK_PARTS
         },
     )
 }

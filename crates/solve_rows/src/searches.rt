@@ -5,15 +5,17 @@ ghost use Rattle.certificates.specs.Sound.{IsSoundCert};
 ghost use Rattle.proof_check.specs.Benches.{IsBenchFor, node_room};
 
 use crate::days::{
-    BLOCK_DAY, CROWD_DAY, EXACT_DAY, FLOOR_DAY, FREE_DAY, FULL_DAY, FULL_GROUP_DAY, GROUP_DAY,
-    IDLE_GROUP_DAY, ONE_DAY, PAIR_DAY, UNEVEN_DAY, graph_of, long_day, sound_day,
+    CROWD_DAY, FLOOR_DAY, FREE_DAY, FULL_DAY, FULL_GROUP_DAY, IDLE_GROUP_DAY, UNEVEN_DAY, graph_of,
+    long_day,
 };
 use branch_price::{Done, FailingMaster, Found, Master, PlainMaster, Pool, search};
 use certificates::{Cert, Node};
 use parse_graph::Graph;
 use proof_check::{Bench, Verdict};
 use roster_model::{Instance, Shift};
-use sample_days::DayParts;
+use sample_days::{
+    BLOCK_PARTS, DayParts, EXACT_PARTS, GROUP_PARTS, ONE_PARTS, PAIR_PARTS, sound_day,
+};
 use std::alloc::Global;
 use std::test::Fail;
 
@@ -209,7 +211,7 @@ const AT_FOUR: End = End {
 
 const PAIRS: Case<'static> = Case {
     what: "pairs with turns enough",
-    parts: PAIR_DAY,
+    parts: PAIR_PARTS,
     turns: 8191,
     end: AT_FOUR,
     processed: None,
@@ -219,7 +221,7 @@ const PAIRS: Case<'static> = Case {
 /// A day without a roster, which one node shows.
 const ONE_PERIOD: Case<'static> = Case {
     what: "no shift of one period",
-    parts: ONE_DAY,
+    parts: ONE_PARTS,
     turns: 10,
     end: End {
         done: Done::NoRoster,
@@ -269,7 +271,7 @@ static WORD_CASES: [Case<'static>; 2] = [
     },
     Case {
         what: "two blocks",
-        parts: BLOCK_DAY,
+        parts: BLOCK_PARTS,
         turns: 10,
         end: End {
             cost: Some(10),
@@ -310,7 +312,7 @@ static FLOOR_CASES: [Case<'static>; 3] = [
     },
     Case {
         what: "floors that are ceilings",
-        parts: EXACT_DAY,
+        parts: EXACT_PARTS,
         turns: 8191,
         processed: None,
         told: Told::Nothing,
@@ -334,7 +336,7 @@ static GROUP_CASES: [Case<'static>; 3] = [
     },
     Case {
         what: "shifts of two groups",
-        parts: GROUP_DAY,
+        parts: GROUP_PARTS,
         turns: 2047,
         told: Told::Shifts(&[(1, "aa", 3), (2, "a.", 1)]),
         ..PAIRS
@@ -402,7 +404,7 @@ fn ends_after_one_turn(alloc: Global, day: &Instance) -> Result<bool, Fail>
 }
 
 /// Pairs of even needs.
-static EVEN: DayParts<'static> = PAIR_DAY;
+static EVEN: DayParts<'static> = PAIR_PARTS;
 
 /// The same on pairs of even needs.
 fn ends_on_pairs_after_one_turn(alloc: Global) -> Result<bool, Fail> {

@@ -12,8 +12,6 @@ mod proof_tests;
 #[cfg(test)]
 mod read_reports;
 #[cfg(test)]
-mod report_days;
-#[cfg(test)]
 mod rules_tests;
 #[cfg(test)]
 mod tree_tests;

@@ -1,11 +1,14 @@
 ghost use Rattle.std.specs.Prelude.{◌≤◌, length};
 ghost use Rattle.roster_model.specs.SoundInstance.{IsSoundInstance};
 
-use crate::report_days::{BLOCK_DAY, sound_day};
 use roster_model::{Done, Instance, List, Memory};
 use roster_report::{Cover, Report, ReportFault, read_report};
+use sample_days::{BLOCK_PARTS, DayParts, sound_day};
 use std::alloc::Global;
 use std::test::Fail;
+
+/// One block of two or three of four periods.
+static BLOCK_DAY: DayParts<'static> = BLOCK_PARTS;
 
 /// The lines of a report of a day of one block, but for the last.
 const FRONT: &str = "report 1\n\

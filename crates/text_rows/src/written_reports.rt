@@ -5,12 +5,11 @@ ghost use Rattle.roster_model.specs.Folds.{Each};
 ghost use Rattle.roster_model.specs.SoundInstance.{IsSoundInstance};
 ghost use Rattle.span_table.specs.Tables.{IsMadeFor};
 
-use crate::report_days::{BLOCK_PARTS, GROUP_DAY, sound_day};
 use certificates::{Cert, Node, is_sound_cert};
 use roster_model::{Done, Instance, List, Memory, Shift};
 use roster_part::{ShiftRoom, StatedShift, coverage_fault, roster_fault};
 use roster_report::{Summary, report_of, write_report, write_summary};
-use sample_days::DayParts;
+use sample_days::{BLOCK_PARTS, DayParts, GROUP_PARTS, sound_day};
 use span_table::Table;
 use std::alloc::Global;
 use std::test::Fail;
@@ -72,7 +71,7 @@ static CASES: [Case<'static>; 3] = [
         ..FOUND
     },
     Case {
-        day: GROUP_DAY,
+        day: GROUP_PARTS,
         done: Done::TurnsOut,
         cost: Some(16),
         bound: Some(4),
