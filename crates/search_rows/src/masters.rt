@@ -9,40 +9,14 @@ use cheapest_tree::Pricer;
 use fraction::{Frac, Tally};
 use node_master::{Cause, NodeEnd, Weight, solve_node};
 use parse_graph::Graph;
-use roster_model::{ArcKey, Cell, Cut, Group, Instance, Memory, Side};
-use sample_days::{CELL, DayParts, PAIRS, SPLIT_DAYS};
+use roster_model::{ArcKey, Cut, Instance, Memory, Side};
+use sample_days::{DayParts, FLOOR_CELLS, GROUP_PARTS, PAIR_PARTS};
 use std::alloc::Global;
 use std::test::Fail;
 use tree_pool::Pool;
 
-const PAIR_CELLS: [Cell; 3] = [CELL, Cell { period: 2, ..CELL }, Cell { period: 3, ..CELL }];
-
 /// Two of three periods at 2, where each period needs one employee.
-const PAIR_PARTS: DayParts<'static> = DayParts {
-    periods: 3,
-    names: &["S"],
-    rules: &PAIRS,
-    start: 0,
-    heads: (0, 3),
-    groups: &[],
-    cells: &PAIR_CELLS,
-};
-
 static PAIR_DAY: DayParts<'static> = PAIR_PARTS;
-
-const FLOOR_CELLS: [Cell; 3] = [
-    Cell { floor: 1, ..CELL },
-    Cell {
-        period: 2,
-        floor: 1,
-        ..CELL
-    },
-    Cell {
-        period: 3,
-        floor: 1,
-        ..CELL
-    },
-];
 
 /// The same with one employee, where each period has a floor of one.
 static FLOOR_DAY: DayParts<'static> = DayParts {
@@ -51,42 +25,8 @@ static FLOOR_DAY: DayParts<'static> = DayParts {
     ..PAIR_PARTS
 };
 
-const GROUPS: [Group; 2] = [
-    Group {
-        name: 1,
-        heads_min: 0,
-        heads_max: 1,
-    },
-    Group {
-        name: 2,
-        heads_min: 1,
-        heads_max: 2,
-    },
-];
-
-const GROUP_CELLS: [Cell; 2] = [
-    Cell {
-        need: 2,
-        over: 2,
-        ..CELL
-    },
-    Cell {
-        period: 2,
-        over: 2,
-        ..CELL
-    },
-];
-
 /// Full and half days, of groups of their own.
-static GROUP_DAY: DayParts<'static> = DayParts {
-    periods: 2,
-    names: &["S", "F", "H", "*"],
-    rules: &SPLIT_DAYS,
-    start: 3,
-    heads: (1, 3),
-    groups: &GROUPS,
-    cells: &GROUP_CELLS,
-};
+static GROUP_DAY: DayParts<'static> = GROUP_PARTS;
 
 /// The first part of the first rule of pairs.
 const LOW: Cut = Cut {
