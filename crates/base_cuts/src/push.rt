@@ -1,21 +1,8 @@
 ghost use Rattle.std.specs.Prelude.{◌≡◌, ◌≤◌, ◌<◌, ◌+◌, ◌-◌, ◌++◌, [], ◌∷◌, cond, nat_lt, vec_len, vec_capacity};
-ghost use Rattle.roster_model.specs.Cuts.{group_arc, group_cuts, base_cuts};
+ghost use Rattle.roster_model.specs.Cuts.{group_cuts, base_cuts};
 ghost use Rattle.roster_model.specs.SoundInstance.{IsSoundInstance};
 
-use roster_model::{ArcKey, Cut, Group, Instance, Side};
-
-/// Returns the arc of the rule that adds a group, on the whole day.
-fn group_arc(periods: u8, rule: u8) -> ArcKey
-    ensures { result ≡ group_arc periods rule }
-{
-    ArcKey {
-        rule,
-        suffix: 0,
-        start: 1,
-        len: periods,
-        part: periods,
-    }
-}
+use roster_model::{ArcKey, Cut, Group, Instance, Side, group_arc};
 
 // Adds a Low cut where a group's most employees say more than those of the day. Takes no memory.
 fn push_most(path: &mut Vec<Cut>, arc: ArcKey, most: u32, heads: u32)

@@ -12,13 +12,13 @@ use crate::tree::is_whole_tree;
 use roster_model::{ArcKey, Group, Instance, Mult, Prices, Shift};
 
 /// The greatest cost, bound and price of a shift.
-const MOST_COST: u64 = 1_099_511_627_776;
+pub const MOST_COST: u64 = 1_099_511_627_776;
 
 /// The greatest number of multipliers that a node lists.
 pub const MOST_MULTIPLIERS: usize = 1_500;
 
 /// The greatest size of a price and of a multiplier.
-const MOST_PRICE: i128 = 1_208_925_819_614_629_174_706_176;
+pub const MOST_PRICE: i128 = 1_208_925_819_614_629_174_706_176;
 
 /// Returns whether the certificate is sound: its nodes are one whole tree of at most 20,001, each
 /// number is in its range, there are at most 64 shifts and none without a cost, each word has 1 to 96

@@ -15,7 +15,6 @@ mod next;
 mod pattern_prices;
 mod periods;
 mod ranking;
-mod rules;
 mod word;
 
 pub use answer::Answer;

@@ -1,11 +1,10 @@
-ghost use Rattle.std.specs.Prelude.{◌≡◌, [], ◌∷◌, IfOk, MatchOption, OnOk, ◌++◌};
+ghost use Rattle.std.specs.Prelude.{◌≡◌, IfOk, OnOk, ◌++◌};
 ghost use Rattle.roster_model.specs.Sound.{IsSound};
 ghost use Rattle.roster_model.specs.Trees.{byte_of};
 ghost use Rattle.tree_laws.specs.DaySteps.{AsksParts, AreDaySteps};
 ghost use Rattle.day_questions.specs.Spelled.{AddsWord, GivesWord};
 
-use crate::rules::rule_of;
-use roster_model::{Grammar, List, Memory, Step, Sym};
+use roster_model::{Grammar, List, Memory, Step, Sym, first_and_rest, rule_of};
 
 /// Adds the word of the tree of the day with these rule uses.
 pub fn add_word(grammar: &Grammar, steps: &[Step], out: &mut List<u8>) -> Result<(), Memory>
@@ -55,15 +54,5 @@ fn add_code(grammar: &Grammar, code: u8, out: &mut List<u8>) -> Result<(), Memor
     match grammar.codes.as_slice().get(code as usize) {
         Some(code) => out.push(code.byte),
         None => Ok(()),
-    }
-}
-
-// Returns the first item and those that follow it; `None` where there is none.
-fn first_and_rest<T: Copy>(items: &[T]) -> Option<(T, &[T])>
-    ensures { MatchOption result (items.now ≡ []) (λ p. items.now ≡ p.0 ∷ p.1.now) }
-{
-    match items {
-        [first, rest @ ..] => Some((*first, rest)),
-        [] => None,
     }
 }

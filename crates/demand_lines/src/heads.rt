@@ -8,7 +8,7 @@ use crate::code::name;
 use crate::draft::{Draft, Heads};
 use crate::fault::DemandFault;
 use crate::field::number;
-use roster_model::{Grammar, Group, List};
+use roster_model::{Grammar, Group, List, most_heads};
 use text_lines::Words;
 
 // Reads how many employees may work, at most so many.
@@ -52,18 +52,6 @@ fn has_group(groups: &[Group], name: u8) -> bool
     ensures { result ≡ has_group groups.now name }
 {
     groups.iter().any(|group| group.name == name)
-}
-
-/// Returns the greatest numbers of employees of the groups, at most eight, together.
-pub fn most_heads(groups: &[Group]) -> u64
-    requires { length groups.now ≤ 8 }
-    ensures { result ≡ most_heads groups.now }
-{
-    let mut sum = 0;
-    for group in groups {
-        sum += u64::from(group.heads_max);
-    }
-    sum
 }
 
 // How many employees there may be beside those of the groups.

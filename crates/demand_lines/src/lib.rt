@@ -15,5 +15,5 @@ pub use code::work;
 pub use draft::{Bound, Draft, Heads, Need};
 pub use fault::DemandFault;
 pub use field::number;
-pub use heads::{most_heads, read_group, read_heads};
+pub use heads::{read_group, read_heads};
 pub use message::fault_line;

@@ -1,22 +1,11 @@
-ghost use Rattle.std.specs.Prelude.{◌≡◌, ◌<◌, ◌^◌, [], length};
+ghost use Rattle.std.specs.Prelude.{◌≡◌, []};
 ghost use Rattle.demand_lines.specs.Steps.{Reads, each};
 ghost use Rattle.demand_text.specs.Counts.{count_at, counts_at};
 
 use demand_lines::{DemandFault, number};
 use roster_model::List;
 use std::alloc::Global;
-use text_lines::Words;
-
-fn word_count(words: &mut Words<'_>) -> usize
-    requires { length words.old < 2 ^ 64 }
-    ensures { result ≡ length words.old }
-{
-    let mut n = 0;
-    while let Some(_) = words.next() {
-        n += 1;
-    }
-    n
-}
+use text_lines::{Words, words_left};
 
 fn numbers(alloc: Global, line: u32, words: &mut Words<'_>) -> Result<List<u32>, DemandFault>
     ensures { Reads (λ counts. counts) result (each (count_at line) [] words.old) }
@@ -40,7 +29,7 @@ pub fn counts(
     ensures { Reads (λ counts. counts) result (counts_at line periods words.old) }
 {
     let mut again = words.again();
-    let found = word_count(&mut again);
+    let found = words_left(&mut again);
     if found != periods as usize {
         let found = found.min(u32::MAX as usize) as u32;
         return Err(DemandFault::WrongCount { line, found });

@@ -9,20 +9,9 @@ ghost use Rattle.demand_text.specs.InstanceOf.{least_heads, heads_of, cells_of, 
 
 use crate::cells::cells;
 use crate::extend::day_grammar;
-use demand_lines::{DemandFault, Draft, Heads, most_heads};
-use roster_model::{Cell, Grammar, Group, Instance, List, Memory};
+use demand_lines::{DemandFault, Draft, Heads};
+use roster_model::{Cell, Grammar, Group, Instance, List, Memory, least_heads, most_heads};
 use std::alloc::Global;
-
-fn least_heads(groups: &[Group]) -> u64
-    requires { length groups.now ≤ 8 }
-    ensures { result ≡ least_heads groups.now }
-{
-    let mut sum = 0;
-    for group in groups {
-        sum += u64::from(group.heads_min);
-    }
-    sum
-}
 
 // How many employees may work, with groups and without.
 fn heads_of(heads: Option<Heads>, groups: &[Group]) -> Result<Heads, DemandFault>

@@ -4,8 +4,7 @@ ghost use Rattle.grammar_core.specs.Items.{item_count, AreItems};
 ghost use Rattle.grammar_core.specs.Adding.{AddsItems, Continues, IsItemOf};
 
 use crate::normal::{Item, Second};
-use crate::rules::rule_of;
-use roster_model::{Grammar, List, Memory, Sym};
+use roster_model::{Grammar, List, Memory, Sym, rule_of};
 use std::alloc::Global;
 
 // How many items a rule of so many symbols has.

@@ -7,7 +7,6 @@ mod items;
 mod laws;
 mod normal;
 mod order;
-mod rules;
 mod suffix;
 mod to_items;
 mod to_tree;

@@ -6,9 +6,8 @@ ghost use Rattle.grammar_core.specs.Lists.{AreSteps, AreArcsOf};
 ghost use Rattle.grammar_core.specs.Walks.{next_len as len_of_next, own_arcs, AsksTree, AsksParts, TurnsTree, TurnsParts};
 
 use crate::cursor::Cursor;
-use crate::rules::rule_of;
 use crate::suffix::{Suffix, has_arc};
-use roster_model::{ArcKey, Grammar, List, Memory, Rule, Step, Sym};
+use roster_model::{ArcKey, Grammar, List, Memory, Rule, Step, Sym, rule_of};
 use std::alloc::Global;
 
 /// Returns the arcs of a tree in preorder from its steps: an arc, then the arcs of its first part,

@@ -7,9 +7,8 @@ ghost use Rattle.grammar_core.specs.Lists.{AreArcs, AreStepsOf};
 ghost use Rattle.grammar_core.specs.Walks.{has_arc as has_own_arc, AsksTree, AsksParts, TurnsTree, TurnsParts};
 
 use crate::cursor::Cursor;
-use crate::rules::rule_of;
 use crate::suffix::{Suffix, has_arc};
-use roster_model::{ArcKey, Grammar, List, Memory, Rule, Step, Sym, Tree};
+use roster_model::{ArcKey, Grammar, List, Memory, Rule, Step, Sym, Tree, rule_of};
 use std::alloc::Global;
 
 /// Returns the steps of a tree in preorder from its arcs, as `tree_to_items` gives them.

@@ -9,8 +9,8 @@ ghost use Rattle.next_codes.specs.Pushes.{IsPushing, RightDone, NameDone};
 use crate::lowering::lower_symbol;
 use crate::parts::push_parts;
 use crate::totals::Totals;
-use roster_model::{ArcKey, Grammar, LetterPrice, Rule, Sym};
-use span_cells::{Layout, Span, Suffix, SumCells, add, rule_of, symbol_least};
+use roster_model::{ArcKey, Grammar, LetterPrice, Rule, Sym, rule_of};
+use span_cells::{Layout, Span, Suffix, SumCells, add, symbol_least};
 use span_forms::may_stand;
 
 // Pushes the sum of what stands around the only part of a right side of one symbol to that part.

@@ -13,8 +13,8 @@ use crate::lowering::lower_symbol;
 use crate::names::push_name;
 use crate::parts::push_parts;
 use crate::totals::Totals;
-use roster_model::{Grammar, LetterPrice, Sym};
-use span_cells::{Layout, Slot, Span, SumCells, place_of, rule_of, sum_at, symbol_least};
+use roster_model::{Grammar, LetterPrice, Sym, rule_of};
+use span_cells::{Layout, Slot, Span, SumCells, place_of, sum_at, symbol_least};
 
 // Pushes the total of a slot on a span, where there is one, to the totals of what it is made of.
 fn push_slot<P: LetterPrice>(

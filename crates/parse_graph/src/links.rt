@@ -9,12 +9,11 @@ ghost use Rattle.parse_graph.specs.Linked.{IsListed, UsesListed, AddsNode, uses_
 
 use crate::guesses::Guesses;
 use crate::kid::Kid;
-use crate::level::rule_of;
 use crate::node::NodeKey;
 use crate::room::with_room;
 use crate::rows::Entry;
 use indexmap::IndexSet;
-use roster_model::{ArcKey, Grammar, List, Memory, Sym};
+use roster_model::{ArcKey, Grammar, List, Memory, Sym, rule_of};
 use std::alloc::Global;
 
 /// What each of some arcs makes and uses.

@@ -1,5 +1,5 @@
-ghost use Rattle.std.specs.Prelude.{ℕ, ◌≡◌, ◌≤◌, ◌<◌, ◌+ℤ◌, ◌-ℤ◌, ◌^◌, pos, Some, IfSome, length, map, slice_index_or, slice_set};
-ghost use Rattle.roster_model.specs.Grammar.{rule_at, InDay};
+ghost use Rattle.std.specs.Prelude.{ℕ, ◌≡◌, ◌≤◌, ◌<◌, ◌+ℤ◌, ◌-ℤ◌, ◌^◌, pos, IfSome, length, map, slice_index_or, slice_set};
+ghost use Rattle.roster_model.specs.Grammar.{InDay};
 ghost use Rattle.roster_model.specs.Sound.{IsSound, Exists};
 ghost use Rattle.arc_laws.specs.OrNodes.{made, symbol_node, used};
 ghost use Rattle.span_arcs.specs.Shapes.{IsSplit};
@@ -7,16 +7,7 @@ ghost use Rattle.pinned_part.specs.Places.{node_place, place_count};
 ghost use Rattle.pinned_part.specs.Net.{IsCounted, size_at, one_or_two};
 
 use crate::places::{letter_place, name_place, suffix_place};
-use roster_model::{ArcKey, Grammar, Rule, Sym};
-
-/// Returns the rule of a number.
-pub fn rule_of(grammar: &Grammar, number: u8) -> &Rule
-    requires some { 1 ≤ number }
-    requires within { number ≤ length grammar.now.rules }
-    ensures { rule_at grammar.now number ≡ Some result.now }
-{
-    &grammar.rules.as_slice()[number as usize - 1]
-}
+use roster_model::{ArcKey, Grammar, Sym, rule_of};
 
 // The place of the node that an arc makes.
 fn made_place(grammar: &Grammar, arc: &ArcKey) -> usize

@@ -8,8 +8,8 @@ ghost use Rattle.roster_model.specs.Limits.{IsSmallCut};
 ghost use Rattle.pinned_part.specs.Counted.{AreCounted};
 
 use crate::bounds::low;
-use crate::counting::{count_arc, rule_of};
-use roster_model::{ArcKey, Cut, Grammar};
+use crate::counting::count_arc;
+use roster_model::{ArcKey, Cut, Grammar, rule_of};
 use span_arcs::DayArcs;
 
 /// Returns the cost of the arc's rule where it is the arc of the whole right side, and otherwise 0.

@@ -9,13 +9,12 @@ ghost use Rattle.proof_pieces.specs.Told.{node};
 
 use crate::ahead::Ahead;
 use crate::fault::PieceFault;
-use crate::field::{MOST_PRICE, number, signed};
-use crate::line::word_count;
+use crate::field::{number, signed};
 use crate::lines::next_line;
 use crate::room::CertRoom;
-use certificates::MOST_MULTIPLIERS;
+use certificates::{MOST_MULTIPLIERS, MOST_PRICE};
 use roster_model::{Instance, Mult, base_cut_count};
-use text_lines::{Line, Words};
+use text_lines::{Line, Words, words_left};
 
 /// Returns the byte of the code whose prices are due behind so many prices.
 pub fn due_byte(instance: &Instance, prices: usize) -> u8
@@ -71,7 +70,7 @@ fn price_line(instance: &Instance, room: &mut CertRoom, line: &Line<'_>) -> Resu
         return Err(PieceFault::UnknownLine { line: number });
     }
     let mut rest = words.again();
-    if word_count(&mut rest) != instance.grammar.periods as usize {
+    if words_left(&mut rest) != instance.grammar.periods as usize {
         return Err(PieceFault::UnknownLine { line: number });
     }
     prices(room, number, &mut words)
@@ -117,7 +116,7 @@ fn mult(
 {
     let least = u128::from(room.last_cut()) + 1;
     let cut = number(line, least, u128::from(cuts), cut)? as u32;
-    let value = number(line, 1, MOST_PRICE, value)? as i128;
+    let value = number(line, 1, MOST_PRICE.unsigned_abs(), value)? as i128;
     room.push_mult(Mult { cut, value });
     Ok(())
 }

@@ -2,14 +2,9 @@ ghost use Rattle.std.specs.Prelude.{◌≡◌, ◌+◌, ◌≤◌, ◌<◌, ◌^
 ghost use Rattle.proof_pieces.specs.Fields.{number_at, signed_at, amount_at, has_name, group_at};
 
 use crate::fault::PieceFault;
+use certificates::{MOST_COST, MOST_PRICE};
 use roster_model::{Group, List};
 use text_lines::{NumberFault, read_number, read_within};
-
-/// Costs, bounds and prices of shifts are no greater.
-pub const MOST_COST: u128 = 1_099_511_627_776;
-
-/// Prices of cells and multipliers are no greater in size.
-pub const MOST_PRICE: u128 = 1 << 80;
 
 /// Reads a number from `low` to `high`.
 pub fn number(line: u32, low: u128, high: u128, word: &[u8]) -> Result<u128, PieceFault>
@@ -27,7 +22,9 @@ pub fn signed(line: u32, word: &[u8]) -> Result<i128, PieceFault>
     ensures { result ≡ signed_at line word.now }
 {
     match read_number(word) {
-        Ok(z) if MOST_PRICE < z.unsigned_abs() => Err(PieceFault::OutOfRange { line }),
+        Ok(z) if MOST_PRICE.unsigned_abs() < z.unsigned_abs() => Err(PieceFault::OutOfRange {
+            line,
+        }),
         Ok(z) => Ok(z),
         Err(NumberFault::Form) => Err(PieceFault::BadNumber { line }),
         Err(NumberFault::Wide) => Err(PieceFault::OutOfRange { line }),
@@ -42,7 +39,7 @@ pub fn amount(line: u32, word: &[u8]) -> Result<Option<u64>, PieceFault>
     if word == b"none".as_slice() {
         return Ok(None);
     }
-    let value = number(line, 0, MOST_COST, word)?;
+    let value = number(line, 0, u128::from(MOST_COST), word)?;
     Ok(Some(value as u64))
 }
 

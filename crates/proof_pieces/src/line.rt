@@ -1,4 +1,4 @@
-ghost use Rattle.std.specs.Prelude.{◌≡◌, ◌^◌, ◌<◌, length};
+ghost use Rattle.std.specs.Prelude.{◌≡◌};
 ghost use Rattle.proof_pieces.specs.PieceList.{is_end};
 ghost use Rattle.proof_pieces.specs.PriceLines.{is_mult};
 ghost use Rattle.proof_pieces.specs.ShiftLines.{is_pair, is_header, shift_width, is_shift, amount_line};
@@ -6,19 +6,7 @@ ghost use Rattle.proof_pieces.specs.ShiftLines.{is_pair, is_header, shift_width,
 use crate::fault::PieceFault;
 use crate::field::amount;
 use roster_model::Group;
-use text_lines::{Line, Words};
-
-/// Counts the words that are left.
-pub fn word_count(words: &mut Words<'_>) -> usize
-    requires { length words.old < 2 ^ 64 }
-    ensures { result ≡ length words.old }
-{
-    let mut n = 0;
-    while let Some(_) = words.next() {
-        n += 1;
-    }
-    n
-}
+use text_lines::{Line, Words, words_left};
 
 fn is_pair(words: &mut Words<'_>, first: &[u8], second: &[u8]) -> bool
     ensures { result ≡ is_pair first.now second.now words.old }
@@ -100,7 +88,7 @@ pub fn is_shift(groups: &[Group], line: &Line<'_>) -> bool
         return false;
     }
     let mut rest = words.again();
-    word_count(&mut rest) == shift_width(groups)
+    words_left(&mut rest) == shift_width(groups)
 }
 
 /// Reads a line of a cost or a bound, which begins with this word.

@@ -5,8 +5,9 @@ ghost use Rattle.proof_pieces.specs.declared.fault.PieceFault.TheVariants.{Unkno
 ghost use Rattle.proof_pieces.specs.ShiftLines.{team_at, letters_of, shift_of, shift_at};
 
 use crate::fault::PieceFault;
-use crate::field::{MOST_COST, group, number};
+use crate::field::{group, number};
 use crate::room::CertRoom;
+use certificates::MOST_COST;
 use roster_model::Instance;
 use text_lines::{Line, Words};
 
@@ -93,7 +94,7 @@ fn letters(
     if 96 < word.len() {
         return Err(PieceFault::OutOfRange { line });
     }
-    let price = number(line, 0, MOST_COST, price)? as u64;
+    let price = number(line, 0, u128::from(MOST_COST), price)? as u64;
     room.hold_word(word);
     Ok(ShiftLine { group, price })
 }

@@ -8,8 +8,7 @@ ghost use Rattle.ranked_trees.specs.Children.{IsUseSum, HasNoSum, AreChildrenTo,
 use crate::candidate::{Child, inside};
 use crate::frame::Frame;
 use crate::sums::{Sums, frame_least, part_price};
-use roster_model::{Grammar, LetterPrice, Memory, Step, Sym};
-use span_cells::rule_of;
+use roster_model::{Grammar, LetterPrice, Memory, Step, Sym, rule_of};
 use span_forms::may_stand;
 use std::alloc::Global;
 

@@ -1,8 +1,8 @@
 ghost use Rattle.std.specs.Prelude.{◌≡◌, ◌≤◌, ◌<◌, ◌+◌, Some, length, slice_get};
 ghost use Rattle.ranked_trees.specs.Frames.{IsFrame, right_of, after_part};
 
-use roster_model::{Grammar, Sym};
-use span_cells::{Span, Suffix, rule_of};
+use roster_model::{Grammar, Sym, rule_of};
+use span_cells::{Span, Suffix};
 
 /// Symbols of a rule's right side from one of them on, which are still to be derived on a span. The
 /// number 0 in place of a rule's stands for two start names; so its place 1 is the start name alone.

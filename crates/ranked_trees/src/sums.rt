@@ -5,10 +5,8 @@ ghost use Rattle.roster_model.specs.Trees.{Parts as Derived};
 ghost use Rattle.ranked_trees.specs.Frames.{IsSums, IsFrame, OnFrame, right_of, after_part};
 
 use crate::frame::Frame;
-use roster_model::{ArcKey, Grammar, LetterPrice, Rule, Sym};
-use span_cells::{
-    Layout, Span, Suffix, SumCells, add, least_part, rest_least, rule_of, symbol_least,
-};
+use roster_model::{ArcKey, Grammar, LetterPrice, Rule, Sym, rule_of};
+use span_cells::{Layout, Span, Suffix, SumCells, add, least_part, rest_least, symbol_least};
 
 /// The least sums of all names and suffixes on all spans of the day.
 #[derive(Drop)]

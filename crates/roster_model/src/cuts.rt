@@ -1,11 +1,25 @@
 ghost use Rattle.std.specs.Prelude.{◌≡◌, ◌≤◌, length};
-ghost use Rattle.roster_model.specs.Cuts.{group_cut_count, base_cuts};
+ghost use Rattle.roster_model.specs.Cuts.{group_arc, group_cut_count, base_cuts};
 ghost use Rattle.roster_model.specs.Folds.{sum_n};
 
+use crate::grammar::ArcKey;
 use crate::instance::{Group, Instance};
 
 /// With how many cuts a path may begin: two for each group.
 pub const MOST_BASE_CUTS: usize = 16;
+
+/// Returns the arc of the rule that adds a group, on the whole day.
+pub fn group_arc(periods: u8, rule: u8) -> ArcKey
+    ensures { result ≡ group_arc periods rule }
+{
+    ArcKey {
+        rule,
+        suffix: 0,
+        start: 1,
+        len: periods,
+        part: periods,
+    }
+}
 
 /// Returns the number of the cuts with which every path begins, at most 16.
 #[tactic(auto, using(crate::proofs::CutCounts::base_length))]

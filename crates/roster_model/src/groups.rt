@@ -117,7 +117,8 @@ fn have_heads(instance: &Instance) -> bool
         && u64::from(instance.heads_max) == most_heads(groups)
 }
 
-fn least_heads(groups: &[Group]) -> u64
+/// Returns the least numbers of employees of the groups, at most eight, together.
+pub fn least_heads(groups: &[Group]) -> u64
     requires { length groups.now ≤ 8 }
     ensures { result ≡ sum_n (λ (g : Group). g.heads_min) groups.now }
 {
@@ -128,7 +129,8 @@ fn least_heads(groups: &[Group]) -> u64
     sum
 }
 
-fn most_heads(groups: &[Group]) -> u64
+/// Returns the greatest numbers of employees of the groups, at most eight, together.
+pub fn most_heads(groups: &[Group]) -> u64
     requires { length groups.now ≤ 8 }
     ensures { result ≡ sum_n (λ (g : Group). g.heads_max) groups.now }
 {

@@ -1,4 +1,4 @@
-ghost use Rattle.std.specs.Prelude.{◌≡◌, ◌↔◌, [], ◌∷◌, ◌++◌, length, take, IsTrue, OnOk, OnErr};
+ghost use Rattle.std.specs.Prelude.{◌≡◌, ◌↔◌, [], ◌∷◌, ◌++◌, length, take, IsTrue, OnOk, OnErr, MatchOption};
 
 use crate::Memory;
 use std::alloc::Global;
@@ -117,4 +117,14 @@ impl<T: Eq> Eq for List<T> {
     ghost use Rattle.std.specs.Cmp.Lexicographic.{lists_equiv};
 
     ghost laws = { lists_equiv T.Eq.laws };
+}
+
+/// Returns the first item and those that follow it; `None` where there is none.
+pub fn first_and_rest<T: Copy>(items: &[T]) -> Option<(T, &[T])>
+    ensures { MatchOption result (items.now ≡ []) (λ p. items.now ≡ p.0 ∷ p.1.now) }
+{
+    match items {
+        [first, rest @ ..] => Some((*first, rest)),
+        [] => None,
+    }
 }

@@ -1,4 +1,4 @@
-ghost use Rattle.std.specs.Prelude.{◌≡◌, ◌==◌, ◌≤◌, ◌<◌, ◌^◌, Some, None, is_some, length, position, IfSome, MatchOption};
+ghost use Rattle.std.specs.Prelude.{◌≡◌, ◌==◌, ◌≤◌, Some, None, is_some, length, position, IfSome, MatchOption};
 ghost use Rattle.std.specs.List.{list_all};
 ghost use Rattle.proof_pieces.specs.Fields.{has_name};
 ghost use Rattle.proof_pieces.specs.ShiftLines.{is_pair, version};
@@ -22,7 +22,7 @@ ghost use Rattle.roster_report.specs.LineWords.{
 
 use crate::part::{Part, part_name};
 use roster_model::{Done, Group, List};
-use text_lines::{Line, Words, read_natural};
+use text_lines::{Line, Words, read_natural, words_left};
 
 /// The number that a word says, where it is no greater than `most`.
 #[tactic(auto, unfolding(crate::specs::LineWords::number_word))]
@@ -279,18 +279,6 @@ fn is_count(word: &[u8]) -> bool
     number_word(u32::MAX as u64, word).is_some()
 }
 
-// Counts the words that are left.
-fn word_count(words: &mut Words<'_>) -> usize
-    requires { length words.old < 2 ^ 64 }
-    ensures { result ≡ length words.old }
-{
-    let mut n = 0;
-    while let Some(_) = words.next() {
-        n += 1;
-    }
-    n
-}
-
 // Whether all words that are left are numbers of 32 bits.
 fn are_counts(words: &mut Words<'_>) -> bool
     ensures { result ≡ list_all is_count words.old }
@@ -307,7 +295,7 @@ fn has_length(words: &Words<'_>, periods: u8) -> bool
     ensures { result ≡ (length words.now == periods) }
 {
     let mut again = words.again();
-    word_count(&mut again) == periods as usize
+    words_left(&mut again) == periods as usize
 }
 
 /// The words of the numbers of a line for this part of a code's cells.

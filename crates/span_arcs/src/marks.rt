@@ -9,8 +9,8 @@ ghost use Rattle.span_arcs.specs.Marks.{free_view, mark, TreesStand, PartsStand,
 
 use crate::derive::{rest_derives, symbol_derives};
 use crate::free_cells::FreeCells;
-use roster_model::{Grammar, Rule, Sym};
-use span_cells::{Layout, Slot, Span, Suffix, place_of, rule_of, slot_of, split_points};
+use roster_model::{Grammar, Rule, Sym, rule_of};
+use span_cells::{Layout, Slot, Span, Suffix, place_of, slot_of, split_points};
 use span_forms::may_stand;
 
 // Marks a symbol on a span: a name by its slot, and a code not at all.

@@ -10,8 +10,8 @@ ghost use Rattle.span_arcs.specs.Marks.{free_view, AreMarked, HasSplit};
 
 use crate::arcs::has_split;
 use crate::free_cells::FreeCells;
-use roster_model::{ArcKey, Grammar, List, Memory, Rule};
-use span_cells::{Layout, Periods, Span, Suffix, rule_of, split_points};
+use roster_model::{ArcKey, Grammar, List, Memory, Rule, rule_of};
+use span_cells::{Layout, Periods, Span, Suffix, split_points};
 
 // The length of the next longer first part with which a suffix of two or more symbols has parts on a
 // span, whose split points are given.

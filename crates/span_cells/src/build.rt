@@ -7,9 +7,8 @@ ghost use Rattle.span_cells.specs.Building.{AddsSuffixes, SuffixSlots, NameSlots
 
 use crate::chains::Chains;
 use crate::lengths::slot_lengths;
-use crate::names::rule_of;
 use crate::slot::{Layout, Slot, Suffix};
-use roster_model::{Grammar, List, Memory, unit_ranks};
+use roster_model::{Grammar, List, Memory, rule_of, unit_ranks};
 use span_forms::SpanIndex;
 use std::alloc::Global;
 

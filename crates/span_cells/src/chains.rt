@@ -2,8 +2,7 @@ ghost use Rattle.std.specs.Prelude.{IfOk};
 ghost use Rattle.roster_model.specs.Sound.{IsSound};
 ghost use Rattle.span_cells.specs.Chains.{AreChained};
 
-use crate::names::rule_of;
-use roster_model::{Grammar, Memory};
+use roster_model::{Grammar, Memory, rule_of};
 use std::alloc::Global;
 
 /// The rules of each name, by rising numbers: where there is no further one, the number is one past

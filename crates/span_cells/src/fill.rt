@@ -8,10 +8,10 @@ ghost use Rattle.span_cells.specs.Cells.{IsReady, IsPut, AreMade, SlotLeast, Fit
 
 use crate::cells::Cells;
 use crate::layout::spot_of;
-use crate::names::{least_rule, rule_of};
+use crate::names::least_rule;
 use crate::parts::least_part;
 use crate::slot::{Layout, Slot, Span};
-use roster_model::{Grammar, LetterPrice};
+use roster_model::{Grammar, LetterPrice, rule_of};
 
 // The least sum of what a slot stands for on a span.
 fn slot_least<P: LetterPrice, C: Cells>(

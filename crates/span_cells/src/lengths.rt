@@ -6,9 +6,8 @@ ghost use Rattle.span_cells.specs.declared.slot.Slot.{Slot as Use};
 ghost use Rattle.span_cells.specs.Building.{IsSlotOf};
 ghost use Rattle.span_cells.specs.Lengths.{IsAmong, Hold, HoldNames, HoldRule, HoldSlot, AreLengths, NamesWithin};
 
-use crate::names::rule_of;
 use crate::slot::Slot;
-use roster_model::{Grammar, Memory, Rule, Sym, Window};
+use roster_model::{Grammar, Memory, Rule, Sym, Window, rule_of};
 use std::alloc::Global;
 
 /// Lengths that spans can have, from the least to the greatest.

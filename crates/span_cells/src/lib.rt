@@ -27,7 +27,7 @@ pub use chains::Chains;
 pub use fill::fill_cells;
 pub use layout::{count_cells, count_spots, number_at, place_of, slot_of, sum_at};
 pub use lengths::Lengths;
-pub use names::{least_rule, rule_of};
+pub use names::least_rule;
 pub use parts::{least_part, rest_least, symbol_least};
 pub use periods::Periods;
 pub use points::split_points;

@@ -12,17 +12,8 @@ use crate::cells::Cells;
 use crate::parts::{least_part, symbol_least};
 use crate::slot::{Layout, Span, Suffix};
 use crate::sums::{self, Choice};
-use roster_model::{ArcKey, Grammar, LetterPrice, Rule, Sym};
+use roster_model::{ArcKey, Grammar, LetterPrice, Rule, Sym, rule_of};
 use span_forms::may_stand;
-
-/// Returns the rule of a number.
-pub fn rule_of(grammar: &Grammar, number: u8) -> &Rule
-    requires some { 1 ≤ number }
-    requires within { number ≤ length grammar.now.rules }
-    ensures { rule_at grammar.now number ≡ Some result.now }
-{
-    &grammar.rules.as_slice()[number as usize - 1]
-}
 
 /// Returns the least sum of the parts of a rule's right side on a span.
 pub fn right_least<P: LetterPrice, C: Cells>(

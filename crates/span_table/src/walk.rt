@@ -1,8 +1,8 @@
 ghost use Rattle.span_table.specs.Walks.{AsksTree, AsksParts, WritesTree, WritesParts};
 ghost use Rattle.std.specs.Prelude.{drop};
 
-use roster_model::{Grammar, LetterPrice, Rule, Step, Sym, TreeRoom};
-use span_cells::{Layout, Span, Suffix, SumCells, least_part, least_rule, rule_of};
+use roster_model::{Grammar, LetterPrice, Rule, Step, Sym, TreeRoom, rule_of};
+use span_cells::{Layout, Span, Suffix, SumCells, least_part, least_rule};
 
 /// Adds the steps of a tree of least sum of a symbol on a span. Takes no memory.
 #[cycle(walk)]

@@ -22,4 +22,4 @@ pub use line::{BadByte, Line};
 pub use lines::{Lines, written_again};
 pub use number::{NumberFault, number_again, read_natural, read_number, write_number};
 pub use within::read_within;
-pub use words::Words;
+pub use words::{Words, words_left};

@@ -102,3 +102,15 @@ impl<'a> Words<'a> {
         }
     }
 }
+
+/// Counts the words that are left, and takes them.
+pub fn words_left(words: &mut Words<'_>) -> usize
+    requires { length words.old < 2 ^ 64 }
+    ensures { result ≡ length words.old }
+{
+    let mut n = 0;
+    while let Some(_) = words.next() {
+        n += 1;
+    }
+    n
+}

@@ -3,8 +3,7 @@ ghost use Rattle.roster_model.specs.Folds.{sum_n};
 ghost use Rattle.roster_model.specs.Sound.{IsSound};
 ghost use Rattle.tree_pool.specs.Costs.{HasRule, step_cost};
 
-use crate::rules::rule_of;
-use roster_model::{Grammar, Step};
+use roster_model::{Grammar, Step, rule_of};
 
 /// Returns the sum of the costs of the rules of some steps.
 pub fn cost_of(grammar: &Grammar, steps: &[Step]) -> u32

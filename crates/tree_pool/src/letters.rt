@@ -1,10 +1,9 @@
-ghost use Rattle.std.specs.Prelude.{◌≡◌, [], ◌∷◌, IfOk, MatchOption};
+ghost use Rattle.std.specs.Prelude.{◌≡◌, IfOk};
 ghost use Rattle.roster_model.specs.Sound.{IsSound};
 ghost use Rattle.tree_laws.specs.DaySteps.{AsksParts, AreDaySteps};
 ghost use Rattle.tree_pool.specs.Letters.{GivesCodes, AreCodesOf};
 
-use crate::rules::rule_of;
-use roster_model::{Grammar, List, Memory, Step, Sym};
+use roster_model::{Grammar, List, Memory, Step, Sym, first_and_rest, rule_of};
 use std::alloc::Global;
 
 /// Returns the codes of the letters of a tree of the day, in their order.
@@ -47,15 +46,5 @@ fn add_codes<'a>(
             let left = add_codes(grammar, rule.right.as_slice(), below, codes)?;
             add_codes(grammar, others, left, codes)
         }
-    }
-}
-
-// Returns the first item and those that follow it; `None` where there is none.
-fn first_and_rest<T: Copy>(items: &[T]) -> Option<(T, &[T])>
-    ensures { MatchOption result (items.now ≡ []) (λ p. items.now ≡ p.0 ∷ p.1.now) }
-{
-    match items {
-        [first, rest @ ..] => Some((*first, rest)),
-        [] => None,
     }
 }

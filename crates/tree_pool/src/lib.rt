@@ -8,7 +8,6 @@ mod facts;
 mod letters;
 mod order;
 mod pool;
-mod rules;
 mod tree;
 
 pub use pool::Pool;

@@ -1,7 +1,7 @@
 ghost use Rattle.std.specs.Prelude.{◌≡◌, ◌≤◌, Some, length};
 ghost use Rattle.roster_model.specs.Grammar.{rule_at};
 
-use roster_model::{Grammar, Rule};
+use crate::grammar::{Grammar, Rule};
 
 /// Returns the rule of a number.
 pub fn rule_of(grammar: &Grammar, number: u8) -> &Rule

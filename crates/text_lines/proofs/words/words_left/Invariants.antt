@@ -1,5 +1,5 @@
 use Rattle.std.proofs.Common.{◌≡◌, ◌+◌, length}
-use Rattle.demand_text.proofs.counts.word_count.Given as goal
+use Rattle.text_lines.proofs.words.words_left.Given as goal
 
 abbrev pub invariant-loop-n : goal.invariant-loop-n
 invariant-loop-n l = length l.fn.words ≡ l.n + length l.words

@@ -1,8 +1,0 @@
-use Rattle.std.proofs.Common.{◌≡◌, ◌+◌, length}
-use Rattle.roster_report.proofs.said.word_count.Given as goal
-
-abbrev pub invariant-loop-n : goal.invariant-loop-n
-invariant-loop-n l = length l.fn.words ≡ l.n + length l.words
-
-abbrev pub decreases-loop-n : goal.decreases-loop-n
-decreases-loop-n l = length l.words
