@@ -1,0 +1,4 @@
+pub mod Searches
+pub mod Heights
+pub mod LeastTrees
+pub mod Values
