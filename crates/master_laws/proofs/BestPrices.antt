@@ -45,14 +45,14 @@ are_best i cuts y kappa v q p sound busy below value prices rounded = record {
 }
 
 -- the loss is below the denominator
-small_loss : (i : Instance) (p : Prices) (cuts : List Cut) → IsSoundInstance i → length cuts ≤ 1500 → 1 ≤ p.d → loss i p cuts < p.d
+pub small_loss : (i : Instance) (p : Prices) (cuts : List Cut) → IsSoundInstance i → length cuts ≤ 1500 → 1 ≤ p.d → loss i p cuts < p.d
 small_loss i p cuts sound few some = by (nat_eq p.d rounding_denominator) refl
   where
     by : (b : Bool) → nat_eq p.d rounding_denominator ≡ b → cond b (rounding_loss i (length cuts)) 0 < p.d
     by true e = let d = eqb-true p.d rounding_denominator e in omega (arith, loss-le i sound (length cuts) few)
     by false e = omega arith
 
-rounded_up-ge : (v : ℤ) (d c e : ℕ) → 0 < d → e < d → (pos c *ℤ pos d) ≤ℤ (v +ℤ pos e) → c ≤ rounded_up v d
+pub rounded_up-ge : (v : ℤ) (d c e : ℕ) → 0 < d → e < d → (pos c *ℤ pos d) ≤ℤ (v +ℤ pos e) → c ≤ rounded_up v d
 rounded_up-ge (negsuc n) d c e h k l = none c (omega (arith, ints))
   where
     none : (c : ℕ) → c * d < d → c ≤ 0

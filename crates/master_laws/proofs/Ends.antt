@@ -17,11 +17,11 @@ use Rattle.master_laws.specs.Ends.{tree_first, tree_weights, other_first, other_
 use Rattle.master_laws.proofs.RowSums.{master_sound}
 
 -- ---- trees first
-sum_append : {K : Type 0} (f : K → ℤ) (xs ys : List (Weighted K)) → weighted_sum f (xs ++ ys) ≡ weighted_sum f xs +ℤ weighted_sum f ys
+pub sum_append : {K : Type 0} (f : K → ℤ) (xs ys : List (Weighted K)) → weighted_sum f (xs ++ ys) ≡ weighted_sum f xs +ℤ weighted_sum f ys
 sum_append f [] ys = omega (arith, ints)
 sum_append f (x ∷ xs) ys = omega (arith, ints, sum_append f xs ys)
 
-each_append : {K : Type 0} (P : K → Type 0) (xs ys : List (Weighted K)) → Each P xs → Each P ys → Each P (xs ++ ys)
+pub each_append : {K : Type 0} (P : K → Type 0) (xs ys : List (Weighted K)) → Each P xs → Each P ys → Each P (xs ++ ys)
 each_append P [] ys h k = k
 each_append P (x ∷ xs) ys h k = (h.0, each_append P xs ys h.1 k)
 

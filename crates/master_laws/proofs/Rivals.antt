@@ -96,7 +96,7 @@ module _ (i : Instance) (p : Prices) (cuts : List Cut) (z : Option ℤ) (sound :
   abbrev xs : List ℤ
   xs = numbers p.mult 1 cuts
 
-  rows : List RowPrice
+  pub rows : List RowPrice
   rows = built i ds.lines hs.least hs.most cuts xs
 
   rows_are : rows_in rows ≡ rows_of i cuts
@@ -132,10 +132,10 @@ module _ (i : Instance) (p : Prices) (cuts : List Cut) (z : Option ℤ) (sound :
       let b = hs.share in
       omega (arith, ints)
 
-  out : IsPricedOut (master i cuts) (price_at rows) (pos p.d)
+  pub out : IsPricedOut (master i cuts) (price_at rows) (pos p.d)
   out = subst (λ (xs : List Row). IsPricedOut (program_of i xs) (price_at rows) (pos p.d)) rows_are (priced_out i (pos p.d) rows good tree_paid)
 
-  value_shown : lagrangian_sum i p cuts z ≤ℤ dot (master i cuts).rows (price_at rows) (master i cuts).right
+  pub value_shown : lagrangian_sum i p cuts z ≤ℤ dot (master i cuts).rows (price_at rows) (master i cuts).right
   value_shown = subst (λ (xs : List Row). lagrangian_sum i p cuts z ≤ℤ dot (length xs) (price_at rows) (number_at (λ (r : Row). pos r.right) xs)) rows_are shown
 
   pub shows_less : (v : ℤ) (q : ℕ) → IsValue (master i cuts) v q → (lagrangian_sum i p cuts z *ℤ pos q) ≤ℤ (v *ℤ pos p.d)

@@ -10,7 +10,6 @@ ghost use Rattle.master_rows.specs.Entries.{with_entry, AreListed};
 use crate::rows::CellLetter;
 use pivot_rows::Place;
 use roster_model::{Cut, List, Memory};
-use std::alloc::Global;
 use tree_pool::Pool;
 
 /// The entries of a column, listed row by row.
@@ -22,14 +21,13 @@ pub(crate) struct Entries {
 }
 
 impl Entries {
-    /// Returns the entries of no row.
-    pub(crate) fn new(alloc: Global) -> Entries
+    /// Returns the entries of no row, in the memory of a list, whatever it held.
+    pub(crate) fn over(list: List<Place>) -> Entries
         ensures { result ≡ record { places = []; rows = 0 } }
     {
-        Entries {
-            places: List::new(alloc),
-            rows: 0,
-        }
+        let mut places = list;
+        places.truncate(0);
+        Entries { places, rows: 0 }
     }
 
     /// Returns the entries that are not 0.

@@ -9,5 +9,5 @@ mod rows;
 mod sense;
 
 pub use ranking::reduced_at;
-pub use rows::{NodeRows, count_rows};
+pub use rows::{NodeRows, artificial_price, count_rows};
 pub use sense::Sense;

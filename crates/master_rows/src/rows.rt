@@ -18,7 +18,7 @@ use crate::building::Kind;
 use crate::entries::Entries;
 use crate::sense::Sense;
 use pivot_rows::Place;
-use roster_model::{Cell, Cut, Instance, List, Memory};
+use roster_model::{Cell, Cut, Instance, List, Memory, greatest_cost};
 use std::alloc::Global;
 use tree_pool::Pool;
 
@@ -30,6 +30,15 @@ pub fn count_rows(instance: &Instance, cuts: &[Cut]) -> usize
 {
     let cells = instance.cells.as_slice();
     cells.len() + count_floors(cells) + count_ceilings(cells) + 2 + cuts.len()
+}
+
+/// Returns what an artificial column costs: more than any roster for each of 64 employees. Takes no memory.
+pub fn artificial_price(instance: &Instance) -> i64
+    requires { IsSoundInstance instance.now }
+    ensures { result ≡ pos (artificial_cost instance.now) }
+{
+    let price = 64 * (greatest_cost(instance) + 1);
+    price as i64
 }
 
 /// Returns how many cells have a row of their floor.
@@ -151,7 +160,24 @@ impl NodeRows {
             IsColumn (length (rows_of i cuts.now)) (number_at (λ r. pos (r.brings t)) (rows_of i cuts.now))
             places) }
     {
-        let mut entries = Entries::new(alloc);
+        self.put_places(List::new(alloc), cuts, pool, column)
+    }
+
+    /// Returns the same entries in the memory of a list, whatever it held.
+    pub fn put_places(
+        &self,
+        room: List<Place>,
+        cuts: &[Cut],
+        pool: &Pool,
+        column: usize,
+    ) -> Result<List<Place>, Memory>
+        requires column { column < length pool.now }
+        ensures { IfOk result (λ places. (i : Day) (t : Parts) (x : PoolTree) → AreRows i cuts.now self.now →
+            slice_get pool.now column ≡ Some x → IsPoolTree i.grammar t x →
+            IsColumn (length (rows_of i cuts.now)) (number_at (λ r. pos (r.brings t)) (rows_of i cuts.now))
+            places) }
+    {
+        let mut entries = Entries::over(room);
         entries.add_letters(self.letters.as_slice(), pool.codes(column))?;
         entries.add(true)?;
         entries.add(true)?;

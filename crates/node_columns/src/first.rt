@@ -12,9 +12,9 @@ ghost use Rattle.node_columns.specs.Columns.{AreTold, HasMissing, HasBeyonds, Ha
 
 use crate::desk::{Desk, Held, Kind};
 use crate::trees::tree_column;
-use master_rows::NodeRows;
+use master_rows::{NodeRows, artificial_price};
 use pivot_rows::Place;
-use roster_model::{Cut, Instance, List, Memory, PriceRoom, TreeRoom, greatest_cost};
+use roster_model::{Cut, Instance, List, Memory, PriceRoom, TreeRoom};
 use std::alloc::Global;
 use tree_pool::Pool;
 
@@ -29,15 +29,6 @@ fn one_place(alloc: Global, row: usize, value: i64) -> Result<List<Place>, Memor
         value,
     })?;
     Ok(places)
-}
-
-/// Returns what an artificial column costs.
-fn artificial_price(instance: &Instance) -> i64
-    requires { IsSoundInstance instance.now }
-    ensures { result ≡ pos (artificial_cost instance.now) }
-{
-    let price = 64 * (greatest_cost(instance) + 1);
-    price as i64
 }
 
 /// Lists the column of what is missing in each row, in the order of the rows.

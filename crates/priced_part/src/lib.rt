@@ -12,3 +12,4 @@ mod shares;
 pub use derived::derived_names;
 pub use infeasible::is_plainly_infeasible;
 pub use priced::{priced_value, value_from_least};
+pub use shares::lagrangian_sum;

@@ -124,7 +124,7 @@ fn cuts_share(mult: &[Mult], cuts: &[Cut]) -> i128
 }
 
 /// Returns the shares of the trees, the cells and the cuts together.
-pub(crate) fn lagrangian_sum(
+pub fn lagrangian_sum(
     instance: &Instance,
     d: u64,
     cell: &[i128],

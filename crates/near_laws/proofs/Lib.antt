@@ -1,0 +1,5 @@
+pub mod NearBest
+pub mod CompletedLemmas
+pub mod LeastCompleted
+pub mod NearTrees
+pub mod NearCounts
