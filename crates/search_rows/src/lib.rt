@@ -7,3 +7,5 @@ mod days;
 mod leaves;
 #[cfg(test)]
 mod masters;
+#[cfg(test)]
+mod near;

@@ -16,7 +16,7 @@ use std::test::Fail;
 use tree_pool::Pool;
 
 /// Two of three periods at 2, where each period needs one employee.
-static PAIR_DAY: DayParts<'static> = PAIR_PARTS;
+pub static PAIR_DAY: DayParts<'static> = PAIR_PARTS;
 
 /// The same with one employee, where each period has a floor of one.
 static FLOOR_DAY: DayParts<'static> = DayParts {
@@ -29,7 +29,7 @@ static FLOOR_DAY: DayParts<'static> = DayParts {
 static GROUP_DAY: DayParts<'static> = GROUP_PARTS;
 
 /// The first part of the first rule of pairs.
-const LOW: Cut = Cut {
+pub const LOW: Cut = Cut {
     arc: ArcKey {
         rule: 1,
         suffix: 0,
@@ -41,7 +41,7 @@ const LOW: Cut = Cut {
     b: 0,
 };
 
-const HIGH: Cut = Cut {
+pub const HIGH: Cut = Cut {
     side: Side::High,
     ..LOW
 };
@@ -89,7 +89,7 @@ fn are_listed_cuts(graph: &Graph, cuts: &[Cut]) -> bool
 }
 
 /// Returns whether the cuts are on arcs of the day, and not too many.
-fn are_node_cuts(day: &Instance, graph: &Graph, cuts: &[Cut]) -> bool
+pub fn are_node_cuts(day: &Instance, graph: &Graph, cuts: &[Cut]) -> bool
     requires { IsGraph day.now.grammar graph.now }
     ensures cuts { IsTrue result → Each (IsNodeCut day.now) cuts.now }
     ensures few { IsTrue result → length cuts.now < 2 ^ 31 }
@@ -100,12 +100,12 @@ fn are_node_cuts(day: &Instance, graph: &Graph, cuts: &[Cut]) -> bool
 /// What masters of a day are lent.
 #[derive(Drop)]
 pub struct Lent {
-    pricer: Pricer,
-    pool: Pool,
-    tally: Tally,
+    pub pricer: Pricer,
+    pub pool: Pool,
+    pub tally: Tally,
 }
 
-fn lent_for(alloc: Global, day: &Instance, graph: &Graph) -> Result<Lent, Memory>
+pub fn lent_for(alloc: Global, day: &Instance, graph: &Graph) -> Result<Lent, Memory>
     ensures { IfOk result (λ l. AreLent day.now graph.now l.pricer l.pool) }
 {
     Ok(Lent {
