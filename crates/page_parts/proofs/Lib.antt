@@ -1,1 +1,3 @@
 pub mod ElementsLemmas
+mod EscapeLemmas
+pub mod PaintLemmas
