@@ -31,6 +31,10 @@ abbrev pub name_word : List (List ℕ) → Option Group → List ℕ
 name_word names None = []
 name_word names (Some g) = slice_index_or names g.name []
 
+-- the name of the group of this number, or nothing on a day without groups
+abbrev pub group_name : Instance → ℕ → List ℕ
+group_name i group = name_word i.grammar.names (slice_get i.groups (group - 1))
+
 -- with groups a shift's word stands behind the name of its group
 abbrev pub shift_words : Instance → List Group → Shift → List (List ℕ)
 shift_words i [] s = codes "shift" ∷ s.word ∷ decimal s.price ∷ []

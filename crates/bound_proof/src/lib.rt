@@ -35,4 +35,4 @@ pub use proof_pieces::{
     told_before_a_fault, told_pieces_are_sound,
 };
 pub use read::read_cert;
-pub use write::{amount_line, shift_lines, write_cert};
+pub use write::{amount_line, group_name, shift_lines, write_cert};

@@ -1,4 +1,4 @@
-ghost use Rattle.std.specs.Prelude.{◌≡◌, ◌≤◌, ◌+◌, ◌-◌, ◌*◌, ◌/◌, ◌++◌, [], ◌∷◌, All, codes as text, length, map, slice_get, IfOk, OnOk};
+ghost use Rattle.std.specs.Prelude.{◌≡◌, ◌≤◌, ◌+◌, ◌*◌, ◌/◌, ◌++◌, [], ◌∷◌, All, codes as text, length, map, IfOk, OnOk};
 ghost use Rattle.text_lines.specs.Numbers.{number_text};
 ghost use Rattle.text_lines.specs.Written.{written, tail};
 ghost use Rattle.roster_model.specs.Folds.{sum_n};
@@ -9,7 +9,7 @@ ghost use Rattle.bound_proof.specs.Written.{
   header_words,
   amount_word,
   amount_words,
-  name_word,
+  group_name,
   shift_line,
   head_words,
   price_words,
@@ -64,11 +64,11 @@ pub fn amount_line(out: &mut List<u8>, first: &[u8], value: Option<u64>) -> Resu
     Ok(())
 }
 
-// The name of a group, by the group's number.
-fn team_name(instance: &Instance, team: u8) -> &[u8]
-    ensures { result.now ≡ name_word instance.now.grammar.names (slice_get instance.now.groups (team - 1)) }
+/// Returns the name of the group of this number, or nothing on a day without groups.
+pub fn group_name(instance: &Instance, group: u8) -> &[u8]
+    ensures { result.now ≡ group_name instance.now group }
 {
-    let place = (team as usize).saturating_sub(1);
+    let place = (group as usize).saturating_sub(1);
     match instance.groups.as_slice().get(place) {
         None => b"",
         Some(group) => match instance.grammar.names.as_slice().get(group.name as usize) {
@@ -83,7 +83,7 @@ fn shift_line(out: &mut List<u8>, instance: &Instance, shift: &Shift) -> Result<
 {
     put(out, b"shift")?;
     if !instance.groups.is_empty() {
-        word(out, team_name(instance, shift.group))?;
+        word(out, group_name(instance, shift.group))?;
     }
     word(out, shift.word.as_slice())?;
     field(out, shift.price)?;
