@@ -6,11 +6,12 @@ use Rattle.text_lines.specs.Refusals.{begins}
 use Rattle.roster_model.specs.Folds.{Each, count}
 use Rattle.roster_model.specs.Names.{is_window_word}
 use Rattle.rules_text.specs.declared.fault.RulesFault.{RulesFault}
+use Rattle.rules_text.specs.declared.fault.RulesFault.TheVariants.{NoPeriods, NoStart, NoRule, UnitCycle}
 use Rattle.rules_text.specs.declared.draft.Draft.{Draft}
 use Rattle.rules_text.specs.Steps.{each}
 use Rattle.rules_text.specs.RuleLine.{are_windows}
 use Rattle.rules_text.specs.Lines.{item_at}
-use Rattle.rules_text.specs.RulesOf.{no_draft, draft_of}
+use Rattle.rules_text.specs.RulesOf.{no_draft, draft_of, finish, IsOutcome}
 use Rattle.rules_text.specs.FaultLine.{line_of}
 
 -- words of one of the five forms
@@ -48,6 +49,17 @@ pub record IsFirstRefused (text : List ℕ) (e : RulesFault) : Type 0 where
   pub refused : item_at draft line ≡ Err e
   pub carried : line_of e ≡ Some (number_of line)
 
--- every line stands
-abbrev pub AllStand : List ℕ → Type 0
-AllStand text = (d : Draft) × (draft_of text ≡ Ok d)
+-- a fault that no line has by itself: no periods, no start, a name without a rule, a cycle
+abbrev pub IsOfWhole : RulesFault → Type 0
+IsOfWhole NoPeriods = Unit {0}
+IsOfWhole NoStart = Unit {0}
+IsOfWhole (NoRule line word) = Unit {0}
+IsOfWhole (UnitCycle line word) = Unit {0}
+IsOfWhole _ = ⊥
+
+-- every line stands, and what the lines make together has the fault
+pub record IsRefusedWhole (text : List ℕ) (e : RulesFault) : Type 0 where
+  pub draft : Draft
+  pub stand : draft_of text ≡ Ok draft
+  pub outcome : IsOutcome (finish draft) (Err e)
+  pub of_whole : IsOfWhole e

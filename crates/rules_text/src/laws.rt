@@ -3,7 +3,7 @@ ghost use Rattle.roster_model.specs.declared.grammar.Grammar.{Grammar};
 ghost use Rattle.roster_model.specs.Sound.{IsSound, IsPlain};
 ghost use Rattle.rules_text.specs.declared.fault.RulesFault.{RulesFault};
 ghost use Rattle.rules_text.specs.declared.fault.RulesFault.TheVariants.{TooLong};
-ghost use Rattle.rules_text.specs.Forms.{IsComplete, IsFirstRefused, AllStand};
+ghost use Rattle.rules_text.specs.Forms.{IsComplete, IsFirstRefused, IsRefusedWhole};
 ghost use Rattle.rules_text.specs.RulesOf.{IsReading};
 ghost use Rattle.rules_text.specs.Written.{rules_text};
 
@@ -25,8 +25,9 @@ pub fn accepted_lines()
 {}
 
 /// States a law: a refused text is too long, or has a line that cannot stand after those before
-/// it, whose number the fault carries, or all its lines stand and the fault is one of the whole.
+/// it, whose number the fault carries, or all its lines stand and the fault is one of the whole: no
+/// `periods` line, no `start` line, a name with no rule, a cycle of one-symbol rules.
 pub fn refused_line()
     ensures { (text : List ℕ) (e : RulesFault) → IsReading text (Err e)
-        → (e ≡ TooLong) ⊎ (IsFirstRefused text e ⊎ AllStand text) }
+        → (e ≡ TooLong) ⊎ (IsFirstRefused text e ⊎ IsRefusedWhole text e) }
 {}

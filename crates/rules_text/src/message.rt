@@ -4,7 +4,6 @@ ghost use Rattle.rules_text.specs.FaultLine.{line_of, limit_text, most_text, fau
 use crate::fault::{Limit, RulesFault};
 use roster_model::{List, Memory};
 use std::alloc::Global;
-use std::fmt;
 use text_lines::{put, put_place, write_number};
 
 fn line_of(fault: &RulesFault) -> Option<u32>
@@ -75,19 +74,6 @@ fn put_most(out: &mut List<u8>, fault: &RulesFault) -> Result<(), Memory>
     put_limit(out, what)?;
     put(out, b", at most ")?;
     write_number(out, most as i128)
-}
-
-impl fmt::Display for RulesFault {
-    fn fmt<W: fmt::Write>(&self, f: &mut fmt::Formatter<W>) -> fmt::Result {
-        if let Some(line) = line_of(self) {
-            write!(f, "line {line}: ")?;
-        }
-        f.write_str(text_of(self))?;
-        match *self {
-            RulesFault::TooMany { what, most, .. } => write!(f, "{what}, at most {most}"),
-            _ => Ok(()),
-        }
-    }
 }
 
 // Appends the line that tells a fault.
