@@ -4,7 +4,6 @@ ghost use Rattle.demand_lines.specs.FaultLine.{line_of, fault_text, fault_line};
 use crate::fault::DemandFault;
 use roster_model::{List, Memory};
 use std::alloc::Global;
-use std::fmt;
 use text_lines::{put, put_place};
 
 fn line_of(fault: &DemandFault) -> Option<u32>
@@ -45,15 +44,6 @@ fn text_of(fault: &DemandFault) -> &'static str
         DemandFault::Mixed { .. } => "heads and groups together",
         DemandFault::TooManyGroups { .. } => "too many groups, at most 8",
         DemandFault::Memory => "out of memory",
-    }
-}
-
-impl fmt::Display for DemandFault {
-    fn fmt<W: fmt::Write>(&self, f: &mut fmt::Formatter<W>) -> fmt::Result {
-        if let Some(line) = line_of(self) {
-            write!(f, "line {line}: ")?;
-        }
-        f.write_str(text_of(self))
     }
 }
 
