@@ -1,5 +1,5 @@
 -- What the roster costs, and how good it is.
-use Rattle.std.specs.Prelude.{ℕ, ◌+◌, ◌-◌, ◌^◌, Option, None, Some, List, [], ◌∷◌, ◌++◌, Bool, nat_eq, nat_lt, min, codes, if◌then◌else◌}
+use Rattle.std.specs.Prelude.{ℕ, ◌≤◌, ◌+◌, ◌-◌, Option, None, Some, List, [], ◌∷◌, ◌++◌, All, Bool, length, nat_eq, nat_lt, codes, if◌then◌else◌}
 use Rattle.std.specs.List.{list_any}
 use Rattle.roster_model.specs.declared.grammar.CodeDef.{CodeDef}
 use Rattle.page_parts.specs.Elements.{Element, each_from, marks, given, number}
@@ -54,12 +54,17 @@ is_demanded code columns = list_any (λ (c : Column). nat_eq c.code code) column
 
 -- a sum with the penalty of a column, where it is of the code
 unfoldable pub with_penalty : ℕ → ℕ → Column → ℕ
-with_penalty code sum c = if nat_eq c.code code then min (sum + c.penalty) (2 ^ 64 - 1) else sum
+with_penalty code sum c = if nat_eq c.code code then sum + c.penalty else sum
 
--- the penalties of a code, or the greatest number of 64 bits where they are more
+-- a sum to which the penalties of a code are added
 abbrev pub penalties : ℕ → List Column → ℕ → ℕ
 penalties code [] sum = sum
 penalties code (c ∷ cs) sum = penalties code cs (with_penalty code sum c)
+
+-- the columns of at most 8 codes in at most 96 periods, each with the penalty of at most 64 employees
+pub record AreDayColumns (columns : List Column) : Type 0 where
+  pub few : length columns ≤ 768
+  pub small : All (λ (c : Column). c.penalty ≤ 1280000) columns
 
 unfoldable pub demanded_cost : List CodeDef → List Column → ℕ → CodeDef → List Element
 demanded_cost cs columns place c =

@@ -1,7 +1,8 @@
-ghost use Rattle.std.specs.Prelude.{◌≡◌, ◌≤◌, ◌++◌, ◌∷◌, length, OnOk};
+ghost use Rattle.std.specs.Prelude.{◌≡◌, ◌≤◌, ◌+◌, ◌^◌, ◌++◌, ◌∷◌, length, OnOk};
 ghost use Rattle.page_parts.specs.Elements as page;
 ghost use Rattle.page_parts.specs.Elements.{written};
 ghost use Rattle.page_costs.specs.Costs.{
+  AreDayColumns,
   amount,
   chip,
   code_cost,
@@ -137,10 +138,13 @@ pub fn is_demanded(code: u8, columns: &[Column]) -> bool
 // A sum with the penalty of a column, where it is of the code.
 #[tactic(auto, unfolding(crate::specs::Costs::with_penalty))]
 fn with_penalty(code: u8, sum: u64, column: &Column) -> u64
-    ensures { result ≡ with_penalty code sum column.now }
+    requires sum { sum ≤ 2 ^ 40 }
+    requires penalty { column.now.penalty ≤ 1280000 }
+    ensures value { result ≡ with_penalty code sum column.now }
+    ensures small { result ≤ sum + 1280000 }
 {
     if column.code == code {
-        sum.saturating_add(column.penalty)
+        sum + column.penalty
     } else {
         sum
     }
@@ -148,6 +152,7 @@ fn with_penalty(code: u8, sum: u64, column: &Column) -> u64
 
 // The penalties of a code.
 fn penalties(code: u8, columns: &[Column]) -> u64
+    requires { AreDayColumns columns.now }
     ensures { result ≡ penalties code columns.now 0 }
 {
     let mut sum: u64 = 0;
@@ -166,6 +171,7 @@ fn demanded_cost(
     place: u8,
     code: &CodeDef,
 ) -> Result<(), Memory>
+    requires { AreDayColumns columns.now }
     ensures { OnOk result
         (out.new ≡ out.old ++ written (demanded_cost codes.now columns.now place code.now)) }
 {
@@ -184,6 +190,7 @@ fn code_cost(
     place: u8,
     code: &CodeDef,
 ) -> Result<(), Memory>
+    requires { AreDayColumns columns.now }
     ensures { OnOk result (out.new ≡ out.old ++ written (code_cost codes.now columns.now place code.now)) }
 {
     if is_demanded(place, columns) {
@@ -194,7 +201,8 @@ fn code_cost(
 
 // Writes the penalties of each demanded code.
 fn code_costs(out: &mut List<u8>, codes: &[CodeDef], columns: &[Column]) -> Result<(), Memory>
-    requires { length codes.now ≤ 32 }
+    requires codes { length codes.now ≤ 32 }
+    requires columns { AreDayColumns columns.now }
     ensures { OnOk result (out.new ≡ out.old ++ written (code_costs codes.now columns.now)) }
 {
     let mut place: u8 = 0;
@@ -214,7 +222,8 @@ pub fn costs(
     figures: Figures,
     columns: &[Column],
 ) -> Result<(), Memory>
-    requires { length codes.now ≤ 32 }
+    requires codes { length codes.now ≤ 32 }
+    requires columns { AreDayColumns columns.now }
     ensures { OnOk result (out.new ≡ out.old ++ written (costs codes.now figures columns.now)) }
 {
     labelled_amount(out, b"<dl><div><dt>Total cost</dt><dd>", figures.cost)?;
