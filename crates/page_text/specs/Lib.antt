@@ -1,3 +1,4 @@
+pub mod Alike
 pub mod Inputs
 pub mod RosterChart
 pub mod Charts

@@ -5,11 +5,13 @@
 mod chart;
 mod content;
 mod ink;
+mod laws;
 mod page;
 mod roster_chart;
 mod row;
 mod style;
 
 pub use content::Content;
+pub use laws::{marks_stay, page_ends};
 pub use page::write_page;
 pub use row::Row;

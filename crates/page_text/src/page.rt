@@ -1,4 +1,5 @@
 ghost use Rattle.std.specs.Prelude.{◌≡◌, ◌≤◌, ◌++◌, codes as text, length, IfOk, OnOk};
+ghost use Rattle.page_costs.specs.Costs.{AreDayColumns};
 ghost use Rattle.page_parts.specs.Elements.{written};
 ghost use Rattle.page_text.specs.Pages.{
   all_show,
@@ -322,6 +323,7 @@ fn head(out: &mut List<u8>, texts: &[List<u8>]) -> Result<(), Memory>
 fn top_part(out: &mut List<u8>, codes: &[CodeDef], content: &Content) -> Result<(), Memory>
     requires codes { length codes.now ≤ 32 }
     requires texts { length content.now.derivations ≤ 64 }
+    requires columns { AreDayColumns content.now.columns }
     ensures { OnOk result (out.new ≡ out.old ++ written (top_part codes.now content.now)) }
 {
     head(out, content.derivations.as_slice())?;
@@ -375,6 +377,7 @@ fn body(
     requires codes { length codes.now ≤ 32 }
     requires rows { length content.now.rows ≤ 64 }
     requires texts { length content.now.derivations ≤ 64 }
+    requires columns { AreDayColumns content.now.columns }
     ensures { OnOk result (out.new ≡ out.old ++ written (body sheet codes.now content.now)) }
 {
     top_part(out, codes, content)?;
@@ -394,6 +397,7 @@ pub fn write_page(
     requires codes { length codes.now ≤ 32 }
     requires rows { length content.now.rows ≤ 64 }
     requires texts { length content.now.derivations ≤ 64 }
+    requires columns { AreDayColumns content.now.columns }
     ensures { IfOk result (λ text. text ≡ written (page periods codes.now content.now)) }
 {
     let mut out = List::new(alloc);
