@@ -42,5 +42,6 @@ pub use fault::ReportFault;
 pub use laws::{lines_again, read_again};
 pub use read::read_report;
 pub use report::{Report, report_of};
+pub use shifts::paid;
 pub use summary::{Summary, write_summary};
 pub use write::write_report;

@@ -33,8 +33,8 @@ pub(crate) fn add_shifts(
     Ok(())
 }
 
-/// Returns the sum of the prices.
-pub(crate) fn paid(shifts: &[Shift]) -> u64
+/// Returns the sum of the prices of at most 64 shifts.
+pub fn paid(shifts: &[Shift]) -> u64
     requires few { length shifts.now ≤ 64 }
     requires small { All (λ s. s.price ≤ 2 ^ 40) shifts.now }
     ensures { result ≡ sum_n (λ p. p) (stated_prices shifts.now) }
