@@ -1,3 +1,8 @@
 mod Starts
+mod PlainTrees
+mod PricedRows
+mod DerivedLemmas
+mod Columns
 mod RowLemmas
+mod OnceLemmas
 pub mod Checks

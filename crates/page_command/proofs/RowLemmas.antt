@@ -5,7 +5,6 @@ use Rattle.std.proofs.lemmas.List.{take_more}
 use Rattle.std.specs.List.{flat_map}
 use Rattle.std.specs.Prelude.{None, Some, slice_get}
 use Rattle.page_parts.specs.Elements.{places}
-use Rattle.roster_model.specs.declared.grammar.Grammar.{Grammar}
 use Rattle.roster_model.specs.declared.instance.Instance.{Instance}
 use Rattle.roster_model.specs.declared.instance.Shift.{Shift}
 use Rattle.page_text.specs.declared.row.Row.{Row}
@@ -27,22 +26,22 @@ rows_more f n before after e h =
 pub count_more : (before after : List (List ℕ)) (text : List ℕ) (k : ℕ) → length before ≡ k → after ≡ before ++ text ∷ [] → length after ≡ k + 1
 count_more before after text k h e = rw e (omega (arith, h, length-append before (text ∷ [])))
 
-module _ (i : Instance) (g : Grammar) where
-  push : (rows : List Row) (texts : List (List ℕ)) (row : Row) (text : List ℕ) → AreDerived i g rows texts → IsDerived i g row text → AreDerived i g (rows ++ row ∷ []) (texts ++ text ∷ [])
+module _ (i : Instance) where
+  push : (rows : List Row) (texts : List (List ℕ)) (row : Row) (text : List ℕ) → AreDerived i rows texts → IsDerived i row text → AreDerived i (rows ++ row ∷ []) (texts ++ text ∷ [])
   push [] [] row text h d = (d, tt)
   push [] (t ∷ ts) row text h d = absurd h
   push (r ∷ rs) [] row text h d = absurd h
   push (r ∷ rs) (t ∷ ts) row text h d = (h.0, push rs ts row text h.1 d)
 
   -- one more row
-  pub derived_more : (rows : List Row) (k : ℕ) (none : Row) (before after : List (List ℕ)) (text : List ℕ) → k < length rows → AreDerived i g (take k rows) before → IsDerived i g (get_or rows k none) text
-      → after ≡ before ++ text ∷ [] → AreDerived i g (take (k + 1) rows) after
+  pub derived_more : (rows : List Row) (k : ℕ) (none : Row) (before after : List (List ℕ)) (text : List ℕ) → k < length rows → AreDerived i (take k rows) before → IsDerived i (get_or rows k none) text
+      → after ≡ before ++ text ∷ [] → AreDerived i (take (k + 1) rows) after
   derived_more rows k none before after text lt h d e =
       let pushed = push (take k rows) before (get_or rows k none) text h d in
       rw (e, take_more rows k none lt) pushed
 
   -- there is a text for each row
-  pub as_many : (rows : List Row) (texts : List (List ℕ)) → AreDerived i g rows texts → length texts ≡ length rows
+  pub as_many : (rows : List Row) (texts : List (List ℕ)) → AreDerived i rows texts → length texts ≡ length rows
   as_many [] [] h = refl
   as_many [] (t ∷ ts) h = absurd h
   as_many (r ∷ rs) [] h = absurd h

@@ -6,24 +6,21 @@ use Rattle.certificates.specs.declared.cert.Cert.{Cert}
 use Rattle.certificate_laws.specs.Accepted.{Accepts}
 use Rattle.certificate_laws.specs.Right.{YesIsRight}
 use Rattle.shelf.specs.Shelf.{Texts}
-use Rattle.text_commands.specs.Check.{SaysNo, RulesAnswers}
-use Rattle.text_commands.specs.Reader.{Holds}
+use Rattle.text_commands.specs.Check.{SaysNo, AnswersTexts}
 use Rattle.page_command.specs.Draw.{IsPage}
 
 -- status 0: the certificate is accepted, what it states is true, and the page shows it
-pub record SaysPage (i : Instance) (rules : List ℕ) (c : Cert) (output : List ℕ) : Type 0 where
+pub record SaysPage (i : Instance) (c : Cert) (output : List ℕ) : Type 0 where
   pub accepted : Accepts i c
   pub trusted : YesIsRight i c
-  pub page : IsPage i rules c output
+  pub page : IsPage i c output
 
--- the answers for a certificate, by a rules text
-pub data Judgement (rules : List ℕ) (i : Instance) (c : Cert) : ℕ → List ℕ → Type 0 where
-  yes : (output : List ℕ) → SaysPage i rules c output → Judgement rules i c 0 output
-  no : (output : List ℕ) → SaysNo i c output → Judgement rules i c 1 output
+-- the answers for a certificate
+pub data Judgement (i : Instance) (c : Cert) : ℕ → List ℕ → Type 0 where
+  yes : (output : List ℕ) → SaysPage i c output → Judgement i c 0 output
+  no : (output : List ℕ) → SaysNo i c output → Judgement i c 1 output
 
--- the answers to the three texts, where the rules text stands under a name
-pub record AnswersPage (held : Option Texts) (name demand_name proof_name : List ℕ) (status : ℕ)
-    (output : List ℕ) : Type 0 where
-  pub text : List ℕ
-  pub holds : Holds held name text
-  pub answers : RulesAnswers (Judgement text) held text demand_name proof_name status output
+-- the answers to the three texts under names
+abbrev pub AnswersPage : Option Texts → List ℕ → List ℕ → List ℕ → ℕ → List ℕ → Type 0
+AnswersPage held name demand_name proof_name status output =
+    AnswersTexts Judgement held name demand_name proof_name status output

@@ -2,4 +2,5 @@ pub mod Rows
 pub mod Draw
 pub mod Check
 pub mod Statuses
+pub mod OnePage
 pub mod Run

@@ -1,22 +1,21 @@
 -- The rows of the chart of shifts, and their derivations.
-use Rattle.std.specs.Prelude.{ℕ, ◌-◌, Bool, ◌&&◌, None, Some, List, [], ◌∷◌, length, take, nat_eq, nat_lt, slice_get, count_by, unwrap_or, if◌then◌else◌}
+use Rattle.std.specs.Prelude.{ℕ, ◌≡◌, ◌-◌, Bool, ◌&&◌, None, Some, List, [], ◌∷◌, length, take, nat_eq, nat_lt, slice_get, count_by, if◌then◌else◌}
 use Rattle.std.specs.List.{flat_map, list_any}
 use Rattle.std.specs.Str.{bytes_eq}
 use Rattle.roster_model.specs.declared.grammar.Grammar.{Grammar}
+use Rattle.roster_model.specs.declared.instance.Group.{Group}
 use Rattle.roster_model.specs.declared.instance.Instance.{Instance}
 use Rattle.roster_model.specs.declared.instance.Shift.{Shift}
+use Rattle.roster_model.specs.Shifts.{IsPrice}
+use Rattle.roster_model.specs.Sound.{IsSound}
+use Rattle.bound_proof.specs.Written.{group_name}
 use Rattle.page_parts.specs.Elements.{places}
 use Rattle.page_text.specs.declared.row.Row.{Row}
-use Rattle.text_commands.specs.Explain.{Derivation}
+use Rattle.text_commands.specs.Explain.{SaysTree}
 
 -- employees of one group with one word
 abbrev pub is_same : Shift → Shift → Bool
 is_same a b = nat_eq a.group b.group && bytes_eq a.word b.word
-
--- the name of the group of this number, or nothing on a day without groups
-abbrev pub group_name : Instance → ℕ → List ℕ
-group_name i group = elim
-    (slice_get i.groups (group - 1)) [ None ↦ [] | Some g ↦ unwrap_or (slice_get i.grammar.names g.name) [] ]
 
 -- there are so many shifts that equal ones have one row
 abbrev pub are_many : List Shift → Bool
@@ -52,22 +51,46 @@ rows_at i shifts k =
 abbrev pub rows_of : Instance → List Shift → List Row
 rows_of i shifts = flat_map (rows_at i shifts) (places (length shifts))
 
+-- how many names groups add to the grammar of the rules text
+abbrev pub added_names : List Group → ℕ
+added_names [] = 0
+added_names (g ∷ gs) = 1
+
+-- a day's grammar without what its groups add, from a name
+abbrev pub plain_from : Grammar → List Group → ℕ → Grammar
+plain_from g groups start = record {
+  periods = g.periods;
+  codes = g.codes;
+  names = take (length g.names - added_names groups) g.names;
+  rules = take (length g.rules - length groups) g.rules;
+  start = start;
+}
+
 -- the name that derives the words of a group
-abbrev pub start_of : Instance → Grammar → ℕ → ℕ
-start_of i g group =
-    elim (slice_get i.groups (group - 1))
-    [ None ↦ g.start | Some t ↦ if nat_lt t.name (length g.names) then t.name else g.start ]
+abbrev pub start_from : Grammar → List Group → ℕ → ℕ
+start_from g groups group = elim (slice_get groups (group - 1)) [ None ↦ g.start | Some t ↦ t.name ]
 
--- the rules of a group's words
-abbrev pub rules_of : Instance → Grammar → ℕ → Grammar
-rules_of i g group = record g { start = start_of i g group }
+abbrev pub start_of : Instance → ℕ → ℕ
+start_of i group = start_from i.grammar i.groups group
 
--- what `explain` says of the row's word by the rules of its group
-abbrev pub IsDerived : Instance → Grammar → Row → List ℕ → Type 0
-IsDerived i g r text = (status : ℕ) × Derivation (rules_of i g r.group) r.word status text
+-- the rules of a group's words: those of the rules text, from the group's name; on a day without groups
+-- the day's grammar
+abbrev pub rules_of : Instance → ℕ → Grammar
+rules_of i group = plain_from i.grammar i.groups (start_of i group)
 
-abbrev pub AreDerived : Instance → Grammar → List Row → List (List ℕ) → Type 0
-AreDerived i g [] [] = Unit {0}
-AreDerived i g (r ∷ rs) (text ∷ texts) = IsDerived i g r text × AreDerived i g rs texts
-AreDerived i g [] (text ∷ texts) = ⊥
-AreDerived i g (r ∷ rs) [] = ⊥
+-- the row's word has the row's price by the rules of its group
+pub record IsPricedRow (i : Instance) (r : Row) : Type 0 where
+  pub sound : IsSound (rules_of i r.group)
+  pub price : IsPrice (rules_of i r.group) (start_of i r.group) r.word r.price
+
+-- what `explain` says of the row's word by the rules of its group, with status 0: a tree of the word at
+-- the row's price
+pub record IsDerived (i : Instance) (r : Row) (text : List ℕ) : Type 0 where
+  pub says : SaysTree (rules_of i r.group) r.word text
+  pub price : says.price ≡ r.price
+
+abbrev pub AreDerived : Instance → List Row → List (List ℕ) → Type 0
+AreDerived i [] [] = Unit {0}
+AreDerived i (r ∷ rs) (text ∷ texts) = IsDerived i r text × AreDerived i rs texts
+AreDerived i [] (text ∷ texts) = ⊥
+AreDerived i (r ∷ rs) [] = ⊥

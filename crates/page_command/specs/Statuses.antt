@@ -5,7 +5,6 @@ use Rattle.certificates.specs.declared.cert.Cert.{Cert}
 use Rattle.page_command.specs.Check.{Judgement, yes, no}
 use Rattle.text_commands.specs.Statuses.{ends_at}
 
-pub judged-ends : (rules : List ℕ) (i : Instance) (c : Cert) (s : ℕ) (output : List ℕ)
-    → Judgement rules i c s output → (s ≢ 6) × (s ≢ 7)
-judged-ends rules i c s output (yes x h) = ends_at s 0 refl (omega arith)
-judged-ends rules i c s output (no x h) = ends_at s 1 refl (omega arith)
+pub judged-ends : (i : Instance) (c : Cert) (s : ℕ) (output : List ℕ) → Judgement i c s output → (s ≢ 6) × (s ≢ 7)
+judged-ends i c s output (yes x h) = ends_at s 0 refl (omega arith)
+judged-ends i c s output (no x h) = ends_at s 1 refl (omega arith)

@@ -12,9 +12,8 @@ use roster_model::{Instance, Memory};
 use shelf::Shelf;
 use std::alloc::Global;
 use text_commands::answer::Answer;
-use text_commands::ask::ask_rules_text;
+use text_commands::ask::ask;
 use text_commands::check::{judged, proof_refusal, verdict_answer};
-use text_commands::fetch::fetched;
 use text_commands::question::Question;
 
 // Says why a certificate is refused.
@@ -25,38 +24,30 @@ fn no_answer(alloc: Global, why: Why) -> Result<Answer, Memory>
 }
 
 // What is answered to a proof text.
-fn judgement(
-    alloc: Global,
-    instance: &Instance,
-    rules: &[u8],
-    text: &[u8],
-) -> Result<Answer, Memory>
+fn judgement(alloc: Global, instance: &Instance, text: &[u8]) -> Result<Answer, Memory>
     requires { IsSoundInstance instance.now }
-    ensures { IfOk result (λ a. ProofAnswers (Judgement rules.now) instance.now text.now a.status a.output) }
+    ensures { IfOk result (λ a. ProofAnswers Judgement instance.now text.now a.status a.output) }
 {
     match judged(alloc, instance, text)? {
-        Judged::Said(Verdict::Yes { .. }) => page_answer(alloc, instance, rules, text),
+        Judged::Said(Verdict::Yes { .. }) => page_answer(alloc, instance, text),
         Judged::Said(Verdict::No(why)) => no_answer(alloc, why),
         Judged::Fault(fault) => proof_refusal(alloc, fault),
     }
 }
 
-// Whether a certificate is accepted, and the page that shows it by the rules text.
-#[derive(Drop)]
-struct PageOf<'a> {
-    rules: &'a [u8],
-}
+// Whether a certificate is accepted, and the page that shows it.
+struct Drawing;
 
-impl Question for PageOf<'_> {
+impl Question for Drawing {
     ghost use Rattle.page_command.specs.Check.{Judgement};
     ghost use Rattle.page_command.specs.Statuses.{judged-ends};
 
-    ghost answers = { λ q. Judgement q.rules.now };
+    ghost answers = { λ _. Judgement };
 
-    ghost ends = { λ q. judged-ends q.rules.now };
+    ghost ends = { λ _. judged-ends };
 
     fn answer(&self, alloc: Global, instance: &Instance, text: &[u8]) -> Result<Answer, Memory> {
-        judgement(alloc, instance, self.rules, text)
+        judgement(alloc, instance, text)
     }
 }
 
@@ -66,12 +57,5 @@ pub fn draw<S: Shelf>(alloc: Global, shelf: &mut S, rules: &str, demand: &str, p
     ensures { IsReader (AnswersPage (S.told shelf.old).held rules.now demand.now proof.now)
         (rules.now ∷ demand.now ∷ proof.now ∷ []) (S.told shelf.old) (S.told shelf.new) result }
 {
-    let text = match fetched(alloc, shelf, rules) {
-        Ok(text) => text,
-        Err(status) => return status,
-    };
-    let page = PageOf {
-        rules: text.as_slice(),
-    };
-    ask_rules_text(alloc, shelf, text.as_slice(), demand, proof, &page)
+    ask(alloc, shelf, rules, demand, proof, &Drawing)
 }

@@ -1,55 +1,50 @@
-ghost use Rattle.std.specs.Prelude.{◌≡◌, ◌≤◌, ◌<◌, ◌++◌, [], ◌∷◌, length, IfOk, OnOk};
-ghost use Rattle.roster_model.specs.Sound.{IsPlain, IsSound};
-ghost use Rattle.page_command.specs.Rows.{AreDerived, IsDerived, rules_of, start_of};
+ghost use Rattle.std.specs.Prelude.{◌≡◌, All, length, IfOk};
+ghost use Rattle.page_command.specs.Rows.{AreDerived, IsDerived, IsPricedRow, plain_from, start_of};
 
+use crate::rules::plain_grammar;
 use page_text::Row;
 use roster_model::{Grammar, Instance, List, Memory};
 use std::alloc::Global;
 use text_commands::explain::derivation;
 
 // The name that derives the words of a group.
-fn start_of(instance: &Instance, grammar: &Grammar, group: u8) -> u8
-    requires { IsSound grammar.now }
-    ensures start { result ≡ start_of instance.now grammar.now group }
-    ensures exists { result < length grammar.now.names }
+fn start_of(instance: &Instance, group: u8) -> u8
+    ensures { result ≡ start_of instance.now group }
 {
     let place = (group as usize).saturating_sub(1);
     match instance.groups.as_slice().get(place) {
-        None => grammar.start,
-        Some(group) if (group.name as usize) < grammar.names.len() => group.name,
-        Some(_) => grammar.start,
+        None => instance.grammar.start,
+        Some(group) => group.name,
     }
 }
 
-// Returns what is said of a row's word by the rules of its group.
+// Returns what is said of a row's word by the rules of its group. The grammar gets the group's start.
 fn derived(
     alloc: Global,
     instance: &Instance,
     grammar: &mut Grammar,
     row: &Row,
 ) -> Result<List<u8>, Memory>
-    requires sound { IsSound grammar.old }
-    requires plain { IsPlain grammar.old }
-    ensures text { IfOk result (IsDerived instance.now grammar.old row.now) }
-    ensures kept { grammar.new ≡ grammar.old }
+    requires rules { grammar.old ≡ plain_from instance.now.grammar instance.now.groups grammar.old.start }
+    requires priced { IsPricedRow instance.now row.now }
+    ensures text { IfOk result (IsDerived instance.now row.now) }
+    ensures rules { grammar.new ≡ plain_from instance.now.grammar instance.now.groups grammar.new.start }
 {
-    let start = grammar.start;
-    grammar.start = start_of(instance, grammar, row.group);
-    let answer = derivation(alloc, grammar, row.word.as_slice());
-    grammar.start = start;
-    Ok(answer?.output)
+    grammar.start = start_of(instance, row.group);
+    Ok(derivation(alloc, grammar, row.word.as_slice())?.output)
 }
 
-/// Returns for each row what is said of its word by the rules of its group. The grammar is as before.
-pub fn derivations(
+// Returns for each row what is said of its word by the rules of its group, by the rules of the day without
+// what its groups add.
+fn derivations_by(
     alloc: Global,
     instance: &Instance,
     grammar: &mut Grammar,
     rows: &[Row],
 ) -> Result<List<List<u8>>, Memory>
-    requires sound { IsSound grammar.old }
-    requires plain { IsPlain grammar.old }
-    ensures texts { IfOk result (AreDerived instance.now grammar.old rows.now) }
+    requires rules { grammar.old ≡ plain_from instance.now.grammar instance.now.groups grammar.old.start }
+    requires priced { All (IsPricedRow instance.now) rows.now }
+    ensures texts { IfOk result (AreDerived instance.now rows.now) }
     ensures count { IfOk result (λ texts. length texts ≡ length rows.now) }
 {
     let mut texts = List::new(alloc);
@@ -57,4 +52,19 @@ pub fn derivations(
         texts.push(derived(alloc, instance, grammar, row)?)?;
     }
     Ok(texts)
+}
+
+/// Returns for each row what is said of its word by the rules of its group: a tree of the word at the row's
+/// price.
+pub fn derivations(
+    alloc: Global,
+    instance: &Instance,
+    rows: &[Row],
+) -> Result<List<List<u8>>, Memory>
+    requires { All (IsPricedRow instance.now) rows.now }
+    ensures texts { IfOk result (AreDerived instance.now rows.now) }
+    ensures count { IfOk result (λ texts. length texts ≡ length rows.now) }
+{
+    let mut grammar = plain_grammar(alloc, instance)?;
+    derivations_by(alloc, instance, &mut grammar, rows)
 }

@@ -4,7 +4,10 @@
 mod check;
 mod derived;
 mod draw;
+mod laws;
 mod program;
 mod rows;
+mod rules;
 
+pub use laws::one_page;
 pub use program::run;

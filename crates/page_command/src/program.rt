@@ -29,7 +29,8 @@ fn refuse_words<S: Shelf>(shelf: &mut S) -> u8
 /// | 6 | the shelf refused a call |
 /// | 7 | memory did not suffice |
 ///
-/// Nothing is stored. From 1 to 5 one line is said, the one that `check` of the roster program says.
+/// Nothing is stored. With 1, 3, 4 and 5 one line is said, the one that `check` of the roster program says,
+/// and with 2 the line `words: RULES DEMAND PROOF`. With 6 and 7 no more is said than a front of an answer.
 pub fn run<S: Shelf>(alloc: Global, shelf: &mut S, words: &[String]) -> u8
     ensures { Does (map string_bytes words.now) (S.told shelf.old) (S.told shelf.new) result }
 {

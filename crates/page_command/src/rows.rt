@@ -1,14 +1,15 @@
 ghost use Rattle.std.specs.Prelude.{◌≡◌, ◌≤◌, ◌+◌, ◌++◌, [], ◌∷◌, length, take, count_by, IfOk, OnOk, OnErr};
 ghost use Rattle.std.specs.List.{list_any};
-ghost use Rattle.page_command.specs.Rows.{are_many, count_of, group_name, has_row, is_same, own_row, row_of, rows_at, rows_of};
+ghost use Rattle.page_command.specs.Rows.{are_many, count_of, has_row, is_same, own_row, row_of, rows_at, rows_of};
 
+use bound_proof::group_name;
 use page_text::Row;
 use roster_model::{Instance, List, Memory, Shift};
 use std::alloc::Global;
 use text_lines::put;
 
-/// There are so many shifts that equal ones have one row, where there are more than these.
-const MOST: usize = 40;
+/// Up to so many shifts have a row each; where there are more, equal ones have one row.
+const MOST_OWN_ROWS: usize = 40;
 
 // Whether two employees of one group have one word.
 fn is_same(a: &Shift, b: &Shift) -> bool
@@ -32,34 +33,20 @@ fn has_same(shifts: &[Shift], shift: &Shift) -> bool
     shifts.iter().any(|other| is_same(other, shift))
 }
 
-// The name of the group of this number, or nothing on a day without groups.
-fn group_name(instance: &Instance, group: u8) -> &[u8]
-    ensures { result.now ≡ group_name instance.now group }
-{
-    let place = (group as usize).saturating_sub(1);
-    match instance.groups.as_slice().get(place) {
-        None => b"",
-        Some(group) => match instance.grammar.names.as_slice().get(group.name as usize) {
-            None => b"",
-            Some(name) => name.as_slice(),
-        },
-    }
-}
-
 // How many employees a row stands for.
 fn count_of(shifts: &[Shift], shift: &Shift) -> u32
     requires { length shifts.now ≤ 64 }
     ensures { result ≡ count_of shifts.now shift.now }
 {
-    if shifts.len() > MOST {
+    if shifts.len() > MOST_OWN_ROWS {
         count_same(shifts, shift) as u32
     } else {
         1
     }
 }
 
-// Returns a copy of bytes.
-fn copied(alloc: Global, bytes: &[u8]) -> Result<List<u8>, Memory>
+/// Returns a copy of bytes.
+pub fn copied(alloc: Global, bytes: &[u8]) -> Result<List<u8>, Memory>
     ensures { IfOk result (λ copy. copy ≡ bytes.now) }
 {
     let mut copy = List::new(alloc);
@@ -91,7 +78,7 @@ fn has_row(shifts: &[Shift], place: usize, shift: &Shift) -> bool
     requires { place ≤ length shifts.now }
     ensures { result ≡ has_row shifts.now place shift.now }
 {
-    shifts.len() > MOST && has_same(&shifts[..place], shift)
+    shifts.len() > MOST_OWN_ROWS && has_same(&shifts[..place], shift)
 }
 
 // Appends the row of a shift behind so many, if it has one of its own.

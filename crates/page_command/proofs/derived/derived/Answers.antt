@@ -1,0 +1,13 @@
+use Rattle.std.proofs.Common.{◌≡◌}
+use Rattle.roster_model.specs.declared.grammar.Grammar.{Grammar}
+use Rattle.page_command.specs.Rows.{rules_of}
+use Rattle.page_command.proofs.DerivedLemmas.{is_derived, with_start}
+use Rattle.page_command.proofs.derived.derived.Goals as goal
+
+pub returns-clause-text : goal.returns-clause-text
+returns-clause-text c =
+    let i = c.args.instance.now in
+    let r = c.args.row.now in
+    let g : Grammar = record c.args.grammar.now { start = c.start_of-grammar.result } in
+    let same : g ≡ rules_of i r.group = rw c.start_of-grammar.ensures (with_start i r.group c.args.grammar.now c.requires.rules) in
+    is_derived i r g c.in_ok-derivation.field-0.status c.in_ok-derivation.field-0.output same c.requires.priced (rw c.as_slice.ensures at c.in_ok-derivation.ensures)

@@ -1,0 +1,45 @@
+-- The same texts have the same page, but for the trees of the derivations.
+use Rattle.std.specs.Prelude.{ℕ, ◌≡◌, ◌⊎◌, List, [], ◌∷◌, Some}
+use Rattle.roster_model.specs.declared.grammar.CodeDef.{CodeDef}
+use Rattle.page_parts.specs.Elements.{written}
+use Rattle.page_text.specs.Pages.{page}
+use Rattle.page_text.specs.declared.content.Content.{Content}
+use Rattle.page_text.specs.declared.row.Row.{Row}
+use Rattle.shelf.specs.Shelf.{Texts}
+use Rattle.text_commands.specs.SameTexts.{AreTreesAtOnePrice}
+use Rattle.page_command.specs.Check.{AnswersPage}
+
+-- for each row two derivations of its word, at one price
+abbrev pub AreTreesOfRows : List Row → List (List ℕ) → List (List ℕ) → Type 0
+AreTreesOfRows [] [] [] = Unit {0}
+AreTreesOfRows (r ∷ rs) (a ∷ texts) (b ∷ bs) = AreTreesAtOnePrice r.word a b × AreTreesOfRows rs texts bs
+AreTreesOfRows _ _ _ = ⊥
+
+-- the same content, but for the trees of the derivations
+pub record IsSameButTrees (c d : Content) : Type 0 where
+  pub figures : c.figures ≡ d.figures
+  pub rows : c.rows ≡ d.rows
+  pub columns : c.columns ≡ d.columns
+  pub derivations : AreTreesOfRows d.rows c.derivations d.derivations
+
+-- two pages of one day, the same but for the trees of the derivations
+pub record ArePagesButTrees (a b : List ℕ) : Type 0 where
+  pub periods : ℕ
+  pub codes : List CodeDef
+  pub one : Content
+  pub other : Content
+  pub same : IsSameButTrees one other
+  pub first : a ≡ written (page periods codes one)
+  pub second : b ≡ written (page periods codes other)
+
+-- the same text, but for the trees of the derivations of a page
+abbrev pub AreSameButTrees : List ℕ → List ℕ → Type 0
+AreSameButTrees a b = (a ≡ b) ⊎ ArePagesButTrees a b
+
+-- whatever two answers there are to the same texts, their statuses are equal, and what is said is equal
+-- too, but for the trees of the derivations of a page
+abbrev pub HaveOnePage : Type 0
+HaveOnePage =
+    (held : Texts) (rules demand proof : List ℕ) (s t : ℕ) (a b : List ℕ)
+    → AnswersPage (Some held) rules demand proof s a → AnswersPage (Some held) rules demand proof t b
+    → (s ≡ t) × AreSameButTrees a b
