@@ -1,5 +1,6 @@
-ghost use Rattle.std.specs.Prelude.{ℕ, Bool, IfOk};
-ghost use Rattle.branch_price.specs.Found.{IsFound};
+ghost use Rattle.std.specs.Prelude.{IfOk, IfSome};
+ghost use Rattle.certificate_laws.specs.Accepted.{IsStated};
+ghost use Rattle.certificates.specs.Sound.{IsSoundCert};
 ghost use Rattle.roster_model.specs.SoundInstance.{IsSoundInstance};
 ghost use Rattle.day_solver.specs.Solutions.{IsReportText};
 
@@ -8,14 +9,16 @@ use roster_model::{Instance, List, Memory};
 use roster_report::{report_of, write_report};
 use std::alloc::Global;
 
-/// Writes the report of what a search found on a day. After want of memory there is no text.
+/// Writes the report of what a search found on a day: of a sound certificate whose roster, if it has one, is
+/// an allowed one of the stated prices and cost. After want of memory there is no text.
 pub fn solution_report(
     alloc: Global,
     instance: &Instance,
     found: &Found,
 ) -> Result<List<u8>, Memory>
     requires sound { IsSoundInstance instance.now }
-    requires found { (strict : Bool) × (turns : ℕ) × IsFound instance.now strict turns found.now }
+    requires cert { IsSoundCert instance.now found.now.cert }
+    requires stated { IfSome found.now.cert.cost (IsStated instance.now found.now.cert.shifts) }
     ensures { IfOk result (IsReportText instance.now found.now) }
 {
     let report = report_of(
