@@ -9,5 +9,5 @@ mod program;
 mod rows;
 mod rules;
 
-pub use laws::one_page;
+pub use laws::{groups_derive_by_the_rules, one_page};
 pub use program::run;

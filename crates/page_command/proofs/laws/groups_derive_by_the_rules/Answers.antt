@@ -1,0 +1,5 @@
+use Rattle.page_command.proofs.PlainTrees.{plain_extended}
+use Rattle.page_command.proofs.laws.groups_derive_by_the_rules.Goals as goal
+
+pub returns : goal.returns
+returns c = plain_extended
