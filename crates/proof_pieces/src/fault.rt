@@ -28,24 +28,34 @@ pub enum PieceFault {
 #[derive(Clone, Copy, Debug, PartialEq, Eq, Drop, Error)]
 pub enum ProofFault {
     /// A byte before the comment that no line may hold.
+    #[error("line {line}: bad byte")]
     BadByte { line: u32 },
     /// A line of none of the forms, or at a place where it may not stand.
+    #[error("line {line}: unknown line")]
     UnknownLine { line: u32 },
     /// A word that is no number, where one is due.
+    #[error("line {line}: bad number")]
     BadNumber { line: u32 },
     /// A number, a word or a line outside its range.
+    #[error("line {line}: out of range")]
     OutOfRange { line: u32 },
     /// A first line that is not the one for the day.
+    #[error("line {line}: bad header")]
     BadHeader { line: u32 },
     /// The text has no `end` line.
+    #[error("the text ends early")]
     CutShort,
     /// A line behind the whole tree or behind the `end` line.
+    #[error("line {line}: text after the end")]
     Trailing { line: u32 },
     /// A node behind 20,001 nodes.
+    #[error("line {line}: too many nodes, at most 20001")]
     TooManyNodes { line: u32 },
     /// The text has more than 1,073,741,824 bytes.
+    #[error("the text is too long")]
     TooLong,
     /// Memory ran out; the text may be right or wrong.
+    #[error("out of memory")]
     Memory,
 }
 

@@ -4,7 +4,6 @@ ghost use Rattle.proof_pieces.specs.FaultLine.{line_of, fault_text, fault_line};
 use crate::fault::ProofFault;
 use roster_model::{List, Memory};
 use std::alloc::Global;
-use std::fmt;
 use text_lines::{put, put_place};
 
 fn line_of(fault: &ProofFault) -> Option<u32>
@@ -37,15 +36,6 @@ fn text_of(fault: &ProofFault) -> &'static str
         ProofFault::TooManyNodes { .. } => "too many nodes, at most 20001",
         ProofFault::TooLong => "the text is too long",
         ProofFault::Memory => "out of memory",
-    }
-}
-
-impl fmt::Display for ProofFault {
-    fn fmt<W: fmt::Write>(&self, f: &mut fmt::Formatter<W>) -> fmt::Result {
-        if let Some(line) = line_of(self) {
-            write!(f, "line {line}: ")?;
-        }
-        f.write_str(text_of(self))
     }
 }
 
