@@ -1,5 +1,6 @@
 -- Candidates are put among others, one after another.
-use Rattle.std.proofs.Common.{◌≡◌, ℕ, ◌<◌, ◌+◌, List, [], ◌∷◌, ◌++◌, arith, refl, subst, sym, ap, inl, inr, length, length-append, append_assoc}
+use Rattle.std.proofs.Common.{◌≡◌, ℕ, ◌<◌, ◌≤◌, ◌+◌, List, [], ◌∷◌, ◌++◌, arith, refl, subst, sym, ap, inl, inr, ◌∙◌, take, drop, length, length-append, append_assoc}
+use Rattle.std.proofs.lemmas.List.{take-append-drop, take-append-le, drop-append-le}
 use Rattle.roster_model.specs.declared.grammar.Grammar.{Grammar}
 use Rattle.roster_model.specs.Folds.{Each}
 use Rattle.roster_model.specs.Sums.{PriceView}
@@ -7,7 +8,7 @@ use Rattle.roster_model.proofs.EachLemmas.{Each-left}
 use Rattle.ranked_trees.specs.declared.candidate.Candidate.{Candidate}
 use Rattle.ranked_trees.specs.declared.ranking.Ranked.{Ranked}
 use Rattle.ranked_trees.specs.Candidates.{Comes, AreOrdered, AreAside}
-use Rattle.ranked_trees.specs.Progresses.{IsOffered, AreOffered, CanTake, IsProgress}
+use Rattle.ranked_trees.specs.Progresses.{IsRoomMade, IsOffered, AreOffered, CanTake, IsProgress}
 use Rattle.ranked_trees.proofs.OfferLemmas.{ordered-put, ordered-left, aside-put, aside-but_last, offered}
 
 -- what takes one takes the next
@@ -74,3 +75,37 @@ all-offered g p most rs room b (e ∷ es) old new size c h is =
 pub offered-more : (room : ℕ) (es : List Candidate) (e : Candidate) (old mid new : List Candidate) → AreOffered room es old mid → IsOffered room e mid new → AreOffered room (es ++ e ∷ []) old new
 offered-more room [] e old mid new h k = (new, subst (λ cs. IsOffered room e cs new) h k, refl)
 offered-more room (d ∷ es) e old mid new h k = (h.0, h.1, offered-more room es e h.0 mid new h.2 k)
+
+-- a place that is not behind all can be taken where room was made
+pub room-place : (room n : ℕ) (old mid : List Candidate) → IsRoomMade room old mid → n ≤ length old → (n ≡ room → ⊥) → n ≤ length mid
+room-place room n old mid (inl h) l other =
+    let same : length mid ≡ length old = ap length h.1 in
+    omega (arith, same, l)
+room-place room n old mid (inr h) l other =
+    let size : length old ≡ length (mid ++ h.0 ∷ []) = ap length h.2 in
+    omega (arith, size, length-append mid (h.0 ∷ []), h.1, l, other)
+
+-- one that is put there was offered
+pub offered-put : (room n : ℕ) (e : Candidate) (old mid new : List Candidate) → IsRoomMade room old mid → n ≤ length old → (n ≡ room → ⊥) → Each (λ (d : Candidate). Comes d e) (take n old)
+    → Each (Comes e) (drop n old) → new ≡ take n mid ++ e ∷ drop n mid → IsOffered room e old new
+offered-put room n e old mid new (inl h) l other before after is = inl (record {
+  front = take n old;
+  back = drop n old;
+  from = sym (take-append-drop n old);
+  to = is ∙ ap (λ q. take n q ++ e ∷ drop n q) h.1;
+  before = before;
+  after = after;
+  space = h.0;
+})
+offered-put room n e old mid new (inr h) l other before after is =
+    let within = room-place room n old mid (inr h) l other in
+    inr (inl (record {
+      front = take n mid;
+      back = drop n mid;
+      last = h.0;
+      from = h.2 ∙ ap (λ q. q ++ h.0 ∷ []) (sym (take-append-drop n mid)) ∙ append_assoc (take n mid) (drop n mid) (h.0 ∷ []);
+      to = is;
+      before = subst (Each (λ (d : Candidate). Comes d e)) (ap (λ q. take n q) h.2 ∙ take-append-le n mid (h.0 ∷ []) within) before;
+      after = subst (Each (Comes e)) (ap (λ q. drop n q) h.2 ∙ drop-append-le n mid (h.0 ∷ []) within) after;
+      full = h.1;
+    }))

@@ -1,6 +1,8 @@
 -- Where a candidate is to stand among others, and the first child of least sum.
-use Rattle.std.proofs.Common.{◌≡◌, ℕ, zero, suc, ◌<ℤ◌, ◌≤ℤ◌, ◌<◌, ◌≤◌, ◌+◌, List, [], ◌∷◌, ◌++◌, arith, refl, subst, sym, ap, inl, inr, min, length, get_or, take, drop}
+use Rattle.std.proofs.Common.{◌≡◌, Bool, true, false, ℕ, ℤ, zero, suc, ◌<ℤ◌, ◌≤ℤ◌, ◌⊎◌, ◌<◌, ◌≤◌, ◌+◌, List, [], ◌∷◌, ◌++◌, arith, refl, subst, sym, ap, inl, inr, min, length, get_or, take, drop}
+use Rattle.std.specs.Bool.{OnTrue}
 use Rattle.std.specs.List.{remove}
+use Rattle.std.proofs.lemmas.Int.{ints}
 use Rattle.std.proofs.lemmas.List.{take_more}
 use Rattle.roster_model.specs.declared.grammar.Step.{Step}
 use Rattle.roster_model.specs.Folds.{Each}
@@ -9,17 +11,59 @@ use Rattle.ranked_trees.specs.declared.candidate.Candidate.{Candidate}
 use Rattle.ranked_trees.specs.declared.candidate.Child.{Child}
 use Rattle.ranked_trees.specs.Candidates.{IsApart, Comes, AreOrdered, IsAside}
 use Rattle.ranked_trees.specs.Children.{child_at, TakesLeast}
-use Rattle.ranked_trees.proofs.UsesLemmas.{comes-through}
+use Rattle.ranked_trees.specs.Ranking.{UsesBefore}
+use Rattle.ranked_trees.proofs.UsesLemmas.{apart-swap, comes-through}
 
 each_through : (e x : Candidate) (xs : List Candidate) → Comes e x → IsAside e.steps xs → Each (Comes x) xs → Each (Comes e) xs
 each_through e x [] h a k = tt
 each_through e x (y ∷ ys) h a k = (comes-through e x y a.0 h k.0, each_through e x ys h a.1 k.1)
+
+each-get : {A : Type 0} (P : A → Type 0) (xs : List A) (n : ℕ) (d : A) → n < length xs → Each P xs → P (get_or xs n d)
+each-get P [] n d l h = absurd (omega (arith, l))
+each-get P (x ∷ xs) zero d l h = h.0
+each-get P (x ∷ xs) (suc n) d l h = each-get P xs n d (omega (arith, l)) h.1
 
 -- what follows one that comes after comes after too
 pub later : (cs : List Candidate) (n : ℕ) (d e : Candidate) → n < length cs → AreOrdered cs → IsAside e.steps cs → Comes e (get_or cs n d) → Each (Comes e) (drop n cs)
 later [] n d e l h a k = absurd (omega (arith, l))
 later (x ∷ xs) zero d e l h a k = (k, each_through e x xs k a.1 h.0)
 later (x ∷ xs) (suc n) d e l h a k = later xs n d e (omega (arith, l)) h.1 a.1 k
+
+-- what stands up to one that comes before comes before too
+pub earlier : (cs : List Candidate) (n : ℕ) (d e : Candidate) → n < length cs → AreOrdered cs → IsAside e.steps cs → Comes (get_or cs n d) e
+    → Each (λ (q : Candidate). Comes q e) (take (suc n) cs)
+earlier [] n d e l h a k = absurd (omega (arith, l))
+earlier (x ∷ xs) zero d e l h a k = (k, tt)
+earlier (x ∷ xs) (suc n) d e l h a k =
+    let q : n < length xs = omega (arith, l) in
+    (comes-through x (get_or xs n d) e (apart-swap e.steps x.steps a.0) (each-get (Comes x) xs n d q h.0) k, earlier xs n d e q h.1 a.1 k)
+
+-- where the last has a smaller sum, each has
+pub all_smaller : (cs : List Candidate) (n : ℕ) (d : Candidate) (z : ℤ) → length cs ≡ suc n → AreOrdered cs → (get_or cs n d).sum <ℤ z
+    → Each (λ (q : Candidate). q.sum <ℤ z) cs
+all_smaller [] n d z l h k = tt
+all_smaller (x ∷ []) zero d z l h k = (k, tt)
+all_smaller (x ∷ y ∷ xs) zero d z l h k = absurd (omega (arith, l))
+all_smaller (x ∷ xs) (suc n) d z l h k =
+    let q : n < length xs = omega (arith, l) in
+    (smaller_first x (get_or xs n d) z (each-get (Comes x) xs n d q h.0) k, all_smaller xs n d z (omega (arith, l)) h.1 k)
+  where
+    smaller_first : (c d : Candidate) (z : ℤ) → Comes c d → d.sum <ℤ z → c.sum <ℤ z
+    smaller_first c d z h k = by h.before
+      where
+        by : (c.sum <ℤ d.sum) ⊎ ((c.sum ≡ d.sum) × UsesBefore c.steps d.steps) → c.sum <ℤ z
+        by (inl q) = omega (arith, ints, q, k)
+        by (inr q) = omega (arith, ints, q.0, k)
+
+pub on_true : {A B : Type 0} (b : Bool) → (A → B) → OnTrue b A → OnTrue b B
+on_true true f h = f h
+on_true false f h = tt
+
+-- those of a smaller sum come before
+pub smaller_come : (cs : List Candidate) (e : Candidate) → IsAside e.steps cs → Each (λ (q : Candidate). q.sum <ℤ e.sum) cs
+    → Each (λ (q : Candidate). Comes q e) cs
+smaller_come [] e a h = tt
+smaller_come (x ∷ xs) e a h = (record { apart = apart-swap e.steps x.steps a.0; before = inl h.0 }, smaller_come xs e a.1 h.1)
 
 pub none-later : (cs : List Candidate) (e : Candidate) → Each (Comes e) (drop (length cs) cs)
 none-later [] e = tt

@@ -13,6 +13,12 @@ use Rattle.ranked_trees.specs.Children.{TakesLeast}
 use Rattle.roster_model.specs.Room.{most_uses}
 use Rattle.ranked_trees.specs.Ranking.{RankedBefore, IsRankedTree, AreAscending}
 
+-- there is room for one more: the last was dropped where there were as many as there is room for
+abbrev pub IsRoomMade : ℕ → List Candidate → List Candidate → Type 0
+IsRoomMade room old new =
+    ((length old < room) × (new ≡ old))
+    ⊎ ((last : Candidate) × (length old ≡ room) × (old ≡ new ++ last ∷ []))
+
 -- a candidate was put among others in their order
 pub record IsAdded (room : ℕ) (e : Candidate) (old new : List Candidate) : Type 0 where
   pub front : List Candidate

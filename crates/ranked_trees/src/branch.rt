@@ -5,17 +5,18 @@ ghost use Rattle.ranked_trees.specs.declared.candidate.Child.{Child as Further};
 ghost use Rattle.ranked_trees.specs.Candidates.{child_of};
 ghost use Rattle.ranked_trees.specs.Children.{child_at, TakesLeast};
 ghost use Rattle.ranked_trees.specs.Frames.{IsSums};
-ghost use Rattle.ranked_trees.specs.Progresses.{CanTake, Branches, IsProgress, steps_left};
+ghost use Rattle.ranked_trees.specs.Progresses.{CanTake, Branches, IsOffered, IsProgress, steps_left};
 ghost use Rattle.ranked_trees.specs.Walks.{first_with};
 
 use crate::candidate::{Candidate, Child};
 use crate::children::children_of;
 use crate::frame::Frame;
-use crate::progress::offer;
+use crate::progress::{is_beyond, offer};
 use crate::ranking::Ranked;
 use crate::sums::{Sums, frame_least};
 use roster_model::{Grammar, LetterPrice, Memory, Sym};
 use std::alloc::Global;
+use std::collections::VecDeque;
 
 // The place of the first child of least sum.
 fn least_place(children: &[Child]) -> usize
@@ -44,6 +45,31 @@ fn take_least(children: &mut Vec<Child>) -> Child
     children.remove(best)
 }
 
+// Puts the candidate that goes on with a child among those that wait. It is copied only where its sum does
+// not show that it would be dropped.
+fn offer_child(
+    alloc: Global,
+    frame: Frame,
+    child: Child,
+    room: usize,
+    current: &Candidate,
+    waiting: &mut VecDeque<Candidate>,
+) -> Result<(), Memory>
+    requires part { child.len ≤ frame.span.len }
+    requires place { frame.suffix.from < 255 }
+    requires day { frame.span.start + frame.span.len < 256 }
+    requires waiting { CanTake room waiting.old.items
+        (child_of current.now.steps frame current.now.pending child ∷ []) }
+    ensures { OnOk result (IsOffered room (child_of current.now.steps frame current.now.pending child)
+        waiting.old.items waiting.new.items) }
+{
+    if is_beyond(waiting, room, &child) {
+        return Ok(());
+    }
+    let sibling = current.child(alloc, frame, child)?;
+    offer(waiting, room, sibling)
+}
+
 // Goes on with the first child of least sum, and puts the others among those that wait.
 fn branch(
     alloc: Global,
@@ -51,7 +77,7 @@ fn branch(
     children: &mut Vec<Child>,
     room: usize,
     current: &mut Candidate,
-    waiting: &mut Vec<Candidate>,
+    waiting: &mut VecDeque<Candidate>,
 ) -> Result<(), Memory>
     requires some { 0 < length children.old.items }
     requires short { Each (λ (ch : Further). ch.len ≤ frame.span.len) children.old.items }
@@ -64,8 +90,7 @@ fn branch(
 {
     let best = take_least(children);
     for place in 0..children.len() {
-        let sibling = current.child(alloc, frame, children[place])?;
-        offer(waiting, room, sibling)?;
+        offer_child(alloc, frame, children[place], room, current, waiting)?;
     }
     current.go_on(frame, best)
 }
@@ -90,7 +115,7 @@ fn advance<P: LetterPrice>(
     given: &[Ranked],
     frame: Frame,
     current: &mut Candidate,
-    waiting: &mut Vec<Candidate>,
+    waiting: &mut VecDeque<Candidate>,
 ) -> Result<(), Memory>
     requires sums { IsSums grammar.now (P.view prices.now) sums.now }
     requires progress { IsProgress grammar.now (P.view prices.now) most given.now
@@ -125,7 +150,7 @@ pub fn descend<P: LetterPrice>(
     most: usize,
     given: &[Ranked],
     current: &mut Candidate,
-    waiting: &mut Vec<Candidate>,
+    waiting: &mut VecDeque<Candidate>,
 ) -> Result<(), Memory>
     requires sums { IsSums grammar.now (P.view prices.now) sums.now }
     requires progress { IsProgress grammar.now (P.view prices.now) most given.now

@@ -1,8 +1,9 @@
-ghost use Rattle.std.specs.Prelude.{◌≢◌, [], ◌∷◌, IsTrue, IsFalse};
+ghost use Rattle.std.specs.Prelude.{◌≢◌, ◌<ℤ◌, [], ◌∷◌, IsTrue, IsFalse};
+ghost use Rattle.std.specs.Bool.{OnTrue};
 ghost use Rattle.ranked_trees.specs.Ranking.{UsesBefore};
 ghost use Rattle.ranked_trees.specs.Candidates.{IsApart, Comes};
 
-use crate::candidate::Candidate;
+use crate::candidate::{Candidate, Child};
 use roster_model::Step;
 
 // Says whether a rule use comes before another, which is not the same.
@@ -44,4 +45,11 @@ pub fn comes_before(first: &Candidate, second: &Candidate) -> bool
         return first.sum < second.sum;
     }
     uses_before(first.steps.as_slice(), second.steps.as_slice())
+}
+
+/// Says whether a candidate's sum is below that of a child.
+pub fn is_below(candidate: &Candidate, child: &Child) -> bool
+    ensures { OnTrue result (candidate.now.sum <ℤ child.now.sum) }
+{
+    candidate.sum < child.sum
 }

@@ -1,42 +1,77 @@
-ghost use Rattle.std.specs.Prelude.{◌≡◌, ◌≤◌, [], ◌∷◌, OnOk, length, take, drop};
+ghost use Rattle.std.specs.Prelude.{◌≡◌, ◌≤◌, ◌<◌, ◌<ℤ◌, [], ◌∷◌, OnOk, length, take, drop};
+ghost use Rattle.std.specs.Bool.{OnTrue};
 ghost use Rattle.roster_model.specs.Folds.{Each};
 ghost use Rattle.ranked_trees.specs.declared.candidate.Candidate.{Candidate as Beginning};
 ghost use Rattle.ranked_trees.specs.Candidates.{Comes, IsAside, AreOrdered};
-ghost use Rattle.ranked_trees.specs.Progresses.{CanTake, IsOffered};
+ghost use Rattle.ranked_trees.specs.Progresses.{CanTake, IsOffered, IsRoomMade};
 
-use crate::candidate::Candidate;
-use crate::order::comes_before;
+use crate::candidate::{Candidate, Child};
+use crate::order::{comes_before, is_below};
 use roster_model::Memory;
+use std::collections::VecDeque;
 
 // Returns where a candidate is to stand among others in their order.
-fn place_of(waiting: &[Candidate], candidate: &Candidate) -> usize
-    requires aside { IsAside candidate.now.steps waiting.now }
-    requires ordered { AreOrdered waiting.now }
-    ensures within { result ≤ length waiting.now }
-    ensures before { Each (λ (d : Beginning). Comes d candidate.now) (take result waiting.now) }
-    ensures after { Each (Comes candidate.now) (drop result waiting.now) }
+fn place_of(waiting: &VecDeque<Candidate>, candidate: &Candidate) -> usize
+    requires aside { IsAside candidate.now.steps waiting.now.items }
+    requires ordered { AreOrdered waiting.now.items }
+    ensures within { result ≤ length waiting.now.items }
+    ensures before { Each (λ (d : Beginning). Comes d candidate.now) (take result waiting.now.items) }
+    ensures after { Each (Comes candidate.now) (drop result waiting.now.items) }
 {
-    for place in 0..waiting.len() {
-        if comes_before(candidate, &waiting[place]) {
-            return place;
+    let mut low = 0usize;
+    let mut high = waiting.len();
+    while low < high {
+        let middle = low + (high - low) / 2;
+        if comes_before(candidate, &waiting[middle]) {
+            high = middle;
+        } else {
+            low = middle + 1;
         }
     }
-    waiting.len()
+    low
+}
+
+/// Says whether there are as many candidates as there is room for, each of a smaller sum than a child.
+pub fn is_beyond(waiting: &VecDeque<Candidate>, room: usize, child: &Child) -> bool
+    requires ordered { AreOrdered waiting.now.items }
+    ensures full { OnTrue result (length waiting.now.items ≡ room) }
+    ensures smaller { OnTrue result (Each (λ (d : Beginning). d.sum <ℤ child.now.sum) waiting.now.items) }
+{
+    if waiting.len() != room {
+        return false;
+    }
+    match waiting.back() {
+        Some(last) => is_below(last, child),
+        None => true,
+    }
+}
+
+// Drops the last candidate where there are as many as there is room for.
+fn make_room(waiting: &mut VecDeque<Candidate>, room: usize)
+    requires few { length waiting.old.items ≤ room }
+    requires some { 0 < room }
+    ensures { IsRoomMade room waiting.old.items waiting.new.items }
+{
+    if waiting.len() == room {
+        let _ = waiting.pop_back();
+    }
 }
 
 /// Puts a candidate among others in their order. Where there are so many as there is room for, the
 /// last of all is dropped.
-pub fn offer(waiting: &mut Vec<Candidate>, room: usize, candidate: Candidate) -> Result<(), Memory>
+pub fn offer(
+    waiting: &mut VecDeque<Candidate>,
+    room: usize,
+    candidate: Candidate,
+) -> Result<(), Memory>
     requires { CanTake room waiting.old.items (candidate ∷ []) }
     ensures { OnOk result (IsOffered room candidate waiting.old.items waiting.new.items) }
 {
-    let place = place_of(waiting.as_slice(), &candidate);
+    let place = place_of(waiting, &candidate);
     if place == room {
         return Ok(());
     }
-    if waiting.len() == room {
-        let _ = waiting.pop();
-    }
+    make_room(waiting, room);
     match waiting.insert(place, candidate) {
         Ok(()) => Ok(()),
         Err(_) => Err(Memory),

@@ -12,6 +12,7 @@ use crate::sums::{Sums, frame_least};
 use roster_model::{Grammar, LetterPrice, List, Memory, Tree};
 use span_cells::{Span, Suffix, SumCells, fill_cells, layout_of};
 use std::alloc::Global;
+use std::collections::VecDeque;
 
 /// A tree of the day with its sum.
 #[derive(Debug, Drop)]
@@ -47,11 +48,11 @@ fn candidate_of(alloc: Global, frame: Frame, sum: i128) -> Result<Candidate, Mem
 }
 
 // One candidate alone.
-fn alone(alloc: Global, candidate: Candidate) -> Result<Vec<Candidate>, Memory>
+fn alone(alloc: Global, candidate: Candidate) -> Result<VecDeque<Candidate>, Memory>
     ensures { IfOk result (λ v. v.items ≡ candidate ∷ []) }
 {
-    let mut candidates = Vec::new(alloc);
-    match candidates.push(candidate) {
+    let mut candidates = VecDeque::new(alloc);
+    match candidates.push_back(candidate) {
         Ok(()) => Ok(candidates),
         Err(_) => Err(Memory),
     }
@@ -64,7 +65,7 @@ fn start<P: LetterPrice>(
     prices: &P,
     sums: &Sums,
     most: u32,
-) -> Result<Vec<Candidate>, Memory>
+) -> Result<VecDeque<Candidate>, Memory>
     requires sums { IsSums grammar.now (P.view prices.now) sums.now }
     requires some { 1 ≤ most }
     ensures { IfOk result (λ v. IsProgress grammar.now (P.view prices.now) most [] v.items []) }
@@ -77,7 +78,7 @@ fn start<P: LetterPrice>(
         },
     };
     let Some(sum) = frame_least(grammar, prices, sums, frame) else {
-        return Ok(Vec::new(alloc));
+        return Ok(VecDeque::new(alloc));
     };
     let all = candidate_of(alloc, frame, sum)?;
     let waiting = alone(alloc, all)?;
@@ -91,15 +92,14 @@ fn rank_waiting<P: LetterPrice>(
     prices: &P,
     sums: &Sums,
     most: u32,
-    waiting: &mut Vec<Candidate>,
+    waiting: &mut VecDeque<Candidate>,
 ) -> Result<List<Ranked>, Memory>
     requires sums { IsSums grammar.now (P.view prices.now) sums.now }
     requires progress { IsProgress grammar.now (P.view prices.now) most [] waiting.old.items [] }
     ensures { IfOk result (IsRanking grammar.now (P.view prices.now) most) }
 {
     let mut given = List::new(alloc);
-    while !waiting.is_empty() {
-        let mut current = waiting.remove(0);
+    while let Some(mut current) = waiting.pop_front() {
         descend(
             alloc,
             grammar,

@@ -1,23 +1,31 @@
-use Rattle.std.proofs.Common.{◌≡◌, length, take, inr, refl, subst, sym, ap, ◌∙◌, arith}
+use Rattle.std.proofs.Common.{◌≡◌, take, inr, refl, subst, arith}
 use Rattle.std.proofs.lemmas.List.{take_all}
 use Rattle.roster_model.specs.Folds.{Each}
 use Rattle.ranked_trees.specs.declared.candidate.Candidate.{Candidate}
-use Rattle.ranked_trees.specs.Candidates.{Comes, IsAside, AreOrdered}
+use Rattle.ranked_trees.specs.Candidates.{Comes}
+use Rattle.ranked_trees.proofs.OfferListLemmas.{room-place, offered-put}
+use Rattle.ranked_trees.proofs.progress.offer.Goals.{in-Ok, in-Err}
 use Rattle.ranked_trees.proofs.progress.offer.Goals as goal
 
-pub place_of-place-requires-clause-aside : goal.place_of-place-requires-clause-aside
-place_of-place-requires-clause-aside c = subst (IsAside c.args.candidate.steps) (sym c.as_slice.ensures.value) c.requires.aside.0
+pub insert-requires : goal.insert-requires
+insert-requires c =
+    let within = room-place c.args.room c.place_of-place.result c.args.waiting.now.items c.make_room.new.waiting.items c.make_room.ensures c.place_of-place.ensures.within c.if-place-room.false in
+    omega (arith, within)
 
-pub place_of-place-requires-clause-ordered : goal.place_of-place-requires-clause-ordered
-place_of-place-requires-clause-ordered c = subst AreOrdered (sym c.as_slice.ensures.value) c.requires.ordered
+pub returns : goal.returns
+returns c = elim c.match-insert.branch [
+  | in-Ok w ↦ rw w.result-is
+      (offered-put c.args.room c.place_of-place.result c.args.candidate c.args.waiting.now.items c.make_room.new.waiting.items c.insert.new.self.items c.make_room.ensures c.place_of-place.ensures.within
+      c.if-place-room.false c.place_of-place.ensures.before c.place_of-place.ensures.after w.in-Ok.ensures.items)
+  | in-Err w ↦ rw w.result-is tt
+]
 
 pub returns-then-place-room : goal.returns-then-place-room
 returns-then-place-room c =
-    let same : c.as_slice.result.now ≡ c.args.waiting.now.items = c.as_slice.ensures.value in
-    let long = ap length same in
-    let all : take c.place_of-place.result c.as_slice.result.now ≡ c.as_slice.result.now = take_all c.place_of-place.result c.as_slice.result.now (omega (arith, long, c.if-place-room.true, c.requires.few)) in
+    let items = c.args.waiting.now.items in
+    let all : take c.place_of-place.result items ≡ items = take_all c.place_of-place.result items (omega (arith, c.if-place-room.true, c.requires.few)) in
     inr (inr (record {
       same = refl;
-      before = subst (Each (λ (d : Candidate). Comes d c.args.candidate)) (all ∙ same) c.place_of-place.ensures.before;
-      full = omega (arith, long, c.if-place-room.true, c.requires.few, c.place_of-place.ensures.within);
+      before = subst (Each (λ (d : Candidate). Comes d c.args.candidate)) all c.place_of-place.ensures.before;
+      full = omega (arith, c.if-place-room.true, c.requires.few, c.place_of-place.ensures.within);
     }))
