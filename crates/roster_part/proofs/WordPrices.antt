@@ -1,6 +1,7 @@
 -- Words and their prices in their teams.
 use Rattle.std.proofs.Common.{◌≡◌, ℕ, ◌+◌, ◌≤◌, arith, Option, None, Some, MatchOption, List, [], ◌∷◌, length, map, refl, sym, subst, ◌∙◌}
 use Rattle.std.specs.Prelude.{◌≢◌, slice_get}
+use Rattle.std.proofs.lemmas.Option.{same_Some}
 use Rattle.std.specs.Option.{option_or}
 use Rattle.roster_model.specs.declared.instance.Instance.{Instance}
 use Rattle.roster_model.specs.declared.instance.Shift.{Shift}
@@ -14,7 +15,7 @@ use Rattle.certificates.specs.declared.why.Why.{Why}
 use Rattle.certificates.specs.declared.why.Why.TheVariants.{NotAShift, ShiftCost, WrongHeads, WrongCost, NotAnArc, EmptyHalf, NotPinned, BoundTooHigh, Outside}
 use Rattle.certificates.specs.RosterCauses.{duties, IsNoShift, IsMispriced, IsFirstNoShift, IsFirstMispriced}
 use Rattle.certificates.specs.RosterCauses.{stated_prices}
-use Rattle.roster_part.specs.Faults.{IsPriceCause, HasNoOtherWord, HasNoOtherPrice}
+use Rattle.roster_part.specs.Faults.{IsPriceBefore, IsPriceCause, HasNoOtherWord, HasNoOtherPrice}
 use Rattle.roster_part.specs.TeamViews.{IsTeamName}
 use Rattle.roster_part.proofs.Items.{Before, before-next, before-all, first-here, no-first}
 use Rattle.roster_model.proofs.TeamNumbers.{team_apart}
@@ -79,6 +80,12 @@ module _ (i : Instance) where
     so_far k s least None (Some w) at p h q =
         subst IsFirstOther (sym q.1)
         (record { shift = s; first = first-here (IsMispriced i) IsAtPrice shifts k s at (least, p, q.0) never_other h; stated = refl; price = p })
+
+    -- the price of a shift stands before the next
+    pub price_next : (k : ℕ) (s : Shift) (price : ℕ) → slice_get shifts k ≡ Some s → IsTeamPrice i (duty s) price → IsPriceBefore i shifts (k + 1) price
+    price_next k s price here p j t e at =
+        let same : j ≡ k = omega (arith, e) in
+        subst (λ (q : Shift). IsTeamPrice i (duty q) price) (same_Some s t (sym here ∙ subst (λ (n : ℕ). slice_get shifts n ≡ Some t) same at)) p
 
     pub no_shift-first : (k : ℕ) (s : Shift) → slice_get shifts k ≡ Some s → IsNoShift i s → Before HasPrice shifts k → IsFirstNoShift i shifts (k + 1)
     no_shift-first k s at none h = (s, first-here (IsNoShift i) HasPrice shifts k s at none never_both h)

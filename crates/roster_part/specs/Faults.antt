@@ -1,9 +1,10 @@
 -- A roster that is stated rightly, and the first cause for which one is not.
-use Rattle.std.specs.Prelude.{ℕ, ◌≡◌, List}
+use Rattle.std.specs.Prelude.{ℕ, ◌≡◌, ◌+◌, List, Some, slice_get}
 use Rattle.roster_model.specs.declared.instance.Instance.{Instance}
 use Rattle.roster_model.specs.declared.instance.Shift.{Shift}
+use Rattle.roster_model.specs.Duties.{duty}
 use Rattle.roster_model.specs.Folds.{Each}
-use Rattle.roster_model.specs.Rosters.{ArePrices, HasHeads, roster_cost}
+use Rattle.roster_model.specs.Rosters.{ArePrices, HasHeads, IsTeamPrice, roster_cost}
 use Rattle.roster_model.specs.Teams.{teams}
 use Rattle.certificates.specs.declared.why.Why.{Why}
 use Rattle.certificates.specs.declared.why.Why.TheVariants.{NotAShift, ShiftCost, WrongHeads, WrongCost, NotAnArc, EmptyHalf, NotPinned, BoundTooHigh, Outside}
@@ -27,6 +28,11 @@ HasNoOtherPrice i shifts = (k said least : ℕ) → IsFirstMispriced i shifts k 
 -- no team's number of shifts is outside its range
 abbrev pub HasNoOtherHeads : Instance → List Shift → Type 0
 HasNoOtherHeads i shifts = (g n : ℕ) → IsFirstOutOfRange i shifts g n → ⊥
+
+-- the shift before place k has this price in its team
+abbrev pub IsPriceBefore : Instance → List Shift → ℕ → ℕ → Type 0
+IsPriceBefore i shifts k price =
+    (j : ℕ) (s : Shift) → j + 1 ≡ k → slice_get shifts j ≡ Some s → IsTeamPrice i (duty s) price
 
 -- the first cause on the words and their prices
 abbrev pub IsPriceCause : Instance → List Shift → Why → Type 0

@@ -1,8 +1,16 @@
 use Rattle.std.proofs.Common.{refl, arith}
 use Rattle.std.proofs.lemmas.Option.{slice_get_read}
-use Rattle.roster_part.proofs.Items.{before-next}
-use Rattle.roster_part.proofs.WordPrices.{HasPrice, so_far, no_shift-first, all_priced}
+use Rattle.roster_part.proofs.Items.{before-next, before-none}
+use Rattle.roster_part.proofs.WordPrices.{HasPrice, IsAtPrice, so_far, price_next, no_shift-first, all_priced}
 use Rattle.roster_part.proofs.prices.price_fault.Goals as goal
+
+pub loop-place-init : goal.loop-place-init
+loop-place-init c = record {
+  kept = λ g made. made;
+  priced = before-none (HasPrice c.args.instance.now) c.args.shifts.now;
+  before = λ j s e at. absurd (omega (arith, e));
+  first = before-none (IsAtPrice c.args.instance.now) c.args.shifts.now;
+}
 
 pub loop-place-preserved : goal.loop-place-preserved
 loop-place-preserved c =
@@ -16,6 +24,7 @@ loop-place-preserved c =
     record {
       kept = λ g made. c.in-Some.ensures.kept g (before.kept g made);
       priced = before-next (HasPrice i) shifts k s here (c.in-Some.least, price) before.priced;
+      before = price_next i shifts k s c.in-Some.least here price;
       first = rw c.or-mispriced.ensures (so_far i shifts k s c.in-Some.least c.loop-place.mispriced c.other_price.result here price before.first c.other_price.ensures);
     }
 
