@@ -1,9 +1,9 @@
 ghost use Rattle.std.specs.Prelude.{IfOk};
 ghost use Rattle.roster_model.specs.SoundInstance.{IsSoundInstance};
 
-use crate::grammars::{BLOCK_NAMES, BLOCKS, CELL, PAIRS, SPLIT_DAYS};
+use crate::grammars::{BLOCK_NAMES, BLOCKS, CELL, HALVED_DAYS, PAIRS, SPLIT_DAYS};
 use crate::parts::{DayParts, day};
-use roster_model::{Cell, Group, Instance, is_sound_instance};
+use roster_model::{Cell, Group, Instance, List, Memory, is_sound_instance};
 use std::alloc::Global;
 use std::test::Fail;
 
@@ -124,6 +124,36 @@ pub const GROUP_PARTS: DayParts<'static> = DayParts {
     groups: &GROUPS,
     cells: &GROUP_CELLS,
 };
+
+/// Returns a cell of the letter `a` for each of so many periods, at 10 for each employee that is missing. The
+/// odd periods need two employees, and the even ones one.
+pub fn long_cells(alloc: Global, periods: u8) -> Result<List<Cell>, Memory> {
+    let mut cells = List::new(alloc);
+    for place in 0..periods {
+        cells.push(Cell {
+            period: place + 1,
+            need: if place % 2 == 0 { 2 } else { 1 },
+            ..CELL
+        })?;
+    }
+    Ok(cells)
+}
+
+/// Returns a day of 60 periods on which every word of two letters is a shift, for at most two employees.
+///
+/// It has 2^60 words, and each word has as many trees as there are ways to cut 60 letters in two again and
+/// again, C(118, 59) / 60: 468022714570105222979864805612385715318007175053312 trees, more than 2^168.
+pub fn day_of_many_trees<'a>(cells: &'a [Cell]) -> DayParts<'a> {
+    DayParts {
+        periods: 60,
+        names: &["S"],
+        rules: &HALVED_DAYS,
+        start: 0,
+        heads: (0, 2),
+        groups: &[],
+        cells,
+    }
+}
 
 /// Returns a sample day, which is sound.
 pub fn sound_day(alloc: Global, parts: &DayParts) -> Result<Instance, Fail>

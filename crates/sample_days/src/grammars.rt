@@ -37,6 +37,14 @@ pub const FULL_DAYS: [RuleParts<'static>; 3] = [
     (1, 0, &[WORK], ANY),
 ];
 
+/// Every day of the letters `a`, at 2, and `.`, at 1, for the one name `S`: each way to cut it in two, again
+/// and again, is a tree of its own, and costs 1 for each cut.
+pub const HALVED_DAYS: [RuleParts<'static>; 3] = [
+    (0, 2, &[WORK], ANY),
+    (0, 1, &[REST], ANY),
+    (0, 1, &[Sym::Name(0), Sym::Name(0)], ANY),
+];
+
 /// Full days at 3 and half days at 1, for the names `S`, `F` and `H` and the added name `*`, whose last
 /// rules are those of the groups `F` and `H`.
 pub const SPLIT_DAYS: [RuleParts<'static>; 7] = [

@@ -12,9 +12,9 @@ mod two_readings;
 
 pub use days::{
     BLOCK, BLOCK_PARTS, EXACT_PARTS, FLOOR_CELLS, FULL, GROUP_PARTS, HALF, ONE_PARTS, PAIR_PARTS,
-    sound_day,
+    day_of_many_trees, long_cells, sound_day,
 };
-pub use grammars::{BLOCK_NAMES, BLOCKS, CELL, FULL_DAYS, PAIRS, SPLIT_DAYS};
+pub use grammars::{BLOCK_NAMES, BLOCKS, CELL, FULL_DAYS, HALVED_DAYS, PAIRS, SPLIT_DAYS};
 pub use parts::{ANY, DayParts, REST, RuleParts, WORK, day, grammar};
 pub use rest_and_work::{sum_of_a_block, tree_of_a_block};
 pub use two_readings::{least_sum_of_two_readings, price_of_two_readings};
