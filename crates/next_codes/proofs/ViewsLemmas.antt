@@ -1,14 +1,25 @@
 -- What marginals were made for, when they are filled.
-use Rattle.std.proofs.Common.{◌≡◌, ℕ, ◌<◌, ◌≤◌, ◌+◌, ◌-◌, ◌*◌, None, length, get_or, subst, sym, ◌∙◌}
+use Rattle.std.proofs.Common.{◌≡◌, ℕ, ◌<◌, ◌≤◌, ◌+◌, ◌-◌, ◌*◌, None, arith, length, get_or, subst, sym, ◌∙◌}
 use Rattle.roster_model.specs.declared.grammar.Grammar.{Grammar}
-use Rattle.roster_model.specs.Sums.{PriceView}
+use Rattle.roster_model.specs.Grammar.{InDay}
+use Rattle.roster_model.specs.Sound.{IsSound}
+use Rattle.roster_model.specs.Sums.{PriceView, IsLeast, tree_sum}
+use Rattle.roster_model.specs.Trees.{IsDayTree}
 use Rattle.span_cells.specs.declared.slot.Layout.{Layout}
-use Rattle.span_cells.specs.Cells.{Held, AreMade}
+use Rattle.span_cells.specs.declared.slot.Slot.TheVariants.{OfName}
+use Rattle.span_cells.specs.Cells.{Held, AreMade, IsReady, AreFilled, cell, name_slot}
 use Rattle.span_cells.proofs.CellsLemmas.{ready-made}
 use Rattle.next_codes.specs.declared.totals.Totals.{Totals}
 use Rattle.next_codes.specs.Marginals.{IsMarginal}
 use Rattle.next_codes.specs.Totals.{AreCounted, letter_total}
 use Rattle.next_codes.specs.Views.{MarginalsView, IsMadeFor, AreMarginals}
+
+-- in filled cells that of the start name on the day is the least sum of the trees of the day
+pub day-sum : (g : Grammar) (p : PriceView) (lay : Layout) (h : Held) → IsSound g → IsReady g lay h → AreFilled g p lay h
+    → IsLeast (IsDayTree g) (tree_sum p 1) (cell lay h (name_slot lay g.start) 1 g.periods)
+day-sum g p lay h sound ready filled =
+    let day : InDay g.periods 1 g.periods = record { begins = omega arith; some = sound.some_period; within = omega arith } in
+    (filled (name_slot lay g.start) 1 g.periods (OfName g.start) (ready.layout.names g.start sound.start) day).least
 
 abbrev pub view_of : Layout → Held → Totals → ℕ → ℕ → MarginalsView
 view_of lay h t codes periods = record { layout = lay; inside = h; totals = t; codes = codes; periods = periods }

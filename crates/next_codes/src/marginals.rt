@@ -1,12 +1,15 @@
 ghost use Rattle.std.specs.Prelude.{ℕ, ◌≡◌, ◌≤◌, ◌<◌, None, IfOk};
 ghost use Rattle.roster_model.specs.declared.grammar.Grammar.{Grammar as Rules};
 ghost use Rattle.roster_model.specs.Sound.{IsSound};
+ghost use Rattle.roster_model.specs.Sums.{IsLeast, PriceView, tree_sum};
+ghost use Rattle.roster_model.specs.Trees.{IsDayTree};
+ghost use Rattle.span_cells.specs.Cells.{AreFilled, IsReady};
 ghost use Rattle.next_codes.specs.Views.{IsMadeFor, AreMarginals, value_at};
 
 use crate::slots::fill_totals;
 use crate::totals::Totals;
 use roster_model::{Grammar, LetterPrice, Memory};
-use span_cells::{Layout, SumCells, fill_cells, layout_of};
+use span_cells::{Layout, Span, SumCells, fill_cells, layout_of, sum_at};
 use std::alloc::Global;
 use std::marker::Model;
 
@@ -35,6 +38,21 @@ impl Model for Marginals {
     } };
 
     ghost invariant = { λ m. length m.totals.letters.items ≡ m.codes * m.periods };
+}
+
+// Returns the least sum over all trees of the day, for which the cells are filled.
+fn day_least(grammar: &Grammar, layout: &Layout, inside: &SumCells) -> Option<i128>
+    requires sound { IsSound grammar.now }
+    requires ready { IsReady grammar.now layout.now inside.now }
+    ensures { (p : PriceView) → AreFilled grammar.now p layout.now inside.now
+        → IsLeast (IsDayTree grammar.now) (tree_sum p 1) result }
+{
+    let day = Span {
+        start: 1,
+        len: grammar.periods,
+    };
+    let slot = layout.names[grammar.start as usize];
+    sum_at(layout, inside, slot, day)
 }
 
 impl Marginals {
@@ -66,10 +84,12 @@ impl Marginals {
     }
 
     /// Makes the value of each code and period the least sum under the prices over the trees of the day
-    /// with this code at this period; `None` exactly where no such tree has a sum. Takes no memory.
-    pub fn fill<P: LetterPrice>(&mut self, grammar: &Grammar, prices: &P)
+    /// with this code at this period, and returns the least sum over all trees of the day; `None` exactly
+    /// where no such tree has a sum. Takes no memory.
+    pub fn fill<P: LetterPrice>(&mut self, grammar: &Grammar, prices: &P) -> Option<i128>
         requires sound { IsSound grammar.now }
         requires made { IsMadeFor grammar.now self.old }
+        ensures least { IsLeast (IsDayTree grammar.now) (tree_sum (P.view prices.now) 1) result }
         ensures marginals { AreMarginals grammar.now (P.view prices.now) self.new }
         ensures kept { (g : Rules) → IsMadeFor g self.old → IsMadeFor g self.new }
         ensures codes { self.new.codes ≡ self.old.codes }
@@ -83,6 +103,7 @@ impl Marginals {
             &self.inside,
             &mut self.totals,
         );
+        day_least(grammar, &self.layout, &self.inside)
     }
 
     /// Returns the value of a code, by its position from 0, and a period from 1.
