@@ -11,7 +11,7 @@ use Rattle.roster_model.specs.Trees.{IsDayTree}
 use Rattle.text_lines.specs.Numbers.{number_text}
 use Rattle.text_lines.specs.Written.{written, tail}
 use Rattle.text_lines.proofs.WrittenLemmas.{line_then}
-use Rattle.day_questions.specs.declared.answer.Answer.{Answer}
+use Rattle.day_questions.specs.declared.reply.Reply.{Reply}
 use Rattle.day_questions.specs.Lines.{Line}
 use Rattle.day_questions.specs.Prices.{pattern_view}
 use Rattle.day_questions.specs.Shifts.{any_code, Fits, IsLeastPrice}
@@ -71,7 +71,7 @@ module _ (g : Grammar) (sound : IsSound g) (pattern : List ℕ) (long : length p
           none_some : (z : ℤ) → None ≡ Some z → ⊥
           none_some z e = cc
 
-pub ok-none : (g : Grammar) (pattern : List ℕ) (r : Result Answer Memory) → ((w : List ℕ) → Fits pattern w → IsShift g g.start w → ⊥)
+pub ok-none : (g : Grammar) (pattern : List ℕ) (r : Result Reply Memory) → ((w : List ℕ) → Fits pattern w → IsShift g g.start w → ⊥)
     → IfOk r (λ a. (a.status ≡ 1) × (a.output ≡ codes "no shift\n"))
     → IfOk r (λ a. FitsAnswer g pattern a.status a.output)
 ok-none g pattern (Err e) nothing h = tt

@@ -3,7 +3,7 @@ use Rattle.std.proofs.Common.{◌≡◌, ℕ, List, [], ◌++◌, Result, Ok, Er
 use Rattle.roster_model.specs.declared.grammar.Grammar.{Grammar}
 use Rattle.roster_model.specs.declared.memory.Memory.{Memory}
 use Rattle.text_lines.specs.Written.{written}
-use Rattle.day_questions.specs.declared.answer.Answer.{Answer}
+use Rattle.day_questions.specs.declared.reply.Reply.{Reply}
 use Rattle.day_questions.specs.Lines.{Line}
 use Rattle.day_questions.specs.Next.{AddsNextLines, AreNextLines, IsNextText, LongestText, NextAnswer, some, none}
 use Rattle.day_questions.proofs.LinesLemmas.{some-text}
@@ -18,7 +18,7 @@ module _ (g : Grammar) (prefix : List ℕ) where
   pub next-some : (text : List ℕ) → IsNextText g prefix text → (text ≡ [] → ⊥) → NextAnswer g prefix 0 text
   next-some text h there = some h.0 text h.1 (λ e. there (h.2 ∙ ap written e)) h.2
 
-  pub next-longest : (text : List ℕ) → IsNextText g prefix text → text ≡ [] → (r : Result Answer Memory) → IfOk r (λ a. (a.status ≡ 1) × LongestText g prefix a.output)
+  pub next-longest : (text : List ℕ) → IsNextText g prefix text → text ≡ [] → (r : Result Reply Memory) → IfOk r (λ a. (a.status ≡ 1) × LongestText g prefix a.output)
       → IfOk r (λ a. NextAnswer g prefix a.status a.output)
   next-longest text h empty (Err e) k = tt
   next-longest text h empty (Ok a) k =

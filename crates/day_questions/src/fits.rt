@@ -5,11 +5,10 @@ ghost use Rattle.day_questions.specs.Prices.{pattern_view};
 ghost use Rattle.day_questions.specs.Shifts.{any_code};
 ghost use Rattle.day_questions.specs.Fitting.{AddsOpenLines, FitsAnswer, IsLeastSum};
 
-use crate::answer::{Answer, no_shift};
 use crate::front::Front;
-use crate::least::least_sum;
 use crate::lines::add_code_lines;
 use crate::pattern_prices::PatternPrices;
+use crate::reply::{Reply, no_shift};
 use next_codes::Marginals;
 use roster_model::{Grammar, List, Memory};
 use std::alloc::Global;
@@ -41,27 +40,19 @@ fn add_period_lines(
     Ok(())
 }
 
-// Appends the lines of the open periods.
-fn add_open_lines(
+// Says the least price of a fitting shift, and the codes of the open periods.
+fn fitting(
     alloc: Global,
     prices: &PatternPrices<'_>,
-    out: &mut List<u8>,
-) -> Result<(), Memory>
+    marginals: &Marginals,
+    least: &i128,
+) -> Result<Reply, Memory>
     requires sound { IsSound prices.now.grammar.now }
     requires any { prices.now.any ≡ Some any_code }
     requires pattern { length prices.now.pattern.now ≡ prices.now.grammar.now.periods }
-    ensures { OnOk result (AddsOpenLines prices.now.grammar.now prices.now.pattern.now out.old out.new) }
-{
-    let mut marginals = Marginals::for_instance(alloc, prices.grammar)?;
-    marginals.fill(prices.grammar, prices);
-    add_period_lines(prices, &marginals, out)
-}
-
-// Says the least price of a fitting shift, and the codes of the open periods.
-fn fitting(alloc: Global, prices: &PatternPrices<'_>, least: &i128) -> Result<Answer, Memory>
-    requires sound { IsSound prices.now.grammar.now }
-    requires any { prices.now.any ≡ Some any_code }
-    requires pattern { length prices.now.pattern.now ≡ prices.now.grammar.now.periods }
+    requires made { IsMadeFor prices.now.grammar.now marginals.now }
+    requires filled { AreMarginals prices.now.grammar.now
+        (pattern_view prices.now.grammar.now prices.now.any prices.now.pattern.now) marginals.now }
     requires least { IsLeastSum prices.now.grammar.now prices.now.pattern.now least.now }
     ensures { IfOk result (λ a. FitsAnswer prices.now.grammar.now prices.now.pattern.now a.status a.output) }
 {
@@ -69,8 +60,37 @@ fn fitting(alloc: Global, prices: &PatternPrices<'_>, least: &i128) -> Result<An
     put(&mut output, b"least")?;
     signed_field(&mut output, least)?;
     output.push(b'\n')?;
-    add_open_lines(alloc, prices, &mut output)?;
-    Ok(Answer { status: 0, output })
+    add_period_lines(prices, marginals, &mut output)?;
+    Ok(Reply { status: 0, output })
+}
+
+// Answers which shifts fit a pattern of the day's length, for which the marginals are filled once.
+fn fits_by(
+    alloc: Global,
+    prices: &PatternPrices<'_>,
+    marginals: &mut Marginals,
+) -> Result<Reply, Memory>
+    requires sound { IsSound prices.now.grammar.now }
+    requires any { prices.now.any ≡ Some any_code }
+    requires pattern { length prices.now.pattern.now ≡ prices.now.grammar.now.periods }
+    requires made { IsMadeFor prices.now.grammar.now marginals.old }
+    ensures { IfOk result (λ a. FitsAnswer prices.now.grammar.now prices.now.pattern.now a.status a.output) }
+{
+    match marginals.fill(prices.grammar, prices) {
+        Some(least) => fitting(alloc, prices, marginals, &least),
+        None => no_shift(alloc),
+    }
+}
+
+// Answers which shifts fit a pattern of the day's length, with marginals of its own.
+fn fits_in(alloc: Global, prices: &PatternPrices<'_>) -> Result<Reply, Memory>
+    requires sound { IsSound prices.now.grammar.now }
+    requires any { prices.now.any ≡ Some any_code }
+    requires pattern { length prices.now.pattern.now ≡ prices.now.grammar.now.periods }
+    ensures { IfOk result (λ a. FitsAnswer prices.now.grammar.now prices.now.pattern.now a.status a.output) }
+{
+    let mut marginals = Marginals::for_instance(alloc, prices.grammar)?;
+    fits_by(alloc, prices, &mut marginals)
 }
 
 /// Answers which shifts fit a pattern, in which the byte `#` stands for any code.
@@ -79,7 +99,7 @@ fn fitting(alloc: Global, prices: &PatternPrices<'_>, least: &i128) -> Result<An
 /// a line `at T C PRICE` for each code C that some fitting shift has there, in the order of the codes, with the
 /// least price of such a shift. Status 1 comes exactly where no shift fits, and says `no shift`. After want of
 /// memory there is no answer.
-pub fn fits_answer(alloc: Global, grammar: &Grammar, pattern: &[u8]) -> Result<Answer, Memory>
+pub fn fits_answer(alloc: Global, grammar: &Grammar, pattern: &[u8]) -> Result<Reply, Memory>
     requires { IsSound grammar.now }
     ensures { IfOk result (λ a. FitsAnswer grammar.now pattern.now a.status a.output) }
 {
@@ -87,8 +107,5 @@ pub fn fits_answer(alloc: Global, grammar: &Grammar, pattern: &[u8]) -> Result<A
         return no_shift(alloc);
     }
     let prices = PatternPrices::new(grammar, Some(ANY), pattern);
-    match least_sum(alloc, grammar, &prices)? {
-        Some(least) => fitting(alloc, &prices, &least),
-        None => no_shift(alloc),
-    }
+    fits_in(alloc, &prices)
 }

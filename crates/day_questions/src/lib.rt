@@ -2,7 +2,6 @@
 //! next, and the shifts that fit a pattern.
 #![tactic(auto)]
 
-mod answer;
 mod cost_prices;
 mod fits;
 mod front;
@@ -15,9 +14,9 @@ mod next;
 mod pattern_prices;
 mod periods;
 mod ranking;
+mod reply;
 mod word;
 
-pub use answer::Answer;
 pub use cost_prices::CostPrices;
 pub use fits::fits_answer;
 pub use laws::{
@@ -26,3 +25,4 @@ pub use laws::{
 pub use next::next_answer;
 pub use pattern_prices::PatternPrices;
 pub use ranking::ranked_answer;
+pub use reply::Reply;

@@ -8,9 +8,9 @@ ghost use Rattle.day_questions.specs.Next.{LongestText};
 ghost use Rattle.day_questions.specs.Prices.{miss_view};
 ghost use Rattle.day_questions.specs.Shifts.{IsLongest};
 
-use crate::answer::{Answer, no_shift};
 use crate::least::least_sum;
 use crate::miss_prices::MissPrices;
+use crate::reply::{Reply, no_shift};
 use roster_model::{Grammar, List, Memory};
 use std::alloc::Global;
 use text_lines::{field, put};
@@ -37,7 +37,7 @@ fn longest_of(grammar: &Grammar, prefix: &[u8], sum: i128) -> usize
 }
 
 // Says the length of the longest prefix.
-fn longest_line(alloc: Global, length: usize) -> Result<Answer, Memory>
+fn longest_line(alloc: Global, length: usize) -> Result<Reply, Memory>
     ensures { IfOk result (λ a. (a.status ≡ 1)
         × (a.output ≡ written ((codes "longest" ∷ number_text (pos length) ∷ []) ∷ []))) }
 {
@@ -45,11 +45,11 @@ fn longest_line(alloc: Global, length: usize) -> Result<Answer, Memory>
     put(&mut output, b"longest")?;
     field(&mut output, length as u64)?;
     output.push(b'\n')?;
-    Ok(Answer { status: 1, output })
+    Ok(Reply { status: 1, output })
 }
 
 /// Says how many letters of the prefix some shift begins with, or that there is no shift.
-pub fn longest_answer(alloc: Global, grammar: &Grammar, prefix: &[u8]) -> Result<Answer, Memory>
+pub fn longest_answer(alloc: Global, grammar: &Grammar, prefix: &[u8]) -> Result<Reply, Memory>
     requires { IsSound grammar.now }
     ensures { IfOk result (λ a. (a.status ≡ 1) × LongestText grammar.now prefix.now a.output) }
 {

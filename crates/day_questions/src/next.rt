@@ -2,11 +2,11 @@ ghost use Rattle.std.specs.Prelude.{◌<◌, IfOk, OnOk, length};
 ghost use Rattle.roster_model.specs.Sound.{IsSound};
 ghost use Rattle.day_questions.specs.Next.{AddsNextLines, IsNextText, NextAnswer};
 
-use crate::answer::Answer;
 use crate::front::Front;
 use crate::lines::add_code_lines;
 use crate::longest::longest_answer;
 use crate::pattern_prices::PatternPrices;
+use crate::reply::Reply;
 use next_codes::Marginals;
 use roster_model::{Grammar, List, Memory};
 use std::alloc::Global;
@@ -47,7 +47,7 @@ fn next_lines(alloc: Global, grammar: &Grammar, prefix: &[u8]) -> Result<List<u8
 /// Status 0 says a line `code C PRICE` for each such code, in the order of the codes. Status 1 comes exactly
 /// where there is none, and says `longest K`, K being the length of the longest prefix of the prefix that
 /// begins some shift, or `no shift` where the day has none. After want of memory there is no answer.
-pub fn next_answer(alloc: Global, grammar: &Grammar, prefix: &[u8]) -> Result<Answer, Memory>
+pub fn next_answer(alloc: Global, grammar: &Grammar, prefix: &[u8]) -> Result<Reply, Memory>
     requires { IsSound grammar.now }
     ensures { IfOk result (λ a. NextAnswer grammar.now prefix.now a.status a.output) }
 {
@@ -55,7 +55,7 @@ pub fn next_answer(alloc: Global, grammar: &Grammar, prefix: &[u8]) -> Result<An
     if lines.is_empty() {
         return longest_answer(alloc, grammar, prefix);
     }
-    Ok(Answer {
+    Ok(Reply {
         status: 0,
         output: lines,
     })

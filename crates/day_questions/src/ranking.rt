@@ -5,8 +5,8 @@ ghost use Rattle.ranked_trees.specs.Ranking.{IsRankedTree};
 ghost use Rattle.day_questions.specs.Prices.{cost_view};
 ghost use Rattle.day_questions.specs.Ranked.{AddsTree, AddsTrees, IsTreesText, RankedAnswer};
 
-use crate::answer::Answer;
 use crate::cost_prices::CostPrices;
+use crate::reply::Reply;
 use crate::word::add_word;
 use ranked_trees::{Ranked, rank};
 use roster_model::{Grammar, List, Memory};
@@ -67,7 +67,7 @@ fn trees_text(alloc: Global, grammar: &Grammar, ranked: &[Ranked]) -> Result<Lis
 /// It says `trees COUNT`, and then a line `tree J COST WORD` for each in order. The status is 0, or 1 exactly
 /// where the day has no tree. Trees of one word, and trees by different rules, are different trees. After want
 /// of memory there is no answer.
-pub fn ranked_answer(alloc: Global, grammar: &Grammar, most: u32) -> Result<Answer, Memory>
+pub fn ranked_answer(alloc: Global, grammar: &Grammar, most: u32) -> Result<Reply, Memory>
     requires sound { IsSound grammar.now }
     requires some { 1 ≤ most }
     requires few { most ≤ 1000 }
@@ -77,7 +77,7 @@ pub fn ranked_answer(alloc: Global, grammar: &Grammar, most: u32) -> Result<Answ
     let ranked = rank(alloc, grammar, &prices, most)?;
     let output = trees_text(alloc, grammar, ranked.as_slice())?;
     if ranked.is_empty() {
-        return Ok(Answer { status: 1, output });
+        return Ok(Reply { status: 1, output });
     }
-    Ok(Answer { status: 0, output })
+    Ok(Reply { status: 0, output })
 }

@@ -5,17 +5,17 @@ use std::alloc::Global;
 
 /// How a question ends: the status, and what is said.
 #[derive(Drop)]
-pub struct Answer {
+pub struct Reply {
     pub status: u8,
     pub output: List<u8>,
 }
 
 // Says that there is no shift.
-pub(crate) fn no_shift(alloc: Global) -> Result<Answer, Memory>
+pub(crate) fn no_shift(alloc: Global) -> Result<Reply, Memory>
     ensures { IfOk result (λ a. (a.status ≡ 1) × (a.output ≡ codes "no shift\n")) }
 {
     match Vec::from_slice(alloc, b"no shift\n") {
-        Ok(bytes) => Ok(Answer {
+        Ok(bytes) => Ok(Reply {
             status: 1,
             output: List::from_vec(bytes),
         }),
