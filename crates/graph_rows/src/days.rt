@@ -76,6 +76,14 @@ pub fn words_graph(alloc: Global) -> Result<Graph, Fail>
     sound_graph(alloc, &grammar)
 }
 
+/// Returns the graph of one block.
+pub fn block_graph(alloc: Global) -> Result<Graph, Fail>
+    ensures { IfOk result HasGrammar }
+{
+    let grammar = one_block(alloc)?;
+    sound_graph(alloc, &grammar)
+}
+
 /// Returns the graph of a sound grammar.
 pub fn graph_of(alloc: Global, grammar: &Grammar) -> Result<Graph, Fail>
     requires { IsSound grammar.now }

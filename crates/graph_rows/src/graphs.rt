@@ -1,6 +1,6 @@
 ghost use Rattle.std.specs.Prelude.{◌<◌, IfSome, length};
 
-use crate::days::{build, one_block, sound_graph, words_graph};
+use crate::days::{block_graph, build, words_graph};
 use parse_graph::{Graph, GraphFault, Kid};
 use roster_model::{ArcKey, Grammar, Memory, Sym, is_sound};
 use sample_days::{ANY, RuleParts, WORK, grammar};
@@ -71,11 +71,6 @@ fn is_top(graph: &Graph, arc: &ArcKey, letter: Kid) -> bool {
     };
     let (first, rest) = graph.children(top);
     graph.root() == Some(graph.made_by(top)) && first == letter && is_used_once(graph, rest, top)
-}
-
-fn block_graph(alloc: Global) -> Result<Graph, Fail> {
-    let grammar = one_block(alloc)?;
-    sound_graph(alloc, &grammar)
 }
 
 /// Whether the graph is that of one block.

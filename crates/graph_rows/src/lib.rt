@@ -8,6 +8,8 @@ mod days;
 #[cfg(test)]
 mod graphs;
 #[cfg(test)]
+mod many_trees;
+#[cfg(test)]
 mod normal_forms;
 #[cfg(test)]
 mod prices;

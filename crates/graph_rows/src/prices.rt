@@ -61,7 +61,7 @@ fn is_alone(mult: &[Mult]) -> bool
 }
 
 /// Returns whether the prices, with at most one multiplier and the denominator 1, are in range.
-fn are_in_range(day: &Instance, cell: &[i128], mult: &[Mult], cuts: &[Cut]) -> bool
+pub fn are_in_range(day: &Instance, cell: &[i128], mult: &[Mult], cuts: &[Cut]) -> bool
     ensures fit { IsTrue result → FitPrices day.now 1 cell.now mult.now cuts.now }
     ensures few { IsTrue result → length mult.now ≤ 1 }
 {
@@ -78,11 +78,12 @@ const EDGE: i128 = 1 << 43;
 /// A pricer, and room for a tree.
 #[derive(Drop)]
 pub struct Rooms {
-    pricer: Pricer,
-    tree: TreeRoom,
+    pub pricer: Pricer,
+    pub tree: TreeRoom,
 }
 
-fn rooms_for(alloc: Global, grammar: &Grammar, graph: &Graph) -> Result<Rooms, Fail>
+/// Returns a pricer of the graph, and room for a tree of the grammar.
+pub fn rooms_for(alloc: Global, grammar: &Grammar, graph: &Graph) -> Result<Rooms, Fail>
     requires { IsSound grammar.now }
     ensures { IfOk result (λ r. AreMadeFor grammar.now graph.now r.pricer r.tree) }
 {
@@ -92,7 +93,7 @@ fn rooms_for(alloc: Global, grammar: &Grammar, graph: &Graph) -> Result<Rooms, F
 }
 
 /// Fills the pricer, and leaves in the room the steps of a tree of the least sum that is returned.
-fn write_cheapest<P: LetterPrice>(
+pub fn write_cheapest<P: LetterPrice>(
     grammar: &Grammar,
     graph: &Graph,
     rooms: &mut Rooms,
