@@ -8,8 +8,9 @@ use parse_graph::Graph;
 use roster_model::{ArcKey, List, Memory};
 use std::alloc::Global;
 
-// No order has more arcs: a graph has 100,000 at most.
-const MOST_MAKERS: usize = 1_000_000;
+// The most arcs of a graph. Each makes one node, so that no order has more of them; that is tested, so that
+// the rows' ends fit their type without a law of it.
+const MOST_MAKERS: usize = 100_000;
 
 /// An arc that makes a node, and the slots of what is below it.
 #[derive(Clone, Copy, Drop)]
