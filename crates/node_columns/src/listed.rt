@@ -8,10 +8,10 @@ ghost use Rattle.node_columns.specs.Priced.{AreNarrowPrices, IsPlain, listed_red
 
 use crate::desk::Held;
 use fraction::{Tally, TooWide, fits};
-use pivot_rows::{MOST, Place};
+use pivot_rows::{MOST_NUMBER, Place};
 
 /// The greatest size of a price of a row, and of their denominator.
-const WIDEST: u128 = MOST as u128;
+const WIDEST: u128 = MOST_NUMBER as u128;
 
 /// Returns what an entry of a column is worth at the prices of the rows.
 fn entry_worth(y: &[i128], place: &Place) -> i128
@@ -102,7 +102,7 @@ pub(crate) fn check_narrow(y: &[i128], kappa: i128, tally: &mut Tally) -> Result
 {
     let _count = tally.wide();
     match first_wide(y, kappa) {
-        Some(number) => fits(number, i128::from(MOST), tally),
+        Some(number) => fits(number, i128::from(MOST_NUMBER), tally),
         None => Ok(()),
     }
 }

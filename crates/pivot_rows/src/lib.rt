@@ -9,5 +9,5 @@ mod step;
 
 pub use column::{Place, entry_in};
 pub use laws::row_steps_exist;
-pub use row::{MOST, PivotRow};
+pub use row::{MOST_NUMBER, PivotRow};
 pub use step::step_row;

@@ -7,7 +7,7 @@ use std::alloc::Global;
 use std::marker::Model;
 
 /// The greatest size of a number of a row: 2^56.
-pub const MOST: i64 = 1 << 56;
+pub const MOST_NUMBER: i64 = 1 << 56;
 
 /// The row of a pivot, with the places of its numbers that are not 0. A contract sees the numbers.
 #[derive(Drop)]

@@ -7,7 +7,7 @@ ghost use Rattle.pivot_rows.specs.Quotients.{AreDivided, IsWideDivided, whole};
 ghost use Rattle.pivot_rows.specs.Places.{AreListed};
 ghost use Rattle.pivot_rows.specs.Refusals.{IsWideValue};
 
-use crate::row::{MOST, PivotRow};
+use crate::row::{MOST_NUMBER, PivotRow};
 use fraction::{Tally, TooWide, fits, gcd, gcd_unsigned};
 
 // The new number before the common factor is taken out.
@@ -90,7 +90,7 @@ fn divided(number: i128, divisor: i128, tally: &mut Tally) -> Result<i64, TooWid
     ensures counted { MatchResult result (λ _. tally.new ≡ tally.old) (λ _. tally.new ≡ refused tally.old) }
 {
     let value = quotient(number, divisor);
-    fits(value, i128::from(MOST), tally)?;
+    fits(value, i128::from(MOST_NUMBER), tally)?;
     Ok(value as i64)
 }
 

@@ -17,7 +17,7 @@ use crate::sheet::{Entries, Rows, Sheet};
 use crate::simplex::LpFault;
 use crate::small::{MOST_COST, fits_word, scaled_cost};
 use fraction::{Tally, fits};
-use pivot_rows::{MOST, PivotRow};
+use pivot_rows::{MOST_NUMBER, PivotRow};
 use roster_model::Memory;
 use std::alloc::Global;
 
@@ -50,7 +50,7 @@ fn fill_rows(
     ensures fault { IfErr result (IsRightFault right.now tally.old tally.new) }
 {
     for row in 0..right.len() {
-        if let Err(fault) = fits_word(right[row], MOST, tally) {
+        if let Err(fault) = fits_word(right[row], MOST_NUMBER, tally) {
             return Err(ColumnsFault::Wide(fault));
         }
         let Ok(line) = unit_line(alloc, right.len(), row, right[row]) else {
@@ -173,7 +173,7 @@ fn first_cost<C: Columns>(
         Err(fault) => return Err(fault),
     };
     let value = value_of(costs.as_slice(), right);
-    if let Err(fault) = fits(value, i128::from(MOST), tally) {
+    if let Err(fault) = fits(value, i128::from(MOST_NUMBER), tally) {
         return Err(LpFault::Wide(fault));
     }
     match cost_line(costs, value as i64) {

@@ -3,8 +3,8 @@ use crate::line::Line;
 use crate::marks::Marks;
 use pivot_rows::Place;
 
-/// The most columns among which the one of the least pivot is chosen.
-const MOST: usize = 16;
+/// The most columns among which the one of the least pivot is chosen; the rules ask for 4 and for 16.
+const MOST_NOMINEES: usize = 16;
 
 /// A wanted column with its reduced cost and the number of its entries that are not 0.
 #[derive(Clone, Copy, Drop)]
@@ -27,7 +27,7 @@ impl Nominee {
 #[derive(Drop)]
 pub(crate) struct Nominees {
     most: usize,
-    list: [Option<Nominee>; MOST],
+    list: [Option<Nominee>; MOST_NOMINEES],
 }
 
 /// Says whether a column comes before what a place holds.
@@ -44,7 +44,7 @@ impl Nominees {
     pub(crate) fn new(most: usize) -> Nominees {
         Nominees {
             most,
-            list: [None; MOST],
+            list: [None; MOST_NOMINEES],
         }
     }
 
