@@ -7,6 +7,7 @@ use Rattle.fraction.specs.Range.{Counts}
 use Rattle.fraction.specs.Row.{at}
 use Rattle.master_laws.specs.Rounding.{cell_lines, line_sums, first_head, numbers_from}
 use Rattle.master_laws.proofs.WideNumbers.{wide_rounding}
+use Rattle.price_round.proofs.RoundFaults.{wide_floor}
 use Rattle.price_round.specs.Faults.{IsRoundFault}
 use Rattle.price_round.specs.declared.round.RoundFault.{RoundFault}
 use Rattle.price_round.specs.declared.round.RoundFault.TheVariants.{Wide as RoundWide, Memory as RoundMemory}
@@ -25,7 +26,8 @@ numbers_part i cuts y out n a b =
 pub not_wide : (i : Instance) (cuts : List Cut) (y : List ℤ) (kappa : ℤ) (old new : Counts) (fault : RoundFault) → AreNarrowPrices y kappa
     → IsRoundFault kappa (line_sums (cell_lines i (at y))) cuts (numbers_from (at y) (first_head i + 2) cuts) old new fault → (fault ≡ RoundMemory) × (new ≡ old)
 not_wide i cuts y kappa old new (RoundWide f) narrow h =
-    let w = h.1 in
-    let r = wide_rounding i cuts (at y) kappa w.d w.number w.rounded narrow.some w.denominator w.listed w.floor w.wide in
+    let n = h.1 in
+    let w = wide_floor kappa (line_sums (cell_lines i (at y))) cuts (numbers_from (at y) (first_head i + 2) cuts) f n in
+    let r = wide_rounding i cuts (at y) kappa n.d w.number w.rounded narrow.some n.denominator w.listed w.floor w.wide in
     absurd (let l = at_narrow y narrow.prices r.0 in omega (arith, r.2))
 not_wide i cuts y kappa old new RoundMemory narrow h = (refl, h)

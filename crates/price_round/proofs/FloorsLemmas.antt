@@ -1,11 +1,13 @@
 -- Floors of numbers over kappa, and of their sizes.
-use Rattle.std.proofs.Common.{◌≡◌, ℕ, ℤ, arith, pos, negsuc, neg_ℤ, ◌+ℤ◌, ◌-ℤ◌, ◌*ℤ◌, ◌<ℤ◌, ◌≤ℤ◌, ◌^◌, ◌<◌, ◌≤◌, inl, inr, unsigned_abs, ap, ◌∙◌}
+use Rattle.std.proofs.Common.{◌≡◌, ℕ, ℤ, arith, pos, negsuc, neg_ℤ, ◌+ℤ◌, ◌-ℤ◌, ◌*ℤ◌, ◌<ℤ◌, ◌≤ℤ◌, ◌^◌, ◌<◌, ◌≤◌, unsigned_abs, ap, ◌∙◌}
 use Rattle.std.proofs.lemmas.Int.{ints}
 use lib.IntN.{*ℤ_comm}
 use Rattle.linear_programs.proofs.Ring.{*ℤ-+ℤ, pos_factor}
 use Rattle.linear_programs.proofs.Orders.{times_le}
 use Rattle.fraction.proofs.Order.{euclid}
 use Rattle.fraction.specs.Scaled.{scaled_floor}
+use Rattle.fraction.specs.declared.wide.TooWide.{TooWide}
+use Rattle.fraction.specs.declared.wide.TooWide.TheVariants.{Scaled}
 use Rattle.roster_model.specs.Sums.{Within}
 use Rattle.master_laws.specs.Rounding.{IsFloor}
 use Rattle.master_laws.proofs.Numbers.{add_times, neg_times}
@@ -28,8 +30,9 @@ within_is (negsuc a) n h = record { low = omega (arith, ints); high = omega (ari
 above : (n m : ℕ) → (n ≤ m → ⊥) → m < n
 above n m h = grind arith
 
-pub wide_is : (kappa x : ℤ) (d : ℕ) → pos 0 <ℤ kappa → (pos (unsigned_abs (scaled_floor x kappa d)) ≤ℤ pos (2 ^ 80) → ⊥) → IsWide kappa d x
-wide_is kappa x d h out = record { rounded = scaled_floor x kappa d; floor = inl (floor_is kappa x d h); wide = past (unsigned_abs (scaled_floor x kappa d)) out }
+pub wide_is : (kappa x : ℤ) (d : ℕ) (fault : TooWide) → pos 0 <ℤ kappa → (pos (unsigned_abs (scaled_floor x kappa d)) ≤ℤ pos (2 ^ 80) → ⊥)
+    → fault ≡ Scaled x kappa d (pos (2 ^ 80)) → IsWide kappa d x x fault
+wide_is kappa x d fault h out told = record { rounded = scaled_floor x kappa d; floor = floor_is kappa x d h; wide = past (unsigned_abs (scaled_floor x kappa d)) out; told = told }
   where
     past : (n : ℕ) → (pos n ≤ℤ pos (2 ^ 80) → ⊥) → 2 ^ 80 < n
     past n out = above n (2 ^ 80) (λ l. out (omega (arith, ints)))
@@ -69,8 +72,9 @@ module _ (kappa x y : ℤ) (d : ℕ) (positive : pos 0 <ℤ kappa) (less : y ≡
       by : (q : ℤ) → pos (unsigned_abs q) ≤ℤ (pos (2 ^ 80) -ℤ pos d) → (q +ℤ pos d) ≤ℤ pos (2 ^ 80)
       by q h = omega (arith, ints)
 
-  pub size_wide : x ≤ℤ pos 0 → d ≤ 2 ^ 30 → (pos (unsigned_abs (scaled_floor y kappa d)) ≤ℤ (pos (2 ^ 80) -ℤ pos d) → ⊥) → IsWide kappa d x
-  size_wide h few out = record { rounded = _; floor = inr size_is; wide = past (scaled_floor y kappa d) (size_nonneg h) out }
+  pub size_wide : (fault : TooWide) → x ≤ℤ pos 0 → d ≤ 2 ^ 30 → (pos (unsigned_abs (scaled_floor y kappa d)) ≤ℤ (pos (2 ^ 80) -ℤ pos d) → ⊥)
+      → fault ≡ Scaled x kappa d (pos (2 ^ 80)) → IsWide kappa d x (neg_ℤ x) fault
+  size_wide fault h few out told = record { rounded = _; floor = size_is; wide = past (scaled_floor y kappa d) (size_nonneg h) out; told = told }
     where
       past : (q : ℤ) → pos 0 ≤ℤ (q +ℤ pos d) → (pos (unsigned_abs q) ≤ℤ (pos (2 ^ 80) -ℤ pos d) → ⊥) → 2 ^ 80 < unsigned_abs (q +ℤ pos d)
       past q l out = above _ _ (λ k. out (omega (arith, ints)))

@@ -5,7 +5,8 @@ ghost use Rattle.price_round.specs.Denominators.{IsNext, IsPast, AreAllPast, IsL
 
 use fraction::gcd_unsigned;
 
-const MOST: u128 = 1 << 30;
+/// The greatest denominator of prices, 2^30.
+const MOST_DENOMINATOR: u128 = 1 << 30;
 
 /// Returns the least multiple of `d` that makes the number over `kappa` whole, or none where it is
 /// above 2^30.
@@ -18,11 +19,11 @@ fn next_denominator(d: u64, number: i128, kappa: i128) -> Option<u64>
 {
     let size = kappa.unsigned_abs();
     let part = size / gcd_unsigned(number.unsigned_abs(), size);
-    if part > MOST {
+    if part > MOST_DENOMINATOR {
         return None;
     }
     let next = u128::from(d) / gcd_unsigned(u128::from(d), part) * part;
-    if next > MOST {
+    if next > MOST_DENOMINATOR {
         return None;
     }
     Some(next as u64)

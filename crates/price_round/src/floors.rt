@@ -1,17 +1,17 @@
-ghost use Rattle.std.specs.Prelude.{ℕ, ℤ, ◌≡◌, ◌≤◌, ◌<◌, ◌+◌, ◌^◌, pos, neg_ℤ, ◌+ℤ◌, ◌<ℤ◌, ◌≤ℤ◌, [], ◌∷◌, length, All, OnOk, OnErr, IfOk, IfErr};
+ghost use Rattle.std.specs.Prelude.{ℕ, ℤ, ◌≡◌, ◌≤◌, ◌<◌, ◌+◌, ◌^◌, pos, neg_ℤ, ◌+ℤ◌, ◌<ℤ◌, ◌≤ℤ◌, length, All, OnOk, OnErr, IfOk, IfErr};
 ghost use Rattle.roster_model.specs.Sums.{Within};
 ghost use Rattle.roster_model.specs.Reduced.{signed};
 ghost use Rattle.master_laws.specs.Rounding.{IsFloor, AreFloors};
 ghost use Rattle.master_laws.specs.Laws.{HasSign, HaveSigns};
-ghost use Rattle.price_round.specs.Floors.{IsFloorFault, AreMultsOf, with_mult};
+ghost use Rattle.price_round.specs.Floors.{IsNumberFault, IsCellFault, IsMultFault, AreMultsOf, with_mult};
 
 use crate::round::RoundFault;
-use fraction::{Tally, scaled};
+use fraction::{Tally, TooWide, scaled};
 use roster_model::{Cut, List, Memory, Mult, Side};
 use std::alloc::Global;
 
 /// The greatest size of a price, 2^80.
-const MOST: i128 = 1 << 80;
+const MOST_ROUNDED: i128 = 1 << 80;
 
 /// Returns `d` times a number over `kappa`, rounded down.
 fn rounded(number: i128, kappa: i128, d: u64, tally: &mut Tally) -> Result<i128, RoundFault>
@@ -19,10 +19,10 @@ fn rounded(number: i128, kappa: i128, d: u64, tally: &mut Tally) -> Result<i128,
     requires d { (1 ≤ d) × (d ≤ 2 ^ 30) }
     ensures floor { IfOk result (IsFloor kappa d number) }
     ensures within { IfOk result (Within (2 ^ 80)) }
-    ensures wide { IfErr result (IsFloorFault kappa d (number ∷ []) tally.old tally.new) }
+    ensures wide { IfErr result (IsNumberFault kappa d number number tally.old tally.new) }
     ensures kept { IfOk result (λ _. tally.new ≡ tally.old) }
 {
-    match scaled(number, kappa, d, MOST, tally) {
+    match scaled(number, kappa, d, MOST_ROUNDED, tally) {
         Ok(floor) => Ok(floor),
         Err(fault) => Err(RoundFault::Wide(fault)),
     }
@@ -37,6 +37,18 @@ fn size_less(number: i128, kappa: i128) -> i128
     -(number + kappa)
 }
 
+/// Returns the fault of a number whose size is too wide once it is rounded: it names the number itself.
+fn wide_size(number: i128, kappa: i128, d: u64) -> RoundFault
+    ensures { result ≡ RoundFault.Wide (TooWide.Scaled number kappa d (pos (2 ^ 80))) }
+{
+    RoundFault::Wide(TooWide::Scaled {
+        num: number,
+        den: kappa,
+        d,
+        most: MOST_ROUNDED,
+    })
+}
+
 /// Returns `d` times the size of a number of at most 0 over `kappa`, rounded down.
 fn rounded_size(number: i128, kappa: i128, d: u64, tally: &mut Tally) -> Result<i128, RoundFault>
     requires number { number ≤ℤ pos 0 }
@@ -44,14 +56,20 @@ fn rounded_size(number: i128, kappa: i128, d: u64, tally: &mut Tally) -> Result<
     requires d { (1 ≤ d) × (d ≤ 2 ^ 30) }
     ensures floor { IfOk result (IsFloor kappa d (neg_ℤ number)) }
     ensures within { IfOk result (λ m. (pos 0 ≤ℤ m) × (m ≤ℤ pos (2 ^ 80))) }
-    ensures wide { IfErr result (IsFloorFault kappa d (number ∷ []) tally.old tally.new) }
+    ensures wide { IfErr result (IsNumberFault kappa d number (neg_ℤ number) tally.old tally.new) }
     ensures kept { IfOk result (λ _. tally.new ≡ tally.old) }
 {
     // What `kappa` takes off the size is `d` off the floor.
     let whole = i128::from(d);
-    match scaled(size_less(number, kappa), kappa, d, MOST - whole, tally) {
+    match scaled(
+        size_less(number, kappa),
+        kappa,
+        d,
+        MOST_ROUNDED - whole,
+        tally,
+    ) {
         Ok(floor) => Ok(floor + whole),
-        Err(fault) => Err(RoundFault::Wide(fault)),
+        Err(_) => Err(wide_size(number, kappa, d)),
     }
 }
 
@@ -67,7 +85,7 @@ pub(crate) fn floors(
     requires d { (1 ≤ d) × (d ≤ 2 ^ 30) }
     ensures floors { IfOk result (AreFloors kappa d numbers.now) }
     ensures within { IfOk result (All (Within (2 ^ 80))) }
-    ensures wide { IfErr result (IsFloorFault kappa d numbers.now tally.old tally.new) }
+    ensures wide { IfErr result (IsCellFault kappa d numbers.now tally.old tally.new) }
     ensures kept { IfOk result (λ _. tally.new ≡ tally.old) }
 {
     let mut floors = List::new(alloc);
@@ -91,7 +109,8 @@ fn multiplier(
     requires d { (1 ≤ d) × (d ≤ 2 ^ 30) }
     ensures floor { IfOk result (IsFloor kappa d (neg_ℤ (signed side number))) }
     ensures within { IfOk result (λ m. (pos 0 ≤ℤ m) × (m ≤ℤ pos (2 ^ 80))) }
-    ensures wide { IfErr result (IsFloorFault kappa d (number ∷ []) tally.old tally.new) }
+    ensures wide { IfErr result (IsNumberFault kappa d number (neg_ℤ (signed side number))
+        tally.old tally.new) }
     ensures kept { IfOk result (λ _. tally.new ≡ tally.old) }
 {
     match side {
@@ -125,7 +144,7 @@ pub(crate) fn multipliers(
     requires length { length numbers.now ≡ length cuts.now }
     requires signs { HaveSigns cuts.now numbers.now }
     ensures mults { IfOk result (AreMultsOf kappa d cuts.now numbers.now) }
-    ensures wide { IfErr result (IsFloorFault kappa d numbers.now tally.old tally.new) }
+    ensures wide { IfErr result (IsMultFault kappa d cuts.now numbers.now tally.old tally.new) }
     ensures kept { IfOk result (λ _. tally.new ≡ tally.old) }
 {
     let mut mults = List::new(alloc);

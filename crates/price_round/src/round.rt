@@ -16,7 +16,7 @@ use std::alloc::Global;
 /// Why prices could not be rounded.
 #[derive(Clone, Copy, Debug, PartialEq, Eq, Drop)]
 pub enum RoundFault {
-    /// A rounded number is above 2^80 in size.
+    /// A rounded number is above 2^80 in size: with the row's number as it stands, `kappa`, `d` and 2^80.
     Wide(TooWide),
     /// Memory did not suffice.
     Memory,
@@ -37,8 +37,9 @@ impl From<Memory> for RoundFault {
 /// numbers over one denominator: the least `d` that makes the prices of cells and cuts whole, or 2^20
 /// where that is above 2^30.
 ///
-/// Prices of cells are rounded down, and multipliers of cuts towards 0; only those above 0 are
-/// listed. `Wide` comes exactly where a rounded number is above 2^80 in size, and the tally counts it.
+/// A cell's price is the floor of its number, and a cut's multiplier that of its number with its side's sign,
+/// so that it is rounded towards 0; only multipliers above 0 are listed. `Wide` comes exactly where one of
+/// these floors is above 2^80 in size, and the tally counts it.
 pub fn to_prices(
     alloc: Global,
     y: &[i128],

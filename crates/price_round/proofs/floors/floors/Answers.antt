@@ -5,7 +5,7 @@ use Rattle.std.proofs.lemmas.Result.{err_from_is_err_and}
 use Rattle.roster_model.specs.Sums.{Within}
 use Rattle.master_laws.specs.Rounding.{AreFloors}
 use Rattle.price_round.proofs.Multipliers.{floors_step}
-use Rattle.price_round.proofs.RoundFaults.{fault_at}
+use Rattle.price_round.proofs.RoundFaults.{cell_at}
 use Rattle.price_round.proofs.floors.floors.Goals as goal
 
 pub returns-in_err-floor-clause-wide : goal.returns-in_err-floor-clause-wide
@@ -14,7 +14,7 @@ returns-in_err-floor-clause-wide c =
     let fx : SFits w128 (get_or c.args.numbers.now c.loop-number.number-index (pos 0)) = search rules in
     let h = simp to_z-of_z at c.in_err-floor.ensures.wide in
     let p = err_from_is_err_and c.from_residual.result c.from_residual.ensures.1 in
-    rw (p.1, p.2) (fault_at c.args.kappa c.args.d c.args.tally.now c.rounded.new.tally c.args.numbers.now c.loop-number.number-index c.loop-number-test.true _ (rw c.loop-number.invariant.0 at h))
+    rw (p.1, p.2) (cell_at c.args.kappa c.args.d c.args.tally.now c.rounded.new.tally c.args.numbers.now c.loop-number.number-index c.loop-number-test.true _ (rw c.loop-number.invariant.0 at h))
 
 pub loop-number-preserved : goal.loop-number-preserved
 loop-number-preserved c =

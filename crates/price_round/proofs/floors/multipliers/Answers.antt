@@ -3,7 +3,7 @@ use Rattle.std.specs.Int.{w128}
 use Rattle.std.proofs.lemmas.Result.{err_from_is_err_and}
 use Rattle.price_round.specs.Floors.{AreMultsOf}
 use Rattle.price_round.proofs.Multipliers.{mults_at, sign_at}
-use Rattle.price_round.proofs.RoundFaults.{fault_at}
+use Rattle.price_round.proofs.RoundFaults.{mult_at}
 use Rattle.price_round.proofs.floors.multipliers.Goals as goal
 
 pub multiplier-requires-clause-sign : goal.multiplier-requires-clause-sign
@@ -19,7 +19,7 @@ returns-in_err-value-clause-wide c =
     let fx : SFits w128 (get_or c.args.numbers.now c.loop-index.index (pos 0)) = search rules in
     let h = simp to_z-of_z at c.in_err-value.ensures.wide in
     let p = err_from_is_err_and c.from_residual.result c.from_residual.ensures.1 in
-    rw (p.1, p.2) (fault_at c.args.kappa c.args.d c.args.tally.now c.multiplier.new.tally c.args.numbers.now c.loop-index.index l _ (rw c.loop-index.invariant.0 at h))
+    rw (p.1, p.2) (mult_at c.args.kappa c.args.d c.args.tally.now c.multiplier.new.tally c.args.cuts.now c.args.numbers.now c.loop-index.index _ c.loop-index-test.true l _ (rw c.loop-index.invariant.0 at h))
 
 pub loop-index-preserved : goal.loop-index-preserved
 loop-index-preserved c =

@@ -1,4 +1,4 @@
-use Rattle.std.proofs.Common.{to_z-of_z, refl, inl, SFits, rules}
+use Rattle.std.proofs.Common.{to_z-of_z, SFits, rules}
 use Rattle.std.specs.Int.{w128}
 use Rattle.price_round.proofs.FloorsLemmas.{floor_is, wide_is}
 use Rattle.price_round.proofs.floors.rounded.Goals as goal
@@ -16,4 +16,5 @@ returns-in-Err-clause-wide c =
     let fn = c.ranges.number in
     let fk = c.ranges.kappa in
     let v = simp to_z-of_z at c.in-Err.ensures.value in
-    (c.in-Err.ensures.counted, (c.args.number, inl refl, wide_is c.args.kappa c.args.number c.args.d c.requires.kappa v))
+    let e = simp to_z-of_z at c.in-Err.ensures.fault in
+    (c.in-Err.ensures.counted, wide_is c.args.kappa c.args.number c.args.d _ c.requires.kappa v e)

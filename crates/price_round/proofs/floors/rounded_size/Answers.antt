@@ -1,4 +1,4 @@
-use Rattle.std.proofs.Common.{pos, to_z-of_z, refl, inl, SFits, rules, arith, neg_ℤ, ◌+ℤ◌, ◌-ℤ◌, ◌≤ℤ◌, ◌^◌, ◌≡◌, unsigned_abs}
+use Rattle.std.proofs.Common.{pos, to_z-of_z, refl, SFits, rules, arith, neg_ℤ, ◌+ℤ◌, ◌-ℤ◌, ◌≤ℤ◌, ◌^◌, ◌≡◌, unsigned_abs}
 use Rattle.std.specs.Int.{w128}
 use Rattle.std.proofs.lemmas.Int.{ints}
 use Rattle.fraction.specs.Scaled.{scaled_floor}
@@ -56,7 +56,9 @@ returns-in-Err-clause-wide c =
     let fw : SFits w128 c.from-whole.result = omega (arith, ints) in
     let fm : SFits w128 (pos (2 ^ 80) -ℤ c.from-whole.result) = omega (arith, ints) in
     let l : c.size_less.result ≡ neg_ℤ (c.args.number +ℤ c.args.kappa) = simp to_z-of_z at c.size_less.ensures in
-    let v = simp to_z-of_z at c.in-Err.ensures.value in (
+    let v = simp to_z-of_z at c.in-Err.ensures.value in
+    let w = simp to_z-of_z at c.wide_size.ensures in
+    rw w (
       c.in-Err.ensures.counted,
-      (c.args.number, inl refl, size_wide c.args.kappa c.args.number c.size_less.result c.args.d c.requires.kappa l c.requires.number c.requires.d.1 (rw e at v)),
+      size_wide c.args.kappa c.args.number c.size_less.result c.args.d c.requires.kappa l _ c.requires.number c.requires.d.1 (rw e at v) refl,
     )
