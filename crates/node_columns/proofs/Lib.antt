@@ -5,3 +5,4 @@ pub mod HeldColumns
 pub mod PricedOut
 pub mod FirstColumns
 pub mod TreeWeights
+pub mod ApartTrees

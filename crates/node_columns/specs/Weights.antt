@@ -1,6 +1,7 @@
 -- The weights of the trees among the columns of a node's master.
-use Rattle.std.specs.Prelude.{ℕ, pos, ◌≡◌, ◌<◌, ◌*ℤ◌, Some, List, [], ◌∷◌, slice_get}
+use Rattle.std.specs.Prelude.{ℕ, pos, ◌≡◌, ◌≢◌, ◌<◌, ◌*ℤ◌, Some, List, [], ◌∷◌, slice_get}
 use Rattle.roster_model.specs.declared.grammar.Grammar.{Grammar}
+use Rattle.roster_model.specs.Folds.{Each}
 use Rattle.roster_model.specs.Trees.{Parts}
 use Rattle.linear_programs.specs.Solution.{Weighted}
 use Rattle.fraction.specs.declared.frac.Frac.{Frac}
@@ -32,11 +33,23 @@ AreWeights g columns d (x ∷ xs) (w ∷ ws) = IsWeight g columns d x w × AreWe
 AreWeights g columns d [] (w ∷ ws) = ⊥
 AreWeights g columns d (x ∷ xs) [] = ⊥
 
--- the weights of a basic solution's trees, whatever its weights over d
+-- no key stands twice
+abbrev pub KeysStandOnce : List (Weighted MasterKey) → Type 0
+KeysStandOnce [] = Unit {0}
+KeysStandOnce (w ∷ ws) = Each (λ (v : Weighted MasterKey). v.key ≢ w.key) ws × KeysStandOnce ws
+
+-- each weight is one of another tree
+abbrev pub AreApart : List Weight → Type 0
+AreApart [] = Unit {0}
+AreApart (x ∷ xs) = Each (λ (y : Weight). y.column ≢ x.column) xs × AreApart xs
+
+-- the weights of a basic solution's trees, whatever its weights over d; where no column is basic twice,
+-- each is one of another tree
 abbrev pub AreTreeWeights : Grammar → (ℕ → MasterKey → Type 0) → List PoolTree → List Basic → List Weight
     → Type 0
 AreTreeWeights g Listed columns basic weights = (d : ℕ) (ws : List (Weighted MasterKey)) → 0 < d
-    → AreBasicWeights Listed d basic ws → AreWeights g columns d weights (tree_weights ws)
+    → AreBasicWeights Listed d basic ws
+    → AreWeights g columns d weights (tree_weights ws) × (KeysStandOnce ws → AreApart weights)
 
 -- the weight is not among those above 0 of trees
 abbrev pub IsLeftOut : Weighted MasterKey → Type 0

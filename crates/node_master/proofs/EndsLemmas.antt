@@ -56,9 +56,10 @@ use Rattle.node_columns.specs.declared.desk.Held.{Held}
 use Rattle.node_columns.specs.declared.weights.Weight.{Weight}
 use Rattle.node_columns.specs.Columns.{HasKey}
 use Rattle.node_columns.specs.Priced.{AreNarrowPrices}
-use Rattle.node_columns.specs.Weights.{AreTreeWeights}
+use Rattle.node_columns.specs.Weights.{AreTreeWeights, KeysStandOnce}
 use Rattle.node_master.specs.declared.ends.NodeEnd.{NodeEnd}
 use Rattle.node_master.specs.Ends.{IsNodeCut, EndsRight, IsFailedBy, IsOther, IsBest, ClosesWhole}
+use Rattle.node_master.proofs.BasicColumns.{basis_once}
 use Rattle.master_rows.proofs.AddedRows.{floors-le, ceilings-le}
 
 -- a solution of least cost has the program's value
@@ -103,6 +104,10 @@ module _ (i : Instance) (cuts : List Cut) (listed : ℕ → MasterKey → Type 0
   prices_of h =
       let p1 = subst (λ (k : ℤ). ArePricesOf i cuts end.tableau.y k value.num (unsigned_abs value.den)) end.scale (path h).prices in
       subst (λ (v : ℕ → ℤ). ArePricesOf i cuts v kappa value.num (unsigned_abs value.den)) end.prices p1
+
+  -- no column is basic twice
+  pub once : KeysStandOnce (on_basis end.tableau.basis end.weight (master i cuts).rows)
+  once = basis_once (master i cuts) end.tableau (path_tied (master i cuts) (master_sound i (rows_of i cuts)) end.steps end.tableau end.path) end.weight (master i cuts).rows (omega arith)
 
   abbrev pub weighted : List (Weighted MasterKey)
   weighted = on_basis end.tableau.basis end.weight (master i cuts).rows
@@ -192,6 +197,7 @@ pub best_end : (i : Instance) (cuts : List Cut) (Listed : ℕ → MasterKey → 
 best_end i cuts Listed basic y kappa value pool weights p t sound busy day few den end trees rounded fit above =
     let s = sorted i cuts Listed basic y kappa value end den in
     let ws = weighted i cuts Listed basic y kappa value end in
+    let told = trees end.d ws end.solution.positive end.weights in
     record {
       fit = fit;
       positive = above;
@@ -200,7 +206,7 @@ best_end i cuts Listed basic y kappa value pool weights p t sound busy day few d
       rivals = λ rival l is lag. rw (den_is i cuts Listed basic y kappa value end den) at (rivals_less i cuts rival l value.num (unsigned_abs value.den) sound busy is lag (value_is i cuts Listed basic y kappa value end den));
       best = λ below.
           are_best i cuts (at y) kappa value.num (unsigned_abs value.den) p sound busy below (value_is i cuts Listed basic y kappa value end den) (prices_of i cuts Listed basic y kappa value end den) rounded;
-      weighted = record { trees = tree_weights ws; others = other_weights ws; d = end.d; are = trees end.d ws end.solution.positive end.weights; apart = others_apart ws; basic = s.0; least = s.1 };
+      weighted = record { trees = tree_weights ws; others = other_weights ws; d = end.d; are = told.0; once = told.1 (once i cuts Listed basic y kappa value end); apart = others_apart ws; basic = s.0; least = s.1 };
       closes = λ below. closes i cuts Listed basic y kappa value end den p t sound busy day few below rounded fit;
     }
 

@@ -30,7 +30,7 @@ use Rattle.tableau.specs.declared.simplex.LpFault.TheVariants.{Wide as LpWide, S
 use Rattle.tableau.specs.Risen.{HasRisen}
 use Rattle.tree_pool.specs.Pools.{PoolTree}
 use Rattle.node_columns.specs.declared.weights.Weight.{Weight}
-use Rattle.node_columns.specs.Weights.{AreWeights}
+use Rattle.node_columns.specs.Weights.{AreWeights, AreApart}
 use Rattle.node_master.specs.declared.ends.Cause.TheVariants.{Rows, Wide, Spent}
 use Rattle.node_master.specs.declared.ends.NodeEnd.{NodeEnd}
 use Rattle.node_master.specs.declared.ends.NodeEnd.TheVariants.{Best, Failed}
@@ -47,13 +47,15 @@ IsOther (missing r) = Unit {0}
 IsOther (beyond r) = Unit {0}
 IsOther (tree t) = ⊥
 
--- the weights are those of the trees of some basic solution of least cost, whose other columns are no trees
+-- the weights are those of the trees of some basic solution of least cost, whose other columns are no trees;
+-- each is one of another tree
 pub record AreLeastWeights (i : Instance) (cuts : List Cut) (columns : List PoolTree)
     (weights : List Weight) : Type 0 where
   pub trees : List (Weighted MasterKey)
   pub others : List (Weighted MasterKey)
   pub d : ℕ
   pub are : AreWeights i.grammar columns d weights trees
+  pub once : AreApart weights
   pub apart : Each (λ (w : Weighted MasterKey). IsOther w.key) others
   pub basic : IsBasic (master i cuts) (trees ++ others) d
   pub least : CostsLeast (master i cuts) (trees ++ others) d

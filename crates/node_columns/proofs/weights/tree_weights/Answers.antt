@@ -1,5 +1,6 @@
 use Rattle.std.proofs.Common.{drop, sym}
 use Rattle.std.proofs.Math.ListN.{drop_of_length-le}
+use Rattle.node_columns.proofs.ApartTrees.{trees_apart}
 use Rattle.node_columns.proofs.TreeWeights.{split_first, split_taken, split_left, split_last}
 use Rattle.node_columns.proofs.weights.tree_weights.Goals as goal
 use Rattle.node_columns.proofs.weights.tree_weights.Goals.{in-Some+in_ok-push, in_default}
@@ -22,4 +23,5 @@ loop-one-preserved c =
 
 pub returns : goal.returns
 returns c = λ g pool d ws some h.
-    split_last g pool c.args.held.now d ws (drop c.loop-one.one-index c.args.basic.now) c.loop-one.weights (drop_of_length-le c.args.basic.now c.loop-one-test.false) (c.loop-one.invariant g pool d ws some h)
+    let are = split_last g pool c.args.held.now d ws (drop c.loop-one.one-index c.args.basic.now) c.loop-one.weights (drop_of_length-le c.args.basic.now c.loop-one-test.false) (c.loop-one.invariant g pool d ws some h) in
+    (are, λ once. trees_apart g pool d c.loop-one.weights ws are once)
