@@ -2,8 +2,9 @@ use roster_model::{Cut, List, Memory};
 use scout::Key;
 use std::alloc::Global;
 
-/// How many bases are kept at most.
-const MOST: usize = 256;
+/// How many bases are kept at most: a search goes down from few nodes at a time, and each basis has a
+/// price of every row, so that they take a few megabytes at most.
+const MOST_BASES: usize = 256;
 
 /// The last basis of a node at a scout, and the prices there.
 #[derive(Drop)]
@@ -18,11 +19,21 @@ pub(crate) struct Basis {
     pub(crate) prices: List<i128>,
 }
 
-/// The last bases of some nodes in fixed point, with which nodes below may begin. They are hints: whatever
-/// they are, what a master answers with them is right.
+/// A basis that is kept.
+#[derive(Drop)]
+struct Kept {
+    basis: Basis,
+    /// The turn in which it was kept or last chosen.
+    turn: u64,
+}
+
+/// The last bases of some nodes at a scout, with which nodes below may begin. They are hints: whatever they
+/// are, what a master answers with them is right.
 #[derive(Drop)]
 pub struct Bases {
-    kept: List<Basis>,
+    kept: Vec<Kept>,
+    /// How often a basis was kept or chosen.
+    turns: u64,
 }
 
 /// Whether the second list of cuts begins with the first.
@@ -38,34 +49,74 @@ fn begins_with(first: &[Cut], cuts: &[Cut]) -> bool {
     true
 }
 
+/// Returns the place of the basis of the nearest node above the one at these cuts, or of that node itself, if
+/// one is kept; of two of the same node, that of the later turn.
+fn nearest_place(kept: &[Kept], cuts: &[Cut]) -> Option<usize> {
+    let mut best = (0, 0);
+    let mut found = None;
+    for (place, one) in kept.iter().enumerate() {
+        let own = one.basis.cuts.as_slice();
+        let rank = (own.len(), one.turn);
+        if rank >= best && begins_with(own, cuts) {
+            best = rank;
+            found = Some(place);
+        }
+    }
+    found
+}
+
+/// Returns the place of the basis that was not chosen for longest, 0 where none is kept.
+fn idle_place(kept: &[Kept]) -> usize {
+    let mut least = u64::MAX;
+    let mut found = 0;
+    for (place, one) in kept.iter().enumerate() {
+        if one.turn < least {
+            least = one.turn;
+            found = place;
+        }
+    }
+    found
+}
+
 impl Bases {
     /// Returns no bases.
     pub fn new(alloc: Global) -> Bases {
         Bases {
-            kept: List::new(alloc),
+            kept: Vec::new(alloc),
+            turns: 0,
         }
+    }
+
+    /// Counts a turn, and returns its number.
+    fn next_turn(&mut self) -> u64 {
+        self.turns = self.turns.saturating_add(1);
+        self.turns
     }
 
     /// Returns the basis of the nearest node above the one at these cuts, or of that node itself, if one is
     /// kept.
-    pub(crate) fn nearest(&self, cuts: &[Cut]) -> Option<&Basis> {
-        let mut longest = 0;
-        let mut found = None;
-        for basis in self.kept.as_slice() {
-            let own = basis.cuts.as_slice();
-            if own.len() >= longest && begins_with(own, cuts) {
-                longest = own.len();
-                found = Some(basis);
-            }
-        }
-        found
+    pub(crate) fn nearest(&mut self, cuts: &[Cut]) -> Option<&Basis> {
+        let turn = self.next_turn();
+        let place = nearest_place(self.kept.as_slice(), cuts)?;
+        let one = self.kept.get_mut(place)?;
+        one.turn = turn;
+        Some(&one.basis)
     }
 
-    /// Keeps a basis. Where there are many, the others are forgotten.
+    /// Keeps a basis. Where there are many, the one that was not chosen for longest is forgotten.
     pub(crate) fn keep(&mut self, basis: Basis) -> Result<(), Memory> {
-        if self.kept.len() >= MOST {
-            self.kept.truncate(0);
+        let turn = self.next_turn();
+        let one = Kept { basis, turn };
+        if self.kept.len() >= MOST_BASES {
+            let place = idle_place(self.kept.as_slice());
+            if let Some(idle) = self.kept.get_mut(place) {
+                *idle = one;
+            }
+            return Ok(());
         }
-        self.kept.push(basis)
+        match self.kept.push(one) {
+            Ok(()) => Ok(()),
+            Err(_) => Err(Memory),
+        }
     }
 }

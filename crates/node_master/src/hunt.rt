@@ -21,10 +21,14 @@ use scout::{Limits, Scout, Scouted};
 use std::alloc::Global;
 use tree_pool::Pool;
 
-/// How many rounds of steps and of pricing a hunt takes.
+/// How many rounds of steps and of pricing a hunt takes at most. It ends by itself where no tree is cheap, and
+/// each round before lists a tree or more, of which a full pool has ten times as many. The number is there for
+/// a hunt that rounding leads on and on.
 const ROUNDS: u32 = 2_000;
 
-/// The work at a scout, in entries touched, after which a hunt ends.
+/// The work at a scout, in entries touched, after which a hunt takes no further round. It is there so that no
+/// node takes a search's time: past it the exact path begins from the basis that there is. Other numbers were
+/// not tried.
 const WORK: u64 = 8_000_000_000;
 
 /// The steps of a round.
@@ -365,7 +369,7 @@ fn hunt_with(
     )
 }
 
-/// Looks for a good basis of a node's master in fixed point, from the last one of the nearest node above
+/// Looks for a good basis of a node's master at a scout, in floats, from the last one of the nearest node above
 /// it that is kept. The pool gets its trees. It is a hint: whatever it is, what the master answers with it
 /// is right.
 pub(crate) fn hunt(

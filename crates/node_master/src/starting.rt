@@ -123,7 +123,7 @@ pub(crate) fn start_of(
     rows: &NodeRows,
     pool: &Pool,
     wanted: &[usize],
-    bases: &Bases,
+    bases: &mut Bases,
 ) -> Result<Start, Memory> {
     match bases.nearest(cuts) {
         Some(basis) if !wanted.is_empty() => start_from(alloc, cuts, rows, pool, basis),
