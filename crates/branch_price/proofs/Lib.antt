@@ -13,4 +13,3 @@ pub mod EndsLemmas
 pub mod ShownLimit
 pub mod LoopsLemmas
 pub mod BetterRosters
-pub mod NodeRepeats

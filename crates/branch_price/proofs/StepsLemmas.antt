@@ -23,7 +23,7 @@ use Rattle.tree_pool.specs.Pools.{PoolTree}
 use Rattle.node_master.specs.declared.ends.Cause.{Cause}
 use Rattle.node_master.specs.declared.ends.Cause.TheVariants.{Rows, Wide, Spent}
 use Rattle.node_master.specs.declared.ends.NodeEnd.TheVariants.{Failed}
-use Rattle.search_master.specs.Refusals.{EndsWell, Refuses}
+use Rattle.search_master.specs.Refusals.{EndsWell, counted, one_more}
 use Rattle.candidate_rosters.specs.declared.roster.Roster.{Roster}
 use Rattle.offers.specs.Offers.{limit_of, IsBetter}
 use Rattle.branch_price.specs.declared.progress.Progress.{Progress}
@@ -132,14 +132,21 @@ later-node i v strict before now later low p leaf cuts asked rises within = reco
   few = asked.few;
 }
 
-refusal : (now later rows : ℕ) → Refuses now later → (now < later) ⊎ (later ≡ last_count) ⊎ ((now ≤ later) × (1500 < rows))
-refusal now later rows (inl lt) = inl lt
-refusal now later rows (inr e) = inr (inl e)
+-- a count that was to rise rose, or stands at its last value
+refusal : (now later rows : ℕ) → later ≡ one_more now → (now < later) ⊎ (later ≡ last_count) ⊎ ((now ≤ later) × (1500 < rows))
+refusal now later rows e = by (order now last_count)
+  where
+    order : (n m : ℕ) → (n < m) ⊎ (m ≤ n)
+    order n m = grind arith
+
+    by : (now < last_count) ⊎ (last_count ≤ now) → (now < later) ⊎ (later ≡ last_count) ⊎ ((now ≤ later) × (1500 < rows))
+    by (inl lt) = inl (omega (arith, e, lt))
+    by (inr le) = inr (inl (omega (arith, e, le)))
 
 -- a master that failed had a cause
-pub given-up : (i : Instance) (cuts : List Cut) (columns : List PoolTree) (now later : ℕ) (strict : Bool) (cause : Cause) → EndsWell i cuts columns now later strict (Failed cause)
-    → now ≤ later → later ≤ last_count → IsGivenUp i strict now later cuts
-given-up i cuts columns now later strict (Rows count) h rises within =
-    record { hard = λ s. inl h.0; cause = inr (inr (rises, h.0)); within = within }
-given-up i cuts columns now later strict (Wide fault) h rises within = record { hard = h.hard; cause = refusal now later (length (rows_of i cuts)) h.rose; within = within }
-given-up i cuts columns now later strict (Spent pivots) h rises within = record { hard = h.hard; cause = refusal now later (length (rows_of i cuts)) h.rose; within = within }
+pub given-up : (i : Instance) (cuts : List Cut) (columns : List PoolTree) (now later : ℕ) (strict : Bool) (cause : Cause) → EndsWell i cuts columns strict (Failed cause)
+    → later ≡ counted now (Failed cause) → later ≤ last_count → IsGivenUp i strict now later cuts
+given-up i cuts columns now later strict (Rows count) h counts within =
+    record { hard = λ s. inl h.0; cause = inr (inr (omega (arith, counts), h.0)); within = within }
+given-up i cuts columns now later strict (Wide fault) h counts within = record { hard = h.hard; cause = refusal now later (length (rows_of i cuts)) counts; within = within }
+given-up i cuts columns now later strict (Spent pivots) h counts within = record { hard = h.hard; cause = refusal now later (length (rows_of i cuts)) counts; within = within }

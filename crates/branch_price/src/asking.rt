@@ -1,4 +1,4 @@
-ghost use Rattle.std.specs.Prelude.{◌≡◌, ◌≤◌, ◌<◌, ◌-◌, ◌^◌, IfOk, length};
+ghost use Rattle.std.specs.Prelude.{◌≡◌, ◌≤◌, ◌<◌, ◌-◌, ◌^◌, IfOk, MatchResult, length};
 ghost use Rattle.roster_model.specs.Folds.{Each};
 ghost use Rattle.roster_model.specs.SoundInstance.{IsSoundInstance};
 ghost use Rattle.roster_model.specs.Trees.{Parts, IsDayTree};
@@ -7,23 +7,16 @@ ghost use Rattle.parse_graph.specs.Graphs.{IsGraph};
 ghost use Rattle.cheapest_tree.specs.Pricers.{IsMadeFor};
 ghost use Rattle.tree_pool.specs.Pools.{IsPool, IsGrown};
 ghost use Rattle.node_master.specs.Ends.{IsNodeCut};
-ghost use Rattle.search_master.specs.Refusals.{EndsWell};
+ghost use Rattle.search_master.specs.Refusals.{EndsWell, counted};
 
 use cheapest_tree::Pricer;
-use node_master::{Cause, NodeEnd, Pool};
+use node_master::{NodeEnd, Pool};
 use parse_graph::Graph;
 use roster_model::{Cut, Instance, Memory};
 use search_master::Master;
 use std::alloc::Global;
 
-/// Says whether a node was given up for a number that was too wide.
-fn is_wide(end: &NodeEnd) -> bool {
-    matches!(end, NodeEnd::Failed(Cause::Wide(_)))
-}
-
-/// Prices the node at a path of cuts. Where it is given up for a number that was too wide, it is asked once
-/// more, with no tree wanted: the pool has more trees by then, and it may end at another solution, with
-/// smaller numbers.
+/// Asks the master for the prices of the node at a path of cuts.
 pub(crate) fn node<M: Master>(
     alloc: Global,
     instance: &Instance,
@@ -42,8 +35,10 @@ pub(crate) fn node<M: Master>(
     requires pool { IsPool instance.now.grammar pool.old }
     requires cuts { Each (IsNodeCut instance.now) cuts.now }
     requires few { length cuts.now < 2 ^ 31 }
-    ensures end { IfOk result (EndsWell instance.now cuts.now pool.new (M.refused master.old)
-        (M.refused master.new) (M.strict master.old)) }
+    ensures end { IfOk result (EndsWell instance.now cuts.now pool.new (M.strict master.old)) }
+    ensures counts { MatchResult result
+        (λ end. M.refused master.new ≡ counted (M.refused master.old) end)
+        (λ fault. M.refused master.new ≡ M.refused master.old) }
     ensures rises { M.refused master.old ≤ M.refused master.new }
     ensures within { M.refused master.new ≤ 2 ^ 64 - 1 }
     ensures strict_stays { M.strict master.new ≡ M.strict master.old }
@@ -51,10 +46,5 @@ pub(crate) fn node<M: Master>(
     ensures pool { IsPool instance.now.grammar pool.new }
     ensures grown { IsGrown pool.old pool.new }
 {
-    let end = master.node(alloc, instance, graph, pricer, pool, cuts, wanted)?;
-    if !is_wide(&end) {
-        return Ok(end);
-    }
-    drop(end);
-    master.node(alloc, instance, graph, pricer, pool, cuts, &[])
+    master.node(alloc, instance, graph, pricer, pool, cuts, wanted)
 }

@@ -1,45 +1,42 @@
--- How a node ends over any master, and what licenses a refusal.
-use Rattle.std.specs.Prelude.{ℕ, ◌≡◌, ◌<◌, ◌≤◌, ◌⊎◌, ◌+◌, ◌-◌, ◌^◌, ◌&&◌, min, not, cond, Bool, true, false, IsTrue, List, [], ◌∷◌, length}
+-- How a node ends over any master, what licenses a refusal, and how refusals are counted.
+use Rattle.std.specs.Prelude.{ℕ, ◌≡◌, ◌<◌, ◌≤◌, ◌+◌, ◌-◌, ◌^◌, ◌&&◌, ◌||◌, min, not, nat_eq, Bool, true, false, IsTrue, List, [], ◌∷◌, length, Result, Ok}
+use Rattle.std.specs.List.{list_any}
 use Rattle.roster_model.specs.declared.instance.Cut.{Cut}
 use Rattle.roster_model.specs.declared.instance.Instance.{Instance}
+use Rattle.roster_model.specs.declared.memory.Memory.{Memory as MemoryLack}
 use Rattle.master_laws.specs.Rows.{rows_of}
 use Rattle.master_laws.specs.Sharp.{IsHard}
 use Rattle.tree_pool.specs.Pools.{PoolTree}
-use Rattle.node_master.specs.declared.ends.Cause.{Cause}
 use Rattle.node_master.specs.declared.ends.Cause.TheVariants.{Rows, Wide, Spent}
 use Rattle.node_master.specs.declared.ends.NodeEnd.{NodeEnd}
 use Rattle.node_master.specs.declared.ends.NodeEnd.TheVariants.{Best, Failed}
 use Rattle.node_master.specs.Ends.{IsBest}
 
--- the count rose, or stands at its last value
-abbrev pub Refuses : ℕ → ℕ → Type 0
-Refuses before now = (before < now) ⊎ (now ≡ 2 ^ 64 - 1)
-
--- a refused node: its master has few enough rows, the count rose, and over a strict master the node is hard
-pub record IsRefused (i : Instance) (cuts : List Cut) (before now : ℕ) (strict : Bool) : Type 0 where
+-- a refused node: its master has few enough rows, and where the refusal is strict the node is hard
+pub record IsRefused (i : Instance) (cuts : List Cut) (strict : Bool) : Type 0 where
   pub few : length (rows_of i cuts) ≤ 1500
-  pub rose : Refuses before now
   pub hard : IsTrue strict → IsHard i cuts
 
 -- each answer comes only where it may; more than 1,500 rows exactly where there are so many
-abbrev pub EndsWell : Instance → List Cut → List PoolTree → ℕ → ℕ → Bool → NodeEnd → Type 0
-EndsWell i cuts columns before now strict (Best prices value weights) =
+abbrev pub EndsWell : Instance → List Cut → List PoolTree → Bool → NodeEnd → Type 0
+EndsWell i cuts columns strict (Best prices value weights) =
     (length (rows_of i cuts) ≤ 1500) × IsBest i cuts columns prices value weights
-EndsWell i cuts columns before now strict (Failed (Rows count)) =
+EndsWell i cuts columns strict (Failed (Rows count)) =
     (1500 < length (rows_of i cuts)) × (count ≡ length (rows_of i cuts))
-EndsWell i cuts columns before now strict (Failed (Wide fault)) = IsRefused i cuts before now strict
-EndsWell i cuts columns before now strict (Failed (Spent pivots)) = IsRefused i cuts before now strict
+EndsWell i cuts columns strict (Failed (Wide fault)) = IsRefused i cuts strict
+EndsWell i cuts columns strict (Failed (Spent pivots)) = IsRefused i cuts strict
 
--- whether the cause is a refusal
-abbrev pub refusals : Cause → Bool
-refusals (Rows count) = false
-refusals (Wide fault) = true
-refusals (Spent pivots) = true
+-- one more, which stays at the last value of a u64
+abbrev pub one_more : ℕ → ℕ
+one_more n = min (n + 1) (2 ^ 64 - 1)
 
--- the count of refusals after the end of a node
+-- the count of refusals after a node: one more where it was given up for a number too wide or for want of
+-- pivots, and else the same
 abbrev pub counted : ℕ → NodeEnd → ℕ
 counted n (Best prices value weights) = n
-counted n (Failed cause) = cond (refusals cause) (min (n + 1) (2 ^ 64 - 1)) n
+counted n (Failed (Rows count)) = n
+counted n (Failed (Wide fault)) = one_more n
+counted n (Failed (Spent pivots)) = one_more n
 
 abbrev pub is_empty : List ℕ → Bool
 is_empty [] = true
@@ -48,3 +45,11 @@ is_empty (x ∷ xs) = false
 -- a master that never fails of its own
 abbrev pub is_none_listed : Bool → List ℕ → Bool
 is_none_listed every calls = not every && is_empty calls
+
+-- whether a master fails of its own at the call of this number: at every call, or at those that are listed
+abbrev pub fails_at : Bool → List ℕ → ℕ → Bool
+fails_at every calls n = every || list_any (λ y. nat_eq y n) calls
+
+-- what it answers then
+abbrev pub failure : Result NodeEnd MemoryLack
+failure = Ok (Failed (Spent 0))

@@ -1,4 +1,4 @@
-ghost use Rattle.std.specs.Prelude.{ℕ, ◌≡◌, ◌≤◌, ◌<◌, ◌-◌, ◌^◌, Bool, IfOk, length};
+ghost use Rattle.std.specs.Prelude.{ℕ, ◌≡◌, ◌≤◌, ◌<◌, ◌-◌, ◌^◌, Bool, IfOk, MatchResult, length};
 ghost use Rattle.roster_model.specs.Folds.{Each};
 ghost use Rattle.roster_model.specs.SoundInstance.{IsSoundInstance};
 ghost use Rattle.roster_model.specs.Trees.{Parts, IsDayTree};
@@ -7,7 +7,7 @@ ghost use Rattle.parse_graph.specs.Graphs.{IsGraph};
 ghost use Rattle.cheapest_tree.specs.Pricers.{IsMadeFor};
 ghost use Rattle.tree_pool.specs.Pools.{IsPool, IsGrown};
 ghost use Rattle.node_master.specs.Ends.{IsNodeCut};
-ghost use Rattle.search_master.specs.Refusals.{EndsWell};
+ghost use Rattle.search_master.specs.Refusals.{EndsWell, counted};
 
 use cheapest_tree::Pricer;
 use node_master::{NodeEnd, Pool};
@@ -17,14 +17,16 @@ use std::alloc::Global;
 
 /// What prices the nodes of a search.
 pub trait Master {
-    // How many nodes were refused: it never falls, and stays at the last value of a u64.
+    // How many nodes were refused: given up for a number too wide, or for want of pivots. It never falls, and
+    // stays at the last value of a u64.
     ghost refused: { Self → ℕ };
 
     // Whether it refuses hard nodes alone.
     ghost strict: { Self → Bool };
 
-    /// Prices the node at a path of cuts, base cuts first, or gives it up. Trees of the pool that are
-    /// `wanted` may steer it, the most wanted first: any list of numbers is lawful.
+    /// Prices the node at a path of cuts, base cuts first, or gives it up; a refused node is counted once.
+    /// Trees of the pool that are `wanted` may steer it, the most wanted first: any list of numbers is
+    /// lawful.
     fn node(
         &mut self,
         alloc: Global,
@@ -43,9 +45,9 @@ pub trait Master {
         requires pool { IsPool instance.now.grammar pool.old }
         requires cuts { Each (IsNodeCut instance.now) cuts.now }
         requires few { length cuts.now < 2 ^ 31 }
-        ensures end { IfOk result
-            (EndsWell instance.now cuts.now pool.new (refused self.old) (refused self.new)
-            (strict self.old)) }
+        ensures end { IfOk result (EndsWell instance.now cuts.now pool.new (strict self.old)) }
+        ensures counts { MatchResult result (λ end. refused self.new ≡ counted (refused self.old) end)
+            (λ fault. refused self.new ≡ refused self.old) }
         ensures rises { refused self.old ≤ refused self.new }
         ensures within { refused self.new ≤ 2 ^ 64 - 1 }
         ensures strict_stays { strict self.new ≡ strict self.old }

@@ -1,4 +1,4 @@
-ghost use Rattle.std.specs.Prelude.{◌≡◌, ◌≤◌, ◌<◌, ◌+◌, ◌-◌, ◌^◌, IfOk, length};
+ghost use Rattle.std.specs.Prelude.{◌≡◌, ◌≤◌, ◌<◌, ◌^◌, IfOk, true, length};
 ghost use Rattle.roster_model.specs.Folds.{Each};
 ghost use Rattle.roster_model.specs.SoundInstance.{IsSoundInstance};
 ghost use Rattle.roster_model.specs.Trees.{Parts, IsDayTree};
@@ -6,8 +6,8 @@ ghost use Rattle.bound_laws.specs.Infeasible.{IsPlainlyInfeasible};
 ghost use Rattle.parse_graph.specs.Graphs.{IsGraph};
 ghost use Rattle.cheapest_tree.specs.Pricers.{IsMadeFor};
 ghost use Rattle.tree_pool.specs.Pools.{IsPool, IsGrown};
-ghost use Rattle.node_master.specs.Ends.{IsNodeCut, EndsRight};
-ghost use Rattle.search_master.specs.Refusals.{Refuses, refusals, counted};
+ghost use Rattle.node_master.specs.Ends.{IsNodeCut};
+ghost use Rattle.search_master.specs.Refusals.{EndsWell, counted, one_more};
 
 use crate::master::Master;
 use cheapest_tree::Pricer;
@@ -26,15 +26,9 @@ pub struct PlainMaster {
     bases: Option<Bases>,
 }
 
-/// Returns whether a node was given up for a number too wide, or for want of pivots.
-fn is_refusal(cause: Cause) -> bool
-    ensures { result ≡ refusals cause }
-{
-    match cause {
-        Cause::Rows { count: _ } => false,
-        Cause::Wide(_) => true,
-        Cause::Spent { pivots: _ } => true,
-    }
+/// Says whether a node was given up for a number that was too wide.
+fn is_wide(end: &NodeEnd) -> bool {
+    matches!(end, NodeEnd::Failed(Cause::Wide(_)))
 }
 
 /// Returns the count of refusals after the end of a node.
@@ -42,13 +36,9 @@ fn count_end(refused: u64, end: &NodeEnd) -> u64
     ensures { result ≡ counted refused end.now }
 {
     match end {
-        NodeEnd::Best { .. } => refused,
-        NodeEnd::Failed(cause) => {
-            if is_refusal(*cause) {
-                refused.saturating_add(1)
-            } else {
-                refused
-            }
+        NodeEnd::Best { .. } | NodeEnd::Failed(Cause::Rows { .. }) => refused,
+        NodeEnd::Failed(Cause::Wide(_)) | NodeEnd::Failed(Cause::Spent { .. }) => {
+            refused.saturating_add(1)
         }
     }
 }
@@ -100,7 +90,7 @@ impl PlainMaster {
         requires pool { IsPool instance.now.grammar pool.old }
         requires cuts { Each (IsNodeCut instance.now) cuts.now }
         requires few { length cuts.now < 2 ^ 31 }
-        ensures end { IfOk result (EndsRight instance.now cuts.now pool.new self.old.tally self.new.tally) }
+        ensures end { IfOk result (EndsWell instance.now cuts.now pool.new true) }
         ensures refused { self.new.refused ≡ self.old.refused }
         ensures pricer { IsMadeFor graph.now pricer.new }
         ensures pool { IsPool instance.now.grammar pool.new }
@@ -122,11 +112,44 @@ impl PlainMaster {
         Ok(end)
     }
 
+    /// Solves a node's program; where a number was too wide, once more with no tree wanted: the pool has
+    /// more trees by then, and it may end at another solution, with smaller numbers.
+    fn solve_again(
+        &mut self,
+        alloc: Global,
+        instance: &Instance,
+        graph: &Graph,
+        pricer: &mut Pricer,
+        pool: &mut Pool,
+        cuts: &[Cut],
+        wanted: &[usize],
+    ) -> Result<NodeEnd, Memory>
+        requires sound { IsSoundInstance instance.now }
+        requires busy { IsPlainlyInfeasible instance.now → ⊥ }
+        requires graph { IsGraph instance.now.grammar graph.now }
+        requires tree { (t : Parts) × IsDayTree instance.now.grammar t }
+        requires pricer { IsMadeFor graph.now pricer.old }
+        requires pool { IsPool instance.now.grammar pool.old }
+        requires cuts { Each (IsNodeCut instance.now) cuts.now }
+        requires few { length cuts.now < 2 ^ 31 }
+        ensures end { IfOk result (EndsWell instance.now cuts.now pool.new true) }
+        ensures refused { self.new.refused ≡ self.old.refused }
+        ensures pricer { IsMadeFor graph.now pricer.new }
+        ensures pool { IsPool instance.now.grammar pool.new }
+        ensures grown { IsGrown pool.old pool.new }
+    {
+        let end = self.solve(alloc, instance, graph, pricer, pool, cuts, wanted)?;
+        if !is_wide(&end) {
+            return Ok(end);
+        }
+        drop(end);
+        self.solve(alloc, instance, graph, pricer, pool, cuts, &[])
+    }
+
     // Counts a node that is refused without being looked at.
     pub(crate) fn refuse(&mut self)
         ensures rises { self.old.refused ≤ self.new.refused }
-        ensures rose { Refuses self.old.refused self.new.refused }
-        ensures within { self.new.refused ≤ 2 ^ 64 - 1 }
+        ensures counts { self.new.refused ≡ one_more self.old.refused }
     {
         let refused = self.refused;
         self.refused = refused.saturating_add(1);
@@ -151,7 +174,7 @@ impl Master for PlainMaster {
         wanted: &[usize],
     ) -> Result<NodeEnd, Memory> {
         let refused = self.refused;
-        let end = self.solve(alloc, instance, graph, pricer, pool, cuts, wanted)?;
+        let end = self.solve_again(alloc, instance, graph, pricer, pool, cuts, wanted)?;
         self.refused = count_end(refused, &end);
         Ok(end)
     }

@@ -1,11 +1,11 @@
-use Rattle.std.proofs.Common.{◌<◌, ◌^◌, List, length, sym, subst}
+use Rattle.std.proofs.Common.{◌≡◌, ◌<◌, ◌^◌, List, length, sym, subst}
 use Rattle.std.proofs.lemmas.Result.{on_ok_weaker}
 use Rattle.roster_model.specs.declared.instance.Cut.{Cut}
 use Rattle.roster_model.specs.Folds.{Each}
 use Rattle.node_master.specs.declared.ends.NodeEnd.{NodeEnd}
 use Rattle.node_columns.specs.declared.weights.Weight.{Weight}
 use Rattle.node_master.specs.Ends.{IsNodeCut}
-use Rattle.search_master.specs.Refusals.{EndsWell}
+use Rattle.search_master.specs.Refusals.{EndsWell, counted}
 use Rattle.branch_price.specs.Steps.{IsSolved, IsGivenUp}
 use Rattle.branch_price.proofs.Leaves.{leaf-cuts}
 use Rattle.branch_price.proofs.StepsLemmas.{later-node, given-up}
@@ -33,7 +33,8 @@ fail_leaf-requires-clause-node g c =
     let strict = g.M.Master.strict c.args.master.now in
     let now = g.M.Master.refused c.args.master.now in
     let later = g.M.Master.refused c.node.new.master in
-    let ends = subst (λ (e : NodeEnd). EndsWell i c.cuts.result.now c.node.new.pool now later strict e) c.in-Failed.is c.in_ok-end.ensures.end in (
+    let ends = subst (λ (e : NodeEnd). EndsWell i c.cuts.result.now c.node.new.pool strict e) c.in-Failed.is c.in_ok-end.ensures.end in
+    let counts = subst (λ (e : NodeEnd). later ≡ counted now e) c.in-Failed.is c.in_ok-end.ensures.counts in (
       strict,
       r.0,
       now,
@@ -41,16 +42,14 @@ fail_leaf-requires-clause-node g c =
       later,
       r.2,
       subst (λ (cs : List Cut). IsGivenUp i strict now later cs) c.cuts.ensures
-          (given-up i c.cuts.result.now c.node.new.pool now later strict c.in-Failed.field-0 ends c.node.ensures.rises c.node.ensures.within),
+          (given-up i c.cuts.result.now c.node.new.pool now later strict c.in-Failed.field-0 ends counts c.node.ensures.within),
     )
 
 pub best_leaf-requires-clause-solved : goal.best_leaf-requires-clause-solved
 best_leaf-requires-clause-solved g c =
     let i = c.args.instance.now in
     let strict = g.M.Master.strict c.args.master.now in
-    let now = g.M.Master.refused c.args.master.now in
-    let later = g.M.Master.refused c.node.new.master in
-    let ends = subst (λ (e : NodeEnd). EndsWell i c.cuts.result.now c.node.new.pool now later strict e) c.in-Best.is c.in_ok-end.ensures.end in
+    let ends = subst (λ (e : NodeEnd). EndsWell i c.cuts.result.now c.node.new.pool strict e) c.in-Best.is c.in_ok-end.ensures.end in
     let own = rw c.cuts.ensures at ends in
     subst (λ (ws : List Weight). IsSolved i c.args.path.now.cuts c.node.new.pool c.in-Best.prices ws) (sym c.as_slice.ensures)
     (record { value = c.in-Best.value; few = own.0; best = own.1 })
@@ -61,9 +60,10 @@ returns-in-Failed-clause-turned g c =
     let strict = g.M.Master.strict c.args.master.now in
     let now = g.M.Master.refused c.args.master.now in
     let later = g.M.Master.refused c.node.new.master in
-    let ends = subst (λ (e : NodeEnd). EndsWell i c.cuts.result.now c.node.new.pool now later strict e) c.in-Failed.is c.in_ok-end.ensures.end in
+    let ends = subst (λ (e : NodeEnd). EndsWell i c.cuts.result.now c.node.new.pool strict e) c.in-Failed.is c.in_ok-end.ensures.end in
+    let counts = subst (λ (e : NodeEnd). later ≡ counted now e) c.in-Failed.is c.in_ok-end.ensures.counts in
     let given = subst (λ (cs : List Cut). IsGivenUp i strict now later cs) c.cuts.ensures
-    (given-up i c.cuts.result.now c.node.new.pool now later strict c.in-Failed.field-0 ends c.node.ensures.rises c.node.ensures.within) in
+    (given-up i c.cuts.result.now c.node.new.pool now later strict c.in-Failed.field-0 ends counts c.node.ensures.within) in
     on_ok_weaker c.fail_leaf.result (λ turned before low asked. turned strict before now low later asked given) c.fail_leaf.ensures.turned
 
 pub returns-in-Best-clause-turned : goal.returns-in-Best-clause-turned
