@@ -139,9 +139,9 @@ fn offer_completed(
     offer_begun(alloc, instance, graph, begun.as_slice(), desk, pool, best)
 }
 
-/// Offers a roster, unless the best one already costs no more than the bound: at the first node and at every
-/// second one after it that of the trees that a dive fixes; at the others, and where the dive fixes none, that
-/// of the solution's trees. So many nodes are processed before.
+/// Offers a roster, unless the best one already costs no more than the bound that the node leaves: at the
+/// first node and at every second one after it that of the trees that a dive fixes; at the others, and where
+/// the dive fixes none, that of the solution's trees. So many nodes are processed before.
 pub(crate) fn offer_at_node(
     alloc: Global,
     instance: &Instance,

@@ -159,7 +159,7 @@ fn best_leaf(
         cuts,
         weights,
         processed,
-        leaf.bound,
+        leaf.bound.max(value),
         desk,
         pool,
         &mut progress.best,

@@ -18,11 +18,11 @@ use std::alloc::Global;
 const ONE: i128 = 4_294_967_296;
 
 /// The greatest weight.
-const MOST: i128 = 64 * ONE;
+const MOST_WEIGHT: i128 = 64 * ONE;
 
 /// Returns a weight in units of 2^-32.
 fn in_units(x: Frac) -> i64 {
-    (x.num().saturating_mul(ONE) / x.den()).clamp(0, MOST) as i64
+    (x.num().saturating_mul(ONE) / x.den()).clamp(0, MOST_WEIGHT) as i64
 }
 
 /// Returns the weights as shares.

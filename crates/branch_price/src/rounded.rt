@@ -16,13 +16,13 @@ use std::alloc::Global;
 const PARTS: u32 = 8;
 
 /// The greatest number of employees.
-const MOST: i128 = 64;
+const MOST_EMPLOYEES: i128 = 64;
 
 /// Returns the whole part of a weight, at most 64.
 fn whole(x: Frac) -> u32
     ensures { result ≤ 64 }
 {
-    (x.num() / x.den()).clamp(0, MOST) as u32
+    (x.num() / x.den()).clamp(0, MOST_EMPLOYEES) as u32
 }
 
 /// Returns the fraction of a weight in eighths, rounded down.
