@@ -35,7 +35,7 @@ use Rattle.offers.specs.Offers.{limit_of, cost_of}
 use Rattle.offers.proofs.Limits.{cost-most}
 use Rattle.branch_price.specs.declared.progress.Progress.{Progress}
 use Rattle.branch_price.specs.Ends.{IsEnd, IsDoneAt, AsksEnd, IsStatedBy}
-use Rattle.branch_price.specs.Found.{IsDone, IsSplitNode, IsSharpNode, IsFoundNode, IsFound, AreCounted}
+use Rattle.branch_price.specs.Found.{IsDone, IsSplitNode, IsSharpNode, IsFoundNode, IsLooseNode, IsFound, AreCounted}
 use Rattle.branch_price.proofs.SoundEnds.{greatest-cost-most, nodes-sound, nodes-listed}
 
 -- two facts of all splits
@@ -67,6 +67,11 @@ leaf_sharp i path fresh = (tt, tt)
 leaf_sharp i path (valued o) = (tt, tt)
 leaf_sharp i path (fixed v) = (tt, tt)
 
+leaf_loose : (i : Instance) (limit : ℕ) (path : List Cut) (l : Leaf) → IsLeaf i limit path l → Each (λ (v : Visit). IsLooseNode i v v.node) (visits path (leaf_proof l))
+leaf_loose i limit path fresh h = (tt, tt)
+leaf_loose i limit path (valued o) h = (h.1, tt)
+leaf_loose i limit path (fixed v) h = (tt, tt)
+
 own_found : (i : Instance) (strict : Bool) (low bound : ℕ) (path : List Cut) (a : ArcKey) (b : ℕ) (own : Option Own) → IsOwn i strict low path a b own → OwnShows bound own
     → IsSplitNode i strict bound (record { path = path; node = Split a b (prices_of own) }) (prices_of own)
 own_found i strict low bound path a b None h s = h
@@ -92,6 +97,12 @@ module _ (i : Instance) (strict : Bool) (limit low n : ℕ) (t : Grown) (is : Is
       (tips-map (IsTip i limit low n t) (λ up path k l. Each (λ (v : Visit). IsSharpNode i v v.node) (visits path (leaf_proof l))) (λ up path k l h. leaf_sharp i path l) 0 (base_cuts i) t is.tips)
       (forks-map (IsSplit i strict low) (λ path a b own. IsSharpNode i (record { path = path; node = Split a b (prices_of own) }) (Split a b (prices_of own))) (λ path a b own h. own_sharp i strict low path a b own h.1) (base_cuts i) t is.forks)
 
+  -- and each priced leaf leaves some arc more than one count
+  each-loose : Each (λ (v : Visit). IsLooseNode i v v.node) (visits (base_cuts i) (proof_of t))
+  each-loose = grown-visits (λ (v : Visit). IsLooseNode i v v.node) 0 (base_cuts i) t
+      (tips-map (IsTip i limit low n t) (λ up path k l. Each (λ (v : Visit). IsLooseNode i v v.node) (visits path (leaf_proof l))) (λ up path k l h. leaf_loose i limit path l h.leaf) 0 (base_cuts i) t is.tips)
+      (forks-map (IsSplit i strict low) (λ path a b own. IsLooseNode i (record { path = path; node = Split a b (prices_of own) }) (Split a b (prices_of own))) (λ path a b own h. tt) (base_cuts i) t is.forks)
+
 -- what a certificate says of the best roster
 pub record SaysBest (i : Instance) (shifts : List Shift) (cost : Option ℕ) : Type 0 where
   pub stated : IfSome cost (IsStated i shifts)
@@ -101,7 +112,7 @@ pub record SaysBest (i : Instance) (shifts : List Shift) (cost : Option ℕ) : T
   pub none : cost ≡ None → shifts ≡ []
   pub cost_most : IfSome cost (λ n. n ≤ most_cost)
 
-says-best : (i : Instance) → IsSoundInstance i → (best : Option Roster) → IfSome best (IsGoodRoster i) → (shifts : List Shift) (cost : Option ℕ) → IsStatedBy best (shifts, cost) → SaysBest i shifts cost
+pub says-best : (i : Instance) → IsSoundInstance i → (best : Option Roster) → IfSome best (IsGoodRoster i) → (shifts : List Shift) (cost : Option ℕ) → IsStatedBy best (shifts, cost) → SaysBest i shifts cost
 says-best i sound None good shifts cost e =
     let s : shifts ≡ [] = ap (λ (p : List Shift × Option ℕ). p.0) e in
     let c : cost ≡ None = ap (λ (p : List Shift × Option ℕ). p.1) e in
@@ -127,20 +138,20 @@ says-best i sound (Some r) good shifts cost e =
       cost_most = omega (arith, a, b);
     }))
 
-same-cost : (best : Option Roster) (shifts : List Shift) (cost : Option ℕ) → IsStatedBy best (shifts, cost) → cost ≡ cost_of best
+pub same-cost : (best : Option Roster) (shifts : List Shift) (cost : Option ℕ) → IsStatedBy best (shifts, cost) → cost ≡ cost_of best
 same-cost None shifts cost e = ap (λ (p : List Shift × Option ℕ). p.1) e
 same-cost (Some r) shifts cost e = ap (λ (p : List Shift × Option ℕ). p.1) e
 
-start-of : (i : Instance) (best : Option Roster) → StartsWith i best → IsAtMostStart i (cost_of best)
+pub start-of : (i : Instance) (best : Option Roster) → StartsWith i best → IsAtMostStart i (cost_of best)
 start-of i None h = absurd h
 start-of i (Some r) h = h
 
-done-of : (c : Cert) (done : Done) → IsDoneAt c.cost c.bound done → IsDone c done
+pub done-of : (c : Cert) (done : Done) → IsDoneAt c.cost c.bound done → IsDone c done
 done-of c Equal h = h
 done-of c NoRoster h = h
 done-of c TurnsOut h = h
 
-bound-most : (i : Instance) → IsSoundInstance i → (bound : Option ℕ) → IfSome bound (λ b. b ≤ greatest_cost i) → IfSome bound (λ n. n ≤ most_cost)
+pub bound-most : (i : Instance) → IsSoundInstance i → (bound : Option ℕ) → IfSome bound (λ b. b ≤ greatest_cost i) → IfSome bound (λ n. n ≤ most_cost)
 bound-most i sound None h = tt
 bound-most i sound (Some b) h = let m = greatest-cost-most i sound in omega (arith, h, m)
 
@@ -201,9 +212,13 @@ module _ (i : Instance) (sound : IsSoundInstance i) (a : AsksEnd i) (p : Progres
     proof = proof_of is.tree;
     nodes = sym all;
     shows = shows-bound;
+    most = is.small;
     ascending = says.ascending;
     each = each-found i a.strict (limit_of i p.best) is.low (length p.tree.seats) is.tree is.final.growing (bound_number i bound) is.shows;
     sharp = each-sharp i a.strict (limit_of i p.best) is.low (length p.tree.seats) is.tree is.final.growing;
+    loose = λ busy. each-loose i a.strict (limit_of i p.best) is.low (length p.tree.seats) is.tree is.final.growing;
+    infeasible = λ h. absurd (is.busy h);
+    arcless = λ none. all ∙ ap preorder (is.arcless none);
     processed = busy_is ∙ is.final.processed ∙ sym (grown-counts is.tree).0 ∙ ap (count kinds.is_processed) (sym all);
     failed = missed_is ∙ is.final.failed ∙ sym (grown-counts is.tree).1 ∙ ap (count kinds.is_unpriced) (sym all);
     within = let w = is.within in omega (arith, busy_is, w);

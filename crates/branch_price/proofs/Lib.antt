@@ -13,3 +13,4 @@ pub mod EndsLemmas
 pub mod ShownLimit
 pub mod LoopsLemmas
 pub mod BetterRosters
+pub mod RootLemmas

@@ -26,6 +26,7 @@ use Rattle.branch_price.specs.Searching.{site_of, IsSearching}
 use Rattle.branch_price.specs.Steps.{AsksTurn, IsTurned, IsBegun}
 use Rattle.branch_price.specs.Ends.{IsNext, IsEnd, IsDoneAt, IsClosedBy}
 use Rattle.branch_price.specs.Loops.{IsLooping}
+use Rattle.branch_price.specs.Found.{HasNoArc}
 use Rattle.branch_price.proofs.EndsLemmas.{final-is}
 use Rattle.branch_price.proofs.ShownLimit.{shown-limit}
 
@@ -109,11 +110,14 @@ module _ (i : Instance) (v : GraphView) (strict : Bool) (before now turns : ℕ)
       (λ up path k l g h. let b = g.bound in omega (arith, b, h)) 0 (base_cuts i) is.tree taken.1.tree.growing.tips least.attained) in
       omega (arith, under, over)
 
-  pub turns-end : IsSoundInstance i → p.tree.processed ≡ turns → IsEnd i v strict before now turns p (Some leaf.bound) TurnsOut
-  turns-end sound all = record {
+  pub turns-end : IsSoundInstance i → (IsPlainlyInfeasible i → ⊥) → (HasNoArc i → ⊥) → p.tree.processed ≡ turns
+      → IsEnd i v strict before now turns p (Some leaf.bound) TurnsOut
+  turns-end sound busy arcs all = record {
     low = leaf.bound;
     tree = is.tree;
     final = final-is (site_of i v strict before) now leaf.bound (leaf ∷ []) p is.tree taken.1;
+    busy = busy;
+    arcless = λ none. absurd (arcs none);
     shows = shown-leaf;
     small = let m = limit-most i p.best sound taken.1.best in omega (arith, m, below);
     within = omega (arith, all);
@@ -130,7 +134,7 @@ module _ (i : Instance) (v : GraphView) (strict : Bool) (before now turns : ℕ)
   }
 
 -- where no open leaf leaves a bound below the limit, the bound is the cost of the best roster
-module _ (i : Instance) (sound : IsSoundInstance i) (busy : IsPlainlyInfeasible i → ⊥) (v : GraphView) (graph : IsGraph i.grammar v) (strict : Bool) (before now turns : ℕ) (few : turns ≤ 10000) where
+module _ (i : Instance) (sound : IsSoundInstance i) (busy : IsPlainlyInfeasible i → ⊥) (arcs : HasNoArc i → ⊥) (v : GraphView) (graph : IsGraph i.grammar v) (strict : Bool) (before now turns : ℕ) (few : turns ≤ 10000) where
   shows-limit : (old p : Progress) (is : IsLooping i v strict before now turns old) → IsNext i old p None → shown is.tree ≡ limit_of i p.best
   shows-limit old p is next =
       let end = next.taken v strict before now is.low is.tree is.is in
@@ -146,6 +150,8 @@ module _ (i : Instance) (sound : IsSoundInstance i) (busy : IsPlainlyInfeasible 
     low = is.low;
     tree = is.tree;
     final = (next.taken v strict before now is.low is.tree is.is).1;
+    busy = busy;
+    arcless = λ none. absurd (arcs none);
     shows = shows-limit old (record { tree = w; best = best }) is next ∙ ap (bound_number i) (sym same);
     small = small;
     within = let e = next.processed in let k = is.within in omega (arith, e, k);

@@ -8,7 +8,6 @@ use Rattle.roster_model.specs.declared.instance.Done.TheVariants.{NoRoster}
 use Rattle.roster_model.specs.declared.instance.Instance.{Instance}
 use Rattle.roster_model.specs.declared.instance.Mult.{Mult}
 use Rattle.roster_model.specs.declared.instance.Prices.{Prices}
-use Rattle.roster_model.specs.Arcs.{IsArc}
 use Rattle.roster_model.specs.Cuts.{lo, base_cuts}
 use Rattle.roster_model.specs.Folds.{sum_n, Each, In}
 use Rattle.roster_model.specs.GreatestCost.{greatest_cost}
@@ -31,7 +30,7 @@ use Rattle.certificates.specs.declared.cert.Node.TheVariants.{Split, Priced, Pin
 use Rattle.certificates.specs.Nodes.{Visit, priced, pinned}
 use Rattle.candidate_rosters.specs.Starts.{HasStart, IsFreeCell}
 use Rattle.branch_price.specs.declared.found.Found.{Found}
-use Rattle.branch_price.specs.Found.{IsFound, ArePrices}
+use Rattle.branch_price.specs.Found.{IsFound, ArePrices, HasNoArc}
 use Rattle.branch_price.specs.Infeasible.{ArePlain, IsPlainLeast, IsInfeasibleNode}
 use Rattle.branch_price.proofs.PlainPrices.{plain-fit}
 
@@ -89,7 +88,7 @@ module _ (i : Instance) (infeasible : IsPlainlyInfeasible i) where
   }
 
   -- ---- no arc
-  module _ (sound : IsSoundInstance i) (none : (a : ArcKey) → IsArc i.grammar a → ⊥) where
+  module _ (sound : IsSoundInstance i) (none : HasNoArc i) where
     no-counts : (value : ArcKey → ℕ) → AreCounts i [] value → ⊥
     no-counts value counts = by infeasible
       where
@@ -150,9 +149,13 @@ module _ (i : Instance) (infeasible : IsPlainlyInfeasible i) where
         proof = priced p;
         nodes = refl;
         shows = value;
+        most = tt;
         ascending = tt;
         each = (plain-prices sound p (record { path = base_cuts i; node = Priced p }) is.0, tt);
         sharp = (tt, tt);
+        loose = λ busy. absurd (busy infeasible);
+        infeasible = λ h. record { nodes = refl; processed = refl; done = refl };
+        arcless = λ none. absurd (is.2 none);
         processed = refl;
         failed = refl;
         within = some;
@@ -182,9 +185,13 @@ module _ (i : Instance) (infeasible : IsPlainlyInfeasible i) where
         proof = pinned;
         nodes = refl;
         shows = value;
+        most = tt;
         ascending = tt;
         each = (tt, tt);
         sharp = (tt, tt);
+        loose = λ busy. (tt, tt);
+        infeasible = λ h. record { nodes = refl; processed = refl; done = refl };
+        arcless = λ none. refl;
         processed = refl;
         failed = refl;
         within = some;

@@ -6,8 +6,9 @@ use Rattle.roster_model.specs.declared.instance.Instance.{Instance}
 use Rattle.roster_model.specs.Cuts.{base_cuts}
 use Rattle.roster_model.specs.Folds.{count}
 use Rattle.roster_model.specs.GreatestCost.{greatest_cost}
+use Rattle.bound_laws.specs.Infeasible.{IsPlainlyInfeasible}
 use Rattle.bound_laws.specs.Points.{IsPoints}
-use Rattle.certificates.specs.Nodes.{visits}
+use Rattle.certificates.specs.Nodes.{visits, pinned}
 use Rattle.certificate_laws.specs.Accepted.{bound_number}
 use Rattle.parse_graph.specs.Graphs.{GraphView}
 use Rattle.growing_laws.specs.Grown.{Grown, OnTips, tip_bound, busy, missed, shown, proof_of}
@@ -24,6 +25,7 @@ use Rattle.candidate_rosters.specs.Starts.{HasStart, StartsWith}
 use Rattle.offers.specs.Offers.{limit_of, cost_of}
 use Rattle.branch_price.specs.declared.progress.Progress.{Progress}
 use Rattle.branch_price.specs.Searching.{site_of, IsSearching}
+use Rattle.branch_price.specs.Found.{HasNoArc}
 
 -- the bound of each open leaf reaches the limit
 abbrev pub LeavesReach : Instance → ℕ → Grown → Type 0
@@ -63,12 +65,14 @@ pub record IsSpent (i : Instance) (turns : ℕ) (p : Progress) : Type 0 where
   pub all : p.tree.processed ≡ turns
   pub few : (points : ℕ) → IsPoints i points → turns + 1 < 2 * points
 
--- the search is at its end, and its tree shows the bound
+-- the search of a day that is not plainly infeasible is at its end, and its tree shows the bound
 pub record IsEnd (i : Instance) (v : GraphView) (strict : Bool) (before now turns : ℕ) (p : Progress)
     (bound : Option ℕ) (done : Done) : Type 0 where
   pub low : ℕ
   pub tree : Grown
   pub final : IsFinal (site_of i v strict before) now low p tree
+  pub busy : IsPlainlyInfeasible i → ⊥
+  pub arcless : HasNoArc i → proof_of tree ≡ pinned
   pub shows : shown tree ≡ bound_number i bound
   pub small : IfSome bound (λ b. b ≤ greatest_cost i)
   pub within : p.tree.processed ≤ turns

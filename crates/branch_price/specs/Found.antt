@@ -1,8 +1,11 @@
 -- What a search finds.
-use Rattle.std.specs.Prelude.{ℕ, ◌≡◌, ◌≢◌, ◌≤◌, ◌<◌, ◌+◌, ◌*◌, Bool, IsTrue, Option, None, Some, IsSome, length}
+use Rattle.std.specs.Prelude.{ℕ, ◌≡◌, ◌≢◌, ◌≤◌, ◌<◌, ◌+◌, ◌*◌, Bool, IsTrue, Option, None, Some, IsSome, IfSome, [], ◌∷◌, length}
 use Rattle.roster_model.specs.declared.instance.Instance.{Instance}
+use Rattle.roster_model.specs.declared.grammar.ArcKey.{ArcKey}
+use Rattle.roster_model.specs.Arcs.{IsArc}
 use Rattle.roster_model.specs.Cuts.{base_cuts}
 use Rattle.roster_model.specs.Folds.{Each, count}
+use Rattle.roster_model.specs.GreatestCost.{greatest_cost}
 use Rattle.certificates.specs.declared.cert.Cert.{Cert}
 use Rattle.certificates.specs.declared.cert.Node.{Node}
 use Rattle.certificates.specs.declared.cert.Node.TheVariants.{Split, Priced, Pinned, Bare}
@@ -10,10 +13,12 @@ use Rattle.roster_model.specs.declared.instance.Prices.{Prices}
 use Rattle.certificates.specs.Nodes.{Proof, preorder, Visit, visits}
 use Rattle.certificates.specs.Sound.{IsSoundCert}
 use Rattle.bound_laws.specs.BestPrices.{AreBest}
+use Rattle.bound_laws.specs.Infeasible.{IsPlainlyInfeasible}
 use Rattle.bound_laws.specs.Points.{IsPoints}
 use Rattle.bound_laws.specs.Priced.{IsPricedValue}
 use Rattle.certificate_laws.specs.Accepted.{Accepts, bound_number}
 use Rattle.certificate_laws.specs.Shown.{Shows}
+use Rattle.growing_laws.specs.States.{IsLoosePath}
 use Rattle.master_laws.specs.Sharp.{IsHard, IsSharp}
 use Rattle.roster_model.specs.declared.instance.Done.{Done}
 use Rattle.roster_model.specs.declared.instance.Done.TheVariants.{Equal, NoRoster, TurnsOut}
@@ -53,22 +58,47 @@ IsFoundNode i strict bound v (Priced p) = ArePrices i v p
 IsFoundNode i strict bound v Pinned = Unit {0}
 IsFoundNode i strict bound v Bare = Unit {0}
 
+-- a priced leaf leaves some arc more than one count
+abbrev pub IsLooseNode : Instance → Visit → Node → Type 0
+IsLooseNode i v (Split a b own) = Unit {0}
+IsLooseNode i v (Priced p) = IsLoosePath i v.path
+IsLooseNode i v Pinned = Unit {0}
+IsLooseNode i v Bare = Unit {0}
+
+-- no tree of the day has an arc
+abbrev pub HasNoArc : Instance → Type 0
+HasNoArc i = (a : ArcKey) → IsArc i.grammar a → ⊥
+
+-- one node, which is processed, shows that no roster is allowed
+pub record IsOneNode (f : Found) : Type 0 where
+  pub nodes : length f.cert.nodes ≡ 1
+  pub processed : f.processed ≡ 1
+  pub done : f.done ≡ NoRoster
+
 -- the turns ran out, and they were too few for the points
 pub record RanOut (i : Instance) (turns : ℕ) (f : Found) : Type 0 where
   pub all : f.processed ≡ turns
   pub few : (points : ℕ) → IsPoints i points → turns + 1 < 2 * points
 
--- the certificate is sound and accepted, its bound is what its tree shows, and each node is right
+-- The certificate is sound and accepted, its bound is what its tree shows, and each node is right. A bound
+-- that it states is at most the greatest cost. A plainly infeasible day has one node; on any other one a
+-- priced leaf leaves some arc more than one count. A day without arcs has one pinned node, whatever its
+-- roster costs.
 pub record IsFound (i : Instance) (strict : Bool) (turns : ℕ) (f : Found) : Type 0 where
   pub sound : IsSoundCert i f.cert
   pub accepted : Accepts i f.cert
   pub proof : Proof
   pub nodes : preorder proof ≡ f.cert.nodes
   pub shows : Shows i (base_cuts i) proof (bound_number i f.cert.bound)
+  pub most : IfSome f.cert.bound (λ b. b ≤ greatest_cost i)
   pub ascending : AreAscending f.cert.shifts
   pub each : Each (λ (v : Visit). IsFoundNode i strict (bound_number i f.cert.bound) v v.node)
       (visits (base_cuts i) proof)
   pub sharp : Each (λ (v : Visit). IsSharpNode i v v.node) (visits (base_cuts i) proof)
+  pub loose : (IsPlainlyInfeasible i → ⊥)
+      → Each (λ (v : Visit). IsLooseNode i v v.node) (visits (base_cuts i) proof)
+  pub infeasible : IsPlainlyInfeasible i → IsOneNode f
+  pub arcless : HasNoArc i → f.cert.nodes ≡ Pinned ∷ []
   pub processed : f.processed ≡ count is_processed f.cert.nodes
   pub failed : f.failed ≡ count is_unpriced f.cert.nodes
   pub within : f.processed ≤ turns

@@ -8,10 +8,9 @@ use Rattle.roster_model.specs.PriceRooms.{price_view}
 use Rattle.roster_model.specs.declared.price_room.PriceRoom.{PriceRoom}
 use Rattle.certificates.specs.declared.cert.Node.{Node}
 use Rattle.certificates.specs.declared.cert.Node.TheVariants.{Split, Priced, Pinned, Bare}
-use Rattle.roster_model.specs.declared.grammar.ArcKey.{ArcKey}
 use Rattle.roster_model.specs.declared.instance.Cut.{Cut}
-use Rattle.roster_model.specs.Arcs.{IsArc}
 use Rattle.bound_laws.specs.Lagrangian.{IsLeastReduced}
+use Rattle.branch_price.specs.Found.{HasNoArc}
 
 -- a price of 0 for each cell, at the denominator 1, and no multiplier
 pub record ArePlain (i : Instance) (p : Prices) : Type 0 where
@@ -28,10 +27,10 @@ HoldsPlain i room = (p : Prices) × ArePlain i p × Agree i.grammar (price_view 
 abbrev pub IsPlainLeast : Instance → Option ℤ → Type 0
 IsPlainLeast i z = (p : Prices) (cuts : List Cut) → ArePlain i p → IsLeastReduced i p cuts z
 
--- a node with prices of 0 at which a least reduced cost is known, or where there is no arc one that says
--- that each arc has one count
+-- a node with prices of 0 at which a least reduced cost is known, where there is some arc, or where there
+-- is none one that says that each arc has one count
 abbrev pub IsInfeasibleNode : Instance → Node → Type 0
 IsInfeasibleNode i (Split a b own) = ⊥
-IsInfeasibleNode i (Priced p) = ArePlain i p × ((z : Option ℤ) × IsPlainLeast i z)
-IsInfeasibleNode i Pinned = (a : ArcKey) → IsArc i.grammar a → ⊥
+IsInfeasibleNode i (Priced p) = ArePlain i p × ((z : Option ℤ) × IsPlainLeast i z) × (HasNoArc i → ⊥)
+IsInfeasibleNode i Pinned = HasNoArc i
 IsInfeasibleNode i Bare = ⊥

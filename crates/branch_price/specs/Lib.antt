@@ -7,3 +7,4 @@ pub mod Infeasible
 pub mod Steps
 pub mod Ends
 pub mod Loops
+pub mod Arcless

@@ -6,22 +6,22 @@ ghost use Rattle.priced_part.specs.Filled.{TellsDerived};
 ghost use Rattle.tree_pool.specs.Pools.{IsPool, IsGrown};
 ghost use Rattle.node_path.specs.Paths.{IsPath};
 ghost use Rattle.branch_price.specs.Desks.{IsDesk};
-ghost use Rattle.branch_price.specs.Ends.{IsEnd, AsksEnd, IsStatedBy, IsClosedBy};
-ghost use Rattle.branch_price.specs.Found.{IsFound, AreCounted};
+ghost use Rattle.branch_price.specs.Found.{HasNoArc, IsFound, AreCounted};
 ghost use Rattle.branch_price.specs.Steps.{IsBegun};
 
+use crate::arcless::search_arcless;
 use crate::desk::Desk;
+use crate::ended::{closed_end, found};
 use crate::found::Found;
 use crate::infeasible::{derived, no_roster};
 use crate::progress::Progress;
 use crate::turn::turn;
-use candidate_rosters::{Roster, least_roster};
-use certificates::Cert;
+use candidate_rosters::least_roster;
 use node_master::Pool;
 use node_path::NodePath;
 use parse_graph::Graph;
 use priced_part::is_plainly_infeasible;
-use roster_model::{Done, Instance, List, Memory, Shift};
+use roster_model::{Done, Instance, Memory};
 use search_master::Master;
 use search_tree::SearchTree;
 use std::alloc::Global;
@@ -59,60 +59,7 @@ fn begin(
     })
 }
 
-/// Returns the shifts and the cost of the best roster; no shift and no cost where there is none.
-fn stated(alloc: Global, best: Option<Roster>) -> (List<Shift>, Option<u64>)
-    ensures { IsStatedBy best result }
-{
-    match best {
-        Some(roster) => (roster.shifts, Some(roster.cost)),
-        None => (List::new(alloc), None),
-    }
-}
-
-/// Returns what a search found that is at its end, with this bound.
-fn found(
-    alloc: Global,
-    instance: &Instance,
-    progress: Progress,
-    bound: Option<u64>,
-    done: Done,
-) -> Result<Found, Memory>
-    requires sound { IsSoundInstance instance.now }
-    requires end { (a : AsksEnd instance.now)
-        × IsEnd instance.now a.graph a.strict a.before a.now a.turns progress
-        bound done }
-    ensures found { IfOk result (λ f. (a : AsksEnd instance.now)
-        → IsEnd instance.now a.graph a.strict a.before a.now a.turns progress bound done
-        → IsFound instance.now a.strict a.turns f × AreCounted instance.now a.before a.now f) }
-{
-    let processed = progress.tree.processed();
-    let failed = progress.tree.failed();
-    let nodes = progress.tree.into_nodes(alloc)?;
-    let (shifts, cost) = stated(alloc, progress.best);
-    Ok(Found {
-        cert: Cert {
-            shifts,
-            cost,
-            bound,
-            nodes,
-        },
-        done,
-        processed,
-        failed,
-    })
-}
-
-/// Returns the bound of a search that is closed, which is the best roster's cost, and how it ended.
-fn closed_end(best: &Option<Roster>) -> (Option<u64>, Done)
-    ensures { IsClosedBy best.now result }
-{
-    match best {
-        Some(roster) => (Some(roster.cost), Done::Equal),
-        None => (None, Done::NoRoster),
-    }
-}
-
-/// Searches with all that it takes, from the root.
+/// Searches a day that has arcs, with all that it takes, from the root.
 fn search_along<M: Master>(
     alloc: Global,
     instance: &Instance,
@@ -128,6 +75,7 @@ fn search_along<M: Master>(
     requires busy { IsPlainlyInfeasible instance.now → ⊥ }
     requires graph { IsGraph instance.now.grammar graph.now }
     requires told { TellsDerived instance.now.grammar derives.now }
+    requires arcs { HasNoArc instance.now → ⊥ }
     requires few { turns ≤ 10000 }
     requires path { IsPath instance.now graph.now path.old }
     requires desk { IsDesk instance.now graph.now desk.old }
@@ -176,6 +124,7 @@ fn search_at<M: Master>(
     requires busy { IsPlainlyInfeasible instance.now → ⊥ }
     requires graph { IsGraph instance.now.grammar graph.now }
     requires told { TellsDerived instance.now.grammar derives.now }
+    requires some { 1 ≤ turns }
     requires few { turns ≤ 10000 }
     requires desk { IsDesk instance.now graph.now desk.old }
     requires pool { IsPool instance.now.grammar pool.old }
@@ -187,6 +136,9 @@ fn search_at<M: Master>(
     ensures grown { IsGrown pool.old pool.new }
 {
     let mut path = NodePath::new(alloc, instance, graph)?;
+    if graph.arcs().is_empty() {
+        return search_arcless(alloc, instance, graph, &mut path, desk, pool);
+    }
     search_along(
         alloc, instance, graph, derives, turns, &mut path, desk, pool, master,
     )
@@ -206,6 +158,7 @@ fn search_day<M: Master>(
     requires busy { IsPlainlyInfeasible instance.now → ⊥ }
     requires graph { IsGraph instance.now.grammar graph.now }
     requires told { TellsDerived instance.now.grammar derives.now }
+    requires some { 1 ≤ turns }
     requires few { turns ≤ 10000 }
     requires pool { IsPool instance.now.grammar pool.old }
     ensures found { IfOk result (IsFound instance.now (M.strict master.old) turns) }
@@ -229,7 +182,7 @@ fn search_day<M: Master>(
 /// The certificate is sound and accepted, its bound is what its tree shows, and its shifts stand in order
 /// of their groups and then of their bytes. The bound is the cost, or both say that no roster is allowed,
 /// unless the turns ran out; these are enough where they are at least twice the points less one, a point
-/// being a choice of one count for each arc. The graph is the instance's, and the pool's trees are of its
+/// being a choice of one count for each arc. A day without arcs has one pinned node. The graph is the instance's, and the pool's trees are of its
 /// day; whatever the answer, it has its old trees under their numbers, and beside them only further trees
 /// of the day.
 ///

@@ -5,12 +5,14 @@
 //! Solving Huge Integer Programs", Operations Research 46, 1998).
 #![tactic(auto)]
 
+mod arcless;
 mod asking;
 mod branching;
 mod choose;
 mod completed;
 mod counts;
 mod desk;
+mod ended;
 mod found;
 mod infeasible;
 mod leaf;

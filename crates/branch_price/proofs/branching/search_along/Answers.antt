@@ -25,20 +25,20 @@ found-requires-clause-end g c = (
     turns = c.args.turns;
   },
   turns-end c.args.instance.now c.args.graph.now (g.M.Master.strict c.args.master.now) (g.M.Master.refused c.args.master.now) (g.M.Master.refused c.loop-leaf.master) c.args.turns c.requires.few
-      c.loop-leaf.progress c.next.new.self c.in-Some.leaf c.loop-leaf.invariant.0 c.in-Some.ensures c.requires.sound (sym c.processed.ensures ∙ c.if-processed-turns.true),
+      c.loop-leaf.progress c.next.new.self c.in-Some.leaf c.loop-leaf.invariant.0 c.in-Some.ensures c.requires.sound c.requires.busy c.requires.arcs (sym c.processed.ensures ∙ c.if-processed-turns.true),
 )
 
 pub returns-then-processed-turns-clause-found : goal.returns-then-processed-turns-clause-found
 returns-then-processed-turns-clause-found g c =
     let end = turns-end c.args.instance.now c.args.graph.now (g.M.Master.strict c.args.master.now) (g.M.Master.refused c.args.master.now) (g.M.Master.refused c.loop-leaf.master) c.args.turns c.requires.few
-    c.loop-leaf.progress c.next.new.self c.in-Some.leaf c.loop-leaf.invariant.0 c.in-Some.ensures c.requires.sound (sym c.processed.ensures ∙ c.if-processed-turns.true) in
+    c.loop-leaf.progress c.next.new.self c.in-Some.leaf c.loop-leaf.invariant.0 c.in-Some.ensures c.requires.sound c.requires.busy c.requires.arcs (sym c.processed.ensures ∙ c.if-processed-turns.true) in
     IfOk-weaker c.found.result _ (IsFound c.args.instance.now (g.M.Master.strict c.args.master.now) c.args.turns)
     (λ f h. (h (record { graph = c.args.graph.now; strict = g.M.Master.strict c.args.master.now; before = g.M.Master.refused c.args.master.now; now = g.M.Master.refused c.loop-leaf.master; turns = c.args.turns }) end).0) c.found.ensures.found
 
 pub returns-then-processed-turns-clause-counted : goal.returns-then-processed-turns-clause-counted
 returns-then-processed-turns-clause-counted g c =
     let end = turns-end c.args.instance.now c.args.graph.now (g.M.Master.strict c.args.master.now) (g.M.Master.refused c.args.master.now) (g.M.Master.refused c.loop-leaf.master) c.args.turns c.requires.few
-    c.loop-leaf.progress c.next.new.self c.in-Some.leaf c.loop-leaf.invariant.0 c.in-Some.ensures c.requires.sound (sym c.processed.ensures ∙ c.if-processed-turns.true) in
+    c.loop-leaf.progress c.next.new.self c.in-Some.leaf c.loop-leaf.invariant.0 c.in-Some.ensures c.requires.sound c.requires.busy c.requires.arcs (sym c.processed.ensures ∙ c.if-processed-turns.true) in
     IfOk-weaker c.found.result _ (AreCounted c.args.instance.now (g.M.Master.refused c.args.master.now) (g.M.Master.refused c.loop-leaf.master))
     (λ f h. (h (record { graph = c.args.graph.now; strict = g.M.Master.strict c.args.master.now; before = g.M.Master.refused c.args.master.now; now = g.M.Master.refused c.loop-leaf.master; turns = c.args.turns }) end).1) c.found.ensures.found
 
@@ -109,20 +109,20 @@ found-requires-2-clause-end g c = (
     now = g.M.Master.refused c.loop-leaf.master;
     turns = c.args.turns;
   },
-  closed-end c.args.instance.now c.requires.sound c.requires.busy c.args.graph.now c.requires.graph (g.M.Master.strict c.args.master.now) (g.M.Master.refused c.args.master.now) (g.M.Master.refused c.loop-leaf.master) c.args.turns c.requires.few
+  closed-end c.args.instance.now c.requires.sound c.requires.busy c.requires.arcs c.args.graph.now c.requires.graph (g.M.Master.strict c.args.master.now) (g.M.Master.refused c.args.master.now) (g.M.Master.refused c.loop-leaf.master) c.args.turns c.requires.few
       c.loop-leaf.progress c.next.new.self.tree c.next.new.self.best c.loop-leaf.invariant.0 c.in_default.ensures c.closed_end-bound.result c.closed_end-bound.ensures,
 )
 
 pub returns-clause-found : goal.returns-clause-found
 returns-clause-found g c =
-    let end = closed-end c.args.instance.now c.requires.sound c.requires.busy c.args.graph.now c.requires.graph (g.M.Master.strict c.args.master.now) (g.M.Master.refused c.args.master.now) (g.M.Master.refused c.loop-leaf.master) c.args.turns c.requires.few
+    let end = closed-end c.args.instance.now c.requires.sound c.requires.busy c.requires.arcs c.args.graph.now c.requires.graph (g.M.Master.strict c.args.master.now) (g.M.Master.refused c.args.master.now) (g.M.Master.refused c.loop-leaf.master) c.args.turns c.requires.few
     c.loop-leaf.progress c.next.new.self.tree c.next.new.self.best c.loop-leaf.invariant.0 c.in_default.ensures c.closed_end-bound.result c.closed_end-bound.ensures in
     IfOk-weaker c.found-2.result _ (IsFound c.args.instance.now (g.M.Master.strict c.args.master.now) c.args.turns)
     (λ f h. (h (record { graph = c.args.graph.now; strict = g.M.Master.strict c.args.master.now; before = g.M.Master.refused c.args.master.now; now = g.M.Master.refused c.loop-leaf.master; turns = c.args.turns }) end).0) c.found-2.ensures.found
 
 pub returns-clause-counted : goal.returns-clause-counted
 returns-clause-counted g c =
-    let end = closed-end c.args.instance.now c.requires.sound c.requires.busy c.args.graph.now c.requires.graph (g.M.Master.strict c.args.master.now) (g.M.Master.refused c.args.master.now) (g.M.Master.refused c.loop-leaf.master) c.args.turns c.requires.few
+    let end = closed-end c.args.instance.now c.requires.sound c.requires.busy c.requires.arcs c.args.graph.now c.requires.graph (g.M.Master.strict c.args.master.now) (g.M.Master.refused c.args.master.now) (g.M.Master.refused c.loop-leaf.master) c.args.turns c.requires.few
     c.loop-leaf.progress c.next.new.self.tree c.next.new.self.best c.loop-leaf.invariant.0 c.in_default.ensures c.closed_end-bound.result c.closed_end-bound.ensures in
     IfOk-weaker c.found-2.result _ (AreCounted c.args.instance.now (g.M.Master.refused c.args.master.now) (g.M.Master.refused c.loop-leaf.master))
     (λ f h. (h (record { graph = c.args.graph.now; strict = g.M.Master.strict c.args.master.now; before = g.M.Master.refused c.args.master.now; now = g.M.Master.refused c.loop-leaf.master; turns = c.args.turns }) end).1) c.found-2.ensures.found

@@ -1,0 +1,18 @@
+use Rattle.std.proofs.lemmas.Result.{IfOk-weaker}
+use Rattle.branch_price.specs.Found.{IsFound, AreCounted}
+use Rattle.branch_price.proofs.RootLemmas.{some-arc}
+use Rattle.branch_price.proofs.branching.search_at.Goals as goal
+
+pub returns-then-is_empty-clause-found : goal.returns-then-is_empty-clause-found
+returns-then-is_empty-clause-found g c =
+    let i = c.args.instance.now in
+    IfOk-weaker c.search_arcless.result _ (IsFound i (g.M.Master.strict c.args.master.now) c.args.turns)
+    (λ f h. h (g.M.Master.strict c.args.master.now) c.args.turns c.requires.some) c.search_arcless.ensures.found
+
+pub returns-then-is_empty-clause-counted : goal.returns-then-is_empty-clause-counted
+returns-then-is_empty-clause-counted g c =
+    let now = g.M.Master.refused c.args.master.now in
+    IfOk-weaker c.search_arcless.result _ (AreCounted c.args.instance.now now now) (λ f h. h now) c.search_arcless.ensures.counted
+
+pub search_along-requires-clause-arcs : goal.search_along-requires-clause-arcs
+search_along-requires-clause-arcs g c = some-arc c.args.instance.now c.args.graph.now c.requires.graph (rw c.arcs.ensures.arcs at (rw c.is_empty.ensures at c.if-is_empty.false))

@@ -1,0 +1,15 @@
+-- Days without arcs.
+use Rattle.std.specs.Prelude.{Option, IfSome}
+use Rattle.roster_model.specs.declared.instance.Instance.{Instance}
+use Rattle.roster_model.specs.Cuts.{base_cuts}
+use Rattle.bound_laws.specs.Pinned.{IsPinnedValue}
+use Rattle.candidate_rosters.specs.declared.roster.Roster.{Roster}
+use Rattle.candidate_rosters.specs.Rosters.{IsGoodRoster}
+use Rattle.candidate_rosters.specs.Starts.{HasStart, StartsWith}
+use Rattle.offers.specs.Offers.{limit_of}
+
+-- an allowed roster that costs what the counts of the root do, or none where these are of no roster
+pub record IsRootRoster (i : Instance) (best : Option Roster) : Type 0 where
+  pub costs : IsPinnedValue i (base_cuts i) (limit_of i best)
+  pub good : IfSome best (IsGoodRoster i)
+  pub start : HasStart i → StartsWith i best

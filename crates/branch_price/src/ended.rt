@@ -1,0 +1,64 @@
+ghost use Rattle.std.specs.Prelude.{IfOk};
+ghost use Rattle.roster_model.specs.SoundInstance.{IsSoundInstance};
+ghost use Rattle.branch_price.specs.Ends.{IsEnd, AsksEnd, IsStatedBy, IsClosedBy};
+ghost use Rattle.branch_price.specs.Found.{IsFound, AreCounted};
+
+use crate::found::Found;
+use crate::progress::Progress;
+use candidate_rosters::Roster;
+use certificates::Cert;
+use roster_model::{Done, Instance, List, Memory, Shift};
+use std::alloc::Global;
+
+/// Returns the shifts and the cost of the best roster; no shift and no cost where there is none.
+pub(crate) fn stated(alloc: Global, best: Option<Roster>) -> (List<Shift>, Option<u64>)
+    ensures { IsStatedBy best result }
+{
+    match best {
+        Some(roster) => (roster.shifts, Some(roster.cost)),
+        None => (List::new(alloc), None),
+    }
+}
+
+/// Returns what a search found that is at its end, with this bound.
+pub(crate) fn found(
+    alloc: Global,
+    instance: &Instance,
+    progress: Progress,
+    bound: Option<u64>,
+    done: Done,
+) -> Result<Found, Memory>
+    requires sound { IsSoundInstance instance.now }
+    requires end { (a : AsksEnd instance.now)
+        × IsEnd instance.now a.graph a.strict a.before a.now a.turns progress
+        bound done }
+    ensures found { IfOk result (λ f. (a : AsksEnd instance.now)
+        → IsEnd instance.now a.graph a.strict a.before a.now a.turns progress bound done
+        → IsFound instance.now a.strict a.turns f × AreCounted instance.now a.before a.now f) }
+{
+    let processed = progress.tree.processed();
+    let failed = progress.tree.failed();
+    let nodes = progress.tree.into_nodes(alloc)?;
+    let (shifts, cost) = stated(alloc, progress.best);
+    Ok(Found {
+        cert: Cert {
+            shifts,
+            cost,
+            bound,
+            nodes,
+        },
+        done,
+        processed,
+        failed,
+    })
+}
+
+/// Returns the bound of a search that is closed, which is the best roster's cost, and how it ended.
+pub(crate) fn closed_end(best: &Option<Roster>) -> (Option<u64>, Done)
+    ensures { IsClosedBy best.now result }
+{
+    match best {
+        Some(roster) => (Some(roster.cost), Done::Equal),
+        None => (None, Done::NoRoster),
+    }
+}
