@@ -77,6 +77,12 @@ pub const FREE_DAY: DayParts<'static> = DayParts {
     ..ONE_PARTS
 };
 
+/// [`FREE_DAY`] where no period needs an employee.
+pub const IDLE_DAY: DayParts<'static> = DayParts {
+    cells: &[],
+    ..FREE_DAY
+};
+
 const FULL_GROUPS: [Group; 2] = [
     Group {
         name: 1,

@@ -5,8 +5,8 @@ ghost use Rattle.certificates.specs.Sound.{IsSoundCert};
 ghost use Rattle.proof_check.specs.Benches.{IsBenchFor, node_room};
 
 use crate::days::{
-    CROWD_DAY, FLOOR_DAY, FREE_DAY, FULL_DAY, FULL_GROUP_DAY, IDLE_GROUP_DAY, UNEVEN_DAY, graph_of,
-    long_day,
+    CROWD_DAY, FLOOR_DAY, FREE_DAY, FULL_DAY, FULL_GROUP_DAY, IDLE_DAY, IDLE_GROUP_DAY, UNEVEN_DAY,
+    graph_of, long_day,
 };
 use branch_price::{Done, FailingMaster, Found, Master, PlainMaster, Pool, search};
 use certificates::{Cert, Node};
@@ -284,7 +284,7 @@ static WORD_CASES: [Case<'static>; 2] = [
 ];
 
 /// Days of one period.
-static ONE_CASES: [Case<'static>; 2] = [
+static ONE_CASES: [Case<'static>; 3] = [
     Case {
         what: "no employee where none is asked for",
         parts: FREE_DAY,
@@ -296,6 +296,18 @@ static ONE_CASES: [Case<'static>; 2] = [
         },
         processed: Some(1),
         told: Told::Count(0),
+    },
+    Case {
+        what: "no employee where none is needed",
+        parts: IDLE_DAY,
+        turns: 1,
+        end: End {
+            cost: Some(0),
+            bound: Some(0),
+            ..AT_FOUR
+        },
+        processed: Some(1),
+        told: Told::OnePinned,
     },
     ONE_PERIOD,
 ];
