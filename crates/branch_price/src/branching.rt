@@ -182,9 +182,9 @@ fn search_day<M: Master>(
 /// The certificate is sound and accepted, its bound is what its tree shows, and its shifts stand in order
 /// of their groups and then of their bytes. The bound is the cost, or both say that no roster is allowed,
 /// unless the turns ran out; these are enough where they are at least twice the points less one, a point
-/// being a choice of one count for each arc. A day without arcs has one pinned node. The graph is the instance's, and the pool's trees are of its
-/// day; whatever the answer, it has its old trees under their numbers, and beside them only further trees
-/// of the day.
+/// being a choice of one count for each arc. A day without arcs has one pinned node. The graph is the
+/// instance's, and the pool's trees are of its day; whatever the answer, it has its old trees under their
+/// numbers, and beside them only further trees of the day.
 ///
 /// # Errors
 ///

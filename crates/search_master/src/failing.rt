@@ -101,7 +101,8 @@ impl Master for FailingMaster {
             → IfOk result (EndsWell instance.now cuts.now pool.new true) }
         ensures end { IfOk result (EndsWell instance.now cuts.now pool.new
             (is_none_listed self.old.every self.old.calls.items)) }
-        ensures counts { MatchResult result (λ end. self.new.plain.refused ≡ counted self.old.plain.refused end)
+        ensures counts { MatchResult result
+            (λ end. self.new.plain.refused ≡ counted self.old.plain.refused end)
             (λ fault. self.new.plain.refused ≡ self.old.plain.refused) }
         ensures rises { self.old.plain.refused ≤ self.new.plain.refused }
         ensures within { self.new.plain.refused ≤ 2 ^ 64 - 1 }
