@@ -10,7 +10,7 @@ use fraction::{Frac, Tally};
 use node_master::{Cause, NodeEnd, Weight, solve_node};
 use parse_graph::Graph;
 use roster_model::{ArcKey, Cut, Instance, Memory, Side};
-use sample_days::{DayParts, FLOOR_CELLS, GROUP_PARTS, PAIR_PARTS};
+use sample_days::{DayParts, FLOOR_CELLS, GROUP_PARTS, PAIR_PARTS, day_of_many_trees, long_cells};
 use std::alloc::Global;
 use std::test::Fail;
 use tree_pool::Pool;
@@ -292,6 +292,16 @@ const FLOOR_ROWS: [Row<'static>; 1] = [("no roster", &[], Want::Value(2636, 1))]
 fn masters_of_groups_and_floors(rt: HostRuntime) -> Result<(), Fail> {
     show(rt.alloc(), &GROUP_DAY, &GROUP_ROWS)?;
     show(rt.alloc(), &FLOOR_DAY, &FLOOR_ROWS)
+}
+
+// Where employees of weight W work, 1 <= W <= 2, an odd period costs W + W + 10 * (2 - W), an even one W + 1, and the 59
+// cuts of a tree 59 * W: least at W = 2, with 30 * 4 + 30 * 3 + 118.
+const MANY_ROWS: [Row<'static>; 1] = [("many trees", &[], Want::Value(328, 1))];
+
+#[test]
+fn a_master_over_more_trees_than_any_list(rt: HostRuntime) -> Result<(), Fail> {
+    let cells = long_cells(rt.alloc(), 60)?;
+    show(rt.alloc(), &day_of_many_trees(cells.as_slice()), &MANY_ROWS)
 }
 
 /// Returns the value of the master at the root, where these trees are wanted.
