@@ -116,7 +116,7 @@ fn judge_all(alloc: Global, parts: &DayParts, cases: &[Case<'_>]) -> Result<(), 
     judge_on(alloc, &day, cases)
 }
 
-static BLOCK_CASES: [Case<'static>; 6] = [
+static BLOCK_CASES: [Case<'static>; 9] = [
     (
         "proof 1\ncost 10\nbound 10\nshift .aaa 5\nshift aaa. 5\npriced 1\nprice a 1 2 2 1\nend\n",
         Verdict::Yes {
@@ -138,6 +138,24 @@ static BLOCK_CASES: [Case<'static>; 6] = [
     (
         "proof 1\ncost 10\nbound 10\nshift aaaa 6\nshift aaa. 5\npriced 1\nprice a 1 2 2 1\nend\n",
         Verdict::No(Why::NotAShift { shift: 1 }),
+    ),
+    (
+        "proof 1\ncost 10\nbound 0\nshift .aaa 5\nshift aaa. 5\nbare\nend\n",
+        Verdict::Yes {
+            cost: Some(10),
+            bound: Some(0),
+        },
+    ),
+    (
+        "proof 1\ncost 10\nbound 1\nshift .aaa 5\nshift aaa. 5\nbare\nend\n",
+        Verdict::No(Why::BoundTooHigh {
+            said: Some(1),
+            shown: Some(0),
+        }),
+    ),
+    (
+        "proof 1\ncost 9\nbound 1\nshift .aaa 5\nshift aaa. 5\nbare\nend\n",
+        Verdict::No(Why::WrongCost { said: 9, found: 10 }),
     ),
     (
         "proof 1\ncost none\nbound 0\nbare\nend\n",

@@ -10,6 +10,7 @@ use certificates::Cert;
 use roster_model::{
     ArcKey, Cell, CodeDef, Group, Instance, List, Mult, Prices, Shift, Sym, is_sound_instance,
 };
+use sample_days::{BLOCK_PARTS, DayParts, sound_day};
 use std::alloc::{AllocError, Global};
 use std::test::Fail;
 
@@ -250,8 +251,7 @@ const HEADERS: [Row; 5] = [
 ];
 
 /// Costs and bounds.
-const COSTS: [Row; 7] = [
-    ("proof 1\ncost 010", "proof: line 2: bad number\n"),
+const COSTS: [Row; 6] = [
     (
         "proof 1\ncost 1099511627777",
         "proof: line 2: out of range\n",
@@ -267,7 +267,7 @@ const COSTS: [Row; 7] = [
 ];
 
 /// Lines of shifts.
-const SHIFTS: [Row; 5] = [
+const SHIFTS: [Row; 4] = [
     (
         "proof 1\ncost none\nbound none\nshift aaa 1",
         "proof: line 4: unknown line\n",
@@ -284,14 +284,10 @@ const SHIFTS: [Row; 5] = [
         "proof 1\ncost 1\nbound 1\nshift aaa x",
         "proof: line 4: bad number\n",
     ),
-    (
-        "proof 1\ncost 1\nbound 1\nshift a \u{e9}",
-        "proof: line 4: bad byte\n",
-    ),
 ];
 
 /// Ends of texts.
-const ENDS: [Row; 9] = [
+const ENDS: [Row; 8] = [
     (
         "proof 1\ncost 1\nbound 1\nsplit 1 0 1 3 1 0\nshift a 1",
         "proof: line 5: unknown line\n",
@@ -311,10 +307,6 @@ const ENDS: [Row; 9] = [
     (
         "proof 1\ncost 1\nbound 1\nbare\n\u{e9}",
         "proof: line 5: bad byte\n",
-    ),
-    (
-        "proof 1\ncost 1\nbound 1\nbare\nend\nbare\n",
-        "proof: line 6: text after the end\n",
     ),
     (
         "proof 1\ncost 1\nbound 1\nbare\nend\n\n# x\n\u{7f}",
@@ -526,6 +518,56 @@ fn orders_of_prices(rt: HostRuntime) -> Result<(), Fail> {
 #[test]
 fn texts_of_groups(rt: HostRuntime) -> Result<(), Fail> {
     compare(rt.alloc(), &GROUPED, "", &GROUPS)
+}
+
+/// Texts of a roster over a bare root, on the day of one block, and their fault lines.
+const BARE: [(&[u8], &str); 6] = [
+    (
+        b"proof 1\ncost 10\nbound 0\nshift .aaa 5\nshift aaa. 5\nbare\nend\n",
+        "",
+    ),
+    (
+        b"proof 1\ncost 10\nbound 1\nshift .aaa 5\nshift aaa. 5\nbare\nend\n",
+        "",
+    ),
+    (
+        b"proof 1\ncost 9\nbound 1\nshift .aaa 5\nshift aaa. 5\nbare\nend\n",
+        "",
+    ),
+    (
+        b"proof 1\ncost 10\nbound 0\nshift .aaa 5\nshift aaa. 5\nbare\nend\nbare\n",
+        "proof: line 8: text after the end\n",
+    ),
+    (
+        b"proof 1\ncost 010\nbound 0\nshift .aaa 5\nshift aaa. 5\nbare\nend\n",
+        "proof: line 2: bad number\n",
+    ),
+    (
+        b"proof 1\ncost 10\nbound 0\nshift .aaa 5\xff\nshift aaa. 5\nbare\nend\n",
+        "proof: line 4: bad byte\n",
+    ),
+];
+
+// Whether the texts have these fault lines.
+fn bytes_answer(alloc: Global, instance: &Instance, rows: &[(&[u8], &str)]) -> Result<(), Fail>
+    requires { IsSoundInstance instance.now }
+{
+    for (text, want) in rows {
+        let said = answer(alloc, instance, text)?;
+        if said.as_slice() != want.as_bytes() {
+            return Err(Fail::from(*want));
+        }
+    }
+    Ok(())
+}
+
+/// One block of two or three of four periods.
+static BLOCK_DAY: DayParts<'static> = BLOCK_PARTS;
+
+#[test]
+fn rosters_over_a_bare_root(rt: HostRuntime) -> Result<(), Fail> {
+    let day = sound_day(rt.alloc(), &BLOCK_DAY)?;
+    bytes_answer(rt.alloc(), &day, &BARE)
 }
 
 // A part that stands so many times, and the rest.
