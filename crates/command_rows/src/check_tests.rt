@@ -61,6 +61,59 @@ end
 yes
 cost none
 bound 0
+> check g1 q1 proof
+proof 1
+cost 10
+bound 0
+shift .aaa 5
+shift aaa. 5
+bare
+end
+< 0
+yes
+cost 10
+bound 0
+> check g1 q1 proof
+proof 1
+cost 10
+bound 1
+shift .aaa 5
+shift aaa. 5
+bare
+end
+< 1
+no 8 bound too high: said 1 shown 0
+> check g1 q1 proof
+proof 1
+cost 9
+bound 1
+shift .aaa 5
+shift aaa. 5
+bare
+end
+< 1
+no 4 wrong cost: said 9 found 10
+> check g1 q1 proof
+proof 1
+cost 10
+bound 0
+shift .aaa 5
+shift aaa. 5
+bare
+end
+bare
+< 5
+proof: line 8: text after the end
+> check g1 q1 proof
+proof 1
+cost 010
+bound 0
+shift .aaa 5
+shift aaa. 5
+bare
+end
+< 5
+proof: line 2: bad number
 > check g4 q4 proof
 proof 1
 cost 5
@@ -365,6 +418,23 @@ proof: line 1: bad header
 #[test]
 fn certificates_have_their_answers(rt: HostRuntime) -> Result<(), Fail> {
     have_answers(rt.alloc(), CERTIFICATES)
+}
+
+/// A certificate with a byte that no text may have.
+const BAD_BYTE: &[u8] = b"proof 1\ncost 10\nbound 0\nshift .aaa 5\xff\nshift aaa. 5\nbare\nend\n";
+
+/// Whether the byte is told, with the line where it stands.
+fn is_told(alloc: Global) -> Result<bool, Fail> {
+    let mut shelf = shelf_of(alloc, &[])?;
+    shelf.put("proof", BAD_BYTE)?;
+    let status = answer(alloc, &mut shelf, "check g1 q1 proof")?;
+    Ok(status == 5 && shelf.said() == b"proof: line 4: bad byte\n".as_slice())
+}
+
+#[test]
+fn a_bad_byte_is_told(rt: HostRuntime) -> Result<(), Fail> {
+    assert!(rt; is_told(rt.alloc())?);
+    Ok(())
 }
 
 /// The certificate under `halves`.

@@ -8,6 +8,8 @@ mod check_tests;
 #[cfg(test)]
 mod page_tests;
 #[cfg(test)]
+mod refused_tests;
+#[cfg(test)]
 mod runs;
 #[cfg(test)]
 mod shelf_tests;

@@ -1,8 +1,8 @@
 use shelf::{DiskShelf, MemoryShelf, QuietShelf, Shelf, ShelfFault, read_bytes, write_bytes};
 use std::alloc::Global;
-use std::io;
 use std::io::{ErrorKind, Read, Write};
 use std::test::Fail;
+use std::{fs, io};
 
 // Gives or takes one byte a call, and then is interrupted.
 #[derive(Drop)]
@@ -104,13 +104,13 @@ fn a_memory_shelf_answers(rt: HostRuntime) -> Result<(), Fail> {
     Ok(())
 }
 
+// The file is taken away again, so that a test leaves nothing where it runs.
 #[test]
 fn the_disk_answers(rt: HostRuntime) -> Result<(), Fail> {
-    let alloc = rt.alloc();
-    if answers(alloc, &mut DiskShelf::new(rt))? {
-        return Ok(());
-    }
-    Err(Fail::from("another answer"))
+    let answers = answers(rt.alloc(), &mut DiskShelf::new(&rt));
+    let removed = fs::remove_file(&rt, HELD);
+    assert!(rt; answers? && removed.is_ok());
+    Ok(())
 }
 
 /// Whether what a reader gives is appended, and a fault after so many calls is told.

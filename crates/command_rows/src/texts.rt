@@ -87,6 +87,14 @@ work a
 start S
 rule S 0 = 'a'
 rule S 0 = S S
+@ many
+periods 60
+work a
+idle .
+start S
+rule S 2 = 'a'
+rule S 1 = '.'
+rule S 1 = S S
 @ short_full_days
 periods 2
 work a
@@ -129,6 +137,13 @@ need a 10 0 1 1 1
 heads 0 3
 need a 10 0 1 1 1
 least a 1 1 1
+@ early
+heads 0 3
+least a 1 1 1
+need a 10 0 1 1 1
+@ many_needs
+heads 0 2
+need a 10 0 2 1 2 1 2 1 2 1 2 1 2 1 2 1 2 1 2 1 2 1 2 1 2 1 2 1 2 1 2 1 2 1 2 1 2 1 2 1 2 1 2 1 2 1 2 1 2 1 2 1 2 1 2 1 2 1 2 1 2 1
 @ exact
 heads 0 3
 need a 10 0 1 1 1
