@@ -16,9 +16,9 @@ use Rattle.master_laws.specs.Master.{MasterKey, missing, beyond, tree}
 use Rattle.master_laws.specs.Sharp.{on_trees, AreFine}
 use Rattle.tree_pool.specs.Pools.{PoolTree, IsPool}
 use Rattle.node_columns.specs.declared.weights.Weight.{Weight}
-use Rattle.node_columns.specs.Weights.{IsWeight, AreWeights}
+use Rattle.node_columns.specs.Weights.{IsWeight, AreWeights, AreApart}
 use Rattle.node_master.specs.Ends.{IsOther}
-use Rattle.arc_weights.specs.Denominators.{den_of, AreAllPast, AreApart}
+use Rattle.arc_weights.specs.Denominators.{den_of, AreAllPast}
 use Rattle.arc_weights.proofs.Units.{weight_share, cancel}
 
 -- ---- a test of steps

@@ -23,7 +23,7 @@ use Rattle.roster_split.proofs.Places.{count-at}
 use Rattle.arc_weights.specs.declared.weighed.Weighed.{Weighed}
 use Rattle.arc_weights.specs.declared.weighed.Weighed.TheVariants.{Whole, Between, Other}
 use Rattle.arc_weights.specs.Weighed.{IsBetween, AreWhole, IsWeighed}
-use Rattle.arc_weights.specs.Denominators.{IsDenominator, AreApart, AreAllPast}
+use Rattle.arc_weights.specs.Denominators.{IsDenominator, AreAllPast}
 use Rattle.arc_weights.specs.Sums.{arc_units, AreInPool, AreSums}
 use Rattle.arc_weights.specs.Choices.{AreMultiples, HaveFew, AreQuotients, IsChoice, IsMissed, IsAnswer}
 use Rattle.arc_weights.proofs.SumsLemmas.{get_lt}
@@ -66,8 +66,8 @@ hi_most most (c ∷ cs) a = by c.side c.b (same_arc c.arc a) (hi_most most cs a)
 module _ (i : Instance) (v : GraphView) (cuts : List Cut) (columns : List PoolTree) (weights : List Weight)
     (sound : IsSoundInstance i) (graph : IsGraph i.grammar v) (pool : IsPool i.grammar columns) where
   -- the weights have no small common denominator
-  pub past_is : AreAllPast weights → AreApart weights → (w : AreLeastWeights i cuts columns weights) → UsesArtificial i cuts (w.trees ++ w.others) ⊎ AreFine (w.trees ++ w.others) w.d
-  past_is past apart w = inr (are_fine i.grammar columns w.d pool w.basic.solution.positive weights w.trees w.others w.are w.apart apart past)
+  pub past_is : AreAllPast weights → (w : AreLeastWeights i cuts columns weights) → UsesArtificial i cuts (w.trees ++ w.others) ⊎ AreFine (w.trees ++ w.others) w.d
+  past_is past w = inr (are_fine i.grammar columns w.d pool w.basic.solution.positive weights w.trees w.others w.are w.apart w.once past)
 
   module _ (d : ℕ) (common : IsDenominator weights d) where
     -- sums are weights over d

@@ -1,5 +1,5 @@
 -- Common denominators of weights.
-use Rattle.std.specs.Prelude.{ℕ, ◌≢◌, ◌<◌, ◌≤◌, ◌^◌, List, [], ◌∷◌, unsigned_abs}
+use Rattle.std.specs.Prelude.{ℕ, ◌<◌, ◌≤◌, ◌^◌, List, unsigned_abs}
 use Rattle.std.specs.Int.{◌∣◌}
 use Rattle.roster_model.specs.Folds.{Each}
 use Rattle.node_columns.specs.declared.weights.Weight.{Weight}
@@ -32,8 +32,3 @@ pub record IsDenominator (weights : List Weight) (d : ℕ) : Type 0 where
 -- each common denominator is above 2^100
 abbrev pub AreAllPast : List Weight → Type 0
 AreAllPast weights = (k : ℕ) → 1 ≤ k → AreOver k weights → 2 ^ 100 < k
-
--- each weight is one of another tree
-abbrev pub AreApart : List Weight → Type 0
-AreApart [] = Unit {0}
-AreApart (x ∷ xs) = Each (λ (y : Weight). y.column ≢ x.column) xs × AreApart xs

@@ -4,7 +4,9 @@ ghost use Rattle.arc_weights.specs.Denominators.{IsCommonMultiple, IsPast, IsDen
 use fraction::gcd_unsigned;
 use node_master::Weight;
 
-const MOST: u128 = 1 << 100;
+// The greatest denominator: with it a sum of the weights of 64 trees, in units of one part, is below 2^106,
+// far within 128 bits.
+const MOST_DENOMINATOR: u128 = 1 << 100;
 
 // Returns the least common multiple of two numbers, or none where it is above 2^100.
 fn common_multiple(d: u128, n: u128) -> Option<u128>
@@ -15,7 +17,7 @@ fn common_multiple(d: u128, n: u128) -> Option<u128>
 {
     let part = n / gcd_unsigned(n, d);
     let multiple = part.checked_mul(d)?;
-    if multiple > MOST {
+    if multiple > MOST_DENOMINATOR {
         return None;
     }
     Some(multiple)

@@ -1,7 +1,6 @@
 //! The weights of a solution's trees, summed by the trees' arcs.
 #![tactic(auto)]
 
-mod apart;
 mod choice;
 mod denominator;
 mod sums;

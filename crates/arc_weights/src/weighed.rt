@@ -7,7 +7,6 @@ ghost use Rattle.tree_pool.specs.Pools.{IsPool};
 ghost use Rattle.node_master.specs.Ends.{AreLeastWeights};
 ghost use Rattle.arc_weights.specs.Weighed.{IsWeighed};
 
-use crate::apart::are_apart;
 use crate::choice::conclude;
 use crate::denominator::common_denominator;
 use crate::sums::arc_sums;
@@ -52,13 +51,7 @@ pub fn weigh(
     ensures { IfOk result (IsWeighed instance.now graph.now cuts.now pool.now weights.now) }
 {
     let Some(d) = common_denominator(weights) else {
-        // No basis has a tree twice, but the weights' contract does not say so; the denominator of a sum of
-        // such weights may be small, and the sum has no room here.
-        return if are_apart(weights) {
-            Ok(Weighed::Other)
-        } else {
-            Err(Memory)
-        };
+        return Ok(Weighed::Other);
     };
     let sums = arc_sums(alloc, graph, pool, weights, d)?;
     conclude(alloc, graph, arc_box, preferred, sums.as_slice(), d)

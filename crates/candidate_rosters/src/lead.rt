@@ -14,24 +14,18 @@ ghost use Rattle.candidate_rosters.specs.Leaders.{AreCosts, IsTeamTree, HoldsLea
 
 use cheapest_tree::Pricer;
 use parse_graph::Graph;
-use roster_model::{ArcKey, Instance, PriceRoom, TreeRoom};
+use roster_model::{ArcKey, Instance, PriceRoom, TreeRoom, group_arc};
 use roster_part::Team;
 
-// The arc by which the rule of a team's group stands on the whole day.
-fn group_arc(instance: &Instance, team: &Team) -> ArcKey
+/// Returns the arc by which the rule of a team that is a group stands on the whole day.
+pub fn team_arc(instance: &Instance, team: &Team) -> ArcKey
     requires sound { IsSoundInstance instance.now }
     requires team { In (team_view team.now) (teams instance.now) }
     ensures { result ≡ arc_of_rule instance.now.grammar.periods (own_rules instance.now + team.now.number) }
 {
     let own = instance.grammar.rules.len() - instance.groups.len();
-    let periods = instance.grammar.periods;
-    ArcKey {
-        rule: (own + team.number as usize) as u8,
-        suffix: 0,
-        start: 1,
-        len: periods,
-        part: periods,
-    }
+    let rule = (own + team.number as usize) as u8;
+    group_arc(instance.grammar.periods, rule)
 }
 
 // Leaves in the room the steps of a cheapest tree of a team that is a group.
@@ -55,7 +49,7 @@ fn lead_group(
     ensures no { IsFalse result → (u : Parts) → IsTeamTree instance.now (team_view team.now) u → ⊥ }
     ensures kept { room.new.most ≡ room.old.most }
 {
-    let Some(arc) = graph.find(&group_arc(instance, team)) else {
+    let Some(arc) = graph.find(&team_arc(instance, team)) else {
         return false;
     };
     if pricer.sum_under(graph, prices, arc).is_none() {

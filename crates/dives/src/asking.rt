@@ -26,18 +26,18 @@ const KAPPA: u128 = 16_777_216;
 /// A reduced cost from here on, -2^-11, is taken for none.
 const CHEAPER: i128 = -8_192;
 
-/// The greatest price of a row in size, 2^56 in units of 2^-24.
-const MOST: i128 = 72_057_594_037_927_936;
+/// The greatest price of a row in size that is asked at, 2^56 in units of 2^-24.
+const MOST_ROW_PRICE: i128 = 72_057_594_037_927_936;
 
-/// The greatest price of a cell or a cut in size.
-const MOST_WIDE: i128 = 1_208_925_819_614_629_174_706_176;
+/// The greatest price of a cell or a cut in size, 2^80: a room of prices takes none above it.
+const MOST_CELL_PRICE: i128 = 1_208_925_819_614_629_174_706_176;
 
 /// Returns the price of a row, 0 where there is none.
 fn narrow(prices: &[Q24], row: usize) -> i128
     ensures { unsigned_abs result ≤ 2 ^ 56 }
 {
     match prices.get(row) {
-        Some(price) => i128::from(price.raw()).clamp(-MOST, MOST),
+        Some(price) => i128::from(price.raw()).clamp(-MOST_ROW_PRICE, MOST_ROW_PRICE),
         None => 0,
     }
 }
@@ -56,7 +56,7 @@ fn copy_prices(out: &mut [i128], prices: &[Q24])
 fn wide(number: i128) -> i128
     ensures { Within (2 ^ 80) result }
 {
-    number.clamp(-MOST_WIDE, MOST_WIDE)
+    number.clamp(-MOST_CELL_PRICE, MOST_CELL_PRICE)
 }
 
 /// Brings numbers within 2^80.

@@ -22,8 +22,8 @@ const WIDE: i64 = 3_221_225_472;
 /// Where none is, further trees beside the first one are fixed from this width on, 1/2.
 const HALF: i64 = 2_147_483_648;
 
-/// How many trees are fixed in a step.
-const MOST: u32 = 64;
+/// How many trees are fixed in a step at most: no day has more employees.
+const MOST_FIXED: u32 = 64;
 
 /// How many trees a step has fixed.
 #[derive(Clone, Copy, Drop)]
@@ -127,7 +127,7 @@ pub(crate) fn fix_some(
     ensures grown { IsGrown pool.old pool.new }
 {
     let mut taken = Taken { wide: 0, all: 0 };
-    for _ in 0..MOST.min(instance.heads_max) {
+    for _ in 0..MOST_FIXED.min(instance.heads_max) {
         let next = fix_one(
             alloc, instance, graph, cuts, rows, pricer, desk, program, pool, taken, left,
         )?;

@@ -10,8 +10,8 @@ pub(crate) const ONE: i64 = 4_294_967_296;
 /// The weight 2^-8, below which an arc counts as without weight.
 pub(crate) const LEAST: i64 = 16_777_216;
 
-/// What an arc without weight costs, 2^96.
-const MOST: i128 = 79_228_162_514_264_337_593_543_950_336;
+/// What an arc without weight costs, 2^96: the greatest price that a pricer takes.
+const MOST_ARC_PRICE: i128 = 79_228_162_514_264_337_593_543_950_336;
 
 /// A sixteenth of the weight 1.
 const SIXTEENTH: i64 = 268_435_456;
@@ -46,9 +46,9 @@ fn price_of(sum: i64) -> i128
     ensures { Within (2 ^ 96) result }
 {
     if sum < LEAST {
-        return MOST;
+        return MOST_ARC_PRICE;
     }
-    price_at(sum / SIXTEENTH).clamp(0, MOST)
+    price_at(sum / SIXTEENTH).clamp(0, MOST_ARC_PRICE)
 }
 
 /// Sets the price of each arc by its sum.

@@ -16,7 +16,7 @@ use parse_graph::Graph;
 use roster_model::{Instance, Memory, PriceRoom};
 use tree_pool::Pool;
 
-/// How many renewals there are for each tree.
+/// How many renewals there are for each tree: with sixteen they took some 30 % of a search's time on one day.
 const ROUNDS: usize = 4;
 
 /// Counts the tree at a place out.

@@ -1,5 +1,4 @@
-ghost use Rattle.std.specs.Prelude.{◌≡◌, ◌≢◌, ◌+◌, ◌<◌, [], IsTrue, IfOk, IfSome, length};
-ghost use Rattle.roster_model.specs.Cuts.{group_arc as arc_of_rule};
+ghost use Rattle.std.specs.Prelude.{◌≡◌, ◌≢◌, ◌<◌, [], IsTrue, IfOk, IfSome, length};
 ghost use Rattle.roster_model.specs.Folds.{In};
 ghost use Rattle.roster_model.specs.PriceRooms.{price_view};
 ghost use Rattle.roster_model.specs.Room.{most_uses};
@@ -7,35 +6,18 @@ ghost use Rattle.roster_model.specs.SoundInstance.{IsSoundInstance};
 ghost use Rattle.roster_model.specs.Sums.{IsLeast, tree_sum};
 ghost use Rattle.roster_model.specs.Teams.{teams};
 ghost use Rattle.roster_model.specs.Trees.{IsDayTree};
-ghost use Rattle.bound_laws.specs.DutyTrees.{own_rules};
 ghost use Rattle.parse_graph.specs.Graphs.{IsGraph};
 ghost use Rattle.cheapest_tree.specs.Pricers.{IsMadeFor, IsFilled};
 ghost use Rattle.roster_part.specs.TeamViews.{team_view};
 ghost use Rattle.tree_laws.specs.DaySteps.{AreDaySteps};
 ghost use Rattle.tree_pool.specs.Pools.{IsPool, IsGrown};
 
+use candidate_rosters::team_arc;
 use cheapest_tree::Pricer;
 use parse_graph::Graph;
-use roster_model::{ArcKey, Instance, Memory, PriceRoom, TreeRoom};
+use roster_model::{Instance, Memory, PriceRoom, TreeRoom};
 use roster_part::Team;
 use tree_pool::Pool;
-
-/// Returns the arc at the top of the trees of a team that is a group.
-fn group_arc(instance: &Instance, team: &Team) -> ArcKey
-    requires sound { IsSoundInstance instance.now }
-    requires team { In (team_view team.now) (teams instance.now) }
-    ensures { result ≡ arc_of_rule instance.now.grammar.periods (own_rules instance.now + team.now.number) }
-{
-    let own = instance.grammar.rules.len() - instance.groups.len();
-    let periods = instance.grammar.periods;
-    ArcKey {
-        rule: (own + team.number as usize) as u8,
-        suffix: 0,
-        start: 1,
-        len: periods,
-        part: periods,
-    }
-}
 
 /// Returns the least sum over the trees of a team that is a group.
 fn group_sum(
@@ -51,7 +33,7 @@ fn group_sum(
     requires filled { IsFilled instance.now.grammar (price_view prices.now) graph.now pricer.now }
     requires team { In (team_view team.now) (teams instance.now) }
 {
-    let arc = graph.find(&group_arc(instance, team))?;
+    let arc = graph.find(&team_arc(instance, team))?;
     pricer.sum_under(graph, prices, arc)
 }
 
@@ -95,7 +77,7 @@ fn write_group_tree(
     ensures yes { IsTrue result → AreDaySteps instance.now.grammar room.new.steps }
     ensures kept { room.new.most ≡ room.old.most }
 {
-    let Some(arc) = graph.find(&group_arc(instance, team)) else {
+    let Some(arc) = graph.find(&team_arc(instance, team)) else {
         return false;
     };
     if pricer.sum_under(graph, prices, arc).is_none() {

@@ -12,12 +12,12 @@ returns-in_err-multiple-clause-past c =
     let k = c.in_err-multiple.ensures in
     search rules
 
-pub returns-then-multiple-gt-MOST-clause-past : goal.returns-then-multiple-gt-MOST-clause-past
-returns-then-multiple-gt-MOST-clause-past c =
+pub returns-then-multiple-gt-MOST_DENOMINATOR-clause-past : goal.returns-then-multiple-gt-MOST_DENOMINATOR-clause-past
+returns-then-multiple-gt-MOST_DENOMINATOR-clause-past c =
     let e : c.in_ok-multiple.multiple ≡ c.args.n / c.gcd_unsigned.result * c.args.d = search rules in
-    past_at c.args.d c.args.n c.gcd_unsigned.result c.requires.d c.requires.n c.gcd_unsigned.ensures (omega (arith, e, c.if-multiple-gt-MOST.true))
+    past_at c.args.d c.args.n c.gcd_unsigned.result c.requires.d c.requires.n c.gcd_unsigned.ensures (omega (arith, e, c.if-multiple-gt-MOST_DENOMINATOR.true))
 
 pub returns-clause-multiple : goal.returns-clause-multiple
 returns-clause-multiple c =
     let e : c.in_ok-multiple.multiple ≡ c.args.n / c.gcd_unsigned.result * c.args.d = search rules in
-    rw e (multiple_at c.args.d c.args.n c.gcd_unsigned.result c.requires.d c.requires.n c.gcd_unsigned.ensures (omega (arith, e, c.if-multiple-gt-MOST.false)))
+    rw e (multiple_at c.args.d c.args.n c.gcd_unsigned.result c.requires.d c.requires.n c.gcd_unsigned.ensures (omega (arith, e, c.if-multiple-gt-MOST_DENOMINATOR.false)))

@@ -4,10 +4,10 @@ use Rattle.arc_weights.specs.Choices.{IsAnswer}
 use Rattle.arc_weights.proofs.WeighedLemmas.{past_is, pool_is, room_is, few_is, answer_is}
 use Rattle.arc_weights.proofs.weighed.weigh.Goals as goal
 
-pub returns-then-are_apart : goal.returns-then-are_apart
-returns-then-are_apart c =
+pub returns-in_default : goal.returns-in_default
+returns-in_default c =
     let past : AreAllPast c.args.weights.now = c.in_default.ensures.past in
-    past_is c.args.instance.now c.args.graph.now c.args.cuts.now c.args.pool.now c.args.weights.now c.requires.sound c.requires.graph c.requires.pool past (c.are_apart.ensures (search rules))
+    past_is c.args.instance.now c.args.graph.now c.args.cuts.now c.args.pool.now c.args.weights.now c.requires.sound c.requires.graph c.requires.pool past
 
 pub arc_sums-requires-clause-pool : goal.arc_sums-requires-clause-pool
 arc_sums-requires-clause-pool c = pool_is c.args.instance.now c.args.graph.now c.args.cuts.now c.args.pool.now c.args.weights.now c.requires.sound c.requires.graph c.requires.pool c.in-Some.d c.in-Some.ensures.common c.requires.weights

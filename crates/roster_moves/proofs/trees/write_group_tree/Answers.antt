@@ -8,7 +8,7 @@ use Rattle.roster_moves.proofs.LeastTrees.{is-ready, is-top, asks-under, under-s
 use Rattle.roster_moves.proofs.trees.write_group_tree.Goals as goal
 
 pub sum_under-requires-clause-arc : goal.sum_under-requires-clause-arc
-sum_under-requires-clause-arc c = slice_get_within c.args.graph.now.arcs c.in-Some.arc c.group_arc.result c.in-Some.ensures.found
+sum_under-requires-clause-arc c = slice_get_within c.args.graph.now.arcs c.in-Some.arc c.team_arc.result c.in-Some.ensures.found
 
 pub tree_under-requires-clause-asks : goal.tree_under-requires-clause-asks
 tree_under-requires-clause-asks c =
@@ -18,7 +18,7 @@ tree_under-requires-clause-asks c =
     let w = c.args.pricer.now in
     let o = team_view c.args.team.now in
     let key = key_of i c.requires.sound c.requires.groups o c.requires.team in
-    let at : slice_get v.arcs c.in-Some.arc ≡ Some key = c.in-Some.ensures.found ∙ ap Some c.group_arc.ensures in
+    let at : slice_get v.arcs c.in-Some.arc ≡ Some key = c.in-Some.ensures.found ∙ ap Some c.team_arc.ensures in
     let ready = is-ready i c.requires.sound p v w c.requires.graph c.requires.filled in
     let top = is-top i c.requires.sound p v w c.requires.graph c.requires.filled c.requires.groups o c.requires.team c.in-Some.arc at in (
       i.grammar,
@@ -35,7 +35,7 @@ returns-clause-yes c = λ y.
     let w = c.args.pricer.now in
     let o = team_view c.args.team.now in
     let key = key_of i c.requires.sound c.requires.groups o c.requires.team in
-    let at : slice_get v.arcs c.in-Some.arc ≡ Some key = c.in-Some.ensures.found ∙ ap Some c.group_arc.ensures in
+    let at : slice_get v.arcs c.in-Some.arc ≡ Some key = c.in-Some.ensures.found ∙ ap Some c.team_arc.ensures in
     let ready = is-ready i c.requires.sound p v w c.requires.graph c.requires.filled in
     let top = is-top i c.requires.sound p v w c.requires.graph c.requires.filled c.requires.groups o c.requires.team c.in-Some.arc at in
     under-steps i.grammar p key c.tree_under.new.room
