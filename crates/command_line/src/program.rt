@@ -48,9 +48,10 @@ fn refuse_words<S: Shelf>(shelf: &mut S) -> u8
 /// PATTERN `#` stands for any code. A command says its whole
 /// answer at once; `solve` and `make` have stored the certificate under PROOF before, and `curve` those of its
 /// points under PROOF, a full stop and the head count. Status 6 or 7 ends it
-/// at the call that was refused. But for these two the same texts always have the same status, and the same
-/// text is said, save that `explain` may print another tree of the same cost, and that a search may use up
-/// its turns or find another roster of least cost.
+/// at the call that was refused. But for these two any two answers over the same texts have the same status and say
+/// the same, save that `explain` may print another tree of the same cost, and that a search may use up its turns;
+/// two searches with status 0 say the same cost and bound, and may find different rosters and process different
+/// nodes.
 pub fn run<S: Shelf, M: Master>(
     alloc: Global,
     shelf: &mut S,

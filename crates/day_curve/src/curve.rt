@@ -1,11 +1,11 @@
-ghost use Rattle.std.specs.Prelude.{ℕ, ◌≡◌, ◌≤◌, ◌<◌, ◌+◌, ◌⊎◌, [], IfOk, IfErr};
-ghost use Rattle.branch_price.specs.Found.{AreCounted};
+ghost use Rattle.std.specs.Prelude.{ℕ, ◌≡◌, ◌≤◌, ◌<◌, ◌+◌, ◌-◌, [], Bool, IfOk, IfErr};
+ghost use Rattle.branch_price.specs.Found.{AreCounted, IsFound};
 ghost use Rattle.day_solver.specs.Solutions.{HasArcCount, IsSolution};
 ghost use Rattle.parse_graph.specs.Graphs.{IsRefused};
 ghost use Rattle.proof_reuse.specs.Curves.{point_count, point_day, point_heads};
 ghost use Rattle.roster_model.specs.SoundInstance.{IsSoundInstance};
 
-use branch_price::Master;
+use branch_price::{Found, Master};
 use day_solver::{Solution, graph_of, with_text};
 use parse_graph::{Graph, GraphFault};
 use proof_reuse::Curve;
@@ -74,8 +74,8 @@ impl DayCurve {
     ///
     /// # Errors
     ///
-    /// `Memory` where memory runs out: the same point is the next one then, or, where its certificate was found
-    /// and there was no room for the text, the one after it. The master's count may have risen.
+    /// `Memory` where memory runs out, also where the certificate was found and there was no room for its text: the
+    /// curve is as it was, so the same point is the next one. The master's count may have risen.
     pub fn next<M: Master>(&mut self, turns: u32, master: &mut M) -> Result<Solution, Memory>
         requires more { self.old.given < point_count self.old.day }
         requires some { 1 ≤ turns }
@@ -84,14 +84,34 @@ impl DayCurve {
         ensures solution { IfOk result (IsSolution (point_day self.new) (M.strict master.old) turns) }
         ensures counted { IfOk result (λ s. AreCounted (point_day self.new) (M.refused master.old)
             (M.refused master.new) s.found) }
-        ensures without { IfErr result (λ _. (self.new ≡ self.old)
-            ⊎ (self.new ≡ record self.old { given = self.old.given + 1 })) }
+        ensures without { IfErr result (λ _. self.new ≡ self.old) }
         ensures rises { M.refused master.old ≤ M.refused master.new }
         ensures strict_stays { M.strict master.new ≡ M.strict master.old }
     {
         match self.curve.next(&self.graph, turns, master)? {
-            Some(found) => with_text(self.alloc, self.curve.instance(), &self.graph, found),
+            Some(found) => self.written(found),
             None => unreachable!(),
+        }
+    }
+
+    // Writes the certificate of the point given last; where there is no room for its text, the point is the next
+    // one again.
+    fn written(&mut self, found: Found) -> Result<Solution, Memory>
+        requires given { 0 < self.old.given }
+        requires found { (strict : Bool) × (turns : ℕ) × (turns ≤ 10000)
+            × IsFound (point_day self.old) strict turns found }
+        ensures given { IfOk result (λ _. self.new ≡ self.old) }
+        ensures solution { IfOk result (λ s. (strict : Bool) (turns : ℕ)
+            → IsFound (point_day self.old) strict turns found → IsSolution (point_day self.old) strict turns s) }
+        ensures same { IfOk result (λ s. s.found ≡ found) }
+        ensures without { IfErr result (λ _. self.new ≡ record self.old { given = self.old.given - 1 }) }
+    {
+        match with_text(self.alloc, self.curve.instance(), &self.graph, found) {
+            Ok(solution) => Ok(solution),
+            Err(fault) => {
+                self.curve.take_back();
+                Err(fault)
+            }
         }
     }
 }

@@ -6,14 +6,11 @@ use Rattle.roster_model.specs.Duties.{Duty}
 use Rattle.roster_model.specs.Folds.{Each, In}
 use Rattle.roster_model.specs.Rosters.{IsTeamPrice, ArePrices, HasHeads, Costs}
 use Rattle.roster_model.specs.Shifts.{IsPrice}
-use Rattle.roster_model.specs.SoundInstance.{IsSoundInstance}
 use Rattle.roster_model.specs.Teams.{Team, teams, teams_of}
 use Rattle.certificates.specs.RosterCauses.{duties}
-use Rattle.certificate_laws.proofs.RightLemmas.{yes-is-sound}
-use Rattle.branch_price.specs.declared.found.Found.{Found}
-use Rattle.branch_price.specs.Found.{IsFound}
+use Rattle.certificate_laws.specs.Right.{YesIsRight}
+use Rattle.certificates.specs.declared.cert.Cert.{Cert}
 use Rattle.proof_reuse.specs.Curves.{with_heads, IsClosed, IsNoDearer}
-use Rattle.std.specs.Prelude.{Bool}
 
 module _ (i : Instance) (few more : ℕ) (plain : i.groups ≡ []) (less : few ≤ more) where
   -- all employees
@@ -65,9 +62,5 @@ module _ (i : Instance) (few more : ℕ) (plain : i.groups ≡ []) (less : few �
       let some = subst (λ (o : Option ℕ). IfSome o (λ n. (es : List Duty) (amount : ℕ) → Costs (with_heads i more) es amount → n ≤ amount)) e least in
       some ds a (costs-more ds a has)
 
-  pub costs-fall : (s t : Bool) (m n : ℕ) (f g : Found) → IsSoundInstance (with_heads i few) → IsSoundInstance (with_heads i more) → IsFound (with_heads i few) s m f
-      → IsFound (with_heads i more) t n g → IsClosed g.cert → IsNoDearer g.cert.cost f.cert.cost
-  costs-fall s t m n f g sound-few sound-more found-few found-more closed =
-      let low = yes-is-sound (with_heads i few) sound-few f.cert found-few.sound found-few.accepted in
-      let high = yes-is-sound (with_heads i more) sound-more g.cert found-more.sound found-more.accepted in
-      no-dearer (duties f.cert.shifts) f.cert.cost g.cert.cost g.cert.bound closed low.roster high.bound high.none
+  pub costs-fall : (c d : Cert) → YesIsRight (with_heads i few) c → YesIsRight (with_heads i more) d → IsClosed d → IsNoDearer d.cost c.cost
+  costs-fall c d low high closed = no-dearer (duties c.shifts) c.cost d.cost d.bound closed low.roster high.bound high.none

@@ -1,12 +1,10 @@
 -- The laws of this crate.
-use Rattle.std.specs.Prelude.{ℕ, ◌≡◌, ◌≤◌, Bool, List, []}
+use Rattle.std.specs.Prelude.{ℕ, ◌≡◌, ◌≤◌, List, []}
 use Rattle.roster_model.specs.declared.instance.Instance.{Instance}
 use Rattle.roster_model.specs.Duties.{Duty}
 use Rattle.roster_model.specs.Rosters.{Costs}
-use Rattle.roster_model.specs.SoundInstance.{IsSoundInstance}
 use Rattle.certificates.specs.declared.cert.Cert.{Cert}
-use Rattle.branch_price.specs.declared.found.Found.{Found}
-use Rattle.branch_price.specs.Found.{IsFound}
+use Rattle.certificate_laws.specs.Right.{YesIsRight}
 use Rattle.proof_reuse.specs.declared.nodes.Reused.{Reused}
 use Rattle.proof_reuse.specs.Curves.{with_heads, IsClosed, IsNoDearer}
 use Rattle.proof_reuse.specs.Reuse.{IsReuse}
@@ -20,9 +18,8 @@ abbrev pub AllowedWithMore : Type 0
 AllowedWithMore = (i : Instance) (few more : ℕ) (ds : List Duty) (amount : ℕ) → i.groups ≡ [] → few ≤ more
     → Costs (with_heads i few) ds amount → Costs (with_heads i more) ds amount
 
--- what is found with more employees at most, and closed, costs no more than what is found with few
+-- of two certificates that are right, the one with more employees at most, where it is closed, costs no more than
+-- the one with few
 abbrev pub CostsFall : Type 0
-CostsFall = (i : Instance) (few more : ℕ) (s t : Bool) (m n : ℕ) (f g : Found) → i.groups ≡ [] → few ≤ more
-    → IsSoundInstance (with_heads i few) → IsSoundInstance (with_heads i more)
-    → IsFound (with_heads i few) s m f → IsFound (with_heads i more) t n g → IsClosed g.cert
-    → IsNoDearer g.cert.cost f.cert.cost
+CostsFall = (i : Instance) (few more : ℕ) (c d : Cert) → i.groups ≡ [] → few ≤ more
+    → YesIsRight (with_heads i few) c → YesIsRight (with_heads i more) d → IsClosed d → IsNoDearer d.cost c.cost

@@ -1,4 +1,4 @@
-ghost use Rattle.std.specs.Prelude.{◌≡◌, ◌≤◌, [], IfOk, IfSome, MatchResult};
+ghost use Rattle.std.specs.Prelude.{◌≡◌, ◌≤◌, ◌<◌, ◌-◌, [], IfOk, IfSome, MatchResult};
 ghost use Rattle.roster_model.specs.SoundInstance.{IsSoundInstance};
 ghost use Rattle.parse_graph.specs.Graphs.{IsGraph};
 ghost use Rattle.branch_price.specs.Found.{AreCounted};
@@ -79,6 +79,16 @@ impl Curve {
         ensures sound { IsSoundInstance result.now }
     {
         &self.instance
+    }
+
+    /// Takes the point given last back: it is the next one again.
+    pub fn take_back(&mut self)
+        requires { 0 < self.old.given }
+        ensures { self.new ≡ record self.old { given = self.old.given - 1 } }
+    {
+        let first = first_heads(&self.instance);
+        self.given -= 1;
+        self.instance.heads_max = first + self.given.saturating_sub(1);
     }
 
     /// Searches the next point, with at most so many turns, 1 to 10,000: what is found is what `search`

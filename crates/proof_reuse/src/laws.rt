@@ -11,8 +11,8 @@ pub fn allowed_with_more()
     ensures { AllowedWithMore }
 {}
 
-/// Of two closed points of a curve the one with more employees at most costs no more, none being above
-/// all numbers. The one with fewer need not be closed.
+/// Of two points of a curve, their certificates being right, the one with more employees at most costs no more
+/// where it is closed, none being above all numbers. The one with fewer need not be closed.
 pub fn costs_fall()
     ensures { CostsFall }
 {}

@@ -1,5 +1,5 @@
 -- The answers of `curve`, from what its parts answer.
-use Rattle.std.proofs.Common.{◌≡◌, ◌≢◌, ℕ, ◌+◌, ◌<◌, arith, Bool, List, [], ◌∷◌, length, Option, Result, Ok, Err, IfOk, refl, sym, ap, subst, ◌∙◌}
+use Rattle.std.proofs.Common.{◌≡◌, ◌≢◌, ℕ, ◌+◌, ◌<◌, ◌≤◌, arith, Bool, List, [], ◌∷◌, length, Option, Result, Ok, Err, IfOk, refl, sym, ap, subst, ◌∙◌}
 use Rattle.roster_model.specs.declared.grammar.Grammar.{Grammar}
 use Rattle.roster_model.specs.declared.instance.Done.{Done}
 use Rattle.roster_model.specs.declared.instance.Done.TheVariants.{Equal, NoRoster, TurnsOut}
@@ -17,7 +17,10 @@ use Rattle.demand_lines.specs.FaultLine as demand
 use Rattle.demand_text.specs.InstanceOf.{instance_of}
 use Rattle.parse_graph.specs.declared.fault.GraphFault.{GraphFault}
 use Rattle.parse_graph.specs.Graphs.{IsRefused}
-use Rattle.proof_reuse.specs.Curves.{with_heads, first_heads, point_count}
+use Rattle.certificate_laws.specs.Right.{YesIsRight}
+use Rattle.certificates.specs.declared.cert.Cert.{Cert}
+use Rattle.proof_reuse.specs.Curves.{with_heads, first_heads, point_count, IsNoDearer}
+use Rattle.proof_reuse.proofs.MoreHeads.{costs-fall}
 use Rattle.reuse_report.specs.declared.points.CurvePoint.{CurvePoint}
 use Rattle.reuse_report.specs.CurveText.{curve_text}
 use Rattle.rules_text.specs.FaultLine.{fault_line}
@@ -26,7 +29,7 @@ use Rattle.rules_text.specs.declared.fault.RulesFault.{RulesFault}
 use Rattle.rules_text.specs.declared.fault.RulesFault.TheVariants as rules_faults
 use Rattle.shelf.specs.Shelf.{Texts, Told}
 use Rattle.text_commands.specs.declared.answer.Answer.{Answer}
-use Rattle.search_commands.specs.Curve.{Point, ArePoints, said_points, point_entries, point_name, curve_status, SaysCurve, HasFirstPoints, Curving, CurvesDemand, AnswersCurveDemand, CurvesRules, AnswersCurve}
+use Rattle.search_commands.specs.Curve.{Point, ArePoints, said_points, point_entries, point_name, curve_status, AreFalling, SaysCurve, HasFirstPoints, Curving, CurvesDemand, AnswersCurveDemand, CurvesRules, AnswersCurve}
 use Rattle.search_commands.specs.Curve as curves
 use Rattle.text_commands.specs.Fetch.{IsAnswer, IsFetch, NoAnswer}
 use Rattle.search_commands.specs.Points.{FindsFirst, BreaksCurve, AnswersGroups}
@@ -49,6 +52,18 @@ ran_out_each i strict turns h r [] are = tt
 ran_out_each i strict turns h r (p ∷ ps) are =
     let searched = are.0.searched in
     (open_ran_out (with_heads i h) strict turns p.found p.found.done refl searched.done searched, ran_out_each i strict turns (h + 1) p.refused ps are.1)
+
+-- what costs no more with more employees at most
+falls_each : (i : Instance) (plain : i.groups ≡ []) (few : ℕ) (c : Cert) → YesIsRight (with_heads i few) c → (strict : Bool) (turns h r : ℕ) (ps : List Point) → few ≤ h → ArePoints i strict turns h r ps
+    → Each (λ (q : CurvePoint). q.bound ≡ q.cost → IsNoDearer q.cost c.cost) (said_points h ps)
+falls_each i plain few c right strict turns h r [] less are = tt
+falls_each i plain few c right strict turns h r (p ∷ ps) less are =
+    ((λ closed. costs-fall i few h plain less c p.found.cert right are.0.right closed), falls_each i plain few c right strict turns (h + 1) p.refused ps (omega (arith, less)) are.1)
+
+falling : (i : Instance) (plain : i.groups ≡ []) (strict : Bool) (turns h r : ℕ) (ps : List Point) → ArePoints i strict turns h r ps → AreFalling (said_points h ps)
+falling i plain strict turns h r [] are = tt
+falling i plain strict turns h r (p ∷ ps) are =
+    (falls_each i plain h p.found.cert are.0.right strict turns (h + 1) p.refused ps (omega arith) are.1, falling i plain strict turns (h + 1) p.refused ps are.1)
 
 -- a sound day has a point
 pub some-points : (i : Instance) → IsSoundInstance i → 0 < point_count i
@@ -97,6 +112,7 @@ module _ (i : Instance) (proof : List ℕ) (m : MasterView) (turns : ℕ) where
             are = f.are;
             counted = f.counted;
             stored_is = refl;
+            falls = falling i plain m.strict turns (first_heads i) m.before f.points f.are;
             ran_out = ran_out_each i m.strict turns (first_heads i) m.before f.points f.are;
             status_is = status_is ∙ ap (λ (ps : List CurvePoint). curve_status ps) f.is;
             text = text ∙ ap (λ (ps : List CurvePoint). curve_text ps) f.is;

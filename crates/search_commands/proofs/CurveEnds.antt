@@ -1,6 +1,7 @@
 -- Curves over the same texts end alike.
-use Rattle.std.proofs.Common.{◌≡◌, ◌≢◌, ℕ, ◌+◌, ◌<◌, Bool, true, false, List, [], ◌∷◌, length, Option, None, Some, refl, sym, ap, subst, ◌∙◌, arith}
-use Rattle.std.specs.Prelude.{IsSome, cond, ◌&&◌, is_none}
+use Rattle.std.proofs.Common.{◌≡◌, ◌≢◌, ℕ, ◌+◌, ◌<◌, Bool, true, false, List, [], ◌∷◌, length, Option, None, Some, refl, sym, ap, subst, ◌∙◌, arith, ◌⊎◌, inl, inr, map}
+use Rattle.std.proofs.lemmas.Bool.Decides.{eqb_tells}
+use Rattle.std.specs.Prelude.{IsSome, cond, ◌&&◌, is_none, nat_eq}
 use Rattle.std.specs.List.{list_all}
 use Rattle.roster_model.specs.declared.grammar.Grammar.{Grammar}
 use Rattle.roster_model.specs.declared.instance.Instance.{Instance}
@@ -15,11 +16,12 @@ use Rattle.reuse_report.specs.declared.points.CurvePoint.{CurvePoint}
 use Rattle.shelf.specs.Shelf.{Texts}
 use Rattle.search_commands.specs.Curve.{Point, ArePoints, point_entries, said_points, is_same, is_closed, has_no_cost, curve_status, SaysCurve, Curving, CurvesDemand, AnswersCurveDemand, CurvesRules, AnswersCurve}
 use Rattle.search_commands.specs.Curve as curves
-use Rattle.search_commands.specs.OneEnd.{EndsAlike}
+use Rattle.search_commands.specs.OneEnd.{EndsAlike, costs_of, SayOneCurve}
 use Rattle.search_commands.specs.Series.{Entry, End, answered, broken_off}
 use Rattle.search_commands.specs.Solve.{MasterView}
 use Rattle.search_commands.proofs.CurveAnswers.{some-points}
-use Rattle.search_commands.proofs.OneEndLemmas.{never_both, many_or_few, arcs_alike}
+use Rattle.search_commands.proofs.OneCost.{never_both, costs-alike}
+use Rattle.search_commands.proofs.OneEndLemmas.{many_or_few, arcs_alike}
 use Rattle.text_commands.proofs.OneReading.{same_text, same_ok, same_err, not_both, same_grammar, no_fault, faults_once}
 
 both : (a b : Bool) → (a && b) ≡ true → (a ≡ true) × (b ≡ true)
@@ -60,6 +62,42 @@ all_closed : (a b : Bool) → ◌≢◌ {A = ℕ} (cond a (cond b 1 0) 8) 8 → 
 all_closed true b h = refl
 all_closed false b h = absurd (h refl)
 
+zero_closed : (a b : Bool) → ◌≡◌ {A = ℕ} (cond a (cond b 1 0) 8) 0 → a ≡ true
+zero_closed true b h = refl
+zero_closed false b h = let clash : ◌≡◌ {A = ℕ} 8 0 = h in absurd (omega (arith, clash))
+
+-- the bound of a closed point is its cost
+bound_is : (a b : Option ℕ) → is_same a b ≡ true → b ≡ a
+bound_is None None e = refl
+bound_is None (Some b) e = let clash : false ≡ true = e in cc
+bound_is (Some a) None e = let clash : false ≡ true = e in cc
+bound_is (Some a) (Some b) e = ap (λ (n : ℕ). Some n) (by (eqb_tells a b))
+  where
+    by : ((nat_eq a b ≡ true) × (a ≡ b)) ⊎ ((nat_eq a b ≡ false) × (a ≢ b)) → b ≡ a
+    by (inl h) = sym h.1
+    by (inr h) = let clash : false ≡ true = sym h.0 ∙ e in cc
+
+abbrev bare_point : ℕ → Option ℕ → Option ℕ → CurvePoint
+bare_point heads cost bound = record { heads = heads; cost = cost; bound = bound; processed = 0; failed = 0 }
+
+-- two closed curves over the same head counts
+costs_same : (i : Instance) (turns : ℕ) (s t : Bool) (h q r : ℕ) (xs ys : List Point) → length xs ≡ length ys → ArePoints i s turns h q xs → ArePoints i t turns h r ys
+    → list_all is_closed (said_points h xs) ≡ true → list_all is_closed (said_points h ys) ≡ true → map costs_of (said_points h xs) ≡ map costs_of (said_points h ys)
+costs_same i turns s t h q r [] [] e are is shut closed = refl
+costs_same i turns s t h q r [] (y ∷ ys) e are is shut closed = let clash : 0 ≡ length (y ∷ ys) = e in absurd (omega (arith, clash))
+costs_same i turns s t h q r (x ∷ xs) [] e are is shut closed = let clash : length (x ∷ xs) ≡ 0 = e in absurd (omega (arith, clash))
+costs_same i turns s t h q r (x ∷ xs) (y ∷ ys) e are is shut closed =
+    let here = both (is_same x.found.cert.cost x.found.cert.bound) (list_all is_closed (said_points (h + 1) xs)) shut in
+    let there = both (is_same y.found.cert.cost y.found.cert.bound) (list_all is_closed (said_points (h + 1) ys)) closed in
+    let low = bound_is x.found.cert.cost x.found.cert.bound here.0 in
+    let high = bound_is y.found.cert.cost y.found.cert.bound there.0 in
+    let cost = costs-alike (with_heads i h) x.found.cert y.found.cert are.0.right is.0.right low high in
+    let bound = low ∙ cost ∙ sym high in
+    let point = ap (λ (c : Option ℕ). bare_point h c x.found.cert.bound) cost ∙ ap (λ (b : Option ℕ). bare_point h y.found.cert.cost b) bound in
+    let same : length xs ≡ length ys = omega (arith, e) in
+    let rest = costs_same i turns s t (h + 1) x.refused y.refused xs ys same are.1 is.1 here.1 there.1 in
+    ap (λ (p : CurvePoint). p ∷ map costs_of (said_points (h + 1) xs)) point ∙ ap (λ (ps : List CurvePoint). bare_point h y.found.cert.cost y.found.cert.bound ∷ ps) rest
+
 one_bool : (a b : Bool) → (a ≡ true → b ≡ true) → (b ≡ true → a ≡ true) → a ≡ b
 one_bool true b f g = sym (f refl)
 one_bool false true f g = g refl
@@ -78,8 +116,11 @@ AlikeAt (broken_off name) f x y = Unit {0}
 AlikeAt (answered s a) (broken_off name) x y = Unit {0}
 AlikeAt (answered s a) (answered t b) x y = EndsAlike s t a b x y
 
-refused_alike : (s : ℕ) (a b : List ℕ) → a ≡ b → EndsAlike s s a b [] []
-refused_alike s a b e = record { refused = λ none. (refl, refl, e); found = λ p q. refl }
+not_zero : (s k : ℕ) → s ≡ k + 1 → s ≡ 0 → ⊥
+not_zero s k e z = omega (arith, e, z)
+
+refused_alike : (s k : ℕ) (a b : List ℕ) → s ≡ k + 1 → a ≡ b → EndsAlike s s a b [] []
+refused_alike s k a b some e = record { refused = λ none. (refl, refl, e); found = λ p q. refl; costs = λ p q. absurd (not_zero s k some p) }
 
 module _ (i : Instance) (sound : IsSoundInstance i) (proof : List ℕ) (m n : MasterView) (turns : ℕ) where
   said_alike : (s t : ℕ) (a b : List ℕ) (x y : List Entry) → SaysCurve i proof m turns s a x → SaysCurve i proof n turns t b y → EndsAlike s t a b x y
@@ -96,6 +137,14 @@ module _ (i : Instance) (sound : IsSoundInstance i) (proof : List ℕ) (m n : Ma
         found = λ p q.
             let one = one_bool (bare h.points) (bare k.points) (there (first p)) (back (second q)) in
             h.status_is ∙ one_status (closed h.points) (closed k.points) (bare h.points) (bare k.points) (first p) (second q) one ∙ sym k.status_is;
+        costs = λ p q. record {
+          points = said h.points;
+          others = said k.points;
+          one = h.text;
+          other = k.text;
+          same = costs_same i turns m.strict n.strict (first_heads i) m.before n.before h.points k.points (h.all ∙ sym k.all) h.are k.are
+              (zero_closed (closed h.points) (bare h.points) (sym h.status_is ∙ p)) (zero_closed (closed k.points) (bare k.points) (sym k.status_is ∙ q));
+        };
       }
 
   days_alike : (e f : End) (x y : List Entry) → Curving i proof m turns e x → Curving i proof n turns f y → AlikeAt e f x y
@@ -106,12 +155,12 @@ module _ (i : Instance) (sound : IsSoundInstance i) (proof : List ℕ) (m n : Ma
   days_alike e f x y (curves.found s a z h) (curves.groups b some k) = absurd (some h.plain)
   days_alike e f x y (curves.too_many a plain h) (curves.broken name w k) = tt
   days_alike e f x y (curves.too_many a plain h) (curves.found t b w k) = absurd (many_or_few i.grammar a k.arcs h k.few)
-  days_alike e f x y (curves.too_many a plain h) (curves.too_many b same k) = refused_alike 9 a b (arcs_alike i.grammar a b h k)
+  days_alike e f x y (curves.too_many a plain h) (curves.too_many b same k) = refused_alike 9 8 a b refl (arcs_alike i.grammar a b h k)
   days_alike e f x y (curves.too_many a plain h) (curves.groups b some k) = absurd (some plain)
   days_alike e f x y (curves.groups a some h) (curves.broken name w k) = tt
   days_alike e f x y (curves.groups a some h) (curves.found t b w k) = absurd (some k.plain)
   days_alike e f x y (curves.groups a some h) (curves.too_many b plain k) = absurd (some plain)
-  days_alike e f x y (curves.groups a some h) (curves.groups b more k) = refused_alike 4 a b (h ∙ sym k)
+  days_alike e f x y (curves.groups a some h) (curves.groups b more k) = refused_alike 4 3 a b refl (h ∙ sym k)
 
 module _ (proof : List ℕ) (m n : MasterView) (turns : ℕ) where
   demands_alike : (g : Grammar) (text : List ℕ) (e f : End) (x y : List Entry) → CurvesDemand g text proof m turns e x → CurvesDemand g text proof n turns f y → AlikeAt e f x y
@@ -120,7 +169,7 @@ module _ (proof : List ℕ) (m n : MasterView) (turns : ℕ) where
   demands_alike g text e f x y (curves.CurvesDemand.accepted i d z is h) (curves.CurvesDemand.refused b k) = absurd (not_both (instance_of g text) i k.fault is.reading k.reading)
   demands_alike g text e f x y (curves.CurvesDemand.refused a h) (curves.CurvesDemand.accepted j c w js k) = absurd (not_both (instance_of g text) j h.fault js.reading h.reading)
   demands_alike g text e f x y (curves.CurvesDemand.refused a h) (curves.CurvesDemand.refused b k) =
-      refused_alike 4 a b (h.line ∙ ap (λ (z : DemandFault). demand.fault_line z) (same_err (instance_of g text) h.fault k.fault h.reading k.reading) ∙ sym k.line)
+      refused_alike 4 3 a b refl (h.line ∙ ap (λ (z : DemandFault). demand.fault_line z) (same_err (instance_of g text) h.fault k.fault h.reading k.reading) ∙ sym k.line)
 
   rules_alike : (held : Texts) (text demand : List ℕ) (e f : End) (x y : List Entry) → CurvesRules (Some held) text demand proof m turns e x → CurvesRules (Some held) text demand proof n turns f y → AlikeAt e f x y
   rules_alike held text demand e f x y (curves.CurvesRules.accepted g d z is h) (curves.CurvesRules.accepted o c w js k) =
@@ -129,7 +178,7 @@ module _ (proof : List ℕ) (m n : MasterView) (turns : ℕ) where
       (subst (λ (d : Grammar). CurvesDemand d h.text proof m turns e x) (same_grammar text g o is.reading js.reading) h.answers)) k.answers
   rules_alike held text demand e f x y (curves.CurvesRules.accepted g d z is h) (curves.CurvesRules.refused b k) = absurd (no_fault text g k.fault is.reading k.reading)
   rules_alike held text demand e f x y (curves.CurvesRules.refused a h) (curves.CurvesRules.accepted o c w js k) = absurd (no_fault text o h.fault js.reading h.reading)
-  rules_alike held text demand e f x y (curves.CurvesRules.refused a h) (curves.CurvesRules.refused b k) = refused_alike 3 a b (faults_once text a b h k)
+  rules_alike held text demand e f x y (curves.CurvesRules.refused a h) (curves.CurvesRules.refused b k) = refused_alike 3 2 a b refl (faults_once text a b h k)
 
 pub curve-ends : (held : Texts) (rules demand proof : List ℕ) (turns : ℕ) (m n : MasterView) (s t : ℕ) (a b : List ℕ) (x y : List Entry)
     → AnswersCurve (Some held) rules demand proof m turns (answered s a) x → AnswersCurve (Some held) rules demand proof n turns (answered t b) y → EndsAlike s t a b x y

@@ -5,5 +5,6 @@ pub mod ReuseLemmas
 pub mod SeriesLemmas
 pub mod PointLemmas
 pub mod CurveAnswers
+pub mod OneCost
 pub mod OneEndLemmas
 pub mod CurveEnds

@@ -1,15 +1,12 @@
 -- Searches over the same texts end alike.
-use Rattle.std.proofs.Common.{◌≡◌, ◌≢◌, ℕ, List, Option, None, Some, refl, sym, ap, subst, ◌∙◌, arith}
-use Rattle.std.specs.Prelude.{IsSome, IfSome, length}
+use Rattle.std.proofs.Common.{◌≡◌, ◌≢◌, ℕ, ◌+◌, List, Option, None, Some, refl, sym, ap, subst, ◌∙◌, arith}
+use Rattle.std.specs.Prelude.{length}
 use Rattle.roster_model.specs.declared.grammar.ArcKey.{ArcKey}
 use Rattle.roster_model.specs.declared.grammar.Grammar.{Grammar}
 use Rattle.roster_model.specs.declared.instance.Done.{Done}
 use Rattle.roster_model.specs.declared.instance.Done.TheVariants.{Equal, NoRoster, TurnsOut}
 use Rattle.roster_model.specs.declared.instance.Instance.{Instance}
-use Rattle.roster_model.specs.Duties.{Duty}
-use Rattle.roster_model.specs.Rosters.{Costs}
 use Rattle.certificates.specs.declared.cert.Cert.{Cert}
-use Rattle.certificates.specs.RosterCauses.{duties}
 use Rattle.certificate_laws.specs.Right.{YesIsRight}
 use Rattle.arc_laws.proofs.OneList.{one-list}
 use Rattle.demand_lines.specs.declared.fault.DemandFault.{DemandFault}
@@ -22,21 +19,11 @@ use Rattle.made_days.specs.Made.{made_instance}
 use Rattle.shelf.specs.Shelf.{Texts}
 use Rattle.search_commands.specs.Make.{AnswersMake}
 use Rattle.search_commands.specs.Make as makes
-use Rattle.search_commands.specs.OneEnd.{EndAlike}
+use Rattle.search_commands.specs.OneEnd.{EndAlike, SayOneCost}
 use Rattle.search_commands.specs.Solve.{MasterView, Finds, SaysTooManyArcs, Solving, SolvesDemand, AnswersSolveDemand, SolvesRules, AnswersSolve, done_status, arcs_line}
 use Rattle.search_commands.specs.Solve as solves
+use Rattle.search_commands.proofs.OneCost.{never_both, solves-at, makes-at}
 use Rattle.text_commands.proofs.OneReading.{same_text, same_ok, same_err, not_both, same_grammar, no_fault, faults_once}
-
--- an allowed roster and the word that none is allowed
-roster_or_none : (i : Instance) (d : Cert) (ds : List Duty) (cost : Option ℕ) → IfSome cost (λ amount. Costs i ds amount) → IsSome cost → YesIsRight i d → d.bound ≡ None → ⊥
-roster_or_none i d ds None r some k none = absurd (by_cases some)
-  where
-    by_cases : IsSome {T = ℕ} None → ⊥
-    by_cases h = cc
-roster_or_none i d ds (Some amount) r some k none = k.none none ds amount r
-
-pub never_both : (i : Instance) (c d : Cert) → YesIsRight i c → YesIsRight i d → IsSome c.cost → d.bound ≡ None → ⊥
-never_both i c d h k some none = roster_or_none i d (duties c.shifts) c.cost h.roster some k none
 
 two_ends : (i : Instance) (c d : Cert) (x y : Done) → YesIsRight i c → YesIsRight i d → IsDone c x → IsDone d y → done_status x ≢ 8 → done_status y ≢ 8 → done_status x ≡ done_status y
 two_ends i c d Equal Equal h k e f p q = refl
@@ -48,27 +35,31 @@ two_ends i c d Equal TurnsOut h k e f p q = absurd (q refl)
 two_ends i c d NoRoster TurnsOut h k e f p q = absurd (q refl)
 
 -- two searches of one day
-found_alike : (i : Instance) (m n : MasterView) (turns s t : ℕ) (a b x y : List ℕ) (f g : Found) → Finds i m turns s x f → Finds i n turns t y g → EndAlike s t a b (Some x) (Some y)
-found_alike i m n turns s t a b x y f g h k = record {
+found_alike : (i : Instance) (m n : MasterView) (turns s t : ℕ) (a b x y : List ℕ) (f g : Found) → Finds i m turns s x f → Finds i n turns t y g → (s ≡ 0 → t ≡ 0 → SayOneCost a b) → EndAlike s t a b (Some x) (Some y)
+found_alike i m n turns s t a b x y f g h k cost = record {
   refused = λ e. cc;
   found = λ p q. h.status_is ∙ two_ends i f.cert g.cert f.done g.done h.right k.right h.searched.done k.searched.done (subst (λ (z : ℕ). z ≢ 8) h.status_is p) (subst (λ (z : ℕ). z ≢ 8) k.status_is q) ∙ sym k.status_is;
+  cost = cost;
 }
 
 -- the number of a day's arcs is one number
 pub many_or_few : (g : Grammar) (output : List ℕ) (n : ℕ) → SaysTooManyArcs g output → HasArcCount g n → ⊥
 many_or_few g output n h k = let same = ap (λ (xs : List ArcKey). length xs) (one-list g h.listed k.0 h.are k.1) in omega (arith, same, h.many, k.2, k.3)
 
-refused_alike : (s : ℕ) (a b : List ℕ) → a ≡ b → EndAlike s s a b None None
-refused_alike s a b e = record { refused = λ none. (refl, refl, e); found = λ p q. refl }
+not_zero : (s k : ℕ) → s ≡ k + 1 → s ≡ 0 → ⊥
+not_zero s k e z = omega (arith, e, z)
+
+refused_alike : (s k : ℕ) (a b : List ℕ) → s ≡ k + 1 → a ≡ b → EndAlike s s a b None None
+refused_alike s k a b some e = record { refused = λ none. (refl, refl, e); found = λ p q. refl; cost = λ p q. absurd (not_zero s k some p) }
 
 pub arcs_alike : (g : Grammar) (a b : List ℕ) → SaysTooManyArcs g a → SaysTooManyArcs g b → a ≡ b
 arcs_alike g a b h k = h.line ∙ ap (λ (xs : List ArcKey). arcs_line (length xs)) (one-list g h.listed k.listed h.are k.are) ∙ sym k.line
 
 days_alike : (i : Instance) (m n : MasterView) (turns s t : ℕ) (a b : List ℕ) (x y : Option (List ℕ)) → Solving i m turns s a x → Solving i n turns t b y → EndAlike s t a b x y
-days_alike i m n turns s t a b x y (solves.found p ps z h) (solves.found q qs w k) = found_alike i m n turns s t a b z w h.found k.found h.finds k.finds
+days_alike i m n turns s t a b x y (solves.found p ps z h) (solves.found q qs w k) = found_alike i m n turns s t a b z w h.found k.found h.finds k.finds (solves-at i m n turns s t a b z w h k)
 days_alike i m n turns s t a b x y (solves.found p ps z h) (solves.too_many qs k) = absurd (many_or_few i.grammar b h.arcs k h.few)
 days_alike i m n turns s t a b x y (solves.too_many ps h) (solves.found q qs w k) = absurd (many_or_few i.grammar a k.arcs h k.few)
-days_alike i m n turns s t a b x y (solves.too_many ps h) (solves.too_many qs k) = refused_alike 9 a b (arcs_alike i.grammar a b h k)
+days_alike i m n turns s t a b x y (solves.too_many ps h) (solves.too_many qs k) = refused_alike 9 8 a b refl (arcs_alike i.grammar a b h k)
 
 demands_alike : (g : Grammar) (text : List ℕ) (m n : MasterView) (turns s t : ℕ) (a b : List ℕ) (x y : Option (List ℕ)) → SolvesDemand g text m turns s a x → SolvesDemand g text n turns t b y → EndAlike s t a b x y
 demands_alike g text m n turns s t a b x y (solves.SolvesDemand.accepted i p ps z e h) (solves.SolvesDemand.accepted j q qs w f k) =
@@ -76,7 +67,7 @@ demands_alike g text m n turns s t a b x y (solves.SolvesDemand.accepted i p ps 
 demands_alike g text m n turns s t a b x y (solves.SolvesDemand.accepted i p ps z e h) (solves.SolvesDemand.refused qs k) = absurd (not_both (instance_of g text) i k.fault e.reading k.reading)
 demands_alike g text m n turns s t a b x y (solves.SolvesDemand.refused ps h) (solves.SolvesDemand.accepted j q qs w f k) = absurd (not_both (instance_of g text) j h.fault f.reading h.reading)
 demands_alike g text m n turns s t a b x y (solves.SolvesDemand.refused ps h) (solves.SolvesDemand.refused qs k) =
-    refused_alike 4 a b (h.line ∙ ap (λ (z : DemandFault). demand.fault_line z) (same_err (instance_of g text) h.fault k.fault h.reading k.reading) ∙ sym k.line)
+    refused_alike 4 3 a b refl (h.line ∙ ap (λ (z : DemandFault). demand.fault_line z) (same_err (instance_of g text) h.fault k.fault h.reading k.reading) ∙ sym k.line)
 
 rules_alike : (held : Texts) (text demand : List ℕ) (m n : MasterView) (turns s t : ℕ) (a b : List ℕ) (x y : Option (List ℕ)) → SolvesRules (Some held) text demand m turns s a x → SolvesRules (Some held) text demand n turns t b y → EndAlike s t a b x y
 rules_alike held text demand m n turns s t a b x y (solves.SolvesRules.accepted g p ps z e h) (solves.SolvesRules.accepted f q qs w r k) =
@@ -85,7 +76,7 @@ rules_alike held text demand m n turns s t a b x y (solves.SolvesRules.accepted 
     (subst (λ (d : Grammar). SolvesDemand d h.text m turns s a x) (same_grammar text g f e.reading r.reading) h.answers)) k.answers
 rules_alike held text demand m n turns s t a b x y (solves.SolvesRules.accepted g p ps z e h) (solves.SolvesRules.refused qs k) = absurd (no_fault text g k.fault e.reading k.reading)
 rules_alike held text demand m n turns s t a b x y (solves.SolvesRules.refused ps h) (solves.SolvesRules.accepted f q qs w r k) = absurd (no_fault text f h.fault r.reading h.reading)
-rules_alike held text demand m n turns s t a b x y (solves.SolvesRules.refused ps h) (solves.SolvesRules.refused qs k) = refused_alike 3 a b (faults_once text a b h k)
+rules_alike held text demand m n turns s t a b x y (solves.SolvesRules.refused ps h) (solves.SolvesRules.refused qs k) = refused_alike 3 2 a b refl (faults_once text a b h k)
 
 pub solve-ends : (held : Texts) (rules demand : List ℕ) (turns : ℕ) (m n : MasterView) (s t : ℕ) (a b : List ℕ) (x y : Option (List ℕ)) → AnswersSolve (Some held) rules demand m turns s a x → AnswersSolve (Some held) rules demand n turns t b y → EndAlike s t a b x y
 solve-ends held rules demand turns m n s t a b x y h k =
@@ -93,7 +84,7 @@ solve-ends held rules demand turns m n s t a b x y h k =
     (subst (λ (u : List ℕ). SolvesRules (Some held) u demand m turns s a x) (same_text held rules h.text k.text h.holds k.holds) h.answers) k.answers
 
 pub make-ends : (number turns : ℕ) (m n : MasterView) (s t : ℕ) (a b : List ℕ) (x y : Option (List ℕ)) → AnswersMake number m turns s a x → AnswersMake number n turns t b y → EndAlike s t a b x y
-make-ends number turns m n s t a b x y (makes.found p ps z h) (makes.found q qs w k) = found_alike (made_instance number) m n turns s t a b z w h.found k.found h.finds k.finds
+make-ends number turns m n s t a b x y (makes.found p ps z h) (makes.found q qs w k) = found_alike (made_instance number) m n turns s t a b z w h.found k.found h.finds k.finds (makes-at number m n turns s t a b z w h k)
 make-ends number turns m n s t a b x y (makes.found p ps z h) (makes.too_many qs k) = absurd (many_or_few (made_instance number).grammar b h.arcs k h.few)
 make-ends number turns m n s t a b x y (makes.too_many ps h) (makes.found q qs w k) = absurd (many_or_few (made_instance number).grammar a k.arcs h k.few)
-make-ends number turns m n s t a b x y (makes.too_many ps h) (makes.too_many qs k) = refused_alike 9 a b (arcs_alike (made_instance number).grammar a b h k)
+make-ends number turns m n s t a b x y (makes.too_many ps h) (makes.too_many qs k) = refused_alike 9 8 a b refl (arcs_alike (made_instance number).grammar a b h k)

@@ -5,7 +5,7 @@ use Rattle.std.specs.FinMap as fin
 use Rattle.shelf.specs.Shelf.{Texts, Told, one_more}
 use Rattle.text_commands.specs.Fetch.{IsFetch, NoAnswer}
 use Rattle.text_commands.specs.Reader.{HoldsAll, Said, SaidLittle, IsReader}
-use Rattle.search_commands.specs.Series.{Entry, with_entries, End, answered, broken_off, SeriesAnswers, AreStored, StoredSome, SaidSome, IsSeriesWriter, StoresNoEntry, IsStoredBy, BreaksOff, IsBrokenOff}
+use Rattle.search_commands.specs.Series.{Entry, with_entries, End, answered, broken_off, SeriesAnswers, AreStored, StoredSome, StoredOnly, SaidSome, IsSeriesWriter, StoresNoEntry, IsStoredBy, BreaksOff, IsBrokenOff}
 use Rattle.text_commands.proofs.Readers.{more_faults, others_held, quiet_now, no_more}
 
 module _ (A B : SeriesAnswers) (each : (e : End) (entries : List Entry) → A e entries → B e entries) where
@@ -17,6 +17,15 @@ module _ (A B : SeriesAnswers) (each : (e : End) (entries : List Entry) → A e 
   somes None new h = tt
   somes (Some texts) None h = absurd h
   somes (Some texts) (Some now) h = some texts now h
+
+  only : (old new : Texts) → StoredOnly A old new → StoredOnly B old new
+  only old new (inl same) = inl same
+  only old new (inr w) = inr (record { end = w.end; entries = w.entries; allowed = each w.end w.entries w.allowed; held = w.held })
+
+  onlys : (old new : Option Texts) → IfSome old (λ texts. IsSomeAnd new (StoredOnly A texts)) → IfSome old (λ texts. IsSomeAnd new (StoredOnly B texts))
+  onlys None new h = tt
+  onlys (Some texts) None h = absurd h
+  onlys (Some texts) (Some now) h = only texts now h
 
   little : (before after : Told) (old new : List ℕ) → SaidSome A before after old new → SaidSome B before after old new
   little before after old new (inl same) = inl same
@@ -32,6 +41,7 @@ module _ (A B : SeriesAnswers) (each : (e : End) (entries : List Entry) → A e 
   pub widen : (ms ns : List (List ℕ)) (before after : Told) (status : ℕ) → (HoldsAll before.held ms → HoldsAll before.held ns) → IsSeriesWriter A ns before after status → IsSeriesWriter B ms before after status
   widen ms ns before after status more w = record {
     held = somes before.held after.held w.held;
+    memory = λ seven. onlys before.held after.held (w.memory seven);
     answer = λ six seven. let a = w.answer six seven in (a.0, a.1, each (answered status a.0) a.1 a.2, a.3, a.4);
     front = fronts before after before.said after.said w.front;
     never_falls = w.never_falls;
@@ -39,9 +49,10 @@ module _ (A B : SeriesAnswers) (each : (e : End) (entries : List Entry) → A e 
     steady = λ steady holds few. w.steady steady (more holds) few;
   }
 
-unchanged : (A : SeriesAnswers) (old new : Option Texts) → new ≡ old → IfSome old (λ texts. IsSomeAnd new (StoredSome A texts))
-unchanged A None new e = tt
-unchanged A (Some t) new e = rw e (inl refl)
+-- nothing was stored
+unchanged : (P : Texts → Texts → Type 0) → ((t : Texts) → P t t) → (old new : Option Texts) → new ≡ old → IfSome old (λ texts. IsSomeAnd new (P texts))
+unchanged P same None new e = tt
+unchanged P same (Some t) new e = rw e (same t)
 
 none_stored : (old new : Option Texts) → new ≡ old → AreStored old new []
 none_stored None new e = tt
@@ -61,7 +72,8 @@ module _ (A : ℕ → List ℕ → Type 0) (before after : Told) (same : after.h
 -- a command that stores nothing
 pub as_series : (A : ℕ → List ℕ → Type 0) (names : List (List ℕ)) (before after : Told) (status : ℕ) → IsReader A names before after status → IsSeriesWriter (StoresNoEntry A) names before after status
 as_series A names before after status r = record {
-  held = unchanged (StoresNoEntry A) before.held after.held r.held;
+  held = unchanged (StoredSome (StoresNoEntry A)) (λ t. inl refl) before.held after.held r.held;
+  memory = λ seven. unchanged (StoredOnly (StoresNoEntry A)) (λ t. inl refl) before.held after.held r.held;
   answer = λ six seven. let a = r.answer six seven in (a.0, [], (a.1, refl), a.2, none_stored before.held after.held r.held);
   front = reader_fronts A before after r.held before.said after.said r.front;
   never_falls = r.never_falls;
@@ -98,6 +110,7 @@ pub after_fetch : (A : SeriesAnswers) (asked : List ℕ) (names : List (List ℕ
     → IsSeriesWriter A (asked ∷ names) before after status
 after_fetch A asked names before middle after status text f w = record {
   held = subst (λ (x : Option Texts). IfSome x (λ texts. IsSomeAnd after.held (StoredSome A texts))) f.held w.held;
+  memory = λ seven. subst (λ (x : Option Texts). IfSome x (λ texts. IsSomeAnd after.held (StoredOnly A texts))) f.held (w.memory seven);
   answer = λ six seven. let a = w.answer six seven in (a.0, a.1, a.2, subst (λ (said : Option (List ℕ)). Said said after.said a.0) f.said a.3, stored_since A before middle after f.held a.1 a.4);
   front = fronts_since A before middle after f.held before.said after.said (subst (λ (old : Option (List ℕ)). IfSome old (λ said. IsSomeAnd after.said (SaidSome A middle after said))) f.said w.front);
   never_falls = omega (arith, f.never_falls, w.never_falls);
@@ -134,10 +147,15 @@ broken_joined : (xs : List Entry) (name : List ℕ) (a b c : Option Texts) → A
 broken_joined xs name None b c h k = tt
 broken_joined xs name (Some t) b c h k = subst (λ (o : Option Texts). BreaksOff o c [] name) h k
 
+stored_still : (xs : List Entry) (a b c : Option Texts) → AreStored a b xs → AreStored b c [] → AreStored a c xs
+stored_still xs None b c h k = tt
+stored_still xs (Some t) b c h k = subst (λ (o : Option Texts). AreStored o c []) h k
+
 pub broken_later : (xs : List Entry) (name : List ℕ) (before middle after : Told) (status : ℕ) → IsStoredBy xs before middle → IsBrokenOff [] name middle after status → IsBrokenOff xs name before after status
 broken_later xs name before middle after status h k = record {
   refused = k.refused;
   held = broken_joined xs name before.held middle.held after.held h.held k.held;
+  memory = λ seven. stored_still xs before.held middle.held after.held h.held (k.memory seven);
   said = k.said ∙ h.said;
   never_falls = omega (arith, h.never_falls, k.never_falls);
   cause = λ six. more_faults before.faults middle.faults after.faults h.never_falls (k.cause six);
@@ -156,6 +174,7 @@ pub out_of_memory : (xs : List Entry) (name : List ℕ) (before after : Told) �
 out_of_memory xs name before after h = record {
   refused = inr refl;
   held = agrees_now xs name before.held after.held h.held;
+  memory = λ seven. h.held;
   said = h.said;
   never_falls = h.never_falls;
   cause = λ six. absurd (not_six 7 refl six);
@@ -169,6 +188,10 @@ module _ (A : SeriesAnswers) (entries : List Entry) where
   broken_some name allowed (Some t) None h = absurd h
   broken_some name allowed (Some t) (Some now) h = inr (record { end = broken_off name; entries = entries; allowed = allowed; held = h })
 
+  broken_only : (e : End) → A e entries → (old new : Option Texts) → AreStored old new entries → IfSome old (λ texts. IsSomeAnd new (StoredOnly A texts))
+  broken_only e allowed None new h = tt
+  broken_only e allowed (Some t) new h = rw h (inr (record { end = e; entries = entries; allowed = allowed; held = refl }))
+
   silent : (before after : Told) (old new : Option (List ℕ)) → new ≡ old → IfSome old (λ said. IsSomeAnd new (SaidSome A before after said))
   silent before after None new e = tt
   silent before after (Some said) new e = rw e (inl refl)
@@ -180,6 +203,7 @@ module _ (A : SeriesAnswers) (entries : List Entry) where
   pub broken_series : (name : List ℕ) (before after : Told) (status : ℕ) → A (broken_off name) entries → IsBrokenOff entries name before after status → IsSeriesWriter A [] before after status
   broken_series name before after status allowed h = record {
     held = broken_some name allowed before.held after.held h.held;
+    memory = λ seven. broken_only (broken_off name) allowed before.held after.held (h.memory seven);
     answer = λ six seven. no_answer_yet _ status h.refused six seven;
     front = silent before after before.said after.said h.said;
     never_falls = h.never_falls;
@@ -214,6 +238,7 @@ module _ (A : SeriesAnswers) (entries : List Entry) where
       let all : AreStored before.held after.held entries = subst (λ (x : Option Texts). AreStored before.held x entries) (sym r.held) h.held in
       record {
         held = all_some s o allowed before.held after.held all;
+        memory = λ seven. broken_only (answered s o) allowed before.held after.held all;
         answer = λ six seven. let a = r.answer six seven in (a.0, entries, each status a.0 a.1, subst (λ (said : Option (List ℕ)). Said said after.said a.0) h.said a.2, all);
         front = all_fronts S each before after all before.said after.said (subst (λ (old : Option (List ℕ)). IfSome old (λ said. IsSomeAnd after.said (SaidLittle S said))) h.said r.front);
         never_falls = omega (arith, h.never_falls, r.never_falls);

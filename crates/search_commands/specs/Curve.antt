@@ -7,7 +7,7 @@ use Rattle.roster_model.specs.declared.instance.Instance.{Instance}
 use Rattle.roster_model.specs.Folds.{Each}
 use Rattle.branch_price.specs.declared.found.Found.{Found}
 use Rattle.day_solver.specs.Solutions.{HasArcCount}
-use Rattle.proof_reuse.specs.Curves.{with_heads, first_heads, point_count}
+use Rattle.proof_reuse.specs.Curves.{with_heads, first_heads, point_count, IsNoDearer}
 use Rattle.reuse_report.specs.declared.points.CurvePoint.{CurvePoint}
 use Rattle.reuse_report.specs.CurveText.{point_of, curve_text}
 use Rattle.shelf.specs.Shelf.{Texts}
@@ -69,6 +69,11 @@ has_no_cost p = is_none p.cost
 abbrev pub curve_status : List CurvePoint → ℕ
 curve_status ps = cond (list_all is_closed ps) (cond (list_all has_no_cost ps) 1 0) 8
 
+-- of two points the one with more employees at most costs no more where it is closed, none being above all numbers
+abbrev pub AreFalling : List CurvePoint → Type 0
+AreFalling [] = Unit {0}
+AreFalling (p ∷ ps) = Each (λ (q : CurvePoint). q.bound ≡ q.cost → IsNoDearer q.cost p.cost) ps × AreFalling ps
+
 -- status 0, 1 or 8: the certificate of each point is stored, and the points are said
 pub record SaysCurve (i : Instance) (proof : List ℕ) (m : MasterView) (turns status : ℕ) (output : List ℕ)
     (stored : List Entry) : Type 0 where
@@ -84,6 +89,7 @@ pub record SaysCurve (i : Instance) (proof : List ℕ) (m : MasterView) (turns s
   -- a point that is not closed used all its turns
   pub ran_out : Each (λ (p : CurvePoint). p.bound ≢ p.cost → p.processed ≡ turns)
       (said_points (first_heads i) points)
+  pub falls : AreFalling (said_points (first_heads i) points)
   pub status_is : status ≡ curve_status (said_points (first_heads i) points)
   pub text : output ≡ curve_text (said_points (first_heads i) points)
 

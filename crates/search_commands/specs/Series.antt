@@ -44,6 +44,18 @@ pub record StoredFirst (A : SeriesAnswers) (before after : Texts) : Type 0 where
 abbrev pub StoredSome : SeriesAnswers → Texts → Texts → Type 0
 StoredSome A before after = (after ≡ before) ⊎ StoredFirst A before after
 
+-- The first texts of an allowed series were stored, and nothing else: where it broke off, the name that a text was due
+-- under holds what it held.
+pub record StoredWhole (A : SeriesAnswers) (before after : Texts) : Type 0 where
+  pub end : End
+  pub entries : List Entry
+  pub allowed : A end entries
+  pub held : after ≡ with_entries before entries
+
+-- nothing was stored, or whole texts alone
+abbrev pub StoredOnly : SeriesAnswers → Texts → Texts → Type 0
+StoredOnly A before after = (after ≡ before) ⊎ StoredWhole A before after
+
 -- a front of an output that some status allows was said, and all that goes with it is stored
 pub record SeriesFront (A : SeriesAnswers) (before after : Told) (old new : List ℕ) : Type 0 where
   pub status : ℕ
@@ -67,6 +79,8 @@ pub record IsSeriesWriter (A : SeriesAnswers) (names : List (List ℕ)) (before 
     Type 0 where
   -- whatever the status, the texts that were stored stand, and no other name changes
   pub held : IfSome before.held (λ texts. IsSomeAnd after.held (StoredSome A texts))
+  -- after want of memory they stand alone: the name where storing broke off holds what it held
+  pub memory : status ≡ 7 → IfSome before.held (λ texts. IsSomeAnd after.held (StoredOnly A texts))
   -- an answer is one of the allowed ones: it is said whole, and all that goes with it is stored
   pub answer : status ≢ 6 → status ≢ 7 → (output : List ℕ) × (entries : List Entry)
       × A (answered status output) entries × Said before.said after.said output
@@ -97,11 +111,13 @@ abbrev pub BreaksOff : Option Texts → Option Texts → List Entry → List ℕ
 BreaksOff before after entries name =
     IfSome before (λ texts. IsSomeAnd after (AgreesElsewhere name (with_entries texts entries)))
 
--- these texts were stored, and then the store under the name was refused, or memory ran out
+-- these texts were stored, and then the store under the name was refused, or memory ran out, after which the name
+-- holds what it held
 pub record IsBrokenOff (entries : List Entry) (name : List ℕ) (before after : Told)
     (status : ℕ) : Type 0 where
   pub refused : (status ≡ 6) ⊎ (status ≡ 7)
   pub held : BreaksOff before.held after.held entries name
+  pub memory : status ≡ 7 → AreStored before.held after.held entries
   pub said : after.said ≡ before.said
   pub never_falls : before.faults ≤ after.faults
   pub cause : status ≡ 6 → one_more before.faults ≤ after.faults
