@@ -33,7 +33,7 @@ fn eighths(x: Frac) -> u32
 }
 
 /// Adds a column so often, while there are fewer than so many in all.
-fn push_copies(
+fn push_while_fewer(
     columns: &mut List<usize>,
     column: usize,
     copies: u32,
@@ -59,7 +59,7 @@ pub(crate) fn push_wholes(
         → OnOk result (AreFewer n columns.new) }
 {
     for weight in weights {
-        push_copies(columns, weight.column, whole(weight.x), most)?;
+        push_while_fewer(columns, weight.column, whole(weight.x), most)?;
     }
     Ok(())
 }
@@ -76,7 +76,7 @@ fn push_level(
 {
     for weight in weights {
         if eighths(weight.x) == level {
-            push_copies(columns, weight.column, 1, most)?;
+            push_while_fewer(columns, weight.column, 1, most)?;
         }
     }
     Ok(())

@@ -18,8 +18,8 @@ use roster_part::{Team, team_at, team_count};
 use std::alloc::Global;
 use tree_pool::Pool;
 
-/// Adds a number so often. After want of memory it may stand there less often.
-pub fn push_copies(columns: &mut List<usize>, column: usize, count: u32) -> Result<(), Memory>
+// Adds a number so often. After want of memory it may stand there less often.
+fn push_copies(columns: &mut List<usize>, column: usize, count: u32) -> Result<(), Memory>
     ensures { OnOk result (columns.new ≡ columns.old ++ numbers_like count column) }
 {
     for _ in 0..count {

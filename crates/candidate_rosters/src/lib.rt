@@ -18,6 +18,5 @@ mod word;
 pub use columns::columns_of;
 pub use desk::RosterDesk;
 pub use lead::team_arc;
-pub use leaders::push_copies;
 pub use least::least_roster;
 pub use roster::{Roster, roster_of};

@@ -1,2 +1,3 @@
 mod NodeValues
 mod ArcCounts
+pub mod CountedNodes

@@ -26,11 +26,14 @@ use tree_pool::Pool;
 /// The weight 1, in units of 2^-56.
 const ONE: u64 = 1 << 56;
 
-/// Returns a weight in units of 2^-56, rounded down; 0 where it is none of these rows.
+/// Returns a weight in units of 2^-56, where it is a half or whole and at most 64; else 0.
 fn units_of(weight: &Weight) -> u64 {
     let (num, den) = (weight.x.num(), weight.x.den());
-    if 0 <= num && num <= 64 && 1 <= den && den <= 64 {
-        return ONE / den as u64 * num as u64;
+    if den == 2 && num == 1 {
+        return ONE / 2;
+    }
+    if den == 1 && 0 <= num && num <= 64 {
+        return num as u64 * ONE;
     }
     0
 }

@@ -8,7 +8,7 @@ const TWO_TO_100: i128 = 0x10_0000_0000_0000_0000_0000_0000;
 
 const TWO_TO_126: i128 = 0x4000_0000_0000_0000_0000_0000_0000_0000;
 
-const MOST: i128 = 0x7fff_ffff_ffff_ffff_ffff_ffff_ffff_ffff;
+const GREATEST: i128 = 0x7fff_ffff_ffff_ffff_ffff_ffff_ffff_ffff;
 
 /// Whether sums, products and quotients of a third and a sixth are exact.
 fn are_exact(third: &Frac, sixth: &Frac) -> bool {
@@ -84,14 +84,14 @@ fn are_scaled(tally: &mut Tally) -> bool {
         most: 3,
     };
     scaled(-7, 2, 1, 10, tally) == Ok(-4)
-        && scaled(MOST, MOST, 1 << 30, MOST, tally) == Ok(1 << 30)
+        && scaled(GREATEST, GREATEST, 1 << 30, GREATEST, tally) == Ok(1 << 30)
         && scaled(-7, 2, 1, 3, tally) == Err(refused)
 }
 
 /// Whether numbers are added, and the second sum is refused.
 fn are_added(tally: &mut Tally) -> bool {
-    sum(MOST, -1, tally) == Ok(MOST - 1)
-        && sum(MOST, 1, tally) == Err(TooWide::Sum { a: MOST, b: 1 })
+    sum(GREATEST, -1, tally) == Ok(GREATEST - 1)
+        && sum(GREATEST, 1, tally) == Err(TooWide::Sum { a: GREATEST, b: 1 })
 }
 
 /// Whether numbers are multiplied, and the second product is refused.

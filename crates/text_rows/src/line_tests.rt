@@ -3,7 +3,7 @@ use std::alloc::Global;
 use std::test::Fail;
 use text_lines::{Line, Lines, NumberFault, read_natural, read_number, write_number};
 
-const MOST: i128 = 170141183460469231731687303715884105727;
+const GREATEST: i128 = 170141183460469231731687303715884105727;
 
 /// A word, and the number that it is read as.
 type NumberRow = (&'static [u8], Result<i128, NumberFault>);
@@ -12,7 +12,7 @@ const NUMBERS: [NumberRow; 12] = [
     (b"0", Ok(0)),
     (b"10000", Ok(10000)),
     (b"-17", Ok(-17)),
-    (b"170141183460469231731687303715884105727", Ok(MOST)),
+    (b"170141183460469231731687303715884105727", Ok(GREATEST)),
     (
         b"170141183460469231731687303715884105728",
         Err(NumberFault::Wide),
@@ -58,7 +58,7 @@ fn written(alloc: Global, numbers: &[i128]) -> Result<List<u8>, Memory> {
 
 #[test]
 fn numbers_are_written(rt: HostRuntime) -> Result<(), Fail> {
-    let out = written(rt.alloc(), &[0, -9, 10, 1099511627776, -MOST])?;
+    let out = written(rt.alloc(), &[0, -9, 10, 1099511627776, -GREATEST])?;
     let text = b"0 -9 10 1099511627776 -170141183460469231731687303715884105727 ".as_slice();
     assert!(rt; out.as_slice() == text);
     Ok(())
