@@ -74,6 +74,7 @@ impl State {
         self.is_mispriced = other.is_mispriced;
         self.drift = other.drift;
         self.since = other.since;
+        self.tolerances = other.tolerances;
         copy_items(
             self.answers.basis.as_mut_slice(),
             other.answers.basis.as_slice(),

@@ -66,7 +66,7 @@ pub(crate) fn add_changes(changes: &mut [f64], runs: &[Run], factor: f64) {
 }
 
 /// Takes multiples of the listed columns of the basis off what changes from each row to the next.
-fn take_listed(
+pub(crate) fn take_listed(
     changes: &mut [f64],
     columns: &[Column],
     runs: &[Run],
@@ -119,14 +119,14 @@ fn fill_own_values(
 }
 
 /// Leaves the right sides of the tight rows, by their slots.
-fn gather_right(tight: &[usize], right: &[Value64], out: &mut [Value64]) {
+pub(crate) fn gather_right(tight: &[usize], right: &[Value64], out: &mut [Value64]) {
     for (row, side) in tight.iter().zip(out.iter_mut()) {
         *side = at(right, *row);
     }
 }
 
 /// Leaves the values of the listed columns of the basis. Says whether all fit.
-fn fill_listed_values(
+pub(crate) fn fill_listed_values(
     lines: &[Line],
     sides: &[Value64],
     values: &mut [Value64],

@@ -12,7 +12,7 @@ pub struct Q32(pub(crate) i64);
 pub struct Q24(pub(crate) i64);
 
 /// Returns the nearest whole number, or the last one on its side where it is beyond all.
-fn nearest(number: f64) -> i64 {
+pub(crate) fn nearest(number: f64) -> i64 {
     if number < 0.0 {
         saturating_f64_to_i64(number - 0.5)
     } else {

@@ -6,17 +6,18 @@ use crate::kernel::{Kernel, LOOSE};
 use crate::line::Line;
 use crate::run::Sign;
 use crate::state::{Answers, Desk, NO_COLUMN, State};
+use crate::tolerances::Tolerances;
 use roster_model::Memory;
 use std::alloc::{AllocError, Global};
 use std::num::nearest_i64_to_f64;
 
 /// Returns so many zeros.
-fn make_zeros(alloc: Global, count: usize) -> Result<Vec<f64>, AllocError> {
+pub(crate) fn make_zeros(alloc: Global, count: usize) -> Result<Vec<f64>, AllocError> {
     vec![in alloc; 0.0f64; count]
 }
 
 /// Returns so many zeros, and one more behind them.
-fn make_sums(alloc: Global, rows: usize) -> Result<Vec<f64>, AllocError> {
+pub(crate) fn make_sums(alloc: Global, rows: usize) -> Result<Vec<f64>, AllocError> {
     let mut sums = make_zeros(alloc, rows)?;
     sums.push(0.0)?;
     Ok(sums)
@@ -142,6 +143,7 @@ fn make_blank(alloc: Global) -> State {
         since: 0,
         pivots: 0,
         work: 0,
+        tolerances: Tolerances::usual(),
         desk: blank_desk(alloc),
         answers: blank_answers(alloc),
     }

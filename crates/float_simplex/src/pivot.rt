@@ -94,11 +94,12 @@ impl State {
 
     /// Lets a column of negative reduced cost enter.
     pub(crate) fn primal_step(&mut self) -> Result<Step, Grown> {
-        let Some(place) = primal_entering(&self.figures) else {
+        let Some(place) = primal_entering(&self.figures, self.tolerances.reduced) else {
             return Ok(Step::Done);
         };
         self.fill_column(place)?;
-        let Some(number) = leaving(self.values.as_slice(), self.desk.alphas.as_slice()) else {
+        let (values, alphas) = (self.values.as_slice(), self.desk.alphas.as_slice());
+        let Some(number) = leaving(values, alphas, self.tolerances.value) else {
             return Ok(Step::Stuck);
         };
         let entry = number_of(self.desk.alphas.as_slice(), number)?;
@@ -135,7 +136,8 @@ impl State {
     /// Lets a column leave whose value is negative.
     pub(crate) fn dual_step(&mut self) -> Result<Step, Grown> {
         self.keep_norms();
-        let Some(number) = dual_leaving(self.values.as_slice(), self.norms.as_slice()) else {
+        let (values, norms) = (self.values.as_slice(), self.norms.as_slice());
+        let Some(number) = dual_leaving(values, norms, self.tolerances.value) else {
             return Ok(Step::Done);
         };
         let post = post_of(number, self.right.len());

@@ -7,7 +7,7 @@ use crate::state::{State, cost64_of, place_at, sign_of};
 use crate::sweeps::reduce;
 
 /// Leaves the sums of the prices before each row, and behind the last.
-fn sum_prices(prices: &[Price64], sums: &mut [Price64]) {
+pub(crate) fn sum_prices(prices: &[Price64], sums: &mut [Price64]) {
     let mut total = 0.0;
     for (price, sum) in prices.iter().zip(sums.iter_mut()) {
         *sum = total;

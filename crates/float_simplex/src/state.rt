@@ -4,6 +4,7 @@ use crate::fixed::{Grown, Q24, Q32};
 use crate::float::{Entry64, Price64, Value64, Weight64};
 use crate::kernel::Kernel;
 use crate::run::Run;
+use crate::tolerances::Tolerances;
 use std::num::nearest_i64_to_f64;
 
 /// An entry of a column in a tight row: the row's slot, and whether the entry is 1 or -1.
@@ -81,6 +82,8 @@ pub struct State {
     pub(crate) pivots: u64,
     /// How many entries were touched.
     pub(crate) work: u64,
+    /// What runs take for 0.
+    pub(crate) tolerances: Tolerances,
     pub(crate) desk: Desk,
     pub(crate) answers: Answers,
 }

@@ -2,6 +2,7 @@ use crate::fixed::Grown;
 use crate::pivot::Step;
 use crate::state::State;
 use crate::sweeps::primal_entering;
+use crate::tolerances::Tolerances;
 use crate::values::are_feasible;
 
 /// How many steps a run may take.
@@ -76,6 +77,16 @@ impl State {
         self.primal_step()
     }
 
+    /// Whether no value is negative.
+    fn is_feasible(&self) -> bool {
+        are_feasible(self.values.as_slice(), self.tolerances.value)
+    }
+
+    /// Whether no column has a negative reduced cost.
+    fn is_priced_out(&self) -> bool {
+        primal_entering(&self.figures, self.tolerances.reduced).is_none()
+    }
+
     /// Takes dual steps until no value is negative.
     fn run_dual(&mut self, most: u32) -> Scouted {
         for _step in 0..most {
@@ -83,7 +94,7 @@ impl State {
                 return answer;
             }
         }
-        spent_unless(are_feasible(self.values.as_slice()))
+        spent_unless(self.is_feasible())
     }
 
     /// Takes primal steps until no column has a negative reduced cost.
@@ -94,17 +105,17 @@ impl State {
                 return answer;
             }
         }
-        spent_unless(primal_entering(&self.figures).is_none())
+        spent_unless(self.is_priced_out())
     }
 
     /// Whether the basis is optimal.
     fn is_optimal(&self) -> bool {
-        are_feasible(self.values.as_slice()) && primal_entering(&self.figures).is_none()
+        self.is_feasible() && self.is_priced_out()
     }
 
     /// Takes dual steps where a value is negative.
     fn make_feasible(&mut self, limits: Limits) -> Scouted {
-        if are_feasible(self.values.as_slice()) {
+        if self.is_feasible() {
             return Scouted::Optimal;
         }
         let answer = self.run_dual(limits.dual);
@@ -171,6 +182,16 @@ impl State {
             return answer;
         }
         self.run_turns(limits)
+    }
+
+    /// Sets what further runs take for 0.
+    pub fn set_tolerances(&mut self, tolerances: Tolerances) {
+        self.tolerances = tolerances;
+    }
+
+    /// Returns what runs take for 0.
+    pub fn tolerances(&self) -> Tolerances {
+        self.tolerances
     }
 
     /// Runs, and writes values and prices.

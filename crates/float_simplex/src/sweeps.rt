@@ -8,9 +8,6 @@ use crate::run::{Run, entry_by_sums};
 use crate::state::{State, place_at};
 use std::num::nearest_i64_to_f64;
 
-/// Reduced costs that a column enters at are below this, -2^-11.
-const CHEAPER: Price64 = -4.8828125e-4;
-
 /// The least pivot in size, 2^-10.
 pub(crate) const PIVOT: Entry64 = 9.765625e-4;
 
@@ -222,12 +219,13 @@ impl State {
     }
 }
 
-/// Returns the column of negative reduced cost whose square over its reference weight is greatest.
-pub(crate) fn primal_entering(figures: &Figures) -> Option<usize> {
+/// Returns the column whose reduced cost is negative by more than a tolerance and has the greatest square over
+/// its reference weight.
+pub(crate) fn primal_entering(figures: &Figures, tolerance: Price64) -> Option<usize> {
     let mut best: Option<Candidate> = None;
     let reduced = figures.reduced.as_slice().iter();
     for (place, (reduced, weight)) in reduced.zip(figures.weights.as_slice()).enumerate() {
-        if *reduced < CHEAPER {
+        if *reduced < -tolerance {
             best = Candidate {
                 place,
                 square: *reduced * *reduced,

@@ -2,20 +2,14 @@ use crate::compare::Candidate;
 use crate::float::{Entry64, Value64, Weight64, is_value};
 use crate::sweeps::{MOST_WEIGHT, NEVER, PIVOT, at_least_0};
 
-/// Values below this are infeasible, -2^-17.
-const FEASIBLE: Value64 = -7.62939453125e-6;
-
-/// What the ratio test of a primal step allows a value, 2^-17.
-const SLACK: Value64 = 7.62939453125e-6;
-
-/// Whether a value is below 0.
-pub(crate) fn is_negative(value: Value64) -> bool {
-    value < FEASIBLE
+/// Whether a value is below 0 by more than a tolerance.
+pub(crate) fn is_negative(value: Value64, tolerance: Value64) -> bool {
+    value < -tolerance
 }
 
-/// Whether no value is below 0.
-pub(crate) fn are_feasible(values: &[Value64]) -> bool {
-    values.iter().all(|value| *value >= FEASIBLE)
+/// Whether no value is below 0 by more than a tolerance.
+pub(crate) fn are_feasible(values: &[Value64], tolerance: Value64) -> bool {
+    values.iter().all(|value| *value >= -tolerance)
 }
 
 /// Takes a pivot's step of the values. Says whether all fit.
@@ -30,11 +24,11 @@ pub(crate) fn step_values(values: &mut [Value64], alphas: &[Entry64], step: Valu
 }
 
 /// Returns the least ratio of a primal step, a value and the slack over its entry.
-fn least_primal_ratio(values: &[Value64], alphas: &[Entry64]) -> f64 {
+fn least_primal_ratio(values: &[Value64], alphas: &[Entry64], slack: Value64) -> f64 {
     let mut least = NEVER;
     for (value, alpha) in values.iter().zip(alphas) {
         if *alpha >= PIVOT {
-            let ratio = (at_least_0(*value) + SLACK) / *alpha;
+            let ratio = (at_least_0(*value) + slack) / *alpha;
             if ratio < least {
                 least = ratio;
             }
@@ -44,9 +38,9 @@ fn least_primal_ratio(values: &[Value64], alphas: &[Entry64]) -> f64 {
 }
 
 /// Returns the post that leaves in a primal step: the one with the greatest entry among those within the
-/// least ratio.
-pub(crate) fn leaving(values: &[Value64], alphas: &[Entry64]) -> Option<usize> {
-    let least = least_primal_ratio(values, alphas);
+/// least ratio, which allows a value the slack.
+pub(crate) fn leaving(values: &[Value64], alphas: &[Entry64], slack: Value64) -> Option<usize> {
+    let least = least_primal_ratio(values, alphas, slack);
     let mut greatest = 0.0;
     let mut found = None;
     for (row, (value, alpha)) in values.iter().zip(alphas).enumerate() {
@@ -60,10 +54,14 @@ pub(crate) fn leaving(values: &[Value64], alphas: &[Entry64]) -> Option<usize> {
 
 /// Returns the post that leaves in a dual step: the one whose negative value has the greatest square over
 /// its reference weight.
-pub(crate) fn dual_leaving(values: &[Value64], norms: &[Weight64]) -> Option<usize> {
+pub(crate) fn dual_leaving(
+    values: &[Value64],
+    norms: &[Weight64],
+    tolerance: Value64,
+) -> Option<usize> {
     let mut best: Option<Candidate> = None;
     for (place, (value, norm)) in values.iter().zip(norms).enumerate() {
-        if is_negative(*value) {
+        if is_negative(*value, tolerance) {
             best = Candidate {
                 place,
                 square: *value * *value,

@@ -6,5 +6,7 @@
 
 mod scout;
 
-pub use float_simplex::{Grown, Key, LastRow, Limits, Q24, Q32, Scouted, Sign};
+pub use float_simplex::{
+    Grown, Key, LastRow, Limits, ProductRoom, Q24, Q32, Scouted, Sign, Tolerances,
+};
 pub use scout::Scout;

@@ -1,7 +1,9 @@
 ghost use Rattle.std.specs.Prelude.{◌≡◌, ◌≤◌, ◌+◌, ◌<◌, ◌^◌, ◌*ℤ◌, unsigned_abs, length, IfOk, IfSome, OnErr};
 ghost use Rattle.scout.specs.Sizes.{row_count, listed_count, SameSizes, IsKey};
 
-use float_simplex::{Grown, Key, LastRow, Limits, Q24, Q32, Scouted, Sign, State};
+use float_simplex::{
+    Grown, Key, LastRow, Limits, ProductRoom, Q24, Q32, Scouted, Sign, State, Tolerances,
+};
 use roster_model::{List, Memory};
 use std::alloc::Global;
 
@@ -134,6 +136,26 @@ impl Scout {
         self.state.run(limits)
     }
 
+    /// Returns what runs take for 0.
+    pub fn tolerances(&self) -> Tolerances {
+        self.state.tolerances()
+    }
+
+    /// Sets what further runs take for 0. Takes no memory.
+    pub fn set_tolerances(&mut self, tolerances: Tolerances)
+        ensures { SameSizes self.old self.new }
+    {
+        self.state.set_tolerances(tolerances);
+    }
+
+    /// Multiplies what further runs take for 0 by a factor. Takes no memory.
+    pub fn tighten(&mut self, factor: f64)
+        ensures { SameSizes self.old self.new }
+    {
+        let tolerances = self.state.tolerances();
+        self.state.set_tolerances(tolerances.times(factor));
+    }
+
     /// Returns the column of a place in the program.
     fn key_of(&self, place: usize) -> Option<Key>
         ensures { IfSome result (IsKey self.now) }
@@ -184,6 +206,47 @@ impl Scout {
             prices.push(i128::from(price.raw()))?;
         }
         Ok(prices)
+    }
+
+    /// Returns the values of the columns in the basis after a start or a run, by their places, in units of
+    /// 2^-56. They are those of the right sides without perturbations, refined in whole numbers.
+    ///
+    /// # Errors
+    ///
+    /// `Memory` where memory runs out.
+    pub fn refined_values(&self, alloc: Global) -> Result<List<i128>, Memory> {
+        self.state.refined_values(alloc)
+    }
+
+    /// Returns the prices of the rows in units of 2^-40, refined in whole numbers. `missing` has the costs that
+    /// count for the columns of entry 1 of the first rows; further ones cost what they cost in the program.
+    ///
+    /// # Errors
+    ///
+    /// `Memory` where memory runs out.
+    pub fn refined_prices(&self, alloc: Global, missing: &[i64]) -> Result<List<i128>, Memory> {
+        self.state.refined_prices(alloc, missing)
+    }
+
+    /// Returns the room for products with the inverse of a basis.
+    ///
+    /// # Errors
+    ///
+    /// `Memory` where memory runs out.
+    pub fn product_room(&self, alloc: Global) -> Result<ProductRoom, Memory> {
+        self.state.product_room(alloc)
+    }
+
+    /// Leaves the inverse of the basis times a side with a number for each row: a number for each place of the
+    /// basis. Takes no memory.
+    pub fn inverse_times(&self, side: &[f64], room: &mut ProductRoom, out: &mut [f64]) {
+        self.state.inverse_times(side, room, out);
+    }
+
+    /// Leaves costs, one for each place of the basis, times the inverse of the basis: a number for each row.
+    /// Takes no memory.
+    pub fn times_inverse(&self, costs: &[f64], room: &mut ProductRoom, out: &mut [f64]) {
+        self.state.times_inverse(costs, room, out);
     }
 
     /// Returns the reduced cost of a listed column after a run.
