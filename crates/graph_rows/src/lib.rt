@@ -16,4 +16,6 @@ mod prices;
 #[cfg(test)]
 mod splits;
 #[cfg(test)]
+mod volumes;
+#[cfg(test)]
 mod widths;

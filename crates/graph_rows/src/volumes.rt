@@ -1,0 +1,202 @@
+ghost use Rattle.std.specs.Prelude.{◌≤◌, IfOk, length};
+ghost use Rattle.roster_model.specs.Folds.{Each};
+ghost use Rattle.roster_model.specs.Limits.{IsSmallCut};
+ghost use Rattle.roster_model.specs.SoundInstance.{IsSoundInstance};
+ghost use Rattle.parse_graph.specs.Graphs.{IsGraph};
+ghost use Rattle.master_laws.specs.Rows.{rows_of};
+ghost use Rattle.master_rows.specs.NodeRows.{AreRows};
+ghost use Rattle.tree_pool.specs.Pools.{IsPool};
+
+use crate::days::graph_of;
+use cheapest_tree::Pricer;
+use master_rows::{NodeRows, count_rows};
+use parse_graph::Graph;
+use roster_model::{ArcKey, Cut, Instance, Memory, Side, is_sound_instance};
+use sample_days::{PAIR_PARTS, day};
+use std::alloc::Global;
+use std::test::Fail;
+use tree_pool::Pool;
+use volume::{Volume, volume};
+
+/// At most no tree with the first part of the first rule.
+const LOW: Cut = Cut {
+    arc: ArcKey {
+        rule: 1,
+        suffix: 0,
+        start: 1,
+        len: 3,
+        part: 1,
+    },
+    side: Side::Low,
+    b: 0,
+};
+
+/// At least one tree with it.
+const HIGH: Cut = Cut {
+    side: Side::High,
+    ..LOW
+};
+
+/// The unit of prices, one in 2^24.
+const KAPPA: i128 = 16_777_216;
+
+/// Takes passes over these rows.
+fn volume_at(
+    alloc: Global,
+    day: &Instance,
+    graph: &Graph,
+    cuts: &[Cut],
+    rows: &NodeRows,
+    start: Option<&[i128]>,
+) -> Result<Volume, Memory>
+    requires sound { IsSoundInstance day.now }
+    requires graph { IsGraph day.now.grammar graph.now }
+    requires rows { AreRows day.now cuts.now rows.now }
+    requires small { length (rows_of day.now cuts.now) ≤ 1500 }
+    ensures { IfOk result (λ v. IsPool day.now.grammar v.pool) }
+{
+    let mut pricer = Pricer::new(alloc, graph)?;
+    let found = volume(alloc, day, cuts, graph, rows, &mut pricer, start, 400);
+    drop(pricer);
+    found
+}
+
+fn are_same(one: &Volume, other: &Volume) -> bool {
+    one.prices.as_slice() == other.prices.as_slice()
+        && one.bound == other.bound
+        && one.passes == other.passes
+        && one.trees.len() == other.trees.len()
+}
+
+/// Whether the bound is at most the least cost, and at least half of it.
+fn is_between(found: &Volume, cost: i128) -> bool {
+    let most = cost.saturating_mul(KAPPA);
+    found.bound <= most && found.bound >= most / 2
+}
+
+/// Whether the two cheapest trees come into a pool without trees.
+fn are_listed(alloc: Global, day: &Instance, found: &Volume) -> Result<bool, Memory>
+    requires sound { IsSoundInstance day.now }
+    requires pool { IsPool day.now.grammar found.now.pool }
+{
+    let mut pool = Pool::new(alloc);
+    let listed = found.list(alloc, day, 2, &mut pool)?;
+    Ok(listed.as_slice() == [0, 1].as_slice() && pool.len() == 2)
+}
+
+/// Whether passes over these rows show a good bound, the same twice, also from their prices.
+fn is_shown(
+    alloc: Global,
+    day: &Instance,
+    graph: &Graph,
+    cuts: &[Cut],
+    rows: &NodeRows,
+    cost: i128,
+) -> Result<bool, Memory>
+    requires sound { IsSoundInstance day.now }
+    requires graph { IsGraph day.now.grammar graph.now }
+    requires rows { AreRows day.now cuts.now rows.now }
+    requires small { length (rows_of day.now cuts.now) ≤ 1500 }
+{
+    let first = volume_at(alloc, day, graph, cuts, rows, None)?;
+    let second = volume_at(alloc, day, graph, cuts, rows, None)?;
+    let third = volume_at(alloc, day, graph, cuts, rows, Some(first.prices.as_slice()))?;
+    let are_good = is_between(&first, cost) && is_between(&third, cost);
+    Ok(are_same(&first, &second) && are_good && are_listed(alloc, day, &first)?)
+}
+
+/// Whether the same holds at these cuts.
+fn is_shown_at(
+    alloc: Global,
+    day: &Instance,
+    graph: &Graph,
+    cuts: &[Cut],
+    cost: i128,
+) -> Result<bool, Memory>
+    requires sound { IsSoundInstance day.now }
+    requires graph { IsGraph day.now.grammar graph.now }
+    requires cuts { Each IsSmallCut cuts.now }
+    requires small { length (rows_of day.now cuts.now) ≤ 1500 }
+{
+    let rows = NodeRows::new(alloc, day, cuts)?;
+    let shown = is_shown(alloc, day, graph, cuts, &rows, cost);
+    drop(rows);
+    shown
+}
+
+/// Whether it holds at a cut.
+fn is_shown_at_cut(
+    alloc: Global,
+    day: &Instance,
+    graph: &Graph,
+    cut: Cut,
+    cost: i128,
+) -> Result<bool, Memory>
+    requires sound { IsSoundInstance day.now }
+    requires graph { IsGraph day.now.grammar graph.now }
+{
+    let cuts = [cut];
+    if cut.b > 63 || count_rows(day, &cuts) > 1500 {
+        return Ok(false);
+    }
+    is_shown_at(alloc, day, graph, &cuts, cost)
+}
+
+/// Whether it holds at the root.
+fn is_shown_at_root(
+    alloc: Global,
+    day: &Instance,
+    graph: &Graph,
+    cost: i128,
+) -> Result<bool, Memory>
+    requires sound { IsSoundInstance day.now }
+    requires graph { IsGraph day.now.grammar graph.now }
+{
+    if count_rows(day, &[]) > 1500 {
+        return Ok(false);
+    }
+    is_shown_at(alloc, day, graph, &[], cost)
+}
+
+/// Two of three periods at 2, where each period needs one employee, and a missing one costs 10: half of each
+/// shift costs 3; without one of them, or with one of it, two shifts are needed.
+fn are_shown(alloc: Global, day: &Instance, graph: &Graph) -> Result<bool, Memory>
+    requires sound { IsSoundInstance day.now }
+    requires graph { IsGraph day.now.grammar graph.now }
+{
+    Ok(
+        is_shown_at_root(alloc, day, graph, 3)?
+            && is_shown_at_cut(alloc, day, graph, LOW, 4)?
+            && is_shown_at_cut(alloc, day, graph, HIGH, 4)?,
+    )
+}
+
+/// Returns the day, if it is sound.
+fn pair_day(alloc: Global) -> Result<Instance, Fail>
+    ensures { IfOk result IsSoundInstance }
+{
+    let day = day(alloc, &PAIR_PARTS)?;
+    if is_sound_instance(&day) {
+        return Ok(day);
+    }
+    drop(day);
+    Err(Fail::from("no sound day"))
+}
+
+fn are_shown_on(alloc: Global, day: &Instance) -> Result<bool, Fail>
+    requires { IsSoundInstance day.now }
+{
+    let graph = graph_of(alloc, &day.grammar)?;
+    let are_shown = are_shown(alloc, day, &graph);
+    drop(graph);
+    Ok(are_shown?)
+}
+
+#[test]
+fn bounds_of_pairs(rt: HostRuntime) -> Result<(), Fail> {
+    let day = pair_day(rt.alloc())?;
+    let are_shown = are_shown_on(rt.alloc(), &day);
+    drop(day);
+    assert!(rt; are_shown?);
+    Ok(())
+}
