@@ -15,7 +15,7 @@ mod why;
 pub use cert::{Cert, Node};
 pub use kinds::{is_processed, is_unpriced};
 pub use laws::one_tree;
-pub use sound::{MOST_COST, MOST_MULTIPLIERS, MOST_PRICE, is_sound_cert};
+pub use sound::{MOST_COST, MOST_MULTIPLIERS, MOST_PRICE, are_fit, is_sound_cert};
 pub use tree::MOST_NODES;
 pub use verdict::Verdict;
 pub use why::Why;

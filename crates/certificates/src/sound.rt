@@ -146,7 +146,7 @@ fn is_in_day(number: u8) -> bool
 /// Returns whether the prices are within the limits, one for each cell, with multipliers by rising
 /// numbers of cuts, of which there are so many.
 #[tactic(auto, using(crate::proofs::WalksLemmas::fit))]
-pub(crate) fn are_fit(instance: &Instance, cuts: usize, prices: &Prices) -> bool
+pub fn are_fit(instance: &Instance, cuts: usize, prices: &Prices) -> bool
     ensures { (path : Items Cut) → length path ≡ cuts
         → (IsTrue result ↔ FitPrices instance.now prices.now.d prices.now.cell prices.now.mult path) }
 {

@@ -1,5 +1,5 @@
 -- No column is basic twice at the end of a pivot path.
-use Rattle.std.proofs.Common.{◌≡◌, ◌≢◌, ℕ, zero, suc, arith, pos, ◌<ℤ◌, ◌<◌, ◌≤◌, sym, ap, ◌∙◌, subst}
+use Rattle.std.proofs.Common.{◌≡◌, ◌≢◌, ℕ, zero, suc, arith, pos, ◌<◌, ◌≤◌, ap, ◌∙◌}
 use Rattle.std.proofs.lemmas.Int.{ints}
 use Rattle.roster_model.specs.Folds.{Each}
 use Rattle.linear_programs.specs.Program.{Program}

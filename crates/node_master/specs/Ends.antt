@@ -1,5 +1,5 @@
 -- How the master of a node ends.
-use Rattle.std.specs.Prelude.{ℕ, ℤ, pos, unsigned_abs, ◌≡◌, ◌≤◌, ◌<◌, ◌-◌, ◌*ℤ◌, ◌+ℤ◌, ◌≤ℤ◌, ◌<ℤ◌, ◌⊎◌, List, ◌++◌, length, Result, Ok, IsErr}
+use Rattle.std.specs.Prelude.{ℕ, ℤ, pos, unsigned_abs, ◌≡◌, ◌≤◌, ◌<◌, ◌-◌, ◌^◌, ◌*ℤ◌, ◌+ℤ◌, ◌≤ℤ◌, ◌<ℤ◌, ◌⊎◌, List, ◌++◌, length, Result, Ok, IsErr}
 use Rattle.roster_model.specs.declared.grammar.ArcKey.{ArcKey}
 use Rattle.roster_model.specs.declared.instance.Cut.{Cut}
 use Rattle.roster_model.specs.declared.instance.Instance.{Instance}
@@ -10,8 +10,8 @@ use Rattle.roster_model.specs.Arcs.{IsArc}
 use Rattle.roster_model.specs.Folds.{Each}
 use Rattle.roster_model.specs.PriceLimits.{FitPrices}
 use Rattle.roster_model.specs.Cuts.{group_arc, Meets}
-use Rattle.roster_model.specs.Trees.{Parts}
-use Rattle.linear_programs.specs.Solution.{Weighted, IsValue, IsBasic, CostsLeast}
+use Rattle.roster_model.specs.Trees.{Parts, IsDayTree}
+use Rattle.linear_programs.specs.Solution.{Weighted, IsValue, IsBasic, CostsLeast, Each as EachKey}
 use Rattle.linear_programs.specs.Tableau.{HasWidePath, HasOpenPath}
 use Rattle.fraction.specs.declared.frac.Frac.{Frac}
 use Rattle.fraction.specs.Range.{Counts}
@@ -25,6 +25,8 @@ use Rattle.master_laws.specs.Master.{MasterKey, missing, beyond, tree, master}
 use Rattle.master_laws.specs.Laws.{IsBelowHeads}
 use Rattle.master_laws.specs.Sharp.{UsesArtificial}
 use Rattle.master_laws.specs.WholeCounts.{HasCounts}
+use Rattle.near_laws.specs.Completed.{tree_columns}
+use Rattle.near_laws.specs.Laws.{AreNear}
 use Rattle.tableau.specs.declared.simplex.LpFault.{LpFault}
 use Rattle.tableau.specs.declared.simplex.LpFault.TheVariants.{Wide as LpWide, Spent as LpSpent, Memory as LpMemory}
 use Rattle.tableau.specs.Risen.{HasRisen}
@@ -32,8 +34,10 @@ use Rattle.tree_pool.specs.Pools.{PoolTree}
 use Rattle.node_columns.specs.declared.weights.Weight.{Weight}
 use Rattle.node_columns.specs.Weights.{AreWeights, AreApart}
 use Rattle.node_master.specs.declared.ends.Cause.TheVariants.{Rows, Wide, Spent}
+use Rattle.node_master.specs.declared.ends.Solution.{Solution}
+use Rattle.node_master.specs.declared.ends.Solution.TheVariants.{Exact as is_exact, Near as is_near}
 use Rattle.node_master.specs.declared.ends.NodeEnd.{NodeEnd}
-use Rattle.node_master.specs.declared.ends.NodeEnd.TheVariants.{Best, Failed}
+use Rattle.node_master.specs.declared.ends.NodeEnd.TheVariants.{Best, Near, Failed}
 
 -- a cut on an arc of the instance, or on the arc by which some group's rule stands on the whole day
 pub record IsNodeCut (i : Instance) (c : Cut) : Type 0 where
@@ -82,10 +86,30 @@ pub record IsBest (i : Instance) (cuts : List Cut) (columns : List PoolTree) (pr
   pub closes : Each (IsBelowHeads i) cuts
       → ClosesWhole i cuts prices (weighted.trees ++ weighted.others) weighted.d
 
+-- rounded prices, and the weights in units of 2^-56 of trees of the day, each of another one, that show the prices
+-- best: their completed cost is within the loss of what the prices show
+pub record IsNear (i : Instance) (cuts : List Cut) (columns : List PoolTree) (prices : Prices)
+    (weights : List Weight) : Type 0 where
+  pub fit : FitPrices i prices.d prices.cell prices.mult cuts
+  pub positive : Each (λ (m : Mult). pos 0 <ℤ m.value) prices.mult
+  pub best : AreBest i prices cuts
+  pub trees : List (Weighted Parts)
+  pub day : EachKey (IsDayTree i.grammar) trees
+  pub are : AreWeights i.grammar columns (2 ^ 56) weights (tree_columns trees)
+  pub once : AreApart weights
+  pub near : AreNear i cuts trees (2 ^ 56) prices
+
+-- what is known of weights that are to be read so
+abbrev pub AreSolved : Solution → Instance → List Cut → List PoolTree → List Weight → Type 0
+AreSolved is_exact i cuts columns weights = AreLeastWeights i cuts columns weights
+AreSolved is_near i cuts columns weights = (p : Prices) × IsNear i cuts columns p weights
+
 -- each answer comes only where it may; more than 1,500 rows exactly where there are so many
 abbrev pub EndsRight : Instance → List Cut → List PoolTree → Counts → Counts → NodeEnd → Type 0
 EndsRight i cuts columns old new (Best prices value weights) = (length (rows_of i cuts) ≤ 1500)
     × IsBest i cuts columns prices value weights
+EndsRight i cuts columns old new (Near prices weights) = (length (rows_of i cuts) ≤ 1500)
+    × IsNear i cuts columns prices weights × (new ≡ old)
 EndsRight i cuts columns old new (Failed (Rows count)) = (1500 < length (rows_of i cuts))
     × (count ≡ length (rows_of i cuts))
 EndsRight i cuts columns old new (Failed (Wide fault)) = (length (rows_of i cuts) ≤ 1500)

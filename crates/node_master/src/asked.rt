@@ -15,6 +15,9 @@ const CHEAPER: i128 = -8_192;
 /// What weights add up to.
 const WHOLE: i128 = 16;
 
+/// How many units of a scout's value make one of a bound.
+const VALUE_UNITS: i128 = 256;
+
 /// The prices at which trees are asked for.
 #[derive(Drop)]
 pub(crate) struct Asked {
@@ -24,6 +27,11 @@ pub(crate) struct Asked {
     best: Vec<i128>,
     /// That bound.
     bound: Option<i128>,
+    /// A value within so much of the bound ends the hunt, in units of 2^-32; none where nothing short of no cheap
+    /// tree does.
+    near: Option<i128>,
+    /// Whether it was ended so.
+    is_early: bool,
 }
 
 /// Leaves so many sixteenths of one list of prices and the rest of another.
@@ -67,7 +75,45 @@ impl Asked {
             y,
             best,
             bound: None,
+            near: None,
+            is_early: false,
         })
+    }
+
+    /// Begins with prices that show this bound, if any are known.
+    pub(crate) fn begin_at(&mut self, prices: &[i128], bound: Option<i128>)
+        ensures { length self.new.y.items ≡ length self.old.y.items }
+    {
+        copy_prices(self.best.as_mut_slice(), prices);
+        self.bound = bound;
+    }
+
+    /// Lets the hunt end where the value is within so much of the bound.
+    pub(crate) fn end_within(&mut self, near: i128)
+        ensures { length self.new.y.items ≡ length self.old.y.items }
+    {
+        self.near = Some(near);
+    }
+
+    /// Says whether the hunt ends at a value, in units of 2^-32, since it is near enough to the bound.
+    pub(crate) fn ends_at(&mut self, value: i128) -> bool
+        ensures { length self.new.y.items ≡ length self.old.y.items }
+    {
+        let (Some(near), Some(bound)) = (self.near, self.bound) else {
+            return false;
+        };
+        let apart = value.saturating_sub(bound.saturating_mul(VALUE_UNITS));
+        self.is_early = apart <= near;
+        self.is_early
+    }
+
+    /// Returns the best prices, where the hunt ended since the value was near to what they show.
+    pub(crate) fn early_prices(&self) -> Option<&[i128]> {
+        if self.is_early {
+            Some(self.best.as_slice())
+        } else {
+            None
+        }
     }
 
     /// Asks at a scout's prices, of which so many sixteenths are in place of those of the best ones.

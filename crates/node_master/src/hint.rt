@@ -8,6 +8,7 @@ ghost use Rattle.tree_pool.specs.Pools.{PoolTree, IsPool};
 ghost use Rattle.node_columns.specs.Columns.{IsDesk};
 
 use master_rows::NodeRows;
+use near_weights::NearHint;
 use node_columns::{Desk, desk_of};
 use roster_model::{Cut, Instance, List, Memory};
 use std::alloc::Global;
@@ -18,6 +19,10 @@ use tree_pool::Pool;
 pub(crate) struct Hint {
     pub(crate) trees: List<usize>,
     pub(crate) own: List<u32>,
+    /// Its weights and prices.
+    pub(crate) near: NearHint,
+    /// Whether the hunt ended before no tree was cheap.
+    pub(crate) is_early: bool,
 }
 
 /// Adds the columns below a count to those that are wanted.

@@ -10,11 +10,15 @@ ghost use Rattle.node_columns.specs.Columns.{IsDesk};
 use crate::asked::{Asked, KAPPA};
 use crate::bases::{Bases, Basis};
 use crate::hint::Hint;
-use crate::scouting::{basic_own, basic_trees, begin, list_trees, own_keys, scout_of};
+use crate::scouting::{
+    basic_own, basic_trees, begin, list_trees, own_keys, placed_trees, scout_of,
+};
 use crate::starting::{Start, start_of};
+use crate::warming::{MANY_ROWS, Warm, warm_up};
 use cheapest_tree::Pricer;
 use master_rows::NodeRows;
-use node_columns::{Desk, desk_of, first_wide, list_cheapest};
+use near_weights::{NearHint, near_hint};
+use node_columns::{Desk, Held, desk_of, first_wide, list_cheapest};
 use parse_graph::Graph;
 use roster_model::{Cut, Instance, List, Memory};
 use scout::{Limits, Scout, Scouted};
@@ -36,6 +40,29 @@ const LIMITS: Limits = Limits {
     dual: 3_000,
     primal: 20_000,
 };
+
+/// When a hunt ends.
+#[derive(Clone, Copy, Debug, PartialEq, Eq, Drop)]
+pub(crate) enum Ending {
+    /// Where no tree is cheap; at many rows already where the value is within half the rounding loss of what the
+    /// best prices show.
+    Early,
+    /// Where no tree is cheap.
+    Whole,
+}
+
+/// Half the rounding loss, of which one is 2^-20, in units of 2^-32.
+const HALF_LOSS: i128 = 2_048;
+
+/// Returns how near a value may come to what prices show before a hunt ends early, in units of 2^-32.
+fn near_value(instance: &Instance, cuts: usize) -> i128 {
+    let cells = instance.cells.len();
+    let terms = usize::from(instance.grammar.periods)
+        .saturating_add(cuts.saturating_mul(2))
+        .saturating_add(cells);
+    let loss = i128::from(instance.heads_max).saturating_mul(terms as i128);
+    loss.saturating_mul(HALF_LOSS)
+}
 
 /// The weights of the best prices, in sixteenths, at which a round asks beside the scout's own.
 const WEIGHTS: [i128; 4] = [12, 9, 6, 3];
@@ -195,6 +222,9 @@ fn hunt_once(
     if scout.work() > WORK || scout.run(LIMITS) != Scouted::Optimal {
         return Ok(false);
     }
+    if asked.ends_at(scout.value()) {
+        return Ok(false);
+    }
     let first = desk.held.len();
     let is_cheap = ask_mixed(
         alloc, instance, cuts, graph, rows, asked, pricer, pool, desk, scout, 0,
@@ -247,12 +277,64 @@ fn hunt_rounds(
     Ok(())
 }
 
+/// How many units of a near price make one of the prices that are asked at.
+const FINE: i128 = 65_536;
+
+/// Returns prices in units of 2^-40 that stand in units of 2^-24.
+fn fine_prices(alloc: Global, prices: &[i128]) -> Result<List<i128>, Memory> {
+    let mut fine = List::new(alloc);
+    for price in prices {
+        fine.push(price.saturating_mul(FINE))?;
+    }
+    Ok(fine)
+}
+
+/// Returns what a scout of the columns at a desk gives for near prices; where the hunt ended early, with the best
+/// prices that were asked at.
+fn near_of(
+    alloc: Global,
+    instance: &Instance,
+    cuts: &[Cut],
+    rows: &NodeRows,
+    pool: &Pool,
+    held: &[Held],
+    asked: &Asked,
+    scout: &Scout,
+) -> Result<NearHint, Memory>
+    requires sound { IsSoundInstance instance.now }
+    requires rows { AreRows instance.now cuts.now rows.now }
+{
+    let places = placed_trees(alloc, held, scout)?;
+    let near = near_hint(alloc, instance, cuts, rows, pool, places.as_slice(), scout)?;
+    match asked.early_prices() {
+        None => Ok(near),
+        Some(best) => Ok(NearHint {
+            listed: near.listed,
+            y: fine_prices(alloc, best)?,
+        }),
+    }
+}
+
 /// Returns the basis of a scout of the columns at a desk.
-fn hint_of(alloc: Global, desk: &Desk, scout: &Scout) -> Result<Hint, Memory> {
+fn hint_of(
+    alloc: Global,
+    instance: &Instance,
+    cuts: &[Cut],
+    rows: &NodeRows,
+    pool: &Pool,
+    desk: &Desk,
+    asked: &Asked,
+    scout: &Scout,
+) -> Result<Hint, Memory>
+    requires sound { IsSoundInstance instance.now }
+    requires rows { AreRows instance.now cuts.now rows.now }
+{
     let held = desk.held.as_slice();
     Ok(Hint {
         trees: basic_trees(alloc, held, scout)?,
         own: basic_own(alloc, held, scout)?,
+        near: near_of(alloc, instance, cuts, rows, pool, held, asked, scout)?,
+        is_early: asked.early_prices().is_some(),
     })
 }
 
@@ -307,7 +389,7 @@ fn hunt_at(
     )?;
     let _settled = scout.settle(LIMITS);
     keep_basis(alloc, cuts, desk, &scout, bases)?;
-    hint_of(alloc, desk, &scout)
+    hint_of(alloc, instance, cuts, rows, pool, desk, asked, &scout)
 }
 
 /// Hunts at a desk, and returns the last basis.
@@ -321,6 +403,8 @@ fn hunt_from(
     pool: &mut Pool,
     desk: &mut Desk,
     start: &Start,
+    warm: &Warm,
+    ending: Ending,
     bases: &mut Bases,
 ) -> Result<Hint, Memory>
     requires sound { IsSoundInstance instance.now }
@@ -334,7 +418,12 @@ fn hunt_from(
     ensures pool { IsPool instance.now.grammar pool.new }
     ensures grown { IsGrown pool.old pool.new }
 {
-    let mut asked = Asked::new(alloc, rows.right().len())?;
+    let count = rows.right().len();
+    let mut asked = Asked::new(alloc, count)?;
+    asked.begin_at(warm.prices.as_slice(), warm.bound);
+    if ending == Ending::Early && count >= MANY_ROWS {
+        asked.end_within(near_value(instance, cuts.len()));
+    }
     hunt_at(
         alloc, instance, cuts, graph, rows, &mut asked, pricer, pool, desk, start, bases,
     )
@@ -350,6 +439,8 @@ fn hunt_with(
     cuts: &[Cut],
     rows: &NodeRows,
     start: &Start,
+    warm: &Warm,
+    ending: Ending,
     bases: &mut Bases,
 ) -> Result<Hint, Memory>
     requires sound { IsSoundInstance instance.now }
@@ -362,10 +453,40 @@ fn hunt_with(
     ensures pool { IsPool instance.now.grammar pool.new }
     ensures grown { IsGrown pool.old pool.new }
 {
-    let trees = start.trees.as_slice();
+    let trees = warm.trees.as_slice();
     let mut desk = desk_of(alloc, instance, cuts, rows, pool, trees)?;
     hunt_from(
-        alloc, instance, cuts, graph, rows, pricer, pool, &mut desk, start, bases,
+        alloc, instance, cuts, graph, rows, pricer, pool, &mut desk, start, warm, ending, bases,
+    )
+}
+
+/// Looks for a good basis with a start, which is warmed first.
+#[tactic(auto, using(crate::proofs::PoolGrowth::grown_chain))]
+fn hunt_start(
+    alloc: Global,
+    instance: &Instance,
+    graph: &Graph,
+    pricer: &mut Pricer,
+    pool: &mut Pool,
+    cuts: &[Cut],
+    rows: &NodeRows,
+    start: &Start,
+    ending: Ending,
+    bases: &mut Bases,
+) -> Result<Hint, Memory>
+    requires sound { IsSoundInstance instance.now }
+    requires graph { IsGraph instance.now.grammar graph.now }
+    requires pricer { IsMadeFor graph.now pricer.old }
+    requires pool { IsPool instance.now.grammar pool.old }
+    requires rows { AreRows instance.now cuts.now rows.now }
+    requires small { length (rows_of instance.now cuts.now) ≤ 1500 }
+    ensures pricer { IsMadeFor graph.now pricer.new }
+    ensures pool { IsPool instance.now.grammar pool.new }
+    ensures grown { IsGrown pool.old pool.new }
+{
+    let warm = warm_up(alloc, instance, graph, pricer, pool, cuts, rows, start)?;
+    hunt_with(
+        alloc, instance, graph, pricer, pool, cuts, rows, start, &warm, ending, bases,
     )
 }
 
@@ -381,6 +502,7 @@ pub(crate) fn hunt(
     cuts: &[Cut],
     rows: &NodeRows,
     wanted: &[usize],
+    ending: Ending,
     bases: &mut Bases,
 ) -> Result<Hint, Memory>
     requires sound { IsSoundInstance instance.now }
@@ -394,7 +516,7 @@ pub(crate) fn hunt(
     ensures grown { IsGrown pool.old pool.new }
 {
     let start = start_of(alloc, cuts, rows, pool, wanted, bases)?;
-    hunt_with(
-        alloc, instance, graph, pricer, pool, cuts, rows, &start, bases,
+    hunt_start(
+        alloc, instance, graph, pricer, pool, cuts, rows, &start, ending, bases,
     )
 }

@@ -156,6 +156,20 @@ pub(crate) fn basic_trees(
     Ok(trees)
 }
 
+/// Returns the tree of the pool at each place of the basis of a scout, where there is one.
+pub(crate) fn placed_trees(
+    alloc: Global,
+    held: &[Held],
+    scout: &Scout,
+) -> Result<List<Option<usize>>, Memory> {
+    let first = first_tree(held);
+    let mut trees = List::new(alloc);
+    for place in 0..scout.rows() {
+        trees.push(basic_tree(held, first, scout, place))?;
+    }
+    Ok(trees)
+}
+
 /// Whether a column is that of a row with this key.
 fn is_own(one: &Held, key: Key) -> bool {
     match (one.kind, key) {

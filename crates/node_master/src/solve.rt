@@ -8,6 +8,7 @@ ghost use Rattle.roster_model.specs.PriceLimits.{FitPrices};
 ghost use Rattle.roster_model.specs.SoundInstance.{IsSoundInstance};
 ghost use Rattle.roster_model.specs.Trees.{Parts, IsDayTree};
 ghost use Rattle.linear_programs.specs.Program.{IsPricedOut};
+ghost use Rattle.fraction.specs.Range.{Counts};
 ghost use Rattle.fraction.specs.Row.{at};
 ghost use Rattle.bound_laws.specs.Infeasible.{IsPlainlyInfeasible};
 ghost use Rattle.parse_graph.specs.Graphs.{IsGraph};
@@ -24,6 +25,7 @@ ghost use Rattle.node_master.specs.Ends.{IsNodeCut, EndsRight, IsFailedBy};
 
 use crate::bases::Bases;
 use crate::ends::{Cause, NodeEnd};
+use crate::first::{First, solve_exact_first, solve_near_first};
 use crate::hint::{Hint, hinted_desk};
 use crate::hunt::hunt;
 use cheapest_tree::Pricer;
@@ -74,12 +76,22 @@ pub fn solve_node(
 {
     let mut bases = Bases::new(alloc);
     solve_node_from(
-        alloc, instance, graph, pricer, pool, cuts, wanted, &mut bases, tally,
+        alloc,
+        instance,
+        graph,
+        pricer,
+        pool,
+        cuts,
+        wanted,
+        &mut bases,
+        First::BySize,
+        tally,
     )
 }
 
 /// Solves the master of a node as `solve_node` does. The hunt for a good basis begins with that of the nearest
-/// node above, if it is kept, and that of this node is kept: they are hints.
+/// node above, if it is kept, and that of this node is kept: they are hints. `first` says which way to prices is
+/// gone first; a master is given up only where none leads to any.
 ///
 /// Trees of the pool that are `wanted` steer the solution, the most wanted first: any list of numbers
 /// is lawful. Whatever the answer, the pricer is still one made for the graph, and the pool has its
@@ -93,6 +105,7 @@ pub fn solve_node_from(
     cuts: &[Cut],
     wanted: &[usize],
     bases: &mut Bases,
+    first: First,
     tally: &mut Tally,
 ) -> Result<NodeEnd, Memory>
     requires sound { IsSoundInstance instance.now }
@@ -117,7 +130,7 @@ pub fn solve_node_from(
     }
     let rows = NodeRows::new(alloc, instance, cuts)?;
     solve_steered(
-        alloc, instance, graph, pricer, pool, cuts, &rows, wanted, bases, tally,
+        alloc, instance, graph, pricer, pool, cuts, &rows, wanted, bases, first, tally,
     )
 }
 
@@ -133,6 +146,7 @@ fn solve_steered(
     rows: &NodeRows,
     wanted: &[usize],
     bases: &mut Bases,
+    first: First,
     tally: &mut Tally,
 ) -> Result<NodeEnd, Memory>
     requires sound { IsSoundInstance instance.now }
@@ -151,15 +165,30 @@ fn solve_steered(
     ensures counts { (tally.old.wide ≤ tally.new.wide) × (tally.old.spent ≤ tally.new.spent) }
 {
     let hint = hunt(
-        alloc, instance, graph, pricer, pool, cuts, rows, wanted, bases,
+        alloc,
+        instance,
+        graph,
+        pricer,
+        pool,
+        cuts,
+        rows,
+        wanted,
+        first.ending(),
+        bases,
     )?;
-    solve_rows(
-        alloc, instance, graph, pricer, pool, cuts, rows, &hint, tally,
-    )
+    if hint.is_early || first.is_near(hint.trees.len()) {
+        solve_near_first(
+            alloc, instance, graph, pricer, pool, cuts, rows, wanted, &hint, bases, tally,
+        )
+    } else {
+        solve_exact_first(
+            alloc, instance, graph, pricer, pool, cuts, rows, &hint, tally,
+        )
+    }
 }
 
-/// Solves the master with these rows.
-fn solve_rows(
+/// Solves the master with these rows exactly.
+pub(crate) fn solve_rows(
     alloc: Global,
     instance: &Instance,
     graph: &Graph,
@@ -253,7 +282,8 @@ fn best_end(
     requires end { IsLpEnd (master instance.now cuts.now)
         (HasKey instance.now.grammar columns.now.pool.now columns.now.desk.now.held)
         end.now.basic end.now.y end.now.kappa end.now.value }
-    ensures end { IfOk result (EndsRight instance.now cuts.now columns.now.pool.now tally.old tally.new) }
+    ensures end { IfOk result (λ end. (old new : Counts) →
+        EndsRight instance.now cuts.now columns.now.pool.now old new end) }
     ensures tally { tally.new ≡ tally.old }
 {
     let weights = listed_weights(alloc, columns, end.basic.as_slice())?;

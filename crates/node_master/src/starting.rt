@@ -18,10 +18,16 @@ pub(crate) struct Start {
     pub(crate) trees: List<usize>,
     /// The basis, by the keys that its columns have in the scout; none where it is not known.
     pub(crate) keys: List<Key>,
+    /// Prices of the rows that may be good ones, in units of 2^-24; none where nothing is known of them.
+    pub(crate) prices: List<i128>,
 }
 
 /// Returns trees, and behind them others that are not among them.
-fn joined(alloc: Global, first: &[usize], others: &[usize]) -> Result<List<usize>, Memory> {
+pub(crate) fn joined(
+    alloc: Global,
+    first: &[usize],
+    others: &[usize],
+) -> Result<List<usize>, Memory> {
     let mut trees = List::new(alloc);
     trees.extend_from_slice(first)?;
     for tree in others {
@@ -30,6 +36,13 @@ fn joined(alloc: Global, first: &[usize], others: &[usize]) -> Result<List<usize
         }
     }
     Ok(trees)
+}
+
+/// Returns a copy of prices.
+pub(crate) fn copied(alloc: Global, prices: &[i128]) -> Result<List<i128>, Memory> {
+    let mut copy = List::new(alloc);
+    copy.extend_from_slice(prices)?;
+    Ok(copy)
 }
 
 /// Returns the last trees of a pool of so many, so many of them.
@@ -97,6 +110,7 @@ fn start_from(
     Ok(Start {
         trees: joined(alloc, basis.trees.as_slice(), best.as_slice())?,
         keys: keys_of(alloc, cuts, count, basis)?,
+        prices: copied(alloc, basis.prices.as_slice())?,
     })
 }
 
@@ -112,6 +126,7 @@ fn start_without(
     Ok(Start {
         trees: joined(alloc, wanted, last.as_slice())?,
         keys: List::new(alloc),
+        prices: List::new(alloc),
     })
 }
 

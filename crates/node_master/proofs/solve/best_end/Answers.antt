@@ -26,7 +26,7 @@ round-requires-clause-out c =
     rw (k, c.as_slice-2.ensures) (out_end c.args.instance.now c.args.cuts.now _ e.basic e.y e.kappa e.value c.requires.end)
 
 pub returns-clause-end : goal.returns-clause-end
-returns-clause-end c =
+returns-clause-end c = λ old new.
     let i = c.args.instance.now in
     let cuts = c.args.cuts.now in
     let s = c.args.columns.now in

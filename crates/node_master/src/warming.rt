@@ -1,0 +1,120 @@
+ghost use Rattle.std.specs.Prelude.{◌≤◌, length};
+ghost use Rattle.roster_model.specs.SoundInstance.{IsSoundInstance};
+ghost use Rattle.parse_graph.specs.Graphs.{IsGraph};
+ghost use Rattle.cheapest_tree.specs.Pricers.{IsMadeFor};
+ghost use Rattle.master_laws.specs.Rows.{rows_of};
+ghost use Rattle.master_rows.specs.NodeRows.{AreRows};
+ghost use Rattle.tree_pool.specs.Pools.{IsPool, IsGrown};
+
+use crate::starting::{Start, copied, joined};
+use cheapest_tree::Pricer;
+use master_rows::NodeRows;
+use parse_graph::Graph;
+use roster_model::{Cut, Instance, List, Memory};
+use std::alloc::Global;
+use tree_pool::Pool;
+use volume::{Volume, volume};
+
+/// From so many rows on a hunt begins with the volume algorithm, and ends where its best prices are good enough:
+/// below, a scout alone takes hundredths of a second.
+pub(crate) const MANY_ROWS: usize = 250;
+
+/// The passes of the volume algorithm where no prices are known.
+const PASSES: u32 = 3_500;
+
+/// Its passes from the prices of a node above.
+const FURTHER_PASSES: u32 = 400;
+
+/// How many of its trees a hunt begins with, for each row.
+const TREES: usize = 4;
+
+/// What a hunt begins with beside a basis.
+#[derive(Drop)]
+pub(crate) struct Warm {
+    /// Trees of the pool, those of the start first.
+    pub(crate) trees: List<usize>,
+    /// Prices of the rows, in units of 2^-24; none where none are known.
+    pub(crate) prices: List<i128>,
+    /// What these prices show, in the same units; none where it is not known.
+    pub(crate) bound: Option<i128>,
+}
+
+/// Returns what a start alone gives.
+fn cold(alloc: Global, start: &Start) -> Result<Warm, Memory> {
+    Ok(Warm {
+        trees: joined(alloc, start.trees.as_slice(), &[])?,
+        prices: List::new(alloc),
+        bound: None,
+    })
+}
+
+/// Returns the trees of a start, and the cheapest ones of the volume algorithm behind them; with its prices.
+fn warmed(
+    alloc: Global,
+    instance: &Instance,
+    start: &Start,
+    found: &Volume,
+    most: usize,
+    pool: &mut Pool,
+) -> Result<Warm, Memory>
+    requires sound { IsSoundInstance instance.now }
+    requires own { IsPool instance.now.grammar found.now.pool }
+    requires pool { IsPool instance.now.grammar pool.old }
+    ensures pool { IsPool instance.now.grammar pool.new }
+    ensures grown { IsGrown pool.old pool.new }
+{
+    let trees = found.list(alloc, instance, most, pool)?;
+    Ok(Warm {
+        trees: joined(alloc, start.trees.as_slice(), trees.as_slice())?,
+        prices: copied(alloc, found.prices.as_slice())?,
+        bound: Some(found.bound),
+    })
+}
+
+/// Returns the start's prices, if it has any, and how many passes of the volume algorithm may begin there.
+fn begin_at(start: &Start) -> (Option<&[i128]>, u32) {
+    let prices = start.prices.as_slice();
+    if prices.is_empty() {
+        (None, PASSES)
+    } else {
+        (Some(prices), FURTHER_PASSES)
+    }
+}
+
+/// Returns what a hunt begins with: at many rows the cheapest trees of the volume algorithm, which begins at the
+/// start's prices, beside those of the start.
+pub(crate) fn warm_up(
+    alloc: Global,
+    instance: &Instance,
+    graph: &Graph,
+    pricer: &mut Pricer,
+    pool: &mut Pool,
+    cuts: &[Cut],
+    rows: &NodeRows,
+    start: &Start,
+) -> Result<Warm, Memory>
+    requires sound { IsSoundInstance instance.now }
+    requires graph { IsGraph instance.now.grammar graph.now }
+    requires pricer { IsMadeFor graph.now pricer.old }
+    requires pool { IsPool instance.now.grammar pool.old }
+    requires rows { AreRows instance.now cuts.now rows.now }
+    requires small { length (rows_of instance.now cuts.now) ≤ 1500 }
+    ensures pricer { IsMadeFor graph.now pricer.new }
+    ensures pool { IsPool instance.now.grammar pool.new }
+    ensures grown { IsGrown pool.old pool.new }
+{
+    let count = rows.right().len();
+    if count < MANY_ROWS {
+        return cold(alloc, start);
+    }
+    let (from, passes) = begin_at(start);
+    let found = volume(alloc, instance, cuts, graph, rows, pricer, from, passes)?;
+    warmed(
+        alloc,
+        instance,
+        start,
+        &found,
+        count.saturating_mul(TREES),
+        pool,
+    )
+}
