@@ -131,6 +131,7 @@ fn print_end(rt: &HostRuntime, root: &RootEnd) -> io::Result<()> {
                 weights.len()
             )
         }
+        NodeEnd::Near { weights, .. } => println!(rt; "near, weights {}", weights.len()),
         NodeEnd::Failed(cause) => println!(rt; "{cause:?}"),
     }
 }

@@ -9,8 +9,8 @@ use Rattle.master_laws.specs.Sharp.{IsHard}
 use Rattle.tree_pool.specs.Pools.{PoolTree}
 use Rattle.node_master.specs.declared.ends.Cause.TheVariants.{Rows, Wide, Spent}
 use Rattle.node_master.specs.declared.ends.NodeEnd.{NodeEnd}
-use Rattle.node_master.specs.declared.ends.NodeEnd.TheVariants.{Best, Failed}
-use Rattle.node_master.specs.Ends.{IsBest}
+use Rattle.node_master.specs.declared.ends.NodeEnd.TheVariants.{Best, Near, Failed}
+use Rattle.node_master.specs.Ends.{IsBest, IsNear}
 
 -- a refused node: its master has few enough rows, and where the refusal is strict the node is hard
 pub record IsRefused (i : Instance) (cuts : List Cut) (strict : Bool) : Type 0 where
@@ -21,6 +21,8 @@ pub record IsRefused (i : Instance) (cuts : List Cut) (strict : Bool) : Type 0 w
 abbrev pub EndsWell : Instance → List Cut → List PoolTree → Bool → NodeEnd → Type 0
 EndsWell i cuts columns strict (Best prices value weights) =
     (length (rows_of i cuts) ≤ 1500) × IsBest i cuts columns prices value weights
+EndsWell i cuts columns strict (Near prices weights) =
+    (length (rows_of i cuts) ≤ 1500) × IsNear i cuts columns prices weights
 EndsWell i cuts columns strict (Failed (Rows count)) =
     (1500 < length (rows_of i cuts)) × (count ≡ length (rows_of i cuts))
 EndsWell i cuts columns strict (Failed (Wide fault)) = IsRefused i cuts strict
@@ -34,6 +36,7 @@ one_more n = min (n + 1) (2 ^ 64 - 1)
 -- pivots, and else the same
 abbrev pub counted : ℕ → NodeEnd → ℕ
 counted n (Best prices value weights) = n
+counted n (Near prices weights) = n
 counted n (Failed (Rows count)) = n
 counted n (Failed (Wide fault)) = one_more n
 counted n (Failed (Spent pivots)) = one_more n

@@ -12,18 +12,22 @@ ghost use Rattle.search_master.specs.Refusals.{EndsWell, counted, one_more};
 use crate::master::Master;
 use cheapest_tree::Pricer;
 use fraction::Tally;
-use node_master::{Bases, Cause, NodeEnd, Pool, solve_node_from};
+use node_master::{Bases, Cause, First, NodeEnd, Pool, solve_node_from};
 use parse_graph::Graph;
 use roster_model::{Cut, Instance, Memory};
 use std::alloc::Global;
 
-/// A master that solves each node's linear program in exact fractions. It refuses hard nodes alone.
+/// A master that solves each node's linear program in exact fractions, or finds prices that a near solution
+/// shows to be best: near prices come first where a basis has many trees, and else where the exact path leads to
+/// none. It refuses hard nodes alone.
 #[derive(Drop)]
 pub struct PlainMaster {
     tally: Tally,
     refused: u64,
     /// The last bases of nodes: hints.
     bases: Option<Bases>,
+    /// Which way to prices is gone first.
+    first: First,
 }
 
 /// Says whether a node was given up for a number that was too wide.
@@ -36,7 +40,9 @@ fn count_end(refused: u64, end: &NodeEnd) -> u64
     ensures { result ≡ counted refused end.now }
 {
     match end {
-        NodeEnd::Best { .. } | NodeEnd::Failed(Cause::Rows { .. }) => refused,
+        NodeEnd::Best { .. } | NodeEnd::Near { .. } | NodeEnd::Failed(Cause::Rows { .. }) => {
+            refused
+        }
         NodeEnd::Failed(Cause::Wide(_)) | NodeEnd::Failed(Cause::Spent { .. }) => {
             refused.saturating_add(1)
         }
@@ -56,10 +62,18 @@ impl PlainMaster {
     pub fn new() -> PlainMaster
         ensures { result.refused ≡ 0 }
     {
+        PlainMaster::with_first(First::BySize)
+    }
+
+    /// Returns a master that has refused no node, and goes this way to prices first.
+    pub(crate) fn with_first(first: First) -> PlainMaster
+        ensures { result.refused ≡ 0 }
+    {
         PlainMaster {
             tally: Tally::new(),
             refused: 0,
             bases: None,
+            first,
         }
     }
 
@@ -106,6 +120,7 @@ impl PlainMaster {
             cuts,
             wanted,
             &mut bases,
+            self.first,
             &mut self.tally,
         )?;
         self.bases = Some(bases);
