@@ -18,7 +18,7 @@ use Rattle.tree_pool.specs.Pools.{PoolTree, IsPool}
 use Rattle.node_columns.specs.declared.weights.Weight.{Weight}
 use Rattle.node_columns.specs.Weights.{IsWeight, AreWeights, AreApart}
 use Rattle.node_master.specs.Ends.{IsOther}
-use Rattle.arc_weights.specs.Denominators.{den_of, AreAllPast}
+use Rattle.arc_weights.specs.Denominators.{den_of, AreOver, AreAllPast}
 use Rattle.arc_weights.proofs.Units.{weight_share, cancel}
 
 -- ---- a test of steps
@@ -77,6 +77,18 @@ where_none t (w ∷ ws) h = by w.key h.0 (where_none t ws h.1)
     by (missing r) o ih = omega (arith, ih)
     by (beyond r) o ih = omega (arith, ih)
     by (tree p) o ih = absurd o
+
+-- ---- the trees' denominator is one of the weights
+module _ (g : Grammar) (columns : List PoolTree) (q : ℕ) (q_some : 0 < q) where
+  pub are_over : (xs : List Weight) (ws : List (Weighted MasterKey)) → AreWeights g columns q xs ws → AreOver q xs
+  are_over [] ws are = tt
+  are_over (x ∷ xs) [] are = absurd are
+  are_over (x ∷ xs) (w ∷ ws) are = (divides x w are.0, are_over xs ws are.1)
+    where
+      divides : (y : Weight) (v : Weighted MasterKey) → IsWeight g columns q y v → den_of y ∣ q
+      divides y v is =
+          let e = weight_share g columns q q_some y v is in
+          gauss (den_of y) (unsigned_abs y.x.num) q y.x.sound.reduced (subst (λ (m : ℕ). den_of y ∣ m) e (dvd-mul_left (den_of y) v.weight))
 
 module _ (g : Grammar) (columns : List PoolTree) (q : ℕ) (pool : IsPool g columns) where
   -- the test of the tree with a column

@@ -4,4 +4,8 @@ pub mod SumsLemmas
 pub mod RowBounds
 pub mod Units
 pub mod FineWeights
+pub mod SolvingWeights
+pub mod Margins
+pub mod Lacking
+pub mod NearLemmas
 pub mod WeighedLemmas

@@ -105,3 +105,16 @@ module _ (g : Grammar) (columns : List PoolTree) (q : ℕ) (q_some : 0 < q) (d m
 
 pub cancel : (q x y : ℕ) → 0 < q → q * x ≡ q * y → x ≡ y
 cancel q x y h e = let a = cancel_le q x y h (omega (arith, e)) in let b = cancel_le q y x h (omega (arith, e)) in omega (arith, a, b)
+
+pub less : (q x y : ℕ) → q * x < q * y → x < y
+less q x y h = by (either x y)
+  where
+    either : (a b : ℕ) → (a < b) ⊎ (b ≤ a)
+    either a b = grind arith
+
+    by : (x < y) ⊎ (y ≤ x) → x < y
+    by (inl e) = e
+    by (inr e) = absurd (omega (arith, h, mul-le-mul_left q e))
+
+pub less_times : (q x y : ℕ) → 0 < q → x < y → q * x < q * y
+less_times q x y s h = let n : x + 1 ≤ y = omega arith in let l : q * (x + 1) ≤ q * y = mul-le-mul_left q n in omega (arith, l, s)

@@ -37,7 +37,7 @@ pub record AreSummedBefore (d : ℕ) (listed : List ArcKey) (columns : List Pool
       → slice_index sums p + arc_units d columns a (drop k weights) ≡ arc_units d columns a weights
 
 -- the best of the arcs before place k
-abbrev pub IsBestBefore : List Bounds → ℕ → List ℕ → ℕ → Option Candidate → Type 0
-IsBestBefore bounds d sums k best =
-    MatchOption best ((p : ℕ) → p < k → IsLeft d (bounds_at bounds p).low (slice_index sums p))
-    (λ c. IsChoice bounds d sums (c.arc, c.b))
+abbrev pub IsBestBefore : List Bounds → ℕ → ℕ → List ℕ → ℕ → Option Candidate → Type 0
+IsBestBefore bounds d margin sums k best =
+    MatchOption best ((p : ℕ) → p < k → IsLeft d margin (bounds_at bounds p).low (slice_index sums p))
+    (λ c. IsChoice bounds d margin sums (c.arc, c.b))

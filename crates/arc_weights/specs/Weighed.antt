@@ -1,16 +1,20 @@
 -- What the weights of a solution's trees say of the arcs.
-use Rattle.std.specs.Prelude.{ℕ, ◌≡◌, ◌<◌, ◌*◌, ◌+◌, ◌≤◌, ◌⊎◌, Some, List, ◌++◌, length, slice_get}
+use Rattle.std.specs.Prelude.{ℕ, ◌≡◌, ◌<◌, ◌*◌, ◌+◌, ◌≤◌, ◌^◌, ◌⊎◌, Some, List, ◌++◌, length, slice_get}
 use Rattle.roster_model.specs.declared.grammar.ArcKey.{ArcKey}
 use Rattle.roster_model.specs.declared.instance.Cut.{Cut}
 use Rattle.roster_model.specs.declared.instance.Instance.{Instance}
+use Rattle.roster_model.specs.declared.instance.Prices.{Prices}
 use Rattle.roster_model.specs.Cuts.{lo, hi}
 use Rattle.arc_laws.specs.Lists.{AreArcs}
 use Rattle.parse_graph.specs.Graphs.{GraphView}
 use Rattle.tree_pool.specs.Pools.{PoolTree}
 use Rattle.master_laws.specs.Sharp.{UsesArtificial, AreFine, arc_weight}
 use Rattle.master_laws.specs.WholeCounts.{HasCounts}
+use Rattle.near_laws.specs.NearSharp.{IsWellBetween, AreNearlyWhole, LackMuch, near_weight}
 use Rattle.node_columns.specs.declared.weights.Weight.{Weight}
-use Rattle.node_master.specs.Ends.{AreLeastWeights}
+use Rattle.node_master.specs.declared.ends.Solution.{Solution}
+use Rattle.node_master.specs.declared.ends.Solution.TheVariants.{Exact, Near}
+use Rattle.node_master.specs.Ends.{AreLeastWeights, IsNear}
 use Rattle.roster_split.specs.Counts.{count_of}
 use Rattle.arc_weights.specs.declared.weighed.Weighed.{Weighed}
 use Rattle.arc_weights.specs.declared.weighed.Weighed.TheVariants.{Whole, Between, Other}
@@ -33,10 +37,32 @@ pub record AreWhole (i : Instance) (v : GraphView) (cuts : List Cut) (columns : 
   pub whole : (w : AreLeastWeights i cuts columns weights) (listed : List ArcKey) → AreArcs i.grammar listed
       → HasCounts i cuts (w.trees ++ w.others) w.d listed (count_of v.arcs counts)
 
--- what the answer says
-abbrev pub IsWeighed : Instance → GraphView → List Cut → List PoolTree → List Weight → Weighed → Type 0
-IsWeighed i v cuts columns weights (Whole counts) = AreWhole i v cuts columns weights counts
-IsWeighed i v cuts columns weights (Between arc b) = IsBetween i v cuts columns weights arc b
-IsWeighed i v cuts columns weights Other =
+-- the arc's trees weigh at least 2^-12 more than b and at least 2^-12 less than b + 1, and both halves of the
+-- split are left a count
+pub record IsNearBetween (i : Instance) (v : GraphView) (cuts : List Cut) (columns : List PoolTree)
+    (weights : List Weight) (arc b : ℕ) : Type 0 where
+  pub key : ArcKey
+  pub at : slice_get v.arcs arc ≡ Some key
+  pub low : lo cuts key ≤ b
+  pub high : b < hi i.heads_max cuts key
+  pub well : (p : Prices) (w : IsNear i cuts columns p weights)
+      → IsWellBetween (2 ^ 56) b (near_weight key w.trees)
+
+-- the trees of each arc weigh nearly a whole number together
+pub record AreNearWhole (i : Instance) (v : GraphView) (cuts : List Cut) (columns : List PoolTree)
+    (weights : List Weight) (counts : List ℕ) : Type 0 where
+  pub each : length counts ≡ length v.arcs
+  pub whole : (p : Prices) (w : IsNear i cuts columns p weights) → AreNearlyWhole i (2 ^ 56) w.trees
+
+-- what the answer says of an exact solution, and of a near one
+abbrev pub IsWeighed : Instance → GraphView → List Cut → List PoolTree → List Weight → Solution → Weighed
+    → Type 0
+IsWeighed i v cuts columns weights Exact (Whole counts) = AreWhole i v cuts columns weights counts
+IsWeighed i v cuts columns weights Exact (Between arc b) = IsBetween i v cuts columns weights arc b
+IsWeighed i v cuts columns weights Exact Other =
     (w : AreLeastWeights i cuts columns weights)
     → UsesArtificial i cuts (w.trees ++ w.others) ⊎ AreFine (w.trees ++ w.others) w.d
+IsWeighed i v cuts columns weights Near (Whole counts) = AreNearWhole i v cuts columns weights counts
+IsWeighed i v cuts columns weights Near (Between arc b) = IsNearBetween i v cuts columns weights arc b
+IsWeighed i v cuts columns weights Near Other =
+    (p : Prices) (w : IsNear i cuts columns p weights) → LackMuch i cuts (2 ^ 56) w.trees
