@@ -3,6 +3,7 @@ use Rattle.std.proofs.Common.{All, ℕ, ◌<◌, ◌≤◌, Option, None, Some, 
 use Rattle.std.specs.Prelude.{MatchOption}
 use Rattle.roster_model.specs.declared.instance.Cut.{Cut}
 use Rattle.roster_model.specs.declared.instance.Instance.{Instance}
+use Rattle.roster_model.specs.declared.instance.Prices.{Prices}
 use Rattle.parse_graph.specs.Graphs.{GraphView}
 use Rattle.tree_pool.specs.Pools.{PoolTree, IsGrown}
 use Rattle.node_columns.specs.declared.weights.Weight.{Weight}
@@ -15,10 +16,10 @@ pub better-more : (i : Instance) (a b c : Option Roster) → IsBetter i a b → 
 better-more i a b c h k = let f = h.falls in let l = k.falls in record { falls = omega (arith, f, l); good = k.good; start = λ s. k.start (h.start s) }
 
 -- a plan stays one where the best roster becomes better
-pub plan-later : (i : Instance) (v : GraphView) (cuts : List Cut) (plan : Option Plan) (value : ℕ) (b c : Option Roster) → IsBetter i b c
-    → MatchOption plan (limit_of i b ≤ value) (IsPlan i v cuts) → MatchOption plan (limit_of i c ≤ value) (IsPlan i v cuts)
-plan-later i v cuts None value b c better h = let l = better.falls in omega (arith, l, h)
-plan-later i v cuts (Some p) value b c better h = h
+pub plan-later : (i : Instance) (v : GraphView) (cuts : List Cut) (prices : Prices) (plan : Option Plan) (value : ℕ) (b c : Option Roster) → IsBetter i b c
+    → MatchOption plan (limit_of i b ≤ value) (IsPlan i v cuts prices) → MatchOption plan (limit_of i c ≤ value) (IsPlan i v cuts prices)
+plan-later i v cuts prices None value b c better h = let l = better.falls in omega (arith, l, h)
+plan-later i v cuts prices (Some p) value b c better h = h
 
 -- columns of the pool are in the one that it has become
 pub weights-later : (old new : List PoolTree) (ws : List Weight) → IsGrown old new → All (λ (w : Weight). w.column < length old) ws → All (λ (w : Weight). w.column < length new) ws

@@ -21,7 +21,7 @@ use Rattle.certificates.specs.Sound.{most_cost, IsSoundCert, IsSoundShift, NoneI
 use Rattle.certificates.proofs.OneTree.{same_start}
 use Rattle.certificate_laws.specs.Accepted.{IsStated, bound_number}
 use Rattle.certificate_laws.specs.Shown.{Shows}
-use Rattle.growing_laws.specs.Grown.{Grown, tip, fork, Leaf, fresh, valued, fixed, Own, OnTips, OnForks, prices_of, leaf_proof, proof_of, raised, numbers, busy, missed, shown}
+use Rattle.growing_laws.specs.Grown.{Grown, tip, fork, Leaf, fresh, valued, fixed, Own, OnForks, prices_of, leaf_proof, proof_of, numbers, shown}
 use Rattle.growing_laws.specs.States.{IsLeaf, IsOwn, IsSplit, IsTip, IsGrowing, OwnShows, IsGrownProof}
 use Rattle.growing_laws.proofs.NodeCounts.{grown-counts}
 use Rattle.growing_laws.proofs.GrownLemmas.{ForkFact, tips-map, forks-map, grown-visits}

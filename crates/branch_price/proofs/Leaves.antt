@@ -53,7 +53,7 @@ planned-arc s limit now low leaf w t plan is e =
 
     by : (path : List Cut) (l : Leaf) → HasPlan s.day s.graph limit path l leaf.kept.plan → IsOpenLeaf l → Arc
     by path fresh p o = let q : Some plan ≡ None = rw (← e) refl ∙ p in cc
-    by path (valued x) p o = let q : IsPlan s.day s.graph path plan = rw e at p in (q.key, q.at)
+    by path (valued x) p o = let q : IsPlan s.day s.graph path x.prices plan = rw e at p in (q.key, q.at)
     by path (fixed v) p o = absurd o
 
 -- a node of the tree whose seats these are

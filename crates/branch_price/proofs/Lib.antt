@@ -1,6 +1,7 @@
 pub mod NodeCuts
 pub mod Leaves
 pub mod StepsLemmas
+pub mod SolvedEnds
 pub mod PlansLemmas
 pub mod ShownValues
 pub mod OpenPaths

@@ -1,65 +1,105 @@
 -- Where a node with prices is split.
-use Rattle.std.proofs.Common.{◌≡◌, ℕ, arith, ◌≤◌, ◌<◌, List, [], ◌∷◌, ◌++◌, subst, ap, ◌∙◌, ◌⊎◌, inl, inr}
+use Rattle.std.proofs.Common.{◌≡◌, ℕ, arith, ◌≤◌, ◌<◌, ◌^◌, List, [], ◌∷◌, ◌++◌, length, subst, ap, ◌∙◌, ◌⊎◌, inl, inr}
 use Rattle.std.specs.Prelude.{slice_get}
+use Rattle.roster_model.specs.declared.grammar.ArcKey.{ArcKey}
 use Rattle.roster_model.specs.declared.instance.Cut.{Cut}
 use Rattle.roster_model.specs.declared.instance.Instance.{Instance}
+use Rattle.roster_model.specs.declared.instance.Prices.{Prices}
 use Rattle.roster_model.specs.Cuts.{Meets, base_cuts}
 use Rattle.roster_model.specs.Folds.{Each}
 use Rattle.roster_model.specs.SoundInstance.{IsSoundInstance}
 use Rattle.roster_model.specs.Trees.{Parts}
 use Rattle.arc_branch.specs.Boxes.{BoxView}
 use Rattle.arc_branch.specs.Paths.{IsBoxOf, IsLooseAt}
+use Rattle.bound_laws.specs.Priced.{IsPricedValue}
 use Rattle.bound_laws.specs.TreeRosters.{IsTreeRoster, trees_cost}
+use Rattle.fraction.specs.declared.frac.Frac.{Frac}
 use Rattle.linear_programs.specs.Solution.{Weighted}
+use Rattle.master_laws.specs.Laws.{IsBelowHeads}
 use Rattle.master_laws.specs.Master.{MasterKey}
 use Rattle.master_laws.specs.Sharp.{UsesArtificial, AreFine}
 use Rattle.master_laws.proofs.WholeCountsLemmas.{can_be_split}
+use Rattle.near_laws.specs.NearSharp.{IsSharpFor, LackMuch, AreNearlyWhole}
 use Rattle.parse_graph.specs.Graphs.{GraphView, IsGraph}
 use Rattle.parse_graph.proofs.PlacesLemmas.{in-graph, of-graph}
 use Rattle.parse_graph.proofs.ArcOrderLemmas.{sorted-arcs}
 use Rattle.tree_pool.specs.Pools.{PoolTree}
 use Rattle.node_columns.specs.declared.weights.Weight.{Weight}
-use Rattle.node_master.specs.Ends.{AreLeastWeights}
+use Rattle.node_master.specs.declared.ends.Solution.{Solution}
+use Rattle.node_master.specs.declared.ends.Solution.TheVariants.{Exact, Near}
+use Rattle.node_master.specs.Ends.{AreLeastWeights, AreSolved, IsBest, IsNear}
 use Rattle.roster_split.specs.Counts.{count_of}
-use Rattle.arc_weights.specs.Weighed.{IsBetween, AreWhole}
+use Rattle.arc_weights.specs.declared.weighed.Weighed.TheVariants.{Whole, Between, Other}
+use Rattle.arc_weights.specs.Weighed.{IsWeighed, AreWhole}
 use Rattle.open_nodes.specs.declared.leaf.Plan.{Plan}
 use Rattle.search_tree.specs.Trees.{IsPlan}
 use Rattle.offers.specs.Offers.{CanBeTrees, Reach}
+use Rattle.branch_price.specs.declared.solved.Solved.{Solved}
 use Rattle.branch_price.specs.Plans.{IsPlanAt}
-use Rattle.branch_price.specs.Steps.{IsShown}
+use Rattle.branch_price.specs.Solutions.{IsSolvedBy, IsShown}
 use Rattle.branch_price.proofs.StepsLemmas.{mid-split, loose-bounds}
 
 -- the weights of the node's solution
-abbrev pub weights_of : (i : Instance) (cuts : List Cut) (pool : List PoolTree) (weights : List Weight) (shown : ℕ)
-    → IsShown i cuts pool weights shown → AreLeastWeights i cuts pool weights
-weights_of i cuts pool weights shown is = is.solved.best.weighted
+pub weights-of : (solution : Solution) (i : Instance) (cuts : List Cut) (pool : List PoolTree) (prices : Prices) (weights : List Weight)
+    → IsSolvedBy solution i cuts pool prices weights → AreSolved solution i cuts pool weights
+weights-of Exact i cuts pool prices weights how = how.1.weighted
+weights-of Near i cuts pool prices weights how = (prices, how)
 
-pub between-plan : (i : Instance) (v : GraphView) (cuts : List Cut) (pool : List PoolTree) (weights : List Weight) (shown arc b : ℕ) → IsGraph i.grammar v
-    → IsShown i cuts pool weights shown → IsBetween i v cuts pool weights arc b → IsPlan i v cuts (record { arc = arc; b = b })
-between-plan i v cuts pool weights shown arc b graph is between =
-    let w = weights_of i cuts pool weights shown is in
+pub between-plan : (solution : Solution) (i : Instance) (v : GraphView) (cuts : List Cut) (pool : List PoolTree) (prices : Prices) (weights : List Weight) (arc b : ℕ) → IsGraph i.grammar v
+    → IsSolvedBy solution i cuts pool prices weights → IsWeighed i v cuts pool weights solution (Between arc b) → IsPlan i v cuts prices (record { arc = arc; b = b })
+between-plan Exact i v cuts pool prices weights arc b graph how between =
+    let w = how.1.weighted in
     record {
       key = between.key;
       at = between.at;
       splits = record { arc = graph.arcs.sound arc between.key between.at; low = between.low; high = between.high };
-      sharp = (w.trees ++ w.others, w.d, record { basic = w.basic; least = w.least; reason = inl (between.more w, between.less w) });
+      sharp = inl (w.trees ++ w.others, w.d, record { basic = w.basic; least = w.least; reason = inl (between.more w, between.less w) });
     }
+between-plan Near i v cuts pool prices weights arc b graph how between = record {
+  key = between.key;
+  at = between.at;
+  splits = record { arc = graph.arcs.sound arc between.key between.at; low = between.low; high = between.high };
+  sharp = inr (how.trees, 2 ^ 56, record { positive = omega arith; trees = how.day; near = how.near; reason = inl (between.well prices how) });
+}
 
-pub least-plan : (i : Instance) (v : GraphView) (cuts : List Cut) (pool : List PoolTree) (weights : List Weight) (shown loose : ℕ) (box : BoxView) (plan : Plan) → IsGraph i.grammar v
-    → IsBoxOf i v cuts box → IsLooseAt i v cuts loose → IsPlanAt box loose plan
-    → (w : AreLeastWeights i cuts pool weights) → UsesArtificial i cuts (w.trees ++ w.others) ⊎ AreFine (w.trees ++ w.others) w.d → IsPlan i v cuts plan
-least-plan i v cuts pool weights shown loose box plan graph left is at w why =
+-- each split of the node is sharp, or near-sharp for these prices
+abbrev pub IsSharpAnywhere : Instance → List Cut → Prices → Type 0
+IsSharpAnywhere i cuts prices = (a : ArcKey) (b : ℕ) → IsSharpFor i cuts prices a b
+
+exact-anywhere : (i : Instance) (cuts : List Cut) (pool : List PoolTree) (prices : Prices) (weights : List Weight) → (w : AreLeastWeights i cuts pool weights)
+    → UsesArtificial i cuts (w.trees ++ w.others) ⊎ AreFine (w.trees ++ w.others) w.d → IsSharpAnywhere i cuts prices
+exact-anywhere i cuts pool prices weights w why = λ a b. inl (w.trees ++ w.others, w.d, record { basic = w.basic; least = w.least; reason = inr why })
+
+near-anywhere : (i : Instance) (cuts : List Cut) (pool : List PoolTree) (prices : Prices) (weights : List Weight) → (near : IsNear i cuts pool prices weights)
+    → LackMuch i cuts (2 ^ 56) near.trees ⊎ AreNearlyWhole i (2 ^ 56) near.trees → IsSharpAnywhere i cuts prices
+near-anywhere i cuts pool prices weights near why =
+    λ a b. inr (near.trees, 2 ^ 56, record { positive = omega arith; trees = near.day; near = near.near; reason = inr why })
+
+pub other-anywhere : (solution : Solution) (i : Instance) (v : GraphView) (cuts : List Cut) (pool : List PoolTree) (prices : Prices) (weights : List Weight)
+    → IsSolvedBy solution i cuts pool prices weights → IsWeighed i v cuts pool weights solution Other → IsSharpAnywhere i cuts prices
+other-anywhere Exact i v cuts pool prices weights how told = exact-anywhere i cuts pool prices weights how.1.weighted (told how.1.weighted)
+other-anywhere Near i v cuts pool prices weights how told = near-anywhere i cuts pool prices weights how (inl (told prices how))
+
+pub least-plan : (i : Instance) (v : GraphView) (cuts : List Cut) (prices : Prices) (loose : ℕ) (box : BoxView) (plan : Plan) → IsGraph i.grammar v
+    → IsBoxOf i v cuts box → IsLooseAt i v cuts loose → IsPlanAt box loose plan → IsSharpAnywhere i cuts prices → IsPlan i v cuts prices plan
+least-plan i v cuts prices loose box plan graph left is at sharp =
     let lt = loose-bounds i v cuts box left loose is in
     let e = at.least in
     record {
       key = is.0;
       at = ap (λ (n : ℕ). slice_get v.arcs n) at.same ∙ is.1;
       splits = mid-split i v cuts box left loose is graph is.0 plan.b is.1 (omega (arith, e)) (omega (arith, e, lt));
-      sharp = (w.trees ++ w.others, w.d, record { basic = w.basic; least = w.least; reason = inr why });
+      sharp = sharp is.0 plan.b;
     }
 
+-- there is a count for each arc
+pub whole-each : (solution : Solution) (i : Instance) (v : GraphView) (cuts : List Cut) (pool : List PoolTree) (weights : List Weight) (counts : List ℕ)
+    → IsWeighed i v cuts pool weights solution (Whole counts) → length counts ≡ length v.arcs
+whole-each Exact i v cuts pool weights counts told = told.each
+whole-each Near i v cuts pool weights counts told = told.each
+
 -- whole weights are counts of trees
-pub whole-trees : (i : Instance) (v : GraphView) (cuts : List Cut) (pool : List PoolTree) (weights : List Weight) (counts : List ℕ) → IsSoundInstance i → IsGraph i.grammar v
+whole-trees : (i : Instance) (v : GraphView) (cuts : List Cut) (pool : List PoolTree) (weights : List Weight) (counts : List ℕ) → IsSoundInstance i → IsGraph i.grammar v
     → AreLeastWeights i cuts pool weights → AreWhole i v cuts pool weights counts → CanBeTrees i v counts
 whole-trees i v cuts pool weights counts sound graph w whole =
     let all = sorted-arcs i.grammar v.arcs (in-graph i.grammar v.arcs graph.arcs) (of-graph i.grammar v.arcs graph.arcs) in
@@ -78,22 +118,36 @@ front P base more cuts e h = by base (subst (λ (cs : List Cut). Each P cs) e h)
     by (x ∷ xs) k = (k.0, by xs k.1)
 
 -- trees with these counts close the node
-pub whole-reach : (i : Instance) (v : GraphView) (cuts : List Cut) (pool : List PoolTree) (weights : List Weight) (shown : ℕ) (counts : List ℕ) → IsGraph i.grammar v
-    → (is : IsShown i cuts pool weights shown) → AreWhole i v cuts pool weights counts
-    → Reach i v counts cuts (is.solved.best.weighted.trees ++ is.solved.best.weighted.others) shown
-whole-reach i v cuts pool weights shown counts graph is whole = λ ts have.
-    let w = is.solved.best.weighted in
+whole-reach : (i : Instance) (v : GraphView) (cuts : List Cut) (pool : List PoolTree) (prices : Prices) (value : Frac) (weights : List Weight) (shown : ℕ) (counts : List ℕ) → IsGraph i.grammar v
+    → (best : IsBest i cuts pool prices value weights) → IsPricedValue i prices cuts shown → Each (IsBelowHeads i) cuts → (more : List Cut) × (cuts ≡ base_cuts i ++ more)
+    → AreWhole i v cuts pool weights counts → Reach i v counts cuts (best.weighted.trees ++ best.weighted.others) shown
+whole-reach i v cuts pool prices value weights shown counts graph best is below based whole = λ ts have.
     let all = sorted-arcs i.grammar v.arcs (in-graph i.grammar v.arcs graph.arcs) (of-graph i.grammar v.arcs graph.arcs) in
-    by ts (is.solved.best.closes is.below all.0 (count_of v.arcs counts) ts shown (whole.whole w all.0 all.1) (have all.0 all.1) is.value)
+    by ts (best.closes below all.0 (count_of v.arcs counts) ts shown (whole.whole best.weighted all.0 all.1) (have all.0 all.1) is)
   where
     by : (ts : List Parts)
-        → UsesArtificial i cuts (is.solved.best.weighted.trees ++ is.solved.best.weighted.others) ⊎ (IsTreeRoster i ts × Each (Meets ts) cuts × (trees_cost i ts ≤ shown))
-        → UsesArtificial i cuts (is.solved.best.weighted.trees ++ is.solved.best.weighted.others) ⊎ (IsTreeRoster i ts × Each (Meets ts) (base_cuts i) × (trees_cost i ts ≤ shown))
+        → UsesArtificial i cuts (best.weighted.trees ++ best.weighted.others) ⊎ (IsTreeRoster i ts × Each (Meets ts) cuts × (trees_cost i ts ≤ shown))
+        → UsesArtificial i cuts (best.weighted.trees ++ best.weighted.others) ⊎ (IsTreeRoster i ts × Each (Meets ts) (base_cuts i) × (trees_cost i ts ≤ shown))
     by ts (inl u) = inl u
-    by ts (inr h) = inr (h.0, front (Meets ts) (base_cuts i) is.based.0 cuts is.based.1 h.1, h.2)
+    by ts (inr h) = inr (h.0, front (Meets ts) (base_cuts i) based.0 cuts based.1 h.1, h.2)
 
--- the reach that was not attained
-pub artificial-plan : (i : Instance) (cuts : List Cut) (ws : List (Weighted MasterKey)) (d limit value : ℕ) → UsesArtificial i cuts ws ⊎ (limit ≤ value) → value < limit
-    → UsesArtificial i cuts ws ⊎ AreFine ws d
-artificial-plan i cuts ws d limit value (inl u) lt = inl u
-artificial-plan i cuts ws d limit value (inr le) lt = absurd (omega (arith, le, lt))
+-- what an offer of counts reaches
+abbrev pub Reaches : Instance → GraphView → List ℕ → ℕ → Type 0
+Reaches i v counts limit = CanBeTrees i v counts → (x : ℕ) (cuts : List Cut) (ws : List (Weighted MasterKey)) → Reach i v counts cuts ws x
+    → UsesArtificial i cuts ws ⊎ (limit ≤ x)
+
+-- where the roster of whole weights was offered and some roster could still cost less, each split is sharp
+pub whole-anywhere : (i : Instance) (v : GraphView) (cuts : List Cut) (pool : List PoolTree) (s : Solved) (shown limit : ℕ) (counts : List ℕ) → IsSoundInstance i → IsGraph i.grammar v
+    → IsShown i cuts pool s shown → IsWeighed i v cuts pool s.weights s.solution (Whole counts) → Reaches i v counts limit → shown < limit → IsSharpAnywhere i cuts s.prices
+whole-anywhere i v cuts pool s shown limit counts sound graph is told reaches lt = by s.solution is.solved.how told
+  where
+    artificial : (ws : List (Weighted MasterKey)) → UsesArtificial i cuts ws ⊎ (limit ≤ shown) → UsesArtificial i cuts ws
+    artificial ws (inl u) = u
+    artificial ws (inr le) = absurd (omega (arith, le, lt))
+
+    by : (solution : Solution) → IsSolvedBy solution i cuts pool s.prices s.weights → IsWeighed i v cuts pool s.weights solution (Whole counts) → IsSharpAnywhere i cuts s.prices
+    by Exact how whole =
+        let w = how.1.weighted in
+        exact-anywhere i cuts pool s.prices s.weights w (inl (artificial (w.trees ++ w.others) (reaches (whole-trees i v cuts pool s.weights counts sound graph w whole) shown cuts (w.trees ++ w.others)
+        (whole-reach i v cuts pool s.prices how.0 s.weights shown counts graph how.1 is.value is.below is.based whole))))
+    by Near how whole = near-anywhere i cuts pool s.prices s.weights how (inr (whole.whole s.prices how))

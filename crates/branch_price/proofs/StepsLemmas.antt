@@ -110,7 +110,7 @@ asks-pinned i v strict before now low p leaf cuts best value asked better pinned
 
 abbrev pub asks-priced : (i : Instance) (v : GraphView) (strict : Bool) (before now low : ℕ) (p : Progress) (leaf : OpenLeaf) (cuts : List Cut) (best : Option Roster) (prices : Prices) (value : ℕ) (plan : Option Plan)
     → AsksNode i v strict before now low p leaf cuts → IsBetter i p.best best → IsPricedNode i cuts (record { prices = prices; value = value }) → IsLoosePath i cuts
-    → MatchOption plan (limit_of i best ≤ value) (IsPlan i v cuts) → AsksPriced p.tree leaf prices value plan
+    → MatchOption plan (limit_of i best ≤ value) (IsPlan i v cuts prices) → AsksPriced p.tree leaf prices value plan
 asks-priced i v strict before now low p leaf cuts best prices value plan asked better priced loose planned = record {
   taken = taken i v strict before now low p leaf cuts best asked better;
   priced = priced;

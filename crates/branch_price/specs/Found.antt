@@ -19,7 +19,8 @@ use Rattle.bound_laws.specs.Priced.{IsPricedValue}
 use Rattle.certificate_laws.specs.Accepted.{Accepts, bound_number}
 use Rattle.certificate_laws.specs.Shown.{Shows}
 use Rattle.growing_laws.specs.States.{IsLoosePath}
-use Rattle.master_laws.specs.Sharp.{IsHard, IsSharp}
+use Rattle.master_laws.specs.Sharp.{IsHard}
+use Rattle.near_laws.specs.NearSharp.{IsSharpFor}
 use Rattle.roster_model.specs.declared.instance.Done.{Done}
 use Rattle.roster_model.specs.declared.instance.Done.TheVariants.{Equal, NoRoster, TurnsOut}
 use Rattle.branch_price.specs.declared.found.Found.{Found}
@@ -39,14 +40,14 @@ pub record ArePrices (i : Instance) (v : Visit) (p : Prices) : Type 0 where
   pub best : AreBest i p v.path
   pub few : length p.cell + length p.mult ≤ 1498
 
--- a split without prices is hard over a strict master; one with prices is sharp, and they show at most the
--- bound
+-- a split without prices is hard over a strict master; one with prices is sharp, or near-sharp for them, and they
+-- show at most the bound
 abbrev pub IsSplitNode : Instance → Bool → ℕ → Visit → Option Prices → Type 0
 IsSplitNode i strict bound v None = IsTrue strict → IsHard i v.path
 IsSplitNode i strict bound v (Some p) = ArePrices i v p × ((x : ℕ) → IsPricedValue i p v.path x → x ≤ bound)
 
 abbrev pub IsSharpNode : Instance → Visit → Node → Type 0
-IsSharpNode i v (Split a b (Some p)) = IsSharp i v.path a b
+IsSharpNode i v (Split a b (Some p)) = IsSharpFor i v.path p a b
 IsSharpNode i v (Split a b None) = Unit {0}
 IsSharpNode i v (Priced p) = Unit {0}
 IsSharpNode i v Pinned = Unit {0}

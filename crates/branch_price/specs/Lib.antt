@@ -4,6 +4,7 @@ pub mod Searching
 pub mod Rounded
 pub mod Plans
 pub mod Infeasible
+pub mod Solutions
 pub mod Steps
 pub mod Ends
 pub mod Loops

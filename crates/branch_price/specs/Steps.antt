@@ -1,19 +1,11 @@
 -- What is asked for a turn of the search, and what it leads to.
-use Rattle.std.specs.Prelude.{ℕ, ◌≡◌, ◌≤◌, ◌<◌, ◌+◌, ◌++◌, ◌⊎◌, Bool, IsTrue, List, [], ◌∷◌, length}
+use Rattle.std.specs.Prelude.{ℕ, ◌≡◌, ◌≤◌, ◌<◌, ◌+◌, ◌⊎◌, Bool, IsTrue, List, [], ◌∷◌, length}
 use Rattle.roster_model.specs.declared.instance.Cut.{Cut}
 use Rattle.roster_model.specs.declared.instance.Instance.{Instance}
-use Rattle.roster_model.specs.declared.instance.Prices.{Prices}
 use Rattle.roster_model.specs.Cuts.{base_cuts}
-use Rattle.roster_model.specs.Folds.{Each}
-use Rattle.bound_laws.specs.Priced.{IsPricedValue}
-use Rattle.fraction.specs.declared.frac.Frac.{Frac}
 use Rattle.parse_graph.specs.Graphs.{GraphView}
-use Rattle.master_laws.specs.Laws.{IsBelowHeads}
 use Rattle.master_laws.specs.Rows.{rows_of}
 use Rattle.master_laws.specs.Sharp.{IsHard}
-use Rattle.tree_pool.specs.Pools.{PoolTree}
-use Rattle.node_columns.specs.declared.weights.Weight.{Weight}
-use Rattle.node_master.specs.Ends.{IsBest}
 use Rattle.growing_laws.specs.Grown.{Grown, fresh}
 use Rattle.open_nodes.specs.declared.leaf.OpenLeaf.{OpenLeaf}
 use Rattle.search_tree.specs.Views.{IsPlace}
@@ -51,22 +43,6 @@ pub record IsGivenUp (i : Instance) (strict : Bool) (now later : ℕ) (cuts : Li
   pub hard : IsTrue strict → IsHard i cuts
   pub cause : (now < later) ⊎ (later ≡ last_count) ⊎ ((now ≤ later) × (1500 < length (rows_of i cuts)))
   pub within : later ≤ last_count
-
--- the node's master is solved
-pub record IsSolved (i : Instance) (cuts : List Cut) (columns : List PoolTree) (prices : Prices)
-    (weights : List Weight) : Type 0 where
-  pub value : Frac
-  pub few : length (rows_of i cuts) ≤ 1500
-  pub best : IsBest i cuts columns prices value weights
-
--- and these are what its prices show
-pub record IsShown (i : Instance) (cuts : List Cut) (columns : List PoolTree) (weights : List Weight)
-    (shown : ℕ) : Type 0 where
-  pub prices : Prices
-  pub solved : IsSolved i cuts columns prices weights
-  pub value : IsPricedValue i prices cuts shown
-  pub below : Each (IsBelowHeads i) cuts
-  pub based : (more : List Cut) × (cuts ≡ base_cuts i ++ more)
 
 -- a leaf that is not processed and leaves the same bound is in hand; as many nodes are processed as before
 pub record AsksHalf (i : Instance) (v : GraphView) (strict : Bool) (before now low : ℕ) (old new : Progress)

@@ -6,15 +6,16 @@ ghost use Rattle.tree_pool.specs.Pools.{IsPool, IsGrown};
 ghost use Rattle.candidate_rosters.specs.Rosters.{IsGoodRoster, IsDeskFor};
 ghost use Rattle.offers.specs.Offers.{limit_of, IsBetter};
 ghost use Rattle.search_tree.specs.Trees.{IsPlan};
-ghost use Rattle.branch_price.specs.Steps.{IsShown};
 ghost use Rattle.branch_price.specs.Plans.{IsPlanAt};
+ghost use Rattle.branch_price.specs.Solutions.{IsShown};
 
 use crate::preferred::preferred_arc;
 use crate::rounded::offer_rounded;
+use crate::solved::Solved;
 use arc_branch::ArcBox;
 use arc_weights::{Weighed, weigh};
 use candidate_rosters::{Roster, RosterDesk};
-use node_master::{Pool, Weight};
+use node_master::Pool;
 use offers::{limit, offer_counts};
 use open_nodes::Plan;
 use parse_graph::Graph;
@@ -33,8 +34,8 @@ fn at_least(arc_box: &ArcBox, arc: u32) -> Plan
 }
 
 /// Returns where a node is to be split, from the weights of the trees at its solution; `None` where its
-/// prices show no less than the best roster costs. Where the weights of the arcs are whole, their roster is
-/// offered first. The arc of the number `loose` is left more than one count.
+/// prices show no less than the best roster costs. Where the weights of the arcs are whole, or nearly so, their
+/// roster is offered first. The arc of the number `loose` is left more than one count.
 pub(crate) fn plan_for(
     alloc: Global,
     instance: &Instance,
@@ -42,7 +43,7 @@ pub(crate) fn plan_for(
     cuts: &[Cut],
     arc_box: &ArcBox,
     loose: u32,
-    weights: &[Weight],
+    solved: &Solved,
     value: u64,
     pool: &mut Pool,
     rosters: &mut RosterDesk,
@@ -52,12 +53,12 @@ pub(crate) fn plan_for(
     requires graph { IsGraph instance.now.grammar graph.now }
     requires left { IsBoxOf instance.now graph.now cuts.now arc_box.now }
     requires loose { IsLooseAt instance.now graph.now cuts.now loose }
-    requires shown { IsShown instance.now cuts.now pool.old weights.now value }
+    requires shown { IsShown instance.now cuts.now pool.old solved.now value }
     requires pool { IsPool instance.now.grammar pool.old }
     requires rosters { IsDeskFor instance.now rosters.old }
     requires best { IfSome best.old (IsGoodRoster instance.now) }
     ensures plan { IfOk result (λ plan. MatchOption plan (limit_of instance.now best.new ≤ value)
-        (IsPlan instance.now graph.now cuts.now)) }
+        (IsPlan instance.now graph.now cuts.now solved.now.prices)) }
     ensures better { IsBetter instance.now best.old best.new }
     ensures pool { IsPool instance.now.grammar pool.new }
     ensures grown { IsGrown pool.old pool.new }
@@ -66,9 +67,18 @@ pub(crate) fn plan_for(
     if limit(instance, best) <= value {
         return Ok(None);
     }
+    let weights = solved.weights.as_slice();
     let preferred = preferred_arc(alloc, instance, graph, cuts, arc_box, pool, weights, best)?;
     match weigh(
-        alloc, instance, graph, cuts, arc_box, pool, weights, preferred,
+        alloc,
+        instance,
+        graph,
+        cuts,
+        arc_box,
+        pool,
+        weights,
+        solved.solution,
+        preferred,
     )? {
         Weighed::Between { arc, b } => {
             offer_rounded(alloc, instance, weights, pool, rosters, best)?;

@@ -9,7 +9,8 @@ ghost use Rattle.tree_pool.specs.Pools.{IsPool, IsGrown};
 ghost use Rattle.candidate_rosters.specs.Rosters.{IsDeskFor};
 ghost use Rattle.node_path.specs.Paths.{IsPath};
 ghost use Rattle.branch_price.specs.Desks.{IsDesk};
-ghost use Rattle.branch_price.specs.Steps.{AsksNode, IsTurned, IsGivenUp, IsSolved};
+ghost use Rattle.branch_price.specs.Solutions.{IsSolved};
+ghost use Rattle.branch_price.specs.Steps.{AsksNode, IsTurned, IsGivenUp};
 
 use crate::asking::node;
 use crate::choose::plan_for;
@@ -18,13 +19,14 @@ use crate::counts::arc_at;
 use crate::desk::{Desk, want};
 use crate::pinned::{offer_least, pinned_value};
 use crate::progress::Progress;
+use crate::solved::{Solved, solved_of};
 use crate::value::shown_value;
 use candidate_rosters::RosterDesk;
-use node_master::{NodeEnd, Pool, Weight};
+use node_master::Pool;
 use node_path::NodePath;
 use open_nodes::OpenLeaf;
 use parse_graph::Graph;
-use roster_model::{Instance, Memory, Prices};
+use roster_model::{Instance, Memory};
 use search_master::Master;
 use std::alloc::Global;
 
@@ -105,8 +107,7 @@ fn best_leaf(
     derives: &[bool],
     path: &NodePath,
     loose: u32,
-    prices: Prices,
-    weights: &[Weight],
+    solved: Solved,
     desk: &mut Desk,
     pool: &mut Pool,
     progress: &mut Progress,
@@ -117,7 +118,7 @@ fn best_leaf(
     requires told { TellsDerived instance.now.grammar derives.now }
     requires path { IsPath instance.now graph.now path.now }
     requires loose { IsLooseAt instance.now graph.now path.now.cuts loose }
-    requires solved { IsSolved instance.now path.now.cuts pool.old prices weights.now }
+    requires solved { IsSolved instance.now path.now.cuts pool.old solved }
     requires desk { IsDesk instance.now graph.now desk.old }
     requires pool { IsPool instance.now.grammar pool.old }
     requires node { (strict : Bool) × (before : ℕ) × (now : ℕ) × (low : ℕ)
@@ -129,12 +130,19 @@ fn best_leaf(
     ensures pool { IsPool instance.now.grammar pool.new }
     ensures grown { IsGrown pool.old pool.new }
 {
-    let Ok(()) = want(&mut desk.wanted, weights) else {
-        drop(prices);
+    let Ok(()) = want(&mut desk.wanted, solved.weights.as_slice()) else {
+        drop(solved);
         return Err(Memory);
     };
     let cuts = path.cuts();
-    let value = shown_value(instance, graph, &mut desk.pricing, derives, &prices, cuts);
+    let value = shown_value(
+        instance,
+        graph,
+        &mut desk.pricing,
+        derives,
+        &solved.prices,
+        cuts,
+    );
     let Ok(plan) = plan_for(
         alloc,
         instance,
@@ -142,13 +150,13 @@ fn best_leaf(
         cuts,
         path.arc_box(),
         loose,
-        weights,
+        &solved,
         value,
         pool,
         &mut desk.rosters,
         &mut progress.best,
     ) else {
-        drop(prices);
+        drop(solved);
         return Err(Memory);
     };
     let processed = progress.tree.processed();
@@ -157,17 +165,17 @@ fn best_leaf(
         instance,
         graph,
         cuts,
-        weights,
+        solved.weights.as_slice(),
         processed,
         leaf.bound.max(value),
         desk,
         pool,
         &mut progress.best,
     ) else {
-        drop(prices);
+        drop(solved);
         return Err(Memory);
     };
-    progress.tree.price(leaf, prices, value, plan)
+    progress.tree.price(leaf, solved.prices, value, plan)
 }
 
 /// Processes a leaf whose path leaves an arc more than one count: prices it, or splits it where its master
@@ -216,25 +224,10 @@ pub(crate) fn price_leaf<M: Master>(
         &desk.wanted,
         master,
     )?;
-    match end {
-        NodeEnd::Failed(_) => fail_leaf(instance, graph, path, loose, progress, leaf),
-        NodeEnd::Best {
-            prices,
-            value: _,
-            weights,
-        } => best_leaf(
-            alloc,
-            instance,
-            graph,
-            derives,
-            path,
-            loose,
-            prices,
-            weights.as_slice(),
-            desk,
-            pool,
-            progress,
-            leaf,
+    match solved_of(end) {
+        Some(solved) => best_leaf(
+            alloc, instance, graph, derives, path, loose, solved, desk, pool, progress, leaf,
         ),
+        None => fail_leaf(instance, graph, path, loose, progress, leaf),
     }
 }

@@ -21,6 +21,7 @@ mod pinned;
 mod preferred;
 mod progress;
 mod rounded;
+mod solved;
 mod turn;
 mod value;
 
@@ -28,4 +29,4 @@ pub use branching::search;
 pub use found::Found;
 pub use node_master::Pool;
 pub use roster_model::Done;
-pub use search_master::{FailingMaster, Master, PlainMaster};
+pub use search_master::{FailingMaster, Master, NearMaster, PlainMaster};

@@ -4,9 +4,9 @@ ghost use Rattle.roster_model.specs.SoundInstance.{IsSoundInstance};
 ghost use Rattle.master_laws.specs.Rows.{rows_of};
 ghost use Rattle.roster_model.specs.Limits.{IsSmallCut};
 
+use crate::rounded::in_parts;
 use arc_branch::ArcBox;
 use candidate_rosters::Roster;
-use fraction::Frac;
 use node_master::{Pool, Weight};
 use offers::limit;
 use parse_graph::Graph;
@@ -20,18 +20,13 @@ const ONE: i128 = 4_294_967_296;
 /// The greatest weight.
 const MOST_WEIGHT: i128 = 64 * ONE;
 
-/// Returns a weight in units of 2^-32.
-fn in_units(x: Frac) -> i64 {
-    (x.num().saturating_mul(ONE) / x.den()).clamp(0, MOST_WEIGHT) as i64
-}
-
 /// Returns the weights as shares.
 fn shares_of(alloc: Global, weights: &[Weight]) -> Result<List<Share>, Memory> {
     let mut shares = List::new(alloc);
     for weight in weights {
         shares.push(Share {
             column: weight.column,
-            weight: in_units(weight.x),
+            weight: in_parts(weight.x, ONE).clamp(0, MOST_WEIGHT) as i64,
         })?;
     }
     Ok(shares)

@@ -1,4 +1,4 @@
-ghost use Rattle.std.specs.Prelude.{ℕ, ◌≡◌, ◌≤◌, ◌<◌, All, IfOk, OnOk, IfSome, length};
+ghost use Rattle.std.specs.Prelude.{ℕ, pos, ◌≡◌, ◌≤◌, ◌<◌, ◌<ℤ◌, All, IfOk, OnOk, IfSome, length};
 ghost use Rattle.roster_model.specs.SoundInstance.{IsSoundInstance};
 ghost use Rattle.tree_pool.specs.Pools.{IsPool};
 ghost use Rattle.candidate_rosters.specs.Rosters.{IsGoodRoster, IsDeskFor};
@@ -16,20 +16,46 @@ use std::alloc::Global;
 const PARTS: u32 = 8;
 
 /// The greatest number of employees.
-const MOST_EMPLOYEES: i128 = 64;
+const MOST_EMPLOYEES: u32 = 64;
+
+/// In how many units a weight is read before it is rounded down: one that lacks a little of a whole number
+/// counts as that number.
+const UNITS: u32 = 1 << 20;
+
+/// Returns a quotient, rounded toward 0.
+fn quotient(n: i128, d: i128) -> i128
+    requires { pos 0 <ℤ d }
+{
+    n / d
+}
+
+/// Returns a weight in units of 1 / `parts`, rounded to the nearest.
+pub(crate) fn in_parts(x: Frac, parts: i128) -> i128 {
+    let d = x.den();
+    let whole = (x.num() / d).saturating_mul(parts);
+    let rest = (x.num() % d).saturating_mul(parts);
+    whole.saturating_add(quotient(rest.saturating_add(d / 2), d))
+}
+
+/// Returns a weight in units of 2^-20, at most 64.
+fn in_units(x: Frac) -> u32
+    ensures { result ≤ 67108864 }
+{
+    in_parts(x, i128::from(UNITS)).clamp(0, i128::from(MOST_EMPLOYEES * UNITS)) as u32
+}
 
 /// Returns the whole part of a weight, at most 64.
 fn whole(x: Frac) -> u32
     ensures { result ≤ 64 }
 {
-    (x.num() / x.den()).clamp(0, MOST_EMPLOYEES) as u32
+    in_units(x) / UNITS
 }
 
 /// Returns the fraction of a weight in eighths, rounded down.
 fn eighths(x: Frac) -> u32
     ensures { result ≤ 7 }
 {
-    ((x.num() % x.den()).saturating_mul(8) / x.den()).clamp(0, 7) as u32
+    in_units(x) / (UNITS / PARTS) % PARTS
 }
 
 /// Adds a column so often, while there are fewer than so many in all.

@@ -13,7 +13,8 @@ use Rattle.certificates.specs.Nodes.{visits, Visit}
 use Rattle.certificates.specs.Sound.{AreFit, ListNoZero}
 use Rattle.certificate_laws.specs.Accepted.{IsOnArc, LeavesBoth, IsTight}
 use Rattle.certificate_laws.specs.Shown.{Shows}
-use Rattle.master_laws.specs.Sharp.{IsHard, IsSharp}
+use Rattle.master_laws.specs.Sharp.{IsHard}
+use Rattle.near_laws.specs.NearSharp.{IsSharpFor}
 use Rattle.growing_laws.specs.Boxes.{IsOpenLeaf}
 use Rattle.bound_laws.specs.Points.{IsPoints}
 use Rattle.roster_model.specs.SoundInstance.{IsSoundInstance}
@@ -43,10 +44,12 @@ pub record IsSplitAt (i : Instance) (path : List Cut) (a : ArcKey) (b : ℕ) : T
   pub low : lo path a ≤ b
   pub high : b < hi i.heads_max path a
 
--- a split of a node whose master failed, or a sharp one of a node with prices, which show at most `low`
+-- a split of a node whose master failed, or a sharp one of a node with prices, or one that is near-sharp for
+-- them; they show at most `low`
 abbrev pub IsOwn : Instance → Bool → ℕ → List Cut → ArcKey → ℕ → Option Own → Type 0
 IsOwn i strict low path a b None = IsTrue strict → IsHard i path
-IsOwn i strict low path a b (Some o) = IsPricedNode i path o × IsSharp i path a b × (o.value ≤ low)
+IsOwn i strict low path a b (Some o) = IsPricedNode i path o × IsSharpFor i path o.prices a b
+    × (o.value ≤ low)
 
 abbrev pub IsSplit : Instance → Bool → ℕ → List Cut → ArcKey → ℕ → Option Own → Type 0
 IsSplit i strict low path a b own = IsSplitAt i path a b × IsOwn i strict low path a b own

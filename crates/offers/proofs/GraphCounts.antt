@@ -1,12 +1,12 @@
 -- Counts over the arcs in the order of a graph, and over the arcs in their own order.
-use Rattle.std.proofs.Common.{◌≡◌, ℕ, arith, ◌*◌, cond, List, Result, Ok, Err, IfOk, map, sym, ◌∙◌}
+use Rattle.std.proofs.Common.{◌≡◌, ℕ, arith, ◌*◌, cond, List, sym, ◌∙◌}
 use Rattle.roster_model.specs.declared.grammar.ArcKey.{ArcKey}
 use Rattle.roster_model.specs.declared.grammar.Grammar.{Grammar}
 use Rattle.roster_model.specs.declared.instance.Instance.{Instance}
 use Rattle.roster_model.specs.Arcs.{same_arc, IsArc}
-use Rattle.roster_model.specs.Folds.{sum_n, count, Each}
+use Rattle.roster_model.specs.Folds.{sum_n, count}
 use Rattle.roster_model.specs.SoundInstance.{IsSoundInstance}
-use Rattle.roster_model.specs.Trees.{Parts, IsDayTree, steps}
+use Rattle.roster_model.specs.Trees.{Parts}
 use Rattle.arc_laws.specs.OrNodes.{OrNode, name, suffix, same_node, made, used}
 use Rattle.arc_laws.specs.Lists.{AreArcs}
 use Rattle.arc_laws.specs.Balance.{made_sum, used_sum, IsBalanced}
@@ -17,12 +17,8 @@ use Rattle.arc_laws.proofs.StandOnceLemmas.{once-counted}
 use Rattle.parse_graph.specs.Graphs.{GraphView, HasArcs, IsGraph}
 use Rattle.parse_graph.proofs.PlacesLemmas.{in-graph, of-graph}
 use Rattle.roster_split.specs.Counts.{count_of}
-use Rattle.roster_model.specs.declared.grammar.Step.{Step}
-use Rattle.roster_split.specs.Splits.{HasBalance, IsSplit}
+use Rattle.roster_split.specs.Splits.{HasBalance}
 use Rattle.split_laws.specs.Splits.{AreTreesOf}
-use Rattle.tree_pool.specs.Pools.{PoolTree}
-use Rattle.candidate_rosters.specs.Rosters.{AreTreesAt}
-use Rattle.offers.specs.Finding.{AreColumnsOf}
 use Rattle.offers.specs.Offers.{CanBeTrees, HaveCountsOf}
 
 module _ (g : Grammar) (xs : List ArcKey) (arcs : HasArcs g xs) (listed : List ArcKey) (are : AreArcs g listed) (v : ArcKey → ℕ) where
@@ -58,23 +54,9 @@ module _ (i : Instance) (v : GraphView) (counts : List ℕ) (graph : IsGraph i.g
     balanced = balanced-moved i.grammar v.arcs graph.arcs can.listed can.are (count_of v.arcs counts) can.balanced;
   }
 
-  -- so trees that were split off are trees of the day with these counts
-  pub split-of : (sound : IsSoundInstance i) (can : CanBeTrees i v counts) (written : List (List Step))
-      → ((has : HasBalance v counts) → IsSplit has.g v counts written) → IsSplit i.grammar v counts written
-  unfolding has-balance
-  split-of sound can written f = f (has-balance sound can)
-
   -- trees that have the counts by the arcs of the graph have them by any list of the arcs
   pub have-counts : (ts : List Parts) → AreTreesOf i.grammar v.arcs (count_of v.arcs counts) ts → HaveCountsOf i v counts ts
   have-counts ts h = λ listed are. record {
     day = h.day;
     counts = λ a here. h.counts a (of-graph i.grammar v.arcs graph.arcs a (are.sound a here));
   }
-
-  -- so their numbers in the pool are those of trees that have the counts
-  pub columns-of : {E : Type 0} (written given : List (List Step)) (pool : List PoolTree) → IsSplit i.grammar v counts written → given ≡ written
-      → (result : Result (List ℕ) E)
-      → IfOk result (λ columns. (ts : List Parts) → Each (IsDayTree i.grammar) ts → given ≡ map (steps 1) ts → AreTreesAt i.grammar pool columns ts)
-      → IfOk result (AreColumnsOf i v counts pool)
-  columns-of written given pool s e (Ok columns) h = (s.trees, have-counts s.trees s.are, h s.trees s.are.day (e ∙ s.uses))
-  columns-of written given pool s e (Err x) h = tt

@@ -65,7 +65,7 @@ pub record AsksPriced (w : TreeView) (leaf : OpenLeaf) (prices : Prices) (value 
   pub taken : AsksLeaf w leaf
   pub priced : IsPricedNode taken.site.day taken.path (record { prices = prices; value = value })
   pub loose : IsLoosePath taken.site.day taken.path
-  pub planned : MatchOption plan (taken.limit ≤ value) (IsPlan taken.site.day taken.site.graph taken.path)
+  pub planned : MatchOption plan (taken.limit ≤ value) (IsPlan taken.site.day taken.site.graph taken.path prices)
 
 -- the leaf's master failed, and its count was `later` then
 pub record AsksFailed (w : TreeView) (leaf : OpenLeaf) (arc : ArcKey) (b later : ℕ) : Type 0 where

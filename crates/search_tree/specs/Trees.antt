@@ -3,13 +3,14 @@ use Rattle.std.specs.Prelude.{ℕ, ◌≡◌, ◌≢◌, ◌≤◌, ◌+◌, ◌
 use Rattle.roster_model.specs.declared.grammar.ArcKey.{ArcKey}
 use Rattle.roster_model.specs.declared.instance.Cut.{Cut}
 use Rattle.roster_model.specs.declared.instance.Instance.{Instance}
+use Rattle.roster_model.specs.declared.instance.Prices.{Prices}
 use Rattle.roster_model.specs.Cuts.{base_cuts}
 use Rattle.roster_model.specs.Folds.{count, Each}
 use Rattle.certificates.specs.Kinds.{is_unpriced}
 use Rattle.certificates.specs.Nodes.{Visit, visits}
 use Rattle.parse_graph.specs.Graphs.{GraphView}
 use Rattle.master_laws.specs.Rows.{rows_of}
-use Rattle.master_laws.specs.Sharp.{IsSharp}
+use Rattle.near_laws.specs.NearSharp.{IsSharpFor}
 use Rattle.growing_laws.specs.Grown.{Grown, Leaf, fresh, valued, fixed, OnTips, times, busy, missed, proof_of}
 use Rattle.growing_laws.specs.States.{IsGrowing, IsSplitAt}
 use Rattle.growing_laws.specs.Seats.{HoldTree, IsUnsplit}
@@ -26,17 +27,17 @@ last_count = 2 ^ 64 - 1
 abbrev pub is_too_long : Instance → Visit → Bool
 is_too_long i v = is_unpriced v.node && nat_lt 1500 (length (rows_of i v.path))
 
--- a sharp split on an arc of the graph
-pub record IsPlan (i : Instance) (v : GraphView) (path : List Cut) (p : Plan) : Type 0 where
+-- a split on an arc of the graph, sharp or near-sharp for these prices
+pub record IsPlan (i : Instance) (v : GraphView) (path : List Cut) (prices : Prices) (p : Plan) : Type 0 where
   pub key : ArcKey
   pub at : slice_get v.arcs p.arc ≡ Some key
   pub splits : IsSplitAt i path key p.b
-  pub sharp : IsSharp i path key p.b
+  pub sharp : IsSharpFor i path prices key p.b
 
 -- a leaf with prices has a plan, or they show no less than the limit; other leaves have none
 abbrev pub HasPlan : Instance → GraphView → ℕ → List Cut → Leaf → Option Plan → Type 0
 HasPlan i v limit path fresh plan = plan ≡ None
-HasPlan i v limit path (valued o) plan = MatchOption plan (limit ≤ o.value) (IsPlan i v path)
+HasPlan i v limit path (valued o) plan = MatchOption plan (limit ≤ o.value) (IsPlan i v path o.prices)
 HasPlan i v limit path (fixed x) plan = plan ≡ None
 
 -- what is kept of a waiting leaf is right

@@ -1,4 +1,4 @@
-use Rattle.std.proofs.Common.{List, sym, subst, ◌∙◌}
+use Rattle.std.proofs.Common.{List, sym, subst}
 use Rattle.roster_model.specs.declared.instance.Cut.{Cut}
 use Rattle.bound_laws.specs.Pinned.{IsPinned, IsPinnedValue}
 use Rattle.branch_price.specs.Plans.{AskForArcs}

@@ -1,35 +1,54 @@
-use Rattle.std.proofs.Common.{ℕ, ◌<◌, List, ◌++◌, arith, sym, subst}
+use Rattle.std.proofs.Common.{◌≡◌, ℕ, All, ◌<◌, List, arith, length, sym, subst}
 use Rattle.roster_model.specs.declared.instance.Cut.{Cut}
-use Rattle.master_laws.specs.Laws.{IsBelowHeads}
-use Rattle.arc_weights.specs.Weighed.{IsWeighed, AreWhole}
-use Rattle.arc_weights.specs.declared.weighed.Weighed.{Weighed}
-use Rattle.offers.specs.Offers.{CanBeTrees, limit_of}
-use Rattle.branch_price.proofs.StepsLemmas.{loose-within}
-use Rattle.branch_price.proofs.ShownValues.{shown-within}
-use Rattle.branch_price.proofs.PlansLemmas.{between-plan, least-plan, whole-trees, whole-reach, artificial-plan}
-use Rattle.branch_price.proofs.choose.plan_for.Goals as goal
 use Rattle.roster_model.specs.Limits.{IsSmallCut}
 use Rattle.roster_model.proofs.EachLemmas.{Each-weaker}
+use Rattle.master_laws.specs.Laws.{IsBelowHeads}
+use Rattle.node_columns.specs.declared.weights.Weight.{Weight}
+use Rattle.node_master.specs.Ends.{AreSolved}
+use Rattle.arc_weights.specs.Weighed.{IsWeighed}
+use Rattle.arc_weights.specs.declared.weighed.Weighed.{Weighed}
+use Rattle.arc_weights.specs.declared.weighed.Weighed.TheVariants.{Whole, Between, Other}
+use Rattle.offers.specs.Offers.{limit_of}
+use Rattle.branch_price.proofs.StepsLemmas.{loose-within}
+use Rattle.branch_price.proofs.PlansLemmas.{Reaches, weights-of, between-plan, other-anywhere, whole-each, whole-anywhere, least-plan}
+use Rattle.branch_price.proofs.choose.plan_for.Goals as goal
 
 pub preferred_arc-requires-clause-cuts : goal.preferred_arc-requires-clause-cuts
 preferred_arc-requires-clause-cuts c =
     let few = c.requires.sound.few in
     Each-weaker (IsBelowHeads c.args.instance.now) IsSmallCut c.args.cuts.now (λ (k : Cut) h. omega (arith, h, few)) c.requires.shown.below
 
+pub weigh-requires-clause-weights : goal.weigh-requires-clause-weights
+weigh-requires-clause-weights c =
+    let s = c.args.solved.now in
+    subst (λ (ws : List Weight). AreSolved s.solution c.args.instance.now c.args.cuts.now c.args.pool.now ws) (sym c.as_slice-weights.ensures)
+    (weights-of s.solution c.args.instance.now c.args.cuts.now c.args.pool.now s.prices s.weights c.requires.shown.solved.how)
+
 pub offer_rounded-requires-clause-weights : goal.offer_rounded-requires-clause-weights
-offer_rounded-requires-clause-weights c = shown-within c.args.instance.now c.args.cuts.now c.args.pool.now c.args.weights.now c.args.value c.requires.shown
+offer_rounded-requires-clause-weights c =
+    subst (λ (ws : List Weight). All (λ (w : Weight). w.column < length c.args.pool.now) ws) (sym c.as_slice-weights.ensures) c.requires.shown.solved.within
 
 pub returns-in-Between-clause-plan : goal.returns-in-Between-clause-plan
 returns-in-Between-clause-plan c =
-    between-plan c.args.instance.now c.args.graph.now c.args.cuts.now c.args.pool.now c.args.weights.now c.args.value c.in-Between.arc c.in-Between.b c.requires.graph c.requires.shown
-    (subst (λ (w : Weighed). IsWeighed c.args.instance.now c.args.graph.now c.args.cuts.now c.args.pool.now c.args.weights.now w) c.in-Between.is c.in_ok-arc.ensures)
+    let i = c.args.instance.now in
+    let v = c.args.graph.now in
+    let cuts = c.args.cuts.now in
+    let pool = c.args.pool.now in
+    let s = c.args.solved.now in
+    let told = subst (λ (ws : List Weight). IsWeighed i v cuts pool ws s.solution (Between c.in-Between.arc c.in-Between.b)) c.as_slice-weights.ensures
+    (subst (λ (x : Weighed). IsWeighed i v cuts pool c.as_slice-weights.result.now s.solution x) c.in-Between.is c.in_ok-arc.ensures) in
+    between-plan s.solution i v cuts pool s.prices s.weights c.in-Between.arc c.in-Between.b c.requires.graph c.requires.shown.solved.how told
 
 pub offer_counts-requires-clause-counts : goal.offer_counts-requires-clause-counts
 offer_counts-requires-clause-counts c =
-    let whole : AreWhole c.args.instance.now c.args.graph.now c.args.cuts.now c.args.pool.now c.args.weights.now c.in-Whole.counts
-    = subst (λ (w : Weighed). IsWeighed c.args.instance.now c.args.graph.now c.args.cuts.now c.args.pool.now c.args.weights.now w) c.in-Whole.is c.in_ok-arc.ensures in
-    subst (λ (xs : List ℕ). CanBeTrees c.args.instance.now c.args.graph.now xs) (sym c.as_slice.ensures)
-    (whole-trees c.args.instance.now c.args.graph.now c.args.cuts.now c.args.pool.now c.args.weights.now c.in-Whole.counts c.requires.sound c.requires.graph c.requires.shown.solved.best.weighted whole)
+    let i = c.args.instance.now in
+    let v = c.args.graph.now in
+    let cuts = c.args.cuts.now in
+    let pool = c.args.pool.now in
+    let s = c.args.solved.now in
+    let told = subst (λ (ws : List Weight). IsWeighed i v cuts pool ws s.solution (Whole c.in-Whole.counts)) c.as_slice-weights.ensures
+    (subst (λ (x : Weighed). IsWeighed i v cuts pool c.as_slice-weights.result.now s.solution x) c.in-Whole.is c.in_ok-arc.ensures) in
+    subst (λ (xs : List ℕ). length xs ≡ length v.arcs) (sym c.as_slice.ensures) (whole-each s.solution i v cuts pool s.weights c.in-Whole.counts told)
 
 pub at_least-requires : goal.at_least-requires
 at_least-requires c =
@@ -42,14 +61,13 @@ returns-in-Whole-clause-plan c =
     let v = c.args.graph.now in
     let cuts = c.args.cuts.now in
     let pool = c.args.pool.now in
-    let weights = c.args.weights.now in
-    let w = c.requires.shown.solved.best.weighted in
-    let whole : AreWhole i v cuts pool weights c.in-Whole.counts
-    = subst (λ (x : Weighed). IsWeighed i v cuts pool weights x) c.in-Whole.is c.in_ok-arc.ensures in
-    let reach = whole-reach i v cuts pool weights c.args.value c.in-Whole.counts c.requires.graph c.requires.shown whole in
-    let reached = c.in_ok-offer_counts-in-Whole.ensures.reached c.args.value cuts (w.trees ++ w.others) (rw (← c.as_slice.ensures) at reach) in
-    least-plan i v cuts pool weights c.args.value c.args.loose c.args.arc_box.now c.at_least.result c.requires.graph c.requires.left c.requires.loose c.at_least.ensures w
-    (artificial-plan i cuts (w.trees ++ w.others) w.d (limit_of i c.offer_counts.new.best) c.args.value reached (rw c.limit-in-Whole.ensures at c.if-limit-value-2.false))
+    let s = c.args.solved.now in
+    let told = subst (λ (ws : List Weight). IsWeighed i v cuts pool ws s.solution (Whole c.in-Whole.counts)) c.as_slice-weights.ensures
+    (subst (λ (x : Weighed). IsWeighed i v cuts pool c.as_slice-weights.result.now s.solution x) c.in-Whole.is c.in_ok-arc.ensures) in
+    let limit = limit_of i c.offer_counts.new.best in
+    let reaches : Reaches i v c.in-Whole.counts limit = subst (λ (xs : List ℕ). Reaches i v xs limit) c.as_slice.ensures c.in_ok-offer_counts-in-Whole.ensures.reached in
+    least-plan i v cuts s.prices c.args.loose c.args.arc_box.now c.at_least.result c.requires.graph c.requires.left c.requires.loose c.at_least.ensures
+    (whole-anywhere i v cuts pool s c.args.value limit c.in-Whole.counts c.requires.sound c.requires.graph c.requires.shown told reaches (rw c.limit-in-Whole.ensures at c.if-limit-value-2.false))
 
 pub at_least-requires-in-Other : goal.at_least-requires-in-Other
 at_least-requires-in-Other c =
@@ -62,7 +80,8 @@ returns-clause-plan c =
     let v = c.args.graph.now in
     let cuts = c.args.cuts.now in
     let pool = c.args.pool.now in
-    let weights = c.args.weights.now in
-    let w = c.requires.shown.solved.best.weighted in
-    let why = (subst (λ (x : Weighed). IsWeighed i v cuts pool weights x) c.in-Other.is c.in_ok-arc.ensures) w in
-    least-plan i v cuts pool weights c.args.value c.args.loose c.args.arc_box.now c.at_least-in-Other.result c.requires.graph c.requires.left c.requires.loose c.at_least-in-Other.ensures w why
+    let s = c.args.solved.now in
+    let told = subst (λ (ws : List Weight). IsWeighed i v cuts pool ws s.solution (Other)) c.as_slice-weights.ensures
+    (subst (λ (x : Weighed). IsWeighed i v cuts pool c.as_slice-weights.result.now s.solution x) c.in-Other.is c.in_ok-arc.ensures) in
+    least-plan i v cuts s.prices c.args.loose c.args.arc_box.now c.at_least-in-Other.result c.requires.graph c.requires.left c.requires.loose c.at_least-in-Other.ensures
+    (other-anywhere s.solution i v cuts pool s.prices s.weights c.requires.shown.solved.how told)

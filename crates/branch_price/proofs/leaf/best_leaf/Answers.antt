@@ -1,15 +1,16 @@
-use Rattle.std.proofs.Common.{All, ◌≤◌, List, length, sym, subst}
+use Rattle.std.proofs.Common.{All, ◌<◌, ◌≤◌, List, length, sym, subst}
 use Rattle.std.proofs.lemmas.Result.{on_ok_weaker}
 use Rattle.roster_model.specs.declared.instance.Cut.{Cut}
 use Rattle.roster_model.specs.Folds.{Each}
 use Rattle.bound_laws.specs.Priced.{IsPricedValue}
 use Rattle.roster_model.specs.Limits.{IsSmallCut}
 use Rattle.master_laws.specs.Rows.{rows_of}
-use Rattle.branch_price.specs.Steps.{IsShown}
+use Rattle.node_columns.specs.declared.weights.Weight.{Weight}
+use Rattle.branch_price.specs.Solutions.{IsShown}
 use Rattle.branch_price.proofs.Leaves.{leaf-cuts}
 use Rattle.candidate_rosters.proofs.PoolNumbers.{grown-more}
 use Rattle.branch_price.proofs.BetterRosters.{better-more, plan-later, weights-later}
-use Rattle.branch_price.proofs.ShownValues.{small-cuts, few-cuts, is-shown, priced-node, shown-within}
+use Rattle.branch_price.proofs.ShownValues.{small-cuts, few-cuts, is-shown, priced-node}
 use Rattle.branch_price.proofs.StepsLemmas.{asks-priced, turned-by, loose-path}
 use Rattle.branch_price.proofs.leaf.best_leaf.Goals as goal
 
@@ -26,20 +27,14 @@ plan_for-requires-clause-shown c =
     let i = c.args.instance.now in
     let p = c.args.path.now in
     let are = leaf-cuts i c.args.graph.now r.0 r.1 r.2 r.3 c.args.progress.now c.args.leaf p.cuts c.requires.sound r.4 in
-    let value = subst (λ (cs : List Cut). IsPricedValue i c.args.prices cs c.shown_value-value.result) c.cuts-cuts.ensures c.shown_value-value.ensures.value in
-    subst (λ (cs : List Cut). IsShown i cs c.args.pool.now c.args.weights.now c.shown_value-value.result) (sym c.cuts-cuts.ensures)
-    (is-shown i p.cuts c.args.pool.now c.args.prices c.args.weights.now c.shown_value-value.result are c.requires.solved value)
+    let value = subst (λ (cs : List Cut). IsPricedValue i c.args.solved.prices cs c.shown_value-value.result) c.cuts-cuts.ensures c.shown_value-value.ensures.value in
+    subst (λ (cs : List Cut). IsShown i cs c.args.pool.now c.args.solved c.shown_value-value.result) (sym c.cuts-cuts.ensures)
+    (is-shown i p.cuts c.args.pool.now c.args.solved c.shown_value-value.result are c.requires.solved value)
 
 pub offer_at_node-requires-clause-weights : goal.offer_at_node-requires-clause-weights
 offer_at_node-requires-clause-weights c =
-    let r = c.requires.node in
-    let i = c.args.instance.now in
-    let p = c.args.path.now in
-    let are = leaf-cuts i c.args.graph.now r.0 r.1 r.2 r.3 c.args.progress.now c.args.leaf p.cuts c.requires.sound r.4 in
-    let value = subst (λ (cs : List Cut). IsPricedValue i c.args.prices cs c.shown_value-value.result) c.cuts-cuts.ensures c.shown_value-value.ensures.value in
-    weights-later c.args.pool.now c.plan_for.new.pool c.args.weights.now c.plan_for.ensures.grown
-    (shown-within i p.cuts c.args.pool.now c.args.weights.now c.shown_value-value.result
-    (is-shown i p.cuts c.args.pool.now c.args.prices c.args.weights.now c.shown_value-value.result are c.requires.solved value))
+    subst (λ (ws : List Weight). All (λ (w : Weight). w.column < length c.plan_for.new.pool) ws) (sym c.as_slice-2.ensures)
+    (weights-later c.args.pool.now c.plan_for.new.pool c.args.solved.weights c.plan_for.ensures.grown c.requires.solved.within)
 
 pub offer_at_node-requires-clause-cuts : goal.offer_at_node-requires-clause-cuts
 offer_at_node-requires-clause-cuts c =
@@ -61,12 +56,12 @@ price-requires c =
     let v = c.args.graph.now in
     let p = c.args.path.now in
     let are = leaf-cuts i v r.0 r.1 r.2 r.3 c.args.progress.now c.args.leaf p.cuts c.requires.sound r.4 in
-    let value = subst (λ (cs : List Cut). IsPricedValue i c.args.prices cs c.shown_value-value.result) c.cuts-cuts.ensures c.shown_value-value.ensures.value in
-    let priced = priced-node i p.cuts c.args.pool.now c.args.prices c.args.weights.now c.shown_value-value.result are c.requires.solved value in
+    let value = subst (λ (cs : List Cut). IsPricedValue i c.args.solved.prices cs c.shown_value-value.result) c.cuts-cuts.ensures c.shown_value-value.ensures.value in
+    let priced = priced-node i p.cuts c.args.pool.now c.args.solved c.shown_value-value.result are c.requires.solved value in
     let loose = loose-path i v p.cuts p.arc_box c.requires.path.left c.args.loose c.requires.loose c.requires.graph in
     let better = better-more i c.args.progress.now.best c.plan_for.new.best c.offer_at_node.new.best c.plan_for.ensures.better c.offer_at_node.ensures.better in
-    let plan = plan-later i v p.cuts c.in-Ok-plan_for.plan c.shown_value-value.result c.plan_for.new.best c.offer_at_node.new.best c.offer_at_node.ensures.better (rw c.cuts-cuts.ensures at c.in-Ok-plan_for.ensures.plan) in
-    asks-priced i v r.0 r.1 r.2 r.3 c.args.progress.now c.args.leaf p.cuts c.offer_at_node.new.best c.args.prices c.shown_value-value.result c.in-Ok-plan_for.plan r.4
+    let plan = plan-later i v p.cuts c.args.solved.prices c.in-Ok-plan_for.plan c.shown_value-value.result c.plan_for.new.best c.offer_at_node.new.best c.offer_at_node.ensures.better (rw c.cuts-cuts.ensures at c.in-Ok-plan_for.ensures.plan) in
+    asks-priced i v r.0 r.1 r.2 r.3 c.args.progress.now c.args.leaf p.cuts c.offer_at_node.new.best c.args.solved.prices c.shown_value-value.result c.in-Ok-plan_for.plan r.4
     better priced loose plan
 
 pub returns-clause-turned : goal.returns-clause-turned
@@ -74,16 +69,16 @@ returns-clause-turned c =
     let i = c.args.instance.now in
     let v = c.args.graph.now in
     let p = c.args.path.now in
-    let value = subst (λ (cs : List Cut). IsPricedValue i c.args.prices cs c.shown_value-value.result) c.cuts-cuts.ensures c.shown_value-value.ensures.value in
+    let value = subst (λ (cs : List Cut). IsPricedValue i c.args.solved.prices cs c.shown_value-value.result) c.cuts-cuts.ensures c.shown_value-value.ensures.value in
     let loose = loose-path i v p.cuts p.arc_box c.requires.path.left c.args.loose c.requires.loose c.requires.graph in
     let better = better-more i c.args.progress.now.best c.plan_for.new.best c.offer_at_node.new.best c.plan_for.ensures.better c.offer_at_node.ensures.better in
-    let plan = plan-later i v p.cuts c.in-Ok-plan_for.plan c.shown_value-value.result c.plan_for.new.best c.offer_at_node.new.best c.offer_at_node.ensures.better (rw c.cuts-cuts.ensures at c.in-Ok-plan_for.ensures.plan) in
+    let plan = plan-later i v p.cuts c.args.solved.prices c.in-Ok-plan_for.plan c.shown_value-value.result c.plan_for.new.best c.offer_at_node.new.best c.offer_at_node.ensures.better (rw c.cuts-cuts.ensures at c.in-Ok-plan_for.ensures.plan) in
     on_ok_weaker c.price.result
     (λ done strict before now low asked.
     let are = leaf-cuts i v strict before now low c.args.progress.now c.args.leaf p.cuts c.requires.sound asked in
-    let priced = priced-node i p.cuts c.args.pool.now c.args.prices c.args.weights.now c.shown_value-value.result are c.requires.solved value in
+    let priced = priced-node i p.cuts c.args.pool.now c.args.solved c.shown_value-value.result are c.requires.solved value in
     turned-by i v strict before now now low c.args.progress.now c.args.leaf p.cuts c.offer_at_node.new.best c.price.new.self asked better
-    (done (asks-priced i v strict before now low c.args.progress.now c.args.leaf p.cuts c.offer_at_node.new.best c.args.prices c.shown_value-value.result c.in-Ok-plan_for.plan asked
+    (done (asks-priced i v strict before now low c.args.progress.now c.args.leaf p.cuts c.offer_at_node.new.best c.args.solved.prices c.shown_value-value.result c.in-Ok-plan_for.plan asked
     better priced loose plan)))
     c.price.ensures
 

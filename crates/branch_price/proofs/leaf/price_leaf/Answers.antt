@@ -1,14 +1,13 @@
-use Rattle.std.proofs.Common.{◌≡◌, ◌<◌, ◌^◌, List, length, sym, subst}
+use Rattle.std.proofs.Common.{◌<◌, ◌^◌, List, length, sym, subst, ◌∙◌}
 use Rattle.std.proofs.lemmas.Result.{on_ok_weaker}
 use Rattle.roster_model.specs.declared.instance.Cut.{Cut}
 use Rattle.roster_model.specs.Folds.{Each}
-use Rattle.node_master.specs.declared.ends.NodeEnd.{NodeEnd}
-use Rattle.node_columns.specs.declared.weights.Weight.{Weight}
 use Rattle.node_master.specs.Ends.{IsNodeCut}
-use Rattle.search_master.specs.Refusals.{EndsWell, counted}
-use Rattle.branch_price.specs.Steps.{IsSolved, IsGivenUp}
+use Rattle.branch_price.specs.Solutions.{IsSolved}
+use Rattle.branch_price.specs.Steps.{IsGivenUp}
 use Rattle.branch_price.proofs.Leaves.{leaf-cuts}
-use Rattle.branch_price.proofs.StepsLemmas.{later-node, given-up}
+use Rattle.branch_price.proofs.StepsLemmas.{later-node}
+use Rattle.branch_price.proofs.SolvedEnds.{solved-end, failed-end}
 use Rattle.candidate_rosters.proofs.PoolNumbers.{grown-more}
 use Rattle.branch_price.proofs.leaf.price_leaf.Goals as goal
 
@@ -32,9 +31,7 @@ fail_leaf-requires-clause-node g c =
     let i = c.args.instance.now in
     let strict = g.M.Master.strict c.args.master.now in
     let now = g.M.Master.refused c.args.master.now in
-    let later = g.M.Master.refused c.node.new.master in
-    let ends = subst (λ (e : NodeEnd). EndsWell i c.cuts.result.now c.node.new.pool strict e) c.in-Failed.is c.in_ok-end.ensures.end in
-    let counts = subst (λ (e : NodeEnd). later ≡ counted now e) c.in-Failed.is c.in_ok-end.ensures.counts in (
+    let later = g.M.Master.refused c.node.new.master in (
       strict,
       r.0,
       now,
@@ -42,32 +39,28 @@ fail_leaf-requires-clause-node g c =
       later,
       r.2,
       subst (λ (cs : List Cut). IsGivenUp i strict now later cs) c.cuts.ensures
-          (given-up i c.cuts.result.now c.node.new.pool now later strict c.in-Failed.field-0 ends counts c.node.ensures.within),
+          (failed-end i c.cuts.result.now c.node.new.pool now later strict c.in_ok-end.end c.in_ok-end.ensures.end c.in_ok-end.ensures.counts c.node.ensures.within (sym c.solved_of.ensures ∙ c.in-None.is)),
     )
 
 pub best_leaf-requires-clause-solved : goal.best_leaf-requires-clause-solved
 best_leaf-requires-clause-solved g c =
     let i = c.args.instance.now in
     let strict = g.M.Master.strict c.args.master.now in
-    let ends = subst (λ (e : NodeEnd). EndsWell i c.cuts.result.now c.node.new.pool strict e) c.in-Best.is c.in_ok-end.ensures.end in
-    let own = rw c.cuts.ensures at ends in
-    subst (λ (ws : List Weight). IsSolved i c.args.path.now.cuts c.node.new.pool c.in-Best.prices ws) (sym c.as_slice.ensures)
-    (record { value = c.in-Best.value; few = own.0; best = own.1 })
+    subst (λ (cs : List Cut). IsSolved i cs c.node.new.pool c.in-Some.solved) c.cuts.ensures
+    (solved-end i c.cuts.result.now c.node.new.pool strict c.in_ok-end.end c.in-Some.solved c.in_ok-end.ensures.end (sym c.solved_of.ensures ∙ c.in-Some.is))
 
-pub returns-in-Failed-clause-turned : goal.returns-in-Failed-clause-turned
-returns-in-Failed-clause-turned g c =
+pub returns-in-None-clause-turned : goal.returns-in-None-clause-turned
+returns-in-None-clause-turned g c =
     let i = c.args.instance.now in
     let strict = g.M.Master.strict c.args.master.now in
     let now = g.M.Master.refused c.args.master.now in
     let later = g.M.Master.refused c.node.new.master in
-    let ends = subst (λ (e : NodeEnd). EndsWell i c.cuts.result.now c.node.new.pool strict e) c.in-Failed.is c.in_ok-end.ensures.end in
-    let counts = subst (λ (e : NodeEnd). later ≡ counted now e) c.in-Failed.is c.in_ok-end.ensures.counts in
     let given = subst (λ (cs : List Cut). IsGivenUp i strict now later cs) c.cuts.ensures
-    (given-up i c.cuts.result.now c.node.new.pool now later strict c.in-Failed.field-0 ends counts c.node.ensures.within) in
+    (failed-end i c.cuts.result.now c.node.new.pool now later strict c.in_ok-end.end c.in_ok-end.ensures.end c.in_ok-end.ensures.counts c.node.ensures.within (sym c.solved_of.ensures ∙ c.in-None.is)) in
     on_ok_weaker c.fail_leaf.result (λ turned before low asked. turned strict before now low later asked given) c.fail_leaf.ensures.turned
 
-pub returns-in-Best-clause-turned : goal.returns-in-Best-clause-turned
-returns-in-Best-clause-turned g c =
+pub returns-in-Some-clause-turned : goal.returns-in-Some-clause-turned
+returns-in-Some-clause-turned g c =
     let i = c.args.instance.now in
     let strict = g.M.Master.strict c.args.master.now in
     let now = g.M.Master.refused c.args.master.now in
@@ -87,10 +80,10 @@ best_leaf-requires-clause-desk g c =
     let d = c.requires.desk in
     record { pricing = record { pricer = c.node.ensures.pricer; room = d.pricing.room; most = d.pricing.most }; rosters = d.rosters }
 
-pub returns-in-Failed-clause-desk : goal.returns-in-Failed-clause-desk
-returns-in-Failed-clause-desk g c =
+pub returns-in-None-clause-desk : goal.returns-in-None-clause-desk
+returns-in-None-clause-desk g c =
     let d = c.requires.desk in
     record { pricing = record { pricer = c.node.ensures.pricer; room = d.pricing.room; most = d.pricing.most }; rosters = d.rosters }
 
-pub returns-in-Best-clause-grown : goal.returns-in-Best-clause-grown
-returns-in-Best-clause-grown g c = grown-more c.args.pool.now c.node.new.pool c.best_leaf.new.pool c.node.ensures.grown c.best_leaf.ensures.grown
+pub returns-in-Some-clause-grown : goal.returns-in-Some-clause-grown
+returns-in-Some-clause-grown g c = grown-more c.args.pool.now c.node.new.pool c.best_leaf.new.pool c.node.ensures.grown c.best_leaf.ensures.grown

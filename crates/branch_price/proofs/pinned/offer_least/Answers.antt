@@ -1,4 +1,4 @@
-use Rattle.std.proofs.Common.{ℕ, List, [], sym, subst}
+use Rattle.std.proofs.Common.{◌≡◌, ℕ, List, [], length, sym, subst, ◌∙◌}
 use Rattle.std.proofs.lemmas.Result.{on_ok_weaker}
 use Rattle.roster_model.specs.Cuts.{lo}
 use Rattle.arc_laws.specs.Counts.{counts_cost}
@@ -11,15 +11,10 @@ use Rattle.branch_price.proofs.pinned.offer_least.Goals as goal
 
 pub offer_counts-requires-clause-counts : goal.offer_counts-requires-clause-counts
 offer_counts-requires-clause-counts c =
-    let i = c.args.instance.now in
-    let v = c.args.graph.now in
-    let p = c.args.path.now in
-    let most = limit-most i c.args.best.now c.requires.sound c.requires.best in
-    let cheap = is-cheap i p.cuts c.args.value (limit_of i c.args.best.now) c.requires.value most (rw c.limit.ensures at c.if-limit-value.false) in
+    let left = c.requires.path.left in
     let least : AreLeast c.arc_box.result.now c.in_ok-counts.counts.items = c.in_ok-counts.ensures in
     let own = subst (λ (b : BoxView). AreLeast b c.in_ok-counts.counts.items) c.arc_box.ensures least in
-    subst (λ (xs : List ℕ). CanBeTrees i v xs) (sym c.deref.ensures.value)
-    (pinned-trees i v c.requires.graph p.cuts p.arc_box c.requires.path.left c.in_ok-counts.counts.items own cheap.listed cheap.are cheap.allowed)
+    subst (λ (xs : List ℕ). length xs ≡ length c.args.graph.now.arcs) (sym c.deref.ensures.value) (own.each ∙ left.made.arcs)
 
 pub returns-clause-reached : goal.returns-clause-reached
 returns-clause-reached c =
@@ -31,7 +26,9 @@ returns-clause-reached c =
     let least : AreLeast c.arc_box.result.now c.in_ok-counts.counts.items = c.in_ok-counts.ensures in
     let own = subst (λ (b : BoxView). AreLeast b c.in_ok-counts.counts.items) c.arc_box.ensures least in
     let reach = pinned-reach i v c.requires.graph p.cuts p.arc_box c.requires.path.left c.in_ok-counts.counts.items own cheap.listed cheap.are cheap.allowed c.requires.sound c.requires.cuts in
+    let can = subst (λ (xs : List ℕ). CanBeTrees i v xs) (sym c.deref.ensures.value)
+    (pinned-trees i v c.requires.graph p.cuts p.arc_box c.requires.path.left c.in_ok-counts.counts.items own cheap.listed cheap.are cheap.allowed) in
     on_ok_weaker c.offer_counts.result
     (λ h. reached i (limit_of i c.offer_counts.new.best) c.args.value (counts_cost i cheap.listed (lo p.cuts))
     (h (counts_cost i cheap.listed (lo p.cuts)) [] [] (subst (λ (xs : List ℕ). Reach i v xs [] [] (counts_cost i cheap.listed (lo p.cuts))) (sym c.deref.ensures.value) reach)) cheap.cost)
-    c.offer_counts.ensures.reached
+    (c.offer_counts.ensures.reached can)
