@@ -1,4 +1,4 @@
-ghost use Rattle.std.specs.Prelude.{◌≡◌, ◌≤◌, ◌+◌, ◌^◌, ℤ, All, IsTrue, OnOk, length, unsigned_abs};
+ghost use Rattle.std.specs.Prelude.{◌≡◌, ◌≤◌, ◌+◌, ◌^◌, ℤ, All, IfSome, OnOk, length, unsigned_abs};
 ghost use Rattle.roster_model.specs.PriceRooms.{IsRoomFor};
 ghost use Rattle.roster_model.specs.SoundInstance.{IsSoundInstance};
 ghost use Rattle.roster_model.specs.Sums.{Within};
@@ -106,9 +106,9 @@ fn head_price(rows: &NodeRows, quote: &Quote) -> i128 {
     least.saturating_add(most)
 }
 
-/// Leaves in the desk's room a tree of least reduced cost at the scout's prices, and says whether that is
-/// negative.
-fn find_cheap(
+/// Leaves in the desk's room a tree of least reduced cost at the scout's prices, and returns that, in units
+/// of 2^-24.
+fn find_cheapest(
     instance: &Instance,
     graph: &Graph,
     cuts: &[Cut],
@@ -116,26 +116,26 @@ fn find_cheap(
     prices: &[Q24],
     pricer: &mut Pricer,
     desk: &mut Desk,
-) -> bool
+) -> Option<i128>
     requires sound { IsSoundInstance instance.now }
     requires graph { IsGraph instance.now.grammar graph.now }
     requires rows { AreRows instance.now cuts.now rows.now }
     requires few { length cuts.now ≤ 1500 }
     requires pricer { IsMadeFor graph.now pricer.old }
     requires desk { IsDesk instance.now cuts.now desk.old }
-    ensures found { IsTrue result → AreDaySteps instance.now.grammar desk.new.tree.steps }
+    ensures found { IfSome result (λ _. AreDaySteps instance.now.grammar desk.new.tree.steps) }
     ensures pricer { IsMadeFor graph.now pricer.new }
     ensures desk { IsDesk instance.now cuts.now desk.new }
 {
     gather(instance, cuts, rows, prices, &mut desk.quote);
     set_room(instance, cuts, &desk.quote.numbers, &mut desk.quote.room);
     let Some(least) = find_least(instance, graph, &desk.quote.room, pricer, &mut desk.tree) else {
-        return false;
+        return None;
     };
-    least.saturating_sub(head_price(rows, &desk.quote)) < CHEAPER
+    Some(least.saturating_sub(head_price(rows, &desk.quote)))
 }
 
-/// Lists a tree that is cheap at the scout's prices, and says whether there is one.
+/// Lists a tree that is cheap at the scout's prices, and says whether there is one. Notes what the prices show.
 pub(crate) fn ask(
     alloc: Global,
     instance: &Instance,
@@ -161,7 +161,8 @@ pub(crate) fn ask(
     ensures pool { IsPool instance.now.grammar pool.new }
     ensures grown { IsGrown pool.old pool.new }
 {
-    if !find_cheap(
+    program.touch(graph.arcs().len());
+    let found = find_cheapest(
         instance,
         graph,
         cuts,
@@ -169,7 +170,12 @@ pub(crate) fn ask(
         program.scout.prices(),
         pricer,
         desk,
-    ) {
+    );
+    let Some(reduced) = found else {
+        return Ok(false);
+    };
+    program.note(rows, &desk.quote.y, reduced);
+    if reduced >= CHEAPER {
         return Ok(false);
     }
     let column = pooled(instance, &desk.tree, pool)?;

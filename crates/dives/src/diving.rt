@@ -30,26 +30,41 @@ const STEPS: u32 = 200;
 /// with sixty they were the same as with thirty.
 const ROUNDS: u32 = 30;
 
-/// The work at a scout, in entries touched, after which a dive takes no further step. It is there so that no dive
-/// takes a search's time: half of what a hunt may take, since a bound needs a hunt and a roster may be found
-/// otherwise. Other numbers were not tried.
-const WORK: u64 = 4_000_000_000;
+/// A dive takes no further step once it has touched so many times an entry for each pair of rows and an arc of the
+/// graph: with a full inverse that is as many pivots, and as many passes. It is there so that no dive takes a
+/// search's time. Other numbers were not tried.
+const WORK: u64 = 4_000;
 
 /// The steps of a run before its first prices, and the primal steps between two of them for each row.
 const DUAL: u32 = 3_000;
 
 const PRIMAL: usize = 2;
 
+/// Returns how many entries and arcs a dive may touch.
+fn budget_of(rows: &NodeRows, graph: &Graph) -> u64 {
+    let count = rows.right().len() as u64;
+    let arcs = graph.arcs().len() as u64;
+    count
+        .saturating_mul(count)
+        .saturating_add(arcs)
+        .saturating_mul(WORK)
+}
+
 /// Runs the program, and says whether its values can be used.
 fn run(program: &mut Program) -> bool
-    ensures { program.new ≡ record program.old { scout = program.new.scout } }
+    ensures { program.new ≡ record program.old {
+      scout = program.new.scout;
+      is_solved = program.new.is_solved;
+    } }
 {
     let primal = program.scout.rows().saturating_mul(PRIMAL).min(10_000) as u32;
     let end = program.scout.run(Limits { dual: DUAL, primal });
-    end == Scouted::Optimal || end == Scouted::Spent
+    program.is_solved = end == Scouted::Optimal;
+    program.is_solved || end == Scouted::Spent
 }
 
-/// Runs the program with further trees that are cheap, and says whether its values can be used.
+/// Runs the program with further trees that are cheap, until its value is near to what prices show of it, or
+/// they show that hardly a roster costs less than this. Says whether its values can be used.
 fn solve(
     alloc: Global,
     instance: &Instance,
@@ -60,6 +75,7 @@ fn solve(
     desk: &mut Desk,
     program: &mut Program,
     pool: &mut Pool,
+    cost: u64,
 ) -> Result<bool, Memory>
     requires sound { IsSoundInstance instance.now }
     requires graph { IsGraph instance.now.grammar graph.now }
@@ -79,9 +95,10 @@ fn solve(
         if !run(program) {
             return Ok(false);
         }
-        if !ask(
+        let is_cheap = ask(
             alloc, instance, graph, cuts, rows, pricer, desk, program, pool,
-        )? {
+        )?;
+        if !is_cheap || program.is_settled(cost) {
             return Ok(true);
         }
     }
@@ -116,11 +133,11 @@ fn step(
     ensures pool { IsPool instance.now.grammar pool.new }
     ensures grown { IsGrown pool.old pool.new }
 {
-    if program.scout.work() > WORK {
+    if program.work() > budget_of(rows, graph) {
         return Ok(false);
     }
     if !solve(
-        alloc, instance, graph, cuts, rows, pricer, desk, program, pool,
+        alloc, instance, graph, cuts, rows, pricer, desk, program, pool, cost,
     )? {
         return Ok(false);
     }

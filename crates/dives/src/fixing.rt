@@ -82,6 +82,7 @@ fn fix_one(
     ensures pool { IsPool instance.now.grammar pool.new }
     ensures grown { IsGrown pool.old pool.new }
 {
+    program.touch(graph.arcs().len());
     let found = widest(
         instance,
         graph,

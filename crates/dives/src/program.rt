@@ -14,6 +14,12 @@ use tree_pool::Pool;
 /// How far a value may be from the right one, 2^-8 in units of 2^-32.
 const NEAR: i128 = 16_777_216;
 
+/// A value is near to what prices show of it where it is above that by at most a part of itself, one in so many.
+const PART: i128 = 4_096;
+
+/// How many units of 2^-32 are in one of prices, 2^-24.
+const PRICE: i128 = 256;
+
 /// A node's program less the trees that are fixed.
 #[derive(Drop)]
 pub(crate) struct Program {
@@ -27,6 +33,12 @@ pub(crate) struct Program {
     pub fixed: List<usize>,
     /// What these cost.
     cost: i128,
+    /// Whether the last run ended at least cost, so that its prices are lawful.
+    pub is_solved: bool,
+    /// What prices have shown of the program's value since a tree was fixed last, in units of 2^-32.
+    pub shown: Option<i128>,
+    /// How many arcs all passes over the graph have touched.
+    pub touched: u64,
 }
 
 /// Returns a copy of numbers.
@@ -35,6 +47,16 @@ fn copy_of(alloc: Global, numbers: &[i64]) -> Result<Vec<i64>, Memory> {
         Ok(copy) => Ok(copy),
         Err(_) => Err(Memory),
     }
+}
+
+/// Returns what prices show of the least cost of a program with these right sides, where at most so many trees
+/// are taken and the least reduced cost of one is this; all in units of 2^-24.
+fn bound_at(sides: &[i64], prices: &[i128], heads: i64, reduced: i128) -> i128 {
+    let mut bound = reduced.min(0).saturating_mul(i128::from(heads));
+    for (side, price) in sides.iter().zip(prices) {
+        bound = bound.saturating_add(price.saturating_mul(i128::from(*side)));
+    }
+    bound
 }
 
 impl Program {
@@ -56,6 +78,9 @@ impl Program {
                 listed: List::new(alloc),
                 fixed: List::new(alloc),
                 cost: 0,
+                is_solved: false,
+                shown: None,
+                touched: 0,
             }),
             Err(fault) => {
                 drop(sides);
@@ -140,17 +165,84 @@ impl Program {
         let places = rows.places_of(alloc, cuts, pool, column)?;
         self.fixed.push(column)?;
         self.cost = self.cost.saturating_add(i128::from(pool.cost(column)));
+        self.shown = None;
         take_places(&mut self.scout, places.as_slice(), &mut self.sides);
         Ok(())
     }
 
-    /// Says whether the program's value, with what the fixed trees cost, is above this less 1, so that hardly
-    /// a roster with these trees costs less.
-    pub fn is_dear(&self, cost: u64) -> bool {
+    /// Counts a pass over a graph of so many arcs.
+    pub fn touch(&mut self, arcs: usize)
+        ensures { self.new ≡ record self.old { touched = self.new.touched } }
+    {
+        self.touched = self.touched.saturating_add(arcs as u64);
+    }
+
+    /// Returns how many entries the scout's steps have touched, and how many arcs the passes over the graph.
+    pub fn work(&self) -> u64 {
+        self.scout.work().saturating_add(self.touched)
+    }
+
+    /// Notes what the prices of a run that ended at least cost show of the program's value, where the least
+    /// reduced cost of a tree is this; both in units of 2^-24.
+    pub fn note(&mut self, rows: &NodeRows, prices: &[i128], reduced: i128)
+        ensures { self.new ≡ record self.old { shown = self.new.shown } }
+    {
+        if !self.is_solved {
+            return;
+        }
+        let most = rows.first_head().saturating_add(1);
+        let heads = self.sides.as_slice().get(most).copied().unwrap_or(0).max(0);
+        let bound = bound_at(self.sides.as_slice(), prices, heads, reduced).saturating_mul(PRICE);
+        if self.shown.is_none_or(|best| best < bound) {
+            self.shown = Some(bound);
+        }
+    }
+
+    /// Returns a value with what the fixed trees cost, in units of 2^-32.
+    fn with_fixed(&self, value: i128) -> i128 {
         let fixed = self.cost.saturating_mul(i128::from(ONE));
-        let value = self.scout.value().saturating_add(fixed);
+        value.saturating_add(fixed)
+    }
+
+    /// Says whether a value, with what the fixed trees cost, is above this less 1.
+    fn is_above(&self, value: i128, cost: u64) -> bool {
         let most = i128::from(cost).saturating_sub(1);
-        value > most.saturating_mul(i128::from(ONE)).saturating_add(NEAR)
+        self.with_fixed(value) > most.saturating_mul(i128::from(ONE)).saturating_add(NEAR)
+    }
+
+    /// Says whether the program's value is near to what prices have shown of it, so that further trees hardly
+    /// change it.
+    fn is_near(&self) -> bool {
+        let Some(shown) = self.shown else {
+            return false;
+        };
+        let value = self.scout.value();
+        value.saturating_sub(shown) <= self.with_fixed(value) / PART
+    }
+
+    /// Says whether what prices have shown of the program's value, with what the fixed trees cost, is above
+    /// this less 1.
+    fn is_shown_dear(&self, cost: u64) -> bool {
+        match self.shown {
+            Some(shown) => self.is_above(shown, cost),
+            None => false,
+        }
+    }
+
+    /// Says whether no further tree need be asked for: the value is near to what prices have shown of it, or
+    /// that is too dear.
+    pub fn is_settled(&self, cost: u64) -> bool {
+        self.is_near() || self.is_shown_dear(cost)
+    }
+
+    /// Says whether hardly a roster with the fixed trees costs less than this: what prices have shown of the
+    /// program's value, with what these trees cost, is above this less 1, or the value is, where it is not
+    /// near to that.
+    pub fn is_dear(&self, cost: u64) -> bool {
+        if self.is_near() {
+            return self.is_shown_dear(cost);
+        }
+        self.is_shown_dear(cost) || self.is_above(self.scout.value(), cost)
     }
 
     /// Returns the tree of the pool in the scout's basis at a place, if there is one.
