@@ -17,3 +17,5 @@ mod shelf_tests;
 mod solve_tests;
 #[cfg(test)]
 mod texts;
+#[cfg(test)]
+mod wide_tests;

@@ -44,6 +44,12 @@ pub fn answer(alloc: Global, shelf: &mut MemoryShelf, line: &str) -> Result<u8, 
     Ok(run(alloc, shelf, words.as_slice(), &mut PlainMaster::new()))
 }
 
+/// Whether a line was said.
+pub fn is_said(text: &[u8], line: &str) -> bool {
+    text.split(|byte| *byte == b'\n')
+        .any(|said| said == line.as_bytes())
+}
+
 /// Words, a text that the shelf holds under `proof`, the statuses that may come, and what is said.
 #[derive(Clone, Copy, Drop)]
 pub struct Case<'a> {

@@ -1,4 +1,4 @@
-use crate::runs::{answer, case_of, shelf_after, shelf_of};
+use crate::runs::{answer, case_of, is_said, shelf_after, shelf_of};
 use shelf::MemoryShelf;
 use std::alloc::Global;
 use std::test::Fail;
@@ -153,12 +153,6 @@ fn certificates_stand_after_a_refused_call(rt: HostRuntime) -> Result<(), Fail> 
         assert!(rt; stands(rt.alloc(), search, check, absent)?, "{search}");
     }
     Ok(())
-}
-
-/// Whether a line was said.
-fn is_said(text: &[u8], line: &str) -> bool {
-    text.split(|byte| *byte == b'\n')
-        .any(|said| said == line.as_bytes())
 }
 
 /// Whether three full days and one half day have one of the two coverages that cost 18.

@@ -4,8 +4,14 @@
 #[cfg(test)]
 mod days;
 #[cfg(test)]
+mod first;
+#[cfg(test)]
+mod hints;
+#[cfg(test)]
 mod leaves;
 #[cfg(test)]
 mod masters;
 #[cfg(test)]
 mod near;
+#[cfg(test)]
+mod splits;

@@ -159,7 +159,7 @@ enum Want {
 /// The cuts of a node, and what its master shows.
 type Row<'a> = (&'a str, &'a [Cut], Want);
 
-fn is_half(weight: &Weight) -> bool {
+pub fn is_half(weight: &Weight) -> bool {
     weight.x.num() == 1 && weight.x.den() == 2
 }
 
@@ -176,7 +176,7 @@ fn are_halves(end: &NodeEnd) -> bool {
                 && weights.len() == 3
                 && weights.as_slice().iter().all(|weight| is_half(weight))
         }
-        NodeEnd::Failed(_) => false,
+        NodeEnd::Near { .. } | NodeEnd::Failed(_) => false,
     }
 }
 
@@ -319,7 +319,7 @@ fn value_of(
 {
     match solve(alloc, day, graph, lent, &[], wanted)? {
         NodeEnd::Best { value, .. } => Ok(value),
-        NodeEnd::Failed(_) => Err(Fail::from("no value")),
+        NodeEnd::Near { .. } | NodeEnd::Failed(_) => Err(Fail::from("no value")),
     }
 }
 

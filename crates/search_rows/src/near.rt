@@ -19,9 +19,16 @@ use near_prices::{ListedTree, Near, near_prices};
 use node_master::{NodeEnd, Weight, solve_node};
 use parse_graph::Graph;
 use roster_model::{Cut, Instance, List, Memory, PriceRoom, Prices};
+use sample_days::{DayParts, PAIR_PARTS};
 use std::alloc::Global;
 use std::test::Fail;
 use tree_pool::Pool;
+
+/// The day of pairs with one employee.
+static LONE_DAY: DayParts<'static> = DayParts {
+    heads: (0, 1),
+    ..PAIR_PARTS
+};
 
 /// The weight 1, in units of 2^-56.
 const ONE: u64 = 1 << 56;
@@ -123,7 +130,7 @@ fn is_best(
 }
 
 /// Solves the master at these cuts.
-fn solve(
+pub fn solve(
     alloc: Global,
     day: &Instance,
     graph: &Graph,
@@ -218,7 +225,7 @@ fn shown_at_end(
             let mut listed = listed_of(alloc, weights.as_slice())?.into_vec();
             shown_by(alloc, day, graph, lent, cuts, prices, listed.as_mut_slice())
         }
-        NodeEnd::Failed(_) => Err(Fail::from("no prices")),
+        NodeEnd::Near { .. } | NodeEnd::Failed(_) => Err(Fail::from("no exact solution")),
     }
 }
 
@@ -278,5 +285,14 @@ fn weights_under_cuts(rt: HostRuntime) -> Result<(), Fail> {
     assert!(rt; shown_of_pairs(rt.alloc(), &[HIGH])? == EXACT);
     // No solution meets both: the artificial column of the second row has weight 1.
     assert!(rt; shown_of_pairs(rt.alloc(), &[LOW, HIGH])? == EXACT);
+    Ok(())
+}
+
+#[test]
+fn weights_of_all_heads(rt: HostRuntime) -> Result<(), Fail> {
+    let day = master_day(rt.alloc(), &LONE_DAY)?;
+    // One tree has the weight 1. More of it would lower the cost, at 2 for 20, so it is the heads that refuse it.
+    // The first one left out, no tree is left.
+    assert!(rt; shown_on(rt.alloc(), &day, &[])? == EXACT);
     Ok(())
 }

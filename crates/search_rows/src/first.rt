@@ -1,0 +1,112 @@
+ghost use Rattle.std.specs.Prelude.{IfOk};
+ghost use Rattle.parse_graph.specs.Graphs.{IsGraph};
+ghost use Rattle.node_master.specs.Ends.{EndsRight};
+ghost use Rattle.search_rows.specs.Days.{IsMasterDay, AreLent};
+
+use crate::days::{graph_of, master_day};
+use crate::masters::{HIGH, LOW, Lent, PAIR_DAY, are_node_cuts, is_half, lent_for};
+use node_master::{Bases, First, NodeEnd, solve_node_from};
+use parse_graph::Graph;
+use roster_model::{Cut, Instance};
+use std::alloc::Global;
+use std::test::Fail;
+
+/// One in units of the denominator of near prices.
+const ONE: i128 = 1_048_576;
+
+/// Solves the master at these cuts, going one way to prices first.
+pub fn solve(
+    alloc: Global,
+    day: &Instance,
+    graph: &Graph,
+    lent: &mut Lent,
+    cuts: &[Cut],
+    first: First,
+) -> Result<NodeEnd, Fail>
+    requires day { IsMasterDay day.now }
+    requires graph { IsGraph day.now.grammar graph.now }
+    requires lent { AreLent day.now graph.now lent.old.pricer lent.old.pool }
+    ensures lent { AreLent day.now graph.now lent.new.pricer lent.new.pool }
+    ensures end { IfOk result (EndsRight day.now cuts.now lent.new.pool lent.old.tally lent.new.tally) }
+{
+    if !are_node_cuts(day, graph, cuts) {
+        return Err(Fail::from("no cuts of the day"));
+    }
+    let mut bases = Bases::new(alloc);
+    let end = solve_node_from(
+        alloc,
+        day,
+        graph,
+        &mut lent.pricer,
+        &mut lent.pool,
+        cuts,
+        &[],
+        &mut bases,
+        first,
+        &mut lent.tally,
+    )?;
+    Ok(end)
+}
+
+fn solve_on(alloc: Global, day: &Instance, cuts: &[Cut], first: First) -> Result<NodeEnd, Fail>
+    requires { IsMasterDay day.now }
+{
+    let graph = graph_of(alloc, &day.grammar)?;
+    let lent = lent_for(alloc, day, &graph);
+    let end = match lent {
+        Ok(mut lent) => solve(alloc, day, &graph, &mut lent, cuts, first),
+        Err(fault) => Err(Fail::from(fault)),
+    };
+    drop(graph);
+    end
+}
+
+fn solve_pairs(alloc: Global, cuts: &[Cut], first: First) -> Result<NodeEnd, Fail> {
+    let day = master_day(alloc, &PAIR_DAY)?;
+    solve_on(alloc, &day, cuts, first)
+}
+
+/// Whether the prices are near ones of 1 for each of three cells, and three weights are a half.
+fn are_near_halves(end: &NodeEnd) -> bool {
+    match end {
+        NodeEnd::Near { prices, weights } => {
+            i128::from(prices.d) == ONE
+                && prices.cell.as_slice() == [ONE, ONE, ONE].as_slice()
+                && prices.mult.is_empty()
+                && weights.len() == 3
+                && weights.as_slice().iter().all(|weight| is_half(weight))
+        }
+        NodeEnd::Best { .. } | NodeEnd::Failed(_) => false,
+    }
+}
+
+fn is_near(end: &NodeEnd) -> bool {
+    matches!(end, NodeEnd::Near { .. })
+}
+
+fn is_exact(end: &NodeEnd) -> bool {
+    matches!(end, NodeEnd::Best { .. })
+}
+
+#[test]
+fn near_prices_of_pairs(rt: HostRuntime) -> Result<(), Fail> {
+    assert!(rt; are_near_halves(&solve_pairs(rt.alloc(), &[], First::Near)?));
+    Ok(())
+}
+
+#[test]
+fn near_prices_under_cuts(rt: HostRuntime) -> Result<(), Fail> {
+    assert!(rt; is_near(&solve_pairs(rt.alloc(), &[LOW], First::Near)?));
+    assert!(rt; is_near(&solve_pairs(rt.alloc(), &[HIGH], First::Near)?));
+    // No solution meets both: the artificial column of the second row has weight 1.
+    assert!(rt; is_near(&solve_pairs(rt.alloc(), &[LOW, HIGH], First::Near)?));
+    Ok(())
+}
+
+#[test]
+fn the_exact_path_first(rt: HostRuntime) -> Result<(), Fail> {
+    assert!(rt; is_exact(&solve_pairs(rt.alloc(), &[], First::Exact)?));
+    // Three trees are few.
+    assert!(rt; is_exact(&solve_pairs(rt.alloc(), &[], First::BySize)?));
+    Ok(())
+}
