@@ -8,7 +8,7 @@ use Rattle.roster_model.specs.declared.instance.Cut.{Cut}
 use Rattle.roster_model.specs.declared.instance.Instance.{Instance}
 use Rattle.roster_model.specs.declared.instance.Mult.{Mult}
 use Rattle.roster_model.specs.Folds.{Each}
-use Rattle.roster_model.specs.PriceLimits.{IsMult, AreRising, FitPrices, nonzero}
+use Rattle.roster_model.specs.PriceLimits.{IsMult, AreRising, FitPrices}
 use Rattle.roster_model.proofs.Mults.{nonzero-le}
 use Rattle.roster_model.specs.SoundInstance.{IsSoundInstance}
 use Rattle.roster_model.specs.Sums.{Within}

@@ -7,5 +7,6 @@ pub mod BlockKept
 pub mod TreeKept
 pub mod PiecesKept
 pub mod ToldKept
+pub mod FilledTrees
 pub mod RefusedPieces
 pub mod ToldFronts

@@ -1,6 +1,6 @@
--- What a refused text tells before its fault is a front of what a certificate tells.
-use Rattle.std.proofs.Common.{◌≡◌, ℕ, ℤ, ◌+◌, Bool, true, false, cond, ltb, List, [], ◌∷◌, ◌++◌, length, Option, Some, None, Result, Ok, Err, refl, ap}
-use Rattle.std.specs.Prelude.{codes, is_some}
+-- What a refused text tells before its fault is a front of what a certificate tells, sound where there is room.
+use Rattle.std.proofs.Common.{◌≡◌, ℕ, ℤ, ◌+◌, Bool, true, false, ◌≤◌, cond, ltb, List, [], ◌∷◌, ◌++◌, length, Option, Some, None, Result, Ok, Err, refl, ap, subst}
+use Rattle.std.specs.Prelude.{codes, IfSome, is_some}
 use Rattle.text_lines.specs.Lines.{TextLine, text_items}
 use Rattle.roster_model.specs.Folds.{Each}
 use Rattle.roster_model.specs.declared.instance.Instance.{Instance}
@@ -8,6 +8,7 @@ use Rattle.roster_model.specs.declared.instance.Mult.{Mult}
 use Rattle.roster_model.specs.declared.instance.Shift.{Shift}
 use Rattle.certificates.specs.declared.cert.Cert.{Cert}
 use Rattle.certificates.specs.declared.cert.Node.{Node}
+use Rattle.certificates.specs.Sound.{most_cost, IsSoundCert}
 use Rattle.proof_pieces.specs.declared.fault.PieceFault.{PieceFault}
 use Rattle.proof_pieces.specs.declared.fault.PieceFault.TheVariants.{BadByte, BadHeader, CutShort, Trailing}
 use Rattle.proof_pieces.specs.declared.fault.ProofFault.{ProofFault}
@@ -20,9 +21,13 @@ use Rattle.proof_pieces.specs.NodeLines.{node_at}
 use Rattle.proof_pieces.specs.PriceLines.{price_line, is_mult, mult_line}
 use Rattle.proof_pieces.specs.ShiftLines.{is_header, amount_line, is_shift, shift_at}
 use Rattle.proof_pieces.specs.PieceList.{Given, Place, no_place, wants, node_read, cut_count, node_of, Spot, too_long, start, costs, bounds, shifts, nodes, block, ended, over, after, after_bound, begin, is_end, at_node, in_block, at_line, at_end, at_bad, spot_of, Reader, pieces_from, pieces_left, pieces_of}
-use Rattle.proof_pieces.specs.Refused.{told_then, TellsFront}
+use Rattle.proof_pieces.specs.Refused.{told_then, place_after, HasRoom, TellsFront}
 use Rattle.proof_pieces.specs.Told.{Told, cost, bound, shift, node, done}
+use Rattle.proof_pieces.specs.ToldSound.{node_told, AreToldSound}
+use Rattle.proof_pieces.proofs.FieldsKept.{amount_line_within}
+use Rattle.proof_pieces.proofs.FilledTrees.{front_of, nodes_of, shifts_of, cert_of, cert_whole}
 use Rattle.proof_pieces.proofs.RefusedPieces.{text_refused}
+use Rattle.proof_pieces.proofs.ToldKept.{text_sound}
 
 -- ---- what may be told from a place on, up to a fault or the end
 
@@ -44,19 +49,24 @@ OfShifts (Ok (shift s) ∷ rest) = OfShifts rest
 OfShifts (Ok (node n) ∷ rest) = OfNodes rest
 OfShifts (Ok done ∷ rest) = Unit {0}
 
-abbrev OfBound : Given → Type 0
-OfBound [] = Unit {0}
-OfBound (Err f ∷ rest) = Unit {0}
-OfBound (Ok (cost x) ∷ rest) = ⊥
-OfBound (Ok (bound x) ∷ rest) = OfShifts rest
-OfBound (Ok (shift s) ∷ rest) = ⊥
-OfBound (Ok (node n) ∷ rest) = ⊥
-OfBound (Ok done ∷ rest) = ⊥
+-- shifts come only behind a cost that is a number
+abbrev OfBehind : Bool → Given → Type 0
+OfBehind true g = OfShifts g
+OfBehind false g = OfNodes g
+
+abbrev OfBound : Bool → Given → Type 0
+OfBound paid [] = Unit {0}
+OfBound paid (Err f ∷ rest) = Unit {0}
+OfBound paid (Ok (cost x) ∷ rest) = ⊥
+OfBound paid (Ok (bound x) ∷ rest) = IfSome x (λ n. n ≤ most_cost) × OfBehind paid rest
+OfBound paid (Ok (shift s) ∷ rest) = ⊥
+OfBound paid (Ok (node n) ∷ rest) = ⊥
+OfBound paid (Ok done ∷ rest) = ⊥
 
 abbrev OfCost : Given → Type 0
 OfCost [] = Unit {0}
 OfCost (Err f ∷ rest) = Unit {0}
-OfCost (Ok (cost x) ∷ rest) = OfBound rest
+OfCost (Ok (cost x) ∷ rest) = IfSome x (λ n. n ≤ most_cost) × OfBound (is_some x) rest
 OfCost (Ok (bound x) ∷ rest) = ⊥
 OfCost (Ok (shift s) ∷ rest) = ⊥
 OfCost (Ok (node n) ∷ rest) = ⊥
@@ -75,7 +85,7 @@ abbrev Of : Spot → Given → Type 0
 Of too_long g = OfCost g
 Of start g = OfCost g
 Of costs g = OfCost g
-Of (bounds paid) g = OfBound g
+Of (bounds paid) g = OfBound paid g
 Of (shifts n) g = OfShifts g
 Of nodes g = OfNodes g
 Of (block h cs ms) g = OfNodes g
@@ -123,17 +133,17 @@ line_is i start p line go k = by (is_header i.groups line.words)
     by : (b : Bool) → OfCost (cond b (go costs no_place) (Err (BadHeader line.number) ∷ []))
     by true = k costs no_place
     by false = tt
-line_is i costs p line go k = by (amount_line line.number (codes "cost") line.words)
+line_is i costs p line go k = by (amount_line line.number (codes "cost") line.words) refl
   where
-    by : (r : Result (Option ℕ) PieceFault) → OfCost (after r (λ x. Ok (cost x) ∷ go (bounds (is_some x)) p))
-    by (Err f) = tt
-    by (Ok x) = k (bounds (is_some x)) p
-line_is i (bounds paid) p line go k = by paid (amount_line line.number (codes "bound") line.words)
+    by : (r : Result (Option ℕ) PieceFault) → amount_line line.number (codes "cost") line.words ≡ r → OfCost (after r (λ x. Ok (cost x) ∷ go (bounds (is_some x)) p))
+    by (Err f) e = tt
+    by (Ok x) e = (amount_line_within line.number (codes "cost") line.words x e, k (bounds (is_some x)) p)
+line_is i (bounds paid) p line go k = by paid (amount_line line.number (codes "bound") line.words) refl
   where
-    by : (b : Bool) (r : Result (Option ℕ) PieceFault) → OfBound (after r (λ x. Ok (bound x) ∷ go (after_bound b) p))
-    by b (Err f) = tt
-    by true (Ok x) = k (shifts 0) p
-    by false (Ok x) = no_shift (go nodes p) (k nodes p)
+    by : (b : Bool) (r : Result (Option ℕ) PieceFault) → amount_line line.number (codes "bound") line.words ≡ r → OfBound b (after r (λ x. Ok (bound x) ∷ go (after_bound b) p))
+    by b (Err f) e = tt
+    by true (Ok x) e = (amount_line_within line.number (codes "bound") line.words x e, k (shifts 0) p)
+    by false (Ok x) e = (amount_line_within line.number (codes "bound") line.words x e, k nodes p)
 line_is i (shifts n) p line go k = by (is_shift i.groups line.words) (shift_at line.number i n line.words)
   where
     by : (b : Bool) (r : Result Shift PieceFault) → OfShifts (cond b (after r (λ s. Ok (shift s) ∷ go (shifts (n + 1)) p)) (at_node i p line go))
@@ -192,54 +202,74 @@ text_is i text = by (ltb 1073741824 (length text))
 abbrev NoEnd : List Told → Type 0
 NoEnd ts = Each (λ (t : Told). is_done t ≡ false) ts
 
-abbrev front_of : List Told → PieceFault → Given
-front_of ts f = told_then ts (Err f ∷ [])
+nodes_front : (p : Place) (ts : List Told) (f : PieceFault) → OfNodes (front_of ts f) → NoEnd ts → (rest : Given) × (node_pieces (nodes_of p ts) ≡ told_then ts rest)
+nodes_front p [] f h free = (node_pieces (nodes_of p []), refl)
+nodes_front p (cost x ∷ ts) f h free = absurd h
+nodes_front p (bound x ∷ ts) f h free = absurd h
+nodes_front p (shift s ∷ ts) f h free = absurd h
+nodes_front p (node n ∷ ts) f h free = let r = nodes_front (node_told n p) ts f h free.1 in (r.0, ap (λ (g : Given). Ok (node n) ∷ g) r.1)
+nodes_front p (done ∷ ts) f h free = let bad = free.0 in absurd cc
 
-nodes_front : (ts : List Told) (f : PieceFault) → OfNodes (front_of ts f) → NoEnd ts → (ns : List Node) × (rest : Given) × (node_pieces ns ≡ told_then ts rest)
-nodes_front [] f h free = ([], node_pieces [], refl)
-nodes_front (cost x ∷ ts) f h free = absurd h
-nodes_front (bound x ∷ ts) f h free = absurd h
-nodes_front (shift s ∷ ts) f h free = absurd h
-nodes_front (node n ∷ ts) f h free = let r = nodes_front ts f h free.1 in (n ∷ r.0, r.1, ap (λ (g : Given). Ok (node n) ∷ g) r.2)
-nodes_front (done ∷ ts) f h free = let bad = free.0 in absurd cc
-
-shifts_front : (ts : List Told) (f : PieceFault) → OfShifts (front_of ts f) → NoEnd ts → (ss : List Shift) × (ns : List Node) × (rest : Given) × (shift_pieces ss (node_pieces ns) ≡ told_then ts rest)
-shifts_front [] f h free = ([], [], node_pieces [], refl)
+shifts_front : (ts : List Told) (f : PieceFault) → OfShifts (front_of ts f) → NoEnd ts → (rest : Given) × (shift_pieces (shifts_of ts) (node_pieces (nodes_of no_place ts)) ≡ told_then ts rest)
+shifts_front [] f h free = (node_pieces (nodes_of no_place []), refl)
 shifts_front (cost x ∷ ts) f h free = absurd h
 shifts_front (bound x ∷ ts) f h free = absurd h
-shifts_front (shift s ∷ ts) f h free = let r = shifts_front ts f h free.1 in (s ∷ r.0, r.1, r.2, ap (λ (g : Given). Ok (shift s) ∷ g) r.3)
-shifts_front (node n ∷ ts) f h free = let r = nodes_front ts f h free.1 in ([], n ∷ r.0, r.1, ap (λ (g : Given). Ok (node n) ∷ g) r.2)
+shifts_front (shift s ∷ ts) f h free = let r = shifts_front ts f h free.1 in (r.0, ap (λ (g : Given). Ok (shift s) ∷ g) r.1)
+shifts_front (node n ∷ ts) f h free = let r = nodes_front (node_told n no_place) ts f h free.1 in (r.0, ap (λ (g : Given). Ok (node n) ∷ g) r.1)
 shifts_front (done ∷ ts) f h free = let bad = free.0 in absurd cc
 
-abbrev Front : List Told → Type 0
-Front ts = (c : Cert) × (rest : Given) × (cert_pieces c ≡ told_then ts rest)
+behind_front : (paid : Bool) (ts : List Told) (f : PieceFault) → OfBehind paid (front_of ts f) → NoEnd ts → (rest : Given) × (shift_pieces (shifts_of ts) (node_pieces (nodes_of no_place ts)) ≡ told_then ts rest)
+behind_front true ts f h free = shifts_front ts f h free
+behind_front false ts f h free = shifts_front ts f (no_shift (front_of ts f) h) free
 
-bound_front : (x : Option ℕ) (ts : List Told) (f : PieceFault) → OfBound (front_of ts f) → NoEnd ts → Front (cost x ∷ ts)
-bound_front x [] f h free =
-    let c : Cert = record { shifts = []; cost = x; bound = None; nodes = [] } in
-    (c, Ok (bound None) ∷ node_pieces [], refl)
-bound_front x (cost y ∷ ts) f h free = absurd h
-bound_front x (bound y ∷ ts) f h free =
-    let r = shifts_front ts f h free.1 in
-    let c : Cert = record { shifts = r.0; cost = x; bound = y; nodes = r.1 } in
-    (c, r.2, ap (λ (g : Given). Ok (cost x) ∷ Ok (bound y) ∷ g) r.3)
-bound_front x (shift s ∷ ts) f h free = absurd h
-bound_front x (node n ∷ ts) f h free = absurd h
-bound_front x (done ∷ ts) f h free = absurd h
+no_shifts : (ts : List Told) (f : PieceFault) → OfNodes (front_of ts f) → shifts_of ts ≡ []
+no_shifts [] f h = refl
+no_shifts (cost x ∷ ts) f h = absurd h
+no_shifts (bound x ∷ ts) f h = absurd h
+no_shifts (shift s ∷ ts) f h = absurd h
+no_shifts (node n ∷ ts) f h = refl
+no_shifts (done ∷ ts) f h = refl
 
-cost_front : (ts : List Told) (f : PieceFault) → OfCost (front_of ts f) → NoEnd ts → Front ts
-cost_front [] f h free =
-    let c : Cert = record { shifts = []; cost = None; bound = None; nodes = [] } in
-    (c, cert_pieces c, refl)
-cost_front (cost x ∷ ts) f h free = bound_front x ts f h free.1
-cost_front (bound y ∷ ts) f h free = absurd h
-cost_front (shift s ∷ ts) f h free = absurd h
-cost_front (node n ∷ ts) f h free = absurd h
-cost_front (done ∷ ts) f h free = absurd h
+-- no cost, and so no shift
+unpaid : (x : Option ℕ) (ts : List Told) (f : PieceFault) → OfBehind (is_some x) (front_of ts f) → x ≡ None → shifts_of ts ≡ []
+unpaid None ts f h e = no_shifts ts f h
+unpaid (Some n) ts f h e = absurd cc
 
-pub told_front : (i : Instance) (text : List ℕ) (e : ProofFault) → proof_of i text ≡ Err e → TellsFront (pieces_of i text)
+-- a certificate that tells all this first, sound where what is told is and there is room for the open halves
+abbrev Front : Instance → List Told → PieceFault → Type 0
+Front i ts f = (c : Cert) × (rest : Given) × (cert_pieces c ≡ told_then ts rest)
+    × (AreToldSound i 0 no_place (front_of ts f) → HasRoom (place_after ts no_place) → IsSoundCert i c)
+
+bound_front : (i : Instance) (x : Option ℕ) (ts : List Told) (f : PieceFault) → IfSome x (λ n. n ≤ most_cost) → OfBound (is_some x) (front_of ts f) → NoEnd ts → Front i (cost x ∷ ts) f
+bound_front i x [] f paid h free =
+    (cert_of x None [], Ok (bound None) ∷ node_pieces (nodes_of no_place []), refl, λ told room. cert_whole i x None [] f paid tt (λ e. refl) tt room)
+bound_front i x (cost y ∷ ts) f paid h free = absurd h
+bound_front i x (bound y ∷ ts) f paid h free =
+    let r = behind_front (is_some x) ts f h.1 free.1 in
+    (cert_of x y ts, r.0, ap (λ (g : Given). Ok (cost x) ∷ Ok (bound y) ∷ g) r.1, λ told room. cert_whole i x y ts f paid h.0 (unpaid x ts f h.1) told.1.1 room)
+bound_front i x (shift s ∷ ts) f paid h free = absurd h
+bound_front i x (node n ∷ ts) f paid h free = absurd h
+bound_front i x (done ∷ ts) f paid h free = absurd h
+
+cost_front : (i : Instance) (ts : List Told) (f : PieceFault) → OfCost (front_of ts f) → NoEnd ts → Front i ts f
+cost_front i [] f h free = (cert_of None None [], cert_pieces (cert_of None None []), refl, λ told room. cert_whole i None None [] f tt tt (λ e. refl) tt room)
+cost_front i (cost x ∷ ts) f h free = bound_front i x ts f h.0 h.1 free.1
+cost_front i (bound y ∷ ts) f h free = absurd h
+cost_front i (shift s ∷ ts) f h free = absurd h
+cost_front i (node n ∷ ts) f h free = absurd h
+cost_front i (done ∷ ts) f h free = absurd h
+
+pub told_front : (i : Instance) (text : List ℕ) (e : ProofFault) → proof_of i text ≡ Err e → TellsFront i (pieces_of i text)
 told_front i text e h =
     let t = text_refused i text e h in
     let of : OfCost (front_of t.before t.fault) = rw t.list at (text_is i text) in
-    let r = cost_front t.before t.fault of t.no_end in
-    record { before = t.before; fault = t.fault; list = t.list; cert = r.0; rest = r.1; front = r.2 }
+    let r = cost_front i t.before t.fault of t.no_end in
+    record {
+      before = t.before;
+      fault = t.fault;
+      list = t.list;
+      cert = r.0;
+      rest = r.1;
+      front = r.2;
+      sound = λ s room. r.3 (subst (λ (g : Given). AreToldSound i 0 no_place g) t.list (text_sound i text s)) room;
+    }

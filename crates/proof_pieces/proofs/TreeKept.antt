@@ -29,7 +29,8 @@ Rest i (false ∷ halves) ns = (t : Proof) × (tail : List Node) × (ns ≡ preo
 abbrev pub Wanted : Instance → List Bool → List Node → Type 0
 Wanted i halves ns = (t : Proof) × (tail : List Node) × (ns ≡ preorder t ++ tail) × SoundTree i (length halves) t × Rest i halves tail
 
-abbrev FillsAt : Instance → Bool → List Bool → List Node → Type 0
+-- the nodes that are left where one more is wanted, or none
+abbrev pub FillsAt : Instance → Bool → List Bool → List Node → Type 0
 FillsAt i true halves ns = Wanted i halves ns
 FillsAt i false halves ns = ns ≡ []
 

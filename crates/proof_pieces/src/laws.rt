@@ -25,10 +25,12 @@ pub fn refused_pieces()
 {}
 
 /// States a law: what a refused text tells before its fault is a front of what some certificate
-/// tells: its cost, its bound, its first shifts or all, and then its first nodes.
+/// tells: its cost, its bound, its first shifts or all, and then its first nodes. On a sound day that
+/// certificate is sound where the nodes that are told and the halves that are still open are at most
+/// 20,001; where no node is told, the whole tree is one open half.
 pub fn told_before_a_fault()
     ensures { (i : Instance) (text : List ℕ) (e : ProofFault) → proof_of i text ≡ Err e
-        → TellsFront (pieces_of i text) }
+        → TellsFront i (pieces_of i text) }
 {}
 
 /// States a law, of texts that end well and of others: each shift that a text tells is sound and one
