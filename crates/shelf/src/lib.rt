@@ -1,10 +1,11 @@
-//! The outside of a program: texts that are held by name, and bytes that are said.
+//! The outside of a program: texts that are held by name, bytes that are said, and notes to a person.
 //!
 //! A program over a [`Shelf`] is proved once for the disk and for both shelves in memory.
 #![tactic(auto)]
 
 mod disk;
 mod fault;
+mod heard;
 mod memory;
 mod quiet;
 mod shelf;

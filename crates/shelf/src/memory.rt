@@ -14,12 +14,14 @@ use std::marker::Model;
 
 /// A shelf in memory that also refuses the calls with the listed numbers.
 ///
-/// The calls of `fetch`, `store` and `say` count from 1.
+/// The calls of `fetch`, `store` and `say` count from 1. It keeps its notes, of which contracts see nothing.
 #[derive(Drop)]
 pub struct MemoryShelf {
+    alloc: Global,
     shelf: QuietShelf,
     failing: Vec<u32>,
     calls: u64,
+    notes: Vec<u8>,
 }
 
 impl Model for MemoryShelf {
@@ -51,9 +53,11 @@ impl MemoryShelf {
         } }
     {
         MemoryShelf {
+            alloc,
             shelf: QuietShelf::new(alloc),
             failing,
             calls: 0,
+            notes: Vec::new(alloc),
         }
     }
 
@@ -86,6 +90,31 @@ impl MemoryShelf {
         ensures { result ≡ self.now.faults }
     {
         self.shelf.faults()
+    }
+
+    /// Returns all notes, each with its line feed.
+    pub fn notes(&self) -> &[u8] {
+        self.notes.as_slice()
+    }
+
+    // Notes why a call was refused.
+    fn note_refusal(&mut self, what: &str, why: &str)
+        ensures { self.new ≡ self.old }
+    {
+        if let Ok(line) = format!(in self.alloc; "{what}: {why}") {
+            self.note(line.as_str());
+        }
+    }
+
+    // Notes that a name is absent, where its fetch failed, and passes the fault on.
+    fn noted(&mut self, name: &str, fault: ShelfFault) -> ShelfFault
+        ensures fault { result ≡ fault }
+        ensures same { self.new ≡ self.old }
+    {
+        if fault == ShelfFault::Failed {
+            self.note_refusal(name, "no such file");
+        }
+        fault
     }
 
     // Counts a call, and returns whether its number is listed.
@@ -138,9 +167,13 @@ impl Shelf for MemoryShelf {
             → self.new.faults ≡ self.old.faults }
     {
         if self.next_call_fails() {
+            self.note_refusal(name, "refused");
             return Err(self.shelf.refuse());
         }
-        self.shelf.fetch(name, into)
+        match self.shelf.fetch(name, into) {
+            Ok(()) => Ok(()),
+            Err(fault) => Err(self.noted(name, fault)),
+        }
     }
 
     fn store(&mut self, name: &str, bytes: &[u8]) -> Result<(), ShelfFault>
@@ -159,6 +192,7 @@ impl Shelf for MemoryShelf {
         ensures quiet { IsTrue (is_steady self.old) → self.new.faults ≡ self.old.faults }
     {
         if self.next_call_fails() {
+            self.note_refusal(name, "refused");
             return Err(self.shelf.refuse());
         }
         self.shelf.store(name, bytes)
@@ -181,8 +215,18 @@ impl Shelf for MemoryShelf {
     {
         if self.next_call_fails() {
             self.shelf.say(&bytes[..bytes.len() / 2])?;
+            self.note_refusal("standard output", "refused");
             return Err(self.shelf.refuse());
         }
         self.shelf.say(bytes)
+    }
+
+    fn note(&mut self, text: &str)
+        ensures { self.new ≡ self.old }
+    {
+        if self.notes.reserve(text.len().saturating_add(1)).is_ok() {
+            let _ = self.notes.extend_from_slice(text.as_bytes());
+            let _ = self.notes.push(b'\n');
+        }
     }
 }

@@ -10,7 +10,7 @@ use roster_model::Memory;
 use std::alloc::Global;
 use std::marker::Model;
 
-/// A shelf in memory that refuses nothing but the fetch of an absent name.
+/// A shelf in memory that refuses nothing but the fetch of an absent name, and keeps no notes.
 #[derive(Drop)]
 pub struct QuietShelf {
     held: TextMap,
@@ -135,4 +135,8 @@ impl Shelf for QuietShelf {
         self.said.extend_from_slice(bytes)?;
         Ok(())
     }
+
+    fn note(&mut self, _text: &str)
+        ensures { self.new ≡ self.old }
+    {}
 }

@@ -6,6 +6,9 @@ use crate::fault::ShelfFault;
 
 /// Texts that are held by name, and a place to say bytes.
 ///
+/// What is said to a person beside that is a note: no clause speaks of it, and it changes nothing that the
+/// shelf tells. A shelf that refuses a call notes why.
+///
 /// A shelf tells what it holds, what was said, and how often the outside refused a call; that
 /// count stops at 2^64 - 1. While it is steady the outside refuses nothing but the fetch of an
 /// absent name.
@@ -58,6 +61,11 @@ pub trait Shelf {
         ensures stays_steady { IsTrue (told self.old).steady → IsTrue (told self.new).steady }
         ensures bounded { (told self.new).faults ≤ most_faults }
         ensures quiet { IsTrue (told self.old).steady → (told self.new).faults ≡ (told self.old).faults };
+
+    /// Tells a person something, outside what is said. The text has no line feed at its end: the shelf adds
+    /// it. A note that the outside refuses is lost, and so is one for which memory does not suffice.
+    fn note(&mut self, text: &str)
+        ensures { told self.new ≡ told self.old };
 
     // A steady shelf tells all.
     ghost tells: { (s : Self) → IsTrue (told s).steady → IsSome (told s).held × IsSome (told s).said };

@@ -13,7 +13,7 @@ ghost use Rattle.text_commands.specs.Reader.{IsReader};
 
 use crate::answer::Answer;
 use crate::explain::refusal;
-use crate::fetch::{fetched, say_answer};
+use crate::fetch::{fetched, say_answer_to};
 use crate::question::Question;
 use demand_lines::DemandFault;
 use demand_text::read_demand;
@@ -52,7 +52,8 @@ fn ask_proof<S: Shelf, Q: Question>(
         Ok(text) => text,
         Err(status) => return status,
     };
-    say_answer(shelf, question.answer(alloc, instance, text.as_slice()))
+    let text = text.as_slice();
+    say_answer_to(shelf, text, question.answer(alloc, instance, text))
 }
 
 // Asks something of a certificate by a demand text and the proof text under a name.
@@ -71,7 +72,7 @@ fn ask_demand_text<S: Shelf, Q: Question>(
 {
     match read_demand(alloc, grammar, text) {
         Ok(instance) => ask_proof(alloc, shelf, &instance, proof, question),
-        Err(fault) => say_answer(shelf, demand_refusal(alloc, fault)),
+        Err(fault) => say_answer_to(shelf, text, demand_refusal(alloc, fault)),
     }
 }
 
@@ -112,7 +113,7 @@ pub fn ask_rules_text<S: Shelf, Q: Question>(
 {
     match read_rules(alloc, text) {
         Ok(grammar) => ask_demand(alloc, shelf, grammar, demand, proof, question),
-        Err(fault) => say_answer(shelf, refusal(alloc, fault)),
+        Err(fault) => say_answer_to(shelf, text, refusal(alloc, fault)),
     }
 }
 

@@ -10,6 +10,7 @@ ghost use Rattle.text_commands.specs.Reader.{IsReader};
 use crate::answer::Answer;
 use crate::fetch::fetched;
 use crate::say::{MEMORY, say};
+use crate::unfit::note_unfit;
 use roster_model::{Grammar, List, Memory, TreeRoom};
 use rules_text::{RulesFault, fault_line, read_rules};
 use shelf::Shelf;
@@ -114,7 +115,10 @@ fn say_explanation<S: Shelf>(alloc: Global, shelf: &mut S, text: &[u8], word: &[
         result }
 {
     match explanation(alloc, text, word) {
-        Ok(answer) => say(shelf, answer.output.as_slice(), answer.status),
+        Ok(answer) => {
+            note_unfit(alloc, shelf, text, None, word, answer.status);
+            say(shelf, answer.output.as_slice(), answer.status)
+        }
         Err(Memory) => MEMORY,
     }
 }

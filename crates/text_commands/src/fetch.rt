@@ -3,6 +3,7 @@ ghost use Rattle.text_commands.specs.Fetch.{IsAnswer, IsFetch, NoAnswer};
 ghost use Rattle.text_commands.specs.Reader.{IsReader};
 
 use crate::answer::Answer;
+use crate::encoding::note_encoding;
 use crate::say::{MEMORY, say, status_of};
 use roster_model::Memory;
 use shelf::Shelf;
@@ -30,4 +31,22 @@ pub fn say_answer<S: Shelf>(shelf: &mut S, answer: Result<Answer, Memory>) -> u8
         Ok(answer) => say(shelf, answer.output.as_slice(), answer.status),
         Err(Memory) => MEMORY,
     }
+}
+
+// Returns the status of an answer, or that of want of memory.
+fn status_of_answer(answer: &Result<Answer, Memory>) -> u8 {
+    match answer {
+        Ok(answer) => answer.status,
+        Err(Memory) => MEMORY,
+    }
+}
+
+/// Says an answer to a text as `say_answer` does; where it refuses the text, what the first bytes show of its
+/// encoding is noted before.
+pub fn say_answer_to<S: Shelf>(shelf: &mut S, text: &[u8], answer: Result<Answer, Memory>) -> u8
+    requires { IfOk answer (λ a. (a.status ≢ 6) × (a.status ≢ 7)) }
+    ensures { IsReader (IsAnswer answer) [] (S.told shelf.old) (S.told shelf.new) result }
+{
+    note_encoding(shelf, text, status_of_answer(&answer));
+    say_answer(shelf, answer)
 }

@@ -8,6 +8,7 @@ use crate::answer::Answer;
 use crate::explain::refusal;
 use crate::fetch::fetched;
 use crate::say::{MEMORY, say};
+use crate::unfit::{ANY, note_unfit};
 use day_questions::fits_answer;
 use roster_model::{Grammar, Memory};
 use rules_text::read_rules;
@@ -45,7 +46,10 @@ fn say_fitting<S: Shelf>(alloc: Global, shelf: &mut S, text: &[u8], pattern: &[u
         (S.told shelf.old) (S.told shelf.new) result }
 {
     match fitting(alloc, text, pattern) {
-        Ok(answer) => say(shelf, answer.output.as_slice(), answer.status),
+        Ok(answer) => {
+            note_unfit(alloc, shelf, text, Some(ANY), pattern, answer.status);
+            say(shelf, answer.output.as_slice(), answer.status)
+        }
         Err(Memory) => MEMORY,
     }
 }

@@ -8,6 +8,7 @@
 pub mod answer;
 pub mod ask;
 pub mod check;
+pub mod encoding;
 pub mod explain;
 pub mod fetch;
 pub mod fits;
@@ -15,3 +16,4 @@ pub mod next;
 pub mod question;
 pub mod rank;
 pub mod say;
+mod unfit;

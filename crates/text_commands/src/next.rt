@@ -5,6 +5,7 @@ ghost use Rattle.text_commands.specs.Days.{AnswersNext, DayAnswer};
 ghost use Rattle.text_commands.specs.Reader.{IsReader};
 
 use crate::answer::Answer;
+use crate::encoding::note_encoding;
 use crate::explain::refusal;
 use crate::fetch::fetched;
 use crate::say::{MEMORY, say};
@@ -44,7 +45,10 @@ fn say_following<S: Shelf>(alloc: Global, shelf: &mut S, text: &[u8], prefix: &[
         (S.told shelf.old) (S.told shelf.new) result }
 {
     match following(alloc, text, prefix) {
-        Ok(answer) => say(shelf, answer.output.as_slice(), answer.status),
+        Ok(answer) => {
+            note_encoding(shelf, text, answer.status);
+            say(shelf, answer.output.as_slice(), answer.status)
+        }
         Err(Memory) => MEMORY,
     }
 }

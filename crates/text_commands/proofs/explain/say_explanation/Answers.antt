@@ -1,3 +1,4 @@
+use Rattle.std.proofs.Common.{◌≡◌}
 use Rattle.shelf.specs.Shelf.{Told}
 use Rattle.text_commands.specs.Explain.{Explanation}
 use Rattle.text_commands.proofs.Readers.{one-said}
@@ -6,14 +7,16 @@ use Rattle.text_commands.proofs.explain.say_explanation.Goals as goal
 pub returns-in-Ok : goal.returns-in-Ok
 returns-in-Ok g c =
     let before : Told = g.S.Shelf.told c.args.shelf.now in
+    let noted : Told = g.S.Shelf.told c.note_unfit.new.shelf in
     let after : Told = g.S.Shelf.told c.say.new.shelf in
+    let same : noted ≡ before = c.note_unfit.ensures in
     one-said (λ s o. Explanation c.args.text.now c.args.word.now s o) c.in-Ok.answer before after c.say.result c.in-Ok.ensures
     (record {
       status_is = c.say.ensures.status;
-      whole = rw c.as_slice.ensures at c.say.ensures.said;
-      part = rw c.as_slice.ensures at c.say.ensures.part;
-      held = c.say.ensures.held;
-      never_falls = c.say.ensures.never_falls;
-      cause = c.say.ensures.cause;
-      quiet = c.say.ensures.quiet;
+      whole = rw (c.as_slice.ensures, same) at c.say.ensures.said;
+      part = rw (c.as_slice.ensures, same) at c.say.ensures.part;
+      held = rw same at c.say.ensures.held;
+      never_falls = rw same at c.say.ensures.never_falls;
+      cause = rw same at c.say.ensures.cause;
+      quiet = rw same at c.say.ensures.quiet;
     })

@@ -1,0 +1,51 @@
+use std::io;
+use std::io::{ErrorKind, Read, Write};
+
+/// A stream that remembers why its last call was refused.
+#[derive(Drop)]
+pub(crate) struct Heard<'a, F> {
+    stream: &'a mut F,
+    error: ErrorKind,
+}
+
+impl<'a, F> Heard<'a, F> {
+    pub(crate) fn new(stream: &'a mut F) -> Heard<'a, F> {
+        Heard {
+            stream,
+            error: ErrorKind::WriteZero,
+        }
+    }
+
+    /// Returns the kind of the last error; before one, that of a write which takes nothing.
+    pub(crate) fn error(&self) -> ErrorKind {
+        self.error
+    }
+}
+
+impl<F: Read> Read for Heard<'_, F> {
+    fn read(&mut self, buffer: &mut [u8]) -> io::Result<usize> {
+        match self.stream.read(buffer) {
+            Ok(count) => Ok(count),
+            Err(error) => {
+                self.error = error.kind();
+                Err(error)
+            }
+        }
+    }
+}
+
+impl<F: Write> Write for Heard<'_, F> {
+    fn write(&mut self, bytes: &[u8]) -> io::Result<usize> {
+        match self.stream.write(bytes) {
+            Ok(count) => Ok(count),
+            Err(error) => {
+                self.error = error.kind();
+                Err(error)
+            }
+        }
+    }
+
+    fn flush(&mut self) -> io::Result<()> {
+        self.stream.flush()
+    }
+}

@@ -1,0 +1,126 @@
+ghost use Rattle.std.specs.Prelude.{◌≡◌, IfOk};
+ghost use Rattle.roster_model.specs.Sound.{IsSound};
+ghost use Rattle.span_table.specs.Tables.{IsMadeFor};
+
+use crate::encoding::note_encoding;
+use day_questions::PatternPrices;
+use roster_model::{Grammar, Memory};
+use rules_text::read_rules;
+use shelf::Shelf;
+use span_table::Table;
+use std::alloc::{AllocError, Global};
+
+/// The byte that stands in a pattern for any code.
+pub(crate) const ANY: u8 = b'#';
+
+// Whether a sign stands for any code.
+fn is_any(any: Option<u8>, sign: char) -> bool {
+    match any {
+        Some(byte) => char::from(byte) == sign,
+        None => false,
+    }
+}
+
+// Whether a sign is the letter of a code, or stands for any.
+fn is_known(grammar: &Grammar, any: Option<u8>, sign: char) -> bool {
+    is_any(any, sign)
+        || grammar
+            .codes
+            .as_slice()
+            .iter()
+            .any(|code| char::from(code.byte) == sign)
+}
+
+// Returns the first sign of a word that is no code.
+fn unknown_sign(grammar: &Grammar, any: Option<u8>, word: &str) -> Option<char> {
+    for sign in word.chars() {
+        if !is_known(grammar, any, sign) {
+            return Some(sign);
+        }
+    }
+    None
+}
+
+// Returns how many signs the longest front of a word has that some shift begins with; `None` where the rules
+// have no shift.
+fn longest_front(
+    alloc: Global,
+    grammar: &Grammar,
+    any: Option<u8>,
+    word: &[u8],
+) -> Result<Option<usize>, Memory>
+    requires { IsSound grammar.now }
+{
+    let mut table = Table::for_instance(alloc, grammar)?;
+    let mut longest = None;
+    for count in 0..=word.len() {
+        let prices = PatternPrices::new(grammar, any, &word[..count]);
+        if table.least(grammar, &prices).is_none() {
+            return Ok(longest);
+        }
+        longest = Some(count);
+    }
+    Ok(longest)
+}
+
+// Says how many of a word's letters begin a shift.
+fn front_text(alloc: Global, front: Option<usize>, letters: usize) -> Result<String, AllocError> {
+    match front {
+        Some(count) => {
+            format!(in alloc; "the first {count} of {letters} letters begin a shift, and no more")
+        }
+        None => String::from_str(alloc, "the rules have no shift"),
+    }
+}
+
+// Returns why a word is no shift, or why no shift fits a pattern; nothing after want of memory.
+fn reason(alloc: Global, grammar: &Grammar, any: Option<u8>, word: &str) -> Option<String>
+    requires { IsSound grammar.now }
+{
+    let letters = word.chars().count();
+    if letters != grammar.periods as usize {
+        return format!(in alloc; "{letters} letters, the day has {}", grammar.periods).ok();
+    }
+    if let Some(sign) = unknown_sign(grammar, any, word) {
+        return format!(in alloc; "{sign} is no code").ok();
+    }
+    let front = longest_front(alloc, grammar, any, word.as_bytes()).ok()?;
+    front_text(alloc, front, letters).ok()
+}
+
+// Returns why a word is no shift by a rules text that is accepted.
+fn reason_by(alloc: Global, text: &[u8], any: Option<u8>, word: &[u8]) -> Option<String> {
+    let grammar = read_rules(alloc, text).ok()?;
+    let word = str::from_utf8(word).ok()?;
+    reason(alloc, &grammar, any, word)
+}
+
+// Notes why a word is no shift by a rules text that is accepted.
+fn note_reason<S: Shelf>(alloc: Global, shelf: &mut S, text: &[u8], any: Option<u8>, word: &[u8])
+    ensures { S.told shelf.new ≡ S.told shelf.old }
+{
+    match reason_by(alloc, text, any, word) {
+        Some(reason) => shelf.note(reason.as_str()),
+        None => {}
+    }
+}
+
+/// Notes why the answer to a rules text and a word, or a pattern in which `any` stands for any code, has this
+/// status: the length where it differs from the day's, a sign that is no code, or how much of the word begins
+/// a shift, with 1; what the text shows of its encoding, with 3. Where memory does not suffice nothing is
+/// noted.
+pub(crate) fn note_unfit<S: Shelf>(
+    alloc: Global,
+    shelf: &mut S,
+    text: &[u8],
+    any: Option<u8>,
+    word: &[u8],
+    status: u8,
+)
+    ensures { S.told shelf.new ≡ S.told shelf.old }
+{
+    match status {
+        1 => note_reason(alloc, shelf, text, any, word),
+        _ => note_encoding(shelf, text, status),
+    }
+}
