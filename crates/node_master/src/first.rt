@@ -120,7 +120,47 @@ fn solve_near_or_exact(
     }
 }
 
-/// Hunts on until no tree is cheap, and solves the master then.
+/// Hunts once more at a scout that takes less for 0, asks for near prices, and solves the master exactly where
+/// they are not shown to be best.
+#[tactic(auto, using(crate::proofs::PoolGrowth::grown_chain))]
+fn solve_tightly(
+    alloc: Global,
+    instance: &Instance,
+    graph: &Graph,
+    pricer: &mut Pricer,
+    pool: &mut Pool,
+    cuts: &[Cut],
+    rows: &NodeRows,
+    wanted: &[usize],
+    bases: &mut Bases,
+    tally: &mut Tally,
+) -> Result<NodeEnd, Memory>
+    requires sound { IsSoundInstance instance.now }
+    requires busy { IsPlainlyInfeasible instance.now → ⊥ }
+    requires graph { IsGraph instance.now.grammar graph.now }
+    requires tree { (t : Parts) × IsDayTree instance.now.grammar t }
+    requires pricer { IsMadeFor graph.now pricer.old }
+    requires pool { IsPool instance.now.grammar pool.old }
+    requires cuts { Each (IsNodeCut instance.now) cuts.now }
+    requires rows { AreRows instance.now cuts.now rows.now }
+    requires small { length (rows_of instance.now cuts.now) ≤ 1500 }
+    ensures end { IfOk result (EndsRight instance.now cuts.now pool.new tally.old tally.new) }
+    ensures pricer { IsMadeFor graph.now pricer.new }
+    ensures pool { IsPool instance.now.grammar pool.new }
+    ensures grown { IsGrown pool.old pool.new }
+    ensures counts { (tally.old.wide ≤ tally.new.wide) × (tally.old.spent ≤ tally.new.spent) }
+{
+    let tight = Ending::Tight;
+    let hint = hunt(
+        alloc, instance, graph, pricer, pool, cuts, rows, wanted, tight, bases,
+    )?;
+    solve_near_or_exact(
+        alloc, instance, graph, pricer, pool, cuts, rows, &hint, tally,
+    )
+}
+
+/// Hunts on until no tree is cheap, and asks for near prices; where they are not shown to be best it goes on at a
+/// scout that takes less for 0.
 #[tactic(auto, using(crate::proofs::PoolGrowth::grown_chain))]
 fn solve_hunted_on(
     alloc: Global,
@@ -149,25 +189,21 @@ fn solve_hunted_on(
     ensures grown { IsGrown pool.old pool.new }
     ensures counts { (tally.old.wide ≤ tally.new.wide) × (tally.old.spent ≤ tally.new.spent) }
 {
+    let whole = Ending::Whole;
     let hint = hunt(
-        alloc,
-        instance,
-        graph,
-        pricer,
-        pool,
-        cuts,
-        rows,
-        wanted,
-        Ending::Whole,
-        bases,
+        alloc, instance, graph, pricer, pool, cuts, rows, wanted, whole, bases,
     )?;
-    solve_near_or_exact(
-        alloc, instance, graph, pricer, pool, cuts, rows, &hint, tally,
-    )
+    let near = near_end(alloc, instance, graph, pricer, pool, cuts, rows, &hint.near)?;
+    match near {
+        Some(end) => Ok(end),
+        None => solve_tightly(
+            alloc, instance, graph, pricer, pool, cuts, rows, wanted, bases, tally,
+        ),
+    }
 }
 
-/// Asks for near prices; where they are not shown to be best and the hunt ended early, it hunts on first, and at
-/// last it solves the master exactly.
+/// Asks for near prices. Where they are not shown to be best, it hunts on first if the hunt ended early, then at
+/// a scout that takes less for 0, and at last it solves the master exactly.
 pub(crate) fn solve_near_first(
     alloc: Global,
     instance: &Instance,
@@ -196,15 +232,13 @@ pub(crate) fn solve_near_first(
     ensures grown { IsGrown pool.old pool.new }
     ensures counts { (tally.old.wide ≤ tally.new.wide) × (tally.old.spent ≤ tally.new.spent) }
 {
-    if !hint.is_early {
-        return solve_near_or_exact(
-            alloc, instance, graph, pricer, pool, cuts, rows, hint, tally,
-        );
-    }
     let near = near_end(alloc, instance, graph, pricer, pool, cuts, rows, &hint.near)?;
     match near {
         Some(end) => Ok(end),
-        None => solve_hunted_on(
+        None if hint.is_early => solve_hunted_on(
+            alloc, instance, graph, pricer, pool, cuts, rows, wanted, bases, tally,
+        ),
+        None => solve_tightly(
             alloc, instance, graph, pricer, pool, cuts, rows, wanted, bases, tally,
         ),
     }

@@ -49,7 +49,12 @@ pub(crate) enum Ending {
     Early,
     /// Where no tree is cheap.
     Whole,
+    /// The same, at a scout that takes less for 0.
+    Tight,
 }
+
+/// By what the tolerances of a scout are multiplied where it is to take less for 0.
+const TIGHTER: f64 = 0.125;
 
 /// Half the rounding loss, of which one is 2^-20, in units of 2^-32.
 const HALF_LOSS: i128 = 2_048;
@@ -356,6 +361,22 @@ fn keep_basis(
     })
 }
 
+/// Returns a scout of the columns at a desk, from a start.
+fn begun_scout(
+    alloc: Global,
+    desk: &Desk,
+    rows: &NodeRows,
+    start: &Start,
+    ending: Ending,
+) -> Result<Scout, Memory> {
+    let mut scout = scout_of(alloc, desk.held.as_slice(), rows.right())?;
+    if ending == Ending::Tight {
+        scout.tighten(TIGHTER);
+    }
+    begin(&mut scout, start.keys.as_slice());
+    Ok(scout)
+}
+
 /// Hunts with a new scout, and returns its last basis, which is kept.
 fn hunt_at(
     alloc: Global,
@@ -368,6 +389,7 @@ fn hunt_at(
     pool: &mut Pool,
     desk: &mut Desk,
     start: &Start,
+    ending: Ending,
     bases: &mut Bases,
 ) -> Result<Hint, Memory>
     requires sound { IsSoundInstance instance.now }
@@ -382,8 +404,7 @@ fn hunt_at(
     ensures pool { IsPool instance.now.grammar pool.new }
     ensures grown { IsGrown pool.old pool.new }
 {
-    let mut scout = scout_of(alloc, desk.held.as_slice(), rows.right())?;
-    begin(&mut scout, start.keys.as_slice());
+    let mut scout = begun_scout(alloc, desk, rows, start, ending)?;
     hunt_rounds(
         alloc, instance, cuts, graph, rows, asked, pricer, pool, desk, &mut scout,
     )?;
@@ -425,7 +446,7 @@ fn hunt_from(
         asked.end_within(near_value(instance, cuts.len()));
     }
     hunt_at(
-        alloc, instance, cuts, graph, rows, &mut asked, pricer, pool, desk, start, bases,
+        alloc, instance, cuts, graph, rows, &mut asked, pricer, pool, desk, start, ending, bases,
     )
 }
 
