@@ -1,4 +1,4 @@
-ghost use Rattle.std.specs.Prelude.{◌≡◌, ◌≤◌, [], ◌∷◌, IfNone, MatchOption, OnOk, OnErr};
+ghost use Rattle.std.specs.Prelude.{◌≡◌, ◌≤◌, [], ◌∷◌, IfNone, MatchOption, OnOk, OnErr, length};
 ghost use Rattle.roster_model.specs.Folds.{Each};
 ghost use Rattle.open_nodes.specs.Queues.{SameLeaves};
 
@@ -42,6 +42,13 @@ impl OpenNodes {
             heap: BinaryHeap::new(alloc),
             kept: Slab::new(alloc),
         }
+    }
+
+    /// Returns how many leaves there are.
+    pub fn len(&self) -> usize
+        ensures { result ≡ length self.now }
+    {
+        self.heap.len()
     }
 
     /// Adds a leaf. After an error all leaves are as before.

@@ -103,6 +103,13 @@ impl SearchTree {
         self.failed
     }
 
+    /// Returns how many leaves wait.
+    pub fn waiting(&self) -> usize
+        ensures { result ≡ length self.now.waiting }
+    {
+        self.waiting.len()
+    }
+
     /// Returns the seats of the tree's nodes.
     pub fn seats(&self) -> &[Seat]
         ensures { result.now ≡ self.now.seats }

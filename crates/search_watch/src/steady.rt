@@ -1,0 +1,18 @@
+use crate::standing::{Standing, Subject};
+use crate::watch::Watch;
+
+/// A watch that lets each search go on to its end, and says nothing.
+#[derive(Clone, Copy, Debug, Drop)]
+pub struct SteadyWatch;
+
+impl Watch for SteadyWatch {
+    ghost use Rattle.std.specs.Prelude.{true};
+
+    ghost patient = { λ _. true };
+
+    fn begin(&mut self, _subject: Subject, _seconds: Option<u32>) {}
+
+    fn goes_on(&mut self, _standing: &Standing) -> bool {
+        true
+    }
+}

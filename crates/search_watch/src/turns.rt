@@ -1,0 +1,29 @@
+use crate::standing::{Standing, Subject};
+use crate::watch::Watch;
+
+/// A watch without a clock: it counts a second for each turn.
+#[derive(Clone, Copy, Debug, Drop)]
+pub struct TurnWatch {
+    seconds: Option<u32>,
+}
+
+impl TurnWatch {
+    /// Returns a watch that stops no search before it begins with one.
+    pub fn new() -> TurnWatch {
+        TurnWatch { seconds: None }
+    }
+}
+
+impl Watch for TurnWatch {
+    ghost use Rattle.std.specs.Option.{is_none};
+
+    ghost patient = { λ w. is_none w.seconds };
+
+    fn begin(&mut self, _subject: Subject, seconds: Option<u32>) {
+        self.seconds = seconds;
+    }
+
+    fn goes_on(&mut self, standing: &Standing) -> bool {
+        self.seconds.is_none_or(|seconds| standing.turn < seconds)
+    }
+}
