@@ -64,7 +64,8 @@ fn run(program: &mut Program) -> bool
 }
 
 /// Runs the program with further trees that are cheap, until its value is near to what prices show of it, or
-/// they show that hardly a roster costs less than this. Says whether its values can be used.
+/// they show that hardly a roster costs less than this. Where that was shown before, no tree is asked for. Says
+/// whether its values can be used.
 fn solve(
     alloc: Global,
     instance: &Instance,
@@ -91,6 +92,9 @@ fn solve(
     ensures pool { IsPool instance.now.grammar pool.new }
     ensures grown { IsGrown pool.old pool.new }
 {
+    if program.is_over {
+        return Ok(run(program));
+    }
     for _ in 0..ROUNDS {
         if !run(program) {
             return Ok(false);
@@ -105,8 +109,8 @@ fn solve(
     Ok(run(program))
 }
 
-/// Takes a step: solves the program, and fixes trees by its weights. Says whether any was fixed; none is
-/// where the program's value comes near to the cost below which a roster is looked for.
+/// Takes a step: solves the program, and fixes trees by its weights. Says whether any was fixed. From where the
+/// program's value comes near to the cost below which a roster is looked for, no tree is asked for.
 fn step(
     alloc: Global,
     instance: &Instance,
@@ -141,9 +145,7 @@ fn step(
     )? {
         return Ok(false);
     }
-    if program.is_dear(cost) {
-        return Ok(false);
-    }
+    program.is_over = program.is_over || program.is_dear(cost);
     let left = program.sum_up(graph, pool, &mut desk.arcs.sums) / ONE;
     fix_some(
         alloc, instance, graph, cuts, rows, pricer, desk, program, pool, left,
@@ -273,9 +275,9 @@ fn dive_over(
 /// the trees of the pool that it fixed: the begin of a roster, or all of it.
 ///
 /// It solves the node's program at a scout, fixes a few trees that its weights come near to, takes them
-/// off the program, and goes on so, until its value shows that hardly a roster with them costs less than
-/// `cost`. Trees of the pool that are `begun` are listed in the program, beside the
-/// last ones of the pool: any list of numbers is lawful.
+/// off the program, and goes on so until no tree has weight. Once its value shows that hardly a roster with
+/// the fixed trees costs less than `cost`, it asks for no further tree. Trees of the pool that are `begun` are
+/// listed in the program, beside the last ones of the pool: any list of numbers is lawful.
 ///
 /// # Errors
 ///

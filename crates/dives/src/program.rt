@@ -39,6 +39,8 @@ pub(crate) struct Program {
     pub shown: Option<i128>,
     /// How many arcs all passes over the graph have touched.
     pub touched: u64,
+    /// Whether its value has passed the cost below which a roster is looked for: no further tree is asked for.
+    pub is_over: bool,
 }
 
 /// Returns a copy of numbers.
@@ -81,6 +83,7 @@ impl Program {
                 is_solved: false,
                 shown: None,
                 touched: 0,
+                is_over: false,
             }),
             Err(fault) => {
                 drop(sides);

@@ -3,7 +3,7 @@ ghost use Rattle.std.specs.Prelude.{◌≡◌, length};
 use roster_model::Cell;
 
 /// Says whether a word of these codes works at a cell.
-fn works(codes: &[u8], cell: &Cell) -> bool {
+pub(crate) fn works(codes: &[u8], cell: &Cell) -> bool {
     match codes.get((cell.period as usize).saturating_sub(1)) {
         Some(code) => *code == cell.code,
         None => false,

@@ -7,7 +7,8 @@ ghost use Rattle.parse_graph.specs.Graphs.{IsGraph};
 ghost use Rattle.cheapest_tree.specs.Pricers.{IsMadeFor, IsFilled};
 ghost use Rattle.roster_moves.specs.Drafts.{IsDraft};
 
-use crate::counts::count_in;
+use crate::blending::{Blend, UNITS, set_blended};
+use crate::counts::{count_in, count_out};
 use crate::savings::set_savings;
 use cheapest_tree::Pricer;
 use parse_graph::Graph;
@@ -83,6 +84,38 @@ impl Draft {
         Ok(())
     }
 
+    /// Takes a tree out, where it is there.
+    pub fn take(&mut self, instance: &Instance, pool: &Pool, column: usize)
+        requires draft { IsDraft instance.now (length pool.now) self.old }
+        ensures { IsDraft instance.now (length pool.now) self.new }
+    {
+        let Some(place) = place_of(&self.columns, column) else {
+            return;
+        };
+        if place < self.columns.len() && column < pool.len() {
+            let _column = self.columns.swap_remove(place);
+            count_out(
+                instance.cells.as_slice(),
+                pool.codes(column),
+                &mut self.counts,
+            );
+        }
+    }
+
+    /// Takes the last tree out.
+    pub fn pop(&mut self, instance: &Instance, pool: &Pool)
+        requires draft { IsDraft instance.now (length pool.now) self.old }
+        ensures { IsDraft instance.now (length pool.now) self.new }
+    {
+        if let Some(column) = self.columns.pop() {
+            count_out(
+                instance.cells.as_slice(),
+                pool.codes(column),
+                &mut self.counts,
+            );
+        }
+    }
+
     /// Fills the pricer for what one more tree would cost, and returns the least such sum of all trees of
     /// the day.
     pub fn price(
@@ -110,4 +143,50 @@ impl Draft {
         prices.set_parts(instance, 1, self.savings.as_slice(), &[], &[]);
         pricer.cheapest(graph, prices)
     }
+
+    /// Fills the pricer for what one more tree would cost where the node's prices are these, blended, and
+    /// returns the least such sum of all trees of the day, in units of 1/256.
+    pub fn price_blended(
+        &mut self,
+        instance: &Instance,
+        graph: &Graph,
+        pricer: &mut Pricer,
+        prices: &mut PriceRoom,
+        worths: &[i64],
+        blend: Blend,
+    ) -> Option<i128>
+        requires sound { IsSoundInstance instance.now }
+        requires graph { IsGraph instance.now.grammar graph.now }
+        requires pricer { IsMadeFor graph.now pricer.old }
+        requires prices { IsRoomFor prices.old instance.now }
+        requires counts { length self.old.counts.items ≡ length instance.now.cells }
+        requires savings { length self.old.savings.items ≡ length instance.now.cells }
+        ensures least { IsLeast (IsDayTree instance.now.grammar) (tree_sum (price_view prices.new) 1) result }
+        ensures filled { IsFilled instance.now.grammar (price_view prices.new) graph.now pricer.new }
+        ensures pricer { IsMadeFor graph.now pricer.new }
+        ensures prices { IsRoomFor prices.new instance.now }
+        ensures most { prices.new.most ≡ prices.old.most }
+        ensures length { length self.new.savings.items ≡ length self.old.savings.items }
+        ensures kept { self.new ≡ record self.old { savings = self.new.savings } }
+    {
+        set_blended(
+            instance.cells.as_slice(),
+            &self.counts,
+            worths,
+            blend,
+            &mut self.savings,
+        );
+        prices.set_parts(instance, UNITS, self.savings.as_slice(), &[], &[]);
+        pricer.cheapest(graph, prices)
+    }
+}
+
+/// Returns the first place of a tree.
+fn place_of(columns: &[usize], column: usize) -> Option<usize> {
+    for (place, other) in columns.iter().enumerate() {
+        if *other == column {
+            return Some(place);
+        }
+    }
+    None
 }

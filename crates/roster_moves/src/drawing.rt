@@ -1,5 +1,11 @@
 ghost use Rattle.std.specs.Prelude.{◌<◌};
 
+/// What the draws of a turn begin with, beside its number.
+const FIRST: u64 = 88_172_645_463_325_252;
+
+/// What a turn's number is multiplied with, so that the draws of near turns differ.
+const SPREAD: u64 = 11_400_714_819_323_198_485;
+
 /// Numbers that look like chance, the same ones each time.
 #[derive(Clone, Copy, Drop)]
 pub(crate) struct Draws {
@@ -7,11 +13,16 @@ pub(crate) struct Draws {
 }
 
 impl Draws {
-    /// Returns the draws from the first one on.
-    pub fn new() -> Draws {
+    /// Returns the draws of a turn from the first one on.
+    pub fn of_turn(turn: u32) -> Draws {
         Draws {
-            state: 88_172_645_463_325_252,
+            state: u64::from(turn).wrapping_mul(SPREAD).wrapping_add(FIRST),
         }
+    }
+
+    /// Returns other draws, which these numbers begin.
+    pub fn others(&mut self) -> Draws {
+        Draws::of_turn(self.below(1 << 31) as u32)
     }
 
     /// Draws a number below a count.

@@ -101,14 +101,15 @@ fn exchange(
     refill(instance, graph, pricer, prices, pool, draft, place)
 }
 
-/// Exchanges each tree once, in their order.
-pub(crate) fn exchange_all(
+/// Exchanges each tree from a place on once, in their order.
+pub(crate) fn exchange_from(
     instance: &Instance,
     graph: &Graph,
     pricer: &mut Pricer,
     prices: &mut PriceRoom,
     pool: &mut Pool,
     draft: &mut Draft,
+    first: usize,
 ) -> Result<(), Memory>
     requires sound { IsSoundInstance instance.now }
     requires graph { IsGraph instance.now.grammar graph.now }
@@ -123,7 +124,7 @@ pub(crate) fn exchange_all(
     ensures pool { IsPool instance.now.grammar pool.new }
     ensures grown { IsGrown pool.old pool.new }
 {
-    for place in 0..draft.columns.len() {
+    for place in first..draft.columns.len() {
         exchange(instance, graph, pricer, prices, pool, draft, place)?;
     }
     Ok(())

@@ -1,19 +1,23 @@
-//! Rosters made better move by move: completed shift by shift, exchanged one by one, and renewed a few at
-//! a time.
+//! Rosters made better move by move: completed shift by shift, exchanged one by one, and changed a few shifts
+//! at a time.
 #![tactic(auto)]
 
+mod blending;
 mod choice;
 mod completing;
 mod copying;
 mod counts;
+mod descending;
 mod draft;
 mod drawing;
 mod exchanging;
 mod growing;
-mod renewing;
+mod guide;
+mod ranking;
 mod savings;
 mod teams;
 mod trees;
 mod weighing;
 
 pub use completing::complete;
+pub use guide::Guide;

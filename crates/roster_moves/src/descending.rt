@@ -1,0 +1,390 @@
+ghost use Rattle.std.specs.Prelude.{◌≡◌, ◌<◌, OnOk, length};
+ghost use Rattle.roster_model.specs.PriceRooms.{IsRoomFor};
+ghost use Rattle.roster_model.specs.SoundInstance.{IsSoundInstance};
+ghost use Rattle.parse_graph.specs.Graphs.{IsGraph};
+ghost use Rattle.cheapest_tree.specs.Pricers.{IsMadeFor};
+ghost use Rattle.tree_pool.specs.Pools.{IsPool, IsGrown};
+ghost use Rattle.roster_moves.specs.Drafts.{IsDraft};
+
+use crate::blending::{Blend, PARTS};
+use crate::draft::Draft;
+use crate::drawing::Draws;
+use crate::exchanging::exchange_from;
+use crate::growing::{grow, grow_blended};
+use crate::guide::Guide;
+use crate::ranking::{Rank, drawn_mode, list_ranks, set_values};
+use crate::weighing::weight_of;
+use cheapest_tree::Pricer;
+use parse_graph::Graph;
+use roster_model::{Instance, Memory, PriceRoom, Prices};
+use std::alloc::Global;
+use tree_pool::Pool;
+
+/// How many trees go in a move at most.
+const MOST: usize = 5;
+
+/// So many trees of a draft count for its allowance at most: no day has more employees.
+const MOST_TREES: usize = 64;
+
+/// How many shares of the node's price there are, from 0 sixteenths on.
+const SHARES: usize = 13;
+
+/// A node's price of a cell counts at most so much in size, in sixteenths: more than any cell has.
+const MOST_WORTH: i128 = 1_073_741_824;
+
+/// What a descent works on, beside its draft.
+#[derive(Drop)]
+struct Desk {
+    /// The node's price of each cell, in sixteenths.
+    worths: Vec<i64>,
+    /// What an employee at each cell counts for who goes.
+    values: Vec<i64>,
+    /// The trees of the draft, by how late they go.
+    ranks: Vec<Rank>,
+    draws: Draws,
+}
+
+/// What a move is: how many trees go, and how much of the prices of those that come is the node's.
+#[derive(Clone, Copy, Drop)]
+struct Move {
+    count: usize,
+    /// In sixteenths.
+    share: i64,
+}
+
+/// How many passes over the graph a descent takes.
+#[derive(Clone, Copy, Drop)]
+struct Allowance {
+    taken: u32,
+    allowed: u32,
+    most: u32,
+}
+
+impl Move {
+    /// Returns how many passes over the graph the move takes at most: one for each tree that comes, and one
+    /// for each that it gives way to.
+    fn passes(self) -> u32 {
+        let trees = (self.count.min(MOST) as u32).saturating_add(1);
+        trees.saturating_mul(2)
+    }
+}
+
+impl Allowance {
+    /// Returns the allowance of a descent without moves of a draft with so many trees.
+    fn of(guide: &Guide, trees: usize) -> Allowance {
+        let trees = trees.min(MOST_TREES) as u32;
+        let square = trees.saturating_mul(trees);
+        Allowance {
+            taken: 0,
+            allowed: guide.passes.saturating_mul(square),
+            most: guide.most.saturating_mul(square),
+        }
+    }
+
+    /// Counts the passes of a move.
+    fn take(&mut self, step: Move) {
+        self.taken = self.taken.saturating_add(step.passes());
+    }
+
+    /// Allows as many passes again as were taken: the draft weighs less than before.
+    fn extend(&mut self) {
+        let twice = self.taken.saturating_mul(2).min(self.most);
+        self.allowed = self.allowed.max(twice);
+    }
+
+    /// Says whether no further move is to be made.
+    fn is_spent(&self) -> bool {
+        self.taken >= self.allowed
+    }
+}
+
+/// Returns a price in units of 1 / `d` in sixteenths.
+fn worth_of(price: i128, d: u64) -> i64 {
+    let parts = price.saturating_mul(i128::from(PARTS));
+    let worth = parts.checked_div(i128::from(d)).unwrap_or(0);
+    worth.clamp(-MOST_WORTH, MOST_WORTH) as i64
+}
+
+/// Sets the node's prices of the cells in sixteenths.
+fn set_worths(prices: &Prices, worths: &mut [i64]) {
+    for (price, worth) in prices.cell.as_slice().iter().zip(worths.iter_mut()) {
+        *worth = worth_of(*price, prices.d);
+    }
+}
+
+/// Returns a zero for each cell.
+fn zeros(alloc: Global, instance: &Instance) -> Result<Vec<i64>, Memory> {
+    match vec![in alloc; 0i64; instance.cells.len()] {
+        Ok(zeros) => Ok(zeros),
+        Err(_) => Err(Memory),
+    }
+}
+
+impl Desk {
+    /// Returns a desk for a descent.
+    fn new(alloc: Global, instance: &Instance, guide: &Guide) -> Result<Desk, Memory> {
+        let mut worths = zeros(alloc, instance)?;
+        set_worths(guide.prices, &mut worths);
+        let values = zeros(alloc, instance)?;
+        Ok(Desk {
+            worths,
+            values,
+            ranks: Vec::new(alloc),
+            draws: Draws::of_turn(guide.turn),
+        })
+    }
+
+    /// Draws a move, and ranks the trees of a draft by how late they go in it.
+    fn draw(&mut self, instance: &Instance, pool: &Pool, draft: &Draft) -> Result<Move, Memory>
+        requires draft { IsDraft instance.now (length pool.now) draft.now }
+        requires some { 0 < length draft.now.columns.items }
+    {
+        let cells = instance.cells.as_slice();
+        let columns = draft.columns.as_slice();
+        let count = self.draws.below(MOST.min(columns.len())).saturating_add(1);
+        let share = self.draws.below(SHARES) as i64;
+        let mode = drawn_mode(&mut self.draws, instance, columns);
+        set_values(
+            cells,
+            pool,
+            &draft.counts,
+            &self.worths,
+            mode,
+            &mut self.values,
+        );
+        list_ranks(
+            cells,
+            pool,
+            columns,
+            mode,
+            &self.values,
+            &mut self.draws,
+            &mut self.ranks,
+        )?;
+        Ok(Move { count, share })
+    }
+
+    /// Returns how the prices are blended of the next tree that comes in a move, after which so many more
+    /// come.
+    fn blend(&mut self, step: Move, later: usize) -> Blend {
+        Blend {
+            share: if later > 0 { step.share } else { 0 },
+            noise: self.draws.others(),
+        }
+    }
+}
+
+/// Takes the first trees of the ranks out of a draft.
+fn take_out(instance: &Instance, pool: &Pool, draft: &mut Draft, ranks: &[Rank], count: usize)
+    requires draft { IsDraft instance.now (length pool.now) draft.old }
+    ensures draft { IsDraft instance.now (length pool.now) draft.new }
+{
+    for rank in ranks.iter().take(count) {
+        draft.take(instance, pool, rank.column);
+    }
+}
+
+/// Takes a move back: the trees from a place on go out of the draft, and the first ones of the ranks come in.
+fn take_back(
+    instance: &Instance,
+    pool: &Pool,
+    draft: &mut Draft,
+    first: usize,
+    ranks: &[Rank],
+    count: usize,
+) -> Result<(), Memory>
+    requires draft { IsDraft instance.now (length pool.now) draft.old }
+    ensures draft { OnOk result (IsDraft instance.now (length pool.now) draft.new) }
+{
+    for _ in first..draft.columns.len() {
+        draft.pop(instance, pool);
+    }
+    for rank in ranks.iter().take(count) {
+        if rank.column < pool.len() {
+            draft.push(instance, pool, rank.column)?;
+        }
+    }
+    Ok(())
+}
+
+/// Adds as many trees to a draft as go in a move, each a cheapest one of the team that is to have one more
+/// employee, while there is such a team.
+fn put_in(
+    instance: &Instance,
+    graph: &Graph,
+    pricer: &mut Pricer,
+    prices: &mut PriceRoom,
+    pool: &mut Pool,
+    draft: &mut Draft,
+    desk: &mut Desk,
+    step: Move,
+) -> Result<(), Memory>
+    requires sound { IsSoundInstance instance.now }
+    requires graph { IsGraph instance.now.grammar graph.now }
+    requires pricer { IsMadeFor graph.now pricer.old }
+    requires prices { IsRoomFor prices.old instance.now }
+    requires pool { IsPool instance.now.grammar pool.old }
+    requires draft { IsDraft instance.now (length pool.old) draft.old }
+    ensures draft { OnOk result (IsDraft instance.now (length pool.new) draft.new) }
+    ensures pricer { IsMadeFor graph.now pricer.new }
+    ensures prices { IsRoomFor prices.new instance.now }
+    ensures most { prices.new.most ≡ prices.old.most }
+    ensures pool { IsPool instance.now.grammar pool.new }
+    ensures grown { IsGrown pool.old pool.new }
+{
+    for come in 0..step.count {
+        let later = step.count.saturating_sub(come).saturating_sub(1);
+        let blend = desk.blend(step, later);
+        let worths = &desk.worths;
+        if !grow_blended(instance, graph, pricer, prices, pool, draft, worths, blend)? {
+            return Ok(());
+        }
+    }
+    Ok(())
+}
+
+/// Puts trees in place of those that went in a move: as many, and one more where it saves, and then each
+/// gives way to a cheapest one of its team.
+fn refill(
+    instance: &Instance,
+    graph: &Graph,
+    pricer: &mut Pricer,
+    prices: &mut PriceRoom,
+    pool: &mut Pool,
+    draft: &mut Draft,
+    desk: &mut Desk,
+    step: Move,
+) -> Result<(), Memory>
+    requires sound { IsSoundInstance instance.now }
+    requires graph { IsGraph instance.now.grammar graph.now }
+    requires pricer { IsMadeFor graph.now pricer.old }
+    requires prices { IsRoomFor prices.old instance.now }
+    requires pool { IsPool instance.now.grammar pool.old }
+    requires draft { IsDraft instance.now (length pool.old) draft.old }
+    ensures draft { OnOk result (IsDraft instance.now (length pool.new) draft.new) }
+    ensures pricer { IsMadeFor graph.now pricer.new }
+    ensures prices { IsRoomFor prices.new instance.now }
+    ensures most { prices.new.most ≡ prices.old.most }
+    ensures pool { IsPool instance.now.grammar pool.new }
+    ensures grown { IsGrown pool.old pool.new }
+{
+    let first = draft.columns.len();
+    put_in(instance, graph, pricer, prices, pool, draft, desk, step)?;
+    let _grown = grow(instance, graph, pricer, prices, pool, draft)?;
+    if draft.columns.len() <= first.saturating_add(1) {
+        return Ok(());
+    }
+    exchange_from(instance, graph, pricer, prices, pool, draft, first)
+}
+
+/// Makes a move, and takes it back where the draft would weigh more than so much. Returns what it weighs.
+fn make(
+    instance: &Instance,
+    graph: &Graph,
+    pricer: &mut Pricer,
+    prices: &mut PriceRoom,
+    pool: &mut Pool,
+    draft: &mut Draft,
+    desk: &mut Desk,
+    step: Move,
+    weight: u64,
+) -> Result<u64, Memory>
+    requires sound { IsSoundInstance instance.now }
+    requires graph { IsGraph instance.now.grammar graph.now }
+    requires pricer { IsMadeFor graph.now pricer.old }
+    requires prices { IsRoomFor prices.old instance.now }
+    requires pool { IsPool instance.now.grammar pool.old }
+    requires draft { IsDraft instance.now (length pool.old) draft.old }
+    ensures draft { OnOk result (IsDraft instance.now (length pool.new) draft.new) }
+    ensures pricer { IsMadeFor graph.now pricer.new }
+    ensures prices { IsRoomFor prices.new instance.now }
+    ensures most { prices.new.most ≡ prices.old.most }
+    ensures pool { IsPool instance.now.grammar pool.new }
+    ensures grown { IsGrown pool.old pool.new }
+{
+    take_out(instance, pool, draft, &desk.ranks, step.count);
+    let first = draft.columns.len();
+    refill(instance, graph, pricer, prices, pool, draft, desk, step)?;
+    let changed = weight_of(instance, pool, draft);
+    if changed <= weight {
+        return Ok(changed);
+    }
+    take_back(instance, pool, draft, first, &desk.ranks, step.count)?;
+    Ok(weight)
+}
+
+/// Makes moves at a desk, while the draft, which weighs so much, weighs more than the goal.
+fn descend_at(
+    instance: &Instance,
+    graph: &Graph,
+    pricer: &mut Pricer,
+    prices: &mut PriceRoom,
+    pool: &mut Pool,
+    draft: &mut Draft,
+    desk: &mut Desk,
+    guide: &Guide,
+) -> Result<(), Memory>
+    requires sound { IsSoundInstance instance.now }
+    requires graph { IsGraph instance.now.grammar graph.now }
+    requires pricer { IsMadeFor graph.now pricer.old }
+    requires prices { IsRoomFor prices.old instance.now }
+    requires pool { IsPool instance.now.grammar pool.old }
+    requires draft { IsDraft instance.now (length pool.old) draft.old }
+    ensures draft { OnOk result (IsDraft instance.now (length pool.new) draft.new) }
+    ensures pricer { IsMadeFor graph.now pricer.new }
+    ensures prices { IsRoomFor prices.new instance.now }
+    ensures most { prices.new.most ≡ prices.old.most }
+    ensures pool { IsPool instance.now.grammar pool.new }
+    ensures grown { IsGrown pool.old pool.new }
+{
+    let mut weight = weight_of(instance, pool, draft);
+    let mut allowance = Allowance::of(guide, draft.columns.len());
+    for _ in 0..allowance.most {
+        if weight <= guide.goal || allowance.is_spent() || draft.columns.is_empty() {
+            return Ok(());
+        }
+        let step = desk.draw(instance, pool, draft)?;
+        allowance.take(step);
+        let changed = make(
+            instance, graph, pricer, prices, pool, draft, desk, step, weight,
+        )?;
+        if changed < weight {
+            allowance.extend();
+        }
+        weight = changed;
+    }
+    Ok(())
+}
+
+/// Makes a draft better by moves: a few trees go, cheapest ones come, and the draft stays so where it weighs
+/// no more.
+pub(crate) fn descend(
+    alloc: Global,
+    instance: &Instance,
+    graph: &Graph,
+    pricer: &mut Pricer,
+    prices: &mut PriceRoom,
+    pool: &mut Pool,
+    draft: &mut Draft,
+    guide: &Guide,
+) -> Result<(), Memory>
+    requires sound { IsSoundInstance instance.now }
+    requires graph { IsGraph instance.now.grammar graph.now }
+    requires pricer { IsMadeFor graph.now pricer.old }
+    requires prices { IsRoomFor prices.old instance.now }
+    requires pool { IsPool instance.now.grammar pool.old }
+    requires draft { IsDraft instance.now (length pool.old) draft.old }
+    ensures draft { OnOk result (IsDraft instance.now (length pool.new) draft.new) }
+    ensures pricer { IsMadeFor graph.now pricer.new }
+    ensures prices { IsRoomFor prices.new instance.now }
+    ensures most { prices.new.most ≡ prices.old.most }
+    ensures pool { IsPool instance.now.grammar pool.new }
+    ensures grown { IsGrown pool.old pool.new }
+{
+    let mut desk = Desk::new(alloc, instance, guide)?;
+    let end = descend_at(
+        instance, graph, pricer, prices, pool, draft, &mut desk, guide,
+    );
+    drop(desk);
+    end
+}
