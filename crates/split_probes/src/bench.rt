@@ -8,7 +8,8 @@ ghost use Rattle.master_rows.specs.NodeRows.{AreRows};
 use crate::shares::Share;
 use dives::{list_places, scout_of};
 use master_rows::NodeRows;
-use roster_model::{ArcKey, Cut, Instance, List, Memory};
+use parse_graph::Graph;
+use roster_model::{Cut, Instance, List, Memory};
 use scout::{LastRow, Limits, Scout, Scouted};
 use std::alloc::Global;
 use tree_pool::Pool;
@@ -25,15 +26,20 @@ const SOLVE: Limits = Limits {
     primal: 3_000,
 };
 
-/// No further cut is tried once the tries have touched so many times the entries that solving the program
-/// touched. With two times, sixteen arcs and twenty steps five days took 49 turns in all, and with these 33.
-const WORK: u64 = 6;
+/// The value 1.
+const ONE: i128 = 4_294_967_296;
 
-/// The steps that try a cut.
-const TRY: Limits = Limits {
-    dual: 40,
-    primal: 0,
-};
+/// A value is above another one where it is by more than 1/16.
+const MARGIN: i128 = 268_435_456;
+
+/// How many entries tries may touch.
+#[derive(Clone, Copy, Drop)]
+pub(crate) struct Budget {
+    /// For each entry that solving the program touched.
+    pub times: u64,
+    /// Beside that.
+    pub more: u64,
+}
 
 /// A node's program at a scout, and room to try cuts.
 #[derive(Drop)]
@@ -214,15 +220,26 @@ impl Bench {
     }
 
     /// Notes which of the listed trees have an arc.
-    pub fn note(&mut self, pool: &Pool, arc: &ArcKey) {
+    pub fn note(&mut self, graph: &Graph, pool: &Pool, arc: u32) {
+        let Some(arc) = graph.arcs().get(arc as usize) else {
+            return;
+        };
         for (flag, column) in self.flags.iter_mut().zip(self.listed.as_slice()) {
             *flag = *column < pool.len() && pool.has_arc(*column, arc);
         }
     }
 
-    /// Says whether so much was worked that no further cut is to be tried.
-    pub fn is_spent(&self) -> bool {
-        self.copy.work() > self.base.work().saturating_mul(WORK)
+    /// Says whether the tries have touched more entries than this lets them.
+    pub fn is_spent(&self, budget: Budget) -> bool {
+        let solved = self.base.work().saturating_mul(budget.times);
+        self.copy.work() > solved.saturating_add(budget.more)
+    }
+
+    /// Says whether a gain raises the value rounded up.
+    pub fn is_raised(&self, gain: i128) -> bool {
+        let shown = self.value.saturating_sub(MARGIN).saturating_add(ONE - 1) / ONE;
+        let least = shown.saturating_mul(ONE).saturating_add(MARGIN);
+        self.value.saturating_add(gain) > least
     }
 
     /// Returns the most that a cut is told to add to the value.
@@ -230,8 +247,8 @@ impl Bench {
         self.most
     }
 
-    /// Returns what a cut on the trees that were noted adds to the value.
-    pub fn gain(&mut self, cut: LastRow) -> Result<i128, Memory> {
+    /// Returns what a cut on the trees that were noted adds to the value by so many dual steps.
+    pub fn gain(&mut self, cut: LastRow, steps: u32) -> Result<i128, Memory> {
         if self.copy.rows() != self.base.rows() {
             return Ok(0);
         }
@@ -239,7 +256,11 @@ impl Bench {
         if begun.is_err() {
             return Ok(0);
         }
-        match self.copy.run(TRY) {
+        let limits = Limits {
+            dual: steps,
+            primal: 0,
+        };
+        match self.copy.run(limits) {
             Scouted::Stuck => Ok(self.most),
             Scouted::Grew => Ok(0),
             _ => Ok(

@@ -4,9 +4,13 @@
 
 mod bench;
 mod candidates;
+mod gains;
+mod halves;
+mod letters;
 mod probing;
 mod shares;
 mod sums;
 
+pub use gains::Gains;
 pub use probing::best_arc;
 pub use shares::Share;

@@ -3,91 +3,177 @@ ghost use Rattle.roster_model.specs.Folds.{Each};
 ghost use Rattle.roster_model.specs.SoundInstance.{IsSoundInstance};
 ghost use Rattle.master_laws.specs.Rows.{rows_of};
 ghost use Rattle.roster_model.specs.Limits.{IsSmallCut};
-ghost use Rattle.split_probes.specs.Chosen.{AreBelow};
 
-use crate::bench::Bench;
-use crate::candidates::{Candidate, ONE, candidates_of};
+use crate::bench::{Bench, Budget};
+use crate::candidates::{Candidate, Candidates, ONE, candidates_of};
+use crate::gains::Gains;
+use crate::halves::halves_of;
 use crate::shares::Share;
 use crate::sums::sums_of;
 use arc_branch::ArcBox;
 use parse_graph::Graph;
 use roster_model::{Cut, Instance, List, Memory};
-use scout::LastRow;
 use std::alloc::Global;
 use tree_pool::Pool;
 
-/// What an artificial column costs.
-const ARTIFICIAL: i64 = 131_072;
+/// The dual steps that try a cut on an arc.
+const TRY: u32 = 40;
 
-/// What is added to each gain, 1/16, so that a split whose one half gains nothing counts too.
-const LEAST: i128 = 268_435_456;
+/// The dual steps that try a cut on each letter.
+const GLANCE: u32 = 3;
 
-/// Returns the row of the half with at most this weight of the arc's trees.
-fn low_row(floor: i64) -> LastRow {
-    LastRow {
-        right: floor,
-        missing: 0,
-        beyond: None,
-    }
+/// How many letters are tried further.
+const KEPT: usize = 4;
+
+/// The dual steps that try a cut on these.
+const TRY_LETTER: u32 = 20;
+
+/// What the tries may touch until arcs are tried no further. With two times, sixteen arcs and twenty steps five
+/// days took 49 turns in all, and with these 33.
+const ARC_BUDGET: Budget = Budget { times: 6, more: 0 };
+
+/// What they may touch until letters are tried no further.
+const LETTER_BUDGET: Budget = Budget {
+    times: 12,
+    more: 100_000,
+};
+
+/// A letter is named unless an arc's score is more than so many times as great.
+const FAVOUR: i128 = 2;
+
+/// A candidate with its score; none with score 0.
+#[derive(Clone, Copy, Drop)]
+struct Rated {
+    score: i128,
+    candidate: Option<Candidate>,
 }
 
-/// Returns the row of the half with more.
-fn high_row(floor: i64) -> LastRow {
-    LastRow {
-        right: floor.saturating_add(1),
-        missing: ARTIFICIAL,
-        beyond: Some(0),
-    }
-}
-
-/// Returns the product of what both halves of a split gain.
-fn product(low: i128, high: i128) -> i128 {
-    low.saturating_add(LEAST)
-        .saturating_mul(high.saturating_add(LEAST))
-}
-
-/// Returns the product of what both halves of a split gain, where that can be above a score.
-fn score(
-    graph: &Graph,
-    pool: &Pool,
-    bench: &mut Bench,
-    candidate: &Candidate,
-    above: i128,
-) -> Result<i128, Memory>
-    requires { candidate.now.arc < length graph.now.arcs }
-{
-    bench.note(pool, &graph.arcs()[candidate.arc as usize]);
-    let low = bench.gain(low_row(candidate.floor))?;
-    if product(low, bench.most()) <= above {
-        return Ok(0);
-    }
-    let high = bench.gain(high_row(candidate.floor))?;
-    Ok(product(low, high))
-}
+const NONE: Rated = Rated {
+    score: 0,
+    candidate: None,
+};
 
 /// Returns the arc of the greatest score of those that are tried, the first of several.
-fn best_of(
+fn best_arc_of(
     graph: &Graph,
     pool: &Pool,
     bench: &mut Bench,
-    candidates: &[Candidate],
-) -> Result<Option<u32>, Memory>
-    requires { AreBelow (length graph.now.arcs) candidates.now }
-    ensures { IfOk result (λ found. IfSome found (λ arc. arc < length graph.now.arcs)) }
-{
-    let mut greatest = 0i128;
-    let mut found = None;
-    for candidate in candidates {
-        if bench.is_spent() {
-            return Ok(found);
+    arcs: &[Candidate],
+) -> Result<Rated, Memory> {
+    let mut best = NONE;
+    for arc in arcs {
+        if bench.is_spent(ARC_BUDGET) {
+            return Ok(best);
         }
-        let score = score(graph, pool, bench, candidate, greatest)?;
-        if score > greatest {
-            greatest = score;
-            found = Some(candidate.arc);
+        let score = halves_of(graph, pool, bench, arc, TRY, best.score)?.score();
+        if score > best.score {
+            best = Rated {
+                score,
+                candidate: Some(*arc),
+            };
         }
     }
-    Ok(found)
+    Ok(best)
+}
+
+/// Puts a candidate before those of less score, the last of which falls out.
+fn rank(ranked: &mut [Rated], rated: Rated) {
+    let mut next = rated;
+    for place in ranked.iter_mut() {
+        if next.score > place.score {
+            let behind = *place;
+            *place = next;
+            next = behind;
+        }
+    }
+}
+
+/// Returns the letters of the greatest scores at a glance.
+fn kept_of(
+    alloc: Global,
+    graph: &Graph,
+    pool: &Pool,
+    bench: &mut Bench,
+    letters: &[Candidate],
+) -> Result<Vec<Rated>, Memory> {
+    let Ok(mut kept) = vec![in alloc; NONE; KEPT] else {
+        return Err(Memory);
+    };
+    for letter in letters {
+        if bench.is_spent(LETTER_BUDGET) {
+            return Ok(kept);
+        }
+        let least = kept.last().map_or(0, |rated| rated.score);
+        let score = halves_of(graph, pool, bench, letter, GLANCE, least)?.score();
+        let candidate = Some(*letter);
+        rank(kept.as_mut_slice(), Rated { score, candidate });
+    }
+    Ok(kept)
+}
+
+/// Returns the letter of the greatest score of those that are kept, where one of its halves raises the bound
+/// that is shown.
+fn best_kept(
+    graph: &Graph,
+    pool: &Pool,
+    bench: &mut Bench,
+    kept: &[Rated],
+    gains: &mut Gains,
+) -> Result<Rated, Memory> {
+    let mut best = NONE;
+    for rated in kept {
+        let Some(letter) = rated.candidate else {
+            return Ok(best);
+        };
+        if bench.is_spent(LETTER_BUDGET) {
+            return Ok(best);
+        }
+        let halves = halves_of(graph, pool, bench, &letter, TRY_LETTER, best.score)?;
+        gains.count(&letter, &halves);
+        let score = halves.score();
+        if score > best.score && bench.is_raised(halves.most()) {
+            best = Rated {
+                score,
+                candidate: rated.candidate,
+            };
+        }
+    }
+    Ok(best)
+}
+
+/// Returns the arc that is named, of the best arc and the best letter.
+fn named(arc: &Rated, letter: &Rated) -> Option<u32> {
+    let is_arc_better = arc.score > letter.score.saturating_mul(FAVOUR);
+    let best = if is_arc_better { arc } else { letter };
+    match best.candidate {
+        Some(candidate) => Some(candidate.arc),
+        None => None,
+    }
+}
+
+/// Returns the best of the arcs that are tried, at the node's program.
+fn best_tried(
+    alloc: Global,
+    graph: &Graph,
+    pool: &Pool,
+    bench: &mut Bench,
+    candidates: &Candidates,
+    gains: &mut Gains,
+) -> Result<Option<u32>, Memory> {
+    let arc = best_arc_of(graph, pool, bench, candidates.arcs.as_slice())?;
+    let kept = kept_of(alloc, graph, pool, bench, candidates.letters.as_slice())?;
+    let letter = best_kept(graph, pool, bench, kept.as_slice(), gains)?;
+    Ok(named(&arc, &letter))
+}
+
+/// Returns a number where it is that of an arc of the graph.
+fn arc_of(graph: &Graph, number: Option<u32>) -> Option<u32>
+    ensures { IfSome result (λ arc. arc < length graph.now.arcs) }
+{
+    match number {
+        Some(arc) if (arc as usize) < graph.arcs().len() => Some(arc),
+        _ => None,
+    }
 }
 
 /// Returns the arcs that are tried.
@@ -97,35 +183,12 @@ fn tried(
     arc_box: &ArcBox,
     pool: &Pool,
     shares: &[Share],
-) -> Result<List<Candidate>, Memory>
+    gains: &Gains,
+) -> Result<Candidates, Memory>
     requires { length arc_box.now.bounds ≡ length graph.now.arcs }
-    ensures { IfOk result (AreBelow (length graph.now.arcs)) }
 {
     let sums = sums_of(alloc, graph, pool, shares)?;
-    candidates_of(alloc, graph, arc_box, sums.as_slice())
-}
-
-/// Returns the best of the arcs that are tried, at the node's program.
-fn best_tried(
-    alloc: Global,
-    instance: &Instance,
-    graph: &Graph,
-    cuts: &[Cut],
-    pool: &Pool,
-    shares: &[Share],
-    candidates: &[Candidate],
-    limit: i128,
-) -> Result<Option<u32>, Memory>
-    requires sound { IsSoundInstance instance.now }
-    requires cuts { Each IsSmallCut cuts.now }
-    requires small { length (rows_of instance.now cuts.now) ≤ 1500 }
-    requires below { AreBelow (length graph.now.arcs) candidates.now }
-    ensures { IfOk result (λ found. IfSome found (λ arc. arc < length graph.now.arcs)) }
-{
-    match Bench::new(alloc, instance, cuts, pool, shares, limit)? {
-        Some(mut bench) => best_of(graph, pool, &mut bench, candidates),
-        None => Ok(None),
-    }
+    candidates_of(alloc, graph, arc_box, sums.as_slice(), gains)
 }
 
 /// Returns an arc of the graph on which a node may be split well, from the weights of the trees at its
@@ -133,8 +196,10 @@ fn best_tried(
 ///
 /// Arcs whose trees weigh no whole number are tried: both halves of their splits are solved for a few steps
 /// at a scout, over some trees of the pool, and the arc is named for which the product of what both add
-/// to the node's value is greatest. No roster that costs `limit` or more is looked for. It is a hint: that
-/// the split is sharp is for the caller to see.
+/// to the node's value is greatest. An arc that stands for a letter is named before others, unless its product
+/// is less than half as great as theirs or neither half raises the value rounded up. No roster that costs
+/// `limit` or more is looked for. It is a hint: that the split is sharp is for the caller to see. What splits
+/// on letters gained is counted.
 ///
 /// # Errors
 ///
@@ -148,6 +213,7 @@ pub fn best_arc(
     pool: &Pool,
     shares: &[Share],
     limit: u64,
+    gains: &mut Gains,
 ) -> Result<Option<u32>, Memory>
     requires sound { IsSoundInstance instance.now }
     requires cuts { Each IsSmallCut cuts.now }
@@ -155,19 +221,15 @@ pub fn best_arc(
     requires bounds { length arc_box.now.bounds ≡ length graph.now.arcs }
     ensures { IfOk result (λ found. IfSome found (λ arc. arc < length graph.now.arcs)) }
 {
-    let candidates = tried(alloc, graph, arc_box, pool, shares)?;
-    if candidates.len() < 2 {
+    let candidates = tried(alloc, graph, arc_box, pool, shares, gains)?;
+    if candidates.are_few() {
         return Ok(None);
     }
     let limit = i128::from(limit).saturating_mul(i128::from(ONE));
-    best_tried(
-        alloc,
-        instance,
-        graph,
-        cuts,
-        pool,
-        shares,
-        candidates.as_slice(),
-        limit,
-    )
+    let Some(mut bench) = Bench::new(alloc, instance, cuts, pool, shares, limit)? else {
+        return Ok(None);
+    };
+    let number = best_tried(alloc, graph, pool, &mut bench, &candidates, gains);
+    drop(bench);
+    Ok(arc_of(graph, number?))
 }
