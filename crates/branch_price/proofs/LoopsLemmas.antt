@@ -168,3 +168,21 @@ module _ (i : Instance) (sound : IsSoundInstance i) (busy : IsPlainlyInfeasible 
   closed-end old w (Some r) is next said closed =
       subst (λ (s : Option ℕ × Done). IsEnd i v strict before now turns (record { tree = w; best = Some r }) s.0 s.1) (sym closed)
       (closed-at old w (Some r) is next (Some r.cost) Equal refl (cost-most i r sound (next.taken v strict before now is.low is.tree is.is).1.best) (refl, refl) (λ e. absurd (cc)))
+
+-- a search that ends before its turns are used is one of as many turns as it took
+pub stopped-end : (i : Instance) (v : GraphView) (strict : Bool) (before now turns : ℕ) → turns ≤ 10000 → (old p : Progress) (leaf : OpenLeaf)
+    → IsLooping i v strict before now turns old → IsNext i old p (Some leaf) → IsSoundInstance i → (IsPlainlyInfeasible i → ⊥) → (HasNoArc i → ⊥)
+    → (p.tree.processed ≤ turns) × IsEnd i v strict before now p.tree.processed p (Some leaf.bound) TurnsOut
+stopped-end i v strict before now turns few old p leaf is next sound busy arcs =
+    let e = next.processed in
+    let w = is.within in
+    let within : p.tree.processed ≤ turns = omega (arith, e, w) in
+    let small : p.tree.processed ≤ 10000 = omega (arith, within, few) in
+    let own : IsLooping i v strict before now p.tree.processed old = record {
+      low = is.low;
+      tree = is.tree;
+      is = is.is;
+      rises = is.rises;
+      within = omega (arith, e);
+    } in
+    (within, turns-end i v strict before now p.tree.processed small old p leaf own next sound busy arcs refl)

@@ -1,5 +1,5 @@
 -- What holds before each turn of a search.
-use Rattle.std.specs.Prelude.{ℕ, ◌≤◌, Bool, []}
+use Rattle.std.specs.Prelude.{ℕ, ◌≡◌, ◌≤◌, Bool, IsTrue, []}
 use Rattle.roster_model.specs.declared.instance.Instance.{Instance}
 use Rattle.parse_graph.specs.Graphs.{GraphView}
 use Rattle.growing_laws.specs.Grown.{Grown}
@@ -14,3 +14,8 @@ pub record IsLooping (i : Instance) (v : GraphView) (strict : Bool) (before now 
   pub is : IsSearching (site_of i v strict before) now low [] p tree
   pub rises : before ≤ now
   pub within : p.tree.processed ≤ turns
+
+-- after so many turns a search of at most `turns` may end: one that a patient watch lets go on has used them all
+pub record MayStop (patient : Bool) (turns processed : ℕ) : Type 0 where
+  pub some : 1 ≤ processed
+  pub whole : IsTrue patient → processed ≡ turns

@@ -8,6 +8,7 @@ ghost use Rattle.node_path.specs.Paths.{IsPath};
 ghost use Rattle.branch_price.specs.Desks.{IsDesk};
 ghost use Rattle.branch_price.specs.Found.{HasNoArc, IsFound, AreCounted};
 ghost use Rattle.branch_price.specs.Steps.{IsBegun};
+ghost use Rattle.search_watch.specs.Within.{IsWithin};
 
 use crate::arcless::search_arcless;
 use crate::desk::Desk;
@@ -15,6 +16,7 @@ use crate::ended::{closed_end, found};
 use crate::found::Found;
 use crate::infeasible::{derived, no_roster};
 use crate::progress::Progress;
+use crate::stop::stops_at;
 use crate::turn::turn;
 use candidate_rosters::least_roster;
 use node_master::Pool;
@@ -24,6 +26,7 @@ use priced_part::is_plainly_infeasible;
 use roster_model::{Done, Instance, Memory};
 use search_master::Master;
 use search_tree::SearchTree;
+use search_watch::Watch;
 use std::alloc::Global;
 
 /// Returns how far a search is at its begin: the root is not processed, and the best roster is that of
@@ -60,7 +63,7 @@ fn begin(
 }
 
 /// Searches a day that has arcs, with all that it takes, from the root.
-fn search_along<M: Master>(
+fn search_along<M: Master, W: Watch>(
     alloc: Global,
     instance: &Instance,
     graph: &Graph,
@@ -70,17 +73,20 @@ fn search_along<M: Master>(
     desk: &mut Desk,
     pool: &mut Pool,
     master: &mut M,
+    watch: &mut W,
 ) -> Result<Found, Memory>
     requires sound { IsSoundInstance instance.now }
     requires busy { IsPlainlyInfeasible instance.now → ⊥ }
     requires graph { IsGraph instance.now.grammar graph.now }
     requires told { TellsDerived instance.now.grammar derives.now }
     requires arcs { HasNoArc instance.now → ⊥ }
+    requires some { 1 ≤ turns }
     requires few { turns ≤ 10000 }
     requires path { IsPath instance.now graph.now path.old }
     requires desk { IsDesk instance.now graph.now desk.old }
     requires pool { IsPool instance.now.grammar pool.old }
-    ensures found { IfOk result (IsFound instance.now (M.strict master.old) turns) }
+    ensures found { IfOk result (λ f. IsWithin (W.patient watch.old) turns
+        (λ k. IsFound instance.now (M.strict master.old) k f)) }
     ensures counted { IfOk result (AreCounted instance.now (M.refused master.old) (M.refused master.new)) }
     ensures rises { M.refused master.old ≤ M.refused master.new }
     ensures strict_stays { M.strict master.new ≡ M.strict master.old }
@@ -89,7 +95,7 @@ fn search_along<M: Master>(
 {
     let mut progress = begin(alloc, instance, graph, desk, pool)?;
     while let Some(leaf) = progress.next(instance) {
-        if progress.tree.processed() == turns {
+        if stops_at(&progress, turns, leaf.bound, watch) {
             return found(alloc, instance, progress, Some(leaf.bound), Done::TurnsOut);
         }
         turn(
@@ -110,7 +116,7 @@ fn search_along<M: Master>(
 }
 
 /// Searches at a desk, from the root.
-fn search_at<M: Master>(
+fn search_at<M: Master, W: Watch>(
     alloc: Global,
     instance: &Instance,
     graph: &Graph,
@@ -119,6 +125,7 @@ fn search_at<M: Master>(
     desk: &mut Desk,
     pool: &mut Pool,
     master: &mut M,
+    watch: &mut W,
 ) -> Result<Found, Memory>
     requires sound { IsSoundInstance instance.now }
     requires busy { IsPlainlyInfeasible instance.now → ⊥ }
@@ -128,7 +135,8 @@ fn search_at<M: Master>(
     requires few { turns ≤ 10000 }
     requires desk { IsDesk instance.now graph.now desk.old }
     requires pool { IsPool instance.now.grammar pool.old }
-    ensures found { IfOk result (IsFound instance.now (M.strict master.old) turns) }
+    ensures found { IfOk result (λ f. IsWithin (W.patient watch.old) turns
+        (λ k. IsFound instance.now (M.strict master.old) k f)) }
     ensures counted { IfOk result (AreCounted instance.now (M.refused master.old) (M.refused master.new)) }
     ensures rises { M.refused master.old ≤ M.refused master.new }
     ensures strict_stays { M.strict master.new ≡ M.strict master.old }
@@ -140,12 +148,12 @@ fn search_at<M: Master>(
         return search_arcless(alloc, instance, graph, &mut path, desk, pool);
     }
     search_along(
-        alloc, instance, graph, derives, turns, &mut path, desk, pool, master,
+        alloc, instance, graph, derives, turns, &mut path, desk, pool, master, watch,
     )
 }
 
 /// Searches a day that is not plainly infeasible.
-fn search_day<M: Master>(
+fn search_day<M: Master, W: Watch>(
     alloc: Global,
     instance: &Instance,
     graph: &Graph,
@@ -153,6 +161,7 @@ fn search_day<M: Master>(
     turns: u32,
     pool: &mut Pool,
     master: &mut M,
+    watch: &mut W,
 ) -> Result<Found, Memory>
     requires sound { IsSoundInstance instance.now }
     requires busy { IsPlainlyInfeasible instance.now → ⊥ }
@@ -161,7 +170,8 @@ fn search_day<M: Master>(
     requires some { 1 ≤ turns }
     requires few { turns ≤ 10000 }
     requires pool { IsPool instance.now.grammar pool.old }
-    ensures found { IfOk result (IsFound instance.now (M.strict master.old) turns) }
+    ensures found { IfOk result (λ f. IsWithin (W.patient watch.old) turns
+        (λ k. IsFound instance.now (M.strict master.old) k f)) }
     ensures counted { IfOk result (AreCounted instance.now (M.refused master.old) (M.refused master.new)) }
     ensures rises { M.refused master.old ≤ M.refused master.new }
     ensures strict_stays { M.strict master.new ≡ M.strict master.old }
@@ -170,14 +180,15 @@ fn search_day<M: Master>(
 {
     let mut desk = Desk::new(alloc, instance, graph)?;
     let found = search_at(
-        alloc, instance, graph, derives, turns, &mut desk, pool, master,
+        alloc, instance, graph, derives, turns, &mut desk, pool, master, watch,
     );
     drop(desk);
     found
 }
 
 /// Searches for a roster of least cost, with at most so many turns, 1 to 10,000. Each turn processes one
-/// node, one of least bound first.
+/// node, one of least bound first. Between two turns the watch is told how far the search is, and may stop it:
+/// then what is found is what so many turns find as were taken. A patient watch stops none.
 ///
 /// The certificate is sound and accepted, its bound is what its tree shows, and its shifts stand in order
 /// of their groups and then of their bytes. The bound is the cost, or both say that no roster is allowed,
@@ -189,20 +200,22 @@ fn search_day<M: Master>(
 /// # Errors
 ///
 /// `Memory` where memory runs out; the master's count may have risen.
-pub fn search<M: Master>(
+pub fn search<M: Master, W: Watch>(
     alloc: Global,
     instance: &Instance,
     graph: &Graph,
     turns: u32,
     pool: &mut Pool,
     master: &mut M,
+    watch: &mut W,
 ) -> Result<Found, Memory>
     requires sound { IsSoundInstance instance.now }
     requires graph { IsGraph instance.now.grammar graph.now }
     requires pool { IsPool instance.now.grammar pool.old }
     requires some { 1 ≤ turns }
     requires few { turns ≤ 10000 }
-    ensures found { IfOk result (IsFound instance.now (M.strict master.old) turns) }
+    ensures found { IfOk result (λ f. IsWithin (W.patient watch.old) turns
+        (λ k. IsFound instance.now (M.strict master.old) k f)) }
     ensures counted { IfOk result (AreCounted instance.now (M.refused master.old) (M.refused master.new)) }
     ensures rises { M.refused master.old ≤ M.refused master.new }
     ensures strict_stays { M.strict master.new ≡ M.strict master.old }
@@ -213,5 +226,5 @@ pub fn search<M: Master>(
     if is_plainly_infeasible(instance, &derives) {
         return no_roster(alloc, instance, graph);
     }
-    search_day(alloc, instance, graph, &derives, turns, pool, master)
+    search_day(alloc, instance, graph, &derives, turns, pool, master, watch)
 }

@@ -20,6 +20,7 @@ use offers::{limit, offer_counts};
 use open_nodes::Plan;
 use parse_graph::Graph;
 use roster_model::{Cut, Instance, Memory};
+use split_probes::Gains;
 use std::alloc::Global;
 
 /// Returns the split of an arc at its least count.
@@ -48,6 +49,7 @@ pub(crate) fn plan_for(
     pool: &mut Pool,
     rosters: &mut RosterDesk,
     best: &mut Option<Roster>,
+    gains: &mut Gains,
 ) -> Result<Option<Plan>, Memory>
     requires sound { IsSoundInstance instance.now }
     requires graph { IsGraph instance.now.grammar graph.now }
@@ -68,7 +70,9 @@ pub(crate) fn plan_for(
         return Ok(None);
     }
     let weights = solved.weights.as_slice();
-    let preferred = preferred_arc(alloc, instance, graph, cuts, arc_box, pool, weights, best)?;
+    let preferred = preferred_arc(
+        alloc, instance, graph, cuts, arc_box, pool, weights, best, gains,
+    )?;
     match weigh(
         alloc,
         instance,

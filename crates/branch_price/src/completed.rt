@@ -13,18 +13,38 @@ ghost use Rattle.branch_price.specs.Rounded.{AreFewer};
 use crate::desk::Desk;
 use crate::offered::offer_trees;
 use crate::rounded::push_wholes;
+use crate::solved::Solved;
 use candidate_rosters::Roster;
 use dives::dive;
 use node_master::{FULL, Pool, Weight};
 use offers::limit;
 use parse_graph::Graph;
-use roster_model::{Cut, Instance, List, Memory};
-use roster_moves::complete;
+use roster_model::{Cut, Instance, List, Memory, Prices};
+use roster_moves::{Guide, complete};
 use std::alloc::Global;
 
 /// At every which node a roster is looked for by a dive, which takes about as long as it takes to price the
 /// root.
 const EVERY: u32 = 2;
+
+/// How many passes over the graph the moves of a roster may take where it becomes no better, times the square of
+/// the number of its trees.
+const PASSES: u32 = 2;
+
+/// How many they may take at the first node in all, times that square; at later nodes there are no more.
+const FIRST_MOST: u32 = 32;
+
+/// Returns what steers the moves of a roster at a node that has these prices and this bound, before which so
+/// many were processed.
+fn guide_of(prices: &Prices, processed: u32, bound: u64) -> Guide {
+    Guide {
+        prices,
+        passes: PASSES,
+        most: if processed == 0 { FIRST_MOST } else { PASSES },
+        goal: bound,
+        turn: processed,
+    }
+}
 
 /// Returns trees by weights rounded down: each as often as the whole part of its weight.
 fn wholes(alloc: Global, instance: &Instance, weights: &[Weight]) -> Result<List<usize>, Memory>
@@ -35,12 +55,13 @@ fn wholes(alloc: Global, instance: &Instance, weights: &[Weight]) -> Result<List
     Ok(columns)
 }
 
-/// Offers the roster of these trees, completed and exchanged.
+/// Offers the roster of these trees, completed and made better.
 fn offer_begun(
     alloc: Global,
     instance: &Instance,
     graph: &Graph,
     begun: &[usize],
+    guide: &Guide,
     desk: &mut Desk,
     pool: &mut Pool,
     best: &mut Option<Roster>,
@@ -63,6 +84,7 @@ fn offer_begun(
         &mut desk.pricing.pricer,
         &mut desk.pricing.room,
         begun,
+        guide,
         pool,
     )?;
     offer_trees(
@@ -75,12 +97,13 @@ fn offer_begun(
     )
 }
 
-/// Offers the roster of the trees that a dive fixes, completed and exchanged. Says whether it fixed any.
+/// Offers the roster of the trees that a dive fixes, completed and made better. Says whether it fixed any.
 fn offer_dived(
     alloc: Global,
     instance: &Instance,
     graph: &Graph,
     cuts: &[Cut],
+    guide: &Guide,
     desk: &mut Desk,
     pool: &mut Pool,
     best: &mut Option<Roster>,
@@ -110,16 +133,26 @@ fn offer_dived(
     if begun.is_empty() {
         return Ok(false);
     }
-    offer_begun(alloc, instance, graph, begun.as_slice(), desk, pool, best)?;
+    offer_begun(
+        alloc,
+        instance,
+        graph,
+        begun.as_slice(),
+        guide,
+        desk,
+        pool,
+        best,
+    )?;
     Ok(true)
 }
 
-/// Offers the roster of the trees of a solution, with weights rounded down, completed and exchanged.
+/// Offers the roster of the trees of a solution, with weights rounded down, completed and made better.
 fn offer_completed(
     alloc: Global,
     instance: &Instance,
     graph: &Graph,
     weights: &[Weight],
+    guide: &Guide,
     desk: &mut Desk,
     pool: &mut Pool,
     best: &mut Option<Roster>,
@@ -136,7 +169,16 @@ fn offer_completed(
     ensures grown { IsGrown pool.old pool.new }
 {
     let begun = wholes(alloc, instance, weights)?;
-    offer_begun(alloc, instance, graph, begun.as_slice(), desk, pool, best)
+    offer_begun(
+        alloc,
+        instance,
+        graph,
+        begun.as_slice(),
+        guide,
+        desk,
+        pool,
+        best,
+    )
 }
 
 /// Offers a roster, unless the best one already costs no more than the bound that the node leaves: at the
@@ -147,7 +189,7 @@ pub(crate) fn offer_at_node(
     instance: &Instance,
     graph: &Graph,
     cuts: &[Cut],
-    weights: &[Weight],
+    solved: &Solved,
     processed: u32,
     bound: u64,
     desk: &mut Desk,
@@ -158,7 +200,7 @@ pub(crate) fn offer_at_node(
     requires graph { IsGraph instance.now.grammar graph.now }
     requires cuts { Each IsSmallCut cuts.now }
     requires small { length (rows_of instance.now cuts.now) ≤ 1500 }
-    requires weights { All (λ w. w.column < length pool.old) weights.now }
+    requires weights { All (λ w. w.column < length pool.old) solved.now.weights }
     requires desk { IsDesk instance.now graph.now desk.old }
     requires pool { IsPool instance.now.grammar pool.old }
     requires best { IfSome best.old (IsGoodRoster instance.now) }
@@ -170,11 +212,13 @@ pub(crate) fn offer_at_node(
     if limit(instance, best) <= bound {
         return Ok(());
     }
+    let guide = guide_of(&solved.prices, processed, bound);
     if processed % EVERY == 0
         && pool.len() < FULL
-        && offer_dived(alloc, instance, graph, cuts, desk, pool, best)?
+        && offer_dived(alloc, instance, graph, cuts, &guide, desk, pool, best)?
     {
         return Ok(());
     }
-    offer_completed(alloc, instance, graph, weights, desk, pool, best)
+    let weights = solved.weights.as_slice();
+    offer_completed(alloc, instance, graph, weights, &guide, desk, pool, best)
 }

@@ -11,6 +11,7 @@ use cheapest_tree::Pricer;
 use node_master::Weight;
 use parse_graph::Graph;
 use roster_model::{Instance, Memory, PriceRoom};
+use split_probes::Gains;
 use std::alloc::Global;
 
 /// What it takes to price trees: the graph's pricer, and room for the prices.
@@ -27,6 +28,8 @@ pub(crate) struct Desk {
     pub rosters: RosterDesk,
     /// The trees of the last solution of a master, which steer the next one.
     pub wanted: Vec<usize>,
+    /// What splits on letters gained so far.
+    pub gains: Gains,
 }
 
 /// Takes the memory for the pricing.
@@ -50,12 +53,14 @@ impl Desk {
         requires sound { IsSoundInstance instance.now }
         ensures { IfOk result (IsDesk instance.now graph.now) }
     {
+        let gains = Gains::new(alloc, &instance.grammar, graph)?;
         let pricing = pricing_of(alloc, instance, graph)?;
         match RosterDesk::for_instance(alloc, instance) {
             Ok(rosters) => Ok(Desk {
                 pricing,
                 rosters,
                 wanted: Vec::new(alloc),
+                gains,
             }),
             Err(fault) => {
                 drop(pricing);

@@ -155,6 +155,7 @@ fn best_leaf(
         pool,
         &mut desk.rosters,
         &mut progress.best,
+        &mut desk.gains,
     ) else {
         drop(solved);
         return Err(Memory);
@@ -165,7 +166,7 @@ fn best_leaf(
         instance,
         graph,
         cuts,
-        solved.weights.as_slice(),
+        &solved,
         processed,
         leaf.bound.max(value),
         desk,

@@ -22,6 +22,7 @@ mod preferred;
 mod progress;
 mod rounded;
 mod solved;
+mod stop;
 mod turn;
 mod value;
 
@@ -30,3 +31,4 @@ pub use found::Found;
 pub use node_master::Pool;
 pub use roster_model::Done;
 pub use search_master::{FailingMaster, Master, NearMaster, PlainMaster};
+pub use search_watch::{ClockWatch, Standing, SteadyWatch, Subject, TurnWatch, Watch};

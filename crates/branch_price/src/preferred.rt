@@ -11,7 +11,7 @@ use node_master::{Pool, Weight};
 use offers::limit;
 use parse_graph::Graph;
 use roster_model::{Cut, Instance, List, Memory};
-use split_probes::{Share, best_arc};
+use split_probes::{Gains, Share, best_arc};
 use std::alloc::Global;
 
 /// The weight 1 of a share.
@@ -33,7 +33,7 @@ fn shares_of(alloc: Global, weights: &[Weight]) -> Result<List<Share>, Memory> {
 }
 
 /// Returns an arc on which a node may be split well, from the weights of the trees at its solution, where no
-/// roster that costs as much as the best one is looked for. It is a hint.
+/// roster that costs as much as the best one is looked for. What splits gain is counted. It is a hint.
 pub(crate) fn preferred_arc(
     alloc: Global,
     instance: &Instance,
@@ -43,6 +43,7 @@ pub(crate) fn preferred_arc(
     pool: &Pool,
     weights: &[Weight],
     best: &Option<Roster>,
+    gains: &mut Gains,
 ) -> Result<Option<u32>, Memory>
     requires sound { IsSoundInstance instance.now }
     requires cuts { Each IsSmallCut cuts.now }
@@ -59,5 +60,6 @@ pub(crate) fn preferred_arc(
         pool,
         shares.as_slice(),
         limit(instance, best),
+        gains,
     )
 }

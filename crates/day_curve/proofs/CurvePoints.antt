@@ -1,13 +1,26 @@
 -- A point whose certificate is written is still counted.
-use Rattle.std.proofs.Common.{◌≡◌, ℕ, Result, Ok, Err, IfOk, sym, subst}
+use Rattle.std.proofs.Common.{◌≡◌, ℕ, Bool, Result, Ok, Err, IfOk, sym, subst}
 use Rattle.roster_model.specs.declared.memory.Memory.{Memory}
 use Rattle.branch_price.specs.declared.found.Found.{Found}
-use Rattle.branch_price.specs.Found.{AreCounted}
+use Rattle.branch_price.specs.Found.{IsFound, AreCounted}
+use Rattle.search_watch.specs.Within.{IsWithin}
+use Rattle.search_watch.proofs.WithinLemmas.{within-map}
 use Rattle.proof_reuse.specs.Curves.{CurveView, point_day}
 use Rattle.day_solver.specs.declared.solution.Solution.{Solution}
+use Rattle.day_solver.specs.Solutions.{IsSolution}
 
 pub counted-point : (a b : CurveView) (before now : ℕ) (f : Found) (r : Result Solution Memory) → AreCounted (point_day a) before now f → IfOk r (λ s. b ≡ a) → IfOk r (λ s. s.found ≡ f)
     → IfOk r (λ s. AreCounted (point_day b) before now s.found)
 counted-point a b before now f (Ok s) h same found =
     subst (λ (g : Found). AreCounted (point_day b) before now g) (sym found) (subst (λ (v : CurveView). AreCounted (point_day v) before now f) (sym same) h)
 counted-point a b before now f (Err e) h same found = tt
+
+-- and it is the point of a solution
+pub solved-point : (a b : CurveView) (strict patient : Bool) (turns : ℕ) (f : Found) (r : Result Solution Memory)
+    → IsWithin patient turns (λ k. IsFound (point_day a) strict k f) → IfOk r (λ s. b ≡ a)
+    → IfOk r (λ s. (own : Bool) (k : ℕ) → IsFound (point_day a) own k f → IsSolution (point_day a) own k s)
+    → IfOk r (λ s. IsWithin patient turns (λ k. IsSolution (point_day b) strict k s))
+solved-point a b strict patient turns f (Ok s) found same solution =
+    subst (λ (v : CurveView). IsWithin patient turns (λ k. IsSolution (point_day v) strict k s)) (sym same)
+    (within-map patient turns (λ k. IsFound (point_day a) strict k f) (λ k. IsSolution (point_day a) strict k s) (λ k some few h. solution strict k h) found)
+solved-point a b strict patient turns f (Err e) found same solution = tt

@@ -4,8 +4,9 @@ ghost use Rattle.day_solver.specs.Solutions.{HasArcCount, IsSolution};
 ghost use Rattle.parse_graph.specs.Graphs.{IsRefused};
 ghost use Rattle.proof_reuse.specs.Curves.{point_count, point_day, point_heads};
 ghost use Rattle.roster_model.specs.SoundInstance.{IsSoundInstance};
+ghost use Rattle.search_watch.specs.Within.{IsWithin};
 
-use branch_price::{Found, Master};
+use branch_price::{Found, Master, Watch};
 use day_solver::{Solution, graph_of, with_text};
 use parse_graph::{Graph, GraphFault};
 use proof_reuse::Curve;
@@ -69,26 +70,33 @@ impl DayCurve {
         self.curve.instance().heads_max
     }
 
-    /// Searches the next point, with at most so many turns, 1 to 10,000, and writes its certificate. The text is
-    /// read as the certificate on the day with the point's greatest head count, and what it states is true there.
+    /// Searches the next point, with at most so many turns, 1 to 10,000, and this watch, and writes its certificate.
+    /// The text is read as the certificate on the day with the point's greatest head count, and what it states is
+    /// true there.
     ///
     /// # Errors
     ///
     /// `Memory` where memory runs out, also where the certificate was found and there was no room for its text: the
     /// curve is as it was, so the same point is the next one. The master's count may have risen.
-    pub fn next<M: Master>(&mut self, turns: u32, master: &mut M) -> Result<Solution, Memory>
+    pub fn next<M: Master, W: Watch>(
+        &mut self,
+        turns: u32,
+        master: &mut M,
+        watch: &mut W,
+    ) -> Result<Solution, Memory>
         requires more { self.old.given < point_count self.old.day }
         requires some { 1 ≤ turns }
         requires few { turns ≤ 10000 }
         ensures given { IfOk result (λ _. self.new ≡ record self.old { given = self.old.given + 1 }) }
-        ensures solution { IfOk result (IsSolution (point_day self.new) (M.strict master.old) turns) }
+        ensures solution { IfOk result (λ s. IsWithin (W.patient watch.old) turns
+            (λ k. IsSolution (point_day self.new) (M.strict master.old) k s)) }
         ensures counted { IfOk result (λ s. AreCounted (point_day self.new) (M.refused master.old)
             (M.refused master.new) s.found) }
         ensures without { IfErr result (λ _. self.new ≡ self.old) }
         ensures rises { M.refused master.old ≤ M.refused master.new }
         ensures strict_stays { M.strict master.new ≡ M.strict master.old }
     {
-        match self.curve.next(&self.graph, turns, master)? {
+        match self.curve.next(&self.graph, turns, master, watch)? {
             Some(found) => self.written(found),
             None => unreachable!(),
         }

@@ -4,11 +4,12 @@ ghost use Rattle.parse_graph.specs.Graphs.{IsGraph, IsRefused};
 ghost use Rattle.roster_model.specs.declared.grammar.Grammar.{Grammar as Rules};
 ghost use Rattle.roster_model.specs.Sound.{IsSound};
 ghost use Rattle.roster_model.specs.SoundInstance.{IsSoundInstance};
+ghost use Rattle.search_watch.specs.Within.{IsWithin};
 ghost use Rattle.day_solver.specs.Solutions.{HasArcCount, IsSolution};
 
 use crate::solution::Solution;
 use crate::text::cert_text;
-use branch_price::{Found, Master, Pool, search};
+use branch_price::{Found, Master, Pool, Watch, search};
 use grammar_core::normalise;
 use parse_graph::{Graph, GraphFault};
 use roster_model::{Grammar, Instance, Memory};
@@ -48,24 +49,26 @@ fn arc_count(graph: &Graph) -> u32
 }
 
 /// Searches with a new pool.
-fn searched<M: Master>(
+fn searched<M: Master, W: Watch>(
     alloc: Global,
     instance: &Instance,
     graph: &Graph,
     turns: u32,
     master: &mut M,
+    watch: &mut W,
 ) -> Result<Found, Memory>
     requires sound { IsSoundInstance instance.now }
     requires graph { IsGraph instance.now.grammar graph.now }
     requires some { 1 ≤ turns }
     requires few { turns ≤ 10000 }
-    ensures found { IfOk result (IsFound instance.now (M.strict master.old) turns) }
+    ensures found { IfOk result (λ f. IsWithin (W.patient watch.old) turns
+        (λ k. IsFound instance.now (M.strict master.old) k f)) }
     ensures counted { IfOk result (AreCounted instance.now (M.refused master.old) (M.refused master.new)) }
     ensures rises { M.refused master.old ≤ M.refused master.new }
     ensures strict_stays { M.strict master.new ≡ M.strict master.old }
 {
     let mut pool = Pool::new(alloc);
-    search(alloc, instance, graph, turns, &mut pool, master)
+    search(alloc, instance, graph, turns, &mut pool, master, watch)
 }
 
 /// Returns what was found, within at most 10,000 turns, with the text of its certificate. After want of memory there
@@ -93,47 +96,51 @@ pub fn with_text(
 }
 
 /// Searches over a day's graph, and writes the certificate.
-fn solved<M: Master>(
+fn solved<M: Master, W: Watch>(
     alloc: Global,
     instance: &Instance,
     graph: &Graph,
     turns: u32,
     master: &mut M,
+    watch: &mut W,
 ) -> Result<Solution, Memory>
     requires sound { IsSoundInstance instance.now }
     requires graph { IsGraph instance.now.grammar graph.now }
     requires some { 1 ≤ turns }
     requires few { turns ≤ 10000 }
-    ensures solution { IfOk result (IsSolution instance.now (M.strict master.old) turns) }
+    ensures solution { IfOk result (λ s. IsWithin (W.patient watch.old) turns
+        (λ k. IsSolution instance.now (M.strict master.old) k s)) }
     ensures counted { IfOk result (λ s. AreCounted instance.now (M.refused master.old) (M.refused master.new)
         s.found) }
     ensures rises { M.refused master.old ≤ M.refused master.new }
     ensures strict_stays { M.strict master.new ≡ M.strict master.old }
 {
-    let found = searched(alloc, instance, graph, turns, master)?;
+    let found = searched(alloc, instance, graph, turns, master, watch)?;
     with_text(alloc, instance, graph, found)
 }
 
 /// Searches a sound day for a roster of least cost, with at most so many turns, 1 to 10,000, and writes
 /// the certificate.
 ///
-/// What is found is what `search` finds over the graph of the day. The text is that of the certificate,
+/// What is found is what `search` finds over the graph of the day, with this watch. The text is that of the certificate,
 /// and it is read as that certificate; what the certificate states is true.
 ///
 /// # Errors
 ///
 /// `TooManyArcs` exactly where the day has more than 100,000 arcs, with their number, and `Memory` where
 /// memory runs out; the master's count may have risen then.
-pub fn solve_day<M: Master>(
+pub fn solve_day<M: Master, W: Watch>(
     alloc: Global,
     instance: &Instance,
     turns: u32,
     master: &mut M,
+    watch: &mut W,
 ) -> Result<Solution, GraphFault>
     requires sound { IsSoundInstance instance.now }
     requires some { 1 ≤ turns }
     requires few { turns ≤ 10000 }
-    ensures solution { IfOk result (IsSolution instance.now (M.strict master.old) turns) }
+    ensures solution { IfOk result (λ s. IsWithin (W.patient watch.old) turns
+        (λ k. IsSolution instance.now (M.strict master.old) k s)) }
     ensures counted { IfOk result (λ s. AreCounted instance.now (M.refused master.old) (M.refused master.new)
         s.found) }
     ensures refused { IfErr result (IsRefused instance.now.grammar) }
@@ -141,5 +148,5 @@ pub fn solve_day<M: Master>(
     ensures strict_stays { M.strict master.new ≡ M.strict master.old }
 {
     let graph = graph_of(alloc, &instance.grammar)?;
-    Ok(solved(alloc, instance, &graph, turns, master)?)
+    Ok(solved(alloc, instance, &graph, turns, master, watch)?)
 }

@@ -6,6 +6,7 @@ use Rattle.certificates.specs.declared.cert.Cert.{Cert}
 use Rattle.tree_pool.specs.Pools.{PoolTree, IsPool}
 use Rattle.branch_price.specs.declared.found.Found.{Found}
 use Rattle.branch_price.specs.Found.{IsFound}
+use Rattle.search_watch.specs.Within.{IsWithin}
 
 -- the day with another greatest head count
 abbrev pub with_heads : Instance → ℕ → Instance
@@ -31,12 +32,12 @@ point_heads c = first_heads c.day + (c.given - 1)
 abbrev pub point_day : CurveView → Instance
 point_day c = with_heads c.day (point_heads c)
 
--- the next point was found, or all points were given
-abbrev pub IsNextPoint : CurveView → CurveView → Bool → ℕ → Option Found → Type 0
-IsNextPoint old new strict turns None = (old.given ≡ point_count old.day) × (new ≡ old)
-IsNextPoint old new strict turns (Some f) =
+-- the next point was found, for some number of turns where the watch is not patient; or all points were given
+abbrev pub IsNextPoint : CurveView → CurveView → Bool → Bool → ℕ → Option Found → Type 0
+IsNextPoint old new strict patient turns None = (old.given ≡ point_count old.day) × (new ≡ old)
+IsNextPoint old new strict patient turns (Some f) =
     (old.given < point_count old.day) × (new ≡ record old { given = old.given + 1 })
-    × IsFound (point_day new) strict turns f
+    × IsWithin patient turns (λ k. IsFound (point_day new) strict k f)
 
 -- the parts of a curve: the day has the head count of its point, and the pool trees of the day
 pub record IsCurve (i : Instance) (most given : ℕ) (pool : List PoolTree) : Type 0 where

@@ -4,7 +4,7 @@ ghost use Rattle.parse_graph.specs.Graphs.{IsGraph};
 ghost use Rattle.branch_price.specs.Found.{AreCounted};
 ghost use Rattle.proof_reuse.specs.Curves.{first_heads, point_count, point_day, IsNextPoint};
 
-use branch_price::{Found, Master, Pool, search};
+use branch_price::{Found, Master, Pool, Watch, search};
 use parse_graph::Graph;
 use roster_model::{Instance, Memory};
 use std::alloc::Global;
@@ -92,24 +92,25 @@ impl Curve {
     }
 
     /// Searches the next point, with at most so many turns, 1 to 10,000: what is found is what `search`
-    /// finds on the day that [`Curve::instance`] returns afterwards. `None` comes exactly after the last
+    /// finds on the day that [`Curve::instance`] returns afterwards, with this watch. `None` comes exactly after the last
     /// point. The graph is the day's; one graph serves all points.
     ///
     /// # Errors
     ///
     /// `Memory` where memory runs out; the same point is the next one then, and the master's count may
     /// have risen.
-    pub fn next<M: Master>(
+    pub fn next<M: Master, W: Watch>(
         &mut self,
         graph: &Graph,
         turns: u32,
         master: &mut M,
+        watch: &mut W,
     ) -> Result<Option<Found>, Memory>
         requires graph { IsGraph self.old.day.grammar graph.now }
         requires some { 1 ≤ turns }
         requires few { turns ≤ 10000 }
-        ensures point { MatchResult result (IsNextPoint self.old self.new (M.strict master.old) turns)
-            (λ _. self.new ≡ self.old) }
+        ensures point { MatchResult result (IsNextPoint self.old self.new (M.strict master.old)
+            (W.patient watch.old) turns) (λ _. self.new ≡ self.old) }
         ensures counted { IfOk result (λ point. IfSome point (AreCounted (point_day self.new)
             (M.refused master.old) (M.refused master.new))) }
         ensures rises { M.refused master.old ≤ M.refused master.new }
@@ -128,6 +129,7 @@ impl Curve {
             turns,
             &mut self.pool,
             master,
+            watch,
         );
         match found {
             Ok(found) => {

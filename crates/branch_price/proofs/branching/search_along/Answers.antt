@@ -2,7 +2,9 @@ use Rattle.std.proofs.Common.{arith, ◌∙◌, refl, sym}
 use Rattle.std.proofs.lemmas.Result.{IfOk-weaker}
 use Rattle.candidate_rosters.proofs.PoolNumbers.{grown-more}
 use Rattle.branch_price.specs.Found.{IsFound, AreCounted}
-use Rattle.branch_price.proofs.LoopsLemmas.{begun-loops, asks-turn, turn-loops, turn-nears, turns-end, closed-end}
+use Rattle.branch_price.proofs.LoopsLemmas.{begun-loops, asks-turn, turn-loops, turn-nears, stopped-end, closed-end}
+use Rattle.search_watch.specs.Within.{IsWithin}
+use Rattle.search_watch.proofs.WithinLemmas.{within-all}
 use Rattle.branch_price.proofs.branching.search_along.Goals as goal
 
 pub loop-leaf-init : goal.loop-leaf-init
@@ -13,47 +15,49 @@ loop-leaf-init g c = (
   c.begin.ensures.desk,
   c.begin.ensures.pool,
   c.begin.ensures.grown,
+  (λ h. h),
 )
 
 pub found-requires-clause-end : goal.found-requires-clause-end
 found-requires-clause-end g c = (
-  record {
-    graph = c.args.graph.now;
-    strict = g.M.Master.strict c.args.master.now;
-    before = g.M.Master.refused c.args.master.now;
-    now = g.M.Master.refused c.loop-leaf.master;
-    turns = c.args.turns;
-  },
-  turns-end c.args.instance.now c.args.graph.now (g.M.Master.strict c.args.master.now) (g.M.Master.refused c.args.master.now) (g.M.Master.refused c.loop-leaf.master) c.args.turns c.requires.few
-      c.loop-leaf.progress c.next.new.self c.in-Some.leaf c.loop-leaf.invariant.0 c.in-Some.ensures c.requires.sound c.requires.busy c.requires.arcs (sym c.processed.ensures ∙ c.if-processed-turns.true),
+  record { graph = c.args.graph.now; strict = g.M.Master.strict c.args.master.now; before = g.M.Master.refused c.args.master.now; now = g.M.Master.refused c.loop-leaf.master; turns = c.next.new.self.tree.processed },
+  (stopped-end c.args.instance.now c.args.graph.now (g.M.Master.strict c.args.master.now) (g.M.Master.refused c.args.master.now) (g.M.Master.refused c.loop-leaf.master) c.args.turns c.requires.few
+      c.loop-leaf.progress c.next.new.self c.in-Some.leaf c.loop-leaf.invariant.0 c.in-Some.ensures c.requires.sound c.requires.busy c.requires.arcs).1,
 )
 
-pub returns-then-processed-turns-clause-found : goal.returns-then-processed-turns-clause-found
-returns-then-processed-turns-clause-found g c =
-    let end = turns-end c.args.instance.now c.args.graph.now (g.M.Master.strict c.args.master.now) (g.M.Master.refused c.args.master.now) (g.M.Master.refused c.loop-leaf.master) c.args.turns c.requires.few
-    c.loop-leaf.progress c.next.new.self c.in-Some.leaf c.loop-leaf.invariant.0 c.in-Some.ensures c.requires.sound c.requires.busy c.requires.arcs (sym c.processed.ensures ∙ c.if-processed-turns.true) in
-    IfOk-weaker c.found.result _ (IsFound c.args.instance.now (g.M.Master.strict c.args.master.now) c.args.turns)
-    (λ f h. (h (record { graph = c.args.graph.now; strict = g.M.Master.strict c.args.master.now; before = g.M.Master.refused c.args.master.now; now = g.M.Master.refused c.loop-leaf.master; turns = c.args.turns }) end).0) c.found.ensures.found
+pub returns-then-stops_at-clause-found : goal.returns-then-stops_at-clause-found
+returns-then-stops_at-clause-found g c =
+    let end = stopped-end c.args.instance.now c.args.graph.now (g.M.Master.strict c.args.master.now) (g.M.Master.refused c.args.master.now) (g.M.Master.refused c.loop-leaf.master) c.args.turns c.requires.few
+    c.loop-leaf.progress c.next.new.self c.in-Some.leaf c.loop-leaf.invariant.0 c.in-Some.ensures c.requires.sound c.requires.busy c.requires.arcs in
+    let may = c.stops_at.ensures.stops c.if-stops_at.true in
+    IfOk-weaker c.found.result _ (λ f. IsWithin (g.W.Watch.patient c.args.watch.now) c.args.turns (λ k. IsFound c.args.instance.now (g.M.Master.strict c.args.master.now) k f))
+    (λ f h. record {
+      used = c.next.new.self.tree.processed;
+      some = may.some;
+      few = end.0;
+      whole = λ patient. may.whole (c.loop-leaf.invariant.6 patient);
+      holds = (h (record { graph = c.args.graph.now; strict = g.M.Master.strict c.args.master.now; before = g.M.Master.refused c.args.master.now; now = g.M.Master.refused c.loop-leaf.master; turns = c.next.new.self.tree.processed }) end.1).0;
+    }) c.found.ensures.found
 
-pub returns-then-processed-turns-clause-counted : goal.returns-then-processed-turns-clause-counted
-returns-then-processed-turns-clause-counted g c =
-    let end = turns-end c.args.instance.now c.args.graph.now (g.M.Master.strict c.args.master.now) (g.M.Master.refused c.args.master.now) (g.M.Master.refused c.loop-leaf.master) c.args.turns c.requires.few
-    c.loop-leaf.progress c.next.new.self c.in-Some.leaf c.loop-leaf.invariant.0 c.in-Some.ensures c.requires.sound c.requires.busy c.requires.arcs (sym c.processed.ensures ∙ c.if-processed-turns.true) in
+pub returns-then-stops_at-clause-counted : goal.returns-then-stops_at-clause-counted
+returns-then-stops_at-clause-counted g c =
+    let end = stopped-end c.args.instance.now c.args.graph.now (g.M.Master.strict c.args.master.now) (g.M.Master.refused c.args.master.now) (g.M.Master.refused c.loop-leaf.master) c.args.turns c.requires.few
+    c.loop-leaf.progress c.next.new.self c.in-Some.leaf c.loop-leaf.invariant.0 c.in-Some.ensures c.requires.sound c.requires.busy c.requires.arcs in
     IfOk-weaker c.found.result _ (AreCounted c.args.instance.now (g.M.Master.refused c.args.master.now) (g.M.Master.refused c.loop-leaf.master))
-    (λ f h. (h (record { graph = c.args.graph.now; strict = g.M.Master.strict c.args.master.now; before = g.M.Master.refused c.args.master.now; now = g.M.Master.refused c.loop-leaf.master; turns = c.args.turns }) end).1) c.found.ensures.found
+    (λ f h. (h (record { graph = c.args.graph.now; strict = g.M.Master.strict c.args.master.now; before = g.M.Master.refused c.args.master.now; now = g.M.Master.refused c.loop-leaf.master; turns = c.next.new.self.tree.processed }) end.1).1) c.found.ensures.found
 
-pub returns-then-processed-turns-clause-rises : goal.returns-then-processed-turns-clause-rises
-returns-then-processed-turns-clause-rises g c = c.loop-leaf.invariant.0.rises
+pub returns-then-stops_at-clause-rises : goal.returns-then-stops_at-clause-rises
+returns-then-stops_at-clause-rises g c = c.loop-leaf.invariant.0.rises
 
-pub returns-then-processed-turns-clause-strict_stays :
-    goal.returns-then-processed-turns-clause-strict_stays
-returns-then-processed-turns-clause-strict_stays g c = c.loop-leaf.invariant.1
+pub returns-then-stops_at-clause-strict_stays :
+    goal.returns-then-stops_at-clause-strict_stays
+returns-then-stops_at-clause-strict_stays g c = c.loop-leaf.invariant.1
 
-pub returns-then-processed-turns-clause-pool : goal.returns-then-processed-turns-clause-pool
-returns-then-processed-turns-clause-pool g c = c.loop-leaf.invariant.4
+pub returns-then-stops_at-clause-pool : goal.returns-then-stops_at-clause-pool
+returns-then-stops_at-clause-pool g c = c.loop-leaf.invariant.4
 
-pub returns-then-processed-turns-clause-grown : goal.returns-then-processed-turns-clause-grown
-returns-then-processed-turns-clause-grown g c = c.loop-leaf.invariant.5
+pub returns-then-stops_at-clause-grown : goal.returns-then-stops_at-clause-grown
+returns-then-stops_at-clause-grown g c = c.loop-leaf.invariant.5
 
 pub turn-requires-clause-path : goal.turn-requires-clause-path
 turn-requires-clause-path g c = c.loop-leaf.invariant.2
@@ -68,13 +72,13 @@ pub turn-requires-clause-leaf : goal.turn-requires-clause-leaf
 turn-requires-clause-leaf g c =
     asks-turn c.args.instance.now c.args.graph.now (g.M.Master.strict c.args.master.now) (g.M.Master.refused c.args.master.now) (g.M.Master.refused c.loop-leaf.master) c.args.turns c.requires.few
     c.loop-leaf.progress c.next.new.self c.in-Some.leaf c.loop-leaf.invariant.0 c.in-Some.ensures (g.M.Master.strict c.loop-leaf.master) c.loop-leaf.invariant.1
-    (λ e. c.if-processed-turns.false (c.processed.ensures ∙ e))
+    (c.stops_at.ensures.goes_on c.if-stops_at.false)
 
 pub loop-leaf-smaller : goal.loop-leaf-smaller
 loop-leaf-smaller g c =
     let near = turn-nears c.args.instance.now c.args.graph.now (g.M.Master.strict c.args.master.now) (g.M.Master.refused c.args.master.now) (g.M.Master.refused c.loop-leaf.master) c.args.turns c.requires.few
     c.loop-leaf.progress c.next.new.self c.in-Some.leaf c.loop-leaf.invariant.0 c.in-Some.ensures (g.M.Master.strict c.loop-leaf.master) c.loop-leaf.invariant.1
-    (λ e. c.if-processed-turns.false (c.processed.ensures ∙ e)) (g.M.Master.refused c.turn.new.master) c.turn.new.progress c.in_ok-turn.ensures.turned in
+    (c.stops_at.ensures.goes_on c.if-stops_at.false) (g.M.Master.refused c.turn.new.master) c.turn.new.progress c.in_ok-turn.ensures.turned in
     let less = near.0 in
     let one = near.1 in
     omega (arith, less, one)
@@ -83,12 +87,13 @@ pub loop-leaf-preserved : goal.loop-leaf-preserved
 loop-leaf-preserved g c = (
   turn-loops c.args.instance.now c.args.graph.now (g.M.Master.strict c.args.master.now) (g.M.Master.refused c.args.master.now) (g.M.Master.refused c.loop-leaf.master) c.args.turns c.requires.few
       c.loop-leaf.progress c.next.new.self c.in-Some.leaf c.loop-leaf.invariant.0 c.in-Some.ensures (g.M.Master.strict c.loop-leaf.master) c.loop-leaf.invariant.1
-      (λ e. c.if-processed-turns.false (c.processed.ensures ∙ e)) (g.M.Master.refused c.turn.new.master) c.turn.ensures.rises c.turn.new.progress c.in_ok-turn.ensures.turned,
+      (c.stops_at.ensures.goes_on c.if-stops_at.false) (g.M.Master.refused c.turn.new.master) c.turn.ensures.rises c.turn.new.progress c.in_ok-turn.ensures.turned,
   c.turn.ensures.strict_stays ∙ c.loop-leaf.invariant.1,
   c.in_ok-turn.ensures.path,
   c.turn.ensures.desk,
   c.turn.ensures.pool,
   grown-more c.args.pool.now c.loop-leaf.pool c.turn.new.pool c.loop-leaf.invariant.5 c.turn.ensures.grown,
+  (λ h. c.stops_at.ensures.stays_patient (c.loop-leaf.invariant.6 h)),
 )
 
 pub returns-in_err-turn-clause-rises : goal.returns-in_err-turn-clause-rises
@@ -117,8 +122,8 @@ pub returns-clause-found : goal.returns-clause-found
 returns-clause-found g c =
     let end = closed-end c.args.instance.now c.requires.sound c.requires.busy c.requires.arcs c.args.graph.now c.requires.graph (g.M.Master.strict c.args.master.now) (g.M.Master.refused c.args.master.now) (g.M.Master.refused c.loop-leaf.master) c.args.turns c.requires.few
     c.loop-leaf.progress c.next.new.self.tree c.next.new.self.best c.loop-leaf.invariant.0 c.in_default.ensures c.closed_end-bound.result c.closed_end-bound.ensures in
-    IfOk-weaker c.found-2.result _ (IsFound c.args.instance.now (g.M.Master.strict c.args.master.now) c.args.turns)
-    (λ f h. (h (record { graph = c.args.graph.now; strict = g.M.Master.strict c.args.master.now; before = g.M.Master.refused c.args.master.now; now = g.M.Master.refused c.loop-leaf.master; turns = c.args.turns }) end).0) c.found-2.ensures.found
+    IfOk-weaker c.found-2.result _ (λ f. IsWithin (g.W.Watch.patient c.args.watch.now) c.args.turns (λ k. IsFound c.args.instance.now (g.M.Master.strict c.args.master.now) k f))
+    (λ f h. within-all (g.W.Watch.patient c.args.watch.now) c.args.turns (λ k. IsFound c.args.instance.now (g.M.Master.strict c.args.master.now) k f) c.requires.some (h (record { graph = c.args.graph.now; strict = g.M.Master.strict c.args.master.now; before = g.M.Master.refused c.args.master.now; now = g.M.Master.refused c.loop-leaf.master; turns = c.args.turns }) end).0) c.found-2.ensures.found
 
 pub returns-clause-counted : goal.returns-clause-counted
 returns-clause-counted g c =

@@ -1,4 +1,5 @@
 use Rattle.std.proofs.Common.{◌≡◌, ◌-◌}
+use Rattle.std.specs.Prelude.{IsTrue}
 use Rattle.node_path.specs.Paths.{IsPath}
 use Rattle.tree_pool.specs.Pools.{IsPool, IsGrown}
 use Rattle.branch_price.specs.Desks.{IsDesk}
@@ -13,6 +14,7 @@ invariant-loop-leaf g l =
     × IsDesk l.fn.instance l.fn.graph l.desk
     × IsPool l.fn.instance.grammar l.pool
     × IsGrown l.fn.pool l.pool
+    × (IsTrue (g.W.Watch.patient l.fn.watch) → IsTrue (g.W.Watch.patient l.watch))
 
 abbrev pub decreases-loop-leaf : goal.decreases-loop-leaf
 decreases-loop-leaf g l = l.fn.turns - l.progress.tree.processed

@@ -1,13 +1,16 @@
 use Rattle.std.proofs.lemmas.Result.{IfOk-weaker}
 use Rattle.branch_price.specs.Found.{IsFound, AreCounted}
+use Rattle.search_watch.specs.Within.{IsWithin}
+use Rattle.search_watch.proofs.WithinLemmas.{within-all}
 use Rattle.branch_price.proofs.RootLemmas.{some-arc}
 use Rattle.branch_price.proofs.branching.search_at.Goals as goal
 
 pub returns-then-is_empty-clause-found : goal.returns-then-is_empty-clause-found
 returns-then-is_empty-clause-found g c =
     let i = c.args.instance.now in
-    IfOk-weaker c.search_arcless.result _ (IsFound i (g.M.Master.strict c.args.master.now) c.args.turns)
-    (λ f h. h (g.M.Master.strict c.args.master.now) c.args.turns c.requires.some) c.search_arcless.ensures.found
+    IfOk-weaker c.search_arcless.result _ (λ f. IsWithin (g.W.Watch.patient c.args.watch.now) c.args.turns (λ k. IsFound i (g.M.Master.strict c.args.master.now) k f))
+    (λ f h. within-all (g.W.Watch.patient c.args.watch.now) c.args.turns (λ k. IsFound i (g.M.Master.strict c.args.master.now) k f) c.requires.some
+    (h (g.M.Master.strict c.args.master.now) c.args.turns c.requires.some)) c.search_arcless.ensures.found
 
 pub returns-then-is_empty-clause-counted : goal.returns-then-is_empty-clause-counted
 returns-then-is_empty-clause-counted g c =

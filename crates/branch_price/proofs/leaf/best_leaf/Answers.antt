@@ -33,8 +33,7 @@ plan_for-requires-clause-shown c =
 
 pub offer_at_node-requires-clause-weights : goal.offer_at_node-requires-clause-weights
 offer_at_node-requires-clause-weights c =
-    subst (λ (ws : List Weight). All (λ (w : Weight). w.column < length c.plan_for.new.pool) ws) (sym c.as_slice-2.ensures)
-    (weights-later c.args.pool.now c.plan_for.new.pool c.args.solved.weights c.plan_for.ensures.grown c.requires.solved.within)
+    weights-later c.args.pool.now c.plan_for.new.pool c.args.solved.weights c.plan_for.ensures.grown c.requires.solved.within
 
 pub offer_at_node-requires-clause-cuts : goal.offer_at_node-requires-clause-cuts
 offer_at_node-requires-clause-cuts c =
