@@ -23,7 +23,7 @@ has-one-answer (fits rules pattern) =
     λ held s t a b. held-once (λ g s o. FitsAnswer g pattern s o) (λ g. one-fits g pattern) held rules s t a b
 has-one-answer (check rules demand proof) = λ held s t a b. texts-once Judgement judged-once held rules demand proof s t a b
 has-one-answer (reuse rules demand proof) = λ held s t a b. texts-once Reusing reused-once held rules demand proof s t a b
-has-one-answer (solve rules demand proof turns) = λ held. solve-ends held rules demand turns
-has-one-answer (curve rules demand proof turns) = λ held. curve-ends held rules demand proof turns
-has-one-answer (make number proof turns) = make-ends number turns
+has-one-answer (solve rules demand proof limit) = λ held. solve-ends held rules demand limit
+has-one-answer (curve rules demand proof limit) = λ held. curve-ends held rules demand proof limit
+has-one-answer (make number proof limit) = make-ends number limit
 has-one-answer none = λ s t a b h k. (h.two ∙ sym k.two, h.line ∙ sym k.line)

@@ -1,5 +1,6 @@
 -- The form that a value of the program stands for.
 use Rattle.std.specs.Prelude.{ℕ, ◌≤◌}
+use Rattle.search_commands.specs.Limits.{IsLimit}
 use Rattle.command_line.specs.declared.form.Form as program
 use Rattle.command_line.specs.declared.form.Form.TheVariants as variants
 use Rattle.command_line.specs.Form.{Form, explain, rank, next, fits, check, reuse, solve, curve, make, none}
@@ -11,20 +12,16 @@ asked (variants.Next rules prefix) = next rules.now prefix.now
 asked (variants.Fits rules pattern) = fits rules.now pattern.now
 asked (variants.Check rules demand proof) = check rules.now demand.now proof.now
 asked (variants.Reuse rules demand proof) = reuse rules.now demand.now proof.now
-asked (variants.Solve rules demand proof turns) = solve rules.now demand.now proof.now turns
-asked (variants.Curve rules demand proof turns) = curve rules.now demand.now proof.now turns
-asked (variants.Make number proof turns) = make number proof.now turns
+asked (variants.Solve rules demand proof limit) = solve rules.now demand.now proof.now limit
+asked (variants.Curve rules demand proof limit) = curve rules.now demand.now proof.now limit
+asked (variants.Make number proof limit) = make number proof.now limit
 asked variants.None = none
-
--- 1 to 10,000
-abbrev pub AreTurns : ℕ → Type 0
-AreTurns turns = (1 ≤ turns) × (turns ≤ 10000)
 
 -- 1 to 1,000
 abbrev pub IsMost : ℕ → Type 0
 IsMost most = (1 ≤ most) × (most ≤ 1000)
 
--- a command that searches has 1 to 10,000 turns, and `rank` asks for 1 to 1,000 trees
+-- a command that searches has a limit, and `rank` asks for 1 to 1,000 trees
 abbrev pub HasNumbers : program.Form → Type 0
 HasNumbers (variants.Explain rules word) = Unit {0}
 HasNumbers (variants.Rank rules most) = IsMost most
@@ -32,7 +29,7 @@ HasNumbers (variants.Next rules prefix) = Unit {0}
 HasNumbers (variants.Fits rules pattern) = Unit {0}
 HasNumbers (variants.Check rules demand proof) = Unit {0}
 HasNumbers (variants.Reuse rules demand proof) = Unit {0}
-HasNumbers (variants.Solve rules demand proof turns) = AreTurns turns
-HasNumbers (variants.Curve rules demand proof turns) = AreTurns turns
-HasNumbers (variants.Make number proof turns) = AreTurns turns
+HasNumbers (variants.Solve rules demand proof limit) = IsLimit limit
+HasNumbers (variants.Curve rules demand proof limit) = IsLimit limit
+HasNumbers (variants.Make number proof limit) = IsLimit limit
 HasNumbers variants.None = Unit {0}

@@ -1,11 +1,13 @@
 -- What the words of the command line ask for.
-use Rattle.std.specs.Prelude.{ℕ, ◌≡◌, List, [], ◌∷◌, Option, None, Some, Result, Ok, Err, codes, if◌then◌else◌}
+use Rattle.std.specs.Prelude.{ℕ, ◌≡◌, ◌-◌, List, [], ◌∷◌, Option, None, Some, Result, Ok, Err, codes, cond, drop, length, take, if◌then◌else◌}
 use Rattle.std.specs.Str.{bytes_eq}
 use Rattle.text_lines.specs.Fields.{number_at}
+use Rattle.search_commands.specs.declared.limit.Limit.{Limit}
+use Rattle.search_commands.specs.declared.limit.Limit.TheVariants.{Turns, Seconds}
 
 -- the words `explain RULES WORD`, `rank RULES MOST`, `next RULES PREFIX`, `fits RULES PATTERN`,
--- `check RULES DEMAND PROOF`, `reuse RULES DEMAND PROOF`, `solve RULES DEMAND PROOF TURNS`,
--- `curve RULES DEMAND PROOF TURNS` or `make NUMBER PROOF TURNS`; no other words have a form
+-- `check RULES DEMAND PROOF`, `reuse RULES DEMAND PROOF`, `solve RULES DEMAND PROOF LIMIT`,
+-- `curve RULES DEMAND PROOF LIMIT` or `make NUMBER PROOF LIMIT`; no other words have a form
 pub data Form : Type 0 where
   explain : List ℕ → List ℕ → Form
   rank : List ℕ → ℕ → Form
@@ -13,18 +15,42 @@ pub data Form : Type 0 where
   fits : List ℕ → List ℕ → Form
   check : List ℕ → List ℕ → List ℕ → Form
   reuse : List ℕ → List ℕ → List ℕ → Form
-  solve : List ℕ → List ℕ → List ℕ → ℕ → Form
-  curve : List ℕ → List ℕ → List ℕ → ℕ → Form
-  make : ℕ → List ℕ → ℕ → Form
+  solve : List ℕ → List ℕ → List ℕ → Limit → Form
+  curve : List ℕ → List ℕ → List ℕ → Limit → Form
+  make : ℕ → List ℕ → Limit → Form
   none : Form
 
 abbrev pub number_or_none : Result ℕ (Unit {0}) → Option ℕ
 number_or_none (Ok n) = Some n
 number_or_none (Err e) = None
 
+abbrev pub some_turns : Option ℕ → Option Limit
+some_turns None = None
+some_turns (Some n) = Some (Turns n)
+
+abbrev pub some_seconds : Option ℕ → Option Limit
+some_seconds None = None
+some_seconds (Some s) = Some (Seconds s)
+
 -- the turns that a word says, 1 to 10,000
-abbrev pub turns_of : List ℕ → Option ℕ
-turns_of w = number_or_none (number_at tt tt 1 10000 w)
+abbrev pub turns_limit : List ℕ → Option Limit
+turns_limit w = some_turns (number_or_none (number_at tt tt 1 10000 w))
+
+-- the seconds that digits say, 1 to 86,400
+abbrev pub seconds_limit : List ℕ → Option Limit
+seconds_limit w = some_seconds (number_or_none (number_at tt tt 1 86400 w))
+
+-- a word without the s at its end, where it has one
+abbrev pub before_s : List ℕ → Option (List ℕ)
+before_s w = cond (bytes_eq (drop (length w - 1) w) (codes "s")) (Some (take (length w - 1) w)) None
+
+abbrev pub limit_by : Option (List ℕ) → List ℕ → Option Limit
+limit_by None w = turns_limit w
+limit_by (Some digits) w = seconds_limit digits
+
+-- the limit that a word says: turns, or seconds with an s behind them
+abbrev pub limit_of : List ℕ → Option Limit
+limit_of w = limit_by (before_s w) w
 
 -- the number of a day that a word says, 0 to 4,294,967,295
 abbrev pub number_of_make : List ℕ → Option ℕ
@@ -38,18 +64,18 @@ abbrev pub rank_form : List ℕ → Option ℕ → Form
 rank_form rules (Some most) = rank rules most
 rank_form rules None = none
 
-abbrev pub solve_form : List ℕ → List ℕ → List ℕ → Option ℕ → Form
-solve_form rules demand proof (Some turns) = solve rules demand proof turns
+abbrev pub solve_form : List ℕ → List ℕ → List ℕ → Option Limit → Form
+solve_form rules demand proof (Some limit) = solve rules demand proof limit
 solve_form rules demand proof None = none
 
-abbrev pub curve_form : List ℕ → List ℕ → List ℕ → Option ℕ → Form
-curve_form rules demand proof (Some turns) = curve rules demand proof turns
+abbrev pub curve_form : List ℕ → List ℕ → List ℕ → Option Limit → Form
+curve_form rules demand proof (Some limit) = curve rules demand proof limit
 curve_form rules demand proof None = none
 
-abbrev pub make_form : Option ℕ → List ℕ → Option ℕ → Form
-make_form (Some number) proof (Some turns) = make number proof turns
+abbrev pub make_form : Option ℕ → List ℕ → Option Limit → Form
+make_form (Some number) proof (Some limit) = make number proof limit
 make_form (Some number) proof None = none
-make_form None proof turns = none
+make_form None proof limit = none
 
 -- three words
 abbrev pub short_form : List ℕ → List ℕ → List ℕ → Form
@@ -64,18 +90,18 @@ abbrev pub long_form : List ℕ → List ℕ → List ℕ → List ℕ → Form
 long_form command a b c =
     if bytes_eq command (codes "check") then check a b c
     else (if bytes_eq command (codes "reuse") then reuse a b c
-    else (if bytes_eq command (codes "make") then make_form (number_of_make a) b (turns_of c) else none))
+    else (if bytes_eq command (codes "make") then make_form (number_of_make a) b (limit_of c) else none))
 
 -- five words
 abbrev pub longest_form : List ℕ → List ℕ → List ℕ → List ℕ → List ℕ → Form
-longest_form command rules demand proof turns =
-    if bytes_eq command (codes "solve") then solve_form rules demand proof (turns_of turns)
-    else (if bytes_eq command (codes "curve") then curve_form rules demand proof (turns_of turns) else none)
+longest_form command rules demand proof limit =
+    if bytes_eq command (codes "solve") then solve_form rules demand proof (limit_of limit)
+    else (if bytes_eq command (codes "curve") then curve_form rules demand proof (limit_of limit) else none)
 
 abbrev pub form_of : List (List ℕ) → Form
 form_of (command ∷ rules ∷ word ∷ []) = short_form command rules word
 form_of (command ∷ a ∷ b ∷ c ∷ []) = long_form command a b c
-form_of (command ∷ rules ∷ demand ∷ proof ∷ turns ∷ []) = longest_form command rules demand proof turns
+form_of (command ∷ rules ∷ demand ∷ proof ∷ limit ∷ []) = longest_form command rules demand proof limit
 form_of _ = none
 
 -- what is said where the words have no form

@@ -33,9 +33,9 @@ HasOneAnswer (check rules demand proof) =
 HasOneAnswer (reuse rules demand proof) =
     (held : Texts) (s t : ℕ) (a b : List ℕ) → AnswersReuse (Some held) rules demand proof s a
     → AnswersReuse (Some held) rules demand proof t b → (s ≡ t) × (a ≡ b)
-HasOneAnswer (solve rules demand proof turns) =
-    (held : Texts) → HaveOneEnd (λ m. AnswersSolve (Some held) rules demand m turns)
-HasOneAnswer (curve rules demand proof turns) =
-    (held : Texts) → HasOneEnd (λ m. AnswersCurve (Some held) rules demand proof m turns)
-HasOneAnswer (make number proof turns) = HaveOneEnd (λ m. AnswersMake number m turns)
+HasOneAnswer (solve rules demand proof limit) =
+    (held : Texts) → HaveOneEnd (λ m. AnswersSolve (Some held) rules demand m limit)
+HasOneAnswer (curve rules demand proof limit) =
+    (held : Texts) → HasOneEnd (λ m. AnswersCurve (Some held) rules demand proof m limit)
+HasOneAnswer (make number proof limit) = HaveOneEnd (λ m. AnswersMake number m limit)
 HasOneAnswer none = (s t : ℕ) (a b : List ℕ) → AnswersNoForm s a → AnswersNoForm t b → (s ≡ t) × (a ≡ b)

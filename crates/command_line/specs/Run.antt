@@ -27,11 +27,11 @@ Does (check rules demand proof) before after m status =
     IsReader (AnswersCheck before.held rules demand proof) (rules ∷ demand ∷ proof ∷ []) before after status
 Does (reuse rules demand proof) before after m status =
     IsReader (AnswersReuse before.held rules demand proof) (rules ∷ demand ∷ proof ∷ []) before after status
-Does (solve rules demand proof turns) before after m status =
-    IsWriter (AnswersSolve before.held rules demand m turns) (rules ∷ demand ∷ []) proof before after status
-Does (curve rules demand proof turns) before after m status =
-    IsSeriesWriter (AnswersCurve before.held rules demand proof m turns)
+Does (solve rules demand proof limit) before after m status =
+    IsWriter (AnswersSolve before.held rules demand m limit) (rules ∷ demand ∷ []) proof before after status
+Does (curve rules demand proof limit) before after m status =
+    IsSeriesWriter (AnswersCurve before.held rules demand proof m limit)
     (rules ∷ demand ∷ []) before after status
-Does (make number proof turns) before after m status =
-    IsWriter (AnswersMake number m turns) [] proof before after status
+Does (make number proof limit) before after m status =
+    IsWriter (AnswersMake number m limit) [] proof before after status
 Does none before after m status = IsReader AnswersNoForm [] before after status

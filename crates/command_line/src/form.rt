@@ -1,7 +1,24 @@
 ghost use Rattle.std.specs.Prelude.{◌≡◌, IfSome, map, string_bytes};
-ghost use Rattle.command_line.specs.Form.{curve_form, form_of, make_form, most_of, number_of_make, longest_form, rank_form, short_form, solve_form, turns_of};
-ghost use Rattle.command_line.specs.Asked.{asked, AreTurns, HasNumbers, IsMost};
+ghost use Rattle.std.specs.Option.{option_copied};
+ghost use Rattle.search_commands.specs.Limits.{IsLimit};
+ghost use Rattle.command_line.specs.Form.{
+  before_s,
+  curve_form,
+  form_of,
+  limit_of,
+  longest_form,
+  make_form,
+  most_of,
+  number_of_make,
+  rank_form,
+  seconds_limit,
+  short_form,
+  solve_form,
+  turns_limit,
+};
+ghost use Rattle.command_line.specs.Asked.{asked, HasNumbers, IsMost};
 
+use search_commands::limit::Limit;
 use text_lines::read_within;
 
 /// What the words of the command line ask for.
@@ -39,13 +56,13 @@ pub enum Form<'a> {
         demand: &'a str,
         proof: &'a str,
     },
-    /// A roster of least cost by the rules and demand texts under names, found within so many turns; its
+    /// A roster of least cost by the rules and demand texts under names, found within a limit; its
     /// certificate is stored under the name of the proof.
     Solve {
         rules: &'a str,
         demand: &'a str,
         proof: &'a str,
-        turns: u32,
+        limit: Limit,
     },
     /// The same for each greatest head count of the day; the certificates are stored under the name of the proof,
     /// a full stop and the head count.
@@ -53,32 +70,61 @@ pub enum Form<'a> {
         rules: &'a str,
         demand: &'a str,
         proof: &'a str,
-        turns: u32,
+        limit: Limit,
     },
-    /// A roster of least cost for a day that is made from a number, found within so many turns; its certificate is
+    /// A roster of least cost for a day that is made from a number, found within a limit; its certificate is
     /// stored under the name of the proof.
     Make {
         number: u32,
         proof: &'a str,
-        turns: u32,
+        limit: Limit,
     },
     /// Nothing that the program does.
     None,
 }
 
 // Returns the turns that a word says, 1 to 10,000.
-fn turns_of(word: &str) -> Option<u32>
-    ensures says { result ≡ turns_of word.now }
-    ensures within { IfSome result AreTurns }
+fn turns_limit(word: &[u8]) -> Option<Limit>
+    ensures says { result ≡ turns_limit word.now }
+    ensures within { IfSome result IsLimit }
 {
-    match read_within(1, 10_000, (), (), word.as_bytes()) {
-        Ok(turns) => Some(turns as u32),
+    match read_within(1, 10_000, (), (), word) {
+        Ok(turns) => Some(Limit::Turns(turns as u32)),
         Err(()) => None,
     }
 }
 
+// Returns the seconds that digits say, 1 to 86,400.
+fn seconds_limit(digits: &[u8]) -> Option<Limit>
+    ensures says { result ≡ seconds_limit digits.now }
+    ensures within { IfSome result IsLimit }
+{
+    match read_within(1, 86_400, (), (), digits) {
+        Ok(seconds) => Some(Limit::Seconds(seconds as u32)),
+        Err(()) => None,
+    }
+}
+
+// Returns a word without the s at its end, where it has one.
+fn before_s(word: &[u8]) -> Option<&[u8]>
+    ensures { option_copied result ≡ before_s word.now }
+{
+    word.strip_suffix(b"s".as_slice())
+}
+
+// Returns the limit that a word says: turns, or seconds with an s behind them.
+pub(crate) fn limit_of(word: &str) -> Option<Limit>
+    ensures says { result ≡ limit_of word.now }
+    ensures within { IfSome result IsLimit }
+{
+    match before_s(word.as_bytes()) {
+        Some(digits) => seconds_limit(digits),
+        None => turns_limit(word.as_bytes()),
+    }
+}
+
 // Returns how many trees a word asks for, 1 to 1,000.
-fn most_of(word: &str) -> Option<u32>
+pub(crate) fn most_of(word: &str) -> Option<u32>
     ensures says { result ≡ most_of word.now }
     ensures within { IfSome result IsMost }
 {
@@ -89,7 +135,7 @@ fn most_of(word: &str) -> Option<u32>
 }
 
 // Returns the number of a day that a word says.
-fn number_of_make(word: &str) -> Option<u32>
+pub(crate) fn number_of_make(word: &str) -> Option<u32>
     ensures { result ≡ number_of_make word.now }
 {
     match read_within(0, 4_294_967_295, (), (), word.as_bytes()) {
@@ -136,35 +182,35 @@ fn short_form<'a>(command: &str, rules: &'a str, word: &'a str) -> Form<'a>
     Form::None
 }
 
-// Returns what `solve` asks for, where the last word says turns.
-fn solve_form<'a>(rules: &'a str, demand: &'a str, proof: &'a str, turns: Option<u32>) -> Form<'a>
-    requires { IfSome turns AreTurns }
-    ensures asked { asked result ≡ solve_form rules.now demand.now proof.now turns }
+// Returns what `solve` asks for, where the last word says a limit.
+fn solve_form<'a>(rules: &'a str, demand: &'a str, proof: &'a str, limit: Option<Limit>) -> Form<'a>
+    requires { IfSome limit IsLimit }
+    ensures asked { asked result ≡ solve_form rules.now demand.now proof.now limit }
     ensures numbers { HasNumbers result }
 {
-    match turns {
-        Some(turns) => Form::Solve {
+    match limit {
+        Some(limit) => Form::Solve {
             rules,
             demand,
             proof,
-            turns,
+            limit,
         },
         None => Form::None,
     }
 }
 
-// Returns what `curve` asks for, where the last word says turns.
-fn curve_form<'a>(rules: &'a str, demand: &'a str, proof: &'a str, turns: Option<u32>) -> Form<'a>
-    requires { IfSome turns AreTurns }
-    ensures asked { asked result ≡ curve_form rules.now demand.now proof.now turns }
+// Returns what `curve` asks for, where the last word says a limit.
+fn curve_form<'a>(rules: &'a str, demand: &'a str, proof: &'a str, limit: Option<Limit>) -> Form<'a>
+    requires { IfSome limit IsLimit }
+    ensures asked { asked result ≡ curve_form rules.now demand.now proof.now limit }
     ensures numbers { HasNumbers result }
 {
-    match turns {
-        Some(turns) => Form::Curve {
+    match limit {
+        Some(limit) => Form::Curve {
             rules,
             demand,
             proof,
-            turns,
+            limit,
         },
         None => Form::None,
     }
@@ -176,31 +222,31 @@ fn longest_form<'a>(
     rules: &'a str,
     demand: &'a str,
     proof: &'a str,
-    turns: &str,
+    limit: &str,
 ) -> Form<'a>
-    ensures asked { asked result ≡ longest_form command.now rules.now demand.now proof.now turns.now }
+    ensures asked { asked result ≡ longest_form command.now rules.now demand.now proof.now limit.now }
     ensures numbers { HasNumbers result }
 {
     if command == "solve" {
-        return solve_form(rules, demand, proof, turns_of(turns));
+        return solve_form(rules, demand, proof, limit_of(limit));
     }
     if command == "curve" {
-        return curve_form(rules, demand, proof, turns_of(turns));
+        return curve_form(rules, demand, proof, limit_of(limit));
     }
     Form::None
 }
 
-// Returns what `make` asks for, where its words say a number and turns.
-fn make_form<'a>(number: Option<u32>, proof: &'a str, turns: Option<u32>) -> Form<'a>
-    requires { IfSome turns AreTurns }
-    ensures asked { asked result ≡ make_form number proof.now turns }
+// Returns what `make` asks for, where its words say a number and a limit.
+fn make_form<'a>(number: Option<u32>, proof: &'a str, limit: Option<Limit>) -> Form<'a>
+    requires { IfSome limit IsLimit }
+    ensures asked { asked result ≡ make_form number proof.now limit }
     ensures numbers { HasNumbers result }
 {
-    match (number, turns) {
-        (Some(number), Some(turns)) => Form::Make {
+    match (number, limit) {
+        (Some(number), Some(limit)) => Form::Make {
             number,
             proof,
-            turns,
+            limit,
         },
         _ => Form::None,
     }
@@ -223,17 +269,17 @@ pub fn form_of(words: &[String]) -> Form<'_>
             demand: demand.as_str(),
             proof: proof.as_str(),
         },
-        [command, number, proof, turns] if command.as_str() == "make" => make_form(
+        [command, number, proof, limit] if command.as_str() == "make" => make_form(
             number_of_make(number.as_str()),
             proof.as_str(),
-            turns_of(turns.as_str()),
+            limit_of(limit.as_str()),
         ),
-        [command, rules, demand, proof, turns] => longest_form(
+        [command, rules, demand, proof, limit] => longest_form(
             command.as_str(),
             rules.as_str(),
             demand.as_str(),
             proof.as_str(),
-            turns.as_str(),
+            limit.as_str(),
         ),
         _ => Form::None,
     }

@@ -2,6 +2,7 @@
 #![tactic(auto)]
 
 mod form;
+mod notes;
 mod program;
 
 pub use program::run;

@@ -6,7 +6,8 @@ ghost use Rattle.text_commands.specs.Reader.{IsReader};
 ghost use Rattle.search_commands.specs.Solve.{lent};
 
 use crate::form::{Form, form_of};
-use branch_price::Master;
+use crate::notes::note_forms;
+use branch_price::{Master, Watch};
 use search_commands::curve::curve;
 use search_commands::make::make;
 use search_commands::reuse::reuse;
@@ -22,18 +23,26 @@ use text_commands::say::say;
 
 const NO_FORM: &[u8] = b"words: none of the forms\n";
 
-// Says that the words have no form.
-fn refuse_words<S: Shelf>(shelf: &mut S) -> u8
+// Says that words have no form.
+fn say_no_form<S: Shelf>(shelf: &mut S) -> u8
     ensures { IsReader AnswersNoForm [] (S.told shelf.old) (S.told shelf.new) result }
 {
     say(shelf, NO_FORM, 2)
+}
+
+// Says that the words have no form, and notes what forms there are.
+fn refuse_words<S: Shelf>(shelf: &mut S, words: &[String]) -> u8
+    ensures { IsReader AnswersNoForm [] (S.told shelf.old) (S.told shelf.new) result }
+{
+    note_forms(shelf, words);
+    say_no_form(shelf)
 }
 
 /// Does what the words of the command line ask for, and returns the status:
 ///
 /// | status | comes |
 /// |---|---|
-/// | 0 | `explain RULES WORD`: the word is a shift; `rank RULES MOST`: the day has a tree; `next RULES PREFIX`: some code may follow the prefix; `fits RULES PATTERN`: a shift fits; `check RULES DEMAND PROOF`: the certificate is accepted; `reuse RULES DEMAND PROOF`: its nodes show a bound on this day; `solve RULES DEMAND PROOF TURNS` and `make NUMBER PROOF TURNS`: a roster was found, and no allowed roster costs less; `curve RULES DEMAND PROOF TURNS`: so it is for some head count, and every point is closed |
+/// | 0 | `explain RULES WORD`: the word is a shift; `rank RULES MOST`: the day has a tree; `next RULES PREFIX`: some code may follow the prefix; `fits RULES PATTERN`: a shift fits; `check RULES DEMAND PROOF`: the certificate is accepted; `reuse RULES DEMAND PROOF`: its nodes show a bound on this day; `solve RULES DEMAND PROOF LIMIT` and `make NUMBER PROOF LIMIT`: a roster was found, and no allowed roster costs less; `curve RULES DEMAND PROOF LIMIT`: so it is for some head count, and every point is closed |
 /// | 1 | `explain`: the word is no shift; `rank`: the day has no tree; `next`: no code may follow; `fits`: no shift fits; `check`: the certificate is refused; `reuse`: its nodes are; `solve`: no roster is allowed; `curve`: none is for any head count |
 /// | 2 | the words are none of the command's forms |
 /// | 3 | the rules text is refused |
@@ -44,7 +53,8 @@ fn refuse_words<S: Shelf>(shelf: &mut S) -> u8
 /// | 8 | `solve`, `make`: the turns ran out before the bound was the cost; `curve`: so they did for some head count |
 /// | 9 | `solve`, `curve`, `make`: the instance has more than 100,000 arcs |
 ///
-/// TURNS is a number from 1 to 10,000, MOST one from 1 to 1,000, and NUMBER one from 0 to 4,294,967,295. In
+/// LIMIT is a number of turns from 1 to 10,000, or one of seconds from 1 to 86,400 with an s behind it; the watch
+/// is told of a search between its turns. MOST is one from 1 to 1,000, and NUMBER one from 0 to 4,294,967,295. In
 /// PATTERN `#` stands for any code. A command says its whole
 /// answer at once; `solve` and `make` have stored the certificate under PROOF before, and `curve` those of its
 /// points under PROOF, a full stop and the head count. Status 6 or 7 ends it
@@ -52,11 +62,12 @@ fn refuse_words<S: Shelf>(shelf: &mut S) -> u8
 /// the same, save that `explain` may print another tree of the same cost, and that a search may use up its turns;
 /// two searches with status 0 say the same cost and bound, and may find different rosters and process different
 /// nodes.
-pub fn run<S: Shelf, M: Master>(
+pub fn run<S: Shelf, M: Master, W: Watch>(
     alloc: Global,
     shelf: &mut S,
     words: &[String],
     master: &mut M,
+    watch: &mut W,
 ) -> u8
     ensures does { Does (form_of (map string_bytes words.now)) (S.told shelf.old) (S.told shelf.new)
         (lent (M.strict master.old) (M.refused master.old) (M.refused master.new)) result }
@@ -81,19 +92,19 @@ pub fn run<S: Shelf, M: Master>(
             rules,
             demand,
             proof,
-            turns,
-        } => solve(alloc, shelf, rules, demand, proof, turns, master),
+            limit,
+        } => solve(alloc, shelf, rules, demand, proof, limit, master, watch),
         Form::Curve {
             rules,
             demand,
             proof,
-            turns,
-        } => curve(alloc, shelf, rules, demand, proof, turns, master),
+            limit,
+        } => curve(alloc, shelf, rules, demand, proof, limit, master, watch),
         Form::Make {
             number,
             proof,
-            turns,
-        } => make(alloc, shelf, number, proof, turns, master),
-        Form::None => refuse_words(shelf),
+            limit,
+        } => make(alloc, shelf, number, proof, limit, master, watch),
+        Form::None => refuse_words(shelf, words),
     }
 }

@@ -9,11 +9,23 @@ use text_commands::say::say;
 
 const NO_FORM: &[u8] = b"words: RULES DEMAND PROOF\n";
 
-// Says that the words are not three.
-fn refuse_words<S: Shelf>(shelf: &mut S) -> u8
+// What is noted where the words are not three.
+const FORM: &str =
+    "RULES DEMAND PROOF are the names of three texts; the page of the certificate PROOF is printed";
+
+// Says that words are not three.
+fn say_no_form<S: Shelf>(shelf: &mut S) -> u8
     ensures { IsReader AnswersNoForm [] (S.told shelf.old) (S.told shelf.new) result }
 {
     say(shelf, NO_FORM, 2)
+}
+
+// Says that the words are not three, and notes what they stand for.
+fn refuse_words<S: Shelf>(shelf: &mut S) -> u8
+    ensures { IsReader AnswersNoForm [] (S.told shelf.old) (S.told shelf.new) result }
+{
+    shelf.note(FORM);
+    say_no_form(shelf)
 }
 
 /// Draws the certificate of three texts, RULES DEMAND PROOF, and returns the status:

@@ -1,5 +1,8 @@
 -- The answers of `curve`, from what its parts answer.
 use Rattle.std.proofs.Common.{◌≡◌, ◌≢◌, ℕ, ◌+◌, ◌<◌, ◌≤◌, arith, Bool, List, [], ◌∷◌, length, Option, Result, Ok, Err, IfOk, refl, sym, ap, subst, ◌∙◌}
+use Rattle.search_commands.specs.declared.limit.Limit.{Limit}
+use Rattle.search_commands.specs.declared.limit.Limit.TheVariants.{Turns, Seconds}
+use Rattle.search_commands.specs.Limits.{ForLimit, IsUsedUp}
 use Rattle.roster_model.specs.declared.grammar.Grammar.{Grammar}
 use Rattle.roster_model.specs.declared.instance.Done.{Done}
 use Rattle.roster_model.specs.declared.instance.Done.TheVariants.{Equal, NoRoster, TurnsOut}
@@ -47,61 +50,64 @@ open_ran_out i strict turns f Equal e done is ne = absurd (ne done.1)
 open_ran_out i strict turns f NoRoster e done is ne = absurd (ne (done.1 ∙ sym done.0))
 open_ran_out i strict turns f TurnsOut e done is ne = let ran = is.ran_out e in ran.all
 
-ran_out_each : (i : Instance) (strict : Bool) (turns h r : ℕ) (ps : List Point) → ArePoints i strict turns h r ps → Each (λ (p : CurvePoint). p.bound ≢ p.cost → p.processed ≡ turns) (said_points h ps)
-ran_out_each i strict turns h r [] are = tt
-ran_out_each i strict turns h r (p ∷ ps) are =
-    let searched = are.0.searched in
-    (open_ran_out (with_heads i h) strict turns p.found p.found.done refl searched.done searched, ran_out_each i strict turns (h + 1) p.refused ps are.1)
+used_up : (i : Instance) (strict : Bool) (limit : Limit) (f : Found) → ForLimit limit (λ k. IsFound i strict k f) → f.cert.bound ≢ f.cert.cost → IsUsedUp limit f.processed
+used_up i strict (Turns n) f searched ne = open_ran_out i strict n f f.done refl searched.done searched ne
+used_up i strict (Seconds s) f searched ne = tt
+
+ran_out_each : (i : Instance) (strict : Bool) (limit : Limit) (h r : ℕ) (ps : List Point) → ArePoints i strict limit h r ps → Each (λ (p : CurvePoint). p.bound ≢ p.cost → IsUsedUp limit p.processed) (said_points h ps)
+ran_out_each i strict limit h r [] are = tt
+ran_out_each i strict limit h r (p ∷ ps) are =
+    (used_up (with_heads i h) strict limit p.found are.0.searched, ran_out_each i strict limit (h + 1) p.refused ps are.1)
 
 -- what costs no more with more employees at most
-falls_each : (i : Instance) (plain : i.groups ≡ []) (few : ℕ) (c : Cert) → YesIsRight (with_heads i few) c → (strict : Bool) (turns h r : ℕ) (ps : List Point) → few ≤ h → ArePoints i strict turns h r ps
+falls_each : (i : Instance) (plain : i.groups ≡ []) (few : ℕ) (c : Cert) → YesIsRight (with_heads i few) c → (strict : Bool) (limit : Limit) (h r : ℕ) (ps : List Point) → few ≤ h → ArePoints i strict limit h r ps
     → Each (λ (q : CurvePoint). q.bound ≡ q.cost → IsNoDearer q.cost c.cost) (said_points h ps)
-falls_each i plain few c right strict turns h r [] less are = tt
-falls_each i plain few c right strict turns h r (p ∷ ps) less are =
-    ((λ closed. costs-fall i few h plain less c p.found.cert right are.0.right closed), falls_each i plain few c right strict turns (h + 1) p.refused ps (omega (arith, less)) are.1)
+falls_each i plain few c right strict limit h r [] less are = tt
+falls_each i plain few c right strict limit h r (p ∷ ps) less are =
+    ((λ closed. costs-fall i few h plain less c p.found.cert right are.0.right closed), falls_each i plain few c right strict limit (h + 1) p.refused ps (omega (arith, less)) are.1)
 
-falling : (i : Instance) (plain : i.groups ≡ []) (strict : Bool) (turns h r : ℕ) (ps : List Point) → ArePoints i strict turns h r ps → AreFalling (said_points h ps)
-falling i plain strict turns h r [] are = tt
-falling i plain strict turns h r (p ∷ ps) are =
-    (falls_each i plain h p.found.cert are.0.right strict turns (h + 1) p.refused ps (omega arith) are.1, falling i plain strict turns (h + 1) p.refused ps are.1)
+falling : (i : Instance) (plain : i.groups ≡ []) (strict : Bool) (limit : Limit) (h r : ℕ) (ps : List Point) → ArePoints i strict limit h r ps → AreFalling (said_points h ps)
+falling i plain strict limit h r [] are = tt
+falling i plain strict limit h r (p ∷ ps) are =
+    (falls_each i plain h p.found.cert are.0.right strict limit (h + 1) p.refused ps (omega arith) are.1, falling i plain strict limit (h + 1) p.refused ps are.1)
 
 -- a sound day has a point
 pub some-points : (i : Instance) → IsSoundInstance i → 0 < point_count i
 some-points i s = let order = s.order in let some = s.some in omega (arith, order, some)
 
-module _ (i : Instance) (proof : List ℕ) (m : MasterView) (turns : ℕ) where
+module _ (i : Instance) (proof : List ℕ) (m : MasterView) (limit : Limit) where
   refused_graph : i.groups ≡ [] → (fault : GraphFault) → IsRefused i.grammar fault → (r : Result Answer Memory) → IfOk r (IsArcsAnswer fault)
-      → (e : End) (stored : List Entry) → StoresNoEntry (IsAnswer r) e stored → Curving i proof m turns e stored
+      → (e : End) (stored : List Entry) → StoresNoEntry (IsAnswer r) e stored → Curving i proof m limit e stored
   refused_graph plain fault refused r h (broken_off name) stored a = absurd a
   refused_graph plain fault refused (Err x) h (answered status output) stored a = absurd a.0
   refused_graph plain fault refused (Ok x) h (answered status output) stored a =
       let s : status ≡ 9 = a.0.0 ∙ h.0 in
       rw (s, a.1) (curves.too_many output plain (subst (λ (o : List ℕ). SaysTooManyArcs i.grammar o) (sym a.0.1) (h.1 i.grammar refused)))
 
-  with_groups : i.groups ≢ [] → (e : End) (stored : List Entry) → StoresNoEntry AnswersGroups e stored → Curving i proof m turns e stored
+  with_groups : i.groups ≢ [] → (e : End) (stored : List Entry) → StoresNoEntry AnswersGroups e stored → Curving i proof m limit e stored
   with_groups ne (broken_off name) stored a = absurd a
   with_groups ne (answered status output) stored a = rw (a.0.four, a.1) (curves.groups output ne a.0.line)
 
   module _ (before after : Told) (status : ℕ) where
     pub graph-refused : i.groups ≡ [] → (fault : GraphFault) → IsRefused i.grammar fault → (r : Result Answer Memory) → IfOk r (IsArcsAnswer fault)
-        → IsReader (IsAnswer r) [] before after status → IsSeriesWriter (Curving i proof m turns) [] before after status
+        → IsReader (IsAnswer r) [] before after status → IsSeriesWriter (Curving i proof m limit) [] before after status
     graph-refused plain fault refused r h reader =
-        widen (StoresNoEntry (IsAnswer r)) (Curving i proof m turns) (refused_graph plain fault refused r h) [] [] before after status (λ k. k) (as_series (IsAnswer r) [] before after status reader)
+        widen (StoresNoEntry (IsAnswer r)) (Curving i proof m limit) (refused_graph plain fault refused r h) [] [] before after status (λ k. k) (as_series (IsAnswer r) [] before after status reader)
 
-    pub groups-said : i.groups ≢ [] → IsReader AnswersGroups [] before after status → IsSeriesWriter (Curving i proof m turns) [] before after status
+    pub groups-said : i.groups ≢ [] → IsReader AnswersGroups [] before after status → IsSeriesWriter (Curving i proof m limit) [] before after status
     groups-said ne reader =
-        widen (StoresNoEntry AnswersGroups) (Curving i proof m turns) (with_groups ne) [] [] before after status (λ k. k) (as_series AnswersGroups [] before after status reader)
+        widen (StoresNoEntry AnswersGroups) (Curving i proof m limit) (with_groups ne) [] [] before after status (λ k. k) (as_series AnswersGroups [] before after status reader)
 
-    pub curve-broken : i.groups ≡ [] → BreaksCurve i proof m turns before after status → IsSeriesWriter (Curving i proof m turns) [] before after status
+    pub curve-broken : i.groups ≡ [] → BreaksCurve i proof m limit before after status → IsSeriesWriter (Curving i proof m limit) [] before after status
     curve-broken plain b =
         let entries = point_entries proof (first_heads i) b.points in
         let name = point_name proof (first_heads i + length b.points) in
-        broken_series (Curving i proof m turns) entries name before after status
+        broken_series (Curving i proof m limit) entries name before after status
         (curves.broken name entries (record { plain = plain; points = b.points; fewer = b.fewer; are = b.are; stored_is = refl; next = refl })) b.broken
 
-    module _ (middle : Told) (said : List CurvePoint) (plain : i.groups ≡ []) (arcs : (n : ℕ) × HasArcCount i.grammar n) (f : FindsFirst i proof m turns (point_count i) before middle said) where
+    module _ (middle : Told) (said : List CurvePoint) (plain : i.groups ≡ []) (arcs : (n : ℕ) × HasArcCount i.grammar n) (f : FindsFirst i proof m limit (point_count i) before middle said) where
       -- what is said of all points
-      all_said : (s : ℕ) (o : List ℕ) → s ≡ curve_status said → o ≡ curve_text said → Curving i proof m turns (answered s o) (point_entries proof (first_heads i) f.points)
+      all_said : (s : ℕ) (o : List ℕ) → s ≡ curve_status said → o ≡ curve_text said → Curving i proof m limit (answered s o) (point_entries proof (first_heads i) f.points)
       all_said s o status_is text =
           curves.found s o (point_entries proof (first_heads i) f.points) (record {
             plain = plain;
@@ -112,27 +118,27 @@ module _ (i : Instance) (proof : List ℕ) (m : MasterView) (turns : ℕ) where
             are = f.are;
             counted = f.counted;
             stored_is = refl;
-            falls = falling i plain m.strict turns (first_heads i) m.before f.points f.are;
-            ran_out = ran_out_each i m.strict turns (first_heads i) m.before f.points f.are;
+            falls = falling i plain m.strict limit (first_heads i) m.before f.points f.are;
+            ran_out = ran_out_each i m.strict limit (first_heads i) m.before f.points f.are;
             status_is = status_is ∙ ap (λ (ps : List CurvePoint). curve_status ps) f.is;
             text = text ∙ ap (λ (ps : List CurvePoint). curve_text ps) f.is;
           })
 
       said_of : (r : Result Answer Memory) → IfOk r (λ a. (a.status ≡ curve_status said) × (a.output ≡ curve_text said))
-          → (s : ℕ) (o : List ℕ) → IsAnswer r s o → Curving i proof m turns (answered s o) (point_entries proof (first_heads i) f.points)
+          → (s : ℕ) (o : List ℕ) → IsAnswer r s o → Curving i proof m limit (answered s o) (point_entries proof (first_heads i) f.points)
       said_of (Err e) h s o a = absurd a
       said_of (Ok x) h s o a = all_said s o (a.0 ∙ h.0) (a.1 ∙ h.1)
 
       pub curve-said : (r : Result Answer Memory) → IfOk r (λ a. (a.status ≡ curve_status said) × (a.output ≡ curve_text said))
-          → IsReader (IsAnswer r) [] middle after status → IsSeriesWriter (Curving i proof m turns) [] before after status
+          → IsReader (IsAnswer r) [] middle after status → IsSeriesWriter (Curving i proof m limit) [] before after status
       curve-said r h reader =
-          said_series (Curving i proof m turns) (point_entries proof (first_heads i) f.points) (IsAnswer r) (curve_status said) (curve_text said) before middle after status
+          said_series (Curving i proof m limit) (point_entries proof (first_heads i) f.points) (IsAnswer r) (curve_status said) (curve_text said) before middle after status
           (said_of r h) (all_said (curve_status said) (curve_text said) refl refl) f.stored reader
 
-module _ (proof : List ℕ) (m : MasterView) (turns : ℕ) where
+module _ (proof : List ℕ) (m : MasterView) (limit : Limit) where
   refused_demand : (g : Grammar) (text : List ℕ) (fault : DemandFault) (r : Result Answer Memory)
       → IfOk r (λ a. (fault ≢ demand_faults.Memory) × (a.status ≡ 4) × (a.output ≡ demand.fault_line fault)) → (fault ≢ demand_faults.Memory → instance_of g text ≡ Err fault)
-      → (e : End) (stored : List Entry) → StoresNoEntry (IsAnswer r) e stored → CurvesDemand g text proof m turns e stored
+      → (e : End) (stored : List Entry) → StoresNoEntry (IsAnswer r) e stored → CurvesDemand g text proof m limit e stored
   refused_demand g text fault r h reading (broken_off name) stored a = absurd a
   refused_demand g text fault (Err x) h reading (answered status output) stored a = absurd a.0
   refused_demand g text fault (Ok x) h reading (answered status output) stored a =
@@ -141,7 +147,7 @@ module _ (proof : List ℕ) (m : MasterView) (turns : ℕ) where
 
   refused_rules : (held : Option Texts) (text demand_name : List ℕ) (fault : RulesFault) (r : Result Answer Memory)
       → IfOk r (λ a. (fault ≢ rules_faults.Memory) × (a.status ≡ 3) × (a.output ≡ fault_line fault)) → (fault ≢ rules_faults.Memory → IsReading text (Err fault))
-      → (e : End) (stored : List Entry) → StoresNoEntry (IsAnswer r) e stored → CurvesRules held text demand_name proof m turns e stored
+      → (e : End) (stored : List Entry) → StoresNoEntry (IsAnswer r) e stored → CurvesRules held text demand_name proof m limit e stored
   refused_rules held text demand_name fault r h reading (broken_off name) stored a = absurd a
   refused_rules held text demand_name fault (Err x) h reading (answered status output) stored a = absurd a.0
   refused_rules held text demand_name fault (Ok x) h reading (answered status output) stored a =
@@ -151,47 +157,47 @@ module _ (proof : List ℕ) (m : MasterView) (turns : ℕ) where
   module _ (before after : Told) (status : ℕ) where
     pub demand-refused : (g : Grammar) (text : List ℕ) (fault : DemandFault) (r : Result Answer Memory)
         → IfOk r (λ a. (fault ≢ demand_faults.Memory) × (a.status ≡ 4) × (a.output ≡ demand.fault_line fault)) → (fault ≢ demand_faults.Memory → instance_of g text ≡ Err fault)
-        → IsReader (IsAnswer r) [] before after status → IsSeriesWriter (CurvesDemand g text proof m turns) [] before after status
+        → IsReader (IsAnswer r) [] before after status → IsSeriesWriter (CurvesDemand g text proof m limit) [] before after status
     demand-refused g text fault r h reading reader =
-        widen (StoresNoEntry (IsAnswer r)) (CurvesDemand g text proof m turns) (refused_demand g text fault r h reading) [] [] before after status (λ k. k) (as_series (IsAnswer r) [] before after status reader)
+        widen (StoresNoEntry (IsAnswer r)) (CurvesDemand g text proof m limit) (refused_demand g text fault r h reading) [] [] before after status (λ k. k) (as_series (IsAnswer r) [] before after status reader)
 
     pub demand-accepted : (g : Grammar) (text : List ℕ) (i : Instance) → instance_of g text ≡ Ok i → IsSoundInstance i
-        → IsSeriesWriter (Curving i proof m turns) [] before after status → IsSeriesWriter (CurvesDemand g text proof m turns) [] before after status
+        → IsSeriesWriter (Curving i proof m limit) [] before after status → IsSeriesWriter (CurvesDemand g text proof m limit) [] before after status
     demand-accepted g text i reading sound w =
-        widen (Curving i proof m turns) (CurvesDemand g text proof m turns) (λ e x a. curves.CurvesDemand.accepted i e x (record { reading = reading; sound = sound }) a) [] [] before after status (λ k. k) w
+        widen (Curving i proof m limit) (CurvesDemand g text proof m limit) (λ e x a. curves.CurvesDemand.accepted i e x (record { reading = reading; sound = sound }) a) [] [] before after status (λ k. k) w
 
     pub rules-refused : (text demand_name : List ℕ) (fault : RulesFault) (r : Result Answer Memory)
         → IfOk r (λ a. (fault ≢ rules_faults.Memory) × (a.status ≡ 3) × (a.output ≡ fault_line fault)) → (fault ≢ rules_faults.Memory → IsReading text (Err fault))
-        → IsReader (IsAnswer r) [] before after status → IsSeriesWriter (CurvesRules before.held text demand_name proof m turns) (demand_name ∷ []) before after status
+        → IsReader (IsAnswer r) [] before after status → IsSeriesWriter (CurvesRules before.held text demand_name proof m limit) (demand_name ∷ []) before after status
     rules-refused text demand_name fault r h reading reader =
-        widen (StoresNoEntry (IsAnswer r)) (CurvesRules before.held text demand_name proof m turns) (refused_rules before.held text demand_name fault r h reading) (demand_name ∷ []) [] before after status
+        widen (StoresNoEntry (IsAnswer r)) (CurvesRules before.held text demand_name proof m limit) (refused_rules before.held text demand_name fault r h reading) (demand_name ∷ []) [] before after status
         (no_names before.held (demand_name ∷ [])) (as_series (IsAnswer r) [] before after status reader)
 
     pub rules-accepted : (text demand_name : List ℕ) (g : Grammar) → IsReading text (Ok g) → IsSound g
-        → IsSeriesWriter (AnswersCurveDemand before.held g demand_name proof m turns) (demand_name ∷ []) before after status
-        → IsSeriesWriter (CurvesRules before.held text demand_name proof m turns) (demand_name ∷ []) before after status
+        → IsSeriesWriter (AnswersCurveDemand before.held g demand_name proof m limit) (demand_name ∷ []) before after status
+        → IsSeriesWriter (CurvesRules before.held text demand_name proof m limit) (demand_name ∷ []) before after status
     rules-accepted text demand_name g reading sound w =
-        widen (AnswersCurveDemand before.held g demand_name proof m turns) (CurvesRules before.held text demand_name proof m turns)
+        widen (AnswersCurveDemand before.held g demand_name proof m limit) (CurvesRules before.held text demand_name proof m limit)
         (λ e x a. curves.CurvesRules.accepted g e x (record { reading = reading; sound = sound }) a) (demand_name ∷ []) (demand_name ∷ []) before after status (λ k. k) w
 
     -- a demand text that was fetched, and one that was not
-    pub demand-read : (g : Grammar) (name text : List ℕ) (middle : Told) → IsFetch name before middle text → IsSeriesWriter (CurvesDemand g text proof m turns) [] middle after status
-        → IsSeriesWriter (AnswersCurveDemand before.held g name proof m turns) (name ∷ []) before after status
+    pub demand-read : (g : Grammar) (name text : List ℕ) (middle : Told) → IsFetch name before middle text → IsSeriesWriter (CurvesDemand g text proof m limit) [] middle after status
+        → IsSeriesWriter (AnswersCurveDemand before.held g name proof m limit) (name ∷ []) before after status
     demand-read g name text middle f w =
-        after_fetch (AnswersCurveDemand before.held g name proof m turns) name [] before middle after status text f
-        (widen (CurvesDemand g text proof m turns) (AnswersCurveDemand before.held g name proof m turns) (λ e x a. record { text = text; holds = f.holds; answers = a }) [] [] middle after status (λ k. k) w)
+        after_fetch (AnswersCurveDemand before.held g name proof m limit) name [] before middle after status text f
+        (widen (CurvesDemand g text proof m limit) (AnswersCurveDemand before.held g name proof m limit) (λ e x a. record { text = text; holds = f.holds; answers = a }) [] [] middle after status (λ k. k) w)
 
-    pub demand-unread : (g : Grammar) (name : List ℕ) → IsReader NoAnswer (name ∷ []) before after status → IsSeriesWriter (AnswersCurveDemand before.held g name proof m turns) (name ∷ []) before after status
-    demand-unread g name reader = refused_fetch (AnswersCurveDemand before.held g name proof m turns) name (name ∷ []) before after status (λ k. k) reader
+    pub demand-unread : (g : Grammar) (name : List ℕ) → IsReader NoAnswer (name ∷ []) before after status → IsSeriesWriter (AnswersCurveDemand before.held g name proof m limit) (name ∷ []) before after status
+    demand-unread g name reader = refused_fetch (AnswersCurveDemand before.held g name proof m limit) name (name ∷ []) before after status (λ k. k) reader
 
     -- a rules text that was fetched, and one that was not
-    pub rules-read : (name demand_name text : List ℕ) (middle : Told) → IsFetch name before middle text → IsSeriesWriter (CurvesRules middle.held text demand_name proof m turns) (demand_name ∷ []) middle after status
-        → IsSeriesWriter (AnswersCurve before.held name demand_name proof m turns) (name ∷ demand_name ∷ []) before after status
+    pub rules-read : (name demand_name text : List ℕ) (middle : Told) → IsFetch name before middle text → IsSeriesWriter (CurvesRules middle.held text demand_name proof m limit) (demand_name ∷ []) middle after status
+        → IsSeriesWriter (AnswersCurve before.held name demand_name proof m limit) (name ∷ demand_name ∷ []) before after status
     rules-read name demand_name text middle f w =
-        after_fetch (AnswersCurve before.held name demand_name proof m turns) name (demand_name ∷ []) before middle after status text f
-        (widen (CurvesRules middle.held text demand_name proof m turns) (AnswersCurve before.held name demand_name proof m turns)
-        (λ e x a. record { text = text; holds = f.holds; answers = subst (λ (h : Option Texts). CurvesRules h text demand_name proof m turns e x) f.held a }) (demand_name ∷ []) (demand_name ∷ []) middle after status (λ k. k) w)
+        after_fetch (AnswersCurve before.held name demand_name proof m limit) name (demand_name ∷ []) before middle after status text f
+        (widen (CurvesRules middle.held text demand_name proof m limit) (AnswersCurve before.held name demand_name proof m limit)
+        (λ e x a. record { text = text; holds = f.holds; answers = subst (λ (h : Option Texts). CurvesRules h text demand_name proof m limit e x) f.held a }) (demand_name ∷ []) (demand_name ∷ []) middle after status (λ k. k) w)
 
-    pub rules-unread : (name demand_name : List ℕ) → IsReader NoAnswer (name ∷ []) before after status → IsSeriesWriter (AnswersCurve before.held name demand_name proof m turns) (name ∷ demand_name ∷ []) before after status
+    pub rules-unread : (name demand_name : List ℕ) → IsReader NoAnswer (name ∷ []) before after status → IsSeriesWriter (AnswersCurve before.held name demand_name proof m limit) (name ∷ demand_name ∷ []) before after status
     rules-unread name demand_name reader =
-        refused_fetch (AnswersCurve before.held name demand_name proof m turns) name (name ∷ demand_name ∷ []) before after status (one_held before.held name (demand_name ∷ [])) reader
+        refused_fetch (AnswersCurve before.held name demand_name proof m limit) name (name ∷ demand_name ∷ []) before after status (one_held before.held name (demand_name ∷ [])) reader

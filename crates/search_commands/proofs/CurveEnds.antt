@@ -3,6 +3,7 @@ use Rattle.std.proofs.Common.{◌≡◌, ◌≢◌, ℕ, ◌+◌, ◌<◌, Bool,
 use Rattle.std.proofs.lemmas.Bool.Decides.{eqb_tells}
 use Rattle.std.specs.Prelude.{IsSome, cond, ◌&&◌, is_none, nat_eq}
 use Rattle.std.specs.List.{list_all}
+use Rattle.search_commands.specs.declared.limit.Limit.{Limit}
 use Rattle.roster_model.specs.declared.grammar.Grammar.{Grammar}
 use Rattle.roster_model.specs.declared.instance.Instance.{Instance}
 use Rattle.roster_model.specs.SoundInstance.{IsSoundInstance}
@@ -44,19 +45,19 @@ cost_none i c d None e h k none = refl
 cost_none i c d (Some n) e h k none = absurd (never_both i c d h k (subst (λ (o : Option ℕ). IsSome o) (sym e) refl) none)
 
 -- two curves over the same head counts, the first closed and without costs
-none_alike : (i : Instance) (turns : ℕ) (s t : Bool) (h q r : ℕ) (xs ys : List Point) → length xs ≡ length ys → ArePoints i s turns h q xs → ArePoints i t turns h r ys
+none_alike : (i : Instance) (limit : Limit) (s t : Bool) (h q r : ℕ) (xs ys : List Point) → length xs ≡ length ys → ArePoints i s limit h q xs → ArePoints i t limit h r ys
     → list_all is_closed (said_points h xs) ≡ true → list_all has_no_cost (said_points h xs) ≡ true → list_all has_no_cost (said_points h ys) ≡ true
-none_alike i turns s t h q r [] [] e are is closed none = refl
-none_alike i turns s t h q r [] (y ∷ ys) e are is closed none = let clash : 0 ≡ length (y ∷ ys) = e in absurd (omega (arith, clash))
-none_alike i turns s t h q r (x ∷ xs) [] e are is closed none = let clash : length (x ∷ xs) ≡ 0 = e in absurd (omega (arith, clash))
-none_alike i turns s t h q r (x ∷ xs) (y ∷ ys) e are is closed none =
+none_alike i limit s t h q r [] [] e are is closed none = refl
+none_alike i limit s t h q r [] (y ∷ ys) e are is closed none = let clash : 0 ≡ length (y ∷ ys) = e in absurd (omega (arith, clash))
+none_alike i limit s t h q r (x ∷ xs) [] e are is closed none = let clash : length (x ∷ xs) ≡ 0 = e in absurd (omega (arith, clash))
+none_alike i limit s t h q r (x ∷ xs) (y ∷ ys) e are is closed none =
     let shut = both (is_same x.found.cert.cost x.found.cert.bound) (list_all is_closed (said_points (h + 1) xs)) closed in
     let bare = both (is_none x.found.cert.cost) (list_all has_no_cost (said_points (h + 1) xs)) none in
     let bound = no_bound x.found.cert.cost x.found.cert.bound shut.0 bare.0 in
     let here = cost_none (with_heads i h) y.found.cert x.found.cert y.found.cert.cost refl is.0.right are.0.right bound in
     let same : length xs ≡ length ys = omega (arith, e) in
     joined (is_none y.found.cert.cost) (list_all has_no_cost (said_points (h + 1) ys)) here
-    (none_alike i turns s t (h + 1) x.refused y.refused xs ys same are.1 is.1 shut.1 bare.1)
+    (none_alike i limit s t (h + 1) x.refused y.refused xs ys same are.1 is.1 shut.1 bare.1)
 
 all_closed : (a b : Bool) → ◌≢◌ {A = ℕ} (cond a (cond b 1 0) 8) 8 → a ≡ true
 all_closed true b h = refl
@@ -81,12 +82,12 @@ abbrev bare_point : ℕ → Option ℕ → Option ℕ → CurvePoint
 bare_point heads cost bound = record { heads = heads; cost = cost; bound = bound; processed = 0; failed = 0 }
 
 -- two closed curves over the same head counts
-costs_same : (i : Instance) (turns : ℕ) (s t : Bool) (h q r : ℕ) (xs ys : List Point) → length xs ≡ length ys → ArePoints i s turns h q xs → ArePoints i t turns h r ys
+costs_same : (i : Instance) (limit : Limit) (s t : Bool) (h q r : ℕ) (xs ys : List Point) → length xs ≡ length ys → ArePoints i s limit h q xs → ArePoints i t limit h r ys
     → list_all is_closed (said_points h xs) ≡ true → list_all is_closed (said_points h ys) ≡ true → map costs_of (said_points h xs) ≡ map costs_of (said_points h ys)
-costs_same i turns s t h q r [] [] e are is shut closed = refl
-costs_same i turns s t h q r [] (y ∷ ys) e are is shut closed = let clash : 0 ≡ length (y ∷ ys) = e in absurd (omega (arith, clash))
-costs_same i turns s t h q r (x ∷ xs) [] e are is shut closed = let clash : length (x ∷ xs) ≡ 0 = e in absurd (omega (arith, clash))
-costs_same i turns s t h q r (x ∷ xs) (y ∷ ys) e are is shut closed =
+costs_same i limit s t h q r [] [] e are is shut closed = refl
+costs_same i limit s t h q r [] (y ∷ ys) e are is shut closed = let clash : 0 ≡ length (y ∷ ys) = e in absurd (omega (arith, clash))
+costs_same i limit s t h q r (x ∷ xs) [] e are is shut closed = let clash : length (x ∷ xs) ≡ 0 = e in absurd (omega (arith, clash))
+costs_same i limit s t h q r (x ∷ xs) (y ∷ ys) e are is shut closed =
     let here = both (is_same x.found.cert.cost x.found.cert.bound) (list_all is_closed (said_points (h + 1) xs)) shut in
     let there = both (is_same y.found.cert.cost y.found.cert.bound) (list_all is_closed (said_points (h + 1) ys)) closed in
     let low = bound_is x.found.cert.cost x.found.cert.bound here.0 in
@@ -95,7 +96,7 @@ costs_same i turns s t h q r (x ∷ xs) (y ∷ ys) e are is shut closed =
     let bound = low ∙ cost ∙ sym high in
     let point = ap (λ (c : Option ℕ). bare_point h c x.found.cert.bound) cost ∙ ap (λ (b : Option ℕ). bare_point h y.found.cert.cost b) bound in
     let same : length xs ≡ length ys = omega (arith, e) in
-    let rest = costs_same i turns s t (h + 1) x.refused y.refused xs ys same are.1 is.1 here.1 there.1 in
+    let rest = costs_same i limit s t (h + 1) x.refused y.refused xs ys same are.1 is.1 here.1 there.1 in
     ap (λ (p : CurvePoint). p ∷ map costs_of (said_points (h + 1) xs)) point ∙ ap (λ (ps : List CurvePoint). bare_point h y.found.cert.cost y.found.cert.bound ∷ ps) rest
 
 one_bool : (a b : Bool) → (a ≡ true → b ≡ true) → (b ≡ true → a ≡ true) → a ≡ b
@@ -122,16 +123,16 @@ not_zero s k e z = omega (arith, e, z)
 refused_alike : (s k : ℕ) (a b : List ℕ) → s ≡ k + 1 → a ≡ b → EndsAlike s s a b [] []
 refused_alike s k a b some e = record { refused = λ none. (refl, refl, e); found = λ p q. refl; costs = λ p q. absurd (not_zero s k some p) }
 
-module _ (i : Instance) (sound : IsSoundInstance i) (proof : List ℕ) (m n : MasterView) (turns : ℕ) where
-  said_alike : (s t : ℕ) (a b : List ℕ) (x y : List Entry) → SaysCurve i proof m turns s a x → SaysCurve i proof n turns t b y → EndsAlike s t a b x y
+module _ (i : Instance) (sound : IsSoundInstance i) (proof : List ℕ) (m n : MasterView) (limit : Limit) where
+  said_alike : (s t : ℕ) (a b : List ℕ) (x y : List Entry) → SaysCurve i proof m limit s a x → SaysCurve i proof n limit t b y → EndsAlike s t a b x y
   said_alike s t a b x y h k =
       let said : List Point → List CurvePoint = λ ps. said_points (first_heads i) ps in
       let closed : List Point → Bool = λ ps. list_all is_closed (said ps) in
       let bare : List Point → Bool = λ ps. list_all has_no_cost (said ps) in
       let first : s ≢ 8 → closed h.points ≡ true = λ p. all_closed (closed h.points) (bare h.points) (subst (λ (z : ℕ). z ≢ 8) h.status_is p) in
       let second : t ≢ 8 → closed k.points ≡ true = λ p. all_closed (closed k.points) (bare k.points) (subst (λ (z : ℕ). z ≢ 8) k.status_is p) in
-      let there = none_alike i turns m.strict n.strict (first_heads i) m.before n.before h.points k.points (h.all ∙ sym k.all) h.are k.are in
-      let back = none_alike i turns n.strict m.strict (first_heads i) n.before m.before k.points h.points (k.all ∙ sym h.all) k.are h.are in
+      let there = none_alike i limit m.strict n.strict (first_heads i) m.before n.before h.points k.points (h.all ∙ sym k.all) h.are k.are in
+      let back = none_alike i limit n.strict m.strict (first_heads i) n.before m.before k.points h.points (k.all ∙ sym h.all) k.are h.are in
       record {
         refused = λ e. absurd (no_entries proof (first_heads i) h.points (subst (λ (z : ℕ). 0 < z) (sym h.all) (some-points i sound)) (sym h.stored_is ∙ e));
         found = λ p q.
@@ -142,12 +143,12 @@ module _ (i : Instance) (sound : IsSoundInstance i) (proof : List ℕ) (m n : Ma
           others = said k.points;
           one = h.text;
           other = k.text;
-          same = costs_same i turns m.strict n.strict (first_heads i) m.before n.before h.points k.points (h.all ∙ sym k.all) h.are k.are
+          same = costs_same i limit m.strict n.strict (first_heads i) m.before n.before h.points k.points (h.all ∙ sym k.all) h.are k.are
               (zero_closed (closed h.points) (bare h.points) (sym h.status_is ∙ p)) (zero_closed (closed k.points) (bare k.points) (sym k.status_is ∙ q));
         };
       }
 
-  days_alike : (e f : End) (x y : List Entry) → Curving i proof m turns e x → Curving i proof n turns f y → AlikeAt e f x y
+  days_alike : (e f : End) (x y : List Entry) → Curving i proof m limit e x → Curving i proof n limit f y → AlikeAt e f x y
   days_alike e f x y (curves.broken name z h) k = tt
   days_alike e f x y (curves.found s a z h) (curves.broken name w k) = tt
   days_alike e f x y (curves.found s a z h) (curves.found t b w k) = said_alike s t a b z w h k
@@ -162,26 +163,26 @@ module _ (i : Instance) (sound : IsSoundInstance i) (proof : List ℕ) (m n : Ma
   days_alike e f x y (curves.groups a some h) (curves.too_many b plain k) = absurd (some plain)
   days_alike e f x y (curves.groups a some h) (curves.groups b more k) = refused_alike 4 3 a b refl (h ∙ sym k)
 
-module _ (proof : List ℕ) (m n : MasterView) (turns : ℕ) where
-  demands_alike : (g : Grammar) (text : List ℕ) (e f : End) (x y : List Entry) → CurvesDemand g text proof m turns e x → CurvesDemand g text proof n turns f y → AlikeAt e f x y
+module _ (proof : List ℕ) (m n : MasterView) (limit : Limit) where
+  demands_alike : (g : Grammar) (text : List ℕ) (e f : End) (x y : List Entry) → CurvesDemand g text proof m limit e x → CurvesDemand g text proof n limit f y → AlikeAt e f x y
   demands_alike g text e f x y (curves.CurvesDemand.accepted i d z is h) (curves.CurvesDemand.accepted j c w js k) =
-      days_alike j js.sound proof m n turns e f x y (subst (λ (o : Instance). Curving o proof m turns e x) (same_ok (instance_of g text) i j is.reading js.reading) h) k
+      days_alike j js.sound proof m n limit e f x y (subst (λ (o : Instance). Curving o proof m limit e x) (same_ok (instance_of g text) i j is.reading js.reading) h) k
   demands_alike g text e f x y (curves.CurvesDemand.accepted i d z is h) (curves.CurvesDemand.refused b k) = absurd (not_both (instance_of g text) i k.fault is.reading k.reading)
   demands_alike g text e f x y (curves.CurvesDemand.refused a h) (curves.CurvesDemand.accepted j c w js k) = absurd (not_both (instance_of g text) j h.fault js.reading h.reading)
   demands_alike g text e f x y (curves.CurvesDemand.refused a h) (curves.CurvesDemand.refused b k) =
       refused_alike 4 3 a b refl (h.line ∙ ap (λ (z : DemandFault). demand.fault_line z) (same_err (instance_of g text) h.fault k.fault h.reading k.reading) ∙ sym k.line)
 
-  rules_alike : (held : Texts) (text demand : List ℕ) (e f : End) (x y : List Entry) → CurvesRules (Some held) text demand proof m turns e x → CurvesRules (Some held) text demand proof n turns f y → AlikeAt e f x y
+  rules_alike : (held : Texts) (text demand : List ℕ) (e f : End) (x y : List Entry) → CurvesRules (Some held) text demand proof m limit e x → CurvesRules (Some held) text demand proof n limit f y → AlikeAt e f x y
   rules_alike held text demand e f x y (curves.CurvesRules.accepted g d z is h) (curves.CurvesRules.accepted o c w js k) =
       demands_alike o k.text e f x y
-      (subst (λ (u : List ℕ). CurvesDemand o u proof m turns e x) (same_text held demand h.text k.text h.holds k.holds)
-      (subst (λ (d : Grammar). CurvesDemand d h.text proof m turns e x) (same_grammar text g o is.reading js.reading) h.answers)) k.answers
+      (subst (λ (u : List ℕ). CurvesDemand o u proof m limit e x) (same_text held demand h.text k.text h.holds k.holds)
+      (subst (λ (d : Grammar). CurvesDemand d h.text proof m limit e x) (same_grammar text g o is.reading js.reading) h.answers)) k.answers
   rules_alike held text demand e f x y (curves.CurvesRules.accepted g d z is h) (curves.CurvesRules.refused b k) = absurd (no_fault text g k.fault is.reading k.reading)
   rules_alike held text demand e f x y (curves.CurvesRules.refused a h) (curves.CurvesRules.accepted o c w js k) = absurd (no_fault text o h.fault js.reading h.reading)
   rules_alike held text demand e f x y (curves.CurvesRules.refused a h) (curves.CurvesRules.refused b k) = refused_alike 3 2 a b refl (faults_once text a b h k)
 
-pub curve-ends : (held : Texts) (rules demand proof : List ℕ) (turns : ℕ) (m n : MasterView) (s t : ℕ) (a b : List ℕ) (x y : List Entry)
-    → AnswersCurve (Some held) rules demand proof m turns (answered s a) x → AnswersCurve (Some held) rules demand proof n turns (answered t b) y → EndsAlike s t a b x y
-curve-ends held rules demand proof turns m n s t a b x y h k =
-    rules_alike proof m n turns held k.text demand (answered s a) (answered t b) x y
-    (subst (λ (u : List ℕ). CurvesRules (Some held) u demand proof m turns (answered s a) x) (same_text held rules h.text k.text h.holds k.holds) h.answers) k.answers
+pub curve-ends : (held : Texts) (rules demand proof : List ℕ) (limit : Limit) (m n : MasterView) (s t : ℕ) (a b : List ℕ) (x y : List Entry)
+    → AnswersCurve (Some held) rules demand proof m limit (answered s a) x → AnswersCurve (Some held) rules demand proof n limit (answered t b) y → EndsAlike s t a b x y
+curve-ends held rules demand proof limit m n s t a b x y h k =
+    rules_alike proof m n limit held k.text demand (answered s a) (answered t b) x y
+    (subst (λ (u : List ℕ). CurvesRules (Some held) u demand proof m limit (answered s a) x) (same_text held rules h.text k.text h.holds k.holds) h.answers) k.answers

@@ -1,3 +1,4 @@
+pub mod LimitLemmas
 pub mod Writers
 pub mod Solves
 pub mod Makes

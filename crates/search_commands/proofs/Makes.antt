@@ -1,6 +1,9 @@
 -- The answers of `make`, from what its parts answer.
 use Rattle.std.proofs.Common.{◌≡◌, ◌≢◌, ℕ, ◌+◌, List, [], ◌∷◌, ◌++◌, Option, None, Some, Result, Ok, Err, IfOk, map, refl, sym, subst, ◌∙◌, arith}
 use Rattle.std.specs.List.{range_with_len}
+use Rattle.search_commands.specs.declared.limit.Limit.{Limit}
+use Rattle.search_commands.specs.Limits.{ForLimit}
+use Rattle.search_commands.proofs.LimitLemmas.{for-some}
 use Rattle.roster_model.specs.declared.instance.Cell.{Cell}
 use Rattle.roster_model.specs.declared.instance.Done.{Done}
 use Rattle.roster_model.specs.declared.instance.Done.TheVariants.{Equal, NoRoster, TurnsOut}
@@ -53,37 +56,38 @@ not_none c Equal n e h one = cc
 not_none c NoRoster n e h one = let clash : Some n ≡ None = sym e ∙ h.0 in cc
 not_none c TurnsOut n e h one = cc
 
-module _ (number : ℕ) (m : MasterView) (turns : ℕ) where
+module _ (number : ℕ) (m : MasterView) (limit : Limit) where
   refused_graph : (fault : GraphFault) → IsRefused (made_instance number).grammar fault → (r : Result Answer Memory) → IfOk r (IsArcsAnswer fault)
-      → (status : ℕ) (output : List ℕ) (stored : Option (List ℕ)) → StoresNothing (IsAnswer r) status output stored → AnswersMake number m turns status output stored
+      → (status : ℕ) (output : List ℕ) (stored : Option (List ℕ)) → StoresNothing (IsAnswer r) status output stored → AnswersMake number m limit status output stored
   refused_graph fault refused (Err e) h status output stored a = absurd a.0
   refused_graph fault refused (Ok x) h status output stored a =
       let s : status ≡ 9 = a.0.0 ∙ h.0 in
       rw (s, a.1) (makes.too_many output (subst (λ (o : List ℕ). SaysTooManyArcs (made_instance number).grammar o) (sym a.0.1) (h.1 (made_instance number).grammar refused)))
 
   pub graph-refused : (name : List ℕ) (before after : Told) (status : ℕ) (fault : GraphFault) → IsRefused (made_instance number).grammar fault → (r : Result Answer Memory) → IfOk r (IsArcsAnswer fault)
-      → IsReader (IsAnswer r) [] before after status → IsWriter (AnswersMake number m turns) [] name before after status
+      → IsReader (IsAnswer r) [] before after status → IsWriter (AnswersMake number m limit) [] name before after status
   graph-refused name before after status fault refused r h reader =
-      widen (StoresNothing (IsAnswer r)) (AnswersMake number m turns) (refused_graph fault refused r h) [] [] name before after status (λ h. h) (as_writer (IsAnswer r) [] name before after status reader)
+      widen (StoresNothing (IsAnswer r)) (AnswersMake number m limit) (refused_graph fault refused r h) [] [] name before after status (λ h. h) (as_writer (IsAnswer r) [] name before after status reader)
 
-  found_answer : (s : Solution) → IsSolution (made_instance number) m.strict turns s → AreCounted (made_instance number) m.before m.now s.found → (r : Result Answer Memory)
+  found_answer : (s : Solution) → ForLimit limit (λ k. IsSolution (made_instance number) m.strict k s) → AreCounted (made_instance number) m.before m.now s.found → (r : Result Answer Memory)
       → IfOk r (λ a. (a.status ≡ done_status s.found.done) × (a.output ≡ summary_text (summary_of number s.arcs s.found)))
-      → (status : ℕ) (output : List ℕ) (stored : Option (List ℕ)) → IsStoredAnswer r s.proof status output stored → AnswersMake number m turns status output stored
+      → (status : ℕ) (output : List ℕ) (stored : Option (List ℕ)) → IsStoredAnswer r s.proof status output stored → AnswersMake number m limit status output stored
   found_answer s h counted (Err e) f status output stored a = absurd a
   found_answer s h counted (Ok x) f status output stored a =
-      let start = h.found.start (made_start number) in
+      let some = (for-some limit (λ k. IsSolution (made_instance number) m.strict k s) h).1 in
+      let start = some.found.start (made_start number) in
       let same : status ≡ done_status s.found.done = a.0 ∙ f.0 in
       rw (a.2) (makes.found status output s.proof (record {
         arcs = s.arcs;
-        few = h.arcs;
+        few = some.arcs;
         found = s.found;
-        finds = finds (made_instance number) m turns s h counted status same;
+        finds = finds (made_instance number) m limit s h counted status same;
         summary = a.1 ∙ f.1;
-        some = subst (λ (k : ℕ). k ≢ 1) (sym same) (not_none s.found.cert s.found.done start.0 start.1 h.found.done);
+        some = subst (λ (k : ℕ). k ≢ 1) (sym same) (not_none s.found.cert s.found.done start.0 start.1 some.found.done);
       }))
 
-  pub made : (s : Solution) → IsSolution (made_instance number) m.strict turns s → AreCounted (made_instance number) m.before m.now s.found → (r : Result Answer Memory)
+  pub made : (s : Solution) → ForLimit limit (λ k. IsSolution (made_instance number) m.strict k s) → AreCounted (made_instance number) m.before m.now s.found → (r : Result Answer Memory)
       → IfOk r (λ a. (a.status ≡ done_status s.found.done) × (a.output ≡ summary_text (summary_of number s.arcs s.found)))
-      → (name : List ℕ) (before after : Told) (status : ℕ) → IsWriter (IsStoredAnswer r s.proof) [] name before after status → IsWriter (AnswersMake number m turns) [] name before after status
+      → (name : List ℕ) (before after : Told) (status : ℕ) → IsWriter (IsStoredAnswer r s.proof) [] name before after status → IsWriter (AnswersMake number m limit) [] name before after status
   made s h counted r f name before after status w =
-      widen (IsStoredAnswer r s.proof) (AnswersMake number m turns) (found_answer s h counted r f) [] [] name before after status (λ h. h) w
+      widen (IsStoredAnswer r s.proof) (AnswersMake number m limit) (found_answer s h counted r f) [] [] name before after status (λ h. h) w

@@ -1,6 +1,8 @@
 -- Two searches of one day that end with the cost as the bound say one cost.
 use Rattle.std.proofs.Common.{◌≡◌, ◌≤◌, ℕ, List, [], ◌∷◌, ◌++◌, Option, None, Some, refl, sym, ap, subst, ◌∙◌, arith}
 use Rattle.std.specs.Prelude.{IsSome, IfSome, codes, length}
+use Rattle.search_commands.specs.declared.limit.Limit.{Limit}
+use Rattle.search_commands.proofs.LimitLemmas.{for-some}
 use Rattle.text_lines.specs.Written.{written}
 use Rattle.roster_model.specs.declared.grammar.ArcKey.{ArcKey}
 use Rattle.roster_model.specs.declared.grammar.Grammar.{Grammar}
@@ -14,7 +16,7 @@ use Rattle.certificates.specs.declared.cert.Cert.{Cert}
 use Rattle.certificates.specs.RosterCauses.{duties}
 use Rattle.certificate_laws.specs.Right.{YesIsRight}
 use Rattle.branch_price.specs.declared.found.Found.{Found}
-use Rattle.branch_price.specs.Found.{IsDone}
+use Rattle.branch_price.specs.Found.{IsDone, IsFound}
 use Rattle.day_solver.specs.Solutions.{HasArcCount, IsReportText}
 use Rattle.made_days.specs.Made.{made_instance}
 use Rattle.roster_report.specs.declared.report.Report.{Report}
@@ -75,16 +77,16 @@ some_cost None some = absurd (by_cases some)
     by_cases h = cc
 some_cost (Some n) some = (n, refl)
 
-ends_equal : (i : Instance) (m : MasterView) (turns s : ℕ) (x : List ℕ) (f : Found) → Finds i m turns s x f → s ≡ 0 → (f.done ≡ Equal) × IsDone f.cert Equal
-ends_equal i m turns s x f h zero =
+ends_equal : (i : Instance) (m : MasterView) (limit : Limit) (s : ℕ) (x : List ℕ) (f : Found) → Finds i m limit s x f → s ≡ 0 → (f.done ≡ Equal) × IsDone f.cert Equal
+ends_equal i m limit s x f h zero =
     let end = is_equal f.done (sym h.status_is ∙ zero) in
-    (end, subst (λ (d : Done). IsDone f.cert d) end h.searched.done)
+    (end, subst (λ (d : Done). IsDone f.cert d) end (for-some limit (λ k. IsFound i m.strict k f) h.searched).1.done)
 
 -- two searches that end with their costs as the bounds have one cost
-one_cost : (i : Instance) (m n : MasterView) (turns s t : ℕ) (x y : List ℕ) (f g : Found) → Finds i m turns s x f → Finds i n turns t y g → s ≡ 0 → t ≡ 0 → (c : ℕ) × AtCost f c × AtCost g c
-one_cost i m n turns s t x y f g h k p q =
-    let here = ends_equal i m turns s x f h p in
-    let there = ends_equal i n turns t y g k q in
+one_cost : (i : Instance) (m n : MasterView) (limit : Limit) (s t : ℕ) (x y : List ℕ) (f g : Found) → Finds i m limit s x f → Finds i n limit t y g → s ≡ 0 → t ≡ 0 → (c : ℕ) × AtCost f c × AtCost g c
+one_cost i m n limit s t x y f g h k p q =
+    let here = ends_equal i m limit s x f h p in
+    let there = ends_equal i n limit t y g k q in
     let c = some_cost f.cert.cost here.1.0 in
     let same = costs-alike i g.cert f.cert k.right h.right there.1.1 here.1.1 ∙ c.1 in
     (c.0, record { end = here.0; cost = c.1; bound = here.1.1 ∙ c.1 }, record { end = there.0; cost = same; bound = there.1.1 ∙ same })
@@ -101,9 +103,9 @@ report_says i f n a at text =
       text.written ∙ ap (λ (lines : List (List (List ℕ))). written lines) (report_at i r n (text.is.end ∙ at.end) (text.is.cost ∙ at.cost) (text.is.bound ∙ at.bound)),
     )
 
-pub solves-at : (i : Instance) (m n : MasterView) (turns s t : ℕ) (a b x y : List ℕ) → SaysFound i m turns s a x → SaysFound i n turns t b y → s ≡ 0 → t ≡ 0 → SayOneCost a b
-solves-at i m n turns s t a b x y h k p q =
-    let c = one_cost i m n turns s t x y h.found k.found h.finds k.finds p q in
+pub solves-at : (i : Instance) (m n : MasterView) (limit : Limit) (s t : ℕ) (a b x y : List ℕ) → SaysFound i m limit s a x → SaysFound i n limit t b y → s ≡ 0 → t ≡ 0 → SayOneCost a b
+solves-at i m n limit s t a b x y h k p q =
+    let c = one_cost i m n limit s t x y h.found k.found h.finds k.finds p q in
     let here = report_says i h.found c.0 a c.1 h.report in
     let there = report_says i k.found c.0 b c.2 k.report in
     record { first = header_line i.groups ∷ result_line Equal ∷ []; cost = c.0; more = here.0; others = there.0; one = here.1; other = there.1 }
@@ -121,9 +123,9 @@ summary_at : (number arcs : ℕ) (f : Found) (n : ℕ) → AtCost f n
     → summary_text (summary_of number arcs f) ≡ written (lines_with_cost (first_lines number arcs) n (number_line (codes "processed") f.processed ∷ number_line (codes "failed") f.failed ∷ []))
 summary_at number arcs f n at = rw (at.end, at.cost, at.bound) refl
 
-pub makes-at : (number : ℕ) (m n : MasterView) (turns s t : ℕ) (a b x y : List ℕ) → SaysMade number m turns s a x → SaysMade number n turns t b y → s ≡ 0 → t ≡ 0 → SayOneCost a b
-makes-at number m n turns s t a b x y h k p q =
-    let c = one_cost (made_instance number) m n turns s t x y h.found k.found h.finds k.finds p q in
+pub makes-at : (number : ℕ) (m n : MasterView) (limit : Limit) (s t : ℕ) (a b x y : List ℕ) → SaysMade number m limit s a x → SaysMade number n limit t b y → s ≡ 0 → t ≡ 0 → SayOneCost a b
+makes-at number m n limit s t a b x y h k p q =
+    let c = one_cost (made_instance number) m n limit s t x y h.found k.found h.finds k.finds p q in
     let same = one_count (made_instance number).grammar k.arcs h.arcs k.few h.few in
     record {
       first = first_lines number h.arcs;

@@ -1,6 +1,8 @@
 -- Searches over the same texts end alike.
 use Rattle.std.proofs.Common.{◌≡◌, ◌≢◌, ℕ, ◌+◌, List, Option, None, Some, refl, sym, ap, subst, ◌∙◌, arith}
 use Rattle.std.specs.Prelude.{length}
+use Rattle.search_commands.specs.declared.limit.Limit.{Limit}
+use Rattle.search_commands.proofs.LimitLemmas.{for-some}
 use Rattle.roster_model.specs.declared.grammar.ArcKey.{ArcKey}
 use Rattle.roster_model.specs.declared.grammar.Grammar.{Grammar}
 use Rattle.roster_model.specs.declared.instance.Done.{Done}
@@ -13,7 +15,7 @@ use Rattle.demand_lines.specs.declared.fault.DemandFault.{DemandFault}
 use Rattle.demand_lines.specs.FaultLine as demand
 use Rattle.demand_text.specs.InstanceOf.{instance_of}
 use Rattle.branch_price.specs.declared.found.Found.{Found}
-use Rattle.branch_price.specs.Found.{IsDone}
+use Rattle.branch_price.specs.Found.{IsDone, IsFound}
 use Rattle.day_solver.specs.Solutions.{HasArcCount}
 use Rattle.made_days.specs.Made.{made_instance}
 use Rattle.shelf.specs.Shelf.{Texts}
@@ -35,10 +37,10 @@ two_ends i c d Equal TurnsOut h k e f p q = absurd (q refl)
 two_ends i c d NoRoster TurnsOut h k e f p q = absurd (q refl)
 
 -- two searches of one day
-found_alike : (i : Instance) (m n : MasterView) (turns s t : ℕ) (a b x y : List ℕ) (f g : Found) → Finds i m turns s x f → Finds i n turns t y g → (s ≡ 0 → t ≡ 0 → SayOneCost a b) → EndAlike s t a b (Some x) (Some y)
-found_alike i m n turns s t a b x y f g h k cost = record {
+found_alike : (i : Instance) (m n : MasterView) (limit : Limit) (s t : ℕ) (a b x y : List ℕ) (f g : Found) → Finds i m limit s x f → Finds i n limit t y g → (s ≡ 0 → t ≡ 0 → SayOneCost a b) → EndAlike s t a b (Some x) (Some y)
+found_alike i m n limit s t a b x y f g h k cost = record {
   refused = λ e. cc;
-  found = λ p q. h.status_is ∙ two_ends i f.cert g.cert f.done g.done h.right k.right h.searched.done k.searched.done (subst (λ (z : ℕ). z ≢ 8) h.status_is p) (subst (λ (z : ℕ). z ≢ 8) k.status_is q) ∙ sym k.status_is;
+  found = λ p q. h.status_is ∙ two_ends i f.cert g.cert f.done g.done h.right k.right (for-some limit (λ j. IsFound i m.strict j f) h.searched).1.done (for-some limit (λ j. IsFound i n.strict j g) k.searched).1.done (subst (λ (z : ℕ). z ≢ 8) h.status_is p) (subst (λ (z : ℕ). z ≢ 8) k.status_is q) ∙ sym k.status_is;
   cost = cost;
 }
 
@@ -55,36 +57,36 @@ refused_alike s k a b some e = record { refused = λ none. (refl, refl, e); foun
 pub arcs_alike : (g : Grammar) (a b : List ℕ) → SaysTooManyArcs g a → SaysTooManyArcs g b → a ≡ b
 arcs_alike g a b h k = h.line ∙ ap (λ (xs : List ArcKey). arcs_line (length xs)) (one-list g h.listed k.listed h.are k.are) ∙ sym k.line
 
-days_alike : (i : Instance) (m n : MasterView) (turns s t : ℕ) (a b : List ℕ) (x y : Option (List ℕ)) → Solving i m turns s a x → Solving i n turns t b y → EndAlike s t a b x y
-days_alike i m n turns s t a b x y (solves.found p ps z h) (solves.found q qs w k) = found_alike i m n turns s t a b z w h.found k.found h.finds k.finds (solves-at i m n turns s t a b z w h k)
-days_alike i m n turns s t a b x y (solves.found p ps z h) (solves.too_many qs k) = absurd (many_or_few i.grammar b h.arcs k h.few)
-days_alike i m n turns s t a b x y (solves.too_many ps h) (solves.found q qs w k) = absurd (many_or_few i.grammar a k.arcs h k.few)
-days_alike i m n turns s t a b x y (solves.too_many ps h) (solves.too_many qs k) = refused_alike 9 8 a b refl (arcs_alike i.grammar a b h k)
+days_alike : (i : Instance) (m n : MasterView) (limit : Limit) (s t : ℕ) (a b : List ℕ) (x y : Option (List ℕ)) → Solving i m limit s a x → Solving i n limit t b y → EndAlike s t a b x y
+days_alike i m n limit s t a b x y (solves.found p ps z h) (solves.found q qs w k) = found_alike i m n limit s t a b z w h.found k.found h.finds k.finds (solves-at i m n limit s t a b z w h k)
+days_alike i m n limit s t a b x y (solves.found p ps z h) (solves.too_many qs k) = absurd (many_or_few i.grammar b h.arcs k h.few)
+days_alike i m n limit s t a b x y (solves.too_many ps h) (solves.found q qs w k) = absurd (many_or_few i.grammar a k.arcs h k.few)
+days_alike i m n limit s t a b x y (solves.too_many ps h) (solves.too_many qs k) = refused_alike 9 8 a b refl (arcs_alike i.grammar a b h k)
 
-demands_alike : (g : Grammar) (text : List ℕ) (m n : MasterView) (turns s t : ℕ) (a b : List ℕ) (x y : Option (List ℕ)) → SolvesDemand g text m turns s a x → SolvesDemand g text n turns t b y → EndAlike s t a b x y
-demands_alike g text m n turns s t a b x y (solves.SolvesDemand.accepted i p ps z e h) (solves.SolvesDemand.accepted j q qs w f k) =
-    days_alike j m n turns s t a b x y (subst (λ (d : Instance). Solving d m turns s a x) (same_ok (instance_of g text) i j e.reading f.reading) h) k
-demands_alike g text m n turns s t a b x y (solves.SolvesDemand.accepted i p ps z e h) (solves.SolvesDemand.refused qs k) = absurd (not_both (instance_of g text) i k.fault e.reading k.reading)
-demands_alike g text m n turns s t a b x y (solves.SolvesDemand.refused ps h) (solves.SolvesDemand.accepted j q qs w f k) = absurd (not_both (instance_of g text) j h.fault f.reading h.reading)
-demands_alike g text m n turns s t a b x y (solves.SolvesDemand.refused ps h) (solves.SolvesDemand.refused qs k) =
+demands_alike : (g : Grammar) (text : List ℕ) (m n : MasterView) (limit : Limit) (s t : ℕ) (a b : List ℕ) (x y : Option (List ℕ)) → SolvesDemand g text m limit s a x → SolvesDemand g text n limit t b y → EndAlike s t a b x y
+demands_alike g text m n limit s t a b x y (solves.SolvesDemand.accepted i p ps z e h) (solves.SolvesDemand.accepted j q qs w f k) =
+    days_alike j m n limit s t a b x y (subst (λ (d : Instance). Solving d m limit s a x) (same_ok (instance_of g text) i j e.reading f.reading) h) k
+demands_alike g text m n limit s t a b x y (solves.SolvesDemand.accepted i p ps z e h) (solves.SolvesDemand.refused qs k) = absurd (not_both (instance_of g text) i k.fault e.reading k.reading)
+demands_alike g text m n limit s t a b x y (solves.SolvesDemand.refused ps h) (solves.SolvesDemand.accepted j q qs w f k) = absurd (not_both (instance_of g text) j h.fault f.reading h.reading)
+demands_alike g text m n limit s t a b x y (solves.SolvesDemand.refused ps h) (solves.SolvesDemand.refused qs k) =
     refused_alike 4 3 a b refl (h.line ∙ ap (λ (z : DemandFault). demand.fault_line z) (same_err (instance_of g text) h.fault k.fault h.reading k.reading) ∙ sym k.line)
 
-rules_alike : (held : Texts) (text demand : List ℕ) (m n : MasterView) (turns s t : ℕ) (a b : List ℕ) (x y : Option (List ℕ)) → SolvesRules (Some held) text demand m turns s a x → SolvesRules (Some held) text demand n turns t b y → EndAlike s t a b x y
-rules_alike held text demand m n turns s t a b x y (solves.SolvesRules.accepted g p ps z e h) (solves.SolvesRules.accepted f q qs w r k) =
-    demands_alike f k.text m n turns s t a b x y
-    (subst (λ (u : List ℕ). SolvesDemand f u m turns s a x) (same_text held demand h.text k.text h.holds k.holds)
-    (subst (λ (d : Grammar). SolvesDemand d h.text m turns s a x) (same_grammar text g f e.reading r.reading) h.answers)) k.answers
-rules_alike held text demand m n turns s t a b x y (solves.SolvesRules.accepted g p ps z e h) (solves.SolvesRules.refused qs k) = absurd (no_fault text g k.fault e.reading k.reading)
-rules_alike held text demand m n turns s t a b x y (solves.SolvesRules.refused ps h) (solves.SolvesRules.accepted f q qs w r k) = absurd (no_fault text f h.fault r.reading h.reading)
-rules_alike held text demand m n turns s t a b x y (solves.SolvesRules.refused ps h) (solves.SolvesRules.refused qs k) = refused_alike 3 2 a b refl (faults_once text a b h k)
+rules_alike : (held : Texts) (text demand : List ℕ) (m n : MasterView) (limit : Limit) (s t : ℕ) (a b : List ℕ) (x y : Option (List ℕ)) → SolvesRules (Some held) text demand m limit s a x → SolvesRules (Some held) text demand n limit t b y → EndAlike s t a b x y
+rules_alike held text demand m n limit s t a b x y (solves.SolvesRules.accepted g p ps z e h) (solves.SolvesRules.accepted f q qs w r k) =
+    demands_alike f k.text m n limit s t a b x y
+    (subst (λ (u : List ℕ). SolvesDemand f u m limit s a x) (same_text held demand h.text k.text h.holds k.holds)
+    (subst (λ (d : Grammar). SolvesDemand d h.text m limit s a x) (same_grammar text g f e.reading r.reading) h.answers)) k.answers
+rules_alike held text demand m n limit s t a b x y (solves.SolvesRules.accepted g p ps z e h) (solves.SolvesRules.refused qs k) = absurd (no_fault text g k.fault e.reading k.reading)
+rules_alike held text demand m n limit s t a b x y (solves.SolvesRules.refused ps h) (solves.SolvesRules.accepted f q qs w r k) = absurd (no_fault text f h.fault r.reading h.reading)
+rules_alike held text demand m n limit s t a b x y (solves.SolvesRules.refused ps h) (solves.SolvesRules.refused qs k) = refused_alike 3 2 a b refl (faults_once text a b h k)
 
-pub solve-ends : (held : Texts) (rules demand : List ℕ) (turns : ℕ) (m n : MasterView) (s t : ℕ) (a b : List ℕ) (x y : Option (List ℕ)) → AnswersSolve (Some held) rules demand m turns s a x → AnswersSolve (Some held) rules demand n turns t b y → EndAlike s t a b x y
-solve-ends held rules demand turns m n s t a b x y h k =
-    rules_alike held k.text demand m n turns s t a b x y
-    (subst (λ (u : List ℕ). SolvesRules (Some held) u demand m turns s a x) (same_text held rules h.text k.text h.holds k.holds) h.answers) k.answers
+pub solve-ends : (held : Texts) (rules demand : List ℕ) (limit : Limit) (m n : MasterView) (s t : ℕ) (a b : List ℕ) (x y : Option (List ℕ)) → AnswersSolve (Some held) rules demand m limit s a x → AnswersSolve (Some held) rules demand n limit t b y → EndAlike s t a b x y
+solve-ends held rules demand limit m n s t a b x y h k =
+    rules_alike held k.text demand m n limit s t a b x y
+    (subst (λ (u : List ℕ). SolvesRules (Some held) u demand m limit s a x) (same_text held rules h.text k.text h.holds k.holds) h.answers) k.answers
 
-pub make-ends : (number turns : ℕ) (m n : MasterView) (s t : ℕ) (a b : List ℕ) (x y : Option (List ℕ)) → AnswersMake number m turns s a x → AnswersMake number n turns t b y → EndAlike s t a b x y
-make-ends number turns m n s t a b x y (makes.found p ps z h) (makes.found q qs w k) = found_alike (made_instance number) m n turns s t a b z w h.found k.found h.finds k.finds (makes-at number m n turns s t a b z w h k)
-make-ends number turns m n s t a b x y (makes.found p ps z h) (makes.too_many qs k) = absurd (many_or_few (made_instance number).grammar b h.arcs k h.few)
-make-ends number turns m n s t a b x y (makes.too_many ps h) (makes.found q qs w k) = absurd (many_or_few (made_instance number).grammar a k.arcs h k.few)
-make-ends number turns m n s t a b x y (makes.too_many ps h) (makes.too_many qs k) = refused_alike 9 8 a b refl (arcs_alike (made_instance number).grammar a b h k)
+pub make-ends : (number : ℕ) (limit : Limit) (m n : MasterView) (s t : ℕ) (a b : List ℕ) (x y : Option (List ℕ)) → AnswersMake number m limit s a x → AnswersMake number n limit t b y → EndAlike s t a b x y
+make-ends number limit m n s t a b x y (makes.found p ps z h) (makes.found q qs w k) = found_alike (made_instance number) m n limit s t a b z w h.found k.found h.finds k.finds (makes-at number m n limit s t a b z w h k)
+make-ends number limit m n s t a b x y (makes.found p ps z h) (makes.too_many qs k) = absurd (many_or_few (made_instance number).grammar b h.arcs k h.few)
+make-ends number limit m n s t a b x y (makes.too_many ps h) (makes.found q qs w k) = absurd (many_or_few (made_instance number).grammar a k.arcs h k.few)
+make-ends number limit m n s t a b x y (makes.too_many ps h) (makes.too_many qs k) = refused_alike 9 8 a b refl (arcs_alike (made_instance number).grammar a b h k)

@@ -1,6 +1,8 @@
 -- The points of a curve, one after another.
 use Rattle.std.proofs.Common.{◌≡◌, ℕ, ◌+◌, ◌<◌, arith, Bool, List, [], ◌∷◌, ◌++◌, length, Result, Ok, Err, IfOk, refl, sym, ap, subst, ◌∙◌}
 use Rattle.std.specs.Prelude.{MatchResult}
+use Rattle.search_commands.specs.declared.limit.Limit.{Limit}
+use Rattle.search_commands.specs.Limits.{ForLimit}
 use Rattle.roster_model.specs.declared.instance.Instance.{Instance}
 use Rattle.branch_price.specs.Found.{AreCounted}
 use Rattle.day_solver.specs.declared.solution.Solution.{Solution}
@@ -46,39 +48,39 @@ said_more h n (q ∷ qs) p e =
     let rest = subst (λ (k : ℕ). said_points (h + 1) (qs ++ p ∷ []) ≡ said_points (h + 1) qs ++ point_of k p.found ∷ []) same (said_more (h + 1) (length qs) qs p refl) in
     ap (λ (xs : List CurvePoint). point_of h q.found ∷ xs) rest
 
-module _ (i : Instance) (strict : Bool) (turns : ℕ) where
+module _ (i : Instance) (strict : Bool) (limit : Limit) where
   -- what the search of the next point finds, behind points that the master had refused so many nodes after
   abbrev IsNext : ℕ → ℕ → Point → Type 0
-  IsNext heads refused p = Finds (with_heads i heads) (lent strict refused p.refused) turns (done_status p.found.done) p.stored p.found
+  IsNext heads refused p = Finds (with_heads i heads) (lent strict refused p.refused) limit (done_status p.found.done) p.stored p.found
 
-  points_more : (h n r : ℕ) (ps : List Point) (p : Point) → length ps ≡ n → ArePoints i strict turns h r ps → IsNext (h + n) (refused_after r ps) p → ArePoints i strict turns h r (ps ++ p ∷ [])
+  points_more : (h n r : ℕ) (ps : List Point) (p : Point) → length ps ≡ n → ArePoints i strict limit h r ps → IsNext (h + n) (refused_after r ps) p → ArePoints i strict limit h r (ps ++ p ∷ [])
   points_more h n r [] p e are next = let same : h + n ≡ h = omega (arith, e) in (subst (λ (k : ℕ). IsNext k r p) same next, tt)
   points_more h n r (q ∷ qs) p e are next =
       let same : h + n ≡ h + 1 + length qs = omega (arith, e) in
       (are.0, points_more (h + 1) (length qs) q.refused qs p refl are.1 (subst (λ (k : ℕ). IsNext k (refused_after q.refused qs) p) same next))
 
-module _ (i : Instance) (proof : List ℕ) (strict : Bool) (turns : ℕ) where
-  pub first-none : (r : ℕ) (told : Told) → FindsFirst i proof (lent strict r r) turns 0 told told []
+module _ (i : Instance) (proof : List ℕ) (strict : Bool) (limit : Limit) where
+  pub first-none : (r : ℕ) (told : Told) → FindsFirst i proof (lent strict r r) limit 0 told told []
   first-none r told = record { points = []; all = refl; are = tt; counted = refl; is = refl; stored = none_yet told }
 
-  pub first-more : (r s t n : ℕ) (before middle after : Told) (said : List CurvePoint) (point : CurvePoint) → FindsFirst i proof (lent strict r s) turns n before middle said
-      → FindsPoint i proof (lent strict s t) turns (first_heads i + n) middle after point → FindsFirst i proof (lent strict r t) turns (n + 1) before after (said ++ point ∷ [])
+  pub first-more : (r s t n : ℕ) (before middle after : Told) (said : List CurvePoint) (point : CurvePoint) → FindsFirst i proof (lent strict r s) limit n before middle said
+      → FindsPoint i proof (lent strict s t) limit (first_heads i + n) middle after point → FindsFirst i proof (lent strict r t) limit (n + 1) before after (said ++ point ∷ [])
   first-more r s t n before middle after said point f p =
       let new : Point = record { found = p.found; stored = p.text; refused = t } in
-      let next : IsNext i strict turns (first_heads i + n) (refused_after r f.points) new =
-      subst (λ (k : ℕ). Finds (with_heads i (first_heads i + n)) (lent strict k t) turns (done_status p.found.done) p.text p.found) (sym f.counted) p.finds in
+      let next : IsNext i strict limit (first_heads i + n) (refused_after r f.points) new =
+      subst (λ (k : ℕ). Finds (with_heads i (first_heads i + n)) (lent strict k t) limit (done_status p.found.done) p.text p.found) (sym f.counted) p.finds in
       let stored = stored_more (point_entries proof (first_heads i) f.points) (record { name = point_name proof (first_heads i + n); text = p.text } ∷ []) before middle after f.stored p.stored in
       record {
         points = f.points ++ new ∷ [];
         all = length_more f.points new ∙ ap (λ (k : ℕ). k + 1) f.all;
-        are = points_more i strict turns (first_heads i) n r f.points new f.all f.are next;
+        are = points_more i strict limit (first_heads i) n r f.points new f.all f.are next;
         counted = refused_more r f.points new;
         is = ap (λ (xs : List CurvePoint). xs ++ point ∷ []) f.is ∙ ap (λ (q : CurvePoint). said_points (first_heads i) f.points ++ q ∷ []) p.is ∙ sym (said_more (first_heads i) n f.points new f.all);
         stored = subst (λ (es : List Entry). IsStoredBy es before after) (sym (entries_more proof (first_heads i) n f.points new f.all)) stored;
       }
 
-  pub first-broken : (r s t n : ℕ) (before middle after : Told) (said : List CurvePoint) (status : ℕ) → n < point_count i → FindsFirst i proof (lent strict r s) turns n before middle said
-      → IsBrokenOff [] (point_name proof (first_heads i + n)) middle after status → BreaksCurve i proof (lent strict r t) turns before after status
+  pub first-broken : (r s t n : ℕ) (before middle after : Told) (said : List CurvePoint) (status : ℕ) → n < point_count i → FindsFirst i proof (lent strict r s) limit n before middle said
+      → IsBrokenOff [] (point_name proof (first_heads i + n)) middle after status → BreaksCurve i proof (lent strict r t) limit before after status
   first-broken r s t n before middle after said status fewer f b =
       let entries = point_entries proof (first_heads i) f.points in
       record {
@@ -89,7 +91,7 @@ module _ (i : Instance) (proof : List ℕ) (strict : Bool) (turns : ℕ) where
             (subst (λ (k : ℕ). IsBrokenOff [] (point_name proof (first_heads i + k)) middle after status) (sym f.all) b);
       }
 
-  pub none-begun : (r t : ℕ) (told : Told) → 0 < point_count i → BreaksCurve i proof (lent strict r t) turns told told 7
+  pub none-begun : (r t : ℕ) (told : Told) → 0 < point_count i → BreaksCurve i proof (lent strict r t) limit told told 7
   none-begun r t told some = record { points = []; fewer = some; are = tt; broken = out_of_memory [] (point_name proof (first_heads i + 0)) told told (none_yet told) }
 
 -- a curve after one more point is at the next head count
@@ -109,46 +111,46 @@ day_now old new e = ap (λ (v : CurveView). with_heads v.day (point_heads v)) e 
 pub next-curve : (first old new : CurveView) (n : ℕ) → old ≡ record first { given = n } → new ≡ record old { given = old.given + 1 } → new ≡ record first { given = n + 1 }
 next-curve first old new n e h = h ∙ ap (λ (v : CurveView). record v { given = v.given + 1 }) e
 
-pub next-found : (first old : CurveView) (proof : List ℕ) (a b : Bool) (turns r s t n : ℕ) (before middle after : Told) (said : List CurvePoint) (point : CurvePoint) → old ≡ record first { given = n } → a ≡ b
-    → FindsFirst first.day proof (lent b r s) turns n before middle said → FindsPoint old.day proof (lent a s t) turns (first_heads old.day + old.given) middle after point
-    → FindsFirst first.day proof (lent b r t) turns (n + 1) before after (said ++ point ∷ [])
-next-found first old proof a b turns r s t n before middle after said point e same f p =
-    let here : FindsPoint first.day proof (lent a s t) turns (first_heads first.day + n) middle after point =
-    subst (λ (v : CurveView). FindsPoint v.day proof (lent a s t) turns (first_heads v.day + v.given) middle after point) e p in
-    first-more first.day proof b turns r s t n before middle after said point f (subst (λ (x : Bool). FindsPoint first.day proof (lent x s t) turns (first_heads first.day + n) middle after point) same here)
+pub next-found : (first old : CurveView) (proof : List ℕ) (a b : Bool) (limit : Limit) (r s t n : ℕ) (before middle after : Told) (said : List CurvePoint) (point : CurvePoint) → old ≡ record first { given = n } → a ≡ b
+    → FindsFirst first.day proof (lent b r s) limit n before middle said → FindsPoint old.day proof (lent a s t) limit (first_heads old.day + old.given) middle after point
+    → FindsFirst first.day proof (lent b r t) limit (n + 1) before after (said ++ point ∷ [])
+next-found first old proof a b limit r s t n before middle after said point e same f p =
+    let here : FindsPoint first.day proof (lent a s t) limit (first_heads first.day + n) middle after point =
+    subst (λ (v : CurveView). FindsPoint v.day proof (lent a s t) limit (first_heads v.day + v.given) middle after point) e p in
+    first-more first.day proof b limit r s t n before middle after said point f (subst (λ (x : Bool). FindsPoint first.day proof (lent x s t) limit (first_heads first.day + n) middle after point) same here)
 
-pub next-broken : (first old : CurveView) (proof : List ℕ) (b : Bool) (turns r s t n : ℕ) (before middle after : Told) (said : List CurvePoint) (status : ℕ) → old ≡ record first { given = n } → n < point_count first.day
-    → FindsFirst first.day proof (lent b r s) turns n before middle said → IsBrokenOff [] (point_name proof (first_heads old.day + old.given)) middle after status → BreaksCurve first.day proof (lent b r t) turns before after status
-next-broken first old proof b turns r s t n before middle after said status e fewer f h =
-    first-broken first.day proof b turns r s t n before middle after said status fewer f
+pub next-broken : (first old : CurveView) (proof : List ℕ) (b : Bool) (limit : Limit) (r s t n : ℕ) (before middle after : Told) (said : List CurvePoint) (status : ℕ) → old ≡ record first { given = n } → n < point_count first.day
+    → FindsFirst first.day proof (lent b r s) limit n before middle said → IsBrokenOff [] (point_name proof (first_heads old.day + old.given)) middle after status → BreaksCurve first.day proof (lent b r t) limit before after status
+next-broken first old proof b limit r s t n before middle after said status e fewer f h =
+    first-broken first.day proof b limit r s t n before middle after said status fewer f
     (subst (λ (v : CurveView). IsBrokenOff [] (point_name proof (first_heads v.day + v.given)) middle after status) e h)
 
 pub point-broken : (old new : CurveView) (proof : List ℕ) (heads status : ℕ) (before after : Told) → new ≡ record old { given = old.given + 1 } → heads ≡ point_heads new
     → IsBrokenOff [] (point_name proof heads) before after status → IsBrokenOff [] (point_name proof (first_heads old.day + old.given)) before after status
 point-broken old new proof heads status before after e h b = subst (λ (k : ℕ). IsBrokenOff [] (point_name proof k) before after status) (same_heads old new heads e h) b
 
-pub point-found : (old new : CurveView) (proof : List ℕ) (m : MasterView) (turns heads : ℕ) (before after : Told) (s : Solution) (said : CurvePoint) → new ≡ record old { given = old.given + 1 } → heads ≡ point_heads new
-    → IsSolution (point_day new) m.strict turns s → AreCounted (point_day new) m.before m.now s.found → said ≡ point_of heads s.found
-    → IsStoredBy (record { name = point_name proof heads; text = s.proof } ∷ []) before after → FindsPoint old.day proof m turns (first_heads old.day + old.given) before after said
-point-found old new proof m turns heads before after s said e h solution counted is stored =
+pub point-found : (old new : CurveView) (proof : List ℕ) (m : MasterView) (limit : Limit) (heads : ℕ) (before after : Told) (s : Solution) (said : CurvePoint) → new ≡ record old { given = old.given + 1 } → heads ≡ point_heads new
+    → ForLimit limit (λ k. IsSolution (point_day new) m.strict k s) → AreCounted (point_day new) m.before m.now s.found → said ≡ point_of heads s.found
+    → IsStoredBy (record { name = point_name proof heads; text = s.proof } ∷ []) before after → FindsPoint old.day proof m limit (first_heads old.day + old.given) before after said
+point-found old new proof m limit heads before after s said e h solution counted is stored =
     let here = same_heads old new heads e h in
     let day = day_now old new e in
     let next = first_heads old.day + old.given in
     record {
       found = s.found;
       text = s.proof;
-      finds = finds (with_heads old.day next) m turns s (subst (λ (i : Instance). IsSolution i m.strict turns s) day solution) (subst (λ (i : Instance). AreCounted i m.before m.now s.found) day counted) (done_status s.found.done) refl;
+      finds = finds (with_heads old.day next) m limit s (subst (λ (i : Instance). ForLimit limit (λ k. IsSolution i m.strict k s)) day solution) (subst (λ (i : Instance). AreCounted i m.before m.now s.found) day counted) (done_status s.found.done) refl;
       is = is ∙ ap (λ (k : ℕ). point_of k s.found) here;
       stored = subst (λ (k : ℕ). IsStoredBy (record { name = point_name proof k; text = s.proof } ∷ []) before after) here stored;
     }
 
 -- how the next point ends, by how storing it ends
-pub point-ends : (old new : CurveView) (proof : List ℕ) (m : MasterView) (turns heads : ℕ) (before after : Told) (s : Solution) (r : Result CurvePoint ℕ) → new ≡ record old { given = old.given + 1 } → heads ≡ point_heads new
-    → IsSolution (point_day new) m.strict turns s → AreCounted (point_day new) m.before m.now s.found → IfOk r (λ said. said ≡ point_of heads s.found)
+pub point-ends : (old new : CurveView) (proof : List ℕ) (m : MasterView) (limit : Limit) (heads : ℕ) (before after : Told) (s : Solution) (r : Result CurvePoint ℕ) → new ≡ record old { given = old.given + 1 } → heads ≡ point_heads new
+    → ForLimit limit (λ k. IsSolution (point_day new) m.strict k s) → AreCounted (point_day new) m.before m.now s.found → IfOk r (λ said. said ≡ point_of heads s.found)
     → MatchResult r (λ said. IsStoredBy (record { name = point_name proof heads; text = s.proof } ∷ []) before after) (IsBrokenOff [] (point_name proof heads) before after)
-    → MatchResult r (FindsPoint old.day proof m turns (first_heads old.day + old.given) before after) (IsBrokenOff [] (point_name proof (first_heads old.day + old.given)) before after)
-point-ends old new proof m turns heads before after s (Ok said) e h solution counted is stored = point-found old new proof m turns heads before after s said e h solution counted is stored
-point-ends old new proof m turns heads before after s (Err status) e h solution counted is broken = point-broken old new proof heads status before after e h broken
+    → MatchResult r (FindsPoint old.day proof m limit (first_heads old.day + old.given) before after) (IsBrokenOff [] (point_name proof (first_heads old.day + old.given)) before after)
+point-ends old new proof m limit heads before after s (Ok said) e h solution counted is stored = point-found old new proof m limit heads before after s said e h solution counted is stored
+point-ends old new proof m limit heads before after s (Err status) e h solution counted is broken = point-broken old new proof heads status before after e h broken
 
 pub not-begun : (name : List ℕ) (told : Told) → IsBrokenOff [] name told told 7
 not-begun name told = out_of_memory [] name told told (none_yet told)

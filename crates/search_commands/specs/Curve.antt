@@ -1,7 +1,9 @@
--- What `curve RULES DEMAND PROOF TURNS` answers.
+-- What `curve RULES DEMAND PROOF LIMIT` answers.
 use Rattle.std.specs.Prelude.{ℕ, ◌≡◌, ◌≢◌, ◌<◌, ◌+◌, ◌++◌, Bool, true, false, cond, nat_eq, is_none, List, [], ◌∷◌, Option, None, Some, codes, length}
 use Rattle.std.specs.Fmt.{decimal}
 use Rattle.std.specs.List.{list_all}
+use Rattle.search_commands.specs.declared.limit.Limit.{Limit}
+use Rattle.search_commands.specs.Limits.{IsUsedUp}
 use Rattle.roster_model.specs.declared.grammar.Grammar.{Grammar}
 use Rattle.roster_model.specs.declared.instance.Instance.{Instance}
 use Rattle.roster_model.specs.Folds.{Each}
@@ -29,12 +31,12 @@ pub record Point : Type 0 where
 
 -- Points from a head count on, one for each: each is all that a search finds and stores on the day with at most so
 -- many employees. The master had refused so many nodes before the first.
-abbrev pub ArePoints : Instance → Bool → ℕ → ℕ → ℕ → List Point → Type 0
-ArePoints i strict turns heads refused [] = Unit {0}
-ArePoints i strict turns heads refused (p ∷ ps) =
-    Finds (with_heads i heads) (lent strict refused p.refused) turns
+abbrev pub ArePoints : Instance → Bool → Limit → ℕ → ℕ → List Point → Type 0
+ArePoints i strict limit heads refused [] = Unit {0}
+ArePoints i strict limit heads refused (p ∷ ps) =
+    Finds (with_heads i heads) (lent strict refused p.refused) limit
     (done_status p.found.done) p.stored p.found
-    × ArePoints i strict turns (heads + 1) p.refused ps
+    × ArePoints i strict limit (heads + 1) p.refused ps
 
 -- how many nodes the master had refused after the points
 abbrev pub refused_after : ℕ → List Point → ℕ
@@ -75,7 +77,7 @@ AreFalling [] = Unit {0}
 AreFalling (p ∷ ps) = Each (λ (q : CurvePoint). q.bound ≡ q.cost → IsNoDearer q.cost p.cost) ps × AreFalling ps
 
 -- status 0, 1 or 8: the certificate of each point is stored, and the points are said
-pub record SaysCurve (i : Instance) (proof : List ℕ) (m : MasterView) (turns status : ℕ) (output : List ℕ)
+pub record SaysCurve (i : Instance) (proof : List ℕ) (m : MasterView) (limit : Limit) (status : ℕ) (output : List ℕ)
     (stored : List Entry) : Type 0 where
   pub plain : i.groups ≡ []
   pub arcs : ℕ
@@ -83,23 +85,23 @@ pub record SaysCurve (i : Instance) (proof : List ℕ) (m : MasterView) (turns s
   -- one point for each greatest head count, in order
   pub points : List Point
   pub all : length points ≡ point_count i
-  pub are : ArePoints i m.strict turns (first_heads i) m.before points
+  pub are : ArePoints i m.strict limit (first_heads i) m.before points
   pub counted : refused_after m.before points ≡ m.now
   pub stored_is : stored ≡ point_entries proof (first_heads i) points
-  -- a point that is not closed used all its turns
-  pub ran_out : Each (λ (p : CurvePoint). p.bound ≢ p.cost → p.processed ≡ turns)
+  -- a point that is not closed used all its turns, where turns limit it
+  pub ran_out : Each (λ (p : CurvePoint). p.bound ≢ p.cost → IsUsedUp limit p.processed)
       (said_points (first_heads i) points)
   pub falls : AreFalling (said_points (first_heads i) points)
   pub status_is : status ≡ curve_status (said_points (first_heads i) points)
   pub text : output ≡ curve_text (said_points (first_heads i) points)
 
 -- the search broke off behind the first points, before the text of the next one was stored
-pub record HasFirstPoints (i : Instance) (proof : List ℕ) (m : MasterView) (turns : ℕ) (name : List ℕ)
+pub record HasFirstPoints (i : Instance) (proof : List ℕ) (m : MasterView) (limit : Limit) (name : List ℕ)
     (stored : List Entry) : Type 0 where
   pub plain : i.groups ≡ []
   pub points : List Point
   pub fewer : length points < point_count i
-  pub are : ArePoints i m.strict turns (first_heads i) m.before points
+  pub are : ArePoints i m.strict limit (first_heads i) m.before points
   pub stored_is : stored ≡ point_entries proof (first_heads i) points
   pub next : name ≡ point_name proof (first_heads i + length points)
 
@@ -108,45 +110,45 @@ abbrev pub groups_line : List ℕ
 groups_line = codes "demand: groups have no curve\n"
 
 -- the answers for an instance
-pub data Curving (i : Instance) (proof : List ℕ) (m : MasterView) (turns : ℕ) : End → List Entry
+pub data Curving (i : Instance) (proof : List ℕ) (m : MasterView) (limit : Limit) : End → List Entry
     → Type 0 where
   found : (status : ℕ) (output : List ℕ) (stored : List Entry)
-      → SaysCurve i proof m turns status output stored
-      → Curving i proof m turns (answered status output) stored
-  broken : (name : List ℕ) (stored : List Entry) → HasFirstPoints i proof m turns name stored
-      → Curving i proof m turns (broken_off name) stored
+      → SaysCurve i proof m limit status output stored
+      → Curving i proof m limit (answered status output) stored
+  broken : (name : List ℕ) (stored : List Entry) → HasFirstPoints i proof m limit name stored
+      → Curving i proof m limit (broken_off name) stored
   too_many : (output : List ℕ) → i.groups ≡ [] → SaysTooManyArcs i.grammar output
-      → Curving i proof m turns (answered 9 output) []
+      → Curving i proof m limit (answered 9 output) []
   groups : (output : List ℕ) → i.groups ≢ [] → output ≡ groups_line
-      → Curving i proof m turns (answered 4 output) []
+      → Curving i proof m limit (answered 4 output) []
 
 -- the answers to a demand text
-pub data CurvesDemand (g : Grammar) (text proof : List ℕ) (m : MasterView) (turns : ℕ) :
+pub data CurvesDemand (g : Grammar) (text proof : List ℕ) (m : MasterView) (limit : Limit) :
     End → List Entry → Type 0 where
   accepted : (i : Instance) (end : End) (stored : List Entry) → IsInstanceOf g text i
-      → Curving i proof m turns end stored → CurvesDemand g text proof m turns end stored
+      → Curving i proof m limit end stored → CurvesDemand g text proof m limit end stored
   refused : (output : List ℕ) → SaysDemandFault g text output
-      → CurvesDemand g text proof m turns (answered 4 output) []
+      → CurvesDemand g text proof m limit (answered 4 output) []
 
 -- the same, where the demand text stands under a name
 pub record AnswersCurveDemand (held : Option Texts) (g : Grammar) (name proof : List ℕ) (m : MasterView)
-    (turns : ℕ) (end : End) (stored : List Entry) : Type 0 where
+    (limit : Limit) (end : End) (stored : List Entry) : Type 0 where
   pub text : List ℕ
   pub holds : Holds held name text
-  pub answers : CurvesDemand g text proof m turns end stored
+  pub answers : CurvesDemand g text proof m limit end stored
 
 -- the answers to a rules text, and then to the demand text under a name
-pub data CurvesRules (held : Option Texts) (text demand_name proof : List ℕ) (m : MasterView) (turns : ℕ) :
+pub data CurvesRules (held : Option Texts) (text demand_name proof : List ℕ) (m : MasterView) (limit : Limit) :
     End → List Entry → Type 0 where
   accepted : (g : Grammar) (end : End) (stored : List Entry) → IsGrammarOf text g
-      → AnswersCurveDemand held g demand_name proof m turns end stored
-      → CurvesRules held text demand_name proof m turns end stored
+      → AnswersCurveDemand held g demand_name proof m limit end stored
+      → CurvesRules held text demand_name proof m limit end stored
   refused : (output : List ℕ) → SaysFault text output
-      → CurvesRules held text demand_name proof m turns (answered 3 output) []
+      → CurvesRules held text demand_name proof m limit (answered 3 output) []
 
 -- the same, where the rules text stands under a name
-pub record AnswersCurve (held : Option Texts) (name demand_name proof : List ℕ) (m : MasterView) (turns : ℕ)
+pub record AnswersCurve (held : Option Texts) (name demand_name proof : List ℕ) (m : MasterView) (limit : Limit)
     (end : End) (stored : List Entry) : Type 0 where
   pub text : List ℕ
   pub holds : Holds held name text
-  pub answers : CurvesRules held text demand_name proof m turns end stored
+  pub answers : CurvesRules held text demand_name proof m limit end stored

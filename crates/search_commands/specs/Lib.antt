@@ -1,3 +1,4 @@
+pub mod Limits
 pub mod Writer
 pub mod Solve
 pub mod Make

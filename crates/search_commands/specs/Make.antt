@@ -1,5 +1,6 @@
--- What `make NUMBER PROOF TURNS` answers.
+-- What `make NUMBER PROOF LIMIT` answers.
 use Rattle.std.specs.Prelude.{ℕ, ◌≡◌, ◌≢◌, List, Option, None, Some}
+use Rattle.search_commands.specs.declared.limit.Limit.{Limit}
 use Rattle.branch_price.specs.declared.found.Found.{Found}
 use Rattle.day_solver.specs.Solutions.{HasArcCount}
 use Rattle.made_days.specs.Made.{made_instance}
@@ -21,18 +22,18 @@ summary_of number arcs f = record {
 }
 
 -- status 0 or 8: the certificate is stored, and its summary is said
-pub record SaysMade (number : ℕ) (m : MasterView) (turns status : ℕ) (output stored : List ℕ) : Type 0 where
+pub record SaysMade (number : ℕ) (m : MasterView) (limit : Limit) (status : ℕ) (output stored : List ℕ) : Type 0 where
   pub arcs : ℕ
   pub few : HasArcCount (made_instance number).grammar arcs
   pub found : Found
-  pub finds : Finds (made_instance number) m turns status stored found
+  pub finds : Finds (made_instance number) m limit status stored found
   pub summary : output ≡ summary_text (summary_of number arcs found)
   -- the roster without a shift is allowed
   pub some : status ≢ 1
 
 -- the answers to a number
-pub data AnswersMake (number : ℕ) (m : MasterView) (turns : ℕ) : ℕ → List ℕ → Option (List ℕ) → Type 0 where
-  found : (status : ℕ) (output stored : List ℕ) → SaysMade number m turns status output stored
-      → AnswersMake number m turns status output (Some stored)
+pub data AnswersMake (number : ℕ) (m : MasterView) (limit : Limit) : ℕ → List ℕ → Option (List ℕ) → Type 0 where
+  found : (status : ℕ) (output stored : List ℕ) → SaysMade number m limit status output stored
+      → AnswersMake number m limit status output (Some stored)
   too_many : (output : List ℕ) → SaysTooManyArcs (made_instance number).grammar output
-      → AnswersMake number m turns 9 output None
+      → AnswersMake number m limit 9 output None

@@ -1,6 +1,8 @@
--- What `solve RULES DEMAND PROOF TURNS` answers.
+-- What `solve RULES DEMAND PROOF LIMIT` answers.
 use Rattle.std.specs.Prelude.{ℕ, ◌≡◌, ◌<◌, ◌++◌, Bool, List, Option, None, Some, Ok, codes, length}
 use Rattle.std.specs.Fmt.{decimal}
+use Rattle.search_commands.specs.declared.limit.Limit.{Limit}
+use Rattle.search_commands.specs.Limits.{ForLimit}
 use Rattle.roster_model.specs.declared.grammar.ArcKey.{ArcKey}
 use Rattle.roster_model.specs.declared.grammar.Grammar.{Grammar}
 use Rattle.roster_model.specs.declared.instance.Done.{Done}
@@ -35,11 +37,12 @@ done_status TurnsOut = 8
 -- What a search found and stored. The stored text denotes a certificate that is accepted, so what it
 -- states is true: its shifts are an allowed roster of exactly its cost, and no allowed roster costs less
 -- than its bound.
-pub record Finds (i : Instance) (m : MasterView) (turns status : ℕ) (stored : List ℕ)
+pub record Finds (i : Instance) (m : MasterView) (limit : Limit) (status : ℕ) (stored : List ℕ)
     (f : Found) : Type 0 where
   -- the certificate is accepted, its bound is what its tree shows, its nodes are right, and the status says
-  -- how the search ended: the bound is the cost, or no roster is allowed, unless all turns were used
-  pub searched : IsFound i m.strict turns f
+  -- how the search ended: the bound is the cost, or no roster is allowed, unless all turns were used; of a search
+  -- that is limited by seconds all this holds for some number of turns
+  pub searched : ForLimit limit (λ k. IsFound i m.strict k f)
   pub counted : AreCounted i m.before m.now f
   pub status_is : status ≡ done_status f.done
   -- the stored text alone shows it
@@ -47,12 +50,12 @@ pub record Finds (i : Instance) (m : MasterView) (turns status : ℕ) (stored : 
   pub right : YesIsRight i f.cert
 
 -- status 0, 1 or 8: the certificate is stored, and its report is said
-pub record SaysFound (i : Instance) (m : MasterView) (turns status : ℕ)
+pub record SaysFound (i : Instance) (m : MasterView) (limit : Limit) (status : ℕ)
     (output stored : List ℕ) : Type 0 where
   pub arcs : ℕ
   pub few : HasArcCount i.grammar arcs
   pub found : Found
-  pub finds : Finds i m turns status stored found
+  pub finds : Finds i m limit status stored found
   pub report : IsReportText i found output
 
 -- the line of an instance with too many arcs
@@ -67,37 +70,37 @@ pub record SaysTooManyArcs (g : Grammar) (output : List ℕ) : Type 0 where
   pub line : output ≡ arcs_line (length listed)
 
 -- the answers for an instance
-pub data Solving (i : Instance) (m : MasterView) (turns : ℕ) : ℕ → List ℕ → Option (List ℕ) → Type 0 where
-  found : (status : ℕ) (output stored : List ℕ) → SaysFound i m turns status output stored
-      → Solving i m turns status output (Some stored)
-  too_many : (output : List ℕ) → SaysTooManyArcs i.grammar output → Solving i m turns 9 output None
+pub data Solving (i : Instance) (m : MasterView) (limit : Limit) : ℕ → List ℕ → Option (List ℕ) → Type 0 where
+  found : (status : ℕ) (output stored : List ℕ) → SaysFound i m limit status output stored
+      → Solving i m limit status output (Some stored)
+  too_many : (output : List ℕ) → SaysTooManyArcs i.grammar output → Solving i m limit 9 output None
 
 -- the answers to a demand text
-pub data SolvesDemand (g : Grammar) (text : List ℕ) (m : MasterView) (turns : ℕ) :
+pub data SolvesDemand (g : Grammar) (text : List ℕ) (m : MasterView) (limit : Limit) :
     ℕ → List ℕ → Option (List ℕ) → Type 0 where
   accepted : (i : Instance) (status : ℕ) (output : List ℕ) (stored : Option (List ℕ)) → IsInstanceOf g text i
-      → Solving i m turns status output stored → SolvesDemand g text m turns status output stored
-  refused : (output : List ℕ) → SaysDemandFault g text output → SolvesDemand g text m turns 4 output None
+      → Solving i m limit status output stored → SolvesDemand g text m limit status output stored
+  refused : (output : List ℕ) → SaysDemandFault g text output → SolvesDemand g text m limit 4 output None
 
 -- the same, where the demand text stands under a name
 pub record AnswersSolveDemand (held : Option Texts) (g : Grammar) (name : List ℕ) (m : MasterView)
-    (turns status : ℕ) (output : List ℕ) (stored : Option (List ℕ)) : Type 0 where
+    (limit : Limit) (status : ℕ) (output : List ℕ) (stored : Option (List ℕ)) : Type 0 where
   pub text : List ℕ
   pub holds : Holds held name text
-  pub answers : SolvesDemand g text m turns status output stored
+  pub answers : SolvesDemand g text m limit status output stored
 
 -- the answers to a rules text, and then to the demand text under a name
-pub data SolvesRules (held : Option Texts) (text demand_name : List ℕ) (m : MasterView) (turns : ℕ) :
+pub data SolvesRules (held : Option Texts) (text demand_name : List ℕ) (m : MasterView) (limit : Limit) :
     ℕ → List ℕ → Option (List ℕ) → Type 0 where
   accepted : (g : Grammar) (status : ℕ) (output : List ℕ) (stored : Option (List ℕ)) → IsGrammarOf text g
-      → AnswersSolveDemand held g demand_name m turns status output stored
-      → SolvesRules held text demand_name m turns status output stored
+      → AnswersSolveDemand held g demand_name m limit status output stored
+      → SolvesRules held text demand_name m limit status output stored
   refused : (output : List ℕ) → SaysFault text output
-      → SolvesRules held text demand_name m turns 3 output None
+      → SolvesRules held text demand_name m limit 3 output None
 
 -- the same, where the rules text stands under a name
-pub record AnswersSolve (held : Option Texts) (name demand_name : List ℕ) (m : MasterView) (turns status : ℕ)
+pub record AnswersSolve (held : Option Texts) (name demand_name : List ℕ) (m : MasterView) (limit : Limit) (status : ℕ)
     (output : List ℕ) (stored : Option (List ℕ)) : Type 0 where
   pub text : List ℕ
   pub holds : Holds held name text
-  pub answers : SolvesRules held text demand_name m turns status output stored
+  pub answers : SolvesRules held text demand_name m limit status output stored

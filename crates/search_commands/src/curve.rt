@@ -16,13 +16,15 @@ ghost use Rattle.search_commands.specs.Curve.{
   is_closed,
   point_name,
 };
+ghost use Rattle.search_commands.specs.Limits.{IsLimit};
 ghost use Rattle.search_commands.specs.Points.{AnswersGroups, BreaksCurve, FindsFirst, FindsPoint};
 ghost use Rattle.text_commands.specs.Reader.{IsReader};
 ghost use Rattle.search_commands.specs.Series.{IsBrokenOff, IsSeriesWriter, IsStoredBy};
 ghost use Rattle.search_commands.specs.Solve.{lent};
 
+use crate::limit::Limit;
 use crate::solve::graph_refusal;
-use branch_price::Master;
+use branch_price::{Master, Subject, Watch};
 use day_curve::DayCurve;
 use day_solver::Solution;
 use demand_text::read_demand;
@@ -34,7 +36,7 @@ use std::alloc::Global;
 use text_commands::answer::Answer;
 use text_commands::ask::demand_refusal;
 use text_commands::explain::refusal;
-use text_commands::fetch::{fetched, say_answer};
+use text_commands::fetch::{fetched, say_answer, say_answer_to};
 use text_commands::say::{MEMORY, say, status_of};
 
 const GROUPS: &[u8] = b"demand: groups have no curve\n";
@@ -103,61 +105,68 @@ fn solved_point<S: Shelf>(
     }
 }
 
-// Searches the next point of a curve and stores its certificate, or returns the status of a refusal.
-fn next_point<S: Shelf, M: Master>(
+// Searches the next point of a curve and stores its certificate, or returns the status of a refusal. The watch is
+// told that it has so many employees at most.
+fn next_point<S: Shelf, M: Master, W: Watch>(
     alloc: Global,
     shelf: &mut S,
     curve: &mut DayCurve,
+    heads: u32,
     proof: &str,
-    turns: u32,
+    limit: Limit,
     master: &mut M,
+    watch: &mut W,
 ) -> Result<CurvePoint, u8>
     requires more { curve.old.given < point_count curve.old.day }
-    requires some { 1 ≤ turns }
-    requires few { turns ≤ 10000 }
+    requires limit { IsLimit limit }
     ensures given { IfOk result (λ _. curve.new ≡ record curve.old { given = curve.old.given + 1 }) }
     ensures point { MatchResult result
         (FindsPoint curve.old.day proof.now (lent (M.strict master.old) (M.refused master.old)
-        (M.refused master.new)) turns (first_heads curve.old.day + curve.old.given) (S.told shelf.old)
+        (M.refused master.new)) limit (first_heads curve.old.day + curve.old.given) (S.told shelf.old)
         (S.told shelf.new))
         (IsBrokenOff [] (point_name proof.now (first_heads curve.old.day + curve.old.given))
         (S.told shelf.old)
         (S.told shelf.new)) }
     ensures strict_stays { M.strict master.new ≡ M.strict master.old }
 {
-    match curve.next(turns, master) {
+    let limit_turns = limit.turns();
+    let limit_seconds = limit.seconds();
+    watch.begin(Subject::Point { heads }, limit_seconds);
+    match curve.next(limit_turns, master, watch) {
         Ok(solution) => solved_point(alloc, shelf, proof, curve.heads(), &solution),
         Err(Memory) => Err(MEMORY),
     }
 }
 
 // Searches the points of a curve and stores their certificates, or returns the status of a refusal.
-fn all_points<S: Shelf, M: Master>(
+fn all_points<S: Shelf, M: Master, W: Watch>(
     alloc: Global,
     shelf: &mut S,
     curve: &mut DayCurve,
     proof: &str,
-    turns: u32,
+    limit: Limit,
     master: &mut M,
+    watch: &mut W,
 ) -> Result<Vec<CurvePoint>, u8>
     requires none { curve.old.given ≡ 0 }
     requires points { 0 < point_count curve.old.day }
-    requires some { 1 ≤ turns }
-    requires few { turns ≤ 10000 }
+    requires limit { IsLimit limit }
     ensures { MatchResult result
         (λ points. FindsFirst curve.old.day proof.now (lent (M.strict master.old) (M.refused master.old)
-        (M.refused master.new)) turns (point_count curve.old.day) (S.told shelf.old) (S.told shelf.new)
+        (M.refused master.new)) limit (point_count curve.old.day) (S.told shelf.old) (S.told shelf.new)
         points.items)
         (BreaksCurve curve.old.day proof.now (lent (M.strict master.old) (M.refused master.old)
-        (M.refused master.new)) turns (S.told shelf.old) (S.told shelf.new)) }
+        (M.refused master.new)) limit (S.told shelf.old) (S.told shelf.new)) }
 {
+    let mut heads = curve.heads();
     let count = curve.points();
     let Ok(mut points) = Vec::with_capacity(alloc, count as usize) else {
         return Err(MEMORY);
     };
     for _ in 0..count {
-        let point = next_point(alloc, shelf, curve, proof, turns, master)?;
+        let point = next_point(alloc, shelf, curve, heads, proof, limit, master, watch)?;
         points.push_reserved(point);
+        heads = heads.saturating_add(1);
     }
     Ok(points)
 }
@@ -217,70 +226,70 @@ fn points_answer(alloc: Global, points: &[CurvePoint]) -> Result<Answer, Memory>
 }
 
 // Searches a curve of which no point is given, stores the certificates of its points and says them.
-fn curve_points<S: Shelf, M: Master>(
+fn curve_points<S: Shelf, M: Master, W: Watch>(
     alloc: Global,
     shelf: &mut S,
     curve: &mut DayCurve,
     proof: &str,
-    turns: u32,
+    limit: Limit,
     master: &mut M,
+    watch: &mut W,
 ) -> u8
     requires none { curve.old.given ≡ 0 }
     requires points { 0 < point_count curve.old.day }
     requires plain { curve.old.day.groups ≡ [] }
     requires arcs { (arcs : ℕ) × HasArcCount curve.old.day.grammar arcs }
-    requires some { 1 ≤ turns }
-    requires few { turns ≤ 10000 }
+    requires limit { IsLimit limit }
     ensures { IsSeriesWriter
         (Curving curve.old.day proof.now (lent (M.strict master.old) (M.refused master.old)
-        (M.refused master.new)) turns) [] (S.told shelf.old) (S.told shelf.new) result }
+        (M.refused master.new)) limit) [] (S.told shelf.old) (S.told shelf.new) result }
 {
-    match all_points(alloc, shelf, curve, proof, turns, master) {
+    match all_points(alloc, shelf, curve, proof, limit, master, watch) {
         Ok(points) => say_answer(shelf, points_answer(alloc, points.as_slice())),
         Err(status) => status,
     }
 }
 
 // Searches a curve that was just made, stores the certificates of its points and says them.
-fn curve_made<S: Shelf, M: Master>(
+fn curve_made<S: Shelf, M: Master, W: Watch>(
     alloc: Global,
     shelf: &mut S,
     mut curve: DayCurve,
     proof: &str,
-    turns: u32,
+    limit: Limit,
     master: &mut M,
+    watch: &mut W,
 ) -> u8
     requires none { curve.given ≡ 0 }
     requires points { 0 < point_count curve.day }
     requires plain { curve.day.groups ≡ [] }
     requires arcs { (arcs : ℕ) × HasArcCount curve.day.grammar arcs }
-    requires some { 1 ≤ turns }
-    requires few { turns ≤ 10000 }
+    requires limit { IsLimit limit }
     ensures { IsSeriesWriter
         (Curving curve.day proof.now (lent (M.strict master.old) (M.refused master.old)
-        (M.refused master.new)) turns) [] (S.told shelf.old) (S.told shelf.new) result }
+        (M.refused master.new)) limit) [] (S.told shelf.old) (S.told shelf.new) result }
 {
-    curve_points(alloc, shelf, &mut curve, proof, turns, master)
+    curve_points(alloc, shelf, &mut curve, proof, limit, master, watch)
 }
 
 // Searches the curve of an instance without groups, or says that it has too many arcs.
-fn curve_plain<S: Shelf, M: Master>(
+fn curve_plain<S: Shelf, M: Master, W: Watch>(
     alloc: Global,
     shelf: &mut S,
     instance: Instance,
     proof: &str,
-    turns: u32,
+    limit: Limit,
     master: &mut M,
+    watch: &mut W,
 ) -> u8
     requires sound { IsSoundInstance instance }
     requires plain { instance.groups ≡ [] }
-    requires some { 1 ≤ turns }
-    requires few { turns ≤ 10000 }
+    requires limit { IsLimit limit }
     ensures { IsSeriesWriter (Curving instance proof.now (lent (M.strict master.old) (M.refused master.old)
-        (M.refused master.new)) turns) [] (S.told shelf.old) (S.told shelf.new) result }
+        (M.refused master.new)) limit) [] (S.told shelf.old) (S.told shelf.new) result }
 {
     match DayCurve::new(alloc, instance) {
-        Ok(curve) => curve_made(alloc, shelf, curve, proof, turns, master),
+        Ok(curve) => curve_made(alloc, shelf, curve, proof, limit, master, watch),
         Err(fault) => say_answer(shelf, graph_refusal(alloc, fault)),
     }
 }
@@ -293,118 +302,136 @@ fn refuse_groups<S: Shelf>(shelf: &mut S) -> u8
 }
 
 // Searches the curve of an instance, or says that it has groups.
-fn curve_instance<S: Shelf, M: Master>(
+fn curve_instance<S: Shelf, M: Master, W: Watch>(
     alloc: Global,
     shelf: &mut S,
     instance: Instance,
     proof: &str,
-    turns: u32,
+    limit: Limit,
     master: &mut M,
+    watch: &mut W,
 ) -> u8
     requires sound { IsSoundInstance instance }
-    requires some { 1 ≤ turns }
-    requires few { turns ≤ 10000 }
+    requires limit { IsLimit limit }
     ensures { IsSeriesWriter (Curving instance proof.now (lent (M.strict master.old) (M.refused master.old)
-        (M.refused master.new)) turns) [] (S.told shelf.old) (S.told shelf.new) result }
+        (M.refused master.new)) limit) [] (S.told shelf.old) (S.told shelf.new) result }
 {
     if instance.groups.is_empty() {
-        return curve_plain(alloc, shelf, instance, proof, turns, master);
+        return curve_plain(alloc, shelf, instance, proof, limit, master, watch);
     }
     refuse_groups(shelf)
 }
 
 // Searches the curve of a demand text by the grammar of a rules text.
-fn curve_demand_text<S: Shelf, M: Master>(
+fn curve_demand_text<S: Shelf, M: Master, W: Watch>(
     alloc: Global,
     shelf: &mut S,
     grammar: Grammar,
     text: &[u8],
     proof: &str,
-    turns: u32,
+    limit: Limit,
     master: &mut M,
+    watch: &mut W,
 ) -> u8
     requires sound { IsSound grammar }
     requires plain { IsPlain grammar }
-    requires some { 1 ≤ turns }
-    requires few { turns ≤ 10000 }
+    requires limit { IsLimit limit }
     ensures { IsSeriesWriter (CurvesDemand grammar text.now proof.now (lent (M.strict master.old)
-        (M.refused master.old) (M.refused master.new)) turns) [] (S.told shelf.old)
+        (M.refused master.old) (M.refused master.new)) limit) [] (S.told shelf.old)
         (S.told shelf.new) result }
 {
     match read_demand(alloc, grammar, text) {
-        Ok(instance) => curve_instance(alloc, shelf, instance, proof, turns, master),
-        Err(fault) => say_answer(shelf, demand_refusal(alloc, fault)),
+        Ok(instance) => curve_instance(alloc, shelf, instance, proof, limit, master, watch),
+        Err(fault) => say_answer_to(shelf, text, demand_refusal(alloc, fault)),
     }
 }
 
 // Searches the curve of the demand text under a name by the grammar of a rules text.
-fn curve_demand<S: Shelf, M: Master>(
+fn curve_demand<S: Shelf, M: Master, W: Watch>(
     alloc: Global,
     shelf: &mut S,
     grammar: Grammar,
     demand: &str,
     proof: &str,
-    turns: u32,
+    limit: Limit,
     master: &mut M,
+    watch: &mut W,
 ) -> u8
     requires sound { IsSound grammar }
     requires plain { IsPlain grammar }
-    requires some { 1 ≤ turns }
-    requires few { turns ≤ 10000 }
+    requires limit { IsLimit limit }
     ensures { IsSeriesWriter (AnswersCurveDemand (S.told shelf.old).held grammar demand.now proof.now
-        (lent (M.strict master.old) (M.refused master.old) (M.refused master.new)) turns) (demand.now ∷ [])
+        (lent (M.strict master.old) (M.refused master.old) (M.refused master.new)) limit) (demand.now ∷ [])
         (S.told shelf.old) (S.told shelf.new) result }
 {
     match fetched(alloc, shelf, demand) {
-        Ok(text) => curve_demand_text(alloc, shelf, grammar, text.as_slice(), proof, turns, master),
+        Ok(text) => curve_demand_text(
+            alloc,
+            shelf,
+            grammar,
+            text.as_slice(),
+            proof,
+            limit,
+            master,
+            watch,
+        ),
         Err(status) => status,
     }
 }
 
 // Searches the curve of the demand text under a name by a rules text.
-fn curve_rules_text<S: Shelf, M: Master>(
+fn curve_rules_text<S: Shelf, M: Master, W: Watch>(
     alloc: Global,
     shelf: &mut S,
     text: &[u8],
     demand: &str,
     proof: &str,
-    turns: u32,
+    limit: Limit,
     master: &mut M,
+    watch: &mut W,
 ) -> u8
-    requires some { 1 ≤ turns }
-    requires few { turns ≤ 10000 }
+    requires limit { IsLimit limit }
     ensures { IsSeriesWriter (CurvesRules (S.told shelf.old).held text.now demand.now proof.now
-        (lent (M.strict master.old) (M.refused master.old) (M.refused master.new)) turns) (demand.now ∷ [])
+        (lent (M.strict master.old) (M.refused master.old) (M.refused master.new)) limit) (demand.now ∷ [])
         (S.told shelf.old) (S.told shelf.new) result }
 {
     match read_rules(alloc, text) {
-        Ok(grammar) => curve_demand(alloc, shelf, grammar, demand, proof, turns, master),
-        Err(fault) => say_answer(shelf, refusal(alloc, fault)),
+        Ok(grammar) => curve_demand(alloc, shelf, grammar, demand, proof, limit, master, watch),
+        Err(fault) => say_answer_to(shelf, text, refusal(alloc, fault)),
     }
 }
 
 /// Searches the curve of a day's least costs over its greatest head count, by the rules and demand texts under
-/// names, each point within so many turns; stores the certificate of each point under the name of the proof, a
+/// names, each point within the limit; stores the certificate of each point under the name of the proof, a
 /// full stop and the head count, and then says the points; or says why a text is refused, that the day has
 /// groups, or that there are too many arcs. The texts are fetched and read in this order, before anything is
 /// stored.
-pub fn curve<S: Shelf, M: Master>(
+pub fn curve<S: Shelf, M: Master, W: Watch>(
     alloc: Global,
     shelf: &mut S,
     rules: &str,
     demand: &str,
     proof: &str,
-    turns: u32,
+    limit: Limit,
     master: &mut M,
+    watch: &mut W,
 ) -> u8
-    requires some { 1 ≤ turns }
-    requires few { turns ≤ 10000 }
+    requires limit { IsLimit limit }
     ensures { IsSeriesWriter (AnswersCurve (S.told shelf.old).held rules.now demand.now proof.now
-        (lent (M.strict master.old) (M.refused master.old) (M.refused master.new)) turns)
+        (lent (M.strict master.old) (M.refused master.old) (M.refused master.new)) limit)
         (rules.now ∷ demand.now ∷ []) (S.told shelf.old) (S.told shelf.new) result }
 {
     match fetched(alloc, shelf, rules) {
-        Ok(text) => curve_rules_text(alloc, shelf, text.as_slice(), demand, proof, turns, master),
+        Ok(text) => curve_rules_text(
+            alloc,
+            shelf,
+            text.as_slice(),
+            demand,
+            proof,
+            limit,
+            master,
+            watch,
+        ),
         Err(status) => status,
     }
 }

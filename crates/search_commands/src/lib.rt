@@ -3,7 +3,11 @@
 #![tactic(auto)]
 
 pub mod curve;
+mod infeasible;
+pub mod limit;
+mod lines;
 pub mod make;
+mod notes;
 pub mod reuse;
 pub mod solve;
 mod store;

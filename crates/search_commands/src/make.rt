@@ -4,11 +4,14 @@ ghost use Rattle.made_days.specs.Made.{made_instance};
 ghost use Rattle.roster_report.specs.SummaryText.{summary_text};
 ghost use Rattle.search_commands.specs.Make.{AnswersMake, summary_of};
 ghost use Rattle.search_commands.specs.Solve.{done_status, lent};
+ghost use Rattle.search_commands.specs.Limits.{IsLimit};
 ghost use Rattle.search_commands.specs.Writer.{IsWriter};
 
+use crate::limit::Limit;
+use crate::notes::note_unproved;
 use crate::solve::{graph_refusal, status_of_done};
 use crate::store::store_and_say;
-use branch_price::Master;
+use branch_price::{Master, Subject, Watch};
 use day_solver::{Solution, solve_day};
 use made_days::make_instance;
 use roster_model::{Instance, Memory};
@@ -48,52 +51,55 @@ fn summary_answer(
 }
 
 // Searches the day that is made from a number.
-fn solve_made<S: Shelf, M: Master>(
+fn solve_made<S: Shelf, M: Master, W: Watch>(
     alloc: Global,
     shelf: &mut S,
     number: u32,
     instance: &Instance,
     proof: &str,
-    turns: u32,
+    limit: Limit,
     master: &mut M,
+    watch: &mut W,
 ) -> u8
     requires made { instance.now ≡ made_instance number }
     requires sound { IsSoundInstance instance.now }
-    requires some { 1 ≤ turns }
-    requires few { turns ≤ 10000 }
+    requires limit { IsLimit limit }
     ensures { IsWriter (AnswersMake number (lent (M.strict master.old) (M.refused master.old)
-        (M.refused master.new)) turns) [] proof.now (S.told shelf.old) (S.told shelf.new)
+        (M.refused master.new)) limit) [] proof.now (S.told shelf.old) (S.told shelf.new)
         result }
 {
-    match solve_day(alloc, instance, turns, master) {
-        Ok(solution) => store_and_say(
-            shelf,
-            proof,
-            solution.proof.as_slice(),
-            summary_answer(alloc, number, instance, &solution),
-        ),
+    let limit_turns = limit.turns();
+    let limit_seconds = limit.seconds();
+    watch.begin(Subject::Make, limit_seconds);
+    match solve_day(alloc, instance, limit_turns, master, watch) {
+        Ok(solution) => {
+            let answer = summary_answer(alloc, number, instance, &solution);
+            let status = store_and_say(shelf, proof, solution.proof.as_slice(), answer);
+            note_unproved(shelf, &solution.found.cert, status);
+            status
+        }
         Err(fault) => say_answer(shelf, graph_refusal(alloc, fault)),
     }
 }
 
-/// Makes a day from a number, searches a roster of least cost for it within so many turns, stores its
+/// Makes a day from a number, searches a roster of least cost for it within a limit, stores its
 /// certificate under the name of the proof, and says a summary; or says that there are too many arcs.
-pub fn make<S: Shelf, M: Master>(
+pub fn make<S: Shelf, M: Master, W: Watch>(
     alloc: Global,
     shelf: &mut S,
     number: u32,
     proof: &str,
-    turns: u32,
+    limit: Limit,
     master: &mut M,
+    watch: &mut W,
 ) -> u8
-    requires some { 1 ≤ turns }
-    requires few { turns ≤ 10000 }
+    requires limit { IsLimit limit }
     ensures { IsWriter (AnswersMake number (lent (M.strict master.old) (M.refused master.old)
-        (M.refused master.new)) turns) [] proof.now (S.told shelf.old) (S.told shelf.new)
+        (M.refused master.new)) limit) [] proof.now (S.told shelf.old) (S.told shelf.new)
         result }
 {
     match make_instance(alloc, number) {
-        Ok(instance) => solve_made(alloc, shelf, number, &instance, proof, turns, master),
+        Ok(instance) => solve_made(alloc, shelf, number, &instance, proof, limit, master, watch),
         Err(Memory) => MEMORY,
     }
 }

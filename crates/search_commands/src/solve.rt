@@ -15,10 +15,13 @@ ghost use Rattle.search_commands.specs.Solve.{
   done_status,
   lent,
 };
+ghost use Rattle.search_commands.specs.Limits.{IsLimit};
 ghost use Rattle.search_commands.specs.Writer.{IsWriter};
 
+use crate::limit::Limit;
+use crate::notes::note_search;
 use crate::store::store_and_say;
-use branch_price::{Done, Found, Master};
+use branch_price::{Done, Found, Master, Subject, Watch};
 use day_solver::{solution_report, solve_day};
 use demand_text::read_demand;
 use parse_graph::GraphFault;
@@ -29,7 +32,7 @@ use std::alloc::Global;
 use text_commands::answer::Answer;
 use text_commands::ask::demand_refusal;
 use text_commands::explain::refusal;
-use text_commands::fetch::{fetched, say_answer};
+use text_commands::fetch::{fetched, say_answer, say_answer_to};
 use text_lines::{put, write_number};
 
 /// Returns the status of a search that ended so.
@@ -71,7 +74,7 @@ pub fn graph_refusal(alloc: Global, fault: GraphFault) -> Result<Answer, Memory>
 // Says the report of what a search found.
 fn report_answer(alloc: Global, instance: &Instance, found: &Found) -> Result<Answer, Memory>
     requires sound { IsSoundInstance instance.now }
-    requires found { (strict : Bool) × (turns : ℕ) × IsFound instance.now strict turns found.now }
+    requires found { (strict : Bool) × (limit : ℕ) × IsFound instance.now strict limit found.now }
     ensures { IfOk result (λ a. (a.status ≡ done_status found.now.done)
         × IsReportText instance.now found.now a.output) }
 {
@@ -82,125 +85,146 @@ fn report_answer(alloc: Global, instance: &Instance, found: &Found) -> Result<An
 }
 
 // Searches an instance, stores the certificate under a name, and says the report.
-fn solve_instance<S: Shelf, M: Master>(
+fn solve_instance<S: Shelf, M: Master, W: Watch>(
     alloc: Global,
     shelf: &mut S,
     instance: &Instance,
     proof: &str,
-    turns: u32,
+    limit: Limit,
     master: &mut M,
+    watch: &mut W,
 ) -> u8
     requires sound { IsSoundInstance instance.now }
-    requires some { 1 ≤ turns }
-    requires few { turns ≤ 10000 }
+    requires limit { IsLimit limit }
     ensures { IsWriter (Solving instance.now (lent (M.strict master.old) (M.refused master.old)
-        (M.refused master.new)) turns) [] proof.now (S.told shelf.old) (S.told shelf.new)
+        (M.refused master.new)) limit) [] proof.now (S.told shelf.old) (S.told shelf.new)
         result }
 {
-    match solve_day(alloc, instance, turns, master) {
-        Ok(solution) => store_and_say(
-            shelf,
-            proof,
-            solution.proof.as_slice(),
-            report_answer(alloc, instance, &solution.found),
-        ),
+    let limit_turns = limit.turns();
+    let limit_seconds = limit.seconds();
+    watch.begin(Subject::Solve, limit_seconds);
+    match solve_day(alloc, instance, limit_turns, master, watch) {
+        Ok(solution) => {
+            let answer = report_answer(alloc, instance, &solution.found);
+            let status = store_and_say(shelf, proof, solution.proof.as_slice(), answer);
+            note_search(alloc, shelf, instance, &solution.found.cert, status);
+            status
+        }
         Err(fault) => say_answer(shelf, graph_refusal(alloc, fault)),
     }
 }
 
 // Solves a demand text by the grammar of a rules text.
-fn solve_demand_text<S: Shelf, M: Master>(
+fn solve_demand_text<S: Shelf, M: Master, W: Watch>(
     alloc: Global,
     shelf: &mut S,
     grammar: Grammar,
     text: &[u8],
     proof: &str,
-    turns: u32,
+    limit: Limit,
     master: &mut M,
+    watch: &mut W,
 ) -> u8
     requires sound { IsSound grammar }
     requires plain { IsPlain grammar }
-    requires some { 1 ≤ turns }
-    requires few { turns ≤ 10000 }
+    requires limit { IsLimit limit }
     ensures { IsWriter (SolvesDemand grammar text.now (lent (M.strict master.old) (M.refused master.old)
-        (M.refused master.new)) turns) [] proof.now (S.told shelf.old)
+        (M.refused master.new)) limit) [] proof.now (S.told shelf.old)
         (S.told shelf.new) result }
 {
     match read_demand(alloc, grammar, text) {
-        Ok(instance) => solve_instance(alloc, shelf, &instance, proof, turns, master),
-        Err(fault) => say_answer(shelf, demand_refusal(alloc, fault)),
+        Ok(instance) => solve_instance(alloc, shelf, &instance, proof, limit, master, watch),
+        Err(fault) => say_answer_to(shelf, text, demand_refusal(alloc, fault)),
     }
 }
 
 // Solves the demand text under a name by the grammar of a rules text.
-fn solve_demand<S: Shelf, M: Master>(
+fn solve_demand<S: Shelf, M: Master, W: Watch>(
     alloc: Global,
     shelf: &mut S,
     grammar: Grammar,
     demand: &str,
     proof: &str,
-    turns: u32,
+    limit: Limit,
     master: &mut M,
+    watch: &mut W,
 ) -> u8
     requires sound { IsSound grammar }
     requires plain { IsPlain grammar }
-    requires some { 1 ≤ turns }
-    requires few { turns ≤ 10000 }
+    requires limit { IsLimit limit }
     ensures { IsWriter (AnswersSolveDemand (S.told shelf.old).held grammar demand.now
         (lent (M.strict master.old) (M.refused master.old)
-        (M.refused master.new)) turns)
+        (M.refused master.new)) limit)
         (demand.now ∷ []) proof.now (S.told shelf.old) (S.told shelf.new) result }
 {
     match fetched(alloc, shelf, demand) {
-        Ok(text) => solve_demand_text(alloc, shelf, grammar, text.as_slice(), proof, turns, master),
+        Ok(text) => solve_demand_text(
+            alloc,
+            shelf,
+            grammar,
+            text.as_slice(),
+            proof,
+            limit,
+            master,
+            watch,
+        ),
         Err(status) => status,
     }
 }
 
 // Solves the demand text under a name by a rules text.
-fn solve_rules_text<S: Shelf, M: Master>(
+fn solve_rules_text<S: Shelf, M: Master, W: Watch>(
     alloc: Global,
     shelf: &mut S,
     text: &[u8],
     demand: &str,
     proof: &str,
-    turns: u32,
+    limit: Limit,
     master: &mut M,
+    watch: &mut W,
 ) -> u8
-    requires some { 1 ≤ turns }
-    requires few { turns ≤ 10000 }
+    requires limit { IsLimit limit }
     ensures { IsWriter (SolvesRules (S.told shelf.old).held text.now demand.now
         (lent (M.strict master.old) (M.refused master.old)
-        (M.refused master.new)) turns)
+        (M.refused master.new)) limit)
         (demand.now ∷ []) proof.now (S.told shelf.old) (S.told shelf.new) result }
 {
     match read_rules(alloc, text) {
-        Ok(grammar) => solve_demand(alloc, shelf, grammar, demand, proof, turns, master),
-        Err(fault) => say_answer(shelf, refusal(alloc, fault)),
+        Ok(grammar) => solve_demand(alloc, shelf, grammar, demand, proof, limit, master, watch),
+        Err(fault) => say_answer_to(shelf, text, refusal(alloc, fault)),
     }
 }
 
-/// Searches a roster of least cost by the rules and demand texts under names, within so many turns, stores
+/// Searches a roster of least cost by the rules and demand texts under names, within a limit, stores
 /// its certificate under the name of the proof, and says the report; or says why a text is refused, or that
 /// there are too many arcs. The texts are fetched and read in this order, before anything is stored.
-pub fn solve<S: Shelf, M: Master>(
+pub fn solve<S: Shelf, M: Master, W: Watch>(
     alloc: Global,
     shelf: &mut S,
     rules: &str,
     demand: &str,
     proof: &str,
-    turns: u32,
+    limit: Limit,
     master: &mut M,
+    watch: &mut W,
 ) -> u8
-    requires some { 1 ≤ turns }
-    requires few { turns ≤ 10000 }
+    requires limit { IsLimit limit }
     ensures { IsWriter (AnswersSolve (S.told shelf.old).held rules.now demand.now
         (lent (M.strict master.old) (M.refused master.old)
-        (M.refused master.new)) turns)
+        (M.refused master.new)) limit)
         (rules.now ∷ demand.now ∷ []) proof.now (S.told shelf.old) (S.told shelf.new) result }
 {
     match fetched(alloc, shelf, rules) {
-        Ok(text) => solve_rules_text(alloc, shelf, text.as_slice(), demand, proof, turns, master),
+        Ok(text) => solve_rules_text(
+            alloc,
+            shelf,
+            text.as_slice(),
+            demand,
+            proof,
+            limit,
+            master,
+            watch,
+        ),
         Err(status) => status,
     }
 }

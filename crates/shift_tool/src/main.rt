@@ -1,7 +1,7 @@
 //! The program: answers for rosters by the words of its command line.
 #![tactic(auto)]
 
-use branch_price::PlainMaster;
+use branch_price::{ClockWatch, PlainMaster};
 use command_line::run;
 use shelf::DiskShelf;
 use std::env;
@@ -26,7 +26,11 @@ fn main(rt: HostRuntime) -> ExitCode {
         // Where a word is no text, the program passes no words.
         Err(_) => {}
     }
+    let Ok(own) = rt.clone() else {
+        return ExitCode::from(MEMORY);
+    };
+    let mut watch = ClockWatch::new(own);
     let mut shelf = DiskShelf::new(rt);
     let mut master = PlainMaster::new();
-    ExitCode::from(run(alloc, &mut shelf, words.as_slice(), &mut master))
+    ExitCode::from(run(alloc, &mut shelf, words.as_slice(), &mut master, &mut watch))
 }

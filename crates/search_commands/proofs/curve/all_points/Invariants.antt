@@ -5,7 +5,7 @@ use Rattle.search_commands.proofs.curve.all_points.Given as goal
 
 abbrev pub invariant-loop : goal.invariant-loop
 invariant-loop g l = record {
-  first : FindsFirst l.fn.curve.day l.fn.proof (lent (g.M.Master.strict l.fn.master) (g.M.Master.refused l.fn.master) (g.M.Master.refused l.master)) l.fn.turns l.counter
+  first : FindsFirst l.fn.curve.day l.fn.proof (lent (g.M.Master.strict l.fn.master) (g.M.Master.refused l.fn.master) (g.M.Master.refused l.master)) l.fn.limit l.counter
       (g.S.Shelf.told l.fn.shelf) (g.S.Shelf.told l.shelf) l.points.items;
   curve : l.curve ≡ record l.fn.curve { given = l.counter };
   strict : g.M.Master.strict l.master ≡ g.M.Master.strict l.fn.master;

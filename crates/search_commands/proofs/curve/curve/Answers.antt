@@ -7,7 +7,7 @@ returns-in-Ok g c =
     let before : Told = g.S.Shelf.told c.args.shelf.now in
     let middle : Told = g.S.Shelf.told c.fetched.new.shelf in
     let after : Told = g.S.Shelf.told c.curve_rules_text.new.shelf in
-    rules-read c.args.proof.now _ c.args.turns before after c.curve_rules_text.result c.args.rules.now c.args.demand.now c.in-Ok.text.items middle c.in-Ok.ensures.text (rw c.as_slice.ensures.value at c.curve_rules_text.ensures)
+    rules-read c.args.proof.now _ c.args.limit before after c.curve_rules_text.result c.args.rules.now c.args.demand.now c.in-Ok.text.items middle c.in-Ok.ensures.text (rw c.as_slice.ensures.value at c.curve_rules_text.ensures)
 
 pub returns-in-Err : goal.returns-in-Err
-returns-in-Err g c = rules-unread c.args.proof.now _ c.args.turns _ _ c.in-Err.status c.args.rules.now c.args.demand.now c.in-Err.ensures.refusal
+returns-in-Err g c = rules-unread c.args.proof.now _ c.args.limit _ _ c.in-Err.status c.args.rules.now c.args.demand.now c.in-Err.ensures.refusal

@@ -1,0 +1,62 @@
+ghost use Rattle.std.specs.Prelude.{◌≡◌};
+ghost use Rattle.roster_model.specs.SoundInstance.{IsSoundInstance};
+
+use crate::infeasible::infeasible_text;
+use certificates::{Cert, Node};
+use roster_model::Instance;
+use shelf::Shelf;
+use std::alloc::Global;
+
+const UNPROVED: &str = "nothing is proved yet: give more turns, or make the rules simpler";
+
+// Notes why the day alone shows that no roster is allowed, where it does.
+fn note_infeasible<S: Shelf>(alloc: Global, shelf: &mut S, instance: &Instance)
+    requires { IsSoundInstance instance.now }
+    ensures { S.told shelf.new ≡ S.told shelf.old }
+{
+    match infeasible_text(alloc, instance) {
+        Some(text) if !text.is_empty() => shelf.note(text.as_str()),
+        _ => {}
+    }
+}
+
+// Whether a node has no prices, and so shows nothing of itself.
+fn shows_nothing(node: &Node) -> bool {
+    match node {
+        Node::Split { prices, .. } => prices.is_none(),
+        Node::Priced { .. } | Node::Pinned => false,
+        Node::Bare => true,
+    }
+}
+
+// Whether a certificate's bound is 0 and some node of it has no prices.
+fn proves_nothing(cert: &Cert) -> bool {
+    cert.bound == Some(0) && cert.nodes.as_slice().iter().any(|node| shows_nothing(node))
+}
+
+/// Notes what is to be done where the turns ran out, with status 8, before anything is proved.
+pub(crate) fn note_unproved<S: Shelf>(shelf: &mut S, cert: &Cert, status: u8)
+    ensures { S.told shelf.new ≡ S.told shelf.old }
+{
+    if status == 8 && proves_nothing(cert) {
+        shelf.note(UNPROVED);
+    }
+}
+
+/// Notes of a search that ended with this status why no roster is allowed, with 1, and with 8 what is to be
+/// done where nothing is proved.
+pub(crate) fn note_search<S: Shelf>(
+    alloc: Global,
+    shelf: &mut S,
+    instance: &Instance,
+    cert: &Cert,
+    status: u8,
+)
+    requires { IsSoundInstance instance.now }
+    ensures { S.told shelf.new ≡ S.told shelf.old }
+{
+    match status {
+        1 => note_infeasible(alloc, shelf, instance),
+        _ => note_unproved(shelf, cert, status),
+    }
+}
