@@ -136,6 +136,21 @@ words: none of the forms
 > solve g1 q1 p 010
 < 2
 words: none of the forms
+> solve g1 q1 p 0s
+< 2
+words: none of the forms
+> solve g1 q1 p 86401s
+< 2
+words: none of the forms
+> solve g1 q1 p s
+< 2
+words: none of the forms
+> solve g1 q1 p 5ss
+< 2
+words: none of the forms
+> make 7 p 5S
+< 2
+words: none of the forms
 > solve g1 q1 p
 < 2
 words: none of the forms

@@ -6,6 +6,8 @@ mod answer_tests;
 #[cfg(test)]
 mod check_tests;
 #[cfg(test)]
+mod notes_tests;
+#[cfg(test)]
 mod page_tests;
 #[cfg(test)]
 mod refused_tests;

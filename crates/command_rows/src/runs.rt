@@ -1,7 +1,7 @@
 //! Runs of the program over shelves in memory, and transcripts of what it answers.
 
 use crate::texts::TEXTS;
-use branch_price::PlainMaster;
+use branch_price::{PlainMaster, TurnWatch};
 use command_line::run;
 use shelf::MemoryShelf;
 use std::alloc::{AllocError, Global};
@@ -41,7 +41,13 @@ fn words_of(alloc: Global, line: &str) -> Result<Vec<String>, AllocError> {
 /// Runs the program on the words of a line, and returns its status.
 pub fn answer(alloc: Global, shelf: &mut MemoryShelf, line: &str) -> Result<u8, AllocError> {
     let words = words_of(alloc, line)?;
-    Ok(run(alloc, shelf, words.as_slice(), &mut PlainMaster::new()))
+    Ok(run(
+        alloc,
+        shelf,
+        words.as_slice(),
+        &mut PlainMaster::new(),
+        &mut TurnWatch::new(),
+    ))
 }
 
 /// Whether a line was said.

@@ -25,6 +25,19 @@ result turns
 bound 3
 processed 1
 failed 0
+> solve g2 q2 p 1s
+< 8
+result turns
+bound 3
+processed 1
+failed 0
+> solve g2 q2 p 86400s
+< 0
+result optimal
+cost 4
+> curve g2 q2 p 1s
+< 8
+curve 3
 > solve g2 exact p 8191
 < 1
 result none
@@ -92,6 +105,36 @@ fn have_lines(alloc: Global, transcript: &str) -> Result<(), Fail> {
 #[test]
 fn rosters_are_found(rt: HostRuntime) -> Result<(), Fail> {
     have_lines(rt.alloc(), FOUND)
+}
+
+/// Words of a search that a watch stops after some turns, which it counts as seconds, and those of one with as many
+/// turns.
+const STOPPED: &str = "solve g2 q2 p 1s > solve g2 q2 p 1
+solve g6 q7 p 2s > solve g6 q7 p 2
+make 7 p 1s > make 7 p 1
+";
+
+/// Whether both searches say the same, and store the same certificate under `p`.
+fn are_alike(alloc: Global, one: &str, other: &str) -> Result<bool, Fail> {
+    let mut first = shelf_of(alloc, &[])?;
+    let mut second = shelf_of(alloc, &[])?;
+    let status = answer(alloc, &mut first, one)?;
+    Ok(
+        answer(alloc, &mut second, other)? == status
+            && first.said() == second.said()
+            && first.text("p") == second.text("p"),
+    )
+}
+
+#[test]
+fn a_stopped_search_says_what_as_many_turns_say(rt: HostRuntime) -> Result<(), Fail> {
+    for line in STOPPED.lines() {
+        let (one, other) = line.split_once('>').unwrap_or((line, ""));
+        if !are_alike(rt.alloc(), one, other)? {
+            return Err(Fail::from(line));
+        }
+    }
+    Ok(())
 }
 
 /// The words of a search, and those that check a certificate that it stored.

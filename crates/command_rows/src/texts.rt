@@ -112,6 +112,20 @@ start S
 rule S 3 = 'a' T
 rule S 3 = 'a' T
 rule T 0 = 'a'
+@ late
+periods 2
+work a
+idle .
+start S
+rule S 1 = '.' 'a'
+@ free_pairs
+periods 3
+work a
+idle .
+start S
+rule S 0 = 'a' 'a' '.'
+rule S 0 = '.' 'a' 'a'
+rule S 0 = 'a' '.' 'a'
 @ cycle
 periods 4
 start A
@@ -153,6 +167,14 @@ most a 1 1 1
 heads 0 3
 need a 10 0 1 1 1
 least a 4 0 0
+@ early_floors
+heads 0 2
+need a 10 0 1 1
+least a 2 0
+most a 1 64
+@ pairs
+heads 0 3
+need a 10 1 1 1 1
 @ q3
 heads 0 12
 need a 30 1 0 0 0 0 1 1 2 2 3 3 2 2 1 1 2 2 3 3 2 2 1 1 0 0

@@ -33,6 +33,53 @@ pub const UNEVEN_DAY: DayParts<'static> = DayParts {
     ..PAIR_PARTS
 };
 
+/// The name of the one letter of work.
+const WORKED: Sym = Sym::Name(4);
+
+/// The name of the one letter of rest.
+const RESTED: Sym = Sym::Name(5);
+
+const NAMED_RULES: [RuleParts<'static>; 11] = [
+    (0, 0, &[Sym::Name(1)], ANY),
+    (0, 0, &[Sym::Name(2)], ANY),
+    (0, 0, &[Sym::Name(3)], ANY),
+    (1, 2, &[WORKED, RESTED, WORKED], ANY),
+    (1, 2, &[RESTED, WORKED, WORKED], ANY),
+    (2, 2, &[WORKED, RESTED, WORKED], ANY),
+    (2, 2, &[WORKED, WORKED, RESTED], ANY),
+    (3, 2, &[RESTED, WORKED, WORKED], ANY),
+    (3, 2, &[WORKED, WORKED, RESTED], ANY),
+    (4, 0, &[WORK], ANY),
+    (5, 0, &[REST], ANY),
+];
+
+/// [`PAIR_PARTS`] with three kinds of shifts, each of which rests at one of two periods, so that each word has
+/// two trees; work and rest have names of their own.
+pub const NAMED_DAY: DayParts<'static> = DayParts {
+    names: &["S", "E", "L", "M", "W", "R"],
+    rules: &NAMED_RULES,
+    ..PAIR_PARTS
+};
+
+const UNNAMED_RULES: [RuleParts<'static>; 9] = [
+    (0, 0, &[Sym::Name(1)], ANY),
+    (0, 0, &[Sym::Name(2)], ANY),
+    (0, 0, &[Sym::Name(3)], ANY),
+    (1, 2, &[WORK, REST, WORK], ANY),
+    (1, 2, &[REST, WORK, WORK], ANY),
+    (2, 2, &[WORK, REST, WORK], ANY),
+    (2, 2, &[WORK, WORK, REST], ANY),
+    (3, 2, &[REST, WORK, WORK], ANY),
+    (3, 2, &[WORK, WORK, REST], ANY),
+];
+
+/// The same without these names.
+pub const UNNAMED_DAY: DayParts<'static> = DayParts {
+    names: &["S", "E", "L", "M"],
+    rules: &UNNAMED_RULES,
+    ..PAIR_PARTS
+};
+
 const FULL_RULES: [RuleParts<'static>; 1] = [(0, 3, &[WORK, WORK], ANY)];
 
 const FULL_CELLS: [Cell; 2] = [

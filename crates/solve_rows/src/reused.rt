@@ -5,7 +5,7 @@ ghost use Rattle.roster_model.specs.SoundInstance.{IsSoundInstance};
 ghost use Rattle.parse_graph.specs.Graphs.{IsGraph};
 
 use bound_proof::read_cert;
-use branch_price::PlainMaster;
+use branch_price::{PlainMaster, SteadyWatch};
 use certificates::Cert;
 use demand_text::read_demand;
 use grammar_core::normalise;
@@ -178,7 +178,7 @@ fn graph_of(alloc: Global, day: &Instance) -> Result<Graph, Fail>
 fn point_of(graph: &Graph, curve: &mut Curve) -> Result<CurvePoint, Fail>
     requires { IsGraph curve.old.day.grammar graph.now }
 {
-    match curve.next(graph, 10, &mut PlainMaster::new())? {
+    match curve.next(graph, 10, &mut PlainMaster::new(), &mut SteadyWatch)? {
         Some(found) => Ok(CurvePoint::of(curve.instance().heads_max, &found)),
         None => Err(Fail::from("there is no point")),
     }

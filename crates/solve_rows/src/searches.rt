@@ -5,10 +5,12 @@ ghost use Rattle.certificates.specs.Sound.{IsSoundCert};
 ghost use Rattle.proof_check.specs.Benches.{IsBenchFor, node_room};
 
 use crate::days::{
-    CROWD_DAY, FLOOR_DAY, FREE_DAY, FULL_DAY, FULL_GROUP_DAY, IDLE_DAY, IDLE_GROUP_DAY, UNEVEN_DAY,
-    graph_of, long_day,
+    CROWD_DAY, FLOOR_DAY, FREE_DAY, FULL_DAY, FULL_GROUP_DAY, IDLE_DAY, IDLE_GROUP_DAY, NAMED_DAY,
+    UNEVEN_DAY, UNNAMED_DAY, graph_of, long_day,
 };
-use branch_price::{Done, FailingMaster, Found, Master, NearMaster, PlainMaster, Pool, search};
+use branch_price::{
+    Done, FailingMaster, Found, Master, NearMaster, PlainMaster, Pool, SteadyWatch, search,
+};
 use certificates::{Cert, Node};
 use parse_graph::Graph;
 use proof_check::{Bench, Verdict};
@@ -72,7 +74,15 @@ fn searched_in<M: Master>(
     ensures { IfOk result (λ f. IsSoundCert day.now f.cert) }
 {
     let mut pool = Pool::new(alloc);
-    let found = search(alloc, day, graph, turns, &mut pool, master)?;
+    let found = search(
+        alloc,
+        day,
+        graph,
+        turns,
+        &mut pool,
+        master,
+        &mut SteadyWatch,
+    )?;
     Ok(found)
 }
 
@@ -272,6 +282,22 @@ static PAIR_CASES: [Case<'static>; 3] = [
     },
 ];
 
+/// Pairs by three kinds of shifts.
+static LETTER_CASES: [Case<'static>; 2] = [
+    Case {
+        what: "letters with names",
+        parts: NAMED_DAY,
+        turns: 10,
+        processed: Some(3),
+        ..PAIRS
+    },
+    Case {
+        what: "letters without names",
+        parts: UNNAMED_DAY,
+        ..PAIRS
+    },
+];
+
 /// Days whose rosters are told word by word.
 static WORD_CASES: [Case<'static>; 2] = [
     Case {
@@ -394,6 +420,11 @@ fn show_all(alloc: Global, cases: &[Case<'_>]) -> Result<(), Fail> {
 #[test]
 fn rosters_of_pairs(rt: HostRuntime) -> Result<(), Fail> {
     show_all(rt.alloc(), &PAIR_CASES)
+}
+
+#[test]
+fn splits_on_letters(rt: HostRuntime) -> Result<(), Fail> {
+    show_all(rt.alloc(), &LETTER_CASES)
 }
 
 #[test]
