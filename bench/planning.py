@@ -1,5 +1,5 @@
 #!/usr/bin/env python3
-"""Checks docs/PLANNING.md: its rules and demands against examples/, its commands against the program.
+"""Checks docs/PLANNING.md and README.md: their rules and demands against examples/, their commands against the program.
 
 A block that is headed `rules FILE` or `demand FILE` must stand in that file, line for line. The commands
 of a `console` block are run as a shell runs them, in a folder with `examples` and `roster`, and what they
@@ -17,24 +17,27 @@ import tempfile
 
 TOP = pathlib.Path(__file__).resolve().parent.parent
 PAGE = (TOP / "docs" / "PLANNING.md").read_text()
+README = (TOP / "README.md").read_text()
 PROGRAM = TOP / "crates" / "shift_tool" / "out" / "shift_tool"
 RULES, DEMAND = "examples/shop.rules", "examples/shop.demand"
+# What a search that takes long notes of itself.
+PROGRESS = re.compile(r"^(?:solve|make|curve): .*, \d+ s(?: of \d+)?\n", re.M)
 TILL = "need t 60 5 1 1 1 1 1 1 1 2 2 2 1 1"
 
 # The faults of the page's table: the file, what is replaced in it, and by what.
 FAULTS = {
     "bad byte": (RULES, "idle . m", "idle . \u00e9"),
     "unknown line": (RULES, "start Day", "begin Day"),
-    "bad number": (RULES, "rule Till 15 = 't'\n", "rule Till 1.5 = 't'\n"),
+    "bad number": (RULES, "rule Till 15 = AtTill\n", "rule Till 1.5 = AtTill\n"),
     "out of range": (RULES, "len 8 9", "len 9 8"),
     "bad name": (RULES, "start Day", "start len"),
     "said twice": (RULES, "start Day", "start Day\nstart Day"),
     "unknown code": (RULES, "'m'", "'p'"),
-    "empty right side": (RULES, "rule Off 0 = '.'\n", "rule Off 0 =\n"),
+    "empty right side": (RULES, "rule Off 0 = Free\n", "rule Off 0 =\n"),
     "too many codes, at most 32": (RULES, "idle . m", "idle . m " + " ".join("ABCDEFGHIJKLMNOPQRSTUVWXYZ01")),
     "a name has no rule": (RULES, "rule Day 0 = Off Duty\n", "rule Day 0 = Of Duty\n"),
     "a name leads back to itself by one-symbol rules": (
-        RULES, "rule Off 0 = '.'\n", "rule Off 0 = '.'\nrule Off 0 = Off\n"),
+        RULES, "rule Off 0 = Free\n", "rule Off 0 = Free\nrule Off 0 = Off\n"),
     "no periods line": (RULES, "periods 12\n", ""),
     "no start line": (RULES, "start Day\n", ""),
     "not a work code": (DEMAND, "need t", "need m"),
@@ -52,12 +55,12 @@ MANY = {
     "work codes": (8, "work t c s", "work t c s A B C D E F"),
     "names": (32, "start Day", "start Day\n" + "".join(f"rule N{n} 0 = 't'\n" for n in range(32))),
     "rules": (64, "start Day", "start Day\n" + "rule Day 0 = 't'\n" * 64),
-    "symbols": (8, "rule Off 0 = '.'\n", "rule Off 0 = " + "'.' " * 9 + "\n"),
+    "symbols": (8, "rule Off 0 = Free\n", "rule Off 0 = " + "Free " * 9 + "\n"),
 }
 
 
 def blocks():
-    return re.findall(r"^```(\w+)(?: (\S+))?\n(.*?)^```$", PAGE, re.M | re.S)
+    return re.findall(r"^```(\w+)(?: (\S+))?\n(.*?)^```$", README + PAGE, re.M | re.S)
 
 
 def is_in_examples(name, text):
@@ -81,7 +84,7 @@ def is_as_shown(shown, said):
 def run(command, folder):
     text = command.replace("/tmp/", f"{folder}/")
     done = subprocess.run(["sh", "-c", text], cwd=folder, capture_output=True)
-    return done.stdout.decode() + done.stderr.decode()
+    return done.stdout.decode() + PROGRESS.sub("", done.stderr.decode())
 
 
 def edited(file, old, new, folder):
@@ -103,7 +106,8 @@ def wrong_faults(folder):
         said = edited(file, old, new, folder)
         if not re.fullmatch(rf"{pathlib.Path(file).suffix[1:]}: (line \d+: )?{re.escape(fault)}\n", said):
             yield f"{fault}: {said!r}"
-    if said := run(f"./roster solve /tmp/absent {DEMAND} /tmp/edited.proof 1", folder):
+    said = run(f"./roster solve /tmp/absent {DEMAND} /tmp/edited.proof 1", folder)
+    if said != f"{folder}/absent: no such file\n":
         yield f"an absent file: {said!r}"
 
 
@@ -128,8 +132,8 @@ def main():
     else:
         print("the program is not built (run ./roster once): no command is checked")
     if wrong:
-        sys.exit("\n".join(["docs/PLANNING.md is wrong:", *wrong]))
-    print("docs/PLANNING.md is right" + (" in its rules and demands" if not program.exists() else ""))
+        sys.exit("\n".join(["README.md or docs/PLANNING.md is wrong:", *wrong]))
+    print("README.md and docs/PLANNING.md are right" + (" in their rules and demands" if not program.exists() else ""))
 
 
 if __name__ == "__main__":
