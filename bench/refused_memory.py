@@ -2,8 +2,8 @@
 """Refuses each allocation of a run in turn, from outside, once `main` has begun: refused_memory.py [PROGRAM]
 
 `explain`, `check`, `solve` and `make` run on the examples with an allocator that is loaded before the C library, and
-that refuses the allocation of one number. A run has to end with status 7 or 6 and say nothing, or with the status and
-the text of the run in which nothing is refused. Prints how many runs it made of each command, and how they ended;
+that refuses the allocation of one number. A run has to end with status 7 or 6 and say nothing on standard output, or
+with the status and the text of the run in which nothing is refused; notes on standard error do not count. Prints how many runs it made of each command, and how they ended;
 fails at the first that ended otherwise. It wants gcc. The program is crates/shift_tool/out/shift_tool, which ./roster
 or the gate builds, or the one that is named.
 """
@@ -109,14 +109,14 @@ def texts(folder):
 
 
 def ran(program, words, folder, library=None, number=0):
-    """How a run ended, what it said on both outputs, and whether an allocation was refused."""
+    """How a run ended, what it said on standard output, and whether an allocation was refused."""
     mark = folder.parent / "refused"
     mark.unlink(missing_ok=True)
     environment = dict(os.environ)
     if library is not None:
         environment |= {"LD_PRELOAD": str(library), "REFUSED_ALLOCATION": str(number), "REFUSED_MARK": str(mark)}
     run = subprocess.run([program, *words], cwd=folder, env=environment, capture_output=True, timeout=SECONDS)
-    return (run.returncode, run.stdout, run.stderr), mark.exists()
+    return (run.returncode, run.stdout), mark.exists()
 
 
 def refuse_each(program, words, folder, library):
@@ -129,7 +129,7 @@ def refuse_each(program, words, folder, library):
             if end != whole:
                 sys.exit(f"{' '.join(words)}: with nothing refused {end}, and without the allocator {whole}")
             return ends
-        if end != whole and not (end[0] in (6, 7) and end[1:] == (b"", b"")):
+        if end != whole and not (end[0] in (6, 7) and end[1] == b""):
             sys.exit(f"{' '.join(words)}: allocation {number} refused: {end}")
         ends["the answer" if end == whole else f"status {end[0]}"] += 1
         number += 1
