@@ -3,7 +3,9 @@
 
 mod choice;
 mod denominator;
+mod raw;
 mod sums;
 mod weighed;
 
+pub use raw::farthest_from_whole;
 pub use weighed::{Weighed, weigh};

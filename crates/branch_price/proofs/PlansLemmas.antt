@@ -31,11 +31,12 @@ use Rattle.node_master.specs.Ends.{AreLeastWeights, AreSolved, IsBest, IsNear}
 use Rattle.roster_split.specs.Counts.{count_of}
 use Rattle.arc_weights.specs.declared.weighed.Weighed.TheVariants.{Whole, Between, Other}
 use Rattle.arc_weights.specs.Weighed.{IsWeighed, AreWhole}
+use Rattle.arc_weights.proofs.Steps.{get_some}
 use Rattle.open_nodes.specs.declared.leaf.Plan.{Plan}
 use Rattle.search_tree.specs.Trees.{IsPlan}
 use Rattle.offers.specs.Offers.{CanBeTrees, Reach}
 use Rattle.branch_price.specs.declared.solved.Solved.{Solved}
-use Rattle.branch_price.specs.Plans.{IsPlanAt}
+use Rattle.branch_price.specs.Plans.{IsPlanAt, IsPlanLeft}
 use Rattle.branch_price.specs.Solutions.{IsSolvedBy, IsShown}
 use Rattle.branch_price.proofs.StepsLemmas.{mid-split, loose-bounds}
 
@@ -90,6 +91,23 @@ least-plan i v cuts prices loose box plan graph left is at sharp =
       at = ap (λ (n : ℕ). slice_get v.arcs n) at.same ∙ is.1;
       splits = mid-split i v cuts box left loose is graph is.0 plan.b is.1 (omega (arith, e)) (omega (arith, e, lt));
       sharp = sharp is.0 plan.b;
+    }
+
+-- a split of an arc to which the box leaves both halves
+pub left-plan : (i : Instance) (v : GraphView) (cuts : List Cut) (prices : Prices) (box : BoxView) (plan : Plan) → IsGraph i.grammar v
+    → IsBoxOf i v cuts box → IsPlanLeft box plan → IsSharpAnywhere i cuts prices → IsPlan i v cuts prices plan
+left-plan i v cuts prices box plan graph left is sharp =
+    let some = get_some v.arcs plan.arc (subst (λ (n : ℕ). plan.arc < n) left.made.arcs is.at) in
+    let l = left.low plan.arc some.0 some.1 in
+    let h = left.high plan.arc some.0 some.1 in
+    let low = is.low in
+    let high = is.high in
+    let loose : IsLooseAt i v cuts plan.arc = (some.0, some.1, omega (arith, l, h, low, high)) in
+    record {
+      key = some.0;
+      at = some.1;
+      splits = mid-split i v cuts box left plan.arc loose graph some.0 plan.b some.1 low high;
+      sharp = sharp some.0 plan.b;
     }
 
 -- there is a count for each arc

@@ -6,14 +6,15 @@ ghost use Rattle.tree_pool.specs.Pools.{IsPool, IsGrown};
 ghost use Rattle.candidate_rosters.specs.Rosters.{IsGoodRoster, IsDeskFor};
 ghost use Rattle.offers.specs.Offers.{limit_of, IsBetter};
 ghost use Rattle.search_tree.specs.Trees.{IsPlan};
-ghost use Rattle.branch_price.specs.Plans.{IsPlanAt};
+ghost use Rattle.node_master.specs.Ends.{AreSolved};
+ghost use Rattle.branch_price.specs.Plans.{IsPlanAt, IsPlanLeft};
 ghost use Rattle.branch_price.specs.Solutions.{IsShown};
 
 use crate::preferred::preferred_arc;
 use crate::rounded::offer_rounded;
 use crate::solved::Solved;
 use arc_branch::ArcBox;
-use arc_weights::{Weighed, weigh};
+use arc_weights::{Weighed, farthest_from_whole, weigh};
 use candidate_rosters::{Roster, RosterDesk};
 use node_master::Pool;
 use offers::{limit, offer_counts};
@@ -34,9 +35,47 @@ fn at_least(arc_box: &ArcBox, arc: u32) -> Plan
     }
 }
 
+// Returns where a node is split whose arcs' weights are all nearly whole, and whose nearest counts do not close it: on
+// the arc that weighs farthest from a whole number as the weights stand, or else on the arc `loose`.
+fn plan_by_weights(
+    alloc: Global,
+    instance: &Instance,
+    graph: &Graph,
+    cuts: &[Cut],
+    arc_box: &ArcBox,
+    loose: u32,
+    solved: &Solved,
+    pool: &Pool,
+) -> Result<Plan, Memory>
+    requires sound { IsSoundInstance instance.now }
+    requires graph { IsGraph instance.now.grammar graph.now }
+    requires left { IsBoxOf instance.now graph.now cuts.now arc_box.now }
+    requires loose { IsLooseAt instance.now graph.now cuts.now loose }
+    requires pool { IsPool instance.now.grammar pool.now }
+    requires weights { AreSolved solved.now.solution instance.now cuts.now pool.now solved.now.weights }
+    ensures { IfOk result (IsPlanLeft arc_box.now) }
+{
+    let weights = solved.weights.as_slice();
+    let farthest = farthest_from_whole(
+        alloc,
+        instance,
+        graph,
+        cuts,
+        arc_box,
+        pool,
+        weights,
+        solved.solution,
+    )?;
+    match farthest {
+        Some((arc, b)) => Ok(Plan { arc, b }),
+        None => Ok(at_least(arc_box, loose)),
+    }
+}
+
 /// Returns where a node is to be split, from the weights of the trees at its solution; `None` where its
 /// prices show no less than the best roster costs. Where the weights of the arcs are whole, or nearly so, their
-/// roster is offered first. The arc of the number `loose` is left more than one count.
+/// roster is offered first; where it does not close the node, the weights as they stand decide. The arc of the number
+/// `loose` is left more than one count.
 pub(crate) fn plan_for(
     alloc: Global,
     instance: &Instance,
@@ -89,6 +128,7 @@ pub(crate) fn plan_for(
             Ok(Some(Plan { arc, b }))
         }
         Weighed::Whole(counts) => {
+            let plan = plan_by_weights(alloc, instance, graph, cuts, arc_box, loose, solved, pool)?;
             offer_counts(
                 alloc,
                 instance,
@@ -101,7 +141,7 @@ pub(crate) fn plan_for(
             if limit(instance, best) <= value {
                 Ok(None)
             } else {
-                Ok(Some(at_least(arc_box, loose)))
+                Ok(Some(plan))
             }
         }
         Weighed::Other => Ok(Some(at_least(arc_box, loose))),

@@ -8,7 +8,7 @@ use crate::days::{graph_of, master_day};
 use crate::first::solve;
 use crate::masters::{Lent, PAIR_DAY, lent_for};
 use arc_branch::ArcBox;
-use arc_weights::{Weighed, weigh};
+use arc_weights::{Weighed, farthest_from_whole, weigh};
 use node_master::{First, NodeEnd, Solution, Weight};
 use open_nodes::Plan;
 use parse_graph::Graph;
@@ -117,12 +117,57 @@ fn splits_preferred(alloc: Global, day: &Instance) -> Result<bool, Fail>
     Ok(graph.arcs().len() == ARCS as usize)
 }
 
+/// Returns the arc that weighs farthest from a whole number at the root's near end.
+fn farthest_with(
+    alloc: Global,
+    day: &Instance,
+    graph: &Graph,
+    lent: &mut Lent,
+) -> Result<Option<(u32, u32)>, Fail>
+    requires day { IsMasterDay day.now }
+    requires graph { IsGraph day.now.grammar graph.now }
+    requires lent { AreLent day.now graph.now lent.old.pricer lent.old.pool }
+{
+    let weights = near_weights(alloc, day, graph, lent)?;
+    let arc_box = ArcBox::new(alloc, day, graph)?;
+    let farthest = farthest_from_whole(
+        alloc,
+        day,
+        graph,
+        &[],
+        &arc_box,
+        &lent.pool,
+        weights.as_slice(),
+        Solution::Near,
+    )?;
+    Ok(farthest)
+}
+
+/// Whether an arc of the day is farthest from a whole number, above 0.
+fn has_farthest(alloc: Global, day: &Instance) -> Result<bool, Fail>
+    requires { IsMasterDay day.now }
+{
+    let graph = graph_of(alloc, &day.grammar)?;
+    let mut lent = lent_for(alloc, day, &graph)?;
+    match farthest_with(alloc, day, &graph, &mut lent)? {
+        Some((arc, b)) => Ok(arc < ARCS && b == 0),
+        None => Ok(false),
+    }
+}
+
 // The three trees weigh a half each, and no two share an arc: the trees of each arc weigh a half together, which is
 // well between 0 and 1, so the lengths decide.
 #[test]
 fn near_halves_split_a_longest_arc(rt: HostRuntime) -> Result<(), Fail> {
     let day = master_day(rt.alloc(), &PAIR_DAY)?;
     assert!(rt; splits_longest(rt.alloc(), &day)?);
+    Ok(())
+}
+
+#[test]
+fn near_halves_are_farthest_from_whole(rt: HostRuntime) -> Result<(), Fail> {
+    let day = master_day(rt.alloc(), &PAIR_DAY)?;
+    assert!(rt; has_farthest(rt.alloc(), &day)?);
     Ok(())
 }
 

@@ -10,7 +10,7 @@ use Rattle.arc_weights.specs.declared.weighed.Weighed.{Weighed}
 use Rattle.arc_weights.specs.declared.weighed.Weighed.TheVariants.{Whole, Between, Other}
 use Rattle.offers.specs.Offers.{limit_of}
 use Rattle.branch_price.proofs.StepsLemmas.{loose-within}
-use Rattle.branch_price.proofs.PlansLemmas.{Reaches, weights-of, between-plan, other-anywhere, whole-each, whole-anywhere, least-plan}
+use Rattle.branch_price.proofs.PlansLemmas.{Reaches, weights-of, between-plan, other-anywhere, whole-each, whole-anywhere, left-plan, least-plan}
 use Rattle.branch_price.proofs.choose.plan_for.Goals as goal
 
 pub preferred_arc-requires-clause-cuts : goal.preferred_arc-requires-clause-cuts
@@ -50,10 +50,10 @@ offer_counts-requires-clause-counts c =
     (subst (λ (x : Weighed). IsWeighed i v cuts pool c.as_slice-weights.result.now s.solution x) c.in-Whole.is c.in_ok-arc.ensures) in
     subst (λ (xs : List ℕ). length xs ≡ length v.arcs) (sym c.as_slice.ensures) (whole-each s.solution i v cuts pool s.weights c.in-Whole.counts told)
 
-pub at_least-requires : goal.at_least-requires
-at_least-requires c =
-    let lt = loose-within c.args.instance.now c.args.graph.now c.args.cuts.now c.args.arc_box.now c.requires.left c.args.loose c.requires.loose in
-    subst (λ (n : ℕ). c.args.loose < n) (sym c.requires.left.made.arcs) lt
+pub plan_by_weights-requires-clause-weights : goal.plan_by_weights-requires-clause-weights
+plan_by_weights-requires-clause-weights c =
+    let s = c.args.solved.now in
+    weights-of s.solution c.args.instance.now c.args.cuts.now c.args.pool.now s.prices s.weights c.requires.shown.solved.how
 
 pub returns-in-Whole-clause-plan : goal.returns-in-Whole-clause-plan
 returns-in-Whole-clause-plan c =
@@ -66,11 +66,11 @@ returns-in-Whole-clause-plan c =
     (subst (λ (x : Weighed). IsWeighed i v cuts pool c.as_slice-weights.result.now s.solution x) c.in-Whole.is c.in_ok-arc.ensures) in
     let limit = limit_of i c.offer_counts.new.best in
     let reaches : Reaches i v c.in-Whole.counts limit = subst (λ (xs : List ℕ). Reaches i v xs limit) c.as_slice.ensures c.in_ok-offer_counts-in-Whole.ensures.reached in
-    least-plan i v cuts s.prices c.args.loose c.args.arc_box.now c.at_least.result c.requires.graph c.requires.left c.requires.loose c.at_least.ensures
+    left-plan i v cuts s.prices c.args.arc_box.now c.in_ok-plan-in-Whole.plan c.requires.graph c.requires.left c.in_ok-plan-in-Whole.ensures
     (whole-anywhere i v cuts pool s c.args.value limit c.in-Whole.counts c.requires.sound c.requires.graph c.requires.shown told reaches (rw c.limit-in-Whole.ensures at c.if-limit-value-2.false))
 
-pub at_least-requires-in-Other : goal.at_least-requires-in-Other
-at_least-requires-in-Other c =
+pub at_least-requires : goal.at_least-requires
+at_least-requires c =
     let lt = loose-within c.args.instance.now c.args.graph.now c.args.cuts.now c.args.arc_box.now c.requires.left c.args.loose c.requires.loose in
     subst (λ (n : ℕ). c.args.loose < n) (sym c.requires.left.made.arcs) lt
 
@@ -83,5 +83,5 @@ returns-clause-plan c =
     let s = c.args.solved.now in
     let told = subst (λ (ws : List Weight). IsWeighed i v cuts pool ws s.solution (Other)) c.as_slice-weights.ensures
     (subst (λ (x : Weighed). IsWeighed i v cuts pool c.as_slice-weights.result.now s.solution x) c.in-Other.is c.in_ok-arc.ensures) in
-    least-plan i v cuts s.prices c.args.loose c.args.arc_box.now c.at_least-in-Other.result c.requires.graph c.requires.left c.requires.loose c.at_least-in-Other.ensures
+    least-plan i v cuts s.prices c.args.loose c.args.arc_box.now c.at_least.result c.requires.graph c.requires.left c.requires.loose c.at_least.ensures
     (other-anywhere s.solution i v cuts pool s.prices s.weights c.requires.shown.solved.how told)

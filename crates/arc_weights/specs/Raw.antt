@@ -1,0 +1,14 @@
+-- The weights of near trees as they stand.
+use Rattle.std.specs.Prelude.{ℕ, ◌<◌, ◌≤◌, List, length}
+use Rattle.arc_branch.specs.declared.bounds.Bounds.{Bounds}
+use Rattle.arc_branch.specs.Boxes.{bounds_at}
+use Rattle.arc_weights.specs.declared.raw.Open.{Open}
+
+-- the box leaves the arc this count and the next one
+pub record IsLeftBoth (bounds : List Bounds) (choice : ℕ × ℕ) : Type 0 where
+  pub at : choice.0 < length bounds
+  pub low : (bounds_at bounds choice.0).low ≤ choice.1
+  pub high : choice.1 < (bounds_at bounds choice.0).high
+
+abbrev pub IsOpen : List Bounds → Open → Type 0
+IsOpen bounds o = IsLeftBoth bounds (o.arc, o.b)
