@@ -1,3 +1,4 @@
 pub mod Shelf
+pub mod Stores
 pub mod Memory
 pub mod Stream

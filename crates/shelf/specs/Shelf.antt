@@ -18,7 +18,7 @@ texts_code = fin.code (coded_list coded_ℕ) (coded_list coded_ℕ)
 
 -- What a shelf tells of itself at one moment: the bytes under each name and all bytes that were said,
 -- where it tells them; how often the outside refused a call; and whether it is steady, so that no
--- further call fails but the fetch of an absent name.
+-- further call fails but the fetch of an absent name and the store over a text that is no certificate.
 pub record Told : Type 0 where
   pub held : Option Texts
   pub said : Option (List ℕ)

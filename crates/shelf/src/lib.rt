@@ -8,6 +8,7 @@ mod fault;
 mod heard;
 mod memory;
 mod quiet;
+mod replaceable;
 mod shelf;
 mod stream;
 mod texts;

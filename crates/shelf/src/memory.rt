@@ -2,11 +2,13 @@ ghost use Rattle.std.specs.Prelude.{◌≡◌, ◌≤◌, ◌⊎◌, ◌/◌, []
 ghost use Rattle.std.specs.List.{list_any};
 ghost use Rattle.std.specs.Option.{option_copied};
 ghost use Rattle.std.specs.FinMap as fin;
-ghost use Rattle.shelf.specs.Shelf.{AgreesElsewhere, Begins, Fetched, HasCause, SaidPart, most_faults};
+ghost use Rattle.shelf.specs.Shelf.{AgreesElsewhere, Begins, Fetched, HasCause, SaidPart, most_faults, one_more};
+ghost use Rattle.shelf.specs.Stores.{may_store};
 ghost use Rattle.shelf.specs.Memory.{called, is_steady, next_fails, refused};
 
 use crate::fault::ShelfFault;
 use crate::quiet::QuietShelf;
+use crate::replaceable::LEFT;
 use crate::shelf::Shelf;
 use roster_model::Memory;
 use std::alloc::Global;
@@ -14,7 +16,8 @@ use std::marker::Model;
 
 /// A shelf in memory that also refuses the calls with the listed numbers.
 ///
-/// The calls of `fetch`, `store` and `say` count from 1. It keeps its notes, of which contracts see nothing.
+/// The calls of `fetch`, `store` and `say` count from 1; those of `may_store` have no number. It keeps its
+/// notes, of which contracts see nothing.
 #[derive(Drop)]
 pub struct MemoryShelf {
     alloc: Global,
@@ -106,13 +109,13 @@ impl MemoryShelf {
         }
     }
 
-    // Notes that a name is absent, where its fetch failed, and passes the fault on.
-    fn noted(&mut self, name: &str, fault: ShelfFault) -> ShelfFault
+    // Notes why a call failed, where it did, and passes the fault on.
+    fn noted(&mut self, name: &str, why: &str, fault: ShelfFault) -> ShelfFault
         ensures fault { result ≡ fault }
         ensures same { self.new ≡ self.old }
     {
         if fault == ShelfFault::Failed {
-            self.note_refusal(name, "no such file");
+            self.note_refusal(name, why);
         }
         fault
     }
@@ -172,30 +175,50 @@ impl Shelf for MemoryShelf {
         }
         match self.shelf.fetch(name, into) {
             Ok(()) => Ok(()),
-            Err(fault) => Err(self.noted(name, fault)),
+            Err(fault) => Err(self.noted(name, "no such file", fault)),
+        }
+    }
+
+    fn may_store(&mut self, name: &str) -> Result<(), ShelfFault>
+        ensures ok { OnOk result (IsTrue (may_store self.old.held name.now) × (self.new ≡ self.old)) }
+        ensures err { OnErr result ((result ≡ Err ShelfFault.Failed)
+            × (may_store self.old.held name.now ≡ false)
+            × (self.new ≡ record self.old { faults = one_more self.old.faults })) }
+        ensures cause { HasCause self.old.faults self.new.faults result }
+        ensures bounded { self.new.faults ≤ most_faults }
+        ensures stays_steady { IsTrue (is_steady self.old) → IsTrue (is_steady self.new) }
+    {
+        match self.shelf.may_store(name) {
+            Ok(()) => Ok(()),
+            Err(fault) => Err(self.noted(name, LEFT, fault)),
         }
     }
 
     fn store(&mut self, name: &str, bytes: &[u8]) -> Result<(), ShelfFault>
-        ensures ok { OnOk result ((next_fails self.old ≡ false)
+        ensures ok { OnOk result ((next_fails self.old ≡ false) × IsTrue (may_store self.old.held name.now)
             × (self.new ≡ record (called self.old) {
               held = fin.insert self.old.held name.now bytes.now;
             })) }
         ensures failed { result ≡ Err ShelfFault.Failed →
-            IsTrue (next_fails self.old) × (self.new ≡ refused self.old) }
-        ensures memory { result ≡ Err ShelfFault.Memory →
-            (next_fails self.old ≡ false) × (self.new ≡ called self.old) }
+            (IsTrue (next_fails self.old) ⊎ (may_store self.old.held name.now ≡ false))
+            × (self.new ≡ refused self.old) }
+        ensures memory { result ≡ Err ShelfFault.Memory → (next_fails self.old ≡ false)
+            × IsTrue (may_store self.old.held name.now) × (self.new ≡ called self.old) }
         ensures others { AgreesElsewhere name.now self.old.held self.new.held }
         ensures cause { HasCause self.old.faults self.new.faults result }
         ensures bounded { self.new.faults ≤ most_faults }
         ensures stays_steady { IsTrue (is_steady self.old) → IsTrue (is_steady self.new) }
-        ensures quiet { IsTrue (is_steady self.old) → self.new.faults ≡ self.old.faults }
+        ensures quiet { IsTrue (is_steady self.old) → IsTrue (may_store self.old.held name.now)
+            → self.new.faults ≡ self.old.faults }
     {
         if self.next_call_fails() {
             self.note_refusal(name, "refused");
             return Err(self.shelf.refuse());
         }
-        self.shelf.store(name, bytes)
+        match self.shelf.store(name, bytes) {
+            Ok(()) => Ok(()),
+            Err(fault) => Err(self.noted(name, LEFT, fault)),
+        }
     }
 
     fn say(&mut self, bytes: &[u8]) -> Result<(), ShelfFault>

@@ -1,7 +1,8 @@
-ghost use Rattle.std.specs.Prelude.{◌≡◌, ◌≤◌, [], ◌++◌, Err, None, IsSome, OnOk, OnErr};
+ghost use Rattle.std.specs.Prelude.{◌≡◌, ◌≤◌, [], ◌++◌, Err, None, false, IsSome, IsTrue, OnOk, OnErr};
 ghost use Rattle.std.specs.Option.{option_copied};
 ghost use Rattle.std.specs.FinMap as fin;
 ghost use Rattle.shelf.specs.Shelf.{AgreesElsewhere, Fetched, HasCause, one_more, most_faults};
+ghost use Rattle.shelf.specs.Stores.{may_store};
 
 use crate::fault::ShelfFault;
 use crate::shelf::Shelf;
@@ -10,7 +11,8 @@ use roster_model::Memory;
 use std::alloc::Global;
 use std::marker::Model;
 
-/// A shelf in memory that refuses nothing but the fetch of an absent name, and keeps no notes.
+/// A shelf in memory that refuses nothing but the fetch of an absent name and the store over a text that is
+/// no certificate. It keeps no notes.
 #[derive(Drop)]
 pub struct QuietShelf {
     held: TextMap,
@@ -115,14 +117,35 @@ impl Shelf for QuietShelf {
         Ok(())
     }
 
-    fn store(&mut self, name: &str, bytes: &[u8]) -> Result<(), ShelfFault>
-        ensures ok { OnOk result (self.new ≡ record self.old {
-          held = fin.insert self.old.held name.now bytes.now;
-        }) }
-        ensures err { OnErr result ((result ≡ Err ShelfFault.Memory) × (self.new ≡ self.old)) }
-        ensures others { AgreesElsewhere name.now self.old.held self.new.held }
+    fn may_store(&mut self, name: &str) -> Result<(), ShelfFault>
+        ensures ok { OnOk result (IsTrue (may_store self.old.held name.now) × (self.new ≡ self.old)) }
+        ensures err { OnErr result ((result ≡ Err ShelfFault.Failed)
+            × (may_store self.old.held name.now ≡ false)
+            × (self.new ≡ record self.old { faults = one_more self.old.faults })) }
+        ensures cause { HasCause self.old.faults self.new.faults result }
         ensures bounded { self.new.faults ≤ most_faults }
     {
+        if self.held.may_store(name) {
+            return Ok(());
+        }
+        Err(self.refuse())
+    }
+
+    fn store(&mut self, name: &str, bytes: &[u8]) -> Result<(), ShelfFault>
+        ensures ok { OnOk result (IsTrue (may_store self.old.held name.now) × (self.new ≡ record self.old {
+          held = fin.insert self.old.held name.now bytes.now;
+        })) }
+        ensures failed { result ≡ Err ShelfFault.Failed → (may_store self.old.held name.now ≡ false)
+            × (self.new ≡ record self.old { faults = one_more self.old.faults }) }
+        ensures memory { result ≡ Err ShelfFault.Memory → IsTrue (may_store self.old.held name.now)
+            × (self.new ≡ self.old) }
+        ensures others { AgreesElsewhere name.now self.old.held self.new.held }
+        ensures cause { HasCause self.old.faults self.new.faults result }
+        ensures bounded { self.new.faults ≤ most_faults }
+    {
+        if !self.held.may_store(name) {
+            return Err(self.refuse());
+        }
         self.held.put(name, bytes)?;
         Ok(())
     }

@@ -1,6 +1,7 @@
-ghost use Rattle.std.specs.Prelude.{◌≡◌, ◌≤◌, ◌++◌, Some, OnOk, IfSome, IsSome, IsSomeAnd, IsTrue, Err};
+ghost use Rattle.std.specs.Prelude.{◌≡◌, ◌≤◌, ◌++◌, false, Some, OnOk, IfSome, IsSome, IsSomeAnd, IsTrue, Err};
 ghost use Rattle.std.specs.FinMap as fin;
 ghost use Rattle.shelf.specs.Shelf.{Told, HasCause, Fetched, Begins, AgreesElsewhere, SaidPart, most_faults};
+ghost use Rattle.shelf.specs.Stores.{may_store};
 
 use crate::fault::ShelfFault;
 
@@ -11,7 +12,7 @@ use crate::fault::ShelfFault;
 ///
 /// A shelf tells what it holds, what was said, and how often the outside refused a call; that
 /// count stops at 2^64 - 1. While it is steady the outside refuses nothing but the fetch of an
-/// absent name.
+/// absent name, and the store under a name that holds a text which is no certificate.
 pub trait Shelf {
     // What the shelf tells of itself.
     ghost told: { Self → Told };
@@ -32,11 +33,29 @@ pub trait Shelf {
         ensures quiet { IsTrue (told self.old).steady → IfSome (told self.old).held
             (λ h. IsSome (fin.get h name.now) → (told self.new).faults ≡ (told self.old).faults) };
 
-    /// Makes the name hold the bytes. After `Failed` it is untold what the name holds, and after
-    /// `Memory` all is as before.
+    /// Asks whether a text may be stored under the name: where it is free, or holds a text that is empty or
+    /// begins with `proof `.
+    fn may_store(&mut self, name: &str) -> Result<(), ShelfFault>
+        ensures may { OnOk result (IfSome (told self.old).held (λ h. IsTrue (may_store h name.now))) }
+
+        ensures held_stays { (told self.new).held ≡ (told self.old).held }
+        ensures said_stays { (told self.new).said ≡ (told self.old).said }
+
+        ensures cause { HasCause (told self.old).faults (told self.new).faults result }
+        ensures stays_steady { IsTrue (told self.old).steady → IsTrue (told self.new).steady }
+        ensures bounded { (told self.new).faults ≤ most_faults }
+        ensures quiet { IsTrue (told self.old).steady → IfSome (told self.old).held
+            (λ h. IsTrue (may_store h name.now) → (told self.new).faults ≡ (told self.old).faults) };
+
+    /// Makes the name hold the bytes, where a text may be stored under it; a text that may not be stored over
+    /// stands. After `Failed` it is else untold what the name holds, and after `Memory` all is as before.
     fn store(&mut self, name: &str, bytes: &[u8]) -> Result<(), ShelfFault>
         ensures stored { OnOk result (IfSome (told self.old).held
             (λ h. (told self.new).held ≡ Some (fin.insert h name.now bytes.now))) }
+        // No text is lost but an empty one and one that begins as a proof text does.
+        ensures may { OnOk result (IfSome (told self.old).held (λ h. IsTrue (may_store h name.now))) }
+        ensures kept { IfSome (told self.old).held
+            (λ h. may_store h name.now ≡ false → (told self.new).held ≡ (told self.old).held) }
         // Whatever the answer, no other name changes, and the shelf goes on to tell.
         ensures others { IfSome (told self.old).held
             (λ h. IsSomeAnd (told self.new).held (AgreesElsewhere name.now h)) }
@@ -46,7 +65,9 @@ pub trait Shelf {
         ensures cause { HasCause (told self.old).faults (told self.new).faults result }
         ensures stays_steady { IsTrue (told self.old).steady → IsTrue (told self.new).steady }
         ensures bounded { (told self.new).faults ≤ most_faults }
-        ensures quiet { IsTrue (told self.old).steady → (told self.new).faults ≡ (told self.old).faults };
+        // A steady shelf refuses only a text that may not be stored over.
+        ensures quiet { IsTrue (told self.old).steady → IfSome (told self.old).held
+            (λ h. IsTrue (may_store h name.now) → (told self.new).faults ≡ (told self.old).faults) };
 
     /// Appends the bytes to what was said. After an error a front of them may have been said.
     fn say(&mut self, bytes: &[u8]) -> Result<(), ShelfFault>

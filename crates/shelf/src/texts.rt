@@ -1,7 +1,9 @@
 ghost use Rattle.std.specs.Prelude.{◌≡◌, OnOk, OnErr};
 ghost use Rattle.std.specs.Option.{option_copied};
 ghost use Rattle.std.specs.FinMap as fin;
+ghost use Rattle.shelf.specs.Stores.{may_store};
 
+use crate::replaceable::is_replaceable;
 use std::alloc::{AllocError, Global};
 use std::collections::BTreeMap;
 use std::marker::Model;
@@ -52,6 +54,16 @@ impl TextMap {
         match self.map.get(name) {
             Some(bytes) => Some(bytes.as_slice()),
             None => None,
+        }
+    }
+
+    /// Returns whether the name is free, or holds a text that may be stored over.
+    pub(crate) fn may_store(&self, name: &str) -> bool
+        ensures { result ≡ may_store self.now name.now }
+    {
+        match self.text(name) {
+            Some(bytes) => is_replaceable(bytes),
+            None => true,
         }
     }
 }

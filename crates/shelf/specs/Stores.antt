@@ -1,0 +1,18 @@
+-- Which texts may be stored over.
+use Rattle.std.specs.Prelude.{ℕ, Bool, true, ◌||◌, ◌==◌, List, Option, None, Some, codes, length, nat_eq}
+use Rattle.std.specs.FinMap as fin
+use Rattle.std.specs.List.{starts_with}
+use Rattle.shelf.specs.Shelf.{Texts}
+
+-- an empty text, or one that begins as a proof text does
+abbrev pub is_replaceable : List ℕ → Bool
+is_replaceable text = (length text == 0) || starts_with nat_eq text (codes "proof ")
+
+-- whether a name that holds this may be stored under
+abbrev pub may_replace : Option (List ℕ) → Bool
+may_replace None = true
+may_replace (Some text) = is_replaceable text
+
+-- whether a text may be stored under the name: it is free, or what it holds may be stored over
+abbrev pub may_store : Texts → List ℕ → Bool
+may_store held name = may_replace (fin.get held name)
