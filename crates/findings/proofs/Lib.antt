@@ -1,0 +1,4 @@
+pub mod UsedLemmas
+pub mod MarksLemmas
+pub mod ListedLemmas
+pub mod SameLemmas

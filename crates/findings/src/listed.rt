@@ -1,0 +1,15 @@
+ghost use Rattle.std.specs.Prelude.{◌≡◌, true, OnOk};
+ghost use Rattle.findings.specs.Listed.{Says, Adds};
+
+use crate::finding::Finding;
+use roster_model::{List, Memory};
+
+/// Lists a finding where it holds.
+pub(crate) fn add_if(found: &mut List<Finding>, holds: bool, finding: Finding) -> Result<(), Memory>
+    ensures { OnOk result (Adds (Says (holds ≡ true) finding) found.old found.new) }
+{
+    if !holds {
+        return Ok(());
+    }
+    found.push(finding)
+}
