@@ -34,7 +34,7 @@ fn cell_cover(grammar: &Grammar, shifts: &[Shift], cell: &Cell) -> Cover
 }
 
 /// Appends how a roster covers each of the cells. After want of memory a part may stand there.
-pub(crate) fn add_covers(
+pub fn add_covers(
     out: &mut List<Cover>,
     grammar: &Grammar,
     cells: &[Cell],

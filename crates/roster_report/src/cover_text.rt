@@ -29,12 +29,8 @@ fn code_lines(out: &mut List<u8>, code: u8, covers: &[Cover]) -> Result<(), Memo
     part_line(out, Part::Over, code, covers)
 }
 
-/// Writes the lines of the cells of all codes.
-pub(crate) fn cover_lines(
-    out: &mut List<u8>,
-    instance: &Instance,
-    covers: &[Cover],
-) -> Result<(), Memory>
+/// Writes the lines of the cells of all codes. After want of memory a part of them may stand there.
+pub fn cover_lines(out: &mut List<u8>, instance: &Instance, covers: &[Cover]) -> Result<(), Memory>
     requires sound { IsSoundInstance instance.now }
     requires whole { length covers.now ≡ length instance.now.cells }
     ensures { OnOk result (out.new ≡ out.old ++ written

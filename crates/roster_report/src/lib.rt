@@ -37,11 +37,12 @@ mod shifts;
 mod summary;
 mod write;
 
-pub use cover::Cover;
+pub use cover::{Cover, add_covers};
+pub use cover_text::cover_lines;
 pub use fault::ReportFault;
 pub use laws::{lines_again, read_again};
 pub use read::read_report;
 pub use report::{Report, report_of};
 pub use shifts::paid;
 pub use summary::{Summary, write_summary};
-pub use write::write_report;
+pub use write::{header_line, number_line, write_report};

@@ -1,0 +1,61 @@
+-- The prices that were found of shifts, in order.
+use Rattle.std.proofs.Common.{◌≡◌, ℕ, zero, suc, ◌+◌, ◌<◌, arith, Option, None, Some, MatchOption, List, [], ◌∷◌, ◌++◌, length, take, get_or, refl, ap, add-one}
+use Rattle.roster_model.specs.declared.instance.Instance.{Instance}
+use Rattle.roster_model.specs.declared.instance.Shift.{Shift}
+use Rattle.roster_model.specs.Duties.{duty}
+use Rattle.certificates.specs.RosterCauses.{IsNoShift}
+use Rattle.certificate_laws.proofs.NoCause.{one-team-price}
+use Rattle.roster_model.specs.Rosters.{IsTeamPrice}
+use Rattle.roster_value.specs.Causes.{IsFound, AreFound}
+
+pub take-next : {A : Type 0} (xs : List A) (k : ℕ) (d : A) → k < length xs → take (k + 1) xs ≡ take k xs ++ get_or xs k d ∷ []
+take-next {A} xs k d lt = rw (add-one k) (by xs k lt)
+  where
+    by : (ys : List A) (n : ℕ) → n < length ys → take (suc n) ys ≡ take n ys ++ get_or ys n d ∷ []
+    by [] n l = absurd (omega (arith, l))
+    by (y ∷ ys) zero l = refl
+    by (y ∷ ys) (suc n) l = ap (λ (t : List A). y ∷ t) (by ys n (omega (arith, l)))
+
+module _ (i : Instance) where
+  pub found-length : (ss : List Shift) (os : List (Option ℕ)) → AreFound i ss os → length os ≡ length ss
+  found-length [] [] h = refl
+  found-length [] (o ∷ os) h = absurd h
+  found-length (s ∷ ss) [] h = absurd h
+  found-length (s ∷ ss) (o ∷ os) h = omega (arith, found-length ss os h.1)
+
+  found_push : (ss : List Shift) (os : List (Option ℕ)) (s : Shift) (o : Option ℕ) → AreFound i ss os → IsFound i s o → AreFound i (ss ++ s ∷ []) (os ++ o ∷ [])
+  found_push [] [] s o h p = (p, tt)
+  found_push [] (x ∷ os) s o h p = absurd h
+  found_push (x ∷ ss) [] s o h p = absurd h
+  found_push (x ∷ ss) (y ∷ os) s o h p = (h.0, found_push ss os s o h.1 p)
+
+  -- one more was found
+  pub found-next : (ss : List Shift) (k : ℕ) (d : Shift) (os : List (Option ℕ)) (o : Option ℕ) → k < length ss → AreFound i (take k ss) os → IsFound i (get_or ss k d) o → AreFound i (take (k + 1) ss) (os ++ o ∷ [])
+  found-next ss k d os o lt h p = rw (take-next ss k d lt) (found_push (take k ss) os (get_or ss k d) o h p)
+
+  -- a word that has a price in its team is a shift of it
+  pub priced-shift : (s : Shift) (price : ℕ) → IsTeamPrice i (duty s) price → IsNoShift i s → ⊥
+  priced-shift s price p none = none p.team p.listed p.numbered (p.priced.attained.0, p.priced.attained.1)
+
+  one_found : (s : Shift) (o p : Option ℕ) → IsFound i s o → IsFound i s p → o ≡ p
+  one_found s None None h k = refl
+  one_found s None (Some q) h k = absurd (priced-shift s q k h)
+  one_found s (Some q) None h k = absurd (priced-shift s q h k)
+  one_found s (Some q) (Some r) h k = ap (λ (x : ℕ). Some x) (one-team-price i (duty s) q r h k)
+
+  -- the prices of shifts are found in one way
+  pub found-once : (ss : List Shift) (os ps : List (Option ℕ)) → AreFound i ss os → AreFound i ss ps → os ≡ ps
+  found-once [] [] [] h k = refl
+  found-once [] [] (p ∷ ps) h k = absurd k
+  found-once [] (o ∷ os) ps h k = absurd h
+  found-once (s ∷ ss) [] ps h k = absurd h
+  found-once (s ∷ ss) (o ∷ os) [] h k = absurd k
+  found-once (s ∷ ss) (o ∷ os) (p ∷ ps) h k =
+      let e : o ≡ p = one_found s o p h.0 k.0 in
+      let f : os ≡ ps = found-once ss os ps h.1 k.1 in
+      cc
+
+-- what was told of a shift's price was found of it
+pub found-told : (i : Instance) (s : Shift) (o : Option ℕ) → MatchOption o (IsNoShift i s) (λ price. IsTeamPrice i (duty s) price) → IsFound i s o
+found-told i s None h = h
+found-told i s (Some price) h = h

@@ -1,0 +1,11 @@
+use Rattle.roster_model.specs.Teams.{teams}
+use Rattle.certificates.specs.RosterCauses.{duties}
+use Rattle.roster_part.specs.TeamViews.{team_view}
+use Rattle.roster_value.specs.Causes.{team_causes}
+use Rattle.roster_value.proofs.CauseLists.{gathered-next}
+use Rattle.roster_value.proofs.causes.add_heads_causes.Goals as goal
+
+pub loop-place-preserved : goal.loop-place-preserved
+loop-place-preserved c =
+    gathered-next (team_causes (duties c.args.shifts.now)) (teams c.args.instance.now) c.loop-place.place (team_view c.team_at-team.result) c.args.out.now c.loop-place.out c.add_team_causes.new.out
+    c.team_at-team.ensures c.loop-place.invariant c.in_ok-add_team_causes.ensures

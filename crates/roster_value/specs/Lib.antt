@@ -1,0 +1,6 @@
+pub mod Causes
+pub mod Prices
+pub mod Values
+pub mod CauseText
+pub mod ValueText
+pub mod Answers

@@ -1,0 +1,35 @@
+ghost use Rattle.std.specs.Prelude.{◌≡◌, ◌≤◌, ◌++◌, IfOk, OnOk, length};
+ghost use Rattle.text_lines.specs.Written.{written};
+ghost use Rattle.roster_model.specs.SoundInstance.{IsSoundInstance};
+ghost use Rattle.roster_value.specs.ValueText.{covers_of, covered_lines};
+
+use roster_model::{Instance, List, Memory, Shift};
+use roster_report::{Cover, add_covers, cover_lines};
+use std::alloc::Global;
+
+// Returns how shifts cover each cell.
+fn covers_of(alloc: Global, instance: &Instance, shifts: &[Shift]) -> Result<List<Cover>, Memory>
+    requires sound { IsSoundInstance instance.now }
+    requires few { length shifts.now ≤ 64 }
+    ensures { IfOk result (λ covers. covers ≡ covers_of instance.now shifts.now) }
+{
+    let mut covers = List::new(alloc);
+    let cells = instance.cells.as_slice();
+    add_covers(&mut covers, &instance.grammar, cells, shifts)?;
+    Ok(covers)
+}
+
+/// Writes the four lines of each demanded code. After want of memory a part of them may stand there.
+pub(crate) fn covered_lines(
+    alloc: Global,
+    out: &mut List<u8>,
+    instance: &Instance,
+    shifts: &[Shift],
+) -> Result<(), Memory>
+    requires sound { IsSoundInstance instance.now }
+    requires few { length shifts.now ≤ 64 }
+    ensures { OnOk result (out.new ≡ out.old ++ written (covered_lines instance.now shifts.now)) }
+{
+    let covers = covers_of(alloc, instance, shifts)?;
+    cover_lines(out, instance, covers.as_slice())
+}

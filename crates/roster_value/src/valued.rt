@@ -1,0 +1,117 @@
+ghost use Rattle.std.specs.Prelude.{◌≡◌, ◌+◌, ◌++◌, [], IfOk, OnOk, length};
+ghost use Rattle.roster_model.specs.SoundInstance.{IsSoundInstance};
+ghost use Rattle.certificates.specs.RosterCauses.{duties, stated_prices};
+ghost use Rattle.roster_model.specs.Folds.{sum_n};
+ghost use Rattle.roster_model.specs.Rosters.{roster_cost};
+ghost use Rattle.roster_report.specs.Reports.{HasSoundShifts};
+ghost use Rattle.roster_value.specs.Causes.{AreFound, causes_of};
+ghost use Rattle.roster_value.specs.Prices.{price_or_zero, priced, at_prices};
+ghost use Rattle.roster_value.specs.Values.{IsValued};
+
+use roster_model::{Instance, List, Memory, Shift};
+use roster_part::{ShiftRoom, stated_cost};
+use roster_report::paid;
+use std::alloc::Global;
+use text_lines::put;
+
+/// An allowed roster and what it costs.
+#[derive(Debug, PartialEq, Eq, Drop)]
+pub struct Valued {
+    /// The shifts at their prices, in the order in which they were stated.
+    pub shifts: List<Shift>,
+    /// What the roster costs: `paid` and `penalty` together.
+    pub cost: u64,
+    /// The sum of the shifts' prices.
+    pub paid: u64,
+    /// The sum of the cells' penalties.
+    pub penalty: u64,
+}
+
+fn price_or_zero(price: Option<u64>) -> u64
+    ensures { result ≡ price_or_zero price }
+{
+    match price {
+        Some(price) => price,
+        None => 0,
+    }
+}
+
+// Returns a shift at another price.
+fn priced(alloc: Global, shift: &Shift, price: u64) -> Result<Shift, Memory>
+    ensures { IfOk result (λ s. s ≡ priced shift.now price) }
+{
+    let mut word = List::new(alloc);
+    put(&mut word, shift.word.as_slice())?;
+    Ok(Shift {
+        group: shift.group,
+        word,
+        price,
+    })
+}
+
+// Appends the shifts at these prices.
+fn add_priced(
+    alloc: Global,
+    out: &mut List<Shift>,
+    shifts: &[Shift],
+    found: &[Option<u64>],
+) -> Result<(), Memory>
+    requires { length found.now ≡ length shifts.now }
+    ensures { OnOk result (out.new ≡ out.old ++ at_prices shifts.now found.now) }
+{
+    for (place, shift) in shifts.iter().enumerate() {
+        let price = price_or_zero(found[place]);
+        out.push(priced(alloc, shift, price)?)?;
+    }
+    Ok(())
+}
+
+// Returns what a roster costs at the prices that its shifts state.
+fn cost_of(alloc: Global, instance: &Instance, shifts: &[Shift]) -> Result<u64, Memory>
+    requires sound { IsSoundInstance instance.now }
+    requires shifts { HasSoundShifts instance.now shifts.now }
+    ensures { IfOk result (λ cost. cost ≡ roster_cost instance.now (duties shifts.now)
+        (stated_prices shifts.now)) }
+{
+    let mut room = ShiftRoom::new(alloc)?;
+    room.keep_all(shifts);
+    Ok(stated_cost(instance, room.shifts()))
+}
+
+// Returns what shifts at their prices come to.
+fn valued_at(alloc: Global, instance: &Instance, shifts: List<Shift>) -> Result<Valued, Memory>
+    requires sound { IsSoundInstance instance.now }
+    requires shifts { HasSoundShifts instance.now shifts }
+    ensures same { IfOk result (λ v. v.shifts ≡ shifts) }
+    ensures paid { IfOk result (λ v. v.paid ≡ sum_n (λ p. p) (stated_prices shifts)) }
+    ensures cost { IfOk result (λ v. v.cost ≡ roster_cost instance.now (duties shifts)
+        (stated_prices shifts)) }
+    ensures total { IfOk result (λ v. v.cost ≡ v.paid + v.penalty) }
+{
+    let cost = cost_of(alloc, instance, shifts.as_slice())?;
+    let paid = paid(shifts.as_slice());
+    Ok(Valued {
+        shifts,
+        cost,
+        paid,
+        penalty: cost - paid,
+    })
+}
+
+/// Returns what an allowed roster costs, where these are the prices of its words, and no cause is against it.
+pub(crate) fn value_of(
+    alloc: Global,
+    instance: &Instance,
+    shifts: &[Shift],
+    found: &[Option<u64>],
+) -> Result<Valued, Memory>
+    requires sound { IsSoundInstance instance.now }
+    requires shifts { HasSoundShifts instance.now shifts.now }
+    requires found { AreFound instance.now shifts.now found.now }
+    requires allowed { causes_of instance.now (duties shifts.now) found.now ≡ [] }
+    ensures { IfOk result (IsValued instance.now shifts.now) }
+{
+    let mut priced = List::new(alloc);
+    add_priced(alloc, &mut priced, shifts, found)?;
+    valued_at(alloc, instance, priced)
+}

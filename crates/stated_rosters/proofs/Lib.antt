@@ -1,0 +1,2 @@
+pub mod RefusedLines
+pub mod SoundRosters

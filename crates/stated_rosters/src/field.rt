@@ -1,0 +1,52 @@
+ghost use Rattle.std.specs.Prelude.{◌≡◌, ◌<◌, ◌≤◌, length, position, IfSome};
+ghost use Rattle.proof_pieces.specs.Fields.{has_name};
+ghost use Rattle.stated_rosters.specs.Fields.{group_at, is_number};
+
+use crate::fault::RosterFault;
+use roster_model::{Group, List};
+use text_lines::{NumberFault, read_natural};
+
+/// Whether a word is a number without a sign, of whatever size.
+#[tactic(auto, unfolding(crate::specs::Fields::is_number))]
+pub fn is_number(word: &[u8]) -> bool
+    ensures { result ≡ is_number word.now }
+{
+    match read_natural(word) {
+        Ok(_) => true,
+        Err(NumberFault::Wide) => true,
+        Err(NumberFault::Form) => false,
+    }
+}
+
+fn has_name(names: &[List<u8>], word: &[u8], group: &Group) -> bool
+    ensures { result ≡ has_name names.now word.now group.now }
+{
+    match names.get(group.name as usize) {
+        Some(name) => name.as_slice() == word,
+        None => false,
+    }
+}
+
+fn group_place(names: &[List<u8>], groups: &[Group], word: &[u8]) -> Option<usize>
+    ensures place { result ≡ position (has_name names.now word.now) groups.now }
+    ensures within { IfSome result (λ i. i < length groups.now) }
+{
+    groups.iter().position(|group| has_name(names, word, group))
+}
+
+/// Reads the name of a group, and gives the group's number, from 1.
+#[tactic(auto, unfolding(crate::specs::Fields::group_at))]
+pub fn group(
+    line: u32,
+    names: &[List<u8>],
+    groups: &[Group],
+    word: &[u8],
+) -> Result<u8, RosterFault>
+    requires { length groups.now ≤ 8 }
+    ensures { result ≡ group_at line names.now groups.now word.now }
+{
+    match group_place(names, groups, word) {
+        Some(place) => Ok(place as u8 + 1),
+        None => Err(RosterFault::NoName { line }),
+    }
+}

@@ -1,0 +1,5 @@
+//! Worked rows of roster texts, as tests over public calls.
+#![tactic(auto)]
+
+#[cfg(test)]
+mod reader_tests;
