@@ -8,6 +8,7 @@ pub mod LinesLeft
 pub mod OneCode
 pub mod FieldsAgain
 pub mod CellsAgain
+pub mod CommentLines
 pub mod TeamsAgain
 pub mod NeedsAgain
 pub mod FineLines

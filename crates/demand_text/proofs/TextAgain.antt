@@ -1,11 +1,12 @@
 -- An instance that was written is read again.
-use Rattle.std.proofs.Common.{◌≡◌, ℕ, ◌+◌, ◌<◌, ◌≤◌, true, false, List, [], ◌∷◌, ◌++◌, length, map, Some, Ok, refl, sym, ap, ◌∙◌, arith, inl, inr, ltb, length-append, subst}
+use Rattle.std.proofs.Common.{◌≡◌, ℕ, ◌+◌, ◌<◌, ◌≤◌, true, false, List, [], ◌∷◌, ◌++◌, length, map, Some, Ok, refl, sym, ap, ◌∙◌, arith, inl, inr, not, eqb, ltb, length-append, subst}
 use Rattle.std.specs.Prelude.{All, slice_get}
+use Rattle.std.specs.List.{list_all}
 use Rattle.std.proofs.lemmas.Bool.{le-ltb}
 use Rattle.std.proofs.lemmas.List.{length-map, get_or_append_left}
 use Rattle.std.proofs.lemmas.List.Elements.{All-head, All-tail}
 use Rattle.std.proofs.lemmas.Option.{slice_get-get_or}
-use Rattle.text_lines.specs.Lines.{text_items}
+use Rattle.text_lines.specs.Lines.{rest_items, text_items}
 use Rattle.text_lines.specs.Written.{written, numbered}
 use Rattle.text_lines.proofs.WrittenAgain.{written_again}
 use Rattle.roster_model.specs.declared.grammar.Grammar.{Grammar}
@@ -30,6 +31,7 @@ use Rattle.demand_text.specs.Drafts.{AreHeads}
 use Rattle.demand_text.specs.InstanceOf.{cells_of, least_heads, heads_of, day_grammar, made, finish, no_draft, draft_of, instance_of}
 use Rattle.demand_text.specs.Written.{group_line, team_lines, demand_lines, AreDemandsOf, demand_text}
 use Rattle.demand_text.proofs.CellsAgain.{all_again}
+use Rattle.demand_text.proofs.CommentLines.{comment_line}
 use Rattle.text_lines.proofs.WrittenLemmas.{parts_again}
 use Rattle.demand_text.proofs.FineLines.{IsFineLine, heads_fine, group_fine, demands_fine, demands_few, lines_written, lines_short}
 use Rattle.text_lines.proofs.StepsLemmas.{ok}
@@ -52,10 +54,10 @@ each_within (x ∷ xs) names h le =
       each_within xs names (All-tail (IsGroup names) x xs h) (omega (arith, le)),
     )
 
--- what the written lines of the teams make
-record AreTeams (g : Grammar) (i : Instance) : Type 0 where
+-- what the written lines of the teams make, from line number k on
+record AreTeams (g : Grammar) (i : Instance) (k : ℕ) : Type 0 where
   draft : Draft
-  read : each (item_at g) no_draft (numbered 1 (team_lines i i.groups)) ≡ Ok draft
+  read : each (item_at g) no_draft (numbered k (team_lines i i.groups)) ≡ Ok draft
   no_needs : draft.needs ≡ []
   no_least : draft.least ≡ []
   no_most : draft.most ≡ []
@@ -64,14 +66,14 @@ record AreTeams (g : Grammar) (i : Instance) : Type 0 where
   fine : Each IsFineLine (team_lines i i.groups)
   few : length (team_lines i i.groups) ≤ 8
 
-module _ (g : Grammar) (s : IsSound g) (p : IsPlain g) where
-  lone_team : (i : Instance) → i.groups ≡ [] → IsSoundInstance i → AreTeams g i
+module _ (g : Grammar) (s : IsSound g) (p : IsPlain g) (k : ℕ) where
+  lone_team : (i : Instance) → i.groups ≡ [] → IsSoundInstance i → AreTeams g i k
   lone_team i none h =
       let heads : Heads = record { least = i.heads_min; most = i.heads_max } in
       let are : AreHeads heads = record { order = h.order; some = h.some; few = h.few } in
       record {
         draft = record no_draft { heads = Some heads };
-        read = rw (none, heads_again 1 g heads are) refl;
+        read = rw (none, heads_again k g heads are) refl;
         no_needs = refl;
         no_least = refl;
         no_most = refl;
@@ -92,7 +94,7 @@ module _ (g : Grammar) (s : IsSound g) (p : IsPlain g) where
       (group_fine names x (ap is_name (same x.name h.0.0) ∙ spelled g s p x.name h.0.0) h.0.1 h.0.2, groups_fine names same xs h.1)
 
   some_teams : (i : Instance) (x : Group) (xs : List Group) → i.groups ≡ x ∷ xs → i.grammar ≡ extended g (x ∷ xs) → AreGroups (length g.names) (x ∷ xs)
-      → i.heads_min ≡ least_heads (x ∷ xs) → i.heads_max ≡ most_heads (x ∷ xs) → i.heads_max ≤ 64 → AreTeams g i
+      → i.heads_min ≡ least_heads (x ∷ xs) → i.heads_max ≡ most_heads (x ∷ xs) → i.heads_max ≤ 64 → AreTeams g i k
   some_teams i x xs e eg are least most le =
       let names : i.grammar.names ≡ g.names ++ added_name ∷ [] = ap (λ (a : Grammar). a.names) eg in
       let few : most_heads (x ∷ xs) ≤ 64 = omega (arith, most, le) in
@@ -100,7 +102,7 @@ module _ (g : Grammar) (s : IsSound g) (p : IsPlain g) where
       let lines : team_lines i i.groups ≡ map (group_line spelled_names) (x ∷ xs) = ap (team_lines i) e ∙ ap (λ (ns : List (List ℕ)). map (group_line ns) (x ∷ xs)) names in
       record {
         draft = grouped (x ∷ xs);
-        read = ap (λ (ls : List (List (List ℕ))). each (item_at g) no_draft (numbered 1 ls)) lines ∙ groups_again 1 g spelled_names [] (x ∷ xs) s same_name are few;
+        read = ap (λ (ls : List (List (List ℕ))). each (item_at g) no_draft (numbered k ls)) lines ∙ groups_again k g spelled_names [] (x ∷ xs) s same_name are few;
         no_needs = refl;
         no_least = refl;
         no_most = refl;
@@ -110,19 +112,19 @@ module _ (g : Grammar) (s : IsSound g) (p : IsPlain g) where
         few = omega (arith, ap length lines, length-map (x ∷ xs) (group_line spelled_names), are.few);
       }
 
-  teams_again : (i : Instance) → i.grammar ≡ day_grammar g i.groups → IsSoundInstance i → AreTeams g i
+  teams_again : (i : Instance) → i.grammar ≡ day_grammar g i.groups → IsSoundInstance i → AreTeams g i k
   teams_again i eg h = by i.groups refl eg h.groups
     where
-      by : (gs : List Group) → i.groups ≡ gs → i.grammar ≡ day_grammar g gs → HasGroups i gs → AreTeams g i
-      by [] e d k = lone_team i e h
-      by (x ∷ xs) e d k =
-          let b : Grammar = k.0 in
-          let start : i.grammar.start ≡ length b.names = ap (λ (a : Grammar). a.start) k.1.grammar in
+      by : (gs : List Group) → i.groups ≡ gs → i.grammar ≡ day_grammar g gs → HasGroups i gs → AreTeams g i k
+      by [] e d has = lone_team i e h
+      by (x ∷ xs) e d has =
+          let b : Grammar = has.0 in
+          let start : i.grammar.start ≡ length b.names = ap (λ (a : Grammar). a.start) has.1.grammar in
           let own : i.grammar.start ≡ length g.names = ap (λ (a : Grammar). a.start) d in
           let n : length b.names ≡ length g.names = omega (arith, start, own) in
           let Are : ℕ → Type 0 = λ m. AreGroups m (x ∷ xs) in
-          let of_b : AreGroups (length b.names) (x ∷ xs) = subst (λ (gs : List Group). AreGroups (length b.names) gs) e k.1.groups in
-          some_teams i x xs e d (subst Are n of_b) (k.1.least ∙ ap least_heads e) (k.1.most ∙ ap most_heads e) h.few
+          let of_b : AreGroups (length b.names) (x ∷ xs) = subst (λ (gs : List Group). AreGroups (length b.names) gs) e has.1.groups in
+          some_teams i x xs e d (subst Are n of_b) (has.1.least ∙ ap least_heads e) (has.1.most ∙ ap most_heads e) h.few
 
   day_codes : (gs : List Group) → (day_grammar g gs).codes ≡ g.codes
   day_codes [] = refl
@@ -145,7 +147,7 @@ module _ (g : Grammar) (s : IsSound g) (p : IsPlain g) where
     own_demands a ds c n h.1,
   )
 
-  made_again : (i : Instance) (ds : List Demand) (t : AreTeams g i) → i.grammar ≡ day_grammar g i.groups → AreDemandsOf i ds → finish g (after t.draft ds) ≡ Ok i
+  made_again : (i : Instance) (ds : List Demand) (t : AreTeams g i k) → i.grammar ≡ day_grammar g i.groups → AreDemandsOf i ds → finish g (after t.draft ds) ≡ Ok i
   unfolding finish
   made_again i ds t eg are =
       let h : Heads = record { least = i.heads_min; most = i.heads_max } in
@@ -157,9 +159,15 @@ module _ (g : Grammar) (s : IsSound g) (p : IsPlain g) where
       ap (λ (a : Grammar). Made a t.draft.groups (cells_of (after t.draft ds))) day ∙ ap (λ (b : List Group). Made i.grammar b (cells_of (after t.draft ds))) t.groups ∙ ap (Made i.grammar i.groups) cells in
       rw heads (ap (λ (x : Instance). ok x) same)
 
-  pub text_again : (i : Instance) (ds : List Demand) → i.grammar ≡ day_grammar g i.groups → IsSoundInstance i → AreDemandsOf i ds → instance_of g (demand_text i ds) ≡ Ok i
-  unfolding instance_of
-  text_again i ds eg h are =
+  -- what the written lines make, from line number k on
+  record AreRead (i : Instance) (ds : List Demand) : Type 0 where
+    draft : Draft
+    read : each (item_at g) no_draft (rest_items k (demand_text i ds)) ≡ Ok draft
+    done : finish g draft ≡ Ok i
+    short : length (demand_text i ds) ≤ 1000000
+
+  lines_again : (i : Instance) (ds : List Demand) → i.grammar ≡ day_grammar g i.groups → IsSoundInstance i → AreDemandsOf i ds → AreRead i ds
+  lines_again i ds eg h are =
       let t = teams_again i eg h in
       let codes_same : i.grammar.codes ≡ g.codes = ap (λ (a : Grammar). a.codes) eg ∙ day_codes i.groups in
       let periods_same : i.grammar.periods ≡ g.periods = ap (λ (a : Grammar). a.periods) eg ∙ day_periods i.groups in
@@ -169,10 +177,32 @@ module _ (g : Grammar) (s : IsSound g) (p : IsPlain g) where
       let mine : demand_lines i.grammar.codes ds ≡ ms = ap (λ (cs : List CodeDef). demand_lines cs ds) codes_same in
       let text : demand_text i ds ≡ written (ts ++ ms) = ap (λ (l : List (List (List ℕ))). written (ts ++ l)) mine in
       let fine : Each IsFineLine (ts ++ ms) = Each-append IsFineLine ts ms t.fine (demands_fine g s.codes s.some_period s.few_periods ds each_demand) in
-      let items : text_items (written (ts ++ ms)) ≡ numbered 1 (ts ++ ms) = written_again 1 (ts ++ ms) (lines_written (ts ++ ms) fine) in
-      let second = demands_again g s.codes s.some_period (1 + length ts) t.draft ds each_demand are.once (none_new g s.codes s.some_period t.draft ds t.no_needs t.no_least t.no_most) in
-      let read : each (item_at g) no_draft (numbered 1 (ts ++ ms)) ≡ Ok (after t.draft ds) = parts_again (item_at g) no_draft t.draft (ok (after t.draft ds)) 1 ts ms t.read second in
-      let draft : draft_of g (written (ts ++ ms)) ≡ Ok (after t.draft ds) = ap (each (item_at g) no_draft) items ∙ read in
-      let small : length (written (ts ++ ms)) ≤ 1048576 = omega (arith, lines_short (ts ++ ms) fine, length-append ts ms, t.few, demands_few g s.codes s.some_period s.few_periods ds each_demand, few_demands g ds s.codes each_demand are.once) in
-      let few : ltb 1048576 (length (written (ts ++ ms))) ≡ false = le-ltb 1048576 (length (written (ts ++ ms))) small in
-      rw text (rw (few, draft) (made_again i ds t eg are))
+      let items : rest_items k (written (ts ++ ms)) ≡ numbered k (ts ++ ms) = written_again k (ts ++ ms) (lines_written (ts ++ ms) fine) in
+      let second = demands_again g s.codes s.some_period (k + length ts) t.draft ds each_demand are.once (none_new g s.codes s.some_period t.draft ds t.no_needs t.no_least t.no_most) in
+      let read : each (item_at g) no_draft (numbered k (ts ++ ms)) ≡ Ok (after t.draft ds) = parts_again (item_at g) no_draft t.draft (ok (after t.draft ds)) k ts ms t.read second in
+      let small : length (written (ts ++ ms)) ≤ 1000000 = omega (arith, lines_short (ts ++ ms) fine, length-append ts ms, t.few, demands_few g s.codes s.some_period s.few_periods ds each_demand, few_demands g ds s.codes each_demand are.once) in
+      record {
+        draft = after t.draft ds;
+        read = rw text (ap (each (item_at g) no_draft) items ∙ read);
+        done = made_again i ds t eg are;
+        short = rw text small;
+      }
+
+module _ (g : Grammar) (s : IsSound g) (p : IsPlain g) (i : Instance) (ds : List Demand) (eg : i.grammar ≡ day_grammar g i.groups) (h : IsSoundInstance i) (are : AreDemandsOf i ds) where
+  pub text_again : instance_of g (demand_text i ds) ≡ Ok i
+  unfolding instance_of
+  text_again =
+      let r = lines_again g s p 1 i ds eg h are in
+      let few : ltb 1048576 (length (demand_text i ds)) ≡ false = le-ltb 1048576 (length (demand_text i ds)) (omega (arith, r.short)) in
+      rw (few, r.read) r.done
+
+  -- a line of a comment before the text counts for nothing
+  pub text_behind : (comment : List ℕ) → length comment ≤ 1000 → list_all (λ b. not (eqb b 10)) comment ≡ true → instance_of g (35 ∷ comment ++ 10 ∷ demand_text i ds) ≡ Ok i
+  unfolding instance_of
+  text_behind comment short one =
+      let text : List ℕ = 35 ∷ comment ++ 10 ∷ demand_text i ds in
+      let r = lines_again g s p 2 i ds eg h are in
+      let few : ltb 1048576 (length text) ≡ false = le-ltb 1048576 (length text) (omega (arith, r.short, short, length-append comment (10 ∷ demand_text i ds))) in
+      let items : text_items text ≡ rest_items 2 (demand_text i ds) = comment_line 1 comment (demand_text i ds) one in
+      let read : draft_of g text ≡ Ok r.draft = ap (each (item_at g) no_draft) items ∙ r.read in
+      rw (few, read) r.done

@@ -1,4 +1,5 @@
-ghost use Rattle.std.specs.Prelude.{◌≡◌, ◌≤◌, ◌⊎◌, ℕ, List, Ok, Err, length};
+ghost use Rattle.std.specs.Prelude.{◌≡◌, ◌≤◌, ◌⊎◌, ◌==◌, ◌∷◌, ◌++◌, ℕ, List, Ok, Err, length, not, true};
+ghost use Rattle.std.specs.List.{list_all};
 ghost use Rattle.roster_model.specs.declared.grammar.Grammar.{Grammar};
 ghost use Rattle.roster_model.specs.declared.instance.Group.{Group};
 ghost use Rattle.roster_model.specs.declared.instance.Instance.{Instance};
@@ -24,6 +25,14 @@ pub fn written_again()
     ensures { (g : Grammar) (i : Instance) (ds : List Demand) → IsSound g → IsPlain g
         → i.grammar ≡ day_grammar g i.groups → IsSoundInstance i → AreDemandsOf i ds
         → instance_of g (demand_text i ds) ≡ Ok i }
+{}
+
+/// States a law: so is the text behind a line that holds a comment alone, of at most 1,000 bytes.
+pub fn written_again_behind_comment()
+    ensures { (g : Grammar) (i : Instance) (ds : List Demand) (comment : List ℕ) → IsSound g → IsPlain g
+        → i.grammar ≡ day_grammar g i.groups → IsSoundInstance i → AreDemandsOf i ds
+        → length comment ≤ 1000 → list_all (λ b. not (b == 10)) comment ≡ true
+        → instance_of g (35 ∷ comment ++ 10 ∷ demand_text i ds) ≡ Ok i }
 {}
 
 /// States a law: an accepted text consists of lines of the five forms, of which one is a heads line,

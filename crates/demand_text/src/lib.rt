@@ -27,6 +27,9 @@ mod read;
 mod write;
 
 pub use demand_lines::{DemandFault, fault_line};
-pub use laws::{accepted_lines, extension_is_sound, refused_line, written_again};
+pub use extend::day_grammar;
+pub use laws::{
+    accepted_lines, extension_is_sound, refused_line, written_again, written_again_behind_comment,
+};
 pub use read::read_demand;
 pub use write::write_demand;

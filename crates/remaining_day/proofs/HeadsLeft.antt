@@ -1,0 +1,66 @@
+-- How many more employees may work, as numbers, and what is known of kept shifts.
+use Rattle.std.proofs.Common.{◌≡◌, ◌≢◌, ℕ, ◌≤◌, List, [], ◌∷◌, length, refl, sym, arith}
+use Rattle.std.specs.Prelude.{All}
+use Rattle.std.proofs.lemmas.List.Elements.{All-nil, All-cons}
+use Rattle.roster_model.specs.declared.instance.Group.{Group}
+use Rattle.roster_model.specs.declared.instance.Instance.{Instance}
+use Rattle.roster_model.specs.declared.instance.Shift.{Shift}
+use Rattle.roster_model.specs.Duties.{Duty}
+use Rattle.roster_model.specs.Folds.{Each}
+use Rattle.roster_model.specs.SoundInstance.{IsSoundInstance}
+use Rattle.certificates.specs.Sound.{IsSoundShift}
+use Rattle.demand_lines.specs.Teams.{most_heads}
+use Rattle.demand_text.specs.InstanceOf.{least_heads}
+use Rattle.remaining_day.specs.Remaining.{groups_left, least_left, most_left}
+use Rattle.remaining_day.proofs.SoundLeft.{left_few, most_less, least_less}
+
+-- at most 8 groups, of at most 64 employees
+record FewGroups (i : Instance) : Type 0 where
+  pub groups : length i.groups ≤ 8
+  pub least : least_heads i.groups ≤ 64
+  pub most : most_heads i.groups ≤ 64
+
+abbrev HasFewGroups : Instance → Type 0
+HasFewGroups i = IsSoundInstance i → FewGroups i
+
+few_groups : (i : Instance) → HasFewGroups i
+few_groups i = by i.groups
+  where
+    by : (gs : List Group) → HasFewGroups (record i { groups = gs })
+    by [] h = record { groups = omega arith; least = omega arith; most = omega arith }
+    by (x ∷ xs) h = record {
+      groups = h.groups.1.groups.few;
+      least = omega (arith, h.groups.1.least, h.order, h.few);
+      most = omega (arith, h.groups.1.most, h.few);
+    }
+
+-- the groups that are left are few, and so are their employees
+pub record AreFewLeft (i : Instance) (kept : List Duty) (left : List Group) : Type 0 where
+  pub groups : length left ≤ 8
+  pub least : least_heads left ≤ 64
+  pub most : most_heads left ≤ 64
+
+pub few-left : (i : Instance) (kept : List Duty) (left : List Group) → IsSoundInstance i → left ≡ groups_left 1 kept i.groups → AreFewLeft i kept left
+few-left i kept left sound e =
+    let few = few_groups i sound in
+    rw e (record {
+      groups = omega (arith, left_few kept 1 i.groups, few.groups);
+      least = omega (arith, least_less kept 1 i.groups, few.least);
+      most = omega (arith, most_less kept 1 i.groups, few.most);
+    })
+
+pub few-groups : (i : Instance) → IsSoundInstance i → length i.groups ≤ 8
+few-groups i sound = (few_groups i sound).groups
+
+-- where there are groups, the numbers are their sums
+pub least-sum : (i : Instance) (kept : List Duty) (gs : List Group) → gs ≢ [] → least_left i kept gs ≡ least_heads (groups_left 1 kept gs)
+least-sum i kept [] some = absurd (some refl)
+least-sum i kept (x ∷ xs) some = refl
+
+pub most-sum : (i : Instance) (kept : List Duty) (gs : List Group) → gs ≢ [] → most_left i kept gs ≡ most_heads (groups_left 1 kept gs)
+most-sum i kept [] some = absurd (some refl)
+most-sum i kept (x ∷ xs) some = refl
+
+pub short_words : (i : Instance) (ss : List Shift) → Each (IsSoundShift i) ss → All (λ (s : Shift). length s.word ≤ 96) ss
+short_words i [] h = All-nil _
+short_words i (s ∷ ss) h = All-cons (λ (x : Shift). length x.word ≤ 96) s ss h.0.short (short_words i ss h.1)

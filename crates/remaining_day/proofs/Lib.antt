@@ -1,0 +1,14 @@
+pub mod CellsLeft
+pub mod GroupsLeft
+pub mod SameShifts
+pub mod Rosters
+pub mod DaysLeft
+pub mod Gathered
+pub mod CausesLemmas
+pub mod SoundLeft
+pub mod Regrouped
+pub mod RestAgain
+pub mod RestsMade
+pub mod OneAnswer
+pub mod HeadsLeft
+pub mod CauseTexts
