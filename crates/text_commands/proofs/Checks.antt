@@ -1,5 +1,5 @@
--- The answers of commands that ask something of a certificate, from what their parts answer.
-use Rattle.std.proofs.Common.{◌≡◌, ◌≢◌, ℕ, List, Option, Result, Ok, Err, IfOk, arith, refl, ap, subst, ◌∙◌}
+-- The answers of commands that ask something of a third text, from what their parts answer.
+use Rattle.std.proofs.Common.{◌≡◌, ◌≢◌, ℕ, List, Option, Result, Ok, Err, IfOk, ap, subst, ◌∙◌}
 use Rattle.std.specs.Prelude.{Some, None, [], ◌∷◌}
 use Rattle.roster_model.specs.declared.grammar.Grammar.{Grammar}
 use Rattle.roster_model.specs.declared.instance.Instance.{Instance}
@@ -28,19 +28,18 @@ use Rattle.rules_text.specs.declared.fault.RulesFault.{RulesFault}
 use Rattle.rules_text.specs.declared.fault.RulesFault.TheVariants as rules_faults
 use Rattle.shelf.specs.Shelf.{Texts}
 use Rattle.text_commands.specs.declared.answer.Answer.{Answer}
-use Rattle.text_commands.specs.Check.{CertAnswers, Judgement, yes, no, verdict_status, ProofAnswers, AnswersProof, DemandAnswers, AnswersDemand, RulesAnswers, AnswersTexts}
+use Rattle.text_commands.specs.Check.{CertAnswers, Judgement, yes, no, verdict_status, ProofAnswers, TextAnswers, AnswersThird, DemandAnswers, AnswersDemand, RulesAnswers, AnswersTexts}
 use Rattle.text_commands.specs.Check as check
 use Rattle.text_commands.specs.Fetch.{IsAnswer, IsFetch, NoAnswer}
 use Rattle.shelf.specs.Shelf.{Told}
 use Rattle.text_commands.specs.Reader.{IsReader, HoldsAll}
-use Rattle.text_commands.specs.Statuses.{ends_at}
 use Rattle.text_commands.proofs.Readers.{widen, after_fetch, one_held}
 
 pub no_names : (held : Option Texts) (names : List (List ℕ)) → HoldsAll held names → HoldsAll held []
 no_names None names h = absurd h
 no_names (Some texts) names h = tt
 
-module _ (A : CertAnswers) where
+module _ (A : TextAnswers) where
   refused_demand : (held : Option Texts) (g : Grammar) (text name : List ℕ) (fault : DemandFault) (r : Result Answer Memory)
       → IfOk r (λ a. (fault ≢ demand_faults.Memory) × (a.status ≡ 4) × (a.output ≡ demand.fault_line fault)) → (fault ≢ demand_faults.Memory → instance_of g text ≡ Err fault)
       → (status : ℕ) (output : List ℕ) → IsAnswer r status output → DemandAnswers A held g text name status output
@@ -57,6 +56,7 @@ module _ (A : CertAnswers) where
       let s : status ≡ 3 = a.0 ∙ h.1 in
       rw s (check.RulesAnswers.refused output (record { fault = fault; reading = reading h.0; line = a.1 ∙ h.2 }))
 
+module _ (A : CertAnswers) where
   pub text-refused : (i : Instance) (text : List ℕ) (fault : ProofFault) (r : Result Answer Memory) → (fault ≢ proof_faults.Memory → proof_of i text ≡ Err fault)
       → IfOk r (λ a. (fault ≢ proof_faults.Memory) × (a.status ≡ 5) × (a.output ≡ proof.fault_line fault)) → IfOk r (λ a. ProofAnswers A i text a.status a.output)
   text-refused i text fault (Err e) reading h = tt
@@ -67,7 +67,7 @@ module _ (A : CertAnswers) where
   proof-refused i text fault (Err e) judged h = tt
   proof-refused i text fault (Ok a) judged h = rw h.0 (check.ProofAnswers.refused a.output (record { fault = proof_fault fault; reading = judged; line = h.1 }))
 
-module _ (A : CertAnswers) (before after : Told) (status : ℕ) where
+module _ (A : TextAnswers) (before after : Told) (status : ℕ) where
   pub demand-refused : (g : Grammar) (text name : List ℕ) (fault : DemandFault) (r : Result Answer Memory)
       → IfOk r (λ a. (fault ≢ demand_faults.Memory) × (a.status ≡ 4) × (a.output ≡ demand.fault_line fault)) → (fault ≢ demand_faults.Memory → instance_of g text ≡ Err fault)
       → IsReader (IsAnswer r) [] before after status → IsReader (DemandAnswers A before.held g text name) (name ∷ []) before after status
@@ -75,9 +75,9 @@ module _ (A : CertAnswers) (before after : Told) (status : ℕ) where
       widen (IsAnswer r) (DemandAnswers A before.held g text name) (refused_demand A before.held g text name fault r h reading) (name ∷ []) [] before after status (no_names before.held (name ∷ [])) reader
 
   pub demand-accepted : (g : Grammar) (text name : List ℕ) (i : Instance) → instance_of g text ≡ Ok i → IsSoundInstance i
-      → IsReader (AnswersProof A before.held i name) (name ∷ []) before after status → IsReader (DemandAnswers A before.held g text name) (name ∷ []) before after status
+      → IsReader (AnswersThird A before.held i name) (name ∷ []) before after status → IsReader (DemandAnswers A before.held g text name) (name ∷ []) before after status
   demand-accepted g text name i reading sound reader =
-      widen (AnswersProof A before.held i name) (DemandAnswers A before.held g text name) (λ s o a. check.DemandAnswers.accepted i s o (record { reading = reading; sound = sound }) a) (name ∷ []) (name ∷ []) before after status (λ h. h) reader
+      widen (AnswersThird A before.held i name) (DemandAnswers A before.held g text name) (λ s o a. check.DemandAnswers.accepted i s o (record { reading = reading; sound = sound }) a) (name ∷ []) (name ∷ []) before after status (λ h. h) reader
 
   pub rules-refused : (text demand_name proof_name : List ℕ) (fault : RulesFault) (r : Result Answer Memory)
       → IfOk r (λ a. (fault ≢ rules_faults.Memory) × (a.status ≡ 3) × (a.output ≡ fault_line fault)) → (fault ≢ rules_faults.Memory → IsReading text (Err fault))
@@ -125,8 +125,3 @@ pub proof-judged : (i : Instance) (text : List ℕ) (v : Verdict) (r : Result An
     → IfOk r (λ a. (a.status ≡ verdict_status v) × (a.output ≡ verdict_text v)) → IfOk r (λ a. ProofAnswers Judgement i text a.status a.output)
 proof-judged i text v (Err e) judged h = tt
 proof-judged i text v (Ok a) judged h = rw h.0 (check.ProofAnswers.accepted judged.0 (verdict_status v) a.output judged.1 (judgement i judged.0 v judged.2 a.output h.1))
-
--- nor has an answer to a proof text the status of a refusal, where none for its certificate has
-pub proof_ends : (A : CertAnswers) → ((i : Instance) (c : Cert) (s : ℕ) (output : List ℕ) → A i c s output → (s ≢ 6) × (s ≢ 7)) → (i : Instance) (text : List ℕ) (s : ℕ) (output : List ℕ) → ProofAnswers A i text s output → (s ≢ 6) × (s ≢ 7)
-proof_ends A each i text s output (check.ProofAnswers.accepted c t x e a) = each i c s output a
-proof_ends A each i text s output (check.ProofAnswers.refused x h) = ends_at s 5 refl (omega arith)

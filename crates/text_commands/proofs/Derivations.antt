@@ -57,18 +57,18 @@ module _ (g : Grammar) (w : List ℕ) (sound : IsSound g) where
             let own = least-tree g w g.start price t z sound long is_price d e (λ u k. rw e at (least.least u k)) in
             record { price = price; is_price = is_price; tree = t; derives = own.derives; costs = own.costs; text = text }
 
-pub fault-said : (text w : List ℕ) (fault : RulesFault) (a : Answer) → (fault ≢ Memory → IsReading text (Err fault))
-    → (fault ≢ Memory) × (a.status ≡ 3) × (a.output ≡ fault_line fault) → Explanation text w a.status a.output
-fault-said text w fault a reading h = rw h.1 (refused a.output (record { fault = fault; reading = reading h.0; line = h.2 }))
+pub fault-said : (text w : List ℕ) (start : Option (List ℕ)) (fault : RulesFault) (a : Answer) → (fault ≢ Memory → IsReading text (Err fault))
+    → (fault ≢ Memory) × (a.status ≡ 3) × (a.output ≡ fault_line fault) → Explanation text w start a.status a.output
+fault-said text w start fault a reading h = rw h.1 (refused a.output (record { fault = fault; reading = reading h.0; line = h.2 }))
 
-module _ (w name : List ℕ) (before : Told) where
+module _ (w : List ℕ) (start : Option (List ℕ)) (name : List ℕ) (before : Told) where
   pub word-read : (text : List ℕ) (middle after : Told) (status : ℕ) → IsFetch name before middle text
-      → IsReader (λ s o. Explanation text w s o) [] middle after status → IsReader (λ s o. AnswersExplain before.held name w s o) (name ∷ []) before after status
+      → IsReader (λ s o. Explanation text w start s o) [] middle after status → IsReader (λ s o. AnswersExplain before.held name w start s o) (name ∷ []) before after status
   word-read text middle after status f reader =
-      after_fetch (λ s o. AnswersExplain before.held name w s o) name [] before middle after status text f
-      (widen (λ s o. Explanation text w s o) (λ s o. AnswersExplain before.held name w s o) (λ s o k. (text, f.holds, k)) [] [] middle after status (λ k. k) reader)
+      after_fetch (λ s o. AnswersExplain before.held name w start s o) name [] before middle after status text f
+      (widen (λ s o. Explanation text w start s o) (λ s o. AnswersExplain before.held name w start s o) (λ s o k. (text, f.holds, k)) [] [] middle after status (λ k. k) reader)
 
   pub word-unread : (after : Told) (status : ℕ) → IsReader NoAnswer (name ∷ []) before after status
-      → IsReader (λ s o. AnswersExplain before.held name w s o) (name ∷ []) before after status
+      → IsReader (λ s o. AnswersExplain before.held name w start s o) (name ∷ []) before after status
   word-unread after status reader =
-      widen NoAnswer (λ s o. AnswersExplain before.held name w s o) (λ s o k. absurd k) (name ∷ []) (name ∷ []) before after status (λ k. k) reader
+      widen NoAnswer (λ s o. AnswersExplain before.held name w start s o) (λ s o k. absurd k) (name ∷ []) (name ∷ []) before after status (λ k. k) reader

@@ -1,5 +1,5 @@
 -- The same texts have the same answer.
-use Rattle.std.proofs.Common.{◌≡◌, ℕ, List, Some, refl, sym, ap, subst, ◌∙◌, inl, inr, arith}
+use Rattle.std.proofs.Common.{◌≡◌, ℕ, List, Option, None, Some, refl, sym, ap, subst, ◌∙◌, inl, inr, arith}
 use Rattle.roster_model.specs.declared.grammar.Grammar.{Grammar}
 use Rattle.roster_model.specs.declared.instance.Instance.{Instance}
 use Rattle.roster_model.specs.Shifts.{IsPrice}
@@ -18,12 +18,13 @@ use Rattle.proof_pieces.specs.FaultLine as proof
 use Rattle.shift_report.specs.TreeText.{tree_text}
 use Rattle.shelf.specs.Shelf.{Texts}
 use Rattle.shift_report.specs.VerdictText.{verdict_text}
-use Rattle.text_commands.specs.Check.{Judgement, CertAnswers, ProofAnswers, AnswersProof, DemandAnswers, AnswersDemand, RulesAnswers, AnswersTexts}
+use Rattle.text_commands.specs.Check.{Judgement, CertAnswers, ProofAnswers, TextAnswers, AnswersThird, DemandAnswers, AnswersDemand, RulesAnswers, AnswersTexts}
 use Rattle.text_commands.specs.Check as checks
-use Rattle.text_commands.specs.Explain.{Derivation, Explanation, AnswersExplain}
+use Rattle.text_commands.specs.Explain.{Derivation, DerivationFrom, Explanation, AnswersExplain}
 use Rattle.text_commands.specs.Explain as explains
 use Rattle.text_commands.specs.Days.{DayAnswer, AnswersDay}
 use Rattle.text_commands.specs.Days as days
+use Rattle.text_commands.specs.Start.{AnswersOf, AnswersFrom, grammar_from}
 use Rattle.text_commands.proofs.OneReading.{same_text, same_ok, same_err, not_both, same_grammar, no_fault, faults_once}
 use Rattle.text_commands.specs.SameTexts.{AreSameButTree}
 
@@ -39,24 +40,26 @@ judged-once i c s t a b (checks.no x h) (checks.yes y k) = absurd (cause-refuses
 judged-once i c s t a b (checks.no x h) (checks.no y k) =
     (refl, h.line ∙ ap (λ (w : Why). verdict_text (No w)) (one-first i c h.why k.why h.cause k.cause) ∙ sym k.line)
 
--- where a certificate has one answer, the three texts have
+-- where a certificate has one answer, the proof text has
 module _ (A : CertAnswers) (once : (i : Instance) (c : Cert) (s t : ℕ) (a b : List ℕ) → A i c s a → A i c t b → AreSame s t a b) where
-  proof_once : (i : Instance) (text : List ℕ) (s t : ℕ) (a b : List ℕ) → ProofAnswers A i text s a → ProofAnswers A i text t b → AreSame s t a b
-  proof_once i text s t a b (checks.ProofAnswers.accepted c x xs e h) (checks.ProofAnswers.accepted d y ys f k) =
+  pub proof-once : (i : Instance) (text : List ℕ) (s t : ℕ) (a b : List ℕ) → ProofAnswers A i text s a → ProofAnswers A i text t b → AreSame s t a b
+  proof-once i text s t a b (checks.ProofAnswers.accepted c x xs e h) (checks.ProofAnswers.accepted d y ys f k) =
       once i d s t a b (subst (λ (z : Cert). A i z s a) (same_ok (proof_of i text) c d e f) h) k
-  proof_once i text s t a b (checks.ProofAnswers.accepted c x xs e h) (checks.ProofAnswers.refused ys k) = absurd (not_both (proof_of i text) c k.fault e k.reading)
-  proof_once i text s t a b (checks.ProofAnswers.refused xs h) (checks.ProofAnswers.accepted d y ys f k) = absurd (not_both (proof_of i text) d h.fault f h.reading)
-  proof_once i text s t a b (checks.ProofAnswers.refused xs h) (checks.ProofAnswers.refused ys k) =
+  proof-once i text s t a b (checks.ProofAnswers.accepted c x xs e h) (checks.ProofAnswers.refused ys k) = absurd (not_both (proof_of i text) c k.fault e k.reading)
+  proof-once i text s t a b (checks.ProofAnswers.refused xs h) (checks.ProofAnswers.accepted d y ys f k) = absurd (not_both (proof_of i text) d h.fault f h.reading)
+  proof-once i text s t a b (checks.ProofAnswers.refused xs h) (checks.ProofAnswers.refused ys k) =
       (refl, h.line ∙ ap (λ (x : ProofFault). proof.fault_line x) (same_err (proof_of i text) h.fault k.fault h.reading k.reading) ∙ sym k.line)
 
-  proofs_once : (held : Texts) (i : Instance) (name : List ℕ) (s t : ℕ) (a b : List ℕ) → AnswersProof A (Some held) i name s a → AnswersProof A (Some held) i name t b → AreSame s t a b
-  proofs_once held i name s t a b h k =
-      proof_once i k.text s t a b (subst (λ (x : List ℕ). ProofAnswers A i x s a) (same_text held name h.text k.text h.holds k.holds) h.answers) k.answers
+-- where the third text has one answer, the three texts have
+module _ (A : TextAnswers) (once : (i : Instance) (text : List ℕ) (s t : ℕ) (a b : List ℕ) → A i text s a → A i text t b → AreSame s t a b) where
+  thirds_once : (held : Texts) (i : Instance) (name : List ℕ) (s t : ℕ) (a b : List ℕ) → AnswersThird A (Some held) i name s a → AnswersThird A (Some held) i name t b → AreSame s t a b
+  thirds_once held i name s t a b h k =
+      once i k.text s t a b (subst (λ (x : List ℕ). A i x s a) (same_text held name h.text k.text h.holds k.holds) h.answers) k.answers
 
   demand_once : (held : Texts) (g : Grammar) (text name : List ℕ) (s t : ℕ) (a b : List ℕ) → DemandAnswers A (Some held) g text name s a → DemandAnswers A (Some held) g text name t b → AreSame s t a b
   demand_once held g text name s t a b (checks.DemandAnswers.accepted i x xs e h) (checks.DemandAnswers.accepted j y ys f k) =
-      proofs_once held j name s t a b
-      (subst (λ (z : Instance). AnswersProof A (Some held) z name s a) (same_ok (instance_of g text) i j e.reading f.reading) h) k
+      thirds_once held j name s t a b
+      (subst (λ (z : Instance). AnswersThird A (Some held) z name s a) (same_ok (instance_of g text) i j e.reading f.reading) h) k
   demand_once held g text name s t a b (checks.DemandAnswers.accepted i x xs e h) (checks.DemandAnswers.refused ys k) =
       absurd (not_both (instance_of g text) i k.fault e.reading k.reading)
   demand_once held g text name s t a b (checks.DemandAnswers.refused xs h) (checks.DemandAnswers.accepted j y ys f k) =
@@ -106,16 +109,31 @@ derived_once g word s t a b (explains.shift x h) (explains.no_shift y k) = absur
 derived_once g word s t a b (explains.no_shift x h) (explains.shift y k) = absurd (h.no_shift (k.tree, k.derives))
 derived_once g word s t a b (explains.no_shift x h) (explains.no_shift y k) = (refl, inl (h.line ∙ sym k.line))
 
-explained_once : (text word : List ℕ) (s t : ℕ) (a b : List ℕ) → Explanation text word s a → Explanation text word t b → (s ≡ t) × AreSameButTree word a b
-explained_once text word s t a b (explains.accepted g x xs e h) (explains.accepted f y ys q k) =
-    derived_once f word s t a b (subst (λ (z : Grammar). Derivation z word s a) (same_grammar text g f e.reading q.reading) h) k
-explained_once text word s t a b (explains.accepted g x xs e h) (explains.refused ys k) = absurd (no_fault text g k.fault e.reading k.reading)
-explained_once text word s t a b (explains.refused xs h) (explains.accepted f y ys q k) = absurd (no_fault text f h.fault q.reading h.reading)
-explained_once text word s t a b (explains.refused xs h) (explains.refused ys k) = (refl, inl (faults_once text a b h k))
+derived_of : (word : List ℕ) (o : Option Grammar) (s t : ℕ) (a b : List ℕ) → AnswersOf (λ g x xs. Derivation g word x xs) o s a → AnswersOf (λ g x xs. Derivation g word x xs) o t b
+    → (s ≡ t) × AreSameButTree word a b
+derived_of word None s t a b h k = (h.two ∙ sym k.two, inl (h.line ∙ sym k.line))
+derived_of word (Some g) s t a b h k = derived_once g word s t a b h k
 
-pub explain-once : (held : Texts) (rules word : List ℕ) (s t : ℕ) (a b : List ℕ) → AnswersExplain (Some held) rules word s a → AnswersExplain (Some held) rules word t b → (s ≡ t) × AreSameButTree word a b
-explain-once held rules word s t a b h k =
-    explained_once k.0 word s t a b (subst (λ (x : List ℕ). Explanation x word s a) (same_text held rules h.0 k.0 h.1 k.1) h.2) k.2
+explained_once : (text word : List ℕ) (start : Option (List ℕ)) (s t : ℕ) (a b : List ℕ) → Explanation text word start s a → Explanation text word start t b → (s ≡ t) × AreSameButTree word a b
+explained_once text word start s t a b (explains.accepted g x xs e h) (explains.accepted f y ys q k) =
+    derived_of word (grammar_from f start) s t a b (subst (λ (z : Grammar). DerivationFrom word start z s a) (same_grammar text g f e.reading q.reading) h) k
+explained_once text word start s t a b (explains.accepted g x xs e h) (explains.refused ys k) = absurd (no_fault text g k.fault e.reading k.reading)
+explained_once text word start s t a b (explains.refused xs h) (explains.accepted f y ys q k) = absurd (no_fault text f h.fault q.reading h.reading)
+explained_once text word start s t a b (explains.refused xs h) (explains.refused ys k) = (refl, inl (faults_once text a b h k))
+
+pub explain-once : (held : Texts) (rules word : List ℕ) (start : Option (List ℕ)) (s t : ℕ) (a b : List ℕ) → AnswersExplain (Some held) rules word start s a
+    → AnswersExplain (Some held) rules word start t b → (s ≡ t) × AreSameButTree word a b
+explain-once held rules word start s t a b h k =
+    explained_once k.0 word start s t a b (subst (λ (x : List ℕ). Explanation x word start s a) (same_text held rules h.0 k.0 h.1 k.1) h.2) k.2
+
+-- where a grammar has one answer, it has one from any name on
+module _ (Answers : Grammar → ℕ → List ℕ → Type 0) (once : (g : Grammar) (s t : ℕ) (a b : List ℕ) → Answers g s a → Answers g t b → AreSame s t a b) where
+  of_once : (o : Option Grammar) (s t : ℕ) (a b : List ℕ) → AnswersOf Answers o s a → AnswersOf Answers o t b → AreSame s t a b
+  of_once None s t a b h k = (h.two ∙ sym k.two, h.line ∙ sym k.line)
+  of_once (Some g) s t a b h k = once g s t a b h k
+
+  pub from-once : (start : Option (List ℕ)) (g : Grammar) (s t : ℕ) (a b : List ℕ) → AnswersFrom Answers start g s a → AnswersFrom Answers start g t b → AreSame s t a b
+  from-once start g s t a b = of_once (grammar_from g start) s t a b
 
 -- where a grammar has one answer, a rules text has
 module _ (Answers : Grammar → ℕ → List ℕ → Type 0) (once : (g : Grammar) (s t : ℕ) (a b : List ℕ) → Answers g s a → Answers g t b → AreSame s t a b) where

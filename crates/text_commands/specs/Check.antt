@@ -1,4 +1,4 @@
--- What commands that ask something of a certificate answer, and what `check RULES DEMAND PROOF` does.
+-- What commands that ask something of a text by a day answer, and what `check RULES DEMAND PROOF` does.
 use Rattle.std.specs.Prelude.{ℕ, ◌≡◌, List, Option, Ok, Err}
 use Rattle.roster_model.specs.declared.grammar.Grammar.{Grammar}
 use Rattle.roster_model.specs.declared.instance.Instance.{Instance}
@@ -59,12 +59,16 @@ pub data ProofAnswers (A : CertAnswers) (i : Instance) (text : List ℕ) : ℕ �
       → ProofAnswers A i text status output
   refused : (output : List ℕ) → SaysProofFault i text output → ProofAnswers A i text 5 output
 
--- the same, where the proof text stands under a name
-pub record AnswersProof (A : CertAnswers) (held : Option Texts) (i : Instance) (name : List ℕ) (status : ℕ)
+-- the answers to each third text, a proof text or another, by an instance
+abbrev pub TextAnswers : Type 1
+TextAnswers = Instance → List ℕ → ℕ → List ℕ → Type 0
+
+-- the same, where the third text stands under a name
+pub record AnswersThird (A : TextAnswers) (held : Option Texts) (i : Instance) (name : List ℕ) (status : ℕ)
     (output : List ℕ) : Type 0 where
   pub text : List ℕ
   pub holds : Holds held name text
-  pub answers : ProofAnswers A i text status output
+  pub answers : A i text status output
 
 -- the instance of an accepted demand text, which is sound
 pub record IsInstanceOf (g : Grammar) (text : List ℕ) (i : Instance) : Type 0 where
@@ -77,38 +81,33 @@ pub record SaysDemandFault (g : Grammar) (text output : List ℕ) : Type 0 where
   pub reading : instance_of g text ≡ Err fault
   pub line : output ≡ demand.fault_line fault
 
--- the answers to a demand text, and then to the proof text under a name
-pub data DemandAnswers (A : CertAnswers) (held : Option Texts) (g : Grammar) (text name : List ℕ) :
+-- the answers to a demand text, and then to the third text under a name
+pub data DemandAnswers (A : TextAnswers) (held : Option Texts) (g : Grammar) (text name : List ℕ) :
     ℕ → List ℕ → Type 0 where
   accepted : (i : Instance) (status : ℕ) (output : List ℕ) → IsInstanceOf g text i
-      → AnswersProof A held i name status output
+      → AnswersThird A held i name status output
       → DemandAnswers A held g text name status output
   refused : (output : List ℕ) → SaysDemandFault g text output → DemandAnswers A held g text name 4 output
 
 -- the same, where the demand text stands under a name
-pub record AnswersDemand (A : CertAnswers) (held : Option Texts) (g : Grammar) (name proof_name : List ℕ)
+pub record AnswersDemand (A : TextAnswers) (held : Option Texts) (g : Grammar) (name third_name : List ℕ)
     (status : ℕ) (output : List ℕ) : Type 0 where
   pub text : List ℕ
   pub holds : Holds held name text
-  pub answers : DemandAnswers A held g text proof_name status output
+  pub answers : DemandAnswers A held g text third_name status output
 
--- the answers to a rules text, and then to the demand and proof texts under names
-pub data RulesAnswers (A : CertAnswers) (held : Option Texts) (text demand_name proof_name : List ℕ) :
+-- the answers to a rules text, and then to the demand text and the third text under names
+pub data RulesAnswers (A : TextAnswers) (held : Option Texts) (text demand_name third_name : List ℕ) :
     ℕ → List ℕ → Type 0 where
   accepted : (g : Grammar) (status : ℕ) (output : List ℕ) → IsGrammarOf text g
-      → AnswersDemand A held g demand_name proof_name status output
-      → RulesAnswers A held text demand_name proof_name status output
+      → AnswersDemand A held g demand_name third_name status output
+      → RulesAnswers A held text demand_name third_name status output
   refused : (output : List ℕ) → SaysFault text output
-      → RulesAnswers A held text demand_name proof_name 3 output
+      → RulesAnswers A held text demand_name third_name 3 output
 
 -- the same, where the rules text stands under a name
-pub record AnswersTexts (A : CertAnswers) (held : Option Texts) (name demand_name proof_name : List ℕ)
+pub record AnswersTexts (A : TextAnswers) (held : Option Texts) (name demand_name third_name : List ℕ)
     (status : ℕ) (output : List ℕ) : Type 0 where
   pub text : List ℕ
   pub holds : Holds held name text
-  pub answers : RulesAnswers A held text demand_name proof_name status output
-
--- whether the certificate is accepted
-abbrev pub AnswersCheck : Option Texts → List ℕ → List ℕ → List ℕ → ℕ → List ℕ → Type 0
-AnswersCheck held name demand_name proof_name status output =
-    AnswersTexts Judgement held name demand_name proof_name status output
+  pub answers : RulesAnswers A held text demand_name third_name status output

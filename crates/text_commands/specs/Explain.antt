@@ -1,4 +1,4 @@
--- What `explain RULES WORD` answers.
+-- What `explain RULES WORD` answers, and `explain RULES WORD NAME`.
 use Rattle.std.specs.Prelude.{ℕ, ◌≡◌, List, Option, Ok, Err, codes}
 use Rattle.roster_model.specs.declared.grammar.Grammar.{Grammar}
 use Rattle.roster_model.specs.Shifts.{IsShift, IsPrice, IsWordTree}
@@ -11,6 +11,7 @@ use Rattle.rules_text.specs.declared.fault.RulesFault.{RulesFault}
 use Rattle.shelf.specs.Shelf.{Texts}
 use Rattle.shift_report.specs.TreeText.{tree_text}
 use Rattle.text_commands.specs.Reader.{Holds}
+use Rattle.text_commands.specs.Start.{AnswersFrom}
 
 -- status 0: the word's price, and a tree of that cost by which the start name derives the word
 pub record SaysTree (g : Grammar) (word output : List ℕ) : Type 0 where
@@ -42,13 +43,17 @@ pub record SaysFault (text output : List ℕ) : Type 0 where
   pub reading : IsReading text (Err fault)
   pub line : output ≡ fault_line fault
 
+-- the answers for a word by a grammar, from its start name or from another name on
+abbrev pub DerivationFrom : List ℕ → Option (List ℕ) → Grammar → ℕ → List ℕ → Type 0
+DerivationFrom word start g status output = AnswersFrom (λ h s o. Derivation h word s o) start g status output
+
 -- the answers to a rules text and a word
-pub data Explanation (text word : List ℕ) : ℕ → List ℕ → Type 0 where
+pub data Explanation (text word : List ℕ) (start : Option (List ℕ)) : ℕ → List ℕ → Type 0 where
   accepted : (g : Grammar) (status : ℕ) (output : List ℕ) → IsGrammarOf text g
-      → Derivation g word status output → Explanation text word status output
-  refused : (output : List ℕ) → SaysFault text output → Explanation text word 3 output
+      → DerivationFrom word start g status output → Explanation text word start status output
+  refused : (output : List ℕ) → SaysFault text output → Explanation text word start 3 output
 
 -- the same, where the rules text stands under a name
-abbrev pub AnswersExplain : Option Texts → List ℕ → List ℕ → ℕ → List ℕ → Type 0
-AnswersExplain held rules word status output =
-    (text : List ℕ) × Holds held rules text × Explanation text word status output
+abbrev pub AnswersExplain : Option Texts → List ℕ → List ℕ → Option (List ℕ) → ℕ → List ℕ → Type 0
+AnswersExplain held rules word start status output =
+    (text : List ℕ) × Holds held rules text × Explanation text word start status output

@@ -2,6 +2,7 @@
 use Rattle.std.specs.Prelude.{ℕ, ◌≡◌, ◌≢◌, ◌⊎◌, ◌<◌, ◌≤◌, IsTrue, List, ◌++◌, Option, Some, IfSome, IsSome, IsSomeAnd}
 use Rattle.std.specs.FinMap as fin
 use Rattle.shelf.specs.Shelf.{Texts, Told, one_more, most_faults}
+use Rattle.shelf.specs.Stores.{may_store}
 use Rattle.roster_model.specs.Folds.{Each}
 
 -- the text stands under the name, where the shelf tells what it holds
@@ -11,6 +12,10 @@ Holds held name text = IfSome held (λ texts. fin.get texts name ≡ Some text)
 -- some text stands under each of the names
 abbrev pub HoldsAll : Option Texts → List (List ℕ) → Type 0
 HoldsAll held names = IsSomeAnd held (λ texts. Each (λ name. IsSome (fin.get texts name)) names)
+
+-- a text may be stored under the name, by what the shelf holds
+abbrev pub MayStore : List ℕ → Option Texts → Type 0
+MayStore name held = IsSomeAnd held (λ texts. IsTrue (may_store texts name))
 
 -- all of the output was said, and nothing else
 abbrev pub Said : Option (List ℕ) → Option (List ℕ) → List ℕ → Type 0

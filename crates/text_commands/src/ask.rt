@@ -4,12 +4,12 @@ ghost use Rattle.roster_model.specs.SoundInstance.{IsSoundInstance};
 ghost use Rattle.demand_lines.specs.FaultLine as demand_fault;
 ghost use Rattle.text_commands.specs.Check.{
   AnswersDemand,
-  AnswersProof,
-  AnswersTexts,
+  AnswersThird,
   DemandAnswers,
   RulesAnswers,
 };
 ghost use Rattle.text_commands.specs.Reader.{IsReader};
+ghost use Rattle.text_commands.specs.TextCommands.{TextCommand};
 
 use crate::answer::Answer;
 use crate::explain::refusal;
@@ -36,19 +36,19 @@ pub fn demand_refusal(alloc: Global, fault: DemandFault) -> Result<Answer, Memor
     }
 }
 
-// Asks something of the certificate of the proof text under a name.
-fn ask_proof<S: Shelf, Q: Question>(
+// Asks something of the third text under a name.
+fn ask_third<S: Shelf, Q: Question>(
     alloc: Global,
     shelf: &mut S,
     instance: &Instance,
-    proof: &str,
+    third: &str,
     question: &Q,
 ) -> u8
     requires { IsSoundInstance instance.now }
-    ensures { IsReader (AnswersProof (Q.answers question.now) (S.told shelf.old).held instance.now proof.now)
-        (proof.now ∷ []) (S.told shelf.old) (S.told shelf.new) result }
+    ensures { IsReader (AnswersThird (Q.answers question.now) (S.told shelf.old).held instance.now third.now)
+        (third.now ∷ []) (S.told shelf.old) (S.told shelf.new) result }
 {
-    let text = match fetched(alloc, shelf, proof) {
+    let text = match fetched(alloc, shelf, third) {
         Ok(text) => text,
         Err(status) => return status,
     };
@@ -56,83 +56,83 @@ fn ask_proof<S: Shelf, Q: Question>(
     say_answer_to(shelf, text, question.answer(alloc, instance, text))
 }
 
-// Asks something of a certificate by a demand text and the proof text under a name.
+// Asks something of the third text under a name by a demand text.
 fn ask_demand_text<S: Shelf, Q: Question>(
     alloc: Global,
     shelf: &mut S,
     grammar: Grammar,
     text: &[u8],
-    proof: &str,
+    third: &str,
     question: &Q,
 ) -> u8
     requires sound { IsSound grammar }
     requires plain { IsPlain grammar }
     ensures { IsReader (DemandAnswers (Q.answers question.now) (S.told shelf.old).held
-        grammar text.now proof.now) (proof.now ∷ []) (S.told shelf.old) (S.told shelf.new) result }
+        grammar text.now third.now) (third.now ∷ []) (S.told shelf.old) (S.told shelf.new) result }
 {
     match read_demand(alloc, grammar, text) {
-        Ok(instance) => ask_proof(alloc, shelf, &instance, proof, question),
+        Ok(instance) => ask_third(alloc, shelf, &instance, third, question),
         Err(fault) => say_answer_to(shelf, text, demand_refusal(alloc, fault)),
     }
 }
 
-// Asks something of a certificate by the demand and proof texts under names.
+// Asks something of the third text under a name by the demand text under another.
 fn ask_demand<S: Shelf, Q: Question>(
     alloc: Global,
     shelf: &mut S,
     grammar: Grammar,
     demand: &str,
-    proof: &str,
+    third: &str,
     question: &Q,
 ) -> u8
     requires sound { IsSound grammar }
     requires plain { IsPlain grammar }
     ensures { IsReader (AnswersDemand (Q.answers question.now) (S.told shelf.old).held
-        grammar demand.now proof.now)
-        (demand.now ∷ proof.now ∷ []) (S.told shelf.old) (S.told shelf.new) result }
+        grammar demand.now third.now)
+        (demand.now ∷ third.now ∷ []) (S.told shelf.old) (S.told shelf.new) result }
 {
     match fetched(alloc, shelf, demand) {
-        Ok(text) => ask_demand_text(alloc, shelf, grammar, text.as_slice(), proof, question),
+        Ok(text) => ask_demand_text(alloc, shelf, grammar, text.as_slice(), third, question),
         Err(status) => status,
     }
 }
 
-/// Asks something of a certificate by a rules text and the demand and proof texts under names, and says the
+/// Asks something of the third text under a name by a rules text and the demand text under a name, and says the
 /// answer, or why a text is refused. The texts are read in this order.
 pub fn ask_rules_text<S: Shelf, Q: Question>(
     alloc: Global,
     shelf: &mut S,
     text: &[u8],
     demand: &str,
-    proof: &str,
+    third: &str,
     question: &Q,
 ) -> u8
     ensures { IsReader (RulesAnswers (Q.answers question.now) (S.told shelf.old).held
-        text.now demand.now proof.now)
-        (demand.now ∷ proof.now ∷ []) (S.told shelf.old) (S.told shelf.new) result }
+        text.now demand.now third.now)
+        (demand.now ∷ third.now ∷ []) (S.told shelf.old) (S.told shelf.new) result }
 {
     match read_rules(alloc, text) {
-        Ok(grammar) => ask_demand(alloc, shelf, grammar, demand, proof, question),
+        Ok(grammar) => ask_demand(alloc, shelf, grammar, demand, third, question),
         Err(fault) => say_answer_to(shelf, text, refusal(alloc, fault)),
     }
 }
 
-/// Asks something of a certificate, by the rules, demand and proof texts under names, and says the answer, or
-/// why a text is refused. The texts are fetched and read in this order.
+/// Asks something of a third text, as a proof text, by the rules and demand texts, all under names, and says the
+/// answer, or why a text is refused. The texts are fetched and read in this order.
 pub fn ask<S: Shelf, Q: Question>(
     alloc: Global,
     shelf: &mut S,
     rules: &str,
     demand: &str,
-    proof: &str,
+    third: &str,
     question: &Q,
 ) -> u8
-    ensures { IsReader (AnswersTexts (Q.answers question.now) (S.told shelf.old).held
-        rules.now demand.now proof.now)
-        (rules.now ∷ demand.now ∷ proof.now ∷ []) (S.told shelf.old) (S.told shelf.new) result }
+    ensures { IsReader (TextCommand (Q.answers question.now) (S.told shelf.old).held
+        rules.now demand.now third.now)
+        (rules.now ∷ demand.now ∷ third.now ∷ []) (S.told shelf.old) (S.told shelf.new) result }
 {
     match fetched(alloc, shelf, rules) {
-        Ok(text) => ask_rules_text(alloc, shelf, text.as_slice(), demand, proof, question),
+        Ok(text) => ask_rules_text(alloc, shelf, text.as_slice(), demand, third, question),
         Err(status) => status,
     }
 }

@@ -4,8 +4,9 @@ ghost use Rattle.proof_pieces.specs.CertOf.{proof_fault};
 ghost use Rattle.proof_pieces.specs.FaultLine as proof_line;
 ghost use Rattle.proof_check.specs.Judging.{IsJudged};
 ghost use Rattle.shift_report.specs.VerdictText.{verdict_text};
-ghost use Rattle.text_commands.specs.Check.{AnswersCheck, Judgement, ProofAnswers, verdict_status};
+ghost use Rattle.text_commands.specs.Check.{Judgement, ProofAnswers, verdict_status};
 ghost use Rattle.text_commands.specs.Reader.{IsReader};
+ghost use Rattle.text_commands.specs.Says.{CertCommand};
 
 use crate::answer::Answer;
 use crate::ask::ask;
@@ -88,12 +89,12 @@ fn judgement(alloc: Global, instance: &Instance, text: &[u8]) -> Result<Answer, 
 struct Acceptance;
 
 impl Question for Acceptance {
-    ghost use Rattle.text_commands.specs.Check.{Judgement};
-    ghost use Rattle.text_commands.specs.Statuses.{judged-ends};
+    ghost use Rattle.text_commands.specs.Check.{Judgement, ProofAnswers};
+    ghost use Rattle.text_commands.specs.Statuses.{judged-ends, proof-ends};
 
-    ghost answers = { λ _. Judgement };
+    ghost answers = { λ _. ProofAnswers Judgement };
 
-    ghost ends = { λ _. judged-ends };
+    ghost ends = { λ _. proof-ends Judgement judged-ends };
 
     fn answer(&self, alloc: Global, instance: &Instance, text: &[u8]) -> Result<Answer, Memory> {
         judgement(alloc, instance, text)
@@ -103,7 +104,7 @@ impl Question for Acceptance {
 /// Says whether a certificate is accepted, by the rules, demand and proof texts under names, or why a text or the
 /// certificate is refused. The texts are fetched and read in this order.
 pub fn check<S: Shelf>(alloc: Global, shelf: &mut S, rules: &str, demand: &str, proof: &str) -> u8
-    ensures { IsReader (AnswersCheck (S.told shelf.old).held rules.now demand.now proof.now)
+    ensures { IsReader (CertCommand Judgement (S.told shelf.old).held rules.now demand.now proof.now)
         (rules.now ∷ demand.now ∷ proof.now ∷ []) (S.told shelf.old) (S.told shelf.new) result }
 {
     ask(alloc, shelf, rules, demand, proof, &Acceptance)

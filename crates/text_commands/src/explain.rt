@@ -1,15 +1,20 @@
-ghost use Rattle.std.specs.Prelude.{◌≡◌, ◌≢◌, [], ◌∷◌, IfOk, length, codes};
+ghost use Rattle.std.specs.Prelude.{◌≡◌, ◌≢◌, [], ◌∷◌, IfOk, IfSome, length, codes};
+ghost use Rattle.std.specs.Option.{option_copied};
 ghost use Rattle.roster_model.specs.Shifts.{IsPrice};
 ghost use Rattle.roster_model.specs.Sound.{IsSound};
 ghost use Rattle.span_table.specs.Tables.{IsMadeFor, IsFilled};
 ghost use Rattle.word_prices.specs.Prices.{word_view};
 ghost use Rattle.rules_text.specs.FaultLine.{fault_line};
-ghost use Rattle.text_commands.specs.Explain.{AnswersExplain, Derivation, Explanation, SaysTree};
+ghost use Rattle.text_commands.specs.Explain.{Derivation, DerivationFrom, Explanation, SaysTree};
 ghost use Rattle.text_commands.specs.Reader.{IsReader};
+ghost use Rattle.text_commands.specs.RulesCommands.{RulesCommand};
+ghost use Rattle.text_commands.specs.Start.{AnswersOf};
 
 use crate::answer::Answer;
 use crate::fetch::fetched;
+use crate::oddities::note_rules;
 use crate::say::{MEMORY, say};
+use crate::start::{grammar_from, no_form};
 use crate::unfit::note_unfit;
 use roster_model::{Grammar, List, Memory, TreeRoom};
 use rules_text::{RulesFault, fault_line, read_rules};
@@ -99,37 +104,82 @@ pub fn refusal(alloc: Global, fault: RulesFault) -> Result<Answer, Memory>
     }
 }
 
-// What is answered to a rules text and a word.
-fn explanation(alloc: Global, text: &[u8], word: &[u8]) -> Result<Answer, Memory>
-    ensures { IfOk result (λ a. Explanation text.now word.now a.status a.output) }
+// What is answered to a word by a sound grammar, if there is one.
+fn derivation_from(alloc: Global, grammar: Option<Grammar>, word: &[u8]) -> Result<Answer, Memory>
+    requires { IfSome grammar IsSound }
+    ensures { IfOk result (λ a. AnswersOf (λ g s o. Derivation g word.now s o) grammar a.status a.output) }
+{
+    match grammar {
+        Some(grammar) => derivation(alloc, &grammar, word),
+        None => no_form(alloc),
+    }
+}
+
+// What is answered to a rules text and a word, from the start name or from another name on.
+fn explanation(
+    alloc: Global,
+    text: &[u8],
+    word: &[u8],
+    start: Option<&str>,
+) -> Result<Answer, Memory>
+    ensures { IfOk result
+        (λ a. Explanation text.now word.now (option_copied start.entry) a.status a.output) }
 {
     match read_rules(alloc, text) {
-        Ok(grammar) => derivation(alloc, &grammar, word),
+        Ok(grammar) => derivation_from(alloc, grammar_from(grammar, start), word),
         Err(fault) => refusal(alloc, fault),
     }
 }
 
-// Says what is answered to a rules text and a word.
-fn say_explanation<S: Shelf>(alloc: Global, shelf: &mut S, text: &[u8], word: &[u8]) -> u8
-    ensures { IsReader (λ s o. Explanation text.now word.now s o) [] (S.told shelf.old) (S.told shelf.new)
-        result }
+// Notes what is odd about a rules text, and why a word is no shift.
+fn note_explained<S: Shelf>(
+    alloc: Global,
+    shelf: &mut S,
+    text: &[u8],
+    word: &[u8],
+    start: Option<&str>,
+    status: u8,
+)
+    ensures { S.told shelf.new ≡ S.told shelf.old }
 {
-    match explanation(alloc, text, word) {
+    note_rules(alloc, shelf, text);
+    note_unfit(alloc, shelf, text, None, word, start, status);
+}
+
+// Says what is answered to a rules text and a word.
+fn say_explanation<S: Shelf>(
+    alloc: Global,
+    shelf: &mut S,
+    text: &[u8],
+    word: &[u8],
+    start: Option<&str>,
+) -> u8
+    ensures { IsReader (λ s o. Explanation text.now word.now (option_copied start.entry) s o) []
+        (S.told shelf.old) (S.told shelf.new) result }
+{
+    match explanation(alloc, text, word, start) {
         Ok(answer) => {
-            note_unfit(alloc, shelf, text, None, word, answer.status);
+            note_explained(alloc, shelf, text, word, start, answer.status);
             say(shelf, answer.output.as_slice(), answer.status)
         }
         Err(Memory) => MEMORY,
     }
 }
 
-/// Says the price of a word by the rules text under a name, and a tree of that cost.
-pub fn explain<S: Shelf>(alloc: Global, shelf: &mut S, rules: &str, word: &str) -> u8
-    ensures { IsReader (AnswersExplain (S.told shelf.old).held rules.now word.now) (rules.now ∷ [])
-        (S.told shelf.old) (S.told shelf.new) result }
+/// Says the price of a word by the rules text under a name, and a tree of that cost, from the start name or from
+/// another name on.
+pub fn explain<S: Shelf>(
+    alloc: Global,
+    shelf: &mut S,
+    rules: &str,
+    word: &str,
+    start: Option<&str>,
+) -> u8
+    ensures { IsReader (RulesCommand (λ g s o. DerivationFrom word.now (option_copied start.entry) g s o)
+        (S.told shelf.old).held rules.now) (rules.now ∷ []) (S.told shelf.old) (S.told shelf.new) result }
 {
     match fetched(alloc, shelf, rules) {
-        Ok(text) => say_explanation(alloc, shelf, text.as_slice(), word.as_bytes()),
+        Ok(text) => say_explanation(alloc, shelf, text.as_slice(), word.as_bytes(), start),
         Err(status) => status,
     }
 }

@@ -1,13 +1,17 @@
-ghost use Rattle.std.specs.Prelude.{◌≢◌, ◌≤◌, ◌∷◌, [], IfOk};
+ghost use Rattle.std.specs.Prelude.{◌≢◌, ◌≤◌, ◌∷◌, [], IfOk, IfSome};
+ghost use Rattle.std.specs.Option.{option_copied};
 ghost use Rattle.day_questions.specs.Fitting.{FitsAnswer};
 ghost use Rattle.roster_model.specs.Sound.{IsSound};
-ghost use Rattle.text_commands.specs.Days.{AnswersFits, DayAnswer};
+ghost use Rattle.text_commands.specs.Days.{DayAnswer, FitsFrom};
 ghost use Rattle.text_commands.specs.Reader.{IsReader};
+ghost use Rattle.text_commands.specs.RulesCommands.{RulesCommand};
+ghost use Rattle.text_commands.specs.Start.{AnswersOf};
 
 use crate::answer::Answer;
 use crate::explain::refusal;
 use crate::fetch::fetched;
 use crate::say::{MEMORY, say};
+use crate::start::{grammar_from, no_form};
 use crate::unfit::{ANY, note_unfit};
 use day_questions::fits_answer;
 use roster_model::{Grammar, Memory};
@@ -29,38 +33,67 @@ fn fitting_by(alloc: Global, grammar: &Grammar, pattern: &[u8]) -> Result<Answer
     }
 }
 
-// What is answered to a rules text and a pattern.
-fn fitting(alloc: Global, text: &[u8], pattern: &[u8]) -> Result<Answer, Memory>
-    ensures { IfOk result
-        (λ a. DayAnswer (λ g s o. FitsAnswer g pattern.now s o) text.now a.status a.output) }
+// What is answered to a pattern by a sound grammar, if there is one.
+fn fitting_from(alloc: Global, grammar: Option<Grammar>, pattern: &[u8]) -> Result<Answer, Memory>
+    requires sound { IfSome grammar IsSound }
+    ensures { IfOk result (λ a. AnswersOf (λ g s o. FitsAnswer g pattern.now s o) grammar a.status a.output) }
+{
+    match grammar {
+        Some(grammar) => fitting_by(alloc, &grammar, pattern),
+        None => no_form(alloc),
+    }
+}
+
+// What is answered to a rules text and a pattern, from the start name or from another name on.
+fn fitting(
+    alloc: Global,
+    text: &[u8],
+    pattern: &[u8],
+    start: Option<&str>,
+) -> Result<Answer, Memory>
+    ensures { IfOk result (λ a. DayAnswer (λ g s o. FitsFrom pattern.now (option_copied start.entry) g s o) text.now
+        a.status a.output) }
 {
     match read_rules(alloc, text) {
-        Ok(grammar) => fitting_by(alloc, &grammar, pattern),
+        Ok(grammar) => fitting_from(alloc, grammar_from(grammar, start), pattern),
         Err(fault) => refusal(alloc, fault),
     }
 }
 
 // Says what is answered to a rules text.
-fn say_fitting<S: Shelf>(alloc: Global, shelf: &mut S, text: &[u8], pattern: &[u8]) -> u8
-    ensures { IsReader (λ s o. DayAnswer (λ g s o. FitsAnswer g pattern.now s o) text.now s o) []
-        (S.told shelf.old) (S.told shelf.new) result }
+fn say_fitting<S: Shelf>(
+    alloc: Global,
+    shelf: &mut S,
+    text: &[u8],
+    pattern: &[u8],
+    start: Option<&str>,
+) -> u8
+    ensures { IsReader (λ s o. DayAnswer (λ g s o. FitsFrom pattern.now (option_copied start.entry) g s o)
+        text.now s o) [] (S.told shelf.old) (S.told shelf.new) result }
 {
-    match fitting(alloc, text, pattern) {
+    match fitting(alloc, text, pattern, start) {
         Ok(answer) => {
-            note_unfit(alloc, shelf, text, Some(ANY), pattern, answer.status);
+            note_unfit(alloc, shelf, text, Some(ANY), pattern, start, answer.status);
             say(shelf, answer.output.as_slice(), answer.status)
         }
         Err(Memory) => MEMORY,
     }
 }
 
-/// Says the shifts that fit a pattern by the rules text under a name.
-pub fn fits<S: Shelf>(alloc: Global, shelf: &mut S, rules: &str, pattern: &str) -> u8
-    ensures { IsReader (AnswersFits (S.told shelf.old).held rules.now pattern.now) (rules.now ∷ [])
-        (S.told shelf.old) (S.told shelf.new) result }
+/// Says the shifts that fit a pattern by the rules text under a name, from the start
+/// name or from another name on.
+pub fn fits<S: Shelf>(
+    alloc: Global,
+    shelf: &mut S,
+    rules: &str,
+    pattern: &str,
+    start: Option<&str>,
+) -> u8
+    ensures { IsReader (RulesCommand (λ g s o. FitsFrom pattern.now (option_copied start.entry) g s o)
+        (S.told shelf.old).held rules.now) (rules.now ∷ []) (S.told shelf.old) (S.told shelf.new) result }
 {
     match fetched(alloc, shelf, rules) {
-        Ok(text) => say_fitting(alloc, shelf, text.as_slice(), pattern.as_bytes()),
+        Ok(text) => say_fitting(alloc, shelf, text.as_slice(), pattern.as_bytes(), start),
         Err(status) => status,
     }
 }

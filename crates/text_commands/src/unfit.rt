@@ -2,7 +2,7 @@ ghost use Rattle.std.specs.Prelude.{◌≡◌, IfOk};
 ghost use Rattle.roster_model.specs.Sound.{IsSound};
 ghost use Rattle.span_table.specs.Tables.{IsMadeFor};
 
-use crate::encoding::note_encoding;
+use crate::start::{grammar_from, note_refused};
 use day_questions::PatternPrices;
 use roster_model::{Grammar, Memory};
 use rules_text::read_rules;
@@ -88,18 +88,31 @@ fn reason(alloc: Global, grammar: &Grammar, any: Option<u8>, word: &str) -> Opti
     front_text(alloc, front, letters).ok()
 }
 
-// Returns why a word is no shift by a rules text that is accepted.
-fn reason_by(alloc: Global, text: &[u8], any: Option<u8>, word: &[u8]) -> Option<String> {
-    let grammar = read_rules(alloc, text).ok()?;
+// Returns why a word is no shift by a rules text that is accepted, from the start name or from another name on.
+fn reason_by(
+    alloc: Global,
+    text: &[u8],
+    any: Option<u8>,
+    word: &[u8],
+    start: Option<&str>,
+) -> Option<String> {
+    let grammar = grammar_from(read_rules(alloc, text).ok()?, start)?;
     let word = str::from_utf8(word).ok()?;
     reason(alloc, &grammar, any, word)
 }
 
 // Notes why a word is no shift by a rules text that is accepted.
-fn note_reason<S: Shelf>(alloc: Global, shelf: &mut S, text: &[u8], any: Option<u8>, word: &[u8])
+fn note_reason<S: Shelf>(
+    alloc: Global,
+    shelf: &mut S,
+    text: &[u8],
+    any: Option<u8>,
+    word: &[u8],
+    start: Option<&str>,
+)
     ensures { S.told shelf.new ≡ S.told shelf.old }
 {
-    match reason_by(alloc, text, any, word) {
+    match reason_by(alloc, text, any, word, start) {
         Some(reason) => shelf.note(reason.as_str()),
         None => {}
     }
@@ -107,20 +120,21 @@ fn note_reason<S: Shelf>(alloc: Global, shelf: &mut S, text: &[u8], any: Option<
 
 /// Notes why the answer to a rules text and a word, or a pattern in which `any` stands for any code, has this
 /// status: the length where it differs from the day's, a sign that is no code, or how much of the word begins
-/// a shift, with 1; what the text shows of its encoding, with 3. Where memory does not suffice nothing is
-/// noted.
+/// a shift, with 1; a name that is none of the rules, with 2; what the text shows of its encoding, with 3. Where
+/// memory does not suffice nothing is noted.
 pub(crate) fn note_unfit<S: Shelf>(
     alloc: Global,
     shelf: &mut S,
     text: &[u8],
     any: Option<u8>,
     word: &[u8],
+    start: Option<&str>,
     status: u8,
 )
     ensures { S.told shelf.new ≡ S.told shelf.old }
 {
     match status {
-        1 => note_reason(alloc, shelf, text, any, word),
-        _ => note_encoding(shelf, text, status),
+        1 => note_reason(alloc, shelf, text, any, word, start),
+        _ => note_refused(alloc, shelf, text, start, status),
     }
 }

@@ -1,5 +1,6 @@
+use Rattle.std.specs.Option.{option_copied}
 use Rattle.shelf.specs.Shelf.{Told}
-use Rattle.text_commands.proofs.Derivations.{word-read, word-unread}
+use Rattle.text_commands.proofs.SaysLemmas.{command-read, command-unread}
 use Rattle.text_commands.proofs.explain.explain.Goals as goal
 
 pub returns-in-Ok : goal.returns-in-Ok
@@ -7,10 +8,10 @@ returns-in-Ok g c =
     let before : Told = g.S.Shelf.told c.args.shelf.now in
     let middle : Told = g.S.Shelf.told c.fetched.new.shelf in
     let after : Told = g.S.Shelf.told c.say_explanation.new.shelf in
-    word-read c.args.word.now c.args.rules.now before c.in-Ok.text.items middle after c.say_explanation.result c.in-Ok.ensures.text (rw (c.as_slice.ensures.value, c.as_bytes.ensures.value) at c.say_explanation.ensures)
+    command-read c.args.word.now (option_copied c.args.start) c.args.rules.now before c.in-Ok.text.items middle after c.say_explanation.result c.in-Ok.ensures.text (rw (c.as_slice.ensures.value, c.as_bytes.ensures.value) at c.say_explanation.ensures)
 
 pub returns-in-Err : goal.returns-in-Err
 returns-in-Err g c =
     let before : Told = g.S.Shelf.told c.args.shelf.now in
     let after : Told = g.S.Shelf.told c.fetched.new.shelf in
-    word-unread c.args.word.now c.args.rules.now before after c.in-Err.status c.in-Err.ensures.refusal
+    command-unread c.args.word.now (option_copied c.args.start) c.args.rules.now before after c.in-Err.status c.in-Err.ensures.refusal

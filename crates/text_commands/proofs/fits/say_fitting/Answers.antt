@@ -1,6 +1,7 @@
 use Rattle.std.proofs.Common.{◌≡◌}
 use Rattle.shelf.specs.Shelf.{Told}
-use Rattle.day_questions.specs.Fitting.{FitsAnswer}
+use Rattle.std.specs.Option.{option_copied}
+use Rattle.text_commands.specs.Days.{FitsFrom}
 use Rattle.text_commands.proofs.Days.{day-said}
 use Rattle.text_commands.proofs.fits.say_fitting.Goals as goal
 
@@ -10,7 +11,7 @@ returns-in-Ok g c =
     let noted : Told = g.S.Shelf.told c.note_unfit.new.shelf in
     let after : Told = g.S.Shelf.told c.say.new.shelf in
     let same : noted ≡ before = c.note_unfit.ensures in
-    day-said (λ g s o. FitsAnswer g c.args.pattern.now s o) c.args.text.now c.in-Ok.answer before after c.say.result c.in-Ok.ensures
+    day-said (λ g s o. FitsFrom c.args.pattern.now (option_copied c.args.start) g s o) c.args.text.now c.in-Ok.answer before after c.say.result c.in-Ok.ensures
     (record {
       status_is = c.say.ensures.status;
       whole = rw (c.as_slice.ensures, same) at c.say.ensures.said;
