@@ -32,17 +32,19 @@ use Rattle.rules_text.specs.declared.fault.RulesFault.{RulesFault}
 use Rattle.rules_text.specs.declared.fault.RulesFault.TheVariants as rules_faults
 use Rattle.shelf.specs.Shelf.{Texts, Told}
 use Rattle.text_commands.specs.declared.answer.Answer.{Answer}
-use Rattle.search_commands.specs.Curve.{Point, ArePoints, said_points, point_entries, point_name, curve_status, AreFalling, SaysCurve, HasFirstPoints, Curving, CurvesDemand, AnswersCurveDemand, CurvesRules, AnswersCurve}
+use Rattle.search_commands.specs.Curve.{Point, ArePoints, said_points, point_entries, point_name, curve_status, AreFalling, SaysCurve, HasFirstPoints, Curving, CurvesDemand, AnswersCurveDemand, CurvesRules, AnswersCurve, MayStorePoints, MayStoreDemand, MayStoreHeldDemand, MayStoreRules, MayStoreCurve}
 use Rattle.search_commands.specs.Curve as curves
 use Rattle.text_commands.specs.Fetch.{IsAnswer, IsFetch, NoAnswer}
 use Rattle.search_commands.specs.Points.{FindsFirst, BreaksCurve, AnswersGroups}
-use Rattle.text_commands.specs.Reader.{IsReader}
+use Rattle.text_commands.specs.Reader.{Holds, IsReader}
 use Rattle.search_commands.specs.Series.{Entry, End, answered, broken_off, IsSeriesWriter, StoresNoEntry}
 use Rattle.search_commands.specs.Solve.{MasterView, SaysTooManyArcs}
+use Rattle.search_commands.specs.Writer.{IsAsked, IsTurnedDown}
 use Rattle.search_commands.proofs.Solves.{IsArcsAnswer}
 use Rattle.text_commands.proofs.Readers.{one_held}
 use Rattle.text_commands.proofs.Checks.{no_names}
-use Rattle.search_commands.proofs.SeriesLemmas.{widen, as_series, refused_fetch, after_fetch, broken_series, said_series}
+use Rattle.search_commands.proofs.SeriesLemmas.{widen, as_series, refused_fetch, after_fetch, after_asked, turned_down, broken_series, said_series}
+use Rattle.search_commands.proofs.PointNames.{may_next}
 
 -- a search that did not end with its turns closed its point
 open_ran_out : (i : Instance) (strict : Bool) (turns : ℕ) (f : Found) (d : Done) → f.done ≡ d → IsDone f.cert d → IsFound i strict turns f → f.cert.bound ≢ f.cert.cost → f.processed ≡ turns
@@ -90,20 +92,31 @@ module _ (i : Instance) (proof : List ℕ) (m : MasterView) (limit : Limit) wher
 
   module _ (before after : Told) (status : ℕ) where
     pub graph-refused : i.groups ≡ [] → (fault : GraphFault) → IsRefused i.grammar fault → (r : Result Answer Memory) → IfOk r (IsArcsAnswer fault)
-        → IsReader (IsAnswer r) [] before after status → IsSeriesWriter (Curving i proof m limit) [] before after status
+        → IsReader (IsAnswer r) [] before after status → IsSeriesWriter (Curving i proof m limit) [] (MayStorePoints proof i) before after status
     graph-refused plain fault refused r h reader =
-        widen (StoresNoEntry (IsAnswer r)) (Curving i proof m limit) (refused_graph plain fault refused r h) [] [] before after status (λ k. k) (as_series (IsAnswer r) [] before after status reader)
+        widen (StoresNoEntry (IsAnswer r)) (Curving i proof m limit) (refused_graph plain fault refused r h) [] [] (MayStorePoints proof i) (MayStorePoints proof i) before after status (λ k. k) (λ k. k)
+        (as_series (IsAnswer r) [] (MayStorePoints proof i) before after status reader)
 
-    pub groups-said : i.groups ≢ [] → IsReader AnswersGroups [] before after status → IsSeriesWriter (Curving i proof m limit) [] before after status
+    pub groups-said : i.groups ≢ [] → IsReader AnswersGroups [] before after status → IsSeriesWriter (Curving i proof m limit) [] (MayStorePoints proof i) before after status
     groups-said ne reader =
-        widen (StoresNoEntry AnswersGroups) (Curving i proof m limit) (with_groups ne) [] [] before after status (λ k. k) (as_series AnswersGroups [] before after status reader)
+        widen (StoresNoEntry AnswersGroups) (Curving i proof m limit) (with_groups ne) [] [] (MayStorePoints proof i) (MayStorePoints proof i) before after status (λ k. k) (λ k. k)
+        (as_series AnswersGroups [] (MayStorePoints proof i) before after status reader)
 
-    pub curve-broken : i.groups ≡ [] → BreaksCurve i proof m limit before after status → IsSeriesWriter (Curving i proof m limit) [] before after status
-    curve-broken plain b =
+    pub curve-broken : i.groups ≡ [] → i.heads_max ≤ 64 → BreaksCurve i proof m limit before after status → IsSeriesWriter (Curving i proof m limit) [] (MayStorePoints proof i) before after status
+    curve-broken plain few b =
         let entries = point_entries proof (first_heads i) b.points in
         let name = point_name proof (first_heads i + length b.points) in
-        broken_series (Curving i proof m limit) entries name before after status
-        (curves.broken name entries (record { plain = plain; points = b.points; fewer = b.fewer; are = b.are; stored_is = refl; next = refl })) b.broken
+        broken_series (Curving i proof m limit) entries (MayStorePoints proof i) name before after status
+        (curves.broken name entries (record { plain = plain; points = b.points; fewer = b.fewer; are = b.are; stored_is = refl; next = refl }))
+        (may_next proof i b.points before.held b.fewer few) b.broken
+
+    -- a curve whose points were asked for, and may be stored or not
+    pub curve-asked : (middle : Told) → IsAsked (MayStorePoints proof i) before middle → IsSeriesWriter (Curving i proof m limit) [] (MayStorePoints proof i) middle after status
+        → IsSeriesWriter (Curving i proof m limit) [] (MayStorePoints proof i) before after status
+    curve-asked middle a w = after_asked (Curving i proof m limit) (MayStorePoints proof i) before middle after status a w
+
+    pub curve-left : IsTurnedDown (MayStorePoints proof i) before after status → IsSeriesWriter (Curving i proof m limit) [] (MayStorePoints proof i) before after status
+    curve-left a = turned_down (Curving i proof m limit) (MayStorePoints proof i) before after status a
 
     module _ (middle : Told) (said : List CurvePoint) (plain : i.groups ≡ []) (arcs : (n : ℕ) × HasArcCount i.grammar n) (f : FindsFirst i proof m limit (point_count i) before middle said) where
       -- what is said of all points
@@ -130,9 +143,9 @@ module _ (i : Instance) (proof : List ℕ) (m : MasterView) (limit : Limit) wher
       said_of (Ok x) h s o a = all_said s o (a.0 ∙ h.0) (a.1 ∙ h.1)
 
       pub curve-said : (r : Result Answer Memory) → IfOk r (λ a. (a.status ≡ curve_status said) × (a.output ≡ curve_text said))
-          → IsReader (IsAnswer r) [] middle after status → IsSeriesWriter (Curving i proof m limit) [] before after status
+          → IsReader (IsAnswer r) [] middle after status → IsSeriesWriter (Curving i proof m limit) [] (MayStorePoints proof i) before after status
       curve-said r h reader =
-          said_series (Curving i proof m limit) (point_entries proof (first_heads i) f.points) (IsAnswer r) (curve_status said) (curve_text said) before middle after status
+          said_series (Curving i proof m limit) (point_entries proof (first_heads i) f.points) (IsAnswer r) (curve_status said) (curve_text said) (MayStorePoints proof i) before middle after status
           (said_of r h) (all_said (curve_status said) (curve_text said) refl refl) f.stored reader
 
 module _ (proof : List ℕ) (m : MasterView) (limit : Limit) where
@@ -157,47 +170,59 @@ module _ (proof : List ℕ) (m : MasterView) (limit : Limit) where
   module _ (before after : Told) (status : ℕ) where
     pub demand-refused : (g : Grammar) (text : List ℕ) (fault : DemandFault) (r : Result Answer Memory)
         → IfOk r (λ a. (fault ≢ demand_faults.Memory) × (a.status ≡ 4) × (a.output ≡ demand.fault_line fault)) → (fault ≢ demand_faults.Memory → instance_of g text ≡ Err fault)
-        → IsReader (IsAnswer r) [] before after status → IsSeriesWriter (CurvesDemand g text proof m limit) [] before after status
+        → IsReader (IsAnswer r) [] before after status → IsSeriesWriter (CurvesDemand g text proof m limit) [] (MayStoreDemand proof g text) before after status
     demand-refused g text fault r h reading reader =
-        widen (StoresNoEntry (IsAnswer r)) (CurvesDemand g text proof m limit) (refused_demand g text fault r h reading) [] [] before after status (λ k. k) (as_series (IsAnswer r) [] before after status reader)
+        widen (StoresNoEntry (IsAnswer r)) (CurvesDemand g text proof m limit) (refused_demand g text fault r h reading) [] [] (MayStoreDemand proof g text) (MayStoreDemand proof g text) before after status (λ k. k) (λ k. k)
+        (as_series (IsAnswer r) [] (MayStoreDemand proof g text) before after status reader)
 
     pub demand-accepted : (g : Grammar) (text : List ℕ) (i : Instance) → instance_of g text ≡ Ok i → IsSoundInstance i
-        → IsSeriesWriter (Curving i proof m limit) [] before after status → IsSeriesWriter (CurvesDemand g text proof m limit) [] before after status
+        → IsSeriesWriter (Curving i proof m limit) [] (MayStorePoints proof i) before after status → IsSeriesWriter (CurvesDemand g text proof m limit) [] (MayStoreDemand proof g text) before after status
     demand-accepted g text i reading sound w =
-        widen (Curving i proof m limit) (CurvesDemand g text proof m limit) (λ e x a. curves.CurvesDemand.accepted i e x (record { reading = reading; sound = sound }) a) [] [] before after status (λ k. k) w
+        widen (Curving i proof m limit) (CurvesDemand g text proof m limit) (λ e x a. curves.CurvesDemand.accepted i e x (record { reading = reading; sound = sound }) a) [] []
+        (MayStoreDemand proof g text) (MayStorePoints proof i) before after status (λ k. k) (λ k. k i (record { reading = reading; sound = sound })) w
 
     pub rules-refused : (text demand_name : List ℕ) (fault : RulesFault) (r : Result Answer Memory)
         → IfOk r (λ a. (fault ≢ rules_faults.Memory) × (a.status ≡ 3) × (a.output ≡ fault_line fault)) → (fault ≢ rules_faults.Memory → IsReading text (Err fault))
-        → IsReader (IsAnswer r) [] before after status → IsSeriesWriter (CurvesRules before.held text demand_name proof m limit) (demand_name ∷ []) before after status
+        → IsReader (IsAnswer r) [] before after status → IsSeriesWriter (CurvesRules before.held text demand_name proof m limit) (demand_name ∷ []) (MayStoreRules proof text demand_name) before after status
     rules-refused text demand_name fault r h reading reader =
-        widen (StoresNoEntry (IsAnswer r)) (CurvesRules before.held text demand_name proof m limit) (refused_rules before.held text demand_name fault r h reading) (demand_name ∷ []) [] before after status
-        (no_names before.held (demand_name ∷ [])) (as_series (IsAnswer r) [] before after status reader)
+        widen (StoresNoEntry (IsAnswer r)) (CurvesRules before.held text demand_name proof m limit) (refused_rules before.held text demand_name fault r h reading) (demand_name ∷ []) []
+        (MayStoreRules proof text demand_name) (MayStoreRules proof text demand_name) before after status (no_names before.held (demand_name ∷ [])) (λ k. k)
+        (as_series (IsAnswer r) [] (MayStoreRules proof text demand_name) before after status reader)
 
     pub rules-accepted : (text demand_name : List ℕ) (g : Grammar) → IsReading text (Ok g) → IsSound g
-        → IsSeriesWriter (AnswersCurveDemand before.held g demand_name proof m limit) (demand_name ∷ []) before after status
-        → IsSeriesWriter (CurvesRules before.held text demand_name proof m limit) (demand_name ∷ []) before after status
+        → IsSeriesWriter (AnswersCurveDemand before.held g demand_name proof m limit) (demand_name ∷ []) (MayStoreHeldDemand proof g demand_name) before after status
+        → IsSeriesWriter (CurvesRules before.held text demand_name proof m limit) (demand_name ∷ []) (MayStoreRules proof text demand_name) before after status
     rules-accepted text demand_name g reading sound w =
         widen (AnswersCurveDemand before.held g demand_name proof m limit) (CurvesRules before.held text demand_name proof m limit)
-        (λ e x a. curves.CurvesRules.accepted g e x (record { reading = reading; sound = sound }) a) (demand_name ∷ []) (demand_name ∷ []) before after status (λ k. k) w
+        (λ e x a. curves.CurvesRules.accepted g e x (record { reading = reading; sound = sound }) a) (demand_name ∷ []) (demand_name ∷ [])
+        (MayStoreRules proof text demand_name) (MayStoreHeldDemand proof g demand_name) before after status (λ k. k) (λ k. k g (record { reading = reading; sound = sound })) w
 
     -- a demand text that was fetched, and one that was not
-    pub demand-read : (g : Grammar) (name text : List ℕ) (middle : Told) → IsFetch name before middle text → IsSeriesWriter (CurvesDemand g text proof m limit) [] middle after status
-        → IsSeriesWriter (AnswersCurveDemand before.held g name proof m limit) (name ∷ []) before after status
+    pub demand-read : (g : Grammar) (name text : List ℕ) (middle : Told) → IsFetch name before middle text → IsSeriesWriter (CurvesDemand g text proof m limit) [] (MayStoreDemand proof g text) middle after status
+        → IsSeriesWriter (AnswersCurveDemand before.held g name proof m limit) (name ∷ []) (MayStoreHeldDemand proof g name) before after status
     demand-read g name text middle f w =
-        after_fetch (AnswersCurveDemand before.held g name proof m limit) name [] before middle after status text f
-        (widen (CurvesDemand g text proof m limit) (AnswersCurveDemand before.held g name proof m limit) (λ e x a. record { text = text; holds = f.holds; answers = a }) [] [] middle after status (λ k. k) w)
+        let holds : Holds middle.held name text = subst (λ (h : Option Texts). Holds h name text) (sym f.held) f.holds in
+        after_fetch (AnswersCurveDemand before.held g name proof m limit) name [] (MayStoreHeldDemand proof g name) before middle after status text f
+        (widen (CurvesDemand g text proof m limit) (AnswersCurveDemand before.held g name proof m limit) (λ e x a. record { text = text; holds = f.holds; answers = a }) [] []
+        (MayStoreHeldDemand proof g name) (MayStoreDemand proof g text) middle after status (λ k. k) (λ k. k text holds) w)
 
-    pub demand-unread : (g : Grammar) (name : List ℕ) → IsReader NoAnswer (name ∷ []) before after status → IsSeriesWriter (AnswersCurveDemand before.held g name proof m limit) (name ∷ []) before after status
-    demand-unread g name reader = refused_fetch (AnswersCurveDemand before.held g name proof m limit) name (name ∷ []) before after status (λ k. k) reader
+    pub demand-unread : (g : Grammar) (name : List ℕ) → IsReader NoAnswer (name ∷ []) before after status
+        → IsSeriesWriter (AnswersCurveDemand before.held g name proof m limit) (name ∷ []) (MayStoreHeldDemand proof g name) before after status
+    demand-unread g name reader = refused_fetch (AnswersCurveDemand before.held g name proof m limit) name (name ∷ []) (MayStoreHeldDemand proof g name) before after status (λ k. k) reader
 
     -- a rules text that was fetched, and one that was not
-    pub rules-read : (name demand_name text : List ℕ) (middle : Told) → IsFetch name before middle text → IsSeriesWriter (CurvesRules middle.held text demand_name proof m limit) (demand_name ∷ []) middle after status
-        → IsSeriesWriter (AnswersCurve before.held name demand_name proof m limit) (name ∷ demand_name ∷ []) before after status
+    pub rules-read : (name demand_name text : List ℕ) (middle : Told) → IsFetch name before middle text
+        → IsSeriesWriter (CurvesRules middle.held text demand_name proof m limit) (demand_name ∷ []) (MayStoreRules proof text demand_name) middle after status
+        → IsSeriesWriter (AnswersCurve before.held name demand_name proof m limit) (name ∷ demand_name ∷ []) (MayStoreCurve proof name demand_name) before after status
     rules-read name demand_name text middle f w =
-        after_fetch (AnswersCurve before.held name demand_name proof m limit) name (demand_name ∷ []) before middle after status text f
+        let holds : Holds middle.held name text = subst (λ (h : Option Texts). Holds h name text) (sym f.held) f.holds in
+        after_fetch (AnswersCurve before.held name demand_name proof m limit) name (demand_name ∷ []) (MayStoreCurve proof name demand_name) before middle after status text f
         (widen (CurvesRules middle.held text demand_name proof m limit) (AnswersCurve before.held name demand_name proof m limit)
-        (λ e x a. record { text = text; holds = f.holds; answers = subst (λ (h : Option Texts). CurvesRules h text demand_name proof m limit e x) f.held a }) (demand_name ∷ []) (demand_name ∷ []) middle after status (λ k. k) w)
+        (λ e x a. record { text = text; holds = f.holds; answers = subst (λ (h : Option Texts). CurvesRules h text demand_name proof m limit e x) f.held a }) (demand_name ∷ []) (demand_name ∷ [])
+        (MayStoreCurve proof name demand_name) (MayStoreRules proof text demand_name) middle after status (λ k. k) (λ k. k text holds) w)
 
-    pub rules-unread : (name demand_name : List ℕ) → IsReader NoAnswer (name ∷ []) before after status → IsSeriesWriter (AnswersCurve before.held name demand_name proof m limit) (name ∷ demand_name ∷ []) before after status
+    pub rules-unread : (name demand_name : List ℕ) → IsReader NoAnswer (name ∷ []) before after status
+        → IsSeriesWriter (AnswersCurve before.held name demand_name proof m limit) (name ∷ demand_name ∷ []) (MayStoreCurve proof name demand_name) before after status
     rules-unread name demand_name reader =
-        refused_fetch (AnswersCurve before.held name demand_name proof m limit) name (name ∷ demand_name ∷ []) before after status (one_held before.held name (demand_name ∷ [])) reader
+        refused_fetch (AnswersCurve before.held name demand_name proof m limit) name (name ∷ demand_name ∷ []) (MayStoreCurve proof name demand_name) before after status
+        (one_held before.held name (demand_name ∷ [])) reader

@@ -4,8 +4,11 @@ pub mod Solves
 pub mod Makes
 pub mod ReuseLemmas
 pub mod SeriesLemmas
+pub mod PointNames
 pub mod PointLemmas
 pub mod CurveAnswers
 pub mod OneCost
 pub mod OneEndLemmas
 pub mod CurveEnds
+pub mod SolveLemmas
+pub mod CurveLemmas

@@ -1,11 +1,37 @@
 -- Commands that store a text and then say an answer.
-use Rattle.std.proofs.Common.{◌≡◌, ℕ, List, [], ◌∷◌, Option, None, Some, arith, refl, sym, subst, inl, inr}
-use Rattle.std.specs.Prelude.{IfSome, IsSomeAnd}
-use Rattle.shelf.specs.Shelf.{Texts, Told, AgreesElsewhere}
+use Rattle.std.proofs.Common.{◌≡◌, ◌≢◌, ◌≤◌, ℕ, Bool, true, false, true≢false, List, [], ◌∷◌, Option, None, Some, arith, refl, sym, subst, ◌∙◌, ◌⊎◌, inl, inr}
+use Rattle.std.specs.Prelude.{IfSome, IsSomeAnd, IsTrue}
+use Rattle.std.specs.FinMap as fin
+use Rattle.shelf.specs.Shelf.{Texts, Told, AgreesElsewhere, one_more}
+use Rattle.shelf.specs.Stores.{may_replace, may_store}
 use Rattle.text_commands.specs.Fetch.{IsFetch, NoAnswer}
-use Rattle.text_commands.specs.Reader.{HoldsAll, Said, SaidLittle, IsReader}
-use Rattle.search_commands.specs.Writer.{Answers, IsStored, WroteLittle, IsWriter, StoresNothing}
-use Rattle.text_commands.proofs.Readers.{more_faults, others_held, quiet_now}
+use Rattle.text_commands.specs.Reader.{HoldsAll, MayStore, Said, SaidLittle, IsReader}
+use Rattle.search_commands.specs.Writer.{Answers, Keeps, IsStored, WroteLittle, IsWriter, IsAsked, IsTurnedDown, StoresNothing}
+use Rattle.text_commands.proofs.Readers.{more_faults, no_more, others_held, quiet_now}
+
+pub keeps_same : (old new : Option Texts) → new ≡ old → Keeps old new
+keeps_same None new e = tt
+keeps_same (Some t) new e = rw e (λ name may. refl)
+
+pub keeps_joined : (a b c : Option Texts) → Keeps a b → Keeps b c → Keeps a c
+keeps_joined None b c h k = tt
+keeps_joined (Some t) None c h k = absurd h
+keeps_joined (Some t) (Some u) None h k = absurd k
+keeps_joined (Some t) (Some u) (Some v) h k =
+    λ name may. k name (subst (λ (o : Option (List ℕ)). may_replace o ≡ false) (sym (h name may)) may) ∙ h name may
+
+-- one call of the shelf that stores
+pub keeps_stored : (name : List ℕ) (old new : Option Texts) → IfSome old (λ texts. may_store texts name ≡ false → new ≡ old) → IfSome old (λ texts. IsSomeAnd new (AgreesElsewhere name texts)) → Keeps old new
+keeps_stored name None new kept others = tt
+keeps_stored name (Some t) None kept others = absurd others
+keeps_stored name (Some t) (Some u) kept others = λ other may. at (may_store t name) refl other may
+  where
+    at : (b : Bool) → may_store t name ≡ b → (other : List ℕ) → may_store t other ≡ false → fin.get u other ≡ fin.get t other
+    at true e other may = others other (λ same. true≢false (sym e ∙ subst (λ (n : List ℕ). may_store t n ≡ false) same may))
+    at false e other may =
+        let held : Some u ≡ Some t = kept e in
+        let one : u ≡ t = cc in
+        rw one refl
 
 module _ (A B : Answers) (each : (status : ℕ) (output : List ℕ) (stored : Option (List ℕ)) → A status output stored → B status output stored) where
   little : (name : List ℕ) (before after : Told) (old new : List ℕ) → WroteLittle A name before after old new → WroteLittle B name before after old new
@@ -21,11 +47,12 @@ module _ (A B : Answers) (each : (status : ℕ) (output : List ℕ) (stored : Op
   pub widen : (ms ns : List (List ℕ)) (name : List ℕ) (before after : Told) (status : ℕ) → (HoldsAll before.held ms → HoldsAll before.held ns) → IsWriter A ns name before after status → IsWriter B ms name before after status
   widen ms ns name before after status more w = record {
     others = w.others;
+    kept = w.kept;
     answer = λ six seven. let a = w.answer six seven in (a.0, a.1, each status a.0 a.1 a.2, a.3, a.4);
     front = fronts name before after before.said after.said w.front;
     never_falls = w.never_falls;
     cause = w.cause;
-    steady = λ steady holds few. w.steady steady (more holds) few;
+    steady = λ steady holds may few. w.steady steady (more holds) may few;
   }
 
 unchanged : (name : List ℕ) (old new : Option Texts) → new ≡ old → IfSome old (λ texts. IsSomeAnd new (AgreesElsewhere name texts))
@@ -46,11 +73,12 @@ module _ (A : ℕ → List ℕ → Type 0) (name : List ℕ) (before after : Tol
 pub as_writer : (A : ℕ → List ℕ → Type 0) (names : List (List ℕ)) (name : List ℕ) (before after : Told) (status : ℕ) → IsReader A names before after status → IsWriter (StoresNothing A) names name before after status
 as_writer A names name before after status r = record {
   others = unchanged name before.held after.held r.held;
+  kept = keeps_same before.held after.held r.held;
   answer = λ six seven. let a = r.answer six seven in (a.0, None, (a.1, refl), a.2, r.held);
   front = reader_fronts A name before after r.held before.said after.said r.front;
   never_falls = r.never_falls;
   cause = r.cause;
-  steady = r.steady;
+  steady = λ steady holds may few. r.steady steady holds few;
 }
 
 no_answer : (B : Answers) (status : ℕ) (output : List ℕ) (stored : Option (List ℕ)) → StoresNothing NoAnswer status output stored → B status output stored
@@ -75,16 +103,56 @@ module _ (A : Answers) (name : List ℕ) (before middle after : Told) (held : mi
   fronts_since (Some said) None h = absurd h
   fronts_since (Some said) (Some now) h = little_since said now h
 
+-- a command that goes on after what stored and said nothing
+since : (A : Answers) (ms ns : List (List ℕ)) (name : List ℕ) (before middle after : Told) (status : ℕ) → middle.held ≡ before.held → middle.said ≡ before.said → before.faults ≤ middle.faults
+    → (IsTrue before.steady → HoldsAll before.held ms → MayStore name before.held → IsTrue middle.steady × HoldsAll middle.held ns × (middle.faults ≡ before.faults))
+    → IsWriter A ns name middle after status → IsWriter A ms name before after status
+since A ms ns name before middle after status held said less calm w = record {
+  others = subst (λ (x : Option Texts). IfSome x (λ texts. IsSomeAnd after.held (AgreesElsewhere name texts))) held w.others;
+  kept = subst (λ (x : Option Texts). Keeps x after.held) held w.kept;
+  answer = λ six seven. let a = w.answer six seven in (a.0, a.1, a.2, subst (λ (old : Option (List ℕ)). Said old after.said a.0) said a.3, stored_since A name before middle after held a.1 a.4);
+  front = fronts_since A name before middle after held before.said after.said (subst (λ (old : Option (List ℕ)). IfSome old (λ said. IsSomeAnd after.said (WroteLittle A name middle after said))) said w.front);
+  never_falls = let more = w.never_falls in omega (arith, less, more);
+  cause = λ six. more_faults before.faults middle.faults after.faults less (w.cause six);
+  steady = λ steady holds may few.
+      let now = calm steady holds may in
+      let same = now.2 in
+      w.steady now.0 now.1 (subst (λ (h : Option Texts). MayStore name h) (sym held) may) (omega (arith, few, same));
+}
+
 -- a command that goes on after it fetched a text
 pub after_fetch : (A : Answers) (asked : List ℕ) (names : List (List ℕ)) (name : List ℕ) (before middle after : Told) (status : ℕ) (text : List ℕ) → IsFetch asked before middle text → IsWriter A names name middle after status
     → IsWriter A (asked ∷ names) name before after status
-after_fetch A asked names name before middle after status text f w = record {
-  others = subst (λ (x : Option Texts). IfSome x (λ texts. IsSomeAnd after.held (AgreesElsewhere name texts))) f.held w.others;
-  answer = λ six seven. let a = w.answer six seven in (a.0, a.1, a.2, subst (λ (said : Option (List ℕ)). Said said after.said a.0) f.said a.3, stored_since A name before middle after f.held a.1 a.4);
-  front = fronts_since A name before middle after f.held before.said after.said (subst (λ (old : Option (List ℕ)). IfSome old (λ said. IsSomeAnd after.said (WroteLittle A name middle after said))) f.said w.front);
-  never_falls = omega (arith, f.never_falls, w.never_falls);
-  cause = λ six. more_faults before.faults middle.faults after.faults f.never_falls (w.cause six);
-  steady = λ steady holds few.
-      let same = quiet_now asked names before.held before.faults middle.faults (f.quiet steady) holds in
-      w.steady (f.stays_steady steady) (subst (λ (h : Option Texts). HoldsAll h names) (sym f.held) (others_held before.held asked names holds)) (omega (arith, few, same));
+after_fetch A asked names name before middle after status text f w =
+    since A (asked ∷ names) names name before middle after status f.held f.said f.never_falls
+    (λ steady holds may. (
+      f.stays_steady steady,
+      subst (λ (h : Option Texts). HoldsAll h names) (sym f.held) (others_held before.held asked names holds),
+      quiet_now asked names before.held before.faults middle.faults (f.quiet steady) holds,
+    )) w
+
+-- a command that goes on after it asked whether its text may be stored
+pub after_asked : (A : Answers) (name : List ℕ) (before middle after : Told) (status : ℕ) → IsAsked (MayStore name) before middle → IsWriter A [] name middle after status → IsWriter A [] name before after status
+after_asked A name before middle after status a w =
+    since A [] [] name before middle after status a.held a.said a.never_falls
+    (λ steady holds may. (a.stays_steady steady, subst (λ (h : Option Texts). HoldsAll h []) (sym a.held) holds, a.quiet steady may)) w
+
+pub no_answer_yet : (B : Type 0) (status : ℕ) → (status ≡ 6) ⊎ (status ≡ 7) → status ≢ 6 → status ≢ 7 → B
+no_answer_yet B status (inl e) six seven = absurd (six e)
+no_answer_yet B status (inr e) six seven = absurd (seven e)
+
+silent : (A : Answers) (name : List ℕ) (before after : Told) (old new : Option (List ℕ)) → new ≡ old → IfSome old (λ said. IsSomeAnd new (WroteLittle A name before after said))
+silent A name before after None new e = tt
+silent A name before after (Some said) new e = rw e (inl refl)
+
+-- a command whose text may not be stored
+pub turned_down : (A : Answers) (name : List ℕ) (before after : Told) (status : ℕ) → IsTurnedDown (MayStore name) before after status → IsWriter A [] name before after status
+turned_down A name before after status r = record {
+  others = unchanged name before.held after.held r.asked.held;
+  kept = keeps_same before.held after.held r.asked.held;
+  answer = λ six seven. no_answer_yet _ status r.refused six seven;
+  front = silent A name before after before.said after.said r.asked.said;
+  never_falls = r.asked.never_falls;
+  cause = r.cause;
+  steady = λ steady holds may few six. no_more before.faults few (subst (λ (n : ℕ). one_more before.faults ≤ n) (r.asked.quiet steady may) (r.cause six));
 }

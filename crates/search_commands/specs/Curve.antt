@@ -1,5 +1,5 @@
 -- What `curve RULES DEMAND PROOF LIMIT` answers.
-use Rattle.std.specs.Prelude.{ℕ, ◌≡◌, ◌≢◌, ◌<◌, ◌+◌, ◌++◌, Bool, true, false, cond, nat_eq, is_none, List, [], ◌∷◌, Option, None, Some, codes, length}
+use Rattle.std.specs.Prelude.{ℕ, ◌≡◌, ◌≢◌, ◌<◌, ◌≤◌, ◌+◌, ◌++◌, Bool, true, false, cond, nat_eq, is_none, List, [], ◌∷◌, Option, None, Some, codes, length}
 use Rattle.std.specs.Fmt.{decimal}
 use Rattle.std.specs.List.{list_all}
 use Rattle.search_commands.specs.declared.limit.Limit.{Limit}
@@ -15,7 +15,7 @@ use Rattle.reuse_report.specs.CurveText.{point_of, curve_text}
 use Rattle.shelf.specs.Shelf.{Texts}
 use Rattle.text_commands.specs.Check.{IsInstanceOf, SaysDemandFault}
 use Rattle.text_commands.specs.Explain.{IsGrammarOf, SaysFault}
-use Rattle.text_commands.specs.Reader.{Holds}
+use Rattle.text_commands.specs.Reader.{Holds, MayStore}
 use Rattle.search_commands.specs.Series.{Entry, End, answered, broken_off}
 use Rattle.search_commands.specs.Solve.{MasterView, lent, done_status, Finds, SaysTooManyArcs}
 
@@ -152,3 +152,27 @@ pub record AnswersCurve (held : Option Texts) (name demand_name proof : List ℕ
   pub text : List ℕ
   pub holds : Holds held name text
   pub answers : CurvesRules held text demand_name proof m limit end stored
+
+-- each point's certificate may be stored under its name
+abbrev pub MayStorePoints : List ℕ → Instance → Option Texts → Type 0
+MayStorePoints proof i held =
+    (heads : ℕ) → first_heads i ≤ heads → heads ≤ i.heads_max → MayStore (point_name proof heads) held
+
+-- the same for the day of a demand text
+abbrev pub MayStoreDemand : List ℕ → Grammar → List ℕ → Option Texts → Type 0
+MayStoreDemand proof g text held = (i : Instance) → IsInstanceOf g text i → MayStorePoints proof i held
+
+-- the same, where the demand text stands under a name
+abbrev pub MayStoreHeldDemand : List ℕ → Grammar → List ℕ → Option Texts → Type 0
+MayStoreHeldDemand proof g name held =
+    (text : List ℕ) → Holds held name text → MayStoreDemand proof g text held
+
+-- the same for the day of a rules text and of the demand text under a name
+abbrev pub MayStoreRules : List ℕ → List ℕ → List ℕ → Option Texts → Type 0
+MayStoreRules proof text demand_name held =
+    (g : Grammar) → IsGrammarOf text g → MayStoreHeldDemand proof g demand_name held
+
+-- the same, where the rules text stands under a name
+abbrev pub MayStoreCurve : List ℕ → List ℕ → List ℕ → Option Texts → Type 0
+MayStoreCurve proof name demand_name held =
+    (text : List ℕ) → Holds held name text → MayStoreRules proof text demand_name held

@@ -8,3 +8,5 @@ pub mod Series
 pub mod Curve
 pub mod Points
 pub mod OneEnd
+pub mod SolveAnswers
+pub mod CurveAnswers

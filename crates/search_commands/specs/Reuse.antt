@@ -1,13 +1,11 @@
 -- What `reuse RULES DEMAND PROOF` answers.
-use Rattle.std.specs.Prelude.{ℕ, ◌≡◌, List, Option}
+use Rattle.std.specs.Prelude.{ℕ, ◌≡◌, List}
 use Rattle.roster_model.specs.declared.instance.Instance.{Instance}
 use Rattle.certificates.specs.declared.cert.Cert.{Cert}
 use Rattle.proof_reuse.specs.declared.nodes.Reused.{Reused}
 use Rattle.proof_reuse.specs.declared.nodes.Reused.TheVariants.{Bound, Refused}
 use Rattle.proof_reuse.specs.Reuse.{IsReuse}
 use Rattle.reuse_report.specs.ReusedText.{reused_text}
-use Rattle.shelf.specs.Shelf.{Texts}
-use Rattle.text_commands.specs.Check.{AnswersTexts}
 
 -- 0 for a bound, and 1 for a refusal
 abbrev pub reused_status : Reused → ℕ
@@ -22,8 +20,3 @@ pub record Reusing (i : Instance) (c : Cert) (status : ℕ) (output : List ℕ) 
   pub is : IsReuse i c reused
   pub status_is : status ≡ reused_status reused
   pub line : output ≡ reused_text reused
-
--- what the nodes of an old certificate show
-abbrev pub AnswersReuse : Option Texts → List ℕ → List ℕ → List ℕ → ℕ → List ℕ → Type 0
-AnswersReuse held name demand_name proof_name status output =
-    AnswersTexts Reusing held name demand_name proof_name status output

@@ -2,7 +2,9 @@
 use Rattle.std.specs.Prelude.{ℕ, ◌≡◌, ◌≢◌, ◌⊎◌, ◌<◌, ◌≤◌, IsTrue, List, [], ◌∷◌, ◌++◌, Option, Some, IfSome, IsSomeAnd}
 use Rattle.std.specs.FinMap as fin
 use Rattle.shelf.specs.Shelf.{Texts, Told, AgreesElsewhere, one_more, most_faults}
+use Rattle.shelf.specs.Stores.{may_store}
 use Rattle.text_commands.specs.Reader.{HoldsAll, Said}
+use Rattle.search_commands.specs.Writer.{Keeps}
 
 -- a text and the name that it is stored under
 pub record Entry : Type 0 where
@@ -73,14 +75,17 @@ abbrev pub SaidSome : SeriesAnswers → Told → Told → List ℕ → List ℕ 
 SaidSome A before after old new = (new ≡ old) ⊎ SeriesFront A before after old new
 
 -- What a command does that stores several texts. `A` says with which statuses it may end, what it says then and
--- which texts it stores before, and where storing may break off; `names` are those of the texts that it fetches.
--- Status 6 is a refusal of the shelf, and 7 want of memory.
-pub record IsSeriesWriter (A : SeriesAnswers) (names : List (List ℕ)) (before after : Told) (status : ℕ) :
-    Type 0 where
+-- which texts it stores before, and where storing may break off; `names` are those of the texts that it
+-- fetches, and `may` says of what a shelf holds that all texts may be stored. Status 6 is a refusal of the shelf,
+-- and 7 want of memory.
+pub record IsSeriesWriter (A : SeriesAnswers) (names : List (List ℕ)) (may : Option Texts → Type 0)
+    (before after : Told) (status : ℕ) : Type 0 where
   -- whatever the status, the texts that were stored stand, and no other name changes
   pub held : IfSome before.held (λ texts. IsSomeAnd after.held (StoredSome A texts))
   -- after want of memory they stand alone: the name where storing broke off holds what it held
   pub memory : status ≡ 7 → IfSome before.held (λ texts. IsSomeAnd after.held (StoredOnly A texts))
+  -- no text is lost but an empty one and one that begins as a proof text does
+  pub kept : Keeps before.held after.held
   -- an answer is one of the allowed ones: it is said whole, and all that goes with it is stored
   pub answer : status ≢ 6 → status ≢ 7 → (output : List ℕ) × (entries : List Entry)
       × A (answered status output) entries × Said before.said after.said output
@@ -90,8 +95,9 @@ pub record IsSeriesWriter (A : SeriesAnswers) (names : List (List ℕ)) (before 
   -- the shelf refuses only where it counts a fault, or its count stands at its last value
   pub never_falls : before.faults ≤ after.faults
   pub cause : status ≡ 6 → one_more before.faults ≤ after.faults
-  -- a steady shelf that holds the texts refuses nothing
-  pub steady : IsTrue before.steady → HoldsAll before.held names → before.faults < most_faults → status ≢ 6
+  -- a steady shelf that holds the texts, and under the names only what may be stored over, refuses nothing
+  pub steady : IsTrue before.steady → HoldsAll before.held names → may before.held
+      → before.faults < most_faults → status ≢ 6
 
 -- answers that store nothing
 abbrev pub StoresNoEntry : (ℕ → List ℕ → Type 0) → SeriesAnswers
@@ -101,6 +107,7 @@ StoresNoEntry A (broken_off name) entries = ⊥
 -- these texts were stored by now, and nothing else was done
 pub record IsStoredBy (entries : List Entry) (before after : Told) : Type 0 where
   pub held : AreStored before.held after.held entries
+  pub kept : Keeps before.held after.held
   pub said : after.said ≡ before.said
   pub never_falls : before.faults ≤ after.faults
   pub stays_steady : IsTrue before.steady → IsTrue after.steady
@@ -111,6 +118,11 @@ abbrev pub BreaksOff : Option Texts → Option Texts → List Entry → List ℕ
 BreaksOff before after entries name =
     IfSome before (λ texts. IsSomeAnd after (AgreesElsewhere name (with_entries texts entries)))
 
+-- a text may be stored under the name once these texts were
+abbrev pub MayStoreAfter : List Entry → List ℕ → Option Texts → Type 0
+MayStoreAfter entries name held =
+    IsSomeAnd held (λ texts. IsTrue (may_store (with_entries texts entries) name))
+
 -- these texts were stored, and then the store under the name was refused, or memory ran out, after which the name
 -- holds what it held
 pub record IsBrokenOff (entries : List Entry) (name : List ℕ) (before after : Told)
@@ -118,7 +130,8 @@ pub record IsBrokenOff (entries : List Entry) (name : List ℕ) (before after : 
   pub refused : (status ≡ 6) ⊎ (status ≡ 7)
   pub held : BreaksOff before.held after.held entries name
   pub memory : status ≡ 7 → AreStored before.held after.held entries
+  pub kept : Keeps before.held after.held
   pub said : after.said ≡ before.said
   pub never_falls : before.faults ≤ after.faults
   pub cause : status ≡ 6 → one_more before.faults ≤ after.faults
-  pub quiet : IsTrue before.steady → after.faults ≡ before.faults
+  pub quiet : IsTrue before.steady → MayStoreAfter entries name before.held → after.faults ≡ before.faults

@@ -1,14 +1,20 @@
 -- Parts of a command that stores one text and then says one answer.
-use Rattle.std.specs.Prelude.{ℕ, ◌≡◌, ◌≢◌, ◌⊎◌, ◌<◌, ◌≤◌, IsTrue, List, ◌++◌, Option, None, Some, Result, Ok, Err, IfSome, IsSomeAnd}
+use Rattle.std.specs.Prelude.{ℕ, ◌≡◌, ◌≢◌, ◌⊎◌, ◌<◌, ◌≤◌, false, IsTrue, List, ◌++◌, Option, None, Some, Result, Ok, Err, IfSome, IsSomeAnd}
 use Rattle.std.specs.FinMap as fin
 use Rattle.roster_model.specs.declared.memory.Memory.{Memory}
 use Rattle.shelf.specs.Shelf.{Texts, Told, AgreesElsewhere, one_more, most_faults}
+use Rattle.shelf.specs.Stores.{may_store}
 use Rattle.text_commands.specs.declared.answer.Answer.{Answer}
-use Rattle.text_commands.specs.Reader.{HoldsAll, Said}
+use Rattle.text_commands.specs.Reader.{HoldsAll, MayStore, Said}
 
 -- answers by status, by what is said and by what is stored before, if anything is
 abbrev pub Answers : Type 1
 Answers = ℕ → List ℕ → Option (List ℕ) → Type 0
+
+-- each text that may not be stored over stands
+abbrev pub Keeps : Option Texts → Option Texts → Type 0
+Keeps before after = IfSome before (λ old. IsSomeAnd after (λ new. (name : List ℕ)
+    → may_store old name ≡ false → fin.get new name ≡ fin.get old name))
 
 -- nothing was stored, or this text under the name and nothing else
 abbrev pub IsStored : Option Texts → Option Texts → List ℕ → Option (List ℕ) → Type 0
@@ -38,6 +44,8 @@ pub record IsWriter (A : Answers) (names : List (List ℕ)) (name : List ℕ) (b
     (status : ℕ) : Type 0 where
   -- no other name changes, whatever the status
   pub others : IfSome before.held (λ texts. IsSomeAnd after.held (AgreesElsewhere name texts))
+  -- no text is lost but an empty one and one that begins as a proof text does
+  pub kept : Keeps before.held after.held
   -- an answer is one of the allowed ones: it is said whole, and what goes with it is stored
   pub answer : status ≢ 6 → status ≢ 7 → (output : List ℕ) × (stored : Option (List ℕ))
       × A status output stored
@@ -47,14 +55,29 @@ pub record IsWriter (A : Answers) (names : List (List ℕ)) (name : List ℕ) (b
   -- the shelf refuses only where it counts a fault, or its count stands at its last value
   pub never_falls : before.faults ≤ after.faults
   pub cause : status ≡ 6 → one_more before.faults ≤ after.faults
-  -- a steady shelf that holds the texts refuses nothing
-  pub steady : IsTrue before.steady → HoldsAll before.held names → before.faults < most_faults → status ≢ 6
+  -- a steady shelf that holds the texts, and under the name only what may be stored over, refuses nothing
+  pub steady : IsTrue before.steady → HoldsAll before.held names → MayStore name before.held
+      → before.faults < most_faults → status ≢ 6
 
 -- the one answer that was made, once the text was stored, unless memory ran out
 abbrev pub IsStoredAnswer : Result Answer Memory → List ℕ → Answers
 IsStoredAnswer (Ok a) text status output stored = (status ≡ a.status) × (output ≡ a.output)
     × (stored ≡ Some text)
 IsStoredAnswer (Err e) text status output stored = ⊥
+
+-- the shelf was asked whether texts may be stored, by what it holds, and nothing else was done
+pub record IsAsked (may : Option Texts → Type 0) (before after : Told) : Type 0 where
+  pub held : after.held ≡ before.held
+  pub said : after.said ≡ before.said
+  pub never_falls : before.faults ≤ after.faults
+  pub stays_steady : IsTrue before.steady → IsTrue after.steady
+  pub quiet : IsTrue before.steady → may before.held → after.faults ≡ before.faults
+
+-- the same, and some text may not be stored, or memory ran out
+pub record IsTurnedDown (may : Option Texts → Type 0) (before after : Told) (status : ℕ) : Type 0 where
+  pub asked : IsAsked may before after
+  pub refused : (status ≡ 6) ⊎ (status ≡ 7)
+  pub cause : status ≡ 6 → one_more before.faults ≤ after.faults
 
 -- answers that store nothing
 abbrev pub StoresNothing : (ℕ → List ℕ → Type 0) → Answers

@@ -6,24 +6,30 @@ ghost use Rattle.reuse_report.specs.CurveText.{curve_text, point_of};
 ghost use Rattle.roster_model.specs.Sound.{IsPlain, IsSound};
 ghost use Rattle.roster_model.specs.SoundInstance.{IsSoundInstance};
 ghost use Rattle.search_commands.specs.Curve.{
-  AnswersCurve,
   AnswersCurveDemand,
   Curving,
   CurvesDemand,
   CurvesRules,
+  MayStoreDemand,
+  MayStoreHeldDemand,
+  MayStorePoints,
+  MayStoreRules,
   curve_status,
   has_no_cost,
   is_closed,
   point_name,
 };
+ghost use Rattle.search_commands.specs.CurveAnswers.{CurveAnswers, MayStoreDay};
 ghost use Rattle.search_commands.specs.Limits.{IsLimit};
 ghost use Rattle.search_commands.specs.Points.{AnswersGroups, BreaksCurve, FindsFirst, FindsPoint};
-ghost use Rattle.text_commands.specs.Reader.{IsReader};
+ghost use Rattle.text_commands.specs.Reader.{IsReader, MayStore};
 ghost use Rattle.search_commands.specs.Series.{IsBrokenOff, IsSeriesWriter, IsStoredBy};
 ghost use Rattle.search_commands.specs.Solve.{lent};
+ghost use Rattle.search_commands.specs.Writer.{IsAsked, IsTurnedDown};
 
 use crate::limit::Limit;
 use crate::solve::graph_refusal;
+use crate::store::ask_name;
 use branch_price::{Master, Subject, Watch};
 use day_curve::DayCurve;
 use day_solver::Solution;
@@ -37,6 +43,7 @@ use text_commands::answer::Answer;
 use text_commands::ask::demand_refusal;
 use text_commands::explain::refusal;
 use text_commands::fetch::{fetched, say_answer, say_answer_to};
+use text_commands::oddities::note_day;
 use text_commands::say::{MEMORY, say, status_of};
 
 const GROUPS: &[u8] = b"demand: groups have no curve\n";
@@ -51,7 +58,40 @@ fn point_name(alloc: Global, proof: &str, heads: u32) -> Result<String, Memory>
     }
 }
 
+// Asks whether the certificate of a point may be stored, or returns the status of a refusal.
+fn ask_point<S: Shelf>(alloc: Global, shelf: &mut S, proof: &str, heads: u32) -> Result<(), u8>
+    ensures { MatchResult result
+        (λ _. IsAsked (MayStore (point_name proof.now heads)) (S.told shelf.old) (S.told shelf.new))
+        (IsTurnedDown (MayStore (point_name proof.now heads)) (S.told shelf.old) (S.told shelf.new)) }
+{
+    match point_name(alloc, proof, heads) {
+        Ok(name) => ask_name(shelf, name.as_str()),
+        Err(Memory) => Err(MEMORY),
+    }
+}
+
+// Asks whether the certificates of all points may be stored, or returns the status of a refusal.
+fn ask_points<S: Shelf>(
+    alloc: Global,
+    shelf: &mut S,
+    curve: &DayCurve,
+    proof: &str,
+) -> Result<(), u8>
+    requires { curve.now.given ≡ 0 }
+    ensures { MatchResult result
+        (λ _. IsAsked (MayStorePoints proof.now curve.now.day) (S.told shelf.old) (S.told shelf.new))
+        (IsTurnedDown (MayStorePoints proof.now curve.now.day) (S.told shelf.old) (S.told shelf.new)) }
+{
+    let mut heads = curve.heads();
+    for _ in 0..curve.points() {
+        ask_point(alloc, shelf, proof, heads)?;
+        heads = heads.saturating_add(1);
+    }
+    Ok(())
+}
+
 // Stores a text under a name, or returns the status of a refusal.
+#[tactic(auto, using(crate::proofs::Writers::keeps_stored))]
 fn store_text<S: Shelf>(shelf: &mut S, name: &str, text: &[u8]) -> Result<(), u8>
     ensures { MatchResult result
         (λ _. IsStoredBy (record { name = name.now; text = text.now } ∷ []) (S.told shelf.old)
@@ -238,11 +278,13 @@ fn curve_points<S: Shelf, M: Master, W: Watch>(
     requires none { curve.old.given ≡ 0 }
     requires points { 0 < point_count curve.old.day }
     requires plain { curve.old.day.groups ≡ [] }
+    requires few { curve.old.day.heads_max ≤ 64 }
     requires arcs { (arcs : ℕ) × HasArcCount curve.old.day.grammar arcs }
     requires limit { IsLimit limit }
     ensures { IsSeriesWriter
         (Curving curve.old.day proof.now (lent (M.strict master.old) (M.refused master.old)
-        (M.refused master.new)) limit) [] (S.told shelf.old) (S.told shelf.new) result }
+        (M.refused master.new)) limit) [] (MayStorePoints proof.now curve.old.day) (S.told shelf.old)
+        (S.told shelf.new) result }
 {
     match all_points(alloc, shelf, curve, proof, limit, master, watch) {
         Ok(points) => say_answer(shelf, points_answer(alloc, points.as_slice())),
@@ -250,7 +292,8 @@ fn curve_points<S: Shelf, M: Master, W: Watch>(
     }
 }
 
-// Searches a curve that was just made, stores the certificates of its points and says them.
+// Searches a curve that was just made, stores the certificates of its points and says them, once the shelf
+// has said that all of them may be stored.
 fn curve_made<S: Shelf, M: Master, W: Watch>(
     alloc: Global,
     shelf: &mut S,
@@ -263,13 +306,18 @@ fn curve_made<S: Shelf, M: Master, W: Watch>(
     requires none { curve.given ≡ 0 }
     requires points { 0 < point_count curve.day }
     requires plain { curve.day.groups ≡ [] }
+    requires few { curve.day.heads_max ≤ 64 }
     requires arcs { (arcs : ℕ) × HasArcCount curve.day.grammar arcs }
     requires limit { IsLimit limit }
     ensures { IsSeriesWriter
         (Curving curve.day proof.now (lent (M.strict master.old) (M.refused master.old)
-        (M.refused master.new)) limit) [] (S.told shelf.old) (S.told shelf.new) result }
+        (M.refused master.new)) limit) [] (MayStorePoints proof.now curve.day) (S.told shelf.old)
+        (S.told shelf.new) result }
 {
-    curve_points(alloc, shelf, &mut curve, proof, limit, master, watch)
+    match ask_points(alloc, shelf, &curve, proof) {
+        Ok(()) => curve_points(alloc, shelf, &mut curve, proof, limit, master, watch),
+        Err(status) => status,
+    }
 }
 
 // Searches the curve of an instance without groups, or says that it has too many arcs.
@@ -286,7 +334,8 @@ fn curve_plain<S: Shelf, M: Master, W: Watch>(
     requires plain { instance.groups ≡ [] }
     requires limit { IsLimit limit }
     ensures { IsSeriesWriter (Curving instance proof.now (lent (M.strict master.old) (M.refused master.old)
-        (M.refused master.new)) limit) [] (S.told shelf.old) (S.told shelf.new) result }
+        (M.refused master.new)) limit) [] (MayStorePoints proof.now instance) (S.told shelf.old)
+        (S.told shelf.new) result }
 {
     match DayCurve::new(alloc, instance) {
         Ok(curve) => curve_made(alloc, shelf, curve, proof, limit, master, watch),
@@ -314,7 +363,8 @@ fn curve_instance<S: Shelf, M: Master, W: Watch>(
     requires sound { IsSoundInstance instance }
     requires limit { IsLimit limit }
     ensures { IsSeriesWriter (Curving instance proof.now (lent (M.strict master.old) (M.refused master.old)
-        (M.refused master.new)) limit) [] (S.told shelf.old) (S.told shelf.new) result }
+        (M.refused master.new)) limit) [] (MayStorePoints proof.now instance) (S.told shelf.old)
+        (S.told shelf.new) result }
 {
     if instance.groups.is_empty() {
         return curve_plain(alloc, shelf, instance, proof, limit, master, watch);
@@ -326,6 +376,7 @@ fn curve_instance<S: Shelf, M: Master, W: Watch>(
 fn curve_demand_text<S: Shelf, M: Master, W: Watch>(
     alloc: Global,
     shelf: &mut S,
+    rules: &[u8],
     grammar: Grammar,
     text: &[u8],
     proof: &str,
@@ -337,11 +388,14 @@ fn curve_demand_text<S: Shelf, M: Master, W: Watch>(
     requires plain { IsPlain grammar }
     requires limit { IsLimit limit }
     ensures { IsSeriesWriter (CurvesDemand grammar text.now proof.now (lent (M.strict master.old)
-        (M.refused master.old) (M.refused master.new)) limit) [] (S.told shelf.old)
-        (S.told shelf.new) result }
+        (M.refused master.old) (M.refused master.new)) limit) []
+        (MayStoreDemand proof.now grammar text.now) (S.told shelf.old) (S.told shelf.new) result }
 {
     match read_demand(alloc, grammar, text) {
-        Ok(instance) => curve_instance(alloc, shelf, instance, proof, limit, master, watch),
+        Ok(instance) => {
+            note_day(alloc, shelf, rules, text, &instance);
+            curve_instance(alloc, shelf, instance, proof, limit, master, watch)
+        }
         Err(fault) => say_answer_to(shelf, text, demand_refusal(alloc, fault)),
     }
 }
@@ -350,6 +404,7 @@ fn curve_demand_text<S: Shelf, M: Master, W: Watch>(
 fn curve_demand<S: Shelf, M: Master, W: Watch>(
     alloc: Global,
     shelf: &mut S,
+    rules: &[u8],
     grammar: Grammar,
     demand: &str,
     proof: &str,
@@ -362,12 +417,13 @@ fn curve_demand<S: Shelf, M: Master, W: Watch>(
     requires limit { IsLimit limit }
     ensures { IsSeriesWriter (AnswersCurveDemand (S.told shelf.old).held grammar demand.now proof.now
         (lent (M.strict master.old) (M.refused master.old) (M.refused master.new)) limit) (demand.now ∷ [])
-        (S.told shelf.old) (S.told shelf.new) result }
+        (MayStoreHeldDemand proof.now grammar demand.now) (S.told shelf.old) (S.told shelf.new) result }
 {
     match fetched(alloc, shelf, demand) {
         Ok(text) => curve_demand_text(
             alloc,
             shelf,
+            rules,
             grammar,
             text.as_slice(),
             proof,
@@ -393,10 +449,12 @@ fn curve_rules_text<S: Shelf, M: Master, W: Watch>(
     requires limit { IsLimit limit }
     ensures { IsSeriesWriter (CurvesRules (S.told shelf.old).held text.now demand.now proof.now
         (lent (M.strict master.old) (M.refused master.old) (M.refused master.new)) limit) (demand.now ∷ [])
-        (S.told shelf.old) (S.told shelf.new) result }
+        (MayStoreRules proof.now text.now demand.now) (S.told shelf.old) (S.told shelf.new) result }
 {
     match read_rules(alloc, text) {
-        Ok(grammar) => curve_demand(alloc, shelf, grammar, demand, proof, limit, master, watch),
+        Ok(grammar) => curve_demand(
+            alloc, shelf, text, grammar, demand, proof, limit, master, watch,
+        ),
         Err(fault) => say_answer_to(shelf, text, refusal(alloc, fault)),
     }
 }
@@ -405,7 +463,8 @@ fn curve_rules_text<S: Shelf, M: Master, W: Watch>(
 /// names, each point within the limit; stores the certificate of each point under the name of the proof, a
 /// full stop and the head count, and then says the points; or says why a text is refused, that the day has
 /// groups, or that there are too many arcs. The texts are fetched and read in this order, before anything is
-/// stored.
+/// stored. Where a text that is no certificate stands under the name of a point, the shelf refuses before the
+/// search.
 pub fn curve<S: Shelf, M: Master, W: Watch>(
     alloc: Global,
     shelf: &mut S,
@@ -417,9 +476,10 @@ pub fn curve<S: Shelf, M: Master, W: Watch>(
     watch: &mut W,
 ) -> u8
     requires limit { IsLimit limit }
-    ensures { IsSeriesWriter (AnswersCurve (S.told shelf.old).held rules.now demand.now proof.now
+    ensures { IsSeriesWriter (CurveAnswers (S.told shelf.old).held rules.now demand.now proof.now
         (lent (M.strict master.old) (M.refused master.old) (M.refused master.new)) limit)
-        (rules.now ∷ demand.now ∷ []) (S.told shelf.old) (S.told shelf.new) result }
+        (rules.now ∷ demand.now ∷ []) (MayStoreDay proof.now rules.now demand.now) (S.told shelf.old)
+        (S.told shelf.new) result }
 {
     match fetched(alloc, shelf, rules) {
         Ok(text) => curve_rules_text(

@@ -10,7 +10,7 @@ ghost use Rattle.search_commands.specs.Writer.{IsWriter};
 use crate::limit::Limit;
 use crate::notes::note_unproved;
 use crate::solve::{graph_refusal, status_of_done};
-use crate::store::store_and_say;
+use crate::store::{ask_name, store_and_say};
 use branch_price::{Master, Subject, Watch};
 use day_solver::{Solution, solve_day};
 use made_days::make_instance;
@@ -82,9 +82,8 @@ fn solve_made<S: Shelf, M: Master, W: Watch>(
     }
 }
 
-/// Makes a day from a number, searches a roster of least cost for it within a limit, stores its
-/// certificate under the name of the proof, and says a summary; or says that there are too many arcs.
-pub fn make<S: Shelf, M: Master, W: Watch>(
+// Makes a day from a number and searches it.
+fn make_asked<S: Shelf, M: Master, W: Watch>(
     alloc: Global,
     shelf: &mut S,
     number: u32,
@@ -101,5 +100,28 @@ pub fn make<S: Shelf, M: Master, W: Watch>(
     match make_instance(alloc, number) {
         Ok(instance) => solve_made(alloc, shelf, number, &instance, proof, limit, master, watch),
         Err(Memory) => MEMORY,
+    }
+}
+
+/// Makes a day from a number, searches a roster of least cost for it within a limit, stores its
+/// certificate under the name of the proof, and says a summary; or says that there are too many arcs. Where a
+/// text that is no certificate stands under that name, the shelf refuses before the search.
+pub fn make<S: Shelf, M: Master, W: Watch>(
+    alloc: Global,
+    shelf: &mut S,
+    number: u32,
+    proof: &str,
+    limit: Limit,
+    master: &mut M,
+    watch: &mut W,
+) -> u8
+    requires limit { IsLimit limit }
+    ensures { IsWriter (AnswersMake number (lent (M.strict master.old) (M.refused master.old)
+        (M.refused master.new)) limit) [] proof.now (S.told shelf.old) (S.told shelf.new)
+        result }
+{
+    match ask_name(shelf, proof) {
+        Ok(()) => make_asked(alloc, shelf, number, proof, limit, master, watch),
+        Err(status) => status,
     }
 }

@@ -3,8 +3,9 @@ ghost use Rattle.roster_model.specs.SoundInstance.{IsSoundInstance};
 ghost use Rattle.certificates.specs.Sound.{IsSoundCert};
 ghost use Rattle.proof_pieces.specs.FaultLine as proof_line;
 ghost use Rattle.text_commands.specs.Check.{ProofAnswers};
-ghost use Rattle.search_commands.specs.Reuse.{AnswersReuse, Reusing, reused_status};
+ghost use Rattle.search_commands.specs.Reuse.{Reusing, reused_status};
 ghost use Rattle.text_commands.specs.Reader.{IsReader};
+ghost use Rattle.text_commands.specs.Says.{CertCommand};
 
 use bound_proof::read_cert;
 use certificates::Cert;
@@ -73,10 +74,12 @@ struct OldNodes;
 impl Question for OldNodes {
     ghost use Rattle.search_commands.specs.Reuse.{Reusing};
     ghost use Rattle.search_commands.specs.Statuses.{reused-ends};
+    ghost use Rattle.text_commands.specs.Check.{ProofAnswers};
+    ghost use Rattle.text_commands.specs.Statuses.{proof-ends};
 
-    ghost answers = { λ _. Reusing };
+    ghost answers = { λ _. ProofAnswers Reusing };
 
-    ghost ends = { λ _. reused-ends };
+    ghost ends = { λ _. proof-ends Reusing reused-ends };
 
     fn answer(&self, alloc: Global, instance: &Instance, text: &[u8]) -> Result<Answer, Memory> {
         reusing(alloc, instance, text)
@@ -87,7 +90,7 @@ impl Question for OldNodes {
 /// demand and proof texts under names, or why a text or the nodes are refused. The texts are fetched and read in
 /// this order.
 pub fn reuse<S: Shelf>(alloc: Global, shelf: &mut S, rules: &str, demand: &str, proof: &str) -> u8
-    ensures { IsReader (AnswersReuse (S.told shelf.old).held rules.now demand.now proof.now)
+    ensures { IsReader (CertCommand Reusing (S.told shelf.old).held rules.now demand.now proof.now)
         (rules.now ∷ demand.now ∷ proof.now ∷ []) (S.told shelf.old) (S.told shelf.new) result }
 {
     ask(alloc, shelf, rules, demand, proof, &OldNodes)

@@ -5,7 +5,6 @@ ghost use Rattle.parse_graph.specs.Graphs.{IsRefused};
 ghost use Rattle.branch_price.specs.Found.{IsFound};
 ghost use Rattle.day_solver.specs.Solutions.{IsReportText};
 ghost use Rattle.search_commands.specs.Solve.{
-  AnswersSolve,
   AnswersSolveDemand,
   SaysTooManyArcs,
   Solving,
@@ -15,12 +14,13 @@ ghost use Rattle.search_commands.specs.Solve.{
   done_status,
   lent,
 };
+ghost use Rattle.search_commands.specs.SolveAnswers.{SolveAnswers};
 ghost use Rattle.search_commands.specs.Limits.{IsLimit};
 ghost use Rattle.search_commands.specs.Writer.{IsWriter};
 
 use crate::limit::Limit;
 use crate::notes::note_search;
-use crate::store::store_and_say;
+use crate::store::{ask_name, store_and_say};
 use branch_price::{Done, Found, Master, Subject, Watch};
 use day_solver::{solution_report, solve_day};
 use demand_text::read_demand;
@@ -33,6 +33,7 @@ use text_commands::answer::Answer;
 use text_commands::ask::demand_refusal;
 use text_commands::explain::refusal;
 use text_commands::fetch::{fetched, say_answer, say_answer_to};
+use text_commands::oddities::note_day;
 use text_lines::{put, write_number};
 
 /// Returns the status of a search that ended so.
@@ -114,10 +115,33 @@ fn solve_instance<S: Shelf, M: Master, W: Watch>(
     }
 }
 
+// Searches an instance as `solve_instance` does, once the shelf has said that the certificate may be stored.
+fn solve_asked<S: Shelf, M: Master, W: Watch>(
+    alloc: Global,
+    shelf: &mut S,
+    instance: &Instance,
+    proof: &str,
+    limit: Limit,
+    master: &mut M,
+    watch: &mut W,
+) -> u8
+    requires sound { IsSoundInstance instance.now }
+    requires limit { IsLimit limit }
+    ensures { IsWriter (Solving instance.now (lent (M.strict master.old) (M.refused master.old)
+        (M.refused master.new)) limit) [] proof.now (S.told shelf.old) (S.told shelf.new)
+        result }
+{
+    match ask_name(shelf, proof) {
+        Ok(()) => solve_instance(alloc, shelf, instance, proof, limit, master, watch),
+        Err(status) => status,
+    }
+}
+
 // Solves a demand text by the grammar of a rules text.
 fn solve_demand_text<S: Shelf, M: Master, W: Watch>(
     alloc: Global,
     shelf: &mut S,
+    rules: &[u8],
     grammar: Grammar,
     text: &[u8],
     proof: &str,
@@ -133,7 +157,10 @@ fn solve_demand_text<S: Shelf, M: Master, W: Watch>(
         (S.told shelf.new) result }
 {
     match read_demand(alloc, grammar, text) {
-        Ok(instance) => solve_instance(alloc, shelf, &instance, proof, limit, master, watch),
+        Ok(instance) => {
+            note_day(alloc, shelf, rules, text, &instance);
+            solve_asked(alloc, shelf, &instance, proof, limit, master, watch)
+        }
         Err(fault) => say_answer_to(shelf, text, demand_refusal(alloc, fault)),
     }
 }
@@ -142,6 +169,7 @@ fn solve_demand_text<S: Shelf, M: Master, W: Watch>(
 fn solve_demand<S: Shelf, M: Master, W: Watch>(
     alloc: Global,
     shelf: &mut S,
+    rules: &[u8],
     grammar: Grammar,
     demand: &str,
     proof: &str,
@@ -161,6 +189,7 @@ fn solve_demand<S: Shelf, M: Master, W: Watch>(
         Ok(text) => solve_demand_text(
             alloc,
             shelf,
+            rules,
             grammar,
             text.as_slice(),
             proof,
@@ -190,14 +219,17 @@ fn solve_rules_text<S: Shelf, M: Master, W: Watch>(
         (demand.now ∷ []) proof.now (S.told shelf.old) (S.told shelf.new) result }
 {
     match read_rules(alloc, text) {
-        Ok(grammar) => solve_demand(alloc, shelf, grammar, demand, proof, limit, master, watch),
+        Ok(grammar) => solve_demand(
+            alloc, shelf, text, grammar, demand, proof, limit, master, watch,
+        ),
         Err(fault) => say_answer_to(shelf, text, refusal(alloc, fault)),
     }
 }
 
 /// Searches a roster of least cost by the rules and demand texts under names, within a limit, stores
 /// its certificate under the name of the proof, and says the report; or says why a text is refused, or that
-/// there are too many arcs. The texts are fetched and read in this order, before anything is stored.
+/// there are too many arcs. The texts are fetched and read in this order, before anything is stored. Where a
+/// text that is no certificate stands under the name of the proof, the shelf refuses before the search.
 pub fn solve<S: Shelf, M: Master, W: Watch>(
     alloc: Global,
     shelf: &mut S,
@@ -209,7 +241,7 @@ pub fn solve<S: Shelf, M: Master, W: Watch>(
     watch: &mut W,
 ) -> u8
     requires limit { IsLimit limit }
-    ensures { IsWriter (AnswersSolve (S.told shelf.old).held rules.now demand.now
+    ensures { IsWriter (SolveAnswers (S.told shelf.old).held rules.now demand.now
         (lent (M.strict master.old) (M.refused master.old)
         (M.refused master.new)) limit)
         (rules.now ∷ demand.now ∷ []) proof.now (S.told shelf.old) (S.told shelf.new) result }

@@ -1,12 +1,26 @@
-ghost use Rattle.std.specs.Prelude.{◌≡◌, ◌≢◌, [], IfOk};
-ghost use Rattle.search_commands.specs.Writer.{IsStoredAnswer, IsWriter};
+ghost use Rattle.std.specs.Prelude.{◌≡◌, ◌≢◌, [], IfOk, MatchResult};
+ghost use Rattle.text_commands.specs.Reader.{MayStore};
+ghost use Rattle.search_commands.specs.Writer.{IsAsked, IsStoredAnswer, IsTurnedDown, IsWriter};
 
 use roster_model::Memory;
 use shelf::Shelf;
 use text_commands::answer::Answer;
 use text_commands::say::{MEMORY, say, status_of};
 
+/// Asks whether a text may be stored under a name, or returns the status of a refusal.
+pub(crate) fn ask_name<S: Shelf>(shelf: &mut S, name: &str) -> Result<(), u8>
+    ensures { MatchResult result
+        (λ _. IsAsked (MayStore name.now) (S.told shelf.old) (S.told shelf.new))
+        (IsTurnedDown (MayStore name.now) (S.told shelf.old) (S.told shelf.new)) }
+{
+    match shelf.may_store(name) {
+        Ok(()) => Ok(()),
+        Err(fault) => Err(status_of(fault)),
+    }
+}
+
 // Stores a text under a name, says an answer at once, and returns its status, or that of a refusal.
+#[tactic(auto, using(crate::proofs::Writers::keeps_stored))]
 fn store_answer<S: Shelf>(shelf: &mut S, name: &str, text: &[u8], answer: &Answer) -> u8
     requires { (answer.now.status ≢ 6) × (answer.now.status ≢ 7) }
     ensures { IsWriter (IsStoredAnswer (Ok answer.now) text.now) [] name.now (S.told shelf.old)
@@ -20,6 +34,7 @@ fn store_answer<S: Shelf>(shelf: &mut S, name: &str, text: &[u8], answer: &Answe
 
 /// Stores a text under a name, says an answer at once, and returns its status, or that of a refusal. Where
 /// there is no answer for want of memory nothing is stored.
+#[tactic(auto, using(crate::proofs::Writers::keeps_same))]
 pub fn store_and_say<S: Shelf>(
     shelf: &mut S,
     name: &str,

@@ -11,4 +11,4 @@ returns-in-Ok g c =
     c.points_answer.result (rw c.as_slice.ensures.value at c.points_answer.ensures) c.say_answer.ensures
 
 pub returns-in-Err : goal.returns-in-Err
-returns-in-Err g c = curve-broken c.args.curve.now.day c.args.proof.now _ c.args.limit (g.S.Shelf.told c.args.shelf.now) (g.S.Shelf.told c.all_points.new.shelf) c.in-Err.status c.requires.plain c.in-Err.ensures
+returns-in-Err g c = curve-broken c.args.curve.now.day c.args.proof.now _ c.args.limit (g.S.Shelf.told c.args.shelf.now) (g.S.Shelf.told c.all_points.new.shelf) c.in-Err.status c.requires.plain c.requires.few c.in-Err.ensures

@@ -1,0 +1,53 @@
+-- The names of a curve's points differ from each other.
+use Rattle.std.proofs.Common.{◌≡◌, ◌≢◌, ℕ, ◌+◌, ◌<◌, ◌≤◌, ◌^◌, List, [], ◌∷◌, ◌++◌, length, Option, None, Some, refl, sym, subst, ◌∙◌, arith}
+use Rattle.std.specs.Prelude.{codes, IsTrue}
+use Rattle.std.specs.Fmt.{decimal}
+use Rattle.std.specs.FinMap as fin
+use Rattle.std.proofs.lemmas.Fmt.{decimal_injective}
+use Rattle.std.proofs.lemmas.List.{append_cancel_left}
+use Rattle.roster_model.specs.declared.instance.Instance.{Instance}
+use Rattle.proof_reuse.specs.Curves.{first_heads, point_count}
+use Rattle.shelf.specs.Shelf.{Texts, Told}
+use Rattle.shelf.specs.Stores.{may_replace}
+use Rattle.shelf.proofs.HeldTexts.{AgreesElsewhere-insert}
+use Rattle.text_commands.specs.Reader.{MayStore}
+use Rattle.search_commands.specs.Curve.{Point, point_entries, point_name, MayStorePoints}
+use Rattle.search_commands.specs.Series.{with_entries, MayStoreAfter}
+use Rattle.search_commands.specs.Writer.{IsAsked, IsTurnedDown}
+use Rattle.search_commands.proofs.SeriesLemmas.{none_asked, asked_more, asked_later}
+
+names_apart : (proof : List ℕ) (h k : ℕ) → h < k → k < 2 ^ 64 → point_name proof k ≢ point_name proof h
+names_apart proof h k less few e =
+    let digits = append_cancel_left (proof ++ codes ".") (decimal k) (decimal h) e in
+    let same = decimal_injective k h few (omega (arith, less, few)) digits in
+    omega (arith, less, same)
+
+-- points that were stored leave the names of later ones as they were
+later_stays : (proof : List ℕ) (h k : ℕ) (ps : List Point) (t : Texts) → k < 2 ^ 64 → h + length ps ≤ k → fin.get (with_entries t (point_entries proof h ps)) (point_name proof k) ≡ fin.get t (point_name proof k)
+later_stays proof h k [] t few less = refl
+later_stays proof h k (p ∷ ps) t few less =
+    later_stays proof (h + 1) k ps (fin.insert t (point_name proof h) p.stored) few (omega (arith, less))
+    ∙ AgreesElsewhere-insert t (point_name proof h) p.stored (point_name proof k) (names_apart proof h k (omega (arith, less)) few)
+
+-- where each point may be stored, the next one may be once the first ones were
+pub may_next : (proof : List ℕ) (i : Instance) (ps : List Point) (held : Option Texts) → length ps < point_count i → i.heads_max ≤ 64 → MayStorePoints proof i held
+    → MayStoreAfter (point_entries proof (first_heads i) ps) (point_name proof (first_heads i + length ps)) held
+may_next proof i ps None fewer few may = may (first_heads i) (omega arith) (omega (arith, fewer))
+may_next proof i ps (Some t) fewer few may =
+    let heads = first_heads i + length ps in
+    let stays = later_stays proof (first_heads i) heads ps t (omega (arith, fewer, few)) (omega arith) in
+    subst (λ (o : Option (List ℕ)). IsTrue (may_replace o)) (sym stays) (may heads (omega arith) (omega (arith, fewer)))
+
+-- the points that were asked for so far, at a head count of the next one
+module _ (proof : List ℕ) (i : Instance) (heads n : ℕ) (least : first_heads i ≤ heads) (most : heads ≤ first_heads i + n) (more : n < point_count i) where
+  one_point : (held : Option Texts) → MayStorePoints proof i held → MayStore (point_name proof heads) held
+  one_point held may = may heads least (omega (arith, most, more))
+
+  pub point-asked : (before middle after : Told) → IsAsked (MayStorePoints proof i) before middle → IsAsked (MayStore (point_name proof heads)) middle after → IsAsked (MayStorePoints proof i) before after
+  point-asked before middle after h k = asked_more (MayStorePoints proof i) (MayStore (point_name proof heads)) before middle after one_point h k
+
+  pub point-left : (before middle after : Told) (status : ℕ) → IsAsked (MayStorePoints proof i) before middle → IsTurnedDown (MayStore (point_name proof heads)) middle after status → IsTurnedDown (MayStorePoints proof i) before after status
+  point-left before middle after status h k = asked_later (MayStorePoints proof i) (MayStore (point_name proof heads)) before middle after status one_point h k
+
+pub none-asked : (proof : List ℕ) (i : Instance) (told : Told) → IsAsked (MayStorePoints proof i) told told
+none-asked proof i told = none_asked (MayStorePoints proof i) told
