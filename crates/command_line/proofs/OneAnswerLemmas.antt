@@ -1,29 +1,56 @@
 -- The same texts have the same answer.
-use Rattle.std.proofs.Common.{sym, ◌∙◌}
-use Rattle.text_commands.specs.Check.{Judgement}
+use Rattle.std.proofs.Common.{sym, ◌∙◌, Some}
+use Rattle.text_commands.specs.Check.{Judgement, ProofAnswers}
+use Rattle.text_commands.specs.Days.{RankFrom, NextFrom, FitsFrom}
 use Rattle.day_questions.specs.Ranked.{RankedAnswer}
 use Rattle.day_questions.specs.Next.{NextAnswer}
 use Rattle.day_questions.specs.Fitting.{FitsAnswer}
 use Rattle.day_questions.proofs.OnceLemmas.{one-ranked, one-next, one-fits}
 use Rattle.search_commands.specs.Reuse.{Reusing}
-use Rattle.command_line.specs.Form.{Form, explain, rank, next, fits, check, reuse, solve, curve, make, none}
+use Rattle.command_line.specs.Form.{Form, explain, rank, next, fits, check, value, rest, reuse, solve, curve, make, none}
 use Rattle.command_line.specs.OneAnswer.{HasOneAnswer}
 use Rattle.search_commands.proofs.OneEndLemmas.{solve-ends, make-ends}
 use Rattle.search_commands.proofs.CurveEnds.{curve-ends}
+use Rattle.search_commands.proofs.SolveLemmas.{as-parts}
+use Rattle.search_commands.proofs.CurveLemmas.{as-curve-parts}
 use Rattle.search_commands.proofs.ReuseLemmas.{reused-once}
-use Rattle.text_commands.proofs.OnceLemmas.{judged-once, texts-once, explain-once, held-once}
+use Rattle.search_commands.specs.Series.{answered}
+use Rattle.what_if.specs.Rest.{Resting}
+use Rattle.what_if.specs.Rest.{Resting}
+use Rattle.what_if.specs.Value.{Valuation}
+use Rattle.what_if.proofs.Rests.{resting-once}
+use Rattle.what_if.proofs.Values.{value-once}
+use Rattle.text_commands.proofs.OnceLemmas.{judged-once, proof-once, texts-once, explain-once, from-once, held-once}
+use Rattle.text_commands.proofs.SaysLemmas.{as-texts, as-cert-texts, as-day, as-explanation}
 
 pub has-one-answer : (f : Form) → HasOneAnswer f
-has-one-answer (explain rules word) = λ held s t a b. explain-once held rules word s t a b
-has-one-answer (rank rules most) =
-    λ held s t a b. held-once (λ g s o. RankedAnswer g most s o) (λ g. one-ranked g most) held rules s t a b
-has-one-answer (next rules prefix) =
-    λ held s t a b. held-once (λ g s o. NextAnswer g prefix s o) (λ g. one-next g prefix) held rules s t a b
-has-one-answer (fits rules pattern) =
-    λ held s t a b. held-once (λ g s o. FitsAnswer g pattern s o) (λ g. one-fits g pattern) held rules s t a b
-has-one-answer (check rules demand proof) = λ held s t a b. texts-once Judgement judged-once held rules demand proof s t a b
-has-one-answer (reuse rules demand proof) = λ held s t a b. texts-once Reusing reused-once held rules demand proof s t a b
-has-one-answer (solve rules demand proof limit) = λ held. solve-ends held rules demand limit
-has-one-answer (curve rules demand proof limit) = λ held. curve-ends held rules demand proof limit
+has-one-answer (explain rules word start) =
+    λ held s t a b h k. explain-once held rules word start s t a b (as-explanation (Some held) rules word start s a h) (as-explanation (Some held) rules word start t b k)
+has-one-answer (rank rules most start) = λ held s t a b h k.
+    held-once (λ g x o. RankFrom most start g x o) (from-once (λ g x o. RankedAnswer g most x o) (λ g. one-ranked g most) start) held rules s t a b
+    (as-day (λ g x o. RankFrom most start g x o) (Some held) rules s a h) (as-day (λ g x o. RankFrom most start g x o) (Some held) rules t b k)
+has-one-answer (next rules prefix start) = λ held s t a b h k.
+    held-once (λ g x o. NextFrom prefix start g x o) (from-once (λ g x o. NextAnswer g prefix x o) (λ g. one-next g prefix) start) held rules s t a b
+    (as-day (λ g x o. NextFrom prefix start g x o) (Some held) rules s a h) (as-day (λ g x o. NextFrom prefix start g x o) (Some held) rules t b k)
+has-one-answer (fits rules pattern start) = λ held s t a b h k.
+    held-once (λ g x o. FitsFrom pattern start g x o) (from-once (λ g x o. FitsAnswer g pattern x o) (λ g. one-fits g pattern) start) held rules s t a b
+    (as-day (λ g x o. FitsFrom pattern start g x o) (Some held) rules s a h) (as-day (λ g x o. FitsFrom pattern start g x o) (Some held) rules t b k)
+has-one-answer (check rules demand proof) = λ held s t a b h k.
+    texts-once (ProofAnswers Judgement) (proof-once Judgement judged-once) held rules demand proof s t a b
+    (as-cert-texts Judgement (Some held) rules demand proof s a h) (as-cert-texts Judgement (Some held) rules demand proof t b k)
+has-one-answer (value rules demand roster) = λ held s t a b h k.
+    texts-once Valuation value-once held rules demand roster s t a b
+    (as-texts Valuation (Some held) rules demand roster s a h) (as-texts Valuation (Some held) rules demand roster t b k)
+has-one-answer (rest rules demand roster) = λ held s t a b h k.
+    texts-once Resting resting-once held rules demand roster s t a b
+    (as-texts Resting (Some held) rules demand roster s a h) (as-texts Resting (Some held) rules demand roster t b k)
+has-one-answer (reuse rules demand proof) = λ held s t a b h k.
+    texts-once (ProofAnswers Reusing) (proof-once Reusing reused-once) held rules demand proof s t a b
+    (as-cert-texts Reusing (Some held) rules demand proof s a h) (as-cert-texts Reusing (Some held) rules demand proof t b k)
+has-one-answer (solve rules demand proof limit) = λ held m n s t a b x y h k.
+    solve-ends held rules demand limit m n s t a b x y (as-parts (Some held) rules demand m limit s a x h) (as-parts (Some held) rules demand n limit t b y k)
+has-one-answer (curve rules demand proof limit) = λ held m n s t a b x y h k.
+    curve-ends held rules demand proof limit m n s t a b x y
+    (as-curve-parts (Some held) rules demand proof m limit (answered s a) x h) (as-curve-parts (Some held) rules demand proof n limit (answered t b) y k)
 has-one-answer (make number proof limit) = make-ends number limit
 has-one-answer none = λ s t a b h k. (h.two ∙ sym k.two, h.line ∙ sym k.line)

@@ -5,15 +5,19 @@ use Rattle.text_lines.specs.Fields.{number_at}
 use Rattle.search_commands.specs.declared.limit.Limit.{Limit}
 use Rattle.search_commands.specs.declared.limit.Limit.TheVariants.{Turns, Seconds}
 
--- the words `explain RULES WORD`, `rank RULES MOST`, `next RULES PREFIX`, `fits RULES PATTERN`,
--- `check RULES DEMAND PROOF`, `reuse RULES DEMAND PROOF`, `solve RULES DEMAND PROOF LIMIT`,
--- `curve RULES DEMAND PROOF LIMIT` or `make NUMBER PROOF LIMIT`; no other words have a form
+-- the words `explain RULES WORD`, `rank RULES MOST`, `next RULES PREFIX`, `fits RULES PATTERN`, each of these with
+-- a NAME of the rules behind or without, `check RULES DEMAND PROOF`, `value RULES DEMAND ROSTER`,
+-- `rest RULES DEMAND ROSTER`,
+-- `reuse RULES DEMAND PROOF`, `solve RULES DEMAND PROOF LIMIT`, `curve RULES DEMAND PROOF LIMIT` or
+-- `make NUMBER PROOF LIMIT`; no other words have a form
 pub data Form : Type 0 where
-  explain : List ℕ → List ℕ → Form
-  rank : List ℕ → ℕ → Form
-  next : List ℕ → List ℕ → Form
-  fits : List ℕ → List ℕ → Form
+  explain : List ℕ → List ℕ → Option (List ℕ) → Form
+  rank : List ℕ → ℕ → Option (List ℕ) → Form
+  next : List ℕ → List ℕ → Option (List ℕ) → Form
+  fits : List ℕ → List ℕ → Option (List ℕ) → Form
   check : List ℕ → List ℕ → List ℕ → Form
+  value : List ℕ → List ℕ → List ℕ → Form
+  rest : List ℕ → List ℕ → List ℕ → Form
   reuse : List ℕ → List ℕ → List ℕ → Form
   solve : List ℕ → List ℕ → List ℕ → Limit → Form
   curve : List ℕ → List ℕ → List ℕ → Limit → Form
@@ -60,9 +64,9 @@ number_of_make w = number_or_none (number_at tt tt 0 4294967295 w)
 abbrev pub most_of : List ℕ → Option ℕ
 most_of w = number_or_none (number_at tt tt 1 1000 w)
 
-abbrev pub rank_form : List ℕ → Option ℕ → Form
-rank_form rules (Some most) = rank rules most
-rank_form rules None = none
+abbrev pub rank_form : List ℕ → Option ℕ → Option (List ℕ) → Form
+rank_form rules (Some most) start = rank rules most start
+rank_form rules None start = none
 
 abbrev pub solve_form : List ℕ → List ℕ → List ℕ → Option Limit → Form
 solve_form rules demand proof (Some limit) = solve rules demand proof limit
@@ -77,20 +81,23 @@ make_form (Some number) proof (Some limit) = make number proof limit
 make_form (Some number) proof None = none
 make_form None proof limit = none
 
--- three words
-abbrev pub short_form : List ℕ → List ℕ → List ℕ → Form
-short_form command rules word =
-    if bytes_eq command (codes "explain") then explain rules word
-    else (if bytes_eq command (codes "rank") then rank_form rules (most_of word)
-    else (if bytes_eq command (codes "next") then next rules word
-    else (if bytes_eq command (codes "fits") then fits rules word else none)))
+-- three words, or four of which the last one is a name to begin at
+abbrev pub short_form : List ℕ → List ℕ → List ℕ → Option (List ℕ) → Form
+short_form command rules word start =
+    if bytes_eq command (codes "explain") then explain rules word start
+    else (if bytes_eq command (codes "rank") then rank_form rules (most_of word) start
+    else (if bytes_eq command (codes "next") then next rules word start
+    else (if bytes_eq command (codes "fits") then fits rules word start else none)))
 
 -- four words
 abbrev pub long_form : List ℕ → List ℕ → List ℕ → List ℕ → Form
 long_form command a b c =
     if bytes_eq command (codes "check") then check a b c
+    else (if bytes_eq command (codes "value") then value a b c
+    else (if bytes_eq command (codes "rest") then rest a b c
     else (if bytes_eq command (codes "reuse") then reuse a b c
-    else (if bytes_eq command (codes "make") then make_form (number_of_make a) b (limit_of c) else none))
+    else (if bytes_eq command (codes "make") then make_form (number_of_make a) b (limit_of c)
+    else short_form command a b (Some c)))))
 
 -- five words
 abbrev pub longest_form : List ℕ → List ℕ → List ℕ → List ℕ → List ℕ → Form
@@ -99,16 +106,7 @@ longest_form command rules demand proof limit =
     else (if bytes_eq command (codes "curve") then curve_form rules demand proof (limit_of limit) else none)
 
 abbrev pub form_of : List (List ℕ) → Form
-form_of (command ∷ rules ∷ word ∷ []) = short_form command rules word
+form_of (command ∷ rules ∷ word ∷ []) = short_form command rules word None
 form_of (command ∷ a ∷ b ∷ c ∷ []) = long_form command a b c
 form_of (command ∷ rules ∷ demand ∷ proof ∷ limit ∷ []) = longest_form command rules demand proof limit
 form_of _ = none
-
--- what is said where the words have no form
-abbrev pub no_form_line : List ℕ
-no_form_line = codes "words: none of the forms\n"
-
--- the one answer to words that have no form
-pub record AnswersNoForm (status : ℕ) (output : List ℕ) : Type 0 where
-  pub two : status ≡ 2
-  pub line : output ≡ no_form_line

@@ -1,37 +1,54 @@
 -- What the program does, by its words.
 use Rattle.std.specs.Prelude.{ℕ, [], ◌∷◌}
-use Rattle.command_line.specs.Form.{Form, explain, rank, next, fits, check, reuse, solve, curve, make, none, AnswersNoForm}
+use Rattle.command_line.specs.Form.{Form, explain, rank, next, fits, check, value, rest, reuse, solve, curve, make, none}
 use Rattle.shelf.specs.Shelf.{Told}
+use Rattle.text_commands.specs.Check.{Judgement}
+use Rattle.text_commands.specs.Days.{RankFrom, NextFrom, FitsFrom}
+use Rattle.text_commands.specs.Explain.{DerivationFrom}
 use Rattle.text_commands.specs.Reader.{IsReader}
-use Rattle.search_commands.specs.Writer.{IsWriter}
-use Rattle.text_commands.specs.Explain.{AnswersExplain}
-use Rattle.text_commands.specs.Days.{AnswersRank, AnswersNext, AnswersFits}
-use Rattle.text_commands.specs.Check.{AnswersCheck}
-use Rattle.search_commands.specs.Reuse.{AnswersReuse}
-use Rattle.search_commands.specs.Solve.{MasterView, AnswersSolve}
-use Rattle.search_commands.specs.Curve.{AnswersCurve}
+use Rattle.text_commands.specs.RulesCommands.{RulesCommand}
+use Rattle.text_commands.specs.Says.{CertCommand}
+use Rattle.text_commands.specs.Start.{AnswersNoForm}
+use Rattle.text_commands.specs.TextCommands.{TextCommand}
+use Rattle.search_commands.specs.CurveAnswers.{CurveAnswers, MayStoreDay}
 use Rattle.search_commands.specs.Make.{AnswersMake}
+use Rattle.search_commands.specs.Reuse.{Reusing}
 use Rattle.search_commands.specs.Series.{IsSeriesWriter}
+use Rattle.search_commands.specs.Solve.{MasterView}
+use Rattle.search_commands.specs.SolveAnswers.{SolveAnswers}
+use Rattle.search_commands.specs.Writer.{IsWriter}
+use Rattle.what_if.specs.Rest.{Resting}
+use Rattle.what_if.specs.Value.{Valuation}
 
 -- over a shelf before and after, and with a master that was lent
 abbrev pub Does : Form → Told → Told → MasterView → ℕ → Type 0
-Does (explain rules word) before after m status =
-    IsReader (AnswersExplain before.held rules word) (rules ∷ []) before after status
-Does (rank rules most) before after m status =
-    IsReader (AnswersRank before.held rules most) (rules ∷ []) before after status
-Does (next rules prefix) before after m status =
-    IsReader (AnswersNext before.held rules prefix) (rules ∷ []) before after status
-Does (fits rules pattern) before after m status =
-    IsReader (AnswersFits before.held rules pattern) (rules ∷ []) before after status
+Does (explain rules word start) before after m status =
+    IsReader (RulesCommand (λ g s o. DerivationFrom word start g s o) before.held rules) (rules ∷ [])
+    before after status
+Does (rank rules most start) before after m status =
+    IsReader (RulesCommand (λ g s o. RankFrom most start g s o) before.held rules) (rules ∷ []) before after status
+Does (next rules prefix start) before after m status =
+    IsReader (RulesCommand (λ g s o. NextFrom prefix start g s o) before.held rules) (rules ∷ [])
+    before after status
+Does (fits rules pattern start) before after m status =
+    IsReader (RulesCommand (λ g s o. FitsFrom pattern start g s o) before.held rules) (rules ∷ [])
+    before after status
 Does (check rules demand proof) before after m status =
-    IsReader (AnswersCheck before.held rules demand proof) (rules ∷ demand ∷ proof ∷ []) before after status
+    IsReader (CertCommand Judgement before.held rules demand proof) (rules ∷ demand ∷ proof ∷ [])
+    before after status
+Does (value rules demand roster) before after m status =
+    IsReader (TextCommand Valuation before.held rules demand roster) (rules ∷ demand ∷ roster ∷ [])
+    before after status
+Does (rest rules demand roster) before after m status =
+    IsReader (TextCommand Resting before.held rules demand roster) (rules ∷ demand ∷ roster ∷ [])
+    before after status
 Does (reuse rules demand proof) before after m status =
-    IsReader (AnswersReuse before.held rules demand proof) (rules ∷ demand ∷ proof ∷ []) before after status
+    IsReader (CertCommand Reusing before.held rules demand proof) (rules ∷ demand ∷ proof ∷ []) before after status
 Does (solve rules demand proof limit) before after m status =
-    IsWriter (AnswersSolve before.held rules demand m limit) (rules ∷ demand ∷ []) proof before after status
+    IsWriter (SolveAnswers before.held rules demand m limit) (rules ∷ demand ∷ []) proof before after status
 Does (curve rules demand proof limit) before after m status =
-    IsSeriesWriter (AnswersCurve before.held rules demand proof m limit)
-    (rules ∷ demand ∷ []) before after status
+    IsSeriesWriter (CurveAnswers before.held rules demand proof m limit)
+    (rules ∷ demand ∷ []) (MayStoreDay proof rules demand) before after status
 Does (make number proof limit) before after m status =
     IsWriter (AnswersMake number m limit) [] proof before after status
 Does none before after m status = IsReader AnswersNoForm [] before after status

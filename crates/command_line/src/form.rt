@@ -6,6 +6,7 @@ ghost use Rattle.command_line.specs.Form.{
   curve_form,
   form_of,
   limit_of,
+  long_form,
   longest_form,
   make_form,
   most_of,
@@ -24,25 +25,29 @@ use text_lines::read_within;
 /// What the words of the command line ask for.
 #[derive(Clone, Copy, Drop)]
 pub enum Form<'a> {
-    /// The price of a word by the rules text under a name.
+    /// The price of a word by the rules text under a name, from its start name or from another name on.
     Explain {
         rules: &'a str,
         word: &'a str,
+        start: Option<&'a str>,
     },
-    /// The first trees of the day by cost, at most so many, by the rules text under a name.
+    /// The first trees of the day by cost, at most so many, by the rules text under a name, likewise.
     Rank {
         rules: &'a str,
         most: u32,
+        start: Option<&'a str>,
     },
-    /// The codes that may follow a prefix, by the rules text under a name.
+    /// The codes that may follow a prefix, by the rules text under a name, likewise.
     Next {
         rules: &'a str,
         prefix: &'a str,
+        start: Option<&'a str>,
     },
-    /// The shifts that fit a pattern, by the rules text under a name.
+    /// The shifts that fit a pattern, by the rules text under a name, likewise.
     Fits {
         rules: &'a str,
         pattern: &'a str,
+        start: Option<&'a str>,
     },
     /// Whether a certificate is accepted, by the rules, demand and proof texts under names.
     Check {
@@ -50,7 +55,19 @@ pub enum Form<'a> {
         demand: &'a str,
         proof: &'a str,
     },
-    /// What the nodes of a certificate show on a day that it need not have been found for, by the same texts.
+    /// What a roster comes to that was stated, by the rules, demand and roster texts under names.
+    Value {
+        rules: &'a str,
+        demand: &'a str,
+        roster: &'a str,
+    },
+    /// The demand that remains where the shifts of a roster are kept, by the texts of a value.
+    Rest {
+        rules: &'a str,
+        demand: &'a str,
+        roster: &'a str,
+    },
+    /// What the nodes of a certificate show on a day that it need not have been found for, by the texts of a check.
     Reuse {
         rules: &'a str,
         demand: &'a str,
@@ -144,39 +161,42 @@ pub(crate) fn number_of_make(word: &str) -> Option<u32>
     }
 }
 
-// Returns what `rank` asks for, where the last word says how many trees.
-fn rank_form<'a>(rules: &'a str, most: Option<u32>) -> Form<'a>
+// Returns what `rank` asks for, where a word says how many trees.
+fn rank_form<'a>(rules: &'a str, most: Option<u32>, start: Option<&'a str>) -> Form<'a>
     requires { IfSome most IsMost }
-    ensures asked { asked result ≡ rank_form rules.now most }
+    ensures asked { asked result ≡ rank_form rules.now most (option_copied start.entry) }
     ensures numbers { HasNumbers result }
 {
     match most {
-        Some(most) => Form::Rank { rules, most },
+        Some(most) => Form::Rank { rules, most, start },
         None => Form::None,
     }
 }
 
-// Returns what three words ask for.
-fn short_form<'a>(command: &str, rules: &'a str, word: &'a str) -> Form<'a>
-    ensures asked { asked result ≡ short_form command.now rules.now word.now }
+// Returns what three words ask for, or four of which the last one is a name to begin at.
+fn short_form<'a>(command: &str, rules: &'a str, word: &'a str, start: Option<&'a str>) -> Form<'a>
+    ensures asked { asked result
+        ≡ short_form command.now rules.now word.now (option_copied start.entry) }
     ensures numbers { HasNumbers result }
 {
     if command == "explain" {
-        return Form::Explain { rules, word };
+        return Form::Explain { rules, word, start };
     }
     if command == "rank" {
-        return rank_form(rules, most_of(word));
+        return rank_form(rules, most_of(word), start);
     }
     if command == "next" {
         return Form::Next {
             rules,
             prefix: word,
+            start,
         };
     }
     if command == "fits" {
         return Form::Fits {
             rules,
             pattern: word,
+            start,
         };
     }
     Form::None
@@ -252,27 +272,59 @@ fn make_form<'a>(number: Option<u32>, proof: &'a str, limit: Option<Limit>) -> F
     }
 }
 
+// Returns what four words ask for.
+fn long_form<'a>(command: &str, first: &'a str, second: &'a str, third: &'a str) -> Form<'a>
+    ensures asked { asked result ≡ long_form command.now first.now second.now third.now }
+    ensures numbers { HasNumbers result }
+{
+    if command == "check" {
+        return Form::Check {
+            rules: first,
+            demand: second,
+            proof: third,
+        };
+    }
+    if command == "value" {
+        return Form::Value {
+            rules: first,
+            demand: second,
+            roster: third,
+        };
+    }
+    if command == "rest" {
+        return Form::Rest {
+            rules: first,
+            demand: second,
+            roster: third,
+        };
+    }
+    if command == "reuse" {
+        return Form::Reuse {
+            rules: first,
+            demand: second,
+            proof: third,
+        };
+    }
+    if command == "make" {
+        return make_form(number_of_make(first), second, limit_of(third));
+    }
+    short_form(command, first, second, Some(third))
+}
+
 /// Returns what the words ask for.
 pub fn form_of(words: &[String]) -> Form<'_>
     ensures asked { asked result ≡ form_of (map string_bytes words.now) }
     ensures numbers { HasNumbers result }
 {
     match words {
-        [command, rules, word] => short_form(command.as_str(), rules.as_str(), word.as_str()),
-        [command, rules, demand, proof] if command.as_str() == "check" => Form::Check {
-            rules: rules.as_str(),
-            demand: demand.as_str(),
-            proof: proof.as_str(),
-        },
-        [command, rules, demand, proof] if command.as_str() == "reuse" => Form::Reuse {
-            rules: rules.as_str(),
-            demand: demand.as_str(),
-            proof: proof.as_str(),
-        },
-        [command, number, proof, limit] if command.as_str() == "make" => make_form(
-            number_of_make(number.as_str()),
-            proof.as_str(),
-            limit_of(limit.as_str()),
+        [command, rules, word] => {
+            short_form(command.as_str(), rules.as_str(), word.as_str(), None)
+        }
+        [command, first, second, third] => long_form(
+            command.as_str(),
+            first.as_str(),
+            second.as_str(),
+            third.as_str(),
         ),
         [command, rules, demand, proof, limit] => longest_form(
             command.as_str(),

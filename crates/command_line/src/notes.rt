@@ -5,16 +5,19 @@ use shelf::Shelf;
 
 /// The forms of the command line, one a line.
 const FORMS: &str = "the forms are:
-explain RULES WORD
-rank RULES MOST
-next RULES PREFIX
-fits RULES PATTERN
+explain RULES WORD [NAME]
+rank RULES MOST [NAME]
+next RULES PREFIX [NAME]
+fits RULES PATTERN [NAME]
 check RULES DEMAND PROOF
+value RULES DEMAND ROSTER
+rest RULES DEMAND ROSTER
 reuse RULES DEMAND PROOF
 solve RULES DEMAND PROOF LIMIT
 curve RULES DEMAND PROOF LIMIT
 make NUMBER PROOF LIMIT
-LIMIT is 1 to 10000 turns, or 1s to 86400s for seconds; MOST 1 to 1000, NUMBER 0 to 4294967295";
+LIMIT is 1 to 10000 turns, or 1s to 86400s for seconds; MOST 1 to 1000, NUMBER 0 to 4294967295;
+NAME is a name of the rules to begin at, in place of the start name";
 
 const LIMIT: &str = "LIMIT is a number of turns from 1 to 10000, or of seconds from 1s to 86400s";
 
@@ -46,7 +49,9 @@ fn wrong<T: Drop>(number: Option<T>, note: &'static str) -> Option<&'static str>
 // Returns which number of words that begin and end as a form does is none that may stand there.
 fn wrong_number(words: &[String]) -> Option<&'static str> {
     match words {
-        [command, _, most] if command.as_str() == "rank" => wrong(most_of(most.as_str()), MOST),
+        [command, _, most] | [command, _, most, _] if command.as_str() == "rank" => {
+            wrong(most_of(most.as_str()), MOST)
+        }
         [command, number, _, limit] if command.as_str() == "make" => {
             wrong_of_make(number.as_str(), limit.as_str())
         }

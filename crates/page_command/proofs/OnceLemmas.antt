@@ -18,7 +18,7 @@ use Rattle.page_text.specs.declared.row.Row.{Row}
 use Rattle.shelf.specs.Shelf.{Texts}
 use Rattle.shift_report.specs.TreeText.{tree_text}
 use Rattle.shift_report.specs.VerdictText.{verdict_text}
-use Rattle.text_commands.specs.Check.{ProofAnswers, AnswersProof, DemandAnswers, AnswersDemand, RulesAnswers, AnswersTexts}
+use Rattle.text_commands.specs.Check.{ProofAnswers, AnswersThird, DemandAnswers, AnswersDemand, RulesAnswers, AnswersTexts}
 use Rattle.text_commands.specs.Check as checks
 use Rattle.text_commands.specs.SameTexts.{AreTreesAtOnePrice}
 use Rattle.text_commands.proofs.OneReading.{same_text, same_ok, same_err, not_both, same_grammar, no_fault, faults_once}
@@ -86,14 +86,14 @@ proof_once i text s t a b (checks.ProofAnswers.refused xs h) (checks.ProofAnswer
 proof_once i text s t a b (checks.ProofAnswers.refused xs h) (checks.ProofAnswers.refused ys k) =
     (refl, inl (h.line ∙ ap (λ (x : ProofFault). proof.fault_line x) (same_err (proof_of i text) h.fault k.fault h.reading k.reading) ∙ sym k.line))
 
-proofs_once : (held : Texts) (i : Instance) (name : List ℕ) (s t : ℕ) (a b : List ℕ) → AnswersProof Judgement (Some held) i name s a → AnswersProof Judgement (Some held) i name t b → AreAlike s t a b
+proofs_once : (held : Texts) (i : Instance) (name : List ℕ) (s t : ℕ) (a b : List ℕ) → AnswersThird (ProofAnswers Judgement) (Some held) i name s a → AnswersThird (ProofAnswers Judgement) (Some held) i name t b → AreAlike s t a b
 proofs_once held i name s t a b h k =
     proof_once i k.text s t a b (subst (λ (x : List ℕ). ProofAnswers Judgement i x s a) (same_text held name h.text k.text h.holds k.holds) h.answers) k.answers
 
-demand_once : (held : Texts) (g : Grammar) (text name : List ℕ) (s t : ℕ) (a b : List ℕ) → DemandAnswers Judgement (Some held) g text name s a → DemandAnswers Judgement (Some held) g text name t b → AreAlike s t a b
+demand_once : (held : Texts) (g : Grammar) (text name : List ℕ) (s t : ℕ) (a b : List ℕ) → DemandAnswers (ProofAnswers Judgement) (Some held) g text name s a → DemandAnswers (ProofAnswers Judgement) (Some held) g text name t b → AreAlike s t a b
 demand_once held g text name s t a b (checks.DemandAnswers.accepted i x xs e h) (checks.DemandAnswers.accepted j y ys f k) =
     proofs_once held j name s t a b
-    (subst (λ (z : Instance). AnswersProof Judgement (Some held) z name s a) (same_ok (instance_of g text) i j e.reading f.reading) h) k
+    (subst (λ (z : Instance). AnswersThird (ProofAnswers Judgement) (Some held) z name s a) (same_ok (instance_of g text) i j e.reading f.reading) h) k
 demand_once held g text name s t a b (checks.DemandAnswers.accepted i x xs e h) (checks.DemandAnswers.refused ys k) =
     absurd (not_both (instance_of g text) i k.fault e.reading k.reading)
 demand_once held g text name s t a b (checks.DemandAnswers.refused xs h) (checks.DemandAnswers.accepted j y ys f k) =
@@ -101,22 +101,22 @@ demand_once held g text name s t a b (checks.DemandAnswers.refused xs h) (checks
 demand_once held g text name s t a b (checks.DemandAnswers.refused xs h) (checks.DemandAnswers.refused ys k) =
     (refl, inl (h.line ∙ ap (λ (x : DemandFault). demand.fault_line x) (same_err (instance_of g text) h.fault k.fault h.reading k.reading) ∙ sym k.line))
 
-demands_once : (held : Texts) (g : Grammar) (name proof_name : List ℕ) (s t : ℕ) (a b : List ℕ) → AnswersDemand Judgement (Some held) g name proof_name s a → AnswersDemand Judgement (Some held) g name proof_name t b → AreAlike s t a b
+demands_once : (held : Texts) (g : Grammar) (name proof_name : List ℕ) (s t : ℕ) (a b : List ℕ) → AnswersDemand (ProofAnswers Judgement) (Some held) g name proof_name s a → AnswersDemand (ProofAnswers Judgement) (Some held) g name proof_name t b → AreAlike s t a b
 demands_once held g name proof_name s t a b h k =
     demand_once held g k.text proof_name s t a b
-    (subst (λ (x : List ℕ). DemandAnswers Judgement (Some held) g x proof_name s a) (same_text held name h.text k.text h.holds k.holds) h.answers) k.answers
+    (subst (λ (x : List ℕ). DemandAnswers (ProofAnswers Judgement) (Some held) g x proof_name s a) (same_text held name h.text k.text h.holds k.holds) h.answers) k.answers
 
-rules_once : (held : Texts) (text demand proof : List ℕ) (s t : ℕ) (a b : List ℕ) → RulesAnswers Judgement (Some held) text demand proof s a → RulesAnswers Judgement (Some held) text demand proof t b → AreAlike s t a b
+rules_once : (held : Texts) (text demand proof : List ℕ) (s t : ℕ) (a b : List ℕ) → RulesAnswers (ProofAnswers Judgement) (Some held) text demand proof s a → RulesAnswers (ProofAnswers Judgement) (Some held) text demand proof t b → AreAlike s t a b
 rules_once held text demand proof s t a b (checks.RulesAnswers.accepted g x xs e h) (checks.RulesAnswers.accepted f y ys q k) =
     demands_once held f demand proof s t a b
-    (subst (λ (z : Grammar). AnswersDemand Judgement (Some held) z demand proof s a) (same_grammar text g f e.reading q.reading) h) k
+    (subst (λ (z : Grammar). AnswersDemand (ProofAnswers Judgement) (Some held) z demand proof s a) (same_grammar text g f e.reading q.reading) h) k
 rules_once held text demand proof s t a b (checks.RulesAnswers.accepted g x xs e h) (checks.RulesAnswers.refused ys k) =
     absurd (no_fault text g k.fault e.reading k.reading)
 rules_once held text demand proof s t a b (checks.RulesAnswers.refused xs h) (checks.RulesAnswers.accepted f y ys q k) =
     absurd (no_fault text f h.fault q.reading h.reading)
 rules_once held text demand proof s t a b (checks.RulesAnswers.refused xs h) (checks.RulesAnswers.refused ys k) = (refl, inl (faults_once text a b h k))
 
-pub texts_once : (held : Texts) (rules demand proof : List ℕ) (s t : ℕ) (a b : List ℕ) → AnswersTexts Judgement (Some held) rules demand proof s a → AnswersTexts Judgement (Some held) rules demand proof t b → AreAlike s t a b
+pub texts_once : (held : Texts) (rules demand proof : List ℕ) (s t : ℕ) (a b : List ℕ) → AnswersTexts (ProofAnswers Judgement) (Some held) rules demand proof s a → AnswersTexts (ProofAnswers Judgement) (Some held) rules demand proof t b → AreAlike s t a b
 texts_once held rules demand proof s t a b h k =
     rules_once held k.text demand proof s t a b
-    (subst (λ (x : List ℕ). RulesAnswers Judgement (Some held) x demand proof s a) (same_text held rules h.text k.text h.holds k.holds) h.answers) k.answers
+    (subst (λ (x : List ℕ). RulesAnswers (ProofAnswers Judgement) (Some held) x demand proof s a) (same_text held rules h.text k.text h.holds k.holds) h.answers) k.answers

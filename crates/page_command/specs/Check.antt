@@ -6,7 +6,8 @@ use Rattle.certificates.specs.declared.cert.Cert.{Cert}
 use Rattle.certificate_laws.specs.Accepted.{Accepts}
 use Rattle.certificate_laws.specs.Right.{YesIsRight}
 use Rattle.shelf.specs.Shelf.{Texts}
-use Rattle.text_commands.specs.Check.{SaysNo, AnswersTexts}
+use Rattle.text_commands.specs.Check.{SaysNo}
+use Rattle.text_commands.specs.Says.{CertCommand}
 use Rattle.page_command.specs.Draw.{IsPage}
 
 -- status 0: the certificate is accepted, what it states is true, and the page shows it
@@ -23,4 +24,4 @@ pub data Judgement (i : Instance) (c : Cert) : ℕ → List ℕ → Type 0 where
 -- the answers to the three texts under names
 abbrev pub AnswersPage : Option Texts → List ℕ → List ℕ → List ℕ → ℕ → List ℕ → Type 0
 AnswersPage held name demand_name proof_name status output =
-    AnswersTexts Judgement held name demand_name proof_name status output
+    CertCommand Judgement held name demand_name proof_name status output

@@ -41,10 +41,12 @@ struct Drawing;
 impl Question for Drawing {
     ghost use Rattle.page_command.specs.Check.{Judgement};
     ghost use Rattle.page_command.specs.Statuses.{judged-ends};
+    ghost use Rattle.text_commands.specs.Check.{ProofAnswers};
+    ghost use Rattle.text_commands.specs.Statuses.{proof-ends};
 
-    ghost answers = { λ _. Judgement };
+    ghost answers = { λ _. ProofAnswers Judgement };
 
-    ghost ends = { λ _. judged-ends };
+    ghost ends = { λ _. proof-ends Judgement judged-ends };
 
     fn answer(&self, alloc: Global, instance: &Instance, text: &[u8]) -> Result<Answer, Memory> {
         judgement(alloc, instance, text)

@@ -29,3 +29,9 @@ returns-in-Reuse-clause-one_answer g c = has-one-answer (form_of (map string_byt
 
 pub returns-in-Curve-clause-one_answer : goal.returns-in-Curve-clause-one_answer
 returns-in-Curve-clause-one_answer g c = has-one-answer (form_of (map string_bytes c.args.words.now))
+
+pub returns-in-Value-clause-one_answer : goal.returns-in-Value-clause-one_answer
+returns-in-Value-clause-one_answer g c = has-one-answer (form_of (map string_bytes c.args.words.now))
+
+pub returns-in-Rest-clause-one_answer : goal.returns-in-Rest-clause-one_answer
+returns-in-Rest-clause-one_answer g c = has-one-answer (form_of (map string_bytes c.args.words.now))
