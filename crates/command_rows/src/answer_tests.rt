@@ -127,6 +127,51 @@ words: none of the forms
 > explain g1 .aa. x
 < 2
 words: none of the forms
+> explain g6 aa
+< 0
+word aa
+cost 3
+use 1 S 1 2
+use 3 F 1 2
+> explain g6 aa F
+< 0
+word aa
+cost 3
+use 3 F 1 2
+> explain g6 aa H
+< 1
+no derivation
+> explain g6 aa X
+< 2
+words: none of the forms
+> explain g6 aa ''
+< 2
+words: none of the forms
+> explain empty aa X
+< 3
+rules: no periods line
+> rank g6 5 H
+< 0
+trees 2
+tree 1 1 a.
+tree 2 1 .a
+> rank g6 0 H
+< 2
+words: none of the forms
+> next g6 a H
+< 0
+code . 1
+> next g6 a F
+< 0
+code a 3
+> fits g6 ## F
+< 0
+least 3
+at 1 a 3
+at 2 a 3
+> fits g6 .# F
+< 1
+no shift
 > check g1
 < 2
 words: none of the forms

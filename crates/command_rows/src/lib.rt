@@ -6,11 +6,17 @@ mod answer_tests;
 #[cfg(test)]
 mod check_tests;
 #[cfg(test)]
+mod days;
+#[cfg(test)]
+mod kept_tests;
+#[cfg(test)]
 mod notes_tests;
 #[cfg(test)]
 mod page_tests;
 #[cfg(test)]
 mod refused_tests;
+#[cfg(test)]
+mod rest_tests;
 #[cfg(test)]
 mod runs;
 #[cfg(test)]
@@ -19,5 +25,7 @@ mod shelf_tests;
 mod solve_tests;
 #[cfg(test)]
 mod texts;
+#[cfg(test)]
+mod value_tests;
 #[cfg(test)]
 mod wide_tests;

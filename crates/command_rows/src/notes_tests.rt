@@ -8,6 +8,7 @@ use std::test::Fail;
 const NOTES: &str = "
 > explain g1 .aa.
 < 0
+rules: line 5: no shift uses this rule
 > explain absent aa
 < 6
 absent: no such file
@@ -16,24 +17,32 @@ absent: no such file
 absent: no such file
 > explain g1 .aa
 < 1
+rules: line 5: no shift uses this rule
 3 letters, the day has 4
 > explain g1 ''
 < 1
+rules: line 5: no shift uses this rule
 0 letters, the day has 4
 > explain g1 .ab.
 < 1
+rules: line 5: no shift uses this rule
 b is no code
 > explain g1 .a#.
 < 1
+rules: line 5: no shift uses this rule
 # is no code
 > explain g1 aaaa
 < 1
+rules: line 5: no shift uses this rule
 the first 3 of 4 letters begin a shift, and no more
 > explain g1 a...
 < 1
+rules: line 5: no shift uses this rule
 the first 1 of 4 letters begin a shift, and no more
 > explain one a
 < 1
+rules: line 9: len 2 3, but the last period is 1
+rules: there is no shift
 the rules have no shift
 > fits g1 #a#
 < 1
@@ -53,20 +62,26 @@ the rules have no shift
 const SEARCHES: &str = "
 > solve g1 q1 p 10
 < 0
+rules: line 5: no shift uses this rule
 > solve absent q1 p 10
 < 6
 absent: no such file
 > solve one some p 10
 < 1
+rules: line 9: len 2 3, but the last period is 1
+rules: there is no shift
 heads: at least 1, but the rules have no shift
 > solve short_full_days needed p 10
 < 1
+rules: line 5: no shift uses this rule
+rules: line 7: no shift uses the name F
 group F: at least 1, but the rules have no shift of it
 > solve g2 crowd p 10
 < 1
 floor a period 1: 4, at most 3
 > solve late early_floors p 10
 < 1
+demand: line 2: no shift has a in period 1
 floor a period 1: 2, at most 1
 floor a period 1: 2, but no shift has a there
 > solve g2 exact p 8191
@@ -80,26 +95,110 @@ nothing is proved yet: give more turns, or make the rules simpler
 < 8
 ";
 
+/// What is odd about texts.
+const ODDITIES: &str = "
+> rank g1 1
+< 0
+rules: line 5: no shift uses this rule
+> curve g1 q1 p 10
+< 0
+rules: line 5: no shift uses this rule
+> rank one 1
+< 1
+rules: line 9: len 2 3, but the last period is 1
+rules: there is no shift
+> rank beyond 1
+< 0
+rules: line 6: len 4 5, but the last period is 3
+rules: line 7: begin 4 4, but the last period is 3
+rules: line 8: end 5 9, but the last period is 3
+rules: line 3: no shift has the code .
+> explain idle_parts aa
+< 0
+rules: line 6: no shift uses this rule
+rules: line 7: no shift uses the name M
+rules: line 2: no shift has the code b
+rules: line 3: no shift has the code .
+> rank equal_rules 1
+< 0
+rules: line 5: the same rule as in line 4
+> rank teams 1
+< 0
+rules: line 9: no shift uses the name K
+> solve teams two_teams p 10
+< 0
+demand: line 2: no shift of S is one of K
+rules: line 6: no group has the name H
+> solve short_full_days q7 p 10
+< 0
+rules: line 5: no shift uses this rule
+rules: line 7: no shift uses the name F
+> curve short_full_days q7 p 10
+< 4
+rules: line 5: no shift uses this rule
+rules: line 7: no shift uses the name F
+> solve late early p 10
+< 4
+> solve long_idle one_head p 1
+< 9
+> rank repeated 1
+< 0
+rules: line 5: the same rule as in line 4
+rules: line 6: the same rule as in line 4
+rules: line 7: the same rule as in line 4
+rules: line 8: the same rule as in line 4
+rules: line 9: the same rule as in line 4
+rules: line 10: the same rule as in line 4
+rules: line 11: the same rule as in line 4
+rules: line 12: the same rule as in line 4
+rules: line 13: the same rule as in line 4
+rules: line 14: the same rule as in line 4
+rules: line 15: the same rule as in line 4
+rules: line 16: the same rule as in line 4
+and 2 more
+";
+
+/// The same of the days of examples/.
+const EXAMPLES: &str = "
+> rank call_centre 1
+< 0
+rules: line 8: no shift uses this rule
+> curve call_centre calls p 1
+< 0 1 8
+rules: line 8: no shift uses this rule
+> solve shop shop_day p 1
+< 0 1 8
+rules: line 8: no shift uses this rule
+> explain ward nnnnnnnn.............nnn
+< 0
+> solve ward ward_day p 1
+< 0 8
+";
+
 /// What is noted to words that have no form.
 const FORMS: &str = "\
 the forms are:
-explain RULES WORD
-rank RULES MOST
-next RULES PREFIX
-fits RULES PATTERN
+explain RULES WORD [NAME]
+rank RULES MOST [NAME]
+next RULES PREFIX [NAME]
+fits RULES PATTERN [NAME]
 check RULES DEMAND PROOF
+value RULES DEMAND ROSTER
+rest RULES DEMAND ROSTER
 reuse RULES DEMAND PROOF
 solve RULES DEMAND PROOF LIMIT
 curve RULES DEMAND PROOF LIMIT
 make NUMBER PROOF LIMIT
-LIMIT is 1 to 10000 turns, or 1s to 86400s for seconds; MOST 1 to 1000, NUMBER 0 to 4294967295
+LIMIT is 1 to 10000 turns, or 1s to 86400s for seconds; MOST 1 to 1000, NUMBER 0 to 4294967295;
+NAME is a name of the rules to begin at, in place of the start name
 ";
 
 /// Words without a form, and what is noted behind the forms.
-const NO_FORMS: [(&str, &str); 8] = [
+const NO_FORMS: [(&str, &str); 9] = [
     ("explain g1", ""),
     ("solve g1 q1 p", ""),
     ("rank g1 0", "MOST is a number from 1 to 1000\n"),
+    ("rank g1 0 W", "MOST is a number from 1 to 1000\n"),
     (
         "solve g1 q1 p 0",
         "LIMIT is a number of turns from 1 to 10000, or of seconds from 1s to 86400s\n",
@@ -125,9 +224,21 @@ const NO_FORMS: [(&str, &str); 8] = [
 /// Words, the number of a call that fails, and what is noted.
 const REFUSED: [(&str, u32, &str); 4] = [
     ("explain g1 .aa.", 1, "g1: refused\n"),
-    ("explain g1 .aa.", 2, "standard output: refused\n"),
-    ("solve g1 q1 p 10", 3, "p: refused\n"),
-    ("curve g1 q1 p 10", 4, "p.2: refused\n"),
+    (
+        "explain g1 .aa.",
+        2,
+        "rules: line 5: no shift uses this rule\nstandard output: refused\n",
+    ),
+    (
+        "solve g1 q1 p 10",
+        3,
+        "rules: line 5: no shift uses this rule\np: refused\n",
+    ),
+    (
+        "curve g1 q1 p 10",
+        4,
+        "rules: line 5: no shift uses this rule\np.2: refused\n",
+    ),
 ];
 
 /// Whether each case of a transcript has its notes.
@@ -150,6 +261,16 @@ fn a_refused_word_is_explained(rt: HostRuntime) -> Result<(), Fail> {
 #[test]
 fn a_search_in_vain_is_explained(rt: HostRuntime) -> Result<(), Fail> {
     have_notes(rt.alloc(), SEARCHES)
+}
+
+#[test]
+fn what_is_odd_is_named(rt: HostRuntime) -> Result<(), Fail> {
+    have_notes(rt.alloc(), ODDITIES)
+}
+
+#[test]
+fn the_examples_have_little_that_is_odd(rt: HostRuntime) -> Result<(), Fail> {
+    have_notes(rt.alloc(), EXAMPLES)
 }
 
 /// Whether the forms are noted, and this behind them.

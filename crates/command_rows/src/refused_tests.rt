@@ -5,7 +5,7 @@ use std::alloc::Global;
 use std::test::Fail;
 
 /// What each name that a search stores holds before.
-const OLD: &[u8] = b"old";
+const OLD: &[u8] = b"proof old";
 
 /// The names that searches store, in the order in which a search of these tests stores them: `p` alone, or `p.1`
 /// and `p.2`.
@@ -14,12 +14,14 @@ const STORED: [&str; 3] = ["p", "p.1", "p.2"];
 /// Words, how many calls they make, and the number of the call that stores each of these names; 0 where none does.
 type Form<'a> = (&'a str, u32, [u32; 3]);
 
-const FORMS: [Form<'static>; 9] = [
+const FORMS: [Form<'static>; 11] = [
     ("explain g1 .aa.", 2, [0; 3]),
     ("rank g1 10", 2, [0; 3]),
     ("next g1 .aa", 2, [0; 3]),
     ("fits g1 #a#.", 2, [0; 3]),
     ("check g2 q2 halves", 4, [0; 3]),
+    ("value g1 q1 pair", 4, [0; 3]),
+    ("rest g1 q1 pair", 4, [0; 3]),
     ("reuse g2 two_each halves", 4, [0; 3]),
     ("solve g1 q1 p 10", 4, [3, 0, 0]),
     ("make 7 p 1", 2, [1, 0, 0]),

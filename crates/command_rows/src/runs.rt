@@ -1,5 +1,6 @@
 //! Runs of the program over shelves in memory, and transcripts of what it answers.
 
+use crate::days::DAYS;
 use crate::texts::TEXTS;
 use branch_price::{PlainMaster, TurnWatch};
 use command_line::run;
@@ -12,9 +13,9 @@ pub fn first_line(text: &str) -> (&str, &str) {
     text.split_once('\n').unwrap_or((text, ""))
 }
 
-/// Puts the texts of the tests on a shelf.
-fn put_texts(shelf: &mut MemoryShelf) -> Result<(), Fail> {
-    for part in TEXTS.split('@').skip(1) {
+/// Puts texts on a shelf, each below a line with its name.
+fn put_texts(shelf: &mut MemoryShelf, texts: &str) -> Result<(), Fail> {
+    for part in texts.split('@').skip(1) {
         let (name, text) = first_line(part);
         shelf.put(name.trim(), text.as_bytes())?;
     }
@@ -24,7 +25,8 @@ fn put_texts(shelf: &mut MemoryShelf) -> Result<(), Fail> {
 /// Returns a shelf with the texts of the tests, whose calls of these numbers fail.
 pub fn shelf_of(alloc: Global, failing: &[u32]) -> Result<MemoryShelf, Fail> {
     let mut shelf = MemoryShelf::new(alloc, failing.to_vec(alloc)?);
-    put_texts(&mut shelf)?;
+    put_texts(&mut shelf, TEXTS)?;
+    put_texts(&mut shelf, DAYS)?;
     Ok(shelf)
 }
 

@@ -58,14 +58,15 @@ impl Write for Full {
 
 const HELD: &str = "shelf_text.txt";
 
-/// Texts, and what a buffer that began with `in:` has once they were fetched into it.
+/// Texts, each of which may be stored over the one before, and what a buffer that began with `in:` has once
+/// they were fetched into it.
 const TEXTS: [(&str, &str); 3] = [
-    ("first\n", "in:first\n"),
+    ("proof first\n", "in:proof first\n"),
     ("", "in:"),
     ("2\r\n#", "in:2\r\n#"),
 ];
 
-const ALL_SAID: &str = "first\n2\r\n#";
+const ALL_SAID: &str = "proof first\n2\r\n#";
 
 /// Whether a text is fetched as it was stored, behind what the buffer has, and an absent name is refused.
 fn fetches<S: Shelf>(shelf: &mut S, into: &mut Vec<u8>, text: &str, want: &str) -> bool {
@@ -73,6 +74,15 @@ fn fetches<S: Shelf>(shelf: &mut S, into: &mut Vec<u8>, text: &str, want: &str) 
         && shelf.fetch(HELD, into).is_ok()
         && shelf.fetch("shelf_absent.txt", into) == Err(ShelfFault::Failed)
         && into.as_slice() == want.as_bytes()
+}
+
+/// Whether the last of the texts is left alone, since it is no certificate, and a free name is not.
+fn leaves<S: Shelf>(shelf: &mut S, into: &mut Vec<u8>) -> bool {
+    shelf.may_store(HELD) == Err(ShelfFault::Failed)
+        && shelf.store(HELD, b"proof new") == Err(ShelfFault::Failed)
+        && shelf.fetch(HELD, into).is_ok()
+        && into.as_slice() == b"in:2\r\n#".as_slice()
+        && shelf.may_store("shelf_absent.txt").is_ok()
 }
 
 /// Whether a shelf with ample memory answers as it should, where nothing is held yet.
@@ -83,13 +93,14 @@ fn answers<S: Shelf>(alloc: Global, shelf: &mut S) -> Result<bool, Fail> {
             return Ok(false);
         }
     }
-    Ok(true)
+    let mut into = b"in:".to_vec(alloc)?;
+    Ok(leaves(shelf, &mut into))
 }
 
 #[test]
 fn a_quiet_shelf_answers(rt: HostRuntime) -> Result<(), Fail> {
     let mut shelf = QuietShelf::new(rt.alloc());
-    shelf.put(HELD, b"put")?;
+    shelf.put(HELD, b"proof put")?;
     assert!(rt; answers(rt.alloc(), &mut shelf)?);
     assert!(rt; shelf.said() == ALL_SAID.as_bytes());
     Ok(())
@@ -98,7 +109,7 @@ fn a_quiet_shelf_answers(rt: HostRuntime) -> Result<(), Fail> {
 #[test]
 fn a_memory_shelf_answers(rt: HostRuntime) -> Result<(), Fail> {
     let mut shelf = MemoryShelf::new(rt.alloc(), Vec::new(rt.alloc()));
-    shelf.put(HELD, b"put")?;
+    shelf.put(HELD, b"proof put")?;
     assert!(rt; answers(rt.alloc(), &mut shelf)?);
     assert!(rt; shelf.said() == ALL_SAID.as_bytes());
     Ok(())

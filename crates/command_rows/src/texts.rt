@@ -126,6 +126,59 @@ start S
 rule S 0 = 'a' 'a' '.'
 rule S 0 = '.' 'a' 'a'
 rule S 0 = 'a' '.' 'a'
+@ beyond
+periods 3
+work a
+idle .
+start S
+rule S 0 = 'a' 'a' 'a'
+rule S 0 = 'a' 'a' '.' len 4 5
+rule S 0 = 'a' '.' 'a' begin 4 4
+rule S 0 = '.' 'a' 'a' end 5 9
+@ idle_parts
+periods 2
+work a b
+idle .
+start S
+rule S 1 = 'a' 'a'
+rule S 1 = M 'a'
+rule M 0 = 'b' 'b'
+@ teams
+periods 2
+work a
+idle .
+start S
+rule S 0 = F
+rule S 0 = H
+rule F 3 = 'a' 'a'
+rule H 1 = 'a' '.'
+rule K 1 = '.' 'a'
+@ repeated
+periods 1
+work a
+start S
+rule S 0 = 'a'
+rule S 0 = 'a'
+rule S 0 = 'a'
+rule S 0 = 'a'
+rule S 0 = 'a'
+rule S 0 = 'a'
+rule S 0 = 'a'
+rule S 0 = 'a'
+rule S 0 = 'a'
+rule S 0 = 'a'
+rule S 0 = 'a'
+rule S 0 = 'a'
+rule S 0 = 'a'
+rule S 0 = 'a'
+rule S 0 = 'a'
+@ long_idle
+periods 96
+work a
+start S
+rule S 0 = 'a'
+rule S 0 = S S
+rule S 0 = 'a' len 2 2
 @ cycle
 periods 4
 start A
@@ -188,6 +241,10 @@ heads 0 1
 group F 0 1
 group H 1 2
 need a 10 2 2 1
+@ two_teams
+group F 0 1
+group K 0 1
+need a 10 2 1 1
 @ full
 group F 3 3
 group H 1 1
@@ -212,6 +269,19 @@ heads 0 3
 @ two_each
 heads 0 3
 need a 10 0 2 2 2
+@ limits
+heads 0 3
+need a 10 3 1 2 2 1
+least a 1 2 0 0
+most a 64 64 1 0
+@ crossed
+heads 0 2
+need a 10 3 0 0 0 0
+least a 0 3 0 0
+most a 64 1 64 64
+@ pair
+shift .aaa
+shift aaa.
 @ halves
 proof 1
 cost 4
