@@ -20,11 +20,13 @@ IMPORT = re.compile(r"use Rattle\.([\w.]+?)(?:\.\{(.*)\})?(?: as (\w+))?$")
 HEAD = re.compile(r"(?:pub |abbrev |data |record |opaque |mutual )*([^\s(:{]+)")
 READER = ("text_commands.specs.Reader", "IsReader")
 WRITER = ("search_commands.specs.Writer", "IsWriter")
-SOLVE = ("search_commands.specs.Solve", "AnswersSolve")
+RULES = ("text_commands.specs.RulesCommands", "RulesCommand")
+CERT = ("text_commands.specs.Says", "CertCommand")
+SOLVE = ("search_commands.specs.SolveAnswers", "SolveAnswers")
 
-# What tells how a search went, and not what it found.
-HOW = {("branch_price.specs.Found", name)
-       for name in ("IsFoundNode", "IsSharpNode", "IsLooseNode", "IsOneNode", "HasNoArc", "RanOut", "AreCounted")}
+# What tells how a search went, and not what it found; that the checker found no cause, and the causes of a no.
+HOW = {("search_commands.specs.SolveAnswers", "IsSearched")}
+CAUSES = {("certificate_laws.specs.Accepted", "Accepts"), ("text_commands.specs.Check", "SaysNo")}
 
 # The parts of the table: what it says of each, and the definitions that it begins from.
 PARTS = {
@@ -32,17 +34,23 @@ PARTS = {
     "texts": ("what the rules, the demand and the proof text say", [
         ("rules_text.specs.RulesOf", "IsReading"), ("demand_text.specs.InstanceOf", "instance_of"),
         ("proof_pieces.specs.CertOf", "proof_of")]),
-    "check": ("`check`, with each cause of a no", [("text_commands.specs.Check", "AnswersCheck"), READER]),
-    "explain": ("`explain`", [("text_commands.specs.Explain", "AnswersExplain"), READER]),
-    "rank": ("`rank`", [("text_commands.specs.Days", "AnswersRank"), READER]),
-    "next": ("`next`", [("text_commands.specs.Days", "AnswersNext"), READER]),
-    "fits": ("`fits`", [("text_commands.specs.Days", "AnswersFits"), READER]),
-    "reuse": ("`reuse`", [("search_commands.specs.Reuse", "AnswersReuse"), READER]),
+    "trusted": ("`check`, without the causes of a no", [CERT, ("text_commands.specs.Check", "Judgement"), READER]),
+    "check": ("`check`, with each cause of a no", [CERT, ("text_commands.specs.Check", "Judgement"), READER]),
+    "explain": ("`explain`", [RULES, ("text_commands.specs.Explain", "DerivationFrom"), READER]),
+    "rank": ("`rank`", [RULES, ("text_commands.specs.Days", "RankFrom"), READER]),
+    "next": ("`next`", [RULES, ("text_commands.specs.Days", "NextFrom"), READER]),
+    "fits": ("`fits`", [RULES, ("text_commands.specs.Days", "FitsFrom"), READER]),
+    "value": ("`value`, with each cause", [
+        ("text_commands.specs.TextCommands", "TextCommand"), ("what_if.specs.Value", "Valuation"), READER]),
+    "rest": ("`rest`, with each cause", [
+        ("text_commands.specs.TextCommands", "TextCommand"), ("what_if.specs.Rest", "Resting"), READER]),
+    "reuse": ("`reuse`", [CERT, ("search_commands.specs.Reuse", "Reusing"), READER]),
     "found": ("`solve`, without how it searched", [SOLVE, WRITER]),
     "solve": ("`solve`", [SOLVE, WRITER]),
     "make": ("`make`", [("search_commands.specs.Make", "AnswersMake"), WRITER]),
     "curve": ("`curve`", [
-        ("search_commands.specs.Curve", "AnswersCurve"), ("search_commands.specs.Series", "IsSeriesWriter")]),
+        ("search_commands.specs.CurveAnswers", "CurveAnswers"), ("search_commands.specs.CurveAnswers", "MayStoreDay"),
+        ("search_commands.specs.Series", "IsSeriesWriter")]),
     "one": ("that the same texts have one answer", [("command_line.specs.OneAnswer", "HasOneAnswer")]),
     "run": ("all of `run`", [
         ("command_line.specs.Form", "form_of"), ("command_line.specs.Run", "Does"),
@@ -126,7 +134,7 @@ def closure(roots, without=frozenset()):
 
 
 def part(key):
-    return closure(PARTS[key][1], HOW if key == "found" else frozenset())
+    return closure(PARTS[key][1], {"found": HOW, "trusted": CAUSES}.get(key, frozenset()))
 
 
 def table():
