@@ -44,6 +44,10 @@ impl ArcBox {
     ///
     /// It takes all its memory here: eight bytes for each arc, eight for each name and for seven
     /// suffixes of each rule on each span of the day, and eight for 96 periods of each code.
+    ///
+    /// # Errors
+    ///
+    /// `Memory` where memory runs out; nothing is kept then.
     pub fn new(alloc: Global, instance: &Instance, graph: &Graph) -> Result<ArcBox, Memory>
         requires sound { IsSoundInstance instance.now }
         requires graph { IsGraph instance.now.grammar graph.now }

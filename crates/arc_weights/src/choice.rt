@@ -154,7 +154,11 @@ fn choose(
     Some((best.arc, best.b))
 }
 
-// Says what the sums of such a solution's weights tell.
+/// Says what the sums of such a solution's weights tell.
+///
+/// # Errors
+///
+/// `Memory` where memory runs out; there is no answer then.
 pub fn conclude(
     alloc: Global,
     graph: &Graph,

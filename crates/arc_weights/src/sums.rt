@@ -31,7 +31,11 @@ fn add_arcs(graph: &Graph, arcs: &[ArcKey], units: u128, sums: &mut [u128])
     }
 }
 
-// Returns the weight of the trees with each arc of the graph, in units of 1 / d.
+/// Returns the weight of the trees with each arc of the graph, in units of 1 / d.
+///
+/// # Errors
+///
+/// `Memory` where memory runs out; nothing is kept then.
 pub fn arc_sums(
     alloc: Global,
     graph: &Graph,

@@ -40,6 +40,10 @@ pub enum Weighed {
 /// The solution says how the weights are to be read: as those of a basic solution of least cost, where a sum
 /// is a fraction if it is not whole, or as weights in units of 2^-56 that show the node's prices to be best,
 /// where it is one if it is more than 2^-12 from each whole number.
+///
+/// # Errors
+///
+/// `Memory` where memory runs out; there is no answer then.
 pub fn weigh(
     alloc: Global,
     instance: &Instance,

@@ -9,6 +9,7 @@ use proof_pieces::{CertRoom, Piece, Pieces, ProofFault};
 use roster_model::{Instance, List, Memory, Prices, Shift};
 use std::alloc::Global;
 
+// Returns the certificate before any piece.
 fn no_cert(alloc: Global) -> Cert
     ensures { result ≡ no_cert }
 {
@@ -30,6 +31,7 @@ fn copy<T: Copy>(alloc: Global, items: &[T]) -> Result<List<T>, Memory>
     }
 }
 
+// Returns a copy of the prices that the room holds.
 fn prices(alloc: Global, room: &CertRoom) -> Result<Prices, Memory>
     ensures { IfOk result (λ p. p ≡ room_prices room.now) }
 {
@@ -75,6 +77,7 @@ fn add(alloc: Global, cert: &mut Cert, room: &CertRoom, piece: Piece) -> Result<
     }
 }
 
+// Says whether a piece is the end.
 fn is_end(piece: Piece) -> bool
     ensures { (room : RoomView) → result ≡ is_done (told room piece) }
 {
@@ -103,9 +106,13 @@ fn collect(alloc: Global, instance: &Instance, text: &[u8]) -> Result<Cert, Proo
 /// Reads a proof text for an instance: the certificate, which is sound, or the first fault of the
 /// text.
 ///
-/// A text that is too long is refused before all else. Then the lines are read in order, and the
-/// first that cannot stand gives the fault; in a line a bad byte comes first, then its form, then
-/// what stands too often, and then its words from the left. `Memory` may come at any time.
+/// A text that is too long is refused before all else. Then the lines are read in order, and the first that
+/// cannot stand gives the fault; in a line a bad byte comes first, then its form, then what stands too often,
+/// and then its words from the left.
+///
+/// # Errors
+///
+/// The first fault of the text, in this order; `Memory` may come at any time.
 pub fn read_cert(alloc: Global, instance: &Instance, text: &[u8]) -> Result<Cert, ProofFault>
     requires { IsSoundInstance instance.now }
     ensures value { Reads result (proof_of instance.now text.now) }

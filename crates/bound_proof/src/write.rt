@@ -31,6 +31,7 @@ use roster_model::{ArcKey, Group, Instance, List, Memory, Mult, Prices, Shift};
 use std::alloc::Global;
 use text_lines::{field, put, signed_field, word};
 
+// Appends the header, with groups and without.
 fn header(out: &mut List<u8>, groups: &[Group]) -> Result<(), Memory>
     ensures { OnOk result (out.new ≡ out.old ++ written (header_words groups.now ∷ [])) }
 {
@@ -44,6 +45,7 @@ fn header(out: &mut List<u8>, groups: &[Group]) -> Result<(), Memory>
     Ok(())
 }
 
+// Appends a cost or a bound.
 fn amount(out: &mut List<u8>, value: Option<u64>) -> Result<(), Memory>
     ensures { OnOk result (out.new ≡ out.old ++ tail (amount_word value ∷ [])) }
 {
@@ -53,8 +55,11 @@ fn amount(out: &mut List<u8>, value: Option<u64>) -> Result<(), Memory>
     }
 }
 
-/// Appends a line of a word and of a cost or a bound. After want of memory a part of it may stand
-/// there.
+/// Appends a line of a word and of a cost or a bound.
+///
+/// # Errors
+///
+/// `Memory` where memory runs out; a part of it may stand there then.
 pub fn amount_line(out: &mut List<u8>, first: &[u8], value: Option<u64>) -> Result<(), Memory>
     ensures { OnOk result (out.new ≡ out.old ++ written (amount_words first.now value ∷ [])) }
 {
@@ -78,6 +83,7 @@ pub fn group_name(instance: &Instance, group: u8) -> &[u8]
     }
 }
 
+// Appends the line of a shift.
 fn shift_line(out: &mut List<u8>, instance: &Instance, shift: &Shift) -> Result<(), Memory>
     ensures { OnOk result (out.new ≡ out.old ++ written (shift_line instance.now shift.now ∷ [])) }
 {
@@ -91,7 +97,11 @@ fn shift_line(out: &mut List<u8>, instance: &Instance, shift: &Shift) -> Result<
     Ok(())
 }
 
-/// Appends a line for each shift. After want of memory a part of them may stand there.
+/// Appends a line for each shift.
+///
+/// # Errors
+///
+/// `Memory` where memory runs out; a part of them may stand there then.
 pub fn shift_lines(out: &mut List<u8>, instance: &Instance, shifts: &[Shift]) -> Result<(), Memory>
     ensures { OnOk result (out.new ≡ out.old ++ written (map (shift_line instance.now) shifts.now)) }
 {
@@ -144,6 +154,7 @@ fn head_line(out: &mut List<u8>, node: &Node) -> Result<(), Memory>
     Ok(())
 }
 
+// Appends each number behind a space.
 fn numbers(out: &mut List<u8>, values: &[i128]) -> Result<(), Memory>
     ensures { OnOk result (out.new ≡ out.old ++ tail (map number_text values.now)) }
 {
@@ -182,6 +193,7 @@ fn price_lines(out: &mut List<u8>, instance: &Instance, prices: &[i128]) -> Resu
     Ok(())
 }
 
+// Appends the line of a multiplier.
 fn mult_line(out: &mut List<u8>, mult: &Mult) -> Result<(), Memory>
     ensures { OnOk result (out.new ≡ out.old ++ written (mult_words mult.now ∷ [])) }
 {
@@ -192,6 +204,7 @@ fn mult_line(out: &mut List<u8>, mult: &Mult) -> Result<(), Memory>
     Ok(())
 }
 
+// Appends a line for each multiplier.
 fn mult_lines(out: &mut List<u8>, mults: &[Mult]) -> Result<(), Memory>
     ensures { OnOk result (out.new ≡ out.old ++ written (map mult_words mults.now)) }
 {
@@ -230,6 +243,7 @@ fn node_lines(out: &mut List<u8>, instance: &Instance, node: &Node) -> Result<()
     Ok(())
 }
 
+// Appends the lines of all nodes.
 fn tree_lines(out: &mut List<u8>, instance: &Instance, nodes: &[Node]) -> Result<(), Memory>
     requires sound { IsSoundInstance instance.now }
     requires whole { All (HasPrices instance.now) nodes.now }
@@ -241,6 +255,7 @@ fn tree_lines(out: &mut List<u8>, instance: &Instance, nodes: &[Node]) -> Result
     Ok(())
 }
 
+// Appends the last line.
 fn end_line(out: &mut List<u8>) -> Result<(), Memory>
     ensures { OnOk result (out.new ≡ out.old ++ written (end_words ∷ [])) }
 {
@@ -263,9 +278,12 @@ fn cert_lines(alloc: Global, instance: &Instance, cert: &Cert) -> Result<List<u8
     Ok(out)
 }
 
-/// Writes the text of a sound certificate, with one space between words and no comment. It has at
-/// most 10,000 bytes, and 128 more for each node and 40 more for each price and each multiplier. After
-/// want of memory there is no text.
+/// Writes the text of a sound certificate, with one space between words and no comment. It has at most 10,000
+/// bytes, and 128 more for each node and 40 more for each price and each multiplier.
+///
+/// # Errors
+///
+/// `Memory` where memory runs out; there is no text then.
 pub fn write_cert(alloc: Global, instance: &Instance, cert: &Cert) -> Result<List<u8>, Memory>
     requires sound { IsSoundInstance instance.now }
     requires cert { IsSoundCert instance.now cert.now }

@@ -93,6 +93,11 @@ fn found_at_root(alloc: Global, instance: &Instance, best: Option<Roster>) -> Re
 }
 
 /// Searches a day without arcs, at its root, which leaves no arc more than one count.
+///
+/// # Errors
+///
+/// `Memory` where memory runs out; the pool has its trees under their numbers then, and perhaps further trees
+/// of the day.
 pub(crate) fn search_arcless(
     alloc: Global,
     instance: &Instance,

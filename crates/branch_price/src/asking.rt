@@ -17,6 +17,11 @@ use search_master::Master;
 use std::alloc::Global;
 
 /// Asks the master for the prices of the node at a path of cuts.
+///
+/// # Errors
+///
+/// `Memory` where memory runs out; the master's count of refusals stays as it is then. The pricer is still
+/// one for the graph, and the pool has its trees under their numbers, and perhaps further trees of the day.
 pub(crate) fn node<M: Master>(
     alloc: Global,
     instance: &Instance,

@@ -184,6 +184,11 @@ fn offer_completed(
 /// Offers a roster, unless the best one already costs no more than the bound that the node leaves: at the
 /// first node and at every second one after it that of the trees that a dive fixes; at the others, and where
 /// the dive fixes none, that of the solution's trees. So many nodes are processed before.
+///
+/// # Errors
+///
+/// `Memory` where memory runs out; the best roster is an allowed one still then, and the pool has its trees
+/// under their numbers, and perhaps further trees of the day.
 pub(crate) fn offer_at_node(
     alloc: Global,
     instance: &Instance,

@@ -7,6 +7,10 @@ use roster_model::{ArcKey, Memory};
 use std::alloc::Global;
 
 /// Returns the least count that a box leaves each arc.
+///
+/// # Errors
+///
+/// `Memory` where memory runs out; nothing is kept then.
 pub(crate) fn least_counts(
     alloc: Global,
     graph: &Graph,

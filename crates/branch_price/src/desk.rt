@@ -49,6 +49,10 @@ fn pricing_of(alloc: Global, instance: &Instance, graph: &Graph) -> Result<Prici
 
 impl Desk {
     /// Returns a desk for a search.
+    ///
+    /// # Errors
+    ///
+    /// `Memory` where memory runs out; nothing is kept then.
     pub fn new(alloc: Global, instance: &Instance, graph: &Graph) -> Result<Desk, Memory>
         requires sound { IsSoundInstance instance.now }
         ensures { IfOk result (IsDesk instance.now graph.now) }
@@ -71,6 +75,10 @@ impl Desk {
 }
 
 /// Keeps the trees of a solution, for the next master.
+///
+/// # Errors
+///
+/// `Memory` where memory runs out; some of them may be kept then.
 pub(crate) fn want(wanted: &mut Vec<usize>, weights: &[Weight]) -> Result<(), Memory> {
     wanted.clear();
     for weight in weights {

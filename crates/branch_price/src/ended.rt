@@ -21,6 +21,10 @@ pub(crate) fn stated(alloc: Global, best: Option<Roster>) -> (List<Shift>, Optio
 }
 
 /// Returns what a search found that is at its end, with this bound.
+///
+/// # Errors
+///
+/// `Memory` where memory runs out; nothing is kept then.
 pub(crate) fn found(
     alloc: Global,
     instance: &Instance,

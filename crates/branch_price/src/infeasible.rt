@@ -45,6 +45,10 @@ fn plain_room(alloc: Global, instance: &Instance) -> Result<PriceRoom, Memory>
 }
 
 /// Returns of each name of the grammar, in its order, whether it derives a word of the day.
+///
+/// # Errors
+///
+/// `Memory` where memory runs out; nothing is kept then.
 pub(crate) fn derived(alloc: Global, instance: &Instance) -> Result<[bool; MOST_NAMES], Memory>
     requires { IsSoundInstance instance.now }
     ensures { IfOk result (TellsDerived instance.now.grammar) }
@@ -96,6 +100,10 @@ fn infeasible_node(alloc: Global, instance: &Instance, graph: &Graph) -> Result<
 }
 
 /// Returns what a search finds where the head counts or a cell alone show that no roster is allowed.
+///
+/// # Errors
+///
+/// `Memory` where memory runs out; nothing is kept then.
 pub(crate) fn no_roster(alloc: Global, instance: &Instance, graph: &Graph) -> Result<Found, Memory>
     requires sound { IsSoundInstance instance.now }
     requires infeasible { IsPlainlyInfeasible instance.now }

@@ -32,6 +32,11 @@ use std::alloc::Global;
 
 /// Processes a leaf whose path leaves each arc one count: offers the roster of these counts, and says what
 /// they cost.
+///
+/// # Errors
+///
+/// `Memory` where memory runs out; nothing is said of how far the search is then. The path is still one of
+/// the graph, and the pool has its trees under their numbers, and perhaps further trees of the day.
 pub(crate) fn pin_leaf(
     alloc: Global,
     instance: &Instance,
@@ -181,6 +186,12 @@ fn best_leaf(
 
 /// Processes a leaf whose path leaves an arc more than one count: prices it, or splits it where its master
 /// fails.
+///
+/// # Errors
+///
+/// `Memory` where memory runs out; nothing is said of how far the search is then. The master's count of
+/// refusals has not fallen, and the pool has its trees under their numbers, and perhaps further trees of the
+/// day.
 pub(crate) fn price_leaf<M: Master>(
     alloc: Global,
     instance: &Instance,

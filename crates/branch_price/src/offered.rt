@@ -51,6 +51,10 @@ fn trees_cost(instance: &Instance, pool: &Pool, columns: &[usize]) -> u64
 
 /// Offers the roster of these trees, where they cost less than the best one: only then are their words worth
 /// a look at their prices.
+///
+/// # Errors
+///
+/// `Memory` where memory runs out; the best roster is an allowed one still then.
 pub(crate) fn offer_trees(
     alloc: Global,
     instance: &Instance,

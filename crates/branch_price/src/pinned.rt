@@ -34,6 +34,11 @@ pub(crate) fn pinned_value(instance: &Instance, graph: &Graph, path: &mut NodePa
 }
 
 /// Offers the roster of the counts that a path leaves the arcs, where these cost less than the best one.
+///
+/// # Errors
+///
+/// `Memory` where memory runs out; the best roster is an allowed one still then, and the pool has its trees
+/// under their numbers, and perhaps further trees of the day.
 pub(crate) fn offer_least(
     alloc: Global,
     instance: &Instance,

@@ -34,6 +34,10 @@ fn shares_of(alloc: Global, weights: &[Weight]) -> Result<List<Share>, Memory> {
 
 /// Returns an arc on which a node may be split well, from the weights of the trees at its solution, where no
 /// roster that costs as much as the best one is looked for. What splits gain is counted. It is a hint.
+///
+/// # Errors
+///
+/// `Memory` where memory runs out; there is no answer then.
 pub(crate) fn preferred_arc(
     alloc: Global,
     instance: &Instance,

@@ -76,6 +76,10 @@ fn push_while_fewer(
 }
 
 /// Adds each tree as often as the whole part of its weight says.
+///
+/// # Errors
+///
+/// `Memory` where memory runs out; nothing is said of the columns then.
 pub(crate) fn push_wholes(
     columns: &mut List<usize>,
     weights: &[Weight],
@@ -136,6 +140,10 @@ fn rounded(alloc: Global, instance: &Instance, weights: &[Weight]) -> Result<Lis
 }
 
 /// Offers the roster of the trees of a solution, each as often as its weight rounded to a whole number.
+///
+/// # Errors
+///
+/// `Memory` where memory runs out; the best roster is an allowed one still then.
 pub(crate) fn offer_rounded(
     alloc: Global,
     instance: &Instance,

@@ -39,6 +39,12 @@ fn halve(graph: &Graph, progress: &mut Progress, leaf: OpenLeaf) -> Result<OpenL
 }
 
 /// One turn of a search, which processes one node: the leaf that was taken, or a half of it.
+///
+/// # Errors
+///
+/// `Memory` where memory runs out; nothing is said of the path and of how far the search is then. The
+/// master's count of refusals has not fallen, and the pool has its trees under their numbers, and perhaps
+/// further trees of the day.
 pub(crate) fn turn<M: Master>(
     alloc: Global,
     instance: &Instance,

@@ -10,6 +10,11 @@ use std::alloc::Global;
 use tree_pool::Pool;
 
 /// Adds trees of the day to the pool, where they are not there, and returns their numbers in order.
+///
+/// # Errors
+///
+/// `Memory` where memory runs out; the pool has its trees under their numbers then, and perhaps further trees
+/// of the day.
 pub fn columns_of(
     alloc: Global,
     grammar: &Grammar,

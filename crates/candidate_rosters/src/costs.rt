@@ -7,6 +7,11 @@ use roster_model::{Instance, Memory, PriceRoom};
 use std::alloc::Global;
 
 /// Sets the prices under which the sum of a tree of the day is its cost.
+///
+/// # Errors
+///
+/// `Memory` where memory runs out; the room is still one for the instance then, and nothing is said of its
+/// prices.
 pub fn price_by_costs(
     alloc: Global,
     instance: &Instance,

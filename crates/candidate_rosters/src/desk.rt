@@ -17,6 +17,10 @@ pub struct RosterDesk {
 
 impl RosterDesk {
     /// Returns a desk for the rosters of an instance. It takes all its memory here.
+    ///
+    /// # Errors
+    ///
+    /// `Memory` where memory runs out; nothing is kept then.
     pub fn for_instance(alloc: Global, instance: &Instance) -> Result<RosterDesk, Memory>
         requires { IsSoundInstance instance.now }
         ensures { IfOk result (IsDeskFor instance.now) }

@@ -67,6 +67,11 @@ fn add_team(
 
 /// Returns for each team the number of a cheapest tree, as often as it needs employees. `None` where
 /// a team that needs some has no tree. The pricer is filled for the costs.
+///
+/// # Errors
+///
+/// `Memory` where memory runs out; the pool has its trees under their numbers then, and perhaps further trees
+/// of the day.
 pub fn leaders(
     alloc: Global,
     instance: &Instance,

@@ -19,6 +19,12 @@ use tree_pool::Pool;
 
 /// Returns the roster with which a search begins: for each team its least number of equal shifts of
 /// least price. `None` where this is not allowed, or a team that needs employees has no shift.
+///
+/// # Errors
+///
+/// `Memory` where memory runs out; the pricer, the room of prices and the desk are still those of the graph
+/// and of the instance then, and the pool has its trees under their numbers, and perhaps further trees of the
+/// day.
 pub fn least_roster(
     alloc: Global,
     instance: &Instance,

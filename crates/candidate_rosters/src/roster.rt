@@ -50,6 +50,10 @@ fn judged(instance: &Instance, shifts: List<Shift>, desk: &mut RosterDesk) -> Op
 
 /// Returns the roster of the words of trees of the pool, each at its price; `None` where it is not
 /// allowed. The trees may stand several times.
+///
+/// # Errors
+///
+/// `Memory` where memory runs out; the desk is still one for the instance then.
 pub fn roster_of(
     alloc: Global,
     instance: &Instance,

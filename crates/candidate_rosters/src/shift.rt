@@ -14,6 +14,10 @@ use std::alloc::Global;
 use tree_pool::Pool;
 
 /// Returns the shift that a tree of the pool spells, at its price.
+///
+/// # Errors
+///
+/// `Memory` where memory runs out; the desk is still one for the instance then.
 pub fn shift_of(
     alloc: Global,
     instance: &Instance,

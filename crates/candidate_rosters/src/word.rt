@@ -5,6 +5,10 @@ use roster_model::{Grammar, List, Memory};
 use std::alloc::Global;
 
 /// Returns the bytes of codes.
+///
+/// # Errors
+///
+/// `Memory` where memory runs out; nothing is kept then.
 pub fn word_of(alloc: Global, grammar: &Grammar, codes: &[u8]) -> Result<List<u8>, Memory>
     requires { All (λ c. c < length grammar.now.codes) codes.now }
     ensures { IfOk result (λ w. w ≡ map (code_byte grammar.now) codes.now) }

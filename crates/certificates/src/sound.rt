@@ -55,6 +55,7 @@ fn list_no_zero(nodes: &[Node]) -> bool
     nodes.iter().all(|node| none_is_zero(node))
 }
 
+/// Says whether no multiplier of the node's prices is 0.
 fn none_is_zero(node: &Node) -> bool
     ensures { IsTrue result ↔ NoneIsZero node.now }
 {
@@ -68,6 +69,7 @@ fn none_is_zero(node: &Node) -> bool
     }
 }
 
+/// Says whether no multiplier is 0.
 fn has_no_zero(prices: &Prices) -> bool
     ensures { IsTrue result ↔ ListNoZero prices.now }
 {
@@ -88,6 +90,7 @@ fn are_shifts(instance: &Instance, shifts: &[Shift]) -> bool
     shifts.iter().all(|shift| is_shift(instance, shift))
 }
 
+/// Says whether a shift has a word, a group and a price that may be.
 fn is_shift(instance: &Instance, shift: &Shift) -> bool
     ensures { IsTrue result ↔ IsSoundShift instance.now shift.now }
 {
@@ -103,12 +106,14 @@ fn is_word(word: &[u8]) -> bool
     !word.is_empty() && word.len() <= 96 && word.iter().all(|byte| is_word_byte(*byte))
 }
 
+/// Says whether a byte may stand in a word: no blank, no control byte, and not `#`.
 fn is_word_byte(byte: u8) -> bool
     ensures { IsTrue result ↔ IsWordByte byte }
 {
     33 <= byte && byte <= 126 && byte != 35
 }
 
+/// Says whether a number is that of a group, or 0 on a day without groups.
 fn is_group_number(groups: &[Group], number: u8) -> bool
     ensures { IsTrue result ↔ IsGroupNumber groups.now number }
 {
@@ -131,12 +136,14 @@ pub(crate) fn is_key(instance: &Instance, arc: &ArcKey) -> bool
         && is_in_day(arc.part)
 }
 
+/// Returns the greatest number of a rule, with groups and without.
 fn most_rule(groups: &[Group]) -> u8
     ensures { result ≡ most_rule groups.now }
 {
     if groups.is_empty() { 64 } else { 72 }
 }
 
+/// Says whether a number is from 1 to 96.
 fn is_in_day(number: u8) -> bool
     ensures { IsTrue result ↔ ((1 ≤ number) × (number ≤ 96)) }
 {
@@ -163,6 +170,7 @@ fn are_prices(instance: &Instance, prices: &Prices) -> bool
         && prices.cell.as_slice().iter().all(|price| is_price(*price))
 }
 
+/// Says whether a price is at most 2^80 in size.
 fn is_price(price: i128) -> bool
     ensures { IsTrue result ↔ Within (2 ^ 80) price }
 {
@@ -187,12 +195,14 @@ fn are_mults(prices: &Prices, cuts: usize) -> bool
         && are_rising(mult)
 }
 
+/// Says whether a multiplier is of one of so many cuts, and from 0 to 2^80.
 fn is_mult(mult: &Mult, cuts: usize) -> bool
     ensures { IsTrue result ↔ IsMult cuts mult.now }
 {
     1 <= mult.cut && mult.cut as usize <= cuts && 0 <= mult.value && mult.value <= MOST_PRICE
 }
 
+/// Says whether the multipliers' cuts rise, from 1 on.
 fn are_rising(mult: &[Mult]) -> bool
     ensures { IsTrue result ↔ RisesFrom 0 mult.now }
 {

@@ -46,6 +46,10 @@ fn price_of<N: Number>(entry: &ArcPrice) -> Option<Price<N>>
 
 impl<N: Number> Extras<N> {
     /// Returns no prices, for so many arcs.
+    ///
+    /// # Errors
+    ///
+    /// `Memory` where memory runs out; nothing is kept then.
     pub fn new(alloc: Global, arcs: usize) -> Result<Extras<N>, Memory>
         ensures { IfOk result (λ e. AreFree arcs e.prices.items) }
     {

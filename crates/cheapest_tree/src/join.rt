@@ -46,6 +46,10 @@ fn links_of(alloc: Global, graph: &Graph, letters: &mut Letters) -> Result<Links
 }
 
 /// Gives slots to the letters of a graph, and joins by its arcs these slots and those of the nodes.
+///
+/// # Errors
+///
+/// `Memory` where memory runs out; nothing is kept then.
 pub fn join(alloc: Global, graph: &Graph) -> Result<Joined, Memory>
     ensures { IfOk result (λ j. AreLinks graph.now j.letters j.links (length graph.now.arcs)) }
 {

@@ -30,6 +30,7 @@ impl<N: Number> Clone for Price<N> {
 
     ghost is_infallible = { λ a. Unit {0} };
 
+    // Returns the same price.
     fn clone(&self) -> Result<Price<N>, AllocError> {
         Ok(*self)
     }
@@ -101,6 +102,7 @@ impl<N: Number> Clone for Sum<N> {
 
     ghost is_infallible = { λ a. Unit {0} };
 
+    // Returns the same sum.
     fn clone(&self) -> Result<Sum<N>, AllocError> {
         Ok(*self)
     }
@@ -150,6 +152,7 @@ impl<N: Number> Clone for Least<N> {
 
     ghost is_infallible = { λ a. Unit {0} };
 
+    // Returns the same least sum.
     fn clone(&self) -> Result<Least<N>, AllocError> {
         Ok(*self)
     }

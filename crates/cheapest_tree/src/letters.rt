@@ -24,6 +24,10 @@ impl Letters {
     ghost use Rattle.cheapest_tree.specs.Links.{IsSlot};
 
     /// Returns no letters.
+    ///
+    /// # Errors
+    ///
+    /// `Memory` where memory runs out; nothing is kept then.
     pub fn new(alloc: Global) -> Result<Letters, Memory>
         ensures { IfOk result (λ s. length s.list ≡ 0) }
     {
@@ -57,6 +61,10 @@ impl Letters {
 
     /// Returns the slot of what is below an arc, where there are so many nodes. A letter that has no
     /// slot yet gets the next one.
+    ///
+    /// # Errors
+    ///
+    /// `Memory` where memory runs out; nothing is said of the letters then.
     pub fn slot(&mut self, kid: Kid, nodes: u32) -> Result<u32, Memory>
         requires few { length self.old.list ≤ 2 ^ 31 }
         requires nodes { nodes ≤ 100000 }

@@ -40,6 +40,7 @@ impl Number for i64 {
       below = Prim.omega arith;
     } };
 
+    // Returns the number of a price, none where it is beyond the limits.
     fn price(price: i128) -> Option<i64> {
         if price < -MOST_PRICE || price > MOST_PRICE {
             None
@@ -48,38 +49,47 @@ impl Number for i64 {
         }
     }
 
+    // Returns the number of what costs nothing.
     fn zero() -> i64 {
         0
     }
 
+    // Returns the number that stands for none.
     fn none() -> i64 {
         NONE
     }
 
+    // Returns the number that stands for no least sum.
     fn no_least() -> i64 {
         NO_LEAST
     }
 
+    // Returns the number in 128 bits.
     fn widened(self) -> i128 {
         i128::from(self)
     }
 
+    // Returns the sum of two prices.
     fn plus(self, price: i64) -> i64 {
         self + price
     }
 
+    // Returns the sum of two sums and the prices between them.
     fn add(first: i64, prices: i64, rest: i64) -> i64 {
         first + prices + rest
     }
 
+    // Says whether the number is below another one.
     fn is_less(self, than: i64) -> bool {
         self < than
     }
 
+    // Says whether the numbers are the same.
     fn is_same(self, other: i64) -> bool {
         self == other
     }
 
+    // Says whether the number is within the limit of sums.
     fn is_sum(self) -> bool {
         self >= -MOST_SUM && self <= MOST_SUM
     }

@@ -286,6 +286,10 @@ fn order_of(
 
 /// Returns an order of the nodes of a graph, each after those that its arcs use; `None` where none is
 /// found. That an order is one is tested as it is made.
+///
+/// # Errors
+///
+/// `Memory` where memory runs out; nothing is kept then.
 pub fn find_order(
     alloc: Global,
     graph: &Graph,

@@ -23,6 +23,10 @@ impl<N: Number> PassRoom<N> {
     ghost use Rattle.cheapest_tree.specs.Rooms.{IsRoomFor};
 
     /// Returns room for so many arcs and slots.
+    ///
+    /// # Errors
+    ///
+    /// `Memory` where memory runs out; nothing is kept then.
     pub fn new(alloc: Global, arcs: usize, slots: usize) -> Result<PassRoom<N>, Memory>
         ensures { IfOk result (IsRoomFor arcs slots) }
     {

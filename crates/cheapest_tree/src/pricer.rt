@@ -126,6 +126,10 @@ impl Pricer {
     ///
     /// It has taken the memory for all of them: 60 bytes for each arc, 56 for each node, and
     /// 42 for each letter.
+    ///
+    /// # Errors
+    ///
+    /// `Memory` where memory runs out; nothing is kept then.
     pub fn new(alloc: Global, graph: &Graph) -> Result<Pricer, Memory>
         ensures { IfOk result (IsMadeFor graph.now) }
     {

@@ -35,6 +35,10 @@ fn with_capacity(alloc: Global, count: usize) -> Result<List<u32>, Memory>
 
 impl Links {
     /// Returns the slots of no arcs, and takes the memory for those of so many.
+    ///
+    /// # Errors
+    ///
+    /// `Memory` where memory runs out; nothing is kept then.
     pub fn with_capacity(alloc: Global, count: usize) -> Result<Links, Memory>
         ensures { IfOk result (λ links. links ≡ record { made = []; first = []; rest = [] }) }
     {
@@ -45,7 +49,11 @@ impl Links {
         })
     }
 
-    /// Adds the slots of one more arc. After an error only some of them are added.
+    /// Adds the slots of one more arc.
+    ///
+    /// # Errors
+    ///
+    /// `Memory` where memory runs out; only some of them are added then.
     pub fn push(&mut self, made: u32, first: u32, rest: u32) -> Result<(), Memory>
         ensures { OnOk result (self.new ≡ record {
           made = self.old.made ++ made ∷ [];

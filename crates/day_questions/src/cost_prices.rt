@@ -27,19 +27,23 @@ impl<'a> LetterPrice for CostPrices<'a> {
 
     ghost view = { λ s. cost_view s.grammar.now };
 
+    // Returns 0 for each letter of the grammar's codes.
     fn letter(&self, code: u8, period: u8) -> Option<i128> {
         let _code = self.grammar.codes.as_slice().get(code as usize)?;
         Some(0)
     }
 
+    // Returns 0 for each arc.
     fn arc(&self, arc: &ArcKey) -> i128 {
         0
     }
 
+    // Returns that no arc has a price.
     fn arc_prices(&self) -> Option<&[ArcPrice]> {
         Some(&[])
     }
 
+    // Returns the rule's cost, 0 where there is no rule of this number.
     fn rule(&self, rule: u8) -> i128 {
         let Some(place) = (rule as usize).checked_sub(1) else {
             return 0;

@@ -95,10 +95,13 @@ fn fits_in(alloc: Global, prices: &PatternPrices<'_>) -> Result<Reply, Memory>
 
 /// Answers which shifts fit a pattern, in which the byte `#` stands for any code.
 ///
-/// Status 0 says `least PRICE`, the least price of a shift that fits, and then for each open period T in order
-/// a line `at T C PRICE` for each code C that some fitting shift has there, in the order of the codes, with the
-/// least price of such a shift. Status 1 comes exactly where no shift fits, and says `no shift`. After want of
-/// memory there is no answer.
+/// Status 0 says `least PRICE`, the least price of a shift that fits, and then for each open period T in
+/// order a line `at T C PRICE` for each code C that some fitting shift has there, in the order of the codes,
+/// with the least price of such a shift. Status 1 comes exactly where no shift fits, and says `no shift`.
+///
+/// # Errors
+///
+/// `Memory` where memory runs out; there is no answer then.
 pub fn fits_answer(alloc: Global, grammar: &Grammar, pattern: &[u8]) -> Result<Reply, Memory>
     requires { IsSound grammar.now }
     ensures { IfOk result (λ a. FitsAnswer grammar.now pattern.now a.status a.output) }

@@ -8,6 +8,10 @@ use span_table::Table;
 use std::alloc::Global;
 
 /// Returns the least sum over all trees of the day under the prices; `None` where no tree has a sum.
+///
+/// # Errors
+///
+/// `Memory` where memory runs out; nothing is kept then.
 pub fn least_sum<P: LetterPrice>(
     alloc: Global,
     grammar: &Grammar,

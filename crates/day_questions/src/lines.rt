@@ -52,6 +52,10 @@ fn write_code(out: &mut List<u8>, front: Front, byte: u8, price: Option<i128>) -
 
 /// Appends the lines of the codes that stand at a period in shifts whose front the pattern takes, each with
 /// the least price of such a shift, in the order of the codes.
+///
+/// # Errors
+///
+/// `Memory` where memory runs out; a part may stand in `out` then.
 pub fn add_code_lines(
     prices: &PatternPrices<'_>,
     marginals: &Marginals,

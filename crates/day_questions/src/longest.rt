@@ -49,6 +49,10 @@ fn longest_line(alloc: Global, length: usize) -> Result<Reply, Memory>
 }
 
 /// Says how many letters of the prefix some shift begins with, or that there is no shift.
+///
+/// # Errors
+///
+/// `Memory` where memory runs out; there is no answer then.
 pub fn longest_answer(alloc: Global, grammar: &Grammar, prefix: &[u8]) -> Result<Reply, Memory>
     requires { IsSound grammar.now }
     ensures { IfOk result (λ a. (a.status ≡ 1) × LongestText grammar.now prefix.now a.output) }

@@ -42,6 +42,7 @@ impl<'a> LetterPrice for MissPrices<'a> {
 
     ghost view = { λ s. miss_view s.grammar.now s.prefix.now };
 
+    // Returns 0 where the prefix has the code at the period or has ended, and else what the miss costs.
     fn letter(&self, code: u8, period: u8) -> Option<i128> {
         let code = self.grammar.codes.as_slice().get(code as usize)?;
         let wanted = byte_at(self.prefix, period);
@@ -49,14 +50,17 @@ impl<'a> LetterPrice for MissPrices<'a> {
         Some(miss(wanted, code.byte, left))
     }
 
+    // Returns 0 for each arc.
     fn arc(&self, arc: &ArcKey) -> i128 {
         0
     }
 
+    // Returns that no arc has a price.
     fn arc_prices(&self) -> Option<&[ArcPrice]> {
         Some(&[])
     }
 
+    // Returns 0 for each rule.
     fn rule(&self, rule: u8) -> i128 {
         0
     }

@@ -46,7 +46,11 @@ fn next_lines(alloc: Global, grammar: &Grammar, prefix: &[u8]) -> Result<List<u8
 ///
 /// Status 0 says a line `code C PRICE` for each such code, in the order of the codes. Status 1 comes exactly
 /// where there is none, and says `longest K`, K being the length of the longest prefix of the prefix that
-/// begins some shift, or `no shift` where the day has none. After want of memory there is no answer.
+/// begins some shift, or `no shift` where the day has none.
+///
+/// # Errors
+///
+/// `Memory` where memory runs out; there is no answer then.
 pub fn next_answer(alloc: Global, grammar: &Grammar, prefix: &[u8]) -> Result<Reply, Memory>
     requires { IsSound grammar.now }
     ensures { IfOk result (λ a. NextAnswer grammar.now prefix.now a.status a.output) }

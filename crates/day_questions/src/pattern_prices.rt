@@ -50,6 +50,7 @@ impl<'a> LetterPrice for PatternPrices<'a> {
 
     ghost view = { λ s. pattern_view s.grammar.now s.any s.pattern.now };
 
+    // Returns 0 where the pattern takes the code at the period, and none elsewhere.
     fn letter(&self, code: u8, period: u8) -> Option<i128> {
         let code = self.grammar.codes.as_slice().get(code as usize)?;
         let wanted = byte_at(self.pattern, period);
@@ -60,14 +61,17 @@ impl<'a> LetterPrice for PatternPrices<'a> {
         }
     }
 
+    // Returns 0 for each arc.
     fn arc(&self, arc: &ArcKey) -> i128 {
         0
     }
 
+    // Returns that no arc has a price.
     fn arc_prices(&self) -> Option<&[ArcPrice]> {
         Some(&[])
     }
 
+    // Returns the rule's cost, 0 where there is no rule of this number.
     fn rule(&self, rule: u8) -> i128 {
         let Some(place) = (rule as usize).checked_sub(1) else {
             return 0;

@@ -65,8 +65,11 @@ fn trees_text(alloc: Global, grammar: &Grammar, ranked: &[Ranked]) -> Result<Lis
 /// uses, at most `most` of them, 1 to 1,000.
 ///
 /// It says `trees COUNT`, and then a line `tree J COST WORD` for each in order. The status is 0, or 1 exactly
-/// where the day has no tree. Trees of one word, and trees by different rules, are different trees. After want
-/// of memory there is no answer.
+/// where the day has no tree. Trees of one word, and trees by different rules, are different trees.
+///
+/// # Errors
+///
+/// `Memory` where memory runs out; there is no answer then.
 pub fn ranked_answer(alloc: Global, grammar: &Grammar, most: u32) -> Result<Reply, Memory>
     requires sound { IsSound grammar.now }
     requires some { 1 ≤ most }

@@ -10,7 +10,11 @@ pub struct Reply {
     pub output: List<u8>,
 }
 
-// Says that there is no shift.
+/// Says that there is no shift.
+///
+/// # Errors
+///
+/// `Memory` where memory runs out; there is no answer then.
 pub(crate) fn no_shift(alloc: Global) -> Result<Reply, Memory>
     ensures { IfOk result (λ a. (a.status ≡ 1) × (a.output ≡ codes "no shift\n")) }
 {

@@ -7,6 +7,10 @@ ghost use Rattle.day_questions.specs.Spelled.{AddsWord, GivesWord};
 use roster_model::{Grammar, List, Memory, Step, Sym, first_and_rest, rule_of};
 
 /// Adds the word of the tree of the day with these rule uses.
+///
+/// # Errors
+///
+/// `Memory` where memory runs out; a part may stand in `out` then.
 pub fn add_word(grammar: &Grammar, steps: &[Step], out: &mut List<u8>) -> Result<(), Memory>
     requires sound { IsSound grammar.now }
     requires steps { AreDaySteps grammar.now steps.now }

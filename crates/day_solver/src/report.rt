@@ -10,7 +10,11 @@ use roster_report::{report_of, write_report};
 use std::alloc::Global;
 
 /// Writes the report of what a search found on a day: of a sound certificate whose roster, if it has one, is
-/// an allowed one of the stated prices and cost. After want of memory there is no text.
+/// an allowed one of the stated prices and cost.
+///
+/// # Errors
+///
+/// `Memory` where memory runs out; there is no text then.
 pub fn solution_report(
     alloc: Global,
     instance: &Instance,

@@ -71,8 +71,11 @@ fn searched<M: Master, W: Watch>(
     search(alloc, instance, graph, turns, &mut pool, master, watch)
 }
 
-/// Returns what was found, within at most 10,000 turns, with the text of its certificate. After want of memory there
-/// is none.
+/// Returns what was found, within at most 10,000 turns, with the text of its certificate.
+///
+/// # Errors
+///
+/// `Memory` where memory runs out; there is none then.
 pub fn with_text(
     alloc: Global,
     instance: &Instance,

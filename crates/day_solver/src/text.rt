@@ -10,6 +10,10 @@ use std::alloc::Global;
 
 /// Writes the text of a sound certificate of few prices and multipliers. By the law of written texts it
 /// is read as that certificate.
+///
+/// # Errors
+///
+/// `Memory` where memory runs out; there is no text then.
 pub(crate) fn cert_text(alloc: Global, instance: &Instance, cert: &Cert) -> Result<List<u8>, Memory>
     requires sound { IsSoundInstance instance.now }
     requires cert { IsSoundCert instance.now cert.now }

@@ -5,6 +5,7 @@ ghost use Rattle.demand_lines.specs.Fields.{work_at, name_at};
 use crate::fault::DemandFault;
 use roster_model::{CodeDef, List};
 
+// Returns the place of the work code with this byte, if there is one.
 fn place_of(codes: &[CodeDef], byte: u8) -> Option<usize>
     ensures place { result ≡ position (λ d. d.work && d.byte == byte) codes.now }
     ensures within { IfSome result (λ i. i < length codes.now) }
@@ -12,8 +13,11 @@ fn place_of(codes: &[CodeDef], byte: u8) -> Option<usize>
     codes.iter().position(|def| def.work && def.byte == byte)
 }
 
-/// Reads a work code, and gives its number, which is its position in `codes`. `NotWork` carries the
-/// line, where the word is none of these.
+/// Reads a work code, and gives its number, which is its position in `codes`.
+///
+/// # Errors
+///
+/// `NotWork` with the line, where the word is none of these.
 #[tactic(auto, unfolding(crate::specs::Fields::work_at))]
 pub fn work(line: u32, codes: &[CodeDef], word: &[u8]) -> Result<u8, DemandFault>
     requires { length codes.now ≤ 32 }
@@ -28,12 +32,14 @@ pub fn work(line: u32, codes: &[CodeDef], word: &[u8]) -> Result<u8, DemandFault
     }
 }
 
+// Says whether a name is the word.
 fn is_same(name: &List<u8>, word: &[u8]) -> bool
     ensures { result ≡ bytes_eq name.now word.now }
 {
     name.as_slice() == word
 }
 
+// Returns the place of the name that is the word, if there is one.
 fn name_place(names: &[List<u8>], word: &[u8]) -> Option<usize>
     ensures place { result ≡ position (λ n. bytes_eq n word.now) names.now }
     ensures within { IfSome result (λ i. i < length names.now) }
@@ -42,6 +48,10 @@ fn name_place(names: &[List<u8>], word: &[u8]) -> Option<usize>
 }
 
 /// Reads a name of the rules, and gives its number.
+///
+/// # Errors
+///
+/// `NoName` with the line, where no name is the word.
 #[tactic(auto, unfolding(crate::specs::Fields::name_at))]
 pub fn name(line: u32, names: &[List<u8>], word: &[u8]) -> Result<u8, DemandFault>
     requires { length names.now ≤ 32 }

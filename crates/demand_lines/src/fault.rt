@@ -54,6 +54,7 @@ impl From<Memory> for DemandFault {
 
     ghost from_gives = { λ _ fault. fault ≡ out_of_memory };
 
+    // Returns the fault of want of memory.
     fn from(_memory: Memory) -> DemandFault {
         DemandFault::Memory
     }

@@ -21,9 +21,12 @@ fn range(line: u32, limit: u32, low: &[u8], high: &[u8]) -> Result<Heads, Demand
     Ok(Heads { least, most })
 }
 
-/// Reads a heads line, behind its first word: how many employees may work, where no group was named.
-/// The fault carries the line, and comes in the order of `heads_at`; after it nothing is said of the
-/// draft. Takes no memory.
+/// Reads a heads line, behind its first word: how many employees may work, where no group was named. Takes no
+/// memory.
+///
+/// # Errors
+///
+/// The first fault in the order of `heads_at`, with the line; nothing is said of the draft then.
 #[tactic(auto, unfolding(crate::specs::Teams::heads_at))]
 pub fn read_heads(draft: &mut Draft, line: u32, words: &mut Words<'_>) -> Result<(), DemandFault>
     ensures value { Reads (λ _. (draft.new)) result (heads_at line draft.old words.old) }
@@ -48,6 +51,7 @@ pub fn read_heads(draft: &mut Draft, line: u32, words: &mut Words<'_>) -> Result
     Ok(())
 }
 
+// Says whether a group has the name of this number.
 fn has_group(groups: &[Group], name: u8) -> bool
     ensures { result ≡ has_group groups.now name }
 {
@@ -94,9 +98,13 @@ fn group_of(
     Ok(())
 }
 
-/// Reads a group line, behind its first word: a name of the rules that no group has, and how many
-/// employees of it may work, where no heads line was said. The fault carries the line, and comes in the
-/// order of `group_at`; after it nothing is said of the draft. `Memory` may come at any time.
+/// Reads a group line, behind its first word: a name of the rules that no group has, and how many employees
+/// of it may work, where no heads line was said.
+///
+/// # Errors
+///
+/// The first fault in the order of `group_at`, with the line; `Memory` may come at any time. Nothing is said
+/// of the draft then.
 #[tactic(auto, unfolding(crate::specs::Teams::group_at))]
 pub fn read_group(
     grammar: &Grammar,

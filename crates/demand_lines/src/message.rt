@@ -6,6 +6,7 @@ use roster_model::{List, Memory};
 use std::alloc::Global;
 use text_lines::{put, put_place};
 
+// Returns the line that a fault carries, if any.
 fn line_of(fault: &DemandFault) -> Option<u32>
     ensures { result ≡ line_of fault.now }
 {
@@ -25,6 +26,7 @@ fn line_of(fault: &DemandFault) -> Option<u32>
     }
 }
 
+// Returns the words that tell a fault.
 #[tactic(auto, unfolding(crate::specs::FaultLine::fault_text))]
 fn text_of(fault: &DemandFault) -> &'static str
     ensures { result.now ≡ fault_text fault.now }
@@ -47,8 +49,12 @@ fn text_of(fault: &DemandFault) -> &'static str
     }
 }
 
-/// Returns the line that tells a fault, as `demand: line 2: wrong count of needs` with a line feed.
-/// A fault that carries no line has none in the text either. After want of memory there is no line.
+/// Returns the line that tells a fault, as `demand: line 2: wrong count of needs` with a line feed. A fault
+/// that carries no line has none in the text either.
+///
+/// # Errors
+///
+/// `Memory` where memory runs out; there is no line then.
 pub fn fault_line(alloc: Global, fault: &DemandFault) -> Result<List<u8>, Memory>
     ensures { IfOk result (λ text. text ≡ fault_line fault.now) }
 {

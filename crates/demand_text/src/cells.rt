@@ -33,6 +33,10 @@ fn push_cells(
 }
 
 /// Returns the cells of all need lines, in their order.
+///
+/// # Errors
+///
+/// `Memory` where memory runs out; nothing is kept then.
 pub fn cells(
     alloc: Global,
     needs: &[Need],

@@ -7,6 +7,7 @@ use roster_model::List;
 use std::alloc::Global;
 use text_lines::{Words, words_left};
 
+// Reads a number from 0 to 64 of each word.
 fn numbers(alloc: Global, line: u32, words: &mut Words<'_>) -> Result<List<u32>, DemandFault>
     ensures { Reads (λ counts. counts) result (each (count_at line) [] words.old) }
 {
@@ -19,6 +20,11 @@ fn numbers(alloc: Global, line: u32, words: &mut Words<'_>) -> Result<List<u32>,
 }
 
 /// Reads a number from 0 to 64 for each period.
+///
+/// # Errors
+///
+/// `WrongCount` where the words are not as many as the periods, else `BadNumber` or `OutOfRange` of the first
+/// word that is none, each with the line. `Memory` may come at any time.
 #[tactic(auto, unfolding(crate::specs::Counts::counts_at))]
 pub fn counts(
     alloc: Global,

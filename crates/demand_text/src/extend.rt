@@ -10,6 +10,7 @@ use std::alloc::Global;
 // The window that contains every length and every period.
 const ANY: Window = Window { lo: 1, hi: 96 };
 
+// Returns the name that groups add.
 fn added_name(alloc: Global) -> Result<List<u8>, Memory>
     ensures { IfOk result (λ name. name ≡ added_name) }
 {
@@ -34,6 +35,7 @@ fn group_rule(alloc: Global, added: u8, group: &Group) -> Result<Rule, Memory>
     })
 }
 
+// Appends the rule of each group.
 fn push_rules(
     alloc: Global,
     rules: &mut List<Rule>,
@@ -49,6 +51,7 @@ fn push_rules(
     Ok(())
 }
 
+// Returns the grammar with the name and the rules that groups add.
 fn extended(alloc: Global, grammar: Grammar, groups: &[Group]) -> Result<Grammar, Memory>
     requires { IsPlain grammar }
     ensures { IfOk result (λ g. g ≡ extended grammar groups.now) }
@@ -75,6 +78,10 @@ fn extended(alloc: Global, grammar: Grammar, groups: &[Group]) -> Result<Grammar
 }
 
 /// Returns the grammar of the day: with groups, the grammar extended by them.
+///
+/// # Errors
+///
+/// `Memory` where memory runs out; nothing is kept then.
 pub fn day_grammar(alloc: Global, grammar: Grammar, groups: &[Group]) -> Result<Grammar, Memory>
     requires { IsPlain grammar }
     ensures { IfOk result (λ g. g ≡ day_grammar grammar groups.now) }

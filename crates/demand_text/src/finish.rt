@@ -67,6 +67,10 @@ fn cells_of(alloc: Global, draft: &Draft) -> Result<List<Cell>, Memory>
 }
 
 /// Makes the instance of all lines.
+///
+/// # Errors
+///
+/// `NoHeads` where neither a heads nor a group line was said. `Memory` may come at any time.
 #[tactic(auto, unfolding(crate::specs::InstanceOf::finish))]
 pub fn finish(alloc: Global, grammar: Grammar, draft: Draft) -> Result<Instance, DemandFault>
     requires sound { IsSound grammar }

@@ -10,6 +10,11 @@ use std::alloc::Global;
 use text_lines::Line;
 
 /// Reads a line.
+///
+/// # Errors
+///
+/// The line's first fault, as `line_at` says it, with the line's number. `Memory` may come at any time.
+/// Nothing is said of the draft then.
 #[tactic(auto, unfolding(crate::specs::Lines::line_at))]
 pub fn line(
     alloc: Global,

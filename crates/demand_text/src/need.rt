@@ -9,12 +9,14 @@ use roster_model::{Grammar, List};
 use std::alloc::Global;
 use text_lines::Words;
 
+// Says whether a need line of the code was said.
 fn has_need(needs: &[Need], code: u8) -> bool
     ensures { result ≡ has_need needs.now code }
 {
     needs.iter().any(|need| need.code == code)
 }
 
+// Says whether a bound of the code was said.
 fn has_bound(bounds: &[Bound], code: u8) -> bool
     ensures { result ≡ has_bound bounds.now code }
 {
@@ -55,6 +57,11 @@ fn need_of(
 }
 
 /// Reads a need line, behind its first word.
+///
+/// # Errors
+///
+/// The line's first fault, as `need_at` says it, with the line's number. `Memory` may come at any time.
+/// Nothing is said of the needs then.
 #[tactic(auto, unfolding(crate::specs::Lines::need_at))]
 pub fn need(
     alloc: Global,
@@ -79,6 +86,12 @@ pub fn need(
 }
 
 /// Reads a `least` or a `most` line, behind its first word.
+///
+/// # Errors
+///
+/// The line's first fault, as `bound_at` says it, with the line's number: `UnknownLine`, `NotWork`, `NoNeed`
+/// where no need line of the code stands before, `Twice`, or one of the counts. `Memory` may come at any
+/// time. Nothing is said of the bounds then.
 #[tactic(auto, unfolding(crate::specs::Lines::bound_at))]
 pub fn bound(
     alloc: Global,

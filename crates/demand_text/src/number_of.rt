@@ -33,6 +33,10 @@ pub fn are_all(which: NumberOf, value: u32, cells: &[Cell]) -> bool
 }
 
 /// Appends the number of each cell.
+///
+/// # Errors
+///
+/// `Memory` where memory runs out; a part may stand in `out` then.
 pub fn numbers(out: &mut List<u8>, which: NumberOf, cells: &[Cell]) -> Result<(), Memory>
     ensures { OnOk result (out.new ≡ out.old ++ tail (numbers_of which cells.now)) }
 {

@@ -12,6 +12,7 @@ use roster_model::{Grammar, Instance, List};
 use std::alloc::Global;
 use text_lines::{BadByte, Line, Lines};
 
+// Returns the draft before any line.
 fn no_draft(alloc: Global) -> Draft
     ensures { result ≡ no_draft }
 {
@@ -24,6 +25,7 @@ fn no_draft(alloc: Global) -> Draft
     }
 }
 
+// Reads a line, or refuses it for a bad byte.
 fn item(
     alloc: Global,
     grammar: &Grammar,
@@ -40,6 +42,7 @@ fn item(
     }
 }
 
+// Reads all lines of a text.
 fn lines(alloc: Global, grammar: &Grammar, text: &[u8]) -> Result<Draft, DemandFault>
     requires sound { IsSound grammar.now }
     requires plain { IsPlain grammar.now }
@@ -54,13 +57,16 @@ fn lines(alloc: Global, grammar: &Grammar, text: &[u8]) -> Result<Draft, DemandF
     Ok(draft)
 }
 
-/// Reads a demand text for the grammar of its rules: the instance, which is sound, or the first
-/// fault of the text, in which case the grammar is dropped. With groups the grammar of the instance
-/// is the given one extended by them.
+/// Reads a demand text for the grammar of its rules: the instance, which is sound, or the first fault of the
+/// text. With groups the grammar of the instance is the given one extended by them.
 ///
-/// A text that is too long is refused before all else. Then the lines are read in order, and the
-/// first that cannot stand gives the fault; in a line a bad byte comes first, then its form. That
-/// neither a `heads` line nor a `group` line stands comes last. `Memory` may come at any time.
+/// A text that is too long is refused before all else. Then the lines are read in order, and the first that
+/// cannot stand gives the fault; in a line a bad byte comes first, then its form. That neither a `heads` line
+/// nor a `group` line stands comes last.
+///
+/// # Errors
+///
+/// The first fault of the text, in this order; `Memory` may come at any time. The grammar is dropped then.
 #[tactic(auto, unfolding(crate::specs::InstanceOf::instance_of))]
 pub fn read_demand(alloc: Global, grammar: Grammar, text: &[u8]) -> Result<Instance, DemandFault>
     requires sound { IsSound grammar }

@@ -25,6 +25,7 @@ use roster_model::{Cell, CodeDef, Grammar, Group, Instance, List, Memory};
 use std::alloc::Global;
 use text_lines::{field, put, word};
 
+// Appends the heads line.
 fn heads_line(out: &mut List<u8>, least: u32, most: u32) -> Result<(), Memory>
     ensures { OnOk result (out.new ≡ out.old ++ written (heads_line least most ∷ [])) }
 {
@@ -34,6 +35,7 @@ fn heads_line(out: &mut List<u8>, least: u32, most: u32) -> Result<(), Memory>
     out.push(b'\n')
 }
 
+// Appends a name.
 fn name(out: &mut List<u8>, names: &[List<u8>], number: u8) -> Result<(), Memory>
     requires { number < length names.now }
     ensures { OnOk result (out.new ≡ out.old ++ tail (name_of names.now number ∷ [])) }
@@ -41,6 +43,7 @@ fn name(out: &mut List<u8>, names: &[List<u8>], number: u8) -> Result<(), Memory
     word(out, names[number as usize].as_slice())
 }
 
+// Appends the line of a group.
 fn group_line(out: &mut List<u8>, names: &[List<u8>], group: &Group) -> Result<(), Memory>
     requires { HasName names.now group.now }
     ensures { OnOk result (out.new ≡ out.old ++ written (group_line names.now group.now ∷ [])) }
@@ -52,6 +55,7 @@ fn group_line(out: &mut List<u8>, names: &[List<u8>], group: &Group) -> Result<(
     out.push(b'\n')
 }
 
+// Appends a line for each group.
 fn group_lines(out: &mut List<u8>, names: &[List<u8>], groups: &[Group]) -> Result<(), Memory>
     requires { All (HasName names.now) groups.now }
     ensures { OnOk result (out.new ≡ out.old ++ written (map (group_line names.now) groups.now)) }
@@ -75,6 +79,7 @@ fn team_lines(out: &mut List<u8>, instance: &Instance) -> Result<(), Memory>
     }
 }
 
+// Appends the need line of a code.
 fn need_line(
     out: &mut List<u8>,
     code: u8,
@@ -141,9 +146,12 @@ fn demand_lines(out: &mut List<u8>, grammar: &Grammar, cells: &[Cell]) -> Result
     Ok(())
 }
 
-/// Writes the text of a sound instance: the heads line or the group lines, and for each demanded
-/// code its need line, its `least` line where some floor is not 0, and its `most` line where some
-/// ceiling is not 64. After want of memory there is no text.
+/// Writes the text of a sound instance: the heads line or the group lines, and for each demanded code its
+/// need line, its `least` line where some floor is not 0, and its `most` line where some ceiling is not 64.
+///
+/// # Errors
+///
+/// `Memory` where memory runs out; there is no text then.
 pub fn write_demand(alloc: Global, instance: &Instance) -> Result<List<u8>, Memory>
     requires { IsSoundInstance instance.now }
     ensures { IfOk result (λ text. (ds : Items Demand) → AreDemandsOf instance.now ds

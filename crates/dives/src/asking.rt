@@ -136,6 +136,12 @@ fn find_cheapest(
 }
 
 /// Lists a tree that is cheap at the scout's prices, and says whether there is one. Notes what the prices show.
+///
+/// # Errors
+///
+/// `Memory` where memory runs out; nothing is said of the program then. The pricer and the desk are still
+/// those of the graph and of the node, and the pool has its trees under their numbers, and perhaps further
+/// trees of the day.
 pub(crate) fn ask(
     alloc: Global,
     instance: &Instance,

@@ -88,6 +88,10 @@ fn arc_sums_of(alloc: Global, graph: &Graph) -> Result<ArcSums, Memory>
 
 impl Desk {
     /// Returns a desk for a dive at the node with these rows.
+    ///
+    /// # Errors
+    ///
+    /// `Memory` where memory runs out; nothing is kept then.
     pub fn new(
         alloc: Global,
         instance: &Instance,

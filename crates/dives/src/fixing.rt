@@ -103,6 +103,12 @@ fn fix_one(
 }
 
 /// Fixes trees, where the weights add up to so many, and says whether any was fixed.
+///
+/// # Errors
+///
+/// `Memory` where memory runs out; nothing is said of the program then. The pricer and the desk are still
+/// those of the graph and of the node, and the pool has its trees under their numbers, and perhaps further
+/// trees of the day.
 pub(crate) fn fix_some(
     alloc: Global,
     instance: &Instance,

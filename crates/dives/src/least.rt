@@ -35,6 +35,11 @@ pub(crate) fn find_least<P: LetterPrice>(
 }
 
 /// Returns the number of the tree in the room, which the pool gets where it lacks it.
+///
+/// # Errors
+///
+/// `Memory` where memory runs out; the pool has its trees under their numbers then, and perhaps further trees
+/// of the day.
 pub(crate) fn pooled(instance: &Instance, room: &TreeRoom, pool: &mut Pool) -> Result<usize, Memory>
     requires sound { IsSoundInstance instance.now }
     requires steps { AreDaySteps instance.now.grammar room.now.steps }

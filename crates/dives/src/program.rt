@@ -63,6 +63,10 @@ fn bound_at(sides: &[i64], prices: &[i128], heads: i64, reduced: i128) -> i128 {
 
 impl Program {
     /// Returns the program of these rows without trees.
+    ///
+    /// # Errors
+    ///
+    /// `Memory` where memory runs out; nothing is kept then.
     pub fn new(
         alloc: Global,
         instance: &Instance,
@@ -93,6 +97,10 @@ impl Program {
     }
 
     /// Lists a tree of the pool.
+    ///
+    /// # Errors
+    ///
+    /// `Memory` where memory runs out; nothing is said of the program then.
     pub fn list(
         &mut self,
         alloc: Global,
@@ -115,6 +123,10 @@ impl Program {
     }
 
     /// Lists trees of the pool; numbers beyond it are left out.
+    ///
+    /// # Errors
+    ///
+    /// `Memory` where memory runs out; nothing is said of the program then.
     pub fn list_all(
         &mut self,
         alloc: Global,
@@ -135,6 +147,10 @@ impl Program {
     }
 
     /// Lists the trees of the pool from a number on.
+    ///
+    /// # Errors
+    ///
+    /// `Memory` where memory runs out; nothing is said of the program then.
     pub fn list_from(
         &mut self,
         alloc: Global,
@@ -153,6 +169,10 @@ impl Program {
     }
 
     /// Fixes a tree of the pool: takes it off the right sides.
+    ///
+    /// # Errors
+    ///
+    /// `Memory` where memory runs out; nothing is said of the program then.
     pub fn fix(
         &mut self,
         alloc: Global,

@@ -48,6 +48,10 @@ fn sides_of(alloc: Global, rows: &NodeRows, empty: usize) -> Result<Vec<i64>, Me
 
 /// Returns a scout with the rows of a node's master, with so many rows without entries behind them, and
 /// without trees and a basis.
+///
+/// # Errors
+///
+/// `Memory` where memory runs out; nothing is kept then.
 pub fn scout_of(
     alloc: Global,
     instance: &Instance,
@@ -84,6 +88,10 @@ pub fn scout_of(
 }
 
 /// Lists a column in a scout, with its entries in the order of the rows.
+///
+/// # Errors
+///
+/// `Memory` where memory runs out; a part of the column may be listed then.
 pub fn list_places(scout: &mut Scout, cost: i64, places: &[Place]) -> Result<(), Memory> {
     let _number = scout.add_column(cost)?;
     for place in places {

@@ -51,6 +51,11 @@ fn find_widest(
 }
 
 /// Returns such a tree, which the pool gets where it lacks it, with its width.
+///
+/// # Errors
+///
+/// `Memory` where memory runs out; the pricer is still one for the graph then, and the pool has its trees
+/// under their numbers, and perhaps further trees of the day.
 pub(crate) fn widest(
     instance: &Instance,
     graph: &Graph,

@@ -34,10 +34,12 @@ impl<'a> LetterPrice for Widths<'a> {
 
     ghost view = { λ s. width_view s.graph.now.arcs s.prices.now };
 
+    /// Returns 0 for each letter.
     fn letter(&self, code: u8, period: u8) -> Option<i128> {
         Some(0)
     }
 
+    /// Returns the price of an arc of the graph, and 0 for any other.
     fn arc(&self, arc: &ArcKey) -> i128 {
         let Some(place) = self.graph.find(arc) else {
             return 0;
@@ -45,10 +47,12 @@ impl<'a> LetterPrice for Widths<'a> {
         price_at(self.prices, place)
     }
 
+    /// Returns that each arc is to be asked for.
     fn arc_prices(&self) -> Option<&[ArcPrice]> {
         None
     }
 
+    /// Returns 0 for each rule.
     fn rule(&self, rule: u8) -> i128 {
         0
     }

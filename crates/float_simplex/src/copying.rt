@@ -5,6 +5,10 @@ use crate::state::State;
 use roster_model::Memory;
 
 /// Copies a list.
+///
+/// # Errors
+///
+/// `Memory` where memory runs out; nothing is said of the list then.
 pub(crate) fn copy_list<T: Copy + Drop>(out: &mut Vec<T>, items: &[T]) -> Result<(), Memory> {
     out.clear();
     match out.extend_from_slice(items) {
@@ -91,6 +95,10 @@ impl State {
 
     /// Becomes a copy of another program with as many rows. Takes memory only where the other has more columns
     /// or entries than this one ever had.
+    ///
+    /// # Errors
+    ///
+    /// `Memory` where memory runs out; nothing is said of the program then.
     pub fn copy_from(&mut self, other: &State) -> Result<(), Memory> {
         copy_list(&mut self.columns, other.columns.as_slice())?;
         copy_list(&mut self.runs, other.runs.as_slice())?;

@@ -143,6 +143,10 @@ pub(crate) fn fill_listed_values(
 
 impl State {
     /// Works a column out in terms of the basis.
+    ///
+    /// # Errors
+    ///
+    /// `Grown` where there is no such column, or a number in terms of the basis is beyond its bound.
     pub(crate) fn fill_column(&mut self, column: usize) -> Result<(), Grown> {
         let Some(entering) = self.columns.as_slice().get(column) else {
             return Err(Grown);
@@ -174,6 +178,10 @@ impl State {
     }
 
     /// Works the values out from the inverse.
+    ///
+    /// # Errors
+    ///
+    /// `Grown` where a value is beyond its bound.
     pub(crate) fn renew_values(&mut self) -> Result<(), Grown> {
         let rows = self.right.len();
         let count = self.kernel.size();

@@ -18,6 +18,10 @@ pub(crate) struct Figures {
 
 impl Figures {
     /// Makes room for the places of all columns.
+    ///
+    /// # Errors
+    ///
+    /// `Memory` where memory runs out; nothing is said of the program then.
     pub(crate) fn make_room(&mut self) -> Result<(), Memory> {
         self.touched.clear();
         match self.touched.reserve(self.reduced.len()) {
@@ -27,6 +31,10 @@ impl Figures {
     }
 
     /// Takes a further column in.
+    ///
+    /// # Errors
+    ///
+    /// `Memory` where memory runs out; nothing is said of the program then.
     pub(crate) fn add(&mut self) -> Result<(), Memory> {
         if self.reduced.push(0.0).is_err()
             || self.weights.push(1.0).is_err()

@@ -53,6 +53,10 @@ impl Q24 {
 pub struct Grown;
 
 /// Returns an error where numbers do not fit.
+///
+/// # Errors
+///
+/// `Grown` where they do not fit.
 pub(crate) fn fitting(fits: bool) -> Result<(), Grown> {
     if fits { Ok(()) } else { Err(Grown) }
 }

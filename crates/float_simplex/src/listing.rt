@@ -13,11 +13,19 @@ fn lengthen(runs: &mut [Run], row: u32, sign: Sign) -> bool {
 
 impl State {
     /// Lists a column without entries, which may enter.
+    ///
+    /// # Errors
+    ///
+    /// `Memory` where memory runs out; nothing is said of the program then.
     pub fn add_free(&mut self, cost: i64) -> Result<(), Memory> {
         self.add_column(cost, Standing::Free)
     }
 
     /// Lists a column without entries.
+    ///
+    /// # Errors
+    ///
+    /// `Memory` where memory runs out; nothing is said of the program then.
     pub(crate) fn add_column(&mut self, cost: i64, standing: Standing) -> Result<(), Memory> {
         let place = self.runs.len();
         if self
@@ -31,6 +39,10 @@ impl State {
     }
 
     /// Adds an entry to the last column, in a row behind those of its other entries.
+    ///
+    /// # Errors
+    ///
+    /// `Memory` where memory runs out; nothing is said of the program then.
     pub fn add_entry(&mut self, row: u32, sign: Sign) -> Result<(), Memory> {
         let Some(column) = self.columns.as_mut_slice().last_mut() else {
             return Ok(());
@@ -46,6 +58,10 @@ impl State {
     }
 
     /// Lists the column of one entry.
+    ///
+    /// # Errors
+    ///
+    /// `Memory` where memory runs out; nothing is said of the program then.
     pub(crate) fn add_unit(
         &mut self,
         cost: i64,

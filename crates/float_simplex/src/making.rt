@@ -12,11 +12,19 @@ use std::alloc::{AllocError, Global};
 use std::num::nearest_i64_to_f64;
 
 /// Returns so many zeros.
+///
+/// # Errors
+///
+/// `AllocError` where memory runs out.
 pub(crate) fn make_zeros(alloc: Global, count: usize) -> Result<Vec<f64>, AllocError> {
     vec![in alloc; 0.0f64; count]
 }
 
 /// Returns so many zeros, and one more behind them.
+///
+/// # Errors
+///
+/// `AllocError` where memory runs out.
 pub(crate) fn make_sums(alloc: Global, rows: usize) -> Result<Vec<f64>, AllocError> {
     let mut sums = make_zeros(alloc, rows)?;
     sums.push(0.0)?;
@@ -222,6 +230,10 @@ impl State {
 
     /// Returns a program with these right sides, perturbed, whose columns are those of what is missing in each
     /// row, of entry 1, and of what is beyond, of entry -1, where they cost this.
+    ///
+    /// # Errors
+    ///
+    /// `Memory` where memory runs out; nothing is kept then.
     pub fn new(
         alloc: Global,
         right: &[i64],

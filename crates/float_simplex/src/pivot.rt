@@ -93,6 +93,11 @@ impl State {
     }
 
     /// Lets a column of negative reduced cost enter.
+    ///
+    /// # Errors
+    ///
+    /// `Grown` where a number is beyond its bound; nothing is said of the program then, and its inverse is to
+    /// be made anew.
     pub(crate) fn primal_step(&mut self) -> Result<Step, Grown> {
         let Some(place) = primal_entering(&self.figures, self.tolerances.reduced) else {
             return Ok(Step::Done);
@@ -134,6 +139,11 @@ impl State {
     }
 
     /// Lets a column leave whose value is negative.
+    ///
+    /// # Errors
+    ///
+    /// `Grown` where a number is beyond its bound; nothing is said of the program then, and its inverse is to
+    /// be made anew.
     pub(crate) fn dual_step(&mut self) -> Result<Step, Grown> {
         self.keep_norms();
         let (values, norms) = (self.values.as_slice(), self.norms.as_slice());

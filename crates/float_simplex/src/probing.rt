@@ -114,6 +114,10 @@ impl State {
 
     /// Becomes a copy of another program with as many rows whose last row is empty and loose; here that row is
     /// this one, and the flagged listed columns have an entry 1 in it. Takes memory as `copy_from` does.
+    ///
+    /// # Errors
+    ///
+    /// `Memory` where memory runs out; nothing is said of the program then.
     pub fn copy_with_row(
         &mut self,
         other: &State,

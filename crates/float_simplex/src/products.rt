@@ -18,6 +18,10 @@ pub struct ProductRoom {
 }
 
 /// Returns the room for products with so many rows.
+///
+/// # Errors
+///
+/// `AllocError` where memory runs out.
 pub(crate) fn make_room(alloc: Global, rows: usize) -> Result<ProductRoom, AllocError> {
     Ok(ProductRoom {
         slots: make_zeros(alloc, rows)?,

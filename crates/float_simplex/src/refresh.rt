@@ -110,6 +110,10 @@ impl State {
     }
 
     /// Works values, prices and reduced costs out from the inverse.
+    ///
+    /// # Errors
+    ///
+    /// `Grown` where a value or a price is beyond its bound.
     pub(crate) fn refresh(&mut self) -> Result<(), Grown> {
         self.renew_prices();
         self.price_from(0);

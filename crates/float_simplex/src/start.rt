@@ -192,6 +192,10 @@ impl State {
     }
 
     /// Starts from a basis with these columns.
+    ///
+    /// # Errors
+    ///
+    /// `Grown` where a number of the inverse, or what follows from it, is beyond its bound.
     pub fn start(&mut self, keys: &[Key]) -> Result<(), Grown> {
         self.want_keys(keys);
         let made = self.make_anew();
@@ -200,11 +204,19 @@ impl State {
     }
 
     /// Starts from the columns of what is beyond, and of what is missing in rows without one.
+    ///
+    /// # Errors
+    ///
+    /// `Grown` where a number of the inverse, or what follows from it, is beyond its bound.
     pub fn start_beyond(&mut self) -> Result<(), Grown> {
         self.start_below(None)
     }
 
     /// Starts from the columns of what is missing, and of what is beyond in rows of a negative right side.
+    ///
+    /// # Errors
+    ///
+    /// `Grown` where a number of the inverse, or what follows from it, is beyond its bound.
     pub fn start_missing(&mut self) -> Result<(), Grown> {
         self.start_below(Some(0.0))
     }
@@ -219,6 +231,10 @@ impl State {
     }
 
     /// Makes the inverse anew from its basis.
+    ///
+    /// # Errors
+    ///
+    /// `Grown` where a number of the inverse, or what follows from it, is beyond its bound.
     pub(crate) fn renew(&mut self) -> Result<(), Grown> {
         self.want_basis();
         self.make_anew()

@@ -130,6 +130,10 @@ pub(crate) fn set_standing(columns: &mut [Column], place: usize, standing: Stand
 }
 
 /// Returns the number at a place.
+///
+/// # Errors
+///
+/// `Grown` where there is no such place.
 pub(crate) fn number_of(numbers: &[f64], place: usize) -> Result<f64, Grown> {
     match numbers.get(place) {
         Some(number) => Ok(*number),

@@ -57,9 +57,11 @@ fn difference_of(a: &Frac, b: &Frac) -> Option<Frac>
 
 /// Returns the sum in lowest terms.
 ///
-/// It is refused exactly where, with `g` the greatest common divisor of the denominators,
-/// `a.num * (b.den / g)`, `b.num * (a.den / g)`, their sum or `(a.den / g) * b.den` is out of range,
-/// also where the sum in lowest terms would be in range.
+/// # Errors
+///
+/// `Pair` with both fractions, exactly where, with `g` the greatest common divisor of the denominators,
+/// `a.num * (b.den / g)`, `b.num * (a.den / g)`, their sum or `(a.den / g) * b.den` is out of range, also
+/// where the sum in lowest terms would be in range.
 pub fn add(a: &Frac, b: &Frac) -> Result<Frac, TooWide>
     ensures fits { OnOk result (SumFits a.now.num a.now.den b.now.num b.now.den) }
     ensures ok { IfOk result (λ r. r.num *ℤ (a.now.den *ℤ b.now.den) ≡
@@ -75,9 +77,11 @@ pub fn add(a: &Frac, b: &Frac) -> Result<Frac, TooWide>
 
 /// Returns the difference in lowest terms.
 ///
-/// It is refused exactly where, with `g` the greatest common divisor of the denominators,
-/// `a.num * (b.den / g)`, `b.num * (a.den / g)`, their difference or `(a.den / g) * b.den` is out of
-/// range, also where the difference in lowest terms would be in range.
+/// # Errors
+///
+/// `Pair` with both fractions, exactly where, with `g` the greatest common divisor of the denominators,
+/// `a.num * (b.den / g)`, `b.num * (a.den / g)`, their difference or `(a.den / g) * b.den` is out of range,
+/// also where the difference in lowest terms would be in range.
 pub fn sub(a: &Frac, b: &Frac) -> Result<Frac, TooWide>
     ensures fits { OnOk result (DifferenceFits a.now.num a.now.den b.now.num b.now.den) }
     ensures ok { IfOk result (λ r. r.num *ℤ (a.now.den *ℤ b.now.den) ≡

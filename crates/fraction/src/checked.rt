@@ -7,7 +7,11 @@ use crate::floor::floor_of_product;
 use crate::range::{product_in, sum_in};
 use crate::{Tally, TooWide};
 
-/// Returns the sum. It is refused exactly where it is out of range, which the tally counts.
+/// Returns the sum.
+///
+/// # Errors
+///
+/// `Sum` with both numbers, exactly where their sum is out of range; the tally counts a refusal then.
 pub fn sum(a: i128, b: i128, tally: &mut Tally) -> Result<i128, TooWide>
     ensures value { OkIff result (InRange (a +ℤ b)) (a +ℤ b) }
     ensures fault { IfErr result (λ fault. fault ≡ TooWide.Sum a b) }
@@ -23,7 +27,11 @@ pub fn sum(a: i128, b: i128, tally: &mut Tally) -> Result<i128, TooWide>
     }
 }
 
-/// Returns the product. It is refused exactly where it is out of range, which the tally counts.
+/// Returns the product.
+///
+/// # Errors
+///
+/// `Product` with both numbers, exactly where their product is out of range; the tally counts a refusal then.
 pub fn product(a: i128, b: i128, tally: &mut Tally) -> Result<i128, TooWide>
     ensures value { OkIff result (InRange (a *ℤ b)) (a *ℤ b) }
     ensures fault { IfErr result (λ fault. fault ≡ TooWide.Product a b) }
@@ -46,7 +54,12 @@ fn is_within(value: i128, most: i128) -> bool
     most >= 0 && value.unsigned_abs() <= most.unsigned_abs()
 }
 
-/// Accepts a value. It is refused exactly where its size is above `most`, which the tally counts.
+/// Accepts a value.
+///
+/// # Errors
+///
+/// `Value` with both numbers, exactly where the value's size is above `most`; the tally counts a refusal
+/// then.
 pub fn fits(value: i128, most: i128, tally: &mut Tally) -> Result<(), TooWide>
     ensures ok { OnOk result (pos (unsigned_abs value) ≤ℤ most) }
     ensures wide { OnErr result (most <ℤ pos (unsigned_abs value)) }
@@ -61,8 +74,12 @@ pub fn fits(value: i128, most: i128, tally: &mut Tally) -> Result<(), TooWide>
     Err(TooWide::Value { value, most })
 }
 
-/// Returns the floor of `num * d / den`, also where the product is out of range. It is refused
-/// exactly where its size is above `most`, which the tally counts.
+/// Returns the floor of `num * d / den`, also where the product is out of range.
+///
+/// # Errors
+///
+/// `Scaled` with the four numbers, exactly where the floor's size is above `most`; the tally counts a refusal
+/// then.
 pub fn scaled(num: i128, den: i128, d: u64, most: i128, tally: &mut Tally) -> Result<i128, TooWide>
     requires den { pos 0 <ℤ den }
     requires d { (1 ≤ d) × (d ≤ 2 ^ 30) }

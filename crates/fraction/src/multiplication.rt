@@ -43,7 +43,11 @@ fn inverse(b: &Frac) -> Frac
     }
 }
 
-/// Returns the product in lowest terms. It is refused exactly where these are out of range.
+/// Returns the product in lowest terms.
+///
+/// # Errors
+///
+/// `Pair` with both fractions, exactly where the product in lowest terms is out of range.
 pub fn mul(a: &Frac, b: &Frac) -> Result<Frac, TooWide>
     ensures ok { IfOk result (λ r. r.num *ℤ (a.now.den *ℤ b.now.den) ≡
         (a.now.num *ℤ b.now.num) *ℤ r.den) }
@@ -57,7 +61,11 @@ pub fn mul(a: &Frac, b: &Frac) -> Result<Frac, TooWide>
     }
 }
 
-/// Returns the quotient in lowest terms. It is refused exactly where these are out of range.
+/// Returns the quotient in lowest terms.
+///
+/// # Errors
+///
+/// `Pair` with both fractions, exactly where the quotient in lowest terms is out of range.
 pub fn div(a: &Frac, b: &Frac) -> Result<Frac, TooWide>
     requires { b.now.num ≢ pos 0 }
     ensures ok { IfOk result (λ r. r.num *ℤ (a.now.den *ℤ b.now.num) ≡

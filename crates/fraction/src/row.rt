@@ -92,8 +92,10 @@ fn divisor_of(factor: u128) -> i128
 /// entry of the other row at its place, and `g` is the greatest common divisor of the new entries,
 /// or 1 where all are 0.
 ///
-/// Where `p * r`, `a * s` or their difference is out of range at some place, the row stays as it
-/// was, the first such place is told, and the tally counts a refusal.
+/// # Errors
+///
+/// `Row` with the numbers of the first place at which `p * r`, `a * s` or their difference is out of range;
+/// the row stays as it was then, and the tally counts a refusal.
 pub fn row_step(
     row: &mut [i128],
     p: i128,

@@ -61,6 +61,10 @@ fn add_items(items: &mut List<Item>, number: u8, right: &[Sym]) -> Result<(), Me
 }
 
 /// Returns the items of all rules, in the order of rules and suffixes.
+///
+/// # Errors
+///
+/// `Memory` where memory runs out; nothing is kept then.
 pub fn items_of(alloc: Global, grammar: &Grammar) -> Result<List<Item>, Memory>
     requires { IsSound grammar.now }
     ensures { IfOk result (AreItems grammar.now) }

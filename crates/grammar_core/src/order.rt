@@ -39,6 +39,10 @@ fn add_ranks(order: &mut List<u8>, ranks: &[u8], names: usize) -> Result<(), Mem
 
 /// Returns the names in an order in which the right name of a one-symbol rule stands before its
 /// left name.
+///
+/// # Errors
+///
+/// `Memory` where memory runs out; nothing is kept then.
 pub fn order_of(alloc: Global, grammar: &Grammar) -> Result<List<u8>, Memory>
     requires { IsSound grammar.now }
     ensures { IfOk result (IsOrder grammar.now) }

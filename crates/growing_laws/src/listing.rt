@@ -31,6 +31,10 @@ fn push_halves(stack: &mut Vec<u32>, node: &Node, low: u32) -> Result<(), Memory
 }
 
 /// Returns the nodes of the tree that the seats hold, in preorder.
+///
+/// # Errors
+///
+/// `Memory` where memory runs out; nothing is kept then.
 pub fn list_nodes(alloc: Global, mut seats: Vec<Seat>) -> Result<List<Node>, Memory>
     requires few { length seats.items < 4294967295 }
     requires tree { (t : Grown) × HoldTree seats.items t }

@@ -18,6 +18,7 @@ impl Model for Generator {
 }
 
 impl Generator {
+    /// Returns the generator whose first state is the number.
     pub(crate) fn new(number: u32) -> Self
         ensures { result ≡ number }
     {

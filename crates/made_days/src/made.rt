@@ -55,6 +55,10 @@ fn cells(
 
 /// Returns the day that the number decides: 24 to 36 periods and up to 10 employees, who work at `a` and `b`
 /// with a meal and a break. Costs and needs are drawn too. It is the same day at each call.
+///
+/// # Errors
+///
+/// `Memory` where memory runs out; nothing is kept then.
 pub fn make_instance(alloc: Global, number: u32) -> Result<Instance, Memory>
     ensures made { IfOk result (λ i. i ≡ made_instance number) }
     ensures sound { IfOk result IsSoundInstance }

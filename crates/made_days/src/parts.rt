@@ -200,6 +200,7 @@ const RULES: [RuleParts<'static>; 15] = [
     },
 ];
 
+/// Returns the day's codes.
 fn codes(alloc: Global) -> Result<List<CodeDef>, Memory>
     ensures { IfOk result (λ l. l ≡ made_codes) }
 {
@@ -208,6 +209,7 @@ fn codes(alloc: Global) -> Result<List<CodeDef>, Memory>
     Ok(codes)
 }
 
+/// Returns the name of one letter.
 fn name(alloc: Global, letter: u8) -> Result<List<u8>, Memory>
     ensures { IfOk result (λ l. l ≡ letter ∷ []) }
 {
@@ -216,6 +218,7 @@ fn name(alloc: Global, letter: u8) -> Result<List<u8>, Memory>
     Ok(name)
 }
 
+/// Returns the names of one letter each.
 fn names(alloc: Global, letters: &[u8]) -> Result<List<List<u8>>, Memory>
     ensures { IfOk result (λ l. l ≡ map (λ b. b ∷ []) letters.now) }
 {
@@ -226,6 +229,7 @@ fn names(alloc: Global, letters: &[u8]) -> Result<List<List<u8>>, Memory>
     Ok(names)
 }
 
+/// Returns a right side of these symbols.
 fn right(alloc: Global, symbols: &[Sym]) -> Result<List<Sym>, Memory>
     ensures { IfOk result (λ l. l ≡ symbols.now) }
 {
@@ -234,6 +238,7 @@ fn right(alloc: Global, symbols: &[Sym]) -> Result<List<Sym>, Memory>
     Ok(right)
 }
 
+/// Returns the rules of these parts, with this cost where a part has none of its own.
 fn rules(alloc: Global, parts: &[RuleParts], cost: u32) -> Result<List<Rule>, Memory>
     ensures { IfOk result (λ l. l ≡ map (rule_of cost) parts.now) }
 {
@@ -252,6 +257,10 @@ fn rules(alloc: Global, parts: &[RuleParts], cost: u32) -> Result<List<Rule>, Me
 }
 
 /// Returns the grammar of a day of so many periods, where a stretch of duty has this cost.
+///
+/// # Errors
+///
+/// `Memory` where memory runs out; nothing is kept then.
 pub(crate) fn grammar(alloc: Global, periods: u8, cost: u32) -> Result<Grammar, Memory>
     ensures { IfOk result (λ g. g ≡ made_grammar periods cost) }
 {

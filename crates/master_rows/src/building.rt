@@ -46,6 +46,10 @@ impl NodeRows {
     }
 
     /// Adds a row.
+    ///
+    /// # Errors
+    ///
+    /// `Memory` where memory runs out; nothing is said of the rows then.
     pub(crate) fn add_row(&mut self, right: i64, sense: Sense) -> Result<(), Memory>
         ensures { OnOk result (self.new ≡ record self.old {
           right = self.old.right ++ right ∷ [];
@@ -92,6 +96,10 @@ impl NodeRows {
     }
 
     /// Adds the rows of a kind that the cells have.
+    ///
+    /// # Errors
+    ///
+    /// `Memory` where memory runs out; nothing is said of the rows then.
     pub(crate) fn add_cells(&mut self, kind: Kind, cells: &[Cell]) -> Result<(), Memory>
         ensures { OnOk result (self.new ≡ with_rows self.old (kind_cells kind cells.now)
             (kind_rows kind cells.now)) }
@@ -113,6 +121,10 @@ impl NodeRows {
     }
 
     /// Adds the rows of the cuts.
+    ///
+    /// # Errors
+    ///
+    /// `Memory` where memory runs out; nothing is said of the rows then.
     pub(crate) fn add_cuts(&mut self, cuts: &[Cut]) -> Result<(), Memory>
         ensures { OnOk result (self.new ≡ with_rows self.old [] (cut_rows cuts.now)) }
     {
@@ -123,6 +135,10 @@ impl NodeRows {
     }
 
     /// Tells where the rows of the cells' floors and ceilings stand, from these first ones on.
+    ///
+    /// # Errors
+    ///
+    /// `Memory` where memory runs out; nothing is said of the rows then.
     pub(crate) fn add_bounds(
         &mut self,
         cells: &[Cell],

@@ -39,6 +39,10 @@ impl Entries {
     }
 
     /// Adds the entry of the next row: 1 where `brings` holds, and else 0.
+    ///
+    /// # Errors
+    ///
+    /// `Memory` where memory runs out; nothing is said of the entries then.
     pub(crate) fn add(&mut self, brings: bool) -> Result<(), Memory>
         ensures { OnOk result (self.new ≡ with_entry self.old brings) }
     {
@@ -53,6 +57,10 @@ impl Entries {
     }
 
     /// Adds the entries of rows to which a tree brings these letters, where it has them.
+    ///
+    /// # Errors
+    ///
+    /// `Memory` where memory runs out; nothing is said of the entries then.
     pub(crate) fn add_letters(&mut self, letters: &[CellLetter], codes: &[u8]) -> Result<(), Memory>
         ensures { OnOk result ((entry : ℕ → ℤ) → AreListed 0 entry self.old → length letters.now ≤ 1500 →
             ((k : ℕ) (l : RowLetter) → slice_get letters.now k ≡ Some l →
@@ -66,6 +74,10 @@ impl Entries {
     }
 
     /// Adds the entries of the rows of cuts, to which a tree brings their arcs, where it has them.
+    ///
+    /// # Errors
+    ///
+    /// `Memory` where memory runs out; nothing is said of the entries then.
     pub(crate) fn add_cuts(
         &mut self,
         cuts: &[Cut],

@@ -53,6 +53,10 @@ impl NodeRows {
     /// Returns at most so many trees of a pool, those of the least reduced costs at prices of the rows in
     /// units of 2^-24, the least one first, of equal ones the first in the pool; a row behind the prices has
     /// the price 0.
+    ///
+    /// # Errors
+    ///
+    /// `Memory` where memory runs out; nothing is kept then.
     pub fn best_trees(
         &self,
         alloc: Global,

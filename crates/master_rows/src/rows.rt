@@ -83,6 +83,10 @@ pub(crate) struct BoundRows {
 
 impl NodeRows {
     /// Returns the rows of the node at a path of cuts, base cuts first.
+    ///
+    /// # Errors
+    ///
+    /// `Memory` where memory runs out; nothing is kept then.
     pub fn new(alloc: Global, instance: &Instance, cuts: &[Cut]) -> Result<NodeRows, Memory>
         requires sound { IsSoundInstance instance.now }
         requires cuts { Each IsSmallCut cuts.now }
@@ -147,6 +151,10 @@ impl NodeRows {
     }
 
     /// Returns the entries that are not 0 of a tree of the pool in the rows, in the order of the rows.
+    ///
+    /// # Errors
+    ///
+    /// `Memory` where memory runs out; nothing is kept then.
     pub fn places_of(
         &self,
         alloc: Global,
@@ -164,6 +172,10 @@ impl NodeRows {
     }
 
     /// Returns the same entries in the memory of a list, whatever it held.
+    ///
+    /// # Errors
+    ///
+    /// `Memory` where memory runs out; nothing is kept then.
     pub fn put_places(
         &self,
         room: List<Place>,

@@ -67,6 +67,10 @@ fn add_tree(
 }
 
 /// Returns what the listed trees bring to each row.
+///
+/// # Errors
+///
+/// `Memory` where memory runs out; nothing is kept then.
 pub(crate) fn sums_of(
     alloc: Global,
     instance: &Instance,

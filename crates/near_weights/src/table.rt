@@ -74,6 +74,10 @@ fn bound_of(missing: i64, beyond: Option<i64>, artificial: i64) -> Bound {
 }
 
 /// Returns the rows of a node, to which no tree brings anything.
+///
+/// # Errors
+///
+/// `Memory` where memory runs out; nothing is kept then.
 pub(crate) fn lines_of(
     alloc: Global,
     instance: &Instance,
@@ -177,6 +181,10 @@ impl Table {
     }
 
     /// Adds a tree with its weight, which brings to the rows at these places.
+    ///
+    /// # Errors
+    ///
+    /// `Memory` where memory runs out; nothing is said of the table then.
     pub(crate) fn add_tree(
         &mut self,
         tree: usize,
@@ -219,6 +227,10 @@ pub(crate) struct Basis<'a> {
 }
 
 /// Returns a table of the trees of a basis, each with its weight, or 0 where that is negative.
+///
+/// # Errors
+///
+/// `Memory` where memory runs out; nothing is kept then.
 pub(crate) fn table_of(
     alloc: Global,
     lines: Vec<Line>,

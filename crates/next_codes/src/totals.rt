@@ -30,6 +30,10 @@ fn no_sums(alloc: Global, count: usize) -> Result<Vec<Cell>, Memory>
 impl Totals {
     /// Returns no sums, with room for those of a sound grammar: 16 bytes for each cell of its layout, and
     /// for each code at each period.
+    ///
+    /// # Errors
+    ///
+    /// `Memory` where memory runs out; nothing is kept then.
     pub fn for_layout(alloc: Global, grammar: &Grammar, layout: &Layout) -> Result<Totals, Memory>
         requires sound { IsSound grammar.now }
         requires layout { IsLayoutOf grammar.now layout.now }

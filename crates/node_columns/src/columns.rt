@@ -78,26 +78,33 @@ impl<'i, 'g, 'c, 'r, 'p, 'q, 'd> Columns for NodeColumns<'i, 'g, 'c, 'r, 'p, 'q,
 
     ghost still = { kept-still };
 
+    /// Returns how many rows there are.
     fn rows(&self) -> usize {
         self.rows.right().len()
     }
 
+    /// Returns how many columns are listed.
     fn count(&self) -> usize {
         self.desk.held.len()
     }
 
+    /// Returns the entries of a listed column that are not 0.
     fn places(&self, column: usize) -> &[Place] {
         self.desk.held.as_slice()[column].places.as_slice()
     }
 
+    /// Returns the cost of a listed column.
     fn cost(&self, column: usize) -> i64 {
         self.desk.held.as_slice()[column].cost
     }
 
+    /// Returns the columns that are wanted.
     fn wanted(&self) -> &[u32] {
         self.desk.wanted.as_slice()
     }
 
+    /// Returns the listed column of the least reduced cost where that is negative, and else lists a cheapest
+    /// tree.
     fn price_out(
         &mut self,
         y: &[i128],

@@ -181,9 +181,12 @@ fn empty_desk(alloc: Global, instance: &Instance, cuts: &[Cut]) -> Result<Desk, 
     })
 }
 
-/// Returns a desk for the node at a path of cuts, with the rows' own columns and these trees of the
-/// pool listed, and the trees wanted. Numbers beyond the pool are left out. Nothing is kept after
-/// want of memory.
+/// Returns a desk for the node at a path of cuts, with the rows' own columns and these trees of the pool
+/// listed, and the trees wanted. Numbers beyond the pool are left out.
+///
+/// # Errors
+///
+/// `Memory` where memory runs out; nothing is kept then.
 pub fn desk_of(
     alloc: Global,
     instance: &Instance,

@@ -92,7 +92,11 @@ pub fn first_wide(y: &[i128], kappa: i128) -> Option<i128>
     None
 }
 
-/// Accepts prices that are within 2^56 in size, as their denominator is. The tally counts a refusal.
+/// Accepts prices that are within 2^56 in size, as their denominator is.
+///
+/// # Errors
+///
+/// The fault names a number that is above 2^56 in size, and the tally counts a refusal.
 pub(crate) fn check_narrow(y: &[i128], kappa: i128, tally: &mut Tally) -> Result<(), TooWide>
     requires kappa { pos 0 <ℤ kappa }
     ensures narrow { IfOk result (λ _. AreNarrowPrices y.now kappa) }

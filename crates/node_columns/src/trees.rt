@@ -111,8 +111,11 @@ pub(crate) fn find_tree(
     true
 }
 
-/// Lists a tree of the day, which the pool gets where it lacks it, and returns the number of its
-/// column. After an error the listed columns are as before, and the pool may have grown.
+/// Lists a tree of the day, which the pool gets where it lacks it, and returns the number of its column.
+///
+/// # Errors
+///
+/// `Memory` where memory runs out; the listed columns are as before then, and the pool may have grown.
 pub(crate) fn list_tree(
     alloc: Global,
     instance: &Instance,
@@ -141,6 +144,10 @@ pub(crate) fn list_tree(
 }
 
 /// Returns the column of a tree of the pool.
+///
+/// # Errors
+///
+/// `Memory` where memory runs out; nothing is kept then.
 pub(crate) fn tree_column(
     alloc: Global,
     cuts: &[Cut],
@@ -160,9 +167,12 @@ pub(crate) fn tree_column(
     })
 }
 
-/// Lists a tree of the day of the least reduced cost where that is negative, and returns the number
-/// of its column. The prices of the rows are `y` over `kappa`. The pool gets the tree where it lacks
-/// it. After want of memory the listed columns are as before, and the pool may have grown.
+/// Lists a tree of the day of the least reduced cost where that is negative, and returns the number of its
+/// column. The prices of the rows are `y` over `kappa`. The pool gets the tree where it lacks it.
+///
+/// # Errors
+///
+/// `Memory` where memory runs out; the listed columns are as before, and the pool may have grown then.
 pub fn list_cheapest(
     alloc: Global,
     instance: &Instance,

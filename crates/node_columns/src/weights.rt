@@ -45,8 +45,12 @@ fn tree_weight(held: &[Held], basic: &Basic) -> Option<Weight>
     })
 }
 
-/// Returns the weights above 0 of trees among those of basic columns, in the order of these; `held` are
-/// the columns that are listed. Nothing is kept after want of memory.
+/// Returns the weights above 0 of trees among those of basic columns, in the order of these; `held` are the
+/// columns that are listed.
+///
+/// # Errors
+///
+/// `Memory` where memory runs out; nothing is kept then.
 pub fn tree_weights(alloc: Global, held: &[Held], basic: &[Basic]) -> Result<List<Weight>, Memory>
     requires { All (λ (b : BasicColumn). b.col < length held.now) basic.now }
     ensures { IfOk result (λ weights. (g : Rules) (pool : Items PoolTree) →

@@ -62,6 +62,10 @@ fn copy_prices(out: &mut [i128], prices: &[i128]) {
 
 impl Asked {
     /// Returns prices of 0 for so many rows.
+    ///
+    /// # Errors
+    ///
+    /// `Memory` where memory runs out; nothing is kept then.
     pub(crate) fn new(alloc: Global, rows: usize) -> Result<Asked, Memory>
         ensures { IfOk result (λ a. length a.y.items ≡ rows) }
     {

@@ -104,6 +104,10 @@ impl Bases {
     }
 
     /// Keeps a basis. Where there are many, the one that was not chosen for longest is forgotten.
+    ///
+    /// # Errors
+    ///
+    /// `Memory` where memory runs out; the basis is not kept then.
     pub(crate) fn keep(&mut self, basis: Basis) -> Result<(), Memory> {
         let turn = self.next_turn();
         let one = Kept { basis, turn };

@@ -204,6 +204,11 @@ fn solve_hunted_on(
 
 /// Asks for near prices. Where they are not shown to be best, it hunts on first if the hunt ended early, then at
 /// a scout that takes less for 0, and at last it solves the master exactly.
+///
+/// # Errors
+///
+/// `Memory` where memory runs out; the pricer is still one for the graph then, and the pool has its trees
+/// under their numbers, and perhaps further trees of the day.
 pub(crate) fn solve_near_first(
     alloc: Global,
     instance: &Instance,
@@ -246,6 +251,11 @@ pub(crate) fn solve_near_first(
 
 /// Solves the master exactly, and asks for near prices where it is given up. Only where that stands it is
 /// counted.
+///
+/// # Errors
+///
+/// `Memory` where memory runs out; the pricer is still one for the graph then, and the pool has its trees
+/// under their numbers, and perhaps further trees of the day.
 pub(crate) fn solve_exact_first(
     alloc: Global,
     instance: &Instance,

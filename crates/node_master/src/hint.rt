@@ -49,6 +49,10 @@ fn want_own(desk: &mut Desk, own: &[u32]) -> Result<(), Memory>
 
 /// Returns a desk for the node at a path of cuts, with the rows' own columns and the trees of a basis
 /// listed, and the columns of the basis wanted.
+///
+/// # Errors
+///
+/// `Memory` where memory runs out; nothing is kept then.
 pub(crate) fn hinted_desk(
     alloc: Global,
     instance: &Instance,

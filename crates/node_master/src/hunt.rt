@@ -514,6 +514,11 @@ fn hunt_start(
 /// Looks for a good basis of a node's master at a scout, in floats, from the last one of the nearest node above
 /// it that is kept. The pool gets its trees. It is a hint: whatever it is, what the master answers with it
 /// is right.
+///
+/// # Errors
+///
+/// `Memory` where memory runs out; the pricer is still one for the graph then, and the pool has its trees
+/// under their numbers, and perhaps further trees of the day.
 pub(crate) fn hunt(
     alloc: Global,
     instance: &Instance,

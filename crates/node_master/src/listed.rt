@@ -74,6 +74,10 @@ fn share_of(weight: u64) -> Frac
 }
 
 /// Returns the weights of listed trees as fractions, in their order.
+///
+/// # Errors
+///
+/// `Memory` where memory runs out; nothing is kept then.
 pub(crate) fn weights_of(alloc: Global, listed: &[ListedTree]) -> Result<List<Weight>, Memory>
     requires { All (λ (l : Tree). l.weight ≤ 2 ^ 62) listed.now }
     ensures { IfOk result (AreSharesOf listed.now) }

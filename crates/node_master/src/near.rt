@@ -93,6 +93,10 @@ fn show_best(
 
 /// Returns the end of a node's master whose prices and weights are those of a hint, rounded, where the weights
 /// show the prices to be best. Any numbers are lawful.
+///
+/// # Errors
+///
+/// `Memory` where memory runs out; the pricer is still one for the graph then.
 pub(crate) fn near_end(
     alloc: Global,
     instance: &Instance,

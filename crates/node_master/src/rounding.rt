@@ -126,6 +126,10 @@ fn checked(instance: &Instance, cuts: &[Cut], prices: Prices) -> Option<Prices>
 
 /// Returns prices in units of 2^-20 from those of the rows, in units of 2^-40: any numbers. None are returned
 /// where there is not one for each row, or they are not within the limits.
+///
+/// # Errors
+///
+/// `Memory` where memory runs out; nothing is kept then.
 pub(crate) fn near_rounded(
     alloc: Global,
     instance: &Instance,

@@ -56,6 +56,10 @@ fn is_before(held: &[Held], place: usize, tree: usize) -> bool {
 
 /// Lists the trees among columns in a scout, from a place on. A tree that is among the columns before gets
 /// a column without entries, which never enters.
+///
+/// # Errors
+///
+/// `Memory` where memory runs out; some of them may be listed then.
 pub(crate) fn list_trees(scout: &mut Scout, held: &[Held], first: usize) -> Result<(), Memory> {
     for (place, one) in held.iter().enumerate().skip(first) {
         if let Kind::OfTree(tree) = one.kind {
@@ -99,6 +103,10 @@ pub(crate) fn begin(scout: &mut Scout, keys: &[Key]) {
 }
 
 /// Returns the columns of rows in the basis of a scout.
+///
+/// # Errors
+///
+/// `Memory` where memory runs out; nothing is kept then.
 pub(crate) fn own_keys(alloc: Global, scout: &Scout) -> Result<List<Key>, Memory> {
     let mut keys = List::new(alloc);
     for place in 0..scout.rows() {
@@ -111,6 +119,10 @@ pub(crate) fn own_keys(alloc: Global, scout: &Scout) -> Result<List<Key>, Memory
 }
 
 /// Returns a scout with these columns, started for dual steps.
+///
+/// # Errors
+///
+/// `Memory` where memory runs out; nothing is kept then.
 pub(crate) fn scout_of(alloc: Global, held: &[Held], right: &[i64]) -> Result<Scout, Memory> {
     let mut scout = scout_of_rows(alloc, held, right)?;
     list_trees(&mut scout, held, 0)?;
@@ -141,6 +153,10 @@ fn basic_tree(held: &[Held], first: usize, scout: &Scout, place: usize) -> Optio
 }
 
 /// Returns the trees of the pool in the basis of a scout, of which these are the columns.
+///
+/// # Errors
+///
+/// `Memory` where memory runs out; nothing is kept then.
 pub(crate) fn basic_trees(
     alloc: Global,
     held: &[Held],
@@ -157,6 +173,10 @@ pub(crate) fn basic_trees(
 }
 
 /// Returns the tree of the pool at each place of the basis of a scout, where there is one.
+///
+/// # Errors
+///
+/// `Memory` where memory runs out; nothing is kept then.
 pub(crate) fn placed_trees(
     alloc: Global,
     held: &[Held],
@@ -190,6 +210,10 @@ fn own_column(held: &[Held], key: Key) -> Option<u32> {
 }
 
 /// Returns the columns of the rows in the basis of a scout.
+///
+/// # Errors
+///
+/// `Memory` where memory runs out; nothing is kept then.
 pub(crate) fn basic_own(alloc: Global, held: &[Held], scout: &Scout) -> Result<List<u32>, Memory> {
     let mut columns = List::new(alloc);
     for place in 0..scout.rows() {

@@ -50,6 +50,10 @@ const ROWS: usize = 1500;
 /// Trees of the pool that are `wanted` steer the solution, the most wanted first: any list of numbers
 /// is lawful. Whatever the answer, the pricer is still one made for the graph, and the pool has its
 /// old trees under their numbers, and beside them only further trees of the day.
+///
+/// # Errors
+///
+/// `Memory` where memory runs out; the same holds of the pricer and of the pool then.
 pub fn solve_node(
     alloc: Global,
     instance: &Instance,
@@ -96,6 +100,10 @@ pub fn solve_node(
 /// Trees of the pool that are `wanted` steer the solution, the most wanted first: any list of numbers
 /// is lawful. Whatever the answer, the pricer is still one made for the graph, and the pool has its
 /// old trees under their numbers, and beside them only further trees of the day.
+///
+/// # Errors
+///
+/// `Memory` where memory runs out; the same holds of the pricer and of the pool then.
 pub fn solve_node_from(
     alloc: Global,
     instance: &Instance,
@@ -188,6 +196,11 @@ fn solve_steered(
 }
 
 /// Solves the master with these rows exactly.
+///
+/// # Errors
+///
+/// `Memory` where memory runs out; the pricer is still one for the graph then, and the pool has its trees
+/// under their numbers, and perhaps further trees of the day.
 pub(crate) fn solve_rows(
     alloc: Global,
     instance: &Instance,

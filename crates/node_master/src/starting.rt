@@ -23,6 +23,10 @@ pub(crate) struct Start {
 }
 
 /// Returns trees, and behind them others that are not among them.
+///
+/// # Errors
+///
+/// `Memory` where memory runs out; nothing is kept then.
 pub(crate) fn joined(
     alloc: Global,
     first: &[usize],
@@ -39,6 +43,10 @@ pub(crate) fn joined(
 }
 
 /// Returns a copy of prices.
+///
+/// # Errors
+///
+/// `Memory` where memory runs out; nothing is kept then.
 pub(crate) fn copied(alloc: Global, prices: &[i128]) -> Result<List<i128>, Memory> {
     let mut copy = List::new(alloc);
     copy.extend_from_slice(prices)?;
@@ -132,6 +140,10 @@ fn start_without(
 
 /// Returns what a hunt begins with at the node at a path of cuts: the basis of the nearest node above it that
 /// is kept. Where none is, or where no tree is wanted, it begins without one.
+///
+/// # Errors
+///
+/// `Memory` where memory runs out; there is no answer then.
 pub(crate) fn start_of(
     alloc: Global,
     cuts: &[Cut],

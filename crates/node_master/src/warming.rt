@@ -83,6 +83,11 @@ fn begin_at(start: &Start) -> (Option<&[i128]>, u32) {
 
 /// Returns what a hunt begins with: at many rows the cheapest trees of the volume algorithm, which begins at the
 /// start's prices, beside those of the start.
+///
+/// # Errors
+///
+/// `Memory` where memory runs out; the pricer is still one for the graph then, and the pool has its trees
+/// under their numbers, and perhaps further trees of the day.
 pub(crate) fn warm_up(
     alloc: Global,
     instance: &Instance,

@@ -15,6 +15,10 @@ use std::alloc::Global;
 const MOST_BASE_CUTS: usize = 16;
 
 /// Returns the base cuts of an instance.
+///
+/// # Errors
+///
+/// `Memory` where memory runs out; nothing is kept then.
 pub(crate) fn base_cuts(alloc: Global, instance: &Instance) -> Result<Vec<Cut>, Memory>
     requires { IsSoundInstance instance.now }
     ensures { IfOk result (λ cuts. cuts.items ≡ base_cuts instance.now) }
@@ -27,6 +31,10 @@ pub(crate) fn base_cuts(alloc: Global, instance: &Instance) -> Result<Vec<Cut>, 
 }
 
 /// Returns a box that the base cuts of the instance have cut.
+///
+/// # Errors
+///
+/// `Memory` where memory runs out; nothing is kept then.
 pub(crate) fn base_box(
     alloc: Global,
     instance: &Instance,

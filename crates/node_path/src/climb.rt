@@ -35,6 +35,10 @@ fn turn_round(cuts: &mut Vec<Cut>, from: usize)
 }
 
 /// Puts the path of a node in the place of one that begins with the same base cuts.
+///
+/// # Errors
+///
+/// `Memory` where memory runs out; nothing is said of the cuts then.
 pub(crate) fn follow(
     cuts: &mut Vec<Cut>,
     base: usize,

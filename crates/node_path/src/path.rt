@@ -39,6 +39,10 @@ impl Model for NodePath {
 
 impl NodePath {
     /// Returns the path of the root: the base cuts alone.
+    ///
+    /// # Errors
+    ///
+    /// `Memory` where memory runs out; nothing is kept then.
     pub fn new(alloc: Global, instance: &Instance, graph: &Graph) -> Result<NodePath, Memory>
         requires sound { IsSoundInstance instance.now }
         requires graph { IsGraph instance.now.grammar graph.now }
@@ -82,6 +86,10 @@ impl NodePath {
     }
 
     /// Goes to the node of a number of a search's tree, whose seats these are.
+    ///
+    /// # Errors
+    ///
+    /// `Memory` where memory runs out; nothing is said of the path then, and it is not used again.
     pub fn go_to(
         &mut self,
         instance: &Instance,

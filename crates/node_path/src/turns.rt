@@ -53,6 +53,10 @@ fn turn_at(
 }
 
 /// Goes down by cuts on arcs of the graph, in their order.
+///
+/// # Errors
+///
+/// `Memory` where memory runs out; nothing is said of the box and the turns then.
 pub(crate) fn go_down(
     arc_box: &mut ArcBox,
     graph: &Graph,

@@ -51,7 +51,11 @@ impl OpenNodes {
         self.heap.len()
     }
 
-    /// Adds a leaf. After an error all leaves are as before.
+    /// Adds a leaf.
+    ///
+    /// # Errors
+    ///
+    /// `Memory` where memory runs out; all leaves are as before then.
     pub fn push(&mut self, leaf: OpenLeaf) -> Result<(), Memory>
         ensures ok { OnOk result (SameLeaves (leaf ∷ self.old) self.new) }
         ensures err { OnErr result (SameLeaves self.old self.new) }

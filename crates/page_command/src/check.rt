@@ -48,6 +48,7 @@ impl Question for Drawing {
 
     ghost ends = { λ _. proof-ends Judgement judged-ends };
 
+    // Says the page of the certificate, or why it is refused.
     fn answer(&self, alloc: Global, instance: &Instance, text: &[u8]) -> Result<Answer, Memory> {
         judgement(alloc, instance, text)
     }

@@ -56,6 +56,10 @@ fn derivations_by(
 
 /// Returns for each row what is said of its word by the rules of its group: a tree of the word at the row's
 /// price.
+///
+/// # Errors
+///
+/// `Memory` where memory runs out; nothing is kept then.
 pub fn derivations(
     alloc: Global,
     instance: &Instance,

@@ -118,6 +118,10 @@ fn cert_of(alloc: Global, instance: &Instance, text: &[u8]) -> Result<Cert, Memo
 }
 
 /// Says the page of an accepted certificate.
+///
+/// # Errors
+///
+/// `Memory` where memory runs out; there is no answer then.
 pub fn page_answer(alloc: Global, instance: &Instance, text: &[u8]) -> Result<Answer, Memory>
     requires sound { IsSoundInstance instance.now }
     requires accepted { (c : Certificate) × (proof_of instance.now text.now ≡ Is c)

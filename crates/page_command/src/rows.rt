@@ -46,6 +46,10 @@ fn count_of(shifts: &[Shift], shift: &Shift) -> u32
 }
 
 /// Returns a copy of bytes.
+///
+/// # Errors
+///
+/// `Memory` where memory runs out; nothing is kept then.
 pub fn copied(alloc: Global, bytes: &[u8]) -> Result<List<u8>, Memory>
     ensures { IfOk result (λ copy. copy ≡ bytes.now) }
 {
@@ -122,6 +126,10 @@ fn add_row(
 }
 
 /// Returns a row for each shift, or, where there are more than 40, one for all that are equal.
+///
+/// # Errors
+///
+/// `Memory` where memory runs out; nothing is kept then.
 pub fn rows_of(alloc: Global, instance: &Instance, shifts: &[Shift]) -> Result<List<Row>, Memory>
     requires { length shifts.now ≤ 64 }
     ensures rows { IfOk result (λ rows. rows ≡ rows_of instance.now shifts.now) }

@@ -48,7 +48,11 @@ fn column_of(grammar: &Grammar, shifts: &[Shift], cell: &Cell) -> Column
     }
 }
 
-/// Appends how a roster covers each of the cells. After want of memory a part may stand there.
+/// Appends how a roster covers each of the cells.
+///
+/// # Errors
+///
+/// `Memory` where memory runs out; a part may stand there then.
 pub fn add_columns(
     out: &mut List<Column>,
     grammar: &Grammar,

@@ -86,8 +86,11 @@ fn sentence_over(out: &mut List<u8>, cost: Option<u64>, bound: u64) -> Result<()
     }
 }
 
-/// Appends the sentence of how good the roster is, or of what the bound says where there is none. After want
-/// of memory a part of it may stand there.
+/// Appends the sentence of how good the roster is, or of what the bound says where there is none.
+///
+/// # Errors
+///
+/// `Memory` where memory runs out; a part of it may stand there then.
 #[tactic(auto, unfolding(crate::specs::Costs::sentence))]
 pub fn sentence(out: &mut List<u8>, cost: Option<u64>, bound: Option<u64>) -> Result<(), Memory>
     ensures { OnOk result (out.new ≡ out.old ++ written (sentence cost bound)) }
@@ -117,7 +120,11 @@ fn labelled_amount(out: &mut List<u8>, label: &[u8], value: Option<u64>) -> Resu
     amount(out, value)
 }
 
-/// Appends the byte of a code, escaped, in its colour. After want of memory a part of it may stand there.
+/// Appends the byte of a code, escaped, in its colour.
+///
+/// # Errors
+///
+/// `Memory` where memory runs out; a part of it may stand there then.
 #[tactic(auto, unfolding(crate::specs::Costs::chip))]
 pub fn chip(out: &mut List<u8>, codes: &[CodeDef], byte: u8) -> Result<(), Memory>
     ensures { OnOk result (out.new ≡ out.old ++ written (chip codes.now byte)) }
@@ -213,8 +220,11 @@ fn code_costs(out: &mut List<u8>, codes: &[CodeDef], columns: &[Column]) -> Resu
     Ok(())
 }
 
-/// Appends what the roster costs: its figures, and the penalties of each code that is demanded. After want of
-/// memory a part of it may stand there.
+/// Appends what the roster costs: its figures, and the penalties of each code that is demanded.
+///
+/// # Errors
+///
+/// `Memory` where memory runs out; a part of it may stand there then.
 #[tactic(auto, unfolding(crate::specs::Costs::costs))]
 pub fn costs(
     out: &mut List<u8>,

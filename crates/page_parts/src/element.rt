@@ -27,6 +27,10 @@ fn escaped(out: &mut List<u8>, byte: u8) -> Result<(), Memory>
 }
 
 /// Appends marks and words of the page's own.
+///
+/// # Errors
+///
+/// `Memory` where memory runs out; a part may stand in `out` then.
 #[tactic(auto, unfolding(crate::specs::Elements::element_text))]
 pub fn marks(out: &mut List<u8>, bytes: &[u8]) -> Result<(), Memory>
     ensures { OnOk result (out.new ≡ out.old ++ written (page.marks bytes.now ∷ [])) }
@@ -35,7 +39,11 @@ pub fn marks(out: &mut List<u8>, bytes: &[u8]) -> Result<(), Memory>
     Ok(())
 }
 
-/// Appends bytes of the texts, each escaped. After want of memory a part of them may stand there.
+/// Appends bytes of the texts, each escaped.
+///
+/// # Errors
+///
+/// `Memory` where memory runs out; a part of them may stand there then.
 #[tactic(auto, unfolding(crate::specs::Elements::element_text))]
 pub fn given(out: &mut List<u8>, bytes: &[u8]) -> Result<(), Memory>
     ensures { OnOk result (out.new ≡ out.old ++ written (page.given bytes.now ∷ [])) }
@@ -55,6 +63,10 @@ fn digits(out: &mut List<u8>, value: u64) -> Result<(), Memory>
 }
 
 /// Appends a number.
+///
+/// # Errors
+///
+/// `Memory` where memory runs out; a part may stand in `out` then.
 #[tactic(auto, unfolding(crate::specs::Elements::element_text))]
 pub fn number(out: &mut List<u8>, value: u64) -> Result<(), Memory>
     ensures { OnOk result (out.new ≡ out.old ++ written (page.number value ∷ [])) }
@@ -86,7 +98,11 @@ fn area_text(out: &mut List<u8>, area: Area) -> Result<(), Memory>
     Ok(())
 }
 
-/// Appends a rectangle of a class. After want of memory a part of it may stand there.
+/// Appends a rectangle of a class.
+///
+/// # Errors
+///
+/// `Memory` where memory runs out; a part of it may stand there then.
 #[tactic(auto, unfolding(crate::specs::Elements::element_text))]
 pub fn bar(out: &mut List<u8>, class: &[u8], area: Area) -> Result<(), Memory>
     ensures { OnOk result (out.new ≡ out.old ++ written (page.bar class.now area ∷ [])) }
@@ -111,8 +127,11 @@ fn begin(out: &mut List<u8>, class: &[u8], left: u64, top: u64) -> Result<(), Me
     Ok(())
 }
 
-/// Appends a caption of bytes of the texts, each escaped, at a place from the left and from the top. After
-/// want of memory a part of it may stand there.
+/// Appends a caption of bytes of the texts, each escaped, at a place from the left and from the top.
+///
+/// # Errors
+///
+/// `Memory` where memory runs out; a part of it may stand there then.
 #[tactic(auto, unfolding(crate::specs::Elements::element_text))]
 pub fn caption(
     out: &mut List<u8>,
@@ -129,8 +148,11 @@ pub fn caption(
     Ok(())
 }
 
-/// Appends a caption of a number, at a place from the left and from the top. After want of memory a part of
-/// it may stand there.
+/// Appends a caption of a number, at a place from the left and from the top.
+///
+/// # Errors
+///
+/// `Memory` where memory runs out; a part of it may stand there then.
 #[tactic(auto, unfolding(crate::specs::Elements::element_text))]
 pub fn figure(
     out: &mut List<u8>,

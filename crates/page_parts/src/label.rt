@@ -5,7 +5,11 @@ ghost use Rattle.page_parts.specs.Elements.{written};
 use crate::element::{given, marks, number};
 use roster_model::{List, Memory};
 
-/// Appends marks, and a number behind them. After want of memory a part of them may stand there.
+/// Appends marks, and a number behind them.
+///
+/// # Errors
+///
+/// `Memory` where memory runs out; a part of them may stand there then.
 pub fn labelled(out: &mut List<u8>, label: &[u8], value: u64) -> Result<(), Memory>
     ensures { OnOk result
         (out.new ≡ out.old ++ written (page.marks label.now ∷ page.number value ∷ [])) }
@@ -14,8 +18,11 @@ pub fn labelled(out: &mut List<u8>, label: &[u8], value: u64) -> Result<(), Memo
     number(out, value)
 }
 
-/// Appends marks, and bytes of the texts behind them, each escaped. After want of memory a part of them may
-/// stand there.
+/// Appends marks, and bytes of the texts behind them, each escaped.
+///
+/// # Errors
+///
+/// `Memory` where memory runs out; a part of them may stand there then.
 pub fn labelled_text(out: &mut List<u8>, label: &[u8], text: &[u8]) -> Result<(), Memory>
     ensures { OnOk result
         (out.new ≡ out.old ++ written (page.marks label.now ∷ page.given text.now ∷ [])) }

@@ -12,6 +12,7 @@ pub struct Sheet {
     pub periods: u8,
 }
 
+// Returns how wide a period is, for so many.
 fn width_of(periods: u8) -> u8
     ensures { result ≡ width_of periods }
 {

@@ -224,6 +224,10 @@ fn code_ink(
 }
 
 /// Writes what the columns of a code bring to a chart.
+///
+/// # Errors
+///
+/// `Memory` where memory runs out; a part may stand in `out` then.
 pub(crate) fn inked(
     out: &mut List<u8>,
     ink: Ink,
@@ -257,6 +261,10 @@ fn labelled_counts(
 }
 
 /// Writes the counts of a code in words, period by period.
+///
+/// # Errors
+///
+/// `Memory` where memory runs out; a part may stand in `out` then.
 #[tactic(auto, unfolding(crate::specs::Charts::in_words))]
 pub(crate) fn in_words(
     out: &mut List<u8>,
@@ -288,6 +296,10 @@ fn grid(out: &mut List<u8>, sheet: Sheet, top: u64) -> Result<(), Memory>
 }
 
 /// Writes the lines at the bottom and at the greatest count, with their numbers.
+///
+/// # Errors
+///
+/// `Memory` where memory runs out; a part may stand in `out` then.
 #[tactic(auto, unfolding(crate::specs::Charts::frame))]
 pub(crate) fn frame(out: &mut List<u8>, sheet: Sheet, unit: u8, top: u32) -> Result<(), Memory>
     ensures { OnOk result (out.new ≡ out.old ++ written (frame sheet unit top)) }
@@ -336,6 +348,10 @@ fn limit_lines(
 }
 
 /// Writes the lines of the need, of the floors and of the ceilings.
+///
+/// # Errors
+///
+/// `Memory` where memory runs out; a part may stand in `out` then.
 pub(crate) fn lines(
     out: &mut List<u8>,
     sheet: Sheet,

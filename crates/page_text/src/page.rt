@@ -387,7 +387,11 @@ fn body(
     marks(out, b"</main>\n</body>\n</html>\n")
 }
 
-/// Returns the page of a roster: one HTML page that stands for itself. After want of memory there is none.
+/// Returns the page of a roster: one HTML page that stands for itself.
+///
+/// # Errors
+///
+/// `Memory` where memory runs out; there is no page then.
 pub fn write_page(
     alloc: Global,
     periods: u8,

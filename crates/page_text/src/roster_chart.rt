@@ -160,6 +160,10 @@ fn row(
 }
 
 /// Writes the rows of a chart, one a shift.
+///
+/// # Errors
+///
+/// `Memory` where memory runs out; a part may stand in `out` then.
 pub(crate) fn rows(
     out: &mut List<u8>,
     sheet: Sheet,
@@ -177,6 +181,7 @@ pub(crate) fn rows(
     Ok(())
 }
 
+// Returns at every which period the number stands.
 fn step_of(periods: u8) -> u8
     ensures value { result ≡ step_of periods }
     ensures some { 1 ≤ result }
@@ -202,6 +207,10 @@ fn tick(out: &mut List<u8>, sheet: Sheet, top: u64, place: u8) -> Result<(), Mem
 }
 
 /// Writes the numbers of the periods.
+///
+/// # Errors
+///
+/// `Memory` where memory runs out; a part may stand in `out` then.
 pub(crate) fn ticks(out: &mut List<u8>, sheet: Sheet, top: u64) -> Result<(), Memory>
     ensures { OnOk result (out.new ≡ out.old ++ written (ticks sheet top)) }
 {

@@ -37,6 +37,10 @@ fn place_of(key: &NodeKey) -> usize {
 
 impl Guesses {
     /// Returns as many places as there are arcs, or up to twice as many.
+    ///
+    /// # Errors
+    ///
+    /// `Memory` where memory runs out; nothing is kept then.
     pub fn new(alloc: Global, arcs: usize) -> Result<Guesses, Memory>
         requires { arcs ≤ 100000 }
     {

@@ -85,6 +85,10 @@ fn joined(links: Links, nodes: NodeLists, root: Option<u32>) -> Joints
 
 /// Joins the arcs of the instance, which stand in an order in which each is after all those that make
 /// what it uses.
+///
+/// # Errors
+///
+/// `Memory` where memory runs out; nothing is kept then.
 pub fn join(alloc: Global, grammar: &Grammar, arcs: &[ArcKey]) -> Result<Joints, Memory>
     requires sound { IsSound grammar.now }
     requires arcs { HasArcs grammar.now arcs.now }

@@ -284,6 +284,10 @@ impl Links {
 
 /// Links the arcs of the instance, which stand in an order in which each is after all those that make
 /// what it uses.
+///
+/// # Errors
+///
+/// `Memory` where memory runs out; nothing is kept then.
 pub fn link(alloc: Global, grammar: &Grammar, arcs: &[ArcKey]) -> Result<Links, Memory>
     requires sound { IsSound grammar.now }
     requires arcs { HasArcs grammar.now arcs.now }
@@ -299,6 +303,10 @@ pub fn link(alloc: Global, grammar: &Grammar, arcs: &[ArcKey]) -> Result<Links, 
 }
 
 /// Returns the nodes in the order of their numbers.
+///
+/// # Errors
+///
+/// `Memory` where memory runs out; nothing is kept then.
 pub fn nodes_of(alloc: Global, nodes: &IndexSet<NodeKey>) -> Result<List<NodeKey>, Memory>
     ensures { IfOk result (λ list. list ≡ nodes.now.keys) }
 {

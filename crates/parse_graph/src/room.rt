@@ -4,6 +4,10 @@ use roster_model::{List, Memory};
 use std::alloc::Global;
 
 /// Returns a list of no items, with room for so many.
+///
+/// # Errors
+///
+/// `Memory` where memory runs out; nothing is kept then.
 pub fn with_room<T>(alloc: Global, items: usize) -> Result<List<T>, Memory>
     ensures { IfOk result (λ list. list ≡ []) }
 {

@@ -50,6 +50,11 @@ fn list_all(grammar: &Grammar, day: &DayArcs, arcs: &mut List<ArcKey>) -> Result
 }
 
 /// Returns the arcs of the instance in their order, where they are at most 100,000.
+///
+/// # Errors
+///
+/// `TooManyArcs` exactly where they are more, with their number, and `Memory` where memory runs out; nothing
+/// is kept then.
 pub fn list_arcs(
     alloc: Global,
     grammar: &Grammar,

@@ -17,6 +17,10 @@ impl Balances {
 
     /// Returns a room for a grammar. It takes all its memory here: eight bytes for each name and for
     /// seven suffixes of each rule on each span of the day, and for 96 periods of each code.
+    ///
+    /// # Errors
+    ///
+    /// `Memory` where memory runs out; nothing is kept then.
     pub fn for_instance(alloc: Global, grammar: &Grammar) -> Result<Balances, Memory>
         requires { IsSound grammar.now }
         ensures { IfOk result (IsRoomFor grammar.now) }

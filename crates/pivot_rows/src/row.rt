@@ -54,6 +54,10 @@ fn list_places(numbers: &[i64], places: &mut Vec<usize>)
 
 impl PivotRow {
     /// Returns a row of so many zeros. It has taken the memory for any row of this width.
+    ///
+    /// # Errors
+    ///
+    /// `Memory` where memory runs out; nothing is kept then.
     pub fn new(alloc: Global, width: usize) -> Result<PivotRow, Memory>
         ensures { IfOk result (λ row. row ≡ zeros width) }
     {

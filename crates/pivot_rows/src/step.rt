@@ -243,8 +243,12 @@ fn step_shared(
 /// the other row at its place, and `g` is the greatest common divisor of the new numbers, or 1 where
 /// all are 0.
 ///
-/// Where a new number is above 2^56 in size the step is refused with that number, which the tally
-/// counts; the row then still has as many numbers. Takes no memory.
+/// Takes no memory.
+///
+/// # Errors
+///
+/// A new number that is above 2^56 in size is told (`IsWideStep`), and the tally counts a refusal; the row
+/// then still has as many numbers, and nothing else is said of it.
 pub fn step_row(
     row: &mut [i64],
     factor: i128,

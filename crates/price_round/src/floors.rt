@@ -74,6 +74,11 @@ fn rounded_size(number: i128, kappa: i128, d: u64, tally: &mut Tally) -> Result<
 }
 
 /// Returns the floors of `d` times each number over `kappa`.
+///
+/// # Errors
+///
+/// `Wide` with the first number whose floor is above 2^80 in size, and the tally counts a refusal; `Memory`
+/// where memory runs out.
 pub(crate) fn floors(
     alloc: Global,
     numbers: &[i128],
@@ -130,6 +135,11 @@ fn add(mults: &mut List<Mult>, cut: u32, value: i128) -> Result<(), Memory>
 }
 
 /// Returns the multipliers above 0 of cuts whose rows have these prices over `kappa`.
+///
+/// # Errors
+///
+/// `Wide` with the first number whose floor, with its side's sign, is above 2^80 in size, and the tally
+/// counts a refusal; `Memory` where memory runs out.
 pub(crate) fn multipliers(
     alloc: Global,
     cuts: &[Cut],

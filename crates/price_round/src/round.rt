@@ -28,6 +28,7 @@ impl From<Memory> for RoundFault {
 
     ghost from_gives = { λ _ fault. fault ≡ out_of_memory };
 
+    /// Returns the fault of want of memory.
     fn from(_memory: Memory) -> RoundFault {
         RoundFault::Memory
     }
@@ -38,8 +39,12 @@ impl From<Memory> for RoundFault {
 /// where that is above 2^30.
 ///
 /// A cell's price is the floor of its number, and a cut's multiplier that of its number with its side's sign,
-/// so that it is rounded towards 0; only multipliers above 0 are listed. `Wide` comes exactly where one of
-/// these floors is above 2^80 in size, and the tally counts it.
+/// so that it is rounded towards 0; only multipliers above 0 are listed.
+///
+/// # Errors
+///
+/// `Wide` exactly where one of these floors is above 2^80 in size, with its number, and the tally counts a
+/// refusal; `Memory` where memory runs out. Nothing is kept then.
 pub fn to_prices(
     alloc: Global,
     y: &[i128],

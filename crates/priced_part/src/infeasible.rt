@@ -59,6 +59,7 @@ fn has_unmeetable_cell(instance: &Instance) -> bool
     false
 }
 
+/// Says whether no count of at most so many employees is in the cell's range.
 fn is_unmeetable(cell: &Cell, most: u32) -> bool
     ensures { IsTrue result ↔ (min cell.now.ceiling most < cell.now.floor) }
 {

@@ -37,6 +37,10 @@ impl Bench {
 
     /// Returns a bench for a sound instance and for certificates of at most as many nodes as this one has.
     /// It takes all its memory here.
+    ///
+    /// # Errors
+    ///
+    /// `Memory` where memory runs out; nothing is kept then.
     pub fn for_proof(alloc: Global, instance: &Instance, cert: &Cert) -> Result<Bench, Memory>
         requires sound { IsSoundInstance instance.now }
         ensures bench { IfOk result (IsBenchFor instance.now) }
@@ -46,6 +50,10 @@ impl Bench {
     }
 
     /// Returns a bench for every proof text for a sound instance. It takes all its memory here.
+    ///
+    /// # Errors
+    ///
+    /// `Memory` where memory runs out; nothing is kept then.
     pub fn for_texts(alloc: Global, instance: &Instance) -> Result<Bench, Memory>
         requires { IsSoundInstance instance.now }
         ensures bench { IfOk result (IsBenchFor instance.now) }

@@ -20,6 +20,10 @@ pub(crate) struct Rooms {
 
 impl Rooms {
     /// Returns the rooms for certificates of an instance.
+    ///
+    /// # Errors
+    ///
+    /// `Memory` where memory runs out; nothing is kept then.
     pub fn for_instance(alloc: Global, instance: &Instance) -> Result<Rooms, Memory>
         requires { IsSoundInstance instance.now }
         ensures { IfOk result (AreRoomsFor instance.now) }

@@ -17,6 +17,10 @@ pub(crate) struct Seen {
 
 impl Seen {
     /// Nothing was seen. It takes all its memory here.
+    ///
+    /// # Errors
+    ///
+    /// `Memory` where memory runs out; nothing is kept then.
     pub(crate) fn new(alloc: Global) -> Result<Seen, Memory>
         ensures { IfOk result (λ s. s.shifts ≡ []) }
     {

@@ -67,6 +67,10 @@ fn high_half(frame: Frame, low: u64) -> Frame
 impl Stack {
     /// Returns a stack for so many open splits of the instance, of which none is open. It takes all
     /// its memory here.
+    ///
+    /// # Errors
+    ///
+    /// `Memory` where memory runs out; nothing is kept then.
     pub(crate) fn for_splits(
         alloc: Global,
         instance: &Instance,

@@ -18,6 +18,10 @@ pub(crate) struct Tables {
 
 impl Tables {
     /// Returns the tables of a sound grammar.
+    ///
+    /// # Errors
+    ///
+    /// `Memory` where memory runs out; nothing is kept then.
     pub fn for_instance(alloc: Global, grammar: &Grammar) -> Result<Tables, Memory>
         requires { IsSound grammar.now }
         ensures { IfOk result (AreTablesFor grammar.now) }

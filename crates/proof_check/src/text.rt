@@ -38,6 +38,7 @@ fn own_prices_in(room: &CertRoom, priced: bool) -> Option<PricesView<'_>>
     if priced { Some(prices_in(room)) } else { None }
 }
 
+// Says whether a piece is the end.
 fn is_end(piece: Piece) -> bool
     ensures { (room : RoomView) → result ≡ is_done (told room piece) }
 {

@@ -30,7 +30,11 @@ pub(crate) struct Walker {
 }
 
 impl Walker {
-    // Makes a walker for certificates of an instance with at most so many nodes.
+    /// Makes a walker for certificates of an instance with at most so many nodes.
+    ///
+    /// # Errors
+    ///
+    /// `Memory` where memory runs out; nothing is kept then.
     pub(crate) fn for_nodes(
         alloc: Global,
         instance: &Instance,

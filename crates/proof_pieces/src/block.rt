@@ -176,6 +176,11 @@ fn mult_lines(
 }
 
 /// Reads the price block behind the line of a node, whose prices the room then holds.
+///
+/// # Errors
+///
+/// The first fault of the block, as the piece that `pieces_from` says is due. The room's word and its halves
+/// are as before then, and nothing is said of its prices.
 pub fn price_block(
     lines: &mut Ahead<'_>,
     instance: &Instance,

@@ -65,6 +65,7 @@ impl From<Memory> for ProofFault {
 
     ghost from_gives = { λ _ fault. fault ≡ out_of_memory };
 
+    // Returns the fault of want of memory.
     fn from(_memory: Memory) -> ProofFault {
         ProofFault::Memory
     }
@@ -76,6 +77,7 @@ impl From<PieceFault> for ProofFault {
 
     ghost from_gives = { λ piece fault. fault ≡ proof_fault piece };
 
+    // Returns the fault of a piece as one of the text.
     fn from(fault: PieceFault) -> ProofFault {
         match fault {
             PieceFault::BadByte { line } => ProofFault::BadByte { line },

@@ -7,6 +7,10 @@ use roster_model::{Group, List};
 use text_lines::{NumberFault, read_number, read_within};
 
 /// Reads a number from `low` to `high`.
+///
+/// # Errors
+///
+/// `BadNumber` where the word is no number, and `OutOfRange` where it is not in the range, with the line.
 pub fn number(line: u32, low: u128, high: u128, word: &[u8]) -> Result<u128, PieceFault>
     ensures value { result ≡ number_at line low high word.now }
     ensures within { IfOk result (λ n. (low ≤ n) × (n ≤ high)) }
@@ -17,6 +21,10 @@ pub fn number(line: u32, low: u128, high: u128, word: &[u8]) -> Result<u128, Pie
 }
 
 /// Reads a number of at most `2^80` in size, which may be below 0.
+///
+/// # Errors
+///
+/// `BadNumber` where the word is no number, and `OutOfRange` where it is greater in size, with the line.
 #[tactic(auto, unfolding(crate::specs::Fields::signed_at))]
 pub fn signed(line: u32, word: &[u8]) -> Result<i128, PieceFault>
     ensures { result ≡ signed_at line word.now }
@@ -32,6 +40,11 @@ pub fn signed(line: u32, word: &[u8]) -> Result<i128, PieceFault>
 }
 
 /// Reads a cost or a bound: a number, or `none`.
+///
+/// # Errors
+///
+/// `BadNumber` where the word is neither, and `OutOfRange` where the number is above `MOST_COST`, with the
+/// line.
 #[tactic(auto, unfolding(crate::specs::Fields::amount_at))]
 pub fn amount(line: u32, word: &[u8]) -> Result<Option<u64>, PieceFault>
     ensures { result ≡ amount_at line word.now }
@@ -43,6 +56,7 @@ pub fn amount(line: u32, word: &[u8]) -> Result<Option<u64>, PieceFault>
     Ok(Some(value as u64))
 }
 
+// Says whether the name of a group is the word.
 fn has_name(names: &[List<u8>], word: &[u8], group: &Group) -> bool
     ensures { result ≡ has_name names.now word.now group.now }
 {
@@ -52,6 +66,7 @@ fn has_name(names: &[List<u8>], word: &[u8], group: &Group) -> bool
     }
 }
 
+// Returns the place of the group whose name is the word, if there is one.
 fn group_place(names: &[List<u8>], groups: &[Group], word: &[u8]) -> Option<usize>
     ensures place { result ≡ position (has_name names.now word.now) groups.now }
     ensures within { IfSome result (λ i. i < length groups.now) }
@@ -60,6 +75,10 @@ fn group_place(names: &[List<u8>], groups: &[Group], word: &[u8]) -> Option<usiz
 }
 
 /// Reads the name of a group, and gives the group's number, from 1.
+///
+/// # Errors
+///
+/// `OutOfRange` with the line, where no group has this name.
 #[tactic(auto, unfolding(crate::specs::Fields::group_at))]
 pub fn group(line: u32, names: &[List<u8>], groups: &[Group], word: &[u8]) -> Result<u8, PieceFault>
     requires { length groups.now ≤ 8 }

@@ -8,6 +8,7 @@ use crate::field::amount;
 use roster_model::Group;
 use text_lines::{Line, Words, words_left};
 
+// Says whether the words are these two.
 fn is_pair(words: &mut Words<'_>, first: &[u8], second: &[u8]) -> bool
     ensures { result ≡ is_pair first.now second.now words.old }
 {
@@ -69,6 +70,7 @@ pub fn is_mult(line: &Line<'_>) -> bool
     first == b"mult".as_slice()
 }
 
+// Returns how many words stand behind the first one on a shift's line.
 fn shift_width(groups: &[Group]) -> usize
     ensures { result ≡ shift_width groups.now }
 {
@@ -92,6 +94,11 @@ pub fn is_shift(groups: &[Group], line: &Line<'_>) -> bool
 }
 
 /// Reads a line of a cost or a bound, which begins with this word.
+///
+/// # Errors
+///
+/// `UnknownLine` where the line is not of this word and one more, else `BadNumber` or `OutOfRange`, with the
+/// line's number.
 #[tactic(auto, unfolding(crate::specs::ShiftLines::amount_line))]
 pub fn amount_line(line: &Line<'_>, first: &[u8]) -> Result<Option<u64>, PieceFault>
     ensures { result ≡ amount_line line.now.number first.now line.now.words }

@@ -7,6 +7,10 @@ use crate::fault::PieceFault;
 use text_lines::{BadByte, Line};
 
 /// Takes the next line, where the text may not end yet.
+///
+/// # Errors
+///
+/// `CutShort` at the end of the text, and `BadByte` with the line where the line has one.
 pub fn next_line<'a>(lines: &mut Ahead<'a>) -> Result<Line<'a>, PieceFault>
     ensures line { IfOk result (λ line. lines.old ≡ Ok line ∷ lines.new) }
     ensures fault { IfErr result (λ e. (i : Day) (s : Spot) (p : Place) → IsOpen i s

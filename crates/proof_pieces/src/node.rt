@@ -35,6 +35,7 @@ const MOST_LINES: u32 = MOST_NODES as u32;
 /// Denominators are no greater.
 const MOST_DENOMINATOR: u128 = 1 << 30;
 
+// Returns the greatest number of a rule, with groups and without.
 fn most_rule(groups: &[Group]) -> u128
     ensures { result ≡ most_rule groups.now }
 {
@@ -131,6 +132,7 @@ fn split_of(
     Ok(NodeLine::Split { arc, b, d })
 }
 
+// Reads the line of a split, behind its first word.
 #[tactic(auto, unfolding(crate::specs::NodeLines::split_at))]
 fn split(
     line: u32,
@@ -157,6 +159,7 @@ fn split(
     split_of(line, groups, &arc, b, d)
 }
 
+// Reads the line of a priced leaf, behind its first word.
 #[tactic(auto, unfolding(crate::specs::NodeLines::priced_at))]
 fn priced(line: u32, nodes: u32, words: &mut Words<'_>) -> Result<NodeLine, PieceFault>
     ensures value { result ≡ priced_at line nodes words.old }
@@ -175,6 +178,7 @@ fn priced(line: u32, nodes: u32, words: &mut Words<'_>) -> Result<NodeLine, Piec
     Ok(NodeLine::Priced { d })
 }
 
+// Reads the line of a leaf without prices, behind its first word.
 #[tactic(auto, unfolding(crate::specs::NodeLines::leaf_at))]
 fn leaf(
     line: u32,
@@ -195,6 +199,11 @@ fn leaf(
 }
 
 /// Reads the line of a node, before which so many nodes stand.
+///
+/// # Errors
+///
+/// The line's first fault, as `node_at` says it, with the line's number: `UnknownLine`, `TooManyNodes` past
+/// 20,001 nodes, `BadNumber` or `OutOfRange`.
 #[tactic(auto, unfolding(crate::specs::NodeLines::node_at))]
 pub fn node_line(groups: &[Group], nodes: u32, line: &Line<'_>) -> Result<NodeLine, PieceFault>
     ensures value { result ≡ node_at line.now.number groups.now nodes line.now.words }

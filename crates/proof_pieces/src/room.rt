@@ -42,6 +42,7 @@ impl Model for CertRoom {
         × (1500 ≤ vec_capacity r.mults) × (20001 ≤ vec_capacity r.halves) };
 }
 
+// Returns a list of no items, with room for so many.
 fn with_room<T>(alloc: Global, most: usize) -> Result<Vec<T>, Memory>
     ensures empty { IfOk result (λ v. v.items ≡ []) }
     ensures room { IfOk result (λ v. most ≤ vec_capacity v) }
@@ -79,6 +80,10 @@ fn end_halves(halves: &mut Vec<bool>)
 impl CertRoom {
     /// Takes all the memory that the pieces of a proof text for an instance need: for a word of 96
     /// bytes, a price of each cell, 1,500 multipliers and 20,001 open splits.
+    ///
+    /// # Errors
+    ///
+    /// `Memory` where memory runs out; nothing is kept then.
     pub fn for_instance(alloc: Global, instance: &Instance) -> Result<CertRoom, Memory>
         ensures { IfOk result (λ r. r ≡ record {
           word = [];

@@ -100,6 +100,12 @@ fn letters(
 }
 
 /// Reads the line of a shift, before which so many shifts stand. The room then holds its word.
+///
+/// # Errors
+///
+/// The line's first fault, as `shift_at` says it, with the line's number: `UnknownLine`, `OutOfRange` (64
+/// shifts before, no such group, a word that is too long, a price) or `BadNumber`. Nothing is said of the
+/// room's word then, and all else in it is as before.
 #[tactic(auto, unfolding(crate::specs::ShiftLines::shift_of))]
 pub fn shift_line(
     instance: &Instance,

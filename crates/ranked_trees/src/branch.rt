@@ -142,6 +142,10 @@ fn advance<P: LetterPrice>(
 
 /// Goes on with the first of the candidates until nothing of it is pending, each time with its first
 /// child of least sum. The other children are put among those that wait.
+///
+/// # Errors
+///
+/// `Memory` where memory runs out; nothing is said of the candidates then.
 pub fn descend<P: LetterPrice>(
     alloc: Global,
     grammar: &Grammar,

@@ -48,6 +48,10 @@ pub fn inside(step: Step) -> Frame
 
 impl Candidate {
     /// Goes on with a rule use for the first symbol of a frame that was taken from what is pending.
+    ///
+    /// # Errors
+    ///
+    /// `Memory` where memory runs out; nothing is said of the candidate then.
     pub fn go_on(&mut self, frame: Frame, child: Child) -> Result<(), Memory>
         requires part { child.len ≤ frame.span.len }
         requires place { frame.suffix.from < 255 }
@@ -67,6 +71,10 @@ impl Candidate {
     }
 
     /// Returns the candidate that goes on so, beside this one.
+    ///
+    /// # Errors
+    ///
+    /// `Memory` where memory runs out; nothing is kept then.
     pub fn child(&self, alloc: Global, frame: Frame, child: Child) -> Result<Candidate, Memory>
         requires part { child.len ≤ frame.span.len }
         requires place { frame.suffix.from < 255 }

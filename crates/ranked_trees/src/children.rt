@@ -93,6 +93,10 @@ fn add_children<P: LetterPrice>(
 
 /// Returns the next rule uses for a name that is the first symbol of a frame, in their order. Their sums
 /// are those of the frame above a base.
+///
+/// # Errors
+///
+/// `Memory` where memory runs out; nothing is kept then.
 pub fn children_of<P: LetterPrice>(
     alloc: Global,
     grammar: &Grammar,

@@ -32,6 +32,10 @@ impl Pending {
     }
 
     /// Puts a frame before the others.
+    ///
+    /// # Errors
+    ///
+    /// `Memory` where memory runs out; nothing is said of the frames then.
     pub fn push(&mut self, frame: Frame) -> Result<(), Memory>
         ensures { OnOk result (self.new ≡ frame ∷ self.old) }
     {
@@ -49,6 +53,10 @@ impl Pending {
     }
 
     /// Returns the same frames once more.
+    ///
+    /// # Errors
+    ///
+    /// `Memory` where memory runs out; nothing is kept then.
     pub fn copy(&self, alloc: Global) -> Result<Pending, Memory>
         ensures { IfOk result (λ p. p ≡ self.now) }
     {

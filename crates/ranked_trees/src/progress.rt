@@ -59,6 +59,10 @@ fn make_room(waiting: &mut VecDeque<Candidate>, room: usize)
 
 /// Puts a candidate among others in their order. Where there are so many as there is room for, the
 /// last of all is dropped.
+///
+/// # Errors
+///
+/// `Memory` where memory runs out; nothing is said of those that wait then.
 pub fn offer(
     waiting: &mut VecDeque<Candidate>,
     room: usize,

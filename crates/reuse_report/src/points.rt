@@ -84,8 +84,11 @@ fn point_lines(out: &mut List<u8>, points: &[CurvePoint]) -> Result<(), Memory>
 }
 
 /// Returns what is said of a curve: the line `curve COUNT`, and for each point in order the line
-/// `heads H cost X bound X processed P failed F`, where X is a number or `none`. After want of memory
-/// there is no text.
+/// `heads H cost X bound X processed P failed F`, where X is a number or `none`.
+///
+/// # Errors
+///
+/// `Memory` where memory runs out; there is no text then.
 pub fn write_curve(alloc: Global, points: &[CurvePoint]) -> Result<List<u8>, Memory>
     ensures { IfOk result (λ text. text ≡ curve_text points.now) }
 {

@@ -17,8 +17,12 @@ fn write_bound(alloc: Global, bound: Option<u64>) -> Result<List<u8>, Memory>
     Ok(out)
 }
 
-/// Returns what is said of an old certificate: the line `bound X`, where X is a number or `none`, or the
-/// line `no` with the number of the cause, its name and its values. After want of memory there is no text.
+/// Returns what is said of an old certificate: the line `bound X`, where X is a number or `none`, or the line
+/// `no` with the number of the cause, its name and its values.
+///
+/// # Errors
+///
+/// `Memory` where memory runs out; there is no text then.
 pub fn write_reused(alloc: Global, reused: &Reused) -> Result<List<u8>, Memory>
     ensures { IfOk result (λ text. text ≡ reused_text reused.now) }
 {

@@ -134,6 +134,7 @@ fn entry_price(entry: &ArcPrice, arc: &ArcKey) -> i128
     }
 }
 
+/// Says whether an entry is the arc.
 fn is_same(entry: &ArcKey, arc: &ArcKey) -> bool
     ensures { result ≡ same_arc entry.now arc.now }
 {
@@ -304,6 +305,7 @@ fn paid_entry(cut: &Cut, price: i128) -> ArcPrice
     }
 }
 
+/// Returns a value of 0 or more with the sign of a side: with `High` it is negated.
 fn signed(side: Side, value: i128) -> i128
     requires least { pos 0 ≤ℤ value }
     requires most { value ≤ℤ pos (2 ^ 80) }

@@ -108,6 +108,7 @@ fn are_of(cells: &[Cell], first: &Cell) -> bool
     true
 }
 
+/// Says whether a cell is that of a period in a demand with the same code and penalties as the first cell.
 fn is_cell_of(cell: &Cell, first: &Cell, period: usize) -> bool
     ensures { IsTrue result
         ↔ IsCellOf first.now.code first.now.under first.now.over period cell.now }

@@ -33,6 +33,7 @@ pub(crate) fn set_rules(numbers: &mut [i128], rules: &[Rule], d: u128)
     }
 }
 
+/// Returns the denominator times the rule's cost.
 fn rule_price(rule: &Rule, d: u128) -> i128
     requires small { d ≤ 2 ^ 80 }
     requires cost { HasSmallCost rule.now }

@@ -71,6 +71,7 @@ fn ends_with_added(grammar: &Grammar) -> bool
     }
 }
 
+/// Says whether a name is the one that groups add, `*`.
 fn is_added(name: &List<u8>) -> bool
     ensures { IsTrue result ↔ (name.now ≡ added_name) }
 {
@@ -84,6 +85,7 @@ fn are_groups(groups: &[Group], names: usize) -> bool
     groups.len() <= 8 && groups.iter().all(|group| is_group(group, names)) && are_apart(groups)
 }
 
+/// Says whether a group has a name of these and head counts that may be.
 fn is_group(group: &Group, names: usize) -> bool
     ensures { IsTrue result ↔ IsGroup names group.now }
 {
@@ -163,18 +165,21 @@ fn are_below(rules: &[Rule], names: usize) -> bool
     rules.iter().all(|rule| is_below(rule, names))
 }
 
+/// Says whether a rule speaks only of names below a number.
 fn is_below(rule: &Rule, names: usize) -> bool
     ensures { IsTrue result ↔ IsRuleBelow names rule.now }
 {
     (rule.left as usize) < names && right_is_below(rule.right.as_slice(), names)
 }
 
+/// Says whether the symbols of a right side are codes or names below a number.
 fn right_is_below(right: &[Sym], names: usize) -> bool
     ensures { IsTrue result ↔ All (IsSymbolBelow names) right.now }
 {
     right.iter().all(|sym| symbol_is_below(sym, names))
 }
 
+/// Says whether a symbol is a code or a name below a number.
 fn symbol_is_below(sym: &Sym, names: usize) -> bool
     ensures { IsTrue result ↔ IsSymbolBelow names sym.now }
 {

@@ -43,7 +43,11 @@ impl<T> List<T> {
         items
     }
 
-    /// Adds an item at the end. After an error the list is as before, and the item is dropped.
+    /// Adds an item at the end.
+    ///
+    /// # Errors
+    ///
+    /// `Memory` where memory runs out; the list is as before then, and the item is dropped.
     pub fn push(&mut self, item: T) -> Result<(), Memory>
     where
         T: Drop,
@@ -56,7 +60,11 @@ impl<T> List<T> {
         }
     }
 
-    /// Adds items at the end, in their order. After an error the list is as before.
+    /// Adds items at the end, in their order.
+    ///
+    /// # Errors
+    ///
+    /// `Memory` where memory runs out; the list is as before then.
     pub fn extend_from_slice(&mut self, items: &[T]) -> Result<(), Memory>
     where
         T: Copy,
@@ -108,6 +116,7 @@ impl<T: PartialEq> PartialEq for List<T> {
 
     ghost laws = { lists_per T.laws };
 
+    /// Says whether both lists have the same items.
     fn eq(&self, other: &List<T>) -> bool {
         self.items == other.items
     }

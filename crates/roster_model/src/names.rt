@@ -15,18 +15,21 @@ pub fn is_code_byte(byte: u8) -> bool
     33 <= byte && byte <= 126 && byte != b'\'' && byte != b'#'
 }
 
+/// Says whether a byte is a letter.
 fn is_letter(byte: u8) -> bool
     ensures { result ≡ is_letter byte }
 {
     byte.is_ascii_alphabetic()
 }
 
+/// Says whether a byte may stand in a name: a letter, a digit or `_`.
 fn is_name_byte(byte: u8) -> bool
     ensures { result ≡ is_name_byte byte }
 {
     byte.is_ascii_alphanumeric() || byte == b'_'
 }
 
+/// Says whether all bytes of a word may stand in a name.
 fn are_name_bytes(word: &[u8]) -> bool
     ensures { result ≡ list_all is_name_byte word.now }
 {

@@ -44,8 +44,12 @@ impl PriceRoom {
     };
     ghost use Rattle.roster_model.specs.SoundInstance.{IsSoundInstance};
 
-    /// Returns a room for prices of instances with as many periods, codes and rules, and for this
-    /// many multipliers. It takes all its memory here, and want of it is the one error.
+    /// Returns a room for prices of instances with as many periods, codes and rules, and for this many
+    /// multipliers. It takes all its memory here.
+    ///
+    /// # Errors
+    ///
+    /// `Memory` where memory runs out; nothing is kept then.
     pub fn for_cuts(alloc: Global, instance: &Instance, most: usize) -> Result<PriceRoom, Memory>
         requires { IsSoundInstance instance.now }
         ensures room { IfOk result (λ r. IsRoomFor r instance.now) }
@@ -185,19 +189,23 @@ impl LetterPrice for PriceRoom {
 
     ghost view = { price_view };
 
+    /// Returns the price of the letter that is held, none beyond the room's letters.
     fn letter(&self, code: u8, period: u8) -> Option<i128> {
         let place = code as usize * self.periods + (period as usize).saturating_sub(1);
         self.letters.get(place).copied()
     }
 
+    /// Returns the price of the arc that is held, 0 where no cut is on it.
     fn arc(&self, arc: &ArcKey) -> i128 {
         arc_price(self.arcs.as_slice(), self.marks.as_slice(), arc)
     }
 
+    /// Returns the arcs with cuts and their prices.
     fn arc_prices(&self) -> Option<&[ArcPrice]> {
         Some(self.arcs.as_slice())
     }
 
+    /// Returns the price of the rule that is held, 0 where there is no rule of this number.
     fn rule(&self, rule: u8) -> i128 {
         let Some(place) = (rule as usize).checked_sub(1) else {
             return 0;

@@ -29,6 +29,10 @@ impl Model for TreeRoom {
 impl TreeRoom {
     /// Returns a room with no step that has taken the memory for every tree of a sound grammar:
     /// `(2n - 1) * names` steps, where a day has `n` periods.
+    ///
+    /// # Errors
+    ///
+    /// `Memory` where memory runs out; nothing is kept then.
     pub fn for_grammar(alloc: Global, grammar: &Grammar) -> Result<TreeRoom, Memory>
         requires { IsSound grammar.now }
         ensures empty { IfOk result (λ r. r.steps ≡ []) }

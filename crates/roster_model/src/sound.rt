@@ -99,6 +99,7 @@ fn exists(sym: &Sym, codes: usize, names: usize) -> bool
     }
 }
 
+/// Says whether each symbol of a right side is one of so many codes and names.
 fn all_exist(right: &[Sym], codes: usize, names: usize) -> bool
     ensures { IsTrue result ↔ All (Exists codes names) right.now }
 {
@@ -120,6 +121,7 @@ fn is_rule(rule: &Rule, codes: usize, names: usize) -> bool
         && is_window(&rule.last)
 }
 
+/// Says whether each rule is one over so many codes and names.
 fn each_is_rule(rules: &[Rule], codes: usize, names: usize) -> bool
     ensures { IsTrue result ↔ All (IsRule codes names) rules.now }
 {
@@ -133,6 +135,7 @@ fn are_rules(rules: &[Rule], codes: usize, names: usize) -> bool
     rules.len() <= 72 && each_is_rule(rules, codes, names)
 }
 
+/// Says whether each code has a byte that may stand for one.
 fn are_code_bytes(codes: &[CodeDef]) -> bool
     ensures { IsTrue result ↔ All (λ (c : CodeDef). is_code_byte c.byte ≡ true) codes.now }
 {
@@ -161,6 +164,7 @@ fn have_own_bytes(codes: &[CodeDef]) -> bool
     true
 }
 
+/// Says whether the codes are at most 32, at most 8 of them work, and each has a byte of its own.
 fn are_codes(codes: &[CodeDef]) -> bool
     ensures { IsTrue result ↔ AreCodes codes.now }
 {
@@ -176,6 +180,7 @@ fn is_name_of(grammar: &Grammar, place: usize, name: &[u8]) -> bool
         || is_added(name) && grammar.names.len() == place + 1 && place == grammar.start as usize
 }
 
+/// Says whether each name is one that may stand at its place.
 fn have_names(grammar: &Grammar) -> bool
     ensures { IsTrue result ↔ ((x : ℕ) (name : List ℕ)
         → slice_get grammar.now.names x ≡ Some name → IsNameOf grammar.now x name) }
@@ -188,6 +193,7 @@ fn have_names(grammar: &Grammar) -> bool
     true
 }
 
+/// Says whether two names are the same.
 fn is_same(name: &List<u8>, other: &List<u8>) -> bool
     ensures { IsTrue result ↔ (name.now ≡ other.now) }
 {
@@ -216,6 +222,7 @@ fn has_rule(rules: &[Rule], name: usize) -> bool
     rules.iter().any(|rule| rule.left as usize == name)
 }
 
+/// Says whether each of so many names has a rule.
 fn have_rules(rules: &[Rule], names: usize) -> bool
     ensures { IsTrue result ↔ ((x : ℕ) → x < names → has_rule rules.now x ≡ true) }
 {
@@ -280,6 +287,7 @@ fn are_in_order(rules: &[Rule]) -> bool
     true
 }
 
+/// Says whether the names are not too many, each is a name, no two are the same, and each has rules in order.
 fn are_names(grammar: &Grammar) -> bool
     ensures { IsTrue result ↔ AreNames grammar.now }
 {

@@ -21,6 +21,7 @@ pub fn is_sound_instance(instance: &Instance) -> bool
         && are_cells(&instance.grammar, instance.cells.as_slice())
 }
 
+/// Says whether the instance has no groups and a plain grammar, or sound groups.
 fn has_groups(instance: &Instance) -> bool
     requires { IsSound instance.now.grammar }
     ensures { IsTrue result ↔ HasGroups instance.now instance.now.groups }

@@ -41,8 +41,11 @@ type Reach = [u64; MOST_NAMES];
 
 /// Returns a rank of each name that every one-symbol rule raises, below the number of names.
 ///
-/// Where one-symbol rules lead from a name back to it there is no such rank, and the error is the
-/// first name on such a cycle. Takes no memory.
+/// Takes no memory.
+///
+/// # Errors
+///
+/// The first name on a cycle, where one-symbol rules lead from a name back to it: then there is no such rank.
 pub fn unit_ranks(grammar: &Grammar) -> Result<[u8; MOST_NAMES], u8>
     requires { HasNames grammar.now }
     ensures ranked { IfOk result

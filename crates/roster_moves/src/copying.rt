@@ -45,6 +45,10 @@ fn draft_all(
 }
 
 /// Returns a draft of trees of a pool, which are put into another pool.
+///
+/// # Errors
+///
+/// `Memory` where memory runs out; the other pool still has only trees of the day then.
 pub(crate) fn drafted(
     alloc: Global,
     instance: &Instance,
@@ -70,6 +74,11 @@ pub(crate) fn drafted(
 }
 
 /// Puts trees of a pool into another pool, and returns their numbers there.
+///
+/// # Errors
+///
+/// `Memory` where memory runs out; the other pool has its trees under their numbers then, and perhaps further
+/// trees of the day.
 pub(crate) fn copied_all(
     alloc: Global,
     instance: &Instance,

@@ -358,6 +358,12 @@ fn descend_at(
 
 /// Makes a draft better by moves: a few trees go, cheapest ones come, and the draft stays so where it weighs
 /// no more.
+///
+/// # Errors
+///
+/// `Memory` where memory runs out; nothing is said of the draft then. The pricer and the room of prices are
+/// still those of the graph and of the instance, and the pool has its trees under their numbers, and perhaps
+/// further trees of the day.
 pub(crate) fn descend(
     alloc: Global,
     instance: &Instance,

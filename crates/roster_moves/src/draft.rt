@@ -31,6 +31,10 @@ pub(crate) struct Draft {
 
 impl Draft {
     /// Returns a draft without trees.
+    ///
+    /// # Errors
+    ///
+    /// `Memory` where memory runs out; nothing is kept then.
     pub fn new(alloc: Global, instance: &Instance) -> Result<Draft, Memory>
         requires { IsSoundInstance instance.now }
         ensures { IfOk result (IsDraft instance.now 0) }
@@ -51,6 +55,10 @@ impl Draft {
     }
 
     /// Adds a tree of the pool.
+    ///
+    /// # Errors
+    ///
+    /// `Memory` where memory runs out; nothing is said of the draft then.
     pub fn push(&mut self, instance: &Instance, pool: &Pool, column: usize) -> Result<(), Memory>
         requires draft { IsDraft instance.now (length pool.now) self.old }
         requires column { column < length pool.now }
@@ -68,6 +76,10 @@ impl Draft {
     }
 
     /// Adds trees of the pool.
+    ///
+    /// # Errors
+    ///
+    /// `Memory` where memory runs out; nothing is said of the draft then.
     pub fn push_all(
         &mut self,
         instance: &Instance,

@@ -16,6 +16,12 @@ use roster_model::{Instance, Memory, PriceRoom};
 use tree_pool::Pool;
 
 /// Puts in place of a tree, which is not counted, a cheapest one of its team.
+///
+/// # Errors
+///
+/// `Memory` where memory runs out; nothing is said of the draft then. The pricer and the room of prices are
+/// still those of the graph and of the instance, and the pool has its trees under their numbers, and perhaps
+/// further trees of the day.
 pub(crate) fn refill(
     instance: &Instance,
     graph: &Graph,
@@ -102,6 +108,12 @@ fn exchange(
 }
 
 /// Exchanges each tree from a place on once, in their order.
+///
+/// # Errors
+///
+/// `Memory` where memory runs out; nothing is said of the draft then. The pricer and the room of prices are
+/// still those of the graph and of the instance, and the pool has its trees under their numbers, and perhaps
+/// further trees of the day.
 pub(crate) fn exchange_from(
     instance: &Instance,
     graph: &Graph,

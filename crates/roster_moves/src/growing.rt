@@ -60,6 +60,12 @@ fn add_cheapest(
 }
 
 /// Adds a cheapest tree of the team that is to have one more employee; false where there is no such team.
+///
+/// # Errors
+///
+/// `Memory` where memory runs out; nothing is said of the draft then. The pricer and the room of prices are
+/// still those of the graph and of the instance, and the pool has its trees under their numbers, and perhaps
+/// further trees of the day.
 pub(crate) fn grow(
     instance: &Instance,
     graph: &Graph,
@@ -87,6 +93,12 @@ pub(crate) fn grow(
 
 /// Adds a cheapest tree of the team that is to have one more employee, where the node's prices are these,
 /// blended; false where there is no such team.
+///
+/// # Errors
+///
+/// `Memory` where memory runs out; nothing is said of the draft then. The pricer and the room of prices are
+/// still those of the graph and of the instance, and the pool has its trees under their numbers, and perhaps
+/// further trees of the day.
 pub(crate) fn grow_blended(
     instance: &Instance,
     graph: &Graph,
@@ -115,6 +127,12 @@ pub(crate) fn grow_blended(
 }
 
 /// Adds trees, each a cheapest one of the team that is to have one more employee, while there is such a team.
+///
+/// # Errors
+///
+/// `Memory` where memory runs out; nothing is said of the draft then. The pricer and the room of prices are
+/// still those of the graph and of the instance, and the pool has its trees under their numbers, and perhaps
+/// further trees of the day.
 pub(crate) fn fill_up(
     instance: &Instance,
     graph: &Graph,

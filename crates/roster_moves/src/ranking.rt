@@ -146,6 +146,10 @@ fn noise_of(mode: Mode, draws: &mut Draws) -> i64 {
 }
 
 /// Lists these trees of the pool by how late they go, the first ones first.
+///
+/// # Errors
+///
+/// `Memory` where memory runs out; nothing is said of the ranks then.
 pub(crate) fn list_ranks(
     cells: &[Cell],
     pool: &Pool,

@@ -120,6 +120,11 @@ fn write_tree(
 
 /// Returns the number of a tree of least sum of a team, which is added to the pool where it is not there;
 /// `None` where the team has none.
+///
+/// # Errors
+///
+/// `Memory` where memory runs out; the pool has its trees under their numbers then, and perhaps further trees
+/// of the day.
 pub(crate) fn least_column(
     instance: &Instance,
     graph: &Graph,

@@ -10,6 +10,7 @@ use std::process::ExitCode;
 /// Want of memory before the words are known.
 const MEMORY: u8 = 7;
 
+// Draws the certificate of the three texts that the words name; the exit status is that of `run`.
 fn main(rt: HostRuntime) -> ExitCode {
     let alloc = rt.alloc();
     let mut words = Vec::new(alloc);

@@ -46,6 +46,10 @@ fn empty_slots(alloc: Global) -> Result<Vec<StatedShift>, Memory>
 
 impl ShiftRoom {
     /// Returns a room that holds no shift. It takes all its memory here.
+    ///
+    /// # Errors
+    ///
+    /// `Memory` where memory runs out; nothing is kept then.
     pub fn new(alloc: Global) -> Result<ShiftRoom, Memory>
         ensures { IfOk result (λ r. r ≡ []) }
     {

@@ -29,6 +29,10 @@ impl Model for StatedShift {
 
 impl StatedShift {
     /// Returns a shift with an empty word. It takes all its memory here.
+    ///
+    /// # Errors
+    ///
+    /// `Memory` where memory runs out; nothing is kept then.
     pub(crate) fn new(alloc: Global) -> Result<StatedShift, Memory>
         ensures { IfOk result (λ s. s ≡ record { group = 0; word = []; price = 0 }) }
     {

@@ -27,6 +27,7 @@ impl From<Memory> for ReportFault {
 
     ghost from_gives = { λ _ fault. fault ≡ out_of_memory };
 
+    // Returns the fault of want of memory.
     fn from(_memory: Memory) -> ReportFault {
         ReportFault::Memory
     }

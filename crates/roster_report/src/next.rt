@@ -23,6 +23,11 @@ fn next_line<'a>(lines: &mut Lines<'a>) -> Result<Line<'a>, ReportFault>
 }
 
 /// Reads the first line of a report for these groups.
+///
+/// # Errors
+///
+/// `CutShort` at the end of the text; `BadByte` where the next line has one, and `BadLine` where it is none
+/// of this form, each with its number.
 pub(crate) fn header_line(lines: &mut Lines<'_>, groups: &[Group]) -> Result<(), ReportFault>
     ensures { Reads (λ _. (tt, lines.new)) result (line_next (header_said groups.now) lines.old) }
 {
@@ -36,6 +41,11 @@ pub(crate) fn header_line(lines: &mut Lines<'_>, groups: &[Group]) -> Result<(),
 }
 
 /// Reads the line that says how the search ended.
+///
+/// # Errors
+///
+/// `CutShort` at the end of the text; `BadByte` where the next line has one, and `BadLine` where it is none
+/// of this form, each with its number.
 pub(crate) fn done_line(lines: &mut Lines<'_>) -> Result<Done, ReportFault>
     ensures { Reads (λ done. (done, lines.new)) result (line_next done_said lines.old) }
 {
@@ -49,6 +59,11 @@ pub(crate) fn done_line(lines: &mut Lines<'_>) -> Result<Done, ReportFault>
 }
 
 /// Reads a line of this word and of a cost or a bound.
+///
+/// # Errors
+///
+/// `CutShort` at the end of the text; `BadByte` where the next line has one, and `BadLine` where it is none
+/// of this form, each with its number.
 pub(crate) fn amount_line(lines: &mut Lines<'_>, first: &[u8]) -> Result<Option<u64>, ReportFault>
     ensures { Reads (λ amount. (amount, lines.new)) result (line_next (amount_said first.now) lines.old) }
 {
@@ -62,6 +77,11 @@ pub(crate) fn amount_line(lines: &mut Lines<'_>, first: &[u8]) -> Result<Option<
 }
 
 /// Reads a line of this word and of a number that is no greater than `most`.
+///
+/// # Errors
+///
+/// `CutShort` at the end of the text; `BadByte` where the next line has one, and `BadLine` where it is none
+/// of this form, each with its number.
 pub(crate) fn number_line(
     lines: &mut Lines<'_>,
     most: u64,
@@ -93,6 +113,11 @@ fn shift(alloc: Global, group: u8, word: &[u8], price: u64) -> Result<Shift, Mem
 }
 
 /// Reads the line of a shift.
+///
+/// # Errors
+///
+/// `CutShort` at the end of the text; `BadByte` where the next line has one, and `BadLine` where it is none
+/// of this form, each with its number. `Memory` may come at any time.
 pub(crate) fn shift_line(
     alloc: Global,
     lines: &mut Lines<'_>,
@@ -114,6 +139,11 @@ pub(crate) fn shift_line(
 }
 
 /// Reads the line of this part of the cover of a code's cells, and gives the words of its numbers.
+///
+/// # Errors
+///
+/// `CutShort` at the end of the text; `BadByte` where the next line has one, and `BadLine` where it is none
+/// of this form, each with its number.
 pub(crate) fn part_line<'a>(
     lines: &mut Lines<'a>,
     part: Part,
@@ -132,6 +162,10 @@ pub(crate) fn part_line<'a>(
 }
 
 /// Sees that no line is left.
+///
+/// # Errors
+///
+/// `Trailing` with the number of the next line, or `BadByte` where it has one.
 pub(crate) fn last_line(lines: &mut Lines<'_>) -> Result<(), ReportFault>
     ensures { (r : Said) → Reads (λ _. r) result (ended r lines.old) }
 {

@@ -27,6 +27,7 @@ pub(crate) fn part_name(part: Part) -> &'static [u8]
     }
 }
 
+// Returns this number of a cell's cover.
 fn part_of(part: Part, cover: &Cover) -> u32
     ensures { result ≡ part_of part cover.now }
 {
@@ -39,6 +40,10 @@ fn part_of(part: Part, cover: &Cover) -> u32
 }
 
 /// Appends this number of each cell.
+///
+/// # Errors
+///
+/// `Memory` where memory runs out; a part may stand in `out` then.
 pub(crate) fn numbers(out: &mut List<u8>, part: Part, covers: &[Cover]) -> Result<(), Memory>
     ensures { OnOk result (out.new ≡ out.old ++ tail (parts_of part covers.now)) }
 {

@@ -228,10 +228,14 @@ fn report_lines(
     Ok(report)
 }
 
-/// Reads a report of an instance. Words may be separated by blanks of any kind, and lines may be
-/// empty and have comments. The lines are read in order, and the first that does not fit its place
-/// gives the fault, a bad byte of a line before all else. No sum and no order of the shifts is tested.
-/// `Memory` may come at any time.
+/// Reads a report of an instance. Words may be separated by blanks of any kind, and lines may be empty and
+/// have comments. The lines are read in order, and the first that does not fit its place gives the fault, a
+/// bad byte of a line before all else. No sum and no order of the shifts is tested.
+///
+/// # Errors
+///
+/// The fault of the first line that does not fit (`IsRefused`): `BadByte`, `BadLine` or `Trailing` with its
+/// number, or `CutShort` where further lines are due. `Memory` may come at any time.
 pub fn read_report(alloc: Global, instance: &Instance, text: &[u8]) -> Result<Report, ReportFault>
     requires sound { IsSoundInstance instance.now }
     requires short { length text.now < 2 ^ 32 }

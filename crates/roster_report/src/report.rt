@@ -96,6 +96,10 @@ fn add_roster(
 /// its numbers, and where there is a roster its shifts, what they cost, the penalties, and the cover
 /// of each cell. How the search ended, and how many nodes it processed and split without prices, are
 /// as they are given.
+///
+/// # Errors
+///
+/// `Memory` where memory runs out; nothing is kept then.
 pub fn report_of(
     alloc: Global,
     instance: &Instance,

@@ -67,6 +67,7 @@ pub(crate) fn number_said(most: u64, first: &[u8], line: &Line<'_>) -> Option<u6
     }
 }
 
+// Says whether the words are these two.
 fn is_pair(words: &mut Words<'_>, first: &[u8], second: &[u8]) -> bool
     ensures { result ≡ is_pair first.now second.now words.old }
 {
@@ -82,6 +83,7 @@ fn is_pair(words: &mut Words<'_>, first: &[u8], second: &[u8]) -> bool
     v == first && w == second
 }
 
+// Returns the version of a report, with groups and without.
 fn version(groups: &[Group]) -> &'static [u8]
     ensures { result.now ≡ version groups.now }
 {
@@ -97,6 +99,7 @@ pub(crate) fn is_header(groups: &[Group], line: &Line<'_>) -> bool
     is_pair(&mut words, b"report", version(groups))
 }
 
+// Returns how the search ended by a word, if it says that.
 #[tactic(auto, unfolding(crate::specs::LineWords::done_of))]
 fn done_of(word: &[u8]) -> Option<Done>
     ensures { result ≡ done_of word.now }
@@ -124,6 +127,7 @@ pub(crate) fn done_said(line: &Line<'_>) -> Option<Done>
     }
 }
 
+// Returns the cost or bound that a word says, if any.
 #[tactic(auto, unfolding(crate::specs::LineWords::amount_of))]
 fn amount_of(word: &[u8]) -> Option<Option<u64>>
     ensures { result ≡ amount_of word.now }
@@ -148,6 +152,7 @@ pub(crate) fn amount_said(first: &[u8], line: &Line<'_>) -> Option<Option<u64>>
     }
 }
 
+// Says whether the name of a group is the word.
 fn has_name(names: &[List<u8>], word: &[u8], group: &Group) -> bool
     ensures { result ≡ has_name names.now word.now group.now }
 {
@@ -157,6 +162,7 @@ fn has_name(names: &[List<u8>], word: &[u8], group: &Group) -> bool
     }
 }
 
+// Returns the place of the group whose name is the word, if there is one.
 fn group_place(names: &[List<u8>], groups: &[Group], word: &[u8]) -> Option<usize>
     ensures place { result ≡ position (has_name names.now word.now) groups.now }
     ensures within { IfSome result (λ i. i < length groups.now) }
@@ -164,6 +170,7 @@ fn group_place(names: &[List<u8>], groups: &[Group], word: &[u8]) -> Option<usiz
     groups.iter().position(|group| has_name(names, word, group))
 }
 
+// Returns the number of the group whose name is the word, from 1, if there is one.
 #[tactic(auto, unfolding(crate::specs::LineWords::group_of))]
 fn group_of(names: &[List<u8>], groups: &[Group], word: &[u8]) -> Option<u8>
     requires { length groups.now ≤ 8 }
@@ -183,6 +190,7 @@ pub(crate) struct ShiftWords<'a> {
     pub price: u64,
 }
 
+// Returns what the words of a shift's line say, if the word is not too long and the price is a number.
 #[tactic(auto, unfolding(crate::specs::LineWords::letters_of))]
 fn letters_of<'a>(group: u8, word: &'a [u8], price: &[u8]) -> Option<ShiftWords<'a>>
     ensures { MatchOption result (letters_of group word.now price.now ≡ None)
@@ -198,6 +206,7 @@ fn letters_of<'a>(group: u8, word: &'a [u8], price: &[u8]) -> Option<ShiftWords<
     }
 }
 
+// Returns what the line of a shift says on a day without groups, if it is one.
 #[tactic(auto, unfolding(crate::specs::LineWords::plain_said))]
 fn plain_said<'a>(line: &Line<'a>) -> Option<ShiftWords<'a>>
     ensures { MatchOption result (plain_said line.now.words ≡ None)
@@ -223,6 +232,7 @@ fn plain_said<'a>(line: &Line<'a>) -> Option<ShiftWords<'a>>
     letters_of(0, word, price)
 }
 
+// Returns what the line of a shift says on a day with groups, if it is one.
 #[tactic(auto, unfolding(crate::specs::LineWords::named_said))]
 fn named_said<'a>(names: &[List<u8>], groups: &[Group], line: &Line<'a>) -> Option<ShiftWords<'a>>
     requires { length groups.now ≤ 8 }
@@ -273,6 +283,7 @@ pub(crate) fn shift_said<'a>(
     }
 }
 
+// Says whether a word is a count.
 fn is_count(word: &[u8]) -> bool
     ensures { result ≡ is_count word.now }
 {
@@ -291,6 +302,7 @@ fn are_counts(words: &mut Words<'_>) -> bool
     true
 }
 
+// Says whether there are as many words as periods.
 fn has_length(words: &Words<'_>, periods: u8) -> bool
     ensures { result ≡ (length words.now == periods) }
 {

@@ -19,7 +19,11 @@ fn add_shift(alloc: Global, out: &mut List<Shift>, shift: &Shift) -> Result<(), 
     })
 }
 
-/// Appends copies of shifts. After want of memory a part may stand there.
+/// Appends copies of shifts.
+///
+/// # Errors
+///
+/// `Memory` where memory runs out; a part may stand there then.
 pub(crate) fn add_shifts(
     alloc: Global,
     out: &mut List<Shift>,

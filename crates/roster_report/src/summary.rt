@@ -48,8 +48,11 @@ fn search_lines(out: &mut List<u8>, summary: &Summary) -> Result<(), Memory>
     number_line(out, b"failed", summary.failed as u64)
 }
 
-/// Writes the text of a summary, with one space between words and no comment. After want of memory
-/// there is no text.
+/// Writes the text of a summary, with one space between words and no comment.
+///
+/// # Errors
+///
+/// `Memory` where memory runs out; there is no text then.
 pub fn write_summary(alloc: Global, summary: &Summary) -> Result<List<u8>, Memory>
     ensures { IfOk result (λ text. text ≡ summary_text summary.now) }
 {

@@ -33,6 +33,7 @@ pub fn header_line(out: &mut List<u8>, groups: &[Group]) -> Result<(), Memory>
     out.push(b'\n')
 }
 
+// Returns the word for how a search ended.
 fn done_word(done: Done) -> &'static [u8]
     ensures { result.now ≡ done_word done }
 {
@@ -44,6 +45,10 @@ fn done_word(done: Done) -> &'static [u8]
 }
 
 /// Writes the line that says how a search ended.
+///
+/// # Errors
+///
+/// `Memory` where memory runs out; a part may stand in `out` then.
 pub(crate) fn result_line(out: &mut List<u8>, done: Done) -> Result<(), Memory>
     ensures { OnOk result (out.new ≡ out.old ++ written (result_line done ∷ [])) }
 {
@@ -100,8 +105,11 @@ fn cost_lines(out: &mut List<u8>, instance: &Instance, report: &Report) -> Resul
     }
 }
 
-/// Writes the text of a report, with one space between words and no comment. After want of memory
-/// there is no text.
+/// Writes the text of a report, with one space between words and no comment.
+///
+/// # Errors
+///
+/// `Memory` where memory runs out; there is no text then.
 pub fn write_report(alloc: Global, instance: &Instance, report: &Report) -> Result<List<u8>, Memory>
     requires sound { IsSoundInstance instance.now }
     requires report { IsWritable instance.now report.now }

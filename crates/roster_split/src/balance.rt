@@ -18,7 +18,11 @@ pub fn sum_at(places: &[u32], counts: &[u32]) -> u64
     sum
 }
 
-// Fails at the first node other than the root that is made and used by different sums of counts.
+/// Fails at the first node other than the root that is made and used by different sums of counts.
+///
+/// # Errors
+///
+/// `Unbalanced` with the first such node and its two sums.
 pub fn check_balance(graph: &Graph, counts: &[u32]) -> Result<(), SplitFault>
     requires { HasCounts graph.now counts.now }
     ensures { (has : HasCounts graph.now counts.now) → MatchResult result

@@ -15,6 +15,7 @@ impl From<Memory> for SplitFault {
 
     ghost from_gives = { λ _ fault. fault ≡ out_of_memory };
 
+    // Returns the fault of want of memory.
     fn from(_memory: Memory) -> SplitFault {
         SplitFault::Memory
     }

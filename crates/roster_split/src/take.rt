@@ -59,8 +59,12 @@ fn push_kid(stack: &mut Vec<u32>, kid: Kid) -> Result<(), Memory>
     Ok(())
 }
 
-// Takes a tree of the day from what is left, and returns its rule uses in preorder. The stack is for
-// the nodes that are open, whatever it holds before.
+/// Takes a tree of the day from what is left, and returns its rule uses in preorder. The stack is for
+/// the nodes that are open, whatever it holds before.
+///
+/// # Errors
+///
+/// `Memory` where memory runs out; nothing is said of what is left then.
 pub fn take_tree(
     alloc: Global,
     graph: &Graph,

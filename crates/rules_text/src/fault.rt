@@ -18,6 +18,7 @@ pub enum Limit {
 }
 
 impl fmt::Display for Limit {
+    // Writes what there is too much of.
     fn fmt<W: fmt::Write>(&self, f: &mut fmt::Formatter<W>) -> fmt::Result {
         f.write_str(match self {
             Limit::Codes => "codes",
@@ -85,6 +86,7 @@ impl From<Memory> for RulesFault {
 
     ghost from_gives = { λ _ fault. fault ≡ out_of_memory };
 
+    // Returns the fault of want of memory.
     fn from(_memory: Memory) -> RulesFault {
         RulesFault::Memory
     }

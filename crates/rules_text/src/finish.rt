@@ -11,6 +11,7 @@ use crate::rules::Rules;
 use roster_model::{Grammar, Rule, unit_ranks};
 use std::alloc::Global;
 
+// Says whether some rule makes the name.
 fn has_rule(rules: &[Rule], name: usize) -> bool
     ensures { result ≡ has_rule rules.now name }
 {
@@ -71,6 +72,11 @@ fn parsed(alloc: Global, draft: Draft, periods: u8, start: u8) -> Result<Parsed,
 }
 
 /// Makes the grammar of all lines.
+///
+/// # Errors
+///
+/// The fault that `finish` says of the lines, the first of: no `periods` line, no `start` line, a name with
+/// no rule. `Memory` may come at any time.
 pub fn finish(alloc: Global, draft: Draft) -> Result<Parsed, RulesFault>
     ensures { Reads (λ p. p) result (finish draft) }
 {
@@ -81,6 +87,10 @@ pub fn finish(alloc: Global, draft: Draft) -> Result<Parsed, RulesFault>
 }
 
 /// Refuses a grammar whose one-symbol rules lead from a name back to it.
+///
+/// # Errors
+///
+/// `UnitCycle` with the place of the first name on such a cycle.
 pub fn without_cycle(parsed: Parsed) -> Result<Grammar, RulesFault>
     requires { IsParsed parsed }
     ensures value { IsValue parsed result }

@@ -6,6 +6,7 @@ use roster_model::{List, Memory};
 use std::alloc::Global;
 use text_lines::{put, put_place, write_number};
 
+// Returns the line that a fault carries, if any.
 fn line_of(fault: &RulesFault) -> Option<u32>
     ensures { result ≡ line_of fault.now }
 {
@@ -27,6 +28,7 @@ fn line_of(fault: &RulesFault) -> Option<u32>
     }
 }
 
+// Appends the word for what there is too much of.
 #[tactic(auto, unfolding(crate::specs::FaultLine::limit_text))]
 fn put_limit(out: &mut List<u8>, what: Limit) -> Result<(), Memory>
     ensures { OnOk result (out.new ≡ out.old ++ limit_text what) }
@@ -87,8 +89,12 @@ fn put_line(out: &mut List<u8>, fault: &RulesFault) -> Result<(), Memory>
     out.push(b'\n')
 }
 
-/// Returns the line that tells a fault, as `rules: line 3: empty right side` with a line feed. A
-/// fault that carries no line has none in the text either. After want of memory there is no line.
+/// Returns the line that tells a fault, as `rules: line 3: empty right side` with a line feed. A fault that
+/// carries no line has none in the text either.
+///
+/// # Errors
+///
+/// `Memory` where memory runs out; there is no line then.
 pub fn fault_line(alloc: Global, fault: &RulesFault) -> Result<List<u8>, Memory>
     ensures { IfOk result (λ text. text ≡ fault_line fault.now) }
 {

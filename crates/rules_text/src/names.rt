@@ -37,6 +37,7 @@ impl Model for Names {
     ghost invariant = { λ n. length n.set.keys ≤ 32 };
 }
 
+// Returns the number of a name, if it was read before.
 fn place_of(names: &IndexSet<Vec<u8>>, name: &[u8]) -> Option<usize>
     ensures place { MatchOption result (has_name (texts names.now.keys) name.now ≡ false)
         (λ k. (has_name (texts names.now.keys) name.now ≡ true)
@@ -105,6 +106,10 @@ impl Names {
     }
 
     /// Returns the names in order, and the places of their first appearance.
+    ///
+    /// # Errors
+    ///
+    /// `Memory` where memory runs out; nothing is kept then.
     pub fn into_lists(self, alloc: Global) -> Result<(List<List<u8>>, List<Place>), Memory>
         ensures { IfOk result (λ lists. (lists.0 ≡ self.texts) × (lists.1 ≡ self.places)) }
     {
@@ -114,6 +119,11 @@ impl Names {
     }
 
     /// Reads a name at a place, and gives its number.
+    ///
+    /// # Errors
+    ///
+    /// `BadName` where the word is no name, and `TooMany` past 32 names, each with the line; `Memory` where
+    /// memory runs out. Nothing is said of the names then.
     #[tactic(auto, unfolding(crate::specs::Names::name_at))]
     pub fn read(&mut self, alloc: Global, at: Place, word: &[u8]) -> Result<u8, RulesFault>
         ensures value { Reads (λ number. (self.new, number)) result (name_at at self.old word.now) }

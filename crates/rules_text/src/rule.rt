@@ -99,6 +99,7 @@ fn rule_of(
     Ok(())
 }
 
+// Returns the window that was written, or that of all lengths and periods.
 fn whole(window: Option<Window>) -> Window
     ensures { result ≡ whole window }
 {
@@ -106,6 +107,11 @@ fn whole(window: Option<Window>) -> Window
 }
 
 /// Reads a rule line, behind its first word.
+///
+/// # Errors
+///
+/// The line's first fault, as `rule_at` says it, with the line's number. `Memory` may come at any time.
+/// Nothing is said of the rules then.
 #[tactic(auto, unfolding(crate::specs::RuleLine::rule_at))]
 pub fn rule(
     alloc: Global,

@@ -9,6 +9,7 @@ use roster_model::{CodeDef, Grammar, List, Memory, Rule, Sym, Window};
 use std::alloc::Global;
 use text_lines::{field, put, word};
 
+// Appends a name.
 fn name(out: &mut List<u8>, names: &[List<u8>], number: u8) -> Result<(), Memory>
     requires { number < length names.now }
     ensures { OnOk result (out.new ≡ out.old ++ tail (name_of names.now number ∷ [])) }
@@ -16,6 +17,7 @@ fn name(out: &mut List<u8>, names: &[List<u8>], number: u8) -> Result<(), Memory
     word(out, names[number as usize].as_slice())
 }
 
+// Appends a symbol, a code between quotes.
 fn symbol(
     out: &mut List<u8>,
     codes: &[CodeDef],
@@ -34,6 +36,7 @@ fn symbol(
     }
 }
 
+// Appends a window behind its word, if it is not that of all numbers.
 fn window(out: &mut List<u8>, name: &[u8], window: Window) -> Result<(), Memory>
     ensures { OnOk result (out.new ≡ out.old ++ tail (window_words name.now window)) }
 {
@@ -45,6 +48,7 @@ fn window(out: &mut List<u8>, name: &[u8], window: Window) -> Result<(), Memory>
     field(out, window.hi as u64)
 }
 
+// Appends the symbols of a right side.
 fn symbols(
     out: &mut List<u8>,
     codes: &[CodeDef],
@@ -60,6 +64,7 @@ fn symbols(
     Ok(())
 }
 
+// Appends the line of the periods.
 fn periods_line(out: &mut List<u8>, periods: u8) -> Result<(), Memory>
     ensures { OnOk result (out.new ≡ out.old ++ written (periods_line periods ∷ [])) }
 {
@@ -68,6 +73,7 @@ fn periods_line(out: &mut List<u8>, periods: u8) -> Result<(), Memory>
     out.push(b'\n')
 }
 
+// Appends the line of a code.
 fn code_line(out: &mut List<u8>, code: CodeDef) -> Result<(), Memory>
     ensures { OnOk result (out.new ≡ out.old ++ written (code_line code ∷ [])) }
 {
@@ -82,6 +88,7 @@ fn code_line(out: &mut List<u8>, code: CodeDef) -> Result<(), Memory>
     }
 }
 
+// Appends a line for each code.
 fn code_lines(out: &mut List<u8>, codes: &[CodeDef]) -> Result<(), Memory>
     ensures { OnOk result (out.new ≡ out.old ++ written (map code_line codes.now)) }
 {
@@ -91,6 +98,7 @@ fn code_lines(out: &mut List<u8>, codes: &[CodeDef]) -> Result<(), Memory>
     Ok(())
 }
 
+// Appends the line of the start.
 fn start_line(out: &mut List<u8>, names: &[List<u8>], start: u8) -> Result<(), Memory>
     requires { start < length names.now }
     ensures { OnOk result (out.new ≡ out.old ++ written (start_line (name_of names.now start) ∷ [])) }
@@ -100,6 +108,7 @@ fn start_line(out: &mut List<u8>, names: &[List<u8>], start: u8) -> Result<(), M
     out.push(b'\n')
 }
 
+// Appends the line of a rule.
 fn rule_line(
     out: &mut List<u8>,
     codes: &[CodeDef],
@@ -120,6 +129,7 @@ fn rule_line(
     out.push(b'\n')
 }
 
+// Appends a line for each rule.
 fn rule_lines(
     out: &mut List<u8>,
     codes: &[CodeDef],
@@ -135,9 +145,12 @@ fn rule_lines(
     Ok(())
 }
 
-/// Writes the text of a sound grammar with at most 32 names and 64 rules: the periods, a line for
-/// each code, the start, and the rules with those windows that are not 1 to 96, each in order. After
-/// want of memory there is no text.
+/// Writes the text of a sound grammar with at most 32 names and 64 rules: the periods, a line for each code,
+/// the start, and the rules with those windows that are not 1 to 96, each in order.
+///
+/// # Errors
+///
+/// `Memory` where memory runs out; there is no text then.
 pub fn write_rules(alloc: Global, grammar: &Grammar) -> Result<List<u8>, Memory>
     requires sound { IsSound grammar.now }
     requires plain { IsPlain grammar.now }

@@ -127,6 +127,10 @@ pub const GROUP_PARTS: DayParts<'static> = DayParts {
 
 /// Returns a cell of the letter `a` for each of so many periods, at 10 for each employee that is missing. The
 /// odd periods need two employees, and the even ones one.
+///
+/// # Errors
+///
+/// `Memory` where memory runs out; nothing is kept then.
 pub fn long_cells(alloc: Global, periods: u8) -> Result<List<Cell>, Memory> {
     let mut cells = List::new(alloc);
     for place in 0..periods {
@@ -156,6 +160,10 @@ pub fn day_of_many_trees<'a>(cells: &'a [Cell]) -> DayParts<'a> {
 }
 
 /// Returns a sample day, which is sound.
+///
+/// # Errors
+///
+/// The test fails where memory runs out, or where the day is not sound.
 pub fn sound_day(alloc: Global, parts: &DayParts) -> Result<Instance, Fail>
     ensures { IfOk result IsSoundInstance }
 {

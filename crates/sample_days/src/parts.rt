@@ -30,6 +30,7 @@ pub struct DayParts<'a> {
     pub cells: &'a [Cell],
 }
 
+// Returns the codes of all sample days: `a` for work, and a full stop for rest.
 fn codes(alloc: Global) -> Result<List<CodeDef>, Memory>
     ensures { IfOk result (λ l. l ≡ two_codes) }
 {
@@ -46,6 +47,7 @@ fn codes(alloc: Global) -> Result<List<CodeDef>, Memory>
     list(alloc, &codes)
 }
 
+// Returns a list of these items.
 fn list<T: Copy>(alloc: Global, items: &[T]) -> Result<List<T>, Memory>
     ensures { IfOk result (λ l. l ≡ items.now) }
 {
@@ -55,6 +57,7 @@ fn list<T: Copy>(alloc: Global, items: &[T]) -> Result<List<T>, Memory>
     }
 }
 
+// Returns a list of these names.
 fn texts(alloc: Global, names: &[&str]) -> Result<List<List<u8>>, Memory>
     ensures { IfOk result (λ l. l ≡ map (λ n. n.now) names.now) }
 {
@@ -65,6 +68,7 @@ fn texts(alloc: Global, names: &[&str]) -> Result<List<List<u8>>, Memory>
     Ok(texts)
 }
 
+// Returns the rules of these parts.
 fn rules(alloc: Global, parts: &[RuleParts]) -> Result<List<Rule>, Memory>
     ensures { IfOk result (λ l. l ≡ map rule_of parts.now) }
 {
@@ -83,6 +87,10 @@ fn rules(alloc: Global, parts: &[RuleParts]) -> Result<List<Rule>, Memory>
 }
 
 /// Returns the grammar of a sample day.
+///
+/// # Errors
+///
+/// `Memory` where memory runs out; nothing is kept then.
 pub fn grammar(
     alloc: Global,
     periods: u8,
@@ -103,6 +111,10 @@ pub fn grammar(
 }
 
 /// Returns a sample day.
+///
+/// # Errors
+///
+/// `Memory` where memory runs out; nothing is kept then.
 pub fn day(alloc: Global, parts: &DayParts) -> Result<Instance, Memory>
     ensures { IfOk result (λ i. i ≡ day_of parts.now) }
 {

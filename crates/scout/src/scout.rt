@@ -36,6 +36,10 @@ impl Scout {
     /// and `beyond` that of its column of entry -1, where it has one.
     ///
     /// It has no basis before a start.
+    ///
+    /// # Errors
+    ///
+    /// `Memory` where memory runs out; nothing is kept then.
     pub fn new(
         alloc: Global,
         right: &[i64],
@@ -66,7 +70,12 @@ impl Scout {
         self.count
     }
 
-    /// Lists a column without entries, and returns its number. Beyond 1,048,576 columns none is listed.
+    /// Lists a column without entries, and returns its number. At most 1,048,576 columns are listed.
+    ///
+    /// # Errors
+    ///
+    /// `Memory` where memory runs out, or so many are listed already; rows and listed columns are as many as
+    /// before then.
     pub fn add_column(&mut self, cost: i64) -> Result<usize, Memory>
         ensures rows { row_count self.new ≡ row_count self.old }
         ensures number { IfOk result (λ number. number ≡ listed_count self.old) }
@@ -83,6 +92,10 @@ impl Scout {
     }
 
     /// Adds an entry to the column that was listed last, in a row behind those of its other entries.
+    ///
+    /// # Errors
+    ///
+    /// `Memory` where memory runs out; rows and listed columns are as many as before then.
     pub fn add_entry(&mut self, row: u32, sign: Sign) -> Result<(), Memory>
         ensures { SameSizes self.old self.new }
     {
@@ -98,6 +111,10 @@ impl Scout {
 
     /// Starts from a basis with these columns, as far as they are listed and independent; in the rows that
     /// are left it has the columns of entry 1. Takes no memory.
+    ///
+    /// # Errors
+    ///
+    /// `Grown` where a number is beyond its bound; rows and listed columns are as many as before then.
     pub fn start(&mut self, keys: &[Key]) -> Result<(), Grown>
         ensures { SameSizes self.old self.new }
     {
@@ -106,6 +123,10 @@ impl Scout {
 
     /// Starts from the columns of entry -1, and in rows without one of those of entry 1: no column has
     /// a negative reduced cost there unless its own cost is negative. Takes no memory.
+    ///
+    /// # Errors
+    ///
+    /// `Grown` where a number is beyond its bound; rows and listed columns are as many as before then.
     pub fn start_beyond(&mut self) -> Result<(), Grown>
         ensures { SameSizes self.old self.new }
     {
@@ -114,6 +135,10 @@ impl Scout {
 
     /// Starts from the columns of entry 1, and in rows of a negative right side of those of entry -1: no
     /// value is negative there. Takes no memory.
+    ///
+    /// # Errors
+    ///
+    /// `Grown` where a number is beyond its bound; rows and listed columns are as many as before then.
     pub fn start_missing(&mut self) -> Result<(), Grown>
         ensures { SameSizes self.old self.new }
     {
@@ -277,6 +302,10 @@ impl Scout {
 
     /// Becomes a copy of another program with as many rows. Takes memory only where the other has more
     /// columns or entries than this one ever had.
+    ///
+    /// # Errors
+    ///
+    /// `Memory` where memory runs out; rows are as many as before then.
     pub fn copy_from(&mut self, other: &Scout) -> Result<(), Memory>
         requires { row_count self.old ≡ row_count other.now }
         ensures rows { row_count self.new ≡ row_count self.old }
@@ -291,6 +320,10 @@ impl Scout {
     /// this one, and the flagged listed columns have an entry 1 in it. A basis of the other with the new
     /// row's slack, or its column of entry -1 where the other one is dear, is the basis: its reduced costs
     /// stay. Takes memory as `copy_from` does.
+    ///
+    /// # Errors
+    ///
+    /// `Memory` where memory runs out; rows are as many as before then.
     pub fn copy_with_row(
         &mut self,
         other: &Scout,

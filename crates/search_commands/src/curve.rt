@@ -222,6 +222,7 @@ fn is_closed(point: &CurvePoint) -> bool
     }
 }
 
+// Says whether a point has no cost.
 fn has_no_cost(point: &CurvePoint) -> bool
     ensures { result ≡ has_no_cost point.now }
 {

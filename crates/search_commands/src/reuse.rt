@@ -81,6 +81,7 @@ impl Question for OldNodes {
 
     ghost ends = { λ _. proof-ends Reusing reused-ends };
 
+    // Says what the nodes of the certificate of a proof text show.
     fn answer(&self, alloc: Global, instance: &Instance, text: &[u8]) -> Result<Answer, Memory> {
         reusing(alloc, instance, text)
     }

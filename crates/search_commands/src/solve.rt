@@ -59,6 +59,10 @@ fn arcs_line(alloc: Global, count: u64) -> Result<List<u8>, Memory>
 }
 
 /// Says that an instance has too many arcs.
+///
+/// # Errors
+///
+/// `Memory` where memory runs out, or where that is the fault; there is no answer then.
 pub fn graph_refusal(alloc: Global, fault: GraphFault) -> Result<Answer, Memory>
     ensures { IfOk result (λ a. (a.status ≡ 9) × ((g : Grammar) → IsRefused g fault
         → SaysTooManyArcs g a.output)) }

@@ -27,6 +27,11 @@ pub trait Master {
     /// Prices the node at a path of cuts, base cuts first, or gives it up; a refused node is counted once.
     /// Trees of the pool that are `wanted` may steer it, the most wanted first: any list of numbers is
     /// lawful.
+    ///
+    /// # Errors
+    ///
+    /// `Memory` where memory runs out; the count of refusals stays as it is then. The pricer is still one for
+    /// the graph, and the pool has its trees under their numbers, and perhaps further trees of the day.
     fn node(
         &mut self,
         alloc: Global,

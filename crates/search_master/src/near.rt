@@ -41,6 +41,7 @@ impl Master for NearMaster {
 
     ghost strict = { λ m. true };
 
+    /// Asks the plain master, which goes for near prices first.
     fn node(
         &mut self,
         alloc: Global,

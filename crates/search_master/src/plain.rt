@@ -178,6 +178,7 @@ impl Master for PlainMaster {
 
     ghost strict = { λ m. true };
 
+    /// Solves a node's program, and counts where it is given up.
     fn node(
         &mut self,
         alloc: Global,

@@ -18,6 +18,10 @@ fn split_node(node: Node, arc: ArcKey, b: u32) -> Node
 }
 
 /// Adds the seat of a half that is not processed.
+///
+/// # Errors
+///
+/// `Memory` where memory runs out; nothing is said of the seats then.
 pub fn push_half(seats: &mut Vec<Seat>, parent: u32, above: u64, cut: Cut) -> Result<(), Memory>
     ensures { OnOk result (seats.new.items ≡ seats.old.items ++ half_seat parent above cut ∷ []) }
 {
@@ -36,6 +40,10 @@ pub fn push_half(seats: &mut Vec<Seat>, parent: u32, above: u64, cut: Cut) -> Re
 
 /// Splits a leaf into two halves that are not processed, below prices that show at most `above`. Returns
 /// the number of the Low half.
+///
+/// # Errors
+///
+/// `Memory` where memory runs out; nothing is said of the seats then.
 pub fn split_leaf(
     seats: &mut Vec<Seat>,
     number: u32,

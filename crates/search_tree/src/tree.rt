@@ -65,6 +65,10 @@ impl Model for SearchTree {
 
 impl SearchTree {
     /// Returns a tree of one leaf that is not processed.
+    ///
+    /// # Errors
+    ///
+    /// `Memory` where memory runs out; nothing is kept then.
     pub fn new(alloc: Global) -> Result<SearchTree, Memory>
         ensures tree { IfOk result (λ w. (s : Site) (limit now : ℕ) → s.before ≤ now
             → (t : Grown) × IsTree s limit now 0 [] w t) }
@@ -135,6 +139,10 @@ impl SearchTree {
 
     /// Splits the leaf in hand, which has prices, where its plan says, on the arc of this number. Returns
     /// the half that is to be processed; the other waits.
+    ///
+    /// # Errors
+    ///
+    /// `Memory` where memory runs out; nothing is said of the tree then.
     pub fn split(&mut self, leaf: OpenLeaf, plan: Plan, arc: ArcKey) -> Result<OpenLeaf, Memory>
         requires { AsksSplit self.old leaf plan arc }
         ensures { IfOk result (λ half. (asked : AsksSplit self.old leaf plan arc)
@@ -157,6 +165,10 @@ impl SearchTree {
     }
 
     /// Gives the leaf in hand its prices and what they show, and lets it wait.
+    ///
+    /// # Errors
+    ///
+    /// `Memory` where memory runs out; nothing is said of the tree then.
     pub fn price(
         &mut self,
         leaf: OpenLeaf,
@@ -187,6 +199,10 @@ impl SearchTree {
     }
 
     /// Splits the leaf in hand without prices, on an arc at a number; both halves wait.
+    ///
+    /// # Errors
+    ///
+    /// `Memory` where memory runs out; nothing is said of the tree then.
     pub fn fail(&mut self, leaf: OpenLeaf, arc: ArcKey, b: u32) -> Result<(), Memory>
         requires { (later : ℕ) × AsksFailed self.old leaf arc b later }
         ensures { OnOk result ((later : ℕ) → (asked : AsksFailed self.old leaf arc b later)
@@ -201,6 +217,10 @@ impl SearchTree {
     }
 
     /// Returns the nodes of the tree in preorder.
+    ///
+    /// # Errors
+    ///
+    /// `Memory` where memory runs out; nothing is kept then.
     pub fn into_nodes(self, alloc: Global) -> Result<List<Node>, Memory>
         requires few { length self.seats < 4294967295 }
         requires tree { (t : Grown) × HoldTree self.seats t }

@@ -112,6 +112,7 @@ impl<R: Clock + Eprint + Drop> Watch for ClockWatch<R> {
 
     ghost patient = { λ w. is_none w.seconds };
 
+    /// Begins with a search: nothing of it was noted yet, and its seconds count from now.
     fn begin(&mut self, subject: Subject, seconds: Option<u32>) {
         self.subject = subject;
         self.seconds = seconds;
@@ -122,6 +123,8 @@ impl<R: Clock + Eprint + Drop> Watch for ClockWatch<R> {
         };
     }
 
+    /// Notes how far the search is, if the last note is long ago, and says whether its seconds have not
+    /// passed.
     fn goes_on(&mut self, standing: &Standing) -> bool {
         let Some(passed) = self.passed() else {
             return self.seconds.is_none();

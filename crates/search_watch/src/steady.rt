@@ -10,8 +10,10 @@ impl Watch for SteadyWatch {
 
     ghost patient = { λ _. true };
 
+    /// Begins with a search.
     fn begin(&mut self, _subject: Subject, _seconds: Option<u32>) {}
 
+    /// Says that each search goes on.
     fn goes_on(&mut self, _standing: &Standing) -> bool {
         true
     }

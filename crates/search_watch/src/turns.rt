@@ -19,10 +19,12 @@ impl Watch for TurnWatch {
 
     ghost patient = { λ w. is_none w.seconds };
 
+    /// Begins with a search.
     fn begin(&mut self, _subject: Subject, seconds: Option<u32>) {
         self.seconds = seconds;
     }
 
+    /// Says whether so many turns are not yet taken.
     fn goes_on(&mut self, standing: &Standing) -> bool {
         self.seconds.is_none_or(|seconds| standing.turn < seconds)
     }

@@ -236,6 +236,7 @@ impl<R: Files + Print + Eprint + AllocGlobal + Drop> Shelf for DiskShelf<R> {
 
     ghost tells = { λ _ steady. Prim.search rules };
 
+    // Opens the file, and reads what it holds.
     fn fetch(&mut self, name: &str, into: &mut Vec<u8>) -> Result<(), ShelfFault>
         ensures begins { Begins into.old.items into.new.items }
         ensures limit { length into.new.items ≤ length into.old.items + read_limit }
@@ -268,6 +269,7 @@ impl<R: Files + Print + Eprint + AllocGlobal + Drop> Shelf for DiskShelf<R> {
         self.counted(outcome)
     }
 
+    // Writes the bytes to standard output.
     fn say(&mut self, bytes: &[u8]) -> Result<(), ShelfFault>
         ensures counted { self.new ≡ count_after result self.old }
         ensures cause { HasCause self.old self.new result }
@@ -277,6 +279,7 @@ impl<R: Files + Print + Eprint + AllocGlobal + Drop> Shelf for DiskShelf<R> {
         self.counted(outcome)
     }
 
+    // Writes the text to standard error.
     fn note(&mut self, text: &str)
         ensures { self.new ≡ self.old }
     {

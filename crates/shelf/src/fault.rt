@@ -15,6 +15,7 @@ impl From<AllocError> for ShelfFault {
 
     ghost from_gives = { λ _ e. e ≡ Memory };
 
+    // Returns the fault of want of memory.
     fn from(_error: AllocError) -> ShelfFault {
         ShelfFault::Memory
     }

@@ -9,6 +9,7 @@ pub(crate) struct Heard<'a, F> {
 }
 
 impl<'a, F> Heard<'a, F> {
+    /// Returns the stream, of which no call was refused yet.
     pub(crate) fn new(stream: &'a mut F) -> Heard<'a, F> {
         Heard {
             stream,
@@ -23,6 +24,7 @@ impl<'a, F> Heard<'a, F> {
 }
 
 impl<F: Read> Read for Heard<'_, F> {
+    // Reads from the stream, and remembers why it refuses.
     fn read(&mut self, buffer: &mut [u8]) -> io::Result<usize> {
         match self.stream.read(buffer) {
             Ok(count) => Ok(count),
@@ -35,6 +37,7 @@ impl<F: Read> Read for Heard<'_, F> {
 }
 
 impl<F: Write> Write for Heard<'_, F> {
+    // Writes to the stream, and remembers why it refuses.
     fn write(&mut self, bytes: &[u8]) -> io::Result<usize> {
         match self.stream.write(bytes) {
             Ok(count) => Ok(count),
@@ -45,6 +48,7 @@ impl<F: Write> Write for Heard<'_, F> {
         }
     }
 
+    // Flushes the stream.
     fn flush(&mut self) -> io::Result<()> {
         self.stream.flush()
     }

@@ -64,7 +64,11 @@ impl MemoryShelf {
         }
     }
 
-    /// Makes the name hold the bytes. Memory alone can refuse it, and it counts as no call.
+    /// Makes the name hold the bytes. It counts as no call.
+    ///
+    /// # Errors
+    ///
+    /// `Memory` where memory runs out; the shelf is as before then.
     pub fn put(&mut self, name: &str, bytes: &[u8]) -> Result<(), Memory>
         ensures ok { OnOk result (self.new ≡ record self.old {
           held = fin.insert self.old.held name.now bytes.now;
@@ -154,6 +158,7 @@ impl Shelf for MemoryShelf {
 
     ghost tells = { λ _ _. (refl, refl) };
 
+    // Appends the bytes under the name, or refuses the call where it is to fail.
     fn fetch(&mut self, name: &str, into: &mut Vec<u8>) -> Result<(), ShelfFault>
         ensures ok { OnOk result ((next_fails self.old ≡ false) × (self.new ≡ called self.old)
             × Fetched self.old.held name.now into.old.items into.new.items) }
@@ -194,6 +199,7 @@ impl Shelf for MemoryShelf {
         }
     }
 
+    // Makes the name hold the bytes, or refuses the call where it is to fail.
     fn store(&mut self, name: &str, bytes: &[u8]) -> Result<(), ShelfFault>
         ensures ok { OnOk result ((next_fails self.old ≡ false) × IsTrue (may_store self.old.held name.now)
             × (self.new ≡ record (called self.old) {
@@ -221,6 +227,7 @@ impl Shelf for MemoryShelf {
         }
     }
 
+    // Appends the bytes to what was said; a call that is to fail says the front half, and is refused.
     fn say(&mut self, bytes: &[u8]) -> Result<(), ShelfFault>
         ensures ok { OnOk result ((next_fails self.old ≡ false)
             × (self.new ≡ record (called self.old) { said = self.old.said ++ bytes.now })) }
@@ -244,6 +251,7 @@ impl Shelf for MemoryShelf {
         self.shelf.say(bytes)
     }
 
+    // Keeps the note, where there is memory for it.
     fn note(&mut self, text: &str)
         ensures { self.new ≡ self.old }
     {

@@ -46,7 +46,11 @@ impl QuietShelf {
         }
     }
 
-    /// Makes the name hold the bytes. Memory alone can refuse it.
+    /// Makes the name hold the bytes.
+    ///
+    /// # Errors
+    ///
+    /// `Memory` where memory runs out; the shelf is as before then.
     pub fn put(&mut self, name: &str, bytes: &[u8]) -> Result<(), Memory>
         ensures ok { OnOk result (self.new ≡ record self.old {
           held = fin.insert self.old.held name.now bytes.now;
@@ -99,6 +103,7 @@ impl Shelf for QuietShelf {
 
     ghost tells = { λ _ _. (refl, refl) };
 
+    // Appends the bytes under the name, or refuses an absent one.
     fn fetch(&mut self, name: &str, into: &mut Vec<u8>) -> Result<(), ShelfFault>
         ensures ok { OnOk result ((self.new ≡ self.old)
             × Fetched self.old.held name.now into.old.items into.new.items) }
@@ -150,6 +155,7 @@ impl Shelf for QuietShelf {
         Ok(())
     }
 
+    // Appends the bytes to what was said.
     fn say(&mut self, bytes: &[u8]) -> Result<(), ShelfFault>
         ensures ok { OnOk result (self.new ≡ record self.old { said = self.old.said ++ bytes.now }) }
         ensures err { OnErr result ((result ≡ Err ShelfFault.Memory) × (self.new ≡ self.old)) }
@@ -159,6 +165,7 @@ impl Shelf for QuietShelf {
         Ok(())
     }
 
+    // Drops the note.
     fn note(&mut self, _text: &str)
         ensures { self.new ≡ self.old }
     {}

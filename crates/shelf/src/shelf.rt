@@ -17,7 +17,12 @@ pub trait Shelf {
     // What the shelf tells of itself.
     ghost told: { Self → Told };
 
-    /// Appends the bytes under the name. After an error `into` still begins with what it held.
+    /// Appends the bytes under the name.
+    ///
+    /// # Errors
+    ///
+    /// `Failed` where the outside refuses the call, which the count of faults tells, and `Memory` where
+    /// memory runs out; `into` still begins with what it held then.
     fn fetch(&mut self, name: &str, into: &mut Vec<u8>) -> Result<(), ShelfFault>
         ensures fetched { OnOk result (IfSome (told self.old).held
             (λ h. Fetched h name.now into.old.items into.new.items)) }
@@ -69,7 +74,12 @@ pub trait Shelf {
         ensures quiet { IsTrue (told self.old).steady → IfSome (told self.old).held
             (λ h. IsTrue (may_store h name.now) → (told self.new).faults ≡ (told self.old).faults) };
 
-    /// Appends the bytes to what was said. After an error a front of them may have been said.
+    /// Appends the bytes to what was said.
+    ///
+    /// # Errors
+    ///
+    /// `Failed` where the outside refuses the call, which the count of faults tells, and `Memory` where
+    /// memory runs out; a front of the bytes may have been said then.
     fn say(&mut self, bytes: &[u8]) -> Result<(), ShelfFault>
         ensures appended { OnOk result (IfSome (told self.old).said
             (λ s. (told self.new).said ≡ Some (s ++ bytes.now))) }

@@ -37,6 +37,10 @@ impl TextMap {
     }
 
     /// Makes the name hold the bytes.
+    ///
+    /// # Errors
+    ///
+    /// `AllocError` where memory runs out; the map is as before then.
     pub(crate) fn put(&mut self, name: &str, bytes: &[u8]) -> Result<(), AllocError>
         ensures ok { OnOk result (self.new ≡ fin.insert self.old name.now bytes.now) }
         ensures err { OnErr result (self.new ≡ self.old) }

@@ -34,9 +34,12 @@ fn write_use(out: &mut List<u8>, grammar: &Grammar, step: &Step) -> Result<(), M
     out.push(b'\n')
 }
 
-/// Returns the text of a derivation: the line `word WORD`, the line `cost X`, and then, in the order
-/// of the steps, a line `use R NAME START LENGTH` for each, where NAME is the left side of rule R.
-/// After want of memory there is no text.
+/// Returns the text of a derivation: the line `word WORD`, the line `cost X`, and then, in the order of the
+/// steps, a line `use R NAME START LENGTH` for each, where NAME is the left side of rule R.
+///
+/// # Errors
+///
+/// `Memory` where memory runs out; there is no text then.
 pub fn write_tree(
     alloc: Global,
     grammar: &Grammar,

@@ -7,9 +7,12 @@ use roster_model::{ArcKey, List, Memory};
 use std::alloc::Global;
 use text_lines::put;
 
-/// Returns the text of a verdict: the lines `yes`, `cost X` and `bound X`, where X is a number or
-/// `none`, or one line `no` with the number of the cause, its name and its values. After want of memory
-/// there is no text.
+/// Returns the text of a verdict: the lines `yes`, `cost X` and `bound X`, where X is a number or `none`, or
+/// one line `no` with the number of the cause, its name and its values.
+///
+/// # Errors
+///
+/// `Memory` where memory runs out; there is no text then.
 pub fn write_verdict(alloc: Global, verdict: &Verdict) -> Result<List<u8>, Memory>
     ensures { IfOk result (λ text. text ≡ verdict_text verdict.now) }
 {
@@ -68,6 +71,7 @@ fn write_amount(out: &mut List<u8>, number: Option<u64>) -> Result<(), Memory>
     }
 }
 
+// Appends the cause that a shift has another price.
 fn write_shift_cost(out: &mut List<u8>, shift: u32, said: u64, least: u64) -> Result<(), Memory>
     ensures { OnOk result (out.new ≡ out.old ++ why_line (Why.ShiftCost shift said least)) }
 {
@@ -76,6 +80,7 @@ fn write_shift_cost(out: &mut List<u8>, shift: u32, said: u64, least: u64) -> Re
     write_number(out, b" least", least)
 }
 
+// Appends the cause that a team has too few shifts or too many.
 fn write_heads(out: &mut List<u8>, group: u8, count: u32) -> Result<(), Memory>
     ensures { OnOk result (out.new ≡ out.old ++ why_line (Why.WrongHeads group count)) }
 {
@@ -94,6 +99,7 @@ fn write_group(out: &mut List<u8>, group: u8) -> Result<(), Memory>
     write_number(out, b" group", u64::from(group))
 }
 
+// Appends the cause that the roster costs something else.
 fn write_cost(out: &mut List<u8>, said: u64, found: u64) -> Result<(), Memory>
     ensures { OnOk result (out.new ≡ out.old ++ why_line (Why.WrongCost said found)) }
 {
@@ -101,6 +107,7 @@ fn write_cost(out: &mut List<u8>, said: u64, found: u64) -> Result<(), Memory>
     write_number(out, b" found", found)
 }
 
+// Appends the cause that a leaf leaves an arc more than one count.
 fn write_loose(out: &mut List<u8>, node: u32, arc: &ArcKey) -> Result<(), Memory>
     ensures { OnOk result (out.new ≡ out.old ++ why_line (Why.NotPinned node arc.now)) }
 {
@@ -120,6 +127,7 @@ fn write_arc(out: &mut List<u8>, arc: &ArcKey) -> Result<(), Memory>
     write_field(out, u64::from(arc.part))
 }
 
+// Appends the cause that the bound is above what is shown.
 fn write_bound(out: &mut List<u8>, said: Option<u64>, shown: Option<u64>) -> Result<(), Memory>
     ensures { OnOk result (out.new ≡ out.old ++ why_line (Why.BoundTooHigh said shown)) }
 {
@@ -129,6 +137,7 @@ fn write_bound(out: &mut List<u8>, said: Option<u64>, shown: Option<u64>) -> Res
     write_amount(out, shown)
 }
 
+// Appends the cause that a cell's count is outside its range.
 fn write_outside(out: &mut List<u8>, code: u8, period: u8, have: u32) -> Result<(), Memory>
     ensures { OnOk result (out.new ≡ out.old ++ why_line (Why.Outside code period have)) }
 {

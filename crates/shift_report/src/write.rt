@@ -4,7 +4,11 @@ ghost use Rattle.text_lines.specs.Numbers.{number_text};
 use roster_model::{List, Memory};
 use text_lines::write_number;
 
-/// Appends a space and a number. After want of memory the space may stand there without the number.
+/// Appends a space and a number.
+///
+/// # Errors
+///
+/// `Memory` where memory runs out; the space may stand there without the number then.
 pub(crate) fn write_field(out: &mut List<u8>, number: u64) -> Result<(), Memory>
     ensures { OnOk result (out.new ≡ out.old ++ 32 ∷ number_text (pos number)) }
 {

@@ -11,6 +11,7 @@ use std::process::ExitCode;
 /// Want of memory before the words are known.
 const MEMORY: u8 = 7;
 
+// Does what the words of the command line ask for; the exit status is that of `run`.
 fn main(rt: HostRuntime) -> ExitCode {
     let alloc = rt.alloc();
     let mut words = Vec::new(alloc);

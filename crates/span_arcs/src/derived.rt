@@ -19,6 +19,10 @@ pub struct Derived {
 
 impl Derived {
     /// Returns what derives by the rules of a sound grammar.
+    ///
+    /// # Errors
+    ///
+    /// `Memory` where memory runs out; nothing is kept then.
     pub fn new(alloc: Global, grammar: &Grammar) -> Result<Derived, Memory>
         requires { IsSound grammar.now }
         ensures { IfOk result (λ d. IsDerivedOf grammar.now d.layout d.free) }

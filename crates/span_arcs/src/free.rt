@@ -10,18 +10,22 @@ impl LetterPrice for Free {
 
     ghost view = { λ s. free_view };
 
+    // Returns 0 for each letter.
     fn letter(&self, code: u8, period: u8) -> Option<i128> {
         Some(0)
     }
 
+    // Returns 0 for each arc.
     fn arc(&self, arc: &ArcKey) -> i128 {
         0
     }
 
+    // Returns that no arc has a price.
     fn arc_prices(&self) -> Option<&[ArcPrice]> {
         Some(&[])
     }
 
+    // Returns 0 for each rule.
     fn rule(&self, rule: u8) -> i128 {
         0
     }

@@ -26,6 +26,10 @@ impl Model for FreeCells {
 
 impl FreeCells {
     /// Returns so many cells, and so many spots for the spans.
+    ///
+    /// # Errors
+    ///
+    /// `Memory` where memory runs out; nothing is kept then.
     pub fn new(alloc: Global, count: usize, spots: usize) -> Result<FreeCells, Memory>
         ensures { IfOk result (AreMade count spots) }
     {
@@ -38,6 +42,10 @@ impl FreeCells {
 
     /// Returns the cells for the layout of a sound grammar: one byte for each slot on each span of the
     /// day, and 32 bytes for each slot at each period.
+    ///
+    /// # Errors
+    ///
+    /// `Memory` where memory runs out; nothing is kept then.
     pub fn for_layout(
         alloc: Global,
         grammar: &Grammar,
@@ -60,26 +68,32 @@ impl Cells for FreeCells {
 
     ghost can_hold = { IsFree };
 
+    // Returns 0 where a sum is there.
     fn sum(&self, place: usize) -> Option<i128> {
         if self.there[place] { Some(0) } else { None }
     }
 
+    // Returns the number of the sum at a place.
     fn number(&self, place: usize) -> i128 {
         if self.there[place] { 0 } else { NO_NUMBER }
     }
 
+    // Notes whether a sum is there.
     fn set(&mut self, place: usize, sum: Option<i128>) {
         self.there[place] = sum.is_some();
     }
 
+    // Returns the spans that are noted.
     fn present(&self) -> &Present {
         &self.present
     }
 
+    // Notes a span.
     fn note(&mut self, from: usize, to: usize, span: Span) {
         self.present.note(from, to, span);
     }
 
+    // Forgets the spans.
     fn clear(&mut self) {
         self.present.clear();
     }

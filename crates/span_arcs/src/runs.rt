@@ -56,6 +56,10 @@ fn next_split(
 
 /// Adds an arc of the instance to those that come before it, and all others with the same rule, suffix,
 /// start and length that come after it, but for the last of them, which is given back.
+///
+/// # Errors
+///
+/// `Memory` where memory runs out; nothing is said of the list then.
 pub fn list_run(
     grammar: &Grammar,
     layout: &Layout,

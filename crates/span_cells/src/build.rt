@@ -103,6 +103,10 @@ fn add_names(alloc: Global, grammar: &Grammar, slots: &mut List<Slot>) -> Result
 }
 
 /// Returns the layout of a grammar's table.
+///
+/// # Errors
+///
+/// `Memory` where memory runs out; nothing is kept then.
 pub fn layout_of(alloc: Global, grammar: &Grammar) -> Result<Layout, Memory>
     requires { IsSound grammar.now }
     ensures { IfOk result (IsLayoutOf grammar.now) }

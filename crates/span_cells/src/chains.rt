@@ -17,6 +17,10 @@ pub struct Chains {
 
 impl Chains {
     /// Returns the chains of a grammar's rules.
+    ///
+    /// # Errors
+    ///
+    /// `Memory` where memory runs out; nothing is kept then.
     pub fn new(alloc: Global, grammar: &Grammar) -> Result<Chains, Memory>
         requires { IsSound grammar.now }
         ensures { IfOk result (AreChained grammar.now) }

@@ -170,6 +170,10 @@ fn lengths_of(grammar: &Grammar, names: &[Lengths], slot: Slot) -> Lengths
 }
 
 /// Returns for each slot the lengths of the spans on which what it stands for can have trees.
+///
+/// # Errors
+///
+/// `Memory` where memory runs out; nothing is kept then.
 pub fn slot_lengths(
     alloc: Global,
     grammar: &Grammar,

@@ -18,6 +18,10 @@ pub struct Present {
 
 impl Present {
     /// Returns no spans, with room for so many slots and periods together.
+    ///
+    /// # Errors
+    ///
+    /// `Memory` where memory runs out; nothing is kept then.
     pub fn new(alloc: Global, count: usize) -> Result<Present, Memory>
         ensures ends { IfOk result (λ p. length p.ends.items ≡ count) }
         ensures starts { IfOk result (λ p. length p.starts.items ≡ count) }

@@ -28,6 +28,10 @@ impl Model for SumCells {
 
 impl SumCells {
     /// Returns so many cells, and so many spots for the spans.
+    ///
+    /// # Errors
+    ///
+    /// `Memory` where memory runs out; nothing is kept then.
     pub fn new(alloc: Global, count: usize, spots: usize) -> Result<SumCells, Memory>
         ensures { IfOk result (AreMade count spots) }
     {
@@ -40,6 +44,10 @@ impl SumCells {
 
     /// Returns the cells for the layout of a sound grammar: 16 bytes for each slot on each span of the
     /// day, and 32 bytes for each slot at each period.
+    ///
+    /// # Errors
+    ///
+    /// `Memory` where memory runs out; nothing is kept then.
     pub fn for_layout(alloc: Global, grammar: &Grammar, layout: &Layout) -> Result<SumCells, Memory>
         requires sound { IsSound grammar.now }
         requires layout { IsLayoutOf grammar.now layout.now }
@@ -59,26 +67,32 @@ impl Cells for SumCells {
 
     ghost can_hold = { λ s. IfSome s (Within (2 ^ 110)) };
 
+    // Returns the sum at a place.
     fn sum(&self, place: usize) -> Option<i128> {
         self.cells[place].sum()
     }
 
+    // Returns the number of the sum at a place.
     fn number(&self, place: usize) -> i128 {
         self.cells[place].number()
     }
 
+    // Sets the sum at a place.
     fn set(&mut self, place: usize, sum: Option<i128>) {
         self.cells[place] = Cell::new(sum);
     }
 
+    // Returns the spans that are noted.
     fn present(&self) -> &Present {
         &self.present
     }
 
+    // Notes a span.
     fn note(&mut self, from: usize, to: usize, span: Span) {
         self.present.note(from, to, span);
     }
 
+    // Forgets the spans.
     fn clear(&mut self) {
         self.present.clear();
     }

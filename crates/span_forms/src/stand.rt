@@ -3,6 +3,7 @@ ghost use Rattle.roster_model.specs.Grammar.{IsInWindow, Stands};
 
 use roster_model::{Rule, Window};
 
+// Says whether a number is in a window.
 fn holds(window: Window, n: u8) -> bool
     ensures { IsTrue result ↔ IsInWindow window n }
 {

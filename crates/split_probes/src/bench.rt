@@ -159,6 +159,10 @@ fn without_trees(
 
 impl Bench {
     /// Returns the program of a node, solved; `None` where it was not. No value from `limit` on is of use.
+    ///
+    /// # Errors
+    ///
+    /// `Memory` where memory runs out; nothing is kept then.
     pub fn new(
         alloc: Global,
         instance: &Instance,
@@ -248,6 +252,10 @@ impl Bench {
     }
 
     /// Returns what a cut on the trees that were noted adds to the value by so many dual steps.
+    ///
+    /// # Errors
+    ///
+    /// `Memory` where memory runs out; nothing is said of the copy then.
     pub fn gain(&mut self, cut: LastRow, steps: u32) -> Result<i128, Memory> {
         if self.copy.rows() != self.base.rows() {
             return Ok(0);

@@ -63,6 +63,10 @@ fn high_row(floor: i64) -> LastRow {
 
 /// Tries both halves of a split by so many steps each, the second one where the product of what they gain can
 /// be above a score.
+///
+/// # Errors
+///
+/// `Memory` where memory runs out; there is no answer then.
 pub(crate) fn halves_of(
     graph: &Graph,
     pool: &Pool,

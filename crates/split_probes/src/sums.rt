@@ -46,6 +46,10 @@ fn add_share(graph: &Graph, pool: &Pool, share: &Share, mark: u64, sums: &mut [A
 }
 
 /// Returns the sum of each arc of the graph.
+///
+/// # Errors
+///
+/// `Memory` where memory runs out; nothing is kept then.
 pub(crate) fn sums_of(
     alloc: Global,
     graph: &Graph,

@@ -103,8 +103,10 @@ pub trait Columns {
     /// Returns a column, which is then listed, that has a negative reduced cost at `y / kappa`, or
     /// none where no column of the program has.
     ///
-    /// A number is `Wide` only where `kappa` or a number of `y` is above 2^56 in size, and the tally
-    /// counts it.
+    /// # Errors
+    ///
+    /// `Wide` only where `kappa` or a number of `y` is above 2^56 in size, which the tally counts; `Memory`
+    /// where memory runs out. Listed columns keep their numbers then too.
     fn price_out(
         &mut self,
         y: &[i128],

@@ -28,6 +28,11 @@ pub(crate) fn lp_fault(fault: ColumnsFault) -> LpFault
 }
 
 /// Makes a listed column of negative reduced cost basic.
+///
+/// # Errors
+///
+/// The fault of the program (`IsLpFault`): `Wide` for a number above 2^56 in size or a column that is too
+/// large, which the tally counts, or `Memory`. Nothing is said of the sheet then.
 pub(crate) fn enter<C: Columns>(
     columns: &C,
     sheet: &mut Sheet,
@@ -76,6 +81,11 @@ pub(crate) fn enter<C: Columns>(
 
 /// Returns a listed column of negative reduced cost at the prices of a cost row, or none where no
 /// column of the program has. There the prices are copied. A wanted column is chosen by the rule.
+///
+/// # Errors
+///
+/// The fault of the program (`IsLpFault`): `Wide` for a number above 2^56 in size or a column that is too
+/// large, which the tally counts, or `Memory`. Listed columns keep their numbers then too.
 pub(crate) fn entering<C: Columns>(
     columns: &mut C,
     rows: &[Line],

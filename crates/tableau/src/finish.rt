@@ -91,6 +91,11 @@ fn basics<C: Columns>(
 }
 
 /// Returns the end of a path that leaves no column a negative reduced cost.
+///
+/// # Errors
+///
+/// The fault of the program (`IsLpFault`): `Wide` for a number above 2^56 in size or a column that is too
+/// large, which the tally counts, or `Memory`.
 pub(crate) fn finish<C: Columns>(
     alloc: Global,
     columns: &C,

@@ -224,6 +224,11 @@ fn with_room(
 }
 
 /// Returns the lists of the first tableau.
+///
+/// # Errors
+///
+/// The fault of the program (`IsLpFault`): `Wide` for a number above 2^56 in size or a column that is too
+/// large, which the tally counts, or `Memory`.
 pub(crate) fn start<C: Columns>(
     alloc: Global,
     columns: &C,

@@ -37,6 +37,11 @@ impl Line {
     }
 
     /// Takes a step of elimination by another row, as `step_row`.
+    ///
+    /// # Errors
+    ///
+    /// As of `step_row`: a new number that is above 2^56 in size is told, and the tally counts a refusal; the
+    /// row then still has as many numbers, and nothing else is said of it.
     pub(crate) fn step(
         &mut self,
         factor: i128,

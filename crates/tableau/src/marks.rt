@@ -15,6 +15,10 @@ pub(crate) fn is_among(columns: &[u32], column: usize) -> bool {
 
 impl Marks {
     /// Marks each row below a bound whose number is among the wanted columns.
+    ///
+    /// # Errors
+    ///
+    /// `Memory` where memory runs out; nothing is kept then.
     pub(crate) fn below(alloc: Global, wanted: &[u32], bound: usize) -> Result<Marks, Memory> {
         let mut rows = Vec::new(alloc);
         for row in 0..bound {

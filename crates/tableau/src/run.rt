@@ -69,6 +69,12 @@ fn next<C: Columns>(
 }
 
 /// Makes turns until no column has a negative reduced cost, at most so many.
+///
+/// # Errors
+///
+/// The fault of the program (`IsLpFault`): `Wide` for a number above 2^56 in size or a column that is too
+/// large, `Spent` where so many turns were made and a column has a negative reduced cost, each of which the
+/// tally counts, or `Memory`. Listed columns keep their numbers then too, and nothing is said of the sheet.
 pub(crate) fn run<C: Columns>(
     columns: &mut C,
     sheet: &mut Sheet,

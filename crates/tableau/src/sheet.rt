@@ -57,6 +57,10 @@ pub(crate) struct Sheet {
 
 impl Rows {
     /// Adds a row at the end.
+    ///
+    /// # Errors
+    ///
+    /// `Memory` where memory runs out; nothing is said of the rows then.
     pub(crate) fn push(&mut self, line: Line) -> Result<(), Memory>
         ensures { OnOk result (self.new ≡ self.old ++ line ∷ []) }
     {

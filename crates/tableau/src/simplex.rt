@@ -135,6 +135,12 @@ fn is_wide(fault: LpFault) -> bool {
 
 /// Solves the program of the columns. Where a number of a path is too wide, a path of another rule is
 /// tried, and then one of a third.
+///
+/// # Errors
+///
+/// The fault of the program (`IsLpFault`): `Wide` for a number above 2^56 in size on some path, or a column
+/// that is too large, `Spent` where all pivots were made, each of which the tally counts, or `Memory`. Listed
+/// columns keep their numbers then too.
 pub fn solve<C: Columns>(
     alloc: Global,
     columns: &mut C,

@@ -13,7 +13,11 @@ use pivot_rows::{Place, entry_in};
 /// The greatest cost of a column: 2^39.
 pub(crate) const MOST_COST: i64 = 1 << 39;
 
-/// Accepts a word. It is refused where its size is above `most`, which the tally counts.
+/// Accepts a word.
+///
+/// # Errors
+///
+/// `Value` with both numbers, where its size is above `most`; the tally counts a refusal then.
 pub(crate) fn fits_word(value: i64, most: i64, tally: &mut Tally) -> Result<(), TooWide>
     ensures ok { OnOk result (pos (unsigned_abs value) ≤ℤ most) }
     ensures wide { OnErr result (most <ℤ pos (unsigned_abs value)) }
@@ -22,7 +26,11 @@ pub(crate) fn fits_word(value: i64, most: i64, tally: &mut Tally) -> Result<(), 
     fits(i128::from(value), i128::from(most), tally)
 }
 
-/// Accepts a column whose entries are -1, 0 or 1. It is refused otherwise, which the tally counts.
+/// Accepts a column whose entries are -1, 0 or 1.
+///
+/// # Errors
+///
+/// The fault names an entry that is above 1 in size; the tally counts a refusal then.
 pub(crate) fn check_entries(places: &[Place], tally: &mut Tally) -> Result<(), TooWide>
     ensures units { OnOk result (AreUnits places.now) }
     ensures wide { OnErr result (HasLargePlace places.now) }
@@ -34,8 +42,11 @@ pub(crate) fn check_entries(places: &[Place], tally: &mut Tally) -> Result<(), T
     Ok(())
 }
 
-/// Accepts a column whose entries are -1, 0 or 1 and whose cost is at most 2^39. It is refused
-/// otherwise, which the tally counts.
+/// Accepts a column whose entries are -1, 0 or 1 and whose cost is at most 2^39.
+///
+/// # Errors
+///
+/// The fault names an entry that is above 1 in size, or the cost; the tally counts a refusal then.
 pub(crate) fn check_column(places: &[Place], cost: i64, tally: &mut Tally) -> Result<(), TooWide>
     requires { pos 0 ≤ℤ cost }
     ensures units { OnOk result (AreUnits places.now) }

@@ -101,7 +101,10 @@ impl Rows {
 /// Makes a column with a negative reduced cost basic in the row that leaves, and notes whether it is
 /// wanted.
 ///
-/// After an error some rows are stepped and others are not.
+/// # Errors
+///
+/// A new number that is above 2^56 in size is told (`IsWideTurn`), and the tally counts a refusal; some rows
+/// are stepped then and others are not.
 pub(crate) fn turn(
     sheet: &mut Sheet,
     column: usize,

@@ -23,6 +23,10 @@ use shelf::Shelf;
 use std::alloc::Global;
 
 /// Says why a demand text is refused.
+///
+/// # Errors
+///
+/// `Memory` where memory runs out, or where that is the fault; there is no answer then.
 pub fn demand_refusal(alloc: Global, fault: DemandFault) -> Result<Answer, Memory>
     ensures { IfOk result (λ a. (fault ≢ DemandFault.Memory) × (a.status ≡ 4)
         × (a.output ≡ demand_fault.fault_line fault)) }

@@ -20,6 +20,10 @@ use shift_report::write_verdict;
 use std::alloc::Global;
 
 /// Says why a proof text is refused.
+///
+/// # Errors
+///
+/// `Memory` where memory runs out; there is no answer then.
 pub fn proof_refusal(alloc: Global, fault: PieceFault) -> Result<Answer, Memory>
     ensures { IfOk result (λ a. (a.status ≡ 5) × (a.output ≡ proof_line.fault_line (proof_fault fault))) }
 {
@@ -40,6 +44,10 @@ fn status_of_verdict(verdict: &Verdict) -> u8
 }
 
 /// Says a verdict.
+///
+/// # Errors
+///
+/// `Memory` where memory runs out; there is no answer then.
 pub fn verdict_answer(alloc: Global, verdict: &Verdict) -> Result<Answer, Memory>
     ensures { IfOk result (λ a. (a.status ≡ verdict_status verdict.now)
         × (a.output ≡ verdict_text verdict.now)) }
@@ -66,6 +74,10 @@ fn judged_in(
 }
 
 /// Judges a proof text.
+///
+/// # Errors
+///
+/// `Memory` where memory runs out; there is no answer then.
 pub fn judged(alloc: Global, instance: &Instance, text: &[u8]) -> Result<Judged, Memory>
     requires { IsSoundInstance instance.now }
     ensures { IfOk result (IsJudged instance.now text.now) }
@@ -96,6 +108,7 @@ impl Question for Acceptance {
 
     ghost ends = { λ _. proof-ends Judgement judged-ends };
 
+    // Says whether the certificate of a proof text is accepted.
     fn answer(&self, alloc: Global, instance: &Instance, text: &[u8]) -> Result<Answer, Memory> {
         judgement(alloc, instance, text)
     }

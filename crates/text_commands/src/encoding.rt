@@ -11,6 +11,7 @@ fn begins_with_zero(text: &[u8]) -> bool {
     text.iter().take(4).any(|byte| *byte == 0)
 }
 
+// Says whether a text begins as one of wide characters does.
 fn is_wide(text: &[u8]) -> bool {
     WIDE_MARKS.iter().any(|mark| text.starts_with(mark)) || begins_with_zero(text)
 }

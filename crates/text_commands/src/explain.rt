@@ -26,6 +26,7 @@ use word_prices::WordPrices;
 
 const NO_DERIVATION: &[u8] = b"no derivation\n";
 
+// Says that there is no derivation.
 fn no_derivation(alloc: Global) -> Result<Answer, Memory>
     ensures { IfOk result (λ a. (a.status ≡ 1) × (a.output ≡ codes "no derivation\n")) }
 {
@@ -78,6 +79,10 @@ fn derivation_by(
 }
 
 /// Says the price of a word by a sound grammar and a tree of that cost, or that there is none.
+///
+/// # Errors
+///
+/// `Memory` where memory runs out; there is no answer then.
 pub fn derivation(alloc: Global, grammar: &Grammar, word: &[u8]) -> Result<Answer, Memory>
     requires { IsSound grammar.now }
     ensures { IfOk result (λ a. Derivation grammar.now word.now a.status a.output) }
@@ -90,7 +95,11 @@ pub fn derivation(alloc: Global, grammar: &Grammar, word: &[u8]) -> Result<Answe
     derivation_by(alloc, &prices, &mut table)
 }
 
-// Says why a rules text is refused.
+/// Says why a rules text is refused.
+///
+/// # Errors
+///
+/// `Memory` where memory runs out, or where that is the fault; there is no answer then.
 pub fn refusal(alloc: Global, fault: RulesFault) -> Result<Answer, Memory>
     ensures { IfOk result (λ a. (fault ≢ RulesFault.Memory) × (a.status ≡ 3)
         × (a.output ≡ fault_line fault)) }

@@ -10,6 +10,10 @@ use shelf::Shelf;
 use std::alloc::Global;
 
 /// Returns the text under a name, or the status of a refusal.
+///
+/// # Errors
+///
+/// The status of the refusal: 6 where the shelf refuses the call, and 7 where memory runs out.
 pub fn fetched<S: Shelf>(alloc: Global, shelf: &mut S, name: &str) -> Result<Vec<u8>, u8>
     ensures text { IfOk result (λ text. IsFetch name.now (S.told shelf.old) (S.told shelf.new) text.items) }
     ensures refusal { IfErr result (λ status. IsReader NoAnswer (name.now ∷ []) (S.told shelf.old)

@@ -7,7 +7,11 @@ ghost use Rattle.text_lines.specs.Written.{tail};
 use crate::number::write_number;
 use roster_model::{List, Memory};
 
-/// Appends bytes. After want of memory `out` is as it was before.
+/// Appends bytes.
+///
+/// # Errors
+///
+/// `Memory` where memory runs out; `out` is as it was before then.
 pub fn put(out: &mut List<u8>, bytes: &[u8]) -> Result<(), Memory>
     ensures ok { OnOk result (out.new ≡ out.old ++ bytes.now) }
     ensures err { OnErr result (out.new ≡ out.old) }
@@ -15,7 +19,11 @@ pub fn put(out: &mut List<u8>, bytes: &[u8]) -> Result<(), Memory>
     out.extend_from_slice(bytes)
 }
 
-/// Appends a word behind a space. After want of memory the space may stand there without the word.
+/// Appends a word behind a space.
+///
+/// # Errors
+///
+/// `Memory` where memory runs out; the space may stand there without the word then.
 pub fn word(out: &mut List<u8>, bytes: &[u8]) -> Result<(), Memory>
     ensures { OnOk result (out.new ≡ out.old ++ tail (bytes.now ∷ [])) }
 {
@@ -24,8 +32,11 @@ pub fn word(out: &mut List<u8>, bytes: &[u8]) -> Result<(), Memory>
     Ok(())
 }
 
-/// Appends a number behind a space. After want of memory the space may stand there without the
-/// number.
+/// Appends a number behind a space.
+///
+/// # Errors
+///
+/// `Memory` where memory runs out; the space may stand there without the number then.
 pub fn field(out: &mut List<u8>, value: u64) -> Result<(), Memory>
     ensures { OnOk result (out.new ≡ out.old ++ tail (decimal value ∷ [])) }
 {
@@ -34,8 +45,11 @@ pub fn field(out: &mut List<u8>, value: u64) -> Result<(), Memory>
     Ok(())
 }
 
-/// Appends a number, which may be below 0, behind a space. After want of memory the space may stand
-/// there without the number.
+/// Appends a number, which may be below 0, behind a space.
+///
+/// # Errors
+///
+/// `Memory` where memory runs out; the space may stand there without the number then.
 pub fn signed_field(out: &mut List<u8>, value: &i128) -> Result<(), Memory>
     ensures { OnOk result (out.new ≡ out.old ++ tail (number_text value.now ∷ [])) }
 {
@@ -44,8 +58,11 @@ pub fn signed_field(out: &mut List<u8>, value: &i128) -> Result<(), Memory>
     Ok(())
 }
 
-/// Appends the line that a fault carries, from 1, as `line 3: `, or nothing. After want of memory a
-/// part of it may stand there.
+/// Appends the line that a fault carries, from 1, as `line 3: `, or nothing.
+///
+/// # Errors
+///
+/// `Memory` where memory runs out; a part of it may stand there then.
 pub fn put_place(out: &mut List<u8>, line: Option<u32>) -> Result<(), Memory>
     ensures { OnOk result (out.new ≡ out.old ++ place_text line) }
 {

@@ -55,12 +55,14 @@ fn first_line(text: &[u8]) -> Option<(&[u8], &[u8])>
     }
 }
 
+// Returns the bytes of a line before its comment.
 fn without_comment(line: &[u8]) -> &[u8]
     ensures { result.now ≡ before_comment line.now }
 {
     &line[..byte_at(line, b'#')]
 }
 
+// Says whether all bytes are such as a line may hold.
 fn may_stand(body: &[u8]) -> bool
     ensures { result ≡ list_all is_line_byte body.now }
 {

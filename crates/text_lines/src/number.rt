@@ -14,12 +14,14 @@ pub enum NumberFault {
     Wide,
 }
 
+// Says whether a byte is a digit.
 fn is_digit(byte: u8) -> bool
     ensures { result ≡ is_digit byte }
 {
     b'0' <= byte && byte <= b'9'
 }
 
+// Says whether a word is of digits, the first of which is 0 only where it stands alone.
 #[tactic(auto, unfolding(crate::specs::Numbers::is_plain))]
 fn is_plain(word: &[u8]) -> bool
     ensures { result ≡ is_plain word.now }
@@ -30,6 +32,7 @@ fn is_plain(word: &[u8]) -> bool
     all_digits(word) && leads(word)
 }
 
+// Says whether all bytes are digits.
 fn all_digits(word: &[u8]) -> bool
     ensures { result ≡ list_all is_digit word.now }
 {
@@ -63,6 +66,11 @@ fn magnitude(digits: &[u8]) -> Option<u128>
 }
 
 /// Reads a number that may have no sign. A word with a `-` is of no such form, whatever its size.
+///
+/// # Errors
+///
+/// `Form` where the word is not of digits, or has a 0 before further ones; `Wide` where the number is 2^127
+/// or more.
 #[tactic(auto, unfolding(crate::specs::Numbers::natural_of))]
 pub fn read_natural(word: &[u8]) -> Result<u128, NumberFault>
     ensures value { result ≡ natural_of word.now }
@@ -78,6 +86,11 @@ pub fn read_natural(word: &[u8]) -> Result<u128, NumberFault>
 }
 
 /// Reads a number that may have a `-` before it. `-0` is no number.
+///
+/// # Errors
+///
+/// `Form` where the word without its sign is no number, or the word is `-0`; `Wide` where the number is 2^127
+/// or more in size.
 #[tactic(auto, unfolding(crate::specs::Numbers::number_of))]
 pub fn read_number(word: &[u8]) -> Result<i128, NumberFault>
     ensures { result ≡ number_of word.now }
@@ -130,8 +143,11 @@ fn write_below_zero(out: &mut List<u8>, size: u128) -> Result<(), Memory>
     Err(Memory)
 }
 
-/// Appends a number, with a `-` before its digits where it is below 0. After want of memory `out` is
-/// as it was before.
+/// Appends a number, with a `-` before its digits where it is below 0.
+///
+/// # Errors
+///
+/// `Memory` where memory runs out; `out` is as it was before then.
 pub fn write_number(out: &mut List<u8>, value: i128) -> Result<(), Memory>
     ensures ok { OnOk result (out.new ≡ out.old ++ number_text value) }
     ensures err { OnErr result (out.new ≡ out.old) }

@@ -15,6 +15,7 @@ pub fn byte_at(bytes: &[u8], byte: u8) -> usize
     bytes.len()
 }
 
+/// Says whether a byte is a space or a tab.
 pub fn is_blank(byte: u8) -> bool
     ensures { result ≡ is_blank byte }
 {

@@ -3,8 +3,11 @@ ghost use Rattle.text_lines.specs.Fields.{number_at};
 
 use crate::number::{NumberFault, read_natural};
 
-/// Reads a number from `low` to `high`. A word that is no number gives the fault `none`, and a
-/// number outside this range the fault `outside`.
+/// Reads a number from `low` to `high`.
+///
+/// # Errors
+///
+/// `none` where the word is no number, and `outside` where the number is not in the range.
 #[tactic(auto, unfolding(crate::specs::Fields::number_at))]
 pub fn read_within<E: Drop>(
     low: u128,

@@ -16,6 +16,10 @@ pub struct Entry {
 }
 
 /// Returns the entry of a tree of the day.
+///
+/// # Errors
+///
+/// `Memory` where memory runs out; nothing is kept then.
 pub fn entry_of(alloc: Global, grammar: &Grammar, steps: &[Step]) -> Result<Entry, Memory>
     requires sound { IsSound grammar.now }
     requires steps { AreDaySteps grammar.now steps.now }

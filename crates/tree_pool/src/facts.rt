@@ -19,6 +19,10 @@ pub struct Facts {
 }
 
 /// Returns what is asked of a tree of the day.
+///
+/// # Errors
+///
+/// `Memory` where memory runs out; nothing is kept then.
 pub fn facts_of(alloc: Global, grammar: &Grammar, steps: &[Step]) -> Result<Facts, Memory>
     requires sound { IsSound grammar.now }
     requires steps { AreDaySteps grammar.now steps.now }

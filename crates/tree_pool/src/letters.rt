@@ -7,6 +7,10 @@ use roster_model::{Grammar, List, Memory, Step, Sym, first_and_rest, rule_of};
 use std::alloc::Global;
 
 /// Returns the codes of the letters of a tree of the day, in their order.
+///
+/// # Errors
+///
+/// `Memory` where memory runs out; nothing is kept then.
 pub fn codes_of(alloc: Global, grammar: &Grammar, steps: &[Step]) -> Result<List<u8>, Memory>
     requires sound { IsSound grammar.now }
     requires steps { AreDaySteps grammar.now steps.now }

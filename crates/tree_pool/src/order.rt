@@ -9,6 +9,7 @@ use std::cmp::Ordering;
 /// What rule uses are sorted by, the first number that differs deciding.
 type Rank = (u8, u8, u8);
 
+// Returns what a rule use is sorted by.
 fn rank(step: &Step) -> Rank
     ensures { result ≡ rank_of step.now }
 {
@@ -38,8 +39,11 @@ fn steps_of(entries: &[Entry], number: usize) -> &[Step]
     }
 }
 
-/// Returns where the number of the tree of some rule uses stands in the order, and where there is no such
-/// tree the place that it would have there. Takes no memory.
+/// Returns where the number of the tree of some rule uses stands in the order. Takes no memory.
+///
+/// # Errors
+///
+/// The place that the number would have there, where there is no such tree.
 pub fn place_of(entries: &[Entry], order: &[usize], steps: &[Step]) -> Result<usize, usize>
     requires { IsOrder entries.now order.now }
     ensures found { IfOk result (IsFoundAt entries.now order.now steps.now) }
@@ -48,8 +52,11 @@ pub fn place_of(entries: &[Entry], order: &[usize], steps: &[Step]) -> Result<us
     order.binary_search_by(|&number| compare(steps_of(entries, number), steps))
 }
 
-/// Puts an entry behind the others, and its number into the order at a place, and returns the number. After
-/// an error both are as before.
+/// Puts an entry behind the others, and its number into the order at a place, and returns the number.
+///
+/// # Errors
+///
+/// `Memory` where memory runs out; both are as before then.
 pub fn put(
     entries: &mut List<Entry>,
     order: &mut Vec<usize>,

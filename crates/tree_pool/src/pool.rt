@@ -96,8 +96,11 @@ impl Pool {
         self.entry(column).facts.arcs.has(arc)
     }
 
-    /// Adds a tree of the day, or finds it where it is in the pool, and returns its number. After an
-    /// error the pool is as before.
+    /// Adds a tree of the day, or finds it where it is in the pool, and returns its number.
+    ///
+    /// # Errors
+    ///
+    /// `Memory` where memory runs out; the pool is as before then.
     pub fn add(&mut self, grammar: &Grammar, steps: &[Step]) -> Result<usize, Memory>
         requires sound { IsSound grammar.now }
         requires steps { AreDaySteps grammar.now steps.now }

@@ -51,6 +51,10 @@ fn found_at(
 }
 
 /// Returns the trees of the pool with their reduced costs at prices, the least one first.
+///
+/// # Errors
+///
+/// `Memory` where memory runs out; nothing is kept then.
 pub(crate) fn found_trees(
     alloc: Global,
     cuts: &[Cut],

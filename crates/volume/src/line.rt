@@ -72,6 +72,10 @@ fn line_of(beyond: i64, missing: i64, right: i64, price: i128) -> Line {
 }
 
 /// Returns the lines of a node's rows at prices in units of 2^-24; a row behind these has the price 0.
+///
+/// # Errors
+///
+/// `Memory` where memory runs out; nothing is kept then.
 pub(crate) fn lines_of(
     alloc: Global,
     instance: &Instance,

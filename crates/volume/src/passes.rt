@@ -99,6 +99,11 @@ fn take_pass(
 }
 
 /// Takes at most so many passes.
+///
+/// # Errors
+///
+/// `Memory` where memory runs out; the pricer is still one for the graph then, and the pool has only trees of
+/// the day.
 pub(crate) fn take_passes(
     alloc: Global,
     instance: &Instance,

@@ -71,6 +71,10 @@ fn bound_at(right: &[i64], prices: &[i128], heads: u32, reduced: i128) -> i128 {
 
 impl Path {
     /// Returns the begin of a path at prices in units of 2^-24; a row behind these has the price 0.
+    ///
+    /// # Errors
+    ///
+    /// `Memory` where memory runs out; nothing is kept then.
     pub(crate) fn new(
         alloc: Global,
         instance: &Instance,
@@ -164,6 +168,10 @@ impl Path {
     }
 
     /// Returns the best prices, in units of 2^-24, one for each row.
+    ///
+    /// # Errors
+    ///
+    /// `Memory` where memory runs out; nothing is kept then.
     pub(crate) fn list_prices(&self, alloc: Global) -> Result<List<i128>, Memory> {
         let mut prices = List::new(alloc);
         prices.extend_from_slice(self.best.as_slice())?;

@@ -48,6 +48,7 @@ impl<'a> LetterPrice for WordPrices<'a> {
 
     ghost view = { λ s. word_view s.grammar.now s.word.now };
 
+    // Returns 0 where the word has the code at the period, and none elsewhere.
     fn letter(&self, code: u8, period: u8) -> Option<i128> {
         let code = self.grammar.codes.as_slice().get(code as usize)?;
         let place = (period as usize).checked_sub(1)?;
@@ -55,14 +56,17 @@ impl<'a> LetterPrice for WordPrices<'a> {
         if *letter == code.byte { Some(0) } else { None }
     }
 
+    // Returns 0 for each arc.
     fn arc(&self, arc: &ArcKey) -> i128 {
         0
     }
 
+    // Returns that no arc has a price.
     fn arc_prices(&self) -> Option<&[ArcPrice]> {
         Some(&[])
     }
 
+    // Returns the rule's cost, 0 where there is no rule of this number.
     fn rule(&self, rule: u8) -> i128 {
         let Some(place) = (rule as usize).checked_sub(1) else {
             return 0;
