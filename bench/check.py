@@ -1,7 +1,7 @@
 #!/usr/bin/env python3
 """Times `check`: reading a long proof text against `wc -w`, and judging many priced nodes.
 
-The program is crates/shift_tool/out/shift_tool, as `./roster` builds it. The long text is a certificate
+The program is crates/roster/out/roster, as `./roster` builds it. The long text is a certificate
 of a day of 96 periods that is cut before its end, so it is read whole and refused; its first split is on
 no arc, so no value is computed. The nodes are those of a chain of splits on arcs of examples/g3.rules,
 a day of 24 periods and two activities, each leaf with prices of its own. Judging them is timed against as
@@ -16,7 +16,7 @@ import sys
 import tempfile
 
 TOP = pathlib.Path(__file__).resolve().parent.parent
-PROGRAM = TOP / "crates" / "shift_tool" / "out" / "shift_tool"
+PROGRAM = TOP / "crates" / "roster" / "out" / "roster"
 FILLS = TOP / "crates" / "bench_runs" / "out" / "bench_runs"
 RULES, DEMAND = TOP / "examples" / "g3.rules", TOP / "examples" / "g3.demand"
 TURNS = 5

@@ -2,7 +2,7 @@
 """Times `explain` on a day of 24 and on one of 96 periods, and against the same recurrence in Rust.
 
 The longer day is examples/g3.rules with windows four times as wide. The program is
-crates/shift_tool/out/shift_tool, as `./roster` builds it; the other is bench/explain.rs by `rustc -O`.
+crates/roster/out/roster, as `./roster` builds it; the other is bench/explain.rs by `rustc -O`.
 Prints the least processor time of each, and ratios; the costs that both print must agree.
 """
 import os
@@ -13,7 +13,7 @@ import sys
 import tempfile
 
 TOP = pathlib.Path(__file__).resolve().parent.parent
-PROGRAM = TOP / "crates" / "shift_tool" / "out" / "shift_tool"
+PROGRAM = TOP / "crates" / "roster" / "out" / "roster"
 TURNS = 15
 SHORT = "....aaaammaapaa........."
 LONG = "." * 20 + "a" * 16 + "mm" + "a" * 10 + "p" + "a" * 10 + "." * 37

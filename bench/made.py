@@ -3,7 +3,7 @@
 
     bench/made.py [TURNS [PROGRAM]]
 
-PROGRAM is crates/shift_tool/out/shift_tool by default, which ./roster or the gate builds. Times are processor
+PROGRAM is crates/roster/out/roster by default, which ./roster or the gate builds. Times are processor
 time of a whole call: making the day, its graph, the search, and the two texts.
 """
 import os
@@ -27,7 +27,7 @@ def call(program, number, turns, proof):
 
 def main():
     turns = int(sys.argv[1]) if len(sys.argv) > 1 else 200
-    program = sys.argv[2] if len(sys.argv) > 2 else os.path.join(TOP, "crates/shift_tool/out/shift_tool")
+    program = sys.argv[2] if len(sys.argv) > 2 else os.path.join(TOP, "crates/roster/out/roster")
     if not os.access(program, os.X_OK):
         sys.exit(f"{program} is not built: run ./roster or the gate first")
     with tempfile.TemporaryDirectory() as folder:

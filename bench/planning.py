@@ -6,7 +6,7 @@ of a `console` block are run as a shell runs them, in a folder with `examples` a
 print must be what the page shows; a last line `...` stands for further lines. Each fault of the page's
 table must come from an edit of a day of examples/ below, and no fault may be missing there.
 
-The program is crates/shift_tool/out/shift_tool, as `./roster` builds it, or the one that is named as the
+The program is crates/roster/out/roster, as `./roster` builds it, or the one that is named as the
 only argument. Where it is not built, only the blocks of rules and demands are checked, and that is said.
 """
 import pathlib
@@ -18,7 +18,7 @@ import tempfile
 TOP = pathlib.Path(__file__).resolve().parent.parent
 PAGE = (TOP / "docs" / "PLANNING.md").read_text()
 README = (TOP / "README.md").read_text()
-PROGRAM = TOP / "crates" / "shift_tool" / "out" / "shift_tool"
+PROGRAM = TOP / "crates" / "roster" / "out" / "roster"
 RULES, DEMAND = "examples/shop.rules", "examples/shop.demand"
 # What is noted of odd rules and demands, which a block may leave out.
 ODD = re.compile(r"^(?:rules|demand): (?:line \d+: )?(?:no shift|no group|the same rule|there is|len|begin|end)\b.*\n"

@@ -2,7 +2,7 @@
 """Times the questions about a day of 96 periods against one fill of the table of least sums, by whole runs.
 
 The day is examples/g3.rules with windows four times as wide, as in bench/explain.py. A fill is what `rank RULES 1`
-takes, less what a run takes on a day of one period. The program is crates/shift_tool/out/shift_tool, which ./roster or
+takes, less what a run takes on a day of one period. The program is crates/roster/out/roster, which ./roster or
 the gate builds, or the one that is named. Prints the least processor time of each question, and in how many fills.
 """
 import importlib.util
@@ -37,7 +37,7 @@ def least(words):
 
 
 def main():
-    program = pathlib.Path(sys.argv[1]) if len(sys.argv) > 1 else TOP / "crates/shift_tool/out/shift_tool"
+    program = pathlib.Path(sys.argv[1]) if len(sys.argv) > 1 else TOP / "crates/roster/out/roster"
     if not os.access(program, os.X_OK):
         sys.exit(f"{program} is not built: run ./roster or the gate first")
     explain = explain_bench()

@@ -4,7 +4,7 @@
 `explain`, `check`, `solve` and `make` run on the examples with an allocator that is loaded before the C library, and
 that refuses the allocation of one number. A run has to end with status 7 or 6 and say nothing on standard output, or
 with the status and the text of the run in which nothing is refused; notes on standard error do not count. Prints how many runs it made of each command, and how they ended;
-fails at the first that ended otherwise. It wants gcc. The program is crates/shift_tool/out/shift_tool, which ./roster
+fails at the first that ended otherwise. It wants gcc. The program is crates/roster/out/roster, which ./roster
 or the gate builds, or the one that is named.
 """
 import collections
@@ -136,7 +136,7 @@ def refuse_each(program, words, folder, library):
 
 
 def main():
-    program = pathlib.Path(sys.argv[1] if len(sys.argv) > 1 else TOP / "crates/shift_tool/out/shift_tool").resolve()
+    program = pathlib.Path(sys.argv[1] if len(sys.argv) > 1 else TOP / "crates/roster/out/roster").resolve()
     if not os.access(program, os.X_OK):
         sys.exit(f"{program} is not built: run ./roster or the gate first")
     total = 0

@@ -4,7 +4,7 @@
     bench/solve.py [--turns N] [--limit SECONDS] [--program PROGRAM] [--peers FOLDER] [--parts] [FOLDER [DAY..]]
 
 FOLDER has DAY.rules and DAY.demand for each day, by default the days of examples/ that a planner would know. PROGRAM
-is crates/shift_tool/out/shift_tool by default, which ./roster or the gate builds. A run that takes longer than the
+is crates/roster/out/roster by default, which ./roster or the gate builds. A run that takes longer than the
 limit is given up. Each row has the day, cost and bound, the turns used and those of them without prices, the processor
 seconds and the memory of `solve`, and the seconds of `check` on what it stored; each solve is made twice, and the two
 texts must be the same.
@@ -112,7 +112,7 @@ def main():
     words.add_argument("days", nargs="*")
     words.add_argument("--turns", type=int, default=200)
     words.add_argument("--limit", type=int, default=60)
-    words.add_argument("--program", type=pathlib.Path, default=TOP / "crates/shift_tool/out/shift_tool")
+    words.add_argument("--program", type=pathlib.Path, default=TOP / "crates/roster/out/roster")
     words.add_argument("--peers", type=pathlib.Path)
     words.add_argument("--parts", action="store_true")
     given = words.parse_args()

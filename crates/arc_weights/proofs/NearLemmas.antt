@@ -9,8 +9,8 @@ use Rattle.roster_model.specs.declared.instance.Prices.{Prices}
 use Rattle.roster_model.specs.Cuts.{lo, hi}
 use Rattle.roster_model.specs.SoundInstance.{IsSoundInstance}
 use Rattle.parse_graph.specs.Graphs.{GraphView, IsGraph}
-use Rattle.arc_branch.specs.Boxes.{BoxView}
-use Rattle.arc_branch.specs.Paths.{IsBoxOf}
+use Rattle.count_boxes.specs.Boxes.{BoxView}
+use Rattle.count_boxes.specs.Paths.{IsBoxOf}
 use Rattle.near_laws.specs.NearSharp.{IsWellBetween, IsNearlyWhole, LackMuch, near_weight}
 use Rattle.tree_pool.specs.Pools.{PoolTree}
 use Rattle.node_columns.specs.declared.weights.Weight.{Weight}

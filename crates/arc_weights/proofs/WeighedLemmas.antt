@@ -9,8 +9,8 @@ use Rattle.roster_model.specs.declared.instance.Instance.{Instance}
 use Rattle.roster_model.specs.Cuts.{lo, hi}
 use Rattle.roster_model.specs.SoundInstance.{IsSoundInstance}
 use Rattle.parse_graph.specs.Graphs.{GraphView, IsGraph}
-use Rattle.arc_branch.specs.Boxes.{BoxView}
-use Rattle.arc_branch.specs.Paths.{IsBoxOf}
+use Rattle.count_boxes.specs.Boxes.{BoxView}
+use Rattle.count_boxes.specs.Paths.{IsBoxOf}
 use Rattle.master_laws.specs.Sharp.{UsesArtificial, AreFine, arc_weight}
 use Rattle.tree_pool.specs.Pools.{PoolTree, IsPool}
 use Rattle.node_columns.specs.declared.weights.Weight.{Weight}

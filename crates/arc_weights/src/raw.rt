@@ -1,7 +1,7 @@
 ghost use Rattle.std.specs.Prelude.{◌≡◌, ◌≤◌, ◌<◌, ◌/◌, IfOk, IfSome, length};
 ghost use Rattle.roster_model.specs.SoundInstance.{IsSoundInstance};
 ghost use Rattle.parse_graph.specs.Graphs.{IsGraph};
-ghost use Rattle.arc_branch.specs.Paths.{IsBoxOf};
+ghost use Rattle.count_boxes.specs.Paths.{IsBoxOf};
 ghost use Rattle.tree_pool.specs.Pools.{IsPool};
 ghost use Rattle.node_master.specs.Ends.{AreSolved};
 ghost use Rattle.arc_weights.specs.Choices.{HaveFew};
@@ -9,7 +9,7 @@ ghost use Rattle.arc_weights.specs.Raw.{IsLeftBoth, IsOpen};
 
 use crate::denominator::common_denominator;
 use crate::sums::arc_sums;
-use arc_branch::ArcBox;
+use count_boxes::ArcBox;
 use node_master::{Pool, Solution, Weight};
 use parse_graph::Graph;
 use roster_model::{Cut, Instance, Memory};

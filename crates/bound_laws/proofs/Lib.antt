@@ -26,3 +26,8 @@ pub mod Counted
 pub mod ReducedCosts
 pub mod WorkedBest
 pub mod WorkedDayLemmas
+pub mod Nodes
+pub mod Totals
+pub mod ArcPeriods
+pub mod Letters
+pub mod PinnedValues

@@ -14,3 +14,5 @@ pub mod WorkedGroups
 pub mod WorkedFloors
 pub mod WorkedBest
 pub mod WorkedDay
+pub mod PlainCounts
+pub mod PlainCountLaws

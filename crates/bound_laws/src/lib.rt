@@ -7,6 +7,7 @@
 #![tactic(auto)]
 
 mod laws;
+mod plain_counts;
 
 pub use laws::{
     are_one_value, base_cuts_ask_for_arcs, base_cuts_leave_counts, counts_make_rosters,
@@ -15,3 +16,4 @@ pub use laws::{
     rosters_cost_less, rosters_have_trees, small_shares, trees_cost_less, trees_spell_rosters,
     trees_stand_for_rosters, worked_best, worked_floors, worked_groups,
 };
+pub use plain_counts::{letters_within_heads, plain_pinned};

@@ -8,7 +8,7 @@ use Rattle.parse_graph.specs.Graphs.{GraphView}
 use Rattle.tree_pool.specs.Pools.{PoolTree, IsGrown}
 use Rattle.node_columns.specs.declared.weights.Weight.{Weight}
 use Rattle.candidate_rosters.specs.declared.roster.Roster.{Roster}
-use Rattle.offers.specs.Offers.{limit_of, IsBetter}
+use Rattle.candidate_rosters.specs.Offers.{limit_of, IsBetter}
 use Rattle.open_nodes.specs.declared.leaf.Plan.{Plan}
 use Rattle.search_tree.specs.Trees.{IsPlan}
 

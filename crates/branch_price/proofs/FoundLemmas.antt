@@ -31,8 +31,8 @@ use Rattle.candidate_rosters.specs.declared.roster.Roster.{Roster}
 use Rattle.candidate_rosters.specs.Order.{AreAscending}
 use Rattle.candidate_rosters.specs.Rosters.{IsGoodRoster}
 use Rattle.candidate_rosters.specs.Starts.{StartsWith, IsAtMostStart}
-use Rattle.offers.specs.Offers.{limit_of, cost_of}
-use Rattle.offers.proofs.Limits.{cost-most}
+use Rattle.candidate_rosters.specs.Offers.{limit_of, cost_of}
+use Rattle.candidate_rosters.proofs.Limits.{cost-most}
 use Rattle.branch_price.specs.declared.progress.Progress.{Progress}
 use Rattle.branch_price.specs.Ends.{IsEnd, IsDoneAt, AsksEnd, IsStatedBy}
 use Rattle.branch_price.specs.Found.{IsDone, IsSplitNode, IsSharpNode, IsFoundNode, IsLooseNode, IsFound, AreCounted}

@@ -23,7 +23,7 @@ use Rattle.search_tree.proofs.TreeLaws.{queued-leaf, leaf-in-hand, few-seats, sh
 use Rattle.search_tree.specs.Asked.{AsksSplit, IsHalved}
 use Rattle.std.proofs.lemmas.Option.{slice_get_within}
 use Rattle.node_path.specs.Paths.{IsNode}
-use Rattle.offers.specs.Offers.{limit_of}
+use Rattle.candidate_rosters.specs.Offers.{limit_of}
 use Rattle.branch_price.specs.declared.progress.Progress.{Progress}
 use Rattle.branch_price.specs.Searching.{site_of}
 use Rattle.branch_price.specs.Steps.{AsksTurn, AsksNode, AsksHalf, IsTurned}

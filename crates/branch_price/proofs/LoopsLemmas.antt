@@ -19,8 +19,8 @@ use Rattle.open_nodes.specs.declared.leaf.OpenLeaf.{OpenLeaf}
 use Rattle.search_tree.specs.Views.{TreeView}
 use Rattle.search_tree.proofs.TreeLaws.{queued-leaf}
 use Rattle.candidate_rosters.specs.declared.roster.Roster.{Roster}
-use Rattle.offers.specs.Offers.{limit_of, cost_of}
-use Rattle.offers.proofs.Limits.{cost-most, limit-most}
+use Rattle.candidate_rosters.specs.Offers.{limit_of, cost_of}
+use Rattle.candidate_rosters.proofs.Limits.{cost-most, limit-most}
 use Rattle.branch_price.specs.declared.progress.Progress.{Progress}
 use Rattle.branch_price.specs.Searching.{site_of, IsSearching}
 use Rattle.branch_price.specs.Steps.{AsksTurn, IsTurned, IsBegun}

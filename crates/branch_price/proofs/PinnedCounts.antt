@@ -17,8 +17,8 @@ use Rattle.arc_laws.specs.Counts.{AreCounts, counts_cost}
 use Rattle.arc_laws.specs.Lists.{AreArcs}
 use Rattle.arc_laws.proofs.FoldsLemmas.{sum_n-same}
 use Rattle.arc_laws.proofs.Totals.{arcs-once}
-use Rattle.arc_branch.specs.Boxes.{BoxView, bounds_at}
-use Rattle.arc_branch.specs.Paths.{IsBoxOf}
+use Rattle.count_boxes.specs.Boxes.{BoxView, bounds_at}
+use Rattle.count_boxes.specs.Paths.{IsBoxOf}
 use Rattle.arc_laws.specs.OrNodes.{OrNode, name, suffix, same_node, made, used}
 use Rattle.arc_laws.specs.Balance.{made_sum, used_sum}
 use Rattle.bound_laws.specs.Counted.{HaveCounts}
@@ -28,7 +28,7 @@ use Rattle.master_laws.specs.Sharp.{UsesArtificial}
 use Rattle.parse_graph.specs.Graphs.{GraphView, IsGraph}
 use Rattle.roster_split.specs.Counts.{count_of}
 use Rattle.roster_split.proofs.Places.{count-at}
-use Rattle.offers.specs.Offers.{CanBeTrees, Reach}
+use Rattle.candidate_rosters.specs.Offers.{CanBeTrees, Reach}
 use Rattle.branch_price.specs.Plans.{AreLeast, AreFirst, AskForArcs}
 
 module _ (i : Instance) (v : GraphView) (graph : IsGraph i.grammar v) (cuts : List Cut) (box : BoxView) (left : IsBoxOf i v cuts box) (counts : List ℕ) (least : AreLeast box counts) where

@@ -9,8 +9,8 @@ use Rattle.roster_model.specs.Cuts.{Meets, base_cuts}
 use Rattle.roster_model.specs.Folds.{Each}
 use Rattle.roster_model.specs.SoundInstance.{IsSoundInstance}
 use Rattle.roster_model.specs.Trees.{Parts}
-use Rattle.arc_branch.specs.Boxes.{BoxView}
-use Rattle.arc_branch.specs.Paths.{IsBoxOf, IsLooseAt}
+use Rattle.count_boxes.specs.Boxes.{BoxView}
+use Rattle.count_boxes.specs.Paths.{IsBoxOf, IsLooseAt}
 use Rattle.bound_laws.specs.Priced.{IsPricedValue}
 use Rattle.bound_laws.specs.TreeRosters.{IsTreeRoster, trees_cost}
 use Rattle.fraction.specs.declared.frac.Frac.{Frac}
@@ -34,7 +34,7 @@ use Rattle.arc_weights.specs.Weighed.{IsWeighed, AreWhole}
 use Rattle.arc_weights.proofs.Steps.{get_some}
 use Rattle.open_nodes.specs.declared.leaf.Plan.{Plan}
 use Rattle.search_tree.specs.Trees.{IsPlan}
-use Rattle.offers.specs.Offers.{CanBeTrees, Reach}
+use Rattle.candidate_rosters.specs.Offers.{CanBeTrees, Reach}
 use Rattle.branch_price.specs.declared.solved.Solved.{Solved}
 use Rattle.branch_price.specs.Plans.{IsPlanAt, IsPlanLeft}
 use Rattle.branch_price.specs.Solutions.{IsSolvedBy, IsShown}

@@ -21,8 +21,8 @@ use Rattle.growing_laws.specs.Grown.{tip, fixed}
 use Rattle.growing_laws.specs.States.{IsGrowing}
 use Rattle.candidate_rosters.specs.declared.roster.Roster.{Roster}
 use Rattle.candidate_rosters.specs.Starts.{HasStart, StartsWith, IsAtMostStart}
-use Rattle.offers.specs.Offers.{limit_of, cost_of, IsBetter}
-use Rattle.offers.proofs.Limits.{cost-most}
+use Rattle.candidate_rosters.specs.Offers.{limit_of, cost_of, IsBetter}
+use Rattle.candidate_rosters.proofs.Limits.{cost-most}
 use Rattle.branch_price.specs.declared.found.Found.{Found}
 use Rattle.branch_price.specs.Arcless.{IsRootRoster}
 use Rattle.branch_price.specs.Ends.{IsDoneAt, IsStatedBy, IsClosedBy}

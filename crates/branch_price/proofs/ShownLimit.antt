@@ -19,7 +19,7 @@ use Rattle.bound_laws.proofs.SoundReady.{ready}
 use Rattle.certificates.specs.Nodes.{low_cut}
 use Rattle.certificates.specs.RosterCauses.{duties, stated_prices}
 use Rattle.certificate_laws.proofs.ShownBound.{shows-le}
-use Rattle.split_laws.proofs.SplitsLemmas.{split-balanced}
+use Rattle.roster_split.proofs.BalancedLemmas.{split-balanced}
 use Rattle.parse_graph.specs.Graphs.{GraphView, IsGraph}
 use Rattle.parse_graph.proofs.PlacesLemmas.{of-graph}
 use Rattle.growing_laws.specs.Grown.{Grown, tip, fork, Leaf, fresh, valued, fixed, Own, OnTips, OnForks, leaf_value, raised, proof_of, shown}
@@ -28,8 +28,8 @@ use Rattle.growing_laws.proofs.GrownLemmas.{tips-map, forks-map}
 use Rattle.growing_laws.proofs.StatesLemmas.{growing-proves}
 use Rattle.candidate_rosters.specs.declared.roster.Roster.{Roster}
 use Rattle.candidate_rosters.specs.Rosters.{IsGoodRoster}
-use Rattle.offers.specs.Offers.{limit_of}
-use Rattle.offers.proofs.GraphCounts.{balanced-moved}
+use Rattle.candidate_rosters.specs.Offers.{limit_of}
+use Rattle.candidate_rosters.proofs.GraphCounts.{balanced-moved}
 use Rattle.branch_price.proofs.SoundEnds.{nodes-sound}
 
 -- where no leaf and no split shows more than u, neither does the tree

@@ -19,7 +19,7 @@ use Rattle.node_master.specs.declared.ends.NodeEnd.{NodeEnd}
 use Rattle.node_master.specs.declared.ends.NodeEnd.TheVariants.{Best, Near, Failed}
 use Rattle.node_master.specs.declared.ends.Solution.TheVariants.{Exact as is_exact, Near as is_near}
 use Rattle.node_master.specs.Ends.{IsBest, IsNear}
-use Rattle.search_master.specs.Refusals.{EndsWell, counted}
+use Rattle.node_master.specs.Refusals.{EndsWell, counted}
 use Rattle.search_tree.specs.Trees.{last_count}
 use Rattle.branch_price.specs.declared.solved.Solved.{Solved}
 use Rattle.branch_price.specs.Solutions.{solved_of, IsSolved}

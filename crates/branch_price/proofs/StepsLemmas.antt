@@ -5,8 +5,8 @@ use Rattle.roster_model.specs.declared.grammar.ArcKey.{ArcKey}
 use Rattle.roster_model.specs.declared.instance.Cut.{Cut}
 use Rattle.roster_model.specs.declared.instance.Instance.{Instance}
 use Rattle.roster_model.specs.declared.instance.Prices.{Prices}
-use Rattle.arc_branch.specs.Boxes.{BoxView, bounds_at}
-use Rattle.arc_branch.specs.Paths.{IsBoxOf, IsLooseAt}
+use Rattle.count_boxes.specs.Boxes.{BoxView, bounds_at}
+use Rattle.count_boxes.specs.Paths.{IsBoxOf, IsLooseAt}
 use Rattle.bound_laws.specs.Pinned.{IsPinned, IsPinnedValue}
 use Rattle.parse_graph.specs.Graphs.{GraphView, IsGraph}
 use Rattle.std.proofs.lemmas.Option.{slice_get_within}
@@ -23,9 +23,9 @@ use Rattle.tree_pool.specs.Pools.{PoolTree}
 use Rattle.node_master.specs.declared.ends.Cause.{Cause}
 use Rattle.node_master.specs.declared.ends.Cause.TheVariants.{Rows, Wide, Spent}
 use Rattle.node_master.specs.declared.ends.NodeEnd.TheVariants.{Failed}
-use Rattle.search_master.specs.Refusals.{EndsWell, counted, one_more}
+use Rattle.node_master.specs.Refusals.{EndsWell, counted, one_more}
 use Rattle.candidate_rosters.specs.declared.roster.Roster.{Roster}
-use Rattle.offers.specs.Offers.{limit_of, IsBetter}
+use Rattle.candidate_rosters.specs.Offers.{limit_of, IsBetter}
 use Rattle.branch_price.specs.declared.progress.Progress.{Progress}
 use Rattle.branch_price.specs.Searching.{site_of}
 use Rattle.branch_price.specs.Steps.{AsksNode, IsTurned, IsGivenUp}

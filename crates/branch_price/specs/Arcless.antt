@@ -6,7 +6,7 @@ use Rattle.bound_laws.specs.Pinned.{IsPinnedValue}
 use Rattle.candidate_rosters.specs.declared.roster.Roster.{Roster}
 use Rattle.candidate_rosters.specs.Rosters.{IsGoodRoster}
 use Rattle.candidate_rosters.specs.Starts.{HasStart, StartsWith}
-use Rattle.offers.specs.Offers.{limit_of}
+use Rattle.candidate_rosters.specs.Offers.{limit_of}
 
 -- an allowed roster that costs what the counts of the root do, or none where these are of no roster
 pub record IsRootRoster (i : Instance) (best : Option Roster) : Type 0 where

@@ -22,7 +22,7 @@ use Rattle.roster_model.specs.declared.instance.Shift.{Shift}
 use Rattle.candidate_rosters.specs.declared.roster.Roster.{Roster}
 use Rattle.candidate_rosters.specs.Rosters.{IsGoodRoster}
 use Rattle.candidate_rosters.specs.Starts.{HasStart, StartsWith}
-use Rattle.offers.specs.Offers.{limit_of, cost_of}
+use Rattle.candidate_rosters.specs.Offers.{limit_of, cost_of}
 use Rattle.branch_price.specs.declared.progress.Progress.{Progress}
 use Rattle.branch_price.specs.Searching.{site_of, IsSearching}
 use Rattle.branch_price.specs.Found.{HasNoArc}

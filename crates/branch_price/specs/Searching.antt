@@ -8,7 +8,7 @@ use Rattle.search_tree.specs.Views.{Site}
 use Rattle.search_tree.specs.Trees.{IsTree}
 use Rattle.candidate_rosters.specs.Rosters.{IsGoodRoster}
 use Rattle.candidate_rosters.specs.Starts.{HasStart, StartsWith}
-use Rattle.offers.specs.Offers.{limit_of}
+use Rattle.candidate_rosters.specs.Offers.{limit_of}
 use Rattle.branch_price.specs.declared.progress.Progress.{Progress}
 
 abbrev pub site_of : Instance → GraphView → Bool → ℕ → Site

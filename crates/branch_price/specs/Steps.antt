@@ -10,7 +10,7 @@ use Rattle.growing_laws.specs.Grown.{Grown, fresh}
 use Rattle.open_nodes.specs.declared.leaf.OpenLeaf.{OpenLeaf}
 use Rattle.search_tree.specs.Views.{IsPlace}
 use Rattle.search_tree.specs.Trees.{last_count}
-use Rattle.offers.specs.Offers.{limit_of}
+use Rattle.candidate_rosters.specs.Offers.{limit_of}
 use Rattle.branch_price.specs.declared.progress.Progress.{Progress}
 use Rattle.branch_price.specs.Searching.{site_of, IsSearching}
 

@@ -7,13 +7,12 @@ ghost use Rattle.parse_graph.specs.Graphs.{IsGraph};
 ghost use Rattle.cheapest_tree.specs.Pricers.{IsMadeFor};
 ghost use Rattle.tree_pool.specs.Pools.{IsPool, IsGrown};
 ghost use Rattle.node_master.specs.Ends.{IsNodeCut};
-ghost use Rattle.search_master.specs.Refusals.{EndsWell, counted};
+ghost use Rattle.node_master.specs.Refusals.{EndsWell, counted};
 
 use cheapest_tree::Pricer;
-use node_master::{NodeEnd, Pool};
+use node_master::{Master, NodeEnd, Pool};
 use parse_graph::Graph;
 use roster_model::{Cut, Instance, Memory};
-use search_master::Master;
 use std::alloc::Global;
 
 /// Asks the master for the prices of the node at a path of cuts.

@@ -1,6 +1,6 @@
 ghost use Rattle.std.specs.Prelude.{ℕ, ◌≡◌, ◌≤◌, ◌<◌, Bool, IfOk, OnOk, length, List as Items};
 ghost use Rattle.roster_model.specs.SoundInstance.{IsSoundInstance};
-ghost use Rattle.arc_branch.specs.Paths.{IsLooseAt};
+ghost use Rattle.count_boxes.specs.Paths.{IsLooseAt};
 ghost use Rattle.bound_laws.specs.Infeasible.{IsPlainlyInfeasible};
 ghost use Rattle.bound_laws.specs.Pinned.{IsPinned};
 ghost use Rattle.parse_graph.specs.Graphs.{IsGraph};
@@ -22,12 +22,11 @@ use crate::progress::Progress;
 use crate::solved::{Solved, solved_of};
 use crate::value::shown_value;
 use candidate_rosters::RosterDesk;
-use node_master::Pool;
+use node_master::{Master, Pool};
 use node_path::NodePath;
 use open_nodes::OpenLeaf;
 use parse_graph::Graph;
 use roster_model::{Instance, Memory};
-use search_master::Master;
 use std::alloc::Global;
 
 /// Processes a leaf whose path leaves each arc one count: offers the roster of these counts, and says what

@@ -28,7 +28,6 @@ mod value;
 
 pub use branching::search;
 pub use found::Found;
-pub use node_master::Pool;
+pub use node_master::{FailingMaster, Master, NearMaster, PlainMaster, Pool};
 pub use roster_model::Done;
-pub use search_master::{FailingMaster, Master, NearMaster, PlainMaster};
 pub use search_watch::{ClockWatch, Standing, SteadyWatch, Subject, TurnWatch, Watch};

@@ -2,11 +2,10 @@ ghost use Rattle.std.specs.Prelude.{◌<◌, All, IfSome, length};
 ghost use Rattle.roster_model.specs.SoundInstance.{IsSoundInstance};
 ghost use Rattle.tree_pool.specs.Pools.{IsPool};
 ghost use Rattle.candidate_rosters.specs.Rosters.{IsGoodRoster, IsDeskFor};
-ghost use Rattle.offers.specs.Offers.{IsBetter};
+ghost use Rattle.candidate_rosters.specs.Offers.{IsBetter};
 
-use candidate_rosters::{Roster, RosterDesk, roster_of};
+use candidate_rosters::{Roster, RosterDesk, limit, offer, roster_of};
 use node_master::Pool;
-use offers::{limit, offer};
 use roster_model::{Cell, Instance, Memory, penalty};
 use std::alloc::Global;
 

@@ -6,14 +6,13 @@ ghost use Rattle.parse_graph.specs.Graphs.{IsGraph};
 ghost use Rattle.tree_pool.specs.Pools.{IsPool, IsGrown};
 ghost use Rattle.candidate_rosters.specs.Rosters.{IsGoodRoster, IsDeskFor};
 ghost use Rattle.node_path.specs.Paths.{IsPath};
-ghost use Rattle.offers.specs.Offers.{limit_of, IsBetter};
+ghost use Rattle.candidate_rosters.specs.Offers.{limit_of, IsBetter};
 ghost use Rattle.branch_price.specs.Plans.{AskForArcs};
 
 use crate::counts::least_counts;
-use candidate_rosters::{Roster, RosterDesk};
+use candidate_rosters::{Roster, RosterDesk, limit, offer_counts};
 use node_master::Pool;
 use node_path::NodePath;
-use offers::{limit, offer_counts};
 use parse_graph::Graph;
 use roster_model::{Instance, Memory, greatest_cost};
 use std::alloc::Global;

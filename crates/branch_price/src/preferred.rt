@@ -5,10 +5,9 @@ ghost use Rattle.master_laws.specs.Rows.{rows_of};
 ghost use Rattle.roster_model.specs.Limits.{IsSmallCut};
 
 use crate::rounded::in_parts;
-use arc_branch::ArcBox;
-use candidate_rosters::Roster;
+use candidate_rosters::{Roster, limit};
+use count_boxes::ArcBox;
 use node_master::{Pool, Weight};
-use offers::limit;
 use parse_graph::Graph;
 use roster_model::{Cut, Instance, List, Memory};
 use split_probes::{Gains, Share, best_arc};

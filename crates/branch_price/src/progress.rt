@@ -1,8 +1,7 @@
 ghost use Rattle.roster_model.specs.SoundInstance.{IsSoundInstance};
 ghost use Rattle.branch_price.specs.Ends.{IsNext};
 
-use candidate_rosters::Roster;
-use offers::limit;
+use candidate_rosters::{Roster, limit};
 use open_nodes::OpenLeaf;
 use roster_model::Instance;
 use search_tree::SearchTree;

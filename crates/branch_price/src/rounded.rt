@@ -2,7 +2,7 @@ ghost use Rattle.std.specs.Prelude.{ℕ, pos, ◌≡◌, ◌≤◌, ◌<◌, ◌
 ghost use Rattle.roster_model.specs.SoundInstance.{IsSoundInstance};
 ghost use Rattle.tree_pool.specs.Pools.{IsPool};
 ghost use Rattle.candidate_rosters.specs.Rosters.{IsGoodRoster, IsDeskFor};
-ghost use Rattle.offers.specs.Offers.{IsBetter};
+ghost use Rattle.candidate_rosters.specs.Offers.{IsBetter};
 ghost use Rattle.branch_price.specs.Rounded.{AreFewer};
 
 use crate::offered::offer_trees;

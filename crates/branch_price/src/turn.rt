@@ -13,12 +13,11 @@ use crate::counts::arc_at;
 use crate::desk::Desk;
 use crate::leaf::{pin_leaf, price_leaf};
 use crate::progress::Progress;
-use node_master::Pool;
+use node_master::{Master, Pool};
 use node_path::NodePath;
 use open_nodes::OpenLeaf;
 use parse_graph::Graph;
 use roster_model::{Instance, Memory};
-use search_master::Master;
 use std::alloc::Global;
 
 /// Splits a leaf that has a plan, and returns the half that is to be processed; a leaf without one is to be

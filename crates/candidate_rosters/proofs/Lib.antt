@@ -8,3 +8,5 @@ pub mod CostPrices
 pub mod LeadersLemmas
 pub mod LeaderColumns
 pub mod StartsLemmas
+pub mod Limits
+pub mod GraphCounts

@@ -3,3 +3,5 @@ pub mod Order
 pub mod Rosters
 pub mod Spelled
 pub mod Starts
+pub mod Offers
+pub mod Finding

@@ -1,8 +1,10 @@
 //! Rosters that a search may offer: the words of trees at their prices, where these are allowed.
 #![tactic(auto)]
 
+mod best;
 mod columns;
 mod costs;
+mod counts;
 mod desk;
 mod group;
 mod lead;
@@ -15,7 +17,9 @@ mod shift;
 mod shifts;
 mod word;
 
+pub use best::{limit, offer};
 pub use columns::columns_of;
+pub use counts::offer_counts;
 pub use desk::RosterDesk;
 pub use lead::team_arc;
 pub use least::least_roster;

@@ -6,7 +6,7 @@ ghost use Rattle.proof_check.specs.Benches.{IsBenchFor, node_room};
 use crate::days::{
     BLOCK_DAY, EXACT_DAY, FLOOR_DAY, FREE_DAY, FULL_DAY, GROUP_DAY, ONE_DAY, PAIR_DAY,
 };
-use bound_proof::read_cert;
+use certificate_text::read_cert;
 use certificates::{Cert, Why};
 use proof_check::{Bench, Judged, Verdict};
 use proof_pieces::{CertRoom, PieceFault};

@@ -11,7 +11,7 @@ use Rattle.certificates.specs.declared.cert.Node.TheVariants.{Split, Priced, Pin
 use Rattle.certificates.specs.Kinds.{is_processed}
 use Rattle.certificates.specs.Nodes.{Proof, split, priced, pinned, bare, preorder, Visit, visits, low_cut, high_cut}
 use Rattle.certificate_laws.specs.Accepted.{bound_number}
-use Rattle.bound_proof.specs.Written.{node_values}
+use Rattle.certificate_text.specs.Written.{node_values}
 use Rattle.branch_price.specs.declared.found.Found.{Found}
 use Rattle.branch_price.specs.Found.{IsFound, IsFoundNode}
 use Rattle.day_solver.specs.Texts.{HasFewValues}

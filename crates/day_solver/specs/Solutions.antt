@@ -6,7 +6,7 @@ use Rattle.roster_model.specs.declared.instance.Instance.{Instance}
 use Rattle.arc_laws.specs.Lists.{AreArcs}
 use Rattle.certificate_laws.specs.Right.{YesIsRight}
 use Rattle.proof_pieces.specs.CertOf.{proof_of}
-use Rattle.bound_proof.specs.Written.{cert_text}
+use Rattle.certificate_text.specs.Written.{cert_text}
 use Rattle.branch_price.specs.declared.found.Found.{Found}
 use Rattle.branch_price.specs.Found.{IsFound}
 use Rattle.roster_report.specs.declared.report.Report.{Report}

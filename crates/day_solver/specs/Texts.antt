@@ -4,7 +4,7 @@ use Rattle.roster_model.specs.declared.instance.Instance.{Instance}
 use Rattle.roster_model.specs.Folds.{sum_n}
 use Rattle.certificates.specs.declared.cert.Cert.{Cert}
 use Rattle.proof_pieces.specs.CertOf.{proof_of}
-use Rattle.bound_proof.specs.Written.{cert_text, node_values}
+use Rattle.certificate_text.specs.Written.{cert_text, node_values}
 
 -- as few prices and multipliers as 10,000 nodes of at most 1,498 list
 abbrev pub HasFewValues : Cert → Type 0

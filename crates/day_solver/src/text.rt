@@ -3,7 +3,7 @@ ghost use Rattle.certificates.specs.Sound.{IsSoundCert};
 ghost use Rattle.roster_model.specs.SoundInstance.{IsSoundInstance};
 ghost use Rattle.day_solver.specs.Texts.{HasFewValues, IsTextOf};
 
-use bound_proof::{write_cert, written_again};
+use certificate_text::{write_cert, written_again};
 use certificates::Cert;
 use roster_model::{Instance, List, Memory};
 use std::alloc::Global;

@@ -7,8 +7,8 @@ use Rattle.std.proofs.lemmas.Bool.{cases_eq}
 use Rattle.roster_model.specs.declared.grammar.Grammar.{Grammar}
 use Rattle.roster_model.specs.Grammar.{InDay}
 use Rattle.roster_model.specs.Sums.{PriceView, AtMost}
-use Rattle.span_forms.proofs.Rows.{place-apart, place-before}
-use Rattle.span_forms.specs.Places.{place_of}
+use Rattle.span_cells.proofs.FormRows.{place-apart, place-before}
+use Rattle.span_cells.specs.Places.{place_of}
 use Rattle.tree_laws.proofs.LeastValues.{AtMost-refl, AtMost-trans}
 use Rattle.span_cells.specs.declared.slot.Layout.{Layout}
 use Rattle.span_cells.specs.declared.slot.Slot.{Slot}

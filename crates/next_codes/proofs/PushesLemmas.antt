@@ -12,8 +12,8 @@ use Rattle.tree_laws.proofs.Rules.{rule_at-within}
 use Rattle.span_cells.specs.Chains.{IsFirstRule}
 use Rattle.roster_model.specs.Trees.{On}
 use Rattle.roster_model.specs.Sums.{PriceView, AtMost, tree_sum, parts_sum, SymbolLeast, PartsLeast}
-use Rattle.span_forms.proofs.Rows.{place-apart, place-within}
-use Rattle.span_forms.specs.Places.{shorter, place_of}
+use Rattle.span_cells.proofs.FormRows.{place-apart, place-within}
+use Rattle.span_cells.specs.Places.{shorter, place_of}
 use Rattle.std.proofs.lemmas.Nat.{mul-add-lt}
 use Rattle.tree_laws.proofs.LeastValues.{AtMost-trans, IsLeast-one}
 use Rattle.tree_laws.proofs.PartLoop.{less_or_same}

@@ -2,7 +2,7 @@ ghost use Rattle.std.specs.Prelude.{ℕ, ◌≡◌, ◌≤◌, ◌<◌, ◌+◌,
 ghost use Rattle.roster_model.specs.Grammar.{rule_at, InDay};
 ghost use Rattle.roster_model.specs.Sound.{Exists};
 ghost use Rattle.roster_model.specs.Sums.{PriceView, Within, AtMost};
-ghost use Rattle.span_forms.specs.Places.{place_of};
+ghost use Rattle.span_cells.specs.Places.{place_of};
 ghost use Rattle.span_cells.specs.Cells.{IsLayoutOf, cell_count, name_slot, place};
 ghost use Rattle.next_codes.specs.Totals.{IsLowered, AreLowered, AreCounted, AreThrough, SymbolThrough, PartsThrough};
 ghost use Rattle.next_codes.specs.Pushes.{symbol_of, SymbolDue, RestDue};

@@ -10,8 +10,7 @@ use crate::lowering::lower_symbol;
 use crate::parts::push_parts;
 use crate::totals::Totals;
 use roster_model::{ArcKey, Grammar, LetterPrice, Rule, Sym, rule_of};
-use span_cells::{Layout, Span, Suffix, SumCells, add, symbol_least};
-use span_forms::may_stand;
+use span_cells::{Layout, Span, Suffix, SumCells, add, may_stand, symbol_least};
 
 // Pushes the sum of what stands around the only part of a right side of one symbol to that part.
 fn push_only<P: LetterPrice>(

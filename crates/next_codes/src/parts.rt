@@ -1,7 +1,7 @@
 ghost use Rattle.std.specs.Prelude.{◌≡◌, ◌≤◌, ◌<◌, ◌+◌, ◌*◌, ◌^◌, Some, length, drop};
 ghost use Rattle.roster_model.specs.Grammar.{rule_at, InDay};
 ghost use Rattle.roster_model.specs.Sums.{Within};
-ghost use Rattle.span_forms.specs.Places.{place_of};
+ghost use Rattle.span_cells.specs.Places.{place_of};
 ghost use Rattle.next_codes.specs.Totals.{AreLowered, AreThrough, PartsAround};
 ghost use Rattle.next_codes.specs.Pushes.{IsPushing, PartDone, PartsDone};
 

@@ -1,7 +1,7 @@
 ghost use Rattle.std.specs.Prelude.{ℕ, ℤ, ◌≡◌, ◌≤◌, ◌<◌, ◌+◌, ◌*◌, Some, length};
 ghost use Rattle.roster_model.specs.declared.grammar.Grammar.{Grammar as Rules};
 ghost use Rattle.roster_model.specs.Grammar.{InDay};
-ghost use Rattle.span_forms.specs.Places.{shorter, place_of};
+ghost use Rattle.span_cells.specs.Places.{shorter, place_of};
 ghost use Rattle.span_cells.specs.Cells.{IsReady, AreFilled, cell_count, place};
 ghost use Rattle.roster_model.specs.Sound.{IsSound};
 ghost use Rattle.roster_model.specs.Sums.{SymbolLeast};

@@ -6,8 +6,8 @@ use Rattle.roster_model.specs.declared.instance.Cut.{Cut}
 use Rattle.roster_model.specs.declared.instance.Instance.{Instance}
 use Rattle.roster_model.specs.Cuts.{base_cuts}
 use Rattle.parse_graph.specs.Graphs.{GraphView, IsGraph}
-use Rattle.arc_branch.specs.Boxes.{BoxView}
-use Rattle.arc_branch.specs.Paths.{IsBoxOf}
+use Rattle.count_boxes.specs.Boxes.{BoxView}
+use Rattle.count_boxes.specs.Paths.{IsBoxOf}
 use Rattle.growing_laws.specs.declared.seat.Seat.{Seat}
 use Rattle.growing_laws.specs.Grown.{Grown}
 use Rattle.node_path.specs.Paths.{PathView, IsPath, IsNode}

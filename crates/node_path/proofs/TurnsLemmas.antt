@@ -10,7 +10,7 @@ use Rattle.roster_model.specs.Arcs.{IsArc}
 use Rattle.roster_model.specs.Folds.{In}
 use Rattle.roster_model.proofs.EachLemmas.{get-in}
 use Rattle.parse_graph.specs.Graphs.{GraphView, IsGraph}
-use Rattle.arc_branch.specs.Boxes.{BoxView}
+use Rattle.count_boxes.specs.Boxes.{BoxView}
 use Rattle.node_path.specs.declared.turn.Turn.{Turn}
 use Rattle.node_path.specs.Paths.{IsTurn, AreTurns}
 use Rattle.node_path.specs.Steps.{IsWithin, AreWithin, HasTurned}

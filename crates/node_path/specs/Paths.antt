@@ -4,8 +4,8 @@ use Rattle.roster_model.specs.declared.instance.Cut.{Cut}
 use Rattle.roster_model.specs.declared.instance.Instance.{Instance}
 use Rattle.roster_model.specs.Cuts.{base_cuts}
 use Rattle.parse_graph.specs.Graphs.{GraphView}
-use Rattle.arc_branch.specs.Boxes.{BoxView}
-use Rattle.arc_branch.specs.Paths.{IsBoxOf, WasBoxOf}
+use Rattle.count_boxes.specs.Boxes.{BoxView}
+use Rattle.count_boxes.specs.Paths.{IsBoxOf, WasBoxOf}
 use Rattle.growing_laws.specs.declared.seat.Seat.{Seat}
 use Rattle.growing_laws.specs.Grown.{Grown, OnForks}
 use Rattle.growing_laws.specs.Seats.{HoldTree, StandsAt}

@@ -7,8 +7,8 @@ use Rattle.roster_model.specs.Cuts.{lo, hi, base_cuts}
 use Rattle.roster_model.specs.Folds.{Each}
 use Rattle.roster_model.specs.SoundInstance.{IsSoundInstance}
 use Rattle.parse_graph.specs.Graphs.{GraphView, IsGraph}
-use Rattle.arc_branch.specs.Boxes.{BoxView}
-use Rattle.arc_branch.specs.Paths.{IsBoxOf}
+use Rattle.count_boxes.specs.Boxes.{BoxView}
+use Rattle.count_boxes.specs.Paths.{IsBoxOf}
 use Rattle.growing_laws.specs.Grown.{Grown}
 use Rattle.growing_laws.specs.Seats.{StandsAt}
 use Rattle.node_path.specs.declared.turn.Turn.{Turn}

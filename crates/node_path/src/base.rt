@@ -2,11 +2,11 @@ ghost use Rattle.std.specs.Prelude.{◌≡◌, IfOk};
 ghost use Rattle.roster_model.specs.Cuts.{base_cuts};
 ghost use Rattle.roster_model.specs.SoundInstance.{IsSoundInstance};
 ghost use Rattle.parse_graph.specs.Graphs.{IsGraph};
-ghost use Rattle.arc_branch.specs.Paths.{IsBoxOf};
+ghost use Rattle.count_boxes.specs.Paths.{IsBoxOf};
 
 use crate::turns::narrow;
-use arc_branch::ArcBox;
 use base_cuts::push_base_cuts;
+use count_boxes::ArcBox;
 use parse_graph::Graph;
 use roster_model::{Cut, Instance, Memory};
 use std::alloc::Global;

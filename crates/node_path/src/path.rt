@@ -4,7 +4,7 @@ ghost use Rattle.roster_model.specs.Cuts.{base_cuts};
 ghost use Rattle.roster_model.specs.SoundInstance.{IsSoundInstance};
 ghost use Rattle.bound_laws.specs.Pinned.{IsPinnedValue};
 ghost use Rattle.parse_graph.specs.Graphs.{IsGraph};
-ghost use Rattle.arc_branch.specs.Costs.{pinned_number};
+ghost use Rattle.count_boxes.specs.Costs.{pinned_number};
 ghost use Rattle.growing_laws.specs.Grown.{Grown};
 ghost use Rattle.node_path.specs.Paths.{IsPath, IsNode};
 
@@ -12,7 +12,7 @@ use crate::base::{base_box, base_cuts as cuts_of_base};
 use crate::climb::{follow, further};
 use crate::turn::Turn;
 use crate::turns::{go_back, go_down};
-use arc_branch::ArcBox;
+use count_boxes::ArcBox;
 use growing_laws::Seat;
 use parse_graph::Graph;
 use roster_model::{Cut, Instance, Memory};

@@ -5,12 +5,12 @@ ghost use Rattle.roster_model.specs.declared.instance.Instance.{Instance as Day}
 ghost use Rattle.roster_model.specs.Arcs.{IsArc};
 ghost use Rattle.roster_model.specs.Folds.{In, Each};
 ghost use Rattle.parse_graph.specs.Graphs.{GraphView, IsGraph};
-ghost use Rattle.arc_branch.specs.Paths.{IsBoxOf};
+ghost use Rattle.count_boxes.specs.Paths.{IsBoxOf};
 ghost use Rattle.node_path.specs.Paths.{IsTurn, AreTurns};
 ghost use Rattle.node_path.specs.Steps.{CanCut, CanGoDown, HasTurned};
 
 use crate::turn::Turn;
-use arc_branch::ArcBox;
+use count_boxes::ArcBox;
 use parse_graph::Graph;
 use roster_model::{Cut, Memory};
 

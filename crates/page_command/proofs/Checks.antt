@@ -9,7 +9,7 @@ use Rattle.certificate_laws.specs.Accepted.{Accepts}
 use Rattle.proof_check.specs.declared.judged.Judged.TheVariants.{Said}
 use Rattle.proof_check.specs.Judging.{IsJudged}
 use Rattle.proof_pieces.specs.CertOf.{proof_of}
-use Rattle.shift_report.specs.VerdictText.{verdict_text}
+use Rattle.answer_texts.specs.VerdictText.{verdict_text}
 use Rattle.page_command.specs.Check.{Judgement, yes, no}
 use Rattle.page_command.specs.Draw.{IsPage}
 use Rattle.text_commands.specs.declared.answer.Answer.{Answer}

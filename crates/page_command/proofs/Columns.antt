@@ -15,9 +15,9 @@ use Rattle.arc_laws.proofs.FoldsLemmas.{count-le-length}
 use Rattle.certificates.specs.Sound.{IsSoundCert}
 use Rattle.certificates.specs.declared.cert.Cert.{Cert}
 use Rattle.certificates.specs.RosterCauses.{duties}
-use Rattle.page_costs.specs.Columns.{column_of}
-use Rattle.page_costs.specs.Costs.{AreDayColumns}
-use Rattle.page_costs.specs.declared.column.Column.{Column}
+use Rattle.page_text.specs.Columns.{column_of}
+use Rattle.page_text.specs.Costs.{AreDayColumns}
+use Rattle.page_text.specs.declared.column.Column.{Column}
 use Rattle.page_command.specs.Draw.{columns_of}
 
 small : (i : Instance) (ds : List Duty) → length ds ≤ 64 → (c : Cell) → IsDayCell i.grammar c → (column_of i.grammar ds c).penalty ≤ 1280000

@@ -16,8 +16,8 @@ use Rattle.proof_pieces.specs.CertOf.{proof_of}
 use Rattle.proof_pieces.specs.FaultLine as proof
 use Rattle.page_text.specs.declared.row.Row.{Row}
 use Rattle.shelf.specs.Shelf.{Texts}
-use Rattle.shift_report.specs.TreeText.{tree_text}
-use Rattle.shift_report.specs.VerdictText.{verdict_text}
+use Rattle.answer_texts.specs.TreeText.{tree_text}
+use Rattle.answer_texts.specs.VerdictText.{verdict_text}
 use Rattle.text_commands.specs.Check.{ProofAnswers, AnswersThird, DemandAnswers, AnswersDemand, RulesAnswers, AnswersTexts}
 use Rattle.text_commands.specs.Check as checks
 use Rattle.text_commands.specs.SameTexts.{AreTreesAtOnePrice}

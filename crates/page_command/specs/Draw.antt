@@ -7,9 +7,9 @@ use Rattle.roster_model.specs.Folds.{sum_n}
 use Rattle.certificates.specs.declared.cert.Cert.{Cert}
 use Rattle.certificates.specs.RosterCauses.{duties, stated_prices}
 use Rattle.page_parts.specs.Elements.{written}
-use Rattle.page_costs.specs.Columns.{column_of}
-use Rattle.page_costs.specs.declared.column.Column.{Column}
-use Rattle.page_costs.specs.declared.figures.Figures.{Figures}
+use Rattle.page_text.specs.Columns.{column_of}
+use Rattle.page_text.specs.declared.column.Column.{Column}
+use Rattle.page_text.specs.declared.figures.Figures.{Figures}
 use Rattle.page_text.specs.Pages.{page}
 use Rattle.page_text.specs.declared.content.Content.{Content}
 use Rattle.page_command.specs.Rows.{AreDerived, rows_of}

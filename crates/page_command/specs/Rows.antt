@@ -8,7 +8,7 @@ use Rattle.roster_model.specs.declared.instance.Instance.{Instance}
 use Rattle.roster_model.specs.declared.instance.Shift.{Shift}
 use Rattle.roster_model.specs.Shifts.{IsPrice}
 use Rattle.roster_model.specs.Sound.{IsSound}
-use Rattle.bound_proof.specs.Written.{group_name}
+use Rattle.certificate_text.specs.Written.{group_name}
 use Rattle.page_parts.specs.Elements.{places}
 use Rattle.page_text.specs.declared.row.Row.{Row}
 use Rattle.text_commands.specs.Explain.{SaysTree}

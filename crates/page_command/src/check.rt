@@ -1,7 +1,7 @@
 ghost use Rattle.std.specs.Prelude.{◌≡◌, [], ◌∷◌, IfOk};
 ghost use Rattle.roster_model.specs.SoundInstance.{IsSoundInstance};
 ghost use Rattle.page_command.specs.Check.{AnswersPage, Judgement};
-ghost use Rattle.shift_report.specs.VerdictText.{verdict_text};
+ghost use Rattle.answer_texts.specs.VerdictText.{verdict_text};
 ghost use Rattle.text_commands.specs.Check.{ProofAnswers};
 ghost use Rattle.text_commands.specs.Reader.{IsReader};
 

@@ -2,7 +2,7 @@ ghost use Rattle.std.specs.Prelude.{◌≡◌, ◌≤◌, IfOk, IfSome, Ok as Is
 ghost use Rattle.certificate_laws.specs.Accepted.{Accepts, IsStated};
 ghost use Rattle.certificates.specs.Sound.{IsSoundCert};
 ghost use Rattle.certificates.specs.declared.cert.Cert.{Cert as Certificate};
-ghost use Rattle.page_costs.specs.Costs.{AreDayColumns};
+ghost use Rattle.page_text.specs.Costs.{AreDayColumns};
 ghost use Rattle.proof_pieces.specs.CertOf.{proof_of};
 ghost use Rattle.roster_model.specs.SoundInstance.{IsSoundInstance};
 ghost use Rattle.roster_report.specs.Reports.{HasSoundShifts};
@@ -10,10 +10,9 @@ ghost use Rattle.page_command.specs.Draw.{IsContent, IsPage, columns_of, figures
 
 use crate::derived::derivations;
 use crate::rows::rows_of;
-use bound_proof::{ProofFault, read_cert};
+use certificate_text::{ProofFault, read_cert};
 use certificates::Cert;
-use page_costs::{Column, Figures, add_columns};
-use page_text::{Content, write_page};
+use page_text::{Column, Content, Figures, add_columns, write_page};
 use roster_model::{Instance, List, Memory, Shift};
 use roster_report::paid;
 use std::alloc::Global;

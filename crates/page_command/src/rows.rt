@@ -2,7 +2,7 @@ ghost use Rattle.std.specs.Prelude.{◌≡◌, ◌≤◌, ◌+◌, ◌++◌, [],
 ghost use Rattle.std.specs.List.{list_any};
 ghost use Rattle.page_command.specs.Rows.{are_many, count_of, has_row, is_same, own_row, row_of, rows_at, rows_of};
 
-use bound_proof::group_name;
+use certificate_text::group_name;
 use page_text::Row;
 use roster_model::{Instance, List, Memory, Shift};
 use std::alloc::Global;

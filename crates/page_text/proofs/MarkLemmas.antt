@@ -10,9 +10,9 @@ use Rattle.page_parts.specs.Escapes.{IsOneToOne, marks_of, recoded}
 use Rattle.page_parts.specs.Sheets.{chart_width, sheet_of}
 use Rattle.page_parts.specs.declared.sheet.Sheet.{Sheet}
 use Rattle.page_parts.proofs.PaintLemmas.{same_paint}
-use Rattle.page_costs.specs.Costs.{chip, code_cost, code_costs, costs, demanded_cost, is_demanded}
-use Rattle.page_costs.specs.declared.column.Column.{Column}
-use Rattle.page_costs.specs.declared.figures.Figures.{Figures}
+use Rattle.page_text.specs.Costs.{chip, code_cost, code_costs, costs, demanded_cost, is_demanded}
+use Rattle.page_text.specs.declared.column.Column.{Column}
+use Rattle.page_text.specs.declared.figures.Figures.{Figures}
 use Rattle.page_text.specs.Alike.{AreAlikeRows, IsAlike, IsAlikeRow}
 use Rattle.page_text.specs.Charts.{top_count, unit_of}
 use Rattle.page_text.specs.Inputs.{longest}

@@ -4,7 +4,7 @@ use Rattle.std.specs.List.{flat_map}
 use Rattle.page_parts.specs.Elements.{Element, marks, number, bar, figure}
 use Rattle.page_parts.specs.Sheets.{left_of, right_of}
 use Rattle.page_parts.specs.declared.sheet.Sheet.{Sheet}
-use Rattle.page_costs.specs.declared.column.Column.{Column}
+use Rattle.page_text.specs.declared.column.Column.{Column}
 use Rattle.page_text.specs.declared.ink.Ink.{Ink}
 use Rattle.page_text.specs.declared.ink.Ink.TheVariants.{Bars, Need, Floor, Ceiling, Needed, Had, Short, Over}
 

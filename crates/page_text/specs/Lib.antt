@@ -4,3 +4,5 @@ pub mod RosterChart
 pub mod Charts
 pub mod Pages
 pub mod Style
+pub mod Columns
+pub mod Costs

@@ -5,8 +5,8 @@ use Rattle.roster_model.specs.declared.grammar.CodeDef.{CodeDef}
 use Rattle.page_parts.specs.Elements.{Element, each_from, marks, given, number, caption, places}
 use Rattle.page_parts.specs.Sheets.{chart_width, sheet_of}
 use Rattle.page_parts.specs.declared.sheet.Sheet.{Sheet}
-use Rattle.page_costs.specs.Costs.{chip, costs, is_demanded, sentence}
-use Rattle.page_costs.specs.declared.column.Column.{Column}
+use Rattle.page_text.specs.Costs.{chip, costs, is_demanded, sentence}
+use Rattle.page_text.specs.declared.column.Column.{Column}
 use Rattle.page_text.specs.Charts.{frame, in_words, inked, lines, top_count, unit_of}
 use Rattle.page_text.specs.Inputs.{longest}
 use Rattle.page_text.specs.declared.ink.Ink.TheVariants.{Bars}

@@ -25,8 +25,8 @@ ghost use Rattle.page_text.specs.Charts.{
   unit_of,
 };
 
+use crate::Column;
 use crate::ink::Ink;
-use page_costs::Column;
 use page_parts::{Area, Sheet, bar, figure, labelled, left_of, marks, right_of};
 use roster_model::{List, Memory};
 

@@ -1,5 +1,5 @@
 use crate::row::Row;
-use page_costs::{Column, Figures};
+use crate::{Column, Figures};
 use roster_model::List;
 
 /// What a page shows.

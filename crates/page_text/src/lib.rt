@@ -3,7 +3,10 @@
 #![tactic(auto)]
 
 mod chart;
+mod column;
 mod content;
+pub mod costs;
+mod figures;
 mod ink;
 mod laws;
 mod page;
@@ -11,7 +14,9 @@ mod roster_chart;
 mod row;
 mod style;
 
+pub use column::{Column, add_columns};
 pub use content::Content;
+pub use figures::Figures;
 pub use laws::{marks_stay, page_ends};
 pub use page::write_page;
 pub use row::Row;

@@ -1,5 +1,5 @@
 ghost use Rattle.std.specs.Prelude.{◌≡◌, ◌≤◌, ◌++◌, codes as text, length, IfOk, OnOk};
-ghost use Rattle.page_costs.specs.Costs.{AreDayColumns};
+ghost use Rattle.page_text.specs.Costs.{AreDayColumns};
 ghost use Rattle.page_parts.specs.Elements.{written};
 ghost use Rattle.page_text.specs.Pages.{
   all_show,
@@ -28,14 +28,14 @@ ghost use Rattle.page_text.specs.Pages.{
   work_word,
 };
 
+use crate::Column;
 use crate::chart::{frame, in_words, inked, lines, top_count, unit_of};
 use crate::content::Content;
+use crate::costs::{chip, costs, is_demanded, sentence};
 use crate::ink::Ink;
 use crate::roster_chart::{rows, ticks};
 use crate::row::{Row, longest};
 use crate::style::style;
-use page_costs::Column;
-use page_costs::costs::{chip, costs, is_demanded, sentence};
 use page_parts::{Sheet, caption, chart_width, labelled, labelled_text, marks, sheet_of};
 use roster_model::{CodeDef, List, Memory};
 use std::alloc::Global;

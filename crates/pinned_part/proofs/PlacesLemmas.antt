@@ -14,8 +14,8 @@ use Rattle.roster_model.specs.Folds.{Each}
 use Rattle.roster_model.specs.Arcs.{Letter}
 use Rattle.roster_model.specs.Sound.{IsSound, Exists}
 use Rattle.tree_laws.proofs.Rules.{rule_at-within, sound-rule, sound-symbol}
-use Rattle.span_forms.specs.Places.{shorter, place_of}
-use Rattle.span_forms.proofs.Rows.{place-within, place-apart, shorter-small}
+use Rattle.span_cells.specs.Places.{shorter, place_of}
+use Rattle.span_cells.proofs.FormRows.{place-within, place-apart, shorter-small}
 use Rattle.span_cells.proofs.CellsLemmas.{same-row}
 use Rattle.arc_laws.specs.OrNodes.{OrNode, name, suffix, leaf, same_node, made, made_by, symbol_node, used, used_by}
 use Rattle.arc_laws.proofs.BalanceLemmas.{left_of-is, right_of-is}

@@ -2,7 +2,7 @@
 use Rattle.std.specs.Prelude.{ℕ, ◌+◌, ◌-◌, ◌*◌, ◌<◌, ◌≤◌, length}
 use Rattle.roster_model.specs.declared.grammar.Grammar.{Grammar}
 use Rattle.roster_model.specs.Grammar.{InDay}
-use Rattle.span_forms.specs.Places.{shorter, place_of}
+use Rattle.span_cells.specs.Places.{shorter, place_of}
 use Rattle.arc_laws.specs.OrNodes.{OrNode, name, suffix, leaf}
 
 -- how many names and suffixes have places on each span: each name, and seven suffixes of each rule

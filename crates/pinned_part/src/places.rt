@@ -5,7 +5,7 @@ ghost use Rattle.arc_laws.specs.OrNodes.{name as name_node, suffix as suffix_nod
 ghost use Rattle.pinned_part.specs.Places.{width, node_count, place_count, span_place, node_place, IsPlaced};
 
 use roster_model::Grammar;
-use span_forms::SpanIndex;
+use span_cells::SpanIndex;
 
 // How many names and suffixes have places on each span.
 fn width(grammar: &Grammar) -> usize

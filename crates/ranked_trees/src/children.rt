@@ -9,7 +9,7 @@ use crate::candidate::{Child, inside};
 use crate::frame::Frame;
 use crate::sums::{Sums, frame_least, part_price};
 use roster_model::{Grammar, LetterPrice, Memory, Step, Sym, rule_of};
-use span_forms::may_stand;
+use span_cells::may_stand;
 use std::alloc::Global;
 
 // The least sum of what a frame derives by a use of a rule of so many periods for its first symbol,

@@ -4,7 +4,7 @@ use Rattle.std.specs.Fmt.{decimal}
 use Rattle.roster_model.specs.declared.instance.Instance.{Instance}
 use Rattle.roster_model.specs.declared.instance.Shift.{Shift}
 use Rattle.roster_model.specs.Demands.{Demand}
-use Rattle.bound_proof.specs.Written.{group_name}
+use Rattle.certificate_text.specs.Written.{group_name}
 use Rattle.demand_text.specs.Written.{demand_text}
 use Rattle.text_lines.specs.Written.{tail}
 use Rattle.remaining_day.specs.declared.answer.Rest.{Rest}

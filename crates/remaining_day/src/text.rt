@@ -16,7 +16,7 @@ ghost use Rattle.remaining_day.specs.RestText.{
 
 use crate::answer::{Remaining, Rest};
 use crate::cause::Cause;
-use bound_proof::group_name;
+use certificate_text::group_name;
 use demand_text::write_demand;
 use roster_model::{Instance, List, Memory, Shift};
 use std::alloc::Global;

@@ -2,7 +2,7 @@
 use Rattle.std.specs.Prelude.{ℕ, List, [], ◌∷◌, codes, length, map}
 use Rattle.std.specs.Fmt.{decimal}
 use Rattle.text_lines.specs.Written.{written}
-use Rattle.bound_proof.specs.Written.{amount_word}
+use Rattle.certificate_text.specs.Written.{amount_word}
 use Rattle.branch_price.specs.declared.found.Found.{Found}
 use Rattle.reuse_report.specs.declared.points.CurvePoint.{CurvePoint}
 

@@ -2,8 +2,8 @@
 use Rattle.std.specs.Prelude.{ℕ, Option, List, [], ◌∷◌, codes}
 use Rattle.text_lines.specs.Written.{written}
 use Rattle.certificates.specs.declared.verdict.Verdict.TheVariants.{No}
-use Rattle.bound_proof.specs.Written.{amount_words}
-use Rattle.shift_report.specs.VerdictText.{verdict_text}
+use Rattle.certificate_text.specs.Written.{amount_words}
+use Rattle.answer_texts.specs.VerdictText.{verdict_text}
 use Rattle.proof_reuse.specs.declared.nodes.Reused.{Reused}
 use Rattle.proof_reuse.specs.declared.nodes.Reused.TheVariants.{Bound, Refused}
 

@@ -1,6 +1,6 @@
 ghost use Rattle.std.specs.Prelude.{◌≡◌, ◌++◌, [], ◌∷◌, length, map, IfOk, OnOk};
 ghost use Rattle.text_lines.specs.Written.{written, tail};
-ghost use Rattle.bound_proof.specs.Written.{amount_words};
+ghost use Rattle.certificate_text.specs.Written.{amount_words};
 ghost use Rattle.reuse_report.specs.CurveText.{point_of, point_words, count_words, curve_text};
 
 use branch_price::Found;

@@ -1,11 +1,11 @@
 ghost use Rattle.std.specs.Prelude.{◌≡◌, IfOk};
 ghost use Rattle.reuse_report.specs.ReusedText.{bound_text, reused_text};
 
-use bound_proof::amount_line;
+use answer_texts::write_verdict;
+use certificate_text::amount_line;
 use certificates::Verdict;
 use proof_reuse::Reused;
 use roster_model::{List, Memory};
-use shift_report::write_verdict;
 use std::alloc::Global;
 
 /// Returns the line of a bound.

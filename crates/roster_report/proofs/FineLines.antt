@@ -18,9 +18,9 @@ use Rattle.roster_model.specs.SoundInstance.{HasGroups, IsSoundInstance}
 use Rattle.roster_model.proofs.EachLemmas.{Each-append}
 use Rattle.certificates.specs.Sound.{IsGroupNumber}
 use Rattle.proof_pieces.specs.PriceLines.{due_byte}
-use Rattle.bound_proof.specs.Written.{amount_word, amount_words, name_word, shift_words, shift_line}
-use Rattle.bound_proof.proofs.FineWords.{IsFine, IsFineLine, line_fine, lines_fine, number_fine, bytes_fine, any_name_fine, name_within, due_fine}
-use Rattle.bound_proof.proofs.TreeAgain.{each_take}
+use Rattle.certificate_text.specs.Written.{amount_word, amount_words, name_word, shift_words, shift_line}
+use Rattle.certificate_text.proofs.FineWords.{IsFine, IsFineLine, line_fine, lines_fine, number_fine, bytes_fine, any_name_fine, name_within, due_fine}
+use Rattle.certificate_text.proofs.TreeAgain.{each_take}
 use Rattle.roster_report.specs.declared.cover.Cover.{Cover}
 use Rattle.roster_report.specs.declared.part.Part.{Part}
 use Rattle.roster_report.specs.declared.part.Part.TheVariants.{Need, Have, Short, Over}

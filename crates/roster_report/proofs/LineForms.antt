@@ -23,8 +23,8 @@ use Rattle.certificates.specs.Sound.{IsGroupNumber, IsWordByte}
 use Rattle.proof_pieces.specs.Fields.{has_name}
 use Rattle.proof_pieces.specs.ShiftLines.{version}
 use Rattle.proof_pieces.proofs.FineItems.{AreFine, IsFineWord}
-use Rattle.bound_proof.specs.Written.{amount_word, amount_words, name_word, shift_words, shift_line}
-use Rattle.bound_proof.proofs.FineWords.{name_within}
+use Rattle.certificate_text.specs.Written.{amount_word, amount_words, name_word, shift_words, shift_line}
+use Rattle.certificate_text.proofs.FineWords.{name_within}
 use Rattle.roster_report.specs.declared.part.Part.{Part}
 use Rattle.roster_report.specs.LineWords.{most_amount, most_count, number_word, value_word, number_said, header_said, done_of, done_said, amount_of, amount_said, group_of, letters_of, plain_said, named_said, shift_said, is_count, part_said}
 use Rattle.roster_report.specs.Readable.{IsAmount}

@@ -5,7 +5,7 @@ use Rattle.std.proofs.lemmas.Bool.{leb-true, le-leb}
 use Rattle.text_lines.specs.declared.number.NumberFault.{NumberFault}
 use Rattle.text_lines.specs.Numbers.{natural_of}
 use Rattle.text_lines.proofs.NumbersLemmas.{natural_again}
-use Rattle.bound_proof.proofs.NumberWords.{natural_is}
+use Rattle.certificate_text.proofs.NumberWords.{natural_is}
 use Rattle.roster_report.specs.LineWords.{at_most, number_word}
 
 -- a word that says a number that is no greater than this

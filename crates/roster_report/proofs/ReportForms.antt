@@ -12,7 +12,7 @@ use Rattle.roster_model.specs.Folds.{Each}
 use Rattle.roster_model.specs.SoundInstance.{IsSoundInstance}
 use Rattle.roster_model.proofs.EachLemmas.{Each-append}
 use Rattle.proof_pieces.specs.PriceLines.{due_byte}
-use Rattle.bound_proof.specs.Written.{shift_line}
+use Rattle.certificate_text.specs.Written.{shift_line}
 use Rattle.roster_report.specs.declared.cover.Cover.{Cover}
 use Rattle.roster_report.specs.declared.part.Part.{Part}
 use Rattle.roster_report.specs.declared.part.Part.TheVariants.{Need, Have, Short, Over}

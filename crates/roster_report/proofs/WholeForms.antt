@@ -10,7 +10,7 @@ use Rattle.roster_model.specs.Folds.{Each}
 use Rattle.roster_model.specs.SoundInstance.{IsSoundInstance}
 use Rattle.roster_model.proofs.EachLemmas.{Each-weaker}
 use Rattle.proof_pieces.proofs.PriceBlock.{cells_whole}
-use Rattle.bound_proof.specs.Written.{amount_words, shift_line}
+use Rattle.certificate_text.specs.Written.{amount_words, shift_line}
 use Rattle.roster_report.specs.declared.cover.Cover.{Cover}
 use Rattle.roster_report.specs.declared.report.Report.{Report}
 use Rattle.roster_report.specs.LineWords.{most_amount, most_count}

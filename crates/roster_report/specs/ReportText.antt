@@ -8,7 +8,7 @@ use Rattle.roster_model.specs.declared.instance.Group.{Group}
 use Rattle.roster_model.specs.declared.instance.Instance.{Instance}
 use Rattle.proof_pieces.specs.PriceLines.{due_byte}
 use Rattle.proof_pieces.specs.ShiftLines.{version}
-use Rattle.bound_proof.specs.Written.{amount_words, shift_line}
+use Rattle.certificate_text.specs.Written.{amount_words, shift_line}
 use Rattle.roster_report.specs.declared.cover.Cover.{Cover}
 use Rattle.roster_report.specs.declared.part.Part.{Part}
 use Rattle.roster_report.specs.declared.part.Part.TheVariants.{Need, Have, Short, Over}

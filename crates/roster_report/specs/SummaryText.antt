@@ -1,7 +1,7 @@
 -- The text of a summary.
 use Rattle.std.specs.Prelude.{ℕ, List, [], ◌∷◌, ◌++◌, codes}
 use Rattle.text_lines.specs.Written.{written}
-use Rattle.bound_proof.specs.Written.{amount_words}
+use Rattle.certificate_text.specs.Written.{amount_words}
 use Rattle.roster_report.specs.declared.summary.Summary.{Summary}
 use Rattle.roster_report.specs.ReportText.{result_line, number_line}
 

@@ -3,7 +3,7 @@ ghost use Rattle.text_lines.specs.Written.{written};
 ghost use Rattle.roster_report.specs.SummaryText.{day_lines, search_lines, summary_text};
 
 use crate::write::{number_line, result_line};
-use bound_proof::amount_line;
+use certificate_text::amount_line;
 use roster_model::{Done, List, Memory};
 use std::alloc::Global;
 

@@ -15,7 +15,7 @@ ghost use Rattle.roster_report.specs.Writable.{IsWritable};
 
 use crate::cover_text::cover_lines;
 use crate::report::Report;
-use bound_proof::{amount_line, shift_lines};
+use certificate_text::{amount_line, shift_lines};
 use roster_model::{Done, Group, Instance, List, Memory};
 use std::alloc::Global;
 use text_lines::{field, put, word};

@@ -13,12 +13,12 @@ use Rattle.arc_laws.proofs.BalanceLemmas.{right_of-is}
 use Rattle.arc_laws.specs.AtNodes.{start_of}
 use Rattle.arc_laws.proofs.PartCuts.{IsCut}
 use Rattle.parse_graph.specs.Graphs.{GraphView, IsRoot, places_from, places, is_among, IsKid, AreKids}
-use Rattle.split_laws.specs.Nodes.{IsInner}
-use Rattle.split_laws.proofs.Shape.{arc-shape}
-use Rattle.split_laws.proofs.NodesLemmas.{symbol_start}
-use Rattle.split_laws.proofs.OwingLemmas.{cond-one}
+use Rattle.roster_split.specs.Nodes.{IsInner}
+use Rattle.roster_split.proofs.Shape.{arc-shape}
+use Rattle.roster_split.proofs.NodesLemmas.{symbol_start}
+use Rattle.roster_split.proofs.OwingLemmas.{cond-one}
 use Rattle.parse_graph.proofs.ArcUsesLemmas.{same-node, own-node}
-use Rattle.split_laws.proofs.TakenCounts.{positive, In-count}
+use Rattle.roster_split.proofs.TakenCounts.{positive, In-count}
 use Rattle.parse_graph.proofs.PlacesLemmas.{place-sum}
 use Rattle.roster_split.specs.Counts.{count_of}
 use Rattle.roster_split.specs.Evens.{HasCounts, IsEven, AreEven, IsFirstUneven}

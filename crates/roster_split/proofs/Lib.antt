@@ -2,3 +2,9 @@ pub mod Places
 pub mod EvensLemmas
 pub mod TakingLemmas
 pub mod SplitsLemmas
+pub mod Shape
+pub mod NodesLemmas
+pub mod TakenCounts
+pub mod OwingLemmas
+pub mod BalancedLemmas
+pub mod FillingLemmas

@@ -8,7 +8,7 @@ use Rattle.arc_laws.proofs.SameArc.{Told, arc_tells, same_arc-refl}
 use Rattle.arc_laws.specs.Lists.{StandOnce}
 use Rattle.arc_laws.proofs.StandOnceLemmas.{once-rest}
 use Rattle.parse_graph.specs.Graphs.{places_from}
-use Rattle.split_laws.proofs.TakenCounts.{taken}
+use Rattle.roster_split.proofs.TakenCounts.{taken}
 use Rattle.roster_split.specs.Counts.{count_of}
 
 -- the count of an arc is that at its place

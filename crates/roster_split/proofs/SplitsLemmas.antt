@@ -13,9 +13,9 @@ use Rattle.arc_laws.specs.OrNodes.{same_node, made, root_of}
 use Rattle.arc_laws.specs.Counts.{root_count}
 use Rattle.arc_laws.proofs.FoldsLemmas.{count-append}
 use Rattle.parse_graph.specs.Graphs.{GraphView, IsRoot, places}
-use Rattle.split_laws.specs.Owing.{Owes}
-use Rattle.split_laws.specs.Nodes.{copies}
-use Rattle.split_laws.proofs.SplitsLemmas.{start-owes, none-left}
+use Rattle.roster_split.specs.Owing.{Owes}
+use Rattle.roster_split.specs.Nodes.{copies}
+use Rattle.roster_split.proofs.BalancedLemmas.{start-owes, none-left}
 use Rattle.parse_graph.proofs.PlacesLemmas.{place-sum}
 use Rattle.roster_split.specs.Counts.{count_of}
 use Rattle.roster_split.specs.Taking.{AsksTree, TakesTree}

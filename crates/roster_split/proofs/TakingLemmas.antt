@@ -17,13 +17,13 @@ use Rattle.arc_laws.specs.AtNodes.{steps_of}
 use Rattle.arc_laws.proofs.StandOnceLemmas.{once-counted}
 use Rattle.parse_graph.specs.Graphs.{GraphView, IsGraph, places, IsKid, AreKids}
 use Rattle.parse_graph.specs.declared.kid.Kid.{Kid}
-use Rattle.split_laws.specs.Nodes.{IsInner, push_inner, stack_after}
-use Rattle.split_laws.specs.Filling.{AllAt, Filled, Walking}
-use Rattle.split_laws.proofs.FillingLemmas.{advance}
-use Rattle.split_laws.proofs.Shape.{Shape, arc-shape}
+use Rattle.roster_split.specs.Nodes.{IsInner, push_inner, stack_after}
+use Rattle.roster_split.specs.Filling.{AllAt, Filled, Walking}
+use Rattle.roster_split.proofs.FillingLemmas.{advance}
+use Rattle.roster_split.proofs.Shape.{Shape, arc-shape}
 use Rattle.parse_graph.proofs.ArcUsesLemmas.{same-node, own-node}
-use Rattle.split_laws.proofs.TakenCounts.{taken}
-use Rattle.split_laws.proofs.OwingLemmas.{inner-made, Chosen, chosen}
+use Rattle.roster_split.proofs.TakenCounts.{taken}
+use Rattle.roster_split.proofs.OwingLemmas.{inner-made, Chosen, chosen}
 use Rattle.parse_graph.proofs.PlacesLemmas.{in-graph}
 use Rattle.roster_split.specs.Counts.{count_of}
 use Rattle.roster_split.specs.Stacks.{AreStacked, pushed_kid}

@@ -10,9 +10,9 @@ use Rattle.roster_model.specs.Sound.{IsSound}
 use Rattle.arc_laws.specs.OrNodes.{root_of}
 use Rattle.arc_laws.specs.Balance.{IsBalanced}
 use Rattle.parse_graph.specs.Graphs.{GraphView, IsGraph}
-use Rattle.split_laws.specs.Nodes.{copies}
-use Rattle.split_laws.specs.Owing.{Owes}
-use Rattle.split_laws.specs.Splits.{AreTreesOf}
+use Rattle.roster_split.specs.Nodes.{copies}
+use Rattle.roster_split.specs.Owing.{Owes}
+use Rattle.roster_split.specs.Balanced.{AreTreesOf}
 use Rattle.roster_split.specs.Counts.{count_of}
 
 -- balanced counts of the arcs of a sound grammar's graph

@@ -9,8 +9,8 @@ use Rattle.roster_model.specs.Arcs.{arcs, same_arc}
 use Rattle.roster_model.specs.Sound.{IsSound}
 use Rattle.arc_laws.specs.OrNodes.{OrNode, made, root_of}
 use Rattle.parse_graph.specs.Graphs.{GraphView, IsGraph}
-use Rattle.split_laws.specs.Owing.{Owes}
-use Rattle.split_laws.specs.Filling.{Walking}
+use Rattle.roster_split.specs.Owing.{Owes}
+use Rattle.roster_split.specs.Filling.{Walking}
 use Rattle.roster_split.specs.Counts.{count_of}
 use Rattle.roster_split.specs.Stacks.{AreStacked}
 

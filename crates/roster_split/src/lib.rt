@@ -3,8 +3,10 @@
 
 mod balance;
 mod fault;
+mod laws;
 mod take;
 mod trees;
 
 pub use fault::SplitFault;
+pub use laws::split_balanced;
 pub use trees::split;

@@ -3,7 +3,7 @@ use Rattle.std.specs.Prelude.{ℕ, zero, suc, ◌-◌, List, [], ◌∷◌, ◌+
 use Rattle.std.specs.Fmt.{decimal}
 use Rattle.roster_model.specs.declared.instance.Instance.{Instance}
 use Rattle.roster_model.specs.declared.instance.Shift.{Shift}
-use Rattle.bound_proof.specs.Written.{group_name}
+use Rattle.certificate_text.specs.Written.{group_name}
 use Rattle.text_lines.specs.Written.{tail}
 use Rattle.roster_value.specs.declared.cause.Cause.{Cause}
 use Rattle.roster_value.specs.declared.cause.Cause.TheVariants.{NoShift, TooFew, TooMany, BelowFloor, AboveCeiling}

@@ -4,7 +4,7 @@ use Rattle.text_lines.specs.Written.{written}
 use Rattle.roster_model.specs.declared.instance.Instance.{Instance}
 use Rattle.roster_model.specs.declared.instance.Shift.{Shift}
 use Rattle.certificates.specs.RosterCauses.{duties}
-use Rattle.bound_proof.specs.Written.{shift_line}
+use Rattle.certificate_text.specs.Written.{shift_line}
 use Rattle.roster_report.specs.declared.cover.Cover.{Cover}
 use Rattle.roster_report.specs.Reports.{cell_cover}
 use Rattle.roster_report.specs.ReportText.{header_line, number_line, cover_lines}

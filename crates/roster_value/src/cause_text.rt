@@ -12,7 +12,7 @@ ghost use Rattle.roster_value.specs.CauseText.{
 };
 
 use crate::cause::Cause;
-use bound_proof::group_name;
+use certificate_text::group_name;
 use roster_model::{Instance, List, Memory, Shift};
 use text_lines::{field, put, word};
 

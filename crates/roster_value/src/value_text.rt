@@ -5,7 +5,7 @@ ghost use Rattle.roster_value.specs.ValueText.{stated_line, head_lines, roster_l
 
 use crate::covered::covered_lines;
 use crate::valued::Valued;
-use bound_proof::shift_lines;
+use certificate_text::shift_lines;
 use roster_model::{Instance, List, Memory};
 use roster_report::{header_line, number_line};
 use std::alloc::Global;

@@ -1,7 +1,7 @@
 -- Searches over the same texts end alike.
 use Rattle.std.specs.Prelude.{ℕ, ◌≡◌, ◌≢◌, List, [], ◌∷◌, ◌++◌, Option, None, Some, codes, map}
 use Rattle.text_lines.specs.Written.{written}
-use Rattle.bound_proof.specs.Written.{amount_words}
+use Rattle.certificate_text.specs.Written.{amount_words}
 use Rattle.reuse_report.specs.declared.points.CurvePoint.{CurvePoint}
 use Rattle.reuse_report.specs.CurveText.{curve_text}
 use Rattle.search_commands.specs.Series.{Entry, answered, SeriesAnswers}

@@ -7,7 +7,7 @@ ghost use Rattle.search_commands.specs.Reuse.{Reusing, reused_status};
 ghost use Rattle.text_commands.specs.Reader.{IsReader};
 ghost use Rattle.text_commands.specs.Says.{CertCommand};
 
-use bound_proof::read_cert;
+use certificate_text::read_cert;
 use certificates::Cert;
 use proof_pieces::ProofFault;
 use proof_reuse::Reused;

@@ -4,8 +4,8 @@ ghost use Rattle.roster_model.specs.Sound.{IsSound, IsPlain};
 ghost use Rattle.roster_model.specs.SoundInstance.{IsSoundInstance};
 ghost use Rattle.parse_graph.specs.Graphs.{IsGraph};
 
-use bound_proof::read_cert;
 use branch_price::{PlainMaster, SteadyWatch};
+use certificate_text::read_cert;
 use certificates::Cert;
 use demand_text::read_demand;
 use grammar_core::normalise;

@@ -11,8 +11,8 @@ use Rattle.roster_model.specs.declared.grammar.Sym.TheVariants.{Code, Name}
 use Rattle.roster_model.specs.Grammar.{InDay}
 use Rattle.roster_model.specs.Trees.{Parts, done, letter, uses}
 use Rattle.roster_model.specs.Sums.{IsLeast, AtMost, parts_sum, tree_sum, arc_sum}
-use Rattle.span_forms.specs.Places.{shorter, place_of}
-use Rattle.span_forms.proofs.Rows.{place-within, place-before, place-apart, shorter-next}
+use Rattle.span_cells.specs.Places.{shorter, place_of}
+use Rattle.span_cells.proofs.FormRows.{place-within, place-before, place-apart, shorter-next}
 use Rattle.tree_laws.proofs.PartLoop.{less_or_same}
 use Rattle.tree_laws.proofs.Rules.{rule_at-within}
 use Rattle.span_cells.specs.declared.slot.Layout.{Layout}

@@ -9,8 +9,7 @@ ghost use Rattle.span_arcs.specs.Marks.{free_view, AreMarked, SuffixMarked, HasS
 use crate::derive::{rest_derives, symbol_derives};
 use crate::free_cells::FreeCells;
 use roster_model::{ArcKey, Grammar, Rule, rule_of};
-use span_cells::{Layout, Span, Suffix, place_of, slot_of, split_points};
-use span_forms::may_stand;
+use span_cells::{Layout, Span, Suffix, may_stand, place_of, slot_of, split_points};
 
 // Whether a span is one of a day of so many periods.
 fn in_day(periods: u8, span: Span) -> bool

@@ -2,7 +2,7 @@ ghost use Rattle.std.specs.Prelude.{◌≡◌, ◌≤◌, ◌<◌, ◌+◌, ◌-
 ghost use Rattle.roster_model.specs.declared.grammar.Rule.{Rule as RuleValue};
 ghost use Rattle.roster_model.specs.Grammar.{rule_at, InDay};
 ghost use Rattle.roster_model.specs.Sound.{IsSound, Exists};
-ghost use Rattle.span_forms.specs.Places.{shorter, place_of};
+ghost use Rattle.span_cells.specs.Places.{shorter, place_of};
 ghost use Rattle.span_cells.specs.declared.slot.Slot.{Slot as Use};
 ghost use Rattle.span_cells.specs.Cells.{IsLayoutOf, IsReady, AreFilled, cell_count, place, name_slot, suffix_slot};
 ghost use Rattle.span_arcs.specs.Marks.{free_view, mark, TreesStand, PartsStand, IsBefore, SymbolMarked, RestMarked, SplitMarked, PartsClosed, RuleClosed, SlotClosed, AreTrue, ClosedFrom, Adds, AreMarked};
@@ -10,8 +10,7 @@ ghost use Rattle.span_arcs.specs.Marks.{free_view, mark, TreesStand, PartsStand,
 use crate::derive::{rest_derives, symbol_derives};
 use crate::free_cells::FreeCells;
 use roster_model::{Grammar, Rule, Sym, rule_of};
-use span_cells::{Layout, Slot, Span, Suffix, place_of, slot_of, split_points};
-use span_forms::may_stand;
+use span_cells::{Layout, Slot, Span, Suffix, may_stand, place_of, slot_of, split_points};
 
 // Marks a symbol on a span: a name by its slot, and a code not at all.
 fn mark_symbol(grammar: &Grammar, layout: &Layout, marks: &mut [bool], symbol: Sym, span: Span)

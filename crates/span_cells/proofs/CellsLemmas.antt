@@ -9,8 +9,8 @@ use Rattle.roster_model.specs.declared.grammar.Sym.TheVariants.{Name}
 use Rattle.roster_model.specs.Grammar.{InDay}
 use Rattle.roster_model.specs.Sums.{PriceView}
 use Rattle.roster_model.specs.Sound.{IsSound}
-use Rattle.span_forms.specs.Places.{shorter, place_of}
-use Rattle.span_forms.proofs.Rows.{place-within, place-before, place-apart}
+use Rattle.span_cells.specs.Places.{shorter, place_of}
+use Rattle.span_cells.proofs.FormRows.{place-within, place-before, place-apart}
 use Rattle.tree_laws.proofs.Rules.{sound-symbol}
 use Rattle.tree_laws.proofs.PartLoop.{less_or_same}
 use Rattle.span_cells.specs.declared.slot.Layout.{Layout}

@@ -11,3 +11,4 @@ pub mod BuildingLemmas
 pub mod PeriodsLemmas
 pub mod ChainsLemmas
 pub mod PointsLemmas
+pub mod FormRows

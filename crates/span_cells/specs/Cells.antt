@@ -5,7 +5,7 @@ use Rattle.roster_model.specs.declared.grammar.Rule.{Rule}
 use Rattle.roster_model.specs.declared.grammar.Sym.TheVariants.{Name}
 use Rattle.roster_model.specs.Grammar.{rule_at, InDay}
 use Rattle.roster_model.specs.Sums.{PriceView, Within, SymbolLeast, PartsLeast}
-use Rattle.span_forms.specs.Places.{shorter, place_of}
+use Rattle.span_cells.specs.Places.{shorter, place_of}
 use Rattle.span_cells.specs.declared.present.Present.{Present}
 use Rattle.span_cells.specs.declared.slot.Layout.{Layout}
 use Rattle.span_cells.specs.declared.slot.Slot.{Slot}

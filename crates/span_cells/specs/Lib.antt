@@ -6,3 +6,4 @@ pub mod Choices
 pub mod Splits
 pub mod Numbers
 pub mod Building
+pub mod Places

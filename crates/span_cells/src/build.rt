@@ -5,11 +5,11 @@ ghost use Rattle.span_cells.specs.Cells.{IsLayoutOf};
 ghost use Rattle.tree_laws.specs.RankOrder.{IsPlaced, IsDone};
 ghost use Rattle.span_cells.specs.Building.{AddsSuffixes, SuffixSlots, NameSlots, AreNamed};
 
+use crate::SpanIndex;
 use crate::chains::Chains;
 use crate::lengths::slot_lengths;
 use crate::slot::{Layout, Slot, Suffix};
 use roster_model::{Grammar, List, Memory, rule_of, unit_ranks};
-use span_forms::SpanIndex;
 use std::alloc::Global;
 
 // Adds slots for the suffixes of a rule of so many symbols that want one.

@@ -2,7 +2,7 @@ ghost use Rattle.std.specs.Prelude.{ℕ, ◌≡◌, ◌≤◌, ◌<◌, ◌+◌,
 ghost use Rattle.roster_model.specs.Grammar.{InDay};
 ghost use Rattle.roster_model.specs.Sound.{IsSound};
 ghost use Rattle.roster_model.specs.Sums.{Within};
-ghost use Rattle.span_forms.specs.Places.{shorter, place_of};
+ghost use Rattle.span_cells.specs.Places.{shorter, place_of};
 ghost use Rattle.span_cells.specs.declared.slot.Slot.{Slot as Use};
 ghost use Rattle.span_cells.specs.Cells.{IsReady, IsPut, AreMade, SlotLeast, FitsCells, RightBefore, AreFilled, cell_count, spot_count, place};
 

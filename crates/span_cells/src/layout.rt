@@ -1,7 +1,7 @@
 ghost use Rattle.std.specs.Prelude.{◌≡◌, ◌≤◌, ◌<◌, ◌+◌, ◌*◌, ◌^◌, Some, length};
 ghost use Rattle.roster_model.specs.Grammar.{rule_at, InDay};
 ghost use Rattle.roster_model.specs.Sound.{IsSound};
-ghost use Rattle.span_forms.specs.Places.{shorter};
+ghost use Rattle.span_cells.specs.Places.{shorter};
 ghost use Rattle.span_cells.specs.Cells.{IsLayoutOf, place, cell, cell_count, spot, spot_count, suffix_slot};
 ghost use Rattle.span_cells.specs.Numbers.{number_of};
 

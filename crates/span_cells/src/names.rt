@@ -9,11 +9,11 @@ ghost use Rattle.span_cells.specs.Cells.{IsReady, NameRight, LaterRight, Shorter
 ghost use Rattle.span_cells.specs.Choices.{ChosenRule};
 
 use crate::cells::Cells;
+use crate::may_stand;
 use crate::parts::{least_part, symbol_least};
 use crate::slot::{Layout, Span, Suffix};
 use crate::sums::{self, Choice};
 use roster_model::{ArcKey, Grammar, LetterPrice, Rule, Sym, rule_of};
-use span_forms::may_stand;
 
 /// Returns the least sum of the parts of a rule's right side on a span.
 pub fn right_least<P: LetterPrice, C: Cells>(

@@ -1,8 +1,8 @@
 ghost use Rattle.std.specs.Prelude.{◌≡◌, ◌<◌, ◌+◌};
 
+use crate::SpanIndex;
 use crate::chains::Chains;
 use crate::lengths::Lengths;
-use span_forms::SpanIndex;
 
 /// A span of the day.
 #[derive(Clone, Copy, Drop)]

@@ -10,7 +10,7 @@ use crate::gains::Gains;
 use crate::halves::halves_of;
 use crate::shares::Share;
 use crate::sums::sums_of;
-use arc_branch::ArcBox;
+use count_boxes::ArcBox;
 use parse_graph::Graph;
 use roster_model::{Cut, Instance, List, Memory};
 use std::alloc::Global;

@@ -10,7 +10,7 @@ use Rattle.certificates.specs.declared.verdict.Verdict.TheVariants.{Yes, No}
 use Rattle.proof_check.specs.declared.judged.Judged.TheVariants.{Said, Fault}
 use Rattle.proof_check.specs.Judging.{IsJudged}
 use Rattle.proof_check.specs.Verdicts.{IsVerdict}
-use Rattle.shift_report.specs.VerdictText.{verdict_text}
+use Rattle.answer_texts.specs.VerdictText.{verdict_text}
 use Rattle.roster_model.specs.Sound.{IsSound}
 use Rattle.roster_model.specs.SoundInstance.{IsSoundInstance}
 use Rattle.demand_lines.specs.declared.fault.DemandFault.{DemandFault}

@@ -7,7 +7,7 @@ use Rattle.roster_model.specs.Shifts.{IsShift, IsPrice}
 use Rattle.roster_model.specs.Sound.{IsSound}
 use Rattle.roster_model.specs.Sums.{AtMost, IsLeast, tree_sum}
 use Rattle.roster_model.specs.Trees.{Parts, IsDayTree, steps}
-use Rattle.shift_report.specs.TreeText.{tree_text}
+use Rattle.answer_texts.specs.TreeText.{tree_text}
 use Rattle.text_commands.specs.declared.answer.Answer.{Answer}
 use Rattle.rules_text.specs.FaultLine.{fault_line}
 use Rattle.rules_text.specs.RulesOf.{IsReading}

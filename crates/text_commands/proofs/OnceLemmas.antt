@@ -15,9 +15,9 @@ use Rattle.demand_text.specs.InstanceOf.{instance_of}
 use Rattle.proof_pieces.specs.declared.fault.ProofFault.{ProofFault}
 use Rattle.proof_pieces.specs.CertOf.{proof_of}
 use Rattle.proof_pieces.specs.FaultLine as proof
-use Rattle.shift_report.specs.TreeText.{tree_text}
+use Rattle.answer_texts.specs.TreeText.{tree_text}
 use Rattle.shelf.specs.Shelf.{Texts}
-use Rattle.shift_report.specs.VerdictText.{verdict_text}
+use Rattle.answer_texts.specs.VerdictText.{verdict_text}
 use Rattle.text_commands.specs.Check.{Judgement, CertAnswers, ProofAnswers, TextAnswers, AnswersThird, DemandAnswers, AnswersDemand, RulesAnswers, AnswersTexts}
 use Rattle.text_commands.specs.Check as checks
 use Rattle.text_commands.specs.Explain.{Derivation, DerivationFrom, Explanation, AnswersExplain}

@@ -7,7 +7,7 @@ use Rattle.roster_model.specs.declared.grammar.Sym.{Sym}
 use Rattle.roster_model.specs.declared.grammar.Sym.TheVariants.{Code, Name}
 use Rattle.roster_model.specs.Trees.{Parts, done, letter, uses, Derive, steps}
 use Rattle.tree_laws.proofs.Rules.{rule_at-within}
-use Rattle.shift_report.specs.TreeText.{HasRule}
+use Rattle.answer_texts.specs.TreeText.{HasRule}
 
 pub steps-rules : (g : Grammar) (t : Parts) (ss : List Sym) (i : ℕ) → Derive g ss i t → All (λ (s : Step). HasRule g s.rule) (steps i t)
 steps-rules g done ss i d = All-nil _

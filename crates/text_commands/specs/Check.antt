@@ -17,7 +17,7 @@ use Rattle.certificate_laws.specs.Accepted.{Accepts}
 use Rattle.certificate_laws.specs.Causes.{IsFirstCause}
 use Rattle.certificate_laws.specs.Right.{YesIsRight}
 use Rattle.shelf.specs.Shelf.{Texts}
-use Rattle.shift_report.specs.VerdictText.{verdict_text}
+use Rattle.answer_texts.specs.VerdictText.{verdict_text}
 use Rattle.text_commands.specs.Explain.{IsGrammarOf, SaysFault}
 use Rattle.text_commands.specs.Reader.{Holds}
 

@@ -9,7 +9,7 @@ use Rattle.rules_text.specs.RulesOf.{IsReading}
 use Rattle.rules_text.specs.FaultLine.{fault_line}
 use Rattle.rules_text.specs.declared.fault.RulesFault.{RulesFault}
 use Rattle.shelf.specs.Shelf.{Texts}
-use Rattle.shift_report.specs.TreeText.{tree_text}
+use Rattle.answer_texts.specs.TreeText.{tree_text}
 use Rattle.text_commands.specs.Reader.{Holds}
 use Rattle.text_commands.specs.Start.{AnswersFrom}
 

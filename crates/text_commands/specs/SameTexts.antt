@@ -2,7 +2,7 @@
 use Rattle.std.specs.Prelude.{ℕ, ◌≡◌, ◌⊎◌, List}
 use Rattle.roster_model.specs.declared.grammar.Grammar.{Grammar}
 use Rattle.roster_model.specs.declared.grammar.Step.{Step}
-use Rattle.shift_report.specs.TreeText.{tree_text}
+use Rattle.answer_texts.specs.TreeText.{tree_text}
 
 -- two derivations of a word, at one price
 pub record AreTreesAtOnePrice (word a b : List ℕ) : Type 0 where

@@ -3,7 +3,7 @@ ghost use Rattle.roster_model.specs.SoundInstance.{IsSoundInstance};
 ghost use Rattle.proof_pieces.specs.CertOf.{proof_fault};
 ghost use Rattle.proof_pieces.specs.FaultLine as proof_line;
 ghost use Rattle.proof_check.specs.Judging.{IsJudged};
-ghost use Rattle.shift_report.specs.VerdictText.{verdict_text};
+ghost use Rattle.answer_texts.specs.VerdictText.{verdict_text};
 ghost use Rattle.text_commands.specs.Check.{Judgement, ProofAnswers, verdict_status};
 ghost use Rattle.text_commands.specs.Reader.{IsReader};
 ghost use Rattle.text_commands.specs.Says.{CertCommand};
@@ -11,12 +11,12 @@ ghost use Rattle.text_commands.specs.Says.{CertCommand};
 use crate::answer::Answer;
 use crate::ask::ask;
 use crate::question::Question;
+use answer_texts::write_verdict;
 use certificates::Verdict;
 use proof_check::{Bench, Judged};
 use proof_pieces::{CertRoom, PieceFault, ProofFault};
 use roster_model::{Instance, Memory};
 use shelf::Shelf;
-use shift_report::write_verdict;
 use std::alloc::Global;
 
 /// Says why a proof text is refused.

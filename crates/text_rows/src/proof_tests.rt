@@ -3,7 +3,7 @@ ghost use Rattle.roster_model.specs.SoundInstance.{IsSoundInstance};
 ghost use Rattle.proof_pieces.specs.PieceList.{Follows};
 
 use crate::grammars::{GrammarParts, grammar};
-use bound_proof::{
+use certificate_text::{
     CertRoom, Node, Piece, PieceFault, Pieces, ProofFault, fault_line, read_cert, write_cert,
 };
 use certificates::Cert;

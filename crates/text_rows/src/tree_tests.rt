@@ -1,10 +1,10 @@
 ghost use Rattle.std.specs.Prelude.{◌↔◌, All, IsTrue};
 ghost use Rattle.roster_model.specs.declared.grammar.Step.{Step};
-ghost use Rattle.shift_report.specs.TreeText.{HasRule};
+ghost use Rattle.answer_texts.specs.TreeText.{HasRule};
 
 use crate::grammars::{GrammarParts, grammar};
+use answer_texts::write_tree;
 use roster_model::{CodeDef, Grammar, List, Step, Sym, is_sound};
-use shift_report::write_tree;
 use std::alloc::Global;
 use std::test::Fail;
 

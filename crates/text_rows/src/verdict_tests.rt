@@ -1,6 +1,6 @@
+use answer_texts::write_verdict;
 use certificates::{Verdict, Why};
 use roster_model::ArcKey;
-use shift_report::write_verdict;
 use std::alloc::Global;
 use std::test::Fail;
 

@@ -1,5 +1,5 @@
 use roster_model::{List, Rule, Window};
-use span_forms::{SpanIndex, may_stand};
+use span_cells::{SpanIndex, may_stand};
 
 const ALL: Window = Window { lo: 1, hi: 96 };
 

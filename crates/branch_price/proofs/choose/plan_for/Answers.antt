@@ -8,7 +8,7 @@ use Rattle.node_master.specs.Ends.{AreSolved}
 use Rattle.arc_weights.specs.Weighed.{IsWeighed}
 use Rattle.arc_weights.specs.declared.weighed.Weighed.{Weighed}
 use Rattle.arc_weights.specs.declared.weighed.Weighed.TheVariants.{Whole, Between, Other}
-use Rattle.offers.specs.Offers.{limit_of}
+use Rattle.candidate_rosters.specs.Offers.{limit_of}
 use Rattle.branch_price.proofs.StepsLemmas.{loose-within}
 use Rattle.branch_price.proofs.PlansLemmas.{Reaches, weights-of, between-plan, other-anywhere, whole-each, whole-anywhere, left-plan, least-plan}
 use Rattle.branch_price.proofs.choose.plan_for.Goals as goal

@@ -2,9 +2,9 @@ use Rattle.std.proofs.Common.{◌≡◌, ℕ, List, [], length, sym, subst, ◌�
 use Rattle.std.proofs.lemmas.Result.{on_ok_weaker}
 use Rattle.roster_model.specs.Cuts.{lo}
 use Rattle.arc_laws.specs.Counts.{counts_cost}
-use Rattle.arc_branch.specs.Boxes.{BoxView}
-use Rattle.offers.specs.Offers.{CanBeTrees, Reach, limit_of}
-use Rattle.offers.proofs.Limits.{limit-most}
+use Rattle.count_boxes.specs.Boxes.{BoxView}
+use Rattle.candidate_rosters.specs.Offers.{CanBeTrees, Reach, limit_of}
+use Rattle.candidate_rosters.proofs.Limits.{limit-most}
 use Rattle.branch_price.specs.Plans.{AreLeast}
 use Rattle.branch_price.proofs.PinnedCounts.{pinned-trees, pinned-reach, is-cheap, reached}
 use Rattle.branch_price.proofs.pinned.offer_least.Goals as goal

@@ -4,7 +4,7 @@ use mir.Val.{to_z, of_z}
 use mir.Syntax.{w128}
 use Rattle.roster_model.specs.Grammar.{InDay}
 use Rattle.roster_model.specs.declared.grammar.Sym.TheVariants.{Name, Code}
-use Rattle.span_forms.specs.Places.{place_of}
+use Rattle.span_cells.specs.Places.{place_of}
 use Rattle.tree_laws.proofs.Rules.{sound-symbol}
 use Rattle.tree_laws.proofs.Symbols.{here}
 use Rattle.span_cells.proofs.CellsLemmas.{filled-right}

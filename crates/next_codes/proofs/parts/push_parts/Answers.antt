@@ -2,7 +2,7 @@ use Rattle.std.proofs.Common.{arith, ℕ, ◌≡◌, ◌+◌, ◌-◌, ◌*◌, 
 use Rattle.std.proofs.lemmas.Int.{ints}
 use mir.Val.{to_z, of_z}
 use mir.Syntax.{w128}
-use Rattle.span_forms.specs.Places.{place_of}
+use Rattle.span_cells.specs.Places.{place_of}
 use Rattle.span_cells.proofs.CellsLemmas.{filled-shorter}
 use Rattle.next_codes.specs.Pushes.{PartsDone}
 use Rattle.next_codes.proofs.LoweredTotals.{lowered-none, lowered-twice}

@@ -1,5 +1,5 @@
 use Rattle.std.proofs.Common.{◌≤◌, ◌+◌, ◌-◌, ◌*◌, length}
-use Rattle.span_forms.specs.Places.{place_of}
+use Rattle.span_cells.specs.Places.{place_of}
 use Rattle.next_codes.specs.Totals.{AreLowered, AreThrough}
 use Rattle.next_codes.specs.Pushes.{PartsDone}
 use Rattle.next_codes.proofs.parts.push_parts.Given as goal

@@ -1,6 +1,6 @@
 use Rattle.std.proofs.Common.{arith, ℕ, ◌≡◌, ◌≤◌, ◌+◌, ◌-◌, ◌*◌, length, subst}
 use Rattle.std.proofs.Math.Nat.{mul-le-mul_right}
-use Rattle.span_forms.specs.Places.{shorter}
+use Rattle.span_cells.specs.Places.{shorter}
 use Rattle.span_cells.specs.Cells.{cell_count}
 use Rattle.next_codes.specs.Totals.{AreLowered}
 use Rattle.next_codes.specs.Pushes.{DoneFrom}

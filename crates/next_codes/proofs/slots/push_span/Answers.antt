@@ -1,5 +1,5 @@
 use Rattle.std.proofs.Common.{arith, ℕ, ◌≡◌, ◌+◌, ◌-◌, ◌*◌, length, ap}
-use Rattle.span_forms.specs.Places.{place_of}
+use Rattle.span_cells.specs.Places.{place_of}
 use Rattle.next_codes.specs.Totals.{AreLowered}
 use Rattle.next_codes.proofs.LoweredTotals.{lowered-none, lowered-more, lowered-twice, lowered-counted}
 use Rattle.next_codes.proofs.slots.push_span.Goals as goal

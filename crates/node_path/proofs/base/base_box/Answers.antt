@@ -1,7 +1,7 @@
 use Rattle.std.proofs.Common.{List, subst, sym, [], take}
 use Rattle.std.proofs.lemmas.Option.{slice_get-get_or}
 use Rattle.roster_model.specs.declared.instance.Cut.{Cut}
-use Rattle.arc_branch.specs.Paths.{IsBoxOf}
+use Rattle.count_boxes.specs.Paths.{IsBoxOf}
 use Rattle.node_path.specs.Steps.{AreWithin}
 use Rattle.node_path.proofs.BaseLemmas.{base-within}
 use Rattle.node_path.proofs.TurnsLemmas.{within-at, take-more}

@@ -1,5 +1,5 @@
 use Rattle.std.proofs.Common.{take}
-use Rattle.arc_branch.specs.Paths.{IsBoxOf}
+use Rattle.count_boxes.specs.Paths.{IsBoxOf}
 use Rattle.node_path.proofs.base.base_box.Given as goal
 
 abbrev pub invariant-loop-cut : goal.invariant-loop-cut

@@ -4,7 +4,7 @@ use Rattle.roster_model.specs.declared.instance.Cut.{Cut}
 use Rattle.roster_model.specs.declared.instance.Instance.{Instance}
 use Rattle.roster_model.specs.Arcs.{IsArc}
 use Rattle.roster_model.proofs.EachLemmas.{Each-get}
-use Rattle.arc_branch.specs.Paths.{IsBoxOf}
+use Rattle.count_boxes.specs.Paths.{IsBoxOf}
 use Rattle.node_path.specs.Paths.{AreTurns}
 use Rattle.node_path.specs.Steps.{CanGoDown, CanCut}
 use Rattle.node_path.proofs.TurnsLemmas.{within-at, take-more}

@@ -1,7 +1,7 @@
 use Rattle.std.proofs.Common.{List, ◌++◌, take}
 use Rattle.roster_model.specs.declared.instance.Cut.{Cut}
 use Rattle.roster_model.specs.declared.instance.Instance.{Instance}
-use Rattle.arc_branch.specs.Paths.{IsBoxOf}
+use Rattle.count_boxes.specs.Paths.{IsBoxOf}
 use Rattle.node_path.specs.Paths.{AreTurns}
 use Rattle.node_path.specs.Steps.{CanGoDown}
 use Rattle.node_path.proofs.turns.go_down.Given as goal

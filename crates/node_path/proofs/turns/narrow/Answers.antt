@@ -1,6 +1,6 @@
 use Rattle.std.proofs.Common.{arith}
 use Rattle.std.proofs.lemmas.Option.{slice_get_within}
-use Rattle.arc_branch.proofs.PathsLemmas.{cuts-elsewhere}
+use Rattle.count_boxes.proofs.PathsLemmas.{cuts-elsewhere}
 use Rattle.node_path.proofs.TurnsLemmas.{arc-listed}
 use Rattle.node_path.proofs.turns.narrow.Goals as goal
 

@@ -1,5 +1,5 @@
 use Rattle.page_text.specs.Charts.{code_ink}
-use Rattle.page_costs.specs.declared.column.Column.{Column}
+use Rattle.page_text.specs.declared.column.Column.{Column}
 use Rattle.page_parts.proofs.ElementsLemmas.{more}
 use Rattle.page_text.proofs.chart.inked.Goals as goal
 

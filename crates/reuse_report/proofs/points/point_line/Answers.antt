@@ -1,7 +1,7 @@
 use Rattle.std.specs.Prelude.{codes}
 use Rattle.std.specs.Fmt.{decimal}
 use Rattle.std.proofs.Common.{[], ◌∷◌, Some}
-use Rattle.bound_proof.specs.Written.{amount_words}
+use Rattle.certificate_text.specs.Written.{amount_words}
 use Rattle.reuse_report.proofs.PointLines.{five-words}
 use Rattle.reuse_report.proofs.points.point_line.Goals as goal
 

@@ -1,6 +1,6 @@
 use Rattle.std.proofs.lemmas.Result.{on_ok_weaker}
 use Rattle.std.specs.Prelude.{codes}
-use Rattle.bound_proof.specs.Written.{amount_words}
+use Rattle.certificate_text.specs.Written.{amount_words}
 use Rattle.roster_report.specs.ReportText.{header_line, result_line, number_line}
 use Rattle.roster_report.proofs.Lines.{six_lines}
 use Rattle.roster_report.proofs.write.head_lines.Goals as goal

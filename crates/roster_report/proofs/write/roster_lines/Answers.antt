@@ -1,7 +1,7 @@
 use Rattle.std.proofs.lemmas.Result.{on_ok_weaker}
 use Rattle.std.proofs.Common.{◌/◌, length, map}
 use Rattle.std.specs.Prelude.{codes}
-use Rattle.bound_proof.specs.Written.{shift_line}
+use Rattle.certificate_text.specs.Written.{shift_line}
 use Rattle.roster_report.specs.ReportText.{number_line, cover_lines}
 use Rattle.roster_report.proofs.Lines.{roster_joined}
 use Rattle.roster_report.proofs.write.roster_lines.Goals as goal

@@ -1,7 +1,7 @@
 use Rattle.std.proofs.Common.{length, map}
 use Rattle.std.specs.Prelude.{codes}
 use Rattle.std.proofs.lemmas.Result.{on_ok_weaker}
-use Rattle.bound_proof.specs.Written.{shift_line}
+use Rattle.certificate_text.specs.Written.{shift_line}
 use Rattle.roster_report.specs.ReportText.{number_line}
 use Rattle.roster_report.proofs.Lines.{roster_joined}
 use Rattle.roster_value.specs.ValueText.{covered_lines}

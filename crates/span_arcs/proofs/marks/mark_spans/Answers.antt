@@ -1,6 +1,6 @@
 use Rattle.std.proofs.Common.{ℕ, arith, ◌+◌, ◌-◌, ◌*◌, ◌∙◌, ap, sym, length}
 use Rattle.std.proofs.lemmas.Nat.{mul-le}
-use Rattle.span_forms.specs.Places.{shorter}
+use Rattle.span_cells.specs.Places.{shorter}
 use Rattle.span_cells.specs.Cells.{cell_count}
 use Rattle.span_arcs.proofs.MarksLemmas.{adds-none, adds-more, adds-up, closed-beyond, day-last}
 use Rattle.span_arcs.proofs.marks.mark_spans.Goals as goal

@@ -1,6 +1,6 @@
 use Rattle.std.proofs.Common.{◌*◌, ◌-◌, ◌≤◌, ◌≡◌, length}
 use Rattle.roster_model.specs.Grammar.{InDay}
-use Rattle.span_forms.specs.Places.{place_of}
+use Rattle.span_cells.specs.Places.{place_of}
 use Rattle.span_cells.specs.Cells.{cell_count}
 use Rattle.span_arcs.specs.Marks.{Adds, ClosedFrom}
 use Rattle.span_arcs.proofs.marks.mark_spans.Given as goal

@@ -1,5 +1,5 @@
 use Rattle.std.proofs.Common.{ℕ, arith, ◌≡◌, ◌+◌, ◌∙◌, ap}
-use Rattle.span_forms.specs.Places.{shorter}
+use Rattle.span_cells.specs.Places.{shorter}
 use Rattle.span_cells.proofs.CellsLemmas.{right-all, ready-made, clear-made, some-periods}
 use Rattle.span_cells.proofs.fill.fill_cells.Goals as goal
 

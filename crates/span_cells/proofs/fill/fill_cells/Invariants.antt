@@ -1,6 +1,6 @@
 use Rattle.std.proofs.Common.{ℕ, ◌*◌, ◌<◌, ◌≡◌, length}
 use Rattle.roster_model.specs.Grammar.{InDay}
-use Rattle.span_forms.specs.Places.{shorter, place_of}
+use Rattle.span_cells.specs.Places.{shorter, place_of}
 use Rattle.span_cells.specs.Cells.{AreMade, RightBefore}
 use Rattle.span_cells.proofs.fill.fill_cells.Given as goal
 

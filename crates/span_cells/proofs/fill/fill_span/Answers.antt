@@ -2,7 +2,7 @@ use Rattle.std.proofs.Common.{ℕ, arith, ◌≡◌, ◌<◌, ◌+◌, ◌*◌, 
 use Rattle.std.proofs.lemmas.Nat.{mul-add-lt}
 use Rattle.std.proofs.lemmas.Option.{slice_get-get_or}
 use Rattle.roster_model.specs.Grammar.{InDay}
-use Rattle.span_forms.specs.Places.{shorter}
+use Rattle.span_cells.specs.Places.{shorter}
 use Rattle.span_cells.specs.declared.slot.Slot.TheVariants.{OfName}
 use Rattle.span_cells.specs.Cells.{IsPut, RightBefore, place}
 use Rattle.span_cells.proofs.CellsLemmas.{right-set, put-made, ready-made}

@@ -1,7 +1,7 @@
 use Rattle.std.proofs.Common.{ℕ, arith, ◌≡◌, ◌≤◌, ◌<◌, ◌*◌, ◌^◌}
 use Rattle.std.proofs.lemmas.Nat.{mul-le}
-use Rattle.span_forms.specs.Places.{shorter}
-use Rattle.span_forms.proofs.Rows.{shorter-small}
+use Rattle.span_cells.specs.Places.{shorter}
+use Rattle.span_cells.proofs.FormRows.{shorter-small}
 use Rattle.span_cells.proofs.layout.count_cells.Goals as goal
 
 -- a table has few cells

@@ -1,7 +1,7 @@
 use Rattle.std.proofs.Common.{◌≡◌, List, [], ◌∷◌, All, refl, sym, ap, ◌∙◌, subst}
 use Rattle.roster_model.specs.declared.grammar.Step.{Step}
 use Rattle.roster_model.specs.declared.grammar.Sym.TheVariants.{Name}
-use Rattle.shift_report.specs.TreeText.{HasRule, tree_text}
+use Rattle.answer_texts.specs.TreeText.{HasRule, tree_text}
 use Rattle.text_commands.proofs.StepRules.{steps-rules}
 use Rattle.text_commands.proofs.Derivations.{some-sum, says-tree}
 use Rattle.text_commands.proofs.explain.tree.Goals as goal

@@ -1,7 +1,7 @@
 use Rattle.std.proofs.Common.{◌≡◌, ◌≤◌, List, ◌++◌, length, drop, ap, sym, subst, ◌∙◌, arith, refl}
 use Rattle.roster_model.specs.declared.instance.Cut.{Cut}
 use Rattle.roster_model.specs.Cuts.{base_cuts}
-use Rattle.arc_branch.specs.Paths.{IsBoxOf}
+use Rattle.count_boxes.specs.Paths.{IsBoxOf}
 use Rattle.node_path.specs.declared.turn.Turn.{Turn}
 use Rattle.node_path.specs.Paths.{PathView, IsPath, AreTurns}
 use Rattle.node_path.specs.Steps.{CanGoDown, HasTurned}

@@ -1,0 +1,27 @@
+-- The laws of balanced counts that hold without floors and ceilings.
+use Rattle.std.specs.Prelude.{ℕ, ◌≤◌, ◌↔◌, List}
+use Rattle.roster_model.specs.declared.grammar.ArcKey.{ArcKey}
+use Rattle.roster_model.specs.declared.grammar.Grammar.{Grammar}
+use Rattle.roster_model.specs.declared.instance.Cut.{Cut}
+use Rattle.roster_model.specs.declared.instance.Instance.{Instance}
+use Rattle.roster_model.specs.Arcs.{Letter}
+use Rattle.roster_model.specs.SoundInstance.{IsSoundInstance}
+use Rattle.arc_laws.specs.OrNodes.{leaf}
+use Rattle.arc_laws.specs.Balance.{used_sum, IsBalanced}
+use Rattle.arc_laws.specs.Counts.{root_count}
+use Rattle.arc_laws.specs.Lists.{AreArcs}
+use Rattle.bound_laws.specs.Pinned.{IsPinnedValue}
+use Rattle.bound_laws.specs.Plain.{IsPlainDay}
+use Rattle.bound_laws.specs.PlainCounts.{IsPlainPinnedValue}
+
+-- no letter of the day is counted more often than there are trees
+abbrev pub LettersWithinHeads : Type 0
+LettersWithinHeads =
+    (g : Grammar) (listed : List ArcKey) (value : ArcKey → ℕ) (l : Letter) → AreArcs g listed
+    → IsBalanced g listed value → 1 ≤ l.period → l.period ≤ g.periods
+    → used_sum g listed value (leaf l) ≤ root_count g listed value
+
+-- on a plain day the pinned value is this
+abbrev pub PlainPinned : Type 0
+PlainPinned = (i : Instance) (cuts : List Cut) (v : ℕ) → IsSoundInstance i → IsPlainDay i
+    → (IsPinnedValue i cuts v ↔ IsPlainPinnedValue i cuts v)

@@ -1,0 +1,123 @@
+ghost use Rattle.std.specs.Prelude.{◌≡◌, IsTrue, true};
+ghost use Rattle.node_master.specs.Refusals.{fails_at, is_none_listed};
+
+use crate::master::Master;
+use crate::plain::PlainMaster;
+use crate::{Cause, NodeEnd, Pool};
+use cheapest_tree::Pricer;
+use master_rows::count_rows;
+use parse_graph::Graph;
+use roster_model::{Cut, Instance, Memory};
+use std::alloc::Global;
+
+/// The most rows of a node on which it fails.
+const ROWS: usize = 1500;
+
+/// A master that fails on demand, at listed calls or at every one, and else answers as a plain one. It is
+/// strict exactly where it never fails of its own.
+#[derive(Drop)]
+pub struct FailingMaster {
+    every: bool,
+    calls: Vec<u32>,
+    called: u32,
+    plain: PlainMaster,
+}
+
+impl FailingMaster {
+    /// Returns a master that fails at every call, or at the calls of these numbers, which count from 1. It
+    /// has refused no node.
+    pub fn new(every: bool, calls: Vec<u32>) -> FailingMaster
+        ensures every { result.every ≡ every }
+        ensures calls { result.calls ≡ calls }
+        ensures called { result.called ≡ 0 }
+        ensures none { result.plain.refused ≡ 0 }
+    {
+        FailingMaster {
+            every,
+            calls,
+            called: 0,
+            plain: PlainMaster::new(),
+        }
+    }
+
+    /// Returns how many nodes were refused; it stays at the last value of a u64.
+    pub fn refused(&self) -> u64
+        ensures { result ≡ self.now.plain.refused }
+    {
+        self.plain.refused()
+    }
+
+    // Says whether it fails at this call.
+    fn fails(&self) -> bool
+        ensures fails { result ≡ fails_at self.now.every self.now.calls.items self.now.called }
+        ensures listed { result ≡ true → IsTrue (is_none_listed self.now.every self.now.calls.items) → ⊥ }
+    {
+        self.every || self.calls.contains(&self.called)
+    }
+}
+
+impl Master for FailingMaster {
+    ghost use Rattle.std.specs.Prelude.{◌≡◌, ◌≤◌, ◌<◌, ◌+◌, ◌-◌, ◌^◌, min, true, false, IfOk, MatchResult, length};
+    ghost use Rattle.roster_model.specs.Folds.{Each};
+    ghost use Rattle.roster_model.specs.SoundInstance.{IsSoundInstance};
+    ghost use Rattle.roster_model.specs.Trees.{Parts, IsDayTree};
+    ghost use Rattle.bound_laws.specs.Infeasible.{IsPlainlyInfeasible};
+    ghost use Rattle.master_laws.specs.Rows.{rows_of};
+    ghost use Rattle.parse_graph.specs.Graphs.{IsGraph};
+    ghost use Rattle.cheapest_tree.specs.Pricers.{IsMadeFor};
+    ghost use Rattle.tree_pool.specs.Pools.{IsPool, IsGrown};
+    ghost use Rattle.node_master.specs.Ends.{IsNodeCut};
+    ghost use Rattle.node_master.specs.Refusals.{EndsWell, counted, fails_at, failure, is_none_listed};
+
+    ghost refused = { λ m. m.plain.refused };
+
+    ghost strict = { λ m. is_none_listed m.every m.calls.items };
+
+    /// Fails at each call, or at the listed ones, for want of pivots without one made, where the node has at
+    /// most 1,500 rows; else it answers as a plain master.
+    fn node(
+        &mut self,
+        alloc: Global,
+        instance: &Instance,
+        graph: &Graph,
+        pricer: &mut Pricer,
+        pool: &mut Pool,
+        cuts: &[Cut],
+        wanted: &[usize],
+    ) -> Result<NodeEnd, Memory>
+        requires sound { IsSoundInstance instance.now }
+        requires busy { IsPlainlyInfeasible instance.now → ⊥ }
+        requires graph { IsGraph instance.now.grammar graph.now }
+        requires tree { (t : Parts) × IsDayTree instance.now.grammar t }
+        requires pricer { IsMadeFor graph.now pricer.old }
+        requires pool { IsPool instance.now.grammar pool.old }
+        requires cuts { Each (IsNodeCut instance.now) cuts.now }
+        requires few { length cuts.now < 2 ^ 31 }
+        ensures same { (self.new.every ≡ self.old.every) × (self.new.calls ≡ self.old.calls) }
+        ensures called { self.new.called ≡ min (self.old.called + 1) (2 ^ 32 - 1) }
+        ensures fails { fails_at self.old.every self.old.calls.items self.new.called ≡ true
+            → length (rows_of instance.now cuts.now) ≤ 1500 → result ≡ failure }
+        ensures plain { fails_at self.old.every self.old.calls.items self.new.called ≡ false
+            → IfOk result (EndsWell instance.now cuts.now pool.new true) }
+        ensures end { IfOk result (EndsWell instance.now cuts.now pool.new
+            (is_none_listed self.old.every self.old.calls.items)) }
+        ensures counts { MatchResult result
+            (λ end. self.new.plain.refused ≡ counted self.old.plain.refused end)
+            (λ fault. self.new.plain.refused ≡ self.old.plain.refused) }
+        ensures rises { self.old.plain.refused ≤ self.new.plain.refused }
+        ensures within { self.new.plain.refused ≤ 2 ^ 64 - 1 }
+        ensures strict_stays { is_none_listed self.new.every self.new.calls.items
+            ≡ is_none_listed self.old.every self.old.calls.items }
+        ensures pricer { IsMadeFor graph.now pricer.new }
+        ensures pool { IsPool instance.now.grammar pool.new }
+        ensures grown { IsGrown pool.old pool.new }
+    {
+        self.called = self.called.saturating_add(1);
+        if count_rows(instance, cuts) <= ROWS && self.fails() {
+            self.plain.refuse();
+            return Ok(NodeEnd::Failed(Cause::Spent { pivots: 0 }));
+        }
+        self.plain
+            .node(alloc, instance, graph, pricer, pool, cuts, wanted)
+    }
+}

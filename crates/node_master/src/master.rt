@@ -1,0 +1,62 @@
+ghost use Rattle.std.specs.Prelude.{ℕ, ◌≡◌, ◌≤◌, ◌<◌, ◌-◌, ◌^◌, Bool, IfOk, MatchResult, length};
+ghost use Rattle.roster_model.specs.Folds.{Each};
+ghost use Rattle.roster_model.specs.SoundInstance.{IsSoundInstance};
+ghost use Rattle.roster_model.specs.Trees.{Parts, IsDayTree};
+ghost use Rattle.bound_laws.specs.Infeasible.{IsPlainlyInfeasible};
+ghost use Rattle.parse_graph.specs.Graphs.{IsGraph};
+ghost use Rattle.cheapest_tree.specs.Pricers.{IsMadeFor};
+ghost use Rattle.tree_pool.specs.Pools.{IsPool, IsGrown};
+ghost use Rattle.node_master.specs.Ends.{IsNodeCut};
+ghost use Rattle.node_master.specs.Refusals.{EndsWell, counted};
+
+use crate::{NodeEnd, Pool};
+use cheapest_tree::Pricer;
+use parse_graph::Graph;
+use roster_model::{Cut, Instance, Memory};
+use std::alloc::Global;
+
+/// What prices the nodes of a search.
+pub trait Master {
+    // How many nodes were refused: given up for a number too wide, or for want of pivots. It never falls, and
+    // stays at the last value of a u64.
+    ghost refused: { Self → ℕ };
+
+    // Whether it refuses hard nodes alone.
+    ghost strict: { Self → Bool };
+
+    /// Prices the node at a path of cuts, base cuts first, or gives it up; a refused node is counted once.
+    /// Trees of the pool that are `wanted` may steer it, the most wanted first: any list of numbers is
+    /// lawful.
+    ///
+    /// # Errors
+    ///
+    /// `Memory` where memory runs out; the count of refusals stays as it is then. The pricer is still one for
+    /// the graph, and the pool has its trees under their numbers, and perhaps further trees of the day.
+    fn node(
+        &mut self,
+        alloc: Global,
+        instance: &Instance,
+        graph: &Graph,
+        pricer: &mut Pricer,
+        pool: &mut Pool,
+        cuts: &[Cut],
+        wanted: &[usize],
+    ) -> Result<NodeEnd, Memory>
+        requires sound { IsSoundInstance instance.now }
+        requires busy { IsPlainlyInfeasible instance.now → ⊥ }
+        requires graph { IsGraph instance.now.grammar graph.now }
+        requires tree { (t : Parts) × IsDayTree instance.now.grammar t }
+        requires pricer { IsMadeFor graph.now pricer.old }
+        requires pool { IsPool instance.now.grammar pool.old }
+        requires cuts { Each (IsNodeCut instance.now) cuts.now }
+        requires few { length cuts.now < 2 ^ 31 }
+        ensures end { IfOk result (EndsWell instance.now cuts.now pool.new (strict self.old)) }
+        ensures counts { MatchResult result (λ end. refused self.new ≡ counted (refused self.old) end)
+            (λ fault. refused self.new ≡ refused self.old) }
+        ensures rises { refused self.old ≤ refused self.new }
+        ensures within { refused self.new ≤ 2 ^ 64 - 1 }
+        ensures strict_stays { strict self.new ≡ strict self.old }
+        ensures pricer { IsMadeFor graph.now pricer.new }
+        ensures pool { IsPool instance.now.grammar pool.new }
+        ensures grown { IsGrown pool.old pool.new };
+}

@@ -1,0 +1,197 @@
+ghost use Rattle.std.specs.Prelude.{◌≡◌, ◌≤◌, ◌<◌, ◌^◌, IfOk, true, length};
+ghost use Rattle.roster_model.specs.Folds.{Each};
+ghost use Rattle.roster_model.specs.SoundInstance.{IsSoundInstance};
+ghost use Rattle.roster_model.specs.Trees.{Parts, IsDayTree};
+ghost use Rattle.bound_laws.specs.Infeasible.{IsPlainlyInfeasible};
+ghost use Rattle.parse_graph.specs.Graphs.{IsGraph};
+ghost use Rattle.cheapest_tree.specs.Pricers.{IsMadeFor};
+ghost use Rattle.tree_pool.specs.Pools.{IsPool, IsGrown};
+ghost use Rattle.node_master.specs.Ends.{IsNodeCut};
+ghost use Rattle.node_master.specs.Refusals.{EndsWell, counted, one_more};
+
+use crate::master::Master;
+use crate::{Bases, Cause, First, NodeEnd, Pool, solve_node_from};
+use cheapest_tree::Pricer;
+use fraction::Tally;
+use parse_graph::Graph;
+use roster_model::{Cut, Instance, Memory};
+use std::alloc::Global;
+
+/// A master that solves each node's linear program in exact fractions, or finds prices that a near solution
+/// shows to be best: near prices come first where a basis has many trees, and else where the exact path leads to
+/// none. It refuses hard nodes alone.
+#[derive(Drop)]
+pub struct PlainMaster {
+    tally: Tally,
+    refused: u64,
+    /// The last bases of nodes: hints.
+    bases: Option<Bases>,
+    /// Which way to prices is gone first.
+    first: First,
+}
+
+/// Says whether a node was given up for a number that was too wide.
+fn is_wide(end: &NodeEnd) -> bool {
+    matches!(end, NodeEnd::Failed(Cause::Wide(_)))
+}
+
+/// Returns the count of refusals after the end of a node.
+fn count_end(refused: u64, end: &NodeEnd) -> u64
+    ensures { result ≡ counted refused end.now }
+{
+    match end {
+        NodeEnd::Best { .. } | NodeEnd::Near { .. } | NodeEnd::Failed(Cause::Rows { .. }) => {
+            refused
+        }
+        NodeEnd::Failed(Cause::Wide(_)) | NodeEnd::Failed(Cause::Spent { .. }) => {
+            refused.saturating_add(1)
+        }
+    }
+}
+
+/// Returns the bases that were kept, or none.
+fn kept(alloc: Global, bases: Option<Bases>) -> Bases {
+    match bases {
+        Some(bases) => bases,
+        None => Bases::new(alloc),
+    }
+}
+
+impl PlainMaster {
+    /// Returns a master that has refused no node.
+    pub fn new() -> PlainMaster
+        ensures { result.refused ≡ 0 }
+    {
+        PlainMaster::with_first(First::BySize)
+    }
+
+    /// Returns a master that has refused no node, and goes this way to prices first.
+    pub(crate) fn with_first(first: First) -> PlainMaster
+        ensures { result.refused ≡ 0 }
+    {
+        PlainMaster {
+            tally: Tally::new(),
+            refused: 0,
+            bases: None,
+            first,
+        }
+    }
+
+    /// Returns how many nodes were given up for a number too wide, or for want of pivots; it stays at the
+    /// last value of a u64.
+    pub fn refused(&self) -> u64
+        ensures { result ≡ self.now.refused }
+    {
+        self.refused
+    }
+
+    /// Solves a node's program with the bases that were kept, and keeps one more.
+    fn solve(
+        &mut self,
+        alloc: Global,
+        instance: &Instance,
+        graph: &Graph,
+        pricer: &mut Pricer,
+        pool: &mut Pool,
+        cuts: &[Cut],
+        wanted: &[usize],
+    ) -> Result<NodeEnd, Memory>
+        requires sound { IsSoundInstance instance.now }
+        requires busy { IsPlainlyInfeasible instance.now → ⊥ }
+        requires graph { IsGraph instance.now.grammar graph.now }
+        requires tree { (t : Parts) × IsDayTree instance.now.grammar t }
+        requires pricer { IsMadeFor graph.now pricer.old }
+        requires pool { IsPool instance.now.grammar pool.old }
+        requires cuts { Each (IsNodeCut instance.now) cuts.now }
+        requires few { length cuts.now < 2 ^ 31 }
+        ensures end { IfOk result (EndsWell instance.now cuts.now pool.new true) }
+        ensures refused { self.new.refused ≡ self.old.refused }
+        ensures pricer { IsMadeFor graph.now pricer.new }
+        ensures pool { IsPool instance.now.grammar pool.new }
+        ensures grown { IsGrown pool.old pool.new }
+    {
+        let mut bases = kept(alloc, self.bases.take());
+        let end = solve_node_from(
+            alloc,
+            instance,
+            graph,
+            pricer,
+            pool,
+            cuts,
+            wanted,
+            &mut bases,
+            self.first,
+            &mut self.tally,
+        )?;
+        self.bases = Some(bases);
+        Ok(end)
+    }
+
+    /// Solves a node's program; where a number was too wide, once more with no tree wanted: the pool has
+    /// more trees by then, and it may end at another solution, with smaller numbers.
+    fn solve_again(
+        &mut self,
+        alloc: Global,
+        instance: &Instance,
+        graph: &Graph,
+        pricer: &mut Pricer,
+        pool: &mut Pool,
+        cuts: &[Cut],
+        wanted: &[usize],
+    ) -> Result<NodeEnd, Memory>
+        requires sound { IsSoundInstance instance.now }
+        requires busy { IsPlainlyInfeasible instance.now → ⊥ }
+        requires graph { IsGraph instance.now.grammar graph.now }
+        requires tree { (t : Parts) × IsDayTree instance.now.grammar t }
+        requires pricer { IsMadeFor graph.now pricer.old }
+        requires pool { IsPool instance.now.grammar pool.old }
+        requires cuts { Each (IsNodeCut instance.now) cuts.now }
+        requires few { length cuts.now < 2 ^ 31 }
+        ensures end { IfOk result (EndsWell instance.now cuts.now pool.new true) }
+        ensures refused { self.new.refused ≡ self.old.refused }
+        ensures pricer { IsMadeFor graph.now pricer.new }
+        ensures pool { IsPool instance.now.grammar pool.new }
+        ensures grown { IsGrown pool.old pool.new }
+    {
+        let end = self.solve(alloc, instance, graph, pricer, pool, cuts, wanted)?;
+        if !is_wide(&end) {
+            return Ok(end);
+        }
+        drop(end);
+        self.solve(alloc, instance, graph, pricer, pool, cuts, &[])
+    }
+
+    // Counts a node that is refused without being looked at.
+    pub(crate) fn refuse(&mut self)
+        ensures rises { self.old.refused ≤ self.new.refused }
+        ensures counts { self.new.refused ≡ one_more self.old.refused }
+    {
+        let refused = self.refused;
+        self.refused = refused.saturating_add(1);
+    }
+}
+
+impl Master for PlainMaster {
+    ghost use Rattle.std.specs.Prelude.{true};
+
+    ghost refused = { λ m. m.refused };
+
+    ghost strict = { λ m. true };
+
+    /// Solves a node's program, and counts where it is given up.
+    fn node(
+        &mut self,
+        alloc: Global,
+        instance: &Instance,
+        graph: &Graph,
+        pricer: &mut Pricer,
+        pool: &mut Pool,
+        cuts: &[Cut],
+        wanted: &[usize],
+    ) -> Result<NodeEnd, Memory> {
+        let refused = self.refused;
+        let end = self.solve_again(alloc, instance, graph, pricer, pool, cuts, wanted)?;
+        self.refused = count_end(refused, &end);
+        Ok(end)
+    }
+}

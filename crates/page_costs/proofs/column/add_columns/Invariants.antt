@@ -1,7 +1,0 @@
-use Rattle.std.proofs.Common.{◌≡◌, ◌++◌, map, take}
-use Rattle.roster_model.specs.Duties.{duty}
-use Rattle.page_costs.specs.Columns.{column_of}
-use Rattle.page_costs.proofs.column.add_columns.Given as goal
-
-abbrev pub invariant-loop-cell : goal.invariant-loop-cell
-invariant-loop-cell l = l.out ≡ l.fn.out ++ map (column_of l.grammar (map duty l.shifts)) (take l.cell-index l.cells)

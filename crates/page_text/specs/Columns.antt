@@ -1,0 +1,21 @@
+-- How a roster covers a cell.
+use Rattle.std.specs.Prelude.{List}
+use Rattle.roster_model.specs.declared.grammar.Grammar.{Grammar}
+use Rattle.roster_model.specs.declared.instance.Cell.{Cell}
+use Rattle.roster_model.specs.Coverage.{covered, understaffing, overstaffing, penalty}
+use Rattle.roster_model.specs.Duties.{Duty}
+use Rattle.page_text.specs.declared.column.Column.{Column}
+
+-- how the employees cover a cell, and what that costs
+abbrev pub column_of : Grammar → List Duty → Cell → Column
+column_of g ds c = record {
+  code = c.code;
+  period = c.period;
+  need = c.need;
+  have = covered g c ds;
+  short = understaffing c (covered g c ds);
+  over = overstaffing c (covered g c ds);
+  floor = c.floor;
+  ceiling = c.ceiling;
+  penalty = penalty c (covered g c ds);
+}

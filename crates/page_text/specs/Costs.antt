@@ -1,0 +1,86 @@
+-- What the roster costs, and how good it is.
+use Rattle.std.specs.Prelude.{ℕ, ◌≤◌, ◌+◌, ◌-◌, Option, None, Some, List, [], ◌∷◌, ◌++◌, All, Bool, length, nat_eq, nat_lt, codes, if◌then◌else◌}
+use Rattle.std.specs.List.{list_any}
+use Rattle.roster_model.specs.declared.grammar.CodeDef.{CodeDef}
+use Rattle.page_parts.specs.Elements.{Element, each_from, marks, given, number}
+use Rattle.page_parts.specs.Paints.{paint_of}
+use Rattle.page_text.specs.declared.column.Column.{Column}
+use Rattle.page_text.specs.declared.figures.Figures.{Figures}
+
+-- the sentence of a roster that costs at most so much more than the best one
+unfoldable pub dearer : ℕ → List Element
+dearer more = marks (codes "This roster costs at most ") ∷ number more
+    ∷ marks (codes " more than the best one.") ∷ []
+
+-- the sentence of a roster of least cost
+unfoldable pub none_less : List Element
+none_less = marks (codes "No allowed roster costs less.") ∷ []
+
+-- the sentence of a roster that costs so much, where this is the bound
+unfoldable pub gap : ℕ → ℕ → List Element
+gap cost bound = if nat_lt bound cost then dearer (cost - bound) else none_less
+
+-- the sentence where there is no roster, but a bound
+unfoldable pub no_roster : ℕ → List Element
+no_roster bound =
+    marks (codes "No roster is stated. Each allowed roster costs at least ") ∷ number bound
+    ∷ marks (codes ".") ∷ []
+
+-- the sentence where no roster is allowed
+unfoldable pub none_allowed : List Element
+none_allowed = marks (codes "No roster is allowed.") ∷ []
+
+unfoldable pub sentence_over : Option ℕ → ℕ → List Element
+sentence_over None bound = no_roster bound
+sentence_over (Some cost) bound = gap cost bound
+
+unfoldable pub sentence : Option ℕ → Option ℕ → List Element
+sentence cost None = none_allowed
+sentence cost (Some bound) = sentence_over cost bound
+
+unfoldable pub amount : Option ℕ → List Element
+amount (Some n) = number n ∷ []
+amount None = marks (codes "none") ∷ []
+
+-- a code in its colour
+unfoldable pub chip : List CodeDef → ℕ → List Element
+chip cs byte =
+    marks (codes "<span class='chip ") ∷ marks (paint_of cs byte) ∷ marks (codes "'>") ∷ given (byte ∷ [])
+    ∷ marks (codes "</span>") ∷ []
+
+-- some column is of the code
+abbrev pub is_demanded : ℕ → List Column → Bool
+is_demanded code columns = list_any (λ (c : Column). nat_eq c.code code) columns
+
+-- a sum with the penalty of a column, where it is of the code
+unfoldable pub with_penalty : ℕ → ℕ → Column → ℕ
+with_penalty code sum c = if nat_eq c.code code then sum + c.penalty else sum
+
+-- a sum to which the penalties of a code are added
+abbrev pub penalties : ℕ → List Column → ℕ → ℕ
+penalties code [] sum = sum
+penalties code (c ∷ cs) sum = penalties code cs (with_penalty code sum c)
+
+-- the columns of at most 8 codes in at most 96 periods, each with the penalty of at most 64 employees
+pub record AreDayColumns (columns : List Column) : Type 0 where
+  pub few : length columns ≤ 768
+  pub small : All (λ (c : Column). c.penalty ≤ 1280000) columns
+
+unfoldable pub demanded_cost : List CodeDef → List Column → ℕ → CodeDef → List Element
+demanded_cost cs columns place c =
+    marks (codes "<div><dt>Penalty for ") ∷ chip cs c.byte
+    ++ marks (codes "</dt><dd>") ∷ number (penalties place columns 0) ∷ marks (codes "</dd></div>") ∷ []
+
+unfoldable pub code_cost : List CodeDef → List Column → ℕ → CodeDef → List Element
+code_cost cs columns place c = if is_demanded place columns then demanded_cost cs columns place c else []
+
+abbrev pub code_costs : List CodeDef → List Column → List Element
+code_costs cs columns = each_from (code_cost cs columns) 0 cs
+
+unfoldable pub costs : List CodeDef → Figures → List Column → List Element
+costs cs f columns =
+    (marks (codes "<dl><div><dt>Total cost</dt><dd>") ∷ amount f.cost)
+    ++ ((marks (codes "</dd></div><div><dt>Bound</dt><dd>") ∷ amount f.bound)
+    ++ (marks (codes "</dd></div><div><dt>Paid for shifts</dt><dd>") ∷ number f.paid
+    ∷ marks (codes "</dd></div><div><dt>Penalties</dt><dd>") ∷ number f.penalty ∷ marks (codes "</dd></div>")
+    ∷ (code_costs cs columns ++ marks (codes "</dl>\n") ∷ [])))

@@ -1,5 +1,0 @@
-pub mod Nodes
-pub mod Totals
-pub mod ArcPeriods
-pub mod Letters
-pub mod PinnedValues

@@ -1,4 +1,0 @@
-pub mod Nodes
-pub mod Owing
-pub mod Splits
-pub mod Filling
