@@ -75,6 +75,10 @@ fn plan_by_weights(
 /// prices show no less than the best roster costs. Where the weights of the arcs are whole, or nearly so, their
 /// roster is offered first; where it does not close the node, the weights as they stand decide. The arc of the number
 /// `loose` is left more than one count.
+///
+/// # Errors
+///
+/// `Memory` where memory runs out.
 pub(crate) fn plan_for(
     alloc: Global,
     instance: &Instance,

@@ -5,6 +5,10 @@ use crate::finding::Finding;
 use roster_model::{List, Memory};
 
 /// Lists a finding where it holds.
+///
+/// # Errors
+///
+/// `Memory` where memory runs out; the list is as before then.
 pub(crate) fn add_if(found: &mut List<Finding>, holds: bool, finding: Finding) -> Result<(), Memory>
     ensures { OnOk result (Adds (Says (holds ≡ true) finding) found.old found.new) }
 {

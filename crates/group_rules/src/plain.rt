@@ -78,6 +78,10 @@ fn fill(alloc: Global, grammar: &mut Grammar, instance: &Instance) -> Result<(),
 }
 
 /// Returns a copy of a day's grammar without what its groups add, with the day's start.
+///
+/// # Errors
+///
+/// `Memory` where memory runs out.
 pub fn plain_grammar(alloc: Global, instance: &Instance) -> Result<Grammar, Memory>
     ensures { IfOk result (λ g.
         g ≡ plain_from instance.now.grammar instance.now.groups instance.now.grammar.start) }

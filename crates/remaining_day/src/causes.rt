@@ -22,6 +22,7 @@ fn push_word(causes: &mut List<Cause>, shift: u32, price: Option<u64>) -> Result
     }
 }
 
+// Appends a cause for each word that is no shift of its team.
 fn push_words(causes: &mut List<Cause>, found: &[Option<u64>]) -> Result<(), Memory>
     requires { length found.now ≤ 64 }
     ensures { OnOk result (causes.new ≡ causes.old ++ gather word_cause 1 found.now) }
@@ -48,6 +49,7 @@ fn push_team(causes: &mut List<Cause>, shifts: &[Shift], team: &Team) -> Result<
     Ok(())
 }
 
+// Appends a cause for each team of which more shifts are kept than its greatest number.
 fn push_teams(causes: &mut List<Cause>, instance: &Instance, shifts: &[Shift]) -> Result<(), Memory>
     requires sound { IsSoundInstance instance.now }
     requires few { length shifts.now ≤ 64 }
@@ -83,6 +85,7 @@ fn push_cell(
     Ok(())
 }
 
+// Appends a cause for each cell that the kept shifts cover beyond its ceiling.
 fn push_cells(
     causes: &mut List<Cause>,
     grammar: &Grammar,
@@ -101,6 +104,10 @@ fn push_cells(
 }
 
 /// Returns each cause for which no roster of the day has the shifts, at most 64, whose prices these are.
+///
+/// # Errors
+///
+/// `Memory` where memory runs out.
 pub(crate) fn causes_of(
     alloc: Global,
     instance: &Instance,

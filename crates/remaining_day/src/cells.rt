@@ -12,6 +12,7 @@ use std::alloc::Global;
 /// The ceiling that binds no roster.
 const FREE_CEILING: u32 = 64;
 
+// Returns what is left of a ceiling beside so many; a ceiling that binds no roster stays.
 fn ceiling_left(ceiling: u32, there: u32) -> u32
     ensures { result ≡ ceiling_left ceiling there }
 {
@@ -22,6 +23,7 @@ fn ceiling_left(ceiling: u32, there: u32) -> u32
     }
 }
 
+// Returns what is left of a cell beside the shifts.
 fn cell_left(grammar: &Grammar, shifts: &[Shift], cell: &Cell) -> Cell
     requires cell { IsDayCell grammar.now cell.now }
     requires few { length shifts.now ≤ 64 }
@@ -37,6 +39,10 @@ fn cell_left(grammar: &Grammar, shifts: &[Shift], cell: &Cell) -> Cell
 }
 
 /// Returns the cells beside the shifts, at most 64.
+///
+/// # Errors
+///
+/// `Memory` where memory runs out.
 pub(crate) fn cells_left(
     alloc: Global,
     grammar: &Grammar,
@@ -66,6 +72,7 @@ fn overstaffing_cost(grammar: &Grammar, shifts: &[Shift], cell: &Cell) -> u64
     u64::from(cell.over) * u64::from(beyond)
 }
 
+// Returns what the shifts cost by covering cells beyond their needs.
 fn overstaffing_costs(grammar: &Grammar, shifts: &[Shift], cells: &[Cell]) -> u64
     requires cells { All (IsDayCell grammar.now) cells.now }
     requires few_cells { length cells.now ≤ 768 }

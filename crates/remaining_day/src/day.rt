@@ -22,6 +22,10 @@ fn regrouped(alloc: Global, instance: &Instance, groups: &[Group]) -> Result<Gra
 }
 
 /// Returns the day with these groups, head counts and cells in place of its own.
+///
+/// # Errors
+///
+/// `Memory` where memory runs out.
 pub(crate) fn with_parts(
     alloc: Global,
     instance: &Instance,

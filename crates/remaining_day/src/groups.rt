@@ -6,6 +6,7 @@ use crate::counts::kept_of;
 use roster_model::{Group, List, Memory, Shift};
 use std::alloc::Global;
 
+// Returns a group beside the shifts that are of its number.
 fn group_left(shifts: &[Shift], number: u8, group: &Group) -> Group
     requires { length shifts.now ≤ 64 }
     ensures { result ≡ group_left number (duties shifts.now) group.now }
@@ -29,6 +30,10 @@ fn push_group(groups: &mut List<Group>, group: Group) -> Result<(), Memory>
 }
 
 /// Returns the groups, at most 8, of which somebody is left beside the shifts, at most 64.
+///
+/// # Errors
+///
+/// `Memory` where memory runs out.
 pub(crate) fn groups_left(
     alloc: Global,
     shifts: &[Shift],

@@ -82,6 +82,10 @@ fn left(
 
 /// Returns what remains of a day whose roster is to have the kept shifts, at most 64, or each cause for which
 /// no roster of it has them.
+///
+/// # Errors
+///
+/// `Memory` where memory runs out.
 pub fn remaining(alloc: Global, instance: &Instance, kept: &[Shift]) -> Result<Remaining, Memory>
     requires sound { IsSoundInstance instance.now }
     requires few { length kept.now ≤ 64 }

@@ -44,6 +44,10 @@ fn found_in(
 }
 
 /// Returns the price of each shift, at most 64, or `None` where its word is no shift of its team.
+///
+/// # Errors
+///
+/// `Memory` where memory runs out.
 pub(crate) fn found_prices(
     alloc: Global,
     instance: &Instance,

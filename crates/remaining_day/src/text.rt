@@ -59,6 +59,7 @@ fn kept_word(kept: &[Shift], number: u32) -> &[u8]
     }
 }
 
+// Writes the line of a kept word that is no shift.
 fn no_shift(out: &mut List<u8>, kept: &[Shift], number: u32) -> Result<(), Memory>
     ensures { OnOk result (out.new ≡ out.old ++ (text "shift" ++ spaced_number number
         ++ spaced_word (kept_word kept.now number) ++ text ": no shift\n")) }
@@ -69,6 +70,7 @@ fn no_shift(out: &mut List<u8>, kept: &[Shift], number: u32) -> Result<(), Memor
     put(out, b": no shift\n")
 }
 
+// Writes the first words of a line on the heads or on a group.
 fn team(out: &mut List<u8>, instance: &Instance, group: u8) -> Result<(), Memory>
     ensures { OnOk result (out.new ≡ out.old ++ team_words instance.now group) }
 {
@@ -79,6 +81,7 @@ fn team(out: &mut List<u8>, instance: &Instance, group: u8) -> Result<(), Memory
     word(out, group_name(instance, group))
 }
 
+// Writes the line of a team of which too many shifts are kept.
 fn too_many(
     out: &mut List<u8>,
     instance: &Instance,
@@ -96,6 +99,7 @@ fn too_many(
     put(out, b"\n")
 }
 
+// Writes the line of a cell that the kept shifts cover beyond its ceiling.
 fn above_ceiling(
     out: &mut List<u8>,
     code: u8,
@@ -118,6 +122,7 @@ fn above_ceiling(
     put(out, b"\n")
 }
 
+// Writes the line of a cause.
 fn cause(
     out: &mut List<u8>,
     instance: &Instance,
@@ -154,6 +159,7 @@ fn causes_text(
     Ok(out)
 }
 
+// Returns the text of a day of which nobody is left.
 fn nobody_left(alloc: Global) -> Result<List<u8>, Memory>
     ensures { IfOk result (λ written. written ≡ text "nobody left\n") }
 {
@@ -164,8 +170,11 @@ fn nobody_left(alloc: Global) -> Result<List<u8>, Memory>
 
 /// Writes what remains of a day beside kept shifts: the demand text of the remaining day, behind a comment
 /// line that tells how many shifts are kept, their prices and their penalty; or the line `nobody left`; or a
-/// line for each cause for which no roster of the day has the kept shifts. After want of memory there is no
-/// text.
+/// line for each cause for which no roster of the day has the kept shifts.
+///
+/// # Errors
+///
+/// `Memory` where memory runs out; there is no text then.
 pub fn write_remaining(
     alloc: Global,
     instance: &Instance,

@@ -33,7 +33,11 @@ fn cell_cover(grammar: &Grammar, shifts: &[Shift], cell: &Cell) -> Cover
     }
 }
 
-/// Appends how a roster covers each of the cells. After want of memory a part may stand there.
+/// Appends how a roster covers each of the cells.
+///
+/// # Errors
+///
+/// `Memory` where memory runs out; a part may stand there then.
 pub fn add_covers(
     out: &mut List<Cover>,
     grammar: &Grammar,

@@ -29,7 +29,11 @@ fn code_lines(out: &mut List<u8>, code: u8, covers: &[Cover]) -> Result<(), Memo
     part_line(out, Part::Over, code, covers)
 }
 
-/// Writes the lines of the cells of all codes. After want of memory a part of them may stand there.
+/// Writes the lines of the cells of all codes.
+///
+/// # Errors
+///
+/// `Memory` where memory runs out; a part of them may stand there then.
 pub fn cover_lines(out: &mut List<u8>, instance: &Instance, covers: &[Cover]) -> Result<(), Memory>
     requires sound { IsSoundInstance instance.now }
     requires whole { length covers.now ≡ length instance.now.cells }

@@ -20,7 +20,11 @@ use roster_model::{Done, Group, Instance, List, Memory};
 use std::alloc::Global;
 use text_lines::{field, put, word};
 
-/// Writes the first line of a report for these groups. After want of memory a part of it may stand there.
+/// Writes the first line of a report for these groups.
+///
+/// # Errors
+///
+/// `Memory` where memory runs out; a part of it may stand there then.
 pub fn header_line(out: &mut List<u8>, groups: &[Group]) -> Result<(), Memory>
     ensures { OnOk result (out.new ≡ out.old ++ written (header_line groups.now ∷ [])) }
 {
@@ -57,7 +61,11 @@ pub(crate) fn result_line(out: &mut List<u8>, done: Done) -> Result<(), Memory>
     out.push(b'\n')
 }
 
-/// Writes a line of a word and a number. After want of memory a part of it may stand there.
+/// Writes a line of a word and a number.
+///
+/// # Errors
+///
+/// `Memory` where memory runs out; a part of it may stand there then.
 pub fn number_line(out: &mut List<u8>, first: &[u8], number: u64) -> Result<(), Memory>
     ensures { OnOk result (out.new ≡ out.old ++ written (number_line first.now number ∷ [])) }
 {

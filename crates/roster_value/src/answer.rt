@@ -81,6 +81,10 @@ fn causes_answer(
 /// Answers for a roster that was stated, at most 64 sound shifts whose prices do not matter: with status 0 what it
 /// costs, as the lines of a report without those of a search, where it is allowed; with status 1 a line for each
 /// cause for which it is not, and then the lines that say how it covers each demanded code.
+///
+/// # Errors
+///
+/// `Memory` where memory runs out.
 pub fn stated_answer(alloc: Global, instance: &Instance, shifts: &[Shift]) -> Result<Answer, Memory>
     requires sound { IsSoundInstance instance.now }
     requires shifts { HasSoundShifts instance.now shifts.now }

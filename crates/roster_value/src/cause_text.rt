@@ -134,8 +134,11 @@ fn cause_line(
     }
 }
 
-/// Appends a line for each cause of a roster of these shifts. After want of memory a part of them may stand
-/// there.
+/// Appends a line for each cause of a roster of these shifts.
+///
+/// # Errors
+///
+/// `Memory` where memory runs out; a part of them may stand there then.
 pub(crate) fn cause_lines(
     out: &mut List<u8>,
     instance: &Instance,

@@ -165,6 +165,10 @@ fn add_coverage_causes(
 
 /// Returns all causes for which a roster is not allowed, where these are the prices of its words: those of the
 /// shifts, of the teams and of the cells, each in their order.
+///
+/// # Errors
+///
+/// `Memory` where memory runs out.
 pub(crate) fn causes_of(
     alloc: Global,
     instance: &Instance,

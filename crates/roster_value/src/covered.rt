@@ -19,7 +19,11 @@ fn covers_of(alloc: Global, instance: &Instance, shifts: &[Shift]) -> Result<Lis
     Ok(covers)
 }
 
-/// Writes the four lines of each demanded code. After want of memory a part of them may stand there.
+/// Writes the four lines of each demanded code.
+///
+/// # Errors
+///
+/// `Memory` where memory runs out; a part of them may stand there then.
 pub(crate) fn covered_lines(
     alloc: Global,
     out: &mut List<u8>,

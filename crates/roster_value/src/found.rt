@@ -47,6 +47,10 @@ fn found_in(
 
 /// Returns the price of each shift's word in its team, or none for a word that is no shift of it. What a shift
 /// states as its price does not matter.
+///
+/// # Errors
+///
+/// `Memory` where memory runs out.
 pub(crate) fn found_of(
     alloc: Global,
     instance: &Instance,

@@ -42,6 +42,10 @@ fn judge_at(
 
 /// Returns what a stated roster comes to: what it costs at the least price of each word, or all causes for which
 /// it is not allowed. What the shifts state as prices does not matter.
+///
+/// # Errors
+///
+/// `Memory` where memory runs out.
 pub fn judge(alloc: Global, instance: &Instance, shifts: &[Shift]) -> Result<Judged, Memory>
     requires sound { IsSoundInstance instance.now }
     requires shifts { HasSoundShifts instance.now shifts.now }

@@ -46,8 +46,11 @@ fn roster_lines(
     covered_lines(alloc, out, instance, shifts)
 }
 
-/// Returns the text of an allowed roster: the lines of a report without those of a search. After want of memory
-/// there is no text.
+/// Returns the text of an allowed roster: the lines of a report without those of a search.
+///
+/// # Errors
+///
+/// `Memory` where memory runs out; there is no text then.
 pub(crate) fn value_text(
     alloc: Global,
     instance: &Instance,

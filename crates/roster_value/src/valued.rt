@@ -27,6 +27,7 @@ pub struct Valued {
     pub penalty: u64,
 }
 
+// Returns the price of a word, 0 for one that is no shift.
 fn price_or_zero(price: Option<u64>) -> u64
     ensures { result ≡ price_or_zero price }
 {
@@ -99,6 +100,10 @@ fn valued_at(alloc: Global, instance: &Instance, shifts: List<Shift>) -> Result<
 }
 
 /// Returns what an allowed roster costs, where these are the prices of its words, and no cause is against it.
+///
+/// # Errors
+///
+/// `Memory` where memory runs out.
 pub(crate) fn value_of(
     alloc: Global,
     instance: &Instance,

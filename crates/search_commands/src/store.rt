@@ -8,6 +8,11 @@ use text_commands::answer::Answer;
 use text_commands::say::{MEMORY, say, status_of};
 
 /// Asks whether a text may be stored under a name, or returns the status of a refusal.
+///
+/// # Errors
+///
+/// The status of a refusal: 6 where the name may not be stored under or the shelf fails, 7 for want of
+/// memory.
 pub(crate) fn ask_name<S: Shelf>(shelf: &mut S, name: &str) -> Result<(), u8>
     ensures { MatchResult result
         (λ _. IsAsked (MayStore name.now) (S.told shelf.old) (S.told shelf.new))

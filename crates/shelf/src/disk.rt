@@ -251,6 +251,7 @@ impl<R: Files + Print + Eprint + AllocGlobal + Drop> Shelf for DiskShelf<R> {
         self.counted(outcome)
     }
 
+    // Asks the file of the name itself, and where it is a link the file that it leads to.
     fn may_store(&mut self, name: &str) -> Result<(), ShelfFault>
         ensures counted { self.new ≡ count_after result self.old }
         ensures cause { HasCause self.old self.new result }
@@ -260,6 +261,7 @@ impl<R: Files + Print + Eprint + AllocGlobal + Drop> Shelf for DiskShelf<R> {
         self.counted(outcome)
     }
 
+    // Stores by a new file that is renamed, where the name is free or a regular file.
     fn store(&mut self, name: &str, bytes: &[u8]) -> Result<(), ShelfFault>
         ensures counted { self.new ≡ count_after result self.old }
         ensures cause { HasCause self.old self.new result }

@@ -184,6 +184,7 @@ impl Shelf for MemoryShelf {
         }
     }
 
+    // Asks the texts held; a refusal is noted.
     fn may_store(&mut self, name: &str) -> Result<(), ShelfFault>
         ensures ok { OnOk result (IsTrue (may_store self.old.held name.now) × (self.new ≡ self.old)) }
         ensures err { OnErr result ((result ≡ Err ShelfFault.Failed)

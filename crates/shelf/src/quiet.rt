@@ -122,6 +122,7 @@ impl Shelf for QuietShelf {
         Ok(())
     }
 
+    // Asks the texts held.
     fn may_store(&mut self, name: &str) -> Result<(), ShelfFault>
         ensures ok { OnOk result (IsTrue (may_store self.old.held name.now) × (self.new ≡ self.old)) }
         ensures err { OnErr result ((result ≡ Err ShelfFault.Failed)
@@ -136,6 +137,7 @@ impl Shelf for QuietShelf {
         Err(self.refuse())
     }
 
+    // Stores among the texts held.
     fn store(&mut self, name: &str, bytes: &[u8]) -> Result<(), ShelfFault>
         ensures ok { OnOk result (IsTrue (may_store self.old.held name.now) × (self.new ≡ record self.old {
           held = fin.insert self.old.held name.now bytes.now;

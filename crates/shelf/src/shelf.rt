@@ -40,6 +40,10 @@ pub trait Shelf {
 
     /// Asks whether a text may be stored under the name: where it is free, or holds a text that is empty or
     /// begins with `proof `.
+    ///
+    /// # Errors
+    ///
+    /// `Failed` where it may not, or where the outside fails; `Memory` where memory runs out.
     fn may_store(&mut self, name: &str) -> Result<(), ShelfFault>
         ensures may { OnOk result (IfSome (told self.old).held (λ h. IsTrue (may_store h name.now))) }
 
@@ -53,7 +57,12 @@ pub trait Shelf {
             (λ h. IsTrue (may_store h name.now) → (told self.new).faults ≡ (told self.old).faults) };
 
     /// Makes the name hold the bytes, where a text may be stored under it; a text that may not be stored over
-    /// stands. After `Failed` it is else untold what the name holds, and after `Memory` all is as before.
+    /// stands.
+    ///
+    /// # Errors
+    ///
+    /// `Failed` where the name may not be stored under, or where the outside fails; it is else untold what
+    /// the name holds then. `Memory` where memory runs out, and all is as before.
     fn store(&mut self, name: &str, bytes: &[u8]) -> Result<(), ShelfFault>
         ensures stored { OnOk result (IfSome (told self.old).held
             (λ h. (told self.new).held ≡ Some (fin.insert h name.now bytes.now))) }

@@ -39,6 +39,7 @@ impl From<Memory> for RosterFault {
 
     ghost from_gives = { λ _ fault. fault ≡ out_of_memory };
 
+    // Want of memory carries no line.
     fn from(_memory: Memory) -> RosterFault {
         RosterFault::Memory
     }

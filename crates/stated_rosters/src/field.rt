@@ -18,6 +18,7 @@ pub fn is_number(word: &[u8]) -> bool
     }
 }
 
+// Tells whether a group's name is the word.
 fn has_name(names: &[List<u8>], word: &[u8], group: &Group) -> bool
     ensures { result ≡ has_name names.now word.now group.now }
 {
@@ -27,6 +28,7 @@ fn has_name(names: &[List<u8>], word: &[u8], group: &Group) -> bool
     }
 }
 
+// Returns the place of the first group whose name is the word.
 fn group_place(names: &[List<u8>], groups: &[Group], word: &[u8]) -> Option<usize>
     ensures place { result ≡ position (has_name names.now word.now) groups.now }
     ensures within { IfSome result (λ i. i < length groups.now) }
@@ -35,6 +37,10 @@ fn group_place(names: &[List<u8>], groups: &[Group], word: &[u8]) -> Option<usiz
 }
 
 /// Reads the name of a group, and gives the group's number, from 1.
+///
+/// # Errors
+///
+/// The fault of the word: a name that is no group's, or a number that is none or out of range, at this line.
 #[tactic(auto, unfolding(crate::specs::Fields::group_at))]
 pub fn group(
     line: u32,

@@ -53,6 +53,10 @@ fn other_line(report: bool, line: &Line<'_>) -> Result<(), RosterFault>
 }
 
 /// Reads a line of a report, or of a list of shifts, and adds its shift to those before, where it has one.
+///
+/// # Errors
+///
+/// The first fault of the line; `Memory` where memory runs out.
 #[tactic(auto, unfolding(crate::specs::RosterOf::line_at))]
 pub fn line(
     alloc: Global,

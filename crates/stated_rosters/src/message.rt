@@ -6,6 +6,7 @@ use roster_model::{List, Memory};
 use std::alloc::Global;
 use text_lines::{put, put_place};
 
+// Returns the line that a fault carries.
 fn line_of(fault: &RosterFault) -> Option<u32>
     ensures { result ≡ line_of fault.now }
 {
@@ -21,6 +22,7 @@ fn line_of(fault: &RosterFault) -> Option<u32>
     }
 }
 
+// Returns the words of a fault.
 #[tactic(auto, unfolding(crate::specs::FaultLine::fault_text))]
 fn text_of(fault: &RosterFault) -> &'static str
     ensures { result.now ≡ fault_text fault.now }
@@ -38,8 +40,12 @@ fn text_of(fault: &RosterFault) -> &'static str
     }
 }
 
-/// Returns the line that tells a fault, as `roster: line 3: unknown line` with a line feed. A fault
-/// that carries no line has none in the text either. After want of memory there is no line.
+/// Returns the line that tells a fault, as `roster: line 3: unknown line` with a line feed. A fault that
+/// carries no line has none in the text either.
+///
+/// # Errors
+///
+/// `Memory` where memory runs out; there is no line then.
 pub fn fault_line(alloc: Global, fault: &RosterFault) -> Result<List<u8>, Memory>
     ensures { IfOk result (λ text. text ≡ fault_line fault.now) }
 {

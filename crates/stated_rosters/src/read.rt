@@ -67,7 +67,11 @@ fn lines(
 ///
 /// A text that is too long is refused before all else. Then the lines are read in order, and the first that
 /// cannot stand gives the fault; in a line a bad byte comes first, then its form, then that 64 shifts stand
-/// before, then its words from left to right. `Memory` may come at any time.
+/// before, then its words from left to right.
+///
+/// # Errors
+///
+/// The first fault of the text, in this order; `Memory` may come at any time.
 #[tactic(auto, unfolding(crate::specs::RosterOf::roster_of))]
 pub fn read_roster(
     alloc: Global,

@@ -126,6 +126,10 @@ fn letters(
 }
 
 /// Reads the line of a shift, behind its first word, and adds the shift to those before.
+///
+/// # Errors
+///
+/// The first fault of the line; `Memory` where memory runs out.
 #[tactic(auto, unfolding(crate::specs::ShiftLines::added))]
 pub fn shift(
     alloc: Global,

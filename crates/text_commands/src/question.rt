@@ -13,6 +13,10 @@ pub trait Question {
     ghost answers: { Self → TextAnswers };
 
     /// Answers to a text, or says why it is refused.
+    ///
+    /// # Errors
+    ///
+    /// `Memory` where memory runs out.
     fn answer(&self, alloc: Global, instance: &Instance, text: &[u8]) -> Result<Answer, Memory>
         requires { IsSoundInstance instance.now }
         ensures { IfOk result (λ a. answers self.now instance.now text.now a.status a.output) };

@@ -13,6 +13,7 @@ use std::alloc::Global;
 /// What is said where the words have no form.
 pub const NO_FORM: &[u8] = b"words: none of the forms\n";
 
+// Tells whether a name is the word.
 fn is_same(name: &List<u8>, word: &str) -> bool
     ensures { result ≡ bytes_eq name.now word.now }
 {

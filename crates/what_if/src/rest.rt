@@ -65,6 +65,7 @@ impl Question for KeptShifts {
 
     ghost ends = { λ _. resting-ends };
 
+    // Says what remains of the day beside the roster that the text states.
     fn answer(&self, alloc: Global, instance: &Instance, text: &[u8]) -> Result<Answer, Memory> {
         resting(alloc, instance, text)
     }

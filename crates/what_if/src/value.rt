@@ -17,6 +17,10 @@ use text_commands::ask::ask;
 use text_commands::question::Question;
 
 /// Says why a roster text is refused.
+///
+/// # Errors
+///
+/// `Memory` where memory ran out, then or before.
 pub fn roster_refusal(alloc: Global, fault: RosterFault) -> Result<Answer, Memory>
     ensures { IfOk result (λ a. (fault ≢ RosterFault.Memory) × (a.status ≡ 5)
         × (a.output ≡ roster_line.fault_line fault)) }
@@ -67,6 +71,7 @@ impl Question for StatedValue {
 
     ghost ends = { λ _. value-ends };
 
+    // Says what the roster that the text states comes to.
     fn answer(&self, alloc: Global, instance: &Instance, text: &[u8]) -> Result<Answer, Memory> {
         valuation(alloc, instance, text)
     }
