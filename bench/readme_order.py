@@ -20,11 +20,19 @@ def is_of_rows(crate, called):
     return crate not in called and (crate.endswith("_rows") or crate == "bench_runs")
 
 
+def below():
+    """The crates that each crate stands on, by crates.txt."""
+    lines = (CRATES.parent / "crates.txt").read_text().splitlines()
+    pairs = (line.split(":", 1) for line in lines if line and not line.startswith("#"))
+    return {name: rest.split() for name, rest in pairs}
+
+
 def called_crates():
     """The crates that the code of another one uses."""
+    stands_on = below()
     for source in CRATES.glob("*/src/*.rt"):
         for used in re.findall(r"(?<![\w:])([a-z_]+)::", without_ghosts(source.read_text())):
-            if used != source.parent.parent.name:
+            if used in stands_on.get(source.parent.parent.name, []):
                 yield used
 
 
