@@ -1,5 +1,5 @@
 -- A leaf in hand: the arc of its plan, and its path.
-use Rattle.std.proofs.Common.{◌≡◌, ℕ, arith, ◌≤◌, ◌<◌, ◌^◌, None, Some, List, [], ◌∷◌, ◌++◌, length, refl, sym, subst, ◌∙◌, inl, inr}
+use Rattle.std.proofs.Common.{◌≡◌, ℕ, arith, ◌≤◌, ◌<◌, ◌^◌, None, Some, List, [], ◌∷◌, ◌++◌, length, refl, sym, subst, ap, ◌∙◌, inl, inr}
 use Rattle.std.specs.Prelude.{slice_get}
 use Rattle.roster_model.specs.declared.grammar.ArcKey.{ArcKey}
 use Rattle.roster_model.specs.declared.instance.Cut.{Cut}
@@ -128,6 +128,7 @@ half-asks i v strict now p leaf tree half asked halved =
         few = let f = asked.few in let q = halved.processed in omega (arith, f, q);
       };
       processed = halved.processed;
+      best = refl;
     }
 
 -- a leaf without a plan is not processed
@@ -139,6 +140,7 @@ whole-asks i v strict now p leaf asked e =
       path = place.0;
       node = record { tree = asked.tree; is = asked.is; place = place.1; few = asked.few };
       processed = refl;
+      best = refl;
     }
 
 pub half-is-node : (i : Instance) (v : GraphView) (strict : Bool) (before now low : ℕ) (old new : Progress) (half : OpenLeaf) (seats : List Seat)
@@ -167,4 +169,5 @@ half-turned i v strict before now later low old new last half asked turned = rec
   tree = turned.tree;
   is = turned.is;
   processed = let p = turned.processed in let q = asked.processed in omega (arith, p, q);
+  falls = let f = turned.falls in let e = ap (limit_of i) asked.best in omega (arith, f, e);
 }

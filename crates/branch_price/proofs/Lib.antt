@@ -10,6 +10,7 @@ pub mod SoundEnds
 pub mod FoundLemmas
 pub mod PlainPrices
 pub mod OneNode
+pub mod OldLemmas
 pub mod EndsLemmas
 pub mod ShownLimit
 pub mod LoopsLemmas

@@ -1,9 +1,10 @@
 -- The turns of a search, and its two ends.
-use Rattle.std.proofs.Common.{◌≡◌, ℕ, arith, ◌+◌, ◌≤◌, ◌<◌, max, Bool, Option, None, Some, IfSome, [], ◌∷◌, length, refl, sym, subst, ap, ◌∙◌}
+use Rattle.std.proofs.Common.{◌≡◌, ℕ, arith, ◌+◌, ◌≤◌, ◌<◌, max, Bool, Option, None, Some, IfSome, List, [], ◌∷◌, length, refl, sym, subst, ap, ◌∙◌}
 use Rattle.std.specs.Prelude.{◌≢◌}
 use Rattle.roster_model.specs.declared.instance.Done.{Done}
 use Rattle.roster_model.specs.declared.instance.Done.TheVariants.{Equal, NoRoster, TurnsOut}
 use Rattle.roster_model.specs.declared.instance.Instance.{Instance}
+use Rattle.roster_model.specs.declared.instance.Shift.{Shift}
 use Rattle.roster_model.specs.Cuts.{base_cuts}
 use Rattle.roster_model.specs.GreatestCost.{greatest_cost}
 use Rattle.roster_model.specs.SoundInstance.{IsSoundInstance}
@@ -27,6 +28,7 @@ use Rattle.branch_price.specs.Steps.{AsksTurn, IsTurned, IsBegun}
 use Rattle.branch_price.specs.Ends.{IsNext, IsEnd, IsDoneAt, IsClosedBy}
 use Rattle.branch_price.specs.Loops.{IsLooping}
 use Rattle.branch_price.specs.Found.{HasNoArc}
+use Rattle.branch_price.specs.OldRosters.{ReachesOld}
 use Rattle.branch_price.proofs.EndsLemmas.{final-is}
 use Rattle.branch_price.proofs.ShownLimit.{shown-limit}
 
@@ -93,6 +95,15 @@ module _ (i : Instance) (v : GraphView) (strict : Bool) (before now turns : ℕ)
       let k = processed-less apart in
       let s = next.processed in
       (omega (arith, k, s), omega (arith, one, s))
+
+  -- the best roster costs no more than before, so it reaches an old one still
+  pub turn-reaches : (same : Bool) → same ≡ strict → p.tree.processed ≢ turns → (later : ℕ) (new : Progress)
+      → ((asked : AsksTurn i v same now p leaf) → IsTurned i v same asked.before later leaf.bound p new)
+      → (shifts : List Shift) → ReachesOld i shifts old.best → ReachesOld i shifts new.best
+  turn-reaches same e apart later new turned shifts reach =
+      let f = (turned (asks-turn same e apart)).falls in
+      let s = ap (limit_of i) next.best in
+      λ x costs. let r = reach x costs in omega (arith, f, s, r)
 
   leaf-open : SomeTip (λ up path k l. (k ≡ leaf.kept.seat) × IsOpenLeaf l × (tip_bound up l ≡ leaf.bound)) 0 (base_cuts i) is.tree
   leaf-open = queued-leaf is.tree leaf p.tree.waiting (base_cuts i) taken.1.tree.queue

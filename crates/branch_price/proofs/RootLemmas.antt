@@ -1,7 +1,9 @@
 -- What a search finds of a day without arcs: its one node is pinned.
 use Rattle.std.proofs.Common.{true≢false, ◌≡◌, ℕ, arith, ◌≤◌, Bool, true, false, Option, None, Some, IfSome, List, [], ◌∷◌, length, refl, sym, subst}
+use Rattle.std.specs.Cmp.{unsigned_Decides}
 use Rattle.std.specs.Prelude.{◌≢◌, ◌==◌}
 use Rattle.std.proofs.lemmas.List.{append-nil}
+use Rattle.std.proofs.lemmas.Option.{slice_get_within}
 use Rattle.roster_model.specs.declared.grammar.ArcKey.{ArcKey}
 use Rattle.roster_model.specs.declared.instance.Done.{Done}
 use Rattle.roster_model.specs.declared.instance.Done.TheVariants.{Equal, NoRoster, TurnsOut}
@@ -38,6 +40,14 @@ some-arc i v graph some none = by v.arcs refl some
     by : (xs : List ArcKey) → v.arcs ≡ xs → (length xs == 0) ≡ false → ⊥
     by [] e h = true≢false h
     by (a ∷ xs) e h = none a (graph.arcs.sound 0 a (rw e refl))
+
+-- a graph without arcs is of a day without them
+pub no-arc : (i : Instance) (v : GraphView) → IsGraph i.grammar v → (length v.arcs == 0) ≡ true → HasNoArc i
+no-arc i v graph none = λ a is.
+    let q = graph.arcs.whole a is in
+    let lt = slice_get_within v.arcs q.0 a q.1 in
+    let zero = (unsigned_Decides (length v.arcs) 0).0 none in
+    absurd (omega (arith, lt, zero))
 
 -- the cuts of the root ask for arcs alone
 pub root-asks : (i : Instance) → IsSoundInstance i → (IsPlainlyInfeasible i → ⊥) → AskForArcs i (base_cuts i)

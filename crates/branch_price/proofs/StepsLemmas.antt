@@ -57,6 +57,7 @@ turned-by i v strict before now later low p leaf cuts best w asked better done =
   tree = done.tree;
   is = record { tree = done.is; best = better.good; start = λ h. better.start (asked.is.start h) };
   processed = done.processed;
+  falls = better.falls;
 }
 
 -- an arc that is left more than one count

@@ -9,3 +9,4 @@ pub mod Steps
 pub mod Ends
 pub mod Loops
 pub mod Arcless
+pub mod OldRosters

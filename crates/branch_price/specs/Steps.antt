@@ -31,12 +31,13 @@ pub record AsksNode (i : Instance) (v : GraphView) (strict : Bool) (before now l
   pub place : IsPlace (base_cuts i) tree leaf.kept.seat leaf.bound cuts fresh
   pub few : p.tree.processed < 10000
 
--- one more node is processed, and no leaf is in hand
+-- one more node is processed, no leaf is in hand, and the best roster gave way to none that costs more
 pub record IsTurned (i : Instance) (v : GraphView) (strict : Bool) (before now low : ℕ)
     (old new : Progress) : Type 0 where
   pub tree : Grown
   pub is : IsSearching (site_of i v strict before) now low [] new tree
   pub processed : new.tree.processed ≡ old.tree.processed + 1
+  pub falls : limit_of i new.best ≤ limit_of i old.best
 
 -- the node's master failed for a cause that may be
 pub record IsGivenUp (i : Instance) (strict : Bool) (now later : ℕ) (cuts : List Cut) : Type 0 where
@@ -44,12 +45,14 @@ pub record IsGivenUp (i : Instance) (strict : Bool) (now later : ℕ) (cuts : Li
   pub cause : (now < later) ⊎ (later ≡ last_count) ⊎ ((now ≤ later) × (1500 < length (rows_of i cuts)))
   pub within : later ≤ last_count
 
--- a leaf that is not processed and leaves the same bound is in hand; as many nodes are processed as before
+-- a leaf that is not processed and leaves the same bound is in hand; as many nodes are processed as before,
+-- and the best roster is the same
 pub record AsksHalf (i : Instance) (v : GraphView) (strict : Bool) (before now low : ℕ) (old new : Progress)
     (half : OpenLeaf) : Type 0 where
   pub path : List Cut
   pub node : AsksNode i v strict before now low new half path
   pub processed : new.tree.processed ≡ old.tree.processed
+  pub best : new.best ≡ old.best
 
 -- nothing is processed, and the best roster is one of equal shifts of least price where this is allowed
 pub record IsBegun (i : Instance) (v : GraphView) (p : Progress) : Type 0 where

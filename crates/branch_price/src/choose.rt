@@ -10,6 +10,7 @@ ghost use Rattle.node_master.specs.Ends.{AreSolved};
 ghost use Rattle.branch_price.specs.Plans.{IsPlanAt, IsPlanLeft};
 ghost use Rattle.branch_price.specs.Solutions.{IsShown};
 
+use crate::desk::SplitHints;
 use crate::preferred::preferred_arc;
 use crate::rounded::offer_rounded;
 use crate::solved::Solved;
@@ -20,7 +21,6 @@ use node_master::Pool;
 use open_nodes::Plan;
 use parse_graph::Graph;
 use roster_model::{Cut, Instance, Memory};
-use split_probes::Gains;
 use std::alloc::Global;
 
 /// Returns the split of an arc at its least count.
@@ -91,7 +91,7 @@ pub(crate) fn plan_for(
     pool: &mut Pool,
     rosters: &mut RosterDesk,
     best: &mut Option<Roster>,
-    gains: &mut Gains,
+    splits: &mut SplitHints,
 ) -> Result<Option<Plan>, Memory>
     requires sound { IsSoundInstance instance.now }
     requires graph { IsGraph instance.now.grammar graph.now }
@@ -113,7 +113,7 @@ pub(crate) fn plan_for(
     }
     let weights = solved.weights.as_slice();
     let preferred = preferred_arc(
-        alloc, instance, graph, cuts, arc_box, pool, weights, best, gains,
+        alloc, instance, graph, cuts, arc_box, pool, weights, best, splits,
     )?;
     match weigh(
         alloc,

@@ -33,13 +33,44 @@ const PASSES: u32 = 2;
 /// How many they may take at the first node in all, times that square; at later nodes there are no more.
 const FIRST_MOST: u32 = 32;
 
+/// A day is wide where its graph has so many arcs.
+const WIDE_ARCS: u64 = 8_192;
+
+/// So many further passes are allowed for each tree of the pool, each of which took a pass to be found.
+const FURTHER: u64 = 2;
+
+/// There are at most so many further passes.
+const MOST_FURTHER: u64 = 4096;
+
+/// Returns how many further passes over the graph the moves may take at the first node of a wide day: as many as
+/// the trees of its pool took and again so many, within a bound.
+fn further_passes(graph: &Graph, pool: &Pool) -> u32 {
+    if (graph.arcs().len() as u64) < WIDE_ARCS {
+        return 0;
+    }
+    let passes = (pool.len() as u64).saturating_mul(FURTHER);
+    passes.min(MOST_FURTHER) as u32
+}
+
 /// Returns what steers the moves of a roster at a node that has these prices and this bound, before which so
-/// many were processed.
-fn guide_of(prices: &Prices, processed: u32, bound: u64) -> Guide {
+/// many were processed; at the first node they may take further passes.
+fn guide_of<'a>(
+    graph: &Graph,
+    pool: &Pool,
+    prices: &'a Prices,
+    processed: u32,
+    bound: u64,
+) -> Guide<'a> {
+    let is_first = processed == 0;
     Guide {
         prices,
         passes: PASSES,
-        most: if processed == 0 { FIRST_MOST } else { PASSES },
+        further: if is_first {
+            further_passes(graph, pool)
+        } else {
+            0
+        },
+        most: if is_first { FIRST_MOST } else { PASSES },
         goal: bound,
         turn: processed,
     }
@@ -216,7 +247,7 @@ pub(crate) fn offer_at_node(
     if limit(instance, best) <= bound {
         return Ok(());
     }
-    let guide = guide_of(&solved.prices, processed, bound);
+    let guide = guide_of(graph, pool, &solved.prices, processed, bound);
     if processed % EVERY == 0
         && pool.len() < FULL
         && offer_dived(alloc, instance, graph, cuts, &guide, desk, pool, best)?

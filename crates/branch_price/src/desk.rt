@@ -5,6 +5,7 @@ ghost use Rattle.cheapest_tree.specs.Pricers.{IsMadeFor};
 ghost use Rattle.roster_model.specs.PriceRooms.{IsRoomFor};
 ghost use Rattle.branch_price.specs.Desks.{IsDesk, ArePricing};
 
+use crate::old_splits::OldSplits;
 use candidate_rosters::RosterDesk;
 use certificates::MOST_MULTIPLIERS;
 use cheapest_tree::Pricer;
@@ -21,6 +22,15 @@ pub(crate) struct Pricing {
     pub room: PriceRoom,
 }
 
+/// What is known of splits, as hints.
+#[derive(Drop)]
+pub(crate) struct SplitHints {
+    /// What splits on letters gained so far.
+    pub gains: Gains,
+    /// The splits of an old certificate.
+    pub old: OldSplits,
+}
+
 /// What a search works on, beside its tree.
 #[derive(Drop)]
 pub(crate) struct Desk {
@@ -28,8 +38,8 @@ pub(crate) struct Desk {
     pub rosters: RosterDesk,
     /// The trees of the last solution of a master, which steer the next one.
     pub wanted: Vec<usize>,
-    /// What splits on letters gained so far.
-    pub gains: Gains,
+    /// What is known of splits.
+    pub splits: SplitHints,
 }
 
 /// Takes the memory for the pricing.
@@ -58,13 +68,14 @@ impl Desk {
         ensures { IfOk result (IsDesk instance.now graph.now) }
     {
         let gains = Gains::new(alloc, &instance.grammar, graph)?;
+        let old = OldSplits::new(alloc);
         let pricing = pricing_of(alloc, instance, graph)?;
         match RosterDesk::for_instance(alloc, instance) {
             Ok(rosters) => Ok(Desk {
                 pricing,
                 rosters,
                 wanted: Vec::new(alloc),
-                gains,
+                splits: SplitHints { gains, old },
             }),
             Err(fault) => {
                 drop(pricing);

@@ -1,5 +1,6 @@
-ghost use Rattle.std.specs.Prelude.{IfOk};
+ghost use Rattle.std.specs.Prelude.{◌≡◌, IfOk};
 ghost use Rattle.roster_model.specs.SoundInstance.{IsSoundInstance};
+ghost use Rattle.candidate_rosters.specs.Offers.{cost_of};
 ghost use Rattle.branch_price.specs.Ends.{IsEnd, AsksEnd, IsStatedBy, IsClosedBy};
 ghost use Rattle.branch_price.specs.Found.{IsFound, AreCounted};
 
@@ -36,6 +37,7 @@ pub(crate) fn found(
     requires end { (a : AsksEnd instance.now)
         × IsEnd instance.now a.graph a.strict a.before a.now a.turns progress
         bound done }
+    ensures cost { IfOk result (λ f. f.cert.cost ≡ cost_of progress.best) }
     ensures found { IfOk result (λ f. (a : AsksEnd instance.now)
         → IsEnd instance.now a.graph a.strict a.before a.now a.turns progress bound done
         → IsFound instance.now a.strict a.turns f × AreCounted instance.now a.before a.now f) }

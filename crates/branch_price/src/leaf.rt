@@ -159,7 +159,7 @@ fn best_leaf(
         pool,
         &mut desk.rosters,
         &mut progress.best,
-        &mut desk.gains,
+        &mut desk.splits,
     ) else {
         drop(solved);
         return Err(Memory);

@@ -4,13 +4,14 @@ ghost use Rattle.roster_model.specs.SoundInstance.{IsSoundInstance};
 ghost use Rattle.master_laws.specs.Rows.{rows_of};
 ghost use Rattle.roster_model.specs.Limits.{IsSmallCut};
 
+use crate::desk::SplitHints;
 use crate::rounded::in_parts;
 use candidate_rosters::{Roster, limit};
 use count_boxes::ArcBox;
 use node_master::{Pool, Weight};
 use parse_graph::Graph;
 use roster_model::{Cut, Instance, List, Memory};
-use split_probes::{Gains, Share, best_arc};
+use split_probes::{Share, best_arc};
 use std::alloc::Global;
 
 /// The weight 1 of a share.
@@ -32,7 +33,9 @@ fn shares_of(alloc: Global, weights: &[Weight]) -> Result<List<Share>, Memory> {
 }
 
 /// Returns an arc on which a node may be split well, from the weights of the trees at its solution, where no
-/// roster that costs as much as the best one is looked for. What splits gain is counted. It is a hint.
+/// roster that costs as much as the best one is looked for. It is the one on which an old certificate splits
+/// the node, where its trees weigh no whole number, or else one that is tried. What splits gain is counted.
+/// It is a hint.
 ///
 /// # Errors
 ///
@@ -46,7 +49,7 @@ pub(crate) fn preferred_arc(
     pool: &Pool,
     weights: &[Weight],
     best: &Option<Roster>,
-    gains: &mut Gains,
+    splits: &mut SplitHints,
 ) -> Result<Option<u32>, Memory>
     requires sound { IsSoundInstance instance.now }
     requires cuts { Each IsSmallCut cuts.now }
@@ -54,6 +57,10 @@ pub(crate) fn preferred_arc(
     requires bounds { length arc_box.now.bounds ≡ length graph.now.arcs }
 {
     let shares = shares_of(alloc, weights)?;
+    let old = splits.old.sharp_arc(graph, cuts, pool, shares.as_slice());
+    if old.is_some() {
+        return Ok(old);
+    }
     best_arc(
         alloc,
         instance,
@@ -63,6 +70,6 @@ pub(crate) fn preferred_arc(
         pool,
         shares.as_slice(),
         limit(instance, best),
-        gains,
+        &mut splits.gains,
     )
 }

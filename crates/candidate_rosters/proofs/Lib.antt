@@ -4,6 +4,7 @@ pub mod Numbers
 pub mod PoolNumbers
 pub mod SpelledLemmas
 pub mod OrderedShifts
+pub mod AgainLemmas
 pub mod CostPrices
 pub mod LeadersLemmas
 pub mod LeaderColumns

@@ -24,7 +24,7 @@ use Rattle.candidate_rosters.proofs.TreeWords.{codes-exist, word-is, word-fine, 
 use Rattle.tree_laws.specs.DaySteps.{AreDaySteps}
 
 -- no price is great
-small_price : (i : Instance) → IsSoundInstance i → (t : Parts) (x : ℕ) (price : ℕ) → (d : Rattle.roster_model.specs.Trees.IsTreeOf i.grammar x t) → cost i.grammar t ≡ price → price ≤ 2 ^ 40
+pub small_price : (i : Instance) → IsSoundInstance i → (t : Parts) (x : ℕ) (price : ℕ) → (d : Rattle.roster_model.specs.Trees.IsTreeOf i.grammar x t) → cost i.grammar t ≡ price → price ≤ 2 ^ 40
 small_price i sound t x price d e =
     let less = cost-le i sound.grammar.ranks.0 sound.grammar.ranks.1 t x d.0 d.1 in
     let most : most_uses i.grammar * greatest_rule_cost i.grammar.rules ≤ 63030000 =

@@ -5,3 +5,4 @@ pub mod Spelled
 pub mod Starts
 pub mod Offers
 pub mod Finding
+pub mod Again

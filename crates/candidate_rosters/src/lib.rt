@@ -1,6 +1,7 @@
 //! Rosters that a search may offer: the words of trees at their prices, where these are allowed.
 #![tactic(auto)]
 
+mod again;
 mod best;
 mod columns;
 mod costs;
@@ -17,6 +18,7 @@ mod shift;
 mod shifts;
 mod word;
 
+pub use again::roster_again;
 pub use best::{limit, offer};
 pub use columns::columns_of;
 pub use counts::offer_counts;

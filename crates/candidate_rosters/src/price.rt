@@ -4,6 +4,7 @@ ghost use Rattle.roster_model.specs.Rosters.{IsTeamPrice};
 ghost use Rattle.roster_model.specs.SoundInstance.{IsSoundInstance};
 ghost use Rattle.certificates.specs.Sound.{IsGroupNumber};
 ghost use Rattle.candidate_rosters.specs.Rosters.{AreKnown, IsDeskFor};
+ghost use Rattle.candidate_rosters.specs.Again.{IsPriceOf};
 ghost use Rattle.candidate_rosters.specs.Spelled.{IsTeamShift};
 
 use crate::desk::RosterDesk;
@@ -39,26 +40,45 @@ fn remember(instance: &Instance, known: &mut ShiftRoom, group: u8, word: &[u8], 
     known.keep(group, word, price);
 }
 
-// Finds the price of a shift of a team by the table.
-fn least_of(instance: &Instance, group: u8, word: &[u8], desk: &mut RosterDesk) -> u64
+// Finds the price of a word of a team by the table; `None` where it is no shift of it.
+fn least_of(instance: &Instance, group: u8, word: &[u8], desk: &mut RosterDesk) -> Option<u64>
     requires sound { IsSoundInstance instance.now }
     requires desk { IsDeskFor instance.now desk.old }
     requires group { IsGroupNumber instance.now.groups group }
     requires short { length word.now ≤ 96 }
-    requires shift { IsTeamShift instance.now group word.now }
-    ensures price { IsTeamPrice instance.now (record { team = group; word = word.now }) result }
+    ensures price { IsPriceOf instance.now group word.now result }
     ensures desk { IsDeskFor instance.now desk.new }
 {
     desk.room.keep(group, word, 0);
-    let Some(price) = least_price(instance, &desk.room.shifts()[0], &mut desk.table) else {
-        unreachable!();
-    };
+    let price = least_price(instance, &desk.room.shifts()[0], &mut desk.table);
     desk.room.clear();
     price
 }
 
-/// Returns the price of a shift of a team. The last prices are known, and take no further look at the
-/// table.
+/// Returns the price of a word of a team, and `None` where it is no shift of it. The last prices are known,
+/// and take no further look at the table.
+pub(crate) fn price_if_shift(
+    instance: &Instance,
+    group: u8,
+    word: &[u8],
+    desk: &mut RosterDesk,
+) -> Option<u64>
+    requires sound { IsSoundInstance instance.now }
+    requires desk { IsDeskFor instance.now desk.old }
+    requires group { IsGroupNumber instance.now.groups group }
+    requires short { length word.now ≤ 96 }
+    ensures price { IsPriceOf instance.now group word.now result }
+    ensures desk { IsDeskFor instance.now desk.new }
+{
+    if let Some(price) = known_price(desk.known.shifts(), group, word) {
+        return Some(price);
+    }
+    let price = least_of(instance, group, word, desk)?;
+    remember(instance, &mut desk.known, group, word, price);
+    Some(price)
+}
+
+/// Returns the price of a shift of a team.
 pub fn price_of(instance: &Instance, group: u8, word: &[u8], desk: &mut RosterDesk) -> u64
     requires sound { IsSoundInstance instance.now }
     requires desk { IsDeskFor instance.now desk.old }
@@ -68,10 +88,8 @@ pub fn price_of(instance: &Instance, group: u8, word: &[u8], desk: &mut RosterDe
     ensures price { IsTeamPrice instance.now (record { team = group; word = word.now }) result }
     ensures desk { IsDeskFor instance.now desk.new }
 {
-    if let Some(price) = known_price(desk.known.shifts(), group, word) {
-        return price;
-    }
-    let price = least_of(instance, group, word, desk);
-    remember(instance, &mut desk.known, group, word, price);
+    let Some(price) = price_if_shift(instance, group, word, desk) else {
+        unreachable!();
+    };
     price
 }

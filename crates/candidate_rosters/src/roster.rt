@@ -27,8 +27,12 @@ pub struct Roster {
     pub cost: u64,
 }
 
-// Returns the roster of shifts at their prices, where it is allowed.
-fn judged(instance: &Instance, shifts: List<Shift>, desk: &mut RosterDesk) -> Option<Roster>
+/// Returns the roster of shifts at their prices, where it is allowed.
+pub(crate) fn judged(
+    instance: &Instance,
+    shifts: List<Shift>,
+    desk: &mut RosterDesk,
+) -> Option<Roster>
     requires sound { IsSoundInstance instance.now }
     requires desk { IsDeskFor instance.now desk.old }
     requires shifts { ArePricedShifts instance.now shifts }

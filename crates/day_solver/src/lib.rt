@@ -9,4 +9,4 @@ mod text;
 
 pub use report::solution_report;
 pub use solution::Solution;
-pub use solve::{graph_of, solve_day, with_text};
+pub use solve::{graph_of, solve_day, solve_day_from, with_text};

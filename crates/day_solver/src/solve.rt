@@ -1,7 +1,10 @@
-ghost use Rattle.std.specs.Prelude.{ℕ, ◌≡◌, ◌≤◌, Bool, IfOk, IfErr};
+ghost use Rattle.std.specs.Prelude.{ℕ, ◌≡◌, ◌≤◌, Bool, IfOk, IfErr, length};
 ghost use Rattle.branch_price.specs.Found.{IsFound, AreCounted};
+ghost use Rattle.branch_price.specs.OldRosters.{IsNoDearerThan};
+ghost use Rattle.certificates.specs.Sound.{IsSoundCert, IsSoundShift};
 ghost use Rattle.parse_graph.specs.Graphs.{IsGraph, IsRefused};
 ghost use Rattle.roster_model.specs.declared.grammar.Grammar.{Grammar as Rules};
+ghost use Rattle.roster_model.specs.Folds.{Each};
 ghost use Rattle.roster_model.specs.Sound.{IsSound};
 ghost use Rattle.roster_model.specs.SoundInstance.{IsSoundInstance};
 ghost use Rattle.search_watch.specs.Within.{IsWithin};
@@ -9,7 +12,8 @@ ghost use Rattle.day_solver.specs.Solutions.{HasArcCount, IsSolution};
 
 use crate::solution::Solution;
 use crate::text::cert_text;
-use branch_price::{Found, Master, Pool, Watch, search};
+use branch_price::{Found, Master, Pool, Start, Watch, search_from};
+use certificates::Cert;
 use grammar_core::normalise;
 use parse_graph::{Graph, GraphFault};
 use roster_model::{Grammar, Instance, Memory};
@@ -48,12 +52,13 @@ fn arc_count(graph: &Graph) -> u32
     graph.arcs().len() as u32
 }
 
-/// Searches with a new pool.
+/// Searches with a new pool, from an old certificate.
 fn searched<M: Master, W: Watch>(
     alloc: Global,
     instance: &Instance,
     graph: &Graph,
     turns: u32,
+    start: Start<'_>,
     master: &mut M,
     watch: &mut W,
 ) -> Result<Found, Memory>
@@ -61,14 +66,19 @@ fn searched<M: Master, W: Watch>(
     requires graph { IsGraph instance.now.grammar graph.now }
     requires some { 1 ≤ turns }
     requires few { turns ≤ 10000 }
+    requires shifts { Each (IsSoundShift instance.now) start.shifts.now }
+    requires few_shifts { length start.shifts.now ≤ 64 }
     ensures found { IfOk result (λ f. IsWithin (W.patient watch.old) turns
         (λ k. IsFound instance.now (M.strict master.old) k f)) }
+    ensures falls { IfOk result (λ f. IsNoDearerThan instance.now start.entry.shifts.now f.cert.cost) }
     ensures counted { IfOk result (AreCounted instance.now (M.refused master.old) (M.refused master.new)) }
     ensures rises { M.refused master.old ≤ M.refused master.new }
     ensures strict_stays { M.strict master.new ≡ M.strict master.old }
 {
     let mut pool = Pool::new(alloc);
-    search(alloc, instance, graph, turns, &mut pool, master, watch)
+    search_from(
+        alloc, instance, graph, turns, start, &mut pool, master, watch,
+    )
 }
 
 /// Returns what was found, within at most 10,000 turns, with the text of its certificate.
@@ -104,6 +114,7 @@ fn solved<M: Master, W: Watch>(
     instance: &Instance,
     graph: &Graph,
     turns: u32,
+    start: Start<'_>,
     master: &mut M,
     watch: &mut W,
 ) -> Result<Solution, Memory>
@@ -111,14 +122,17 @@ fn solved<M: Master, W: Watch>(
     requires graph { IsGraph instance.now.grammar graph.now }
     requires some { 1 ≤ turns }
     requires few { turns ≤ 10000 }
+    requires shifts { Each (IsSoundShift instance.now) start.shifts.now }
+    requires few_shifts { length start.shifts.now ≤ 64 }
     ensures solution { IfOk result (λ s. IsWithin (W.patient watch.old) turns
         (λ k. IsSolution instance.now (M.strict master.old) k s)) }
+    ensures falls { IfOk result (λ s. IsNoDearerThan instance.now start.entry.shifts.now s.found.cert.cost) }
     ensures counted { IfOk result (λ s. AreCounted instance.now (M.refused master.old) (M.refused master.new)
         s.found) }
     ensures rises { M.refused master.old ≤ M.refused master.new }
     ensures strict_stays { M.strict master.new ≡ M.strict master.old }
 {
-    let found = searched(alloc, instance, graph, turns, master, watch)?;
+    let found = searched(alloc, instance, graph, turns, start, master, watch)?;
     with_text(alloc, instance, graph, found)
 }
 
@@ -151,5 +165,42 @@ pub fn solve_day<M: Master, W: Watch>(
     ensures strict_stays { M.strict master.new ≡ M.strict master.old }
 {
     let graph = graph_of(alloc, &instance.grammar)?;
-    Ok(solved(alloc, instance, &graph, turns, master, watch)?)
+    Ok(solved(alloc, instance, &graph, turns, Start::none(), master, watch)?)
+}
+
+/// Searches as [`solve_day`] does, from an old certificate, of this day or of another one of its form: its
+/// roster is offered first, and its nodes are hints. Where its words are an allowed roster of this day, what
+/// is found costs no more than they do here.
+///
+/// # Errors
+///
+/// `TooManyArcs` exactly where the day has more than 100,000 arcs, with their number, and `Memory` where
+/// memory runs out; the master's count may have risen then.
+pub fn solve_day_from<M: Master, W: Watch>(
+    alloc: Global,
+    instance: &Instance,
+    turns: u32,
+    old: &Cert,
+    master: &mut M,
+    watch: &mut W,
+) -> Result<Solution, GraphFault>
+    requires sound { IsSoundInstance instance.now }
+    requires some { 1 ≤ turns }
+    requires few { turns ≤ 10000 }
+    requires old { IsSoundCert instance.now old.now }
+    ensures solution { IfOk result (λ s. IsWithin (W.patient watch.old) turns
+        (λ k. IsSolution instance.now (M.strict master.old) k s)) }
+    ensures falls { IfOk result (λ s. IsNoDearerThan instance.now old.now.shifts s.found.cert.cost) }
+    ensures counted { IfOk result (λ s. AreCounted instance.now (M.refused master.old) (M.refused master.new)
+        s.found) }
+    ensures refused { IfErr result (IsRefused instance.now.grammar) }
+    ensures rises { M.refused master.old ≤ M.refused master.new }
+    ensures strict_stays { M.strict master.new ≡ M.strict master.old }
+{
+    let graph = graph_of(alloc, &instance.grammar)?;
+    let start = Start {
+        shifts: old.shifts.as_slice(),
+        nodes: old.nodes.as_slice(),
+    };
+    Ok(solved(alloc, instance, &graph, turns, start, master, watch)?)
 }

@@ -26,6 +26,9 @@ const MOST: usize = 5;
 /// So many trees of a draft count for its allowance at most: no day has more employees.
 const MOST_TREES: usize = 64;
 
+/// How many times the further passes a descent takes at most where it goes well.
+const FURTHER_MOST: u32 = 4;
+
 /// How many shares of the node's price there are, from 0 sixteenths on.
 const SHARES: usize = 13;
 
@@ -76,8 +79,14 @@ impl Allowance {
         let square = trees.saturating_mul(trees);
         Allowance {
             taken: 0,
-            allowed: guide.passes.saturating_mul(square),
-            most: guide.most.saturating_mul(square),
+            allowed: guide
+                .passes
+                .saturating_mul(square)
+                .saturating_add(guide.further),
+            most: guide
+                .most
+                .saturating_mul(square)
+                .saturating_add(guide.further.saturating_mul(FURTHER_MOST)),
         }
     }
 

@@ -7,8 +7,10 @@ pub struct Guide<'a> {
     pub prices: &'a Prices,
     /// How many passes over the graph the moves may take, times the square of the number of the roster's trees.
     pub passes: u32,
-    /// How many they may take at most, times that square: where the roster becomes better, as many again are
-    /// allowed as were taken.
+    /// How many further ones they may take, whatever the number of trees.
+    pub further: u32,
+    /// How many they may take at most, times that square, beside four times the further ones: where the roster
+    /// becomes better, as many again are allowed as were taken.
     pub most: u32,
     /// A roster that costs no more than this is made no better.
     pub goal: u64,

@@ -18,6 +18,8 @@ mod savings;
 mod teams;
 mod trees;
 mod weighing;
+mod words;
 
 pub use completing::complete;
 pub use guide::Guide;
+pub use words::add_words;

@@ -7,11 +7,11 @@ ghost use Rattle.parse_graph.specs.Graphs.{IsGraph};
 use branch_price::{PlainMaster, SteadyWatch};
 use certificate_text::read_cert;
 use certificates::Cert;
+use day_curve::{Curve, CurvePoint, Staff, write_curve};
 use demand_text::read_demand;
 use grammar_core::normalise;
 use parse_graph::Graph;
-use proof_reuse::{Curve, Reused, reuse};
-use reuse_report::{CurvePoint, write_curve, write_reused};
+use proof_reuse::{Reused, reuse, write_reused};
 use roster_model::{Grammar, Instance, Memory};
 use rules_text::read_rules;
 use std::alloc::Global;
@@ -179,7 +179,7 @@ fn point_of(graph: &Graph, curve: &mut Curve) -> Result<CurvePoint, Fail>
     requires { IsGraph curve.old.day.grammar graph.now }
 {
     match curve.next(graph, 10, &mut PlainMaster::new(), &mut SteadyWatch)? {
-        Some(found) => Ok(CurvePoint::of(curve.instance().heads_max, &found)),
+        Some(found) => Ok(CurvePoint::of(curve.heads(), &found)),
         None => Err(Fail::from("there is no point")),
     }
 }
@@ -190,7 +190,7 @@ fn first_point_in(alloc: Global, day: Instance, graph: &Graph) -> Result<CurvePo
     requires plain { day.groups ≡ [] }
     requires graph { IsGraph day.grammar graph.now }
 {
-    let mut curve = Curve::new(alloc, day)?;
+    let mut curve = Curve::new(alloc, day, Staff::Everyone)?;
     point_of(graph, &mut curve)
 }
 
@@ -207,7 +207,7 @@ fn first_point(alloc: Global, day: Instance) -> Result<CurvePoint, Fail>
 
 /// Whether this is said of a curve of one point.
 fn says_point(alloc: Global, point: CurvePoint, said: &[u8]) -> Result<bool, Memory> {
-    let text = write_curve(alloc, &[point])?;
+    let text = write_curve(alloc, None, &[point])?;
     Ok(text.as_slice() == said)
 }
 

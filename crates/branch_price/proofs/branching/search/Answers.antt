@@ -1,20 +1,11 @@
-use Rattle.std.proofs.lemmas.Result.{IfOk-weaker}
-use Rattle.branch_price.specs.Found.{IsFound, AreCounted}
-use Rattle.search_watch.specs.Within.{IsWithin}
-use Rattle.search_watch.proofs.WithinLemmas.{within-all}
+use Rattle.std.proofs.Common.{ℕ, List, ◌≤◌, length, arith, sym, subst}
+use Rattle.roster_model.specs.declared.instance.Shift.{Shift}
+use Rattle.roster_model.specs.Folds.{Each}
+use Rattle.certificates.specs.Sound.{IsSoundShift}
 use Rattle.branch_price.proofs.branching.search.Goals as goal
 
-pub returns-then-is_plainly_infeasible-clause-counted :
-    goal.returns-then-is_plainly_infeasible-clause-counted
-returns-then-is_plainly_infeasible-clause-counted g c =
-    let now = g.M.Master.refused c.args.master.now in
-    IfOk-weaker c.no_roster.result _ (AreCounted c.args.instance.now now now) (λ f h. h now) c.no_roster.ensures.counted
+pub search_from-requires-clause-shifts : goal.search_from-requires-clause-shifts
+search_from-requires-clause-shifts g c = subst (λ (ss : List Shift). Each (IsSoundShift c.args.instance.now) ss) (sym c.none.ensures.shifts) tt
 
-pub returns-then-is_plainly_infeasible-clause-found :
-    goal.returns-then-is_plainly_infeasible-clause-found
-returns-then-is_plainly_infeasible-clause-found g c =
-    let i = c.args.instance.now in
-    let patient = g.W.Watch.patient c.args.watch.now in
-    let strict = g.M.Master.strict c.args.master.now in
-    IfOk-weaker c.no_roster.result _ (λ f. IsWithin patient c.args.turns (λ k. IsFound i strict k f))
-    (λ f h. within-all patient c.args.turns (λ k. IsFound i strict k f) c.requires.some (h strict c.args.turns c.requires.some)) c.no_roster.ensures.found
+pub search_from-requires-clause-few_shifts : goal.search_from-requires-clause-few_shifts
+search_from-requires-clause-few_shifts g c = subst (λ (ss : List Shift). length ss ≤ 64) (sym c.none.ensures.shifts) (omega arith)

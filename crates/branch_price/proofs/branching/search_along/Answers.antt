@@ -1,8 +1,11 @@
-use Rattle.std.proofs.Common.{arith, ◌∙◌, refl, sym}
+use Rattle.std.proofs.Common.{Option, arith, ◌∙◌, refl, sym, subst}
 use Rattle.std.proofs.lemmas.Result.{IfOk-weaker}
 use Rattle.candidate_rosters.proofs.PoolNumbers.{grown-more}
 use Rattle.branch_price.specs.Found.{IsFound, AreCounted}
-use Rattle.branch_price.proofs.LoopsLemmas.{begun-loops, asks-turn, turn-loops, turn-nears, stopped-end, closed-end}
+use Rattle.candidate_rosters.specs.declared.roster.Roster.{Roster}
+use Rattle.branch_price.specs.OldRosters.{IsNoDearerThan, ReachesOld}
+use Rattle.branch_price.proofs.LoopsLemmas.{begun-loops, asks-turn, turn-loops, turn-nears, turn-reaches, stopped-end, closed-end}
+use Rattle.branch_price.proofs.OldLemmas.{no-dearer}
 use Rattle.search_watch.specs.Within.{IsWithin}
 use Rattle.search_watch.proofs.WithinLemmas.{within-all}
 use Rattle.branch_price.proofs.branching.search_along.Goals as goal
@@ -16,6 +19,7 @@ loop-leaf-init g c = (
   c.begin.ensures.pool,
   c.begin.ensures.grown,
   (λ h. h),
+  c.in_ok-progress.ensures.reaches,
 )
 
 pub found-requires-clause-end : goal.found-requires-clause-end
@@ -38,6 +42,14 @@ returns-then-stops_at-clause-found g c =
       whole = λ patient. may.whole (c.loop-leaf.invariant.6 patient);
       holds = (h (record { graph = c.args.graph.now; strict = g.M.Master.strict c.args.master.now; before = g.M.Master.refused c.args.master.now; now = g.M.Master.refused c.loop-leaf.master; turns = c.next.new.self.tree.processed }) end.1).0;
     }) c.found.ensures.found
+
+pub returns-then-stops_at-clause-falls : goal.returns-then-stops_at-clause-falls
+returns-then-stops_at-clause-falls g c =
+    let i = c.args.instance.now in
+    let shifts = c.args.start.shifts.now in
+    let reach = subst (λ (best : Option Roster). ReachesOld i shifts best) (sym c.in-Some.ensures.best) c.loop-leaf.invariant.7 in
+    IfOk-weaker c.found.result _ (λ f. IsNoDearerThan i shifts f.cert.cost)
+    (λ f h. no-dearer i c.requires.sound shifts c.next.new.self.best reach f.cert.cost h) c.found.ensures.cost
 
 pub returns-then-stops_at-clause-counted : goal.returns-then-stops_at-clause-counted
 returns-then-stops_at-clause-counted g c =
@@ -94,6 +106,10 @@ loop-leaf-preserved g c = (
   c.turn.ensures.pool,
   grown-more c.args.pool.now c.loop-leaf.pool c.turn.new.pool c.loop-leaf.invariant.5 c.turn.ensures.grown,
   (λ h. c.stops_at.ensures.stays_patient (c.loop-leaf.invariant.6 h)),
+  turn-reaches c.args.instance.now c.args.graph.now (g.M.Master.strict c.args.master.now) (g.M.Master.refused c.args.master.now) (g.M.Master.refused c.loop-leaf.master) c.args.turns c.requires.few
+      c.loop-leaf.progress c.next.new.self c.in-Some.leaf c.loop-leaf.invariant.0 c.in-Some.ensures (g.M.Master.strict c.loop-leaf.master) c.loop-leaf.invariant.1
+      (c.stops_at.ensures.goes_on c.if-stops_at.false) (g.M.Master.refused c.turn.new.master) c.turn.new.progress c.in_ok-turn.ensures.turned
+      c.args.start.shifts.now c.loop-leaf.invariant.7,
 )
 
 pub returns-in_err-turn-clause-rises : goal.returns-in_err-turn-clause-rises
@@ -124,6 +140,14 @@ returns-clause-found g c =
     c.loop-leaf.progress c.next.new.self.tree c.next.new.self.best c.loop-leaf.invariant.0 c.in_default.ensures c.closed_end-bound.result c.closed_end-bound.ensures in
     IfOk-weaker c.found-2.result _ (λ f. IsWithin (g.W.Watch.patient c.args.watch.now) c.args.turns (λ k. IsFound c.args.instance.now (g.M.Master.strict c.args.master.now) k f))
     (λ f h. within-all (g.W.Watch.patient c.args.watch.now) c.args.turns (λ k. IsFound c.args.instance.now (g.M.Master.strict c.args.master.now) k f) c.requires.some (h (record { graph = c.args.graph.now; strict = g.M.Master.strict c.args.master.now; before = g.M.Master.refused c.args.master.now; now = g.M.Master.refused c.loop-leaf.master; turns = c.args.turns }) end).0) c.found-2.ensures.found
+
+pub returns-clause-falls : goal.returns-clause-falls
+returns-clause-falls g c =
+    let i = c.args.instance.now in
+    let shifts = c.args.start.shifts.now in
+    let reach = subst (λ (best : Option Roster). ReachesOld i shifts best) (sym c.in_default.ensures.best) c.loop-leaf.invariant.7 in
+    IfOk-weaker c.found-2.result _ (λ f. IsNoDearerThan i shifts f.cert.cost)
+    (λ f h. no-dearer i c.requires.sound shifts c.next.new.self.best reach f.cert.cost h) c.found-2.ensures.cost
 
 pub returns-clause-counted : goal.returns-clause-counted
 returns-clause-counted g c =

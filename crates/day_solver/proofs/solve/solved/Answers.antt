@@ -1,6 +1,7 @@
 use Rattle.std.proofs.Common.{arith}
 use Rattle.std.proofs.lemmas.Result.{IfOk-weaker}
 use Rattle.branch_price.specs.Found.{IsFound, AreCounted}
+use Rattle.branch_price.specs.OldRosters.{IsNoDearerThan}
 use Rattle.search_watch.specs.Within.{IsWithin}
 use Rattle.search_watch.proofs.WithinLemmas.{within-map}
 use Rattle.day_solver.specs.Solutions.{IsSolution}
@@ -27,3 +28,8 @@ returns-clause-solution g c =
     IfOk-weaker c.with_text.result _ (λ s. IsWithin patient c.args.turns (λ k. IsSolution i strict k s))
     (λ s h. within-map patient c.args.turns (λ k. IsFound i strict k c.in_ok-found.found) (λ k. IsSolution i strict k s)
     (λ k some few found. h strict k found) c.in_ok-found.ensures.found) c.with_text.ensures.solution
+
+pub returns-clause-falls : goal.returns-clause-falls
+returns-clause-falls g c =
+    of-solution (λ f. IsNoDearerThan c.args.instance.now c.args.start.shifts.now f.cert.cost) c.in_ok-found.found c.with_text.result
+    c.in_ok-found.ensures.falls c.with_text.ensures.same

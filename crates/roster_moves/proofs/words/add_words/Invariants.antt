@@ -1,0 +1,13 @@
+use Rattle.std.proofs.Common.{◌≡◌}
+use Rattle.roster_model.specs.Room.{most_uses}
+use Rattle.cheapest_tree.specs.Pricers.{IsMadeFor}
+use Rattle.tree_pool.specs.Pools.{IsPool, IsGrown}
+use Rattle.roster_moves.proofs.words.add_words.Given as goal
+
+abbrev pub invariant-loop-place : goal.invariant-loop-place
+invariant-loop-place l = record {
+  pricer : IsMadeFor l.graph l.pricer;
+  room : l.room.most ≡ most_uses l.instance.grammar;
+  pool : IsPool l.instance.grammar l.pool;
+  grown : IsGrown l.fn.pool l.pool;
+}
