@@ -1,11 +1,13 @@
 -- A point whose certificate is written is still counted.
-use Rattle.std.proofs.Common.{◌≡◌, ℕ, Bool, Result, Ok, Err, IfOk, sym, subst}
+use Rattle.std.proofs.Common.{◌≡◌, ℕ, Bool, List, Result, Ok, Err, IfOk, sym, subst}
+use Rattle.roster_model.specs.declared.instance.Shift.{Shift}
 use Rattle.roster_model.specs.declared.memory.Memory.{Memory}
 use Rattle.branch_price.specs.declared.found.Found.{Found}
 use Rattle.branch_price.specs.Found.{IsFound, AreCounted}
+use Rattle.branch_price.specs.OldRosters.{IsNoDearerThan}
 use Rattle.search_watch.specs.Within.{IsWithin}
 use Rattle.search_watch.proofs.WithinLemmas.{within-map}
-use Rattle.proof_reuse.specs.Curves.{CurveView, point_day}
+use Rattle.day_curve.specs.Curves.{CurveView, point_day}
 use Rattle.day_solver.specs.declared.solution.Solution.{Solution}
 use Rattle.day_solver.specs.Solutions.{IsSolution}
 
@@ -24,3 +26,10 @@ solved-point a b strict patient turns f (Ok s) found same solution =
     subst (λ (v : CurveView). IsWithin patient turns (λ k. IsSolution (point_day v) strict k s)) (sym same)
     (within-map patient turns (λ k. IsFound (point_day a) strict k f) (λ k. IsSolution (point_day a) strict k s) (λ k some few h. solution strict k h) found)
 solved-point a b strict patient turns f (Err e) found same solution = tt
+
+-- and it costs no more than the roster that was offered
+pub offered-point : (a b : CurveView) (kept : List Shift) (f : Found) (r : Result Solution Memory) → IsNoDearerThan (point_day a) kept f.cert.cost → IfOk r (λ s. b ≡ a) → IfOk r (λ s. s.found ≡ f)
+    → IfOk r (λ s. IsNoDearerThan (point_day b) kept s.found.cert.cost)
+offered-point a b kept f (Ok s) h same found =
+    subst (λ (g : Found). IsNoDearerThan (point_day b) kept g.cert.cost) (sym found) (subst (λ (v : CurveView). IsNoDearerThan (point_day v) kept f.cert.cost) (sym same) h)
+offered-point a b kept f (Err e) h same found = tt

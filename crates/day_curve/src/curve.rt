@@ -1,123 +1,195 @@
-ghost use Rattle.std.specs.Prelude.{ℕ, ◌≡◌, ◌≤◌, ◌<◌, ◌+◌, ◌-◌, [], Bool, IfOk, IfErr};
-ghost use Rattle.branch_price.specs.Found.{AreCounted, IsFound};
-ghost use Rattle.day_solver.specs.Solutions.{HasArcCount, IsSolution};
-ghost use Rattle.parse_graph.specs.Graphs.{IsRefused};
-ghost use Rattle.proof_reuse.specs.Curves.{point_count, point_day, point_heads};
+ghost use Rattle.std.specs.Prelude.{◌≡◌, ◌≤◌, ◌<◌, ◌-◌, [], IfOk, IfSome, MatchResult, length};
+ghost use Rattle.roster_model.specs.Folds.{Each};
 ghost use Rattle.roster_model.specs.SoundInstance.{IsSoundInstance};
-ghost use Rattle.search_watch.specs.Within.{IsWithin};
+ghost use Rattle.certificates.specs.Sound.{IsSoundShift};
+ghost use Rattle.parse_graph.specs.Graphs.{IsGraph};
+ghost use Rattle.branch_price.specs.Found.{AreCounted};
+ghost use Rattle.branch_price.specs.OldRosters.{IsNoDearerThan};
+ghost use Rattle.day_curve.specs.Curves.{
+  IsNextPoint,
+  first_heads,
+  new_curve,
+  point_day,
+  point_heads,
+  points_of,
+};
+ghost use Rattle.day_curve.specs.Staffs.{IsStaff};
 
-use branch_price::{Found, Master, Watch};
-use day_solver::{Solution, graph_of, with_text};
-use parse_graph::{Graph, GraphFault};
-use proof_reuse::Curve;
-use roster_model::{Instance, Memory};
+use crate::staff::{Staff, set_heads, staff_least, staff_most};
+use branch_price::{Found, Master, Pool, Start, Watch, search_from};
+use parse_graph::Graph;
+use roster_model::{Instance, List, Memory, Shift};
 use std::alloc::Global;
 use std::marker::Model;
 
-/// The curve of a sound day without groups, with the day's graph, which serves all points.
+/// The least costs of a day over the greatest number of one team, point by point: one point for each number from
+/// the team's least one, or 1, up to its greatest. The searches of all points share what they find, and
+/// each is offered the roster that the curve keeps.
 #[derive(Drop)]
-pub struct DayCurve {
+pub struct Curve {
     alloc: Global,
-    graph: Graph,
-    curve: Curve,
+    /// The day with the greatest number of the point given last, or of the first.
+    instance: Instance,
+    /// Whose greatest number is varied.
+    staff: Staff,
+    /// The greatest number of the last point.
+    most: u32,
+    /// How many points were given.
+    given: u32,
+    /// The trees that the searches have found.
+    pool: Pool,
+    /// The shifts of the roster that the next point is offered.
+    kept: List<Shift>,
 }
 
-impl Model for DayCurve {
-    ghost use Rattle.parse_graph.specs.Graphs.{IsGraph};
-    ghost use Rattle.proof_reuse.specs.Curves.{CurveView};
+impl Model for Curve {
+    ghost use Rattle.day_curve.specs.Curves.{CurveView, IsCurve};
+    ghost use Rattle.day_curve.specs.Staffs.{with_heads};
 
     ghost Value = { CurveView };
 
-    ghost view = { λ c. c.curve };
+    ghost view = { λ c. record {
+      day = with_heads c.staff c.instance c.most;
+      staff = c.staff;
+      given = c.given;
+      kept = c.kept;
+    } };
 
-    ghost invariant = { λ c. IsGraph c.curve.day.grammar c.graph };
+    ghost invariant = { λ c. IsCurve c.instance c.staff c.most c.given c.pool c.kept };
 }
 
-impl DayCurve {
-    /// Returns the curve of a sound day without groups, of which no point is given yet.
+/// Returns the greatest number of the first point of a day.
+fn first_heads(instance: &Instance, staff: Staff) -> u32
+    ensures { result ≡ first_heads staff instance.now }
+{
+    staff_least(instance, staff).max(1)
+}
+
+impl Curve {
+    /// Returns the curve of a sound day over a team of it, of which no point is given yet.
     ///
     /// # Errors
     ///
-    /// `TooManyArcs` exactly where the day has more than 100,000 arcs, with their number, and `Memory` where
-    /// memory runs out.
-    pub fn new(alloc: Global, instance: Instance) -> Result<DayCurve, GraphFault>
+    /// `Memory` where memory runs out.
+    pub fn new(alloc: Global, instance: Instance, staff: Staff) -> Result<Curve, Memory>
         requires sound { IsSoundInstance instance }
-        requires plain { instance.groups ≡ [] }
-        ensures curve { IfOk result (λ c. c ≡ record { day = instance; given = 0 }) }
-        ensures few { IfOk result (λ _. (count : ℕ) × HasArcCount instance.grammar count) }
-        ensures refused { IfErr result (IsRefused instance.grammar) }
+        requires staff { IsStaff instance staff }
+        ensures { IfOk result (λ c. c ≡ new_curve staff instance) }
     {
-        let graph = graph_of(alloc, &instance.grammar)?;
-        let curve = Curve::new(alloc, instance)?;
-        Ok(DayCurve {
+        let mut instance = instance;
+        let most = staff_most(&instance, staff);
+        let first = first_heads(&instance, staff);
+        set_heads(alloc, &mut instance, staff, first);
+        Ok(Curve {
             alloc,
-            graph,
-            curve,
+            instance,
+            staff,
+            most,
+            given: 0,
+            pool: Pool::new(alloc),
+            kept: List::new(alloc),
         })
     }
 
     /// Returns how many points there are.
     pub fn points(&self) -> u32
-        ensures { result ≡ point_count self.now.day }
+        ensures { result ≡ points_of self.now }
     {
-        self.curve.points()
+        self.most + 1 - first_heads(&self.instance, self.staff)
     }
 
-    /// Returns the greatest head count of the point given last, and before any point that of the first.
+    /// Returns the greatest number of the point given last, and before any point that of the first.
     pub fn heads(&self) -> u32
         ensures { result ≡ point_heads self.now }
     {
-        self.curve.instance().heads_max
+        staff_most(&self.instance, self.staff)
     }
 
-    /// Searches the next point, with at most so many turns, 1 to 10,000, and this watch, and writes its certificate.
-    /// The text is read as the certificate on the day with the point's greatest head count, and what it states is
-    /// true there.
+    /// Returns the day with the greatest number of the point given last, and before any point with
+    /// that of the first.
+    pub fn instance(&self) -> &Instance
+        ensures day { result.now ≡ point_day self.now }
+        ensures sound { IsSoundInstance result.now }
+    {
+        &self.instance
+    }
+
+    /// Takes the point given last back: it is the next one again.
+    pub fn take_back(&mut self)
+        requires { 0 < self.old.given }
+        ensures { self.new ≡ record self.old { given = self.old.given - 1 } }
+    {
+        let first = first_heads(&self.instance, self.staff);
+        self.given -= 1;
+        let heads = first + self.given.saturating_sub(1);
+        set_heads(self.alloc, &mut self.instance, self.staff, heads);
+    }
+
+    /// Keeps a roster, in place of the one before, which every further point is offered: a point at which it is
+    /// allowed costs no more. The shifts are of the day.
+    pub fn keep(&mut self, shifts: List<Shift>)
+        requires sound { Each (IsSoundShift self.old.day) shifts }
+        requires few { length shifts ≤ 64 }
+        ensures { self.new ≡ record self.old { kept = shifts } }
+    {
+        self.kept = shifts;
+    }
+
+    /// Searches the next point, with at most so many turns, 1 to 10,000: what is found is what `search`
+    /// finds on the day that [`Curve::instance`] returns afterwards, with this watch, and where the kept roster is
+    /// allowed there it costs no more than that. `None` comes exactly after the last
+    /// point. The graph is the day's; one graph serves all points.
     ///
     /// # Errors
     ///
-    /// `Memory` where memory runs out, also where the certificate was found and there was no room for its text: the
-    /// curve is as it was, so the same point is the next one. The master's count may have risen.
+    /// `Memory` where memory runs out; the same point is the next one then, and the master's count may
+    /// have risen.
     pub fn next<M: Master, W: Watch>(
         &mut self,
+        graph: &Graph,
         turns: u32,
         master: &mut M,
         watch: &mut W,
-    ) -> Result<Solution, Memory>
-        requires more { self.old.given < point_count self.old.day }
+    ) -> Result<Option<Found>, Memory>
+        requires graph { IsGraph self.old.day.grammar graph.now }
         requires some { 1 ≤ turns }
         requires few { turns ≤ 10000 }
-        ensures given { IfOk result (λ _. self.new ≡ record self.old { given = self.old.given + 1 }) }
-        ensures solution { IfOk result (λ s. IsWithin (W.patient watch.old) turns
-            (λ k. IsSolution (point_day self.new) (M.strict master.old) k s)) }
-        ensures counted { IfOk result (λ s. AreCounted (point_day self.new) (M.refused master.old)
-            (M.refused master.new) s.found) }
-        ensures without { IfErr result (λ _. self.new ≡ self.old) }
+        ensures point { MatchResult result (IsNextPoint self.old self.new (M.strict master.old)
+            (W.patient watch.old) turns) (λ _. self.new ≡ self.old) }
+        ensures falls { IfOk result (λ point. IfSome point (λ f. IsNoDearerThan (point_day self.new) self.old.kept
+            f.cert.cost)) }
+        ensures counted { IfOk result (λ point. IfSome point (AreCounted (point_day self.new)
+            (M.refused master.old) (M.refused master.new))) }
         ensures rises { M.refused master.old ≤ M.refused master.new }
         ensures strict_stays { M.strict master.new ≡ M.strict master.old }
     {
-        match self.curve.next(&self.graph, turns, master, watch)? {
-            Some(found) => self.written(found),
-            None => unreachable!(),
+        let heads = first_heads(&self.instance, self.staff) + self.given;
+        if heads > self.most {
+            return Ok(None);
         }
-    }
-
-    // Writes the certificate of the point given last; where there is no room for its text, the point is the next
-    // one again.
-    fn written(&mut self, found: Found) -> Result<Solution, Memory>
-        requires given { 0 < self.old.given }
-        requires found { (strict : Bool) × (turns : ℕ) × (turns ≤ 10000)
-            × IsFound (point_day self.old) strict turns found }
-        ensures given { IfOk result (λ _. self.new ≡ self.old) }
-        ensures solution { IfOk result (λ s. (strict : Bool) (turns : ℕ)
-            → IsFound (point_day self.old) strict turns found → IsSolution (point_day self.old) strict turns s) }
-        ensures same { IfOk result (λ s. s.found ≡ found) }
-        ensures without { IfErr result (λ _. self.new ≡ record self.old { given = self.old.given - 1 }) }
-    {
-        match with_text(self.alloc, self.curve.instance(), &self.graph, found) {
-            Ok(solution) => Ok(solution),
+        let last = staff_most(&self.instance, self.staff);
+        set_heads(self.alloc, &mut self.instance, self.staff, heads);
+        let start = Start {
+            shifts: self.kept.as_slice(),
+            nodes: &[],
+        };
+        let found = search_from(
+            self.alloc,
+            &self.instance,
+            graph,
+            turns,
+            start,
+            &mut self.pool,
+            master,
+            watch,
+        );
+        match found {
+            Ok(found) => {
+                self.given += 1;
+                Ok(Some(found))
+            }
             Err(fault) => {
-                self.curve.take_back();
+                set_heads(self.alloc, &mut self.instance, self.staff, last);
                 Err(fault)
             }
         }

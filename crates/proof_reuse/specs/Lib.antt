@@ -1,3 +1,3 @@
 pub mod Reuse
-pub mod Curves
+pub mod ReusedText
 pub mod Laws

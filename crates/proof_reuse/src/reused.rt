@@ -1,0 +1,33 @@
+ghost use Rattle.std.specs.Prelude.{◌≡◌, IfOk};
+ghost use Rattle.proof_reuse.specs.ReusedText.{bound_text, reused_text};
+
+use crate::nodes::Reused;
+use answer_texts::write_verdict;
+use certificate_text::amount_line;
+use certificates::Verdict;
+use roster_model::{List, Memory};
+use std::alloc::Global;
+
+/// Returns the line of a bound.
+fn write_bound(alloc: Global, bound: Option<u64>) -> Result<List<u8>, Memory>
+    ensures { IfOk result (λ text. text ≡ bound_text bound) }
+{
+    let mut out = List::new(alloc);
+    amount_line(&mut out, b"bound", bound)?;
+    Ok(out)
+}
+
+/// Returns what is said of an old certificate: the line `bound X`, where X is a number or `none`, or the line
+/// `no` with the number of the cause, its name and its values.
+///
+/// # Errors
+///
+/// `Memory` where memory runs out; there is no text then.
+pub fn write_reused(alloc: Global, reused: &Reused) -> Result<List<u8>, Memory>
+    ensures { IfOk result (λ text. text ≡ reused_text reused.now) }
+{
+    match *reused {
+        Reused::Bound(bound) => write_bound(alloc, bound),
+        Reused::Refused(why) => write_verdict(alloc, &Verdict::No(why)),
+    }
+}

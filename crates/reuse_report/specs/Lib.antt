@@ -1,2 +1,0 @@
-pub mod ReusedText
-pub mod CurveText
