@@ -7,11 +7,11 @@ use Rattle.rules_text.specs.RulesOf.{IsReading}
 use Rattle.rules_text.specs.declared.fault.RulesFault.{RulesFault}
 use Rattle.rules_text.specs.declared.fault.RulesFault.TheVariants as faults
 use Rattle.shelf.specs.Shelf.{Told}
-use Rattle.text_commands.specs.declared.answer.Answer.{Answer}
+use Rattle.answers.specs.declared.answer.Answer.{Answer}
 use Rattle.text_commands.specs.Days.{DayAnswer, AnswersDay, refused}
-use Rattle.text_commands.specs.Fetch.{IsFetch, NoAnswer}
-use Rattle.text_commands.specs.Reader.{IsReader}
-use Rattle.text_commands.proofs.Readers.{IsSaid, one-said, widen, after_fetch}
+use Rattle.answers.specs.Fetch.{IsFetch, NoAnswer}
+use Rattle.answers.specs.Reader.{IsReader}
+use Rattle.answers.proofs.Readers.{IsSaid, one-said, widen, after_fetch}
 
 module _ (Answers : Grammar → ℕ → List ℕ → Type 0) where
   pub day-fault : (text : List ℕ) (fault : RulesFault) (r : Result Answer Memory) → (fault ≢ faults.Memory → IsReading text (Err fault))

@@ -1,11 +1,6 @@
-pub mod Reader
 pub mod Start
 pub mod Explain
-pub mod Fetch
 pub mod Check
 pub mod Statuses
 pub mod Days
 pub mod SameTexts
-pub mod Says
-pub mod RulesCommands
-pub mod TextCommands

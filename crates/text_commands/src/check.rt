@@ -1,37 +1,21 @@
 ghost use Rattle.std.specs.Prelude.{◌≡◌, ◌≤◌, [], ◌∷◌, IfOk, length};
 ghost use Rattle.roster_model.specs.SoundInstance.{IsSoundInstance};
 ghost use Rattle.proof_pieces.specs.CertOf.{proof_fault};
-ghost use Rattle.proof_pieces.specs.FaultLine as proof_line;
 ghost use Rattle.proof_check.specs.Judging.{IsJudged};
 ghost use Rattle.answer_texts.specs.VerdictText.{verdict_text};
-ghost use Rattle.text_commands.specs.Check.{Judgement, ProofAnswers, verdict_status};
-ghost use Rattle.text_commands.specs.Reader.{IsReader};
-ghost use Rattle.text_commands.specs.Says.{CertCommand};
+ghost use Rattle.text_commands.specs.Check.{Judgement, verdict_status};
+ghost use Rattle.answers.specs.Asked.{ProofAnswers};
+ghost use Rattle.answers.specs.Reader.{IsReader};
+ghost use Rattle.answers.specs.Says.{CertCommand};
 
-use crate::answer::Answer;
-use crate::ask::ask;
-use crate::question::Question;
 use answer_texts::write_verdict;
+use answers::{Answer, Question, ask, proof_refusal};
 use certificates::Verdict;
 use proof_check::{Bench, Judged};
-use proof_pieces::{CertRoom, PieceFault, ProofFault};
+use proof_pieces::CertRoom;
 use roster_model::{Instance, Memory};
 use shelf::Shelf;
 use std::alloc::Global;
-
-/// Says why a proof text is refused.
-///
-/// # Errors
-///
-/// `Memory` where memory runs out; there is no answer then.
-pub fn proof_refusal(alloc: Global, fault: PieceFault) -> Result<Answer, Memory>
-    ensures { IfOk result (λ a. (a.status ≡ 5) × (a.output ≡ proof_line.fault_line (proof_fault fault))) }
-{
-    Ok(Answer {
-        status: 5,
-        output: proof_pieces::fault_line(alloc, &ProofFault::from(fault))?,
-    })
-}
 
 // Returns the status of a verdict: 0 for a yes, and 1 for a no.
 fn status_of_verdict(verdict: &Verdict) -> u8
@@ -101,8 +85,10 @@ fn judgement(alloc: Global, instance: &Instance, text: &[u8]) -> Result<Answer, 
 struct Acceptance;
 
 impl Question for Acceptance {
-    ghost use Rattle.text_commands.specs.Check.{Judgement, ProofAnswers};
-    ghost use Rattle.text_commands.specs.Statuses.{judged-ends, proof-ends};
+    ghost use Rattle.text_commands.specs.Check.{Judgement};
+    ghost use Rattle.answers.specs.Asked.{ProofAnswers};
+    ghost use Rattle.text_commands.specs.Statuses.{judged-ends};
+    ghost use Rattle.answers.specs.Statuses.{proof-ends};
 
     ghost answers = { λ _. ProofAnswers Judgement };
 

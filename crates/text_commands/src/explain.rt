@@ -4,21 +4,19 @@ ghost use Rattle.roster_model.specs.Shifts.{IsPrice};
 ghost use Rattle.roster_model.specs.Sound.{IsSound};
 ghost use Rattle.span_table.specs.Tables.{IsMadeFor, IsFilled};
 ghost use Rattle.word_prices.specs.Prices.{word_view};
-ghost use Rattle.rules_text.specs.FaultLine.{fault_line};
-ghost use Rattle.text_commands.specs.Explain.{Derivation, DerivationFrom, Explanation, SaysTree};
-ghost use Rattle.text_commands.specs.Reader.{IsReader};
-ghost use Rattle.text_commands.specs.RulesCommands.{RulesCommand};
+ghost use Rattle.text_commands.specs.Days.{DayAnswer};
+ghost use Rattle.text_commands.specs.Explain.{Derivation, DerivationFrom, SaysTree};
+ghost use Rattle.answers.specs.Reader.{IsReader};
+ghost use Rattle.answers.specs.RulesCommands.{RulesCommand};
 ghost use Rattle.text_commands.specs.Start.{AnswersOf};
 
-use crate::answer::Answer;
-use crate::fetch::fetched;
 use crate::oddities::note_rules;
-use crate::say::{MEMORY, say};
 use crate::start::{grammar_from, no_form};
 use crate::unfit::note_unfit;
 use answer_texts::write_tree;
+use answers::{Answer, MEMORY, fetched, rules_refusal, say};
 use roster_model::{Grammar, List, Memory, TreeRoom};
-use rules_text::{RulesFault, fault_line, read_rules};
+use rules_text::read_rules;
 use shelf::Shelf;
 use span_table::Table;
 use std::alloc::Global;
@@ -95,24 +93,6 @@ pub fn derivation(alloc: Global, grammar: &Grammar, word: &[u8]) -> Result<Answe
     derivation_by(alloc, &prices, &mut table)
 }
 
-/// Says why a rules text is refused.
-///
-/// # Errors
-///
-/// `Memory` where memory runs out, or where that is the fault; there is no answer then.
-pub fn refusal(alloc: Global, fault: RulesFault) -> Result<Answer, Memory>
-    ensures { IfOk result (λ a. (fault ≢ RulesFault.Memory) × (a.status ≡ 3)
-        × (a.output ≡ fault_line fault)) }
-{
-    match fault {
-        RulesFault::Memory => Err(Memory),
-        _ => Ok(Answer {
-            status: 3,
-            output: fault_line(alloc, &fault)?,
-        }),
-    }
-}
-
 // What is answered to a word by a sound grammar, if there is one.
 fn derivation_from(alloc: Global, grammar: Option<Grammar>, word: &[u8]) -> Result<Answer, Memory>
     requires { IfSome grammar IsSound }
@@ -132,11 +112,12 @@ fn explanation(
     start: Option<&str>,
 ) -> Result<Answer, Memory>
     ensures { IfOk result
-        (λ a. Explanation text.now word.now (option_copied start.entry) a.status a.output) }
+        (λ a. DayAnswer (λ g s o. DerivationFrom word.now (option_copied start.entry) g s o) text.now
+        a.status a.output) }
 {
     match read_rules(alloc, text) {
         Ok(grammar) => derivation_from(alloc, grammar_from(grammar, start), word),
-        Err(fault) => refusal(alloc, fault),
+        Err(fault) => rules_refusal(alloc, fault),
     }
 }
 
@@ -163,8 +144,8 @@ fn say_explanation<S: Shelf>(
     word: &[u8],
     start: Option<&str>,
 ) -> u8
-    ensures { IsReader (λ s o. Explanation text.now word.now (option_copied start.entry) s o) []
-        (S.told shelf.old) (S.told shelf.new) result }
+    ensures { IsReader (λ s o. DayAnswer (λ g s o. DerivationFrom word.now (option_copied start.entry) g s o)
+        text.now s o) [] (S.told shelf.old) (S.told shelf.new) result }
 {
     match explanation(alloc, text, word, start) {
         Ok(answer) => {

@@ -3,16 +3,13 @@ ghost use Rattle.std.specs.Option.{option_copied};
 ghost use Rattle.day_questions.specs.Fitting.{FitsAnswer};
 ghost use Rattle.roster_model.specs.Sound.{IsSound};
 ghost use Rattle.text_commands.specs.Days.{DayAnswer, FitsFrom};
-ghost use Rattle.text_commands.specs.Reader.{IsReader};
-ghost use Rattle.text_commands.specs.RulesCommands.{RulesCommand};
+ghost use Rattle.answers.specs.Reader.{IsReader};
+ghost use Rattle.answers.specs.RulesCommands.{RulesCommand};
 ghost use Rattle.text_commands.specs.Start.{AnswersOf};
 
-use crate::answer::Answer;
-use crate::explain::refusal;
-use crate::fetch::fetched;
-use crate::say::{MEMORY, say};
 use crate::start::{grammar_from, no_form};
 use crate::unfit::{ANY, note_unfit};
+use answers::{Answer, MEMORY, fetched, rules_refusal, say};
 use day_questions::fits_answer;
 use roster_model::{Grammar, Memory};
 use rules_text::read_rules;
@@ -56,7 +53,7 @@ fn fitting(
 {
     match read_rules(alloc, text) {
         Ok(grammar) => fitting_from(alloc, grammar_from(grammar, start), pattern),
-        Err(fault) => refusal(alloc, fault),
+        Err(fault) => rules_refusal(alloc, fault),
     }
 }
 

@@ -3,15 +3,12 @@ ghost use Rattle.std.specs.Option.{option_copied};
 ghost use Rattle.day_questions.specs.Next.{NextAnswer};
 ghost use Rattle.roster_model.specs.Sound.{IsSound};
 ghost use Rattle.text_commands.specs.Days.{DayAnswer, NextFrom};
-ghost use Rattle.text_commands.specs.Reader.{IsReader};
-ghost use Rattle.text_commands.specs.RulesCommands.{RulesCommand};
+ghost use Rattle.answers.specs.Reader.{IsReader};
+ghost use Rattle.answers.specs.RulesCommands.{RulesCommand};
 ghost use Rattle.text_commands.specs.Start.{AnswersOf};
 
-use crate::answer::Answer;
-use crate::explain::refusal;
-use crate::fetch::fetched;
-use crate::say::{MEMORY, say};
 use crate::start::{grammar_from, no_form, note_refused};
+use answers::{Answer, MEMORY, fetched, rules_refusal, say};
 use day_questions::next_answer;
 use roster_model::{Grammar, Memory};
 use rules_text::read_rules;
@@ -55,7 +52,7 @@ fn following(
 {
     match read_rules(alloc, text) {
         Ok(grammar) => following_from(alloc, grammar_from(grammar, start), prefix),
-        Err(fault) => refusal(alloc, fault),
+        Err(fault) => rules_refusal(alloc, fault),
     }
 }
 

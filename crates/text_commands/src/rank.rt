@@ -3,16 +3,13 @@ ghost use Rattle.std.specs.Option.{option_copied};
 ghost use Rattle.day_questions.specs.Ranked.{RankedAnswer};
 ghost use Rattle.roster_model.specs.Sound.{IsSound};
 ghost use Rattle.text_commands.specs.Days.{DayAnswer, RankFrom};
-ghost use Rattle.text_commands.specs.Reader.{IsReader};
-ghost use Rattle.text_commands.specs.RulesCommands.{RulesCommand};
+ghost use Rattle.answers.specs.Reader.{IsReader};
+ghost use Rattle.answers.specs.RulesCommands.{RulesCommand};
 ghost use Rattle.text_commands.specs.Start.{AnswersOf};
 
-use crate::answer::Answer;
-use crate::explain::refusal;
-use crate::fetch::fetched;
 use crate::oddities::note_rules;
-use crate::say::{MEMORY, say};
 use crate::start::{grammar_from, no_form, note_refused};
+use answers::{Answer, MEMORY, fetched, rules_refusal, say};
 use day_questions::ranked_answer;
 use roster_model::{Grammar, Memory};
 use rules_text::read_rules;
@@ -57,7 +54,7 @@ fn ranking(alloc: Global, text: &[u8], most: u32, start: Option<&str>) -> Result
 {
     match read_rules(alloc, text) {
         Ok(grammar) => ranking_from(alloc, grammar_from(grammar, start), most),
-        Err(fault) => refusal(alloc, fault),
+        Err(fault) => rules_refusal(alloc, fault),
     }
 }
 

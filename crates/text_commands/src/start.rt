@@ -4,8 +4,7 @@ ghost use Rattle.std.specs.Str.{bytes_eq};
 ghost use Rattle.roster_model.specs.Sound.{IsPlain, IsSound};
 ghost use Rattle.text_commands.specs.Start.{AnswersNoForm, grammar_from, name_place, started};
 
-use crate::answer::Answer;
-use crate::encoding::note_encoding;
+use answers::{Answer, note_encoding};
 use roster_model::{Grammar, List, Memory};
 use shelf::Shelf;
 use std::alloc::Global;

@@ -9,9 +9,9 @@ use Rattle.stated_rosters.specs.declared.fault.RosterFault.{RosterFault}
 use Rattle.stated_rosters.specs.declared.fault.RosterFault.TheVariants as faults
 use Rattle.stated_rosters.specs.FaultLine.{fault_line}
 use Rattle.stated_rosters.specs.RosterOf.{roster_of}
-use Rattle.text_commands.specs.declared.answer.Answer.{Answer}
-use Rattle.text_commands.proofs.OneReading.{same_ok, same_err, not_both}
-use Rattle.text_commands.proofs.OnceLemmas.{AreSame}
+use Rattle.answers.specs.declared.answer.Answer.{Answer}
+use Rattle.answers.proofs.OneReading.{same_ok, same_err, not_both}
+use Rattle.answers.proofs.OnceLemmas.{AreSame}
 use Rattle.what_if.specs.Rest.{Resting}
 use Rattle.what_if.specs.Rest as rest
 

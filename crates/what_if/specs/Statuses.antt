@@ -7,7 +7,7 @@ use Rattle.roster_value.specs.Answers as answers
 use Rattle.remaining_day.specs.declared.answer.Remaining.{Remaining}
 use Rattle.remaining_day.specs.declared.answer.Remaining.TheVariants.{Day, Nobody, Impossible}
 use Rattle.remaining_day.specs.Answers.{rest_status}
-use Rattle.text_commands.specs.Statuses.{ends_at}
+use Rattle.answers.specs.Statuses.{ends_at}
 use Rattle.what_if.specs.Value.{Valuation}
 use Rattle.what_if.specs.Value as value
 use Rattle.what_if.specs.Rest.{Resting}

@@ -2,19 +2,17 @@ ghost use Rattle.std.specs.Prelude.{[], ◌∷◌, IfOk};
 ghost use Rattle.remaining_day.specs.Answers.{IsRemaining, RestAnswer};
 ghost use Rattle.roster_model.specs.SoundInstance.{IsSoundInstance};
 ghost use Rattle.stated_rosters.specs.RosterOf.{IsSoundRoster};
-ghost use Rattle.text_commands.specs.Reader.{IsReader};
-ghost use Rattle.text_commands.specs.TextCommands.{TextCommand};
+ghost use Rattle.answers.specs.Reader.{IsReader};
+ghost use Rattle.answers.specs.TextCommands.{TextCommand};
 ghost use Rattle.what_if.specs.Rest.{Resting};
 
 use crate::value::roster_refusal;
+use answers::{Answer, Question, ask};
 use remaining_day::{Remaining, remaining, rest_status, write_remaining};
 use roster_model::{Instance, Memory, Shift};
 use shelf::Shelf;
 use stated_rosters::read_roster;
 use std::alloc::Global;
-use text_commands::answer::Answer;
-use text_commands::ask::ask;
-use text_commands::question::Question;
 
 // Says what remains of a day beside kept shifts, as it was found.
 fn told(

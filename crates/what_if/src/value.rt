@@ -3,18 +3,16 @@ ghost use Rattle.roster_model.specs.SoundInstance.{IsSoundInstance};
 ghost use Rattle.roster_value.specs.Answers.{StatedAnswer};
 ghost use Rattle.stated_rosters.specs.FaultLine as roster_line;
 ghost use Rattle.stated_rosters.specs.RosterOf.{IsSoundRoster};
-ghost use Rattle.text_commands.specs.Reader.{IsReader};
-ghost use Rattle.text_commands.specs.TextCommands.{TextCommand};
+ghost use Rattle.answers.specs.Reader.{IsReader};
+ghost use Rattle.answers.specs.TextCommands.{TextCommand};
 ghost use Rattle.what_if.specs.Value.{Valuation};
 
+use answers::{Answer, Question, ask};
 use roster_model::{Instance, Memory, Shift};
 use roster_value::stated_answer;
 use shelf::Shelf;
 use stated_rosters::{RosterFault, fault_line, read_roster};
 use std::alloc::Global;
-use text_commands::answer::Answer;
-use text_commands::ask::ask;
-use text_commands::question::Question;
 
 /// Says why a roster text is refused.
 ///

@@ -1,4 +1,4 @@
-use Rattle.text_commands.proofs.SaysLemmas.{asks-cert}
+use Rattle.answers.proofs.SaysLemmas.{asks-cert}
 use Rattle.text_commands.specs.Check.{Judgement}
 use Rattle.text_commands.proofs.check.check.Goals as goal
 

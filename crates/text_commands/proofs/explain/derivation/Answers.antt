@@ -1,4 +1,5 @@
-use Rattle.text_commands.proofs.Derivations.{IfOk-map, none-said, other-length}
+use Rattle.answers.proofs.Readers.{IfOk-map}
+use Rattle.text_commands.proofs.Derivations.{none-said, other-length}
 use Rattle.text_commands.proofs.explain.derivation.Goals as goal
 
 pub returns-then-word-grammar : goal.returns-then-word-grammar

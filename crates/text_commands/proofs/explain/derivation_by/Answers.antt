@@ -1,4 +1,5 @@
-use Rattle.text_commands.proofs.Derivations.{IfOk-map, none-said, tree-said}
+use Rattle.answers.proofs.Readers.{IfOk-map}
+use Rattle.text_commands.proofs.Derivations.{none-said, tree-said}
 use Rattle.text_commands.proofs.explain.derivation_by.Goals as goal
 
 pub returns-in-Some : goal.returns-in-Some

@@ -1,6 +1,7 @@
 use Rattle.std.specs.Option.{option_copied}
 use Rattle.shelf.specs.Shelf.{Told}
-use Rattle.text_commands.proofs.SaysLemmas.{command-read, command-unread}
+use Rattle.text_commands.specs.Explain.{DerivationFrom}
+use Rattle.text_commands.proofs.SaysLemmas.{day-command-read, day-command-unread}
 use Rattle.text_commands.proofs.explain.explain.Goals as goal
 
 pub returns-in-Ok : goal.returns-in-Ok
@@ -8,10 +9,10 @@ returns-in-Ok g c =
     let before : Told = g.S.Shelf.told c.args.shelf.now in
     let middle : Told = g.S.Shelf.told c.fetched.new.shelf in
     let after : Told = g.S.Shelf.told c.say_explanation.new.shelf in
-    command-read c.args.word.now (option_copied c.args.start) c.args.rules.now before c.in-Ok.text.items middle after c.say_explanation.result c.in-Ok.ensures.text (rw (c.as_slice.ensures.value, c.as_bytes.ensures.value) at c.say_explanation.ensures)
+    day-command-read (λ g s o. DerivationFrom c.args.word.now (option_copied c.args.start) g s o) c.args.rules.now c.in-Ok.text.items before middle after c.say_explanation.result c.in-Ok.ensures.text (rw (c.as_slice.ensures.value, c.as_bytes.ensures.value) at c.say_explanation.ensures)
 
 pub returns-in-Err : goal.returns-in-Err
 returns-in-Err g c =
     let before : Told = g.S.Shelf.told c.args.shelf.now in
     let after : Told = g.S.Shelf.told c.fetched.new.shelf in
-    command-unread c.args.word.now (option_copied c.args.start) c.args.rules.now before after c.in-Err.status c.in-Err.ensures.refusal
+    day-command-unread (λ g s o. DerivationFrom c.args.word.now (option_copied c.args.start) g s o) c.args.rules.now before after c.in-Err.status c.in-Err.ensures.refusal

@@ -1,8 +1,8 @@
 use Rattle.std.proofs.Common.{◌≡◌}
 use Rattle.std.specs.Option.{option_copied}
 use Rattle.shelf.specs.Shelf.{Told}
-use Rattle.text_commands.specs.Explain.{Explanation}
-use Rattle.text_commands.proofs.Readers.{one-said}
+use Rattle.text_commands.specs.Explain.{DerivationFrom}
+use Rattle.text_commands.proofs.Days.{day-said}
 use Rattle.text_commands.proofs.explain.say_explanation.Goals as goal
 
 pub returns-in-Ok : goal.returns-in-Ok
@@ -11,7 +11,7 @@ returns-in-Ok g c =
     let noted : Told = g.S.Shelf.told c.note_explained.new.shelf in
     let after : Told = g.S.Shelf.told c.say.new.shelf in
     let same : noted ≡ before = c.note_explained.ensures in
-    one-said (λ s o. Explanation c.args.text.now c.args.word.now (option_copied c.args.start) s o) c.in-Ok.answer before after c.say.result c.in-Ok.ensures
+    day-said (λ g s o. DerivationFrom c.args.word.now (option_copied c.args.start) g s o) c.args.text.now c.in-Ok.answer before after c.say.result c.in-Ok.ensures
     (record {
       status_is = c.say.ensures.status;
       whole = rw (c.as_slice.ensures, same) at c.say.ensures.said;

@@ -1,0 +1,5 @@
+pub mod Readers
+pub mod AskedLemmas
+pub mod OneReading
+pub mod OnceLemmas
+pub mod SaysLemmas

@@ -1,0 +1,117 @@
+ghost use Rattle.std.specs.Prelude.{[], ◌∷◌};
+ghost use Rattle.roster_model.specs.Sound.{IsPlain, IsSound};
+ghost use Rattle.roster_model.specs.SoundInstance.{IsSoundInstance};
+ghost use Rattle.answers.specs.Asked.{AnswersDemand, AnswersThird, DemandAnswers, RulesAnswers};
+ghost use Rattle.answers.specs.Reader.{IsReader};
+ghost use Rattle.answers.specs.TextCommands.{TextCommand};
+
+use crate::answer::Answer;
+use crate::fetch::{fetched, say_answer_to};
+use crate::question::Question;
+use crate::refusals::{demand_refusal, rules_refusal};
+use demand_text::read_demand;
+use roster_model::{Grammar, Instance};
+use rules_text::read_rules;
+use shelf::Shelf;
+use std::alloc::Global;
+
+// Asks something of the third text under a name.
+fn ask_third<S: Shelf, Q: Question>(
+    alloc: Global,
+    shelf: &mut S,
+    instance: &Instance,
+    third: &str,
+    question: &Q,
+) -> u8
+    requires { IsSoundInstance instance.now }
+    ensures { IsReader (AnswersThird (Q.answers question.now) (S.told shelf.old).held instance.now third.now)
+        (third.now ∷ []) (S.told shelf.old) (S.told shelf.new) result }
+{
+    let text = match fetched(alloc, shelf, third) {
+        Ok(text) => text,
+        Err(status) => return status,
+    };
+    let text = text.as_slice();
+    say_answer_to(shelf, text, question.answer(alloc, instance, text))
+}
+
+// Asks something of the third text under a name by a demand text.
+fn ask_demand_text<S: Shelf, Q: Question>(
+    alloc: Global,
+    shelf: &mut S,
+    grammar: Grammar,
+    text: &[u8],
+    third: &str,
+    question: &Q,
+) -> u8
+    requires sound { IsSound grammar }
+    requires plain { IsPlain grammar }
+    ensures { IsReader (DemandAnswers (Q.answers question.now) (S.told shelf.old).held
+        grammar text.now third.now) (third.now ∷ []) (S.told shelf.old) (S.told shelf.new) result }
+{
+    match read_demand(alloc, grammar, text) {
+        Ok(instance) => ask_third(alloc, shelf, &instance, third, question),
+        Err(fault) => say_answer_to(shelf, text, demand_refusal(alloc, fault)),
+    }
+}
+
+// Asks something of the third text under a name by the demand text under another.
+fn ask_demand<S: Shelf, Q: Question>(
+    alloc: Global,
+    shelf: &mut S,
+    grammar: Grammar,
+    demand: &str,
+    third: &str,
+    question: &Q,
+) -> u8
+    requires sound { IsSound grammar }
+    requires plain { IsPlain grammar }
+    ensures { IsReader (AnswersDemand (Q.answers question.now) (S.told shelf.old).held
+        grammar demand.now third.now)
+        (demand.now ∷ third.now ∷ []) (S.told shelf.old) (S.told shelf.new) result }
+{
+    match fetched(alloc, shelf, demand) {
+        Ok(text) => ask_demand_text(alloc, shelf, grammar, text.as_slice(), third, question),
+        Err(status) => status,
+    }
+}
+
+/// Asks something of the third text under a name by a rules text and the demand text under a name, and says the
+/// answer, or why a text is refused. The texts are read in this order.
+pub fn ask_rules_text<S: Shelf, Q: Question>(
+    alloc: Global,
+    shelf: &mut S,
+    text: &[u8],
+    demand: &str,
+    third: &str,
+    question: &Q,
+) -> u8
+    ensures { IsReader (RulesAnswers (Q.answers question.now) (S.told shelf.old).held
+        text.now demand.now third.now)
+        (demand.now ∷ third.now ∷ []) (S.told shelf.old) (S.told shelf.new) result }
+{
+    match read_rules(alloc, text) {
+        Ok(grammar) => ask_demand(alloc, shelf, grammar, demand, third, question),
+        Err(fault) => say_answer_to(shelf, text, rules_refusal(alloc, fault)),
+    }
+}
+
+/// Asks something of a third text, as a proof text, by the rules and demand texts, all under names, and says the
+/// answer, or why a text is refused. The texts are fetched and read in this order.
+pub fn ask<S: Shelf, Q: Question>(
+    alloc: Global,
+    shelf: &mut S,
+    rules: &str,
+    demand: &str,
+    third: &str,
+    question: &Q,
+) -> u8
+    ensures { IsReader (TextCommand (Q.answers question.now) (S.told shelf.old).held
+        rules.now demand.now third.now)
+        (rules.now ∷ demand.now ∷ third.now ∷ []) (S.told shelf.old) (S.told shelf.new) result }
+{
+    match fetched(alloc, shelf, rules) {
+        Ok(text) => ask_rules_text(alloc, shelf, text.as_slice(), demand, third, question),
+        Err(status) => status,
+    }
+}

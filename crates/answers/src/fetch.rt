@@ -1,0 +1,56 @@
+ghost use Rattle.std.specs.Prelude.{◌≢◌, ◌∷◌, [], IfOk, IfErr};
+ghost use Rattle.answers.specs.Fetch.{IsAnswer, IsFetch, NoAnswer};
+ghost use Rattle.answers.specs.Reader.{IsReader};
+
+use crate::answer::Answer;
+use crate::encoding::note_encoding;
+use crate::saying::{MEMORY, say, status_of};
+use roster_model::Memory;
+use shelf::Shelf;
+use std::alloc::Global;
+
+/// Returns the text under a name, or the status of a refusal.
+///
+/// # Errors
+///
+/// The status of the refusal: 6 where the shelf refuses the call, and 7 where memory runs out.
+pub fn fetched<S: Shelf>(alloc: Global, shelf: &mut S, name: &str) -> Result<Vec<u8>, u8>
+    ensures text { IfOk result (λ text. IsFetch name.now (S.told shelf.old) (S.told shelf.new) text.items) }
+    ensures refusal { IfErr result (λ status. IsReader NoAnswer (name.now ∷ []) (S.told shelf.old)
+        (S.told shelf.new) status) }
+{
+    let mut text = Vec::new(alloc);
+    if let Err(fault) = shelf.fetch(name, &mut text) {
+        return Err(status_of(fault));
+    }
+    Ok(text)
+}
+
+/// Says an answer at once, and returns its status, or that of a refusal.
+pub fn say_answer<S: Shelf>(shelf: &mut S, answer: Result<Answer, Memory>) -> u8
+    requires { IfOk answer (λ a. (a.status ≢ 6) × (a.status ≢ 7)) }
+    ensures { IsReader (IsAnswer answer) [] (S.told shelf.old) (S.told shelf.new) result }
+{
+    match answer {
+        Ok(answer) => say(shelf, answer.output.as_slice(), answer.status),
+        Err(Memory) => MEMORY,
+    }
+}
+
+// Returns the status of an answer, or that of want of memory.
+fn status_of_answer(answer: &Result<Answer, Memory>) -> u8 {
+    match answer {
+        Ok(answer) => answer.status,
+        Err(Memory) => MEMORY,
+    }
+}
+
+/// Says an answer to a text as `say_answer` does; where it refuses the text, what the first bytes show of its
+/// encoding is noted before.
+pub fn say_answer_to<S: Shelf>(shelf: &mut S, text: &[u8], answer: Result<Answer, Memory>) -> u8
+    requires { IfOk answer (λ a. (a.status ≢ 6) × (a.status ≢ 7)) }
+    ensures { IsReader (IsAnswer answer) [] (S.told shelf.old) (S.told shelf.new) result }
+{
+    note_encoding(shelf, text, status_of_answer(&answer));
+    say_answer(shelf, answer)
+}

@@ -1,0 +1,27 @@
+ghost use Rattle.std.specs.Prelude.{ℕ, List, ◌≢◌, IfOk};
+ghost use Rattle.roster_model.specs.declared.instance.Instance.{Instance as Day};
+ghost use Rattle.roster_model.specs.SoundInstance.{IsSoundInstance};
+ghost use Rattle.answers.specs.Asked.{TextAnswers};
+
+use crate::answer::Answer;
+use roster_model::{Instance, Memory};
+use std::alloc::Global;
+
+/// What is asked of a third text by the day of a rules and a demand text, as of a proof text.
+pub trait Question {
+    // The answers to each text by an instance.
+    ghost answers: { Self → TextAnswers };
+
+    /// Answers to a text, or says why it is refused.
+    ///
+    /// # Errors
+    ///
+    /// `Memory` where memory runs out.
+    fn answer(&self, alloc: Global, instance: &Instance, text: &[u8]) -> Result<Answer, Memory>
+        requires { IsSoundInstance instance.now }
+        ensures { IfOk result (λ a. answers self.now instance.now text.now a.status a.output) };
+
+    // No answer has the status of a refusal.
+    ghost ends: { (q : Self) (i : Day) (text : List ℕ) (status : ℕ) (output : List ℕ)
+        → answers q i text status output → (status ≢ 6) × (status ≢ 7) };
+}
