@@ -1,6 +1,7 @@
 -- The same texts have the same answer.
 use Rattle.std.proofs.Common.{sym, ◌∙◌, Some}
-use Rattle.text_commands.specs.Check.{Judgement, ProofAnswers}
+use Rattle.text_commands.specs.Check.{Judgement}
+use Rattle.answers.specs.Asked.{ProofAnswers}
 use Rattle.text_commands.specs.Days.{RankFrom, NextFrom, FitsFrom}
 use Rattle.day_questions.specs.Ranked.{RankedAnswer}
 use Rattle.day_questions.specs.Next.{NextAnswer}
@@ -16,16 +17,18 @@ use Rattle.search_commands.proofs.CurveLemmas.{as-curve-parts}
 use Rattle.search_commands.proofs.ReuseLemmas.{reused-once}
 use Rattle.search_commands.specs.Series.{answered}
 use Rattle.what_if.specs.Rest.{Resting}
-use Rattle.what_if.specs.Rest.{Resting}
 use Rattle.what_if.specs.Value.{Valuation}
 use Rattle.what_if.proofs.Rests.{resting-once}
 use Rattle.what_if.proofs.Values.{value-once}
-use Rattle.text_commands.proofs.OnceLemmas.{judged-once, proof-once, texts-once, explain-once, from-once, held-once}
-use Rattle.text_commands.proofs.SaysLemmas.{as-texts, as-cert-texts, as-day, as-explanation}
+use Rattle.text_commands.proofs.OnceLemmas.{judged-once, explain-once, from-once, held-once}
+use Rattle.answers.proofs.OnceLemmas.{proof-once, texts-once}
+use Rattle.answers.proofs.SaysLemmas.{as-texts, as-cert-texts}
+use Rattle.text_commands.proofs.SaysLemmas.{as-day}
+use Rattle.text_commands.specs.Explain.{DerivationFrom}
 
 pub has-one-answer : (f : Form) → HasOneAnswer f
 has-one-answer (explain rules word start) =
-    λ held s t a b h k. explain-once held rules word start s t a b (as-explanation (Some held) rules word start s a h) (as-explanation (Some held) rules word start t b k)
+    λ held s t a b h k. explain-once held rules word start s t a b (as-day (λ g x o. DerivationFrom word start g x o) (Some held) rules s a h) (as-day (λ g x o. DerivationFrom word start g x o) (Some held) rules t b k)
 has-one-answer (rank rules most start) = λ held s t a b h k.
     held-once (λ g x o. RankFrom most start g x o) (from-once (λ g x o. RankedAnswer g most x o) (λ g. one-ranked g most) start) held rules s t a b
     (as-day (λ g x o. RankFrom most start g x o) (Some held) rules s a h) (as-day (λ g x o. RankFrom most start g x o) (Some held) rules t b k)
@@ -47,10 +50,10 @@ has-one-answer (rest rules demand roster) = λ held s t a b h k.
 has-one-answer (reuse rules demand proof) = λ held s t a b h k.
     texts-once (ProofAnswers Reusing) (proof-once Reusing reused-once) held rules demand proof s t a b
     (as-cert-texts Reusing (Some held) rules demand proof s a h) (as-cert-texts Reusing (Some held) rules demand proof t b k)
-has-one-answer (solve rules demand proof limit) = λ held m n s t a b x y h k.
-    solve-ends held rules demand limit m n s t a b x y (as-parts (Some held) rules demand m limit s a x h) (as-parts (Some held) rules demand n limit t b y k)
-has-one-answer (curve rules demand proof limit) = λ held m n s t a b x y h k.
-    curve-ends held rules demand proof limit m n s t a b x y
-    (as-curve-parts (Some held) rules demand proof m limit (answered s a) x h) (as-curve-parts (Some held) rules demand proof n limit (answered t b) y k)
+has-one-answer (solve rules demand proof limit from) = λ held m n s t a b x y h k.
+    solve-ends held rules demand from limit m n s t a b x y (as-parts (Some held) rules demand from m limit s a x h) (as-parts (Some held) rules demand from n limit t b y k)
+has-one-answer (curve rules demand proof limit group) = λ held m n s t a b x y h k.
+    curve-ends held rules demand group proof limit m n s t a b x y
+    (as-curve-parts (Some held) rules demand group proof m limit (answered s a) x h) (as-curve-parts (Some held) rules demand group proof n limit (answered t b) y k)
 has-one-answer (make number proof limit) = make-ends number limit
 has-one-answer none = λ s t a b h k. (h.two ∙ sym k.two, h.line ∙ sym k.line)

@@ -8,8 +8,9 @@ use Rattle.search_commands.specs.declared.limit.Limit.TheVariants.{Turns, Second
 -- the words `explain RULES WORD`, `rank RULES MOST`, `next RULES PREFIX`, `fits RULES PATTERN`, each of these with
 -- a NAME of the rules behind or without, `check RULES DEMAND PROOF`, `value RULES DEMAND ROSTER`,
 -- `rest RULES DEMAND ROSTER`,
--- `reuse RULES DEMAND PROOF`, `solve RULES DEMAND PROOF LIMIT`, `curve RULES DEMAND PROOF LIMIT` or
--- `make NUMBER PROOF LIMIT`; no other words have a form
+-- `reuse RULES DEMAND PROOF`, `solve RULES DEMAND PROOF LIMIT` with a name FROM behind or without,
+-- `curve RULES DEMAND PROOF LIMIT` with the NAME of a group behind or without, or `make NUMBER PROOF LIMIT`; no other
+-- words have a form
 pub data Form : Type 0 where
   explain : List ℕ → List ℕ → Option (List ℕ) → Form
   rank : List ℕ → ℕ → Option (List ℕ) → Form
@@ -19,8 +20,8 @@ pub data Form : Type 0 where
   value : List ℕ → List ℕ → List ℕ → Form
   rest : List ℕ → List ℕ → List ℕ → Form
   reuse : List ℕ → List ℕ → List ℕ → Form
-  solve : List ℕ → List ℕ → List ℕ → Limit → Form
-  curve : List ℕ → List ℕ → List ℕ → Limit → Form
+  solve : List ℕ → List ℕ → List ℕ → Limit → Option (List ℕ) → Form
+  curve : List ℕ → List ℕ → List ℕ → Limit → Option (List ℕ) → Form
   make : ℕ → List ℕ → Limit → Form
   none : Form
 
@@ -68,13 +69,13 @@ abbrev pub rank_form : List ℕ → Option ℕ → Option (List ℕ) → Form
 rank_form rules (Some most) start = rank rules most start
 rank_form rules None start = none
 
-abbrev pub solve_form : List ℕ → List ℕ → List ℕ → Option Limit → Form
-solve_form rules demand proof (Some limit) = solve rules demand proof limit
-solve_form rules demand proof None = none
+abbrev pub solve_form : List ℕ → List ℕ → List ℕ → Option Limit → Option (List ℕ) → Form
+solve_form rules demand proof (Some limit) name = solve rules demand proof limit name
+solve_form rules demand proof None name = none
 
-abbrev pub curve_form : List ℕ → List ℕ → List ℕ → Option Limit → Form
-curve_form rules demand proof (Some limit) = curve rules demand proof limit
-curve_form rules demand proof None = none
+abbrev pub curve_form : List ℕ → List ℕ → List ℕ → Option Limit → Option (List ℕ) → Form
+curve_form rules demand proof (Some limit) name = curve rules demand proof limit name
+curve_form rules demand proof None name = none
 
 abbrev pub make_form : Option ℕ → List ℕ → Option Limit → Form
 make_form (Some number) proof (Some limit) = make number proof limit
@@ -99,14 +100,16 @@ long_form command a b c =
     else (if bytes_eq command (codes "make") then make_form (number_of_make a) b (limit_of c)
     else short_form command a b (Some c)))))
 
--- five words
-abbrev pub longest_form : List ℕ → List ℕ → List ℕ → List ℕ → List ℕ → Form
-longest_form command rules demand proof limit =
-    if bytes_eq command (codes "solve") then solve_form rules demand proof (limit_of limit)
-    else (if bytes_eq command (codes "curve") then curve_form rules demand proof (limit_of limit) else none)
+-- five words, or six of which the last one is a name
+abbrev pub longest_form : List ℕ → List ℕ → List ℕ → List ℕ → List ℕ → Option (List ℕ) → Form
+longest_form command rules demand proof limit name =
+    if bytes_eq command (codes "solve") then solve_form rules demand proof (limit_of limit) name
+    else (if bytes_eq command (codes "curve") then curve_form rules demand proof (limit_of limit) name else none)
 
 abbrev pub form_of : List (List ℕ) → Form
 form_of (command ∷ rules ∷ word ∷ []) = short_form command rules word None
 form_of (command ∷ a ∷ b ∷ c ∷ []) = long_form command a b c
-form_of (command ∷ rules ∷ demand ∷ proof ∷ limit ∷ []) = longest_form command rules demand proof limit
+form_of (command ∷ rules ∷ demand ∷ proof ∷ limit ∷ []) = longest_form command rules demand proof limit None
+form_of (command ∷ rules ∷ demand ∷ proof ∷ limit ∷ name ∷ []) =
+    longest_form command rules demand proof limit (Some name)
 form_of _ = none

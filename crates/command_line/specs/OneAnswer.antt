@@ -4,10 +4,10 @@ use Rattle.shelf.specs.Shelf.{Texts}
 use Rattle.text_commands.specs.Check.{Judgement}
 use Rattle.text_commands.specs.Days.{RankFrom, NextFrom, FitsFrom}
 use Rattle.text_commands.specs.Explain.{DerivationFrom}
-use Rattle.text_commands.specs.RulesCommands.{RulesCommand}
-use Rattle.text_commands.specs.Says.{CertCommand}
+use Rattle.answers.specs.RulesCommands.{RulesCommand}
+use Rattle.answers.specs.Says.{CertCommand}
 use Rattle.text_commands.specs.Start.{AnswersNoForm}
-use Rattle.text_commands.specs.TextCommands.{TextCommand}
+use Rattle.answers.specs.TextCommands.{TextCommand}
 use Rattle.what_if.specs.Rest.{Resting}
 use Rattle.what_if.specs.Value.{Valuation}
 use Rattle.text_commands.specs.SameTexts.{AreSameButTree}
@@ -45,9 +45,9 @@ HasOneAnswer (rest rules demand roster) =
 HasOneAnswer (reuse rules demand proof) =
     (held : Texts) (s t : ℕ) (a b : List ℕ) → CertCommand Reusing (Some held) rules demand proof s a
     → CertCommand Reusing (Some held) rules demand proof t b → (s ≡ t) × (a ≡ b)
-HasOneAnswer (solve rules demand proof limit) =
-    (held : Texts) → HaveOneEnd (λ m. SolveAnswers (Some held) rules demand m limit)
-HasOneAnswer (curve rules demand proof limit) =
-    (held : Texts) → HasOneEnd (λ m. CurveAnswers (Some held) rules demand proof m limit)
+HasOneAnswer (solve rules demand proof limit from) =
+    (held : Texts) → HaveOneEnd (λ m. SolveAnswers (Some held) rules demand from m limit)
+HasOneAnswer (curve rules demand proof limit group) =
+    (held : Texts) → HasOneEnd (λ m. CurveAnswers (Some held) rules demand group proof m limit)
 HasOneAnswer (make number proof limit) = HaveOneEnd (λ m. AnswersMake number m limit)
 HasOneAnswer none = (s t : ℕ) (a b : List ℕ) → AnswersNoForm s a → AnswersNoForm t b → (s ≡ t) × (a ≡ b)

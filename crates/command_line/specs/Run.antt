@@ -5,16 +5,16 @@ use Rattle.shelf.specs.Shelf.{Told}
 use Rattle.text_commands.specs.Check.{Judgement}
 use Rattle.text_commands.specs.Days.{RankFrom, NextFrom, FitsFrom}
 use Rattle.text_commands.specs.Explain.{DerivationFrom}
-use Rattle.text_commands.specs.Reader.{IsReader}
-use Rattle.text_commands.specs.RulesCommands.{RulesCommand}
-use Rattle.text_commands.specs.Says.{CertCommand}
+use Rattle.answers.specs.Reader.{IsReader}
+use Rattle.answers.specs.RulesCommands.{RulesCommand}
+use Rattle.answers.specs.Says.{CertCommand}
 use Rattle.text_commands.specs.Start.{AnswersNoForm}
-use Rattle.text_commands.specs.TextCommands.{TextCommand}
+use Rattle.answers.specs.TextCommands.{TextCommand}
 use Rattle.search_commands.specs.CurveAnswers.{CurveAnswers, MayStoreDay}
 use Rattle.search_commands.specs.Make.{AnswersMake}
 use Rattle.search_commands.specs.Reuse.{Reusing}
 use Rattle.search_commands.specs.Series.{IsSeriesWriter}
-use Rattle.search_commands.specs.Solve.{MasterView}
+use Rattle.search_commands.specs.Solve.{MasterView, from_names}
 use Rattle.search_commands.specs.SolveAnswers.{SolveAnswers}
 use Rattle.search_commands.specs.Writer.{IsWriter}
 use Rattle.what_if.specs.Rest.{Resting}
@@ -44,11 +44,12 @@ Does (rest rules demand roster) before after m status =
     before after status
 Does (reuse rules demand proof) before after m status =
     IsReader (CertCommand Reusing before.held rules demand proof) (rules ∷ demand ∷ proof ∷ []) before after status
-Does (solve rules demand proof limit) before after m status =
-    IsWriter (SolveAnswers before.held rules demand m limit) (rules ∷ demand ∷ []) proof before after status
-Does (curve rules demand proof limit) before after m status =
-    IsSeriesWriter (CurveAnswers before.held rules demand proof m limit)
-    (rules ∷ demand ∷ []) (MayStoreDay proof rules demand) before after status
+Does (solve rules demand proof limit from) before after m status =
+    IsWriter (SolveAnswers before.held rules demand from m limit) (rules ∷ demand ∷ from_names from) proof
+    before after status
+Does (curve rules demand proof limit group) before after m status =
+    IsSeriesWriter (CurveAnswers before.held rules demand group proof m limit)
+    (rules ∷ demand ∷ []) (MayStoreDay proof group rules demand) before after status
 Does (make number proof limit) before after m status =
     IsWriter (AnswersMake number m limit) [] proof before after status
 Does none before after m status = IsReader AnswersNoForm [] before after status

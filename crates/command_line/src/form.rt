@@ -80,14 +80,17 @@ pub enum Form<'a> {
         demand: &'a str,
         proof: &'a str,
         limit: Limit,
+        /// The name of the proof text of an old certificate, with which the search begins.
+        from: Option<&'a str>,
     },
-    /// The same for each greatest head count of the day; the certificates are stored under the name of the proof,
-    /// a full stop and the head count.
+    /// The same for each greatest head count of the day, or of the group of a name; the certificates are stored under
+    /// the name of the proof, a full stop and the head count.
     Curve {
         rules: &'a str,
         demand: &'a str,
         proof: &'a str,
         limit: Limit,
+        group: Option<&'a str>,
     },
     /// A roster of least cost for a day that is made from a number, found within a limit; its certificate is
     /// stored under the name of the proof.
@@ -202,10 +205,17 @@ fn short_form<'a>(command: &str, rules: &'a str, word: &'a str, start: Option<&'
     Form::None
 }
 
-// Returns what `solve` asks for, where the last word says a limit.
-fn solve_form<'a>(rules: &'a str, demand: &'a str, proof: &'a str, limit: Option<Limit>) -> Form<'a>
+// Returns what `solve` asks for, where a word says a limit.
+fn solve_form<'a>(
+    rules: &'a str,
+    demand: &'a str,
+    proof: &'a str,
+    limit: Option<Limit>,
+    from: Option<&'a str>,
+) -> Form<'a>
     requires { IfSome limit IsLimit }
-    ensures asked { asked result ≡ solve_form rules.now demand.now proof.now limit }
+    ensures asked { asked result ≡ solve_form rules.now demand.now proof.now limit
+        (option_copied from.entry) }
     ensures numbers { HasNumbers result }
 {
     match limit {
@@ -214,15 +224,23 @@ fn solve_form<'a>(rules: &'a str, demand: &'a str, proof: &'a str, limit: Option
             demand,
             proof,
             limit,
+            from,
         },
         None => Form::None,
     }
 }
 
-// Returns what `curve` asks for, where the last word says a limit.
-fn curve_form<'a>(rules: &'a str, demand: &'a str, proof: &'a str, limit: Option<Limit>) -> Form<'a>
+// Returns what `curve` asks for, where a word says a limit.
+fn curve_form<'a>(
+    rules: &'a str,
+    demand: &'a str,
+    proof: &'a str,
+    limit: Option<Limit>,
+    group: Option<&'a str>,
+) -> Form<'a>
     requires { IfSome limit IsLimit }
-    ensures asked { asked result ≡ curve_form rules.now demand.now proof.now limit }
+    ensures asked { asked result ≡ curve_form rules.now demand.now proof.now limit
+        (option_copied group.entry) }
     ensures numbers { HasNumbers result }
 {
     match limit {
@@ -231,27 +249,30 @@ fn curve_form<'a>(rules: &'a str, demand: &'a str, proof: &'a str, limit: Option
             demand,
             proof,
             limit,
+            group,
         },
         None => Form::None,
     }
 }
 
-// Returns what five words ask for.
+// Returns what five words ask for, or six of which the last one is a name.
 fn longest_form<'a>(
     command: &str,
     rules: &'a str,
     demand: &'a str,
     proof: &'a str,
     limit: &str,
+    name: Option<&'a str>,
 ) -> Form<'a>
-    ensures asked { asked result ≡ longest_form command.now rules.now demand.now proof.now limit.now }
+    ensures asked { asked result ≡ longest_form command.now rules.now demand.now proof.now limit.now
+        (option_copied name.entry) }
     ensures numbers { HasNumbers result }
 {
     if command == "solve" {
-        return solve_form(rules, demand, proof, limit_of(limit));
+        return solve_form(rules, demand, proof, limit_of(limit), name);
     }
     if command == "curve" {
-        return curve_form(rules, demand, proof, limit_of(limit));
+        return curve_form(rules, demand, proof, limit_of(limit), name);
     }
     Form::None
 }
@@ -311,11 +332,17 @@ fn long_form<'a>(command: &str, first: &'a str, second: &'a str, third: &'a str)
     short_form(command, first, second, Some(third))
 }
 
+/// No form has more words.
+const MOST_WORDS: usize = 6;
+
 /// Returns what the words ask for.
 pub fn form_of(words: &[String]) -> Form<'_>
     ensures asked { asked result ≡ form_of (map string_bytes words.now) }
     ensures numbers { HasNumbers result }
 {
+    if words.len() > MOST_WORDS {
+        return Form::None;
+    }
     match words {
         [command, rules, word] => {
             short_form(command.as_str(), rules.as_str(), word.as_str(), None)
@@ -332,6 +359,15 @@ pub fn form_of(words: &[String]) -> Form<'_>
             demand.as_str(),
             proof.as_str(),
             limit.as_str(),
+            None,
+        ),
+        [command, rules, demand, proof, limit, name] => longest_form(
+            command.as_str(),
+            rules.as_str(),
+            demand.as_str(),
+            proof.as_str(),
+            limit.as_str(),
+            Some(name.as_str()),
         ),
         _ => Form::None,
     }

@@ -13,11 +13,12 @@ check RULES DEMAND PROOF
 value RULES DEMAND ROSTER
 rest RULES DEMAND ROSTER
 reuse RULES DEMAND PROOF
-solve RULES DEMAND PROOF LIMIT
-curve RULES DEMAND PROOF LIMIT
+solve RULES DEMAND PROOF LIMIT [FROM]
+curve RULES DEMAND PROOF LIMIT [NAME]
 make NUMBER PROOF LIMIT
 LIMIT is 1 to 10000 turns, or 1s to 86400s for seconds; MOST 1 to 1000, NUMBER 0 to 4294967295;
-NAME is a name of the rules to begin at, in place of the start name";
+NAME is a name of the rules to begin at, in place of the start name; of curve the name of a group;
+FROM is an old proof to begin with";
 
 const LIMIT: &str = "LIMIT is a number of turns from 1 to 10000, or of seconds from 1s to 86400s";
 
@@ -55,7 +56,8 @@ fn wrong_number(words: &[String]) -> Option<&'static str> {
         [command, number, _, limit] if command.as_str() == "make" => {
             wrong_of_make(number.as_str(), limit.as_str())
         }
-        [command, _, _, _, limit] if command.as_str() == "solve" || command.as_str() == "curve" => {
+        [command, _, _, _, limit] | [command, _, _, _, limit, _]
+            if command.as_str() == "solve" || command.as_str() == "curve" => {
             wrong(limit_of(limit.as_str()), LIMIT)
         }
         _ => None,

@@ -2,12 +2,13 @@ ghost use Rattle.std.specs.Prelude.{[], map, string_bytes};
 ghost use Rattle.command_line.specs.Form.{form_of};
 ghost use Rattle.command_line.specs.OneAnswer.{HasOneAnswer};
 ghost use Rattle.command_line.specs.Run.{Does};
-ghost use Rattle.text_commands.specs.Reader.{IsReader};
+ghost use Rattle.answers.specs.Reader.{IsReader};
 ghost use Rattle.text_commands.specs.Start.{AnswersNoForm};
 ghost use Rattle.search_commands.specs.Solve.{lent};
 
 use crate::form::{Form, form_of};
 use crate::notes::note_forms;
+use answers::say;
 use branch_price::{Master, Watch};
 use search_commands::curve::curve;
 use search_commands::make::make;
@@ -20,7 +21,6 @@ use text_commands::explain::explain;
 use text_commands::fits::fits;
 use text_commands::next::next;
 use text_commands::rank::rank;
-use text_commands::say::say;
 use text_commands::start::NO_FORM;
 use what_if::rest::rest;
 use what_if::value::value;
@@ -46,10 +46,10 @@ fn refuse_words<S: Shelf>(shelf: &mut S, words: &[String]) -> u8
 /// |---|---|
 /// | 0 | `explain RULES WORD`: the word is a shift; `rank RULES MOST`: the day has a tree; `next RULES PREFIX`: some code may follow the prefix; `fits RULES PATTERN`: a shift fits; `check RULES DEMAND PROOF`: the certificate is accepted; `value RULES DEMAND ROSTER`: the stated roster is allowed; `rest RULES DEMAND ROSTER`: a day remains beside the kept shifts; `reuse RULES DEMAND PROOF`: its nodes show a bound on this day; `solve RULES DEMAND PROOF LIMIT` and `make NUMBER PROOF LIMIT`: a roster was found, and no allowed roster costs less; `curve RULES DEMAND PROOF LIMIT`: so it is for some head count, and every point is closed |
 /// | 1 | `explain`: the word is no shift; `rank`: the day has no tree; `next`: no code may follow; `fits`: no shift fits; `check`: the certificate is refused; `value`: the roster is not allowed; `rest`: no day remains; `reuse`: the nodes are refused; `solve`: no roster is allowed; `curve`: none is for any head count |
-/// | 2 | the words are none of the command's forms; `explain`, `rank`, `next`, `fits`: the rules have no such NAME |
+/// | 2 | the words are none of the command's forms; `explain`, `rank`, `next`, `fits`: the rules have no such NAME; `curve`: the demand has no group NAME |
 /// | 3 | the rules text is refused |
-/// | 4 | `check`, `value`, `rest`, `reuse`, `solve`, `curve`: the demand text is refused; `curve`: the day has groups |
-/// | 5 | `check`, `reuse`: the proof text is refused; `value`, `rest`: the roster text is |
+/// | 4 | `check`, `value`, `rest`, `reuse`, `solve`, `curve`: the demand text is refused; `curve` without a NAME: the day has groups |
+/// | 5 | `check`, `reuse`: the proof text is refused; `value`, `rest`: the roster text is; `solve`: the proof text FROM is |
 /// | 6 | the shelf refused a call, or a text that is no certificate stands where one is to be stored |
 /// | 7 | memory did not suffice |
 /// | 8 | `solve`, `make`: the turns ran out before the bound was the cost; `curve`: so they did for some head count |
@@ -58,7 +58,9 @@ fn refuse_words<S: Shelf>(shelf: &mut S, words: &[String]) -> u8
 /// LIMIT is a number of turns from 1 to 10,000, or one of seconds from 1 to 86,400 with an s behind it; the watch
 /// is told of a search between its turns. MOST is one from 1 to 1,000, and NUMBER one from 0 to 4,294,967,295. In
 /// PATTERN `#` stands for any code. `explain`, `rank`, `next` and `fits` take a name of the rules as a last word, from
-/// which they derive then in place of the start name. A command says its whole
+/// which they derive then in place of the start name. `curve` takes the name of a group of the demand, whose greatest
+/// number it varies, and `solve` the name FROM of an old certificate: what it finds costs no more than the roster of
+/// that, where this is allowed on the day. A command says its whole
 /// answer at once; `solve` and `make` have stored the certificate under PROOF before, and `curve` those of its
 /// points under PROOF, a full stop and the head count. Status 6 or 7 ends it
 /// at the call that was refused. But for these two any two answers over the same texts have the same status and say
@@ -114,13 +116,19 @@ pub fn run<S: Shelf, M: Master, W: Watch>(
             demand,
             proof,
             limit,
-        } => solve(alloc, shelf, rules, demand, proof, limit, master, watch),
+            from,
+        } => solve(
+            alloc, shelf, rules, demand, from, proof, limit, master, watch,
+        ),
         Form::Curve {
             rules,
             demand,
             proof,
             limit,
-        } => curve(alloc, shelf, rules, demand, proof, limit, master, watch),
+            group,
+        } => curve(
+            alloc, shelf, rules, demand, group, proof, limit, master, watch,
+        ),
         Form::Make {
             number,
             proof,

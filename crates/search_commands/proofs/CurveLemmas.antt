@@ -2,9 +2,9 @@
 use Rattle.std.proofs.Common.{◌≡◌, ℕ, List, [], ◌∷◌, Option}
 use Rattle.roster_model.specs.declared.grammar.Grammar.{Grammar}
 use Rattle.shelf.specs.Shelf.{Texts, Told}
-use Rattle.text_commands.specs.Fetch.{IsFetch, NoAnswer}
-use Rattle.text_commands.specs.Reader.{IsReader}
-use Rattle.text_commands.specs.Says as says
+use Rattle.answers.specs.Fetch.{IsFetch, NoAnswer}
+use Rattle.answers.specs.Reader.{IsReader}
+use Rattle.answers.specs.Says as says
 use Rattle.search_commands.specs.declared.limit.Limit.{Limit}
 use Rattle.search_commands.specs.Curve.{CurvesRules, AnswersCurve, MayStoreRules, MayStoreCurve}
 use Rattle.search_commands.specs.Curve as curves
@@ -15,23 +15,23 @@ use Rattle.search_commands.specs.Solve.{MasterView}
 use Rattle.search_commands.proofs.SeriesLemmas.{widen}
 use Rattle.search_commands.proofs.CurveAnswers.{rules-read, rules-unread}
 
-module _ (held : Option Texts) (rules demand proof : List ℕ) where
-  pub may-store : MayStoreDay proof rules demand held → MayStoreCurve proof rules demand held
+module _ (held : Option Texts) (rules demand : List ℕ) (group : Option (List ℕ)) (proof : List ℕ) where
+  pub may-store : MayStoreDay proof group rules demand held → MayStoreCurve proof group rules demand held
   may-store may = λ text holds g is text2 holds2 i day.
       may i (record { grammar = g; rules_say = record { text = text; holds = holds; says = is }; text = text2; holds = holds2; says = day })
 
   module _ (m : MasterView) (limit : Limit) where
-    pub as-curve : (end : End) (stored : List Entry) → AnswersCurve held rules demand proof m limit end stored → CurveAnswers held rules demand proof m limit end stored
+    pub as-curve : (end : End) (stored : List Entry) → AnswersCurve held rules demand group proof m limit end stored → CurveAnswers held rules demand group proof m limit end stored
     as-curve end stored h = by-rules end stored h.answers
       where
-        by-rules : (e : End) (x : List Entry) → curves.CurvesRules held h.text demand proof m limit e x → CurveAnswers held rules demand proof m limit e x
+        by-rules : (e : End) (x : List Entry) → curves.CurvesRules held h.text demand group proof m limit e x → CurveAnswers held rules demand group proof m limit e x
         by-rules e x (curves.CurvesRules.refused o2 k) = tops.rules_refused o2 (record { text = h.text; holds = h.holds; fault = k })
         by-rules e x (curves.CurvesRules.accepted g e2 x2 is k) = by-demand e2 x2 k.answers
           where
             rules_say : says.SaysGrammar held rules g
             rules_say = record { text = h.text; holds = h.holds; says = is }
 
-            by-demand : (e3 : End) (x3 : List Entry) → curves.CurvesDemand g k.text proof m limit e3 x3 → CurveAnswers held rules demand proof m limit e3 x3
+            by-demand : (e3 : End) (x3 : List Entry) → curves.CurvesDemand g k.text group proof m limit e3 x3 → CurveAnswers held rules demand group proof m limit e3 x3
             by-demand e3 x3 (curves.CurvesDemand.refused o4 f) =
                 tops.demand_refused o4 (record { grammar = g; rules_say = rules_say; text = k.text; holds = k.holds; fault = f })
             by-demand e3 x3 (curves.CurvesDemand.accepted i e4 x4 day a) = by-day e4 x4 a
@@ -39,17 +39,17 @@ module _ (held : Option Texts) (rules demand proof : List ℕ) where
                 say : says.SaysDay held rules demand i
                 say = record { grammar = g; rules_say = rules_say; text = k.text; holds = k.holds; says = day }
 
-                by-day : (e5 : End) (x5 : List Entry) → curves.Curving i proof m limit e5 x5 → CurveAnswers held rules demand proof m limit e5 x5
+                by-day : (e5 : End) (x5 : List Entry) → curves.Curving i group proof m limit e5 x5 → CurveAnswers held rules demand group proof m limit e5 x5
                 by-day e5 x5 (curves.found s o x6 f) = tops.searched i s o x6 say f
                 by-day e5 x5 (curves.broken name x6 f) = tops.broken i name x6 say f
-                by-day e5 x5 (curves.too_many o plain f) = tops.too_many_arcs i o say plain f
-                by-day e5 x5 (curves.groups o some e) = tops.groups i o say some e
+                by-day e5 x5 (curves.too_many o staff team f) = tops.too_many_arcs i o staff say team f
+                by-day e5 x5 (curves.no_team s o none f) = tops.no_team i s o say none f
 
-    of-day : (g : Grammar) (rules_say : says.SaysGrammar held rules g) (end : End) (stored : List Entry) → curves.AnswersCurveDemand held g demand proof m limit end stored
-        → AnswersCurve held rules demand proof m limit end stored
+    of-day : (g : Grammar) (rules_say : says.SaysGrammar held rules g) (end : End) (stored : List Entry) → curves.AnswersCurveDemand held g demand group proof m limit end stored
+        → AnswersCurve held rules demand group proof m limit end stored
     of-day g rules_say end stored h = record { text = rules_say.text; holds = rules_say.holds; answers = curves.CurvesRules.accepted g end stored rules_say.says h }
 
-    pub as-curve-parts : (end : End) (stored : List Entry) → CurveAnswers held rules demand proof m limit end stored → AnswersCurve held rules demand proof m limit end stored
+    pub as-curve-parts : (end : End) (stored : List Entry) → CurveAnswers held rules demand group proof m limit end stored → AnswersCurve held rules demand group proof m limit end stored
     as-curve-parts end stored (tops.searched i s o x day a) =
         of-day day.grammar day.rules_say (answered s o) x (record { text = day.text; holds = day.holds; answers = curves.CurvesDemand.accepted i (answered s o) x day.says (curves.found s o x a) })
     as-curve-parts end stored (tops.broken i name x day a) =
@@ -57,24 +57,24 @@ module _ (held : Option Texts) (rules demand proof : List ℕ) where
     as-curve-parts end stored (tops.rules_refused o r) = record { text = r.text; holds = r.holds; answers = curves.CurvesRules.refused o r.fault }
     as-curve-parts end stored (tops.demand_refused o r) =
         of-day r.grammar r.rules_say (answered 4 o) [] (record { text = r.text; holds = r.holds; answers = curves.CurvesDemand.refused o r.fault })
-    as-curve-parts end stored (tops.groups i o day some e) =
-        of-day day.grammar day.rules_say (answered 4 o) [] (record { text = day.text; holds = day.holds; answers = curves.CurvesDemand.accepted i (answered 4 o) [] day.says (curves.groups o some e) })
-    as-curve-parts end stored (tops.too_many_arcs i o day plain a) =
-        of-day day.grammar day.rules_say (answered 9 o) [] (record { text = day.text; holds = day.holds; answers = curves.CurvesDemand.accepted i (answered 9 o) [] day.says (curves.too_many o plain a) })
+    as-curve-parts end stored (tops.no_team i s o day none f) =
+        of-day day.grammar day.rules_say (answered s o) [] (record { text = day.text; holds = day.holds; answers = curves.CurvesDemand.accepted i (answered s o) [] day.says (curves.no_team s o none f) })
+    as-curve-parts end stored (tops.too_many_arcs i o staff day team a) =
+        of-day day.grammar day.rules_say (answered 9 o) [] (record { text = day.text; holds = day.holds; answers = curves.CurvesDemand.accepted i (answered 9 o) [] day.says (curves.too_many o staff team a) })
 
 -- the command once its rules text was fetched, and where it was not
-module _ (proof : List ℕ) (m : MasterView) (limit : Limit) (before after : Told) (status : ℕ) (rules demand : List ℕ) where
-  wider : IsSeriesWriter (AnswersCurve before.held rules demand proof m limit) (rules ∷ demand ∷ []) (MayStoreCurve proof rules demand) before after status
-      → IsSeriesWriter (CurveAnswers before.held rules demand proof m limit) (rules ∷ demand ∷ []) (MayStoreDay proof rules demand) before after status
+module _ (group : Option (List ℕ)) (proof : List ℕ) (m : MasterView) (limit : Limit) (before after : Told) (status : ℕ) (rules demand : List ℕ) where
+  wider : IsSeriesWriter (AnswersCurve before.held rules demand group proof m limit) (rules ∷ demand ∷ []) (MayStoreCurve proof group rules demand) before after status
+      → IsSeriesWriter (CurveAnswers before.held rules demand group proof m limit) (rules ∷ demand ∷ []) (MayStoreDay proof group rules demand) before after status
   wider w =
-      widen (AnswersCurve before.held rules demand proof m limit) (CurveAnswers before.held rules demand proof m limit) (as-curve before.held rules demand proof m limit)
-      (rules ∷ demand ∷ []) (rules ∷ demand ∷ []) (MayStoreDay proof rules demand) (MayStoreCurve proof rules demand) before after status (λ k. k) (may-store before.held rules demand proof) w
+      widen (AnswersCurve before.held rules demand group proof m limit) (CurveAnswers before.held rules demand group proof m limit) (as-curve before.held rules demand group proof m limit)
+      (rules ∷ demand ∷ []) (rules ∷ demand ∷ []) (MayStoreDay proof group rules demand) (MayStoreCurve proof group rules demand) before after status (λ k. k) (may-store before.held rules demand group proof) w
 
   pub command-read : (text : List ℕ) (middle : Told) → IsFetch rules before middle text
-      → IsSeriesWriter (CurvesRules middle.held text demand proof m limit) (demand ∷ []) (MayStoreRules proof text demand) middle after status
-      → IsSeriesWriter (CurveAnswers before.held rules demand proof m limit) (rules ∷ demand ∷ []) (MayStoreDay proof rules demand) before after status
-  command-read text middle f w = wider (rules-read proof m limit before after status rules demand text middle f w)
+      → IsSeriesWriter (CurvesRules middle.held text demand group proof m limit) (demand ∷ []) (MayStoreRules proof group text demand) middle after status
+      → IsSeriesWriter (CurveAnswers before.held rules demand group proof m limit) (rules ∷ demand ∷ []) (MayStoreDay proof group rules demand) before after status
+  command-read text middle f w = wider (rules-read group proof m limit before after status rules demand text middle f w)
 
   pub command-unread : IsReader NoAnswer (rules ∷ []) before after status
-      → IsSeriesWriter (CurveAnswers before.held rules demand proof m limit) (rules ∷ demand ∷ []) (MayStoreDay proof rules demand) before after status
-  command-unread reader = wider (rules-unread proof m limit before after status rules demand reader)
+      → IsSeriesWriter (CurveAnswers before.held rules demand group proof m limit) (rules ∷ demand ∷ []) (MayStoreDay proof group rules demand) before after status
+  command-unread reader = wider (rules-unread group proof m limit before after status rules demand reader)

@@ -21,9 +21,9 @@ use Rattle.made_days.specs.Made.{made_instance, made_under, made_periods, asked}
 use Rattle.made_days.specs.Draws.{draw}
 use Rattle.roster_report.specs.SummaryText.{summary_text}
 use Rattle.shelf.specs.Shelf.{Told}
-use Rattle.text_commands.specs.declared.answer.Answer.{Answer}
-use Rattle.text_commands.specs.Fetch.{IsAnswer}
-use Rattle.text_commands.specs.Reader.{IsReader}
+use Rattle.answers.specs.declared.answer.Answer.{Answer}
+use Rattle.answers.specs.Fetch.{IsAnswer}
+use Rattle.answers.specs.Reader.{IsReader}
 use Rattle.search_commands.specs.Writer.{IsWriter, IsStoredAnswer, StoresNothing}
 use Rattle.search_commands.specs.Make.{AnswersMake, summary_of}
 use Rattle.search_commands.specs.Make as makes
@@ -77,12 +77,17 @@ module _ (number : ℕ) (m : MasterView) (limit : Limit) where
       let some = (for-some limit (λ k. IsSolution (made_instance number) m.strict k s) h).1 in
       let start = some.found.start (made_start number) in
       let same : status ≡ done_status s.found.done = a.0 ∙ f.0 in
+      let finding = finds (made_instance number) m limit s h counted status same in
       rw (a.2) (makes.found status output s.proof (record {
+        found = s.found;
+        denotes = finding.denotes;
+        right = finding.right;
         arcs = s.arcs;
         few = some.arcs;
-        found = s.found;
-        finds = finds (made_instance number) m limit s h counted status same;
         summary = a.1 ∙ f.1;
+        status_is = same;
+        ended = some.found.done;
+        quality = record { searched = finding.searched; counted = finding.counted };
         some = subst (λ (k : ℕ). k ≢ 1) (sym same) (not_none s.found.cert s.found.done start.0 start.1 some.found.done);
       }))
 

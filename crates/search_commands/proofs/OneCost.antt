@@ -103,8 +103,8 @@ report_says i f n a at text =
       text.written ∙ ap (λ (lines : List (List (List ℕ))). written lines) (report_at i r n (text.is.end ∙ at.end) (text.is.cost ∙ at.cost) (text.is.bound ∙ at.bound)),
     )
 
-pub solves-at : (i : Instance) (m n : MasterView) (limit : Limit) (s t : ℕ) (a b x y : List ℕ) → SaysFound i m limit s a x → SaysFound i n limit t b y → s ≡ 0 → t ≡ 0 → SayOneCost a b
-solves-at i m n limit s t a b x y h k p q =
+pub solves-at : (i : Instance) (old : Option Cert) (m n : MasterView) (limit : Limit) (s t : ℕ) (a b x y : List ℕ) → SaysFound i old m limit s a x → SaysFound i old n limit t b y → s ≡ 0 → t ≡ 0 → SayOneCost a b
+solves-at i old m n limit s t a b x y h k p q =
     let c = one_cost i m n limit s t x y h.found k.found h.finds k.finds p q in
     let here = report_says i h.found c.0 a c.1 h.report in
     let there = report_says i k.found c.0 b c.2 k.report in
@@ -123,9 +123,13 @@ summary_at : (number arcs : ℕ) (f : Found) (n : ℕ) → AtCost f n
     → summary_text (summary_of number arcs f) ≡ written (lines_with_cost (first_lines number arcs) n (number_line (codes "processed") f.processed ∷ number_line (codes "failed") f.failed ∷ []))
 summary_at number arcs f n at = rw (at.end, at.cost, at.bound) refl
 
+-- a search of a made day is a search
+pub made-finds : (number : ℕ) (m : MasterView) (limit : Limit) (s : ℕ) (a x : List ℕ) (h : SaysMade number m limit s a x) → Finds (made_instance number) m limit s x h.found
+made-finds number m limit s a x h = record { searched = h.quality.searched; counted = h.quality.counted; status_is = h.status_is; denotes = h.denotes; right = h.right }
+
 pub makes-at : (number : ℕ) (m n : MasterView) (limit : Limit) (s t : ℕ) (a b x y : List ℕ) → SaysMade number m limit s a x → SaysMade number n limit t b y → s ≡ 0 → t ≡ 0 → SayOneCost a b
 makes-at number m n limit s t a b x y h k p q =
-    let c = one_cost (made_instance number) m n limit s t x y h.found k.found h.finds k.finds p q in
+    let c = one_cost (made_instance number) m n limit s t x y h.found k.found (made-finds number m limit s a x h) (made-finds number n limit t b y k) p q in
     let same = one_count (made_instance number).grammar k.arcs h.arcs k.few h.few in
     record {
       first = first_lines number h.arcs;

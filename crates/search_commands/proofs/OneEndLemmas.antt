@@ -18,14 +18,17 @@ use Rattle.branch_price.specs.declared.found.Found.{Found}
 use Rattle.branch_price.specs.Found.{IsDone, IsFound}
 use Rattle.day_solver.specs.Solutions.{HasArcCount}
 use Rattle.made_days.specs.Made.{made_instance}
+use Rattle.proof_pieces.specs.declared.fault.ProofFault.{ProofFault}
+use Rattle.proof_pieces.specs.CertOf.{proof_of}
+use Rattle.proof_pieces.specs.FaultLine as proof
 use Rattle.shelf.specs.Shelf.{Texts}
 use Rattle.search_commands.specs.Make.{AnswersMake}
 use Rattle.search_commands.specs.Make as makes
 use Rattle.search_commands.specs.OneEnd.{EndAlike, SayOneCost}
-use Rattle.search_commands.specs.Solve.{MasterView, Finds, SaysTooManyArcs, Solving, SolvesDemand, AnswersSolveDemand, SolvesRules, AnswersSolve, done_status, arcs_line}
+use Rattle.search_commands.specs.Solve.{MasterView, Finds, SaysTooManyArcs, Solving, SolvesProof, SolvesFrom, SolvesDemand, SolvesRules, AnswersSolve, done_status, arcs_line}
 use Rattle.search_commands.specs.Solve as solves
-use Rattle.search_commands.proofs.OneCost.{never_both, solves-at, makes-at}
-use Rattle.text_commands.proofs.OneReading.{same_text, same_ok, same_err, not_both, same_grammar, no_fault, faults_once}
+use Rattle.search_commands.proofs.OneCost.{never_both, solves-at, makes-at, made-finds}
+use Rattle.answers.proofs.OneReading.{same_text, same_ok, same_err, not_both, same_grammar, no_fault, faults_once}
 
 two_ends : (i : Instance) (c d : Cert) (x y : Done) → YesIsRight i c → YesIsRight i d → IsDone c x → IsDone d y → done_status x ≢ 8 → done_status y ≢ 8 → done_status x ≡ done_status y
 two_ends i c d Equal Equal h k e f p q = refl
@@ -57,36 +60,53 @@ refused_alike s k a b some e = record { refused = λ none. (refl, refl, e); foun
 pub arcs_alike : (g : Grammar) (a b : List ℕ) → SaysTooManyArcs g a → SaysTooManyArcs g b → a ≡ b
 arcs_alike g a b h k = h.line ∙ ap (λ (xs : List ArcKey). arcs_line (length xs)) (one-list g h.listed k.listed h.are k.are) ∙ sym k.line
 
-days_alike : (i : Instance) (m n : MasterView) (limit : Limit) (s t : ℕ) (a b : List ℕ) (x y : Option (List ℕ)) → Solving i m limit s a x → Solving i n limit t b y → EndAlike s t a b x y
-days_alike i m n limit s t a b x y (solves.found p ps z h) (solves.found q qs w k) = found_alike i m n limit s t a b z w h.found k.found h.finds k.finds (solves-at i m n limit s t a b z w h k)
-days_alike i m n limit s t a b x y (solves.found p ps z h) (solves.too_many qs k) = absurd (many_or_few i.grammar b h.arcs k h.few)
-days_alike i m n limit s t a b x y (solves.too_many ps h) (solves.found q qs w k) = absurd (many_or_few i.grammar a k.arcs h k.few)
-days_alike i m n limit s t a b x y (solves.too_many ps h) (solves.too_many qs k) = refused_alike 9 8 a b refl (arcs_alike i.grammar a b h k)
+days_alike : (i : Instance) (old : Option Cert) (m n : MasterView) (limit : Limit) (s t : ℕ) (a b : List ℕ) (x y : Option (List ℕ)) → Solving i old m limit s a x → Solving i old n limit t b y → EndAlike s t a b x y
+days_alike i old m n limit s t a b x y (solves.found p ps z h) (solves.found q qs w k) = found_alike i m n limit s t a b z w h.found k.found h.finds k.finds (solves-at i old m n limit s t a b z w h k)
+days_alike i old m n limit s t a b x y (solves.found p ps z h) (solves.too_many qs k) = absurd (many_or_few i.grammar b h.arcs k h.few)
+days_alike i old m n limit s t a b x y (solves.too_many ps h) (solves.found q qs w k) = absurd (many_or_few i.grammar a k.arcs h k.few)
+days_alike i old m n limit s t a b x y (solves.too_many ps h) (solves.too_many qs k) = refused_alike 9 8 a b refl (arcs_alike i.grammar a b h k)
 
-demands_alike : (g : Grammar) (text : List ℕ) (m n : MasterView) (limit : Limit) (s t : ℕ) (a b : List ℕ) (x y : Option (List ℕ)) → SolvesDemand g text m limit s a x → SolvesDemand g text n limit t b y → EndAlike s t a b x y
-demands_alike g text m n limit s t a b x y (solves.SolvesDemand.accepted i p ps z e h) (solves.SolvesDemand.accepted j q qs w f k) =
-    days_alike j m n limit s t a b x y (subst (λ (d : Instance). Solving d m limit s a x) (same_ok (instance_of g text) i j e.reading f.reading) h) k
-demands_alike g text m n limit s t a b x y (solves.SolvesDemand.accepted i p ps z e h) (solves.SolvesDemand.refused qs k) = absurd (not_both (instance_of g text) i k.fault e.reading k.reading)
-demands_alike g text m n limit s t a b x y (solves.SolvesDemand.refused ps h) (solves.SolvesDemand.accepted j q qs w f k) = absurd (not_both (instance_of g text) j h.fault f.reading h.reading)
-demands_alike g text m n limit s t a b x y (solves.SolvesDemand.refused ps h) (solves.SolvesDemand.refused qs k) =
-    refused_alike 4 3 a b refl (h.line ∙ ap (λ (z : DemandFault). demand.fault_line z) (same_err (instance_of g text) h.fault k.fault h.reading k.reading) ∙ sym k.line)
+proofs_alike : (i : Instance) (text : List ℕ) (m n : MasterView) (limit : Limit) (s t : ℕ) (a b : List ℕ) (x y : Option (List ℕ)) → SolvesProof i text m limit s a x → SolvesProof i text n limit t b y → EndAlike s t a b x y
+proofs_alike i text m n limit s t a b x y (solves.SolvesProof.accepted c p ps z e h) (solves.SolvesProof.accepted d q qs w f k) =
+    days_alike i (Some d) m n limit s t a b x y (subst (λ (o : Cert). Solving i (Some o) m limit s a x) (same_ok (proof_of i text) c d e f) h) k
+proofs_alike i text m n limit s t a b x y (solves.SolvesProof.accepted c p ps z e h) (solves.SolvesProof.refused qs k) = absurd (not_both (proof_of i text) c k.fault e k.reading)
+proofs_alike i text m n limit s t a b x y (solves.SolvesProof.refused ps h) (solves.SolvesProof.accepted d q qs w f k) = absurd (not_both (proof_of i text) d h.fault f h.reading)
+proofs_alike i text m n limit s t a b x y (solves.SolvesProof.refused ps h) (solves.SolvesProof.refused qs k) =
+    refused_alike 5 4 a b refl (h.line ∙ ap (λ (z : ProofFault). proof.fault_line z) (same_err (proof_of i text) h.fault k.fault h.reading k.reading) ∙ sym k.line)
 
-rules_alike : (held : Texts) (text demand : List ℕ) (m n : MasterView) (limit : Limit) (s t : ℕ) (a b : List ℕ) (x y : Option (List ℕ)) → SolvesRules (Some held) text demand m limit s a x → SolvesRules (Some held) text demand n limit t b y → EndAlike s t a b x y
-rules_alike held text demand m n limit s t a b x y (solves.SolvesRules.accepted g p ps z e h) (solves.SolvesRules.accepted f q qs w r k) =
-    demands_alike f k.text m n limit s t a b x y
-    (subst (λ (u : List ℕ). SolvesDemand f u m limit s a x) (same_text held demand h.text k.text h.holds k.holds)
-    (subst (λ (d : Grammar). SolvesDemand d h.text m limit s a x) (same_grammar text g f e.reading r.reading) h.answers)) k.answers
-rules_alike held text demand m n limit s t a b x y (solves.SolvesRules.accepted g p ps z e h) (solves.SolvesRules.refused qs k) = absurd (no_fault text g k.fault e.reading k.reading)
-rules_alike held text demand m n limit s t a b x y (solves.SolvesRules.refused ps h) (solves.SolvesRules.accepted f q qs w r k) = absurd (no_fault text f h.fault r.reading h.reading)
-rules_alike held text demand m n limit s t a b x y (solves.SolvesRules.refused ps h) (solves.SolvesRules.refused qs k) = refused_alike 3 2 a b refl (faults_once text a b h k)
+-- with the name of an old certificate, or without
+froms_alike : (held : Texts) (from : Option (List ℕ)) (i : Instance) (m n : MasterView) (limit : Limit) (s t : ℕ) (a b : List ℕ) (x y : Option (List ℕ)) → SolvesFrom (Some held) i from m limit s a x
+    → SolvesFrom (Some held) i from n limit t b y → EndAlike s t a b x y
+froms_alike held None i m n limit s t a b x y h k = days_alike i None m n limit s t a b x y h k
+froms_alike held (Some name) i m n limit s t a b x y h k =
+    proofs_alike i k.text m n limit s t a b x y (subst (λ (u : List ℕ). SolvesProof i u m limit s a x) (same_text held name h.text k.text h.holds k.holds) h.answers) k.answers
 
-pub solve-ends : (held : Texts) (rules demand : List ℕ) (limit : Limit) (m n : MasterView) (s t : ℕ) (a b : List ℕ) (x y : Option (List ℕ)) → AnswersSolve (Some held) rules demand m limit s a x → AnswersSolve (Some held) rules demand n limit t b y → EndAlike s t a b x y
-solve-ends held rules demand limit m n s t a b x y h k =
-    rules_alike held k.text demand m n limit s t a b x y
-    (subst (λ (u : List ℕ). SolvesRules (Some held) u demand m limit s a x) (same_text held rules h.text k.text h.holds k.holds) h.answers) k.answers
+module _ (held : Texts) (from : Option (List ℕ)) (m n : MasterView) (limit : Limit) where
+  demands_alike : (g : Grammar) (text : List ℕ) (s t : ℕ) (a b : List ℕ) (x y : Option (List ℕ)) → SolvesDemand (Some held) g text from m limit s a x → SolvesDemand (Some held) g text from n limit t b y → EndAlike s t a b x y
+  demands_alike g text s t a b x y (solves.SolvesDemand.accepted i p ps z e h) (solves.SolvesDemand.accepted j q qs w f k) =
+      froms_alike held from j m n limit s t a b x y (subst (λ (d : Instance). SolvesFrom (Some held) d from m limit s a x) (same_ok (instance_of g text) i j e.reading f.reading) h) k
+  demands_alike g text s t a b x y (solves.SolvesDemand.accepted i p ps z e h) (solves.SolvesDemand.refused qs k) = absurd (not_both (instance_of g text) i k.fault e.reading k.reading)
+  demands_alike g text s t a b x y (solves.SolvesDemand.refused ps h) (solves.SolvesDemand.accepted j q qs w f k) = absurd (not_both (instance_of g text) j h.fault f.reading h.reading)
+  demands_alike g text s t a b x y (solves.SolvesDemand.refused ps h) (solves.SolvesDemand.refused qs k) =
+      refused_alike 4 3 a b refl (h.line ∙ ap (λ (z : DemandFault). demand.fault_line z) (same_err (instance_of g text) h.fault k.fault h.reading k.reading) ∙ sym k.line)
+
+  rules_alike : (text demand : List ℕ) (s t : ℕ) (a b : List ℕ) (x y : Option (List ℕ)) → SolvesRules (Some held) text demand from m limit s a x → SolvesRules (Some held) text demand from n limit t b y → EndAlike s t a b x y
+  rules_alike text demand s t a b x y (solves.SolvesRules.accepted g p ps z e h) (solves.SolvesRules.accepted f q qs w r k) =
+      demands_alike f k.text s t a b x y
+      (subst (λ (u : List ℕ). SolvesDemand (Some held) f u from m limit s a x) (same_text held demand h.text k.text h.holds k.holds)
+      (subst (λ (d : Grammar). SolvesDemand (Some held) d h.text from m limit s a x) (same_grammar text g f e.reading r.reading) h.answers)) k.answers
+  rules_alike text demand s t a b x y (solves.SolvesRules.accepted g p ps z e h) (solves.SolvesRules.refused qs k) = absurd (no_fault text g k.fault e.reading k.reading)
+  rules_alike text demand s t a b x y (solves.SolvesRules.refused ps h) (solves.SolvesRules.accepted f q qs w r k) = absurd (no_fault text f h.fault r.reading h.reading)
+  rules_alike text demand s t a b x y (solves.SolvesRules.refused ps h) (solves.SolvesRules.refused qs k) = refused_alike 3 2 a b refl (faults_once text a b h k)
+
+pub solve-ends : (held : Texts) (rules demand : List ℕ) (from : Option (List ℕ)) (limit : Limit) (m n : MasterView) (s t : ℕ) (a b : List ℕ) (x y : Option (List ℕ)) → AnswersSolve (Some held) rules demand from m limit s a x
+    → AnswersSolve (Some held) rules demand from n limit t b y → EndAlike s t a b x y
+solve-ends held rules demand from limit m n s t a b x y h k =
+    rules_alike held from m n limit k.text demand s t a b x y
+    (subst (λ (u : List ℕ). SolvesRules (Some held) u demand from m limit s a x) (same_text held rules h.text k.text h.holds k.holds) h.answers) k.answers
 
 pub make-ends : (number : ℕ) (limit : Limit) (m n : MasterView) (s t : ℕ) (a b : List ℕ) (x y : Option (List ℕ)) → AnswersMake number m limit s a x → AnswersMake number n limit t b y → EndAlike s t a b x y
-make-ends number limit m n s t a b x y (makes.found p ps z h) (makes.found q qs w k) = found_alike (made_instance number) m n limit s t a b z w h.found k.found h.finds k.finds (makes-at number m n limit s t a b z w h k)
+make-ends number limit m n s t a b x y (makes.found p ps z h) (makes.found q qs w k) = found_alike (made_instance number) m n limit s t a b z w h.found k.found (made-finds number m limit s a z h) (made-finds number n limit t b w k) (makes-at number m n limit s t a b z w h k)
 make-ends number limit m n s t a b x y (makes.found p ps z h) (makes.too_many qs k) = absurd (many_or_few (made_instance number).grammar b h.arcs k h.few)
 make-ends number limit m n s t a b x y (makes.too_many ps h) (makes.found q qs w k) = absurd (many_or_few (made_instance number).grammar a k.arcs h k.few)
 make-ends number limit m n s t a b x y (makes.too_many ps h) (makes.too_many qs k) = refused_alike 9 8 a b refl (arcs_alike (made_instance number).grammar a b h k)

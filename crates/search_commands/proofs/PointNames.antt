@@ -6,12 +6,15 @@ use Rattle.std.specs.FinMap as fin
 use Rattle.std.proofs.lemmas.Fmt.{decimal_injective}
 use Rattle.std.proofs.lemmas.List.{append_cancel_left}
 use Rattle.roster_model.specs.declared.instance.Instance.{Instance}
-use Rattle.proof_reuse.specs.Curves.{first_heads, point_count}
+use Rattle.day_curve.specs.declared.staff.Staff.{Staff}
+use Rattle.day_curve.specs.Curves.{first_heads, point_count}
+use Rattle.day_curve.specs.Named.{staff_of}
+use Rattle.day_curve.specs.Staffs.{staff_most}
 use Rattle.shelf.specs.Shelf.{Texts, Told}
 use Rattle.shelf.specs.Stores.{may_replace}
 use Rattle.shelf.proofs.HeldTexts.{AgreesElsewhere-insert}
-use Rattle.text_commands.specs.Reader.{MayStore}
-use Rattle.search_commands.specs.Curve.{Point, point_entries, point_name, MayStorePoints}
+use Rattle.answers.specs.Reader.{MayStore}
+use Rattle.search_commands.specs.Curve.{Point, point_entries, point_name, MayStorePoints, MayStoreTeam}
 use Rattle.search_commands.specs.Series.{with_entries, MayStoreAfter}
 use Rattle.search_commands.specs.Writer.{IsAsked, IsTurnedDown}
 use Rattle.search_commands.proofs.SeriesLemmas.{none_asked, asked_more, asked_later}
@@ -30,24 +33,38 @@ later_stays proof h k (p ∷ ps) t few less =
     ∙ AgreesElsewhere-insert t (point_name proof h) p.stored (point_name proof k) (names_apart proof h k (omega (arith, less)) few)
 
 -- where each point may be stored, the next one may be once the first ones were
-pub may_next : (proof : List ℕ) (i : Instance) (ps : List Point) (held : Option Texts) → length ps < point_count i → i.heads_max ≤ 64 → MayStorePoints proof i held
-    → MayStoreAfter (point_entries proof (first_heads i) ps) (point_name proof (first_heads i + length ps)) held
-may_next proof i ps None fewer few may = may (first_heads i) (omega arith) (omega (arith, fewer))
-may_next proof i ps (Some t) fewer few may =
-    let heads = first_heads i + length ps in
-    let stays = later_stays proof (first_heads i) heads ps t (omega (arith, fewer, few)) (omega arith) in
+pub may_next : (proof : List ℕ) (staff : Staff) (i : Instance) (ps : List Point) (held : Option Texts) → length ps < point_count staff i → staff_most staff i ≤ 64 → MayStoreTeam proof staff i held
+    → MayStoreAfter (point_entries proof (first_heads staff i) ps) (point_name proof (first_heads staff i + length ps)) held
+may_next proof staff i ps None fewer few may = may (first_heads staff i) (omega arith) (omega (arith, fewer))
+may_next proof staff i ps (Some t) fewer few may =
+    let heads = first_heads staff i + length ps in
+    let stays = later_stays proof (first_heads staff i) heads ps t (omega (arith, fewer, few)) (omega arith) in
     subst (λ (o : Option (List ℕ)). IsTrue (may_replace o)) (sym stays) (may heads (omega arith) (omega (arith, fewer)))
 
--- the points that were asked for so far, at a head count of the next one
-module _ (proof : List ℕ) (i : Instance) (heads n : ℕ) (least : first_heads i ≤ heads) (most : heads ≤ first_heads i + n) (more : n < point_count i) where
-  one_point : (held : Option Texts) → MayStorePoints proof i held → MayStore (point_name proof heads) held
+-- the points that were asked for so far, at a greatest number of the next one
+module _ (proof : List ℕ) (staff : Staff) (i : Instance) (heads n : ℕ) (least : first_heads staff i ≤ heads) (most : heads ≤ first_heads staff i + n) (more : n < point_count staff i) where
+  one_point : (held : Option Texts) → MayStoreTeam proof staff i held → MayStore (point_name proof heads) held
   one_point held may = may heads least (omega (arith, most, more))
 
-  pub point-asked : (before middle after : Told) → IsAsked (MayStorePoints proof i) before middle → IsAsked (MayStore (point_name proof heads)) middle after → IsAsked (MayStorePoints proof i) before after
-  point-asked before middle after h k = asked_more (MayStorePoints proof i) (MayStore (point_name proof heads)) before middle after one_point h k
+  pub point-asked : (before middle after : Told) → IsAsked (MayStoreTeam proof staff i) before middle → IsAsked (MayStore (point_name proof heads)) middle after → IsAsked (MayStoreTeam proof staff i) before after
+  point-asked before middle after h k = asked_more (MayStoreTeam proof staff i) (MayStore (point_name proof heads)) before middle after one_point h k
 
-  pub point-left : (before middle after : Told) (status : ℕ) → IsAsked (MayStorePoints proof i) before middle → IsTurnedDown (MayStore (point_name proof heads)) middle after status → IsTurnedDown (MayStorePoints proof i) before after status
-  point-left before middle after status h k = asked_later (MayStorePoints proof i) (MayStore (point_name proof heads)) before middle after status one_point h k
+  pub point-left : (before middle after : Told) (status : ℕ) → IsAsked (MayStoreTeam proof staff i) before middle → IsTurnedDown (MayStore (point_name proof heads)) middle after status → IsTurnedDown (MayStoreTeam proof staff i) before after status
+  point-left before middle after status h k = asked_later (MayStoreTeam proof staff i) (MayStore (point_name proof heads)) before middle after status one_point h k
 
-pub none-asked : (proof : List ℕ) (i : Instance) (told : Told) → IsAsked (MayStorePoints proof i) told told
-none-asked proof i told = none_asked (MayStorePoints proof i) told
+pub none-asked : (proof : List ℕ) (staff : Staff) (i : Instance) (told : Told) → IsAsked (MayStoreTeam proof staff i) told told
+none-asked proof staff i told = none_asked (MayStoreTeam proof staff i) told
+
+-- the names of a team's points, where a name tells the team
+module _ (proof : List ℕ) (group : Option (List ℕ)) (staff : Staff) (i : Instance) (team : staff_of i group ≡ Some staff) where
+  pub team-asked : (before after : Told) → IsAsked (MayStoreTeam proof staff i) before after → IsAsked (MayStorePoints proof group i) before after
+  team-asked before after h = record {
+    held = h.held;
+    said = h.said;
+    never_falls = h.never_falls;
+    stays_steady = h.stays_steady;
+    quiet = λ steady may. h.quiet steady (may staff team);
+  }
+
+  pub team-left : (before after : Told) (status : ℕ) → IsTurnedDown (MayStoreTeam proof staff i) before after status → IsTurnedDown (MayStorePoints proof group i) before after status
+  team-left before after status h = record { asked = team-asked before after h.asked; refused = h.refused; cause = h.cause }

@@ -4,9 +4,9 @@ use Rattle.roster_model.specs.declared.instance.Instance.{Instance}
 use Rattle.certificates.specs.declared.cert.Cert.{Cert}
 use Rattle.proof_reuse.specs.declared.nodes.Reused.{Reused}
 use Rattle.proof_reuse.proofs.OneAnswer.{one-answer}
-use Rattle.reuse_report.specs.ReusedText.{reused_text}
+use Rattle.proof_reuse.specs.ReusedText.{reused_text}
 use Rattle.search_commands.specs.Reuse.{Reusing, reused_status}
-use Rattle.text_commands.proofs.OnceLemmas.{AreSame}
+use Rattle.answers.proofs.OnceLemmas.{AreSame}
 
 pub reused-once : (i : Instance) (c : Cert) (s t : ℕ) (a b : List ℕ) → Reusing i c s a → Reusing i c t b → AreSame s t a b
 reused-once i c s t a b h k =

@@ -3,12 +3,12 @@ use Rattle.std.proofs.Common.{◌≡◌, ℕ, ◌≤◌, ◌<◌, ◌-◌, ◌^�
 use Rattle.std.specs.Prelude.{IfSome, IsSomeAnd, IsTrue}
 use Rattle.std.specs.FinMap as fin
 use Rattle.shelf.specs.Shelf.{Texts, Told, one_more}
-use Rattle.text_commands.specs.Fetch.{IsFetch, NoAnswer}
-use Rattle.text_commands.specs.Reader.{HoldsAll, Said, SaidLittle, IsReader}
+use Rattle.answers.specs.Fetch.{IsFetch, NoAnswer}
+use Rattle.answers.specs.Reader.{HoldsAll, Said, SaidLittle, IsReader}
 use Rattle.search_commands.specs.Series.{Entry, with_entries, End, answered, broken_off, SeriesAnswers, AreStored, StoredSome, StoredOnly, SaidSome, IsSeriesWriter, StoresNoEntry, IsStoredBy, BreaksOff, MayStoreAfter, IsBrokenOff}
 use Rattle.search_commands.specs.Writer.{Keeps, IsAsked, IsTurnedDown}
 use Rattle.search_commands.proofs.Writers.{keeps_joined, keeps_same, no_answer_yet}
-use Rattle.text_commands.proofs.Readers.{more_faults, others_held, quiet_now, no_more}
+use Rattle.answers.proofs.Readers.{more_faults, others_held, quiet_now, no_more}
 
 module _ (A B : SeriesAnswers) (each : (e : End) (entries : List Entry) → A e entries → B e entries) where
   some : (old new : Texts) → StoredSome A old new → StoredSome B old new

@@ -1,5 +1,5 @@
 -- The answers of commands that search, from what their parts answer.
-use Rattle.std.proofs.Common.{◌≡◌, ◌≢◌, ℕ, List, Option, Result, Ok, Err, IfOk, sym, subst, ◌∙◌}
+use Rattle.std.proofs.Common.{◌≡◌, ◌≢◌, ℕ, List, Option, Some, Result, Ok, Err, IfOk, sym, subst, ◌∙◌}
 use Rattle.std.specs.Prelude.{[], ◌∷◌}
 use Rattle.search_commands.specs.declared.limit.Limit.{Limit}
 use Rattle.search_commands.specs.Limits.{ForLimit}
@@ -9,10 +9,15 @@ use Rattle.roster_model.specs.declared.instance.Instance.{Instance}
 use Rattle.roster_model.specs.declared.memory.Memory.{Memory}
 use Rattle.roster_model.specs.Sound.{IsSound}
 use Rattle.roster_model.specs.SoundInstance.{IsSoundInstance}
+use Rattle.certificates.specs.declared.cert.Cert.{Cert}
 use Rattle.demand_lines.specs.declared.fault.DemandFault.{DemandFault}
 use Rattle.demand_lines.specs.declared.fault.DemandFault.TheVariants as demand_faults
 use Rattle.demand_lines.specs.FaultLine as demand
 use Rattle.demand_text.specs.InstanceOf.{instance_of}
+use Rattle.proof_pieces.specs.declared.fault.ProofFault.{ProofFault}
+use Rattle.proof_pieces.specs.declared.fault.ProofFault.TheVariants as proof_faults
+use Rattle.proof_pieces.specs.CertOf.{proof_of}
+use Rattle.proof_pieces.specs.FaultLine as proof
 use Rattle.rules_text.specs.FaultLine.{fault_line}
 use Rattle.rules_text.specs.RulesOf.{IsReading}
 use Rattle.rules_text.specs.declared.fault.RulesFault.{RulesFault}
@@ -23,29 +28,29 @@ use Rattle.parse_graph.specs.Graphs.{IsRefused}
 use Rattle.branch_price.specs.Found.{IsFound, AreCounted}
 use Rattle.day_solver.specs.declared.solution.Solution.{Solution}
 use Rattle.day_solver.specs.Solutions.{IsSolution, IsReportText}
-use Rattle.text_commands.specs.declared.answer.Answer.{Answer}
-use Rattle.text_commands.specs.Fetch.{IsAnswer, IsFetch, NoAnswer}
-use Rattle.text_commands.specs.Reader.{IsReader}
+use Rattle.answers.specs.declared.answer.Answer.{Answer}
+use Rattle.answers.specs.Fetch.{IsAnswer, IsFetch, NoAnswer}
+use Rattle.answers.specs.Reader.{IsReader}
 use Rattle.search_commands.specs.Writer.{IsWriter, IsStoredAnswer, StoresNothing}
-use Rattle.search_commands.specs.Solve.{MasterView, Finds, SaysTooManyArcs, Solving, SolvesDemand, AnswersSolveDemand, SolvesRules, AnswersSolve, done_status}
+use Rattle.search_commands.specs.Solve.{MasterView, Finds, IsNoDearerThanOld, SaysTooManyArcs, Solving, SolvesProof, AnswersSolveProof, SolvesFrom, from_names, SolvesDemand, AnswersSolveDemand, SolvesRules, AnswersSolve, done_status}
 use Rattle.search_commands.specs.Solve as solves
 use Rattle.search_commands.proofs.Writers.{widen, as_writer, refused_fetch, after_fetch}
-use Rattle.text_commands.proofs.Checks.{no_names}
-use Rattle.text_commands.proofs.Readers.{one_held}
+use Rattle.answers.proofs.AskedLemmas.{no_names}
+use Rattle.answers.proofs.Readers.{one_held}
 
-refused_demand : (g : Grammar) (text : List ℕ) (m : MasterView) (limit : Limit) (fault : DemandFault) (r : Result Answer Memory)
+refused_demand : (held : Option Texts) (g : Grammar) (text : List ℕ) (from : Option (List ℕ)) (m : MasterView) (limit : Limit) (fault : DemandFault) (r : Result Answer Memory)
     → IfOk r (λ a. (fault ≢ demand_faults.Memory) × (a.status ≡ 4) × (a.output ≡ demand.fault_line fault)) → (fault ≢ demand_faults.Memory → instance_of g text ≡ Err fault)
-    → (status : ℕ) (output : List ℕ) (stored : Option (List ℕ)) → StoresNothing (IsAnswer r) status output stored → SolvesDemand g text m limit status output stored
-refused_demand g text m limit fault (Err e) h reading status output stored a = absurd a.0
-refused_demand g text m limit fault (Ok x) h reading status output stored a =
+    → (status : ℕ) (output : List ℕ) (stored : Option (List ℕ)) → StoresNothing (IsAnswer r) status output stored → SolvesDemand held g text from m limit status output stored
+refused_demand held g text from m limit fault (Err e) h reading status output stored a = absurd a.0
+refused_demand held g text from m limit fault (Ok x) h reading status output stored a =
     let s : status ≡ 4 = a.0.0 ∙ h.1 in
     rw (s, a.1) (solves.SolvesDemand.refused output (record { fault = fault; reading = reading h.0; line = a.0.1 ∙ h.2 }))
 
-refused_rules : (held : Option Texts) (text demand_name : List ℕ) (m : MasterView) (limit : Limit) (fault : RulesFault) (r : Result Answer Memory)
+refused_rules : (held : Option Texts) (text demand_name : List ℕ) (from : Option (List ℕ)) (m : MasterView) (limit : Limit) (fault : RulesFault) (r : Result Answer Memory)
     → IfOk r (λ a. (fault ≢ rules_faults.Memory) × (a.status ≡ 3) × (a.output ≡ fault_line fault)) → (fault ≢ rules_faults.Memory → IsReading text (Err fault))
-    → (status : ℕ) (output : List ℕ) (stored : Option (List ℕ)) → StoresNothing (IsAnswer r) status output stored → SolvesRules held text demand_name m limit status output stored
-refused_rules held text demand_name m limit fault (Err e) h reading status output stored a = absurd a.0
-refused_rules held text demand_name m limit fault (Ok x) h reading status output stored a =
+    → (status : ℕ) (output : List ℕ) (stored : Option (List ℕ)) → StoresNothing (IsAnswer r) status output stored → SolvesRules held text demand_name from m limit status output stored
+refused_rules held text demand_name from m limit fault (Err e) h reading status output stored a = absurd a.0
+refused_rules held text demand_name from m limit fault (Ok x) h reading status output stored a =
     let s : status ≡ 3 = a.0.0 ∙ h.1 in
     rw (s, a.1) (solves.SolvesRules.refused output (record { fault = fault; reading = reading h.0; line = a.0.1 ∙ h.2 }))
 
@@ -54,18 +59,6 @@ abbrev pub IsArcsAnswer : GraphFault → Answer → Type 0
 IsArcsAnswer fault a = (a.status ≡ 9) × ((g : Grammar) → IsRefused g fault → SaysTooManyArcs g a.output)
 
 module _ (i : Instance) (m : MasterView) (limit : Limit) where
-  refused_graph : (fault : GraphFault) → IsRefused i.grammar fault → (r : Result Answer Memory) → IfOk r (IsArcsAnswer fault)
-      → (status : ℕ) (output : List ℕ) (stored : Option (List ℕ)) → StoresNothing (IsAnswer r) status output stored → Solving i m limit status output stored
-  refused_graph fault refused (Err e) h status output stored a = absurd a.0
-  refused_graph fault refused (Ok x) h status output stored a =
-      let s : status ≡ 9 = a.0.0 ∙ h.0 in
-      rw (s, a.1) (solves.too_many output (subst (λ (o : List ℕ). SaysTooManyArcs i.grammar o) (sym a.0.1) (h.1 i.grammar refused)))
-
-  pub graph-refused : (name : List ℕ) (before after : Told) (status : ℕ) (fault : GraphFault) → IsRefused i.grammar fault → (r : Result Answer Memory) → IfOk r (IsArcsAnswer fault)
-      → IsReader (IsAnswer r) [] before after status → IsWriter (Solving i m limit) [] name before after status
-  graph-refused name before after status fault refused r h reader =
-      widen (StoresNothing (IsAnswer r)) (Solving i m limit) (refused_graph fault refused r h) [] [] name before after status (λ h. h) (as_writer (IsAnswer r) [] name before after status reader)
-
   pub finds : (s : Solution) → ForLimit limit (λ k. IsSolution i m.strict k s) → AreCounted i m.before m.now s.found → (status : ℕ) → status ≡ done_status s.found.done → Finds i m limit status s.proof s.found
   finds s h counted status e =
       let some = (for-some limit (λ k. IsSolution i m.strict k s) h).1 in
@@ -77,69 +70,121 @@ module _ (i : Instance) (m : MasterView) (limit : Limit) where
         right = some.right;
       }
 
-  found_answer : (s : Solution) → ForLimit limit (λ k. IsSolution i m.strict k s) → AreCounted i m.before m.now s.found → (r : Result Answer Memory)
+module _ (i : Instance) (old : Option Cert) (m : MasterView) (limit : Limit) where
+  refused_graph : (fault : GraphFault) → IsRefused i.grammar fault → (r : Result Answer Memory) → IfOk r (IsArcsAnswer fault)
+      → (status : ℕ) (output : List ℕ) (stored : Option (List ℕ)) → StoresNothing (IsAnswer r) status output stored → Solving i old m limit status output stored
+  refused_graph fault refused (Err e) h status output stored a = absurd a.0
+  refused_graph fault refused (Ok x) h status output stored a =
+      let s : status ≡ 9 = a.0.0 ∙ h.0 in
+      rw (s, a.1) (solves.too_many output (subst (λ (o : List ℕ). SaysTooManyArcs i.grammar o) (sym a.0.1) (h.1 i.grammar refused)))
+
+  pub graph-refused : (name : List ℕ) (before after : Told) (status : ℕ) (fault : GraphFault) → IsRefused i.grammar fault → (r : Result Answer Memory) → IfOk r (IsArcsAnswer fault)
+      → IsReader (IsAnswer r) [] before after status → IsWriter (Solving i old m limit) [] name before after status
+  graph-refused name before after status fault refused r h reader =
+      widen (StoresNothing (IsAnswer r)) (Solving i old m limit) (refused_graph fault refused r h) [] [] name before after status (λ h. h) (as_writer (IsAnswer r) [] name before after status reader)
+
+  found_answer : (s : Solution) → IsNoDearerThanOld i old s.found.cert.cost → ForLimit limit (λ k. IsSolution i m.strict k s) → AreCounted i m.before m.now s.found → (r : Result Answer Memory)
       → IfOk r (λ a. (a.status ≡ done_status s.found.done) × IsReportText i s.found a.output)
-      → (status : ℕ) (output : List ℕ) (stored : Option (List ℕ)) → IsStoredAnswer r s.proof status output stored → Solving i m limit status output stored
-  found_answer s h counted (Err e) f status output stored a = absurd a
-  found_answer s h counted (Ok x) f status output stored a =
+      → (status : ℕ) (output : List ℕ) (stored : Option (List ℕ)) → IsStoredAnswer r s.proof status output stored → Solving i old m limit status output stored
+  found_answer s falls h counted (Err e) f status output stored a = absurd a
+  found_answer s falls h counted (Ok x) f status output stored a =
       rw (a.2) (solves.found status output s.proof (record {
         arcs = s.arcs;
         few = (for-some limit (λ k. IsSolution i m.strict k s) h).1.arcs;
         found = s.found;
-        finds = finds s h counted status (a.0 ∙ f.0);
+        finds = finds i m limit s h counted status (a.0 ∙ f.0);
+        falls = falls;
         report = subst (λ (o : List ℕ). IsReportText i s.found o) (sym a.1) f.1;
       }))
 
-  pub solved : (s : Solution) → ForLimit limit (λ k. IsSolution i m.strict k s) → AreCounted i m.before m.now s.found → (r : Result Answer Memory)
+  pub solved : (s : Solution) → IsNoDearerThanOld i old s.found.cert.cost → ForLimit limit (λ k. IsSolution i m.strict k s) → AreCounted i m.before m.now s.found → (r : Result Answer Memory)
       → IfOk r (λ a. (a.status ≡ done_status s.found.done) × IsReportText i s.found a.output)
-      → (name : List ℕ) (before after : Told) (status : ℕ) → IsWriter (IsStoredAnswer r s.proof) [] name before after status → IsWriter (Solving i m limit) [] name before after status
-  solved s h counted r f name before after status w =
-      widen (IsStoredAnswer r s.proof) (Solving i m limit) (found_answer s h counted r f) [] [] name before after status (λ h. h) w
+      → (name : List ℕ) (before after : Told) (status : ℕ) → IsWriter (IsStoredAnswer r s.proof) [] name before after status → IsWriter (Solving i old m limit) [] name before after status
+  solved s falls h counted r f name before after status w =
+      widen (IsStoredAnswer r s.proof) (Solving i old m limit) (found_answer s falls h counted r f) [] [] name before after status (λ h. h) w
 
-module _ (name : List ℕ) (before after : Told) (status : ℕ) (m : MasterView) (limit : Limit) where
+-- an instance and the proof text of an old certificate
+module _ (name : List ℕ) (before after : Told) (status : ℕ) (i : Instance) (m : MasterView) (limit : Limit) where
+  refused_proof : (text : List ℕ) (fault : ProofFault) (r : Result Answer Memory) → IfOk r (λ a. (fault ≢ proof_faults.Memory) × (a.status ≡ 5) × (a.output ≡ proof.fault_line fault))
+      → (fault ≢ proof_faults.Memory → proof_of i text ≡ Err fault) → (status : ℕ) (output : List ℕ) (stored : Option (List ℕ)) → StoresNothing (IsAnswer r) status output stored → SolvesProof i text m limit status output stored
+  refused_proof text fault (Err e) h reading status output stored a = absurd a.0
+  refused_proof text fault (Ok x) h reading status output stored a =
+      let s : status ≡ 5 = a.0.0 ∙ h.1 in
+      rw (s, a.1) (solves.SolvesProof.refused output (record { fault = fault; reading = reading h.0; line = a.0.1 ∙ h.2 }))
+
+  pub proof-refused : (text : List ℕ) (fault : ProofFault) (r : Result Answer Memory) → IfOk r (λ a. (fault ≢ proof_faults.Memory) × (a.status ≡ 5) × (a.output ≡ proof.fault_line fault))
+      → (fault ≢ proof_faults.Memory → proof_of i text ≡ Err fault) → IsReader (IsAnswer r) [] before after status → IsWriter (SolvesProof i text m limit) [] name before after status
+  proof-refused text fault r h reading reader =
+      widen (StoresNothing (IsAnswer r)) (SolvesProof i text m limit) (refused_proof text fault r h reading) [] [] name before after status (λ h. h) (as_writer (IsAnswer r) [] name before after status reader)
+
+  pub proof-accepted : (text : List ℕ) (c : Cert) → proof_of i text ≡ Ok c → IsWriter (Solving i (Some c) m limit) [] name before after status → IsWriter (SolvesProof i text m limit) [] name before after status
+  proof-accepted text c reading w =
+      widen (Solving i (Some c) m limit) (SolvesProof i text m limit) (λ s o x a. solves.SolvesProof.accepted c s o x reading a) [] [] name before after status (λ h. h) w
+
+  -- a proof text that was fetched, and one that was not
+  pub proof-read : (asked text : List ℕ) (middle : Told) → IsFetch asked before middle text → IsWriter (SolvesProof i text m limit) [] name middle after status
+      → IsWriter (AnswersSolveProof before.held i asked m limit) (asked ∷ []) name before after status
+  proof-read asked text middle f w =
+      after_fetch (AnswersSolveProof before.held i asked m limit) asked [] name before middle after status text f
+      (widen (SolvesProof i text m limit) (AnswersSolveProof before.held i asked m limit) (λ s o x a. record { text = text; holds = f.holds; answers = a }) [] [] name middle after status (λ h. h) w)
+
+  pub proof-unread : (asked : List ℕ) → IsReader NoAnswer (asked ∷ []) before after status → IsWriter (AnswersSolveProof before.held i asked m limit) (asked ∷ []) name before after status
+  proof-unread asked reader = refused_fetch (AnswersSolveProof before.held i asked m limit) asked (asked ∷ []) name before after status (λ h. h) reader
+
+module _ (name : List ℕ) (before after : Told) (status : ℕ) (from : Option (List ℕ)) (m : MasterView) (limit : Limit) where
   pub demand-refused : (g : Grammar) (text : List ℕ) (fault : DemandFault) (r : Result Answer Memory)
       → IfOk r (λ a. (fault ≢ demand_faults.Memory) × (a.status ≡ 4) × (a.output ≡ demand.fault_line fault)) → (fault ≢ demand_faults.Memory → instance_of g text ≡ Err fault)
-      → IsReader (IsAnswer r) [] before after status → IsWriter (SolvesDemand g text m limit) [] name before after status
+      → IsReader (IsAnswer r) [] before after status → IsWriter (SolvesDemand before.held g text from m limit) (from_names from) name before after status
   demand-refused g text fault r h reading reader =
-      widen (StoresNothing (IsAnswer r)) (SolvesDemand g text m limit) (refused_demand g text m limit fault r h reading) [] [] name before after status (λ h. h) (as_writer (IsAnswer r) [] name before after status reader)
+      widen (StoresNothing (IsAnswer r)) (SolvesDemand before.held g text from m limit) (refused_demand before.held g text from m limit fault r h reading) (from_names from) [] name before after status
+      (no_names before.held (from_names from)) (as_writer (IsAnswer r) [] name before after status reader)
 
   pub demand-accepted : (g : Grammar) (text : List ℕ) (i : Instance) → instance_of g text ≡ Ok i → IsSoundInstance i
-      → IsWriter (Solving i m limit) [] name before after status → IsWriter (SolvesDemand g text m limit) [] name before after status
+      → IsWriter (SolvesFrom before.held i from m limit) (from_names from) name before after status → IsWriter (SolvesDemand before.held g text from m limit) (from_names from) name before after status
   demand-accepted g text i reading sound w =
-      widen (Solving i m limit) (SolvesDemand g text m limit) (λ s o x a. solves.SolvesDemand.accepted i s o x (record { reading = reading; sound = sound }) a) [] [] name before after status (λ h. h) w
+      widen (SolvesFrom before.held i from m limit) (SolvesDemand before.held g text from m limit) (λ s o x a. solves.SolvesDemand.accepted i s o x (record { reading = reading; sound = sound }) a)
+      (from_names from) (from_names from) name before after status (λ h. h) w
 
   pub rules-refused : (text demand_name : List ℕ) (fault : RulesFault) (r : Result Answer Memory)
       → IfOk r (λ a. (fault ≢ rules_faults.Memory) × (a.status ≡ 3) × (a.output ≡ fault_line fault)) → (fault ≢ rules_faults.Memory → IsReading text (Err fault))
-      → IsReader (IsAnswer r) [] before after status → IsWriter (SolvesRules before.held text demand_name m limit) (demand_name ∷ []) name before after status
+      → IsReader (IsAnswer r) [] before after status → IsWriter (SolvesRules before.held text demand_name from m limit) (demand_name ∷ from_names from) name before after status
   rules-refused text demand_name fault r h reading reader =
-      widen (StoresNothing (IsAnswer r)) (SolvesRules before.held text demand_name m limit) (refused_rules before.held text demand_name m limit fault r h reading) (demand_name ∷ []) [] name before after status
-      (no_names before.held (demand_name ∷ [])) (as_writer (IsAnswer r) [] name before after status reader)
+      widen (StoresNothing (IsAnswer r)) (SolvesRules before.held text demand_name from m limit) (refused_rules before.held text demand_name from m limit fault r h reading) (demand_name ∷ from_names from) []
+      name before after status (no_names before.held (demand_name ∷ from_names from)) (as_writer (IsAnswer r) [] name before after status reader)
 
   pub rules-accepted : (text demand_name : List ℕ) (g : Grammar) → IsReading text (Ok g) → IsSound g
-      → IsWriter (AnswersSolveDemand before.held g demand_name m limit) (demand_name ∷ []) name before after status
-      → IsWriter (SolvesRules before.held text demand_name m limit) (demand_name ∷ []) name before after status
+      → IsWriter (AnswersSolveDemand before.held g demand_name from m limit) (demand_name ∷ from_names from) name before after status
+      → IsWriter (SolvesRules before.held text demand_name from m limit) (demand_name ∷ from_names from) name before after status
   rules-accepted text demand_name g reading sound w =
-      widen (AnswersSolveDemand before.held g demand_name m limit) (SolvesRules before.held text demand_name m limit)
-      (λ s o x a. solves.SolvesRules.accepted g s o x (record { reading = reading; sound = sound }) a) (demand_name ∷ []) (demand_name ∷ []) name before after status (λ h. h) w
+      widen (AnswersSolveDemand before.held g demand_name from m limit) (SolvesRules before.held text demand_name from m limit)
+      (λ s o x a. solves.SolvesRules.accepted g s o x (record { reading = reading; sound = sound }) a) (demand_name ∷ from_names from) (demand_name ∷ from_names from) name before after status (λ h. h) w
 
   -- a demand text that was fetched, and one that was not
-  pub demand-read : (g : Grammar) (asked text : List ℕ) (middle : Told) → IsFetch asked before middle text → IsWriter (SolvesDemand g text m limit) [] name middle after status
-      → IsWriter (AnswersSolveDemand before.held g asked m limit) (asked ∷ []) name before after status
+  pub demand-read : (g : Grammar) (asked text : List ℕ) (middle : Told) → IsFetch asked before middle text
+      → IsWriter (SolvesDemand middle.held g text from m limit) (from_names from) name middle after status
+      → IsWriter (AnswersSolveDemand before.held g asked from m limit) (asked ∷ from_names from) name before after status
   demand-read g asked text middle f w =
-      after_fetch (AnswersSolveDemand before.held g asked m limit) asked [] name before middle after status text f
-      (widen (SolvesDemand g text m limit) (AnswersSolveDemand before.held g asked m limit) (λ s o x a. record { text = text; holds = f.holds; answers = a }) [] [] name middle after status (λ h. h) w)
+      after_fetch (AnswersSolveDemand before.held g asked from m limit) asked (from_names from) name before middle after status text f
+      (widen (SolvesDemand middle.held g text from m limit) (AnswersSolveDemand before.held g asked from m limit)
+      (λ s o x a. record { text = text; holds = f.holds; answers = subst (λ (h : Option Texts). SolvesDemand h g text from m limit s o x) f.held a }) (from_names from) (from_names from) name middle after status (λ h. h) w)
 
-  pub demand-unread : (g : Grammar) (asked : List ℕ) → IsReader NoAnswer (asked ∷ []) before after status → IsWriter (AnswersSolveDemand before.held g asked m limit) (asked ∷ []) name before after status
-  demand-unread g asked reader = refused_fetch (AnswersSolveDemand before.held g asked m limit) asked (asked ∷ []) name before after status (λ h. h) reader
+  pub demand-unread : (g : Grammar) (asked : List ℕ) → IsReader NoAnswer (asked ∷ []) before after status
+      → IsWriter (AnswersSolveDemand before.held g asked from m limit) (asked ∷ from_names from) name before after status
+  demand-unread g asked reader =
+      refused_fetch (AnswersSolveDemand before.held g asked from m limit) asked (asked ∷ from_names from) name before after status (one_held before.held asked (from_names from)) reader
 
   -- a rules text that was fetched, and one that was not
-  pub rules-read : (asked demand_name text : List ℕ) (middle : Told) → IsFetch asked before middle text → IsWriter (SolvesRules middle.held text demand_name m limit) (demand_name ∷ []) name middle after status
-      → IsWriter (AnswersSolve before.held asked demand_name m limit) (asked ∷ demand_name ∷ []) name before after status
+  pub rules-read : (asked demand_name text : List ℕ) (middle : Told) → IsFetch asked before middle text
+      → IsWriter (SolvesRules middle.held text demand_name from m limit) (demand_name ∷ from_names from) name middle after status
+      → IsWriter (AnswersSolve before.held asked demand_name from m limit) (asked ∷ demand_name ∷ from_names from) name before after status
   rules-read asked demand_name text middle f w =
-      after_fetch (AnswersSolve before.held asked demand_name m limit) asked (demand_name ∷ []) name before middle after status text f
-      (widen (SolvesRules middle.held text demand_name m limit) (AnswersSolve before.held asked demand_name m limit)
-      (λ s o x a. record { text = text; holds = f.holds; answers = subst (λ (h : Option Texts). SolvesRules h text demand_name m limit s o x) f.held a }) (demand_name ∷ []) (demand_name ∷ []) name middle after status (λ h. h) w)
+      after_fetch (AnswersSolve before.held asked demand_name from m limit) asked (demand_name ∷ from_names from) name before middle after status text f
+      (widen (SolvesRules middle.held text demand_name from m limit) (AnswersSolve before.held asked demand_name from m limit)
+      (λ s o x a. record { text = text; holds = f.holds; answers = subst (λ (h : Option Texts). SolvesRules h text demand_name from m limit s o x) f.held a })
+      (demand_name ∷ from_names from) (demand_name ∷ from_names from) name middle after status (λ h. h) w)
 
-  pub rules-unread : (asked demand_name : List ℕ) → IsReader NoAnswer (asked ∷ []) before after status → IsWriter (AnswersSolve before.held asked demand_name m limit) (asked ∷ demand_name ∷ []) name before after status
+  pub rules-unread : (asked demand_name : List ℕ) → IsReader NoAnswer (asked ∷ []) before after status
+      → IsWriter (AnswersSolve before.held asked demand_name from m limit) (asked ∷ demand_name ∷ from_names from) name before after status
   rules-unread asked demand_name reader =
-      refused_fetch (AnswersSolve before.held asked demand_name m limit) asked (asked ∷ demand_name ∷ []) name before after status (one_held before.held asked (demand_name ∷ [])) reader
+      refused_fetch (AnswersSolve before.held asked demand_name from m limit) asked (asked ∷ demand_name ∷ from_names from) name before after status
+      (one_held before.held asked (demand_name ∷ from_names from)) reader

@@ -4,10 +4,10 @@ use Rattle.std.specs.Prelude.{IfSome, IsSomeAnd, IsTrue}
 use Rattle.std.specs.FinMap as fin
 use Rattle.shelf.specs.Shelf.{Texts, Told, AgreesElsewhere, one_more}
 use Rattle.shelf.specs.Stores.{may_replace, may_store}
-use Rattle.text_commands.specs.Fetch.{IsFetch, NoAnswer}
-use Rattle.text_commands.specs.Reader.{HoldsAll, MayStore, Said, SaidLittle, IsReader}
+use Rattle.answers.specs.Fetch.{IsFetch, NoAnswer}
+use Rattle.answers.specs.Reader.{HoldsAll, MayStore, Said, SaidLittle, IsReader}
 use Rattle.search_commands.specs.Writer.{Answers, Keeps, IsStored, WroteLittle, IsWriter, IsAsked, IsTurnedDown, StoresNothing}
-use Rattle.text_commands.proofs.Readers.{more_faults, no_more, others_held, quiet_now}
+use Rattle.answers.proofs.Readers.{more_faults, no_more, others_held, quiet_now}
 
 pub keeps_same : (old new : Option Texts) → new ≡ old → Keeps old new
 keeps_same None new e = tt

@@ -1,12 +1,16 @@
 -- What `make NUMBER PROOF LIMIT` answers.
-use Rattle.std.specs.Prelude.{ℕ, ◌≡◌, ◌≢◌, List, Option, None, Some}
+use Rattle.std.specs.Prelude.{ℕ, ◌≡◌, ◌≢◌, List, Option, None, Some, Ok}
 use Rattle.search_commands.specs.declared.limit.Limit.{Limit}
 use Rattle.branch_price.specs.declared.found.Found.{Found}
 use Rattle.day_solver.specs.Solutions.{HasArcCount}
 use Rattle.made_days.specs.Made.{made_instance}
 use Rattle.roster_report.specs.declared.summary.Summary.{Summary}
 use Rattle.roster_report.specs.SummaryText.{summary_text}
-use Rattle.search_commands.specs.Solve.{MasterView, Finds, SaysTooManyArcs}
+use Rattle.search_commands.specs.Solve.{MasterView, SaysTooManyArcs, done_status}
+use Rattle.search_commands.specs.SolveAnswers.{IsSearched}
+use Rattle.branch_price.specs.Found.{IsDone}
+use Rattle.certificate_laws.specs.Right.{YesIsRight}
+use Rattle.proof_pieces.specs.CertOf.{proof_of}
 
 -- the summary of a search on the day that is made from a number
 abbrev pub summary_of : ℕ → ℕ → Found → Summary
@@ -21,15 +25,20 @@ summary_of number arcs f = record {
   failed = f.failed;
 }
 
--- status 0 or 8: the certificate is stored, and its summary is said
+-- Statuses 0 and 8. The stored text alone denotes a certificate, and what that states is true; the summary is that of
+-- the search, and the status says how it ended: 0 where the bound is the cost. Some roster is allowed: that without a
+-- shift.
 pub record SaysMade (number : ℕ) (m : MasterView) (limit : Limit) (status : ℕ) (output stored : List ℕ) : Type 0 where
+  pub found : Found
+  pub denotes : proof_of (made_instance number) stored ≡ Ok found.cert
+  pub right : YesIsRight (made_instance number) found.cert
   pub arcs : ℕ
   pub few : HasArcCount (made_instance number).grammar arcs
-  pub found : Found
-  pub finds : Finds (made_instance number) m limit status stored found
   pub summary : output ≡ summary_text (summary_of number arcs found)
-  -- the roster without a shift is allowed
+  pub status_is : status ≡ done_status found.done
+  pub ended : IsDone found.cert found.done
   pub some : status ≢ 1
+  pub quality : IsSearched (made_instance number) m limit found
 
 -- the answers to a number
 pub data AnswersMake (number : ℕ) (m : MasterView) (limit : Limit) : ℕ → List ℕ → Option (List ℕ) → Type 0 where

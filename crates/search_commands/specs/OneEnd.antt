@@ -2,8 +2,8 @@
 use Rattle.std.specs.Prelude.{ℕ, ◌≡◌, ◌≢◌, List, [], ◌∷◌, ◌++◌, Option, None, Some, codes, map}
 use Rattle.text_lines.specs.Written.{written}
 use Rattle.certificate_text.specs.Written.{amount_words}
-use Rattle.reuse_report.specs.declared.points.CurvePoint.{CurvePoint}
-use Rattle.reuse_report.specs.CurveText.{curve_text}
+use Rattle.day_curve.specs.declared.points.CurvePoint.{CurvePoint}
+use Rattle.day_curve.specs.CurveText.{curve_text}
 use Rattle.search_commands.specs.Series.{Entry, answered, SeriesAnswers}
 use Rattle.search_commands.specs.Solve.{MasterView}
 use Rattle.search_commands.specs.Writer.{Answers}
@@ -26,12 +26,13 @@ pub record SayOneCost (a b : List ℕ) : Type 0 where
 abbrev pub costs_of : CurvePoint → CurvePoint
 costs_of p = record p { processed = 0; failed = 0 }
 
--- two texts say curves of the same head counts, costs and bounds
+-- two texts say curves over one team, of the same greatest numbers, costs and bounds
 pub record SayOneCurve (a b : List ℕ) : Type 0 where
+  pub group : Option (List ℕ)
   pub points : List CurvePoint
   pub others : List CurvePoint
-  pub one : a ≡ curve_text points
-  pub other : b ≡ curve_text others
+  pub one : a ≡ curve_text group points
+  pub other : b ≡ curve_text group others
   pub same : map costs_of points ≡ map costs_of others
 
 -- two answers of a command that searches: a refusal of the texts is the only answer to them, and two searches

@@ -5,7 +5,7 @@ use Rattle.certificates.specs.declared.cert.Cert.{Cert}
 use Rattle.proof_reuse.specs.declared.nodes.Reused.{Reused}
 use Rattle.proof_reuse.specs.declared.nodes.Reused.TheVariants.{Bound, Refused}
 use Rattle.proof_reuse.specs.Reuse.{IsReuse}
-use Rattle.reuse_report.specs.ReusedText.{reused_text}
+use Rattle.proof_reuse.specs.ReusedText.{reused_text}
 
 -- 0 for a bound, and 1 for a refusal
 abbrev pub reused_status : Reused → ℕ

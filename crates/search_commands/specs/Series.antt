@@ -3,7 +3,7 @@ use Rattle.std.specs.Prelude.{ℕ, ◌≡◌, ◌≢◌, ◌⊎◌, ◌<◌, ◌
 use Rattle.std.specs.FinMap as fin
 use Rattle.shelf.specs.Shelf.{Texts, Told, AgreesElsewhere, one_more, most_faults}
 use Rattle.shelf.specs.Stores.{may_store}
-use Rattle.text_commands.specs.Reader.{HoldsAll, Said}
+use Rattle.answers.specs.Reader.{HoldsAll, Said}
 use Rattle.search_commands.specs.Writer.{Keeps}
 
 -- a text and the name that it is stored under

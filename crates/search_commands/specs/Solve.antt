@@ -1,5 +1,5 @@
--- What `solve RULES DEMAND PROOF LIMIT` answers.
-use Rattle.std.specs.Prelude.{ℕ, ◌≡◌, ◌<◌, ◌++◌, Bool, List, Option, None, Some, Ok, codes, length}
+-- What `solve RULES DEMAND PROOF LIMIT` answers, and `solve RULES DEMAND PROOF LIMIT FROM`.
+use Rattle.std.specs.Prelude.{ℕ, ◌≡◌, ◌<◌, ◌++◌, Bool, List, [], ◌∷◌, Option, None, Some, Ok, codes, length}
 use Rattle.std.specs.Fmt.{decimal}
 use Rattle.search_commands.specs.declared.limit.Limit.{Limit}
 use Rattle.search_commands.specs.Limits.{ForLimit}
@@ -9,15 +9,16 @@ use Rattle.roster_model.specs.declared.instance.Done.{Done}
 use Rattle.roster_model.specs.declared.instance.Done.TheVariants.{Equal, NoRoster, TurnsOut}
 use Rattle.roster_model.specs.declared.instance.Instance.{Instance}
 use Rattle.arc_laws.specs.Lists.{AreArcs}
+use Rattle.certificates.specs.declared.cert.Cert.{Cert}
 use Rattle.certificate_laws.specs.Right.{YesIsRight}
 use Rattle.branch_price.specs.declared.found.Found.{Found}
 use Rattle.branch_price.specs.Found.{IsFound, AreCounted}
+use Rattle.branch_price.specs.OldRosters.{IsNoDearerThan}
 use Rattle.day_solver.specs.Solutions.{HasArcCount, IsReportText}
 use Rattle.proof_pieces.specs.CertOf.{proof_of}
 use Rattle.shelf.specs.Shelf.{Texts}
-use Rattle.text_commands.specs.Check.{IsInstanceOf, SaysDemandFault}
-use Rattle.text_commands.specs.Explain.{IsGrammarOf, SaysFault}
-use Rattle.text_commands.specs.Reader.{Holds}
+use Rattle.answers.specs.Readings.{IsInstanceOf, SaysDemandFault, SaysProofFault, IsGrammarOf, SaysFault}
+use Rattle.answers.specs.Reader.{Holds}
 
 -- a master: whether it refuses hard nodes alone, and how many nodes it had refused before and has refused now
 pub record MasterView : Type 0 where
@@ -49,13 +50,19 @@ pub record Finds (i : Instance) (m : MasterView) (limit : Limit) (status : ℕ) 
   pub denotes : proof_of i stored ≡ Ok f.cert
   pub right : YesIsRight i f.cert
 
+-- the cost is at most that of the roster of an old certificate, where there is one and the roster is allowed
+abbrev pub IsNoDearerThanOld : Instance → Option Cert → Option ℕ → Type 0
+IsNoDearerThanOld i None cost = Unit {0}
+IsNoDearerThanOld i (Some c) cost = IsNoDearerThan i c.shifts cost
+
 -- status 0, 1 or 8: the certificate is stored, and its report is said
-pub record SaysFound (i : Instance) (m : MasterView) (limit : Limit) (status : ℕ)
+pub record SaysFound (i : Instance) (old : Option Cert) (m : MasterView) (limit : Limit) (status : ℕ)
     (output stored : List ℕ) : Type 0 where
   pub arcs : ℕ
   pub few : HasArcCount i.grammar arcs
   pub found : Found
   pub finds : Finds i m limit status stored found
+  pub falls : IsNoDearerThanOld i old found.cert.cost
   pub report : IsReportText i found output
 
 -- the line of an instance with too many arcs
@@ -69,38 +76,66 @@ pub record SaysTooManyArcs (g : Grammar) (output : List ℕ) : Type 0 where
   pub many : 100000 < length listed
   pub line : output ≡ arcs_line (length listed)
 
--- the answers for an instance
-pub data Solving (i : Instance) (m : MasterView) (limit : Limit) : ℕ → List ℕ → Option (List ℕ) → Type 0 where
-  found : (status : ℕ) (output stored : List ℕ) → SaysFound i m limit status output stored
-      → Solving i m limit status output (Some stored)
-  too_many : (output : List ℕ) → SaysTooManyArcs i.grammar output → Solving i m limit 9 output None
+-- the answers for an instance and an old certificate, if there is one
+pub data Solving (i : Instance) (old : Option Cert) (m : MasterView) (limit : Limit) :
+    ℕ → List ℕ → Option (List ℕ) → Type 0 where
+  found : (status : ℕ) (output stored : List ℕ) → SaysFound i old m limit status output stored
+      → Solving i old m limit status output (Some stored)
+  too_many : (output : List ℕ) → SaysTooManyArcs i.grammar output → Solving i old m limit 9 output None
+
+-- the answers for an instance and the proof text of an old certificate
+pub data SolvesProof (i : Instance) (text : List ℕ) (m : MasterView) (limit : Limit) :
+    ℕ → List ℕ → Option (List ℕ) → Type 0 where
+  accepted : (c : Cert) (status : ℕ) (output : List ℕ) (stored : Option (List ℕ)) → proof_of i text ≡ Ok c
+      → Solving i (Some c) m limit status output stored → SolvesProof i text m limit status output stored
+  refused : (output : List ℕ) → SaysProofFault i text output → SolvesProof i text m limit 5 output None
+
+-- the same, where the proof text stands under a name
+pub record AnswersSolveProof (held : Option Texts) (i : Instance) (name : List ℕ) (m : MasterView) (limit : Limit)
+    (status : ℕ) (output : List ℕ) (stored : Option (List ℕ)) : Type 0 where
+  pub text : List ℕ
+  pub holds : Holds held name text
+  pub answers : SolvesProof i text m limit status output stored
+
+-- the answers for an instance and the name of an old certificate, if one is said
+abbrev pub SolvesFrom : Option Texts → Instance → Option (List ℕ) → MasterView → Limit → ℕ → List ℕ
+    → Option (List ℕ) → Type 0
+SolvesFrom held i None m limit status output stored = Solving i None m limit status output stored
+SolvesFrom held i (Some name) m limit status output stored = AnswersSolveProof held i name m limit status output stored
+
+-- the names of texts that are fetched for it
+abbrev pub from_names : Option (List ℕ) → List (List ℕ)
+from_names None = []
+from_names (Some name) = name ∷ []
 
 -- the answers to a demand text
-pub data SolvesDemand (g : Grammar) (text : List ℕ) (m : MasterView) (limit : Limit) :
-    ℕ → List ℕ → Option (List ℕ) → Type 0 where
+pub data SolvesDemand (held : Option Texts) (g : Grammar) (text : List ℕ) (from : Option (List ℕ)) (m : MasterView)
+    (limit : Limit) : ℕ → List ℕ → Option (List ℕ) → Type 0 where
   accepted : (i : Instance) (status : ℕ) (output : List ℕ) (stored : Option (List ℕ)) → IsInstanceOf g text i
-      → Solving i m limit status output stored → SolvesDemand g text m limit status output stored
-  refused : (output : List ℕ) → SaysDemandFault g text output → SolvesDemand g text m limit 4 output None
+      → SolvesFrom held i from m limit status output stored
+      → SolvesDemand held g text from m limit status output stored
+  refused : (output : List ℕ) → SaysDemandFault g text output
+      → SolvesDemand held g text from m limit 4 output None
 
 -- the same, where the demand text stands under a name
-pub record AnswersSolveDemand (held : Option Texts) (g : Grammar) (name : List ℕ) (m : MasterView)
+pub record AnswersSolveDemand (held : Option Texts) (g : Grammar) (name : List ℕ) (from : Option (List ℕ))
+    (m : MasterView) (limit : Limit) (status : ℕ) (output : List ℕ) (stored : Option (List ℕ)) : Type 0 where
+  pub text : List ℕ
+  pub holds : Holds held name text
+  pub answers : SolvesDemand held g text from m limit status output stored
+
+-- the answers to a rules text, and then to the demand text under a name
+pub data SolvesRules (held : Option Texts) (text demand_name : List ℕ) (from : Option (List ℕ)) (m : MasterView)
+    (limit : Limit) : ℕ → List ℕ → Option (List ℕ) → Type 0 where
+  accepted : (g : Grammar) (status : ℕ) (output : List ℕ) (stored : Option (List ℕ)) → IsGrammarOf text g
+      → AnswersSolveDemand held g demand_name from m limit status output stored
+      → SolvesRules held text demand_name from m limit status output stored
+  refused : (output : List ℕ) → SaysFault text output
+      → SolvesRules held text demand_name from m limit 3 output None
+
+-- the same, where the rules text stands under a name
+pub record AnswersSolve (held : Option Texts) (name demand_name : List ℕ) (from : Option (List ℕ)) (m : MasterView)
     (limit : Limit) (status : ℕ) (output : List ℕ) (stored : Option (List ℕ)) : Type 0 where
   pub text : List ℕ
   pub holds : Holds held name text
-  pub answers : SolvesDemand g text m limit status output stored
-
--- the answers to a rules text, and then to the demand text under a name
-pub data SolvesRules (held : Option Texts) (text demand_name : List ℕ) (m : MasterView) (limit : Limit) :
-    ℕ → List ℕ → Option (List ℕ) → Type 0 where
-  accepted : (g : Grammar) (status : ℕ) (output : List ℕ) (stored : Option (List ℕ)) → IsGrammarOf text g
-      → AnswersSolveDemand held g demand_name m limit status output stored
-      → SolvesRules held text demand_name m limit status output stored
-  refused : (output : List ℕ) → SaysFault text output
-      → SolvesRules held text demand_name m limit 3 output None
-
--- the same, where the rules text stands under a name
-pub record AnswersSolve (held : Option Texts) (name demand_name : List ℕ) (m : MasterView) (limit : Limit) (status : ℕ)
-    (output : List ℕ) (stored : Option (List ℕ)) : Type 0 where
-  pub text : List ℕ
-  pub holds : Holds held name text
-  pub answers : SolvesRules held text demand_name m limit status output stored
+  pub answers : SolvesRules held text demand_name from m limit status output stored

@@ -1,16 +1,17 @@
--- What `solve RULES DEMAND PROOF LIMIT` answers, by its statuses.
+-- What `solve RULES DEMAND PROOF LIMIT` answers, and `solve RULES DEMAND PROOF LIMIT FROM`, by its statuses.
 use Rattle.std.specs.Prelude.{ℕ, ◌≡◌, List, Option, None, Some, Ok}
 use Rattle.roster_model.specs.declared.instance.Instance.{Instance}
 use Rattle.branch_price.specs.declared.found.Found.{Found}
 use Rattle.branch_price.specs.Found.{IsFound, IsDone, AreCounted}
+use Rattle.certificates.specs.declared.cert.Cert.{Cert}
 use Rattle.certificate_laws.specs.Right.{YesIsRight}
 use Rattle.day_solver.specs.Solutions.{HasArcCount, IsReportText}
 use Rattle.proof_pieces.specs.CertOf.{proof_of}
 use Rattle.shelf.specs.Shelf.{Texts}
-use Rattle.text_commands.specs.Says.{SaysDay, RefusesRules, RefusesDemand}
+use Rattle.answers.specs.Says.{SaysDay, SaysCert, RefusesRules, RefusesDemand, RefusesProof}
 use Rattle.search_commands.specs.declared.limit.Limit.{Limit}
 use Rattle.search_commands.specs.Limits.{ForLimit}
-use Rattle.search_commands.specs.Solve.{MasterView, SaysTooManyArcs, done_status}
+use Rattle.search_commands.specs.Solve.{MasterView, SaysTooManyArcs, done_status, IsNoDearerThanOld}
 
 -- how well a day was searched: the certificate is accepted, its bound is what its tree shows, its nodes are right,
 -- and all turns were used unless the bound is the cost or no roster is allowed
@@ -21,25 +22,38 @@ pub record IsSearched (i : Instance) (m : MasterView) (limit : Limit) (f : Found
 -- Statuses 0, 1 and 8. The stored text alone denotes a certificate, and what that states is true: its shifts are an
 -- allowed roster of exactly its cost, and no allowed roster costs less than its bound. The report is that of this
 -- roster, and the status says how the search ended: 0 where the bound is the cost, 1 where no roster is allowed.
-pub record IsSolved (i : Instance) (m : MasterView) (limit : Limit) (status : ℕ) (output stored : List ℕ) :
-    Type 0 where
+-- Where the roster of an old certificate is allowed, this one costs no more.
+pub record IsSolved (i : Instance) (old : Option Cert) (m : MasterView) (limit : Limit) (status : ℕ)
+    (output stored : List ℕ) : Type 0 where
   pub found : Found
   pub denotes : proof_of i stored ≡ Ok found.cert
   pub right : YesIsRight i found.cert
   pub report : IsReportText i found output
   pub status_is : status ≡ done_status found.done
   pub ended : IsDone found.cert found.done
+  pub falls : IsNoDearerThanOld i old found.cert.cost
   pub arcs : ℕ
   pub few : HasArcCount i.grammar arcs
   pub quality : IsSearched i m limit found
 
-pub data SolveAnswers (held : Option Texts) (rules demand : List ℕ) (m : MasterView) (limit : Limit) :
-    ℕ → List ℕ → Option (List ℕ) → Type 0 where
-  solved : (i : Instance) (status : ℕ) (output stored : List ℕ) → SaysDay held rules demand i
-      → IsSolved i m limit status output stored → SolveAnswers held rules demand m limit status output (Some stored)
+-- the certificate that the proof text under a name says, where a name is said
+abbrev pub SaysOld : Option Texts → Instance → Option (List ℕ) → Option Cert → Type 0
+SaysOld held i None None = Unit {0}
+SaysOld held i None (Some c) = ⊥
+SaysOld held i (Some name) None = ⊥
+SaysOld held i (Some name) (Some c) = SaysCert held i name c
+
+pub data SolveAnswers (held : Option Texts) (rules demand : List ℕ) (from : Option (List ℕ)) (m : MasterView)
+    (limit : Limit) : ℕ → List ℕ → Option (List ℕ) → Type 0 where
+  solved : (i : Instance) (old : Option Cert) (status : ℕ) (output stored : List ℕ) → SaysDay held rules demand i
+      → SaysOld held i from old → IsSolved i old m limit status output stored
+      → SolveAnswers held rules demand from m limit status output (Some stored)
   rules_refused : (output : List ℕ) → RefusesRules held rules output
-      → SolveAnswers held rules demand m limit 3 output None
+      → SolveAnswers held rules demand from m limit 3 output None
   demand_refused : (output : List ℕ) → RefusesDemand held rules demand output
-      → SolveAnswers held rules demand m limit 4 output None
-  too_many_arcs : (i : Instance) (output : List ℕ) → SaysDay held rules demand i → SaysTooManyArcs i.grammar output
-      → SolveAnswers held rules demand m limit 9 output None
+      → SolveAnswers held rules demand from m limit 4 output None
+  proof_refused : (i : Instance) (name output : List ℕ) → SaysDay held rules demand i → from ≡ Some name
+      → RefusesProof held i name output → SolveAnswers held rules demand from m limit 5 output None
+  too_many_arcs : (i : Instance) (old : Option Cert) (output : List ℕ) → SaysDay held rules demand i
+      → SaysOld held i from old → SaysTooManyArcs i.grammar output
+      → SolveAnswers held rules demand from m limit 9 output None

@@ -5,7 +5,7 @@ use Rattle.certificates.specs.declared.cert.Cert.{Cert}
 use Rattle.proof_reuse.specs.declared.nodes.Reused.{Reused}
 use Rattle.proof_reuse.specs.declared.nodes.Reused.TheVariants.{Bound, Refused}
 use Rattle.search_commands.specs.Reuse.{Reusing, reused_status}
-use Rattle.text_commands.specs.Statuses.{ends_at}
+use Rattle.answers.specs.Statuses.{ends_at}
 
 reused_at : (s : ℕ) (r : Reused) → s ≡ reused_status r → (s ≢ 6) × (s ≢ 7)
 reused_at s (Bound bound) e = ends_at s 0 e (omega arith)

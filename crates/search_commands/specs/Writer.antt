@@ -4,8 +4,8 @@ use Rattle.std.specs.FinMap as fin
 use Rattle.roster_model.specs.declared.memory.Memory.{Memory}
 use Rattle.shelf.specs.Shelf.{Texts, Told, AgreesElsewhere, one_more, most_faults}
 use Rattle.shelf.specs.Stores.{may_store}
-use Rattle.text_commands.specs.declared.answer.Answer.{Answer}
-use Rattle.text_commands.specs.Reader.{HoldsAll, MayStore, Said}
+use Rattle.answers.specs.declared.answer.Answer.{Answer}
+use Rattle.answers.specs.Reader.{HoldsAll, MayStore, Said}
 
 -- answers by status, by what is said and by what is stored before, if anything is
 abbrev pub Answers : Type 1

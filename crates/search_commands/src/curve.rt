@@ -1,12 +1,16 @@
-ghost use Rattle.std.specs.Prelude.{ℕ, ◌≡◌, ◌≢◌, ◌≤◌, ◌<◌, ◌+◌, [], ◌∷◌, string_bytes, IfOk, MatchResult};
+ghost use Rattle.std.specs.Prelude.{ℕ, ◌≡◌, ◌≤◌, ◌<◌, Bool, [], ◌∷◌, string_bytes, IfOk, MatchResult};
+ghost use Rattle.std.specs.Option.{option_copied};
 ghost use Rattle.std.specs.List.{list_all};
-ghost use Rattle.day_solver.specs.Solutions.{HasArcCount};
-ghost use Rattle.proof_reuse.specs.Curves.{first_heads, point_count};
-ghost use Rattle.reuse_report.specs.CurveText.{curve_text, point_of};
+ghost use Rattle.day_solver.specs.Solutions.{HasArcCount, IsSolution};
+ghost use Rattle.day_curve.specs.Curves.{point_day, point_heads, points_of};
+ghost use Rattle.day_curve.specs.CurveText.{curve_text, point_of};
+ghost use Rattle.day_curve.specs.Named.{staff_of};
+ghost use Rattle.day_curve.specs.Staffs.{IsStaff, staff_most};
 ghost use Rattle.roster_model.specs.Sound.{IsPlain, IsSound};
 ghost use Rattle.roster_model.specs.SoundInstance.{IsSoundInstance};
 ghost use Rattle.search_commands.specs.Curve.{
   AnswersCurveDemand,
+  AnswersGroups,
   Curving,
   CurvesDemand,
   CurvesRules,
@@ -14,6 +18,8 @@ ghost use Rattle.search_commands.specs.Curve.{
   MayStoreHeldDemand,
   MayStorePoints,
   MayStoreRules,
+  MayStoreTeam,
+  SaysNoTeam,
   curve_status,
   has_no_cost,
   is_closed,
@@ -21,8 +27,9 @@ ghost use Rattle.search_commands.specs.Curve.{
 };
 ghost use Rattle.search_commands.specs.CurveAnswers.{CurveAnswers, MayStoreDay};
 ghost use Rattle.search_commands.specs.Limits.{IsLimit};
-ghost use Rattle.search_commands.specs.Points.{AnswersGroups, BreaksCurve, FindsFirst, FindsPoint};
-ghost use Rattle.text_commands.specs.Reader.{IsReader, MayStore};
+ghost use Rattle.search_commands.specs.Points.{BreaksCurve, FindsFirst, FindsPoint, next_heads};
+ghost use Rattle.answers.specs.Reader.{IsReader, MayStore};
+ghost use Rattle.text_commands.specs.Start.{AnswersNoForm};
 ghost use Rattle.search_commands.specs.Series.{IsBrokenOff, IsSeriesWriter, IsStoredBy};
 ghost use Rattle.search_commands.specs.Solve.{lent};
 ghost use Rattle.search_commands.specs.Writer.{IsAsked, IsTurnedDown};
@@ -30,21 +37,20 @@ ghost use Rattle.search_commands.specs.Writer.{IsAsked, IsTurnedDown};
 use crate::limit::Limit;
 use crate::solve::graph_refusal;
 use crate::store::ask_name;
+use answers::{
+    Answer, MEMORY, demand_refusal, fetched, rules_refusal, say, say_answer, say_answer_to,
+    status_of,
+};
 use branch_price::{Master, Subject, Watch};
-use day_curve::DayCurve;
+use day_curve::{CurvePoint, DayCurve, Staff, staff_of, write_curve};
 use day_solver::Solution;
 use demand_text::read_demand;
-use reuse_report::{CurvePoint, write_curve};
 use roster_model::{Grammar, Instance, Memory};
 use rules_text::read_rules;
 use shelf::Shelf;
 use std::alloc::Global;
-use text_commands::answer::Answer;
-use text_commands::ask::demand_refusal;
-use text_commands::explain::refusal;
-use text_commands::fetch::{fetched, say_answer, say_answer_to};
 use text_commands::oddities::note_day;
-use text_commands::say::{MEMORY, say, status_of};
+use text_commands::start::NO_FORM;
 
 const GROUPS: &[u8] = b"demand: groups have no curve\n";
 
@@ -79,8 +85,10 @@ fn ask_points<S: Shelf>(
 ) -> Result<(), u8>
     requires { curve.now.given ≡ 0 }
     ensures { MatchResult result
-        (λ _. IsAsked (MayStorePoints proof.now curve.now.day) (S.told shelf.old) (S.told shelf.new))
-        (IsTurnedDown (MayStorePoints proof.now curve.now.day) (S.told shelf.old) (S.told shelf.new)) }
+        (λ _. IsAsked (MayStoreTeam proof.now curve.now.staff curve.now.day) (S.told shelf.old)
+        (S.told shelf.new))
+        (IsTurnedDown (MayStoreTeam proof.now curve.now.staff curve.now.day) (S.told shelf.old)
+        (S.told shelf.new)) }
 {
     let mut heads = curve.heads();
     for _ in 0..curve.points() {
@@ -145,6 +153,29 @@ fn solved_point<S: Shelf>(
     }
 }
 
+// Stores the certificate of a solution, has the curve keep its roster, and returns the point, or the status of a
+// refusal.
+fn kept_point<S: Shelf>(
+    alloc: Global,
+    shelf: &mut S,
+    curve: &mut DayCurve,
+    proof: &str,
+    solution: Solution,
+) -> Result<CurvePoint, u8>
+    requires { (strict : Bool) × (turns : ℕ) × IsSolution (point_day curve.old) strict turns solution }
+    ensures kept { curve.new ≡ record curve.old { kept = solution.found.cert.shifts } }
+    ensures is { IfOk result (λ point. point ≡ point_of (point_heads curve.old) solution.found) }
+    ensures stored { MatchResult result
+        (λ _. IsStoredBy (record { name = point_name proof.now (point_heads curve.old); text = solution.proof } ∷ [])
+        (S.told shelf.old)
+        (S.told shelf.new))
+        (IsBrokenOff [] (point_name proof.now (point_heads curve.old)) (S.told shelf.old) (S.told shelf.new)) }
+{
+    let point = solved_point(alloc, shelf, proof, curve.heads(), &solution);
+    curve.keep(solution);
+    point
+}
+
 // Searches the next point of a curve and stores its certificate, or returns the status of a refusal. The watch is
 // told that it has so many employees at most.
 fn next_point<S: Shelf, M: Master, W: Watch>(
@@ -157,14 +188,12 @@ fn next_point<S: Shelf, M: Master, W: Watch>(
     master: &mut M,
     watch: &mut W,
 ) -> Result<CurvePoint, u8>
-    requires more { curve.old.given < point_count curve.old.day }
+    requires more { curve.old.given < points_of curve.old }
     requires limit { IsLimit limit }
-    ensures given { IfOk result (λ _. curve.new ≡ record curve.old { given = curve.old.given + 1 }) }
     ensures point { MatchResult result
-        (FindsPoint curve.old.day proof.now (lent (M.strict master.old) (M.refused master.old)
-        (M.refused master.new)) limit (first_heads curve.old.day + curve.old.given) (S.told shelf.old)
-        (S.told shelf.new))
-        (IsBrokenOff [] (point_name proof.now (first_heads curve.old.day + curve.old.given))
+        (FindsPoint curve.old curve.new proof.now (lent (M.strict master.old) (M.refused master.old)
+        (M.refused master.new)) limit (S.told shelf.old) (S.told shelf.new))
+        (IsBrokenOff [] (point_name proof.now (next_heads curve.old))
         (S.told shelf.old)
         (S.told shelf.new)) }
     ensures strict_stays { M.strict master.new ≡ M.strict master.old }
@@ -173,7 +202,7 @@ fn next_point<S: Shelf, M: Master, W: Watch>(
     let limit_seconds = limit.seconds();
     watch.begin(Subject::Point { heads }, limit_seconds);
     match curve.next(limit_turns, master, watch) {
-        Ok(solution) => solved_point(alloc, shelf, proof, curve.heads(), &solution),
+        Ok(solution) => kept_point(alloc, shelf, curve, proof, solution),
         Err(Memory) => Err(MEMORY),
     }
 }
@@ -189,14 +218,15 @@ fn all_points<S: Shelf, M: Master, W: Watch>(
     watch: &mut W,
 ) -> Result<Vec<CurvePoint>, u8>
     requires none { curve.old.given ≡ 0 }
-    requires points { 0 < point_count curve.old.day }
+    requires free { curve.old.kept ≡ [] }
+    requires points { 0 < points_of curve.old }
     requires limit { IsLimit limit }
     ensures { MatchResult result
-        (λ points. FindsFirst curve.old.day proof.now (lent (M.strict master.old) (M.refused master.old)
-        (M.refused master.new)) limit (point_count curve.old.day) (S.told shelf.old) (S.told shelf.new)
-        points.items)
-        (BreaksCurve curve.old.day proof.now (lent (M.strict master.old) (M.refused master.old)
-        (M.refused master.new)) limit (S.told shelf.old) (S.told shelf.new)) }
+        (λ points. FindsFirst curve.old.day curve.old.staff proof.now (lent (M.strict master.old)
+        (M.refused master.old) (M.refused master.new)) limit (points_of curve.old) curve.new.kept
+        (S.told shelf.old) (S.told shelf.new) points.items)
+        (BreaksCurve curve.old.day curve.old.staff proof.now (lent (M.strict master.old)
+        (M.refused master.old) (M.refused master.new)) limit (S.told shelf.old) (S.told shelf.new)) }
 {
     let mut heads = curve.heads();
     let count = curve.points();
@@ -257,12 +287,17 @@ fn status_of_points(points: &[CurvePoint]) -> u8
 }
 
 // Says the points of a curve.
-fn points_answer(alloc: Global, points: &[CurvePoint]) -> Result<Answer, Memory>
-    ensures { IfOk result (λ a. (a.status ≡ curve_status points.now) × (a.output ≡ curve_text points.now)) }
+fn points_answer(
+    alloc: Global,
+    group: Option<&str>,
+    points: &[CurvePoint],
+) -> Result<Answer, Memory>
+    ensures { IfOk result (λ a. (a.status ≡ curve_status points.now)
+        × (a.output ≡ curve_text (option_copied group.entry) points.now)) }
 {
     Ok(Answer {
         status: status_of_points(points),
-        output: write_curve(alloc, points)?,
+        output: write_curve(alloc, group, points)?,
     })
 }
 
@@ -271,24 +306,28 @@ fn curve_points<S: Shelf, M: Master, W: Watch>(
     alloc: Global,
     shelf: &mut S,
     curve: &mut DayCurve,
+    group: Option<&str>,
     proof: &str,
     limit: Limit,
     master: &mut M,
     watch: &mut W,
 ) -> u8
     requires none { curve.old.given ≡ 0 }
-    requires points { 0 < point_count curve.old.day }
-    requires plain { curve.old.day.groups ≡ [] }
-    requires few { curve.old.day.heads_max ≤ 64 }
+    requires points { 0 < points_of curve.old }
+    requires free { curve.old.kept ≡ [] }
+    requires team { staff_of curve.old.day (option_copied group) ≡ Some curve.old.staff }
+    requires few { staff_most curve.old.staff curve.old.day ≤ 64 }
     requires arcs { (arcs : ℕ) × HasArcCount curve.old.day.grammar arcs }
     requires limit { IsLimit limit }
     ensures { IsSeriesWriter
-        (Curving curve.old.day proof.now (lent (M.strict master.old) (M.refused master.old)
-        (M.refused master.new)) limit) [] (MayStorePoints proof.now curve.old.day) (S.told shelf.old)
+        (Curving curve.old.day (option_copied group.entry) proof.now
+        (lent (M.strict master.old) (M.refused master.old)
+        (M.refused master.new)) limit) [] (MayStorePoints proof.now (option_copied group.entry) curve.old.day)
+        (S.told shelf.old)
         (S.told shelf.new) result }
 {
     match all_points(alloc, shelf, curve, proof, limit, master, watch) {
-        Ok(points) => say_answer(shelf, points_answer(alloc, points.as_slice())),
+        Ok(points) => say_answer(shelf, points_answer(alloc, group, points.as_slice())),
         Err(status) => status,
     }
 }
@@ -299,47 +338,55 @@ fn curve_made<S: Shelf, M: Master, W: Watch>(
     alloc: Global,
     shelf: &mut S,
     mut curve: DayCurve,
+    group: Option<&str>,
     proof: &str,
     limit: Limit,
     master: &mut M,
     watch: &mut W,
 ) -> u8
     requires none { curve.given ≡ 0 }
-    requires points { 0 < point_count curve.day }
-    requires plain { curve.day.groups ≡ [] }
-    requires few { curve.day.heads_max ≤ 64 }
+    requires free { curve.kept ≡ [] }
+    requires points { 0 < points_of curve }
+    requires team { staff_of curve.day (option_copied group) ≡ Some curve.staff }
+    requires few { staff_most curve.staff curve.day ≤ 64 }
     requires arcs { (arcs : ℕ) × HasArcCount curve.day.grammar arcs }
     requires limit { IsLimit limit }
     ensures { IsSeriesWriter
-        (Curving curve.day proof.now (lent (M.strict master.old) (M.refused master.old)
-        (M.refused master.new)) limit) [] (MayStorePoints proof.now curve.day) (S.told shelf.old)
+        (Curving curve.day (option_copied group.entry) proof.now
+        (lent (M.strict master.old) (M.refused master.old)
+        (M.refused master.new)) limit) [] (MayStorePoints proof.now (option_copied group.entry) curve.day)
+        (S.told shelf.old)
         (S.told shelf.new) result }
 {
     match ask_points(alloc, shelf, &curve, proof) {
-        Ok(()) => curve_points(alloc, shelf, &mut curve, proof, limit, master, watch),
+        Ok(()) => curve_points(alloc, shelf, &mut curve, group, proof, limit, master, watch),
         Err(status) => status,
     }
 }
 
-// Searches the curve of an instance without groups, or says that it has too many arcs.
-fn curve_plain<S: Shelf, M: Master, W: Watch>(
+// Searches the curve of an instance over a team, or says that it has too many arcs.
+fn curve_team<S: Shelf, M: Master, W: Watch>(
     alloc: Global,
     shelf: &mut S,
     instance: Instance,
+    staff: Staff,
+    group: Option<&str>,
     proof: &str,
     limit: Limit,
     master: &mut M,
     watch: &mut W,
 ) -> u8
     requires sound { IsSoundInstance instance }
-    requires plain { instance.groups ≡ [] }
+    requires staff { IsStaff instance staff }
+    requires team { staff_of instance (option_copied group) ≡ Some staff }
     requires limit { IsLimit limit }
-    ensures { IsSeriesWriter (Curving instance proof.now (lent (M.strict master.old) (M.refused master.old)
-        (M.refused master.new)) limit) [] (MayStorePoints proof.now instance) (S.told shelf.old)
+    ensures { IsSeriesWriter (Curving instance (option_copied group.entry) proof.now (lent (M.strict master.old)
+        (M.refused master.old) (M.refused master.new)) limit) []
+        (MayStorePoints proof.now (option_copied group.entry) instance) (S.told shelf.old)
         (S.told shelf.new) result }
 {
-    match DayCurve::new(alloc, instance) {
-        Ok(curve) => curve_made(alloc, shelf, curve, proof, limit, master, watch),
+    match DayCurve::new(alloc, instance, staff) {
+        Ok(curve) => curve_made(alloc, shelf, curve, group, proof, limit, master, watch),
         Err(fault) => say_answer(shelf, graph_refusal(alloc, fault)),
     }
 }
@@ -351,11 +398,48 @@ fn refuse_groups<S: Shelf>(shelf: &mut S) -> u8
     say(shelf, GROUPS, 4)
 }
 
-// Searches the curve of an instance, or says that it has groups.
+// Says that the words have no form.
+fn say_no_form<S: Shelf>(shelf: &mut S) -> u8
+    ensures { IsReader AnswersNoForm [] (S.told shelf.old) (S.told shelf.new) result }
+{
+    say(shelf, NO_FORM, 2)
+}
+
+// Notes that a name is none of the demand's groups; nothing after want of memory.
+fn note_group<S: Shelf>(alloc: Global, shelf: &mut S, name: &str)
+    ensures { S.told shelf.new ≡ S.told shelf.old }
+{
+    match format!(in alloc; "{name} is no group of the demand") {
+        Ok(note) => shelf.note(note.as_str()),
+        Err(_) => {}
+    }
+}
+
+// Says that the words have no form, since a name is none of the demand's groups.
+fn refuse_name<S: Shelf>(alloc: Global, shelf: &mut S, name: &str) -> u8
+    ensures { IsReader AnswersNoForm [] (S.told shelf.old) (S.told shelf.new) result }
+{
+    note_group(alloc, shelf, name);
+    say_no_form(shelf)
+}
+
+// Says why there is no number to vary.
+fn refuse_team<S: Shelf>(alloc: Global, shelf: &mut S, group: Option<&str>) -> u8
+    ensures { IsReader (SaysNoTeam (option_copied group.entry)) []
+        (S.told shelf.old) (S.told shelf.new) result }
+{
+    match group {
+        Some(name) => refuse_name(alloc, shelf, name),
+        None => refuse_groups(shelf),
+    }
+}
+
+// Searches the curve of an instance over the team of a name, or says that there is none.
 fn curve_instance<S: Shelf, M: Master, W: Watch>(
     alloc: Global,
     shelf: &mut S,
     instance: Instance,
+    group: Option<&str>,
     proof: &str,
     limit: Limit,
     master: &mut M,
@@ -363,14 +447,17 @@ fn curve_instance<S: Shelf, M: Master, W: Watch>(
 ) -> u8
     requires sound { IsSoundInstance instance }
     requires limit { IsLimit limit }
-    ensures { IsSeriesWriter (Curving instance proof.now (lent (M.strict master.old) (M.refused master.old)
-        (M.refused master.new)) limit) [] (MayStorePoints proof.now instance) (S.told shelf.old)
+    ensures { IsSeriesWriter (Curving instance (option_copied group.entry) proof.now (lent (M.strict master.old)
+        (M.refused master.old) (M.refused master.new)) limit) []
+        (MayStorePoints proof.now (option_copied group.entry) instance) (S.told shelf.old)
         (S.told shelf.new) result }
 {
-    if instance.groups.is_empty() {
-        return curve_plain(alloc, shelf, instance, proof, limit, master, watch);
+    match staff_of(&instance, group) {
+        Some(staff) => curve_team(
+            alloc, shelf, instance, staff, group, proof, limit, master, watch,
+        ),
+        None => refuse_team(alloc, shelf, group),
     }
-    refuse_groups(shelf)
 }
 
 // Searches the curve of a demand text by the grammar of a rules text.
@@ -380,6 +467,7 @@ fn curve_demand_text<S: Shelf, M: Master, W: Watch>(
     rules: &[u8],
     grammar: Grammar,
     text: &[u8],
+    group: Option<&str>,
     proof: &str,
     limit: Limit,
     master: &mut M,
@@ -388,14 +476,16 @@ fn curve_demand_text<S: Shelf, M: Master, W: Watch>(
     requires sound { IsSound grammar }
     requires plain { IsPlain grammar }
     requires limit { IsLimit limit }
-    ensures { IsSeriesWriter (CurvesDemand grammar text.now proof.now (lent (M.strict master.old)
+    ensures { IsSeriesWriter (CurvesDemand grammar text.now (option_copied group.entry) proof.now
+        (lent (M.strict master.old)
         (M.refused master.old) (M.refused master.new)) limit) []
-        (MayStoreDemand proof.now grammar text.now) (S.told shelf.old) (S.told shelf.new) result }
+        (MayStoreDemand proof.now (option_copied group.entry) grammar text.now)
+        (S.told shelf.old) (S.told shelf.new) result }
 {
     match read_demand(alloc, grammar, text) {
         Ok(instance) => {
             note_day(alloc, shelf, rules, text, &instance);
-            curve_instance(alloc, shelf, instance, proof, limit, master, watch)
+            curve_instance(alloc, shelf, instance, group, proof, limit, master, watch)
         }
         Err(fault) => say_answer_to(shelf, text, demand_refusal(alloc, fault)),
     }
@@ -408,6 +498,7 @@ fn curve_demand<S: Shelf, M: Master, W: Watch>(
     rules: &[u8],
     grammar: Grammar,
     demand: &str,
+    group: Option<&str>,
     proof: &str,
     limit: Limit,
     master: &mut M,
@@ -416,9 +507,11 @@ fn curve_demand<S: Shelf, M: Master, W: Watch>(
     requires sound { IsSound grammar }
     requires plain { IsPlain grammar }
     requires limit { IsLimit limit }
-    ensures { IsSeriesWriter (AnswersCurveDemand (S.told shelf.old).held grammar demand.now proof.now
+    ensures { IsSeriesWriter (AnswersCurveDemand (S.told shelf.old).held grammar demand.now
+        (option_copied group.entry) proof.now
         (lent (M.strict master.old) (M.refused master.old) (M.refused master.new)) limit) (demand.now ∷ [])
-        (MayStoreHeldDemand proof.now grammar demand.now) (S.told shelf.old) (S.told shelf.new) result }
+        (MayStoreHeldDemand proof.now (option_copied group.entry) grammar demand.now)
+        (S.told shelf.old) (S.told shelf.new) result }
 {
     match fetched(alloc, shelf, demand) {
         Ok(text) => curve_demand_text(
@@ -427,6 +520,7 @@ fn curve_demand<S: Shelf, M: Master, W: Watch>(
             rules,
             grammar,
             text.as_slice(),
+            group,
             proof,
             limit,
             master,
@@ -442,28 +536,32 @@ fn curve_rules_text<S: Shelf, M: Master, W: Watch>(
     shelf: &mut S,
     text: &[u8],
     demand: &str,
+    group: Option<&str>,
     proof: &str,
     limit: Limit,
     master: &mut M,
     watch: &mut W,
 ) -> u8
     requires limit { IsLimit limit }
-    ensures { IsSeriesWriter (CurvesRules (S.told shelf.old).held text.now demand.now proof.now
+    ensures { IsSeriesWriter (CurvesRules (S.told shelf.old).held text.now demand.now
+        (option_copied group.entry) proof.now
         (lent (M.strict master.old) (M.refused master.old) (M.refused master.new)) limit) (demand.now ∷ [])
-        (MayStoreRules proof.now text.now demand.now) (S.told shelf.old) (S.told shelf.new) result }
+        (MayStoreRules proof.now (option_copied group.entry) text.now demand.now)
+        (S.told shelf.old) (S.told shelf.new) result }
 {
     match read_rules(alloc, text) {
         Ok(grammar) => curve_demand(
-            alloc, shelf, text, grammar, demand, proof, limit, master, watch,
+            alloc, shelf, text, grammar, demand, group, proof, limit, master, watch,
         ),
-        Err(fault) => say_answer_to(shelf, text, refusal(alloc, fault)),
+        Err(fault) => say_answer_to(shelf, text, rules_refusal(alloc, fault)),
     }
 }
 
-/// Searches the curve of a day's least costs over its greatest head count, by the rules and demand texts under
-/// names, each point within the limit; stores the certificate of each point under the name of the proof, a
-/// full stop and the head count, and then says the points; or says why a text is refused, that the day has
-/// groups, or that there are too many arcs. The texts are fetched and read in this order, before anything is
+/// Searches the curve of a day's least costs over its greatest head count, or over that of the group of a name, by the
+/// rules and demand texts under names, each point within the limit; stores the certificate of each point under the
+/// name of the proof, a full stop and the head count, and then says the points; or says why a text is refused, that
+/// the day has groups and no name was said, that it has no group of the name, or that there are too many arcs. Each
+/// point is offered the roster of the one before, so that its cost is at most that. The texts are fetched and read in this order, before anything is
 /// stored. Where a text that is no certificate stands under the name of a point, the shelf refuses before the
 /// search.
 pub fn curve<S: Shelf, M: Master, W: Watch>(
@@ -471,15 +569,18 @@ pub fn curve<S: Shelf, M: Master, W: Watch>(
     shelf: &mut S,
     rules: &str,
     demand: &str,
+    group: Option<&str>,
     proof: &str,
     limit: Limit,
     master: &mut M,
     watch: &mut W,
 ) -> u8
     requires limit { IsLimit limit }
-    ensures { IsSeriesWriter (CurveAnswers (S.told shelf.old).held rules.now demand.now proof.now
+    ensures { IsSeriesWriter (CurveAnswers (S.told shelf.old).held rules.now demand.now
+        (option_copied group.entry) proof.now
         (lent (M.strict master.old) (M.refused master.old) (M.refused master.new)) limit)
-        (rules.now ∷ demand.now ∷ []) (MayStoreDay proof.now rules.now demand.now) (S.told shelf.old)
+        (rules.now ∷ demand.now ∷ []) (MayStoreDay proof.now (option_copied group.entry) rules.now demand.now)
+        (S.told shelf.old)
         (S.told shelf.new) result }
 {
     match fetched(alloc, shelf, rules) {
@@ -488,6 +589,7 @@ pub fn curve<S: Shelf, M: Master, W: Watch>(
             shelf,
             text.as_slice(),
             demand,
+            group,
             proof,
             limit,
             master,

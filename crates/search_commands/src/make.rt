@@ -11,6 +11,7 @@ use crate::limit::Limit;
 use crate::notes::note_unproved;
 use crate::solve::{graph_refusal, status_of_done};
 use crate::store::{ask_name, store_and_say};
+use answers::{Answer, MEMORY, say_answer};
 use branch_price::{Master, Subject, Watch};
 use day_solver::{Solution, solve_day};
 use made_days::make_instance;
@@ -18,9 +19,6 @@ use roster_model::{Instance, Memory};
 use roster_report::{Summary, write_summary};
 use shelf::Shelf;
 use std::alloc::Global;
-use text_commands::answer::Answer;
-use text_commands::fetch::say_answer;
-use text_commands::say::MEMORY;
 
 // Says the summary of what a search found on the day that is made from a number.
 fn summary_answer(

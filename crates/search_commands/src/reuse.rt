@@ -2,25 +2,26 @@ ghost use Rattle.std.specs.Prelude.{◌≡◌, ◌≢◌, [], ◌∷◌, IfOk};
 ghost use Rattle.roster_model.specs.SoundInstance.{IsSoundInstance};
 ghost use Rattle.certificates.specs.Sound.{IsSoundCert};
 ghost use Rattle.proof_pieces.specs.FaultLine as proof_line;
-ghost use Rattle.text_commands.specs.Check.{ProofAnswers};
+ghost use Rattle.answers.specs.Asked.{ProofAnswers};
 ghost use Rattle.search_commands.specs.Reuse.{Reusing, reused_status};
-ghost use Rattle.text_commands.specs.Reader.{IsReader};
-ghost use Rattle.text_commands.specs.Says.{CertCommand};
+ghost use Rattle.answers.specs.Reader.{IsReader};
+ghost use Rattle.answers.specs.Says.{CertCommand};
 
+use answers::{Answer, Question, ask};
 use certificate_text::read_cert;
 use certificates::Cert;
 use proof_pieces::ProofFault;
-use proof_reuse::Reused;
-use reuse_report::write_reused;
+use proof_reuse::{Reused, write_reused};
 use roster_model::{Instance, Memory};
 use shelf::Shelf;
 use std::alloc::Global;
-use text_commands::answer::Answer;
-use text_commands::ask::ask;
-use text_commands::question::Question;
 
-// Says why a proof text is refused.
-fn text_refusal(alloc: Global, fault: ProofFault) -> Result<Answer, Memory>
+/// Says why a proof text is refused.
+///
+/// # Errors
+///
+/// `Memory` where memory runs out, or where that is the fault; there is no answer then.
+pub(crate) fn text_refusal(alloc: Global, fault: ProofFault) -> Result<Answer, Memory>
     ensures { IfOk result (λ a. (fault ≢ ProofFault.Memory) × (a.status ≡ 5)
         × (a.output ≡ proof_line.fault_line fault)) }
 {
@@ -74,8 +75,8 @@ struct OldNodes;
 impl Question for OldNodes {
     ghost use Rattle.search_commands.specs.Reuse.{Reusing};
     ghost use Rattle.search_commands.specs.Statuses.{reused-ends};
-    ghost use Rattle.text_commands.specs.Check.{ProofAnswers};
-    ghost use Rattle.text_commands.specs.Statuses.{proof-ends};
+    ghost use Rattle.answers.specs.Asked.{ProofAnswers};
+    ghost use Rattle.answers.specs.Statuses.{proof-ends};
 
     ghost answers = { λ _. ProofAnswers Reusing };
 

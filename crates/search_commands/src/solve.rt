@@ -1,17 +1,25 @@
-ghost use Rattle.std.specs.Prelude.{ℕ, ◌≡◌, ◌≢◌, ◌≤◌, [], ◌∷◌, Bool, IfOk};
+ghost use Rattle.std.specs.Prelude.{ℕ, ◌≡◌, ◌≢◌, ◌≤◌, [], ◌∷◌, Bool, IfErr, IfOk, IfSome};
+ghost use Rattle.std.specs.Option.{option_copied};
 ghost use Rattle.roster_model.specs.Sound.{IsPlain, IsSound};
 ghost use Rattle.roster_model.specs.SoundInstance.{IsSoundInstance};
 ghost use Rattle.parse_graph.specs.Graphs.{IsRefused};
-ghost use Rattle.branch_price.specs.Found.{IsFound};
-ghost use Rattle.day_solver.specs.Solutions.{IsReportText};
+ghost use Rattle.branch_price.specs.Found.{AreCounted, IsFound};
+ghost use Rattle.certificates.specs.Sound.{IsSoundCert};
+ghost use Rattle.day_solver.specs.Solutions.{IsReportText, IsSolution};
+ghost use Rattle.search_watch.specs.Within.{IsWithin};
 ghost use Rattle.search_commands.specs.Solve.{
   AnswersSolveDemand,
+  AnswersSolveProof,
+  IsNoDearerThanOld,
   SaysTooManyArcs,
-  Solving,
   SolvesDemand,
+  SolvesFrom,
+  SolvesProof,
   SolvesRules,
+  Solving,
   arcs_line,
   done_status,
+  from_names,
   lent,
 };
 ghost use Rattle.search_commands.specs.SolveAnswers.{SolveAnswers};
@@ -20,19 +28,19 @@ ghost use Rattle.search_commands.specs.Writer.{IsWriter};
 
 use crate::limit::Limit;
 use crate::notes::note_search;
+use crate::reuse::text_refusal;
 use crate::store::{ask_name, store_and_say};
+use answers::{Answer, demand_refusal, fetched, rules_refusal, say_answer, say_answer_to};
 use branch_price::{Done, Found, Master, Subject, Watch};
-use day_solver::{solution_report, solve_day};
+use certificate_text::read_cert;
+use certificates::Cert;
+use day_solver::{Solution, solution_report, solve_day, solve_day_from};
 use demand_text::read_demand;
 use parse_graph::GraphFault;
 use roster_model::{Grammar, Instance, List, Memory};
 use rules_text::read_rules;
 use shelf::Shelf;
 use std::alloc::Global;
-use text_commands::answer::Answer;
-use text_commands::ask::demand_refusal;
-use text_commands::explain::refusal;
-use text_commands::fetch::{fetched, say_answer, say_answer_to};
 use text_commands::oddities::note_day;
 use text_lines::{put, write_number};
 
@@ -89,26 +97,55 @@ fn report_answer(alloc: Global, instance: &Instance, found: &Found) -> Result<An
     })
 }
 
-// Searches an instance, stores the certificate under a name, and says the report.
+// Searches an instance, from an old certificate where there is one.
+fn searched<M: Master, W: Watch>(
+    alloc: Global,
+    instance: &Instance,
+    turns: u32,
+    old: Option<&Cert>,
+    master: &mut M,
+    watch: &mut W,
+) -> Result<Solution, GraphFault>
+    requires sound { IsSoundInstance instance.now }
+    requires some { 1 ≤ turns }
+    requires few { turns ≤ 10000 }
+    requires old { IfSome (option_copied old) (IsSoundCert instance.now) }
+    ensures solution { IfOk result (λ s. IsWithin (W.patient watch.old) turns
+        (λ k. IsSolution instance.now (M.strict master.old) k s)) }
+    ensures falls { IfOk result (λ s. IsNoDearerThanOld instance.now (option_copied old.entry) s.found.cert.cost) }
+    ensures counted { IfOk result (λ s. AreCounted instance.now (M.refused master.old) (M.refused master.new)
+        s.found) }
+    ensures refused { IfErr result (IsRefused instance.now.grammar) }
+{
+    match old {
+        Some(cert) => solve_day_from(alloc, instance, turns, cert, master, watch),
+        None => solve_day(alloc, instance, turns, master, watch),
+    }
+}
+
+// Searches an instance, from an old certificate where there is one, stores the certificate under a name, and says
+// the report.
 fn solve_instance<S: Shelf, M: Master, W: Watch>(
     alloc: Global,
     shelf: &mut S,
     instance: &Instance,
+    old: Option<&Cert>,
     proof: &str,
     limit: Limit,
     master: &mut M,
     watch: &mut W,
 ) -> u8
     requires sound { IsSoundInstance instance.now }
+    requires old { IfSome (option_copied old) (IsSoundCert instance.now) }
     requires limit { IsLimit limit }
-    ensures { IsWriter (Solving instance.now (lent (M.strict master.old) (M.refused master.old)
-        (M.refused master.new)) limit) [] proof.now (S.told shelf.old) (S.told shelf.new)
-        result }
+    ensures { IsWriter (Solving instance.now (option_copied old.entry) (lent (M.strict master.old)
+        (M.refused master.old) (M.refused master.new)) limit) [] proof.now (S.told shelf.old)
+        (S.told shelf.new) result }
 {
     let limit_turns = limit.turns();
     let limit_seconds = limit.seconds();
     watch.begin(Subject::Solve, limit_seconds);
-    match solve_day(alloc, instance, limit_turns, master, watch) {
+    match searched(alloc, instance, limit_turns, old, master, watch) {
         Ok(solution) => {
             let answer = report_answer(alloc, instance, &solution.found);
             let status = store_and_say(shelf, proof, solution.proof.as_slice(), answer);
@@ -124,6 +161,31 @@ fn solve_asked<S: Shelf, M: Master, W: Watch>(
     alloc: Global,
     shelf: &mut S,
     instance: &Instance,
+    old: Option<&Cert>,
+    proof: &str,
+    limit: Limit,
+    master: &mut M,
+    watch: &mut W,
+) -> u8
+    requires sound { IsSoundInstance instance.now }
+    requires old { IfSome (option_copied old) (IsSoundCert instance.now) }
+    requires limit { IsLimit limit }
+    ensures { IsWriter (Solving instance.now (option_copied old.entry) (lent (M.strict master.old)
+        (M.refused master.old) (M.refused master.new)) limit) [] proof.now (S.told shelf.old)
+        (S.told shelf.new) result }
+{
+    match ask_name(shelf, proof) {
+        Ok(()) => solve_instance(alloc, shelf, instance, old, proof, limit, master, watch),
+        Err(status) => status,
+    }
+}
+
+// Solves an instance from the certificate of a proof text.
+fn solve_proof_text<S: Shelf, M: Master, W: Watch>(
+    alloc: Global,
+    shelf: &mut S,
+    instance: &Instance,
+    text: &[u8],
     proof: &str,
     limit: Limit,
     master: &mut M,
@@ -131,13 +193,76 @@ fn solve_asked<S: Shelf, M: Master, W: Watch>(
 ) -> u8
     requires sound { IsSoundInstance instance.now }
     requires limit { IsLimit limit }
-    ensures { IsWriter (Solving instance.now (lent (M.strict master.old) (M.refused master.old)
-        (M.refused master.new)) limit) [] proof.now (S.told shelf.old) (S.told shelf.new)
-        result }
+    ensures { IsWriter (SolvesProof instance.now text.now (lent (M.strict master.old) (M.refused master.old)
+        (M.refused master.new)) limit) [] proof.now (S.told shelf.old) (S.told shelf.new) result }
 {
-    match ask_name(shelf, proof) {
-        Ok(()) => solve_instance(alloc, shelf, instance, proof, limit, master, watch),
+    match read_cert(alloc, instance, text) {
+        Ok(cert) => solve_asked(
+            alloc,
+            shelf,
+            instance,
+            Some(&cert),
+            proof,
+            limit,
+            master,
+            watch,
+        ),
+        Err(fault) => say_answer_to(shelf, text, text_refusal(alloc, fault)),
+    }
+}
+
+// Solves an instance from the certificate of the proof text under a name.
+fn solve_proof<S: Shelf, M: Master, W: Watch>(
+    alloc: Global,
+    shelf: &mut S,
+    instance: &Instance,
+    from: &str,
+    proof: &str,
+    limit: Limit,
+    master: &mut M,
+    watch: &mut W,
+) -> u8
+    requires sound { IsSoundInstance instance.now }
+    requires limit { IsLimit limit }
+    ensures { IsWriter (AnswersSolveProof (S.told shelf.old).held instance.now from.now
+        (lent (M.strict master.old) (M.refused master.old) (M.refused master.new)) limit)
+        (from.now ∷ []) proof.now (S.told shelf.old) (S.told shelf.new) result }
+{
+    match fetched(alloc, shelf, from) {
+        Ok(text) => solve_proof_text(
+            alloc,
+            shelf,
+            instance,
+            text.as_slice(),
+            proof,
+            limit,
+            master,
+            watch,
+        ),
         Err(status) => status,
+    }
+}
+
+// Solves an instance, from the certificate of the proof text under a name where one is said.
+fn solve_from<S: Shelf, M: Master, W: Watch>(
+    alloc: Global,
+    shelf: &mut S,
+    instance: &Instance,
+    from: Option<&str>,
+    proof: &str,
+    limit: Limit,
+    master: &mut M,
+    watch: &mut W,
+) -> u8
+    requires sound { IsSoundInstance instance.now }
+    requires limit { IsLimit limit }
+    ensures { IsWriter (SolvesFrom (S.told shelf.old).held instance.now (option_copied from.entry)
+        (lent (M.strict master.old) (M.refused master.old) (M.refused master.new)) limit)
+        (from_names (option_copied from.entry)) proof.now (S.told shelf.old) (S.told shelf.new) result }
+{
+    match from {
+        Some(from) => solve_proof(alloc, shelf, instance, from, proof, limit, master, watch),
+        None => solve_asked(alloc, shelf, instance, None, proof, limit, master, watch),
     }
 }
 
@@ -148,6 +273,7 @@ fn solve_demand_text<S: Shelf, M: Master, W: Watch>(
     rules: &[u8],
     grammar: Grammar,
     text: &[u8],
+    from: Option<&str>,
     proof: &str,
     limit: Limit,
     master: &mut M,
@@ -156,14 +282,14 @@ fn solve_demand_text<S: Shelf, M: Master, W: Watch>(
     requires sound { IsSound grammar }
     requires plain { IsPlain grammar }
     requires limit { IsLimit limit }
-    ensures { IsWriter (SolvesDemand grammar text.now (lent (M.strict master.old) (M.refused master.old)
-        (M.refused master.new)) limit) [] proof.now (S.told shelf.old)
-        (S.told shelf.new) result }
+    ensures { IsWriter (SolvesDemand (S.told shelf.old).held grammar text.now (option_copied from.entry)
+        (lent (M.strict master.old) (M.refused master.old) (M.refused master.new)) limit)
+        (from_names (option_copied from.entry)) proof.now (S.told shelf.old) (S.told shelf.new) result }
 {
     match read_demand(alloc, grammar, text) {
         Ok(instance) => {
             note_day(alloc, shelf, rules, text, &instance);
-            solve_asked(alloc, shelf, &instance, proof, limit, master, watch)
+            solve_from(alloc, shelf, &instance, from, proof, limit, master, watch)
         }
         Err(fault) => say_answer_to(shelf, text, demand_refusal(alloc, fault)),
     }
@@ -176,6 +302,7 @@ fn solve_demand<S: Shelf, M: Master, W: Watch>(
     rules: &[u8],
     grammar: Grammar,
     demand: &str,
+    from: Option<&str>,
     proof: &str,
     limit: Limit,
     master: &mut M,
@@ -185,9 +312,10 @@ fn solve_demand<S: Shelf, M: Master, W: Watch>(
     requires plain { IsPlain grammar }
     requires limit { IsLimit limit }
     ensures { IsWriter (AnswersSolveDemand (S.told shelf.old).held grammar demand.now
-        (lent (M.strict master.old) (M.refused master.old)
+        (option_copied from.entry) (lent (M.strict master.old) (M.refused master.old)
         (M.refused master.new)) limit)
-        (demand.now ∷ []) proof.now (S.told shelf.old) (S.told shelf.new) result }
+        (demand.now ∷ from_names (option_copied from.entry)) proof.now
+        (S.told shelf.old) (S.told shelf.new) result }
 {
     match fetched(alloc, shelf, demand) {
         Ok(text) => solve_demand_text(
@@ -196,6 +324,7 @@ fn solve_demand<S: Shelf, M: Master, W: Watch>(
             rules,
             grammar,
             text.as_slice(),
+            from,
             proof,
             limit,
             master,
@@ -211,6 +340,7 @@ fn solve_rules_text<S: Shelf, M: Master, W: Watch>(
     shelf: &mut S,
     text: &[u8],
     demand: &str,
+    from: Option<&str>,
     proof: &str,
     limit: Limit,
     master: &mut M,
@@ -218,27 +348,31 @@ fn solve_rules_text<S: Shelf, M: Master, W: Watch>(
 ) -> u8
     requires limit { IsLimit limit }
     ensures { IsWriter (SolvesRules (S.told shelf.old).held text.now demand.now
-        (lent (M.strict master.old) (M.refused master.old)
+        (option_copied from.entry) (lent (M.strict master.old) (M.refused master.old)
         (M.refused master.new)) limit)
-        (demand.now ∷ []) proof.now (S.told shelf.old) (S.told shelf.new) result }
+        (demand.now ∷ from_names (option_copied from.entry)) proof.now
+        (S.told shelf.old) (S.told shelf.new) result }
 {
     match read_rules(alloc, text) {
         Ok(grammar) => solve_demand(
-            alloc, shelf, text, grammar, demand, proof, limit, master, watch,
+            alloc, shelf, text, grammar, demand, from, proof, limit, master, watch,
         ),
-        Err(fault) => say_answer_to(shelf, text, refusal(alloc, fault)),
+        Err(fault) => say_answer_to(shelf, text, rules_refusal(alloc, fault)),
     }
 }
 
 /// Searches a roster of least cost by the rules and demand texts under names, within a limit, stores
 /// its certificate under the name of the proof, and says the report; or says why a text is refused, or that
-/// there are too many arcs. The texts are fetched and read in this order, before anything is stored. Where a
+/// there are too many arcs. Where the name of an old certificate is said, its text is fetched and read third, and what
+/// is found costs no more than its roster, if that is allowed on this day.
+/// The texts are fetched and read in this order, before anything is stored. Where a
 /// text that is no certificate stands under the name of the proof, the shelf refuses before the search.
 pub fn solve<S: Shelf, M: Master, W: Watch>(
     alloc: Global,
     shelf: &mut S,
     rules: &str,
     demand: &str,
+    from: Option<&str>,
     proof: &str,
     limit: Limit,
     master: &mut M,
@@ -246,9 +380,10 @@ pub fn solve<S: Shelf, M: Master, W: Watch>(
 ) -> u8
     requires limit { IsLimit limit }
     ensures { IsWriter (SolveAnswers (S.told shelf.old).held rules.now demand.now
-        (lent (M.strict master.old) (M.refused master.old)
+        (option_copied from.entry) (lent (M.strict master.old) (M.refused master.old)
         (M.refused master.new)) limit)
-        (rules.now ∷ demand.now ∷ []) proof.now (S.told shelf.old) (S.told shelf.new) result }
+        (rules.now ∷ demand.now ∷ from_names (option_copied from.entry)) proof.now
+        (S.told shelf.old) (S.told shelf.new) result }
 {
     match fetched(alloc, shelf, rules) {
         Ok(text) => solve_rules_text(
@@ -256,6 +391,7 @@ pub fn solve<S: Shelf, M: Master, W: Watch>(
             shelf,
             text.as_slice(),
             demand,
+            from,
             proof,
             limit,
             master,

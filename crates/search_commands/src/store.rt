@@ -1,11 +1,10 @@
 ghost use Rattle.std.specs.Prelude.{◌≡◌, ◌≢◌, [], IfOk, MatchResult};
-ghost use Rattle.text_commands.specs.Reader.{MayStore};
+ghost use Rattle.answers.specs.Reader.{MayStore};
 ghost use Rattle.search_commands.specs.Writer.{IsAsked, IsStoredAnswer, IsTurnedDown, IsWriter};
 
+use answers::{Answer, MEMORY, say, status_of};
 use roster_model::Memory;
 use shelf::Shelf;
-use text_commands::answer::Answer;
-use text_commands::say::{MEMORY, say, status_of};
 
 /// Asks whether a text may be stored under a name, or returns the status of a refusal.
 ///

@@ -1,12 +1,12 @@
 use Rattle.std.proofs.Common.{◌≤◌, ◌+◌}
-use Rattle.proof_reuse.specs.Curves.{first_heads}
-use Rattle.search_commands.specs.Curve.{MayStorePoints}
+use Rattle.day_curve.specs.Curves.{first_heads}
+use Rattle.search_commands.specs.Curve.{MayStoreTeam}
 use Rattle.search_commands.specs.Writer.{IsAsked}
 use Rattle.search_commands.proofs.curve.ask_points.Given as goal
 
 abbrev pub invariant-loop : goal.invariant-loop
 invariant-loop g l = record {
-  asked : IsAsked (MayStorePoints l.fn.proof l.fn.curve.day) (g.S.Shelf.told l.fn.shelf) (g.S.Shelf.told l.shelf);
-  least : first_heads l.fn.curve.day ≤ l.heads;
-  most : l.heads ≤ first_heads l.fn.curve.day + l.counter;
+  asked : IsAsked (MayStoreTeam l.fn.proof l.fn.curve.staff l.fn.curve.day) (g.S.Shelf.told l.fn.shelf) (g.S.Shelf.told l.shelf);
+  least : first_heads l.fn.curve.staff l.fn.curve.day ≤ l.heads;
+  most : l.heads ≤ first_heads l.fn.curve.staff l.fn.curve.day + l.counter;
 }

@@ -1,4 +1,4 @@
-use Rattle.text_commands.proofs.SaysLemmas.{asks-cert}
+use Rattle.answers.proofs.SaysLemmas.{asks-cert}
 use Rattle.search_commands.specs.Reuse.{Reusing}
 use Rattle.search_commands.proofs.reuse.reuse.Goals as goal
 

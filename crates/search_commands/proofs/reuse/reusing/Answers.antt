@@ -1,7 +1,7 @@
-use Rattle.text_commands.specs.Check as check
+use Rattle.answers.specs.Asked as check
 use Rattle.search_commands.specs.Reuse.{Reusing}
-use Rattle.text_commands.proofs.Checks.{text-refused}
-use Rattle.text_commands.proofs.Derivations.{IfOk-map}
+use Rattle.answers.proofs.AskedLemmas.{text-refused}
+use Rattle.answers.proofs.Readers.{IfOk-map}
 use Rattle.search_commands.proofs.reuse.reusing.Goals as goal
 
 pub returns-in-Ok : goal.returns-in-Ok

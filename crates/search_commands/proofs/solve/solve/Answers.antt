@@ -1,3 +1,4 @@
+use Rattle.std.specs.Option.{option_copied}
 use Rattle.shelf.specs.Shelf.{Told}
 use Rattle.search_commands.proofs.SolveLemmas.{command-read, command-unread}
 use Rattle.search_commands.proofs.solve.solve.Goals as goal
@@ -7,7 +8,7 @@ returns-in-Ok g c =
     let before : Told = g.S.Shelf.told c.args.shelf.now in
     let middle : Told = g.S.Shelf.told c.fetched.new.shelf in
     let after : Told = g.S.Shelf.told c.solve_rules_text.new.shelf in
-    command-read c.args.proof.now before after c.solve_rules_text.result _ c.args.limit c.args.rules.now c.args.demand.now c.in-Ok.text.items middle c.in-Ok.ensures.text (rw c.as_slice.ensures.value at c.solve_rules_text.ensures)
+    command-read c.args.proof.now before after c.solve_rules_text.result (option_copied c.args.from) _ c.args.limit c.args.rules.now c.args.demand.now c.in-Ok.text.items middle c.in-Ok.ensures.text (rw c.as_slice.ensures.value at c.solve_rules_text.ensures)
 
 pub returns-in-Err : goal.returns-in-Err
-returns-in-Err g c = command-unread c.args.proof.now _ _ c.in-Err.status _ c.args.limit c.args.rules.now c.args.demand.now c.in-Err.ensures.refusal
+returns-in-Err g c = command-unread c.args.proof.now _ _ c.in-Err.status (option_copied c.args.from) _ c.args.limit c.args.rules.now c.args.demand.now c.in-Err.ensures.refusal

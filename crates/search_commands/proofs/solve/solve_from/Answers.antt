@@ -1,0 +1,13 @@
+use Rattle.std.proofs.Common.{sym, subst}
+use Rattle.std.specs.Option.{option_copied}
+use Rattle.shelf.specs.Shelf.{Told}
+use Rattle.search_commands.specs.Solve.{SolvesFrom, from_names, lent}
+use Rattle.search_commands.specs.Writer.{IsWriter}
+use Rattle.search_commands.proofs.solve.solve_from.Goals as goal
+
+pub returns-in-Some : goal.returns-in-Some
+returns-in-Some g c =
+    let before : Told = g.S.Shelf.told c.args.shelf.now in
+    let after : Told = g.S.Shelf.told c.solve_proof.new.shelf in
+    let view = lent (g.M.Master.strict c.args.master.now) (g.M.Master.refused c.args.master.now) (g.M.Master.refused c.solve_proof.new.master) in
+    subst (λ o. IsWriter (SolvesFrom before.held c.args.instance.now (option_copied o) view c.args.limit) (from_names (option_copied o)) c.args.proof.now before after c.solve_proof.result) (sym c.in-Some.is) c.solve_proof.ensures
