@@ -4,11 +4,12 @@
     apt-get install chromium poppler-utils fonts-dejavu-core
 
 For examples/ (g1, g6, and days that are solved here: the call centre, the shop, the ward) and for days that are
-made here (96 periods, 64 shifts, long names, codes that HTML has a use for, no roster) it draws the page, takes a
-picture in light, in dark, as printed and with a derivation shown into FOLDER (/tmp/roster-pages if none is given),
-and fails where an element of a chart lies outside its frame, a text is cut or two texts of a row overlap, a
-derivation leaves its frame, a page asks the network for something, the console says a word, or a printed day of
-at most 48 periods takes more than one page. From the page of the call centre it makes docs/page.svg anew.
+made here (96 periods, 64 shifts, long names, codes that HTML has a use for, labels of 60 bytes, a ceiling of 0, no
+roster) it draws the page, takes a picture in light, in dark, on a narrow screen, as printed and with a derivation
+shown into FOLDER (/tmp/roster-pages if none is given), and fails where an element of a chart lies outside its frame,
+a text is cut or two texts of a row overlap, a derivation leaves its frame, a page asks the network for something, the
+console says a word, or the charts and costs of a printed day of at most 48 periods do not end on its first page. From
+the page of the call centre it makes docs/page.svg anew.
 """
 import pathlib
 import re
@@ -31,6 +32,8 @@ WIDE = "W" * 32
 MADE = {
     "marks": ("periods 2\nwork < & \"\nidle >\nstart S\nrule S 1 = '<' '&'\nrule S 1 = '\"' '>'\n",
               "heads 0 2\nneed < 5 1 1 0\nneed \" 5 1 1 1\n", bare(7, ['"> 1', "<& 1"])),
+    "ceiling": ("periods 4\nwork a\nidle .\nstart S\nrule S 1 = 'a' 'a' '.' '.'\n",
+                "heads 0 2\nneed a 5 1 2 1 0 0\nmost a 2 2 0 0\n", bare(6, ["aa.. 1"])),
     "none": ((TOP / "examples/g1.rules").read_text(), "heads 0 2\nneed a 10 3 1 2 2 1\n",
              "proof 1\ncost none\nbound 0\nbare\nend\n"),
     "crowd": ("periods 24\nwork a\nstart S\nrule S 1 = 'a'\nrule S 0 = 'a' S\n", "heads 0 64\nneed a 9 2" + " 0" * 24,
@@ -40,6 +43,12 @@ MADE = {
     "names": (f"periods 48\nwork a\nidle .\nstart S\nrule S 0 = {WIDE}\nrule {WIDE} 9999 = 'a'\nrule {WIDE} 9999 = 'a' {WIDE}\n",
               f"group {WIDE} 0 2\nneed a 10000 1" + " 64" * 48,
               bare(2 * 48 * 9999 + 48 * 62 * 10000, [f"{WIDE} " + "a" * 48 + f" {48 * 9999}"] * 2)),
+}
+# The labels of days that are made here.
+LABELS = {
+    "marks": "title <Day> & \"night\"\nclock 23:30 45\ncode < " + "<&\">" * 15 + "\ncode & " + "'" * 60
+             + "\nmoney EUR\npaid > yes\n",
+    "names": f"group {WIDE} {'nurses of the night ' * 2}who are so\ncode a at the desk\nclock 7:00 15\n",
 }
 BROWSER = ["chromium", "--headless", "--no-sandbox", "--disable-gpu", "--hide-scrollbars", "--enable-logging=stderr",
            "--log-level=0", "--virtual-time-budget=2000"]
@@ -83,7 +92,12 @@ def texts(folder, name):
 
 def drawn(folder, name, rules, demand, proof):
     """The page of a day, as a file."""
-    said = run([TOP / "roster-page", rules, demand, proof])
+    words = [rules, demand, proof]
+    if name in LABELS:
+        labels = folder / f"{name}.labels"
+        labels.write_text(LABELS[name])
+        words.append(labels)
+    said = run([TOP / "roster-page"] + words)
     if said.returncode != 0:
         raise SystemExit(f"{name}: status {said.returncode}: {said.stdout}{said.stderr}")
     page = folder / f"{name}.html"
@@ -107,20 +121,22 @@ def faults(page, size):
 
 
 def pictures(page, periods):
-    """Takes the three pictures; a day of at most 48 periods is one printed page."""
+    """Takes the pictures; the charts and costs of a day of at most 48 periods are one printed page."""
     wrong = []
     for word, scheme in ("light", 1), ("dark", 0):
         said = run(BROWSER + [f"--screenshot={page.with_suffix(f'.{word}.png')}", "--window-size=1240,1400",
                               f"--blink-settings=preferredColorScheme={scheme}", f"file://{page}"])
         wrong += console(said)
+    run(BROWSER + [f"--screenshot={page.with_suffix('.narrow.png')}", "--window-size=420,1400", f"file://{page}"])
     shown = page.with_suffix(".shown.html")
     shown.write_text(page.read_text().replace("</style>", "#d0{display:block}</style>"))
     run(BROWSER + [f"--screenshot={page.with_suffix('.shown.png')}", "--window-size=1240,1400", f"file://{shown}"])
     printed = page.with_suffix(".pdf")
     run(BROWSER + [f"--print-to-pdf={printed}", "--no-pdf-header-footer", f"file://{page}"])
-    pages = re.search(r"Pages:\s+(\d+)", run(["pdfinfo", printed]).stdout)
-    if not pages or (periods <= 48 and pages.group(1) != "1"):
-        wrong.append(f"printed on {pages.group(1) if pages else 'no'} pages")
+    first, second = (run(["pdftotext", "-f", number, "-l", number, printed, "-"]).stdout.lstrip() for number in "12")
+    begins = ("Shortages", "Surplus", "Codes") if "class='list'" in page.read_text() else ("",)
+    if not first or (periods <= 48 and not second.startswith(begins)):
+        wrong.append(f"the second printed page begins with {second[:20]!r}")
     run(["pdftoppm", "-png", "-r", "80", "-singlefile", printed, page.with_suffix(".print")])
     return wrong
 

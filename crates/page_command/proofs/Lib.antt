@@ -6,3 +6,4 @@ mod Columns
 mod RowLemmas
 mod OnceLemmas
 pub mod Checks
+mod LabelledReaders

@@ -18,11 +18,18 @@ use Rattle.page_text.specs.declared.row.Row.{Row}
 use Rattle.shelf.specs.Shelf.{Texts}
 use Rattle.answer_texts.specs.TreeText.{tree_text}
 use Rattle.answer_texts.specs.VerdictText.{verdict_text}
-use Rattle.text_commands.specs.Check.{ProofAnswers, AnswersThird, DemandAnswers, AnswersDemand, RulesAnswers, AnswersTexts}
-use Rattle.text_commands.specs.Check as checks
+use Rattle.answers.specs.Asked.{ProofAnswers, TextAnswers, AnswersThird, DemandAnswers, AnswersDemand, RulesAnswers, AnswersTexts}
+use Rattle.answers.specs.Readings.{SaysProofFault}
+use Rattle.answers.specs.Asked as checks
 use Rattle.text_commands.specs.SameTexts.{AreTreesAtOnePrice}
-use Rattle.text_commands.proofs.OneReading.{same_text, same_ok, same_err, not_both, same_grammar, no_fault, faults_once}
-use Rattle.page_command.specs.Check.{Judgement, yes, no}
+use Rattle.answers.proofs.OneReading.{same_text, same_ok, same_err, not_both, same_grammar, no_fault, faults_once}
+use Rattle.page_labels.specs.FaultLine as label
+use Rattle.page_labels.specs.Labels.{nothing}
+use Rattle.page_labels.specs.LabelsOf.{labels_of}
+use Rattle.page_labels.specs.declared.fault.LabelFault.{LabelFault}
+use Rattle.page_labels.specs.declared.labels.Labels.{Labels}
+use Rattle.page_command.specs.Check.{AnswersLabelled, Judgement, LabelAnswers, yes, no}
+use Rattle.page_command.specs.Check as answers
 use Rattle.page_command.specs.Draw.{IsPage}
 use Rattle.page_command.specs.OnePage.{AreSameButTrees, AreTreesOfRows, ArePagesButTrees}
 use Rattle.page_command.specs.Rows.{AreDerived, IsDerived, rules_of}
@@ -52,8 +59,8 @@ trees_of_rows i (r ∷ rs) (x ∷ xs) [] h k = absurd k
 trees_of_rows i (r ∷ rs) (x ∷ xs) (y ∷ ys) h k = (trees_of_row i r x y h.0 k.0, trees_of_rows i rs xs ys h.1 k.1)
 
 -- two pages of one certificate
-pages_once : (i : Instance) (c : Cert) (a b : List ℕ) → IsPage i c a → IsPage i c b → ArePagesButTrees a b
-pages_once i c a b h k =
+pages_once : (d : Labels) (i : Instance) (c : Cert) (a b : List ℕ) → IsPage d i c a → IsPage d i c b → ArePagesButTrees a b
+pages_once d i c a b h k =
     let rows : h.content.rows ≡ k.content.rows = h.shows.rows ∙ sym k.shows.rows in
     record {
       periods = i.grammar.periods;
@@ -61,9 +68,12 @@ pages_once i c a b h k =
       one = h.content;
       other = k.content;
       same = record {
+        title = h.shows.title ∙ sym k.shows.title;
+        words = h.shows.words ∙ sym k.shows.words;
         figures = h.shows.figures ∙ sym k.shows.figures;
         rows = rows;
         columns = h.shows.columns ∙ sym k.shows.columns;
+        tables = h.shows.tables ∙ sym k.shows.tables;
         derivations = trees_of_rows i k.content.rows h.content.derivations k.content.derivations
             (subst (λ (rs : List Row). AreDerived i rs h.content.derivations) rows h.shows.derivations) k.shows.derivations;
       };
@@ -71,52 +81,99 @@ pages_once i c a b h k =
       second = k.text;
     }
 
-judged_once : (i : Instance) (c : Cert) (s t : ℕ) (a b : List ℕ) → Judgement i c s a → Judgement i c t b → AreAlike s t a b
-judged_once i c s t a b (yes x h) (yes y k) = (refl, inr (pages_once i c a b h.page k.page))
-judged_once i c s t a b (yes x h) (no y k) = absurd (cause-refuses i c h.accepted k.why k.cause.holds)
-judged_once i c s t a b (no x h) (yes y k) = absurd (cause-refuses i c k.accepted h.why h.cause.holds)
-judged_once i c s t a b (no x h) (no y k) =
+judged_once : (d : Labels) (i : Instance) (c : Cert) (s t : ℕ) (a b : List ℕ) → Judgement d i c s a → Judgement d i c t b → AreAlike s t a b
+judged_once d i c s t a b (yes x h) (yes y k) = (refl, inr (pages_once d i c a b h.page k.page))
+judged_once d i c s t a b (yes x h) (no y k) = absurd (cause-refuses i c h.accepted k.why k.cause.holds)
+judged_once d i c s t a b (no x h) (yes y k) = absurd (cause-refuses i c k.accepted h.why h.cause.holds)
+judged_once d i c s t a b (no x h) (no y k) =
     (refl, inl (h.line ∙ ap (λ (w : Why). verdict_text (No w)) (one-first i c h.why k.why h.cause k.cause) ∙ sym k.line))
 
-proof_once : (i : Instance) (text : List ℕ) (s t : ℕ) (a b : List ℕ) → ProofAnswers Judgement i text s a → ProofAnswers Judgement i text t b → AreAlike s t a b
-proof_once i text s t a b (checks.ProofAnswers.accepted c x xs e h) (checks.ProofAnswers.accepted d y ys f k) =
-    judged_once i d s t a b (subst (λ (z : Cert). Judgement i z s a) (same_ok (proof_of i text) c d e f) h) k
-proof_once i text s t a b (checks.ProofAnswers.accepted c x xs e h) (checks.ProofAnswers.refused ys k) = absurd (not_both (proof_of i text) c k.fault e k.reading)
-proof_once i text s t a b (checks.ProofAnswers.refused xs h) (checks.ProofAnswers.accepted d y ys f k) = absurd (not_both (proof_of i text) d h.fault f h.reading)
-proof_once i text s t a b (checks.ProofAnswers.refused xs h) (checks.ProofAnswers.refused ys k) =
-    (refl, inl (h.line ∙ ap (λ (x : ProofFault). proof.fault_line x) (same_err (proof_of i text) h.fault k.fault h.reading k.reading) ∙ sym k.line))
+faults_same : (i : Instance) (text a b : List ℕ) → SaysProofFault i text a → SaysProofFault i text b → a ≡ b
+faults_same i text a b h k =
+    h.line ∙ ap (λ (x : ProofFault). proof.fault_line x) (same_err (proof_of i text) h.fault k.fault h.reading k.reading) ∙ sym k.line
 
-proofs_once : (held : Texts) (i : Instance) (name : List ℕ) (s t : ℕ) (a b : List ℕ) → AnswersThird (ProofAnswers Judgement) (Some held) i name s a → AnswersThird (ProofAnswers Judgement) (Some held) i name t b → AreAlike s t a b
-proofs_once held i name s t a b h k =
-    proof_once i k.text s t a b (subst (λ (x : List ℕ). ProofAnswers Judgement i x s a) (same_text held name h.text k.text h.holds k.holds) h.answers) k.answers
+proof_once : (d : Labels) (i : Instance) (text : List ℕ) (s t : ℕ) (a b : List ℕ) → ProofAnswers (Judgement d) i text s a → ProofAnswers (Judgement d) i text t b → AreAlike s t a b
+proof_once d i text s t a b (checks.ProofAnswers.accepted c x xs e h) (checks.ProofAnswers.accepted z y ys f k) =
+    judged_once d i z s t a b (subst (λ (q : Cert). Judgement d i q s a) (same_ok (proof_of i text) c z e f) h) k
+proof_once d i text s t a b (checks.ProofAnswers.accepted c x xs e h) (checks.ProofAnswers.refused ys k) = absurd (not_both (proof_of i text) c k.fault e k.reading)
+proof_once d i text s t a b (checks.ProofAnswers.refused xs h) (checks.ProofAnswers.accepted z y ys f k) = absurd (not_both (proof_of i text) z h.fault f h.reading)
+proof_once d i text s t a b (checks.ProofAnswers.refused xs h) (checks.ProofAnswers.refused ys k) = (refl, inl (faults_same i text a b h k))
 
-demand_once : (held : Texts) (g : Grammar) (text name : List ℕ) (s t : ℕ) (a b : List ℕ) → DemandAnswers (ProofAnswers Judgement) (Some held) g text name s a → DemandAnswers (ProofAnswers Judgement) (Some held) g text name t b → AreAlike s t a b
-demand_once held g text name s t a b (checks.DemandAnswers.accepted i x xs e h) (checks.DemandAnswers.accepted j y ys f k) =
-    proofs_once held j name s t a b
-    (subst (λ (z : Instance). AnswersThird (ProofAnswers Judgement) (Some held) z name s a) (same_ok (instance_of g text) i j e.reading f.reading) h) k
-demand_once held g text name s t a b (checks.DemandAnswers.accepted i x xs e h) (checks.DemandAnswers.refused ys k) =
-    absurd (not_both (instance_of g text) i k.fault e.reading k.reading)
-demand_once held g text name s t a b (checks.DemandAnswers.refused xs h) (checks.DemandAnswers.accepted j y ys f k) =
-    absurd (not_both (instance_of g text) j h.fault f.reading h.reading)
-demand_once held g text name s t a b (checks.DemandAnswers.refused xs h) (checks.DemandAnswers.refused ys k) =
-    (refl, inl (h.line ∙ ap (λ (x : DemandFault). demand.fault_line x) (same_err (instance_of g text) h.fault k.fault h.reading k.reading) ∙ sym k.line))
+-- a text that is refused has no certificate
+fault_once : (d : Labels) (i : Instance) (text : List ℕ) (s : ℕ) (a b : List ℕ) → ProofAnswers (Judgement d) i text s a → SaysProofFault i text b → AreAlike s 5 a b
+fault_once d i text s a b (checks.ProofAnswers.accepted c x xs e h) k = absurd (not_both (proof_of i text) c k.fault e k.reading)
+fault_once d i text s a b (checks.ProofAnswers.refused xs h) k = (refl, inl (faults_same i text a b h k))
 
-demands_once : (held : Texts) (g : Grammar) (name proof_name : List ℕ) (s t : ℕ) (a b : List ℕ) → AnswersDemand (ProofAnswers Judgement) (Some held) g name proof_name s a → AnswersDemand (ProofAnswers Judgement) (Some held) g name proof_name t b → AreAlike s t a b
-demands_once held g name proof_name s t a b h k =
-    demand_once held g k.text proof_name s t a b
-    (subst (λ (x : List ℕ). DemandAnswers (ProofAnswers Judgement) (Some held) g x proof_name s a) (same_text held name h.text k.text h.holds k.holds) h.answers) k.answers
+once_fault : (d : Labels) (i : Instance) (text : List ℕ) (s : ℕ) (a b : List ℕ) → SaysProofFault i text b → ProofAnswers (Judgement d) i text s a → AreAlike 5 s b a
+once_fault d i text s a b k (checks.ProofAnswers.accepted c x xs e h) = absurd (not_both (proof_of i text) c k.fault e k.reading)
+once_fault d i text s a b k (checks.ProofAnswers.refused xs h) = (refl, inl (faults_same i text b a k h))
 
-rules_once : (held : Texts) (text demand proof : List ℕ) (s t : ℕ) (a b : List ℕ) → RulesAnswers (ProofAnswers Judgement) (Some held) text demand proof s a → RulesAnswers (ProofAnswers Judgement) (Some held) text demand proof t b → AreAlike s t a b
-rules_once held text demand proof s t a b (checks.RulesAnswers.accepted g x xs e h) (checks.RulesAnswers.accepted f y ys q k) =
-    demands_once held f demand proof s t a b
-    (subst (λ (z : Grammar). AnswersDemand (ProofAnswers Judgement) (Some held) z demand proof s a) (same_grammar text g f e.reading q.reading) h) k
-rules_once held text demand proof s t a b (checks.RulesAnswers.accepted g x xs e h) (checks.RulesAnswers.refused ys k) =
-    absurd (no_fault text g k.fault e.reading k.reading)
-rules_once held text demand proof s t a b (checks.RulesAnswers.refused xs h) (checks.RulesAnswers.accepted f y ys q k) =
-    absurd (no_fault text f h.fault q.reading h.reading)
-rules_once held text demand proof s t a b (checks.RulesAnswers.refused xs h) (checks.RulesAnswers.refused ys k) = (refl, inl (faults_once text a b h k))
+labels_once : (labels : List ℕ) (i : Instance) (text : List ℕ) (s t : ℕ) (a b : List ℕ) → LabelAnswers labels i text s a → LabelAnswers labels i text t b → AreAlike s t a b
+labels_once labels i text s t a b (answers.LabelAnswers.answered d x xs e h) (answers.LabelAnswers.answered g y ys f k) =
+    proof_once g i text s t a b (subst (λ (q : Labels). ProofAnswers (Judgement q) i text s a) (same_ok (labels_of i labels) d g e f) h) k
+labels_once labels i text s t a b (answers.LabelAnswers.answered d x xs e h) (answers.LabelAnswers.labels_refused c ys f k) =
+    absurd (not_both (labels_of i labels) d k.fault e k.reading)
+labels_once labels i text s t a b (answers.LabelAnswers.answered d x xs e h) (answers.LabelAnswers.proof_refused ys k) = fault_once d i text s a b h k
+labels_once labels i text s t a b (answers.LabelAnswers.labels_refused c xs e h) (answers.LabelAnswers.answered d y ys f k) =
+    absurd (not_both (labels_of i labels) d h.fault f h.reading)
+labels_once labels i text s t a b (answers.LabelAnswers.labels_refused c xs e h) (answers.LabelAnswers.labels_refused z ys f k) =
+    (refl, inl (h.line ∙ ap (λ (x : LabelFault). label.fault_line x) (same_err (labels_of i labels) h.fault k.fault h.reading k.reading) ∙ sym k.line))
+labels_once labels i text s t a b (answers.LabelAnswers.labels_refused c xs e h) (answers.LabelAnswers.proof_refused ys k) =
+    absurd (not_both (proof_of i text) c k.fault e k.reading)
+labels_once labels i text s t a b (answers.LabelAnswers.proof_refused xs h) (answers.LabelAnswers.answered d y ys f k) = once_fault d i text t b a h k
+labels_once labels i text s t a b (answers.LabelAnswers.proof_refused xs h) (answers.LabelAnswers.labels_refused c ys f k) =
+    absurd (not_both (proof_of i text) c h.fault f h.reading)
+labels_once labels i text s t a b (answers.LabelAnswers.proof_refused xs h) (answers.LabelAnswers.proof_refused ys k) = (refl, inl (faults_same i text a b h k))
 
-pub texts_once : (held : Texts) (rules demand proof : List ℕ) (s t : ℕ) (a b : List ℕ) → AnswersTexts (ProofAnswers Judgement) (Some held) rules demand proof s a → AnswersTexts (ProofAnswers Judgement) (Some held) rules demand proof t b → AreAlike s t a b
-texts_once held rules demand proof s t a b h k =
-    rules_once held k.text demand proof s t a b
-    (subst (λ (x : List ℕ). RulesAnswers (ProofAnswers Judgement) (Some held) x demand proof s a) (same_text held rules h.text k.text h.holds k.holds) h.answers) k.answers
+-- answers to a proof text of which there is one
+abbrev IsOnce : TextAnswers → Type 0
+IsOnce A = (i : Instance) (text : List ℕ) (s t : ℕ) (a b : List ℕ) → A i text s a → A i text t b → AreAlike s t a b
+
+module _ (A : TextAnswers) (once : IsOnce A) where
+  proofs_once : (held : Texts) (i : Instance) (name : List ℕ) (s t : ℕ) (a b : List ℕ) → AnswersThird A (Some held) i name s a → AnswersThird A (Some held) i name t b → AreAlike s t a b
+  proofs_once held i name s t a b h k =
+      once i k.text s t a b (subst (λ (x : List ℕ). A i x s a) (same_text held name h.text k.text h.holds k.holds) h.answers) k.answers
+
+  demand_once : (held : Texts) (g : Grammar) (text name : List ℕ) (s t : ℕ) (a b : List ℕ) → DemandAnswers A (Some held) g text name s a → DemandAnswers A (Some held) g text name t b → AreAlike s t a b
+  demand_once held g text name s t a b (checks.DemandAnswers.accepted i x xs e h) (checks.DemandAnswers.accepted j y ys f k) =
+      proofs_once held j name s t a b
+      (subst (λ (z : Instance). AnswersThird A (Some held) z name s a) (same_ok (instance_of g text) i j e.reading f.reading) h) k
+  demand_once held g text name s t a b (checks.DemandAnswers.accepted i x xs e h) (checks.DemandAnswers.refused ys k) =
+      absurd (not_both (instance_of g text) i k.fault e.reading k.reading)
+  demand_once held g text name s t a b (checks.DemandAnswers.refused xs h) (checks.DemandAnswers.accepted j y ys f k) =
+      absurd (not_both (instance_of g text) j h.fault f.reading h.reading)
+  demand_once held g text name s t a b (checks.DemandAnswers.refused xs h) (checks.DemandAnswers.refused ys k) =
+      (refl, inl (h.line ∙ ap (λ (x : DemandFault). demand.fault_line x) (same_err (instance_of g text) h.fault k.fault h.reading k.reading) ∙ sym k.line))
+
+  demands_once : (held : Texts) (g : Grammar) (name proof_name : List ℕ) (s t : ℕ) (a b : List ℕ) → AnswersDemand A (Some held) g name proof_name s a → AnswersDemand A (Some held) g name proof_name t b → AreAlike s t a b
+  demands_once held g name proof_name s t a b h k =
+      demand_once held g k.text proof_name s t a b
+      (subst (λ (x : List ℕ). DemandAnswers A (Some held) g x proof_name s a) (same_text held name h.text k.text h.holds k.holds) h.answers) k.answers
+
+  rules_once : (held : Texts) (text demand proof : List ℕ) (s t : ℕ) (a b : List ℕ) → RulesAnswers A (Some held) text demand proof s a → RulesAnswers A (Some held) text demand proof t b → AreAlike s t a b
+  rules_once held text demand proof s t a b (checks.RulesAnswers.accepted g x xs e h) (checks.RulesAnswers.accepted f y ys q k) =
+      demands_once held f demand proof s t a b
+      (subst (λ (z : Grammar). AnswersDemand A (Some held) z demand proof s a) (same_grammar text g f e.reading q.reading) h) k
+  rules_once held text demand proof s t a b (checks.RulesAnswers.accepted g x xs e h) (checks.RulesAnswers.refused ys k) =
+      absurd (no_fault text g k.fault e.reading k.reading)
+  rules_once held text demand proof s t a b (checks.RulesAnswers.refused xs h) (checks.RulesAnswers.accepted f y ys q k) =
+      absurd (no_fault text f h.fault q.reading h.reading)
+  rules_once held text demand proof s t a b (checks.RulesAnswers.refused xs h) (checks.RulesAnswers.refused ys k) = (refl, inl (faults_once text a b h k))
+
+  texts_once : (held : Texts) (rules demand proof : List ℕ) (s t : ℕ) (a b : List ℕ) → AnswersTexts A (Some held) rules demand proof s a → AnswersTexts A (Some held) rules demand proof t b → AreAlike s t a b
+  texts_once held rules demand proof s t a b h k =
+      rules_once held k.text demand proof s t a b
+      (subst (λ (x : List ℕ). RulesAnswers A (Some held) x demand proof s a) (same_text held rules h.text k.text h.holds k.holds) h.answers) k.answers
+
+pub page_once : (held : Texts) (rules demand proof : List ℕ) (s t : ℕ) (a b : List ℕ) → AnswersTexts (ProofAnswers (Judgement nothing)) (Some held) rules demand proof s a
+    → AnswersTexts (ProofAnswers (Judgement nothing)) (Some held) rules demand proof t b → AreAlike s t a b
+page_once held rules demand proof s t a b h k = texts_once (ProofAnswers (Judgement nothing)) (proof_once nothing) held rules demand proof s t a b h k
+
+pub labelled_once : (held : Texts) (rules demand proof labels : List ℕ) (s t : ℕ) (a b : List ℕ) → AnswersLabelled (Some held) rules demand proof labels s a
+    → AnswersLabelled (Some held) rules demand proof labels t b → AreAlike s t a b
+labelled_once held rules demand proof labels s t a b h k =
+    let rules_same = same_text held rules h.text k.text h.holds k.holds in
+    let labels_same = same_text held labels h.answers.text k.answers.text h.answers.holds k.answers.holds in
+    let by_rules = subst (λ (x : List ℕ). RulesAnswers (LabelAnswers h.answers.text) (Some held) x demand proof s a) rules_same h.answers.answers in
+    let by_labels = subst (λ (x : List ℕ). RulesAnswers (LabelAnswers x) (Some held) k.text demand proof s a) labels_same by_rules in
+    rules_once (LabelAnswers k.answers.text) (labels_once k.answers.text) held k.text demand proof s t a b by_labels k.answers.answers

@@ -20,9 +20,9 @@ use Rattle.certificate_laws.specs.Accepted.{IsStated}
 use Rattle.certificates.specs.Sound.{IsSoundCert}
 use Rattle.certificates.specs.declared.cert.Cert.{Cert}
 use Rattle.certificates.specs.RosterCauses.{duties, stated_prices}
-use Rattle.page_parts.specs.Elements.{places}
 use Rattle.page_text.specs.declared.row.Row.{Row}
 use Rattle.page_command.specs.Rows.{IsPricedRow, has_row, own_row, plain_from, row_of, rows_at, rows_of, start_from}
+use Rattle.shift_figures.specs.Order.{drawn_order}
 use Rattle.page_command.proofs.PlainTrees.{plain_extended, plain_none, price_down}
 use Rattle.page_command.proofs.Starts.{sound_from}
 
@@ -71,8 +71,8 @@ module _ (i : Instance) (word : List ℕ) (price : ℕ) where
       })
 
 -- the row of a shift at its price
-priced_row : (i : Instance) (shifts : List Shift) (s : Shift) → IsSoundInstance i → IsTeamPrice i (duty s) s.price → IsPricedRow i (row_of i shifts s)
-priced_row i shifts s sound h =
+priced_row : (i : Instance) (shifts : List Shift) (k : ℕ) (s : Shift) → IsSoundInstance i → IsTeamPrice i (duty s) s.price → IsPricedRow i (row_of i shifts k s)
+priced_row i shifts k s sound h =
     let ready = by_groups i s.word s.price i.groups refl sound.groups sound.grammar h.team h.listed h.priced in
     let by_number = subst (λ (n : ℕ). Prices s.word s.price (plain_from i.grammar i.groups (start_from i.grammar i.groups n))) h.numbered ready in
     record { sound = by_number.sound; price = by_number.price }
@@ -92,7 +92,7 @@ choice P false r h = (h, tt)
 module _ (i : Instance) (shifts : List Shift) (sound : IsSoundInstance i) (prices : Each (λ (s : Shift). IsTeamPrice i (duty s) s.price) shifts) where
   priced_own : (k : ℕ) (s : Shift) → IsTeamPrice i (duty s) s.price → Each (IsPricedRow i) (own_row i shifts k s)
   unfolding own_row
-  priced_own k s h = choice (IsPricedRow i) (has_row shifts k s) (row_of i shifts s) (priced_row i shifts s sound h)
+  priced_own k s h = choice (IsPricedRow i) (has_row shifts k s) (row_of i shifts k s) (priced_row i shifts k s sound h)
 
   by_shift : (k : ℕ) (o : Option Shift) → slice_get shifts k ≡ o → Each (IsPricedRow i) (elim o [ None ↦ [] | Some s ↦ own_row i shifts k s ])
   by_shift k None e = tt
@@ -101,7 +101,7 @@ module _ (i : Instance) (shifts : List Shift) (sound : IsSoundInstance i) (price
   priced_all : All (IsPricedRow i) (rows_of i shifts)
   priced_all =
       each_all (IsPricedRow i) (rows_of i shifts)
-      (each_of (IsPricedRow i) (rows_at i shifts) (λ k. by_shift k (slice_get shifts k) refl) (places (length shifts)))
+      (each_of (IsPricedRow i) (rows_at i shifts) (λ k. by_shift k (slice_get shifts k) refl) (drawn_order i.grammar.codes shifts))
 
 by_cost : (i : Instance) (shifts : List Shift) (o : Option ℕ) → IsSoundInstance i → (o ≡ None → shifts ≡ []) → IfSome o (IsStated i shifts) → All (IsPricedRow i) (rows_of i shifts)
 by_cost i shifts None sound none h = priced_all i shifts sound (subst (λ (ss : List Shift). Each (λ (s : Shift). IsTeamPrice i (duty s) s.price) ss) (sym (none refl)) tt)

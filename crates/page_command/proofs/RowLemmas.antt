@@ -1,12 +1,15 @@
 -- Rows and derivations, one after another.
-use Rattle.std.proofs.Common.{◌≡◌, ℕ, suc, ◌+◌, ◌<◌, List, [], ◌∷◌, ◌++◌, length, length-append, take, get_or, arith, refl, sym, ap, ◌∙◌, append-nil, add-one}
+use Rattle.std.proofs.Common.{◌≡◌, ℕ, suc, ◌+◌, ◌<◌, ◌≤◌, All, List, [], ◌∷◌, ◌++◌, length, length-append, map, take, get_or, arith, refl, sym, ap, ◌∙◌, append-nil, add-one}
 use Rattle.std.proofs.lemmas.Grind.{flat_map-append}
-use Rattle.std.proofs.lemmas.List.{take_more}
+use Rattle.std.proofs.lemmas.List.{map-append, take_more}
 use Rattle.std.specs.List.{flat_map}
 use Rattle.std.specs.Prelude.{None, Some, slice_get}
-use Rattle.page_parts.specs.Elements.{places}
 use Rattle.roster_model.specs.declared.instance.Instance.{Instance}
 use Rattle.roster_model.specs.declared.instance.Shift.{Shift}
+use Rattle.roster_model.specs.Folds.{Each}
+use Rattle.roster_model.proofs.EachLemmas.{Each-weaker, each_all}
+use Rattle.certificates.specs.Sound.{IsSoundShift}
+use Rattle.page_parts.specs.Elements.{places}
 use Rattle.page_text.specs.declared.row.Row.{Row}
 use Rattle.page_command.specs.Rows.{AreDerived, IsDerived, own_row, rows_at}
 
@@ -18,9 +21,17 @@ pub row-past : (i : Instance) (shifts : List Shift) (k : ℕ) (rows : List Row) 
 row-past i shifts k rows e = rw (e, rows_at) (sym (append-nil rows))
 
 -- one more place
-pub rows_more : (f : ℕ → List Row) (n : ℕ) (before after : List Row) → before ≡ flat_map f (places n) → after ≡ before ++ f n → after ≡ flat_map f (places (n + 1))
-rows_more f n before after e h =
-    rw (add-one n) (h ∙ ap (λ (t : List Row). t ++ f n) e ∙ ap (λ (t : List Row). flat_map f (places n) ++ t) (sym (append-nil (f n))) ∙ sym (flat_map-append f (places n) (n ∷ [])))
+pub rows_more : (f : ℕ → List Row) (ks : List ℕ) (i : ℕ) (before after : List Row) → i < length ks → before ≡ flat_map f (take i ks) → after ≡ before ++ f (get_or ks i 0)
+    → after ≡ flat_map f (take (i + 1) ks)
+rows_more f ks i before after lt e h =
+    let k = get_or ks i 0 in
+    h ∙ ap (λ (t : List Row). t ++ f k) e ∙ ap (λ (t : List Row). flat_map f (take i ks) ++ t) (sym (append-nil (f k))) ∙ sym (flat_map-append f (take i ks) (k ∷ []))
+    ∙ ap (λ (t : List ℕ). flat_map f t) (sym (take_more ks i 0 lt))
+
+-- the words of sound shifts are short
+pub short_words : (i : Instance) (shifts : List Shift) → Each (IsSoundShift i) shifts → All (λ (s : Shift). length s.word ≤ 96) shifts
+short_words i shifts h =
+    each_all (λ (s : Shift). length s.word ≤ 96) shifts (Each-weaker (IsSoundShift i) (λ (s : Shift). length s.word ≤ 96) shifts (λ s q. q.short) h)
 
 -- one more text
 pub count_more : (before after : List (List ℕ)) (text : List ℕ) (k : ℕ) → length before ≡ k → after ≡ before ++ text ∷ [] → length after ≡ k + 1
@@ -46,3 +57,8 @@ module _ (i : Instance) where
   as_many [] (t ∷ ts) h = absurd h
   as_many (r ∷ rs) [] h = absurd h
   as_many (r ∷ rs) (t ∷ ts) h = ap suc (as_many rs ts h.1)
+
+-- one more text, by its place
+pub words_more : (f : ℕ → List ℕ) (n : ℕ) (before after : List (List ℕ)) → before ≡ map f (places n) → after ≡ before ++ f n ∷ [] → after ≡ map f (places (n + 1))
+words_more f n before after e h =
+    rw (add-one n) (h ∙ ap (λ (t : List (List ℕ)). t ++ f n ∷ []) e ∙ sym (map-append f (places n) (n ∷ [])))

@@ -4,3 +4,4 @@ pub mod Check
 pub mod Statuses
 pub mod OnePage
 pub mod Run
+pub mod Asked

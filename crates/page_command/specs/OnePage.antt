@@ -7,7 +7,7 @@ use Rattle.page_text.specs.declared.content.Content.{Content}
 use Rattle.page_text.specs.declared.row.Row.{Row}
 use Rattle.shelf.specs.Shelf.{Texts}
 use Rattle.text_commands.specs.SameTexts.{AreTreesAtOnePrice}
-use Rattle.page_command.specs.Check.{AnswersPage}
+use Rattle.page_command.specs.Check.{AnswersLabelled, AnswersPage}
 
 -- for each row two derivations of its word, at one price
 abbrev pub AreTreesOfRows : List Row → List (List ℕ) → List (List ℕ) → Type 0
@@ -17,9 +17,12 @@ AreTreesOfRows _ _ _ = ⊥
 
 -- the same content, but for the trees of the derivations
 pub record IsSameButTrees (c d : Content) : Type 0 where
+  pub title : c.title ≡ d.title
+  pub words : c.words ≡ d.words
   pub figures : c.figures ≡ d.figures
   pub rows : c.rows ≡ d.rows
   pub columns : c.columns ≡ d.columns
+  pub tables : c.tables ≡ d.tables
   pub derivations : AreTreesOfRows d.rows c.derivations d.derivations
 
 -- two pages of one day, the same but for the trees of the derivations
@@ -42,4 +45,12 @@ abbrev pub HaveOnePage : Type 0
 HaveOnePage =
     (held : Texts) (rules demand proof : List ℕ) (s t : ℕ) (a b : List ℕ)
     → AnswersPage (Some held) rules demand proof s a → AnswersPage (Some held) rules demand proof t b
+    → (s ≡ t) × AreSameButTrees a b
+
+-- the same of two answers to the same four texts
+abbrev pub HaveOneLabelledPage : Type 0
+HaveOneLabelledPage =
+    (held : Texts) (rules demand proof labels : List ℕ) (s t : ℕ) (a b : List ℕ)
+    → AnswersLabelled (Some held) rules demand proof labels s a
+    → AnswersLabelled (Some held) rules demand proof labels t b
     → (s ≡ t) × AreSameButTrees a b

@@ -1,5 +1,5 @@
 -- The rows of the chart of shifts, and their derivations.
-use Rattle.std.specs.Prelude.{ℕ, ◌≡◌, ◌-◌, Bool, ◌&&◌, None, Some, List, [], ◌∷◌, length, take, nat_eq, nat_lt, slice_get, count_by, if◌then◌else◌}
+use Rattle.std.specs.Prelude.{ℕ, ◌≡◌, ◌+◌, ◌-◌, Bool, ◌&&◌, None, Some, List, [], ◌∷◌, length, take, nat_eq, nat_lt, slice_get, count_by, if◌then◌else◌}
 use Rattle.std.specs.List.{flat_map, list_any}
 use Rattle.std.specs.Str.{bytes_eq}
 use Rattle.roster_model.specs.declared.grammar.Grammar.{Grammar}
@@ -9,8 +9,8 @@ use Rattle.roster_model.specs.declared.instance.Shift.{Shift}
 use Rattle.roster_model.specs.Shifts.{IsPrice}
 use Rattle.roster_model.specs.Sound.{IsSound}
 use Rattle.certificate_text.specs.Written.{group_name}
-use Rattle.page_parts.specs.Elements.{places}
 use Rattle.page_text.specs.declared.row.Row.{Row}
+use Rattle.shift_figures.specs.Order.{drawn_order}
 use Rattle.text_commands.specs.Explain.{SaysTree}
 
 -- employees of one group with one word
@@ -25,8 +25,10 @@ are_many shifts = nat_lt 40 (length shifts)
 abbrev pub count_of : List Shift → Shift → ℕ
 count_of shifts s = if are_many shifts then count_by (λ (t : Shift). is_same t s) shifts else 1
 
-abbrev pub row_of : Instance → List Shift → Shift → Row
-row_of i shifts s = record {
+-- the row of a shift behind so many
+abbrev pub row_of : Instance → List Shift → ℕ → Shift → Row
+row_of i shifts k s = record {
+  number = k + 1;
   group = s.group;
   name = group_name i s.group;
   word = s.word;
@@ -40,16 +42,17 @@ has_row shifts k s = are_many shifts && list_any (λ (t : Shift). is_same t s) (
 
 -- the row of a shift behind so many, if it has one of its own
 unfoldable pub own_row : Instance → List Shift → ℕ → Shift → List Row
-own_row i shifts k s = if has_row shifts k s then [] else row_of i shifts s ∷ []
+own_row i shifts k s = if has_row shifts k s then [] else row_of i shifts k s ∷ []
 
 -- the same, where there is a shift behind so many
 abbrev pub rows_at : Instance → List Shift → ℕ → List Row
 rows_at i shifts k =
     elim (slice_get shifts k) [ None ↦ [] | Some s ↦ own_row i shifts k s ]
 
--- a row for each shift, or, where there are more than 40, one for all that are equal
+-- a row for each shift, or, where there are more than 40, one for all that are equal: by group, first period of
+-- work, last period of work and number
 abbrev pub rows_of : Instance → List Shift → List Row
-rows_of i shifts = flat_map (rows_at i shifts) (places (length shifts))
+rows_of i shifts = flat_map (rows_at i shifts) (drawn_order i.grammar.codes shifts)
 
 -- how many names groups add to the grammar of the rules text
 abbrev pub added_names : List Group → ℕ

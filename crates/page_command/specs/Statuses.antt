@@ -2,9 +2,20 @@
 use Rattle.std.proofs.Common.{◌≢◌, ℕ, List, arith, refl}
 use Rattle.roster_model.specs.declared.instance.Instance.{Instance}
 use Rattle.certificates.specs.declared.cert.Cert.{Cert}
-use Rattle.page_command.specs.Check.{Judgement, yes, no}
-use Rattle.text_commands.specs.Statuses.{ends_at}
+use Rattle.page_labels.specs.declared.labels.Labels.{Labels}
+use Rattle.page_command.specs.Check.{Judgement, yes, no, LabelAnswers}
+use Rattle.page_command.specs.Check as check
+use Rattle.answers.specs.Statuses.{ends_at, proof-ends}
 
-pub judged-ends : (i : Instance) (c : Cert) (s : ℕ) (output : List ℕ) → Judgement i c s output → (s ≢ 6) × (s ≢ 7)
-judged-ends i c s output (yes x h) = ends_at s 0 refl (omega arith)
-judged-ends i c s output (no x h) = ends_at s 1 refl (omega arith)
+pub judged-ends : (d : Labels) (i : Instance) (c : Cert) (s : ℕ) (output : List ℕ) → Judgement d i c s output
+    → (s ≢ 6) × (s ≢ 7)
+judged-ends d i c s output (yes x h) = ends_at s 0 refl (omega arith)
+judged-ends d i c s output (no x h) = ends_at s 1 refl (omega arith)
+
+-- nor has an answer under a labels text
+pub label-ends : (labels : List ℕ) (i : Instance) (text : List ℕ) (s : ℕ) (output : List ℕ)
+    → LabelAnswers labels i text s output → (s ≢ 6) × (s ≢ 7)
+label-ends labels i text s output (check.LabelAnswers.answered d x o e a) =
+    proof-ends (Judgement d) (judged-ends d) i text s output a
+label-ends labels i text s output (check.LabelAnswers.labels_refused c o e a) = ends_at s 5 refl (omega arith)
+label-ends labels i text s output (check.LabelAnswers.proof_refused o a) = ends_at s 5 refl (omega arith)

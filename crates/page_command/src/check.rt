@@ -1,20 +1,21 @@
-ghost use Rattle.std.specs.Prelude.{◌≡◌, [], ◌∷◌, IfOk};
+ghost use Rattle.std.specs.Prelude.{◌≡◌, ◌≢◌, [], ◌∷◌, Err as Refused, IfOk};
 ghost use Rattle.roster_model.specs.SoundInstance.{IsSoundInstance};
-ghost use Rattle.page_command.specs.Check.{AnswersPage, Judgement};
+ghost use Rattle.page_command.specs.Check.{AnswersLabelled, AnswersLabelsText, AnswersPage, AnswersUnder, Judgement, LabelAnswers};
+ghost use Rattle.page_labels.specs.FaultLine as label_line;
+ghost use Rattle.page_labels.specs.LabelsOf.{labels_of};
 ghost use Rattle.answer_texts.specs.VerdictText.{verdict_text};
-ghost use Rattle.text_commands.specs.Check.{ProofAnswers};
-ghost use Rattle.text_commands.specs.Reader.{IsReader};
+ghost use Rattle.answers.specs.Asked.{ProofAnswers};
+ghost use Rattle.answers.specs.Reader.{IsReader};
 
 use crate::draw::page_answer;
+use answers::{Answer, Question, ask, ask_rules_text, fetched, proof_refusal};
 use certificates::{Verdict, Why};
+use page_labels::{LabelFault, Labels, no_labels, read_labels};
 use proof_check::Judged;
 use roster_model::{Instance, Memory};
 use shelf::Shelf;
 use std::alloc::Global;
-use text_commands::answer::Answer;
-use text_commands::ask::ask;
-use text_commands::check::{judged, proof_refusal, verdict_answer};
-use text_commands::question::Question;
+use text_commands::check::{judged, verdict_answer};
 
 // Says why a certificate is refused.
 fn no_answer(alloc: Global, why: Why) -> Result<Answer, Memory>
@@ -23,13 +24,18 @@ fn no_answer(alloc: Global, why: Why) -> Result<Answer, Memory>
     verdict_answer(alloc, &Verdict::No(why))
 }
 
-// What is answered to a proof text.
-fn judgement(alloc: Global, instance: &Instance, text: &[u8]) -> Result<Answer, Memory>
+// What is answered to a proof text under labels.
+fn judgement(
+    alloc: Global,
+    instance: &Instance,
+    labels: &Labels,
+    text: &[u8],
+) -> Result<Answer, Memory>
     requires { IsSoundInstance instance.now }
-    ensures { IfOk result (λ a. ProofAnswers Judgement instance.now text.now a.status a.output) }
+    ensures { IfOk result (λ a. ProofAnswers (Judgement labels.now) instance.now text.now a.status a.output) }
 {
     match judged(alloc, instance, text)? {
-        Judged::Said(Verdict::Yes { .. }) => page_answer(alloc, instance, text),
+        Judged::Said(Verdict::Yes { .. }) => page_answer(alloc, instance, labels, text),
         Judged::Said(Verdict::No(why)) => no_answer(alloc, why),
         Judged::Fault(fault) => proof_refusal(alloc, fault),
     }
@@ -41,16 +47,17 @@ struct Drawing;
 impl Question for Drawing {
     ghost use Rattle.page_command.specs.Check.{Judgement};
     ghost use Rattle.page_command.specs.Statuses.{judged-ends};
-    ghost use Rattle.text_commands.specs.Check.{ProofAnswers};
-    ghost use Rattle.text_commands.specs.Statuses.{proof-ends};
+    ghost use Rattle.page_labels.specs.Labels.{nothing};
+    ghost use Rattle.answers.specs.Asked.{ProofAnswers};
+    ghost use Rattle.answers.specs.Statuses.{proof-ends};
 
-    ghost answers = { λ _. ProofAnswers Judgement };
+    ghost answers = { λ _. ProofAnswers (Judgement nothing) };
 
-    ghost ends = { λ _. proof-ends Judgement judged-ends };
+    ghost ends = { λ _. proof-ends (Judgement nothing) (judged-ends nothing) };
 
     // Says the page of the certificate, or why it is refused.
     fn answer(&self, alloc: Global, instance: &Instance, text: &[u8]) -> Result<Answer, Memory> {
-        judgement(alloc, instance, text)
+        judgement(alloc, instance, &no_labels(alloc), text)
     }
 }
 
@@ -61,4 +68,126 @@ pub fn draw<S: Shelf>(alloc: Global, shelf: &mut S, rules: &str, demand: &str, p
         (rules.now ∷ demand.now ∷ proof.now ∷ []) (S.told shelf.old) (S.told shelf.new) result }
 {
     ask(alloc, shelf, rules, demand, proof, &Drawing)
+}
+
+// Says why a labels text is refused.
+fn label_refusal(alloc: Global, fault: LabelFault) -> Result<Answer, Memory>
+    ensures { IfOk result (λ a. (fault ≢ LabelFault.Memory) × (a.status ≡ 5)
+        × (a.output ≡ label_line.fault_line fault)) }
+{
+    match fault {
+        LabelFault::Memory => Err(Memory),
+        _ => Ok(Answer {
+            status: 5,
+            output: page_labels::fault_line(alloc, &fault)?,
+        }),
+    }
+}
+
+// What is answered to a proof text under a labels text that is refused; a fault of the proof text comes first.
+fn refused_labels(
+    alloc: Global,
+    instance: &Instance,
+    labels: &[u8],
+    text: &[u8],
+    fault: LabelFault,
+) -> Result<Answer, Memory>
+    requires sound { IsSoundInstance instance.now }
+    requires fault { fault ≢ LabelFault.Memory → labels_of instance.now labels.now ≡ Refused fault }
+    ensures { IfOk result (λ a. LabelAnswers labels.now instance.now text.now a.status a.output) }
+{
+    match judged(alloc, instance, text)? {
+        Judged::Said(_) => label_refusal(alloc, fault),
+        Judged::Fault(fault) => proof_refusal(alloc, fault),
+    }
+}
+
+// What is answered to a proof text under a labels text.
+fn answer_under(
+    alloc: Global,
+    instance: &Instance,
+    labels: &[u8],
+    text: &[u8],
+) -> Result<Answer, Memory>
+    requires { IsSoundInstance instance.now }
+    ensures { IfOk result (λ a. LabelAnswers labels.now instance.now text.now a.status a.output) }
+{
+    match read_labels(alloc, instance, labels) {
+        Ok(said) => judgement(alloc, instance, &said, text),
+        Err(fault) => refused_labels(alloc, instance, labels, text, fault),
+    }
+}
+
+// Whether a certificate is accepted, and the page that shows it under a labels text.
+#[derive(Drop)]
+struct Labelled<'a> {
+    labels: &'a [u8],
+}
+
+impl<'a> Question for Labelled<'a> {
+    ghost use Rattle.page_command.specs.Check.{LabelAnswers};
+    ghost use Rattle.page_command.specs.Statuses.{label-ends};
+
+    ghost answers = { λ q. LabelAnswers q.labels.now };
+
+    ghost ends = { λ q. label-ends q.labels.now };
+
+    // Says the page of the certificate, or why it is refused.
+    fn answer(&self, alloc: Global, instance: &Instance, text: &[u8]) -> Result<Answer, Memory> {
+        answer_under(alloc, instance, self.labels, text)
+    }
+}
+
+// Says the page of a certificate under the labels text of a name, by a rules text and the demand and proof texts
+// under names.
+fn draw_under<S: Shelf>(
+    alloc: Global,
+    shelf: &mut S,
+    rules: &[u8],
+    demand: &str,
+    proof: &str,
+    labels: &[u8],
+) -> u8
+    ensures { IsReader (AnswersUnder labels.now rules.now (S.told shelf.old).held demand.now proof.now)
+        (demand.now ∷ proof.now ∷ []) (S.told shelf.old) (S.told shelf.new) result }
+{
+    ask_rules_text(alloc, shelf, rules, demand, proof, &Labelled { labels })
+}
+
+// The same, where the labels text is still to be fetched.
+fn draw_by_rules<S: Shelf>(
+    alloc: Global,
+    shelf: &mut S,
+    rules: &[u8],
+    demand: &str,
+    proof: &str,
+    labels: &str,
+) -> u8
+    ensures { IsReader (AnswersLabelsText (S.told shelf.old).held rules.now demand.now proof.now labels.now)
+        (labels.now ∷ demand.now ∷ proof.now ∷ []) (S.told shelf.old) (S.told shelf.new) result }
+{
+    match fetched(alloc, shelf, labels) {
+        Ok(text) => draw_under(alloc, shelf, rules, demand, proof, text.as_slice()),
+        Err(status) => status,
+    }
+}
+
+/// Says the page of a certificate that is accepted, under labels, by the rules, demand, proof and labels texts under
+/// names, or why a text or the certificate is refused. The rules text is fetched first, then the labels text, the
+/// demand text and the proof text; a fault of the labels text comes last.
+pub fn draw_labelled<S: Shelf>(
+    alloc: Global,
+    shelf: &mut S,
+    rules: &str,
+    demand: &str,
+    proof: &str,
+    labels: &str,
+) -> u8
+    ensures { IsReader (AnswersLabelled (S.told shelf.old).held rules.now demand.now proof.now labels.now)
+        (rules.now ∷ labels.now ∷ demand.now ∷ proof.now ∷ []) (S.told shelf.old) (S.told shelf.new) result }
+{
+    match fetched(alloc, shelf, rules) {
+        Ok(text) => draw_by_rules(alloc, shelf, text.as_slice(), demand, proof, labels),
+        Err(status) => status,
+    }
 }

@@ -6,17 +6,19 @@ ghost use Rattle.page_text.specs.Costs.{AreDayColumns};
 ghost use Rattle.proof_pieces.specs.CertOf.{proof_of};
 ghost use Rattle.roster_model.specs.SoundInstance.{IsSoundInstance};
 ghost use Rattle.roster_report.specs.Reports.{HasSoundShifts};
-ghost use Rattle.page_command.specs.Draw.{IsContent, IsPage, columns_of, figures_of};
+ghost use Rattle.page_command.specs.Draw.{IsContent, IsPage, columns_of, figures_of, words_of};
 
 use crate::derived::derivations;
-use crate::rows::rows_of;
+use crate::rows::{copied, rows_of};
+use answers::Answer;
 use certificate_text::{ProofFault, read_cert};
 use certificates::Cert;
+use page_labels::{Labels, code_words};
 use page_text::{Column, Content, Figures, add_columns, write_page};
-use roster_model::{Instance, List, Memory, Shift};
+use roster_model::{CodeDef, Instance, List, Memory, Shift};
 use roster_report::paid;
+use roster_tables::tables_of;
 use std::alloc::Global;
-use text_commands::answer::Answer;
 
 // Returns how each cell is covered, where there is a roster.
 fn columns_of(alloc: Global, instance: &Instance, cert: &Cert) -> Result<List<Column>, Memory>
@@ -70,34 +72,63 @@ fn figures_of(instance: &Instance, cert: &Cert) -> Figures
     }
 }
 
-// Returns what the page of a certificate shows.
-fn content_of(alloc: Global, instance: &Instance, cert: &Cert) -> Result<Content, Memory>
+// Returns for each code what it is called, or nothing.
+fn words_of(alloc: Global, labels: &Labels, codes: &[CodeDef]) -> Result<List<List<u8>>, Memory>
+    requires { length codes.now ≤ 32 }
+    ensures { IfOk result (λ words. words ≡ words_of labels.now codes.now) }
+{
+    let mut words = List::new(alloc);
+    for place in 0..codes.len() {
+        let text = code_words(labels.codes.as_slice(), place as u8);
+        words.push(copied(alloc, text)?)?;
+    }
+    Ok(words)
+}
+
+// Returns what the page of a certificate shows under labels.
+fn content_of(
+    alloc: Global,
+    instance: &Instance,
+    labels: &Labels,
+    cert: &Cert,
+) -> Result<Content, Memory>
     requires sound { IsSoundInstance instance.now }
     requires cert { IsSoundCert instance.now cert.now }
     requires stated { IfSome cert.now.cost (IsStated instance.now cert.now.shifts) }
-    ensures content { IfOk result (IsContent instance.now cert.now) }
+    ensures content { IfOk result (IsContent labels.now instance.now cert.now) }
     ensures rows { IfOk result (λ c. length c.rows ≤ 64) }
     ensures texts { IfOk result (λ c. length c.derivations ≤ 64) }
     ensures columns { IfOk result (λ c. AreDayColumns c.columns) }
 {
     let rows = rows_of(alloc, instance, cert.shifts.as_slice())?;
     let derivations = derivations(alloc, instance, rows.as_slice())?;
+    let columns = columns_of(alloc, instance, cert)?;
+    let shifts = cert.shifts.as_slice();
+    let tables = tables_of(alloc, instance, labels, shifts, columns.as_slice())?;
     Ok(Content {
+        title: copied(alloc, labels.title.as_slice())?,
+        words: words_of(alloc, labels, instance.grammar.codes.as_slice())?,
         figures: figures_of(instance, cert),
         rows,
         derivations,
-        columns: columns_of(alloc, instance, cert)?,
+        columns,
+        tables,
     })
 }
 
-// Returns the page of a certificate.
-fn drawn(alloc: Global, instance: &Instance, cert: &Cert) -> Result<List<u8>, Memory>
+// Returns the page of a certificate under labels.
+fn drawn(
+    alloc: Global,
+    instance: &Instance,
+    labels: &Labels,
+    cert: &Cert,
+) -> Result<List<u8>, Memory>
     requires sound { IsSoundInstance instance.now }
     requires cert { IsSoundCert instance.now cert.now }
     requires stated { IfSome cert.now.cost (IsStated instance.now cert.now.shifts) }
-    ensures { IfOk result (IsPage instance.now cert.now) }
+    ensures { IfOk result (IsPage labels.now instance.now cert.now) }
 {
-    let content = content_of(alloc, instance, cert)?;
+    let content = content_of(alloc, instance, labels, cert)?;
     let codes = instance.grammar.codes.as_slice();
     write_page(alloc, instance.grammar.periods, codes, &content)
 }
@@ -116,21 +147,26 @@ fn cert_of(alloc: Global, instance: &Instance, text: &[u8]) -> Result<Cert, Memo
     }
 }
 
-/// Says the page of an accepted certificate.
+/// Says the page of an accepted certificate under labels.
 ///
 /// # Errors
 ///
 /// `Memory` where memory runs out; there is no answer then.
-pub fn page_answer(alloc: Global, instance: &Instance, text: &[u8]) -> Result<Answer, Memory>
+pub fn page_answer(
+    alloc: Global,
+    instance: &Instance,
+    labels: &Labels,
+    text: &[u8],
+) -> Result<Answer, Memory>
     requires sound { IsSoundInstance instance.now }
     requires accepted { (c : Certificate) × (proof_of instance.now text.now ≡ Is c)
         × Accepts instance.now c }
     ensures { IfOk result (λ a. (a.status ≡ 0) × ((c : Certificate) → proof_of instance.now text.now ≡ Is c
-        → IsPage instance.now c a.output)) }
+        → IsPage labels.now instance.now c a.output)) }
 {
     let cert = cert_of(alloc, instance, text)?;
     Ok(Answer {
         status: 0,
-        output: drawn(alloc, instance, &cert)?,
+        output: drawn(alloc, instance, labels, &cert)?,
     })
 }

@@ -2,13 +2,14 @@ ghost use Rattle.std.specs.Prelude.{ℕ, ◌≡◌, List, ◌∷◌};
 ghost use Rattle.roster_model.specs.declared.grammar.Grammar.{Grammar};
 ghost use Rattle.roster_model.specs.declared.instance.Group.{Group};
 ghost use Rattle.roster_model.specs.Extension.{extended};
-ghost use Rattle.page_command.specs.OnePage.{HaveOnePage};
+ghost use Rattle.page_command.specs.OnePage.{HaveOneLabelledPage, HaveOnePage};
 ghost use Rattle.page_command.specs.Rows.{plain_from};
 
 /// States a law: the same texts have the same answer; two pages of them are the same but for the trees of the
 /// derivations, of which each is one of the row's word at its price.
 pub fn one_page()
-    ensures { HaveOnePage }
+    ensures page { HaveOnePage }
+    ensures labelled { HaveOneLabelledPage }
 {}
 
 /// States a law: what derives the words of groups is the rules text's grammar, which the groups extend, from

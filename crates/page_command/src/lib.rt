@@ -4,6 +4,7 @@
 mod check;
 mod derived;
 mod draw;
+mod form;
 mod laws;
 mod program;
 mod rows;

@@ -1,26 +1,27 @@
 ghost use Rattle.std.specs.Prelude.{[], map, string_bytes};
-ghost use Rattle.text_commands.specs.Reader.{IsReader};
+ghost use Rattle.answers.specs.Reader.{IsReader};
 ghost use Rattle.page_command.specs.Run.{AnswersNoForm, Does};
 
-use crate::check::draw;
+use crate::check::{draw, draw_labelled};
+use crate::form::{Form, form_of};
+use answers::say;
 use shelf::Shelf;
 use std::alloc::Global;
-use text_commands::say::say;
 
-const NO_FORM: &[u8] = b"words: RULES DEMAND PROOF\n";
+const NO_FORM: &[u8] = b"words: page RULES DEMAND PROOF [LABELS]\n";
 
-// What is noted where the words are not three.
-const FORM: &str =
-    "RULES DEMAND PROOF are the names of three texts; the page of the certificate PROOF is printed";
+// What is noted where the words are of no form.
+const FORM: &str = "RULES DEMAND PROOF LABELS are the names of texts; \
+the page of the certificate PROOF is printed, under the labels LABELS where they are named";
 
-// Says that words are not three.
+// Says that words are of no form.
 fn say_no_form<S: Shelf>(shelf: &mut S) -> u8
     ensures { IsReader AnswersNoForm [] (S.told shelf.old) (S.told shelf.new) result }
 {
     say(shelf, NO_FORM, 2)
 }
 
-// Says that the words are not three, and notes what they stand for.
+// Says that the words are of no form, and notes what they stand for.
 fn refuse_words<S: Shelf>(shelf: &mut S) -> u8
     ensures { IsReader AnswersNoForm [] (S.told shelf.old) (S.told shelf.new) result }
 {
@@ -28,32 +29,37 @@ fn refuse_words<S: Shelf>(shelf: &mut S) -> u8
     say_no_form(shelf)
 }
 
-/// Draws the certificate of three texts, RULES DEMAND PROOF, and returns the status:
+/// Draws the certificate of the texts that the words `page RULES DEMAND PROOF` name, under the labels text that
+/// `page RULES DEMAND PROOF LABELS` names, and returns the status:
 ///
 /// | status | comes |
 /// |---|---|
 /// | 0 | the certificate is accepted; the page is said |
 /// | 1 | the certificate is refused |
-/// | 2 | the words are not three |
+/// | 2 | the words are of neither form |
 /// | 3 | the rules text is refused |
 /// | 4 | the demand text is refused |
-/// | 5 | the proof text is refused |
+/// | 5 | the proof text or the labels text is refused |
 /// | 6 | the shelf refused a call |
 /// | 7 | memory did not suffice |
 ///
-/// Nothing is stored. With 1, 3, 4 and 5 one line is said, the one that `check` of the roster program says,
-/// and with 2 the line `words: RULES DEMAND PROOF`. With 6 and 7 no more is said than a front of an answer.
+/// Nothing is stored. With 1, 3, 4 and 5 one line is said, the one that `check` of the roster program says, or of the
+/// labels text as `labels: line 2: said twice`, and with 2 the line `words: page RULES DEMAND PROOF [LABELS]`. With 6 and 7 no more is said than a front of an answer.
 pub fn run<S: Shelf>(alloc: Global, shelf: &mut S, words: &[String]) -> u8
     ensures { Does (map string_bytes words.now) (S.told shelf.old) (S.told shelf.new) result }
 {
-    match words {
-        [rules, demand, proof] => draw(
-            alloc,
-            shelf,
-            rules.as_str(),
-            demand.as_str(),
-            proof.as_str(),
-        ),
-        _ => refuse_words(shelf),
+    match form_of(words) {
+        Form::Page {
+            rules,
+            demand,
+            proof,
+        } => draw(alloc, shelf, rules, demand, proof),
+        Form::Labelled {
+            rules,
+            demand,
+            proof,
+            labels,
+        } => draw_labelled(alloc, shelf, rules, demand, proof, labels),
+        Form::None => refuse_words(shelf),
     }
 }

@@ -1,10 +1,11 @@
-ghost use Rattle.std.specs.Prelude.{◌≡◌, ◌≤◌, ◌+◌, ◌++◌, [], ◌∷◌, length, take, count_by, IfOk, OnOk, OnErr};
-ghost use Rattle.std.specs.List.{list_any};
+ghost use Rattle.std.specs.Prelude.{◌≡◌, ◌≤◌, ◌+◌, ◌++◌, [], ◌∷◌, All, length, take, count_by, IfOk, OnOk, OnErr};
+ghost use Rattle.std.specs.List.{flat_map, list_any};
 ghost use Rattle.page_command.specs.Rows.{are_many, count_of, has_row, is_same, own_row, row_of, rows_at, rows_of};
 
 use certificate_text::group_name;
 use page_text::Row;
 use roster_model::{Instance, List, Memory, Shift};
+use shift_figures::drawn_order;
 use std::alloc::Global;
 use text_lines::put;
 
@@ -58,17 +59,20 @@ pub fn copied(alloc: Global, bytes: &[u8]) -> Result<List<u8>, Memory>
     Ok(copy)
 }
 
-// Returns the row of a shift.
+// Returns the row of a shift behind so many.
 fn row_of(
     alloc: Global,
     instance: &Instance,
     shifts: &[Shift],
+    place: usize,
     shift: &Shift,
 ) -> Result<Row, Memory>
-    requires { length shifts.now ≤ 64 }
-    ensures { IfOk result (λ row. row ≡ row_of instance.now shifts.now shift.now) }
+    requires few { length shifts.now ≤ 64 }
+    requires within { place ≤ length shifts.now }
+    ensures { IfOk result (λ row. row ≡ row_of instance.now shifts.now place shift.now) }
 {
     Ok(Row {
+        number: place as u32 + 1,
         group: shift.group,
         name: copied(alloc, group_name(instance, shift.group))?,
         word: copied(alloc, shift.word.as_slice())?,
@@ -103,7 +107,7 @@ fn add_own_row(
     if has_row(shifts, place, shift) {
         return Ok(());
     }
-    rows.push(row_of(alloc, instance, shifts, shift)?)
+    rows.push(row_of(alloc, instance, shifts, place, shift)?)
 }
 
 // Appends the row of the shift behind so many, if it has one of its own.
@@ -114,8 +118,7 @@ fn add_row(
     shifts: &[Shift],
     place: usize,
 ) -> Result<(), Memory>
-    requires few { length shifts.now ≤ 64 }
-    requires within { place ≤ length shifts.now }
+    requires { length shifts.now ≤ 64 }
     ensures rows { OnOk result (rows.new ≡ rows.old ++ rows_at instance.now shifts.now place) }
     ensures few { OnOk result (length rows.new ≤ length rows.old + 1) }
 {
@@ -125,19 +128,36 @@ fn add_row(
     }
 }
 
-/// Returns a row for each shift, or, where there are more than 40, one for all that are equal.
+// Returns the rows of the shifts at places, of those that have one of their own.
+fn rows_in(
+    alloc: Global,
+    instance: &Instance,
+    shifts: &[Shift],
+    places: &[u8],
+) -> Result<List<Row>, Memory>
+    requires { length shifts.now ≤ 64 }
+    ensures rows { IfOk result (λ rows. rows ≡ flat_map (rows_at instance.now shifts.now) places.now) }
+    ensures few { IfOk result (λ rows. length rows ≤ length places.now) }
+{
+    let mut rows = List::new(alloc);
+    for place in places {
+        add_row(alloc, &mut rows, instance, shifts, *place as usize)?;
+    }
+    Ok(rows)
+}
+
+/// Returns a row for each shift, or, where there are more than 40, one for all that are equal: by group, first
+/// period of work, last period of work and number, those without work last in their group.
 ///
 /// # Errors
 ///
 /// `Memory` where memory runs out; nothing is kept then.
 pub fn rows_of(alloc: Global, instance: &Instance, shifts: &[Shift]) -> Result<List<Row>, Memory>
-    requires { length shifts.now ≤ 64 }
+    requires few { length shifts.now ≤ 64 }
+    requires short { All (λ s. length s.word ≤ 96) shifts.now }
     ensures rows { IfOk result (λ rows. rows ≡ rows_of instance.now shifts.now) }
     ensures few { IfOk result (λ rows. length rows ≤ 64) }
 {
-    let mut rows = List::new(alloc);
-    for place in 0..shifts.len() {
-        add_row(alloc, &mut rows, instance, shifts, place)?;
-    }
-    Ok(rows)
+    let order = drawn_order(alloc, instance.grammar.codes.as_slice(), shifts)?;
+    rows_in(alloc, instance, shifts, order.as_slice())
 }

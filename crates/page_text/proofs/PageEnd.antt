@@ -8,7 +8,8 @@ use Rattle.page_parts.specs.Sheets.{sheet_of}
 use Rattle.page_parts.specs.declared.sheet.Sheet.{Sheet}
 use Rattle.page_text.specs.Alike.{EndsWith}
 use Rattle.page_text.specs.Inputs.{longest}
-use Rattle.page_text.specs.Pages.{body, coverage_part, derivations, page, shifts_part, top_part}
+use Rattle.page_text.specs.Pages.{body, coverage_part, derivations_part, page, shifts_part, top_part}
+use Rattle.page_tables.specs.Tables.{page_tables}
 use Rattle.page_text.specs.declared.content.Content.{Content}
 
 -- elements before others do not change the end
@@ -26,9 +27,10 @@ body_ends : (s : Sheet) (cs : List CodeDef) (c : Content) → EndsWith (codes "<
 unfolding body
 body_ends s cs c =
     behind (codes "</html>\n") (top_part cs c) _
-    (behind (codes "</html>\n") (shifts_part s cs c.rows) _
+    (behind (codes "</html>\n") (shifts_part s cs c.words c.rows) _
     (behind (codes "</html>\n") (coverage_part s cs c.columns) _
-    (behind (codes "</html>\n") (derivations c.derivations) _ last)))
+    (behind (codes "</html>\n") (page_tables c.tables) _
+    (behind (codes "</html>\n") (derivations_part c.rows c.derivations) _ last))))
 
 pub page_ends : (periods : ℕ) (cs : List CodeDef) (c : Content) → EndsWith (codes "</html>\n") (written (page periods cs c))
 page_ends periods cs c = body_ends (sheet_of periods (longest c.rows 0)) cs c

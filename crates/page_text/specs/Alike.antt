@@ -1,10 +1,12 @@
 -- What the marks of a page do not depend on: the names, the bytes of the codes, the derivations.
 use Rattle.std.specs.Prelude.{ℕ, ◌≡◌, List, [], ◌∷◌, ◌++◌, map, length}
+use Rattle.page_tables.specs.Alike.{IsAlikeTables}
 use Rattle.page_text.specs.declared.content.Content.{Content}
 use Rattle.page_text.specs.declared.row.Row.{Row}
 
 -- the same row, but for the name, where the codes have the bytes that f gives
 pub record IsAlikeRow (f : ℕ → ℕ) (r s : Row) : Type 0 where
+  pub number : s.number ≡ r.number
   pub word : s.word ≡ map f r.word
   pub price : s.price ≡ r.price
   pub count : s.count ≡ r.count
@@ -21,6 +23,7 @@ pub record IsAlike (f : ℕ → ℕ) (c d : Content) : Type 0 where
   pub columns : d.columns ≡ c.columns
   pub rows : AreAlikeRows f c.rows d.rows
   pub derivations : length d.derivations ≡ length c.derivations
+  pub tables : IsAlikeTables c.tables d.tables
 
 -- the bytes end with these
 pub record EndsWith (end bytes : List ℕ) : Type 0 where

@@ -1,14 +1,14 @@
 -- The charts of the coverage: for a code and period by period what is needed and what is had.
-use Rattle.std.specs.Prelude.{ℕ, ◌+◌, ◌-◌, ◌*◌, ◌/◌, List, [], ◌∷◌, ◌++◌, nat_eq, nat_lt, codes, max, min, if◌then◌else◌}
+use Rattle.std.specs.Prelude.{ℕ, ◌+◌, ◌-◌, ◌*◌, ◌/◌, ◌%◌, Bool, ◌&&◌, List, [], ◌∷◌, ◌++◌, nat_eq, nat_le, nat_lt, codes, max, min, if◌then◌else◌}
 use Rattle.std.specs.List.{flat_map}
-use Rattle.page_parts.specs.Elements.{Element, marks, number, bar, figure}
+use Rattle.page_parts.specs.Elements.{Element, marks, number, bar, figure, places}
 use Rattle.page_parts.specs.Sheets.{left_of, right_of}
 use Rattle.page_parts.specs.declared.sheet.Sheet.{Sheet}
 use Rattle.page_text.specs.declared.column.Column.{Column}
 use Rattle.page_text.specs.declared.ink.Ink.{Ink}
 use Rattle.page_text.specs.declared.ink.Ink.TheVariants.{Bars, Need, Floor, Ceiling, Needed, Had, Short, Over}
 
--- a ceiling of 64 is none, since no more employees work
+-- the ceiling that a chart shows, or 0 where there is none; 64 is none, since no more employees work
 abbrev pub ceiling_of : Column → ℕ
 ceiling_of c = if nat_lt c.ceiling 64 then c.ceiling else 0
 
@@ -57,12 +57,19 @@ unfoldable pub need_step : Sheet → ℕ → Column → List Element
 need_step s unit c =
     marks (codes "V") ∷ number (level unit c.need) ∷ marks (codes "H") ∷ number (from_of s c + s.cell) ∷ []
 
--- a line over one period at a count, where it is above 0
-unfoldable pub stroke : Sheet → ℕ → Column → ℕ → List Element
-stroke s unit c count =
-    if nat_lt 0 count then marks (codes "M") ∷ number (from_of s c) ∷ marks (codes " ")
-    ∷ number (level unit count)
-    ∷ marks (codes "H") ∷ number (from_of s c + s.cell) ∷ [] else []
+-- a line over one period at a count
+unfoldable pub segment : Sheet → ℕ → Column → ℕ → List Element
+segment s unit c count =
+    marks (codes "M") ∷ number (from_of s c) ∷ marks (codes " ") ∷ number (level unit count)
+    ∷ marks (codes "H") ∷ number (from_of s c + s.cell) ∷ []
+
+-- the line of a floor, where it is above 0
+unfoldable pub floor_line : Sheet → ℕ → Column → List Element
+floor_line s unit c = if nat_lt 0 c.floor then segment s unit c c.floor else []
+
+-- the line of a ceiling, where there is one; it may be 0
+unfoldable pub ceiling_line : Sheet → ℕ → Column → List Element
+ceiling_line s unit c = if nat_lt c.ceiling 64 then segment s unit c c.ceiling else []
 
 -- a count in words
 unfoldable pub counted : ℕ → List Element
@@ -72,8 +79,8 @@ counted n = marks (codes " ") ∷ number n ∷ []
 abbrev pub ink_elements : Ink → Sheet → ℕ → Column → List Element
 ink_elements Bars s unit c = column_bars s unit c
 ink_elements Need s unit c = need_step s unit c
-ink_elements Floor s unit c = stroke s unit c c.floor
-ink_elements Ceiling s unit c = stroke s unit c (ceiling_of c)
+ink_elements Floor s unit c = floor_line s unit c
+ink_elements Ceiling s unit c = ceiling_line s unit c
 ink_elements Needed s unit c = counted c.need
 ink_elements Had s unit c = counted c.have
 ink_elements Short s unit c = counted c.short
@@ -101,11 +108,35 @@ grid s top = bar (codes "grid") (record { left = s.left; top = top; width = righ
     ∷ []
 
 -- the lines at the bottom and at the greatest count, with their numbers
-unfoldable pub frame : Sheet → ℕ → ℕ → List Element
-frame s unit top =
+unfoldable pub ends : Sheet → ℕ → ℕ → List Element
+ends s unit top =
     grid s (level unit top) ++ (grid s base
     ++ figure (codes "price") (s.left - 8) (level unit top + 4) top
     ∷ figure (codes "price") (s.left - 8) (base + 4) 0 ∷ [])
+
+-- how many counts lie between two lines of the axis
+abbrev pub axis_step : ℕ → ℕ
+axis_step top =
+    if nat_lt top 5 then 1 else (if nat_lt top 11 then 2 else (if nat_lt top 25 then 5 else
+    (if nat_lt top 49 then 10 else 20)))
+
+-- the axis has a line at a count below the greatest, whose number has room below that of the greatest
+abbrev pub is_axis_count : ℕ → ℕ → ℕ → Bool
+is_axis_count unit top count =
+    nat_lt 0 count && nat_eq (count % axis_step top) 0 && nat_le 12 (unit * (top - count))
+
+unfoldable pub axis_line : Sheet → ℕ → ℕ → ℕ → List Element
+axis_line s unit top count =
+    if is_axis_count unit top count then grid s (level unit count)
+    ++ figure (codes "price") (s.left - 8) (level unit count + 4) count ∷ [] else []
+
+-- the lines between 0 and the greatest count
+abbrev pub axis_lines : Sheet → ℕ → ℕ → List Element
+axis_lines s unit top = flat_map (axis_line s unit top) (places (min top 64))
+
+-- the lines of the axis
+abbrev pub frame : Sheet → ℕ → ℕ → List Element
+frame s unit top = ends s unit top ++ axis_lines s unit top
 
 -- the line of the need, from the bottom to the bottom
 unfoldable pub need_line : Sheet → ℕ → ℕ → List Column → List Element

@@ -1,24 +1,38 @@
 -- What the roster costs, and how good it is.
-use Rattle.std.specs.Prelude.{ℕ, ◌≤◌, ◌+◌, ◌-◌, Option, None, Some, List, [], ◌∷◌, ◌++◌, All, Bool, length, nat_eq, nat_lt, codes, if◌then◌else◌}
+use Rattle.std.specs.Prelude.{ℕ, ◌≤◌, ◌+◌, ◌-◌, ◌/◌, ◌%◌, Option, None, Some, List, [], ◌∷◌, ◌++◌, All, Bool, length, nat_eq, codes, if◌then◌else◌}
 use Rattle.std.specs.List.{list_any}
 use Rattle.roster_model.specs.declared.grammar.CodeDef.{CodeDef}
 use Rattle.page_parts.specs.Elements.{Element, each_from, marks, given, number}
 use Rattle.page_parts.specs.Paints.{paint_of}
 use Rattle.page_text.specs.declared.column.Column.{Column}
 use Rattle.page_text.specs.declared.figures.Figures.{Figures}
+use Rattle.shift_figures.specs.Bounds.{saving_at}
+use Rattle.shift_figures.specs.declared.bound.Saving.{Saving}
+use Rattle.shift_figures.specs.declared.bound.Saving.TheVariants.{NoneLess, Unknown, AtMost}
 
--- the sentence of a roster that costs at most so much more than the best one
-unfoldable pub dearer : ℕ → List Element
-dearer more = marks (codes "This roster costs at most ") ∷ number more
-    ∷ marks (codes " more than the best one.") ∷ []
+-- the sentence of what a cheaper roster saves at most, with its share in tenths of a percent
+unfoldable pub saves : ℕ → ℕ → List Element
+saves amount permille =
+    marks (codes "A cheaper roster saves at most ") ∷ number amount ∷ marks (codes " (") ∷ number (permille / 10)
+    ∷ marks (codes ".") ∷ number (permille % 10) ∷ marks (codes " %).") ∷ []
+
+-- the sentence where nothing is proved of the cost
+unfoldable pub unknown : List Element
+unknown = marks (codes "Nothing is proved of the cost.") ∷ []
 
 -- the sentence of a roster of least cost
 unfoldable pub none_less : List Element
 none_less = marks (codes "No allowed roster costs less.") ∷ []
 
+-- the sentence of what a bound tells
+unfoldable pub told : Saving → List Element
+told NoneLess = none_less
+told Unknown = unknown
+told (AtMost amount permille) = saves amount permille
+
 -- the sentence of a roster that costs so much, where this is the bound
 unfoldable pub gap : ℕ → ℕ → List Element
-gap cost bound = if nat_lt bound cost then dearer (cost - bound) else none_less
+gap cost bound = told (saving_at cost bound)
 
 -- the sentence where there is no roster, but a bound
 unfoldable pub no_roster : ℕ → List Element
@@ -77,10 +91,21 @@ code_cost cs columns place c = if is_demanded place columns then demanded_cost c
 abbrev pub code_costs : List CodeDef → List Column → List Element
 code_costs cs columns = each_from (code_cost cs columns) 0 cs
 
+-- what the shifts and the penalties come to
+unfoldable pub both_sums : Figures → List Element
+both_sums f =
+    marks (codes "<div><dt>Paid for shifts</dt><dd>") ∷ number f.paid
+    ∷ marks (codes "</dd></div><div><dt>Penalties</dt><dd>") ∷ number f.penalty
+    ∷ marks (codes "</dd></div>") ∷ []
+
+-- the same, where there is a roster
+unfoldable pub sums : Figures → Option ℕ → List Element
+sums f None = []
+sums f (Some cost) = both_sums f
+
 unfoldable pub costs : List CodeDef → Figures → List Column → List Element
 costs cs f columns =
     (marks (codes "<dl><div><dt>Total cost</dt><dd>") ∷ amount f.cost)
     ++ ((marks (codes "</dd></div><div><dt>Bound</dt><dd>") ∷ amount f.bound)
-    ++ (marks (codes "</dd></div><div><dt>Paid for shifts</dt><dd>") ∷ number f.paid
-    ∷ marks (codes "</dd></div><div><dt>Penalties</dt><dd>") ∷ number f.penalty ∷ marks (codes "</dd></div>")
-    ∷ (code_costs cs columns ++ marks (codes "</dl>\n") ∷ [])))
+    ++ (marks (codes "</dd></div>")
+    ∷ (sums f f.cost ++ (code_costs cs columns ++ marks (codes "</dl>\n") ∷ []))))

@@ -1,5 +1,5 @@
 -- The page.
-use Rattle.std.specs.Prelude.{ℕ, Bool, ◌+◌, ◌-◌, ◌*◌, List, [], ◌∷◌, ◌++◌, length, nat_lt, codes, if◌then◌else◌}
+use Rattle.std.specs.Prelude.{ℕ, Bool, ◌+◌, ◌-◌, ◌*◌, None, Some, List, [], ◌∷◌, ◌++◌, length, nat_lt, slice_get, codes, if◌then◌else◌}
 use Rattle.std.specs.List.{flat_map}
 use Rattle.roster_model.specs.declared.grammar.CodeDef.{CodeDef}
 use Rattle.page_parts.specs.Elements.{Element, each_from, marks, given, number, caption, places}
@@ -10,9 +10,10 @@ use Rattle.page_text.specs.declared.column.Column.{Column}
 use Rattle.page_text.specs.Charts.{frame, in_words, inked, lines, top_count, unit_of}
 use Rattle.page_text.specs.Inputs.{longest}
 use Rattle.page_text.specs.declared.ink.Ink.TheVariants.{Bars}
-use Rattle.page_text.specs.RosterChart.{rows_elements, ticks}
+use Rattle.page_text.specs.RosterChart.{row_words, rows_elements, ticks}
 use Rattle.page_text.specs.Style.{style}
 use Rattle.page_text.specs.declared.content.Content.{Content}
+use Rattle.page_tables.specs.Tables.{page_tables}
 use Rattle.page_text.specs.declared.row.Row.{Row}
 
 -- the size of a chart, in which it is drawn
@@ -26,11 +27,17 @@ size width height =
 unfoldable pub work_word : Bool → List ℕ
 work_word work = if work then codes "work</li>" else codes "no work</li>"
 
-unfoldable pub legend_item : List CodeDef → CodeDef → List Element
-legend_item cs c = marks (codes "<li>") ∷ chip cs c.byte ++ marks (work_word c.work) ∷ []
+-- what the code at a place is called, or nothing
+abbrev pub words_at : List (List ℕ) → ℕ → List ℕ
+words_at words k = elim (slice_get words k) [ None ↦ [] | Some text ↦ text ]
 
-abbrev pub legend : List CodeDef → List Element
-legend cs = flat_map (legend_item cs) cs
+unfoldable pub legend_item : List CodeDef → List (List ℕ) → ℕ → CodeDef → List Element
+legend_item cs words k c =
+    marks (codes "<li>") ∷ chip cs c.byte
+    ++ marks (codes "<span>") ∷ given (words_at words k) ∷ marks (codes "</span>") ∷ marks (work_word c.work) ∷ []
+
+abbrev pub legend : List CodeDef → List (List ℕ) → List Element
+legend cs words = each_from (legend_item cs words) 0 cs
 
 -- the word over the prices
 unfoldable pub price_head : Sheet → List Element
@@ -41,19 +48,19 @@ unfoldable pub height_of : ℕ → ℕ
 height_of rows = 40 + 26 * rows
 
 -- the chart of the shifts
-unfoldable pub shifts : Sheet → List CodeDef → List Row → List Element
-shifts s cs rows =
-    marks (codes "<section><h2>Shifts</h2>\n<ul class='legend'>") ∷ legend cs
-    ++ (marks (codes "</ul>\n<svg class='roster' role='group' aria-label='Shifts of the roster, one row a shift")
+unfoldable pub shifts : Sheet → List CodeDef → List (List ℕ) → List Row → List Element
+shifts s cs words rows =
+    marks (codes "<section><h2>Shifts</h2>\n<ul class='legend'>") ∷ legend cs words
+    ++ (marks (codes "</ul>\n<div class='scroll'><svg class='roster' role='group' aria-label='Shifts of the roster, one row a shift")
     ∷ size (chart_width s) (height_of (length rows))
     ++ (price_head s ++ (ticks s 20 ++ (rows_elements s cs rows
-    ++ marks (codes "</svg>\n<p class='hint'>Point at a shift, or go to it with the Tab key, and see how the rules derive it.</p></section>\n") ∷ []))))
+    ++ marks (codes "</svg></div>\n<p class='hint'>Point at a shift, or go to it with the Tab key, and see how the rules derive it.</p></section>\n") ∷ []))))
 
 -- the chart of a code's coverage
 unfoldable pub chart_head : List CodeDef → Sheet → List Column → ℕ → CodeDef → List Element
 chart_head cs s columns place c =
     (marks (codes "<figure><figcaption>") ∷ chip cs c.byte)
-    ++ (marks (codes "</figcaption><svg role='img' aria-label='Coverage of ") ∷ given (c.byte ∷ [])
+    ++ (marks (codes "</figcaption><div class='scroll'><svg role='img' aria-label='Coverage of ") ∷ given (c.byte ∷ [])
     ∷ marks (codes ". ")
     ∷ (in_words s place columns ++ size (chart_width s) 132))
 
@@ -61,12 +68,12 @@ unfoldable pub chart_body : Sheet → List Column → ℕ → ℕ → ℕ → Li
 chart_body s columns place top unit =
     inked Bars s unit place columns
     ++ (frame s unit top
-    ++ (lines s unit place columns ++ (ticks s 127 ++ marks (codes "</svg></figure>\n") ∷ [])))
+    ++ (lines s unit place columns ++ (ticks s 127 ++ marks (codes "</svg></div></figure>\n") ∷ [])))
 
 unfoldable pub chart : List CodeDef → Sheet → List Column → ℕ → CodeDef → List Element
 chart cs s columns place c =
     if is_demanded place columns then chart_head cs s columns place c
-    ++ chart_body s columns place (top_count place columns 0) (unit_of (top_count place columns 0)) else []
+    ++ chart_body s columns place (top_count place columns 1) (unit_of (top_count place columns 1)) else []
 
 abbrev pub charts : List CodeDef → Sheet → List Column → List Element
 charts cs s columns = each_from (chart cs s columns) 0 cs
@@ -90,39 +97,59 @@ shows k =
 abbrev pub all_show : List (List ℕ) → List Element
 all_show texts = flat_map shows (places (length texts))
 
-unfoldable pub derivation : ℕ → List ℕ → List Element
-derivation k text =
-    marks (codes "<pre class='derivation' id='d") ∷ number k ∷ marks (codes "'>") ∷ given text
-    ∷ marks (codes "</pre>\n") ∷ []
+-- the words of the row at a place, if there is one
+unfoldable pub heading : List Row → ℕ → List Element
+heading rows k = elim (slice_get rows k) [ None ↦ [] | Some r ↦ row_words r ]
 
-abbrev pub derivations : List (List ℕ) → List Element
-derivations texts = each_from derivation 0 texts
+-- the derivation of a row, under the row's words
+unfoldable pub derivation : List Row → ℕ → List ℕ → List Element
+derivation rows k text =
+    (marks (codes "<pre class='derivation' id='d") ∷ number k ∷ marks (codes "'><b>") ∷ [])
+    ++ (heading rows k ++ marks (codes "</b>\n") ∷ given text ∷ marks (codes "</pre>\n") ∷ [])
+
+abbrev pub derivations : List Row → List (List ℕ) → List Element
+derivations rows texts = each_from (derivation rows) 0 texts
+
+-- the derivations under their title
+unfoldable pub titled_derivations : List Row → List (List ℕ) → List Element
+titled_derivations rows texts =
+    marks (codes "<div class='derivations'><h2>How the rules derive each shift</h2>\n")
+    ∷ (derivations rows texts ++ marks (codes "</div>\n") ∷ [])
+
+-- the same, where there are any derivations
+unfoldable pub derivations_part : List Row → List (List ℕ) → List Element
+derivations_part rows texts = if nat_lt 0 (length texts) then titled_derivations rows texts else []
 
 unfoldable pub before_style : List ℕ
 before_style =
     codes "<!DOCTYPE html>\n<html lang='en'>\n<head>\n<meta charset='utf-8'>\n"
     ++ codes "<meta name='viewport' content='width=device-width, initial-scale=1'>\n<title>Roster</title>\n<style>\n"
 
-unfoldable pub head : List (List ℕ) → List Element
-head texts =
+-- the title of the day, or `Roster`
+unfoldable pub title_of : List ℕ → List ℕ
+title_of title = if nat_lt 0 (length title) then title else codes "Roster"
+
+unfoldable pub head : List ℕ → List (List ℕ) → List Element
+head title texts =
     marks before_style ∷ marks style ∷
-    (all_show texts ++ marks (codes "</style>\n</head>\n<body>\n<main>\n<header><h1>Roster</h1><p>") ∷ [])
+    (all_show texts ++ marks (codes "</style>\n</head>\n<body>\n<main>\n<header><h1>") ∷ given (title_of title)
+    ∷ marks (codes "</h1><p>") ∷ [])
 
 unfoldable pub top_part : List CodeDef → Content → List Element
 top_part cs c =
-    head c.derivations ++ (sentence c.figures.cost c.figures.bound
+    head c.title c.derivations ++ (sentence c.figures.cost c.figures.bound
     ++ (marks (codes "</p></header>\n") ∷ costs cs c.figures c.columns))
 
-unfoldable pub shifts_part : Sheet → List CodeDef → List Row → List Element
-shifts_part s cs rows = if nat_lt 0 (length rows) then shifts s cs rows else []
+unfoldable pub shifts_part : Sheet → List CodeDef → List (List ℕ) → List Row → List Element
+shifts_part s cs words rows = if nat_lt 0 (length rows) then shifts s cs words rows else []
 
 unfoldable pub coverage_part : Sheet → List CodeDef → List Column → List Element
 coverage_part s cs columns = if nat_lt 0 (length columns) then coverage cs s columns else []
 
 unfoldable pub body : Sheet → List CodeDef → Content → List Element
 body s cs c =
-    top_part cs c ++ (shifts_part s cs c.rows ++ (coverage_part s cs c.columns ++ (derivations c.derivations
-    ++ marks (codes "</main>\n</body>\n</html>\n") ∷ [])))
+    top_part cs c ++ (shifts_part s cs c.words c.rows ++ (coverage_part s cs c.columns ++ (page_tables c.tables ++ (derivations_part c.rows c.derivations
+    ++ marks (codes "</main>\n</body>\n</html>\n") ∷ []))))
 
 -- the elements of the page, in order
 abbrev pub page : ℕ → List CodeDef → Content → List Element

@@ -23,15 +23,39 @@ cell s cs row word place = elim (slice_get word place) [ None ↦ [] | Some byte
 abbrev pub cells : Sheet → List CodeDef → ℕ → List ℕ → List Element
 cells s cs row word = flat_map (cell s cs row word) (places s.periods)
 
--- how many employees have the shift, where there are several
-unfoldable pub times : ℕ → ℕ → List Element
-times row count =
-    if nat_lt 1 count then figure (codes "times") 40 (top_of row + 15) count ∷ [] else []
+-- beside a row how many employees have its shift
+unfoldable pub times_of : ℕ → ℕ → List Element
+times_of row count =
+    marks (codes "<text class='times' x='40' y='") ∷ number (top_of row + 15) ∷ marks (codes "'>")
+    ∷ number count ∷ marks (codes "&#215;</text>") ∷ []
+
+-- beside a row the number of the shift, or, where several employees have it, how many
+unfoldable pub times : ℕ → ℕ → ℕ → List Element
+times row shift count =
+    if nat_lt 1 count then times_of row count
+    else figure (codes "times") 40 (top_of row + 15) shift ∷ []
+
+-- of how many shifts a row is
+unfoldable pub many : ℕ → List Element
+many count = number count ∷ marks (codes " shifts: ") ∷ []
+
+-- of which shift a row is
+unfoldable pub one : ℕ → List Element
+one shift = marks (codes "Shift ") ∷ number shift ∷ marks (codes ": ") ∷ []
+
+-- whose shift it is: the one of a number, or of several employees
+unfoldable pub who : ℕ → ℕ → List Element
+who shift count = if nat_lt 1 count then many count else one shift
+
+-- what stands between the name of a group and a word
+abbrev pub gap : List ℕ → List ℕ
+gap [] = []
+gap (x ∷ xs) = codes " "
 
 -- a row in words
 unfoldable pub row_words : Row → List Element
 row_words r =
-    number r.count ∷ marks (codes " of: ") ∷ given r.name ∷ marks (codes " ") ∷ given r.word
+    who r.number r.count ++ given r.name ∷ given (gap r.name) ∷ given r.word
     ∷ marks (codes ", price ") ∷ number r.price ∷ []
 
 unfoldable pub row_head : ℕ → Row → List Element
@@ -50,7 +74,7 @@ row_frame s k r =
 unfoldable pub row_elements : Sheet → List CodeDef → ℕ → Row → List Element
 row_elements s cs k r =
     row_head k r ++ (row_frame s k r
-    ++ (times k r.count ++ (cells s cs k r.word ++ marks (codes "</g>\n") ∷ [])))
+    ++ (times k r.number r.count ++ (cells s cs k r.word ++ marks (codes "</g>\n") ∷ [])))
 
 -- every how many periods the axis has a number
 abbrev pub step_of : ℕ → ℕ

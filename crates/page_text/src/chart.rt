@@ -2,11 +2,17 @@ ghost use Rattle.std.specs.Prelude.{◌≡◌, ◌≤◌, ◌+◌, ◌*◌, ◌^
 ghost use Rattle.page_parts.specs.Elements as page;
 ghost use Rattle.page_parts.specs.Elements.{written};
 ghost use Rattle.page_text.specs.Charts.{
+  axis_line,
+  axis_lines,
+  axis_step,
+  ceiling_line,
   ceiling_of,
   code_ink,
   column_bar,
   column_bars,
   counted,
+  ends,
+  floor_line,
   frame,
   from_of,
   grid,
@@ -14,13 +20,14 @@ ghost use Rattle.page_text.specs.Charts.{
   in_words,
   ink_elements,
   inked,
+  is_axis_count,
   level,
   limit_lines,
   lines,
   need_line,
   need_step,
   peak,
-  stroke,
+  segment,
   top_count,
   unit_of,
 };
@@ -33,7 +40,7 @@ use roster_model::{List, Memory};
 /// Where a chart ends at its bottom.
 const BASE: u64 = 112;
 
-// The ceiling of a column that a chart shows.
+// The ceiling of a column that a chart shows, or 0 where there is none.
 fn ceiling_of(column: &Column) -> u32
     ensures { result ≡ ceiling_of column.now }
 {
@@ -64,11 +71,11 @@ fn higher(code: u8, most: u32, column: &Column) -> u32
     }
 }
 
-/// Returns the greatest count that the chart of a code shows.
+/// Returns the greatest count that the chart of a code shows, at least 1.
 pub(crate) fn top_count(code: u8, columns: &[Column]) -> u32
-    ensures { result ≡ top_count code columns.now 0 }
+    ensures { result ≡ top_count code columns.now 1 }
 {
-    let mut most: u32 = 0;
+    let mut most: u32 = 1;
     for column in columns {
         most = higher(code, most, column);
     }
@@ -156,21 +163,40 @@ fn need_step(out: &mut List<u8>, sheet: Sheet, unit: u8, column: &Column) -> Res
     labelled(out, b"H", from_of(sheet, column) + sheet.cell as u64)
 }
 
-// Writes a line over one period at a count, where it is above 0.
-#[tactic(auto, unfolding(crate::specs::Charts::stroke))]
-fn stroke(
+// Writes a line over one period at a count.
+#[tactic(auto, unfolding(crate::specs::Charts::segment))]
+fn segment(
     out: &mut List<u8>,
     sheet: Sheet,
     unit: u8,
     column: &Column,
     count: u32,
 ) -> Result<(), Memory>
-    ensures { OnOk result (out.new ≡ out.old ++ written (stroke sheet unit column.now count)) }
+    ensures { OnOk result (out.new ≡ out.old ++ written (segment sheet unit column.now count)) }
 {
-    if count > 0 {
-        labelled(out, b"M", from_of(sheet, column))?;
-        labelled(out, b" ", level(unit, count))?;
-        labelled(out, b"H", from_of(sheet, column) + sheet.cell as u64)?;
+    labelled(out, b"M", from_of(sheet, column))?;
+    labelled(out, b" ", level(unit, count))?;
+    labelled(out, b"H", from_of(sheet, column) + sheet.cell as u64)
+}
+
+// Writes the line of a floor, where it is above 0.
+#[tactic(auto, unfolding(crate::specs::Charts::floor_line))]
+fn floor_line(out: &mut List<u8>, sheet: Sheet, unit: u8, column: &Column) -> Result<(), Memory>
+    ensures { OnOk result (out.new ≡ out.old ++ written (floor_line sheet unit column.now)) }
+{
+    if column.floor > 0 {
+        segment(out, sheet, unit, column, column.floor)?;
+    }
+    Ok(())
+}
+
+// Writes the line of a ceiling, where there is one; it may be 0.
+#[tactic(auto, unfolding(crate::specs::Charts::ceiling_line))]
+fn ceiling_line(out: &mut List<u8>, sheet: Sheet, unit: u8, column: &Column) -> Result<(), Memory>
+    ensures { OnOk result (out.new ≡ out.old ++ written (ceiling_line sheet unit column.now)) }
+{
+    if column.ceiling < 64 {
+        segment(out, sheet, unit, column, column.ceiling)?;
     }
     Ok(())
 }
@@ -196,8 +222,8 @@ fn ink_elements(
     match ink {
         Ink::Bars => column_bars(out, sheet, unit, column),
         Ink::Need => need_step(out, sheet, unit, column),
-        Ink::Floor => stroke(out, sheet, unit, column, column.floor),
-        Ink::Ceiling => stroke(out, sheet, unit, column, ceiling_of(column)),
+        Ink::Floor => floor_line(out, sheet, unit, column),
+        Ink::Ceiling => ceiling_line(out, sheet, unit, column),
         Ink::Needed => counted(out, column.need),
         Ink::Had => counted(out, column.have),
         Ink::Short => counted(out, column.short),
@@ -295,20 +321,77 @@ fn grid(out: &mut List<u8>, sheet: Sheet, top: u64) -> Result<(), Memory>
     bar(out, b"grid", area)
 }
 
-/// Writes the lines at the bottom and at the greatest count, with their numbers.
-///
-/// # Errors
-///
-/// `Memory` where memory runs out; a part may stand in `out` then.
-#[tactic(auto, unfolding(crate::specs::Charts::frame))]
-pub(crate) fn frame(out: &mut List<u8>, sheet: Sheet, unit: u8, top: u32) -> Result<(), Memory>
-    ensures { OnOk result (out.new ≡ out.old ++ written (frame sheet unit top)) }
+// Writes the lines at the bottom and at the greatest count, with their numbers.
+#[tactic(auto, unfolding(crate::specs::Charts::ends))]
+fn ends(out: &mut List<u8>, sheet: Sheet, unit: u8, top: u32) -> Result<(), Memory>
+    ensures { OnOk result (out.new ≡ out.old ++ written (ends sheet unit top)) }
 {
     let beside = (sheet.left as u64).saturating_sub(8);
     grid(out, sheet, level(unit, top))?;
     grid(out, sheet, BASE)?;
     figure(out, b"price", beside, level(unit, top) + 4, top as u64)?;
     figure(out, b"price", beside, BASE + 4, 0)
+}
+
+// Returns how many counts lie between two lines of the axis.
+fn axis_step(top: u32) -> u32
+    ensures value { result ≡ axis_step top }
+    ensures some { 1 ≤ result }
+{
+    if top < 5 {
+        1
+    } else if top < 11 {
+        2
+    } else if top < 25 {
+        5
+    } else if top < 49 {
+        10
+    } else {
+        20
+    }
+}
+
+// Whether the axis has a line at a count below the greatest, whose number has room below that of the greatest.
+fn is_axis_count(unit: u8, top: u32, count: u32) -> bool
+    ensures { result ≡ is_axis_count unit top count }
+{
+    count > 0 && count % axis_step(top) == 0 && 12 <= height_of(unit, top.saturating_sub(count))
+}
+
+// Writes the line of the axis at a count, with its number, where there is one.
+#[tactic(auto, unfolding(crate::specs::Charts::axis_line))]
+fn axis_line(out: &mut List<u8>, sheet: Sheet, unit: u8, top: u32, count: u32) -> Result<(), Memory>
+    ensures { OnOk result (out.new ≡ out.old ++ written (axis_line sheet unit top count)) }
+{
+    if is_axis_count(unit, top, count) {
+        let beside = (sheet.left as u64).saturating_sub(8);
+        grid(out, sheet, level(unit, count))?;
+        figure(out, b"price", beside, level(unit, count) + 4, count as u64)?;
+    }
+    Ok(())
+}
+
+// Writes the lines of the axis between 0 and the greatest count.
+fn axis_lines(out: &mut List<u8>, sheet: Sheet, unit: u8, top: u32) -> Result<(), Memory>
+    ensures { OnOk result (out.new ≡ out.old ++ written (axis_lines sheet unit top)) }
+{
+    let end = top.min(64);
+    for count in 0..end {
+        axis_line(out, sheet, unit, top, count)?;
+    }
+    Ok(())
+}
+
+/// Writes the lines of the axis, at 0, at the greatest count and between them, with their numbers.
+///
+/// # Errors
+///
+/// `Memory` where memory runs out; a part may stand in `out` then.
+pub(crate) fn frame(out: &mut List<u8>, sheet: Sheet, unit: u8, top: u32) -> Result<(), Memory>
+    ensures { OnOk result (out.new ≡ out.old ++ written (frame sheet unit top)) }
+{
+    ends(out, sheet, unit, top)?;
+    axis_lines(out, sheet, unit, top)
 }
 
 // Writes the line of the need.

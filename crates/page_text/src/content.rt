@@ -1,10 +1,15 @@
 use crate::row::Row;
 use crate::{Column, Figures};
+use page_tables::Tables;
 use roster_model::List;
 
 /// What a page shows.
 #[derive(Debug, Drop)]
 pub struct Content {
+    /// The title of the day, or nothing.
+    pub title: List<u8>,
+    /// For each code what it is called, or nothing.
+    pub words: List<List<u8>>,
     /// What the roster costs.
     pub figures: Figures,
     /// The rows of the chart of shifts, at most 64.
@@ -13,4 +18,6 @@ pub struct Content {
     pub derivations: List<List<u8>>,
     /// How each cell is covered; nothing where there is no roster.
     pub columns: List<Column>,
+    /// The tables and lists.
+    pub tables: Tables,
 }

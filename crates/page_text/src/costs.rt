@@ -4,11 +4,11 @@ ghost use Rattle.page_parts.specs.Elements.{written};
 ghost use Rattle.page_text.specs.Costs.{
   AreDayColumns,
   amount,
+  both_sums,
   chip,
   code_cost,
   code_costs,
   costs,
-  dearer,
   demanded_cost,
   gap,
   is_demanded,
@@ -16,8 +16,12 @@ ghost use Rattle.page_text.specs.Costs.{
   none_allowed,
   none_less,
   penalties,
+  saves,
   sentence,
   sentence_over,
+  sums,
+  told,
+  unknown,
   with_penalty,
 };
 
@@ -25,14 +29,25 @@ use crate::column::Column;
 use crate::figures::Figures;
 use page_parts::{labelled, labelled_text, marks, number, paint_of};
 use roster_model::{CodeDef, List, Memory};
+use shift_figures::{Saving, saving_at};
 
-// Writes the sentence of a roster that costs at most so much more than the best one.
-#[tactic(auto, unfolding(crate::specs::Costs::dearer))]
-fn dearer(out: &mut List<u8>, more: u64) -> Result<(), Memory>
-    ensures { OnOk result (out.new ≡ out.old ++ written (dearer more)) }
+// Writes the sentence of what a cheaper roster saves at most, with its share in tenths of a percent.
+#[tactic(auto, unfolding(crate::specs::Costs::saves))]
+fn saves(out: &mut List<u8>, amount: u64, permille: u64) -> Result<(), Memory>
+    ensures { OnOk result (out.new ≡ out.old ++ written (saves amount permille)) }
 {
-    labelled(out, b"This roster costs at most ", more)?;
-    marks(out, b" more than the best one.")
+    labelled(out, b"A cheaper roster saves at most ", amount)?;
+    labelled(out, b" (", permille / 10)?;
+    labelled(out, b".", permille % 10)?;
+    marks(out, b" %).")
+}
+
+// Writes the sentence where nothing is proved of the cost.
+#[tactic(auto, unfolding(crate::specs::Costs::unknown))]
+fn unknown(out: &mut List<u8>) -> Result<(), Memory>
+    ensures { OnOk result (out.new ≡ out.old ++ written unknown) }
+{
+    marks(out, b"Nothing is proved of the cost.")
 }
 
 // Writes the sentence of a roster of least cost.
@@ -51,15 +66,24 @@ fn none_allowed(out: &mut List<u8>) -> Result<(), Memory>
     marks(out, b"No roster is allowed.")
 }
 
+// Writes the sentence of what a bound tells.
+#[tactic(auto, unfolding(crate::specs::Costs::told))]
+fn told(out: &mut List<u8>, saving: Saving) -> Result<(), Memory>
+    ensures { OnOk result (out.new ≡ out.old ++ written (told saving)) }
+{
+    match saving {
+        Saving::NoneLess => none_less(out),
+        Saving::Unknown => unknown(out),
+        Saving::AtMost { amount, permille } => saves(out, amount, permille),
+    }
+}
+
 // Writes the sentence of a roster that costs so much, where this is the bound.
 #[tactic(auto, unfolding(crate::specs::Costs::gap))]
 fn gap(out: &mut List<u8>, cost: u64, bound: u64) -> Result<(), Memory>
     ensures { OnOk result (out.new ≡ out.old ++ written (gap cost bound)) }
 {
-    if bound < cost {
-        return dearer(out, cost - bound);
-    }
-    none_less(out)
+    told(out, saving_at(cost, bound))
 }
 
 // Writes the sentence where there is no roster, but a bound.
@@ -220,7 +244,33 @@ fn code_costs(out: &mut List<u8>, codes: &[CodeDef], columns: &[Column]) -> Resu
     Ok(())
 }
 
-/// Appends what the roster costs: its figures, and the penalties of each code that is demanded.
+// Writes what the shifts and the penalties come to.
+#[tactic(auto, unfolding(crate::specs::Costs::both_sums))]
+fn both_sums(out: &mut List<u8>, figures: Figures) -> Result<(), Memory>
+    ensures { OnOk result (out.new ≡ out.old ++ written (both_sums figures)) }
+{
+    labelled(out, b"<div><dt>Paid for shifts</dt><dd>", figures.paid)?;
+    labelled(
+        out,
+        b"</dd></div><div><dt>Penalties</dt><dd>",
+        figures.penalty,
+    )?;
+    marks(out, b"</dd></div>")
+}
+
+// Writes the same, where there is a roster.
+#[tactic(auto, unfolding(crate::specs::Costs::sums))]
+fn sums(out: &mut List<u8>, figures: Figures) -> Result<(), Memory>
+    ensures { OnOk result (out.new ≡ out.old ++ written (sums figures figures.cost)) }
+{
+    match figures.cost {
+        None => Ok(()),
+        Some(_) => both_sums(out, figures),
+    }
+}
+
+/// Appends what the roster costs: its figures, and the penalties of each code that is demanded. Where there is
+/// no roster, there is no sum.
 ///
 /// # Errors
 ///
@@ -238,17 +288,8 @@ pub fn costs(
 {
     labelled_amount(out, b"<dl><div><dt>Total cost</dt><dd>", figures.cost)?;
     labelled_amount(out, b"</dd></div><div><dt>Bound</dt><dd>", figures.bound)?;
-    labelled(
-        out,
-        b"</dd></div><div><dt>Paid for shifts</dt><dd>",
-        figures.paid,
-    )?;
-    labelled(
-        out,
-        b"</dd></div><div><dt>Penalties</dt><dd>",
-        figures.penalty,
-    )?;
     marks(out, b"</dd></div>")?;
+    sums(out, figures)?;
     code_costs(out, codes, columns)?;
     marks(out, b"</dl>\n")
 }

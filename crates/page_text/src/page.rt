@@ -14,7 +14,9 @@ ghost use Rattle.page_text.specs.Pages.{
   coverage_part,
   derivation,
   derivations,
+  derivations_part,
   head,
+  heading,
   height_of,
   legend,
   legend_item,
@@ -24,7 +26,10 @@ ghost use Rattle.page_text.specs.Pages.{
   shifts_part,
   shows,
   size,
+  title_of,
+  titled_derivations,
   top_part,
+  words_at,
   work_word,
 };
 
@@ -33,10 +38,11 @@ use crate::chart::{frame, in_words, inked, lines, top_count, unit_of};
 use crate::content::Content;
 use crate::costs::{chip, costs, is_demanded, sentence};
 use crate::ink::Ink;
-use crate::roster_chart::{rows, ticks};
+use crate::roster_chart::{row_words, rows, ticks};
 use crate::row::{Row, longest};
 use crate::style::style;
 use page_parts::{Sheet, caption, chart_width, labelled, labelled_text, marks, sheet_of};
+use page_tables::add_tables;
 use roster_model::{CodeDef, List, Memory};
 use std::alloc::Global;
 
@@ -60,22 +66,44 @@ fn work_word(work: bool) -> &'static [u8]
     if work { b"work</li>" } else { b"no work</li>" }
 }
 
+// Returns what the code at a place is called, or nothing.
+fn words_at(words: &[List<u8>], place: u8) -> &[u8]
+    ensures { result.now ≡ words_at words.now place }
+{
+    match words.get(place as usize) {
+        None => b"",
+        Some(text) => text.as_slice(),
+    }
+}
+
 // Writes a code of the legend.
 #[tactic(auto, unfolding(crate::specs::Pages::legend_item))]
-fn legend_item(out: &mut List<u8>, codes: &[CodeDef], code: &CodeDef) -> Result<(), Memory>
-    ensures { OnOk result (out.new ≡ out.old ++ written (legend_item codes.now code.now)) }
+fn legend_item(
+    out: &mut List<u8>,
+    codes: &[CodeDef],
+    words: &[List<u8>],
+    place: u8,
+    code: &CodeDef,
+) -> Result<(), Memory>
+    ensures { OnOk result
+        (out.new ≡ out.old ++ written (legend_item codes.now words.now place code.now)) }
 {
     marks(out, b"<li>")?;
     chip(out, codes, code.byte)?;
+    labelled_text(out, b"<span>", words_at(words, place))?;
+    marks(out, b"</span>")?;
     marks(out, work_word(code.work))
 }
 
 // Writes the codes of the legend.
-fn legend(out: &mut List<u8>, codes: &[CodeDef]) -> Result<(), Memory>
-    ensures { OnOk result (out.new ≡ out.old ++ written (legend codes.now)) }
+fn legend(out: &mut List<u8>, codes: &[CodeDef], words: &[List<u8>]) -> Result<(), Memory>
+    requires { length codes.now ≤ 32 }
+    ensures { OnOk result (out.new ≡ out.old ++ written (legend codes.now words.now)) }
 {
+    let mut place: u8 = 0;
     for code in codes {
-        legend_item(out, codes, code)?;
+        legend_item(out, codes, words, place, code)?;
+        place += 1;
     }
     Ok(())
 }
@@ -101,27 +129,34 @@ fn height_of(rows: usize) -> u64
 // What stands between the legend and the size of the chart of the shifts.
 fn roster_start() -> &'static [u8]
     ensures { result.now
-        ≡ text "</ul>\n<svg class='roster' role='group' aria-label='Shifts of the roster, one row a shift" }
+        ≡ text "</ul>\n<div class='scroll'><svg class='roster' role='group' aria-label='Shifts of the roster, one row a shift" }
 {
-    b"</ul>\n<svg class='roster' role='group' aria-label='Shifts of the roster, one row a shift"
+    b"</ul>\n<div class='scroll'><svg class='roster' role='group' aria-label='Shifts of the roster, one row a shift"
 }
 
 // What stands behind the rows.
 fn roster_end() -> &'static [u8]
     ensures { result.now
-        ≡ text "</svg>\n<p class='hint'>Point at a shift, or go to it with the Tab key, and see how the rules derive it.</p></section>\n" }
+        ≡ text "</svg></div>\n<p class='hint'>Point at a shift, or go to it with the Tab key, and see how the rules derive it.</p></section>\n" }
 {
-    b"</svg>\n<p class='hint'>Point at a shift, or go to it with the Tab key, and see how the rules derive it.</p></section>\n"
+    b"</svg></div>\n<p class='hint'>Point at a shift, or go to it with the Tab key, and see how the rules derive it.</p></section>\n"
 }
 
 // Writes the chart of the shifts.
 #[tactic(auto, unfolding(crate::specs::Pages::shifts))]
-fn shifts(out: &mut List<u8>, sheet: Sheet, codes: &[CodeDef], shown: &[Row]) -> Result<(), Memory>
-    requires { length shown.now ≤ 64 }
-    ensures { OnOk result (out.new ≡ out.old ++ written (shifts sheet codes.now shown.now)) }
+fn shifts(
+    out: &mut List<u8>,
+    sheet: Sheet,
+    codes: &[CodeDef],
+    words: &[List<u8>],
+    shown: &[Row],
+) -> Result<(), Memory>
+    requires codes { length codes.now ≤ 32 }
+    requires rows { length shown.now ≤ 64 }
+    ensures { OnOk result (out.new ≡ out.old ++ written (shifts sheet codes.now words.now shown.now)) }
 {
     marks(out, b"<section><h2>Shifts</h2>\n<ul class='legend'>")?;
-    legend(out, codes)?;
+    legend(out, codes, words)?;
     marks(out, roster_start())?;
     size(out, chart_width(sheet), height_of(shown.len()))?;
     price_head(out, sheet)?;
@@ -147,7 +182,7 @@ fn chart_head(
     chip(out, codes, code.byte)?;
     labelled_text(
         out,
-        b"</figcaption><svg role='img' aria-label='Coverage of ",
+        b"</figcaption><div class='scroll'><svg role='img' aria-label='Coverage of ",
         &[code.byte],
     )?;
     marks(out, b". ")?;
@@ -171,7 +206,7 @@ fn chart_body(
     frame(out, sheet, unit, top)?;
     lines(out, sheet, unit, place, columns)?;
     ticks(out, sheet, 127)?;
-    marks(out, b"</svg></figure>\n")
+    marks(out, b"</svg></div></figure>\n")
 }
 
 // Writes the chart of a code that is demanded.
@@ -265,25 +300,64 @@ fn all_show(out: &mut List<u8>, texts: &[List<u8>]) -> Result<(), Memory>
     Ok(())
 }
 
-// Writes the derivation of a row.
+// Writes the words of the row at a place, if there is one.
+#[tactic(auto, unfolding(crate::specs::Pages::heading))]
+fn heading(out: &mut List<u8>, rows: &[Row], place: u64) -> Result<(), Memory>
+    ensures { OnOk result (out.new ≡ out.old ++ written (heading rows.now place)) }
+{
+    match rows.get(place as usize) {
+        None => Ok(()),
+        Some(row) => row_words(out, row),
+    }
+}
+
+// Writes the derivation of a row, under the row's words.
 #[tactic(auto, unfolding(crate::specs::Pages::derivation))]
-fn derivation(out: &mut List<u8>, place: u64, text: &List<u8>) -> Result<(), Memory>
-    ensures { OnOk result (out.new ≡ out.old ++ written (derivation place text.now)) }
+fn derivation(out: &mut List<u8>, rows: &[Row], place: u64, text: &List<u8>) -> Result<(), Memory>
+    ensures { OnOk result (out.new ≡ out.old ++ written (derivation rows.now place text.now)) }
 {
     labelled(out, b"<pre class='derivation' id='d", place)?;
-    labelled_text(out, b"'>", text.as_slice())?;
+    marks(out, b"'><b>")?;
+    heading(out, rows, place)?;
+    labelled_text(out, b"</b>\n", text.as_slice())?;
     marks(out, b"</pre>\n")
 }
 
 // Writes the derivations of the rows.
-fn derivations(out: &mut List<u8>, texts: &[List<u8>]) -> Result<(), Memory>
+fn derivations(out: &mut List<u8>, rows: &[Row], texts: &[List<u8>]) -> Result<(), Memory>
     requires { length texts.now ≤ 64 }
-    ensures { OnOk result (out.new ≡ out.old ++ written (derivations texts.now)) }
+    ensures { OnOk result (out.new ≡ out.old ++ written (derivations rows.now texts.now)) }
 {
     let mut place: u64 = 0;
     for text in texts {
-        derivation(out, place, text)?;
+        derivation(out, rows, place, text)?;
         place += 1;
+    }
+    Ok(())
+}
+
+// Writes the derivations of the rows under their title.
+#[tactic(auto, unfolding(crate::specs::Pages::titled_derivations))]
+fn titled_derivations(out: &mut List<u8>, rows: &[Row], texts: &[List<u8>]) -> Result<(), Memory>
+    requires { length texts.now ≤ 64 }
+    ensures { OnOk result (out.new ≡ out.old ++ written (titled_derivations rows.now texts.now)) }
+{
+    marks(
+        out,
+        b"<div class='derivations'><h2>How the rules derive each shift</h2>\n",
+    )?;
+    derivations(out, rows, texts)?;
+    marks(out, b"</div>\n")
+}
+
+// Writes the same, where there are any derivations.
+#[tactic(auto, unfolding(crate::specs::Pages::derivations_part))]
+fn derivations_part(out: &mut List<u8>, rows: &[Row], texts: &[List<u8>]) -> Result<(), Memory>
+    requires { length texts.now ≤ 64 }
+    ensures { OnOk result (out.new ≡ out.old ++ written (derivations_part rows.now texts.now)) }
+{
+    if texts.len() > 0 {
+        titled_derivations(out, rows, texts)?;
     }
     Ok(())
 }
@@ -299,23 +373,32 @@ fn before_style() -> &'static [u8]
     HEAD
 }
 
-// What stands between the style and the sentence of how good the roster is.
+// What stands between the style and the title.
 fn after_style() -> &'static [u8]
-    ensures { result.now ≡ text "</style>\n</head>\n<body>\n<main>\n<header><h1>Roster</h1><p>" }
+    ensures { result.now ≡ text "</style>\n</head>\n<body>\n<main>\n<header><h1>" }
 {
-    b"</style>\n</head>\n<body>\n<main>\n<header><h1>Roster</h1><p>"
+    b"</style>\n</head>\n<body>\n<main>\n<header><h1>"
+}
+
+// Returns the title of the page: that of the day, or `Roster`.
+#[tactic(auto, unfolding(crate::specs::Pages::title_of))]
+fn title_of(title: &[u8]) -> &[u8]
+    ensures { result.now ≡ title_of title.now }
+{
+    if title.len() > 0 { title } else { b"Roster" }
 }
 
 // Writes the head of the page.
 #[tactic(auto, unfolding(crate::specs::Pages::head))]
-fn head(out: &mut List<u8>, texts: &[List<u8>]) -> Result<(), Memory>
+fn head(out: &mut List<u8>, title: &[u8], texts: &[List<u8>]) -> Result<(), Memory>
     requires { length texts.now ≤ 64 }
-    ensures { OnOk result (out.new ≡ out.old ++ written (head texts.now)) }
+    ensures { OnOk result (out.new ≡ out.old ++ written (head title.now texts.now)) }
 {
     marks(out, before_style())?;
     marks(out, style())?;
     all_show(out, texts)?;
-    marks(out, after_style())
+    labelled_text(out, after_style(), title_of(title))?;
+    marks(out, b"</h1><p>")
 }
 
 // Writes the head, and what the roster costs.
@@ -326,7 +409,11 @@ fn top_part(out: &mut List<u8>, codes: &[CodeDef], content: &Content) -> Result<
     requires columns { AreDayColumns content.now.columns }
     ensures { OnOk result (out.new ≡ out.old ++ written (top_part codes.now content.now)) }
 {
-    head(out, content.derivations.as_slice())?;
+    head(
+        out,
+        content.title.as_slice(),
+        content.derivations.as_slice(),
+    )?;
     sentence(out, content.figures.cost, content.figures.bound)?;
     marks(out, b"</p></header>\n")?;
     costs(out, codes, content.figures, content.columns.as_slice())
@@ -338,13 +425,16 @@ fn shifts_part(
     out: &mut List<u8>,
     sheet: Sheet,
     codes: &[CodeDef],
+    words: &[List<u8>],
     rows: &[Row],
 ) -> Result<(), Memory>
-    requires { length rows.now ≤ 64 }
-    ensures { OnOk result (out.new ≡ out.old ++ written (shifts_part sheet codes.now rows.now)) }
+    requires codes { length codes.now ≤ 32 }
+    requires rows { length rows.now ≤ 64 }
+    ensures { OnOk result
+        (out.new ≡ out.old ++ written (shifts_part sheet codes.now words.now rows.now)) }
 {
     if rows.len() > 0 {
-        shifts(out, sheet, codes, rows)?;
+        shifts(out, sheet, codes, words, rows)?;
     }
     Ok(())
 }
@@ -381,9 +471,11 @@ fn body(
     ensures { OnOk result (out.new ≡ out.old ++ written (body sheet codes.now content.now)) }
 {
     top_part(out, codes, content)?;
-    shifts_part(out, sheet, codes, content.rows.as_slice())?;
+    let words = content.words.as_slice();
+    shifts_part(out, sheet, codes, words, content.rows.as_slice())?;
     coverage_part(out, sheet, codes, content.columns.as_slice())?;
-    derivations(out, content.derivations.as_slice())?;
+    add_tables(out, &content.tables)?;
+    derivations_part(out, content.rows.as_slice(), content.derivations.as_slice())?;
     marks(out, b"</main>\n</body>\n</html>\n")
 }
 

@@ -3,7 +3,10 @@ ghost use Rattle.page_parts.specs.Elements.{written};
 ghost use Rattle.page_text.specs.RosterChart.{
   cell,
   cells,
+  gap,
   letter,
+  many,
+  one,
   row_elements,
   row_frame,
   row_head,
@@ -13,12 +16,14 @@ ghost use Rattle.page_text.specs.RosterChart.{
   tick,
   ticks,
   times,
+  times_of,
+  who,
 };
 
 use crate::row::Row;
 use page_parts::{
-    Area, Sheet, bar, caption, chart_width, figure, labelled, labelled_text, left_of, marks,
-    middle_of, number, paint_of, top_of,
+    Area, Sheet, bar, caption, chart_width, figure, given, labelled, left_of, marks, middle_of,
+    number, paint_of, top_of,
 };
 use roster_model::{CodeDef, List, Memory};
 
@@ -85,25 +90,76 @@ fn cells(
     Ok(())
 }
 
-// Writes how many employees have the shift, where there are several.
-#[tactic(auto, unfolding(crate::specs::RosterChart::times))]
-fn times(out: &mut List<u8>, row: u8, count: u32) -> Result<(), Memory>
-    ensures { OnOk result (out.new ≡ out.old ++ written (times row count)) }
+// Writes beside a row how many employees have its shift.
+#[tactic(auto, unfolding(crate::specs::RosterChart::times_of))]
+fn times_of(out: &mut List<u8>, row: u8, count: u32) -> Result<(), Memory>
+    ensures { OnOk result (out.new ≡ out.old ++ written (times_of row count)) }
 {
-    if count > 1 {
-        figure(out, b"times", 40, top_of(row) + 15, count as u64)?;
-    }
-    Ok(())
+    labelled(out, b"<text class='times' x='40' y='", top_of(row) + 15)?;
+    labelled(out, b"'>", count as u64)?;
+    marks(out, b"&#215;</text>")
 }
 
-// Writes a row in words.
+// Writes beside a row the number of the shift, or, where several employees have it, how many.
+#[tactic(auto, unfolding(crate::specs::RosterChart::times))]
+fn times(out: &mut List<u8>, row: u8, shift: u32, count: u32) -> Result<(), Memory>
+    ensures { OnOk result (out.new ≡ out.old ++ written (times row shift count)) }
+{
+    if count > 1 {
+        return times_of(out, row, count);
+    }
+    figure(out, b"times", 40, top_of(row) + 15, shift as u64)
+}
+
+// Writes of how many shifts a row is.
+#[tactic(auto, unfolding(crate::specs::RosterChart::many))]
+fn many(out: &mut List<u8>, count: u32) -> Result<(), Memory>
+    ensures { OnOk result (out.new ≡ out.old ++ written (many count)) }
+{
+    number(out, count as u64)?;
+    marks(out, b" shifts: ")
+}
+
+// Writes of which shift a row is.
+#[tactic(auto, unfolding(crate::specs::RosterChart::one))]
+fn one(out: &mut List<u8>, shift: u32) -> Result<(), Memory>
+    ensures { OnOk result (out.new ≡ out.old ++ written (one shift)) }
+{
+    labelled(out, b"Shift ", shift as u64)?;
+    marks(out, b": ")
+}
+
+// Writes whose shift it is: the one of a number, or of several employees.
+#[tactic(auto, unfolding(crate::specs::RosterChart::who))]
+fn who(out: &mut List<u8>, shift: u32, count: u32) -> Result<(), Memory>
+    ensures { OnOk result (out.new ≡ out.old ++ written (who shift count)) }
+{
+    if count > 1 {
+        return many(out, count);
+    }
+    one(out, shift)
+}
+
+// What stands between the name of a group and a word.
+fn gap(name: &[u8]) -> &'static [u8]
+    ensures { result.now ≡ gap name.now }
+{
+    if name.is_empty() { b"" } else { b" " }
+}
+
+/// Writes a row in words.
+///
+/// # Errors
+///
+/// `Memory` where memory runs out; a part may stand in `out` then.
 #[tactic(auto, unfolding(crate::specs::RosterChart::row_words))]
-fn row_words(out: &mut List<u8>, row: &Row) -> Result<(), Memory>
+pub(crate) fn row_words(out: &mut List<u8>, row: &Row) -> Result<(), Memory>
     ensures { OnOk result (out.new ≡ out.old ++ written (row_words row.now)) }
 {
-    number(out, row.count as u64)?;
-    labelled_text(out, b" of: ", row.name.as_slice())?;
-    labelled_text(out, b" ", row.word.as_slice())?;
+    who(out, row.number, row.count)?;
+    given(out, row.name.as_slice())?;
+    given(out, gap(row.name.as_slice()))?;
+    given(out, row.word.as_slice())?;
     labelled(out, b", price ", row.price)
 }
 
@@ -154,7 +210,7 @@ fn row(
 {
     row_head(out, place, row)?;
     row_frame(out, sheet, place, row)?;
-    times(out, place, row.count)?;
+    times(out, place, row.number, row.count)?;
     cells(out, sheet, codes, place, row.word.as_slice())?;
     marks(out, b"</g>\n")
 }

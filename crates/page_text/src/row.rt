@@ -6,6 +6,8 @@ use roster_model::List;
 /// A row of the chart of shifts.
 #[derive(Debug, PartialEq, Eq, Drop)]
 pub struct Row {
+    /// The number of the shift in the certificate, from 1; where equal shifts have one row, the least.
+    pub number: u32,
     /// The number of the employees' group, from 1, or 0 on a day without groups.
     pub group: u8,
     /// The name of the employees' group, or nothing on a day without groups.

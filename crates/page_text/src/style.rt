@@ -36,7 +36,8 @@ background:var(--c);color:var(--t)}\n\
 .key.need{height:0;border-top:2px solid var(--ink);border-radius:0}\n\
 .key.floor{height:0;border-top:2px dashed #009e73;border-radius:0}\n\
 .key.ceiling{height:0;border-top:2px dotted #cc79a7;border-radius:0}\n\
-svg{display:block;max-width:100%;height:auto}\n\
+svg{display:block;height:auto}\n\
+.scroll{overflow-x:auto}\n\
 svg text{font:12px system-ui,'Segoe UI',Roboto,'DejaVu Sans',Arial,sans-serif;fill:var(--ink)}\n\
 rect{fill:var(--c)}\n\
 .w0{--c:#0072b2;--t:#fff}.w1{--c:#e69f00;--t:#111}.w2{--c:#009e73;--t:#111}\n\
@@ -62,6 +63,12 @@ path{fill:none;stroke:var(--ink);stroke-width:2}\n\
 path.floor{stroke:#009e73;stroke-dasharray:6 3}\n\
 path.ceiling{stroke:#cc79a7;stroke-dasharray:2 3}\n\
 .hint{margin:.7rem 0 0;font-size:.85rem;color:var(--dim)}\n\
+table{border-collapse:collapse;font-size:.9rem;font-variant-numeric:tabular-nums}\n\
+th,td{text-align:left;padding:.25rem 1.2rem .25rem 0;border-bottom:1px solid var(--line)}\n\
+th,td{white-space:nowrap}th{color:var(--dim);font-weight:600}\n\
+td.word{font-family:ui-monospace,'DejaVu Sans Mono',Menlo,Consolas,monospace}\n\
+.legend .chip+span:empty{display:none}\n\
+.derivations>h2{display:none}\n\
 .derivation{display:none;position:fixed;right:1rem;bottom:1rem;left:1rem;max-width:60rem;\n\
 max-height:90vh;margin:0 auto;padding:.9rem 1.2rem;overflow:auto;columns:11rem;\n\
 white-space:pre-wrap;overflow-wrap:anywhere;\n\
@@ -79,12 +86,17 @@ h1{font-size:18px}header p{font-size:12px;margin:.1rem 0 .5rem}\n\
 dl{gap:.4rem;margin:0 0 .5rem}dl div{padding:.2rem .6rem;min-width:0}dd{font-size:14px}\n\
 section{padding:.5rem .6rem;margin:0 0 .5rem;break-inside:avoid}\n\
 .legend{margin:0 0 .4rem}\n\
+svg{max-width:100%}.scroll{overflow:visible}\n\
 svg.roster{max-height:120mm}\n\
 .charts:has(figure:nth-child(4)){display:grid;grid-template-columns:repeat(2,minmax(0,1fr));\n\
 gap:.4rem}\n\
 figure+figure{margin-top:0}\n\
 .charts svg{max-height:32mm}\n\
-.hint,.derivation{display:none!important}}\n\
+section:not(.list)+.list{break-before:page}table{font-size:9px}th,td{padding:.1rem .6rem .1rem 0}\n\
+.hint{display:none}\n\
+.derivations{break-before:page;columns:3}.derivations>h2{display:block;column-span:all}\n\
+.derivation{display:block;position:static;max-width:none;max-height:none;columns:auto;\n\
+margin:0 0 .5rem;padding:.3rem .5rem;break-inside:avoid;border-radius:4px;box-shadow:none;font-size:9px}}\n\
 ";
 
 /// Returns the style of a page.

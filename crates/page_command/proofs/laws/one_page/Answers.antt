@@ -1,9 +1,13 @@
 use Rattle.std.proofs.Common.{Some}
-use Rattle.text_commands.proofs.SaysLemmas.{as-cert-texts}
+use Rattle.answers.proofs.SaysLemmas.{as-cert-texts}
+use Rattle.page_labels.specs.Labels.{nothing}
 use Rattle.page_command.specs.Check.{Judgement}
-use Rattle.page_command.proofs.OnceLemmas.{texts_once}
+use Rattle.page_command.proofs.OnceLemmas.{labelled_once, page_once}
 use Rattle.page_command.proofs.laws.one_page.Goals as goal
 
-pub returns : goal.returns
-returns c = λ held rules demand proof s t a b h k.
-    texts_once held rules demand proof s t a b (as-cert-texts Judgement (Some held) rules demand proof s a h) (as-cert-texts Judgement (Some held) rules demand proof t b k)
+pub returns-clause-page : goal.returns-clause-page
+returns-clause-page c = λ held rules demand proof s t a b h k.
+    page_once held rules demand proof s t a b (as-cert-texts (Judgement nothing) (Some held) rules demand proof s a h) (as-cert-texts (Judgement nothing) (Some held) rules demand proof t b k)
+
+pub returns-clause-labelled : goal.returns-clause-labelled
+returns-clause-labelled c = labelled_once

@@ -7,5 +7,5 @@ use Rattle.page_text.proofs.page.head.Goals as goal
 pub returns : goal.returns
 unfolding head
 returns c =
-    on_ok_weaker c.marks-3.result (λ e. e ∙ rw (c.in_ok-all_show.ensures, c.in_ok-marks-2.ensures, c.in_ok-marks.ensures, c.before_style.ensures, c.style.ensures, c.after_style.ensures)
+    on_ok_weaker c.marks-3.result (λ e. e ∙ rw (c.in_ok-labelled_text.ensures, c.in_ok-all_show.ensures, c.in_ok-marks-2.ensures, c.in_ok-marks.ensures, c.before_style.ensures, c.style.ensures, c.after_style.ensures, c.title_of.ensures)
     (simp (append_assoc, append-nil, flat_map-append))) c.marks-3.ensures

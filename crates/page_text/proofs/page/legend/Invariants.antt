@@ -1,8 +1,10 @@
 use Rattle.std.proofs.Common.{◌≡◌, ◌++◌, take}
-use Rattle.std.specs.List.{flat_map}
-use Rattle.page_parts.specs.Elements.{written}
+use Rattle.page_parts.specs.Elements.{each_from, written}
 use Rattle.page_text.specs.Pages.{legend_item}
 use Rattle.page_text.proofs.page.legend.Given as goal
 
 abbrev pub invariant-loop-code : goal.invariant-loop-code
-invariant-loop-code l = l.out ≡ l.fn.out ++ written (flat_map (legend_item l.codes) (take l.code-index l.codes))
+invariant-loop-code l = record {
+  out : l.out ≡ l.fn.out ++ written (each_from (legend_item l.codes l.words) 0 (take l.code-index l.codes));
+  place : l.place ≡ l.code-index;
+}

@@ -7,5 +7,5 @@ use Rattle.page_text.proofs.page.legend_item.Goals as goal
 pub returns : goal.returns
 unfolding legend_item
 returns c =
-    on_ok_weaker c.marks-2.result (λ e. e ∙ rw (c.in_ok-chip.ensures, c.in_ok-marks.ensures, c.work_word.ensures)
-    (simp (append_assoc, append-nil, flat_map-append))) c.marks-2.ensures
+    on_ok_weaker c.marks-3.result (λ e. e ∙ rw (c.in_ok-marks-2.ensures, c.in_ok-labelled_text.ensures, c.in_ok-chip.ensures, c.in_ok-marks.ensures, c.work_word.ensures, c.words_at.ensures)
+    (simp (append_assoc, append-nil, flat_map-append))) c.marks-3.ensures

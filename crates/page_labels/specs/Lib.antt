@@ -1,0 +1,7 @@
+pub mod Steps
+pub mod FaultLine
+pub mod Clocks
+pub mod Labels
+pub mod Fields
+pub mod LabelLines
+pub mod LabelsOf

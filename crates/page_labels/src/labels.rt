@@ -1,0 +1,110 @@
+ghost use Rattle.std.specs.Prelude.{◌≡◌, ◌==◌, [], None};
+ghost use Rattle.std.specs.List.{list_any};
+ghost use Rattle.page_labels.specs.Labels.{code_words, group_words, has_code, has_group, has_paid, nothing};
+
+use crate::clock::Clock;
+use roster_model::List;
+use std::alloc::Global;
+
+/// What a code is called.
+#[derive(Debug, PartialEq, Eq, Drop)]
+pub struct CodeLabel {
+    /// The position of the code in the grammar's `codes`.
+    pub code: u8,
+    /// The words, 1 to 60 bytes.
+    pub words: List<u8>,
+}
+
+/// What a group of employees is called.
+#[derive(Debug, PartialEq, Eq, Drop)]
+pub struct GroupLabel {
+    /// The number of the group, from 1.
+    pub group: u8,
+    /// The words, 1 to 60 bytes.
+    pub words: List<u8>,
+}
+
+/// Whether the periods of a code that is no work count as paid.
+#[derive(Clone, Copy, Debug, PartialEq, Eq, Drop)]
+pub struct PaidCode {
+    /// The position of the code in the grammar's `codes`.
+    pub code: u8,
+    /// Whether its periods count as paid.
+    pub paid: bool,
+}
+
+/// What a labels text says.
+#[derive(Debug, PartialEq, Eq, Drop)]
+pub struct Labels {
+    /// The title of the day, or nothing.
+    pub title: List<u8>,
+    /// When periods begin, where it is said.
+    pub clock: Option<Clock>,
+    /// The codes that are called by words, in the order of their lines.
+    pub codes: List<CodeLabel>,
+    /// The groups that are called by words, in the order of their lines.
+    pub groups: List<GroupLabel>,
+    /// What costs are counted in, or nothing.
+    pub money: List<u8>,
+    /// The codes of which it is said whether they count as paid, in the order of their lines.
+    pub paid: List<PaidCode>,
+}
+
+/// Returns what an empty text says.
+pub fn no_labels(alloc: Global) -> Labels
+    ensures { result ≡ nothing }
+{
+    Labels {
+        title: List::new(alloc),
+        clock: None,
+        codes: List::new(alloc),
+        groups: List::new(alloc),
+        money: List::new(alloc),
+        paid: List::new(alloc),
+    }
+}
+
+/// Returns whether a code is called by words.
+pub(crate) fn has_code(labels: &[CodeLabel], code: u8) -> bool
+    ensures { result ≡ has_code labels.now code }
+{
+    labels.iter().any(|label| label.code == code)
+}
+
+/// Returns whether a group is called by words.
+pub(crate) fn has_group(labels: &[GroupLabel], group: u8) -> bool
+    ensures { result ≡ has_group labels.now group }
+{
+    labels.iter().any(|label| label.group == group)
+}
+
+/// Returns whether it is said of a code whether it counts as paid.
+pub(crate) fn has_paid(codes: &[PaidCode], code: u8) -> bool
+    ensures { result ≡ has_paid codes.now code }
+{
+    codes.iter().any(|label| label.code == code)
+}
+
+/// Returns the words for a code, or nothing where it has none.
+pub fn code_words(labels: &[CodeLabel], code: u8) -> &[u8]
+    ensures { result.now ≡ code_words labels.now code }
+{
+    for label in labels {
+        if label.code == code {
+            return label.words.as_slice();
+        }
+    }
+    b""
+}
+
+/// Returns the words for a group, or nothing where it has none.
+pub fn group_words(labels: &[GroupLabel], group: u8) -> &[u8]
+    ensures { result.now ≡ group_words labels.now group }
+{
+    for label in labels {
+        if label.group == group {
+            return label.words.as_slice();
+        }
+    }
+    b""
+}

@@ -1,0 +1,31 @@
+//! The labels text: what a page calls a day, its periods, codes and groups.
+//!
+//! ```text
+//! title Monday
+//! clock 7:00 15
+//! code a phone desk
+//! group Nurse night nurses
+//! money EUR
+//! paid p yes
+//! ```
+//!
+//! The lines stand in any order, each at most once, and those of codes and groups once for each of them. A title and
+//! the words for a code or a group have 1 to 60 bytes, one space between words. `clock` tells when the first period
+//! begins and how many minutes a period has, `paid` whether the periods of a code that is no work count as paid.
+#![tactic(auto)]
+
+mod clock;
+mod fault;
+mod field;
+mod labels;
+mod laws;
+mod line;
+mod message;
+mod read;
+
+pub use clock::{Clock, put_duration, put_time};
+pub use fault::LabelFault;
+pub use labels::{CodeLabel, GroupLabel, Labels, PaidCode, code_words, group_words, no_labels};
+pub use laws::refused_line;
+pub use message::fault_line;
+pub use read::read_labels;

@@ -1,0 +1,138 @@
+-- The marks of the tables do not depend on bytes of the texts.
+use Rattle.std.proofs.Common.{◌≡◌, ℕ, suc, List, [], ◌∷◌, ◌++◌, Bool, true, false, Option, length, refl, ap, ◌∙◌}
+use Rattle.std.proofs.lemmas.List.{map-append}
+use Rattle.std.specs.List.{flat_map}
+use Rattle.std.specs.Prelude.{codes, if◌then◌else◌, nat_lt}
+use Rattle.page_parts.specs.Elements.{Element, given, marks, number}
+use Rattle.page_parts.specs.Escapes.{marks_of}
+use Rattle.page_tables.specs.Alike.{AreAlike, IsAlikeHead, IsAlikeRun, IsAlikeShift, IsAlikeTables, IsAlikeTotal}
+use Rattle.page_tables.specs.HeadTable.{head_end, head_line, head_table}
+use Rattle.page_tables.specs.RunLists.{run_end, run_front, run_line, run_list, run_table}
+use Rattle.page_tables.specs.ShiftTable.{group_cell, group_cell_of, line_end, line_front, shift_line, shift_table}
+use Rattle.page_tables.specs.Tables.{page_tables, some_tables}
+use Rattle.page_tables.specs.TotalTable.{share_cell, total_front, total_line, total_table}
+use Rattle.page_tables.specs.declared.line.HeadLine.{HeadLine}
+use Rattle.page_tables.specs.declared.line.RunLine.{RunLine}
+use Rattle.page_tables.specs.declared.line.ShiftLine.{ShiftLine}
+use Rattle.page_tables.specs.declared.line.TotalLine.{TotalLine}
+use Rattle.page_tables.specs.declared.tables.Tables.{Tables}
+
+-- elements with the same marks
+abbrev Same : List Element → List Element → Type 0
+Same es fs = marks_of es ≡ marks_of fs
+
+when : (t : Bool) (es fs : List Element) → Same es fs → Same (if t then es else []) (if t then fs else [])
+when true es fs h = h
+when false es fs h = refl
+
+each_same : {A : Type 0} (R : A → A → Type 0) (F : A → List Element) → ((x y : A) → R x y → Same (F y) (F x)) → (xs ys : List A) → AreAlike R xs ys → Same (flat_map F ys) (flat_map F xs)
+each_same R F h [] [] a = refl
+each_same R F h [] (y ∷ ys) a = absurd a
+each_same R F h (x ∷ xs) [] a = absurd a
+each_same R F h (x ∷ xs) (y ∷ ys) a = simp (map-append, h x y a.0, each_same R F h xs ys a.1)
+
+as_many : {A : Type 0} (R : A → A → Type 0) (xs ys : List A) → AreAlike R xs ys → length ys ≡ length xs
+as_many R [] [] a = refl
+as_many R [] (y ∷ ys) a = absurd a
+as_many R (x ∷ xs) [] a = absurd a
+as_many R (x ∷ xs) (y ∷ ys) a = ap suc (as_many R xs ys a.1)
+
+-- ---- shifts
+
+cell_same : (grouped : Bool) (x y : List ℕ) → Same (group_cell grouped x) (group_cell grouped y)
+unfolding group_cell group_cell_of
+cell_same true x y = refl
+cell_same false x y = refl
+
+front_same : (grouped : Bool) (l m : ShiftLine) → IsAlikeShift l m → Same (line_front grouped m) (line_front grouped l)
+unfolding line_front
+front_same grouped l m h =
+    let whole : Same (group_cell grouped m.group ++ marks (codes "<td>") ∷ given m.begin ∷ marks (codes "</td><td>") ∷ given m.end ∷ [])
+    (group_cell grouped l.group ++ marks (codes "<td>") ∷ given l.begin ∷ marks (codes "</td><td>") ∷ given l.end ∷ [])
+    = simp (map-append, cell_same grouped m.group l.group) in
+    ap (λ (t : List Element). marks (codes "<tr><td>") ∷ number m.number ∷ marks (codes "</td>") ∷ t) whole
+    ∙ ap (λ (n : ℕ). marks (codes "<tr><td>") ∷ number n ∷ marks (codes "</td>") ∷ marks_of (group_cell grouped l.group ++ marks (codes "<td>") ∷ given l.begin ∷ marks (codes "</td><td>") ∷ given l.end ∷ [])) h.number
+
+end_same : (l m : ShiftLine) → IsAlikeShift l m → Same (line_end m) (line_end l)
+unfolding line_end
+end_same l m h = rw (h.work, h.price) refl
+
+line_same : (grouped : Bool) (l m : ShiftLine) → IsAlikeShift l m → Same (shift_line grouped m) (shift_line grouped l)
+line_same grouped l m h = simp (map-append, front_same grouped l m h, end_same l m h)
+
+shifts_same : (grouped : Bool) (ls ms : List ShiftLine) → AreAlike IsAlikeShift ls ms → Same (shift_table grouped ms) (shift_table grouped ls)
+unfolding shift_table
+shifts_same grouped ls ms h = simp (map-append, each_same IsAlikeShift (shift_line grouped) (line_same grouped) ls ms h)
+
+-- ---- codes
+
+total_front_same : (l m : TotalLine) → IsAlikeTotal l m → Same (total_front m) (total_front l)
+unfolding total_front
+total_front_same l m h = rw h.total refl
+
+total_same : (l m : TotalLine) → IsAlikeTotal l m → Same (total_line m) (total_line l)
+unfolding total_line
+total_same l m h =
+    let shared : Same (share_cell m.share) (share_cell l.share) = ap (λ (s : Option ℕ). marks_of (share_cell s)) h.share in
+    simp (map-append, total_front_same l m h, shared)
+
+totals_same : (ls ms : List TotalLine) → AreAlike IsAlikeTotal ls ms → Same (total_table ms) (total_table ls)
+unfolding total_table
+totals_same ls ms h = simp (map-append, each_same IsAlikeTotal total_line total_same ls ms h)
+
+-- ---- employees
+
+head_end_same : (l m : HeadLine) → IsAlikeHead l m → Same (head_end m) (head_end l)
+unfolding head_end
+head_end_same l m h = rw (h.count, h.least, h.most) refl
+
+head_same : (l m : HeadLine) → IsAlikeHead l m → Same (head_line m) (head_line l)
+unfolding head_line
+head_same l m h = simp (map-append, head_end_same l m h)
+
+heads_same : (ls ms : List HeadLine) → AreAlike IsAlikeHead ls ms → Same (head_table ms) (head_table ls)
+unfolding head_table
+heads_same ls ms h = simp (map-append, each_same IsAlikeHead head_line head_same ls ms h)
+
+-- ---- runs
+
+run_front_same : (l m : RunLine) → Same (run_front m) (run_front l)
+unfolding run_front
+run_front_same l m = refl
+
+run_end_same : (l m : RunLine) → IsAlikeRun l m → Same (run_end m) (run_end l)
+unfolding run_end
+run_end_same l m h = rw (h.count, h.cost) refl
+
+run_same : (l m : RunLine) → IsAlikeRun l m → Same (run_line m) (run_line l)
+run_same l m h = simp (map-append, run_front_same l m, run_end_same l m h)
+
+run_table_same : (title : List ℕ) (ls ms : List RunLine) → AreAlike IsAlikeRun ls ms → Same (run_table title ms) (run_table title ls)
+unfolding run_table
+run_table_same title ls ms h = simp (map-append, each_same IsAlikeRun run_line run_same ls ms h)
+
+run_list_same : (title : List ℕ) (ls ms : List RunLine) → AreAlike IsAlikeRun ls ms → Same (run_list title ms) (run_list title ls)
+unfolding run_list
+run_list_same title ls ms h =
+    rw (as_many IsAlikeRun ls ms h) (when (nat_lt 0 (length ls)) (run_table title ms) (run_table title ls) (run_table_same title ls ms h))
+
+-- ---- all of them
+
+some_same : (t u : Tables) → IsAlikeTables t u → Same (some_tables u) (some_tables t)
+unfolding some_tables
+some_same t u h =
+    let shifts : Same (shift_table u.grouped u.shifts) (shift_table t.grouped t.shifts)
+    = ap (λ (g : Bool). marks_of (shift_table g u.shifts)) h.grouped ∙ shifts_same t.grouped t.shifts u.shifts h.shifts in
+    simp (
+      map-append,
+      run_list_same (codes "Shortages") t.shortages u.shortages h.shortages,
+      run_list_same (codes "Surplus") t.surplus u.surplus h.surplus,
+      totals_same t.totals u.totals h.totals,
+      heads_same t.heads u.heads h.heads,
+      shifts,
+    )
+
+pub tables_same : (t u : Tables) → IsAlikeTables t u → Same (page_tables u) (page_tables t)
+unfolding page_tables
+tables_same t u h =
+    rw (as_many IsAlikeShift t.shifts u.shifts h.shifts) (when (nat_lt 0 (length t.shifts)) (some_tables u) (some_tables t) (some_same t u h))

@@ -1,0 +1,6 @@
+pub mod ShiftTable
+pub mod TotalTable
+pub mod RunLists
+pub mod HeadTable
+pub mod Tables
+pub mod Alike

@@ -1,0 +1,54 @@
+ghost use Rattle.std.specs.Prelude.{◌≡◌, ◌++◌, length, OnOk};
+ghost use Rattle.page_parts.specs.Elements.{written};
+ghost use Rattle.page_tables.specs.Tables.{page_tables, some_tables};
+
+use crate::heads::head_table;
+use crate::line::{HeadLine, RunLine, ShiftLine, TotalLine};
+use crate::lists::run_list;
+use crate::shifts::shift_table;
+use crate::totals::total_table;
+use roster_model::{List, Memory};
+
+/// What the tables and lists of a page show.
+#[derive(Debug, PartialEq, Eq, Drop)]
+pub struct Tables {
+    /// Whether the day has groups.
+    pub grouped: bool,
+    /// The shifts; nothing where there is no roster.
+    pub shifts: List<ShiftLine>,
+    /// How many employees have a shift, group by group and in all.
+    pub heads: List<HeadLine>,
+    /// The codes.
+    pub totals: List<TotalLine>,
+    /// The runs of shortage.
+    pub shortages: List<RunLine>,
+    /// The runs of surplus.
+    pub surplus: List<RunLine>,
+}
+
+// Appends the tables and lists.
+#[tactic(auto, unfolding(crate::specs::Tables::some_tables))]
+fn some_tables(out: &mut List<u8>, tables: &Tables) -> Result<(), Memory>
+    ensures { OnOk result (out.new ≡ out.old ++ written (some_tables tables.now)) }
+{
+    run_list(out, b"Shortages", tables.shortages.as_slice())?;
+    run_list(out, b"Surplus", tables.surplus.as_slice())?;
+    total_table(out, tables.totals.as_slice())?;
+    head_table(out, tables.heads.as_slice())?;
+    shift_table(out, tables.grouped, tables.shifts.as_slice())
+}
+
+/// Appends the tables and lists of a page, where there are any shifts.
+///
+/// # Errors
+///
+/// `Memory` where memory runs out; a part of them may stand there then.
+#[tactic(auto, unfolding(crate::specs::Tables::page_tables))]
+pub fn add_tables(out: &mut List<u8>, tables: &Tables) -> Result<(), Memory>
+    ensures { OnOk result (out.new ≡ out.old ++ written (page_tables tables.now)) }
+{
+    if tables.shifts.len() > 0 {
+        some_tables(out, tables)?;
+    }
+    Ok(())
+}

@@ -1,0 +1,80 @@
+ghost use Rattle.std.specs.Prelude.{◌≡◌, ◌/◌, ◌%◌, ◌++◌, codes as text, OnOk};
+ghost use Rattle.page_parts.specs.Elements.{written};
+ghost use Rattle.page_tables.specs.TotalTable.{share_cell, share_of, total_front, total_line, total_lines, total_table};
+
+use crate::line::TotalLine;
+use page_parts::{labelled, labelled_text, marks, number};
+use roster_model::{List, Memory};
+
+// Writes a share in percent.
+#[tactic(auto, unfolding(crate::specs::TotalTable::share_of))]
+fn share_of(out: &mut List<u8>, share: u64) -> Result<(), Memory>
+    ensures { OnOk result (out.new ≡ out.old ++ written (share_of share)) }
+{
+    number(out, share / 10)?;
+    labelled(out, b".", share % 10)?;
+    marks(out, b" %")
+}
+
+// Writes a share in percent, where there is one.
+#[tactic(auto, unfolding(crate::specs::TotalTable::share_cell))]
+fn share_cell(out: &mut List<u8>, share: Option<u64>) -> Result<(), Memory>
+    ensures { OnOk result (out.new ≡ out.old ++ written (share_cell share)) }
+{
+    match share {
+        None => Ok(()),
+        Some(share) => share_of(out, share),
+    }
+}
+
+// Writes what stands before the share of a code.
+#[tactic(auto, unfolding(crate::specs::TotalTable::total_front))]
+fn total_front(out: &mut List<u8>, line: &TotalLine) -> Result<(), Memory>
+    ensures { OnOk result (out.new ≡ out.old ++ written (total_front line.now)) }
+{
+    labelled_text(out, b"<tr><td>", line.code.as_slice())?;
+    labelled(out, b"</td><td>", line.total)?;
+    marks(out, b"</td><td>")
+}
+
+// Writes the line of a code.
+#[tactic(auto, unfolding(crate::specs::TotalTable::total_line))]
+fn total_line(out: &mut List<u8>, line: &TotalLine) -> Result<(), Memory>
+    ensures { OnOk result (out.new ≡ out.old ++ written (total_line line.now)) }
+{
+    total_front(out, line)?;
+    share_cell(out, line.share)?;
+    marks(out, b"</td></tr>\n")
+}
+
+// Writes the lines of codes.
+fn total_lines(out: &mut List<u8>, lines: &[TotalLine]) -> Result<(), Memory>
+    ensures { OnOk result (out.new ≡ out.old ++ written (total_lines lines.now)) }
+{
+    for line in lines {
+        total_line(out, line)?;
+    }
+    Ok(())
+}
+
+// What stands before the lines.
+fn table_start() -> &'static [u8]
+    ensures { result.now
+        ≡ text "<section class='list'><h2>Codes</h2>\n<div class='scroll'><table><thead><tr><th>Code</th><th>Periods</th><th>Covered</th></tr></thead>\n<tbody>\n" }
+{
+    b"<section class='list'><h2>Codes</h2>\n<div class='scroll'><table><thead><tr><th>Code</th><th>Periods</th><th>Covered</th></tr></thead>\n<tbody>\n"
+}
+
+/// Appends the table of the codes.
+///
+/// # Errors
+///
+/// `Memory` where memory runs out; a part of it may stand there then.
+#[tactic(auto, unfolding(crate::specs::TotalTable::total_table))]
+pub(crate) fn total_table(out: &mut List<u8>, lines: &[TotalLine]) -> Result<(), Memory>
+    ensures { OnOk result (out.new ≡ out.old ++ written (total_table lines.now)) }
+{
+    marks(out, table_start())?;
+    total_lines(out, lines)?;
+    marks(out, b"</tbody></table></div></section>\n")
+}

@@ -1,0 +1,7 @@
+pub mod Called
+pub mod Moments
+pub mod ShiftLines
+pub mod RunLines
+pub mod TotalLines
+pub mod HeadLines
+pub mod TablesOf

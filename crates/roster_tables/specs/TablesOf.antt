@@ -1,0 +1,25 @@
+-- The tables and lists of a roster.
+use Rattle.std.specs.Prelude.{Bool, List, length, nat_lt}
+use Rattle.roster_model.specs.declared.instance.Instance.{Instance}
+use Rattle.roster_model.specs.declared.instance.Shift.{Shift}
+use Rattle.page_labels.specs.declared.labels.Labels.{Labels}
+use Rattle.page_tables.specs.declared.tables.Tables.{Tables}
+use Rattle.page_text.specs.declared.column.Column.{Column}
+use Rattle.roster_tables.specs.HeadLines.{heads_of}
+use Rattle.roster_tables.specs.RunLines.{shortages, surplus_lines}
+use Rattle.roster_tables.specs.ShiftLines.{lines_of}
+use Rattle.roster_tables.specs.TotalLines.{totals_of}
+
+-- the day has groups
+abbrev pub is_grouped : Instance → Bool
+is_grouped i = nat_lt 0 (length i.groups)
+
+abbrev pub tables_of : Instance → Labels → List Shift → List Column → Tables
+tables_of i d shifts columns = record {
+  grouped = is_grouped i;
+  shifts = lines_of i d shifts;
+  heads = heads_of i d shifts;
+  totals = totals_of i.grammar.codes d shifts columns;
+  shortages = shortages i.grammar.codes d columns;
+  surplus = surplus_lines i.grammar.codes d columns;
+}

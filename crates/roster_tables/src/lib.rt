@@ -1,0 +1,12 @@
+//! The tables and lists of a roster's page, from a day, its shifts, how its cells are covered, and its labels.
+#![tactic(auto)]
+
+mod called;
+mod heads;
+mod lines;
+mod moments;
+mod runs;
+mod tables;
+mod totals;
+
+pub use tables::tables_of;

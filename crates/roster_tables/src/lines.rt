@@ -1,0 +1,168 @@
+ghost use Rattle.std.specs.Prelude.{◌≡◌, ◌≤◌, ◌++◌, [], ◌∷◌, All, IfOk, OnOk, count_by, length};
+ghost use Rattle.std.specs.List.{flat_map};
+ghost use Rattle.shift_figures.specs.Stretches.{is_paid, is_work};
+ghost use Rattle.roster_tables.specs.ShiftLines.{line_at, line_of, lines_of, marked_byte, marked_bytes};
+
+use crate::called::{copied, group_called};
+use crate::moments::{duration, stretch_begin, stretch_end};
+use page_labels::{Labels, PaidCode};
+use page_tables::ShiftLine;
+use roster_model::{CodeDef, Instance, List, Memory, Shift};
+use shift_figures::{drawn_order, paid_periods, stretch_of, work_periods};
+use std::alloc::Global;
+
+// Appends the byte of a code that counts as paid.
+fn add_marked(out: &mut List<u8>, codes: &[CodeDef], said: PaidCode) -> Result<(), Memory>
+    ensures { OnOk result (out.new ≡ out.old ++ marked_byte codes.now said) }
+{
+    if !said.paid {
+        return Ok(());
+    }
+    match codes.get(said.code as usize) {
+        None => Ok(()),
+        Some(code) => out.push(code.byte),
+    }
+}
+
+// Returns the bytes of the codes that count as paid.
+fn marked_bytes(alloc: Global, codes: &[CodeDef], said: &[PaidCode]) -> Result<List<u8>, Memory>
+    ensures { IfOk result (λ bytes. bytes ≡ marked_bytes codes.now said.now) }
+{
+    let mut bytes = List::new(alloc);
+    for code in said {
+        add_marked(&mut bytes, codes, *code)?;
+    }
+    Ok(bytes)
+}
+
+// How many periods of a word are paid.
+fn paid_of(codes: &[CodeDef], marked: &[u8], word: &[u8]) -> u8
+    requires { length word.now ≤ 96 }
+    ensures { result ≡ count_by (is_paid codes.now marked.now) word.now }
+{
+    paid_periods(codes, marked, word) as u8
+}
+
+// Returns the line of a shift behind so many.
+fn line_of(
+    alloc: Global,
+    instance: &Instance,
+    labels: &Labels,
+    marked: &[u8],
+    place: usize,
+    shift: &Shift,
+) -> Result<ShiftLine, Memory>
+    requires place { place ≤ 64 }
+    requires short { length shift.now.word ≤ 96 }
+    ensures { IfOk result (λ l. l ≡ line_of instance.now labels.now marked.now place shift.now) }
+{
+    let codes = instance.grammar.codes.as_slice();
+    let word = shift.word.as_slice();
+    let stretch = stretch_of(codes, word);
+    Ok(ShiftLine {
+        number: place as u32 + 1,
+        group: group_called(alloc, instance, labels, shift.group)?,
+        begin: stretch_begin(alloc, labels.clock, stretch)?,
+        end: stretch_end(alloc, labels.clock, stretch)?,
+        work: work_periods(codes, word) as u64,
+        paid: duration(alloc, labels.clock, paid_of(codes, marked, word))?,
+        price: shift.price,
+        word: copied(alloc, word)?,
+    })
+}
+
+// Appends the line of a shift behind so many.
+fn add_line_of(
+    alloc: Global,
+    lines: &mut List<ShiftLine>,
+    instance: &Instance,
+    labels: &Labels,
+    marked: &[u8],
+    place: usize,
+    shift: &Shift,
+) -> Result<(), Memory>
+    requires place { place ≤ 64 }
+    requires short { length shift.now.word ≤ 96 }
+    ensures { OnOk result
+        (lines.new ≡ lines.old ++ line_of instance.now labels.now marked.now place shift.now ∷ []) }
+{
+    lines.push(line_of(alloc, instance, labels, marked, place, shift)?)
+}
+
+// Appends the line of the shift behind so many, if there is one.
+fn add_line(
+    alloc: Global,
+    lines: &mut List<ShiftLine>,
+    instance: &Instance,
+    labels: &Labels,
+    marked: &[u8],
+    shifts: &[Shift],
+    place: usize,
+) -> Result<(), Memory>
+    requires few { length shifts.now ≤ 64 }
+    requires short { All (λ s. length s.word ≤ 96) shifts.now }
+    ensures { OnOk result
+        (lines.new ≡ lines.old ++ line_at instance.now labels.now marked.now shifts.now place) }
+{
+    match shifts.get(place) {
+        None => Ok(()),
+        Some(shift) => add_line_of(alloc, lines, instance, labels, marked, place, shift),
+    }
+}
+
+// Returns the lines of the shifts at places.
+fn lines_in(
+    alloc: Global,
+    instance: &Instance,
+    labels: &Labels,
+    marked: &[u8],
+    shifts: &[Shift],
+    places: &[u8],
+) -> Result<List<ShiftLine>, Memory>
+    requires few { length shifts.now ≤ 64 }
+    requires short { All (λ s. length s.word ≤ 96) shifts.now }
+    ensures { IfOk result (λ lines. lines
+        ≡ flat_map (line_at instance.now labels.now marked.now shifts.now) places.now) }
+{
+    let mut lines = List::new(alloc);
+    for place in places {
+        add_line(
+            alloc,
+            &mut lines,
+            instance,
+            labels,
+            marked,
+            shifts,
+            *place as usize,
+        )?;
+    }
+    Ok(lines)
+}
+
+/// Returns a line for each of at most 64 shifts, in the order in which they are drawn.
+///
+/// # Errors
+///
+/// `Memory` where memory runs out; nothing is kept then.
+pub fn lines_of(
+    alloc: Global,
+    instance: &Instance,
+    labels: &Labels,
+    shifts: &[Shift],
+) -> Result<List<ShiftLine>, Memory>
+    requires few { length shifts.now ≤ 64 }
+    requires short { All (λ s. length s.word ≤ 96) shifts.now }
+    ensures { IfOk result (λ lines. lines ≡ lines_of instance.now labels.now shifts.now) }
+{
+    let codes = instance.grammar.codes.as_slice();
+    let marked = marked_bytes(alloc, codes, labels.paid.as_slice())?;
+    let order = drawn_order(alloc, codes, shifts)?;
+    lines_in(
+        alloc,
+        instance,
+        labels,
+        marked.as_slice(),
+        shifts,
+        order.as_slice(),
+    )
+}

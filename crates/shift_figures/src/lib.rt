@@ -1,0 +1,20 @@
+//! What a planner looks for in a roster: when work begins and ends, what is paid, in which order shifts stand,
+//! how often a code is had, which share of the need is covered, the runs of shortage and of surplus, and what a
+//! bound tells of a cost.
+#![tactic(auto)]
+
+mod bound;
+mod laws;
+mod order;
+mod run;
+mod share;
+mod stretch;
+mod total;
+
+pub use bound::{Saving, saving_at};
+pub use laws::runs_give_periods_back;
+pub use order::drawn_order;
+pub use run::{Lack, Run, runs_of};
+pub use share::covered_share;
+pub use stretch::{Stretch, is_work, paid_periods, stretch_of, work_periods};
+pub use total::{code_total, group_count};
