@@ -1,6 +1,6 @@
-use crate::runs::{Case, answer, case_of, shelf_after, shelf_of};
 use std::alloc::Global;
 use std::test::Fail;
+use transcripts::{answer, have_answers, shelf_of};
 
 /// Words, their statuses, and what is said.
 const ANSWERS: &str = "
@@ -324,6 +324,25 @@ words: none of the forms
 > curve g6 q7 p 10
 < 4
 demand: groups have no curve
+> curve g6 q7 p 10 X
+< 2
+words: none of the forms
+> curve g6 q7 p 10 S
+< 2
+words: none of the forms
+> curve g1 q1 p 10 W
+< 2
+words: none of the forms
+> curve one lasting p 10 W
+< 1
+curve 2
+group W 1 cost none bound none processed 1 failed 0
+group W 2 cost none bound none processed 1 failed 0
+> solve g2 q2 p 10 q2
+< 5
+proof: line 1: bad header
+> solve g2 q2 p 10 absent
+< 6
 > curve long one_head p 10
 < 9
 graph: 147536 arcs, at most 100000
@@ -334,22 +353,6 @@ rules: line 3: a name leads back to itself by one-symbol rules
 < 4
 demand: line 1: out of range
 ";
-
-/// Whether a case has its answer.
-fn has_answer(alloc: Global, case: &Case<'_>) -> Result<bool, Fail> {
-    let shelf = shelf_after(alloc, case)?;
-    Ok(shelf.said() == case.said.as_bytes())
-}
-
-/// Whether each case of a transcript has its answer.
-pub fn have_answers(alloc: Global, transcript: &str) -> Result<(), Fail> {
-    for text in transcript.split('>').skip(1) {
-        if !has_answer(alloc, &case_of(text))? {
-            return Err(Fail::from(text));
-        }
-    }
-    Ok(())
-}
 
 #[test]
 fn words_have_their_answers(rt: HostRuntime) -> Result<(), Fail> {

@@ -1,7 +1,6 @@
-use crate::answer_tests::have_answers;
-use crate::runs::{answer, shelf_of};
 use std::alloc::Global;
 use std::test::Fail;
+use transcripts::{answer, have_answers, shelf_of};
 
 /// Certificates, and what is said of each.
 const CERTIFICATES: &str = "

@@ -1,7 +1,7 @@
-use crate::runs::{answer, case_of, is_said, shelf_after, shelf_of};
 use shelf::MemoryShelf;
 use std::alloc::Global;
 use std::test::Fail;
+use transcripts::{answer, case_of, is_said, shelf_after, shelf_of};
 
 /// Words, the statuses that may come, and lines that are said.
 ///
@@ -46,6 +46,23 @@ bound none
 > curve g2 q2 p 1
 < 8
 curve 3
+heads 1 cost 12 bound 12 processed 1 failed 0
+heads 2 cost 4 bound 3 processed 1 failed 0
+heads 3 cost 4 bound 3 processed 1 failed 0
+> solve g2 q2 p 1 halves
+< 8
+result turns
+cost 4
+bound 3
+processed 1
+shift .aa 2
+shift aa. 2
+> solve g2 exact p 8191 halves
+< 1
+result none
+> curve g6 q7 p 2047 H
+< 0
+curve 2
 > solve g6 q7 p 2047
 < 0
 report 2
@@ -148,6 +165,10 @@ solve g3 q3 p 1 > check g3 q3 p
 solve g3 q3 p 50 > check g3 q3 p
 curve g1 q1 p 10 > check g1 q1_one p.1
 curve g1 q1 p 10 > check g1 q1 p.2
+solve g2 q2 p 1 halves > check g2 q2 p
+solve g2 q2 halves 10 halves > check g2 q2 halves
+curve g6 q7 p 2047 H > check g6 q7_one p.1
+curve g6 q7 p 2047 H > check g6 q7 p.2
 ";
 
 /// Whether the certificate that a search stores is accepted.

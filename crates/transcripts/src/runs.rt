@@ -23,6 +23,10 @@ fn put_texts(shelf: &mut MemoryShelf, texts: &str) -> Result<(), Fail> {
 }
 
 /// Returns a shelf with the texts of the tests, whose calls of these numbers fail.
+///
+/// # Errors
+///
+/// Want of memory.
 pub fn shelf_of(alloc: Global, failing: &[u32]) -> Result<MemoryShelf, Fail> {
     let mut shelf = MemoryShelf::new(alloc, failing.to_vec(alloc)?);
     put_texts(&mut shelf, TEXTS)?;
@@ -41,6 +45,10 @@ fn words_of(alloc: Global, line: &str) -> Result<Vec<String>, AllocError> {
 }
 
 /// Runs the program on the words of a line, and returns its status.
+///
+/// # Errors
+///
+/// Want of memory for the words.
 pub fn answer(alloc: Global, shelf: &mut MemoryShelf, line: &str) -> Result<u8, AllocError> {
     let words = words_of(alloc, line)?;
     Ok(run(
@@ -99,8 +107,32 @@ fn run_case(alloc: Global, shelf: &mut MemoryShelf, case: &Case<'_>) -> Result<(
 }
 
 /// Runs the case, whose status has to be one that may come, and returns the shelf.
+///
+/// # Errors
+///
+/// Want of memory; a status that may not come, or faults that the shelf counted beside it.
 pub fn shelf_after(alloc: Global, case: &Case<'_>) -> Result<MemoryShelf, Fail> {
     let mut shelf = shelf_of(alloc, &[])?;
     run_case(alloc, &mut shelf, case)?;
     Ok(shelf)
+}
+
+/// Whether a case has its answer.
+fn has_answer(alloc: Global, case: &Case<'_>) -> Result<bool, Fail> {
+    let shelf = shelf_after(alloc, case)?;
+    Ok(shelf.said() == case.said.as_bytes())
+}
+
+/// Whether each case of a transcript has its answer.
+///
+/// # Errors
+///
+/// The first case whose answer is another one; want of memory.
+pub fn have_answers(alloc: Global, transcript: &str) -> Result<(), Fail> {
+    for text in transcript.split('>').skip(1) {
+        if !has_answer(alloc, &case_of(text))? {
+            return Err(Fail::from(text));
+        }
+    }
+    Ok(())
 }

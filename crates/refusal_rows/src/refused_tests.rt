@@ -1,8 +1,7 @@
-use crate::runs::{answer, first_line, shelf_of};
-use crate::texts::TEXTS;
 use shelf::MemoryShelf;
 use std::alloc::Global;
 use std::test::Fail;
+use transcripts::{TEXTS, answer, first_line, shelf_of};
 
 /// What each name that a search stores holds before.
 const OLD: &[u8] = b"proof old";

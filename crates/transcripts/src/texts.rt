@@ -241,6 +241,14 @@ heads 0 1
 group F 0 1
 group H 1 2
 need a 10 2 2 1
+@ q7_one
+group F 0 1
+group H 1 1
+need a 10 2 2 1
+@ lasting
+group W 1 2
+group R 0 1
+need a 10 3 1
 @ two_teams
 group F 0 1
 group K 0 1

@@ -1,5 +1,5 @@
-use crate::answer_tests::have_answers;
 use std::test::Fail;
+use transcripts::have_answers;
 
 /// Rosters that are allowed, and what is said of each.
 const ALLOWED: &str = "

@@ -1,7 +1,6 @@
-use crate::answer_tests::have_answers;
-use crate::runs::{answer, case_of, is_said, shelf_after, shelf_of};
 use std::alloc::Global;
 use std::test::Fail;
+use transcripts::{answer, case_of, have_answers, is_said, shelf_after, shelf_of};
 
 /// Kept shifts, and the demand that they leave.
 ///

@@ -67,7 +67,7 @@ bare\n\
 end\n";
 
 // The texts that each shelf of a test holds, by name: rules, demands and certificates.
-const TEXTS: [(&str, &str); 22] = [
+const TEXTS: [(&str, &str); 24] = [
     ("g1", G1),
     ("g3", G3),
     ("marks", MARKS),
@@ -105,6 +105,8 @@ const TEXTS: [(&str, &str); 22] = [
     ),
     ("long", LONG),
     ("empty", ""),
+    ("twice", "title a\ntitle b\n"),
+    ("named", "title <Day>\nclock 7:00 30\ncode a R&D\n"),
 ];
 
 /// Puts the texts of the tests on a shelf.
@@ -140,50 +142,68 @@ fn has(text: &[u8], part: &str) -> bool {
 /// The words, the number of the call that fails or 0, the status, and with what begins what is said.
 type End<'a> = (&'a [&'a str], u32, u8, &'a str);
 
-const ENDS: [End<'static>; 12] = [
-    (&["g1", "two"], 0, 2, "words: RULES DEMAND PROOF\n"),
+const ENDS: [End<'static>; 15] = [
+    (
+        &["g1", "two"],
+        0,
+        2,
+        "words: page RULES DEMAND PROOF [LABELS]\n",
+    ),
+    (
+        &["g1", "two", "best"],
+        0,
+        2,
+        "words: page RULES DEMAND PROOF [LABELS]\n",
+    ),
     (
         &["check", "g1", "two", "best"],
         0,
         2,
-        "words: RULES DEMAND PROOF\n",
+        "words: page RULES DEMAND PROOF [LABELS]\n",
     ),
     (
-        &["cycle", "absent", "absent"],
+        &["page", "cycle", "absent", "absent"],
         0,
         3,
         "rules: line 3: a name leads back to itself by one-symbol rules\n",
     ),
     (
-        &["g1", "fallen", "absent"],
+        &["page", "g1", "fallen", "absent"],
         0,
         4,
         "demand: line 1: out of range\n",
     ),
     (
-        &["g1", "two", "empty"],
+        &["page", "g1", "two", "empty"],
         0,
         5,
         "proof: the text ends early\n",
     ),
     (
-        &["g1", "two", "high"],
+        &["page", "g1", "two", "high"],
         0,
         1,
         "no 8 bound too high: said 11 shown 10\n",
     ),
-    (&["absent", "two", "best"], 0, 6, ""),
-    (&["g1", "two", "absent"], 0, 6, ""),
-    (&["g1", "two", "best"], 1, 6, ""),
-    (&["g1", "two", "best"], 3, 6, ""),
     (
-        &["g1", "two", "best"],
+        &["page", "g1", "two", "best", "twice"],
+        0,
+        5,
+        "labels: line 2: said twice\n",
+    ),
+    (&["page", "g1", "two", "best", "absent"], 0, 6, ""),
+    (&["page", "absent", "two", "best"], 0, 6, ""),
+    (&["page", "g1", "two", "absent"], 0, 6, ""),
+    (&["page", "g1", "two", "best"], 1, 6, ""),
+    (&["page", "g1", "two", "best"], 3, 6, ""),
+    (
+        &["page", "g1", "two", "best"],
         4,
         6,
         "<!DOCTYPE html>\n<html lang='en'>\n",
     ),
     (
-        &["g1", "two", "best"],
+        &["page", "g1", "two", "best"],
         0,
         0,
         "<!DOCTYPE html>\n<html lang='en'>\n",
@@ -228,28 +248,29 @@ const BLOCKS: &str = "\
 Penalties</dt><dd>0</dd></div><div><dt>Penalty for <span class='chip w0'>\
 a</span></dt><dd>0</dd></div></dl>\n\
 <section><h2>Shifts</h2>\n\
-<ul class='legend'><li><span class='chip w0'>a</span>work</li><li>\
-<span class='chip i0'>.</span>no work</li></ul>\n\
-<svg class='roster' role='group' aria-label='Shifts of the roster, one row a shift' viewBox='0 0 288 \
-92' width='288' height='92'>\n\
+<ul class='legend'><li><span class='chip w0'>a</span><span></span>work</li><li>\
+<span class='chip i0'>.</span><span></span>no work</li></ul>\n\
+<div class='scroll'><svg class='roster' role='group' aria-label='Shifts of the roster, one row a shift' \
+viewBox='0 0 288 92' width='288' height='92'>\n\
 <text class='mark' x='274' y='20'>price</text><text class='tick' x='76' y='20'>\
 1</text><text class='tick' x='116' y='20'>2</text><text class='tick' x='156' y='20'>\
 3</text><text class='tick' x='196' y='20'>4</text><g class='row' tabindex='0' role='img' id='r0' ari\
-a-describedby='d0' aria-label='1 of:  .aaa, price 5'><rect class='hit' x='4' y='30' width='280' heig\
+a-describedby='d0' aria-label='Shift 2: aaa., price 5'><rect class='hit' x='4' y='30' width='280' heig\
 ht='26'/><text class='name' x='46' y='47'></text><text class='price' x='274' y='47'>\
-5</text><rect class='i0' x='56' y='32' width='39' height='22'/><text class='i0' x='76' y='47'>\
-.</text><rect class='w0' x='96' y='32' width='39' height='22'/><text class='w0' x='116' y='47'>\
-a</text><rect class='w0' x='136' y='32' width='39' height='22'/><text class='w0' x='156' y='47'>\
-a</text><rect class='w0' x='176' y='32' width='39' height='22'/><text class='w0' x='196' y='47'>\
-a</text></g>\n\
-<g class='row' tabindex='0' role='img' id='r1' aria-describedby='d1' aria-label='1 of:  aaa., price \
+5</text><text class='times' x='40' y='47'>2</text><rect class='w0' x='56' y='32' width='39' height='\
+22'/><text class='w0' x='76' y='47'>a</text><rect class='w0' x='96' y='32' width='39' height='22'/>\
+<text class='w0' x='116' y='47'>a</text><rect class='w0' x='136' y='32' width='39' height='22'/>\
+<text class='w0' x='156' y='47'>a</text><rect class='i0' x='176' y='32' width='39' height='22'/>\
+<text class='i0' x='196' y='47'>.</text></g>\n\
+<g class='row' tabindex='0' role='img' id='r1' aria-describedby='d1' aria-label='Shift 1: .aaa, price \
 5'><rect class='hit' x='4' y='56' width='280' height='26'/><text class='name' x='46' y='73'>\
-</text><text class='price' x='274' y='73'>5</text><rect class='w0' x='56' y='58' width='39' height='\
-22'/><text class='w0' x='76' y='73'>a</text><rect class='w0' x='96' y='58' width='39' height='22'/>\
-<text class='w0' x='116' y='73'>a</text><rect class='w0' x='136' y='58' width='39' height='22'/>\
-<text class='w0' x='156' y='73'>a</text><rect class='i0' x='176' y='58' width='39' height='22'/>\
-<text class='i0' x='196' y='73'>.</text></g>\n\
-</svg>\n\
+</text><text class='price' x='274' y='73'>5</text><text class='times' x='40' y='73'>1</text>\
+<rect class='i0' x='56' y='58' width='39' height='22'/><text class='i0' x='76' y='73'>\
+.</text><rect class='w0' x='96' y='58' width='39' height='22'/><text class='w0' x='116' y='73'>\
+a</text><rect class='w0' x='136' y='58' width='39' height='22'/><text class='w0' x='156' y='73'>\
+a</text><rect class='w0' x='176' y='58' width='39' height='22'/><text class='w0' x='196' y='73'>\
+a</text></g>\n\
+</svg></div>\n\
 <p class='hint'>Point at a shift, or go to it with the Tab key, and see how the rules derive it.</p>\
 </section>\n\
 <section><h2>Coverage</h2>\n\
@@ -259,8 +280,8 @@ a</text></g>\n\
 <span class='key floor'></span>floor</li><li><span class='key ceiling'>\
 </span>ceiling</li></ul>\n\
 <div class='charts'>\n\
-<figure><figcaption><span class='chip w0'>a</span></figcaption><svg role='img' aria-label='Coverage \
-of a. Needed by period: 1 2 2 1. At work: 1 2 2 1. Short: 0 0 0 0. Surplus: 0 0 0 0.' viewBox='0 0 2\
+<figure><figcaption><span class='chip w0'>a</span></figcaption><div class='scroll'>\
+<svg role='img' aria-label='Coverage of a. Needed by period: 1 2 2 1. At work: 1 2 2 1. Short: 0 0 0 0. Surplus: 0 0 0 0.' viewBox='0 0 2\
 88 132' width='288' height='132'>\n\
 <rect class='have' x='56' y='64' width='40' height='48'/><rect class='short' x='56' y='64' width='40\
 ' height='0'/><rect class='over' x='56' y='64' width='40' height='0'/>\
@@ -272,21 +293,34 @@ of a. Needed by period: 1 2 2 1. At work: 1 2 2 1. Short: 0 0 0 0. Surplus: 0 0 
 40' height='0'/><rect class='over' x='176' y='64' width='40' height='0'/>\
 <rect class='grid' x='56' y='16' width='160' height='1'/><rect class='grid' x='56' y='112' width='16\
 0' height='1'/><text class='price' x='48' y='20'>2</text><text class='price' x='48' y='116'>\
-0</text><path class='need' d='M56 112V64H96V16H136V16H176V64H216V112'/>\
+0</text><rect class='grid' x='56' y='64' width='160' height='1'/><text class='price' x='48' y='68'>\
+1</text><path class='need' d='M56 112V64H96V16H136V16H176V64H216V112'/>\
 <path class='floor' d=''/><path class='ceiling' d=''/><text class='tick' x='76' y='127'>\
 1</text><text class='tick' x='116' y='127'>2</text><text class='tick' x='156' y='127'>\
-3</text><text class='tick' x='196' y='127'>4</text></svg></figure>\n\
+3</text><text class='tick' x='196' y='127'>4</text></svg></div></figure>\n\
 </div></section>\n\
-<pre class='derivation' id='d0'>word .aaa\n\
-cost 5\n\
-use 2 S 1 4\n\
-use 8 R 1 1\n\
-use 5 W 2 3\n\
-use 7 A 2 3\n\
-use 7 A 3 2\n\
-use 6 A 4 1\n\
-</pre>\n\
-<pre class='derivation' id='d1'>word aaa.\n\
+<section class='list'><h2>Codes</h2>\n\
+<div class='scroll'><table><thead><tr><th>Code</th><th>Periods</th><th>Covered</th></tr></thead>\n\
+<tbody>\n\
+<tr><td>a</td><td>6</td><td>100.0 %</td></tr>\n\
+<tr><td>.</td><td>2</td><td></td></tr>\n\
+</tbody></table></div></section>\n\
+<section class='list'><h2>Employees</h2>\n\
+<div class='scroll'><table><thead><tr><th>Group</th><th>Shifts</th><th>At least</th><th>At most</th>\
+</tr></thead>\n\
+<tbody>\n\
+<tr><td>all</td><td>2</td><td>0</td><td>2</td></tr>\n\
+</tbody></table></div></section>\n\
+<section class='list'><h2>List of shifts</h2>\n\
+<div class='scroll'><table><thead><tr><th>Shift</th><th>Begin</th><th>End</th><th>Periods of work</th>\
+<th>Paid time</th><th>Price</th><th>Codes</th></tr></thead>\n\
+<tbody>\n\
+<tr><td>2</td><td>1</td><td>3</td><td>3</td><td>3</td><td>5</td><td class='word'>aaa.</td></tr>\n\
+<tr><td>1</td><td>2</td><td>4</td><td>3</td><td>3</td><td>5</td><td class='word'>.aaa</td></tr>\n\
+</tbody></table></div></section>\n\
+<div class='derivations'><h2>How the rules derive each shift</h2>\n\
+<pre class='derivation' id='d0'><b>Shift 2: aaa., price 5</b>\n\
+word aaa.\n\
 cost 5\n\
 use 3 S 1 4\n\
 use 5 W 1 3\n\
@@ -295,6 +329,17 @@ use 7 A 2 2\n\
 use 6 A 3 1\n\
 use 8 R 4 1\n\
 </pre>\n\
+<pre class='derivation' id='d1'><b>Shift 1: .aaa, price 5</b>\n\
+word .aaa\n\
+cost 5\n\
+use 2 S 1 4\n\
+use 8 R 1 1\n\
+use 5 W 2 3\n\
+use 7 A 2 3\n\
+use 7 A 3 2\n\
+use 6 A 4 1\n\
+</pre>\n\
+</div>\n\
 </main>\n\
 </body>\n\
 </html>\n";
@@ -309,7 +354,7 @@ const PAGES: [Page<'static>; 6] = [
         "centre",
         "shift",
         &[
-            "<p>This roster costs at most 808 more than the best one.</p>",
+            "<p>Nothing is proved of the cost.</p>",
             "\
 <dt>Paid for shifts</dt><dd>28</dd></div><div><dt>Penalties</dt><dd>\
 780</dd></div><div><dt>Penalty for <span class='chip w0'>a</span></dt>\
@@ -335,13 +380,13 @@ p</text><rect class='w0' x='576' y='32' width='39' height='22'/>",
         "marked",
         "mark",
         &[
-            "<p>This roster costs at most 7 more than the best one.</p>",
+            "<p>Nothing is proved of the cost.</p>",
             "\
-<ul class='legend'><li><span class='chip w0'>&lt;</span>work</li><li>\
-<span class='chip w1'>&amp;</span>work</li><li><span class='chip w2'>\
-&quot;</span>work</li><li><span class='chip i0'>&gt;</span>no work</li>\
+<ul class='legend'><li><span class='chip w0'>&lt;</span><span></span>work</li><li>\
+<span class='chip w1'>&amp;</span><span></span>work</li><li><span class='chip w2'>\
+&quot;</span><span></span>work</li><li><span class='chip i0'>&gt;</span><span></span>no work</li>\
 </ul>",
-            "aria-label='1 of:  &quot;&gt;, price 1'>",
+            "aria-label='Shift 1: &quot;&gt;, price 1'>",
             "\
 <text class='w0' x='76' y='73'>&lt;</text><rect class='w1' x='96' y='58' width='39' height='22'/>\
 <text class='w1' x='116' y='73'>&amp;</text></g>",
@@ -351,7 +396,7 @@ p</text><rect class='w0' x='576' y='32' width='39' height='22'/>",
 <div><dt>Penalty for <span class='chip w0'>&lt;</span></dt><dd>0</dd>\
 </div><div><dt>Penalty for <span class='chip w2'>&quot;</span></dt>\
 <dd>5</dd></div></dl>",
-            "<pre class='derivation' id='d1'>word &lt;&amp;\ncost 1\nuse 1 S 1 2\n</pre>",
+            "<pre class='derivation' id='d1'><b>Shift 2: &lt;&amp;, price 1</b>\nword &lt;&amp;\ncost 1\nuse 1 S 1 2\n</pre>",
         ],
     ),
     (
@@ -362,8 +407,7 @@ p</text><rect class='w0' x='576' y='32' width='39' height='22'/>",
             "\
 <p>No roster is stated. Each allowed roster costs at least 0.</p></header>\n\
 <dl><div><dt>Total cost</dt><dd>none</dd></div><div><dt>Bound</dt>\
-<dd>0</dd></div>",
-            "<div><dt>Penalties</dt><dd>0</dd></div></dl>\n</main>\n</body>\n</html>\n",
+<dd>0</dd></div></dl>\n</main>\n</body>\n</html>\n",
         ],
     ),
     (
@@ -374,8 +418,7 @@ p</text><rect class='w0' x='576' y='32' width='39' height='22'/>",
             "\
 <p>No roster is allowed.</p></header>\n\
 <dl><div><dt>Total cost</dt><dd>none</dd></div><div><dt>Bound</dt>\
-<dd>none</dd></div>",
-            "<div><dt>Penalties</dt><dd>0</dd></div></dl>\n</main>\n</body>\n</html>\n",
+<dd>none</dd></div></dl>\n</main>\n</body>\n</html>\n",
         ],
     ),
     (
@@ -393,7 +436,7 @@ a</text><rect class='i0' x='1006' y='32' width='9' height='22'/><text class='i0'
 .</text></g>",
             "<rect class='short' x='1006' y='64' width='10' height='48'/>",
             "\
-<pre class='derivation' id='d0'>word aaaaaaaaaaaaaaaaaaaaaaaaaaaaaaaaaaaaaaaaaaaaaaaaaaaaaaaaaaaaaaa\
+</b>\nword aaaaaaaaaaaaaaaaaaaaaaaaaaaaaaaaaaaaaaaaaaaaaaaaaaaaaaaaaaaaaaa\
 aaaaaaaaaaaaaaaaaaaaaaaaaaaaaaaa.\n\
 cost 96\n\
 use 1 S 1 96\n\
@@ -405,7 +448,7 @@ use 1 S 2 95\n",
 /// Whether the parts stand on the page of three texts.
 fn shows(alloc: Global, shelf: &mut MemoryShelf, page: &Page<'_>) -> Result<bool, Fail> {
     let (rules, demand, proof, parts) = *page;
-    let status = answer(alloc, shelf, &[rules, demand, proof])?;
+    let status = answer(alloc, shelf, &["page", rules, demand, proof])?;
     Ok(status == 0 && parts.iter().all(|part| has(shelf.said(), part)))
 }
 
@@ -422,6 +465,23 @@ fn show_all(alloc: Global, pages: &[Page<'_>]) -> Result<(), Fail> {
             return Err(Fail::from(page.2));
         }
     }
+    Ok(())
+}
+
+/// What stands on the page of the blocks under labels.
+const LABELLED: [&str; 4] = [
+    "<h1>&lt;Day&gt;</h1>",
+    "<span class='chip w0'>a</span><span>R&amp;D</span>work</li>",
+    "<tr><td>a R&amp;D</td><td>6</td>",
+    "<tr><td>2</td><td>7:00</td><td>8:30</td><td>3</td><td>1:30</td><td>5</td>",
+];
+
+#[test]
+fn labels_stand_on_the_page(rt: HostRuntime) -> Result<(), Fail> {
+    let mut shelf = shelf(rt.alloc(), &[])?;
+    let words = ["page", "g1", "two", "best", "named"];
+    assert!(rt; answer(rt.alloc(), &mut shelf, &words)? == 0);
+    assert!(rt; LABELLED.iter().all(|part| has(shelf.said(), part)));
     Ok(())
 }
 
@@ -456,8 +516,8 @@ const CROWDS: [Crowd<'static>; 2] = [
         &[
             "viewBox='0 0 168 1080' width='168' height='1080'>",
             "\
-id='r39' aria-describedby='d39' aria-label='1 of:  a, price 1'><rect class='hit' x='4' y='1044' widt\
-h='160' height='26'/>",
+id='r39' aria-describedby='d39' aria-label='Shift 40: a, price 1'><rect class='hit' x='4' y='1044' wid\
+th='160' height='26'/>",
             "<rect class='over' x='56' y='32' width='40' height='80'/>",
         ],
     ),
@@ -465,10 +525,10 @@ h='160' height='26'/>",
         64,
         &[
             "viewBox='0 0 168 66' width='168' height='66'>",
-            "id='r0' aria-describedby='d0' aria-label='64 of:  a, price 1'>",
+            "id='r0' aria-describedby='d0' aria-label='64 shifts: a, price 1'>",
             "\
 <text class='price' x='154' y='47'>1</text><text class='times' x='40' y='47'>\
-64</text><rect class='w0' x='56' y='32' width='39' height='22'/>",
+64&#215;</text><rect class='w0' x='56' y='32' width='39' height='22'/>",
             "<rect class='over' x='56' y='48' width='40' height='64'/>",
             "<dd>64</dd></div><div><dt>Penalties</dt><dd>128</dd></div>",
         ],

@@ -1,8 +1,8 @@
-use crate::runs::{answer, case_of, shelf_after, shelf_of};
 use page_command::run;
 use shelf::MemoryShelf;
 use std::alloc::Global;
 use std::test::Fail;
+use transcripts::{answer, case_of, shelf_after, shelf_of};
 
 /// Words, their statuses, and what is noted.
 const NOTES: &str = "
@@ -186,15 +186,16 @@ check RULES DEMAND PROOF
 value RULES DEMAND ROSTER
 rest RULES DEMAND ROSTER
 reuse RULES DEMAND PROOF
-solve RULES DEMAND PROOF LIMIT
-curve RULES DEMAND PROOF LIMIT
+solve RULES DEMAND PROOF LIMIT [FROM]
+curve RULES DEMAND PROOF LIMIT [NAME]
 make NUMBER PROOF LIMIT
 LIMIT is 1 to 10000 turns, or 1s to 86400s for seconds; MOST 1 to 1000, NUMBER 0 to 4294967295;
-NAME is a name of the rules to begin at, in place of the start name
+NAME is a name of the rules to begin at, in place of the start name; of curve the name of a group;
+FROM is an old proof to begin with
 ";
 
 /// Words without a form, and what is noted behind the forms.
-const NO_FORMS: [(&str, &str); 9] = [
+const NO_FORMS: [(&str, &str); 10] = [
     ("explain g1", ""),
     ("solve g1 q1 p", ""),
     ("rank g1 0", "MOST is a number from 1 to 1000\n"),
@@ -205,6 +206,10 @@ const NO_FORMS: [(&str, &str); 9] = [
     ),
     (
         "curve g1 q1 p x",
+        "LIMIT is a number of turns from 1 to 10000, or of seconds from 1s to 86400s\n",
+    ),
+    (
+        "solve g1 q1 p x q",
         "LIMIT is a number of turns from 1 to 10000, or of seconds from 1s to 86400s\n",
     ),
     (
@@ -360,8 +365,8 @@ fn another_encoding_is_named(rt: HostRuntime) -> Result<(), Fail> {
 }
 
 /// What the page's program notes to words that are not three.
-const PAGE_FORM: &str =
-    "RULES DEMAND PROOF are the names of three texts; the page of the certificate PROOF is printed\n";
+const PAGE_FORM: &str = "RULES DEMAND PROOF LABELS are the names of texts; \
+the page of the certificate PROOF is printed, under the labels LABELS where they are named\n";
 
 fn notes_page_form(alloc: Global) -> Result<bool, Fail> {
     let mut shelf = MemoryShelf::new(alloc, Vec::new(alloc));

@@ -1,7 +1,7 @@
-use crate::runs::{answer, shelf_of};
 use shelf::MemoryShelf;
 use std::alloc::Global;
 use std::test::Fail;
+use transcripts::{answer, shelf_of};
 
 /// The names that the searches of these tests store.
 const STORED: [&str; 3] = ["p", "p.1", "p.2"];

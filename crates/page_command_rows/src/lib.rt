@@ -1,0 +1,5 @@
+//! Pages of the second program over shelves in memory, as tests over public calls.
+#![tactic(auto)]
+
+#[cfg(test)]
+mod page_tests;
