@@ -18,10 +18,10 @@ PAGE = TOP / "docs" / "MODEL.md"
 WORD = re.compile(r"[^\W\d][\w'◌\-]*|◌\S+◌")
 IMPORT = re.compile(r"use Rattle\.([\w.]+?)(?:\.\{(.*)\})?(?: as (\w+))?$")
 HEAD = re.compile(r"(?:pub |abbrev |data |record |opaque |mutual )*([^\s(:{]+)")
-READER = ("text_commands.specs.Reader", "IsReader")
+READER = ("answers.specs.Reader", "IsReader")
 WRITER = ("search_commands.specs.Writer", "IsWriter")
-RULES = ("text_commands.specs.RulesCommands", "RulesCommand")
-CERT = ("text_commands.specs.Says", "CertCommand")
+RULES = ("answers.specs.RulesCommands", "RulesCommand")
+CERT = ("answers.specs.Says", "CertCommand")
 SOLVE = ("search_commands.specs.SolveAnswers", "SolveAnswers")
 
 # What tells how a search went, and not what it found; that the checker found no cause, and the causes of a no.
@@ -41,9 +41,9 @@ PARTS = {
     "next": ("`next`", [RULES, ("text_commands.specs.Days", "NextFrom"), READER]),
     "fits": ("`fits`", [RULES, ("text_commands.specs.Days", "FitsFrom"), READER]),
     "value": ("`value`, with each cause", [
-        ("text_commands.specs.TextCommands", "TextCommand"), ("what_if.specs.Value", "Valuation"), READER]),
+        ("answers.specs.TextCommands", "TextCommand"), ("what_if.specs.Value", "Valuation"), READER]),
     "rest": ("`rest`, with each cause", [
-        ("text_commands.specs.TextCommands", "TextCommand"), ("what_if.specs.Rest", "Resting"), READER]),
+        ("answers.specs.TextCommands", "TextCommand"), ("what_if.specs.Rest", "Resting"), READER]),
     "reuse": ("`reuse`", [CERT, ("search_commands.specs.Reuse", "Reusing"), READER]),
     "found": ("`solve`, without how it searched", [SOLVE, WRITER]),
     "solve": ("`solve`", [SOLVE, WRITER]),
