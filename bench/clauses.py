@@ -52,10 +52,10 @@ def functions(source):
         if not found:
             continue
         head, clauses, in_clauses = [lines[number - 1]], 0, False
-        while not re.search(r"[{;]\s*$", head[-1]) or in_clauses:
+        while not re.search(r"[{;}]\s*$", head[-1]) or in_clauses:
             line = lines[number]
             in_clauses = in_clauses or re.match(r"\s*(?:requires|ensures)\b", line) is not None
-            if re.fullmatch(r"\s*\{?", line) and in_clauses:
+            if re.fullmatch(r"\s*(?:\{\}?)?", line) and in_clauses:
                 break
             if in_clauses:
                 clauses += not re.match(r"\s*//", line)
