@@ -31,7 +31,7 @@ TOP = pathlib.Path(__file__).resolve().parent.parent
 SOLVERS = ("cbc", "highs")
 # The crates that do each part of a search.
 PARTS = {
-    "scout": {"float_simplex", "scout"},
+    "scout": {"float_basis", "float_simplex", "scout"},
     "exact path": {"tableau", "pivot_rows", "fraction"},
     "passes": {"cheapest_tree"},
     "tables": {"span_cells", "span_table"},

@@ -1,4 +1,4 @@
-use crate::float::Weight64;
+use crate::bounds::Weight64;
 
 /// A candidate for a pivot: the greater its size squared over its weight, the better.
 #[derive(Clone, Copy, Drop)]

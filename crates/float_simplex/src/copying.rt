@@ -1,53 +1,7 @@
 use crate::figures::Figures;
-use crate::kernel::{Kernel, push_if_room};
-use crate::line::{Line, copy_items, front};
-use crate::state::State;
+use crate::state::{Answers, Sides, State};
+use float_basis::{copy_items, copy_list};
 use roster_model::Memory;
-
-/// Copies a list.
-///
-/// # Errors
-///
-/// `Memory` where memory runs out; nothing is said of the list then.
-pub(crate) fn copy_list<T: Copy + Drop>(out: &mut Vec<T>, items: &[T]) -> Result<(), Memory> {
-    out.clear();
-    match out.extend_from_slice(items) {
-        Ok(()) => Ok(()),
-        Err(_) => Err(Memory),
-    }
-}
-
-/// Copies so many rows of the inverse, and as many of their numbers.
-fn copy_lines(out: &mut [Line], lines: &[Line], count: usize) {
-    for (copy, line) in out.iter_mut().zip(lines).take(count) {
-        copy_items(
-            copy.numbers.as_mut_slice(),
-            front(line.numbers.as_slice(), count),
-        );
-    }
-}
-
-/// Copies a list that has room already, as far as the room goes.
-fn copy_reserved(out: &mut Vec<usize>, items: &[usize]) {
-    out.clear();
-    for item in items {
-        push_if_room(out, *item);
-    }
-}
-
-impl Kernel {
-    /// Becomes a copy of another kernel.
-    fn copy_from(&mut self, other: &Kernel) {
-        copy_lines(
-            self.lines.as_mut_slice(),
-            other.lines.as_slice(),
-            other.size(),
-        );
-        copy_reserved(&mut self.listed, other.listed.as_slice());
-        copy_reserved(&mut self.tight, other.tight.as_slice());
-        copy_items(self.slots.as_mut_slice(), other.slots.as_slice());
-    }
-}
 
 impl Figures {
     /// Becomes a copy of others.
@@ -59,38 +13,38 @@ impl Figures {
     }
 }
 
-impl State {
-    /// Copies all but the columns.
-    fn copy_numbers(&mut self, other: &State) {
+impl Sides {
+    /// Becomes a copy of as many others.
+    fn copy_from(&mut self, other: &Sides) {
         copy_items(self.right.as_mut_slice(), other.right.as_slice());
         copy_items(
             self.perturbations.as_mut_slice(),
             other.perturbations.as_slice(),
         );
-        self.kernel.copy_from(&other.kernel);
-        copy_items(self.own.as_mut_slice(), other.own.as_slice());
+    }
+}
+
+impl Answers {
+    /// Becomes a copy of as many others.
+    fn copy_from(&mut self, other: &Answers) {
+        copy_items(self.basis.as_mut_slice(), other.basis.as_slice());
         copy_items(self.values.as_mut_slice(), other.values.as_slice());
-        copy_items(self.norms.as_mut_slice(), other.norms.as_slice());
         copy_items(self.prices.as_mut_slice(), other.prices.as_slice());
-        self.has_norms = other.has_norms;
-        self.priced = other.priced;
-        self.is_stale = other.is_stale;
-        self.is_mispriced = other.is_mispriced;
-        self.drift = other.drift;
-        self.since = other.since;
+    }
+}
+
+impl State {
+    /// Copies all but the columns.
+    fn copy_numbers(&mut self, other: &State) {
+        self.sides.copy_from(&other.sides);
+        self.basis.copy_from(&other.basis);
+        self.positions.copy_from(&other.positions);
+        copy_items(self.prices.as_mut_slice(), other.prices.as_slice());
+        self.changes = other.changes;
+        self.counts.drift = other.counts.drift;
+        self.counts.since = other.counts.since;
         self.tolerances = other.tolerances;
-        copy_items(
-            self.answers.basis.as_mut_slice(),
-            other.answers.basis.as_slice(),
-        );
-        copy_items(
-            self.answers.values.as_mut_slice(),
-            other.answers.values.as_slice(),
-        );
-        copy_items(
-            self.answers.prices.as_mut_slice(),
-            other.answers.prices.as_slice(),
-        );
+        self.answers.copy_from(&other.answers);
     }
 
     /// Becomes a copy of another program with as many rows. Takes memory only where the other has more columns
@@ -100,8 +54,7 @@ impl State {
     ///
     /// `Memory` where memory runs out; nothing is said of the program then.
     pub fn copy_from(&mut self, other: &State) -> Result<(), Memory> {
-        copy_list(&mut self.columns, other.columns.as_slice())?;
-        copy_list(&mut self.runs, other.runs.as_slice())?;
+        self.columns.copy_from(&other.columns)?;
         self.figures.copy_from(&other.figures)?;
         self.copy_numbers(other);
         Ok(())

@@ -1,6 +1,5 @@
-use crate::float::{Entry64, Price64, Weight64, swept};
-use crate::kernel::push_if_room;
-use crate::line::set_at;
+use crate::bounds::Weight64;
+use float_basis::{Entry64, Price64, push_if_room, set_at, without_tiny};
 use roster_model::Memory;
 
 /// What the steps keep of the columns.
@@ -54,7 +53,7 @@ impl Figures {
 
     /// Sets the entry of a free column in the row that leaves.
     pub(crate) fn touch(&mut self, place: usize, entry: Entry64) {
-        let entry = swept(entry);
+        let entry = without_tiny(entry);
         if entry != 0.0 {
             set_at(self.entries.as_mut_slice(), place, entry);
             push_if_room(&mut self.touched, place);

@@ -1,6 +1,6 @@
 ghost use Rattle.std.specs.Prelude.{◌≡◌};
 
-use crate::float::{Price64, Value64};
+use float_basis::{Price64, Value64};
 use std::num::saturating_f64_to_i64;
 
 /// A number in units of 2^-32: values of columns.
@@ -46,17 +46,4 @@ impl Q24 {
     pub(crate) fn of(price: Price64) -> Q24 {
         Q24(nearest(price * 16_777_216.0))
     }
-}
-
-/// A number left its bounds.
-#[derive(Clone, Copy, Debug, PartialEq, Eq, Drop)]
-pub struct Grown;
-
-/// Returns an error where numbers do not fit.
-///
-/// # Errors
-///
-/// `Grown` where they do not fit.
-pub(crate) fn fitting(fits: bool) -> Result<(), Grown> {
-    if fits { Ok(()) } else { Err(Grown) }
 }

@@ -1,28 +1,22 @@
-//! A linear program in floats of 64 bits, by the revised simplex method with the inverse of its basis's
+//! A linear program in floats of 64 bits, by the revised simplex method over the inverse of its basis's
 //! kernel. Each call returns, and beyond its bounds it answers that it grew.
 #![tactic(auto)]
 
-mod column;
+mod bounds;
 mod compare;
 mod copying;
-mod expressing;
 mod figures;
 mod fixed;
-mod float;
-mod kernel;
 mod key;
-mod line;
 mod listing;
 mod making;
 mod perturbing;
 mod pivot;
+mod positions;
 mod probing;
 mod products;
 mod refining;
 mod refresh;
-mod rows;
-mod run;
-mod seats;
 mod start;
 mod state;
 mod steps;
@@ -31,11 +25,10 @@ mod tolerances;
 mod values;
 mod whole;
 
-pub use fixed::{Grown, Q24, Q32};
+pub use fixed::{Q24, Q32};
+pub use float_basis::{Grown, ProductRoom, Sign};
 pub use key::Key;
 pub use probing::LastRow;
-pub use products::ProductRoom;
-pub use run::Sign;
 pub use state::State;
 pub use steps::{Limits, Scouted};
 pub use tolerances::Tolerances;

@@ -1,15 +1,6 @@
-use crate::column::{Column, Standing};
-use crate::run::{Run, Sign};
 use crate::state::State;
+use float_basis::{Sign, Standing};
 use roster_model::Memory;
-
-/// Makes the last run longer, if it goes on with an entry in a row. Says whether it was.
-fn lengthen(runs: &mut [Run], row: u32, sign: Sign) -> bool {
-    match runs.last_mut() {
-        Some(run) => run.go_on(row, sign),
-        None => false,
-    }
-}
 
 impl State {
     /// Lists a column without entries, which may enter.
@@ -22,19 +13,8 @@ impl State {
     }
 
     /// Lists a column without entries.
-    ///
-    /// # Errors
-    ///
-    /// `Memory` where memory runs out; nothing is said of the program then.
-    pub(crate) fn add_column(&mut self, cost: i64, standing: Standing) -> Result<(), Memory> {
-        let place = self.runs.len();
-        if self
-            .columns
-            .push(Column::new(cost, place, place, standing))
-            .is_err()
-        {
-            return Err(Memory);
-        }
+    fn add_column(&mut self, cost: i64, standing: Standing) -> Result<(), Memory> {
+        self.columns.add(cost, standing)?;
         self.figures.add()
     }
 
@@ -44,17 +24,7 @@ impl State {
     ///
     /// `Memory` where memory runs out; nothing is said of the program then.
     pub fn add_entry(&mut self, row: u32, sign: Sign) -> Result<(), Memory> {
-        let Some(column) = self.columns.as_mut_slice().last_mut() else {
-            return Ok(());
-        };
-        if column.first < column.end && lengthen(self.runs.as_mut_slice(), row, sign) {
-            return Ok(());
-        }
-        if self.runs.push(Run::of_row(row, sign)).is_err() {
-            return Err(Memory);
-        }
-        column.end = self.runs.len();
-        Ok(())
+        self.columns.add_entry(row, sign)
     }
 
     /// Lists the column of one entry.

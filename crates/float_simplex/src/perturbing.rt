@@ -1,7 +1,6 @@
 use crate::fixed::Q32;
-use crate::float::Value64;
-use crate::line::{at, product_of, set_all, set_at, step_line};
 use crate::state::State;
+use float_basis::{Value64, at, product_of, set_all, set_at, subtract_multiple};
 use std::num::nearest_i64_to_f64;
 
 /// How far a right side is perturbed at least, 2^-12.
@@ -41,39 +40,39 @@ impl State {
     /// Perturbs the right sides a little, each by an amount of its own, so that few values of a basis are 0
     /// and few steps leave the value of the program as it is.
     pub(crate) fn perturb(&mut self, missing: &[i64], beyond: &[Option<i64>]) {
-        set_perturbations(self.perturbations.as_mut_slice(), missing, beyond);
-        step_line(
-            self.right.as_mut_slice(),
+        set_perturbations(self.sides.perturbations.as_mut_slice(), missing, beyond);
+        subtract_multiple(
+            self.sides.right.as_mut_slice(),
             -1.0,
-            self.perturbations.as_slice(),
+            self.sides.perturbations.as_slice(),
         );
     }
 
     /// Takes the perturbations off the right sides; the next run works the values out again.
     pub fn settle(&mut self) {
-        step_line(
-            self.right.as_mut_slice(),
+        subtract_multiple(
+            self.sides.right.as_mut_slice(),
             1.0,
-            self.perturbations.as_slice(),
+            self.sides.perturbations.as_slice(),
         );
-        set_all(self.perturbations.as_mut_slice(), 0.0);
-        self.is_stale = true;
+        set_all(self.sides.perturbations.as_mut_slice(), 0.0);
+        self.changes.is_stale = true;
     }
 
     /// Sets the right side of a row, before it is perturbed; the next run works the values out again. Takes
     /// no memory.
     pub fn set_side(&mut self, row: usize, right: i64) {
-        let perturbation = at(self.perturbations.as_slice(), row);
+        let perturbation = at(self.sides.perturbations.as_slice(), row);
         set_at(
-            self.right.as_mut_slice(),
+            self.sides.right.as_mut_slice(),
             row,
             nearest_i64_to_f64(right) + perturbation,
         );
-        self.is_stale = true;
+        self.changes.is_stale = true;
     }
 
     /// Returns what the perturbations add to the program's value.
     pub fn perturbation_worth(&self) -> Q32 {
-        Q32::of(product_of(self.prices.as_slice(), self.perturbations.as_slice()))
+        Q32::of(product_of(self.prices.as_slice(), self.sides.perturbations.as_slice()))
     }
 }

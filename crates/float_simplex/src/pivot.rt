@@ -1,12 +1,12 @@
-use crate::column::Standing;
-use crate::fixed::{Grown, fitting};
-use crate::float::{Entry64, Price64, is_price, is_value};
-use crate::line::{add_at, set_all};
-use crate::rows::Own;
-use crate::seats::Seat;
-use crate::state::{Post, State, number_of, post_of};
+use crate::bounds::is_price;
+use crate::positions::Entered;
+use crate::state::State;
 use crate::sweeps::{Entering, dual_entering, primal_entering};
-use crate::values::{dual_leaving, leaving, step_norms, step_values};
+use crate::values::{dual_leaving, leaving, step_values, step_weights};
+use float_basis::{
+    Entry64, Grown, Position, Price64, Standing, UnitNumber, add_at, fitting, is_value, number_of,
+    position_of,
+};
 
 /// What a step did.
 #[derive(Clone, Copy, Drop)]
@@ -22,24 +22,24 @@ pub(crate) enum Step {
 /// A pivot: what leaves, and what enters.
 #[derive(Clone, Copy, Drop)]
 struct Pivot {
-    /// The number of the post of the column that leaves.
+    /// The number of the position of the column that leaves.
     number: usize,
     /// The place of the column that enters.
     place: usize,
-    /// Its entry at the post.
+    /// Its entry at the position.
     entry: Entry64,
-    /// What the row that leaves has in a row of its own, over the entry.
-    own: Own,
+    /// What the row that leaves has in a loose row, over the entry.
+    unit: UnitNumber,
 }
 
 impl State {
     /// Steps the values, and returns that of the column that enters.
     fn step_values(&mut self, number: usize, entry: Entry64) -> Result<f64, Grown> {
-        let value = number_of(self.values.as_slice(), number)?;
+        let value = number_of(self.positions.values.as_slice(), number)?;
         let step = value / entry;
         let fits = step_values(
-            self.values.as_mut_slice(),
-            self.desk.alphas.as_slice(),
+            self.positions.values.as_mut_slice(),
+            self.basis.entering(),
             step,
         );
         fitting(fits && is_value(step))?;
@@ -54,42 +54,38 @@ impl State {
         })
     }
 
-    /// Steps the prices for a column that enters at a reduced cost, the scaled row being at the desk.
-    fn step_prices(&mut self, own: Own, reduced: Price64) {
+    /// Steps the prices for a column that enters at a reduced cost, the scaled row having been worked out.
+    fn step_prices(&mut self, unit: UnitNumber, reduced: Price64) {
         let prices = self.prices.as_mut_slice();
-        for (row, number) in self
-            .kernel
-            .tight
-            .as_slice()
-            .iter()
-            .zip(self.desk.row.as_slice())
-        {
+        let tight = self.basis.tight().iter();
+        for (row, number) in tight.zip(self.basis.row()) {
             add_at(prices, *row, reduced * *number);
         }
-        add_at(prices, own.row, reduced * own.number);
+        add_at(prices, unit.row, reduced * unit.number);
     }
 
-    /// Makes a column basic in place of the one at a post, and returns the place of that.
-    fn exchange(&mut self, post: Post, place: usize) -> usize {
-        let leaving = self.basic_at(post);
+    /// Makes a column basic in place of the one at a position, and returns the place of that.
+    fn exchange(&mut self, position: Position, place: usize) -> usize {
+        let leaving = self.basis.place(position);
         self.stand(leaving, Standing::Free);
         self.stand(place, Standing::Basic);
         leaving
     }
 
-    /// Ends a pivot: seats the column that enters, and counts.
+    /// Ends a pivot: steps the inverse, keeps what the column that enters has, and counts.
     fn end_pivot(&mut self, pivot: Pivot, value: f64) {
-        let norm = step_norms(
-            self.norms.as_mut_slice(),
-            self.desk.alphas.as_slice(),
+        let weight = step_weights(
+            self.positions.weights.as_mut_slice(),
+            self.basis.entering(),
             pivot.number,
             pivot.entry,
         );
-        let post = post_of(pivot.number, self.right.len());
-        self.enter(post, pivot.own, pivot.place, Seat { value, norm });
-        self.drift = self.drift.saturating_add(1);
-        self.since = self.since.saturating_add(1);
-        self.pivots = self.pivots.saturating_add(1);
+        let position = position_of(pivot.number, self.rows());
+        let exchange = self.basis.exchange(position, pivot.unit, pivot.place);
+        self.positions.follow(exchange, Entered { value, weight });
+        self.counts.drift = self.counts.drift.saturating_add(1);
+        self.counts.since = self.counts.since.saturating_add(1);
+        self.counts.pivots = self.counts.pivots.saturating_add(1);
     }
 
     /// Lets a column of negative reduced cost enter.
@@ -102,40 +98,32 @@ impl State {
         let Some(place) = primal_entering(&self.figures, self.tolerances.reduced) else {
             return Ok(Step::Done);
         };
-        self.fill_column(place)?;
-        let (values, alphas) = (self.values.as_slice(), self.desk.alphas.as_slice());
-        let Some(number) = leaving(values, alphas, self.tolerances.value) else {
+        self.basis.fill_column(&self.columns, place)?;
+        let (values, entries) = (self.positions.values.as_slice(), self.basis.entering());
+        let Some(number) = leaving(values, entries, self.tolerances.value) else {
             return Ok(Step::Stuck);
         };
-        let entry = number_of(self.desk.alphas.as_slice(), number)?;
+        let entry = number_of(self.basis.entering(), number)?;
         let entering = self.entering(place)?;
         fitting(is_price(entering.reduced))?;
-        let post = post_of(number, self.right.len());
-        let row = self.fill_row(post);
-        let own = self.scale_row(row, entry).ok_or(Grown)?;
-        self.sum_row(own);
+        let position = position_of(number, self.rows());
+        let row = self.basis.fill_row(&self.columns, position);
+        let unit = self.basis.scale_row(row, entry).ok_or(Grown)?;
+        self.basis.sum_row(unit);
         let value = self.step_values(number, entry)?;
-        self.step_prices(own, entering.reduced);
-        let _leaving = self.exchange(post, place);
-        self.sweep(own, entering);
+        self.step_prices(unit, entering.reduced);
+        let _leaving = self.exchange(position, place);
+        self.sweep(unit, entering);
         self.end_pivot(
             Pivot {
                 number,
                 place,
                 entry,
-                own,
+                unit,
             },
             value,
         );
         Ok(Step::Stepped)
-    }
-
-    /// Gives each post the reference weight 1 where weights are not kept.
-    fn keep_norms(&mut self) {
-        if !self.has_norms {
-            set_all(self.norms.as_mut_slice(), 1.0);
-            self.has_norms = true;
-        }
     }
 
     /// Lets a column leave whose value is negative.
@@ -145,33 +133,32 @@ impl State {
     /// `Grown` where a number is beyond its bound; nothing is said of the program then, and its inverse is to
     /// be made anew.
     pub(crate) fn dual_step(&mut self) -> Result<Step, Grown> {
-        self.keep_norms();
-        let (values, norms) = (self.values.as_slice(), self.norms.as_slice());
-        let Some(number) = dual_leaving(values, norms, self.tolerances.value) else {
+        self.positions.keep_weights();
+        let Some(number) = dual_leaving(&self.positions, self.tolerances.value) else {
             return Ok(Step::Done);
         };
-        let post = post_of(number, self.right.len());
-        let row = self.fill_row(post);
-        self.sum_row(row);
+        let position = position_of(number, self.rows());
+        let row = self.basis.fill_row(&self.columns, position);
+        self.basis.sum_row(row);
         self.touch_all(row);
         let Some(place) = dual_entering(&self.figures) else {
             return Ok(Step::Stuck);
         };
-        self.fill_column(place)?;
-        let entry = number_of(self.desk.alphas.as_slice(), number)?;
+        self.basis.fill_column(&self.columns, place)?;
+        let entry = number_of(self.basis.entering(), number)?;
         let entering = self.entering(place)?;
         fitting(is_price(entering.reduced))?;
-        let own = self.scale_row(row, entry).ok_or(Grown)?;
+        let unit = self.basis.scale_row(row, entry).ok_or(Grown)?;
         let value = self.step_values(number, entry)?;
-        self.step_prices(own, entering.reduced);
-        let leaving = self.exchange(post, place);
+        self.step_prices(unit, entering.reduced);
+        let leaving = self.exchange(position, place);
         self.sweep_touched(leaving, entry, entering);
         self.end_pivot(
             Pivot {
                 number,
                 place,
                 entry,
-                own,
+                unit,
             },
             value,
         );

@@ -1,7 +1,5 @@
-use crate::column::{Standing, own_runs};
-use crate::line::set_at;
-use crate::run::{Run, Sign};
-use crate::state::{State, set_standing};
+use crate::state::State;
+use float_basis::{Standing, set_at};
 use roster_model::Memory;
 
 /// What the last row of a program becomes.
@@ -43,33 +41,12 @@ impl State {
         self.rows().saturating_sub(1)
     }
 
-    /// Copies the runs of a column behind all others, with one more for the last row.
-    fn lengthen(&mut self, place: usize) -> Result<(), Memory> {
-        let row = u32::try_from(self.last_row()).unwrap_or(u32::MAX);
-        let first = self.runs.len();
-        let Some(column) = self.columns.as_mut_slice().get_mut(place) else {
-            return Ok(());
-        };
-        let (begin, end) = (column.first, column.end);
-        if begin > end || end > first {
-            return Ok(());
-        }
-        if self.runs.extend_from_within(begin..end).is_err() {
-            return Err(Memory);
-        }
-        if self.runs.push(Run::of_row(row, Sign::Plus)).is_err() {
-            return Err(Memory);
-        }
-        column.first = first;
-        column.end = self.runs.len();
-        Ok(())
-    }
-
     /// Gives the members among the columns an entry in the last row.
-    fn lengthen_members(&mut self, members: Members<'_>) -> Result<(), Memory> {
+    fn extend_members(&mut self, members: Members<'_>) -> Result<(), Memory> {
+        let row = u32::try_from(self.last_row()).unwrap_or(u32::MAX);
         for place in members.units..self.columns.len() {
             if members.has(place) {
-                self.lengthen(place)?;
+                self.columns.extend(place, row)?;
             }
         }
         Ok(())
@@ -81,11 +58,8 @@ impl State {
             Some(_) => Standing::Free,
             None => Standing::Barred,
         };
-        if let Some(column) = self.columns.as_mut_slice().get_mut(place) {
-            column.cost = cost.unwrap_or(0);
-        }
-        set_standing(self.columns.as_mut_slice(), place, standing);
-        self.figures.reset(place);
+        self.columns.set_cost(place, cost.unwrap_or(0));
+        self.stand(place, standing);
     }
 
     /// Makes a column of the last row basic there.
@@ -95,21 +69,21 @@ impl State {
         } else {
             last.saturating_add(self.rows())
         };
-        set_standing(self.columns.as_mut_slice(), place, Standing::Basic);
-        set_at(self.own.as_mut_slice(), last, place);
+        self.columns.set_standing(place, Standing::Basic);
+        self.basis.set_unit(last, place);
     }
 
     /// Sets the right side and the costs of the last row, in which the basis has the column of entry 1.
     fn change_last(&mut self, row: LastRow) {
         let last = self.last_row();
-        set_at(self.perturbations.as_mut_slice(), last, 0.0);
+        set_at(self.sides.perturbations.as_mut_slice(), last, 0.0);
         self.set_side(last, row.right);
         self.set_cost(last, Some(row.missing));
         self.set_cost(last.saturating_add(self.rows()), row.beyond);
         self.put_last(last, row.missing == 0 || row.beyond.is_none());
-        self.has_norms = false;
-        self.is_stale = true;
-        self.is_mispriced = true;
+        self.positions.has_weights = false;
+        self.changes.is_stale = true;
+        self.changes.is_mispriced = true;
     }
 
     /// Becomes a copy of another program with as many rows whose last row is empty and loose; here that row is
@@ -126,7 +100,7 @@ impl State {
     ) -> Result<(), Memory> {
         let units = self.rows().saturating_mul(2);
         self.copy_from(other)?;
-        self.lengthen_members(Members { units, flags })?;
+        self.extend_members(Members { units, flags })?;
         self.change_last(row);
         Ok(())
     }

@@ -1,12 +1,9 @@
-use crate::column::runs_at;
 use crate::fixed::nearest;
-use crate::line::{at, set_all};
-use crate::making::make_zeros;
-use crate::products::{ProductRoom, make_room};
-use crate::state::{State, cost_of, place_at, sign_of};
+use crate::state::State;
 use crate::whole::{
     add_whole_changes, float_of, greatest_size, sum_whole, whole_by_sums, whole_of,
 };
+use float_basis::{NO_COLUMN, ProductRoom, at, make_zeros, place_at, set_all};
 use roster_model::{List, Memory};
 use std::alloc::{AllocError, Global};
 
@@ -63,7 +60,7 @@ impl Refining {
             sums,
             rest64: make_zeros(alloc, rows)?,
             steps64: make_zeros(alloc, rows)?,
-            room: make_room(alloc, rows)?,
+            room: ProductRoom::new(alloc, rows)?,
         })
     }
 
@@ -101,11 +98,11 @@ impl State {
     fn list_basis(&self, alloc: Global) -> Result<Vec<usize>, AllocError> {
         let rows = self.rows();
         let mut basis = Vec::with_capacity(alloc, rows)?;
-        for place in self.kernel.listed.as_slice() {
+        for place in self.basis.listed() {
             basis.push(*place)?;
         }
-        for place in self.own.as_slice() {
-            if sign_of(*place, rows) != 0.0 {
+        for place in self.basis.units() {
+            if *place != NO_COLUMN {
                 basis.push(*place)?;
             }
         }
@@ -116,13 +113,14 @@ impl State {
     fn list_values(&self, alloc: Global) -> Result<Vec<i128>, AllocError> {
         let rows = self.rows();
         let mut values = Vec::with_capacity(alloc, rows)?;
-        for slot in 0..self.kernel.size() {
-            let value = at(self.values.as_slice(), slot);
+        for slot in 0..self.basis.size() {
+            let value = at(self.positions.values.as_slice(), slot);
             values.push(whole_of(value * VALUE_ONE64))?;
         }
         for row in 0..rows {
-            if sign_of(place_at(self.own.as_slice(), row), rows) != 0.0 {
-                let value = at(self.values.as_slice(), row.saturating_add(rows));
+            if place_at(self.basis.units(), row) != NO_COLUMN {
+                let number = row.saturating_add(rows);
+                let value = at(self.positions.values.as_slice(), number);
                 values.push(whole_of(value * VALUE_ONE64))?;
             }
         }
@@ -140,17 +138,17 @@ impl State {
 
     /// Returns the right side of a row without its perturbation, in the units of refined values.
     fn true_side(&self, row: usize) -> i128 {
-        let side = at(self.right.as_slice(), row) - at(self.perturbations.as_slice(), row);
+        let right = at(self.sides.right.as_slice(), row);
+        let side = right - at(self.sides.perturbations.as_slice(), row);
         i128::from(nearest(side)).saturating_mul(VALUE_ONE)
     }
 
     /// Leaves what these values of the basic columns leave of the right sides.
     fn leave_of_sides(&self, values: &[i128], work: &mut Refining) {
-        let (columns, runs) = (self.columns.as_slice(), self.runs.as_slice());
         set_all(work.sums.as_mut_slice(), 0);
         for (place, value) in work.basis.as_slice().iter().zip(values) {
-            let own = runs_at(runs, columns, *place);
-            add_whole_changes(work.sums.as_mut_slice(), own, *value);
+            let runs = self.columns.runs_at(*place);
+            add_whole_changes(work.sums.as_mut_slice(), runs, *value);
         }
         let mut total = 0i128;
         let changes = work.sums.as_slice().iter();
@@ -165,7 +163,7 @@ impl State {
     fn true_cost(&self, first: &[i64], place: usize) -> i128 {
         let cost = match first.get(place) {
             Some(cost) if place < self.rows() => *cost,
-            _ => cost_of(self.columns.as_slice(), place),
+            _ => self.columns.cost(place),
         };
         i128::from(cost).saturating_mul(PRICE_ONE)
     }
@@ -173,12 +171,11 @@ impl State {
     /// Leaves what these prices leave of the costs of the basic columns, where the first columns have these
     /// costs.
     fn leave_of_costs(&self, prices: &[i128], first: &[i64], work: &mut Refining) {
-        let (columns, runs) = (self.columns.as_slice(), self.runs.as_slice());
         sum_whole(prices, work.sums.as_mut_slice());
         let rest = work.rest.as_mut_slice().iter_mut();
         for (rest, place) in rest.zip(work.basis.as_slice()) {
-            let own = runs_at(runs, columns, *place);
-            let paid = whole_by_sums(own, work.sums.as_slice());
+            let runs = self.columns.runs_at(*place);
+            let paid = whole_by_sums(runs, work.sums.as_slice());
             *rest = self.true_cost(first, *place).saturating_sub(paid);
         }
     }

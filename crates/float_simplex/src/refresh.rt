@@ -1,48 +1,8 @@
-use crate::column::{Column, runs_at};
-use crate::fixed::{Grown, Q24, Q32, fitting};
-use crate::float::{Price64, is_price};
-use crate::line::{Line, at, front_mut, set_all, set_at, step_line};
-use crate::run::{Run, entry_by_sums};
-use crate::state::{State, cost64_of, place_at, sign_of};
+use crate::bounds::is_price;
+use crate::fixed::{Q24, Q32};
+use crate::state::State;
 use crate::sweeps::reduce;
-
-/// Leaves the sums of the prices before each row, and behind the last.
-pub(crate) fn sum_prices(prices: &[Price64], sums: &mut [Price64]) {
-    let mut total = 0.0;
-    for (price, sum) in prices.iter().zip(sums.iter_mut()) {
-        *sum = total;
-        total += *price;
-    }
-    if let Some(sum) = sums.last_mut() {
-        *sum = total;
-    }
-}
-
-/// Leaves the prices of loose rows, which their own columns in the basis tell, and 0 for tight ones.
-fn fill_loose(own: &[usize], columns: &[Column], prices: &mut [Price64]) {
-    let rows = own.len();
-    for (place, price) in own.iter().zip(prices.iter_mut()) {
-        *price = cost64_of(columns, *place) * sign_of(*place, rows);
-    }
-}
-
-/// Leaves the prices of tight rows, by their slots: those of loose ones have these sums.
-fn fill_tight(
-    lines: &[Line],
-    listed: &[usize],
-    columns: &[Column],
-    runs: &[Run],
-    sums: &[Price64],
-    out: &mut [Price64],
-) {
-    set_all(out, 0.0);
-    for (line, place) in lines.iter().zip(listed) {
-        let rest = cost64_of(columns, *place) - entry_by_sums(runs_at(runs, columns, *place), sums);
-        if rest != 0.0 {
-            step_line(out, -rest, line.numbers.as_slice());
-        }
-    }
-}
+use float_basis::{Grown, NO_COLUMN, Price64, at, fitting, place_at, set_at};
 
 /// Whether these prices all fit.
 fn are_prices(prices: &[Price64]) -> bool {
@@ -57,68 +17,47 @@ fn write_prices(prices: &[Price64], out: &mut [Q24]) {
 }
 
 impl State {
-    /// Works the prices out from the inverse.
-    fn renew_prices(&mut self) {
-        let count = self.kernel.size();
-        fill_loose(
-            self.own.as_slice(),
-            self.columns.as_slice(),
-            self.prices.as_mut_slice(),
-        );
-        sum_prices(self.prices.as_slice(), self.desk.sums.as_mut_slice());
-        fill_tight(
-            self.kernel.lines.as_slice(),
-            self.kernel.listed.as_slice(),
-            self.columns.as_slice(),
-            self.runs.as_slice(),
-            self.desk.sums.as_slice(),
-            front_mut(self.desk.row.as_mut_slice(), count),
-        );
-        let prices = self.prices.as_mut_slice();
-        for (row, price) in self
-            .kernel
-            .tight
-            .as_slice()
-            .iter()
-            .zip(self.desk.row.as_slice())
-        {
-            set_at(prices, *row, *price);
-        }
-    }
-
-    /// Works the reduced costs out of the columns from a place on.
+    /// Works out the reduced costs of the columns from a place on.
     fn price_from(&mut self, first: usize) {
-        sum_prices(self.prices.as_slice(), self.desk.sums.as_mut_slice());
-        let columns = self.columns.as_slice().get(first..);
-        let reduced = self.figures.reduced.as_mut_slice().get_mut(first..);
-        if let (Some(columns), Some(reduced)) = (columns, reduced) {
-            reduce(
-                columns,
-                self.runs.as_slice(),
-                self.desk.sums.as_slice(),
-                reduced,
-            );
+        self.basis.sum_prices(self.prices.as_slice());
+        if let Some(reduced) = self.figures.reduced.as_mut_slice().get_mut(first..) {
+            reduce(&self.columns, first, self.basis.sums(), reduced);
         }
-        self.priced = self.columns.len();
+        self.changes.priced = self.columns.len();
     }
 
-    /// Works the reduced costs out of the columns that have none.
+    /// Works out the reduced costs of the columns that have none.
     pub(crate) fn price_new(&mut self) {
-        if self.priced < self.columns.len() {
-            self.price_from(self.priced);
+        if self.changes.priced < self.columns.len() {
+            self.price_from(self.changes.priced);
         }
     }
 
-    /// Works values, prices and reduced costs out from the inverse.
+    /// Works out the values from the inverse.
+    ///
+    /// # Errors
+    ///
+    /// `Grown` where a value is beyond its bound.
+    pub(crate) fn renew_values(&mut self) -> Result<(), Grown> {
+        self.changes.is_stale = false;
+        self.basis.fill_values(
+            &self.columns,
+            self.sides.right.as_slice(),
+            self.positions.values.as_mut_slice(),
+        )
+    }
+
+    /// Works out values, prices and reduced costs from the inverse.
     ///
     /// # Errors
     ///
     /// `Grown` where a value or a price is beyond its bound.
     pub(crate) fn refresh(&mut self) -> Result<(), Grown> {
-        self.renew_prices();
+        self.basis
+            .fill_prices(&self.columns, self.prices.as_mut_slice());
         self.price_from(0);
-        self.is_mispriced = false;
-        self.drift = 0;
+        self.changes.is_mispriced = false;
+        self.counts.drift = 0;
         self.renew_values()?;
         fitting(are_prices(self.prices.as_slice()))
     }
@@ -131,23 +70,24 @@ impl State {
 
     /// Writes the listed columns of the basis, and returns how many they are.
     fn write_listed(&mut self) -> usize {
-        let count = self.kernel.size();
+        let count = self.basis.size();
         for slot in 0..count {
-            let place = place_at(self.kernel.listed.as_slice(), slot);
-            let value = at(self.values.as_slice(), slot);
+            let place = place_at(self.basis.listed(), slot);
+            let value = at(self.positions.values.as_slice(), slot);
             self.write_basic(slot, place, value);
         }
         count
     }
 
-    /// Writes the rows' own columns in the basis from a place on.
-    fn write_own(&mut self, first: usize) {
-        let rows = self.right.len();
+    /// Writes the unit columns of the basis from a place on.
+    fn write_units(&mut self, first: usize) {
+        let rows = self.rows();
         let mut next = first;
         for row in 0..rows {
-            let place = place_at(self.own.as_slice(), row);
-            if sign_of(place, rows) != 0.0 {
-                let value = at(self.values.as_slice(), row.saturating_add(rows));
+            let place = place_at(self.basis.units(), row);
+            if place != NO_COLUMN {
+                let number = row.saturating_add(rows);
+                let value = at(self.positions.values.as_slice(), number);
                 self.write_basic(next, place, value);
                 next = next.saturating_add(1);
             }
@@ -157,7 +97,7 @@ impl State {
     /// Writes the basis, and values and prices in fixed point.
     pub(crate) fn answer(&mut self) {
         let count = self.write_listed();
-        self.write_own(count);
+        self.write_units(count);
         write_prices(self.prices.as_slice(), self.answers.prices.as_mut_slice());
     }
 }

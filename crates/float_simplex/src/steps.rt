@@ -1,9 +1,9 @@
-use crate::fixed::Grown;
 use crate::pivot::Step;
 use crate::state::State;
 use crate::sweeps::primal_entering;
 use crate::tolerances::Tolerances;
 use crate::values::are_feasible;
+use float_basis::Grown;
 
 /// How many steps a run may take.
 #[derive(Clone, Copy, Drop)]
@@ -58,7 +58,7 @@ fn spent_unless(is_done: bool) -> Scouted {
 impl State {
     /// Makes the inverse anew where many pivots were made.
     fn renew_old(&mut self) -> Result<(), Grown> {
-        if self.since >= PIVOTS {
+        if self.counts.since >= PIVOTS {
             self.renew()
         } else {
             Ok(())
@@ -79,7 +79,7 @@ impl State {
 
     /// Whether no value is negative.
     fn is_feasible(&self) -> bool {
-        are_feasible(self.values.as_slice(), self.tolerances.value)
+        are_feasible(self.positions.values.as_slice(), self.tolerances.value)
     }
 
     /// Whether no column has a negative reduced cost.
@@ -99,7 +99,7 @@ impl State {
 
     /// Takes primal steps until no column has a negative reduced cost.
     fn run_primal(&mut self, most: u32) -> Scouted {
-        self.has_norms = false;
+        self.positions.has_weights = false;
         for _step in 0..most {
             if let Some(answer) = ended(self.next_primal()) {
                 return answer;
@@ -135,7 +135,7 @@ impl State {
         if answer != Scouted::Optimal {
             return Some(answer);
         }
-        if self.drift > DRIFT && self.refresh().is_err() {
+        if self.counts.drift > DRIFT && self.refresh().is_err() {
             return Some(Scouted::Grew);
         }
         if self.is_optimal() {
@@ -157,11 +157,11 @@ impl State {
 
     /// Works out what changed since the last run.
     fn prepare(&mut self) -> Result<(), Grown> {
-        if self.is_mispriced {
+        if self.changes.is_mispriced {
             return self.refresh();
         }
         self.price_new();
-        if self.is_stale {
+        if self.changes.is_stale {
             return self.renew_values();
         }
         Ok(())

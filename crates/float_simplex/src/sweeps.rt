@@ -1,30 +1,20 @@
-use crate::column::{Column, is_free_at, own_runs};
+use crate::bounds::{NEVER, Weight64, at_least_0, bounded};
 use crate::compare::Candidate;
 use crate::figures::Figures;
-use crate::float::{Entry64, Price64, Weight64, swept};
-use crate::line::{at, set_all};
-use crate::rows::Own;
-use crate::run::{Run, entry_by_sums};
-use crate::state::{State, place_at};
+use crate::state::State;
+use float_basis::{
+    Columns, Entry64, LEAST_PIVOT, Price64, UnitNumber, at, entry_by_sums, place_at, without_tiny,
+};
 use std::num::nearest_i64_to_f64;
-
-/// The least pivot in size, 2^-10.
-pub(crate) const PIVOT: Entry64 = 9.765625e-4;
-
-/// A ratio above all others.
-pub(crate) const NEVER: f64 = 1.0e300;
 
 /// What the ratio test of a dual step allows a reduced cost, 2^-6.
 const SLACK: Price64 = 0.015625;
 
-/// The greatest reference weight, 2^32.
-pub(crate) const MOST_WEIGHT: Weight64 = 4_294_967_296.0;
-
-/// Works the reduced costs of columns out, `sums` being those of the prices.
-pub(crate) fn reduce(columns: &[Column], runs: &[Run], sums: &[Price64], reduced: &mut [Price64]) {
-    for (column, reduced) in columns.iter().zip(reduced.iter_mut()) {
+/// Works out the reduced costs of the columns from a place on, `sums` being those of the prices.
+pub(crate) fn reduce(columns: &Columns, first: usize, sums: &[Price64], reduced: &mut [Price64]) {
+    for (column, reduced) in columns.rest_from(first).iter().zip(reduced.iter_mut()) {
         *reduced = if column.is_free() {
-            nearest_i64_to_f64(column.cost) - entry_by_sums(own_runs(runs, column), sums)
+            nearest_i64_to_f64(column.cost()) - entry_by_sums(columns.runs_of(column), sums)
         } else {
             0.0
         };
@@ -45,41 +35,30 @@ impl Entering {
         *reduced -= entry * self.reduced;
         let square = entry * entry * self.weight;
         if square > *weight {
-            *weight = if square < MOST_WEIGHT {
-                square
-            } else {
-                MOST_WEIGHT
-            };
+            *weight = bounded(square);
         }
     }
 }
 
-/// Returns the columns from a place on.
-fn columns_from(columns: &[Column], first: usize) -> &[Column] {
-    match columns.get(first..) {
-        Some(rest) => rest,
-        None => &[],
-    }
-}
-
-/// Takes a primal pivot's step of the listed columns that may enter, where these are the sums of the
-/// scaled row.
+/// Takes a primal pivot's step of the listed columns that may enter, from a place on, where these are the sums
+/// of the scaled row.
 fn sweep_listed(
-    columns: &[Column],
-    runs: &[Run],
+    columns: &Columns,
+    first: usize,
     sums: &[Entry64],
-    reduced: &mut [Price64],
-    weights: &mut [Weight64],
+    figures: &mut Figures,
     entering: Entering,
 ) {
-    for (column, (reduced, weight)) in columns
-        .iter()
-        .zip(reduced.iter_mut().zip(weights.iter_mut()))
-    {
-        if column.is_free() {
-            let entry = swept(entry_by_sums(own_runs(runs, column), sums));
-            if entry != 0.0 {
-                entering.step(entry, reduced, weight);
+    let reduced = figures.reduced.as_mut_slice().get_mut(first..);
+    let weights = figures.weights.as_mut_slice().get_mut(first..);
+    if let (Some(reduced), Some(weights)) = (reduced, weights) {
+        let kept = reduced.iter_mut().zip(weights.iter_mut());
+        for (column, (reduced, weight)) in columns.rest_from(first).iter().zip(kept) {
+            if column.is_free() {
+                let entry = without_tiny(entry_by_sums(columns.runs_of(column), sums));
+                if entry != 0.0 {
+                    entering.step(entry, reduced, weight);
+                }
             }
         }
     }
@@ -87,36 +66,30 @@ fn sweep_listed(
 
 /// Takes a pivot's step of the column at a place, if it may enter.
 fn step_at(
-    columns: &[Column],
+    columns: &Columns,
     figures: &mut Figures,
     place: usize,
     entry: Entry64,
     entering: Entering,
 ) {
-    if is_free_at(columns, place) {
+    if columns.is_free(place) {
         figures.step(place, entry, entering);
     }
 }
 
 /// Touches the column at a place, if it may enter.
-fn touch_free(columns: &[Column], figures: &mut Figures, place: usize, entry: Entry64) {
-    if is_free_at(columns, place) {
+fn touch_free(columns: &Columns, figures: &mut Figures, place: usize, entry: Entry64) {
+    if columns.is_free(place) {
         figures.touch(place, entry);
     }
 }
 
-/// Touches the listed columns that may enter, in the row with these sums.
-fn touch_listed(
-    columns: &[Column],
-    runs: &[Run],
-    sums: &[Entry64],
-    figures: &mut Figures,
-    first: usize,
-) {
+/// Touches the listed columns that may enter, from a place on, in the row with these sums.
+fn touch_listed(columns: &Columns, first: usize, sums: &[Entry64], figures: &mut Figures) {
     let mut place = first;
-    for column in columns_from(columns, first) {
+    for column in columns.rest_from(first) {
         if column.is_free() {
-            figures.touch(place, entry_by_sums(own_runs(runs, column), sums));
+            figures.touch(place, entry_by_sums(columns.runs_of(column), sums));
         }
         place = place.saturating_add(1);
     }
@@ -143,79 +116,61 @@ impl Figures {
 }
 
 impl State {
-    /// Takes a primal pivot's step of a row's own columns, which have this number in the scaled row.
+    /// Takes a primal pivot's step of a row's unit columns, which have this number in the scaled row.
     fn sweep_row(&mut self, row: usize, number: Entry64, entering: Entering) {
-        let beyond = row.saturating_add(self.right.len());
-        let number = swept(number);
+        let beyond = row.saturating_add(self.rows());
+        let number = without_tiny(number);
         if number != 0.0 {
-            let columns = self.columns.as_slice();
-            step_at(columns, &mut self.figures, row, number, entering);
-            step_at(columns, &mut self.figures, beyond, -number, entering);
+            step_at(&self.columns, &mut self.figures, row, number, entering);
+            step_at(&self.columns, &mut self.figures, beyond, -number, entering);
         }
     }
 
-    /// Takes a primal pivot's step of the columns that may enter, the scaled row and its sums being at the
-    /// desk.
-    pub(crate) fn sweep(&mut self, own: Own, entering: Entering) {
-        for slot in 0..self.kernel.size() {
-            let row = place_at(self.kernel.tight.as_slice(), slot);
-            let number = at(self.desk.row.as_slice(), slot);
+    /// Takes a primal pivot's step of the columns that may enter, the scaled row and its sums having been
+    /// worked out.
+    pub(crate) fn sweep(&mut self, unit: UnitNumber, entering: Entering) {
+        for slot in 0..self.basis.size() {
+            let row = place_at(self.basis.tight(), slot);
+            let number = at(self.basis.row(), slot);
             self.sweep_row(row, number, entering);
         }
-        self.sweep_row(own.row, own.number, entering);
-        let units = self.right.len().saturating_mul(2);
-        let reduced = self.figures.reduced.as_mut_slice().get_mut(units..);
-        let weights = self.figures.weights.as_mut_slice().get_mut(units..);
-        if let (Some(reduced), Some(weights)) = (reduced, weights) {
-            sweep_listed(
-                columns_from(self.columns.as_slice(), units),
-                self.runs.as_slice(),
-                self.desk.sums.as_slice(),
-                reduced,
-                weights,
-                entering,
-            );
-        }
+        self.sweep_row(unit.row, unit.number, entering);
+        let first = self.rows().saturating_mul(2);
+        sweep_listed(
+            &self.columns,
+            first,
+            self.basis.sums(),
+            &mut self.figures,
+            entering,
+        );
     }
 
     /// Takes a dual pivot's step of the touched columns, and of the one that leaves, whose entry is 1.
     pub(crate) fn sweep_touched(&mut self, leaving: usize, pivot: Entry64, entering: Entering) {
         let factor = 1.0 / pivot;
         self.figures.step_all_touched(factor, entering);
-        step_at(
-            self.columns.as_slice(),
-            &mut self.figures,
-            leaving,
-            factor,
-            entering,
-        );
+        step_at(&self.columns, &mut self.figures, leaving, factor, entering);
     }
 
-    /// Touches a row's own columns in the row that leaves, which has this number there.
+    /// Touches a row's unit columns in the row that leaves, which has this number there.
     fn touch_row(&mut self, row: usize, number: Entry64) {
-        let beyond = row.saturating_add(self.right.len());
-        let columns = self.columns.as_slice();
-        touch_free(columns, &mut self.figures, row, number);
-        touch_free(columns, &mut self.figures, beyond, -number);
+        let beyond = row.saturating_add(self.rows());
+        touch_free(&self.columns, &mut self.figures, row, number);
+        touch_free(&self.columns, &mut self.figures, beyond, -number);
     }
 
-    /// Touches the columns that may enter and have an entry in the row that leaves, which is at the desk
-    /// with its sums.
-    pub(crate) fn touch_all(&mut self, own: Own) {
+    /// Touches the columns that may enter and have an entry in the row that leaves, which was worked out with
+    /// its sums.
+    pub(crate) fn touch_all(&mut self, unit: UnitNumber) {
         self.figures.touched.clear();
-        for slot in 0..self.kernel.size() {
-            let row = place_at(self.kernel.tight.as_slice(), slot);
-            let number = at(self.desk.row.as_slice(), slot);
+        for slot in 0..self.basis.size() {
+            let row = place_at(self.basis.tight(), slot);
+            let number = at(self.basis.row(), slot);
             self.touch_row(row, number);
         }
-        self.touch_row(own.row, own.number);
-        touch_listed(
-            self.columns.as_slice(),
-            self.runs.as_slice(),
-            self.desk.sums.as_slice(),
-            &mut self.figures,
-            self.right.len().saturating_mul(2),
-        );
+        self.touch_row(unit.row, unit.number);
+        let first = self.rows().saturating_mul(2);
+        touch_listed(&self.columns, first, self.basis.sums(), &mut self.figures);
     }
 }
 
@@ -236,11 +191,6 @@ pub(crate) fn primal_entering(figures: &Figures, tolerance: Price64) -> Option<u
     }
     let found = best?;
     Some(found.place)
-}
-
-/// Returns a number, 0 where it is negative.
-pub(crate) fn at_least_0(number: f64) -> f64 {
-    if number < 0.0 { 0.0 } else { number }
 }
 
 /// A touched column.
@@ -267,7 +217,7 @@ fn least_dual_ratio(figures: &Figures) -> f64 {
     let mut least = NEVER;
     for place in figures.touched.as_slice() {
         let touched = figures.touched_at(*place);
-        if touched.size >= PIVOT {
+        if touched.size >= LEAST_PIVOT {
             let ratio = (touched.reduced + SLACK) / touched.size;
             if ratio < least {
                 least = ratio;
@@ -286,7 +236,7 @@ pub(crate) fn dual_entering(figures: &Figures) -> Option<usize> {
     for place in figures.touched.as_slice() {
         let touched = figures.touched_at(*place);
         let size = touched.size;
-        if size >= PIVOT && size > greatest && touched.reduced <= least * size {
+        if size >= LEAST_PIVOT && size > greatest && touched.reduced <= least * size {
             greatest = size;
             found = Some(*place);
         }

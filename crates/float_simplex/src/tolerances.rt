@@ -1,4 +1,4 @@
-use crate::float::{Price64, Value64};
+use float_basis::{Price64, Value64};
 
 /// What a run takes for 0.
 #[derive(Clone, Copy, Drop)]

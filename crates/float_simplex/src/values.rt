@@ -1,6 +1,7 @@
+use crate::bounds::{NEVER, Weight64, at_least_0, bounded};
 use crate::compare::Candidate;
-use crate::float::{Entry64, Value64, Weight64, is_value};
-use crate::sweeps::{MOST_WEIGHT, NEVER, PIVOT, at_least_0};
+use crate::positions::Positions;
+use float_basis::{Entry64, LEAST_PIVOT, Value64, is_value};
 
 /// Whether a value is below 0 by more than a tolerance.
 pub(crate) fn is_negative(value: Value64, tolerance: Value64) -> bool {
@@ -13,10 +14,10 @@ pub(crate) fn are_feasible(values: &[Value64], tolerance: Value64) -> bool {
 }
 
 /// Takes a pivot's step of the values. Says whether all fit.
-pub(crate) fn step_values(values: &mut [Value64], alphas: &[Entry64], step: Value64) -> bool {
+pub(crate) fn step_values(values: &mut [Value64], entries: &[Entry64], step: Value64) -> bool {
     let mut fits = true;
-    for (value, alpha) in values.iter_mut().zip(alphas) {
-        let stepped = *value - *alpha * step;
+    for (value, entry) in values.iter_mut().zip(entries) {
+        let stepped = *value - *entry * step;
         fits &= is_value(stepped);
         *value = stepped;
     }
@@ -24,11 +25,11 @@ pub(crate) fn step_values(values: &mut [Value64], alphas: &[Entry64], step: Valu
 }
 
 /// Returns the least ratio of a primal step, a value and the slack over its entry.
-fn least_primal_ratio(values: &[Value64], alphas: &[Entry64], slack: Value64) -> f64 {
+fn least_primal_ratio(values: &[Value64], entries: &[Entry64], slack: Value64) -> f64 {
     let mut least = NEVER;
-    for (value, alpha) in values.iter().zip(alphas) {
-        if *alpha >= PIVOT {
-            let ratio = (at_least_0(*value) + slack) / *alpha;
+    for (value, entry) in values.iter().zip(entries) {
+        if *entry >= LEAST_PIVOT {
+            let ratio = (at_least_0(*value) + slack) / *entry;
             if ratio < least {
                 least = ratio;
             }
@@ -37,35 +38,32 @@ fn least_primal_ratio(values: &[Value64], alphas: &[Entry64], slack: Value64) ->
     least
 }
 
-/// Returns the post that leaves in a primal step: the one with the greatest entry among those within the
+/// Returns the position that leaves in a primal step: the one with the greatest entry among those within the
 /// least ratio, which allows a value the slack.
-pub(crate) fn leaving(values: &[Value64], alphas: &[Entry64], slack: Value64) -> Option<usize> {
-    let least = least_primal_ratio(values, alphas, slack);
+pub(crate) fn leaving(values: &[Value64], entries: &[Entry64], slack: Value64) -> Option<usize> {
+    let least = least_primal_ratio(values, entries, slack);
     let mut greatest = 0.0;
     let mut found = None;
-    for (row, (value, alpha)) in values.iter().zip(alphas).enumerate() {
-        if *alpha >= PIVOT && *alpha > greatest && *value <= least * *alpha {
-            greatest = *alpha;
-            found = Some(row);
+    for (number, (value, entry)) in values.iter().zip(entries).enumerate() {
+        if *entry >= LEAST_PIVOT && *entry > greatest && *value <= least * *entry {
+            greatest = *entry;
+            found = Some(number);
         }
     }
     found
 }
 
-/// Returns the post that leaves in a dual step: the one whose negative value has the greatest square over
+/// Returns the position that leaves in a dual step: the one whose negative value has the greatest square over
 /// its reference weight.
-pub(crate) fn dual_leaving(
-    values: &[Value64],
-    norms: &[Weight64],
-    tolerance: Value64,
-) -> Option<usize> {
+pub(crate) fn dual_leaving(positions: &Positions, tolerance: Value64) -> Option<usize> {
     let mut best: Option<Candidate> = None;
-    for (place, (value, norm)) in values.iter().zip(norms).enumerate() {
+    let values = positions.values.as_slice().iter();
+    for (place, (value, weight)) in values.zip(positions.weights.as_slice()).enumerate() {
         if is_negative(*value, tolerance) {
             best = Candidate {
                 place,
                 square: *value * *value,
-                weight: *norm,
+                weight: *weight,
             }
             .best(best);
         }
@@ -74,46 +72,23 @@ pub(crate) fn dual_leaving(
     Some(found.place)
 }
 
-/// Returns a reference weight within its bound.
-fn bounded(norm: Weight64) -> Weight64 {
-    if norm < MOST_WEIGHT {
-        norm
-    } else {
-        MOST_WEIGHT
-    }
-}
-
 /// Takes a pivot's step of the reference weights of dual steps, and returns that of the column that enters
-/// at a post with this entry.
-pub(crate) fn step_norms(
-    norms: &mut [Weight64],
-    alphas: &[Entry64],
+/// at a position with this entry.
+pub(crate) fn step_weights(
+    weights: &mut [Weight64],
+    entries: &[Entry64],
     number: usize,
     entry: Entry64,
 ) -> Weight64 {
-    let share = match norms.get(number) {
-        Some(norm) => *norm / (entry * entry),
+    let share = match weights.get(number) {
+        Some(weight) => *weight / (entry * entry),
         None => 1.0,
     };
-    for (norm, alpha) in norms.iter_mut().zip(alphas) {
-        let square = *alpha * *alpha * share;
-        if square > *norm {
-            *norm = bounded(square);
+    for (weight, own) in weights.iter_mut().zip(entries) {
+        let square = *own * *own * share;
+        if square > *weight {
+            *weight = bounded(square);
         }
     }
     if share > 1.0 { bounded(share) } else { 1.0 }
-}
-
-/// Returns the loose row not yet taken with the greatest entry in size, if that is a pivot.
-pub(crate) fn free_row(alphas: &[Entry64], taken: &[bool]) -> Option<usize> {
-    let mut greatest = PIVOT;
-    let mut found = None;
-    for (row, (alpha, is_taken)) in alphas.iter().zip(taken).enumerate() {
-        let size = alpha.abs();
-        if !*is_taken && size > greatest {
-            greatest = size;
-            found = Some(row);
-        }
-    }
-    found
 }

@@ -1,5 +1,5 @@
 use crate::fixed::nearest;
-use crate::run::Run;
+use float_basis::Run;
 use std::num::nearest_i64_to_f64;
 
 /// What a great number is taken apart by, 2^32.

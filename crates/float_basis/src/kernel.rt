@@ -1,16 +1,21 @@
-use crate::float::Entry64;
-use crate::line::{Line, at, copy_items, set_all, set_at};
-use crate::state::place_at;
+use crate::numbers::Entry64;
+use crate::vectors::{at, copy_items, place_at, push_if_room, set_all, set_at};
 
 /// The slot of a row that has none.
 pub(crate) const LOOSE: usize = usize::MAX;
 
+/// The numbers of a listed column's row of the inverse, by the slots of the tight rows.
+#[derive(Drop)]
+pub(crate) struct InverseRow {
+    pub(crate) numbers: Vec<Entry64>,
+}
+
 /// The listed columns of a basis, and the inverse of the square that they make with the tight rows: those
-/// whose own columns are not in the basis. The other rows are loose, and have one of their own there.
+/// without a unit column in the basis. The other rows are loose, and have one there.
 #[derive(Drop)]
 pub(crate) struct Kernel {
     /// For each listed column its row of the inverse; rooms behind the last of them.
-    pub(crate) lines: Vec<Line>,
+    pub(crate) rows: Vec<InverseRow>,
     /// The places of the listed columns.
     pub(crate) listed: Vec<usize>,
     /// The tight rows, as many, each in its slot.
@@ -27,18 +32,11 @@ pub(crate) fn slot_of(slots: &[usize], row: usize) -> usize {
     }
 }
 
-/// Adds a number behind the last one, where there is room for it.
-pub(crate) fn push_if_room(numbers: &mut Vec<usize>, number: usize) {
-    if numbers.len() < numbers.capacity() {
-        numbers.push_reserved(number);
-    }
-}
-
 /// Moves the numbers of so many rows from one slot to another.
-fn move_numbers(lines: &mut [Line], count: usize, from: usize, to: usize) {
-    for line in lines.iter_mut().take(count) {
-        let number = at(line.numbers.as_slice(), from);
-        set_at(line.numbers.as_mut_slice(), to, number);
+fn move_numbers(rows: &mut [InverseRow], count: usize, from: usize, to: usize) {
+    for row in rows.iter_mut().take(count) {
+        let number = at(row.numbers.as_slice(), from);
+        set_at(row.numbers.as_mut_slice(), to, number);
     }
 }
 
@@ -58,8 +56,8 @@ impl Kernel {
     /// Puts a listed column in place of another one, with its row of the inverse.
     pub(crate) fn replace_listed(&mut self, slot: usize, place: usize, row: &[Entry64]) {
         set_at(self.listed.as_mut_slice(), slot, place);
-        if let Some(line) = self.lines.as_mut_slice().get_mut(slot) {
-            copy_items(line.numbers.as_mut_slice(), row);
+        if let Some(own) = self.rows.as_mut_slice().get_mut(slot) {
+            copy_items(own.numbers.as_mut_slice(), row);
         }
     }
 
@@ -69,8 +67,8 @@ impl Kernel {
         if slot < self.listed.len() {
             let _column = self.listed.swap_remove(slot);
         }
-        if slot < last && last < self.lines.len() {
-            self.lines.swap(slot, last);
+        if slot < last && last < self.rows.len() {
+            self.rows.swap(slot, last);
         }
     }
 
@@ -84,7 +82,7 @@ impl Kernel {
         if slot < last {
             let moved = place_at(self.tight.as_slice(), slot);
             set_at(self.slots.as_mut_slice(), moved, slot);
-            move_numbers(self.lines.as_mut_slice(), self.listed.len(), last, slot);
+            move_numbers(self.rows.as_mut_slice(), self.listed.len(), last, slot);
         }
     }
 
@@ -96,11 +94,11 @@ impl Kernel {
 
     /// Sets the numbers of a slot: what each listed column's entry in the column that enters takes of the
     /// number of the row that leaves.
-    fn set_slot_numbers(&mut self, slot: usize, alphas: &[Entry64], own: Entry64) {
+    fn set_slot_numbers(&mut self, slot: usize, entering: &[Entry64], unit: Entry64) {
         let count = self.listed.len();
-        let lines = self.lines.as_mut_slice().iter_mut().take(count);
-        for (line, alpha) in lines.zip(alphas) {
-            set_at(line.numbers.as_mut_slice(), slot, -*alpha * own);
+        let rows = self.rows.as_mut_slice().iter_mut().take(count);
+        for (row, entry) in rows.zip(entering) {
+            set_at(row.numbers.as_mut_slice(), slot, -*entry * unit);
         }
     }
 
@@ -109,10 +107,10 @@ impl Kernel {
         &mut self,
         slot: usize,
         row: usize,
-        alphas: &[Entry64],
-        own: Entry64,
+        entering: &[Entry64],
+        unit: Entry64,
     ) {
-        self.set_slot_numbers(slot, alphas, own);
+        self.set_slot_numbers(slot, entering, unit);
         if let Some(tight) = self.tight.as_mut_slice().get_mut(slot) {
             set_at(self.slots.as_mut_slice(), *tight, LOOSE);
             *tight = row;
@@ -126,18 +124,18 @@ impl Kernel {
         place: usize,
         row: usize,
         numbers: &[Entry64],
-        alphas: &[Entry64],
-        own: Entry64,
+        entering: &[Entry64],
+        unit: Entry64,
     ) {
         let slot = self.tight.len();
         let column = self.listed.len();
         push_if_room(&mut self.tight, row);
         push_if_room(&mut self.listed, place);
-        self.set_slot_numbers(slot, alphas, own);
+        self.set_slot_numbers(slot, entering, unit);
         set_at(self.slots.as_mut_slice(), row, slot);
-        if let Some(line) = self.lines.as_mut_slice().get_mut(column) {
-            copy_items(line.numbers.as_mut_slice(), numbers);
-            set_at(line.numbers.as_mut_slice(), slot, own);
+        if let Some(own) = self.rows.as_mut_slice().get_mut(column) {
+            copy_items(own.numbers.as_mut_slice(), numbers);
+            set_at(own.numbers.as_mut_slice(), slot, unit);
         }
     }
 }

@@ -1,27 +1,24 @@
 /// A number of the inverse, a sum of such numbers, or an entry of a column in terms of the basis: a float
 /// of 64 bits.
-pub(crate) type Entry64 = f64;
+pub type Entry64 = f64;
 
 /// The value of a column: a float of 64 bits.
-pub(crate) type Value64 = f64;
+pub type Value64 = f64;
 
 /// A cost, a price, a reduced cost or a sum of prices: a float of 64 bits.
-pub(crate) type Price64 = f64;
+pub type Price64 = f64;
 
-/// A squared norm or a reference weight: a float of 64 bits.
-pub(crate) type Weight64 = f64;
+/// The least pivot in size, 2^-10.
+pub const LEAST_PIVOT: Entry64 = 9.765625e-4;
 
 /// The greatest entry of a column in terms of the basis in size, 2^14.
 const MOST_ENTRY: Entry64 = 16_384.0;
 
-/// The greatest sum of a pivot's row in size, 2^20.
-const MOST_SUM: Entry64 = 1_048_576.0;
+/// The greatest number of a pivot's row over its entry in size, 2^20.
+const MOST_NUMBER: Entry64 = 1_048_576.0;
 
 /// The greatest value in size, 2^19.
 const MOST_VALUE: Value64 = 524_288.0;
-
-/// The greatest price or reduced cost in size, 2^27.
-const MOST_PRICE: Price64 = 134_217_728.0;
 
 /// Entries below this size, 2^-30, become 0.
 const TINY: Entry64 = 9.31322574615478515625e-10;
@@ -31,22 +28,17 @@ pub(crate) fn is_entry(number: Entry64) -> bool {
     number.abs() <= MOST_ENTRY
 }
 
-/// Whether a number may be a sum of a pivot's row.
-pub(crate) fn is_sum(number: Entry64) -> bool {
-    number.abs() <= MOST_SUM
+/// Whether a number may stand in a pivot's row over its entry.
+pub(crate) fn is_row_number(number: Entry64) -> bool {
+    number.abs() <= MOST_NUMBER
 }
 
 /// Whether a number may be the value of a column.
-pub(crate) fn is_value(number: Value64) -> bool {
+pub fn is_value(number: Value64) -> bool {
     number.abs() <= MOST_VALUE
 }
 
-/// Whether a number may be a price or a reduced cost.
-pub(crate) fn is_price(number: Price64) -> bool {
-    number.abs() <= MOST_PRICE
-}
-
 /// Returns an entry, or 0 where it is below 2^-30 in size.
-pub(crate) fn swept(number: Entry64) -> Entry64 {
+pub fn without_tiny(number: Entry64) -> Entry64 {
     if number.abs() < TINY { 0.0 } else { number }
 }

@@ -1,4 +1,4 @@
-use crate::float::Entry64;
+use crate::numbers::Entry64;
 
 /// The sign of an entry.
 #[derive(Clone, Copy, PartialEq, Eq, Drop)]
@@ -12,9 +12,9 @@ pub enum Sign {
 /// Consecutive rows in which a column has the same entry: its product with a row of the inverse is the sum
 /// of the row's numbers before `to`, less that before `from`. Rows of entry -1 run backwards.
 #[derive(Clone, Copy, Drop)]
-pub(crate) struct Run {
-    pub(crate) from: u32,
-    pub(crate) to: u32,
+pub struct Run {
+    pub from: u32,
+    pub to: u32,
 }
 
 impl Run {
@@ -60,7 +60,7 @@ fn sum_at(sums: &[Entry64], place: u32) -> Entry64 {
 
 /// Returns the product of a column with the row whose sums these are: at each place what stands before
 /// it.
-pub(crate) fn entry_by_sums(runs: &[Run], sums: &[Entry64]) -> Entry64 {
+pub fn entry_by_sums(runs: &[Run], sums: &[Entry64]) -> Entry64 {
     let mut total = 0.0;
     for run in runs {
         total += sum_at(sums, run.to) - sum_at(sums, run.from);
