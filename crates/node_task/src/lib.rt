@@ -1,0 +1,6 @@
+//! A node of the search whose master is solved.
+#![tactic(auto)]
+
+mod task;
+
+pub use task::NodeTask;
