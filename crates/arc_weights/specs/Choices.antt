@@ -34,6 +34,12 @@ IsPart d margin sums p = (p < length sums) × (is_fraction d margin (slice_index
 abbrev pub HaveFew : ℕ → List ℕ → Type 0
 HaveFew d sums = (p : ℕ) → p < length sums → slice_index sums p / d ≤ 64
 
+-- there is a count for each sum, and no sum is above 64
+pub record FitCounts (bounds : List Bounds) (d : ℕ) (sums : List ℕ) : Type 0 where
+  pub some : 1 ≤ d
+  pub each : length bounds ≡ length sums
+  pub few : HaveFew d sums
+
 abbrev pub AreRounded : ℕ → ℕ → List ℕ → List ℕ → Type 0
 AreRounded d margin sums counts = counts ≡ map (λ (s : ℕ). nearest d margin s) sums
 

@@ -1,3 +1,4 @@
+pub mod Nodes
 pub mod Weighed
 pub mod Denominators
 pub mod Sums

@@ -1,5 +1,5 @@
 ghost use Rattle.std.specs.Prelude.{◌≡◌, ◌≤◌, ◌/◌, IfOk, IfSome, MatchOption, length};
-ghost use Rattle.arc_weights.specs.Choices.{margin_of, is_fraction, nearest, CountAsWhole, IsPart, HaveFew};
+ghost use Rattle.arc_weights.specs.Choices.{margin_of, is_fraction, nearest, CountAsWhole, IsPart, HaveFew, FitCounts};
 ghost use Rattle.arc_weights.specs.Choices.{AreRounded, IsLeft, IsFitted, IsChoice, HasNoChoice, IsAnswer};
 
 use crate::weighed::Weighed;
@@ -106,9 +106,7 @@ fn choose_preferred(
     d: u128,
     margin: u128,
 ) -> Option<(u32, u32)>
-    requires d { 1 ≤ d }
-    requires bounds { length arc_box.now.bounds ≡ length sums.now }
-    requires few { HaveFew d sums.now }
+    requires { FitCounts arc_box.now.bounds d sums.now }
     ensures { IfSome result (IsChoice arc_box.now.bounds d margin sums.now) }
 {
     let arc = preferred?;
@@ -128,10 +126,8 @@ fn choose(
     d: u128,
     margin: u128,
 ) -> Option<(u32, u32)>
-    requires d { 1 ≤ d }
     requires arcs { length sums.now ≡ length graph.now.arcs }
-    requires bounds { length arc_box.now.bounds ≡ length graph.now.arcs }
-    requires few { HaveFew d sums.now }
+    requires fit { FitCounts arc_box.now.bounds d sums.now }
     ensures { MatchOption result (HasNoChoice arc_box.now.bounds d margin sums.now)
         (IsChoice arc_box.now.bounds d margin sums.now) }
 {
@@ -168,10 +164,8 @@ pub fn conclude(
     d: u128,
     solution: Solution,
 ) -> Result<Weighed, Memory>
-    requires d { 1 ≤ d }
     requires arcs { length sums.now ≡ length graph.now.arcs }
-    requires bounds { length arc_box.now.bounds ≡ length graph.now.arcs }
-    requires few { HaveFew d sums.now }
+    requires fit { FitCounts arc_box.now.bounds d sums.now }
     ensures { IfOk result (IsAnswer arc_box.now.bounds d (margin_of solution d) sums.now) }
 {
     let margin = margin(solution, d);

@@ -3,9 +3,11 @@
 
 mod choice;
 mod denominator;
+mod node;
 mod raw;
 mod sums;
 mod weighed;
 
+pub use node::SolvedNode;
 pub use raw::farthest_from_whole;
 pub use weighed::{Weighed, weigh};

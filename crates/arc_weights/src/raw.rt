@@ -1,18 +1,15 @@
 ghost use Rattle.std.specs.Prelude.{◌≡◌, ◌≤◌, ◌<◌, ◌/◌, IfOk, IfSome, length};
-ghost use Rattle.roster_model.specs.SoundInstance.{IsSoundInstance};
-ghost use Rattle.parse_graph.specs.Graphs.{IsGraph};
-ghost use Rattle.count_boxes.specs.Paths.{IsBoxOf};
-ghost use Rattle.tree_pool.specs.Pools.{IsPool};
-ghost use Rattle.node_master.specs.Ends.{AreSolved};
-ghost use Rattle.arc_weights.specs.Choices.{HaveFew};
+ghost use Rattle.arc_weights.specs.Choices.{FitCounts};
+ghost use Rattle.arc_weights.specs.Nodes.{IsSolvedNode};
 ghost use Rattle.arc_weights.specs.Raw.{IsLeftBoth, IsOpen};
 
 use crate::denominator::common_denominator;
+use crate::node::SolvedNode;
 use crate::sums::arc_sums;
 use count_boxes::ArcBox;
-use node_master::{Pool, Solution, Weight};
+use node_master::Solution;
 use parse_graph::Graph;
-use roster_model::{Cut, Instance, Memory};
+use roster_model::Memory;
 use std::alloc::Global;
 
 // An arc whose sum is a fraction, and how far that is from a whole number.
@@ -48,10 +45,8 @@ fn open_at(arc_box: &ArcBox, arc: u32, len: u8, sum: u128, d: u128) -> Option<Op
 
 // Returns the arc whose sum is farthest from a whole number, of such ones a longest, and its sum rounded down.
 fn farthest(graph: &Graph, arc_box: &ArcBox, sums: &[u128], d: u128) -> Option<(u32, u32)>
-    requires d { 1 ≤ d }
     requires arcs { length sums.now ≡ length graph.now.arcs }
-    requires bounds { length arc_box.now.bounds ≡ length sums.now }
-    requires few { HaveFew d sums.now }
+    requires fit { FitCounts arc_box.now.bounds d sums.now }
     ensures { IfSome result (IsLeftBoth arc_box.now.bounds) }
 {
     let arcs = graph.arcs();
@@ -79,29 +74,17 @@ fn farthest(graph: &Graph, arc_box: &ArcBox, sums: &[u128], d: u128) -> Option<(
 /// # Errors
 ///
 /// Want of memory for one sum for each arc of the graph.
-pub fn farthest_from_whole(
-    alloc: Global,
-    instance: &Instance,
-    graph: &Graph,
-    cuts: &[Cut],
-    arc_box: &ArcBox,
-    pool: &Pool,
-    weights: &[Weight],
-    solution: Solution,
-) -> Result<Option<(u32, u32)>, Memory>
-    requires sound { IsSoundInstance instance.now }
-    requires graph { IsGraph instance.now.grammar graph.now }
-    requires left { IsBoxOf instance.now graph.now cuts.now arc_box.now }
-    requires pool { IsPool instance.now.grammar pool.now }
-    requires weights { AreSolved solution instance.now cuts.now pool.now weights.now }
-    ensures { IfOk result (λ choice. IfSome choice (IsLeftBoth arc_box.now.bounds)) }
+pub fn farthest_from_whole(alloc: Global, node: &SolvedNode) -> Result<Option<(u32, u32)>, Memory>
+    requires { IsSolvedNode node.now }
+    ensures { IfOk result (λ choice. IfSome choice (IsLeftBoth node.now.arc_box.now.bounds)) }
 {
-    if solution == Solution::Exact {
+    if node.solution == Solution::Exact {
         return Ok(None);
     }
-    let Some(d) = common_denominator(weights) else {
+    let Some(d) = common_denominator(node.weights) else {
         return Ok(None);
     };
-    let sums = arc_sums(alloc, graph, pool, weights, d)?;
-    Ok(farthest(graph, arc_box, sums.as_slice(), d))
+    let graph = node.day.graph;
+    let sums = arc_sums(alloc, graph, node.pool, node.weights, d)?;
+    Ok(farthest(graph, node.arc_box, sums.as_slice(), d))
 }

@@ -1,19 +1,11 @@
 ghost use Rattle.std.specs.Prelude.{IfOk};
-ghost use Rattle.roster_model.specs.declared.instance.Cut.{Cut as OneCut};
-ghost use Rattle.roster_model.specs.SoundInstance.{IsSoundInstance};
-ghost use Rattle.parse_graph.specs.Graphs.{IsGraph};
-ghost use Rattle.count_boxes.specs.Paths.{IsBoxOf};
-ghost use Rattle.tree_pool.specs.Pools.{IsPool};
-ghost use Rattle.node_master.specs.Ends.{AreSolved};
-ghost use Rattle.arc_weights.specs.Weighed.{IsWeighed};
+ghost use Rattle.arc_weights.specs.Nodes.{IsSolvedNode, IsWeighedNode};
 
 use crate::choice::conclude;
 use crate::denominator::common_denominator;
+use crate::node::SolvedNode;
 use crate::sums::arc_sums;
-use count_boxes::ArcBox;
-use node_master::{Pool, Solution, Weight};
-use parse_graph::Graph;
-use roster_model::{Cut, Instance, List, Memory};
+use roster_model::{List, Memory};
 use std::alloc::Global;
 
 /// What the weights of a solution's trees say of the arcs. In a near solution each distance to a whole
@@ -44,35 +36,22 @@ pub enum Weighed {
 /// # Errors
 ///
 /// `Memory` where memory runs out; there is no answer then.
-pub fn weigh(
-    alloc: Global,
-    instance: &Instance,
-    graph: &Graph,
-    cuts: &[Cut],
-    arc_box: &ArcBox,
-    pool: &Pool,
-    weights: &[Weight],
-    solution: Solution,
-    preferred: Option<u32>,
-) -> Result<Weighed, Memory>
-    requires sound { IsSoundInstance instance.now }
-    requires graph { IsGraph instance.now.grammar graph.now }
-    requires left { IsBoxOf instance.now graph.now cuts.now arc_box.now }
-    requires pool { IsPool instance.now.grammar pool.now }
-    requires weights { AreSolved solution instance.now cuts.now pool.now weights.now }
-    ensures { IfOk result (IsWeighed instance.now graph.now cuts.now pool.now weights.now solution) }
+pub fn weigh(alloc: Global, node: &SolvedNode, preferred: Option<u32>) -> Result<Weighed, Memory>
+    requires { IsSolvedNode node.now }
+    ensures { IfOk result (IsWeighedNode node.now) }
 {
-    let Some(d) = common_denominator(weights) else {
+    let Some(d) = common_denominator(node.weights) else {
         return Ok(Weighed::Other);
     };
-    let sums = arc_sums(alloc, graph, pool, weights, d)?;
+    let graph = node.day.graph;
+    let sums = arc_sums(alloc, graph, node.pool, node.weights, d)?;
     conclude(
         alloc,
         graph,
-        arc_box,
+        node.arc_box,
         preferred,
         sums.as_slice(),
         d,
-        solution,
+        node.solution,
     )
 }

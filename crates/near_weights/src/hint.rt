@@ -3,7 +3,7 @@ ghost use Rattle.roster_model.specs.SoundInstance.{IsSoundInstance};
 ghost use Rattle.master_rows.specs.NodeRows.{AreRows};
 ghost use Rattle.near_prices.specs.Listed.{IsListed};
 
-use crate::table::{Basis, Bound, Line, ONE, Weighted, lines_of, table_of};
+use crate::table::{Basis, Bound, ONE, RowBalance, Weighted, lines_of, table_of};
 use master_rows::NodeRows;
 use near_prices::ListedTree;
 use roster_model::{Cut, Instance, List, Memory};
@@ -107,7 +107,7 @@ fn list_sorted(
 }
 
 /// Whether what is missing in a row has the artificial cost.
-fn is_artificial(lines: &[Line], row: usize) -> bool {
+fn is_artificial(lines: &[RowBalance], row: usize) -> bool {
     match lines.get(row) {
         Some(line) => line.bound == Bound::AtLeast,
         None => false,
@@ -115,7 +115,7 @@ fn is_artificial(lines: &[Line], row: usize) -> bool {
 }
 
 /// Whether the column at a place of the basis is an artificial one.
-fn is_artificial_at(scout: &Scout, lines: &[Line], place: usize) -> bool {
+fn is_artificial_at(scout: &Scout, lines: &[RowBalance], place: usize) -> bool {
     match scout.basic(place) {
         Some(Key::Missing(row)) => is_artificial(lines, row),
         _ => false,
@@ -123,7 +123,7 @@ fn is_artificial_at(scout: &Scout, lines: &[Line], place: usize) -> bool {
 }
 
 /// Whether an artificial column counts among the values of the basis.
-fn has_artificial(scout: &Scout, lines: &[Line], values: &[i128]) -> bool {
+fn has_artificial(scout: &Scout, lines: &[RowBalance], values: &[i128]) -> bool {
     for (place, value) in values.iter().enumerate() {
         if *value > COUNTED && is_artificial_at(scout, lines, place) {
             return true;
@@ -133,7 +133,7 @@ fn has_artificial(scout: &Scout, lines: &[Line], values: &[i128]) -> bool {
 }
 
 /// Returns what units missing in the rows cost.
-fn missing_of(alloc: Global, lines: &[Line]) -> Result<List<i64>, Memory> {
+fn missing_of(alloc: Global, lines: &[RowBalance]) -> Result<List<i64>, Memory> {
     let mut missing = List::new(alloc);
     for line in lines {
         missing.push(line.missing)?;
@@ -145,7 +145,7 @@ fn missing_of(alloc: Global, lines: &[Line]) -> Result<List<i64>, Memory> {
 fn prices_of(
     alloc: Global,
     scout: &Scout,
-    lines: &[Line],
+    lines: &[RowBalance],
     values: &[i128],
 ) -> Result<List<i128>, Memory> {
     if !has_artificial(scout, lines, values) {

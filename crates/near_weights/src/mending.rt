@@ -1,4 +1,4 @@
-use crate::table::{Line, Table, Weighted};
+use crate::table::{RowBalance, Table, Weighted};
 
 /// The most passes over the rows; the last one lowers.
 const PASSES: u32 = 40;
@@ -66,7 +66,7 @@ fn is_among(rows: &[u32], row: usize) -> bool {
 }
 
 /// Whether a step in the row with this number harms it.
-fn is_harmed(lines: &[Line], row: u32, is_raising: bool, amount: i128) -> bool {
+fn is_harmed(lines: &[RowBalance], row: u32, is_raising: bool, amount: i128) -> bool {
     match lines.get(row as usize) {
         Some(line) => line.is_harmed(is_raising, amount),
         None => false,
@@ -74,7 +74,7 @@ fn is_harmed(lines: &[Line], row: u32, is_raising: bool, amount: i128) -> bool {
 }
 
 /// Returns how many of these rows a step harms.
-fn harm_of(lines: &[Line], rows: &[u32], is_raising: bool, amount: i128) -> u32 {
+fn harm_of(lines: &[RowBalance], rows: &[u32], is_raising: bool, amount: i128) -> u32 {
     let mut harm = 0u32;
     for row in rows {
         if is_harmed(lines, *row, is_raising, amount) {

@@ -23,7 +23,7 @@ pub(crate) enum Bound {
 
 /// A row, and what the trees bring to it.
 #[derive(Clone, Copy, Drop)]
-pub(crate) struct Line {
+pub(crate) struct RowBalance {
     pub(crate) bound: Bound,
     /// Its right side, in the units of weights.
     pub(crate) right: i128,
@@ -33,7 +33,7 @@ pub(crate) struct Line {
     pub(crate) missing: i64,
 }
 
-impl Line {
+impl RowBalance {
     /// Returns what it lacks in a raising pass, or has too much in another one.
     pub(crate) fn off(&self, is_raising: bool) -> i128 {
         if is_raising {
@@ -83,7 +83,7 @@ pub(crate) fn lines_of(
     instance: &Instance,
     cuts: &[Cut],
     rows: &NodeRows,
-) -> Result<Vec<Line>, Memory>
+) -> Result<Vec<RowBalance>, Memory>
     requires sound { IsSoundInstance instance.now }
     requires rows { AreRows instance.now cuts.now rows.now }
 {
@@ -94,7 +94,7 @@ pub(crate) fn lines_of(
     };
     for row in 0..right.len() {
         let missing = rows.missing_cost(row, artificial);
-        let line = Line {
+        let line = RowBalance {
             bound: bound_of(missing, rows.beyond_cost(row), artificial),
             right: i128::from(right[row]).saturating_mul(ONE),
             sum: 0,
@@ -123,7 +123,7 @@ pub(crate) struct Weighted {
 /// The trees of a basis with their weights, in the rows that have to be mended.
 #[derive(Drop)]
 pub(crate) struct Table {
-    pub(crate) lines: Vec<Line>,
+    pub(crate) lines: Vec<RowBalance>,
     pub(crate) trees: Vec<Weighted>,
     /// The rows of all trees, one tree after another, without those that are met about.
     rows: Vec<u32>,
@@ -138,14 +138,14 @@ fn rows_between(rows: &[u32], first: usize, end: usize) -> &[u32] {
 }
 
 /// Adds to the sum of a row.
-fn add_at(lines: &mut [Line], row: u32, amount: i128) {
+fn add_at(lines: &mut [RowBalance], row: u32, amount: i128) {
     if let Some(line) = lines.get_mut(row as usize) {
         line.sum = line.sum.saturating_add(amount);
     }
 }
 
 /// Whether a row has to be mended where it is off its right side.
-fn is_bound(lines: &[Line], row: u32) -> bool {
+fn is_bound(lines: &[RowBalance], row: u32) -> bool {
     match lines.get(row as usize) {
         Some(line) => line.bound != Bound::About,
         None => false,
@@ -154,7 +154,7 @@ fn is_bound(lines: &[Line], row: u32) -> bool {
 
 impl Table {
     /// Returns the rows without a tree.
-    pub(crate) fn new(alloc: Global, lines: Vec<Line>) -> Table {
+    pub(crate) fn new(alloc: Global, lines: Vec<RowBalance>) -> Table {
         Table {
             lines,
             trees: Vec::new(alloc),
@@ -233,7 +233,7 @@ pub(crate) struct Basis<'a> {
 /// `Memory` where memory runs out; nothing is kept then.
 pub(crate) fn table_of(
     alloc: Global,
-    lines: Vec<Line>,
+    lines: Vec<RowBalance>,
     cuts: &[Cut],
     rows: &NodeRows,
     pool: &Pool,

@@ -15,7 +15,7 @@ use Rattle.tree_pool.specs.Pools.{PoolTree, IsPool, IsGrown, IsPoolTree}
 use Rattle.node_columns.specs.declared.desk.Kind.{Kind}
 use Rattle.node_columns.specs.declared.desk.Kind.TheVariants.{Missing, Beyond, OfTree}
 use Rattle.node_columns.specs.declared.desk.Held.{Held}
-use Rattle.node_columns.specs.declared.desk.Desk.{Desk}
+use Rattle.node_columns.specs.declared.desk.ColumnDesk.{ColumnDesk}
 use Rattle.node_columns.specs.Columns.{IsKey, Tells, IsHeld, AreHeld, IsDesk, HasKey, HasMore}
 
 -- ---- trees
@@ -103,7 +103,7 @@ pub wanted_push : (wanted : List ℕ) (held : List Held) (h : Held) → All (λ 
 wanted_push wanted held h all = λ k d l. let x = all k d l in let e = length-append held (h ∷ []) in omega arith
 
 -- a desk whose rooms are as large, with other listed columns and a pool that has grown
-pub desk_after : (i : Instance) (cuts : List Cut) (old new : List PoolTree) (d e : Desk) → IsDesk i cuts old d → AreHeld i cuts new e.held
+pub desk_after : (i : Instance) (cuts : List Cut) (old new : List PoolTree) (d e : ColumnDesk) → IsDesk i cuts old d → AreHeld i cuts new e.held
     → All (λ (j : ℕ). j < length e.held) e.wanted → IsRoomFor e.prices i → e.prices.most ≡ d.prices.most → e.tree.most ≡ d.tree.most
     → length e.numbers.items ≡ length d.numbers.items → IsDesk i cuts new e
 desk_after i cuts old new d e is held wanted room most limit numbers = record {

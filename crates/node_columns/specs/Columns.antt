@@ -21,7 +21,7 @@ use Rattle.tree_pool.specs.Pools.{PoolTree, IsPool, IsGrown, IsPoolTree}
 use Rattle.node_columns.specs.declared.desk.Kind.{Kind}
 use Rattle.node_columns.specs.declared.desk.Kind.TheVariants.{Missing, Beyond, OfTree}
 use Rattle.node_columns.specs.declared.desk.Held.{Held}
-use Rattle.node_columns.specs.declared.desk.Desk.{Desk}
+use Rattle.node_columns.specs.declared.desk.ColumnDesk.{ColumnDesk}
 use Rattle.roster_model.specs.Limits.{IsSmallCut}
 
 -- whose master it is, and the names of what is lent
@@ -42,7 +42,7 @@ pub record NodeState : Type 0 where
   pub rows : NodeRows
   pub pricer : PricerView
   pub pool : List PoolTree
-  pub desk : Desk
+  pub desk : ColumnDesk
 
 -- the column of a kind has the key
 abbrev pub IsKey : Grammar → List PoolTree → Kind → MasterKey → Type 0
@@ -82,7 +82,7 @@ pub record AreHeld (i : Instance) (cuts : List Cut) (pool : List PoolTree) (held
   pub beyonds : HasBeyonds i cuts (length (rows_of i cuts)) held
 
 -- the desk is that of a node
-pub record IsDesk (i : Instance) (cuts : List Cut) (pool : List PoolTree) (desk : Desk) : Type 0 where
+pub record IsDesk (i : Instance) (cuts : List Cut) (pool : List PoolTree) (desk : ColumnDesk) : Type 0 where
   pub held : AreHeld i cuts pool desk.held
   pub wanted : All (λ (j : ℕ). j < length desk.held) desk.wanted
   pub prices : IsRoomFor desk.prices i
@@ -91,7 +91,7 @@ pub record IsDesk (i : Instance) (cuts : List Cut) (pool : List PoolTree) (desk 
   pub numbers : length desk.numbers.items ≡ length i.cells + 2 + length cuts
 
 -- the desk is that of a node, with no column listed
-pub record IsEmptyDesk (i : Instance) (cuts : List Cut) (desk : Desk) : Type 0 where
+pub record IsEmptyDesk (i : Instance) (cuts : List Cut) (desk : ColumnDesk) : Type 0 where
   pub held : desk.held ≡ []
   pub wanted : desk.wanted ≡ []
   pub prices : IsRoomFor desk.prices i
@@ -132,7 +132,7 @@ pub record IsKept (old new : NodeState) : Type 0 where
   pub pool : IsGrown old.pool new.pool
   pub lists : (j : ℕ) (k : MasterKey) → Lists old j k → Lists new j k
 
-abbrev pub state_of : Instance → List Cut → GraphView → NodeRows → PricerView → List PoolTree → Desk
+abbrev pub state_of : Instance → List Cut → GraphView → NodeRows → PricerView → List PoolTree → ColumnDesk
     → NodeState
 state_of i cuts g rows p pool desk =
     record { instance = i; cuts = cuts; graph = g; rows = rows; pricer = p; pool = pool; desk = desk }

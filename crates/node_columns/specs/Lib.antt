@@ -1,4 +1,6 @@
 pub mod Columns
 pub mod Kept
+pub mod Listing
 pub mod Priced
+pub mod Tools
 pub mod Weights

@@ -1,5 +1,5 @@
 -- Reduced costs of listed columns and of trees.
-use Rattle.std.specs.Prelude.{ℕ, ℤ, pos, ◌≡◌, ◌≤◌, ◌^◌, ◌+◌, ◌*ℤ◌, ◌+ℤ◌, ◌-ℤ◌, ◌≤ℤ◌, ◌<ℤ◌, List, All, unsigned_abs}
+use Rattle.std.specs.Prelude.{ℕ, ℤ, pos, ◌≡◌, ◌≤◌, ◌^◌, ◌+◌, ◌*ℤ◌, ◌+ℤ◌, ◌-ℤ◌, ◌≤ℤ◌, ◌<ℤ◌, Some, List, All, slice_get, unsigned_abs}
 use Rattle.roster_model.specs.declared.instance.Cut.{Cut}
 use Rattle.roster_model.specs.declared.instance.Instance.{Instance}
 use Rattle.roster_model.specs.Folds.{sum_z}
@@ -33,6 +33,19 @@ places_worth y ps = sum_z (λ (p : Place). at y p.row *ℤ p.value) ps
 -- kappa times the reduced cost of a listed column
 abbrev pub listed_reduced : List ℤ → ℤ → Held → ℤ
 listed_reduced y kappa h = kappa *ℤ h.cost -ℤ places_worth y h.places
+
+-- each listed column is plain
+abbrev pub ArePlain : ℕ → List Held → Type 0
+ArePlain rows held = (j : ℕ) (h : Held) → slice_get held j ≡ Some h → IsPlain rows h
+
+-- the listed column has a negative reduced cost
+abbrev pub IsCheaper : List ℤ → ℤ → List Held → ℕ → Type 0
+IsCheaper y kappa held j = (h : Held) × (slice_get held j ≡ Some h) × (listed_reduced y kappa h <ℤ pos 0)
+
+-- no listed column has one
+abbrev pub AreNoneCheaper : List ℤ → ℤ → List Held → Type 0
+AreNoneCheaper y kappa held = (j : ℕ) (h : Held) → slice_get held j ≡ Some h
+    → pos 0 ≤ℤ listed_reduced y kappa h
 
 -- the prices of the two rows of the heads
 abbrev pub heads_price : Instance → List ℤ → ℤ

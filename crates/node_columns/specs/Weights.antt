@@ -8,9 +8,11 @@ use Rattle.fraction.specs.declared.frac.Frac.{Frac}
 use Rattle.master_laws.specs.Master.{MasterKey, tree}
 use Rattle.master_laws.specs.Ends.{tree_first, tree_weights}
 use Rattle.tableau.specs.declared.simplex.Basic.{Basic}
-use Rattle.tableau.specs.Ends.{AreBasicWeights}
+use Rattle.tableau.specs.Ends.{IsBasicWeight, AreBasicWeights}
 use Rattle.tree_pool.specs.Pools.{PoolTree, IsPoolTree}
+use Rattle.node_columns.specs.declared.desk.Held.{Held}
 use Rattle.node_columns.specs.declared.weights.Weight.{Weight}
+use Rattle.node_columns.specs.Columns.{HasKey}
 
 -- the fraction is n / d
 abbrev pub IsShare : Frac → ℕ → ℕ → Type 0
@@ -60,3 +62,18 @@ pub record IsTaken (g : Grammar) (columns : List PoolTree) (d : ℕ) (x : Weight
     (w : Weighted MasterKey) : Type 0 where
   pub first : (ws : List (Weighted MasterKey)) → tree_first w.key w.weight ws ≡ w ∷ ws
   pub is : IsWeight g columns d x w
+
+-- what the basic column has for a weight is left out, whatever the pool
+abbrev pub TellsLeftOut : List Held → Basic → Type 0
+TellsLeftOut held basic = (g : Grammar) (trees : List PoolTree) (d : ℕ) (w : Weighted MasterKey) → 0 < d
+    → IsBasicWeight (HasKey g trees held) d basic w → IsLeftOut w
+
+-- it is taken as this weight
+abbrev pub TellsTaken : List Held → Basic → Weight → Type 0
+TellsTaken held basic x = (g : Grammar) (trees : List PoolTree) (d : ℕ) (w : Weighted MasterKey) → 0 < d
+    → IsBasicWeight (HasKey g trees held) d basic w → IsTaken g trees d x w
+
+-- the weights are those of the listed trees among basic columns, whatever the pool
+abbrev pub AreWeightsOf : List Held → List Basic → List Weight → Type 0
+AreWeightsOf held basic weights = (g : Grammar) (trees : List PoolTree)
+    → AreTreeWeights g (HasKey g trees held) trees basic weights

@@ -1,12 +1,11 @@
-use crate::desk::Desk;
+use crate::desk::ColumnDesk;
 use crate::listed::{check_narrow, find_cheaper};
 use crate::trees::list_cheapest;
 use cheapest_tree::Pricer;
 use fraction::Tally;
-use master_rows::NodeRows;
-use parse_graph::Graph;
+use node_task::NodeTask;
 use pivot_rows::Place;
-use roster_model::{Cut, Instance, Memory};
+use roster_model::Memory;
 use std::alloc::Global;
 use tableau::{Columns, ColumnsFault};
 use tree_pool::Pool;
@@ -14,26 +13,20 @@ use tree_pool::Pool;
 /// The columns of a node's master: all that it is made of is lent. After want of memory the listed
 /// columns are as before, and the pool may have grown.
 #[derive(Drop)]
-pub struct NodeColumns<'i, 'g, 'c, 'r, 'p, 'q, 'd> {
+pub struct NodeColumns<'t, 'n, 'p, 'q, 'd> {
     /// Where memory is taken.
     pub alloc: Global,
-    /// The day.
-    pub instance: &'i Instance,
-    /// The graph of its parses.
-    pub graph: &'g Graph,
-    /// The node's path of cuts, base cuts first.
-    pub cuts: &'c [Cut],
-    /// The rows of its master, 1,500 at most.
-    pub rows: &'r NodeRows,
+    /// The node, its cuts with the base cuts first.
+    pub task: &'t NodeTask<'n>,
     /// A pricer made for the graph.
     pub pricer: &'p mut Pricer,
     /// The trees that were found, which gets each one that is listed.
     pub pool: &'q mut Pool,
     /// The listed columns.
-    pub desk: &'d mut Desk,
+    pub desk: &'d mut ColumnDesk,
 }
 
-impl<'i, 'g, 'c, 'r, 'p, 'q, 'd> Columns for NodeColumns<'i, 'g, 'c, 'r, 'p, 'q, 'd> {
+impl<'t, 'n, 'p, 'q, 'd> Columns for NodeColumns<'t, 'n, 'p, 'q, 'd> {
     ghost use Rattle.std.specs.Prelude.{length};
     ghost use Rattle.master_laws.specs.Master.{MasterKey};
     ghost use Rattle.node_columns.specs.Columns.{NodeSite, NodeState, site_program, Lists, IsReady, IsKept};
@@ -44,8 +37,8 @@ impl<'i, 'g, 'c, 'r, 'p, 'q, 'd> Columns for NodeColumns<'i, 'g, 'c, 'r, 'p, 'q,
     ghost Site = { NodeSite };
 
     ghost site = { λ s. record {
-      instance = s.instance.now;
-      cuts = s.cuts.now;
+      instance = s.task.now.day.instance.now;
+      cuts = s.task.now.cuts.now;
       pricer = s.pricer.ghost_name;
       pool = s.pool.ghost_name;
     } };
@@ -55,10 +48,10 @@ impl<'i, 'g, 'c, 'r, 'p, 'q, 'd> Columns for NodeColumns<'i, 'g, 'c, 'r, 'p, 'q,
     ghost State = { NodeState };
 
     ghost state = { λ s. record {
-      instance = s.instance.now;
-      cuts = s.cuts.now;
-      graph = s.graph.now;
-      rows = s.rows.now;
+      instance = s.task.now.day.instance.now;
+      cuts = s.task.now.cuts.now;
+      graph = s.task.now.day.graph.now;
+      rows = s.task.now.rows.now;
       pricer = s.pricer.now;
       pool = s.pool.now;
       desk = s.desk.now;
@@ -80,7 +73,7 @@ impl<'i, 'g, 'c, 'r, 'p, 'q, 'd> Columns for NodeColumns<'i, 'g, 'c, 'r, 'p, 'q,
 
     /// Returns how many rows there are.
     fn rows(&self) -> usize {
-        self.rows.right().len()
+        self.task.rows.right().len()
     }
 
     /// Returns how many columns are listed.
@@ -119,15 +112,12 @@ impl<'i, 'g, 'c, 'r, 'p, 'q, 'd> Columns for NodeColumns<'i, 'g, 'c, 'r, 'p, 'q,
         }
         match list_cheapest(
             self.alloc,
-            self.instance,
-            self.cuts,
-            self.graph,
-            self.rows,
+            self.task,
             y,
+            kappa,
             self.pricer,
             self.pool,
             self.desk,
-            kappa,
         ) {
             Ok(found) => Ok(found),
             Err(Memory) => Err(ColumnsFault::Memory),

@@ -26,7 +26,7 @@ pub struct Held {
 /// What a node's program needs beside what it is lent: the listed columns, those that are wanted in a
 /// solution, and room for prices, for a tree and for the rows' prices by cells and cuts.
 #[derive(Drop)]
-pub struct Desk {
+pub struct ColumnDesk {
     /// The listed columns, which keep their numbers: the rows' own first.
     pub held: List<Held>,
     /// The numbers of those that are wanted, the most wanted first.

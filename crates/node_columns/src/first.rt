@@ -1,18 +1,16 @@
-ghost use Rattle.std.specs.Prelude.{ℕ, ◌≡◌, ◌≤◌, ◌<◌, ◌+◌, ◌^◌, pos, [], ◌∷◌, All, List as Items, length, IfOk};
-ghost use Rattle.roster_model.specs.declared.instance.Cut.{Cut as PathCut};
-ghost use Rattle.roster_model.specs.declared.instance.Instance.{Instance as Day};
-ghost use Rattle.roster_model.specs.PriceRooms.{IsRoomFor};
-ghost use Rattle.roster_model.specs.Room.{most_uses};
+ghost use Rattle.std.specs.Prelude.{ℕ, ◌≡◌, ◌≤◌, ◌<◌, ◌+◌, ◌^◌, pos, [], ◌∷◌, All, length, IfOk};
 ghost use Rattle.roster_model.specs.SoundInstance.{IsSoundInstance};
 ghost use Rattle.bound_laws.specs.BestPrices.{artificial_cost};
 ghost use Rattle.master_laws.specs.Rows.{rows_of};
-ghost use Rattle.master_rows.specs.NodeRows.{AreRows};
-ghost use Rattle.tree_pool.specs.Pools.{PoolTree, IsPool};
-ghost use Rattle.node_columns.specs.Columns.{AreTold, HasMissing, HasBeyonds, HasMore, AreHeld, IsDesk, IsEmptyDesk};
+ghost use Rattle.tree_pool.specs.Pools.{IsPool};
+ghost use Rattle.node_task.specs.Tasks.{IsTask};
+ghost use Rattle.node_columns.specs.Columns.{HasMore, AreHeld, IsDesk, IsEmptyDesk};
+ghost use Rattle.node_columns.specs.Listing.{AreMissing, HaveBeyonds, StayTold};
 
-use crate::desk::{Desk, Held, Kind};
+use crate::desk::{ColumnDesk, Held, Kind};
 use crate::trees::tree_column;
-use master_rows::{NodeRows, artificial_price};
+use master_rows::artificial_price;
+use node_task::NodeTask;
 use pivot_rows::Place;
 use roster_model::{Cut, Instance, List, Memory, PriceRoom, TreeRoom};
 use std::alloc::Global;
@@ -34,39 +32,33 @@ fn one_place(alloc: Global, row: usize, value: i64) -> Result<List<Place>, Memor
 /// Lists the column of what is missing in each row, in the order of the rows.
 fn add_missing(
     alloc: Global,
-    rows: &NodeRows,
+    task: &NodeTask,
     artificial: i64,
     held: &mut List<Held>,
 ) -> Result<(), Memory>
-    requires rows { (i : Day) × (cuts : Items PathCut) × AreRows i cuts rows.now
-        × (length (rows_of i cuts) ≤ 1500)
-        × (artificial ≡ pos (artificial_cost i)) }
+    requires task { IsTask task.now }
+    requires artificial { artificial ≡ pos (artificial_cost task.now.day.instance.now) }
     requires none { held.old ≡ [] }
-    ensures { IfOk result (λ _. (i : Day) (cuts : Items PathCut) → AreRows i cuts rows.now →
-        artificial ≡ pos (artificial_cost i) → (pool : Items PoolTree) →
-        AreTold i cuts pool held.new × HasMissing (length (rows_of i cuts)) held.new) }
+    ensures { IfOk result (λ _. AreMissing task.now held.new) }
 {
-    for row in 0..rows.right().len() {
+    for row in 0..task.rows.right().len() {
         held.push(Held {
             kind: Kind::Missing(row),
             places: one_place(alloc, row, 1)?,
-            cost: rows.missing_cost(row, artificial),
+            cost: task.rows.missing_cost(row, artificial),
         })?;
     }
     Ok(())
 }
 
 /// Lists the column of what is beyond in each row that has one.
-fn add_beyond(alloc: Global, rows: &NodeRows, held: &mut List<Held>) -> Result<(), Memory>
-    requires rows { (i : Day) × (cuts : Items PathCut) × AreRows i cuts rows.now
-        × (length (rows_of i cuts) ≤ 1500) }
+fn add_beyond(alloc: Global, task: &NodeTask, held: &mut List<Held>) -> Result<(), Memory>
+    requires { IsTask task.now }
     ensures more { HasMore held.old held.new }
-    ensures listed { IfOk result (λ _. (i : Day) (cuts : Items PathCut) → AreRows i cuts rows.now →
-        (pool : Items PoolTree) → AreTold i cuts pool held.old →
-        AreTold i cuts pool held.new × HasBeyonds i cuts (length (rows_of i cuts)) held.new) }
+    ensures listed { IfOk result (λ _. HaveBeyonds task.now held.old held.new) }
 {
-    for row in 0..rows.right().len() {
-        if let Some(cost) = rows.beyond_cost(row) {
+    for row in 0..task.rows.right().len() {
+        if let Some(cost) = task.rows.beyond_cost(row) {
             held.push(Held {
                 kind: Kind::Beyond(row),
                 places: one_place(alloc, row, -1)?,
@@ -80,8 +72,7 @@ fn add_beyond(alloc: Global, rows: &NodeRows, held: &mut List<Held>) -> Result<(
 /// Lists a tree of the pool, and lists it as wanted.
 fn add_tree(
     alloc: Global,
-    cuts: &[Cut],
-    rows: &NodeRows,
+    task: &NodeTask,
     pool: &Pool,
     tree: usize,
     held: &mut List<Held>,
@@ -91,11 +82,10 @@ fn add_tree(
     requires wanted { All (λ (j : ℕ). j < length held.old) wanted.old }
     ensures more { HasMore held.old held.new }
     ensures wanted { IfOk result (λ _. All (λ (j : ℕ). j < length held.new) wanted.new) }
-    ensures listed { IfOk result (λ _. (i : Day) → AreRows i cuts.now rows.now → IsPool i.grammar pool.now →
-        AreTold i cuts.now pool.now held.old → AreTold i cuts.now pool.now held.new) }
+    ensures listed { IfOk result (λ _. StayTold task.now pool.now held.old held.new) }
 {
     let column = held.len();
-    held.push(tree_column(alloc, cuts, rows, pool, tree)?)?;
+    held.push(tree_column(alloc, task, pool, tree)?)?;
     if let Ok(number) = u32::try_from(column) {
         wanted.push(number)?;
     }
@@ -105,8 +95,7 @@ fn add_tree(
 /// Lists trees of the pool, and lists them as wanted; numbers beyond the pool are left out.
 fn add_trees(
     alloc: Global,
-    cuts: &[Cut],
-    rows: &NodeRows,
+    task: &NodeTask,
     pool: &Pool,
     trees: &[usize],
     held: &mut List<Held>,
@@ -115,12 +104,11 @@ fn add_trees(
     requires wanted { All (λ (j : ℕ). j < length held.old) wanted.old }
     ensures more { HasMore held.old held.new }
     ensures wanted { IfOk result (λ _. All (λ (j : ℕ). j < length held.new) wanted.new) }
-    ensures listed { IfOk result (λ _. (i : Day) → AreRows i cuts.now rows.now → IsPool i.grammar pool.now →
-        AreTold i cuts.now pool.now held.old → AreTold i cuts.now pool.now held.new) }
+    ensures listed { IfOk result (λ _. StayTold task.now pool.now held.old held.new) }
 {
     for tree in trees {
         if *tree < pool.len() {
-            add_tree(alloc, cuts, rows, pool, *tree, held, wanted)?;
+            add_tree(alloc, task, pool, *tree, held, wanted)?;
         }
     }
     Ok(())
@@ -129,26 +117,22 @@ fn add_trees(
 /// Lists the rows' own columns, and then the wanted trees of the pool.
 fn list_columns(
     alloc: Global,
-    instance: &Instance,
-    cuts: &[Cut],
-    rows: &NodeRows,
+    task: &NodeTask,
     pool: &Pool,
     trees: &[usize],
     held: &mut List<Held>,
     wanted: &mut List<u32>,
 ) -> Result<(), Memory>
-    requires sound { IsSoundInstance instance.now }
-    requires rows { AreRows instance.now cuts.now rows.now }
-    requires small { length (rows_of instance.now cuts.now) ≤ 1500 }
-    requires pool { IsPool instance.now.grammar pool.now }
+    requires task { IsTask task.now }
+    requires pool { IsPool task.now.day.instance.now.grammar pool.now }
     requires none { held.old ≡ [] }
     requires unwanted { wanted.old ≡ [] }
-    ensures held { IfOk result (λ _. AreHeld instance.now cuts.now pool.now held.new) }
+    ensures held { IfOk result (λ _. AreHeld task.now.day.instance.now task.now.cuts.now pool.now held.new) }
     ensures wanted { IfOk result (λ _. All (λ (j : ℕ). j < length held.new) wanted.new) }
 {
-    add_missing(alloc, rows, artificial_price(instance), held)?;
-    add_beyond(alloc, rows, held)?;
-    add_trees(alloc, cuts, rows, pool, trees, held, wanted)?;
+    add_missing(alloc, task, artificial_price(task.day.instance), held)?;
+    add_beyond(alloc, task, held)?;
+    add_trees(alloc, task, pool, trees, held, wanted)?;
     Ok(())
 }
 
@@ -163,19 +147,19 @@ pub fn numbers_of(instance: &Instance, cuts: &[Cut]) -> usize
 }
 
 /// Returns a desk for the node at a path of cuts, at which no column is listed.
-fn empty_desk(alloc: Global, instance: &Instance, cuts: &[Cut]) -> Result<Desk, Memory>
-    requires sound { IsSoundInstance instance.now }
-    requires small { length (rows_of instance.now cuts.now) ≤ 1500 }
-    ensures { IfOk result (IsEmptyDesk instance.now cuts.now) }
+fn empty_desk(alloc: Global, task: &NodeTask) -> Result<ColumnDesk, Memory>
+    requires { IsTask task.now }
+    ensures { IfOk result (IsEmptyDesk task.now.day.instance.now task.now.cuts.now) }
 {
-    let count = numbers_of(instance, cuts);
+    let instance = task.day.instance;
+    let count = numbers_of(instance, task.cuts);
     let Ok(numbers) = vec![in alloc; 0i128; count] else {
         return Err(Memory);
     };
-    Ok(Desk {
+    Ok(ColumnDesk {
         held: List::new(alloc),
         wanted: List::new(alloc),
-        prices: PriceRoom::for_cuts(alloc, instance, cuts.len())?,
+        prices: PriceRoom::for_cuts(alloc, instance, task.cuts.len())?,
         tree: TreeRoom::for_grammar(alloc, &instance.grammar)?,
         numbers,
     })
@@ -189,28 +173,15 @@ fn empty_desk(alloc: Global, instance: &Instance, cuts: &[Cut]) -> Result<Desk, 
 /// `Memory` where memory runs out; nothing is kept then.
 pub fn desk_of(
     alloc: Global,
-    instance: &Instance,
-    cuts: &[Cut],
-    rows: &NodeRows,
+    task: &NodeTask,
     pool: &Pool,
     trees: &[usize],
-) -> Result<Desk, Memory>
-    requires sound { IsSoundInstance instance.now }
-    requires rows { AreRows instance.now cuts.now rows.now }
-    requires small { length (rows_of instance.now cuts.now) ≤ 1500 }
-    requires pool { IsPool instance.now.grammar pool.now }
-    ensures { IfOk result (IsDesk instance.now cuts.now pool.now) }
+) -> Result<ColumnDesk, Memory>
+    requires task { IsTask task.now }
+    requires pool { IsPool task.now.day.instance.now.grammar pool.now }
+    ensures { IfOk result (IsDesk task.now.day.instance.now task.now.cuts.now pool.now) }
 {
-    let mut desk = empty_desk(alloc, instance, cuts)?;
-    list_columns(
-        alloc,
-        instance,
-        cuts,
-        rows,
-        pool,
-        trees,
-        &mut desk.held,
-        &mut desk.wanted,
-    )?;
+    let mut desk = empty_desk(alloc, task)?;
+    list_columns(alloc, task, pool, trees, &mut desk.held, &mut desk.wanted)?;
     Ok(desk)
 }

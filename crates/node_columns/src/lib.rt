@@ -10,7 +10,7 @@ mod trees;
 mod weights;
 
 pub use columns::NodeColumns;
-pub use desk::{Desk, Held, Kind};
+pub use desk::{ColumnDesk, Held, Kind};
 pub use first::{desk_of, numbers_of};
 pub use listed::first_wide;
 pub use trees::list_cheapest;

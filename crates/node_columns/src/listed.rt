@@ -1,10 +1,9 @@
-ghost use Rattle.std.specs.Prelude.{ℕ, ◌≡◌, ◌≤◌, ◌<◌, ◌^◌, pos, ◌*ℤ◌, ◌≤ℤ◌, ◌<ℤ◌, Some, length, slice_get, unsigned_abs, ℤ, All, IfOk, IfErr, IfSome, IfNone};
+ghost use Rattle.std.specs.Prelude.{◌≡◌, ◌≤◌, ◌<◌, ◌^◌, pos, ◌*ℤ◌, ◌≤ℤ◌, ◌<ℤ◌, length, unsigned_abs, ℤ, All, IfOk, IfErr, IfSome, IfNone};
 ghost use Rattle.roster_model.specs.Sums.{Within};
 ghost use Rattle.fraction.specs.Row.{at};
 ghost use Rattle.tableau.specs.Refused.{AreWidePrices};
 ghost use Rattle.tableau.specs.Risen.{HasRisen};
-ghost use Rattle.node_columns.specs.declared.desk.Held.{Held as Listed};
-ghost use Rattle.node_columns.specs.Priced.{AreNarrowPrices, IsPlain, listed_reduced};
+ghost use Rattle.node_columns.specs.Priced.{AreNarrowPrices, IsPlain, ArePlain, listed_reduced, IsCheaper, AreNoneCheaper};
 
 use crate::desk::Held;
 use fraction::{Tally, TooWide, fits};
@@ -56,11 +55,9 @@ fn reduced_cost(held: &Held, y: &[i128], kappa: i128) -> i128
 /// Returns the listed column of the least reduced cost where that is negative, the first of several.
 pub(crate) fn find_cheaper(held: &[Held], y: &[i128], kappa: i128) -> Option<usize>
     requires narrow { AreNarrowPrices y.now kappa }
-    requires plain { (j : ℕ) (h : Listed) → slice_get held.now j ≡ Some h → IsPlain (length y.now) h }
-    ensures some { IfSome result (λ j. (h : Listed) × (slice_get held.now j ≡ Some h)
-        × (listed_reduced y.now kappa h <ℤ pos 0)) }
-    ensures none { IfNone result ((j : ℕ) (h : Listed) → slice_get held.now j ≡ Some h →
-        pos 0 ≤ℤ listed_reduced y.now kappa h) }
+    requires plain { ArePlain (length y.now) held.now }
+    ensures some { IfSome result (IsCheaper y.now kappa held.now) }
+    ensures none { IfNone result (AreNoneCheaper y.now kappa held.now) }
 {
     let mut least = 0i128;
     let mut found = None;

@@ -1,12 +1,6 @@
-ghost use Rattle.std.specs.Prelude.{ℕ, ◌<◌, List as Items, length, All, IfOk, IfSome, IfNone};
-ghost use Rattle.linear_programs.specs.Solution.{Weighted};
-ghost use Rattle.master_laws.specs.Master.{MasterKey};
-ghost use Rattle.tableau.specs.Ends.{IsBasicWeight};
-ghost use Rattle.roster_model.specs.declared.grammar.Grammar.{Grammar as Rules};
+ghost use Rattle.std.specs.Prelude.{◌<◌, length, All, IfOk, IfSome, IfNone};
 ghost use Rattle.tableau.specs.declared.simplex.Basic.{Basic as BasicColumn};
-ghost use Rattle.tree_pool.specs.Pools.{PoolTree};
-ghost use Rattle.node_columns.specs.Columns.{HasKey};
-ghost use Rattle.node_columns.specs.Weights.{AreTreeWeights, IsLeftOut, IsTaken};
+ghost use Rattle.node_columns.specs.Weights.{TellsLeftOut, TellsTaken, AreWeightsOf};
 
 use crate::desk::{Held, Kind};
 use fraction::Frac;
@@ -26,12 +20,8 @@ pub struct Weight {
 /// Returns the weight of a basic column where it is a tree's and above 0.
 fn tree_weight(held: &[Held], basic: &Basic) -> Option<Weight>
     requires { basic.now.col < length held.now }
-    ensures none { IfNone result ((g : Rules) (pool : Items PoolTree) (d : ℕ) (w : Weighted MasterKey)
-        → 0 < d →
-        IsBasicWeight (HasKey g pool held.now) d basic.now w → IsLeftOut w) }
-    ensures some { IfSome result (λ x. (g : Rules) (pool : Items PoolTree) (d : ℕ)
-        (w : Weighted MasterKey) → 0 < d →
-        IsBasicWeight (HasKey g pool held.now) d basic.now w → IsTaken g pool d x w) }
+    ensures none { IfNone result (TellsLeftOut held.now basic.now) }
+    ensures some { IfSome result (TellsTaken held.now basic.now) }
 {
     let Kind::OfTree(tree) = held[basic.col].kind else {
         return None;
@@ -53,8 +43,7 @@ fn tree_weight(held: &[Held], basic: &Basic) -> Option<Weight>
 /// `Memory` where memory runs out; nothing is kept then.
 pub fn tree_weights(alloc: Global, held: &[Held], basic: &[Basic]) -> Result<List<Weight>, Memory>
     requires { All (λ (b : BasicColumn). b.col < length held.now) basic.now }
-    ensures { IfOk result (λ weights. (g : Rules) (pool : Items PoolTree) →
-        AreTreeWeights g (HasKey g pool held.now) pool basic.now weights) }
+    ensures { IfOk result (AreWeightsOf held.now basic.now) }
 {
     let mut weights = List::new(alloc);
     for one in basic {

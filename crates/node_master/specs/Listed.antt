@@ -1,6 +1,7 @@
 -- Trees of a pool that are listed with weights, and these weights as fractions.
-use Rattle.std.specs.Prelude.{ℕ, ◌≡◌, ◌≤◌, ◌+◌, ◌^◌, List, [], ◌∷◌}
+use Rattle.std.specs.Prelude.{ℕ, ◌≡◌, ◌≤◌, ◌<◌, ◌+◌, ◌^◌, All, List, [], ◌∷◌, length}
 use Rattle.near_prices.specs.declared.listed.ListedTree.{ListedTree}
+use Rattle.near_prices.specs.Listed.{IsListed}
 use Rattle.node_columns.specs.declared.weights.Weight.{Weight}
 use Rattle.node_columns.specs.Weights.{IsShare}
 
@@ -8,6 +9,13 @@ use Rattle.node_columns.specs.Weights.{IsShare}
 abbrev pub AscendFrom : ℕ → List ListedTree → Type 0
 AscendFrom n [] = Unit {0}
 AscendFrom n (l ∷ ls) = (n ≤ l.column) × AscendFrom (l.column + 1) ls
+
+-- some of so many trees, not too many, by rising numbers, each with a weight above 0 and at most 64
+pub record MayBeListed (trees : ℕ) (ls : List ListedTree) : Type 0 where
+  pub listed : All (IsListed trees) ls
+  pub weights : All (λ (l : ListedTree). 0 < l.weight) ls
+  pub ascend : AscendFrom 0 ls
+  pub few : length ls ≤ 2 ^ 13
 
 -- the weight of the same tree, over 2^56
 pub record IsShareOf (l : ListedTree) (x : Weight) : Type 0 where

@@ -27,8 +27,8 @@ pub(crate) struct Asked {
     best: Vec<i128>,
     /// That bound.
     bound: Option<i128>,
-    /// A value within so much of the bound ends the hunt, in units of 2^-32; none where nothing short of no cheap
-    /// tree does.
+    /// A value within so much of the bound ends the hunt, in units of 2^-32; none where nothing short of no
+    /// cheap tree does.
     near: Option<i128>,
     /// Whether it was ended so.
     is_early: bool,

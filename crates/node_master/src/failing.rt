@@ -57,17 +57,10 @@ impl FailingMaster {
 }
 
 impl Master for FailingMaster {
-    ghost use Rattle.std.specs.Prelude.{◌≡◌, ◌≤◌, ◌<◌, ◌+◌, ◌-◌, ◌^◌, min, true, false, IfOk, MatchResult, length};
-    ghost use Rattle.roster_model.specs.Folds.{Each};
-    ghost use Rattle.roster_model.specs.SoundInstance.{IsSoundInstance};
-    ghost use Rattle.roster_model.specs.Trees.{Parts, IsDayTree};
-    ghost use Rattle.bound_laws.specs.Infeasible.{IsPlainlyInfeasible};
+    ghost use Rattle.std.specs.Prelude.{◌≡◌, ◌≤◌, ◌+◌, ◌-◌, ◌^◌, min, true, false, IfOk, MatchResult, length};
     ghost use Rattle.master_laws.specs.Rows.{rows_of};
-    ghost use Rattle.parse_graph.specs.Graphs.{IsGraph};
-    ghost use Rattle.cheapest_tree.specs.Pricers.{IsMadeFor};
-    ghost use Rattle.tree_pool.specs.Pools.{IsPool, IsGrown};
-    ghost use Rattle.node_master.specs.Ends.{IsNodeCut};
     ghost use Rattle.node_master.specs.Refusals.{EndsWell, counted, fails_at, failure, is_none_listed};
+    ghost use Rattle.node_master.specs.Tasks.{AreTools, StayTools, IsBusyNode};
 
     ghost refused = { λ m. m.plain.refused };
 
@@ -85,14 +78,8 @@ impl Master for FailingMaster {
         cuts: &[Cut],
         wanted: &[usize],
     ) -> Result<NodeEnd, Memory>
-        requires sound { IsSoundInstance instance.now }
-        requires busy { IsPlainlyInfeasible instance.now → ⊥ }
-        requires graph { IsGraph instance.now.grammar graph.now }
-        requires tree { (t : Parts) × IsDayTree instance.now.grammar t }
-        requires pricer { IsMadeFor graph.now pricer.old }
-        requires pool { IsPool instance.now.grammar pool.old }
-        requires cuts { Each (IsNodeCut instance.now) cuts.now }
-        requires few { length cuts.now < 2 ^ 31 }
+        requires node { IsBusyNode (record { instance = instance; graph = graph }) cuts.now }
+        requires tools { AreTools (record { instance = instance; graph = graph }) pricer.old pool.old }
         ensures same { (self.new.every ≡ self.old.every) × (self.new.calls ≡ self.old.calls) }
         ensures called { self.new.called ≡ min (self.old.called + 1) (2 ^ 32 - 1) }
         ensures fails { fails_at self.old.every self.old.calls.items self.new.called ≡ true
@@ -108,9 +95,8 @@ impl Master for FailingMaster {
         ensures within { self.new.plain.refused ≤ 2 ^ 64 - 1 }
         ensures strict_stays { is_none_listed self.new.every self.new.calls.items
             ≡ is_none_listed self.old.every self.old.calls.items }
-        ensures pricer { IsMadeFor graph.now pricer.new }
-        ensures pool { IsPool instance.now.grammar pool.new }
-        ensures grown { IsGrown pool.old pool.new }
+        ensures tools { StayTools (record { instance = instance.entry; graph = graph.entry })
+            pricer.new pool.old pool.new }
     {
         self.called = self.called.saturating_add(1);
         if count_rows(instance, cuts) <= ROWS && self.fails() {

@@ -1,27 +1,18 @@
-ghost use Rattle.std.specs.Prelude.{◌≡◌, ◌≤◌, length, IfOk};
-ghost use Rattle.roster_model.specs.Folds.{Each};
-ghost use Rattle.roster_model.specs.SoundInstance.{IsSoundInstance};
-ghost use Rattle.roster_model.specs.Trees.{Parts, IsDayTree};
-ghost use Rattle.bound_laws.specs.Infeasible.{IsPlainlyInfeasible};
-ghost use Rattle.parse_graph.specs.Graphs.{IsGraph};
-ghost use Rattle.cheapest_tree.specs.Pricers.{IsMadeFor};
-ghost use Rattle.master_laws.specs.Rows.{rows_of};
-ghost use Rattle.master_rows.specs.NodeRows.{AreRows};
-ghost use Rattle.tree_pool.specs.Pools.{IsPool, IsGrown};
-ghost use Rattle.node_master.specs.Ends.{IsNodeCut, EndsRight};
+ghost use Rattle.std.specs.Prelude.{◌≤◌};
 ghost use Rattle.node_master.specs.Counted.{IsCounted};
+ghost use Rattle.node_master.specs.Tasks.{MaySolve, StayTools, SolvesTask};
 
-use crate::bases::Bases;
 use crate::ends::{Cause, NodeEnd};
+use crate::exact::solve_rows;
 use crate::hint::Hint;
-use crate::hunt::{Ending, hunt};
+use crate::hunt::Ending;
+use crate::hunting::hunt;
 use crate::near::near_end;
-use crate::solve::solve_rows;
+use crate::steering::Steering;
 use cheapest_tree::Pricer;
 use fraction::{Budget, Tally, fits};
-use master_rows::NodeRows;
-use parse_graph::Graph;
-use roster_model::{Cut, Instance, Memory};
+use node_task::NodeTask;
+use roster_model::Memory;
 use std::alloc::Global;
 use tree_pool::Pool;
 
@@ -87,123 +78,67 @@ fn count_end(end: &NodeEnd, tally: &mut Tally)
 /// Asks for near prices, and solves the master exactly where they are not shown to be best.
 fn solve_near_or_exact(
     alloc: Global,
-    instance: &Instance,
-    graph: &Graph,
+    task: &NodeTask,
+    hint: &Hint,
     pricer: &mut Pricer,
     pool: &mut Pool,
-    cuts: &[Cut],
-    rows: &NodeRows,
-    hint: &Hint,
     tally: &mut Tally,
 ) -> Result<NodeEnd, Memory>
-    requires sound { IsSoundInstance instance.now }
-    requires busy { IsPlainlyInfeasible instance.now → ⊥ }
-    requires graph { IsGraph instance.now.grammar graph.now }
-    requires tree { (t : Parts) × IsDayTree instance.now.grammar t }
-    requires pricer { IsMadeFor graph.now pricer.old }
-    requires pool { IsPool instance.now.grammar pool.old }
-    requires cuts { Each (IsNodeCut instance.now) cuts.now }
-    requires rows { AreRows instance.now cuts.now rows.now }
-    requires small { length (rows_of instance.now cuts.now) ≤ 1500 }
-    ensures end { IfOk result (EndsRight instance.now cuts.now pool.new tally.old tally.new) }
-    ensures pricer { IsMadeFor graph.now pricer.new }
-    ensures pool { IsPool instance.now.grammar pool.new }
-    ensures grown { IsGrown pool.old pool.new }
-    ensures counts { (tally.old.wide ≤ tally.new.wide) × (tally.old.spent ≤ tally.new.spent) }
+    requires { MaySolve task.now pricer.old pool.old }
+    ensures end { SolvesTask task.now pool.new tally.old tally.new result }
+    ensures tools { StayTools task.now.day pricer.new pool.old pool.new }
 {
-    let near = near_end(alloc, instance, graph, pricer, pool, cuts, rows, &hint.near)?;
+    let near = near_end(alloc, task, &hint.near, pool, pricer)?;
     match near {
         Some(end) => Ok(end),
-        None => solve_rows(
-            alloc, instance, graph, pricer, pool, cuts, rows, hint, tally,
-        ),
+        None => solve_rows(alloc, task, hint, pricer, pool, tally),
     }
 }
 
-/// Hunts once more at a scout that takes less for 0, asks for near prices, and solves the master exactly where
-/// they are not shown to be best.
-#[tactic(auto, using(crate::proofs::PoolGrowth::grown_chain))]
+/// Hunts once more at a scout that takes less for 0, asks for near prices, and solves the master exactly
+/// where they are not shown to be best.
+#[tactic(auto, using(crate::proofs::PoolGrowth::stay_chain))]
 fn solve_tightly(
     alloc: Global,
-    instance: &Instance,
-    graph: &Graph,
+    task: &NodeTask,
     pricer: &mut Pricer,
     pool: &mut Pool,
-    cuts: &[Cut],
-    rows: &NodeRows,
-    wanted: &[usize],
-    bases: &mut Bases,
+    steering: &mut Steering,
     tally: &mut Tally,
 ) -> Result<NodeEnd, Memory>
-    requires sound { IsSoundInstance instance.now }
-    requires busy { IsPlainlyInfeasible instance.now → ⊥ }
-    requires graph { IsGraph instance.now.grammar graph.now }
-    requires tree { (t : Parts) × IsDayTree instance.now.grammar t }
-    requires pricer { IsMadeFor graph.now pricer.old }
-    requires pool { IsPool instance.now.grammar pool.old }
-    requires cuts { Each (IsNodeCut instance.now) cuts.now }
-    requires rows { AreRows instance.now cuts.now rows.now }
-    requires small { length (rows_of instance.now cuts.now) ≤ 1500 }
-    ensures end { IfOk result (EndsRight instance.now cuts.now pool.new tally.old tally.new) }
-    ensures pricer { IsMadeFor graph.now pricer.new }
-    ensures pool { IsPool instance.now.grammar pool.new }
-    ensures grown { IsGrown pool.old pool.new }
-    ensures counts { (tally.old.wide ≤ tally.new.wide) × (tally.old.spent ≤ tally.new.spent) }
+    requires { MaySolve task.now pricer.old pool.old }
+    ensures end { SolvesTask task.now pool.new tally.old tally.new result }
+    ensures tools { StayTools task.now.day pricer.new pool.old pool.new }
 {
-    let tight = Ending::Tight;
-    let hint = hunt(
-        alloc, instance, graph, pricer, pool, cuts, rows, wanted, tight, bases,
-    )?;
-    solve_near_or_exact(
-        alloc, instance, graph, pricer, pool, cuts, rows, &hint, tally,
-    )
+    let hint = hunt(alloc, task, Ending::Tight, pricer, pool, steering)?;
+    solve_near_or_exact(alloc, task, &hint, pricer, pool, tally)
 }
 
-/// Hunts on until no tree is cheap, and asks for near prices; where they are not shown to be best it goes on at a
-/// scout that takes less for 0.
-#[tactic(auto, using(crate::proofs::PoolGrowth::grown_chain))]
+/// Hunts on until no tree is cheap, and asks for near prices; where they are not shown to be best it goes on
+/// at a scout that takes less for 0.
+#[tactic(auto, using(crate::proofs::PoolGrowth::stay_chain))]
 fn solve_hunted_on(
     alloc: Global,
-    instance: &Instance,
-    graph: &Graph,
+    task: &NodeTask,
     pricer: &mut Pricer,
     pool: &mut Pool,
-    cuts: &[Cut],
-    rows: &NodeRows,
-    wanted: &[usize],
-    bases: &mut Bases,
+    steering: &mut Steering,
     tally: &mut Tally,
 ) -> Result<NodeEnd, Memory>
-    requires sound { IsSoundInstance instance.now }
-    requires busy { IsPlainlyInfeasible instance.now → ⊥ }
-    requires graph { IsGraph instance.now.grammar graph.now }
-    requires tree { (t : Parts) × IsDayTree instance.now.grammar t }
-    requires pricer { IsMadeFor graph.now pricer.old }
-    requires pool { IsPool instance.now.grammar pool.old }
-    requires cuts { Each (IsNodeCut instance.now) cuts.now }
-    requires rows { AreRows instance.now cuts.now rows.now }
-    requires small { length (rows_of instance.now cuts.now) ≤ 1500 }
-    ensures end { IfOk result (EndsRight instance.now cuts.now pool.new tally.old tally.new) }
-    ensures pricer { IsMadeFor graph.now pricer.new }
-    ensures pool { IsPool instance.now.grammar pool.new }
-    ensures grown { IsGrown pool.old pool.new }
-    ensures counts { (tally.old.wide ≤ tally.new.wide) × (tally.old.spent ≤ tally.new.spent) }
+    requires { MaySolve task.now pricer.old pool.old }
+    ensures end { SolvesTask task.now pool.new tally.old tally.new result }
+    ensures tools { StayTools task.now.day pricer.new pool.old pool.new }
 {
-    let whole = Ending::Whole;
-    let hint = hunt(
-        alloc, instance, graph, pricer, pool, cuts, rows, wanted, whole, bases,
-    )?;
-    let near = near_end(alloc, instance, graph, pricer, pool, cuts, rows, &hint.near)?;
+    let hint = hunt(alloc, task, Ending::Whole, pricer, pool, steering)?;
+    let near = near_end(alloc, task, &hint.near, pool, pricer)?;
     match near {
         Some(end) => Ok(end),
-        None => solve_tightly(
-            alloc, instance, graph, pricer, pool, cuts, rows, wanted, bases, tally,
-        ),
+        None => solve_tightly(alloc, task, pricer, pool, steering, tally),
     }
 }
 
-/// Asks for near prices. Where they are not shown to be best, it hunts on first if the hunt ended early, then at
-/// a scout that takes less for 0, and at last it solves the master exactly.
+/// Asks for near prices. Where they are not shown to be best, it hunts on first if the hunt ended early,
+/// then at a scout that takes less for 0, and at last it solves the master exactly.
 ///
 /// # Errors
 ///
@@ -211,41 +146,22 @@ fn solve_hunted_on(
 /// under their numbers, and perhaps further trees of the day.
 pub(crate) fn solve_near_first(
     alloc: Global,
-    instance: &Instance,
-    graph: &Graph,
+    task: &NodeTask,
+    hint: &Hint,
     pricer: &mut Pricer,
     pool: &mut Pool,
-    cuts: &[Cut],
-    rows: &NodeRows,
-    wanted: &[usize],
-    hint: &Hint,
-    bases: &mut Bases,
+    steering: &mut Steering,
     tally: &mut Tally,
 ) -> Result<NodeEnd, Memory>
-    requires sound { IsSoundInstance instance.now }
-    requires busy { IsPlainlyInfeasible instance.now → ⊥ }
-    requires graph { IsGraph instance.now.grammar graph.now }
-    requires tree { (t : Parts) × IsDayTree instance.now.grammar t }
-    requires pricer { IsMadeFor graph.now pricer.old }
-    requires pool { IsPool instance.now.grammar pool.old }
-    requires cuts { Each (IsNodeCut instance.now) cuts.now }
-    requires rows { AreRows instance.now cuts.now rows.now }
-    requires small { length (rows_of instance.now cuts.now) ≤ 1500 }
-    ensures end { IfOk result (EndsRight instance.now cuts.now pool.new tally.old tally.new) }
-    ensures pricer { IsMadeFor graph.now pricer.new }
-    ensures pool { IsPool instance.now.grammar pool.new }
-    ensures grown { IsGrown pool.old pool.new }
-    ensures counts { (tally.old.wide ≤ tally.new.wide) × (tally.old.spent ≤ tally.new.spent) }
+    requires { MaySolve task.now pricer.old pool.old }
+    ensures end { SolvesTask task.now pool.new tally.old tally.new result }
+    ensures tools { StayTools task.now.day pricer.new pool.old pool.new }
 {
-    let near = near_end(alloc, instance, graph, pricer, pool, cuts, rows, &hint.near)?;
+    let near = near_end(alloc, task, &hint.near, pool, pricer)?;
     match near {
         Some(end) => Ok(end),
-        None if hint.is_early => solve_hunted_on(
-            alloc, instance, graph, pricer, pool, cuts, rows, wanted, bases, tally,
-        ),
-        None => solve_tightly(
-            alloc, instance, graph, pricer, pool, cuts, rows, wanted, bases, tally,
-        ),
+        None if hint.is_early => solve_hunted_on(alloc, task, pricer, pool, steering, tally),
+        None => solve_tightly(alloc, task, pricer, pool, steering, tally),
     }
 }
 
@@ -258,36 +174,20 @@ pub(crate) fn solve_near_first(
 /// under their numbers, and perhaps further trees of the day.
 pub(crate) fn solve_exact_first(
     alloc: Global,
-    instance: &Instance,
-    graph: &Graph,
+    task: &NodeTask,
+    hint: &Hint,
     pricer: &mut Pricer,
     pool: &mut Pool,
-    cuts: &[Cut],
-    rows: &NodeRows,
-    hint: &Hint,
     tally: &mut Tally,
 ) -> Result<NodeEnd, Memory>
-    requires sound { IsSoundInstance instance.now }
-    requires busy { IsPlainlyInfeasible instance.now → ⊥ }
-    requires graph { IsGraph instance.now.grammar graph.now }
-    requires tree { (t : Parts) × IsDayTree instance.now.grammar t }
-    requires pricer { IsMadeFor graph.now pricer.old }
-    requires pool { IsPool instance.now.grammar pool.old }
-    requires cuts { Each (IsNodeCut instance.now) cuts.now }
-    requires rows { AreRows instance.now cuts.now rows.now }
-    requires small { length (rows_of instance.now cuts.now) ≤ 1500 }
-    ensures end { IfOk result (EndsRight instance.now cuts.now pool.new tally.old tally.new) }
-    ensures pricer { IsMadeFor graph.now pricer.new }
-    ensures pool { IsPool instance.now.grammar pool.new }
-    ensures grown { IsGrown pool.old pool.new }
-    ensures counts { (tally.old.wide ≤ tally.new.wide) × (tally.old.spent ≤ tally.new.spent) }
+    requires { MaySolve task.now pricer.old pool.old }
+    ensures end { SolvesTask task.now pool.new tally.old tally.new result }
+    ensures tools { StayTools task.now.day pricer.new pool.old pool.new }
 {
     let mut own = Tally::new();
-    let end = solve_rows(
-        alloc, instance, graph, pricer, pool, cuts, rows, hint, &mut own,
-    )?;
+    let end = solve_rows(alloc, task, hint, pricer, pool, &mut own)?;
     if is_failed(&end) {
-        let near = near_end(alloc, instance, graph, pricer, pool, cuts, rows, &hint.near)?;
+        let near = near_end(alloc, task, &hint.near, pool, pricer)?;
         if let Some(near) = near {
             return Ok(near);
         }

@@ -1,18 +1,21 @@
-ghost use Rattle.std.specs.Prelude.{ℕ, ◌≤◌, ◌<◌, All, List as Items, length, IfOk};
+ghost use Rattle.std.specs.Prelude.{ℕ, ◌<◌, All, List as Items, length, IfOk};
 ghost use Rattle.roster_model.specs.declared.instance.Cut.{Cut as PathCut};
-ghost use Rattle.roster_model.specs.declared.instance.Instance.{Instance as Day};
-ghost use Rattle.roster_model.specs.SoundInstance.{IsSoundInstance};
-ghost use Rattle.master_laws.specs.Rows.{rows_of};
-ghost use Rattle.master_rows.specs.NodeRows.{AreRows};
+ghost use Rattle.roster_model.specs.declared.instance.Instance.{Instance as Model};
 ghost use Rattle.tree_pool.specs.Pools.{PoolTree, IsPool};
+ghost use Rattle.node_task.specs.Tasks.{IsTask};
 ghost use Rattle.node_columns.specs.Columns.{IsDesk};
 
-use master_rows::NodeRows;
-use near_weights::NearHint;
-use node_columns::{Desk, desk_of};
-use roster_model::{Cut, Instance, List, Memory};
+use crate::hunt::Hunt;
+use crate::scouting::{basic_own, basic_trees, placed_trees};
+use near_weights::{NearHint, near_hint};
+use node_columns::{ColumnDesk, desk_of};
+use node_task::NodeTask;
+use roster_model::{List, Memory};
 use std::alloc::Global;
 use tree_pool::Pool;
+
+/// How many units of a near price make one of the prices that are asked at.
+const FINE: i128 = 65_536;
 
 /// A basis that may be a good one: its trees of the pool, and the listed columns of rows.
 #[derive(Drop)]
@@ -39,35 +42,86 @@ fn want_listed(wanted: &mut List<u32>, own: &[u32], count: usize) -> Result<(), 
 }
 
 /// Wants columns of rows beside those that are wanted.
-fn want_own(desk: &mut Desk, own: &[u32]) -> Result<(), Memory>
+fn want_own(desk: &mut ColumnDesk, own: &[u32]) -> Result<(), Memory>
     requires { All (λ (j : ℕ). j < length desk.old.held) desk.old.wanted }
-    ensures { IfOk result (λ _. (i : Day) (cuts : Items PathCut) (pool : Items PoolTree)
+    ensures { IfOk result (λ _. (i : Model) (cuts : Items PathCut) (pool : Items PoolTree)
         → IsDesk i cuts pool desk.old → IsDesk i cuts pool desk.new) }
 {
     want_listed(&mut desk.wanted, own, desk.held.len())
 }
 
-/// Returns a desk for the node at a path of cuts, with the rows' own columns and the trees of a basis
-/// listed, and the columns of the basis wanted.
+/// Returns a desk for a node, with the rows' own columns and the trees of a basis listed, and the columns of
+/// the basis wanted.
 ///
 /// # Errors
 ///
 /// `Memory` where memory runs out; nothing is kept then.
 pub(crate) fn hinted_desk(
     alloc: Global,
-    instance: &Instance,
-    cuts: &[Cut],
-    rows: &NodeRows,
-    pool: &Pool,
+    task: &NodeTask,
     hint: &Hint,
-) -> Result<Desk, Memory>
-    requires sound { IsSoundInstance instance.now }
-    requires rows { AreRows instance.now cuts.now rows.now }
-    requires small { length (rows_of instance.now cuts.now) ≤ 1500 }
-    requires pool { IsPool instance.now.grammar pool.now }
-    ensures { IfOk result (IsDesk instance.now cuts.now pool.now) }
+    pool: &Pool,
+) -> Result<ColumnDesk, Memory>
+    requires task { IsTask task.now }
+    requires pool { IsPool task.now.day.instance.now.grammar pool.now }
+    ensures { IfOk result (IsDesk task.now.day.instance.now task.now.cuts.now pool.now) }
 {
-    let mut desk = desk_of(alloc, instance, cuts, rows, pool, hint.trees.as_slice())?;
+    let mut desk = desk_of(alloc, task, pool, hint.trees.as_slice())?;
     want_own(&mut desk, hint.own.as_slice())?;
     Ok(desk)
+}
+
+/// Returns prices in units of 2^-40 that stand in units of 2^-24.
+fn fine_prices(alloc: Global, prices: &[i128]) -> Result<List<i128>, Memory> {
+    let mut fine = List::new(alloc);
+    for price in prices {
+        fine.push(price.saturating_mul(FINE))?;
+    }
+    Ok(fine)
+}
+
+/// Returns what a hunt gives for near prices; where it ended early, with the best prices that were asked at.
+fn near_of(alloc: Global, task: &NodeTask, pool: &Pool, hunt: &Hunt) -> Result<NearHint, Memory>
+    requires { IsTask task.now }
+{
+    let scout = &hunt.scout;
+    let places = placed_trees(alloc, hunt.desk.held.as_slice(), scout)?;
+    let near = near_hint(
+        alloc,
+        task.day.instance,
+        task.cuts,
+        task.rows,
+        pool,
+        places.as_slice(),
+        scout,
+    )?;
+    match hunt.asked.early_prices() {
+        None => Ok(near),
+        Some(best) => Ok(NearHint {
+            listed: near.listed,
+            y: fine_prices(alloc, best)?,
+        }),
+    }
+}
+
+/// Returns the basis of a hunt.
+///
+/// # Errors
+///
+/// `Memory` where memory runs out; nothing is kept then.
+pub(crate) fn hint_of(
+    alloc: Global,
+    task: &NodeTask,
+    pool: &Pool,
+    hunt: &Hunt,
+) -> Result<Hint, Memory>
+    requires { IsTask task.now }
+{
+    let held = hunt.desk.held.as_slice();
+    Ok(Hint {
+        trees: basic_trees(alloc, held, &hunt.scout)?,
+        own: basic_own(alloc, held, &hunt.scout)?,
+        near: near_of(alloc, task, pool, hunt)?,
+        is_early: hunt.asked.early_prices().is_some(),
+    })
 }

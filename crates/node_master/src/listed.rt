@@ -1,8 +1,8 @@
-ghost use Rattle.std.specs.Prelude.{◌≡◌, ◌≤◌, ◌<◌, ◌^◌, All, length, IsTrue, IfOk};
+ghost use Rattle.std.specs.Prelude.{◌≡◌, ◌≤◌, ◌<◌, ◌^◌, All, IsTrue, IfOk};
 ghost use Rattle.near_prices.specs.declared.listed.ListedTree.{ListedTree as Tree};
 ghost use Rattle.near_prices.specs.Listed.{IsListed};
 ghost use Rattle.node_columns.specs.Weights.{IsShare};
-ghost use Rattle.node_master.specs.Listed.{AscendFrom, AreSharesOf};
+ghost use Rattle.node_master.specs.Listed.{AscendFrom, MayBeListed, AreSharesOf};
 
 use fraction::Frac;
 use near_prices::ListedTree;
@@ -51,13 +51,10 @@ fn ascend(listed: &[ListedTree], trees: usize) -> bool
     true
 }
 
-/// Says whether trees with weights may be taken for some of so many: not too many, by rising numbers, each with
-/// a weight above 0 and at most 64.
+/// Says whether trees with weights may be taken for some of so many: not too many, by rising numbers, each
+/// with a weight above 0 and at most 64.
 pub(crate) fn may_be_listed(listed: &[ListedTree], trees: usize) -> bool
-    ensures listed { IsTrue result → All (IsListed trees) listed.now }
-    ensures weights { IsTrue result → All (λ (l : Tree). 0 < l.weight) listed.now }
-    ensures ascend { IsTrue result → AscendFrom 0 listed.now }
-    ensures few { IsTrue result → length listed.now ≤ 2 ^ 13 }
+    ensures { IsTrue result → MayBeListed trees listed.now }
 {
     listed.len() <= MOST_LISTED
         && are_listed(listed, trees)

@@ -1,134 +1,106 @@
-ghost use Rattle.std.specs.Prelude.{◌≡◌, ◌≤◌, ◌<◌, ◌^◌, pos, ◌<ℤ◌, All, List as Items, length, IsTrue, IfOk, IfSome};
-ghost use Rattle.roster_model.specs.declared.instance.Mult.{Mult as Multiplier};
-ghost use Rattle.roster_model.specs.Folds.{Each};
-ghost use Rattle.roster_model.specs.Limits.{IsSmallCut};
+ghost use Rattle.std.specs.Prelude.{◌^◌, List as Items, length, IsTrue, IfOk, IfSome};
 ghost use Rattle.roster_model.specs.PriceLimits.{FitPrices};
-ghost use Rattle.roster_model.specs.SoundInstance.{IsSoundInstance};
 ghost use Rattle.roster_model.specs.Sums.{Within};
 ghost use Rattle.roster_model.specs.Trees.{Parts};
 ghost use Rattle.linear_programs.specs.Solution.{Weighted};
 ghost use Rattle.fraction.specs.Range.{Counts};
 ghost use Rattle.bound_laws.specs.BestPrices.{AreBest};
-ghost use Rattle.bound_laws.specs.Infeasible.{IsPlainlyInfeasible};
 ghost use Rattle.bound_laws.specs.Lagrangian.{IsLeastReduced};
-ghost use Rattle.parse_graph.specs.Graphs.{IsGraph};
 ghost use Rattle.cheapest_tree.specs.Pricers.{IsMadeFor};
-ghost use Rattle.master_laws.specs.Rows.{rows_of};
-ghost use Rattle.master_rows.specs.NodeRows.{AreRows};
 ghost use Rattle.near_laws.specs.Laws.{AreNear};
-ghost use Rattle.near_prices.specs.Listed.{IsListed, AreWeightsOf};
-ghost use Rattle.tree_pool.specs.Pools.{IsPool};
-ghost use Rattle.node_master.specs.Ends.{EndsRight};
+ghost use Rattle.near_prices.specs.Listed.{AreWeightsOf};
+ghost use Rattle.search_day.specs.Days.{IsDay};
+ghost use Rattle.node_master.specs.Listed.{MayBeListed};
+ghost use Rattle.node_master.specs.Tasks.{MaySolve, EndsTask, FitNode};
 
 use crate::ends::NodeEnd;
 use crate::listed::{may_be_listed, weights_of};
 use crate::rounding::near_rounded;
 use cheapest_tree::Pricer;
-use master_rows::NodeRows;
 use near_prices::{ListedTree, Near, near_prices};
 use near_weights::NearHint;
-use parse_graph::Graph;
-use roster_model::{Cut, Instance, Memory, PriceRoom, Prices};
+use node_task::NodeTask;
+use roster_model::{Cut, Memory, PriceRoom, Prices};
+use search_day::Day;
 use std::alloc::Global;
 use tree_pool::Pool;
 
 /// Returns the least reduced cost of a tree of the day.
 fn least_reduced(
     alloc: Global,
-    instance: &Instance,
-    graph: &Graph,
-    pricer: &mut Pricer,
+    day: &Day,
     cuts: &[Cut],
     prices: &Prices,
+    pricer: &mut Pricer,
 ) -> Result<Option<i128>, Memory>
-    requires sound { IsSoundInstance instance.now }
-    requires graph { IsGraph instance.now.grammar graph.now }
-    requires pricer { IsMadeFor graph.now pricer.old }
-    requires fit { FitPrices instance.now prices.now.d prices.now.cell prices.now.mult cuts.now }
-    ensures least { IfOk result (IsLeastReduced instance.now prices.now cuts.now) }
+    requires day { IsDay day.now }
+    requires pricer { IsMadeFor day.now.graph.now pricer.old }
+    requires fit { FitPrices day.now.instance.now prices.now.d prices.now.cell prices.now.mult cuts.now }
+    ensures least { IfOk result (IsLeastReduced day.now.instance.now prices.now cuts.now) }
     ensures within { IfOk result (λ least. IfSome least (Within (2 ^ 110))) }
-    ensures pricer { IsMadeFor graph.now pricer.new }
+    ensures pricer { IsMadeFor day.now.graph.now pricer.new }
 {
     let mult = prices.mult.as_slice();
-    let mut room = PriceRoom::for_cuts(alloc, instance, mult.len())?;
-    room.set_parts(instance, prices.d, prices.cell.as_slice(), mult, cuts);
-    let least = pricer.cheapest(graph, &room);
+    let mut room = PriceRoom::for_cuts(alloc, day.instance, mult.len())?;
+    room.set_parts(day.instance, prices.d, prices.cell.as_slice(), mult, cuts);
+    let least = pricer.cheapest(day.graph, &room);
     Ok(least)
 }
 
 /// Says whether listed trees show that prices are best.
 fn show_best(
     alloc: Global,
-    instance: &Instance,
-    graph: &Graph,
-    pricer: &mut Pricer,
-    pool: &Pool,
-    cuts: &[Cut],
-    rows: &NodeRows,
+    task: &NodeTask,
     listed: &[ListedTree],
     prices: &Prices,
+    pool: &Pool,
+    pricer: &mut Pricer,
 ) -> Result<bool, Memory>
-    requires sound { IsSoundInstance instance.now }
-    requires busy { IsPlainlyInfeasible instance.now → ⊥ }
-    requires graph { IsGraph instance.now.grammar graph.now }
-    requires pricer { IsMadeFor graph.now pricer.old }
-    requires pool { IsPool instance.now.grammar pool.now }
-    requires cuts { Each IsSmallCut cuts.now }
-    requires rows { AreRows instance.now cuts.now rows.now }
-    requires listed { All (IsListed (length pool.now)) listed.now }
-    requires few { length listed.now ≤ 2 ^ 13 }
-    requires fit { FitPrices instance.now prices.now.d prices.now.cell prices.now.mult cuts.now }
-    ensures best { IfOk result (λ b. IsTrue b → AreBest instance.now prices.now cuts.now) }
+    requires may { MaySolve task.now pricer.old pool.now }
+    requires listed { MayBeListed (length pool.now) listed.now }
+    requires fit { FitNode task.now.day.instance.now task.now.cuts.now prices.now }
+    ensures best { IfOk result (λ b. IsTrue b →
+        AreBest task.now.day.instance.now prices.now task.now.cuts.now) }
     ensures near { IfOk result (λ b. IsTrue b → (ws : Items (Weighted Parts)) →
-        AreWeightsOf instance.now.grammar pool.now listed.now ws →
-        AreNear instance.now cuts.now ws (2 ^ 56) prices.now) }
-    ensures pricer { IsMadeFor graph.now pricer.new }
+        AreWeightsOf task.now.day.instance.now.grammar pool.now listed.now ws →
+        AreNear task.now.day.instance.now task.now.cuts.now ws (2 ^ 56) prices.now) }
+    ensures pricer { IsMadeFor task.now.day.graph.now pricer.new }
 {
-    let least = least_reduced(alloc, instance, graph, pricer, cuts, prices)?;
+    let (instance, cuts) = (task.day.instance, task.cuts);
+    let least = least_reduced(alloc, &task.day, cuts, prices, pricer)?;
+    let rows = task.rows;
     match near_prices(alloc, instance, cuts, rows, pool, listed, prices, least)? {
         Near::Best => Ok(true),
         Near::NotShown => Ok(false),
     }
 }
 
-/// Returns the end of a node's master whose prices and weights are those of a hint, rounded, where the weights
-/// show the prices to be best. Any numbers are lawful.
+/// Returns the end of a node's master whose prices and weights are those of a hint, rounded, where the
+/// weights show the prices to be best. Any numbers are lawful.
 ///
 /// # Errors
 ///
 /// `Memory` where memory runs out; the pricer is still one for the graph then.
 pub(crate) fn near_end(
     alloc: Global,
-    instance: &Instance,
-    graph: &Graph,
-    pricer: &mut Pricer,
-    pool: &Pool,
-    cuts: &[Cut],
-    rows: &NodeRows,
+    task: &NodeTask,
     hint: &NearHint,
+    pool: &Pool,
+    pricer: &mut Pricer,
 ) -> Result<Option<NodeEnd>, Memory>
-    requires sound { IsSoundInstance instance.now }
-    requires busy { IsPlainlyInfeasible instance.now → ⊥ }
-    requires graph { IsGraph instance.now.grammar graph.now }
-    requires pricer { IsMadeFor graph.now pricer.old }
-    requires pool { IsPool instance.now.grammar pool.now }
-    requires cuts { Each IsSmallCut cuts.now }
-    requires rows { AreRows instance.now cuts.now rows.now }
-    requires small { length (rows_of instance.now cuts.now) ≤ 1500 }
+    requires { MaySolve task.now pricer.old pool.now }
     ensures end { IfOk result (λ some. IfSome some (λ end. (counts : Counts) →
-        EndsRight instance.now cuts.now pool.now counts counts end)) }
-    ensures pricer { IsMadeFor graph.now pricer.new }
+        EndsTask task.now pool.now counts counts end)) }
+    ensures pricer { IsMadeFor task.now.day.graph.now pricer.new }
 {
     let listed = hint.listed.as_slice();
     if !may_be_listed(listed, pool.len()) {
         return Ok(None);
     }
-    let Some(prices) = near_rounded(alloc, instance, cuts, rows, hint.y.as_slice())? else {
+    let Some(prices) = near_rounded(alloc, task, hint.y.as_slice())? else {
         return Ok(None);
     };
-    let is_shown = show_best(
-        alloc, instance, graph, pricer, pool, cuts, rows, listed, &prices,
-    )?;
+    let is_shown = show_best(alloc, task, listed, &prices, pool, pricer)?;
     if !is_shown {
         return Ok(None);
     }

@@ -8,8 +8,8 @@ use parse_graph::Graph;
 use roster_model::{Cut, Instance, Memory};
 use std::alloc::Global;
 
-/// A master that asks for near prices first at each node, and solves its linear program exactly where they are
-/// not shown to be best; it counts as a plain one. It refuses hard nodes alone.
+/// A master that asks for near prices first at each node, and solves its linear program exactly where they
+/// are not shown to be best; it counts as a plain one. It refuses hard nodes alone.
 #[derive(Drop)]
 pub struct NearMaster {
     plain: PlainMaster,

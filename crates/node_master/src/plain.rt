@@ -1,25 +1,19 @@
-ghost use Rattle.std.specs.Prelude.{◌≡◌, ◌≤◌, ◌<◌, ◌^◌, IfOk, true, length};
-ghost use Rattle.roster_model.specs.Folds.{Each};
-ghost use Rattle.roster_model.specs.SoundInstance.{IsSoundInstance};
-ghost use Rattle.roster_model.specs.Trees.{Parts, IsDayTree};
-ghost use Rattle.bound_laws.specs.Infeasible.{IsPlainlyInfeasible};
-ghost use Rattle.parse_graph.specs.Graphs.{IsGraph};
-ghost use Rattle.cheapest_tree.specs.Pricers.{IsMadeFor};
-ghost use Rattle.tree_pool.specs.Pools.{IsPool, IsGrown};
-ghost use Rattle.node_master.specs.Ends.{IsNodeCut};
+ghost use Rattle.std.specs.Prelude.{◌≡◌, ◌≤◌, IfOk, true};
 ghost use Rattle.node_master.specs.Refusals.{EndsWell, counted, one_more};
+ghost use Rattle.node_master.specs.Tasks.{AreTools, StayTools, IsBusyNode};
 
 use crate::master::Master;
-use crate::{Bases, Cause, First, NodeEnd, Pool, solve_node_from};
+use crate::{Bases, Cause, First, NodeEnd, Pool, Steering, solve_node_from};
 use cheapest_tree::Pricer;
 use fraction::Tally;
 use parse_graph::Graph;
 use roster_model::{Cut, Instance, Memory};
+use search_day::Day;
 use std::alloc::Global;
 
 /// A master that solves each node's linear program in exact fractions, or finds prices that a near solution
-/// shows to be best: near prices come first where a basis has many trees, and else where the exact path leads to
-/// none. It refuses hard nodes alone.
+/// shows to be best: near prices come first where a basis has many trees, and else where the exact path
+/// leads to none. It refuses hard nodes alone.
 #[derive(Drop)]
 pub struct PlainMaster {
     tally: Tally,
@@ -89,41 +83,33 @@ impl PlainMaster {
     fn solve(
         &mut self,
         alloc: Global,
-        instance: &Instance,
-        graph: &Graph,
-        pricer: &mut Pricer,
-        pool: &mut Pool,
+        day: &Day,
         cuts: &[Cut],
         wanted: &[usize],
+        pricer: &mut Pricer,
+        pool: &mut Pool,
     ) -> Result<NodeEnd, Memory>
-        requires sound { IsSoundInstance instance.now }
-        requires busy { IsPlainlyInfeasible instance.now → ⊥ }
-        requires graph { IsGraph instance.now.grammar graph.now }
-        requires tree { (t : Parts) × IsDayTree instance.now.grammar t }
-        requires pricer { IsMadeFor graph.now pricer.old }
-        requires pool { IsPool instance.now.grammar pool.old }
-        requires cuts { Each (IsNodeCut instance.now) cuts.now }
-        requires few { length cuts.now < 2 ^ 31 }
-        ensures end { IfOk result (EndsWell instance.now cuts.now pool.new true) }
+        requires node { IsBusyNode day.now cuts.now }
+        requires tools { AreTools day.now pricer.old pool.old }
+        ensures end { IfOk result (EndsWell day.now.instance.now cuts.now pool.new true) }
         ensures refused { self.new.refused ≡ self.old.refused }
-        ensures pricer { IsMadeFor graph.now pricer.new }
-        ensures pool { IsPool instance.now.grammar pool.new }
-        ensures grown { IsGrown pool.old pool.new }
+        ensures tools { StayTools day.now pricer.new pool.old pool.new }
     {
-        let mut bases = kept(alloc, self.bases.take());
+        let mut steering = Steering {
+            wanted,
+            first: self.first,
+            bases: kept(alloc, self.bases.take()),
+        };
         let end = solve_node_from(
             alloc,
-            instance,
-            graph,
+            day,
+            cuts,
             pricer,
             pool,
-            cuts,
-            wanted,
-            &mut bases,
-            self.first,
+            &mut steering,
             &mut self.tally,
         )?;
-        self.bases = Some(bases);
+        self.bases = Some(steering.bases);
         Ok(end)
     }
 
@@ -132,33 +118,24 @@ impl PlainMaster {
     fn solve_again(
         &mut self,
         alloc: Global,
-        instance: &Instance,
-        graph: &Graph,
-        pricer: &mut Pricer,
-        pool: &mut Pool,
+        day: &Day,
         cuts: &[Cut],
         wanted: &[usize],
+        pricer: &mut Pricer,
+        pool: &mut Pool,
     ) -> Result<NodeEnd, Memory>
-        requires sound { IsSoundInstance instance.now }
-        requires busy { IsPlainlyInfeasible instance.now → ⊥ }
-        requires graph { IsGraph instance.now.grammar graph.now }
-        requires tree { (t : Parts) × IsDayTree instance.now.grammar t }
-        requires pricer { IsMadeFor graph.now pricer.old }
-        requires pool { IsPool instance.now.grammar pool.old }
-        requires cuts { Each (IsNodeCut instance.now) cuts.now }
-        requires few { length cuts.now < 2 ^ 31 }
-        ensures end { IfOk result (EndsWell instance.now cuts.now pool.new true) }
+        requires node { IsBusyNode day.now cuts.now }
+        requires tools { AreTools day.now pricer.old pool.old }
+        ensures end { IfOk result (EndsWell day.now.instance.now cuts.now pool.new true) }
         ensures refused { self.new.refused ≡ self.old.refused }
-        ensures pricer { IsMadeFor graph.now pricer.new }
-        ensures pool { IsPool instance.now.grammar pool.new }
-        ensures grown { IsGrown pool.old pool.new }
+        ensures tools { StayTools day.now pricer.new pool.old pool.new }
     {
-        let end = self.solve(alloc, instance, graph, pricer, pool, cuts, wanted)?;
+        let end = self.solve(alloc, day, cuts, wanted, pricer, pool)?;
         if !is_wide(&end) {
             return Ok(end);
         }
         drop(end);
-        self.solve(alloc, instance, graph, pricer, pool, cuts, &[])
+        self.solve(alloc, day, cuts, &[], pricer, pool)
     }
 
     // Counts a node that is refused without being looked at.
@@ -190,7 +167,8 @@ impl Master for PlainMaster {
         wanted: &[usize],
     ) -> Result<NodeEnd, Memory> {
         let refused = self.refused;
-        let end = self.solve_again(alloc, instance, graph, pricer, pool, cuts, wanted)?;
+        let day = Day { instance, graph };
+        let end = self.solve_again(alloc, &day, cuts, wanted, pricer, pool)?;
         self.refused = count_end(refused, &end);
         Ok(end)
     }

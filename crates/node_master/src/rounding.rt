@@ -1,14 +1,12 @@
-ghost use Rattle.std.specs.Prelude.{◌≡◌, ◌≤◌, ◌+◌, pos, ◌<ℤ◌, length, IsTrue, IfOk, IfSome};
+ghost use Rattle.std.specs.Prelude.{pos, ◌<ℤ◌, IsTrue, IfOk, IfSome};
 ghost use Rattle.roster_model.specs.declared.instance.Mult.{Mult as Multiplier};
 ghost use Rattle.roster_model.specs.Folds.{Each};
-ghost use Rattle.roster_model.specs.PriceLimits.{FitPrices};
-ghost use Rattle.roster_model.specs.SoundInstance.{IsSoundInstance};
-ghost use Rattle.master_laws.specs.Rows.{rows_of};
-ghost use Rattle.master_rows.specs.NodeRows.{AreRows};
+ghost use Rattle.node_task.specs.Tasks.{IsTask};
+ghost use Rattle.node_master.specs.Tasks.{FitNode};
 
 use certificates::are_fit;
-use master_rows::NodeRows;
 use node_columns::{first_wide, numbers_of};
+use node_task::NodeTask;
 use roster_model::{Cell, Cut, Instance, List, Memory, Mult, Prices, Side};
 use std::alloc::Global;
 
@@ -24,8 +22,8 @@ const PART: i128 = 1_024;
 /// The most employees of a day: a ceiling of so many has no row.
 const HEADS: u32 = 64;
 
-/// Returns prices in units of 2^-30, each the nearest to one in units of 2^-40: what a float basis is off by is
-/// gone where the price has few bits.
+/// Returns prices in units of 2^-30, each the nearest to one in units of 2^-40: what a float basis is off by
+/// is gone where the price has few bits.
 fn in_units(alloc: Global, y: &[i128]) -> Result<List<i128>, Memory> {
     let mut prices = List::new(alloc);
     for price in y {
@@ -34,32 +32,25 @@ fn in_units(alloc: Global, y: &[i128]) -> Result<List<i128>, Memory> {
     Ok(prices)
 }
 
-/// Returns the price of each cell, those of both rows of the heads and those of the cuts; none where there is not
-/// one for each row, or one is above 2^56 in size.
-fn gathered(
-    alloc: Global,
-    instance: &Instance,
-    cuts: &[Cut],
-    rows: &NodeRows,
-    y: &[i128],
-) -> Result<Option<Vec<i128>>, Memory>
-    requires sound { IsSoundInstance instance.now }
-    requires rows { AreRows instance.now cuts.now rows.now }
-    requires small { length (rows_of instance.now cuts.now) ≤ 1500 }
+/// Returns the price of each cell, those of both rows of the heads and those of the cuts; none where there
+/// is not one for each row, or one is above 2^56 in size.
+fn gathered(alloc: Global, task: &NodeTask, y: &[i128]) -> Result<Option<Vec<i128>>, Memory>
+    requires { IsTask task.now }
 {
-    if y.len() != rows.right().len() || first_wide(y, UNIT).is_some() {
+    if y.len() != task.rows.right().len() || first_wide(y, UNIT).is_some() {
         return Ok(None);
     }
-    let count = numbers_of(instance, cuts);
+    let count = numbers_of(task.day.instance, task.cuts);
     let Ok(mut numbers) = vec![in alloc; 0i128; count] else {
         return Err(Memory);
     };
-    rows.gather(y, instance.cells.len(), numbers.as_mut_slice());
+    let cells = task.day.instance.cells.len();
+    task.rows.gather(y, cells, numbers.as_mut_slice());
     Ok(Some(numbers))
 }
 
-/// Returns the price of a cell in units of 2^-20, rounded down from one in units of 2^-30, and within what the
-/// columns of its rows let it be.
+/// Returns the price of a cell in units of 2^-20, rounded down from one in units of 2^-30, and within what
+/// the columns of its rows let it be.
 fn cell_price(cell: &Cell, number: i128) -> i128 {
     let d = i128::from(DENOMINATOR);
     let mut price = number.div_euclid(PART);
@@ -114,8 +105,7 @@ fn are_above(mults: &[Mult]) -> bool
 
 /// Returns prices where they are within the limits of the node, with no multiplier of 0.
 fn checked(instance: &Instance, cuts: &[Cut], prices: Prices) -> Option<Prices>
-    ensures fit { IfSome result (λ p. FitPrices instance.now p.d p.cell p.mult cuts.now) }
-    ensures above { IfSome result (λ p. Each (λ (m : Multiplier). pos 0 <ℤ m.value) p.mult) }
+    ensures { IfSome result (FitNode instance.now cuts.now) }
 {
     if are_fit(instance, cuts.len(), &prices) && are_above(prices.mult.as_slice()) {
         Some(prices)
@@ -132,28 +122,22 @@ fn checked(instance: &Instance, cuts: &[Cut], prices: Prices) -> Option<Prices>
 /// `Memory` where memory runs out; nothing is kept then.
 pub(crate) fn near_rounded(
     alloc: Global,
-    instance: &Instance,
-    cuts: &[Cut],
-    rows: &NodeRows,
+    task: &NodeTask,
     y: &[i128],
 ) -> Result<Option<Prices>, Memory>
-    requires sound { IsSoundInstance instance.now }
-    requires rows { AreRows instance.now cuts.now rows.now }
-    requires small { length (rows_of instance.now cuts.now) ≤ 1500 }
-    ensures fit { IfOk result (λ some. IfSome some (λ p. FitPrices instance.now p.d p.cell p.mult cuts.now)) }
-    ensures above { IfOk result (λ some. IfSome some (λ p.
-        Each (λ (m : Multiplier). pos 0 <ℤ m.value) p.mult)) }
+    requires { IsTask task.now }
+    ensures { IfOk result (λ some. IfSome some (FitNode task.now.day.instance.now task.now.cuts.now)) }
 {
     let prices = in_units(alloc, y)?;
-    let Some(numbers) = gathered(alloc, instance, cuts, rows, prices.as_slice())? else {
+    let Some(numbers) = gathered(alloc, task, prices.as_slice())? else {
         return Ok(None);
     };
-    let cells = instance.cells.as_slice();
+    let cells = task.day.instance.cells.as_slice();
     let others = numbers.get(cells.len().saturating_add(2)..).unwrap_or(&[]);
     let prices = Prices {
         d: DENOMINATOR,
         cell: cell_prices(alloc, cells, numbers.as_slice())?,
-        mult: multipliers(alloc, cuts, others)?,
+        mult: multipliers(alloc, task.cuts, others)?,
     };
-    Ok(checked(instance, cuts, prices))
+    Ok(checked(task.day.instance, task.cuts, prices))
 }

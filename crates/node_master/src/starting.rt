@@ -1,5 +1,7 @@
-use crate::bases::{Bases, Basis};
+use crate::bases::Basis;
+use crate::steering::Steering;
 use master_rows::NodeRows;
+use node_task::NodeTask;
 use roster_model::{Cut, List, Memory, Side};
 use scout::Key;
 use std::alloc::Global;
@@ -105,13 +107,8 @@ fn keys_of(alloc: Global, cuts: &[Cut], rows: usize, basis: &Basis) -> Result<Li
 }
 
 /// Returns what a hunt begins with from the basis of a node above.
-fn start_from(
-    alloc: Global,
-    cuts: &[Cut],
-    rows: &NodeRows,
-    pool: &Pool,
-    basis: &Basis,
-) -> Result<Start, Memory> {
+fn start_from(alloc: Global, task: &NodeTask, pool: &Pool, basis: &Basis) -> Result<Start, Memory> {
+    let (cuts, rows) = (task.cuts, task.rows);
     let count = rows.right().len();
     let most = count.saturating_mul(BEST);
     let best = rows.best_trees(alloc, cuts, pool, basis.prices.as_slice(), most)?;
@@ -138,22 +135,21 @@ fn start_without(
     })
 }
 
-/// Returns what a hunt begins with at the node at a path of cuts: the basis of the nearest node above it that
-/// is kept. Where none is, or where no tree is wanted, it begins without one.
+/// Returns what a hunt begins with at a node: the basis of the nearest node above it that is kept. Where
+/// none is, or where no tree is wanted, it begins without one.
 ///
 /// # Errors
 ///
 /// `Memory` where memory runs out; there is no answer then.
 pub(crate) fn start_of(
     alloc: Global,
-    cuts: &[Cut],
-    rows: &NodeRows,
+    task: &NodeTask,
     pool: &Pool,
-    wanted: &[usize],
-    bases: &mut Bases,
+    steering: &mut Steering,
 ) -> Result<Start, Memory> {
-    match bases.nearest(cuts) {
-        Some(basis) if !wanted.is_empty() => start_from(alloc, cuts, rows, pool, basis),
-        _ => start_without(alloc, rows, pool, wanted),
+    let wanted = steering.wanted;
+    match steering.bases.nearest(task.cuts) {
+        Some(basis) if !wanted.is_empty() => start_from(alloc, task, pool, basis),
+        _ => start_without(alloc, task.rows, pool, wanted),
     }
 }

@@ -1,22 +1,18 @@
-ghost use Rattle.std.specs.Prelude.{◌≤◌, length};
-ghost use Rattle.roster_model.specs.SoundInstance.{IsSoundInstance};
-ghost use Rattle.parse_graph.specs.Graphs.{IsGraph};
-ghost use Rattle.cheapest_tree.specs.Pricers.{IsMadeFor};
-ghost use Rattle.master_laws.specs.Rows.{rows_of};
-ghost use Rattle.master_rows.specs.NodeRows.{AreRows};
-ghost use Rattle.tree_pool.specs.Pools.{IsPool, IsGrown};
+ghost use Rattle.tree_pool.specs.Pools.{IsPool};
+ghost use Rattle.search_day.specs.Rooms.{Grows};
+ghost use Rattle.node_task.specs.Tasks.{IsTask};
+ghost use Rattle.node_master.specs.Tasks.{MayHunt, StayTools};
 
 use crate::starting::{Start, copied, joined};
 use cheapest_tree::Pricer;
-use master_rows::NodeRows;
-use parse_graph::Graph;
-use roster_model::{Cut, Instance, List, Memory};
+use node_task::NodeTask;
+use roster_model::{List, Memory};
 use std::alloc::Global;
 use tree_pool::Pool;
 use volume::{Volume, volume};
 
-/// From so many rows on a hunt begins with the volume algorithm, and ends where its best prices are good enough:
-/// below, a scout alone takes hundredths of a second.
+/// From so many rows on a hunt begins with the volume algorithm, and ends where its best prices are good
+/// enough: below, a scout alone takes hundredths of a second.
 pub(crate) const MANY_ROWS: usize = 250;
 
 /// The passes of the volume algorithm where no prices are known.
@@ -51,19 +47,18 @@ fn cold(alloc: Global, start: &Start) -> Result<Warm, Memory> {
 /// Returns the trees of a start, and the cheapest ones of the volume algorithm behind them; with its prices.
 fn warmed(
     alloc: Global,
-    instance: &Instance,
+    task: &NodeTask,
     start: &Start,
     found: &Volume,
     most: usize,
     pool: &mut Pool,
 ) -> Result<Warm, Memory>
-    requires sound { IsSoundInstance instance.now }
-    requires own { IsPool instance.now.grammar found.now.pool }
-    requires pool { IsPool instance.now.grammar pool.old }
-    ensures pool { IsPool instance.now.grammar pool.new }
-    ensures grown { IsGrown pool.old pool.new }
+    requires task { IsTask task.now }
+    requires own { IsPool task.now.day.instance.now.grammar found.now.pool }
+    requires pool { IsPool task.now.day.instance.now.grammar pool.old }
+    ensures { Grows task.now.day pool.old pool.new }
 {
-    let trees = found.list(alloc, instance, most, pool)?;
+    let trees = found.list(alloc, task.day.instance, most, pool)?;
     Ok(Warm {
         trees: joined(alloc, start.trees.as_slice(), trees.as_slice())?,
         prices: copied(alloc, found.prices.as_slice())?,
@@ -81,8 +76,8 @@ fn begin_at(start: &Start) -> (Option<&[i128]>, u32) {
     }
 }
 
-/// Returns what a hunt begins with: at many rows the cheapest trees of the volume algorithm, which begins at the
-/// start's prices, beside those of the start.
+/// Returns what a hunt begins with: at many rows the cheapest trees of the volume algorithm, which begins at
+/// the start's prices, beside those of the start.
 ///
 /// # Errors
 ///
@@ -90,36 +85,29 @@ fn begin_at(start: &Start) -> (Option<&[i128]>, u32) {
 /// under their numbers, and perhaps further trees of the day.
 pub(crate) fn warm_up(
     alloc: Global,
-    instance: &Instance,
-    graph: &Graph,
+    task: &NodeTask,
+    start: &Start,
     pricer: &mut Pricer,
     pool: &mut Pool,
-    cuts: &[Cut],
-    rows: &NodeRows,
-    start: &Start,
 ) -> Result<Warm, Memory>
-    requires sound { IsSoundInstance instance.now }
-    requires graph { IsGraph instance.now.grammar graph.now }
-    requires pricer { IsMadeFor graph.now pricer.old }
-    requires pool { IsPool instance.now.grammar pool.old }
-    requires rows { AreRows instance.now cuts.now rows.now }
-    requires small { length (rows_of instance.now cuts.now) ≤ 1500 }
-    ensures pricer { IsMadeFor graph.now pricer.new }
-    ensures pool { IsPool instance.now.grammar pool.new }
-    ensures grown { IsGrown pool.old pool.new }
+    requires { MayHunt task.now pricer.old pool.old }
+    ensures { StayTools task.now.day pricer.new pool.old pool.new }
 {
-    let count = rows.right().len();
+    let count = task.rows.right().len();
     if count < MANY_ROWS {
         return cold(alloc, start);
     }
     let (from, passes) = begin_at(start);
-    let found = volume(alloc, instance, cuts, graph, rows, pricer, from, passes)?;
-    warmed(
+    let found = volume(
         alloc,
-        instance,
-        start,
-        &found,
-        count.saturating_mul(TREES),
-        pool,
-    )
+        task.day.instance,
+        task.cuts,
+        task.day.graph,
+        task.rows,
+        pricer,
+        from,
+        passes,
+    )?;
+    let most = count.saturating_mul(TREES);
+    warmed(alloc, task, start, &found, most, pool)
 }

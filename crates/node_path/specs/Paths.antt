@@ -44,3 +44,11 @@ pub record IsNode (i : Instance) (seats : List Seat) (number : ℕ) (t : Grown) 
   pub splits : OnForks (λ cuts a b own. IsSplitAt i cuts a b) (base_cuts i) t
   pub stands : StandsAt (base_cuts i) t number path
   pub few : length seats < 2 ^ 32
+
+-- there is a node of this number
+abbrev pub HasNode : Instance → List Seat → ℕ → Type 0
+HasNode i seats number = (t : Grown) × (path : List Cut) × IsNode i seats number t path
+
+-- the cuts are those of each path to a node of this number
+abbrev pub IsWayTo : Instance → List Seat → ℕ → List Cut → Type 0
+IsWayTo i seats number cuts = (t : Grown) (path : List Cut) → IsNode i seats number t path → cuts ≡ path

@@ -1,14 +1,14 @@
 ghost use Rattle.std.specs.Prelude.{◌≡◌, IfOk};
 ghost use Rattle.roster_model.specs.Cuts.{base_cuts};
 ghost use Rattle.roster_model.specs.SoundInstance.{IsSoundInstance};
-ghost use Rattle.parse_graph.specs.Graphs.{IsGraph};
 ghost use Rattle.count_boxes.specs.Paths.{IsBoxOf};
+ghost use Rattle.search_day.specs.Days.{IsDay};
 
 use crate::turns::narrow;
 use base_cuts::push_base_cuts;
 use count_boxes::ArcBox;
-use parse_graph::Graph;
 use roster_model::{Cut, Instance, Memory};
+use search_day::Day;
 use std::alloc::Global;
 
 // The most base cuts that a day has.
@@ -35,20 +35,14 @@ pub(crate) fn base_cuts(alloc: Global, instance: &Instance) -> Result<Vec<Cut>, 
 /// # Errors
 ///
 /// `Memory` where memory runs out; nothing is kept then.
-pub(crate) fn base_box(
-    alloc: Global,
-    instance: &Instance,
-    graph: &Graph,
-    cuts: &[Cut],
-) -> Result<ArcBox, Memory>
-    requires sound { IsSoundInstance instance.now }
-    requires graph { IsGraph instance.now.grammar graph.now }
-    requires cuts { cuts.now ≡ base_cuts instance.now }
-    ensures { IfOk result (IsBoxOf instance.now graph.now cuts.now) }
+pub(crate) fn base_box(alloc: Global, day: &Day, cuts: &[Cut]) -> Result<ArcBox, Memory>
+    requires day { IsDay day.now }
+    requires cuts { cuts.now ≡ base_cuts day.now.instance.now }
+    ensures { IfOk result (IsBoxOf day.now.instance.now day.now.graph.now cuts.now) }
 {
-    let mut arc_box = ArcBox::new(alloc, instance, graph)?;
+    let mut arc_box = ArcBox::new(alloc, day.instance, day.graph)?;
     for cut in cuts {
-        let _ = narrow(&mut arc_box, graph, cut);
+        let _ = narrow(&mut arc_box, day.graph, cut);
     }
     Ok(arc_box)
 }

@@ -1,19 +1,15 @@
-ghost use Rattle.std.specs.Prelude.{◌≡◌, ◌≤◌, ◌++◌, List, OnOk, length, take, drop, reverse};
-ghost use Rattle.roster_model.specs.declared.instance.Cut.{Cut as OneCut};
-ghost use Rattle.roster_model.specs.declared.instance.Instance.{Instance as Day};
-ghost use Rattle.growing_laws.specs.Grown.{Grown};
-ghost use Rattle.roster_model.specs.Cuts.{base_cuts};
-ghost use Rattle.node_path.specs.Paths.{IsNode};
-ghost use Rattle.node_path.specs.Steps.{IsClimbed};
+ghost use Rattle.std.specs.Prelude.{◌≡◌, ◌≤◌, ◌++◌, OnOk, length, take, drop, reverse};
+ghost use Rattle.roster_model.specs.declared.instance.Instance.{Instance};
+ghost use Rattle.node_path.specs.Paths.{HasNode};
+ghost use Rattle.node_path.specs.Steps.{HasClimbed, HasFollowed};
 
 use growing_laws::Seat;
 use roster_model::{Cut, Memory};
 
 // Adds the cuts on the way from a node up to the root, whose number is 0.
 fn climb(cuts: &mut Vec<Cut>, seats: &[Seat], number: u32) -> Result<(), Memory>
-    requires { (i : Day) × (t : Grown) × (path : List OneCut) × IsNode i seats.now number t path }
-    ensures { OnOk result ((i : Day) (t : Grown) (path : List OneCut) → IsNode i seats.now number t path
-        → IsClimbed i path cuts.old.items cuts.new.items) }
+    requires { (i : Instance) × HasNode i seats.now number }
+    ensures { OnOk result (HasClimbed seats.now number cuts.old.items cuts.new.items) }
 {
     let mut number = number;
     while number != 0 {
@@ -46,9 +42,8 @@ pub(crate) fn follow(
     number: u32,
 ) -> Result<(), Memory>
     requires base { base ≤ length cuts.old.items }
-    requires node { (i : Day) × (t : Grown) × (path : List OneCut) × IsNode i seats.now number t path }
-    ensures { OnOk result ((i : Day) (t : Grown) (path : List OneCut) → IsNode i seats.now number t path
-        → take base cuts.old.items ≡ base_cuts i → cuts.new.items ≡ path) }
+    requires node { (i : Instance) × HasNode i seats.now number }
+    ensures { OnOk result (HasFollowed base seats.now number cuts.old.items cuts.new.items) }
 {
     cuts.truncate(base);
     climb(cuts, seats, number)?;

@@ -1,12 +1,9 @@
-ghost use Rattle.std.specs.Prelude.{◌≡◌, ◌↔◌, IfOk, OnOk, IsTrue, MatchOption, List};
-ghost use Rattle.roster_model.specs.declared.instance.Cut.{Cut as OneCut};
+ghost use Rattle.std.specs.Prelude.{◌≡◌, IfOk, OnOk};
 ghost use Rattle.roster_model.specs.Cuts.{base_cuts};
-ghost use Rattle.roster_model.specs.SoundInstance.{IsSoundInstance};
 ghost use Rattle.bound_laws.specs.Pinned.{IsPinnedValue};
-ghost use Rattle.parse_graph.specs.Graphs.{IsGraph};
 ghost use Rattle.count_boxes.specs.Costs.{pinned_number};
-ghost use Rattle.growing_laws.specs.Grown.{Grown};
-ghost use Rattle.node_path.specs.Paths.{IsPath, IsNode};
+ghost use Rattle.search_day.specs.Days.{IsDay};
+ghost use Rattle.node_path.specs.Paths.{IsPath, HasNode, IsWayTo};
 
 use crate::base::{base_box, base_cuts as cuts_of_base};
 use crate::climb::{follow, further};
@@ -14,8 +11,8 @@ use crate::turn::Turn;
 use crate::turns::{go_back, go_down};
 use count_boxes::ArcBox;
 use growing_laws::Seat;
-use parse_graph::Graph;
-use roster_model::{Cut, Instance, Memory};
+use roster_model::{Cut, Memory};
+use search_day::Day;
 use std::alloc::Global;
 use std::marker::Model;
 
@@ -43,14 +40,13 @@ impl NodePath {
     /// # Errors
     ///
     /// `Memory` where memory runs out; nothing is kept then.
-    pub fn new(alloc: Global, instance: &Instance, graph: &Graph) -> Result<NodePath, Memory>
-        requires sound { IsSoundInstance instance.now }
-        requires graph { IsGraph instance.now.grammar graph.now }
-        ensures path { IfOk result (IsPath instance.now graph.now) }
-        ensures cuts { IfOk result (λ p. p.cuts ≡ base_cuts instance.now) }
+    pub fn new(alloc: Global, day: &Day) -> Result<NodePath, Memory>
+        requires { IsDay day.now }
+        ensures path { IfOk result (IsPath day.now.instance.now day.now.graph.now) }
+        ensures cuts { IfOk result (λ p. p.cuts ≡ base_cuts day.now.instance.now) }
     {
-        let cuts = cuts_of_base(alloc, instance)?;
-        let arc_box = base_box(alloc, instance, graph, cuts.as_slice())?;
+        let cuts = cuts_of_base(alloc, day.instance)?;
+        let arc_box = base_box(alloc, day, cuts.as_slice())?;
         let base = cuts.len();
         Ok(NodePath {
             cuts,
@@ -75,14 +71,14 @@ impl NodePath {
     }
 
     /// Returns the cost of the counts where the path leaves each arc one, as [`ArcBox::pinned_cost`] does.
-    pub fn pinned_cost(&mut self, instance: &Instance, graph: &Graph) -> Option<u64>
-        requires sound { IsSoundInstance instance.now }
-        requires graph { IsGraph instance.now.grammar graph.now }
-        requires path { IsPath instance.now graph.now self.old }
-        ensures value { IsPinnedValue instance.now self.old.cuts (pinned_number instance.now result) }
+    pub fn pinned_cost(&mut self, day: &Day) -> Option<u64>
+        requires day { IsDay day.now }
+        requires path { IsPath day.now.instance.now day.now.graph.now self.old }
+        ensures value { IsPinnedValue day.now.instance.now self.old.cuts
+            (pinned_number day.now.instance.now result) }
         ensures same { self.new ≡ self.old }
     {
-        self.arc_box.pinned_cost(instance, graph)
+        self.arc_box.pinned_cost(day.instance, day.graph)
     }
 
     /// Goes to the node of a number of a search's tree, whose seats these are.
@@ -90,25 +86,16 @@ impl NodePath {
     /// # Errors
     ///
     /// `Memory` where memory runs out; nothing is said of the path then, and it is not used again.
-    pub fn go_to(
-        &mut self,
-        instance: &Instance,
-        graph: &Graph,
-        seats: &[Seat],
-        number: u32,
-    ) -> Result<(), Memory>
-        requires sound { IsSoundInstance instance.now }
-        requires graph { IsGraph instance.now.grammar graph.now }
-        requires path { IsPath instance.now graph.now self.old }
-        requires node { (t : Grown) × (path : List OneCut) × IsNode instance.now seats.now number t path }
-        ensures path { OnOk result (IsPath instance.now graph.now self.new) }
-        ensures cuts { OnOk result
-            ((t : Grown) (path : List OneCut) → IsNode instance.now seats.now number t path
-            → self.new.cuts ≡ path) }
+    pub fn go_to(&mut self, day: &Day, seats: &[Seat], number: u32) -> Result<(), Memory>
+        requires day { IsDay day.now }
+        requires path { IsPath day.now.instance.now day.now.graph.now self.old }
+        requires node { HasNode day.now.instance.now seats.now number }
+        ensures path { OnOk result (IsPath day.now.instance.now day.now.graph.now self.new) }
+        ensures cuts { OnOk result (IsWayTo day.now.instance.now seats.now number self.new.cuts) }
     {
         go_back(&mut self.arc_box, &mut self.turns);
         follow(&mut self.cuts, self.base, seats, number)?;
         let cuts = further(self.cuts.as_slice(), self.base);
-        go_down(&mut self.arc_box, graph, cuts, &mut self.turns)
+        go_down(&mut self.arc_box, day.graph, cuts, &mut self.turns)
     }
 }

@@ -1,13 +1,9 @@
-ghost use Rattle.std.specs.Prelude.{◌≡◌, ◌<◌, ◌++◌, [], ◌∷◌, List, IfSome, IfNone, OnOk, length};
-ghost use Rattle.roster_model.specs.declared.grammar.ArcKey.{ArcKey};
+ghost use Rattle.std.specs.Prelude.{◌≡◌, [], List, IfSome, IfNone, OnOk};
 ghost use Rattle.roster_model.specs.declared.instance.Cut.{Cut as OneCut};
-ghost use Rattle.roster_model.specs.declared.instance.Instance.{Instance as Day};
-ghost use Rattle.roster_model.specs.Arcs.{IsArc};
-ghost use Rattle.roster_model.specs.Folds.{In, Each};
-ghost use Rattle.parse_graph.specs.Graphs.{GraphView, IsGraph};
-ghost use Rattle.count_boxes.specs.Paths.{IsBoxOf};
-ghost use Rattle.node_path.specs.Paths.{IsTurn, AreTurns};
-ghost use Rattle.node_path.specs.Steps.{CanCut, CanGoDown, HasTurned};
+ghost use Rattle.roster_model.specs.declared.instance.Instance.{Instance};
+ghost use Rattle.roster_model.specs.Folds.{In};
+ghost use Rattle.node_path.specs.Steps.{CanBeCut, IsCut, TellsTurn, LeadTo};
+ghost use Rattle.node_path.specs.Steps.{CanGoDown, GoesDown, CanGoBack, HasGoneBack};
 
 use crate::turn::Turn;
 use count_boxes::ArcBox;
@@ -16,12 +12,9 @@ use roster_model::{Cut, Memory};
 
 /// Cuts the box where the cut is on an arc of the graph, and returns what the arc had.
 pub(crate) fn narrow(arc_box: &mut ArcBox, graph: &Graph, cut: &Cut) -> Option<Turn>
-    requires { (i : Day) × (above : List OneCut) × CanCut i graph.now above cut.now arc_box.old }
-    ensures left { (i : Day) (above : List OneCut) → CanCut i graph.now above cut.now arc_box.old
-        → IsBoxOf i graph.now (above ++ cut.now ∷ []) arc_box.new }
-    ensures turn { IfSome result
-        (λ turn. (i : Day) (above : List OneCut) → CanCut i graph.now above cut.now arc_box.old
-        → IsTurn i graph.now above cut.now turn) }
+    requires { CanBeCut graph.now cut.now arc_box.old }
+    ensures left { IsCut graph.now cut.now arc_box.old arc_box.new }
+    ensures turn { IfSome result (TellsTurn graph.now cut.now arc_box.old) }
     ensures none { IfNone result (In cut.now.arc graph.now.arcs → ⊥) }
 {
     let arc = graph.find(&cut.arc)?;
@@ -36,13 +29,9 @@ fn turn_at(
     cut: &Cut,
     turns: &mut Vec<Turn>,
 ) -> Result<(), Memory>
-    requires { (i : Day) × (above : List OneCut) × CanCut i graph.now above cut.now arc_box.old }
-    ensures left { (i : Day) (above : List OneCut) → CanCut i graph.now above cut.now arc_box.old
-        → IsBoxOf i graph.now (above ++ cut.now ∷ []) arc_box.new }
-    ensures turned { OnOk result
-        ((i : Day) (base above : List OneCut) → CanCut i graph.now above cut.now arc_box.old
-        → IsArc i.grammar cut.now.arc → AreTurns i graph.now base turns.old.items above
-        → AreTurns i graph.now base turns.new.items (above ++ cut.now ∷ [])) }
+    requires { CanBeCut graph.now cut.now arc_box.old }
+    ensures left { IsCut graph.now cut.now arc_box.old arc_box.new }
+    ensures turned { OnOk result (LeadTo graph.now cut.now arc_box.old turns.old.items turns.new.items) }
 {
     if let Some(turn) = narrow(arc_box, graph, cut) {
         let Ok(()) = turns.push(turn) else {
@@ -63,11 +52,9 @@ pub(crate) fn go_down(
     cuts: &[Cut],
     turns: &mut Vec<Turn>,
 ) -> Result<(), Memory>
-    requires { (i : Day) × (above : List OneCut) × CanGoDown i graph.now above cuts.now arc_box.old }
-    ensures { OnOk result ((i : Day) (above : List OneCut) → CanGoDown i graph.now above cuts.now arc_box.old
-        → AreTurns i graph.now above turns.old.items above
-        → IsBoxOf i graph.now (above ++ cuts.now) arc_box.new
-        × AreTurns i graph.now above turns.new.items (above ++ cuts.now)) }
+    requires { (i : Instance) × (above : List OneCut) × CanGoDown i graph.now above cuts.now arc_box.old }
+    ensures { OnOk result (GoesDown graph.now cuts.now arc_box.old turns.old.items
+        arc_box.new turns.new.items) }
 {
     for cut in cuts {
         turn_at(arc_box, graph, cut, turns)?;
@@ -77,11 +64,9 @@ pub(crate) fn go_down(
 
 /// Undoes the turns, the last one first.
 pub(crate) fn go_back(arc_box: &mut ArcBox, turns: &mut Vec<Turn>)
-    requires { (i : Day) × (v : GraphView) × (above : List OneCut) × (cuts : List OneCut)
-        × HasTurned i v above turns.old.items cuts arc_box.old }
+    requires { CanGoBack turns.old.items arc_box.old }
     ensures none { turns.new.items ≡ [] }
-    ensures left { (i : Day) (v : GraphView) (above cuts : List OneCut)
-        → HasTurned i v above turns.old.items cuts arc_box.old → IsBoxOf i v above arc_box.new }
+    ensures left { HasGoneBack turns.old.items arc_box.old arc_box.new }
 {
     while let Some(turn) = turns.pop() {
         arc_box.set_back(turn.arc, (turn.low, turn.high));

@@ -6,7 +6,7 @@ ghost use Rattle.tableau.specs.Lines.{IsLine};
 ghost use Rattle.tableau.specs.Cheaper.{IsCheaper};
 
 use crate::columns::Columns;
-use crate::line::Line;
+use crate::line::NumberRow;
 use crate::marks::Marks;
 use crate::narrow::{Nominee, Nominees, narrowest_of};
 use crate::small::{is_small, reduced_cost};
@@ -125,7 +125,7 @@ fn steepest<C: Columns>(columns: &C, prices: &[i64]) -> Option<usize>
 fn narrowest<C: Columns>(
     columns: &C,
     prices: &[i64],
-    rows: &[Line],
+    rows: &[NumberRow],
     basis: &[usize],
     marks: &Marks,
     most: usize,
@@ -163,7 +163,7 @@ fn narrowest<C: Columns>(
 pub(crate) fn choice<C: Columns>(
     columns: &C,
     prices: &[i64],
-    rows: &[Line],
+    rows: &[NumberRow],
     basis: &[usize],
     marks: &Marks,
     rule: Rule,

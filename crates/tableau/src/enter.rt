@@ -9,7 +9,7 @@ ghost use Rattle.tableau.specs.Faults.{fault_of};
 
 use crate::choice::{Rule, choice};
 use crate::columns::{Columns, ColumnsFault};
-use crate::line::Line;
+use crate::line::NumberRow;
 use crate::marks::{Marks, is_among};
 use crate::sheet::{Entries, Sheet};
 use crate::simplex::LpFault;
@@ -88,7 +88,7 @@ pub(crate) fn enter<C: Columns>(
 /// large, which the tally counts, or `Memory`. Listed columns keep their numbers then too.
 pub(crate) fn entering<C: Columns>(
     columns: &mut C,
-    rows: &[Line],
+    rows: &[NumberRow],
     basis: &[usize],
     marks: &Marks,
     rule: Rule,

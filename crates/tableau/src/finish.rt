@@ -8,7 +8,7 @@ ghost use Rattle.tableau.specs.Finish.{IsShare, AreShares};
 ghost use Rattle.tableau.specs.Ends.{IsLpEnd, IsLpFault};
 
 use crate::columns::Columns;
-use crate::line::Line;
+use crate::line::NumberRow;
 use crate::sheet::{Entries, Sheet};
 use crate::simplex::{Basic, LpEnd, LpFault};
 use crate::small::check_entries;
@@ -55,7 +55,7 @@ fn basic_of<C: Columns>(
 fn basics<C: Columns>(
     alloc: Global,
     columns: &C,
-    rows: &[Line],
+    rows: &[NumberRow],
     basis: &[usize],
     tally: &mut Tally,
 ) -> Result<List<Basic>, LpFault>

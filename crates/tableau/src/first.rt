@@ -11,7 +11,7 @@ ghost use Rattle.tableau.specs.Ends.{IsLpFault};
 
 use crate::columns::{Columns, ColumnsFault};
 use crate::enter::lp_fault;
-use crate::line::Line;
+use crate::line::NumberRow;
 use crate::marks::Marks;
 use crate::sheet::{Entries, Rows, Sheet};
 use crate::simplex::LpFault;
@@ -22,7 +22,7 @@ use roster_model::Memory;
 use std::alloc::Global;
 
 /// Returns row `row` of so many unit rows, with a right side behind it.
-fn unit_line(alloc: Global, rows: usize, row: usize, right: i64) -> Result<Line, Memory>
+fn unit_line(alloc: Global, rows: usize, row: usize, right: i64) -> Result<NumberRow, Memory>
     requires few { rows ≤ 1500 }
     requires row { row < rows }
     ensures { IfOk result (λ line. IsUnitLine rows row right line) }
@@ -32,7 +32,7 @@ fn unit_line(alloc: Global, rows: usize, row: usize, right: i64) -> Result<Line,
     };
     numbers[row] = 1;
     numbers[rows] = right;
-    Ok(Line::from_vec(numbers))
+    Ok(NumberRow::from_vec(numbers))
 }
 
 /// Adds the unit rows with these right sides to no rows.
@@ -132,7 +132,7 @@ fn value_of(costs: &[i64], right: &[i64]) -> i128
 }
 
 /// Returns the costs, and behind them a value and 1.
-fn cost_line(mut costs: Vec<i64>, value: i64) -> Result<Line, Memory>
+fn cost_line(mut costs: Vec<i64>, value: i64) -> Result<NumberRow, Memory>
     ensures { IfOk result (λ line. line ≡ costs.items ++ (value ∷ []) ++ (pos 1 ∷ [])) }
 {
     let Ok(()) = costs.push(value) else {
@@ -141,7 +141,7 @@ fn cost_line(mut costs: Vec<i64>, value: i64) -> Result<Line, Memory>
     let Ok(()) = costs.push(1) else {
         return Err(Memory);
     };
-    Ok(Line::from_vec(costs))
+    Ok(NumberRow::from_vec(costs))
 }
 
 /// Returns the costs of the unit columns, and behind them the value at these prices and 1.
@@ -150,7 +150,7 @@ fn first_cost<C: Columns>(
     columns: &C,
     right: &[i64],
     tally: &mut Tally,
-) -> Result<Line, LpFault>
+) -> Result<NumberRow, LpFault>
     requires ready { C.Ready (C.state columns.now) }
     requires few { length right.now ≤ 1500 }
     requires units { (r : ℕ) → r < length right.now → C.Lists (C.state columns.now) r
@@ -186,7 +186,7 @@ fn first_cost<C: Columns>(
 fn with_room(
     alloc: Global,
     rows: Rows,
-    cost: Line,
+    cost: NumberRow,
     wanted: &[u32],
     count: usize,
 ) -> Result<Sheet, Memory>

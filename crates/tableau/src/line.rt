@@ -9,11 +9,11 @@ use std::marker::Model;
 
 /// A row of numbers, which contracts see as a list.
 #[derive(Drop)]
-pub(crate) struct Line {
+pub(crate) struct NumberRow {
     numbers: Vec<i64>,
 }
 
-impl Model for Line {
+impl Model for NumberRow {
     ghost use Rattle.std.specs.Prelude.{List as Items, ℤ};
 
     ghost Value = { Items ℤ };
@@ -21,12 +21,12 @@ impl Model for Line {
     ghost view = { λ l. l.numbers.items };
 }
 
-impl Line {
+impl NumberRow {
     /// Returns the row of these numbers.
-    pub(crate) fn from_vec(numbers: Vec<i64>) -> Line
+    pub(crate) fn from_vec(numbers: Vec<i64>) -> NumberRow
         ensures { result ≡ numbers.items }
     {
-        Line { numbers }
+        NumberRow { numbers }
     }
 
     /// Returns the numbers.

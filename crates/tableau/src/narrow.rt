@@ -1,5 +1,5 @@
 use crate::columns::Columns;
-use crate::line::Line;
+use crate::line::NumberRow;
 use crate::marks::Marks;
 use pivot_rows::Place;
 
@@ -121,7 +121,7 @@ fn right_of(row: &[i64]) -> i128 {
 }
 
 /// Returns the row that leaves where a column enters.
-fn leaving_row(rows: &[Line], places: &[Place], marks: &Marks) -> Option<Leaving> {
+fn leaving_row(rows: &[NumberRow], places: &[Place], marks: &Marks) -> Option<Leaving> {
     let mut best: Option<Leaving> = None;
     for (row, line) in rows.iter().enumerate() {
         let entry = entry_at(line.as_slice(), places);
@@ -142,7 +142,12 @@ fn leaving_row(rows: &[Line], places: &[Place], marks: &Marks) -> Option<Leaving
 }
 
 /// Returns the entry of a row's basic column in the row.
-fn own_entry<C: Columns>(columns: &C, rows: &[Line], basis: &[usize], row: usize) -> Option<i128>
+fn own_entry<C: Columns>(
+    columns: &C,
+    rows: &[NumberRow],
+    basis: &[usize],
+    row: usize,
+) -> Option<i128>
     requires { C.Ready (C.state columns.now) }
 {
     let line = rows.get(row)?;
@@ -156,7 +161,7 @@ fn own_entry<C: Columns>(columns: &C, rows: &[Line], basis: &[usize], row: usize
 /// Returns the pivot of a column that enters.
 fn pivot_of<C: Columns>(
     columns: &C,
-    rows: &[Line],
+    rows: &[NumberRow],
     basis: &[usize],
     marks: &Marks,
     column: usize,
@@ -177,7 +182,7 @@ fn pivot_of<C: Columns>(
 /// Returns the column of the least pivot among those that are nominated, the first of several.
 pub(crate) fn narrowest_of<C: Columns>(
     columns: &C,
-    rows: &[Line],
+    rows: &[NumberRow],
     basis: &[usize],
     marks: &Marks,
     nominees: &Nominees,

@@ -4,7 +4,7 @@ ghost use Rattle.fraction.specs.Row.{at};
 ghost use Rattle.pivot_rows.specs.Rows.{AreNarrow};
 ghost use Rattle.tableau.specs.Lines.{row_at, AreLines, IsLeaving};
 
-use crate::line::Line;
+use crate::line::NumberRow;
 use crate::marks::Marks;
 
 /// Returns a number of a row times an entry.
@@ -75,7 +75,7 @@ fn is_better(wanted: &Marks, entries: &[i128], row: usize, other: usize) -> bool
 
 /// Returns which of the first rows up to `row` leaves, given the one of those before it.
 fn leaving_of(
-    rows: &[Line],
+    rows: &[NumberRow],
     entries: &[i128],
     wanted: &Marks,
     best: Option<usize>,
@@ -110,7 +110,7 @@ fn leaving_of(
 /// Returns the row that leaves the basis: its right side divided by its entry is the least one of the
 /// rows with an entry above 0. Of several such rows it is one whose basic column is not wanted, if any,
 /// then the one with the greatest entry, then the first.
-pub(crate) fn leaving(rows: &[Line], entries: &[i128], wanted: &Marks) -> usize
+pub(crate) fn leaving(rows: &[NumberRow], entries: &[i128], wanted: &Marks) -> usize
     requires lines { AreLines (length rows.now) rows.now }
     requires entries { length entries.now ≡ length rows.now }
     requires sizes { (r : ℕ) → r < length rows.now → unsigned_abs (at entries.now r) ≤ 2 ^ 68 }

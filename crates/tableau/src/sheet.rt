@@ -2,7 +2,7 @@ ghost use Rattle.std.specs.Prelude.{ℕ, ◌≡◌, ◌≤◌, ◌<◌, ◌++◌
 ghost use Rattle.fraction.specs.Row.{at};
 ghost use Rattle.tableau.specs.Sheet.{AreCopied};
 
-use crate::line::Line;
+use crate::line::NumberRow;
 use crate::marks::Marks;
 use pivot_rows::PivotRow;
 use roster_model::Memory;
@@ -11,7 +11,7 @@ use std::marker::Model;
 /// The rows of a tableau, which contracts see as their list.
 #[derive(Drop)]
 pub(crate) struct Rows {
-    pub(crate) lines: Vec<Line>,
+    pub(crate) lines: Vec<NumberRow>,
 }
 
 impl Model for Rows {
@@ -42,7 +42,7 @@ pub(crate) struct Sheet {
     /// The rows, each with its right side behind its numbers.
     pub(crate) rows: Rows,
     /// The prices, and behind them a value and their denominator.
-    pub(crate) cost: Line,
+    pub(crate) cost: NumberRow,
     /// The basic column of each row.
     pub(crate) basis: Vec<usize>,
     /// Whether the basic column of each row is wanted.
@@ -61,7 +61,7 @@ impl Rows {
     /// # Errors
     ///
     /// `Memory` where memory runs out; nothing is said of the rows then.
-    pub(crate) fn push(&mut self, line: Line) -> Result<(), Memory>
+    pub(crate) fn push(&mut self, line: NumberRow) -> Result<(), Memory>
         ensures { OnOk result (self.new ≡ self.old ++ line ∷ []) }
     {
         match self.lines.push(line) {
@@ -71,7 +71,7 @@ impl Rows {
     }
 
     /// Returns the rows in order.
-    pub(crate) fn as_slice(&self) -> &[Line]
+    pub(crate) fn as_slice(&self) -> &[NumberRow]
         ensures { result.now ≡ self.now }
     {
         self.lines.as_slice()

@@ -7,14 +7,14 @@ ghost use Rattle.linear_programs.specs.Sums.{dot};
 ghost use Rattle.tableau.specs.Lines.{row_at, IsLine, AreLines, AreEntries, AreStepped, IsLeaving, HasWideRow, padded, IsTurn, IsWideTurn};
 ghost use Rattle.tableau.specs.Sheet.{IsSheet};
 
-use crate::line::Line;
+use crate::line::NumberRow;
 use crate::ratio::leaving;
 use crate::sheet::{Entries, Rows, Sheet};
 use fraction::{Tally, TooWide};
 use pivot_rows::{PivotRow, Place, entry_in};
 
 /// Writes the entry of a column in each row.
-fn write_entries(rows: &[Line], column: &[Place], entries: &mut [i128])
+fn write_entries(rows: &[NumberRow], column: &[Place], entries: &mut [i128])
     requires lines { AreLines (length rows.now) rows.now }
     requires few { length rows.now ≤ 1500 }
     requires length { length entries.old ≡ length rows.now }
@@ -30,7 +30,7 @@ fn write_entries(rows: &[Line], column: &[Place], entries: &mut [i128])
 
 /// Takes a step of elimination by the pivot's row in each other row.
 fn step_rows(
-    rows: &mut [Line],
+    rows: &mut [NumberRow],
     leaving: usize,
     entries: &[i128],
     pivot: &PivotRow,
@@ -58,7 +58,7 @@ fn step_rows(
 
 impl Entries {
     /// Holds the entry of a column in each row.
-    fn write(&mut self, rows: &[Line], column: &[Place])
+    fn write(&mut self, rows: &[NumberRow], column: &[Place])
         requires lines { AreLines (length rows.now) rows.now }
         requires few { length rows.now ≤ 1500 }
         requires length { length self.old ≡ length rows.now }

@@ -14,7 +14,7 @@ const MOST_PRICE: i64 = 10_000;
 
 /// The numbers of a row.
 #[derive(Clone, Copy, Drop)]
-pub(crate) struct Line {
+pub(crate) struct RowNumbers {
     /// The least price; it is the greatest one too where the price is not looked for.
     pub(crate) low: Price64,
     /// The greatest price.
@@ -55,11 +55,11 @@ fn at(numbers: &[i128], place: usize) -> i128 {
 }
 
 /// Returns a line of these bounds and this right side, at a price.
-fn line_of(beyond: i64, missing: i64, right: i64, price: i128) -> Line {
+fn line_of(beyond: i64, missing: i64, right: i64, price: i128) -> RowNumbers {
     let low = -nearest_i64_to_f64(beyond);
     let high = nearest_i64_to_f64(missing);
     let best = bounded(price_of(price), low, high);
-    Line {
+    RowNumbers {
         low,
         high,
         right: nearest_i64_to_f64(right),
@@ -82,7 +82,7 @@ pub(crate) fn lines_of(
     cuts: &[Cut],
     rows: &NodeRows,
     prices: &[i128],
-) -> Result<Vec<Line>, Memory>
+) -> Result<Vec<RowNumbers>, Memory>
     requires { AreRows instance.now cuts.now rows.now }
 {
     let mut lines = List::new(alloc);
@@ -95,7 +95,7 @@ pub(crate) fn lines_of(
 }
 
 /// Returns what it costs to meet so many of the first rows by what is missing alone.
-pub(crate) fn cost_of_missing(lines: &[Line], count: usize) -> Price64 {
+pub(crate) fn cost_of_missing(lines: &[RowNumbers], count: usize) -> Price64 {
     let mut cost = 0.0;
     for line in lines.iter().take(count) {
         cost += line.right * line.high;
@@ -104,7 +104,7 @@ pub(crate) fn cost_of_missing(lines: &[Line], count: usize) -> Price64 {
 }
 
 /// Sets what the mean lacks in each row, and returns the sum of its squares.
-pub(crate) fn set_gaps(lines: &mut [Line]) -> Cover64 {
+pub(crate) fn set_gaps(lines: &mut [RowNumbers]) -> Cover64 {
     let mut squares = 0.0;
     for line in lines.iter_mut() {
         let lack = line.right - line.mean;
@@ -119,7 +119,7 @@ pub(crate) fn set_gaps(lines: &mut [Line]) -> Cover64 {
 
 /// Tries the prices that a step from the best ones along the gaps leads to, within their bounds, and writes
 /// them in units of 2^-24.
-pub(crate) fn try_prices(lines: &mut [Line], step: Share64, asked: &mut [i128]) {
+pub(crate) fn try_prices(lines: &mut [RowNumbers], step: Share64, asked: &mut [i128]) {
     for (line, number) in lines.iter_mut().zip(asked.iter_mut()) {
         let price = bounded(line.best + step * line.gap, line.low, line.high);
         line.tried = price;
@@ -128,14 +128,14 @@ pub(crate) fn try_prices(lines: &mut [Line], step: Share64, asked: &mut [i128]) 
 }
 
 /// Takes the tried prices for the best ones.
-pub(crate) fn keep_prices(lines: &mut [Line]) {
+pub(crate) fn keep_prices(lines: &mut [RowNumbers]) {
     for line in lines.iter_mut() {
         line.best = line.tried;
     }
 }
 
 /// Sets what a tree with these entries brings, so many times.
-pub(crate) fn set_last(lines: &mut [Line], places: &[Place], heads: Cover64) {
+pub(crate) fn set_last(lines: &mut [RowNumbers], places: &[Place], heads: Cover64) {
     for line in lines.iter_mut() {
         line.last = 0.0;
     }
@@ -148,7 +148,7 @@ pub(crate) fn set_last(lines: &mut [Line], places: &[Place], heads: Cover64) {
 
 /// Returns the share of the last tree at which a mean of it and the mean before lacks least, by the sum of
 /// squares; none where both bring the same.
-pub(crate) fn least_share(lines: &[Line]) -> Option<Share64> {
+pub(crate) fn least_share(lines: &[RowNumbers]) -> Option<Share64> {
     let mut product = 0.0;
     let mut square = 0.0;
     for line in lines.iter() {
@@ -166,7 +166,7 @@ pub(crate) fn least_share(lines: &[Line]) -> Option<Share64> {
 }
 
 /// Gives the last tree a share of the mean.
-pub(crate) fn mix_last(lines: &mut [Line], share: Share64) {
+pub(crate) fn mix_last(lines: &mut [RowNumbers], share: Share64) {
     for line in lines.iter_mut() {
         line.mean += share * (line.last - line.mean);
     }
@@ -174,7 +174,7 @@ pub(crate) fn mix_last(lines: &mut [Line], share: Share64) {
 
 /// Returns the product of what the last tree lacks and the gaps: above 0 where a further step along them
 /// would do.
-pub(crate) fn rise_of(lines: &[Line]) -> Cover64 {
+pub(crate) fn rise_of(lines: &[RowNumbers]) -> Cover64 {
     let mut rise = 0.0;
     for line in lines.iter() {
         rise += (line.right - line.last) * line.gap;

@@ -10,9 +10,11 @@ ghost use Rattle.node_columns.specs.Columns.{IsDesk};
 use crate::path::Path;
 use cheapest_tree::Pricer;
 use master_rows::NodeRows;
-use node_columns::{Desk, first_wide, list_cheapest};
+use node_columns::{ColumnDesk, first_wide, list_cheapest};
+use node_task::NodeTask;
 use parse_graph::Graph;
 use roster_model::{Cut, Instance, Memory};
+use search_day::Day;
 use std::alloc::Global;
 use tree_pool::Pool;
 
@@ -29,7 +31,7 @@ fn ask(
     y: &[i128],
     pricer: &mut Pricer,
     pool: &mut Pool,
-    desk: &mut Desk,
+    desk: &mut ColumnDesk,
 ) -> Result<Option<usize>, Memory>
     requires sound { IsSoundInstance instance.now }
     requires graph { IsGraph instance.now.grammar graph.now }
@@ -46,9 +48,12 @@ fn ask(
     if first_wide(y, KAPPA).is_some() {
         return Ok(None);
     }
-    list_cheapest(
-        alloc, instance, cuts, graph, rows, y, pricer, pool, desk, KAPPA,
-    )
+    let task = NodeTask {
+        day: Day { instance, graph },
+        cuts,
+        rows,
+    };
+    list_cheapest(alloc, &task, y, KAPPA, pricer, pool, desk)
 }
 
 /// Takes a pass: steps, asks for a tree there, and notes what it shows. Says whether a further one is worth its
@@ -62,7 +67,7 @@ fn take_pass(
     path: &mut Path,
     pricer: &mut Pricer,
     pool: &mut Pool,
-    desk: &mut Desk,
+    desk: &mut ColumnDesk,
 ) -> Result<bool, Memory>
     requires sound { IsSoundInstance instance.now }
     requires graph { IsGraph instance.now.grammar graph.now }
@@ -113,7 +118,7 @@ pub(crate) fn take_passes(
     path: &mut Path,
     pricer: &mut Pricer,
     pool: &mut Pool,
-    desk: &mut Desk,
+    desk: &mut ColumnDesk,
     count: u32,
 ) -> Result<(), Memory>
     requires sound { IsSoundInstance instance.now }

@@ -4,7 +4,7 @@ ghost use Rattle.master_rows.specs.NodeRows.{AreRows};
 
 use crate::float::price_of;
 use crate::line::{
-    Line, cost_of_missing, keep_prices, least_share, lines_of, mix_last, rise_of, set_gaps,
+    RowNumbers, cost_of_missing, keep_prices, least_share, lines_of, mix_last, rise_of, set_gaps,
     set_last, try_prices,
 };
 use crate::pace::Pace;
@@ -23,7 +23,7 @@ const LIFT: i128 = 36_028_797_018_963_968;
 #[derive(Drop)]
 pub(crate) struct Path {
     /// The numbers of the rows.
-    lines: Vec<Line>,
+    lines: Vec<RowNumbers>,
     /// The prices at which a tree is asked for, in units of 2^-24.
     pub(crate) asked: Vec<i128>,
     /// Those with the best bound so far, in the same units.

@@ -12,8 +12,10 @@ use crate::path::Path;
 use cheapest_tree::Pricer;
 use master_rows::NodeRows;
 use node_columns::desk_of;
+use node_task::NodeTask;
 use parse_graph::Graph;
 use roster_model::{Cut, Instance, Memory};
+use search_day::Day;
 use std::alloc::Global;
 use tree_pool::Pool;
 
@@ -70,7 +72,12 @@ pub fn volume(
 {
     let mut path = Path::new(alloc, instance, cuts, rows, start)?;
     let mut pool = Pool::new(alloc);
-    let mut desk = desk_of(alloc, instance, cuts, rows, &pool, &[])?;
+    let task = NodeTask {
+        day: Day { instance, graph },
+        cuts,
+        rows,
+    };
+    let mut desk = desk_of(alloc, &task, &pool, &[])?;
     take_passes(
         alloc, instance, cuts, graph, rows, &mut path, pricer, &mut pool, &mut desk, passes,
     )?;

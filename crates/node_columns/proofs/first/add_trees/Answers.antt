@@ -11,7 +11,7 @@ loop-tree-preserved c =
           rw (w.held-is, w.wanted-is) record {
             more = more_chain c.args.held.now c.loop-tree.held w.add_tree.new.held v.more e.more;
             wanted = e.wanted;
-            listed = λ i rows pool told. e.listed i rows pool (v.listed i rows pool told);
+            listed = λ rows pool told. e.listed rows pool (v.listed rows pool told);
           }
       | else-tree-len w ↦ rw (w.held-is, w.wanted-is) v
     ]

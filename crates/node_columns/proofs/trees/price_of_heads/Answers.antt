@@ -8,37 +8,32 @@ use Rattle.node_columns.proofs.trees.price_of_heads.Goals as goal
 
 pub offset_bounds-y-head : goal.offset_bounds-y-head
 offset_bounds-y-head c =
-    let r = c.requires.rows in
-    let h = c.first_head-head.ensures r.0 r.1 r.2 in
-    let l = heads_within r.0 r.1 (length c.args.y.now) r.3 in
+    let h = c.first_head-head.ensures c.args.task.now.day.instance.now c.args.task.now.cuts.now c.requires.task.rows in
+    let l = heads_within c.args.task.now.day.instance.now c.args.task.now.cuts.now (length c.args.y.now) c.requires.y in
     search rules
 
 pub bounds-y-head : goal.bounds-y-head
 bounds-y-head c =
-    let r = c.requires.rows in
-    let h = c.first_head-head.ensures r.0 r.1 r.2 in
-    let l = heads_within r.0 r.1 (length c.args.y.now) r.3 in
+    let h = c.first_head-head.ensures c.args.task.now.day.instance.now c.args.task.now.cuts.now c.requires.task.rows in
+    let l = heads_within c.args.task.now.day.instance.now c.args.task.now.cuts.now (length c.args.y.now) c.requires.y in
     omega arith
 
 pub overflow_add-result : goal.overflow_add-result
 overflow_add-result c =
-    let r = c.requires.rows in
-    let h = c.first_head-head.ensures r.0 r.1 r.2 in
-    let l = heads_within r.0 r.1 (length c.args.y.now) r.3 in
+    let h = c.first_head-head.ensures c.args.task.now.day.instance.now c.args.task.now.cuts.now c.requires.task.rows in
+    let l = heads_within c.args.task.now.day.instance.now c.args.task.now.cuts.now (length c.args.y.now) c.requires.y in
     search rules
 
 pub offset_bounds-y-head-2 : goal.offset_bounds-y-head-2
 offset_bounds-y-head-2 c =
-    let r = c.requires.rows in
-    let h = c.first_head-head.ensures r.0 r.1 r.2 in
-    let l = heads_within r.0 r.1 (length c.args.y.now) r.3 in
+    let h = c.first_head-head.ensures c.args.task.now.day.instance.now c.args.task.now.cuts.now c.requires.task.rows in
+    let l = heads_within c.args.task.now.day.instance.now c.args.task.now.cuts.now (length c.args.y.now) c.requires.y in
     search rules
 
 pub bounds-y-head-2 : goal.bounds-y-head-2
 bounds-y-head-2 c =
-    let r = c.requires.rows in
-    let h = c.first_head-head.ensures r.0 r.1 r.2 in
-    let l = heads_within r.0 r.1 (length c.args.y.now) r.3 in
+    let h = c.first_head-head.ensures c.args.task.now.day.instance.now c.args.task.now.cuts.now c.requires.task.rows in
+    let l = heads_within c.args.task.now.day.instance.now c.args.task.now.cuts.now (length c.args.y.now) c.requires.y in
     omega arith
 
 pub overflow_add-result-2 : goal.overflow_add-result-2
@@ -49,8 +44,8 @@ overflow_add-result-2 c =
 
 pub returns : goal.returns
 returns c = record {
-  value = λ i cuts rows.
-      let h = c.first_head-head.ensures i cuts rows in
+  value =
+      let h = c.first_head-head.ensures c.args.task.now.day.instance.now c.args.task.now.cuts.now c.requires.task.rows in
       let a = at_narrow c.args.y.now c.requires.narrow c.first_head-head.result in
       let b = at_narrow c.args.y.now c.requires.narrow (c.first_head-head.result + 1) in
       let x : to_z w128 (of_z w128 (at c.args.y.now c.first_head-head.result)) ≡ at c.args.y.now c.first_head-head.result = omega (arith, ints) in

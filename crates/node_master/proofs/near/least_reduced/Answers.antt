@@ -6,14 +6,14 @@ use Rattle.node_master.proofs.near.least_reduced.Goals as goal
 
 pub returns-clause-least : goal.returns-clause-least
 returns-clause-least c =
-    let i = c.args.instance.now in
+    let i = c.args.day.now.instance.now in
     let p : Prices = record { d = c.args.prices.now.d; cell = c.as_slice.result.now; mult = c.as_slice-mult.result.now } in
-    let h = least-reduced i c.requires.sound.grammar (price_view c.set_parts.new.self) p c.args.cuts.now c.set_parts.ensures.value c.cheapest-least.result
-    (c.cheapest-least.ensures.least i.grammar c.requires.sound.grammar c.requires.graph) in
+    let h = least-reduced i c.requires.day.sound.grammar (price_view c.set_parts.new.self) p c.args.cuts.now c.set_parts.ensures.value c.cheapest-least.result
+    (c.cheapest-least.ensures.least i.grammar c.requires.day.sound.grammar c.requires.day.graph) in
     rw (c.as_slice.ensures, c.as_slice-mult.ensures) at h
 
 pub returns-clause-within : goal.returns-clause-within
 returns-clause-within c =
-    let g = c.args.instance.now.grammar in
-    least-small g c.requires.sound.grammar (price_view c.set_parts.new.self) (room-within c.set_parts.new.self) c.cheapest-least.result
-    (c.cheapest-least.ensures.least g c.requires.sound.grammar c.requires.graph)
+    let g = c.args.day.now.instance.now.grammar in
+    least-small g c.requires.day.sound.grammar (price_view c.set_parts.new.self) (room-within c.set_parts.new.self) c.cheapest-least.result
+    (c.cheapest-least.ensures.least g c.requires.day.sound.grammar c.requires.day.graph)

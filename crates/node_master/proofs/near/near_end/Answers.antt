@@ -1,46 +1,39 @@
-use Rattle.std.proofs.Common.{◌<◌, ◌^◌, pos, ◌<ℤ◌, List, length, refl, rules}
-use Rattle.std.specs.Prelude.{All}
-use Rattle.roster_model.specs.declared.instance.Mult.{Mult}
-use Rattle.roster_model.specs.Folds.{Each}
-use Rattle.roster_model.specs.PriceLimits.{FitPrices}
+use Rattle.std.proofs.Common.{◌^◌, List, length, refl, rules}
 use Rattle.roster_model.specs.Trees.{Parts}
 use Rattle.linear_programs.specs.Solution.{Weighted}
 use Rattle.bound_laws.specs.BestPrices.{AreBest}
 use Rattle.near_laws.specs.Laws.{AreNear}
-use Rattle.near_prices.specs.declared.listed.ListedTree.{ListedTree}
-use Rattle.near_prices.specs.Listed.{IsListed, AreWeightsOf}
+use Rattle.near_prices.specs.Listed.{AreWeightsOf}
 use Rattle.near_prices.proofs.ListedTrees.{weights, days}
-use Rattle.node_master.specs.Listed.{AscendFrom, AreSharesOf}
+use Rattle.node_master.specs.Listed.{MayBeListed, AreSharesOf}
+use Rattle.node_master.specs.Tasks.{FitNode}
 use Rattle.node_master.proofs.NearEnds.{are_weights, apart}
 use Rattle.node_master.proofs.near.near_end.Goals as goal
 
 pub returns-clause-end : goal.returns-clause-end
 returns-clause-end c =
-    let i = c.args.instance.now in
-    let cuts = c.args.cuts.now in
+    let i = c.args.task.now.day.instance.now in
+    let cuts = c.args.task.now.cuts.now in
     let pool = c.args.pool.now in
     let p = c.in-Some.prices in
     let ls = c.as_slice-listed.result.now in
     let xs = c.in_ok-weights.weights in
-    let fit : FitPrices i p.d p.cell p.mult cuts = search rules in
-    let above : Each (λ (m : Mult). pos 0 <ℤ m.value) p.mult = search rules in
-    let listed : All (IsListed (length pool)) ls = search rules in
-    let some : All (λ (l : ListedTree). 0 < l.weight) ls = search rules in
-    let up : AscendFrom 0 ls = search rules in
+    let node : FitNode i cuts p = search rules in
+    let may : MayBeListed (length pool) ls = search rules in
     let shares : AreSharesOf ls xs = search rules in
     let best : AreBest i p cuts = search rules in
     let near : (ws : List (Weighted Parts)) → AreWeightsOf i.grammar pool ls ws → AreNear i cuts ws (2 ^ 56) p = search rules in
-    let w = weights i.grammar pool c.requires.pool ls listed in
+    let w = weights i.grammar pool c.requires.tools.pool ls may.listed in
     λ counts. (
-      c.requires.small,
+      c.requires.task.rows.few,
       record {
-        fit = fit;
-        positive = above;
+        fit = node.fit;
+        positive = node.positive;
         best = best;
         trees = w.ws;
         day = days i.grammar pool ls w.ws w.are;
-        are = are_weights i.grammar pool ls xs w.ws shares some w.are;
-        once = apart 0 ls xs up shares;
+        are = are_weights i.grammar pool ls xs w.ws shares may.weights w.are;
+        once = apart 0 ls xs may.ascend shares;
         near = near w.ws w.are;
       },
       refl,

@@ -12,14 +12,14 @@ narrow-requires c =
     let cuts = c.args.cuts.now in
     let k = c.loop-cut.cut-index in
     let at = slice_get-get_or cuts k _ c.loop-cut-test.true in
-    let within : AreWithin c.args.instance.now [] cuts = subst (λ (xs : List Cut). AreWithin c.args.instance.now [] xs) (sym c.requires.cuts) (base-within c.args.instance.now c.requires.sound) in
-    (c.args.instance.now, take k cuts, record { graph = c.requires.graph; left = c.loop-cut.invariant; within = within-at c.args.instance.now [] cuts k _ within at })
+    let within : AreWithin c.args.day.now.instance.now [] cuts = subst (λ (xs : List Cut). AreWithin c.args.day.now.instance.now [] xs) (sym c.requires.cuts) (base-within c.args.day.now.instance.now c.requires.day.sound) in
+    (c.args.day.now.instance.now, take k cuts, record { graph = c.requires.day.graph; left = c.loop-cut.invariant; within = within-at c.args.day.now.instance.now [] cuts k _ within at })
 
 pub loop-cut-preserved : goal.loop-cut-preserved
 loop-cut-preserved c =
     let cuts = c.args.cuts.now in
     let k = c.loop-cut.cut-index in
     let at = slice_get-get_or cuts k _ c.loop-cut-test.true in
-    let within : AreWithin c.args.instance.now [] cuts = subst (λ (xs : List Cut). AreWithin c.args.instance.now [] xs) (sym c.requires.cuts) (base-within c.args.instance.now c.requires.sound) in
-    subst (λ (xs : List Cut). IsBoxOf c.args.instance.now c.args.graph.now xs c.narrow.new.arc_box) (take-more [] cuts k _ at)
-    (c.narrow.ensures.left c.args.instance.now (take k cuts) (record { graph = c.requires.graph; left = c.loop-cut.invariant; within = within-at c.args.instance.now [] cuts k _ within at }))
+    let within : AreWithin c.args.day.now.instance.now [] cuts = subst (λ (xs : List Cut). AreWithin c.args.day.now.instance.now [] xs) (sym c.requires.cuts) (base-within c.args.day.now.instance.now c.requires.day.sound) in
+    subst (λ (xs : List Cut). IsBoxOf c.args.day.now.instance.now c.args.day.now.graph.now xs c.narrow.new.arc_box) (take-more [] cuts k _ at)
+    (c.narrow.ensures.left c.args.day.now.instance.now (take k cuts) (record { graph = c.requires.day.graph; left = c.loop-cut.invariant; within = within-at c.args.day.now.instance.now [] cuts k _ within at }))

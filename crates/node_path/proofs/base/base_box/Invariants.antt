@@ -3,4 +3,4 @@ use Rattle.count_boxes.specs.Paths.{IsBoxOf}
 use Rattle.node_path.proofs.base.base_box.Given as goal
 
 abbrev pub invariant-loop-cut : goal.invariant-loop-cut
-invariant-loop-cut l = IsBoxOf l.instance l.graph (take l.cut-index l.cuts) l.arc_box
+invariant-loop-cut l = IsBoxOf l.day.instance.now l.day.graph.now (take l.cut-index l.cuts) l.arc_box

@@ -12,12 +12,12 @@ loop-number-init c i t path is = climb-begun i c.args.seats.now c.args.number t 
 pub bounds-seats-number : goal.bounds-seats-number
 bounds-seats-number c =
     let r = c.requires in
-    inside r.0 c.args.seats.now c.args.number r.1 r.2 r.3 c.loop-number.number c.args.cuts.now.items c.loop-number.cuts.items (c.loop-number.invariant r.0 r.1 r.2 r.3)
+    inside r.0 c.args.seats.now c.args.number r.1.0 r.1.1 r.1.2 c.loop-number.number c.args.cuts.now.items c.loop-number.cuts.items (c.loop-number.invariant r.0 r.1.0 r.1.1 r.1.2)
 
 pub loop-number-smaller : goal.loop-number-smaller
 loop-number-smaller c =
     let r = c.requires in
-    let left = climb-left r.0 c.args.seats.now c.args.number r.1 r.2 r.3 c.loop-number.number c.args.cuts.now.items c.loop-number.cuts.items (c.loop-number.invariant r.0 r.1 r.2 r.3) in
+    let left = climb-left r.0 c.args.seats.now c.args.number r.1.0 r.1.1 r.1.2 c.loop-number.number c.args.cuts.now.items c.loop-number.cuts.items (c.loop-number.invariant r.0 r.1.0 r.1.1 r.1.2) in
     let more = ap length c.in-Ok.ensures.items ∙ length-append c.loop-number.cuts.items (c.index-seats-number.result.cut ∷ []) in
     let less : length c.args.cuts.now.items + length c.args.seats.now - length c.push.new.self.items < length c.args.cuts.now.items + length c.args.seats.now - length c.loop-number.cuts.items = omega (arith, left, more) in
     less

@@ -13,16 +13,16 @@ use Rattle.node_columns.proofs.columns.NodeColumnsColumns.price_out.Goals as goa
 pub find_cheaper-requires-clause-plain : goal.find_cheaper-requires-clause-plain
 find_cheaper-requires-clause-plain c =
     let r = c.requires.ready in
-    let i = c.args.self.now.instance.now in
-    let cuts = c.args.self.now.cuts.now in λ j h a.
+    let i = c.args.self.now.task.now.day.instance.now in
+    let cuts = c.args.self.now.task.now.cuts.now in λ j h a.
     let p = plain_held i cuts r.sound r.cuts c.args.self.now.pool.now h (r.desk.held.each j h (rw c.as_slice.ensures at a)) in
     rw c.requires.y p
 
 pub returns-in-Some-clause-found : goal.returns-in-Some-clause-found
 returns-in-Some-clause-found c =
     let r = c.requires.ready in
-    let i = c.args.self.now.instance.now in
-    let cuts = c.args.self.now.cuts.now in
+    let i = c.args.self.now.task.now.day.instance.now in
+    let cuts = c.args.self.now.task.now.cuts.now in
     let s = c.in-Some.ensures.some in
     let there = rw c.as_slice.ensures at s.1 in
     let is = r.desk.held.each c.in-Some.column s.0 there in
@@ -36,19 +36,19 @@ returns-in-Some-clause-found c =
 
 pub returns-in-Ok-clause-kept : goal.returns-in-Ok-clause-kept
 returns-in-Ok-clause-kept c =
-    let i = c.args.self.now.instance.now in
+    let i = c.args.self.now.task.now.day.instance.now in
     record {
       instance = refl;
       cuts = refl;
       graph = refl;
-      pool = c.in-Ok.ensures.grown;
-      lists = λ j k key. keys_kept i c.args.self.now.pool.now c.list_cheapest.new.pool c.args.self.now.desk.now.held c.list_cheapest.new.desk.held j k c.in-Ok.ensures.grown c.in-Ok.ensures.more key;
+      pool = c.in-Ok.ensures.tools.grown;
+      lists = λ j k key. keys_kept i c.args.self.now.pool.now c.list_cheapest.new.pool c.args.self.now.desk.now.held c.list_cheapest.new.desk.held j k c.in-Ok.ensures.tools.grown c.in-Ok.ensures.more key;
     }
 
 pub returns-in-Ok-clause-found : goal.returns-in-Ok-clause-found
 returns-in-Ok-clause-found c =
-    let i = c.args.self.now.instance.now in
-    let cuts = c.args.self.now.cuts.now in
+    let i = c.args.self.now.task.now.day.instance.now in
+    let cuts = c.args.self.now.task.now.cuts.now in
     let pool = c.list_cheapest.new.pool in
     let held = c.list_cheapest.new.desk.held in
     let z : to_z w128 (of_z w128 c.args.kappa) ≡ c.args.kappa = search rules in
@@ -56,13 +56,13 @@ returns-in-Ok-clause-found c =
     some_map c.in-Ok.found
     (λ column. (t : Parts) × HasKey i.grammar pool held column (tree t) × (reduced (master i cuts).rows (at c.args.y.now) c.args.kappa ((master i cuts).column (tree t)) <ℤ pos 0))
     (λ j. (j < length held) × (k : MasterKey) × HasKey i.grammar pool held j k × ((master i cuts).belongs k) × (reduced (master i cuts).rows (at c.args.y.now) c.args.kappa ((master i cuts).column k) <ℤ pos 0))
-    (λ j p. (listed_below i pool held j (tree p.0) p.1, tree p.0, p.1, ((c.in-Ok.ensures.desk.held.each j p.1.one p.1.at).tells (tree p.0) p.1.key).belongs, p.2)) f
+    (λ j p. (listed_below i pool held j (tree p.0) p.1, tree p.0, p.1, ((c.in-Ok.ensures.tools.are.desk.held.each j p.1.one p.1.at).tells (tree p.0) p.1.key).belongs, p.2)) f
 
 pub returns-in-Ok-clause-none : goal.returns-in-Ok-clause-none
 returns-in-Ok-clause-none c =
     let r = c.requires.ready in
-    let i = c.args.self.now.instance.now in
-    let cuts = c.args.self.now.cuts.now in
+    let i = c.args.self.now.task.now.day.instance.now in
+    let cuts = c.args.self.now.task.now.cuts.now in
     let z : to_z w128 (of_z w128 c.args.kappa) ≡ c.args.kappa = search rules in
     let f = rw z at c.in-Ok.ensures.none in
     let n = rw (z, c.as_slice.ensures) at c.in_default-find_cheaper.ensures.none in
@@ -71,11 +71,11 @@ returns-in-Ok-clause-none c =
 
 pub returns-in-Err-list_cheapest-clause-kept : goal.returns-in-Err-list_cheapest-clause-kept
 returns-in-Err-list_cheapest-clause-kept c =
-    let i = c.args.self.now.instance.now in
+    let i = c.args.self.now.task.now.day.instance.now in
     record {
       instance = refl;
       cuts = refl;
       graph = refl;
-      pool = c.in-Err-list_cheapest.ensures.grown;
-      lists = λ j k key. keys_kept i c.args.self.now.pool.now c.list_cheapest.new.pool c.args.self.now.desk.now.held c.list_cheapest.new.desk.held j k c.in-Err-list_cheapest.ensures.grown c.in-Err-list_cheapest.ensures.more key;
+      pool = c.in-Err-list_cheapest.ensures.tools.grown;
+      lists = λ j k key. keys_kept i c.args.self.now.pool.now c.list_cheapest.new.pool c.args.self.now.desk.now.held c.list_cheapest.new.desk.held j k c.in-Err-list_cheapest.ensures.tools.grown c.in-Err-list_cheapest.ensures.more key;
     }

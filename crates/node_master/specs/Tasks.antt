@@ -1,0 +1,94 @@
+-- Nodes whose masters may be hunted and solved, and what is lent for that.
+use Rattle.std.specs.Prelude.{ℤ, pos, ◌≡◌, ◌≤◌, ◌<◌, ◌<ℤ◌, ◌^◌, List, length, Result, IfOk}
+use Rattle.roster_model.specs.declared.instance.Cut.{Cut}
+use Rattle.roster_model.specs.declared.instance.Instance.{Instance}
+use Rattle.roster_model.specs.declared.instance.Mult.{Mult}
+use Rattle.roster_model.specs.declared.instance.Prices.{Prices}
+use Rattle.roster_model.specs.declared.memory.Memory.{Memory as MemoryLack}
+use Rattle.roster_model.specs.Folds.{Each}
+use Rattle.roster_model.specs.PriceLimits.{FitPrices}
+use Rattle.roster_model.specs.Trees.{Parts, IsDayTree}
+use Rattle.linear_programs.specs.Program.{IsPricedOut}
+use Rattle.fraction.specs.Range.{Counts}
+use Rattle.fraction.specs.Row.{at}
+use Rattle.bound_laws.specs.Infeasible.{IsPlainlyInfeasible}
+use Rattle.master_laws.specs.Master.{master}
+use Rattle.master_laws.specs.Rounding.{AreRoundedFrom}
+use Rattle.tableau.specs.declared.simplex.LpEnd.{LpEnd}
+use Rattle.tableau.specs.Ends.{IsLpEnd}
+use Rattle.cheapest_tree.specs.Pricers.{PricerView, IsMadeFor}
+use Rattle.tree_pool.specs.Pools.{PoolTree, IsPool, IsGrown}
+use Rattle.search_day.specs.declared.day.Day.{Day}
+use Rattle.search_day.specs.Days.{IsDay}
+use Rattle.node_task.specs.declared.task.NodeTask.{NodeTask}
+use Rattle.node_task.specs.Tasks.{IsTask, row_count}
+use Rattle.node_columns.specs.declared.desk.Held.{Held}
+use Rattle.node_columns.specs.Columns.{HasKey}
+use Rattle.node_columns.specs.Priced.{AreNarrowPrices}
+use Rattle.node_master.specs.declared.ends.NodeEnd.{NodeEnd}
+use Rattle.node_master.specs.Ends.{IsNodeCut, EndsRight}
+
+-- the pricer is the graph's, and the pool has trees of the day
+pub record AreTools (d : Day) (p : PricerView) (ts : List PoolTree) : Type 0 where
+  pub pricer : IsMadeFor d.graph.now p
+  pub pool : IsPool d.instance.now.grammar ts
+
+-- they still are, and the old trees kept their numbers
+pub record StayTools (d : Day) (p : PricerView) (old new : List PoolTree) : Type 0 where
+  pub are : AreTools d p new
+  pub grown : IsGrown old new
+
+-- the day has a tree and is not plainly infeasible, and each cut is one of a node
+pub record IsBusyNode (d : Day) (cuts : List Cut) : Type 0 where
+  pub day : IsDay d
+  pub busy : IsPlainlyInfeasible d.instance.now → ⊥
+  pub tree : (t : Parts) × IsDayTree d.instance.now.grammar t
+  pub path : Each (IsNodeCut d.instance.now) cuts
+  pub few : length cuts < 2 ^ 31
+
+-- the same of a node whose rows are there
+pub record IsBusyTask (t : NodeTask) : Type 0 where
+  pub task : IsTask t
+  pub node : IsBusyNode t.day t.cuts.now
+
+-- a hunt may use the pricer and the pool
+pub record MayHunt (t : NodeTask) (p : PricerView) (ts : List PoolTree) : Type 0 where
+  pub task : IsTask t
+  pub tools : AreTools t.day p ts
+
+-- the master may be solved with the pricer and the pool
+pub record MaySolve (t : NodeTask) (p : PricerView) (ts : List PoolTree) : Type 0 where
+  pub task : IsTask t
+  pub node : IsBusyNode t.day t.cuts.now
+  pub tools : AreTools t.day p ts
+
+-- how the master of a task ends
+abbrev pub EndsTask : NodeTask → List PoolTree → Counts → Counts → NodeEnd → Type 0
+EndsTask t columns old new end = EndsRight t.day.instance.now t.cuts.now columns old new end
+
+-- a master of a task was solved: it ends right, and no count fell
+pub record SolvesTask (t : NodeTask) (columns : List PoolTree) (old new : Counts)
+    (r : Result NodeEnd MemoryLack) : Type 0 where
+  pub end : IfOk r (EndsTask t columns old new)
+  pub counts : (old.wide ≤ new.wide) × (old.spent ≤ new.spent)
+
+-- the path of a task's master ended so, over a pool and listed columns
+abbrev pub EndsPath : NodeTask → List PoolTree → List Held → LpEnd → Type 0
+EndsPath t columns held e = IsLpEnd (master t.day.instance.now t.cuts.now)
+    (HasKey t.day.instance.now.grammar columns held) e.basic e.y e.kappa e.value
+
+-- narrow prices of the rows, over kappa, at which no column has a negative reduced cost
+pub record ArePathPrices (t : NodeTask) (y : List ℤ) (kappa : ℤ) : Type 0 where
+  pub long : length y ≡ row_count t
+  pub narrow : AreNarrowPrices y kappa
+  pub out : IsPricedOut (master t.day.instance.now t.cuts.now) (at y) kappa
+
+-- prices within the limits of the node, with no multiplier of 0
+pub record FitNode (i : Instance) (cuts : List Cut) (p : Prices) : Type 0 where
+  pub fit : FitPrices i p.d p.cell p.mult cuts
+  pub positive : Each (λ (m : Mult). pos 0 <ℤ m.value) p.mult
+
+-- such prices, rounded from those of the rows
+pub record AreRounded (t : NodeTask) (y : List ℤ) (kappa : ℤ) (p : Prices) : Type 0 where
+  pub rounded : AreRoundedFrom t.day.instance.now t.cuts.now (at y) kappa p
+  pub fit : FitNode t.day.instance.now t.cuts.now p
