@@ -1,13 +1,15 @@
 -- Stated shifts at their prices on a day, whatever they state.
-use Rattle.std.specs.Prelude.{ℕ, ◌≡◌, Option, None, Some, List}
+use Rattle.std.specs.Prelude.{ℕ, ◌≡◌, Option, None, Some, IfSome, MatchOption, List}
 use Rattle.roster_model.specs.declared.instance.Instance.{Instance}
 use Rattle.roster_model.specs.declared.instance.Shift.{Shift}
 use Rattle.roster_model.specs.Duties.{duty}
 use Rattle.roster_model.specs.Folds.{sum_n, Each}
-use Rattle.roster_model.specs.Rosters.{ArePrices, IsTeamPrice}
+use Rattle.roster_model.specs.Rosters.{ArePrices, Costs, IsTeamPrice}
 use Rattle.certificates.specs.RosterCauses.{duties, IsNoShift}
 use Rattle.certificates.specs.Sound.{IsSoundShift}
-use Rattle.candidate_rosters.specs.Rosters.{AreKnown}
+use Rattle.candidate_rosters.specs.declared.roster.Roster.{Roster}
+use Rattle.candidate_rosters.specs.Order.{AreAscending}
+use Rattle.candidate_rosters.specs.Rosters.{AreKnown, IsGoodRoster, CostsAtMost}
 
 -- the price of the word as a shift of the team of the number, none where it is none
 abbrev pub IsPriceOf : Instance → ℕ → List ℕ → Option ℕ → Type 0
@@ -19,6 +21,10 @@ pub record IsShiftAgain (i : Instance) (old new : Shift) : Type 0 where
   pub same : duty new ≡ duty old
   pub priced : IsTeamPrice i (duty new) new.price
   pub sound : IsSoundShift i new
+
+-- the same duty at its price, none where its word is no shift of its team
+abbrev pub FindsAgain : Instance → Shift → Option Shift → Type 0
+FindsAgain i old found = MatchOption found (IsNoShift i old) (IsShiftAgain i old)
 
 -- the words have no prices: some word is no shift of its team
 abbrev pub HaveNoPrices : Instance → List Shift → Type 0
@@ -32,3 +38,13 @@ pub record AreShiftsAgain (i : Instance) (old new : List Shift) : Type 0 where
   pub sums : (f : Shift → ℕ) → sum_n f new ≡ sum_n f in_order
   pub known : AreKnown i new
   pub sound : Each (IsSoundShift i) new
+
+-- those duties in the order of shifts, none where some word is no shift of its team
+pub record FindsAllAgain (i : Instance) (old : List Shift) (found : Option (List Shift)) : Type 0 where
+  pub again : MatchOption found (HaveNoPrices i old) (AreShiftsAgain i old)
+  pub ascending : IfSome found AreAscending
+
+-- a roster of these duties is allowed; where they are an allowed roster, there is one, and it costs no more
+pub record IsRosterAgain (i : Instance) (shifts : List Shift) (found : Option Roster) : Type 0 where
+  pub good : IfSome found (IsGoodRoster i)
+  pub cost : (x : ℕ) → Costs i (duties shifts) x → CostsAtMost x found

@@ -1,11 +1,12 @@
 -- Cheapest trees of teams, each as often as its team needs employees.
-use Rattle.std.specs.Prelude.{ℕ, pos, ◌≡◌, ◌≢◌, ◌≤◌, ◌<◌, ◌+◌, Some, List, [], ◌∷◌, ◌++◌, zero, suc}
+use Rattle.std.specs.Prelude.{ℕ, pos, ◌≡◌, ◌≢◌, ◌≤◌, ◌<◌, ◌+◌, Bool, IsTrue, IsFalse, Option, Some, IfSome, IfNone, List, [], ◌∷◌, ◌++◌, zero, suc}
 use Rattle.roster_model.specs.declared.grammar.Grammar.{Grammar}
 use Rattle.roster_model.specs.declared.instance.Instance.{Instance}
 use Rattle.roster_model.specs.Arcs.{cost}
+use Rattle.roster_model.specs.Folds.{In}
 use Rattle.roster_model.specs.Room.{RoomView}
 use Rattle.roster_model.specs.Sums.{PriceView, tree_sum}
-use Rattle.roster_model.specs.Teams.{Team}
+use Rattle.roster_model.specs.Teams.{Team, teams}
 use Rattle.roster_model.specs.Trees.{Parts, IsDayTree, steps}
 use Rattle.tree_laws.specs.Parts.{root}
 use Rattle.bound_laws.specs.DutyTrees.{own_rules}
@@ -32,10 +33,23 @@ pub record HoldsLeader (i : Instance) (o : Team) (room : RoomView) : Type 0 wher
   pub leads : IsLeader i o tree
   pub held : room.steps ≡ steps 1 tree
 
--- a team that needs employees has no tree
+-- a team has no tree
+abbrev pub HasNoTree : Instance → Team → Type 0
+HasNoTree i o = (u : Parts) → IsTeamTree i o u → ⊥
+
+-- whether the room holds a cheapest tree of the team, or it has none
+pub record TellsLeader (i : Instance) (o : Team) (room : RoomView) (has : Bool) : Type 0 where
+  pub yes : IsTrue has → HoldsLeader i o room
+  pub no : IsFalse has → HasNoTree i o
+
+-- a team that needs employees has none
 pub record LacksTree (i : Instance) (o : Team) : Type 0 where
   pub needs : 0 < o.least
-  pub none : (u : Parts) → IsTeamTree i o u → ⊥
+  pub none : HasNoTree i o
+
+-- some team has no tree, and needs employees
+abbrev pub LacksSome : Instance → Type 0
+LacksSome i = (o : Team) × In o (teams i) × LacksTree i o
 
 -- the same tree many times
 abbrev pub trees_like : ℕ → Parts → List Parts
@@ -57,6 +71,17 @@ AreLedAt i pool os columns = (ts : List Parts) × AreTreesAt i.grammar pool colu
 abbrev pub Leads : Instance → List PoolTree → List PoolTree → Team → List ℕ → List ℕ → Type 0
 Leads i old_pool new_pool o old new = (os : List Team) → AreLedAt i old_pool os old
     → AreLedAt i new_pool (os ++ o ∷ []) new
+
+-- the columns of each team, none where some team lacks a tree
+pub record FindsLeaders (i : Instance) (pool : List PoolTree) (found : Option (List ℕ)) : Type 0 where
+  pub led : IfSome found (AreLedAt i pool (teams i))
+  pub none : IfNone found (LacksSome i)
+
+-- columns of the team were added; where it has no tree, it needs one
+pub record AddsTeam (i : Instance) (o : Team) (old_pool new_pool : List PoolTree) (old new : List ℕ)
+    (has : Bool) : Type 0 where
+  pub yes : IsTrue has → Leads i old_pool new_pool o old new
+  pub no : IsFalse has → LacksTree i o
 
 -- the same number many times
 abbrev pub numbers_like : ℕ → ℕ → List ℕ

@@ -6,3 +6,5 @@ pub mod Starts
 pub mod Offers
 pub mod Finding
 pub mod Again
+pub mod Priced
+pub mod Tools

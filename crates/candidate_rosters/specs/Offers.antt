@@ -18,6 +18,7 @@ use Rattle.parse_graph.specs.Graphs.{GraphView}
 use Rattle.roster_split.specs.Counts.{count_of}
 use Rattle.candidate_rosters.specs.declared.roster.Roster.{Roster}
 use Rattle.candidate_rosters.specs.Rosters.{IsGoodRoster}
+use Rattle.search_day.specs.declared.day.Day.{Day}
 use Rattle.candidate_rosters.specs.Starts.{StartsWith}
 
 -- the cost of the best roster, none where there is no roster
@@ -53,3 +54,10 @@ abbrev pub Reach : Instance → GraphView → List ℕ → List Cut → List (We
 Reach i v counts cuts ws x =
     (ts : List Parts) → HaveCountsOf i v counts ts
     → UsesArtificial i cuts ws ⊎ (IsTreeRoster i ts × Each (Meets ts) (base_cuts i) × (trees_cost i ts ≤ x))
+
+-- the best roster costs no more than what the counts reach, unless the solution uses an artificial column
+abbrev pub IsReached : Day → List ℕ → Option Roster → Type 0
+IsReached d counts best =
+    (x : ℕ) (cuts : List Cut) (ws : List (Weighted MasterKey))
+    → Reach d.instance.now d.graph.now counts cuts ws x
+    → UsesArtificial d.instance.now cuts ws ⊎ (limit_of d.instance.now best ≤ x)

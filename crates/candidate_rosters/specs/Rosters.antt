@@ -1,15 +1,18 @@
 -- Rosters that are allowed, and what they cost.
-use Rattle.std.specs.Prelude.{ℕ, ◌≡◌, ◌≤◌, Option, None, Some, List, [], ◌∷◌, length, slice_get}
+use Rattle.std.specs.Prelude.{ℕ, ◌≡◌, ◌≤◌, Option, None, Some, IfSome, List, [], ◌∷◌, length, slice_get}
 use Rattle.roster_model.specs.declared.grammar.Grammar.{Grammar}
 use Rattle.roster_model.specs.declared.instance.Instance.{Instance}
 use Rattle.roster_model.specs.declared.instance.Shift.{Shift}
+use Rattle.roster_model.specs.Cuts.{Meets, base_cuts}
 use Rattle.roster_model.specs.Folds.{Each}
 use Rattle.roster_model.specs.Duties.{duty}
 use Rattle.roster_model.specs.Rosters.{ArePrices, IsTeamPrice}
+use Rattle.roster_model.specs.SoundInstance.{IsSoundInstance}
 use Rattle.roster_model.specs.Trees.{Parts}
+use Rattle.bound_laws.specs.TreeRosters.{IsTreeRoster, trees_cost}
 use Rattle.span_table.specs.Tables.{IsMadeFor}
 use Rattle.certificates.specs.RosterCauses.{duties, stated_prices}
-use Rattle.certificates.specs.Sound.{IsSoundShift}
+use Rattle.certificates.specs.Sound.{IsGroupNumber, IsSoundShift}
 use Rattle.certificate_laws.specs.Accepted.{IsStated}
 use Rattle.tree_pool.specs.Pools.{PoolTree, IsPoolTree}
 use Rattle.candidate_rosters.specs.declared.roster.Roster.{Roster}
@@ -43,12 +46,26 @@ abbrev pub CostsAtMost : ℕ → Option Roster → Type 0
 CostsAtMost most None = ⊥
 CostsAtMost most (Some r) = r.cost ≤ most
 
+-- a roster of the words of these columns' trees is allowed; where the trees are a roster that meets the base
+-- cuts, there is one, and it costs no more than they do
+pub record IsRosterOf (i : Instance) (pool : List PoolTree) (columns : List ℕ)
+    (found : Option Roster) : Type 0 where
+  pub good : IfSome found (IsGoodRoster i)
+  pub cost : (ts : List Parts) → AreTreesAt i.grammar pool columns ts → IsTreeRoster i ts
+      → Each (Meets ts) (base_cuts i) → CostsAtMost (trees_cost i ts) found
+
 -- each is a shift of its team, at its price
 abbrev pub AreKnown : Instance → List Shift → Type 0
 AreKnown i = Each (λ (s : Shift). IsTeamPrice i (duty s) s.price)
 
--- the desk was made for the instance, and the prices that it knows are right
+-- a word of so few bytes as the desk has room for, and the number of a team
+pub record MayBeAsked (i : Instance) (g : ℕ) (w : List ℕ) : Type 0 where
+  pub group : IsGroupNumber i.groups g
+  pub short : length w ≤ 96
+
+-- the desk was made for the instance, which is sound, and the prices that it knows are right
 pub record IsDeskFor (i : Instance) (d : RosterDesk) : Type 0 where
+  pub sound : IsSoundInstance i
   pub table : IsMadeFor i.grammar d.table
   pub room : d.room ≡ []
   pub known : AreKnown i d.known

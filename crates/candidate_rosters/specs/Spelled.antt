@@ -13,6 +13,7 @@ use Rattle.bound_laws.specs.DutyTrees.{IsDutyTree}
 use Rattle.bound_laws.specs.Laws.{IsOfTeam}
 use Rattle.certificates.specs.Sound.{IsSoundShift}
 use Rattle.tree_pool.specs.Pools.{PoolTree, IsPoolTree}
+use Rattle.candidate_rosters.specs.Order.{AreAscending}
 use Rattle.candidate_rosters.specs.Rosters.{AreTreesAt}
 
 -- the column of the pool is the tree
@@ -38,6 +39,10 @@ pub record IsShiftOf (i : Instance) (t : Parts) (s : Shift) : Type 0 where
   pub priced : IsTeamPrice i (duty s) s.price
   pub sound : IsSoundShift i s
 
+-- it is that of the tree of this column
+abbrev pub IsShiftAt : Instance → List PoolTree → ℕ → Shift → Type 0
+IsShiftAt i pool column s = (t : Parts) → IsTreeAt i.grammar pool column t → IsShiftOf i t s
+
 abbrev pub AreShiftsOf : Instance → List Parts → List Shift → Type 0
 AreShiftsOf i [] [] = Unit {0}
 AreShiftsOf i (t ∷ ts) (s ∷ ss) = IsShiftOf i t s × AreShiftsOf i ts ss
@@ -58,3 +63,9 @@ pub record AreSpelled (i : Instance) (ts : List Parts) (ss : List Shift) : Type 
 -- they are those of the trees of these columns
 abbrev pub AreShiftsAt : Instance → List PoolTree → List ℕ → List Shift → Type 0
 AreShiftsAt i pool columns ss = (ts : List Parts) → AreTreesAt i.grammar pool columns ts → AreSpelled i ts ss
+
+-- and they stand in their order
+pub record AreOrderedAt (i : Instance) (pool : List PoolTree) (columns : List ℕ)
+    (ss : List Shift) : Type 0 where
+  pub spelled : AreShiftsAt i pool columns ss
+  pub ascending : AreAscending ss

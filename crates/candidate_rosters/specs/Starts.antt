@@ -1,5 +1,5 @@
 -- The roster with which a search begins.
-use Rattle.std.specs.Prelude.{ℕ, ◌≡◌, ◌≤◌, ◌<◌, Option, None, Some, List, [], ◌∷◌, ◌++◌, zero, suc}
+use Rattle.std.specs.Prelude.{ℕ, ◌≡◌, ◌≤◌, ◌<◌, Option, None, Some, IfSome, List, [], ◌∷◌, ◌++◌, zero, suc}
 use Rattle.roster_model.specs.declared.instance.Cell.{Cell}
 use Rattle.roster_model.specs.declared.instance.Instance.{Instance}
 use Rattle.roster_model.specs.Duties.{Duty}
@@ -8,6 +8,7 @@ use Rattle.roster_model.specs.Rosters.{Costs}
 use Rattle.roster_model.specs.Shifts.{IsPrice, IsShift}
 use Rattle.roster_model.specs.Teams.{Team, teams}
 use Rattle.candidate_rosters.specs.declared.roster.Roster.{Roster}
+use Rattle.candidate_rosters.specs.Rosters.{IsGoodRoster}
 
 -- the word is a shift of the team, and no shift of the team has a lesser price
 pub record IsCheapest (i : Instance) (team : Team) (w : List ℕ) : Type 0 where
@@ -49,3 +50,8 @@ IsAtMostStart i cost = (n : ℕ) × (cost ≡ Some n) × (ds : List Duty) × (m 
 abbrev pub StartsWith : Instance → Option Roster → Type 0
 StartsWith i None = ⊥
 StartsWith i (Some r) = IsAtMostStart i (Some r.cost)
+
+-- a roster is allowed; where there is to be one of such shifts, there is one, and it costs no more
+pub record IsFirstRoster (i : Instance) (found : Option Roster) : Type 0 where
+  pub good : IfSome found (IsGoodRoster i)
+  pub start : HasStart i → StartsWith i found

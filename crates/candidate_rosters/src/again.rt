@@ -1,12 +1,8 @@
-ghost use Rattle.std.specs.Prelude.{ℕ, ◌≡◌, ◌≤◌, IfOk, IfSome, MatchOption, length};
+ghost use Rattle.std.specs.Prelude.{◌≡◌, ◌≤◌, IfOk, length};
 ghost use Rattle.roster_model.specs.Folds.{Each};
-ghost use Rattle.roster_model.specs.Rosters.{Costs};
-ghost use Rattle.roster_model.specs.SoundInstance.{IsSoundInstance};
-ghost use Rattle.certificates.specs.RosterCauses.{duties, IsNoShift};
 ghost use Rattle.certificates.specs.Sound.{IsSoundShift};
-ghost use Rattle.candidate_rosters.specs.Again.{IsShiftAgain, AreShiftsAgain, HaveNoPrices};
-ghost use Rattle.candidate_rosters.specs.Order.{AreAscending};
-ghost use Rattle.candidate_rosters.specs.Rosters.{IsGoodRoster, CostsAtMost, IsDeskFor};
+ghost use Rattle.candidate_rosters.specs.Again.{FindsAgain, FindsAllAgain, IsRosterAgain};
+ghost use Rattle.candidate_rosters.specs.Rosters.{IsDeskFor};
 
 use crate::desk::RosterDesk;
 use crate::price::price_if_shift;
@@ -31,11 +27,9 @@ fn shift_again(
     shift: &Shift,
     desk: &mut RosterDesk,
 ) -> Result<Option<Shift>, Memory>
-    requires sound { IsSoundInstance instance.now }
     requires shift { IsSoundShift instance.now shift.now }
     requires desk { IsDeskFor instance.now desk.old }
-    ensures again { IfOk result (λ found. MatchOption found (IsNoShift instance.now shift.now)
-        (IsShiftAgain instance.now shift.now)) }
+    ensures again { IfOk result (FindsAgain instance.now shift.now) }
     ensures desk { IsDeskFor instance.now desk.new }
 {
     let group = shift.group;
@@ -53,12 +47,9 @@ fn shifts_again(
     shifts: &[Shift],
     desk: &mut RosterDesk,
 ) -> Result<Option<List<Shift>>, Memory>
-    requires sound { IsSoundInstance instance.now }
     requires shifts { Each (IsSoundShift instance.now) shifts.now }
     requires desk { IsDeskFor instance.now desk.old }
-    ensures again { IfOk result (λ found. MatchOption found (HaveNoPrices instance.now shifts.now)
-        (AreShiftsAgain instance.now shifts.now)) }
-    ensures ascending { IfOk result (λ found. IfSome found AreAscending) }
+    ensures found { IfOk result (FindsAllAgain instance.now shifts.now) }
     ensures desk { IsDeskFor instance.now desk.new }
 {
     let mut found = Vec::new(alloc);
@@ -84,13 +75,10 @@ pub fn roster_again(
     shifts: &[Shift],
     desk: &mut RosterDesk,
 ) -> Result<Option<Roster>, Memory>
-    requires sound { IsSoundInstance instance.now }
     requires shifts { Each (IsSoundShift instance.now) shifts.now }
     requires few { length shifts.now ≤ 64 }
     requires desk { IsDeskFor instance.now desk.old }
-    ensures roster { IfOk result (λ found. IfSome found (IsGoodRoster instance.now)) }
-    ensures cost { IfOk result (λ found. (x : ℕ) → Costs instance.now (duties shifts.now) x
-        → CostsAtMost x found) }
+    ensures roster { IfOk result (IsRosterAgain instance.now shifts.now) }
     ensures desk { IsDeskFor instance.now desk.new }
 {
     let again = shifts_again(alloc, instance, shifts, desk)?;

@@ -1,31 +1,30 @@
-ghost use Rattle.std.specs.Prelude.{◌≡◌, OnOk};
-ghost use Rattle.roster_model.specs.PriceRooms.{price_view, IsRoomFor};
-ghost use Rattle.roster_model.specs.SoundInstance.{IsSoundInstance};
-ghost use Rattle.candidate_rosters.specs.Leaders.{AreCosts};
+ghost use Rattle.std.specs.Prelude.{OnOk};
+ghost use Rattle.search_day.specs.Days.{IsDay};
+ghost use Rattle.search_day.specs.Rooms.{ArePricing, StayPricing};
+ghost use Rattle.candidate_rosters.specs.Priced.{IsPricedByCosts};
 
-use roster_model::{Instance, Memory, PriceRoom};
+use roster_model::Memory;
+use search_day::{Day, Pricing};
 use std::alloc::Global;
 
-/// Sets the prices under which the sum of a tree of the day is its cost.
+/// Sets the prices under which the sum of a tree of the day is its cost, and fills the pricer for them.
 ///
 /// # Errors
 ///
-/// `Memory` where memory runs out; the room is still one for the instance then, and nothing is said of its
-/// prices.
-pub fn price_by_costs(
-    alloc: Global,
-    instance: &Instance,
-    prices: &mut PriceRoom,
-) -> Result<(), Memory>
-    requires sound { IsSoundInstance instance.now }
-    requires prices { IsRoomFor prices.old instance.now }
-    ensures costs { OnOk result (AreCosts instance.now.grammar (price_view prices.new)) }
-    ensures prices { IsRoomFor prices.new instance.now }
-    ensures most { prices.new.most ≡ prices.old.most }
+/// `Memory` where memory runs out; the pricer and the room are still those of the day then, and nothing is
+/// said of the prices.
+pub fn price_by_costs(alloc: Global, day: &Day, pricing: &mut Pricing) -> Result<(), Memory>
+    requires day { IsDay day.now }
+    requires pricing { ArePricing day.now pricing.old }
+    ensures costs { OnOk result (IsPricedByCosts day.now pricing.new) }
+    ensures pricing { StayPricing day.now pricing.old pricing.new }
 {
-    let Ok(zeros) = Vec::from_elem(alloc, 0, instance.cells.len()) else {
+    let Ok(zeros) = Vec::from_elem(alloc, 0, day.instance.cells.len()) else {
         return Err(Memory);
     };
-    prices.set_parts(instance, 1, zeros.as_slice(), &[], &[]);
+    pricing
+        .room
+        .set_parts(day.instance, 1, zeros.as_slice(), &[], &[]);
+    pricing.pricer.cheapest(day.graph, &pricing.room);
     Ok(())
 }

@@ -1,21 +1,17 @@
-ghost use Rattle.std.specs.Prelude.{◌≡◌, ◌≢◌, ◌+◌, [], IsTrue, IsFalse};
+ghost use Rattle.std.specs.Prelude.{◌≡◌, ◌≢◌, ◌+◌, []};
 ghost use Rattle.roster_model.specs.Cuts.{group_arc as arc_of_rule};
 ghost use Rattle.roster_model.specs.Folds.{In};
-ghost use Rattle.roster_model.specs.PriceRooms.{price_view};
 ghost use Rattle.roster_model.specs.Room.{most_uses};
 ghost use Rattle.roster_model.specs.SoundInstance.{IsSoundInstance};
 ghost use Rattle.roster_model.specs.Teams.{teams};
-ghost use Rattle.roster_model.specs.Trees.{Parts};
 ghost use Rattle.bound_laws.specs.DutyTrees.{own_rules};
-ghost use Rattle.parse_graph.specs.Graphs.{IsGraph};
-ghost use Rattle.cheapest_tree.specs.Pricers.{IsMadeFor, IsFilled};
 ghost use Rattle.roster_part.specs.TeamViews.{team_view};
-ghost use Rattle.candidate_rosters.specs.Leaders.{AreCosts, IsTeamTree, HoldsLeader};
+ghost use Rattle.candidate_rosters.specs.Leaders.{TellsLeader};
+ghost use Rattle.candidate_rosters.specs.Priced.{IsPricedByCosts};
 
-use cheapest_tree::Pricer;
-use parse_graph::Graph;
-use roster_model::{ArcKey, Instance, PriceRoom, TreeRoom, group_arc};
+use roster_model::{ArcKey, Instance, TreeRoom, group_arc};
 use roster_part::Team;
+use search_day::{Day, Pricing};
 
 /// Returns the arc by which the rule of a team that is a group stands on the whole day.
 pub fn team_arc(instance: &Instance, team: &Team) -> ArcKey
@@ -29,63 +25,40 @@ pub fn team_arc(instance: &Instance, team: &Team) -> ArcKey
 }
 
 // Leaves in the room the steps of a cheapest tree of a team that is a group.
-fn lead_group(
-    instance: &Instance,
-    graph: &Graph,
-    pricer: &Pricer,
-    prices: &PriceRoom,
-    team: &Team,
-    room: &mut TreeRoom,
-) -> bool
-    requires sound { IsSoundInstance instance.now }
-    requires graph { IsGraph instance.now.grammar graph.now }
-    requires made { IsMadeFor graph.now pricer.now }
-    requires filled { IsFilled instance.now.grammar (price_view prices.now) graph.now pricer.now }
-    requires costs { AreCosts instance.now.grammar (price_view prices.now) }
-    requires team { In (team_view team.now) (teams instance.now) }
-    requires groups { instance.now.groups ≢ [] }
-    requires room { room.old.most ≡ most_uses instance.now.grammar }
-    ensures yes { IsTrue result → HoldsLeader instance.now (team_view team.now) room.new }
-    ensures no { IsFalse result → (u : Parts) → IsTeamTree instance.now (team_view team.now) u → ⊥ }
+fn lead_group(day: &Day, pricing: &Pricing, team: &Team, room: &mut TreeRoom) -> bool
+    requires priced { IsPricedByCosts day.now pricing.now }
+    requires team { In (team_view team.now) (teams day.now.instance.now) }
+    requires groups { day.now.instance.now.groups ≢ [] }
+    requires room { room.old.most ≡ most_uses day.now.instance.now.grammar }
+    ensures leads { TellsLeader day.now.instance.now (team_view team.now) room.new result }
     ensures kept { room.new.most ≡ room.old.most }
 {
-    let Some(arc) = graph.find(&team_arc(instance, team)) else {
+    let Some(arc) = day.graph.find(&team_arc(day.instance, team)) else {
         return false;
     };
-    if pricer.sum_under(graph, prices, arc).is_none() {
+    let pricer = &pricing.pricer;
+    if pricer.sum_under(day.graph, &pricing.room, arc).is_none() {
         return false;
     }
-    pricer.tree_under(graph, prices, arc, room);
+    pricer.tree_under(day.graph, &pricing.room, arc, room);
     true
 }
 
 /// Leaves in the room the steps of a cheapest tree of the day of a team, and says whether it has one.
 /// The pricer is filled for the costs.
-pub fn lead(
-    instance: &Instance,
-    graph: &Graph,
-    pricer: &Pricer,
-    prices: &PriceRoom,
-    team: &Team,
-    room: &mut TreeRoom,
-) -> bool
-    requires sound { IsSoundInstance instance.now }
-    requires graph { IsGraph instance.now.grammar graph.now }
-    requires made { IsMadeFor graph.now pricer.now }
-    requires filled { IsFilled instance.now.grammar (price_view prices.now) graph.now pricer.now }
-    requires costs { AreCosts instance.now.grammar (price_view prices.now) }
-    requires team { In (team_view team.now) (teams instance.now) }
-    requires room { room.old.most ≡ most_uses instance.now.grammar }
-    ensures yes { IsTrue result → HoldsLeader instance.now (team_view team.now) room.new }
-    ensures no { IsFalse result → (u : Parts) → IsTeamTree instance.now (team_view team.now) u → ⊥ }
+pub fn lead(day: &Day, pricing: &Pricing, team: &Team, room: &mut TreeRoom) -> bool
+    requires priced { IsPricedByCosts day.now pricing.now }
+    requires team { In (team_view team.now) (teams day.now.instance.now) }
+    requires room { room.old.most ≡ most_uses day.now.instance.now.grammar }
+    ensures leads { TellsLeader day.now.instance.now (team_view team.now) room.new result }
     ensures kept { room.new.most ≡ room.old.most }
 {
-    if !instance.groups.is_empty() {
-        return lead_group(instance, graph, pricer, prices, team, room);
+    if !day.instance.groups.is_empty() {
+        return lead_group(day, pricing, team, room);
     }
-    if graph.root().is_none() {
+    if day.graph.root().is_none() {
         return false;
     }
-    pricer.tree(graph, prices, room);
+    pricing.pricer.tree(day.graph, &pricing.room, room);
     true
 }

@@ -1,20 +1,17 @@
-ghost use Rattle.std.specs.Prelude.{◌≡◌, ◌++◌, [], IfOk, OnOk, IsTrue, IsFalse, IfSome, IfNone};
+ghost use Rattle.std.specs.Prelude.{◌≡◌, ◌++◌, IfOk, OnOk};
 ghost use Rattle.roster_model.specs.Folds.{In};
-ghost use Rattle.roster_model.specs.PriceRooms.{price_view};
 ghost use Rattle.roster_model.specs.Room.{most_uses};
-ghost use Rattle.roster_model.specs.SoundInstance.{IsSoundInstance};
-ghost use Rattle.roster_model.specs.Teams.{Team as TeamOf, teams};
-ghost use Rattle.parse_graph.specs.Graphs.{IsGraph};
-ghost use Rattle.cheapest_tree.specs.Pricers.{IsMadeFor, IsFilled};
+ghost use Rattle.roster_model.specs.Teams.{teams};
 ghost use Rattle.roster_part.specs.TeamViews.{team_view};
-ghost use Rattle.tree_pool.specs.Pools.{IsPool, IsGrown};
-ghost use Rattle.candidate_rosters.specs.Leaders.{AreCosts, LacksTree, AreLedAt, Leads, numbers_like};
+ghost use Rattle.tree_pool.specs.Pools.{IsPool};
+ghost use Rattle.search_day.specs.Rooms.{Grows};
+ghost use Rattle.candidate_rosters.specs.Leaders.{AddsTeam, FindsLeaders, numbers_like};
+ghost use Rattle.candidate_rosters.specs.Priced.{IsPricedByCosts};
 
 use crate::lead::lead;
-use cheapest_tree::Pricer;
-use parse_graph::Graph;
-use roster_model::{Instance, List, Memory, PriceRoom, TreeRoom};
+use roster_model::{List, Memory, TreeRoom};
 use roster_part::{Team, team_at, team_count};
+use search_day::{Day, Pricing};
 use std::alloc::Global;
 use tree_pool::Pool;
 
@@ -30,37 +27,29 @@ fn push_copies(columns: &mut List<usize>, column: usize, count: u32) -> Result<(
 
 // Adds a cheapest tree of a team as often as it needs employees; false where it has none and needs some.
 fn add_team(
-    instance: &Instance,
-    graph: &Graph,
-    pricer: &Pricer,
-    prices: &PriceRoom,
+    day: &Day,
+    pricing: &Pricing,
     team: &Team,
     room: &mut TreeRoom,
     pool: &mut Pool,
     columns: &mut List<usize>,
 ) -> Result<bool, Memory>
-    requires sound { IsSoundInstance instance.now }
-    requires graph { IsGraph instance.now.grammar graph.now }
-    requires made { IsMadeFor graph.now pricer.now }
-    requires filled { IsFilled instance.now.grammar (price_view prices.now) graph.now pricer.now }
-    requires costs { AreCosts instance.now.grammar (price_view prices.now) }
-    requires team { In (team_view team.now) (teams instance.now) }
-    requires room { room.old.most ≡ most_uses instance.now.grammar }
-    requires pool { IsPool instance.now.grammar pool.old }
-    ensures yes { IfOk result (λ has. IsTrue has
-        → Leads instance.now pool.old pool.new (team_view team.now) columns.old columns.new) }
-    ensures no { IfOk result (λ has. IsFalse has → LacksTree instance.now (team_view team.now)) }
+    requires priced { IsPricedByCosts day.now pricing.now }
+    requires team { In (team_view team.now) (teams day.now.instance.now) }
+    requires room { room.old.most ≡ most_uses day.now.instance.now.grammar }
+    requires pool { IsPool day.now.instance.now.grammar pool.old }
+    ensures added { IfOk result (AddsTeam day.now.instance.now (team_view team.now) pool.old pool.new
+        columns.old columns.new) }
     ensures kept { room.new.most ≡ room.old.most }
-    ensures pool { IsPool instance.now.grammar pool.new }
-    ensures grown { IsGrown pool.old pool.new }
+    ensures pool { Grows day.now pool.old pool.new }
 {
     if team.least == 0 {
         return Ok(true);
     }
-    if !lead(instance, graph, pricer, prices, team, room) {
+    if !lead(day, pricing, team, room) {
         return Ok(false);
     }
-    let column = pool.add(&instance.grammar, room.steps())?;
+    let column = pool.add(&day.instance.grammar, room.steps())?;
     push_copies(columns, column, team.least)?;
     Ok(true)
 }
@@ -74,38 +63,20 @@ fn add_team(
 /// of the day.
 pub fn leaders(
     alloc: Global,
-    instance: &Instance,
-    graph: &Graph,
-    pricer: &Pricer,
-    prices: &PriceRoom,
+    day: &Day,
+    pricing: &Pricing,
     pool: &mut Pool,
 ) -> Result<Option<List<usize>>, Memory>
-    requires sound { IsSoundInstance instance.now }
-    requires graph { IsGraph instance.now.grammar graph.now }
-    requires made { IsMadeFor graph.now pricer.now }
-    requires filled { IsFilled instance.now.grammar (price_view prices.now) graph.now pricer.now }
-    requires costs { AreCosts instance.now.grammar (price_view prices.now) }
-    requires pool { IsPool instance.now.grammar pool.old }
-    ensures led { IfOk result (λ found. IfSome found (AreLedAt instance.now pool.new (teams instance.now))) }
-    ensures none { IfOk result
-        (λ found. IfNone found ((o : TeamOf) × In o (teams instance.now) × LacksTree instance.now o)) }
-    ensures pool { IsPool instance.now.grammar pool.new }
-    ensures grown { IsGrown pool.old pool.new }
+    requires priced { IsPricedByCosts day.now pricing.now }
+    requires pool { IsPool day.now.instance.now.grammar pool.old }
+    ensures found { IfOk result (FindsLeaders day.now.instance.now pool.new) }
+    ensures pool { Grows day.now pool.old pool.new }
 {
-    let mut room = TreeRoom::for_grammar(alloc, &instance.grammar)?;
+    let mut room = TreeRoom::for_grammar(alloc, &day.instance.grammar)?;
     let mut columns = List::new(alloc);
-    for place in 0..team_count(instance) {
-        let team = team_at(instance, place);
-        if !add_team(
-            instance,
-            graph,
-            pricer,
-            prices,
-            &team,
-            &mut room,
-            pool,
-            &mut columns,
-        )? {
+    for place in 0..team_count(day.instance) {
+        let team = team_at(day.instance, place);
+        if !add_team(day, pricing, &team, &mut room, pool, &mut columns)? {
             return Ok(None);
         }
     }

@@ -1,19 +1,15 @@
-ghost use Rattle.std.specs.Prelude.{IfOk, IfSome, Option as Maybe, Some, ℕ, ◌≡◌};
-ghost use Rattle.roster_model.specs.PriceRooms.{IsRoomFor};
-ghost use Rattle.roster_model.specs.SoundInstance.{IsSoundInstance};
-ghost use Rattle.parse_graph.specs.Graphs.{IsGraph};
-ghost use Rattle.cheapest_tree.specs.Pricers.{IsMadeFor};
-ghost use Rattle.tree_pool.specs.Pools.{IsPool, IsGrown};
-ghost use Rattle.candidate_rosters.specs.Rosters.{IsGoodRoster, IsDeskFor};
-ghost use Rattle.candidate_rosters.specs.Starts.{HasStart, StartsWith};
+ghost use Rattle.std.specs.Prelude.{IfOk};
+ghost use Rattle.search_day.specs.Days.{IsDay};
+ghost use Rattle.search_day.specs.Rooms.{ArePricing, StayPricing};
+ghost use Rattle.candidate_rosters.specs.Starts.{IsFirstRoster};
+ghost use Rattle.candidate_rosters.specs.Tools.{AreTools, StayTools};
 
 use crate::costs::price_by_costs;
 use crate::desk::RosterDesk;
 use crate::leaders::leaders;
 use crate::roster::{Roster, roster_of};
-use cheapest_tree::Pricer;
-use parse_graph::Graph;
-use roster_model::{Instance, Memory, PriceRoom};
+use roster_model::Memory;
+use search_day::{Day, Pricing};
 use std::alloc::Global;
 use tree_pool::Pool;
 
@@ -27,32 +23,21 @@ use tree_pool::Pool;
 /// day.
 pub fn least_roster(
     alloc: Global,
-    instance: &Instance,
-    graph: &Graph,
-    pricer: &mut Pricer,
-    prices: &mut PriceRoom,
+    day: &Day,
+    pricing: &mut Pricing,
     pool: &mut Pool,
     desk: &mut RosterDesk,
 ) -> Result<Option<Roster>, Memory>
-    requires sound { IsSoundInstance instance.now }
-    requires graph { IsGraph instance.now.grammar graph.now }
-    requires pricer { IsMadeFor graph.now pricer.old }
-    requires prices { IsRoomFor prices.old instance.now }
-    requires pool { IsPool instance.now.grammar pool.old }
-    requires desk { IsDeskFor instance.now desk.old }
-    ensures roster { IfOk result (λ found. IfSome found (IsGoodRoster instance.now)) }
-    ensures start { IfOk result (λ found. HasStart instance.now → StartsWith instance.now found) }
-    ensures pricer { IsMadeFor graph.now pricer.new }
-    ensures prices { IsRoomFor prices.new instance.now }
-    ensures most { prices.new.most ≡ prices.old.most }
-    ensures pool { IsPool instance.now.grammar pool.new }
-    ensures grown { IsGrown pool.old pool.new }
-    ensures desk { IsDeskFor instance.now desk.new }
+    requires day { IsDay day.now }
+    requires pricing { ArePricing day.now pricing.old }
+    requires tools { AreTools day.now pool.old desk.old }
+    ensures roster { IfOk result (IsFirstRoster day.now.instance.now) }
+    ensures pricing { StayPricing day.now pricing.old pricing.new }
+    ensures tools { StayTools day.now pool.old pool.new desk.new }
 {
-    price_by_costs(alloc, instance, prices)?;
-    pricer.cheapest(graph, prices);
-    let Some(columns) = leaders(alloc, instance, graph, pricer, prices, pool)? else {
+    price_by_costs(alloc, day, pricing)?;
+    let Some(columns) = leaders(alloc, day, pricing, pool)? else {
         return Ok(None);
     };
-    roster_of(alloc, instance, pool, columns.as_slice(), desk)
+    roster_of(alloc, day.instance, pool, columns.as_slice(), desk)
 }

@@ -1,9 +1,7 @@
-ghost use Rattle.std.specs.Prelude.{◌≡◌, ◌≤◌, ◌<◌, ◌∷◌, [], IfSome, length};
+ghost use Rattle.std.specs.Prelude.{◌≤◌, ◌<◌, IfSome, length};
 ghost use Rattle.roster_model.specs.Folds.{In};
 ghost use Rattle.roster_model.specs.Rosters.{IsTeamPrice};
-ghost use Rattle.roster_model.specs.SoundInstance.{IsSoundInstance};
-ghost use Rattle.certificates.specs.Sound.{IsGroupNumber};
-ghost use Rattle.candidate_rosters.specs.Rosters.{AreKnown, IsDeskFor};
+ghost use Rattle.candidate_rosters.specs.Rosters.{AreKnown, IsDeskFor, MayBeAsked};
 ghost use Rattle.candidate_rosters.specs.Again.{IsPriceOf};
 ghost use Rattle.candidate_rosters.specs.Spelled.{IsTeamShift};
 
@@ -42,10 +40,8 @@ fn remember(instance: &Instance, known: &mut ShiftRoom, group: u8, word: &[u8], 
 
 // Finds the price of a word of a team by the table; `None` where it is no shift of it.
 fn least_of(instance: &Instance, group: u8, word: &[u8], desk: &mut RosterDesk) -> Option<u64>
-    requires sound { IsSoundInstance instance.now }
     requires desk { IsDeskFor instance.now desk.old }
-    requires group { IsGroupNumber instance.now.groups group }
-    requires short { length word.now ≤ 96 }
+    requires word { MayBeAsked instance.now group word.now }
     ensures price { IsPriceOf instance.now group word.now result }
     ensures desk { IsDeskFor instance.now desk.new }
 {
@@ -63,10 +59,8 @@ pub(crate) fn price_if_shift(
     word: &[u8],
     desk: &mut RosterDesk,
 ) -> Option<u64>
-    requires sound { IsSoundInstance instance.now }
     requires desk { IsDeskFor instance.now desk.old }
-    requires group { IsGroupNumber instance.now.groups group }
-    requires short { length word.now ≤ 96 }
+    requires word { MayBeAsked instance.now group word.now }
     ensures price { IsPriceOf instance.now group word.now result }
     ensures desk { IsDeskFor instance.now desk.new }
 {
@@ -80,10 +74,8 @@ pub(crate) fn price_if_shift(
 
 /// Returns the price of a shift of a team.
 pub fn price_of(instance: &Instance, group: u8, word: &[u8], desk: &mut RosterDesk) -> u64
-    requires sound { IsSoundInstance instance.now }
     requires desk { IsDeskFor instance.now desk.old }
-    requires group { IsGroupNumber instance.now.groups group }
-    requires short { length word.now ≤ 96 }
+    requires word { MayBeAsked instance.now group word.now }
     requires shift { IsTeamShift instance.now group word.now }
     ensures price { IsTeamPrice instance.now (record { team = group; word = word.now }) result }
     ensures desk { IsDeskFor instance.now desk.new }

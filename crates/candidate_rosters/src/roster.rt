@@ -1,13 +1,9 @@
-ghost use Rattle.std.specs.Prelude.{◌<◌, All, IfOk, IfSome, length, List as Items};
-ghost use Rattle.roster_model.specs.Cuts.{base_cuts, Meets};
-ghost use Rattle.roster_model.specs.Folds.{Each};
-ghost use Rattle.roster_model.specs.SoundInstance.{IsSoundInstance};
-ghost use Rattle.roster_model.specs.Trees.{Parts};
-ghost use Rattle.bound_laws.specs.TreeRosters.{IsTreeRoster, trees_cost};
+ghost use Rattle.std.specs.Prelude.{◌<◌, All, IfOk, IfSome, length};
 ghost use Rattle.tree_pool.specs.Pools.{IsPool};
 ghost use Rattle.roster_model.specs.Rosters.{IsRoster, roster_cost};
 ghost use Rattle.certificates.specs.RosterCauses.{duties, stated_prices};
-ghost use Rattle.candidate_rosters.specs.Rosters.{IsGoodRoster, AreTreesAt, CostsAtMost, IsDeskFor, ArePricedShifts};
+ghost use Rattle.candidate_rosters.specs.Rosters.{IsGoodRoster, CostsAtMost, IsDeskFor, ArePricedShifts};
+ghost use Rattle.candidate_rosters.specs.Rosters.{IsRosterOf};
 
 use crate::desk::RosterDesk;
 use crate::shifts::shifts_of;
@@ -33,7 +29,6 @@ pub(crate) fn judged(
     shifts: List<Shift>,
     desk: &mut RosterDesk,
 ) -> Option<Roster>
-    requires sound { IsSoundInstance instance.now }
     requires desk { IsDeskFor instance.now desk.old }
     requires shifts { ArePricedShifts instance.now shifts }
     ensures roster { IfSome result (IsGoodRoster instance.now) }
@@ -65,15 +60,10 @@ pub fn roster_of(
     columns: &[usize],
     desk: &mut RosterDesk,
 ) -> Result<Option<Roster>, Memory>
-    requires sound { IsSoundInstance instance.now }
     requires pool { IsPool instance.now.grammar pool.now }
     requires columns { All (λ c. c < length pool.now) columns.now }
     requires desk { IsDeskFor instance.now desk.old }
-    ensures roster { IfOk result (λ found. IfSome found (IsGoodRoster instance.now)) }
-    ensures cost { IfOk result
-        (λ found. (ts : Items Parts) → AreTreesAt instance.now.grammar pool.now columns.now ts
-        → IsTreeRoster instance.now ts → Each (Meets ts) (base_cuts instance.now)
-        → CostsAtMost (trees_cost instance.now ts) found) }
+    ensures roster { IfOk result (IsRosterOf instance.now pool.now columns.now) }
     ensures desk { IsDeskFor instance.now desk.new }
 {
     if columns.len() > MOST_SHIFTS {

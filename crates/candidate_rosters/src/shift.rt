@@ -1,9 +1,7 @@
 ghost use Rattle.std.specs.Prelude.{◌<◌, IfOk, length};
-ghost use Rattle.roster_model.specs.SoundInstance.{IsSoundInstance};
-ghost use Rattle.roster_model.specs.Trees.{Parts};
 ghost use Rattle.tree_pool.specs.Pools.{IsPool};
 ghost use Rattle.candidate_rosters.specs.Rosters.{IsDeskFor};
-ghost use Rattle.candidate_rosters.specs.Spelled.{IsTreeAt, IsShiftOf};
+ghost use Rattle.candidate_rosters.specs.Spelled.{IsShiftAt};
 
 use crate::desk::RosterDesk;
 use crate::group::group_of;
@@ -25,12 +23,10 @@ pub fn shift_of(
     column: usize,
     desk: &mut RosterDesk,
 ) -> Result<Shift, Memory>
-    requires sound { IsSoundInstance instance.now }
     requires pool { IsPool instance.now.grammar pool.now }
     requires column { column < length pool.now }
     requires desk { IsDeskFor instance.now desk.old }
-    ensures shift { IfOk result (λ s. (t : Parts) → IsTreeAt instance.now.grammar pool.now column t
-        → IsShiftOf instance.now t s) }
+    ensures shift { IfOk result (IsShiftAt instance.now pool.now column) }
     ensures desk { IsDeskFor instance.now desk.new }
 {
     let group = group_of(instance, pool.tree(column).steps.as_slice());

@@ -1,12 +1,19 @@
 -- What a dive works on.
-use Rattle.std.specs.Prelude.{ℕ, ◌≡◌, ◌≤◌, ◌<◌, ◌+◌, List, All, length}
-use Rattle.roster_model.specs.declared.instance.Cut.{Cut}
-use Rattle.roster_model.specs.declared.instance.Instance.{Instance}
+use Rattle.std.specs.Prelude.{ℕ, ℤ, ◌≡◌, ◌≤◌, ◌<◌, ◌+◌, List, All, length}
+use Rattle.roster_model.specs.declared.price_room.PriceRoom.{PriceRoom}
 use Rattle.roster_model.specs.PriceRooms.{IsRoomFor}
-use Rattle.roster_model.specs.Room.{most_uses}
-use Rattle.master_laws.specs.Rows.{rows_of}
+use Rattle.roster_model.specs.Room.{RoomView, most_uses}
+use Rattle.cheapest_tree.specs.Pricers.{PricerView, IsMadeFor}
+use Rattle.tree_laws.specs.DaySteps.{AreDaySteps}
+use Rattle.tree_pool.specs.Pools.{PoolTree, IsPool, IsGrown}
+use Rattle.search_day.specs.declared.day.Day.{Day}
+use Rattle.search_day.specs.Days.{IsDay}
+use Rattle.search_day.specs.Rooms.{Grows}
+use Rattle.node_task.specs.declared.task.NodeTask.{NodeTask}
+use Rattle.node_task.specs.Tasks.{IsTask, row_count}
+use Rattle.dives.specs.declared.descent.Descent.{Descent}
 use Rattle.dives.specs.declared.desk.ArcSums.{ArcSums}
-use Rattle.dives.specs.declared.desk.Desk.{Desk}
+use Rattle.dives.specs.declared.desk.DiveDesk.{DiveDesk}
 use Rattle.dives.specs.declared.desk.Quote.{Quote}
 use Rattle.dives.specs.declared.program.Program.{Program}
 
@@ -18,19 +25,80 @@ AreFewer n columns = All (λ (c : ℕ). c < n) columns
 abbrev pub IsProgram : ℕ → Program → Type 0
 IsProgram n p = AreFewer n p.fixed
 
--- a price for each row of the node's master, and numbers and room for those of the cells and of the cuts
-pub record IsQuote (i : Instance) (cuts : List Cut) (q : Quote) : Type 0 where
-  pub y : length q.y.items ≡ length (rows_of i cuts)
-  pub numbers : length q.numbers.items ≡ length i.cells + 2 + length cuts
-  pub room : IsRoomFor q.room i
-  pub few : length cuts ≤ q.room.most
+-- one for each cell, for both rows of the heads and for each cut
+abbrev pub number_count : NodeTask → ℕ
+number_count t = length t.day.instance.now.cells + 2 + length t.cuts.now
+
+-- numbers and room for the prices of the cells and of the cuts
+pub record HasRooms (t : NodeTask) (numbers : List ℤ) (room : PriceRoom) : Type 0 where
+  pub count : length numbers ≡ number_count t
+  pub fits : IsRoomFor room t.day.instance.now
+  pub few : length t.cuts.now ≤ room.most
+
+-- and a price for each row of the node's master
+pub record IsQuote (t : NodeTask) (q : Quote) : Type 0 where
+  pub y : length q.y.items ≡ row_count t
+  pub rooms : HasRooms t q.numbers.items q.room
 
 -- as many prices as sums
 abbrev pub AreArcSums : ArcSums → Type 0
 AreArcSums a = length a.prices.items ≡ length a.sums.items
 
 -- and room for each tree of the day
-pub record IsDesk (i : Instance) (cuts : List Cut) (d : Desk) : Type 0 where
-  pub quote : IsQuote i cuts d.quote
+pub record IsDesk (t : NodeTask) (d : DiveDesk) : Type 0 where
+  pub quote : IsQuote t d.quote
   pub arcs : AreArcSums d.arcs
-  pub tree : d.tree.most ≡ most_uses i.grammar
+  pub tree : d.tree.most ≡ most_uses t.day.instance.now.grammar
+
+-- a pricer for the graph, and a room for each tree of the day
+pub record CanFill (d : Day) (p : PricerView) (r : RoomView) : Type 0 where
+  pub day : IsDay d
+  pub made : IsMadeFor d.graph.now p
+  pub room : r.most ≡ most_uses d.instance.now.grammar
+
+-- the room holds a tree of the day
+abbrev pub HoldsTree : NodeTask → DiveDesk → Type 0
+HoldsTree t d = AreDaySteps t.day.instance.now.grammar d.tree.steps
+
+-- a pricer for the graph, and a desk of the node
+pub record CanAsk (t : NodeTask) (p : PricerView) (d : DiveDesk) : Type 0 where
+  pub task : IsTask t
+  pub made : IsMadeFor t.day.graph.now p
+  pub desk : IsDesk t d
+
+-- and a pool of the day's trees
+pub record AreTools (t : NodeTask) (p : PricerView) (trees : List PoolTree) (d : DiveDesk) : Type 0 where
+  pub task : IsTask t
+  pub made : IsMadeFor t.day.graph.now p
+  pub pool : IsPool t.day.instance.now.grammar trees
+  pub desk : IsDesk t d
+
+-- they still are, and the old trees of the pool kept their numbers
+pub record StayTools (t : NodeTask) (p : PricerView) (old new : List PoolTree) (d : DiveDesk) : Type 0 where
+  pub are : AreTools t p new d
+  pub grown : IsGrown old new
+
+-- a pricer for the graph, and a pool of the day's trees
+pub record MayDive (t : NodeTask) (p : PricerView) (trees : List PoolTree) : Type 0 where
+  pub task : IsTask t
+  pub made : IsMadeFor t.day.graph.now p
+  pub pool : IsPool t.day.instance.now.grammar trees
+
+-- the pricer still is, and the pool has grown
+pub record HasDived (t : NodeTask) (p : PricerView) (old new : List PoolTree) : Type 0 where
+  pub made : IsMadeFor t.day.graph.now p
+  pub pool : Grows t.day old new
+
+-- a dive that is under way may go on
+pub record IsDiving (t : NodeTask) (p : PricerView) (trees : List PoolTree) (d : Descent) : Type 0 where
+  pub program : IsProgram (length trees) d.program
+  pub tools : AreTools t p trees d.desk
+
+-- of the program nothing changed but its scout
+abbrev pub IsRun : Program → Program → Type 0
+IsRun old new = new ≡ record old { scout = new.scout; is_solved = new.is_solved }
+
+-- a dive that has begun has a program and a desk
+pub record HasBegun (t : NodeTask) (n : ℕ) (d : Descent) : Type 0 where
+  pub program : IsProgram n d.program
+  pub desk : IsDesk t d.desk

@@ -1,21 +1,16 @@
-ghost use Rattle.std.specs.Prelude.{◌≡◌, ◌≤◌, ◌+◌, ◌^◌, ℤ, All, IfSome, OnOk, length, unsigned_abs};
+ghost use Rattle.std.specs.Prelude.{◌≡◌, ◌≤◌, ◌^◌, ℤ, All, IfSome, OnOk, length, unsigned_abs};
 ghost use Rattle.roster_model.specs.PriceRooms.{IsRoomFor};
-ghost use Rattle.roster_model.specs.SoundInstance.{IsSoundInstance};
 ghost use Rattle.roster_model.specs.Sums.{Within};
-ghost use Rattle.master_rows.specs.NodeRows.{AreRows};
-ghost use Rattle.parse_graph.specs.Graphs.{IsGraph};
-ghost use Rattle.cheapest_tree.specs.Pricers.{IsMadeFor};
-ghost use Rattle.tree_laws.specs.DaySteps.{AreDaySteps};
-ghost use Rattle.tree_pool.specs.Pools.{IsPool, IsGrown};
-ghost use Rattle.dives.specs.Parts.{IsProgram, IsQuote, IsDesk};
+ghost use Rattle.node_task.specs.Tasks.{IsTask};
+ghost use Rattle.dives.specs.Parts.{HasRooms, HoldsTree, IsQuote, CanAsk, IsProgram, IsDiving, StayTools};
 
-use crate::desk::{Desk, Quote};
+use crate::descent::Descent;
+use crate::desk::{DiveDesk, Quote};
 use crate::least::{find_least, pooled};
-use crate::program::Program;
 use cheapest_tree::Pricer;
 use master_rows::NodeRows;
-use parse_graph::Graph;
-use roster_model::{Cut, Instance, Memory, PriceRoom};
+use node_task::NodeTask;
+use roster_model::{Memory, PriceRoom};
 use scout::Q24;
 use std::alloc::Global;
 use tree_pool::Pool;
@@ -70,32 +65,31 @@ fn limit(numbers: &mut [i128])
 }
 
 /// Gathers the prices of rows by cells and cuts.
-fn gather(instance: &Instance, cuts: &[Cut], rows: &NodeRows, prices: &[Q24], quote: &mut Quote)
-    requires rows { AreRows instance.now cuts.now rows.now }
-    requires quote { IsQuote instance.now cuts.now quote.old }
-    ensures quote { IsQuote instance.now cuts.now quote.new }
+fn gather(task: &NodeTask, prices: &[Q24], quote: &mut Quote)
+    requires task { IsTask task.now }
+    requires quote { IsQuote task.now quote.old }
+    ensures quote { IsQuote task.now quote.new }
     ensures small { All (Within (2 ^ 80)) quote.new.numbers.items }
 {
     copy_prices(&mut quote.y, prices);
-    rows.gather(&quote.y, instance.cells.len(), &mut quote.numbers);
+    let cells = task.day.instance.cells.len();
+    task.rows.gather(&quote.y, cells, &mut quote.numbers);
     limit(&mut quote.numbers);
 }
 
 /// Sets the room to gathered prices.
-fn set_room(instance: &Instance, cuts: &[Cut], numbers: &[i128], room: &mut PriceRoom)
-    requires sound { IsSoundInstance instance.now }
-    requires cuts { length cuts.now ≤ 1500 }
-    requires numbers { length numbers.now ≡ length instance.now.cells + 2 + length cuts.now }
+fn set_room(task: &NodeTask, numbers: &[i128], room: &mut PriceRoom)
+    requires task { IsTask task.now }
     requires small { All (Within (2 ^ 80)) numbers.now }
-    requires room { IsRoomFor room.old instance.now }
-    requires few { length cuts.now ≤ room.old.most }
-    ensures room { IsRoomFor room.new instance.now }
+    requires rooms { HasRooms task.now numbers.now room.old }
+    ensures room { IsRoomFor room.new task.now.day.instance.now }
     ensures most { room.new.most ≡ room.old.most }
 {
+    let instance = task.day.instance;
     let cells = instance.cells.len();
     let (cell, others) = numbers.split_at(cells);
     let (_, paid) = others.split_at(2);
-    room.set_wide(instance, KAPPA, cell, paid, cuts);
+    room.set_wide(instance, KAPPA, cell, paid, task.cuts);
 }
 
 /// Returns the price of both rows of the heads.
@@ -109,30 +103,21 @@ fn head_price(rows: &NodeRows, quote: &Quote) -> i128 {
 /// Leaves in the desk's room a tree of least reduced cost at the scout's prices, and returns that, in units
 /// of 2^-24.
 fn find_cheapest(
-    instance: &Instance,
-    graph: &Graph,
-    cuts: &[Cut],
-    rows: &NodeRows,
+    task: &NodeTask,
     prices: &[Q24],
     pricer: &mut Pricer,
-    desk: &mut Desk,
+    desk: &mut DiveDesk,
 ) -> Option<i128>
-    requires sound { IsSoundInstance instance.now }
-    requires graph { IsGraph instance.now.grammar graph.now }
-    requires rows { AreRows instance.now cuts.now rows.now }
-    requires few { length cuts.now ≤ 1500 }
-    requires pricer { IsMadeFor graph.now pricer.old }
-    requires desk { IsDesk instance.now cuts.now desk.old }
-    ensures found { IfSome result (λ _. AreDaySteps instance.now.grammar desk.new.tree.steps) }
-    ensures pricer { IsMadeFor graph.now pricer.new }
-    ensures desk { IsDesk instance.now cuts.now desk.new }
+    requires { CanAsk task.now pricer.old desk.old }
+    ensures found { IfSome result (λ _. HoldsTree task.now desk.new) }
+    ensures tools { CanAsk task.now pricer.new desk.new }
 {
-    gather(instance, cuts, rows, prices, &mut desk.quote);
-    set_room(instance, cuts, &desk.quote.numbers, &mut desk.quote.room);
-    let Some(least) = find_least(instance, graph, &desk.quote.room, pricer, &mut desk.tree) else {
+    gather(task, prices, &mut desk.quote);
+    set_room(task, &desk.quote.numbers, &mut desk.quote.room);
+    let Some(least) = find_least(&task.day, &desk.quote.room, pricer, &mut desk.tree) else {
         return None;
     };
-    Some(least.saturating_sub(head_price(rows, &desk.quote)))
+    Some(least.saturating_sub(head_price(task.rows, &desk.quote)))
 }
 
 /// Lists a tree that is cheap at the scout's prices, and says whether there is one. Notes what the prices show.
@@ -144,47 +129,27 @@ fn find_cheapest(
 /// trees of the day.
 pub(crate) fn ask(
     alloc: Global,
-    instance: &Instance,
-    graph: &Graph,
-    cuts: &[Cut],
-    rows: &NodeRows,
+    task: &NodeTask,
     pricer: &mut Pricer,
-    desk: &mut Desk,
-    program: &mut Program,
     pool: &mut Pool,
+    descent: &mut Descent,
 ) -> Result<bool, Memory>
-    requires sound { IsSoundInstance instance.now }
-    requires graph { IsGraph instance.now.grammar graph.now }
-    requires rows { AreRows instance.now cuts.now rows.now }
-    requires few { length cuts.now ≤ 1500 }
-    requires pricer { IsMadeFor graph.now pricer.old }
-    requires desk { IsDesk instance.now cuts.now desk.old }
-    requires program { IsProgram (length pool.old) program.old }
-    requires pool { IsPool instance.now.grammar pool.old }
-    ensures program { OnOk result (IsProgram (length pool.new) program.new) }
-    ensures pricer { IsMadeFor graph.now pricer.new }
-    ensures desk { IsDesk instance.now cuts.now desk.new }
-    ensures pool { IsPool instance.now.grammar pool.new }
-    ensures grown { IsGrown pool.old pool.new }
+    requires { IsDiving task.now pricer.old pool.old descent.old }
+    ensures program { OnOk result (IsProgram (length pool.new) descent.new.program) }
+    ensures tools { StayTools task.now pricer.new pool.old pool.new descent.new.desk }
 {
-    program.touch(graph.arcs().len());
-    let found = find_cheapest(
-        instance,
-        graph,
-        cuts,
-        rows,
-        program.scout.prices(),
-        pricer,
-        desk,
-    );
-    let Some(reduced) = found else {
+    descent.program.touch(task.day.graph.arcs().len());
+    let prices = descent.program.scout.prices();
+    let Some(reduced) = find_cheapest(task, prices, pricer, &mut descent.desk) else {
         return Ok(false);
     };
-    program.note(rows, &desk.quote.y, reduced);
+    descent
+        .program
+        .note(task.rows, &descent.desk.quote.y, reduced);
     if reduced >= CHEAPER {
         return Ok(false);
     }
-    let column = pooled(instance, &desk.tree, pool)?;
-    program.list(alloc, cuts, rows, pool, column)?;
+    let column = pooled(&task.day, &descent.desk.tree, pool)?;
+    descent.program.list(alloc, task, pool, column)?;
     Ok(true)
 }

@@ -1,11 +1,10 @@
-ghost use Rattle.std.specs.Prelude.{◌≡◌, ◌≤◌, ◌+◌, IfOk, length};
-ghost use Rattle.roster_model.specs.SoundInstance.{IsSoundInstance};
-ghost use Rattle.master_rows.specs.NodeRows.{AreRows};
-ghost use Rattle.dives.specs.Parts.{IsQuote, AreArcSums, IsDesk};
+ghost use Rattle.std.specs.Prelude.{◌≡◌, IfOk, length};
+ghost use Rattle.node_task.specs.Tasks.{IsTask};
+ghost use Rattle.dives.specs.Parts.{number_count, IsQuote, AreArcSums, IsDesk};
 
-use master_rows::NodeRows;
+use node_task::NodeTask;
 use parse_graph::Graph;
-use roster_model::{Cut, Instance, Memory, PriceRoom, TreeRoom};
+use roster_model::{Memory, PriceRoom, TreeRoom};
 use std::alloc::Global;
 
 /// The prices at which trees are asked for.
@@ -30,7 +29,7 @@ pub(crate) struct ArcSums {
 
 /// What a dive works on, beside its program.
 #[derive(Drop)]
-pub(crate) struct Desk {
+pub(crate) struct DiveDesk {
     pub quote: Quote,
     pub arcs: ArcSums,
     /// Room for one tree.
@@ -49,29 +48,21 @@ fn zeros(alloc: Global, count: usize) -> Result<Vec<i128>, Memory>
 
 /// Returns how many numbers the prices of the rows make by cells and cuts: one for each cell, for both rows
 /// of the heads and for each cut.
-fn numbers_of(instance: &Instance, cuts: &[Cut]) -> usize
-    requires sound { IsSoundInstance instance.now }
-    requires few { length cuts.now ≤ 1500 }
-    ensures { result ≡ length instance.now.cells + 2 + length cuts.now }
+fn numbers_of(task: &NodeTask) -> usize
+    requires { IsTask task.now }
+    ensures { result ≡ number_count task.now }
 {
-    instance.cells.len() + 2 + cuts.len()
+    task.day.instance.cells.len() + 2 + task.cuts.len()
 }
 
 /// Returns prices of 0.
-fn quote_of(
-    alloc: Global,
-    instance: &Instance,
-    cuts: &[Cut],
-    rows: &NodeRows,
-) -> Result<Quote, Memory>
-    requires sound { IsSoundInstance instance.now }
-    requires rows { AreRows instance.now cuts.now rows.now }
-    requires few { length cuts.now ≤ 1500 }
-    ensures { IfOk result (IsQuote instance.now cuts.now) }
+fn quote_of(alloc: Global, task: &NodeTask) -> Result<Quote, Memory>
+    requires { IsTask task.now }
+    ensures { IfOk result (IsQuote task.now) }
 {
-    let y = zeros(alloc, rows.right().len())?;
-    let numbers = zeros(alloc, numbers_of(instance, cuts))?;
-    let room = PriceRoom::for_cuts(alloc, instance, cuts.len())?;
+    let y = zeros(alloc, task.rows.right().len())?;
+    let numbers = zeros(alloc, numbers_of(task))?;
+    let room = PriceRoom::for_cuts(alloc, task.day.instance, task.cuts.len())?;
     Ok(Quote { y, numbers, room })
 }
 
@@ -86,27 +77,19 @@ fn arc_sums_of(alloc: Global, graph: &Graph) -> Result<ArcSums, Memory>
     Ok(ArcSums { sums, prices })
 }
 
-impl Desk {
-    /// Returns a desk for a dive at the node with these rows.
+impl DiveDesk {
+    /// Returns a desk for a dive at a node.
     ///
     /// # Errors
     ///
     /// `Memory` where memory runs out; nothing is kept then.
-    pub fn new(
-        alloc: Global,
-        instance: &Instance,
-        graph: &Graph,
-        cuts: &[Cut],
-        rows: &NodeRows,
-    ) -> Result<Desk, Memory>
-        requires sound { IsSoundInstance instance.now }
-        requires rows { AreRows instance.now cuts.now rows.now }
-        requires few { length cuts.now ≤ 1500 }
-        ensures { IfOk result (IsDesk instance.now cuts.now) }
+    pub fn new(alloc: Global, task: &NodeTask) -> Result<DiveDesk, Memory>
+        requires { IsTask task.now }
+        ensures { IfOk result (IsDesk task.now) }
     {
-        let quote = quote_of(alloc, instance, cuts, rows)?;
-        let arcs = arc_sums_of(alloc, graph)?;
-        let tree = TreeRoom::for_grammar(alloc, &instance.grammar)?;
-        Ok(Desk { quote, arcs, tree })
+        let quote = quote_of(alloc, task)?;
+        let arcs = arc_sums_of(alloc, task.day.graph)?;
+        let tree = TreeRoom::for_grammar(alloc, &task.day.instance.grammar)?;
+        Ok(DiveDesk { quote, arcs, tree })
     }
 }

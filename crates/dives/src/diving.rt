@@ -1,24 +1,27 @@
-ghost use Rattle.std.specs.Prelude.{◌≡◌, ◌<◌, ◌≤◌, All, IfOk, OnOk, length};
+ghost use Rattle.std.specs.Prelude.{◌<◌, ◌≤◌, All, IfOk, OnOk, length};
 ghost use Rattle.roster_model.specs.Folds.{Each};
-ghost use Rattle.roster_model.specs.SoundInstance.{IsSoundInstance};
-ghost use Rattle.master_laws.specs.Rows.{rows_of};
 ghost use Rattle.roster_model.specs.Limits.{IsSmallCut};
-ghost use Rattle.master_rows.specs.NodeRows.{AreRows};
-ghost use Rattle.parse_graph.specs.Graphs.{IsGraph};
+ghost use Rattle.master_laws.specs.Rows.{rows_of};
 ghost use Rattle.cheapest_tree.specs.Pricers.{IsMadeFor};
-ghost use Rattle.tree_pool.specs.Pools.{IsPool, IsGrown};
-ghost use Rattle.dives.specs.Parts.{IsProgram, IsDesk};
+ghost use Rattle.tree_pool.specs.Pools.{IsPool};
+ghost use Rattle.search_day.specs.Days.{IsDay};
+ghost use Rattle.search_day.specs.Rooms.{Grows};
+ghost use Rattle.node_task.specs.Tasks.{IsTask};
+ghost use Rattle.dives.specs.Parts.{AreFewer, IsProgram, MayDive, HasBegun, HasDived, IsDiving, IsRun, StayTools};
 
 use crate::asking::ask;
-use crate::desk::Desk;
+use crate::descent::Descent;
+use crate::desk::DiveDesk;
 use crate::fixing::fix_some;
 use crate::program::Program;
 use crate::sums::ONE;
 use cheapest_tree::Pricer;
 use master_rows::NodeRows;
+use node_task::NodeTask;
 use parse_graph::Graph;
-use roster_model::{Cut, Instance, List, Memory};
+use roster_model::{Cut, List, Memory};
 use scout::{Limits, Scouted};
+use search_day::Day;
 use std::alloc::Global;
 use std::mem;
 use tree_pool::Pool;
@@ -52,10 +55,7 @@ fn budget_of(rows: &NodeRows, graph: &Graph) -> u64 {
 
 /// Runs the program, and says whether its values can be used.
 fn run(program: &mut Program) -> bool
-    ensures { program.new ≡ record program.old {
-      scout = program.new.scout;
-      is_solved = program.new.is_solved;
-    } }
+    ensures { IsRun program.old program.new }
 {
     let primal = program.scout.rows().saturating_mul(PRIMAL).min(10_000) as u32;
     let end = program.scout.run(Limits { dual: DUAL, primal });
@@ -68,119 +68,73 @@ fn run(program: &mut Program) -> bool
 /// whether its values can be used.
 fn solve(
     alloc: Global,
-    instance: &Instance,
-    graph: &Graph,
-    cuts: &[Cut],
-    rows: &NodeRows,
-    pricer: &mut Pricer,
-    desk: &mut Desk,
-    program: &mut Program,
-    pool: &mut Pool,
+    task: &NodeTask,
     cost: u64,
+    pricer: &mut Pricer,
+    pool: &mut Pool,
+    descent: &mut Descent,
 ) -> Result<bool, Memory>
-    requires sound { IsSoundInstance instance.now }
-    requires graph { IsGraph instance.now.grammar graph.now }
-    requires rows { AreRows instance.now cuts.now rows.now }
-    requires few { length cuts.now ≤ 1500 }
-    requires pricer { IsMadeFor graph.now pricer.old }
-    requires desk { IsDesk instance.now cuts.now desk.old }
-    requires program { IsProgram (length pool.old) program.old }
-    requires pool { IsPool instance.now.grammar pool.old }
-    ensures program { OnOk result (IsProgram (length pool.new) program.new) }
-    ensures pricer { IsMadeFor graph.now pricer.new }
-    ensures desk { IsDesk instance.now cuts.now desk.new }
-    ensures pool { IsPool instance.now.grammar pool.new }
-    ensures grown { IsGrown pool.old pool.new }
+    requires { IsDiving task.now pricer.old pool.old descent.old }
+    ensures program { OnOk result (IsProgram (length pool.new) descent.new.program) }
+    ensures tools { StayTools task.now pricer.new pool.old pool.new descent.new.desk }
 {
-    if program.is_over {
-        return Ok(run(program));
+    if descent.program.is_over {
+        return Ok(run(&mut descent.program));
     }
     for _ in 0..ROUNDS {
-        if !run(program) {
+        if !run(&mut descent.program) {
             return Ok(false);
         }
-        let is_cheap = ask(
-            alloc, instance, graph, cuts, rows, pricer, desk, program, pool,
-        )?;
-        if !is_cheap || program.is_settled(cost) {
+        let is_cheap = ask(alloc, task, pricer, pool, descent)?;
+        if !is_cheap || descent.program.is_settled(cost) {
             return Ok(true);
         }
     }
-    Ok(run(program))
+    Ok(run(&mut descent.program))
 }
 
 /// Takes a step: solves the program, and fixes trees by its weights. Says whether any was fixed. From where the
 /// program's value comes near to the cost below which a roster is looked for, no tree is asked for.
 fn step(
     alloc: Global,
-    instance: &Instance,
-    graph: &Graph,
-    cuts: &[Cut],
-    rows: &NodeRows,
-    pricer: &mut Pricer,
-    desk: &mut Desk,
-    program: &mut Program,
-    pool: &mut Pool,
+    task: &NodeTask,
     cost: u64,
+    pricer: &mut Pricer,
+    pool: &mut Pool,
+    descent: &mut Descent,
 ) -> Result<bool, Memory>
-    requires sound { IsSoundInstance instance.now }
-    requires graph { IsGraph instance.now.grammar graph.now }
-    requires rows { AreRows instance.now cuts.now rows.now }
-    requires few { length cuts.now ≤ 1500 }
-    requires pricer { IsMadeFor graph.now pricer.old }
-    requires desk { IsDesk instance.now cuts.now desk.old }
-    requires program { IsProgram (length pool.old) program.old }
-    requires pool { IsPool instance.now.grammar pool.old }
-    ensures program { OnOk result (IsProgram (length pool.new) program.new) }
-    ensures pricer { IsMadeFor graph.now pricer.new }
-    ensures desk { IsDesk instance.now cuts.now desk.new }
-    ensures pool { IsPool instance.now.grammar pool.new }
-    ensures grown { IsGrown pool.old pool.new }
+    requires { IsDiving task.now pricer.old pool.old descent.old }
+    ensures program { OnOk result (IsProgram (length pool.new) descent.new.program) }
+    ensures tools { StayTools task.now pricer.new pool.old pool.new descent.new.desk }
 {
-    if program.work() > budget_of(rows, graph) {
+    let graph = task.day.graph;
+    if descent.program.work() > budget_of(task.rows, graph) {
         return Ok(false);
     }
-    if !solve(
-        alloc, instance, graph, cuts, rows, pricer, desk, program, pool, cost,
-    )? {
+    if !solve(alloc, task, cost, pricer, pool, descent)? {
         return Ok(false);
     }
-    program.is_over = program.is_over || program.is_dear(cost);
-    let left = program.sum_up(graph, pool, &mut desk.arcs.sums) / ONE;
-    fix_some(
-        alloc, instance, graph, cuts, rows, pricer, desk, program, pool, left,
-    )
+    descent.program.is_over = descent.program.is_over || descent.program.is_dear(cost);
+    let sums = &mut descent.desk.arcs.sums;
+    let left = descent.program.sum_up(graph, pool, sums) / ONE;
+    fix_some(alloc, task, left, pricer, pool, descent)
 }
 
 /// Takes steps while trees are fixed.
 fn step_down(
     alloc: Global,
-    instance: &Instance,
-    graph: &Graph,
-    cuts: &[Cut],
-    rows: &NodeRows,
-    pricer: &mut Pricer,
-    program: &mut Program,
-    pool: &mut Pool,
+    task: &NodeTask,
     cost: u64,
+    pricer: &mut Pricer,
+    pool: &mut Pool,
+    descent: &mut Descent,
 ) -> Result<(), Memory>
-    requires sound { IsSoundInstance instance.now }
-    requires graph { IsGraph instance.now.grammar graph.now }
-    requires rows { AreRows instance.now cuts.now rows.now }
-    requires few { length cuts.now ≤ 1500 }
-    requires pricer { IsMadeFor graph.now pricer.old }
-    requires program { IsProgram (length pool.old) program.old }
-    requires pool { IsPool instance.now.grammar pool.old }
-    ensures program { OnOk result (IsProgram (length pool.new) program.new) }
-    ensures pricer { IsMadeFor graph.now pricer.new }
-    ensures pool { IsPool instance.now.grammar pool.new }
-    ensures grown { IsGrown pool.old pool.new }
+    requires { IsDiving task.now pricer.old pool.old descent.old }
+    ensures program { OnOk result (IsProgram (length pool.new) descent.new.program) }
+    ensures tools { StayTools task.now pricer.new pool.old pool.new descent.new.desk }
 {
-    let mut desk = Desk::new(alloc, instance, graph, cuts, rows)?;
     for _ in 0..STEPS {
-        if !step(
-            alloc, instance, graph, cuts, rows, pricer, &mut desk, program, pool, cost,
-        )? {
+        if !step(alloc, task, cost, pricer, pool, descent)? {
             return Ok(());
         }
     }
@@ -190,8 +144,7 @@ fn step_down(
 /// Lists these trees of the pool and its last ones, twice as many as there are rows, and starts the scout.
 fn begin(
     alloc: Global,
-    cuts: &[Cut],
-    rows: &NodeRows,
+    task: &NodeTask,
     pool: &Pool,
     begun: &[usize],
     program: &mut Program,
@@ -199,9 +152,9 @@ fn begin(
     requires { IsProgram (length pool.now) program.old }
     ensures { OnOk result (IsProgram (length pool.now) program.new) }
 {
-    program.list_all(alloc, cuts, rows, pool, begun)?;
-    let last = rows.right().len().saturating_mul(2);
-    program.list_from(alloc, cuts, rows, pool, pool.len().saturating_sub(last))?;
+    program.list_all(alloc, task, pool, begun)?;
+    let last = task.rows.right().len().saturating_mul(2);
+    program.list_from(alloc, task, pool, pool.len().saturating_sub(last))?;
     let _started = program.scout.start_beyond();
     Ok(())
 }
@@ -209,18 +162,36 @@ fn begin(
 /// Returns a program with these trees of the pool and with its last ones, twice as many as there are rows.
 fn begun_with(
     alloc: Global,
-    instance: &Instance,
-    cuts: &[Cut],
-    rows: &NodeRows,
+    task: &NodeTask,
     pool: &Pool,
     begun: &[usize],
 ) -> Result<Program, Memory>
-    requires rows { AreRows instance.now cuts.now rows.now }
+    requires { IsTask task.now }
     ensures { IfOk result (IsProgram (length pool.now)) }
 {
-    let mut program = Program::new(alloc, instance, cuts, rows)?;
-    match begin(alloc, cuts, rows, pool, begun, &mut program) {
+    let mut program = Program::new(alloc, task)?;
+    match begin(alloc, task, pool, begun, &mut program) {
         Ok(()) => Ok(program),
+        Err(fault) => {
+            drop(program);
+            Err(fault)
+        }
+    }
+}
+
+/// Returns a dive that begins with these trees of the pool and with its last ones.
+fn descent_of(
+    alloc: Global,
+    task: &NodeTask,
+    pool: &Pool,
+    begun: &[usize],
+) -> Result<Descent, Memory>
+    requires { IsTask task.now }
+    ensures { IfOk result (HasBegun task.now (length pool.now)) }
+{
+    let program = begun_with(alloc, task, pool, begun)?;
+    match DiveDesk::new(alloc, task) {
+        Ok(desk) => Ok(Descent { program, desk }),
         Err(fault) => {
             drop(program);
             Err(fault)
@@ -231,40 +202,20 @@ fn begun_with(
 /// Dives from a node, of which the master's rows are given, and returns the trees that it fixed.
 fn dive_over(
     alloc: Global,
-    instance: &Instance,
-    graph: &Graph,
-    cuts: &[Cut],
-    rows: &NodeRows,
-    pricer: &mut Pricer,
+    task: &NodeTask,
     begun: &[usize],
     cost: u64,
+    pricer: &mut Pricer,
     pool: &mut Pool,
 ) -> Result<List<usize>, Memory>
-    requires sound { IsSoundInstance instance.now }
-    requires graph { IsGraph instance.now.grammar graph.now }
-    requires rows { AreRows instance.now cuts.now rows.now }
-    requires few { length cuts.now ≤ 1500 }
-    requires pricer { IsMadeFor graph.now pricer.old }
-    requires pool { IsPool instance.now.grammar pool.old }
-    ensures within { IfOk result (λ found. All (λ c. c < length pool.new) found) }
-    ensures pricer { IsMadeFor graph.now pricer.new }
-    ensures pool { IsPool instance.now.grammar pool.new }
-    ensures grown { IsGrown pool.old pool.new }
+    requires { MayDive task.now pricer.old pool.old }
+    ensures within { IfOk result (AreFewer (length pool.new)) }
+    ensures lent { HasDived task.now pricer.new pool.old pool.new }
 {
-    let mut program = begun_with(alloc, instance, cuts, rows, pool, begun)?;
-    let end = step_down(
-        alloc,
-        instance,
-        graph,
-        cuts,
-        rows,
-        pricer,
-        &mut program,
-        pool,
-        cost,
-    );
-    let fixed = mem::replace(&mut program.fixed, List::new(alloc));
-    drop(program);
+    let mut descent = descent_of(alloc, task, pool, begun)?;
+    let end = step_down(alloc, task, cost, pricer, pool, &mut descent);
+    let fixed = mem::replace(&mut descent.program.fixed, List::new(alloc));
+    drop(descent);
     match end {
         Ok(()) => Ok(fixed),
         Err(fault) => Err(fault),
@@ -284,29 +235,29 @@ fn dive_over(
 /// `Memory` where memory runs out; the pool may have further trees.
 pub fn dive(
     alloc: Global,
-    instance: &Instance,
-    graph: &Graph,
+    day: &Day,
     cuts: &[Cut],
-    pricer: &mut Pricer,
     begun: &[usize],
     cost: u64,
+    pricer: &mut Pricer,
     pool: &mut Pool,
 ) -> Result<List<usize>, Memory>
-    requires sound { IsSoundInstance instance.now }
-    requires graph { IsGraph instance.now.grammar graph.now }
+    requires day { IsDay day.now }
     requires cuts { Each IsSmallCut cuts.now }
-    requires small { length (rows_of instance.now cuts.now) ≤ 1500 }
-    requires pricer { IsMadeFor graph.now pricer.old }
-    requires pool { IsPool instance.now.grammar pool.old }
+    requires small { length (rows_of day.now.instance.now cuts.now) ≤ 1500 }
+    requires pricer { IsMadeFor day.now.graph.now pricer.old }
+    requires pool { IsPool day.now.instance.now.grammar pool.old }
     ensures within { IfOk result (λ found. All (λ c. c < length pool.new) found) }
-    ensures pricer { IsMadeFor graph.now pricer.new }
-    ensures pool { IsPool instance.now.grammar pool.new }
-    ensures grown { IsGrown pool.old pool.new }
+    ensures pricer { IsMadeFor day.now.graph.now pricer.new }
+    ensures pool { Grows day.now pool.old pool.new }
 {
-    let rows = NodeRows::new(alloc, instance, cuts)?;
-    let found = dive_over(
-        alloc, instance, graph, cuts, &rows, pricer, begun, cost, pool,
-    );
+    let rows = NodeRows::new(alloc, day.instance, cuts)?;
+    let task = NodeTask {
+        day: *day,
+        cuts,
+        rows: &rows,
+    };
+    let found = dive_over(alloc, &task, begun, cost, pricer, pool);
     drop(rows);
     found
 }

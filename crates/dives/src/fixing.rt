@@ -1,18 +1,12 @@
-ghost use Rattle.std.specs.Prelude.{◌≡◌, ◌<◌, IfOk, OnOk, length};
-ghost use Rattle.roster_model.specs.SoundInstance.{IsSoundInstance};
-ghost use Rattle.parse_graph.specs.Graphs.{IsGraph};
-ghost use Rattle.cheapest_tree.specs.Pricers.{IsMadeFor};
-ghost use Rattle.tree_pool.specs.Pools.{IsPool, IsGrown};
-ghost use Rattle.dives.specs.Parts.{IsProgram, IsDesk};
+ghost use Rattle.std.specs.Prelude.{OnOk, length};
+ghost use Rattle.dives.specs.Parts.{IsProgram, IsDiving, StayTools};
 
-use crate::desk::Desk;
-use crate::program::Program;
+use crate::descent::Descent;
 use crate::sums::{LEAST, ONE, add};
 use crate::widest::widest;
 use cheapest_tree::Pricer;
-use master_rows::NodeRows;
-use parse_graph::Graph;
-use roster_model::{Cut, Instance, Memory};
+use node_task::NodeTask;
+use roster_model::Memory;
 use std::alloc::Global;
 use tree_pool::Pool;
 
@@ -59,46 +53,28 @@ impl Taken {
 /// Fixes a widest tree where that is to be, and returns the count with it.
 fn fix_one(
     alloc: Global,
-    instance: &Instance,
-    graph: &Graph,
-    cuts: &[Cut],
-    rows: &NodeRows,
-    pricer: &mut Pricer,
-    desk: &mut Desk,
-    program: &mut Program,
-    pool: &mut Pool,
+    task: &NodeTask,
     taken: Taken,
     left: i64,
+    pricer: &mut Pricer,
+    pool: &mut Pool,
+    descent: &mut Descent,
 ) -> Result<Option<Taken>, Memory>
-    requires sound { IsSoundInstance instance.now }
-    requires graph { IsGraph instance.now.grammar graph.now }
-    requires pricer { IsMadeFor graph.now pricer.old }
-    requires desk { IsDesk instance.now cuts.now desk.old }
-    requires program { IsProgram (length pool.old) program.old }
-    requires pool { IsPool instance.now.grammar pool.old }
-    ensures program { OnOk result (IsProgram (length pool.new) program.new) }
-    ensures pricer { IsMadeFor graph.now pricer.new }
-    ensures desk { IsDesk instance.now cuts.now desk.new }
-    ensures pool { IsPool instance.now.grammar pool.new }
-    ensures grown { IsGrown pool.old pool.new }
+    requires { IsDiving task.now pricer.old pool.old descent.old }
+    ensures program { OnOk result (IsProgram (length pool.new) descent.new.program) }
+    ensures tools { StayTools task.now pricer.new pool.old pool.new descent.new.desk }
 {
-    program.touch(graph.arcs().len());
-    let found = widest(
-        instance,
-        graph,
-        &mut desk.arcs,
-        pricer,
-        &mut desk.tree,
-        pool,
-    )?;
-    let Some(wide) = found else {
+    let graph = task.day.graph;
+    descent.program.touch(graph.arcs().len());
+    let Some(wide) = widest(task, pricer, pool, &mut descent.desk)? else {
         return Ok(None);
     };
     if !taken.takes(wide.width, left) {
         return Ok(None);
     }
-    program.fix(alloc, cuts, rows, pool, wide.column)?;
-    add(graph, pool.arcs(wide.column), -ONE, &mut desk.arcs.sums);
+    descent.program.fix(alloc, task, pool, wide.column)?;
+    let sums = &mut descent.desk.arcs.sums;
+    add(graph, pool.arcs(wide.column), -ONE, sums);
     Ok(Some(taken.with(wide.width)))
 }
 
@@ -111,34 +87,19 @@ fn fix_one(
 /// trees of the day.
 pub(crate) fn fix_some(
     alloc: Global,
-    instance: &Instance,
-    graph: &Graph,
-    cuts: &[Cut],
-    rows: &NodeRows,
-    pricer: &mut Pricer,
-    desk: &mut Desk,
-    program: &mut Program,
-    pool: &mut Pool,
+    task: &NodeTask,
     left: i64,
+    pricer: &mut Pricer,
+    pool: &mut Pool,
+    descent: &mut Descent,
 ) -> Result<bool, Memory>
-    requires sound { IsSoundInstance instance.now }
-    requires graph { IsGraph instance.now.grammar graph.now }
-    requires pricer { IsMadeFor graph.now pricer.old }
-    requires desk { IsDesk instance.now cuts.now desk.old }
-    requires program { IsProgram (length pool.old) program.old }
-    requires pool { IsPool instance.now.grammar pool.old }
-    ensures program { OnOk result (IsProgram (length pool.new) program.new) }
-    ensures pricer { IsMadeFor graph.now pricer.new }
-    ensures desk { IsDesk instance.now cuts.now desk.new }
-    ensures pool { IsPool instance.now.grammar pool.new }
-    ensures grown { IsGrown pool.old pool.new }
+    requires { IsDiving task.now pricer.old pool.old descent.old }
+    ensures program { OnOk result (IsProgram (length pool.new) descent.new.program) }
+    ensures tools { StayTools task.now pricer.new pool.old pool.new descent.new.desk }
 {
     let mut taken = Taken { wide: 0, all: 0 };
-    for _ in 0..MOST_FIXED.min(instance.heads_max) {
-        let next = fix_one(
-            alloc, instance, graph, cuts, rows, pricer, desk, program, pool, taken, left,
-        )?;
-        let Some(more) = next else {
+    for _ in 0..MOST_FIXED.min(task.day.instance.heads_max) {
+        let Some(more) = fix_one(alloc, task, taken, left, pricer, pool, descent)? else {
             return Ok(taken.all > 0);
         };
         taken = more;

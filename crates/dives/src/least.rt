@@ -1,36 +1,32 @@
 ghost use Rattle.std.specs.Prelude.{◌≡◌, ◌<◌, IfOk, IfSome, length};
-ghost use Rattle.roster_model.specs.Room.{most_uses};
-ghost use Rattle.roster_model.specs.SoundInstance.{IsSoundInstance};
-ghost use Rattle.parse_graph.specs.Graphs.{IsGraph};
 ghost use Rattle.cheapest_tree.specs.Pricers.{IsMadeFor};
 ghost use Rattle.tree_laws.specs.DaySteps.{AreDaySteps};
-ghost use Rattle.tree_pool.specs.Pools.{IsPool, IsGrown};
+ghost use Rattle.tree_pool.specs.Pools.{IsPool};
+ghost use Rattle.search_day.specs.Days.{IsDay};
+ghost use Rattle.search_day.specs.Rooms.{Grows};
+ghost use Rattle.dives.specs.Parts.{CanFill};
 
 use cheapest_tree::Pricer;
-use parse_graph::Graph;
-use roster_model::{Instance, LetterPrice, Memory, TreeRoom};
+use roster_model::{LetterPrice, Memory, TreeRoom};
+use search_day::Day;
 use tree_pool::Pool;
 
 /// Leaves a tree of the day of least sum in the room, and returns its sum; `None` where no tree has a sum.
 pub(crate) fn find_least<P: LetterPrice>(
-    instance: &Instance,
-    graph: &Graph,
+    day: &Day,
     prices: &P,
     pricer: &mut Pricer,
     room: &mut TreeRoom,
 ) -> Option<i128>
-    requires sound { IsSoundInstance instance.now }
-    requires graph { IsGraph instance.now.grammar graph.now }
-    requires pricer { IsMadeFor graph.now pricer.old }
-    requires room { room.old.most ≡ most_uses instance.now.grammar }
-    ensures found { IfSome result (λ _. AreDaySteps instance.now.grammar room.new.steps) }
-    ensures pricer { IsMadeFor graph.now pricer.new }
+    requires { CanFill day.now pricer.old room.old }
+    ensures found { IfSome result (λ _. AreDaySteps day.now.instance.now.grammar room.new.steps) }
+    ensures pricer { IsMadeFor day.now.graph.now pricer.new }
     ensures kept { room.new.most ≡ room.old.most }
 {
-    let Some(least) = pricer.cheapest(graph, prices) else {
+    let Some(least) = pricer.cheapest(day.graph, prices) else {
         return None;
     };
-    pricer.tree(graph, prices, room);
+    pricer.tree(day.graph, prices, room);
     Some(least)
 }
 
@@ -40,13 +36,12 @@ pub(crate) fn find_least<P: LetterPrice>(
 ///
 /// `Memory` where memory runs out; the pool has its trees under their numbers then, and perhaps further trees
 /// of the day.
-pub(crate) fn pooled(instance: &Instance, room: &TreeRoom, pool: &mut Pool) -> Result<usize, Memory>
-    requires sound { IsSoundInstance instance.now }
-    requires steps { AreDaySteps instance.now.grammar room.now.steps }
-    requires pool { IsPool instance.now.grammar pool.old }
+pub(crate) fn pooled(day: &Day, room: &TreeRoom, pool: &mut Pool) -> Result<usize, Memory>
+    requires day { IsDay day.now }
+    requires steps { AreDaySteps day.now.instance.now.grammar room.now.steps }
+    requires pool { IsPool day.now.instance.now.grammar pool.old }
     ensures within { IfOk result (λ c. c < length pool.new) }
-    ensures pool { IsPool instance.now.grammar pool.new }
-    ensures grown { IsGrown pool.old pool.new }
+    ensures pool { Grows day.now pool.old pool.new }
 {
-    pool.add(&instance.grammar, room.steps())
+    pool.add(&day.instance.grammar, room.steps())
 }

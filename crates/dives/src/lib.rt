@@ -2,6 +2,7 @@
 #![tactic(auto)]
 
 mod asking;
+mod descent;
 mod desk;
 mod diving;
 mod fixing;

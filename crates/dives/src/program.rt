@@ -1,12 +1,13 @@
 ghost use Rattle.std.specs.Prelude.{ℕ, ◌≡◌, ◌<◌, IfOk, IfSome, OnOk, length};
-ghost use Rattle.master_rows.specs.NodeRows.{AreRows};
+ghost use Rattle.node_task.specs.Tasks.{IsTask};
 ghost use Rattle.dives.specs.Parts.{IsProgram};
 
 use crate::rows::{list_places, scout_of, take_places};
 use crate::sums::{ONE, add, clear};
 use master_rows::NodeRows;
+use node_task::NodeTask;
 use parse_graph::Graph;
-use roster_model::{Cut, Instance, List, Memory};
+use roster_model::{List, Memory};
 use scout::{Key, Scout};
 use std::alloc::Global;
 use tree_pool::Pool;
@@ -62,22 +63,17 @@ fn bound_at(sides: &[i64], prices: &[i128], heads: i64, reduced: i128) -> i128 {
 }
 
 impl Program {
-    /// Returns the program of these rows without trees.
+    /// Returns the program of a node without trees.
     ///
     /// # Errors
     ///
     /// `Memory` where memory runs out; nothing is kept then.
-    pub fn new(
-        alloc: Global,
-        instance: &Instance,
-        cuts: &[Cut],
-        rows: &NodeRows,
-    ) -> Result<Program, Memory>
-        requires rows { AreRows instance.now cuts.now rows.now }
+    pub fn new(alloc: Global, task: &NodeTask) -> Result<Program, Memory>
+        requires { IsTask task.now }
         ensures { (n : ℕ) → IfOk result (IsProgram n) }
     {
-        let sides = copy_of(alloc, rows.right())?;
-        match scout_of(alloc, instance, cuts, rows, 0) {
+        let sides = copy_of(alloc, task.rows.right())?;
+        match scout_of(alloc, task, 0) {
             Ok(scout) => Ok(Program {
                 scout,
                 sides,
@@ -104,8 +100,7 @@ impl Program {
     pub fn list(
         &mut self,
         alloc: Global,
-        cuts: &[Cut],
-        rows: &NodeRows,
+        task: &NodeTask,
         pool: &Pool,
         column: usize,
     ) -> Result<(), Memory>
@@ -113,7 +108,7 @@ impl Program {
         requires program { IsProgram (length pool.now) self.old }
         ensures { OnOk result (IsProgram (length pool.now) self.new) }
     {
-        let places = rows.places_of(alloc, cuts, pool, column)?;
+        let places = task.rows.places_of(alloc, task.cuts, pool, column)?;
         self.listed.push(column)?;
         list_places(
             &mut self.scout,
@@ -130,8 +125,7 @@ impl Program {
     pub fn list_all(
         &mut self,
         alloc: Global,
-        cuts: &[Cut],
-        rows: &NodeRows,
+        task: &NodeTask,
         pool: &Pool,
         columns: &[usize],
     ) -> Result<(), Memory>
@@ -140,7 +134,7 @@ impl Program {
     {
         for &column in columns {
             if column < pool.len() {
-                self.list(alloc, cuts, rows, pool, column)?;
+                self.list(alloc, task, pool, column)?;
             }
         }
         Ok(())
@@ -154,8 +148,7 @@ impl Program {
     pub fn list_from(
         &mut self,
         alloc: Global,
-        cuts: &[Cut],
-        rows: &NodeRows,
+        task: &NodeTask,
         pool: &Pool,
         first: usize,
     ) -> Result<(), Memory>
@@ -163,7 +156,7 @@ impl Program {
         ensures { OnOk result (IsProgram (length pool.now) self.new) }
     {
         for column in first..pool.len() {
-            self.list(alloc, cuts, rows, pool, column)?;
+            self.list(alloc, task, pool, column)?;
         }
         Ok(())
     }
@@ -176,8 +169,7 @@ impl Program {
     pub fn fix(
         &mut self,
         alloc: Global,
-        cuts: &[Cut],
-        rows: &NodeRows,
+        task: &NodeTask,
         pool: &Pool,
         column: usize,
     ) -> Result<(), Memory>
@@ -185,7 +177,7 @@ impl Program {
         requires program { IsProgram (length pool.now) self.old }
         ensures { OnOk result (IsProgram (length pool.now) self.new) }
     {
-        let places = rows.places_of(alloc, cuts, pool, column)?;
+        let places = task.rows.places_of(alloc, task.cuts, pool, column)?;
         self.fixed.push(column)?;
         self.cost = self.cost.saturating_add(i128::from(pool.cost(column)));
         self.shown = None;

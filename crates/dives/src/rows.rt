@@ -1,10 +1,11 @@
-ghost use Rattle.std.specs.Prelude.{◌≡◌, ◌≤◌, ◌<◌, length};
-ghost use Rattle.master_laws.specs.Rows.{rows_of};
+ghost use Rattle.std.specs.Prelude.{◌≡◌, ◌<◌, length};
 ghost use Rattle.master_rows.specs.NodeRows.{AreRows};
+ghost use Rattle.node_task.specs.Tasks.{row_count};
 
 use master_rows::NodeRows;
+use node_task::NodeTask;
 use pivot_rows::Place;
-use roster_model::{Cut, Instance, Memory};
+use roster_model::Memory;
 use scout::{Scout, Sign};
 use std::alloc::Global;
 
@@ -12,24 +13,17 @@ use std::alloc::Global;
 const ARTIFICIAL: i64 = 131_072;
 
 /// Sets the costs of a row's own columns.
-fn set_costs(
-    instance: &Instance,
-    cuts: &[Cut],
-    rows: &NodeRows,
-    row: usize,
-    missing: &mut [i64],
-    beyond: &mut [Option<i64>],
-)
-    requires rows { AreRows instance.now cuts.now rows.now }
-    requires row { row < length (rows_of instance.now cuts.now) }
+fn set_costs(task: &NodeTask, row: usize, missing: &mut [i64], beyond: &mut [Option<i64>])
+    requires rows { AreRows task.now.day.instance.now task.now.cuts.now task.now.rows.now }
+    requires row { row < row_count task.now }
     ensures missing { length missing.new ≡ length missing.old }
     ensures beyond { length beyond.new ≡ length beyond.old }
 {
     if row < missing.len() {
-        missing[row] = rows.missing_cost(row, ARTIFICIAL);
+        missing[row] = task.rows.missing_cost(row, ARTIFICIAL);
     }
     if row < beyond.len() {
-        beyond[row] = rows.beyond_cost(row);
+        beyond[row] = task.rows.beyond_cost(row);
     }
 }
 
@@ -52,16 +46,10 @@ fn sides_of(alloc: Global, rows: &NodeRows, empty: usize) -> Result<Vec<i64>, Me
 /// # Errors
 ///
 /// `Memory` where memory runs out; nothing is kept then.
-pub fn scout_of(
-    alloc: Global,
-    instance: &Instance,
-    cuts: &[Cut],
-    rows: &NodeRows,
-    empty: usize,
-) -> Result<Scout, Memory>
-    requires rows { AreRows instance.now cuts.now rows.now }
+pub fn scout_of(alloc: Global, task: &NodeTask, empty: usize) -> Result<Scout, Memory>
+    requires { AreRows task.now.day.instance.now task.now.cuts.now task.now.rows.now }
 {
-    let sides = sides_of(alloc, rows, empty)?;
+    let sides = sides_of(alloc, task.rows, empty)?;
     let count = sides.len();
     let Ok(mut missing) = vec![in alloc; 0i64; count] else {
         return Err(Memory);
@@ -69,15 +57,8 @@ pub fn scout_of(
     let Ok(mut beyond) = vec![in alloc; None; count] else {
         return Err(Memory);
     };
-    for row in 0..rows.right().len() {
-        set_costs(
-            instance,
-            cuts,
-            rows,
-            row,
-            missing.as_mut_slice(),
-            beyond.as_mut_slice(),
-        );
+    for row in 0..task.rows.right().len() {
+        set_costs(task, row, missing.as_mut_slice(), beyond.as_mut_slice());
     }
     Scout::new(
         alloc,

@@ -1,18 +1,14 @@
 ghost use Rattle.std.specs.Prelude.{ℕ, ◌≡◌, ◌<◌, All, IfSome, length};
 ghost use Rattle.roster_model.specs.Folds.{In};
 ghost use Rattle.roster_model.specs.PriceRooms.{price_view};
-ghost use Rattle.roster_model.specs.SoundInstance.{IsSoundInstance};
 ghost use Rattle.roster_model.specs.Teams.{teams};
-ghost use Rattle.parse_graph.specs.Graphs.{IsGraph};
-ghost use Rattle.cheapest_tree.specs.Pricers.{IsMadeFor, IsFilled};
 ghost use Rattle.roster_part.specs.TeamViews.{team_view};
+ghost use Rattle.candidate_rosters.specs.Priced.{IsPriced};
 
 use crate::teams::heads_of;
 use crate::trees::team_sum;
-use cheapest_tree::Pricer;
-use parse_graph::Graph;
-use roster_model::{Instance, PriceRoom};
 use roster_part::{Team, team_at, team_count};
+use search_day::{Day, Pricing};
 use tree_pool::Pool;
 
 /// One more employee of a team.
@@ -73,26 +69,21 @@ fn choice_of(place: usize, team: &Team, heads: u32, sum: Option<i128>) -> Option
 
 /// Returns the choice that comes first of all teams.
 fn best_choice(
-    instance: &Instance,
-    graph: &Graph,
-    pricer: &Pricer,
-    prices: &PriceRoom,
+    day: &Day,
+    pricing: &Pricing,
     least: Option<i128>,
     pool: &Pool,
     columns: &[usize],
 ) -> Option<Choice>
-    requires sound { IsSoundInstance instance.now }
-    requires graph { IsGraph instance.now.grammar graph.now }
-    requires made { IsMadeFor graph.now pricer.now }
-    requires filled { IsFilled instance.now.grammar (price_view prices.now) graph.now pricer.now }
+    requires priced { IsPriced day.now (price_view pricing.now.room) pricing.now.pricer }
     requires columns { All (λ c. c < length pool.now) columns.now }
-    ensures { IfSome result (λ c. c.place < length (teams instance.now)) }
+    ensures { IfSome result (λ c. c.place < length (teams day.now.instance.now)) }
 {
     let mut best = None;
-    for place in 0..team_count(instance) {
-        let team = team_at(instance, place);
-        let heads = heads_of(instance, pool, columns, team.number);
-        let sum = team_sum(instance, graph, pricer, prices, least, &team);
+    for place in 0..team_count(day.instance) {
+        let team = team_at(day.instance, place);
+        let heads = heads_of(day.instance, pool, columns, team.number);
+        let sum = team_sum(day, pricing, least, &team);
         best = first_of(best, choice_of(place, &team, heads, sum));
     }
     best
@@ -101,21 +92,16 @@ fn best_choice(
 /// Returns the team that is to have one more employee: of those below their least numbers, and else of
 /// those that save by it, the one with the least sum. `None` where there is none.
 pub(crate) fn next_team(
-    instance: &Instance,
-    graph: &Graph,
-    pricer: &Pricer,
-    prices: &PriceRoom,
+    day: &Day,
+    pricing: &Pricing,
     least: Option<i128>,
     pool: &Pool,
     columns: &[usize],
 ) -> Option<Team>
-    requires sound { IsSoundInstance instance.now }
-    requires graph { IsGraph instance.now.grammar graph.now }
-    requires made { IsMadeFor graph.now pricer.now }
-    requires filled { IsFilled instance.now.grammar (price_view prices.now) graph.now pricer.now }
+    requires priced { IsPriced day.now (price_view pricing.now.room) pricing.now.pricer }
     requires columns { All (λ c. c < length pool.now) columns.now }
-    ensures { IfSome result (λ t. In (team_view t) (teams instance.now)) }
+    ensures { IfSome result (λ t. In (team_view t) (teams day.now.instance.now)) }
 {
-    let choice = best_choice(instance, graph, pricer, prices, least, pool, columns)?;
-    Some(team_at(instance, choice.place))
+    let choice = best_choice(day, pricing, least, pool, columns)?;
+    Some(team_at(day.instance, choice.place))
 }

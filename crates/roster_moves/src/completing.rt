@@ -1,10 +1,9 @@
-ghost use Rattle.std.specs.Prelude.{◌≡◌, ◌<◌, All, IfOk, OnOk, length};
-ghost use Rattle.roster_model.specs.PriceRooms.{IsRoomFor};
-ghost use Rattle.roster_model.specs.SoundInstance.{IsSoundInstance};
-ghost use Rattle.parse_graph.specs.Graphs.{IsGraph};
-ghost use Rattle.cheapest_tree.specs.Pricers.{IsMadeFor};
-ghost use Rattle.tree_pool.specs.Pools.{IsPool, IsGrown};
+ghost use Rattle.std.specs.Prelude.{◌<◌, All, IfOk, OnOk, length};
+ghost use Rattle.tree_pool.specs.Pools.{IsPool};
+ghost use Rattle.search_day.specs.Days.{IsDay};
+ghost use Rattle.search_day.specs.Rooms.{ArePricing, StayPricing, Grows};
 ghost use Rattle.roster_moves.specs.Drafts.{IsDraft};
+ghost use Rattle.roster_moves.specs.Tools.{AreTools, StayTools};
 
 use crate::copying::{copied_all, drafted};
 use crate::descending::descend;
@@ -12,68 +11,47 @@ use crate::draft::Draft;
 use crate::exchanging::exchange_from;
 use crate::growing::fill_up;
 use crate::guide::Guide;
-use cheapest_tree::Pricer;
-use parse_graph::Graph;
-use roster_model::{Instance, List, Memory, PriceRoom};
+use roster_model::{List, Memory};
+use search_day::{Day, Pricing};
 use std::alloc::Global;
 use tree_pool::Pool;
 
 /// Completes a draft, exchanges its trees one by one, and then makes it better by moves.
 fn improve(
     alloc: Global,
-    instance: &Instance,
-    graph: &Graph,
-    pricer: &mut Pricer,
-    prices: &mut PriceRoom,
+    day: &Day,
+    guide: &Guide,
+    pricing: &mut Pricing,
     tried: &mut Pool,
     draft: &mut Draft,
-    guide: &Guide,
 ) -> Result<(), Memory>
-    requires sound { IsSoundInstance instance.now }
-    requires graph { IsGraph instance.now.grammar graph.now }
-    requires pricer { IsMadeFor graph.now pricer.old }
-    requires prices { IsRoomFor prices.old instance.now }
-    requires tried { IsPool instance.now.grammar tried.old }
-    requires draft { IsDraft instance.now (length tried.old) draft.old }
-    ensures draft { OnOk result (IsDraft instance.now (length tried.new) draft.new) }
-    ensures pricer { IsMadeFor graph.now pricer.new }
-    ensures prices { IsRoomFor prices.new instance.now }
-    ensures most { prices.new.most ≡ prices.old.most }
-    ensures tried { IsPool instance.now.grammar tried.new }
+    requires tools { AreTools day.now pricing.old tried.old draft.old }
+    ensures draft { OnOk result (IsDraft day.now.instance.now (length tried.new) draft.new) }
+    ensures tools { StayTools day.now pricing.old pricing.new tried.old tried.new }
 {
-    fill_up(instance, graph, pricer, prices, tried, draft)?;
-    exchange_from(instance, graph, pricer, prices, tried, draft, 0)?;
-    descend(alloc, instance, graph, pricer, prices, tried, draft, guide)
+    fill_up(day, pricing, tried, draft)?;
+    exchange_from(day, 0, pricing, tried, draft)?;
+    descend(alloc, day, guide, pricing, tried, draft)
 }
 
 /// Improves a draft, and puts its trees into the pool.
 fn improve_into(
     alloc: Global,
-    instance: &Instance,
-    graph: &Graph,
-    pricer: &mut Pricer,
-    prices: &mut PriceRoom,
+    day: &Day,
+    guide: &Guide,
+    pricing: &mut Pricing,
     tried: &mut Pool,
     draft: &mut Draft,
-    guide: &Guide,
     pool: &mut Pool,
 ) -> Result<List<usize>, Memory>
-    requires sound { IsSoundInstance instance.now }
-    requires graph { IsGraph instance.now.grammar graph.now }
-    requires pricer { IsMadeFor graph.now pricer.old }
-    requires prices { IsRoomFor prices.old instance.now }
-    requires pool { IsPool instance.now.grammar pool.old }
-    requires tried { IsPool instance.now.grammar tried.old }
-    requires draft { IsDraft instance.now (length tried.old) draft.old }
+    requires tools { AreTools day.now pricing.old tried.old draft.old }
+    requires pool { IsPool day.now.instance.now.grammar pool.old }
     ensures within { IfOk result (λ found. All (λ c. c < length pool.new) found) }
-    ensures pricer { IsMadeFor graph.now pricer.new }
-    ensures prices { IsRoomFor prices.new instance.now }
-    ensures most { prices.new.most ≡ prices.old.most }
-    ensures pool { IsPool instance.now.grammar pool.new }
-    ensures grown { IsGrown pool.old pool.new }
+    ensures pricing { StayPricing day.now pricing.old pricing.new }
+    ensures pool { Grows day.now pool.old pool.new }
 {
-    improve(alloc, instance, graph, pricer, prices, tried, draft, guide)?;
-    copied_all(alloc, instance, tried, draft.columns.as_slice(), pool)
+    improve(alloc, day, guide, pricing, tried, draft)?;
+    copied_all(alloc, day, tried, draft.columns.as_slice(), pool)
 }
 
 /// Completes a roster, exchanges its shifts one by one, and then makes it better by moves.
@@ -93,33 +71,24 @@ fn improve_into(
 /// `Memory` where memory runs out; the pool may have further trees.
 pub fn complete(
     alloc: Global,
-    instance: &Instance,
-    graph: &Graph,
-    pricer: &mut Pricer,
-    prices: &mut PriceRoom,
+    day: &Day,
     columns: &[usize],
     guide: &Guide,
+    pricing: &mut Pricing,
     pool: &mut Pool,
 ) -> Result<List<usize>, Memory>
-    requires sound { IsSoundInstance instance.now }
-    requires graph { IsGraph instance.now.grammar graph.now }
-    requires pricer { IsMadeFor graph.now pricer.old }
-    requires prices { IsRoomFor prices.old instance.now }
-    requires pool { IsPool instance.now.grammar pool.old }
+    requires day { IsDay day.now }
     requires columns { All (λ c. c < length pool.old) columns.now }
+    requires pricing { ArePricing day.now pricing.old }
+    requires pool { IsPool day.now.instance.now.grammar pool.old }
     ensures within { IfOk result (λ found. All (λ c. c < length pool.new) found) }
-    ensures pricer { IsMadeFor graph.now pricer.new }
-    ensures prices { IsRoomFor prices.new instance.now }
-    ensures most { prices.new.most ≡ prices.old.most }
-    ensures pool { IsPool instance.now.grammar pool.new }
-    ensures grown { IsGrown pool.old pool.new }
+    ensures pricing { StayPricing day.now pricing.old pricing.new }
+    ensures pool { Grows day.now pool.old pool.new }
 {
     let mut tried = Pool::new(alloc);
-    match drafted(alloc, instance, pool, columns, &mut tried) {
+    match drafted(alloc, day, pool, columns, &mut tried) {
         Ok(mut draft) => {
-            let found = improve_into(
-                alloc, instance, graph, pricer, prices, &mut tried, &mut draft, guide, pool,
-            );
+            let found = improve_into(alloc, day, guide, pricing, &mut tried, &mut draft, pool);
             drop(draft);
             drop(tried);
             found

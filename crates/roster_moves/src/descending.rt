@@ -1,10 +1,6 @@
-ghost use Rattle.std.specs.Prelude.{◌≡◌, ◌<◌, OnOk, length};
-ghost use Rattle.roster_model.specs.PriceRooms.{IsRoomFor};
-ghost use Rattle.roster_model.specs.SoundInstance.{IsSoundInstance};
-ghost use Rattle.parse_graph.specs.Graphs.{IsGraph};
-ghost use Rattle.cheapest_tree.specs.Pricers.{IsMadeFor};
-ghost use Rattle.tree_pool.specs.Pools.{IsPool, IsGrown};
+ghost use Rattle.std.specs.Prelude.{◌<◌, OnOk, length};
 ghost use Rattle.roster_moves.specs.Drafts.{IsDraft};
+ghost use Rattle.roster_moves.specs.Tools.{AreTools, StayTools};
 
 use crate::blending::{Blend, PARTS};
 use crate::draft::Draft;
@@ -14,9 +10,8 @@ use crate::growing::{grow, grow_blended};
 use crate::guide::Guide;
 use crate::ranking::{Rank, drawn_mode, list_ranks, set_values};
 use crate::weighing::weight_of;
-use cheapest_tree::Pricer;
-use parse_graph::Graph;
-use roster_model::{Instance, Memory, PriceRoom, Prices};
+use roster_model::{Instance, Memory, Prices};
+use search_day::{Day, Pricing};
 use std::alloc::Global;
 use tree_pool::Pool;
 
@@ -35,9 +30,9 @@ const SHARES: usize = 13;
 /// A node's price of a cell counts at most so much in size, in sixteenths: more than any cell has.
 const MOST_WORTH: i128 = 1_073_741_824;
 
-/// What a descent works on, beside its draft.
+/// What the moves of a descent are drawn with.
 #[derive(Drop)]
-struct Desk {
+struct MoveRoom {
     /// The node's price of each cell, in sixteenths.
     worths: Vec<i64>,
     /// What an employee at each cell counts for who goes.
@@ -129,13 +124,13 @@ fn zeros(alloc: Global, instance: &Instance) -> Result<Vec<i64>, Memory> {
     }
 }
 
-impl Desk {
-    /// Returns a desk for a descent.
-    fn new(alloc: Global, instance: &Instance, guide: &Guide) -> Result<Desk, Memory> {
+impl MoveRoom {
+    /// Returns what the moves of a descent are drawn with that is steered so.
+    fn new(alloc: Global, instance: &Instance, guide: &Guide) -> Result<MoveRoom, Memory> {
         let mut worths = zeros(alloc, instance)?;
         set_worths(guide.prices, &mut worths);
         let values = zeros(alloc, instance)?;
-        Ok(Desk {
+        Ok(MoveRoom {
             worths,
             values,
             ranks: Vec::new(alloc),
@@ -219,33 +214,21 @@ fn take_back(
 /// Adds as many trees to a draft as go in a move, each a cheapest one of the team that is to have one more
 /// employee, while there is such a team.
 fn put_in(
-    instance: &Instance,
-    graph: &Graph,
-    pricer: &mut Pricer,
-    prices: &mut PriceRoom,
+    day: &Day,
+    step: Move,
+    pricing: &mut Pricing,
     pool: &mut Pool,
     draft: &mut Draft,
-    desk: &mut Desk,
-    step: Move,
+    moves: &mut MoveRoom,
 ) -> Result<(), Memory>
-    requires sound { IsSoundInstance instance.now }
-    requires graph { IsGraph instance.now.grammar graph.now }
-    requires pricer { IsMadeFor graph.now pricer.old }
-    requires prices { IsRoomFor prices.old instance.now }
-    requires pool { IsPool instance.now.grammar pool.old }
-    requires draft { IsDraft instance.now (length pool.old) draft.old }
-    ensures draft { OnOk result (IsDraft instance.now (length pool.new) draft.new) }
-    ensures pricer { IsMadeFor graph.now pricer.new }
-    ensures prices { IsRoomFor prices.new instance.now }
-    ensures most { prices.new.most ≡ prices.old.most }
-    ensures pool { IsPool instance.now.grammar pool.new }
-    ensures grown { IsGrown pool.old pool.new }
+    requires tools { AreTools day.now pricing.old pool.old draft.old }
+    ensures draft { OnOk result (IsDraft day.now.instance.now (length pool.new) draft.new) }
+    ensures tools { StayTools day.now pricing.old pricing.new pool.old pool.new }
 {
     for come in 0..step.count {
         let later = step.count.saturating_sub(come).saturating_sub(1);
-        let blend = desk.blend(step, later);
-        let worths = &desk.worths;
-        if !grow_blended(instance, graph, pricer, prices, pool, draft, worths, blend)? {
+        let blend = moves.blend(step, later);
+        if !grow_blended(day, &moves.worths, blend, pricing, pool, draft)? {
             return Ok(());
         }
     }
@@ -255,108 +238,73 @@ fn put_in(
 /// Puts trees in place of those that went in a move: as many, and one more where it saves, and then each
 /// gives way to a cheapest one of its team.
 fn refill(
-    instance: &Instance,
-    graph: &Graph,
-    pricer: &mut Pricer,
-    prices: &mut PriceRoom,
+    day: &Day,
+    step: Move,
+    pricing: &mut Pricing,
     pool: &mut Pool,
     draft: &mut Draft,
-    desk: &mut Desk,
-    step: Move,
+    moves: &mut MoveRoom,
 ) -> Result<(), Memory>
-    requires sound { IsSoundInstance instance.now }
-    requires graph { IsGraph instance.now.grammar graph.now }
-    requires pricer { IsMadeFor graph.now pricer.old }
-    requires prices { IsRoomFor prices.old instance.now }
-    requires pool { IsPool instance.now.grammar pool.old }
-    requires draft { IsDraft instance.now (length pool.old) draft.old }
-    ensures draft { OnOk result (IsDraft instance.now (length pool.new) draft.new) }
-    ensures pricer { IsMadeFor graph.now pricer.new }
-    ensures prices { IsRoomFor prices.new instance.now }
-    ensures most { prices.new.most ≡ prices.old.most }
-    ensures pool { IsPool instance.now.grammar pool.new }
-    ensures grown { IsGrown pool.old pool.new }
+    requires tools { AreTools day.now pricing.old pool.old draft.old }
+    ensures draft { OnOk result (IsDraft day.now.instance.now (length pool.new) draft.new) }
+    ensures tools { StayTools day.now pricing.old pricing.new pool.old pool.new }
 {
     let first = draft.columns.len();
-    put_in(instance, graph, pricer, prices, pool, draft, desk, step)?;
-    let _grown = grow(instance, graph, pricer, prices, pool, draft)?;
+    put_in(day, step, pricing, pool, draft, moves)?;
+    let _grown = grow(day, pricing, pool, draft)?;
     if draft.columns.len() <= first.saturating_add(1) {
         return Ok(());
     }
-    exchange_from(instance, graph, pricer, prices, pool, draft, first)
+    exchange_from(day, first, pricing, pool, draft)
 }
 
 /// Makes a move, and takes it back where the draft would weigh more than so much. Returns what it weighs.
 fn make(
-    instance: &Instance,
-    graph: &Graph,
-    pricer: &mut Pricer,
-    prices: &mut PriceRoom,
-    pool: &mut Pool,
-    draft: &mut Draft,
-    desk: &mut Desk,
+    day: &Day,
     step: Move,
     weight: u64,
+    pricing: &mut Pricing,
+    pool: &mut Pool,
+    draft: &mut Draft,
+    moves: &mut MoveRoom,
 ) -> Result<u64, Memory>
-    requires sound { IsSoundInstance instance.now }
-    requires graph { IsGraph instance.now.grammar graph.now }
-    requires pricer { IsMadeFor graph.now pricer.old }
-    requires prices { IsRoomFor prices.old instance.now }
-    requires pool { IsPool instance.now.grammar pool.old }
-    requires draft { IsDraft instance.now (length pool.old) draft.old }
-    ensures draft { OnOk result (IsDraft instance.now (length pool.new) draft.new) }
-    ensures pricer { IsMadeFor graph.now pricer.new }
-    ensures prices { IsRoomFor prices.new instance.now }
-    ensures most { prices.new.most ≡ prices.old.most }
-    ensures pool { IsPool instance.now.grammar pool.new }
-    ensures grown { IsGrown pool.old pool.new }
+    requires tools { AreTools day.now pricing.old pool.old draft.old }
+    ensures draft { OnOk result (IsDraft day.now.instance.now (length pool.new) draft.new) }
+    ensures tools { StayTools day.now pricing.old pricing.new pool.old pool.new }
 {
-    take_out(instance, pool, draft, &desk.ranks, step.count);
+    take_out(day.instance, pool, draft, &moves.ranks, step.count);
     let first = draft.columns.len();
-    refill(instance, graph, pricer, prices, pool, draft, desk, step)?;
-    let changed = weight_of(instance, pool, draft);
+    refill(day, step, pricing, pool, draft, moves)?;
+    let changed = weight_of(day.instance, pool, draft);
     if changed <= weight {
         return Ok(changed);
     }
-    take_back(instance, pool, draft, first, &desk.ranks, step.count)?;
+    take_back(day.instance, pool, draft, first, &moves.ranks, step.count)?;
     Ok(weight)
 }
 
-/// Makes moves at a desk, while the draft, which weighs so much, weighs more than the goal.
+/// Makes moves, while the draft, which weighs so much, weighs more than the goal.
 fn descend_at(
-    instance: &Instance,
-    graph: &Graph,
-    pricer: &mut Pricer,
-    prices: &mut PriceRoom,
+    day: &Day,
+    guide: &Guide,
+    pricing: &mut Pricing,
     pool: &mut Pool,
     draft: &mut Draft,
-    desk: &mut Desk,
-    guide: &Guide,
+    moves: &mut MoveRoom,
 ) -> Result<(), Memory>
-    requires sound { IsSoundInstance instance.now }
-    requires graph { IsGraph instance.now.grammar graph.now }
-    requires pricer { IsMadeFor graph.now pricer.old }
-    requires prices { IsRoomFor prices.old instance.now }
-    requires pool { IsPool instance.now.grammar pool.old }
-    requires draft { IsDraft instance.now (length pool.old) draft.old }
-    ensures draft { OnOk result (IsDraft instance.now (length pool.new) draft.new) }
-    ensures pricer { IsMadeFor graph.now pricer.new }
-    ensures prices { IsRoomFor prices.new instance.now }
-    ensures most { prices.new.most ≡ prices.old.most }
-    ensures pool { IsPool instance.now.grammar pool.new }
-    ensures grown { IsGrown pool.old pool.new }
+    requires tools { AreTools day.now pricing.old pool.old draft.old }
+    ensures draft { OnOk result (IsDraft day.now.instance.now (length pool.new) draft.new) }
+    ensures tools { StayTools day.now pricing.old pricing.new pool.old pool.new }
 {
-    let mut weight = weight_of(instance, pool, draft);
+    let mut weight = weight_of(day.instance, pool, draft);
     let mut allowance = Allowance::of(guide, draft.columns.len());
     for _ in 0..allowance.most {
         if weight <= guide.goal || allowance.is_spent() || draft.columns.is_empty() {
             return Ok(());
         }
-        let step = desk.draw(instance, pool, draft)?;
+        let step = moves.draw(day.instance, pool, draft)?;
         allowance.take(step);
-        let changed = make(
-            instance, graph, pricer, prices, pool, draft, desk, step, weight,
-        )?;
+        let changed = make(day, step, weight, pricing, pool, draft, moves)?;
         if changed < weight {
             allowance.extend();
         }
@@ -375,31 +323,18 @@ fn descend_at(
 /// further trees of the day.
 pub(crate) fn descend(
     alloc: Global,
-    instance: &Instance,
-    graph: &Graph,
-    pricer: &mut Pricer,
-    prices: &mut PriceRoom,
+    day: &Day,
+    guide: &Guide,
+    pricing: &mut Pricing,
     pool: &mut Pool,
     draft: &mut Draft,
-    guide: &Guide,
 ) -> Result<(), Memory>
-    requires sound { IsSoundInstance instance.now }
-    requires graph { IsGraph instance.now.grammar graph.now }
-    requires pricer { IsMadeFor graph.now pricer.old }
-    requires prices { IsRoomFor prices.old instance.now }
-    requires pool { IsPool instance.now.grammar pool.old }
-    requires draft { IsDraft instance.now (length pool.old) draft.old }
-    ensures draft { OnOk result (IsDraft instance.now (length pool.new) draft.new) }
-    ensures pricer { IsMadeFor graph.now pricer.new }
-    ensures prices { IsRoomFor prices.new instance.now }
-    ensures most { prices.new.most ≡ prices.old.most }
-    ensures pool { IsPool instance.now.grammar pool.new }
-    ensures grown { IsGrown pool.old pool.new }
+    requires tools { AreTools day.now pricing.old pool.old draft.old }
+    ensures draft { OnOk result (IsDraft day.now.instance.now (length pool.new) draft.new) }
+    ensures tools { StayTools day.now pricing.old pricing.new pool.old pool.new }
 {
-    let mut desk = Desk::new(alloc, instance, guide)?;
-    let end = descend_at(
-        instance, graph, pricer, prices, pool, draft, &mut desk, guide,
-    );
-    drop(desk);
+    let mut moves = MoveRoom::new(alloc, day.instance, guide)?;
+    let end = descend_at(day, guide, pricing, pool, draft, &mut moves);
+    drop(moves);
     end
 }

@@ -1,18 +1,16 @@
-ghost use Rattle.std.specs.Prelude.{◌≡◌, ◌<◌, All, IfOk, OnOk, length};
-ghost use Rattle.roster_model.specs.PriceRooms.{price_view, IsRoomFor};
+ghost use Rattle.std.specs.Prelude.{◌<◌, IfOk, OnOk, length};
+ghost use Rattle.roster_model.specs.PriceRooms.{price_view};
 ghost use Rattle.roster_model.specs.SoundInstance.{IsSoundInstance};
-ghost use Rattle.roster_model.specs.Sums.{IsLeast, tree_sum};
-ghost use Rattle.roster_model.specs.Trees.{IsDayTree};
-ghost use Rattle.parse_graph.specs.Graphs.{IsGraph};
-ghost use Rattle.cheapest_tree.specs.Pricers.{IsMadeFor, IsFilled};
+ghost use Rattle.search_day.specs.Days.{IsDay};
+ghost use Rattle.search_day.specs.Rooms.{ArePricing, StayPricing};
 ghost use Rattle.roster_moves.specs.Drafts.{IsDraft};
+ghost use Rattle.roster_moves.specs.Tools.{HasCells, IsPricedWith, KeepsDraft};
 
 use crate::blending::{Blend, UNITS, set_blended};
 use crate::counts::{count_in, count_out};
 use crate::savings::set_savings;
-use cheapest_tree::Pricer;
-use parse_graph::Graph;
-use roster_model::{Instance, Memory, PriceRoom, TreeRoom};
+use roster_model::{Instance, Memory, TreeRoom};
+use search_day::{Day, Pricing};
 use std::alloc::Global;
 use tree_pool::Pool;
 
@@ -75,27 +73,6 @@ impl Draft {
         }
     }
 
-    /// Adds trees of the pool.
-    ///
-    /// # Errors
-    ///
-    /// `Memory` where memory runs out; nothing is said of the draft then.
-    pub fn push_all(
-        &mut self,
-        instance: &Instance,
-        pool: &Pool,
-        columns: &[usize],
-    ) -> Result<(), Memory>
-        requires draft { IsDraft instance.now (length pool.now) self.old }
-        requires columns { All (λ c. c < length pool.now) columns.now }
-        ensures { OnOk result (IsDraft instance.now (length pool.now) self.new) }
-    {
-        for &column in columns {
-            self.push(instance, pool, column)?;
-        }
-        Ok(())
-    }
-
     /// Takes a tree out, where it is there.
     pub fn take(&mut self, instance: &Instance, pool: &Pool, column: usize)
         requires draft { IsDraft instance.now (length pool.now) self.old }
@@ -130,66 +107,42 @@ impl Draft {
 
     /// Fills the pricer for what one more tree would cost, and returns the least such sum of all trees of
     /// the day.
-    pub fn price(
-        &mut self,
-        instance: &Instance,
-        graph: &Graph,
-        pricer: &mut Pricer,
-        prices: &mut PriceRoom,
-    ) -> Option<i128>
-        requires sound { IsSoundInstance instance.now }
-        requires graph { IsGraph instance.now.grammar graph.now }
-        requires pricer { IsMadeFor graph.now pricer.old }
-        requires prices { IsRoomFor prices.old instance.now }
-        requires counts { length self.old.counts.items ≡ length instance.now.cells }
-        requires savings { length self.old.savings.items ≡ length instance.now.cells }
-        ensures least { IsLeast (IsDayTree instance.now.grammar) (tree_sum (price_view prices.new) 1) result }
-        ensures filled { IsFilled instance.now.grammar (price_view prices.new) graph.now pricer.new }
-        ensures pricer { IsMadeFor graph.now pricer.new }
-        ensures prices { IsRoomFor prices.new instance.now }
-        ensures most { prices.new.most ≡ prices.old.most }
-        ensures length { length self.new.savings.items ≡ length self.old.savings.items }
-        ensures kept { self.new ≡ record self.old { savings = self.new.savings } }
+    pub fn price(&mut self, day: &Day, pricing: &mut Pricing) -> Option<i128>
+        requires day { IsDay day.now }
+        requires pricing { ArePricing day.now pricing.old }
+        requires cells { HasCells day.now.instance.now self.old }
+        ensures priced { IsPricedWith day.now (price_view pricing.new.room) pricing.new.pricer result }
+        ensures pricing { StayPricing day.now pricing.old pricing.new }
+        ensures draft { KeepsDraft self.old self.new }
     {
-        set_savings(instance.cells.as_slice(), &self.counts, &mut self.savings);
-        prices.set_parts(instance, 1, self.savings.as_slice(), &[], &[]);
-        pricer.cheapest(graph, prices)
+        let cells = day.instance.cells.as_slice();
+        set_savings(cells, &self.counts, &mut self.savings);
+        let prices = &mut pricing.room;
+        prices.set_parts(day.instance, 1, self.savings.as_slice(), &[], &[]);
+        pricing.pricer.cheapest(day.graph, prices)
     }
 
     /// Fills the pricer for what one more tree would cost where the node's prices are these, blended, and
     /// returns the least such sum of all trees of the day, in units of 1/256.
     pub fn price_blended(
         &mut self,
-        instance: &Instance,
-        graph: &Graph,
-        pricer: &mut Pricer,
-        prices: &mut PriceRoom,
+        day: &Day,
         worths: &[i64],
         blend: Blend,
+        pricing: &mut Pricing,
     ) -> Option<i128>
-        requires sound { IsSoundInstance instance.now }
-        requires graph { IsGraph instance.now.grammar graph.now }
-        requires pricer { IsMadeFor graph.now pricer.old }
-        requires prices { IsRoomFor prices.old instance.now }
-        requires counts { length self.old.counts.items ≡ length instance.now.cells }
-        requires savings { length self.old.savings.items ≡ length instance.now.cells }
-        ensures least { IsLeast (IsDayTree instance.now.grammar) (tree_sum (price_view prices.new) 1) result }
-        ensures filled { IsFilled instance.now.grammar (price_view prices.new) graph.now pricer.new }
-        ensures pricer { IsMadeFor graph.now pricer.new }
-        ensures prices { IsRoomFor prices.new instance.now }
-        ensures most { prices.new.most ≡ prices.old.most }
-        ensures length { length self.new.savings.items ≡ length self.old.savings.items }
-        ensures kept { self.new ≡ record self.old { savings = self.new.savings } }
+        requires day { IsDay day.now }
+        requires pricing { ArePricing day.now pricing.old }
+        requires cells { HasCells day.now.instance.now self.old }
+        ensures priced { IsPricedWith day.now (price_view pricing.new.room) pricing.new.pricer result }
+        ensures pricing { StayPricing day.now pricing.old pricing.new }
+        ensures draft { KeepsDraft self.old self.new }
     {
-        set_blended(
-            instance.cells.as_slice(),
-            &self.counts,
-            worths,
-            blend,
-            &mut self.savings,
-        );
-        prices.set_parts(instance, UNITS, self.savings.as_slice(), &[], &[]);
-        pricer.cheapest(graph, prices)
+        let cells = day.instance.cells.as_slice();
+        set_blended(cells, &self.counts, worths, blend, &mut self.savings);
+        let prices = &mut pricing.room;
+        prices.set_parts(day.instance, UNITS, self.savings.as_slice(), &[], &[]);
+        pricing.pricer.cheapest(day.graph, prices)
     }
 }
 

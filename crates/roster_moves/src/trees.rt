@@ -2,119 +2,87 @@ ghost use Rattle.std.specs.Prelude.{◌≡◌, ◌≢◌, ◌<◌, [], IsTrue, I
 ghost use Rattle.roster_model.specs.Folds.{In};
 ghost use Rattle.roster_model.specs.PriceRooms.{price_view};
 ghost use Rattle.roster_model.specs.Room.{most_uses};
-ghost use Rattle.roster_model.specs.SoundInstance.{IsSoundInstance};
-ghost use Rattle.roster_model.specs.Sums.{IsLeast, tree_sum};
 ghost use Rattle.roster_model.specs.Teams.{teams};
-ghost use Rattle.roster_model.specs.Trees.{IsDayTree};
-ghost use Rattle.parse_graph.specs.Graphs.{IsGraph};
-ghost use Rattle.cheapest_tree.specs.Pricers.{IsMadeFor, IsFilled};
 ghost use Rattle.roster_part.specs.TeamViews.{team_view};
 ghost use Rattle.tree_laws.specs.DaySteps.{AreDaySteps};
-ghost use Rattle.tree_pool.specs.Pools.{IsPool, IsGrown};
+ghost use Rattle.tree_pool.specs.Pools.{IsPool};
+ghost use Rattle.search_day.specs.Rooms.{Grows};
+ghost use Rattle.candidate_rosters.specs.Priced.{IsPriced};
+ghost use Rattle.roster_moves.specs.Tools.{IsPricedWith};
 
 use candidate_rosters::team_arc;
-use cheapest_tree::Pricer;
-use parse_graph::Graph;
-use roster_model::{Instance, Memory, PriceRoom, TreeRoom};
+use roster_model::{Memory, TreeRoom};
 use roster_part::Team;
+use search_day::{Day, Pricing};
 use tree_pool::Pool;
 
 /// Returns the least sum over the trees of a team that is a group.
-fn group_sum(
-    instance: &Instance,
-    graph: &Graph,
-    pricer: &Pricer,
-    prices: &PriceRoom,
-    team: &Team,
-) -> Option<i128>
-    requires sound { IsSoundInstance instance.now }
-    requires graph { IsGraph instance.now.grammar graph.now }
-    requires made { IsMadeFor graph.now pricer.now }
-    requires filled { IsFilled instance.now.grammar (price_view prices.now) graph.now pricer.now }
-    requires team { In (team_view team.now) (teams instance.now) }
+fn group_sum(day: &Day, pricing: &Pricing, team: &Team) -> Option<i128>
+    requires priced { IsPriced day.now (price_view pricing.now.room) pricing.now.pricer }
+    requires team { In (team_view team.now) (teams day.now.instance.now) }
 {
-    let arc = graph.find(&team_arc(instance, team))?;
-    pricer.sum_under(graph, prices, arc)
+    let arc = day.graph.find(&team_arc(day.instance, team))?;
+    pricing.pricer.sum_under(day.graph, &pricing.room, arc)
 }
 
 /// Returns the least sum over the trees of a team. Over all trees of the day it is `least`.
 pub(crate) fn team_sum(
-    instance: &Instance,
-    graph: &Graph,
-    pricer: &Pricer,
-    prices: &PriceRoom,
+    day: &Day,
+    pricing: &Pricing,
     least: Option<i128>,
     team: &Team,
 ) -> Option<i128>
-    requires sound { IsSoundInstance instance.now }
-    requires graph { IsGraph instance.now.grammar graph.now }
-    requires made { IsMadeFor graph.now pricer.now }
-    requires filled { IsFilled instance.now.grammar (price_view prices.now) graph.now pricer.now }
-    requires team { In (team_view team.now) (teams instance.now) }
+    requires priced { IsPriced day.now (price_view pricing.now.room) pricing.now.pricer }
+    requires team { In (team_view team.now) (teams day.now.instance.now) }
 {
-    if instance.groups.is_empty() {
+    if day.instance.groups.is_empty() {
         return least;
     }
-    group_sum(instance, graph, pricer, prices, team)
+    group_sum(day, pricing, team)
 }
 
 /// Leaves in the room the steps of a tree of least sum of a team that is a group, where it has a sum.
-fn write_group_tree(
-    instance: &Instance,
-    graph: &Graph,
-    pricer: &Pricer,
-    prices: &PriceRoom,
-    team: &Team,
-    room: &mut TreeRoom,
-) -> bool
-    requires sound { IsSoundInstance instance.now }
-    requires graph { IsGraph instance.now.grammar graph.now }
-    requires made { IsMadeFor graph.now pricer.now }
-    requires filled { IsFilled instance.now.grammar (price_view prices.now) graph.now pricer.now }
-    requires groups { instance.now.groups ≢ [] }
-    requires team { In (team_view team.now) (teams instance.now) }
-    requires room { room.old.most ≡ most_uses instance.now.grammar }
-    ensures yes { IsTrue result → AreDaySteps instance.now.grammar room.new.steps }
+fn write_group_tree(day: &Day, pricing: &Pricing, team: &Team, room: &mut TreeRoom) -> bool
+    requires priced { IsPriced day.now (price_view pricing.now.room) pricing.now.pricer }
+    requires groups { day.now.instance.now.groups ≢ [] }
+    requires team { In (team_view team.now) (teams day.now.instance.now) }
+    requires room { room.old.most ≡ most_uses day.now.instance.now.grammar }
+    ensures yes { IsTrue result → AreDaySteps day.now.instance.now.grammar room.new.steps }
     ensures kept { room.new.most ≡ room.old.most }
 {
-    let Some(arc) = graph.find(&team_arc(instance, team)) else {
+    let Some(arc) = day.graph.find(&team_arc(day.instance, team)) else {
         return false;
     };
-    if pricer.sum_under(graph, prices, arc).is_none() {
+    let pricer = &pricing.pricer;
+    if pricer.sum_under(day.graph, &pricing.room, arc).is_none() {
         return false;
     }
-    pricer.tree_under(graph, prices, arc, room);
+    pricer.tree_under(day.graph, &pricing.room, arc, room);
     true
 }
 
 /// Leaves in the room the steps of a tree of least sum of a team, and says whether it has one. Over all
 /// trees of the day the least sum is `least`.
 fn write_tree(
-    instance: &Instance,
-    graph: &Graph,
-    pricer: &Pricer,
-    prices: &PriceRoom,
+    day: &Day,
+    pricing: &Pricing,
     least: Option<i128>,
     team: &Team,
     room: &mut TreeRoom,
 ) -> bool
-    requires sound { IsSoundInstance instance.now }
-    requires graph { IsGraph instance.now.grammar graph.now }
-    requires made { IsMadeFor graph.now pricer.now }
-    requires filled { IsFilled instance.now.grammar (price_view prices.now) graph.now pricer.now }
-    requires least { IsLeast (IsDayTree instance.now.grammar) (tree_sum (price_view prices.now) 1) least }
-    requires team { In (team_view team.now) (teams instance.now) }
-    requires room { room.old.most ≡ most_uses instance.now.grammar }
-    ensures yes { IsTrue result → AreDaySteps instance.now.grammar room.new.steps }
+    requires priced { IsPricedWith day.now (price_view pricing.now.room) pricing.now.pricer least }
+    requires team { In (team_view team.now) (teams day.now.instance.now) }
+    requires room { room.old.most ≡ most_uses day.now.instance.now.grammar }
+    ensures yes { IsTrue result → AreDaySteps day.now.instance.now.grammar room.new.steps }
     ensures kept { room.new.most ≡ room.old.most }
 {
-    if !instance.groups.is_empty() {
-        return write_group_tree(instance, graph, pricer, prices, team, room);
+    if !day.instance.groups.is_empty() {
+        return write_group_tree(day, pricing, team, room);
     }
     if least.is_none() {
         return false;
     }
-    pricer.tree(graph, prices, room);
+    pricing.pricer.tree(day.graph, &pricing.room, room);
     true
 }
 
@@ -126,31 +94,24 @@ fn write_tree(
 /// `Memory` where memory runs out; the pool has its trees under their numbers then, and perhaps further trees
 /// of the day.
 pub(crate) fn least_column(
-    instance: &Instance,
-    graph: &Graph,
-    pricer: &Pricer,
-    prices: &PriceRoom,
+    day: &Day,
+    pricing: &Pricing,
     least: Option<i128>,
     team: &Team,
     room: &mut TreeRoom,
     pool: &mut Pool,
 ) -> Result<Option<usize>, Memory>
-    requires sound { IsSoundInstance instance.now }
-    requires graph { IsGraph instance.now.grammar graph.now }
-    requires made { IsMadeFor graph.now pricer.now }
-    requires filled { IsFilled instance.now.grammar (price_view prices.now) graph.now pricer.now }
-    requires least { IsLeast (IsDayTree instance.now.grammar) (tree_sum (price_view prices.now) 1) least }
-    requires team { In (team_view team.now) (teams instance.now) }
-    requires room { room.old.most ≡ most_uses instance.now.grammar }
-    requires pool { IsPool instance.now.grammar pool.old }
+    requires priced { IsPricedWith day.now (price_view pricing.now.room) pricing.now.pricer least }
+    requires team { In (team_view team.now) (teams day.now.instance.now) }
+    requires room { room.old.most ≡ most_uses day.now.instance.now.grammar }
+    requires pool { IsPool day.now.instance.now.grammar pool.old }
     ensures within { IfOk result (λ found. IfSome found (λ c. c < length pool.new)) }
     ensures kept { room.new.most ≡ room.old.most }
-    ensures pool { IsPool instance.now.grammar pool.new }
-    ensures grown { IsGrown pool.old pool.new }
+    ensures pool { Grows day.now pool.old pool.new }
 {
-    if !write_tree(instance, graph, pricer, prices, least, team, room) {
+    if !write_tree(day, pricing, least, team, room) {
         return Ok(None);
     }
-    let column = pool.add(&instance.grammar, room.steps())?;
+    let column = pool.add(&day.instance.grammar, room.steps())?;
     Ok(Some(column))
 }

@@ -1,86 +1,75 @@
 ghost use Rattle.std.specs.Prelude.{◌≡◌, ◌≢◌, [], IsTrue};
 ghost use Rattle.roster_model.specs.Room.{most_uses};
-ghost use Rattle.roster_model.specs.SoundInstance.{IsSoundInstance};
-ghost use Rattle.roster_model.specs.Sums.{IsLeast, tree_sum};
-ghost use Rattle.roster_model.specs.Trees.{IsDayTree};
-ghost use Rattle.parse_graph.specs.Graphs.{IsGraph};
-ghost use Rattle.cheapest_tree.specs.Pricers.{IsMadeFor, IsFilled};
+ghost use Rattle.cheapest_tree.specs.Pricers.{IsMadeFor};
 ghost use Rattle.word_prices.specs.Prices.{word_view};
 ghost use Rattle.tree_laws.specs.DaySteps.{AreDaySteps};
-ghost use Rattle.tree_pool.specs.Pools.{IsPool, IsGrown};
+ghost use Rattle.tree_pool.specs.Pools.{IsPool};
+ghost use Rattle.search_day.specs.Days.{IsDay};
+ghost use Rattle.search_day.specs.Rooms.{Grows};
+ghost use Rattle.candidate_rosters.specs.Priced.{IsPriced};
+ghost use Rattle.roster_moves.specs.Tools.{IsPricedWith};
 
 use candidate_rosters::team_arc;
 use cheapest_tree::Pricer;
-use parse_graph::Graph;
-use roster_model::{Instance, Memory, Shift, TreeRoom};
+use roster_model::{Memory, Shift, TreeRoom};
 use roster_part::{team_at, team_count};
+use search_day::Day;
 use std::alloc::Global;
 use tree_pool::Pool;
 use word_prices::WordPrices;
 
 /// Leaves in the room the steps of a cheapest tree of a word of a group, where it has one.
 fn write_group_word(
-    instance: &Instance,
-    graph: &Graph,
+    day: &Day,
     pricer: &Pricer,
     prices: &WordPrices,
     group: u8,
     room: &mut TreeRoom,
 ) -> bool
-    requires sound { IsSoundInstance instance.now }
-    requires graph { IsGraph instance.now.grammar graph.now }
-    requires made { IsMadeFor graph.now pricer.now }
-    requires filled { IsFilled instance.now.grammar
-        (word_view prices.now.grammar.now prices.now.word.now) graph.now pricer.now }
-    requires groups { instance.now.groups ≢ [] }
-    requires room { room.old.most ≡ most_uses instance.now.grammar }
-    ensures yes { IsTrue result → AreDaySteps instance.now.grammar room.new.steps }
+    requires priced { IsPriced day.now (word_view prices.now.grammar.now prices.now.word.now) pricer.now }
+    requires groups { day.now.instance.now.groups ≢ [] }
+    requires room { room.old.most ≡ most_uses day.now.instance.now.grammar }
+    ensures yes { IsTrue result → AreDaySteps day.now.instance.now.grammar room.new.steps }
     ensures kept { room.new.most ≡ room.old.most }
 {
     let place = (group as usize).saturating_sub(1);
-    if place >= team_count(instance) {
+    if place >= team_count(day.instance) {
         return false;
     }
-    let team = team_at(instance, place);
-    let Some(arc) = graph.find(&team_arc(instance, &team)) else {
+    let team = team_at(day.instance, place);
+    let Some(arc) = day.graph.find(&team_arc(day.instance, &team)) else {
         return false;
     };
-    if pricer.sum_under(graph, prices, arc).is_none() {
+    if pricer.sum_under(day.graph, prices, arc).is_none() {
         return false;
     }
-    pricer.tree_under(graph, prices, arc, room);
+    pricer.tree_under(day.graph, prices, arc, room);
     true
 }
 
 /// Leaves in the room the steps of a cheapest tree of a word of a team, and says whether it has one. Over all
 /// trees of the day the least sum is `least`.
 fn write_word(
-    instance: &Instance,
-    graph: &Graph,
+    day: &Day,
     pricer: &Pricer,
     prices: &WordPrices,
     least: Option<i128>,
     group: u8,
     room: &mut TreeRoom,
 ) -> bool
-    requires sound { IsSoundInstance instance.now }
-    requires graph { IsGraph instance.now.grammar graph.now }
-    requires made { IsMadeFor graph.now pricer.now }
-    requires filled { IsFilled instance.now.grammar
-        (word_view prices.now.grammar.now prices.now.word.now) graph.now pricer.now }
-    requires least { IsLeast (IsDayTree instance.now.grammar)
-        (tree_sum (word_view prices.now.grammar.now prices.now.word.now) 1) least }
-    requires room { room.old.most ≡ most_uses instance.now.grammar }
-    ensures yes { IsTrue result → AreDaySteps instance.now.grammar room.new.steps }
+    requires priced { IsPricedWith day.now (word_view prices.now.grammar.now prices.now.word.now) pricer.now
+        least }
+    requires room { room.old.most ≡ most_uses day.now.instance.now.grammar }
+    ensures yes { IsTrue result → AreDaySteps day.now.instance.now.grammar room.new.steps }
     ensures kept { room.new.most ≡ room.old.most }
 {
-    if !instance.groups.is_empty() {
-        return write_group_word(instance, graph, pricer, prices, group, room);
+    if !day.instance.groups.is_empty() {
+        return write_group_word(day, pricer, prices, group, room);
     }
     if least.is_none() {
         return false;
     }
-    pricer.tree(graph, prices, room);
+    pricer.tree(day.graph, prices, room);
     true
 }
 
@@ -90,29 +79,26 @@ fn write_word(
 ///
 /// `Memory` where memory runs out.
 fn add_word(
-    instance: &Instance,
-    graph: &Graph,
-    pricer: &mut Pricer,
+    day: &Day,
     shift: &Shift,
+    pricer: &mut Pricer,
     room: &mut TreeRoom,
     pool: &mut Pool,
 ) -> Result<(), Memory>
-    requires sound { IsSoundInstance instance.now }
-    requires graph { IsGraph instance.now.grammar graph.now }
-    requires pricer { IsMadeFor graph.now pricer.old }
-    requires room { room.old.most ≡ most_uses instance.now.grammar }
-    requires pool { IsPool instance.now.grammar pool.old }
+    requires day { IsDay day.now }
+    requires pricer { IsMadeFor day.now.graph.now pricer.old }
+    requires room { room.old.most ≡ most_uses day.now.instance.now.grammar }
+    requires pool { IsPool day.now.instance.now.grammar pool.old }
     ensures kept { room.new.most ≡ room.old.most }
-    ensures pricer { IsMadeFor graph.now pricer.new }
-    ensures pool { IsPool instance.now.grammar pool.new }
-    ensures grown { IsGrown pool.old pool.new }
+    ensures pricer { IsMadeFor day.now.graph.now pricer.new }
+    ensures pool { Grows day.now pool.old pool.new }
 {
-    let prices = WordPrices::new(&instance.grammar, shift.word.as_slice());
-    let least = pricer.cheapest(graph, &prices);
-    if !write_word(instance, graph, pricer, &prices, least, shift.group, room) {
+    let prices = WordPrices::new(&day.instance.grammar, shift.word.as_slice());
+    let least = pricer.cheapest(day.graph, &prices);
+    if !write_word(day, pricer, &prices, least, shift.group, room) {
         return Ok(());
     }
-    let _column = pool.add(&instance.grammar, room.steps())?;
+    let _column = pool.add(&day.instance.grammar, room.steps())?;
     Ok(())
 }
 
@@ -135,26 +121,23 @@ fn is_repeated(shifts: &[Shift], place: usize, shift: &Shift) -> bool {
 /// under their numbers, and perhaps further trees of the day.
 pub fn add_words(
     alloc: Global,
-    instance: &Instance,
-    graph: &Graph,
-    pricer: &mut Pricer,
+    day: &Day,
     shifts: &[Shift],
+    pricer: &mut Pricer,
     pool: &mut Pool,
 ) -> Result<(), Memory>
-    requires sound { IsSoundInstance instance.now }
-    requires graph { IsGraph instance.now.grammar graph.now }
-    requires pricer { IsMadeFor graph.now pricer.old }
-    requires pool { IsPool instance.now.grammar pool.old }
-    ensures pricer { IsMadeFor graph.now pricer.new }
-    ensures pool { IsPool instance.now.grammar pool.new }
-    ensures grown { IsGrown pool.old pool.new }
+    requires day { IsDay day.now }
+    requires pricer { IsMadeFor day.now.graph.now pricer.old }
+    requires pool { IsPool day.now.instance.now.grammar pool.old }
+    ensures pricer { IsMadeFor day.now.graph.now pricer.new }
+    ensures pool { Grows day.now pool.old pool.new }
 {
-    let mut room = TreeRoom::for_grammar(alloc, &instance.grammar)?;
+    let mut room = TreeRoom::for_grammar(alloc, &day.instance.grammar)?;
     for (place, shift) in shifts.iter().enumerate() {
         if is_repeated(shifts, place, shift) {
             continue;
         }
-        add_word(instance, graph, pricer, shift, &mut room, pool)?;
+        add_word(day, shift, pricer, &mut room, pool)?;
     }
     Ok(())
 }

@@ -1,15 +1,13 @@
-ghost use Rattle.std.specs.Prelude.{◌≤◌, length};
-ghost use Rattle.roster_model.specs.Folds.{Each};
-ghost use Rattle.roster_model.specs.SoundInstance.{IsSoundInstance};
-ghost use Rattle.master_laws.specs.Rows.{rows_of};
-ghost use Rattle.roster_model.specs.Limits.{IsSmallCut};
 ghost use Rattle.master_rows.specs.NodeRows.{AreRows};
+ghost use Rattle.split_probes.specs.Nodes.{IsSplitNode};
 
+use crate::node::SplitNode;
 use crate::shares::Share;
 use dives::{list_places, scout_of};
 use master_rows::NodeRows;
+use node_task::NodeTask;
 use parse_graph::Graph;
-use roster_model::{Cut, Instance, List, Memory};
+use roster_model::{List, Memory};
 use scout::{LastRow, Limits, Scout, Scouted};
 use std::alloc::Global;
 use tree_pool::Pool;
@@ -43,7 +41,7 @@ pub(crate) struct Budget {
 
 /// A node's program at a scout, and room to try cuts.
 #[derive(Drop)]
-pub(crate) struct Bench {
+pub(crate) struct ProbeBench {
     /// The program, whose last row has no entries.
     base: Scout,
     /// A copy in which that row is a cut.
@@ -61,8 +59,7 @@ pub(crate) struct Bench {
 /// Lists a tree of the pool, if it is one.
 fn list_tree(
     alloc: Global,
-    cuts: &[Cut],
-    rows: &NodeRows,
+    task: &NodeTask,
     pool: &Pool,
     column: usize,
     scout: &mut Scout,
@@ -71,7 +68,7 @@ fn list_tree(
     if column >= pool.len() {
         return Ok(());
     }
-    let places = rows.places_of(alloc, cuts, pool, column)?;
+    let places = task.rows.places_of(alloc, task.cuts, pool, column)?;
     listed.push(column)?;
     list_places(scout, i64::from(pool.cost(column)), places.as_slice())
 }
@@ -79,19 +76,18 @@ fn list_tree(
 /// Lists the trees with weight, and the pool's last ones.
 fn list_trees(
     alloc: Global,
-    cuts: &[Cut],
-    rows: &NodeRows,
+    task: &NodeTask,
     pool: &Pool,
     shares: &[Share],
     scout: &mut Scout,
     listed: &mut List<usize>,
 ) -> Result<(), Memory> {
     for share in shares {
-        list_tree(alloc, cuts, rows, pool, share.column, scout, listed)?;
+        list_tree(alloc, task, pool, share.column, scout, listed)?;
     }
-    let last = rows.right().len().saturating_mul(LAST);
+    let last = task.rows.right().len().saturating_mul(LAST);
     for column in pool.len().saturating_sub(last)..pool.len() {
-        list_tree(alloc, cuts, rows, pool, column, scout, listed)?;
+        list_tree(alloc, task, pool, column, scout, listed)?;
     }
     Ok(())
 }
@@ -99,15 +95,16 @@ fn list_trees(
 /// Lists the best trees of the pool at a scout's prices that are not listed yet.
 fn list_best(
     alloc: Global,
-    cuts: &[Cut],
-    rows: &NodeRows,
+    task: &NodeTask,
     pool: &Pool,
     scout: &mut Scout,
     listed: &mut List<usize>,
 ) -> Result<(), Memory> {
     let prices = scout.list_prices(alloc)?;
-    let most = rows.right().len().saturating_mul(BEST);
-    let best = rows.best_trees(alloc, cuts, pool, prices.as_slice(), most)?;
+    let most = task.rows.right().len().saturating_mul(BEST);
+    let best = task
+        .rows
+        .best_trees(alloc, task.cuts, pool, prices.as_slice(), most)?;
     let count = listed.len();
     for column in best.as_slice() {
         let is_new = match listed.as_slice().get(..count) {
@@ -115,7 +112,7 @@ fn list_best(
             None => true,
         };
         if is_new {
-            list_tree(alloc, cuts, rows, pool, *column, scout, listed)?;
+            list_tree(alloc, task, pool, *column, scout, listed)?;
         }
     }
     Ok(())
@@ -137,17 +134,12 @@ fn flags_of(alloc: Global, count: usize) -> Result<Vec<bool>, Memory> {
 }
 
 /// Returns the program of a node with no trees, and room to try cuts.
-fn without_trees(
-    alloc: Global,
-    instance: &Instance,
-    cuts: &[Cut],
-    rows: &NodeRows,
-) -> Result<Bench, Memory>
-    requires { AreRows instance.now cuts.now rows.now }
+fn without_trees(alloc: Global, task: &NodeTask) -> Result<ProbeBench, Memory>
+    requires { AreRows task.now.day.instance.now task.now.cuts.now task.now.rows.now }
 {
-    let base = scout_of(alloc, instance, cuts, rows, 1)?;
-    let copy = scout_of(alloc, instance, cuts, rows, 1)?;
-    Ok(Bench {
+    let base = scout_of(alloc, task, 1)?;
+    let copy = scout_of(alloc, task, 1)?;
+    Ok(ProbeBench {
         base,
         copy,
         listed: List::new(alloc),
@@ -157,42 +149,36 @@ fn without_trees(
     })
 }
 
-impl Bench {
+impl ProbeBench {
     /// Returns the program of a node, solved; `None` where it was not. No value from `limit` on is of use.
     ///
     /// # Errors
     ///
     /// `Memory` where memory runs out; nothing is kept then.
-    pub fn new(
-        alloc: Global,
-        instance: &Instance,
-        cuts: &[Cut],
-        pool: &Pool,
-        shares: &[Share],
-        limit: i128,
-    ) -> Result<Option<Bench>, Memory>
-        requires sound { IsSoundInstance instance.now }
-        requires cuts { Each IsSmallCut cuts.now }
-        requires small { length (rows_of instance.now cuts.now) ≤ 1500 }
+    pub fn new(alloc: Global, node: &SplitNode, limit: i128) -> Result<Option<ProbeBench>, Memory>
+        requires { IsSplitNode node.now }
     {
-        let rows = NodeRows::new(alloc, instance, cuts)?;
-        Bench::over(alloc, instance, cuts, &rows, pool, shares, limit)
+        let rows = NodeRows::new(alloc, node.day.instance, node.cuts)?;
+        let task = NodeTask {
+            day: node.day,
+            cuts: node.cuts,
+            rows: &rows,
+        };
+        ProbeBench::over(alloc, &task, node.pool, node.shares, limit)
     }
 
     /// Returns the program over a node's rows, solved; `None` where it was not.
     fn over(
         alloc: Global,
-        instance: &Instance,
-        cuts: &[Cut],
-        rows: &NodeRows,
+        task: &NodeTask,
         pool: &Pool,
         shares: &[Share],
         limit: i128,
-    ) -> Result<Option<Bench>, Memory>
-        requires { AreRows instance.now cuts.now rows.now }
+    ) -> Result<Option<ProbeBench>, Memory>
+        requires { AreRows task.now.day.instance.now task.now.cuts.now task.now.rows.now }
     {
-        let mut bench = without_trees(alloc, instance, cuts, rows)?;
-        if bench.fill(alloc, cuts, rows, pool, shares, limit)? {
+        let mut bench = without_trees(alloc, task)?;
+        if bench.fill(alloc, task, pool, shares, limit)? {
             return Ok(Some(bench));
         }
         Ok(None)
@@ -202,18 +188,17 @@ impl Bench {
     fn fill(
         &mut self,
         alloc: Global,
-        cuts: &[Cut],
-        rows: &NodeRows,
+        task: &NodeTask,
         pool: &Pool,
         shares: &[Share],
         limit: i128,
     ) -> Result<bool, Memory> {
         let (base, listed) = (&mut self.base, &mut self.listed);
-        list_trees(alloc, cuts, rows, pool, shares, base, listed)?;
+        list_trees(alloc, task, pool, shares, base, listed)?;
         if !solve(base) {
             return Ok(false);
         }
-        list_best(alloc, cuts, rows, pool, base, listed)?;
+        list_best(alloc, task, pool, base, listed)?;
         if base.run(SOLVE) != Scouted::Optimal {
             return Ok(false);
         }

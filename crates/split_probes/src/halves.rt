@@ -1,4 +1,4 @@
-use crate::bench::Bench;
+use crate::bench::ProbeBench;
 use crate::candidates::Candidate;
 use parse_graph::Graph;
 use roster_model::Memory;
@@ -70,7 +70,7 @@ fn high_row(floor: i64) -> LastRow {
 pub(crate) fn halves_of(
     graph: &Graph,
     pool: &Pool,
-    bench: &mut Bench,
+    bench: &mut ProbeBench,
     candidate: &Candidate,
     steps: u32,
     above: i128,

@@ -7,10 +7,12 @@ mod candidates;
 mod gains;
 mod halves;
 mod letters;
+mod node;
 mod probing;
 mod shares;
 mod sums;
 
 pub use gains::Gains;
+pub use node::SplitNode;
 pub use probing::best_arc;
 pub use shares::Share;

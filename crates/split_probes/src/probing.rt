@@ -1,18 +1,14 @@
-ghost use Rattle.std.specs.Prelude.{◌≡◌, ◌≤◌, ◌<◌, IfOk, IfSome, length};
-ghost use Rattle.roster_model.specs.Folds.{Each};
-ghost use Rattle.roster_model.specs.SoundInstance.{IsSoundInstance};
-ghost use Rattle.master_laws.specs.Rows.{rows_of};
-ghost use Rattle.roster_model.specs.Limits.{IsSmallCut};
+ghost use Rattle.std.specs.Prelude.{◌<◌, IfOk, IfSome, length};
+ghost use Rattle.split_probes.specs.Nodes.{IsSplitNode};
 
-use crate::bench::{Bench, Budget};
+use crate::bench::{Budget, ProbeBench};
 use crate::candidates::{Candidate, Candidates, ONE, candidates_of};
 use crate::gains::Gains;
 use crate::halves::halves_of;
-use crate::shares::Share;
+use crate::node::SplitNode;
 use crate::sums::sums_of;
-use count_boxes::ArcBox;
 use parse_graph::Graph;
-use roster_model::{Cut, Instance, List, Memory};
+use roster_model::Memory;
 use std::alloc::Global;
 use tree_pool::Pool;
 
@@ -57,7 +53,7 @@ const NONE: Rated = Rated {
 fn best_arc_of(
     graph: &Graph,
     pool: &Pool,
-    bench: &mut Bench,
+    bench: &mut ProbeBench,
     arcs: &[Candidate],
 ) -> Result<Rated, Memory> {
     let mut best = NONE;
@@ -93,7 +89,7 @@ fn kept_of(
     alloc: Global,
     graph: &Graph,
     pool: &Pool,
-    bench: &mut Bench,
+    bench: &mut ProbeBench,
     letters: &[Candidate],
 ) -> Result<Vec<Rated>, Memory> {
     let Ok(mut kept) = vec![in alloc; NONE; KEPT] else {
@@ -116,7 +112,7 @@ fn kept_of(
 fn best_kept(
     graph: &Graph,
     pool: &Pool,
-    bench: &mut Bench,
+    bench: &mut ProbeBench,
     kept: &[Rated],
     gains: &mut Gains,
 ) -> Result<Rated, Memory> {
@@ -156,7 +152,7 @@ fn best_tried(
     alloc: Global,
     graph: &Graph,
     pool: &Pool,
-    bench: &mut Bench,
+    bench: &mut ProbeBench,
     candidates: &Candidates,
     gains: &mut Gains,
 ) -> Result<Option<u32>, Memory> {
@@ -177,18 +173,12 @@ fn arc_of(graph: &Graph, number: Option<u32>) -> Option<u32>
 }
 
 /// Returns the arcs that are tried.
-fn tried(
-    alloc: Global,
-    graph: &Graph,
-    arc_box: &ArcBox,
-    pool: &Pool,
-    shares: &[Share],
-    gains: &Gains,
-) -> Result<Candidates, Memory>
-    requires { length arc_box.now.bounds ≡ length graph.now.arcs }
+fn tried(alloc: Global, node: &SplitNode, gains: &Gains) -> Result<Candidates, Memory>
+    requires { IsSplitNode node.now }
 {
-    let sums = sums_of(alloc, graph, pool, shares)?;
-    candidates_of(alloc, graph, arc_box, sums.as_slice(), gains)
+    let graph = node.day.graph;
+    let sums = sums_of(alloc, graph, node.pool, node.shares)?;
+    candidates_of(alloc, graph, node.arc_box, sums.as_slice(), gains)
 }
 
 /// Returns an arc of the graph on which a node may be split well, from the weights of the trees at its
@@ -206,30 +196,23 @@ fn tried(
 /// `Memory` where memory runs out.
 pub fn best_arc(
     alloc: Global,
-    instance: &Instance,
-    graph: &Graph,
-    cuts: &[Cut],
-    arc_box: &ArcBox,
-    pool: &Pool,
-    shares: &[Share],
+    node: &SplitNode,
     limit: u64,
     gains: &mut Gains,
 ) -> Result<Option<u32>, Memory>
-    requires sound { IsSoundInstance instance.now }
-    requires cuts { Each IsSmallCut cuts.now }
-    requires small { length (rows_of instance.now cuts.now) ≤ 1500 }
-    requires bounds { length arc_box.now.bounds ≡ length graph.now.arcs }
-    ensures { IfOk result (λ found. IfSome found (λ arc. arc < length graph.now.arcs)) }
+    requires { IsSplitNode node.now }
+    ensures { IfOk result (λ found. IfSome found (λ arc. arc < length node.now.day.graph.now.arcs)) }
 {
-    let candidates = tried(alloc, graph, arc_box, pool, shares, gains)?;
+    let candidates = tried(alloc, node, gains)?;
     if candidates.are_few() {
         return Ok(None);
     }
     let limit = i128::from(limit).saturating_mul(i128::from(ONE));
-    let Some(mut bench) = Bench::new(alloc, instance, cuts, pool, shares, limit)? else {
+    let Some(mut bench) = ProbeBench::new(alloc, node, limit)? else {
         return Ok(None);
     };
-    let number = best_tried(alloc, graph, pool, &mut bench, &candidates, gains);
+    let graph = node.day.graph;
+    let number = best_tried(alloc, graph, node.pool, &mut bench, &candidates, gains);
     drop(bench);
     Ok(arc_of(graph, number?))
 }

@@ -10,14 +10,17 @@ pub judged-requires-clause-shifts : goal.judged-requires-clause-shifts
 judged-requires-clause-shifts c =
     let i = c.args.instance.now in
     let old = c.args.shifts.now in
-    let again = subst (λ (o : Option (List Shift)). MatchOption o (HaveNoPrices i old) (AreShiftsAgain i old)) c.in-Some.is c.in_ok-again.ensures.again in
-    let ascending = subst (λ (o : Option (List Shift)). IfSome o AreAscending) c.in-Some.is c.in_ok-again.ensures.ascending in
+    let again = subst (λ (o : Option (List Shift)). MatchOption o (HaveNoPrices i old) (AreShiftsAgain i old)) c.in-Some.is c.in_ok-again.ensures.found.again in
+    let ascending = subst (λ (o : Option (List Shift)). IfSome o AreAscending) c.in-Some.is c.in_ok-again.ensures.found.ascending in
     priced-again i old c.in-Some.shifts again c.requires.few ascending
 
-pub returns-in-Some-clause-cost : goal.returns-in-Some-clause-cost
-returns-in-Some-clause-cost c = λ x costs.
-    let i = c.args.instance.now in
-    let old = c.args.shifts.now in
-    let again = subst (λ (o : Option (List Shift)). MatchOption o (HaveNoPrices i old) (AreShiftsAgain i old)) c.in-Some.is c.in_ok-again.ensures.again in
-    let same = roster-again i old c.in-Some.shifts again costs.prices costs.allowed in
-    subst (λ (n : ℕ). CostsAtMost n c.judged.result) (same.1 ∙ costs.total) (c.judged.ensures.cost same.0)
+pub returns-in-Some-clause-roster : goal.returns-in-Some-clause-roster
+returns-in-Some-clause-roster c = record {
+  good = c.judged.ensures.roster;
+  cost = λ x costs.
+      let i = c.args.instance.now in
+      let old = c.args.shifts.now in
+      let again = subst (λ (o : Option (List Shift)). MatchOption o (HaveNoPrices i old) (AreShiftsAgain i old)) c.in-Some.is c.in_ok-again.ensures.found.again in
+      let same = roster-again i old c.in-Some.shifts again costs.prices costs.allowed in
+      subst (λ (n : ℕ). CostsAtMost n c.judged.result) (same.1 ∙ costs.total) (c.judged.ensures.cost same.0);
+}

@@ -10,5 +10,5 @@ returns-in_default-clause-again c =
 
 pub returns-clause-again : goal.returns-clause-again
 returns-clause-again c =
-    again-is c.args.instance.now c.requires.sound c.args.shift.now c.requires.shift c.in_ok-word.word c.in-Some.price (c.in_ok-word.ensures ∙ c.as_slice-2.ensures)
+    again-is c.args.instance.now c.requires.desk.sound c.args.shift.now c.requires.shift c.in_ok-word.word c.in-Some.price (c.in_ok-word.ensures ∙ c.as_slice-2.ensures)
     (subst (λ (w : List ℕ). IsTeamPrice c.args.instance.now (record { team = c.args.shift.now.group; word = w }) c.in-Some.price) c.as_slice.ensures c.in-Some.ensures.price)

@@ -20,11 +20,14 @@ shift_again-requires-clause-shift c =
     subst (IsSoundShift c.args.instance.now) (sym c.shift-item.is)
     (each_all (IsSoundShift c.args.instance.now) c.args.shifts.now c.requires.shifts c.loop-shift.shift-index c.shift-item.result c.loop-shift-test.true)
 
-pub returns-in_default-clause-again : goal.returns-in_default-clause-again
-returns-in_default-clause-again c =
-    no-prices c.args.instance.now c.args.shifts.now c.loop-shift.shift-index c.shift-item.result c.loop-shift-test.true
-    (subst (IsNoShift c.args.instance.now) c.shift-item.is
-    (subst (λ (o : Option Shift). MatchOption o (IsNoShift c.args.instance.now c.shift-item.result) (IsShiftAgain c.args.instance.now c.shift-item.result)) c.in_default.is c.in_ok-priced.ensures.again))
+pub returns-in_default-clause-found : goal.returns-in_default-clause-found
+returns-in_default-clause-found c = record {
+  ascending = tt;
+  again =
+      no-prices c.args.instance.now c.args.shifts.now c.loop-shift.shift-index c.shift-item.result c.loop-shift-test.true
+      (subst (IsNoShift c.args.instance.now) c.shift-item.is
+      (subst (λ (o : Option Shift). MatchOption o (IsNoShift c.args.instance.now c.shift-item.result) (IsShiftAgain c.args.instance.now c.shift-item.result)) c.in_default.is c.in_ok-priced.ensures.again));
+}
 
 pub loop-shift-preserved : goal.loop-shift-preserved
 loop-shift-preserved c = record {

@@ -3,11 +3,17 @@ use Rattle.roster_part.specs.TeamViews.{team_view}
 use Rattle.candidate_rosters.proofs.LeaderColumns.{leads-none, leads-some}
 use Rattle.candidate_rosters.proofs.leaders.add_team.Goals as goal
 
-pub returns-then-team-eq0-clause-yes : goal.returns-then-team-eq0-clause-yes
-returns-then-team-eq0-clause-yes c = λ y. leads-none c.args.instance.now (team_view c.args.team.now) c.args.pool.now c.args.columns.now c.if-team-eq0.true
+pub returns-then-team-eq0-clause-added : goal.returns-then-team-eq0-clause-added
+returns-then-team-eq0-clause-added c = record {
+  yes = λ y. leads-none c.args.day.now.instance.now (team_view c.args.team.now) c.args.pool.now c.args.columns.now c.if-team-eq0.true;
+  no = λ n. cc;
+}
 
-pub returns-clause-yes : goal.returns-clause-yes
-returns-clause-yes c = λ y.
+pub returns-clause-added : goal.returns-clause-added
+returns-clause-added c =
     let f = c.in_ok-column.ensures.found in
-    leads-some c.args.instance.now (team_view c.args.team.now) c.args.pool.now c.add.new.self c.add.ensures.pool c.add.ensures.grown c.lead.new.room (c.lead.ensures.yes c.if-not-lead.false)
-    c.in_ok-column.column f.0 f.1 (f.2 ∙ c.steps.ensures) c.args.columns.now c.push_copies.new.columns c.in_ok-push_copies.ensures
+    record {
+      yes = λ y. leads-some c.args.day.now.instance.now (team_view c.args.team.now) c.args.pool.now c.add.new.self c.add.ensures.pool c.add.ensures.grown c.lead.new.room (c.lead.ensures.leads.yes c.if-not-lead.false)
+          c.in_ok-column.column f.0 f.1 (f.2 ∙ c.steps.ensures) c.args.columns.now c.push_copies.new.columns c.in_ok-push_copies.ensures;
+      no = λ n. cc;
+    }

@@ -7,21 +7,24 @@ use Rattle.candidate_rosters.proofs.LeaderColumns.{led-place}
 use Rattle.candidate_rosters.proofs.leaders.leaders.Goals as goal
 
 pub add_team-requires-clause-team : goal.add_team-requires-clause-team
-add_team-requires-clause-team c = get-in (teams c.args.instance.now) c.loop-place.place (team_view c.team_at-team.result) c.team_at-team.ensures
+add_team-requires-clause-team c = get-in (teams c.args.day.now.instance.now) c.loop-place.place (team_view c.team_at-team.result) c.team_at-team.ensures
 
-pub returns-then-not-branch-clause-none : goal.returns-then-not-branch-clause-none
-returns-then-not-branch-clause-none c = (
-  team_view c.team_at-team.result,
-  get-in (teams c.args.instance.now) c.loop-place.place (team_view c.team_at-team.result) c.team_at-team.ensures,
-  c.in_ok-add_team.ensures.no c.if-not-branch.true,
-)
+pub returns-then-not-branch-clause-found : goal.returns-then-not-branch-clause-found
+returns-then-not-branch-clause-found c = record {
+  led = tt;
+  none = (
+    team_view c.team_at-team.result,
+    get-in (teams c.args.day.now.instance.now) c.loop-place.place (team_view c.team_at-team.result) c.team_at-team.ensures,
+    c.in_ok-add_team.ensures.added.no c.if-not-branch.true,
+  );
+}
 
 pub loop-place-preserved : goal.loop-place-preserved
 loop-place-preserved c = record {
-  pool = c.add_team.ensures.pool;
-  grown = grown-more c.args.pool.now c.loop-place.pool c.add_team.new.pool c.loop-place.invariant.grown c.add_team.ensures.grown;
+  pool = c.add_team.ensures.pool.are;
+  grown = grown-more c.args.pool.now c.loop-place.pool c.add_team.new.pool c.loop-place.invariant.grown c.add_team.ensures.pool.grown;
   room = c.add_team.ensures.kept ∙ c.loop-place.invariant.room;
   led =
-      led-place c.args.instance.now c.loop-place.pool c.add_team.new.pool (teams c.args.instance.now) c.loop-place.place (team_view c.team_at-team.result) c.loop-place.columns c.add_team.new.columns
-      c.team_at-team.ensures c.loop-place.invariant.led (c.in_ok-add_team.ensures.yes c.if-not-branch.false);
+      led-place c.args.day.now.instance.now c.loop-place.pool c.add_team.new.pool (teams c.args.day.now.instance.now) c.loop-place.place (team_view c.team_at-team.result) c.loop-place.columns c.add_team.new.columns
+      c.team_at-team.ensures c.loop-place.invariant.led (c.in_ok-add_team.ensures.added.yes c.if-not-branch.false);
 }

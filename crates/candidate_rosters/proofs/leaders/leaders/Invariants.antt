@@ -7,8 +7,8 @@ use Rattle.candidate_rosters.proofs.leaders.leaders.Given as goal
 
 abbrev pub invariant-loop-place : goal.invariant-loop-place
 invariant-loop-place l = record {
-  pool : IsPool l.instance.grammar l.pool;
+  pool : IsPool l.day.instance.now.grammar l.pool;
   grown : IsGrown l.fn.pool l.pool;
-  room : l.room.most ≡ most_uses l.instance.grammar;
-  led : AreLedAt l.instance l.pool (take l.place (teams l.instance)) l.columns;
+  room : l.room.most ≡ most_uses l.day.instance.now.grammar;
+  led : AreLedAt l.day.instance.now l.pool (take l.place (teams l.day.instance.now)) l.columns;
 }

@@ -4,4 +4,4 @@ use Rattle.roster_part.specs.TeamViews.{team_view}
 use Rattle.roster_moves.proofs.choice.best_choice.Goals as goal
 
 pub team_sum-sum-requires-clause-team : goal.team_sum-sum-requires-clause-team
-team_sum-sum-requires-clause-team c = get-in (teams c.args.instance.now) c.loop-place.place (team_view c.team_at-team.result) c.team_at-team.ensures
+team_sum-sum-requires-clause-team c = get-in (teams c.args.day.now.instance.now) c.loop-place.place (team_view c.team_at-team.result) c.team_at-team.ensures

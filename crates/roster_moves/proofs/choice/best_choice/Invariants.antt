@@ -5,4 +5,4 @@ use Rattle.roster_moves.specs.declared.choice.Choice.{Choice}
 use Rattle.roster_moves.proofs.choice.best_choice.Given as goal
 
 abbrev pub invariant-loop-place : goal.invariant-loop-place
-invariant-loop-place l = IfSome l.best (λ (c : Choice). c.place < length (teams l.instance))
+invariant-loop-place l = IfSome l.best (λ (c : Choice). c.place < length (teams l.day.instance.now))

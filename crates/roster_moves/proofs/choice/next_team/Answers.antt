@@ -4,4 +4,4 @@ use Rattle.roster_part.specs.TeamViews.{team_view}
 use Rattle.roster_moves.proofs.choice.next_team.Goals as goal
 
 pub returns : goal.returns
-returns c = get-in (teams c.args.instance.now) c.in_ok-choice.choice.place (team_view c.team_at.result) c.team_at.ensures
+returns c = get-in (teams c.args.day.now.instance.now) c.in_ok-choice.choice.place (team_view c.team_at.result) c.team_at.ensures

@@ -4,7 +4,7 @@ use Rattle.roster_moves.proofs.copying.copied_all.Given as goal
 
 abbrev pub invariant-loop-column : goal.invariant-loop-column
 invariant-loop-column l = record {
-  to : IsPool l.instance.grammar l.to;
+  to : IsPool l.day.instance.now.grammar l.to;
   grown : IsGrown l.fn.to l.to;
   found : All (λ c. c < length l.to) l.found;
 }

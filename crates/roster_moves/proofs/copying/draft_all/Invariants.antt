@@ -5,6 +5,6 @@ use Rattle.roster_moves.proofs.copying.draft_all.Given as goal
 
 abbrev pub invariant-loop-column : goal.invariant-loop-column
 invariant-loop-column l = record {
-  to : IsPool l.instance.grammar l.to;
-  draft : IsDraft l.instance (length l.to) l.draft;
+  to : IsPool l.day.instance.now.grammar l.to;
+  draft : IsDraft l.day.instance.now (length l.to) l.draft;
 }

@@ -1,17 +1,10 @@
 use Rattle.std.proofs.Common.{◌≡◌, length}
-use Rattle.roster_model.specs.PriceRooms.{IsRoomFor}
-use Rattle.cheapest_tree.specs.Pricers.{IsMadeFor}
-use Rattle.tree_pool.specs.Pools.{IsPool, IsGrown}
-use Rattle.roster_moves.specs.Drafts.{IsDraft}
+use Rattle.roster_moves.specs.Tools.{AreTools, StayTools}
 use Rattle.roster_moves.proofs.exchanging.exchange_from.Given as goal
 
 abbrev pub invariant-loop-place : goal.invariant-loop-place
 invariant-loop-place l = record {
-  draft : IsDraft l.instance (length l.pool) l.draft;
+  tools : AreTools l.day l.pricing l.pool l.draft;
   columns : length l.draft.columns.items ≡ length l.fn.draft.columns.items;
-  pricer : IsMadeFor l.graph l.pricer;
-  prices : IsRoomFor l.prices l.instance;
-  most : l.prices.most ≡ l.fn.prices.most;
-  pool : IsPool l.instance.grammar l.pool;
-  grown : IsGrown l.fn.pool l.pool;
+  stay : StayTools l.day l.fn.pricing l.pricing l.fn.pool l.pool;
 }

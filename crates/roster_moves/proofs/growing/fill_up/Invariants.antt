@@ -1,16 +1,8 @@
-use Rattle.std.proofs.Common.{◌≡◌, length}
-use Rattle.roster_model.specs.PriceRooms.{IsRoomFor}
-use Rattle.cheapest_tree.specs.Pricers.{IsMadeFor}
-use Rattle.tree_pool.specs.Pools.{IsPool, IsGrown}
-use Rattle.roster_moves.specs.Drafts.{IsDraft}
+use Rattle.roster_moves.specs.Tools.{AreTools, StayTools}
 use Rattle.roster_moves.proofs.growing.fill_up.Given as goal
 
 abbrev pub invariant-loop : goal.invariant-loop
 invariant-loop l = record {
-  draft : IsDraft l.instance (length l.pool) l.draft;
-  pricer : IsMadeFor l.graph l.pricer;
-  prices : IsRoomFor l.prices l.instance;
-  most : l.prices.most ≡ l.fn.prices.most;
-  pool : IsPool l.instance.grammar l.pool;
-  grown : IsGrown l.fn.pool l.pool;
+  tools : AreTools l.day l.pricing l.pool l.draft;
+  stay : StayTools l.day l.fn.pricing l.pricing l.fn.pool l.pool;
 }

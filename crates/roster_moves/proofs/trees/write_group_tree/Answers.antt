@@ -8,37 +8,37 @@ use Rattle.roster_moves.proofs.LeastTrees.{is-ready, is-top, asks-under, under-s
 use Rattle.roster_moves.proofs.trees.write_group_tree.Goals as goal
 
 pub sum_under-requires-clause-arc : goal.sum_under-requires-clause-arc
-sum_under-requires-clause-arc c = slice_get_within c.args.graph.now.arcs c.in-Some.arc c.team_arc.result c.in-Some.ensures.found
+sum_under-requires-clause-arc c = slice_get_within c.args.day.now.graph.now.arcs c.in-Some.arc c.team_arc.result c.in-Some.ensures.found
 
 pub tree_under-requires-clause-asks : goal.tree_under-requires-clause-asks
 tree_under-requires-clause-asks c =
-    let i = c.args.instance.now in
-    let p = price_view c.args.prices.now in
-    let v = c.args.graph.now in
-    let w = c.args.pricer.now in
+    let i = c.args.day.now.instance.now in
+    let p = price_view c.args.pricing.now.room in
+    let v = c.args.day.now.graph.now in
+    let w = c.args.pricing.now.pricer in
     let o = team_view c.args.team.now in
-    let key = key_of i c.requires.sound c.requires.groups o c.requires.team in
+    let key = key_of i c.requires.priced.day.sound c.requires.groups o c.requires.team in
     let at : slice_get v.arcs c.in-Some.arc ≡ Some key = c.in-Some.ensures.found ∙ ap Some c.team_arc.ensures in
-    let ready = is-ready i c.requires.sound p v w c.requires.graph c.requires.filled in
-    let top = is-top i c.requires.sound p v w c.requires.graph c.requires.filled c.requires.groups o c.requires.team c.in-Some.arc at in (
+    let ready = is-ready i c.requires.priced.day.sound p v w c.requires.priced.day.graph c.requires.priced.filled in
+    let top = is-top i c.requires.priced.day.sound p v w c.requires.priced.day.graph c.requires.priced.filled c.requires.groups o c.requires.team c.in-Some.arc at in (
       i.grammar,
       key,
-      asks-under i c.requires.sound p v w c.requires.graph c.requires.filled c.requires.groups o c.requires.team c.in-Some.arc at c.sum_under.result
+      asks-under i c.requires.priced.day.sound p v w c.requires.priced.day.graph c.requires.priced.filled c.requires.groups o c.requires.team c.in-Some.arc at c.sum_under.result
           (there-of c.sum_under.result c.if-is_none.ensures) (c.sum_under.ensures.least i.grammar key ready top) c.args.room.now c.requires.room,
     )
 
 pub returns-clause-yes : goal.returns-clause-yes
 returns-clause-yes c = λ y.
-    let i = c.args.instance.now in
-    let p = price_view c.args.prices.now in
-    let v = c.args.graph.now in
-    let w = c.args.pricer.now in
+    let i = c.args.day.now.instance.now in
+    let p = price_view c.args.pricing.now.room in
+    let v = c.args.day.now.graph.now in
+    let w = c.args.pricing.now.pricer in
     let o = team_view c.args.team.now in
-    let key = key_of i c.requires.sound c.requires.groups o c.requires.team in
+    let key = key_of i c.requires.priced.day.sound c.requires.groups o c.requires.team in
     let at : slice_get v.arcs c.in-Some.arc ≡ Some key = c.in-Some.ensures.found ∙ ap Some c.team_arc.ensures in
-    let ready = is-ready i c.requires.sound p v w c.requires.graph c.requires.filled in
-    let top = is-top i c.requires.sound p v w c.requires.graph c.requires.filled c.requires.groups o c.requires.team c.in-Some.arc at in
+    let ready = is-ready i c.requires.priced.day.sound p v w c.requires.priced.day.graph c.requires.priced.filled in
+    let top = is-top i c.requires.priced.day.sound p v w c.requires.priced.day.graph c.requires.priced.filled c.requires.groups o c.requires.team c.in-Some.arc at in
     under-steps i.grammar p key c.tree_under.new.room
     (c.tree_under.ensures.tree i.grammar key
-    (asks-under i c.requires.sound p v w c.requires.graph c.requires.filled c.requires.groups o c.requires.team c.in-Some.arc at c.sum_under.result
+    (asks-under i c.requires.priced.day.sound p v w c.requires.priced.day.graph c.requires.priced.filled c.requires.groups o c.requires.team c.in-Some.arc at c.sum_under.result
     (there-of c.sum_under.result c.if-is_none.ensures) (c.sum_under.ensures.least i.grammar key ready top) c.args.room.now c.requires.room))

@@ -6,16 +6,16 @@ use Rattle.tree_laws.proofs.DayStepsLemmas.{day-steps}
 
 pub tree-requires-clause-asks : goal.tree-requires-clause-asks
 tree-requires-clause-asks c =
-    let i = c.args.instance.now in
-    let p = price_view c.args.prices.now in (
+    let i = c.args.day.now.instance.now in
+    let p = price_view c.args.pricing.now.room in (
       i.grammar,
-      asks-day i c.requires.sound p c.args.graph.now c.args.pricer.now c.requires.graph c.requires.filled c.args.least (there-of c.args.least c.if-is_none.ensures) c.requires.least c.args.room.now c.requires.room,
+      asks-day i c.requires.priced.priced.day.sound p c.args.day.now.graph.now c.args.pricing.now.pricer c.requires.priced.priced.day.graph c.requires.priced.priced.filled c.args.least (there-of c.args.least c.if-is_none.ensures) c.requires.priced.least c.args.room.now c.requires.room,
     )
 
 pub returns-clause-yes : goal.returns-clause-yes
 returns-clause-yes c = λ y.
-    let i = c.args.instance.now in
-    let p = price_view c.args.prices.now in
+    let i = c.args.day.now.instance.now in
+    let p = price_view c.args.pricing.now.room in
     day-steps i.grammar p c.tree.new.room
     (c.tree.ensures.tree i.grammar
-    (asks-day i c.requires.sound p c.args.graph.now c.args.pricer.now c.requires.graph c.requires.filled c.args.least (there-of c.args.least c.if-is_none.ensures) c.requires.least c.args.room.now c.requires.room))
+    (asks-day i c.requires.priced.priced.day.sound p c.args.day.now.graph.now c.args.pricing.now.pricer c.requires.priced.priced.day.graph c.requires.priced.priced.filled c.args.least (there-of c.args.least c.if-is_none.ensures) c.requires.priced.least c.args.room.now c.requires.room))

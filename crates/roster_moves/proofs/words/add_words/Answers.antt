@@ -6,9 +6,12 @@ pub loop-place-preserved : goal.loop-place-preserved
 loop-place-preserved c = record {
   pricer = c.add_word.ensures.pricer;
   room = c.add_word.ensures.kept ∙ c.loop-place.invariant.room;
-  pool = c.add_word.ensures.pool;
-  grown = grown-more c.args.pool.now c.loop-place.pool c.add_word.new.pool c.loop-place.invariant.grown c.add_word.ensures.grown;
+  pool = c.add_word.ensures.pool.are;
+  grown = grown-more c.args.pool.now c.loop-place.pool c.add_word.new.pool c.loop-place.invariant.grown c.add_word.ensures.pool.grown;
 }
 
-pub returns-in_err-add_word-clause-grown : goal.returns-in_err-add_word-clause-grown
-returns-in_err-add_word-clause-grown c = grown-more c.args.pool.now c.loop-place.pool c.add_word.new.pool c.loop-place.invariant.grown c.add_word.ensures.grown
+pub returns-in_err-add_word-clause-pool : goal.returns-in_err-add_word-clause-pool
+returns-in_err-add_word-clause-pool c = record {
+  are = c.add_word.ensures.pool.are;
+  grown = grown-more c.args.pool.now c.loop-place.pool c.add_word.new.pool c.loop-place.invariant.grown c.add_word.ensures.pool.grown;
+}

@@ -6,8 +6,8 @@ use Rattle.roster_moves.proofs.words.add_words.Given as goal
 
 abbrev pub invariant-loop-place : goal.invariant-loop-place
 invariant-loop-place l = record {
-  pricer : IsMadeFor l.graph l.pricer;
-  room : l.room.most ≡ most_uses l.instance.grammar;
-  pool : IsPool l.instance.grammar l.pool;
+  pricer : IsMadeFor l.day.graph.now l.pricer;
+  room : l.room.most ≡ most_uses l.day.instance.now.grammar;
+  pool : IsPool l.day.instance.now.grammar l.pool;
   grown : IsGrown l.fn.pool l.pool;
 }

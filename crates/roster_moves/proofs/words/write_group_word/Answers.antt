@@ -10,42 +10,42 @@ use Rattle.roster_moves.proofs.LeastTrees.{is-ready, is-top, asks-under, under-s
 use Rattle.roster_moves.proofs.words.write_group_word.Goals as goal
 
 pub team_arc-requires-clause-team : goal.team_arc-requires-clause-team
-team_arc-requires-clause-team c = get-in (teams c.args.instance.now) c.saturating_sub-place.result (team_view c.team_at-team.result) c.team_at-team.ensures
+team_arc-requires-clause-team c = get-in (teams c.args.day.now.instance.now) c.saturating_sub-place.result (team_view c.team_at-team.result) c.team_at-team.ensures
 
 pub sum_under-requires-clause-arc : goal.sum_under-requires-clause-arc
-sum_under-requires-clause-arc c = slice_get_within c.args.graph.now.arcs c.in-Some.arc c.team_arc.result c.in-Some.ensures.found
+sum_under-requires-clause-arc c = slice_get_within c.args.day.now.graph.now.arcs c.in-Some.arc c.team_arc.result c.in-Some.ensures.found
 
 pub tree_under-requires-clause-asks : goal.tree_under-requires-clause-asks
 tree_under-requires-clause-asks c =
-    let i = c.args.instance.now in
+    let i = c.args.day.now.instance.now in
     let p = word_view c.args.prices.now.grammar.now c.args.prices.now.word.now in
-    let v = c.args.graph.now in
+    let v = c.args.day.now.graph.now in
     let w = c.args.pricer.now in
     let o = team_view c.team_at-team.result in
     let listed = get-in (teams i) c.saturating_sub-place.result o c.team_at-team.ensures in
-    let key = key_of i c.requires.sound c.requires.groups o listed in
+    let key = key_of i c.requires.priced.day.sound c.requires.groups o listed in
     let at : slice_get v.arcs c.in-Some.arc ≡ Some key = c.in-Some.ensures.found ∙ ap Some c.team_arc.ensures in
-    let ready = is-ready i c.requires.sound p v w c.requires.graph c.requires.filled in
-    let top = is-top i c.requires.sound p v w c.requires.graph c.requires.filled c.requires.groups o listed c.in-Some.arc at in (
+    let ready = is-ready i c.requires.priced.day.sound p v w c.requires.priced.day.graph c.requires.priced.filled in
+    let top = is-top i c.requires.priced.day.sound p v w c.requires.priced.day.graph c.requires.priced.filled c.requires.groups o listed c.in-Some.arc at in (
       i.grammar,
       key,
-      asks-under i c.requires.sound p v w c.requires.graph c.requires.filled c.requires.groups o listed c.in-Some.arc at c.sum_under.result
+      asks-under i c.requires.priced.day.sound p v w c.requires.priced.day.graph c.requires.priced.filled c.requires.groups o listed c.in-Some.arc at c.sum_under.result
           (there-of c.sum_under.result c.if-is_none.ensures) (c.sum_under.ensures.least i.grammar key ready top) c.args.room.now c.requires.room,
     )
 
 pub returns-clause-yes : goal.returns-clause-yes
 returns-clause-yes c = λ y.
-    let i = c.args.instance.now in
+    let i = c.args.day.now.instance.now in
     let p = word_view c.args.prices.now.grammar.now c.args.prices.now.word.now in
-    let v = c.args.graph.now in
+    let v = c.args.day.now.graph.now in
     let w = c.args.pricer.now in
     let o = team_view c.team_at-team.result in
     let listed = get-in (teams i) c.saturating_sub-place.result o c.team_at-team.ensures in
-    let key = key_of i c.requires.sound c.requires.groups o listed in
+    let key = key_of i c.requires.priced.day.sound c.requires.groups o listed in
     let at : slice_get v.arcs c.in-Some.arc ≡ Some key = c.in-Some.ensures.found ∙ ap Some c.team_arc.ensures in
-    let ready = is-ready i c.requires.sound p v w c.requires.graph c.requires.filled in
-    let top = is-top i c.requires.sound p v w c.requires.graph c.requires.filled c.requires.groups o listed c.in-Some.arc at in
+    let ready = is-ready i c.requires.priced.day.sound p v w c.requires.priced.day.graph c.requires.priced.filled in
+    let top = is-top i c.requires.priced.day.sound p v w c.requires.priced.day.graph c.requires.priced.filled c.requires.groups o listed c.in-Some.arc at in
     under-steps i.grammar p key c.tree_under.new.room
     (c.tree_under.ensures.tree i.grammar key
-    (asks-under i c.requires.sound p v w c.requires.graph c.requires.filled c.requires.groups o listed c.in-Some.arc at c.sum_under.result
+    (asks-under i c.requires.priced.day.sound p v w c.requires.priced.day.graph c.requires.priced.filled c.requires.groups o listed c.in-Some.arc at c.sum_under.result
     (there-of c.sum_under.result c.if-is_none.ensures) (c.sum_under.ensures.least i.grammar key ready top) c.args.room.now c.requires.room))

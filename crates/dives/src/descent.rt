@@ -1,0 +1,11 @@
+use crate::desk::DiveDesk;
+use crate::program::Program;
+
+/// A dive that is under way.
+#[derive(Drop)]
+pub(crate) struct Descent {
+    /// The node's program less the trees that are fixed.
+    pub program: Program,
+    /// What it works on beside that.
+    pub desk: DiveDesk,
+}

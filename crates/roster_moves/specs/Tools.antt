@@ -1,0 +1,48 @@
+-- What the moves of a roster work on: what prices trees, the trees that were tried, and a draft of them.
+use Rattle.std.specs.Prelude.{ℕ, ℤ, ◌≡◌, ◌<◌, All, Option, List, length}
+use Rattle.roster_model.specs.declared.instance.Instance.{Instance}
+use Rattle.roster_model.specs.Sums.{PriceView, IsLeast, tree_sum}
+use Rattle.roster_model.specs.Trees.{IsDayTree}
+use Rattle.cheapest_tree.specs.Pricers.{PricerView}
+use Rattle.tree_pool.specs.Pools.{PoolTree, IsPool}
+use Rattle.search_day.specs.declared.day.Day.{Day}
+use Rattle.search_day.specs.declared.pricing.Pricing.{Pricing}
+use Rattle.search_day.specs.Days.{IsDay}
+use Rattle.search_day.specs.Rooms.{ArePricing, StayPricing, Grows}
+use Rattle.candidate_rosters.specs.Priced.{IsPriced}
+use Rattle.roster_moves.specs.declared.draft.Draft.{Draft}
+use Rattle.roster_moves.specs.Drafts.{IsDraft}
+
+-- the day is sound, they fit it, and the draft is one of trees that were tried
+pub record AreTools (d : Day) (p : Pricing) (trees : List PoolTree) (w : Draft) : Type 0 where
+  pub day : IsDay d
+  pub pricing : ArePricing d p
+  pub tried : IsPool d.instance.now.grammar trees
+  pub draft : IsDraft d.instance.now (length trees) w
+
+-- what prices trees still fits the day, and further trees were tried
+pub record StayTools (d : Day) (p q : Pricing) (old new : List PoolTree) : Type 0 where
+  pub pricing : StayPricing d p q
+  pub tried : Grows d old new
+
+-- the day is sound, both pools have trees of it, and these are numbers of trees of the first pool
+pub record MayCopy (d : Day) (old : List PoolTree) (cs : List ℕ) (new : List PoolTree) : Type 0 where
+  pub day : IsDay d
+  pub from : IsPool d.instance.now.grammar old
+  pub columns : All (λ c. c < length old) cs
+  pub to : IsPool d.instance.now.grammar new
+
+-- the pricer is filled for the prices, and the least sum of a tree of the day is known
+pub record IsPricedWith (d : Day) (p : PriceView) (w : PricerView) (z : Option ℤ) : Type 0 where
+  pub priced : IsPriced d p w
+  pub least : IsLeast (IsDayTree d.instance.now.grammar) (tree_sum p 1) z
+
+-- each cell has its count and its saving
+pub record HasCells (i : Instance) (w : Draft) : Type 0 where
+  pub counts : length w.counts.items ≡ length i.cells
+  pub savings : length w.savings.items ≡ length i.cells
+
+-- all of it is as before but the savings, of which there are as many
+pub record KeepsDraft (old new : Draft) : Type 0 where
+  pub as_many : length new.savings.items ≡ length old.savings.items
+  pub kept : new ≡ record old { savings = new.savings }

@@ -1,0 +1,16 @@
+use crate::shares::Share;
+use count_boxes::ArcBox;
+use roster_model::Cut;
+use search_day::Day;
+use tree_pool::Pool;
+
+/// A node whose splits are tried: its day, its cuts with the counts that they leave the arcs, and the weights
+/// of the pool's trees at its solution.
+#[derive(Clone, Copy, Drop)]
+pub struct SplitNode<'a> {
+    pub day: Day<'a>,
+    pub cuts: &'a [Cut],
+    pub arc_box: &'a ArcBox,
+    pub pool: &'a Pool,
+    pub shares: &'a [Share],
+}
