@@ -16,3 +16,5 @@ pub mod ShownLimit
 pub mod LoopsLemmas
 pub mod BetterRosters
 pub mod RootLemmas
+pub mod ToolsLemmas
+pub mod JobsLemmas

@@ -1,5 +1,6 @@
 -- Days without arcs.
 use Rattle.std.specs.Prelude.{Option, IfSome}
+use Rattle.search_day.specs.declared.day.Day.{Day}
 use Rattle.roster_model.specs.declared.instance.Instance.{Instance}
 use Rattle.roster_model.specs.Cuts.{base_cuts}
 use Rattle.bound_laws.specs.Pinned.{IsPinnedValue}
@@ -7,6 +8,13 @@ use Rattle.candidate_rosters.specs.declared.roster.Roster.{Roster}
 use Rattle.candidate_rosters.specs.Rosters.{IsGoodRoster}
 use Rattle.candidate_rosters.specs.Starts.{HasStart, StartsWith}
 use Rattle.candidate_rosters.specs.Offers.{limit_of}
+use Rattle.branch_price.specs.Found.{HasNoArc}
+use Rattle.branch_price.specs.Jobs.{IsBusyDay}
+
+-- a sound day that is not plainly infeasible, and of which no tree has an arc
+pub record IsArclessDay (d : Day) : Type 0 where
+  pub is : IsBusyDay d
+  pub none : HasNoArc d.instance.now
 
 -- an allowed roster that costs what the counts of the root do, or none where these are of no roster
 pub record IsRootRoster (i : Instance) (best : Option Roster) : Type 0 where

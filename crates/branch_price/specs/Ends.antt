@@ -23,9 +23,10 @@ use Rattle.candidate_rosters.specs.declared.roster.Roster.{Roster}
 use Rattle.candidate_rosters.specs.Rosters.{IsGoodRoster}
 use Rattle.candidate_rosters.specs.Starts.{HasStart, StartsWith}
 use Rattle.candidate_rosters.specs.Offers.{limit_of, cost_of}
+use Rattle.branch_price.specs.declared.found.Found.{Found}
 use Rattle.branch_price.specs.declared.progress.Progress.{Progress}
 use Rattle.branch_price.specs.Searching.{site_of, IsSearching}
-use Rattle.branch_price.specs.Found.{HasNoArc}
+use Rattle.branch_price.specs.Found.{HasNoArc, IsFound, AreCounted}
 
 -- the bound of each open leaf reaches the limit
 abbrev pub LeavesReach : Instance → ℕ → Grown → Type 0
@@ -87,6 +88,15 @@ pub record AsksEnd (i : Instance) : Type 0 where
   pub before : ℕ
   pub now : ℕ
   pub turns : ℕ
+
+-- their search is at its end
+abbrev pub IsEndOf : (i : Instance) → AsksEnd i → Progress → Option ℕ → Done → Type 0
+IsEndOf i a p bound done = IsEnd i a.graph a.strict a.before a.now a.turns p bound done
+
+-- what is found then, whoever asks
+abbrev pub IsFoundAtEnd : Instance → Progress → Option ℕ → Done → Found → Type 0
+IsFoundAtEnd i p bound done f = (a : AsksEnd i) → IsEndOf i a p bound done
+    → IsFound i a.strict a.turns f × AreCounted i a.before a.now f
 
 -- the shifts and the cost of the best roster
 abbrev pub IsStatedBy : Option Roster → List Shift × Option ℕ → Type 0

@@ -112,3 +112,8 @@ abbrev pub AreCounted : Instance → ℕ → ℕ → Found → Type 0
 AreCounted i before now f =
     now ≢ last_count → (proof : Proof) → preorder proof ≡ f.cert.nodes → f.failed + before ≤ now
     + count (is_too_long i) (visits (base_cuts i) proof)
+
+-- it is found at the root, whatever the turns and the master's counts are
+pub record IsFoundAtRoot (i : Instance) (f : Found) : Type 0 where
+  pub found : (strict : Bool) (turns : ℕ) → 1 ≤ turns → IsFound i strict turns f
+  pub counted : (before : ℕ) → AreCounted i before before f

@@ -10,3 +10,7 @@ pub mod Ends
 pub mod Loops
 pub mod Arcless
 pub mod OldRosters
+pub mod Jobs
+pub mod Nodes
+pub mod Turns
+pub mod Asking

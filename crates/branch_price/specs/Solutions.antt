@@ -43,6 +43,12 @@ pub record IsSolved (i : Instance) (cuts : List Cut) (columns : List PoolTree) (
   pub within : All (λ (w : Weight). w.column < length columns) s.weights
   pub how : IsSolvedBy s.solution i cuts columns s.prices s.weights
 
+-- prices that fit the cuts, with multipliers above 0, and small cuts
+pub record CanShow (i : Instance) (p : Prices) (cuts : List Cut) : Type 0 where
+  pub fit : FitPrices i p.d p.cell p.mult cuts
+  pub positive : Each (λ (m : Mult). pos 0 <ℤ m.value) p.mult
+  pub small : All (λ (c : Cut). c.b ≤ 63) cuts
+
 -- and these are what its prices show
 pub record IsShown (i : Instance) (cuts : List Cut) (columns : List PoolTree) (s : Solved) (shown : ℕ) :
     Type 0 where

@@ -1,79 +1,57 @@
-ghost use Rattle.std.specs.Prelude.{ℕ, ◌≡◌, ◌≤◌, Bool, IfOk};
-ghost use Rattle.roster_model.specs.Cuts.{base_cuts};
-ghost use Rattle.roster_model.specs.SoundInstance.{IsSoundInstance};
-ghost use Rattle.bound_laws.specs.Infeasible.{IsPlainlyInfeasible};
-ghost use Rattle.parse_graph.specs.Graphs.{IsGraph};
-ghost use Rattle.tree_pool.specs.Pools.{IsPool, IsGrown};
-ghost use Rattle.node_path.specs.Paths.{IsPath};
-ghost use Rattle.branch_price.specs.Arcless.{IsRootRoster};
-ghost use Rattle.branch_price.specs.Desks.{IsDesk};
-ghost use Rattle.branch_price.specs.Found.{HasNoArc, IsFound, AreCounted};
+ghost use Rattle.std.specs.Prelude.{IfOk};
+ghost use Rattle.search_day.specs.Rooms.{Grows};
+ghost use Rattle.branch_price.specs.Arcless.{IsArclessDay, IsRootRoster};
+ghost use Rattle.branch_price.specs.Desks.{IsRootBench};
+ghost use Rattle.branch_price.specs.Found.{IsFoundAtRoot};
 
-use crate::desk::Desk;
+use crate::desk::SearchBench;
 use crate::ended::{closed_end, stated};
 use crate::found::Found;
 use crate::pinned::{offer_least, pinned_value};
 use candidate_rosters::{Roster, least_roster};
 use certificates::{Cert, Node};
 use node_master::Pool;
-use node_path::NodePath;
-use parse_graph::Graph;
-use roster_model::{Instance, List, Memory};
+use roster_model::{List, Memory};
+use search_day::Day;
 use std::alloc::Global;
 
 /// Returns the roster that the root of a day without arcs leaves: that without shifts, where it is allowed.
 fn root_roster(
     alloc: Global,
-    instance: &Instance,
-    graph: &Graph,
-    path: &mut NodePath,
-    desk: &mut Desk,
+    day: &Day,
+    bench: &mut SearchBench,
     pool: &mut Pool,
 ) -> Result<Option<Roster>, Memory>
-    requires sound { IsSoundInstance instance.now }
-    requires busy { IsPlainlyInfeasible instance.now → ⊥ }
-    requires graph { IsGraph instance.now.grammar graph.now }
-    requires none { HasNoArc instance.now }
-    requires path { IsPath instance.now graph.now path.old }
-    requires root { path.old.cuts ≡ base_cuts instance.now }
-    requires desk { IsDesk instance.now graph.now desk.old }
-    requires pool { IsPool instance.now.grammar pool.old }
-    ensures best { IfOk result (IsRootRoster instance.now) }
-    ensures pool { IsPool instance.now.grammar pool.new }
-    ensures grown { IsGrown pool.old pool.new }
+    requires day { IsArclessDay day.now }
+    requires bench { IsRootBench day.now pool.old bench.old }
+    ensures best { IfOk result (IsRootRoster day.now.instance.now) }
+    ensures pool { Grows day.now pool.old pool.new }
 {
     let mut best = least_roster(
         alloc,
-        instance,
-        graph,
-        &mut desk.pricing.pricer,
-        &mut desk.pricing.room,
+        day,
+        &mut bench.desk.pricing,
         pool,
-        &mut desk.rosters,
+        &mut bench.desk.rosters,
     )?;
-    let value = pinned_value(instance, graph, path);
+    let value = pinned_value(day, &mut bench.path);
     offer_least(
         alloc,
-        instance,
-        graph,
-        path,
+        day,
+        &bench.path,
         value,
+        &mut bench.desk,
         pool,
-        &mut desk.rosters,
         &mut best,
     )?;
     Ok(best)
 }
 
 /// Returns what a search finds whose one node is pinned, with this roster.
-fn found_at_root(alloc: Global, instance: &Instance, best: Option<Roster>) -> Result<Found, Memory>
-    requires sound { IsSoundInstance instance.now }
-    requires busy { IsPlainlyInfeasible instance.now → ⊥ }
-    requires none { HasNoArc instance.now }
-    requires best { IsRootRoster instance.now best }
-    ensures found { IfOk result (λ f. (strict : Bool) (turns : ℕ) → 1 ≤ turns
-        → IsFound instance.now strict turns f) }
-    ensures counted { IfOk result (λ f. (before : ℕ) → AreCounted instance.now before before f) }
+fn found_at_root(alloc: Global, day: &Day, best: Option<Roster>) -> Result<Found, Memory>
+    requires day { IsArclessDay day.now }
+    requires best { IsRootRoster day.now.instance.now best }
+    ensures { IfOk result (IsFoundAtRoot day.now.instance.now) }
 {
     let mut nodes = List::new(alloc);
     nodes.push(Node::Pinned)?;
@@ -100,26 +78,15 @@ fn found_at_root(alloc: Global, instance: &Instance, best: Option<Roster>) -> Re
 /// of the day.
 pub(crate) fn search_arcless(
     alloc: Global,
-    instance: &Instance,
-    graph: &Graph,
-    path: &mut NodePath,
-    desk: &mut Desk,
+    day: &Day,
+    bench: &mut SearchBench,
     pool: &mut Pool,
 ) -> Result<Found, Memory>
-    requires sound { IsSoundInstance instance.now }
-    requires busy { IsPlainlyInfeasible instance.now → ⊥ }
-    requires graph { IsGraph instance.now.grammar graph.now }
-    requires none { HasNoArc instance.now }
-    requires path { IsPath instance.now graph.now path.old }
-    requires root { path.old.cuts ≡ base_cuts instance.now }
-    requires desk { IsDesk instance.now graph.now desk.old }
-    requires pool { IsPool instance.now.grammar pool.old }
-    ensures found { IfOk result (λ f. (strict : Bool) (turns : ℕ) → 1 ≤ turns
-        → IsFound instance.now strict turns f) }
-    ensures counted { IfOk result (λ f. (before : ℕ) → AreCounted instance.now before before f) }
-    ensures pool { IsPool instance.now.grammar pool.new }
-    ensures grown { IsGrown pool.old pool.new }
+    requires day { IsArclessDay day.now }
+    requires bench { IsRootBench day.now pool.old bench.old }
+    ensures found { IfOk result (IsFoundAtRoot day.now.instance.now) }
+    ensures pool { Grows day.now pool.old pool.new }
 {
-    let best = root_roster(alloc, instance, graph, path, desk, pool)?;
-    found_at_root(alloc, instance, best)
+    let best = root_roster(alloc, day, bench, pool)?;
+    found_at_root(alloc, day, best)
 }

@@ -1,54 +1,38 @@
-ghost use Rattle.std.specs.Prelude.{◌≡◌, ◌≤◌, ◌<◌, ◌-◌, ◌^◌, IfOk, MatchResult, length};
-ghost use Rattle.roster_model.specs.Folds.{Each};
-ghost use Rattle.roster_model.specs.SoundInstance.{IsSoundInstance};
-ghost use Rattle.roster_model.specs.Trees.{Parts, IsDayTree};
-ghost use Rattle.bound_laws.specs.Infeasible.{IsPlainlyInfeasible};
-ghost use Rattle.parse_graph.specs.Graphs.{IsGraph};
-ghost use Rattle.cheapest_tree.specs.Pricers.{IsMadeFor};
-ghost use Rattle.tree_pool.specs.Pools.{IsPool, IsGrown};
-ghost use Rattle.node_master.specs.Ends.{IsNodeCut};
-ghost use Rattle.node_master.specs.Refusals.{EndsWell, counted};
+ghost use Rattle.std.specs.Prelude.{◌≡◌, IfOk};
+ghost use Rattle.branch_price.specs.Asking.{AreNodeCuts, EndsAt, IsCounted};
+ghost use Rattle.branch_price.specs.Desks.{AreTools, StayTools};
+ghost use Rattle.branch_price.specs.Nodes.{IsOpenNode};
 
-use cheapest_tree::Pricer;
+use crate::desk::SearchDesk;
+use crate::open_node::OpenNode;
 use node_master::{Master, NodeEnd, Pool};
-use parse_graph::Graph;
-use roster_model::{Cut, Instance, Memory};
+use roster_model::Memory;
 use std::alloc::Global;
 
-/// Asks the master for the prices of the node at a path of cuts.
+/// Asks the master for the prices of a node.
 ///
 /// # Errors
 ///
-/// `Memory` where memory runs out; the master's count of refusals stays as it is then. The pricer is still
-/// one for the graph, and the pool has its trees under their numbers, and perhaps further trees of the day.
-pub(crate) fn node<M: Master>(
+/// `Memory` where memory runs out; the master's count of refusals stays as it is then. The desk still fits the
+/// day, and the pool has its trees under their numbers, and perhaps further trees of the day.
+pub(crate) fn ask_master<M: Master>(
     alloc: Global,
-    instance: &Instance,
-    graph: &Graph,
-    pricer: &mut Pricer,
+    node: &OpenNode,
+    desk: &mut SearchDesk,
     pool: &mut Pool,
-    cuts: &[Cut],
-    wanted: &[usize],
     master: &mut M,
 ) -> Result<NodeEnd, Memory>
-    requires sound { IsSoundInstance instance.now }
-    requires busy { IsPlainlyInfeasible instance.now → ⊥ }
-    requires graph { IsGraph instance.now.grammar graph.now }
-    requires tree { (t : Parts) × IsDayTree instance.now.grammar t }
-    requires pricer { IsMadeFor graph.now pricer.old }
-    requires pool { IsPool instance.now.grammar pool.old }
-    requires cuts { Each (IsNodeCut instance.now) cuts.now }
-    requires few { length cuts.now < 2 ^ 31 }
-    ensures end { IfOk result (EndsWell instance.now cuts.now pool.new (M.strict master.old)) }
-    ensures counts { MatchResult result
-        (λ end. M.refused master.new ≡ counted (M.refused master.old) end)
-        (λ fault. M.refused master.new ≡ M.refused master.old) }
-    ensures rises { M.refused master.old ≤ M.refused master.new }
-    ensures within { M.refused master.new ≤ 2 ^ 64 - 1 }
+    requires node { IsOpenNode node.now }
+    requires cuts { AreNodeCuts node.now.searched.day.instance.now node.now.cuts.now }
+    requires tools { AreTools node.now.searched.day pool.old desk.old }
+    ensures end { IfOk result (EndsAt node.now pool.new (M.strict master.old)) }
+    ensures counted { IsCounted result (M.refused master.old) (M.refused master.new) }
     ensures strict_stays { M.strict master.new ≡ M.strict master.old }
-    ensures pricer { IsMadeFor graph.now pricer.new }
-    ensures pool { IsPool instance.now.grammar pool.new }
-    ensures grown { IsGrown pool.old pool.new }
+    ensures tools { StayTools node.now.searched.day pool.old pool.new desk.new }
 {
-    master.node(alloc, instance, graph, pricer, pool, cuts, wanted)
+    let day = &node.searched.day;
+    let pricer = &mut desk.pricing.pricer;
+    let cuts = node.cuts;
+    let wanted = &desk.wanted;
+    master.node(alloc, day.instance, day.graph, pricer, pool, cuts, wanted)
 }

@@ -1,23 +1,24 @@
-ghost use Rattle.std.specs.Prelude.{ℕ, ◌≡◌, ◌≤◌, ◌<◌, Bool, IfOk, OnOk, length};
+ghost use Rattle.std.specs.Prelude.{◌≡◌, ◌≤◌, IfOk, length};
 ghost use Rattle.roster_model.specs.Folds.{Each};
 ghost use Rattle.roster_model.specs.SoundInstance.{IsSoundInstance};
-ghost use Rattle.bound_laws.specs.Infeasible.{IsPlainlyInfeasible};
 ghost use Rattle.certificates.specs.Sound.{IsSoundShift};
 ghost use Rattle.parse_graph.specs.Graphs.{IsGraph};
-ghost use Rattle.priced_part.specs.Filled.{TellsDerived};
 ghost use Rattle.tree_pool.specs.Pools.{IsPool, IsGrown};
-ghost use Rattle.node_path.specs.Paths.{IsPath};
-ghost use Rattle.branch_price.specs.Desks.{IsDesk};
+ghost use Rattle.search_day.specs.Days.{IsDay};
+ghost use Rattle.search_day.specs.Rooms.{Grows};
+ghost use Rattle.branch_price.specs.Desks.{AreTools, StayTools, IsBench, IsRootBench};
 ghost use Rattle.branch_price.specs.Found.{HasNoArc, IsFound, AreCounted};
-ghost use Rattle.branch_price.specs.OldRosters.{IsNoDearerThan, ReachesOld};
+ghost use Rattle.branch_price.specs.Jobs.{IsJob, IsJobDone, ReachesStart};
+ghost use Rattle.branch_price.specs.OldRosters.{IsNoDearerThan};
 ghost use Rattle.branch_price.specs.Steps.{IsBegun};
 ghost use Rattle.search_watch.specs.Within.{IsWithin};
 
 use crate::arcless::search_arcless;
-use crate::desk::Desk;
+use crate::desk::{SearchBench, SearchDesk};
 use crate::ended::{closed_end, found};
 use crate::found::Found;
 use crate::infeasible::{derived, no_roster};
+use crate::job::{Job, SearchedDay};
 use crate::old_roster::offer_start;
 use crate::progress::Progress;
 use crate::start::Start;
@@ -25,10 +26,10 @@ use crate::stop::stops_at;
 use crate::turn::turn;
 use candidate_rosters::least_roster;
 use node_master::{Master, Pool};
-use node_path::NodePath;
 use parse_graph::Graph;
 use priced_part::is_plainly_infeasible;
 use roster_model::{Done, Instance, Memory};
+use search_day::Day;
 use search_tree::SearchTree;
 use search_watch::Watch;
 use std::alloc::Global;
@@ -37,34 +38,19 @@ use std::alloc::Global;
 /// equal shifts of least price, or the old one, where they are allowed.
 fn begin(
     alloc: Global,
-    instance: &Instance,
-    graph: &Graph,
-    start: Start<'_>,
-    desk: &mut Desk,
+    job: &Job,
+    desk: &mut SearchDesk,
     pool: &mut Pool,
 ) -> Result<Progress, Memory>
-    requires sound { IsSoundInstance instance.now }
-    requires graph { IsGraph instance.now.grammar graph.now }
-    requires desk { IsDesk instance.now graph.now desk.old }
-    requires pool { IsPool instance.now.grammar pool.old }
-    requires shifts { Each (IsSoundShift instance.now) start.shifts.now }
-    requires few_shifts { length start.shifts.now ≤ 64 }
-    ensures begun { IfOk result (IsBegun instance.now graph.now) }
-    ensures reaches { IfOk result (λ p. ReachesOld instance.now start.entry.shifts.now p.best) }
-    ensures desk { IsDesk instance.now graph.now desk.new }
-    ensures pool { IsPool instance.now.grammar pool.new }
-    ensures grown { IsGrown pool.old pool.new }
+    requires job { IsJob job.now }
+    requires tools { AreTools job.now.searched.day pool.old desk.old }
+    ensures begun { IfOk result (IsBegun job.now.searched.day.instance.now job.now.searched.day.graph.now) }
+    ensures reaches { IfOk result (λ p. ReachesStart job.now p.best) }
+    ensures tools { StayTools job.now.searched.day pool.old pool.new desk.new }
 {
-    let mut best = least_roster(
-        alloc,
-        instance,
-        graph,
-        &mut desk.pricing.pricer,
-        &mut desk.pricing.room,
-        pool,
-        &mut desk.rosters,
-    )?;
-    offer_start(alloc, instance, graph, start, desk, pool, &mut best)?;
+    let day = &job.searched.day;
+    let mut best = least_roster(alloc, day, &mut desk.pricing, pool, &mut desk.rosters)?;
+    offer_start(alloc, job, desk, pool, &mut best)?;
     Ok(Progress {
         tree: SearchTree::new(alloc)?,
         best,
@@ -74,50 +60,36 @@ fn begin(
 /// Searches a day that has arcs, with all that it takes, from the root.
 fn search_along<M: Master, W: Watch>(
     alloc: Global,
-    instance: &Instance,
-    graph: &Graph,
-    derives: &[bool],
-    turns: u32,
-    start: Start<'_>,
-    path: &mut NodePath,
-    desk: &mut Desk,
+    job: &Job,
+    bench: &mut SearchBench,
     pool: &mut Pool,
     master: &mut M,
     watch: &mut W,
 ) -> Result<Found, Memory>
-    requires sound { IsSoundInstance instance.now }
-    requires busy { IsPlainlyInfeasible instance.now → ⊥ }
-    requires graph { IsGraph instance.now.grammar graph.now }
-    requires told { TellsDerived instance.now.grammar derives.now }
-    requires arcs { HasNoArc instance.now → ⊥ }
-    requires some { 1 ≤ turns }
-    requires few { turns ≤ 10000 }
-    requires path { IsPath instance.now graph.now path.old }
-    requires desk { IsDesk instance.now graph.now desk.old }
-    requires pool { IsPool instance.now.grammar pool.old }
-    requires shifts { Each (IsSoundShift instance.now) start.shifts.now }
-    requires few_shifts { length start.shifts.now ≤ 64 }
-    ensures found { IfOk result (λ f. IsWithin (W.patient watch.old) turns
-        (λ k. IsFound instance.now (M.strict master.old) k f)) }
-    ensures falls { IfOk result (λ f. IsNoDearerThan instance.now start.entry.shifts.now f.cert.cost) }
-    ensures counted { IfOk result (AreCounted instance.now (M.refused master.old) (M.refused master.new)) }
+    requires job { IsJob job.now }
+    requires arcs { HasNoArc job.now.searched.day.instance.now → ⊥ }
+    requires bench { IsBench job.now.searched.day pool.old bench.old }
+    ensures found { IfOk result (IsJobDone job.now (W.patient watch.old) (M.strict master.old)
+        (M.refused master.old) (M.refused master.new)) }
     ensures rises { M.refused master.old ≤ M.refused master.new }
     ensures strict_stays { M.strict master.new ≡ M.strict master.old }
-    ensures pool { IsPool instance.now.grammar pool.new }
-    ensures grown { IsGrown pool.old pool.new }
+    ensures pool { Grows job.now.searched.day pool.old pool.new }
 {
-    let mut progress = begin(alloc, instance, graph, start, desk, pool)?;
-    while let Some(leaf) = progress.next(instance) {
-        if stops_at(&progress, turns, leaf.bound, watch) {
-            return found(alloc, instance, progress, Some(leaf.bound), Done::TurnsOut);
+    let mut progress = begin(alloc, job, &mut bench.desk, pool)?;
+    while let Some(leaf) = progress.next(job.searched.day.instance) {
+        if stops_at(&progress, job.turns, leaf.bound, watch) {
+            return found(
+                alloc,
+                job.searched.day.instance,
+                progress,
+                Some(leaf.bound),
+                Done::TurnsOut,
+            );
         }
         turn(
             alloc,
-            instance,
-            graph,
-            derives,
-            path,
-            desk,
+            &job.searched,
+            bench,
             pool,
             master,
             &mut progress,
@@ -125,85 +97,52 @@ fn search_along<M: Master, W: Watch>(
         )?;
     }
     let (bound, done) = closed_end(&progress.best);
-    found(alloc, instance, progress, bound, done)
+    found(alloc, job.searched.day.instance, progress, bound, done)
 }
 
-/// Searches at a desk, from the root.
+/// Searches at a bench, from the root.
 fn search_at<M: Master, W: Watch>(
     alloc: Global,
-    instance: &Instance,
-    graph: &Graph,
-    derives: &[bool],
-    turns: u32,
-    start: Start<'_>,
-    desk: &mut Desk,
+    job: &Job,
+    bench: &mut SearchBench,
     pool: &mut Pool,
     master: &mut M,
     watch: &mut W,
 ) -> Result<Found, Memory>
-    requires sound { IsSoundInstance instance.now }
-    requires busy { IsPlainlyInfeasible instance.now → ⊥ }
-    requires graph { IsGraph instance.now.grammar graph.now }
-    requires told { TellsDerived instance.now.grammar derives.now }
-    requires some { 1 ≤ turns }
-    requires few { turns ≤ 10000 }
-    requires desk { IsDesk instance.now graph.now desk.old }
-    requires pool { IsPool instance.now.grammar pool.old }
-    requires shifts { Each (IsSoundShift instance.now) start.shifts.now }
-    requires few_shifts { length start.shifts.now ≤ 64 }
-    ensures found { IfOk result (λ f. IsWithin (W.patient watch.old) turns
-        (λ k. IsFound instance.now (M.strict master.old) k f)) }
-    ensures falls { IfOk result (λ f. IsNoDearerThan instance.now start.entry.shifts.now f.cert.cost) }
-    ensures counted { IfOk result (AreCounted instance.now (M.refused master.old) (M.refused master.new)) }
+    requires job { IsJob job.now }
+    requires bench { IsRootBench job.now.searched.day pool.old bench.old }
+    ensures found { IfOk result (IsJobDone job.now (W.patient watch.old) (M.strict master.old)
+        (M.refused master.old) (M.refused master.new)) }
     ensures rises { M.refused master.old ≤ M.refused master.new }
     ensures strict_stays { M.strict master.new ≡ M.strict master.old }
-    ensures pool { IsPool instance.now.grammar pool.new }
-    ensures grown { IsGrown pool.old pool.new }
+    ensures pool { Grows job.now.searched.day pool.old pool.new }
 {
-    let mut path = NodePath::new(alloc, instance, graph)?;
-    if graph.arcs().is_empty() {
-        return search_arcless(alloc, instance, graph, &mut path, desk, pool);
+    let day = &job.searched.day;
+    if day.graph.arcs().is_empty() {
+        return search_arcless(alloc, day, bench, pool);
     }
-    search_along(
-        alloc, instance, graph, derives, turns, start, &mut path, desk, pool, master, watch,
-    )
+    search_along(alloc, job, bench, pool, master, watch)
 }
 
 /// Searches a day that is not plainly infeasible.
-fn search_day<M: Master, W: Watch>(
+fn search_busy<M: Master, W: Watch>(
     alloc: Global,
-    instance: &Instance,
-    graph: &Graph,
-    derives: &[bool],
-    turns: u32,
-    start: Start<'_>,
+    job: &Job,
     pool: &mut Pool,
     master: &mut M,
     watch: &mut W,
 ) -> Result<Found, Memory>
-    requires sound { IsSoundInstance instance.now }
-    requires busy { IsPlainlyInfeasible instance.now → ⊥ }
-    requires graph { IsGraph instance.now.grammar graph.now }
-    requires told { TellsDerived instance.now.grammar derives.now }
-    requires some { 1 ≤ turns }
-    requires few { turns ≤ 10000 }
-    requires pool { IsPool instance.now.grammar pool.old }
-    requires shifts { Each (IsSoundShift instance.now) start.shifts.now }
-    requires few_shifts { length start.shifts.now ≤ 64 }
-    ensures found { IfOk result (λ f. IsWithin (W.patient watch.old) turns
-        (λ k. IsFound instance.now (M.strict master.old) k f)) }
-    ensures falls { IfOk result (λ f. IsNoDearerThan instance.now start.entry.shifts.now f.cert.cost) }
-    ensures counted { IfOk result (AreCounted instance.now (M.refused master.old) (M.refused master.new)) }
+    requires job { IsJob job.now }
+    requires pool { IsPool job.now.searched.day.instance.now.grammar pool.old }
+    ensures found { IfOk result (IsJobDone job.now (W.patient watch.old) (M.strict master.old)
+        (M.refused master.old) (M.refused master.new)) }
     ensures rises { M.refused master.old ≤ M.refused master.new }
     ensures strict_stays { M.strict master.new ≡ M.strict master.old }
-    ensures pool { IsPool instance.now.grammar pool.new }
-    ensures grown { IsGrown pool.old pool.new }
+    ensures pool { Grows job.now.searched.day pool.old pool.new }
 {
-    let mut desk = Desk::new(alloc, instance, graph)?;
-    let found = search_at(
-        alloc, instance, graph, derives, turns, start, &mut desk, pool, master, watch,
-    );
-    drop(desk);
+    let mut bench = SearchBench::new(alloc, &job.searched.day)?;
+    let found = search_at(alloc, job, &mut bench, pool, master, watch);
+    drop(bench);
     found
 }
 
@@ -219,37 +158,43 @@ fn search_day<M: Master, W: Watch>(
 /// `Memory` where memory runs out; the master's count may have risen.
 pub fn search_from<M: Master, W: Watch>(
     alloc: Global,
-    instance: &Instance,
-    graph: &Graph,
+    day: &Day,
     turns: u32,
     start: Start<'_>,
     pool: &mut Pool,
     master: &mut M,
     watch: &mut W,
 ) -> Result<Found, Memory>
-    requires sound { IsSoundInstance instance.now }
-    requires graph { IsGraph instance.now.grammar graph.now }
-    requires pool { IsPool instance.now.grammar pool.old }
+    requires day { IsDay day.now }
+    requires pool { IsPool day.now.instance.now.grammar pool.old }
     requires some { 1 ≤ turns }
     requires few { turns ≤ 10000 }
-    requires shifts { Each (IsSoundShift instance.now) start.shifts.now }
+    requires shifts { Each (IsSoundShift day.now.instance.now) start.shifts.now }
     requires few_shifts { length start.shifts.now ≤ 64 }
     ensures found { IfOk result (λ f. IsWithin (W.patient watch.old) turns
-        (λ k. IsFound instance.now (M.strict master.old) k f)) }
-    ensures falls { IfOk result (λ f. IsNoDearerThan instance.now start.entry.shifts.now f.cert.cost) }
-    ensures counted { IfOk result (AreCounted instance.now (M.refused master.old) (M.refused master.new)) }
+        (λ k. IsFound day.now.instance.now (M.strict master.old) k f)) }
+    ensures falls { IfOk result (λ f. IsNoDearerThan day.now.instance.now start.entry.shifts.now
+        f.cert.cost) }
+    ensures counted { IfOk result (AreCounted day.now.instance.now (M.refused master.old)
+        (M.refused master.new)) }
     ensures rises { M.refused master.old ≤ M.refused master.new }
     ensures strict_stays { M.strict master.new ≡ M.strict master.old }
-    ensures pool { IsPool instance.now.grammar pool.new }
-    ensures grown { IsGrown pool.old pool.new }
+    ensures pool { Grows day.now pool.old pool.new }
 {
-    let derives = derived(alloc, instance)?;
-    if is_plainly_infeasible(instance, &derives) {
-        return no_roster(alloc, instance, graph);
+    let derives = derived(alloc, day.instance)?;
+    if is_plainly_infeasible(day.instance, &derives) {
+        return no_roster(alloc, day);
     }
-    search_day(
-        alloc, instance, graph, &derives, turns, start, pool, master, watch,
-    )
+    let searched = SearchedDay {
+        day: *day,
+        derives: &derives,
+    };
+    let job = Job {
+        searched,
+        turns,
+        start,
+    };
+    search_busy(alloc, &job, pool, master, watch)
 }
 
 /// Searches for a roster of least cost, with at most so many turns, 1 to 10,000. Each turn processes one
@@ -290,8 +235,7 @@ pub fn search<M: Master, W: Watch>(
 {
     search_from(
         alloc,
-        instance,
-        graph,
+        &Day { instance, graph },
         turns,
         Start::none(),
         pool,

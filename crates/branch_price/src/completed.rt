@@ -1,25 +1,21 @@
-ghost use Rattle.std.specs.Prelude.{ℕ, ◌≤◌, ◌<◌, All, IfOk, IfSome, length};
-ghost use Rattle.roster_model.specs.Folds.{Each};
-ghost use Rattle.roster_model.specs.SoundInstance.{IsSoundInstance};
-ghost use Rattle.master_laws.specs.Rows.{rows_of};
-ghost use Rattle.roster_model.specs.Limits.{IsSmallCut};
-ghost use Rattle.parse_graph.specs.Graphs.{IsGraph};
-ghost use Rattle.tree_pool.specs.Pools.{IsPool, IsGrown};
-ghost use Rattle.candidate_rosters.specs.Rosters.{IsGoodRoster};
-ghost use Rattle.candidate_rosters.specs.Offers.{IsBetter};
-ghost use Rattle.branch_price.specs.Desks.{IsDesk};
+ghost use Rattle.std.specs.Prelude.{ℕ, ◌<◌, All, IfOk, length};
+ghost use Rattle.search_day.specs.Days.{IsDay};
+ghost use Rattle.branch_price.specs.Desks.{CanFind, HasFound};
+ghost use Rattle.branch_price.specs.Nodes.{IsOpenNode, IsSmall};
 ghost use Rattle.branch_price.specs.Rounded.{AreFewer};
 
-use crate::desk::Desk;
+use crate::desk::SearchDesk;
 use crate::offered::offer_trees;
+use crate::open_node::OpenNode;
 use crate::rounded::push_wholes;
 use crate::solved::Solved;
 use candidate_rosters::{Roster, limit};
 use dives::dive;
 use node_master::{FULL, Pool, Weight};
 use parse_graph::Graph;
-use roster_model::{Cut, Instance, List, Memory, Prices};
+use roster_model::{Instance, List, Memory, Prices};
 use roster_moves::{Guide, complete};
+use search_day::Day;
 use std::alloc::Global;
 
 /// At every which node a roster is looked for by a dive, which takes about as long as it takes to price the
@@ -52,16 +48,19 @@ fn further_passes(graph: &Graph, pool: &Pool) -> u32 {
     passes.min(MOST_FURTHER) as u32
 }
 
-/// Returns what steers the moves of a roster at a node that has these prices and this bound, before which so
-/// many were processed; at the first node they may take further passes.
-fn guide_of<'a>(
-    graph: &Graph,
-    pool: &Pool,
-    prices: &'a Prices,
-    processed: u32,
-    bound: u64,
-) -> Guide<'a> {
-    let is_first = processed == 0;
+/// How far a search is at a node.
+#[derive(Clone, Copy, Drop)]
+pub(crate) struct Stage {
+    /// How many nodes were processed before it.
+    pub processed: u32,
+    /// The bound that it leaves.
+    pub bound: u64,
+}
+
+/// Returns what steers the moves of a roster at a node that has these prices; at the first node they may take
+/// further passes.
+fn guide_of<'a>(graph: &Graph, pool: &Pool, prices: &'a Prices, stage: &Stage) -> Guide<'a> {
+    let is_first = stage.processed == 0;
     Guide {
         prices,
         passes: PASSES,
@@ -71,8 +70,8 @@ fn guide_of<'a>(
             0
         },
         most: if is_first { FIRST_MOST } else { PASSES },
-        goal: bound,
-        turn: processed,
+        goal: stage.bound,
+        turn: stage.processed,
     }
 }
 
@@ -88,38 +87,22 @@ fn wholes(alloc: Global, instance: &Instance, weights: &[Weight]) -> Result<List
 /// Offers the roster of these trees, completed and made better.
 fn offer_begun(
     alloc: Global,
-    instance: &Instance,
-    graph: &Graph,
+    day: &Day,
     begun: &[usize],
     guide: &Guide,
-    desk: &mut Desk,
+    desk: &mut SearchDesk,
     pool: &mut Pool,
     best: &mut Option<Roster>,
 ) -> Result<(), Memory>
-    requires sound { IsSoundInstance instance.now }
-    requires graph { IsGraph instance.now.grammar graph.now }
+    requires day { IsDay day.now }
     requires begun { All (λ c. c < length pool.old) begun.now }
-    requires desk { IsDesk instance.now graph.now desk.old }
-    requires pool { IsPool instance.now.grammar pool.old }
-    requires best { IfSome best.old (IsGoodRoster instance.now) }
-    ensures better { IsBetter instance.now best.old best.new }
-    ensures desk { IsDesk instance.now graph.now desk.new }
-    ensures pool { IsPool instance.now.grammar pool.new }
-    ensures grown { IsGrown pool.old pool.new }
+    requires find { CanFind day.now pool.old desk.old best.old }
+    ensures { HasFound day.now pool.old pool.new desk.new best.old best.new }
 {
-    let columns = complete(
-        alloc,
-        instance,
-        graph,
-        &mut desk.pricing.pricer,
-        &mut desk.pricing.room,
-        begun,
-        guide,
-        pool,
-    )?;
+    let columns = complete(alloc, day, begun, guide, &mut desk.pricing, pool)?;
     offer_trees(
         alloc,
-        instance,
+        day.instance,
         columns.as_slice(),
         pool,
         &mut desk.rosters,
@@ -130,90 +113,56 @@ fn offer_begun(
 /// Offers the roster of the trees that a dive fixes, completed and made better. Says whether it fixed any.
 fn offer_dived(
     alloc: Global,
-    instance: &Instance,
-    graph: &Graph,
-    cuts: &[Cut],
+    node: &OpenNode,
     guide: &Guide,
-    desk: &mut Desk,
+    desk: &mut SearchDesk,
     pool: &mut Pool,
     best: &mut Option<Roster>,
 ) -> Result<bool, Memory>
-    requires sound { IsSoundInstance instance.now }
-    requires graph { IsGraph instance.now.grammar graph.now }
-    requires cuts { Each IsSmallCut cuts.now }
-    requires small { length (rows_of instance.now cuts.now) ≤ 1500 }
-    requires desk { IsDesk instance.now graph.now desk.old }
-    requires pool { IsPool instance.now.grammar pool.old }
-    requires best { IfSome best.old (IsGoodRoster instance.now) }
-    ensures better { IsBetter instance.now best.old best.new }
-    ensures desk { IsDesk instance.now graph.now desk.new }
-    ensures pool { IsPool instance.now.grammar pool.new }
-    ensures grown { IsGrown pool.old pool.new }
+    requires node { IsOpenNode node.now }
+    requires small { IsSmall node.now.searched.day.instance.now node.now.cuts.now }
+    requires find { CanFind node.now.searched.day pool.old desk.old best.old }
+    ensures { HasFound node.now.searched.day pool.old pool.new desk.new best.old best.new }
 {
+    let day = &node.searched.day;
     let begun = dive(
         alloc,
-        instance,
-        graph,
-        cuts,
-        &mut desk.pricing.pricer,
+        day,
+        node.cuts,
         &desk.wanted,
-        limit(instance, best),
+        limit(day.instance, best),
+        &mut desk.pricing.pricer,
         pool,
     )?;
     if begun.is_empty() {
         return Ok(false);
     }
-    offer_begun(
-        alloc,
-        instance,
-        graph,
-        begun.as_slice(),
-        guide,
-        desk,
-        pool,
-        best,
-    )?;
+    offer_begun(alloc, day, begun.as_slice(), guide, desk, pool, best)?;
     Ok(true)
 }
 
 /// Offers the roster of the trees of a solution, with weights rounded down, completed and made better.
 fn offer_completed(
     alloc: Global,
-    instance: &Instance,
-    graph: &Graph,
+    day: &Day,
     weights: &[Weight],
     guide: &Guide,
-    desk: &mut Desk,
+    desk: &mut SearchDesk,
     pool: &mut Pool,
     best: &mut Option<Roster>,
 ) -> Result<(), Memory>
-    requires sound { IsSoundInstance instance.now }
-    requires graph { IsGraph instance.now.grammar graph.now }
+    requires day { IsDay day.now }
     requires weights { All (λ w. w.column < length pool.old) weights.now }
-    requires desk { IsDesk instance.now graph.now desk.old }
-    requires pool { IsPool instance.now.grammar pool.old }
-    requires best { IfSome best.old (IsGoodRoster instance.now) }
-    ensures better { IsBetter instance.now best.old best.new }
-    ensures desk { IsDesk instance.now graph.now desk.new }
-    ensures pool { IsPool instance.now.grammar pool.new }
-    ensures grown { IsGrown pool.old pool.new }
+    requires find { CanFind day.now pool.old desk.old best.old }
+    ensures { HasFound day.now pool.old pool.new desk.new best.old best.new }
 {
-    let begun = wholes(alloc, instance, weights)?;
-    offer_begun(
-        alloc,
-        instance,
-        graph,
-        begun.as_slice(),
-        guide,
-        desk,
-        pool,
-        best,
-    )
+    let begun = wholes(alloc, day.instance, weights)?;
+    offer_begun(alloc, day, begun.as_slice(), guide, desk, pool, best)
 }
 
 /// Offers a roster, unless the best one already costs no more than the bound that the node leaves: at the
 /// first node and at every second one after it that of the trees that a dive fixes; at the others, and where
-/// the dive fixes none, that of the solution's trees. So many nodes are processed before.
+/// the dive fixes none, that of the solution's trees.
 ///
 /// # Errors
 ///
@@ -221,39 +170,30 @@ fn offer_completed(
 /// under their numbers, and perhaps further trees of the day.
 pub(crate) fn offer_at_node(
     alloc: Global,
-    instance: &Instance,
-    graph: &Graph,
-    cuts: &[Cut],
+    node: &OpenNode,
     solved: &Solved,
-    processed: u32,
-    bound: u64,
-    desk: &mut Desk,
+    stage: &Stage,
+    desk: &mut SearchDesk,
     pool: &mut Pool,
     best: &mut Option<Roster>,
 ) -> Result<(), Memory>
-    requires sound { IsSoundInstance instance.now }
-    requires graph { IsGraph instance.now.grammar graph.now }
-    requires cuts { Each IsSmallCut cuts.now }
-    requires small { length (rows_of instance.now cuts.now) ≤ 1500 }
+    requires node { IsOpenNode node.now }
+    requires small { IsSmall node.now.searched.day.instance.now node.now.cuts.now }
     requires weights { All (λ w. w.column < length pool.old) solved.now.weights }
-    requires desk { IsDesk instance.now graph.now desk.old }
-    requires pool { IsPool instance.now.grammar pool.old }
-    requires best { IfSome best.old (IsGoodRoster instance.now) }
-    ensures better { IsBetter instance.now best.old best.new }
-    ensures desk { IsDesk instance.now graph.now desk.new }
-    ensures pool { IsPool instance.now.grammar pool.new }
-    ensures grown { IsGrown pool.old pool.new }
+    requires find { CanFind node.now.searched.day pool.old desk.old best.old }
+    ensures { HasFound node.now.searched.day pool.old pool.new desk.new best.old best.new }
 {
-    if limit(instance, best) <= bound {
+    let day = &node.searched.day;
+    if limit(day.instance, best) <= stage.bound {
         return Ok(());
     }
-    let guide = guide_of(graph, pool, &solved.prices, processed, bound);
-    if processed % EVERY == 0
+    let guide = guide_of(day.graph, pool, &solved.prices, stage);
+    if stage.processed % EVERY == 0
         && pool.len() < FULL
-        && offer_dived(alloc, instance, graph, cuts, &guide, desk, pool, best)?
+        && offer_dived(alloc, node, &guide, desk, pool, best)?
     {
         return Ok(());
     }
     let weights = solved.weights.as_slice();
-    offer_completed(alloc, instance, graph, weights, &guide, desk, pool, best)
+    offer_completed(alloc, day, weights, &guide, desk, pool, best)
 }

@@ -1,26 +1,16 @@
-ghost use Rattle.std.specs.Prelude.{◌≡◌, IfOk};
-ghost use Rattle.roster_model.specs.SoundInstance.{IsSoundInstance};
-ghost use Rattle.parse_graph.specs.Graphs.{IsGraph};
-ghost use Rattle.cheapest_tree.specs.Pricers.{IsMadeFor};
-ghost use Rattle.roster_model.specs.PriceRooms.{IsRoomFor};
-ghost use Rattle.branch_price.specs.Desks.{IsDesk, ArePricing};
+ghost use Rattle.std.specs.Prelude.{IfOk};
+ghost use Rattle.search_day.specs.Days.{IsDay};
+ghost use Rattle.branch_price.specs.Desks.{IsDesk, IsNewBench};
 
 use crate::old_splits::OldSplits;
 use candidate_rosters::RosterDesk;
 use certificates::MOST_MULTIPLIERS;
-use cheapest_tree::Pricer;
 use node_master::Weight;
-use parse_graph::Graph;
-use roster_model::{Instance, Memory, PriceRoom};
+use node_path::NodePath;
+use roster_model::Memory;
+use search_day::{Day, Pricing};
 use split_probes::Gains;
 use std::alloc::Global;
-
-/// What it takes to price trees: the graph's pricer, and room for the prices.
-#[derive(Drop)]
-pub(crate) struct Pricing {
-    pub pricer: Pricer,
-    pub room: PriceRoom,
-}
 
 /// What is known of splits, as hints.
 #[derive(Drop)]
@@ -31,9 +21,9 @@ pub(crate) struct SplitHints {
     pub old: OldSplits,
 }
 
-/// What a search works on, beside its tree.
+/// What a search works on, beside its tree and its path.
 #[derive(Drop)]
-pub(crate) struct Desk {
+pub(crate) struct SearchDesk {
     pub pricing: Pricing,
     pub rosters: RosterDesk,
     /// The trees of the last solution of a master, which steer the next one.
@@ -42,36 +32,29 @@ pub(crate) struct Desk {
     pub splits: SplitHints,
 }
 
-/// Takes the memory for the pricing.
-fn pricing_of(alloc: Global, instance: &Instance, graph: &Graph) -> Result<Pricing, Memory>
-    requires sound { IsSoundInstance instance.now }
-    ensures { IfOk result (ArePricing instance.now graph.now) }
-{
-    let pricer = Pricer::new(alloc, graph)?;
-    match PriceRoom::for_cuts(alloc, instance, MOST_MULTIPLIERS) {
-        Ok(room) => Ok(Pricing { pricer, room }),
-        Err(fault) => {
-            drop(pricer);
-            Err(fault)
-        }
-    }
+/// What a search works on, beside its tree.
+#[derive(Drop)]
+pub(crate) struct SearchBench {
+    pub desk: SearchDesk,
+    /// The way to the node at which the search stands.
+    pub path: NodePath,
 }
 
-impl Desk {
+impl SearchDesk {
     /// Returns a desk for a search.
     ///
     /// # Errors
     ///
     /// `Memory` where memory runs out; nothing is kept then.
-    pub fn new(alloc: Global, instance: &Instance, graph: &Graph) -> Result<Desk, Memory>
-        requires sound { IsSoundInstance instance.now }
-        ensures { IfOk result (IsDesk instance.now graph.now) }
+    pub fn new(alloc: Global, day: &Day) -> Result<SearchDesk, Memory>
+        requires { IsDay day.now }
+        ensures { IfOk result (IsDesk day.now) }
     {
-        let gains = Gains::new(alloc, &instance.grammar, graph)?;
+        let gains = Gains::new(alloc, &day.instance.grammar, day.graph)?;
         let old = OldSplits::new(alloc);
-        let pricing = pricing_of(alloc, instance, graph)?;
-        match RosterDesk::for_instance(alloc, instance) {
-            Ok(rosters) => Ok(Desk {
+        let pricing = Pricing::new(alloc, day, MOST_MULTIPLIERS)?;
+        match RosterDesk::for_instance(alloc, day.instance) {
+            Ok(rosters) => Ok(SearchDesk {
                 pricing,
                 rosters,
                 wanted: Vec::new(alloc),
@@ -79,6 +62,27 @@ impl Desk {
             }),
             Err(fault) => {
                 drop(pricing);
+                Err(fault)
+            }
+        }
+    }
+}
+
+impl SearchBench {
+    /// Returns a bench for a search, which stands at the root.
+    ///
+    /// # Errors
+    ///
+    /// `Memory` where memory runs out; nothing is kept then.
+    pub fn new(alloc: Global, day: &Day) -> Result<SearchBench, Memory>
+        requires { IsDay day.now }
+        ensures { IfOk result (IsNewBench day.now) }
+    {
+        let desk = SearchDesk::new(alloc, day)?;
+        match NodePath::new(alloc, day) {
+            Ok(path) => Ok(SearchBench { desk, path }),
+            Err(fault) => {
+                drop(desk);
                 Err(fault)
             }
         }

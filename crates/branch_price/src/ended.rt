@@ -1,8 +1,7 @@
 ghost use Rattle.std.specs.Prelude.{◌≡◌, IfOk};
 ghost use Rattle.roster_model.specs.SoundInstance.{IsSoundInstance};
 ghost use Rattle.candidate_rosters.specs.Offers.{cost_of};
-ghost use Rattle.branch_price.specs.Ends.{IsEnd, AsksEnd, IsStatedBy, IsClosedBy};
-ghost use Rattle.branch_price.specs.Found.{IsFound, AreCounted};
+ghost use Rattle.branch_price.specs.Ends.{AsksEnd, IsEndOf, IsFoundAtEnd, IsStatedBy, IsClosedBy};
 
 use crate::found::Found;
 use crate::progress::Progress;
@@ -34,13 +33,9 @@ pub(crate) fn found(
     done: Done,
 ) -> Result<Found, Memory>
     requires sound { IsSoundInstance instance.now }
-    requires end { (a : AsksEnd instance.now)
-        × IsEnd instance.now a.graph a.strict a.before a.now a.turns progress
-        bound done }
+    requires end { (a : AsksEnd instance.now) × IsEndOf instance.now a progress bound done }
     ensures cost { IfOk result (λ f. f.cert.cost ≡ cost_of progress.best) }
-    ensures found { IfOk result (λ f. (a : AsksEnd instance.now)
-        → IsEnd instance.now a.graph a.strict a.before a.now a.turns progress bound done
-        → IsFound instance.now a.strict a.turns f × AreCounted instance.now a.before a.now f) }
+    ensures found { IfOk result (IsFoundAtEnd instance.now progress bound done) }
 {
     let processed = progress.tree.processed();
     let failed = progress.tree.failed();

@@ -1,16 +1,16 @@
-ghost use Rattle.std.specs.Prelude.{ℕ, ◌≡◌, Bool, [], ◌≤◌, IfOk, length};
+ghost use Rattle.std.specs.Prelude.{IfOk};
 ghost use Rattle.roster_model.specs.SoundInstance.{IsSoundInstance};
 ghost use Rattle.bound_laws.specs.Infeasible.{IsPlainlyInfeasible};
-ghost use Rattle.parse_graph.specs.Graphs.{IsGraph};
 ghost use Rattle.priced_part.specs.Filled.{TellsDerived};
-ghost use Rattle.branch_price.specs.Found.{IsFound, AreCounted};
+ghost use Rattle.search_day.specs.Days.{IsDay};
+ghost use Rattle.branch_price.specs.Found.{IsFoundAtRoot};
 ghost use Rattle.branch_price.specs.Infeasible.{ArePlain, HoldsPlain, IsPlainLeast, IsInfeasibleNode};
 
 use crate::found::Found;
 use certificates::{Cert, Node};
-use parse_graph::Graph;
 use priced_part::derived_names;
 use roster_model::{Done, Instance, List, MOST_NAMES, Memory, PriceRoom, Prices};
+use search_day::Day;
 use span_table::Table;
 use std::alloc::Global;
 
@@ -83,18 +83,17 @@ fn least_cost(alloc: Global, instance: &Instance) -> Result<Option<i128>, Memory
 
 /// Returns the one node of a day that is plainly infeasible: one with prices of 0, or where the day has no
 /// tree, and so no arc with more than one count, one that says so.
-fn infeasible_node(alloc: Global, instance: &Instance, graph: &Graph) -> Result<Node, Memory>
-    requires sound { IsSoundInstance instance.now }
-    requires graph { IsGraph instance.now.grammar graph.now }
-    ensures { IfOk result (IsInfeasibleNode instance.now) }
+fn infeasible_node(alloc: Global, day: &Day) -> Result<Node, Memory>
+    requires { IsDay day.now }
+    ensures { IfOk result (IsInfeasibleNode day.now.instance.now) }
 {
-    if graph.arcs().is_empty() {
+    if day.graph.arcs().is_empty() {
         return Ok(Node::Pinned);
     }
-    match least_cost(alloc, instance)? {
+    match least_cost(alloc, day.instance)? {
         None => Ok(Node::Pinned),
         Some(_) => Ok(Node::Priced {
-            prices: plain_prices(alloc, instance)?,
+            prices: plain_prices(alloc, day.instance)?,
         }),
     }
 }
@@ -104,16 +103,13 @@ fn infeasible_node(alloc: Global, instance: &Instance, graph: &Graph) -> Result<
 /// # Errors
 ///
 /// `Memory` where memory runs out; nothing is kept then.
-pub(crate) fn no_roster(alloc: Global, instance: &Instance, graph: &Graph) -> Result<Found, Memory>
-    requires sound { IsSoundInstance instance.now }
-    requires infeasible { IsPlainlyInfeasible instance.now }
-    requires graph { IsGraph instance.now.grammar graph.now }
-    ensures found { IfOk result (λ f. (strict : Bool) (turns : ℕ) → 1 ≤ turns
-        → IsFound instance.now strict turns f) }
-    ensures counted { IfOk result (λ f. (before : ℕ) → AreCounted instance.now before before f) }
+pub(crate) fn no_roster(alloc: Global, day: &Day) -> Result<Found, Memory>
+    requires day { IsDay day.now }
+    requires infeasible { IsPlainlyInfeasible day.now.instance.now }
+    ensures { IfOk result (IsFoundAtRoot day.now.instance.now) }
 {
     let mut nodes = List::new(alloc);
-    nodes.push(infeasible_node(alloc, instance, graph)?)?;
+    nodes.push(infeasible_node(alloc, day)?)?;
     Ok(Found {
         cert: Cert {
             shifts: List::new(alloc),

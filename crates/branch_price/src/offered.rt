@@ -1,8 +1,6 @@
-ghost use Rattle.std.specs.Prelude.{◌<◌, All, IfSome, length};
-ghost use Rattle.roster_model.specs.SoundInstance.{IsSoundInstance};
+ghost use Rattle.std.specs.Prelude.{◌<◌, All, length};
 ghost use Rattle.tree_pool.specs.Pools.{IsPool};
-ghost use Rattle.candidate_rosters.specs.Rosters.{IsGoodRoster, IsDeskFor};
-ghost use Rattle.candidate_rosters.specs.Offers.{IsBetter};
+ghost use Rattle.branch_price.specs.Desks.{CanOffer, HasOffered};
 
 use candidate_rosters::{Roster, RosterDesk, limit, offer, roster_of};
 use node_master::Pool;
@@ -62,13 +60,10 @@ pub(crate) fn offer_trees(
     rosters: &mut RosterDesk,
     best: &mut Option<Roster>,
 ) -> Result<(), Memory>
-    requires sound { IsSoundInstance instance.now }
     requires columns { All (λ c. c < length pool.now) columns.now }
     requires pool { IsPool instance.now.grammar pool.now }
-    requires rosters { IsDeskFor instance.now rosters.old }
-    requires best { IfSome best.old (IsGoodRoster instance.now) }
-    ensures better { IsBetter instance.now best.old best.new }
-    ensures rosters { IsDeskFor instance.now rosters.new }
+    requires offer { CanOffer instance.now rosters.old best.old }
+    ensures { HasOffered instance.now rosters.new best.old best.new }
 {
     if trees_cost(instance, pool, columns) >= limit(instance, best) {
         return Ok(());

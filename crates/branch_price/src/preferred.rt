@@ -1,17 +1,12 @@
-ghost use Rattle.std.specs.Prelude.{◌≡◌, ◌≤◌, length};
-ghost use Rattle.roster_model.specs.Folds.{Each};
-ghost use Rattle.roster_model.specs.SoundInstance.{IsSoundInstance};
-ghost use Rattle.master_laws.specs.Rows.{rows_of};
-ghost use Rattle.roster_model.specs.Limits.{IsSmallCut};
+ghost use Rattle.branch_price.specs.Nodes.{IsOpenNode, IsSmall};
 
 use crate::desk::SplitHints;
+use crate::open_node::OpenNode;
 use crate::rounded::in_parts;
 use candidate_rosters::{Roster, limit};
-use count_boxes::ArcBox;
 use node_master::{Pool, Weight};
-use parse_graph::Graph;
-use roster_model::{Cut, Instance, List, Memory};
-use split_probes::{Share, best_arc};
+use roster_model::{List, Memory};
+use split_probes::{Share, SplitNode, best_arc};
 use std::alloc::Global;
 
 /// The weight 1 of a share.
@@ -42,34 +37,30 @@ fn shares_of(alloc: Global, weights: &[Weight]) -> Result<List<Share>, Memory> {
 /// `Memory` where memory runs out; there is no answer then.
 pub(crate) fn preferred_arc(
     alloc: Global,
-    instance: &Instance,
-    graph: &Graph,
-    cuts: &[Cut],
-    arc_box: &ArcBox,
-    pool: &Pool,
+    node: &OpenNode,
     weights: &[Weight],
     best: &Option<Roster>,
+    pool: &Pool,
     splits: &mut SplitHints,
 ) -> Result<Option<u32>, Memory>
-    requires sound { IsSoundInstance instance.now }
-    requires cuts { Each IsSmallCut cuts.now }
-    requires small { length (rows_of instance.now cuts.now) ≤ 1500 }
-    requires bounds { length arc_box.now.bounds ≡ length graph.now.arcs }
+    requires node { IsOpenNode node.now }
+    requires small { IsSmall node.now.searched.day.instance.now node.now.cuts.now }
 {
+    let day = &node.searched.day;
     let shares = shares_of(alloc, weights)?;
-    let old = splits.old.sharp_arc(graph, cuts, pool, shares.as_slice());
+    let old = splits
+        .old
+        .sharp_arc(day.graph, node.cuts, pool, shares.as_slice());
     if old.is_some() {
         return Ok(old);
     }
-    best_arc(
-        alloc,
-        instance,
-        graph,
-        cuts,
-        arc_box,
+    let tried = SplitNode {
+        day: *day,
+        cuts: node.cuts,
+        arc_box: node.arc_box,
         pool,
-        shares.as_slice(),
-        limit(instance, best),
-        &mut splits.gains,
-    )
+        shares: shares.as_slice(),
+    };
+    let limit = limit(day.instance, best);
+    best_arc(alloc, &tried, limit, &mut splits.gains)
 }

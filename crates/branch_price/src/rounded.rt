@@ -1,8 +1,7 @@
-ghost use Rattle.std.specs.Prelude.{ℕ, pos, ◌≡◌, ◌≤◌, ◌<◌, ◌<ℤ◌, All, IfOk, OnOk, IfSome, length};
+ghost use Rattle.std.specs.Prelude.{ℕ, pos, ◌≤◌, ◌<◌, ◌<ℤ◌, All, IfOk, OnOk, length};
 ghost use Rattle.roster_model.specs.SoundInstance.{IsSoundInstance};
 ghost use Rattle.tree_pool.specs.Pools.{IsPool};
-ghost use Rattle.candidate_rosters.specs.Rosters.{IsGoodRoster, IsDeskFor};
-ghost use Rattle.candidate_rosters.specs.Offers.{IsBetter};
+ghost use Rattle.branch_price.specs.Desks.{CanOffer, HasOffered};
 ghost use Rattle.branch_price.specs.Rounded.{AreFewer};
 
 use crate::offered::offer_trees;
@@ -152,13 +151,10 @@ pub(crate) fn offer_rounded(
     rosters: &mut RosterDesk,
     best: &mut Option<Roster>,
 ) -> Result<(), Memory>
-    requires sound { IsSoundInstance instance.now }
     requires pool { IsPool instance.now.grammar pool.now }
     requires weights { All (λ w. w.column < length pool.now) weights.now }
-    requires rosters { IsDeskFor instance.now rosters.old }
-    requires best { IfSome best.old (IsGoodRoster instance.now) }
-    ensures better { IsBetter instance.now best.old best.new }
-    ensures rosters { IsDeskFor instance.now rosters.new }
+    requires offer { CanOffer instance.now rosters.old best.old }
+    ensures { HasOffered instance.now rosters.new best.old best.new }
 {
     let columns = rounded(alloc, instance, weights)?;
     offer_trees(alloc, instance, columns.as_slice(), pool, rosters, best)

@@ -19,6 +19,7 @@ use crate::staff::{Staff, set_heads, staff_least, staff_most};
 use branch_price::{Found, Master, Pool, Start, Watch, search_from};
 use parse_graph::Graph;
 use roster_model::{Instance, List, Memory, Shift};
+use search_day::Day;
 use std::alloc::Global;
 use std::marker::Model;
 
@@ -173,10 +174,13 @@ impl Curve {
             shifts: self.kept.as_slice(),
             nodes: &[],
         };
+        let day = Day {
+            instance: &self.instance,
+            graph,
+        };
         let found = search_from(
             self.alloc,
-            &self.instance,
-            graph,
+            &day,
             turns,
             start,
             &mut self.pool,

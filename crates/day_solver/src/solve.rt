@@ -17,6 +17,7 @@ use certificates::Cert;
 use grammar_core::normalise;
 use parse_graph::{Graph, GraphFault};
 use roster_model::{Grammar, Instance, Memory};
+use search_day::Day;
 use std::alloc::Global;
 
 // Builds the graph of a day.
@@ -76,9 +77,8 @@ fn searched<M: Master, W: Watch>(
     ensures strict_stays { M.strict master.new ≡ M.strict master.old }
 {
     let mut pool = Pool::new(alloc);
-    search_from(
-        alloc, instance, graph, turns, start, &mut pool, master, watch,
-    )
+    let day = Day { instance, graph };
+    search_from(alloc, &day, turns, start, &mut pool, master, watch)
 }
 
 /// Returns what was found, within at most 10,000 turns, with the text of its certificate.

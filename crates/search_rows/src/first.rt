@@ -5,9 +5,10 @@ ghost use Rattle.search_rows.specs.Days.{IsMasterDay, AreLent};
 
 use crate::days::{graph_of, master_day};
 use crate::masters::{HIGH, LOW, Lent, PAIR_DAY, are_node_cuts, is_half, lent_for};
-use node_master::{Bases, First, NodeEnd, solve_node_from};
+use node_master::{Bases, First, NodeEnd, Steering, solve_node_from};
 use parse_graph::Graph;
 use roster_model::{Cut, Instance};
+use search_day::Day;
 use std::alloc::Global;
 use std::test::Fail;
 
@@ -32,17 +33,21 @@ pub fn solve(
     if !are_node_cuts(day, graph, cuts) {
         return Err(Fail::from("no cuts of the day"));
     }
-    let mut bases = Bases::new(alloc);
+    let mut steering = Steering {
+        wanted: &[],
+        first,
+        bases: Bases::new(alloc),
+    };
     let end = solve_node_from(
         alloc,
-        day,
-        graph,
+        &Day {
+            instance: day,
+            graph,
+        },
+        cuts,
         &mut lent.pricer,
         &mut lent.pool,
-        cuts,
-        &[],
-        &mut bases,
-        first,
+        &mut steering,
         &mut lent.tally,
     )?;
     Ok(end)

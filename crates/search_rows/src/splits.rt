@@ -7,12 +7,13 @@ ghost use Rattle.search_rows.specs.Days.{IsMasterDay, AreLent};
 use crate::days::{graph_of, master_day};
 use crate::first::solve;
 use crate::masters::{Lent, PAIR_DAY, lent_for};
-use arc_weights::{Weighed, farthest_from_whole, weigh};
+use arc_weights::{SolvedNode, Weighed, farthest_from_whole, weigh};
 use count_boxes::ArcBox;
 use node_master::{First, NodeEnd, Solution, Weight};
 use open_nodes::Plan;
 use parse_graph::Graph;
 use roster_model::{Instance, List};
+use search_day::Day;
 use std::alloc::Global;
 use std::test::Fail;
 
@@ -52,17 +53,18 @@ fn split_with(
 {
     let weights = near_weights(alloc, day, graph, lent)?;
     let arc_box = ArcBox::new(alloc, day, graph)?;
-    let weighed = weigh(
-        alloc,
-        day,
-        graph,
-        &[],
-        &arc_box,
-        &lent.pool,
-        weights.as_slice(),
-        Solution::Near,
-        preferred,
-    )?;
+    let node = SolvedNode {
+        day: Day {
+            instance: day,
+            graph,
+        },
+        cuts: &[],
+        arc_box: &arc_box,
+        pool: &lent.pool,
+        weights: weights.as_slice(),
+        solution: Solution::Near,
+    };
+    let weighed = weigh(alloc, &node, preferred)?;
     match weighed {
         Weighed::Between { arc, b } => Ok(Some(Plan { arc, b })),
         Weighed::Whole(_) | Weighed::Other => Ok(None),
@@ -130,16 +132,18 @@ fn farthest_with(
 {
     let weights = near_weights(alloc, day, graph, lent)?;
     let arc_box = ArcBox::new(alloc, day, graph)?;
-    let farthest = farthest_from_whole(
-        alloc,
-        day,
-        graph,
-        &[],
-        &arc_box,
-        &lent.pool,
-        weights.as_slice(),
-        Solution::Near,
-    )?;
+    let node = SolvedNode {
+        day: Day {
+            instance: day,
+            graph,
+        },
+        cuts: &[],
+        arc_box: &arc_box,
+        pool: &lent.pool,
+        weights: weights.as_slice(),
+        solution: Solution::Near,
+    };
+    let farthest = farthest_from_whole(alloc, &node)?;
     Ok(farthest)
 }
 

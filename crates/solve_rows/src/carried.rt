@@ -10,6 +10,7 @@ use certificates::Cert;
 use parse_graph::Graph;
 use roster_model::{Instance, Memory, Shift};
 use sample_days::{PAIR_PARTS, sound_day};
+use search_day::Day;
 use std::alloc::Global;
 use std::test::Fail;
 
@@ -63,8 +64,10 @@ fn found_from(
     };
     search_from(
         alloc,
-        day,
-        graph,
+        &Day {
+            instance: day,
+            graph,
+        },
         turns,
         start,
         &mut Pool::new(alloc),

@@ -1,4 +1,4 @@
-use Rattle.std.proofs.Common.{ℕ, List, ◌≤◌, length, arith, sym, subst}
+use Rattle.std.proofs.Common.{List, ◌≤◌, length, arith, sym, subst}
 use Rattle.roster_model.specs.declared.instance.Shift.{Shift}
 use Rattle.roster_model.specs.Folds.{Each}
 use Rattle.certificates.specs.Sound.{IsSoundShift}

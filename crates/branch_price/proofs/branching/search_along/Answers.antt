@@ -1,62 +1,35 @@
-use Rattle.std.proofs.Common.{Option, arith, ◌∙◌, refl, sym, subst}
-use Rattle.std.proofs.lemmas.Result.{IfOk-weaker}
+use Rattle.std.proofs.Common.{◌≡◌, Option, Some, arith, ◌∙◌, refl, sym, subst}
 use Rattle.candidate_rosters.proofs.PoolNumbers.{grown-more}
-use Rattle.branch_price.specs.Found.{IsFound, AreCounted}
+use Rattle.branch_price.specs.Ends.{AsksEnd, IsFoundAtEnd}
+use Rattle.branch_price.specs.Found.{IsFound}
 use Rattle.candidate_rosters.specs.declared.roster.Roster.{Roster}
-use Rattle.branch_price.specs.OldRosters.{IsNoDearerThan, ReachesOld}
+use Rattle.candidate_rosters.specs.Offers.{cost_of}
+use Rattle.roster_model.specs.declared.instance.Done.TheVariants.{TurnsOut}
+use Rattle.branch_price.specs.Jobs.{IsJobDone}
+use Rattle.branch_price.specs.OldRosters.{ReachesOld}
+use Rattle.branch_price.proofs.JobsLemmas.{both-ok}
+use Rattle.branch_price.proofs.ToolsLemmas.{tools-later}
 use Rattle.branch_price.proofs.LoopsLemmas.{begun-loops, asks-turn, turn-loops, turn-nears, turn-reaches, stopped-end, closed-end}
 use Rattle.branch_price.proofs.OldLemmas.{no-dearer}
-use Rattle.search_watch.specs.Within.{IsWithin}
 use Rattle.search_watch.proofs.WithinLemmas.{within-all}
 use Rattle.branch_price.proofs.branching.search_along.Goals as goal
 
 pub loop-leaf-init : goal.loop-leaf-init
 loop-leaf-init g c = (
-  begun-loops c.args.instance.now c.args.graph.now (g.M.Master.strict c.args.master.now) (g.M.Master.refused c.args.master.now) c.args.turns c.in_ok-progress.progress c.in_ok-progress.ensures.begun,
+  begun-loops c.args.job.now.searched.day.instance.now c.args.job.now.searched.day.graph.now (g.M.Master.strict c.args.master.now) (g.M.Master.refused c.args.master.now) c.args.job.now.turns c.in_ok-progress.progress c.in_ok-progress.ensures.begun,
   refl,
-  c.requires.path,
-  c.begin.ensures.desk,
-  c.begin.ensures.pool,
-  c.begin.ensures.grown,
+  record { tools = tools-later c.args.job.now.searched.day c.args.pool.now c.begin.new.pool c.begin.new.desk c.begin.ensures.tools; path = c.requires.bench.path },
+  c.begin.ensures.tools.pool.grown,
   (λ h. h),
   c.in_ok-progress.ensures.reaches,
 )
 
 pub found-requires-clause-end : goal.found-requires-clause-end
 found-requires-clause-end g c = (
-  record { graph = c.args.graph.now; strict = g.M.Master.strict c.args.master.now; before = g.M.Master.refused c.args.master.now; now = g.M.Master.refused c.loop-leaf.master; turns = c.next.new.self.tree.processed },
-  (stopped-end c.args.instance.now c.args.graph.now (g.M.Master.strict c.args.master.now) (g.M.Master.refused c.args.master.now) (g.M.Master.refused c.loop-leaf.master) c.args.turns c.requires.few
-      c.loop-leaf.progress c.next.new.self c.in-Some.leaf c.loop-leaf.invariant.0 c.in-Some.ensures c.requires.sound c.requires.busy c.requires.arcs).1,
+  record { graph = c.args.job.now.searched.day.graph.now; strict = g.M.Master.strict c.args.master.now; before = g.M.Master.refused c.args.master.now; now = g.M.Master.refused c.loop-leaf.master; turns = c.next.new.self.tree.processed },
+  (stopped-end c.args.job.now.searched.day.instance.now c.args.job.now.searched.day.graph.now (g.M.Master.strict c.args.master.now) (g.M.Master.refused c.args.master.now) (g.M.Master.refused c.loop-leaf.master) c.args.job.now.turns c.requires.job.few
+      c.loop-leaf.progress c.next.new.self c.in-Some.leaf c.loop-leaf.invariant.0 c.in-Some.ensures c.requires.job.searched.is.day.sound c.requires.job.searched.is.busy c.requires.arcs).1,
 )
-
-pub returns-then-stops_at-clause-found : goal.returns-then-stops_at-clause-found
-returns-then-stops_at-clause-found g c =
-    let end = stopped-end c.args.instance.now c.args.graph.now (g.M.Master.strict c.args.master.now) (g.M.Master.refused c.args.master.now) (g.M.Master.refused c.loop-leaf.master) c.args.turns c.requires.few
-    c.loop-leaf.progress c.next.new.self c.in-Some.leaf c.loop-leaf.invariant.0 c.in-Some.ensures c.requires.sound c.requires.busy c.requires.arcs in
-    let may = c.stops_at.ensures.stops c.if-stops_at.true in
-    IfOk-weaker c.found.result _ (λ f. IsWithin (g.W.Watch.patient c.args.watch.now) c.args.turns (λ k. IsFound c.args.instance.now (g.M.Master.strict c.args.master.now) k f))
-    (λ f h. record {
-      used = c.next.new.self.tree.processed;
-      some = may.some;
-      few = end.0;
-      whole = λ patient. may.whole (c.loop-leaf.invariant.6 patient);
-      holds = (h (record { graph = c.args.graph.now; strict = g.M.Master.strict c.args.master.now; before = g.M.Master.refused c.args.master.now; now = g.M.Master.refused c.loop-leaf.master; turns = c.next.new.self.tree.processed }) end.1).0;
-    }) c.found.ensures.found
-
-pub returns-then-stops_at-clause-falls : goal.returns-then-stops_at-clause-falls
-returns-then-stops_at-clause-falls g c =
-    let i = c.args.instance.now in
-    let shifts = c.args.start.shifts.now in
-    let reach = subst (λ (best : Option Roster). ReachesOld i shifts best) (sym c.in-Some.ensures.best) c.loop-leaf.invariant.7 in
-    IfOk-weaker c.found.result _ (λ f. IsNoDearerThan i shifts f.cert.cost)
-    (λ f h. no-dearer i c.requires.sound shifts c.next.new.self.best reach f.cert.cost h) c.found.ensures.cost
-
-pub returns-then-stops_at-clause-counted : goal.returns-then-stops_at-clause-counted
-returns-then-stops_at-clause-counted g c =
-    let end = stopped-end c.args.instance.now c.args.graph.now (g.M.Master.strict c.args.master.now) (g.M.Master.refused c.args.master.now) (g.M.Master.refused c.loop-leaf.master) c.args.turns c.requires.few
-    c.loop-leaf.progress c.next.new.self c.in-Some.leaf c.loop-leaf.invariant.0 c.in-Some.ensures c.requires.sound c.requires.busy c.requires.arcs in
-    IfOk-weaker c.found.result _ (AreCounted c.args.instance.now (g.M.Master.refused c.args.master.now) (g.M.Master.refused c.loop-leaf.master))
-    (λ f h. (h (record { graph = c.args.graph.now; strict = g.M.Master.strict c.args.master.now; before = g.M.Master.refused c.args.master.now; now = g.M.Master.refused c.loop-leaf.master; turns = c.next.new.self.tree.processed }) end.1).1) c.found.ensures.found
 
 pub returns-then-stops_at-clause-rises : goal.returns-then-stops_at-clause-rises
 returns-then-stops_at-clause-rises g c = c.loop-leaf.invariant.0.rises
@@ -65,30 +38,15 @@ pub returns-then-stops_at-clause-strict_stays :
     goal.returns-then-stops_at-clause-strict_stays
 returns-then-stops_at-clause-strict_stays g c = c.loop-leaf.invariant.1
 
-pub returns-then-stops_at-clause-pool : goal.returns-then-stops_at-clause-pool
-returns-then-stops_at-clause-pool g c = c.loop-leaf.invariant.4
-
-pub returns-then-stops_at-clause-grown : goal.returns-then-stops_at-clause-grown
-returns-then-stops_at-clause-grown g c = c.loop-leaf.invariant.5
-
-pub turn-requires-clause-path : goal.turn-requires-clause-path
-turn-requires-clause-path g c = c.loop-leaf.invariant.2
-
-pub turn-requires-clause-desk : goal.turn-requires-clause-desk
-turn-requires-clause-desk g c = c.loop-leaf.invariant.3
-
-pub turn-requires-clause-pool : goal.turn-requires-clause-pool
-turn-requires-clause-pool g c = c.loop-leaf.invariant.4
-
 pub turn-requires-clause-leaf : goal.turn-requires-clause-leaf
 turn-requires-clause-leaf g c =
-    asks-turn c.args.instance.now c.args.graph.now (g.M.Master.strict c.args.master.now) (g.M.Master.refused c.args.master.now) (g.M.Master.refused c.loop-leaf.master) c.args.turns c.requires.few
+    asks-turn c.args.job.now.searched.day.instance.now c.args.job.now.searched.day.graph.now (g.M.Master.strict c.args.master.now) (g.M.Master.refused c.args.master.now) (g.M.Master.refused c.loop-leaf.master) c.args.job.now.turns c.requires.job.few
     c.loop-leaf.progress c.next.new.self c.in-Some.leaf c.loop-leaf.invariant.0 c.in-Some.ensures (g.M.Master.strict c.loop-leaf.master) c.loop-leaf.invariant.1
     (c.stops_at.ensures.goes_on c.if-stops_at.false)
 
 pub loop-leaf-smaller : goal.loop-leaf-smaller
 loop-leaf-smaller g c =
-    let near = turn-nears c.args.instance.now c.args.graph.now (g.M.Master.strict c.args.master.now) (g.M.Master.refused c.args.master.now) (g.M.Master.refused c.loop-leaf.master) c.args.turns c.requires.few
+    let near = turn-nears c.args.job.now.searched.day.instance.now c.args.job.now.searched.day.graph.now (g.M.Master.strict c.args.master.now) (g.M.Master.refused c.args.master.now) (g.M.Master.refused c.loop-leaf.master) c.args.job.now.turns c.requires.job.few
     c.loop-leaf.progress c.next.new.self c.in-Some.leaf c.loop-leaf.invariant.0 c.in-Some.ensures (g.M.Master.strict c.loop-leaf.master) c.loop-leaf.invariant.1
     (c.stops_at.ensures.goes_on c.if-stops_at.false) (g.M.Master.refused c.turn.new.master) c.turn.new.progress c.in_ok-turn.ensures.turned in
     let less = near.0 in
@@ -97,19 +55,17 @@ loop-leaf-smaller g c =
 
 pub loop-leaf-preserved : goal.loop-leaf-preserved
 loop-leaf-preserved g c = (
-  turn-loops c.args.instance.now c.args.graph.now (g.M.Master.strict c.args.master.now) (g.M.Master.refused c.args.master.now) (g.M.Master.refused c.loop-leaf.master) c.args.turns c.requires.few
+  turn-loops c.args.job.now.searched.day.instance.now c.args.job.now.searched.day.graph.now (g.M.Master.strict c.args.master.now) (g.M.Master.refused c.args.master.now) (g.M.Master.refused c.loop-leaf.master) c.args.job.now.turns c.requires.job.few
       c.loop-leaf.progress c.next.new.self c.in-Some.leaf c.loop-leaf.invariant.0 c.in-Some.ensures (g.M.Master.strict c.loop-leaf.master) c.loop-leaf.invariant.1
       (c.stops_at.ensures.goes_on c.if-stops_at.false) (g.M.Master.refused c.turn.new.master) c.turn.ensures.rises c.turn.new.progress c.in_ok-turn.ensures.turned,
   c.turn.ensures.strict_stays ∙ c.loop-leaf.invariant.1,
-  c.in_ok-turn.ensures.path,
-  c.turn.ensures.desk,
-  c.turn.ensures.pool,
-  grown-more c.args.pool.now c.loop-leaf.pool c.turn.new.pool c.loop-leaf.invariant.5 c.turn.ensures.grown,
-  (λ h. c.stops_at.ensures.stays_patient (c.loop-leaf.invariant.6 h)),
-  turn-reaches c.args.instance.now c.args.graph.now (g.M.Master.strict c.args.master.now) (g.M.Master.refused c.args.master.now) (g.M.Master.refused c.loop-leaf.master) c.args.turns c.requires.few
+  record { tools = tools-later c.args.job.now.searched.day c.loop-leaf.pool c.turn.new.pool c.turn.new.bench.desk c.turn.ensures.tools; path = c.in_ok-turn.ensures.path },
+  grown-more c.args.pool.now c.loop-leaf.pool c.turn.new.pool c.loop-leaf.invariant.3 c.turn.ensures.tools.pool.grown,
+  (λ h. c.stops_at.ensures.stays_patient (c.loop-leaf.invariant.4 h)),
+  turn-reaches c.args.job.now.searched.day.instance.now c.args.job.now.searched.day.graph.now (g.M.Master.strict c.args.master.now) (g.M.Master.refused c.args.master.now) (g.M.Master.refused c.loop-leaf.master) c.args.job.now.turns c.requires.job.few
       c.loop-leaf.progress c.next.new.self c.in-Some.leaf c.loop-leaf.invariant.0 c.in-Some.ensures (g.M.Master.strict c.loop-leaf.master) c.loop-leaf.invariant.1
       (c.stops_at.ensures.goes_on c.if-stops_at.false) (g.M.Master.refused c.turn.new.master) c.turn.new.progress c.in_ok-turn.ensures.turned
-      c.args.start.shifts.now c.loop-leaf.invariant.7,
+      c.args.job.now.start.shifts.now c.loop-leaf.invariant.5,
 )
 
 pub returns-in_err-turn-clause-rises : goal.returns-in_err-turn-clause-rises
@@ -118,43 +74,18 @@ returns-in_err-turn-clause-rises g c = let a = c.loop-leaf.invariant.0.rises in 
 pub returns-in_err-turn-clause-strict_stays : goal.returns-in_err-turn-clause-strict_stays
 returns-in_err-turn-clause-strict_stays g c = c.turn.ensures.strict_stays ∙ c.loop-leaf.invariant.1
 
-pub returns-in_err-turn-clause-grown : goal.returns-in_err-turn-clause-grown
-returns-in_err-turn-clause-grown g c = grown-more c.args.pool.now c.loop-leaf.pool c.turn.new.pool c.loop-leaf.invariant.5 c.turn.ensures.grown
-
 pub found-requires-2-clause-end : goal.found-requires-2-clause-end
 found-requires-2-clause-end g c = (
   record {
-    graph = c.args.graph.now;
+    graph = c.args.job.now.searched.day.graph.now;
     strict = g.M.Master.strict c.args.master.now;
     before = g.M.Master.refused c.args.master.now;
     now = g.M.Master.refused c.loop-leaf.master;
-    turns = c.args.turns;
+    turns = c.args.job.now.turns;
   },
-  closed-end c.args.instance.now c.requires.sound c.requires.busy c.requires.arcs c.args.graph.now c.requires.graph (g.M.Master.strict c.args.master.now) (g.M.Master.refused c.args.master.now) (g.M.Master.refused c.loop-leaf.master) c.args.turns c.requires.few
+  closed-end c.args.job.now.searched.day.instance.now c.requires.job.searched.is.day.sound c.requires.job.searched.is.busy c.requires.arcs c.args.job.now.searched.day.graph.now c.requires.job.searched.is.day.graph (g.M.Master.strict c.args.master.now) (g.M.Master.refused c.args.master.now) (g.M.Master.refused c.loop-leaf.master) c.args.job.now.turns c.requires.job.few
       c.loop-leaf.progress c.next.new.self.tree c.next.new.self.best c.loop-leaf.invariant.0 c.in_default.ensures c.closed_end-bound.result c.closed_end-bound.ensures,
 )
-
-pub returns-clause-found : goal.returns-clause-found
-returns-clause-found g c =
-    let end = closed-end c.args.instance.now c.requires.sound c.requires.busy c.requires.arcs c.args.graph.now c.requires.graph (g.M.Master.strict c.args.master.now) (g.M.Master.refused c.args.master.now) (g.M.Master.refused c.loop-leaf.master) c.args.turns c.requires.few
-    c.loop-leaf.progress c.next.new.self.tree c.next.new.self.best c.loop-leaf.invariant.0 c.in_default.ensures c.closed_end-bound.result c.closed_end-bound.ensures in
-    IfOk-weaker c.found-2.result _ (λ f. IsWithin (g.W.Watch.patient c.args.watch.now) c.args.turns (λ k. IsFound c.args.instance.now (g.M.Master.strict c.args.master.now) k f))
-    (λ f h. within-all (g.W.Watch.patient c.args.watch.now) c.args.turns (λ k. IsFound c.args.instance.now (g.M.Master.strict c.args.master.now) k f) c.requires.some (h (record { graph = c.args.graph.now; strict = g.M.Master.strict c.args.master.now; before = g.M.Master.refused c.args.master.now; now = g.M.Master.refused c.loop-leaf.master; turns = c.args.turns }) end).0) c.found-2.ensures.found
-
-pub returns-clause-falls : goal.returns-clause-falls
-returns-clause-falls g c =
-    let i = c.args.instance.now in
-    let shifts = c.args.start.shifts.now in
-    let reach = subst (λ (best : Option Roster). ReachesOld i shifts best) (sym c.in_default.ensures.best) c.loop-leaf.invariant.7 in
-    IfOk-weaker c.found-2.result _ (λ f. IsNoDearerThan i shifts f.cert.cost)
-    (λ f h. no-dearer i c.requires.sound shifts c.next.new.self.best reach f.cert.cost h) c.found-2.ensures.cost
-
-pub returns-clause-counted : goal.returns-clause-counted
-returns-clause-counted g c =
-    let end = closed-end c.args.instance.now c.requires.sound c.requires.busy c.requires.arcs c.args.graph.now c.requires.graph (g.M.Master.strict c.args.master.now) (g.M.Master.refused c.args.master.now) (g.M.Master.refused c.loop-leaf.master) c.args.turns c.requires.few
-    c.loop-leaf.progress c.next.new.self.tree c.next.new.self.best c.loop-leaf.invariant.0 c.in_default.ensures c.closed_end-bound.result c.closed_end-bound.ensures in
-    IfOk-weaker c.found-2.result _ (AreCounted c.args.instance.now (g.M.Master.refused c.args.master.now) (g.M.Master.refused c.loop-leaf.master))
-    (λ f h. (h (record { graph = c.args.graph.now; strict = g.M.Master.strict c.args.master.now; before = g.M.Master.refused c.args.master.now; now = g.M.Master.refused c.loop-leaf.master; turns = c.args.turns }) end).1) c.found-2.ensures.found
 
 pub returns-clause-rises : goal.returns-clause-rises
 returns-clause-rises g c = c.loop-leaf.invariant.0.rises
@@ -162,8 +93,61 @@ returns-clause-rises g c = c.loop-leaf.invariant.0.rises
 pub returns-clause-strict_stays : goal.returns-clause-strict_stays
 returns-clause-strict_stays g c = c.loop-leaf.invariant.1
 
-pub returns-clause-pool : goal.returns-clause-pool
-returns-clause-pool g c = c.loop-leaf.invariant.4
+pub returns-then-stops_at-clause-found : goal.returns-then-stops_at-clause-found
+returns-then-stops_at-clause-found g c =
+    let j = c.args.job.now in
+    let i = j.searched.day.instance.now in
+    let v = j.searched.day.graph.now in
+    let is = c.requires.job in
+    let patient = g.W.Watch.patient c.args.watch.now in
+    let strict = g.M.Master.strict c.args.master.now in
+    let before = g.M.Master.refused c.args.master.now in
+    let now = g.M.Master.refused c.loop-leaf.master in
+    let end = stopped-end i v strict before now j.turns is.few c.loop-leaf.progress c.next.new.self c.in-Some.leaf c.loop-leaf.invariant.0 c.in-Some.ensures is.searched.is.day.sound is.searched.is.busy c.requires.arcs in
+    let asks : AsksEnd i = record { graph = v; strict = strict; before = before; now = now; turns = c.next.new.self.tree.processed } in
+    let reach = subst (λ (best : Option Roster). ReachesOld i j.start.shifts.now best) (sym c.in-Some.ensures.best) c.loop-leaf.invariant.5 in
+    let may = c.stops_at.ensures.stops c.if-stops_at.true in
+    both-ok c.found.result (IsFoundAtEnd i c.next.new.self (Some c.in-Some.leaf.bound) TurnsOut) (λ f. f.cert.cost ≡ cost_of c.next.new.self.best) (IsJobDone j patient strict before now)
+    (λ f h cost. record {
+      found = record { used = c.next.new.self.tree.processed; some = may.some; few = end.0; whole = λ patience. may.whole (c.loop-leaf.invariant.4 patience); holds = (h asks end.1).0 };
+      falls = no-dearer i is.searched.is.day.sound j.start.shifts.now c.next.new.self.best reach f.cert.cost cost;
+      counted = (h asks end.1).1;
+    }) c.found.ensures.found c.found.ensures.cost
 
-pub returns-clause-grown : goal.returns-clause-grown
-returns-clause-grown g c = c.loop-leaf.invariant.5
+pub returns-clause-found : goal.returns-clause-found
+returns-clause-found g c =
+    let j = c.args.job.now in
+    let i = j.searched.day.instance.now in
+    let v = j.searched.day.graph.now in
+    let is = c.requires.job in
+    let patient = g.W.Watch.patient c.args.watch.now in
+    let strict = g.M.Master.strict c.args.master.now in
+    let before = g.M.Master.refused c.args.master.now in
+    let now = g.M.Master.refused c.loop-leaf.master in
+    let end = closed-end i is.searched.is.day.sound is.searched.is.busy c.requires.arcs v is.searched.is.day.graph strict before now j.turns is.few c.loop-leaf.progress c.next.new.self.tree c.next.new.self.best c.loop-leaf.invariant.0 c.in_default.ensures c.closed_end-bound.result c.closed_end-bound.ensures in
+    let asks : AsksEnd i = record { graph = v; strict = strict; before = before; now = now; turns = j.turns } in
+    let reach = subst (λ (best : Option Roster). ReachesOld i j.start.shifts.now best) (sym c.in_default.ensures.best) c.loop-leaf.invariant.5 in
+    both-ok c.found-2.result (IsFoundAtEnd i c.next.new.self c.closed_end-bound.result.0 c.closed_end-bound.result.1) (λ f. f.cert.cost ≡ cost_of c.next.new.self.best) (IsJobDone j patient strict before now)
+    (λ f h cost. record {
+      found = within-all patient j.turns (λ k. IsFound i strict k f) is.some (h asks end).0;
+      falls = no-dearer i is.searched.is.day.sound j.start.shifts.now c.next.new.self.best reach f.cert.cost cost;
+      counted = (h asks end).1;
+    }) c.found-2.ensures.found c.found-2.ensures.cost
+
+pub returns-then-stops_at-clause-pool : goal.returns-then-stops_at-clause-pool
+returns-then-stops_at-clause-pool g c = record { are = c.loop-leaf.invariant.2.tools.pool; grown = c.loop-leaf.invariant.3 }
+
+pub returns-clause-pool : goal.returns-clause-pool
+returns-clause-pool g c = record { are = c.loop-leaf.invariant.2.tools.pool; grown = c.loop-leaf.invariant.3 }
+
+pub returns-in_err-turn-clause-pool : goal.returns-in_err-turn-clause-pool
+returns-in_err-turn-clause-pool g c = record { are = c.turn.ensures.tools.pool.are; grown = grown-more c.args.pool.now c.loop-leaf.pool c.turn.new.pool c.loop-leaf.invariant.3 c.turn.ensures.tools.pool.grown }
+
+pub turn-requires-clause-bench : goal.turn-requires-clause-bench
+turn-requires-clause-bench g c = c.loop-leaf.invariant.2
+
+pub begin-requires-clause-tools : goal.begin-requires-clause-tools
+begin-requires-clause-tools g c = c.requires.bench.tools
+
+pub returns-in_err-progress-clause-pool : goal.returns-in_err-progress-clause-pool
+returns-in_err-progress-clause-pool g c = c.begin.ensures.tools.pool

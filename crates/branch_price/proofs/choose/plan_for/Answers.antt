@@ -1,4 +1,5 @@
-use Rattle.std.proofs.Common.{◌≡◌, ℕ, All, ◌<◌, List, arith, length, sym, subst}
+use Rattle.std.proofs.Common.{◌≡◌, ℕ, All, ◌<◌, List, [], arith, length, sym, subst}
+use Rattle.std.proofs.lemmas.List.{append-nil}
 use Rattle.roster_model.specs.declared.instance.Cut.{Cut}
 use Rattle.roster_model.specs.Limits.{IsSmallCut}
 use Rattle.roster_model.proofs.EachLemmas.{Each-weaker}
@@ -13,16 +14,37 @@ use Rattle.branch_price.proofs.StepsLemmas.{loose-within}
 use Rattle.branch_price.proofs.PlansLemmas.{Reaches, weights-of, between-plan, other-anywhere, whole-each, whole-anywhere, left-plan, least-plan}
 use Rattle.branch_price.proofs.choose.plan_for.Goals as goal
 
-pub preferred_arc-requires-clause-cuts : goal.preferred_arc-requires-clause-cuts
-preferred_arc-requires-clause-cuts c =
-    let few = c.requires.sound.few in
-    Each-weaker (IsBelowHeads c.args.instance.now) IsSmallCut c.args.cuts.now (λ (k : Cut) h. omega (arith, h, few)) c.requires.shown.below
+pub preferred_arc-requires-clause-small : goal.preferred_arc-requires-clause-small
+preferred_arc-requires-clause-small c =
+    let few = c.requires.node.searched.is.day.sound.few in
+    record {
+      each = Each-weaker (IsBelowHeads c.args.node.now.searched.day.instance.now) IsSmallCut c.args.node.now.cuts.now (λ (k : Cut) h. omega (arith, h, few)) c.requires.shown.below;
+      few = c.requires.shown.solved.few;
+    }
 
-pub weigh-requires-clause-weights : goal.weigh-requires-clause-weights
-weigh-requires-clause-weights c =
+pub weigh-requires : goal.weigh-requires
+weigh-requires c =
     let s = c.args.solved.now in
-    subst (λ (ws : List Weight). AreSolved s.solution c.args.instance.now c.args.cuts.now c.args.pool.now ws) (sym c.as_slice-weights.ensures)
-    (weights-of s.solution c.args.instance.now c.args.cuts.now c.args.pool.now s.prices s.weights c.requires.shown.solved.how)
+    let i = c.args.node.now.searched.day.instance.now in
+    record {
+      day = c.requires.node.searched.is.day;
+      left = c.requires.node.left;
+      pool = c.requires.find.tools.pool;
+      weights = subst (λ (ws : List Weight). AreSolved s.solution i c.args.node.now.cuts.now c.args.pool.now ws) (sym c.as_slice-weights.ensures)
+          (weights-of s.solution i c.args.node.now.cuts.now c.args.pool.now s.prices s.weights c.requires.shown.solved.how);
+    }
+
+pub plan_by_weights-requires-clause-node : goal.plan_by_weights-requires-clause-node
+plan_by_weights-requires-clause-node c =
+    let s = c.args.solved.now in
+    let i = c.args.node.now.searched.day.instance.now in
+    record {
+      day = c.requires.node.searched.is.day;
+      left = c.requires.node.left;
+      pool = c.requires.find.tools.pool;
+      weights = subst (λ (ws : List Weight). AreSolved s.solution i c.args.node.now.cuts.now c.args.pool.now ws) (sym c.as_slice-weights.ensures)
+          (weights-of s.solution i c.args.node.now.cuts.now c.args.pool.now s.prices s.weights c.requires.shown.solved.how);
+    }
 
 pub offer_rounded-requires-clause-weights : goal.offer_rounded-requires-clause-weights
 offer_rounded-requires-clause-weights c =
@@ -30,58 +52,74 @@ offer_rounded-requires-clause-weights c =
 
 pub returns-in-Between-clause-plan : goal.returns-in-Between-clause-plan
 returns-in-Between-clause-plan c =
-    let i = c.args.instance.now in
-    let v = c.args.graph.now in
-    let cuts = c.args.cuts.now in
+    let i = c.args.node.now.searched.day.instance.now in
+    let v = c.args.node.now.searched.day.graph.now in
+    let cuts = c.args.node.now.cuts.now in
     let pool = c.args.pool.now in
     let s = c.args.solved.now in
     let told = subst (λ (ws : List Weight). IsWeighed i v cuts pool ws s.solution (Between c.in-Between.arc c.in-Between.b)) c.as_slice-weights.ensures
     (subst (λ (x : Weighed). IsWeighed i v cuts pool c.as_slice-weights.result.now s.solution x) c.in-Between.is c.in_ok-arc.ensures) in
-    between-plan s.solution i v cuts pool s.prices s.weights c.in-Between.arc c.in-Between.b c.requires.graph c.requires.shown.solved.how told
+    between-plan s.solution i v cuts pool s.prices s.weights c.in-Between.arc c.in-Between.b c.requires.node.searched.is.day.graph c.requires.shown.solved.how told
 
 pub offer_counts-requires-clause-counts : goal.offer_counts-requires-clause-counts
 offer_counts-requires-clause-counts c =
-    let i = c.args.instance.now in
-    let v = c.args.graph.now in
-    let cuts = c.args.cuts.now in
+    let i = c.args.node.now.searched.day.instance.now in
+    let v = c.args.node.now.searched.day.graph.now in
+    let cuts = c.args.node.now.cuts.now in
     let pool = c.args.pool.now in
     let s = c.args.solved.now in
     let told = subst (λ (ws : List Weight). IsWeighed i v cuts pool ws s.solution (Whole c.in-Whole.counts)) c.as_slice-weights.ensures
     (subst (λ (x : Weighed). IsWeighed i v cuts pool c.as_slice-weights.result.now s.solution x) c.in-Whole.is c.in_ok-arc.ensures) in
     subst (λ (xs : List ℕ). length xs ≡ length v.arcs) (sym c.as_slice.ensures) (whole-each s.solution i v cuts pool s.weights c.in-Whole.counts told)
 
-pub plan_by_weights-requires-clause-weights : goal.plan_by_weights-requires-clause-weights
-plan_by_weights-requires-clause-weights c =
-    let s = c.args.solved.now in
-    weights-of s.solution c.args.instance.now c.args.cuts.now c.args.pool.now s.prices s.weights c.requires.shown.solved.how
-
 pub returns-in-Whole-clause-plan : goal.returns-in-Whole-clause-plan
 returns-in-Whole-clause-plan c =
-    let i = c.args.instance.now in
-    let v = c.args.graph.now in
-    let cuts = c.args.cuts.now in
+    let i = c.args.node.now.searched.day.instance.now in
+    let v = c.args.node.now.searched.day.graph.now in
+    let cuts = c.args.node.now.cuts.now in
     let pool = c.args.pool.now in
     let s = c.args.solved.now in
     let told = subst (λ (ws : List Weight). IsWeighed i v cuts pool ws s.solution (Whole c.in-Whole.counts)) c.as_slice-weights.ensures
     (subst (λ (x : Weighed). IsWeighed i v cuts pool c.as_slice-weights.result.now s.solution x) c.in-Whole.is c.in_ok-arc.ensures) in
     let limit = limit_of i c.offer_counts.new.best in
     let reaches : Reaches i v c.in-Whole.counts limit = subst (λ (xs : List ℕ). Reaches i v xs limit) c.as_slice.ensures c.in_ok-offer_counts-in-Whole.ensures.reached in
-    left-plan i v cuts s.prices c.args.arc_box.now c.in_ok-plan-in-Whole.plan c.requires.graph c.requires.left c.in_ok-plan-in-Whole.ensures
-    (whole-anywhere i v cuts pool s c.args.value limit c.in-Whole.counts c.requires.sound c.requires.graph c.requires.shown told reaches (rw c.limit-in-Whole.ensures at c.if-limit-value-2.false))
+    left-plan i v cuts s.prices c.args.node.now.arc_box.now c.in_ok-plan-in-Whole.plan c.requires.node.searched.is.day.graph c.requires.node.left c.in_ok-plan-in-Whole.ensures
+    (whole-anywhere i v cuts pool s c.args.value limit c.in-Whole.counts c.requires.node.searched.is.day.sound c.requires.node.searched.is.day.graph c.requires.shown told reaches (rw c.limit-in-Whole.ensures at c.if-limit-value-2.false))
 
 pub at_least-requires : goal.at_least-requires
 at_least-requires c =
-    let lt = loose-within c.args.instance.now c.args.graph.now c.args.cuts.now c.args.arc_box.now c.requires.left c.args.loose c.requires.loose in
-    subst (λ (n : ℕ). c.args.loose < n) (sym c.requires.left.made.arcs) lt
+    let lt = loose-within c.args.node.now.searched.day.instance.now c.args.node.now.searched.day.graph.now c.args.node.now.cuts.now c.args.node.now.arc_box.now c.requires.node.left c.args.node.now.loose c.requires.node.loose in
+    subst (λ (n : ℕ). c.args.node.now.loose < n) (sym c.requires.node.left.made.arcs) lt
 
 pub returns-clause-plan : goal.returns-clause-plan
 returns-clause-plan c =
-    let i = c.args.instance.now in
-    let v = c.args.graph.now in
-    let cuts = c.args.cuts.now in
+    let i = c.args.node.now.searched.day.instance.now in
+    let v = c.args.node.now.searched.day.graph.now in
+    let cuts = c.args.node.now.cuts.now in
     let pool = c.args.pool.now in
     let s = c.args.solved.now in
     let told = subst (λ (ws : List Weight). IsWeighed i v cuts pool ws s.solution (Other)) c.as_slice-weights.ensures
     (subst (λ (x : Weighed). IsWeighed i v cuts pool c.as_slice-weights.result.now s.solution x) c.in-Other.is c.in_ok-arc.ensures) in
-    least-plan i v cuts s.prices c.args.loose c.args.arc_box.now c.at_least.result c.requires.graph c.requires.left c.requires.loose c.at_least.ensures
+    least-plan i v cuts s.prices c.args.node.now.loose c.args.node.now.arc_box.now c.at_least.result c.requires.node.searched.is.day.graph c.requires.node.left c.requires.node.loose c.at_least.ensures
     (other-anywhere s.solution i v cuts pool s.prices s.weights c.requires.shown.solved.how told)
+
+pub offer_rounded-requires-clause-offer : goal.offer_rounded-requires-clause-offer
+offer_rounded-requires-clause-offer c = record { rosters = c.requires.find.tools.desk.rosters; good = c.requires.find.good }
+
+pub offer_counts-requires-clause-tools : goal.offer_counts-requires-clause-tools
+offer_counts-requires-clause-tools c = record { pool = c.requires.find.tools.pool; desk = c.requires.find.tools.desk.rosters }
+
+pub returns-in-Between-clause-found : goal.returns-in-Between-clause-found
+returns-in-Between-clause-found c =
+    let k = c.requires.find.tools.desk in
+    let t = c.requires.find.tools in
+    record {
+      tools = record { pool = record { are = t.pool; grown = ([], sym (append-nil c.args.pool.now)) }; desk = record { pricing = k.pricing; most = k.most; rosters = c.offer_rounded.ensures.rosters } };
+      better = c.offer_rounded.ensures.better;
+    }
+
+pub returns-in-Whole-clause-found : goal.returns-in-Whole-clause-found
+returns-in-Whole-clause-found c =
+    let k = c.requires.find.tools.desk in
+    let t = c.offer_counts.ensures.tools in
+    record { tools = record { pool = t.pool; desk = record { pricing = k.pricing; most = k.most; rosters = t.desk } }; better = c.offer_counts.ensures.better }

@@ -1,23 +1,48 @@
-use Rattle.candidate_rosters.proofs.PoolNumbers.{grown-more}
+use Rattle.branch_price.proofs.ToolsLemmas.{same-better, more-found}
 use Rattle.branch_price.proofs.completed.offer_dived.Goals as goal
 
-pub offer_begun-requires-clause-desk : goal.offer_begun-requires-clause-desk
-offer_begun-requires-clause-desk c =
-    let d = c.requires.desk in
-    record { pricing = record { pricer = c.dive.ensures.pricer; room = d.pricing.room; most = d.pricing.most }; rosters = d.rosters }
+pub offer_begun-requires-clause-find : goal.offer_begun-requires-clause-find
+offer_begun-requires-clause-find c =
+    let k = c.requires.find.tools.desk in
+    record {
+      tools = record { pool = c.dive.ensures.pool.are; desk = record { pricing = record { pricer = c.dive.ensures.pricer; room = k.pricing.room }; most = k.most; rosters = k.rosters } };
+      good = c.requires.find.good;
+    }
 
-pub returns-in_err-offer_begun-clause-grown : goal.returns-in_err-offer_begun-clause-grown
-returns-in_err-offer_begun-clause-grown c = grown-more c.args.pool.now c.dive.new.pool c.offer_begun.new.pool c.dive.ensures.grown c.offer_begun.ensures.grown
+pub returns-in_err-offer_begun : goal.returns-in_err-offer_begun
+returns-in_err-offer_begun c =
+    let k = c.requires.find.tools.desk in
+    let d = c.args.node.now.searched.day in
+    let best = c.args.best.now in
+    more-found d c.args.pool.now c.dive.new.pool c.offer_begun.new.pool (record c.args.desk.now { pricing = record c.args.desk.now.pricing { pricer = c.dive.new.pricer } }) c.offer_begun.new.desk best best c.offer_begun.new.best
+    (record {
+      tools = record { pool = c.dive.ensures.pool; desk = record { pricing = record { pricer = c.dive.ensures.pricer; room = k.pricing.room }; most = k.most; rosters = k.rosters } };
+      better = same-better d.instance.now best c.requires.find.good;
+    }) c.offer_begun.ensures
 
-pub returns-in_err-begun-clause-desk : goal.returns-in_err-begun-clause-desk
-returns-in_err-begun-clause-desk c =
-    let d = c.requires.desk in
-    record { pricing = record { pricer = c.dive.ensures.pricer; room = d.pricing.room; most = d.pricing.most }; rosters = d.rosters }
+pub returns-in_err-begun : goal.returns-in_err-begun
+returns-in_err-begun c =
+    let k = c.requires.find.tools.desk in
+    record {
+      tools = record { pool = c.dive.ensures.pool; desk = record { pricing = record { pricer = c.dive.ensures.pricer; room = k.pricing.room }; most = k.most; rosters = k.rosters } };
+      better = same-better c.args.node.now.searched.day.instance.now c.args.best.now c.requires.find.good;
+    }
 
-pub returns-then-is_empty-clause-desk : goal.returns-then-is_empty-clause-desk
-returns-then-is_empty-clause-desk c =
-    let d = c.requires.desk in
-    record { pricing = record { pricer = c.dive.ensures.pricer; room = d.pricing.room; most = d.pricing.most }; rosters = d.rosters }
+pub returns-then-is_empty : goal.returns-then-is_empty
+returns-then-is_empty c =
+    let k = c.requires.find.tools.desk in
+    record {
+      tools = record { pool = c.dive.ensures.pool; desk = record { pricing = record { pricer = c.dive.ensures.pricer; room = k.pricing.room }; most = k.most; rosters = k.rosters } };
+      better = same-better c.args.node.now.searched.day.instance.now c.args.best.now c.requires.find.good;
+    }
 
-pub returns-clause-grown : goal.returns-clause-grown
-returns-clause-grown c = grown-more c.args.pool.now c.dive.new.pool c.offer_begun.new.pool c.dive.ensures.grown c.offer_begun.ensures.grown
+pub returns : goal.returns
+returns c =
+    let k = c.requires.find.tools.desk in
+    let d = c.args.node.now.searched.day in
+    let best = c.args.best.now in
+    more-found d c.args.pool.now c.dive.new.pool c.offer_begun.new.pool (record c.args.desk.now { pricing = record c.args.desk.now.pricing { pricer = c.dive.new.pricer } }) c.offer_begun.new.desk best best c.offer_begun.new.best
+    (record {
+      tools = record { pool = c.dive.ensures.pool; desk = record { pricing = record { pricer = c.dive.ensures.pricer; room = k.pricing.room }; most = k.most; rosters = k.rosters } };
+      better = same-better d.instance.now best c.requires.find.good;
+    }) c.offer_begun.ensures

@@ -1,4 +1,4 @@
-use Rattle.std.proofs.Common.{◌≡◌, ℕ, arith, ◌+◌, ◌-◌, ◌≤◌, List, sym, ap, subst, ◌∙◌}
+use Rattle.std.proofs.Common.{rules, ◌≡◌, ℕ, arith, ◌+◌, ◌-◌, ◌≤◌, List, sym, ap, subst, ◌∙◌}
 use Rattle.roster_model.specs.declared.instance.Instance.{Instance}
 use Rattle.roster_model.specs.declared.instance.Shift.{Shift}
 use Rattle.roster_model.specs.SoundInstance.{IsSoundInstance}
@@ -33,10 +33,13 @@ set_heads-requires-clause-few g c = let i = c.self.inside in few-now i.instance 
 pub set_heads-requires-clause-fits : goal.set_heads-requires-clause-fits
 set_heads-requires-clause-fits g c = let i = c.self.inside in fits-at i.instance i.staff i.most i.given i.pool i.kept c.self.invariant (c.first_heads.result + i.given) (omega (arith, c.first_heads.ensures)) c.if-heads-self.false
 
-pub search_from-found-requires-clause-sound : goal.search_from-found-requires-clause-sound
-search_from-found-requires-clause-sound g c =
+pub search_from-found-requires-clause-day : goal.search_from-found-requires-clause-day
+search_from-found-requires-clause-day g c =
     let i = c.self.inside in
-    subst (λ (d : Instance). IsSoundInstance d) (sym c.set_heads.ensures) (sound-at i.instance i.staff i.most i.given i.pool i.kept c.self.invariant (c.first_heads.result + i.given) (omega (arith, c.first_heads.ensures)) c.if-heads-self.false)
+    record {
+      sound = subst (λ (d : Instance). IsSoundInstance d) (sym c.set_heads.ensures) (sound-at i.instance i.staff i.most i.given i.pool i.kept c.self.invariant (c.first_heads.result + i.given) (omega (arith, c.first_heads.ensures)) c.if-heads-self.false);
+      graph = search rules;
+    }
 
 pub search_from-found-requires-clause-shifts : goal.search_from-found-requires-clause-shifts
 search_from-found-requires-clause-shifts g c =
@@ -47,7 +50,7 @@ pub invariant_of-self : goal.invariant_of-self
 invariant_of-self g c =
     let i = c.self.inside in
     let count = count-of i.staff i.instance i.most c.self.invariant.counted in
-    let trees = subst (λ (d : Instance). IsPool d.grammar c.search_from-found.new.pool) c.set_heads.ensures c.search_from-found.ensures.pool in
+    let trees = subst (λ (d : Instance). IsPool d.grammar c.search_from-found.new.pool) c.set_heads.ensures c.search_from-found.ensures.pool.are in
     subst (λ (d : Instance). IsCurve d i.staff i.most (i.given + 1) c.search_from-found.new.pool i.kept) (sym c.set_heads.ensures)
     (turned i.instance i.staff i.most i.given i.pool i.kept c.self.invariant (c.first_heads.result + i.given) (i.given + 1) c.search_from-found.new.pool (omega (arith, count, c.first_heads.ensures, c.if-heads-self.false)) (omega (arith, c.first_heads.ensures)) trees)
 
@@ -80,7 +83,7 @@ invariant_of-self-in-Err g c =
     let day : c.set_heads-in-Err.new.instance ≡ i.instance =
     c.set_heads-in-Err.ensures ∙ ap (λ (d : Instance). with_heads i.staff d c.staff_most-last.result) c.set_heads.ensures ∙ heads-again i.staff i.instance (c.first_heads.result + i.given) c.staff_most-last.result
     ∙ ap (λ (n : ℕ). with_heads i.staff i.instance n) c.staff_most-last.ensures ∙ same-day i.instance i.staff i.most i.given i.pool i.kept c.self.invariant in
-    let trees = subst (λ (d : Instance). IsPool d.grammar c.search_from-found.new.pool) c.set_heads.ensures c.search_from-found.ensures.pool in
+    let trees = subst (λ (d : Instance). IsPool d.grammar c.search_from-found.new.pool) c.set_heads.ensures c.search_from-found.ensures.pool.are in
     subst (λ (d : Instance). IsCurve d i.staff i.most i.given c.search_from-found.new.pool i.kept) (sym day)
     (record { sound = h.sound; counted = h.counted; within = h.within; heads = h.heads; trees = trees; shifts = h.shifts; few = h.few })
 

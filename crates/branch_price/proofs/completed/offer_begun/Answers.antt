@@ -1,0 +1,24 @@
+use Rattle.std.proofs.Common.{◌∙◌}
+use Rattle.branch_price.proofs.ToolsLemmas.{same-better}
+use Rattle.branch_price.proofs.completed.offer_begun.Goals as goal
+
+pub offer_trees-requires-clause-offer : goal.offer_trees-requires-clause-offer
+offer_trees-requires-clause-offer c = record { rosters = c.requires.find.tools.desk.rosters; good = c.requires.find.good }
+
+pub returns-in_err-columns : goal.returns-in_err-columns
+returns-in_err-columns c =
+    let k = c.requires.find.tools.desk in
+    let p = c.complete.ensures.pricing in
+    record {
+      tools = record { pool = c.complete.ensures.pool; desk = record { pricing = p.are; most = p.most ∙ k.most; rosters = k.rosters } };
+      better = same-better c.args.day.now.instance.now c.args.best.now c.requires.find.good;
+    }
+
+pub returns : goal.returns
+returns c =
+    let k = c.requires.find.tools.desk in
+    let p = c.complete.ensures.pricing in
+    record {
+      tools = record { pool = c.complete.ensures.pool; desk = record { pricing = p.are; most = p.most ∙ k.most; rosters = c.offer_trees.ensures.rosters } };
+      better = c.offer_trees.ensures.better;
+    }

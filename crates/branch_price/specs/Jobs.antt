@@ -1,0 +1,44 @@
+-- Days that are searched, and what is asked of a search.
+use Rattle.std.specs.Prelude.{ℕ, ◌≤◌, Bool, Option, length}
+use Rattle.roster_model.specs.Folds.{Each}
+use Rattle.bound_laws.specs.Infeasible.{IsPlainlyInfeasible}
+use Rattle.certificates.specs.Sound.{IsSoundShift}
+use Rattle.priced_part.specs.Filled.{TellsDerived}
+use Rattle.search_day.specs.declared.day.Day.{Day}
+use Rattle.search_day.specs.Days.{IsDay}
+use Rattle.search_watch.specs.Within.{IsWithin}
+use Rattle.candidate_rosters.specs.declared.roster.Roster.{Roster}
+use Rattle.branch_price.specs.declared.found.Found.{Found}
+use Rattle.branch_price.specs.declared.job.SearchedDay.{SearchedDay}
+use Rattle.branch_price.specs.declared.job.Job.{Job}
+use Rattle.branch_price.specs.Found.{IsFound, AreCounted}
+use Rattle.branch_price.specs.OldRosters.{IsNoDearerThan, ReachesOld}
+
+-- a sound day that is not plainly infeasible
+pub record IsBusyDay (d : Day) : Type 0 where
+  pub day : IsDay d
+  pub busy : IsPlainlyInfeasible d.instance.now → ⊥
+
+-- of such a day it is known which names derive a word
+pub record IsSearchedDay (s : SearchedDay) : Type 0 where
+  pub is : IsBusyDay s.day
+  pub told : TellsDerived s.day.instance.now.grammar s.derives.now
+
+-- such a day is to be searched in 1 to 10,000 turns, from at most 64 old shifts, of teams of the day
+pub record IsJob (j : Job) : Type 0 where
+  pub searched : IsSearchedDay j.searched
+  pub some : 1 ≤ j.turns
+  pub few : j.turns ≤ 10000
+  pub shifts : Each (IsSoundShift j.searched.day.instance.now) j.start.shifts.now
+  pub few_shifts : length j.start.shifts.now ≤ 64
+
+-- where the old shifts are an allowed roster of the day, the best one costs at most as much
+abbrev pub ReachesStart : Job → Option Roster → Type 0
+ReachesStart j best = ReachesOld j.searched.day.instance.now j.start.shifts.now best
+
+-- it is found with so many turns, or fewer where the watch is not patient, it costs no more than the old shifts,
+-- and its nodes without prices are counted by a master whose count went from `before` to `now`
+pub record IsJobDone (j : Job) (patient strict : Bool) (before now : ℕ) (f : Found) : Type 0 where
+  pub found : IsWithin patient j.turns (λ k. IsFound j.searched.day.instance.now strict k f)
+  pub falls : IsNoDearerThan j.searched.day.instance.now j.start.shifts.now f.cert.cost
+  pub counted : AreCounted j.searched.day.instance.now before now f

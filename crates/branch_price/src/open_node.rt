@@ -1,0 +1,15 @@
+use crate::job::SearchedDay;
+use count_boxes::ArcBox;
+use roster_model::Cut;
+
+/// A node that leaves some arc more than one count.
+#[derive(Clone, Copy, Drop)]
+pub(crate) struct OpenNode<'a> {
+    pub searched: SearchedDay<'a>,
+    /// The cuts on the way to it, base cuts first.
+    pub cuts: &'a [Cut],
+    /// The counts that the cuts leave the arcs.
+    pub arc_box: &'a ArcBox,
+    /// The number of an arc that is left more than one.
+    pub loose: u32,
+}
