@@ -17,7 +17,7 @@ use Rattle.certificates.specs.declared.cert.Cert.{Cert}
 use Rattle.certificates.specs.RosterCauses.{duties}
 use Rattle.page_text.specs.Columns.{column_of}
 use Rattle.page_text.specs.Costs.{AreDayColumns}
-use Rattle.page_text.specs.declared.column.Column.{Column}
+use Rattle.page_text.specs.declared.column.CellCover.{CellCover}
 use Rattle.page_command.specs.Draw.{columns_of}
 
 small : (i : Instance) (ds : List Duty) → length ds ≤ 64 → (c : Cell) → IsDayCell i.grammar c → (column_of i.grammar ds c).penalty ≤ 1280000
@@ -26,15 +26,15 @@ small i ds few c day =
     penalty_le c (covered i.grammar c ds) (omega (arith, most, few)) day.limited
 
 by_cost : (i : Instance) (c : Cert) (o : Option ℕ) → IsSoundInstance i → IsSoundCert i c → AreDayColumns (columns_of i c o)
-by_cost i c None sound cert = record { few = omega arith; small = All-nil (λ (x : Column). x.penalty ≤ 1280000) }
+by_cost i c None sound cert = record { few = omega arith; small = All-nil (λ (x : CellCover). x.penalty ≤ 1280000) }
 by_cost i c (Some cost) sound cert =
     let ds = duties c.shifts in
     let short : length ds ≤ 64 = omega (arith, length-map c.shifts duty, cert.few) in
     let day = cells_of_day i.grammar i.cells sound.cells in
     record {
       few = omega (arith, length-map i.cells (column_of i.grammar ds), few_cells i.grammar i.cells sound.grammar.codes sound.grammar.few_periods sound.cells);
-      small = each_all (λ (x : Column). x.penalty ≤ 1280000) (map (column_of i.grammar ds) i.cells)
-          (Each-map (IsDayCell i.grammar) (λ (x : Column). x.penalty ≤ 1280000) (column_of i.grammar ds) (small i ds short) i.cells day);
+      small = each_all (λ (x : CellCover). x.penalty ≤ 1280000) (map (column_of i.grammar ds) i.cells)
+          (Each-map (IsDayCell i.grammar) (λ (x : CellCover). x.penalty ≤ 1280000) (column_of i.grammar ds) (small i ds short) i.cells day);
     }
 
 pub day_columns : (i : Instance) (c : Cert) → IsSoundInstance i → IsSoundCert i c → AreDayColumns (columns_of i c c.cost)

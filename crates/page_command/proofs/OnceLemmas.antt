@@ -31,6 +31,9 @@ use Rattle.page_labels.specs.declared.labels.Labels.{Labels}
 use Rattle.page_command.specs.Check.{AnswersLabelled, Judgement, LabelAnswers, yes, no}
 use Rattle.page_command.specs.Check as answers
 use Rattle.page_command.specs.Draw.{IsPage}
+use Rattle.page_command.specs.Shown.{IsShown}
+use Rattle.page_command.specs.declared.kind.Kind.{Kind}
+use Rattle.page_command.specs.declared.kind.Kind.TheVariants.{Page, Table}
 use Rattle.page_command.specs.OnePage.{AreSameButTrees, AreTreesOfRows, ArePagesButTrees}
 use Rattle.page_command.specs.Rows.{AreDerived, IsDerived, rules_of}
 
@@ -81,49 +84,54 @@ pages_once d i c a b h k =
       second = k.text;
     }
 
-judged_once : (d : Labels) (i : Instance) (c : Cert) (s t : ℕ) (a b : List ℕ) → Judgement d i c s a → Judgement d i c t b → AreAlike s t a b
-judged_once d i c s t a b (yes x h) (yes y k) = (refl, inr (pages_once d i c a b h.page k.page))
-judged_once d i c s t a b (yes x h) (no y k) = absurd (cause-refuses i c h.accepted k.why k.cause.holds)
-judged_once d i c s t a b (no x h) (yes y k) = absurd (cause-refuses i c k.accepted h.why h.cause.holds)
-judged_once d i c s t a b (no x h) (no y k) =
+-- two times what shows one certificate
+shown_once : (n : Kind) (d : Labels) (i : Instance) (c : Cert) (a b : List ℕ) → IsShown n d i c a → IsShown n d i c b → AreSameButTrees a b
+shown_once Page d i c a b h k = inr (pages_once d i c a b h k)
+shown_once Table d i c a b h k = inl (h ∙ sym k)
+
+judged_once : (n : Kind) (d : Labels) (i : Instance) (c : Cert) (s t : ℕ) (a b : List ℕ) → Judgement n d i c s a → Judgement n d i c t b → AreAlike s t a b
+judged_once n d i c s t a b (yes x h) (yes y k) = (refl, shown_once n d i c a b h.shown k.shown)
+judged_once n d i c s t a b (yes x h) (no y k) = absurd (cause-refuses i c h.accepted k.why k.cause.holds)
+judged_once n d i c s t a b (no x h) (yes y k) = absurd (cause-refuses i c k.accepted h.why h.cause.holds)
+judged_once n d i c s t a b (no x h) (no y k) =
     (refl, inl (h.line ∙ ap (λ (w : Why). verdict_text (No w)) (one-first i c h.why k.why h.cause k.cause) ∙ sym k.line))
 
 faults_same : (i : Instance) (text a b : List ℕ) → SaysProofFault i text a → SaysProofFault i text b → a ≡ b
 faults_same i text a b h k =
     h.line ∙ ap (λ (x : ProofFault). proof.fault_line x) (same_err (proof_of i text) h.fault k.fault h.reading k.reading) ∙ sym k.line
 
-proof_once : (d : Labels) (i : Instance) (text : List ℕ) (s t : ℕ) (a b : List ℕ) → ProofAnswers (Judgement d) i text s a → ProofAnswers (Judgement d) i text t b → AreAlike s t a b
-proof_once d i text s t a b (checks.ProofAnswers.accepted c x xs e h) (checks.ProofAnswers.accepted z y ys f k) =
-    judged_once d i z s t a b (subst (λ (q : Cert). Judgement d i q s a) (same_ok (proof_of i text) c z e f) h) k
-proof_once d i text s t a b (checks.ProofAnswers.accepted c x xs e h) (checks.ProofAnswers.refused ys k) = absurd (not_both (proof_of i text) c k.fault e k.reading)
-proof_once d i text s t a b (checks.ProofAnswers.refused xs h) (checks.ProofAnswers.accepted z y ys f k) = absurd (not_both (proof_of i text) z h.fault f h.reading)
-proof_once d i text s t a b (checks.ProofAnswers.refused xs h) (checks.ProofAnswers.refused ys k) = (refl, inl (faults_same i text a b h k))
+proof_once : (n : Kind) (d : Labels) (i : Instance) (text : List ℕ) (s t : ℕ) (a b : List ℕ) → ProofAnswers (Judgement n d) i text s a → ProofAnswers (Judgement n d) i text t b → AreAlike s t a b
+proof_once n d i text s t a b (checks.ProofAnswers.accepted c x xs e h) (checks.ProofAnswers.accepted z y ys f k) =
+    judged_once n d i z s t a b (subst (λ (q : Cert). Judgement n d i q s a) (same_ok (proof_of i text) c z e f) h) k
+proof_once n d i text s t a b (checks.ProofAnswers.accepted c x xs e h) (checks.ProofAnswers.refused ys k) = absurd (not_both (proof_of i text) c k.fault e k.reading)
+proof_once n d i text s t a b (checks.ProofAnswers.refused xs h) (checks.ProofAnswers.accepted z y ys f k) = absurd (not_both (proof_of i text) z h.fault f h.reading)
+proof_once n d i text s t a b (checks.ProofAnswers.refused xs h) (checks.ProofAnswers.refused ys k) = (refl, inl (faults_same i text a b h k))
 
 -- a text that is refused has no certificate
-fault_once : (d : Labels) (i : Instance) (text : List ℕ) (s : ℕ) (a b : List ℕ) → ProofAnswers (Judgement d) i text s a → SaysProofFault i text b → AreAlike s 5 a b
-fault_once d i text s a b (checks.ProofAnswers.accepted c x xs e h) k = absurd (not_both (proof_of i text) c k.fault e k.reading)
-fault_once d i text s a b (checks.ProofAnswers.refused xs h) k = (refl, inl (faults_same i text a b h k))
+fault_once : (n : Kind) (d : Labels) (i : Instance) (text : List ℕ) (s : ℕ) (a b : List ℕ) → ProofAnswers (Judgement n d) i text s a → SaysProofFault i text b → AreAlike s 5 a b
+fault_once n d i text s a b (checks.ProofAnswers.accepted c x xs e h) k = absurd (not_both (proof_of i text) c k.fault e k.reading)
+fault_once n d i text s a b (checks.ProofAnswers.refused xs h) k = (refl, inl (faults_same i text a b h k))
 
-once_fault : (d : Labels) (i : Instance) (text : List ℕ) (s : ℕ) (a b : List ℕ) → SaysProofFault i text b → ProofAnswers (Judgement d) i text s a → AreAlike 5 s b a
-once_fault d i text s a b k (checks.ProofAnswers.accepted c x xs e h) = absurd (not_both (proof_of i text) c k.fault e k.reading)
-once_fault d i text s a b k (checks.ProofAnswers.refused xs h) = (refl, inl (faults_same i text b a k h))
+once_fault : (n : Kind) (d : Labels) (i : Instance) (text : List ℕ) (s : ℕ) (a b : List ℕ) → SaysProofFault i text b → ProofAnswers (Judgement n d) i text s a → AreAlike 5 s b a
+once_fault n d i text s a b k (checks.ProofAnswers.accepted c x xs e h) = absurd (not_both (proof_of i text) c k.fault e k.reading)
+once_fault n d i text s a b k (checks.ProofAnswers.refused xs h) = (refl, inl (faults_same i text b a k h))
 
-labels_once : (labels : List ℕ) (i : Instance) (text : List ℕ) (s t : ℕ) (a b : List ℕ) → LabelAnswers labels i text s a → LabelAnswers labels i text t b → AreAlike s t a b
-labels_once labels i text s t a b (answers.LabelAnswers.answered d x xs e h) (answers.LabelAnswers.answered g y ys f k) =
-    proof_once g i text s t a b (subst (λ (q : Labels). ProofAnswers (Judgement q) i text s a) (same_ok (labels_of i labels) d g e f) h) k
-labels_once labels i text s t a b (answers.LabelAnswers.answered d x xs e h) (answers.LabelAnswers.labels_refused c ys f k) =
+labels_once : (n : Kind) (labels : List ℕ) (i : Instance) (text : List ℕ) (s t : ℕ) (a b : List ℕ) → LabelAnswers n labels i text s a → LabelAnswers n labels i text t b → AreAlike s t a b
+labels_once n labels i text s t a b (answers.LabelAnswers.answered d x xs e h) (answers.LabelAnswers.answered g y ys f k) =
+    proof_once n g i text s t a b (subst (λ (q : Labels). ProofAnswers (Judgement n q) i text s a) (same_ok (labels_of i labels) d g e f) h) k
+labels_once n labels i text s t a b (answers.LabelAnswers.answered d x xs e h) (answers.LabelAnswers.labels_refused c ys f k) =
     absurd (not_both (labels_of i labels) d k.fault e k.reading)
-labels_once labels i text s t a b (answers.LabelAnswers.answered d x xs e h) (answers.LabelAnswers.proof_refused ys k) = fault_once d i text s a b h k
-labels_once labels i text s t a b (answers.LabelAnswers.labels_refused c xs e h) (answers.LabelAnswers.answered d y ys f k) =
+labels_once n labels i text s t a b (answers.LabelAnswers.answered d x xs e h) (answers.LabelAnswers.proof_refused ys k) = fault_once n d i text s a b h k
+labels_once n labels i text s t a b (answers.LabelAnswers.labels_refused c xs e h) (answers.LabelAnswers.answered d y ys f k) =
     absurd (not_both (labels_of i labels) d h.fault f h.reading)
-labels_once labels i text s t a b (answers.LabelAnswers.labels_refused c xs e h) (answers.LabelAnswers.labels_refused z ys f k) =
+labels_once n labels i text s t a b (answers.LabelAnswers.labels_refused c xs e h) (answers.LabelAnswers.labels_refused z ys f k) =
     (refl, inl (h.line ∙ ap (λ (x : LabelFault). label.fault_line x) (same_err (labels_of i labels) h.fault k.fault h.reading k.reading) ∙ sym k.line))
-labels_once labels i text s t a b (answers.LabelAnswers.labels_refused c xs e h) (answers.LabelAnswers.proof_refused ys k) =
+labels_once n labels i text s t a b (answers.LabelAnswers.labels_refused c xs e h) (answers.LabelAnswers.proof_refused ys k) =
     absurd (not_both (proof_of i text) c k.fault e k.reading)
-labels_once labels i text s t a b (answers.LabelAnswers.proof_refused xs h) (answers.LabelAnswers.answered d y ys f k) = once_fault d i text t b a h k
-labels_once labels i text s t a b (answers.LabelAnswers.proof_refused xs h) (answers.LabelAnswers.labels_refused c ys f k) =
+labels_once n labels i text s t a b (answers.LabelAnswers.proof_refused xs h) (answers.LabelAnswers.answered d y ys f k) = once_fault n d i text t b a h k
+labels_once n labels i text s t a b (answers.LabelAnswers.proof_refused xs h) (answers.LabelAnswers.labels_refused c ys f k) =
     absurd (not_both (proof_of i text) c h.fault f h.reading)
-labels_once labels i text s t a b (answers.LabelAnswers.proof_refused xs h) (answers.LabelAnswers.proof_refused ys k) = (refl, inl (faults_same i text a b h k))
+labels_once n labels i text s t a b (answers.LabelAnswers.proof_refused xs h) (answers.LabelAnswers.proof_refused ys k) = (refl, inl (faults_same i text a b h k))
 
 -- answers to a proof text of which there is one
 abbrev IsOnce : TextAnswers → Type 0
@@ -165,15 +173,15 @@ module _ (A : TextAnswers) (once : IsOnce A) where
       rules_once held k.text demand proof s t a b
       (subst (λ (x : List ℕ). RulesAnswers A (Some held) x demand proof s a) (same_text held rules h.text k.text h.holds k.holds) h.answers) k.answers
 
-pub page_once : (held : Texts) (rules demand proof : List ℕ) (s t : ℕ) (a b : List ℕ) → AnswersTexts (ProofAnswers (Judgement nothing)) (Some held) rules demand proof s a
-    → AnswersTexts (ProofAnswers (Judgement nothing)) (Some held) rules demand proof t b → AreAlike s t a b
-page_once held rules demand proof s t a b h k = texts_once (ProofAnswers (Judgement nothing)) (proof_once nothing) held rules demand proof s t a b h k
+pub page_once : (n : Kind) (held : Texts) (rules demand proof : List ℕ) (s t : ℕ) (a b : List ℕ) → AnswersTexts (ProofAnswers (Judgement n nothing)) (Some held) rules demand proof s a
+    → AnswersTexts (ProofAnswers (Judgement n nothing)) (Some held) rules demand proof t b → AreAlike s t a b
+page_once n held rules demand proof s t a b h k = texts_once (ProofAnswers (Judgement n nothing)) (proof_once n nothing) held rules demand proof s t a b h k
 
-pub labelled_once : (held : Texts) (rules demand proof labels : List ℕ) (s t : ℕ) (a b : List ℕ) → AnswersLabelled (Some held) rules demand proof labels s a
-    → AnswersLabelled (Some held) rules demand proof labels t b → AreAlike s t a b
-labelled_once held rules demand proof labels s t a b h k =
+pub labelled_once : (n : Kind) (held : Texts) (rules demand proof labels : List ℕ) (s t : ℕ) (a b : List ℕ) → AnswersLabelled n (Some held) rules demand proof labels s a
+    → AnswersLabelled n (Some held) rules demand proof labels t b → AreAlike s t a b
+labelled_once n held rules demand proof labels s t a b h k =
     let rules_same = same_text held rules h.text k.text h.holds k.holds in
     let labels_same = same_text held labels h.answers.text k.answers.text h.answers.holds k.answers.holds in
-    let by_rules = subst (λ (x : List ℕ). RulesAnswers (LabelAnswers h.answers.text) (Some held) x demand proof s a) rules_same h.answers.answers in
-    let by_labels = subst (λ (x : List ℕ). RulesAnswers (LabelAnswers x) (Some held) k.text demand proof s a) labels_same by_rules in
-    rules_once (LabelAnswers k.answers.text) (labels_once k.answers.text) held k.text demand proof s t a b by_labels k.answers.answers
+    let by_rules = subst (λ (x : List ℕ). RulesAnswers (LabelAnswers n h.answers.text) (Some held) x demand proof s a) rules_same h.answers.answers in
+    let by_labels = subst (λ (x : List ℕ). RulesAnswers (LabelAnswers n x) (Some held) k.text demand proof s a) labels_same by_rules in
+    rules_once (LabelAnswers n k.answers.text) (labels_once n k.answers.text) held k.text demand proof s t a b by_labels k.answers.answers

@@ -11,7 +11,7 @@ use Rattle.page_labels.specs.Labels.{code_words}
 use Rattle.page_labels.specs.declared.labels.Labels.{Labels}
 use Rattle.page_parts.specs.Elements.{places, written}
 use Rattle.page_text.specs.Columns.{column_of}
-use Rattle.page_text.specs.declared.column.Column.{Column}
+use Rattle.page_text.specs.declared.column.CellCover.{CellCover}
 use Rattle.page_text.specs.declared.figures.Figures.{Figures}
 use Rattle.page_text.specs.Pages.{page}
 use Rattle.page_text.specs.declared.content.Content.{Content}
@@ -19,7 +19,7 @@ use Rattle.roster_tables.specs.TablesOf.{tables_of}
 use Rattle.page_command.specs.Rows.{AreDerived, rows_of}
 
 -- how each cell is covered, where there is a roster
-abbrev pub columns_of : Instance → Cert → Option ℕ → List Column
+abbrev pub columns_of : Instance → Cert → Option ℕ → List CellCover
 columns_of i c None = []
 columns_of i c (Some cost) = map (column_of i.grammar (duties c.shifts)) i.cells
 

@@ -1,6 +1,7 @@
 pub mod Rows
 pub mod Draw
 pub mod Check
+pub mod Shown
 pub mod Statuses
 pub mod OnePage
 pub mod Run

@@ -7,7 +7,8 @@ use Rattle.page_text.specs.declared.content.Content.{Content}
 use Rattle.page_text.specs.declared.row.Row.{Row}
 use Rattle.shelf.specs.Shelf.{Texts}
 use Rattle.text_commands.specs.SameTexts.{AreTreesAtOnePrice}
-use Rattle.page_command.specs.Check.{AnswersLabelled, AnswersPage}
+use Rattle.page_command.specs.Check.{AnswersLabelled, AnswersShown}
+use Rattle.page_command.specs.declared.kind.Kind.{Kind}
 
 -- for each row two derivations of its word, at one price
 abbrev pub AreTreesOfRows : List Row → List (List ℕ) → List (List ℕ) → Type 0
@@ -43,14 +44,14 @@ AreSameButTrees a b = (a ≡ b) ⊎ ArePagesButTrees a b
 -- too, but for the trees of the derivations of a page
 abbrev pub HaveOnePage : Type 0
 HaveOnePage =
-    (held : Texts) (rules demand proof : List ℕ) (s t : ℕ) (a b : List ℕ)
-    → AnswersPage (Some held) rules demand proof s a → AnswersPage (Some held) rules demand proof t b
+    (k : Kind) (held : Texts) (rules demand proof : List ℕ) (s t : ℕ) (a b : List ℕ)
+    → AnswersShown k (Some held) rules demand proof s a → AnswersShown k (Some held) rules demand proof t b
     → (s ≡ t) × AreSameButTrees a b
 
 -- the same of two answers to the same four texts
 abbrev pub HaveOneLabelledPage : Type 0
 HaveOneLabelledPage =
-    (held : Texts) (rules demand proof labels : List ℕ) (s t : ℕ) (a b : List ℕ)
-    → AnswersLabelled (Some held) rules demand proof labels s a
-    → AnswersLabelled (Some held) rules demand proof labels t b
+    (k : Kind) (held : Texts) (rules demand proof labels : List ℕ) (s t : ℕ) (a b : List ℕ)
+    → AnswersLabelled k (Some held) rules demand proof labels s a
+    → AnswersLabelled k (Some held) rules demand proof labels t b
     → (s ≡ t) × AreSameButTrees a b

@@ -6,22 +6,25 @@ ghost use Rattle.page_text.specs.Costs.{AreDayColumns};
 ghost use Rattle.proof_pieces.specs.CertOf.{proof_of};
 ghost use Rattle.roster_model.specs.SoundInstance.{IsSoundInstance};
 ghost use Rattle.roster_report.specs.Reports.{HasSoundShifts};
+ghost use Rattle.page_command.specs.Shown.{IsShown};
 ghost use Rattle.page_command.specs.Draw.{IsContent, IsPage, columns_of, figures_of, words_of};
 
 use crate::derived::derivations;
+use crate::kind::Kind;
 use crate::rows::{copied, rows_of};
 use answers::Answer;
 use certificate_text::{ProofFault, read_cert};
 use certificates::Cert;
 use page_labels::{Labels, code_words};
-use page_text::{Column, Content, Figures, add_columns, write_page};
+use page_text::{CellCover, Content, Figures, add_columns, write_page};
+use roster_csv::table_of;
 use roster_model::{CodeDef, Instance, List, Memory, Shift};
 use roster_report::paid;
 use roster_tables::tables_of;
 use std::alloc::Global;
 
 // Returns how each cell is covered, where there is a roster.
-fn columns_of(alloc: Global, instance: &Instance, cert: &Cert) -> Result<List<Column>, Memory>
+fn columns_of(alloc: Global, instance: &Instance, cert: &Cert) -> Result<List<CellCover>, Memory>
     requires sound { IsSoundInstance instance.now }
     requires cert { IsSoundCert instance.now cert.now }
     ensures { IfOk result (λ columns. columns ≡ columns_of instance.now cert.now cert.now.cost) }
@@ -147,13 +150,33 @@ fn cert_of(alloc: Global, instance: &Instance, text: &[u8]) -> Result<Cert, Memo
     }
 }
 
-/// Says the page of an accepted certificate under labels.
+// Returns what shows a certificate under labels.
+fn shown(
+    alloc: Global,
+    kind: Kind,
+    instance: &Instance,
+    labels: &Labels,
+    cert: &Cert,
+) -> Result<List<u8>, Memory>
+    requires sound { IsSoundInstance instance.now }
+    requires cert { IsSoundCert instance.now cert.now }
+    requires stated { IfSome cert.now.cost (IsStated instance.now cert.now.shifts) }
+    ensures { IfOk result (IsShown kind labels.now instance.now cert.now) }
+{
+    match kind {
+        Kind::Page => drawn(alloc, instance, labels, cert),
+        Kind::Table => table_of(alloc, instance, labels, cert.shifts.as_slice()),
+    }
+}
+
+/// Says what shows an accepted certificate under labels.
 ///
 /// # Errors
 ///
 /// `Memory` where memory runs out; there is no answer then.
-pub fn page_answer(
+pub fn shown_answer(
     alloc: Global,
+    kind: Kind,
     instance: &Instance,
     labels: &Labels,
     text: &[u8],
@@ -162,11 +185,11 @@ pub fn page_answer(
     requires accepted { (c : Certificate) × (proof_of instance.now text.now ≡ Is c)
         × Accepts instance.now c }
     ensures { IfOk result (λ a. (a.status ≡ 0) × ((c : Certificate) → proof_of instance.now text.now ≡ Is c
-        → IsPage labels.now instance.now c a.output)) }
+        → IsShown kind labels.now instance.now c a.output)) }
 {
     let cert = cert_of(alloc, instance, text)?;
     Ok(Answer {
         status: 0,
-        output: drawn(alloc, instance, labels, &cert)?,
+        output: shown(alloc, kind, instance, labels, &cert)?,
     })
 }

@@ -5,6 +5,7 @@ mod check;
 mod derived;
 mod draw;
 mod form;
+mod kind;
 mod laws;
 mod program;
 mod rows;

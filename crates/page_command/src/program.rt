@@ -8,11 +8,12 @@ use answers::say;
 use shelf::Shelf;
 use std::alloc::Global;
 
-const NO_FORM: &[u8] = b"words: page RULES DEMAND PROOF [LABELS]\n";
+const NO_FORM: &[u8] =
+    b"words: page RULES DEMAND PROOF [LABELS] | table RULES DEMAND PROOF [LABELS]\n";
 
 // What is noted where the words are of no form.
 const FORM: &str = "RULES DEMAND PROOF LABELS are the names of texts; \
-the page of the certificate PROOF is printed, under the labels LABELS where they are named";
+the page of the certificate PROOF, or the table of its roster, is printed, under the labels LABELS where they are named";
 
 // Says that words are of no form.
 fn say_no_form<S: Shelf>(shelf: &mut S) -> u8
@@ -29,14 +30,14 @@ fn refuse_words<S: Shelf>(shelf: &mut S) -> u8
     say_no_form(shelf)
 }
 
-/// Draws the certificate of the texts that the words `page RULES DEMAND PROOF` name, under the labels text that
-/// `page RULES DEMAND PROOF LABELS` names, and returns the status:
+/// Says the page of the certificate of the texts that the words `page RULES DEMAND PROOF` name, or with `table` in
+/// place of `page` the table of its roster, under the labels text that a fifth word names, and returns the status:
 ///
 /// | status | comes |
 /// |---|---|
-/// | 0 | the certificate is accepted; the page is said |
+/// | 0 | the certificate is accepted; the page or the table is said |
 /// | 1 | the certificate is refused |
-/// | 2 | the words are of neither form |
+/// | 2 | the words are of no form |
 /// | 3 | the rules text is refused |
 /// | 4 | the demand text is refused |
 /// | 5 | the proof text or the labels text is refused |
@@ -44,22 +45,26 @@ fn refuse_words<S: Shelf>(shelf: &mut S) -> u8
 /// | 7 | memory did not suffice |
 ///
 /// Nothing is stored. With 1, 3, 4 and 5 one line is said, the one that `check` of the roster program says, or of the
-/// labels text as `labels: line 2: said twice`, and with 2 the line `words: page RULES DEMAND PROOF [LABELS]`. With 6 and 7 no more is said than a front of an answer.
+/// labels text as `labels: line 2: said twice`, and with 2 the line
+/// `words: page RULES DEMAND PROOF [LABELS] | table RULES DEMAND PROOF [LABELS]`. With 6 and 7 no more is said than
+/// a front of an answer.
 pub fn run<S: Shelf>(alloc: Global, shelf: &mut S, words: &[String]) -> u8
     ensures { Does (map string_bytes words.now) (S.told shelf.old) (S.told shelf.new) result }
 {
     match form_of(words) {
-        Form::Page {
+        Form::Shown {
+            kind,
             rules,
             demand,
             proof,
-        } => draw(alloc, shelf, rules, demand, proof),
+        } => draw(alloc, shelf, kind, rules, demand, proof),
         Form::Labelled {
+            kind,
             rules,
             demand,
             proof,
             labels,
-        } => draw_labelled(alloc, shelf, rules, demand, proof, labels),
+        } => draw_labelled(alloc, shelf, kind, rules, demand, proof, labels),
         Form::None => refuse_words(shelf),
     }
 }

@@ -42,6 +42,17 @@ rule O 0 = '.' O\n";
 const MARKS: &str =
     "periods 2\nwork < & \"\nidle >\nstart S\nrule S 1 = '<' '&'\nrule S 1 = '\"' '>'\n";
 
+const HALVES: &str = "\
+periods 2\n\
+work a\n\
+idle .\n\
+start S\n\
+rule S 0 = F\n\
+rule S 0 = H\n\
+rule F 3 = 'a' 'a'\n\
+rule H 1 = 'a' '.'\n\
+rule H 1 = '.' 'a'\n";
+
 const CENTRE: &str = "\
 heads 0 1\n\
 need a 30 1 0 0 0 0 1 1 2 2 3 3 2 2 1 1 2 2 3 3 2 2 1 1 0 0\n\
@@ -67,7 +78,7 @@ bare\n\
 end\n";
 
 // The texts that each shelf of a test holds, by name: rules, demands and certificates.
-const TEXTS: [(&str, &str); 24] = [
+const TEXTS: [(&str, &str); 29] = [
     ("g1", G1),
     ("g3", G3),
     ("marks", MARKS),
@@ -107,6 +118,14 @@ const TEXTS: [(&str, &str); 24] = [
     ("empty", ""),
     ("twice", "title a\ntitle b\n"),
     ("named", "title <Day>\nclock 7:00 30\ncode a R&D\n"),
+    ("called", "clock 7:00 30\ncode a =desk, phone\n"),
+    ("halves", HALVES),
+    ("groups", "group F 0 1\ngroup H 1 2\nneed a 10 2 2 1\n"),
+    (
+        "staff",
+        "proof 2\ncost 4\nbound 0\nshift F aa 3\nshift H a. 1\nbare\nend\n",
+    ),
+    ("team", "group F full time\n"),
 ];
 
 /// Puts the texts of the tests on a shelf.
@@ -139,28 +158,16 @@ fn has(text: &[u8], part: &str) -> bool {
     part.len() > 0 && text.windows(part.len()).any(|window| window == part)
 }
 
+/// What is said of words of no form.
+const FORMS: &str = "words: page RULES DEMAND PROOF [LABELS] | table RULES DEMAND PROOF [LABELS]\n";
+
 /// The words, the number of the call that fails or 0, the status, and with what begins what is said.
 type End<'a> = (&'a [&'a str], u32, u8, &'a str);
 
 const ENDS: [End<'static>; 15] = [
-    (
-        &["g1", "two"],
-        0,
-        2,
-        "words: page RULES DEMAND PROOF [LABELS]\n",
-    ),
-    (
-        &["g1", "two", "best"],
-        0,
-        2,
-        "words: page RULES DEMAND PROOF [LABELS]\n",
-    ),
-    (
-        &["check", "g1", "two", "best"],
-        0,
-        2,
-        "words: page RULES DEMAND PROOF [LABELS]\n",
-    ),
+    (&["g1", "two"], 0, 2, FORMS),
+    (&["g1", "two", "best"], 0, 2, FORMS),
+    (&["check", "g1", "two", "best"], 0, 2, FORMS),
     (
         &["page", "cycle", "absent", "absent"],
         0,
@@ -482,6 +489,53 @@ fn labels_stand_on_the_page(rt: HostRuntime) -> Result<(), Fail> {
     let words = ["page", "g1", "two", "best", "named"];
     assert!(rt; answer(rt.alloc(), &mut shelf, &words)? == 0);
     assert!(rt; LABELLED.iter().all(|part| has(shelf.said(), part)));
+    Ok(())
+}
+
+/// What is asked, and the records behind the first one.
+type TableCase<'a> = (&'a [&'a str], &'a str);
+
+/// What stands above the records of a table.
+const HEAD: &str = "shift,group,code,name,first,last,begin,end,price\n";
+
+const SHEETS: [TableCase<'static>; 5] = [
+    (
+        &["table", "g1", "two", "best"],
+        "1,,.,,1,1,,,5\n1,,a,,2,4,,,\n2,,a,,1,3,,,5\n2,,.,,4,4,,,\n",
+    ),
+    (
+        &["table", "g1", "two", "best", "called"],
+        "1,,.,,1,1,7:00,7:30,5\n1,,a,\"'=desk, phone\",2,4,7:30,9:00,\n\
+2,,a,\"'=desk, phone\",1,3,7:00,8:30,5\n2,,.,,4,4,8:30,9:00,\n",
+    ),
+    (
+        &["table", "marks", "marked", "mark"],
+        "1,,\"\"\"\",,1,1,,,1\n1,,>,,2,2,,,\n2,,<,,1,1,,,1\n2,,&,,2,2,,,\n",
+    ),
+    (
+        &["table", "halves", "groups", "staff", "team"],
+        "1,full time,a,,1,2,,,3\n2,H,a,,1,1,,,1\n2,H,.,,2,2,,,\n",
+    ),
+    (&["table", "g1", "two", "stated"], ""),
+];
+
+/// Whether the table that words ask for has these records, on a shelf of its own.
+fn is_sheet(alloc: Global, sheet: &TableCase<'_>) -> Result<bool, Fail> {
+    let mut shelf = shelf(alloc, &[])?;
+    let status = answer(alloc, &mut shelf, sheet.0)?;
+    let said = shelf.said();
+    Ok(
+        status == 0
+            && said.starts_with(HEAD.as_bytes())
+            && said.get(HEAD.len()..) == Some(sheet.1.as_bytes()),
+    )
+}
+
+#[test]
+fn tables_list_their_rosters(rt: HostRuntime) -> Result<(), Fail> {
+    for sheet in &SHEETS {
+        assert!(rt; is_sheet(rt.alloc(), sheet)?);
+    }
     Ok(())
 }
 

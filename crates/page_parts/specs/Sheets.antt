@@ -1,30 +1,30 @@
 -- The places of periods and rows.
 use Rattle.std.specs.Prelude.{ℕ, ◌+◌, ◌*◌, ◌/◌, min, max}
-use Rattle.page_parts.specs.declared.sheet.Sheet.{Sheet}
+use Rattle.page_parts.specs.declared.sheet.PeriodAxis.{PeriodAxis}
 
 -- how wide a period is
 abbrev pub width_of : ℕ → ℕ
 width_of periods = min (960 / max periods 1) 40
 
 -- the sheet of so many periods, with room for names of so many bytes
-abbrev pub sheet_of : ℕ → ℕ → Sheet
+abbrev pub sheet_of : ℕ → ℕ → PeriodAxis
 sheet_of periods longest =
     record { left = 56 + 8 * min longest 40; cell = width_of periods; periods = periods }
 
 -- where the period behind so many begins
-abbrev pub left_of : Sheet → ℕ → ℕ
+abbrev pub left_of : PeriodAxis → ℕ → ℕ
 left_of s place = s.left + s.cell * place
 
 -- where the middle of that period is
-abbrev pub middle_of : Sheet → ℕ → ℕ
+abbrev pub middle_of : PeriodAxis → ℕ → ℕ
 middle_of s place = left_of s place + s.cell / 2
 
 -- where the last period ends
-abbrev pub right_of : Sheet → ℕ
+abbrev pub right_of : PeriodAxis → ℕ
 right_of s = left_of s s.periods
 
 -- how wide a chart is
-abbrev pub chart_width : Sheet → ℕ
+abbrev pub chart_width : PeriodAxis → ℕ
 chart_width s = right_of s + 72
 
 -- where a row begins

@@ -15,4 +15,4 @@ pub use element::{bar, caption, figure, given, marks, number};
 pub use label::{labelled, labelled_text};
 pub use laws::{bytes_are_escaped, paints_stay};
 pub use paint::paint_of;
-pub use sheet::{Sheet, chart_width, left_of, middle_of, right_of, sheet_of, top_of};
+pub use sheet::{PeriodAxis, chart_width, left_of, middle_of, right_of, sheet_of, top_of};

@@ -3,7 +3,7 @@ ghost use Rattle.page_parts.specs.Sheets.{chart_width, left_of, middle_of, right
 
 /// Where the periods stand on the charts of a page.
 #[derive(Clone, Copy, Debug, PartialEq, Eq, Drop)]
-pub struct Sheet {
+pub struct PeriodAxis {
     /// Where the first period begins, from the left.
     pub left: u32,
     /// How wide a period is.
@@ -20,10 +20,10 @@ fn width_of(periods: u8) -> u8
 }
 
 /// Returns the sheet of so many periods, with room for names of so many bytes, at most 40.
-pub fn sheet_of(periods: u8, longest: usize) -> Sheet
+pub fn sheet_of(periods: u8, longest: usize) -> PeriodAxis
     ensures { result ≡ sheet_of periods longest }
 {
-    Sheet {
+    PeriodAxis {
         left: 56 + 8 * longest.min(40) as u32,
         cell: width_of(periods),
         periods,
@@ -39,7 +39,7 @@ fn times(a: u8, b: u8) -> u64
 }
 
 /// Returns where the period behind so many begins.
-pub fn left_of(sheet: Sheet, place: u8) -> u64
+pub fn left_of(sheet: PeriodAxis, place: u8) -> u64
     ensures value { result ≡ left_of sheet place }
     ensures small { result ≤ 2 ^ 33 }
 {
@@ -47,7 +47,7 @@ pub fn left_of(sheet: Sheet, place: u8) -> u64
 }
 
 /// Returns where the middle of the period behind so many is.
-pub fn middle_of(sheet: Sheet, place: u8) -> u64
+pub fn middle_of(sheet: PeriodAxis, place: u8) -> u64
     ensures value { result ≡ middle_of sheet place }
     ensures small { result ≤ 2 ^ 34 }
 {
@@ -55,7 +55,7 @@ pub fn middle_of(sheet: Sheet, place: u8) -> u64
 }
 
 /// Returns where the last period ends.
-pub fn right_of(sheet: Sheet) -> u64
+pub fn right_of(sheet: PeriodAxis) -> u64
     ensures value { result ≡ right_of sheet }
     ensures small { result ≤ 2 ^ 33 }
 {
@@ -63,7 +63,7 @@ pub fn right_of(sheet: Sheet) -> u64
 }
 
 /// Returns how wide a chart is.
-pub fn chart_width(sheet: Sheet) -> u64
+pub fn chart_width(sheet: PeriodAxis) -> u64
     ensures { result ≡ chart_width sheet }
 {
     right_of(sheet) + 72

@@ -5,7 +5,7 @@ use Rattle.std.specs.Prelude.{codes}
 use Rattle.roster_model.specs.declared.grammar.CodeDef.{CodeDef}
 use Rattle.page_parts.specs.Elements.{Element, element_text, marks, written}
 use Rattle.page_parts.specs.Sheets.{sheet_of}
-use Rattle.page_parts.specs.declared.sheet.Sheet.{Sheet}
+use Rattle.page_parts.specs.declared.sheet.PeriodAxis.{PeriodAxis}
 use Rattle.page_text.specs.Alike.{EndsWith}
 use Rattle.page_text.specs.Inputs.{longest}
 use Rattle.page_text.specs.Pages.{body, coverage_part, derivations_part, page, shifts_part, top_part}
@@ -23,7 +23,7 @@ last : EndsWith (codes "</html>\n") (written (marks (codes "</main>\n</body>\n</
 unfolding element_text
 last = record { front = codes "</main>\n</body>\n"; whole = refl }
 
-body_ends : (s : Sheet) (cs : List CodeDef) (c : Content) → EndsWith (codes "</html>\n") (written (body s cs c))
+body_ends : (s : PeriodAxis) (cs : List CodeDef) (c : Content) → EndsWith (codes "</html>\n") (written (body s cs c))
 unfolding body
 body_ends s cs c =
     behind (codes "</html>\n") (top_part cs c) _

@@ -4,10 +4,10 @@ use Rattle.roster_model.specs.declared.grammar.Grammar.{Grammar}
 use Rattle.roster_model.specs.declared.instance.Cell.{Cell}
 use Rattle.roster_model.specs.Coverage.{covered, understaffing, overstaffing, penalty}
 use Rattle.roster_model.specs.Duties.{Duty}
-use Rattle.page_text.specs.declared.column.Column.{Column}
+use Rattle.page_text.specs.declared.column.CellCover.{CellCover}
 
 -- how the employees cover a cell, and what that costs
-abbrev pub column_of : Grammar → List Duty → Cell → Column
+abbrev pub column_of : Grammar → List Duty → Cell → CellCover
 column_of g ds c = record {
   code = c.code;
   period = c.period;

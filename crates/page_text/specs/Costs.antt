@@ -4,7 +4,7 @@ use Rattle.std.specs.List.{list_any}
 use Rattle.roster_model.specs.declared.grammar.CodeDef.{CodeDef}
 use Rattle.page_parts.specs.Elements.{Element, each_from, marks, given, number}
 use Rattle.page_parts.specs.Paints.{paint_of}
-use Rattle.page_text.specs.declared.column.Column.{Column}
+use Rattle.page_text.specs.declared.column.CellCover.{CellCover}
 use Rattle.page_text.specs.declared.figures.Figures.{Figures}
 use Rattle.shift_figures.specs.Bounds.{saving_at}
 use Rattle.shift_figures.specs.declared.bound.Saving.{Saving}
@@ -63,32 +63,32 @@ chip cs byte =
     ∷ marks (codes "</span>") ∷ []
 
 -- some column is of the code
-abbrev pub is_demanded : ℕ → List Column → Bool
-is_demanded code columns = list_any (λ (c : Column). nat_eq c.code code) columns
+abbrev pub is_demanded : ℕ → List CellCover → Bool
+is_demanded code columns = list_any (λ (c : CellCover). nat_eq c.code code) columns
 
 -- a sum with the penalty of a column, where it is of the code
-unfoldable pub with_penalty : ℕ → ℕ → Column → ℕ
+unfoldable pub with_penalty : ℕ → ℕ → CellCover → ℕ
 with_penalty code sum c = if nat_eq c.code code then sum + c.penalty else sum
 
 -- a sum to which the penalties of a code are added
-abbrev pub penalties : ℕ → List Column → ℕ → ℕ
+abbrev pub penalties : ℕ → List CellCover → ℕ → ℕ
 penalties code [] sum = sum
 penalties code (c ∷ cs) sum = penalties code cs (with_penalty code sum c)
 
 -- the columns of at most 8 codes in at most 96 periods, each with the penalty of at most 64 employees
-pub record AreDayColumns (columns : List Column) : Type 0 where
+pub record AreDayColumns (columns : List CellCover) : Type 0 where
   pub few : length columns ≤ 768
-  pub small : All (λ (c : Column). c.penalty ≤ 1280000) columns
+  pub small : All (λ (c : CellCover). c.penalty ≤ 1280000) columns
 
-unfoldable pub demanded_cost : List CodeDef → List Column → ℕ → CodeDef → List Element
+unfoldable pub demanded_cost : List CodeDef → List CellCover → ℕ → CodeDef → List Element
 demanded_cost cs columns place c =
     marks (codes "<div><dt>Penalty for ") ∷ chip cs c.byte
     ++ marks (codes "</dt><dd>") ∷ number (penalties place columns 0) ∷ marks (codes "</dd></div>") ∷ []
 
-unfoldable pub code_cost : List CodeDef → List Column → ℕ → CodeDef → List Element
+unfoldable pub code_cost : List CodeDef → List CellCover → ℕ → CodeDef → List Element
 code_cost cs columns place c = if is_demanded place columns then demanded_cost cs columns place c else []
 
-abbrev pub code_costs : List CodeDef → List Column → List Element
+abbrev pub code_costs : List CodeDef → List CellCover → List Element
 code_costs cs columns = each_from (code_cost cs columns) 0 cs
 
 -- what the shifts and the penalties come to
@@ -103,7 +103,7 @@ unfoldable pub sums : Figures → Option ℕ → List Element
 sums f None = []
 sums f (Some cost) = both_sums f
 
-unfoldable pub costs : List CodeDef → Figures → List Column → List Element
+unfoldable pub costs : List CodeDef → Figures → List CellCover → List Element
 costs cs f columns =
     (marks (codes "<dl><div><dt>Total cost</dt><dd>") ∷ amount f.cost)
     ++ ((marks (codes "</dd></div><div><dt>Bound</dt><dd>") ∷ amount f.bound)

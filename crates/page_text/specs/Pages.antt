@@ -4,9 +4,9 @@ use Rattle.std.specs.List.{flat_map}
 use Rattle.roster_model.specs.declared.grammar.CodeDef.{CodeDef}
 use Rattle.page_parts.specs.Elements.{Element, each_from, marks, given, number, caption, places}
 use Rattle.page_parts.specs.Sheets.{chart_width, sheet_of}
-use Rattle.page_parts.specs.declared.sheet.Sheet.{Sheet}
+use Rattle.page_parts.specs.declared.sheet.PeriodAxis.{PeriodAxis}
 use Rattle.page_text.specs.Costs.{chip, costs, is_demanded, sentence}
-use Rattle.page_text.specs.declared.column.Column.{Column}
+use Rattle.page_text.specs.declared.column.CellCover.{CellCover}
 use Rattle.page_text.specs.Charts.{frame, in_words, inked, lines, top_count, unit_of}
 use Rattle.page_text.specs.Inputs.{longest}
 use Rattle.page_text.specs.declared.ink.Ink.TheVariants.{Bars}
@@ -40,7 +40,7 @@ abbrev pub legend : List CodeDef → List (List ℕ) → List Element
 legend cs words = each_from (legend_item cs words) 0 cs
 
 -- the word over the prices
-unfoldable pub price_head : Sheet → List Element
+unfoldable pub price_head : PeriodAxis → List Element
 price_head s = caption (codes "mark") (chart_width s - 14) 20 (codes "price") ∷ []
 
 -- how high the chart of so many rows is
@@ -48,7 +48,7 @@ unfoldable pub height_of : ℕ → ℕ
 height_of rows = 40 + 26 * rows
 
 -- the chart of the shifts
-unfoldable pub shifts : Sheet → List CodeDef → List (List ℕ) → List Row → List Element
+unfoldable pub shifts : PeriodAxis → List CodeDef → List (List ℕ) → List Row → List Element
 shifts s cs words rows =
     marks (codes "<section><h2>Shifts</h2>\n<ul class='legend'>") ∷ legend cs words
     ++ (marks (codes "</ul>\n<div class='scroll'><svg class='roster' role='group' aria-label='Shifts of the roster, one row a shift")
@@ -57,25 +57,25 @@ shifts s cs words rows =
     ++ marks (codes "</svg></div>\n<p class='hint'>Point at a shift, or go to it with the Tab key, and see how the rules derive it.</p></section>\n") ∷ []))))
 
 -- the chart of a code's coverage
-unfoldable pub chart_head : List CodeDef → Sheet → List Column → ℕ → CodeDef → List Element
+unfoldable pub chart_head : List CodeDef → PeriodAxis → List CellCover → ℕ → CodeDef → List Element
 chart_head cs s columns place c =
     (marks (codes "<figure><figcaption>") ∷ chip cs c.byte)
     ++ (marks (codes "</figcaption><div class='scroll'><svg role='img' aria-label='Coverage of ") ∷ given (c.byte ∷ [])
     ∷ marks (codes ". ")
     ∷ (in_words s place columns ++ size (chart_width s) 132))
 
-unfoldable pub chart_body : Sheet → List Column → ℕ → ℕ → ℕ → List Element
+unfoldable pub chart_body : PeriodAxis → List CellCover → ℕ → ℕ → ℕ → List Element
 chart_body s columns place top unit =
     inked Bars s unit place columns
     ++ (frame s unit top
     ++ (lines s unit place columns ++ (ticks s 127 ++ marks (codes "</svg></div></figure>\n") ∷ [])))
 
-unfoldable pub chart : List CodeDef → Sheet → List Column → ℕ → CodeDef → List Element
+unfoldable pub chart : List CodeDef → PeriodAxis → List CellCover → ℕ → CodeDef → List Element
 chart cs s columns place c =
     if is_demanded place columns then chart_head cs s columns place c
     ++ chart_body s columns place (top_count place columns 1) (unit_of (top_count place columns 1)) else []
 
-abbrev pub charts : List CodeDef → Sheet → List Column → List Element
+abbrev pub charts : List CodeDef → PeriodAxis → List CellCover → List Element
 charts cs s columns = each_from (chart cs s columns) 0 cs
 
 unfoldable pub chart_legend : List ℕ
@@ -84,7 +84,7 @@ chart_legend =
     ++ codes "<li><span class='key over'></span>surplus</li><li><span class='key need'></span>need</li><li><span class='key floor'></span>floor</li>"
     ++ codes "<li><span class='key ceiling'></span>ceiling</li></ul>\n<div class='charts'>\n"
 
-unfoldable pub coverage : List CodeDef → Sheet → List Column → List Element
+unfoldable pub coverage : List CodeDef → PeriodAxis → List CellCover → List Element
 coverage cs s columns = marks chart_legend ∷ (charts cs s columns ++ marks (codes "</div></section>\n") ∷ [])
 
 -- what shows the derivation of a shift that is pointed at
@@ -120,10 +120,10 @@ titled_derivations rows texts =
 unfoldable pub derivations_part : List Row → List (List ℕ) → List Element
 derivations_part rows texts = if nat_lt 0 (length texts) then titled_derivations rows texts else []
 
-unfoldable pub before_style : List ℕ
-before_style =
+unfoldable pub before_title : List ℕ
+before_title =
     codes "<!DOCTYPE html>\n<html lang='en'>\n<head>\n<meta charset='utf-8'>\n"
-    ++ codes "<meta name='viewport' content='width=device-width, initial-scale=1'>\n<title>Roster</title>\n<style>\n"
+    ++ codes "<meta name='viewport' content='width=device-width, initial-scale=1'>\n<title>"
 
 -- the title of the day, or `Roster`
 unfoldable pub title_of : List ℕ → List ℕ
@@ -131,7 +131,7 @@ title_of title = if nat_lt 0 (length title) then title else codes "Roster"
 
 unfoldable pub head : List ℕ → List (List ℕ) → List Element
 head title texts =
-    marks before_style ∷ marks style ∷
+    marks before_title ∷ given (title_of title) ∷ marks (codes "</title>\n<style>\n") ∷ marks style ∷
     (all_show texts ++ marks (codes "</style>\n</head>\n<body>\n<main>\n<header><h1>") ∷ given (title_of title)
     ∷ marks (codes "</h1><p>") ∷ [])
 
@@ -140,13 +140,13 @@ top_part cs c =
     head c.title c.derivations ++ (sentence c.figures.cost c.figures.bound
     ++ (marks (codes "</p></header>\n") ∷ costs cs c.figures c.columns))
 
-unfoldable pub shifts_part : Sheet → List CodeDef → List (List ℕ) → List Row → List Element
+unfoldable pub shifts_part : PeriodAxis → List CodeDef → List (List ℕ) → List Row → List Element
 shifts_part s cs words rows = if nat_lt 0 (length rows) then shifts s cs words rows else []
 
-unfoldable pub coverage_part : Sheet → List CodeDef → List Column → List Element
+unfoldable pub coverage_part : PeriodAxis → List CodeDef → List CellCover → List Element
 coverage_part s cs columns = if nat_lt 0 (length columns) then coverage cs s columns else []
 
-unfoldable pub body : Sheet → List CodeDef → Content → List Element
+unfoldable pub body : PeriodAxis → List CodeDef → Content → List Element
 body s cs c =
     top_part cs c ++ (shifts_part s cs c.words c.rows ++ (coverage_part s cs c.columns ++ (page_tables c.tables ++ (derivations_part c.rows c.derivations
     ++ marks (codes "</main>\n</body>\n</html>\n") ∷ []))))

@@ -5,22 +5,22 @@ use Rattle.roster_model.specs.declared.grammar.CodeDef.{CodeDef}
 use Rattle.page_parts.specs.Elements.{Element, each_from, marks, given, number, bar, caption, figure, places}
 use Rattle.page_parts.specs.Paints.{paint_of}
 use Rattle.page_parts.specs.Sheets.{left_of, middle_of, chart_width, top_of}
-use Rattle.page_parts.specs.declared.sheet.Sheet.{Sheet}
+use Rattle.page_parts.specs.declared.sheet.PeriodAxis.{PeriodAxis}
 use Rattle.page_text.specs.declared.row.Row.{Row}
 
 -- a letter of a row, at the period behind so many
-unfoldable pub letter : Sheet → List CodeDef → ℕ → ℕ → ℕ → List Element
+unfoldable pub letter : PeriodAxis → List CodeDef → ℕ → ℕ → ℕ → List Element
 letter s cs row place byte =
     bar (paint_of cs byte)
     (record { left = left_of s place; top = top_of row; width = s.cell - 1; height = 22 })
     ∷ caption (paint_of cs byte) (middle_of s place) (top_of row + 15) (byte ∷ []) ∷ []
 
 -- the same, where the word has a letter there
-unfoldable pub cell : Sheet → List CodeDef → ℕ → List ℕ → ℕ → List Element
+unfoldable pub cell : PeriodAxis → List CodeDef → ℕ → List ℕ → ℕ → List Element
 cell s cs row word place = elim (slice_get word place) [ None ↦ [] | Some byte ↦ letter s cs row place byte ]
 
 -- the letters of a word, each at its period
-abbrev pub cells : Sheet → List CodeDef → ℕ → List ℕ → List Element
+abbrev pub cells : PeriodAxis → List CodeDef → ℕ → List ℕ → List Element
 cells s cs row word = flat_map (cell s cs row word) (places s.periods)
 
 -- beside a row how many employees have its shift
@@ -65,13 +65,13 @@ row_head k r =
     ∷ marks (codes "' aria-label='") ∷ [])
     ++ (row_words r ++ marks (codes "'>") ∷ [])
 
-unfoldable pub row_frame : Sheet → ℕ → Row → List Element
+unfoldable pub row_frame : PeriodAxis → ℕ → Row → List Element
 row_frame s k r =
     bar (codes "hit") (record { left = 4; top = top_of k - 2; width = chart_width s - 8; height = 26 })
     ∷ caption (codes "name") (s.left - 10) (top_of k + 15) r.name
     ∷ figure (codes "price") (chart_width s - 14) (top_of k + 15) r.price ∷ []
 
-unfoldable pub row_elements : Sheet → List CodeDef → ℕ → Row → List Element
+unfoldable pub row_elements : PeriodAxis → List CodeDef → ℕ → Row → List Element
 row_elements s cs k r =
     row_head k r ++ (row_frame s k r
     ++ (times k r.number r.count ++ (cells s cs k r.word ++ marks (codes "</g>\n") ∷ [])))
@@ -81,13 +81,13 @@ abbrev pub step_of : ℕ → ℕ
 step_of periods = if nat_lt periods 25 then 1 else (if nat_lt periods 49 then 2 else 4)
 
 -- the number of a period over its middle
-unfoldable pub tick : Sheet → ℕ → ℕ → List Element
+unfoldable pub tick : PeriodAxis → ℕ → ℕ → List Element
 tick s top place =
     if nat_eq (place % step_of s.periods) 0 then figure (codes "tick") (middle_of s place) top (place + 1)
     ∷ [] else []
 
-abbrev pub ticks : Sheet → ℕ → List Element
+abbrev pub ticks : PeriodAxis → ℕ → List Element
 ticks s top = flat_map (tick s top) (places s.periods)
 
-abbrev pub rows_elements : Sheet → List CodeDef → List Row → List Element
+abbrev pub rows_elements : PeriodAxis → List CodeDef → List Row → List Element
 rows_elements s cs rows = each_from (row_elements s cs) 0 rows

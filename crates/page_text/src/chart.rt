@@ -32,16 +32,16 @@ ghost use Rattle.page_text.specs.Charts.{
   unit_of,
 };
 
-use crate::Column;
+use crate::CellCover;
 use crate::ink::Ink;
-use page_parts::{Area, Sheet, bar, figure, labelled, left_of, marks, right_of};
+use page_parts::{Area, PeriodAxis, bar, figure, labelled, left_of, marks, right_of};
 use roster_model::{List, Memory};
 
 /// Where a chart ends at its bottom.
 const BASE: u64 = 112;
 
 // The ceiling of a column that a chart shows, or 0 where there is none.
-fn ceiling_of(column: &Column) -> u32
+fn ceiling_of(column: &CellCover) -> u32
     ensures { result ≡ ceiling_of column.now }
 {
     if column.ceiling < 64 {
@@ -52,7 +52,7 @@ fn ceiling_of(column: &Column) -> u32
 }
 
 // The greatest count that a chart shows of a column.
-fn peak(column: &Column) -> u32
+fn peak(column: &CellCover) -> u32
     ensures { result ≡ peak column.now }
 {
     let ceiling = ceiling_of(column);
@@ -61,7 +61,7 @@ fn peak(column: &Column) -> u32
 
 // The greater of a count and of what the chart of a code shows of a column.
 #[tactic(auto, unfolding(crate::specs::Charts::higher))]
-fn higher(code: u8, most: u32, column: &Column) -> u32
+fn higher(code: u8, most: u32, column: &CellCover) -> u32
     ensures { result ≡ higher code most column.now }
 {
     if column.code == code {
@@ -72,7 +72,7 @@ fn higher(code: u8, most: u32, column: &Column) -> u32
 }
 
 /// Returns the greatest count that the chart of a code shows, at least 1.
-pub(crate) fn top_count(code: u8, columns: &[Column]) -> u32
+pub(crate) fn top_count(code: u8, columns: &[CellCover]) -> u32
     ensures { result ≡ top_count code columns.now 1 }
 {
     let mut most: u32 = 1;
@@ -105,7 +105,7 @@ fn level(unit: u8, count: u32) -> u64
 }
 
 // Where the period of a column begins.
-fn from_of(sheet: Sheet, column: &Column) -> u64
+fn from_of(sheet: PeriodAxis, column: &CellCover) -> u64
     ensures value { result ≡ from_of sheet column.now }
     ensures small { result ≤ 2 ^ 33 }
 {
@@ -117,9 +117,9 @@ fn from_of(sheet: Sheet, column: &Column) -> u64
 fn column_bar(
     out: &mut List<u8>,
     class: &[u8],
-    sheet: Sheet,
+    sheet: PeriodAxis,
     unit: u8,
-    column: &Column,
+    column: &CellCover,
     top: u32,
     count: u32,
 ) -> Result<(), Memory>
@@ -137,7 +137,12 @@ fn column_bar(
 
 // Writes the bars of a column.
 #[tactic(auto, unfolding(crate::specs::Charts::column_bars))]
-fn column_bars(out: &mut List<u8>, sheet: Sheet, unit: u8, column: &Column) -> Result<(), Memory>
+fn column_bars(
+    out: &mut List<u8>,
+    sheet: PeriodAxis,
+    unit: u8,
+    column: &CellCover,
+) -> Result<(), Memory>
     ensures { OnOk result (out.new ≡ out.old ++ written (column_bars sheet unit column.now)) }
 {
     let both = column.need.min(column.have);
@@ -156,7 +161,12 @@ fn column_bars(out: &mut List<u8>, sheet: Sheet, unit: u8, column: &Column) -> R
 
 // Writes a step of the line of the need.
 #[tactic(auto, unfolding(crate::specs::Charts::need_step))]
-fn need_step(out: &mut List<u8>, sheet: Sheet, unit: u8, column: &Column) -> Result<(), Memory>
+fn need_step(
+    out: &mut List<u8>,
+    sheet: PeriodAxis,
+    unit: u8,
+    column: &CellCover,
+) -> Result<(), Memory>
     ensures { OnOk result (out.new ≡ out.old ++ written (need_step sheet unit column.now)) }
 {
     labelled(out, b"V", level(unit, column.need))?;
@@ -167,9 +177,9 @@ fn need_step(out: &mut List<u8>, sheet: Sheet, unit: u8, column: &Column) -> Res
 #[tactic(auto, unfolding(crate::specs::Charts::segment))]
 fn segment(
     out: &mut List<u8>,
-    sheet: Sheet,
+    sheet: PeriodAxis,
     unit: u8,
-    column: &Column,
+    column: &CellCover,
     count: u32,
 ) -> Result<(), Memory>
     ensures { OnOk result (out.new ≡ out.old ++ written (segment sheet unit column.now count)) }
@@ -181,7 +191,12 @@ fn segment(
 
 // Writes the line of a floor, where it is above 0.
 #[tactic(auto, unfolding(crate::specs::Charts::floor_line))]
-fn floor_line(out: &mut List<u8>, sheet: Sheet, unit: u8, column: &Column) -> Result<(), Memory>
+fn floor_line(
+    out: &mut List<u8>,
+    sheet: PeriodAxis,
+    unit: u8,
+    column: &CellCover,
+) -> Result<(), Memory>
     ensures { OnOk result (out.new ≡ out.old ++ written (floor_line sheet unit column.now)) }
 {
     if column.floor > 0 {
@@ -192,7 +207,12 @@ fn floor_line(out: &mut List<u8>, sheet: Sheet, unit: u8, column: &Column) -> Re
 
 // Writes the line of a ceiling, where there is one; it may be 0.
 #[tactic(auto, unfolding(crate::specs::Charts::ceiling_line))]
-fn ceiling_line(out: &mut List<u8>, sheet: Sheet, unit: u8, column: &Column) -> Result<(), Memory>
+fn ceiling_line(
+    out: &mut List<u8>,
+    sheet: PeriodAxis,
+    unit: u8,
+    column: &CellCover,
+) -> Result<(), Memory>
     ensures { OnOk result (out.new ≡ out.old ++ written (ceiling_line sheet unit column.now)) }
 {
     if column.ceiling < 64 {
@@ -213,9 +233,9 @@ fn counted(out: &mut List<u8>, count: u32) -> Result<(), Memory>
 fn ink_elements(
     out: &mut List<u8>,
     ink: Ink,
-    sheet: Sheet,
+    sheet: PeriodAxis,
     unit: u8,
-    column: &Column,
+    column: &CellCover,
 ) -> Result<(), Memory>
     ensures { OnOk result (out.new ≡ out.old ++ written (ink_elements ink sheet unit column.now)) }
 {
@@ -236,10 +256,10 @@ fn ink_elements(
 fn code_ink(
     out: &mut List<u8>,
     ink: Ink,
-    sheet: Sheet,
+    sheet: PeriodAxis,
     unit: u8,
     code: u8,
-    column: &Column,
+    column: &CellCover,
 ) -> Result<(), Memory>
     ensures { OnOk result (out.new ≡ out.old ++ written (code_ink ink sheet unit code column.now)) }
 {
@@ -257,10 +277,10 @@ fn code_ink(
 pub(crate) fn inked(
     out: &mut List<u8>,
     ink: Ink,
-    sheet: Sheet,
+    sheet: PeriodAxis,
     unit: u8,
     code: u8,
-    columns: &[Column],
+    columns: &[CellCover],
 ) -> Result<(), Memory>
     ensures { OnOk result (out.new ≡ out.old ++ written (inked ink sheet unit code columns.now)) }
 {
@@ -275,9 +295,9 @@ fn labelled_counts(
     out: &mut List<u8>,
     label: &[u8],
     ink: Ink,
-    sheet: Sheet,
+    sheet: PeriodAxis,
     code: u8,
-    columns: &[Column],
+    columns: &[CellCover],
 ) -> Result<(), Memory>
     ensures { OnOk result
         (out.new ≡ out.old ++ written (page.marks label.now ∷ inked ink sheet 0 code columns.now)) }
@@ -294,9 +314,9 @@ fn labelled_counts(
 #[tactic(auto, unfolding(crate::specs::Charts::in_words))]
 pub(crate) fn in_words(
     out: &mut List<u8>,
-    sheet: Sheet,
+    sheet: PeriodAxis,
     code: u8,
-    columns: &[Column],
+    columns: &[CellCover],
 ) -> Result<(), Memory>
     ensures { OnOk result (out.new ≡ out.old ++ written (in_words sheet code columns.now)) }
 {
@@ -309,7 +329,7 @@ pub(crate) fn in_words(
 
 // Writes a line over the whole day.
 #[tactic(auto, unfolding(crate::specs::Charts::grid))]
-fn grid(out: &mut List<u8>, sheet: Sheet, top: u64) -> Result<(), Memory>
+fn grid(out: &mut List<u8>, sheet: PeriodAxis, top: u64) -> Result<(), Memory>
     ensures { OnOk result (out.new ≡ out.old ++ written (grid sheet top)) }
 {
     let area = Area {
@@ -323,7 +343,7 @@ fn grid(out: &mut List<u8>, sheet: Sheet, top: u64) -> Result<(), Memory>
 
 // Writes the lines at the bottom and at the greatest count, with their numbers.
 #[tactic(auto, unfolding(crate::specs::Charts::ends))]
-fn ends(out: &mut List<u8>, sheet: Sheet, unit: u8, top: u32) -> Result<(), Memory>
+fn ends(out: &mut List<u8>, sheet: PeriodAxis, unit: u8, top: u32) -> Result<(), Memory>
     ensures { OnOk result (out.new ≡ out.old ++ written (ends sheet unit top)) }
 {
     let beside = (sheet.left as u64).saturating_sub(8);
@@ -360,7 +380,13 @@ fn is_axis_count(unit: u8, top: u32, count: u32) -> bool
 
 // Writes the line of the axis at a count, with its number, where there is one.
 #[tactic(auto, unfolding(crate::specs::Charts::axis_line))]
-fn axis_line(out: &mut List<u8>, sheet: Sheet, unit: u8, top: u32, count: u32) -> Result<(), Memory>
+fn axis_line(
+    out: &mut List<u8>,
+    sheet: PeriodAxis,
+    unit: u8,
+    top: u32,
+    count: u32,
+) -> Result<(), Memory>
     ensures { OnOk result (out.new ≡ out.old ++ written (axis_line sheet unit top count)) }
 {
     if is_axis_count(unit, top, count) {
@@ -372,7 +398,7 @@ fn axis_line(out: &mut List<u8>, sheet: Sheet, unit: u8, top: u32, count: u32) -
 }
 
 // Writes the lines of the axis between 0 and the greatest count.
-fn axis_lines(out: &mut List<u8>, sheet: Sheet, unit: u8, top: u32) -> Result<(), Memory>
+fn axis_lines(out: &mut List<u8>, sheet: PeriodAxis, unit: u8, top: u32) -> Result<(), Memory>
     ensures { OnOk result (out.new ≡ out.old ++ written (axis_lines sheet unit top)) }
 {
     let end = top.min(64);
@@ -387,7 +413,7 @@ fn axis_lines(out: &mut List<u8>, sheet: Sheet, unit: u8, top: u32) -> Result<()
 /// # Errors
 ///
 /// `Memory` where memory runs out; a part may stand in `out` then.
-pub(crate) fn frame(out: &mut List<u8>, sheet: Sheet, unit: u8, top: u32) -> Result<(), Memory>
+pub(crate) fn frame(out: &mut List<u8>, sheet: PeriodAxis, unit: u8, top: u32) -> Result<(), Memory>
     ensures { OnOk result (out.new ≡ out.old ++ written (frame sheet unit top)) }
 {
     ends(out, sheet, unit, top)?;
@@ -398,10 +424,10 @@ pub(crate) fn frame(out: &mut List<u8>, sheet: Sheet, unit: u8, top: u32) -> Res
 #[tactic(auto, unfolding(crate::specs::Charts::need_line))]
 fn need_line(
     out: &mut List<u8>,
-    sheet: Sheet,
+    sheet: PeriodAxis,
     unit: u8,
     code: u8,
-    columns: &[Column],
+    columns: &[CellCover],
 ) -> Result<(), Memory>
     ensures { OnOk result (out.new ≡ out.old ++ written (need_line sheet unit code columns.now)) }
 {
@@ -416,10 +442,10 @@ fn need_line(
 #[tactic(auto, unfolding(crate::specs::Charts::limit_lines))]
 fn limit_lines(
     out: &mut List<u8>,
-    sheet: Sheet,
+    sheet: PeriodAxis,
     unit: u8,
     code: u8,
-    columns: &[Column],
+    columns: &[CellCover],
 ) -> Result<(), Memory>
     ensures { OnOk result (out.new ≡ out.old ++ written (limit_lines sheet unit code columns.now)) }
 {
@@ -437,10 +463,10 @@ fn limit_lines(
 /// `Memory` where memory runs out; a part may stand in `out` then.
 pub(crate) fn lines(
     out: &mut List<u8>,
-    sheet: Sheet,
+    sheet: PeriodAxis,
     unit: u8,
     code: u8,
-    columns: &[Column],
+    columns: &[CellCover],
 ) -> Result<(), Memory>
     ensures { OnOk result (out.new ≡ out.old ++ written (lines sheet unit code columns.now)) }
 {

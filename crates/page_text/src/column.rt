@@ -7,7 +7,7 @@ use roster_model::{Cell, Grammar, List, Memory, Shift, covered, penalty};
 
 /// How a code is covered in one period.
 #[derive(Clone, Copy, Debug, PartialEq, Eq, Drop)]
-pub struct Column {
+pub struct CellCover {
     /// The position of the code in the grammar's `codes`.
     pub code: u8,
     /// The period, from 1.
@@ -29,13 +29,13 @@ pub struct Column {
 }
 
 // Returns how a roster covers a cell.
-fn column_of(grammar: &Grammar, shifts: &[Shift], cell: &Cell) -> Column
+fn column_of(grammar: &Grammar, shifts: &[Shift], cell: &Cell) -> CellCover
     requires few { length shifts.now ≤ 64 }
     requires cell { IsDayCell grammar.now cell.now }
     ensures { result ≡ column_of grammar.now (map duty shifts.now) cell.now }
 {
     let have = covered(grammar, shifts, cell);
-    Column {
+    CellCover {
         code: cell.code,
         period: cell.period,
         need: cell.need,
@@ -54,7 +54,7 @@ fn column_of(grammar: &Grammar, shifts: &[Shift], cell: &Cell) -> Column
 ///
 /// `Memory` where memory runs out; a part may stand there then.
 pub fn add_columns(
-    out: &mut List<Column>,
+    out: &mut List<CellCover>,
     grammar: &Grammar,
     shifts: &[Shift],
     cells: &[Cell],

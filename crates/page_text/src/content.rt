@@ -1,5 +1,5 @@
 use crate::row::Row;
-use crate::{Column, Figures};
+use crate::{CellCover, Figures};
 use page_tables::Tables;
 use roster_model::List;
 
@@ -17,7 +17,7 @@ pub struct Content {
     /// For each row the text of its derivation.
     pub derivations: List<List<u8>>,
     /// How each cell is covered; nothing where there is no roster.
-    pub columns: List<Column>,
+    pub columns: List<CellCover>,
     /// The tables and lists.
     pub tables: Tables,
 }

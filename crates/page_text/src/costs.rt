@@ -25,7 +25,7 @@ ghost use Rattle.page_text.specs.Costs.{
   with_penalty,
 };
 
-use crate::column::Column;
+use crate::column::CellCover;
 use crate::figures::Figures;
 use page_parts::{labelled, labelled_text, marks, number, paint_of};
 use roster_model::{CodeDef, List, Memory};
@@ -160,7 +160,7 @@ pub fn chip(out: &mut List<u8>, codes: &[CodeDef], byte: u8) -> Result<(), Memor
 }
 
 /// Returns whether some column is of the code.
-pub fn is_demanded(code: u8, columns: &[Column]) -> bool
+pub fn is_demanded(code: u8, columns: &[CellCover]) -> bool
     ensures { result ≡ is_demanded code columns.now }
 {
     columns.iter().any(|column| column.code == code)
@@ -168,7 +168,7 @@ pub fn is_demanded(code: u8, columns: &[Column]) -> bool
 
 // A sum with the penalty of a column, where it is of the code.
 #[tactic(auto, unfolding(crate::specs::Costs::with_penalty))]
-fn with_penalty(code: u8, sum: u64, column: &Column) -> u64
+fn with_penalty(code: u8, sum: u64, column: &CellCover) -> u64
     requires sum { sum ≤ 2 ^ 40 }
     requires penalty { column.now.penalty ≤ 1280000 }
     ensures value { result ≡ with_penalty code sum column.now }
@@ -182,7 +182,7 @@ fn with_penalty(code: u8, sum: u64, column: &Column) -> u64
 }
 
 // The penalties of a code.
-fn penalties(code: u8, columns: &[Column]) -> u64
+fn penalties(code: u8, columns: &[CellCover]) -> u64
     requires { AreDayColumns columns.now }
     ensures { result ≡ penalties code columns.now 0 }
 {
@@ -198,7 +198,7 @@ fn penalties(code: u8, columns: &[Column]) -> u64
 fn demanded_cost(
     out: &mut List<u8>,
     codes: &[CodeDef],
-    columns: &[Column],
+    columns: &[CellCover],
     place: u8,
     code: &CodeDef,
 ) -> Result<(), Memory>
@@ -217,7 +217,7 @@ fn demanded_cost(
 fn code_cost(
     out: &mut List<u8>,
     codes: &[CodeDef],
-    columns: &[Column],
+    columns: &[CellCover],
     place: u8,
     code: &CodeDef,
 ) -> Result<(), Memory>
@@ -231,7 +231,7 @@ fn code_cost(
 }
 
 // Writes the penalties of each demanded code.
-fn code_costs(out: &mut List<u8>, codes: &[CodeDef], columns: &[Column]) -> Result<(), Memory>
+fn code_costs(out: &mut List<u8>, codes: &[CodeDef], columns: &[CellCover]) -> Result<(), Memory>
     requires codes { length codes.now ≤ 32 }
     requires columns { AreDayColumns columns.now }
     ensures { OnOk result (out.new ≡ out.old ++ written (code_costs codes.now columns.now)) }
@@ -280,7 +280,7 @@ pub fn costs(
     out: &mut List<u8>,
     codes: &[CodeDef],
     figures: Figures,
-    columns: &[Column],
+    columns: &[CellCover],
 ) -> Result<(), Memory>
     requires codes { length codes.now ≤ 32 }
     requires columns { AreDayColumns columns.now }

@@ -2,7 +2,7 @@ ghost use Rattle.std.specs.Prelude.{ℕ, ◌≡◌, List, codes as text, min};
 ghost use Rattle.roster_model.specs.declared.grammar.CodeDef.{CodeDef};
 ghost use Rattle.page_parts.specs.Elements.{written};
 ghost use Rattle.page_parts.specs.Escapes.{IsOneToOne, marks_of, recoded};
-ghost use Rattle.page_parts.specs.declared.sheet.Sheet.{Sheet};
+ghost use Rattle.page_parts.specs.declared.sheet.PeriodAxis.{PeriodAxis};
 ghost use Rattle.page_text.specs.Alike.{EndsWith, IsAlike};
 ghost use Rattle.page_text.specs.Inputs.{longest};
 ghost use Rattle.page_text.specs.Pages.{body, page};
@@ -13,7 +13,7 @@ ghost use Rattle.page_text.specs.declared.content.Content.{Content};
 /// byte. On one sheet they stay whatever the names; the page's sheet depends on how long the longest name
 /// is, up to 40 bytes, and on nothing else of them.
 pub fn marks_stay()
-    ensures on_a_sheet { (f : ℕ → ℕ) → IsOneToOne f → (s : Sheet) (cs : List CodeDef) (c d : Content)
+    ensures on_a_sheet { (f : ℕ → ℕ) → IsOneToOne f → (s : PeriodAxis) (cs : List CodeDef) (c d : Content)
         → IsAlike f c d → marks_of (body s (recoded f cs) d) ≡ marks_of (body s cs c) }
     ensures on_the_page { (f : ℕ → ℕ) → IsOneToOne f → (periods : ℕ) (cs : List CodeDef) (c d : Content)
         → IsAlike f c d → min (longest d.rows 0) 40 ≡ min (longest c.rows 0) 40

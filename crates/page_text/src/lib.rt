@@ -14,7 +14,7 @@ mod roster_chart;
 mod row;
 mod style;
 
-pub use column::{Column, add_columns};
+pub use column::{CellCover, add_columns};
 pub use content::Content;
 pub use figures::Figures;
 pub use laws::{marks_stay, page_ends};

@@ -3,7 +3,7 @@ ghost use Rattle.page_text.specs.Costs.{AreDayColumns};
 ghost use Rattle.page_parts.specs.Elements.{written};
 ghost use Rattle.page_text.specs.Pages.{
   all_show,
-  before_style,
+  before_title,
   body,
   chart,
   chart_body,
@@ -33,7 +33,7 @@ ghost use Rattle.page_text.specs.Pages.{
   work_word,
 };
 
-use crate::Column;
+use crate::CellCover;
 use crate::chart::{frame, in_words, inked, lines, top_count, unit_of};
 use crate::content::Content;
 use crate::costs::{chip, costs, is_demanded, sentence};
@@ -41,7 +41,7 @@ use crate::ink::Ink;
 use crate::roster_chart::{row_words, rows, ticks};
 use crate::row::{Row, longest};
 use crate::style::style;
-use page_parts::{Sheet, caption, chart_width, labelled, labelled_text, marks, sheet_of};
+use page_parts::{PeriodAxis, caption, chart_width, labelled, labelled_text, marks, sheet_of};
 use page_tables::add_tables;
 use roster_model::{CodeDef, List, Memory};
 use std::alloc::Global;
@@ -110,7 +110,7 @@ fn legend(out: &mut List<u8>, codes: &[CodeDef], words: &[List<u8>]) -> Result<(
 
 // Writes the word over the prices.
 #[tactic(auto, unfolding(crate::specs::Pages::price_head))]
-fn price_head(out: &mut List<u8>, sheet: Sheet) -> Result<(), Memory>
+fn price_head(out: &mut List<u8>, sheet: PeriodAxis) -> Result<(), Memory>
     ensures { OnOk result (out.new ≡ out.old ++ written (price_head sheet)) }
 {
     let left = chart_width(sheet).saturating_sub(14);
@@ -146,7 +146,7 @@ fn roster_end() -> &'static [u8]
 #[tactic(auto, unfolding(crate::specs::Pages::shifts))]
 fn shifts(
     out: &mut List<u8>,
-    sheet: Sheet,
+    sheet: PeriodAxis,
     codes: &[CodeDef],
     words: &[List<u8>],
     shown: &[Row],
@@ -170,8 +170,8 @@ fn shifts(
 fn chart_head(
     out: &mut List<u8>,
     codes: &[CodeDef],
-    sheet: Sheet,
-    columns: &[Column],
+    sheet: PeriodAxis,
+    columns: &[CellCover],
     place: u8,
     code: &CodeDef,
 ) -> Result<(), Memory>
@@ -194,8 +194,8 @@ fn chart_head(
 #[tactic(auto, unfolding(crate::specs::Pages::chart_body))]
 fn chart_body(
     out: &mut List<u8>,
-    sheet: Sheet,
-    columns: &[Column],
+    sheet: PeriodAxis,
+    columns: &[CellCover],
     place: u8,
     top: u32,
     unit: u8,
@@ -214,8 +214,8 @@ fn chart_body(
 fn chart(
     out: &mut List<u8>,
     codes: &[CodeDef],
-    sheet: Sheet,
-    columns: &[Column],
+    sheet: PeriodAxis,
+    columns: &[CellCover],
     place: u8,
     code: &CodeDef,
 ) -> Result<(), Memory>
@@ -233,8 +233,8 @@ fn chart(
 fn charts(
     out: &mut List<u8>,
     codes: &[CodeDef],
-    sheet: Sheet,
-    columns: &[Column],
+    sheet: PeriodAxis,
+    columns: &[CellCover],
 ) -> Result<(), Memory>
     requires { length codes.now ≤ 32 }
     ensures { OnOk result (out.new ≡ out.old ++ written (charts codes.now sheet columns.now)) }
@@ -266,8 +266,8 @@ fn chart_legend() -> &'static [u8]
 fn coverage(
     out: &mut List<u8>,
     codes: &[CodeDef],
-    sheet: Sheet,
-    columns: &[Column],
+    sheet: PeriodAxis,
+    columns: &[CellCover],
 ) -> Result<(), Memory>
     requires { length codes.now ≤ 32 }
     ensures { OnOk result (out.new ≡ out.old ++ written (coverage codes.now sheet columns.now)) }
@@ -363,12 +363,12 @@ fn derivations_part(out: &mut List<u8>, rows: &[Row], texts: &[List<u8>]) -> Res
 }
 
 const HEAD: &[u8] = b"<!DOCTYPE html>\n<html lang='en'>\n<head>\n<meta charset='utf-8'>\n\
-<meta name='viewport' content='width=device-width, initial-scale=1'>\n<title>Roster</title>\n<style>\n";
+<meta name='viewport' content='width=device-width, initial-scale=1'>\n<title>";
 
-// What stands before the style.
-#[tactic(auto, unfolding(crate::specs::Pages::before_style))]
-fn before_style() -> &'static [u8]
-    ensures { result.now ≡ before_style }
+// What stands before the title.
+#[tactic(auto, unfolding(crate::specs::Pages::before_title))]
+fn before_title() -> &'static [u8]
+    ensures { result.now ≡ before_title }
 {
     HEAD
 }
@@ -394,7 +394,8 @@ fn head(out: &mut List<u8>, title: &[u8], texts: &[List<u8>]) -> Result<(), Memo
     requires { length texts.now ≤ 64 }
     ensures { OnOk result (out.new ≡ out.old ++ written (head title.now texts.now)) }
 {
-    marks(out, before_style())?;
+    labelled_text(out, before_title(), title_of(title))?;
+    marks(out, b"</title>\n<style>\n")?;
     marks(out, style())?;
     all_show(out, texts)?;
     labelled_text(out, after_style(), title_of(title))?;
@@ -423,7 +424,7 @@ fn top_part(out: &mut List<u8>, codes: &[CodeDef], content: &Content) -> Result<
 #[tactic(auto, unfolding(crate::specs::Pages::shifts_part))]
 fn shifts_part(
     out: &mut List<u8>,
-    sheet: Sheet,
+    sheet: PeriodAxis,
     codes: &[CodeDef],
     words: &[List<u8>],
     rows: &[Row],
@@ -443,9 +444,9 @@ fn shifts_part(
 #[tactic(auto, unfolding(crate::specs::Pages::coverage_part))]
 fn coverage_part(
     out: &mut List<u8>,
-    sheet: Sheet,
+    sheet: PeriodAxis,
     codes: &[CodeDef],
-    columns: &[Column],
+    columns: &[CellCover],
 ) -> Result<(), Memory>
     requires { length codes.now ≤ 32 }
     ensures { OnOk result (out.new ≡ out.old ++ written (coverage_part sheet codes.now columns.now)) }
@@ -460,7 +461,7 @@ fn coverage_part(
 #[tactic(auto, unfolding(crate::specs::Pages::body))]
 fn body(
     out: &mut List<u8>,
-    sheet: Sheet,
+    sheet: PeriodAxis,
     codes: &[CodeDef],
     content: &Content,
 ) -> Result<(), Memory>

@@ -22,8 +22,8 @@ ghost use Rattle.page_text.specs.RosterChart.{
 
 use crate::row::Row;
 use page_parts::{
-    Area, Sheet, bar, caption, chart_width, figure, given, labelled, left_of, marks, middle_of,
-    number, paint_of, top_of,
+    Area, PeriodAxis, bar, caption, chart_width, figure, given, labelled, left_of, marks,
+    middle_of, number, paint_of, top_of,
 };
 use roster_model::{CodeDef, List, Memory};
 
@@ -31,7 +31,7 @@ use roster_model::{CodeDef, List, Memory};
 #[tactic(auto, unfolding(crate::specs::RosterChart::letter))]
 fn letter(
     out: &mut List<u8>,
-    sheet: Sheet,
+    sheet: PeriodAxis,
     codes: &[CodeDef],
     row: u8,
     place: u8,
@@ -60,7 +60,7 @@ fn letter(
 #[tactic(auto, unfolding(crate::specs::RosterChart::cell))]
 fn cell(
     out: &mut List<u8>,
-    sheet: Sheet,
+    sheet: PeriodAxis,
     codes: &[CodeDef],
     row: u8,
     word: &[u8],
@@ -77,7 +77,7 @@ fn cell(
 // Writes the letters of a word, each at its period.
 fn cells(
     out: &mut List<u8>,
-    sheet: Sheet,
+    sheet: PeriodAxis,
     codes: &[CodeDef],
     row: u8,
     word: &[u8],
@@ -181,7 +181,7 @@ fn row_head(out: &mut List<u8>, place: u8, row: &Row) -> Result<(), Memory>
 
 // Writes what stands beside the letters of a row.
 #[tactic(auto, unfolding(crate::specs::RosterChart::row_frame))]
-fn row_frame(out: &mut List<u8>, sheet: Sheet, place: u8, row: &Row) -> Result<(), Memory>
+fn row_frame(out: &mut List<u8>, sheet: PeriodAxis, place: u8, row: &Row) -> Result<(), Memory>
     ensures { OnOk result (out.new ≡ out.old ++ written (row_frame sheet place row.now)) }
 {
     let area = Area {
@@ -201,7 +201,7 @@ fn row_frame(out: &mut List<u8>, sheet: Sheet, place: u8, row: &Row) -> Result<(
 #[tactic(auto, unfolding(crate::specs::RosterChart::row_elements))]
 fn row(
     out: &mut List<u8>,
-    sheet: Sheet,
+    sheet: PeriodAxis,
     codes: &[CodeDef],
     place: u8,
     row: &Row,
@@ -222,7 +222,7 @@ fn row(
 /// `Memory` where memory runs out; a part may stand in `out` then.
 pub(crate) fn rows(
     out: &mut List<u8>,
-    sheet: Sheet,
+    sheet: PeriodAxis,
     codes: &[CodeDef],
     rows: &[Row],
 ) -> Result<(), Memory>
@@ -253,7 +253,7 @@ fn step_of(periods: u8) -> u8
 
 // Writes the number of a period over its middle.
 #[tactic(auto, unfolding(crate::specs::RosterChart::tick))]
-fn tick(out: &mut List<u8>, sheet: Sheet, top: u64, place: u8) -> Result<(), Memory>
+fn tick(out: &mut List<u8>, sheet: PeriodAxis, top: u64, place: u8) -> Result<(), Memory>
     ensures { OnOk result (out.new ≡ out.old ++ written (tick sheet top place)) }
 {
     if place % step_of(sheet.periods) == 0 {
@@ -267,7 +267,7 @@ fn tick(out: &mut List<u8>, sheet: Sheet, top: u64, place: u8) -> Result<(), Mem
 /// # Errors
 ///
 /// `Memory` where memory runs out; a part may stand in `out` then.
-pub(crate) fn ticks(out: &mut List<u8>, sheet: Sheet, top: u64) -> Result<(), Memory>
+pub(crate) fn ticks(out: &mut List<u8>, sheet: PeriodAxis, top: u64) -> Result<(), Memory>
     ensures { OnOk result (out.new ≡ out.old ++ written (ticks sheet top)) }
 {
     for place in 0..sheet.periods {

@@ -5,7 +5,7 @@ use Rattle.std.proofs.lemmas.List.{length-map}
 use Rattle.roster_model.specs.Folds.{Each}
 use Rattle.roster_model.proofs.EachLemmas.{Each-map, each_all}
 use Rattle.page_text.specs.Costs.{AreDayColumns}
-use Rattle.page_text.specs.declared.column.Column.{Column}
+use Rattle.page_text.specs.declared.column.CellCover.{CellCover}
 use Rattle.shift_figures.specs.Runs.{AreDayLacks}
 use Rattle.shift_figures.specs.declared.run.Lack.{Lack}
 use Rattle.roster_tables.specs.RunLines.{cost_of, shortage_of, surplus_of}
@@ -17,16 +17,16 @@ cost_small count penalty h = by (nat_eq count 0)
     by true = omega arith
     by false = h
 
-pub shortages_of_day : (columns : List Column) → AreDayColumns columns → AreDayLacks (map shortage_of columns)
+pub shortages_of_day : (columns : List CellCover) → AreDayColumns columns → AreDayLacks (map shortage_of columns)
 shortages_of_day columns h = record {
   few = rw (length-map columns shortage_of) h.few;
   small = each_all (λ (x : Lack). x.cost ≤ 1280000) (map shortage_of columns)
-      (Each-map (λ (c : Column). c.penalty ≤ 1280000) (λ (x : Lack). x.cost ≤ 1280000) shortage_of (λ c q. cost_small c.short c.penalty q) columns h.small);
+      (Each-map (λ (c : CellCover). c.penalty ≤ 1280000) (λ (x : Lack). x.cost ≤ 1280000) shortage_of (λ c q. cost_small c.short c.penalty q) columns h.small);
 }
 
-pub surplus_of_day : (columns : List Column) → AreDayColumns columns → AreDayLacks (map surplus_of columns)
+pub surplus_of_day : (columns : List CellCover) → AreDayColumns columns → AreDayLacks (map surplus_of columns)
 surplus_of_day columns h = record {
   few = rw (length-map columns surplus_of) h.few;
   small = each_all (λ (x : Lack). x.cost ≤ 1280000) (map surplus_of columns)
-      (Each-map (λ (c : Column). c.penalty ≤ 1280000) (λ (x : Lack). x.cost ≤ 1280000) surplus_of (λ c q. cost_small c.over c.penalty q) columns h.small);
+      (Each-map (λ (c : CellCover). c.penalty ≤ 1280000) (λ (x : Lack). x.cost ≤ 1280000) surplus_of (λ c q. cost_small c.over c.penalty q) columns h.small);
 }

@@ -3,7 +3,7 @@ use Rattle.std.specs.Prelude.{ℕ, List, map, nat_eq, if◌then◌else◌}
 use Rattle.roster_model.specs.declared.grammar.CodeDef.{CodeDef}
 use Rattle.page_labels.specs.declared.labels.Labels.{Labels}
 use Rattle.page_tables.specs.declared.line.RunLine.{RunLine}
-use Rattle.page_text.specs.declared.column.Column.{Column}
+use Rattle.page_text.specs.declared.column.CellCover.{CellCover}
 use Rattle.shift_figures.specs.Runs.{runs_of}
 use Rattle.shift_figures.specs.declared.run.Lack.{Lack}
 use Rattle.shift_figures.specs.declared.run.Run.{Run}
@@ -15,10 +15,10 @@ abbrev pub cost_of : ℕ → ℕ → ℕ
 cost_of count penalty = if nat_eq count 0 then 0 else penalty
 
 -- how many employees are missing in a period, and how many are there beyond the need
-abbrev pub shortage_of : Column → Lack
+abbrev pub shortage_of : CellCover → Lack
 shortage_of c = record { code = c.code; period = c.period; count = c.short; cost = cost_of c.short c.penalty }
 
-abbrev pub surplus_of : Column → Lack
+abbrev pub surplus_of : CellCover → Lack
 surplus_of c = record { code = c.code; period = c.period; count = c.over; cost = cost_of c.over c.penalty }
 
 -- the line of a run
@@ -34,8 +34,8 @@ run_line cs d r = record {
 abbrev pub run_lines : List CodeDef → Labels → List Run → List RunLine
 run_lines cs d runs = map (run_line cs d) runs
 
-abbrev pub shortages : List CodeDef → Labels → List Column → List RunLine
+abbrev pub shortages : List CodeDef → Labels → List CellCover → List RunLine
 shortages cs d columns = run_lines cs d (runs_of (map shortage_of columns))
 
-abbrev pub surplus_lines : List CodeDef → Labels → List Column → List RunLine
+abbrev pub surplus_lines : List CodeDef → Labels → List CellCover → List RunLine
 surplus_lines cs d columns = run_lines cs d (runs_of (map surplus_of columns))

@@ -4,7 +4,7 @@ use Rattle.roster_model.specs.declared.instance.Instance.{Instance}
 use Rattle.roster_model.specs.declared.instance.Shift.{Shift}
 use Rattle.page_labels.specs.declared.labels.Labels.{Labels}
 use Rattle.page_tables.specs.declared.tables.Tables.{Tables}
-use Rattle.page_text.specs.declared.column.Column.{Column}
+use Rattle.page_text.specs.declared.column.CellCover.{CellCover}
 use Rattle.roster_tables.specs.HeadLines.{heads_of}
 use Rattle.roster_tables.specs.RunLines.{shortages, surplus_lines}
 use Rattle.roster_tables.specs.ShiftLines.{lines_of}
@@ -14,7 +14,7 @@ use Rattle.roster_tables.specs.TotalLines.{totals_of}
 abbrev pub is_grouped : Instance → Bool
 is_grouped i = nat_lt 0 (length i.groups)
 
-abbrev pub tables_of : Instance → Labels → List Shift → List Column → Tables
+abbrev pub tables_of : Instance → Labels → List Shift → List CellCover → Tables
 tables_of i d shifts columns = record {
   grouped = is_grouped i;
   shifts = lines_of i d shifts;

@@ -9,4 +9,5 @@ mod runs;
 mod tables;
 mod totals;
 
+pub use called::group_called;
 pub use tables::tables_of;

@@ -8,7 +8,7 @@ use crate::called::code_called;
 use crate::moments::{begin_text, end_text};
 use page_labels::Labels;
 use page_tables::RunLine;
-use page_text::Column;
+use page_text::CellCover;
 use roster_model::{CodeDef, List, Memory};
 use shift_figures::{Lack, Run, runs_of};
 use std::alloc::Global;
@@ -21,7 +21,7 @@ fn cost_of(count: u32, penalty: u64) -> u64
 }
 
 // Returns how many employees are missing in a period.
-fn shortage_of(column: &Column) -> Lack
+fn shortage_of(column: &CellCover) -> Lack
     ensures { result ≡ shortage_of column.now }
 {
     Lack {
@@ -33,7 +33,7 @@ fn shortage_of(column: &Column) -> Lack
 }
 
 // Returns how many employees there are beyond the need in a period.
-fn surplus_of(column: &Column) -> Lack
+fn surplus_of(column: &CellCover) -> Lack
     ensures { result ≡ surplus_of column.now }
 {
     Lack {
@@ -45,7 +45,7 @@ fn surplus_of(column: &Column) -> Lack
 }
 
 // Returns how many employees are missing in each period.
-fn all_shortages(alloc: Global, columns: &[Column]) -> Result<List<Lack>, Memory>
+fn all_shortages(alloc: Global, columns: &[CellCover]) -> Result<List<Lack>, Memory>
     ensures { IfOk result (λ lacks. lacks ≡ map shortage_of columns.now) }
 {
     let mut lacks = List::new(alloc);
@@ -56,7 +56,7 @@ fn all_shortages(alloc: Global, columns: &[Column]) -> Result<List<Lack>, Memory
 }
 
 // Returns how many employees there are beyond the need in each period.
-fn all_surplus(alloc: Global, columns: &[Column]) -> Result<List<Lack>, Memory>
+fn all_surplus(alloc: Global, columns: &[CellCover]) -> Result<List<Lack>, Memory>
     ensures { IfOk result (λ lacks. lacks ≡ map surplus_of columns.now) }
 {
     let mut lacks = List::new(alloc);
@@ -104,7 +104,7 @@ pub fn shortages(
     alloc: Global,
     codes: &[CodeDef],
     labels: &Labels,
-    columns: &[Column],
+    columns: &[CellCover],
 ) -> Result<List<RunLine>, Memory>
     requires { AreDayColumns columns.now }
     ensures { IfOk result (λ lines. lines ≡ shortages codes.now labels.now columns.now) }
@@ -123,7 +123,7 @@ pub fn surplus_lines(
     alloc: Global,
     codes: &[CodeDef],
     labels: &Labels,
-    columns: &[Column],
+    columns: &[CellCover],
 ) -> Result<List<RunLine>, Memory>
     requires { AreDayColumns columns.now }
     ensures { IfOk result (λ lines. lines ≡ surplus_lines codes.now labels.now columns.now) }

@@ -8,7 +8,7 @@ use crate::runs::{shortages, surplus_lines};
 use crate::totals::totals_of;
 use page_labels::Labels;
 use page_tables::Tables;
-use page_text::Column;
+use page_text::CellCover;
 use roster_model::{Instance, Memory, Shift};
 use std::alloc::Global;
 
@@ -29,7 +29,7 @@ pub fn tables_of(
     instance: &Instance,
     labels: &Labels,
     shifts: &[Shift],
-    columns: &[Column],
+    columns: &[CellCover],
 ) -> Result<Tables, Memory>
     requires codes { length instance.now.grammar.codes ≤ 32 }
     requires groups { length instance.now.groups ≤ 8 }

@@ -4,13 +4,13 @@ ghost use Rattle.roster_tables.specs.TotalLines.{needed, missing, total_line, to
 use crate::called::code_called;
 use page_labels::Labels;
 use page_tables::TotalLine;
-use page_text::Column;
+use page_text::CellCover;
 use roster_model::{CodeDef, List, Memory, Shift};
 use shift_figures::{code_total, covered_share};
 use std::alloc::Global;
 
 // Returns how many employees are needed for a code, over all periods.
-fn needed(code: u8, columns: &[Column]) -> u64
+fn needed(code: u8, columns: &[CellCover]) -> u64
     requires { length columns.now ≤ 768 }
     ensures value { result ≡ needed code columns.now 0 }
     ensures small { result ≤ 2 ^ 50 }
@@ -25,7 +25,7 @@ fn needed(code: u8, columns: &[Column]) -> u64
 }
 
 // Returns how many employees are missing for a code, over all periods.
-fn missing(code: u8, columns: &[Column]) -> u64
+fn missing(code: u8, columns: &[CellCover]) -> u64
     requires { length columns.now ≤ 768 }
     ensures { result ≡ missing code columns.now 0 }
 {
@@ -44,7 +44,7 @@ fn total_line(
     codes: &[CodeDef],
     labels: &Labels,
     shifts: &[Shift],
-    columns: &[Column],
+    columns: &[CellCover],
     place: u8,
     code: &CodeDef,
 ) -> Result<TotalLine, Memory>
@@ -70,7 +70,7 @@ pub fn totals_of(
     codes: &[CodeDef],
     labels: &Labels,
     shifts: &[Shift],
-    columns: &[Column],
+    columns: &[CellCover],
 ) -> Result<List<TotalLine>, Memory>
     requires codes { length codes.now ≤ 32 }
     requires few { length shifts.now ≤ 64 }

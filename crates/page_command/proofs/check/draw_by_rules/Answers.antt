@@ -10,10 +10,10 @@ returns-in-Ok g c =
     let before : Told = g.S.Shelf.told c.args.shelf.now in
     let middle : Told = g.S.Shelf.told c.fetched.new.shelf in
     let after : Told = g.S.Shelf.told c.draw_under.new.shelf in
-    labels-read before after c.draw_under.result c.args.demand.now c.args.proof.now c.args.rules.now c.args.labels.now c.in-Ok.text.items middle c.in-Ok.ensures.text (rw c.as_slice.ensures.value at c.draw_under.ensures)
+    labels-read c.args.kind before after c.draw_under.result c.args.demand.now c.args.proof.now c.args.rules.now c.args.labels.now c.in-Ok.text.items middle c.in-Ok.ensures.text (rw c.as_slice.ensures.value at c.draw_under.ensures)
 
 pub returns-in-Err : goal.returns-in-Err
 returns-in-Err g c =
     let before : Told = g.S.Shelf.told c.args.shelf.now in
     let after : Told = g.S.Shelf.told c.fetched.new.shelf in
-    unread (AnswersLabelsText before.held c.args.rules.now c.args.demand.now c.args.proof.now c.args.labels.now) c.args.labels.now (c.args.demand.now ∷ c.args.proof.now ∷ []) before after c.in-Err.status c.in-Err.ensures.refusal
+    unread (AnswersLabelsText c.args.kind before.held c.args.rules.now c.args.demand.now c.args.proof.now c.args.labels.now) c.args.labels.now (c.args.demand.now ∷ c.args.proof.now ∷ []) before after c.in-Err.status c.in-Err.ensures.refusal

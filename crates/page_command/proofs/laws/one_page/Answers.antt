@@ -6,8 +6,8 @@ use Rattle.page_command.proofs.OnceLemmas.{labelled_once, page_once}
 use Rattle.page_command.proofs.laws.one_page.Goals as goal
 
 pub returns-clause-page : goal.returns-clause-page
-returns-clause-page c = λ held rules demand proof s t a b h k.
-    page_once held rules demand proof s t a b (as-cert-texts (Judgement nothing) (Some held) rules demand proof s a h) (as-cert-texts (Judgement nothing) (Some held) rules demand proof t b k)
+returns-clause-page c = λ n held rules demand proof s t a b h k.
+    page_once n held rules demand proof s t a b (as-cert-texts (Judgement n nothing) (Some held) rules demand proof s a h) (as-cert-texts (Judgement n nothing) (Some held) rules demand proof t b k)
 
 pub returns-clause-labelled : goal.returns-clause-labelled
 returns-clause-labelled c = labelled_once

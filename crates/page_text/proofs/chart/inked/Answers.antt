@@ -1,9 +1,9 @@
 use Rattle.page_text.specs.Charts.{code_ink}
-use Rattle.page_text.specs.declared.column.Column.{Column}
+use Rattle.page_text.specs.declared.column.CellCover.{CellCover}
 use Rattle.page_parts.proofs.ElementsLemmas.{more}
 use Rattle.page_text.proofs.chart.inked.Goals as goal
 
-abbrev nothing : Column
+abbrev nothing : CellCover
 nothing = record { code = 0; period = 0; need = 0; have = 0; short = 0; over = 0; floor = 0; ceiling = 0; penalty = 0 }
 
 pub loop-column-preserved : goal.loop-column-preserved

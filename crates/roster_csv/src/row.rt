@@ -1,0 +1,33 @@
+ghost use Rattle.std.specs.Prelude.{◌≡◌, ◌++◌, IfOk, OnOk, map};
+ghost use Rattle.csv.specs.Writing.{default_writer, row_text};
+
+use csv::{Error, WriterBuilder};
+use roster_model::{List, Memory};
+use std::alloc::Global;
+use text_lines::put;
+
+// Returns the text of a record.
+fn row_bytes(alloc: Global, fields: &[&[u8]]) -> Result<Vec<u8>, Error>
+    ensures { IfOk result (λ v. v.items ≡ row_text default_writer (map (λ f. f.now) fields.now)) }
+{
+    let mut writer = WriterBuilder::new().from_writer(Vec::new(alloc));
+    writer.write_fields(fields)?;
+    match writer.into_inner() {
+        Ok(text) => Ok(text),
+        Err(fault) => Err(fault.into_error()),
+    }
+}
+
+/// Appends the record of these fields; over bytes, an error of the writer is want of memory.
+///
+/// # Errors
+///
+/// `Memory` where memory runs out; a part may stand in `out` then.
+pub(crate) fn add_row(alloc: Global, out: &mut List<u8>, fields: &[&[u8]]) -> Result<(), Memory>
+    ensures { OnOk result (out.new ≡ out.old ++ row_text default_writer (map (λ f. f.now) fields.now)) }
+{
+    match row_bytes(alloc, fields) {
+        Ok(row) => put(out, row.as_slice()),
+        Err(_) => Err(Memory),
+    }
+}
