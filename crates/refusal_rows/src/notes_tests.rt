@@ -364,9 +364,10 @@ fn another_encoding_is_named(rt: HostRuntime) -> Result<(), Fail> {
     Ok(())
 }
 
-/// What the page's program notes to words that are not three.
+/// What the page's program notes to words of no form.
 const PAGE_FORM: &str = "RULES DEMAND PROOF LABELS are the names of texts; \
-the page of the certificate PROOF is printed, under the labels LABELS where they are named\n";
+the page of the certificate PROOF, or the table of its roster, is printed, \
+under the labels LABELS where they are named\n";
 
 fn notes_page_form(alloc: Global) -> Result<bool, Fail> {
     let mut shelf = MemoryShelf::new(alloc, Vec::new(alloc));
