@@ -1,0 +1,6 @@
+pub mod TotalLemmas
+pub mod ScoreLemmas
+pub mod PriceLemmas
+pub mod StageLemmas
+pub mod LeastLemmas
+pub mod SearchLemmas
