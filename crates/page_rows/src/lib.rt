@@ -1,6 +1,8 @@
-//! Worked rows of labels texts and of the figures of a page, as tests over public calls.
+//! Worked rows of labels texts, of the figures of a page and of calendars, as tests over public calls.
 #![tactic(auto)]
 
+#[cfg(test)]
+mod calendar_tests;
 #[cfg(test)]
 mod figure_tests;
 #[cfg(test)]
