@@ -7,3 +7,5 @@ mod RowLemmas
 mod OnceLemmas
 pub mod Checks
 mod LabelledReaders
+mod DatedAnswers
+mod DatedReaders

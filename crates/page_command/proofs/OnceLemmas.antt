@@ -1,5 +1,5 @@
 -- The same texts have the same answer, but for the trees of derivations.
-use Rattle.std.proofs.Common.{◌≡◌, ℕ, List, [], ◌∷◌, Some, refl, sym, ap, subst, ◌∙◌, inl, inr}
+use Rattle.std.proofs.Common.{◌≡◌, ℕ, List, [], ◌∷◌, Option, None, Some, refl, sym, ap, subst, ◌∙◌, inl, inr}
 use Rattle.roster_model.specs.declared.grammar.Grammar.{Grammar}
 use Rattle.roster_model.specs.declared.instance.Instance.{Instance}
 use Rattle.roster_model.specs.Trees.{steps}
@@ -27,13 +27,18 @@ use Rattle.page_labels.specs.FaultLine as label
 use Rattle.page_labels.specs.Labels.{nothing}
 use Rattle.page_labels.specs.LabelsOf.{labels_of}
 use Rattle.page_labels.specs.declared.fault.LabelFault.{LabelFault}
+use Rattle.page_labels.specs.declared.clock.Clock.{Clock}
 use Rattle.page_labels.specs.declared.labels.Labels.{Labels}
+use Rattle.roster_calendar.specs.Marks.{mark_of}
+use Rattle.roster_calendar.specs.declared.date.Date.{Date}
 use Rattle.page_command.specs.Check.{AnswersLabelled, Judgement, LabelAnswers, yes, no}
 use Rattle.page_command.specs.Check as answers
+use Rattle.page_command.specs.Dated.{AnswersDated, CalendarAnswers, ClockAnswers, NoCalendar, RefusedLabels, TextsAnswers, no_clock_line, setting_of}
+use Rattle.page_command.specs.Dated as dated
 use Rattle.page_command.specs.Draw.{IsPage}
 use Rattle.page_command.specs.Shown.{IsShown}
 use Rattle.page_command.specs.declared.kind.Kind.{Kind}
-use Rattle.page_command.specs.declared.kind.Kind.TheVariants.{Page, Table}
+use Rattle.page_command.specs.declared.kind.Kind.TheVariants.{Page, Table, Calendar}
 use Rattle.page_command.specs.OnePage.{AreSameButTrees, AreTreesOfRows, ArePagesButTrees}
 use Rattle.page_command.specs.Rows.{AreDerived, IsDerived, rules_of}
 
@@ -88,6 +93,7 @@ pages_once d i c a b h k =
 shown_once : (n : Kind) (d : Labels) (i : Instance) (c : Cert) (a b : List ℕ) → IsShown n d i c a → IsShown n d i c b → AreSameButTrees a b
 shown_once Page d i c a b h k = inr (pages_once d i c a b h k)
 shown_once Table d i c a b h k = inl (h ∙ sym k)
+shown_once (Calendar x) d i c a b h k = inl (h ∙ sym k)
 
 judged_once : (n : Kind) (d : Labels) (i : Instance) (c : Cert) (s t : ℕ) (a b : List ℕ) → Judgement n d i c s a → Judgement n d i c t b → AreAlike s t a b
 judged_once n d i c s t a b (yes x h) (yes y k) = (refl, shown_once n d i c a b h.shown k.shown)
@@ -185,3 +191,65 @@ labelled_once n held rules demand proof labels s t a b h k =
     let by_rules = subst (λ (x : List ℕ). RulesAnswers (LabelAnswers n h.answers.text) (Some held) x demand proof s a) rules_same h.answers.answers in
     let by_labels = subst (λ (x : List ℕ). RulesAnswers (LabelAnswers n x) (Some held) k.text demand proof s a) labels_same by_rules in
     rules_once (LabelAnswers n k.answers.text) (labels_once n k.answers.text) held k.text demand proof s t a b by_labels k.answers.answers
+
+-- one line in place of a calendar
+no_calendar_once : (i : Instance) (text line : List ℕ) (s t : ℕ) (a b : List ℕ) → NoCalendar i text line s a → NoCalendar i text line t b → AreAlike s t a b
+no_calendar_once i text line s t a b (dated.NoCalendar.line_said c xs e h) (dated.NoCalendar.line_said z ys f k) = (refl, inl (h ∙ sym k))
+no_calendar_once i text line s t a b (dated.NoCalendar.line_said c xs e h) (dated.NoCalendar.proof_refused ys k) = absurd (not_both (proof_of i text) c k.fault e k.reading)
+no_calendar_once i text line s t a b (dated.NoCalendar.proof_refused xs h) (dated.NoCalendar.line_said z ys f k) = absurd (not_both (proof_of i text) z h.fault f h.reading)
+no_calendar_once i text line s t a b (dated.NoCalendar.proof_refused xs h) (dated.NoCalendar.proof_refused ys k) = (refl, inl (faults_same i text a b h k))
+
+-- what a labels text tells of the clock is one thing
+same_clock : (o : Option Clock) (c z : Clock) → o ≡ Some c → o ≡ Some z → c ≡ z
+same_clock o c z e f = cc
+
+abbrev IsClocked : Option Clock → Type 0
+IsClocked None = ⊥
+IsClocked (Some c) = Unit {0}
+
+clock_or_none : (o : Option Clock) (c : Clock) → o ≡ Some c → o ≡ None → ⊥
+clock_or_none o c e f = subst IsClocked (sym e ∙ f) tt
+
+clock_once : (date : Date) (mark : List ℕ) (d : Labels) (i : Instance) (text : List ℕ) (s t : ℕ) (a b : List ℕ) → ClockAnswers date mark d i text s a → ClockAnswers date mark d i text t b → AreAlike s t a b
+clock_once date mark d i text s t a b (dated.ClockAnswers.answered c x xs e h) (dated.ClockAnswers.answered z y ys f k) =
+    proof_once (Calendar (setting_of date z mark)) d i text s t a b
+    (subst (λ (q : Clock). ProofAnswers (Judgement (Calendar (setting_of date q mark)) d) i text s a) (same_clock d.clock c z e f) h) k
+clock_once date mark d i text s t a b (dated.ClockAnswers.answered c x xs e h) (dated.ClockAnswers.no_clock y ys f k) = absurd (clock_or_none d.clock c e f)
+clock_once date mark d i text s t a b (dated.ClockAnswers.no_clock x xs e h) (dated.ClockAnswers.answered z y ys f k) = absurd (clock_or_none d.clock z f e)
+clock_once date mark d i text s t a b (dated.ClockAnswers.no_clock x xs e h) (dated.ClockAnswers.no_clock y ys f k) = no_calendar_once i text no_clock_line s t a b h k
+
+refused_once : (labels : List ℕ) (i : Instance) (text : List ℕ) (s t : ℕ) (a b : List ℕ) → RefusedLabels labels i text s a → RefusedLabels labels i text t b → AreAlike s t a b
+refused_once labels i text s t a b h k =
+    let same : h.line ≡ k.line = h.fault.line ∙ ap (λ (x : LabelFault). label.fault_line x) (same_err (labels_of i labels) h.fault.fault k.fault.fault h.fault.reading k.fault.reading) ∙ sym k.fault.line in
+    no_calendar_once i text k.line s t a b (subst (λ (x : List ℕ). NoCalendar i text x s a) same h.answers) k.answers
+
+calendar_once : (date : Date) (rules demand labels : List ℕ) → IsOnce (CalendarAnswers date rules demand labels)
+calendar_once date rules demand labels i text s t a b (dated.CalendarAnswers.read d x xs e h) (dated.CalendarAnswers.read g y ys f k) =
+    clock_once date (mark_of rules demand text) g i text s t a b
+    (subst (λ (q : Labels). ClockAnswers date (mark_of rules demand text) q i text s a) (same_ok (labels_of i labels) d g e f) h) k
+calendar_once date rules demand labels i text s t a b (dated.CalendarAnswers.read d x xs e h) (dated.CalendarAnswers.labels_refused y ys k) =
+    absurd (not_both (labels_of i labels) d k.fault.fault e k.fault.reading)
+calendar_once date rules demand labels i text s t a b (dated.CalendarAnswers.labels_refused x xs h) (dated.CalendarAnswers.read g y ys f k) =
+    absurd (not_both (labels_of i labels) g h.fault.fault f h.fault.reading)
+calendar_once date rules demand labels i text s t a b (dated.CalendarAnswers.labels_refused x xs h) (dated.CalendarAnswers.labels_refused y ys k) =
+    refused_once labels i text s t a b h k
+
+read_texts_once : (A : TextAnswers) → IsOnce A → (held : Texts) (rules demand name : List ℕ) (s t : ℕ) (a b : List ℕ) → TextsAnswers A (Some held) rules demand name s a
+    → TextsAnswers A (Some held) rules demand name t b → AreAlike s t a b
+read_texts_once A once held rules demand name s t a b (dated.TextsAnswers.accepted g x xs e h) (dated.TextsAnswers.accepted f y ys q k) =
+    demand_once A once held f demand name s t a b (subst (λ (z : Grammar). DemandAnswers A (Some held) z demand name s a) (same_grammar rules g f e.reading q.reading) h) k
+read_texts_once A once held rules demand name s t a b (dated.TextsAnswers.accepted g x xs e h) (dated.TextsAnswers.refused ys k) = absurd (no_fault rules g k.fault e.reading k.reading)
+read_texts_once A once held rules demand name s t a b (dated.TextsAnswers.refused xs h) (dated.TextsAnswers.accepted f y ys q k) = absurd (no_fault rules f h.fault q.reading h.reading)
+read_texts_once A once held rules demand name s t a b (dated.TextsAnswers.refused xs h) (dated.TextsAnswers.refused ys k) = (refl, inl (faults_once rules a b h k))
+
+pub dated_once : (date : Date) (held : Texts) (rules demand proof labels : List ℕ) (s t : ℕ) (a b : List ℕ) → AnswersDated date (Some held) rules demand proof labels s a
+    → AnswersDated date (Some held) rules demand proof labels t b → AreAlike s t a b
+dated_once date held rules demand proof labels s t a b h k =
+    let rules_same = same_text held rules h.text k.text h.holds k.holds in
+    let labels_same = same_text held labels h.answers.text k.answers.text h.answers.holds k.answers.holds in
+    let demand_same = same_text held demand h.answers.answers.text k.answers.answers.text h.answers.answers.holds k.answers.answers.holds in
+    let one = subst (λ (r : List ℕ). TextsAnswers (CalendarAnswers date r h.answers.answers.text h.answers.text) (Some held) r h.answers.answers.text proof s a) rules_same h.answers.answers.answers in
+    let two = subst (λ (l : List ℕ). TextsAnswers (CalendarAnswers date k.text h.answers.answers.text l) (Some held) k.text h.answers.answers.text proof s a) labels_same one in
+    let three = subst (λ (d : List ℕ). TextsAnswers (CalendarAnswers date k.text d k.answers.text) (Some held) k.text d proof s a) demand_same two in
+    read_texts_once (CalendarAnswers date k.text k.answers.answers.text k.answers.text) (calendar_once date k.text k.answers.answers.text k.answers.text) held k.text k.answers.answers.text proof s t a b three
+    k.answers.answers.answers

@@ -2,6 +2,7 @@ pub mod Rows
 pub mod Draw
 pub mod Check
 pub mod Shown
+pub mod Dated
 pub mod Statuses
 pub mod OnePage
 pub mod Run

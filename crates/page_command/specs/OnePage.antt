@@ -8,7 +8,9 @@ use Rattle.page_text.specs.declared.row.Row.{Row}
 use Rattle.shelf.specs.Shelf.{Texts}
 use Rattle.text_commands.specs.SameTexts.{AreTreesAtOnePrice}
 use Rattle.page_command.specs.Check.{AnswersLabelled, AnswersShown}
+use Rattle.page_command.specs.Dated.{AnswersDated}
 use Rattle.page_command.specs.declared.kind.Kind.{Kind}
+use Rattle.roster_calendar.specs.declared.date.Date.{Date}
 
 -- for each row two derivations of its word, at one price
 abbrev pub AreTreesOfRows : List Row → List (List ℕ) → List (List ℕ) → Type 0
@@ -54,4 +56,12 @@ HaveOneLabelledPage =
     (k : Kind) (held : Texts) (rules demand proof labels : List ℕ) (s t : ℕ) (a b : List ℕ)
     → AnswersLabelled k (Some held) rules demand proof labels s a
     → AnswersLabelled k (Some held) rules demand proof labels t b
+    → (s ≡ t) × AreSameButTrees a b
+
+-- two answers to the same day and the same four texts are equal
+abbrev pub HaveOneCalendar : Type 0
+HaveOneCalendar =
+    (date : Date) (held : Texts) (rules demand proof labels : List ℕ) (s t : ℕ) (a b : List ℕ)
+    → AnswersDated date (Some held) rules demand proof labels s a
+    → AnswersDated date (Some held) rules demand proof labels t b
     → (s ≡ t) × AreSameButTrees a b

@@ -1,15 +1,20 @@
 -- What the program does.
-use Rattle.std.specs.Prelude.{ℕ, ◌≡◌, Option, None, Some, List, [], ◌∷◌, codes, if◌then◌else◌}
+use Rattle.std.specs.Prelude.{ℕ, ◌≡◌, Option, None, Some, List, [], ◌∷◌, ◌++◌, codes, if◌then◌else◌}
 use Rattle.std.specs.Str.{bytes_eq}
 use Rattle.shelf.specs.Shelf.{Told}
+use Rattle.roster_calendar.specs.Dates.{date_of}
+use Rattle.roster_calendar.specs.declared.date.Date.{Date}
 use Rattle.page_command.specs.Check.{AnswersLabelled, AnswersShown}
+use Rattle.page_command.specs.Dated.{AnswersDated}
 use Rattle.answers.specs.Reader.{IsReader}
 use Rattle.page_command.specs.declared.kind.Kind.{Kind}
 use Rattle.page_command.specs.declared.kind.Kind.TheVariants.{Page, Table}
 
 -- what is said of other words
 abbrev pub no_form_line : List ℕ
-no_form_line = codes "words: page RULES DEMAND PROOF [LABELS] | table RULES DEMAND PROOF [LABELS]\n"
+no_form_line =
+    codes "words: page RULES DEMAND PROOF [LABELS] | table RULES DEMAND PROOF [LABELS]"
+    ++ codes " | calendar RULES DEMAND PROOF LABELS DATE\n"
 
 -- the one answer to other words
 pub record AnswersNoForm (status : ℕ) (output : List ℕ) : Type 0 where
@@ -20,6 +25,7 @@ pub record AnswersNoForm (status : ℕ) (output : List ℕ) : Type 0 where
 pub data Form : Type 0 where
   shown : Kind → List ℕ → List ℕ → List ℕ → Form
   labelled : Kind → List ℕ → List ℕ → List ℕ → List ℕ → Form
+  dated : Date → List ℕ → List ℕ → List ℕ → List ℕ → Form
   none : Form
 
 -- what the first word asks for
@@ -37,10 +43,21 @@ abbrev pub labelled_form : Option Kind → List ℕ → List ℕ → List ℕ �
 labelled_form None rules demand proof labels = none
 labelled_form (Some k) rules demand proof labels = labelled k rules demand proof labels
 
+-- a day, where there is one, and the names of a rules text, a demand text, a proof text and a labels text
+abbrev pub form_on : Option Date → List ℕ → List ℕ → List ℕ → List ℕ → Form
+form_on None rules demand proof labels = none
+form_on (Some date) rules demand proof labels = dated date rules demand proof labels
+
+-- the word for a calendar, and the names and the text of a day
+unfoldable pub dated_form : List ℕ → List ℕ → List ℕ → List ℕ → List ℕ → List ℕ → Form
+dated_form w rules demand proof labels date =
+    if bytes_eq w (codes "calendar") then form_on (date_of date) rules demand proof labels else none
+
 -- what words ask for, by their number
 abbrev pub form_of : List (List ℕ) → Form
 form_of (w ∷ rules ∷ demand ∷ proof ∷ []) = shown_form (kind_of w) rules demand proof
 form_of (w ∷ rules ∷ demand ∷ proof ∷ labels ∷ []) = labelled_form (kind_of w) rules demand proof labels
+form_of (w ∷ rules ∷ demand ∷ proof ∷ labels ∷ date ∷ []) = dated_form w rules demand proof labels date
 form_of _ = none
 
 -- what is done for a form: with labels their text is fetched behind the rules text
@@ -49,6 +66,9 @@ DoesForm (shown k rules demand proof) before after status =
     IsReader (AnswersShown k before.held rules demand proof) (rules ∷ demand ∷ proof ∷ []) before after status
 DoesForm (labelled k rules demand proof labels) before after status =
     IsReader (AnswersLabelled k before.held rules demand proof labels) (rules ∷ labels ∷ demand ∷ proof ∷ [])
+    before after status
+DoesForm (dated date rules demand proof labels) before after status =
+    IsReader (AnswersDated date before.held rules demand proof labels) (rules ∷ labels ∷ demand ∷ proof ∷ [])
     before after status
 DoesForm none before after status = IsReader AnswersNoForm [] before after status
 

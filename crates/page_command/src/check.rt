@@ -26,8 +26,12 @@ fn no_answer(alloc: Global, why: Why) -> Result<Answer, Memory>
     verdict_answer(alloc, &Verdict::No(why))
 }
 
-// What is answered to a proof text under labels.
-fn judgement(
+/// What is answered to a proof text under labels.
+///
+/// # Errors
+///
+/// `Memory` where memory runs out; there is no answer then.
+pub(crate) fn judgement(
     alloc: Global,
     kind: Kind,
     instance: &Instance,

@@ -17,6 +17,7 @@ use certificate_text::{ProofFault, read_cert};
 use certificates::Cert;
 use page_labels::{Labels, code_words};
 use page_text::{CellCover, Content, Figures, add_columns, write_page};
+use roster_calendar::calendar_of;
 use roster_csv::table_of;
 use roster_model::{CodeDef, Instance, List, Memory, Shift};
 use roster_report::paid;
@@ -166,6 +167,9 @@ fn shown(
     match kind {
         Kind::Page => drawn(alloc, instance, labels, cert),
         Kind::Table => table_of(alloc, instance, labels, cert.shifts.as_slice()),
+        Kind::Calendar(setting) => {
+            calendar_of(alloc, instance, labels, &setting, cert.shifts.as_slice())
+        }
     }
 }
 

@@ -1,8 +1,9 @@
 ghost use Rattle.std.specs.Prelude.{◌≡◌, map, string_bytes};
-ghost use Rattle.page_command.specs.Run.{form_of, kind_of, labelled_form, shown_form};
+ghost use Rattle.page_command.specs.Run.{dated_form, form_of, form_on, kind_of, labelled_form, shown_form};
 ghost use Rattle.page_command.specs.Asked.{asked};
 
 use crate::kind::{Kind, kind_of};
+use roster_calendar::{Date, date_of};
 
 /// What the words of the command line ask for.
 #[derive(Clone, Copy, Drop)]
@@ -17,6 +18,14 @@ pub enum Form<'a> {
     /// The same under the labels text under a name.
     Labelled {
         kind: Kind,
+        rules: &'a str,
+        demand: &'a str,
+        proof: &'a str,
+        labels: &'a str,
+    },
+    /// The calendar of its roster on a day, under the labels text under a name.
+    Dated {
+        date: Date,
         rules: &'a str,
         demand: &'a str,
         proof: &'a str,
@@ -63,6 +72,46 @@ fn labelled_form<'a>(
     }
 }
 
+// Returns the form of a calendar, where there is a day.
+fn form_on<'a>(
+    date: Option<Date>,
+    rules: &'a str,
+    demand: &'a str,
+    proof: &'a str,
+    labels: &'a str,
+) -> Form<'a>
+    ensures { asked result ≡ form_on date rules.now demand.now proof.now labels.now }
+{
+    match date {
+        None => Form::None,
+        Some(date) => Form::Dated {
+            date,
+            rules,
+            demand,
+            proof,
+            labels,
+        },
+    }
+}
+
+// Reads a word, the names of three texts and of a labels text, and a day.
+#[tactic(auto, unfolding(crate::specs::Run::dated_form))]
+fn dated_form<'a>(
+    word: &str,
+    rules: &'a str,
+    demand: &'a str,
+    proof: &'a str,
+    labels: &'a str,
+    date: &str,
+) -> Form<'a>
+    ensures { asked result ≡ dated_form word.now rules.now demand.now proof.now labels.now date.now }
+{
+    if word == "calendar" {
+        return form_on(date_of(date.as_bytes()), rules, demand, proof, labels);
+    }
+    Form::None
+}
+
 /// Returns what words ask for.
 pub fn form_of(words: &[String]) -> Form<'_>
     ensures { asked result ≡ form_of (map string_bytes words.now) }
@@ -80,6 +129,14 @@ pub fn form_of(words: &[String]) -> Form<'_>
             demand.as_str(),
             proof.as_str(),
             labels.as_str(),
+        ),
+        [word, rules, demand, proof, labels, date] => dated_form(
+            word.as_str(),
+            rules.as_str(),
+            demand.as_str(),
+            proof.as_str(),
+            labels.as_str(),
+            date.as_str(),
         ),
         _ => Form::None,
     }

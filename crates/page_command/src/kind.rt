@@ -1,6 +1,8 @@
 ghost use Rattle.std.specs.Prelude.{◌≡◌};
 ghost use Rattle.page_command.specs.Run.{kind_of};
 
+use roster_calendar::Setting;
+
 /// As what a certificate is shown.
 #[derive(Clone, Copy, Debug, PartialEq, Eq, Drop)]
 pub enum Kind {
@@ -8,6 +10,8 @@ pub enum Kind {
     Page,
     /// As the table of its roster.
     Table,
+    /// As the calendar of its roster.
+    Calendar(Setting),
 }
 
 // Returns what the first word asks for.

@@ -2,7 +2,7 @@ ghost use Rattle.std.specs.Prelude.{ℕ, ◌≡◌, List, ◌∷◌};
 ghost use Rattle.roster_model.specs.declared.grammar.Grammar.{Grammar};
 ghost use Rattle.roster_model.specs.declared.instance.Group.{Group};
 ghost use Rattle.roster_model.specs.Extension.{extended};
-ghost use Rattle.page_command.specs.OnePage.{HaveOneLabelledPage, HaveOnePage};
+ghost use Rattle.page_command.specs.OnePage.{HaveOneCalendar, HaveOneLabelledPage, HaveOnePage};
 ghost use Rattle.page_command.specs.Rows.{plain_from};
 
 /// States a law: the same texts have the same answer; two pages of them are the same but for the trees of the
@@ -10,6 +10,7 @@ ghost use Rattle.page_command.specs.Rows.{plain_from};
 pub fn one_page()
     ensures page { HaveOnePage }
     ensures labelled { HaveOneLabelledPage }
+    ensures calendar { HaveOneCalendar }
 {}
 
 /// States a law: what derives the words of groups is the rules text's grammar, which the groups extend, from

@@ -1,7 +1,9 @@
 //! The second program's one command: a certificate that it has checked itself, as a page.
 #![tactic(auto)]
 
+mod asking;
 mod check;
+mod dated;
 mod derived;
 mod draw;
 mod form;

@@ -159,12 +159,13 @@ fn has(text: &[u8], part: &str) -> bool {
 }
 
 /// What is said of words of no form.
-const FORMS: &str = "words: page RULES DEMAND PROOF [LABELS] | table RULES DEMAND PROOF [LABELS]\n";
+const FORMS: &str = "words: page RULES DEMAND PROOF [LABELS] | table RULES DEMAND PROOF [LABELS] \
+| calendar RULES DEMAND PROOF LABELS DATE\n";
 
 /// The words, the number of the call that fails or 0, the status, and with what begins what is said.
 type End<'a> = (&'a [&'a str], u32, u8, &'a str);
 
-const ENDS: [End<'static>; 15] = [
+const ENDS: [End<'static>; 20] = [
     (&["g1", "two"], 0, 2, FORMS),
     (&["g1", "two", "best"], 0, 2, FORMS),
     (&["check", "g1", "two", "best"], 0, 2, FORMS),
@@ -197,6 +198,31 @@ const ENDS: [End<'static>; 15] = [
         0,
         5,
         "labels: line 2: said twice\n",
+    ),
+    (
+        &["calendar", "g1", "two", "best", "called", "2026-02-29"],
+        0,
+        2,
+        FORMS,
+    ),
+    (&["calendar", "g1", "two", "best", "called"], 0, 2, FORMS),
+    (
+        &["calendar", "g1", "two", "best", "team", "2026-02-28"],
+        0,
+        5,
+        "labels: line 1: no such name\n",
+    ),
+    (
+        &["calendar", "g1", "two", "best", "empty", "2026-02-28"],
+        0,
+        5,
+        "labels: no clock line\n",
+    ),
+    (
+        &["calendar", "g1", "two", "empty", "empty", "2026-02-28"],
+        0,
+        5,
+        "proof: the text ends early\n",
     ),
     (&["page", "g1", "two", "best", "absent"], 0, 6, ""),
     (&["page", "absent", "two", "best"], 0, 6, ""),
@@ -542,6 +568,43 @@ fn tables_list_their_rosters(rt: HostRuntime) -> Result<(), Fail> {
 #[test]
 fn pages_show_their_rosters(rt: HostRuntime) -> Result<(), Fail> {
     show_all(rt.alloc(), &PAGES)
+}
+
+// The calendar of a day of four periods.
+const CALENDAR: &str = "\
+BEGIN:VCALENDAR\r\n\
+VERSION:2.0\r\n\
+PRODID:-//Lubishon//roster//EN\r\n\
+BEGIN:VEVENT\r\n\
+UID:20260228-1-daa5734fd660a2240884f7d15a407780@roster\r\n\
+DTSTAMP:20260228T000000Z\r\n\
+DTSTART:20260228T073000\r\n\
+DTEND:20260228T090000\r\n\
+SUMMARY:Shift 1\r\n\
+DESCRIPTION:7:30-9:00 =desk\\, phone\r\n\
+END:VEVENT\r\n\
+BEGIN:VEVENT\r\n\
+UID:20260228-2-daa5734fd660a2240884f7d15a407780@roster\r\n\
+DTSTAMP:20260228T000000Z\r\n\
+DTSTART:20260228T070000\r\n\
+DTEND:20260228T083000\r\n\
+SUMMARY:Shift 2\r\n\
+DESCRIPTION:7:00-8:30 =desk\\, phone\r\n\
+END:VEVENT\r\n\
+END:VCALENDAR\r\n";
+
+/// Whether these words have the calendar.
+fn says_calendar(alloc: Global, words: &[&str]) -> Result<bool, Fail> {
+    let mut shelf = shelf(alloc, &[])?;
+    let status = answer(alloc, &mut shelf, words)?;
+    Ok(status == 0 && shelf.said() == CALENDAR.as_bytes())
+}
+
+#[test]
+fn calendars_have_an_event_a_shift(rt: HostRuntime) -> Result<(), Fail> {
+    let words = ["calendar", "g1", "two", "best", "called", "2026-02-28"];
+    assert!(rt; says_calendar(rt.alloc(), &words)?);
+    Ok(())
 }
 
 /// Returns the certificate of a roster of so many employees with one shift.

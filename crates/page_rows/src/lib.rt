@@ -1,6 +1,9 @@
-//! Worked rows of labels texts, of the figures of a page and of changes between rosters, as tests over public calls.
+//! Worked rows of labels texts, of the figures of a page, of changes between rosters and of calendars, as tests over
+//! public calls.
 #![tactic(auto)]
 
+#[cfg(test)]
+mod calendar_tests;
 #[cfg(test)]
 mod change_tests;
 #[cfg(test)]

@@ -135,7 +135,7 @@ fn place_of(codes: &[CodeDef], byte: u8) -> Option<u8>
 }
 
 /// Returns what the code with the byte is called, or nothing.
-pub(crate) fn name_of<'a>(codes: &[CodeDef], labels: &'a Labels, byte: u8) -> &'a [u8]
+pub fn name_of<'a>(codes: &[CodeDef], labels: &'a Labels, byte: u8) -> &'a [u8]
     requires { length codes.now ≤ 32 }
     ensures { result.now ≡ name_of codes.now labels.now byte }
 {

@@ -8,6 +8,7 @@ mod piece;
 mod row;
 mod table;
 
+pub use field::name_of;
 pub use laws::pieces_give_word_back;
 pub use piece::{Piece, pieces_of};
 pub use table::table_of;

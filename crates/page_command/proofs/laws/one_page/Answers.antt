@@ -2,7 +2,7 @@ use Rattle.std.proofs.Common.{Some}
 use Rattle.answers.proofs.SaysLemmas.{as-cert-texts}
 use Rattle.page_labels.specs.Labels.{nothing}
 use Rattle.page_command.specs.Check.{Judgement}
-use Rattle.page_command.proofs.OnceLemmas.{labelled_once, page_once}
+use Rattle.page_command.proofs.OnceLemmas.{dated_once, labelled_once, page_once}
 use Rattle.page_command.proofs.laws.one_page.Goals as goal
 
 pub returns-clause-page : goal.returns-clause-page
@@ -11,3 +11,6 @@ returns-clause-page c = λ n held rules demand proof s t a b h k.
 
 pub returns-clause-labelled : goal.returns-clause-labelled
 returns-clause-labelled c = labelled_once
+
+pub returns-clause-calendar : goal.returns-clause-calendar
+returns-clause-calendar c = dated_once

@@ -1,0 +1,10 @@
+use Rattle.page_command.proofs.DatedAnswers.{clock-told, no-clock-told}
+use Rattle.page_command.proofs.dated.clock_answer.Goals as goal
+
+pub returns-in-None : goal.returns-in-None
+returns-in-None c =
+    no-clock-told c.args.date c.args.mark c.args.labels.now c.args.instance.now c.args.text.now c.no_calendar.result c.in-None.is c.no_calendar.ensures
+
+pub returns-in-Some : goal.returns-in-Some
+returns-in-Some c =
+    clock-told c.args.date c.args.mark c.args.labels.now c.in-Some.clock c.args.instance.now c.args.text.now c.judgement.result c.in-Some.is c.judgement.ensures

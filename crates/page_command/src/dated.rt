@@ -1,0 +1,201 @@
+ghost use Rattle.std.specs.Prelude.{◌≡◌, ◌≢◌, [], ◌∷◌, Err as Refused, IfOk};
+ghost use Rattle.roster_model.specs.SoundInstance.{IsSoundInstance};
+ghost use Rattle.answers.specs.Reader.{IsReader};
+ghost use Rattle.page_command.specs.Dated.{
+  AnswersDated,
+  AnswersDatedLabels,
+  AnswersDatedTexts,
+  CalendarAnswers,
+  ClockAnswers,
+  NoCalendar,
+  RefusedLabels,
+};
+ghost use Rattle.page_labels.specs.LabelsOf.{labels_of};
+
+use crate::asking::ask_texts;
+use crate::check::judgement;
+use crate::kind::Kind;
+use crate::rows::copied;
+use answers::{Answer, Question, fetched, proof_refusal};
+use page_labels::{LabelFault, Labels, fault_line, read_labels};
+use proof_check::Judged;
+use roster_calendar::{Date, Setting, mark_of};
+use roster_model::{Instance, Memory};
+use shelf::Shelf;
+use std::alloc::Global;
+use text_commands::check::judged;
+
+// What is said where labels tell no clock.
+const NO_CLOCK: &[u8] = b"labels: no clock line\n";
+
+// What is answered to a proof text where there can be no calendar: this line; a fault of the proof text comes first.
+fn no_calendar(
+    alloc: Global,
+    instance: &Instance,
+    text: &[u8],
+    line: &[u8],
+) -> Result<Answer, Memory>
+    requires { IsSoundInstance instance.now }
+    ensures { IfOk result (λ a. NoCalendar instance.now text.now line.now a.status a.output) }
+{
+    match judged(alloc, instance, text)? {
+        Judged::Said(_) => {
+            let output = copied(alloc, line)?;
+            Ok(Answer { status: 5, output })
+        }
+        Judged::Fault(fault) => proof_refusal(alloc, fault),
+    }
+}
+
+// What is answered to a proof text under labels.
+fn clock_answer(
+    alloc: Global,
+    instance: &Instance,
+    text: &[u8],
+    labels: &Labels,
+    date: Date,
+    mark: [u8; 16],
+) -> Result<Answer, Memory>
+    requires { IsSoundInstance instance.now }
+    ensures { IfOk result (λ a. ClockAnswers date mark labels.now instance.now text.now a.status a.output) }
+{
+    match labels.clock {
+        None => no_calendar(alloc, instance, text, NO_CLOCK),
+        Some(clock) => {
+            let kind = Kind::Calendar(Setting { date, clock, mark });
+            judgement(alloc, kind, instance, labels, text)
+        }
+    }
+}
+
+// The day of a calendar and three of its texts.
+#[derive(Drop)]
+struct Dated<'a> {
+    date: Date,
+    rules: &'a [u8],
+    demand: &'a [u8],
+    labels: &'a [u8],
+}
+
+// What is answered to a proof text where the labels text is refused.
+fn refused_labels(
+    alloc: Global,
+    instance: &Instance,
+    text: &[u8],
+    labels: &[u8],
+    fault: LabelFault,
+) -> Result<Answer, Memory>
+    requires sound { IsSoundInstance instance.now }
+    requires fault { fault ≢ LabelFault.Memory → labels_of instance.now labels.now ≡ Refused fault }
+    ensures { IfOk result (λ a. RefusedLabels labels.now instance.now text.now a.status a.output) }
+{
+    match fault {
+        LabelFault::Memory => Err(Memory),
+        _ => {
+            let line = fault_line(alloc, &fault)?;
+            no_calendar(alloc, instance, text, line.as_slice())
+        }
+    }
+}
+
+// What is answered to a proof text.
+fn calendar_answer(
+    alloc: Global,
+    instance: &Instance,
+    text: &[u8],
+    dated: &Dated<'_>,
+) -> Result<Answer, Memory>
+    requires { IsSoundInstance instance.now }
+    ensures { IfOk result (λ a. CalendarAnswers dated.now.date dated.now.rules.now dated.now.demand.now
+        dated.now.labels.now instance.now text.now a.status a.output) }
+{
+    match read_labels(alloc, instance, dated.labels) {
+        Ok(labels) => {
+            let mark = mark_of(dated.rules, dated.demand, text);
+            clock_answer(alloc, instance, text, &labels, dated.date, mark)
+        }
+        Err(fault) => refused_labels(alloc, instance, text, dated.labels, fault),
+    }
+}
+
+impl<'a> Question for Dated<'a> {
+    ghost use Rattle.page_command.specs.Dated.{CalendarAnswers};
+    ghost use Rattle.page_command.specs.Statuses.{calendar-ends};
+
+    ghost answers = { λ q. CalendarAnswers q.date q.rules.now q.demand.now q.labels.now };
+
+    ghost ends = { λ q. calendar-ends q.date q.rules.now q.demand.now q.labels.now };
+
+    // Says the calendar of the certificate, or why there is none.
+    fn answer(&self, alloc: Global, instance: &Instance, text: &[u8]) -> Result<Answer, Memory> {
+        calendar_answer(alloc, instance, text, self)
+    }
+}
+
+// Says the calendar by a day, a rules text and a labels text, and the demand and proof texts under names.
+fn draw_dated_texts<S: Shelf>(
+    alloc: Global,
+    shelf: &mut S,
+    date: Date,
+    rules: &[u8],
+    labels: &[u8],
+    demand: &str,
+    proof: &str,
+) -> u8
+    ensures { IsReader (AnswersDatedTexts date (S.told shelf.old).held rules.now labels.now demand.now proof.now)
+        (demand.now ∷ proof.now ∷ []) (S.told shelf.old) (S.told shelf.new) result }
+{
+    match fetched(alloc, shelf, demand) {
+        Ok(text) => {
+            let demand = text.as_slice();
+            let dated = Dated {
+                date,
+                rules,
+                demand,
+                labels,
+            };
+            ask_texts(alloc, shelf, rules, demand, proof, &dated)
+        }
+        Err(status) => status,
+    }
+}
+
+// The same, where the labels text is still to be fetched.
+fn draw_dated_labels<S: Shelf>(
+    alloc: Global,
+    shelf: &mut S,
+    date: Date,
+    rules: &[u8],
+    demand: &str,
+    proof: &str,
+    labels: &str,
+) -> u8
+    ensures { IsReader (AnswersDatedLabels date (S.told shelf.old).held rules.now demand.now proof.now labels.now)
+        (labels.now ∷ demand.now ∷ proof.now ∷ []) (S.told shelf.old) (S.told shelf.new) result }
+{
+    match fetched(alloc, shelf, labels) {
+        Ok(text) => draw_dated_texts(alloc, shelf, date, rules, text.as_slice(), demand, proof),
+        Err(status) => status,
+    }
+}
+
+/// Says the calendar of a certificate that is accepted, on a day and under labels, by the rules, demand, proof and
+/// labels texts under names, or why a text or the certificate is refused. The rules text is fetched first, then the
+/// labels text, the demand text and the proof text; a fault of the labels text, or that it tells no clock, comes last.
+pub fn draw_dated<S: Shelf>(
+    alloc: Global,
+    shelf: &mut S,
+    date: Date,
+    rules: &str,
+    demand: &str,
+    proof: &str,
+    labels: &str,
+) -> u8
+    ensures { IsReader (AnswersDated date (S.told shelf.old).held rules.now demand.now proof.now labels.now)
+        (rules.now ∷ labels.now ∷ demand.now ∷ proof.now ∷ []) (S.told shelf.old) (S.told shelf.new) result }
+{
+    match fetched(alloc, shelf, rules) {
+        Ok(text) => draw_dated_labels(alloc, shelf, date, text.as_slice(), demand, proof, labels),
+        Err(status) => status,
+    }
+}
