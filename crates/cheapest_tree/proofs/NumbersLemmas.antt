@@ -209,3 +209,12 @@ better-read sum arc f f2 r r2 z z2 maker better chosen is first rest price =
     subst (λ (q : Option ℤ). IsBetter sum arc (plus q (plus (Some z2) r2)) maker better chosen) first
     (subst (λ (q : Option ℤ). IsBetter sum arc (plus f (plus (Some z2) q)) maker better chosen) rest
     (subst (λ (q : ℤ). IsBetter sum arc (plus f (plus (Some q) r)) maker better chosen) price is))
+
+-- what is at most so great in size is at most greater
+pub within-more : (most more : ℕ) (z : ℤ) → most ≤ more → Within most z → Within more z
+within-more most more z le h = record { low = omega (arith, ints, le, h.low); high = omega (arith, ints, le, h.high) }
+
+-- so is a sum that may not be there
+pub sum-more : (most more : ℕ) (w : Option ℤ) → most ≤ more → IfSome w (Within most) → IfSome w (Within more)
+sum-more most more None le h = tt
+sum-more most more (Some z) le h = within-more most more z le h

@@ -1,10 +1,8 @@
 -- One pass over the arcs: the value of each node is least over the arcs that have been passed.
-use Rattle.std.proofs.Common.{◌≡◌, ◌≢◌, ℕ, zero, suc, ℤ, pos, ◌<◌, ◌≤◌, ◌+◌, ◌^◌, List, [], ◌∷◌, Option, None, Some, IfSome, arith, refl, subst, sym, ap, ◌∙◌, ◌⊎◌, inl, inr, length, get_or, set}
+use Rattle.std.proofs.Common.{◌≡◌, ℕ, zero, suc, ℤ, pos, ◌<◌, ◌≤◌, ◌+◌, ◌^◌, List, [], ◌∷◌, Option, None, Some, IfSome, arith, refl, subst, sym, ap, ◌∙◌, inl, inr, length}
 use Rattle.std.specs.Prelude.{slice_get}
 use Rattle.std.proofs.lemmas.Int.{ints}
-use Rattle.std.proofs.lemmas.Option.{same_Some, slice_get_within}
-use Rattle.std.proofs.lemmas.List.{get_or-set_same, get_or-set_other}
-use Rattle.std.proofs.lemmas.Bool.{cases_eq}
+use Rattle.std.proofs.lemmas.Option.{slice_get_within}
 use Rattle.roster_model.specs.declared.grammar.ArcKey.{ArcKey}
 use Rattle.roster_model.specs.declared.grammar.Grammar.{Grammar}
 use Rattle.roster_model.specs.declared.grammar.Sym.TheVariants.{Name}
@@ -12,39 +10,22 @@ use Rattle.roster_model.specs.Grammar.{InDay}
 use Rattle.roster_model.specs.Trees.{Parts, IsDayTree}
 use Rattle.roster_model.specs.Folds.{In}
 use Rattle.roster_model.specs.Sound.{IsSound}
-use Rattle.roster_model.specs.Sums.{PriceView, Within, AllWithin, IsLeast, IsLesser, tree_sum}
-use Rattle.tree_laws.proofs.LeastValues.{IsLeast-empty, IsLeast-same, IsLeast-union}
+use Rattle.roster_model.specs.Sums.{PriceView, Within, AllWithin, IsLeast, tree_sum}
+use Rattle.tree_laws.proofs.LeastValues.{IsLeast-empty}
 use Rattle.tree_laws.proofs.Ends.{code-least, last_sum}
 use Rattle.tree_laws.proofs.Bounds.{sum-small}
-use Rattle.arc_laws.specs.OrNodes.{OrNode, name, suffix, leaf, made, used, root_of}
+use Rattle.arc_laws.specs.OrNodes.{OrNode, name, suffix, leaf, used, root_of}
 use Rattle.arc_laws.specs.AtNodes.{IsAt}
 use Rattle.parse_graph.specs.Graphs.{GraphView, IsGraph, IsKid, AreKids, IsRoot}
 use Rattle.parse_graph.specs.declared.kid.Kid.{Kid}
 use Rattle.cheapest_tree.specs.declared.slots.Spot.{Spot}
-use Rattle.cheapest_tree.specs.AtNodes.{sum_at, NodeLeast, top_arc, IsBefore, arc_total}
+use Rattle.cheapest_tree.specs.AtNodes.{sum_at, NodeLeast}
 use Rattle.cheapest_tree.specs.Links.{IsSlot}
 use Rattle.cheapest_tree.specs.Pricers.{value_at, ArePriced}
-use Rattle.cheapest_tree.specs.Passes.{AreLeastBefore}
-use Rattle.cheapest_tree.proofs.StandLemmas.{arc-standing}
-use Rattle.cheapest_tree.proofs.AtNodesLemmas.{IsOfInstance, node-of, top-arc, top-made}
-use Rattle.cheapest_tree.proofs.TopArcLemmas.{KidsLeast, arc-least}
-
-below_or_same : (q n : ℕ) → q < n + 1 → (q < n) ⊎ (q ≡ n)
-below_or_same q n h = grind arith
+use Rattle.cheapest_tree.proofs.AtNodesLemmas.{IsOfInstance, node-of}
+use Rattle.cheapest_tree.proofs.TopArcLemmas.{KidsLeast}
 
 module _ (g : Grammar) (p : PriceView) (v : GraphView) (graph : IsGraph g v) where
-  -- once all arcs are passed that make what an arc uses, its least sum is found
-  pub complete : (values : List (Option ℤ)) (n : ℕ) → AreLeastBefore g p v values n → (a : ArcKey) → slice_get v.arcs n ≡ Some a
-      → (m : ℕ) (o : OrNode) → slice_get v.nodes m ≡ Some o → In o (used g a) → NodeLeast g p o (value_at values m)
-  complete values n least a at m o there uses =
-      IsLeast-same (λ t. IsAt g o t × IsBefore v.arcs n (top_arc o t)) (IsAt g o) (sum_at p o) (value_at values m) (λ t h. h.0) (λ t h. (h, before t h)) (least m o there)
-    where
-      before : (t : Parts) → IsAt g o t → IsBefore v.arcs n (top_arc o t)
-      before t h =
-          let of = node-of g v graph m o there in
-          let w = graph.arcs.whole (top_arc o t) (top-arc g o t of h) in
-          (w.0, graph.arcs.upward n w.0 a (top_arc o t) at w.1 (subst (λ (q : OrNode). In q (used g a)) (sym (top-made g o t of h)) uses), w.1)
-
   module _ (letters : List Spot) (values : List (Option ℤ)) (priced : ArePriced p letters (length v.nodes) values) (a : ArcKey)
       (found : (m : ℕ) (o : OrNode) → slice_get v.nodes m ≡ Some o → In o (used g a) → NodeLeast g p o (value_at values m)) where
     -- the slot of what is below the arc has its least sum
@@ -73,66 +54,6 @@ module _ (g : Grammar) (p : PriceView) (v : GraphView) (graph : IsGraph g v) whe
       pub kids-least : AreKids v.nodes (used g a) kids → KidsLeast g p (used g a) (value_at values first) (value_at values rest)
       kids-least h = both (used g a) (λ o i. i) h
 
-  -- at first no arc is passed
-  pub pass-begins : (values : List (Option ℤ)) → ((m : ℕ) → m < length v.nodes → value_at values m ≡ None) → AreLeastBefore g p v values 0
-  pass-begins values none m o there =
-      subst (λ (w : Option ℤ). IsLeast (λ t. IsAt g o t × IsBefore v.arcs 0 (top_arc o t)) (sum_at p o) w) (sym (none m (slice_get_within v.nodes m o there)))
-      (IsLeast-empty (λ t. IsAt g o t × IsBefore v.arcs 0 (top_arc o t)) (sum_at p o) (λ t h. never h.1.0 h.1.1))
-    where
-      never : (q : ℕ) → q < 0 → ⊥
-      never q h = omega (arith, h)
-
-  -- in the end all arcs are
-  pub pass-ends : (values : List (Option ℤ)) → AreLeastBefore g p v values (length v.arcs) → (m : ℕ) (o : OrNode) → slice_get v.nodes m ≡ Some o → NodeLeast g p o (value_at values m)
-  pass-ends values least m o there =
-      IsLeast-same (λ t. IsAt g o t × IsBefore v.arcs (length v.arcs) (top_arc o t)) (IsAt g o) (sum_at p o) (value_at values m) (λ t h. h.0) (λ t h. (h, before t h)) (least m o there)
-    where
-      before : (t : Parts) → IsAt g o t → IsBefore v.arcs (length v.arcs) (top_arc o t)
-      before t h =
-          let w = graph.arcs.whole (top_arc o t) (top-arc g o t (node-of g v graph m o there) h) in
-          (w.0, slice_get_within v.arcs w.0 (top_arc o t) w.1, w.1)
-
-  module _ (values : List (Option ℤ)) (n : ℕ) (least : AreLeastBefore g p v values n) (a : ArcKey) (at : slice_get v.arcs n ≡ Some a)
-      (k : ℕ) (here : slice_get v.nodes k ≡ Some (made g a)) (first rest : Option ℤ) (kids : KidsLeast g p (used g a) first rest) where
-    pub one-arc : IsLeast (λ t. IsAt g (made g a) t × (top_arc (made g a) t ≡ a)) (sum_at p (made g a)) (arc_total p a first rest)
-    one-arc = arc-least g p a (arc-standing g a (graph.arcs.sound n a at)) first rest kids
-
-    split : (t : Parts) (o : OrNode) → IsBefore v.arcs (n + 1) (top_arc o t) → IsBefore v.arcs n (top_arc o t) ⊎ (top_arc o t ≡ a)
-    split t o h = elim (below_or_same h.0 n h.1) [
-      | inl lt ↦ inl (h.0, lt, h.2)
-      | inr e ↦ inr (same_Some (top_arc o t) a (sym h.2 ∙ ap (λ (q : ℕ). slice_get v.arcs q) e ∙ at))
-    ]
-
-    -- the arc may lower the value of the node that it makes, and of no other
-    pub pass-next : (w : Option ℤ) → IsLesser (value_at values k) (arc_total p a first rest) w → k < length values → AreLeastBefore g p v (set values k w) (n + 1)
-    pass-next w lesser inside m o there = by (cases_eq m k)
-      where
-        wider : (t : Parts) (o : OrNode) → IsBefore v.arcs n (top_arc o t) → IsBefore v.arcs (n + 1) (top_arc o t)
-        wider t o h = (h.0, omega (arith, h.1), h.2)
-
-        hit : (t : Parts) → top_arc (made g a) t ≡ a → IsBefore v.arcs (n + 1) (top_arc (made g a) t)
-        hit t e = (n, omega arith, at ∙ ap Some (sym e))
-
-        its : IsLeast (λ t. IsAt g (made g a) t × IsBefore v.arcs (n + 1) (top_arc (made g a) t)) (sum_at p (made g a)) w
-        its = IsLeast-union (λ t. IsAt g (made g a) t × IsBefore v.arcs n (top_arc (made g a) t)) (λ t. IsAt g (made g a) t × (top_arc (made g a) t ≡ a))
-            (λ t. IsAt g (made g a) t × IsBefore v.arcs (n + 1) (top_arc (made g a) t)) (sum_at p (made g a)) (value_at values k) (arc_total p a first rest) w
-            (λ t h. (h.0, wider t (made g a) h.1)) (λ t h. (h.0, hit t h.1)) (λ t h. elim (split t (made g a) h.1) [ inl q ↦ inl (h.0, q) | inr q ↦ inr (h.0, q) ])
-            lesser (least k (made g a) here) one-arc
-
-        by : (m ≡ k) ⊎ (m ≢ k) → IsLeast (λ t. IsAt g o t × IsBefore v.arcs (n + 1) (top_arc o t)) (sum_at p o) (value_at (set values k w) m)
-        by (inl e) =
-            let same : o ≡ made g a = same_Some o (made g a) (sym there ∙ ap (λ (q : ℕ). slice_get v.nodes q) e ∙ here) in
-            let now : value_at (set values k w) m ≡ w = ap (λ (q : ℕ). get_or (set values k w) q None) e ∙ get_or-set_same values k w None inside in
-            subst (λ (q : OrNode). IsLeast (λ t. IsAt g q t × IsBefore v.arcs (n + 1) (top_arc q t)) (sum_at p q) (value_at (set values k w) m)) (sym same)
-            (subst (λ (q : Option ℤ). IsLeast (λ t. IsAt g (made g a) t × IsBefore v.arcs (n + 1) (top_arc (made g a) t)) (sum_at p (made g a)) q) (sym now) its)
-        by (inr ne) =
-            let of = node-of g v graph m o there in
-            let other : value_at (set values k w) m ≡ value_at values m = get_or-set_other values k m w None ne in
-            let not = λ (t : Parts) (h : IsAt g o t) (e : top_arc o t ≡ a). ne (graph.nodes.once m k o there (here ∙ ap Some (sym (ap (made g) e) ∙ top-made g o t of h))) in
-            subst (λ (q : Option ℤ). IsLeast (λ t. IsAt g o t × IsBefore v.arcs (n + 1) (top_arc o t)) (sum_at p o) q) (sym other)
-            (IsLeast-same (λ t. IsAt g o t × IsBefore v.arcs n (top_arc o t)) (λ t. IsAt g o t × IsBefore v.arcs (n + 1) (top_arc o t)) (sum_at p o) (value_at values m)
-            (λ t h. (h.0, wider t o h.1)) (λ t h. (h.0, elim (split t o h.1) [ inl q ↦ q | inr q ↦ absurd (not t h.0 q) ])) (least m o there))
-
   -- the root's value is the least sum of the day
   pub day-least : (values : List (Option ℤ)) → ((m : ℕ) (o : OrNode) → slice_get v.nodes m ≡ Some o → NodeLeast g p o (value_at values m))
       → (m : ℕ) → v.root ≡ Some m → IsLeast (IsDayTree g) (tree_sum p 1) (value_at values m)
@@ -158,14 +79,19 @@ module _ (g : Grammar) (p : PriceView) (v : GraphView) (graph : IsGraph g v) whe
     least_small o P None of is h = tt
     least_small o P (Some z) of is h = sum_small o h.attained.0 z of (is h.attained.0 h.attained.1) h.attained.2
 
+    -- the least sum of what stands at a node
+    pub node-small : (m : ℕ) (o : OrNode) → slice_get v.nodes m ≡ Some o → (w : Option ℤ) → NodeLeast g p o w → IfSome w (Within (2 ^ 110))
+    node-small m o there w least = least_small o (IsAt g o) w (node-of g v graph m o there) (λ t h. h) least
+
     price_small : (w : Option ℤ) → IfSome w (Within (2 ^ 96)) → IfSome w (Within (2 ^ 110))
     price_small None h = tt
     price_small (Some z) h = record { low = omega (arith, ints, h.low); high = omega (arith, ints, h.high) }
 
-    module _ (letters : List Spot) (values : List (Option ℤ)) (priced : ArePriced p letters (length v.nodes) values) (n : ℕ) (least : AreLeastBefore g p v values n) where
+    module _ (letters : List Spot) (values : List (Option ℤ)) (priced : ArePriced p letters (length v.nodes) values)
+        (found : (m : ℕ) (o : OrNode) → slice_get v.nodes m ≡ Some o → NodeLeast g p o (value_at values m)) where
       -- the values of nodes are small
       pub value-small : (m : ℕ) (o : OrNode) → slice_get v.nodes m ≡ Some o → IfSome (value_at values m) (Within (2 ^ 110))
-      value-small m o there = least_small o _ (value_at values m) (node-of g v graph m o there) (λ t h. h.0) (least m o there)
+      value-small m o there = node-small m o there (value_at values m) (found m o there)
 
       kid_small : (o : OrNode) (kid : Kid) (slot : ℕ) → IsKid v.nodes o kid → IsSlot (length v.nodes) letters kid slot → IfSome (value_at values slot) (Within (2 ^ 110))
       kid_small (leaf l) kid slot is h =
@@ -217,16 +143,3 @@ module _ (g : Grammar) (p : PriceView) (v : GraphView) (graph : IsGraph g v) whe
           (kid_inside size room o kids.0 first h.0 one, omega (arith, e, room))
       kids-inside size room (o ∷ q ∷ []) kids first rest h one two = (kid_inside size room o kids.0 first h.0 one, kid_inside size room q kids.1 rest h.1 two)
       kids-inside size room (o ∷ q ∷ s ∷ os) kids first rest h one two = absurd h
-
-      -- the sum of an arc is small, and so is the lesser of it and the value of what it makes
-      pub lesser-small : (a : ArcKey) → slice_get v.arcs n ≡ Some a → (k : ℕ) → slice_get v.nodes k ≡ Some (made g a) → (first rest : Option ℤ) → KidsLeast g p (used g a) first rest
-          → (w : Option ℤ) → IsLesser (value_at values k) (arc_total p a first rest) w → IfSome w (Within (2 ^ 110))
-      lesser-small a at k here first rest kids w lesser = by lesser.one
-        where
-          arc_small : IfSome (arc_total p a first rest) (Within (2 ^ 110))
-          arc_small = least_small (made g a) _ _ (node-of g v graph k (made g a) here) (λ t h. h.0)
-              (arc-least g p a (arc-standing g a (graph.arcs.sound n a at)) first rest kids)
-
-          by : (w ≡ value_at values k) ⊎ (w ≡ arc_total p a first rest) → IfSome w (Within (2 ^ 110))
-          by (inl e) = subst (λ (q : Option ℤ). IfSome q (Within (2 ^ 110))) (sym e) (value-small k (made g a) here)
-          by (inr e) = subst (λ (q : Option ℤ). IfSome q (Within (2 ^ 110))) (sym e) arc_small

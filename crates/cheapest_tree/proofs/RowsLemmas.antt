@@ -1,5 +1,5 @@
 -- One pass over the nodes in their order: each gets the least sum over all arcs that make it.
-use Rattle.std.proofs.Common.{◌≡◌, ◌≢◌, ℕ, zero, suc, ℤ, pos, ◌<◌, ◌≤◌, ◌+◌, ◌-◌, Bool, true, false, cond, List, [], ◌∷◌, Option, None, Some, IfSome, arith, refl, subst, sym, ap, ◌∙◌, ◌⊎◌, inl, inr, length, get_or, set}
+use Rattle.std.proofs.Common.{◌≡◌, ◌≢◌, ℕ, zero, suc, ℤ, pos, ◌<◌, ◌≤◌, ◌+◌, ◌-◌, ◌^◌, Bool, true, false, cond, List, [], ◌∷◌, Option, None, Some, IfSome, arith, refl, subst, sym, ap, ◌∙◌, ◌⊎◌, inl, inr, length, get_or, set}
 use Rattle.std.proofs.lemmas.Bool.{cases_eq}
 use Rattle.std.proofs.lemmas.Int.{ints}
 use Rattle.std.specs.Prelude.{slice_get, slice_index, OnSome}
@@ -8,14 +8,14 @@ use Rattle.std.proofs.lemmas.List.{length-set, get_or-set_same, get_or-set_other
 use Rattle.roster_model.specs.declared.grammar.ArcKey.{ArcKey}
 use Rattle.roster_model.specs.declared.grammar.Grammar.{Grammar}
 use Rattle.roster_model.specs.Sound.{IsSound}
-use Rattle.roster_model.specs.Sums.{PriceView, Within, IsLeast}
+use Rattle.roster_model.specs.Sums.{PriceView, Within, AllWithin, IsLeast}
 use Rattle.roster_model.specs.Trees.{Parts}
 use Rattle.tree_laws.proofs.LeastValues.{IsLeast-empty, IsLeast-same, IsLeast-union}
 use Rattle.tree_laws.proofs.Ends.{code-least}
 use Rattle.arc_laws.specs.OrNodes.{OrNode, name, suffix, leaf, same_node, made, used}
 use Rattle.arc_laws.proofs.Totals.{same_node-refl}
 use Rattle.arc_laws.specs.AtNodes.{IsAt}
-use Rattle.parse_graph.specs.Graphs.{GraphView, IsGraph, IsKid, AreKids, places, places_from}
+use Rattle.parse_graph.specs.Graphs.{GraphView, IsGraph, HasGrammar, IsKid, AreKids, places, places_from}
 use Rattle.parse_graph.specs.declared.kid.Kid.{Kid}
 use Rattle.span_cells.proofs.ChoicesLemmas.{on_some}
 use Rattle.cheapest_tree.specs.declared.order.Maker.{Maker}
@@ -31,6 +31,7 @@ use Rattle.cheapest_tree.specs.Passes.{AreBegun, IsDone, AreRowsPassed, AsksRow,
 use Rattle.cheapest_tree.specs.Pricers.{value_at, ArePriced, IsFilled, IsBest}
 use Rattle.cheapest_tree.proofs.AtNodesLemmas.{node-of, top-arc, top-made}
 use Rattle.cheapest_tree.proofs.LinksLemmas.{link-made, link-kids, priced-kept}
+use Rattle.cheapest_tree.proofs.PassesLemmas.{node-small}
 use Rattle.cheapest_tree.proofs.StandLemmas.{arc-standing}
 use Rattle.cheapest_tree.proofs.TopArcLemmas.{KidsLeast, arc-least}
 
@@ -42,7 +43,7 @@ no_item x e = cc
 
 -- an item that passes is among those whose places are listed
 module _ {A : Type 0} (p : A → Bool) where
-  at_place : (n : ℕ) (xs : List A) (k : ℕ) (x : A) → slice_get xs k ≡ Some x → p x ≡ true → (i : ℕ) × (slice_get (places_from n p xs) i ≡ Some (n + k))
+  pub at_place : (n : ℕ) (xs : List A) (k : ℕ) (x : A) → slice_get xs k ≡ Some x → p x ≡ true → (i : ℕ) × (slice_get (places_from n p xs) i ≡ Some (n + k))
   at_place n [] k x e passes = absurd (no_item x e)
   at_place n (y ∷ xs) zero x e passes =
       let same : y ≡ x = same_Some y x e in
@@ -93,9 +94,9 @@ module _ (g : Grammar) (p : PriceView) (v : GraphView) (graph : IsGraph g v) (le
     maker_total : (node : ℕ) (o : OrNode) → slice_get v.nodes node ≡ Some o → (x : Maker) → (is : IsMaker v letters node x) → IsEarlier v order.rows j x.first → IsEarlier v order.rows j x.rest
         → (made g is.key ≡ o) × IsLeast (λ t. IsAt g o t × (top_arc o t ≡ is.key)) (sum_at p o) (arc_total p is.key (value_at values x.first) (value_at values x.rest))
     maker_total node o there x is one two =
-        let here = link-made g p v graph letters x.arc is.key is.at node x.first x.rest is.link in
+        let here = link-made g v graph letters x.arc is.key is.at node x.first x.rest is.link in
         let same : made g is.key ≡ o = same_Some (made g is.key) o (sym here ∙ there) in
-        let are = link-kids g p v graph letters x.arc is.key is.at node x.first x.rest is.link in
+        let are = link-kids g v graph letters x.arc is.key is.at node x.first x.rest is.link in
         let kids = kids_least x.first x.rest one two (used g is.key) is.link.kids are is.link.first is.link.rest in
         let total = arc-least g p is.key (arc-standing g is.key (graph.arcs.sound x.arc is.key is.at)) (value_at values x.first) (value_at values x.rest) kids in
         (same, subst (λ (q : OrNode). IsLeast (λ t. IsAt g q t × (top_arc q t ≡ is.key)) (sum_at p q) (arc_total p is.key (value_at values x.first) (value_at values x.rest))) same total)
@@ -334,3 +335,10 @@ module _ (most : ℕ) (p : PriceView) (v : GraphView) (letters : List Spot) (ord
     where
       count : n ≡ length is_row.arcs
       count = omega (arith, all, few, is_row.count)
+
+  -- a sum that was found at the node is small
+  pub row-small : AllWithin (2 ^ 96) p → HasGrammar v → (value : Option ℤ) (arc : ℕ) → FindsRow p v order place value arc → IfSome value (Within (2 ^ 110))
+  row-small all of value arc found =
+      let o = get_or v.nodes r.node (leaf (record { code = 0; period = 0 })) in
+      let there = slice_get-get_or v.nodes r.node (leaf (record { code = 0; period = 0 })) is_row.node in
+      node-small of.0 p v of.2 of.1 all r.node o there value (found of.0 of.1 of.2 r at o there).0

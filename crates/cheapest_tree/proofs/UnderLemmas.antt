@@ -10,20 +10,18 @@ use Rattle.roster_model.specs.Trees.{Parts, IsDayTree, steps}
 use Rattle.roster_model.specs.Sums.{PriceView, Within, AllWithin, IsLeast, tree_sum}
 use Rattle.tree_laws.specs.Parts.{use_count}
 use Rattle.tree_laws.proofs.Bounds.{few-steps}
-use Rattle.tree_laws.proofs.LeastValues.{IsLeast-same, least_there}
+use Rattle.tree_laws.proofs.LeastValues.{least_there}
 use Rattle.tree_laws.proofs.Size.{length-steps}
 use Rattle.arc_laws.specs.OrNodes.{OrNode, made, used, root_of}
 use Rattle.arc_laws.specs.AtNodes.{IsAt}
 use Rattle.parse_graph.specs.Graphs.{GraphView, AreKids}
 use Rattle.cheapest_tree.specs.declared.slots.Links.{Links}
-use Rattle.cheapest_tree.specs.AtNodes.{sum_at, top_arc, IsBefore, arc_total}
-use Rattle.cheapest_tree.specs.Passes.{AreLeastBefore}
+use Rattle.cheapest_tree.specs.AtNodes.{sum_at, top_arc, arc_total}
 use Rattle.cheapest_tree.specs.Links.{IsLink}
 use Rattle.cheapest_tree.specs.Pricers.{PricerView, value_at, IsMadeFor}
 use Rattle.cheapest_tree.specs.Under.{IsTop, IsReady, IsDayTreeUnder, AsksTreeUnder, HoldsLeastUnder}
 use Rattle.cheapest_tree.specs.Walks.{AsksArc, WritesUnder, WritesArc}
 use Rattle.cheapest_tree.proofs.StandLemmas.{arc-standing}
-use Rattle.cheapest_tree.proofs.AtNodesLemmas.{node-of, top-arc}
 use Rattle.cheapest_tree.proofs.TopArcLemmas.{KidsLeast, arc-least}
 use Rattle.cheapest_tree.proofs.PassesLemmas.{kids-least, kids-small, kids-inside}
 use Rattle.cheapest_tree.proofs.LinksLemmas.{link-kids, value-read}
@@ -37,7 +35,7 @@ module _ (g : Grammar) (p : PriceView) (v : GraphView) (w : PricerView) (ready :
 
   module _ (a : ArcKey) (at : slice_get v.arcs arc ≡ Some a) where
     kids : AreKids v.nodes (used g a) linked.kids
-    kids = link-kids g p v ready.graph w.letters arc a at (slice_index w.links.made arc) (slice_index w.links.first arc) (slice_index w.links.rest arc) linked
+    kids = link-kids g v ready.graph w.letters arc a at (slice_index w.links.made arc) (slice_index w.links.first arc) (slice_index w.links.rest arc) linked
 
     least_kids : KidsLeast g p (used g a) (value_at w.values (slice_index w.links.first arc)) (value_at w.values (slice_index w.links.rest arc))
     least_kids = kids-least g p v ready.graph w.letters w.values ready.filled.priced a (λ n o there h. ready.filled.nodes n o there)
@@ -51,22 +49,12 @@ module _ (g : Grammar) (p : PriceView) (v : GraphView) (w : PricerView) (ready :
     pub day-under : made g a ≡ root_of g → IsLeast (IsDayTreeUnder g a) (tree_sum p 1) (arc_total p a (value_at w.values (slice_index w.links.first arc)) (value_at w.values (slice_index w.links.rest arc)))
     day-under makes = subst (λ (o : OrNode). IsLeast (λ t. IsAt g o t × (top_arc o t ≡ a)) (sum_at p o) (arc_total p a (value_at w.values (slice_index w.links.first arc)) (value_at w.values (slice_index w.links.rest arc)))) makes least-under
 
-    -- the values are least of all that stands at the nodes
-    passed : AreLeastBefore g p v w.values (length v.arcs)
-    passed m o there =
-        IsLeast-same (IsAt g o) (λ t. IsAt g o t × IsBefore v.arcs (length v.arcs) (top_arc o t)) (sum_at p o) (value_at w.values m) (λ t h. (h, before t h)) (λ t h. h.0) (ready.filled.nodes m o there)
-      where
-        before : (t : Parts) → IsAt g o t → IsBefore v.arcs (length v.arcs) (top_arc o t)
-        before t h =
-            let q = ready.graph.arcs.whole (top_arc o t) (top-arc g o t (node-of g v ready.graph m o there) h) in
-            (q.0, slice_get_within v.arcs q.0 (top_arc o t) q.1, q.1)
-
     module _ (all : AllWithin (2 ^ 96) p) where
       pub small-below : IfSome (value_at w.values (slice_index w.links.first arc)) (Within (2 ^ 110)) × IfSome (value_at w.values (slice_index w.links.rest arc)) (Within (2 ^ 110))
-      small-below = kids-small g p v ready.graph ready.sound all w.letters w.values ready.filled.priced (length v.arcs) passed (used g a) linked.kids _ _ kids linked.first linked.rest
+      small-below = kids-small g p v ready.graph ready.sound all w.letters w.values ready.filled.priced ready.filled.nodes (used g a) linked.kids _ _ kids linked.first linked.rest
 
       pub inside-below : (slice_index w.links.first arc < length w.values) × (slice_index w.links.rest arc < length w.values)
-      inside-below = kids-inside g p v ready.graph ready.sound all w.letters w.values ready.filled.priced (length v.arcs) passed (length w.values) made_for.slots (used g a) linked.kids _ _ kids linked.first linked.rest
+      inside-below = kids-inside g p v ready.graph ready.sound all w.letters w.values ready.filled.priced ready.filled.nodes (length w.values) made_for.slots (used g a) linked.kids _ _ kids linked.first linked.rest
 
 module _ (g : Grammar) (p : PriceView) (v : GraphView) (w : PricerView) (links : Links) (best : List ℕ) (old room : RoomView) (arc : ℕ) (a : ArcKey) (asks : AsksTreeUnder g p v w arc a old)
     (made_for : IsMadeFor v w) (same_links : w.links ≡ links) (same_best : w.best ≡ best) (cleared : room ≡ record old { steps = [] }) where

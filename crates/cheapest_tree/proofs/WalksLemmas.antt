@@ -128,7 +128,7 @@ module _ (v : GraphView) (links : Links) (best : List ℕ) (a : ℕ) (room : Roo
         rw (first_is, rest_is) its
 
     kids : AreKids v.nodes (used asked.g asked.chosen.key) linked.kids
-    kids = link-kids asked.g asked.p v asked.graph asked.w.letters a asked.chosen.key asked.chosen.at (slice_index links.made a) first_slot rest_slot linked
+    kids = link-kids asked.g v asked.graph asked.w.letters a asked.chosen.key asked.chosen.at (slice_index links.made a) first_slot rest_slot linked
 
     least_kids : KidsLeast asked.g asked.p (used asked.g asked.chosen.key) (value_at asked.w.values first_slot) (value_at asked.w.values rest_slot)
     least_kids = kids-least asked.g asked.p v asked.graph asked.w.letters asked.w.values asked.filled.priced asked.chosen.key (λ n o at h. asked.filled.nodes n o at)

@@ -1,5 +1,5 @@
 -- What stands at a node of the graph, its arc at the top, and its least sum.
-use Rattle.std.specs.Prelude.{ℕ, ℤ, zero, suc, ◌≡◌, ◌<◌, Option, Some, List, slice_get}
+use Rattle.std.specs.Prelude.{ℕ, ℤ, zero, suc, Option, Some}
 use Rattle.roster_model.specs.declared.grammar.ArcKey.{ArcKey}
 use Rattle.roster_model.specs.declared.grammar.Grammar.{Grammar}
 use Rattle.roster_model.specs.Trees.{Parts, done, letter, uses}
@@ -30,10 +30,6 @@ abbrev pub top_arc : OrNode → Parts → ArcKey
 top_arc (name x i l) t = arc_at (root t) 0 i l (first (inner_of t))
 top_arc (suffix r k i l) t = arc_at r k i l (first t)
 top_arc (leaf l) t = arc_at 0 0 l.period 1 1
-
--- one of the first n arcs
-abbrev pub IsBefore : List ArcKey → ℕ → ArcKey → Type 0
-IsBefore listed n a = (q : ℕ) × (q < n) × (slice_get listed q ≡ Some a)
 
 -- the arc of a whole right side pays for its rule
 abbrev pub with_rule : PriceView → ℕ → ℕ → Option ℤ → Option ℤ

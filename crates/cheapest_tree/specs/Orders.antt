@@ -1,10 +1,11 @@
 -- An order of a graph's nodes in which each stands after those that its arcs use, with its arcs side by side.
-use Rattle.std.specs.Prelude.{ℕ, zero, suc, ◌≡◌, ◌+◌, ◌<◌, ◌≤◌, Bool, true, List, Some, length, slice_get}
+use Rattle.std.specs.Prelude.{ℕ, zero, suc, ◌≡◌, ◌+◌, ◌<◌, ◌≤◌, List, Some, length, slice_get, slice_index}
 use Rattle.roster_model.specs.declared.grammar.ArcKey.{ArcKey}
 use Rattle.parse_graph.specs.Graphs.{GraphView}
 use Rattle.cheapest_tree.specs.declared.order.Maker.{Maker}
 use Rattle.cheapest_tree.specs.declared.order.Order.{Order}
 use Rattle.cheapest_tree.specs.declared.order.Row.{Row}
+use Rattle.cheapest_tree.specs.declared.slots.Links.{Links}
 use Rattle.cheapest_tree.specs.declared.slots.Spot.{Spot}
 use Rattle.cheapest_tree.specs.Links.{IsLink}
 
@@ -23,18 +24,23 @@ pub record IsMaker (v : GraphView) (letters : List Spot) (node : ℕ) (x : Maker
   pub code : x.code ≡ code_of key.rule key.suffix
   pub fits : x.code ≤ 256
 
--- the slot is that of a node that is done, or none of a node
-abbrev pub IsReady : List Bool → ℕ → Type 0
-IsReady done slot = slot < length done → slice_get done slot ≡ Some true
+-- the arc with the slots of what is below it and the code of its rule
+pub record IsLinked (v : GraphView) (links : Links) (arc : ℕ) (x : Maker) : Type 0 where
+  pub arc_is : x.arc ≡ arc
+  pub first : x.first ≡ slice_index links.first arc
+  pub rest : x.rest ≡ slice_index links.rest arc
+  pub key : ArcKey
+  pub at : slice_get v.arcs arc ≡ Some key
+  pub code : x.code ≡ code_of key.rule key.suffix
+  pub fits : x.code ≤ 256
 
--- the first n of these arcs were added, each of which makes the node and uses no node but those done
-pub record AreAdded (v : GraphView) (letters : List Spot) (node : ℕ) (done : List Bool) (arcs : List ℕ)
-    (old new : List Maker) (n : ℕ) : Type 0 where
+-- the first n of these arcs were added
+pub record AreAdded (v : GraphView) (links : Links) (arcs : List ℕ) (old new : List Maker)
+    (n : ℕ) : Type 0 where
   pub count : length new ≡ length old + n
   pub kept : (k : ℕ) (x : Maker) → slice_get old k ≡ Some x → slice_get new k ≡ Some x
   pub each : (i q : ℕ) → i < n → slice_get arcs i ≡ Some q → (x : Maker)
-      × (slice_get new (length old + i) ≡ Some x) × (x.arc ≡ q) × IsMaker v letters node x
-      × IsReady done x.first × IsReady done x.rest
+      × (slice_get new (length old + i) ≡ Some x) × IsLinked v links q x
 
 -- the slot is that of the node of one of the first j rows, or none of a node
 abbrev pub IsEarlier : GraphView → List Row → ℕ → ℕ → Type 0
@@ -53,13 +59,17 @@ pub record IsRow (v : GraphView) (letters : List Spot) (makers : List Maker) (ro
       × (slice_get makers (row.begin + i) ≡ Some x) × (x.arc ≡ q) × IsMaker v letters row.node x
       × IsEarlier v rows j x.first × IsEarlier v rows j x.rest
 
--- rows in order, and all nodes that are done have one
-pub record IsOrderSoFar (v : GraphView) (letters : List Spot) (done : List Bool)
+-- all arcs that make the node stand before a place
+abbrev pub AreMadeBefore : GraphView → ℕ → ℕ → Type 0
+AreMadeBefore v node place = (q : ℕ) → q < length v.arcs → slice_get v.made_by q ≡ Some node → q < place
+
+-- rows in order, one for each node all of whose arcs stand before a place
+pub record IsOrderBefore (v : GraphView) (letters : List Spot) (place : ℕ)
     (order : Order) : Type 0 where
   pub rows : (j : ℕ) (row : Row) → slice_get order.rows j ≡ Some row
       → IsRow v letters order.makers order.rows j row
-  pub found : (s : ℕ) → slice_get done s ≡ Some true → (j : ℕ) × (row : Row)
-      × (slice_get order.rows j ≡ Some row) × (row.node ≡ s)
+  pub found : (m : ℕ) → m < length v.nodes → AreMadeBefore v m place → (j : ℕ) × (row : Row)
+      × (slice_get order.rows j ≡ Some row) × (row.node ≡ m)
 
 -- rows in order, one for each node of the graph
 pub record IsOrder (v : GraphView) (letters : List Spot) (order : Order) : Type 0 where

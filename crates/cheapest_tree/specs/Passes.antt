@@ -11,7 +11,7 @@ use Rattle.cheapest_tree.specs.declared.order.Maker.{Maker}
 use Rattle.cheapest_tree.specs.declared.order.Order.{Order}
 use Rattle.cheapest_tree.specs.declared.order.Row.{Row}
 use Rattle.cheapest_tree.specs.declared.slots.Spot.{Spot}
-use Rattle.cheapest_tree.specs.AtNodes.{sum_at, NodeLeast, top_arc, IsBefore}
+use Rattle.cheapest_tree.specs.AtNodes.{sum_at, NodeLeast, top_arc}
 use Rattle.cheapest_tree.specs.Extras.{number_at, AreCosts}
 use Rattle.cheapest_tree.specs.Numbers.{Limits, AreSmall, AreRules}
 use Rattle.cheapest_tree.specs.Orders.{code_of, IsOrder}
@@ -22,16 +22,6 @@ pub record AreBegun (p : PriceView) (letters : List Spot) (nodes : ℕ)
     (values : List (Option ℤ)) : Type 0 where
   pub priced : ArePriced p letters nodes values
   pub none : (n : ℕ) → n < nodes → value_at values n ≡ None
-
--- the value of each node is the least sum of what stands there with one of the first n arcs at the top
-abbrev pub AreLeastBefore : Grammar → PriceView → GraphView → List (Option ℤ) → ℕ → Type 0
-AreLeastBefore g p v values n =
-    (m : ℕ) (o : OrNode) → slice_get v.nodes m ≡ Some o
-    → IsLeast (λ t. IsAt g o t × IsBefore v.arcs n (top_arc o t)) (sum_at p o) (value_at values m)
-
--- whatever sound grammar the graph is of
-abbrev pub AreFilledBefore : PriceView → GraphView → List (Option ℤ) → ℕ → Type 0
-AreFilledBefore p v values n = (g : Grammar) → IsSound g → IsGraph g v → AreLeastBefore g p v values n
 
 -- the value of the node is the least sum of what stands there, and a best arc has it at the top
 abbrev pub IsDone : Grammar → PriceView → GraphView → List (Option ℤ) → List ℕ → ℕ → Type 0

@@ -1,4 +1,4 @@
-ghost use Rattle.std.specs.Prelude.{◌≡◌, ◌+◌, ◌+ℤ◌, ◌<◌, ◌≤◌, ◌⊎◌, IsTrue, IsFalse, IfOk, IfSome, IfNone, Some, List as Items, ℕ, length, slice_get, slice_set};
+ghost use Rattle.std.specs.Prelude.{◌≡◌, ◌+◌, ◌+ℤ◌, ◌<◌, ◌≤◌, ◌^◌, ◌⊎◌, IsTrue, IsFalse, IfOk, IfSome, IfNone, Some, List as Items, ℕ, length, slice_get, slice_set};
 ghost use Rattle.roster_model.specs.declared.grammar.ArcKey.{ArcKey as Key};
 ghost use Rattle.roster_model.specs.Folds.{In};
 ghost use Rattle.roster_model.specs.RoomPrices.{listed_price};
@@ -53,12 +53,8 @@ impl<N: Number> Extras<N> {
     pub fn new(alloc: Global, arcs: usize) -> Result<Extras<N>, Memory>
         ensures { IfOk result (λ e. AreFree arcs e.prices.items) }
     {
-        let Ok(prices) = vec![in alloc; Price::zero(); arcs] else {
-            return Err(Memory);
-        };
-        let Ok(places) = vec![in alloc; 0; arcs] else {
-            return Err(Memory);
-        };
+        let prices = vec![in alloc; Price::zero(); arcs]?;
+        let places = vec![in alloc; 0; arcs]?;
         Ok(Extras { prices, places })
     }
 
@@ -127,11 +123,13 @@ impl<N: Number> Extras<N> {
         true
     }
 
-    /// Asks for the price of each arc, and returns true; false where one is too wide.
+    /// Asks for the price of each arc, and returns true; false where one is too wide, which none is in
+    /// numbers that fit all prices.
     pub fn ask_all<P: LetterPrice>(&mut self, graph: &Graph, prices: &P) -> bool
         requires count { length self.old.prices.items ≡ length graph.now.arcs }
         ensures costs { IsTrue result
             → AreCosts N.limits.price (P.view prices.now) graph.now.arcs self.new.prices.items }
+        ensures fits { 2 ^ 96 ≤ N.limits.price → IsTrue result }
         ensures count { length self.new.prices.items ≡ length graph.now.arcs }
     {
         let arcs = graph.arcs();

@@ -1,32 +1,33 @@
-ghost use Rattle.std.specs.Prelude.{◌≡◌, ◌+◌, IsTrue, length};
+ghost use Rattle.std.specs.Prelude.{◌≡◌, ◌+◌, ◌^◌, IsTrue, Option, length};
 ghost use Rattle.roster_model.specs.declared.grammar.Grammar.{Grammar as Rules};
 ghost use Rattle.roster_model.specs.Sound.{IsSound};
 ghost use Rattle.parse_graph.specs.Graphs.{HasGrammar, IsGraph};
+ghost use Rattle.cheapest_tree.specs.declared.order.Order.{Order as Found};
+ghost use Rattle.cheapest_tree.specs.declared.slots.Links.{Links as Joined};
 ghost use Rattle.cheapest_tree.specs.Numbers.{AreSmall};
 ghost use Rattle.cheapest_tree.specs.Orders.{IsOrder};
 ghost use Rattle.cheapest_tree.specs.Passes.{AreRowsPassed};
-ghost use Rattle.cheapest_tree.specs.Pricers.{IsMadeFor, IsFilled};
+ghost use Rattle.cheapest_tree.specs.Pricers.{IsFilled};
 ghost use Rattle.cheapest_tree.specs.Rooms.{IsRoomFor};
 
-use crate::fill::fill;
 use crate::least::Sum;
 use crate::number::Number;
 use crate::order::Order;
 use crate::pass_room::PassRoom;
-use crate::row_fill::fill_rows;
-use crate::slots::{Links, Spot};
+use crate::row_fill::{fill_asked, fill_rows};
+use crate::slots::Spot;
 use parse_graph::Graph;
 use roster_model::LetterPrice;
-use span_cells::Cell;
+use span_cells::PackedSum;
 
 // Puts all sums into the cells.
-fn copy<N: Number>(sums: &[Sum<N>], values: &mut [Cell])
+fn copy<N: Number>(sums: &[Sum<N>], values: &mut [PackedSum])
     requires count { length sums.now ≡ length values.old }
     requires small { AreSmall N.limits.sum sums.now }
     ensures { values.new ≡ sums.now }
 {
     for slot in 0..sums.len() {
-        values[slot] = Cell::new(sums[slot].sum());
+        values[slot] = PackedSum::new(sums[slot].sum());
     }
 }
 
@@ -38,7 +39,7 @@ fn fill_cells<N: Number, P: LetterPrice>(
     letters: &[Spot],
     order: &Order,
     room: &mut PassRoom<N>,
-    values: &mut [Cell],
+    values: &mut [PackedSum],
     best: &mut [u32],
 ) -> bool
     requires graph { HasGrammar graph.now }
@@ -69,50 +70,80 @@ fn fill_cells<N: Number, P: LetterPrice>(
     true
 }
 
-/// Puts into the slot of each node of the graph the least sum of what stands there, or none, and keeps
-/// an arc that has it at the top. Where there is an order of the nodes, the sums are found row by row, in
-/// numbers of 64 bits where the prices are narrow, and else of 128 bits.
-pub fn fill_slots<P: LetterPrice>(
+// Passes all rows of an order in numbers that fit all prices and sums, asking for the prices of the arcs
+// one by one, and puts the sums into the cells.
+fn fill_wide_cells<P: LetterPrice>(
     graph: &Graph,
     prices: &P,
-    links: &Links,
     letters: &[Spot],
-    order: &Option<Order>,
-    narrow: &mut PassRoom<i64>,
-    wide: &mut PassRoom<i128>,
-    values: &mut [Cell],
+    order: &Order,
+    room: &mut PassRoom<i128>,
+    values: &mut [PackedSum],
     best: &mut [u32],
 )
     requires graph { HasGrammar graph.now }
-    requires made { IsMadeFor graph.now (record {
-      links = links.now;
-      letters = letters.now;
-      order = order.now;
-      values = values.old;
-      best = best.old;
-    }) }
+    requires order { IsOrder graph.now letters.now order.now }
+    requires slots { length values.old ≡ length graph.now.nodes + 1 + length letters.now }
+    requires nodes { length best.old ≡ length graph.now.nodes }
+    requires room { IsRoomFor (length graph.now.arcs) (length values.old) room.old }
+    ensures room { IsRoomFor (length graph.now.arcs) (length values.old) room.new }
+    ensures passed { AreRowsPassed (2 ^ 110) (P.view prices.now) graph.now letters.now order.now values.new
+        best.new (length order.now.rows) }
+{
+    let rules = room.rules.as_mut_slice();
+    let sums = room.sums.as_mut_slice();
+    if !fill_asked(
+        graph,
+        prices,
+        letters,
+        order,
+        rules,
+        &mut room.extras,
+        sums,
+        best,
+    ) {
+        unreachable!();
+    }
+    copy(room.sums.as_slice(), values);
+}
+
+/// Puts into the slot of each node of the graph the least sum of what stands there, or none, and keeps
+/// an arc that has it at the top.
+///
+/// The sums are found row by row, in numbers of 64 bits where the prices are narrow, and else of 128 bits;
+/// where the prices that are listed do not fit these on the way, the arcs are asked for one by one.
+pub fn fill_slots<P: LetterPrice>(
+    graph: &Graph,
+    prices: &P,
+    letters: &[Spot],
+    order: &Order,
+    narrow: &mut PassRoom<i64>,
+    wide: &mut PassRoom<i128>,
+    values: &mut [PackedSum],
+    best: &mut [u32],
+)
+    requires graph { HasGrammar graph.now }
+    requires order { IsOrder graph.now letters.now order.now }
+    requires slots { length values.old ≡ length graph.now.nodes + 1 + length letters.now }
+    requires nodes { length best.old ≡ length graph.now.nodes }
     requires narrow { IsRoomFor (length graph.now.arcs) (length values.old) narrow.old }
     requires wide { IsRoomFor (length graph.now.arcs) (length values.old) wide.old }
     ensures narrow { IsRoomFor (length graph.now.arcs) (length values.old) narrow.new }
     ensures wide { IsRoomFor (length graph.now.arcs) (length values.old) wide.new }
-    ensures filled { (g : Rules) → IsSound g → IsGraph g graph.now
+    ensures filled { (g : Rules) → IsSound g → IsGraph g graph.now → (links : Joined) (held : Option Found)
         → IsFilled g (P.view prices.now) graph.now (record {
-          links = links.now;
+          links = links;
           letters = letters.now;
-          order = order.now;
+          order = held;
           values = values.new;
           best = best.new;
         }) }
 {
-    let Some(order) = order else {
-        fill(graph, prices, links, letters, values, best);
-        return;
-    };
     if fill_cells(graph, prices, letters, order, narrow, values, best) {
         return;
     }
     if fill_cells(graph, prices, letters, order, wide, values, best) {
         return;
     }
-    fill(graph, prices, links, letters, values, best);
+    fill_wide_cells(graph, prices, letters, order, wide, values, best);
 }

@@ -1,4 +1,4 @@
-ghost use Rattle.std.specs.Prelude.{◌≡◌, ◌≤ℤ◌, ◌+ℤ◌, ◌+◌, ◌^◌, pos, IfSome, None, Some};
+ghost use Rattle.std.specs.Prelude.{◌≡◌, ◌≤ℤ◌, ◌+ℤ◌, ◌+◌, ◌^◌, pos, IfSome, IfNone, None, Some};
 ghost use Rattle.roster_model.specs.Sums.{plus, Within};
 ghost use Rattle.cheapest_tree.specs.Numbers.{sum_but, IsBetter};
 
@@ -37,10 +37,11 @@ impl<N: Number> Clone for Price<N> {
 }
 
 impl<N: Number> Price<N> {
-    /// Returns a price; `None` where it is beyond the limits.
+    /// Returns a price; `None` exactly where it is beyond the limits.
     pub fn new(price: i128) -> Option<Price<N>>
         ensures same { IfSome result (λ z. z ≡ price) }
         ensures within { IfSome result (Within N.limits.price) }
+        ensures beyond { IfNone result (Within N.limits.price price → ⊥) }
     {
         let number = N::price(price)?;
         Some(Price { number })
@@ -189,10 +190,12 @@ impl<N: Number> Least<N> {
         }
     }
 
-    /// Returns the sum; `None` where it is beyond the limits.
+    /// Returns the sum; `None` exactly where it is beyond the limits.
     pub fn sum(self) -> Option<Sum<N>>
         ensures sum { IfSome result (λ n. n ≡ sum_but N.limits.least (N.value self.number)) }
         ensures small { IfSome result (λ n. IfSome n (Within N.limits.sum)) }
+        ensures beyond { IfNone result (IfSome (sum_but N.limits.least (N.value self.number))
+            (Within N.limits.sum) → ⊥) }
     {
         if self.number.is_same(N::no_least()) {
             return Some(Sum::none());

@@ -31,9 +31,7 @@ impl Letters {
     pub fn new(alloc: Global) -> Result<Letters, Memory>
         ensures { IfOk result (λ s. length s.list ≡ 0) }
     {
-        let Ok(numbers) = vec![in alloc; 0; LETTERS] else {
-            return Err(Memory);
-        };
+        let numbers = vec![in alloc; 0; LETTERS]?;
         Ok(Letters {
             list: List::new(alloc),
             numbers,

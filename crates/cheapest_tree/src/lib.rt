@@ -1,8 +1,7 @@
-//! The cheapest tree of a day on the graph of all its parses, by one pass over the arcs.
+//! The cheapest tree of a day on the graph of all its parses, by one pass over its nodes and arcs.
 #![tactic(auto)]
 
 mod extras;
-mod fill;
 mod fill_slots;
 mod join;
 mod least;

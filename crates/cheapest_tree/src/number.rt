@@ -1,4 +1,4 @@
-ghost use Rattle.std.specs.Prelude.{◌≡◌, ◌+◌, ◌+ℤ◌, ◌<ℤ◌, ◌≤ℤ◌, ℤ, pos, IsTrue, IsFalse, IfSome};
+ghost use Rattle.std.specs.Prelude.{◌≡◌, ◌+◌, ◌+ℤ◌, ◌<ℤ◌, ◌≤ℤ◌, ℤ, pos, IsTrue, IsFalse, IfSome, IfNone};
 ghost use Rattle.std.specs.Ordering.{int_eq};
 ghost use Rattle.roster_model.specs.Sums.{Within};
 ghost use Rattle.cheapest_tree.specs.Numbers.{Limits, AreLimits};
@@ -15,10 +15,11 @@ pub trait Number: Copy {
     // How great prices and sums may be, and which numbers stand for no least sum and for none.
     ghost limits: { Limits };
 
-    /// Returns a price; `None` where it is beyond the limits.
+    /// Returns a price; `None` exactly where it is beyond the limits.
     fn price(price: i128) -> Option<Self>
         ensures same { IfSome result (λ n. value n ≡ price) }
-        ensures within { IfSome result (λ n. Within limits.price (value n)) };
+        ensures within { IfSome result (λ n. Within limits.price (value n)) }
+        ensures beyond { IfNone result (Within limits.price price → ⊥) };
 
     /// Returns 0.
     fn zero() -> Self
@@ -60,7 +61,8 @@ pub trait Number: Copy {
 
     /// Returns whether it is within the limit of sums.
     fn is_sum(self) -> bool
-        ensures { IsTrue result → Within limits.sum (value self) };
+        ensures within { IsTrue result → Within limits.sum (value self) }
+        ensures beyond { IsFalse result → Within limits.sum (value self) → ⊥ };
 
     ghost are_limits: { AreLimits limits };
 }

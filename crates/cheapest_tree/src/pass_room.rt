@@ -30,13 +30,9 @@ impl<N: Number> PassRoom<N> {
     pub fn new(alloc: Global, arcs: usize, slots: usize) -> Result<PassRoom<N>, Memory>
         ensures { IfOk result (IsRoomFor arcs slots) }
     {
-        let Ok(rules) = vec![in alloc; Price::zero(); CODES] else {
-            return Err(Memory);
-        };
+        let rules = vec![in alloc; Price::zero(); CODES]?;
         let extras = Extras::new(alloc, arcs)?;
-        let Ok(sums) = vec![in alloc; Sum::none(); slots] else {
-            return Err(Memory);
-        };
+        let sums = vec![in alloc; Sum::none(); slots]?;
         Ok(PassRoom {
             rules,
             extras,

@@ -1,7 +1,7 @@
 ghost use Rattle.std.specs.Prelude.{◌≡◌, ◌≤◌, ◌≤ℤ◌, ◌<◌, ◌+◌, ◌^◌, IsTrue, IfSome, List as Items, Some, ℕ, pos, length, slice_set};
 ghost use Rattle.roster_model.specs.declared.grammar.ArcKey.{ArcKey as Key};
 ghost use Rattle.roster_model.specs.RoomPrices.{listed_price};
-ghost use Rattle.roster_model.specs.Sums.{PriceView, plus, Within};
+ghost use Rattle.roster_model.specs.Sums.{PriceView, plus, Within, AllWithin};
 ghost use Rattle.parse_graph.specs.Graphs.{GraphView, HasGrammar};
 ghost use Rattle.cheapest_tree.specs.Extras.{AreFree, AreFreeBut, AreCosts};
 ghost use Rattle.cheapest_tree.specs.Numbers.{AreSmall, AreRules, IsBetter, sum_but};
@@ -17,10 +17,12 @@ use crate::slots::Spot;
 use parse_graph::Graph;
 use roster_model::{ArcPrice, LetterPrice};
 
-// Puts the price of each rule at its number plus 1, and returns true; false where one is too wide.
+// Puts the price of each rule at its number plus 1, and returns true; false where one is too wide, which
+// none is in numbers that fit all prices.
 fn put_rules<N: Number, P: LetterPrice>(prices: &P, rules: &mut [Price<N>]) -> bool
     requires { length rules.old ≡ 257 }
-    ensures { IsTrue result → AreRules N.limits.price (P.view prices.now) rules.new }
+    ensures rules { IsTrue result → AreRules N.limits.price (P.view prices.now) rules.new }
+    ensures fits { 2 ^ 96 ≤ N.limits.price → IsTrue result }
 {
     rules[0] = Price::zero();
     for rule in 0..256usize {
@@ -45,6 +47,7 @@ fn put_letter<N: Number, P: LetterPrice>(
         ≡ slice_set sums.old slot ((P.view prices.now).letter_at letter.code letter.period) }
     ensures small { IsTrue result → IfSome ((P.view prices.now).letter_at letter.code letter.period)
         (Within N.limits.sum) }
+    ensures fits { 2 ^ 96 ≤ N.limits.price → IsTrue result }
 {
     let Some(price) = prices.letter(letter.code, letter.period) else {
         sums[slot] = Sum::none();
@@ -69,6 +72,7 @@ fn begin<N: Number, P: LetterPrice>(
     requires room { length sums.old < 2 ^ 63 }
     ensures begun { IsTrue result → AreBegun (P.view prices.now) letters.now nodes sums.new }
     ensures small { IsTrue result → AreSmall N.limits.sum sums.new }
+    ensures fits { 2 ^ 96 ≤ N.limits.price → IsTrue result }
 {
     for node in 0..nodes {
         sums[node] = Sum::none();
@@ -123,8 +127,8 @@ fn least_of_row<N: Number>(
 {
     let row = order.rows.as_slice()[place];
     let makers = order.makers.as_slice();
-    let begin = row.begin as usize;
-    let count = row.end as usize - begin;
+    let begin = row.begin;
+    let count = row.end - begin;
     let mut least = Least::none();
     for index in 0..count {
         least = better(rules, extras, sums, makers[begin + index], least);
@@ -155,6 +159,9 @@ fn pass_row<N: Number>(
     ensures passed { IsTrue result → (p : PriceView) (v : GraphView) (letters : Items Spot)
         → AsksPass N.limits p v letters order.now sums.old best.old place rules.now extras.now
         → AreRowsPassed N.limits.sum p v letters order.now sums.new best.new (place + 1) }
+    ensures fits { 2 ^ 110 ≤ N.limits.sum → (p : PriceView) (v : GraphView) (letters : Items Spot)
+        → AsksPass N.limits p v letters order.now sums.old best.old place rules.now extras.now
+        → AllWithin (2 ^ 96) p → HasGrammar v → IsTrue result }
 {
     let least = least_of_row(rules, extras, order, sums, place);
     let Some(sum) = least.sum() else {
@@ -185,6 +192,7 @@ fn pass<N: Number, P: LetterPrice>(
     ensures passed { IsTrue result
         → AreRowsPassed N.limits.sum (P.view prices.now) graph.now letters.now order.now sums.new best.new
         (length order.now.rows) }
+    ensures fits { 2 ^ 96 ≤ N.limits.price → 2 ^ 110 ≤ N.limits.sum → HasGrammar graph.now → IsTrue result }
 {
     if !begin(prices, letters, graph.nodes() as usize, sums) {
         return false;
@@ -256,6 +264,7 @@ fn pass_asked<N: Number, P: LetterPrice>(
     ensures passed { IsTrue result
         → AreRowsPassed N.limits.sum (P.view prices.now) graph.now letters.now order.now sums.new best.new
         (length order.now.rows) }
+    ensures fits { 2 ^ 96 ≤ N.limits.price → 2 ^ 110 ≤ N.limits.sum → HasGrammar graph.now → IsTrue result }
     ensures count { length extras.new.prices.items ≡ length graph.now.arcs }
 {
     if !extras.ask_all(graph, prices) {
@@ -274,8 +283,42 @@ fn pass_asked<N: Number, P: LetterPrice>(
 }
 
 /// Puts into the slot of each node of the graph the least sum of what stands there, or none, and keeps
-/// an arc that has it at the top, and returns true; false where a price
-/// or a sum is beyond the limits of the numbers. The slots hold any numbers then.
+/// an arc that has it at the top, and returns true; false where a price or a sum is beyond the limits of
+/// the numbers, which none is in numbers that fit all prices and sums. The slots hold any numbers then.
+///
+/// Asks for the prices of the arcs one by one.
+pub fn fill_asked<N: Number, P: LetterPrice>(
+    graph: &Graph,
+    prices: &P,
+    letters: &[Spot],
+    order: &Order,
+    rules: &mut [Price<N>],
+    extras: &mut Extras<N>,
+    sums: &mut [Sum<N>],
+    best: &mut [u32],
+) -> bool
+    requires order { IsOrder graph.now letters.now order.now }
+    requires rules { length rules.old ≡ 257 }
+    requires slots { length sums.old ≡ length graph.now.nodes + 1 + length letters.now }
+    requires nodes { length best.old ≡ length graph.now.nodes }
+    requires free { AreFree (length graph.now.arcs) extras.old.prices.items }
+    ensures passed { IsTrue result
+        → AreRowsPassed N.limits.sum (P.view prices.now) graph.now letters.now order.now sums.new best.new
+        (length order.now.rows) }
+    ensures fits { 2 ^ 96 ≤ N.limits.price → 2 ^ 110 ≤ N.limits.sum → HasGrammar graph.now → IsTrue result }
+    ensures free { AreFree (length graph.now.arcs) extras.new.prices.items }
+{
+    if !put_rules(prices, rules) {
+        return false;
+    }
+    let is_passed = pass_asked(graph, prices, letters, order, rules, extras, sums, best);
+    extras.take_all_back();
+    is_passed
+}
+
+/// Puts into the slot of each node of the graph the least sum of what stands there, or none, and keeps
+/// an arc that has it at the top, and returns true; false where a price or a sum is beyond the limits of
+/// the numbers, or more prices of arcs are listed than there are arcs. The slots hold any numbers then.
 pub fn fill_rows<N: Number, P: LetterPrice>(
     graph: &Graph,
     prices: &P,
@@ -297,14 +340,12 @@ pub fn fill_rows<N: Number, P: LetterPrice>(
         (length order.now.rows) }
     ensures free { AreFree (length graph.now.arcs) extras.new.prices.items }
 {
+    let Some(entries) = prices.arc_prices() else {
+        return fill_asked(graph, prices, letters, order, rules, extras, sums, best);
+    };
     if !put_rules(prices, rules) {
         return false;
     }
-    let Some(entries) = prices.arc_prices() else {
-        let is_passed = pass_asked(graph, prices, letters, order, rules, extras, sums, best);
-        extras.take_all_back();
-        return is_passed;
-    };
     let is_passed = pass_listed(
         graph, prices, entries, letters, order, rules, extras, sums, best,
     );

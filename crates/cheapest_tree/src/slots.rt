@@ -27,10 +27,8 @@ pub struct Links {
 fn with_capacity(alloc: Global, count: usize) -> Result<List<u32>, Memory>
     ensures { IfOk result (λ list. list ≡ []) }
 {
-    match Vec::with_capacity(alloc, count) {
-        Ok(items) => Ok(List::from_vec(items)),
-        Err(_) => Err(Memory),
-    }
+    let items = Vec::with_capacity(alloc, count)?;
+    Ok(List::from_vec(items))
 }
 
 impl Links {

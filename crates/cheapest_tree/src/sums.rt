@@ -1,5 +1,5 @@
-ghost use Rattle.std.specs.Prelude.{◌≡◌, ◌^◌, ◌⊎◌, IfSome, Some};
-ghost use Rattle.roster_model.specs.Sums.{plus, Within, IsLesser};
+ghost use Rattle.std.specs.Prelude.{◌≡◌, ◌^◌, IfSome, Some};
+ghost use Rattle.roster_model.specs.Sums.{plus, Within};
 
 /// Returns the sum of a price and a sum, none where the sum is not there.
 pub fn add_price(price: i128, sum: Option<i128>) -> Option<i128>
@@ -24,28 +24,5 @@ pub fn add_part(first: Option<i128>, arc: i128, rest: Option<i128>) -> Option<i1
     match (first, rest) {
         (Some(x), Some(y)) => Some(x + (arc + y)),
         _ => None,
-    }
-}
-
-/// A least sum so far, and an arc that has it.
-#[derive(Clone, Copy, Drop)]
-pub struct Choice {
-    /// The sum, none where no arc so far has one.
-    pub sum: Option<i128>,
-    /// The place of the first arc that has it, any number where none has.
-    pub arc: u32,
-}
-
-impl Choice {
-    /// Returns the better of this choice and a new one; where they are equal, this one.
-    pub fn or(self, sum: Option<i128>, arc: u32) -> Choice
-        ensures lesser { IsLesser self.sum sum result.sum }
-        ensures chosen { (result ≡ self) ⊎ ((result.sum ≡ sum) × (result.arc ≡ arc)) }
-    {
-        match (self.sum, sum) {
-            (_, None) => self,
-            (Some(x), Some(y)) if x <= y => self,
-            _ => Choice { sum, arc },
-        }
     }
 }

@@ -1,13 +1,34 @@
-ghost use Rattle.std.specs.Prelude.{◌≡◌};
+ghost use Rattle.std.specs.Prelude.{◌≡◌, ◌^◌, IfSome};
 ghost use Rattle.roster_model.specs.declared.grammar.ArcKey.{ArcKey as Key};
-ghost use Rattle.roster_model.specs.Sums.{IsLeast, tree_sum};
+ghost use Rattle.roster_model.specs.Sums.{IsLeast, Within, tree_sum};
+ghost use Rattle.cheapest_tree.specs.AtNodes.{arc_total};
 ghost use Rattle.cheapest_tree.specs.Under.{IsTop, IsDayTreeUnder, AsksSum};
 
-use crate::fill::arc_sum;
 use crate::slots::Links;
+use crate::sums;
 use parse_graph::Graph;
-use roster_model::LetterPrice;
-use span_cells::Cell;
+use roster_model::{ArcKey, LetterPrice};
+use span_cells::PackedSum;
+
+// Returns the sum of an arc of the sums of its first part and of what follows it, none where either
+// is not there. The arc of a whole right side pays for its rule.
+fn arc_sum<P: LetterPrice>(
+    prices: &P,
+    arc: &ArcKey,
+    first: Option<i128>,
+    rest: Option<i128>,
+) -> Option<i128>
+    requires first { IfSome first (Within (2 ^ 110)) }
+    requires rest { IfSome rest (Within (2 ^ 110)) }
+    ensures { result ≡ arc_total (P.view prices.now) arc.now first rest }
+{
+    let parts = sums::add_part(first, prices.arc(arc), rest);
+    if arc.suffix == 0 {
+        sums::add_price(prices.rule(arc.rule), parts)
+    } else {
+        parts
+    }
+}
 
 /// Returns the least sum over the trees of the day with an arc at the top, of the values of a filled
 /// pricer.
@@ -15,7 +36,7 @@ pub fn least_under<P: LetterPrice>(
     graph: &Graph,
     prices: &P,
     links: &Links,
-    values: &[Cell],
+    values: &[PackedSum],
     arc: u32,
 ) -> Option<i128>
     requires { AsksSum (P.view prices.now) graph.now links.now values.now arc }

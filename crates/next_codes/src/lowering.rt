@@ -9,7 +9,7 @@ ghost use Rattle.next_codes.specs.Pushes.{symbol_of, SymbolDue, RestDue};
 
 use crate::totals::Totals;
 use roster_model::{Grammar, Rule, Sym};
-use span_cells::{Cell, Layout, Span, Suffix, place_of, slot_of};
+use span_cells::{Layout, PackedSum, Span, Suffix, place_of, slot_of};
 
 // Whether a sum is less than the best one, or there is none.
 fn is_less(sum: i128, best: Option<i128>) -> bool
@@ -23,13 +23,13 @@ fn is_less(sum: i128, best: Option<i128>) -> bool
 }
 
 // Lowers the sum at a place to another where that is less.
-fn lower(cells: &mut [Cell], place: usize, sum: i128)
+fn lower(cells: &mut [PackedSum], place: usize, sum: i128)
     requires place { place < length cells.old }
     requires sum { Within (2 ^ 110) sum }
     ensures { IsLowered place (Some sum) cells.old cells.new }
 {
     if is_less(sum, cells[place].sum()) {
-        cells[place] = Cell::new(Some(sum));
+        cells[place] = PackedSum::new(Some(sum));
     }
 }
 

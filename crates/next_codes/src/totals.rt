@@ -4,26 +4,24 @@ ghost use Rattle.span_cells.specs.Cells.{IsLayoutOf};
 ghost use Rattle.next_codes.specs.Totals.{AreCounted, AreNone};
 
 use roster_model::{Grammar, Memory};
-use span_cells::{Cell, Layout, count_cells};
+use span_cells::{Layout, PackedSum, count_cells};
 use std::alloc::Global;
 
 /// The least sums found so far of the trees of the day in which something stands on a span.
 #[derive(Drop)]
 pub struct Totals {
     /// The sum for each slot on each span, by the places of the cells.
-    pub cells: Vec<Cell>,
+    pub cells: Vec<PackedSum>,
     /// The sum for each code at each period.
-    pub letters: Vec<Cell>,
+    pub letters: Vec<PackedSum>,
 }
 
 // Cells of so many sums, none of which is there.
-fn no_sums(alloc: Global, count: usize) -> Result<Vec<Cell>, Memory>
+fn no_sums(alloc: Global, count: usize) -> Result<Vec<PackedSum>, Memory>
     ensures count { IfOk result (λ v. length v.items ≡ count) }
     ensures none { IfOk result (λ v. AreNone v.items) }
 {
-    let Ok(cells) = vec![in alloc; Cell::new(None); count] else {
-        return Err(Memory);
-    };
+    let cells = vec![in alloc; PackedSum::new(None); count]?;
     Ok(cells)
 }
 
@@ -52,7 +50,7 @@ impl Totals {
         ensures no_cells { AreNone self.new.cells.items }
         ensures no_letters { AreNone self.new.letters.items }
     {
-        self.cells.as_mut_slice().fill(Cell::new(None));
-        self.letters.as_mut_slice().fill(Cell::new(None));
+        self.cells.as_mut_slice().fill(PackedSum::new(None));
+        self.letters.as_mut_slice().fill(PackedSum::new(None));
     }
 }

@@ -2,7 +2,7 @@ ghost use Rattle.std.specs.Prelude.{◌≡◌, ◌≤◌, ◌<◌, Some, IfOk, I
 ghost use Rattle.roster_model.specs.Sound.{IsSound};
 ghost use Rattle.roster_model.specs.Folds.{In};
 ghost use Rattle.grammar_core.specs.Items.{IsNormal, IsOrder};
-ghost use Rattle.parse_graph.specs.Graphs.{IsGraph, IsRefused};
+ghost use Rattle.parse_graph.specs.Graphs.{HasGrammar, IsGraph, IsRefused};
 ghost use Rattle.parse_graph.specs.Levels.{IsUpward};
 ghost use Rattle.parse_graph.specs.Listed.{AreListed};
 
@@ -33,7 +33,7 @@ pub struct Graph {
 
 impl Model for Graph {
     ghost use Rattle.std.specs.Prelude.{◌≤◌, length};
-    ghost use Rattle.parse_graph.specs.Graphs.{GraphView};
+    ghost use Rattle.parse_graph.specs.Graphs.{GraphView, HasGrammar};
     ghost use Rattle.parse_graph.specs.Levels.{AreInOrder};
     ghost use Rattle.parse_graph.specs.Joined.{view_of, HaveLengths};
 
@@ -42,7 +42,8 @@ impl Model for Graph {
     ghost view = { λ s. view_of s.arcs.arcs (record { links = s.links; nodes = s.nodes; root = s.root }) };
 
     ghost invariant = { λ s. AreInOrder s.arcs.arcs s.arcs.places × (length s.arcs.arcs ≤ 100000)
-        × HaveLengths s.arcs.arcs (record { links = s.links; nodes = s.nodes; root = s.root }) };
+        × HaveLengths s.arcs.arcs (record { links = s.links; nodes = s.nodes; root = s.root })
+        × HasGrammar (view_of s.arcs.arcs (record { links = s.links; nodes = s.nodes; root = s.root })) };
 }
 
 // The arcs of the instance in their order, where they are few. What tells them is given back.
@@ -98,10 +99,11 @@ impl Graph {
         self.arcs.arcs.as_slice()
     }
 
-    /// Returns how many nodes there are.
+    /// Returns how many nodes there are. The graph is that of a sound grammar, as each graph is.
     pub fn nodes(&self) -> u32
         ensures nodes { result ≡ length self.now.nodes }
         ensures few { result ≤ 100000 }
+        ensures grammar { HasGrammar self.now }
     {
         self.nodes.keys.len() as u32
     }

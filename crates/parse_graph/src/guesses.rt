@@ -44,9 +44,7 @@ impl Guesses {
     pub fn new(alloc: Global, arcs: usize) -> Result<Guesses, Memory>
         requires { arcs ≤ 100000 }
     {
-        let Ok(numbers) = vec![in alloc; 0; arcs.next_power_of_two()] else {
-            return Err(Memory);
-        };
+        let numbers = vec![in alloc; 0; arcs.next_power_of_two()]?;
         Ok(Guesses { numbers })
     }
 

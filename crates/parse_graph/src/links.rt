@@ -155,13 +155,9 @@ fn number_of(
     if let Some(number) = guesses.number(nodes, &key) {
         return Ok(number);
     }
-    match nodes.insert_full(key) {
-        Ok((number, _)) => {
-            guesses.keep(&key, number as u32);
-            Ok(number as u32)
-        }
-        Err(_) => Err(Memory),
-    }
+    let (number, _) = nodes.insert_full(key)?;
+    guesses.keep(&key, number as u32);
+    Ok(number as u32)
 }
 
 // Adds a use of a kid that is a node.

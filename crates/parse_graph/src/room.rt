@@ -11,8 +11,6 @@ use std::alloc::Global;
 pub fn with_room<T>(alloc: Global, items: usize) -> Result<List<T>, Memory>
     ensures { IfOk result (λ list. list ≡ []) }
 {
-    match Vec::with_capacity(alloc, items) {
-        Ok(list) => Ok(List::from_vec(list)),
-        Err(_) => Err(Memory),
-    }
+    let list = Vec::with_capacity(alloc, items)?;
+    Ok(List::from_vec(list))
 }

@@ -95,9 +95,7 @@ fn add_names(alloc: Global, grammar: &Grammar, slots: &mut List<Slot>) -> Result
     let Ok(ranks) = unit_ranks(grammar) else {
         unreachable!();
     };
-    let Ok(mut names) = vec![in alloc; 0; grammar.names.len()] else {
-        return Err(Memory);
-    };
+    let mut names = vec![in alloc; 0; grammar.names.len()]?;
     add_ranks(slots, names.as_mut_slice(), &ranks)?;
     Ok(names)
 }

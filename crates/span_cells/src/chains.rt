@@ -27,12 +27,8 @@ impl Chains {
     {
         let rules = grammar.rules.len();
         let none = rules as u8 + 1;
-        let Ok(mut first) = vec![in alloc; none; grammar.names.len()] else {
-            return Err(Memory);
-        };
-        let Ok(mut next) = vec![in alloc; none; rules] else {
-            return Err(Memory);
-        };
+        let mut first = vec![in alloc; none; grammar.names.len()]?;
+        let mut next = vec![in alloc; none; rules]?;
         for index in (0..rules).rev() {
             let number = index as u8 + 1;
             let left = rule_of(grammar, number).left as usize;

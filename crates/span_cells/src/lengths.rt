@@ -143,9 +143,7 @@ fn all_names(alloc: Global, grammar: &Grammar) -> Result<Vec<Lengths>, Memory>
     ensures count { IfOk result (λ v. length v.items ≡ length grammar.now.names) }
     ensures hold { IfOk result (λ v. HoldNames grammar.now v.items) }
 {
-    let Ok(mut names) = vec![in alloc; Lengths::all(); grammar.names.len()] else {
-        return Err(Memory);
-    };
+    let mut names = vec![in alloc; Lengths::all(); grammar.names.len()]?;
     for _ in 0..ROUNDS {
         narrow(grammar, names.as_mut_slice());
     }
@@ -184,9 +182,7 @@ pub fn slot_lengths(
     ensures { IfOk result (λ v. AreLengths grammar.now slots.now v.items (length slots.now)) }
 {
     let names = all_names(alloc, grammar)?;
-    let Ok(mut lengths) = vec![in alloc; Lengths::all(); slots.len()] else {
-        return Err(Memory);
-    };
+    let mut lengths = vec![in alloc; Lengths::all(); slots.len()]?;
     for slot in 0..slots.len() {
         lengths[slot] = lengths_of(grammar, names.as_slice(), slots[slot]);
     }

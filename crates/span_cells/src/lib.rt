@@ -4,7 +4,6 @@
 #![tactic(auto)]
 
 mod build;
-mod cell;
 mod cells;
 mod chains;
 mod fill;
@@ -13,6 +12,7 @@ mod laws;
 mod layout;
 mod lengths;
 mod names;
+mod packed_sum;
 mod parts;
 mod periods;
 mod points;
@@ -24,7 +24,6 @@ mod sum_cells;
 mod sums;
 
 pub use build::layout_of;
-pub use cell::{Cell, NO_NUMBER};
 pub use cells::Cells;
 pub use chains::Chains;
 pub use fill::fill_cells;
@@ -33,6 +32,7 @@ pub use laws::places_differ;
 pub use layout::{count_cells, count_spots, number_at, place_of, slot_of, sum_at};
 pub use lengths::Lengths;
 pub use names::least_rule;
+pub use packed_sum::{NO_NUMBER, PackedSum};
 pub use parts::{least_part, rest_least, symbol_least};
 pub use periods::Periods;
 pub use points::split_points;

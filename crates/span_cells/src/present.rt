@@ -26,12 +26,8 @@ impl Present {
         ensures ends { IfOk result (λ p. length p.ends.items ≡ count) }
         ensures starts { IfOk result (λ p. length p.starts.items ≡ count) }
     {
-        let Ok(ends) = vec![in alloc; Periods::none(); count] else {
-            return Err(Memory);
-        };
-        let Ok(starts) = vec![in alloc; Periods::none(); count] else {
-            return Err(Memory);
-        };
+        let ends = vec![in alloc; Periods::none(); count]?;
+        let starts = vec![in alloc; Periods::none(); count]?;
         Ok(Present { ends, starts })
     }
 

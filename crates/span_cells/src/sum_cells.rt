@@ -2,9 +2,9 @@ ghost use Rattle.std.specs.Prelude.{◌≡◌, IfOk};
 ghost use Rattle.roster_model.specs.Sound.{IsSound};
 ghost use Rattle.span_cells.specs.Cells.{AreMade, IsLayoutOf, IsReady};
 
-use crate::cell::Cell;
 use crate::cells::Cells;
 use crate::layout::{count_cells, count_spots};
+use crate::packed_sum::PackedSum;
 use crate::present::Present;
 use crate::slot::{Layout, Span};
 use roster_model::{Grammar, Memory};
@@ -14,7 +14,7 @@ use std::marker::Model;
 /// Cells for any sums, sixteen bytes each.
 #[derive(Drop)]
 pub struct SumCells {
-    cells: Vec<Cell>,
+    cells: Vec<PackedSum>,
     present: Present,
 }
 
@@ -35,9 +35,7 @@ impl SumCells {
     pub fn new(alloc: Global, count: usize, spots: usize) -> Result<SumCells, Memory>
         ensures { IfOk result (AreMade count spots) }
     {
-        let Ok(cells) = vec![in alloc; Cell::new(None); count] else {
-            return Err(Memory);
-        };
+        let cells = vec![in alloc; PackedSum::new(None); count]?;
         let present = Present::new(alloc, spots)?;
         Ok(SumCells { cells, present })
     }
@@ -79,7 +77,7 @@ impl Cells for SumCells {
 
     // Sets the sum at a place.
     fn set(&mut self, place: usize, sum: Option<i128>) {
-        self.cells[place] = Cell::new(sum);
+        self.cells[place] = PackedSum::new(sum);
     }
 
     // Returns the spans that are noted.

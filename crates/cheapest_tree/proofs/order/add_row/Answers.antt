@@ -1,13 +1,15 @@
-use Rattle.std.proofs.Common.{true, List, subst, sym, refl, set}
+use Rattle.std.proofs.Common.{◌+◌, List, subst, sym, refl}
 use Rattle.cheapest_tree.specs.declared.order.Row.{Row}
-use Rattle.cheapest_tree.specs.Orders.{IsOrderSoFar}
-use Rattle.cheapest_tree.proofs.OrdersLemmas.{order-next}
+use Rattle.cheapest_tree.specs.Orders.{IsOrderBefore}
+use Rattle.cheapest_tree.proofs.OrdersLemmas.{maker-makes, order-next}
 use Rattle.cheapest_tree.proofs.order.add_row.Goals as goal
 
+pub add_makers-requires-clause-arcs : goal.add_makers-requires-clause-arcs
+add_makers-requires-clause-arcs c = λ i q e. (maker-makes c.requires.graph.0 c.args.graph.now c.requires.graph.2 c.args.node c.makers-arcs.result.now c.requires.node c.makers-arcs.ensures i q e).0
+
 pub returns : goal.returns
-returns c = record {
-  order = λ done.
-      subst (λ (q : List Row). IsOrderSoFar c.args.graph.now c.args.letters.now (set c.args.done.now c.args.node true) (record { rows = q; makers = c.add_makers.new.makers })) (sym c.in_ok-push.ensures.ok)
-      (order-next c.args.graph.now c.args.letters.now c.args.done.now c.args.order.now c.args.node c.makers-arcs.result.now c.add_makers.new.makers _ c.requires.order c.requires.node c.requires.done c.makers-arcs.ensures
-      (c.in_ok-add_makers.ensures c.if-not-branch.false) refl c.len-begin.ensures c.len-end.ensures);
-}
+returns c = λ letters place are made_by past old.
+    let of = c.requires.graph in
+    subst (λ (q : List Row). IsOrderBefore c.args.graph.now letters (place + 1) (record { rows = q; makers = c.add_makers.new.makers })) (sym c.in_ok-push.ensures.ok)
+    (order-next of.0 c.args.graph.now of.2 letters place c.args.node made_by c.args.links.now are c.args.order.now c.makers-arcs.result.now c.add_makers.new.makers _ c.requires.node c.makers-arcs.ensures
+    past c.in_ok-add_makers.ensures refl c.len-begin.ensures c.len-end.ensures old)

@@ -1,4 +1,4 @@
-use Rattle.std.proofs.Common.{arith, ◌≡◌, ◌+◌, ℤ, List, Option, Some, get_or, ap, subst, sym, ◌∙◌, length}
+use Rattle.std.proofs.Common.{arith, rules, ◌≡◌, ◌+◌, ℤ, List, Option, Some, get_or, ap, subst, sym, ◌∙◌, length}
 use Rattle.std.specs.Prelude.{slice_get}
 use Rattle.std.proofs.lemmas.Option.{slice_get-get_or}
 use Rattle.cheapest_tree.specs.Numbers.{sum_but, IsBetter}
@@ -23,6 +23,15 @@ bounds-makers-begin g c =
     let at = row-read c.args.order.now c.as_slice.result.now c.args.place (record { node = 0; begin = 0; end = 0 }) asks.inside c.as_slice.ensures in
     let inside = row-inside g.N.Number.limits.sum h.0 h.1 h.2 c.args.order.now c.args.sums.now h.3 c.args.place asks _ at c.loop-index.index c.loop-index-test.true in
     omega (arith, inside, ap length c.as_slice-makers.ensures)
+
+pub offset_bounds-makers-begin : goal.offset_bounds-makers-begin
+offset_bounds-makers-begin g c =
+    let h = c.requires.asks in
+    let asks = h.4.row in
+    let at = row-read c.args.order.now c.as_slice.result.now c.args.place (record { node = 0; begin = 0; end = 0 }) asks.inside c.as_slice.ensures in
+    let inside = row-inside g.N.Number.limits.sum h.0 h.1 h.2 c.args.order.now c.args.sums.now h.3 c.args.place asks _ at c.loop-index.index c.loop-index-test.true in
+    let count = ap length c.as_slice-makers.ensures in
+    search rules
 
 pub better-least-requires-clause-maker : goal.better-least-requires-clause-maker
 better-least-requires-clause-maker g c =

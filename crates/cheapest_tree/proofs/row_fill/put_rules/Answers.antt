@@ -32,8 +32,8 @@ loop-rule-preserved g c =
       small = rules-small rules n z inside g.N.Number.limits.price c.in-Some.ensures.within inv.small;
     }
 
-pub returns : goal.returns
-returns g c = λ yes.
+pub returns-clause-rules : goal.returns-clause-rules
+returns-clause-rules g c = λ yes.
     let inv = c.loop-rule.invariant in
     record {
       count = inv.count;
@@ -41,3 +41,8 @@ returns g c = λ yes.
       each = λ r lt. inv.each r (omega (arith, lt, c.loop-rule-test.false));
       small = λ k lt. inv.small k (omega (arith, lt, c.loop-rule-test.false));
     }
+
+pub returns-in_default-clause-fits : goal.returns-in_default-clause-fits
+returns-in_default-clause-fits g c = λ le.
+    let price = c.rule.ensures.within in
+    absurd (c.in_default.ensures.beyond (record { low = omega (arith, ints, le, price.low, price.high); high = omega (arith, ints, le, price.low, price.high) }))

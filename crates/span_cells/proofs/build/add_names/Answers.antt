@@ -15,11 +15,11 @@ unreachable-requires c =
 
 pub returns : goal.returns
 returns c =
-    let own : length c.as_mut_slice.result.now ≡ length c.args.grammar.now.names = omega (arith, c.in-Ok-vec.ensures.len) in
-    let now : length c.add_ranks.new.names ≡ length c.args.grammar.now.names = omega (arith, c.in-Ok-vec.ensures.len) in
-    let room : length c.add_ranks.new.names ≡ c.in-Ok-vec.names.len = omega arith in
+    let own : length c.as_mut_slice.result.now ≡ length c.args.grammar.now.names = omega (arith, c.in_ok-names.ensures.len) in
+    let now : length c.add_ranks.new.names ≡ length c.args.grammar.now.names = omega (arith, c.in_ok-names.ensures.len) in
+    let room : length c.add_ranks.new.names ≡ c.in_ok-names.names.len = omega arith in
     let same : length c.as_mut_slice.result.now ≡ length c.add_ranks.new.names = own ∙ sym now in
-    let e = take_at c.add_ranks.new.names (drop (length c.add_ranks.new.names) c.in-Ok-vec.names.items) c.in-Ok-vec.names.len room in
+    let e = take_at c.add_ranks.new.names (drop (length c.add_ranks.new.names) c.in_ok-names.names.items) c.in_ok-names.names.len room in
     let h = c.in_ok-add_ranks.ensures c.args.slots.now
     (names-init c.in-Ok.ranks c.args.slots.now c.as_mut_slice.result.now (IsDone c.in-Ok.ranks (length c.as_mut_slice.result.now) 0) c.requires.unnamed
     (λ x lt d. let b = rank-below c.args.grammar.now c.requires.sound (slice_index c.in-Ok.ranks) c.in-Ok.ensures.ranked x (omega (arith, lt, own)) in omega (arith, b, d, own))) in

@@ -4,6 +4,6 @@ use Rattle.span_cells.proofs.lengths.all_names.Goals as goal
 
 pub loop-init : goal.loop-init
 loop-init c = record {
-  count = omega (arith, c.in-Ok.ensures.len);
-  hold = hold-all c.args.grammar.now c.in-Ok.names.items _ c.all.result (c.in-Ok.ensures.items_if_clones_equal (λ y e. e)) c.all.ensures;
+  count = omega (arith, c.in_ok-names.ensures.len);
+  hold = hold-all c.args.grammar.now c.in_ok-names.names.items _ c.all.result (c.in_ok-names.ensures.items_if_clones_equal (λ y e. e)) c.all.ensures;
 }

@@ -37,3 +37,8 @@ returns-clause-costs g c = λ yes.
           inv.each k a (omega (arith, lt, arcs, c.loop-place-test.false)) here;
       small = within-all g.N.Number.limits.price c.loop-place.self.prices.items (λ k lt. inv.small k (omega (arith, lt, inv.count, arcs, c.loop-place-test.false)));
     }
+
+pub returns-in_default-clause-fits : goal.returns-in_default-clause-fits
+returns-in_default-clause-fits g c = λ le.
+    let price = c.arc.ensures.within in
+    absurd (c.in_default.ensures.beyond (record { low = omega (arith, ints, le, price.low, price.high); high = omega (arith, ints, le, price.low, price.high) }))

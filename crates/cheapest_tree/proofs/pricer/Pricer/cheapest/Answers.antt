@@ -11,8 +11,8 @@ use Rattle.cheapest_tree.proofs.pricer.Pricer.cheapest.Goals as goal
 
 pub returns-in_err-root-clause-kept : goal.returns-in_err-root-clause-kept
 returns-in_err-root-clause-kept g c = λ v made.
-    let old : IsMadeFor v (record { links = c.self.inside.links; letters = c.self.inside.letters; order = c.self.inside.order; values = c.self.inside.values.items; best = c.self.inside.best.items }) = subst (λ (w : PricerView). IsMadeFor v w) (sym c.self.view_is) made in
-    made-kept v c.self.inside.links c.self.inside.letters c.self.inside.order c.self.inside.values.items c.fill_slots.new.values (drop (length c.fill_slots.new.values) c.self.inside.values.items) c.self.inside.values.len
+    let old : IsMadeFor v (record { links = c.self.inside.links; letters = c.self.inside.letters; order = Some c.self.inside.order; values = c.self.inside.values.items; best = c.self.inside.best.items }) = subst (λ (w : PricerView). IsMadeFor v w) (sym c.self.view_is) made in
+    made-kept v c.self.inside.links c.self.inside.letters (Some c.self.inside.order) c.self.inside.values.items c.fill_slots.new.values (drop (length c.fill_slots.new.values) c.self.inside.values.items) c.self.inside.values.len
     c.self.inside.best.items c.fill_slots.new.best (drop (length c.fill_slots.new.best) c.self.inside.best.items) c.self.inside.best.len (omega arith) (omega arith) (omega arith) (omega arith) old
 
 pub index-requires : goal.index-requires
@@ -33,30 +33,30 @@ returns-clause-least g c = λ g2 sound graph.
     let read : c.sum.result ≡ value_at c.fill_slots.new.values c.in_ok-root.root =
     value-read c.fill_slots.new.values c.in_ok-root.root c.index.result.now c.sum.result (omega (arith, lt, same, c.requires.made.slots)) (c.sum.ensures ∙ c.index.ensures ∙ ap (λ (q : List (Option ℤ)). get_or q c.in_ok-root.root c.index.result.now) whole) in
     subst (λ (q : Option ℤ). IsLeast (IsDayTree g2) (tree_sum (g.P.LetterPrice.view c.args.prices.now) 1) q) (sym read)
-    (day-least g2 (g.P.LetterPrice.view c.args.prices.now) c.args.graph.now graph c.fill_slots.new.values (c.fill_slots.ensures.filled g2 sound graph).nodes c.in_ok-root.root e)
+    (day-least g2 (g.P.LetterPrice.view c.args.prices.now) c.args.graph.now graph c.fill_slots.new.values (c.fill_slots.ensures.filled g2 sound graph c.self.inside.links (Some c.self.inside.order)).nodes c.in_ok-root.root e)
 
 pub returns-in_err-root-clause-filled : goal.returns-in_err-root-clause-filled
 returns-in_err-root-clause-filled g c = λ g2 sound graph.
     subst (λ (q : List ℕ). IsFilled g2 (g.P.LetterPrice.view c.args.prices.now) c.args.graph.now
-    (record { links = c.self.inside.links; letters = c.self.inside.letters; order = c.self.inside.order; values = take c.self.inside.values.len (c.fill_slots.new.values ++ drop (length c.fill_slots.new.values) c.self.inside.values.items); best = q }))
+    (record { links = c.self.inside.links; letters = c.self.inside.letters; order = Some c.self.inside.order; values = take c.self.inside.values.len (c.fill_slots.new.values ++ drop (length c.fill_slots.new.values) c.self.inside.values.items); best = q }))
     (sym (take_at c.fill_slots.new.best (drop (length c.fill_slots.new.best) c.self.inside.best.items) c.self.inside.best.len (omega arith)))
     (subst (λ (q : List (Option ℤ)). IsFilled g2 (g.P.LetterPrice.view c.args.prices.now) c.args.graph.now
-    (record { links = c.self.inside.links; letters = c.self.inside.letters; order = c.self.inside.order; values = q; best = c.fill_slots.new.best }))
+    (record { links = c.self.inside.links; letters = c.self.inside.letters; order = Some c.self.inside.order; values = q; best = c.fill_slots.new.best }))
     (sym (take_at c.fill_slots.new.values (drop (length c.fill_slots.new.values) c.self.inside.values.items) c.self.inside.values.len (omega arith)))
-    (rw (← c.as_slice.ensures) (c.fill_slots.ensures.filled g2 sound graph)))
+    (rw (← c.as_slice.ensures) (c.fill_slots.ensures.filled g2 sound graph c.self.inside.links (Some c.self.inside.order))))
 
 pub returns-clause-filled : goal.returns-clause-filled
 returns-clause-filled g c = λ g2 sound graph.
     subst (λ (q : List ℕ). IsFilled g2 (g.P.LetterPrice.view c.args.prices.now) c.args.graph.now
-    (record { links = c.self.inside.links; letters = c.self.inside.letters; order = c.self.inside.order; values = take c.self.inside.values.len (c.fill_slots.new.values ++ drop (length c.fill_slots.new.values) c.self.inside.values.items); best = q }))
+    (record { links = c.self.inside.links; letters = c.self.inside.letters; order = Some c.self.inside.order; values = take c.self.inside.values.len (c.fill_slots.new.values ++ drop (length c.fill_slots.new.values) c.self.inside.values.items); best = q }))
     (sym (take_at c.fill_slots.new.best (drop (length c.fill_slots.new.best) c.self.inside.best.items) c.self.inside.best.len (omega arith)))
     (subst (λ (q : List (Option ℤ)). IsFilled g2 (g.P.LetterPrice.view c.args.prices.now) c.args.graph.now
-    (record { links = c.self.inside.links; letters = c.self.inside.letters; order = c.self.inside.order; values = q; best = c.fill_slots.new.best }))
+    (record { links = c.self.inside.links; letters = c.self.inside.letters; order = Some c.self.inside.order; values = q; best = c.fill_slots.new.best }))
     (sym (take_at c.fill_slots.new.values (drop (length c.fill_slots.new.values) c.self.inside.values.items) c.self.inside.values.len (omega arith)))
-    (rw (← c.as_slice.ensures) (c.fill_slots.ensures.filled g2 sound graph)))
+    (rw (← c.as_slice.ensures) (c.fill_slots.ensures.filled g2 sound graph c.self.inside.links (Some c.self.inside.order))))
 
 pub returns-clause-kept : goal.returns-clause-kept
 returns-clause-kept g c = λ v made.
-    let old : IsMadeFor v (record { links = c.self.inside.links; letters = c.self.inside.letters; order = c.self.inside.order; values = c.self.inside.values.items; best = c.self.inside.best.items }) = subst (λ (w : PricerView). IsMadeFor v w) (sym c.self.view_is) made in
-    made-kept v c.self.inside.links c.self.inside.letters c.self.inside.order c.self.inside.values.items c.fill_slots.new.values (drop (length c.fill_slots.new.values) c.self.inside.values.items) c.self.inside.values.len
+    let old : IsMadeFor v (record { links = c.self.inside.links; letters = c.self.inside.letters; order = Some c.self.inside.order; values = c.self.inside.values.items; best = c.self.inside.best.items }) = subst (λ (w : PricerView). IsMadeFor v w) (sym c.self.view_is) made in
+    made-kept v c.self.inside.links c.self.inside.letters (Some c.self.inside.order) c.self.inside.values.items c.fill_slots.new.values (drop (length c.fill_slots.new.values) c.self.inside.values.items) c.self.inside.values.len
     c.self.inside.best.items c.fill_slots.new.best (drop (length c.fill_slots.new.best) c.self.inside.best.items) c.self.inside.best.len (omega arith) (omega arith) (omega arith) (omega arith) old
