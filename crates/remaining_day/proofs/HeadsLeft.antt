@@ -1,14 +1,9 @@
--- How many more employees may work, as numbers, and what is known of kept shifts.
-use Rattle.std.proofs.Common.{◌≡◌, ◌≢◌, ℕ, ◌≤◌, List, [], ◌∷◌, length, refl, sym, arith}
-use Rattle.std.specs.Prelude.{All}
-use Rattle.std.proofs.lemmas.List.Elements.{All-nil, All-cons}
+-- How many more employees may work, as numbers.
+use Rattle.std.proofs.Common.{◌≡◌, ◌≢◌, ◌≤◌, List, [], ◌∷◌, length, refl, arith}
 use Rattle.roster_model.specs.declared.instance.Group.{Group}
 use Rattle.roster_model.specs.declared.instance.Instance.{Instance}
-use Rattle.roster_model.specs.declared.instance.Shift.{Shift}
 use Rattle.roster_model.specs.Duties.{Duty}
-use Rattle.roster_model.specs.Folds.{Each}
 use Rattle.roster_model.specs.SoundInstance.{IsSoundInstance}
-use Rattle.certificates.specs.Sound.{IsSoundShift}
 use Rattle.demand_lines.specs.Teams.{most_heads}
 use Rattle.demand_text.specs.InstanceOf.{least_heads}
 use Rattle.remaining_day.specs.Remaining.{groups_left, least_left, most_left}
@@ -60,7 +55,3 @@ least-sum i kept (x ∷ xs) some = refl
 pub most-sum : (i : Instance) (kept : List Duty) (gs : List Group) → gs ≢ [] → most_left i kept gs ≡ most_heads (groups_left 1 kept gs)
 most-sum i kept [] some = absurd (some refl)
 most-sum i kept (x ∷ xs) some = refl
-
-pub short_words : (i : Instance) (ss : List Shift) → Each (IsSoundShift i) ss → All (λ (s : Shift). length s.word ≤ 96) ss
-short_words i [] h = All-nil _
-short_words i (s ∷ ss) h = All-cons (λ (x : Shift). length x.word ≤ 96) s ss h.0.short (short_words i ss h.1)

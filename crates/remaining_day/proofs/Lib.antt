@@ -3,7 +3,6 @@ pub mod GroupsLeft
 pub mod SameShifts
 pub mod Rosters
 pub mod DaysLeft
-pub mod Gathered
 pub mod CausesLemmas
 pub mod SoundLeft
 pub mod Regrouped
@@ -11,4 +10,3 @@ pub mod RestAgain
 pub mod RestsMade
 pub mod OneAnswer
 pub mod HeadsLeft
-pub mod CauseTexts

@@ -13,7 +13,8 @@ use Rattle.certificates.specs.RosterCauses.{duties}
 use Rattle.demand_text.specs.InstanceOf.{day_grammar}
 use Rattle.remaining_day.specs.declared.answer.Rest.{Rest}
 use Rattle.remaining_day.specs.Answers.{MayBeKept, IsRemainingDay, IsRest, IsNobody}
-use Rattle.remaining_day.specs.Causes.{AreFound, causes_of, prices_of}
+use Rattle.roster_value.specs.Causes.{AreFound}
+use Rattle.remaining_day.specs.Causes.{causes_of, prices_of}
 use Rattle.remaining_day.specs.Days.{regrouped}
 use Rattle.remaining_day.specs.Laws.{HasRest}
 use Rattle.remaining_day.specs.Remaining.{cell_left, groups_left, least_left, most_left, remaining, kept_penalty}

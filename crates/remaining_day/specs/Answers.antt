@@ -10,13 +10,15 @@ use Rattle.certificates.specs.RosterCauses.{duties}
 use Rattle.roster_model.specs.Demands.{Demand}
 use Rattle.demand_text.specs.InstanceOf.{day_grammar}
 use Rattle.demand_text.specs.Written.{AreDemandsOf}
+use Rattle.roster_value.specs.Causes.{AreFound}
+use Rattle.roster_value.specs.CauseText.{causes_text}
 use Rattle.remaining_day.specs.declared.answer.Remaining.{Remaining}
 use Rattle.remaining_day.specs.declared.answer.Remaining.TheVariants.{Day, Nobody, Impossible}
 use Rattle.remaining_day.specs.declared.answer.Rest.{Rest}
-use Rattle.remaining_day.specs.declared.cause.Cause.{Cause}
-use Rattle.remaining_day.specs.Causes.{AreFound, causes_of}
+use Rattle.roster_value.specs.declared.cause.Cause.{Cause}
+use Rattle.remaining_day.specs.Causes.{causes_of}
 use Rattle.remaining_day.specs.Laws.{HasRest}
-use Rattle.remaining_day.specs.RestText.{rest_text, causes_text}
+use Rattle.remaining_day.specs.RestText.{rest_text}
 use Rattle.remaining_day.specs.Remaining.{remaining, most_left, AreWithin, kept_penalty}
 
 -- a roster of the day may have the kept shifts, at these prices

@@ -12,7 +12,7 @@ use Rattle.certificates.specs.RosterCauses.{duties}
 use Rattle.demand_text.specs.InstanceOf.{day_grammar, instance_of}
 use Rattle.demand_text.specs.Written.{AreDemandsOf}
 use Rattle.remaining_day.specs.declared.answer.Rest.{Rest}
-use Rattle.remaining_day.specs.declared.cause.Cause.{Cause}
+use Rattle.roster_value.specs.declared.cause.Cause.{Cause}
 use Rattle.remaining_day.specs.Answers.{IsImpossible}
 use Rattle.remaining_day.specs.RestText.{rest_text}
 

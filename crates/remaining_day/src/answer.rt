@@ -1,5 +1,5 @@
-use crate::cause::Cause;
 use roster_model::{Instance, List};
+use roster_value::Cause;
 
 /// The remaining day, and what the kept shifts add to the cost of its rosters.
 #[derive(Debug, PartialEq, Eq, Drop)]

@@ -4,7 +4,8 @@ ghost use Rattle.roster_model.specs.SoundInstance.{IsSoundInstance};
 ghost use Rattle.certificates.specs.RosterCauses.{duties};
 ghost use Rattle.certificates.specs.Sound.{IsSoundShift};
 ghost use Rattle.remaining_day.specs.Answers.{IsRemaining, IsRest};
-ghost use Rattle.remaining_day.specs.Causes.{AreFound, causes_of};
+ghost use Rattle.roster_value.specs.Causes.{AreFound};
+ghost use Rattle.remaining_day.specs.Causes.{causes_of};
 ghost use Rattle.remaining_day.specs.Remaining.{groups_left, least_left, most_left};
 
 use crate::answer::{Remaining, Rest};
@@ -12,9 +13,9 @@ use crate::causes::causes_of;
 use crate::cells::{cells_left, kept_penalty};
 use crate::day::{heads_left, with_parts};
 use crate::groups::groups_left;
-use crate::prices::found_prices;
 use demand_lines::Heads;
 use roster_model::{Group, Instance, List, Memory, Shift};
+use roster_value::found_of;
 use std::alloc::Global;
 
 // The sum of the prices that were found.
@@ -92,7 +93,7 @@ pub fn remaining(alloc: Global, instance: &Instance, kept: &[Shift]) -> Result<R
     requires shifts { Each (IsSoundShift instance.now) kept.now }
     ensures { IfOk result (IsRemaining instance.now kept.now) }
 {
-    let found = found_prices(alloc, instance, kept)?;
+    let found = found_of(alloc, instance, kept)?;
     let causes = causes_of(alloc, instance, kept, found.as_slice())?;
     if !causes.is_empty() {
         return Ok(Remaining::Impossible(causes));

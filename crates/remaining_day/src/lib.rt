@@ -5,7 +5,6 @@
 #![tactic(auto)]
 
 mod answer;
-mod cause;
 mod causes;
 mod cells;
 mod counts;
@@ -13,11 +12,9 @@ mod day;
 mod groups;
 mod keep;
 mod laws;
-mod prices;
 mod text;
 
 pub use answer::{Remaining, Rest};
-pub use cause::Cause;
 pub use keep::remaining;
 pub use laws::{causes_forbid, rest_is_read, rest_is_right};
 pub use text::{rest_status, write_remaining};

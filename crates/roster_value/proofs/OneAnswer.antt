@@ -45,7 +45,7 @@ same_shifts (x ∷ xs) (y ∷ ys) d p =
     let first : x ≡ y = shift_eq x.group y.group x.word y.word x.price y.price group word price in
     cc
 
-one_value : (i : Instance) (shifts : List Shift) (v w : Valued) → IsValued i shifts v → IsValued i shifts w → v ≡ w
+pub one_value : (i : Instance) (shifts : List Shift) (v w : Valued) → IsValued i shifts v → IsValued i shifts w → v ≡ w
 one_value i shifts v w h k =
     let prices : stated_prices v.shifts ≡ stated_prices w.shifts = one-prices i (duties shifts) (stated_prices v.shifts) (stated_prices w.shifts) h.allowed.shifts k.allowed.shifts in
     let same : v.shifts ≡ w.shifts = same_shifts v.shifts w.shifts (h.same ∙ sym k.same) prices in

@@ -139,7 +139,7 @@ fn cause_line(
 /// # Errors
 ///
 /// `Memory` where memory runs out; a part of them may stand there then.
-pub(crate) fn cause_lines(
+pub fn cause_lines(
     out: &mut List<u8>,
     instance: &Instance,
     shifts: &[Shift],

@@ -169,7 +169,7 @@ fn add_coverage_causes(
 /// # Errors
 ///
 /// `Memory` where memory runs out.
-pub(crate) fn causes_of(
+pub fn causes_of(
     alloc: Global,
     instance: &Instance,
     shifts: &[Shift],

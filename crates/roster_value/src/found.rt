@@ -51,7 +51,7 @@ fn found_in(
 /// # Errors
 ///
 /// `Memory` where memory runs out.
-pub(crate) fn found_of(
+pub fn found_of(
     alloc: Global,
     instance: &Instance,
     shifts: &[Shift],

@@ -19,6 +19,9 @@ mod valued;
 
 pub use answer::{Answer, stated_answer};
 pub use cause::Cause;
+pub use cause_text::cause_lines;
+pub use causes::causes_of;
+pub use found::found_of;
 pub use judging::{Judged, judge};
 pub use laws::answers_once;
 pub use valued::Valued;

@@ -1,7 +1,8 @@
 use Rattle.std.proofs.Common.{arith}
 use Rattle.roster_model.proofs.SoundCells.{cells_of_day}
-use Rattle.remaining_day.proofs.CausesLemmas.{small_prices, length-found}
+use Rattle.remaining_day.proofs.CausesLemmas.{small_prices}
 use Rattle.remaining_day.proofs.RestsMade.{rest-of}
+use Rattle.roster_value.proofs.FoundPrices.{found-length}
 use Rattle.remaining_day.proofs.keep.rest.Goals as goal
 
 pub cells_left-requires-clause-cells : goal.cells_left-requires-clause-cells
@@ -9,7 +10,7 @@ cells_left-requires-clause-cells c =
     rw c.as_slice.ensures (cells_of_day c.args.instance.now.grammar c.args.instance.now.cells c.requires.sound.cells)
 
 pub paid-requires-clause-few : goal.paid-requires-clause-few
-paid-requires-clause-few c = omega (arith, length-found c.args.instance.now c.args.kept.now c.args.found.now c.requires.found, c.requires.few)
+paid-requires-clause-few c = omega (arith, found-length c.args.instance.now c.args.kept.now c.args.found.now c.requires.found, c.requires.few)
 
 pub paid-requires-clause-small : goal.paid-requires-clause-small
 paid-requires-clause-small c = small_prices c.args.instance.now c.requires.sound c.args.kept.now c.args.found.now c.requires.found
