@@ -1,20 +1,27 @@
 -- What a search finds for a job.
-use Rattle.std.proofs.Common.{ℕ, Bool}
+use Rattle.std.proofs.Common.{ℕ, ◌≤◌, Bool}
 use Rattle.std.specs.Prelude.{Result, Ok, Err, IfOk}
+use Rattle.roster_model.specs.SoundInstance.{IsSoundInstance}
 use Rattle.search_watch.proofs.WithinLemmas.{within-all}
 use Rattle.branch_price.specs.declared.found.Found.{Found}
 use Rattle.branch_price.specs.declared.job.Job.{Job}
+use Rattle.branch_price.specs.declared.task.SearchTask.{SearchTask}
 use Rattle.branch_price.specs.Found.{IsFound, IsFoundAtRoot}
-use Rattle.branch_price.specs.Jobs.{IsJob, IsJobDone}
+use Rattle.branch_price.specs.Jobs.{IsJob, IsJobDone, task_of}
+use Rattle.branch_price.specs.Tasks.{IsTaskDone}
 use Rattle.branch_price.proofs.OldLemmas.{found-no-dearer}
 
--- what is found at the root is found for each job
-pub at-root : (j : Job) → IsJob j → (patient strict : Bool) (now : ℕ) (f : Found) → IsFoundAtRoot j.searched.day.instance.now f → IsJobDone j patient strict now now f
-at-root j is patient strict now f h = record {
-  found = within-all patient j.turns (λ k. IsFound j.searched.day.instance.now strict k f) is.some (h.found strict j.turns is.some);
-  falls = found-no-dearer j.searched.day.instance.now is.searched.is.day.sound f h.found j.start.shifts.now;
+-- what is found at the root is found for each task
+pub root-task : (t : SearchTask) → IsSoundInstance t.day.instance.now → 1 ≤ t.turns → (patient strict : Bool) (now : ℕ) (f : Found) → IsFoundAtRoot t.day.instance.now f → IsTaskDone t patient strict now now f
+root-task t sound some patient strict now f h = record {
+  found = within-all patient t.turns (λ k. IsFound t.day.instance.now strict k f) some (h.found strict t.turns some);
+  falls = found-no-dearer t.day.instance.now sound f h.found t.start.shifts.now;
   counted = h.counted now;
 }
+
+-- and for each job
+pub at-root : (j : Job) → IsJob j → (patient strict : Bool) (now : ℕ) (f : Found) → IsFoundAtRoot j.searched.day.instance.now f → IsJobDone j patient strict now now f
+at-root j is patient strict now f h = root-task (task_of j) is.searched.is.day.sound is.some patient strict now f h
 
 -- two facts on a result give a third one
 pub both-ok : {A E : Type 0} (r : Result A E) (P Q S : A → Type 0) → ((x : A) → P x → Q x → S x) → IfOk r P → IfOk r Q → IfOk r S

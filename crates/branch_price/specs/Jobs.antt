@@ -6,13 +6,13 @@ use Rattle.certificates.specs.Sound.{IsSoundShift}
 use Rattle.priced_part.specs.Filled.{TellsDerived}
 use Rattle.search_day.specs.declared.day.Day.{Day}
 use Rattle.search_day.specs.Days.{IsDay}
-use Rattle.search_watch.specs.Within.{IsWithin}
 use Rattle.candidate_rosters.specs.declared.roster.Roster.{Roster}
 use Rattle.branch_price.specs.declared.found.Found.{Found}
 use Rattle.branch_price.specs.declared.job.SearchedDay.{SearchedDay}
 use Rattle.branch_price.specs.declared.job.Job.{Job}
-use Rattle.branch_price.specs.Found.{IsFound, AreCounted}
-use Rattle.branch_price.specs.OldRosters.{IsNoDearerThan, ReachesOld}
+use Rattle.branch_price.specs.declared.task.SearchTask.{SearchTask}
+use Rattle.branch_price.specs.OldRosters.{ReachesOld}
+use Rattle.branch_price.specs.Tasks.{IsTaskDone}
 
 -- a sound day that is not plainly infeasible
 pub record IsBusyDay (d : Day) : Type 0 where
@@ -36,9 +36,10 @@ pub record IsJob (j : Job) : Type 0 where
 abbrev pub ReachesStart : Job → Option Roster → Type 0
 ReachesStart j best = ReachesOld j.searched.day.instance.now j.start.shifts.now best
 
--- it is found with so many turns, or fewer where the watch is not patient, it costs no more than the old shifts,
--- and its nodes without prices are counted by a master whose count went from `before` to `now`
-pub record IsJobDone (j : Job) (patient strict : Bool) (before now : ℕ) (f : Found) : Type 0 where
-  pub found : IsWithin patient j.turns (λ k. IsFound j.searched.day.instance.now strict k f)
-  pub falls : IsNoDearerThan j.searched.day.instance.now j.start.shifts.now f.cert.cost
-  pub counted : AreCounted j.searched.day.instance.now before now f
+-- what is asked by it
+abbrev pub task_of : Job → SearchTask
+task_of j = record { day = j.searched.day; turns = j.turns; start = j.start }
+
+-- what is found for it
+abbrev pub IsJobDone : Job → Bool → Bool → ℕ → ℕ → Found → Type 0
+IsJobDone j = IsTaskDone (task_of j)

@@ -10,6 +10,7 @@ pub mod Ends
 pub mod Loops
 pub mod Arcless
 pub mod OldRosters
+pub mod Tasks
 pub mod Jobs
 pub mod Nodes
 pub mod Turns

@@ -1,16 +1,13 @@
-ghost use Rattle.std.specs.Prelude.{◌≡◌, ◌≤◌, IfOk, length};
-ghost use Rattle.roster_model.specs.Folds.{Each};
+ghost use Rattle.std.specs.Prelude.{◌≡◌, ◌≤◌, IfOk};
 ghost use Rattle.roster_model.specs.SoundInstance.{IsSoundInstance};
-ghost use Rattle.certificates.specs.Sound.{IsSoundShift};
 ghost use Rattle.parse_graph.specs.Graphs.{IsGraph};
 ghost use Rattle.tree_pool.specs.Pools.{IsPool, IsGrown};
-ghost use Rattle.search_day.specs.Days.{IsDay};
 ghost use Rattle.search_day.specs.Rooms.{Grows};
 ghost use Rattle.branch_price.specs.Desks.{AreTools, StayTools, IsBench, IsRootBench};
 ghost use Rattle.branch_price.specs.Found.{HasNoArc, IsFound, AreCounted};
 ghost use Rattle.branch_price.specs.Jobs.{IsJob, IsJobDone, ReachesStart};
-ghost use Rattle.branch_price.specs.OldRosters.{IsNoDearerThan};
 ghost use Rattle.branch_price.specs.Steps.{IsBegun};
+ghost use Rattle.branch_price.specs.Tasks.{IsSearchTask, IsTaskDone};
 ghost use Rattle.search_watch.specs.Within.{IsWithin};
 
 use crate::arcless::search_arcless;
@@ -23,6 +20,7 @@ use crate::old_roster::offer_start;
 use crate::progress::Progress;
 use crate::start::Start;
 use crate::stop::stops_at;
+use crate::task::SearchTask;
 use crate::turn::turn;
 use candidate_rosters::least_roster;
 use node_master::{Master, Pool};
@@ -158,29 +156,20 @@ fn search_busy<M: Master, W: Watch>(
 /// `Memory` where memory runs out; the master's count may have risen.
 pub fn search_from<M: Master, W: Watch>(
     alloc: Global,
-    day: &Day,
-    turns: u32,
-    start: Start<'_>,
+    task: &SearchTask,
     pool: &mut Pool,
     master: &mut M,
     watch: &mut W,
 ) -> Result<Found, Memory>
-    requires day { IsDay day.now }
-    requires pool { IsPool day.now.instance.now.grammar pool.old }
-    requires some { 1 ≤ turns }
-    requires few { turns ≤ 10000 }
-    requires shifts { Each (IsSoundShift day.now.instance.now) start.shifts.now }
-    requires few_shifts { length start.shifts.now ≤ 64 }
-    ensures found { IfOk result (λ f. IsWithin (W.patient watch.old) turns
-        (λ k. IsFound day.now.instance.now (M.strict master.old) k f)) }
-    ensures falls { IfOk result (λ f. IsNoDearerThan day.now.instance.now start.entry.shifts.now
-        f.cert.cost) }
-    ensures counted { IfOk result (AreCounted day.now.instance.now (M.refused master.old)
-        (M.refused master.new)) }
+    requires task { IsSearchTask task.now }
+    requires pool { IsPool task.now.day.instance.now.grammar pool.old }
+    ensures found { IfOk result (IsTaskDone task.now (W.patient watch.old) (M.strict master.old)
+        (M.refused master.old) (M.refused master.new)) }
     ensures rises { M.refused master.old ≤ M.refused master.new }
     ensures strict_stays { M.strict master.new ≡ M.strict master.old }
-    ensures pool { Grows day.now pool.old pool.new }
+    ensures pool { Grows task.now.day pool.old pool.new }
 {
+    let day = &task.day;
     let derives = derived(alloc, day.instance)?;
     if is_plainly_infeasible(day.instance, &derives) {
         return no_roster(alloc, day);
@@ -191,8 +180,8 @@ pub fn search_from<M: Master, W: Watch>(
     };
     let job = Job {
         searched,
-        turns,
-        start,
+        turns: task.turns,
+        start: task.start,
     };
     search_busy(alloc, &job, pool, master, watch)
 }
@@ -233,13 +222,10 @@ pub fn search<M: Master, W: Watch>(
     ensures pool { IsPool instance.now.grammar pool.new }
     ensures grown { IsGrown pool.old pool.new }
 {
-    search_from(
-        alloc,
-        &Day { instance, graph },
+    let task = SearchTask {
+        day: Day { instance, graph },
         turns,
-        Start::none(),
-        pool,
-        master,
-        watch,
-    )
+        start: Start::none(),
+    };
+    search_from(alloc, &task, pool, master, watch)
 }

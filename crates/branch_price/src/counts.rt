@@ -19,13 +19,9 @@ pub(crate) fn least_counts(
     requires { length arc_box.now.bounds ≡ length graph.now.arcs }
     ensures { IfOk result (λ v. AreLeast arc_box.now v.items) }
 {
-    let Ok(mut counts) = Vec::with_capacity(alloc, graph.arcs().len()) else {
-        return Err(Memory);
-    };
+    let mut counts = Vec::with_capacity(alloc, graph.arcs().len())?;
     for arc in 0..graph.arcs().len() {
-        if counts.push(arc_box.low(arc as u32)).is_err() {
-            return Err(Memory);
-        }
+        counts.push(arc_box.low(arc as u32))?;
     }
     Ok(counts)
 }

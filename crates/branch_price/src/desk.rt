@@ -97,9 +97,7 @@ impl SearchBench {
 pub(crate) fn want(wanted: &mut Vec<usize>, weights: &[Weight]) -> Result<(), Memory> {
     wanted.clear();
     for weight in weights {
-        if wanted.push(weight.column).is_err() {
-            return Err(Memory);
-        }
+        wanted.push(weight.column)?;
     }
     Ok(())
 }

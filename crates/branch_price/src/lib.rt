@@ -28,6 +28,7 @@ mod rounded;
 mod solved;
 mod start;
 mod stop;
+mod task;
 mod turn;
 mod value;
 
@@ -37,3 +38,4 @@ pub use node_master::{FailingMaster, Master, NearMaster, PlainMaster, Pool};
 pub use roster_model::Done;
 pub use search_watch::{ClockWatch, Standing, SteadyWatch, Subject, TurnWatch, Watch};
 pub use start::Start;
+pub use task::SearchTask;

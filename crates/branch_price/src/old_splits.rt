@@ -29,9 +29,7 @@ pub(crate) struct OldSplits {
 /// Returns of each node where the nodes below it end, and last where all end.
 fn ends_of(alloc: Global, nodes: &[Node]) -> Result<Vec<usize>, Memory> {
     let count = nodes.len();
-    let Ok(mut ends) = vec![in alloc; count; count.saturating_add(1)] else {
-        return Err(Memory);
-    };
+    let mut ends = vec![in alloc; count; count.saturating_add(1)]?;
     for place in (0..count).rev() {
         let next = place.saturating_add(1);
         let end = match nodes.get(place) {
@@ -81,9 +79,7 @@ impl OldSplits {
                 }),
                 Node::Priced { .. } | Node::Pinned | Node::Bare => None,
             };
-            if splits.push(split).is_err() {
-                return Err(Memory);
-            }
+            splits.push(split)?;
         }
         Ok(OldSplits { nodes: splits })
     }

@@ -16,7 +16,7 @@ ghost use Rattle.day_curve.specs.Curves.{
 ghost use Rattle.day_curve.specs.Staffs.{IsStaff};
 
 use crate::staff::{Staff, set_heads, staff_least, staff_most};
-use branch_price::{Found, Master, Pool, Start, Watch, search_from};
+use branch_price::{Found, Master, Pool, SearchTask, Start, Watch, search_from};
 use parse_graph::Graph;
 use roster_model::{Instance, List, Memory, Shift};
 use search_day::Day;
@@ -174,19 +174,15 @@ impl Curve {
             shifts: self.kept.as_slice(),
             nodes: &[],
         };
-        let day = Day {
-            instance: &self.instance,
-            graph,
-        };
-        let found = search_from(
-            self.alloc,
-            &day,
+        let task = SearchTask {
+            day: Day {
+                instance: &self.instance,
+                graph,
+            },
             turns,
             start,
-            &mut self.pool,
-            master,
-            watch,
-        );
+        };
+        let found = search_from(self.alloc, &task, &mut self.pool, master, watch);
         match found {
             Ok(found) => {
                 self.given += 1;

@@ -1,7 +1,7 @@
 ghost use Rattle.std.specs.Prelude.{ℕ, ◌≡◌, ◌≤◌, ◌<◌, ◌+◌, ◌-◌, Bool, IfOk, IfErr};
-ghost use Rattle.branch_price.specs.Found.{AreCounted, IsFound};
+ghost use Rattle.branch_price.specs.Found.{AreCounted};
 ghost use Rattle.branch_price.specs.OldRosters.{IsNoDearerThan};
-ghost use Rattle.day_solver.specs.Solutions.{HasArcCount, IsSolution};
+ghost use Rattle.day_solver.specs.Solutions.{HasArcCount, IsSearched, IsSolution, IsWritten};
 ghost use Rattle.parse_graph.specs.Graphs.{IsRefused};
 ghost use Rattle.day_curve.specs.Curves.{new_curve, point_day, point_heads, points_of};
 ghost use Rattle.day_curve.specs.Staffs.{IsStaff};
@@ -14,6 +14,7 @@ use branch_price::{Found, Master, Watch};
 use day_solver::{Solution, graph_of, with_text};
 use parse_graph::{Graph, GraphFault};
 use roster_model::{Instance, Memory};
+use search_day::Day;
 use std::alloc::Global;
 use std::marker::Model;
 
@@ -118,15 +119,16 @@ impl DayCurve {
     // one again.
     fn written(&mut self, found: Found) -> Result<Solution, Memory>
         requires given { 0 < self.old.given }
-        requires found { (strict : Bool) × (turns : ℕ) × (turns ≤ 10000)
-            × IsFound (point_day self.old) strict turns found }
+        requires found { IsSearched (point_day self.old) found }
         ensures given { IfOk result (λ _. self.new ≡ self.old) }
-        ensures solution { IfOk result (λ s. (strict : Bool) (turns : ℕ)
-            → IsFound (point_day self.old) strict turns found → IsSolution (point_day self.old) strict turns s) }
-        ensures same { IfOk result (λ s. s.found ≡ found) }
+        ensures written { IfOk result (IsWritten (point_day self.old) found) }
         ensures without { IfErr result (λ _. self.new ≡ record self.old { given = self.old.given - 1 }) }
     {
-        match with_text(self.alloc, self.curve.instance(), &self.graph, found) {
+        let day = Day {
+            instance: self.curve.instance(),
+            graph: &self.graph,
+        };
+        match with_text(self.alloc, &day, found) {
             Ok(solution) => Ok(solution),
             Err(fault) => {
                 self.curve.take_back();

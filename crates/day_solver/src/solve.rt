@@ -1,18 +1,16 @@
-ghost use Rattle.std.specs.Prelude.{ℕ, ◌≡◌, ◌≤◌, Bool, IfOk, IfErr, length};
-ghost use Rattle.branch_price.specs.Found.{IsFound, AreCounted};
-ghost use Rattle.branch_price.specs.OldRosters.{IsNoDearerThan};
-ghost use Rattle.certificates.specs.Sound.{IsSoundCert, IsSoundShift};
+ghost use Rattle.std.specs.Prelude.{ℕ, ◌≡◌, ◌≤◌, [], IfOk, IfErr};
+ghost use Rattle.branch_price.specs.Tasks.{IsSearchTask};
+ghost use Rattle.certificates.specs.Sound.{IsSoundCert};
 ghost use Rattle.parse_graph.specs.Graphs.{IsGraph, IsRefused};
 ghost use Rattle.roster_model.specs.declared.grammar.Grammar.{Grammar as Rules};
-ghost use Rattle.roster_model.specs.Folds.{Each};
 ghost use Rattle.roster_model.specs.Sound.{IsSound};
 ghost use Rattle.roster_model.specs.SoundInstance.{IsSoundInstance};
-ghost use Rattle.search_watch.specs.Within.{IsWithin};
-ghost use Rattle.day_solver.specs.Solutions.{HasArcCount, IsSolution};
+ghost use Rattle.search_day.specs.Days.{IsDay};
+ghost use Rattle.day_solver.specs.Solutions.{HasArcCount, IsDaySolved, IsSearched, IsTaskSolved, IsWritten};
 
 use crate::solution::Solution;
 use crate::text::cert_text;
-use branch_price::{Found, Master, Pool, Start, Watch, search_from};
+use branch_price::{Found, Master, Pool, SearchTask, Start, Watch, search_from};
 use certificates::Cert;
 use grammar_core::normalise;
 use parse_graph::{Graph, GraphFault};
@@ -53,87 +51,41 @@ fn arc_count(graph: &Graph) -> u32
     graph.arcs().len() as u32
 }
 
-/// Searches with a new pool, from an old certificate.
-fn searched<M: Master, W: Watch>(
-    alloc: Global,
-    instance: &Instance,
-    graph: &Graph,
-    turns: u32,
-    start: Start<'_>,
-    master: &mut M,
-    watch: &mut W,
-) -> Result<Found, Memory>
-    requires sound { IsSoundInstance instance.now }
-    requires graph { IsGraph instance.now.grammar graph.now }
-    requires some { 1 ≤ turns }
-    requires few { turns ≤ 10000 }
-    requires shifts { Each (IsSoundShift instance.now) start.shifts.now }
-    requires few_shifts { length start.shifts.now ≤ 64 }
-    ensures found { IfOk result (λ f. IsWithin (W.patient watch.old) turns
-        (λ k. IsFound instance.now (M.strict master.old) k f)) }
-    ensures falls { IfOk result (λ f. IsNoDearerThan instance.now start.entry.shifts.now f.cert.cost) }
-    ensures counted { IfOk result (AreCounted instance.now (M.refused master.old) (M.refused master.new)) }
-    ensures rises { M.refused master.old ≤ M.refused master.new }
-    ensures strict_stays { M.strict master.new ≡ M.strict master.old }
-{
-    let mut pool = Pool::new(alloc);
-    let day = Day { instance, graph };
-    search_from(alloc, &day, turns, start, &mut pool, master, watch)
-}
-
 /// Returns what was found, within at most 10,000 turns, with the text of its certificate.
 ///
 /// # Errors
 ///
 /// `Memory` where memory runs out; there is none then.
-pub fn with_text(
-    alloc: Global,
-    instance: &Instance,
-    graph: &Graph,
-    found: Found,
-) -> Result<Solution, Memory>
-    requires sound { IsSoundInstance instance.now }
-    requires graph { IsGraph instance.now.grammar graph.now }
-    requires found { (strict : Bool) × (turns : ℕ) × (turns ≤ 10000)
-        × IsFound instance.now strict turns found }
-    ensures solution { IfOk result (λ s. (strict : Bool) (turns : ℕ) → IsFound instance.now strict turns found
-        → IsSolution instance.now strict turns s) }
-    ensures same { IfOk result (λ s. s.found ≡ found) }
+pub fn with_text(alloc: Global, day: &Day, found: Found) -> Result<Solution, Memory>
+    requires day { IsDay day.now }
+    requires found { IsSearched day.now.instance.now found }
+    ensures { IfOk result (IsWritten day.now.instance.now found) }
 {
-    let proof = cert_text(alloc, instance, &found.cert)?;
+    let proof = cert_text(alloc, day.instance, &found.cert)?;
     Ok(Solution {
         found,
-        arcs: arc_count(graph),
+        arcs: arc_count(day.graph),
         proof,
     })
 }
 
-/// Searches over a day's graph, and writes the certificate.
+/// Searches with a new pool, from an old certificate, and writes the certificate.
 fn solved<M: Master, W: Watch>(
     alloc: Global,
-    instance: &Instance,
-    graph: &Graph,
-    turns: u32,
-    start: Start<'_>,
+    task: &SearchTask,
     master: &mut M,
     watch: &mut W,
 ) -> Result<Solution, Memory>
-    requires sound { IsSoundInstance instance.now }
-    requires graph { IsGraph instance.now.grammar graph.now }
-    requires some { 1 ≤ turns }
-    requires few { turns ≤ 10000 }
-    requires shifts { Each (IsSoundShift instance.now) start.shifts.now }
-    requires few_shifts { length start.shifts.now ≤ 64 }
-    ensures solution { IfOk result (λ s. IsWithin (W.patient watch.old) turns
-        (λ k. IsSolution instance.now (M.strict master.old) k s)) }
-    ensures falls { IfOk result (λ s. IsNoDearerThan instance.now start.entry.shifts.now s.found.cert.cost) }
-    ensures counted { IfOk result (λ s. AreCounted instance.now (M.refused master.old) (M.refused master.new)
-        s.found) }
+    requires { IsSearchTask task.now }
+    ensures solution { IfOk result (IsTaskSolved task.now (W.patient watch.old) (M.strict master.old)
+        (M.refused master.old) (M.refused master.new)) }
     ensures rises { M.refused master.old ≤ M.refused master.new }
     ensures strict_stays { M.strict master.new ≡ M.strict master.old }
 {
-    let found = searched(alloc, instance, graph, turns, start, master, watch)?;
-    with_text(alloc, instance, graph, found)
+    let mut pool = Pool::new(alloc);
+    let found = search_from(alloc, task, &mut pool, master, watch);
+    drop(pool);
+    with_text(alloc, &task.day, found?)
 }
 
 /// Searches a sound day for a roster of least cost, with at most so many turns, 1 to 10,000, and writes
@@ -156,16 +108,22 @@ pub fn solve_day<M: Master, W: Watch>(
     requires sound { IsSoundInstance instance.now }
     requires some { 1 ≤ turns }
     requires few { turns ≤ 10000 }
-    ensures solution { IfOk result (λ s. IsWithin (W.patient watch.old) turns
-        (λ k. IsSolution instance.now (M.strict master.old) k s)) }
-    ensures counted { IfOk result (λ s. AreCounted instance.now (M.refused master.old) (M.refused master.new)
-        s.found) }
+    ensures solution { IfOk result (IsDaySolved instance.now turns [] (W.patient watch.old)
+        (M.strict master.old) (M.refused master.old) (M.refused master.new)) }
     ensures refused { IfErr result (IsRefused instance.now.grammar) }
     ensures rises { M.refused master.old ≤ M.refused master.new }
     ensures strict_stays { M.strict master.new ≡ M.strict master.old }
 {
     let graph = graph_of(alloc, &instance.grammar)?;
-    Ok(solved(alloc, instance, &graph, turns, Start::none(), master, watch)?)
+    let task = SearchTask {
+        day: Day {
+            instance,
+            graph: &graph,
+        },
+        turns,
+        start: Start::none(),
+    };
+    Ok(solved(alloc, &task, master, watch)?)
 }
 
 /// Searches as [`solve_day`] does, from an old certificate, of this day or of another one of its form: its
@@ -188,11 +146,8 @@ pub fn solve_day_from<M: Master, W: Watch>(
     requires some { 1 ≤ turns }
     requires few { turns ≤ 10000 }
     requires old { IsSoundCert instance.now old.now }
-    ensures solution { IfOk result (λ s. IsWithin (W.patient watch.old) turns
-        (λ k. IsSolution instance.now (M.strict master.old) k s)) }
-    ensures falls { IfOk result (λ s. IsNoDearerThan instance.now old.now.shifts s.found.cert.cost) }
-    ensures counted { IfOk result (λ s. AreCounted instance.now (M.refused master.old) (M.refused master.new)
-        s.found) }
+    ensures solution { IfOk result (IsDaySolved instance.now turns old.now.shifts (W.patient watch.old)
+        (M.strict master.old) (M.refused master.old) (M.refused master.new)) }
     ensures refused { IfErr result (IsRefused instance.now.grammar) }
     ensures rises { M.refused master.old ≤ M.refused master.new }
     ensures strict_stays { M.strict master.new ≡ M.strict master.old }
@@ -202,5 +157,13 @@ pub fn solve_day_from<M: Master, W: Watch>(
         shifts: old.shifts.as_slice(),
         nodes: old.nodes.as_slice(),
     };
-    Ok(solved(alloc, instance, &graph, turns, start, master, watch)?)
+    let task = SearchTask {
+        day: Day {
+            instance,
+            graph: &graph,
+        },
+        turns,
+        start,
+    };
+    Ok(solved(alloc, &task, master, watch)?)
 }

@@ -10,9 +10,11 @@ ghost use Rattle.tree_pool.specs.Pools.{IsPool};
 use crate::days::graph_of;
 use cheapest_tree::Pricer;
 use master_rows::{NodeRows, count_rows};
+use node_task::NodeTask;
 use parse_graph::Graph;
 use roster_model::{ArcKey, Cut, Instance, Memory, Side, is_sound_instance};
 use sample_days::{PAIR_PARTS, day};
+use search_day::Day;
 use std::alloc::Global;
 use std::test::Fail;
 use tree_pool::Pool;
@@ -55,8 +57,16 @@ fn volume_at(
     requires small { length (rows_of day.now cuts.now) ≤ 1500 }
     ensures { IfOk result (λ v. IsPool day.now.grammar v.pool) }
 {
+    let task = NodeTask {
+        day: Day {
+            instance: day,
+            graph,
+        },
+        cuts,
+        rows,
+    };
     let mut pricer = Pricer::new(alloc, graph)?;
-    let found = volume(alloc, day, cuts, graph, rows, &mut pricer, start, 400);
+    let found = volume(alloc, &task, start, 400, &mut pricer);
     drop(pricer);
     found
 }

@@ -69,12 +69,8 @@ impl Asked {
     pub(crate) fn new(alloc: Global, rows: usize) -> Result<Asked, Memory>
         ensures { IfOk result (λ a. length a.y.items ≡ rows) }
     {
-        let Ok(y) = vec![in alloc; 0i128; rows] else {
-            return Err(Memory);
-        };
-        let Ok(best) = vec![in alloc; 0i128; rows] else {
-            return Err(Memory);
-        };
+        let y = vec![in alloc; 0i128; rows]?;
+        let best = vec![in alloc; 0i128; rows]?;
         Ok(Asked {
             y,
             best,

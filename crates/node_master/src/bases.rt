@@ -118,9 +118,7 @@ impl Bases {
             }
             return Ok(());
         }
-        match self.kept.push(one) {
-            Ok(()) => Ok(()),
-            Err(_) => Err(Memory),
-        }
+        self.kept.push(one)?;
+        Ok(())
     }
 }

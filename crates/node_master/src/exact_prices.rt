@@ -48,10 +48,7 @@ fn rounded(
 fn zeros(alloc: Global, count: usize) -> Result<Vec<i128>, Memory>
     ensures { IfOk result (λ v. length v.items ≡ count) }
 {
-    match vec![in alloc; 0i128; count] {
-        Ok(numbers) => Ok(numbers),
-        Err(_) => Err(Memory),
-    }
+    Ok(vec![in alloc; 0i128; count]?)
 }
 
 /// Rounds the prices at the end of a master's path.

@@ -41,9 +41,7 @@ fn gathered(alloc: Global, task: &NodeTask, y: &[i128]) -> Result<Option<Vec<i12
         return Ok(None);
     }
     let count = numbers_of(task.day.instance, task.cuts);
-    let Ok(mut numbers) = vec![in alloc; 0i128; count] else {
-        return Err(Memory);
-    };
+    let mut numbers = vec![in alloc; 0i128; count]?;
     let cells = task.day.instance.cells.len();
     task.rows.gather(y, cells, numbers.as_mut_slice());
     Ok(Some(numbers))

@@ -75,12 +75,8 @@ pub(crate) fn list_trees(scout: &mut Scout, held: &[Held], first: usize) -> Resu
 
 /// Returns a scout with the rows' own columns among these.
 fn scout_of_rows(alloc: Global, held: &[Held], right: &[i64]) -> Result<Scout, Memory> {
-    let Ok(mut missing) = vec![in alloc; 0i64; right.len()] else {
-        return Err(Memory);
-    };
-    let Ok(mut beyond) = vec![in alloc; None; right.len()] else {
-        return Err(Memory);
-    };
+    let mut missing = vec![in alloc; 0i64; right.len()]?;
+    let mut beyond = vec![in alloc; None; right.len()]?;
     set_costs(held, missing.as_mut_slice(), beyond.as_mut_slice());
     Scout::new(alloc, right, missing.as_slice(), beyond.as_slice())
 }

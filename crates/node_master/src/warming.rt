@@ -98,16 +98,7 @@ pub(crate) fn warm_up(
         return cold(alloc, start);
     }
     let (from, passes) = begin_at(start);
-    let found = volume(
-        alloc,
-        task.day.instance,
-        task.cuts,
-        task.day.graph,
-        task.rows,
-        pricer,
-        from,
-        passes,
-    )?;
+    let found = volume(alloc, task, from, passes, pricer)?;
     let most = count.saturating_mul(TREES);
     warmed(alloc, task, start, &found, most, pool)
 }

@@ -1,5 +1,5 @@
 -- The answers of commands that search, from what their parts answer.
-use Rattle.std.proofs.Common.{◌≡◌, ◌≢◌, ℕ, List, Option, Some, Result, Ok, Err, IfOk, sym, subst, ◌∙◌}
+use Rattle.std.proofs.Common.{◌≡◌, ◌≢◌, ℕ, List, Option, None, Some, Result, Ok, Err, IfOk, sym, subst, ◌∙◌}
 use Rattle.std.specs.Prelude.{[], ◌∷◌}
 use Rattle.search_commands.specs.declared.limit.Limit.{Limit}
 use Rattle.search_commands.specs.Limits.{ForLimit}
@@ -26,13 +26,14 @@ use Rattle.shelf.specs.Shelf.{Texts, Told}
 use Rattle.parse_graph.specs.declared.fault.GraphFault.{GraphFault}
 use Rattle.parse_graph.specs.Graphs.{IsRefused}
 use Rattle.branch_price.specs.Found.{IsFound, AreCounted}
+use Rattle.branch_price.specs.OldRosters.{IsNoDearerThan}
 use Rattle.day_solver.specs.declared.solution.Solution.{Solution}
 use Rattle.day_solver.specs.Solutions.{IsSolution, IsReportText}
 use Rattle.answers.specs.declared.answer.Answer.{Answer}
 use Rattle.answers.specs.Fetch.{IsAnswer, IsFetch, NoAnswer}
 use Rattle.answers.specs.Reader.{IsReader}
 use Rattle.search_commands.specs.Writer.{IsWriter, IsStoredAnswer, StoresNothing}
-use Rattle.search_commands.specs.Solve.{MasterView, Finds, IsNoDearerThanOld, SaysTooManyArcs, Solving, SolvesProof, AnswersSolveProof, SolvesFrom, from_names, SolvesDemand, AnswersSolveDemand, SolvesRules, AnswersSolve, done_status}
+use Rattle.search_commands.specs.Solve.{MasterView, Finds, IsNoDearerThanOld, SaysTooManyArcs, Solving, SolvesProof, AnswersSolveProof, SolvesFrom, from_names, old_shifts, SolvesDemand, AnswersSolveDemand, SolvesRules, AnswersSolve, done_status}
 use Rattle.search_commands.specs.Solve as solves
 use Rattle.search_commands.proofs.Writers.{widen, as_writer, refused_fetch, after_fetch}
 use Rattle.answers.proofs.AskedLemmas.{no_names}
@@ -57,6 +58,11 @@ refused_rules held text demand_name from m limit fault (Ok x) h reading status o
 -- what is said of an instance with too many arcs
 abbrev pub IsArcsAnswer : GraphFault → Answer → Type 0
 IsArcsAnswer fault a = (a.status ≡ 9) × ((g : Grammar) → IsRefused g fault → SaysTooManyArcs g a.output)
+
+-- what costs no more than the shifts of an old certificate, if there is one
+pub no-dearer-old : (i : Instance) (old : Option Cert) (cost : Option ℕ) → IsNoDearerThan i (old_shifts old) cost → IsNoDearerThanOld i old cost
+no-dearer-old i None cost h = tt
+no-dearer-old i (Some c) cost h = h
 
 module _ (i : Instance) (m : MasterView) (limit : Limit) where
   pub finds : (s : Solution) → ForLimit limit (λ k. IsSolution i m.strict k s) → AreCounted i m.before m.now s.found → (status : ℕ) → status ≡ done_status s.found.done → Finds i m limit status s.proof s.found

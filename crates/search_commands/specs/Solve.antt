@@ -8,6 +8,7 @@ use Rattle.roster_model.specs.declared.grammar.Grammar.{Grammar}
 use Rattle.roster_model.specs.declared.instance.Done.{Done}
 use Rattle.roster_model.specs.declared.instance.Done.TheVariants.{Equal, NoRoster, TurnsOut}
 use Rattle.roster_model.specs.declared.instance.Instance.{Instance}
+use Rattle.roster_model.specs.declared.instance.Shift.{Shift}
 use Rattle.arc_laws.specs.Lists.{AreArcs}
 use Rattle.certificates.specs.declared.cert.Cert.{Cert}
 use Rattle.certificate_laws.specs.Right.{YesIsRight}
@@ -49,6 +50,11 @@ pub record Finds (i : Instance) (m : MasterView) (limit : Limit) (status : ℕ) 
   -- the stored text alone shows it
   pub denotes : proof_of i stored ≡ Ok f.cert
   pub right : YesIsRight i f.cert
+
+-- the shifts of an old certificate, if there is one
+abbrev pub old_shifts : Option Cert → List Shift
+old_shifts None = []
+old_shifts (Some c) = c.shifts
 
 -- the cost is at most that of the roster of an old certificate, where there is one and the roster is allowed
 abbrev pub IsNoDearerThanOld : Instance → Option Cert → Option ℕ → Type 0

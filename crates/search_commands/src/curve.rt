@@ -58,10 +58,7 @@ const GROUPS: &[u8] = b"demand: groups have no curve\n";
 fn point_name(alloc: Global, proof: &str, heads: u32) -> Result<String, Memory>
     ensures { IfOk result (λ name. string_bytes name ≡ point_name proof.now heads) }
 {
-    match format!(in alloc; "{proof}.{heads}") {
-        Ok(name) => Ok(name),
-        Err(_) => Err(Memory),
-    }
+    Ok(format!(in alloc; "{proof}.{heads}")?)
 }
 
 // Asks whether the certificate of a point may be stored, or returns the status of a refusal.

@@ -3,14 +3,12 @@ ghost use Rattle.std.specs.Option.{option_copied};
 ghost use Rattle.roster_model.specs.Sound.{IsPlain, IsSound};
 ghost use Rattle.roster_model.specs.SoundInstance.{IsSoundInstance};
 ghost use Rattle.parse_graph.specs.Graphs.{IsRefused};
-ghost use Rattle.branch_price.specs.Found.{AreCounted, IsFound};
+ghost use Rattle.branch_price.specs.Found.{IsFound};
 ghost use Rattle.certificates.specs.Sound.{IsSoundCert};
-ghost use Rattle.day_solver.specs.Solutions.{IsReportText, IsSolution};
-ghost use Rattle.search_watch.specs.Within.{IsWithin};
+ghost use Rattle.day_solver.specs.Solutions.{IsDaySolved, IsReportText};
 ghost use Rattle.search_commands.specs.Solve.{
   AnswersSolveDemand,
   AnswersSolveProof,
-  IsNoDearerThanOld,
   SaysTooManyArcs,
   SolvesDemand,
   SolvesFrom,
@@ -21,6 +19,7 @@ ghost use Rattle.search_commands.specs.Solve.{
   done_status,
   from_names,
   lent,
+  old_shifts,
 };
 ghost use Rattle.search_commands.specs.SolveAnswers.{SolveAnswers};
 ghost use Rattle.search_commands.specs.Limits.{IsLimit};
@@ -110,11 +109,8 @@ fn searched<M: Master, W: Watch>(
     requires some { 1 ≤ turns }
     requires few { turns ≤ 10000 }
     requires old { IfSome (option_copied old) (IsSoundCert instance.now) }
-    ensures solution { IfOk result (λ s. IsWithin (W.patient watch.old) turns
-        (λ k. IsSolution instance.now (M.strict master.old) k s)) }
-    ensures falls { IfOk result (λ s. IsNoDearerThanOld instance.now (option_copied old.entry) s.found.cert.cost) }
-    ensures counted { IfOk result (λ s. AreCounted instance.now (M.refused master.old) (M.refused master.new)
-        s.found) }
+    ensures solution { IfOk result (IsDaySolved instance.now turns (old_shifts (option_copied old.entry))
+        (W.patient watch.old) (M.strict master.old) (M.refused master.old) (M.refused master.new)) }
     ensures refused { IfErr result (IsRefused instance.now.grammar) }
 {
     match old {

@@ -83,7 +83,9 @@ fn is_open_day(alloc: Global, day: &Instance, prices: &PriceRoom) -> Result<bool
 {
     let mut table = Table::for_instance(alloc, &day.grammar)?;
     table.least(&day.grammar, prices);
-    Ok(is_open(day, &table))
+    let answer = is_open(day, &table);
+    drop(table);
+    Ok(answer)
 }
 
 /// Returns whether a master can be made of the day.
@@ -94,7 +96,9 @@ fn is_master_day(alloc: Global, day: &Instance) -> Result<bool, Memory>
         return Ok(false);
     }
     let prices = PriceRoom::for_cuts(alloc, day, 0)?;
-    is_open_day(alloc, day, &prices)
+    let answer = is_open_day(alloc, day, &prices);
+    drop(prices);
+    answer
 }
 
 /// Returns a sample day of which a master can be made.
@@ -113,7 +117,9 @@ fn build(alloc: Global, grammar: &Grammar) -> Result<Graph, GraphFault>
     ensures { IfOk result (IsGraph grammar.now) }
 {
     let normal = normalise(alloc, grammar)?;
-    Graph::build(alloc, grammar, &normal)
+    let graph = Graph::build(alloc, grammar, &normal);
+    drop(normal);
+    graph
 }
 
 /// Returns the graph of a sound grammar.

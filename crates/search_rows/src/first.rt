@@ -68,7 +68,9 @@ fn solve_on(alloc: Global, day: &Instance, cuts: &[Cut], first: First) -> Result
 
 fn solve_pairs(alloc: Global, cuts: &[Cut], first: First) -> Result<NodeEnd, Fail> {
     let day = master_day(alloc, &PAIR_DAY)?;
-    solve_on(alloc, &day, cuts, first)
+    let end = solve_on(alloc, &day, cuts, first);
+    drop(day);
+    end
 }
 
 /// Whether the prices are near ones of 1 for each of three cells, and three weights are a half.

@@ -87,28 +87,69 @@ fn list_trees(
     Ok(())
 }
 
-/// Returns a scout of these rows and the trees of a pool.
-fn scout_of(
+/// Returns what a missing unit costs in each row, at most 131,072.
+fn missing_costs(
     alloc: Global,
     day: &Instance,
     cuts: &[Cut],
     rows: &NodeRows,
-    pool: &Pool,
-) -> Result<Scout, Memory>
+) -> Result<List<i64>, Memory>
     requires day { IsMasterDay day.now }
     requires rows { AreRows day.now cuts.now rows.now }
 {
     let artificial = artificial_price(day);
     let right = rows.right();
     let mut missing = List::new(alloc);
-    let mut beyond = List::new(alloc);
     for row in 0..right.len() {
         missing.push(rows.missing_cost(row, artificial).min(131_072))?;
+    }
+    Ok(missing)
+}
+
+/// Returns what a unit beyond the right side costs in each row, where there may be one.
+fn beyond_costs(
+    alloc: Global,
+    day: &Instance,
+    cuts: &[Cut],
+    rows: &NodeRows,
+) -> Result<List<Option<i64>>, Memory>
+    requires day { IsMasterDay day.now }
+    requires rows { AreRows day.now cuts.now rows.now }
+{
+    let right = rows.right();
+    let mut beyond = List::new(alloc);
+    for row in 0..right.len() {
         beyond.push(rows.beyond_cost(row))?;
     }
-    let mut scout = Scout::new(alloc, right, missing.as_slice(), beyond.as_slice())?;
-    list_trees(alloc, &mut scout, cuts, rows, pool)?;
-    Ok(scout)
+    Ok(beyond)
+}
+
+/// Returns a scout of these rows without trees, where a missing unit costs so much.
+fn scout_beside(
+    alloc: Global,
+    day: &Instance,
+    cuts: &[Cut],
+    rows: &NodeRows,
+    missing: &[i64],
+) -> Result<Scout, Memory>
+    requires day { IsMasterDay day.now }
+    requires rows { AreRows day.now cuts.now rows.now }
+{
+    let beyond = beyond_costs(alloc, day, cuts, rows)?;
+    let scout = Scout::new(alloc, rows.right(), missing, beyond.as_slice());
+    drop(beyond);
+    scout
+}
+
+/// Returns a scout of these rows without trees.
+fn scout_of(alloc: Global, day: &Instance, cuts: &[Cut], rows: &NodeRows) -> Result<Scout, Memory>
+    requires day { IsMasterDay day.now }
+    requires rows { AreRows day.now cuts.now rows.now }
+{
+    let missing = missing_costs(alloc, day, cuts, rows)?;
+    let scout = scout_beside(alloc, day, cuts, rows, missing.as_slice());
+    drop(missing);
+    scout
 }
 
 /// Returns the listed column at each place of a basis, where there is one.
@@ -123,6 +164,41 @@ fn listed_places(alloc: Global, scout: &Scout) -> Result<List<Option<usize>>, Me
     Ok(trees)
 }
 
+/// Returns the hint of a scout at a basis over the trees of a pool.
+fn hint_by(
+    alloc: Global,
+    day: &Instance,
+    cuts: &[Cut],
+    rows: &NodeRows,
+    pool: &Pool,
+    scout: &Scout,
+) -> Result<NearHint, Memory>
+    requires day { IsMasterDay day.now }
+    requires rows { AreRows day.now cuts.now rows.now }
+{
+    let trees = listed_places(alloc, scout)?;
+    let hint = near_hint(alloc, day, cuts, rows, pool, trees.as_slice(), scout);
+    drop(trees);
+    hint
+}
+
+/// Lists the trees of a pool in a scout of these rows, and returns the hint of that basis over them.
+fn hint_from(
+    alloc: Global,
+    day: &Instance,
+    cuts: &[Cut],
+    rows: &NodeRows,
+    pool: &Pool,
+    scout: &mut Scout,
+) -> Result<NearHint, Memory>
+    requires day { IsMasterDay day.now }
+    requires rows { AreRows day.now cuts.now rows.now }
+{
+    list_trees(alloc, scout, cuts, rows, pool)?;
+    let _started = scout.start(&KEYS);
+    hint_by(alloc, day, cuts, rows, pool, scout)
+}
+
 /// Returns the hint of that basis over the trees of a pool.
 fn hint_of(
     alloc: Global,
@@ -134,10 +210,10 @@ fn hint_of(
     requires day { IsMasterDay day.now }
     requires rows { AreRows day.now cuts.now rows.now }
 {
-    let mut scout = scout_of(alloc, day, cuts, rows, pool)?;
-    let _started = scout.start(&KEYS);
-    let trees = listed_places(alloc, &scout)?;
-    near_hint(alloc, day, cuts, rows, pool, trees.as_slice(), &scout)
+    let mut scout = scout_of(alloc, day, cuts, rows)?;
+    let hint = hint_from(alloc, day, cuts, rows, pool, &mut scout);
+    drop(scout);
+    hint
 }
 
 /// Returns the hint at the end of a master, whose trees are in the pool.
@@ -155,7 +231,9 @@ fn hint_at_end(
     match end {
         NodeEnd::Best { .. } | NodeEnd::Near { .. } => {
             let rows = NodeRows::new(alloc, day, cuts)?;
-            Ok(hint_of(alloc, day, cuts, &rows, pool)?)
+            let hint = hint_of(alloc, day, cuts, &rows, pool);
+            drop(rows);
+            Ok(hint?)
         }
         NodeEnd::Failed(_) => Err(Fail::from("no prices")),
     }
@@ -179,15 +257,29 @@ fn hint_with(
     hint_at_end(alloc, day, cuts, &lent.pool, &end)
 }
 
+fn hint_in(alloc: Global, day: &Instance, graph: &Graph) -> Result<NearHint, Fail>
+    requires day { IsMasterDay day.now }
+    requires graph { IsGraph day.now.grammar graph.now }
+{
+    let mut lent = lent_for(alloc, day, graph)?;
+    let hint = hint_with(alloc, day, graph, &mut lent, &[]);
+    drop(lent);
+    hint
+}
+
+fn hint_on(alloc: Global, day: &Instance) -> Result<NearHint, Fail>
+    requires { IsMasterDay day.now }
+{
+    let graph = graph_of(alloc, &day.grammar)?;
+    let hint = hint_in(alloc, day, &graph);
+    drop(graph);
+    hint
+}
+
 fn hint_of_triples(alloc: Global) -> Result<NearHint, Fail> {
     let day = master_day(alloc, &TRIPLE_DAY)?;
-    let graph = graph_of(alloc, &day.grammar)?;
-    let lent = lent_for(alloc, &day, &graph);
-    let hint = match lent {
-        Ok(mut lent) => hint_with(alloc, &day, &graph, &mut lent, &[]),
-        Err(fault) => Err(Fail::from(fault)),
-    };
-    drop(graph);
+    let hint = hint_on(alloc, &day);
+    drop(day);
     hint
 }
 
@@ -210,23 +302,32 @@ fn is_about_2_thirds(price: i128) -> bool {
     price.saturating_sub(733_007_751_851).unsigned_abs() <= 64
 }
 
-#[test]
-fn thirds_keep_their_ceilings(rt: HostRuntime) -> Result<(), Fail> {
-    let hint = hint_of_triples(rt.alloc())?;
-    let listed = hint.listed.as_slice();
-    assert_eq!(rt; listed.len(), 4);
-    assert!(rt;
-        listed
+/// Whether the four trees are listed in their order.
+fn are_in_order(listed: &[ListedTree]) -> bool {
+    listed.len() == 4
+        && listed
             .iter()
             .enumerate()
             .all(|(number, tree)| tree.column == number)
-    );
+}
+
+/// Whether the trees keep the ceilings, and weigh 2 thirds each, within a few units.
+fn are_thirds(listed: &[ListedTree]) -> bool {
     // The nearest number to 2 thirds is 48038396025285291, and three of it exceed the ceiling by 1.
     let total = total_of(listed);
-    assert!(rt; are_kept(listed, total));
-    assert!(rt; total >= 4 * 48_038_396_025_285_286);
-    let y = hint.y.as_slice();
-    assert_eq!(rt; y.len(), 10);
-    assert!(rt; y.iter().take(4).all(|price| is_about_2_thirds(*price)));
+    are_kept(listed, total) && total >= 4 * 48_038_396_025_285_286
+}
+
+/// Whether there is a price for each row, that of each of the four periods being 2 thirds.
+fn are_prices(prices: &[i128]) -> bool {
+    prices.len() == 10 && prices.iter().take(4).all(|price| is_about_2_thirds(*price))
+}
+
+#[test]
+fn thirds_keep_their_ceilings(rt: HostRuntime) -> Result<(), Fail> {
+    let hint = hint_of_triples(rt.alloc())?;
+    assert!(rt; are_in_order(hint.listed.as_slice()));
+    assert!(rt; are_thirds(hint.listed.as_slice()));
+    assert!(rt; are_prices(hint.y.as_slice()));
     Ok(())
 }

@@ -206,7 +206,9 @@ fn shows_at(
     ensures { AreLent day.now graph.now lent.new.pricer lent.new.pool }
 {
     let end = solve(alloc, day, graph, lent, cuts, &[])?;
-    Ok(shows(&end, want))
+    let is_shown = shows(&end, want);
+    drop(end);
+    Ok(is_shown)
 }
 
 fn show_with(
@@ -232,7 +234,9 @@ fn show_row(alloc: Global, day: &Instance, graph: &Graph, row: &Row<'_>) -> Resu
     requires graph { IsGraph day.now.grammar graph.now }
 {
     let mut lent = lent_for(alloc, day, graph)?;
-    show_with(alloc, day, graph, &mut lent, row)
+    let shown = show_with(alloc, day, graph, &mut lent, row);
+    drop(lent);
+    shown
 }
 
 fn show_each(alloc: Global, day: &Instance, graph: &Graph, rows: &[Row<'_>]) -> Result<(), Fail>
@@ -249,13 +253,17 @@ fn show_rows(alloc: Global, day: &Instance, rows: &[Row<'_>]) -> Result<(), Fail
     requires { IsMasterDay day.now }
 {
     let graph = graph_of(alloc, &day.grammar)?;
-    show_each(alloc, day, &graph, rows)
+    let shown = show_each(alloc, day, &graph, rows);
+    drop(graph);
+    shown
 }
 
 /// Shows what the masters of these nodes of a day show.
 fn show(alloc: Global, parts: &DayParts, rows: &[Row<'_>]) -> Result<(), Fail> {
     let day = master_day(alloc, parts)?;
-    show_rows(alloc, &day, rows)
+    let shown = show_rows(alloc, &day, rows);
+    drop(day);
+    shown
 }
 
 const PAIR_ROWS: [Row<'static>; 4] = [
@@ -350,19 +358,29 @@ fn is_same_with_a_pool(alloc: Global, day: &Instance, graph: &Graph) -> Result<b
     requires graph { IsGraph day.now.grammar graph.now }
 {
     let mut lent = lent_for(alloc, day, graph)?;
-    is_same_again(alloc, day, graph, &mut lent)
+    let is_same = is_same_again(alloc, day, graph, &mut lent);
+    drop(lent);
+    is_same
 }
 
 fn is_same_on(alloc: Global, day: &Instance) -> Result<bool, Fail>
     requires { IsMasterDay day.now }
 {
     let graph = graph_of(alloc, &day.grammar)?;
-    is_same_with_a_pool(alloc, day, &graph)
+    let is_same = is_same_with_a_pool(alloc, day, &graph);
+    drop(graph);
+    is_same
+}
+
+fn is_same_on_pairs(alloc: Global) -> Result<bool, Fail> {
+    let day = master_day(alloc, &PAIR_DAY)?;
+    let is_same = is_same_on(alloc, &day);
+    drop(day);
+    is_same
 }
 
 #[test]
 fn the_root_of_pairs_again(rt: HostRuntime) -> Result<(), Fail> {
-    let day = master_day(rt.alloc(), &PAIR_DAY)?;
-    assert!(rt; is_same_on(rt.alloc(), &day)?);
+    assert!(rt; is_same_on_pairs(rt.alloc())?);
     Ok(())
 }

@@ -244,7 +244,9 @@ fn shown_with(
         return Err(Fail::from("no cuts of the day"));
     }
     let end = solve(alloc, day, graph, lent, cuts)?;
-    shown_at_end(alloc, day, graph, lent, cuts, &end)
+    let shown = shown_at_end(alloc, day, graph, lent, cuts, &end);
+    drop(end);
+    shown
 }
 
 fn shown_on(alloc: Global, day: &Instance, cuts: &[Cut]) -> Result<Shown, Fail>
@@ -260,9 +262,15 @@ fn shown_on(alloc: Global, day: &Instance, cuts: &[Cut]) -> Result<Shown, Fail>
     shown
 }
 
+fn shown_of(alloc: Global, parts: &DayParts, cuts: &[Cut]) -> Result<Shown, Fail> {
+    let day = master_day(alloc, parts)?;
+    let shown = shown_on(alloc, &day, cuts);
+    drop(day);
+    shown
+}
+
 fn shown_of_pairs(alloc: Global, cuts: &[Cut]) -> Result<Shown, Fail> {
-    let day = master_day(alloc, &PAIR_DAY)?;
-    shown_on(alloc, &day, cuts)
+    shown_of(alloc, &PAIR_DAY, cuts)
 }
 
 /// The weights of the master show its prices best, and no others of these do.
@@ -290,9 +298,8 @@ fn weights_under_cuts(rt: HostRuntime) -> Result<(), Fail> {
 
 #[test]
 fn weights_of_all_heads(rt: HostRuntime) -> Result<(), Fail> {
-    let day = master_day(rt.alloc(), &LONE_DAY)?;
     // One tree has the weight 1. More of it would lower the cost, at 2 for 20, so it is the heads that refuse it.
     // The first one left out, no tree is left.
-    assert!(rt; shown_on(rt.alloc(), &day, &[])? == EXACT);
+    assert!(rt; shown_of(rt.alloc(), &LONE_DAY, &[])? == EXACT);
     Ok(())
 }

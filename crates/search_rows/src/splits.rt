@@ -1,5 +1,6 @@
 ghost use Rattle.std.specs.Prelude.{[], IfOk};
 ghost use Rattle.parse_graph.specs.Graphs.{IsGraph};
+ghost use Rattle.count_boxes.specs.Paths.{IsBoxOf};
 ghost use Rattle.node_master.specs.declared.ends.Solution.TheVariants.{Near as is_near};
 ghost use Rattle.node_master.specs.Ends.{AreSolved};
 ghost use Rattle.search_rows.specs.Days.{IsMasterDay, AreLent};
@@ -12,7 +13,7 @@ use count_boxes::ArcBox;
 use node_master::{First, NodeEnd, Solution, Weight};
 use open_nodes::Plan;
 use parse_graph::Graph;
-use roster_model::{Instance, List};
+use roster_model::{Instance, List, Memory};
 use search_day::Day;
 use std::alloc::Global;
 use std::test::Fail;
@@ -39,7 +40,46 @@ fn near_weights(
     }
 }
 
-/// Returns the split that the weights of the root's near end point to.
+// Returns the split that is told.
+fn plan_of(weighed: Result<Weighed, Memory>) -> Result<Option<Plan>, Fail> {
+    match weighed? {
+        Weighed::Between { arc, b } => Ok(Some(Plan { arc, b })),
+        Weighed::Whole(_) | Weighed::Other => Ok(None),
+    }
+}
+
+/// Returns the split that the weights of the root's near end point to, where the arcs have the root's box.
+fn split_in(
+    alloc: Global,
+    day: &Instance,
+    graph: &Graph,
+    lent: &mut Lent,
+    arc_box: &ArcBox,
+    preferred: Option<u32>,
+) -> Result<Option<Plan>, Fail>
+    requires day { IsMasterDay day.now }
+    requires graph { IsGraph day.now.grammar graph.now }
+    requires lent { AreLent day.now graph.now lent.old.pricer lent.old.pool }
+    requires left { IsBoxOf day.now graph.now [] arc_box.now }
+{
+    let weights = near_weights(alloc, day, graph, lent)?;
+    let node = SolvedNode {
+        day: Day {
+            instance: day,
+            graph,
+        },
+        cuts: &[],
+        arc_box,
+        pool: &lent.pool,
+        weights: weights.as_slice(),
+        solution: Solution::Near,
+    };
+    let weighed = weigh(alloc, &node, preferred);
+    drop(weights);
+    plan_of(weighed)
+}
+
+/// The same, with a box of its own.
 fn split_with(
     alloc: Global,
     day: &Instance,
@@ -51,24 +91,10 @@ fn split_with(
     requires graph { IsGraph day.now.grammar graph.now }
     requires lent { AreLent day.now graph.now lent.old.pricer lent.old.pool }
 {
-    let weights = near_weights(alloc, day, graph, lent)?;
     let arc_box = ArcBox::new(alloc, day, graph)?;
-    let node = SolvedNode {
-        day: Day {
-            instance: day,
-            graph,
-        },
-        cuts: &[],
-        arc_box: &arc_box,
-        pool: &lent.pool,
-        weights: weights.as_slice(),
-        solution: Solution::Near,
-    };
-    let weighed = weigh(alloc, &node, preferred)?;
-    match weighed {
-        Weighed::Between { arc, b } => Ok(Some(Plan { arc, b })),
-        Weighed::Whole(_) | Weighed::Other => Ok(None),
-    }
+    let plan = split_in(alloc, day, graph, lent, &arc_box, preferred);
+    drop(arc_box);
+    plan
 }
 
 /// Returns the split at the root of a day, with a pool of its own.
@@ -82,7 +108,9 @@ fn split(
     requires graph { IsGraph day.now.grammar graph.now }
 {
     let mut lent = lent_for(alloc, day, graph)?;
-    split_with(alloc, day, graph, &mut lent, preferred)
+    let plan = split_with(alloc, day, graph, &mut lent, preferred);
+    drop(lent);
+    plan
 }
 
 /// Whether the split is between 0 and 1, on an arc of a whole rule.
@@ -96,30 +124,81 @@ fn is_of_whole_rule(graph: &Graph, split: Option<Plan>) -> bool {
     }
 }
 
-/// Whether one of the longest arcs is split where no arc of the graph is preferred.
+/// Whether one of the longest arcs of the graph is split where none of its arcs is preferred.
+fn splits_longest_in(alloc: Global, day: &Instance, graph: &Graph) -> Result<bool, Fail>
+    requires day { IsMasterDay day.now }
+    requires graph { IsGraph day.now.grammar graph.now }
+{
+    let free = split(alloc, day, graph, None)?;
+    let strange = split(alloc, day, graph, Some(ARCS))?;
+    Ok(is_of_whole_rule(graph, free) && is_of_whole_rule(graph, strange))
+}
+
+/// The same of the graph of a day.
 fn splits_longest(alloc: Global, day: &Instance) -> Result<bool, Fail>
     requires { IsMasterDay day.now }
 {
     let graph = graph_of(alloc, &day.grammar)?;
-    let free = split(alloc, day, &graph, None)?;
-    let strange = split(alloc, day, &graph, Some(ARCS))?;
-    Ok(is_of_whole_rule(&graph, free) && is_of_whole_rule(&graph, strange))
+    let splits = splits_longest_in(alloc, day, &graph);
+    drop(graph);
+    splits
 }
 
-/// Whether each of the arcs is split between 0 and 1 where it is preferred.
-fn splits_preferred(alloc: Global, day: &Instance) -> Result<bool, Fail>
-    requires { IsMasterDay day.now }
+/// Whether each of the graph's arcs is split between 0 and 1 where it is preferred.
+fn splits_preferred_in(alloc: Global, day: &Instance, graph: &Graph) -> Result<bool, Fail>
+    requires day { IsMasterDay day.now }
+    requires graph { IsGraph day.now.grammar graph.now }
 {
-    let graph = graph_of(alloc, &day.grammar)?;
     for arc in 0..ARCS {
-        if split(alloc, day, &graph, Some(arc))? != Some(Plan { arc, b: 0 }) {
+        if split(alloc, day, graph, Some(arc))? != Some(Plan { arc, b: 0 }) {
             return Ok(false);
         }
     }
     Ok(graph.arcs().len() == ARCS as usize)
 }
 
-/// Returns the arc that weighs farthest from a whole number at the root's near end.
+/// The same of the graph of a day.
+fn splits_preferred(alloc: Global, day: &Instance) -> Result<bool, Fail>
+    requires { IsMasterDay day.now }
+{
+    let graph = graph_of(alloc, &day.grammar)?;
+    let splits = splits_preferred_in(alloc, day, &graph);
+    drop(graph);
+    splits
+}
+
+/// Returns the arc that weighs farthest from a whole number at the root's near end, where the arcs have the root's
+/// box.
+fn farthest_in(
+    alloc: Global,
+    day: &Instance,
+    graph: &Graph,
+    lent: &mut Lent,
+    arc_box: &ArcBox,
+) -> Result<Option<(u32, u32)>, Fail>
+    requires day { IsMasterDay day.now }
+    requires graph { IsGraph day.now.grammar graph.now }
+    requires lent { AreLent day.now graph.now lent.old.pricer lent.old.pool }
+    requires left { IsBoxOf day.now graph.now [] arc_box.now }
+{
+    let weights = near_weights(alloc, day, graph, lent)?;
+    let node = SolvedNode {
+        day: Day {
+            instance: day,
+            graph,
+        },
+        cuts: &[],
+        arc_box,
+        pool: &lent.pool,
+        weights: weights.as_slice(),
+        solution: Solution::Near,
+    };
+    let farthest = farthest_from_whole(alloc, &node);
+    drop(weights);
+    Ok(farthest?)
+}
+
+/// The same, with a box of its own.
 fn farthest_with(
     alloc: Global,
     day: &Instance,
@@ -130,54 +209,76 @@ fn farthest_with(
     requires graph { IsGraph day.now.grammar graph.now }
     requires lent { AreLent day.now graph.now lent.old.pricer lent.old.pool }
 {
-    let weights = near_weights(alloc, day, graph, lent)?;
     let arc_box = ArcBox::new(alloc, day, graph)?;
-    let node = SolvedNode {
-        day: Day {
-            instance: day,
-            graph,
-        },
-        cuts: &[],
-        arc_box: &arc_box,
-        pool: &lent.pool,
-        weights: weights.as_slice(),
-        solution: Solution::Near,
-    };
-    let farthest = farthest_from_whole(alloc, &node)?;
-    Ok(farthest)
+    let farthest = farthest_in(alloc, day, graph, lent, &arc_box);
+    drop(arc_box);
+    farthest
 }
 
-/// Whether an arc of the day is farthest from a whole number, above 0.
+/// Whether an arc of the graph is farthest from a whole number, above 0.
+fn has_farthest_in(alloc: Global, day: &Instance, graph: &Graph) -> Result<bool, Fail>
+    requires day { IsMasterDay day.now }
+    requires graph { IsGraph day.now.grammar graph.now }
+{
+    let mut lent = lent_for(alloc, day, graph)?;
+    let farthest = farthest_with(alloc, day, graph, &mut lent);
+    drop(lent);
+    match farthest? {
+        Some((arc, b)) => Ok(arc < ARCS && b == 0),
+        None => Ok(false),
+    }
+}
+
+/// The same of the graph of a day.
 fn has_farthest(alloc: Global, day: &Instance) -> Result<bool, Fail>
     requires { IsMasterDay day.now }
 {
     let graph = graph_of(alloc, &day.grammar)?;
-    let mut lent = lent_for(alloc, day, &graph)?;
-    match farthest_with(alloc, day, &graph, &mut lent)? {
-        Some((arc, b)) => Ok(arc < ARCS && b == 0),
-        None => Ok(false),
-    }
+    let has = has_farthest_in(alloc, day, &graph);
+    drop(graph);
+    has
+}
+
+/// Whether one of the longest arcs of the day of pairs is split where no arc is preferred.
+fn splits_longest_of_pairs(alloc: Global) -> Result<bool, Fail> {
+    let day = master_day(alloc, &PAIR_DAY)?;
+    let holds = splits_longest(alloc, &day);
+    drop(day);
+    holds
+}
+
+/// Whether each arc of that day is split where it is preferred.
+fn splits_preferred_of_pairs(alloc: Global) -> Result<bool, Fail> {
+    let day = master_day(alloc, &PAIR_DAY)?;
+    let holds = splits_preferred(alloc, &day);
+    drop(day);
+    holds
+}
+
+/// Whether an arc of that day is farthest from a whole number.
+fn has_farthest_of_pairs(alloc: Global) -> Result<bool, Fail> {
+    let day = master_day(alloc, &PAIR_DAY)?;
+    let holds = has_farthest(alloc, &day);
+    drop(day);
+    holds
 }
 
 // The three trees weigh a half each, and no two share an arc: the trees of each arc weigh a half together, which is
 // well between 0 and 1, so the lengths decide.
 #[test]
 fn near_halves_split_a_longest_arc(rt: HostRuntime) -> Result<(), Fail> {
-    let day = master_day(rt.alloc(), &PAIR_DAY)?;
-    assert!(rt; splits_longest(rt.alloc(), &day)?);
+    assert!(rt; splits_longest_of_pairs(rt.alloc())?);
     Ok(())
 }
 
 #[test]
 fn near_halves_are_farthest_from_whole(rt: HostRuntime) -> Result<(), Fail> {
-    let day = master_day(rt.alloc(), &PAIR_DAY)?;
-    assert!(rt; has_farthest(rt.alloc(), &day)?);
+    assert!(rt; has_farthest_of_pairs(rt.alloc())?);
     Ok(())
 }
 
 #[test]
 fn near_halves_split_the_preferred_arc(rt: HostRuntime) -> Result<(), Fail> {
-    let day = master_day(rt.alloc(), &PAIR_DAY)?;
-    assert!(rt; splits_preferred(rt.alloc(), &day)?);
+    assert!(rt; splits_preferred_of_pairs(rt.alloc())?);
     Ok(())
 }

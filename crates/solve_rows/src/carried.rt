@@ -4,7 +4,7 @@ ghost use Rattle.parse_graph.specs.Graphs.{IsGraph};
 ghost use Rattle.roster_model.specs.SoundInstance.{IsSoundInstance};
 
 use crate::days::graph_of;
-use branch_price::{Done, Found, PlainMaster, Pool, Start, SteadyWatch, search_from};
+use branch_price::{Done, Found, PlainMaster, Pool, SearchTask, Start, SteadyWatch, search_from};
 use certificate_text::read_cert;
 use certificates::Cert;
 use parse_graph::Graph;
@@ -58,18 +58,20 @@ fn found_from(
     requires some { 1 ≤ turns }
     requires few { turns ≤ 10000 }
 {
-    let start = Start {
-        shifts: old.shifts.as_slice(),
-        nodes: old.nodes.as_slice(),
-    };
-    search_from(
-        alloc,
-        &Day {
+    let task = SearchTask {
+        day: Day {
             instance: day,
             graph,
         },
         turns,
-        start,
+        start: Start {
+            shifts: old.shifts.as_slice(),
+            nodes: old.nodes.as_slice(),
+        },
+    };
+    search_from(
+        alloc,
+        &task,
         &mut Pool::new(alloc),
         &mut PlainMaster::new(),
         &mut SteadyWatch,

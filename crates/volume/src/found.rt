@@ -2,8 +2,9 @@ ghost use Rattle.std.specs.Prelude.{◌<◌, All, IfOk, length};
 ghost use Rattle.roster_model.specs.SoundInstance.{IsSoundInstance};
 ghost use Rattle.tree_pool.specs.Pools.{IsPool, IsGrown};
 
-use master_rows::{NodeRows, reduced_at};
-use roster_model::{Cut, Instance, List, Memory};
+use master_rows::reduced_at;
+use node_task::NodeTask;
+use roster_model::{Instance, List, Memory};
 use std::alloc::Global;
 use tree_pool::Pool;
 
@@ -34,15 +35,14 @@ pub struct Volume {
 /// Returns a tree of the pool with its reduced cost at prices.
 fn found_at(
     alloc: Global,
-    cuts: &[Cut],
-    rows: &NodeRows,
+    task: &NodeTask,
     pool: &Pool,
     prices: &[i128],
     tree: usize,
 ) -> Result<Found, Memory>
     requires { tree < length pool.now }
 {
-    let places = rows.places_of(alloc, cuts, pool, tree)?;
+    let places = task.rows.places_of(alloc, task.cuts, pool, tree)?;
     let cost = i64::from(pool.cost(tree));
     Ok(Found {
         tree,
@@ -57,16 +57,17 @@ fn found_at(
 /// `Memory` where memory runs out; nothing is kept then.
 pub(crate) fn found_trees(
     alloc: Global,
-    cuts: &[Cut],
-    rows: &NodeRows,
+    task: &NodeTask,
     pool: &Pool,
     prices: &[i128],
 ) -> Result<List<Found>, Memory> {
-    let order = rows.best_trees(alloc, cuts, pool, prices, pool.len())?;
+    let order = task
+        .rows
+        .best_trees(alloc, task.cuts, pool, prices, pool.len())?;
     let mut trees = List::new(alloc);
     for &tree in order.as_slice() {
         if tree < pool.len() {
-            trees.push(found_at(alloc, cuts, rows, pool, prices, tree)?)?;
+            trees.push(found_at(alloc, task, pool, prices, tree)?)?;
         }
     }
     Ok(trees)

@@ -2,6 +2,7 @@
 //! that are cheap there.
 #![tactic(auto)]
 
+mod desk;
 mod float;
 mod found;
 mod line;

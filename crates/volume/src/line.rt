@@ -1,11 +1,10 @@
-ghost use Rattle.std.specs.Prelude.{◌<◌, length};
-ghost use Rattle.master_laws.specs.Rows.{rows_of};
-ghost use Rattle.master_rows.specs.NodeRows.{AreRows};
+ghost use Rattle.std.specs.Prelude.{◌<◌};
+ghost use Rattle.node_task.specs.Tasks.{IsTask, row_count};
 
 use crate::float::{Cover64, Price64, Share64, bounded, price_of, whole_of};
-use master_rows::NodeRows;
+use node_task::NodeTask;
 use pivot_rows::Place;
-use roster_model::{Cut, Instance, List, Memory};
+use roster_model::{List, Memory};
 use std::alloc::Global;
 use std::num::nearest_i64_to_f64;
 
@@ -34,16 +33,16 @@ pub(crate) struct RowNumbers {
 }
 
 /// Returns the greatest size of a negative price of a row, and its greatest price.
-fn bounds_of(instance: &Instance, cuts: &[Cut], rows: &NodeRows, row: usize) -> (i64, i64)
-    requires rows { AreRows instance.now cuts.now rows.now }
-    requires row { row < length (rows_of instance.now cuts.now) }
+fn bounds_of(task: &NodeTask, row: usize) -> (i64, i64)
+    requires task { IsTask task.now }
+    requires row { row < row_count task.now }
 {
-    let head = rows.first_head();
+    let head = task.rows.first_head();
     if row == head || row == head.saturating_add(1) {
         return (0, 0);
     }
-    let beyond = rows.beyond_cost(row).unwrap_or(MOST_PRICE);
-    (beyond, rows.missing_cost(row, MOST_PRICE))
+    let beyond = task.rows.beyond_cost(row).unwrap_or(MOST_PRICE);
+    (beyond, task.rows.missing_cost(row, MOST_PRICE))
 }
 
 /// Returns the number at a place, 0 where there is none.
@@ -78,17 +77,15 @@ fn line_of(beyond: i64, missing: i64, right: i64, price: i128) -> RowNumbers {
 /// `Memory` where memory runs out; nothing is kept then.
 pub(crate) fn lines_of(
     alloc: Global,
-    instance: &Instance,
-    cuts: &[Cut],
-    rows: &NodeRows,
+    task: &NodeTask,
     prices: &[i128],
 ) -> Result<Vec<RowNumbers>, Memory>
-    requires { AreRows instance.now cuts.now rows.now }
+    requires { IsTask task.now }
 {
     let mut lines = List::new(alloc);
-    for row in 0..rows.right().len() {
-        let right = rows.right().get(row).copied().unwrap_or(0);
-        let (beyond, missing) = bounds_of(instance, cuts, rows, row);
+    for row in 0..task.rows.right().len() {
+        let right = task.rows.right().get(row).copied().unwrap_or(0);
+        let (beyond, missing) = bounds_of(task, row);
         lines.push(line_of(beyond, missing, right, at(prices, row)))?;
     }
     Ok(lines.into_vec())

@@ -1,106 +1,63 @@
-ghost use Rattle.std.specs.Prelude.{◌≡◌, ◌≤◌, length};
-ghost use Rattle.roster_model.specs.SoundInstance.{IsSoundInstance};
-ghost use Rattle.parse_graph.specs.Graphs.{IsGraph};
-ghost use Rattle.cheapest_tree.specs.Pricers.{IsMadeFor};
-ghost use Rattle.master_laws.specs.Rows.{rows_of};
-ghost use Rattle.master_rows.specs.NodeRows.{AreRows};
-ghost use Rattle.tree_pool.specs.Pools.{IsPool};
-ghost use Rattle.node_columns.specs.Columns.{IsDesk};
+ghost use Rattle.node_task.specs.Tasks.{IsTask};
+ghost use Rattle.volume.specs.Desks.{IsVolumeDesk};
 
-use crate::path::Path;
+use crate::desk::VolumeDesk;
 use cheapest_tree::Pricer;
-use master_rows::NodeRows;
-use node_columns::{ColumnDesk, first_wide, list_cheapest};
+use node_columns::{first_wide, list_cheapest};
 use node_task::NodeTask;
-use parse_graph::Graph;
-use roster_model::{Cut, Instance, Memory};
-use search_day::Day;
+use roster_model::Memory;
 use std::alloc::Global;
-use tree_pool::Pool;
 
 /// The unit of prices, one in 2^24.
 const KAPPA: i128 = 16_777_216;
 
-/// Lists a tree of least reduced cost at prices in units of 2^-24 where that is negative, and returns its column.
+/// Lists a tree of least reduced cost at the prices that are asked at, where that is negative, and returns its
+/// column.
 fn ask(
     alloc: Global,
-    instance: &Instance,
-    cuts: &[Cut],
-    graph: &Graph,
-    rows: &NodeRows,
-    y: &[i128],
+    task: &NodeTask,
     pricer: &mut Pricer,
-    pool: &mut Pool,
-    desk: &mut ColumnDesk,
+    desk: &mut VolumeDesk,
 ) -> Result<Option<usize>, Memory>
-    requires sound { IsSoundInstance instance.now }
-    requires graph { IsGraph instance.now.grammar graph.now }
-    requires made { IsMadeFor graph.now pricer.old }
-    requires rows { AreRows instance.now cuts.now rows.now }
-    requires small { length (rows_of instance.now cuts.now) ≤ 1500 }
-    requires y { length y.now ≡ length (rows_of instance.now cuts.now) }
-    requires pool { IsPool instance.now.grammar pool.old }
-    requires desk { IsDesk instance.now cuts.now pool.old desk.old }
-    ensures made { IsMadeFor graph.now pricer.new }
-    ensures pool { IsPool instance.now.grammar pool.new }
-    ensures desk { IsDesk instance.now cuts.now pool.new desk.new }
+    requires task { IsTask task.now }
+    requires desk { IsVolumeDesk task.now pricer.old desk.old }
+    ensures { IsVolumeDesk task.now pricer.new desk.new }
 {
+    let y = desk.path.asked.as_slice();
     if first_wide(y, KAPPA).is_some() {
         return Ok(None);
     }
-    let task = NodeTask {
-        day: Day { instance, graph },
-        cuts,
-        rows,
-    };
-    list_cheapest(alloc, &task, y, KAPPA, pricer, pool, desk)
+    list_cheapest(
+        alloc,
+        task,
+        y,
+        KAPPA,
+        pricer,
+        &mut desk.pool,
+        &mut desk.columns,
+    )
 }
 
 /// Takes a pass: steps, asks for a tree there, and notes what it shows. Says whether a further one is worth its
 /// time.
 fn take_pass(
     alloc: Global,
-    instance: &Instance,
-    cuts: &[Cut],
-    graph: &Graph,
-    rows: &NodeRows,
-    path: &mut Path,
+    task: &NodeTask,
     pricer: &mut Pricer,
-    pool: &mut Pool,
-    desk: &mut ColumnDesk,
+    desk: &mut VolumeDesk,
 ) -> Result<bool, Memory>
-    requires sound { IsSoundInstance instance.now }
-    requires graph { IsGraph instance.now.grammar graph.now }
-    requires made { IsMadeFor graph.now pricer.old }
-    requires rows { AreRows instance.now cuts.now rows.now }
-    requires small { length (rows_of instance.now cuts.now) ≤ 1500 }
-    requires path { length path.old.asked.items ≡ length (rows_of instance.now cuts.now) }
-    requires pool { IsPool instance.now.grammar pool.old }
-    requires desk { IsDesk instance.now cuts.now pool.old desk.old }
-    ensures made { IsMadeFor graph.now pricer.new }
-    ensures pool { IsPool instance.now.grammar pool.new }
-    ensures desk { IsDesk instance.now cuts.now pool.new desk.new }
-    ensures path { length path.new.asked.items ≡ length path.old.asked.items }
+    requires task { IsTask task.now }
+    requires desk { IsVolumeDesk task.now pricer.old desk.old }
+    ensures { IsVolumeDesk task.now pricer.new desk.new }
 {
-    path.step(rows);
-    let found = ask(
-        alloc,
-        instance,
-        cuts,
-        graph,
-        rows,
-        path.asked.as_slice(),
-        pricer,
-        pool,
-        desk,
-    )?;
-    let Some(column) = found else {
+    desk.path.step(task.rows);
+    let Some(column) = ask(alloc, task, pricer, desk)? else {
         return Ok(false);
     };
-    let Some(held) = desk.held.as_slice().get(column) else {
+    let Some(held) = desk.columns.held.as_slice().get(column) else {
         return Ok(false);
     };
-    Ok(path.note(instance, rows, held))
+    Ok(desk.path.note(task, held))
 }
 
 /// Takes at most so many passes.
@@ -111,29 +68,17 @@ fn take_pass(
 /// the day.
 pub(crate) fn take_passes(
     alloc: Global,
-    instance: &Instance,
-    cuts: &[Cut],
-    graph: &Graph,
-    rows: &NodeRows,
-    path: &mut Path,
-    pricer: &mut Pricer,
-    pool: &mut Pool,
-    desk: &mut ColumnDesk,
+    task: &NodeTask,
     count: u32,
+    pricer: &mut Pricer,
+    desk: &mut VolumeDesk,
 ) -> Result<(), Memory>
-    requires sound { IsSoundInstance instance.now }
-    requires graph { IsGraph instance.now.grammar graph.now }
-    requires made { IsMadeFor graph.now pricer.old }
-    requires rows { AreRows instance.now cuts.now rows.now }
-    requires small { length (rows_of instance.now cuts.now) ≤ 1500 }
-    requires path { length path.old.asked.items ≡ length (rows_of instance.now cuts.now) }
-    requires pool { IsPool instance.now.grammar pool.old }
-    requires desk { IsDesk instance.now cuts.now pool.old desk.old }
-    ensures made { IsMadeFor graph.now pricer.new }
-    ensures pool { IsPool instance.now.grammar pool.new }
+    requires task { IsTask task.now }
+    requires desk { IsVolumeDesk task.now pricer.old desk.old }
+    ensures { IsVolumeDesk task.now pricer.new desk.new }
 {
     for _pass in 0..count {
-        let goes_on = take_pass(alloc, instance, cuts, graph, rows, path, pricer, pool, desk)?;
+        let goes_on = take_pass(alloc, task, pricer, desk)?;
         if !goes_on {
             return Ok(());
         }

@@ -1,6 +1,5 @@
 ghost use Rattle.std.specs.Prelude.{◌≡◌, IfOk, length};
-ghost use Rattle.master_laws.specs.Rows.{rows_of};
-ghost use Rattle.master_rows.specs.NodeRows.{AreRows};
+ghost use Rattle.node_task.specs.Tasks.{IsTask, row_count};
 
 use crate::float::price_of;
 use crate::line::{
@@ -10,8 +9,9 @@ use crate::line::{
 use crate::pace::Pace;
 use master_rows::{NodeRows, reduced_at};
 use node_columns::Held;
+use node_task::NodeTask;
 use pivot_rows::Place;
-use roster_model::{Cut, Instance, List, Memory};
+use roster_model::{List, Memory};
 use std::alloc::Global;
 use std::num::nearest_i64_to_f64;
 
@@ -38,10 +38,7 @@ pub(crate) struct Path {
 fn zeros(alloc: Global, count: usize) -> Result<Vec<i128>, Memory>
     ensures { IfOk result (λ v. length v.items ≡ count) }
 {
-    match vec![in alloc; 0i128; count] {
-        Ok(numbers) => Ok(numbers),
-        Err(_) => Err(Memory),
-    }
+    Ok(vec![in alloc; 0i128; count]?)
 }
 
 /// Sets the number at a place, if there is one.
@@ -77,18 +74,16 @@ impl Path {
     /// `Memory` where memory runs out; nothing is kept then.
     pub(crate) fn new(
         alloc: Global,
-        instance: &Instance,
-        cuts: &[Cut],
-        rows: &NodeRows,
+        task: &NodeTask,
         start: Option<&[i128]>,
     ) -> Result<Path, Memory>
-        requires { AreRows instance.now cuts.now rows.now }
-        ensures { IfOk result (λ p. length p.asked.items ≡ length (rows_of instance.now cuts.now)) }
+        requires { IsTask task.now }
+        ensures { IfOk result (λ p. length p.asked.items ≡ row_count task.now) }
     {
-        let lines = lines_of(alloc, instance, cuts, rows, start.unwrap_or(&[]))?;
-        let asked = zeros(alloc, rows.right().len())?;
-        let best = zeros(alloc, rows.right().len())?;
-        let margin = cost_of_missing(lines.as_slice(), instance.cells.len()) / 5.0;
+        let lines = lines_of(alloc, task, start.unwrap_or(&[]))?;
+        let asked = zeros(alloc, task.rows.right().len())?;
+        let best = zeros(alloc, task.rows.right().len())?;
+        let margin = cost_of_missing(lines.as_slice(), task.day.instance.cells.len()) / 5.0;
         Ok(Path {
             lines,
             asked,
@@ -150,20 +145,20 @@ impl Path {
 
     /// Notes the tree of least reduced cost at the prices that were asked at, and says whether a further pass is
     /// worth its time.
-    pub(crate) fn note(&mut self, instance: &Instance, rows: &NodeRows, held: &Held) -> bool
+    pub(crate) fn note(&mut self, task: &NodeTask, held: &Held) -> bool
         ensures { length self.new.asked.items ≡ length self.old.asked.items }
     {
-        set_at(self.asked.as_mut_slice(), rows.first_head(), 0);
+        set_at(self.asked.as_mut_slice(), task.rows.first_head(), 0);
         let places = held.places.as_slice();
         let reduced = reduced_at(held.cost, places, self.asked.as_slice());
         let heads = if reduced < 0 {
-            instance.heads_max
+            task.day.instance.heads_max
         } else {
-            instance.heads_min
+            task.day.instance.heads_min
         };
-        let bound = bound_at(rows.right(), self.asked.as_slice(), heads, reduced);
+        let bound = bound_at(task.rows.right(), self.asked.as_slice(), heads, reduced);
         self.mix(places, heads);
-        self.note_bound(rows, reduced, bound);
+        self.note_bound(task.rows, reduced, bound);
         self.pace.count(price_of(self.bound.unwrap_or(0)))
     }
 

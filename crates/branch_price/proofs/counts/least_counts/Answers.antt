@@ -6,7 +6,7 @@ use Rattle.branch_price.proofs.counts.least_counts.Goals as goal
 
 pub loop-arc-init : goal.loop-arc-init
 loop-arc-init c =
-    let e : c.in-Ok.counts.items ≡ [] = c.in-Ok.ensures.items in
+    let e : c.in_ok-counts.counts.items ≡ [] = c.in_ok-counts.ensures.items in
     subst (λ (xs : List ℕ). AreFirst c.args.arc_box.now 0 xs) (sym e) (first-none c.args.arc_box.now)
 
 pub loop-arc-preserved : goal.loop-arc-preserved

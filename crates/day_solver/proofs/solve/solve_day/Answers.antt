@@ -2,10 +2,19 @@ use Rattle.std.proofs.Common.{List, ◌≤◌, length, arith, sym, subst}
 use Rattle.roster_model.specs.declared.instance.Shift.{Shift}
 use Rattle.roster_model.specs.Folds.{Each}
 use Rattle.certificates.specs.Sound.{IsSoundShift}
+use Rattle.day_solver.specs.Solutions.{IsDaySolved}
 use Rattle.day_solver.proofs.solve.solve_day.Goals as goal
 
-pub solved-requires-clause-shifts : goal.solved-requires-clause-shifts
-solved-requires-clause-shifts g c = subst (λ (ss : List Shift). Each (IsSoundShift c.args.instance.now) ss) (sym c.none.ensures.shifts) tt
+pub solved-requires : goal.solved-requires
+solved-requires g c = record {
+  day = record { sound = c.requires.sound; graph = c.in_ok-graph.ensures.graph };
+  some = c.requires.some;
+  few = c.requires.few;
+  shifts = subst (λ (ss : List Shift). Each (IsSoundShift c.args.instance.now) ss) (sym c.none.ensures.shifts) tt;
+  few_shifts = subst (λ (ss : List Shift). length ss ≤ 64) (sym c.none.ensures.shifts) (omega arith);
+}
 
-pub solved-requires-clause-few_shifts : goal.solved-requires-clause-few_shifts
-solved-requires-clause-few_shifts g c = subst (λ (ss : List Shift). length ss ≤ 64) (sym c.none.ensures.shifts) (omega arith)
+pub returns-clause-solution : goal.returns-clause-solution
+returns-clause-solution g c =
+    subst (λ (ss : List Shift). IsDaySolved c.args.instance.now c.args.turns ss (g.W.Watch.patient c.args.watch.now) (g.M.Master.strict c.args.master.now) (g.M.Master.refused c.args.master.now) (g.M.Master.refused c.solved.new.master) c.in_ok-solved.field-0)
+    c.none.ensures.shifts c.in_ok-solved.ensures.solution

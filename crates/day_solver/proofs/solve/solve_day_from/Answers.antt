@@ -1,4 +1,18 @@
+use Rattle.std.proofs.Common.{List, subst}
+use Rattle.roster_model.specs.declared.instance.Shift.{Shift}
+use Rattle.day_solver.specs.Solutions.{IsDaySolved}
 use Rattle.day_solver.proofs.solve.solve_day_from.Goals as goal
 
-pub returns-clause-falls : goal.returns-clause-falls
-returns-clause-falls g c = rw c.as_slice.ensures at c.in_ok-solved.ensures.falls
+pub solved-requires : goal.solved-requires
+solved-requires g c = record {
+  day = record { sound = c.requires.sound; graph = c.in_ok-graph.ensures.graph };
+  some = c.requires.some;
+  few = c.requires.few;
+  shifts = rw c.as_slice.ensures c.requires.old.shifts;
+  few_shifts = rw c.as_slice.ensures c.requires.old.few;
+}
+
+pub returns-clause-solution : goal.returns-clause-solution
+returns-clause-solution g c =
+    subst (λ (ss : List Shift). IsDaySolved c.args.instance.now c.args.turns ss (g.W.Watch.patient c.args.watch.now) (g.M.Master.strict c.args.master.now) (g.M.Master.refused c.args.master.now) (g.M.Master.refused c.solved.new.master) c.in_ok-solved.field-0)
+    c.as_slice.ensures c.in_ok-solved.ensures.solution

@@ -33,18 +33,19 @@ set_heads-requires-clause-few g c = let i = c.self.inside in few-now i.instance 
 pub set_heads-requires-clause-fits : goal.set_heads-requires-clause-fits
 set_heads-requires-clause-fits g c = let i = c.self.inside in fits-at i.instance i.staff i.most i.given i.pool i.kept c.self.invariant (c.first_heads.result + i.given) (omega (arith, c.first_heads.ensures)) c.if-heads-self.false
 
-pub search_from-found-requires-clause-day : goal.search_from-found-requires-clause-day
-search_from-found-requires-clause-day g c =
+pub search_from-found-requires-clause-task : goal.search_from-found-requires-clause-task
+search_from-found-requires-clause-task g c =
     let i = c.self.inside in
     record {
-      sound = subst (λ (d : Instance). IsSoundInstance d) (sym c.set_heads.ensures) (sound-at i.instance i.staff i.most i.given i.pool i.kept c.self.invariant (c.first_heads.result + i.given) (omega (arith, c.first_heads.ensures)) c.if-heads-self.false);
-      graph = search rules;
+      day = record {
+        sound = subst (λ (d : Instance). IsSoundInstance d) (sym c.set_heads.ensures) (sound-at i.instance i.staff i.most i.given i.pool i.kept c.self.invariant (c.first_heads.result + i.given) (omega (arith, c.first_heads.ensures)) c.if-heads-self.false);
+        graph = search rules;
+      };
+      some = c.requires.some;
+      few = c.requires.few;
+      shifts = rw (c.as_slice.ensures, c.set_heads.ensures) (shifts-of i.staff i.instance (c.first_heads.result + i.given) i.kept c.self.invariant.shifts);
+      few_shifts = rw c.as_slice.ensures c.self.invariant.few;
     }
-
-pub search_from-found-requires-clause-shifts : goal.search_from-found-requires-clause-shifts
-search_from-found-requires-clause-shifts g c =
-    let i = c.self.inside in
-    rw (c.as_slice.ensures, c.set_heads.ensures) (shifts-of i.staff i.instance (c.first_heads.result + i.given) i.kept c.self.invariant.shifts)
 
 pub invariant_of-self : goal.invariant_of-self
 invariant_of-self g c =
@@ -101,7 +102,7 @@ returns-in-Ok-clause-point g c =
     let strict = g.M.Master.strict c.args.master.now in
     let patient = g.W.Watch.patient c.args.watch.now in
     let turns = c.args.turns in
-    let found = subst (λ (d : Instance). IsWithin patient turns (λ k. IsFound d strict k c.in-Ok.found)) c.set_heads.ensures c.in-Ok.ensures.found in
+    let found = subst (λ (d : Instance). IsWithin patient turns (λ k. IsFound d strict k c.in-Ok.found)) c.set_heads.ensures c.in-Ok.ensures.found.found in
     let next = point-found i.instance i.staff i.most i.given i.pool i.kept c.self.invariant (c.first_heads.result + i.given) strict patient turns c.in-Ok.found (omega (arith, c.first_heads.ensures)) c.if-heads-self.false found in
     subst (λ (v : CurveView). IsNextPoint v (view_of c.set_heads.new.instance i.staff i.most (i.given + 1) i.kept) strict patient turns (Some c.in-Ok.found)) c.self.view_is
     (subst (λ (d : Instance). IsNextPoint (view_of i.instance i.staff i.most i.given i.kept) (view_of d i.staff i.most (i.given + 1) i.kept) strict patient turns (Some c.in-Ok.found)) (sym c.set_heads.ensures) next)
@@ -113,11 +114,11 @@ returns-in-Ok-clause-falls g c =
     ap (λ (d : Instance). point_day (view_of d i.staff i.most (i.given + 1) i.kept)) c.set_heads.ensures ∙ next-day i.instance i.staff i.most i.given i.pool i.kept c.self.invariant (c.first_heads.result + i.given) (omega (arith, c.first_heads.ensures)) ∙ sym c.set_heads.ensures in
     let kept : c.as_slice.result.now ≡ c.args.self.now.kept = c.as_slice.ensures ∙ ap (λ (v : CurveView). v.kept) c.self.view_is in
     subst (λ (d : Instance). IsNoDearerThan d c.args.self.now.kept c.in-Ok.found.cert.cost) (sym day)
-    (subst (λ (ks : List Shift). IsNoDearerThan c.set_heads.new.instance ks c.in-Ok.found.cert.cost) kept c.in-Ok.ensures.falls)
+    (subst (λ (ks : List Shift). IsNoDearerThan c.set_heads.new.instance ks c.in-Ok.found.cert.cost) kept c.in-Ok.ensures.found.falls)
 
 pub returns-in-Ok-clause-counted : goal.returns-in-Ok-clause-counted
 returns-in-Ok-clause-counted g c =
     let i = c.self.inside in
     let day : point_day (view_of c.set_heads.new.instance i.staff i.most (i.given + 1) i.kept) ≡ c.set_heads.new.instance =
     ap (λ (d : Instance). point_day (view_of d i.staff i.most (i.given + 1) i.kept)) c.set_heads.ensures ∙ next-day i.instance i.staff i.most i.given i.pool i.kept c.self.invariant (c.first_heads.result + i.given) (omega (arith, c.first_heads.ensures)) ∙ sym c.set_heads.ensures in
-    subst (λ (d : Instance). AreCounted d (g.M.Master.refused c.args.master.now) (g.M.Master.refused c.search_from-found.new.master) c.in-Ok.found) (sym day) c.in-Ok.ensures.counted
+    subst (λ (d : Instance). AreCounted d (g.M.Master.refused c.args.master.now) (g.M.Master.refused c.search_from-found.new.master) c.in-Ok.found) (sym day) c.in-Ok.ensures.found.counted

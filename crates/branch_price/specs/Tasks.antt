@@ -1,0 +1,25 @@
+-- What is asked of a search, and what comes of it.
+use Rattle.std.specs.Prelude.{ℕ, ◌≤◌, Bool, length}
+use Rattle.roster_model.specs.Folds.{Each}
+use Rattle.certificates.specs.Sound.{IsSoundShift}
+use Rattle.search_day.specs.Days.{IsDay}
+use Rattle.search_watch.specs.Within.{IsWithin}
+use Rattle.branch_price.specs.declared.found.Found.{Found}
+use Rattle.branch_price.specs.declared.task.SearchTask.{SearchTask}
+use Rattle.branch_price.specs.Found.{IsFound, AreCounted}
+use Rattle.branch_price.specs.OldRosters.{IsNoDearerThan}
+
+-- a sound day is to be searched in 1 to 10,000 turns, from at most 64 old shifts, of teams of the day
+pub record IsSearchTask (t : SearchTask) : Type 0 where
+  pub day : IsDay t.day
+  pub some : 1 ≤ t.turns
+  pub few : t.turns ≤ 10000
+  pub shifts : Each (IsSoundShift t.day.instance.now) t.start.shifts.now
+  pub few_shifts : length t.start.shifts.now ≤ 64
+
+-- it is found with so many turns, or fewer where the watch is not patient, it costs no more than the old shifts,
+-- and its nodes without prices are counted by a master whose count went from `before` to `now`
+pub record IsTaskDone (t : SearchTask) (patient strict : Bool) (before now : ℕ) (f : Found) : Type 0 where
+  pub found : IsWithin patient t.turns (λ k. IsFound t.day.instance.now strict k f)
+  pub falls : IsNoDearerThan t.day.instance.now t.start.shifts.now f.cert.cost
+  pub counted : AreCounted t.day.instance.now before now f
