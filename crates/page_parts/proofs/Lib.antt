@@ -1,3 +1,4 @@
 pub mod ElementsLemmas
 mod EscapeLemmas
 pub mod PaintLemmas
+pub mod AmountLemmas

@@ -2,3 +2,4 @@ pub mod Elements
 pub mod Escapes
 pub mod Paints
 pub mod Sheets
+pub mod Amounts

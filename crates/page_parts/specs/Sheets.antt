@@ -6,10 +6,14 @@ use Rattle.page_parts.specs.declared.sheet.PeriodAxis.{PeriodAxis}
 abbrev pub width_of : ℕ → ℕ
 width_of periods = min (960 / max periods 1) 40
 
--- the sheet of so many periods, with room for names of so many bytes
-abbrev pub sheet_of : ℕ → ℕ → PeriodAxis
-sheet_of periods longest =
-    record { left = 56 + 8 * min longest 40; cell = width_of periods; periods = periods }
+-- the sheet of so many periods, with room for names of so many bytes and for amounts in words of so many
+abbrev pub sheet_of : ℕ → ℕ → ℕ → PeriodAxis
+sheet_of periods longest money = record {
+  left = 56 + 8 * min longest 60;
+  cell = width_of periods;
+  periods = periods;
+  margin = 72 + 8 * min money 60;
+}
 
 -- where the period behind so many begins
 abbrev pub left_of : PeriodAxis → ℕ → ℕ
@@ -25,7 +29,7 @@ right_of s = left_of s s.periods
 
 -- how wide a chart is
 abbrev pub chart_width : PeriodAxis → ℕ
-chart_width s = right_of s + 72
+chart_width s = right_of s + s.margin
 
 -- where a row begins
 abbrev pub top_of : ℕ → ℕ

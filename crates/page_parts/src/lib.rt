@@ -1,5 +1,5 @@
 //! The elements of a page that shows a roster, and how they are written: marks of the page's own,
-//! bytes of the texts, each escaped, numbers, rectangles and captions; the places of periods and rows;
+//! bytes of the texts, each escaped, numbers, amounts, rectangles and captions; the places of periods and rows;
 //! the colours of codes.
 #![tactic(auto)]
 
@@ -7,6 +7,7 @@ mod area;
 mod element;
 mod label;
 mod laws;
+mod money;
 mod paint;
 mod sheet;
 
@@ -14,5 +15,6 @@ pub use area::Area;
 pub use element::{bar, caption, figure, given, marks, number};
 pub use label::{labelled, labelled_text};
 pub use laws::{bytes_are_escaped, paints_stay};
+pub use money::{amount, labelled_amount, unit_behind};
 pub use paint::paint_of;
 pub use sheet::{PeriodAxis, chart_width, left_of, middle_of, right_of, sheet_of, top_of};

@@ -10,6 +10,8 @@ pub struct PeriodAxis {
     pub cell: u8,
     /// How many periods there are.
     pub periods: u8,
+    /// How much room there is behind the last period.
+    pub margin: u32,
 }
 
 // Returns how wide a period is, for so many.
@@ -19,14 +21,16 @@ fn width_of(periods: u8) -> u8
     (960 / (periods as u32).max(1)).min(40) as u8
 }
 
-/// Returns the sheet of so many periods, with room for names of so many bytes, at most 40.
-pub fn sheet_of(periods: u8, longest: usize) -> PeriodAxis
-    ensures { result ≡ sheet_of periods longest }
+/// Returns the sheet of so many periods, with room for names of so many bytes and for amounts that are counted in
+/// words of so many, each at most 60.
+pub fn sheet_of(periods: u8, longest: usize, money: usize) -> PeriodAxis
+    ensures { result ≡ sheet_of periods longest money }
 {
     PeriodAxis {
-        left: 56 + 8 * longest.min(40) as u32,
+        left: 56 + 8 * longest.min(60) as u32,
         cell: width_of(periods),
         periods,
+        margin: 72 + 8 * money.min(60) as u32,
     }
 }
 
@@ -66,7 +70,7 @@ pub fn right_of(sheet: PeriodAxis) -> u64
 pub fn chart_width(sheet: PeriodAxis) -> u64
     ensures { result ≡ chart_width sheet }
 {
-    right_of(sheet) + 72
+    right_of(sheet) + sheet.margin as u64
 }
 
 /// Returns where a row begins, from 0.

@@ -3,14 +3,16 @@ use Rattle.std.proofs.Common.{◌≡◌, ℕ, suc, List, [], ◌∷◌, ◌++◌
 use Rattle.std.proofs.lemmas.List.{map-append}
 use Rattle.std.specs.List.{flat_map}
 use Rattle.std.specs.Prelude.{codes, if◌then◌else◌, nat_lt}
+use Rattle.page_parts.specs.Amounts.{AreSaidAlike}
 use Rattle.page_parts.specs.Elements.{Element, given, marks, number}
 use Rattle.page_parts.specs.Escapes.{marks_of}
+use Rattle.page_parts.proofs.AmountLemmas.{behind_same}
 use Rattle.page_tables.specs.Alike.{AreAlike, IsAlikeHead, IsAlikeRun, IsAlikeShift, IsAlikeTables, IsAlikeTotal}
 use Rattle.page_tables.specs.HeadTable.{head_end, head_line, head_table}
 use Rattle.page_tables.specs.RunLists.{run_end, run_front, run_line, run_list, run_table}
 use Rattle.page_tables.specs.ShiftTable.{group_cell, group_cell_of, line_end, line_front, shift_line, shift_table}
 use Rattle.page_tables.specs.Tables.{page_tables, some_tables}
-use Rattle.page_tables.specs.TotalTable.{share_cell, total_front, total_line, total_table}
+use Rattle.page_tables.specs.TotalTable.{all_line, share_cell, total_front, total_line, total_table}
 use Rattle.page_tables.specs.declared.line.HeadLine.{HeadLine}
 use Rattle.page_tables.specs.declared.line.RunLine.{RunLine}
 use Rattle.page_tables.specs.declared.line.ShiftLine.{ShiftLine}
@@ -25,11 +27,11 @@ when : (t : Bool) (es fs : List Element) → Same es fs → Same (if t then es e
 when true es fs h = h
 when false es fs h = refl
 
-each_same : {A : Type 0} (R : A → A → Type 0) (F : A → List Element) → ((x y : A) → R x y → Same (F y) (F x)) → (xs ys : List A) → AreAlike R xs ys → Same (flat_map F ys) (flat_map F xs)
-each_same R F h [] [] a = refl
-each_same R F h [] (y ∷ ys) a = absurd a
-each_same R F h (x ∷ xs) [] a = absurd a
-each_same R F h (x ∷ xs) (y ∷ ys) a = simp (map-append, h x y a.0, each_same R F h xs ys a.1)
+each_same : {A : Type 0} (R : A → A → Type 0) (F G : A → List Element) → ((x y : A) → R x y → Same (G y) (F x)) → (xs ys : List A) → AreAlike R xs ys → Same (flat_map G ys) (flat_map F xs)
+each_same R F G h [] [] a = refl
+each_same R F G h [] (y ∷ ys) a = absurd a
+each_same R F G h (x ∷ xs) [] a = absurd a
+each_same R F G h (x ∷ xs) (y ∷ ys) a = simp (map-append, h x y a.0, each_same R F G h xs ys a.1)
 
 as_many : {A : Type 0} (R : A → A → Type 0) (xs ys : List A) → AreAlike R xs ys → length ys ≡ length xs
 as_many R [] [] a = refl
@@ -53,16 +55,24 @@ front_same grouped l m h =
     ap (λ (t : List Element). marks (codes "<tr><td>") ∷ number m.number ∷ marks (codes "</td>") ∷ t) whole
     ∙ ap (λ (n : ℕ). marks (codes "<tr><td>") ∷ number n ∷ marks (codes "</td>") ∷ marks_of (group_cell grouped l.group ++ marks (codes "<td>") ∷ given l.begin ∷ marks (codes "</td><td>") ∷ given l.end ∷ [])) h.number
 
-end_same : (l m : ShiftLine) → IsAlikeShift l m → Same (line_end m) (line_end l)
+-- what stands behind the price
+abbrev word_end : List ℕ → List Element
+word_end word = marks (codes "</td><td class='word'>") ∷ given word ∷ marks (codes "</td></tr>\n") ∷ []
+
+end_same : (a b : List ℕ) (l m : ShiftLine) → AreSaidAlike a b → IsAlikeShift l m → Same (line_end b m) (line_end a l)
 unfolding line_end
-end_same l m h = rw (h.work, h.price) refl
+end_same a b l m said h =
+    rw (h.work, h.price)
+    (ap (λ (t : List Element). marks (codes "</td><td>") ∷ number l.work ∷ marks (codes "</td><td>") ∷ given [] ∷ marks (codes "</td><td>") ∷ number l.price ∷ t)
+    (behind_same a b (word_end l.word) (word_end m.word) said refl))
 
-line_same : (grouped : Bool) (l m : ShiftLine) → IsAlikeShift l m → Same (shift_line grouped m) (shift_line grouped l)
-line_same grouped l m h = simp (map-append, front_same grouped l m h, end_same l m h)
+line_same : (a b : List ℕ) (grouped : Bool) → AreSaidAlike a b → (l m : ShiftLine) → IsAlikeShift l m → Same (shift_line b grouped m) (shift_line a grouped l)
+line_same a b grouped said l m h = simp (map-append, front_same grouped l m h, end_same a b l m said h)
 
-shifts_same : (grouped : Bool) (ls ms : List ShiftLine) → AreAlike IsAlikeShift ls ms → Same (shift_table grouped ms) (shift_table grouped ls)
+shifts_same : (a b : List ℕ) (grouped : Bool) (ls ms : List ShiftLine) → AreSaidAlike a b → AreAlike IsAlikeShift ls ms → Same (shift_table b grouped ms) (shift_table a grouped ls)
 unfolding shift_table
-shifts_same grouped ls ms h = simp (map-append, each_same IsAlikeShift (shift_line grouped) (line_same grouped) ls ms h)
+shifts_same a b grouped ls ms said h =
+    simp (map-append, each_same IsAlikeShift (shift_line a grouped) (shift_line b grouped) (line_same a b grouped said) ls ms h)
 
 -- ---- codes
 
@@ -76,9 +86,9 @@ total_same l m h =
     let shared : Same (share_cell m.share) (share_cell l.share) = ap (λ (s : Option ℕ). marks_of (share_cell s)) h.share in
     simp (map-append, total_front_same l m h, shared)
 
-totals_same : (ls ms : List TotalLine) → AreAlike IsAlikeTotal ls ms → Same (total_table ms) (total_table ls)
+totals_same : (ls ms : List TotalLine) (covered : Option ℕ) → AreAlike IsAlikeTotal ls ms → Same (total_table ms covered) (total_table ls covered)
 unfolding total_table
-totals_same ls ms h = simp (map-append, each_same IsAlikeTotal total_line total_same ls ms h)
+totals_same ls ms covered h = simp (map-append, each_same IsAlikeTotal total_line total_line total_same ls ms h)
 
 -- ---- employees
 
@@ -92,7 +102,7 @@ head_same l m h = simp (map-append, head_end_same l m h)
 
 heads_same : (ls ms : List HeadLine) → AreAlike IsAlikeHead ls ms → Same (head_table ms) (head_table ls)
 unfolding head_table
-heads_same ls ms h = simp (map-append, each_same IsAlikeHead head_line head_same ls ms h)
+heads_same ls ms h = simp (map-append, each_same IsAlikeHead head_line head_line head_same ls ms h)
 
 -- ---- runs
 
@@ -100,39 +110,45 @@ run_front_same : (l m : RunLine) → Same (run_front m) (run_front l)
 unfolding run_front
 run_front_same l m = refl
 
-run_end_same : (l m : RunLine) → IsAlikeRun l m → Same (run_end m) (run_end l)
+run_end_same : (a b : List ℕ) (l m : RunLine) → AreSaidAlike a b → IsAlikeRun l m → Same (run_end b m) (run_end a l)
 unfolding run_end
-run_end_same l m h = rw (h.count, h.cost) refl
+run_end_same a b l m said h =
+    rw (h.count, h.cost)
+    (ap (λ (t : List Element). marks (codes "</td><td>") ∷ number l.count ∷ marks (codes "</td><td>") ∷ number l.cost ∷ t)
+    (behind_same a b (marks (codes "</td></tr>\n") ∷ []) (marks (codes "</td></tr>\n") ∷ []) said refl))
 
-run_same : (l m : RunLine) → IsAlikeRun l m → Same (run_line m) (run_line l)
-run_same l m h = simp (map-append, run_front_same l m, run_end_same l m h)
+run_same : (a b : List ℕ) → AreSaidAlike a b → (l m : RunLine) → IsAlikeRun l m → Same (run_line b m) (run_line a l)
+run_same a b said l m h = simp (map-append, run_front_same l m, run_end_same a b l m said h)
 
-run_table_same : (title : List ℕ) (ls ms : List RunLine) → AreAlike IsAlikeRun ls ms → Same (run_table title ms) (run_table title ls)
+run_table_same : (a b title : List ℕ) (ls ms : List RunLine) → AreSaidAlike a b → AreAlike IsAlikeRun ls ms → Same (run_table b title ms) (run_table a title ls)
 unfolding run_table
-run_table_same title ls ms h = simp (map-append, each_same IsAlikeRun run_line run_same ls ms h)
+run_table_same a b title ls ms said h =
+    simp (map-append, each_same IsAlikeRun (run_line a) (run_line b) (run_same a b said) ls ms h)
 
-run_list_same : (title : List ℕ) (ls ms : List RunLine) → AreAlike IsAlikeRun ls ms → Same (run_list title ms) (run_list title ls)
+run_list_same : (a b title : List ℕ) (ls ms : List RunLine) → AreSaidAlike a b → AreAlike IsAlikeRun ls ms → Same (run_list b title ms) (run_list a title ls)
 unfolding run_list
-run_list_same title ls ms h =
-    rw (as_many IsAlikeRun ls ms h) (when (nat_lt 0 (length ls)) (run_table title ms) (run_table title ls) (run_table_same title ls ms h))
+run_list_same a b title ls ms said h =
+    rw (as_many IsAlikeRun ls ms h) (when (nat_lt 0 (length ls)) (run_table b title ms) (run_table a title ls) (run_table_same a b title ls ms said h))
 
 -- ---- all of them
 
-some_same : (t u : Tables) → IsAlikeTables t u → Same (some_tables u) (some_tables t)
+some_same : (a b : List ℕ) (t u : Tables) → AreSaidAlike a b → IsAlikeTables t u → Same (some_tables b u) (some_tables a t)
 unfolding some_tables
-some_same t u h =
-    let shifts : Same (shift_table u.grouped u.shifts) (shift_table t.grouped t.shifts)
-    = ap (λ (g : Bool). marks_of (shift_table g u.shifts)) h.grouped ∙ shifts_same t.grouped t.shifts u.shifts h.shifts in
+some_same a b t u said h =
+    let totals : Same (total_table u.totals u.covered) (total_table t.totals t.covered)
+    = ap (λ (s : Option ℕ). marks_of (total_table u.totals s)) h.covered ∙ totals_same t.totals u.totals t.covered h.totals in
+    let shifts : Same (shift_table b u.grouped u.shifts) (shift_table a t.grouped t.shifts)
+    = ap (λ (g : Bool). marks_of (shift_table b g u.shifts)) h.grouped ∙ shifts_same a b t.grouped t.shifts u.shifts said h.shifts in
     simp (
       map-append,
-      run_list_same (codes "Shortages") t.shortages u.shortages h.shortages,
-      run_list_same (codes "Surplus") t.surplus u.surplus h.surplus,
-      totals_same t.totals u.totals h.totals,
+      run_list_same a b (codes "Shortages") t.shortages u.shortages said h.shortages,
+      run_list_same a b (codes "Surplus") t.surplus u.surplus said h.surplus,
+      totals,
       heads_same t.heads u.heads h.heads,
       shifts,
     )
 
-pub tables_same : (t u : Tables) → IsAlikeTables t u → Same (page_tables u) (page_tables t)
+pub tables_same : (a b : List ℕ) (t u : Tables) → AreSaidAlike a b → IsAlikeTables t u → Same (page_tables b u) (page_tables a t)
 unfolding page_tables
-tables_same t u h =
-    rw (as_many IsAlikeShift t.shifts u.shifts h.shifts) (when (nat_lt 0 (length t.shifts)) (some_tables u) (some_tables t) (some_same t u h))
+tables_same a b t u said h =
+    rw (as_many IsAlikeShift t.shifts u.shifts h.shifts) (when (nat_lt 0 (length t.shifts)) (some_tables b u) (some_tables a t) (some_same a b t u said h))

@@ -38,5 +38,6 @@ pub record IsAlikeTables (t u : Tables) : Type 0 where
   pub shifts : AreAlike IsAlikeShift t.shifts u.shifts
   pub heads : AreAlike IsAlikeHead t.heads u.heads
   pub totals : AreAlike IsAlikeTotal t.totals u.totals
+  pub covered : u.covered ≡ t.covered
   pub shortages : AreAlike IsAlikeRun t.shortages u.shortages
   pub surplus : AreAlike IsAlikeRun t.surplus u.surplus

@@ -7,11 +7,12 @@ use Rattle.page_tables.specs.ShiftTable.{shift_table}
 use Rattle.page_tables.specs.TotalTable.{total_table}
 use Rattle.page_tables.specs.declared.tables.Tables.{Tables}
 
-unfoldable pub some_tables : Tables → List Element
-some_tables t =
-    run_list (codes "Shortages") t.shortages ++ (run_list (codes "Surplus") t.surplus
-    ++ (total_table t.totals ++ (head_table t.heads ++ shift_table t.grouped t.shifts)))
+-- the tables and lists, where amounts are counted in these words
+unfoldable pub some_tables : List ℕ → Tables → List Element
+some_tables m t =
+    run_list m (codes "Shortages") t.shortages ++ (run_list m (codes "Surplus") t.surplus
+    ++ (total_table t.totals t.covered ++ (head_table t.heads ++ shift_table m t.grouped t.shifts)))
 
--- the tables and lists, where there are any shifts
-unfoldable pub page_tables : Tables → List Element
-page_tables t = if nat_lt 0 (length t.shifts) then some_tables t else []
+-- the same, where there are any shifts
+unfoldable pub page_tables : List ℕ → Tables → List Element
+page_tables m t = if nat_lt 0 (length t.shifts) then some_tables m t else []

@@ -23,7 +23,17 @@ total_line l = total_front l ++ (share_cell l.share ++ marks (codes "</td></tr>\
 abbrev pub total_lines : List TotalLine → List Element
 total_lines ls = flat_map total_line ls
 
-unfoldable pub total_table : List TotalLine → List Element
-total_table ls =
+-- the line of the share of all codes
+unfoldable pub all_share : ℕ → List Element
+all_share share =
+    marks (codes "<tr><td>all</td><td></td><td>") ∷ share_of share ++ marks (codes "</td></tr>\n") ∷ []
+
+-- the same, where anything is needed
+unfoldable pub all_line : Option ℕ → List Element
+all_line None = []
+all_line (Some share) = all_share share
+
+unfoldable pub total_table : List TotalLine → Option ℕ → List Element
+total_table ls covered =
     marks (codes "<section class='list'><h2>Codes</h2>\n<div class='scroll'><table><thead><tr><th>Code</th><th>Periods</th><th>Covered</th></tr></thead>\n<tbody>\n")
-    ∷ (total_lines ls ++ marks (codes "</tbody></table></div></section>\n") ∷ [])
+    ∷ (total_lines ls ++ (all_line covered ++ marks (codes "</tbody></table></div></section>\n") ∷ []))

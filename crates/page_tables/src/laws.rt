@@ -1,11 +1,13 @@
-ghost use Rattle.std.specs.Prelude.{◌≡◌};
+ghost use Rattle.std.specs.Prelude.{ℕ, ◌≡◌, List};
+ghost use Rattle.page_parts.specs.Amounts.{AreSaidAlike};
 ghost use Rattle.page_parts.specs.Escapes.{marks_of};
 ghost use Rattle.page_tables.specs.Alike.{IsAlikeTables};
 ghost use Rattle.page_tables.specs.Tables.{page_tables};
 ghost use Rattle.page_tables.specs.declared.tables.Tables.{Tables};
 
 /// States a law: the marks of the tables, which are all that is not a byte of the texts, stay under any names, labels,
-/// times and words.
+/// times and words, and under any other words that amounts are counted in.
 pub fn marks_stay()
-    ensures { (t u : Tables) → IsAlikeTables t u → marks_of (page_tables u) ≡ marks_of (page_tables t) }
+    ensures { (m n : List ℕ) (t u : Tables) → AreSaidAlike m n → IsAlikeTables t u
+        → marks_of (page_tables n u) ≡ marks_of (page_tables m t) }
 {}

@@ -3,7 +3,7 @@ ghost use Rattle.page_parts.specs.Elements.{written};
 ghost use Rattle.page_tables.specs.RunLists.{run_end, run_front, run_line, run_lines, run_list, run_table};
 
 use crate::line::RunLine;
-use page_parts::{labelled, labelled_text, marks};
+use page_parts::{labelled, labelled_amount, labelled_text, marks};
 use roster_model::{List, Memory};
 
 // Writes what stands before the number of a run.
@@ -18,28 +18,28 @@ fn run_front(out: &mut List<u8>, line: &RunLine) -> Result<(), Memory>
 
 // Writes the rest of the line of a run.
 #[tactic(auto, unfolding(crate::specs::RunLists::run_end))]
-fn run_end(out: &mut List<u8>, line: &RunLine) -> Result<(), Memory>
-    ensures { OnOk result (out.new ≡ out.old ++ written (run_end line.now)) }
+fn run_end(out: &mut List<u8>, money: &[u8], line: &RunLine) -> Result<(), Memory>
+    ensures { OnOk result (out.new ≡ out.old ++ written (run_end money.now line.now)) }
 {
     labelled(out, b"</td><td>", line.count as u64)?;
-    labelled(out, b"</td><td>", line.cost)?;
+    labelled_amount(out, b"</td><td>", money, line.cost)?;
     marks(out, b"</td></tr>\n")
 }
 
 // Writes the line of a run.
-fn run_line(out: &mut List<u8>, line: &RunLine) -> Result<(), Memory>
-    ensures { OnOk result (out.new ≡ out.old ++ written (run_line line.now)) }
+fn run_line(out: &mut List<u8>, money: &[u8], line: &RunLine) -> Result<(), Memory>
+    ensures { OnOk result (out.new ≡ out.old ++ written (run_line money.now line.now)) }
 {
     run_front(out, line)?;
-    run_end(out, line)
+    run_end(out, money, line)
 }
 
 // Writes the lines of runs.
-fn run_lines(out: &mut List<u8>, lines: &[RunLine]) -> Result<(), Memory>
-    ensures { OnOk result (out.new ≡ out.old ++ written (run_lines lines.now)) }
+fn run_lines(out: &mut List<u8>, money: &[u8], lines: &[RunLine]) -> Result<(), Memory>
+    ensures { OnOk result (out.new ≡ out.old ++ written (run_lines money.now lines.now)) }
 {
     for line in lines {
-        run_line(out, line)?;
+        run_line(out, money, line)?;
     }
     Ok(())
 }
@@ -54,27 +54,38 @@ fn table_heads() -> &'static [u8]
 
 // Writes runs as a table under a title.
 #[tactic(auto, unfolding(crate::specs::RunLists::run_table))]
-fn run_table(out: &mut List<u8>, title: &[u8], lines: &[RunLine]) -> Result<(), Memory>
-    ensures { OnOk result (out.new ≡ out.old ++ written (run_table title.now lines.now)) }
+fn run_table(
+    out: &mut List<u8>,
+    money: &[u8],
+    title: &[u8],
+    lines: &[RunLine],
+) -> Result<(), Memory>
+    ensures { OnOk result (out.new ≡ out.old ++ written (run_table money.now title.now lines.now)) }
 {
     marks(out, b"<section class='list'><h2>")?;
     marks(out, title)?;
     marks(out, table_heads())?;
-    run_lines(out, lines)?;
+    run_lines(out, money, lines)?;
     marks(out, b"</tbody></table></div></section>\n")
 }
 
-/// Appends the list of runs under a title of the page's own, where there are any.
+/// Appends the list of runs under a title of the page's own, where there are any, with amounts that are counted in
+/// these words.
 ///
 /// # Errors
 ///
 /// `Memory` where memory runs out; a part of it may stand there then.
 #[tactic(auto, unfolding(crate::specs::RunLists::run_list))]
-pub(crate) fn run_list(out: &mut List<u8>, title: &[u8], lines: &[RunLine]) -> Result<(), Memory>
-    ensures { OnOk result (out.new ≡ out.old ++ written (run_list title.now lines.now)) }
+pub(crate) fn run_list(
+    out: &mut List<u8>,
+    money: &[u8],
+    title: &[u8],
+    lines: &[RunLine],
+) -> Result<(), Memory>
+    ensures { OnOk result (out.new ≡ out.old ++ written (run_list money.now title.now lines.now)) }
 {
     if lines.len() > 0 {
-        run_table(out, title, lines)?;
+        run_table(out, money, title, lines)?;
     }
     Ok(())
 }

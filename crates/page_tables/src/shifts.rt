@@ -3,7 +3,7 @@ ghost use Rattle.page_parts.specs.Elements.{written};
 ghost use Rattle.page_tables.specs.ShiftTable.{group_cell, group_cell_of, group_head, line_end, line_front, shift_line, shift_lines, shift_table};
 
 use crate::line::ShiftLine;
-use page_parts::{labelled, labelled_text, marks};
+use page_parts::{labelled, labelled_amount, labelled_text, marks};
 use roster_model::{List, Memory};
 
 // Writes the cell of a group.
@@ -40,30 +40,40 @@ fn line_front(out: &mut List<u8>, grouped: bool, line: &ShiftLine) -> Result<(),
 
 // Writes the rest of the line of a shift.
 #[tactic(auto, unfolding(crate::specs::ShiftTable::line_end))]
-fn line_end(out: &mut List<u8>, line: &ShiftLine) -> Result<(), Memory>
-    ensures { OnOk result (out.new ≡ out.old ++ written (line_end line.now)) }
+fn line_end(out: &mut List<u8>, money: &[u8], line: &ShiftLine) -> Result<(), Memory>
+    ensures { OnOk result (out.new ≡ out.old ++ written (line_end money.now line.now)) }
 {
     labelled(out, b"</td><td>", line.work)?;
     labelled_text(out, b"</td><td>", line.paid.as_slice())?;
-    labelled(out, b"</td><td>", line.price)?;
+    labelled_amount(out, b"</td><td>", money, line.price)?;
     labelled_text(out, b"</td><td class='word'>", line.word.as_slice())?;
     marks(out, b"</td></tr>\n")
 }
 
 // Writes the line of a shift.
-fn shift_line(out: &mut List<u8>, grouped: bool, line: &ShiftLine) -> Result<(), Memory>
-    ensures { OnOk result (out.new ≡ out.old ++ written (shift_line grouped line.now)) }
+fn shift_line(
+    out: &mut List<u8>,
+    money: &[u8],
+    grouped: bool,
+    line: &ShiftLine,
+) -> Result<(), Memory>
+    ensures { OnOk result (out.new ≡ out.old ++ written (shift_line money.now grouped line.now)) }
 {
     line_front(out, grouped, line)?;
-    line_end(out, line)
+    line_end(out, money, line)
 }
 
 // Writes the lines of shifts.
-fn shift_lines(out: &mut List<u8>, grouped: bool, lines: &[ShiftLine]) -> Result<(), Memory>
-    ensures { OnOk result (out.new ≡ out.old ++ written (shift_lines grouped lines.now)) }
+fn shift_lines(
+    out: &mut List<u8>,
+    money: &[u8],
+    grouped: bool,
+    lines: &[ShiftLine],
+) -> Result<(), Memory>
+    ensures { OnOk result (out.new ≡ out.old ++ written (shift_lines money.now grouped lines.now)) }
 {
     for line in lines {
-        shift_line(out, grouped, line)?;
+        shift_line(out, money, grouped, line)?;
     }
     Ok(())
 }
@@ -92,7 +102,7 @@ fn table_heads() -> &'static [u8]
     b"<th>Begin</th><th>End</th><th>Periods of work</th><th>Paid time</th><th>Price</th><th>Codes</th></tr></thead>\n<tbody>\n"
 }
 
-/// Appends the table of the shifts.
+/// Appends the table of the shifts, with amounts that are counted in these words.
 ///
 /// # Errors
 ///
@@ -100,14 +110,15 @@ fn table_heads() -> &'static [u8]
 #[tactic(auto, unfolding(crate::specs::ShiftTable::shift_table))]
 pub(crate) fn shift_table(
     out: &mut List<u8>,
+    money: &[u8],
     grouped: bool,
     lines: &[ShiftLine],
 ) -> Result<(), Memory>
-    ensures { OnOk result (out.new ≡ out.old ++ written (shift_table grouped lines.now)) }
+    ensures { OnOk result (out.new ≡ out.old ++ written (shift_table money.now grouped lines.now)) }
 {
     marks(out, table_start())?;
     marks(out, group_head(grouped))?;
     marks(out, table_heads())?;
-    shift_lines(out, grouped, lines)?;
+    shift_lines(out, money, grouped, lines)?;
     marks(out, b"</tbody></table></div></section>\n")
 }

@@ -20,6 +20,8 @@ pub struct Tables {
     pub heads: List<HeadLine>,
     /// The codes.
     pub totals: List<TotalLine>,
+    /// Which share of the need is covered in all, in tenths of a percent, where any is needed.
+    pub covered: Option<u64>,
     /// The runs of shortage.
     pub shortages: List<RunLine>,
     /// The runs of surplus.
@@ -28,27 +30,28 @@ pub struct Tables {
 
 // Appends the tables and lists.
 #[tactic(auto, unfolding(crate::specs::Tables::some_tables))]
-fn some_tables(out: &mut List<u8>, tables: &Tables) -> Result<(), Memory>
-    ensures { OnOk result (out.new ≡ out.old ++ written (some_tables tables.now)) }
+fn some_tables(out: &mut List<u8>, money: &[u8], tables: &Tables) -> Result<(), Memory>
+    ensures { OnOk result (out.new ≡ out.old ++ written (some_tables money.now tables.now)) }
 {
-    run_list(out, b"Shortages", tables.shortages.as_slice())?;
-    run_list(out, b"Surplus", tables.surplus.as_slice())?;
-    total_table(out, tables.totals.as_slice())?;
+    run_list(out, money, b"Shortages", tables.shortages.as_slice())?;
+    run_list(out, money, b"Surplus", tables.surplus.as_slice())?;
+    total_table(out, tables.totals.as_slice(), tables.covered)?;
     head_table(out, tables.heads.as_slice())?;
-    shift_table(out, tables.grouped, tables.shifts.as_slice())
+    shift_table(out, money, tables.grouped, tables.shifts.as_slice())
 }
 
-/// Appends the tables and lists of a page, where there are any shifts.
+/// Appends the tables and lists of a page, where there are any shifts, with amounts that are counted in these words,
+/// or bare where there are none.
 ///
 /// # Errors
 ///
 /// `Memory` where memory runs out; a part of them may stand there then.
 #[tactic(auto, unfolding(crate::specs::Tables::page_tables))]
-pub fn add_tables(out: &mut List<u8>, tables: &Tables) -> Result<(), Memory>
-    ensures { OnOk result (out.new ≡ out.old ++ written (page_tables tables.now)) }
+pub fn add_tables(out: &mut List<u8>, money: &[u8], tables: &Tables) -> Result<(), Memory>
+    ensures { OnOk result (out.new ≡ out.old ++ written (page_tables money.now tables.now)) }
 {
     if tables.shifts.len() > 0 {
-        some_tables(out, tables)?;
+        some_tables(out, money, tables)?;
     }
     Ok(())
 }

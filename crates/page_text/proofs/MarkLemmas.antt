@@ -1,16 +1,21 @@
 -- The marks of a page do not depend on names and derivations, nor on the bytes of the codes.
-use Rattle.std.proofs.Common.{◌≡◌, ℕ, zero, suc, ◌+◌, List, [], ◌∷◌, ◌++◌, Bool, true, false, Option, None, Some, length, map, refl, sym, ap, subst, ◌∙◌, arith}
+use Rattle.std.proofs.Common.{◌≡◌, ℕ, zero, suc, ◌+◌, ◌-◌, List, [], ◌∷◌, ◌++◌, Bool, true, false, Option, None, Some, length, map, refl, sym, ap, subst, ◌∙◌, arith}
 use Rattle.std.proofs.lemmas.List.{map-append}
 use Rattle.std.proofs.lemmas.Option.{slice_get-map}
 use Rattle.std.specs.List.{flat_map}
 use Rattle.std.specs.Prelude.{codes, if◌then◌else◌, min, nat_lt, option_map, slice_get}
 use Rattle.roster_model.specs.declared.grammar.CodeDef.{CodeDef}
-use Rattle.page_parts.specs.Elements.{Element, each_from, given, marks, places}
+use Rattle.page_parts.specs.Amounts.{AreSaidAlike, amount}
+use Rattle.page_parts.specs.Elements.{Element, bar, caption, each_from, given, marks, number, places}
 use Rattle.page_parts.specs.Escapes.{IsOneToOne, mark_of, marks_of, recoded}
-use Rattle.page_parts.specs.Sheets.{chart_width, sheet_of}
+use Rattle.page_parts.specs.Sheets.{chart_width, sheet_of, top_of}
 use Rattle.page_parts.specs.declared.sheet.PeriodAxis.{PeriodAxis}
+use Rattle.page_parts.proofs.AmountLemmas.{unit_same}
 use Rattle.page_parts.proofs.PaintLemmas.{same_paint}
-use Rattle.page_text.specs.Costs.{chip, code_cost, code_costs, costs, demanded_cost, is_demanded}
+use Rattle.page_text.specs.Costs.{amount_or_none, both_sums, chip, code_cost, code_costs, costs, demanded_cost, gap, is_demanded, no_roster, saves, sentence, sentence_over, sums, told}
+use Rattle.shift_figures.specs.Bounds.{saving_at}
+use Rattle.shift_figures.specs.declared.bound.Saving.{Saving}
+use Rattle.shift_figures.specs.declared.bound.Saving.TheVariants.{NoneLess, Unknown, AtMost}
 use Rattle.page_text.specs.declared.column.CellCover.{CellCover}
 use Rattle.page_text.specs.declared.figures.Figures.{Figures}
 use Rattle.page_text.specs.Alike.{AreAlikeRows, IsAlike, IsAlikeRow}
@@ -18,7 +23,10 @@ use Rattle.page_text.specs.Charts.{top_count, unit_of}
 use Rattle.page_text.specs.Inputs.{longest}
 use Rattle.page_text.specs.Style.{style}
 use Rattle.page_text.specs.Pages.{all_show, before_title, body, chart, chart_body, chart_head, coverage, coverage_part, derivation, derivations_part, head, heading, height_of, legend, legend_item, page, shifts, shifts_part, size, title_of, titled_derivations, top_part}
-use Rattle.page_text.specs.RosterChart.{cell, cells, letter, row_elements, row_frame, row_head, row_words, times}
+use Rattle.page_text.specs.RosterChart.{cell, cells, letter, marked_cell, price_text, row_elements, row_frame, row_head, row_words, ticks, times, who}
+use Rattle.page_text.specs.RosterChart.{gap as name_gap}
+use Rattle.page_text.specs.Changes.{changes_part}
+use Rattle.page_text.specs.declared.changes.Changes.{Changes}
 use Rattle.page_tables.proofs.TableMarks.{tables_same}
 use Rattle.page_text.specs.declared.content.Content.{Content}
 use Rattle.page_text.specs.declared.row.Row.{Row}
@@ -30,6 +38,11 @@ Same es fs = marks_of es ≡ marks_of fs
 when : (t : Bool) (es fs : List Element) → Same es fs → Same (if t then es else []) (if t then fs else [])
 when true es fs h = h
 when false es fs h = refl
+
+-- the same elements before others
+front_same : (xs es fs : List Element) → Same fs es → Same (xs ++ fs) (xs ++ es)
+front_same xs es fs h =
+    map-append mark_of xs fs ∙ ap (λ (t : List Element). marks_of xs ++ t) h ∙ sym (map-append mark_of xs es)
 
 flat_same : (F G : ℕ → List Element) → ((k : ℕ) → Same (F k) (G k)) → (ks : List ℕ) → Same (flat_map F ks) (flat_map G ks)
 flat_same F G h [] = refl
@@ -51,6 +64,65 @@ head_same : (t u : List ℕ) (xs ys : List (List ℕ)) → length xs ≡ length 
 unfolding head titled
 head_same t u xs ys e = rw e (titles_same t u (all_show ys))
 
+-- ---- what depends on the words that amounts are counted in
+
+-- what stands behind whose shift a row is
+abbrev word_tail : List ℕ → Row → ℕ → List Element
+word_tail m r price =
+    given r.name ∷ given (name_gap r.name) ∷ given r.word ∷ marks (codes ", price ") ∷ amount m price
+
+-- what the head of a page, the sentence, the costs and the changes come to
+abbrev tops : List ℕ → List Element → List CodeDef → Figures → List CellCover → Option Changes → List Element
+tops m heads cs figures columns changes =
+    heads ++ (sentence m figures.cost figures.bound ++ (marks (codes "</p></header>\n") ∷ (costs m cs figures columns ++ changes_part changes)))
+
+module _ (m n : List ℕ) (said : AreSaidAlike m n) where
+  saves_same : (sum permille : ℕ) → Same (saves n sum permille) (saves m sum permille)
+  unfolding saves
+  saves_same sum permille = simp (map-append, unit_same m n said)
+
+  told_same : (t : Saving) → Same (told n t) (told m t)
+  unfolding told
+  told_same NoneLess = refl
+  told_same Unknown = refl
+  told_same (AtMost sum permille) = saves_same sum permille
+
+  gap_same : (cost bound : ℕ) → Same (gap n cost bound) (gap m cost bound)
+  unfolding gap
+  gap_same cost bound = told_same (saving_at cost bound)
+
+  no_roster_same : (bound : ℕ) → Same (no_roster n bound) (no_roster m bound)
+  unfolding no_roster
+  no_roster_same bound = simp (map-append, unit_same m n said)
+
+  sentence_over_same : (cost : Option ℕ) (bound : ℕ) → Same (sentence_over n cost bound) (sentence_over m cost bound)
+  unfolding sentence_over
+  sentence_over_same None bound = no_roster_same bound
+  sentence_over_same (Some cost) bound = gap_same cost bound
+
+  sentence_same : (cost bound : Option ℕ) → Same (sentence n cost bound) (sentence m cost bound)
+  unfolding sentence
+  sentence_same cost None = refl
+  sentence_same cost (Some bound) = sentence_over_same cost bound
+
+  amount_or_none_same : (sum : Option ℕ) → Same (amount_or_none n sum) (amount_or_none m sum)
+  unfolding amount_or_none
+  amount_or_none_same None = refl
+  amount_or_none_same (Some sum) = simp (map-append, unit_same m n said)
+
+  both_sums_same : (f : Figures) → Same (both_sums n f) (both_sums m f)
+  unfolding both_sums
+  both_sums_same f = simp (map-append, unit_same m n said)
+
+  sums_same : (f : Figures) (cost : Option ℕ) → Same (sums n f cost) (sums m f cost)
+  unfolding sums
+  sums_same f None = refl
+  sums_same f (Some cost) = both_sums_same f
+
+  price_same : (s : PeriodAxis) (k price : ℕ) → Same (price_text n s k price) (price_text m s k price)
+  unfolding price_text
+  price_same s k price = simp (map-append, unit_same m n said)
+
 module _ (f : ℕ → ℕ) (one : IsOneToOne f) where
   abbrev other : CodeDef → CodeDef
   other c = record c { byte = f c.byte }
@@ -65,27 +137,36 @@ module _ (f : ℕ → ℕ) (one : IsOneToOne f) where
 
   -- ---- costs
 
-  demanded_same : (cs : List CodeDef) (columns : List CellCover) (k : ℕ) (c : CodeDef) → Same (demanded_cost (recoded f cs) columns k (other c)) (demanded_cost cs columns k c)
+  demanded_same : (m n : List ℕ) → AreSaidAlike m n → (cs : List CodeDef) (columns : List CellCover) (k : ℕ) (c : CodeDef)
+      → Same (demanded_cost n (recoded f cs) columns k (other c)) (demanded_cost m cs columns k c)
   unfolding demanded_cost
-  demanded_same cs columns k c = simp (map-append, chip_same cs c.byte)
+  demanded_same m n said cs columns k c = simp (map-append, chip_same cs c.byte, unit_same m n said)
 
-  code_cost_same : (cs : List CodeDef) (columns : List CellCover) (k : ℕ) (c : CodeDef) → Same (code_cost (recoded f cs) columns k (other c)) (code_cost cs columns k c)
+  code_cost_same : (m n : List ℕ) → AreSaidAlike m n → (cs : List CodeDef) (columns : List CellCover) (k : ℕ) (c : CodeDef)
+      → Same (code_cost n (recoded f cs) columns k (other c)) (code_cost m cs columns k c)
   unfolding code_cost
-  code_cost_same cs columns k c =
-      when (is_demanded k columns) (demanded_cost (recoded f cs) columns k (other c)) (demanded_cost cs columns k c) (demanded_same cs columns k c)
+  code_cost_same m n said cs columns k c =
+      when (is_demanded k columns) (demanded_cost n (recoded f cs) columns k (other c)) (demanded_cost m cs columns k c) (demanded_same m n said cs columns k c)
 
-  code_costs_same : (cs : List CodeDef) (columns : List CellCover) → Same (code_costs (recoded f cs) columns) (code_costs cs columns)
-  code_costs_same cs columns =
-      each_same (code_cost (recoded f cs) columns) (code_cost cs columns) (code_cost_same cs columns) 0 cs
+  code_costs_same : (m n : List ℕ) → AreSaidAlike m n → (cs : List CodeDef) (columns : List CellCover) → Same (code_costs n (recoded f cs) columns) (code_costs m cs columns)
+  code_costs_same m n said cs columns =
+      each_same (code_cost n (recoded f cs) columns) (code_cost m cs columns) (code_cost_same m n said cs columns) 0 cs
 
-  costs_same : (cs : List CodeDef) (figures : Figures) (columns : List CellCover) → Same (costs (recoded f cs) figures columns) (costs cs figures columns)
+  costs_same : (m n : List ℕ) → AreSaidAlike m n → (cs : List CodeDef) (figures : Figures) (columns : List CellCover) → Same (costs n (recoded f cs) figures columns) (costs m cs figures columns)
   unfolding costs
-  costs_same cs figures columns = simp (map-append, code_costs_same cs columns)
+  costs_same m n said cs figures columns =
+      simp (map-append, amount_or_none_same m n said figures.cost, amount_or_none_same m n said figures.bound, sums_same m n said figures figures.cost, code_costs_same m n said cs columns)
+
+  tops_same : (m n : List ℕ) → AreSaidAlike m n → (es fs : List Element) → Same fs es → (cs : List CodeDef) (figures : Figures) (columns : List CellCover) (changes : Option Changes)
+      → Same (tops n fs (recoded f cs) figures columns changes) (tops m es cs figures columns changes)
+  tops_same m n said es fs h cs figures columns changes =
+      simp (map-append, h, sentence_same m n said figures.cost figures.bound, costs_same m n said cs figures columns)
 
   top_same : (cs : List CodeDef) (c d : Content) → IsAlike f c d → Same (top_part (recoded f cs) d) (top_part cs c)
   unfolding top_part
   top_same cs c d h =
-      rw (h.figures, h.columns) (simp (map-append, head_same d.title c.title d.derivations c.derivations h.derivations, costs_same cs c.figures c.columns))
+      rw (h.figures, h.columns, h.changes)
+      (tops_same c.money d.money h.money (head c.title c.derivations) (head d.title d.derivations) (head_same d.title c.title d.derivations c.derivations h.derivations) cs c.figures c.columns c.changes)
 
   -- ---- the chart of the shifts
 
@@ -111,32 +192,42 @@ module _ (f : ℕ → ℕ) (one : IsOneToOne f) where
       subst (λ (o : Option ℕ). Same (elim o [ None ↦ [] | Some byte ↦ letter s (recoded f cs) k place byte ]) (cell s cs k word place)) (sym (slice_get-map f word place))
       (letters_same s cs k place (slice_get word place))
 
-  words_same : (r q : Row) → IsAlikeRow f r q → Same (row_words q) (row_words r)
+  marked_same : (s : PeriodAxis) (cs : List CodeDef) (k : ℕ) (word : List ℕ) (differs : List Bool) (place : ℕ) → Same (marked_cell s (recoded f cs) k (map f word) differs place) (marked_cell s cs k word differs place)
+  marked_same s cs k word differs place = simp (map-append, cell_same s cs k word place)
+
+  words_same : (m n : List ℕ) → AreSaidAlike m n → (r q : Row) → IsAlikeRow f r q → Same (row_words n q) (row_words m r)
   unfolding row_words
-  words_same r q h = rw (h.number, h.count, h.price) (simp (map-append))
+  words_same m n said r q h =
+      let tail : Same (word_tail n q r.price) (word_tail m r r.price)
+      = ap (λ (t : List Element). given [] ∷ given [] ∷ given [] ∷ marks (codes ", price ") ∷ number r.price ∷ t) (unit_same m n said) in
+      rw (h.number, h.count, h.price) (front_same (who r.number r.count) (word_tail m r r.price) (word_tail n q r.price) tail)
 
-  head_of_row_same : (k : ℕ) (r q : Row) → IsAlikeRow f r q → Same (row_head k q) (row_head k r)
+  head_of_row_same : (m n : List ℕ) → AreSaidAlike m n → (k : ℕ) (r q : Row) → IsAlikeRow f r q → Same (row_head n k q) (row_head m k r)
   unfolding row_head
-  head_of_row_same k r q h = simp (map-append, words_same r q h)
+  head_of_row_same m n said k r q h = simp (map-append, words_same m n said r q h)
 
-  frame_same : (s : PeriodAxis) (k : ℕ) (r q : Row) → IsAlikeRow f r q → Same (row_frame s k q) (row_frame s k r)
+  frame_same : (m n : List ℕ) → AreSaidAlike m n → (s : PeriodAxis) (k : ℕ) (r q : Row) → IsAlikeRow f r q → Same (row_frame n s k q) (row_frame m s k r)
   unfolding row_frame
-  frame_same s k r q h = rw h.price refl
+  frame_same m n said s k r q h =
+      rw h.price
+      (ap (λ (t : List Element). bar (codes "hit") (record { left = 4; top = top_of k - 2; width = chart_width s - 8; height = 26 }) ∷ caption (codes "name") (s.left - 10) (top_of k + 15) [] ∷ t) (price_same m n said s k r.price))
 
-  row_same : (s : PeriodAxis) (cs : List CodeDef) (k : ℕ) (r q : Row) → IsAlikeRow f r q → Same (row_elements s (recoded f cs) k q) (row_elements s cs k r)
+  row_same : (m n : List ℕ) → AreSaidAlike m n → (s : PeriodAxis) (cs : List CodeDef) (k : ℕ) (r q : Row) → IsAlikeRow f r q → Same (row_elements n s (recoded f cs) k q) (row_elements m s cs k r)
   unfolding row_elements
-  row_same s cs k r q h =
+  row_same m n said s cs k r q h =
       let times_same : Same (times k q.number q.count) (times k r.number r.count) = rw (h.number, h.count) refl in
-      let cells_same : Same (cells s (recoded f cs) k q.word) (cells s cs k r.word)
-      = ap (λ (word : List ℕ). marks_of (cells s (recoded f cs) k word)) h.word
-      ∙ flat_same (cell s (recoded f cs) k (map f r.word)) (cell s cs k r.word) (cell_same s cs k r.word) (places s.periods) in
-      simp (map-append, head_of_row_same k r q h, frame_same s k r q h, times_same, cells_same)
+      let cells_same : Same (cells s (recoded f cs) k q.word q.differs) (cells s cs k r.word r.differs)
+      = ap (λ (word : List ℕ). marks_of (cells s (recoded f cs) k word q.differs)) h.word
+      ∙ ap (λ (ds : List Bool). marks_of (cells s (recoded f cs) k (map f r.word) ds)) h.differs
+      ∙ flat_same (marked_cell s (recoded f cs) k (map f r.word) r.differs) (marked_cell s cs k r.word r.differs) (marked_same s cs k r.word r.differs) (places s.periods) in
+      simp (map-append, head_of_row_same m n said k r q h, frame_same m n said s k r q h, times_same, cells_same)
 
-  rows_same : (s : PeriodAxis) (cs : List CodeDef) (k : ℕ) (rs qs : List Row) → AreAlikeRows f rs qs → Same (each_from (row_elements s (recoded f cs)) k qs) (each_from (row_elements s cs) k rs)
-  rows_same s cs k [] [] h = refl
-  rows_same s cs k [] (q ∷ qs) h = absurd h
-  rows_same s cs k (r ∷ rs) [] h = absurd h
-  rows_same s cs k (r ∷ rs) (q ∷ qs) h = simp (map-append, row_same s cs k r q h.0, rows_same s cs (k + 1) rs qs h.1)
+  rows_same : (m n : List ℕ) → AreSaidAlike m n → (s : PeriodAxis) (cs : List CodeDef) (k : ℕ) (rs qs : List Row) → AreAlikeRows f rs qs
+      → Same (each_from (row_elements n s (recoded f cs)) k qs) (each_from (row_elements m s cs) k rs)
+  rows_same m n said s cs k [] [] h = refl
+  rows_same m n said s cs k [] (q ∷ qs) h = absurd h
+  rows_same m n said s cs k (r ∷ rs) [] h = absurd h
+  rows_same m n said s cs k (r ∷ rs) (q ∷ qs) h = simp (map-append, row_same m n said s cs k r q h.0, rows_same m n said s cs (k + 1) rs qs h.1)
 
   as_many : (rs qs : List Row) → AreAlikeRows f rs qs → length qs ≡ length rs
   as_many [] [] h = refl
@@ -144,16 +235,17 @@ module _ (f : ℕ → ℕ) (one : IsOneToOne f) where
   as_many (r ∷ rs) [] h = absurd h
   as_many (r ∷ rs) (q ∷ qs) h = ap suc (as_many rs qs h.1)
 
-  shifts_same : (s : PeriodAxis) (cs : List CodeDef) (v w : List (List ℕ)) (rs qs : List Row) → AreAlikeRows f rs qs → Same (shifts s (recoded f cs) v qs) (shifts s cs w rs)
+  shifts_same : (s : PeriodAxis) (cs : List CodeDef) (c d : Content) → IsAlike f c d → Same (shifts s (recoded f cs) d) (shifts s cs c)
   unfolding shifts
-  shifts_same s cs v w rs qs h =
-      let sized = ap (λ (n : ℕ). marks_of (size (chart_width s) (height_of n))) (as_many rs qs h) in
-      simp (map-append, legend_same cs v w, sized, rows_same s cs 0 rs qs h)
+  shifts_same s cs c d h =
+      let sized = ap (λ (n : ℕ). marks_of (size (chart_width s) (height_of n))) (as_many c.rows d.rows h.rows) in
+      let ticked = ap (λ (moments : List (List ℕ)). marks_of (ticks s 20 moments)) h.times in
+      simp (map-append, legend_same cs d.words c.words, sized, ticked, rows_same c.money d.money h.money s cs 0 c.rows d.rows h.rows)
 
-  shifts_part_same : (s : PeriodAxis) (cs : List CodeDef) (v w : List (List ℕ)) (rs qs : List Row) → AreAlikeRows f rs qs → Same (shifts_part s (recoded f cs) v qs) (shifts_part s cs w rs)
+  shifts_part_same : (s : PeriodAxis) (cs : List CodeDef) (c d : Content) → IsAlike f c d → Same (shifts_part s (recoded f cs) d) (shifts_part s cs c)
   unfolding shifts_part
-  shifts_part_same s cs v w rs qs h =
-      rw (as_many rs qs h) (when (nat_lt 0 (length rs)) (shifts s (recoded f cs) v qs) (shifts s cs w rs) (shifts_same s cs v w rs qs h))
+  shifts_part_same s cs c d h =
+      rw (as_many c.rows d.rows h.rows) (when (nat_lt 0 (length c.rows)) (shifts s (recoded f cs) d) (shifts s cs c) (shifts_same s cs c d h))
 
   -- ---- the charts of the coverage
 
@@ -161,73 +253,86 @@ module _ (f : ℕ → ℕ) (one : IsOneToOne f) where
   unfolding chart_head
   chart_head_same cs s columns k c = simp (map-append, chip_same cs c.byte)
 
-  whole_chart_same : (cs : List CodeDef) (s : PeriodAxis) (columns : List CellCover) (k top unit : ℕ) (c : CodeDef)
-      → Same (chart_head (recoded f cs) s columns k (other c) ++ chart_body s columns k top unit) (chart_head cs s columns k c ++ chart_body s columns k top unit)
-  whole_chart_same cs s columns k top unit c = simp (map-append, chart_head_same cs s columns k c)
+  whole_chart_same : (cs : List CodeDef) (s : PeriodAxis) (ts : List (List ℕ)) (columns : List CellCover) (k top unit : ℕ) (c : CodeDef)
+      → Same (chart_head (recoded f cs) s columns k (other c) ++ chart_body s ts columns k top unit) (chart_head cs s columns k c ++ chart_body s ts columns k top unit)
+  whole_chart_same cs s ts columns k top unit c = simp (map-append, chart_head_same cs s columns k c)
 
-  chart_same : (cs : List CodeDef) (s : PeriodAxis) (columns : List CellCover) (k : ℕ) (c : CodeDef) → Same (chart (recoded f cs) s columns k (other c)) (chart cs s columns k c)
+  chart_same : (cs : List CodeDef) (s : PeriodAxis) (ts : List (List ℕ)) (columns : List CellCover) (k : ℕ) (c : CodeDef) → Same (chart (recoded f cs) s ts columns k (other c)) (chart cs s ts columns k c)
   unfolding chart
-  chart_same cs s columns k c =
+  chart_same cs s ts columns k c =
       let top = top_count k columns 1 in
-      when (is_demanded k columns) (chart_head (recoded f cs) s columns k (other c) ++ chart_body s columns k top (unit_of top))
-      (chart_head cs s columns k c ++ chart_body s columns k top (unit_of top)) (whole_chart_same cs s columns k top (unit_of top) c)
+      when (is_demanded k columns) (chart_head (recoded f cs) s columns k (other c) ++ chart_body s ts columns k top (unit_of top))
+      (chart_head cs s columns k c ++ chart_body s ts columns k top (unit_of top)) (whole_chart_same cs s ts columns k top (unit_of top) c)
 
-  coverage_same : (cs : List CodeDef) (s : PeriodAxis) (columns : List CellCover) → Same (coverage (recoded f cs) s columns) (coverage cs s columns)
+  coverage_same : (cs : List CodeDef) (s : PeriodAxis) (ts : List (List ℕ)) (columns : List CellCover) → Same (coverage (recoded f cs) s ts columns) (coverage cs s ts columns)
   unfolding coverage
-  coverage_same cs s columns =
-      simp (map-append, each_same (chart (recoded f cs) s columns) (chart cs s columns) (chart_same cs s columns) 0 cs)
+  coverage_same cs s ts columns =
+      simp (map-append, each_same (chart (recoded f cs) s ts columns) (chart cs s ts columns) (chart_same cs s ts columns) 0 cs)
 
-  coverage_part_same : (s : PeriodAxis) (cs : List CodeDef) (columns : List CellCover) → Same (coverage_part s (recoded f cs) columns) (coverage_part s cs columns)
+  coverage_part_same : (s : PeriodAxis) (cs : List CodeDef) (ts : List (List ℕ)) (columns : List CellCover) → Same (coverage_part s (recoded f cs) ts columns) (coverage_part s cs ts columns)
   unfolding coverage_part
-  coverage_part_same s cs columns =
-      when (nat_lt 0 (length columns)) (coverage (recoded f cs) s columns) (coverage cs s columns) (coverage_same cs s columns)
+  coverage_part_same s cs ts columns =
+      when (nat_lt 0 (length columns)) (coverage (recoded f cs) s ts columns) (coverage cs s ts columns) (coverage_same cs s ts columns)
 
   -- ---- the derivations
 
-  rows_at_same : (rs qs : List Row) (k : ℕ) → AreAlikeRows f rs qs → Same (elim (slice_get qs k) [ None ↦ [] | Some r ↦ row_words r ]) (elim (slice_get rs k) [ None ↦ [] | Some r ↦ row_words r ])
-  rows_at_same [] [] k h = refl
-  rows_at_same [] (q ∷ qs) k h = absurd h
-  rows_at_same (r ∷ rs) [] k h = absurd h
-  rows_at_same (r ∷ rs) (q ∷ qs) zero h = words_same r q h.0
-  rows_at_same (r ∷ rs) (q ∷ qs) (suc k) h = rows_at_same rs qs k h.1
+  rows_at_same : (m n : List ℕ) → AreSaidAlike m n → (rs qs : List Row) (k : ℕ) → AreAlikeRows f rs qs
+      → Same (elim (slice_get qs k) [ None ↦ [] | Some r ↦ row_words n r ]) (elim (slice_get rs k) [ None ↦ [] | Some r ↦ row_words m r ])
+  rows_at_same m n said [] [] k h = refl
+  rows_at_same m n said [] (q ∷ qs) k h = absurd h
+  rows_at_same m n said (r ∷ rs) [] k h = absurd h
+  rows_at_same m n said (r ∷ rs) (q ∷ qs) zero h = words_same m n said r q h.0
+  rows_at_same m n said (r ∷ rs) (q ∷ qs) (suc k) h = rows_at_same m n said rs qs k h.1
 
-  heading_same : (rs qs : List Row) (k : ℕ) → AreAlikeRows f rs qs → Same (heading qs k) (heading rs k)
+  heading_same : (m n : List ℕ) → AreSaidAlike m n → (rs qs : List Row) (k : ℕ) → AreAlikeRows f rs qs → Same (heading n qs k) (heading m rs k)
   unfolding heading
-  heading_same rs qs k h = rows_at_same rs qs k h
+  heading_same m n said rs qs k h = rows_at_same m n said rs qs k h
 
-  derivation_same : (rs qs : List Row) (k : ℕ) (x y : List ℕ) → AreAlikeRows f rs qs → Same (derivation qs k x) (derivation rs k y)
+  derivation_same : (m n : List ℕ) → AreSaidAlike m n → (rs qs : List Row) (k : ℕ) (x y : List ℕ) → AreAlikeRows f rs qs → Same (derivation n qs k x) (derivation m rs k y)
   unfolding derivation
-  derivation_same rs qs k x y h = simp (map-append, heading_same rs qs k h)
+  derivation_same m n said rs qs k x y h = simp (map-append, heading_same m n said rs qs k h)
 
-  derivations_same : (rs qs : List Row) (k : ℕ) (xs ys : List (List ℕ)) → AreAlikeRows f rs qs → length xs ≡ length ys → Same (each_from (derivation qs) k xs) (each_from (derivation rs) k ys)
-  derivations_same rs qs k [] [] h e = refl
-  derivations_same rs qs k [] (y ∷ ys) h e = absurd (omega arith)
-  derivations_same rs qs k (x ∷ xs) [] h e = absurd (omega arith)
-  derivations_same rs qs k (x ∷ xs) (y ∷ ys) h e = simp (map-append, derivation_same rs qs k x y h, derivations_same rs qs (k + 1) xs ys h (omega arith))
+  derivations_same : (m n : List ℕ) → AreSaidAlike m n → (rs qs : List Row) (k : ℕ) (xs ys : List (List ℕ)) → AreAlikeRows f rs qs → length xs ≡ length ys
+      → Same (each_from (derivation n qs) k xs) (each_from (derivation m rs) k ys)
+  derivations_same m n said rs qs k [] [] h e = refl
+  derivations_same m n said rs qs k [] (y ∷ ys) h e = absurd (omega arith)
+  derivations_same m n said rs qs k (x ∷ xs) [] h e = absurd (omega arith)
+  derivations_same m n said rs qs k (x ∷ xs) (y ∷ ys) h e =
+      simp (map-append, derivation_same m n said rs qs k x y h, derivations_same m n said rs qs (k + 1) xs ys h (omega arith))
 
-  titled_same : (rs qs : List Row) (xs ys : List (List ℕ)) → AreAlikeRows f rs qs → length xs ≡ length ys → Same (titled_derivations qs xs) (titled_derivations rs ys)
+  titled_same : (m n : List ℕ) → AreSaidAlike m n → (rs qs : List Row) (xs ys : List (List ℕ)) → AreAlikeRows f rs qs → length xs ≡ length ys → Same (titled_derivations n qs xs) (titled_derivations m rs ys)
   unfolding titled_derivations
-  titled_same rs qs xs ys h e = simp (map-append, derivations_same rs qs 0 xs ys h e)
+  titled_same m n said rs qs xs ys h e = simp (map-append, derivations_same m n said rs qs 0 xs ys h e)
 
-  derivations_part_same : (rs qs : List Row) (xs ys : List (List ℕ)) → AreAlikeRows f rs qs → length xs ≡ length ys → Same (derivations_part qs xs) (derivations_part rs ys)
+  derivations_part_same : (m n : List ℕ) → AreSaidAlike m n → (rs qs : List Row) (xs ys : List (List ℕ)) → AreAlikeRows f rs qs → length xs ≡ length ys
+      → Same (derivations_part n qs xs) (derivations_part m rs ys)
   unfolding derivations_part
-  derivations_part_same rs qs xs ys h e =
-      rw e (when (nat_lt 0 (length ys)) (titled_derivations qs xs) (titled_derivations rs ys) (titled_same rs qs xs ys h e))
+  derivations_part_same m n said rs qs xs ys h e =
+      rw e (when (nat_lt 0 (length ys)) (titled_derivations n qs xs) (titled_derivations m rs ys) (titled_same m n said rs qs xs ys h e))
 
   -- ---- the page
 
   pub body_same : (s : PeriodAxis) (cs : List CodeDef) (c d : Content) → IsAlike f c d → Same (body s (recoded f cs) d) (body s cs c)
   unfolding body
   body_same s cs c d h =
-      let covered : Same (coverage_part s (recoded f cs) d.columns) (coverage_part s cs c.columns)
-      = ap (λ (columns : List CellCover). marks_of (coverage_part s (recoded f cs) columns)) h.columns ∙ coverage_part_same s cs c.columns in
-      simp (map-append, top_same cs c d h, shifts_part_same s cs d.words c.words c.rows d.rows h.rows, covered, tables_same c.tables d.tables h.tables, derivations_part_same c.rows d.rows d.derivations c.derivations h.rows h.derivations)
+      let covered : Same (coverage_part s (recoded f cs) d.times d.columns) (coverage_part s cs c.times c.columns)
+      = ap (λ (columns : List CellCover). marks_of (coverage_part s (recoded f cs) d.times columns)) h.columns
+      ∙ ap (λ (ts : List (List ℕ)). marks_of (coverage_part s (recoded f cs) ts c.columns)) h.times
+      ∙ coverage_part_same s cs c.times c.columns in
+      simp (
+        map-append,
+        top_same cs c d h,
+        shifts_part_same s cs c d h,
+        covered,
+        tables_same c.money d.money c.tables d.tables h.money h.tables,
+        derivations_part_same c.money d.money h.money c.rows d.rows d.derivations c.derivations h.rows h.derivations,
+      )
 
-  same_sheet : (periods a b : ℕ) → min a 40 ≡ min b 40 → sheet_of periods a ≡ sheet_of periods b
-  same_sheet periods a b e = rw e refl
+  same_sheet : (periods a b u v : ℕ) → min a 60 ≡ min b 60 → min u 60 ≡ min v 60 → sheet_of periods a u ≡ sheet_of periods b v
+  same_sheet periods a b u v e g = rw (e, g) refl
 
-  pub page_same : (periods : ℕ) (cs : List CodeDef) (c d : Content) → IsAlike f c d → min (longest d.rows 0) 40 ≡ min (longest c.rows 0) 40
+  pub page_same : (periods : ℕ) (cs : List CodeDef) (c d : Content) → IsAlike f c d → min (longest d.rows 0) 60 ≡ min (longest c.rows 0) 60 → min (length d.money) 60 ≡ min (length c.money) 60
       → Same (page periods (recoded f cs) d) (page periods cs c)
-  page_same periods cs c d h e =
-      ap (λ (s : PeriodAxis). marks_of (body s (recoded f cs) d)) (same_sheet periods (longest d.rows 0) (longest c.rows 0) e)
-      ∙ body_same (sheet_of periods (longest c.rows 0)) cs c d h
+  page_same periods cs c d h e g =
+      ap (λ (s : PeriodAxis). marks_of (body s (recoded f cs) d)) (same_sheet periods (longest d.rows 0) (longest c.rows 0) (length d.money) (length c.money) e g)
+      ∙ body_same (sheet_of periods (longest c.rows 0) (length c.money)) cs c d h

@@ -1,5 +1,5 @@
 -- The last bytes of a page.
-use Rattle.std.proofs.Common.{ℕ, List, [], ◌∷◌, ◌++◌, refl, sym, ap, ◌∙◌, append_assoc}
+use Rattle.std.proofs.Common.{ℕ, List, [], ◌∷◌, ◌++◌, length, refl, sym, ap, ◌∙◌, append_assoc}
 use Rattle.std.proofs.lemmas.Grind.{flat_map-append}
 use Rattle.std.specs.Prelude.{codes}
 use Rattle.roster_model.specs.declared.grammar.CodeDef.{CodeDef}
@@ -27,10 +27,10 @@ body_ends : (s : PeriodAxis) (cs : List CodeDef) (c : Content) → EndsWith (cod
 unfolding body
 body_ends s cs c =
     behind (codes "</html>\n") (top_part cs c) _
-    (behind (codes "</html>\n") (shifts_part s cs c.words c.rows) _
-    (behind (codes "</html>\n") (coverage_part s cs c.columns) _
-    (behind (codes "</html>\n") (page_tables c.tables) _
-    (behind (codes "</html>\n") (derivations_part c.rows c.derivations) _ last))))
+    (behind (codes "</html>\n") (shifts_part s cs c) _
+    (behind (codes "</html>\n") (coverage_part s cs c.times c.columns) _
+    (behind (codes "</html>\n") (page_tables c.money c.tables) _
+    (behind (codes "</html>\n") (derivations_part c.money c.rows c.derivations) _ last))))
 
 pub page_ends : (periods : ℕ) (cs : List CodeDef) (c : Content) → EndsWith (codes "</html>\n") (written (page periods cs c))
-page_ends periods cs c = body_ends (sheet_of periods (longest c.rows 0)) cs c
+page_ends periods cs c = body_ends (sheet_of periods (longest c.rows 0) (length c.money)) cs c

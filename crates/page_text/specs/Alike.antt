@@ -1,5 +1,6 @@
 -- What the marks of a page do not depend on: the names, the bytes of the codes, the derivations.
 use Rattle.std.specs.Prelude.{ℕ, ◌≡◌, List, [], ◌∷◌, ◌++◌, map, length}
+use Rattle.page_parts.specs.Amounts.{AreSaidAlike}
 use Rattle.page_tables.specs.Alike.{IsAlikeTables}
 use Rattle.page_text.specs.declared.content.Content.{Content}
 use Rattle.page_text.specs.declared.row.Row.{Row}
@@ -10,6 +11,7 @@ pub record IsAlikeRow (f : ℕ → ℕ) (r s : Row) : Type 0 where
   pub word : s.word ≡ map f r.word
   pub price : s.price ≡ r.price
   pub count : s.count ≡ r.count
+  pub differs : s.differs ≡ r.differs
 
 abbrev pub AreAlikeRows : (ℕ → ℕ) → List Row → List Row → Type 0
 AreAlikeRows f [] [] = Unit {0}
@@ -17,9 +19,13 @@ AreAlikeRows f (r ∷ rs) (s ∷ ss) = IsAlikeRow f r s × AreAlikeRows f rs ss
 AreAlikeRows f [] (s ∷ ss) = ⊥
 AreAlikeRows f (r ∷ rs) [] = ⊥
 
--- the same content, but for the names and the derivations, where the codes have the bytes that f gives
+-- the same content, but for the names, the derivations and what amounts are counted in, where the codes have the
+-- bytes that f gives
 pub record IsAlike (f : ℕ → ℕ) (c d : Content) : Type 0 where
+  pub money : AreSaidAlike c.money d.money
+  pub times : d.times ≡ c.times
   pub figures : d.figures ≡ c.figures
+  pub changes : d.changes ≡ c.changes
   pub columns : d.columns ≡ c.columns
   pub rows : AreAlikeRows f c.rows d.rows
   pub derivations : length d.derivations ≡ length c.derivations

@@ -2,6 +2,7 @@
 use Rattle.std.specs.Prelude.{ℕ, ◌≤◌, ◌+◌, ◌-◌, ◌/◌, ◌%◌, Option, None, Some, List, [], ◌∷◌, ◌++◌, All, Bool, length, nat_eq, codes, if◌then◌else◌}
 use Rattle.std.specs.List.{list_any}
 use Rattle.roster_model.specs.declared.grammar.CodeDef.{CodeDef}
+use Rattle.page_parts.specs.Amounts.{amount}
 use Rattle.page_parts.specs.Elements.{Element, each_from, marks, given, number}
 use Rattle.page_parts.specs.Paints.{paint_of}
 use Rattle.page_text.specs.declared.column.CellCover.{CellCover}
@@ -11,9 +12,9 @@ use Rattle.shift_figures.specs.declared.bound.Saving.{Saving}
 use Rattle.shift_figures.specs.declared.bound.Saving.TheVariants.{NoneLess, Unknown, AtMost}
 
 -- the sentence of what a cheaper roster saves at most, with its share in tenths of a percent
-unfoldable pub saves : ℕ → ℕ → List Element
-saves amount permille =
-    marks (codes "A cheaper roster saves at most ") ∷ number amount ∷ marks (codes " (") ∷ number (permille / 10)
+unfoldable pub saves : List ℕ → ℕ → ℕ → List Element
+saves m sum permille =
+    marks (codes "A cheaper roster saves at most ") ∷ amount m sum ++ marks (codes " (") ∷ number (permille / 10)
     ∷ marks (codes ".") ∷ number (permille % 10) ∷ marks (codes " %).") ∷ []
 
 -- the sentence where nothing is proved of the cost
@@ -25,36 +26,37 @@ unfoldable pub none_less : List Element
 none_less = marks (codes "No allowed roster costs less.") ∷ []
 
 -- the sentence of what a bound tells
-unfoldable pub told : Saving → List Element
-told NoneLess = none_less
-told Unknown = unknown
-told (AtMost amount permille) = saves amount permille
+unfoldable pub told : List ℕ → Saving → List Element
+told m NoneLess = none_less
+told m Unknown = unknown
+told m (AtMost sum permille) = saves m sum permille
 
 -- the sentence of a roster that costs so much, where this is the bound
-unfoldable pub gap : ℕ → ℕ → List Element
-gap cost bound = told (saving_at cost bound)
+unfoldable pub gap : List ℕ → ℕ → ℕ → List Element
+gap m cost bound = told m (saving_at cost bound)
 
 -- the sentence where there is no roster, but a bound
-unfoldable pub no_roster : ℕ → List Element
-no_roster bound =
-    marks (codes "No roster is stated. Each allowed roster costs at least ") ∷ number bound
-    ∷ marks (codes ".") ∷ []
+unfoldable pub no_roster : List ℕ → ℕ → List Element
+no_roster m bound =
+    marks (codes "No roster is stated. Each allowed roster costs at least ") ∷ amount m bound
+    ++ marks (codes ".") ∷ []
 
 -- the sentence where no roster is allowed
 unfoldable pub none_allowed : List Element
 none_allowed = marks (codes "No roster is allowed.") ∷ []
 
-unfoldable pub sentence_over : Option ℕ → ℕ → List Element
-sentence_over None bound = no_roster bound
-sentence_over (Some cost) bound = gap cost bound
+unfoldable pub sentence_over : List ℕ → Option ℕ → ℕ → List Element
+sentence_over m None bound = no_roster m bound
+sentence_over m (Some cost) bound = gap m cost bound
 
-unfoldable pub sentence : Option ℕ → Option ℕ → List Element
-sentence cost None = none_allowed
-sentence cost (Some bound) = sentence_over cost bound
+-- how good the roster is, where amounts are counted in these words
+unfoldable pub sentence : List ℕ → Option ℕ → Option ℕ → List Element
+sentence m cost None = none_allowed
+sentence m cost (Some bound) = sentence_over m cost bound
 
-unfoldable pub amount : Option ℕ → List Element
-amount (Some n) = number n ∷ []
-amount None = marks (codes "none") ∷ []
+unfoldable pub amount_or_none : List ℕ → Option ℕ → List Element
+amount_or_none m (Some n) = amount m n
+amount_or_none m None = marks (codes "none") ∷ []
 
 -- a code in its colour
 unfoldable pub chip : List CodeDef → ℕ → List Element
@@ -80,32 +82,33 @@ pub record AreDayColumns (columns : List CellCover) : Type 0 where
   pub few : length columns ≤ 768
   pub small : All (λ (c : CellCover). c.penalty ≤ 1280000) columns
 
-unfoldable pub demanded_cost : List CodeDef → List CellCover → ℕ → CodeDef → List Element
-demanded_cost cs columns place c =
+unfoldable pub demanded_cost : List ℕ → List CodeDef → List CellCover → ℕ → CodeDef → List Element
+demanded_cost m cs columns place c =
     marks (codes "<div><dt>Penalty for ") ∷ chip cs c.byte
-    ++ marks (codes "</dt><dd>") ∷ number (penalties place columns 0) ∷ marks (codes "</dd></div>") ∷ []
+    ++ (marks (codes "</dt><dd>") ∷ amount m (penalties place columns 0) ++ marks (codes "</dd></div>") ∷ [])
 
-unfoldable pub code_cost : List CodeDef → List CellCover → ℕ → CodeDef → List Element
-code_cost cs columns place c = if is_demanded place columns then demanded_cost cs columns place c else []
+unfoldable pub code_cost : List ℕ → List CodeDef → List CellCover → ℕ → CodeDef → List Element
+code_cost m cs columns place c = if is_demanded place columns then demanded_cost m cs columns place c else []
 
-abbrev pub code_costs : List CodeDef → List CellCover → List Element
-code_costs cs columns = each_from (code_cost cs columns) 0 cs
+abbrev pub code_costs : List ℕ → List CodeDef → List CellCover → List Element
+code_costs m cs columns = each_from (code_cost m cs columns) 0 cs
 
 -- what the shifts and the penalties come to
-unfoldable pub both_sums : Figures → List Element
-both_sums f =
-    marks (codes "<div><dt>Paid for shifts</dt><dd>") ∷ number f.paid
-    ∷ marks (codes "</dd></div><div><dt>Penalties</dt><dd>") ∷ number f.penalty
-    ∷ marks (codes "</dd></div>") ∷ []
+unfoldable pub both_sums : List ℕ → Figures → List Element
+both_sums m f =
+    marks (codes "<div><dt>Paid for shifts</dt><dd>") ∷ amount m f.paid
+    ++ (marks (codes "</dd></div><div><dt>Penalties</dt><dd>") ∷ amount m f.penalty
+    ++ marks (codes "</dd></div>") ∷ [])
 
 -- the same, where there is a roster
-unfoldable pub sums : Figures → Option ℕ → List Element
-sums f None = []
-sums f (Some cost) = both_sums f
+unfoldable pub sums : List ℕ → Figures → Option ℕ → List Element
+sums m f None = []
+sums m f (Some cost) = both_sums m f
 
-unfoldable pub costs : List CodeDef → Figures → List CellCover → List Element
-costs cs f columns =
-    (marks (codes "<dl><div><dt>Total cost</dt><dd>") ∷ amount f.cost)
-    ++ ((marks (codes "</dd></div><div><dt>Bound</dt><dd>") ∷ amount f.bound)
+-- what the roster costs, where amounts are counted in these words
+unfoldable pub costs : List ℕ → List CodeDef → Figures → List CellCover → List Element
+costs m cs f columns =
+    (marks (codes "<dl><div><dt>Total cost</dt><dd>") ∷ amount_or_none m f.cost)
+    ++ ((marks (codes "</dd></div><div><dt>Bound</dt><dd>") ∷ amount_or_none m f.bound)
     ++ (marks (codes "</dd></div>")
-    ∷ (sums f f.cost ++ (code_costs cs columns ++ marks (codes "</dl>\n") ∷ []))))
+    ∷ (sums m f f.cost ++ (code_costs m cs columns ++ marks (codes "</dl>\n") ∷ []))))

@@ -5,4 +5,5 @@ pub mod Charts
 pub mod Pages
 pub mod Style
 pub mod Columns
+pub mod Changes
 pub mod Costs

@@ -5,6 +5,7 @@ use Rattle.roster_model.specs.declared.grammar.CodeDef.{CodeDef}
 use Rattle.page_parts.specs.Elements.{Element, each_from, marks, given, number, caption, places}
 use Rattle.page_parts.specs.Sheets.{chart_width, sheet_of}
 use Rattle.page_parts.specs.declared.sheet.PeriodAxis.{PeriodAxis}
+use Rattle.page_text.specs.Changes.{changes_part}
 use Rattle.page_text.specs.Costs.{chip, costs, is_demanded, sentence}
 use Rattle.page_text.specs.declared.column.CellCover.{CellCover}
 use Rattle.page_text.specs.Charts.{frame, in_words, inked, lines, top_count, unit_of}
@@ -48,12 +49,12 @@ unfoldable pub height_of : ℕ → ℕ
 height_of rows = 40 + 26 * rows
 
 -- the chart of the shifts
-unfoldable pub shifts : PeriodAxis → List CodeDef → List (List ℕ) → List Row → List Element
-shifts s cs words rows =
-    marks (codes "<section><h2>Shifts</h2>\n<ul class='legend'>") ∷ legend cs words
+unfoldable pub shifts : PeriodAxis → List CodeDef → Content → List Element
+shifts s cs c =
+    marks (codes "<section><h2>Shifts</h2>\n<ul class='legend'>") ∷ legend cs c.words
     ++ (marks (codes "</ul>\n<div class='scroll'><svg class='roster' role='group' aria-label='Shifts of the roster, one row a shift")
-    ∷ size (chart_width s) (height_of (length rows))
-    ++ (price_head s ++ (ticks s 20 ++ (rows_elements s cs rows
+    ∷ size (chart_width s) (height_of (length c.rows))
+    ++ (price_head s ++ (ticks s 20 c.times ++ (rows_elements c.money s cs c.rows
     ++ marks (codes "</svg></div>\n<p class='hint'>Point at a shift, or go to it with the Tab key, and see how the rules derive it.</p></section>\n") ∷ []))))
 
 -- the chart of a code's coverage
@@ -64,19 +65,19 @@ chart_head cs s columns place c =
     ∷ marks (codes ". ")
     ∷ (in_words s place columns ++ size (chart_width s) 132))
 
-unfoldable pub chart_body : PeriodAxis → List CellCover → ℕ → ℕ → ℕ → List Element
-chart_body s columns place top unit =
+unfoldable pub chart_body : PeriodAxis → List (List ℕ) → List CellCover → ℕ → ℕ → ℕ → List Element
+chart_body s moments columns place top unit =
     inked Bars s unit place columns
     ++ (frame s unit top
-    ++ (lines s unit place columns ++ (ticks s 127 ++ marks (codes "</svg></div></figure>\n") ∷ [])))
+    ++ (lines s unit place columns ++ (ticks s 127 moments ++ marks (codes "</svg></div></figure>\n") ∷ [])))
 
-unfoldable pub chart : List CodeDef → PeriodAxis → List CellCover → ℕ → CodeDef → List Element
-chart cs s columns place c =
+unfoldable pub chart : List CodeDef → PeriodAxis → List (List ℕ) → List CellCover → ℕ → CodeDef → List Element
+chart cs s moments columns place c =
     if is_demanded place columns then chart_head cs s columns place c
-    ++ chart_body s columns place (top_count place columns 1) (unit_of (top_count place columns 1)) else []
+    ++ chart_body s moments columns place (top_count place columns 1) (unit_of (top_count place columns 1)) else []
 
-abbrev pub charts : List CodeDef → PeriodAxis → List CellCover → List Element
-charts cs s columns = each_from (chart cs s columns) 0 cs
+abbrev pub charts : List CodeDef → PeriodAxis → List (List ℕ) → List CellCover → List Element
+charts cs s moments columns = each_from (chart cs s moments columns) 0 cs
 
 unfoldable pub chart_legend : List ℕ
 chart_legend =
@@ -84,8 +85,9 @@ chart_legend =
     ++ codes "<li><span class='key over'></span>surplus</li><li><span class='key need'></span>need</li><li><span class='key floor'></span>floor</li>"
     ++ codes "<li><span class='key ceiling'></span>ceiling</li></ul>\n<div class='charts'>\n"
 
-unfoldable pub coverage : List CodeDef → PeriodAxis → List CellCover → List Element
-coverage cs s columns = marks chart_legend ∷ (charts cs s columns ++ marks (codes "</div></section>\n") ∷ [])
+unfoldable pub coverage : List CodeDef → PeriodAxis → List (List ℕ) → List CellCover → List Element
+coverage cs s moments columns =
+    marks chart_legend ∷ (charts cs s moments columns ++ marks (codes "</div></section>\n") ∷ [])
 
 -- what shows the derivation of a shift that is pointed at
 unfoldable pub shows : ℕ → List Element
@@ -98,27 +100,27 @@ abbrev pub all_show : List (List ℕ) → List Element
 all_show texts = flat_map shows (places (length texts))
 
 -- the words of the row at a place, if there is one
-unfoldable pub heading : List Row → ℕ → List Element
-heading rows k = elim (slice_get rows k) [ None ↦ [] | Some r ↦ row_words r ]
+unfoldable pub heading : List ℕ → List Row → ℕ → List Element
+heading m rows k = elim (slice_get rows k) [ None ↦ [] | Some r ↦ row_words m r ]
 
 -- the derivation of a row, under the row's words
-unfoldable pub derivation : List Row → ℕ → List ℕ → List Element
-derivation rows k text =
+unfoldable pub derivation : List ℕ → List Row → ℕ → List ℕ → List Element
+derivation m rows k text =
     (marks (codes "<pre class='derivation' id='d") ∷ number k ∷ marks (codes "'><b>") ∷ [])
-    ++ (heading rows k ++ marks (codes "</b>\n") ∷ given text ∷ marks (codes "</pre>\n") ∷ [])
+    ++ (heading m rows k ++ marks (codes "</b>\n") ∷ given text ∷ marks (codes "</pre>\n") ∷ [])
 
-abbrev pub derivations : List Row → List (List ℕ) → List Element
-derivations rows texts = each_from (derivation rows) 0 texts
+abbrev pub derivations : List ℕ → List Row → List (List ℕ) → List Element
+derivations m rows texts = each_from (derivation m rows) 0 texts
 
 -- the derivations under their title
-unfoldable pub titled_derivations : List Row → List (List ℕ) → List Element
-titled_derivations rows texts =
+unfoldable pub titled_derivations : List ℕ → List Row → List (List ℕ) → List Element
+titled_derivations m rows texts =
     marks (codes "<div class='derivations'><h2>How the rules derive each shift</h2>\n")
-    ∷ (derivations rows texts ++ marks (codes "</div>\n") ∷ [])
+    ∷ (derivations m rows texts ++ marks (codes "</div>\n") ∷ [])
 
 -- the same, where there are any derivations
-unfoldable pub derivations_part : List Row → List (List ℕ) → List Element
-derivations_part rows texts = if nat_lt 0 (length texts) then titled_derivations rows texts else []
+unfoldable pub derivations_part : List ℕ → List Row → List (List ℕ) → List Element
+derivations_part m rows texts = if nat_lt 0 (length texts) then titled_derivations m rows texts else []
 
 unfoldable pub before_title : List ℕ
 before_title =
@@ -137,20 +139,21 @@ head title texts =
 
 unfoldable pub top_part : List CodeDef → Content → List Element
 top_part cs c =
-    head c.title c.derivations ++ (sentence c.figures.cost c.figures.bound
-    ++ (marks (codes "</p></header>\n") ∷ costs cs c.figures c.columns))
+    head c.title c.derivations ++ (sentence c.money c.figures.cost c.figures.bound
+    ++ (marks (codes "</p></header>\n") ∷ (costs c.money cs c.figures c.columns ++ changes_part c.changes)))
 
-unfoldable pub shifts_part : PeriodAxis → List CodeDef → List (List ℕ) → List Row → List Element
-shifts_part s cs words rows = if nat_lt 0 (length rows) then shifts s cs words rows else []
+unfoldable pub shifts_part : PeriodAxis → List CodeDef → Content → List Element
+shifts_part s cs c = if nat_lt 0 (length c.rows) then shifts s cs c else []
 
-unfoldable pub coverage_part : PeriodAxis → List CodeDef → List CellCover → List Element
-coverage_part s cs columns = if nat_lt 0 (length columns) then coverage cs s columns else []
+unfoldable pub coverage_part : PeriodAxis → List CodeDef → List (List ℕ) → List CellCover → List Element
+coverage_part s cs moments columns = if nat_lt 0 (length columns) then coverage cs s moments columns else []
 
 unfoldable pub body : PeriodAxis → List CodeDef → Content → List Element
 body s cs c =
-    top_part cs c ++ (shifts_part s cs c.words c.rows ++ (coverage_part s cs c.columns ++ (page_tables c.tables ++ (derivations_part c.rows c.derivations
+    top_part cs c ++ (shifts_part s cs c ++ (coverage_part s cs c.times c.columns
+    ++ (page_tables c.money c.tables ++ (derivations_part c.money c.rows c.derivations
     ++ marks (codes "</main>\n</body>\n</html>\n") ∷ []))))
 
 -- the elements of the page, in order
 abbrev pub page : ℕ → List CodeDef → Content → List Element
-page periods cs c = body (sheet_of periods (longest c.rows 0)) cs c
+page periods cs c = body (sheet_of periods (longest c.rows 0) (length c.money)) cs c

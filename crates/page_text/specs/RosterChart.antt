@@ -1,7 +1,8 @@
 -- The chart of the shifts: one row a shift, a bar for each period.
-use Rattle.std.specs.Prelude.{ℕ, ◌+◌, ◌-◌, ◌%◌, None, Some, List, [], ◌∷◌, ◌++◌, nat_eq, nat_lt, slice_get, codes, if◌then◌else◌}
+use Rattle.std.specs.Prelude.{ℕ, ◌+◌, ◌-◌, ◌%◌, Bool, None, Some, List, [], ◌∷◌, ◌++◌, length, nat_eq, nat_lt, slice_get, codes, if◌then◌else◌}
 use Rattle.std.specs.List.{flat_map}
 use Rattle.roster_model.specs.declared.grammar.CodeDef.{CodeDef}
+use Rattle.page_parts.specs.Amounts.{amount}
 use Rattle.page_parts.specs.Elements.{Element, each_from, marks, given, number, bar, caption, figure, places}
 use Rattle.page_parts.specs.Paints.{paint_of}
 use Rattle.page_parts.specs.Sheets.{left_of, middle_of, chart_width, top_of}
@@ -19,9 +20,28 @@ letter s cs row place byte =
 unfoldable pub cell : PeriodAxis → List CodeDef → ℕ → List ℕ → ℕ → List Element
 cell s cs row word place = elim (slice_get word place) [ None ↦ [] | Some byte ↦ letter s cs row place byte ]
 
--- the letters of a word, each at its period
-abbrev pub cells : PeriodAxis → List CodeDef → ℕ → List ℕ → List Element
-cells s cs row word = flat_map (cell s cs row word) (places s.periods)
+-- a line under a letter that differs from an old roster
+unfoldable pub change_line : PeriodAxis → ℕ → ℕ → List Element
+change_line s row place =
+    marks (codes "<path class='changed' d='M") ∷ number (left_of s place) ∷ marks (codes " ")
+    ∷ number (top_of row + 23) ∷ marks (codes "H") ∷ number (left_of s place + (s.cell - 1))
+    ∷ marks (codes "'/>") ∷ []
+
+-- the same, where the letter differs
+unfoldable pub change_if : PeriodAxis → ℕ → ℕ → Bool → List Element
+change_if s row place differs = if differs then change_line s row place else []
+
+unfoldable pub change_at : PeriodAxis → ℕ → List Bool → ℕ → List Element
+change_at s row differs place =
+    elim (slice_get differs place) [ None ↦ [] | Some it ↦ change_if s row place it ]
+
+-- what stands at a period of a row
+abbrev pub marked_cell : PeriodAxis → List CodeDef → ℕ → List ℕ → List Bool → ℕ → List Element
+marked_cell s cs row word differs place = cell s cs row word place ++ change_at s row differs place
+
+-- the letters of a word, each at its period, and lines under those that differ
+abbrev pub cells : PeriodAxis → List CodeDef → ℕ → List ℕ → List Bool → List Element
+cells s cs row word differs = flat_map (marked_cell s cs row word differs) (places s.periods)
 
 -- beside a row how many employees have its shift
 unfoldable pub times_of : ℕ → ℕ → List Element
@@ -52,42 +72,63 @@ abbrev pub gap : List ℕ → List ℕ
 gap [] = []
 gap (x ∷ xs) = codes " "
 
--- a row in words
-unfoldable pub row_words : Row → List Element
-row_words r =
+-- a row in words, where amounts are counted in these words
+unfoldable pub row_words : List ℕ → Row → List Element
+row_words m r =
     who r.number r.count ++ given r.name ∷ given (gap r.name) ∷ given r.word
-    ∷ marks (codes ", price ") ∷ number r.price ∷ []
+    ∷ marks (codes ", price ") ∷ amount m r.price
 
-unfoldable pub row_head : ℕ → Row → List Element
-row_head k r =
+unfoldable pub row_head : List ℕ → ℕ → Row → List Element
+row_head m k r =
     (marks (codes "<g class='row' tabindex='0' role='img' id='r") ∷ number k
     ∷ marks (codes "' aria-describedby='d") ∷ number k
     ∷ marks (codes "' aria-label='") ∷ [])
-    ++ (row_words r ++ marks (codes "'>") ∷ [])
+    ++ (row_words m r ++ marks (codes "'>") ∷ [])
 
-unfoldable pub row_frame : PeriodAxis → ℕ → Row → List Element
-row_frame s k r =
+-- the price of a row
+unfoldable pub price_text : List ℕ → PeriodAxis → ℕ → ℕ → List Element
+price_text m s k price =
+    marks (codes "<text class='price' x='") ∷ number (chart_width s - 14) ∷ marks (codes "' y='")
+    ∷ number (top_of k + 15) ∷ marks (codes "'>") ∷ amount m price ++ marks (codes "</text>") ∷ []
+
+unfoldable pub row_frame : List ℕ → PeriodAxis → ℕ → Row → List Element
+row_frame m s k r =
     bar (codes "hit") (record { left = 4; top = top_of k - 2; width = chart_width s - 8; height = 26 })
     ∷ caption (codes "name") (s.left - 10) (top_of k + 15) r.name
-    ∷ figure (codes "price") (chart_width s - 14) (top_of k + 15) r.price ∷ []
+    ∷ price_text m s k r.price
 
-unfoldable pub row_elements : PeriodAxis → List CodeDef → ℕ → Row → List Element
-row_elements s cs k r =
-    row_head k r ++ (row_frame s k r
-    ++ (times k r.number r.count ++ (cells s cs k r.word ++ marks (codes "</g>\n") ∷ [])))
+unfoldable pub row_elements : List ℕ → PeriodAxis → List CodeDef → ℕ → Row → List Element
+row_elements m s cs k r =
+    row_head m k r ++ (row_frame m s k r
+    ++ (times k r.number r.count ++ (cells s cs k r.word r.differs ++ marks (codes "</g>\n") ∷ [])))
 
 -- every how many periods the axis has a number
 abbrev pub step_of : ℕ → ℕ
 step_of periods = if nat_lt periods 25 then 1 else (if nat_lt periods 49 then 2 else 4)
 
 -- the number of a period over its middle
-unfoldable pub tick : PeriodAxis → ℕ → ℕ → List Element
-tick s top place =
+unfoldable pub number_tick : PeriodAxis → ℕ → ℕ → List Element
+number_tick s top place =
     if nat_eq (place % step_of s.periods) 0 then figure (codes "tick") (middle_of s place) top (place + 1)
     ∷ [] else []
 
-abbrev pub ticks : PeriodAxis → ℕ → List Element
-ticks s top = flat_map (tick s top) (places s.periods)
+-- a time where the period behind so many begins
+unfoldable pub time_at : PeriodAxis → ℕ → ℕ → List ℕ → List Element
+time_at s top place text =
+    if nat_lt 0 (length text) then caption (codes "tick") (left_of s place) top text ∷ [] else []
 
-abbrev pub rows_elements : PeriodAxis → List CodeDef → List Row → List Element
-rows_elements s cs rows = each_from (row_elements s cs) 0 rows
+-- the same, where there is a time for it
+unfoldable pub time_tick : PeriodAxis → ℕ → List (List ℕ) → ℕ → List Element
+time_tick s top moments place =
+    elim (slice_get moments place) [ None ↦ [] | Some text ↦ time_at s top place text ]
+
+-- the time of a period, or, where there are no times, its number
+unfoldable pub tick : PeriodAxis → ℕ → List (List ℕ) → ℕ → List Element
+tick s top moments place =
+    if nat_lt 0 (length moments) then time_tick s top moments place else number_tick s top place
+
+abbrev pub ticks : PeriodAxis → ℕ → List (List ℕ) → List Element
+ticks s top moments = flat_map (tick s top moments) (places s.periods)
+
+abbrev pub rows_elements : List ℕ → PeriodAxis → List CodeDef → List Row → List Element
+rows_elements m s cs rows = each_from (row_elements m s cs) 0 rows

@@ -76,6 +76,7 @@ style =
     ++ codes "column-rule:1px solid var(--line);pointer-events:none;background:var(--card);color:var(--ink);\n"
     ++ codes "border:1px solid var(--dim);border-radius:10px;box-shadow:0 8px 30px #0005;\n"
     ++ codes "font:12px/1.45 ui-monospace,'DejaVu Sans Mono',Menlo,Consolas,monospace}\n"
+    ++ codes "body:has(.row:focus) .derivation{pointer-events:auto}\n"
     ++ codes "@page{size:A4;margin:10mm}\n"
     ++ codes "@media print{:root{font-size:12px;--page:#fff;--card:#fff;--ink:#000;--dim:#444;--line:#bbb;\n"
     ++ codes "--have:#aab4bf;\n"

@@ -1,3 +1,4 @@
+use crate::changes::Changes;
 use crate::row::Row;
 use crate::{CellCover, Figures};
 use page_tables::Tables;
@@ -10,8 +11,15 @@ pub struct Content {
     pub title: List<u8>,
     /// For each code what it is called, or nothing.
     pub words: List<List<u8>>,
+    /// What amounts are counted in, or nothing.
+    pub money: List<u8>,
+    /// For each period the time that stands on the axes where it begins, or nothing; none at all where the periods
+    /// stand there by their numbers.
+    pub times: List<List<u8>>,
     /// What the roster costs.
     pub figures: Figures,
+    /// How much differs from an old roster, where there is one.
+    pub changes: Option<Changes>,
     /// The rows of the chart of shifts, at most 64.
     pub rows: List<Row>,
     /// For each row the text of its derivation.

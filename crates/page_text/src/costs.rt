@@ -3,7 +3,7 @@ ghost use Rattle.page_parts.specs.Elements as page;
 ghost use Rattle.page_parts.specs.Elements.{written};
 ghost use Rattle.page_text.specs.Costs.{
   AreDayColumns,
-  amount,
+  amount_or_none,
   both_sums,
   chip,
   code_cost,
@@ -27,16 +27,16 @@ ghost use Rattle.page_text.specs.Costs.{
 
 use crate::column::CellCover;
 use crate::figures::Figures;
-use page_parts::{labelled, labelled_text, marks, number, paint_of};
+use page_parts::{amount, labelled, labelled_amount, labelled_text, marks, paint_of};
 use roster_model::{CodeDef, List, Memory};
 use shift_figures::{Saving, saving_at};
 
 // Writes the sentence of what a cheaper roster saves at most, with its share in tenths of a percent.
 #[tactic(auto, unfolding(crate::specs::Costs::saves))]
-fn saves(out: &mut List<u8>, amount: u64, permille: u64) -> Result<(), Memory>
-    ensures { OnOk result (out.new ≡ out.old ++ written (saves amount permille)) }
+fn saves(out: &mut List<u8>, money: &[u8], sum: u64, permille: u64) -> Result<(), Memory>
+    ensures { OnOk result (out.new ≡ out.old ++ written (saves money.now sum permille)) }
 {
-    labelled(out, b"A cheaper roster saves at most ", amount)?;
+    labelled_amount(out, b"A cheaper roster saves at most ", money, sum)?;
     labelled(out, b" (", permille / 10)?;
     labelled(out, b".", permille % 10)?;
     marks(out, b" %).")
@@ -68,32 +68,33 @@ fn none_allowed(out: &mut List<u8>) -> Result<(), Memory>
 
 // Writes the sentence of what a bound tells.
 #[tactic(auto, unfolding(crate::specs::Costs::told))]
-fn told(out: &mut List<u8>, saving: Saving) -> Result<(), Memory>
-    ensures { OnOk result (out.new ≡ out.old ++ written (told saving)) }
+fn told(out: &mut List<u8>, money: &[u8], saving: Saving) -> Result<(), Memory>
+    ensures { OnOk result (out.new ≡ out.old ++ written (told money.now saving)) }
 {
     match saving {
         Saving::NoneLess => none_less(out),
         Saving::Unknown => unknown(out),
-        Saving::AtMost { amount, permille } => saves(out, amount, permille),
+        Saving::AtMost { amount, permille } => saves(out, money, amount, permille),
     }
 }
 
 // Writes the sentence of a roster that costs so much, where this is the bound.
 #[tactic(auto, unfolding(crate::specs::Costs::gap))]
-fn gap(out: &mut List<u8>, cost: u64, bound: u64) -> Result<(), Memory>
-    ensures { OnOk result (out.new ≡ out.old ++ written (gap cost bound)) }
+fn gap(out: &mut List<u8>, money: &[u8], cost: u64, bound: u64) -> Result<(), Memory>
+    ensures { OnOk result (out.new ≡ out.old ++ written (gap money.now cost bound)) }
 {
-    told(out, saving_at(cost, bound))
+    told(out, money, saving_at(cost, bound))
 }
 
 // Writes the sentence where there is no roster, but a bound.
 #[tactic(auto, unfolding(crate::specs::Costs::no_roster))]
-fn no_roster(out: &mut List<u8>, bound: u64) -> Result<(), Memory>
-    ensures { OnOk result (out.new ≡ out.old ++ written (no_roster bound)) }
+fn no_roster(out: &mut List<u8>, money: &[u8], bound: u64) -> Result<(), Memory>
+    ensures { OnOk result (out.new ≡ out.old ++ written (no_roster money.now bound)) }
 {
-    labelled(
+    labelled_amount(
         out,
         b"No roster is stated. Each allowed roster costs at least ",
+        money,
         bound,
     )?;
     marks(out, b".")
@@ -101,47 +102,64 @@ fn no_roster(out: &mut List<u8>, bound: u64) -> Result<(), Memory>
 
 // Writes how good the roster is, where there is a bound.
 #[tactic(auto, unfolding(crate::specs::Costs::sentence_over))]
-fn sentence_over(out: &mut List<u8>, cost: Option<u64>, bound: u64) -> Result<(), Memory>
-    ensures { OnOk result (out.new ≡ out.old ++ written (sentence_over cost bound)) }
+fn sentence_over(
+    out: &mut List<u8>,
+    money: &[u8],
+    cost: Option<u64>,
+    bound: u64,
+) -> Result<(), Memory>
+    ensures { OnOk result (out.new ≡ out.old ++ written (sentence_over money.now cost bound)) }
 {
     match cost {
-        None => no_roster(out, bound),
-        Some(cost) => gap(out, cost, bound),
+        None => no_roster(out, money, bound),
+        Some(cost) => gap(out, money, cost, bound),
     }
 }
 
-/// Appends the sentence of how good the roster is, or of what the bound says where there is none.
+/// Appends the sentence of how good the roster is, or of what the bound says where there is none, with amounts that
+/// are counted in these words, or bare where there are none.
 ///
 /// # Errors
 ///
 /// `Memory` where memory runs out; a part of it may stand there then.
 #[tactic(auto, unfolding(crate::specs::Costs::sentence))]
-pub fn sentence(out: &mut List<u8>, cost: Option<u64>, bound: Option<u64>) -> Result<(), Memory>
-    ensures { OnOk result (out.new ≡ out.old ++ written (sentence cost bound)) }
+pub fn sentence(
+    out: &mut List<u8>,
+    money: &[u8],
+    cost: Option<u64>,
+    bound: Option<u64>,
+) -> Result<(), Memory>
+    ensures { OnOk result (out.new ≡ out.old ++ written (sentence money.now cost bound)) }
 {
     match bound {
         None => none_allowed(out),
-        Some(bound) => sentence_over(out, cost, bound),
+        Some(bound) => sentence_over(out, money, cost, bound),
     }
 }
 
 // Writes a cost or a bound.
-#[tactic(auto, unfolding(crate::specs::Costs::amount))]
-fn amount(out: &mut List<u8>, value: Option<u64>) -> Result<(), Memory>
-    ensures { OnOk result (out.new ≡ out.old ++ written (amount value)) }
+#[tactic(auto, unfolding(crate::specs::Costs::amount_or_none))]
+fn amount_or_none(out: &mut List<u8>, money: &[u8], value: Option<u64>) -> Result<(), Memory>
+    ensures { OnOk result (out.new ≡ out.old ++ written (amount_or_none money.now value)) }
 {
     match value {
-        Some(value) => number(out, value),
+        Some(value) => amount(out, money, value),
         None => marks(out, b"none"),
     }
 }
 
 // Writes marks, and a cost or a bound behind them.
-fn labelled_amount(out: &mut List<u8>, label: &[u8], value: Option<u64>) -> Result<(), Memory>
-    ensures { OnOk result (out.new ≡ out.old ++ written (page.marks label.now ∷ amount value)) }
+fn labelled_or_none(
+    out: &mut List<u8>,
+    label: &[u8],
+    money: &[u8],
+    value: Option<u64>,
+) -> Result<(), Memory>
+    ensures { OnOk result
+        (out.new ≡ out.old ++ written (page.marks label.now ∷ amount_or_none money.now value)) }
 {
     marks(out, label)?;
-    amount(out, value)
+    amount_or_none(out, money, value)
 }
 
 /// Appends the byte of a code, escaped, in its colour.
@@ -197,6 +215,7 @@ fn penalties(code: u8, columns: &[CellCover]) -> u64
 #[tactic(auto, unfolding(crate::specs::Costs::demanded_cost))]
 fn demanded_cost(
     out: &mut List<u8>,
+    money: &[u8],
     codes: &[CodeDef],
     columns: &[CellCover],
     place: u8,
@@ -204,11 +223,11 @@ fn demanded_cost(
 ) -> Result<(), Memory>
     requires { AreDayColumns columns.now }
     ensures { OnOk result
-        (out.new ≡ out.old ++ written (demanded_cost codes.now columns.now place code.now)) }
+        (out.new ≡ out.old ++ written (demanded_cost money.now codes.now columns.now place code.now)) }
 {
     marks(out, b"<div><dt>Penalty for ")?;
     chip(out, codes, code.byte)?;
-    labelled(out, b"</dt><dd>", penalties(place, columns))?;
+    labelled_amount(out, b"</dt><dd>", money, penalties(place, columns))?;
     marks(out, b"</dd></div>")
 }
 
@@ -216,29 +235,36 @@ fn demanded_cost(
 #[tactic(auto, unfolding(crate::specs::Costs::code_cost))]
 fn code_cost(
     out: &mut List<u8>,
+    money: &[u8],
     codes: &[CodeDef],
     columns: &[CellCover],
     place: u8,
     code: &CodeDef,
 ) -> Result<(), Memory>
     requires { AreDayColumns columns.now }
-    ensures { OnOk result (out.new ≡ out.old ++ written (code_cost codes.now columns.now place code.now)) }
+    ensures { OnOk result
+        (out.new ≡ out.old ++ written (code_cost money.now codes.now columns.now place code.now)) }
 {
     if is_demanded(place, columns) {
-        demanded_cost(out, codes, columns, place, code)?;
+        demanded_cost(out, money, codes, columns, place, code)?;
     }
     Ok(())
 }
 
 // Writes the penalties of each demanded code.
-fn code_costs(out: &mut List<u8>, codes: &[CodeDef], columns: &[CellCover]) -> Result<(), Memory>
+fn code_costs(
+    out: &mut List<u8>,
+    money: &[u8],
+    codes: &[CodeDef],
+    columns: &[CellCover],
+) -> Result<(), Memory>
     requires codes { length codes.now ≤ 32 }
     requires columns { AreDayColumns columns.now }
-    ensures { OnOk result (out.new ≡ out.old ++ written (code_costs codes.now columns.now)) }
+    ensures { OnOk result (out.new ≡ out.old ++ written (code_costs money.now codes.now columns.now)) }
 {
     let mut place: u8 = 0;
     for code in codes {
-        code_cost(out, codes, columns, place, code)?;
+        code_cost(out, money, codes, columns, place, code)?;
         place += 1;
     }
     Ok(())
@@ -246,13 +272,19 @@ fn code_costs(out: &mut List<u8>, codes: &[CodeDef], columns: &[CellCover]) -> R
 
 // Writes what the shifts and the penalties come to.
 #[tactic(auto, unfolding(crate::specs::Costs::both_sums))]
-fn both_sums(out: &mut List<u8>, figures: Figures) -> Result<(), Memory>
-    ensures { OnOk result (out.new ≡ out.old ++ written (both_sums figures)) }
+fn both_sums(out: &mut List<u8>, money: &[u8], figures: Figures) -> Result<(), Memory>
+    ensures { OnOk result (out.new ≡ out.old ++ written (both_sums money.now figures)) }
 {
-    labelled(out, b"<div><dt>Paid for shifts</dt><dd>", figures.paid)?;
-    labelled(
+    labelled_amount(
+        out,
+        b"<div><dt>Paid for shifts</dt><dd>",
+        money,
+        figures.paid,
+    )?;
+    labelled_amount(
         out,
         b"</dd></div><div><dt>Penalties</dt><dd>",
+        money,
         figures.penalty,
     )?;
     marks(out, b"</dd></div>")
@@ -260,17 +292,17 @@ fn both_sums(out: &mut List<u8>, figures: Figures) -> Result<(), Memory>
 
 // Writes the same, where there is a roster.
 #[tactic(auto, unfolding(crate::specs::Costs::sums))]
-fn sums(out: &mut List<u8>, figures: Figures) -> Result<(), Memory>
-    ensures { OnOk result (out.new ≡ out.old ++ written (sums figures figures.cost)) }
+fn sums(out: &mut List<u8>, money: &[u8], figures: Figures) -> Result<(), Memory>
+    ensures { OnOk result (out.new ≡ out.old ++ written (sums money.now figures figures.cost)) }
 {
     match figures.cost {
         None => Ok(()),
-        Some(_) => both_sums(out, figures),
+        Some(_) => both_sums(out, money, figures),
     }
 }
 
-/// Appends what the roster costs: its figures, and the penalties of each code that is demanded. Where there is
-/// no roster, there is no sum.
+/// Appends what the roster costs: its figures, and the penalties of each code that is demanded, with amounts that are
+/// counted in these words, or bare where there are none. Where there is no roster, there is no sum.
 ///
 /// # Errors
 ///
@@ -278,18 +310,29 @@ fn sums(out: &mut List<u8>, figures: Figures) -> Result<(), Memory>
 #[tactic(auto, unfolding(crate::specs::Costs::costs))]
 pub fn costs(
     out: &mut List<u8>,
+    money: &[u8],
     codes: &[CodeDef],
     figures: Figures,
     columns: &[CellCover],
 ) -> Result<(), Memory>
     requires codes { length codes.now ≤ 32 }
     requires columns { AreDayColumns columns.now }
-    ensures { OnOk result (out.new ≡ out.old ++ written (costs codes.now figures columns.now)) }
+    ensures { OnOk result (out.new ≡ out.old ++ written (costs money.now codes.now figures columns.now)) }
 {
-    labelled_amount(out, b"<dl><div><dt>Total cost</dt><dd>", figures.cost)?;
-    labelled_amount(out, b"</dd></div><div><dt>Bound</dt><dd>", figures.bound)?;
+    labelled_or_none(
+        out,
+        b"<dl><div><dt>Total cost</dt><dd>",
+        money,
+        figures.cost,
+    )?;
+    labelled_or_none(
+        out,
+        b"</dd></div><div><dt>Bound</dt><dd>",
+        money,
+        figures.bound,
+    )?;
     marks(out, b"</dd></div>")?;
-    sums(out, figures)?;
-    code_costs(out, codes, columns)?;
+    sums(out, money, figures)?;
+    code_costs(out, money, codes, columns)?;
     marks(out, b"</dl>\n")
 }

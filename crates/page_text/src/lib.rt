@@ -2,6 +2,7 @@
 //! the roster costs, and how each shift is derived.
 #![tactic(auto)]
 
+mod changes;
 mod chart;
 mod column;
 mod content;
@@ -14,9 +15,11 @@ mod roster_chart;
 mod row;
 mod style;
 
+pub use changes::Changes;
 pub use column::{CellCover, add_columns};
 pub use content::Content;
 pub use figures::Figures;
 pub use laws::{marks_stay, page_ends};
 pub use page::write_page;
+pub use roster_chart::step_of;
 pub use row::Row;

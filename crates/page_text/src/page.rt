@@ -34,6 +34,7 @@ ghost use Rattle.page_text.specs.Pages.{
 };
 
 use crate::CellCover;
+use crate::changes::changes_part;
 use crate::chart::{frame, in_words, inked, lines, top_count, unit_of};
 use crate::content::Content;
 use crate::costs::{chip, costs, is_demanded, sentence};
@@ -148,20 +149,20 @@ fn shifts(
     out: &mut List<u8>,
     sheet: PeriodAxis,
     codes: &[CodeDef],
-    words: &[List<u8>],
-    shown: &[Row],
+    content: &Content,
 ) -> Result<(), Memory>
     requires codes { length codes.now ≤ 32 }
-    requires rows { length shown.now ≤ 64 }
-    ensures { OnOk result (out.new ≡ out.old ++ written (shifts sheet codes.now words.now shown.now)) }
+    requires rows { length content.now.rows ≤ 64 }
+    ensures { OnOk result (out.new ≡ out.old ++ written (shifts sheet codes.now content.now)) }
 {
+    let shown = content.rows.as_slice();
     marks(out, b"<section><h2>Shifts</h2>\n<ul class='legend'>")?;
-    legend(out, codes, words)?;
+    legend(out, codes, content.words.as_slice())?;
     marks(out, roster_start())?;
     size(out, chart_width(sheet), height_of(shown.len()))?;
     price_head(out, sheet)?;
-    ticks(out, sheet, 20)?;
-    rows(out, sheet, codes, shown)?;
+    ticks(out, sheet, 20, content.times.as_slice())?;
+    rows(out, content.money.as_slice(), sheet, codes, shown)?;
     marks(out, roster_end())
 }
 
@@ -195,17 +196,19 @@ fn chart_head(
 fn chart_body(
     out: &mut List<u8>,
     sheet: PeriodAxis,
+    moments: &[List<u8>],
     columns: &[CellCover],
     place: u8,
     top: u32,
     unit: u8,
 ) -> Result<(), Memory>
-    ensures { OnOk result (out.new ≡ out.old ++ written (chart_body sheet columns.now place top unit)) }
+    ensures { OnOk result
+        (out.new ≡ out.old ++ written (chart_body sheet moments.now columns.now place top unit)) }
 {
     inked(out, Ink::Bars, sheet, unit, place, columns)?;
     frame(out, sheet, unit, top)?;
     lines(out, sheet, unit, place, columns)?;
-    ticks(out, sheet, 127)?;
+    ticks(out, sheet, 127, moments)?;
     marks(out, b"</svg></div></figure>\n")
 }
 
@@ -215,16 +218,18 @@ fn chart(
     out: &mut List<u8>,
     codes: &[CodeDef],
     sheet: PeriodAxis,
+    moments: &[List<u8>],
     columns: &[CellCover],
     place: u8,
     code: &CodeDef,
 ) -> Result<(), Memory>
-    ensures { OnOk result (out.new ≡ out.old ++ written (chart codes.now sheet columns.now place code.now)) }
+    ensures { OnOk result
+        (out.new ≡ out.old ++ written (chart codes.now sheet moments.now columns.now place code.now)) }
 {
     if is_demanded(place, columns) {
         let top = top_count(place, columns);
         chart_head(out, codes, sheet, columns, place, code)?;
-        chart_body(out, sheet, columns, place, top, unit_of(top))?;
+        chart_body(out, sheet, moments, columns, place, top, unit_of(top))?;
     }
     Ok(())
 }
@@ -234,14 +239,15 @@ fn charts(
     out: &mut List<u8>,
     codes: &[CodeDef],
     sheet: PeriodAxis,
+    moments: &[List<u8>],
     columns: &[CellCover],
 ) -> Result<(), Memory>
     requires { length codes.now ≤ 32 }
-    ensures { OnOk result (out.new ≡ out.old ++ written (charts codes.now sheet columns.now)) }
+    ensures { OnOk result (out.new ≡ out.old ++ written (charts codes.now sheet moments.now columns.now)) }
 {
     let mut place: u8 = 0;
     for code in codes {
-        chart(out, codes, sheet, columns, place, code)?;
+        chart(out, codes, sheet, moments, columns, place, code)?;
         place += 1;
     }
     Ok(())
@@ -267,13 +273,14 @@ fn coverage(
     out: &mut List<u8>,
     codes: &[CodeDef],
     sheet: PeriodAxis,
+    moments: &[List<u8>],
     columns: &[CellCover],
 ) -> Result<(), Memory>
     requires { length codes.now ≤ 32 }
-    ensures { OnOk result (out.new ≡ out.old ++ written (coverage codes.now sheet columns.now)) }
+    ensures { OnOk result (out.new ≡ out.old ++ written (coverage codes.now sheet moments.now columns.now)) }
 {
     marks(out, chart_legend())?;
-    charts(out, codes, sheet, columns)?;
+    charts(out, codes, sheet, moments, columns)?;
     marks(out, b"</div></section>\n")
 }
 
@@ -302,35 +309,47 @@ fn all_show(out: &mut List<u8>, texts: &[List<u8>]) -> Result<(), Memory>
 
 // Writes the words of the row at a place, if there is one.
 #[tactic(auto, unfolding(crate::specs::Pages::heading))]
-fn heading(out: &mut List<u8>, rows: &[Row], place: u64) -> Result<(), Memory>
-    ensures { OnOk result (out.new ≡ out.old ++ written (heading rows.now place)) }
+fn heading(out: &mut List<u8>, money: &[u8], rows: &[Row], place: u64) -> Result<(), Memory>
+    ensures { OnOk result (out.new ≡ out.old ++ written (heading money.now rows.now place)) }
 {
     match rows.get(place as usize) {
         None => Ok(()),
-        Some(row) => row_words(out, row),
+        Some(row) => row_words(out, money, row),
     }
 }
 
 // Writes the derivation of a row, under the row's words.
 #[tactic(auto, unfolding(crate::specs::Pages::derivation))]
-fn derivation(out: &mut List<u8>, rows: &[Row], place: u64, text: &List<u8>) -> Result<(), Memory>
-    ensures { OnOk result (out.new ≡ out.old ++ written (derivation rows.now place text.now)) }
+fn derivation(
+    out: &mut List<u8>,
+    money: &[u8],
+    rows: &[Row],
+    place: u64,
+    text: &List<u8>,
+) -> Result<(), Memory>
+    ensures { OnOk result
+        (out.new ≡ out.old ++ written (derivation money.now rows.now place text.now)) }
 {
     labelled(out, b"<pre class='derivation' id='d", place)?;
     marks(out, b"'><b>")?;
-    heading(out, rows, place)?;
+    heading(out, money, rows, place)?;
     labelled_text(out, b"</b>\n", text.as_slice())?;
     marks(out, b"</pre>\n")
 }
 
 // Writes the derivations of the rows.
-fn derivations(out: &mut List<u8>, rows: &[Row], texts: &[List<u8>]) -> Result<(), Memory>
+fn derivations(
+    out: &mut List<u8>,
+    money: &[u8],
+    rows: &[Row],
+    texts: &[List<u8>],
+) -> Result<(), Memory>
     requires { length texts.now ≤ 64 }
-    ensures { OnOk result (out.new ≡ out.old ++ written (derivations rows.now texts.now)) }
+    ensures { OnOk result (out.new ≡ out.old ++ written (derivations money.now rows.now texts.now)) }
 {
     let mut place: u64 = 0;
     for text in texts {
-        derivation(out, rows, place, text)?;
+        derivation(out, money, rows, place, text)?;
         place += 1;
     }
     Ok(())
@@ -338,26 +357,38 @@ fn derivations(out: &mut List<u8>, rows: &[Row], texts: &[List<u8>]) -> Result<(
 
 // Writes the derivations of the rows under their title.
 #[tactic(auto, unfolding(crate::specs::Pages::titled_derivations))]
-fn titled_derivations(out: &mut List<u8>, rows: &[Row], texts: &[List<u8>]) -> Result<(), Memory>
+fn titled_derivations(
+    out: &mut List<u8>,
+    money: &[u8],
+    rows: &[Row],
+    texts: &[List<u8>],
+) -> Result<(), Memory>
     requires { length texts.now ≤ 64 }
-    ensures { OnOk result (out.new ≡ out.old ++ written (titled_derivations rows.now texts.now)) }
+    ensures { OnOk result
+        (out.new ≡ out.old ++ written (titled_derivations money.now rows.now texts.now)) }
 {
     marks(
         out,
         b"<div class='derivations'><h2>How the rules derive each shift</h2>\n",
     )?;
-    derivations(out, rows, texts)?;
+    derivations(out, money, rows, texts)?;
     marks(out, b"</div>\n")
 }
 
 // Writes the same, where there are any derivations.
 #[tactic(auto, unfolding(crate::specs::Pages::derivations_part))]
-fn derivations_part(out: &mut List<u8>, rows: &[Row], texts: &[List<u8>]) -> Result<(), Memory>
+fn derivations_part(
+    out: &mut List<u8>,
+    money: &[u8],
+    rows: &[Row],
+    texts: &[List<u8>],
+) -> Result<(), Memory>
     requires { length texts.now ≤ 64 }
-    ensures { OnOk result (out.new ≡ out.old ++ written (derivations_part rows.now texts.now)) }
+    ensures { OnOk result
+        (out.new ≡ out.old ++ written (derivations_part money.now rows.now texts.now)) }
 {
     if texts.len() > 0 {
-        titled_derivations(out, rows, texts)?;
+        titled_derivations(out, money, rows, texts)?;
     }
     Ok(())
 }
@@ -402,7 +433,7 @@ fn head(out: &mut List<u8>, title: &[u8], texts: &[List<u8>]) -> Result<(), Memo
     marks(out, b"</h1><p>")
 }
 
-// Writes the head, and what the roster costs.
+// Writes the head, what the roster costs, and how much differs from an old one.
 #[tactic(auto, unfolding(crate::specs::Pages::top_part))]
 fn top_part(out: &mut List<u8>, codes: &[CodeDef], content: &Content) -> Result<(), Memory>
     requires codes { length codes.now ≤ 32 }
@@ -415,9 +446,17 @@ fn top_part(out: &mut List<u8>, codes: &[CodeDef], content: &Content) -> Result<
         content.title.as_slice(),
         content.derivations.as_slice(),
     )?;
-    sentence(out, content.figures.cost, content.figures.bound)?;
+    let money = content.money.as_slice();
+    sentence(out, money, content.figures.cost, content.figures.bound)?;
     marks(out, b"</p></header>\n")?;
-    costs(out, codes, content.figures, content.columns.as_slice())
+    costs(
+        out,
+        money,
+        codes,
+        content.figures,
+        content.columns.as_slice(),
+    )?;
+    changes_part(out, content.changes)
 }
 
 // Writes the chart of the shifts, where there are any.
@@ -426,16 +465,14 @@ fn shifts_part(
     out: &mut List<u8>,
     sheet: PeriodAxis,
     codes: &[CodeDef],
-    words: &[List<u8>],
-    rows: &[Row],
+    content: &Content,
 ) -> Result<(), Memory>
     requires codes { length codes.now ≤ 32 }
-    requires rows { length rows.now ≤ 64 }
-    ensures { OnOk result
-        (out.new ≡ out.old ++ written (shifts_part sheet codes.now words.now rows.now)) }
+    requires rows { length content.now.rows ≤ 64 }
+    ensures { OnOk result (out.new ≡ out.old ++ written (shifts_part sheet codes.now content.now)) }
 {
-    if rows.len() > 0 {
-        shifts(out, sheet, codes, words, rows)?;
+    if content.rows.len() > 0 {
+        shifts(out, sheet, codes, content)?;
     }
     Ok(())
 }
@@ -446,13 +483,15 @@ fn coverage_part(
     out: &mut List<u8>,
     sheet: PeriodAxis,
     codes: &[CodeDef],
+    moments: &[List<u8>],
     columns: &[CellCover],
 ) -> Result<(), Memory>
     requires { length codes.now ≤ 32 }
-    ensures { OnOk result (out.new ≡ out.old ++ written (coverage_part sheet codes.now columns.now)) }
+    ensures { OnOk result
+        (out.new ≡ out.old ++ written (coverage_part sheet codes.now moments.now columns.now)) }
 {
     if columns.len() > 0 {
-        coverage(out, codes, sheet, columns)?;
+        coverage(out, codes, sheet, moments, columns)?;
     }
     Ok(())
 }
@@ -472,11 +511,13 @@ fn body(
     ensures { OnOk result (out.new ≡ out.old ++ written (body sheet codes.now content.now)) }
 {
     top_part(out, codes, content)?;
-    let words = content.words.as_slice();
-    shifts_part(out, sheet, codes, words, content.rows.as_slice())?;
-    coverage_part(out, sheet, codes, content.columns.as_slice())?;
-    add_tables(out, &content.tables)?;
-    derivations_part(out, content.rows.as_slice(), content.derivations.as_slice())?;
+    shifts_part(out, sheet, codes, content)?;
+    let moments = content.times.as_slice();
+    coverage_part(out, sheet, codes, moments, content.columns.as_slice())?;
+    let money = content.money.as_slice();
+    add_tables(out, money, &content.tables)?;
+    let texts = content.derivations.as_slice();
+    derivations_part(out, money, content.rows.as_slice(), texts)?;
     marks(out, b"</main>\n</body>\n</html>\n")
 }
 
@@ -498,7 +539,8 @@ pub fn write_page(
     ensures { IfOk result (λ text. text ≡ written (page periods codes.now content.now)) }
 {
     let mut out = List::new(alloc);
-    let sheet = sheet_of(periods, longest(content.rows.as_slice()));
+    let longest = longest(content.rows.as_slice());
+    let sheet = sheet_of(periods, longest, content.money.len());
     body(&mut out, sheet, codes, content)?;
     Ok(out)
 }

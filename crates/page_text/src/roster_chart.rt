@@ -3,10 +3,16 @@ ghost use Rattle.page_parts.specs.Elements.{written};
 ghost use Rattle.page_text.specs.RosterChart.{
   cell,
   cells,
+  change_at,
+  change_if,
+  change_line,
   gap,
   letter,
   many,
+  marked_cell,
+  number_tick,
   one,
+  price_text,
   row_elements,
   row_frame,
   row_head,
@@ -15,6 +21,8 @@ ghost use Rattle.page_text.specs.RosterChart.{
   step_of,
   tick,
   ticks,
+  time_at,
+  time_tick,
   times,
   times_of,
   who,
@@ -22,8 +30,8 @@ ghost use Rattle.page_text.specs.RosterChart.{
 
 use crate::row::Row;
 use page_parts::{
-    Area, PeriodAxis, bar, caption, chart_width, figure, given, labelled, left_of, marks,
-    middle_of, number, paint_of, top_of,
+    Area, PeriodAxis, bar, caption, chart_width, figure, given, labelled, labelled_amount, left_of,
+    marks, middle_of, number, paint_of, top_of,
 };
 use roster_model::{CodeDef, List, Memory};
 
@@ -74,18 +82,84 @@ fn cell(
     }
 }
 
-// Writes the letters of a word, each at its period.
+// Writes a line under a letter that differs from an old roster.
+#[tactic(auto, unfolding(crate::specs::RosterChart::change_line))]
+fn change_line(out: &mut List<u8>, sheet: PeriodAxis, row: u8, place: u8) -> Result<(), Memory>
+    ensures { OnOk result (out.new ≡ out.old ++ written (change_line sheet row place)) }
+{
+    let left = left_of(sheet, place);
+    let width = sheet.cell.saturating_sub(1) as u64;
+    labelled(out, b"<path class='changed' d='M", left)?;
+    labelled(out, b" ", top_of(row) + 23)?;
+    labelled(out, b"H", left + width)?;
+    marks(out, b"'/>")
+}
+
+// Writes the same, where the letter differs.
+#[tactic(auto, unfolding(crate::specs::RosterChart::change_if))]
+fn change_if(
+    out: &mut List<u8>,
+    sheet: PeriodAxis,
+    row: u8,
+    place: u8,
+    differs: bool,
+) -> Result<(), Memory>
+    ensures { OnOk result (out.new ≡ out.old ++ written (change_if sheet row place differs)) }
+{
+    if differs {
+        change_line(out, sheet, row, place)?;
+    }
+    Ok(())
+}
+
+// Writes the same for the period behind so many.
+#[tactic(auto, unfolding(crate::specs::RosterChart::change_at))]
+fn change_at(
+    out: &mut List<u8>,
+    sheet: PeriodAxis,
+    row: u8,
+    differs: &[bool],
+    place: u8,
+) -> Result<(), Memory>
+    ensures { OnOk result (out.new ≡ out.old ++ written (change_at sheet row differs.now place)) }
+{
+    match differs.get(place as usize) {
+        None => Ok(()),
+        Some(it) => change_if(out, sheet, row, place, *it),
+    }
+}
+
+// Writes what stands at a period of a row.
+fn marked_cell(
+    out: &mut List<u8>,
+    sheet: PeriodAxis,
+    codes: &[CodeDef],
+    row: u8,
+    word: &[u8],
+    differs: &[bool],
+    place: u8,
+) -> Result<(), Memory>
+    ensures { OnOk result
+        (out.new ≡ out.old ++ written (marked_cell sheet codes.now row word.now differs.now place)) }
+{
+    cell(out, sheet, codes, row, word, place)?;
+    change_at(out, sheet, row, differs, place)
+}
+
+// Writes the letters of a word, each at its period, and lines under those that differ.
 fn cells(
     out: &mut List<u8>,
     sheet: PeriodAxis,
     codes: &[CodeDef],
     row: u8,
     word: &[u8],
+    differs: &[bool],
 ) -> Result<(), Memory>
-    ensures { OnOk result (out.new ≡ out.old ++ written (cells sheet codes.now row word.now)) }
+    ensures { OnOk result
+        (out.new ≡ out.old ++ written (cells sheet codes.now row word.now differs.now)) }
 {
     for place in 0..sheet.periods {
-        cell(out, sheet, codes, row, word, place)?;
+        marked_cell(out, sheet, codes, row, word, differs, place)?;
     }
     Ok(())
 }
@@ -147,26 +221,26 @@ fn gap(name: &[u8]) -> &'static [u8]
     if name.is_empty() { b"" } else { b" " }
 }
 
-/// Writes a row in words.
+/// Writes a row in words, with its price in the words that amounts are counted in.
 ///
 /// # Errors
 ///
 /// `Memory` where memory runs out; a part may stand in `out` then.
 #[tactic(auto, unfolding(crate::specs::RosterChart::row_words))]
-pub(crate) fn row_words(out: &mut List<u8>, row: &Row) -> Result<(), Memory>
-    ensures { OnOk result (out.new ≡ out.old ++ written (row_words row.now)) }
+pub(crate) fn row_words(out: &mut List<u8>, money: &[u8], row: &Row) -> Result<(), Memory>
+    ensures { OnOk result (out.new ≡ out.old ++ written (row_words money.now row.now)) }
 {
     who(out, row.number, row.count)?;
     given(out, row.name.as_slice())?;
     given(out, gap(row.name.as_slice()))?;
     given(out, row.word.as_slice())?;
-    labelled(out, b", price ", row.price)
+    labelled_amount(out, b", price ", money, row.price)
 }
 
 // Writes the beginning of a row.
 #[tactic(auto, unfolding(crate::specs::RosterChart::row_head))]
-fn row_head(out: &mut List<u8>, place: u8, row: &Row) -> Result<(), Memory>
-    ensures { OnOk result (out.new ≡ out.old ++ written (row_head place row.now)) }
+fn row_head(out: &mut List<u8>, money: &[u8], place: u8, row: &Row) -> Result<(), Memory>
+    ensures { OnOk result (out.new ≡ out.old ++ written (row_head money.now place row.now)) }
 {
     labelled(
         out,
@@ -175,14 +249,38 @@ fn row_head(out: &mut List<u8>, place: u8, row: &Row) -> Result<(), Memory>
     )?;
     labelled(out, b"' aria-describedby='d", place as u64)?;
     marks(out, b"' aria-label='")?;
-    row_words(out, row)?;
+    row_words(out, money, row)?;
     marks(out, b"'>")
+}
+
+// Writes the price of a row.
+#[tactic(auto, unfolding(crate::specs::RosterChart::price_text))]
+fn price_text(
+    out: &mut List<u8>,
+    money: &[u8],
+    sheet: PeriodAxis,
+    place: u8,
+    price: u64,
+) -> Result<(), Memory>
+    ensures { OnOk result (out.new ≡ out.old ++ written (price_text money.now sheet place price)) }
+{
+    let left = chart_width(sheet).saturating_sub(14);
+    labelled(out, b"<text class='price' x='", left)?;
+    labelled(out, b"' y='", top_of(place) + 15)?;
+    labelled_amount(out, b"'>", money, price)?;
+    marks(out, b"</text>")
 }
 
 // Writes what stands beside the letters of a row.
 #[tactic(auto, unfolding(crate::specs::RosterChart::row_frame))]
-fn row_frame(out: &mut List<u8>, sheet: PeriodAxis, place: u8, row: &Row) -> Result<(), Memory>
-    ensures { OnOk result (out.new ≡ out.old ++ written (row_frame sheet place row.now)) }
+fn row_frame(
+    out: &mut List<u8>,
+    money: &[u8],
+    sheet: PeriodAxis,
+    place: u8,
+    row: &Row,
+) -> Result<(), Memory>
+    ensures { OnOk result (out.new ≡ out.old ++ written (row_frame money.now sheet place row.now)) }
 {
     let area = Area {
         left: 4,
@@ -193,52 +291,62 @@ fn row_frame(out: &mut List<u8>, sheet: PeriodAxis, place: u8, row: &Row) -> Res
     bar(out, b"hit", area)?;
     let name = (sheet.left as u64).saturating_sub(10);
     caption(out, b"name", name, top_of(place) + 15, row.name.as_slice())?;
-    let price = chart_width(sheet).saturating_sub(14);
-    figure(out, b"price", price, top_of(place) + 15, row.price)
+    price_text(out, money, sheet, place, row.price)
 }
 
 // Writes a row.
 #[tactic(auto, unfolding(crate::specs::RosterChart::row_elements))]
 fn row(
     out: &mut List<u8>,
+    money: &[u8],
     sheet: PeriodAxis,
     codes: &[CodeDef],
     place: u8,
     row: &Row,
 ) -> Result<(), Memory>
-    ensures { OnOk result (out.new ≡ out.old ++ written (row_elements sheet codes.now place row.now)) }
+    ensures { OnOk result
+        (out.new ≡ out.old ++ written (row_elements money.now sheet codes.now place row.now)) }
 {
-    row_head(out, place, row)?;
-    row_frame(out, sheet, place, row)?;
+    row_head(out, money, place, row)?;
+    row_frame(out, money, sheet, place, row)?;
     times(out, place, row.number, row.count)?;
-    cells(out, sheet, codes, place, row.word.as_slice())?;
+    cells(
+        out,
+        sheet,
+        codes,
+        place,
+        row.word.as_slice(),
+        row.differs.as_slice(),
+    )?;
     marks(out, b"</g>\n")
 }
 
-/// Writes the rows of a chart, one a shift.
+/// Writes the rows of a chart, one a shift, with prices in the words that amounts are counted in.
 ///
 /// # Errors
 ///
 /// `Memory` where memory runs out; a part may stand in `out` then.
 pub(crate) fn rows(
     out: &mut List<u8>,
+    money: &[u8],
     sheet: PeriodAxis,
     codes: &[CodeDef],
     rows: &[Row],
 ) -> Result<(), Memory>
     requires { length rows.now ≤ 64 }
-    ensures { OnOk result (out.new ≡ out.old ++ written (rows_elements sheet codes.now rows.now)) }
+    ensures { OnOk result
+        (out.new ≡ out.old ++ written (rows_elements money.now sheet codes.now rows.now)) }
 {
     let mut place: u8 = 0;
     for shift in rows {
-        row(out, sheet, codes, place, shift)?;
+        row(out, money, sheet, codes, place, shift)?;
         place += 1;
     }
     Ok(())
 }
 
-// Returns at every which period the number stands.
-fn step_of(periods: u8) -> u8
+/// Returns at every how many of so many periods there is room for a number or a time below a chart.
+pub fn step_of(periods: u8) -> u8
     ensures value { result ≡ step_of periods }
     ensures some { 1 ≤ result }
 {
@@ -252,9 +360,9 @@ fn step_of(periods: u8) -> u8
 }
 
 // Writes the number of a period over its middle.
-#[tactic(auto, unfolding(crate::specs::RosterChart::tick))]
-fn tick(out: &mut List<u8>, sheet: PeriodAxis, top: u64, place: u8) -> Result<(), Memory>
-    ensures { OnOk result (out.new ≡ out.old ++ written (tick sheet top place)) }
+#[tactic(auto, unfolding(crate::specs::RosterChart::number_tick))]
+fn number_tick(out: &mut List<u8>, sheet: PeriodAxis, top: u64, place: u8) -> Result<(), Memory>
+    ensures { OnOk result (out.new ≡ out.old ++ written (number_tick sheet top place)) }
 {
     if place % step_of(sheet.periods) == 0 {
         figure(out, b"tick", middle_of(sheet, place), top, place as u64 + 1)?;
@@ -262,16 +370,72 @@ fn tick(out: &mut List<u8>, sheet: PeriodAxis, top: u64, place: u8) -> Result<()
     Ok(())
 }
 
-/// Writes the numbers of the periods.
+// Writes a time where the period behind so many begins.
+#[tactic(auto, unfolding(crate::specs::RosterChart::time_at))]
+fn time_at(
+    out: &mut List<u8>,
+    sheet: PeriodAxis,
+    top: u64,
+    place: u8,
+    text: &[u8],
+) -> Result<(), Memory>
+    ensures { OnOk result (out.new ≡ out.old ++ written (time_at sheet top place text.now)) }
+{
+    if text.len() > 0 {
+        caption(out, b"tick", left_of(sheet, place), top, text)?;
+    }
+    Ok(())
+}
+
+// Writes the time of the period behind so many, where there is one for it.
+#[tactic(auto, unfolding(crate::specs::RosterChart::time_tick))]
+fn time_tick(
+    out: &mut List<u8>,
+    sheet: PeriodAxis,
+    top: u64,
+    moments: &[List<u8>],
+    place: u8,
+) -> Result<(), Memory>
+    ensures { OnOk result (out.new ≡ out.old ++ written (time_tick sheet top moments.now place)) }
+{
+    match moments.get(place as usize) {
+        None => Ok(()),
+        Some(text) => time_at(out, sheet, top, place, text.as_slice()),
+    }
+}
+
+// Writes the time of the period behind so many, or, where there are no times, its number.
+#[tactic(auto, unfolding(crate::specs::RosterChart::tick))]
+fn tick(
+    out: &mut List<u8>,
+    sheet: PeriodAxis,
+    top: u64,
+    moments: &[List<u8>],
+    place: u8,
+) -> Result<(), Memory>
+    ensures { OnOk result (out.new ≡ out.old ++ written (tick sheet top moments.now place)) }
+{
+    if moments.len() > 0 {
+        return time_tick(out, sheet, top, moments, place);
+    }
+    number_tick(out, sheet, top, place)
+}
+
+/// Writes the times of the periods, or, where there are none, their numbers.
 ///
 /// # Errors
 ///
 /// `Memory` where memory runs out; a part may stand in `out` then.
-pub(crate) fn ticks(out: &mut List<u8>, sheet: PeriodAxis, top: u64) -> Result<(), Memory>
-    ensures { OnOk result (out.new ≡ out.old ++ written (ticks sheet top)) }
+pub(crate) fn ticks(
+    out: &mut List<u8>,
+    sheet: PeriodAxis,
+    top: u64,
+    moments: &[List<u8>],
+) -> Result<(), Memory>
+    ensures { OnOk result (out.new ≡ out.old ++ written (ticks sheet top moments.now)) }
 {
     for place in 0..sheet.periods {
-        tick(out, sheet, top, place)?;
+        tick(out, sheet, top, moments, place)?;
     }
     Ok(())
 }

@@ -10,7 +10,7 @@ pub struct Row {
     pub number: u32,
     /// The number of the employees' group, from 1, or 0 on a day without groups.
     pub group: u8,
-    /// The name of the employees' group, or nothing on a day without groups.
+    /// What the employees' group is called, or nothing on a day without groups.
     pub name: List<u8>,
     /// The byte of each period's code.
     pub word: List<u8>,
@@ -18,6 +18,8 @@ pub struct Row {
     pub price: u64,
     /// How many employees have the shift.
     pub count: u32,
+    /// For each period whether its letter differs from the old shift's; nothing where there is no old roster.
+    pub differs: List<bool>,
 }
 
 /// Returns how long the longest name is.

@@ -75,6 +75,7 @@ white-space:pre-wrap;overflow-wrap:anywhere;\n\
 column-rule:1px solid var(--line);pointer-events:none;background:var(--card);color:var(--ink);\n\
 border:1px solid var(--dim);border-radius:10px;box-shadow:0 8px 30px #0005;\n\
 font:12px/1.45 ui-monospace,'DejaVu Sans Mono',Menlo,Consolas,monospace}\n\
+body:has(.row:focus) .derivation{pointer-events:auto}\n\
 @page{size:A4;margin:10mm}\n\
 @media print{:root{font-size:12px;--page:#fff;--card:#fff;--ink:#000;--dim:#444;--line:#bbb;\n\
 --have:#aab4bf;\n\

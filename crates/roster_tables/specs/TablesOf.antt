@@ -8,7 +8,7 @@ use Rattle.page_text.specs.declared.column.CellCover.{CellCover}
 use Rattle.roster_tables.specs.HeadLines.{heads_of}
 use Rattle.roster_tables.specs.RunLines.{shortages, surplus_lines}
 use Rattle.roster_tables.specs.ShiftLines.{lines_of}
-use Rattle.roster_tables.specs.TotalLines.{totals_of}
+use Rattle.roster_tables.specs.TotalLines.{all_covered, totals_of}
 
 -- the day has groups
 abbrev pub is_grouped : Instance → Bool
@@ -20,6 +20,7 @@ tables_of i d shifts columns = record {
   shifts = lines_of i d shifts;
   heads = heads_of i d shifts;
   totals = totals_of i.grammar.codes d shifts columns;
+  covered = all_covered columns;
   shortages = shortages i.grammar.codes d columns;
   surplus = surplus_lines i.grammar.codes d columns;
 }

@@ -1,5 +1,5 @@
 -- The lines of the table of codes.
-use Rattle.std.specs.Prelude.{ℕ, ◌+◌, List, [], ◌∷◌, nat_eq, if◌then◌else◌}
+use Rattle.std.specs.Prelude.{ℕ, ◌+◌, Option, List, [], ◌∷◌, nat_eq, if◌then◌else◌}
 use Rattle.roster_model.specs.declared.grammar.CodeDef.{CodeDef}
 use Rattle.roster_model.specs.declared.instance.Shift.{Shift}
 use Rattle.page_labels.specs.declared.labels.Labels.{Labels}
@@ -17,6 +17,19 @@ needed code (c ∷ cs) sum = needed code cs (if nat_eq c.code code then sum + c.
 abbrev pub missing : ℕ → List CellCover → ℕ → ℕ
 missing code [] sum = sum
 missing code (c ∷ cs) sum = missing code cs (if nat_eq c.code code then sum + c.short else sum)
+
+-- a sum to which is added how many employees are needed in all, and one of how many are missing
+abbrev pub all_needed : List CellCover → ℕ → ℕ
+all_needed [] sum = sum
+all_needed (c ∷ cs) sum = all_needed cs (sum + c.need)
+
+abbrev pub all_missing : List CellCover → ℕ → ℕ
+all_missing [] sum = sum
+all_missing (c ∷ cs) sum = all_missing cs (sum + c.short)
+
+-- which share of the need is covered in all
+abbrev pub all_covered : List CellCover → Option ℕ
+all_covered columns = covered_share (all_needed columns 0) (all_missing columns 0)
 
 -- the line of the code at a place
 abbrev pub total_line : List CodeDef → Labels → List Shift → List CellCover → ℕ → CodeDef → TotalLine

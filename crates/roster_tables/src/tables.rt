@@ -5,7 +5,7 @@ ghost use Rattle.roster_tables.specs.TablesOf.{is_grouped, tables_of};
 use crate::heads::heads_of;
 use crate::lines::lines_of;
 use crate::runs::{shortages, surplus_lines};
-use crate::totals::totals_of;
+use crate::totals::{all_covered, totals_of};
 use page_labels::Labels;
 use page_tables::Tables;
 use page_text::CellCover;
@@ -44,6 +44,7 @@ pub fn tables_of(
         shifts: lines_of(alloc, instance, labels, shifts)?,
         heads: heads_of(alloc, instance, labels, shifts)?,
         totals: totals_of(alloc, codes, labels, shifts, columns)?,
+        covered: all_covered(columns),
         shortages: shortages(alloc, codes, labels, columns)?,
         surplus: surplus_lines(alloc, codes, labels, columns)?,
     })

@@ -1,5 +1,5 @@
 ghost use Rattle.std.specs.Prelude.{◌≡◌, ◌≤◌, ◌+◌, ◌^◌, ◌++◌, [], ◌∷◌, All, IfOk, OnOk, length};
-ghost use Rattle.roster_tables.specs.TotalLines.{needed, missing, total_line, totals_of};
+ghost use Rattle.roster_tables.specs.TotalLines.{all_covered, all_missing, all_needed, missing, needed, total_line, totals_of};
 
 use crate::called::code_called;
 use page_labels::Labels;
@@ -36,6 +36,40 @@ fn missing(code: u8, columns: &[CellCover]) -> u64
         }
     }
     sum
+}
+
+// Returns how many employees are needed over all codes and periods.
+fn all_needed(columns: &[CellCover]) -> u64
+    requires { length columns.now ≤ 768 }
+    ensures value { result ≡ all_needed columns.now 0 }
+    ensures small { result ≤ 2 ^ 50 }
+{
+    let mut sum: u64 = 0;
+    for column in columns {
+        sum += column.need as u64;
+    }
+    sum
+}
+
+// Returns how many employees are missing over all codes and periods.
+fn all_missing(columns: &[CellCover]) -> u64
+    requires { length columns.now ≤ 768 }
+    ensures { result ≡ all_missing columns.now 0 }
+{
+    let mut sum: u64 = 0;
+    for column in columns {
+        sum += column.short as u64;
+    }
+    sum
+}
+
+/// Returns which share of the need is covered in all, in tenths of a percent, rounded down, or none where nothing
+/// is needed.
+pub fn all_covered(columns: &[CellCover]) -> Option<u64>
+    requires { length columns.now ≤ 768 }
+    ensures { result ≡ all_covered columns.now }
+{
+    covered_share(all_needed(columns), all_missing(columns))
 }
 
 // Returns the line of a code.

@@ -7,5 +7,5 @@ use Rattle.page_tables.proofs.lists.run_end.Goals as goal
 pub returns : goal.returns
 unfolding run_end
 returns c =
-    on_ok_weaker c.marks.result (λ e. e ∙ rw (c.in_ok-labelled-2.ensures, c.in_ok-labelled.ensures)
+    on_ok_weaker c.marks.result (λ e. e ∙ rw (c.in_ok-labelled_amount.ensures, c.in_ok-labelled.ensures)
     (simp (append_assoc, append-nil, flat_map-append))) c.marks.ensures

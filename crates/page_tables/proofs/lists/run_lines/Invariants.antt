@@ -5,4 +5,4 @@ use Rattle.page_tables.specs.RunLists.{run_line}
 use Rattle.page_tables.proofs.lists.run_lines.Given as goal
 
 abbrev pub invariant-loop-line : goal.invariant-loop-line
-invariant-loop-line l = l.out ≡ l.fn.out ++ written (flat_map run_line (take l.line-index l.lines))
+invariant-loop-line l = l.out ≡ l.fn.out ++ written (flat_map (run_line l.money) (take l.line-index l.lines))

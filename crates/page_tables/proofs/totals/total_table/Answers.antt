@@ -7,5 +7,5 @@ use Rattle.page_tables.proofs.totals.total_table.Goals as goal
 pub returns : goal.returns
 unfolding total_table
 returns c =
-    on_ok_weaker c.marks-2.result (λ e. e ∙ rw (c.in_ok-total_lines.ensures, c.in_ok-marks.ensures, c.table_start.ensures)
+    on_ok_weaker c.marks-2.result (λ e. e ∙ rw (c.in_ok-all_line.ensures, c.in_ok-total_lines.ensures, c.in_ok-marks.ensures, c.table_start.ensures)
     (simp (append_assoc, append-nil, flat_map-append))) c.marks-2.ensures

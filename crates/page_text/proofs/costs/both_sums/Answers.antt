@@ -1,10 +1,11 @@
 use Rattle.std.proofs.lemmas.Result.{on_ok_weaker}
 use Rattle.std.proofs.Common.{◌∙◌, append_assoc, append-nil}
+use Rattle.std.proofs.lemmas.Grind.{flat_map-append}
 use Rattle.page_text.specs.Costs.{both_sums}
 use Rattle.page_text.proofs.costs.both_sums.Goals as goal
 
 pub returns : goal.returns
 unfolding both_sums
 returns c =
-    on_ok_weaker c.marks.result (λ e. e ∙ rw (c.in_ok-labelled-2.ensures, c.in_ok-labelled.ensures)
-    (simp (append_assoc, append-nil))) c.marks.ensures
+    on_ok_weaker c.marks.result (λ e. e ∙ rw (c.in_ok-labelled_amount-2.ensures, c.in_ok-labelled_amount.ensures)
+    (simp (append_assoc, append-nil, flat_map-append))) c.marks.ensures

@@ -7,5 +7,5 @@ use Rattle.page_text.proofs.costs.demanded_cost.Goals as goal
 pub returns : goal.returns
 unfolding demanded_cost
 returns c =
-    on_ok_weaker c.marks-2.result (λ e. e ∙ rw (c.in_ok-labelled.ensures, c.in_ok-chip.ensures, c.in_ok-marks.ensures, c.penalties.ensures)
+    on_ok_weaker c.marks-2.result (λ e. e ∙ rw (c.in_ok-labelled_amount.ensures, c.in_ok-chip.ensures, c.in_ok-marks.ensures, c.penalties.ensures)
     (simp (append_assoc, append-nil, flat_map-append))) c.marks-2.ensures

@@ -5,6 +5,6 @@ use Rattle.page_text.proofs.page.derivations.Given as goal
 
 abbrev pub invariant-loop-text : goal.invariant-loop-text
 invariant-loop-text l = record {
-  out : l.out ≡ l.fn.out ++ written (each_from (derivation l.rows) 0 (take l.text-index l.texts));
+  out : l.out ≡ l.fn.out ++ written (each_from (derivation l.money l.rows) 0 (take l.text-index l.texts));
   place : l.place ≡ l.text-index;
 }

@@ -5,4 +5,4 @@ use Rattle.page_text.specs.RosterChart.{tick}
 use Rattle.page_text.proofs.roster_chart.ticks.Given as goal
 
 abbrev pub invariant-loop-place : goal.invariant-loop-place
-invariant-loop-place l = l.out ≡ l.fn.out ++ written (flat_map (tick l.sheet l.top) (places l.place))
+invariant-loop-place l = l.out ≡ l.fn.out ++ written (flat_map (tick l.sheet l.top l.moments) (places l.place))

@@ -1,0 +1,91 @@
+ghost use Rattle.std.specs.Prelude.{◌≡◌, ◌≤◌, ◌+◌, ◌*◌, ◌^◌, map, IfOk};
+ghost use Rattle.page_parts.specs.Elements.{places};
+ghost use Rattle.roster_tables.specs.AxisTimes.{axis_time, axis_times, is_hour, is_hourly, is_shown};
+
+use page_labels::{Clock, put_time};
+use page_text::step_of;
+use roster_model::{List, Memory};
+use std::alloc::Global;
+
+// Returns how many minutes so many periods have.
+fn length_of(clock: Clock, periods: u8) -> u64
+    ensures value { result ≡ clock.minutes * periods }
+    ensures small { result ≤ 2 ^ 40 }
+{
+    u64::from(clock.minutes) * u64::from(periods)
+}
+
+// Whether whole hours begin periods, and stand as far apart as numbers of periods would, where not each period
+// has one.
+fn is_hourly(clock: Clock, periods: u8) -> bool
+    ensures { result ≡ is_hourly clock periods }
+{
+    let minutes = clock.minutes.max(1);
+    let step = step_of(periods) as u32;
+    1 < step
+        && 60 % minutes == 0
+        && clock.begin % minutes == 0
+        && step <= 60 / minutes
+        && 60 / minutes < 25
+}
+
+// Whether the period behind so many begins with a whole hour.
+fn is_hour(clock: Clock, place: u8) -> bool
+    ensures { result ≡ is_hour clock place }
+{
+    (clock.begin as u64 + length_of(clock, place)) % 60 == 0
+}
+
+// Whether a time stands where the period behind so many begins.
+fn is_shown(clock: Clock, periods: u8, place: u8) -> bool
+    ensures { result ≡ is_shown clock periods place }
+{
+    if is_hourly(clock, periods) {
+        is_hour(clock, place)
+    } else {
+        place % step_of(periods) == 0
+    }
+}
+
+// Returns the time where the period behind so many begins, or nothing.
+#[tactic(auto, unfolding(crate::specs::AxisTimes::axis_time))]
+fn axis_time(alloc: Global, clock: Clock, periods: u8, place: u8) -> Result<List<u8>, Memory>
+    ensures { IfOk result (λ text. text ≡ axis_time clock periods place) }
+{
+    let mut text = List::new(alloc);
+    if is_shown(clock, periods, place) {
+        put_time(&mut text, clock, place)?;
+    }
+    Ok(text)
+}
+
+// Returns for each period its time or nothing.
+fn clock_times(alloc: Global, clock: Clock, periods: u8) -> Result<List<List<u8>>, Memory>
+    ensures { IfOk result (λ times. times ≡ map (axis_time clock periods) (places periods)) }
+{
+    let mut times = List::new(alloc);
+    for place in 0..periods {
+        times.push(axis_time(alloc, clock, periods, place)?)?;
+    }
+    Ok(times)
+}
+
+/// Returns for each period the time that stands on the axes of the charts where it begins, or nothing: at whole
+/// hours, where they begin periods and have room, else where numbers of periods would stand. Without a clock there
+/// is none at all.
+///
+/// # Errors
+///
+/// `Memory` where memory runs out; nothing is kept then.
+pub fn axis_times(
+    alloc: Global,
+    clock: Option<Clock>,
+    periods: u8,
+) -> Result<List<List<u8>>, Memory>
+    ensures { IfOk result (λ times. times ≡ axis_times clock periods) }
+{
+    match clock {
+        None => Ok(List::new(alloc)),
+        Some(clock) => clock_times(alloc, clock, periods),
+    }
+}
