@@ -20,7 +20,7 @@ use Rattle.rules_text.specs.declared.fault.RulesFault.{RulesFault}
 use Rattle.rules_text.specs.declared.fault.RulesFault.TheVariants as rules_faults
 use Rattle.shelf.specs.Shelf.{Texts, Told}
 use Rattle.answers.specs.declared.answer.Answer.{Answer}
-use Rattle.answers.specs.Asked.{CertAnswers, ProofAnswers, TextAnswers, AnswersThird, DemandAnswers, AnswersDemand, RulesAnswers, AnswersTexts}
+use Rattle.answers.specs.Asked.{CertAnswers, ProofAnswers, TextAnswers, AnswersThird, DemandAnswers, AnswersDemand, RulesAnswers, AnswersTexts, TextsAnswers}
 use Rattle.answers.specs.Asked as asked
 use Rattle.answers.specs.Fetch.{IsAnswer, IsFetch, NoAnswer}
 use Rattle.answers.specs.Reader.{IsReader, HoldsAll}
@@ -46,6 +46,14 @@ module _ (A : TextAnswers) where
   refused_rules held text demand_name proof_name fault (Ok x) h reading status output a =
       let s : status ≡ 3 = a.0 ∙ h.1 in
       rw s (asked.RulesAnswers.refused output (record { fault = fault; reading = reading h.0; line = a.1 ∙ h.2 }))
+
+  refused_texts : (held : Option Texts) (rules demand name : List ℕ) (fault : RulesFault) (r : Result Answer Memory)
+      → IfOk r (λ a. (fault ≢ rules_faults.Memory) × (a.status ≡ 3) × (a.output ≡ fault_line fault)) → (fault ≢ rules_faults.Memory → IsReading rules (Err fault))
+      → (status : ℕ) (output : List ℕ) → IsAnswer r status output → TextsAnswers A held rules demand name status output
+  refused_texts held rules demand name fault (Err e) h reading status output a = absurd a
+  refused_texts held rules demand name fault (Ok x) h reading status output a =
+      let s : status ≡ 3 = a.0 ∙ h.1 in
+      rw s (asked.TextsAnswers.refused output (record { fault = fault; reading = reading h.0; line = a.1 ∙ h.2 }))
 
 module _ (A : CertAnswers) where
   pub text-refused : (i : Instance) (text : List ℕ) (fault : ProofFault) (r : Result Answer Memory) → (fault ≢ proof_faults.Memory → proof_of i text ≡ Err fault)
@@ -78,6 +86,19 @@ module _ (A : TextAnswers) (before after : Told) (status : ℕ) where
   rules-accepted text demand_name proof_name g reading sound reader =
       widen (AnswersDemand A before.held g demand_name proof_name) (RulesAnswers A before.held text demand_name proof_name)
       (λ s o a. asked.RulesAnswers.accepted g s o (record { reading = reading; sound = sound }) a) (demand_name ∷ proof_name ∷ []) (demand_name ∷ proof_name ∷ []) before after status (λ h. h) reader
+
+  pub texts-refused : (rules demand name : List ℕ) (fault : RulesFault) (r : Result Answer Memory)
+      → IfOk r (λ a. (fault ≢ rules_faults.Memory) × (a.status ≡ 3) × (a.output ≡ fault_line fault)) → (fault ≢ rules_faults.Memory → IsReading rules (Err fault))
+      → IsReader (IsAnswer r) [] before after status → IsReader (TextsAnswers A before.held rules demand name) (name ∷ []) before after status
+  texts-refused rules demand name fault r h reading reader =
+      widen (IsAnswer r) (TextsAnswers A before.held rules demand name) (refused_texts A before.held rules demand name fault r h reading) (name ∷ []) [] before after status (no_names before.held (name ∷ [])) reader
+
+  pub texts-accepted : (rules demand name : List ℕ) (g : Grammar) → IsReading rules (Ok g) → IsSound g
+      → IsReader (DemandAnswers A before.held g demand name) (name ∷ []) before after status
+      → IsReader (TextsAnswers A before.held rules demand name) (name ∷ []) before after status
+  texts-accepted rules demand name g reading sound reader =
+      widen (DemandAnswers A before.held g demand name) (TextsAnswers A before.held rules demand name)
+      (λ s o a. asked.TextsAnswers.accepted g s o (record { reading = reading; sound = sound }) a) (name ∷ []) (name ∷ []) before after status (λ h. h) reader
 
   -- a demand text that was fetched
   pub demand-read : (g : Grammar) (name proof_name text : List ℕ) (middle : Told) → IsFetch name before middle text

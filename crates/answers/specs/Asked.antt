@@ -37,7 +37,15 @@ pub data DemandAnswers (A : TextAnswers) (held : Option Texts) (g : Grammar) (te
       → DemandAnswers A held g text name status output
   refused : (output : List ℕ) → SaysDemandFault g text output → DemandAnswers A held g text name 4 output
 
--- the same, where the demand text stands under a name
+-- the answers to a rules text and a demand text, and then to the third text under a name
+pub data TextsAnswers (A : TextAnswers) (held : Option Texts) (rules demand name : List ℕ) :
+    ℕ → List ℕ → Type 0 where
+  accepted : (g : Grammar) (status : ℕ) (output : List ℕ) → IsGrammarOf rules g
+      → DemandAnswers A held g demand name status output
+      → TextsAnswers A held rules demand name status output
+  refused : (output : List ℕ) → SaysFault rules output → TextsAnswers A held rules demand name 3 output
+
+-- the answers to a demand text under a name, and then to the third text under another
 pub record AnswersDemand (A : TextAnswers) (held : Option Texts) (g : Grammar) (name third_name : List ℕ)
     (status : ℕ) (output : List ℕ) : Type 0 where
   pub text : List ℕ

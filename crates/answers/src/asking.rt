@@ -1,7 +1,7 @@
 ghost use Rattle.std.specs.Prelude.{[], ◌∷◌};
 ghost use Rattle.roster_model.specs.Sound.{IsPlain, IsSound};
 ghost use Rattle.roster_model.specs.SoundInstance.{IsSoundInstance};
-ghost use Rattle.answers.specs.Asked.{AnswersDemand, AnswersThird, DemandAnswers, RulesAnswers};
+ghost use Rattle.answers.specs.Asked.{AnswersDemand, AnswersThird, DemandAnswers, RulesAnswers, TextsAnswers};
 ghost use Rattle.answers.specs.Reader.{IsReader};
 ghost use Rattle.answers.specs.TextCommands.{TextCommand};
 
@@ -52,6 +52,25 @@ fn ask_demand_text<S: Shelf, Q: Question>(
     match read_demand(alloc, grammar, text) {
         Ok(instance) => ask_third(alloc, shelf, &instance, third, question),
         Err(fault) => say_answer_to(shelf, text, demand_refusal(alloc, fault)),
+    }
+}
+
+/// Asks something of the third text under a name by a rules text and a demand text, and says the answer, or why
+/// a text is refused. The texts are read in this order.
+pub fn ask_texts<S: Shelf, Q: Question>(
+    alloc: Global,
+    shelf: &mut S,
+    rules: &[u8],
+    demand: &[u8],
+    third: &str,
+    question: &Q,
+) -> u8
+    ensures { IsReader (TextsAnswers (Q.answers question.now) (S.told shelf.old).held
+        rules.now demand.now third.now) (third.now ∷ []) (S.told shelf.old) (S.told shelf.new) result }
+{
+    match read_rules(alloc, rules) {
+        Ok(grammar) => ask_demand_text(alloc, shelf, grammar, demand, third, question),
+        Err(fault) => say_answer_to(shelf, rules, rules_refusal(alloc, fault)),
     }
 }
 

@@ -11,7 +11,7 @@ mod refusals;
 mod saying;
 
 pub use answer::Answer;
-pub use asking::{ask, ask_rules_text};
+pub use asking::{ask, ask_rules_text, ask_texts};
 pub use encoding::note_encoding;
 pub use fetch::{fetched, say_answer, say_answer_to};
 pub use question::Question;

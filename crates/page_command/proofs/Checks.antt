@@ -1,71 +1,152 @@
--- The answers to a proof text, from what the parts answer.
-use Rattle.std.proofs.Common.{◌≡◌, ◌≢◌, ℕ, List, Option, Result, Ok, Err, IfOk}
+-- The answers to a proof text or a report, from what the parts answer.
+use Rattle.std.proofs.Common.{◌≡◌, ◌≢◌, ℕ, true, false, List, Option, Some, Result, Ok, Err, IfOk}
 use Rattle.roster_model.specs.declared.instance.Instance.{Instance}
+use Rattle.roster_model.specs.declared.instance.Shift.{Shift}
 use Rattle.roster_model.specs.declared.memory.Memory.{Memory}
 use Rattle.certificates.specs.declared.cert.Cert.{Cert}
+use Rattle.certificates.specs.declared.verdict.Verdict.{Verdict}
 use Rattle.certificates.specs.declared.verdict.Verdict.TheVariants.{Yes, No}
 use Rattle.certificates.specs.declared.why.Why.{Why}
 use Rattle.certificate_laws.specs.Accepted.{Accepts}
 use Rattle.proof_check.specs.declared.judged.Judged.TheVariants.{Said, Fault}
 use Rattle.proof_check.specs.Judging.{IsJudged}
 use Rattle.proof_pieces.specs.CertOf.{proof_of, proof_fault}
-use Rattle.answer_texts.specs.VerdictText.{verdict_text}
-use Rattle.page_labels.specs.FaultLine as label
-use Rattle.page_labels.specs.LabelsOf.{labels_of}
-use Rattle.page_labels.specs.declared.fault.LabelFault.{LabelFault}
-use Rattle.page_labels.specs.declared.fault.LabelFault.TheVariants.{Memory as none_left}
-use Rattle.page_labels.specs.declared.labels.Labels.{Labels}
-use Rattle.certificates.specs.declared.verdict.Verdict.{Verdict}
 use Rattle.proof_pieces.specs.FaultLine as proof
 use Rattle.proof_pieces.specs.declared.fault.PieceFault.{PieceFault}
-use Rattle.page_command.specs.Check.{Judgement, LabelAnswers, yes, no}
-use Rattle.page_command.specs.Check as answers
-use Rattle.page_command.specs.Shown.{IsShown}
-use Rattle.page_command.specs.declared.kind.Kind.{Kind}
+use Rattle.answer_texts.specs.VerdictText.{verdict_text}
+use Rattle.page_labels.specs.LabelsOf.{labels_of}
+use Rattle.page_labels.specs.declared.labels.Labels.{Labels}
+use Rattle.roster_value.specs.Answers.{StatedAnswer}
+use Rattle.roster_value.specs.Answers as values
+use Rattle.roster_value.specs.Values.{AreCauses, IsValued}
+use Rattle.roster_value.specs.declared.cause.Cause.{Cause}
+use Rattle.roster_value.specs.declared.valued.Valued.{Valued}
+use Rattle.roster_value.proofs.ValuedRosters.{value-costs}
+use Rattle.stated_rosters.specs.FaultLine as roster
+use Rattle.stated_rosters.specs.RosterOf.{roster_of}
+use Rattle.stated_rosters.specs.declared.fault.RosterFault.{RosterFault}
+use Rattle.stated_rosters.specs.declared.fault.RosterFault.TheVariants as roster_faults
 use Rattle.answers.specs.declared.answer.Answer.{Answer}
 use Rattle.answers.specs.Asked.{ProofAnswers}
-use Rattle.answers.specs.Asked as check
-
-pub proof-drawn : (k : Kind) (d : Labels) (i : Instance) (text : List ℕ) (cost bound : Option ℕ) (r : Result Answer Memory) → IsJudged i text (Said (Yes cost bound))
-    → IfOk r (λ a. (a.status ≡ 0) × ((c : Cert) → proof_of i text ≡ Ok c → IsShown k d i c a.output)) → IfOk r (λ a. ProofAnswers (Judgement k d) i text a.status a.output)
-proof-drawn k d i text cost bound (Err e) judged h = tt
-proof-drawn k d i text cost bound (Ok a) judged h =
-    rw h.0 (check.ProofAnswers.accepted judged.0 0 a.output judged.1 (yes a.output (record { accepted = judged.2.0; trusted = judged.2.3; shown = h.1 judged.0 judged.1 })))
-
-pub proof-refused-why : (k : Kind) (d : Labels) (i : Instance) (text : List ℕ) (why : Why) (r : Result Answer Memory) → IsJudged i text (Said (No why))
-    → IfOk r (λ a. (a.status ≡ 1) × (a.output ≡ verdict_text (No why))) → IfOk r (λ a. ProofAnswers (Judgement k d) i text a.status a.output)
-proof-refused-why k d i text why (Err e) judged h = tt
-proof-refused-why k d i text why (Ok a) judged h =
-    rw h.0 (check.ProofAnswers.accepted judged.0 1 a.output judged.1 (no a.output (record { why = why; cause = judged.2; line = h.1 })))
+use Rattle.answers.specs.Asked as asked
+use Rattle.page_command.specs.Check.{BesideAnswers, LabelAnswers, OldAnswers, RefusedLabels, SaysLabelFault}
+use Rattle.page_command.specs.Check as check
+use Rattle.page_command.specs.Judgement.{Judgement, StatedJudgement}
+use Rattle.page_command.specs.Judgement as judgement
+use Rattle.page_command.specs.Old.{RefusedOld, SaysOldFault, old_of}
+use Rattle.page_command.specs.Report.{LineAnswers, ReportAnswers, RosterAnswers, is_report}
+use Rattle.page_command.specs.Report as report
+use Rattle.page_command.specs.Shown.{IsShown, certified, stated}
+use Rattle.page_command.specs.declared.kind.Kind.{Kind}
 
 -- the text tells a certificate that is accepted, where the verdict is a yes
 pub yes-accepted : (i : Instance) (text : List ℕ) (cost bound : Option ℕ) → IsJudged i text (Said (Yes cost bound)) → (c : Cert) × (proof_of i text ≡ Ok c) × Accepts i c
 yes-accepted i text cost bound judged = (judged.0, judged.1, judged.2.0)
 
+module _ (k : Kind) (d : Labels) (old : Option (List Shift)) (i : Instance) where
+  pub proof-drawn : (text : List ℕ) (cost bound : Option ℕ) (r : Result Answer Memory) → IsJudged i text (Said (Yes cost bound))
+      → IfOk r (λ a. (a.status ≡ 0) × ((c : Cert) → proof_of i text ≡ Ok c → IsShown k d i (certified c) old a.output))
+      → IfOk r (λ a. ProofAnswers (Judgement k d old) i text a.status a.output)
+  proof-drawn text cost bound (Err e) judged h = tt
+  proof-drawn text cost bound (Ok a) judged h =
+      rw h.0 (asked.ProofAnswers.accepted judged.0 0 a.output judged.1 (judgement.Judgement.yes a.output (record { accepted = judged.2.0; trusted = judged.2.3; shown = h.1 judged.0 judged.1 })))
+
+  pub proof-refused-why : (text : List ℕ) (why : Why) (r : Result Answer Memory) → IsJudged i text (Said (No why))
+      → IfOk r (λ a. (a.status ≡ 1) × (a.output ≡ verdict_text (No why))) → IfOk r (λ a. ProofAnswers (Judgement k d old) i text a.status a.output)
+  proof-refused-why text why (Err e) judged h = tt
+  proof-refused-why text why (Ok a) judged h =
+      rw h.0 (asked.ProofAnswers.accepted judged.0 1 a.output judged.1 (judgement.Judgement.no a.output (record { why = why; cause = judged.2; line = h.1 })))
+
+  -- a stated roster
+  pub stated-allowed : (shifts : List Shift) (v : Valued) (r : Result Answer Memory) → IsValued i shifts v → IfOk r (λ a. (a.status ≡ 0) × IsShown k d i (stated v) old a.output)
+      → IfOk r (λ a. StatedJudgement k d old i shifts a.status a.output)
+  stated-allowed shifts v (Err e) is h = tt
+  stated-allowed shifts v (Ok a) is h =
+      rw h.0 (judgement.StatedJudgement.allowed a.output (record { value = v; is = is; costs = value-costs i shifts v is; shown = h.1 }))
+
+  causes-told : (shifts : List Shift) (causes : List Cause) (s : ℕ) (output : List ℕ) → AreCauses i shifts causes → StatedAnswer i shifts s output → StatedJudgement k d old i shifts s output
+  causes-told shifts causes s output are (values.StatedAnswer.allowed x h) = absurd (are.never h.value.cost h.costs)
+  causes-told shifts causes s output are (values.StatedAnswer.refused x h) = judgement.StatedJudgement.not_allowed output h
+
+  pub stated-refused : (shifts : List Shift) (causes : List Cause) (r : Result Answer Memory) → AreCauses i shifts causes → IfOk r (λ a. StatedAnswer i shifts a.status a.output)
+      → IfOk r (λ a. StatedJudgement k d old i shifts a.status a.output)
+  stated-refused shifts causes (Err e) are h = tt
+  stated-refused shifts causes (Ok a) are h = causes-told shifts causes a.status a.output are h
+
+  -- a report
+  pub report-read : (text : List ℕ) (shifts : List Shift) (r : Result Answer Memory) → roster_of i text ≡ Ok shifts → IfOk r (λ a. StatedJudgement k d old i shifts a.status a.output)
+      → IfOk r (λ a. ReportAnswers k d old i text a.status a.output)
+  report-read text shifts (Err e) reading h = tt
+  report-read text shifts (Ok a) reading h = report.ReportAnswers.accepted shifts a.status a.output reading h
+
+  pub report-refused : (text : List ℕ) (fault : RosterFault) (r : Result Answer Memory) → (fault ≢ roster_faults.Memory → roster_of i text ≡ Err fault)
+      → IfOk r (λ a. (fault ≢ roster_faults.Memory) × (a.status ≡ 5) × (a.output ≡ roster.fault_line fault)) → IfOk r (λ a. ReportAnswers k d old i text a.status a.output)
+  report-refused text fault (Err e) reading h = tt
+  report-refused text fault (Ok a) reading h = rw h.1 (report.ReportAnswers.refused a.output (record { fault = fault; reading = reading h.0; line = h.2 }))
+
+  -- a proof text, or a report in its place
+  pub by-proof : (text : List ℕ) (r : Result Answer Memory) → is_report text ≡ false → IfOk r (λ a. ProofAnswers (Judgement k d old) i text a.status a.output)
+      → IfOk r (λ a. RosterAnswers k d old i text a.status a.output)
+  by-proof text (Err e) is h = tt
+  by-proof text (Ok a) is h = report.RosterAnswers.by_proof a.status a.output is h
+
+  pub by-report : (text : List ℕ) (r : Result Answer Memory) → is_report text ≡ true → IfOk r (λ a. ReportAnswers k d old i text a.status a.output)
+      → IfOk r (λ a. RosterAnswers k d old i text a.status a.output)
+  by-report text (Err e) is h = tt
+  by-report text (Ok a) is h = report.RosterAnswers.by_report a.status a.output is h
+
+-- a line in place of what would be shown
+module _ (i : Instance) (text line : List ℕ) where
+  pub line-for-proof : (v : Verdict) (r : Result Answer Memory) → is_report text ≡ false → IsJudged i text (Said v) → IfOk r (λ a. (a.status ≡ 5) × (a.output ≡ line))
+      → IfOk r (λ a. LineAnswers i text line a.status a.output)
+  line-for-proof v (Err e) is judged h = tt
+  line-for-proof v (Ok a) is judged h = rw h.0 (report.LineAnswers.line_said a.output (report.IsRead.proof_read judged.0 is judged.1) h.1)
+
+  pub line-proof-refused : (fault : PieceFault) (r : Result Answer Memory) → is_report text ≡ false → IsJudged i text (Fault fault)
+      → IfOk r (λ a. (a.status ≡ 5) × (a.output ≡ proof.fault_line (proof_fault fault))) → IfOk r (λ a. LineAnswers i text line a.status a.output)
+  line-proof-refused fault (Err e) is judged h = tt
+  line-proof-refused fault (Ok a) is judged h =
+      rw h.0 (report.LineAnswers.text_refused a.output (report.SaysTextFault.proof_refused is (record { fault = proof_fault fault; reading = judged; line = h.1 })))
+
+  pub line-for-report : (shifts : List Shift) (r : Result Answer Memory) → is_report text ≡ true → roster_of i text ≡ Ok shifts → IfOk r (λ a. (a.status ≡ 5) × (a.output ≡ line))
+      → IfOk r (λ a. LineAnswers i text line a.status a.output)
+  line-for-report shifts (Err e) is reading h = tt
+  line-for-report shifts (Ok a) is reading h = rw h.0 (report.LineAnswers.line_said a.output (report.IsRead.report_read shifts is reading) h.1)
+
+  pub line-report-refused : (fault : RosterFault) (r : Result Answer Memory) → is_report text ≡ true → (fault ≢ roster_faults.Memory → roster_of i text ≡ Err fault)
+      → IfOk r (λ a. (fault ≢ roster_faults.Memory) × (a.status ≡ 5) × (a.output ≡ roster.fault_line fault)) → IfOk r (λ a. LineAnswers i text line a.status a.output)
+  line-report-refused fault (Err e) is reading h = tt
+  line-report-refused fault (Ok a) is reading h =
+      rw h.1 (report.LineAnswers.text_refused a.output (report.SaysTextFault.report_refused is (record { fault = fault; reading = reading h.0; line = h.2 })))
+
+-- a labels text or an old text that is refused
+pub labels-line : (labels : List ℕ) (i : Instance) (text line : List ℕ) (r : Result Answer Memory) → SaysLabelFault i labels line
+    → IfOk r (λ a. LineAnswers i text line a.status a.output) → IfOk r (λ a. RefusedLabels labels i text a.status a.output)
+labels-line labels i text line (Err e) fault h = tt
+labels-line labels i text line (Ok a) fault h = record { line = line; fault = fault; answers = h }
+
+pub old-line : (old : List ℕ) (i : Instance) (text line : List ℕ) (r : Result Answer Memory) → SaysOldFault i old line
+    → IfOk r (λ a. LineAnswers i text line a.status a.output) → IfOk r (λ a. RefusedOld old i text a.status a.output)
+old-line old i text line (Err e) fault h = tt
+old-line old i text line (Ok a) fault h = record { line = line; fault = fault; answers = h }
+
 -- under labels
-pub answered : (k : Kind) (labels : List ℕ) (d : Labels) (i : Instance) (text : List ℕ) (r : Result Answer Memory) → labels_of i labels ≡ Ok d
-    → IfOk r (λ a. ProofAnswers (Judgement k d) i text a.status a.output) → IfOk r (λ a. LabelAnswers k labels i text a.status a.output)
-answered k labels d i text (Err e) reading h = tt
-answered k labels d i text (Ok a) reading h = answers.LabelAnswers.answered d a.status a.output reading h
+module _ (k : Kind) (d : Labels) (i : Instance) (text : List ℕ) where
+  pub old-read : (old : List ℕ) (shifts : List Shift) (r : Result Answer Memory) → old_of i old ≡ Ok shifts → IfOk r (λ a. RosterAnswers k d (Some shifts) i text a.status a.output)
+      → IfOk r (λ a. OldAnswers k d old i text a.status a.output)
+  old-read old shifts (Err e) reading h = tt
+  old-read old shifts (Ok a) reading h = check.OldAnswers.read shifts a.status a.output reading h
 
-pub labels-refused : (k : Kind) (labels : List ℕ) (i : Instance) (text : List ℕ) (v : Verdict) (fault : LabelFault) (r : Result Answer Memory) → IsJudged i text (Said v)
-    → (fault ≢ none_left → labels_of i labels ≡ Err fault) → IfOk r (λ a. (fault ≢ none_left) × (a.status ≡ 5) × (a.output ≡ label.fault_line fault))
-    → IfOk r (λ a. LabelAnswers k labels i text a.status a.output)
-labels-refused k labels i text v fault (Err e) judged reading h = tt
-labels-refused k labels i text v fault (Ok a) judged reading h =
-    rw h.1 (answers.LabelAnswers.labels_refused judged.0 a.output judged.1 (record { fault = fault; reading = reading h.0; line = h.2 }))
+  pub old-refused : (old : List ℕ) (r : Result Answer Memory) → IfOk r (λ a. RefusedOld old i text a.status a.output) → IfOk r (λ a. OldAnswers k d old i text a.status a.output)
+  old-refused old (Err e) h = tt
+  old-refused old (Ok a) h = check.OldAnswers.old_refused a.status a.output h
 
-pub proof-refused-under : (k : Kind) (labels : List ℕ) (i : Instance) (text : List ℕ) (fault : PieceFault) (r : Result Answer Memory) → IsJudged i text (Fault fault)
-    → IfOk r (λ a. (a.status ≡ 5) × (a.output ≡ proof.fault_line (proof_fault fault))) → IfOk r (λ a. LabelAnswers k labels i text a.status a.output)
-proof-refused-under k labels i text fault (Err e) judged h = tt
-proof-refused-under k labels i text fault (Ok a) judged h =
-    rw h.0 (answers.LabelAnswers.proof_refused a.output (record { fault = proof_fault fault; reading = judged; line = h.1 }))
+  pub labels-read : (labels : List ℕ) (old : Option (List ℕ)) (r : Result Answer Memory) → labels_of i labels ≡ Ok d → IfOk r (λ a. BesideAnswers k d old i text a.status a.output)
+      → IfOk r (λ a. LabelAnswers k labels old i text a.status a.output)
+  labels-read labels old (Err e) reading h = tt
+  labels-read labels old (Ok a) reading h = check.LabelAnswers.answered d a.status a.output reading h
 
--- what holds for each kind
-pub all-kinds : (P : Kind → Answer → Type 0) (r : Result Answer Memory) → ((k : Kind) → IfOk r (P k)) → IfOk r (λ a. (k : Kind) → P k a)
-all-kinds P (Err e) h = tt
-all-kinds P (Ok a) h = h
-
-pub one-kind : (P : Kind → Answer → Type 0) (k : Kind) (r : Result Answer Memory) → IfOk r (λ a. (n : Kind) → P n a) → IfOk r (P k)
-one-kind P k (Err e) h = tt
-one-kind P k (Ok a) h = h k
+pub labels-refused : (k : Kind) (labels : List ℕ) (old : Option (List ℕ)) (i : Instance) (text : List ℕ) (r : Result Answer Memory) → IfOk r (λ a. RefusedLabels labels i text a.status a.output)
+    → IfOk r (λ a. LabelAnswers k labels old i text a.status a.output)
+labels-refused k labels old i text (Err e) h = tt
+labels-refused k labels old i text (Ok a) h = check.LabelAnswers.labels_refused a.status a.output h

@@ -12,12 +12,12 @@ use Rattle.roster_model.proofs.CostBounds.{penalty_le}
 use Rattle.roster_model.proofs.EachLemmas.{Each-map, each_all}
 use Rattle.roster_model.proofs.SoundCells.{cells_of_day, few_cells}
 use Rattle.arc_laws.proofs.FoldsLemmas.{count-le-length}
-use Rattle.certificates.specs.Sound.{IsSoundCert}
-use Rattle.certificates.specs.declared.cert.Cert.{Cert}
 use Rattle.certificates.specs.RosterCauses.{duties}
 use Rattle.page_text.specs.Columns.{column_of}
 use Rattle.page_text.specs.Costs.{AreDayColumns}
 use Rattle.page_text.specs.declared.column.CellCover.{CellCover}
+use Rattle.roster_report.specs.Reports.{HasSoundShifts}
+use Rattle.page_command.specs.declared.roster.ShownRoster.{ShownRoster}
 use Rattle.page_command.specs.Draw.{columns_of}
 
 small : (i : Instance) (ds : List Duty) → length ds ≤ 64 → (c : Cell) → IsDayCell i.grammar c → (column_of i.grammar ds c).penalty ≤ 1280000
@@ -25,11 +25,11 @@ small i ds few c day =
     let most = count-le-length (λ (d : Duty). covers_cell i.grammar c d.word) ds in
     penalty_le c (covered i.grammar c ds) (omega (arith, most, few)) day.limited
 
-by_cost : (i : Instance) (c : Cert) (o : Option ℕ) → IsSoundInstance i → IsSoundCert i c → AreDayColumns (columns_of i c o)
-by_cost i c None sound cert = record { few = omega arith; small = All-nil (λ (x : CellCover). x.penalty ≤ 1280000) }
-by_cost i c (Some cost) sound cert =
-    let ds = duties c.shifts in
-    let short : length ds ≤ 64 = omega (arith, length-map c.shifts duty, cert.few) in
+by_cost : (i : Instance) (r : ShownRoster) (o : Option ℕ) → IsSoundInstance i → HasSoundShifts i r.shifts → AreDayColumns (columns_of i r o)
+by_cost i r None sound shifts = record { few = omega arith; small = All-nil (λ (x : CellCover). x.penalty ≤ 1280000) }
+by_cost i r (Some cost) sound shifts =
+    let ds = duties r.shifts in
+    let short : length ds ≤ 64 = omega (arith, length-map r.shifts duty, shifts.few) in
     let day = cells_of_day i.grammar i.cells sound.cells in
     record {
       few = omega (arith, length-map i.cells (column_of i.grammar ds), few_cells i.grammar i.cells sound.grammar.codes sound.grammar.few_periods sound.cells);
@@ -37,5 +37,5 @@ by_cost i c (Some cost) sound cert =
           (Each-map (IsDayCell i.grammar) (λ (x : CellCover). x.penalty ≤ 1280000) (column_of i.grammar ds) (small i ds short) i.cells day);
     }
 
-pub day_columns : (i : Instance) (c : Cert) → IsSoundInstance i → IsSoundCert i c → AreDayColumns (columns_of i c c.cost)
-day_columns i c sound cert = by_cost i c c.cost sound cert
+pub day_columns : (i : Instance) (r : ShownRoster) → IsSoundInstance i → HasSoundShifts i r.shifts → AreDayColumns (columns_of i r r.cost)
+day_columns i r sound shifts = by_cost i r r.cost sound shifts

@@ -1,45 +1,29 @@
--- The answers to a proof text by a day, from what the parts answer.
-use Rattle.std.proofs.Common.{◌≡◌, ℕ, List, Option, None, Some, Result, Ok, Err, IfOk}
+-- The answers to a proof text or a report by a day, from what the parts answer.
+use Rattle.std.proofs.Common.{◌≡◌, ℕ, List, None, Some, Result, Ok, Err, IfOk}
 use Rattle.roster_model.specs.declared.instance.Instance.{Instance}
 use Rattle.roster_model.specs.declared.memory.Memory.{Memory}
-use Rattle.proof_check.specs.declared.judged.Judged.TheVariants.{Said, Fault}
-use Rattle.proof_check.specs.Judging.{IsJudged}
-use Rattle.proof_pieces.specs.CertOf.{proof_fault}
-use Rattle.proof_pieces.specs.FaultLine as proof
-use Rattle.proof_pieces.specs.declared.fault.PieceFault.{PieceFault}
 use Rattle.page_labels.specs.LabelsOf.{labels_of}
 use Rattle.page_labels.specs.declared.clock.Clock.{Clock}
 use Rattle.page_labels.specs.declared.labels.Labels.{Labels}
 use Rattle.answers.specs.declared.answer.Answer.{Answer}
-use Rattle.answers.specs.Asked.{ProofAnswers}
 use Rattle.roster_calendar.specs.Marks.{mark_of}
 use Rattle.roster_calendar.specs.declared.date.Date.{Date}
-use Rattle.page_command.specs.Check.{Judgement, SaysLabelFault}
-use Rattle.page_command.specs.Dated.{CalendarAnswers, ClockAnswers, NoCalendar, RefusedLabels, no_clock_line, setting_of}
+use Rattle.page_command.specs.Check.{RefusedLabels}
+use Rattle.page_command.specs.Dated.{CalendarAnswers, ClockAnswers, no_clock_line, setting_of}
 use Rattle.page_command.specs.Dated as dated
+use Rattle.page_command.specs.Report.{LineAnswers, RosterAnswers}
 use Rattle.page_command.specs.declared.kind.Kind.TheVariants.{Calendar}
 
-pub fault-said : (i : Instance) (text line : List ℕ) (fault : PieceFault) (r : Result Answer Memory) → IsJudged i text (Fault fault)
-    → IfOk r (λ a. (a.status ≡ 5) × (a.output ≡ proof.fault_line (proof_fault fault))) → IfOk r (λ a. NoCalendar i text line a.status a.output)
-fault-said i text line fault (Err e) judged h = tt
-fault-said i text line fault (Ok a) judged h =
-    rw h.0 (dated.NoCalendar.proof_refused a.output (record { fault = proof_fault fault; reading = judged; line = h.1 }))
-
 pub clock-told : (date : Date) (mark : List ℕ) (d : Labels) (c : Clock) (i : Instance) (text : List ℕ) (r : Result Answer Memory) → d.clock ≡ Some c
-    → IfOk r (λ a. ProofAnswers (Judgement (Calendar (setting_of date c mark)) d) i text a.status a.output)
+    → IfOk r (λ a. RosterAnswers (Calendar (setting_of date c mark)) d None i text a.status a.output)
     → IfOk r (λ a. ClockAnswers date mark d i text a.status a.output)
 clock-told date mark d c i text (Err e) clock h = tt
 clock-told date mark d c i text (Ok a) clock h = dated.ClockAnswers.answered c a.status a.output clock h
 
 pub no-clock-told : (date : Date) (mark : List ℕ) (d : Labels) (i : Instance) (text : List ℕ) (r : Result Answer Memory) → d.clock ≡ None
-    → IfOk r (λ a. NoCalendar i text no_clock_line a.status a.output) → IfOk r (λ a. ClockAnswers date mark d i text a.status a.output)
+    → IfOk r (λ a. LineAnswers i text no_clock_line a.status a.output) → IfOk r (λ a. ClockAnswers date mark d i text a.status a.output)
 no-clock-told date mark d i text (Err e) clock h = tt
 no-clock-told date mark d i text (Ok a) clock h = dated.ClockAnswers.no_clock a.status a.output clock h
-
-pub refused-said : (labels : List ℕ) (i : Instance) (text line : List ℕ) (r : Result Answer Memory) → SaysLabelFault i labels line
-    → IfOk r (λ a. NoCalendar i text line a.status a.output) → IfOk r (λ a. RefusedLabels labels i text a.status a.output)
-refused-said labels i text line (Err e) fault h = tt
-refused-said labels i text line (Ok a) fault h = record { line = line; fault = fault; answers = h }
 
 pub labels-read : (date : Date) (rules demand labels : List ℕ) (d : Labels) (i : Instance) (text : List ℕ) (r : Result Answer Memory) → labels_of i labels ≡ Ok d
     → IfOk r (λ a. ClockAnswers date (mark_of rules demand text) d i text a.status a.output) → IfOk r (λ a. CalendarAnswers date rules demand labels i text a.status a.output)

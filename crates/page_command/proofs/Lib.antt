@@ -1,9 +1,13 @@
 mod Starts
-mod PlainTrees
 mod PricedRows
 mod DerivedLemmas
 mod Columns
+mod ShownRosters
+mod OldLemmas
 mod RowLemmas
+mod CompareLemmas
+mod OneComparison
+mod Contents
 mod OnceLemmas
 pub mod Checks
 mod LabelledReaders

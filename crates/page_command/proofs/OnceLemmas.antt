@@ -1,7 +1,8 @@
 -- The same texts have the same answer, but for the trees of derivations.
-use Rattle.std.proofs.Common.{◌≡◌, ℕ, List, [], ◌∷◌, Option, None, Some, refl, sym, ap, subst, ◌∙◌, inl, inr}
+use Rattle.std.proofs.Common.{◌≡◌, ℕ, Bool, true, false, List, [], ◌∷◌, Option, None, Some, refl, sym, ap, subst, ◌∙◌, inl, inr}
 use Rattle.roster_model.specs.declared.grammar.Grammar.{Grammar}
 use Rattle.roster_model.specs.declared.instance.Instance.{Instance}
+use Rattle.roster_model.specs.declared.instance.Shift.{Shift}
 use Rattle.roster_model.specs.Trees.{steps}
 use Rattle.certificates.specs.declared.cert.Cert.{Cert}
 use Rattle.certificates.specs.declared.why.Why.{Why}
@@ -15,10 +16,16 @@ use Rattle.proof_pieces.specs.declared.fault.ProofFault.{ProofFault}
 use Rattle.proof_pieces.specs.CertOf.{proof_of}
 use Rattle.proof_pieces.specs.FaultLine as proof
 use Rattle.page_text.specs.declared.row.Row.{Row}
+use Rattle.roster_value.specs.Answers as values
+use Rattle.roster_value.specs.declared.valued.Valued.{Valued}
+use Rattle.roster_value.proofs.OneAnswer.{one_value, stated-once}
+use Rattle.stated_rosters.specs.FaultLine as roster
+use Rattle.stated_rosters.specs.RosterOf.{roster_of}
+use Rattle.stated_rosters.specs.declared.fault.RosterFault.{RosterFault}
 use Rattle.shelf.specs.Shelf.{Texts}
 use Rattle.answer_texts.specs.TreeText.{tree_text}
 use Rattle.answer_texts.specs.VerdictText.{verdict_text}
-use Rattle.answers.specs.Asked.{ProofAnswers, TextAnswers, AnswersThird, DemandAnswers, AnswersDemand, RulesAnswers, AnswersTexts}
+use Rattle.answers.specs.Asked.{ProofAnswers, TextAnswers, AnswersThird, DemandAnswers, AnswersDemand, RulesAnswers, AnswersTexts, TextsAnswers}
 use Rattle.answers.specs.Readings.{SaysProofFault}
 use Rattle.answers.specs.Asked as checks
 use Rattle.text_commands.specs.SameTexts.{AreTreesAtOnePrice}
@@ -31,16 +38,27 @@ use Rattle.page_labels.specs.declared.clock.Clock.{Clock}
 use Rattle.page_labels.specs.declared.labels.Labels.{Labels}
 use Rattle.roster_calendar.specs.Marks.{mark_of}
 use Rattle.roster_calendar.specs.declared.date.Date.{Date}
-use Rattle.page_command.specs.Check.{AnswersLabelled, Judgement, LabelAnswers, yes, no}
+use Rattle.what_if.specs.Value.{SaysRosterFault}
+use Rattle.page_command.specs.Check.{AnswersBeside, AnswersLabelled, BesideAnswers, LabelAnswers, OldAnswers, RefusedLabels}
 use Rattle.page_command.specs.Check as answers
-use Rattle.page_command.specs.Dated.{AnswersDated, CalendarAnswers, ClockAnswers, NoCalendar, RefusedLabels, TextsAnswers, no_clock_line, setting_of}
+use Rattle.page_command.specs.Dated.{AnswersDated, CalendarAnswers, ClockAnswers, no_clock_line, setting_of}
 use Rattle.page_command.specs.Dated as dated
 use Rattle.page_command.specs.Draw.{IsPage}
-use Rattle.page_command.specs.Shown.{IsShown}
+use Rattle.page_command.specs.Judgement.{Judgement, StatedJudgement}
+use Rattle.page_command.specs.Judgement as judgement
+use Rattle.page_command.specs.Old.{RefusedOld, old_of}
+use Rattle.page_command.specs.Old as old_text
+use Rattle.page_command.specs.declared.old_fault.OldFault.{OldFault}
+use Rattle.page_command.specs.Report.{IsRead, LineAnswers, ReportAnswers, RosterAnswers, SaysTextFault, is_report}
+use Rattle.page_command.specs.Report as report
+use Rattle.page_command.specs.Shown.{IsShown, certified, stated}
 use Rattle.page_command.specs.declared.kind.Kind.{Kind}
 use Rattle.page_command.specs.declared.kind.Kind.TheVariants.{Page, Table, Calendar}
+use Rattle.page_command.specs.declared.roster.ShownRoster.{ShownRoster}
 use Rattle.page_command.specs.OnePage.{AreSameButTrees, AreTreesOfRows, ArePagesButTrees}
-use Rattle.page_command.specs.Rows.{AreDerived, IsDerived, rules_of}
+use Rattle.page_command.specs.Rows.{AreDerived, IsDerived, rows_of, rules_of}
+use Rattle.page_command.specs.declared.compare.Comparison.{Comparison}
+use Rattle.page_command.proofs.OneComparison.{compared_once}
 
 -- equal statuses, and texts that are the same but for the trees of derivations
 abbrev AreAlike : ℕ → ℕ → List ℕ → List ℕ → Type 0
@@ -66,78 +84,143 @@ trees_of_rows i (r ∷ rs) [] ys h k = absurd h
 trees_of_rows i (r ∷ rs) (x ∷ xs) [] h k = absurd k
 trees_of_rows i (r ∷ rs) (x ∷ xs) (y ∷ ys) h k = (trees_of_row i r x y h.0 k.0, trees_of_rows i rs xs ys h.1 k.1)
 
--- two pages of one certificate
-pages_once : (d : Labels) (i : Instance) (c : Cert) (a b : List ℕ) → IsPage d i c a → IsPage d i c b → ArePagesButTrees a b
-pages_once d i c a b h k =
-    let rows : h.content.rows ≡ k.content.rows = h.shows.rows ∙ sym k.shows.rows in
+-- two pages of one roster
+pages_once : (d : Labels) (i : Instance) (r : ShownRoster) (old : Option (List Shift)) (a b : List ℕ) → IsPage d i r old a → IsPage d i r old b → ArePagesButTrees a b
+pages_once d i r old a b h k =
+    let same : h.shows.comparison ≡ k.shows.comparison
+    = compared_once i.grammar.periods old r.shifts h.shows.comparison k.shows.comparison h.shows.compared k.shows.compared in
+    let left = h.shows.beside in
+    let right = k.shows.beside in
+    let rows : h.content.rows ≡ k.content.rows
+    = left.rows ∙ ap (λ (c : Comparison). rows_of i d c r.shifts) same ∙ sym right.rows in
     record {
       periods = i.grammar.periods;
       codes = i.grammar.codes;
       one = h.content;
       other = k.content;
       same = record {
-        title = h.shows.title ∙ sym k.shows.title;
-        words = h.shows.words ∙ sym k.shows.words;
-        figures = h.shows.figures ∙ sym k.shows.figures;
+        title = left.title ∙ sym right.title;
+        words = left.words ∙ sym right.words;
+        money = left.money ∙ sym right.money;
+        times = left.times ∙ sym right.times;
+        figures = left.figures ∙ sym right.figures;
+        changes = left.changes ∙ ap (λ (c : Comparison). c.changes) same ∙ sym right.changes;
         rows = rows;
-        columns = h.shows.columns ∙ sym k.shows.columns;
-        tables = h.shows.tables ∙ sym k.shows.tables;
+        columns = left.columns ∙ sym right.columns;
+        tables = left.tables ∙ sym right.tables;
         derivations = trees_of_rows i k.content.rows h.content.derivations k.content.derivations
-            (subst (λ (rs : List Row). AreDerived i rs h.content.derivations) rows h.shows.derivations) k.shows.derivations;
+            (subst (λ (rs : List Row). AreDerived i rs h.content.derivations) rows left.derivations) right.derivations;
       };
       first = h.text;
       second = k.text;
     }
 
--- two times what shows one certificate
-shown_once : (n : Kind) (d : Labels) (i : Instance) (c : Cert) (a b : List ℕ) → IsShown n d i c a → IsShown n d i c b → AreSameButTrees a b
-shown_once Page d i c a b h k = inr (pages_once d i c a b h k)
-shown_once Table d i c a b h k = inl (h ∙ sym k)
-shown_once (Calendar x) d i c a b h k = inl (h ∙ sym k)
+-- two times what shows one roster
+shown_once : (n : Kind) (d : Labels) (i : Instance) (r : ShownRoster) (old : Option (List Shift)) (a b : List ℕ) → IsShown n d i r old a → IsShown n d i r old b → AreSameButTrees a b
+shown_once Page d i r old a b h k = inr (pages_once d i r old a b h k)
+shown_once Table d i r old a b h k = inl (h ∙ sym k)
+shown_once (Calendar x) d i r old a b h k = inl (h ∙ sym k)
 
-judged_once : (n : Kind) (d : Labels) (i : Instance) (c : Cert) (s t : ℕ) (a b : List ℕ) → Judgement n d i c s a → Judgement n d i c t b → AreAlike s t a b
-judged_once n d i c s t a b (yes x h) (yes y k) = (refl, shown_once n d i c a b h.shown k.shown)
-judged_once n d i c s t a b (yes x h) (no y k) = absurd (cause-refuses i c h.accepted k.why k.cause.holds)
-judged_once n d i c s t a b (no x h) (yes y k) = absurd (cause-refuses i c k.accepted h.why h.cause.holds)
-judged_once n d i c s t a b (no x h) (no y k) =
+judged_once : (n : Kind) (d : Labels) (old : Option (List Shift)) (i : Instance) (c : Cert) (s t : ℕ) (a b : List ℕ) → Judgement n d old i c s a → Judgement n d old i c t b → AreAlike s t a b
+judged_once n d old i c s t a b (judgement.Judgement.yes x h) (judgement.Judgement.yes y k) = (refl, shown_once n d i (certified c) old a b h.shown k.shown)
+judged_once n d old i c s t a b (judgement.Judgement.yes x h) (judgement.Judgement.no y k) = absurd (cause-refuses i c h.accepted k.why k.cause.holds)
+judged_once n d old i c s t a b (judgement.Judgement.no x h) (judgement.Judgement.yes y k) = absurd (cause-refuses i c k.accepted h.why h.cause.holds)
+judged_once n d old i c s t a b (judgement.Judgement.no x h) (judgement.Judgement.no y k) =
     (refl, inl (h.line ∙ ap (λ (w : Why). verdict_text (No w)) (one-first i c h.why k.why h.cause k.cause) ∙ sym k.line))
 
-faults_same : (i : Instance) (text a b : List ℕ) → SaysProofFault i text a → SaysProofFault i text b → a ≡ b
-faults_same i text a b h k =
+proof_lines_once : (i : Instance) (text a b : List ℕ) → SaysProofFault i text a → SaysProofFault i text b → a ≡ b
+proof_lines_once i text a b h k =
     h.line ∙ ap (λ (x : ProofFault). proof.fault_line x) (same_err (proof_of i text) h.fault k.fault h.reading k.reading) ∙ sym k.line
 
-proof_once : (n : Kind) (d : Labels) (i : Instance) (text : List ℕ) (s t : ℕ) (a b : List ℕ) → ProofAnswers (Judgement n d) i text s a → ProofAnswers (Judgement n d) i text t b → AreAlike s t a b
-proof_once n d i text s t a b (checks.ProofAnswers.accepted c x xs e h) (checks.ProofAnswers.accepted z y ys f k) =
-    judged_once n d i z s t a b (subst (λ (q : Cert). Judgement n d i q s a) (same_ok (proof_of i text) c z e f) h) k
-proof_once n d i text s t a b (checks.ProofAnswers.accepted c x xs e h) (checks.ProofAnswers.refused ys k) = absurd (not_both (proof_of i text) c k.fault e k.reading)
-proof_once n d i text s t a b (checks.ProofAnswers.refused xs h) (checks.ProofAnswers.accepted z y ys f k) = absurd (not_both (proof_of i text) z h.fault f h.reading)
-proof_once n d i text s t a b (checks.ProofAnswers.refused xs h) (checks.ProofAnswers.refused ys k) = (refl, inl (faults_same i text a b h k))
+report_lines_once : (i : Instance) (text a b : List ℕ) → SaysRosterFault i text a → SaysRosterFault i text b → a ≡ b
+report_lines_once i text a b h k =
+    h.line ∙ ap (λ (x : RosterFault). roster.fault_line x) (same_err (roster_of i text) h.fault k.fault h.reading k.reading) ∙ sym k.line
 
--- a text that is refused has no certificate
-fault_once : (n : Kind) (d : Labels) (i : Instance) (text : List ℕ) (s : ℕ) (a b : List ℕ) → ProofAnswers (Judgement n d) i text s a → SaysProofFault i text b → AreAlike s 5 a b
-fault_once n d i text s a b (checks.ProofAnswers.accepted c x xs e h) k = absurd (not_both (proof_of i text) c k.fault e k.reading)
-fault_once n d i text s a b (checks.ProofAnswers.refused xs h) k = (refl, inl (faults_same i text a b h k))
+proof_once : (n : Kind) (d : Labels) (old : Option (List Shift)) (i : Instance) (text : List ℕ) (s t : ℕ) (a b : List ℕ) → ProofAnswers (Judgement n d old) i text s a → ProofAnswers (Judgement n d old) i text t b → AreAlike s t a b
+proof_once n d old i text s t a b (checks.ProofAnswers.accepted c x xs e h) (checks.ProofAnswers.accepted z y ys f k) =
+    judged_once n d old i z s t a b (subst (λ (q : Cert). Judgement n d old i q s a) (same_ok (proof_of i text) c z e f) h) k
+proof_once n d old i text s t a b (checks.ProofAnswers.accepted c x xs e h) (checks.ProofAnswers.refused ys k) = absurd (not_both (proof_of i text) c k.fault e k.reading)
+proof_once n d old i text s t a b (checks.ProofAnswers.refused xs h) (checks.ProofAnswers.accepted z y ys f k) = absurd (not_both (proof_of i text) z h.fault f h.reading)
+proof_once n d old i text s t a b (checks.ProofAnswers.refused xs h) (checks.ProofAnswers.refused ys k) = (refl, inl (proof_lines_once i text a b h k))
 
-once_fault : (n : Kind) (d : Labels) (i : Instance) (text : List ℕ) (s : ℕ) (a b : List ℕ) → SaysProofFault i text b → ProofAnswers (Judgement n d) i text s a → AreAlike 5 s b a
-once_fault n d i text s a b k (checks.ProofAnswers.accepted c x xs e h) = absurd (not_both (proof_of i text) c k.fault e k.reading)
-once_fault n d i text s a b k (checks.ProofAnswers.refused xs h) = (refl, inl (faults_same i text b a k h))
+-- a stated roster has one answer
+stated_twice : (n : Kind) (d : Labels) (old : Option (List Shift)) (i : Instance) (shifts : List Shift) (s t : ℕ) (a b : List ℕ) → StatedJudgement n d old i shifts s a → StatedJudgement n d old i shifts t b
+    → AreAlike s t a b
+stated_twice n d old i shifts s t a b (judgement.StatedJudgement.allowed x h) (judgement.StatedJudgement.allowed y k) =
+    let same : h.value ≡ k.value = one_value i shifts h.value k.value h.is k.is in
+    (refl, shown_once n d i (stated k.value) old a b (subst (λ (v : Valued). IsShown n d i (stated v) old a) same h.shown) k.shown)
+stated_twice n d old i shifts s t a b (judgement.StatedJudgement.allowed x h) (judgement.StatedJudgement.not_allowed y k) = absurd (k.are.never h.value.cost h.costs)
+stated_twice n d old i shifts s t a b (judgement.StatedJudgement.not_allowed x h) (judgement.StatedJudgement.allowed y k) = absurd (h.are.never k.value.cost k.costs)
+stated_twice n d old i shifts s t a b (judgement.StatedJudgement.not_allowed x h) (judgement.StatedJudgement.not_allowed y k) =
+    (refl, inl ((stated-once i shifts 1 1 a b (values.StatedAnswer.refused a h) (values.StatedAnswer.refused b k)).1))
 
-labels_once : (n : Kind) (labels : List ℕ) (i : Instance) (text : List ℕ) (s t : ℕ) (a b : List ℕ) → LabelAnswers n labels i text s a → LabelAnswers n labels i text t b → AreAlike s t a b
-labels_once n labels i text s t a b (answers.LabelAnswers.answered d x xs e h) (answers.LabelAnswers.answered g y ys f k) =
-    proof_once n g i text s t a b (subst (λ (q : Labels). ProofAnswers (Judgement n q) i text s a) (same_ok (labels_of i labels) d g e f) h) k
-labels_once n labels i text s t a b (answers.LabelAnswers.answered d x xs e h) (answers.LabelAnswers.labels_refused c ys f k) =
-    absurd (not_both (labels_of i labels) d k.fault e k.reading)
-labels_once n labels i text s t a b (answers.LabelAnswers.answered d x xs e h) (answers.LabelAnswers.proof_refused ys k) = fault_once n d i text s a b h k
-labels_once n labels i text s t a b (answers.LabelAnswers.labels_refused c xs e h) (answers.LabelAnswers.answered d y ys f k) =
-    absurd (not_both (labels_of i labels) d h.fault f h.reading)
-labels_once n labels i text s t a b (answers.LabelAnswers.labels_refused c xs e h) (answers.LabelAnswers.labels_refused z ys f k) =
-    (refl, inl (h.line ∙ ap (λ (x : LabelFault). label.fault_line x) (same_err (labels_of i labels) h.fault k.fault h.reading k.reading) ∙ sym k.line))
-labels_once n labels i text s t a b (answers.LabelAnswers.labels_refused c xs e h) (answers.LabelAnswers.proof_refused ys k) =
-    absurd (not_both (proof_of i text) c k.fault e k.reading)
-labels_once n labels i text s t a b (answers.LabelAnswers.proof_refused xs h) (answers.LabelAnswers.answered d y ys f k) = once_fault n d i text t b a h k
-labels_once n labels i text s t a b (answers.LabelAnswers.proof_refused xs h) (answers.LabelAnswers.labels_refused c ys f k) =
-    absurd (not_both (proof_of i text) c h.fault f h.reading)
-labels_once n labels i text s t a b (answers.LabelAnswers.proof_refused xs h) (answers.LabelAnswers.proof_refused ys k) = (refl, inl (faults_same i text a b h k))
+report_once : (n : Kind) (d : Labels) (old : Option (List Shift)) (i : Instance) (text : List ℕ) (s t : ℕ) (a b : List ℕ) → ReportAnswers n d old i text s a → ReportAnswers n d old i text t b → AreAlike s t a b
+report_once n d old i text s t a b (report.ReportAnswers.accepted c x xs e h) (report.ReportAnswers.accepted z y ys f k) =
+    stated_twice n d old i z s t a b (subst (λ (q : List Shift). StatedJudgement n d old i q s a) (same_ok (roster_of i text) c z e f) h) k
+report_once n d old i text s t a b (report.ReportAnswers.accepted c x xs e h) (report.ReportAnswers.refused ys k) = absurd (not_both (roster_of i text) c k.fault e k.reading)
+report_once n d old i text s t a b (report.ReportAnswers.refused xs h) (report.ReportAnswers.accepted z y ys f k) = absurd (not_both (roster_of i text) z h.fault f h.reading)
+report_once n d old i text s t a b (report.ReportAnswers.refused xs h) (report.ReportAnswers.refused ys k) = (refl, inl (report_lines_once i text a b h k))
+
+-- a text is a report or none
+not_two : (b : Bool) → b ≡ true → b ≡ false → ⊥
+not_two true e f = cc
+not_two false e f = cc
+
+roster_once : (n : Kind) (d : Labels) (old : Option (List Shift)) (i : Instance) (text : List ℕ) (s t : ℕ) (a b : List ℕ) → RosterAnswers n d old i text s a → RosterAnswers n d old i text t b → AreAlike s t a b
+roster_once n d old i text s t a b (report.RosterAnswers.by_proof x xs e h) (report.RosterAnswers.by_proof y ys f k) = proof_once n d old i text s t a b h k
+roster_once n d old i text s t a b (report.RosterAnswers.by_proof x xs e h) (report.RosterAnswers.by_report y ys f k) = absurd (not_two (is_report text) f e)
+roster_once n d old i text s t a b (report.RosterAnswers.by_report x xs e h) (report.RosterAnswers.by_proof y ys f k) = absurd (not_two (is_report text) e f)
+roster_once n d old i text s t a b (report.RosterAnswers.by_report x xs e h) (report.RosterAnswers.by_report y ys f k) = report_once n d old i text s t a b h k
+
+-- a text that is read is not refused
+read_or_not : (i : Instance) (text xs : List ℕ) → IsRead i text → SaysTextFault i text xs → ⊥
+read_or_not i text xs (report.IsRead.proof_read c is e) (report.SaysTextFault.proof_refused other k) = not_both (proof_of i text) c k.fault e k.reading
+read_or_not i text xs (report.IsRead.proof_read c is e) (report.SaysTextFault.report_refused other k) = not_two (is_report text) other is
+read_or_not i text xs (report.IsRead.report_read shifts is e) (report.SaysTextFault.proof_refused other k) = not_two (is_report text) is other
+read_or_not i text xs (report.IsRead.report_read shifts is e) (report.SaysTextFault.report_refused other k) = not_both (roster_of i text) shifts k.fault e k.reading
+
+text_faults_once : (i : Instance) (text a b : List ℕ) → SaysTextFault i text a → SaysTextFault i text b → a ≡ b
+text_faults_once i text a b (report.SaysTextFault.proof_refused is h) (report.SaysTextFault.proof_refused other k) = proof_lines_once i text a b h k
+text_faults_once i text a b (report.SaysTextFault.proof_refused is h) (report.SaysTextFault.report_refused other k) = absurd (not_two (is_report text) other is)
+text_faults_once i text a b (report.SaysTextFault.report_refused is h) (report.SaysTextFault.proof_refused other k) = absurd (not_two (is_report text) is other)
+text_faults_once i text a b (report.SaysTextFault.report_refused is h) (report.SaysTextFault.report_refused other k) = report_lines_once i text a b h k
+
+-- one line in place of what would be shown
+line_once : (i : Instance) (text line : List ℕ) (s t : ℕ) (a b : List ℕ) → LineAnswers i text line s a → LineAnswers i text line t b → AreAlike s t a b
+line_once i text line s t a b (report.LineAnswers.line_said xs e h) (report.LineAnswers.line_said ys f k) = (refl, inl (h ∙ sym k))
+line_once i text line s t a b (report.LineAnswers.line_said xs e h) (report.LineAnswers.text_refused ys k) = absurd (read_or_not i text b e k)
+line_once i text line s t a b (report.LineAnswers.text_refused xs h) (report.LineAnswers.line_said ys f k) = absurd (read_or_not i text a f h)
+line_once i text line s t a b (report.LineAnswers.text_refused xs h) (report.LineAnswers.text_refused ys k) = (refl, inl (text_faults_once i text a b h k))
+
+refused_once : (labels : List ℕ) (i : Instance) (text : List ℕ) (s t : ℕ) (a b : List ℕ) → RefusedLabels labels i text s a → RefusedLabels labels i text t b → AreAlike s t a b
+refused_once labels i text s t a b h k =
+    let same : h.line ≡ k.line = h.fault.line ∙ ap (λ (x : LabelFault). label.fault_line x) (same_err (labels_of i labels) h.fault.fault k.fault.fault h.fault.reading k.fault.reading) ∙ sym k.fault.line in
+    line_once i text k.line s t a b (subst (λ (x : List ℕ). LineAnswers i text x s a) same h.answers) k.answers
+
+old_refused_once : (old : List ℕ) (i : Instance) (text : List ℕ) (s t : ℕ) (a b : List ℕ) → RefusedOld old i text s a → RefusedOld old i text t b → AreAlike s t a b
+old_refused_once old i text s t a b h k =
+    let same : h.line ≡ k.line = h.fault.line ∙ ap (λ (x : OldFault). old_text.fault_line x) (same_err (old_of i old) h.fault.fault k.fault.fault h.fault.reading k.fault.reading) ∙ sym k.fault.line in
+    line_once i text k.line s t a b (subst (λ (x : List ℕ). LineAnswers i text x s a) same h.answers) k.answers
+
+old_once : (n : Kind) (d : Labels) (old : List ℕ) (i : Instance) (text : List ℕ) (s t : ℕ) (a b : List ℕ) → OldAnswers n d old i text s a → OldAnswers n d old i text t b → AreAlike s t a b
+old_once n d old i text s t a b (answers.OldAnswers.read x sx xs e h) (answers.OldAnswers.read y sy ys f k) =
+    roster_once n d (Some y) i text s t a b (subst (λ (q : List Shift). RosterAnswers n d (Some q) i text s a) (same_ok (old_of i old) x y e f) h) k
+old_once n d old i text s t a b (answers.OldAnswers.read x sx xs e h) (answers.OldAnswers.old_refused sy ys k) = absurd (not_both (old_of i old) x k.fault.fault e k.fault.reading)
+old_once n d old i text s t a b (answers.OldAnswers.old_refused sx xs h) (answers.OldAnswers.read y sy ys f k) = absurd (not_both (old_of i old) y h.fault.fault f h.fault.reading)
+old_once n d old i text s t a b (answers.OldAnswers.old_refused sx xs h) (answers.OldAnswers.old_refused sy ys k) = old_refused_once old i text s t a b h k
+
+beside_once : (n : Kind) (d : Labels) (old : Option (List ℕ)) (i : Instance) (text : List ℕ) (s t : ℕ) (a b : List ℕ) → BesideAnswers n d old i text s a → BesideAnswers n d old i text t b → AreAlike s t a b
+beside_once n d None i text s t a b h k = roster_once n d None i text s t a b h k
+beside_once n d (Some old) i text s t a b h k = old_once n d old i text s t a b h k
+
+labels_once : (n : Kind) (labels : List ℕ) (old : Option (List ℕ)) (i : Instance) (text : List ℕ) (s t : ℕ) (a b : List ℕ) → LabelAnswers n labels old i text s a → LabelAnswers n labels old i text t b → AreAlike s t a b
+labels_once n labels old i text s t a b (answers.LabelAnswers.answered d x xs e h) (answers.LabelAnswers.answered g y ys f k) =
+    beside_once n g old i text s t a b (subst (λ (q : Labels). BesideAnswers n q old i text s a) (same_ok (labels_of i labels) d g e f) h) k
+labels_once n labels old i text s t a b (answers.LabelAnswers.answered d x xs e h) (answers.LabelAnswers.labels_refused y ys k) =
+    absurd (not_both (labels_of i labels) d k.fault.fault e k.fault.reading)
+labels_once n labels old i text s t a b (answers.LabelAnswers.labels_refused x xs h) (answers.LabelAnswers.answered g y ys f k) =
+    absurd (not_both (labels_of i labels) g h.fault.fault f h.fault.reading)
+labels_once n labels old i text s t a b (answers.LabelAnswers.labels_refused x xs h) (answers.LabelAnswers.labels_refused y ys k) = refused_once labels i text s t a b h k
 
 -- answers to a proof text of which there is one
 abbrev IsOnce : TextAnswers → Type 0
@@ -179,25 +262,31 @@ module _ (A : TextAnswers) (once : IsOnce A) where
       rules_once held k.text demand proof s t a b
       (subst (λ (x : List ℕ). RulesAnswers A (Some held) x demand proof s a) (same_text held rules h.text k.text h.holds k.holds) h.answers) k.answers
 
-pub page_once : (n : Kind) (held : Texts) (rules demand proof : List ℕ) (s t : ℕ) (a b : List ℕ) → AnswersTexts (ProofAnswers (Judgement n nothing)) (Some held) rules demand proof s a
-    → AnswersTexts (ProofAnswers (Judgement n nothing)) (Some held) rules demand proof t b → AreAlike s t a b
-page_once n held rules demand proof s t a b h k = texts_once (ProofAnswers (Judgement n nothing)) (proof_once n nothing) held rules demand proof s t a b h k
+pub page_once : (n : Kind) (held : Texts) (rules demand proof : List ℕ) (s t : ℕ) (a b : List ℕ) → AnswersTexts (RosterAnswers n nothing None) (Some held) rules demand proof s a
+    → AnswersTexts (RosterAnswers n nothing None) (Some held) rules demand proof t b → AreAlike s t a b
+page_once n held rules demand proof s t a b h k = texts_once (RosterAnswers n nothing None) (roster_once n nothing None) held rules demand proof s t a b h k
 
 pub labelled_once : (n : Kind) (held : Texts) (rules demand proof labels : List ℕ) (s t : ℕ) (a b : List ℕ) → AnswersLabelled n (Some held) rules demand proof labels s a
     → AnswersLabelled n (Some held) rules demand proof labels t b → AreAlike s t a b
 labelled_once n held rules demand proof labels s t a b h k =
     let rules_same = same_text held rules h.text k.text h.holds k.holds in
     let labels_same = same_text held labels h.answers.text k.answers.text h.answers.holds k.answers.holds in
-    let by_rules = subst (λ (x : List ℕ). RulesAnswers (LabelAnswers n h.answers.text) (Some held) x demand proof s a) rules_same h.answers.answers in
-    let by_labels = subst (λ (x : List ℕ). RulesAnswers (LabelAnswers n x) (Some held) k.text demand proof s a) labels_same by_rules in
-    rules_once (LabelAnswers n k.answers.text) (labels_once n k.answers.text) held k.text demand proof s t a b by_labels k.answers.answers
+    let by_rules = subst (λ (x : List ℕ). RulesAnswers (LabelAnswers n h.answers.text None) (Some held) x demand proof s a) rules_same h.answers.answers in
+    let by_labels = subst (λ (x : List ℕ). RulesAnswers (LabelAnswers n x None) (Some held) k.text demand proof s a) labels_same by_rules in
+    rules_once (LabelAnswers n k.answers.text None) (labels_once n k.answers.text None) held k.text demand proof s t a b by_labels k.answers.answers
 
--- one line in place of a calendar
-no_calendar_once : (i : Instance) (text line : List ℕ) (s t : ℕ) (a b : List ℕ) → NoCalendar i text line s a → NoCalendar i text line t b → AreAlike s t a b
-no_calendar_once i text line s t a b (dated.NoCalendar.line_said c xs e h) (dated.NoCalendar.line_said z ys f k) = (refl, inl (h ∙ sym k))
-no_calendar_once i text line s t a b (dated.NoCalendar.line_said c xs e h) (dated.NoCalendar.proof_refused ys k) = absurd (not_both (proof_of i text) c k.fault e k.reading)
-no_calendar_once i text line s t a b (dated.NoCalendar.proof_refused xs h) (dated.NoCalendar.line_said z ys f k) = absurd (not_both (proof_of i text) z h.fault f h.reading)
-no_calendar_once i text line s t a b (dated.NoCalendar.proof_refused xs h) (dated.NoCalendar.proof_refused ys k) = (refl, inl (faults_same i text a b h k))
+pub beside_texts_once : (held : Texts) (rules demand proof labels old : List ℕ) (s t : ℕ) (a b : List ℕ) → AnswersBeside (Some held) rules demand proof labels old s a
+    → AnswersBeside (Some held) rules demand proof labels old t b → AreAlike s t a b
+beside_texts_once held rules demand proof labels old s t a b h k =
+    let p = h.answers.answers in
+    let q = k.answers.answers in
+    let rules_same = same_text held rules h.text k.text h.holds k.holds in
+    let labels_same = same_text held labels h.answers.text k.answers.text h.answers.holds k.answers.holds in
+    let old_same = same_text held old p.text q.text p.holds q.holds in
+    let by_rules = subst (λ (x : List ℕ). RulesAnswers (LabelAnswers Page h.answers.text (Some p.text)) (Some held) x demand proof s a) rules_same p.answers in
+    let by_labels = subst (λ (x : List ℕ). RulesAnswers (LabelAnswers Page x (Some p.text)) (Some held) k.text demand proof s a) labels_same by_rules in
+    let by_old = subst (λ (x : List ℕ). RulesAnswers (LabelAnswers Page k.answers.text (Some x)) (Some held) k.text demand proof s a) old_same by_labels in
+    rules_once (LabelAnswers Page k.answers.text (Some q.text)) (labels_once Page k.answers.text (Some q.text)) held k.text demand proof s t a b by_old q.answers
 
 -- what a labels text tells of the clock is one thing
 same_clock : (o : Option Clock) (c z : Clock) → o ≡ Some c → o ≡ Some z → c ≡ z
@@ -212,16 +301,11 @@ clock_or_none o c e f = subst IsClocked (sym e ∙ f) tt
 
 clock_once : (date : Date) (mark : List ℕ) (d : Labels) (i : Instance) (text : List ℕ) (s t : ℕ) (a b : List ℕ) → ClockAnswers date mark d i text s a → ClockAnswers date mark d i text t b → AreAlike s t a b
 clock_once date mark d i text s t a b (dated.ClockAnswers.answered c x xs e h) (dated.ClockAnswers.answered z y ys f k) =
-    proof_once (Calendar (setting_of date z mark)) d i text s t a b
-    (subst (λ (q : Clock). ProofAnswers (Judgement (Calendar (setting_of date q mark)) d) i text s a) (same_clock d.clock c z e f) h) k
+    roster_once (Calendar (setting_of date z mark)) d None i text s t a b
+    (subst (λ (q : Clock). RosterAnswers (Calendar (setting_of date q mark)) d None i text s a) (same_clock d.clock c z e f) h) k
 clock_once date mark d i text s t a b (dated.ClockAnswers.answered c x xs e h) (dated.ClockAnswers.no_clock y ys f k) = absurd (clock_or_none d.clock c e f)
 clock_once date mark d i text s t a b (dated.ClockAnswers.no_clock x xs e h) (dated.ClockAnswers.answered z y ys f k) = absurd (clock_or_none d.clock z f e)
-clock_once date mark d i text s t a b (dated.ClockAnswers.no_clock x xs e h) (dated.ClockAnswers.no_clock y ys f k) = no_calendar_once i text no_clock_line s t a b h k
-
-refused_once : (labels : List ℕ) (i : Instance) (text : List ℕ) (s t : ℕ) (a b : List ℕ) → RefusedLabels labels i text s a → RefusedLabels labels i text t b → AreAlike s t a b
-refused_once labels i text s t a b h k =
-    let same : h.line ≡ k.line = h.fault.line ∙ ap (λ (x : LabelFault). label.fault_line x) (same_err (labels_of i labels) h.fault.fault k.fault.fault h.fault.reading k.fault.reading) ∙ sym k.fault.line in
-    no_calendar_once i text k.line s t a b (subst (λ (x : List ℕ). NoCalendar i text x s a) same h.answers) k.answers
+clock_once date mark d i text s t a b (dated.ClockAnswers.no_clock x xs e h) (dated.ClockAnswers.no_clock y ys f k) = line_once i text no_clock_line s t a b h k
 
 calendar_once : (date : Date) (rules demand labels : List ℕ) → IsOnce (CalendarAnswers date rules demand labels)
 calendar_once date rules demand labels i text s t a b (dated.CalendarAnswers.read d x xs e h) (dated.CalendarAnswers.read g y ys f k) =
@@ -236,11 +320,11 @@ calendar_once date rules demand labels i text s t a b (dated.CalendarAnswers.lab
 
 read_texts_once : (A : TextAnswers) → IsOnce A → (held : Texts) (rules demand name : List ℕ) (s t : ℕ) (a b : List ℕ) → TextsAnswers A (Some held) rules demand name s a
     → TextsAnswers A (Some held) rules demand name t b → AreAlike s t a b
-read_texts_once A once held rules demand name s t a b (dated.TextsAnswers.accepted g x xs e h) (dated.TextsAnswers.accepted f y ys q k) =
+read_texts_once A once held rules demand name s t a b (checks.TextsAnswers.accepted g x xs e h) (checks.TextsAnswers.accepted f y ys q k) =
     demand_once A once held f demand name s t a b (subst (λ (z : Grammar). DemandAnswers A (Some held) z demand name s a) (same_grammar rules g f e.reading q.reading) h) k
-read_texts_once A once held rules demand name s t a b (dated.TextsAnswers.accepted g x xs e h) (dated.TextsAnswers.refused ys k) = absurd (no_fault rules g k.fault e.reading k.reading)
-read_texts_once A once held rules demand name s t a b (dated.TextsAnswers.refused xs h) (dated.TextsAnswers.accepted f y ys q k) = absurd (no_fault rules f h.fault q.reading h.reading)
-read_texts_once A once held rules demand name s t a b (dated.TextsAnswers.refused xs h) (dated.TextsAnswers.refused ys k) = (refl, inl (faults_once rules a b h k))
+read_texts_once A once held rules demand name s t a b (checks.TextsAnswers.accepted g x xs e h) (checks.TextsAnswers.refused ys k) = absurd (no_fault rules g k.fault e.reading k.reading)
+read_texts_once A once held rules demand name s t a b (checks.TextsAnswers.refused xs h) (checks.TextsAnswers.accepted f y ys q k) = absurd (no_fault rules f h.fault q.reading h.reading)
+read_texts_once A once held rules demand name s t a b (checks.TextsAnswers.refused xs h) (checks.TextsAnswers.refused ys k) = (refl, inl (faults_once rules a b h k))
 
 pub dated_once : (date : Date) (held : Texts) (rules demand proof labels : List ℕ) (s t : ℕ) (a b : List ℕ) → AnswersDated date (Some held) rules demand proof labels s a
     → AnswersDated date (Some held) rules demand proof labels t b → AreAlike s t a b

@@ -17,13 +17,17 @@ use Rattle.roster_model.specs.Teams.{Team, teams_from, teams_of}
 use Rattle.roster_model.proofs.EachLemmas.{Each-append, Each-get, each_all}
 use Rattle.tree_laws.proofs.Rules.{All-slice_get}
 use Rattle.certificate_laws.specs.Accepted.{IsStated}
-use Rattle.certificates.specs.Sound.{IsSoundCert}
-use Rattle.certificates.specs.declared.cert.Cert.{Cert}
 use Rattle.certificates.specs.RosterCauses.{duties, stated_prices}
+use Rattle.group_rules.specs.Plain.{plain_from}
+use Rattle.page_labels.specs.declared.labels.Labels.{Labels}
 use Rattle.page_text.specs.declared.row.Row.{Row}
-use Rattle.page_command.specs.Rows.{IsPricedRow, has_row, own_row, plain_from, row_of, rows_at, rows_of, start_from}
+use Rattle.page_command.specs.declared.compare.Comparison.{Comparison}
+use Rattle.page_command.specs.Draw.{IsSoundShown}
+use Rattle.page_command.specs.declared.roster.ShownRoster.{ShownRoster}
+use Rattle.page_command.specs.Rows.{IsPricedRow, has_row, own_row, row_of, rows_at, rows_of, start_from}
 use Rattle.shift_figures.specs.Order.{drawn_order}
-use Rattle.page_command.proofs.PlainTrees.{plain_extended, plain_none, price_down}
+use Rattle.group_rules.proofs.NameTrees.{price_down}
+use Rattle.group_rules.proofs.PlainGrammars.{plain_extended, plain_none}
 use Rattle.page_command.proofs.Starts.{sound_from}
 
 -- the group of a team, by the team's number
@@ -71,8 +75,8 @@ module _ (i : Instance) (word : List ℕ) (price : ℕ) where
       })
 
 -- the row of a shift at its price
-priced_row : (i : Instance) (shifts : List Shift) (k : ℕ) (s : Shift) → IsSoundInstance i → IsTeamPrice i (duty s) s.price → IsPricedRow i (row_of i shifts k s)
-priced_row i shifts k s sound h =
+priced_row : (i : Instance) (d : Labels) (c : Comparison) (shifts : List Shift) (k : ℕ) (s : Shift) → IsSoundInstance i → IsTeamPrice i (duty s) s.price → IsPricedRow i (row_of i d c shifts k s)
+priced_row i d c shifts k s sound h =
     let ready = by_groups i s.word s.price i.groups refl sound.groups sound.grammar h.team h.listed h.priced in
     let by_number = subst (λ (n : ℕ). Prices s.word s.price (plain_from i.grammar i.groups (start_from i.grammar i.groups n))) h.numbered ready in
     record { sound = by_number.sound; price = by_number.price }
@@ -89,23 +93,23 @@ choice : (P : Row → Type 0) (t : Bool) (r : Row) → P r → Each P (if t then
 choice P true r h = tt
 choice P false r h = (h, tt)
 
-module _ (i : Instance) (shifts : List Shift) (sound : IsSoundInstance i) (prices : Each (λ (s : Shift). IsTeamPrice i (duty s) s.price) shifts) where
-  priced_own : (k : ℕ) (s : Shift) → IsTeamPrice i (duty s) s.price → Each (IsPricedRow i) (own_row i shifts k s)
+module _ (i : Instance) (d : Labels) (c : Comparison) (shifts : List Shift) (sound : IsSoundInstance i) (prices : Each (λ (s : Shift). IsTeamPrice i (duty s) s.price) shifts) where
+  priced_own : (k : ℕ) (s : Shift) → IsTeamPrice i (duty s) s.price → Each (IsPricedRow i) (own_row i d c shifts k s)
   unfolding own_row
-  priced_own k s h = choice (IsPricedRow i) (has_row shifts k s) (row_of i shifts k s) (priced_row i shifts k s sound h)
+  priced_own k s h = choice (IsPricedRow i) (has_row c shifts k s) (row_of i d c shifts k s) (priced_row i d c shifts k s sound h)
 
-  by_shift : (k : ℕ) (o : Option Shift) → slice_get shifts k ≡ o → Each (IsPricedRow i) (elim o [ None ↦ [] | Some s ↦ own_row i shifts k s ])
+  by_shift : (k : ℕ) (o : Option Shift) → slice_get shifts k ≡ o → Each (IsPricedRow i) (elim o [ None ↦ [] | Some s ↦ own_row i d c shifts k s ])
   by_shift k None e = tt
   by_shift k (Some s) e = priced_own k s (Each-get (λ (q : Shift). IsTeamPrice i (duty q) q.price) shifts k s prices e)
 
-  priced_all : All (IsPricedRow i) (rows_of i shifts)
+  priced_all : All (IsPricedRow i) (rows_of i d c shifts)
   priced_all =
-      each_all (IsPricedRow i) (rows_of i shifts)
-      (each_of (IsPricedRow i) (rows_at i shifts) (λ k. by_shift k (slice_get shifts k) refl) (drawn_order i.grammar.codes shifts))
+      each_all (IsPricedRow i) (rows_of i d c shifts)
+      (each_of (IsPricedRow i) (rows_at i d c shifts) (λ k. by_shift k (slice_get shifts k) refl) (drawn_order i.grammar.codes shifts))
 
-by_cost : (i : Instance) (shifts : List Shift) (o : Option ℕ) → IsSoundInstance i → (o ≡ None → shifts ≡ []) → IfSome o (IsStated i shifts) → All (IsPricedRow i) (rows_of i shifts)
-by_cost i shifts None sound none h = priced_all i shifts sound (subst (λ (ss : List Shift). Each (λ (s : Shift). IsTeamPrice i (duty s) s.price) ss) (sym (none refl)) tt)
-by_cost i shifts (Some amount) sound none h = priced_all i shifts sound (each_price i shifts h.roster.shifts)
+by_cost : (i : Instance) (d : Labels) (c : Comparison) (shifts : List Shift) (o : Option ℕ) → IsSoundInstance i → (o ≡ None → shifts ≡ []) → IfSome o (IsStated i shifts) → All (IsPricedRow i) (rows_of i d c shifts)
+by_cost i d c shifts None sound none h = priced_all i d c shifts sound (subst (λ (ss : List Shift). Each (λ (s : Shift). IsTeamPrice i (duty s) s.price) ss) (sym (none refl)) tt)
+by_cost i d c shifts (Some amount) sound none h = priced_all i d c shifts sound (each_price i shifts h.roster.shifts)
 
-pub priced_rows : (i : Instance) (c : Cert) → IsSoundInstance i → IsSoundCert i c → IfSome c.cost (IsStated i c.shifts) → All (IsPricedRow i) (rows_of i c.shifts)
-priced_rows i c sound cert stated = by_cost i c.shifts c.cost sound cert.none stated
+pub priced_rows : (i : Instance) (d : Labels) (c : Comparison) (r : ShownRoster) → IsSoundInstance i → IsSoundShown i r → All (IsPricedRow i) (rows_of i d c r.shifts)
+priced_rows i d c r sound shown = by_cost i d c r.shifts r.cost sound shown.none shown.stated

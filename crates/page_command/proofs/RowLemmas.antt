@@ -11,14 +11,16 @@ use Rattle.roster_model.proofs.EachLemmas.{Each-weaker, each_all}
 use Rattle.certificates.specs.Sound.{IsSoundShift}
 use Rattle.page_parts.specs.Elements.{places}
 use Rattle.page_text.specs.declared.row.Row.{Row}
+use Rattle.page_labels.specs.declared.labels.Labels.{Labels}
+use Rattle.page_command.specs.declared.compare.Comparison.{Comparison}
 use Rattle.page_command.specs.Rows.{AreDerived, IsDerived, own_row, rows_at}
 
 -- the rows behind so many shifts, where there is a shift and where there is none
-pub row-there : (i : Instance) (shifts : List Shift) (k : ℕ) (s : Shift) → slice_get shifts k ≡ Some s → own_row i shifts k s ≡ rows_at i shifts k
-row-there i shifts k s e = rw (e, rows_at) refl
+pub row-there : (i : Instance) (d : Labels) (c : Comparison) (shifts : List Shift) (k : ℕ) (s : Shift) → slice_get shifts k ≡ Some s → own_row i d c shifts k s ≡ rows_at i d c shifts k
+row-there i d c shifts k s e = rw (e, rows_at) refl
 
-pub row-past : (i : Instance) (shifts : List Shift) (k : ℕ) (rows : List Row) → slice_get shifts k ≡ None → rows ≡ rows ++ rows_at i shifts k
-row-past i shifts k rows e = rw (e, rows_at) (sym (append-nil rows))
+pub row-past : (i : Instance) (d : Labels) (c : Comparison) (shifts : List Shift) (k : ℕ) (rows : List Row) → slice_get shifts k ≡ None → rows ≡ rows ++ rows_at i d c shifts k
+row-past i d c shifts k rows e = rw (e, rows_at) (sym (append-nil rows))
 
 -- one more place
 pub rows_more : (f : ℕ → List Row) (ks : List ℕ) (i : ℕ) (before after : List Row) → i < length ks → before ≡ flat_map f (take i ks) → after ≡ before ++ f (get_or ks i 0)

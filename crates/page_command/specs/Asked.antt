@@ -1,10 +1,11 @@
 -- The form that a value of the program stands for.
 use Rattle.page_command.specs.declared.form.Form as program
 use Rattle.page_command.specs.declared.form.Form.TheVariants as variants
-use Rattle.page_command.specs.Run.{Form, shown, labelled, dated, none}
+use Rattle.page_command.specs.Run.{Form, shown, labelled, beside, dated, none}
 
 abbrev pub asked : program.Form → Form
 asked (variants.Shown kind rules demand proof) = shown kind rules.now demand.now proof.now
 asked (variants.Labelled kind rules demand proof labels) = labelled kind rules.now demand.now proof.now labels.now
+asked (variants.Beside rules demand proof labels old) = beside rules.now demand.now proof.now labels.now old.now
 asked (variants.Dated date rules demand proof labels) = dated date rules.now demand.now proof.now labels.now
 asked variants.None = none

@@ -1,21 +1,18 @@
--- What the program answers to four texts and a day: the calendar of the roster where the certificate is accepted, and
--- where not the line of `check RULES DEMAND PROOF`.
+-- What the program answers to four texts and a day: the calendar of the roster where the certificate is
+-- accepted or the roster of the report allowed, and where not the lines of `check` or of `value`.
 use Rattle.std.specs.Prelude.{ℕ, ◌≡◌, List, Option, None, Some, Ok, codes}
-use Rattle.roster_model.specs.declared.grammar.Grammar.{Grammar}
 use Rattle.roster_model.specs.declared.instance.Instance.{Instance}
-use Rattle.certificates.specs.declared.cert.Cert.{Cert}
 use Rattle.page_labels.specs.LabelsOf.{labels_of}
 use Rattle.page_labels.specs.declared.clock.Clock.{Clock}
 use Rattle.page_labels.specs.declared.labels.Labels.{Labels}
-use Rattle.proof_pieces.specs.CertOf.{proof_of}
 use Rattle.shelf.specs.Shelf.{Texts}
-use Rattle.answers.specs.Asked.{DemandAnswers, ProofAnswers, TextAnswers}
-use Rattle.answers.specs.Readings.{IsGrammarOf, SaysFault, SaysProofFault}
+use Rattle.answers.specs.Asked.{TextsAnswers}
 use Rattle.answers.specs.Reader.{Holds}
 use Rattle.roster_calendar.specs.Marks.{mark_of}
 use Rattle.roster_calendar.specs.declared.date.Date.{Date}
 use Rattle.roster_calendar.specs.declared.setting.Setting.{Setting}
-use Rattle.page_command.specs.Check.{Judgement, SaysLabelFault}
+use Rattle.page_command.specs.Check.{RefusedLabels}
+use Rattle.page_command.specs.Report.{LineAnswers, RosterAnswers}
 use Rattle.page_command.specs.declared.kind.Kind.TheVariants.{Calendar}
 
 -- what is said where a labels text tells no clock
@@ -26,27 +23,16 @@ no_clock_line = codes "labels: no clock line\n"
 abbrev pub setting_of : Date → Clock → List ℕ → Setting
 setting_of date clock mark = record { date = date; clock = clock; mark = mark }
 
--- a line in place of a calendar, or the fault of the proof text, which comes first
-pub data NoCalendar (i : Instance) (text line : List ℕ) : ℕ → List ℕ → Type 0 where
-  line_said : (c : Cert) (output : List ℕ) → proof_of i text ≡ Ok c → output ≡ line → NoCalendar i text line 5 output
-  proof_refused : (output : List ℕ) → SaysProofFault i text output → NoCalendar i text line 5 output
-
--- the answers to a proof text under labels that tell this clock or none
+-- the answers to a proof text or a report under labels that tell this clock or none
 pub data ClockAnswers (date : Date) (mark : List ℕ) (d : Labels) (i : Instance) (text : List ℕ) :
     ℕ → List ℕ → Type 0 where
   answered : (c : Clock) (status : ℕ) (output : List ℕ) → d.clock ≡ Some c
-      → ProofAnswers (Judgement (Calendar (setting_of date c mark)) d) i text status output
+      → RosterAnswers (Calendar (setting_of date c mark)) d None i text status output
       → ClockAnswers date mark d i text status output
-  no_clock : (status : ℕ) (output : List ℕ) → d.clock ≡ None → NoCalendar i text no_clock_line status output
+  no_clock : (status : ℕ) (output : List ℕ) → d.clock ≡ None → LineAnswers i text no_clock_line status output
       → ClockAnswers date mark d i text status output
 
--- the answers to a proof text where the labels text is refused
-pub record RefusedLabels (labels : List ℕ) (i : Instance) (text : List ℕ) (status : ℕ) (output : List ℕ) : Type 0 where
-  pub line : List ℕ
-  pub fault : SaysLabelFault i labels line
-  pub answers : NoCalendar i text line status output
-
--- the answers to a proof text by a day, a rules text, a demand text and a labels text
+-- the answers to a proof text or a report by a day, a rules text, a demand text and a labels text
 pub data CalendarAnswers (date : Date) (rules demand labels : List ℕ) (i : Instance) (text : List ℕ) :
     ℕ → List ℕ → Type 0 where
   read : (d : Labels) (status : ℕ) (output : List ℕ) → labels_of i labels ≡ Ok d
@@ -54,12 +40,6 @@ pub data CalendarAnswers (date : Date) (rules demand labels : List ℕ) (i : Ins
       → CalendarAnswers date rules demand labels i text status output
   labels_refused : (status : ℕ) (output : List ℕ) → RefusedLabels labels i text status output
       → CalendarAnswers date rules demand labels i text status output
-
--- the answers to a rules text and a demand text, and then to the third text under a name
-pub data TextsAnswers (A : TextAnswers) (held : Option Texts) (rules demand name : List ℕ) : ℕ → List ℕ → Type 0 where
-  accepted : (g : Grammar) (status : ℕ) (output : List ℕ) → IsGrammarOf rules g
-      → DemandAnswers A held g demand name status output → TextsAnswers A held rules demand name status output
-  refused : (output : List ℕ) → SaysFault rules output → TextsAnswers A held rules demand name 3 output
 
 -- the answers to a day, a rules text and a labels text, and then to the demand and proof texts under names
 pub record AnswersDatedTexts (date : Date) (held : Option Texts) (rules labels demand_name proof_name : List ℕ)

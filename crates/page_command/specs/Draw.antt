@@ -1,11 +1,12 @@
--- What a page says of an accepted certificate.
-use Rattle.std.specs.Prelude.{ℕ, ◌≡◌, None, Some, List, [], length, map, Option}
+-- What a page says of a roster.
+use Rattle.std.specs.Prelude.{ℕ, ◌≡◌, None, Some, List, [], length, map, Option, IfSome}
 use Rattle.roster_model.specs.declared.grammar.CodeDef.{CodeDef}
 use Rattle.roster_model.specs.declared.instance.Cell.{Cell}
 use Rattle.roster_model.specs.declared.instance.Instance.{Instance}
+use Rattle.roster_model.specs.declared.instance.Shift.{Shift}
 use Rattle.roster_model.specs.Coverage.{covered, penalty}
-use Rattle.roster_model.specs.Folds.{sum_n}
-use Rattle.certificates.specs.declared.cert.Cert.{Cert}
+use Rattle.roster_model.specs.Folds.{Each, sum_n}
+use Rattle.certificate_laws.specs.Accepted.{IsStated}
 use Rattle.certificates.specs.RosterCauses.{duties, stated_prices}
 use Rattle.page_labels.specs.Labels.{code_words}
 use Rattle.page_labels.specs.declared.labels.Labels.{Labels}
@@ -15,40 +16,68 @@ use Rattle.page_text.specs.declared.column.CellCover.{CellCover}
 use Rattle.page_text.specs.declared.figures.Figures.{Figures}
 use Rattle.page_text.specs.Pages.{page}
 use Rattle.page_text.specs.declared.content.Content.{Content}
+use Rattle.roster_report.specs.Reports.{HasSoundShifts}
+use Rattle.roster_tables.specs.AxisTimes.{axis_times}
 use Rattle.roster_tables.specs.TablesOf.{tables_of}
+use Rattle.page_command.specs.Compared.{IsCompared}
+use Rattle.page_command.specs.declared.compare.Comparison.{Comparison}
+use Rattle.page_command.specs.declared.roster.ShownRoster.{ShownRoster}
 use Rattle.page_command.specs.Rows.{AreDerived, rows_of}
 
+-- a roster that can be shown: sound shifts that are allowed and have this cost, or none
+pub record IsSoundShown (i : Instance) (r : ShownRoster) : Type 0 where
+  pub shifts : HasSoundShifts i r.shifts
+  pub none : r.cost ≡ None → r.shifts ≡ []
+  pub stated : IfSome r.cost (IsStated i r.shifts)
+
+-- a roster beside which another can be shown: sound shifts with a letter for each period of the day
+pub record IsOldRoster (i : Instance) (old : List Shift) : Type 0 where
+  pub shifts : HasSoundShifts i old
+  pub whole : Each (λ (s : Shift). length s.word ≡ i.grammar.periods) old
+
 -- how each cell is covered, where there is a roster
-abbrev pub columns_of : Instance → Cert → Option ℕ → List CellCover
-columns_of i c None = []
-columns_of i c (Some cost) = map (column_of i.grammar (duties c.shifts)) i.cells
+abbrev pub columns_of : Instance → ShownRoster → Option ℕ → List CellCover
+columns_of i r None = []
+columns_of i r (Some cost) = map (column_of i.grammar (duties r.shifts)) i.cells
 
 -- what the stated prices and the penalties of all cells come to, where there is a roster
-abbrev pub figures_of : Instance → Cert → Option ℕ → Figures
-figures_of i c None = record { cost = None; bound = c.bound; paid = 0; penalty = 0 }
-figures_of i c (Some cost) = record {
+abbrev pub figures_of : Instance → ShownRoster → Option ℕ → Figures
+figures_of i r None = record { cost = None; bound = r.bound; paid = 0; penalty = 0 }
+figures_of i r (Some cost) = record {
   cost = Some cost;
-  bound = c.bound;
-  paid = sum_n (λ p. p) (stated_prices c.shifts);
-  penalty = sum_n (λ (x : Cell). penalty x (covered i.grammar x (duties c.shifts))) i.cells;
+  bound = r.bound;
+  paid = sum_n (λ p. p) (stated_prices r.shifts);
+  penalty = sum_n (λ (x : Cell). penalty x (covered i.grammar x (duties r.shifts))) i.cells;
 }
 
 -- for each code what it is called, or nothing
 abbrev pub words_of : Labels → List CodeDef → List (List ℕ)
 words_of d cs = map (code_words d.codes) (places (length cs))
 
--- what the page shows of a certificate under labels
-pub record IsContent (d : Labels) (i : Instance) (c : Cert) (p : Content) : Type 0 where
+-- what the page shows of a roster under labels, where this differs from an old roster
+pub record IsContentBeside (d : Labels) (i : Instance) (r : ShownRoster) (c : Comparison) (p : Content)
+    : Type 0 where
   pub title : p.title ≡ d.title
   pub words : p.words ≡ words_of d i.grammar.codes
-  pub figures : p.figures ≡ figures_of i c c.cost
-  pub rows : p.rows ≡ rows_of i c.shifts
+  pub money : p.money ≡ d.money
+  pub times : p.times ≡ axis_times d.clock i.grammar.periods
+  pub figures : p.figures ≡ figures_of i r r.cost
+  pub changes : p.changes ≡ c.changes
+  pub rows : p.rows ≡ rows_of i d c r.shifts
   pub derivations : AreDerived i p.rows p.derivations
-  pub columns : p.columns ≡ columns_of i c c.cost
-  pub tables : p.tables ≡ tables_of i d c.shifts (columns_of i c c.cost)
+  pub columns : p.columns ≡ columns_of i r r.cost
+  pub tables : p.tables ≡ tables_of i d r.shifts (columns_of i r r.cost)
 
--- the page of a certificate under labels
-pub record IsPage (d : Labels) (i : Instance) (c : Cert) (output : List ℕ) : Type 0 where
+-- what the page shows of a roster under labels, beside an old roster where there is one
+pub record IsContent (d : Labels) (i : Instance) (r : ShownRoster) (old : Option (List Shift)) (p : Content)
+    : Type 0 where
+  pub comparison : Comparison
+  pub compared : IsCompared i.grammar.periods old r.shifts comparison
+  pub beside : IsContentBeside d i r comparison p
+
+-- the page of a roster under labels, beside an old roster where there is one
+pub record IsPage (d : Labels) (i : Instance) (r : ShownRoster) (old : Option (List Shift)) (output : List ℕ)
+    : Type 0 where
   pub content : Content
-  pub shows : IsContent d i c content
+  pub shows : IsContent d i r old content
   pub text : output ≡ written (page i.grammar.periods i.grammar.codes content)

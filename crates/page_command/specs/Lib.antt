@@ -1,7 +1,11 @@
+pub mod Compared
 pub mod Rows
 pub mod Draw
-pub mod Check
 pub mod Shown
+pub mod Judgement
+pub mod Report
+pub mod Old
+pub mod Check
 pub mod Dated
 pub mod Statuses
 pub mod OnePage

@@ -7,7 +7,7 @@ use Rattle.page_text.specs.declared.content.Content.{Content}
 use Rattle.page_text.specs.declared.row.Row.{Row}
 use Rattle.shelf.specs.Shelf.{Texts}
 use Rattle.text_commands.specs.SameTexts.{AreTreesAtOnePrice}
-use Rattle.page_command.specs.Check.{AnswersLabelled, AnswersShown}
+use Rattle.page_command.specs.Check.{AnswersBeside, AnswersLabelled, AnswersShown}
 use Rattle.page_command.specs.Dated.{AnswersDated}
 use Rattle.page_command.specs.declared.kind.Kind.{Kind}
 use Rattle.roster_calendar.specs.declared.date.Date.{Date}
@@ -22,7 +22,10 @@ AreTreesOfRows _ _ _ = ⊥
 pub record IsSameButTrees (c d : Content) : Type 0 where
   pub title : c.title ≡ d.title
   pub words : c.words ≡ d.words
+  pub money : c.money ≡ d.money
+  pub times : c.times ≡ d.times
   pub figures : c.figures ≡ d.figures
+  pub changes : c.changes ≡ d.changes
   pub rows : c.rows ≡ d.rows
   pub columns : c.columns ≡ d.columns
   pub tables : c.tables ≡ d.tables
@@ -56,6 +59,14 @@ HaveOneLabelledPage =
     (k : Kind) (held : Texts) (rules demand proof labels : List ℕ) (s t : ℕ) (a b : List ℕ)
     → AnswersLabelled k (Some held) rules demand proof labels s a
     → AnswersLabelled k (Some held) rules demand proof labels t b
+    → (s ≡ t) × AreSameButTrees a b
+
+-- the same of two answers to the same five texts
+abbrev pub HaveOnePageBeside : Type 0
+HaveOnePageBeside =
+    (held : Texts) (rules demand proof labels old : List ℕ) (s t : ℕ) (a b : List ℕ)
+    → AnswersBeside (Some held) rules demand proof labels old s a
+    → AnswersBeside (Some held) rules demand proof labels old t b
     → (s ≡ t) × AreSameButTrees a b
 
 -- two answers to the same day and the same four texts are equal

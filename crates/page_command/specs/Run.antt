@@ -4,7 +4,7 @@ use Rattle.std.specs.Str.{bytes_eq}
 use Rattle.shelf.specs.Shelf.{Told}
 use Rattle.roster_calendar.specs.Dates.{date_of}
 use Rattle.roster_calendar.specs.declared.date.Date.{Date}
-use Rattle.page_command.specs.Check.{AnswersLabelled, AnswersShown}
+use Rattle.page_command.specs.Check.{AnswersBeside, AnswersLabelled, AnswersShown}
 use Rattle.page_command.specs.Dated.{AnswersDated}
 use Rattle.answers.specs.Reader.{IsReader}
 use Rattle.page_command.specs.declared.kind.Kind.{Kind}
@@ -13,7 +13,7 @@ use Rattle.page_command.specs.declared.kind.Kind.TheVariants.{Page, Table}
 -- what is said of other words
 abbrev pub no_form_line : List ℕ
 no_form_line =
-    codes "words: page RULES DEMAND PROOF [LABELS] | table RULES DEMAND PROOF [LABELS]"
+    codes "words: page RULES DEMAND PROOF [LABELS [OLD]] | table RULES DEMAND PROOF [LABELS]"
     ++ codes " | calendar RULES DEMAND PROOF LABELS DATE\n"
 
 -- the one answer to other words
@@ -25,6 +25,7 @@ pub record AnswersNoForm (status : ℕ) (output : List ℕ) : Type 0 where
 pub data Form : Type 0 where
   shown : Kind → List ℕ → List ℕ → List ℕ → Form
   labelled : Kind → List ℕ → List ℕ → List ℕ → List ℕ → Form
+  beside : List ℕ → List ℕ → List ℕ → List ℕ → List ℕ → Form
   dated : Date → List ℕ → List ℕ → List ℕ → List ℕ → Form
   none : Form
 
@@ -48,24 +49,28 @@ abbrev pub form_on : Option Date → List ℕ → List ℕ → List ℕ → List
 form_on None rules demand proof labels = none
 form_on (Some date) rules demand proof labels = dated date rules demand proof labels
 
--- the word for a calendar, and the names and the text of a day
-unfoldable pub dated_form : List ℕ → List ℕ → List ℕ → List ℕ → List ℕ → List ℕ → Form
-dated_form w rules demand proof labels date =
-    if bytes_eq w (codes "calendar") then form_on (date_of date) rules demand proof labels else none
+-- the word for a page, four names and that of an old text, or the word for a calendar, four names and a day
+unfoldable pub last_form : List ℕ → List ℕ → List ℕ → List ℕ → List ℕ → List ℕ → Form
+last_form w rules demand proof labels last =
+    if bytes_eq w (codes "page") then beside rules demand proof labels last
+    else (if bytes_eq w (codes "calendar") then form_on (date_of last) rules demand proof labels else none)
 
 -- what words ask for, by their number
 abbrev pub form_of : List (List ℕ) → Form
 form_of (w ∷ rules ∷ demand ∷ proof ∷ []) = shown_form (kind_of w) rules demand proof
 form_of (w ∷ rules ∷ demand ∷ proof ∷ labels ∷ []) = labelled_form (kind_of w) rules demand proof labels
-form_of (w ∷ rules ∷ demand ∷ proof ∷ labels ∷ date ∷ []) = dated_form w rules demand proof labels date
+form_of (w ∷ rules ∷ demand ∷ proof ∷ labels ∷ last ∷ []) = last_form w rules demand proof labels last
 form_of _ = none
 
--- what is done for a form: with labels their text is fetched behind the rules text
+-- what is done for a form: with labels their text is fetched behind the rules text, and then an old text
 abbrev pub DoesForm : Form → Told → Told → ℕ → Type 0
 DoesForm (shown k rules demand proof) before after status =
     IsReader (AnswersShown k before.held rules demand proof) (rules ∷ demand ∷ proof ∷ []) before after status
 DoesForm (labelled k rules demand proof labels) before after status =
     IsReader (AnswersLabelled k before.held rules demand proof labels) (rules ∷ labels ∷ demand ∷ proof ∷ [])
+    before after status
+DoesForm (beside rules demand proof labels old) before after status =
+    IsReader (AnswersBeside before.held rules demand proof labels old) (rules ∷ labels ∷ old ∷ demand ∷ proof ∷ [])
     before after status
 DoesForm (dated date rules demand proof labels) before after status =
     IsReader (AnswersDated date before.held rules demand proof labels) (rules ∷ labels ∷ demand ∷ proof ∷ [])

@@ -1,78 +1,50 @@
-ghost use Rattle.std.specs.Prelude.{◌≡◌, ◌≢◌, [], ◌∷◌, Err as Refused, IfOk};
+ghost use Rattle.std.specs.Prelude.{[], ◌∷◌, IfOk};
+ghost use Rattle.std.specs.Option.{option_copied};
 ghost use Rattle.roster_model.specs.SoundInstance.{IsSoundInstance};
-ghost use Rattle.page_command.specs.Check.{AnswersLabelled, AnswersLabelsText, AnswersShown, AnswersUnder, Judgement, LabelAnswers};
-ghost use Rattle.page_command.specs.declared.kind.Kind.{Kind as AnyKind};
-ghost use Rattle.page_labels.specs.FaultLine as label_line;
-ghost use Rattle.page_labels.specs.LabelsOf.{labels_of};
-ghost use Rattle.answer_texts.specs.VerdictText.{verdict_text};
-ghost use Rattle.answers.specs.Asked.{ProofAnswers};
 ghost use Rattle.answers.specs.Reader.{IsReader};
+ghost use Rattle.page_command.specs.Check.{
+  AnswersLabelled,
+  AnswersLabelsText,
+  AnswersShown,
+  BesideAnswers,
+  LabelAnswers,
+  OldAnswers,
+};
 
-use crate::draw::shown_answer;
+use crate::judgement::judgement;
 use crate::kind::Kind;
-use answers::{Answer, Question, ask, ask_rules_text, fetched, proof_refusal};
-use certificates::{Verdict, Why};
-use page_labels::{LabelFault, Labels, no_labels, read_labels};
-use proof_check::Judged;
+use crate::old::{read_old, refused_old};
+use crate::refused::refused_labels;
+use answers::{Answer, Question, ask, ask_rules_text, fetched};
+use page_labels::{Labels, no_labels, read_labels};
 use roster_model::{Instance, Memory};
 use shelf::Shelf;
 use std::alloc::Global;
-use text_commands::check::{judged, verdict_answer};
 
-// Says why a certificate is refused.
-fn no_answer(alloc: Global, why: Why) -> Result<Answer, Memory>
-    ensures { IfOk result (λ a. (a.status ≡ 1) × (a.output ≡ verdict_text (Verdict.No why))) }
-{
-    verdict_answer(alloc, &Verdict::No(why))
-}
-
-/// What is answered to a proof text under labels.
-///
-/// # Errors
-///
-/// `Memory` where memory runs out; there is no answer then.
-pub(crate) fn judgement(
-    alloc: Global,
-    kind: Kind,
-    instance: &Instance,
-    labels: &Labels,
-    text: &[u8],
-) -> Result<Answer, Memory>
-    requires { IsSoundInstance instance.now }
-    ensures { IfOk result (λ a. ProofAnswers (Judgement kind labels.now) instance.now text.now a.status a.output) }
-{
-    match judged(alloc, instance, text)? {
-        Judged::Said(Verdict::Yes { .. }) => shown_answer(alloc, kind, instance, labels, text),
-        Judged::Said(Verdict::No(why)) => no_answer(alloc, why),
-        Judged::Fault(fault) => proof_refusal(alloc, fault),
-    }
-}
-
-// Whether a certificate is accepted, and what shows it.
+// What shows a roster, or why it is refused.
 #[derive(Clone, Copy, Drop)]
 struct Drawing {
     kind: Kind,
 }
 
 impl Question for Drawing {
-    ghost use Rattle.page_command.specs.Check.{Judgement};
-    ghost use Rattle.page_command.specs.Statuses.{judged-ends};
+    ghost use Rattle.std.specs.Prelude.{None};
+    ghost use Rattle.page_command.specs.Report.{RosterAnswers};
+    ghost use Rattle.page_command.specs.Statuses.{roster-ends};
     ghost use Rattle.page_labels.specs.Labels.{nothing};
-    ghost use Rattle.answers.specs.Asked.{ProofAnswers};
-    ghost use Rattle.answers.specs.Statuses.{proof-ends};
 
-    ghost answers = { λ q. ProofAnswers (Judgement q.kind nothing) };
+    ghost answers = { λ q. RosterAnswers q.kind nothing None };
 
-    ghost ends = { λ q. proof-ends (Judgement q.kind nothing) (judged-ends q.kind nothing) };
+    ghost ends = { λ q. roster-ends q.kind nothing None };
 
-    // Says what shows the certificate, or why it is refused.
+    // Says what shows the roster, or why it is refused.
     fn answer(&self, alloc: Global, instance: &Instance, text: &[u8]) -> Result<Answer, Memory> {
-        judgement(alloc, self.kind, instance, &no_labels(alloc), text)
+        judgement(alloc, self.kind, instance, &no_labels(alloc), None, text)
     }
 }
 
-/// Says what shows a certificate that is accepted, by the rules, demand and proof texts under names, or why
-/// a text or the certificate is refused. The texts are fetched and read in this order.
+/// Says what shows a roster, by the rules, demand and proof texts under names, or why a text or the roster is
+/// refused. The texts are fetched and read in this order.
 pub fn draw<S: Shelf>(
     alloc: Global,
     shelf: &mut S,
@@ -87,56 +59,68 @@ pub fn draw<S: Shelf>(
     ask(alloc, shelf, rules, demand, proof, &Drawing { kind })
 }
 
-// Says why a labels text is refused.
-fn label_refusal(alloc: Global, fault: LabelFault) -> Result<Answer, Memory>
-    ensures { IfOk result (λ a. (fault ≢ LabelFault.Memory) × (a.status ≡ 5)
-        × (a.output ≡ label_line.fault_line fault)) }
-{
-    match fault {
-        LabelFault::Memory => Err(Memory),
-        _ => Ok(Answer {
-            status: 5,
-            output: page_labels::fault_line(alloc, &fault)?,
-        }),
-    }
-}
-
-// What is answered to a proof text under a labels text that is refused; a fault of the proof text comes first.
-fn refused_labels(
+// What is answered to a proof text or a report under labels and beside an old text.
+fn answer_beside(
     alloc: Global,
+    kind: Kind,
     instance: &Instance,
-    labels: &[u8],
+    labels: &Labels,
+    old: &[u8],
     text: &[u8],
-    fault: LabelFault,
 ) -> Result<Answer, Memory>
-    requires sound { IsSoundInstance instance.now }
-    requires fault { fault ≢ LabelFault.Memory → labels_of instance.now labels.now ≡ Refused fault }
-    ensures { IfOk result (λ a. (k : AnyKind) → LabelAnswers k labels.now instance.now text.now a.status a.output) }
+    requires { IsSoundInstance instance.now }
+    ensures { IfOk result (λ a. OldAnswers kind labels.now old.now instance.now text.now a.status a.output) }
 {
-    match judged(alloc, instance, text)? {
-        Judged::Said(_) => label_refusal(alloc, fault),
-        Judged::Fault(fault) => proof_refusal(alloc, fault),
+    match read_old(alloc, instance, old) {
+        Ok(shifts) => judgement(alloc, kind, instance, labels, Some(shifts.as_slice()), text),
+        Err(fault) => refused_old(alloc, instance, text, old, fault),
     }
 }
 
-// What is answered to a proof text under a labels text.
-fn answer_under(
+// The same, where there may be no old text.
+fn answer_with(
+    alloc: Global,
+    kind: Kind,
+    instance: &Instance,
+    labels: &Labels,
+    old: Option<&[u8]>,
+    text: &[u8],
+) -> Result<Answer, Memory>
+    requires { IsSoundInstance instance.now }
+    ensures { IfOk result (λ a. BesideAnswers kind labels.now (option_copied old.entry) instance.now text.now
+        a.status a.output) }
+{
+    match old {
+        None => judgement(alloc, kind, instance, labels, None, text),
+        Some(old) => answer_beside(alloc, kind, instance, labels, old, text),
+    }
+}
+
+/// What is answered to a proof text or a report under a labels text, and beside an old text where there is
+/// one.
+///
+/// # Errors
+///
+/// `Memory` where memory runs out; there is no answer then.
+pub(crate) fn answer_under(
     alloc: Global,
     kind: Kind,
     instance: &Instance,
     labels: &[u8],
+    old: Option<&[u8]>,
     text: &[u8],
 ) -> Result<Answer, Memory>
     requires { IsSoundInstance instance.now }
-    ensures { IfOk result (λ a. LabelAnswers kind labels.now instance.now text.now a.status a.output) }
+    ensures { IfOk result (λ a. LabelAnswers kind labels.now (option_copied old.entry) instance.now text.now
+        a.status a.output) }
 {
     match read_labels(alloc, instance, labels) {
-        Ok(said) => judgement(alloc, kind, instance, &said, text),
-        Err(fault) => refused_labels(alloc, instance, labels, text, fault),
+        Ok(said) => answer_with(alloc, kind, instance, &said, old, text),
+        Err(fault) => refused_labels(alloc, instance, text, labels, fault),
     }
 }
 
-// Whether a certificate is accepted, and what shows it under a labels text.
+// What shows a roster under a labels text.
 #[derive(Drop)]
 struct Labelled<'a> {
     kind: Kind,
@@ -144,44 +128,22 @@ struct Labelled<'a> {
 }
 
 impl<'a> Question for Labelled<'a> {
+    ghost use Rattle.std.specs.Prelude.{None};
     ghost use Rattle.page_command.specs.Check.{LabelAnswers};
     ghost use Rattle.page_command.specs.Statuses.{label-ends};
 
-    ghost answers = { λ q. LabelAnswers q.kind q.labels.now };
+    ghost answers = { λ q. LabelAnswers q.kind q.labels.now None };
 
-    ghost ends = { λ q. label-ends q.kind q.labels.now };
+    ghost ends = { λ q. label-ends q.kind q.labels.now None };
 
-    // Says what shows the certificate, or why it is refused.
+    // Says what shows the roster, or why it is refused.
     fn answer(&self, alloc: Global, instance: &Instance, text: &[u8]) -> Result<Answer, Memory> {
-        answer_under(alloc, self.kind, instance, self.labels, text)
+        answer_under(alloc, self.kind, instance, self.labels, None, text)
     }
 }
 
-// Says what shows a certificate under a labels text, by a rules text and the demand and proof texts
-// under names.
-fn draw_under<S: Shelf>(
-    alloc: Global,
-    shelf: &mut S,
-    kind: Kind,
-    rules: &[u8],
-    demand: &str,
-    proof: &str,
-    labels: &[u8],
-) -> u8
-    ensures { IsReader (AnswersUnder kind labels.now rules.now (S.told shelf.old).held demand.now proof.now)
-        (demand.now ∷ proof.now ∷ []) (S.told shelf.old) (S.told shelf.new) result }
-{
-    ask_rules_text(
-        alloc,
-        shelf,
-        rules,
-        demand,
-        proof,
-        &Labelled { kind, labels },
-    )
-}
-
-// The same, where the labels text is still to be fetched.
+// Says what shows a roster under a labels text that is still to be fetched, by a rules text and the demand
+// and proof texts under names.
 fn draw_by_rules<S: Shelf>(
     alloc: Global,
     shelf: &mut S,
@@ -195,14 +157,18 @@ fn draw_by_rules<S: Shelf>(
         (labels.now ∷ demand.now ∷ proof.now ∷ []) (S.told shelf.old) (S.told shelf.new) result }
 {
     match fetched(alloc, shelf, labels) {
-        Ok(text) => draw_under(alloc, shelf, kind, rules, demand, proof, text.as_slice()),
+        Ok(text) => {
+            let labels = text.as_slice();
+            let question = Labelled { kind, labels };
+            ask_rules_text(alloc, shelf, rules, demand, proof, &question)
+        }
         Err(status) => status,
     }
 }
 
-/// Says what shows a certificate that is accepted, under labels, by the rules, demand, proof and labels texts under
-/// names, or why a text or the certificate is refused. The rules text is fetched first, then the labels text, the
-/// demand text and the proof text; a fault of the labels text comes last.
+/// Says what shows a roster under labels, by the rules, demand, proof and labels texts under names, or why a
+/// text or the roster is refused. The rules text is fetched first, then the labels text, the demand text and
+/// the proof text; a fault of the labels text comes last.
 pub fn draw_labelled<S: Shelf>(
     alloc: Global,
     shelf: &mut S,

@@ -1,4 +1,4 @@
-ghost use Rattle.std.specs.Prelude.{◌≡◌, ◌≢◌, [], ◌∷◌, Err as Refused, IfOk};
+ghost use Rattle.std.specs.Prelude.{[], ◌∷◌, IfOk};
 ghost use Rattle.roster_model.specs.SoundInstance.{IsSoundInstance};
 ghost use Rattle.answers.specs.Reader.{IsReader};
 ghost use Rattle.page_command.specs.Dated.{
@@ -7,47 +7,22 @@ ghost use Rattle.page_command.specs.Dated.{
   AnswersDatedTexts,
   CalendarAnswers,
   ClockAnswers,
-  NoCalendar,
-  RefusedLabels,
 };
-ghost use Rattle.page_labels.specs.LabelsOf.{labels_of};
 
-use crate::asking::ask_texts;
-use crate::check::judgement;
+use crate::judgement::judgement;
 use crate::kind::Kind;
-use crate::rows::copied;
-use answers::{Answer, Question, fetched, proof_refusal};
-use page_labels::{LabelFault, Labels, fault_line, read_labels};
-use proof_check::Judged;
+use crate::refused::{line_answer, refused_labels};
+use answers::{Answer, Question, ask_texts, fetched};
+use page_labels::{Labels, read_labels};
 use roster_calendar::{Date, Setting, mark_of};
 use roster_model::{Instance, Memory};
 use shelf::Shelf;
 use std::alloc::Global;
-use text_commands::check::judged;
 
 // What is said where labels tell no clock.
 const NO_CLOCK: &[u8] = b"labels: no clock line\n";
 
-// What is answered to a proof text where there can be no calendar: this line; a fault of the proof text comes first.
-fn no_calendar(
-    alloc: Global,
-    instance: &Instance,
-    text: &[u8],
-    line: &[u8],
-) -> Result<Answer, Memory>
-    requires { IsSoundInstance instance.now }
-    ensures { IfOk result (λ a. NoCalendar instance.now text.now line.now a.status a.output) }
-{
-    match judged(alloc, instance, text)? {
-        Judged::Said(_) => {
-            let output = copied(alloc, line)?;
-            Ok(Answer { status: 5, output })
-        }
-        Judged::Fault(fault) => proof_refusal(alloc, fault),
-    }
-}
-
-// What is answered to a proof text under labels.
+// What is answered to a proof text or a report under labels.
 fn clock_answer(
     alloc: Global,
     instance: &Instance,
@@ -60,10 +35,10 @@ fn clock_answer(
     ensures { IfOk result (λ a. ClockAnswers date mark labels.now instance.now text.now a.status a.output) }
 {
     match labels.clock {
-        None => no_calendar(alloc, instance, text, NO_CLOCK),
+        None => line_answer(alloc, instance, text, NO_CLOCK),
         Some(clock) => {
             let kind = Kind::Calendar(Setting { date, clock, mark });
-            judgement(alloc, kind, instance, labels, text)
+            judgement(alloc, kind, instance, labels, None, text)
         }
     }
 }
@@ -77,28 +52,7 @@ struct Dated<'a> {
     labels: &'a [u8],
 }
 
-// What is answered to a proof text where the labels text is refused.
-fn refused_labels(
-    alloc: Global,
-    instance: &Instance,
-    text: &[u8],
-    labels: &[u8],
-    fault: LabelFault,
-) -> Result<Answer, Memory>
-    requires sound { IsSoundInstance instance.now }
-    requires fault { fault ≢ LabelFault.Memory → labels_of instance.now labels.now ≡ Refused fault }
-    ensures { IfOk result (λ a. RefusedLabels labels.now instance.now text.now a.status a.output) }
-{
-    match fault {
-        LabelFault::Memory => Err(Memory),
-        _ => {
-            let line = fault_line(alloc, &fault)?;
-            no_calendar(alloc, instance, text, line.as_slice())
-        }
-    }
-}
-
-// What is answered to a proof text.
+// What is answered to a proof text or a report.
 fn calendar_answer(
     alloc: Global,
     instance: &Instance,
@@ -126,7 +80,7 @@ impl<'a> Question for Dated<'a> {
 
     ghost ends = { λ q. calendar-ends q.date q.rules.now q.demand.now q.labels.now };
 
-    // Says the calendar of the certificate, or why there is none.
+    // Says the calendar of the roster, or why there is none.
     fn answer(&self, alloc: Global, instance: &Instance, text: &[u8]) -> Result<Answer, Memory> {
         calendar_answer(alloc, instance, text, self)
     }
@@ -179,9 +133,10 @@ fn draw_dated_labels<S: Shelf>(
     }
 }
 
-/// Says the calendar of a certificate that is accepted, on a day and under labels, by the rules, demand, proof and
-/// labels texts under names, or why a text or the certificate is refused. The rules text is fetched first, then the
-/// labels text, the demand text and the proof text; a fault of the labels text, or that it tells no clock, comes last.
+/// Says the calendar of a roster on a day and under labels, by the rules, demand, proof and labels texts
+/// under names, or why a text or the roster is refused. The rules text is fetched first, then the labels
+/// text, the demand text and the proof text; a fault of the labels text, or that it tells no clock, comes
+/// last.
 pub fn draw_dated<S: Shelf>(
     alloc: Global,
     shelf: &mut S,

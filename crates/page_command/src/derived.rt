@@ -1,7 +1,8 @@
 ghost use Rattle.std.specs.Prelude.{◌≡◌, All, length, IfOk};
-ghost use Rattle.page_command.specs.Rows.{AreDerived, IsDerived, IsPricedRow, plain_from, start_of};
+ghost use Rattle.group_rules.specs.Plain.{plain_from};
+ghost use Rattle.page_command.specs.Rows.{AreDerived, IsDerived, IsPricedRow, start_of};
 
-use crate::rules::plain_grammar;
+use group_rules::plain_grammar;
 use page_text::Row;
 use roster_model::{Grammar, Instance, List, Memory};
 use std::alloc::Global;

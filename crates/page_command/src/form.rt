@@ -1,5 +1,5 @@
 ghost use Rattle.std.specs.Prelude.{◌≡◌, map, string_bytes};
-ghost use Rattle.page_command.specs.Run.{dated_form, form_of, form_on, kind_of, labelled_form, shown_form};
+ghost use Rattle.page_command.specs.Run.{form_of, form_on, kind_of, labelled_form, last_form, shown_form};
 ghost use Rattle.page_command.specs.Asked.{asked};
 
 use crate::kind::{Kind, kind_of};
@@ -8,7 +8,7 @@ use roster_calendar::{Date, date_of};
 /// What the words of the command line ask for.
 #[derive(Clone, Copy, Drop)]
 pub enum Form<'a> {
-    /// What is said of a certificate, by the rules, demand and proof texts under names.
+    /// What shows a roster, by the rules, demand and proof texts under names.
     Shown {
         kind: Kind,
         rules: &'a str,
@@ -23,7 +23,15 @@ pub enum Form<'a> {
         proof: &'a str,
         labels: &'a str,
     },
-    /// The calendar of its roster on a day, under the labels text under a name.
+    /// The page under the labels text under a name, beside the old text under another.
+    Beside {
+        rules: &'a str,
+        demand: &'a str,
+        proof: &'a str,
+        labels: &'a str,
+        old: &'a str,
+    },
+    /// The calendar on a day, under the labels text under a name.
     Dated {
         date: Date,
         rules: &'a str,
@@ -94,20 +102,29 @@ fn form_on<'a>(
     }
 }
 
-// Reads a word, the names of three texts and of a labels text, and a day.
-#[tactic(auto, unfolding(crate::specs::Run::dated_form))]
-fn dated_form<'a>(
+// Reads a word, the names of three texts and of a labels text, and the name of an old text or a day.
+#[tactic(auto, unfolding(crate::specs::Run::last_form))]
+fn last_form<'a>(
     word: &str,
     rules: &'a str,
     demand: &'a str,
     proof: &'a str,
     labels: &'a str,
-    date: &str,
+    last: &'a str,
 ) -> Form<'a>
-    ensures { asked result ≡ dated_form word.now rules.now demand.now proof.now labels.now date.now }
+    ensures { asked result ≡ last_form word.now rules.now demand.now proof.now labels.now last.now }
 {
+    if word == "page" {
+        return Form::Beside {
+            rules,
+            demand,
+            proof,
+            labels,
+            old: last,
+        };
+    }
     if word == "calendar" {
-        return form_on(date_of(date.as_bytes()), rules, demand, proof, labels);
+        return form_on(date_of(last.as_bytes()), rules, demand, proof, labels);
     }
     Form::None
 }
@@ -130,13 +147,13 @@ pub fn form_of(words: &[String]) -> Form<'_>
             proof.as_str(),
             labels.as_str(),
         ),
-        [word, rules, demand, proof, labels, date] => dated_form(
+        [word, rules, demand, proof, labels, last] => last_form(
             word.as_str(),
             rules.as_str(),
             demand.as_str(),
             proof.as_str(),
             labels.as_str(),
-            date.as_str(),
+            last.as_str(),
         ),
         _ => Form::None,
     }

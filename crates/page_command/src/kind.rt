@@ -3,7 +3,7 @@ ghost use Rattle.page_command.specs.Run.{kind_of};
 
 use roster_calendar::Setting;
 
-/// As what a certificate is shown.
+/// As what a roster is shown.
 #[derive(Clone, Copy, Debug, PartialEq, Eq, Drop)]
 pub enum Kind {
     /// As a page.

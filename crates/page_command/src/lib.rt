@@ -1,17 +1,25 @@
-//! The second program's one command: a certificate that it has checked itself, as a page.
+//! The second program's one command: a certificate that it has checked itself, or the roster of a report, as
+//! a page.
 #![tactic(auto)]
 
-mod asking;
+mod accepted;
+mod beside;
 mod check;
+mod compare;
 mod dated;
 mod derived;
 mod draw;
 mod form;
+mod judgement;
 mod kind;
 mod laws;
+mod old;
+mod old_fault;
 mod program;
+mod refused;
+mod report;
+mod roster;
 mod rows;
-mod rules;
 
 pub use laws::{groups_derive_by_the_rules, one_page};
 pub use program::run;

@@ -2,6 +2,7 @@ ghost use Rattle.std.specs.Prelude.{[], map, string_bytes};
 ghost use Rattle.answers.specs.Reader.{IsReader};
 ghost use Rattle.page_command.specs.Run.{AnswersNoForm, Does};
 
+use crate::beside::draw_beside;
 use crate::check::{draw, draw_labelled};
 use crate::dated::draw_dated;
 use crate::form::{Form, form_of};
@@ -10,12 +11,13 @@ use shelf::Shelf;
 use std::alloc::Global;
 
 const NO_FORM: &[u8] =
-    b"words: page RULES DEMAND PROOF [LABELS] | table RULES DEMAND PROOF [LABELS] \
+    b"words: page RULES DEMAND PROOF [LABELS [OLD]] | table RULES DEMAND PROOF [LABELS] \
 | calendar RULES DEMAND PROOF LABELS DATE\n";
 
 // What is noted where the words are of no form.
-const FORM: &str = "RULES DEMAND PROOF LABELS are the names of texts; \
-the page of the certificate PROOF, or the table of its roster, is printed, under the labels LABELS where they are named; \
+const FORM: &str = "RULES DEMAND PROOF LABELS OLD are the names of texts; \
+the page of the certificate or the report PROOF, or the table of its roster, is printed, \
+under the labels LABELS where they are named, and beside the roster of the certificate or the report OLD; \
 the calendar of its roster on the day DATE, as 2026-01-31, is printed under labels that tell a clock";
 
 // Says that words are of no form.
@@ -33,25 +35,28 @@ fn refuse_words<S: Shelf>(shelf: &mut S) -> u8
     say_no_form(shelf)
 }
 
-/// Says the page of the certificate of the texts that the words `page RULES DEMAND PROOF` name, or with `table` in
-/// place of `page` the table of its roster, under the labels text that a fifth word names; or with `calendar` and a
-/// sixth word, a day as `2026-01-31`, the calendar of its roster; and returns the status:
+/// Says the page of the certificate of the texts that the words `page RULES DEMAND PROOF` name, or with
+/// `table` in place of `page` the table of its roster, under the labels text that a fifth word names, and a
+/// page beside the roster of the certificate that a sixth names; or with `calendar` and a sixth word, a day
+/// as `2026-01-31`, the calendar of its roster. In place of each certificate may stand a report, whose roster
+/// is valued and not proved. Returns the status:
 ///
 /// | status | comes |
 /// |---|---|
-/// | 0 | the certificate is accepted; the page, the table or the calendar is said |
-/// | 1 | the certificate is refused |
+/// | 0 | the certificate is accepted, or the roster of the report allowed; what shows the roster is said |
+/// | 1 | the certificate is refused, or the roster of the report not allowed |
 /// | 2 | the words are of no form |
 /// | 3 | the rules text is refused |
 /// | 4 | the demand text is refused |
-/// | 5 | the proof text or the labels text is refused, or a calendar has no clock |
+/// | 5 | the proof text, the report, the labels text or the old text is refused, or a calendar has no clock |
 /// | 6 | the shelf refused a call |
 /// | 7 | memory did not suffice |
 ///
-/// Nothing is stored. With 1, 3, 4 and 5 one line is said, the one that `check` of the roster program says, or of the
-/// labels text as `labels: line 2: said twice`, and with 2 the line
-/// `words: page RULES DEMAND PROOF [LABELS] | table RULES DEMAND PROOF [LABELS] | calendar RULES DEMAND PROOF LABELS
-/// DATE` on one line. With 6 and 7 no more is said than a front of an answer.
+/// Nothing is stored. With 1, 3, 4 and 5 what `check` of the roster program says is said, or of a report what
+/// `value` says, or one line of the labels text, as `labels: line 2: said twice`, or of the old text, as
+/// `old: shift 2: wrong length`; with 2 the line `words: page RULES DEMAND PROOF [LABELS [OLD]] | table RULES
+/// DEMAND PROOF [LABELS] | calendar RULES DEMAND PROOF LABELS DATE` on one line. With 6 and 7 no more is said
+/// than a front of an answer.
 pub fn run<S: Shelf>(alloc: Global, shelf: &mut S, words: &[String]) -> u8
     ensures { Does (map string_bytes words.now) (S.told shelf.old) (S.told shelf.new) result }
 {
@@ -69,6 +74,13 @@ pub fn run<S: Shelf>(alloc: Global, shelf: &mut S, words: &[String]) -> u8
             proof,
             labels,
         } => draw_labelled(alloc, shelf, kind, rules, demand, proof, labels),
+        Form::Beside {
+            rules,
+            demand,
+            proof,
+            labels,
+            old,
+        } => draw_beside(alloc, shelf, rules, demand, proof, labels, old),
         Form::Dated {
             date,
             rules,

@@ -3,3 +3,5 @@
 
 #[cfg(test)]
 mod page_tests;
+#[cfg(test)]
+mod report_tests;

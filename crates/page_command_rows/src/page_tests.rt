@@ -117,7 +117,10 @@ const TEXTS: [(&str, &str); 29] = [
     ("long", LONG),
     ("empty", ""),
     ("twice", "title a\ntitle b\n"),
-    ("named", "title <Day>\nclock 7:00 30\ncode a R&D\n"),
+    (
+        "named",
+        "title <Day>\nclock 7:00 30\ncode a R&D\nmoney E&R\n",
+    ),
     ("called", "clock 7:00 30\ncode a =desk, phone\n"),
     ("halves", HALVES),
     ("groups", "group F 0 1\ngroup H 1 2\nneed a 10 2 2 1\n"),
@@ -137,14 +140,14 @@ fn put_texts(shelf: &mut MemoryShelf) -> Result<(), Fail> {
 }
 
 /// Returns a shelf with the texts of the tests, whose calls of these numbers fail.
-fn shelf(alloc: Global, failing: &[u32]) -> Result<MemoryShelf, Fail> {
+pub(crate) fn shelf(alloc: Global, failing: &[u32]) -> Result<MemoryShelf, Fail> {
     let mut shelf = MemoryShelf::new(alloc, failing.to_vec(alloc)?);
     put_texts(&mut shelf)?;
     Ok(shelf)
 }
 
 /// Runs the program on these words, and returns its status.
-fn answer(alloc: Global, shelf: &mut MemoryShelf, words: &[&str]) -> Result<u8, Fail> {
+pub(crate) fn answer(alloc: Global, shelf: &mut MemoryShelf, words: &[&str]) -> Result<u8, Fail> {
     let mut owned = Vec::new(alloc);
     for word in words {
         owned.push(String::from_str(alloc, word)?)?;
@@ -153,19 +156,26 @@ fn answer(alloc: Global, shelf: &mut MemoryShelf, words: &[&str]) -> Result<u8, 
 }
 
 /// Whether a part stands somewhere in a text.
-fn has(text: &[u8], part: &str) -> bool {
+pub(crate) fn has(text: &[u8], part: &str) -> bool {
     let part = part.as_bytes();
     part.len() > 0 && text.windows(part.len()).any(|window| window == part)
 }
 
 /// What is said of words of no form.
-const FORMS: &str = "words: page RULES DEMAND PROOF [LABELS] | table RULES DEMAND PROOF [LABELS] \
+const FORMS: &str =
+    "words: page RULES DEMAND PROOF [LABELS [OLD]] | table RULES DEMAND PROOF [LABELS] \
 | calendar RULES DEMAND PROOF LABELS DATE\n";
 
 /// The words, the number of the call that fails or 0, the status, and with what begins what is said.
 type End<'a> = (&'a [&'a str], u32, u8, &'a str);
 
-const ENDS: [End<'static>; 20] = [
+const ENDS: [End<'static>; 21] = [
+    (
+        &["table", "g1", "two", "best", "called", "best"],
+        0,
+        2,
+        FORMS,
+    ),
     (&["g1", "two"], 0, 2, FORMS),
     (&["g1", "two", "best"], 0, 2, FORMS),
     (&["check", "g1", "two", "best"], 0, 2, FORMS),
@@ -337,6 +347,7 @@ a</text></g>\n\
 <tbody>\n\
 <tr><td>a</td><td>6</td><td>100.0 %</td></tr>\n\
 <tr><td>.</td><td>2</td><td></td></tr>\n\
+<tr><td>all</td><td></td><td>100.0 %</td></tr>\n\
 </tbody></table></div></section>\n\
 <section class='list'><h2>Employees</h2>\n\
 <div class='scroll'><table><thead><tr><th>Group</th><th>Shifts</th><th>At least</th><th>At most</th>\
@@ -502,11 +513,15 @@ fn show_all(alloc: Global, pages: &[Page<'_>]) -> Result<(), Fail> {
 }
 
 /// What stands on the page of the blocks under labels.
-const LABELLED: [&str; 4] = [
+const LABELLED: [&str; 8] = [
     "<h1>&lt;Day&gt;</h1>",
     "<span class='chip w0'>a</span><span>R&amp;D</span>work</li>",
     "<tr><td>a R&amp;D</td><td>6</td>",
-    "<tr><td>2</td><td>7:00</td><td>8:30</td><td>3</td><td>1:30</td><td>5</td>",
+    "<tr><td>2</td><td>7:00</td><td>8:30</td><td>3</td><td>1:30</td><td>5 E&amp;R</td>",
+    "<dt>Total cost</dt><dd>10 E&amp;R</dd>",
+    "<text class='price' x='298' y='47'>5 E&amp;R</text>",
+    "<text class='tick' x='56' y='20'>7:00</text><text class='tick' x='96' y='20'>7:30</text>",
+    "<text class='tick' x='176' y='127'>8:30</text></svg>",
 ];
 
 #[test]
@@ -515,6 +530,14 @@ fn labels_stand_on_the_page(rt: HostRuntime) -> Result<(), Fail> {
     let words = ["page", "g1", "two", "best", "named"];
     assert!(rt; answer(rt.alloc(), &mut shelf, &words)? == 0);
     assert!(rt; LABELLED.iter().all(|part| has(shelf.said(), part)));
+    let team = ["page", "halves", "groups", "staff", "team"];
+    assert!(rt; answer(rt.alloc(), &mut shelf, &team)? == 0);
+    assert!(rt;
+        has(
+            shelf.said(),
+            "<text class='name' x='118' y='47'>full time</text>"
+        )
+    );
     Ok(())
 }
 

@@ -365,8 +365,9 @@ fn another_encoding_is_named(rt: HostRuntime) -> Result<(), Fail> {
 }
 
 /// What the page's program notes to words of no form.
-const PAGE_FORM: &str = "RULES DEMAND PROOF LABELS are the names of texts; \
-the page of the certificate PROOF, or the table of its roster, is printed, under the labels LABELS where they are named; \
+const PAGE_FORM: &str = "RULES DEMAND PROOF LABELS OLD are the names of texts; \
+the page of the certificate or the report PROOF, or the table of its roster, is printed, \
+under the labels LABELS where they are named, and beside the roster of the certificate or the report OLD; \
 the calendar of its roster on the day DATE, as 2026-01-31, is printed under labels that tell a clock\n";
 
 fn notes_page_form(alloc: Global) -> Result<bool, Fail> {

@@ -23,4 +23,4 @@ mod shift;
 pub use fault::RosterFault;
 pub use laws::refused_line;
 pub use message::fault_line;
-pub use read::read_roster;
+pub use read::{begins_report, read_roster};

@@ -13,8 +13,8 @@ use text_lines::{BadByte, Line, Lines};
 /// A text has at most so many bytes.
 const MOST_BYTES: usize = 1_048_576;
 
-// Whether the first line of a text is that of a report.
-fn begins_report(text: &[u8]) -> bool
+/// Whether the first line of a text is that of a report.
+pub fn begins_report(text: &[u8]) -> bool
     requires { length text.now < 2 ^ 32 }
     ensures { result ≡ begins_report (text_items text.now) }
 {

@@ -32,8 +32,12 @@ pub fn roster_refusal(alloc: Global, fault: RosterFault) -> Result<Answer, Memor
     }
 }
 
-// Says what a roster comes to.
-fn value_of(alloc: Global, instance: &Instance, shifts: &[Shift]) -> Result<Answer, Memory>
+/// Says what a roster comes to.
+///
+/// # Errors
+///
+/// `Memory` where memory runs out; there is no answer then.
+pub fn value_of(alloc: Global, instance: &Instance, shifts: &[Shift]) -> Result<Answer, Memory>
     requires sound { IsSoundInstance instance.now }
     requires shifts { IsSoundRoster instance.now shifts.now }
     ensures { IfOk result (λ a. StatedAnswer instance.now shifts.now a.status a.output) }

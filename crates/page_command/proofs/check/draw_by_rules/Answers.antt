@@ -2,15 +2,16 @@ use Rattle.std.proofs.Common.{[], ◌∷◌}
 use Rattle.shelf.specs.Shelf.{Told}
 use Rattle.answers.proofs.AskedLemmas.{unread}
 use Rattle.page_command.specs.Check.{AnswersLabelsText}
-use Rattle.page_command.proofs.LabelledReaders.{labels-read}
+use Rattle.page_command.proofs.LabelledReaders.{labels-fetched}
 use Rattle.page_command.proofs.check.draw_by_rules.Goals as goal
 
 pub returns-in-Ok : goal.returns-in-Ok
 returns-in-Ok g c =
     let before : Told = g.S.Shelf.told c.args.shelf.now in
     let middle : Told = g.S.Shelf.told c.fetched.new.shelf in
-    let after : Told = g.S.Shelf.told c.draw_under.new.shelf in
-    labels-read c.args.kind before after c.draw_under.result c.args.demand.now c.args.proof.now c.args.rules.now c.args.labels.now c.in-Ok.text.items middle c.in-Ok.ensures.text (rw c.as_slice.ensures.value at c.draw_under.ensures)
+    let after : Told = g.S.Shelf.told c.ask_rules_text.new.shelf in
+    labels-fetched c.args.kind before after c.ask_rules_text.result c.args.demand.now c.args.proof.now c.args.rules.now c.args.labels.now c.in-Ok.text.items middle c.in-Ok.ensures.text
+    (rw c.as_slice-labels.ensures.value at c.ask_rules_text.ensures)
 
 pub returns-in-Err : goal.returns-in-Err
 returns-in-Err g c =

@@ -3,7 +3,7 @@ use Rattle.page_command.proofs.dated.clock_answer.Goals as goal
 
 pub returns-in-None : goal.returns-in-None
 returns-in-None c =
-    no-clock-told c.args.date c.args.mark c.args.labels.now c.args.instance.now c.args.text.now c.no_calendar.result c.in-None.is c.no_calendar.ensures
+    no-clock-told c.args.date c.args.mark c.args.labels.now c.args.instance.now c.args.text.now c.line_answer.result c.in-None.is c.line_answer.ensures
 
 pub returns-in-Some : goal.returns-in-Some
 returns-in-Some c =

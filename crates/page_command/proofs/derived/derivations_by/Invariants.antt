@@ -1,5 +1,6 @@
 use Rattle.std.proofs.Common.{◌≡◌, length, take}
-use Rattle.page_command.specs.Rows.{AreDerived, plain_from}
+use Rattle.group_rules.specs.Plain.{plain_from}
+use Rattle.page_command.specs.Rows.{AreDerived}
 use Rattle.page_command.proofs.derived.derivations_by.Given as goal
 
 abbrev pub invariant-loop-row : goal.invariant-loop-row

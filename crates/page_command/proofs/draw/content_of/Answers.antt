@@ -1,20 +1,11 @@
-use Rattle.page_command.proofs.Columns.{day_columns}
-use Rattle.page_command.proofs.PricedRows.{priced_rows}
-use Rattle.page_command.proofs.RowLemmas.{short_words}
+use Rattle.std.specs.Option.{option_copied}
+use Rattle.std.proofs.lemmas.Option.{IfSome_then}
+use Rattle.page_command.proofs.Contents.{content_is}
 use Rattle.page_command.proofs.draw.content_of.Goals as goal
 
-pub rows_of-requires-clause-short : goal.rows_of-requires-clause-short
-rows_of-requires-clause-short c = rw c.as_slice.ensures (short_words c.args.instance.now c.args.cert.now.shifts c.requires.cert.shifts)
+pub compared-requires-clause-few_old : goal.compared-requires-clause-few_old
+compared-requires-clause-few_old c = IfSome_then (option_copied c.args.old) c.requires.old (λ old h. h.shifts.few)
 
-pub derivations-requires : goal.derivations-requires
-derivations-requires c =
-    rw (c.as_slice-2.ensures, c.in_ok-rows.ensures.rows, c.as_slice.ensures) (priced_rows c.args.instance.now c.args.cert.now c.requires.sound c.requires.cert c.requires.stated)
-
-pub returns-clause-columns : goal.returns-clause-columns
-returns-clause-columns c = rw c.in_ok-columns.ensures (day_columns c.args.instance.now c.args.cert.now c.requires.sound c.requires.cert)
-
-pub tables_of-requires-clause-short : goal.tables_of-requires-clause-short
-tables_of-requires-clause-short c = rw c.as_slice-shifts.ensures (short_words c.args.instance.now c.args.cert.now.shifts c.requires.cert.shifts)
-
-pub tables_of-requires-clause-columns : goal.tables_of-requires-clause-columns
-tables_of-requires-clause-columns c = rw (c.as_slice-3.ensures, c.in_ok-columns.ensures) (day_columns c.args.instance.now c.args.cert.now c.requires.sound c.requires.cert)
+pub returns-clause-content : goal.returns-clause-content
+returns-clause-content c =
+    content_is c.args.labels.now c.args.instance.now c.args.roster.now (option_copied c.args.old) c.in_ok-comparison.comparison c.content_beside.result (rw c.as_slice.ensures at c.in_ok-comparison.ensures) c.content_beside.ensures.content

@@ -5,6 +5,6 @@ use Rattle.page_command.proofs.rows.rows_in.Given as goal
 
 abbrev pub invariant-loop-place : goal.invariant-loop-place
 invariant-loop-place l = record {
-  rows : l.rows ≡ flat_map (rows_at l.instance l.shifts) (take l.place-index l.places);
+  rows : l.rows ≡ flat_map (rows_at l.instance l.labels l.comparison l.shifts) (take l.place-index l.places);
   few : length l.rows ≤ l.place-index;
 }

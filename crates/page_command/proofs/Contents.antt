@@ -1,0 +1,17 @@
+-- What a page shows beside an old roster.
+use Rattle.std.proofs.Common.{List, Option, Result, Ok, Err, IfOk}
+use Rattle.roster_model.specs.declared.instance.Instance.{Instance}
+use Rattle.roster_model.specs.declared.instance.Shift.{Shift}
+use Rattle.roster_model.specs.declared.memory.Memory.{Memory}
+use Rattle.page_labels.specs.declared.labels.Labels.{Labels}
+use Rattle.page_text.specs.declared.content.Content.{Content}
+use Rattle.page_command.specs.Compared.{IsCompared}
+use Rattle.page_command.specs.Draw.{IsContent, IsContentBeside}
+use Rattle.page_command.specs.declared.compare.Comparison.{Comparison}
+use Rattle.page_command.specs.declared.roster.ShownRoster.{ShownRoster}
+
+-- what is shown where a roster differs from an old one is what is shown beside it
+pub content_is : (d : Labels) (i : Instance) (r : ShownRoster) (old : Option (List Shift)) (c : Comparison) (result : Result Content Memory) → IsCompared i.grammar.periods old r.shifts c
+    → IfOk result (IsContentBeside d i r c) → IfOk result (IsContent d i r old)
+content_is d i r old c (Err e) compared h = tt
+content_is d i r old c (Ok p) compared h = record { comparison = c; compared = compared; beside = h }

@@ -1,0 +1,48 @@
+-- What is accepted or allowed can be shown.
+use Rattle.std.proofs.Common.{◌≡◌, ℕ, List, Option, Result, Ok, Err, IfOk, arith, sym, subst}
+use Rattle.std.proofs.lemmas.Option.{none-some}
+use Rattle.std.specs.Prelude.{IfSome}
+use Rattle.roster_model.specs.declared.instance.Instance.{Instance}
+use Rattle.roster_model.specs.declared.instance.Shift.{Shift}
+use Rattle.roster_model.specs.declared.memory.Memory.{Memory}
+use Rattle.roster_model.specs.Duties.{Duty}
+use Rattle.roster_model.specs.Rosters.{IsRoster, roster_cost}
+use Rattle.certificate_laws.specs.Accepted.{IsStated}
+use Rattle.certificates.specs.RosterCauses.{duties, stated_prices}
+use Rattle.certificates.specs.Sound.{IsSoundCert}
+use Rattle.certificates.specs.declared.cert.Cert.{Cert}
+use Rattle.proof_pieces.specs.CertOf.{proof_of}
+use Rattle.roster_value.specs.Values.{IsValued}
+use Rattle.roster_value.specs.declared.valued.Valued.{Valued}
+use Rattle.answers.specs.declared.answer.Answer.{Answer}
+use Rattle.answers.proofs.OneReading.{same_ok}
+use Rattle.page_labels.specs.declared.labels.Labels.{Labels}
+use Rattle.page_command.specs.Draw.{IsSoundShown}
+use Rattle.page_command.specs.Shown.{IsShown, certified, stated}
+use Rattle.page_command.specs.declared.kind.Kind.{Kind}
+
+-- the roster of a sound certificate that is as it states
+pub sound-certified : (i : Instance) (c : Cert) → IsSoundCert i c → IfSome c.cost (IsStated i c.shifts) → IsSoundShown i (certified c)
+sound-certified i c cert is = record { shifts = record { few = cert.few; each = cert.shifts }; none = cert.none; stated = is }
+
+-- an allowed roster at its prices
+pub sound-stated : (i : Instance) (shifts : List Shift) (v : Valued) → IsValued i shifts v → IsSoundShown i (stated v)
+sound-stated i shifts v h =
+    let back : duties shifts ≡ duties v.shifts = sym h.same in
+    let total : roster_cost i (duties shifts) (stated_prices v.shifts) ≡ v.cost = omega (arith, h.paid, h.penalty, h.cost) in
+    record {
+      shifts = h.sound;
+      none = λ e. absurd (none-some v.cost (sym e));
+      stated = record {
+        roster = subst (λ (ds : List Duty). IsRoster i ds (stated_prices v.shifts)) back h.allowed;
+        total = subst (λ (ds : List Duty). roster_cost i ds (stated_prices v.shifts) ≡ v.cost) back total;
+      };
+    }
+
+-- what shows the roster of a certificate shows that of the text's certificate, which is one
+pub accepted-shown : (k : Kind) (d : Labels) (old : Option (List Shift)) (i : Instance) (text : List ℕ) (cert : Cert) (r : Result Answer Memory) → proof_of i text ≡ Ok cert
+    → IfOk r (λ a. (a.status ≡ 0) × IsShown k d i (certified cert) old a.output)
+    → IfOk r (λ a. (a.status ≡ 0) × ((c : Cert) → proof_of i text ≡ Ok c → IsShown k d i (certified c) old a.output))
+accepted-shown k d old i text cert (Err e) reading h = tt
+accepted-shown k d old i text cert (Ok a) reading h =
+    (h.0, λ c e. subst (λ (x : Cert). IsShown k d i (certified x) old a.output) (same_ok (proof_of i text) cert c reading e) h.1)

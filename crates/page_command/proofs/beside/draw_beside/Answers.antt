@@ -1,0 +1,21 @@
+use Rattle.std.proofs.Common.{[], ◌∷◌}
+use Rattle.shelf.specs.Shelf.{Told}
+use Rattle.answers.proofs.AskedLemmas.{unread}
+use Rattle.page_command.specs.Check.{AnswersBeside}
+use Rattle.page_command.proofs.LabelledReaders.{rules-beside}
+use Rattle.page_command.proofs.beside.draw_beside.Goals as goal
+
+pub returns-in-Ok : goal.returns-in-Ok
+returns-in-Ok g c =
+    let before : Told = g.S.Shelf.told c.args.shelf.now in
+    let middle : Told = g.S.Shelf.told c.fetched.new.shelf in
+    let after : Told = g.S.Shelf.told c.draw_by_rules.new.shelf in
+    rules-beside before after c.draw_by_rules.result c.args.demand.now c.args.proof.now c.args.rules.now c.args.labels.now c.args.old.now c.in-Ok.text.items middle c.in-Ok.ensures.text
+    (rw c.as_slice.ensures.value at c.draw_by_rules.ensures)
+
+pub returns-in-Err : goal.returns-in-Err
+returns-in-Err g c =
+    let before : Told = g.S.Shelf.told c.args.shelf.now in
+    let after : Told = g.S.Shelf.told c.fetched.new.shelf in
+    unread (AnswersBeside before.held c.args.rules.now c.args.demand.now c.args.proof.now c.args.labels.now c.args.old.now) c.args.rules.now (c.args.labels.now ∷ c.args.old.now ∷ c.args.demand.now ∷ c.args.proof.now ∷ []) before after
+    c.in-Err.status c.in-Err.ensures.refusal

@@ -1,0 +1,44 @@
+-- What is answered to a certificate and to a stated roster: what shows the roster, or why it is refused.
+use Rattle.std.specs.Prelude.{ℕ, Option, List}
+use Rattle.roster_model.specs.declared.instance.Instance.{Instance}
+use Rattle.roster_model.specs.declared.instance.Shift.{Shift}
+use Rattle.roster_model.specs.Rosters.{Costs}
+use Rattle.certificates.specs.declared.cert.Cert.{Cert}
+use Rattle.certificates.specs.RosterCauses.{duties}
+use Rattle.certificate_laws.specs.Accepted.{Accepts}
+use Rattle.certificate_laws.specs.Right.{YesIsRight}
+use Rattle.page_labels.specs.declared.labels.Labels.{Labels}
+use Rattle.roster_value.specs.declared.valued.Valued.{Valued}
+use Rattle.roster_value.specs.Answers.{SaysCauses}
+use Rattle.roster_value.specs.Values.{IsValued}
+use Rattle.text_commands.specs.Check.{SaysNo}
+use Rattle.page_command.specs.Shown.{IsShown, certified, stated}
+use Rattle.page_command.specs.declared.kind.Kind.{Kind}
+
+-- status 0: the certificate is accepted, what it states is true, and its roster is shown under labels, beside
+-- an old one where there is one
+pub record SaysShown (k : Kind) (d : Labels) (old : Option (List Shift)) (i : Instance) (c : Cert) (output : List ℕ)
+    : Type 0 where
+  pub accepted : Accepts i c
+  pub trusted : YesIsRight i c
+  pub shown : IsShown k d i (certified c) old output
+
+-- the answers for a certificate
+pub data Judgement (k : Kind) (d : Labels) (old : Option (List Shift)) (i : Instance) (c : Cert) :
+    ℕ → List ℕ → Type 0 where
+  yes : (output : List ℕ) → SaysShown k d old i c output → Judgement k d old i c 0 output
+  no : (output : List ℕ) → SaysNo i c output → Judgement k d old i c 1 output
+
+-- status 0: the stated roster is allowed, and it is shown at its prices, of which no bound is proved
+pub record SaysValued (k : Kind) (d : Labels) (old : Option (List Shift)) (i : Instance) (shifts : List Shift)
+    (output : List ℕ) : Type 0 where
+  pub value : Valued
+  pub is : IsValued i shifts value
+  pub costs : Costs i (duties shifts) value.cost
+  pub shown : IsShown k d i (stated value) old output
+
+-- the answers for a stated roster; where it is not allowed, those of `value`
+pub data StatedJudgement (k : Kind) (d : Labels) (old : Option (List Shift)) (i : Instance) (shifts : List Shift) :
+    ℕ → List ℕ → Type 0 where
+  allowed : (output : List ℕ) → SaysValued k d old i shifts output → StatedJudgement k d old i shifts 0 output
+  not_allowed : (output : List ℕ) → SaysCauses i shifts output → StatedJudgement k d old i shifts 1 output

@@ -1,0 +1,103 @@
+ghost use Rattle.std.specs.Prelude.{[], ◌∷◌};
+ghost use Rattle.answers.specs.Reader.{IsReader};
+ghost use Rattle.page_command.specs.Check.{AnswersBeside, AnswersBesideRules, AnswersOldText};
+
+use crate::check::answer_under;
+use crate::kind::Kind;
+use answers::{Answer, Question, ask_rules_text, fetched};
+use roster_model::{Instance, Memory};
+use shelf::Shelf;
+use std::alloc::Global;
+
+// The page of a roster under a labels text and beside an old text.
+#[derive(Drop)]
+struct Beside<'a> {
+    labels: &'a [u8],
+    old: &'a [u8],
+}
+
+impl<'a> Question for Beside<'a> {
+    ghost use Rattle.std.specs.Prelude.{Some};
+    ghost use Rattle.page_command.specs.Check.{LabelAnswers};
+    ghost use Rattle.page_command.specs.Statuses.{label-ends};
+    ghost use Rattle.page_command.specs.declared.kind.Kind.TheVariants.{Page};
+
+    ghost answers = { λ q. LabelAnswers Page q.labels.now (Some q.old.now) };
+
+    ghost ends = { λ q. label-ends Page q.labels.now (Some q.old.now) };
+
+    // Says the page, or why it is refused.
+    fn answer(&self, alloc: Global, instance: &Instance, text: &[u8]) -> Result<Answer, Memory> {
+        let old = Some(self.old);
+        answer_under(alloc, Kind::Page, instance, self.labels, old, text)
+    }
+}
+
+// Says the page of a roster under a labels text and beside an old text that is still to be fetched, by a
+// rules text and the demand and proof texts under names.
+fn draw_by_labels<S: Shelf>(
+    alloc: Global,
+    shelf: &mut S,
+    rules: &[u8],
+    labels: &[u8],
+    demand: &str,
+    proof: &str,
+    old: &str,
+) -> u8
+    ensures { IsReader (AnswersOldText (S.told shelf.old).held
+        rules.now labels.now demand.now proof.now old.now)
+        (old.now ∷ demand.now ∷ proof.now ∷ []) (S.told shelf.old) (S.told shelf.new) result }
+{
+    match fetched(alloc, shelf, old) {
+        Ok(text) => {
+            let old = text.as_slice();
+            let question = Beside { labels, old };
+            ask_rules_text(alloc, shelf, rules, demand, proof, &question)
+        }
+        Err(status) => status,
+    }
+}
+
+// The same, where the labels text is still to be fetched.
+fn draw_by_rules<S: Shelf>(
+    alloc: Global,
+    shelf: &mut S,
+    rules: &[u8],
+    demand: &str,
+    proof: &str,
+    labels: &str,
+    old: &str,
+) -> u8
+    ensures { IsReader (AnswersBesideRules (S.told shelf.old).held
+        rules.now demand.now proof.now labels.now old.now)
+        (labels.now ∷ old.now ∷ demand.now ∷ proof.now ∷ []) (S.told shelf.old) (S.told shelf.new) result }
+{
+    match fetched(alloc, shelf, labels) {
+        Ok(text) => draw_by_labels(alloc, shelf, rules, text.as_slice(), demand, proof, old),
+        Err(status) => status,
+    }
+}
+
+/// Says the page of a roster under labels and beside an old roster, by the rules, demand, proof, labels and
+/// old texts under names, or why a text or the roster is refused. The rules text is fetched first, then the
+/// labels text, the old text, the demand text and the proof text; a fault of the labels text comes behind one
+/// of the proof text, and one of the old text last.
+pub fn draw_beside<S: Shelf>(
+    alloc: Global,
+    shelf: &mut S,
+    rules: &str,
+    demand: &str,
+    proof: &str,
+    labels: &str,
+    old: &str,
+) -> u8
+    ensures { IsReader (AnswersBeside (S.told shelf.old).held
+        rules.now demand.now proof.now labels.now old.now)
+        (rules.now ∷ labels.now ∷ old.now ∷ demand.now ∷ proof.now ∷ []) (S.told shelf.old) (S.told shelf.new)
+        result }
+{
+    match fetched(alloc, shelf, rules) {
+        Ok(text) => draw_by_rules(alloc, shelf, text.as_slice(), demand, proof, labels, old),
+        Err(status) => status,
+    }
+}

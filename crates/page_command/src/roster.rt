@@ -1,0 +1,39 @@
+ghost use Rattle.std.specs.Prelude.{◌≡◌};
+ghost use Rattle.page_command.specs.Shown.{certified, stated};
+
+use certificates::Cert;
+use roster_model::{List, Shift};
+use roster_value::Valued;
+
+/// A roster to show, or that there is none, with what is proved of the cost.
+#[derive(Debug, PartialEq, Eq, Drop)]
+pub struct ShownRoster {
+    /// The shifts of the roster at their prices, at most 64; none where there is no roster.
+    pub shifts: List<Shift>,
+    /// What the roster costs, or none where there is no roster.
+    pub cost: Option<u64>,
+    /// No allowed roster costs less; 0 proves nothing, and none says that no roster is allowed.
+    pub bound: Option<u64>,
+}
+
+/// Returns the roster of a certificate, and its bound.
+pub fn certified(cert: Cert) -> ShownRoster
+    ensures { result ≡ certified cert }
+{
+    ShownRoster {
+        shifts: cert.shifts,
+        cost: cert.cost,
+        bound: cert.bound,
+    }
+}
+
+/// Returns an allowed roster that was stated; nothing is proved of its cost.
+pub fn stated(value: Valued) -> ShownRoster
+    ensures { result ≡ stated value }
+{
+    ShownRoster {
+        shifts: value.shifts,
+        cost: Some(value.cost),
+        bound: Some(0),
+    }
+}
