@@ -48,9 +48,7 @@ pub fn arc_sums(
     requires room { HaveRoomFor d graph.now.arcs pool.now weights.now }
     ensures { IfOk result (λ sums. AreSums d graph.now.arcs pool.now weights.now sums.items) }
 {
-    let Ok(mut sums) = vec![in alloc; 0; graph.arcs().len()] else {
-        return Err(Memory);
-    };
+    let mut sums = vec![in alloc; 0; graph.arcs().len()]?;
     for weight in weights {
         let arcs = pool.arcs(weight.column);
         add_arcs(graph, arcs, units(weight, d), sums.as_mut_slice());

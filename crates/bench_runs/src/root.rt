@@ -87,9 +87,7 @@ fn base_cuts(alloc: Global, day: &Instance) -> Result<Vec<Cut>, Memory>
     ensures cuts { IfOk result (λ cuts. Each (IsNodeCut day.now) cuts.items) }
     ensures few { IfOk result (λ cuts. length cuts.items ≤ 16) }
 {
-    let Ok(mut cuts) = Vec::with_capacity(alloc, MOST_CUTS) else {
-        return Err(Memory);
-    };
+    let mut cuts = Vec::with_capacity(alloc, MOST_CUTS)?;
     push_base_cuts(&mut cuts, day);
     Ok(cuts)
 }

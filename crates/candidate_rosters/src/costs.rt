@@ -19,9 +19,7 @@ pub fn price_by_costs(alloc: Global, day: &Day, pricing: &mut Pricing) -> Result
     ensures costs { OnOk result (IsPricedByCosts day.now pricing.new) }
     ensures pricing { StayPricing day.now pricing.old pricing.new }
 {
-    let Ok(zeros) = Vec::from_elem(alloc, 0, day.instance.cells.len()) else {
-        return Err(Memory);
-    };
+    let zeros = Vec::from_elem(alloc, 0, day.instance.cells.len())?;
     pricing
         .room
         .set_parts(day.instance, 1, zeros.as_slice(), &[], &[]);

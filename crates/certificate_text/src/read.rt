@@ -25,10 +25,8 @@ fn no_cert(alloc: Global) -> Cert
 fn copy<T: Copy>(alloc: Global, items: &[T]) -> Result<List<T>, Memory>
     ensures { IfOk result (λ l. l ≡ items.now) }
 {
-    match Vec::from_slice(alloc, items) {
-        Ok(copied) => Ok(List::from_vec(copied)),
-        Err(_) => Err(Memory),
-    }
+    let copied = Vec::from_slice(alloc, items)?;
+    Ok(List::from_vec(copied))
 }
 
 // Returns a copy of the prices that the room holds.

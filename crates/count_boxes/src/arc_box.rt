@@ -57,12 +57,8 @@ impl ArcBox {
             low: 0,
             high: instance.heads_max,
         };
-        let Ok(bounds) = vec![in alloc; all; graph.arcs().len()] else {
-            return Err(Memory);
-        };
-        let Ok(nodes) = vec![in alloc; 0; place_count(&instance.grammar)] else {
-            return Err(Memory);
-        };
+        let bounds = vec![in alloc; all; graph.arcs().len()]?;
+        let nodes = vec![in alloc; 0; place_count(&instance.grammar)]?;
         Ok(ArcBox { bounds, nodes })
     }
 

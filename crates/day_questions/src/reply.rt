@@ -18,11 +18,9 @@ pub struct Reply {
 pub(crate) fn no_shift(alloc: Global) -> Result<Reply, Memory>
     ensures { IfOk result (λ a. (a.status ≡ 1) × (a.output ≡ codes "no shift\n")) }
 {
-    match Vec::from_slice(alloc, b"no shift\n") {
-        Ok(bytes) => Ok(Reply {
-            status: 1,
-            output: List::from_vec(bytes),
-        }),
-        Err(_) => Err(Memory),
-    }
+    let bytes = Vec::from_slice(alloc, b"no shift\n")?;
+    Ok(Reply {
+        status: 1,
+        output: List::from_vec(bytes),
+    })
 }

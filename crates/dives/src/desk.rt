@@ -40,10 +40,7 @@ pub(crate) struct DiveDesk {
 fn zeros(alloc: Global, count: usize) -> Result<Vec<i128>, Memory>
     ensures { IfOk result (λ v. length v.items ≡ count) }
 {
-    match vec![in alloc; 0i128; count] {
-        Ok(numbers) => Ok(numbers),
-        Err(_) => Err(Memory),
-    }
+    Ok(vec![in alloc; 0i128; count]?)
 }
 
 /// Returns how many numbers the prices of the rows make by cells and cuts: one for each cell, for both rows
@@ -70,9 +67,7 @@ fn quote_of(alloc: Global, task: &NodeTask) -> Result<Quote, Memory>
 fn arc_sums_of(alloc: Global, graph: &Graph) -> Result<ArcSums, Memory>
     ensures { IfOk result AreArcSums }
 {
-    let Ok(sums) = vec![in alloc; 0i64; graph.arcs().len()] else {
-        return Err(Memory);
-    };
+    let sums = vec![in alloc; 0i64; graph.arcs().len()]?;
     let prices = zeros(alloc, graph.arcs().len())?;
     Ok(ArcSums { sums, prices })
 }

@@ -46,10 +46,7 @@ pub(crate) struct Program {
 
 /// Returns a copy of numbers.
 fn copy_of(alloc: Global, numbers: &[i64]) -> Result<Vec<i64>, Memory> {
-    match Vec::from_slice(alloc, numbers) {
-        Ok(copy) => Ok(copy),
-        Err(_) => Err(Memory),
-    }
+    Ok(Vec::from_slice(alloc, numbers)?)
 }
 
 /// Returns what prices show of the least cost of a program with these right sides, where at most so many trees

@@ -29,13 +29,9 @@ fn set_costs(task: &NodeTask, row: usize, missing: &mut [i64], beyond: &mut [Opt
 
 /// Returns the right sides of rows, and 0 for so many behind them.
 fn sides_of(alloc: Global, rows: &NodeRows, empty: usize) -> Result<Vec<i64>, Memory> {
-    let Ok(mut sides) = Vec::from_slice(alloc, rows.right()) else {
-        return Err(Memory);
-    };
+    let mut sides = Vec::from_slice(alloc, rows.right())?;
     for _ in 0..empty {
-        if sides.push(0).is_err() {
-            return Err(Memory);
-        }
+        sides.push(0)?;
     }
     Ok(sides)
 }
@@ -51,12 +47,8 @@ pub fn scout_of(alloc: Global, task: &NodeTask, empty: usize) -> Result<Scout, M
 {
     let sides = sides_of(alloc, task.rows, empty)?;
     let count = sides.len();
-    let Ok(mut missing) = vec![in alloc; 0i64; count] else {
-        return Err(Memory);
-    };
-    let Ok(mut beyond) = vec![in alloc; None; count] else {
-        return Err(Memory);
-    };
+    let mut missing = vec![in alloc; 0i64; count]?;
+    let mut beyond = vec![in alloc; None; count]?;
     for row in 0..task.rows.right().len() {
         set_costs(task, row, missing.as_mut_slice(), beyond.as_mut_slice());
     }

@@ -117,10 +117,8 @@ impl Columns {
             cost,
             standing,
         };
-        match self.columns.push(column) {
-            Ok(()) => Ok(()),
-            Err(_) => Err(Memory),
-        }
+        self.columns.push(column)?;
+        Ok(())
     }
 
     /// Adds an entry to the last column, in a row behind those of its other entries.
@@ -135,9 +133,7 @@ impl Columns {
         if column.first < column.end && lengthen_last(self.runs.as_mut_slice(), row, sign) {
             return Ok(());
         }
-        if self.runs.push(Run::of_row(row, sign)).is_err() {
-            return Err(Memory);
-        }
+        self.runs.push(Run::of_row(row, sign))?;
         column.end = self.runs.len();
         Ok(())
     }
@@ -157,12 +153,8 @@ impl Columns {
         if begin > end || end > first {
             return Ok(());
         }
-        if self.runs.extend_from_within(begin..end).is_err() {
-            return Err(Memory);
-        }
-        if self.runs.push(Run::of_row(row, Sign::Plus)).is_err() {
-            return Err(Memory);
-        }
+        self.runs.extend_from_within(begin..end)?;
+        self.runs.push(Run::of_row(row, Sign::Plus))?;
         column.first = first;
         column.end = self.runs.len();
         Ok(())

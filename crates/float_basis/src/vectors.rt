@@ -72,10 +72,8 @@ pub fn copy_items<T: Copy>(out: &mut [T], items: &[T]) {
 /// `Memory` where memory runs out; nothing is said of the list then.
 pub fn copy_list<T: Copy + Drop>(out: &mut Vec<T>, items: &[T]) -> Result<(), Memory> {
     out.clear();
-    match out.extend_from_slice(items) {
-        Ok(()) => Ok(()),
-        Err(_) => Err(Memory),
-    }
+    out.extend_from_slice(items)?;
+    Ok(())
 }
 
 /// Sets items to one value.

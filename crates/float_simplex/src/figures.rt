@@ -23,10 +23,8 @@ impl Figures {
     /// `Memory` where memory runs out; nothing is said of the program then.
     pub(crate) fn make_room(&mut self) -> Result<(), Memory> {
         self.touched.clear();
-        match self.touched.reserve(self.reduced.len()) {
-            Ok(()) => Ok(()),
-            Err(_) => Err(Memory),
-        }
+        self.touched.reserve(self.reduced.len())?;
+        Ok(())
     }
 
     /// Takes a further column in.
@@ -35,12 +33,9 @@ impl Figures {
     ///
     /// `Memory` where memory runs out; nothing is said of the program then.
     pub(crate) fn add(&mut self) -> Result<(), Memory> {
-        if self.reduced.push(0.0).is_err()
-            || self.weights.push(1.0).is_err()
-            || self.entries.push(0.0).is_err()
-        {
-            return Err(Memory);
-        }
+        self.reduced.push(0.0)?;
+        self.weights.push(1.0)?;
+        self.entries.push(0.0)?;
         self.make_room()
     }
 

@@ -146,9 +146,7 @@ impl State {
         missing: &[i64],
         beyond: &[Option<i64>],
     ) -> Result<(), Memory> {
-        if self.take_rows(alloc, right).is_err() {
-            return Err(Memory);
-        }
+        self.take_rows(alloc, right)?;
         self.add_missing(missing)?;
         self.add_beyond(beyond)?;
         self.perturb(missing, beyond);

@@ -10,10 +10,7 @@ impl State {
     ///
     /// `Memory` where memory runs out.
     pub fn product_room(&self, alloc: Global) -> Result<ProductRoom, Memory> {
-        match ProductRoom::new(alloc, self.rows()) {
-            Ok(room) => Ok(room),
-            Err(_) => Err(Memory),
-        }
+        Ok(ProductRoom::new(alloc, self.rows())?)
     }
 
     /// Leaves the inverse of the basis times a side, which has a number for each row: a number for each column

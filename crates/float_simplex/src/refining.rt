@@ -241,10 +241,8 @@ impl State {
     ///
     /// `Memory` where memory runs out.
     pub fn refined_values(&self, alloc: Global) -> Result<List<i128>, Memory> {
-        match self.make_values(alloc) {
-            Ok(values) => Ok(List::from_vec(values)),
-            Err(_) => Err(Memory),
-        }
+        let values = self.make_values(alloc)?;
+        Ok(List::from_vec(values))
     }
 
     /// Returns the prices of the rows in units of 2^-40, refined in whole numbers. `missing` has the costs that
@@ -254,9 +252,7 @@ impl State {
     ///
     /// `Memory` where memory runs out.
     pub fn refined_prices(&self, alloc: Global, missing: &[i64]) -> Result<List<i128>, Memory> {
-        match self.make_prices(alloc, missing) {
-            Ok(prices) => Ok(List::from_vec(prices)),
-            Err(_) => Err(Memory),
-        }
+        let prices = self.make_prices(alloc, missing)?;
+        Ok(List::from_vec(prices))
     }
 }

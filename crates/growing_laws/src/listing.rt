@@ -16,12 +16,8 @@ fn push_halves(stack: &mut Vec<u32>, node: &Node, low: u32) -> Result<(), Memory
 {
     match node {
         Node::Split { .. } => {
-            let Ok(()) = stack.push(low + 1) else {
-                return Err(Memory);
-            };
-            let Ok(()) = stack.push(low) else {
-                return Err(Memory);
-            };
+            stack.push(low + 1)?;
+            stack.push(low)?;
             Ok(())
         }
         Node::Priced { .. } => Ok(()),
@@ -42,9 +38,7 @@ pub fn list_nodes(alloc: Global, mut seats: Vec<Seat>) -> Result<List<Node>, Mem
 {
     let mut nodes = List::new(alloc);
     let mut stack = Vec::new(alloc);
-    let Ok(()) = stack.push(0) else {
-        return Err(Memory);
-    };
+    stack.push(0)?;
     while let Some(number) = stack.pop() {
         let seat = &mut seats[number as usize];
         let node = mem::replace(&mut seat.node, Node::Bare);

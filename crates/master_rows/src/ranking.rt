@@ -37,15 +37,11 @@ impl NodeRows {
         pool: &Pool,
         prices: &[i128],
     ) -> Result<Vec<Ranked>, Memory> {
-        let Ok(mut ranked) = Vec::with_capacity(alloc, pool.len()) else {
-            return Err(Memory);
-        };
+        let mut ranked = Vec::with_capacity(alloc, pool.len())?;
         for tree in 0..pool.len() {
             let places = self.places_of(alloc, cuts, pool, tree)?;
             let reduced = reduced_at(i64::from(pool.cost(tree)), places.as_slice(), prices);
-            if ranked.push(Ranked { reduced, tree }).is_err() {
-                return Err(Memory);
-            }
+            ranked.push(Ranked { reduced, tree })?;
         }
         Ok(ranked)
     }

@@ -90,9 +90,7 @@ pub(crate) fn sums_of(
         AreWeightsOf instance.now.grammar pool.now listed.now ws →
         AreSums ws (rows_of instance.now cuts.now) sums.items) }
 {
-    let Ok(mut sums) = vec![in alloc; 0; rows.right().len()] else {
-        return Err(Memory);
-    };
+    let mut sums = vec![in alloc; 0; rows.right().len()]?;
     let mut room = List::new(alloc);
     for tree in listed {
         room = add_tree(room, instance, cuts, rows, pool, tree, sums.as_mut_slice())?;

@@ -89,9 +89,7 @@ pub(crate) fn lines_of(
 {
     let artificial = artificial_price(instance);
     let right = rows.right();
-    let Ok(mut lines) = Vec::with_capacity(alloc, right.len()) else {
-        return Err(Memory);
-    };
+    let mut lines = Vec::with_capacity(alloc, right.len())?;
     for row in 0..right.len() {
         let missing = rows.missing_cost(row, artificial);
         let line = RowBalance {
@@ -100,9 +98,7 @@ pub(crate) fn lines_of(
             sum: 0,
             missing,
         };
-        if lines.push(line).is_err() {
-            return Err(Memory);
-        }
+        lines.push(line)?;
     }
     Ok(lines)
 }
@@ -172,9 +168,7 @@ impl Table {
         for place in places {
             if is_bound(self.lines.as_slice(), place.row) {
                 add_at(self.lines.as_mut_slice(), place.row, weight);
-                if self.rows.push(place.row).is_err() {
-                    return Err(Memory);
-                }
+                self.rows.push(place.row)?;
             }
         }
         Ok(())
@@ -199,10 +193,8 @@ impl Table {
             first,
             end: self.rows.len(),
         };
-        match self.trees.push(tree) {
-            Ok(()) => Ok(()),
-            Err(_) => Err(Memory),
-        }
+        self.trees.push(tree)?;
+        Ok(())
     }
 
     /// Changes the weight of the tree at a place by an amount.

@@ -153,9 +153,7 @@ fn empty_desk(alloc: Global, task: &NodeTask) -> Result<ColumnDesk, Memory>
 {
     let instance = task.day.instance;
     let count = numbers_of(instance, task.cuts);
-    let Ok(numbers) = vec![in alloc; 0i128; count] else {
-        return Err(Memory);
-    };
+    let numbers = vec![in alloc; 0i128; count]?;
     Ok(ColumnDesk {
         held: List::new(alloc),
         wanted: List::new(alloc),

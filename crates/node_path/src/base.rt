@@ -23,9 +23,7 @@ pub(crate) fn base_cuts(alloc: Global, instance: &Instance) -> Result<Vec<Cut>, 
     requires { IsSoundInstance instance.now }
     ensures { IfOk result (λ cuts. cuts.items ≡ base_cuts instance.now) }
 {
-    let Ok(mut cuts) = Vec::with_capacity(alloc, MOST_BASE_CUTS) else {
-        return Err(Memory);
-    };
+    let mut cuts = Vec::with_capacity(alloc, MOST_BASE_CUTS)?;
     push_base_cuts(&mut cuts, instance);
     Ok(cuts)
 }

@@ -14,9 +14,7 @@ fn climb(cuts: &mut Vec<Cut>, seats: &[Seat], number: u32) -> Result<(), Memory>
     let mut number = number;
     while number != 0 {
         let seat = &seats[number as usize];
-        let Ok(()) = cuts.push(seat.cut) else {
-            return Err(Memory);
-        };
+        cuts.push(seat.cut)?;
         number = seat.parent;
     }
     Ok(())

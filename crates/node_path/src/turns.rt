@@ -34,9 +34,7 @@ fn turn_at(
     ensures turned { OnOk result (LeadTo graph.now cut.now arc_box.old turns.old.items turns.new.items) }
 {
     if let Some(turn) = narrow(arc_box, graph, cut) {
-        let Ok(()) = turns.push(turn) else {
-            return Err(Memory);
-        };
+        turns.push(turn)?;
     }
     Ok(())
 }

@@ -60,12 +60,8 @@ impl OpenNodes {
         ensures ok { OnOk result (SameLeaves (leaf ∷ self.old) self.new) }
         ensures err { OnErr result (SameLeaves self.old self.new) }
     {
-        let Ok(()) = self.heap.reserve(1) else {
-            return Err(Memory);
-        };
-        let Ok(key) = self.kept.insert(leaf.kept) else {
-            return Err(Memory);
-        };
+        self.heap.reserve(1)?;
+        let key = self.kept.insert(leaf.kept)?;
         let entry = Entry {
             bound: Reverse(leaf.bound),
             depth: leaf.depth,

@@ -25,9 +25,7 @@ impl Balances {
         requires { IsSound grammar.now }
         ensures { IfOk result (IsRoomFor grammar.now) }
     {
-        let Ok(nodes) = vec![in alloc; 0; place_count(grammar)] else {
-            return Err(Memory);
-        };
+        let nodes = vec![in alloc; 0; place_count(grammar)]?;
         Ok(Balances { nodes })
     }
 }

@@ -61,12 +61,8 @@ impl PivotRow {
     pub fn new(alloc: Global, width: usize) -> Result<PivotRow, Memory>
         ensures { IfOk result (λ row. row ≡ zeros width) }
     {
-        let Ok(numbers) = vec![in alloc; 0; width] else {
-            return Err(Memory);
-        };
-        let Ok(places) = Vec::with_capacity(alloc, width) else {
-            return Err(Memory);
-        };
+        let numbers = vec![in alloc; 0; width]?;
+        let places = Vec::with_capacity(alloc, width)?;
         Ok(PivotRow { numbers, places })
     }
 

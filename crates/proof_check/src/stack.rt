@@ -80,12 +80,8 @@ impl Stack {
         requires few { most ≤ 20001 }
         ensures { IfOk result (λ s. s ≡ record { base = base_cuts instance.now; splits = []; most = most }) }
     {
-        let Ok(frames) = Vec::with_capacity(alloc, most) else {
-            return Err(Memory);
-        };
-        let Ok(mut path) = Vec::with_capacity(alloc, MOST_BASE_CUTS + most) else {
-            return Err(Memory);
-        };
+        let frames = Vec::with_capacity(alloc, most)?;
+        let mut path = Vec::with_capacity(alloc, MOST_BASE_CUTS + most)?;
         push_base_cuts(&mut path, instance);
         Ok(Stack {
             base: path.len(),

@@ -47,10 +47,7 @@ fn with_room<T>(alloc: Global, most: usize) -> Result<Vec<T>, Memory>
     ensures empty { IfOk result (λ v. v.items ≡ []) }
     ensures room { IfOk result (λ v. most ≤ vec_capacity v) }
 {
-    match Vec::with_capacity(alloc, most) {
-        Ok(items) => Ok(items),
-        Err(_) => Err(Memory),
-    }
+    Ok(Vec::with_capacity(alloc, most)?)
 }
 
 // Makes these bytes the items, for which there is room.

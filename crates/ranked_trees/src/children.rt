@@ -83,9 +83,7 @@ fn add_children<P: LetterPrice>(
                 rule: number,
                 len,
             };
-            if children.push(child).is_err() {
-                return Err(Memory);
-            }
+            children.push(child)?;
         }
     }
     Ok(())

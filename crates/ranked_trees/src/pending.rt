@@ -39,10 +39,8 @@ impl Pending {
     pub fn push(&mut self, frame: Frame) -> Result<(), Memory>
         ensures { OnOk result (self.new ≡ frame ∷ self.old) }
     {
-        match self.frames.push(frame) {
-            Ok(()) => Ok(()),
-            Err(_) => Err(Memory),
-        }
+        self.frames.push(frame)?;
+        Ok(())
     }
 
     /// Takes the first frame; `None` where there is none.
@@ -60,9 +58,7 @@ impl Pending {
     pub fn copy(&self, alloc: Global) -> Result<Pending, Memory>
         ensures { IfOk result (λ p. p ≡ self.now) }
     {
-        match Vec::from_slice(alloc, self.frames.as_slice()) {
-            Ok(frames) => Ok(Pending { frames }),
-            Err(_) => Err(Memory),
-        }
+        let frames = Vec::from_slice(alloc, self.frames.as_slice())?;
+        Ok(Pending { frames })
     }
 }

@@ -76,8 +76,6 @@ pub fn offer(
         return Ok(());
     }
     make_room(waiting, room);
-    match waiting.insert(place, candidate) {
-        Ok(()) => Ok(()),
-        Err(_) => Err(Memory),
-    }
+    waiting.insert(place, candidate)?;
+    Ok(())
 }

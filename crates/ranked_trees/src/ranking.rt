@@ -52,10 +52,8 @@ fn alone(alloc: Global, candidate: Candidate) -> Result<VecDeque<Candidate>, Mem
     ensures { IfOk result (λ v. v.items ≡ candidate ∷ []) }
 {
     let mut candidates = VecDeque::new(alloc);
-    match candidates.push_back(candidate) {
-        Ok(()) => Ok(candidates),
-        Err(_) => Err(Memory),
-    }
+    candidates.push_back(candidate)?;
+    Ok(candidates)
 }
 
 // Returns the candidate of all trees of the day, alone, or none where no tree has a sum.

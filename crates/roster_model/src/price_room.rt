@@ -60,9 +60,7 @@ impl PriceRoom {
         let letters = zeros(alloc, codes * periods)?;
         let rules = zeros(alloc, instance.grammar.rules.len())?;
         let marks = no_marks(alloc)?;
-        let Ok(arcs) = Vec::with_capacity(alloc, most) else {
-            return Err(Memory);
-        };
+        let arcs = Vec::with_capacity(alloc, most)?;
         Ok(PriceRoom {
             periods,
             codes,
@@ -166,10 +164,7 @@ impl PriceRoom {
 
 /// Returns marks of arcs, none of them set.
 fn no_marks(alloc: Global) -> Result<Vec<bool>, Memory> {
-    match Vec::from_elem(alloc, false, MARKS) {
-        Ok(marks) => Ok(marks),
-        Err(_) => Err(Memory),
-    }
+    Ok(Vec::from_elem(alloc, false, MARKS)?)
 }
 
 /// Returns this many zeros.
@@ -177,10 +172,7 @@ fn zeros(alloc: Global, count: usize) -> Result<Vec<i128>, Memory>
     ensures length { IfOk result (λ v. length v.items ≡ count) }
     ensures small { IfOk result (λ v. All (Within (2 ^ 96)) v.items) }
 {
-    match Vec::from_elem(alloc, 0, count) {
-        Ok(numbers) => Ok(numbers),
-        Err(_) => Err(Memory),
-    }
+    Ok(Vec::from_elem(alloc, 0, count)?)
 }
 
 impl LetterPrice for PriceRoom {

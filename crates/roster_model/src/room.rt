@@ -39,10 +39,8 @@ impl TreeRoom {
         ensures most { IfOk result (λ r. r.most ≡ most_uses grammar.now) }
     {
         let limit = (2 * grammar.periods as usize - 1) * grammar.names.len();
-        match Vec::with_capacity(alloc, limit) {
-            Ok(held) => Ok(TreeRoom { held, limit }),
-            Err(_) => Err(Memory),
-        }
+        let held = Vec::with_capacity(alloc, limit)?;
+        Ok(TreeRoom { held, limit })
     }
 
     /// Returns the steps.

@@ -118,10 +118,7 @@ fn set_worths(prices: &Prices, worths: &mut [i64]) {
 
 /// Returns a zero for each cell.
 fn zeros(alloc: Global, instance: &Instance) -> Result<Vec<i64>, Memory> {
-    match vec![in alloc; 0i64; instance.cells.len()] {
-        Ok(zeros) => Ok(zeros),
-        Err(_) => Err(Memory),
-    }
+    Ok(vec![in alloc; 0i64; instance.cells.len()]?)
 }
 
 impl MoveRoom {

@@ -37,12 +37,8 @@ impl Draft {
         requires { IsSoundInstance instance.now }
         ensures { IfOk result (IsDraft instance.now 0) }
     {
-        let Ok(counts) = vec![in alloc; 0u32; instance.cells.len()] else {
-            return Err(Memory);
-        };
-        let Ok(savings) = vec![in alloc; 0i128; instance.cells.len()] else {
-            return Err(Memory);
-        };
+        let counts = vec![in alloc; 0u32; instance.cells.len()]?;
+        let savings = vec![in alloc; 0i128; instance.cells.len()]?;
         let room = TreeRoom::for_grammar(alloc, &instance.grammar)?;
         Ok(Draft {
             columns: Vec::new(alloc),
@@ -67,10 +63,8 @@ impl Draft {
             pool.codes(column),
             &mut self.counts,
         );
-        match self.columns.push(column) {
-            Ok(()) => Ok(()),
-            Err(_) => Err(Memory),
-        }
+        self.columns.push(column)?;
+        Ok(())
     }
 
     /// Takes a tree out, where it is there.

@@ -165,9 +165,7 @@ pub(crate) fn list_ranks(
     for &column in columns {
         let tally = tally_of(cells, pool.codes(column), values);
         let late = late_of(mode, tally, pool.cost(column)).saturating_add(noise_of(mode, draws));
-        if ranks.push(Rank { late, column }).is_err() {
-            return Err(Memory);
-        }
+        ranks.push(Rank { late, column })?;
     }
     ranks.sort_unstable_by_key(|rank| (rank.late, rank.column));
     Ok(())

@@ -32,14 +32,10 @@ impl Model for ShiftRoom {
 fn empty_slots(alloc: Global) -> Result<Vec<StatedShift>, Memory>
     ensures { IfOk result (λ v. length v.items ≡ 64) }
 {
-    let Ok(mut slots) = Vec::with_capacity(alloc, MOST_SHIFTS) else {
-        return Err(Memory);
-    };
+    let mut slots = Vec::with_capacity(alloc, MOST_SHIFTS)?;
     while slots.len() < MOST_SHIFTS {
         let slot = StatedShift::new(alloc)?;
-        let Ok(()) = slots.push(slot) else {
-            return Err(Memory);
-        };
+        slots.push(slot)?;
     }
     Ok(slots)
 }

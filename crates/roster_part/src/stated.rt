@@ -36,9 +36,7 @@ impl StatedShift {
     pub(crate) fn new(alloc: Global) -> Result<StatedShift, Memory>
         ensures { IfOk result (λ s. s ≡ record { group = 0; word = []; price = 0 }) }
     {
-        let Ok(word) = Vec::with_capacity(alloc, MOST_BYTES) else {
-            return Err(Memory);
-        };
+        let word = Vec::with_capacity(alloc, MOST_BYTES)?;
         Ok(StatedShift {
             group: 0,
             word,

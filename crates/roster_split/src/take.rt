@@ -52,9 +52,7 @@ fn push_kid(stack: &mut Vec<u32>, kid: Kid) -> Result<(), Memory>
     ensures { OnOk result (stack.new.items ≡ pushed_kid stack.old.items kid) }
 {
     if let Kid::Node(node) = kid {
-        if stack.push(node).is_err() {
-            return Err(Memory);
-        }
+        stack.push(node)?;
     }
     Ok(())
 }

@@ -22,9 +22,7 @@ fn take_trees(alloc: Global, graph: &Graph, counts: &[u32]) -> Result<List<List<
     let Some(root) = graph.root() else {
         return Ok(trees);
     };
-    let Ok(mut left) = Vec::from_slice(alloc, counts) else {
-        return Err(Memory);
-    };
+    let mut left = Vec::from_slice(alloc, counts)?;
     let mut stack = Vec::new(alloc);
     let number = sum_at(graph.makers(root), counts);
     for _ in 0..number {

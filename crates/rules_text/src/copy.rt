@@ -11,8 +11,6 @@ use std::alloc::Global;
 pub fn copy(alloc: Global, bytes: &[u8]) -> Result<List<u8>, Memory>
     ensures { IfOk result (λ l. l ≡ bytes.now) }
 {
-    match Vec::from_slice(alloc, bytes) {
-        Ok(copied) => Ok(List::from_vec(copied)),
-        Err(_) => Err(Memory),
-    }
+    let copied = Vec::from_slice(alloc, bytes)?;
+    Ok(List::from_vec(copied))
 }

@@ -54,12 +54,8 @@ fn add(alloc: Global, names: &mut IndexSet<Vec<u8>>, name: &[u8]) -> Result<(), 
     ensures len { OnOk result (length names.new.keys ≡ length names.old.keys + 1) }
     ensures err { OnErr result (names.new.keys ≡ names.old.keys) }
 {
-    let Ok(text) = Vec::from_slice(alloc, name) else {
-        return Err(Memory);
-    };
-    let Ok(_) = names.insert_full(text) else {
-        return Err(Memory);
-    };
+    let text = Vec::from_slice(alloc, name)?;
+    names.insert_full(text)?;
     Ok(())
 }
 

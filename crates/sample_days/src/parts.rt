@@ -51,10 +51,8 @@ fn codes(alloc: Global) -> Result<List<CodeDef>, Memory>
 fn list<T: Copy>(alloc: Global, items: &[T]) -> Result<List<T>, Memory>
     ensures { IfOk result (λ l. l ≡ items.now) }
 {
-    match Vec::from_slice(alloc, items) {
-        Ok(items) => Ok(List::from_vec(items)),
-        Err(_) => Err(Memory),
-    }
+    let items = Vec::from_slice(alloc, items)?;
+    Ok(List::from_vec(items))
 }
 
 // Returns a list of these names.

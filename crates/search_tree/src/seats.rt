@@ -25,16 +25,14 @@ fn split_node(node: Node, arc: ArcKey, b: u32) -> Node
 pub fn push_half(seats: &mut Vec<Seat>, parent: u32, above: u64, cut: Cut) -> Result<(), Memory>
     ensures { OnOk result (seats.new.items ≡ seats.old.items ++ half_seat parent above cut ∷ []) }
 {
-    let Ok(()) = seats.push(Seat {
+    seats.push(Seat {
         node: Node::Bare,
         value: 0,
         low: 0,
         above,
         parent,
         cut,
-    }) else {
-        return Err(Memory);
-    };
+    })?;
     Ok(())
 }
 

@@ -57,10 +57,8 @@ impl QuietShelf {
         }) }
         ensures err { OnErr result (self.new ≡ self.old) }
     {
-        match self.held.put(name, bytes) {
-            Ok(()) => Ok(()),
-            Err(_) => Err(Memory),
-        }
+        self.held.put(name, bytes)?;
+        Ok(())
     }
 
     /// Returns the bytes under the name.

@@ -42,9 +42,7 @@ fn marks_of(alloc: Global, grammar: &Grammar, derived: &Derived) -> Result<Vec<b
     ensures marked { IfOk result (λ m. AreMarked grammar.now derived.now.layout m.items) }
 {
     let layout = &derived.layout;
-    let Ok(mut marks) = vec![in alloc; false; count_cells(grammar, layout)] else {
-        return Err(Memory);
-    };
+    let mut marks = vec![in alloc; false; count_cells(grammar, layout)]?;
     mark_all(grammar, layout, &derived.free, marks.as_mut_slice());
     Ok(marks)
 }

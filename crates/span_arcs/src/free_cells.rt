@@ -33,9 +33,7 @@ impl FreeCells {
     pub fn new(alloc: Global, count: usize, spots: usize) -> Result<FreeCells, Memory>
         ensures { IfOk result (AreMade count spots) }
     {
-        let Ok(there) = vec![in alloc; false; count] else {
-            return Err(Memory);
-        };
+        let there = vec![in alloc; false; count]?;
         let present = Present::new(alloc, spots)?;
         Ok(FreeCells { there, present })
     }

@@ -127,10 +127,7 @@ fn solve(scout: &mut Scout) -> bool {
 
 /// Returns so many flags that are not set.
 fn flags_of(alloc: Global, count: usize) -> Result<Vec<bool>, Memory> {
-    match vec![in alloc; false; count] {
-        Ok(flags) => Ok(flags),
-        Err(_) => Err(Memory),
-    }
+    Ok(vec![in alloc; false; count]?)
 }
 
 /// Returns the program of a node with no trees, and room to try cuts.

@@ -64,9 +64,7 @@ impl Gains {
             } else {
                 None
             };
-            if arcs.push(pasts).is_err() {
-                return Err(Memory);
-            }
+            arcs.push(pasts)?;
         }
         Ok(Gains { arcs })
     }

@@ -92,9 +92,7 @@ fn kept_of(
     bench: &mut ProbeBench,
     letters: &[Candidate],
 ) -> Result<Vec<Rated>, Memory> {
-    let Ok(mut kept) = vec![in alloc; NONE; KEPT] else {
-        return Err(Memory);
-    };
+    let mut kept = vec![in alloc; NONE; KEPT]?;
     for letter in letters {
         if bench.is_spent(LETTER_BUDGET) {
             return Ok(kept);

@@ -59,9 +59,7 @@ pub(crate) fn sums_of(
     ensures { IfOk result (λ sums. length sums.items ≡ length graph.now.arcs) }
 {
     let none = ArcSum { weight: 0, mark: 0 };
-    let Ok(mut sums) = vec![in alloc; none; graph.arcs().len()] else {
-        return Err(Memory);
-    };
+    let mut sums = vec![in alloc; none; graph.arcs().len()]?;
     for (number, share) in shares.iter().enumerate() {
         let mark = (number as u64).wrapping_add(1).wrapping_mul(SPREAD);
         add_share(graph, pool, share, mark, sums.as_mut_slice());

@@ -27,9 +27,7 @@ fn unit_line(alloc: Global, rows: usize, row: usize, right: i64) -> Result<Numbe
     requires row { row < rows }
     ensures { IfOk result (λ line. IsUnitLine rows row right line) }
 {
-    let Ok(mut numbers) = vec![in alloc; 0i64; rows + 1] else {
-        return Err(Memory);
-    };
+    let mut numbers = vec![in alloc; 0i64; rows + 1]?;
     numbers[row] = 1;
     numbers[rows] = right;
     Ok(NumberRow::from_vec(numbers))
@@ -70,9 +68,7 @@ fn numbers_below(alloc: Global, bound: usize) -> Result<Vec<usize>, Memory>
 {
     let mut numbers = Vec::new(alloc);
     for number in 0..bound {
-        let Ok(()) = numbers.push(number) else {
-            return Err(Memory);
-        };
+        numbers.push(number)?;
     }
     Ok(numbers)
 }
@@ -135,12 +131,8 @@ fn value_of(costs: &[i64], right: &[i64]) -> i128
 fn cost_line(mut costs: Vec<i64>, value: i64) -> Result<NumberRow, Memory>
     ensures { IfOk result (λ line. line ≡ costs.items ++ (value ∷ []) ++ (pos 1 ∷ [])) }
 {
-    let Ok(()) = costs.push(value) else {
-        return Err(Memory);
-    };
-    let Ok(()) = costs.push(1) else {
-        return Err(Memory);
-    };
+    costs.push(value)?;
+    costs.push(1)?;
     Ok(NumberRow::from_vec(costs))
 }
 
@@ -197,21 +189,11 @@ fn with_room(
     ensures length { IfOk result (λ sheet. length sheet.basis.items ≡ count) }
     ensures room { IfOk result (λ sheet. HasRoom count sheet.entries sheet.prices sheet.pivot) }
 {
-    let Ok(basis) = numbers_below(alloc, count) else {
-        return Err(Memory);
-    };
-    let Ok(wanted) = Marks::below(alloc, wanted, count) else {
-        return Err(Memory);
-    };
-    let Ok(entries) = vec![in alloc; 0i128; count] else {
-        return Err(Memory);
-    };
-    let Ok(prices) = vec![in alloc; 0i128; count] else {
-        return Err(Memory);
-    };
-    let Ok(pivot) = PivotRow::new(alloc, count + 2) else {
-        return Err(Memory);
-    };
+    let basis = numbers_below(alloc, count)?;
+    let wanted = Marks::below(alloc, wanted, count)?;
+    let entries = vec![in alloc; 0i128; count]?;
+    let prices = vec![in alloc; 0i128; count]?;
+    let pivot = PivotRow::new(alloc, count + 2)?;
     Ok(Sheet {
         rows,
         cost,

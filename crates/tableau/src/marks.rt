@@ -22,9 +22,7 @@ impl Marks {
     pub(crate) fn below(alloc: Global, wanted: &[u32], bound: usize) -> Result<Marks, Memory> {
         let mut rows = Vec::new(alloc);
         for row in 0..bound {
-            let Ok(()) = rows.push(is_among(wanted, row)) else {
-                return Err(Memory);
-            };
+            rows.push(is_among(wanted, row))?;
         }
         Ok(Marks { rows })
     }

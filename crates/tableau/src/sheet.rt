@@ -64,10 +64,8 @@ impl Rows {
     pub(crate) fn push(&mut self, line: NumberRow) -> Result<(), Memory>
         ensures { OnOk result (self.new ≡ self.old ++ line ∷ []) }
     {
-        match self.lines.push(line) {
-            Ok(()) => Ok(()),
-            Err(_) => Err(Memory),
-        }
+        self.lines.push(line)?;
+        Ok(())
     }
 
     /// Returns the rows in order.

@@ -85,14 +85,10 @@ pub(crate) fn program_of(
 {
     let mut columns = Vec::new(alloc);
     for unit in [[1, 0, 0], [0, 1, 0], [0, 0, 1]] {
-        let Ok(()) = columns.push(Entries::new(cost, unit)) else {
-            return Err(Memory);
-        };
+        columns.push(Entries::new(cost, unit))?;
     }
     for (cost, entries) in parts {
-        let Ok(()) = columns.push(Entries::new(*cost, *entries)) else {
-            return Err(Memory);
-        };
+        columns.push(Entries::new(*cost, *entries))?;
     }
     Ok(Listed { right, columns })
 }

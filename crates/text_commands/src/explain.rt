@@ -28,13 +28,11 @@ const NO_DERIVATION: &[u8] = b"no derivation\n";
 fn no_derivation(alloc: Global) -> Result<Answer, Memory>
     ensures { IfOk result (λ a. (a.status ≡ 1) × (a.output ≡ codes "no derivation\n")) }
 {
-    match Vec::from_slice(alloc, NO_DERIVATION) {
-        Ok(bytes) => Ok(Answer {
-            status: 1,
-            output: List::from_vec(bytes),
-        }),
-        Err(_) => Err(Memory),
-    }
+    let bytes = Vec::from_slice(alloc, NO_DERIVATION)?;
+    Ok(Answer {
+        status: 1,
+        output: List::from_vec(bytes),
+    })
 }
 
 // Says the price of a word, and the tree of least sum that a filled table has for it.

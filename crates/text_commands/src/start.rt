@@ -71,13 +71,11 @@ pub fn grammar_from(grammar: Grammar, start: Option<&str>) -> Option<Grammar>
 pub fn no_form(alloc: Global) -> Result<Answer, Memory>
     ensures { IfOk result (λ a. AnswersNoForm a.status a.output) }
 {
-    match Vec::from_slice(alloc, NO_FORM) {
-        Ok(bytes) => Ok(Answer {
-            status: 2,
-            output: List::from_vec(bytes),
-        }),
-        Err(_) => Err(Memory),
-    }
+    let bytes = Vec::from_slice(alloc, NO_FORM)?;
+    Ok(Answer {
+        status: 2,
+        output: List::from_vec(bytes),
+    })
 }
 
 // Notes that a name is none of the rules; nothing after want of memory.

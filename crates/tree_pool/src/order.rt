@@ -70,9 +70,7 @@ pub fn put(
     ensures kept { OnErr result ((entries.new ≡ entries.old) × (order.new.items ≡ order.old.items)) }
 {
     let number = entries.len();
-    if order.reserve(1).is_err() {
-        return Err(Memory);
-    }
+    order.reserve(1)?;
     entries.push(entry)?;
     match order.insert(place, number) {
         Ok(()) => Ok(number),

@@ -13,5 +13,5 @@ returns-clause-costs c = record {
     made = c.cheapest.ensures.kept c.args.day.now.graph.now c.requires.pricing.pricer;
     filled = c.cheapest.ensures.filled c.args.day.now.instance.now.grammar c.requires.day.sound.grammar c.requires.day.graph;
   };
-  costs = costs-are c.args.day.now.instance.now c.requires.day.sound (price_view c.set_parts.new.self) c.as_slice.result.now c.len.result (c.as_slice.ensures.value ∙ c.in-Ok.ensures.items_if_clones_equal (λ y h. h)) c.set_parts.ensures.value;
+  costs = costs-are c.args.day.now.instance.now c.requires.day.sound (price_view c.set_parts.new.self) c.as_slice.result.now c.len.result (c.as_slice.ensures.value ∙ c.in_ok-zeros.ensures.items_if_clones_equal (λ y h. h)) c.set_parts.ensures.value;
 }

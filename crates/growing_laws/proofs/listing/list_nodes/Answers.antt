@@ -11,7 +11,7 @@ same-at xs k x lt e = e ∙ same_Some (get_or xs k x) (seat_at xs k) (sym (slice
 
 pub loop-number-init : goal.loop-number-init
 loop-number-init c = λ t h.
-    let st : c.push.new.self.items ≡ 0 ∷ [] = c.in-Ok.ensures.items ∙ ap (λ (xs : List ℕ). xs ++ 0 ∷ []) c.new-stack.ensures.items in
+    let st : c.push.new.self.items ≡ 0 ∷ [] = c.in_ok-push.ensures.items ∙ ap (λ (xs : List ℕ). xs ++ 0 ∷ []) c.new-stack.ensures.items in
     subst (λ (ns : List Node). IsListing (length c.args.seats.items) t c.args.seats.items c.push.new.self.items ns) (sym c.new-nodes.ensures)
     (subst (λ (xs : List ℕ). IsListing (length c.args.seats.items) t c.args.seats.items xs []) (sym st) (began t c.args.seats.items h))
 
@@ -34,7 +34,7 @@ push_halves-requires c =
 pub loop-number-smaller : goal.loop-number-smaller
 loop-number-smaller c =
     let m = more-left (length c.args.seats.items) c.requires.tree.0 c.loop-number.seats.items c.loop-number.stack.items c.pop.new.self.items c.loop-number.nodes c.in-Some.number (c.loop-number.invariant c.requires.tree.0 c.requires.tree.1) c.in-Some.ensures.items in
-    let e : c.push-in-Some.new.self ≡ c.loop-number.nodes ++ c.replace-node.result ∷ [] = c.in_ok-push.ensures.ok in
+    let e : c.push-in-Some.new.self ≡ c.loop-number.nodes ++ c.replace-node.result ∷ [] = c.in_ok-push-2.ensures.ok in
     let n = ap length e in
     let a = length-append c.loop-number.nodes (c.replace-node.result ∷ []) in
     let k : length c.args.seats.items - length c.push-in-Some.new.self < length c.args.seats.items - length c.loop-number.nodes = omega (arith, m, n, a) in
@@ -49,7 +49,7 @@ loop-number-preserved c = λ t h.
     let l : c.index_mut-seat.result.now.low ≡ (seat_at c.loop-number.seats.items c.in-Some.number).low = ap (λ (s : Seat). s.low) e in
     let p : c.push_halves.new.stack.items ≡ pushed_halves c.replace-node.result c.index_mut-seat.result.now.low c.pop.new.self.items = c.in_ok-push_halves.ensures in
     let p2 = p ∙ ap (λ (m : Node). pushed_halves m c.index_mut-seat.result.now.low c.pop.new.self.items) n ∙ ap (λ (m : ℕ). pushed_halves (seat_at c.loop-number.seats.items c.in-Some.number).node m c.pop.new.self.items) l in
-    let q : c.push-in-Some.new.self ≡ c.loop-number.nodes ++ c.replace-node.result ∷ [] = c.in_ok-push.ensures.ok in
+    let q : c.push-in-Some.new.self ≡ c.loop-number.nodes ++ c.replace-node.result ∷ [] = c.in_ok-push-2.ensures.ok in
     let q2 = q ∙ ap (λ (m : Node). c.loop-number.nodes ++ m ∷ []) n in
     let seat : Seat = record { node = c.replace-node.new.dest; value = c.index_mut-seat.result.now.value; low = c.index_mut-seat.result.now.low; above = c.index_mut-seat.result.now.above; parent = c.index_mut-seat.result.now.parent; cut = c.index_mut-seat.result.now.cut } in
     let new : List Seat = set c.loop-number.seats.items c.in-Some.number seat in
@@ -63,7 +63,7 @@ empty (x ∷ xs) e = absurd (omega (arith, e))
 
 pub returns : goal.returns
 returns c = λ t h.
-    let s = c.in_default-pop.ensures.cases in
+    let s = c.in_default.ensures.cases in
     let k = c.loop-number.stack.ok in
     let e : c.loop-number.stack.items ≡ [] = empty c.loop-number.stack.items (omega (arith, s.0, k.0)) in
     ended (length c.args.seats.items) t c.loop-number.seats.items c.loop-number.nodes (subst (λ (xs : List ℕ). IsListing (length c.args.seats.items) t c.loop-number.seats.items xs c.loop-number.nodes) e (c.loop-number.invariant t h))

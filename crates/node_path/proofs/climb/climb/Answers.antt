@@ -18,7 +18,7 @@ pub loop-number-smaller : goal.loop-number-smaller
 loop-number-smaller c =
     let r = c.requires in
     let left = climb-left r.0 c.args.seats.now c.args.number r.1.0 r.1.1 r.1.2 c.loop-number.number c.args.cuts.now.items c.loop-number.cuts.items (c.loop-number.invariant r.0 r.1.0 r.1.1 r.1.2) in
-    let more = ap length c.in-Ok.ensures.items ∙ length-append c.loop-number.cuts.items (c.index-seats-number.result.cut ∷ []) in
+    let more = ap length c.in_ok-push.ensures.items ∙ length-append c.loop-number.cuts.items (c.index-seats-number.result.cut ∷ []) in
     let less : length c.args.cuts.now.items + length c.args.seats.now - length c.push.new.self.items < length c.args.cuts.now.items + length c.args.seats.now - length c.loop-number.cuts.items = omega (arith, left, more) in
     less
 
@@ -30,7 +30,7 @@ loop-number-preserved c i t path is =
     let within = inside i c.args.seats.now c.args.number t path is k old c.loop-number.cuts.items h in
     let same : c.index-seats-number.result ≡ seat_at c.args.seats.now k = same-seat c.args.seats.now k c.index-seats-number.result within c.index-seats-number.is in
     let more = climb-more i c.args.seats.now c.args.number t path is k old c.loop-number.cuts.items h c.loop-number-test.true in
-    subst (λ (xs : List Cut). IsClimbing i t path c.index-seats-number.result.parent old xs) (sym c.in-Ok.ensures.items)
+    subst (λ (xs : List Cut). IsClimbing i t path c.index-seats-number.result.parent old xs) (sym c.in_ok-push.ensures.items)
     (subst (λ (s : Seat). IsClimbing i t path s.parent old (c.loop-number.cuts.items ++ s.cut ∷ [])) (sym same) more)
 
 pub returns : goal.returns

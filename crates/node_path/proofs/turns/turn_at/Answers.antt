@@ -4,9 +4,9 @@ use Rattle.node_path.specs.Paths.{AreTurns}
 use Rattle.node_path.proofs.TurnsLemmas.{arc-listed, turns-pushed}
 use Rattle.node_path.proofs.turns.turn_at.Goals as goal
 
-pub returns-in-Ok-clause-turned : goal.returns-in-Ok-clause-turned
-returns-in-Ok-clause-turned c i base above h is are =
-    subst (λ (xs : List Turn). AreTurns i c.args.graph.now base xs (above ++ c.args.cut.now ∷ [])) (sym c.in-Ok.ensures.items)
+pub returns-in_ok-push-clause-turned : goal.returns-in_ok-push-clause-turned
+returns-in_ok-push-clause-turned c i base above h is are =
+    subst (λ (xs : List Turn). AreTurns i c.args.graph.now base xs (above ++ c.args.cut.now ∷ [])) (sym c.in_ok-push.ensures.items)
     (turns-pushed i c.args.graph.now base c.args.turns.now.items above c.args.cut.now c.in-Some.turn are (c.in-Some.ensures.turn i above h))
 
 pub returns-in_default-clause-turned : goal.returns-in_default-clause-turned

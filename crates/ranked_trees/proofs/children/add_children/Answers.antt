@@ -8,7 +8,7 @@ use Rattle.ranked_trees.specs.Frames.{right_of}
 use Rattle.ranked_trees.specs.Children.{AreChildrenTo}
 use Rattle.ranked_trees.proofs.FrameLemmas.{symbol-here}
 use Rattle.ranked_trees.proofs.ChildListLemmas.{children-more, children-skip}
-use Rattle.ranked_trees.proofs.children.add_children.Goals.{in-Some+else-is_err, in_default}
+use Rattle.ranked_trees.proofs.children.add_children.Goals.{in-Some+in_ok-push, in_default}
 use Rattle.ranked_trees.proofs.children.add_children.Goals as goal
 
 pub loop-len-preserved : goal.loop-len-preserved
@@ -17,9 +17,9 @@ loop-len-preserved g c =
     let p = g.P.LetterPrice.view c.args.prices.now in
     let name = symbol-here (right_of c.args.grammar.now f.suffix.rule) f.suffix.from (Name c.args.name) c.requires.symbol in
     elim c.match-use_sum.branch [
-      | in-Some+else-is_err w ↦
+      | in-Some+in_ok-push w ↦
           (let ch : Child = record { sum = to_z w128 (of_z w128 (to_z w128 (of_z w128 c.args.base) +ℤ to_z w128 (of_z w128 w.in-Some.sum))); rule = c.args.number; len = c.loop-len.len } in
-          let pushed : w.push.new.self.items ≡ c.loop-len.children.items ++ ch ∷ [] = rw w.if-is_err.ensures.negation at w.push.ensures.items in
+          let pushed : w.push.new.self.items ≡ c.loop-len.children.items ++ ch ∷ [] = w.in_ok-push.ensures.items in
           let all : c.match-use_sum.children.items ≡ c.loop-len.children.items ++ ch ∷ [] = rw w.children-is pushed in
           let sum : ch.sum ≡ to_z w128 (of_z w128 c.args.base) +ℤ w.in-Some.sum = omega (arith, ints, c.requires.base, w.in-Some.ensures.within) in
           subst (λ (q : List Child). AreChildrenTo c.args.grammar.now (g.P.LetterPrice.view c.args.prices.now) c.args.frame c.args.name (to_z w128 (of_z w128 c.args.base)) c.args.number (c.loop-len.len + 1) q) (sym all)

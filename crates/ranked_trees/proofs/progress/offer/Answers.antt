@@ -4,7 +4,6 @@ use Rattle.roster_model.specs.Folds.{Each}
 use Rattle.ranked_trees.specs.declared.candidate.Candidate.{Candidate}
 use Rattle.ranked_trees.specs.Candidates.{Comes}
 use Rattle.ranked_trees.proofs.OfferListLemmas.{room-place, offered-put}
-use Rattle.ranked_trees.proofs.progress.offer.Goals.{in-Ok, in-Err}
 use Rattle.ranked_trees.proofs.progress.offer.Goals as goal
 
 pub insert-requires : goal.insert-requires
@@ -13,12 +12,9 @@ insert-requires c =
     omega (arith, within)
 
 pub returns : goal.returns
-returns c = elim c.match-insert.branch [
-  | in-Ok w ↦ rw w.result-is
-      (offered-put c.args.room c.place_of-place.result c.args.candidate c.args.waiting.now.items c.make_room.new.waiting.items c.insert.new.self.items c.make_room.ensures c.place_of-place.ensures.within
-      c.if-place-room.false c.place_of-place.ensures.before c.place_of-place.ensures.after w.in-Ok.ensures.items)
-  | in-Err w ↦ rw w.result-is tt
-]
+returns c =
+    offered-put c.args.room c.place_of-place.result c.args.candidate c.args.waiting.now.items c.make_room.new.waiting.items c.insert.new.self.items c.make_room.ensures c.place_of-place.ensures.within
+    c.if-place-room.false c.place_of-place.ensures.before c.place_of-place.ensures.after c.in_ok-insert.ensures.items
 
 pub returns-then-place-room : goal.returns-then-place-room
 returns-then-place-room c =

@@ -36,9 +36,9 @@ pub loop-init : goal.loop-init
 loop-init c = λ asked.
     let b = began c.args.graph.now c.args.counts.now asked c.in-Some.root (sym c.root.ensures ∙ c.in-Some.is) c.makers.result.now c.makers.ensures c.sum_at-number.result c.sum_at-number.ensures in
     let z : c.sum_at-number.result ≡ c.sum_at-number.result - 0 = omega arith in
-    subst (λ (n : ℕ). IsSplitting asked.g c.args.graph.now c.args.counts.now c.in-Ok.left.items c.new-trees.result c.sum_at-number.result n) z
-    (subst (λ (ts : List (List Step)). IsSplitting asked.g c.args.graph.now c.args.counts.now c.in-Ok.left.items ts c.sum_at-number.result c.sum_at-number.result) (sym c.new-trees.ensures)
-    (subst (λ (xs : List ℕ). IsSplitting asked.g c.args.graph.now c.args.counts.now xs [] c.sum_at-number.result c.sum_at-number.result) (sym c.in-Ok.ensures.items) b))
+    subst (λ (n : ℕ). IsSplitting asked.g c.args.graph.now c.args.counts.now c.in_ok-left.left.items c.new-trees.result c.sum_at-number.result n) z
+    (subst (λ (ts : List (List Step)). IsSplitting asked.g c.args.graph.now c.args.counts.now c.in_ok-left.left.items ts c.sum_at-number.result c.sum_at-number.result) (sym c.new-trees.ensures)
+    (subst (λ (xs : List ℕ). IsSplitting asked.g c.args.graph.now c.args.counts.now xs [] c.sum_at-number.result c.sum_at-number.result) (sym c.in_ok-left.ensures.items) b))
 
 pub take_tree-requires : goal.take_tree-requires
 take_tree-requires c =

@@ -7,5 +7,5 @@ use Rattle.tableau.proofs.first.unit_line.Goals as goal
 pub returns : goal.returns
 returns c =
     let f : SFits w64 c.args.right = c.ranges.right in
-    let items = c.in-Ok.ensures.items_if_clones_equal (λ y e. e) in
-    rw c.from_vec.ensures (simp to_z-of_z (unit_written c.args.rows c.args.row c.args.right c.in-Ok.numbers.items c.requires.row items))
+    let items = c.in_ok-numbers.ensures.items_if_clones_equal (λ y e. e) in
+    rw c.from_vec.ensures (simp to_z-of_z (unit_written c.args.rows c.args.row c.args.right c.in_ok-numbers.numbers.items c.requires.row items))

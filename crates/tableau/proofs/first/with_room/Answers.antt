@@ -6,5 +6,5 @@ pub returns-clause-room : goal.returns-clause-room
 returns-clause-room c = record {
   entry = search rules;
   price = search rules;
-  numbers = ap length c.in-Ok-new.ensures ∙ zeros_long (c.args.count + 2);
+  numbers = ap length c.in_ok-pivot.ensures ∙ zeros_long (c.args.count + 2);
 }

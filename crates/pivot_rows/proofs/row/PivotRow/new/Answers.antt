@@ -4,4 +4,4 @@ use Rattle.pivot_rows.proofs.row.PivotRow.new.Goals as goal
 
 pub returns : goal.returns
 returns c =
-    let e : c.in-Ok.numbers.items ≡ replicate c.args.width (pos 0) = search rules in e ∙ zeros_are c.args.width
+    let e : c.in_ok-numbers.numbers.items ≡ replicate c.args.width (pos 0) = search rules in e ∙ zeros_are c.args.width
