@@ -5,9 +5,9 @@
 
 For examples/ (g1, g6, and days that are solved here: the call centre, the shop, the ward) and for days that are
 made here (96 periods, 64 shifts, long names, codes that HTML has a use for, labels of 60 bytes, a ceiling of 0, no
-roster) it draws the page, takes a picture in light, in dark, on a narrow screen, as printed and with a derivation
+roster, a roster beside an old one, a report in place of a certificate) it draws the page, takes a picture in light, in dark, on a narrow screen, as printed and with a derivation
 shown into FOLDER (/tmp/roster-pages if none is given), and fails where an element of a chart lies outside its frame,
-a text is cut or two texts of a row overlap, a derivation leaves its frame, a page asks the network for something, the
+a text is cut or two texts of a row overlap, a derivation leaves its frame and can't be scrolled, a page asks the network for something, the
 console says a word, or the charts and costs of a printed day of at most 48 periods do not end on its first page. From
 the page of the call centre it makes docs/page.svg anew.
 """
@@ -44,8 +44,41 @@ MADE = {
               f"group {WIDE} 0 2\nneed a 10000 1" + " 64" * 48,
               bare(2 * 48 * 9999 + 48 * 62 * 10000, [f"{WIDE} " + "a" * 48 + f" {48 * 9999}"] * 2)),
 }
+TEAMS = "start S\nrule S 0 = Nurse\nrule S 0 = Cook\n" + "".join(
+    f"rule {name} 1 = X {name}\nrule {name} 1 = X\n" for name in ("Nurse", "Cook")) + "".join(
+    f"rule X 0 = '{code}'\n" for code in "ab.")
+NEED = [0, 0, 1, 1, 2, 2, 3, 3, 3, 3, 2, 2, 2, 2, 1, 1, 1, 0]
+TEAM_DAY = (f"periods {len(NEED)}\nwork a b\nidle .\n{TEAMS}",
+            "group Nurse 0 3\ngroup Cook 0 2\nneed a 5 1 " + " ".join(map(str, NEED)) + "\n")
+TEAM = ["Nurse ..aaaaaaaabbbb....", "Nurse ......aaaaaabbbbbb", "Cook ....bbaaaaaaaa...."]
+
+
+def priced(shifts):
+    """The shifts of the day of two teams at their prices, and what the roster costs."""
+    shifts = [shift + f" {len(NEED)}" for shift in shifts]
+    here = [sum(shift.split()[1][period] == "a" for shift in shifts) for period in range(len(NEED))]
+    return shifts, len(NEED) * len(shifts) + sum(max(5 * (need - have), have - need) for need, have in zip(NEED, here))
+
+
+def report(shifts, cost):
+    return f"report 2\nresult stated\ncost {cost}\nshifts {len(shifts)}\n" + "".join(
+        f"shift {shift}\n" for shift in shifts)
+
+
+TEAM_SHIFTS, TEAM_COST = priced(TEAM)
+MADE["changed"] = (*TEAM_DAY, bare(TEAM_COST, TEAM_SHIFTS))
+MADE["stated"] = (*TEAM_DAY, report(TEAM_SHIFTS, TEAM_COST))
+# The old rosters beside which two of them are drawn.
+OLD = {
+    "changed": bare(*reversed(priced(["Nurse ..aaaaaaaabbbb....", "Nurse ....aaaaaaaabbbb..", "Cook ....bbaaaaaaaa....",
+                                      "Cook aaaaaaaaaaaaaaaaaa"]))),
+    "stated": report(TEAM_SHIFTS, TEAM_COST),
+}
 # The labels of days that are made here.
 LABELS = {
+    "changed": "title A kitchen with nurses\nclock 6:00 60\ncode a At the patients' beds\ncode b Records\n"
+               "group Nurse Nurses of ward 3\nmoney EUR\n",
+    "stated": "money CHF\n",
     "marks": "title <Day> & \"night\"\nclock 23:30 45\ncode < " + "<&\">" * 15 + "\ncode & " + "'" * 60
              + "\nmoney EUR\npaid > yes\n",
     "names": f"group {WIDE} {'nurses of the night ' * 2}who are so\ncode a at the desk\nclock 7:00 15\n",
@@ -64,7 +97,9 @@ for(let i=1;i<t.length;i++)if(t[i][1].left<t[i-1][1].right-near)said.push('overl
 for(const e of document.querySelectorAll('h1,h2,p,dt,dd,li,figcaption'))
 if(e.scrollWidth>e.clientWidth+near&&e.clientWidth)said.push('cut '+e.outerHTML.slice(0,120));
 for(const e of document.querySelectorAll('pre.derivation')){e.style.display='block';
-if(e.scrollWidth>e.clientWidth+near)said.push('wide derivation '+e.id);e.style.display='';}
+if(e.scrollWidth>e.clientWidth+near){document.querySelector(`[aria-describedby='${e.id}']`).focus();
+if(getComputedStyle(e).pointerEvents==='none')said.push('wide derivation '+e.id);document.activeElement.blur();}
+e.style.display='';}
 if(document.documentElement.scrollWidth>innerWidth+near)said.push('wider than the window');
 for(const e of performance.getEntriesByType('resource'))said.push('asks '+e.name);
 const p=document.createElement('pre');p.id='look';p.textContent=said.join('\\n');document.body.append(p);})</script>"""
@@ -97,6 +132,10 @@ def drawn(folder, name, rules, demand, proof):
         labels = folder / f"{name}.labels"
         labels.write_text(LABELS[name])
         words.append(labels)
+    if name in OLD:
+        old = folder / f"{name}.old.proof"
+        old.write_text(OLD[name])
+        words.append(old)
     said = run([TOP / "roster-page"] + words)
     if said.returncode != 0:
         raise SystemExit(f"{name}: status {said.returncode}: {said.stdout}{said.stderr}")
