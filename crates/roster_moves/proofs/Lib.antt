@@ -1,3 +1,4 @@
 mod LeastTrees
 mod PoolTrees
 mod DraftsLemmas
+mod ToolsLemmas

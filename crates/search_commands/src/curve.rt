@@ -355,10 +355,12 @@ fn curve_made<S: Shelf, M: Master, W: Watch>(
         (S.told shelf.old)
         (S.told shelf.new) result }
 {
-    match ask_points(alloc, shelf, &curve, proof) {
+    let status = match ask_points(alloc, shelf, &curve, proof) {
         Ok(()) => curve_points(alloc, shelf, &mut curve, group, proof, limit, master, watch),
         Err(status) => status,
-    }
+    };
+    drop(curve);
+    status
 }
 
 // Searches the curve of an instance over a team, or says that it has too many arcs.
