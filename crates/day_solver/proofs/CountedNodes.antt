@@ -1,5 +1,5 @@
 -- What holds of what was found holds of a solution with it.
-use Rattle.std.proofs.Common.{◌≡◌, ◌≤◌, ℕ, Bool, Result, Ok, Err, IfOk, arith, sym, subst}
+use Rattle.std.proofs.Common.{◌≤◌, ℕ, Bool, Result, Ok, Err, IfOk, arith, sym, subst}
 use Rattle.roster_model.specs.declared.memory.Memory.{Memory}
 use Rattle.branch_price.specs.declared.found.Found.{Found}
 use Rattle.branch_price.specs.declared.task.SearchTask.{SearchTask}

@@ -123,7 +123,9 @@ pub fn solve_day<M: Master, W: Watch>(
         turns,
         start: Start::none(),
     };
-    Ok(solved(alloc, &task, master, watch)?)
+    let solution = solved(alloc, &task, master, watch);
+    drop(graph);
+    Ok(solution?)
 }
 
 /// Searches as [`solve_day`] does, from an old certificate, of this day or of another one of its form: its
@@ -165,5 +167,7 @@ pub fn solve_day_from<M: Master, W: Watch>(
         turns,
         start,
     };
-    Ok(solved(alloc, &task, master, watch)?)
+    let solution = solved(alloc, &task, master, watch);
+    drop(graph);
+    Ok(solution?)
 }

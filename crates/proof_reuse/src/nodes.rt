@@ -1,6 +1,7 @@
 ghost use Rattle.std.specs.Prelude.{◌≡◌, IfOk};
 ghost use Rattle.roster_model.specs.SoundInstance.{IsSoundInstance};
 ghost use Rattle.certificates.specs.Sound.{IsSoundCert};
+ghost use Rattle.proof_check.specs.Verdicts.{IsVerdict};
 ghost use Rattle.proof_reuse.specs.Reuse.{nodes_only, reuse_of, IsReuse};
 
 use certificates::{Cert, Verdict, Why};
@@ -41,6 +42,18 @@ fn told(verdict: Verdict) -> Reused
     }
 }
 
+/// Judges a certificate, on a bench of its own.
+fn judged(alloc: Global, instance: &Instance, cert: &Cert) -> Result<Verdict, Memory>
+    requires sound { IsSoundInstance instance.now }
+    requires cert { IsSoundCert instance.now cert.now }
+    ensures { IfOk result (IsVerdict instance.now cert.now) }
+{
+    let mut bench = Bench::for_proof(alloc, instance, cert)?;
+    let verdict = bench.judge(instance, cert);
+    drop(bench);
+    Ok(verdict)
+}
+
 /// Returns what the nodes of a certificate show on a day that it need not have been found for. Its
 /// roster, its cost and its bound are left aside.
 ///
@@ -61,6 +74,7 @@ pub fn reuse(alloc: Global, instance: &Instance, cert: Cert) -> Result<Reused, M
     ensures { IfOk result (IsReuse instance.now cert) }
 {
     let nodes = without_roster(alloc, cert);
-    let mut bench = Bench::for_proof(alloc, instance, &nodes)?;
-    Ok(told(bench.judge(instance, &nodes)))
+    let verdict = judged(alloc, instance, &nodes);
+    drop(nodes);
+    Ok(told(verdict?))
 }

@@ -1,8 +1,8 @@
 -- A grammar that begins at another name.
-use Rattle.std.proofs.Common.{◌≡◌, ◌≢◌, ℕ, ◌<◌, List, Some, length, ◌⊎◌, inl, inr}
+use Rattle.std.proofs.Common.{◌≡◌, ◌≢◌, ℕ, ◌<◌, List, Some, length, inl, inr}
 use Rattle.std.specs.Prelude.{slice_get}
 use Rattle.roster_model.specs.declared.grammar.Grammar.{Grammar}
-use Rattle.roster_model.specs.Names.{is_name, added_name}
+use Rattle.roster_model.specs.Names.{added_name}
 use Rattle.roster_model.specs.Sound.{IsSound, IsPlain, IsNameOf}
 use Rattle.tree_laws.proofs.Rules.{All-slice_get}
 

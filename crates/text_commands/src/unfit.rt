@@ -43,6 +43,22 @@ fn unknown_sign(grammar: &Grammar, any: Option<u8>, word: &str) -> Option<char> 
 
 // Returns how many signs the longest front of a word has that some shift begins with; `None` where the rules
 // have no shift.
+fn longest_on(table: &mut Table, grammar: &Grammar, any: Option<u8>, word: &[u8]) -> Option<usize>
+    requires sound { IsSound grammar.now }
+    requires table { IsMadeFor grammar.now table.old }
+{
+    let mut longest = None;
+    for count in 0..=word.len() {
+        let prices = PatternPrices::new(grammar, any, &word[..count]);
+        if table.least(grammar, &prices).is_none() {
+            return longest;
+        }
+        longest = Some(count);
+    }
+    longest
+}
+
+// Returns the same on a table of its own.
 fn longest_front(
     alloc: Global,
     grammar: &Grammar,
@@ -52,14 +68,8 @@ fn longest_front(
     requires { IsSound grammar.now }
 {
     let mut table = Table::for_instance(alloc, grammar)?;
-    let mut longest = None;
-    for count in 0..=word.len() {
-        let prices = PatternPrices::new(grammar, any, &word[..count]);
-        if table.least(grammar, &prices).is_none() {
-            return Ok(longest);
-        }
-        longest = Some(count);
-    }
+    let longest = longest_on(&mut table, grammar, any, word);
+    drop(table);
     Ok(longest)
 }
 
@@ -96,9 +106,11 @@ fn reason_by(
     word: &[u8],
     start: Option<&str>,
 ) -> Option<String> {
-    let grammar = grammar_from(read_rules(alloc, text).ok()?, start)?;
     let word = str::from_utf8(word).ok()?;
-    reason(alloc, &grammar, any, word)
+    let grammar = grammar_from(read_rules(alloc, text).ok()?, start)?;
+    let reason = reason(alloc, &grammar, any, word);
+    drop(grammar);
+    reason
 }
 
 // Notes why a word is no shift by a rules text that is accepted.

@@ -3,8 +3,8 @@ use Rattle.roster_model.specs.declared.instance.Shift.{Shift}
 use Rattle.day_solver.specs.Solutions.{IsDaySolved}
 use Rattle.day_solver.proofs.solve.solve_day_from.Goals as goal
 
-pub solved-requires : goal.solved-requires
-solved-requires g c = record {
+pub solved-solution-requires : goal.solved-solution-requires
+solved-solution-requires g c = record {
   day = record { sound = c.requires.sound; graph = c.in_ok-graph.ensures.graph };
   some = c.requires.some;
   few = c.requires.few;
@@ -14,5 +14,5 @@ solved-requires g c = record {
 
 pub returns-clause-solution : goal.returns-clause-solution
 returns-clause-solution g c =
-    subst (λ (ss : List Shift). IsDaySolved c.args.instance.now c.args.turns ss (g.W.Watch.patient c.args.watch.now) (g.M.Master.strict c.args.master.now) (g.M.Master.refused c.args.master.now) (g.M.Master.refused c.solved.new.master) c.in_ok-solved.field-0)
-    c.as_slice.ensures c.in_ok-solved.ensures.solution
+    subst (λ (ss : List Shift). IsDaySolved c.args.instance.now c.args.turns ss (g.W.Watch.patient c.args.watch.now) (g.M.Master.strict c.args.master.now) (g.M.Master.refused c.args.master.now) (g.M.Master.refused c.solved-solution.new.master) c.in_ok-solution.field-0)
+    c.as_slice.ensures c.in_ok-solution.ensures.solution

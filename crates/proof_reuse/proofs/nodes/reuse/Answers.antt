@@ -9,5 +9,5 @@ use Rattle.proof_reuse.proofs.nodes.reuse.Goals as goal
 pub returns : goal.returns
 returns c =
     let day = c.args.instance.now in
-    let verdict = subst (λ (n : Cert). IsVerdict day n c.judge.result) c.without_roster-nodes.ensures c.judge.ensures.verdict in
-    subst (λ (r : Reused). IsReuse day c.args.cert r) (sym c.told.ensures) (told-is day c.args.cert c.requires.sound c.requires.cert c.judge.result verdict)
+    let verdict = subst (λ (n : Cert). IsVerdict day n c.in_ok-verdict.field-0) c.without_roster-nodes.ensures c.in_ok-verdict.ensures in
+    subst (λ (r : Reused). IsReuse day c.args.cert r) (sym c.told.ensures) (told-is day c.args.cert c.requires.sound c.requires.cert c.in_ok-verdict.field-0 verdict)
