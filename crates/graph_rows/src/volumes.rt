@@ -94,6 +94,30 @@ fn are_listed(alloc: Global, day: &Instance, found: &Volume) -> Result<bool, Mem
     Ok(listed.as_slice() == [0, 1].as_slice() && pool.len() == 2)
 }
 
+/// Whether passes over these rows show the same as these once more, and a good bound from their prices.
+fn is_shown_again(
+    alloc: Global,
+    day: &Instance,
+    graph: &Graph,
+    cuts: &[Cut],
+    rows: &NodeRows,
+    cost: i128,
+    found: &Volume,
+) -> Result<bool, Memory>
+    requires sound { IsSoundInstance day.now }
+    requires graph { IsGraph day.now.grammar graph.now }
+    requires rows { AreRows day.now cuts.now rows.now }
+    requires small { length (rows_of day.now cuts.now) ≤ 1500 }
+{
+    let second = volume_at(alloc, day, graph, cuts, rows, None)?;
+    let is_same = are_same(found, &second);
+    drop(second);
+    let third = volume_at(alloc, day, graph, cuts, rows, Some(found.prices.as_slice()))?;
+    let is_good = is_between(&third, cost);
+    drop(third);
+    Ok(is_same && is_good)
+}
+
 /// Whether passes over these rows show a good bound, the same twice, also from their prices.
 fn is_shown(
     alloc: Global,
@@ -108,11 +132,12 @@ fn is_shown(
     requires rows { AreRows day.now cuts.now rows.now }
     requires small { length (rows_of day.now cuts.now) ≤ 1500 }
 {
-    let first = volume_at(alloc, day, graph, cuts, rows, None)?;
-    let second = volume_at(alloc, day, graph, cuts, rows, None)?;
-    let third = volume_at(alloc, day, graph, cuts, rows, Some(first.prices.as_slice()))?;
-    let are_good = is_between(&first, cost) && is_between(&third, cost);
-    Ok(are_same(&first, &second) && are_good && are_listed(alloc, day, &first)?)
+    let found = volume_at(alloc, day, graph, cuts, rows, None)?;
+    let again = is_shown_again(alloc, day, graph, cuts, rows, cost, &found);
+    let is_good = is_between(&found, cost);
+    let listed = are_listed(alloc, day, &found);
+    drop(found);
+    Ok(again? && is_good && listed?)
 }
 
 /// Whether the same holds at these cuts.

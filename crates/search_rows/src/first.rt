@@ -59,7 +59,11 @@ fn solve_on(alloc: Global, day: &Instance, cuts: &[Cut], first: First) -> Result
     let graph = graph_of(alloc, &day.grammar)?;
     let lent = lent_for(alloc, day, &graph);
     let end = match lent {
-        Ok(mut lent) => solve(alloc, day, &graph, &mut lent, cuts, first),
+        Ok(mut lent) => {
+            let end = solve(alloc, day, &graph, &mut lent, cuts, first);
+            drop(lent);
+            end
+        }
         Err(fault) => Err(Fail::from(fault)),
     };
     drop(graph);
@@ -87,12 +91,20 @@ fn are_near_halves(end: &NodeEnd) -> bool {
     }
 }
 
-fn is_near(end: &NodeEnd) -> bool {
-    matches!(end, NodeEnd::Near { .. })
+/// Whether near prices end the node of pairs at these cuts.
+fn is_near_at(alloc: Global, cuts: &[Cut]) -> Result<bool, Fail> {
+    let end = solve_pairs(alloc, cuts, First::Near)?;
+    let is_near = matches!(end, NodeEnd::Near { .. });
+    drop(end);
+    Ok(is_near)
 }
 
-fn is_exact(end: &NodeEnd) -> bool {
-    matches!(end, NodeEnd::Best { .. })
+/// Whether the exact path ends the node of pairs, going one way first.
+fn is_exact_by(alloc: Global, first: First) -> Result<bool, Fail> {
+    let end = solve_pairs(alloc, &[], first)?;
+    let is_exact = matches!(end, NodeEnd::Best { .. });
+    drop(end);
+    Ok(is_exact)
 }
 
 #[test]
@@ -103,17 +115,17 @@ fn near_prices_of_pairs(rt: HostRuntime) -> Result<(), Fail> {
 
 #[test]
 fn near_prices_under_cuts(rt: HostRuntime) -> Result<(), Fail> {
-    assert!(rt; is_near(&solve_pairs(rt.alloc(), &[LOW], First::Near)?));
-    assert!(rt; is_near(&solve_pairs(rt.alloc(), &[HIGH], First::Near)?));
+    assert!(rt; is_near_at(rt.alloc(), &[LOW])?);
+    assert!(rt; is_near_at(rt.alloc(), &[HIGH])?);
     // No solution meets both: the artificial column of the second row has weight 1.
-    assert!(rt; is_near(&solve_pairs(rt.alloc(), &[LOW, HIGH], First::Near)?));
+    assert!(rt; is_near_at(rt.alloc(), &[LOW, HIGH])?);
     Ok(())
 }
 
 #[test]
 fn the_exact_path_first(rt: HostRuntime) -> Result<(), Fail> {
-    assert!(rt; is_exact(&solve_pairs(rt.alloc(), &[], First::Exact)?));
+    assert!(rt; is_exact_by(rt.alloc(), First::Exact)?);
     // Three trees are few.
-    assert!(rt; is_exact(&solve_pairs(rt.alloc(), &[], First::BySize)?));
+    assert!(rt; is_exact_by(rt.alloc(), First::BySize)?);
     Ok(())
 }

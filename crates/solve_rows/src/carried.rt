@@ -78,15 +78,46 @@ fn found_from(
     )
 }
 
+/// Searches on a day over its graph, from the text of an old certificate.
+fn found_over(
+    alloc: Global,
+    day: &Instance,
+    graph: &Graph,
+    text: &[u8],
+    turns: u32,
+) -> Result<Found, Fail>
+    requires day { IsSoundInstance day.now }
+    requires graph { IsGraph day.now.grammar graph.now }
+    requires some { 1 ≤ turns }
+    requires few { turns ≤ 10000 }
+{
+    let old = old_cert(alloc, day, text)?;
+    let found = found_from(alloc, day, graph, &old, turns);
+    drop(old);
+    Ok(found?)
+}
+
+/// Searches on a day, from the text of an old certificate.
+fn found_on(alloc: Global, day: &Instance, text: &[u8], turns: u32) -> Result<Found, Fail>
+    requires day { IsSoundInstance day.now }
+    requires some { 1 ≤ turns }
+    requires few { turns ≤ 10000 }
+{
+    let graph = graph_of(alloc, &day.grammar)?;
+    let found = found_over(alloc, day, &graph, text, turns);
+    drop(graph);
+    found
+}
+
 /// Searches on the day of pairs, from the text of an old certificate.
 fn found_on_pairs(alloc: Global, text: &[u8], turns: u32) -> Result<Found, Fail>
     requires some { 1 ≤ turns }
     requires few { turns ≤ 10000 }
 {
     let day = sound_day(alloc, &PAIR_PARTS)?;
-    let old = old_cert(alloc, &day, text)?;
-    let graph = graph_of(alloc, &day.grammar)?;
-    Ok(found_from(alloc, &day, &graph, &old, turns)?)
+    let found = found_on(alloc, &day, text, turns);
+    drop(day);
+    found
 }
 
 fn is_shift(shift: &Shift, word: &[u8], price: u64) -> bool {

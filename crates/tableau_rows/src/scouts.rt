@@ -1,3 +1,6 @@
+ghost use Rattle.std.specs.Prelude.{◌≡◌};
+ghost use Rattle.scout.specs.Sizes.{row_count};
+
 use roster_model::{List, Memory};
 use scout::{Grown, Key, LastRow, Limits, Scout, Scouted, Sign};
 use std::alloc::Global;
@@ -23,6 +26,14 @@ fn list(scout: &mut Scout, cost: i64, rows: &[u32]) -> Result<(), Memory> {
     Ok(())
 }
 
+/// Lists columns, each with its cost and its rows.
+fn list_all(scout: &mut Scout, columns: &[(i64, &[u32])]) -> Result<(), Memory> {
+    for (cost, rows) in columns {
+        list(scout, *cost, rows)?;
+    }
+    Ok(())
+}
+
 /// Returns the master of three shifts over three periods, two periods each at a cost of 2. A missing
 /// employee costs 10, and there are at most 3. The last row is empty.
 fn three_shifts(alloc: Global) -> Result<Scout, Memory> {
@@ -30,9 +41,10 @@ fn three_shifts(alloc: Global) -> Result<Scout, Memory> {
     let missing = [10, 10, 10, DEAR, 0, 0];
     let beyond = [Some(0), Some(0), Some(0), Some(0), None, None];
     let mut scout = Scout::new(alloc, &right, &missing, &beyond)?;
-    list(&mut scout, 2, &[0, 1, 3, 4])?;
-    list(&mut scout, 2, &[1, 2, 3, 4])?;
-    list(&mut scout, 2, &[0, 2, 3, 4])?;
+    list_all(
+        &mut scout,
+        &[(2, &[0, 1, 3, 4]), (2, &[1, 2, 3, 4]), (2, &[0, 2, 3, 4])],
+    )?;
     Ok(scout)
 }
 
@@ -79,37 +91,66 @@ fn a_start_that_is_no_basis(rt: HostRuntime) {
     assert!(rt; is_about(scout.value(), 3));
 }
 
-#[test]
-fn both_sides_of_a_cut_cost_4(rt: HostRuntime) {
-    let mut scout = three_shifts(rt.alloc()).expect(&rt, "memory");
-    assert!(rt; scout.start_beyond().is_ok());
-    assert_eq!(rt; scout.run(LIMITS), Scouted::Optimal);
-    let mut probe = three_shifts(rt.alloc()).expect(&rt, "memory");
-    if probe.rows() != scout.rows() {
-        return;
+/// Whether a program that starts with slacks is solved.
+fn is_solved(scout: &mut Scout) -> bool {
+    scout.start_beyond().is_ok() && scout.run(LIMITS) == Scouted::Optimal
+}
+
+/// Whether a program that was solved costs 4 with this last row.
+fn costs_four(probe: &mut Scout, solved: &Scout, row: LastRow) -> Result<bool, Memory>
+    requires { row_count probe.old ≡ row_count solved.now }
+    ensures { row_count probe.new ≡ row_count probe.old }
+{
+    let copied = probe.copy_with_row(solved, row, &[true])?;
+    Ok(copied.is_ok() && probe.run(LIMITS) == Scouted::Optimal && is_about(probe.value(), 4))
+}
+
+/// Whether it does where the first column is left out, and where it is taken once.
+fn both_cost_four(probe: &mut Scout, solved: &Scout) -> Result<bool, Memory> {
+    if probe.rows() != solved.rows() {
+        return Ok(false);
     }
     let none = LastRow {
         right: 0,
         missing: 0,
         beyond: None,
     };
-    let copied = probe
-        .copy_with_row(&scout, none, &[true])
-        .expect(&rt, "memory");
-    assert_eq!(rt; copied, Ok(()));
-    assert_eq!(rt; probe.run(LIMITS), Scouted::Optimal);
-    assert!(rt; is_about(probe.value(), 4));
     let one = LastRow {
         right: 1,
         missing: DEAR,
         beyond: Some(0),
     };
-    let copied = probe
-        .copy_with_row(&scout, one, &[true])
-        .expect(&rt, "memory");
-    assert_eq!(rt; copied, Ok(()));
-    assert_eq!(rt; probe.run(LIMITS), Scouted::Optimal);
-    assert!(rt; is_about(probe.value(), 4));
+    Ok(costs_four(probe, solved, none)? && costs_four(probe, solved, one)?)
+}
+
+/// Whether the three shifts cost 4 on both sides of a cut, in a program beside the one that was solved.
+fn three_cost_four(alloc: Global, solved: &Scout) -> Result<bool, Memory> {
+    let mut probe = three_shifts(alloc)?;
+    let four = both_cost_four(&mut probe, solved);
+    drop(probe);
+    four
+}
+
+#[test]
+fn both_sides_of_a_cut_cost_4(rt: HostRuntime) {
+    let mut scout = three_shifts(rt.alloc()).expect(&rt, "memory");
+    let solved = is_solved(&mut scout);
+    let four = three_cost_four(rt.alloc(), &scout);
+    drop(scout);
+    assert!(rt; solved);
+    assert!(rt; four.expect(&rt, "memory"));
+}
+
+/// Lists 40 columns, each of which takes 1 from all later rows.
+fn list_nested(scout: &mut Scout) -> Result<(), Memory> {
+    for row in 0..40u32 {
+        let _number = scout.add_column(0)?;
+        scout.add_entry(row, Sign::Plus)?;
+        for later in row + 1..40 {
+            scout.add_entry(later, Sign::Minus)?;
+        }
+    }
+    Ok(())
 }
 
 /// Returns a program of 40 rows in which each column takes 1 from all later rows: the values of the
@@ -119,13 +160,7 @@ fn nested(alloc: Global) -> Result<Scout, Memory> {
     let missing = [DEAR; 40];
     let beyond = [None; 40];
     let mut scout = Scout::new(alloc, &right, &missing, &beyond)?;
-    for row in 0..40u32 {
-        let _number = scout.add_column(0)?;
-        scout.add_entry(row, Sign::Plus)?;
-        for later in row + 1..40 {
-            scout.add_entry(later, Sign::Minus)?;
-        }
-    }
+    list_nested(&mut scout)?;
     Ok(scout)
 }
 
@@ -162,10 +197,15 @@ fn four_thirds(alloc: Global) -> Result<Scout, Memory> {
     let missing = [10, 10, 10, 10, DEAR, 0];
     let beyond = [Some(0), Some(0), Some(0), Some(0), Some(0), None];
     let mut scout = Scout::new(alloc, &right, &missing, &beyond)?;
-    list(&mut scout, 2, &[0, 1, 2, 4, 5])?;
-    list(&mut scout, 2, &[1, 2, 3, 4, 5])?;
-    list(&mut scout, 2, &[0, 2, 3, 4, 5])?;
-    list(&mut scout, 2, &[0, 1, 3, 4, 5])?;
+    list_all(
+        &mut scout,
+        &[
+            (2, &[0, 1, 2, 4, 5]),
+            (2, &[1, 2, 3, 4, 5]),
+            (2, &[0, 2, 3, 4, 5]),
+            (2, &[0, 1, 3, 4, 5]),
+        ],
+    )?;
     Ok(scout)
 }
 
