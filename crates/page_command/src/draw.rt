@@ -7,6 +7,7 @@ ghost use Rattle.roster_report.specs.Reports.{HasSoundShifts};
 ghost use Rattle.page_command.specs.declared.roster.ShownRoster.{ShownRoster as AnyRoster};
 ghost use Rattle.page_command.specs.Shown.{IsShown};
 ghost use Rattle.page_command.specs.Draw.{IsContent, IsContentBeside, IsOldRoster, IsPage, IsSoundShown, columns_of, figures_of, words_of};
+ghost use Rattle.roster_tables.specs.AxisTimes.{axis_times};
 
 use crate::compare::{Comparison, compared};
 use crate::derived::derivations;
@@ -17,7 +18,7 @@ use page_labels::{Labels, code_words};
 use page_text::{CellCover, Content, Figures, add_columns, write_page};
 use roster_calendar::calendar_of;
 use roster_csv::table_of;
-use roster_model::{CodeDef, Instance, List, Memory, Shift};
+use roster_model::{CodeDef, Grammar, Instance, List, Memory, Shift};
 use roster_report::paid;
 use roster_tables::{axis_times, tables_of};
 use std::alloc::Global;
@@ -91,6 +92,31 @@ fn words_of(alloc: Global, labels: &Labels, codes: &[CodeDef]) -> Result<List<Li
     Ok(words)
 }
 
+// What a page shows of the labels alone.
+#[derive(Drop)]
+struct Labelled {
+    title: List<u8>,
+    words: List<List<u8>>,
+    money: List<u8>,
+    times: List<List<u8>>,
+}
+
+// Returns what a page shows of the labels alone.
+fn labelled_by(alloc: Global, labels: &Labels, grammar: &Grammar) -> Result<Labelled, Memory>
+    requires { length grammar.now.codes ≤ 32 }
+    ensures title { IfOk result (λ l. l.title ≡ labels.now.title) }
+    ensures words { IfOk result (λ l. l.words ≡ words_of labels.now grammar.now.codes) }
+    ensures money { IfOk result (λ l. l.money ≡ labels.now.money) }
+    ensures times { IfOk result (λ l. l.times ≡ axis_times labels.now.clock grammar.now.periods) }
+{
+    Ok(Labelled {
+        title: copied(alloc, labels.title.as_slice())?,
+        words: words_of(alloc, labels, grammar.codes.as_slice())?,
+        money: copied(alloc, labels.money.as_slice())?,
+        times: axis_times(alloc, labels.clock, grammar.periods)?,
+    })
+}
+
 // Returns what the page of a roster shows under labels, where this differs from an old roster.
 fn content_beside(
     alloc: Global,
@@ -118,11 +144,12 @@ fn content_beside(
     let columns = columns_of(alloc, instance, roster)?;
     let shifts = roster.shifts.as_slice();
     let tables = tables_of(alloc, instance, labels, shifts, columns.as_slice())?;
+    let labelled = labelled_by(alloc, labels, &instance.grammar)?;
     Ok(Content {
-        title: copied(alloc, labels.title.as_slice())?,
-        words: words_of(alloc, labels, instance.grammar.codes.as_slice())?,
-        money: copied(alloc, labels.money.as_slice())?,
-        times: axis_times(alloc, labels.clock, instance.grammar.periods)?,
+        title: labelled.title,
+        words: labelled.words,
+        money: labelled.money,
+        times: labelled.times,
         figures: figures_of(instance, roster),
         changes: comparison.changes,
         rows,
@@ -168,7 +195,9 @@ fn drawn(
 {
     let content = content_of(alloc, instance, labels, roster, old)?;
     let codes = instance.grammar.codes.as_slice();
-    write_page(alloc, instance.grammar.periods, codes, &content)
+    let page = write_page(alloc, instance.grammar.periods, codes, &content);
+    drop(content);
+    page
 }
 
 /// Returns what shows a roster under labels. Only a page tells what differs from an old roster.
