@@ -26,11 +26,11 @@ SOLVE = ("search_commands.specs.SolveAnswers", "SolveAnswers")
 
 # What tells how a search went, and not what it found; that the checker found no cause, and the causes of a no.
 HOW = {("search_commands.specs.SolveAnswers", "IsSearched")}
-CAUSES = {("certificate_laws.specs.Accepted", "Accepts"), ("text_commands.specs.Check", "SaysNo")}
+CAUSES = {("certificates.specs.certificate_laws.Accepted", "Accepts"), ("text_commands.specs.Check", "SaysNo")}
 
 # The parts of the table: what it says of each, and the definitions that it begins from.
 PARTS = {
-    "yes": ("what a yes states", [("certificate_laws.specs.Right", "YesIsRight")]),
+    "yes": ("what a yes states", [("certificates.specs.certificate_laws.Right", "YesIsRight")]),
     "texts": ("what the rules, the demand and the proof text say", [
         ("rules_text.specs.RulesOf", "IsReading"), ("demand_text.specs.InstanceOf", "instance_of"),
         ("proof_pieces.specs.CertOf", "proof_of")]),
@@ -41,9 +41,9 @@ PARTS = {
     "next": ("`next`", [RULES, ("text_commands.specs.Days", "NextFrom"), READER]),
     "fits": ("`fits`", [RULES, ("text_commands.specs.Days", "FitsFrom"), READER]),
     "value": ("`value`, with each cause", [
-        ("answers.specs.TextCommands", "TextCommand"), ("what_if.specs.Value", "Valuation"), READER]),
+        ("answers.specs.TextCommands", "TextCommand"), ("text_commands.specs.what_if.Value", "Valuation"), READER]),
     "rest": ("`rest`, with each cause", [
-        ("answers.specs.TextCommands", "TextCommand"), ("what_if.specs.Rest", "Resting"), READER]),
+        ("answers.specs.TextCommands", "TextCommand"), ("text_commands.specs.what_if.Rest", "Resting"), READER]),
     "reuse": ("`reuse`", [CERT, ("search_commands.specs.Reuse", "Reusing"), READER]),
     "found": ("`solve`, without how it searched", [SOLVE, WRITER]),
     "solve": ("`solve`", [SOLVE, WRITER]),
@@ -149,7 +149,7 @@ def table():
 def unreached(page):
     """The definitions that the page's tables name and `run` does not reach."""
     known, types = part("run")
-    names = {(name.partition(".specs.")[2], word) for name, word in known}
+    names = {(name.rpartition(".")[2], word) for name, word in known}
     names |= {(name.rpartition(".")[0].rpartition(".")[2], name.rpartition(".")[2]) for name in types}
     for row in re.findall(r"^\|.*\|$", page, re.M):
         for file, word in re.findall(r"`(\w+)\.(\w+)`", row.rpartition(" | ")[2]):

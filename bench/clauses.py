@@ -10,8 +10,7 @@ import sys
 sys.dont_write_bytecode = True
 from readme_order import CRATES, called_crates, is_of_rows
 
-SEARCH = ["node_path", "node_columns", "node_master", "candidate_rosters", "roster_moves", "dives", "split_probes",
-          "arc_weights", "branch_price", "day_solver"]
+SEARCH = ["arc_counts", "node_columns", "node_master", "candidate_rosters", "roster_moves", "dives", "split_probes", "arc_weights", "branch_price", "day_solver"]
 MOST = 7
 FUNCTION = re.compile(r"\s*(?:pub(?:\([\w:]+\))? )?(?:const )?fn (\w+)")
 
@@ -78,7 +77,7 @@ def main():
     print("|---|---|---|---|---|")
     sums = [0, 0, 0, 0]
     for crate in crates:
-        found = [(one, source.stem) for source in sorted((CRATES / crate / "src").glob("*.rt"))
+        found = [(one, source.stem) for source in sorted((CRATES / crate / "src").rglob("*.rt"))
                  for one in functions(source)]
         long = [f"`{stem}::{name}` {count}" for (name, count, _), stem in found if count > MOST]
         row = [len(found), sum(one[1] for one, _ in found), sum(one[2] for one, _ in found), len(long)]

@@ -57,8 +57,8 @@ def functions(source):
 
 def product_functions():
     called = set(called_crates())
-    for source in sorted(CRATES.glob("*/src/*.rt")):
-        if not is_of_rows(source.parent.parent.name, called):
+    for source in sorted(CRATES.glob("*/src/**/*.rt")):
+        if not is_of_rows(source.relative_to(CRATES).parts[0], called):
             yield from (one for one in functions(source) if not one.is_test)
 
 

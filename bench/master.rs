@@ -1,5 +1,5 @@
 //! The exact path of a master in plain Rust: the rule, the steps and the 64-bit rows of crates/tableau and
-//! crates/pivot_rows, for comparison.
+//! crates/fraction, for comparison.
 //!
 //! Standard input: a master as numbers, separated by blanks: how many rows, and their right sides; how many
 //! columns, and how many of these are listed at first (the others are listed one by one where none of those

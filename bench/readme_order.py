@@ -30,9 +30,9 @@ def below():
 def called_crates():
     """The crates that the code of another one uses."""
     stands_on = below()
-    for source in CRATES.glob("*/src/*.rt"):
+    for source in CRATES.glob("*/src/**/*.rt"):
         for used in re.findall(r"(?<![\w:])([a-z_]+)::", without_ghosts(source.read_text())):
-            if used in stands_on.get(source.parent.parent.name, []):
+            if used in stands_on.get(source.relative_to(CRATES).parts[0], []):
                 yield used
 
 

@@ -32,7 +32,7 @@ SOLVERS = ("cbc", "highs")
 # The crates that do each part of a search.
 PARTS = {
     "scout": {"float_basis", "float_simplex", "scout"},
-    "exact path": {"tableau", "pivot_rows", "fraction"},
+    "exact path": {"tableau", "fraction"},
     "passes": {"cheapest_tree"},
     "tables": {"span_cells", "span_table"},
 }

@@ -11,9 +11,9 @@ use Rattle.roster_model.specs.Trees.{Parts, steps}
 use Rattle.roster_model.specs.Folds.{Each, In}
 use Rattle.roster_model.proofs.EachLemmas.{Each-at, Each-in}
 use Rattle.fraction.proofs.CoprimeProducts.{gauss}
-use Rattle.linear_programs.specs.Solution.{Weighted, weight_where}
-use Rattle.master_laws.specs.Master.{MasterKey, missing, beyond, tree}
-use Rattle.master_laws.specs.Sharp.{on_trees, AreFine}
+use Rattle.bound_laws.specs.linear_programs.Solution.{Weighted, weight_where}
+use Rattle.bound_laws.specs.master_laws.Master.{MasterKey, missing, beyond, tree}
+use Rattle.bound_laws.specs.master_laws.Sharp.{on_trees, AreFine}
 use Rattle.tree_pool.specs.Pools.{PoolTree, IsPool}
 use Rattle.node_columns.specs.declared.weights.Weight.{Weight}
 use Rattle.node_columns.specs.Weights.{IsWeight, AreWeights, AreApart}

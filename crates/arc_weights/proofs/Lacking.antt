@@ -10,12 +10,12 @@ use Rattle.roster_model.specs.Arcs.{same_arc}
 use Rattle.roster_model.specs.Cuts.{at_least as least_on, lo}
 use Rattle.roster_model.specs.Folds.{sum_n}
 use Rattle.roster_model.specs.Trees.{Parts}
-use Rattle.arc_laws.proofs.FoldsLemmas.{sum_n-append}
-use Rattle.arc_laws.proofs.SameArc.{Told, arc_tells}
-use Rattle.linear_programs.specs.Solution.{Weighted}
-use Rattle.master_laws.specs.Rows.{Row, rows_of, side_row, cell_rows, floor_rows, ceiling_rows, least_row, most_row, cut_rows, tree_arcs}
-use Rattle.near_laws.specs.Completed.{trees_bring}
-use Rattle.near_laws.specs.NearSharp.{IsWellBetween, LackMuch, lacking, near_weight}
+use Rattle.roster_model.proofs.arc_laws.FoldsLemmas.{sum_n-append}
+use Rattle.roster_model.proofs.arc_laws.SameArc.{Told, arc_tells}
+use Rattle.bound_laws.specs.linear_programs.Solution.{Weighted}
+use Rattle.bound_laws.specs.master_laws.Rows.{Row, rows_of, side_row, cell_rows, floor_rows, ceiling_rows, least_row, most_row, cut_rows, tree_arcs}
+use Rattle.bound_laws.specs.near_laws.Completed.{trees_bring}
+use Rattle.bound_laws.specs.near_laws.NearSharp.{IsWellBetween, LackMuch, lacking, near_weight}
 
 trees_bring_is : (b : ℕ) (a : ArcKey) (ws : List (Weighted Parts)) → trees_bring (side_row High b a) ws ≡ near_weight a ws
 trees_bring_is b a [] = refl

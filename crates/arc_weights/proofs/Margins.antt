@@ -3,7 +3,7 @@ use Rattle.std.proofs.Common.{ltb-true, ltb-false, ◌≡◌, ℕ, arith, ◌+�
 use Rattle.std.specs.Prelude.{◌&&◌, nat_lt}
 use Rattle.std.proofs.lemmas.Bool.{and_parts}
 use Rattle.std.proofs.Math.Nat.{mul-le-mul_left}
-use Rattle.near_laws.specs.NearSharp.{IsWellBetween, IsNearly, IsNearlyWhole}
+use Rattle.bound_laws.specs.near_laws.NearSharp.{IsWellBetween, IsNearly, IsNearlyWhole}
 use Rattle.arc_weights.specs.Choices.{is_fraction, nearest}
 use Rattle.arc_weights.proofs.Units.{cancel_le, less}
 

@@ -9,9 +9,9 @@ use Rattle.roster_model.specs.declared.instance.Prices.{Prices}
 use Rattle.roster_model.specs.Cuts.{lo, hi}
 use Rattle.roster_model.specs.SoundInstance.{IsSoundInstance}
 use Rattle.parse_graph.specs.Graphs.{GraphView, IsGraph}
-use Rattle.count_boxes.specs.Boxes.{BoxView}
-use Rattle.count_boxes.specs.Paths.{IsBoxOf}
-use Rattle.near_laws.specs.NearSharp.{IsWellBetween, IsNearlyWhole, LackMuch, near_weight}
+use Rattle.arc_counts.specs.count_boxes.Boxes.{BoxView}
+use Rattle.arc_counts.specs.count_boxes.Paths.{IsBoxOf}
+use Rattle.bound_laws.specs.near_laws.NearSharp.{IsWellBetween, IsNearlyWhole, LackMuch, near_weight}
 use Rattle.tree_pool.specs.Pools.{PoolTree}
 use Rattle.node_columns.specs.declared.weights.Weight.{Weight}
 use Rattle.node_master.specs.Ends.{IsNear}

@@ -13,15 +13,15 @@ use Rattle.roster_model.specs.Arcs.{same_arc}
 use Rattle.roster_model.specs.Cuts.{at_least as least_on, at_most as most_on, lo, hi}
 use Rattle.roster_model.specs.SoundInstance.{IsSoundInstance}
 use Rattle.roster_model.proofs.EachLemmas.{Each-right}
-use Rattle.arc_laws.proofs.SameArc.{Told, arc_tells}
-use Rattle.arc_laws.proofs.Totals.{arc_count-le}
+use Rattle.roster_model.proofs.arc_laws.SameArc.{Told, arc_tells}
+use Rattle.roster_model.proofs.arc_laws.Totals.{arc_count-le}
 use Rattle.bound_laws.specs.BestPrices.{artificial_cost}
-use Rattle.linear_programs.specs.Solution.{Weighted, IsSolution, Uses}
-use Rattle.master_laws.specs.Rows.{at_least, at_most, Row, rows_of, most_row, side_row, cut_row, cell_rows, floor_rows, ceiling_rows, tree_arcs}
-use Rattle.master_laws.specs.Master.{MasterKey, missing, beyond, tree, master}
-use Rattle.master_laws.specs.Sharp.{UsesArtificial, arc_weight}
-use Rattle.master_laws.proofs.Copies.{IsRow, copies, copies_day, copies_arcs, sum_arcs, sum_ones, each_row, most_kept, least_kept, artificial_at}
-use Rattle.master_laws.proofs.WholeCountsLemmas.{each_cut_row}
+use Rattle.bound_laws.specs.linear_programs.Solution.{Weighted, IsSolution, Uses}
+use Rattle.bound_laws.specs.master_laws.Rows.{at_least, at_most, Row, rows_of, most_row, side_row, cut_row, cell_rows, floor_rows, ceiling_rows, tree_arcs}
+use Rattle.bound_laws.specs.master_laws.Master.{MasterKey, missing, beyond, tree, master}
+use Rattle.bound_laws.specs.master_laws.Sharp.{UsesArtificial, arc_weight}
+use Rattle.bound_laws.proofs.master_laws.Copies.{IsRow, copies, copies_day, copies_arcs, sum_arcs, sum_ones, each_row, most_kept, least_kept, artificial_at}
+use Rattle.bound_laws.proofs.master_laws.WholeCountsLemmas.{each_cut_row}
 
 row_of : MasterKey → ℕ
 row_of (missing r) = r

@@ -14,12 +14,12 @@ use Rattle.roster_model.specs.Folds.{Each}
 use Rattle.roster_model.specs.SoundInstance.{IsSoundInstance}
 use Rattle.roster_model.specs.Trees.{Parts}
 use Rattle.parse_graph.specs.Graphs.{GraphView}
-use Rattle.linear_programs.specs.Solution.{Weighted, IsSolution}
-use Rattle.master_laws.specs.Rows.{Row, rows_of}
-use Rattle.master_laws.specs.Master.{MasterKey, master}
-use Rattle.master_laws.specs.Sharp.{arc_weight}
-use Rattle.near_laws.specs.Completed.{is_exceeded, own_key, tree_columns, own_columns}
-use Rattle.near_laws.proofs.CompletedLemmas.{completed_solves}
+use Rattle.bound_laws.specs.linear_programs.Solution.{Weighted, IsSolution}
+use Rattle.bound_laws.specs.master_laws.Rows.{Row, rows_of}
+use Rattle.bound_laws.specs.master_laws.Master.{MasterKey, master}
+use Rattle.bound_laws.specs.master_laws.Sharp.{arc_weight}
+use Rattle.bound_laws.specs.near_laws.Completed.{is_exceeded, own_key, tree_columns, own_columns}
+use Rattle.bound_laws.proofs.near_laws.CompletedLemmas.{completed_solves}
 use Rattle.tree_pool.specs.Pools.{PoolTree}
 use Rattle.node_columns.specs.declared.weights.Weight.{Weight}
 use Rattle.node_columns.specs.Weights.{AreWeights}

@@ -7,8 +7,8 @@ use Rattle.roster_model.specs.declared.grammar.ArcKey.{ArcKey}
 use Rattle.roster_model.specs.Folds.{count, In}
 use Rattle.roster_model.specs.Arcs.{same_arc}
 use Rattle.roster_model.proofs.EachLemmas.{get-in}
-use Rattle.arc_laws.proofs.SameArc.{Told, arc_tells, same_arc-refl}
-use Rattle.arc_laws.specs.Lists.{StandOnce}
+use Rattle.roster_model.proofs.arc_laws.SameArc.{Told, arc_tells, same_arc-refl}
+use Rattle.roster_model.specs.arc_laws.Lists.{StandOnce}
 use Rattle.tree_pool.specs.Pools.{PoolTree}
 use Rattle.node_columns.specs.declared.weights.Weight.{Weight}
 use Rattle.arc_weights.specs.Sums.{unit, arcs_of_some, arcs_at, arc_units, HaveRoom, AreInPool, AreSums}

@@ -8,10 +8,10 @@ use Rattle.roster_model.specs.declared.grammar.Grammar.{Grammar}
 use Rattle.roster_model.specs.Trees.{Parts}
 use Rattle.roster_model.specs.Folds.{Each, count}
 use Rattle.roster_model.specs.Arcs.{same_arc}
-use Rattle.linear_programs.specs.Solution.{Weighted}
-use Rattle.master_laws.specs.Master.{MasterKey, missing, beyond, tree}
-use Rattle.master_laws.specs.Sharp.{arcs_in, arc_weight}
-use Rattle.master_laws.proofs.Copies.{repeat, with, copies}
+use Rattle.bound_laws.specs.linear_programs.Solution.{Weighted}
+use Rattle.bound_laws.specs.master_laws.Master.{MasterKey, missing, beyond, tree}
+use Rattle.bound_laws.specs.master_laws.Sharp.{arcs_in, arc_weight}
+use Rattle.bound_laws.proofs.master_laws.Copies.{repeat, with, copies}
 use Rattle.tree_pool.specs.Pools.{PoolTree}
 use Rattle.node_columns.specs.declared.weights.Weight.{Weight}
 use Rattle.node_columns.specs.Weights.{IsWeight, AreWeights}

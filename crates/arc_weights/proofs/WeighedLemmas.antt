@@ -9,16 +9,16 @@ use Rattle.roster_model.specs.declared.instance.Instance.{Instance}
 use Rattle.roster_model.specs.Cuts.{lo, hi}
 use Rattle.roster_model.specs.SoundInstance.{IsSoundInstance}
 use Rattle.parse_graph.specs.Graphs.{GraphView, IsGraph}
-use Rattle.count_boxes.specs.Boxes.{BoxView}
-use Rattle.count_boxes.specs.Paths.{IsBoxOf}
-use Rattle.master_laws.specs.Sharp.{UsesArtificial, AreFine, arc_weight}
+use Rattle.arc_counts.specs.count_boxes.Boxes.{BoxView}
+use Rattle.arc_counts.specs.count_boxes.Paths.{IsBoxOf}
+use Rattle.bound_laws.specs.master_laws.Sharp.{UsesArtificial, AreFine, arc_weight}
 use Rattle.tree_pool.specs.Pools.{PoolTree, IsPool}
 use Rattle.node_columns.specs.declared.weights.Weight.{Weight}
 use Rattle.node_master.specs.declared.ends.Solution.{Solution}
 use Rattle.node_master.specs.declared.ends.Solution.TheVariants.{Exact, Near}
 use Rattle.node_master.specs.Ends.{AreLeastWeights, AreSolved}
-use Rattle.roster_split.specs.Counts.{count_of}
-use Rattle.roster_split.proofs.Places.{count-at}
+use Rattle.arc_counts.specs.roster_split.Counts.{count_of}
+use Rattle.arc_counts.proofs.roster_split.Places.{count-at}
 use Rattle.arc_weights.specs.declared.weighed.Weighed.{Weighed}
 use Rattle.arc_weights.specs.declared.weighed.Weighed.TheVariants.{Whole, Between, Other}
 use Rattle.arc_weights.specs.Weighed.{IsBetween, AreWhole, IsWeighed}

@@ -1,8 +1,8 @@
 -- What sums by arcs, in units of 1 / d, tell. A sum counts as whole within a margin of a multiple of d.
 use Rattle.std.specs.Prelude.{ℕ, ◌≡◌, ◌<◌, ◌≤◌, ◌+◌, ◌-◌, ◌/◌, ◌%◌, ◌⊎◌, ◌&&◌, Bool, true, false, cond, nat_lt}
 use Rattle.std.specs.Prelude.{List, length, map, slice_index}
-use Rattle.count_boxes.specs.declared.bounds.Bounds.{Bounds}
-use Rattle.count_boxes.specs.Boxes.{bounds_at}
+use Rattle.arc_counts.specs.declared.count_boxes.bounds.Bounds.{Bounds}
+use Rattle.arc_counts.specs.count_boxes.Boxes.{bounds_at}
 use Rattle.node_master.specs.declared.ends.Solution.{Solution}
 use Rattle.node_master.specs.declared.ends.Solution.TheVariants.{Exact, Near}
 use Rattle.arc_weights.specs.declared.choice.Candidate.{Candidate}

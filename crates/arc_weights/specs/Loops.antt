@@ -5,8 +5,8 @@ use Rattle.roster_model.specs.declared.grammar.ArcKey.{ArcKey}
 use Rattle.roster_model.specs.Folds.{count}
 use Rattle.roster_model.specs.Arcs.{same_arc}
 use Rattle.tree_pool.specs.Pools.{PoolTree}
-use Rattle.count_boxes.specs.declared.bounds.Bounds.{Bounds}
-use Rattle.count_boxes.specs.Boxes.{bounds_at}
+use Rattle.arc_counts.specs.declared.count_boxes.bounds.Bounds.{Bounds}
+use Rattle.arc_counts.specs.count_boxes.Boxes.{bounds_at}
 use Rattle.node_columns.specs.declared.weights.Weight.{Weight}
 use Rattle.arc_weights.specs.declared.choice.Candidate.{Candidate}
 use Rattle.arc_weights.specs.Denominators.{AreOver}

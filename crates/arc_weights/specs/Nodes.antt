@@ -1,6 +1,6 @@
 -- Nodes that are solved.
-use Rattle.search_day.specs.Days.{IsDay}
-use Rattle.count_boxes.specs.Paths.{IsBoxOf}
+use Rattle.master_rows.specs.search_day.Days.{IsDay}
+use Rattle.arc_counts.specs.count_boxes.Paths.{IsBoxOf}
 use Rattle.tree_pool.specs.Pools.{IsPool}
 use Rattle.node_master.specs.Ends.{AreSolved}
 use Rattle.arc_weights.specs.declared.node.SolvedNode.{SolvedNode}

@@ -1,7 +1,7 @@
 -- The weights of near trees as they stand.
 use Rattle.std.specs.Prelude.{ℕ, ◌<◌, ◌≤◌, List, length}
-use Rattle.count_boxes.specs.declared.bounds.Bounds.{Bounds}
-use Rattle.count_boxes.specs.Boxes.{bounds_at}
+use Rattle.arc_counts.specs.declared.count_boxes.bounds.Bounds.{Bounds}
+use Rattle.arc_counts.specs.count_boxes.Boxes.{bounds_at}
 use Rattle.arc_weights.specs.declared.raw.Open.{Open}
 
 -- the box leaves the arc this count and the next one

@@ -5,17 +5,17 @@ use Rattle.roster_model.specs.declared.instance.Cut.{Cut}
 use Rattle.roster_model.specs.declared.instance.Instance.{Instance}
 use Rattle.roster_model.specs.declared.instance.Prices.{Prices}
 use Rattle.roster_model.specs.Cuts.{lo, hi}
-use Rattle.arc_laws.specs.Lists.{AreArcs}
+use Rattle.roster_model.specs.arc_laws.Lists.{AreArcs}
 use Rattle.parse_graph.specs.Graphs.{GraphView}
 use Rattle.tree_pool.specs.Pools.{PoolTree}
-use Rattle.master_laws.specs.Sharp.{UsesArtificial, AreFine, arc_weight}
-use Rattle.master_laws.specs.WholeCounts.{HasCounts}
-use Rattle.near_laws.specs.NearSharp.{IsWellBetween, AreNearlyWhole, LackMuch, near_weight}
+use Rattle.bound_laws.specs.master_laws.Sharp.{UsesArtificial, AreFine, arc_weight}
+use Rattle.bound_laws.specs.master_laws.WholeCounts.{HasCounts}
+use Rattle.bound_laws.specs.near_laws.NearSharp.{IsWellBetween, AreNearlyWhole, LackMuch, near_weight}
 use Rattle.node_columns.specs.declared.weights.Weight.{Weight}
 use Rattle.node_master.specs.declared.ends.Solution.{Solution}
 use Rattle.node_master.specs.declared.ends.Solution.TheVariants.{Exact, Near}
 use Rattle.node_master.specs.Ends.{AreLeastWeights, IsNear}
-use Rattle.roster_split.specs.Counts.{count_of}
+use Rattle.arc_counts.specs.roster_split.Counts.{count_of}
 use Rattle.arc_weights.specs.declared.weighed.Weighed.{Weighed}
 use Rattle.arc_weights.specs.declared.weighed.Weighed.TheVariants.{Whole, Between, Other}
 

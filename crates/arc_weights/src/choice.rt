@@ -3,7 +3,7 @@ ghost use Rattle.arc_weights.specs.Choices.{margin_of, is_fraction, nearest, Cou
 ghost use Rattle.arc_weights.specs.Choices.{AreRounded, IsLeft, IsFitted, IsChoice, HasNoChoice, IsAnswer};
 
 use crate::weighed::Weighed;
-use count_boxes::ArcBox;
+use arc_counts::ArcBox;
 use node_master::Solution;
 use parse_graph::Graph;
 use roster_model::{List, Memory};

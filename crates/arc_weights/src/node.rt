@@ -1,7 +1,7 @@
-use count_boxes::ArcBox;
+use arc_counts::ArcBox;
+use master_rows::Day;
 use node_master::{Pool, Solution, Weight};
 use roster_model::Cut;
-use search_day::Day;
 
 /// A node that is solved: its day, its cuts with the counts that they leave the arcs, and the weights of the
 /// pool's trees at its solution, which says how they are to be read.

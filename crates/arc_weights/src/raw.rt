@@ -6,7 +6,7 @@ ghost use Rattle.arc_weights.specs.Raw.{IsLeftBoth, IsOpen};
 use crate::denominator::common_denominator;
 use crate::node::SolvedNode;
 use crate::sums::arc_sums;
-use count_boxes::ArcBox;
+use arc_counts::ArcBox;
 use node_master::Solution;
 use parse_graph::Graph;
 use roster_model::Memory;

@@ -1,6 +1,6 @@
 ghost use Rattle.std.specs.Prelude.{ℕ, ◌≡◌, ◌<◌, ◌≤◌, ◌*◌, ◌+◌, ◌^◌, IfOk, length};
 ghost use Rattle.roster_model.specs.Folds.{Each};
-ghost use Rattle.arc_laws.specs.Lists.{StandOnce};
+ghost use Rattle.roster_model.specs.arc_laws.Lists.{StandOnce};
 ghost use Rattle.arc_weights.specs.Sums.{unit, HaveRoom, AreAdded, AreInPool, HaveRoomFor, AreSums};
 
 use node_master::{Pool, Weight};

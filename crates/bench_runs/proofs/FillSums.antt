@@ -5,8 +5,8 @@ use Rattle.roster_model.specs.declared.grammar.Grammar.{Grammar}
 use Rattle.roster_model.specs.Sums.{plus, parts_sum, tree_sum}
 use Rattle.roster_model.specs.Trees.{Parts, done, letter, uses}
 use Rattle.span_table.specs.Tables.{TableView, IsFilled}
-use Rattle.priced_part.specs.Filled.{IsFilledForAll}
-use Rattle.priced_part.proofs.LeastReduced.{plus-some}
+use Rattle.check_parts.specs.priced_part.Filled.{IsFilledForAll}
+use Rattle.check_parts.proofs.priced_part.LeastReduced.{plus-some}
 use Rattle.bench_runs.specs.Prices.{price_of, fill_view}
 
 parts-some : (f : ℕ) (t : Parts) (r k i : ℕ) → IsSome (parts_sum (fill_view f) r k i t)

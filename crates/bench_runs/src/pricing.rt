@@ -7,11 +7,11 @@ ghost use Rattle.cheapest_tree.specs.Pricers.{IsMadeFor as IsPricerFor};
 use crate::fault::BenchFault;
 use crate::prices::FillPrices;
 use cheapest_tree::Pricer;
-use grammar_core::normalise;
 use parse_graph::Graph;
 use roster_model::Grammar;
 use span_table::Table;
 use std::alloc::Global;
+use tree_pool::normalise;
 
 /// Fills the grammar's table so often, and returns the last least sum.
 fn filled(grammar: &Grammar, table: &mut Table, times: u32) -> Option<i128>

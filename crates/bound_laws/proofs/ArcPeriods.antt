@@ -11,8 +11,8 @@ use Rattle.roster_model.specs.Sums.{arc}
 use Rattle.roster_model.specs.Arcs.{arc_of_part, parts_arcs, arcs, IsArc}
 use Rattle.roster_model.specs.Trees.{Parts, done, letter, uses, span_length, Derive, IsDayTree}
 use Rattle.roster_model.proofs.EachLemmas.{Each-append, Each-at}
-use Rattle.arc_laws.specs.OrNodes.{OrNode, name, suffix, leaf, right_of, made_by, made, symbol_node, rest_node, used_by, used}
-use Rattle.arc_laws.proofs.BalanceLemmas.{right_of-is, drop-next, no_symbols}
+use Rattle.roster_model.specs.arc_laws.OrNodes.{OrNode, name, suffix, leaf, right_of, made_by, made, symbol_node, rest_node, used_by, used}
+use Rattle.roster_model.proofs.arc_laws.BalanceLemmas.{right_of-is, drop-next, no_symbols}
 
 abbrev within : ℕ → ℕ → ℕ → Bool
 within p i l = nat_le i p && nat_lt p (i + l)

@@ -16,7 +16,7 @@ use Rattle.roster_model.specs.Folds.{sum_n, count, Each, In}
 use Rattle.roster_model.specs.SoundInstance.{IsSoundInstance, IsGroup, HasGroups}
 use Rattle.roster_model.specs.Teams.{Team, teams, teams_of, teams_from}
 use Rattle.roster_model.proofs.EachLemmas.{Each-append, Each-at}
-use Rattle.arc_laws.proofs.SameArc.{Told, arc_tells, same_arc-true}
+use Rattle.roster_model.proofs.arc_laws.SameArc.{Told, arc_tells, same_arc-true}
 use Rattle.bound_laws.specs.Counted.{AsksForArc}
 use Rattle.bound_laws.specs.DutyTrees.{own_rules}
 use Rattle.bound_laws.specs.Infeasible.{IsPlainlyInfeasible}

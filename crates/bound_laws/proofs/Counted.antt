@@ -14,12 +14,12 @@ use Rattle.roster_model.specs.Coverage.{penalty, IsWithinCell}
 use Rattle.roster_model.specs.Cuts.{arcs_of, arc_count, KeepsTo, Meets}
 use Rattle.roster_model.specs.SoundInstance.{IsSoundInstance}
 use Rattle.roster_model.proofs.EachLemmas.{Each-weaker, Each-at, Each-in}
-use Rattle.arc_laws.specs.Counts.{letter_count, AreCounts}
-use Rattle.arc_laws.specs.Lists.{HoldsArcsOnce}
-use Rattle.arc_laws.proofs.FoldsLemmas.{sum_n-same, count-append}
-use Rattle.arc_laws.proofs.PathBounds.{bounds-keep}
-use Rattle.arc_laws.proofs.SameArc.{same_arc-refl, same_arc-true}
-use Rattle.arc_laws.proofs.Totals.{listed-roots, listed-leaves, listed-costs}
+use Rattle.roster_model.specs.arc_laws.Counts.{letter_count, AreCounts}
+use Rattle.roster_model.specs.arc_laws.Lists.{HoldsArcsOnce}
+use Rattle.roster_model.proofs.arc_laws.FoldsLemmas.{sum_n-same, count-append}
+use Rattle.roster_model.proofs.arc_laws.PathBounds.{bounds-keep}
+use Rattle.roster_model.proofs.arc_laws.SameArc.{same_arc-refl, same_arc-true}
+use Rattle.roster_model.proofs.arc_laws.Totals.{listed-roots, listed-leaves, listed-costs}
 use Rattle.bound_laws.specs.Counted.{HaveCounts, IsRosterOf, IsLeft, AsksForArc}
 use Rattle.bound_laws.specs.TreeRosters.{tree_cover, IsCovered}
 use Rattle.bound_laws.proofs.LetterOnce.{cover-le}

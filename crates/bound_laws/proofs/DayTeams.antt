@@ -11,8 +11,8 @@ use Rattle.roster_model.specs.Folds.{In}
 use Rattle.roster_model.specs.Extension.{group_rule}
 use Rattle.roster_model.specs.SoundInstance.{IsSoundInstance, IsGroupedBy, HasGroups}
 use Rattle.roster_model.specs.Teams.{Team, teams_of, teams_from}
-use Rattle.tree_laws.specs.Parts.{root}
-use Rattle.tree_laws.proofs.Rules.{sound-rule}
+use Rattle.roster_model.specs.tree_laws.Parts.{root}
+use Rattle.roster_model.proofs.tree_laws.Rules.{sound-rule}
 use Rattle.bound_laws.specs.DutyTrees.{own_rules}
 use Rattle.bound_laws.specs.Laws.{IsOfTeam}
 use Rattle.bound_laws.proofs.Groups.{unwrap_group}

@@ -15,10 +15,10 @@ use Rattle.roster_model.specs.Folds.{sum_n, count, Each, In}
 use Rattle.roster_model.specs.Arcs.{arc_of_part, parts_arcs, used_rules, rule_cost, cost, same_arc}
 use Rattle.roster_model.specs.Teams.{Team, teams_from}
 use Rattle.roster_model.proofs.EachLemmas.{Each-in}
-use Rattle.arc_laws.proofs.FoldsLemmas.{count-append}
+use Rattle.roster_model.proofs.arc_laws.FoldsLemmas.{count-append}
 use Rattle.bound_laws.proofs.ReadyInstances.{arc_of_team, IsWrap}
 use Rattle.bound_laws.specs.DutyTrees.{own_rules}
-use Rattle.tree_laws.specs.Parts.{root}
+use Rattle.roster_model.specs.tree_laws.Parts.{root}
 
 abbrev pub IsOther : Grammar → Sym → Type 0
 IsOther g (Code c) = Unit {0}

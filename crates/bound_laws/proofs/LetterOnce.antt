@@ -10,8 +10,8 @@ use Rattle.roster_model.specs.Trees.{Parts, done, letter, uses, span_length, Der
 use Rattle.roster_model.specs.Folds.{count, Each}
 use Rattle.roster_model.specs.Arcs.{letters}
 use Rattle.roster_model.specs.Coverage.{is_at}
-use Rattle.arc_laws.specs.TreeLists.{letters_of}
-use Rattle.arc_laws.proofs.FoldsLemmas.{count-append}
+use Rattle.roster_model.specs.arc_laws.TreeLists.{letters_of}
+use Rattle.roster_model.proofs.arc_laws.FoldsLemmas.{count-append}
 use Rattle.bound_laws.specs.TreeRosters.{tree_cover}
 
 module _ (g : Grammar) (c : Cell) where

@@ -7,11 +7,11 @@ use Rattle.roster_model.specs.declared.grammar.ArcKey.{ArcKey}
 use Rattle.roster_model.specs.declared.grammar.Grammar.{Grammar}
 use Rattle.roster_model.specs.Folds.{sum_n, count, In}
 use Rattle.roster_model.specs.Arcs.{Letter}
-use Rattle.arc_laws.specs.OrNodes.{OrNode, name, suffix, leaf, same_node, made, made_by, used, root_of}
-use Rattle.arc_laws.specs.Balance.{used_sum, IsBalanced}
-use Rattle.arc_laws.specs.Counts.{root_count}
-use Rattle.arc_laws.specs.Lists.{AreArcs}
-use Rattle.arc_laws.proofs.FoldsLemmas.{sum_n-same}
+use Rattle.roster_model.specs.arc_laws.OrNodes.{OrNode, name, suffix, leaf, same_node, made, made_by, used, root_of}
+use Rattle.roster_model.specs.arc_laws.Balance.{used_sum, IsBalanced}
+use Rattle.roster_model.specs.arc_laws.Counts.{root_count}
+use Rattle.roster_model.specs.arc_laws.Lists.{AreArcs}
+use Rattle.roster_model.proofs.arc_laws.FoldsLemmas.{sum_n-same}
 use Rattle.bound_laws.proofs.Nodes.{same_node-true, same_node-refl}
 use Rattle.bound_laws.proofs.Totals.{Weighted, total, equal_totals}
 use Rattle.bound_laws.proofs.ArcPeriods.{is_on, covers_period}

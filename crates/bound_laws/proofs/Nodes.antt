@@ -3,7 +3,7 @@ use Rattle.std.proofs.Common.{◌≡◌, ℕ, true, refl, ap, ◌∙◌, inl, in
 use Rattle.std.specs.Prelude.{nat_eq}
 use Rattle.std.proofs.lemmas.Bool.{eqb-true, and_parts}
 use Rattle.std.proofs.lemmas.Bool.Decides.{eqb_tells}
-use Rattle.arc_laws.specs.OrNodes.{OrNode, name, suffix, leaf, same_node}
+use Rattle.roster_model.specs.arc_laws.OrNodes.{OrNode, name, suffix, leaf, same_node}
 
 pub same_node-true : (o x : OrNode) → same_node o x ≡ true → o ≡ x
 same_node-true (name x i l) (name y j m) e =

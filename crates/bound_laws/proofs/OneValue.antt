@@ -6,9 +6,9 @@ use Rattle.roster_model.specs.declared.instance.Instance.{Instance}
 use Rattle.roster_model.specs.declared.instance.Prices.{Prices}
 use Rattle.roster_model.specs.Cuts.{lo}
 use Rattle.roster_model.specs.GreatestCost.{greatest_cost}
-use Rattle.tree_laws.proofs.LeastValues.{IsLeast-one}
-use Rattle.arc_laws.specs.Counts.{AreCounts, counts_cost}
-use Rattle.arc_laws.proofs.OneList.{one-list}
+use Rattle.roster_model.proofs.tree_laws.LeastValues.{IsLeast-one}
+use Rattle.roster_model.specs.arc_laws.Counts.{AreCounts, counts_cost}
+use Rattle.roster_model.proofs.arc_laws.OneList.{one-list}
 use Rattle.bound_laws.specs.Infeasible.{IsPlainlyInfeasible}
 use Rattle.bound_laws.specs.Lagrangian.{IsLagrangian, lagrangian_sum}
 use Rattle.bound_laws.specs.Priced.{IsPricedValue, rounded_up}

@@ -11,11 +11,11 @@ use Rattle.roster_model.specs.Coverage.{penalty}
 use Rattle.roster_model.specs.Cuts.{arc_count, Meets, lo}
 use Rattle.roster_model.specs.GreatestCost.{greatest_cost}
 use Rattle.roster_model.proofs.EachLemmas.{Each-weaker}
-use Rattle.arc_laws.specs.Lists.{AreArcs}
-use Rattle.arc_laws.specs.Counts.{letter_count, AreCounts, counts_cost}
-use Rattle.arc_laws.proofs.FoldsLemmas.{sum_n-same}
-use Rattle.arc_laws.proofs.PathBounds.{tight_count}
-use Rattle.arc_laws.proofs.Totals.{arc_count-le, trees-balanced, root-counts, leaves-count, arcs-pay}
+use Rattle.roster_model.specs.arc_laws.Lists.{AreArcs}
+use Rattle.roster_model.specs.arc_laws.Counts.{letter_count, AreCounts, counts_cost}
+use Rattle.roster_model.proofs.arc_laws.FoldsLemmas.{sum_n-same}
+use Rattle.roster_model.proofs.arc_laws.PathBounds.{tight_count}
+use Rattle.roster_model.proofs.arc_laws.Totals.{arc_count-le, trees-balanced, root-counts, leaves-count, arcs-pay}
 use Rattle.bound_laws.specs.TreeRosters.{tree_cover, IsCovered, IsTreeRoster, trees_cost}
 use Rattle.bound_laws.specs.Pinned.{IsPinned, IsPinnedValue}
 

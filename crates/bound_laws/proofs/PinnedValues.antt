@@ -12,8 +12,8 @@ use Rattle.roster_model.specs.GreatestCost.{greatest_cost}
 use Rattle.roster_model.specs.Limits.{IsDayCell}
 use Rattle.roster_model.specs.SoundInstance.{IsSoundInstance}
 use Rattle.roster_model.proofs.SoundCells.{cells_of_day}
-use Rattle.arc_laws.specs.Counts.{AreCounts, letter_count, counts_cost}
-use Rattle.arc_laws.specs.Lists.{AreArcs}
+use Rattle.roster_model.specs.arc_laws.Counts.{AreCounts, letter_count, counts_cost}
+use Rattle.roster_model.specs.arc_laws.Lists.{AreArcs}
 use Rattle.bound_laws.specs.Pinned.{IsPinnedValue}
 use Rattle.bound_laws.specs.Plain.{IsFree, IsPlainDay}
 use Rattle.bound_laws.specs.PlainCounts.{ArePlainCounts, IsPlainPinnedValue}

@@ -11,7 +11,7 @@ use Rattle.roster_model.specs.Coverage.{covers_cell}
 use Rattle.roster_model.specs.Rosters.{ArePrices, is_in_team, HasHeads, IsRoster}
 use Rattle.roster_model.specs.SoundInstance.{IsSoundInstance}
 use Rattle.roster_model.proofs.EachLemmas.{Each-weaker}
-use Rattle.arc_laws.proofs.FoldsLemmas.{count-le-length}
+use Rattle.roster_model.proofs.arc_laws.FoldsLemmas.{count-le-length}
 use Rattle.bound_laws.specs.Plain.{IsFree, IsPlainDay, AreShifts, IsPlainRoster}
 
 -- the one team of the day

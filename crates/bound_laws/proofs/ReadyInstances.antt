@@ -16,7 +16,7 @@ use Rattle.roster_model.specs.Arcs.{arcs, cost, same_arc}
 use Rattle.roster_model.specs.Coverage.{code_byte}
 use Rattle.roster_model.specs.Teams.{Team, teams, teams_from}
 use Rattle.roster_model.specs.Cuts.{group_arc}
-use Rattle.tree_laws.specs.Parts.{root}
+use Rattle.roster_model.specs.tree_laws.Parts.{root}
 use Rattle.bound_laws.specs.DutyTrees.{own_rules}
 
 abbrev pub IsCode : Grammar → ℕ → Type 0

@@ -16,14 +16,14 @@ use Rattle.roster_model.specs.Sums.{IsLeast, AtMost, tree_sum}
 use Rattle.roster_model.specs.Folds.{sum_z, sum_n, Each}
 use Rattle.roster_model.specs.Arcs.{letters, arcs, used_rules, rule_cost, cost, same_arc}
 use Rattle.roster_model.specs.Coverage.{is_at, penalty}
-use Rattle.linear_programs.proofs.Ring.{*ℤ-+ℤ, neg-*ℤ}
+use Rattle.bound_laws.proofs.linear_programs.Ring.{*ℤ-+ℤ, neg-*ℤ}
 use Rattle.bound_laws.proofs.WholeSums.{sum_z-append, sum_z-add, sum_z-neg, sum_z-scale, sum_z-pos, sum_z-le, exchange}
 use Rattle.bound_laws.proofs.TreeValues.{tree_value, tree_sum-value}
 use Rattle.roster_model.specs.Cuts.{arcs_of, arc_count, KeepsTo, Meets}
 use Rattle.roster_model.specs.Reduced.{CellPrice, CutPrice, cell_prices, cut_prices, mult_of, signed, letter_price, arc_price, view_of}
 use Rattle.roster_model.proofs.EachLemmas.{Each-weaker}
 use Rattle.bound_laws.specs.Lagrangian.{trees_share, least_from, cell_at, cell_share, share_of, cut_share, lagrangian_sum, IsLeastReduced}
-use Rattle.arc_laws.specs.TreeLists.{letters_of}
+use Rattle.roster_model.specs.arc_laws.TreeLists.{letters_of}
 use Rattle.bound_laws.specs.TreeRosters.{tree_cover, IsCovered, IsTreeRoster, trees_cost}
 
 pub mul_mono : (m : ℤ) (a b : ℕ) → pos 0 ≤ℤ m → a ≤ b → (m *ℤ pos a) ≤ℤ (m *ℤ pos b)

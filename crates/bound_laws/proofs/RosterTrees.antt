@@ -13,11 +13,11 @@ use Rattle.roster_model.specs.Teams.{Team, teams_from, teams, teams_of}
 use Rattle.roster_model.specs.Duties.{Duty}
 use Rattle.roster_model.specs.Coverage.{is_at, covers_cell, covered, IsWithinCell, penalty}
 use Rattle.roster_model.specs.Rosters.{IsTeamPrice, ArePrices, is_in_team, HasHeads, IsRoster}
-use Rattle.arc_laws.proofs.FoldsLemmas.{count-append, count-le-length}
+use Rattle.roster_model.proofs.arc_laws.FoldsLemmas.{count-append, count-le-length}
 use Rattle.roster_model.specs.Cuts.{arcs_of, arc_count, Meets, group_arc, group_cuts, cuts_from}
 use Rattle.roster_model.proofs.TeamNumbers.{team_apart}
 use Rattle.roster_model.proofs.EachLemmas.{Each-append, Each-at}
-use Rattle.arc_laws.specs.TreeLists.{letters_of}
+use Rattle.roster_model.specs.arc_laws.TreeLists.{letters_of}
 use Rattle.bound_laws.specs.Infeasible.{IsPlainlyInfeasible}
 use Rattle.bound_laws.specs.TreeRosters.{tree_cover, IsCovered}
 use Rattle.bound_laws.specs.DutyTrees.{own_rules, IsDutyTree, AreDutyTrees}

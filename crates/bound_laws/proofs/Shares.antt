@@ -11,7 +11,7 @@ use Rattle.roster_model.specs.Coverage.{penalty}
 use Rattle.roster_model.specs.Limits.{IsLimitedCell}
 use Rattle.roster_model.specs.Reduced.{CellPrice}
 use Rattle.bound_laws.specs.Lagrangian.{trees_share, least_from, cell_at, cell_share, share_of}
-use Rattle.tree_laws.proofs.Bounds.{Within-more}
+use Rattle.roster_model.proofs.tree_laws.Bounds.{Within-more}
 
 times_le : (a b x y : ℕ) → a ≤ x → b ≤ y → a * b ≤ x * y
 times_le a b x y h k = let l = mul-le-mul_right b h in let r = mul-le-mul_left x k in omega (arith, l, r)

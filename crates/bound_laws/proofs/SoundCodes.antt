@@ -12,7 +12,7 @@ use Rattle.roster_model.specs.Sound.{Exists, IsSound}
 use Rattle.roster_model.specs.Coverage.{code_byte}
 use Rattle.roster_model.specs.Demands.{PeriodDemand, Demand, IsDemand, AreCells, cells_from, all_cells}
 use Rattle.roster_model.proofs.EachLemmas.{all_each, Each-append}
-use Rattle.tree_laws.proofs.Rules.{sound-rule}
+use Rattle.roster_model.proofs.tree_laws.Rules.{sound-rule}
 use Rattle.bound_laws.proofs.ReadyInstances.{IsCode, IsSymbol, HasCodes}
 
 code_at : (g : Grammar) (c : ℕ) → c < length g.codes → IsCode g c

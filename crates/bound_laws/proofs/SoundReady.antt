@@ -7,7 +7,7 @@ use Rattle.roster_model.specs.Trees.{Parts, IsTreeOf, IsDayTree}
 use Rattle.roster_model.specs.Folds.{sum_n, In}
 use Rattle.roster_model.specs.SoundInstance.{IsSoundInstance, HasGroups}
 use Rattle.roster_model.specs.Teams.{Team, teams, teams_of, teams_from}
-use Rattle.tree_laws.specs.Parts.{root}
+use Rattle.roster_model.specs.tree_laws.Parts.{root}
 use Rattle.bound_laws.specs.DutyTrees.{own_rules}
 use Rattle.bound_laws.proofs.ReadyInstances.{IsWrap, IsReady}
 use Rattle.bound_laws.proofs.TeamNumbers.{least-from, most-from}

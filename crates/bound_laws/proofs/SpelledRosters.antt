@@ -18,7 +18,7 @@ use Rattle.bound_laws.specs.DutyTrees.{own_rules, AreDutyTrees}
 use Rattle.bound_laws.specs.Laws.{IsSpelledBy}
 use Rattle.bound_laws.proofs.ReadyInstances.{IsCode, arc_of_team, IsReady}
 use Rattle.bound_laws.proofs.RosterTrees.{in_teams, heads, realise, same_penalties}
-use Rattle.arc_laws.proofs.FoldsLemmas.{count-le-length}
+use Rattle.roster_model.proofs.arc_laws.FoldsLemmas.{count-le-length}
 
 module _ (i : Instance) (ready : IsReady i) (ts : List Parts) (ds : List Duty) where
   -- the cuts of a group keep its count in its range

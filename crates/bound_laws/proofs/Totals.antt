@@ -2,7 +2,7 @@
 -- them together.
 use Rattle.std.proofs.Common.{◌≡◌, ℕ, zero, suc, arith, ◌+◌, ◌*◌, ◌≤◌, Bool, true, false, cond, List, [], ◌∷◌, length, sym, refl, ap, subst, ◌∙◌}
 use Rattle.roster_model.specs.Folds.{sum_n}
-use Rattle.arc_laws.specs.OrNodes.{OrNode, same_node}
+use Rattle.roster_model.specs.arc_laws.OrNodes.{OrNode, same_node}
 use Rattle.bound_laws.proofs.Nodes.{same_node-true, same_node-refl}
 
 pub record Weighted : Type 0 where

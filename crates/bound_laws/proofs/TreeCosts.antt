@@ -14,8 +14,8 @@ use Rattle.roster_model.specs.Coverage.{penalty}
 use Rattle.roster_model.specs.GreatestCost.{greatest_rule_cost, greatest_penalty, greatest_cost}
 use Rattle.roster_model.specs.Room.{most_uses}
 use Rattle.roster_model.specs.UnitRules.{IsRanked}
-use Rattle.tree_laws.specs.Parts.{use_count}
-use Rattle.tree_laws.proofs.Size.{few_uses}
+use Rattle.roster_model.specs.tree_laws.Parts.{use_count}
+use Rattle.roster_model.proofs.tree_laws.Size.{few_uses}
 use Rattle.bound_laws.specs.TreeRosters.{tree_cover, IsCovered, IsTreeRoster, trees_cost}
 
 listed_cost : (rs : List Rule) (r : ℕ) (rule : Rule) → slice_get rs r ≡ Some rule → rule.cost ≤ greatest_rule_cost rs

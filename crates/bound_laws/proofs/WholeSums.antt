@@ -2,7 +2,7 @@
 use Rattle.std.proofs.Common.{◌≡◌, ℕ, ℤ, arith, pos, ◌+ℤ◌, ◌*ℤ◌, ◌≤ℤ◌, neg_ℤ, ◌+◌, Bool, true, false, cond, List, [], ◌∷◌, ◌++◌, sym, refl, ap, ◌∙◌}
 use Rattle.std.proofs.lemmas.Int.{ints}
 use Rattle.roster_model.specs.Folds.{sum_z, sum_n, count, Each}
-use Rattle.linear_programs.proofs.Ring.{*ℤ-+ℤ}
+use Rattle.bound_laws.proofs.linear_programs.Ring.{*ℤ-+ℤ}
 
 module _ {A : Type 0} where
   pub sum_z-append : (f : A → ℤ) (xs ys : List A) → sum_z f (xs ++ ys) ≡ sum_z f xs +ℤ sum_z f ys

@@ -14,8 +14,8 @@ use Rattle.roster_model.specs.Arcs.{Letter, letters}
 use Rattle.roster_model.specs.Coverage.{code_byte, has_at, covers_cell, is_at}
 use Rattle.roster_model.proofs.EachLemmas.{Each-append}
 use Rattle.bound_laws.proofs.ReadyInstances.{IsCode, IsSymbol, HasCodes}
-use Rattle.tree_laws.specs.Letters.{codes_of, placed}
-use Rattle.tree_laws.proofs.LettersLemmas.{placed-append}
+use Rattle.roster_model.specs.tree_laws.Letters.{codes_of, placed}
+use Rattle.roster_model.proofs.tree_laws.LettersLemmas.{placed-append}
 
 module _ (g : Grammar) (has : HasCodes g) where
   record Spelled (i : ℕ) (t : Parts) : Type 0 where

@@ -12,8 +12,8 @@ use Rattle.roster_model.specs.Arcs.{letters, arcs, cost, IsArc}
 use Rattle.roster_model.specs.Cuts.{arc_count, Meets, lo, hi, base_cuts}
 use Rattle.roster_model.specs.Reduced.{cell_prices, cut_prices, letter_price, arc_price, reduced_view}
 use Rattle.roster_model.specs.SoundInstance.{IsSoundInstance}
-use Rattle.arc_laws.specs.Counts.{AreCounts, counts_cost}
-use Rattle.arc_laws.specs.Lists.{HoldsArcsOnce}
+use Rattle.roster_model.specs.arc_laws.Counts.{AreCounts, counts_cost}
+use Rattle.roster_model.specs.arc_laws.Lists.{HoldsArcsOnce}
 use Rattle.bound_laws.specs.Infeasible.{IsPlainlyInfeasible}
 use Rattle.bound_laws.specs.TreeRosters.{IsTreeRoster, trees_cost}
 

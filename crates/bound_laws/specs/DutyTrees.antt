@@ -3,7 +3,7 @@ use Rattle.std.specs.Prelude.{ℕ, ◌≡◌, ◌≢◌, ◌+◌, ◌-◌, List,
 use Rattle.roster_model.specs.declared.instance.Instance.{Instance}
 use Rattle.roster_model.specs.Trees.{Parts, IsDayTree, word}
 use Rattle.roster_model.specs.Duties.{Duty}
-use Rattle.tree_laws.specs.Parts.{root}
+use Rattle.roster_model.specs.tree_laws.Parts.{root}
 
 -- how many rules come before those that groups add
 abbrev pub own_rules : Instance → ℕ

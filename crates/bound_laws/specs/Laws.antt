@@ -20,7 +20,7 @@ use Rattle.bound_laws.specs.Infeasible.{IsPlainlyInfeasible}
 use Rattle.bound_laws.specs.Lagrangian.{IsLeastReduced, IsLagrangian, lagrangian_sum}
 use Rattle.bound_laws.specs.Priced.{IsPricedValue}
 use Rattle.bound_laws.specs.TreeRosters.{IsTreeRoster, trees_cost}
-use Rattle.tree_laws.specs.Parts.{root}
+use Rattle.roster_model.specs.tree_laws.Parts.{root}
 use Rattle.bound_laws.specs.DutyTrees.{own_rules, AreDutyTrees}
 use Rattle.bound_laws.specs.Pinned.{IsPinned, IsPinnedValue}
 use Rattle.bound_laws.specs.Points.{IsPoints}

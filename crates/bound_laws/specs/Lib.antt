@@ -16,3 +16,7 @@ pub mod WorkedBest
 pub mod WorkedDay
 pub mod PlainCounts
 pub mod PlainCountLaws
+pub mod linear_programs
+pub mod master_laws
+pub mod near_laws
+pub mod least_values

@@ -6,8 +6,8 @@ use Rattle.roster_model.specs.declared.instance.Instance.{Instance}
 use Rattle.roster_model.specs.Arcs.{IsArc}
 use Rattle.roster_model.specs.Cuts.{lo, hi}
 use Rattle.roster_model.specs.GreatestCost.{greatest_cost}
-use Rattle.arc_laws.specs.Lists.{AreArcs}
-use Rattle.arc_laws.specs.Counts.{AreCounts, counts_cost}
+use Rattle.roster_model.specs.arc_laws.Lists.{AreArcs}
+use Rattle.roster_model.specs.arc_laws.Counts.{AreCounts, counts_cost}
 
 -- the cuts leave no arc of the instance more than one count
 pub record IsPinned (i : Instance) (cuts : List Cut) : Type 0 where

@@ -6,10 +6,10 @@ use Rattle.roster_model.specs.declared.instance.Cut.{Cut}
 use Rattle.roster_model.specs.declared.instance.Instance.{Instance}
 use Rattle.roster_model.specs.Arcs.{Letter}
 use Rattle.roster_model.specs.SoundInstance.{IsSoundInstance}
-use Rattle.arc_laws.specs.OrNodes.{leaf}
-use Rattle.arc_laws.specs.Balance.{used_sum, IsBalanced}
-use Rattle.arc_laws.specs.Counts.{root_count}
-use Rattle.arc_laws.specs.Lists.{AreArcs}
+use Rattle.roster_model.specs.arc_laws.OrNodes.{leaf}
+use Rattle.roster_model.specs.arc_laws.Balance.{used_sum, IsBalanced}
+use Rattle.roster_model.specs.arc_laws.Counts.{root_count}
+use Rattle.roster_model.specs.arc_laws.Lists.{AreArcs}
 use Rattle.bound_laws.specs.Pinned.{IsPinnedValue}
 use Rattle.bound_laws.specs.Plain.{IsPlainDay}
 use Rattle.bound_laws.specs.PlainCounts.{IsPlainPinnedValue}

@@ -5,9 +5,9 @@ use Rattle.roster_model.specs.declared.instance.Cut.{Cut}
 use Rattle.roster_model.specs.declared.instance.Instance.{Instance}
 use Rattle.roster_model.specs.Cuts.{lo}
 use Rattle.roster_model.specs.GreatestCost.{greatest_cost}
-use Rattle.arc_laws.specs.Balance.{IsBalanced}
-use Rattle.arc_laws.specs.Counts.{root_count, counts_cost}
-use Rattle.arc_laws.specs.Lists.{AreArcs}
+use Rattle.roster_model.specs.arc_laws.Balance.{IsBalanced}
+use Rattle.roster_model.specs.arc_laws.Counts.{root_count, counts_cost}
+use Rattle.roster_model.specs.arc_laws.Lists.{AreArcs}
 
 -- balanced, with the root's count in the range of the heads
 pub record ArePlainCounts (i : Instance) (listed : List ArcKey) (value : ArcKey → ℕ) : Type 0 where

@@ -2,7 +2,7 @@
 use Rattle.std.specs.Prelude.{ℕ, ◌≡◌, ◌+◌, ◌^◌, List, length}
 use Rattle.roster_model.specs.declared.grammar.ArcKey.{ArcKey}
 use Rattle.roster_model.specs.declared.instance.Instance.{Instance}
-use Rattle.arc_laws.specs.Lists.{AreArcs}
+use Rattle.roster_model.specs.arc_laws.Lists.{AreArcs}
 
 -- each count is from 0 to the greatest number of employees
 pub record IsPoints (i : Instance) (points : ℕ) : Type 0 where

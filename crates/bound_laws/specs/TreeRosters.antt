@@ -6,7 +6,7 @@ use Rattle.roster_model.specs.Trees.{Parts, IsDayTree}
 use Rattle.roster_model.specs.Folds.{sum_n, count, Each}
 use Rattle.roster_model.specs.Arcs.{cost}
 use Rattle.roster_model.specs.Coverage.{is_at, penalty, IsWithinCell}
-use Rattle.arc_laws.specs.TreeLists.{letters_of}
+use Rattle.roster_model.specs.arc_laws.TreeLists.{letters_of}
 
 -- how many of the trees have the cell's letter
 abbrev pub tree_cover : List Parts → Cell → ℕ

@@ -7,6 +7,10 @@
 #![tactic(auto)]
 
 mod laws;
+mod least_values;
+pub mod linear_programs;
+pub mod master_laws;
+pub mod near_laws;
 mod plain_counts;
 
 pub use laws::{
@@ -15,5 +19,21 @@ pub use laws::{
     pinned_is_cost, plain_lagrangians, plain_rosters, priced_bound, reduced_costs,
     rosters_cost_less, rosters_have_trees, small_shares, trees_cost_less, trees_spell_rosters,
     trees_stand_for_rosters, worked_best, worked_floors, worked_groups,
+};
+pub use least_values::{best_bounds_rivals, have_least_sums, have_values};
+pub use linear_programs::{
+    LinearProgram, equal_fractions_are_values, example_is_optimal, paths_keep_solutions,
+    paths_stay_feasible, priced_out_paths_are_optimal, priced_out_solutions_cost_least,
+    prices_bound_solutions, row_steps_keep_solutions, row_steps_read_numbers, same_sums_stay_basic,
+    tableau_solutions_are_basic, unit_vectors_pick,
+};
+pub use master_laws::{
+    counts_close, counts_meet, counts_split, cuts_have_signs, master_is_sound, path_ends,
+    priced_out_by_sums, rivals_show_less, rounded_are_best, rounded_show_value, row_count,
+    small_master, trees_priced, weights_apart, wide_rounding, worked_master,
+};
+pub use near_laws::{
+    completed_costs_least, completed_solves, near_are_best, near_counts_close,
+    near_trees_show_best, rivals_below_solutions, worked_completed,
 };
 pub use plain_counts::{letters_within_heads, plain_pinned};

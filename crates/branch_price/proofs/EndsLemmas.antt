@@ -4,8 +4,8 @@ use Rattle.std.specs.Prelude.{MatchOption, IfNone}
 use Rattle.roster_model.specs.declared.instance.Instance.{Instance}
 use Rattle.roster_model.specs.Cuts.{base_cuts}
 use Rattle.parse_graph.specs.Graphs.{GraphView}
-use Rattle.growing_laws.specs.Grown.{Grown, OnTips, tip_bound}
-use Rattle.growing_laws.specs.Boxes.{IsOpenLeaf}
+use Rattle.certificates.specs.growing_laws.Grown.{Grown, OnTips, tip_bound}
+use Rattle.certificates.specs.growing_laws.Boxes.{IsOpenLeaf}
 use Rattle.open_nodes.specs.declared.leaf.OpenLeaf.{OpenLeaf}
 use Rattle.search_tree.specs.Views.{Site, TreeView}
 use Rattle.search_tree.specs.Trees.{IsTree}

@@ -19,13 +19,13 @@ use Rattle.certificates.specs.Kinds as kinds
 use Rattle.certificates.specs.Nodes.{Proof, Visit, visits, preorder, low_cut, high_cut}
 use Rattle.certificates.specs.Sound.{most_cost, IsSoundCert, IsSoundShift, NoneIsZero}
 use Rattle.certificates.proofs.OneTree.{same_start}
-use Rattle.certificate_laws.specs.Accepted.{IsStated, bound_number}
-use Rattle.certificate_laws.specs.Shown.{Shows}
-use Rattle.growing_laws.specs.Grown.{Grown, tip, fork, Leaf, fresh, valued, fixed, Own, OnForks, prices_of, leaf_proof, proof_of, numbers, shown}
-use Rattle.growing_laws.specs.States.{IsLeaf, IsOwn, IsSplit, IsTip, IsGrowing, OwnShows, IsGrownProof}
-use Rattle.growing_laws.proofs.NodeCounts.{grown-counts}
-use Rattle.growing_laws.proofs.GrownLemmas.{ForkFact, tips-map, forks-map, grown-visits}
-use Rattle.growing_laws.proofs.StatesLemmas.{growing-proves}
+use Rattle.certificates.specs.certificate_laws.Accepted.{IsStated, bound_number}
+use Rattle.certificates.specs.certificate_laws.Shown.{Shows}
+use Rattle.certificates.specs.growing_laws.Grown.{Grown, tip, fork, Leaf, fresh, valued, fixed, Own, OnForks, prices_of, leaf_proof, proof_of, numbers, shown}
+use Rattle.certificates.specs.growing_laws.States.{IsLeaf, IsOwn, IsSplit, IsTip, IsGrowing, OwnShows, IsGrownProof}
+use Rattle.certificates.proofs.growing_laws.NodeCounts.{grown-counts}
+use Rattle.certificates.proofs.growing_laws.GrownLemmas.{ForkFact, tips-map, forks-map, grown-visits}
+use Rattle.certificates.proofs.growing_laws.StatesLemmas.{growing-proves}
 use Rattle.search_tree.specs.Trees.{is_too_long}
 use Rattle.candidate_rosters.specs.declared.roster.Roster.{Roster}
 use Rattle.candidate_rosters.specs.Order.{AreAscending}

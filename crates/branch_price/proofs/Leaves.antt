@@ -9,12 +9,12 @@ use Rattle.roster_model.specs.Folds.{Each}
 use Rattle.roster_model.specs.SoundInstance.{IsSoundInstance}
 use Rattle.roster_model.proofs.EachLemmas.{Each-weaker}
 use Rattle.certificates.specs.Nodes.{low_cut, high_cut}
-use Rattle.master_laws.specs.Laws.{IsBelowHeads}
+use Rattle.bound_laws.specs.master_laws.Laws.{IsBelowHeads}
 use Rattle.node_master.specs.Ends.{IsNodeCut}
-use Rattle.growing_laws.specs.Grown.{Grown, tip, fork, Leaf, fresh, valued, fixed, SomeTip, raised, tip_bound}
-use Rattle.growing_laws.specs.Boxes.{IsOpenLeaf}
-use Rattle.growing_laws.specs.States.{IsSplit, IsSplitAt}
-use Rattle.growing_laws.proofs.GrownLemmas.{some-both, forks-map}
+use Rattle.certificates.specs.growing_laws.Grown.{Grown, tip, fork, Leaf, fresh, valued, fixed, SomeTip, raised, tip_bound}
+use Rattle.certificates.specs.growing_laws.Boxes.{IsOpenLeaf}
+use Rattle.certificates.specs.growing_laws.States.{IsSplit, IsSplitAt}
+use Rattle.certificates.proofs.growing_laws.GrownLemmas.{some-both, forks-map}
 use Rattle.open_nodes.specs.declared.leaf.Plan.{Plan}
 use Rattle.open_nodes.specs.declared.leaf.OpenLeaf.{OpenLeaf}
 use Rattle.search_tree.specs.Views.{TreeView, Site, IsPlace}
@@ -22,12 +22,12 @@ use Rattle.search_tree.specs.Trees.{HasPlan, IsTree, IsPlan}
 use Rattle.search_tree.proofs.TreeLaws.{queued-leaf, leaf-in-hand, few-seats, short-paths}
 use Rattle.search_tree.specs.Asked.{AsksSplit, IsHalved}
 use Rattle.std.proofs.lemmas.Option.{slice_get_within}
-use Rattle.node_path.specs.Paths.{IsNode}
+use Rattle.arc_counts.specs.node_path.Paths.{IsNode}
 use Rattle.candidate_rosters.specs.Offers.{limit_of}
 use Rattle.branch_price.specs.declared.progress.Progress.{Progress}
 use Rattle.branch_price.specs.Searching.{site_of}
 use Rattle.branch_price.specs.Steps.{AsksTurn, AsksNode, AsksHalf, IsTurned}
-use Rattle.growing_laws.specs.declared.seat.Seat.{Seat}
+use Rattle.certificates.specs.declared.growing_laws.seat.Seat.{Seat}
 use Rattle.branch_price.proofs.NodeCuts.{IsGoodCut, path-cuts, path-based, base-good, base-few}
 use Rattle.parse_graph.specs.Graphs.{GraphView}
 use Rattle.std.specs.Prelude.{Bool}

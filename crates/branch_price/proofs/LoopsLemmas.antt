@@ -9,13 +9,13 @@ use Rattle.roster_model.specs.Cuts.{base_cuts}
 use Rattle.roster_model.specs.GreatestCost.{greatest_cost}
 use Rattle.roster_model.specs.SoundInstance.{IsSoundInstance}
 use Rattle.bound_laws.specs.Infeasible.{IsPlainlyInfeasible}
-use Rattle.certificate_laws.specs.Accepted.{bound_number}
+use Rattle.certificates.specs.certificate_laws.Accepted.{bound_number}
 use Rattle.parse_graph.specs.Graphs.{GraphView, IsGraph}
-use Rattle.growing_laws.specs.Grown.{SomeTip, tip_bound, shown}
-use Rattle.growing_laws.specs.Boxes.{IsOpenLeaf}
-use Rattle.growing_laws.specs.States.{IsTip}
-use Rattle.growing_laws.proofs.GrownLemmas.{some-map, some-both, least-bound}
-use Rattle.growing_laws.proofs.StatesLemmas.{growing-closed, growing-few, some-fact}
+use Rattle.certificates.specs.growing_laws.Grown.{SomeTip, tip_bound, shown}
+use Rattle.certificates.specs.growing_laws.Boxes.{IsOpenLeaf}
+use Rattle.certificates.specs.growing_laws.States.{IsTip}
+use Rattle.certificates.proofs.growing_laws.GrownLemmas.{some-map, some-both, least-bound}
+use Rattle.certificates.proofs.growing_laws.StatesLemmas.{growing-closed, growing-few, some-fact}
 use Rattle.open_nodes.specs.declared.leaf.OpenLeaf.{OpenLeaf}
 use Rattle.search_tree.specs.Views.{TreeView}
 use Rattle.search_tree.proofs.TreeLaws.{queued-leaf}

@@ -20,11 +20,11 @@ use Rattle.roster_model.specs.SoundInstance.{IsSoundInstance, HasGroups}
 use Rattle.roster_model.proofs.EachLemmas.{Each-append}
 use Rattle.bound_laws.proofs.BaseCuts.{IsRange, ranges}
 use Rattle.certificates.specs.Nodes.{low_cut, high_cut}
-use Rattle.master_laws.specs.Laws.{IsBelowHeads}
+use Rattle.bound_laws.specs.master_laws.Laws.{IsBelowHeads}
 use Rattle.node_master.specs.Ends.{IsNodeCut}
-use Rattle.growing_laws.specs.Grown.{Grown, tip, fork, OnForks}
-use Rattle.growing_laws.specs.Seats.{StandsAt}
-use Rattle.growing_laws.specs.States.{IsSplitAt}
+use Rattle.certificates.specs.growing_laws.Grown.{Grown, tip, fork, OnForks}
+use Rattle.certificates.specs.growing_laws.Seats.{StandsAt}
+use Rattle.certificates.specs.growing_laws.States.{IsSplitAt}
 
 -- a cut that a master takes, below the number of heads
 pub record IsGoodCut (i : Instance) (c : Cut) : Type 0 where

@@ -11,8 +11,8 @@ use Rattle.roster_model.specs.SoundInstance.{IsSoundInstance}
 use Rattle.bound_laws.proofs.RosterCosts.{roster-costs-le}
 use Rattle.certificates.specs.declared.cert.Cert.{Cert}
 use Rattle.certificates.specs.RosterCauses.{duties}
-use Rattle.certificate_laws.specs.Right.{YesIsRight}
-use Rattle.certificate_laws.proofs.RightLemmas.{yes-is-sound}
+use Rattle.certificates.specs.certificate_laws.Right.{YesIsRight}
+use Rattle.certificates.proofs.certificate_laws.RightLemmas.{yes-is-sound}
 use Rattle.candidate_rosters.specs.declared.roster.Roster.{Roster}
 use Rattle.candidate_rosters.specs.Offers.{limit_of, cost_of}
 use Rattle.candidate_rosters.specs.Rosters.{CostsAtMost}

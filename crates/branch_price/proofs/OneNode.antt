@@ -16,15 +16,15 @@ use Rattle.roster_model.specs.Shifts.{IsShift}
 use Rattle.roster_model.specs.Teams.{Team, teams}
 use Rattle.roster_model.proofs.SoundCells.{few_cells}
 use Rattle.roster_model.proofs.EachLemmas.{Each-at}
-use Rattle.arc_laws.specs.Counts.{AreCounts}
-use Rattle.arc_laws.specs.Lists.{AreArcs}
+use Rattle.roster_model.specs.arc_laws.Counts.{AreCounts}
+use Rattle.roster_model.specs.arc_laws.Lists.{AreArcs}
 use Rattle.bound_laws.specs.BestPrices.{AreBest, loss}
 use Rattle.bound_laws.specs.Infeasible.{IsPlainlyInfeasible}
 use Rattle.bound_laws.specs.Lagrangian.{IsLagrangian, lagrangian_sum}
 use Rattle.bound_laws.specs.Pinned.{IsPinned, IsPinnedValue}
 use Rattle.bound_laws.specs.Priced.{IsPricedValue}
 use Rattle.bound_laws.proofs.SoundReady.{ready}
-use Rattle.priced_part.proofs.WholeCosts.{whole_up}
+use Rattle.check_parts.proofs.priced_part.WholeCosts.{whole_up}
 use Rattle.certificates.specs.declared.cert.Node.{Node}
 use Rattle.certificates.specs.declared.cert.Node.TheVariants.{Split, Priced, Pinned, Bare}
 use Rattle.certificates.specs.Nodes.{Visit, priced, pinned}

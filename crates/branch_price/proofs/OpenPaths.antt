@@ -5,12 +5,12 @@ use Rattle.roster_model.specs.declared.instance.Cut.{Cut}
 use Rattle.roster_model.specs.declared.instance.Instance.{Instance}
 use Rattle.roster_model.specs.Cuts.{lo, hi}
 use Rattle.roster_model.specs.Folds.{Each}
-use Rattle.arc_laws.proofs.PathBounds.{Keeps, bounds-hold, bounds-keep}
-use Rattle.arc_laws.proofs.SameArc.{Told, arc_tells}
+use Rattle.roster_model.proofs.arc_laws.PathBounds.{Keeps, bounds-hold, bounds-keep}
+use Rattle.roster_model.proofs.arc_laws.SameArc.{Told, arc_tells}
 use Rattle.certificates.specs.Nodes.{low_cut, high_cut}
-use Rattle.growing_laws.specs.Grown.{Grown, tip, fork, OnForks}
-use Rattle.growing_laws.specs.Seats.{StandsAt}
-use Rattle.growing_laws.specs.States.{IsSplitAt}
+use Rattle.certificates.specs.growing_laws.Grown.{Grown, tip, fork, OnForks}
+use Rattle.certificates.specs.growing_laws.Seats.{StandsAt}
+use Rattle.certificates.specs.growing_laws.States.{IsSplitAt}
 use Rattle.roster_model.specs.Cuts.{base_cuts}
 use Rattle.roster_model.specs.SoundInstance.{IsSoundInstance}
 use Rattle.roster_model.proofs.EachLemmas.{Each-append}
@@ -18,8 +18,8 @@ use Rattle.bound_laws.specs.Counted.{AsksForArc}
 use Rattle.bound_laws.specs.Infeasible.{IsPlainlyInfeasible}
 use Rattle.bound_laws.proofs.BaseCuts.{base-open, base-asks}
 use Rattle.parse_graph.specs.Graphs.{GraphView}
-use Rattle.growing_laws.specs.States.{IsSplit}
-use Rattle.growing_laws.proofs.GrownLemmas.{forks-map}
+use Rattle.certificates.specs.growing_laws.States.{IsSplit}
+use Rattle.certificates.proofs.growing_laws.GrownLemmas.{forks-map}
 use Rattle.open_nodes.specs.declared.leaf.OpenLeaf.{OpenLeaf}
 use Rattle.branch_price.specs.declared.progress.Progress.{Progress}
 use Rattle.branch_price.specs.Plans.{AskForArcs}

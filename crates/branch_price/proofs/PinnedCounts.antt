@@ -13,21 +13,21 @@ use Rattle.roster_model.specs.Cuts.{Meets, base_cuts, lo}
 use Rattle.roster_model.specs.Folds.{Each, count}
 use Rattle.roster_model.specs.GreatestCost.{greatest_cost}
 use Rattle.roster_model.specs.SoundInstance.{IsSoundInstance}
-use Rattle.arc_laws.specs.Counts.{AreCounts, counts_cost}
-use Rattle.arc_laws.specs.Lists.{AreArcs}
-use Rattle.arc_laws.proofs.FoldsLemmas.{sum_n-same}
-use Rattle.arc_laws.proofs.Totals.{arcs-once}
-use Rattle.count_boxes.specs.Boxes.{BoxView, bounds_at}
-use Rattle.count_boxes.specs.Paths.{IsBoxOf}
-use Rattle.arc_laws.specs.OrNodes.{OrNode, name, suffix, same_node, made, used}
-use Rattle.arc_laws.specs.Balance.{made_sum, used_sum}
+use Rattle.roster_model.specs.arc_laws.Counts.{AreCounts, counts_cost}
+use Rattle.roster_model.specs.arc_laws.Lists.{AreArcs}
+use Rattle.roster_model.proofs.arc_laws.FoldsLemmas.{sum_n-same}
+use Rattle.roster_model.proofs.arc_laws.Totals.{arcs-once}
+use Rattle.arc_counts.specs.count_boxes.Boxes.{BoxView, bounds_at}
+use Rattle.arc_counts.specs.count_boxes.Paths.{IsBoxOf}
+use Rattle.roster_model.specs.arc_laws.OrNodes.{OrNode, name, suffix, same_node, made, used}
+use Rattle.roster_model.specs.arc_laws.Balance.{made_sum, used_sum}
 use Rattle.bound_laws.specs.Counted.{HaveCounts}
 use Rattle.bound_laws.specs.Pinned.{IsPinnedValue}
 use Rattle.bound_laws.proofs.Counted.{makes-roster, meets-cuts}
-use Rattle.master_laws.specs.Sharp.{UsesArtificial}
+use Rattle.bound_laws.specs.master_laws.Sharp.{UsesArtificial}
 use Rattle.parse_graph.specs.Graphs.{GraphView, IsGraph}
-use Rattle.roster_split.specs.Counts.{count_of}
-use Rattle.roster_split.proofs.Places.{count-at}
+use Rattle.arc_counts.specs.roster_split.Counts.{count_of}
+use Rattle.arc_counts.proofs.roster_split.Places.{count-at}
 use Rattle.candidate_rosters.specs.Offers.{CanBeTrees, Reach}
 use Rattle.branch_price.specs.Plans.{AreLeast, AreFirst, AskForArcs}
 

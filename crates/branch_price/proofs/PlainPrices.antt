@@ -19,7 +19,7 @@ use Rattle.roster_model.specs.Sound.{IsSound}
 use Rattle.roster_model.specs.Sums.{Within, AtMost, tree_sum}
 use Rattle.roster_model.specs.Trees.{IsDayTree}
 use Rattle.roster_model.proofs.AgreementLemmas.{tree_same}
-use Rattle.tree_laws.proofs.LeastValues.{IsLeast-sums}
+use Rattle.roster_model.proofs.tree_laws.LeastValues.{IsLeast-sums}
 use Rattle.bound_laws.specs.Lagrangian.{IsLeastReduced}
 use Rattle.bound_laws.proofs.ReducedCosts.{reduced-cost}
 use Rattle.branch_price.specs.Infeasible.{ArePlain, IsPlainLeast}

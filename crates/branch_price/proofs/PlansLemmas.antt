@@ -9,17 +9,17 @@ use Rattle.roster_model.specs.Cuts.{Meets, base_cuts}
 use Rattle.roster_model.specs.Folds.{Each}
 use Rattle.roster_model.specs.SoundInstance.{IsSoundInstance}
 use Rattle.roster_model.specs.Trees.{Parts}
-use Rattle.count_boxes.specs.Boxes.{BoxView}
-use Rattle.count_boxes.specs.Paths.{IsBoxOf, IsLooseAt}
+use Rattle.arc_counts.specs.count_boxes.Boxes.{BoxView}
+use Rattle.arc_counts.specs.count_boxes.Paths.{IsBoxOf, IsLooseAt}
 use Rattle.bound_laws.specs.Priced.{IsPricedValue}
 use Rattle.bound_laws.specs.TreeRosters.{IsTreeRoster, trees_cost}
 use Rattle.fraction.specs.declared.frac.Frac.{Frac}
-use Rattle.linear_programs.specs.Solution.{Weighted}
-use Rattle.master_laws.specs.Laws.{IsBelowHeads}
-use Rattle.master_laws.specs.Master.{MasterKey}
-use Rattle.master_laws.specs.Sharp.{UsesArtificial, AreFine}
-use Rattle.master_laws.proofs.WholeCountsLemmas.{can_be_split}
-use Rattle.near_laws.specs.NearSharp.{IsSharpFor, LackMuch, AreNearlyWhole}
+use Rattle.bound_laws.specs.linear_programs.Solution.{Weighted}
+use Rattle.bound_laws.specs.master_laws.Laws.{IsBelowHeads}
+use Rattle.bound_laws.specs.master_laws.Master.{MasterKey}
+use Rattle.bound_laws.specs.master_laws.Sharp.{UsesArtificial, AreFine}
+use Rattle.bound_laws.proofs.master_laws.WholeCountsLemmas.{can_be_split}
+use Rattle.bound_laws.specs.near_laws.NearSharp.{IsSharpFor, LackMuch, AreNearlyWhole}
 use Rattle.parse_graph.specs.Graphs.{GraphView, IsGraph}
 use Rattle.parse_graph.proofs.PlacesLemmas.{in-graph, of-graph}
 use Rattle.parse_graph.proofs.ArcOrderLemmas.{sorted-arcs}
@@ -28,7 +28,7 @@ use Rattle.node_columns.specs.declared.weights.Weight.{Weight}
 use Rattle.node_master.specs.declared.ends.Solution.{Solution}
 use Rattle.node_master.specs.declared.ends.Solution.TheVariants.{Exact, Near}
 use Rattle.node_master.specs.Ends.{AreLeastWeights, AreSolved, IsBest, IsNear}
-use Rattle.roster_split.specs.Counts.{count_of}
+use Rattle.arc_counts.specs.roster_split.Counts.{count_of}
 use Rattle.arc_weights.specs.declared.weighed.Weighed.TheVariants.{Whole, Between, Other}
 use Rattle.arc_weights.specs.Weighed.{IsWeighed, AreWhole}
 use Rattle.arc_weights.proofs.Steps.{get_some}

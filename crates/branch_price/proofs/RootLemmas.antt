@@ -17,10 +17,10 @@ use Rattle.bound_laws.specs.Pinned.{IsPinned, IsPinnedValue}
 use Rattle.bound_laws.proofs.BaseCuts.{base-open, base-asks}
 use Rattle.certificates.specs.declared.cert.Node.TheVariants.{Pinned}
 use Rattle.certificates.specs.Nodes.{pinned}
-use Rattle.certificate_laws.specs.Accepted.{bound_number}
+use Rattle.certificates.specs.certificate_laws.Accepted.{bound_number}
 use Rattle.parse_graph.specs.Graphs.{GraphView, IsGraph}
-use Rattle.growing_laws.specs.Grown.{tip, fixed}
-use Rattle.growing_laws.specs.States.{IsGrowing}
+use Rattle.certificates.specs.growing_laws.Grown.{tip, fixed}
+use Rattle.certificates.specs.growing_laws.States.{IsGrowing}
 use Rattle.candidate_rosters.specs.declared.roster.Roster.{Roster}
 use Rattle.candidate_rosters.specs.Starts.{HasStart, StartsWith, IsAtMostStart}
 use Rattle.candidate_rosters.specs.Offers.{limit_of, cost_of, IsBetter}

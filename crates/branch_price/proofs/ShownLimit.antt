@@ -6,9 +6,9 @@ use Rattle.roster_model.specs.declared.instance.Instance.{Instance}
 use Rattle.roster_model.specs.Cuts.{lo, base_cuts}
 use Rattle.roster_model.specs.GreatestCost.{greatest_cost}
 use Rattle.roster_model.specs.SoundInstance.{IsSoundInstance}
-use Rattle.arc_laws.specs.Counts.{AreCounts, counts_cost}
-use Rattle.arc_laws.specs.Lists.{HoldsArcsOnce}
-use Rattle.arc_laws.proofs.SameArc.{rising-once}
+use Rattle.roster_model.specs.arc_laws.Counts.{AreCounts, counts_cost}
+use Rattle.roster_model.specs.arc_laws.Lists.{HoldsArcsOnce}
+use Rattle.roster_model.proofs.arc_laws.SameArc.{rising-once}
 use Rattle.bound_laws.specs.Counted.{HaveCounts}
 use Rattle.bound_laws.specs.Infeasible.{IsPlainlyInfeasible}
 use Rattle.bound_laws.specs.Pinned.{IsPinnedValue}
@@ -18,14 +18,14 @@ use Rattle.bound_laws.proofs.RosterTrees.{has-trees, stand-for}
 use Rattle.bound_laws.proofs.SoundReady.{ready}
 use Rattle.certificates.specs.Nodes.{low_cut}
 use Rattle.certificates.specs.RosterCauses.{duties, stated_prices}
-use Rattle.certificate_laws.proofs.ShownBound.{shows-le}
-use Rattle.roster_split.proofs.BalancedLemmas.{split-balanced}
+use Rattle.certificates.proofs.certificate_laws.ShownBound.{shows-le}
+use Rattle.arc_counts.proofs.roster_split.BalancedLemmas.{split-balanced}
 use Rattle.parse_graph.specs.Graphs.{GraphView, IsGraph}
 use Rattle.parse_graph.proofs.PlacesLemmas.{of-graph}
-use Rattle.growing_laws.specs.Grown.{Grown, tip, fork, Leaf, fresh, valued, fixed, Own, OnTips, OnForks, leaf_value, raised, proof_of, shown}
-use Rattle.growing_laws.specs.States.{IsLeaf, IsOwn, IsSplit, IsTip, IsGrowing, OwnShows}
-use Rattle.growing_laws.proofs.GrownLemmas.{tips-map, forks-map}
-use Rattle.growing_laws.proofs.StatesLemmas.{growing-proves}
+use Rattle.certificates.specs.growing_laws.Grown.{Grown, tip, fork, Leaf, fresh, valued, fixed, Own, OnTips, OnForks, leaf_value, raised, proof_of, shown}
+use Rattle.certificates.specs.growing_laws.States.{IsLeaf, IsOwn, IsSplit, IsTip, IsGrowing, OwnShows}
+use Rattle.certificates.proofs.growing_laws.GrownLemmas.{tips-map, forks-map}
+use Rattle.certificates.proofs.growing_laws.StatesLemmas.{growing-proves}
 use Rattle.candidate_rosters.specs.declared.roster.Roster.{Roster}
 use Rattle.candidate_rosters.specs.Rosters.{IsGoodRoster}
 use Rattle.candidate_rosters.specs.Offers.{limit_of}

@@ -8,11 +8,11 @@ use Rattle.roster_model.specs.Folds.{Each}
 use Rattle.roster_model.specs.PriceLimits.{IsMult, AreRising}
 use Rattle.bound_laws.specs.Priced.{IsPricedValue}
 use Rattle.roster_model.specs.Limits.{IsSmallCut}
-use Rattle.master_laws.proofs.RowSizes.{row_count}
+use Rattle.bound_laws.proofs.master_laws.RowSizes.{row_count}
 use Rattle.roster_model.proofs.EachLemmas.{all_each, each_all, Each-weaker}
 use Rattle.node_master.specs.Ends.{IsNodeCut}
 use Rattle.tree_pool.specs.Pools.{PoolTree}
-use Rattle.growing_laws.specs.States.{IsPricedNode}
+use Rattle.certificates.specs.growing_laws.States.{IsPricedNode}
 use Rattle.branch_price.specs.declared.solved.Solved.{Solved}
 use Rattle.branch_price.specs.Solutions.{IsSolved, IsShown}
 use Rattle.branch_price.proofs.Leaves.{AreLeafCuts}

@@ -8,10 +8,10 @@ use Rattle.roster_model.specs.declared.instance.Prices.{Prices}
 use Rattle.roster_model.specs.Folds.{Each}
 use Rattle.roster_model.proofs.EachLemmas.{each_all}
 use Rattle.fraction.specs.declared.frac.Frac.{Frac}
-use Rattle.linear_programs.specs.Solution.{Weighted}
-use Rattle.master_laws.specs.Master.{MasterKey}
-use Rattle.master_laws.specs.Rows.{rows_of}
-use Rattle.near_laws.specs.Completed.{tree_columns}
+use Rattle.bound_laws.specs.linear_programs.Solution.{Weighted}
+use Rattle.bound_laws.specs.master_laws.Master.{MasterKey}
+use Rattle.bound_laws.specs.master_laws.Rows.{rows_of}
+use Rattle.bound_laws.specs.near_laws.Completed.{tree_columns}
 use Rattle.tree_pool.specs.Pools.{PoolTree}
 use Rattle.node_columns.specs.declared.weights.Weight.{Weight}
 use Rattle.node_columns.specs.Weights.{AreWeights}

@@ -17,15 +17,15 @@ use Rattle.roster_model.specs.SoundInstance.{IsSoundInstance, HasGroups}
 use Rattle.roster_model.proofs.CostBounds.{shifts-le, cells-le}
 use Rattle.roster_model.proofs.SoundCells.{cells_limited}
 use Rattle.roster_model.proofs.EachLemmas.{Each-append}
-use Rattle.tree_laws.proofs.Rules.{rule_at-within, sound-rule}
+use Rattle.roster_model.proofs.tree_laws.Rules.{rule_at-within, sound-rule}
 use Rattle.certificates.specs.declared.cert.Node.{Node}
 use Rattle.certificates.specs.declared.cert.Node.TheVariants.{Split}
 use Rattle.certificates.specs.Nodes.{visits, preorder, low_cut, high_cut}
 use Rattle.certificates.specs.Sound.{most_cost, most_rule, IsKey, AreFit, IsSoundNode, IsSoundVisit, ListNoZero, NoneIsZero}
 use Rattle.span_arcs.proofs.ShapesLemmas.{arc-shaped}
-use Rattle.growing_laws.specs.Grown.{Grown, tip, fork, Leaf, fresh, valued, fixed, Own, OnTips, OnForks, prices_of, leaf_proof, proof_of, raised}
-use Rattle.growing_laws.specs.States.{IsLeaf, IsOwn, IsSplit, IsTip, IsGrowing}
-use Rattle.growing_laws.proofs.GrownLemmas.{tips-map, forks-map, grown-visits}
+use Rattle.certificates.specs.growing_laws.Grown.{Grown, tip, fork, Leaf, fresh, valued, fixed, Own, OnTips, OnForks, prices_of, leaf_proof, proof_of, raised}
+use Rattle.certificates.specs.growing_laws.States.{IsLeaf, IsOwn, IsSplit, IsTip, IsGrowing}
+use Rattle.certificates.proofs.growing_laws.GrownLemmas.{tips-map, forks-map, grown-visits}
 use Rattle.branch_price.proofs.NodeCuts.{hi-most}
 
 -- what holds of each node of the certificate, whatever its path

@@ -5,12 +5,12 @@ use Rattle.roster_model.specs.declared.grammar.ArcKey.{ArcKey}
 use Rattle.roster_model.specs.declared.instance.Cut.{Cut}
 use Rattle.roster_model.specs.declared.instance.Instance.{Instance}
 use Rattle.roster_model.specs.declared.instance.Prices.{Prices}
-use Rattle.count_boxes.specs.Boxes.{BoxView, bounds_at}
-use Rattle.count_boxes.specs.Paths.{IsBoxOf, IsLooseAt}
+use Rattle.arc_counts.specs.count_boxes.Boxes.{BoxView, bounds_at}
+use Rattle.arc_counts.specs.count_boxes.Paths.{IsBoxOf, IsLooseAt}
 use Rattle.bound_laws.specs.Pinned.{IsPinned, IsPinnedValue}
 use Rattle.parse_graph.specs.Graphs.{GraphView, IsGraph}
 use Rattle.std.proofs.lemmas.Option.{slice_get_within}
-use Rattle.growing_laws.specs.States.{IsPricedNode, IsLoosePath, IsSplitAt}
+use Rattle.certificates.specs.growing_laws.States.{IsPricedNode, IsLoosePath, IsSplitAt}
 use Rattle.open_nodes.specs.declared.leaf.Plan.{Plan}
 use Rattle.open_nodes.specs.declared.leaf.OpenLeaf.{OpenLeaf}
 use Rattle.search_tree.specs.Views.{TreeView}
@@ -18,7 +18,7 @@ use Rattle.search_tree.specs.Trees.{IsPlan}
 use Rattle.search_tree.specs.Asked.{AsksLeaf, AsksPinned, AsksPriced, AsksFailed, IsProcessed}
 use Rattle.search_tree.proofs.TreeLaws.{limit-falls, count-rises}
 use Rattle.search_tree.specs.Trees.{last_count}
-use Rattle.master_laws.specs.Rows.{rows_of}
+use Rattle.bound_laws.specs.master_laws.Rows.{rows_of}
 use Rattle.tree_pool.specs.Pools.{PoolTree}
 use Rattle.node_master.specs.declared.ends.Cause.{Cause}
 use Rattle.node_master.specs.declared.ends.Cause.TheVariants.{Rows, Wide, Spent}

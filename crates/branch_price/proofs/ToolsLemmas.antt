@@ -3,8 +3,8 @@ use Rattle.std.proofs.Common.{Option, List, [], arith, sym}
 use Rattle.std.proofs.lemmas.List.{append-nil}
 use Rattle.roster_model.specs.declared.instance.Instance.{Instance}
 use Rattle.tree_pool.specs.Pools.{PoolTree}
-use Rattle.search_day.specs.declared.day.Day.{Day}
-use Rattle.search_day.specs.Rooms.{Grows}
+use Rattle.master_rows.specs.declared.search_day.day.Day.{Day}
+use Rattle.master_rows.specs.search_day.Rooms.{Grows}
 use Rattle.candidate_rosters.specs.declared.roster.Roster.{Roster}
 use Rattle.candidate_rosters.specs.Rosters.{IsGoodRoster}
 use Rattle.candidate_rosters.specs.Offers.{IsBetter}

@@ -1,6 +1,6 @@
 -- Days without arcs.
 use Rattle.std.specs.Prelude.{Option, IfSome}
-use Rattle.search_day.specs.declared.day.Day.{Day}
+use Rattle.master_rows.specs.declared.search_day.day.Day.{Day}
 use Rattle.roster_model.specs.declared.instance.Instance.{Instance}
 use Rattle.roster_model.specs.Cuts.{base_cuts}
 use Rattle.bound_laws.specs.Pinned.{IsPinnedValue}

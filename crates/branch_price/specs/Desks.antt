@@ -3,13 +3,13 @@ use Rattle.std.specs.Prelude.{◌≡◌, Option, IfSome, List}
 use Rattle.roster_model.specs.declared.instance.Instance.{Instance}
 use Rattle.roster_model.specs.Cuts.{base_cuts}
 use Rattle.tree_pool.specs.Pools.{PoolTree, IsPool}
-use Rattle.search_day.specs.declared.day.Day.{Day}
-use Rattle.search_day.specs.Rooms.{ArePricing, Grows}
+use Rattle.master_rows.specs.declared.search_day.day.Day.{Day}
+use Rattle.master_rows.specs.search_day.Rooms.{ArePricing, Grows}
 use Rattle.candidate_rosters.specs.declared.desk.RosterDesk.{RosterDesk}
 use Rattle.candidate_rosters.specs.declared.roster.Roster.{Roster}
 use Rattle.candidate_rosters.specs.Rosters.{IsGoodRoster, IsDeskFor}
 use Rattle.candidate_rosters.specs.Offers.{IsBetter}
-use Rattle.node_path.specs.Paths.{IsPath}
+use Rattle.arc_counts.specs.node_path.Paths.{IsPath}
 use Rattle.branch_price.specs.declared.desk.SearchDesk.{SearchDesk}
 use Rattle.branch_price.specs.declared.desk.SearchBench.{SearchBench}
 

@@ -9,12 +9,12 @@ use Rattle.roster_model.specs.GreatestCost.{greatest_cost}
 use Rattle.bound_laws.specs.Infeasible.{IsPlainlyInfeasible}
 use Rattle.bound_laws.specs.Points.{IsPoints}
 use Rattle.certificates.specs.Nodes.{visits, pinned}
-use Rattle.certificate_laws.specs.Accepted.{bound_number}
+use Rattle.certificates.specs.certificate_laws.Accepted.{bound_number}
 use Rattle.parse_graph.specs.Graphs.{GraphView}
-use Rattle.growing_laws.specs.Grown.{Grown, OnTips, tip_bound, busy, missed, shown, proof_of}
-use Rattle.growing_laws.specs.Boxes.{IsOpenLeaf}
-use Rattle.growing_laws.specs.Seats.{HoldTree}
-use Rattle.growing_laws.specs.States.{IsGrowing}
+use Rattle.certificates.specs.growing_laws.Grown.{Grown, OnTips, tip_bound, busy, missed, shown, proof_of}
+use Rattle.certificates.specs.growing_laws.Boxes.{IsOpenLeaf}
+use Rattle.certificates.specs.growing_laws.Seats.{HoldTree}
+use Rattle.certificates.specs.growing_laws.States.{IsGrowing}
 use Rattle.open_nodes.specs.declared.leaf.OpenLeaf.{OpenLeaf}
 use Rattle.search_tree.specs.Views.{Site}
 use Rattle.search_tree.specs.Trees.{last_count, is_too_long}

@@ -16,11 +16,11 @@ use Rattle.bound_laws.specs.BestPrices.{AreBest}
 use Rattle.bound_laws.specs.Infeasible.{IsPlainlyInfeasible}
 use Rattle.bound_laws.specs.Points.{IsPoints}
 use Rattle.bound_laws.specs.Priced.{IsPricedValue}
-use Rattle.certificate_laws.specs.Accepted.{Accepts, bound_number}
-use Rattle.certificate_laws.specs.Shown.{Shows}
-use Rattle.growing_laws.specs.States.{IsLoosePath}
-use Rattle.master_laws.specs.Sharp.{IsHard}
-use Rattle.near_laws.specs.NearSharp.{IsSharpFor}
+use Rattle.certificates.specs.certificate_laws.Accepted.{Accepts, bound_number}
+use Rattle.certificates.specs.certificate_laws.Shown.{Shows}
+use Rattle.certificates.specs.growing_laws.States.{IsLoosePath}
+use Rattle.bound_laws.specs.master_laws.Sharp.{IsHard}
+use Rattle.bound_laws.specs.near_laws.NearSharp.{IsSharpFor}
 use Rattle.roster_model.specs.declared.instance.Done.{Done}
 use Rattle.roster_model.specs.declared.instance.Done.TheVariants.{Equal, NoRoster, TurnsOut}
 use Rattle.branch_price.specs.declared.found.Found.{Found}

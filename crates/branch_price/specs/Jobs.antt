@@ -3,9 +3,9 @@ use Rattle.std.specs.Prelude.{ℕ, ◌≤◌, Bool, Option, length}
 use Rattle.roster_model.specs.Folds.{Each}
 use Rattle.bound_laws.specs.Infeasible.{IsPlainlyInfeasible}
 use Rattle.certificates.specs.Sound.{IsSoundShift}
-use Rattle.priced_part.specs.Filled.{TellsDerived}
-use Rattle.search_day.specs.declared.day.Day.{Day}
-use Rattle.search_day.specs.Days.{IsDay}
+use Rattle.check_parts.specs.priced_part.Filled.{TellsDerived}
+use Rattle.master_rows.specs.declared.search_day.day.Day.{Day}
+use Rattle.master_rows.specs.search_day.Days.{IsDay}
 use Rattle.candidate_rosters.specs.declared.roster.Roster.{Roster}
 use Rattle.branch_price.specs.declared.found.Found.{Found}
 use Rattle.branch_price.specs.declared.job.SearchedDay.{SearchedDay}

@@ -5,8 +5,8 @@ use Rattle.roster_model.specs.declared.instance.Instance.{Instance}
 use Rattle.roster_model.specs.declared.instance.Prices.{Prices}
 use Rattle.roster_model.specs.Folds.{Each}
 use Rattle.roster_model.specs.Limits.{IsSmallCut}
-use Rattle.master_laws.specs.Rows.{rows_of}
-use Rattle.count_boxes.specs.Paths.{IsBoxOf, IsLooseAt}
+use Rattle.bound_laws.specs.master_laws.Rows.{rows_of}
+use Rattle.arc_counts.specs.count_boxes.Paths.{IsBoxOf, IsLooseAt}
 use Rattle.open_nodes.specs.declared.leaf.Plan.{Plan}
 use Rattle.search_tree.specs.Trees.{IsPlan}
 use Rattle.candidate_rosters.specs.declared.roster.Roster.{Roster}

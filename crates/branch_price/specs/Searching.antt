@@ -2,7 +2,7 @@
 use Rattle.std.specs.Prelude.{ℕ, Bool, IfSome, List}
 use Rattle.roster_model.specs.declared.instance.Instance.{Instance}
 use Rattle.parse_graph.specs.Graphs.{GraphView}
-use Rattle.growing_laws.specs.Grown.{Grown}
+use Rattle.certificates.specs.growing_laws.Grown.{Grown}
 use Rattle.open_nodes.specs.declared.leaf.OpenLeaf.{OpenLeaf}
 use Rattle.search_tree.specs.Views.{Site}
 use Rattle.search_tree.specs.Trees.{IsTree}

@@ -10,8 +10,8 @@ use Rattle.roster_model.specs.PriceLimits.{FitPrices}
 use Rattle.bound_laws.specs.BestPrices.{AreBest}
 use Rattle.bound_laws.specs.Priced.{IsPricedValue}
 use Rattle.fraction.specs.declared.frac.Frac.{Frac}
-use Rattle.master_laws.specs.Laws.{IsBelowHeads}
-use Rattle.master_laws.specs.Rows.{rows_of}
+use Rattle.bound_laws.specs.master_laws.Laws.{IsBelowHeads}
+use Rattle.bound_laws.specs.master_laws.Rows.{rows_of}
 use Rattle.tree_pool.specs.Pools.{PoolTree}
 use Rattle.node_columns.specs.declared.weights.Weight.{Weight}
 use Rattle.node_master.specs.declared.ends.NodeEnd.{NodeEnd}

@@ -4,9 +4,9 @@ use Rattle.roster_model.specs.declared.instance.Cut.{Cut}
 use Rattle.roster_model.specs.declared.instance.Instance.{Instance}
 use Rattle.roster_model.specs.Cuts.{base_cuts}
 use Rattle.parse_graph.specs.Graphs.{GraphView}
-use Rattle.master_laws.specs.Rows.{rows_of}
-use Rattle.master_laws.specs.Sharp.{IsHard}
-use Rattle.growing_laws.specs.Grown.{Grown, fresh}
+use Rattle.bound_laws.specs.master_laws.Rows.{rows_of}
+use Rattle.bound_laws.specs.master_laws.Sharp.{IsHard}
+use Rattle.certificates.specs.growing_laws.Grown.{Grown, fresh}
 use Rattle.open_nodes.specs.declared.leaf.OpenLeaf.{OpenLeaf}
 use Rattle.search_tree.specs.Views.{IsPlace}
 use Rattle.search_tree.specs.Trees.{last_count}

@@ -2,7 +2,7 @@
 use Rattle.std.specs.Prelude.{ℕ, ◌≤◌, Bool, length}
 use Rattle.roster_model.specs.Folds.{Each}
 use Rattle.certificates.specs.Sound.{IsSoundShift}
-use Rattle.search_day.specs.Days.{IsDay}
+use Rattle.master_rows.specs.search_day.Days.{IsDay}
 use Rattle.search_watch.specs.Within.{IsWithin}
 use Rattle.branch_price.specs.declared.found.Found.{Found}
 use Rattle.branch_price.specs.declared.task.SearchTask.{SearchTask}

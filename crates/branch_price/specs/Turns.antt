@@ -3,7 +3,7 @@ use Rattle.std.specs.Prelude.{ℕ, Bool, List}
 use Rattle.roster_model.specs.declared.instance.Cut.{Cut}
 use Rattle.parse_graph.specs.Graphs.{GraphView}
 use Rattle.roster_model.specs.declared.instance.Instance.{Instance}
-use Rattle.search_day.specs.declared.day.Day.{Day}
+use Rattle.master_rows.specs.declared.search_day.day.Day.{Day}
 use Rattle.open_nodes.specs.declared.leaf.OpenLeaf.{OpenLeaf}
 use Rattle.branch_price.specs.declared.open_node.OpenNode.{OpenNode}
 use Rattle.branch_price.specs.declared.progress.Progress.{Progress}

@@ -1,5 +1,5 @@
 ghost use Rattle.std.specs.Prelude.{IfOk};
-ghost use Rattle.search_day.specs.Rooms.{Grows};
+ghost use Rattle.master_rows.specs.search_day.Rooms.{Grows};
 ghost use Rattle.branch_price.specs.Arcless.{IsArclessDay, IsRootRoster};
 ghost use Rattle.branch_price.specs.Desks.{IsRootBench};
 ghost use Rattle.branch_price.specs.Found.{IsFoundAtRoot};
@@ -10,9 +10,9 @@ use crate::found::Found;
 use crate::pinned::{offer_least, pinned_value};
 use candidate_rosters::{Roster, least_roster};
 use certificates::{Cert, Node};
+use master_rows::Day;
 use node_master::Pool;
 use roster_model::{List, Memory};
-use search_day::Day;
 use std::alloc::Global;
 
 /// Returns the roster that the root of a day without arcs leaves: that without shifts, where it is allowed.

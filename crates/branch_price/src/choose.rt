@@ -1,5 +1,5 @@
 ghost use Rattle.std.specs.Prelude.{◌<◌, IfOk, length};
-ghost use Rattle.count_boxes.specs.Paths.{IsLooseAt};
+ghost use Rattle.arc_counts.specs.count_boxes.Paths.{IsLooseAt};
 ghost use Rattle.arc_weights.specs.Nodes.{IsSolvedNode};
 ghost use Rattle.branch_price.specs.Desks.{CanFind, HasFound};
 ghost use Rattle.branch_price.specs.Nodes.{IsOpenNode, IsPlanFor};
@@ -11,9 +11,9 @@ use crate::open_node::OpenNode;
 use crate::preferred::preferred_arc;
 use crate::rounded::offer_rounded;
 use crate::solved::Solved;
+use arc_counts::ArcBox;
 use arc_weights::{SolvedNode, Weighed, farthest_from_whole, weigh};
 use candidate_rosters::{Roster, limit, offer_counts};
-use count_boxes::ArcBox;
 use node_master::Pool;
 use open_nodes::Plan;
 use roster_model::Memory;

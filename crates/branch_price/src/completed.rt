@@ -1,5 +1,5 @@
 ghost use Rattle.std.specs.Prelude.{ℕ, ◌<◌, All, IfOk, length};
-ghost use Rattle.search_day.specs.Days.{IsDay};
+ghost use Rattle.master_rows.specs.search_day.Days.{IsDay};
 ghost use Rattle.branch_price.specs.Desks.{CanFind, HasFound};
 ghost use Rattle.branch_price.specs.Nodes.{IsOpenNode, IsSmall};
 ghost use Rattle.branch_price.specs.Rounded.{AreFewer};
@@ -11,11 +11,11 @@ use crate::rounded::push_wholes;
 use crate::solved::Solved;
 use candidate_rosters::{Roster, limit};
 use dives::dive;
+use master_rows::Day;
 use node_master::{FULL, Pool, Weight};
 use parse_graph::Graph;
 use roster_model::{Instance, List, Memory, Prices};
 use roster_moves::{Guide, complete};
-use search_day::Day;
 use std::alloc::Global;
 
 /// At every which node a roster is looked for by a dive, which takes about as long as it takes to price the

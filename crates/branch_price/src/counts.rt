@@ -1,7 +1,7 @@
 ghost use Rattle.std.specs.Prelude.{◌≡◌, ◌<◌, IfOk, Some, length, slice_get};
 ghost use Rattle.branch_price.specs.Plans.{AreLeast};
 
-use count_boxes::ArcBox;
+use arc_counts::ArcBox;
 use parse_graph::Graph;
 use roster_model::{ArcKey, Memory};
 use std::alloc::Global;

@@ -1,14 +1,14 @@
 ghost use Rattle.std.specs.Prelude.{IfOk};
-ghost use Rattle.search_day.specs.Days.{IsDay};
+ghost use Rattle.master_rows.specs.search_day.Days.{IsDay};
 ghost use Rattle.branch_price.specs.Desks.{IsDesk, IsNewBench};
 
 use crate::old_splits::OldSplits;
+use arc_counts::NodePath;
 use candidate_rosters::RosterDesk;
 use certificates::MOST_MULTIPLIERS;
+use master_rows::{Day, Pricing};
 use node_master::Weight;
-use node_path::NodePath;
 use roster_model::Memory;
-use search_day::{Day, Pricing};
 use split_probes::Gains;
 use std::alloc::Global;
 

@@ -1,16 +1,16 @@
 ghost use Rattle.std.specs.Prelude.{IfOk};
 ghost use Rattle.roster_model.specs.SoundInstance.{IsSoundInstance};
 ghost use Rattle.bound_laws.specs.Infeasible.{IsPlainlyInfeasible};
-ghost use Rattle.priced_part.specs.Filled.{TellsDerived};
-ghost use Rattle.search_day.specs.Days.{IsDay};
+ghost use Rattle.check_parts.specs.priced_part.Filled.{TellsDerived};
+ghost use Rattle.master_rows.specs.search_day.Days.{IsDay};
 ghost use Rattle.branch_price.specs.Found.{IsFoundAtRoot};
 ghost use Rattle.branch_price.specs.Infeasible.{ArePlain, HoldsPlain, IsPlainLeast, IsInfeasibleNode};
 
 use crate::found::Found;
 use certificates::{Cert, Node};
-use priced_part::derived_names;
+use check_parts::derived_names;
+use master_rows::Day;
 use roster_model::{Done, Instance, List, MOST_NAMES, Memory, PriceRoom, Prices};
-use search_day::Day;
 use span_table::Table;
 use std::alloc::Global;
 

@@ -1,5 +1,5 @@
 use crate::start::Start;
-use search_day::Day;
+use master_rows::Day;
 
 /// A day that is searched, which is not plainly infeasible.
 #[derive(Clone, Copy, Drop)]

@@ -17,10 +17,10 @@ use crate::pinned::{offer_least, pinned_value};
 use crate::progress::Progress;
 use crate::solved::{Solved, solved_of};
 use crate::value::shown_value;
+use master_rows::Day;
 use node_master::{Master, Pool};
 use open_nodes::OpenLeaf;
 use roster_model::Memory;
-use search_day::Day;
 use std::alloc::Global;
 
 /// Processes a leaf whose path leaves each arc one count: offers the roster of these counts, and says what

@@ -1,5 +1,5 @@
 use crate::job::SearchedDay;
-use count_boxes::ArcBox;
+use arc_counts::ArcBox;
 use roster_model::Cut;
 
 /// A node that leaves some arc more than one count.

@@ -1,5 +1,5 @@
 use crate::start::Start;
-use search_day::Day;
+use master_rows::Day;
 
 /// A day that is to be searched.
 #[derive(Clone, Copy, Drop)]

@@ -12,10 +12,10 @@ use Rattle.roster_model.specs.Rosters.{ArePrices, IsTeamPrice, HasHeads, IsRoste
 use Rattle.roster_model.specs.SoundInstance.{IsSoundInstance}
 use Rattle.roster_model.specs.Teams.{Team}
 use Rattle.roster_model.proofs.EachLemmas.{Each-push}
-use Rattle.arc_laws.proofs.FoldsLemmas.{sum_n-append, sum_n-same}
+use Rattle.roster_model.proofs.arc_laws.FoldsLemmas.{sum_n-append, sum_n-same}
 use Rattle.certificates.specs.RosterCauses.{duties, stated_prices, IsNoShift}
 use Rattle.certificates.specs.Sound.{IsSoundShift}
-use Rattle.certificate_laws.proofs.NoCause.{one-prices}
+use Rattle.certificates.proofs.certificate_laws.NoCause.{one-prices}
 use Rattle.candidate_rosters.specs.Again.{IsPriceOf, IsShiftAgain, AreShiftsAgain, HaveNoPrices}
 use Rattle.candidate_rosters.specs.Order.{AreAscending, IsPutIn}
 use Rattle.candidate_rosters.specs.Rosters.{AreKnown, ArePricedShifts}

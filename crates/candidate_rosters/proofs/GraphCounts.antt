@@ -7,18 +7,18 @@ use Rattle.roster_model.specs.Arcs.{same_arc, IsArc}
 use Rattle.roster_model.specs.Folds.{sum_n, count}
 use Rattle.roster_model.specs.SoundInstance.{IsSoundInstance}
 use Rattle.roster_model.specs.Trees.{Parts}
-use Rattle.arc_laws.specs.OrNodes.{OrNode, name, suffix, same_node, made, used}
-use Rattle.arc_laws.specs.Lists.{AreArcs}
-use Rattle.arc_laws.specs.Balance.{made_sum, used_sum, IsBalanced}
-use Rattle.arc_laws.proofs.ArcSums.{counted}
-use Rattle.arc_laws.proofs.FoldsLemmas.{sum_n-same}
-use Rattle.arc_laws.proofs.SameArc.{rising-once}
-use Rattle.arc_laws.proofs.StandOnceLemmas.{once-counted}
+use Rattle.roster_model.specs.arc_laws.OrNodes.{OrNode, name, suffix, same_node, made, used}
+use Rattle.roster_model.specs.arc_laws.Lists.{AreArcs}
+use Rattle.roster_model.specs.arc_laws.Balance.{made_sum, used_sum, IsBalanced}
+use Rattle.roster_model.proofs.arc_laws.ArcSums.{counted}
+use Rattle.roster_model.proofs.arc_laws.FoldsLemmas.{sum_n-same}
+use Rattle.roster_model.proofs.arc_laws.SameArc.{rising-once}
+use Rattle.roster_model.proofs.arc_laws.StandOnceLemmas.{once-counted}
 use Rattle.parse_graph.specs.Graphs.{GraphView, HasArcs, IsGraph}
 use Rattle.parse_graph.proofs.PlacesLemmas.{in-graph, of-graph}
-use Rattle.roster_split.specs.Counts.{count_of}
-use Rattle.roster_split.specs.Splits.{HasBalance}
-use Rattle.roster_split.specs.Balanced.{AreTreesOf}
+use Rattle.arc_counts.specs.roster_split.Counts.{count_of}
+use Rattle.arc_counts.specs.roster_split.Splits.{HasBalance}
+use Rattle.arc_counts.specs.roster_split.Balanced.{AreTreesOf}
 use Rattle.candidate_rosters.specs.Offers.{CanBeTrees, HaveCountsOf}
 
 module _ (g : Grammar) (xs : List ArcKey) (arcs : HasArcs g xs) (listed : List ArcKey) (are : AreArcs g listed) (v : ArcKey → ℕ) where

@@ -18,11 +18,11 @@ use Rattle.roster_model.specs.Sums.{PriceView, IsLeast, AtMost, tree_sum}
 use Rattle.roster_model.specs.Teams.{Team, teams, teams_of, teams_from}
 use Rattle.roster_model.specs.Trees.{Parts, done, letter, uses, On, Derive, IsDayTree}
 use Rattle.roster_model.proofs.EachLemmas.{get-in}
-use Rattle.tree_laws.specs.LeastTrees.{HasDaySum, HoldsLeastTree}
-use Rattle.tree_laws.specs.Laws.{arc_at}
-use Rattle.tree_laws.specs.Parts.{first}
-use Rattle.arc_laws.specs.OrNodes.{name, left_of, made, root_of}
-use Rattle.arc_laws.proofs.BalanceLemmas.{left_of-is}
+use Rattle.roster_model.specs.tree_laws.LeastTrees.{HasDaySum, HoldsLeastTree}
+use Rattle.roster_model.specs.tree_laws.Laws.{arc_at}
+use Rattle.roster_model.specs.tree_laws.Parts.{first}
+use Rattle.roster_model.specs.arc_laws.OrNodes.{name, left_of, made, root_of}
+use Rattle.roster_model.proofs.arc_laws.BalanceLemmas.{left_of-is}
 use Rattle.bound_laws.specs.DutyTrees.{own_rules}
 use Rattle.bound_laws.proofs.Groups.{IsExtended, added_rule}
 use Rattle.bound_laws.proofs.SoundGroups.{is-extended}

@@ -7,13 +7,13 @@ use Rattle.roster_model.specs.SoundInstance.{IsSoundInstance, HasGroups}
 use Rattle.roster_model.specs.Folds.{In}
 use Rattle.roster_model.specs.Teams.{Team, teams, teams_of, teams_from}
 use Rattle.roster_model.specs.Trees.{Parts, done, letter, uses, IsDayTree, steps}
-use Rattle.tree_laws.specs.Parts.{root}
+use Rattle.roster_model.specs.tree_laws.Parts.{root}
 use Rattle.bound_laws.specs.DutyTrees.{own_rules}
 use Rattle.bound_laws.specs.Laws.{IsOfTeam}
 use Rattle.bound_laws.proofs.DayTeams.{team-of}
 use Rattle.certificates.specs.Sound.{IsGroupNumber}
 use Rattle.candidate_rosters.specs.Spelled.{IsOfNumber}
-use Rattle.tree_laws.specs.DaySteps.{AreDaySteps}
+use Rattle.roster_model.specs.tree_laws.DaySteps.{AreDaySteps}
 
 -- the numbers of teams are those of groups
 from_number : (k : ℕ) (gs : List Group) (t : Team) → In t (teams_from k gs) → (k ≤ t.number) × (t.number < k + length gs)

@@ -7,8 +7,8 @@ use Rattle.roster_model.specs.declared.grammar.Step.{Step}
 use Rattle.roster_model.specs.declared.grammar.Sym.TheVariants.{Name}
 use Rattle.roster_model.specs.Folds.{Each}
 use Rattle.roster_model.specs.Trees.{Parts, IsDayTree, steps}
-use Rattle.grammar_core.proofs.ListsLemmas.{same-steps}
-use Rattle.tree_laws.specs.DaySteps.{AreDaySteps}
+use Rattle.tree_pool.proofs.grammar_core.ListsLemmas.{same-steps}
+use Rattle.roster_model.specs.tree_laws.DaySteps.{AreDaySteps}
 use Rattle.std.proofs.lemmas.Option.{slice_get_within, get_or_from_slice_get, slice_get-get_or}
 use Rattle.std.proofs.lemmas.List.{append-nil, get_or_append_left}
 use Rattle.tree_pool.specs.Pools.{PoolTree, IsPoolTree, IsPool, IsGrown}

@@ -21,7 +21,7 @@ use Rattle.tree_pool.specs.Pools.{PoolTree, IsPoolTree, IsPool}
 use Rattle.candidate_rosters.specs.Spelled.{IsTreeAt, IsOfNumber, IsTeamShift, IsShiftOf}
 use Rattle.candidate_rosters.proofs.Numbers.{group-number}
 use Rattle.candidate_rosters.proofs.TreeWords.{codes-exist, word-is, word-fine, word-long}
-use Rattle.tree_laws.specs.DaySteps.{AreDaySteps}
+use Rattle.roster_model.specs.tree_laws.DaySteps.{AreDaySteps}
 
 -- no price is great
 pub small_price : (i : Instance) → IsSoundInstance i → (t : Parts) (x : ℕ) (price : ℕ) → (d : Rattle.roster_model.specs.Trees.IsTreeOf i.grammar x t) → cost i.grammar t ≡ price → price ≤ 2 ^ 40

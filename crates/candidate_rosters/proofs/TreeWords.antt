@@ -17,8 +17,8 @@ use Rattle.roster_model.proofs.EachLemmas.{Each-append}
 use Rattle.bound_laws.proofs.ReadyInstances.{IsCode, IsSymbol, HasCodes}
 use Rattle.bound_laws.proofs.SoundCodes.{has-codes}
 use Rattle.certificates.specs.Sound.{IsWordByte}
-use Rattle.tree_laws.proofs.Rules.{All-slice_get}
-use Rattle.tree_laws.specs.Letters.{codes_of}
+use Rattle.roster_model.proofs.tree_laws.Rules.{All-slice_get}
+use Rattle.roster_model.specs.tree_laws.Letters.{codes_of}
 use Rattle.tree_pool.specs.Pools.{PoolTree, letters_from, IsPoolTree}
 use Rattle.tree_pool.proofs.LettersLemmas.{letters-are, length-codes}
 

@@ -9,7 +9,7 @@ use Rattle.parse_graph.specs.Graphs.{GraphView}
 use Rattle.tree_pool.specs.Pools.{PoolTree}
 use Rattle.candidate_rosters.specs.declared.roster.Roster.{Roster}
 use Rattle.candidate_rosters.specs.Rosters.{IsGoodRoster, AreTreesAt, CostsAtMost}
-use Rattle.search_day.specs.declared.day.Day.{Day}
+use Rattle.master_rows.specs.declared.search_day.day.Day.{Day}
 use Rattle.candidate_rosters.specs.Offers.{CanBeTrees, HaveCountsOf}
 
 -- the columns are trees that have the counts

@@ -8,7 +8,7 @@ use Rattle.roster_model.specs.Room.{RoomView}
 use Rattle.roster_model.specs.Sums.{PriceView, tree_sum}
 use Rattle.roster_model.specs.Teams.{Team, teams}
 use Rattle.roster_model.specs.Trees.{Parts, IsDayTree, steps}
-use Rattle.tree_laws.specs.Parts.{root}
+use Rattle.roster_model.specs.tree_laws.Parts.{root}
 use Rattle.bound_laws.specs.DutyTrees.{own_rules}
 use Rattle.tree_pool.specs.Pools.{PoolTree}
 use Rattle.candidate_rosters.specs.Rosters.{AreTreesAt}

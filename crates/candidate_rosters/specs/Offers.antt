@@ -6,19 +6,19 @@ use Rattle.roster_model.specs.declared.instance.Instance.{Instance}
 use Rattle.roster_model.specs.Cuts.{Meets, base_cuts}
 use Rattle.roster_model.specs.Folds.{Each}
 use Rattle.roster_model.specs.Trees.{Parts}
-use Rattle.arc_laws.specs.Lists.{AreArcs}
-use Rattle.arc_laws.specs.Balance.{IsBalanced}
-use Rattle.linear_programs.specs.Solution.{Weighted}
+use Rattle.roster_model.specs.arc_laws.Lists.{AreArcs}
+use Rattle.roster_model.specs.arc_laws.Balance.{IsBalanced}
+use Rattle.bound_laws.specs.linear_programs.Solution.{Weighted}
 use Rattle.bound_laws.specs.TreeRosters.{IsTreeRoster, trees_cost}
 use Rattle.bound_laws.specs.Counted.{HaveCounts}
-use Rattle.certificate_laws.specs.Accepted.{bound_number}
-use Rattle.master_laws.specs.Master.{MasterKey}
-use Rattle.master_laws.specs.Sharp.{UsesArtificial}
+use Rattle.certificates.specs.certificate_laws.Accepted.{bound_number}
+use Rattle.bound_laws.specs.master_laws.Master.{MasterKey}
+use Rattle.bound_laws.specs.master_laws.Sharp.{UsesArtificial}
 use Rattle.parse_graph.specs.Graphs.{GraphView}
-use Rattle.roster_split.specs.Counts.{count_of}
+use Rattle.arc_counts.specs.roster_split.Counts.{count_of}
 use Rattle.candidate_rosters.specs.declared.roster.Roster.{Roster}
 use Rattle.candidate_rosters.specs.Rosters.{IsGoodRoster}
-use Rattle.search_day.specs.declared.day.Day.{Day}
+use Rattle.master_rows.specs.declared.search_day.day.Day.{Day}
 use Rattle.candidate_rosters.specs.Starts.{StartsWith}
 
 -- the cost of the best roster, none where there is no roster

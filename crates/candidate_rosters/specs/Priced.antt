@@ -2,9 +2,9 @@
 use Rattle.roster_model.specs.PriceRooms.{price_view}
 use Rattle.roster_model.specs.Sums.{PriceView}
 use Rattle.cheapest_tree.specs.Pricers.{PricerView, IsMadeFor, IsFilled}
-use Rattle.search_day.specs.declared.day.Day.{Day}
-use Rattle.search_day.specs.declared.pricing.Pricing.{Pricing}
-use Rattle.search_day.specs.Days.{IsDay}
+use Rattle.master_rows.specs.declared.search_day.day.Day.{Day}
+use Rattle.master_rows.specs.declared.search_day.pricing.Pricing.{Pricing}
+use Rattle.master_rows.specs.search_day.Days.{IsDay}
 use Rattle.candidate_rosters.specs.Leaders.{AreCosts}
 
 -- the day is sound, and the pricer is its graph's, and filled for the prices

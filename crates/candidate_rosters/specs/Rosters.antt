@@ -13,7 +13,7 @@ use Rattle.bound_laws.specs.TreeRosters.{IsTreeRoster, trees_cost}
 use Rattle.span_table.specs.Tables.{IsMadeFor}
 use Rattle.certificates.specs.RosterCauses.{duties, stated_prices}
 use Rattle.certificates.specs.Sound.{IsGroupNumber, IsSoundShift}
-use Rattle.certificate_laws.specs.Accepted.{IsStated}
+use Rattle.certificates.specs.certificate_laws.Accepted.{IsStated}
 use Rattle.tree_pool.specs.Pools.{PoolTree, IsPoolTree}
 use Rattle.candidate_rosters.specs.declared.roster.Roster.{Roster}
 use Rattle.candidate_rosters.specs.declared.desk.RosterDesk.{RosterDesk}

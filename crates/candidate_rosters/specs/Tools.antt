@@ -1,8 +1,8 @@
 -- What it takes to find rosters: a pool of trees, and a desk.
 use Rattle.std.specs.Prelude.{List}
 use Rattle.tree_pool.specs.Pools.{PoolTree, IsPool}
-use Rattle.search_day.specs.declared.day.Day.{Day}
-use Rattle.search_day.specs.Rooms.{Grows}
+use Rattle.master_rows.specs.declared.search_day.day.Day.{Day}
+use Rattle.master_rows.specs.search_day.Rooms.{Grows}
 use Rattle.candidate_rosters.specs.declared.desk.RosterDesk.{RosterDesk}
 use Rattle.candidate_rosters.specs.Rosters.{IsDeskFor}
 

@@ -1,10 +1,10 @@
 ghost use Rattle.std.specs.Prelude.{OnOk};
-ghost use Rattle.search_day.specs.Days.{IsDay};
-ghost use Rattle.search_day.specs.Rooms.{ArePricing, StayPricing};
+ghost use Rattle.master_rows.specs.search_day.Days.{IsDay};
+ghost use Rattle.master_rows.specs.search_day.Rooms.{ArePricing, StayPricing};
 ghost use Rattle.candidate_rosters.specs.Priced.{IsPricedByCosts};
 
+use master_rows::{Day, Pricing};
 use roster_model::Memory;
-use search_day::{Day, Pricing};
 use std::alloc::Global;
 
 /// Sets the prices under which the sum of a tree of the day is its cost, and fills the pricer for them.

@@ -3,9 +3,9 @@ ghost use Rattle.roster_model.specs.declared.grammar.Grammar.{Grammar as Rules};
 ghost use Rattle.roster_model.specs.Sound.{IsSound};
 ghost use Rattle.parse_graph.specs.Graphs.{HasGrammar, IsGraph};
 ghost use Rattle.tree_pool.specs.Pools.{IsPool};
-ghost use Rattle.roster_split.specs.Splits.{HasBalance, IsSplit};
-ghost use Rattle.search_day.specs.Days.{IsDay};
-ghost use Rattle.search_day.specs.Rooms.{Grows};
+ghost use Rattle.arc_counts.specs.roster_split.Splits.{HasBalance, IsSplit};
+ghost use Rattle.master_rows.specs.search_day.Days.{IsDay};
+ghost use Rattle.master_rows.specs.search_day.Rooms.{Grows};
 ghost use Rattle.candidate_rosters.specs.Rosters.{IsGoodRoster};
 ghost use Rattle.candidate_rosters.specs.Offers.{IsBetter, CanBeTrees, IsReached};
 ghost use Rattle.candidate_rosters.specs.Finding.{AreFoundColumns, IsOfCounts};
@@ -13,10 +13,10 @@ ghost use Rattle.candidate_rosters.specs.Tools.{AreTools, StayTools};
 
 use crate::best::offer;
 use crate::{Roster, RosterDesk, columns_of, roster_of};
+use arc_counts::{SplitFault, split};
+use master_rows::Day;
 use parse_graph::Graph;
 use roster_model::{List, Memory, Step};
-use roster_split::{SplitFault, split};
-use search_day::Day;
 use std::alloc::Global;
 use tree_pool::Pool;
 

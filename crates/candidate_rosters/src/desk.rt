@@ -2,8 +2,8 @@ ghost use Rattle.std.specs.Prelude.{IfOk};
 ghost use Rattle.roster_model.specs.SoundInstance.{IsSoundInstance};
 ghost use Rattle.candidate_rosters.specs.Rosters.{IsDeskFor};
 
+use check_parts::ShiftRoom;
 use roster_model::{Instance, Memory};
-use roster_part::ShiftRoom;
 use span_table::Table;
 use std::alloc::Global;
 

@@ -5,13 +5,13 @@ ghost use Rattle.roster_model.specs.Room.{most_uses};
 ghost use Rattle.roster_model.specs.SoundInstance.{IsSoundInstance};
 ghost use Rattle.roster_model.specs.Teams.{teams};
 ghost use Rattle.bound_laws.specs.DutyTrees.{own_rules};
-ghost use Rattle.roster_part.specs.TeamViews.{team_view};
+ghost use Rattle.check_parts.specs.roster_part.TeamViews.{team_view};
 ghost use Rattle.candidate_rosters.specs.Leaders.{TellsLeader};
 ghost use Rattle.candidate_rosters.specs.Priced.{IsPricedByCosts};
 
+use check_parts::Team;
+use master_rows::{Day, Pricing};
 use roster_model::{ArcKey, Instance, TreeRoom, group_arc};
-use roster_part::Team;
-use search_day::{Day, Pricing};
 
 /// Returns the arc by which the rule of a team that is a group stands on the whole day.
 pub fn team_arc(instance: &Instance, team: &Team) -> ArcKey

@@ -2,16 +2,16 @@ ghost use Rattle.std.specs.Prelude.{◌≡◌, ◌++◌, IfOk, OnOk};
 ghost use Rattle.roster_model.specs.Folds.{In};
 ghost use Rattle.roster_model.specs.Room.{most_uses};
 ghost use Rattle.roster_model.specs.Teams.{teams};
-ghost use Rattle.roster_part.specs.TeamViews.{team_view};
+ghost use Rattle.check_parts.specs.roster_part.TeamViews.{team_view};
 ghost use Rattle.tree_pool.specs.Pools.{IsPool};
-ghost use Rattle.search_day.specs.Rooms.{Grows};
+ghost use Rattle.master_rows.specs.search_day.Rooms.{Grows};
 ghost use Rattle.candidate_rosters.specs.Leaders.{AddsTeam, FindsLeaders, numbers_like};
 ghost use Rattle.candidate_rosters.specs.Priced.{IsPricedByCosts};
 
 use crate::lead::lead;
+use check_parts::{Team, team_at, team_count};
+use master_rows::{Day, Pricing};
 use roster_model::{List, Memory, TreeRoom};
-use roster_part::{Team, team_at, team_count};
-use search_day::{Day, Pricing};
 use std::alloc::Global;
 use tree_pool::Pool;
 

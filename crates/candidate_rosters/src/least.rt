@@ -1,6 +1,6 @@
 ghost use Rattle.std.specs.Prelude.{IfOk};
-ghost use Rattle.search_day.specs.Days.{IsDay};
-ghost use Rattle.search_day.specs.Rooms.{ArePricing, StayPricing};
+ghost use Rattle.master_rows.specs.search_day.Days.{IsDay};
+ghost use Rattle.master_rows.specs.search_day.Rooms.{ArePricing, StayPricing};
 ghost use Rattle.candidate_rosters.specs.Starts.{IsFirstRoster};
 ghost use Rattle.candidate_rosters.specs.Tools.{AreTools, StayTools};
 
@@ -8,8 +8,8 @@ use crate::costs::price_by_costs;
 use crate::desk::RosterDesk;
 use crate::leaders::leaders;
 use crate::roster::{Roster, roster_of};
+use master_rows::{Day, Pricing};
 use roster_model::Memory;
-use search_day::{Day, Pricing};
 use std::alloc::Global;
 use tree_pool::Pool;
 

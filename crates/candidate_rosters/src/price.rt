@@ -6,8 +6,8 @@ ghost use Rattle.candidate_rosters.specs.Again.{IsPriceOf};
 ghost use Rattle.candidate_rosters.specs.Spelled.{IsTeamShift};
 
 use crate::desk::RosterDesk;
+use check_parts::{ShiftRoom, StatedShift, least_price};
 use roster_model::Instance;
-use roster_part::{ShiftRoom, StatedShift, least_price};
 
 // How many prices are known at most.
 const MOST_KNOWN: usize = 64;

@@ -7,8 +7,8 @@ ghost use Rattle.candidate_rosters.specs.Rosters.{IsRosterOf};
 
 use crate::desk::RosterDesk;
 use crate::shifts::shifts_of;
+use check_parts::{coverage_fault, heads_fault, stated_cost};
 use roster_model::{Instance, List, Memory, Shift};
-use roster_part::{coverage_fault, heads_fault, stated_cost};
 use std::alloc::Global;
 use tree_pool::Pool;
 

@@ -5,7 +5,7 @@ use Rattle.roster_model.specs.declared.instance.Cut.{Cut}
 use Rattle.roster_model.specs.declared.instance.Instance.{Instance}
 use Rattle.roster_model.specs.Arcs.{IsArc}
 use Rattle.roster_model.specs.Cuts.{lo, hi}
-use Rattle.arc_laws.specs.Loose.{IsLoose, IsFirstLoose}
+use Rattle.roster_model.specs.arc_laws.Loose.{IsLoose, IsFirstLoose}
 use Rattle.certificates.specs.declared.cert.Node.{Node}
 use Rattle.certificates.specs.declared.cert.Node.TheVariants.{Split, Priced, Pinned, Bare}
 use Rattle.certificates.specs.First.{IsFirst}

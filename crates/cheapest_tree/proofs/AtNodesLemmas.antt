@@ -9,12 +9,12 @@ use Rattle.roster_model.specs.Grammar.{InDay}
 use Rattle.roster_model.specs.Trees.{Parts, done, letter, uses, On}
 use Rattle.roster_model.specs.Folds.{In}
 use Rattle.roster_model.specs.Arcs.{parts_arcs, IsArc}
-use Rattle.tree_laws.specs.Laws.{arc_at}
-use Rattle.tree_laws.specs.Parts.{first}
-use Rattle.arc_laws.specs.OrNodes.{OrNode, name, suffix, leaf, right_of, made_by, made}
-use Rattle.arc_laws.proofs.BalanceLemmas.{left_of-is, right_of-is}
-use Rattle.arc_laws.specs.AtNodes.{IsAt}
-use Rattle.arc_laws.proofs.PartCuts.{IsCut}
+use Rattle.roster_model.specs.tree_laws.Laws.{arc_at}
+use Rattle.roster_model.specs.tree_laws.Parts.{first}
+use Rattle.roster_model.specs.arc_laws.OrNodes.{OrNode, name, suffix, leaf, right_of, made_by, made}
+use Rattle.roster_model.proofs.arc_laws.BalanceLemmas.{left_of-is, right_of-is}
+use Rattle.roster_model.specs.arc_laws.AtNodes.{IsAt}
+use Rattle.roster_model.proofs.arc_laws.PartCuts.{IsCut}
 use Rattle.parse_graph.specs.Graphs.{GraphView, IsGraph}
 use Rattle.span_arcs.specs.Marks.{TreesStand, PartsStand}
 use Rattle.cheapest_tree.specs.AtNodes.{top_arc}

@@ -12,7 +12,7 @@ use Rattle.roster_model.specs.Folds.{In}
 use Rattle.roster_model.specs.RoomPrices.{entry_price, listed_price}
 use Rattle.roster_model.specs.Sums.{Within}
 use Rattle.roster_model.proofs.EachLemmas.{get-in}
-use Rattle.arc_laws.proofs.SameArc.{Told, arc_tells, same_arc-refl}
+use Rattle.roster_model.proofs.arc_laws.SameArc.{Told, arc_tells, same_arc-refl}
 use Rattle.cheapest_tree.specs.Extras.{number_at, AreWithin, AreFreeBut, IsAdded}
 
 before_or_last : (i n : ℕ) → n ≤ i → (n + 1 ≤ i) ⊎ (i ≡ n)

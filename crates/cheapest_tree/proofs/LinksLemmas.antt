@@ -7,7 +7,7 @@ use Rattle.std.proofs.lemmas.List.{get_or_append_left, get_or-set_other, take_at
 use Rattle.roster_model.specs.declared.grammar.ArcKey.{ArcKey}
 use Rattle.roster_model.specs.declared.grammar.Grammar.{Grammar}
 use Rattle.roster_model.specs.Sums.{PriceView}
-use Rattle.arc_laws.specs.OrNodes.{made, used}
+use Rattle.roster_model.specs.arc_laws.OrNodes.{made, used}
 use Rattle.parse_graph.specs.Graphs.{GraphView, IsGraph, AreKids}
 use Rattle.parse_graph.specs.declared.kid.Kid.{Kid}
 use Rattle.parse_graph.specs.declared.kid.Kid.TheVariants.{Nothing, Letter, Node}

@@ -5,7 +5,7 @@ use Rattle.std.proofs.lemmas.List.{get_or-set_same, get_or-set_other, length-set
 use Rattle.std.proofs.lemmas.Grind.{get_or_default_zero}
 use Rattle.std.proofs.lemmas.Bool.{cases_eq, cases_lt}
 use Rattle.span_cells.proofs.CellsLemmas.{same-row}
-use Rattle.tree_laws.proofs.ListPushes.{push-kept, push-here}
+use Rattle.roster_model.proofs.tree_laws.ListPushes.{push-kept, push-here}
 use Rattle.cheapest_tree.specs.declared.slots.Spot.{Spot}
 use Rattle.cheapest_tree.specs.Numbering.{AreNumbered, Grows}
 

@@ -14,7 +14,7 @@ use Rattle.cheapest_tree.specs.Extras.{number_at, AreCosts}
 use Rattle.cheapest_tree.specs.Numbers.{Limits, AreLimits, sum_but, IsBetter, AreRules}
 use Rattle.cheapest_tree.specs.Orders.{code_of}
 use Rattle.cheapest_tree.specs.Passes.{maker_price, CanAdd, CanPass}
-use Rattle.tree_laws.proofs.LeastValues.{AtMost-refl}
+use Rattle.roster_model.proofs.tree_laws.LeastValues.{AtMost-refl}
 
 -- the sum that a number stands for, where one number stands for none
 abbrev Is : ℕ → ℤ → Option ℤ → Type 0

@@ -8,15 +8,15 @@ use Rattle.roster_model.specs.declared.grammar.Sym.{Sym}
 use Rattle.roster_model.specs.declared.grammar.Sym.TheVariants.{Code, Name}
 use Rattle.roster_model.specs.Trees.{Parts, done, uses, span_length, On, steps}
 use Rattle.roster_model.specs.Sums.{PriceView, plus, tree_sum, parts_sum}
-use Rattle.tree_laws.specs.Laws.{arc_at}
-use Rattle.tree_laws.specs.Parts.{first, use_count, beside}
-use Rattle.tree_laws.proofs.Splits.{joined}
-use Rattle.tree_laws.proofs.Ends.{last_sum, only_sum, rooted}
-use Rattle.tree_laws.proofs.Size.{steps-beside, use_count-beside}
-use Rattle.arc_laws.specs.OrNodes.{OrNode, left_of, right_of, made, symbol_node, used_by, used}
-use Rattle.arc_laws.proofs.BalanceLemmas.{left_of-is, right_of-is, drop-next}
-use Rattle.arc_laws.specs.AtNodes.{IsAt, steps_of}
-use Rattle.arc_laws.proofs.PartCuts.{Fits, IsCut}
+use Rattle.roster_model.specs.tree_laws.Laws.{arc_at}
+use Rattle.roster_model.specs.tree_laws.Parts.{first, use_count, beside}
+use Rattle.roster_model.proofs.tree_laws.Splits.{joined}
+use Rattle.roster_model.proofs.tree_laws.Ends.{last_sum, only_sum, rooted}
+use Rattle.roster_model.proofs.tree_laws.Size.{steps-beside, use_count-beside}
+use Rattle.roster_model.specs.arc_laws.OrNodes.{OrNode, left_of, right_of, made, symbol_node, used_by, used}
+use Rattle.roster_model.proofs.arc_laws.BalanceLemmas.{left_of-is, right_of-is, drop-next}
+use Rattle.roster_model.specs.arc_laws.AtNodes.{IsAt, steps_of}
+use Rattle.roster_model.proofs.arc_laws.PartCuts.{Fits, IsCut}
 use Rattle.cheapest_tree.specs.AtNodes.{sum_at, top_arc, arc_total}
 use Rattle.cheapest_tree.proofs.StandLemmas.{Standing}
 use Rattle.cheapest_tree.proofs.TopArcLemmas.{plus-nothing, only-first}

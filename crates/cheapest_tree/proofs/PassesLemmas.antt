@@ -11,11 +11,11 @@ use Rattle.roster_model.specs.Trees.{Parts, IsDayTree}
 use Rattle.roster_model.specs.Folds.{In}
 use Rattle.roster_model.specs.Sound.{IsSound}
 use Rattle.roster_model.specs.Sums.{PriceView, Within, AllWithin, IsLeast, tree_sum}
-use Rattle.tree_laws.proofs.LeastValues.{IsLeast-empty}
-use Rattle.tree_laws.proofs.Ends.{code-least, last_sum}
-use Rattle.tree_laws.proofs.Bounds.{sum-small}
-use Rattle.arc_laws.specs.OrNodes.{OrNode, name, suffix, leaf, used, root_of}
-use Rattle.arc_laws.specs.AtNodes.{IsAt}
+use Rattle.roster_model.proofs.tree_laws.LeastValues.{IsLeast-empty}
+use Rattle.roster_model.proofs.tree_laws.Ends.{code-least, last_sum}
+use Rattle.roster_model.proofs.tree_laws.Bounds.{sum-small}
+use Rattle.roster_model.specs.arc_laws.OrNodes.{OrNode, name, suffix, leaf, used, root_of}
+use Rattle.roster_model.specs.arc_laws.AtNodes.{IsAt}
 use Rattle.parse_graph.specs.Graphs.{GraphView, IsGraph, IsKid, AreKids, IsRoot}
 use Rattle.parse_graph.specs.declared.kid.Kid.{Kid}
 use Rattle.cheapest_tree.specs.declared.slots.Spot.{Spot}

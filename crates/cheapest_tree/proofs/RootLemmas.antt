@@ -6,14 +6,14 @@ use Rattle.roster_model.specs.declared.grammar.Step.{Step}
 use Rattle.roster_model.specs.Room.{RoomView, most_uses}
 use Rattle.roster_model.specs.Trees.{Parts, IsDayTree, steps}
 use Rattle.roster_model.specs.Sums.{PriceView, tree_sum}
-use Rattle.tree_laws.specs.Parts.{use_count}
-use Rattle.tree_laws.proofs.Bounds.{few-steps}
-use Rattle.tree_laws.proofs.Size.{length-steps}
-use Rattle.arc_laws.specs.OrNodes.{root_of}
+use Rattle.roster_model.specs.tree_laws.Parts.{use_count}
+use Rattle.roster_model.proofs.tree_laws.Bounds.{few-steps}
+use Rattle.roster_model.proofs.tree_laws.Size.{length-steps}
+use Rattle.roster_model.specs.arc_laws.OrNodes.{root_of}
 use Rattle.parse_graph.specs.Graphs.{GraphView, IsRoot}
 use Rattle.cheapest_tree.specs.declared.slots.Links.{Links}
-use Rattle.tree_laws.specs.LeastTrees.{HoldsLeastTree}
-use Rattle.tree_laws.proofs.LeastValues.{least_there}
+use Rattle.roster_model.specs.tree_laws.LeastTrees.{HoldsLeastTree}
+use Rattle.roster_model.proofs.tree_laws.LeastValues.{least_there}
 use Rattle.cheapest_tree.specs.Pricers.{PricerView, value_at, IsMadeFor, AsksTree}
 use Rattle.cheapest_tree.specs.Walks.{AsksNode, WritesAt, WritesNode}
 

@@ -10,11 +10,11 @@ use Rattle.roster_model.specs.declared.grammar.Grammar.{Grammar}
 use Rattle.roster_model.specs.Sound.{IsSound}
 use Rattle.roster_model.specs.Sums.{PriceView, Within, AllWithin, IsLeast}
 use Rattle.roster_model.specs.Trees.{Parts}
-use Rattle.tree_laws.proofs.LeastValues.{IsLeast-empty, IsLeast-same, IsLeast-union}
-use Rattle.tree_laws.proofs.Ends.{code-least}
-use Rattle.arc_laws.specs.OrNodes.{OrNode, name, suffix, leaf, same_node, made, used}
-use Rattle.arc_laws.proofs.Totals.{same_node-refl}
-use Rattle.arc_laws.specs.AtNodes.{IsAt}
+use Rattle.roster_model.proofs.tree_laws.LeastValues.{IsLeast-empty, IsLeast-same, IsLeast-union}
+use Rattle.roster_model.proofs.tree_laws.Ends.{code-least}
+use Rattle.roster_model.specs.arc_laws.OrNodes.{OrNode, name, suffix, leaf, same_node, made, used}
+use Rattle.roster_model.proofs.arc_laws.Totals.{same_node-refl}
+use Rattle.roster_model.specs.arc_laws.AtNodes.{IsAt}
 use Rattle.parse_graph.specs.Graphs.{GraphView, IsGraph, HasGrammar, IsKid, AreKids, places, places_from}
 use Rattle.parse_graph.specs.declared.kid.Kid.{Kid}
 use Rattle.span_cells.proofs.ChoicesLemmas.{on_some}

@@ -9,10 +9,10 @@ use Rattle.roster_model.specs.Grammar.{rule_at, Stands, InDay}
 use Rattle.roster_model.specs.Trees.{Parts, done, letter, uses, span_length, Derive, On}
 use Rattle.roster_model.specs.Folds.{In}
 use Rattle.roster_model.specs.Arcs.{arcs, parts_arcs, IsArc}
-use Rattle.tree_laws.specs.Laws.{arc_at}
-use Rattle.tree_laws.specs.Parts.{beside}
-use Rattle.arc_laws.proofs.BalanceLemmas.{drop-next}
-use Rattle.arc_laws.proofs.PartCuts.{Fits, LastFits, IsCut}
+use Rattle.roster_model.specs.tree_laws.Laws.{arc_at}
+use Rattle.roster_model.specs.tree_laws.Parts.{beside}
+use Rattle.roster_model.proofs.arc_laws.BalanceLemmas.{drop-next}
+use Rattle.roster_model.proofs.arc_laws.PartCuts.{Fits, LastFits, IsCut}
 use Rattle.span_arcs.specs.Marks.{TreesStand, PartsStand}
 use Rattle.span_arcs.proofs.StandLemmas.{In-either, some-covered, beside-arcs, last-arcs, only-arcs, first-stands, rest-stands, last-stands, only-stands, right-stands}
 use Rattle.span_arcs.proofs.MarksLemmas.{day-stands}

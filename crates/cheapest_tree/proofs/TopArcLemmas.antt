@@ -10,15 +10,15 @@ use Rattle.roster_model.specs.declared.grammar.Sym.TheVariants.{Code, Name}
 use Rattle.roster_model.specs.Grammar.{rule_at, Stands}
 use Rattle.roster_model.specs.Trees.{Parts, done, letter, uses, Derive, On}
 use Rattle.roster_model.specs.Sums.{PriceView, plus, tree_sum, parts_sum, IsLeast, AtMost, SymbolLeast, PartsLeast}
-use Rattle.tree_laws.specs.Laws.{arc_at}
-use Rattle.tree_laws.specs.Parts.{first}
-use Rattle.tree_laws.proofs.LeastValues.{IsLeast-same}
-use Rattle.tree_laws.proofs.Splits.{split-least}
-use Rattle.tree_laws.proofs.Ends.{last-least, only-least, rooted}
-use Rattle.arc_laws.specs.OrNodes.{OrNode, name, suffix, left_of, right_of, made_by, made, symbol_node, rest_node, used_by, used}
-use Rattle.arc_laws.proofs.BalanceLemmas.{left_of-is, right_of-is, drop-next}
-use Rattle.arc_laws.specs.AtNodes.{IsAt}
-use Rattle.arc_laws.proofs.PartCuts.{Fits, LastFits, IsCut}
+use Rattle.roster_model.specs.tree_laws.Laws.{arc_at}
+use Rattle.roster_model.specs.tree_laws.Parts.{first}
+use Rattle.roster_model.proofs.tree_laws.LeastValues.{IsLeast-same}
+use Rattle.roster_model.proofs.tree_laws.Splits.{split-least}
+use Rattle.roster_model.proofs.tree_laws.Ends.{last-least, only-least, rooted}
+use Rattle.roster_model.specs.arc_laws.OrNodes.{OrNode, name, suffix, left_of, right_of, made_by, made, symbol_node, rest_node, used_by, used}
+use Rattle.roster_model.proofs.arc_laws.BalanceLemmas.{left_of-is, right_of-is, drop-next}
+use Rattle.roster_model.specs.arc_laws.AtNodes.{IsAt}
+use Rattle.roster_model.proofs.arc_laws.PartCuts.{Fits, LastFits, IsCut}
 use Rattle.cheapest_tree.specs.AtNodes.{sum_at, NodeLeast, top_arc, arc_total, with_rule}
 use Rattle.cheapest_tree.proofs.StandLemmas.{Standing}
 

@@ -11,12 +11,12 @@ use Rattle.roster_model.specs.Trees.{Parts, done, letter, uses, On, steps}
 use Rattle.roster_model.specs.Folds.{In}
 use Rattle.roster_model.specs.Sums.{PriceView, plus, IsLeast}
 use Rattle.roster_model.specs.Room.{RoomView}
-use Rattle.tree_laws.specs.Parts.{use_count}
-use Rattle.tree_laws.proofs.LeastValues.{IsLeast-one, left_there, right_there, at_sum}
-use Rattle.tree_laws.proofs.Size.{length-steps}
-use Rattle.arc_laws.specs.OrNodes.{OrNode, name, suffix, leaf, made, used_by, used}
-use Rattle.arc_laws.specs.AtNodes.{IsAt, start_of, steps_of}
-use Rattle.arc_laws.proofs.AtNodesLemmas.{made_start}
+use Rattle.roster_model.specs.tree_laws.Parts.{use_count}
+use Rattle.roster_model.proofs.tree_laws.LeastValues.{IsLeast-one, left_there, right_there, at_sum}
+use Rattle.roster_model.proofs.tree_laws.Size.{length-steps}
+use Rattle.roster_model.specs.arc_laws.OrNodes.{OrNode, name, suffix, leaf, made, used_by, used}
+use Rattle.roster_model.specs.arc_laws.AtNodes.{IsAt, start_of, steps_of}
+use Rattle.roster_model.proofs.arc_laws.AtNodesLemmas.{made_start}
 use Rattle.parse_graph.specs.Graphs.{GraphView, IsKid, AreKids}
 use Rattle.parse_graph.specs.declared.kid.Kid.{Kid}
 use Rattle.parse_graph.specs.declared.kid.Kid.TheVariants.{Nothing}

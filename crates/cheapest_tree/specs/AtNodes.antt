@@ -4,10 +4,10 @@ use Rattle.roster_model.specs.declared.grammar.ArcKey.{ArcKey}
 use Rattle.roster_model.specs.declared.grammar.Grammar.{Grammar}
 use Rattle.roster_model.specs.Trees.{Parts, done, letter, uses}
 use Rattle.roster_model.specs.Sums.{PriceView, plus, tree_sum, parts_sum, IsLeast}
-use Rattle.arc_laws.specs.OrNodes.{OrNode, name, suffix, leaf}
-use Rattle.arc_laws.specs.AtNodes.{IsAt}
-use Rattle.tree_laws.specs.Parts.{first, root}
-use Rattle.tree_laws.specs.Laws.{arc_at}
+use Rattle.roster_model.specs.arc_laws.OrNodes.{OrNode, name, suffix, leaf}
+use Rattle.roster_model.specs.arc_laws.AtNodes.{IsAt}
+use Rattle.roster_model.specs.tree_laws.Parts.{first, root}
+use Rattle.roster_model.specs.tree_laws.Laws.{arc_at}
 
 -- the sum of what stands at a node
 abbrev pub sum_at : PriceView → OrNode → Parts → Option ℤ

@@ -4,8 +4,8 @@ use Rattle.roster_model.specs.declared.grammar.ArcKey.{ArcKey}
 use Rattle.roster_model.specs.declared.grammar.Grammar.{Grammar}
 use Rattle.roster_model.specs.Sums.{PriceView, Within, IsLeast}
 use Rattle.roster_model.specs.Sound.{IsSound}
-use Rattle.arc_laws.specs.OrNodes.{OrNode}
-use Rattle.arc_laws.specs.AtNodes.{IsAt}
+use Rattle.roster_model.specs.arc_laws.OrNodes.{OrNode}
+use Rattle.roster_model.specs.arc_laws.AtNodes.{IsAt}
 use Rattle.parse_graph.specs.Graphs.{GraphView, IsGraph}
 use Rattle.cheapest_tree.specs.declared.order.Maker.{Maker}
 use Rattle.cheapest_tree.specs.declared.order.Order.{Order}

@@ -5,9 +5,9 @@ use Rattle.roster_model.specs.declared.grammar.Grammar.{Grammar}
 use Rattle.roster_model.specs.Sums.{PriceView, IsLeast}
 use Rattle.roster_model.specs.Room.{RoomView, most_uses}
 use Rattle.roster_model.specs.Sound.{IsSound}
-use Rattle.tree_laws.specs.LeastTrees.{HasDaySum}
-use Rattle.arc_laws.specs.OrNodes.{OrNode, made}
-use Rattle.arc_laws.specs.AtNodes.{IsAt}
+use Rattle.roster_model.specs.tree_laws.LeastTrees.{HasDaySum}
+use Rattle.roster_model.specs.arc_laws.OrNodes.{OrNode, made}
+use Rattle.roster_model.specs.arc_laws.AtNodes.{IsAt}
 use Rattle.parse_graph.specs.Graphs.{GraphView, IsGraph}
 use Rattle.cheapest_tree.specs.declared.order.Order.{Order}
 use Rattle.cheapest_tree.specs.declared.slots.Links.{Links}

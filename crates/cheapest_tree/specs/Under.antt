@@ -6,7 +6,7 @@ use Rattle.roster_model.specs.Trees.{Parts, IsDayTree, steps}
 use Rattle.roster_model.specs.Sums.{PriceView, tree_sum, IsLeast}
 use Rattle.roster_model.specs.Room.{RoomView, most_uses}
 use Rattle.roster_model.specs.Sound.{IsSound}
-use Rattle.arc_laws.specs.OrNodes.{made, root_of}
+use Rattle.roster_model.specs.arc_laws.OrNodes.{made, root_of}
 use Rattle.parse_graph.specs.Graphs.{GraphView, IsGraph}
 use Rattle.cheapest_tree.specs.declared.slots.Links.{Links}
 use Rattle.cheapest_tree.specs.AtNodes.{top_arc}

@@ -6,9 +6,9 @@ use Rattle.roster_model.specs.Trees.{Parts, steps}
 use Rattle.roster_model.specs.Sums.{PriceView, IsLeast}
 use Rattle.roster_model.specs.Room.{RoomView}
 use Rattle.roster_model.specs.Sound.{IsSound}
-use Rattle.tree_laws.specs.Parts.{use_count}
-use Rattle.arc_laws.specs.OrNodes.{OrNode}
-use Rattle.arc_laws.specs.AtNodes.{IsAt, start_of}
+use Rattle.roster_model.specs.tree_laws.Parts.{use_count}
+use Rattle.roster_model.specs.arc_laws.OrNodes.{OrNode}
+use Rattle.roster_model.specs.arc_laws.AtNodes.{IsAt, start_of}
 use Rattle.parse_graph.specs.Graphs.{GraphView, IsGraph}
 use Rattle.cheapest_tree.specs.declared.slots.Links.{Links}
 use Rattle.cheapest_tree.specs.AtNodes.{sum_at, NodeLeast, top_arc}

@@ -3,7 +3,7 @@ ghost use Rattle.roster_model.specs.declared.grammar.Grammar.{Grammar as Rules};
 ghost use Rattle.roster_model.specs.Sound.{IsSound};
 ghost use Rattle.roster_model.specs.Trees.{IsDayTree};
 ghost use Rattle.roster_model.specs.Sums.{IsLeast, tree_sum};
-ghost use Rattle.tree_laws.specs.LeastTrees.{HoldsLeastTree};
+ghost use Rattle.roster_model.specs.tree_laws.LeastTrees.{HoldsLeastTree};
 ghost use Rattle.parse_graph.specs.Graphs.{GraphView, HasGrammar, IsGraph};
 ghost use Rattle.roster_model.specs.declared.grammar.ArcKey.{ArcKey as Key};
 ghost use Rattle.cheapest_tree.specs.Pricers.{IsMadeFor, IsFilled, AsksTree};

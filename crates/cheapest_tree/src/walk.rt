@@ -1,5 +1,5 @@
 ghost use Rattle.std.specs.Prelude.{◌≡◌, ◌<◌, ◌++◌, length};
-ghost use Rattle.arc_laws.specs.AtNodes.{steps_of};
+ghost use Rattle.roster_model.specs.arc_laws.AtNodes.{steps_of};
 ghost use Rattle.cheapest_tree.specs.Walks.{AsksNode, WritesNode, AsksArc, WritesArc, AsksSlot, WritesSlot};
 
 use crate::slots::Links;

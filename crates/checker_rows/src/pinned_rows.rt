@@ -3,7 +3,7 @@ ghost use Rattle.roster_model.specs.SoundInstance.{IsSoundInstance};
 ghost use Rattle.span_arcs.specs.DayArcs.{IsDayArcsOf};
 
 use crate::days::{BLOCK_DAY, EXACT_DAY, FLOOR_DAY, PAIR_DAY};
-use pinned_part::{Balances, first_loose, high, low, pinned_value};
+use check_parts::{Balances, first_loose, high, low, pinned_value};
 use roster_model::{ArcKey, Cut, Instance, Side};
 use sample_days::{DayParts, PAIR_PARTS, sound_day};
 use span_arcs::DayArcs;

@@ -7,7 +7,7 @@ ghost use Rattle.span_table.specs.Tables.{IsMadeFor};
 
 use crate::days::{BLOCK_DAY, EXACT_DAY, FREE_DAY, GROUP_DAY, ONE_DAY, PAIR_DAY};
 use crate::pinned_rows::are_small;
-use priced_part::priced_value;
+use check_parts::priced_value;
 use roster_model::{ArcKey, Cell, Cut, Group, Instance, Mult, PriceRoom, Side, Sym, Window};
 use sample_days::{
     ANY, CELL, DayParts, FULL, GROUP_PARTS, HALF, PAIR_PARTS, REST, RuleParts, WORK, sound_day,

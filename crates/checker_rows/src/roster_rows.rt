@@ -6,8 +6,8 @@ ghost use Rattle.span_table.specs.Tables.{IsMadeFor};
 
 use crate::days::{BLOCK_DAY, EXACT_DAY, FULL_DAY, GROUP_DAY};
 use certificates::Why;
+use check_parts::{ShiftRoom, StatedShift, coverage_fault, roster_fault};
 use roster_model::{Group, Instance};
-use roster_part::{ShiftRoom, StatedShift, coverage_fault, roster_fault};
 use sample_days::{DayParts, sound_day};
 use span_table::Table;
 use std::alloc::Global;

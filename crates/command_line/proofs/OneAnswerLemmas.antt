@@ -16,10 +16,10 @@ use Rattle.search_commands.proofs.SolveLemmas.{as-parts}
 use Rattle.search_commands.proofs.CurveLemmas.{as-curve-parts}
 use Rattle.search_commands.proofs.ReuseLemmas.{reused-once}
 use Rattle.search_commands.specs.Series.{answered}
-use Rattle.what_if.specs.Rest.{Resting}
-use Rattle.what_if.specs.Value.{Valuation}
-use Rattle.what_if.proofs.Rests.{resting-once}
-use Rattle.what_if.proofs.Values.{value-once}
+use Rattle.text_commands.specs.what_if.Rest.{Resting}
+use Rattle.text_commands.specs.what_if.Value.{Valuation}
+use Rattle.text_commands.proofs.what_if.Rests.{resting-once}
+use Rattle.text_commands.proofs.what_if.Values.{value-once}
 use Rattle.text_commands.proofs.OnceLemmas.{judged-once, explain-once, from-once, held-once}
 use Rattle.answers.proofs.OnceLemmas.{proof-once, texts-once}
 use Rattle.answers.proofs.SaysLemmas.{as-texts, as-cert-texts}

@@ -8,8 +8,8 @@ use Rattle.answers.specs.RulesCommands.{RulesCommand}
 use Rattle.answers.specs.Says.{CertCommand}
 use Rattle.text_commands.specs.Start.{AnswersNoForm}
 use Rattle.answers.specs.TextCommands.{TextCommand}
-use Rattle.what_if.specs.Rest.{Resting}
-use Rattle.what_if.specs.Value.{Valuation}
+use Rattle.text_commands.specs.what_if.Rest.{Resting}
+use Rattle.text_commands.specs.what_if.Value.{Valuation}
 use Rattle.text_commands.specs.SameTexts.{AreSameButTree}
 use Rattle.command_line.specs.Form.{Form, explain, rank, next, fits, check, value, rest, reuse, solve, curve, make, none}
 use Rattle.search_commands.specs.CurveAnswers.{CurveAnswers}

@@ -17,8 +17,8 @@ use Rattle.search_commands.specs.Series.{IsSeriesWriter}
 use Rattle.search_commands.specs.Solve.{MasterView, from_names}
 use Rattle.search_commands.specs.SolveAnswers.{SolveAnswers}
 use Rattle.search_commands.specs.Writer.{IsWriter}
-use Rattle.what_if.specs.Rest.{Resting}
-use Rattle.what_if.specs.Value.{Valuation}
+use Rattle.text_commands.specs.what_if.Rest.{Resting}
+use Rattle.text_commands.specs.what_if.Value.{Valuation}
 
 -- over a shelf before and after, and with a master that was lent
 abbrev pub Does : Form → Told → Told → MasterView → ℕ → Type 0

@@ -22,8 +22,8 @@ use text_commands::fits::fits;
 use text_commands::next::next;
 use text_commands::rank::rank;
 use text_commands::start::NO_FORM;
-use what_if::rest::rest;
-use what_if::value::value;
+use text_commands::what_if::rest::rest;
+use text_commands::what_if::value::value;
 
 // Says that words have no form.
 fn say_no_form<S: Shelf>(shelf: &mut S) -> u8

@@ -1,6 +1,6 @@
+use crate::transcripts::{answer, have_answers, shelf_of};
 use std::alloc::Global;
 use std::test::Fail;
-use transcripts::{answer, have_answers, shelf_of};
 
 /// Words, their statuses, and what is said.
 const ANSWERS: &str = "

@@ -1,6 +1,6 @@
+use crate::transcripts::{answer, have_answers, shelf_of};
 use std::alloc::Global;
 use std::test::Fail;
-use transcripts::{answer, have_answers, shelf_of};
 
 /// Certificates, and what is said of each.
 const CERTIFICATES: &str = "

@@ -5,7 +5,14 @@
 mod answer_tests;
 #[cfg(test)]
 mod check_tests;
+mod refusal_rows;
 #[cfg(test)]
 mod solve_tests;
+mod transcripts;
+mod what_if_rows;
 #[cfg(test)]
 mod wide_tests;
+
+pub use transcripts::{
+    Case, TEXTS, answer, case_of, first_line, have_answers, is_said, shelf_after, shelf_of,
+};

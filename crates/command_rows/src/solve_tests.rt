@@ -1,7 +1,7 @@
+use crate::transcripts::{answer, case_of, is_said, shelf_after, shelf_of};
 use shelf::MemoryShelf;
 use std::alloc::Global;
 use std::test::Fail;
-use transcripts::{answer, case_of, is_said, shelf_after, shelf_of};
 
 /// Words, the statuses that may come, and lines that are said.
 ///

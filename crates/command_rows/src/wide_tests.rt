@@ -1,7 +1,7 @@
+use crate::transcripts::{answer, is_said, shelf_of};
 use shelf::MemoryShelf;
 use std::alloc::Global;
 use std::test::Fail;
-use transcripts::{answer, is_said, shelf_of};
 
 /// The rules of a shop of one activity over 28 periods whose root has an exact path with numbers above 2^56.
 ///

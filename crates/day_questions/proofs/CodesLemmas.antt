@@ -5,7 +5,7 @@ use Rattle.roster_model.specs.declared.grammar.CodeDef.{CodeDef}
 use Rattle.roster_model.specs.declared.grammar.Grammar.{Grammar}
 use Rattle.roster_model.specs.Sound.{IsSound}
 use Rattle.text_lines.specs.Written.{written}
-use Rattle.next_codes.specs.Views.{MarginalsView, AreMarginals, value_at}
+use Rattle.span_table.specs.next_codes.Views.{MarginalsView, AreMarginals, value_at}
 use Rattle.day_questions.specs.Prices.{pattern_view}
 use Rattle.day_questions.specs.Lines.{Line}
 use Rattle.day_questions.specs.Codes.{SaysCode, price_lines}

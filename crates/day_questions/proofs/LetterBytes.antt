@@ -13,10 +13,10 @@ use Rattle.roster_model.specs.Folds.{Each, In}
 use Rattle.roster_model.specs.Sound.{IsSound}
 use Rattle.roster_model.specs.Trees.{Parts, done, letter, uses, span_length, Derive, word}
 use Rattle.roster_model.proofs.EachLemmas.{Each-append, Each-get}
-use Rattle.word_prices.proofs.Costs.{Are}
+use Rattle.roster_model.proofs.word_prices.Costs.{Are}
 use Rattle.day_questions.proofs.TreeSums.{code-at, spelled-by, right-are}
-use Rattle.tree_laws.specs.Letters.{codes_of, placed}
-use Rattle.tree_laws.proofs.LettersLemmas.{placed-append}
+use Rattle.roster_model.specs.tree_laws.Letters.{codes_of, placed}
+use Rattle.roster_model.proofs.tree_laws.LettersLemmas.{placed-append}
 
 -- a letter among placed ones
 pub placed-in : (cs : List ℕ) (j i c : ℕ) → In (record { code = c; period = i }) (placed j cs) → (k : ℕ) × (i ≡ j + k) × (slice_get cs k ≡ Some c)

@@ -15,8 +15,8 @@ use Rattle.roster_model.specs.Shifts.{IsShift}
 use Rattle.roster_model.specs.Sound.{IsSound}
 use Rattle.roster_model.specs.Sums.{AtMost, IsLeast, plus, tree_sum}
 use Rattle.roster_model.specs.Trees.{Parts, IsDayTree, word}
-use Rattle.word_prices.proofs.Costs.{shift-length}
-use Rattle.word_prices.proofs.WordLetters.{at_front}
+use Rattle.roster_model.proofs.word_prices.Costs.{shift-length}
+use Rattle.roster_model.proofs.word_prices.WordLetters.{at_front}
 use Rattle.day_questions.specs.Prices.{at_period, miss, miss_view}
 use Rattle.day_questions.specs.Shifts.{Begins, BeginsSome, IsLongest}
 use Rattle.day_questions.proofs.TreeSums.{letters_sum, tree-summed}

@@ -10,8 +10,8 @@ use Rattle.roster_model.specs.Trees.{Parts, IsDayTree}
 use Rattle.roster_model.proofs.ComesFirstLemmas.{first_one_way}
 use Rattle.text_lines.specs.Numbers.{number_text}
 use Rattle.text_lines.specs.Written.{written}
-use Rattle.grammar_core.specs.Lists.{IsSpanTree}
-use Rattle.grammar_core.proofs.ListsLemmas.{steps_tell}
+use Rattle.tree_pool.specs.grammar_core.Lists.{IsSpanTree}
+use Rattle.tree_pool.proofs.grammar_core.ListsLemmas.{steps_tell}
 use Rattle.ranked_trees.specs.declared.ranking.Ranked.{Ranked}
 use Rattle.ranked_trees.specs.Ranking.{use_numbers, RankedBefore, IsRankedTree, AreAscending, IsRanking}
 use Rattle.day_questions.specs.Codes.{SaysCode, price_lines}

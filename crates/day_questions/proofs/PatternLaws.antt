@@ -7,8 +7,8 @@ use Rattle.roster_model.specs.Arcs.{cost, rule_cost}
 use Rattle.roster_model.specs.Shifts.{IsShift, IsWordTree}
 use Rattle.roster_model.specs.Sums.{AtMost, IsLeast, PriceView, plus, tree_sum}
 use Rattle.roster_model.specs.Trees.{Parts, IsDayTree, word}
-use Rattle.word_prices.proofs.Costs.{shift-length, plus_parts}
-use Rattle.next_codes.specs.Marginals.{HasLetter, IsDayTreeWith}
+use Rattle.roster_model.proofs.word_prices.Costs.{shift-length, plus_parts}
+use Rattle.span_table.specs.next_codes.Marginals.{HasLetter, IsDayTreeWith}
 use Rattle.day_questions.specs.Prices.{at_period, pattern_view}
 use Rattle.day_questions.specs.Shifts.{TakesFront, IsLeastPrice}
 use Rattle.day_questions.specs.Laws.{SumsAreCosts, IsSumOf, TakesWith, PatternSums, LeastSums, MarginalPrices}

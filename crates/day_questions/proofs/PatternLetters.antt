@@ -6,8 +6,8 @@ use Rattle.roster_model.specs.Sums.{plus}
 use Rattle.day_questions.specs.Prices.{at_period, takes, free_where}
 use Rattle.day_questions.specs.Shifts.{TakesFront}
 use Rattle.day_questions.proofs.TreeSums.{letters_sum}
-use Rattle.word_prices.proofs.Costs.{plus_parts}
-use Rattle.word_prices.proofs.WordLetters.{at_front}
+use Rattle.roster_model.proofs.word_prices.Costs.{plus_parts}
+use Rattle.roster_model.proofs.word_prices.WordLetters.{at_front}
 
 pub behind-all : (xs : List ℕ) (k : ℕ) → length xs ≤ k → slice_get xs k ≡ None
 behind-all [] k h = refl

@@ -21,7 +21,7 @@ use Rattle.day_questions.specs.Lines.{Line}
 use Rattle.day_questions.specs.Ranked.{tree_line, count_line, SaysTree, AddsTree, IsTreesText, RankedAnswer, none}
 use Rattle.day_questions.specs.Spelled.{AddsWord}
 use Rattle.day_questions.proofs.TreeSums.{letters_sum, tree-summed}
-use Rattle.tree_laws.specs.DaySteps.{AreDaySteps}
+use Rattle.roster_model.specs.tree_laws.DaySteps.{AreDaySteps}
 
 free_letters : (i : ℕ) (w : List ℕ) → letters_sum (λ i b. Some (pos 0)) i w ≡ Some (pos 0)
 free_letters i [] = refl

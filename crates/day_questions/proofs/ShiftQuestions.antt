@@ -9,7 +9,7 @@ use Rattle.roster_model.specs.Shifts.{IsShift, IsPrice}
 use Rattle.roster_model.specs.Sound.{IsSound}
 use Rattle.roster_model.specs.Sums.{IsLeast, tree_sum}
 use Rattle.roster_model.specs.Trees.{IsDayTree}
-use Rattle.word_prices.proofs.Costs.{shift-length}
+use Rattle.roster_model.proofs.word_prices.Costs.{shift-length}
 use Rattle.day_questions.specs.Prices.{at_period, takes, pattern_view}
 use Rattle.day_questions.specs.Shifts.{Begins, Fits, any_code, TakesFront, IsLeastPrice}
 use Rattle.day_questions.specs.Lines.{Line, AreLines}

@@ -8,7 +8,7 @@ use Rattle.roster_model.specs.declared.grammar.Sym.TheVariants.{Name}
 use Rattle.roster_model.specs.Grammar.{rule_at}
 use Rattle.roster_model.specs.Trees.{Parts, steps, word}
 use Rattle.day_questions.specs.Spelled.{GivesWord}
-use Rattle.tree_laws.proofs.DayStepsLemmas.{open_first, inside-of}
+use Rattle.roster_model.proofs.tree_laws.DayStepsLemmas.{open_first, inside-of}
 
 module _ (g : Grammar) where
   module _ (x : ℕ) (ss : List Sym) (step : Step) (xs below : List Step) (first : xs ≡ step ∷ below) (rule : Rule) (at : rule_at g step.rule ≡ Some rule) where

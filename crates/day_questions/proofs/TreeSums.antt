@@ -15,8 +15,8 @@ use Rattle.roster_model.specs.Sound.{Exists, IsSound}
 use Rattle.roster_model.specs.Sums.{arc_sum, parts_sum, tree_sum, plus}
 use Rattle.roster_model.specs.Trees.{Parts, done, letter, uses, Derive, byte_of, word, IsTreeOf}
 use Rattle.roster_model.proofs.EachLemmas.{all_each}
-use Rattle.tree_laws.proofs.Rules.{sound-rule}
-use Rattle.word_prices.proofs.Costs.{sum_n-append, Are, length-word, some_at}
+use Rattle.roster_model.proofs.tree_laws.Rules.{sound-rule}
+use Rattle.roster_model.proofs.word_prices.Costs.{sum_n-append, Are, length-word, some_at}
 use Rattle.day_questions.specs.Prices.{byte_view, code_price}
 
 -- the sum of the letters of a word that begins at period i

@@ -7,7 +7,7 @@ use Rattle.roster_model.specs.Arcs.{cost}
 use Rattle.roster_model.specs.Sound.{IsSound}
 use Rattle.roster_model.specs.Sums.{IsLeast, tree_sum}
 use Rattle.roster_model.specs.Trees.{Parts, IsDayTree, word}
-use Rattle.next_codes.specs.Marginals.{IsMarginal}
+use Rattle.span_table.specs.next_codes.Marginals.{IsMarginal}
 use Rattle.day_questions.specs.Prices.{pattern_view, at_period}
 use Rattle.day_questions.specs.Shifts.{TakesFront, IsLeastPrice}
 

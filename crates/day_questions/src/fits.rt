@@ -1,6 +1,6 @@
 ghost use Rattle.std.specs.Prelude.{◌≡◌, IfOk, OnOk, Some, length};
 ghost use Rattle.roster_model.specs.Sound.{IsSound};
-ghost use Rattle.next_codes.specs.Views.{AreMarginals, IsMadeFor};
+ghost use Rattle.span_table.specs.next_codes.Views.{AreMarginals, IsMadeFor};
 ghost use Rattle.day_questions.specs.Prices.{pattern_view};
 ghost use Rattle.day_questions.specs.Shifts.{any_code};
 ghost use Rattle.day_questions.specs.Fitting.{AddsOpenLines, FitsAnswer, IsLeastSum};
@@ -9,8 +9,8 @@ use crate::front::Front;
 use crate::lines::add_code_lines;
 use crate::pattern_prices::PatternPrices;
 use crate::reply::{Reply, no_shift};
-use next_codes::Marginals;
 use roster_model::{Grammar, List, Memory};
+use span_table::Marginals;
 use std::alloc::Global;
 use text_lines::{put, signed_field};
 

@@ -2,7 +2,7 @@ ghost use Rattle.std.specs.Prelude.{ℕ, ◌≡◌, ◌≤◌, ◌<◌, ◌++◌
 ghost use Rattle.roster_model.specs.Sound.{IsSound};
 ghost use Rattle.text_lines.specs.Numbers.{number_text};
 ghost use Rattle.text_lines.specs.Written.{spaced, written};
-ghost use Rattle.next_codes.specs.Views.{AreMarginals, IsMadeFor};
+ghost use Rattle.span_table.specs.next_codes.Views.{AreMarginals, IsMadeFor};
 ghost use Rattle.day_questions.specs.Prices.{pattern_view};
 ghost use Rattle.day_questions.specs.Codes.{AddsCodeLines, price_lines};
 ghost use Rattle.day_questions.specs.Laws.{IsSumOf, TakesWith};
@@ -10,8 +10,8 @@ ghost use Rattle.day_questions.specs.Fronts.{front_words};
 
 use crate::front::Front;
 use crate::pattern_prices::PatternPrices;
-use next_codes::Marginals;
 use roster_model::{Grammar, List, Memory};
+use span_table::Marginals;
 use text_lines::{field, put, signed_field};
 
 // Appends the words before a code.

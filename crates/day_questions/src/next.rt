@@ -7,8 +7,8 @@ use crate::lines::add_code_lines;
 use crate::longest::longest_answer;
 use crate::pattern_prices::PatternPrices;
 use crate::reply::Reply;
-use next_codes::Marginals;
 use roster_model::{Grammar, List, Memory};
+use span_table::Marginals;
 use std::alloc::Global;
 
 // Appends the lines of the codes that may follow a prefix which is no whole day.

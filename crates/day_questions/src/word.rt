@@ -1,7 +1,7 @@
 ghost use Rattle.std.specs.Prelude.{◌≡◌, IfOk, OnOk, ◌++◌};
 ghost use Rattle.roster_model.specs.Sound.{IsSound};
 ghost use Rattle.roster_model.specs.Trees.{byte_of};
-ghost use Rattle.tree_laws.specs.DaySteps.{AsksParts, AreDaySteps};
+ghost use Rattle.roster_model.specs.tree_laws.DaySteps.{AsksParts, AreDaySteps};
 ghost use Rattle.day_questions.specs.Spelled.{AddsWord, GivesWord};
 
 use roster_model::{Grammar, List, Memory, Step, Sym, first_and_rest, rule_of};

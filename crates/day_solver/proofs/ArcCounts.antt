@@ -4,11 +4,11 @@ use Rattle.roster_model.specs.declared.grammar.ArcKey.{ArcKey}
 use Rattle.roster_model.specs.declared.grammar.Grammar.{Grammar}
 use Rattle.roster_model.specs.Arcs.{same_arc, IsArc}
 use Rattle.roster_model.specs.Folds.{sum_n, count}
-use Rattle.arc_laws.specs.Lists.{AreArcs}
-use Rattle.arc_laws.proofs.ArcSums.{counted}
-use Rattle.arc_laws.proofs.FoldsLemmas.{sum_n-same}
-use Rattle.arc_laws.proofs.SameArc.{rising-once}
-use Rattle.arc_laws.proofs.StandOnceLemmas.{once-counted}
+use Rattle.roster_model.specs.arc_laws.Lists.{AreArcs}
+use Rattle.roster_model.proofs.arc_laws.ArcSums.{counted}
+use Rattle.roster_model.proofs.arc_laws.FoldsLemmas.{sum_n-same}
+use Rattle.roster_model.proofs.arc_laws.SameArc.{rising-once}
+use Rattle.roster_model.proofs.arc_laws.StandOnceLemmas.{once-counted}
 use Rattle.parse_graph.specs.Graphs.{GraphView, IsGraph, HasArcs}
 use Rattle.parse_graph.proofs.PlacesLemmas.{in-graph, of-graph}
 use Rattle.parse_graph.proofs.ArcOrderLemmas.{sorted-arcs}

@@ -5,12 +5,12 @@ use Rattle.roster_model.specs.declared.instance.Instance.{Instance}
 use Rattle.roster_model.specs.Cuts.{base_cuts}
 use Rattle.roster_model.specs.Folds.{sum_n, count, Each}
 use Rattle.roster_model.proofs.EachLemmas.{Each-weaker, each_parts}
-use Rattle.arc_laws.proofs.FoldsLemmas.{count-append, sum_n-append}
+use Rattle.roster_model.proofs.arc_laws.FoldsLemmas.{count-append, sum_n-append}
 use Rattle.certificates.specs.declared.cert.Node.{Node}
 use Rattle.certificates.specs.declared.cert.Node.TheVariants.{Split, Priced, Pinned, Bare}
 use Rattle.certificates.specs.Kinds.{is_processed}
 use Rattle.certificates.specs.Nodes.{Proof, split, priced, pinned, bare, preorder, Visit, visits, low_cut, high_cut}
-use Rattle.certificate_laws.specs.Accepted.{bound_number}
+use Rattle.certificates.specs.certificate_laws.Accepted.{bound_number}
 use Rattle.certificate_text.specs.Written.{node_values}
 use Rattle.branch_price.specs.declared.found.Found.{Found}
 use Rattle.branch_price.specs.Found.{IsFound, IsFoundNode}

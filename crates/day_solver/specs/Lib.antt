@@ -1,2 +1,3 @@
 pub mod Solutions
 pub mod Texts
+pub mod day_curve

@@ -4,8 +4,8 @@ use Rattle.roster_model.specs.declared.grammar.ArcKey.{ArcKey}
 use Rattle.roster_model.specs.declared.grammar.Grammar.{Grammar}
 use Rattle.roster_model.specs.declared.instance.Instance.{Instance}
 use Rattle.roster_model.specs.declared.instance.Shift.{Shift}
-use Rattle.arc_laws.specs.Lists.{AreArcs}
-use Rattle.certificate_laws.specs.Right.{YesIsRight}
+use Rattle.roster_model.specs.arc_laws.Lists.{AreArcs}
+use Rattle.certificates.specs.certificate_laws.Right.{YesIsRight}
 use Rattle.proof_pieces.specs.CertOf.{proof_of}
 use Rattle.certificate_text.specs.Written.{cert_text}
 use Rattle.branch_price.specs.declared.found.Found.{Found}

@@ -1,5 +1,5 @@
 ghost use Rattle.std.specs.Prelude.{IfOk, IfSome};
-ghost use Rattle.certificate_laws.specs.Accepted.{IsStated};
+ghost use Rattle.certificates.specs.certificate_laws.Accepted.{IsStated};
 ghost use Rattle.certificates.specs.Sound.{IsSoundCert};
 ghost use Rattle.roster_model.specs.SoundInstance.{IsSoundInstance};
 ghost use Rattle.day_solver.specs.Solutions.{IsReportText};

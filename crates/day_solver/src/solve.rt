@@ -5,18 +5,18 @@ ghost use Rattle.parse_graph.specs.Graphs.{IsGraph, IsRefused};
 ghost use Rattle.roster_model.specs.declared.grammar.Grammar.{Grammar as Rules};
 ghost use Rattle.roster_model.specs.Sound.{IsSound};
 ghost use Rattle.roster_model.specs.SoundInstance.{IsSoundInstance};
-ghost use Rattle.search_day.specs.Days.{IsDay};
+ghost use Rattle.master_rows.specs.search_day.Days.{IsDay};
 ghost use Rattle.day_solver.specs.Solutions.{HasArcCount, IsDaySolved, IsSearched, IsTaskSolved, IsWritten};
 
 use crate::solution::Solution;
 use crate::text::cert_text;
 use branch_price::{Found, Master, Pool, SearchTask, Start, Watch, search_from};
 use certificates::Cert;
-use grammar_core::normalise;
+use master_rows::Day;
 use parse_graph::{Graph, GraphFault};
 use roster_model::{Grammar, Instance, Memory};
-use search_day::Day;
 use std::alloc::Global;
+use tree_pool::normalise;
 
 // Builds the graph of a day.
 fn built(alloc: Global, grammar: &Grammar) -> Result<Graph, GraphFault>

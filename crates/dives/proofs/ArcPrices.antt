@@ -5,8 +5,8 @@ use Rattle.std.proofs.lemmas.Option.{same_Some}
 use Rattle.roster_model.specs.declared.grammar.ArcKey.{ArcKey}
 use Rattle.roster_model.specs.Arcs.{same_arc}
 use Rattle.roster_model.specs.Folds.{In}
-use Rattle.arc_laws.proofs.SameArc.{Told, arc_tells, same_arc-refl}
-use Rattle.arc_laws.specs.Lists.{StandOnce}
+use Rattle.roster_model.proofs.arc_laws.SameArc.{Told, arc_tells, same_arc-refl}
+use Rattle.roster_model.specs.arc_laws.Lists.{StandOnce}
 use Rattle.parse_graph.specs.Graphs.{GraphView, IsGraph}
 use Rattle.roster_model.specs.declared.grammar.Grammar.{Grammar}
 use Rattle.dives.specs.Widths.{price_at}

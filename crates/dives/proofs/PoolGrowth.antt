@@ -2,7 +2,7 @@
 use Rattle.std.proofs.Common.{List, ◌++◌, length, ap, ◌∙◌}
 use Rattle.std.proofs.lemmas.List.{append_assoc}
 use Rattle.cheapest_tree.specs.Pricers.{PricerView}
-use Rattle.node_task.specs.declared.task.NodeTask.{NodeTask}
+use Rattle.master_rows.specs.declared.node_task.task.NodeTask.{NodeTask}
 use Rattle.tree_pool.specs.Pools.{PoolTree, IsGrown}
 use Rattle.tree_pool.proofs.PoolGrowth.{grown-length, more-columns}
 use Rattle.dives.specs.declared.desk.DiveDesk.{DiveDesk}

@@ -4,13 +4,13 @@ use Rattle.roster_model.specs.declared.price_room.PriceRoom.{PriceRoom}
 use Rattle.roster_model.specs.PriceRooms.{IsRoomFor}
 use Rattle.roster_model.specs.Room.{RoomView, most_uses}
 use Rattle.cheapest_tree.specs.Pricers.{PricerView, IsMadeFor}
-use Rattle.tree_laws.specs.DaySteps.{AreDaySteps}
+use Rattle.roster_model.specs.tree_laws.DaySteps.{AreDaySteps}
 use Rattle.tree_pool.specs.Pools.{PoolTree, IsPool, IsGrown}
-use Rattle.search_day.specs.declared.day.Day.{Day}
-use Rattle.search_day.specs.Days.{IsDay}
-use Rattle.search_day.specs.Rooms.{Grows}
-use Rattle.node_task.specs.declared.task.NodeTask.{NodeTask}
-use Rattle.node_task.specs.Tasks.{IsTask, row_count}
+use Rattle.master_rows.specs.declared.search_day.day.Day.{Day}
+use Rattle.master_rows.specs.search_day.Days.{IsDay}
+use Rattle.master_rows.specs.search_day.Rooms.{Grows}
+use Rattle.master_rows.specs.declared.node_task.task.NodeTask.{NodeTask}
+use Rattle.master_rows.specs.node_task.Tasks.{IsTask, row_count}
 use Rattle.dives.specs.declared.descent.Descent.{Descent}
 use Rattle.dives.specs.declared.desk.ArcSums.{ArcSums}
 use Rattle.dives.specs.declared.desk.DiveDesk.{DiveDesk}

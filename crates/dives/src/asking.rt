@@ -1,15 +1,14 @@
 ghost use Rattle.std.specs.Prelude.{◌≡◌, ◌≤◌, ◌^◌, ℤ, All, IfSome, OnOk, length, unsigned_abs};
 ghost use Rattle.roster_model.specs.PriceRooms.{IsRoomFor};
 ghost use Rattle.roster_model.specs.Sums.{Within};
-ghost use Rattle.node_task.specs.Tasks.{IsTask};
+ghost use Rattle.master_rows.specs.node_task.Tasks.{IsTask};
 ghost use Rattle.dives.specs.Parts.{HasRooms, HoldsTree, IsQuote, CanAsk, IsProgram, IsDiving, StayTools};
 
 use crate::descent::Descent;
 use crate::desk::{DiveDesk, Quote};
 use crate::least::{find_least, pooled};
 use cheapest_tree::Pricer;
-use master_rows::NodeRows;
-use node_task::NodeTask;
+use master_rows::{NodeRows, NodeTask};
 use roster_model::{Memory, PriceRoom};
 use scout::Q24;
 use std::alloc::Global;

@@ -1,8 +1,8 @@
 ghost use Rattle.std.specs.Prelude.{◌≡◌, IfOk, length};
-ghost use Rattle.node_task.specs.Tasks.{IsTask};
+ghost use Rattle.master_rows.specs.node_task.Tasks.{IsTask};
 ghost use Rattle.dives.specs.Parts.{number_count, IsQuote, AreArcSums, IsDesk};
 
-use node_task::NodeTask;
+use master_rows::NodeTask;
 use parse_graph::Graph;
 use roster_model::{Memory, PriceRoom, TreeRoom};
 use std::alloc::Global;

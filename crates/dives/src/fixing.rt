@@ -5,7 +5,7 @@ use crate::descent::Descent;
 use crate::sums::{LEAST, ONE, add};
 use crate::widest::widest;
 use cheapest_tree::Pricer;
-use node_task::NodeTask;
+use master_rows::NodeTask;
 use roster_model::Memory;
 use std::alloc::Global;
 use tree_pool::Pool;

@@ -1,11 +1,10 @@
 ghost use Rattle.std.specs.Prelude.{ℕ, ◌≡◌, ◌<◌, IfOk, IfSome, OnOk, length};
-ghost use Rattle.node_task.specs.Tasks.{IsTask};
+ghost use Rattle.master_rows.specs.node_task.Tasks.{IsTask};
 ghost use Rattle.dives.specs.Parts.{IsProgram};
 
 use crate::rows::{list_places, scout_of, take_places};
 use crate::sums::{ONE, add, clear};
-use master_rows::NodeRows;
-use node_task::NodeTask;
+use master_rows::{NodeRows, NodeTask};
 use parse_graph::Graph;
 use roster_model::{List, Memory};
 use scout::{Key, Scout};

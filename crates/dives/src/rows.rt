@@ -1,10 +1,9 @@
 ghost use Rattle.std.specs.Prelude.{◌≡◌, ◌<◌, length};
 ghost use Rattle.master_rows.specs.NodeRows.{AreRows};
-ghost use Rattle.node_task.specs.Tasks.{row_count};
+ghost use Rattle.master_rows.specs.node_task.Tasks.{row_count};
 
-use master_rows::NodeRows;
-use node_task::NodeTask;
-use pivot_rows::Place;
+use fraction::Place;
+use master_rows::{NodeRows, NodeTask};
 use roster_model::Memory;
 use scout::{Scout, Sign};
 use std::alloc::Global;

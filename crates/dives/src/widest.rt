@@ -6,7 +6,7 @@ use crate::least::{find_least, pooled};
 use crate::sums::{set_prices, width};
 use crate::widths::Widths;
 use cheapest_tree::Pricer;
-use node_task::NodeTask;
+use master_rows::NodeTask;
 use roster_model::Memory;
 use tree_pool::Pool;
 

@@ -1,6 +1,6 @@
 ghost use Rattle.std.specs.Prelude.{◌≡◌, ◌^◌, pos, All, slice_index_or};
 ghost use Rattle.roster_model.specs.Sums.{Within};
-ghost use Rattle.arc_laws.specs.Lists.{StandOnce};
+ghost use Rattle.roster_model.specs.arc_laws.Lists.{StandOnce};
 
 use parse_graph::Graph;
 use roster_model::{ArcKey, ArcPrice, LetterPrice};

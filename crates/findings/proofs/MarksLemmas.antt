@@ -8,9 +8,9 @@ use Rattle.roster_model.specs.declared.grammar.Sym.{Sym}
 use Rattle.roster_model.specs.Grammar.{rule_at}
 use Rattle.roster_model.specs.Folds.{In}
 use Rattle.roster_model.specs.Arcs.{Letter, IsArc}
-use Rattle.tree_laws.proofs.Symbols.{here, here_last}
-use Rattle.arc_laws.specs.OrNodes.{OrNode, name, suffix, leaf, left_of, right_of, symbol_node, rest_node, used_by, used}
-use Rattle.arc_laws.proofs.BalanceLemmas.{right_of-is}
+use Rattle.roster_model.proofs.tree_laws.Symbols.{here, here_last}
+use Rattle.roster_model.specs.arc_laws.OrNodes.{OrNode, name, suffix, leaf, left_of, right_of, symbol_node, rest_node, used_by, used}
+use Rattle.roster_model.proofs.arc_laws.BalanceLemmas.{right_of-is}
 use Rattle.span_arcs.specs.Ahead.{IsAhead}
 use Rattle.span_arcs.specs.Order.{IsNextArc}
 use Rattle.span_arcs.proofs.AheadLemmas.{first-ahead, try-next}

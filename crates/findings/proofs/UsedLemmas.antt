@@ -10,9 +10,9 @@ use Rattle.roster_model.specs.Trees.{Parts, done, letter, uses, span_length, Der
 use Rattle.roster_model.specs.Sums.{arc}
 use Rattle.roster_model.specs.Folds.{sum_n, count, In}
 use Rattle.roster_model.specs.Arcs.{Letter, letters, arc_of_part, parts_arcs, arcs, used_rules, IsArc}
-use Rattle.arc_laws.specs.OrNodes.{OrNode, name, suffix, leaf, same_node, made_by, made, used}
-use Rattle.arc_laws.proofs.BalanceLemmas.{tree_balanced, used_total, left_of-is}
-use Rattle.arc_laws.proofs.FoldsLemmas.{sum_n-zero}
+use Rattle.roster_model.specs.arc_laws.OrNodes.{OrNode, name, suffix, leaf, same_node, made_by, made, used}
+use Rattle.roster_model.proofs.arc_laws.BalanceLemmas.{tree_balanced, used_total, left_of-is}
+use Rattle.roster_model.proofs.arc_laws.FoldsLemmas.{sum_n-zero}
 use Rattle.findings.specs.Used.{HasTree, UsesRule, UsesName, HasLetter, UsesCode}
 
 module _ {A : Type 0} where

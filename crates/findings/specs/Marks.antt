@@ -4,7 +4,7 @@ use Rattle.roster_model.specs.declared.grammar.ArcKey.{ArcKey}
 use Rattle.roster_model.specs.declared.grammar.Grammar.{Grammar}
 use Rattle.roster_model.specs.Folds.{In}
 use Rattle.roster_model.specs.Arcs.{IsArc}
-use Rattle.arc_laws.specs.OrNodes.{OrNode, name, suffix, leaf, left_of, made, used}
+use Rattle.roster_model.specs.arc_laws.OrNodes.{OrNode, name, suffix, leaf, left_of, made, used}
 use Rattle.span_arcs.specs.Ahead.{IsAhead}
 use Rattle.findings.specs.declared.used.Used.{Used}
 use Rattle.findings.specs.Used.{UsesRule, UsesName, UsesCode, FillsDay, HasLetter}

@@ -5,7 +5,7 @@ use Rattle.roster_model.specs.declared.grammar.Grammar.{Grammar}
 use Rattle.roster_model.specs.Trees.{Parts, IsDayTree}
 use Rattle.roster_model.specs.Folds.{In}
 use Rattle.roster_model.specs.Arcs.{Letter, letters, used_rules, IsArc}
-use Rattle.arc_laws.specs.OrNodes.{name, left_of, made}
+use Rattle.roster_model.specs.arc_laws.OrNodes.{name, left_of, made}
 
 -- the day has a tree
 abbrev pub HasTree : Grammar → Type 0

@@ -1,6 +1,6 @@
 ghost use Rattle.std.specs.Prelude.{ℕ, ◌≡◌, ◌<◌, length};
 ghost use Rattle.roster_model.specs.Sound.{IsSound};
-ghost use Rattle.arc_laws.specs.OrNodes.{symbol_node};
+ghost use Rattle.roster_model.specs.arc_laws.OrNodes.{symbol_node};
 ghost use Rattle.span_arcs.specs.Shapes.{IsShaped};
 ghost use Rattle.findings.specs.Marks.{Sets, IsMarkOf, IsCodeOf, TellsLetter, TellsCode};
 

@@ -4,8 +4,8 @@ use Rattle.std.specs.Prelude.{IfNone}
 use Rattle.std.specs.Int.{IsGcd}
 use Rattle.std.proofs.lemmas.Int.{ints}
 use Rattle.std.proofs.lemmas.Nat.Gcd.{same_from_IsGcd}
-use Rattle.linear_programs.proofs.Ring.{dif, dif_up, dif_add, dif_mul, dif_same, mul_pos, pos_factor, same_factor, neg-*ℤ, *ℤ-assoc}
-use Rattle.linear_programs.proofs.Solutions.{natural}
+use Rattle.bound_laws.proofs.linear_programs.Ring.{dif, dif_up, dif_add, dif_mul, dif_same, mul_pos, pos_factor, same_factor, neg-*ℤ, *ℤ-assoc}
+use Rattle.bound_laws.proofs.linear_programs.Solutions.{natural}
 use borrow.Author.Differences.{up, down}
 use Rattle.fraction.specs.Range.{InRange}
 use Rattle.fraction.specs.Sum.{IsCommonForm, SumFits, DifferenceFits}

@@ -9,7 +9,7 @@ use Rattle.std.specs.Prelude.{Option, Some, None}
 use Rattle.std.specs.Option.{SomeIff}
 use Rattle.fraction.specs.Range.{InRange}
 use Rattle.fraction.specs.Row.{EntryFits}
-use Rattle.linear_programs.specs.RowStep.{combined}
+use Rattle.bound_laws.specs.linear_programs.RowStep.{combined}
 
 pub combine_lem : (o : Option ℤ) (p r a s f g : ℤ) → InRange (p *ℤ r) → InRange (a *ℤ s) → f ≡ p *ℤ r → g ≡ a *ℤ s → SomeIff o (InRange (f -ℤ g)) (f -ℤ g) → SomeIff o (EntryFits p r a s) (combined p r a s)
 combine_lem None p r a s f g x y e k h = λ fits. rw (e, k) at h fits.difference

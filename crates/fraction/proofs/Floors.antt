@@ -7,7 +7,7 @@ use Rattle.std.proofs.lemmas.Int.{ints}
 use Rattle.std.proofs.Math.Nat.{mul-le-mul_right}
 use native.Mathlib.Nat.{le_of_mul-le-mul_right}
 use borrow.Author.Differences.{up, down}
-use Rattle.linear_programs.proofs.Ring.{dif, dif_up, dif_add, dif_mul, dif_same, mul_nonneg}
+use Rattle.bound_laws.proofs.linear_programs.Ring.{dif, dif_up, dif_add, dif_mul, dif_same, mul_nonneg}
 use Rattle.fraction.proofs.Order.{euclid, int_quot_less}
 
 -- ---- twice a quotient and a remainder

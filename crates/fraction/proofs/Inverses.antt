@@ -3,7 +3,7 @@ use Rattle.std.proofs.Common.{◌≡◌, ℤ, arith, pos, ◌+ℤ◌, ◌-ℤ◌
 use Rattle.std.proofs.lemmas.Int.{ints}
 use Rattle.std.proofs.lemmas.Nat.Gcd.{IsGcd-swap}
 use lib.IntN.{*ℤ_comm}
-use Rattle.linear_programs.proofs.Ring.{neg-*ℤ}
+use Rattle.bound_laws.proofs.linear_programs.Ring.{neg-*ℤ}
 use Rattle.fraction.specs.Fraction.{IsFraction}
 
 pub inverse_sound : (n d : ℤ) → IsFraction n d → pos 0 <ℤ n → IsFraction d n

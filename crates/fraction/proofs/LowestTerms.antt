@@ -7,7 +7,7 @@ use native.Mathlib.Nat.{one-dvd, eq-zero_of_zero-dvd, mul-dvd-mul_right, dvd_of_
 use Rattle.fraction.specs.Range.{InRange}
 use Rattle.fraction.specs.Fraction.{IsFraction, IsSameSign}
 use Rattle.fraction.proofs.Entries.{exact-quot}
-use Rattle.linear_programs.proofs.Ring.{*ℤ-assoc}
+use Rattle.bound_laws.proofs.linear_programs.Ring.{*ℤ-assoc}
 use lib.IntN.{*ℤ_comm}
 
 pub gcd_positive : (a b g : ℕ) → IsGcd a b g → 0 < b → 0 < g

@@ -2,7 +2,7 @@
 use Rattle.std.proofs.Common.{◌≡◌, ℕ, ℤ, ◌*◌, ◌<◌, arith, pos, ◌*ℤ◌, ◌<ℤ◌, unsigned_abs, sym, ap, ◌∙◌}
 use Rattle.std.proofs.lemmas.Int.{ints, unsigned_abs-mul}
 use Rattle.std.proofs.lemmas.Nat.{mul-le}
-use Rattle.linear_programs.proofs.Ring.{dif, dif_up, dif_mul, dif_same, mul_pos}
+use Rattle.bound_laws.proofs.linear_programs.Ring.{dif, dif_up, dif_mul, dif_same, mul_pos}
 use borrow.Author.Differences.{up, down}
 use lib.IntN.{*ℤ_comm}
 use Rattle.fraction.specs.Range.{InRange}

@@ -3,7 +3,7 @@ use Rattle.std.proofs.Common.{◌≡◌, ℕ, ℤ, ◌<◌, ◌+◌, arith, belo
 use Rattle.std.specs.Int.{IsGcd, ◌∣◌}
 use Rattle.std.proofs.lemmas.Nat.Gcd.{dvd-zero, dvd_trans}
 use native.Mathlib.Nat.{eq-zero_of_zero-dvd}
-use Rattle.linear_programs.specs.RowStep.{IsCommonFactor}
+use Rattle.bound_laws.specs.linear_programs.RowStep.{IsCommonFactor}
 
 pub IsCommonFactor-none : (f : ℕ → ℤ) → IsCommonFactor f 0 0
 IsCommonFactor-none f = record { divides = λ k h. absurd (omega arith); greatest = λ e h. dvd-zero e }

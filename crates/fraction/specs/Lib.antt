@@ -4,3 +4,4 @@ pub mod Refusal
 pub mod Fraction
 pub mod Sum
 pub mod Scaled
+pub mod pivot_rows

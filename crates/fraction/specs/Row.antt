@@ -1,6 +1,6 @@
 -- When one step of elimination on a row stays in range.
 use Rattle.std.specs.Prelude.{ℕ, ℤ, ◌<◌, length, pos, ◌*ℤ◌, ◌-ℤ◌, List, slice_index_or}
-use Rattle.linear_programs.specs.RowStep.{combined, IsRowStep}
+use Rattle.bound_laws.specs.linear_programs.RowStep.{combined, IsRowStep}
 use Rattle.fraction.specs.Range.{InRange}
 
 -- both products and the difference are in range

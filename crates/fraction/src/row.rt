@@ -1,7 +1,7 @@
 ghost use Rattle.std.specs.Prelude.{◌≡◌, ℕ, ◌<◌, ◌^◌, pos, max, ◌*ℤ◌, ◌-ℤ◌, ◌<ℤ◌, length, unsigned_abs, IfOk, IfErr};
 ghost use Rattle.std.specs.Int.{◌∣◌, IsGcd};
 ghost use Rattle.std.specs.Option.{SomeIff};
-ghost use Rattle.linear_programs.specs.RowStep.{combined, IsCommonFactor};
+ghost use Rattle.bound_laws.specs.linear_programs.RowStep.{combined, IsCommonFactor};
 ghost use Rattle.fraction.specs.Range.{InRange, refused};
 ghost use Rattle.fraction.specs.Row.{EntryFits, at, new_at, FitsBelow, IsFirstWide, IsStep};
 ghost use Rattle.fraction.specs.Refusal.{IsRowRefusal};

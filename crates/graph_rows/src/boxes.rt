@@ -3,7 +3,7 @@ ghost use Rattle.roster_model.specs.SoundInstance.{IsSoundInstance};
 ghost use Rattle.parse_graph.specs.Graphs.{IsGraph};
 
 use crate::days::graph_of;
-use count_boxes::ArcBox;
+use arc_counts::ArcBox;
 use parse_graph::Graph;
 use roster_model::{ArcKey, Cell, Instance, Memory, Side, is_sound_instance};
 use sample_days::{CELL, DayParts, PAIRS, day};

@@ -4,12 +4,12 @@ ghost use Rattle.roster_model.specs.SoundInstance.{IsSoundInstance};
 ghost use Rattle.parse_graph.specs.Graphs.{HasGrammar, IsGraph};
 ghost use Rattle.sample_days.specs.RestAndWork.{rest_and_work};
 
-use grammar_core::normalise;
 use parse_graph::{Graph, GraphFault};
 use roster_model::{Cell, Grammar, Instance, Memory, is_sound, is_sound_instance};
 use sample_days::{BLOCK_NAMES, BLOCKS, DayParts, PAIRS, day, grammar};
 use std::alloc::Global;
 use std::test::Fail;
+use tree_pool::normalise;
 
 /// One block of two or three periods of work in a day of four, with rest around it.
 pub fn one_block(alloc: Global) -> Result<Grammar, Memory>

@@ -2,11 +2,11 @@ ghost use Rattle.std.specs.Prelude.{◌≡◌};
 ghost use Rattle.sample_days.specs.RestAndWork.{rest_and_work};
 
 use crate::days::{one_block, three_words};
-use grammar_core::{Item, Second, items_to_tree, normalise, tree_to_items};
 use roster_model::{ArcKey, Grammar, Memory, Step, Sym, is_sound};
 use sample_days::{REST, WORK, tree_of_a_block};
 use std::alloc::Global;
 use std::test::Fail;
+use tree_pool::{Item, Second, items_to_tree, normalise, tree_to_items};
 
 const BLOCK: Sym = Sym::Name(1);
 

@@ -14,12 +14,12 @@ use cheapest_tree::Pricer;
 use parse_graph::Graph;
 use roster_model::{
     Cell, Cut, Grammar, Instance, LetterPrice, Memory, Mult, PriceRoom, Side, Step, TreeRoom,
+    WordPrices,
 };
 use sample_days::CELL;
 use span_table::Table;
 use std::alloc::Global;
 use std::test::Fail;
-use word_prices::WordPrices;
 
 /// The sound day of one block with a demand in each period.
 fn needed_day(alloc: Global) -> Result<Instance, Fail>

@@ -2,9 +2,9 @@ ghost use Rattle.std.specs.Prelude.{◌≡◌, length};
 ghost use Rattle.parse_graph.specs.Graphs.{HasGrammar};
 
 use crate::days::{block_graph, words_graph};
+use arc_counts::{SplitFault, split};
 use parse_graph::Graph;
 use roster_model::{ArcKey, List, Step};
-use roster_split::{SplitFault, split};
 use std::alloc::Global;
 use std::test::Fail;
 

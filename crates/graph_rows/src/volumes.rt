@@ -3,22 +3,20 @@ ghost use Rattle.roster_model.specs.Folds.{Each};
 ghost use Rattle.roster_model.specs.Limits.{IsSmallCut};
 ghost use Rattle.roster_model.specs.SoundInstance.{IsSoundInstance};
 ghost use Rattle.parse_graph.specs.Graphs.{IsGraph};
-ghost use Rattle.master_laws.specs.Rows.{rows_of};
+ghost use Rattle.bound_laws.specs.master_laws.Rows.{rows_of};
 ghost use Rattle.master_rows.specs.NodeRows.{AreRows};
 ghost use Rattle.tree_pool.specs.Pools.{IsPool};
 
 use crate::days::graph_of;
 use cheapest_tree::Pricer;
-use master_rows::{NodeRows, count_rows};
-use node_task::NodeTask;
+use master_rows::{Day, NodeRows, NodeTask, count_rows};
+use node_columns::volume::{Volume, volume};
 use parse_graph::Graph;
 use roster_model::{ArcKey, Cut, Instance, Memory, Side, is_sound_instance};
 use sample_days::{PAIR_PARTS, day};
-use search_day::Day;
 use std::alloc::Global;
 use std::test::Fail;
 use tree_pool::Pool;
-use volume::{Volume, volume};
 
 /// At most no tree with the first part of the first rule.
 const LOW: Cut = Cut {

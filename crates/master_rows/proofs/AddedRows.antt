@@ -2,7 +2,7 @@
 use Rattle.std.proofs.Common.{◌≡◌, ℕ, ℤ, arith, pos, ◌+◌, ◌<◌, ◌≤◌, Bool, true, false, cond, Some, None, List, [], ◌∷◌, ◌++◌, length, take, get_or, sym, ap, ◌∙◌, refl, take-suc, append_assoc, append-nil, length-append, length-take-le, add-one, add-zero}
 use Rattle.roster_model.specs.declared.instance.Cell.{Cell}
 use Rattle.roster_model.specs.declared.instance.Cut.{Cut}
-use Rattle.master_laws.specs.Rows.{Row, floor_rows, ceiling_rows, cut_rows, has_floor, has_ceiling, floor_row, ceiling_row}
+use Rattle.bound_laws.specs.master_laws.Rows.{Row, floor_rows, ceiling_rows, cut_rows, has_floor, has_ceiling, floor_row, ceiling_row}
 use Rattle.master_rows.specs.declared.rows.NodeRows.{NodeRows}
 use Rattle.master_rows.specs.declared.rows.BoundRows.{BoundRows}
 use Rattle.master_rows.specs.declared.building.Kind.{Kind}

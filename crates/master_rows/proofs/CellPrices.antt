@@ -6,10 +6,10 @@ use Rattle.roster_model.specs.declared.instance.Cell.{Cell}
 use Rattle.roster_model.specs.declared.instance.Cut.{Cut}
 use Rattle.roster_model.specs.declared.instance.Instance.{Instance}
 use Rattle.fraction.specs.Row.{at}
-use Rattle.master_laws.specs.Rows.{rows_of, floor_rows, ceiling_rows, has_floor, has_ceiling, floor_row, ceiling_row}
-use Rattle.master_laws.specs.Rounding.{lines_from, line_sums, cell_lines, first_ceiling, first_head, numbers_from}
-use Rattle.master_laws.proofs.RowSizes.{row_count}
-use Rattle.master_laws.proofs.WideNumbers.{one_length}
+use Rattle.bound_laws.specs.master_laws.Rows.{rows_of, floor_rows, ceiling_rows, has_floor, has_ceiling, floor_row, ceiling_row}
+use Rattle.bound_laws.specs.master_laws.Rounding.{lines_from, line_sums, cell_lines, first_ceiling, first_head, numbers_from}
+use Rattle.bound_laws.proofs.master_laws.RowSizes.{row_count}
+use Rattle.bound_laws.proofs.master_laws.WideNumbers.{one_length}
 use Rattle.master_rows.specs.declared.rows.BoundRows.{BoundRows}
 use Rattle.master_rows.specs.declared.rows.NodeRows.{NodeRows}
 use Rattle.master_rows.specs.NodeRows.{bounds_from, price_in, prices_from, IsBelow, AreRows}

@@ -5,8 +5,8 @@ use Rattle.std.proofs.lemmas.Bool.Decides.{eqb_tells}
 use Rattle.std.proofs.lemmas.Option.{slice_get-get_or, slice_get_past}
 use Rattle.roster_model.specs.Folds.{Each, count}
 use Rattle.roster_model.proofs.EachLemmas.{Each-weaker, Each-append}
-use Rattle.pivot_rows.specs.declared.column.Place.{Place}
-use Rattle.pivot_rows.specs.Columns.{IsColumn, AreRising, AreWithin, number_in}
+use Rattle.fraction.specs.declared.pivot_rows.column.Place.{Place}
+use Rattle.fraction.specs.pivot_rows.Columns.{IsColumn, AreRising, AreWithin, number_in}
 use Rattle.tree_pool.specs.Pools.{letters_from}
 use Rattle.master_rows.specs.declared.entries.Entries.{Entries}
 use Rattle.master_rows.specs.declared.rows.CellLetter.{CellLetter}

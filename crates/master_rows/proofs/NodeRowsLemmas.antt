@@ -3,8 +3,8 @@ use Rattle.std.proofs.Common.{◌≡◌, ℕ, ℤ, pos, ◌≤◌, List, [], ◌
 use Rattle.roster_model.specs.declared.instance.Cut.{Cut}
 use Rattle.roster_model.specs.declared.instance.Instance.{Instance}
 use Rattle.roster_model.specs.SoundInstance.{IsSoundInstance}
-use Rattle.master_laws.specs.Rows.{rows_of, cut_rows}
-use Rattle.master_laws.specs.Rounding.{first_ceiling}
+use Rattle.bound_laws.specs.master_laws.Rows.{rows_of, cut_rows}
+use Rattle.bound_laws.specs.master_laws.Rounding.{first_ceiling}
 use Rattle.master_rows.specs.declared.rows.NodeRows.{NodeRows}
 use Rattle.master_rows.specs.declared.building.Kind.TheVariants.{Need, Floor, Ceiling}
 use Rattle.master_rows.specs.declared.sense.Sense.{Sense}

@@ -6,10 +6,10 @@ use Rattle.roster_model.specs.declared.instance.Cell.{Cell}
 use Rattle.roster_model.specs.declared.instance.Cut.{Cut}
 use Rattle.roster_model.specs.declared.instance.Instance.{Instance}
 use Rattle.fraction.specs.Row.{at}
-use Rattle.master_laws.specs.Rows.{Row, Sense as RowSense, about, at_least, at_most, number_at, HoldsAt, rows_of, cell_rows, floor_rows, ceiling_rows, has_floor, has_ceiling, floor_row, ceiling_row}
-use Rattle.master_laws.specs.Master.{missing_cost, beyond_cost, has_beyond, HasBeyond}
-use Rattle.master_laws.specs.Rounding.{first_ceiling, first_head}
-use Rattle.master_laws.proofs.RowSizes.{length-cell_rows}
+use Rattle.bound_laws.specs.master_laws.Rows.{Row, Sense as RowSense, about, at_least, at_most, number_at, HoldsAt, rows_of, cell_rows, floor_rows, ceiling_rows, has_floor, has_ceiling, floor_row, ceiling_row}
+use Rattle.bound_laws.specs.master_laws.Master.{missing_cost, beyond_cost, has_beyond, HasBeyond}
+use Rattle.bound_laws.specs.master_laws.Rounding.{first_ceiling, first_head}
+use Rattle.bound_laws.proofs.master_laws.RowSizes.{length-cell_rows}
 use Rattle.master_rows.specs.declared.rows.NodeRows.{NodeRows}
 use Rattle.master_rows.specs.declared.building.Kind.{Kind}
 use Rattle.master_rows.specs.declared.building.Kind.TheVariants.{Need, Floor, Ceiling}

@@ -11,11 +11,11 @@ use Rattle.roster_model.specs.declared.instance.Instance.{Instance}
 use Rattle.roster_model.specs.Trees.{Parts}
 use Rattle.roster_model.specs.Folds.{count}
 use Rattle.roster_model.specs.Arcs.{Letter, letters, same_arc}
-use Rattle.arc_laws.proofs.Totals.{arc_once}
-use Rattle.master_laws.specs.Rows.{Row, number_at, rows_of, cell_rows, floor_rows, ceiling_rows, cut_rows, side_row, least_row, most_row, floor_row, ceiling_row, has_floor, has_ceiling, cell_count, tree_arcs}
-use Rattle.master_laws.specs.Rounding.{first_head}
-use Rattle.master_laws.proofs.RowSizes.{row_count, length-cell_rows}
-use Rattle.pivot_rows.specs.Columns.{IsColumn}
+use Rattle.roster_model.proofs.arc_laws.Totals.{arc_once}
+use Rattle.bound_laws.specs.master_laws.Rows.{Row, number_at, rows_of, cell_rows, floor_rows, ceiling_rows, cut_rows, side_row, least_row, most_row, floor_row, ceiling_row, has_floor, has_ceiling, cell_count, tree_arcs}
+use Rattle.bound_laws.specs.master_laws.Rounding.{first_head}
+use Rattle.bound_laws.proofs.master_laws.RowSizes.{row_count, length-cell_rows}
+use Rattle.fraction.specs.pivot_rows.Columns.{IsColumn}
 use Rattle.tree_pool.specs.Pools.{PoolTree, IsPoolTree, letters_from}
 use Rattle.master_rows.specs.declared.rows.NodeRows.{NodeRows}
 use Rattle.master_rows.specs.declared.rows.CellLetter.{CellLetter}

@@ -1,6 +1,6 @@
 -- The entries of a column that is listed row by row.
 use Rattle.std.specs.Prelude.{ℕ, ℤ, pos, ◌≡◌, ◌+◌, ◌-◌, ◌^◌, min, Bool, cond, [], ◌∷◌, ◌++◌}
-use Rattle.pivot_rows.specs.Columns.{IsColumn}
+use Rattle.fraction.specs.pivot_rows.Columns.{IsColumn}
 use Rattle.master_rows.specs.declared.entries.Entries.{Entries}
 
 -- the entry of the next row: 1 where the test holds, and else 0

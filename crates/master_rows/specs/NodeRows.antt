@@ -5,8 +5,8 @@ use Rattle.roster_model.specs.declared.instance.Cut.{Cut}
 use Rattle.roster_model.specs.declared.instance.Instance.{Instance}
 use Rattle.roster_model.specs.Arcs.{Letter}
 use Rattle.roster_model.specs.SoundInstance.{IsSoundInstance}
-use Rattle.master_laws.specs.Rows.{Row, Sense as RowSense, about, at_least, at_most, rows_of, cell_row, floor_row, ceiling_row, has_floor, has_ceiling}
-use Rattle.master_laws.specs.Rounding.{first_ceiling}
+use Rattle.bound_laws.specs.master_laws.Rows.{Row, Sense as RowSense, about, at_least, at_most, rows_of, cell_row, floor_row, ceiling_row, has_floor, has_ceiling}
+use Rattle.bound_laws.specs.master_laws.Rounding.{first_ceiling}
 use Rattle.master_rows.specs.declared.rows.NodeRows.{NodeRows}
 use Rattle.master_rows.specs.declared.rows.CellLetter.{CellLetter}
 use Rattle.master_rows.specs.declared.rows.BoundRows.{BoundRows}

@@ -1,6 +1,6 @@
 ghost use Rattle.std.specs.Prelude.{ℕ, ◌≡◌, ◌≤◌, ◌<◌, ◌+◌, ◌++◌, ◌^◌, pos, cond, [], ◌∷◌, length, OnOk};
 ghost use Rattle.roster_model.specs.Folds.{Each};
-ghost use Rattle.master_laws.specs.Rows.{cut_rows, has_floor, has_ceiling};
+ghost use Rattle.bound_laws.specs.master_laws.Rows.{cut_rows, has_floor, has_ceiling};
 ghost use Rattle.roster_model.specs.Limits.{IsSmallCut};
 ghost use Rattle.master_rows.specs.NodeRows.{kind_row, kind_cell, kind_rows, kind_cells, bounds_from, with_rows, letter_of};
 

@@ -8,7 +8,7 @@ ghost use Rattle.master_rows.specs.NodeRows.{is_letter};
 ghost use Rattle.master_rows.specs.Entries.{with_entry, AreListed};
 
 use crate::rows::CellLetter;
-use pivot_rows::Place;
+use fraction::Place;
 use roster_model::{Cut, List, Memory};
 use tree_pool::Pool;
 

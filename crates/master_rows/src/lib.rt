@@ -4,10 +4,14 @@
 
 mod building;
 mod entries;
+mod node_task;
 mod ranking;
 mod rows;
+mod search_day;
 mod sense;
 
+pub use node_task::NodeTask;
 pub use ranking::reduced_at;
 pub use rows::{NodeRows, artificial_price, count_rows};
+pub use search_day::{Day, Pricing};
 pub use sense::Sense;

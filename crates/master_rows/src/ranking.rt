@@ -1,7 +1,7 @@
 ghost use Rattle.std.specs.Prelude.{◌<◌, All, IfOk, length};
 
 use crate::rows::NodeRows;
-use pivot_rows::Place;
+use fraction::Place;
 use roster_model::{Cut, List, Memory};
 use std::alloc::Global;
 use tree_pool::Pool;

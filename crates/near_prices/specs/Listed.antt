@@ -2,7 +2,7 @@
 use Rattle.std.specs.Prelude.{ℕ, ◌≡◌, ◌<◌, ◌≤◌, ◌^◌, Some, List, [], ◌∷◌, slice_get}
 use Rattle.roster_model.specs.declared.grammar.Grammar.{Grammar}
 use Rattle.roster_model.specs.Trees.{Parts}
-use Rattle.linear_programs.specs.Solution.{Weighted}
+use Rattle.bound_laws.specs.linear_programs.Solution.{Weighted}
 use Rattle.tree_pool.specs.Pools.{PoolTree, IsPoolTree}
 use Rattle.near_prices.specs.declared.listed.ListedTree.{ListedTree}
 

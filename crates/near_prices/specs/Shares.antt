@@ -5,8 +5,8 @@ use Rattle.roster_model.specs.declared.instance.Instance.{Instance}
 use Rattle.roster_model.specs.Folds.{Each}
 use Rattle.roster_model.specs.Limits.{IsSmallCut}
 use Rattle.bound_laws.specs.BestPrices.{artificial_cost}
-use Rattle.master_laws.specs.Rows.{Row}
-use Rattle.master_laws.specs.Master.{missing_cost, beyond_cost, has_beyond}
+use Rattle.bound_laws.specs.master_laws.Rows.{Row}
+use Rattle.bound_laws.specs.master_laws.Master.{missing_cost, beyond_cost, has_beyond}
 use Rattle.master_rows.specs.declared.rows.NodeRows.{NodeRows}
 use Rattle.master_rows.specs.NodeRows.{AreRows}
 

@@ -2,10 +2,10 @@
 use Rattle.std.specs.Prelude.{ℕ, ℤ, pos, ◌≡◌, ◌+◌, ◌*◌, cond, Some, List, [], ◌∷◌, slice_get, slice_set, slice_index_or}
 use Rattle.std.specs.Ordering.{int_eq}
 use Rattle.roster_model.specs.Trees.{Parts}
-use Rattle.linear_programs.specs.Solution.{Weighted}
-use Rattle.master_laws.specs.Rows.{Row}
-use Rattle.near_laws.specs.Completed.{trees_bring}
-use Rattle.pivot_rows.specs.declared.column.Place.{Place}
+use Rattle.bound_laws.specs.linear_programs.Solution.{Weighted}
+use Rattle.bound_laws.specs.master_laws.Rows.{Row}
+use Rattle.bound_laws.specs.near_laws.Completed.{trees_bring}
+use Rattle.fraction.specs.declared.pivot_rows.column.Place.{Place}
 
 -- the weight where the entry is 1, and else 0
 abbrev pub part : ℕ → ℤ → ℕ

@@ -2,17 +2,17 @@ ghost use Rattle.std.specs.Prelude.{ℕ, ◌≡◌, ◌≤◌, ◌<◌, ◌+◌,
 ghost use Rattle.roster_model.specs.Folds.{Each};
 ghost use Rattle.roster_model.specs.Limits.{IsSmallCut};
 ghost use Rattle.roster_model.specs.Trees.{Parts};
-ghost use Rattle.linear_programs.specs.Solution.{Weighted};
-ghost use Rattle.master_laws.specs.Rows.{rows_of};
+ghost use Rattle.bound_laws.specs.linear_programs.Solution.{Weighted};
+ghost use Rattle.bound_laws.specs.master_laws.Rows.{rows_of};
 ghost use Rattle.master_rows.specs.NodeRows.{AreRows};
 ghost use Rattle.near_prices.specs.Listed.{IsListed, AreWeightsOf};
 ghost use Rattle.near_prices.specs.Sums.{part, added, AreSums, IsRaised};
-ghost use Rattle.pivot_rows.specs.Columns.{AreWithin};
+ghost use Rattle.fraction.specs.pivot_rows.Columns.{AreWithin};
 ghost use Rattle.tree_pool.specs.Pools.{PoolTree, IsPool, IsPoolTree};
 
 use crate::listed::ListedTree;
+use fraction::Place;
 use master_rows::NodeRows;
-use pivot_rows::Place;
 use roster_model::{Cut, Instance, List, Memory};
 use std::alloc::Global;
 use tree_pool::Pool;

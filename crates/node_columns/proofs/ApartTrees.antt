@@ -5,11 +5,11 @@ use Rattle.std.proofs.lemmas.Option.{same_Some}
 use Rattle.roster_model.specs.declared.grammar.Grammar.{Grammar}
 use Rattle.roster_model.specs.Folds.{Each}
 use Rattle.roster_model.specs.Trees.{Parts, IsDayTree, steps}
-use Rattle.linear_programs.specs.Solution.{Weighted}
-use Rattle.master_laws.specs.Master.{MasterKey, missing, beyond, tree}
-use Rattle.master_laws.specs.Ends.{tree_first, tree_weights}
-use Rattle.grammar_core.specs.Lists.{IsSpanTree}
-use Rattle.grammar_core.proofs.ListsLemmas.{steps_tell}
+use Rattle.bound_laws.specs.linear_programs.Solution.{Weighted}
+use Rattle.bound_laws.specs.master_laws.Master.{MasterKey, missing, beyond, tree}
+use Rattle.bound_laws.specs.master_laws.Ends.{tree_first, tree_weights}
+use Rattle.tree_pool.specs.grammar_core.Lists.{IsSpanTree}
+use Rattle.tree_pool.proofs.grammar_core.ListsLemmas.{steps_tell}
 use Rattle.tree_pool.specs.Pools.{PoolTree}
 use Rattle.node_columns.specs.declared.weights.Weight.{Weight}
 use Rattle.node_columns.specs.Weights.{IsWeight, AreWeights, KeysStandOnce, AreApart}

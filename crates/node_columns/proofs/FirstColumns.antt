@@ -3,11 +3,11 @@ use Rattle.std.proofs.Common.{◌≡◌, ℕ, arith, pos, neg_ℤ, ◌+◌, ◌<
 use Rattle.std.specs.Prelude.{slice_get}
 use Rattle.roster_model.specs.declared.instance.Cut.{Cut}
 use Rattle.roster_model.specs.declared.instance.Instance.{Instance}
-use Rattle.linear_programs.specs.Program.{unit_vector}
+use Rattle.bound_laws.specs.linear_programs.Program.{unit_vector}
 use Rattle.bound_laws.specs.BestPrices.{artificial_cost}
-use Rattle.master_laws.specs.Rows.{Row, rows_of, number_at, HoldsAt}
-use Rattle.master_laws.specs.Master.{MasterKey, missing, beyond, HasBeyond, missing_cost, beyond_cost}
-use Rattle.pivot_rows.specs.Columns.{number_in}
+use Rattle.bound_laws.specs.master_laws.Rows.{Row, rows_of, number_at, HoldsAt}
+use Rattle.bound_laws.specs.master_laws.Master.{MasterKey, missing, beyond, HasBeyond, missing_cost, beyond_cost}
+use Rattle.fraction.specs.pivot_rows.Columns.{number_in}
 use Rattle.tree_pool.specs.Pools.{PoolTree}
 use Rattle.node_columns.specs.declared.desk.Kind.{Kind}
 use Rattle.node_columns.specs.declared.desk.Kind.TheVariants.{Missing, Beyond}

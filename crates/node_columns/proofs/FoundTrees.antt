@@ -9,15 +9,15 @@ use Rattle.roster_model.specs.SoundInstance.{IsSoundInstance}
 use Rattle.roster_model.specs.Sums.{PriceView, IsLeast, AtMost, tree_sum}
 use Rattle.roster_model.specs.Trees.{Parts, IsDayTree}
 use Rattle.roster_model.proofs.AgreementLemmas.{tree_same}
-use Rattle.tree_laws.specs.LeastTrees.{HasDaySum, HoldsLeastTree}
-use Rattle.linear_programs.specs.Program.{reduced}
+use Rattle.roster_model.specs.tree_laws.LeastTrees.{HasDaySum, HoldsLeastTree}
+use Rattle.bound_laws.specs.linear_programs.Program.{reduced}
 use Rattle.fraction.specs.Row.{at}
-use Rattle.master_laws.specs.Rows.{rows_of}
-use Rattle.master_laws.specs.Master.{tree, master}
-use Rattle.master_laws.specs.Pricing.{row_view}
-use Rattle.master_laws.specs.Rounding.{first_head}
-use Rattle.master_laws.proofs.Pricing.{trees_priced}
-use Rattle.master_laws.proofs.RowSizes.{row_count}
+use Rattle.bound_laws.specs.master_laws.Rows.{rows_of}
+use Rattle.bound_laws.specs.master_laws.Master.{tree, master}
+use Rattle.bound_laws.specs.master_laws.Pricing.{row_view}
+use Rattle.bound_laws.specs.master_laws.Rounding.{first_head}
+use Rattle.bound_laws.proofs.master_laws.Pricing.{trees_priced}
+use Rattle.bound_laws.proofs.master_laws.RowSizes.{row_count}
 use Rattle.node_columns.specs.Priced.{heads_price, HoldsCheaper, HasNoCheaper}
 
 pub heads_within : (i : Instance) (cuts : List Cut) (n : ℕ) → n ≡ length (rows_of i cuts) → first_head i + 1 < n

@@ -6,11 +6,11 @@ use Rattle.roster_model.specs.declared.instance.Cut.{Cut}
 use Rattle.roster_model.specs.declared.instance.Instance.{Instance}
 use Rattle.roster_model.specs.Trees.{Parts, IsDayTree, steps}
 use Rattle.roster_model.specs.PriceRooms.{IsRoomFor}
-use Rattle.master_laws.specs.Rows.{rows_of, number_at}
-use Rattle.master_laws.specs.Master.{MasterKey, tree}
-use Rattle.grammar_core.specs.Lists.{IsSpanTree}
-use Rattle.grammar_core.proofs.ListsLemmas.{steps_tell}
-use Rattle.pivot_rows.specs.Columns.{IsColumn}
+use Rattle.bound_laws.specs.master_laws.Rows.{rows_of, number_at}
+use Rattle.bound_laws.specs.master_laws.Master.{MasterKey, tree}
+use Rattle.tree_pool.specs.grammar_core.Lists.{IsSpanTree}
+use Rattle.tree_pool.proofs.grammar_core.ListsLemmas.{steps_tell}
+use Rattle.fraction.specs.pivot_rows.Columns.{IsColumn}
 use Rattle.tree_pool.specs.Pools.{PoolTree, IsPool, IsGrown, IsPoolTree}
 use Rattle.node_columns.specs.declared.desk.Kind.{Kind}
 use Rattle.node_columns.specs.declared.desk.Kind.TheVariants.{Missing, Beyond, OfTree}

@@ -8,16 +8,16 @@ use Rattle.roster_model.specs.declared.instance.Instance.{Instance}
 use Rattle.roster_model.specs.Folds.{Each}
 use Rattle.roster_model.specs.SoundInstance.{IsSoundInstance}
 use Rattle.roster_model.specs.Sums.{Within}
-use Rattle.linear_programs.specs.Program.{reduced, IsPricedOut}
-use Rattle.linear_programs.proofs.Totals.{dot-same_right}
+use Rattle.bound_laws.specs.linear_programs.Program.{reduced, IsPricedOut}
+use Rattle.bound_laws.proofs.linear_programs.Totals.{dot-same_right}
 use Rattle.fraction.specs.Row.{at}
-use Rattle.master_laws.specs.Rows.{Row, rows_of, HoldsAt}
-use Rattle.master_laws.specs.Master.{MasterKey, missing, beyond, tree, HasBeyond, master}
-use Rattle.master_laws.specs.Laws.{AreSmall}
-use Rattle.master_laws.proofs.RowSizes.{small}
-use Rattle.pivot_rows.specs.declared.column.Place.{Place}
-use Rattle.pivot_rows.specs.Columns.{number_in, AreRising, AreWithin, AreUnits}
-use Rattle.pivot_rows.proofs.Entries.{places_sum, places_sum_is}
+use Rattle.bound_laws.specs.master_laws.Rows.{Row, rows_of, HoldsAt}
+use Rattle.bound_laws.specs.master_laws.Master.{MasterKey, missing, beyond, tree, HasBeyond, master}
+use Rattle.bound_laws.specs.master_laws.Laws.{AreSmall}
+use Rattle.bound_laws.proofs.master_laws.RowSizes.{small}
+use Rattle.fraction.specs.declared.pivot_rows.column.Place.{Place}
+use Rattle.fraction.specs.pivot_rows.Columns.{number_in, AreRising, AreWithin, AreUnits}
+use Rattle.fraction.proofs.pivot_rows.Entries.{places_sum, places_sum_is}
 use Rattle.tree_pool.specs.Pools.{PoolTree}
 use Rattle.node_columns.specs.declared.desk.Kind.{Kind}
 use Rattle.node_columns.specs.declared.desk.Held.{Held}

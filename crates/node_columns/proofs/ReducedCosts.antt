@@ -6,9 +6,9 @@ use Rattle.std.specs.Prelude.{slice_get}
 use Rattle.std.proofs.Math.Seq.{drop-cons}
 use Rattle.roster_model.specs.Folds.{Each}
 use Rattle.fraction.specs.Row.{at}
-use Rattle.linear_programs.proofs.Ring.{mul_nonneg}
-use Rattle.master_laws.proofs.Numbers.{times_mono}
-use Rattle.pivot_rows.specs.declared.column.Place.{Place}
+use Rattle.bound_laws.proofs.linear_programs.Ring.{mul_nonneg}
+use Rattle.bound_laws.proofs.master_laws.Numbers.{times_mono}
+use Rattle.fraction.specs.declared.pivot_rows.column.Place.{Place}
 use Rattle.node_columns.specs.declared.desk.Held.{Held}
 use Rattle.node_columns.specs.Priced.{places_worth, listed_reduced}
 

@@ -9,9 +9,9 @@ use Rattle.roster_model.specs.declared.instance.Instance.{Instance}
 use Rattle.roster_model.specs.PriceLimits.{AreWide}
 use Rattle.roster_model.specs.Sums.{Within}
 use Rattle.fraction.specs.Row.{at}
-use Rattle.master_laws.specs.Rows.{rows_of, has_floor, has_ceiling}
-use Rattle.master_laws.specs.Rounding.{CellLine, lines_from, cell_lines, line_sum, line_sums, first_ceiling, first_head, numbers_from}
-use Rattle.master_laws.proofs.RowSizes.{row_count}
+use Rattle.bound_laws.specs.master_laws.Rows.{rows_of, has_floor, has_ceiling}
+use Rattle.bound_laws.specs.master_laws.Rounding.{CellLine, lines_from, cell_lines, line_sum, line_sums, first_ceiling, first_head, numbers_from}
+use Rattle.bound_laws.proofs.master_laws.RowSizes.{row_count}
 
 -- a number at a place, or 0 behind the end
 pub at_narrow : (y : List ℤ) → All (λ (z : ℤ). unsigned_abs z ≤ 2 ^ 56) y → (r : ℕ) → unsigned_abs (at y r) ≤ 2 ^ 56

@@ -7,10 +7,10 @@ use lib.IntN.{*ℤ_comm}
 use Rattle.roster_model.specs.Trees.{Parts}
 use Rattle.std.proofs.Math.Seq.{drop-cons}
 use Rattle.roster_model.specs.declared.grammar.Grammar.{Grammar}
-use Rattle.linear_programs.specs.Solution.{Weighted}
-use Rattle.linear_programs.proofs.Ring.{mul_pos, zero_factor}
-use Rattle.master_laws.specs.Master.{MasterKey, missing, beyond, tree}
-use Rattle.master_laws.specs.Ends.{tree_first, tree_weights}
+use Rattle.bound_laws.specs.linear_programs.Solution.{Weighted}
+use Rattle.bound_laws.proofs.linear_programs.Ring.{mul_pos, zero_factor}
+use Rattle.bound_laws.specs.master_laws.Master.{MasterKey, missing, beyond, tree}
+use Rattle.bound_laws.specs.master_laws.Ends.{tree_first, tree_weights}
 use Rattle.tableau.specs.declared.simplex.Basic.{Basic}
 use Rattle.tableau.specs.Ends.{IsBasicWeight, AreBasicWeights}
 use Rattle.tree_pool.specs.Pools.{PoolTree}

@@ -9,14 +9,14 @@ use Rattle.roster_model.specs.PriceRooms.{IsRoomFor}
 use Rattle.roster_model.specs.Room.{most_uses}
 use Rattle.roster_model.specs.SoundInstance.{IsSoundInstance}
 use Rattle.roster_model.specs.Trees.{Parts}
-use Rattle.linear_programs.specs.Program.{Program}
+use Rattle.bound_laws.specs.linear_programs.Program.{Program}
 use Rattle.parse_graph.specs.Graphs.{GraphView, IsGraph}
 use Rattle.cheapest_tree.specs.Pricers.{PricerView, IsMadeFor}
-use Rattle.master_laws.specs.Rows.{rows_of, HoldsAt}
-use Rattle.master_laws.specs.Master.{MasterKey, missing, beyond, tree, HasBeyond, master}
+use Rattle.bound_laws.specs.master_laws.Rows.{rows_of, HoldsAt}
+use Rattle.bound_laws.specs.master_laws.Master.{MasterKey, missing, beyond, tree, HasBeyond, master}
 use Rattle.master_rows.specs.declared.rows.NodeRows.{NodeRows}
 use Rattle.master_rows.specs.NodeRows.{AreRows}
-use Rattle.pivot_rows.specs.Columns.{IsColumn}
+use Rattle.fraction.specs.pivot_rows.Columns.{IsColumn}
 use Rattle.tree_pool.specs.Pools.{PoolTree, IsPool, IsGrown, IsPoolTree}
 use Rattle.node_columns.specs.declared.desk.Kind.{Kind}
 use Rattle.node_columns.specs.declared.desk.Kind.TheVariants.{Missing, Beyond, OfTree}

@@ -2,7 +2,7 @@
 use Rattle.std.specs.Prelude.{ℕ, [], ◌++◌}
 use mathlib.Core.Path.{sym, refl, ap, ◌∙◌}
 use mathlib.Core.List.{append_assoc, append-nil}
-use Rattle.master_laws.specs.Master.{MasterKey}
+use Rattle.bound_laws.specs.master_laws.Master.{MasterKey}
 use Rattle.node_columns.specs.Columns.{NodeState, Lists, IsKept}
 
 pub kept-same : (a : NodeState) → IsKept a a

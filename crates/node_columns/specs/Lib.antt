@@ -4,3 +4,4 @@ pub mod Listing
 pub mod Priced
 pub mod Tools
 pub mod Weights
+pub mod volume

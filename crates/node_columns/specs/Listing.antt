@@ -6,15 +6,15 @@ use Rattle.roster_model.specs.Agreement.{Agree}
 use Rattle.roster_model.specs.PriceRooms.{price_view, IsRoomFor}
 use Rattle.roster_model.specs.Room.{RoomView}
 use Rattle.roster_model.specs.Trees.{Parts}
-use Rattle.linear_programs.specs.Program.{reduced}
+use Rattle.bound_laws.specs.linear_programs.Program.{reduced}
 use Rattle.fraction.specs.Row.{at}
-use Rattle.master_laws.specs.Rows.{rows_of}
-use Rattle.master_laws.specs.Master.{tree, master}
-use Rattle.master_laws.specs.Pricing.{row_view}
+use Rattle.bound_laws.specs.master_laws.Rows.{rows_of}
+use Rattle.bound_laws.specs.master_laws.Master.{tree, master}
+use Rattle.bound_laws.specs.master_laws.Pricing.{row_view}
 use Rattle.master_rows.specs.NodeRows.{AreRows}
 use Rattle.tree_pool.specs.Pools.{PoolTree, IsPool}
-use Rattle.node_task.specs.declared.task.NodeTask.{NodeTask}
-use Rattle.node_task.specs.Tasks.{IsTask, row_count}
+use Rattle.master_rows.specs.declared.node_task.task.NodeTask.{NodeTask}
+use Rattle.master_rows.specs.node_task.Tasks.{IsTask, row_count}
 use Rattle.node_columns.specs.declared.desk.Kind.TheVariants.{OfTree}
 use Rattle.node_columns.specs.declared.desk.Held.{Held}
 use Rattle.node_columns.specs.Columns.{IsHeld, HasKey, AreTold, HasMissing, HasBeyonds}

@@ -5,12 +5,12 @@ use Rattle.roster_model.specs.declared.instance.Instance.{Instance}
 use Rattle.roster_model.specs.Folds.{sum_z}
 use Rattle.roster_model.specs.Room.{RoomView}
 use Rattle.roster_model.specs.Trees.{Parts, IsDayTree, steps}
-use Rattle.linear_programs.specs.Program.{reduced}
+use Rattle.bound_laws.specs.linear_programs.Program.{reduced}
 use Rattle.fraction.specs.Row.{at}
-use Rattle.master_laws.specs.Master.{tree, master}
-use Rattle.master_laws.specs.Rounding.{first_head}
-use Rattle.pivot_rows.specs.declared.column.Place.{Place}
-use Rattle.pivot_rows.specs.Columns.{AreWithin, AreUnits}
+use Rattle.bound_laws.specs.master_laws.Master.{tree, master}
+use Rattle.bound_laws.specs.master_laws.Rounding.{first_head}
+use Rattle.fraction.specs.declared.pivot_rows.column.Place.{Place}
+use Rattle.fraction.specs.pivot_rows.Columns.{AreWithin, AreUnits}
 use Rattle.node_columns.specs.declared.desk.Held.{Held}
 
 -- no price of a row is above 2^56 in size, and neither is their denominator

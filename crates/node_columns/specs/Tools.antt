@@ -2,7 +2,7 @@
 use Rattle.std.specs.Prelude.{List}
 use Rattle.cheapest_tree.specs.Pricers.{PricerView, IsMadeFor}
 use Rattle.tree_pool.specs.Pools.{PoolTree, IsPool, IsGrown}
-use Rattle.node_task.specs.declared.task.NodeTask.{NodeTask}
+use Rattle.master_rows.specs.declared.node_task.task.NodeTask.{NodeTask}
 use Rattle.node_columns.specs.declared.desk.ColumnDesk.{ColumnDesk}
 use Rattle.node_columns.specs.Columns.{IsDesk}
 

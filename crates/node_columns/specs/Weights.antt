@@ -3,10 +3,10 @@ use Rattle.std.specs.Prelude.{ℕ, pos, ◌≡◌, ◌≢◌, ◌<◌, ◌*ℤ�
 use Rattle.roster_model.specs.declared.grammar.Grammar.{Grammar}
 use Rattle.roster_model.specs.Folds.{Each}
 use Rattle.roster_model.specs.Trees.{Parts}
-use Rattle.linear_programs.specs.Solution.{Weighted}
+use Rattle.bound_laws.specs.linear_programs.Solution.{Weighted}
 use Rattle.fraction.specs.declared.frac.Frac.{Frac}
-use Rattle.master_laws.specs.Master.{MasterKey, tree}
-use Rattle.master_laws.specs.Ends.{tree_first, tree_weights}
+use Rattle.bound_laws.specs.master_laws.Master.{MasterKey, tree}
+use Rattle.bound_laws.specs.master_laws.Ends.{tree_first, tree_weights}
 use Rattle.tableau.specs.declared.simplex.Basic.{Basic}
 use Rattle.tableau.specs.Ends.{IsBasicWeight, AreBasicWeights}
 use Rattle.tree_pool.specs.Pools.{PoolTree, IsPoolTree}

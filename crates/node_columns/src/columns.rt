@@ -2,9 +2,8 @@ use crate::desk::ColumnDesk;
 use crate::listed::{check_narrow, find_cheaper};
 use crate::trees::list_cheapest;
 use cheapest_tree::Pricer;
-use fraction::Tally;
-use node_task::NodeTask;
-use pivot_rows::Place;
+use fraction::{Place, Tally};
+use master_rows::NodeTask;
 use roster_model::Memory;
 use std::alloc::Global;
 use tableau::{Columns, ColumnsFault};
@@ -28,7 +27,7 @@ pub struct NodeColumns<'t, 'n, 'p, 'q, 'd> {
 
 impl<'t, 'n, 'p, 'q, 'd> Columns for NodeColumns<'t, 'n, 'p, 'q, 'd> {
     ghost use Rattle.std.specs.Prelude.{length};
-    ghost use Rattle.master_laws.specs.Master.{MasterKey};
+    ghost use Rattle.bound_laws.specs.master_laws.Master.{MasterKey};
     ghost use Rattle.node_columns.specs.Columns.{NodeSite, NodeState, site_program, Lists, IsReady, IsKept};
     ghost use Rattle.node_columns.specs.Kept.{kept-same, kept-chain, kept-still};
 

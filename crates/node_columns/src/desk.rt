@@ -1,4 +1,4 @@
-use pivot_rows::Place;
+use fraction::Place;
 use roster_model::{List, PriceRoom, TreeRoom};
 
 /// What a listed column is.

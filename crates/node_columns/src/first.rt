@@ -1,17 +1,16 @@
 ghost use Rattle.std.specs.Prelude.{ℕ, ◌≡◌, ◌≤◌, ◌<◌, ◌+◌, ◌^◌, pos, [], ◌∷◌, All, length, IfOk};
 ghost use Rattle.roster_model.specs.SoundInstance.{IsSoundInstance};
 ghost use Rattle.bound_laws.specs.BestPrices.{artificial_cost};
-ghost use Rattle.master_laws.specs.Rows.{rows_of};
+ghost use Rattle.bound_laws.specs.master_laws.Rows.{rows_of};
 ghost use Rattle.tree_pool.specs.Pools.{IsPool};
-ghost use Rattle.node_task.specs.Tasks.{IsTask};
+ghost use Rattle.master_rows.specs.node_task.Tasks.{IsTask};
 ghost use Rattle.node_columns.specs.Columns.{HasMore, AreHeld, IsDesk, IsEmptyDesk};
 ghost use Rattle.node_columns.specs.Listing.{AreMissing, HaveBeyonds, StayTold};
 
 use crate::desk::{ColumnDesk, Held, Kind};
 use crate::trees::tree_column;
-use master_rows::artificial_price;
-use node_task::NodeTask;
-use pivot_rows::Place;
+use fraction::Place;
+use master_rows::{NodeTask, artificial_price};
 use roster_model::{Cut, Instance, List, Memory, PriceRoom, TreeRoom};
 use std::alloc::Global;
 use tree_pool::Pool;

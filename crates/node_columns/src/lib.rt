@@ -7,6 +7,7 @@ mod desk;
 mod first;
 mod listed;
 mod trees;
+pub mod volume;
 mod weights;
 
 pub use columns::NodeColumns;
@@ -14,4 +15,5 @@ pub use desk::{ColumnDesk, Held, Kind};
 pub use first::{desk_of, numbers_of};
 pub use listed::first_wide;
 pub use trees::list_cheapest;
+pub use volume::{Found, Volume};
 pub use weights::{Weight, tree_weights};

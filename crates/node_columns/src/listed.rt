@@ -6,8 +6,7 @@ ghost use Rattle.tableau.specs.Risen.{HasRisen};
 ghost use Rattle.node_columns.specs.Priced.{AreNarrowPrices, IsPlain, ArePlain, listed_reduced, IsCheaper, AreNoneCheaper};
 
 use crate::desk::Held;
-use fraction::{Tally, TooWide, fits};
-use pivot_rows::{MOST_NUMBER, Place};
+use fraction::{MOST_NUMBER, Place, Tally, TooWide, fits};
 
 /// The greatest size of a price of a row, and of their denominator.
 const WIDEST: u128 = MOST_NUMBER as u128;

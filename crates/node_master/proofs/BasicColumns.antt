@@ -2,11 +2,11 @@
 use Rattle.std.proofs.Common.{◌≡◌, ◌≢◌, ℕ, zero, suc, arith, pos, ◌<◌, ◌≤◌, ap, ◌∙◌}
 use Rattle.std.proofs.lemmas.Int.{ints}
 use Rattle.roster_model.specs.Folds.{Each}
-use Rattle.linear_programs.specs.Program.{Program}
-use Rattle.linear_programs.specs.Solution.{Weighted}
-use Rattle.linear_programs.specs.Tableau.{Tableau, entry, on_basis}
-use Rattle.linear_programs.proofs.TiedTableau.{IsTied}
-use Rattle.master_laws.specs.Master.{MasterKey}
+use Rattle.bound_laws.specs.linear_programs.Program.{Program}
+use Rattle.bound_laws.specs.linear_programs.Solution.{Weighted}
+use Rattle.bound_laws.specs.linear_programs.Tableau.{Tableau, entry, on_basis}
+use Rattle.bound_laws.proofs.linear_programs.TiedTableau.{IsTied}
+use Rattle.bound_laws.specs.master_laws.Master.{MasterKey}
 use Rattle.node_columns.specs.Weights.{KeysStandOnce}
 
 module _ (p : Program MasterKey) (t : Tableau MasterKey) (tied : IsTied p t) (weight : ℕ → ℕ) where

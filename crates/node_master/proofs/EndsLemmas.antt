@@ -17,12 +17,12 @@ use Rattle.roster_model.specs.PriceLimits.{FitPrices}
 use Rattle.roster_model.specs.SoundInstance.{IsSoundInstance}
 use Rattle.roster_model.specs.Trees.{Parts, IsDayTree}
 use Rattle.roster_model.proofs.CostBounds.{cells-le}
-use Rattle.linear_programs.specs.Program.{Program, IsPricedOut}
-use Rattle.linear_programs.specs.Solution.{Weighted, IsSolution, IsValue, IsBasic, CostsLeast, cost_of}
-use Rattle.linear_programs.specs.Tableau.{HasWidePath, on_basis}
-use Rattle.linear_programs.proofs.Orders.{times_le, times_swap, le_factor}
-use Rattle.linear_programs.proofs.Paths.{path_tied}
-use Rattle.linear_programs.proofs.Solutions.{natural}
+use Rattle.bound_laws.specs.linear_programs.Program.{Program, IsPricedOut}
+use Rattle.bound_laws.specs.linear_programs.Solution.{Weighted, IsSolution, IsValue, IsBasic, CostsLeast, cost_of}
+use Rattle.bound_laws.specs.linear_programs.Tableau.{HasWidePath, on_basis}
+use Rattle.bound_laws.proofs.linear_programs.Orders.{times_le, times_swap, le_factor}
+use Rattle.bound_laws.proofs.linear_programs.Paths.{path_tied}
+use Rattle.bound_laws.proofs.linear_programs.Solutions.{natural}
 use Rattle.fraction.specs.declared.frac.Frac.{Frac}
 use Rattle.fraction.specs.Range.{Counts}
 use Rattle.fraction.specs.Row.{at}
@@ -32,20 +32,20 @@ use Rattle.bound_laws.specs.Lagrangian.{IsLagrangian}
 use Rattle.bound_laws.specs.Priced.{IsPricedValue}
 use Rattle.bound_laws.specs.TreeRosters.{IsTreeRoster, trees_cost}
 use Rattle.roster_model.specs.Limits.{IsSmallCut}
-use Rattle.master_laws.specs.Rows.{rows_of}
-use Rattle.master_laws.specs.Master.{MasterKey, missing, beyond, tree, master}
-use Rattle.master_laws.specs.Ends.{IsPathEnd, tree_weights, other_weights, other_first}
-use Rattle.master_laws.specs.Laws.{AreSmall, IsBelowHeads, ArePricesOf}
-use Rattle.master_laws.specs.Rounding.{AreRoundedFrom}
-use Rattle.master_laws.specs.Sharp.{UsesArtificial}
-use Rattle.master_laws.specs.WholeCounts.{MeetNode}
-use Rattle.master_laws.proofs.BestPrices.{are_best, counts_close}
-use Rattle.master_laws.proofs.Ends.{path_end, weights_apart}
-use Rattle.master_laws.proofs.Rivals.{rivals_less}
-use Rattle.master_laws.proofs.RoundedValue.{rounded_value}
-use Rattle.master_laws.proofs.RowSums.{master_sound}
-use Rattle.master_laws.proofs.RowSizes.{row_count, small}
-use Rattle.master_laws.proofs.WholeCountsLemmas.{meet_node}
+use Rattle.bound_laws.specs.master_laws.Rows.{rows_of}
+use Rattle.bound_laws.specs.master_laws.Master.{MasterKey, missing, beyond, tree, master}
+use Rattle.bound_laws.specs.master_laws.Ends.{IsPathEnd, tree_weights, other_weights, other_first}
+use Rattle.bound_laws.specs.master_laws.Laws.{AreSmall, IsBelowHeads, ArePricesOf}
+use Rattle.bound_laws.specs.master_laws.Rounding.{AreRoundedFrom}
+use Rattle.bound_laws.specs.master_laws.Sharp.{UsesArtificial}
+use Rattle.bound_laws.specs.master_laws.WholeCounts.{MeetNode}
+use Rattle.bound_laws.proofs.master_laws.BestPrices.{are_best, counts_close}
+use Rattle.bound_laws.proofs.master_laws.Ends.{path_end, weights_apart}
+use Rattle.bound_laws.proofs.master_laws.Rivals.{rivals_less}
+use Rattle.bound_laws.proofs.master_laws.RoundedValue.{rounded_value}
+use Rattle.bound_laws.proofs.master_laws.RowSums.{master_sound}
+use Rattle.bound_laws.proofs.master_laws.RowSizes.{row_count, small}
+use Rattle.bound_laws.proofs.master_laws.WholeCountsLemmas.{meet_node}
 use Rattle.tableau.specs.declared.simplex.Basic.{Basic}
 use Rattle.tableau.specs.declared.simplex.LpFault.{LpFault}
 use Rattle.tableau.specs.declared.simplex.LpFault.TheVariants.{Wide as LpWide, Spent as LpSpent, Memory as LpMemory}

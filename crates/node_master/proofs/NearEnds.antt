@@ -8,10 +8,10 @@ use Rattle.roster_model.specs.declared.instance.Cut.{Cut}
 use Rattle.roster_model.specs.declared.instance.Instance.{Instance}
 use Rattle.roster_model.specs.Folds.{Each}
 use Rattle.roster_model.specs.Trees.{Parts}
-use Rattle.linear_programs.specs.Solution.{Weighted}
+use Rattle.bound_laws.specs.linear_programs.Solution.{Weighted}
 use Rattle.fraction.specs.Range.{Counts}
 use Rattle.tableau.proofs.Counts.{refused_risen, spent_risen}
-use Rattle.near_laws.specs.Completed.{tree_columns}
+use Rattle.bound_laws.specs.near_laws.Completed.{tree_columns}
 use Rattle.near_prices.specs.declared.listed.ListedTree.{ListedTree}
 use Rattle.near_prices.specs.Listed.{AreWeightsOf}
 use Rattle.tree_pool.specs.Pools.{PoolTree}

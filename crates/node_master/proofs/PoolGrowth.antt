@@ -4,8 +4,8 @@ use mathlib.Core.Path.{sym, ap, subst, ◌∙◌}
 use mathlib.Core.List.{append_assoc, append-nil}
 use Rattle.cheapest_tree.specs.Pricers.{PricerView}
 use Rattle.tree_pool.specs.Pools.{PoolTree, IsGrown}
-use Rattle.search_day.specs.declared.day.Day.{Day}
-use Rattle.node_task.specs.declared.task.NodeTask.{NodeTask}
+use Rattle.master_rows.specs.declared.search_day.day.Day.{Day}
+use Rattle.master_rows.specs.declared.node_task.task.NodeTask.{NodeTask}
 use Rattle.node_columns.specs.declared.desk.ColumnDesk.{ColumnDesk}
 use Rattle.node_columns.specs.Columns.{IsDesk}
 use Rattle.node_master.specs.declared.hunt.Hunt.{Hunt}

@@ -5,8 +5,8 @@ use Rattle.roster_model.specs.declared.instance.Cut.{Cut}
 use Rattle.roster_model.specs.declared.instance.Instance.{Instance}
 use Rattle.fraction.specs.Range.{Counts}
 use Rattle.fraction.specs.Row.{at}
-use Rattle.master_laws.specs.Rounding.{cell_lines, line_sums, first_head, numbers_from}
-use Rattle.master_laws.proofs.WideNumbers.{wide_rounding}
+use Rattle.bound_laws.specs.master_laws.Rounding.{cell_lines, line_sums, first_head, numbers_from}
+use Rattle.bound_laws.proofs.master_laws.WideNumbers.{wide_rounding}
 use Rattle.price_round.proofs.RoundFaults.{wide_floor}
 use Rattle.price_round.specs.Faults.{IsRoundFault}
 use Rattle.price_round.specs.declared.round.RoundFault.{RoundFault}

@@ -11,8 +11,8 @@ use Rattle.roster_model.specs.Folds.{Each}
 use Rattle.roster_model.specs.PriceLimits.{FitPrices}
 use Rattle.roster_model.specs.Cuts.{group_arc, Meets}
 use Rattle.roster_model.specs.Trees.{Parts, IsDayTree}
-use Rattle.linear_programs.specs.Solution.{Weighted, IsValue, IsBasic, CostsLeast, Each as EachKey}
-use Rattle.linear_programs.specs.Tableau.{HasWidePath, HasOpenPath}
+use Rattle.bound_laws.specs.linear_programs.Solution.{Weighted, IsValue, IsBasic, CostsLeast, Each as EachKey}
+use Rattle.bound_laws.specs.linear_programs.Tableau.{HasWidePath, HasOpenPath}
 use Rattle.fraction.specs.declared.frac.Frac.{Frac}
 use Rattle.fraction.specs.Range.{Counts}
 use Rattle.bound_laws.specs.Lagrangian.{IsLagrangian}
@@ -20,13 +20,13 @@ use Rattle.bound_laws.specs.BestPrices.{loss, IsRival, AreBest}
 use Rattle.bound_laws.specs.Priced.{IsPricedValue}
 use Rattle.bound_laws.specs.TreeRosters.{IsTreeRoster, trees_cost}
 use Rattle.bound_laws.specs.Counted.{HaveCounts}
-use Rattle.master_laws.specs.Rows.{rows_of}
-use Rattle.master_laws.specs.Master.{MasterKey, missing, beyond, tree, master}
-use Rattle.master_laws.specs.Laws.{IsBelowHeads}
-use Rattle.master_laws.specs.Sharp.{UsesArtificial}
-use Rattle.master_laws.specs.WholeCounts.{HasCounts}
-use Rattle.near_laws.specs.Completed.{tree_columns}
-use Rattle.near_laws.specs.Laws.{AreNear}
+use Rattle.bound_laws.specs.master_laws.Rows.{rows_of}
+use Rattle.bound_laws.specs.master_laws.Master.{MasterKey, missing, beyond, tree, master}
+use Rattle.bound_laws.specs.master_laws.Laws.{IsBelowHeads}
+use Rattle.bound_laws.specs.master_laws.Sharp.{UsesArtificial}
+use Rattle.bound_laws.specs.master_laws.WholeCounts.{HasCounts}
+use Rattle.bound_laws.specs.near_laws.Completed.{tree_columns}
+use Rattle.bound_laws.specs.near_laws.Laws.{AreNear}
 use Rattle.tableau.specs.declared.simplex.LpFault.{LpFault}
 use Rattle.tableau.specs.declared.simplex.LpFault.TheVariants.{Wide as LpWide, Spent as LpSpent, Memory as LpMemory}
 use Rattle.tableau.specs.Risen.{HasRisen}

@@ -2,8 +2,8 @@
 use Rattle.std.specs.Prelude.{◌≡◌, List, length}
 use Rattle.cheapest_tree.specs.Pricers.{PricerView}
 use Rattle.tree_pool.specs.Pools.{PoolTree, IsGrown}
-use Rattle.node_task.specs.declared.task.NodeTask.{NodeTask}
-use Rattle.node_task.specs.Tasks.{row_count}
+use Rattle.master_rows.specs.declared.node_task.task.NodeTask.{NodeTask}
+use Rattle.master_rows.specs.node_task.Tasks.{row_count}
 use Rattle.node_columns.specs.Columns.{IsDesk}
 use Rattle.node_master.specs.declared.hunt.Hunt.{Hunt}
 use Rattle.node_master.specs.Tasks.{MayHunt}

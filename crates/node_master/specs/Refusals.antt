@@ -4,8 +4,8 @@ use Rattle.std.specs.List.{list_any}
 use Rattle.roster_model.specs.declared.instance.Cut.{Cut}
 use Rattle.roster_model.specs.declared.instance.Instance.{Instance}
 use Rattle.roster_model.specs.declared.memory.Memory.{Memory as MemoryLack}
-use Rattle.master_laws.specs.Rows.{rows_of}
-use Rattle.master_laws.specs.Sharp.{IsHard}
+use Rattle.bound_laws.specs.master_laws.Rows.{rows_of}
+use Rattle.bound_laws.specs.master_laws.Sharp.{IsHard}
 use Rattle.tree_pool.specs.Pools.{PoolTree}
 use Rattle.node_master.specs.declared.ends.Cause.TheVariants.{Rows, Wide, Spent}
 use Rattle.node_master.specs.declared.ends.NodeEnd.{NodeEnd}

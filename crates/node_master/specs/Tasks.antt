@@ -8,20 +8,20 @@ use Rattle.roster_model.specs.declared.memory.Memory.{Memory as MemoryLack}
 use Rattle.roster_model.specs.Folds.{Each}
 use Rattle.roster_model.specs.PriceLimits.{FitPrices}
 use Rattle.roster_model.specs.Trees.{Parts, IsDayTree}
-use Rattle.linear_programs.specs.Program.{IsPricedOut}
+use Rattle.bound_laws.specs.linear_programs.Program.{IsPricedOut}
 use Rattle.fraction.specs.Range.{Counts}
 use Rattle.fraction.specs.Row.{at}
 use Rattle.bound_laws.specs.Infeasible.{IsPlainlyInfeasible}
-use Rattle.master_laws.specs.Master.{master}
-use Rattle.master_laws.specs.Rounding.{AreRoundedFrom}
+use Rattle.bound_laws.specs.master_laws.Master.{master}
+use Rattle.bound_laws.specs.master_laws.Rounding.{AreRoundedFrom}
 use Rattle.tableau.specs.declared.simplex.LpEnd.{LpEnd}
 use Rattle.tableau.specs.Ends.{IsLpEnd}
 use Rattle.cheapest_tree.specs.Pricers.{PricerView, IsMadeFor}
 use Rattle.tree_pool.specs.Pools.{PoolTree, IsPool, IsGrown}
-use Rattle.search_day.specs.declared.day.Day.{Day}
-use Rattle.search_day.specs.Days.{IsDay}
-use Rattle.node_task.specs.declared.task.NodeTask.{NodeTask}
-use Rattle.node_task.specs.Tasks.{IsTask, row_count}
+use Rattle.master_rows.specs.declared.search_day.day.Day.{Day}
+use Rattle.master_rows.specs.search_day.Days.{IsDay}
+use Rattle.master_rows.specs.declared.node_task.task.NodeTask.{NodeTask}
+use Rattle.master_rows.specs.node_task.Tasks.{IsTask, row_count}
 use Rattle.node_columns.specs.declared.desk.Held.{Held}
 use Rattle.node_columns.specs.Columns.{HasKey}
 use Rattle.node_columns.specs.Priced.{AreNarrowPrices}

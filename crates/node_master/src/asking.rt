@@ -1,13 +1,13 @@
 ghost use Rattle.std.specs.Prelude.{◌≡◌, length};
-ghost use Rattle.node_task.specs.Tasks.{IsTask, row_count};
+ghost use Rattle.master_rows.specs.node_task.Tasks.{IsTask, row_count};
 ghost use Rattle.node_columns.specs.Tools.{AreTools, StayTools};
 ghost use Rattle.node_master.specs.Hunts.{IsHunting, StayHunting};
 
 use crate::asked::KAPPA;
 use crate::hunt::Hunt;
 use cheapest_tree::Pricer;
+use master_rows::NodeTask;
 use node_columns::{ColumnDesk, first_wide, list_cheapest};
-use node_task::NodeTask;
 use roster_model::Memory;
 use std::alloc::Global;
 use tree_pool::Pool;

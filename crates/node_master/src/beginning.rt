@@ -1,6 +1,6 @@
 ghost use Rattle.std.specs.Prelude.{◌≡◌, length, IfOk};
 ghost use Rattle.tree_pool.specs.Pools.{IsPool};
-ghost use Rattle.node_task.specs.Tasks.{IsTask, row_count};
+ghost use Rattle.master_rows.specs.node_task.Tasks.{IsTask, row_count};
 ghost use Rattle.node_master.specs.Hunts.{IsHunt};
 ghost use Rattle.node_master.specs.Tasks.{MayHunt, StayTools};
 
@@ -11,9 +11,8 @@ use crate::starting::{Start, start_of};
 use crate::steering::Steering;
 use crate::warming::{MANY_ROWS, Warm, warm_up};
 use cheapest_tree::Pricer;
-use master_rows::NodeRows;
+use master_rows::{NodeRows, NodeTask};
 use node_columns::{ColumnDesk, desk_of};
-use node_task::NodeTask;
 use roster_model::{Instance, Memory};
 use scout::Scout;
 use std::alloc::Global;

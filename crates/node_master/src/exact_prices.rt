@@ -1,10 +1,10 @@
 ghost use Rattle.std.specs.Prelude.{◌≡◌, ◌+◌, length, IfOk};
-ghost use Rattle.node_task.specs.Tasks.{IsTask};
+ghost use Rattle.master_rows.specs.node_task.Tasks.{IsTask};
 ghost use Rattle.node_master.specs.Tasks.{ArePathPrices, AreRounded};
 
 use fraction::Tally;
+use master_rows::NodeTask;
 use node_columns::numbers_of;
-use node_task::NodeTask;
 use price_round::{RoundFault, to_prices};
 use roster_model::{Memory, Prices};
 use std::alloc::Global;

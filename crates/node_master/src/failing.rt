@@ -58,7 +58,7 @@ impl FailingMaster {
 
 impl Master for FailingMaster {
     ghost use Rattle.std.specs.Prelude.{◌≡◌, ◌≤◌, ◌+◌, ◌-◌, ◌^◌, min, true, false, IfOk, MatchResult, length};
-    ghost use Rattle.master_laws.specs.Rows.{rows_of};
+    ghost use Rattle.bound_laws.specs.master_laws.Rows.{rows_of};
     ghost use Rattle.node_master.specs.Refusals.{EndsWell, counted, fails_at, failure, is_none_listed};
     ghost use Rattle.node_master.specs.Tasks.{AreTools, StayTools, IsBusyNode};
 

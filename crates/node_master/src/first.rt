@@ -11,7 +11,7 @@ use crate::near::near_end;
 use crate::steering::Steering;
 use cheapest_tree::Pricer;
 use fraction::{Budget, Tally, fits};
-use node_task::NodeTask;
+use master_rows::NodeTask;
 use roster_model::Memory;
 use std::alloc::Global;
 use tree_pool::Pool;

@@ -2,14 +2,14 @@ ghost use Rattle.std.specs.Prelude.{ℕ, ◌<◌, All, List as Items, length, If
 ghost use Rattle.roster_model.specs.declared.instance.Cut.{Cut as PathCut};
 ghost use Rattle.roster_model.specs.declared.instance.Instance.{Instance as Model};
 ghost use Rattle.tree_pool.specs.Pools.{PoolTree, IsPool};
-ghost use Rattle.node_task.specs.Tasks.{IsTask};
+ghost use Rattle.master_rows.specs.node_task.Tasks.{IsTask};
 ghost use Rattle.node_columns.specs.Columns.{IsDesk};
 
 use crate::hunt::Hunt;
 use crate::scouting::{basic_own, basic_trees, placed_trees};
-use near_weights::{NearHint, near_hint};
+use master_rows::NodeTask;
+use near_prices::{NearHint, near_hint};
 use node_columns::{ColumnDesk, desk_of};
-use node_task::NodeTask;
 use roster_model::{List, Memory};
 use std::alloc::Global;
 use tree_pool::Pool;

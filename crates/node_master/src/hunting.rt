@@ -9,7 +9,7 @@ use crate::hunt::{Ending, Hunt};
 use crate::scouting::{basic_trees, list_trees, own_keys};
 use crate::steering::Steering;
 use cheapest_tree::Pricer;
-use node_task::NodeTask;
+use master_rows::NodeTask;
 use roster_model::{Cut, List, Memory};
 use scout::{Limits, Scouted};
 use std::alloc::Global;

@@ -2,14 +2,14 @@ ghost use Rattle.std.specs.Prelude.{◌^◌, List as Items, length, IsTrue, IfOk
 ghost use Rattle.roster_model.specs.PriceLimits.{FitPrices};
 ghost use Rattle.roster_model.specs.Sums.{Within};
 ghost use Rattle.roster_model.specs.Trees.{Parts};
-ghost use Rattle.linear_programs.specs.Solution.{Weighted};
+ghost use Rattle.bound_laws.specs.linear_programs.Solution.{Weighted};
 ghost use Rattle.fraction.specs.Range.{Counts};
 ghost use Rattle.bound_laws.specs.BestPrices.{AreBest};
 ghost use Rattle.bound_laws.specs.Lagrangian.{IsLeastReduced};
 ghost use Rattle.cheapest_tree.specs.Pricers.{IsMadeFor};
-ghost use Rattle.near_laws.specs.Laws.{AreNear};
+ghost use Rattle.bound_laws.specs.near_laws.Laws.{AreNear};
 ghost use Rattle.near_prices.specs.Listed.{AreWeightsOf};
-ghost use Rattle.search_day.specs.Days.{IsDay};
+ghost use Rattle.master_rows.specs.search_day.Days.{IsDay};
 ghost use Rattle.node_master.specs.Listed.{MayBeListed};
 ghost use Rattle.node_master.specs.Tasks.{MaySolve, EndsTask, FitNode};
 
@@ -17,11 +17,9 @@ use crate::ends::NodeEnd;
 use crate::listed::{may_be_listed, weights_of};
 use crate::rounding::near_rounded;
 use cheapest_tree::Pricer;
-use near_prices::{ListedTree, Near, near_prices};
-use near_weights::NearHint;
-use node_task::NodeTask;
+use master_rows::{Day, NodeTask};
+use near_prices::{ListedTree, Near, NearHint, near_prices};
 use roster_model::{Cut, Memory, PriceRoom, Prices};
-use search_day::Day;
 use std::alloc::Global;
 use tree_pool::Pool;
 

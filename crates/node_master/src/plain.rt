@@ -6,9 +6,9 @@ use crate::master::Master;
 use crate::{Bases, Cause, First, NodeEnd, Pool, Steering, solve_node_from};
 use cheapest_tree::Pricer;
 use fraction::Tally;
+use master_rows::Day;
 use parse_graph::Graph;
 use roster_model::{Cut, Instance, Memory};
-use search_day::Day;
 use std::alloc::Global;
 
 /// A master that solves each node's linear program in exact fractions, or finds prices that a near solution

@@ -1,12 +1,12 @@
 ghost use Rattle.std.specs.Prelude.{pos, ◌<ℤ◌, IsTrue, IfOk, IfSome};
 ghost use Rattle.roster_model.specs.declared.instance.Mult.{Mult as Multiplier};
 ghost use Rattle.roster_model.specs.Folds.{Each};
-ghost use Rattle.node_task.specs.Tasks.{IsTask};
+ghost use Rattle.master_rows.specs.node_task.Tasks.{IsTask};
 ghost use Rattle.node_master.specs.Tasks.{FitNode};
 
 use certificates::are_fit;
+use master_rows::NodeTask;
 use node_columns::{first_wide, numbers_of};
-use node_task::NodeTask;
 use roster_model::{Cell, Cut, Instance, List, Memory, Mult, Prices, Side};
 use std::alloc::Global;
 

@@ -1,7 +1,7 @@
 ghost use Rattle.std.specs.Prelude.{◌≡◌};
 
+use fraction::Place;
 use node_columns::{Held, Kind};
-use pivot_rows::Place;
 use roster_model::{List, Memory};
 use scout::{Key, Limits, Scout, Scouted, Sign};
 use std::alloc::Global;

@@ -9,11 +9,9 @@ use crate::hunting::hunt;
 use crate::steering::Steering;
 use cheapest_tree::Pricer;
 use fraction::Tally;
-use master_rows::{NodeRows, count_rows};
-use node_task::NodeTask;
+use master_rows::{Day, NodeRows, NodeTask, count_rows};
 use parse_graph::Graph;
 use roster_model::{Cut, Instance, Memory};
-use search_day::Day;
 use std::alloc::Global;
 use tree_pool::Pool;
 

@@ -1,7 +1,6 @@
 use crate::bases::Basis;
 use crate::steering::Steering;
-use master_rows::NodeRows;
-use node_task::NodeTask;
+use master_rows::{NodeRows, NodeTask};
 use roster_model::{Cut, List, Memory, Side};
 use scout::Key;
 use std::alloc::Global;

@@ -1,15 +1,15 @@
 ghost use Rattle.tree_pool.specs.Pools.{IsPool};
-ghost use Rattle.search_day.specs.Rooms.{Grows};
-ghost use Rattle.node_task.specs.Tasks.{IsTask};
+ghost use Rattle.master_rows.specs.search_day.Rooms.{Grows};
+ghost use Rattle.master_rows.specs.node_task.Tasks.{IsTask};
 ghost use Rattle.node_master.specs.Tasks.{MayHunt, StayTools};
 
 use crate::starting::{Start, copied, joined};
 use cheapest_tree::Pricer;
-use node_task::NodeTask;
+use master_rows::NodeTask;
+use node_columns::volume::{Volume, volume};
 use roster_model::{List, Memory};
 use std::alloc::Global;
 use tree_pool::Pool;
-use volume::{Volume, volume};
 
 /// From so many rows on a hunt begins with the volume algorithm, and ends where its best prices are good
 /// enough: below, a scout alone takes hundredths of a second.

@@ -7,7 +7,7 @@ use Rattle.certificates.specs.declared.cert.Cert.{Cert}
 use Rattle.certificates.specs.declared.verdict.Verdict.{Verdict}
 use Rattle.certificates.specs.declared.verdict.Verdict.TheVariants.{Yes, No}
 use Rattle.certificates.specs.declared.why.Why.{Why}
-use Rattle.certificate_laws.specs.Accepted.{Accepts}
+use Rattle.certificates.specs.certificate_laws.Accepted.{Accepts}
 use Rattle.proof_check.specs.declared.judged.Judged.TheVariants.{Said, Fault}
 use Rattle.proof_check.specs.Judging.{IsJudged}
 use Rattle.proof_pieces.specs.CertOf.{proof_of, proof_fault}
@@ -22,10 +22,10 @@ use Rattle.roster_value.specs.Values.{AreCauses, IsValued}
 use Rattle.roster_value.specs.declared.cause.Cause.{Cause}
 use Rattle.roster_value.specs.declared.valued.Valued.{Valued}
 use Rattle.roster_value.proofs.ValuedRosters.{value-costs}
-use Rattle.stated_rosters.specs.FaultLine as roster
-use Rattle.stated_rosters.specs.RosterOf.{roster_of}
-use Rattle.stated_rosters.specs.declared.fault.RosterFault.{RosterFault}
-use Rattle.stated_rosters.specs.declared.fault.RosterFault.TheVariants as roster_faults
+use Rattle.roster_value.specs.stated_rosters.FaultLine as roster
+use Rattle.roster_value.specs.stated_rosters.RosterOf.{roster_of}
+use Rattle.roster_value.specs.declared.stated_rosters.fault.RosterFault.{RosterFault}
+use Rattle.roster_value.specs.declared.stated_rosters.fault.RosterFault.TheVariants as roster_faults
 use Rattle.answers.specs.declared.answer.Answer.{Answer}
 use Rattle.answers.specs.Asked.{ProofAnswers}
 use Rattle.answers.specs.Asked as asked

@@ -11,7 +11,7 @@ use Rattle.roster_model.specs.SoundInstance.{IsSoundInstance}
 use Rattle.roster_model.proofs.CostBounds.{penalty_le}
 use Rattle.roster_model.proofs.EachLemmas.{Each-map, each_all}
 use Rattle.roster_model.proofs.SoundCells.{cells_of_day, few_cells}
-use Rattle.arc_laws.proofs.FoldsLemmas.{count-le-length}
+use Rattle.roster_model.proofs.arc_laws.FoldsLemmas.{count-le-length}
 use Rattle.certificates.specs.RosterCauses.{duties}
 use Rattle.page_text.specs.Columns.{column_of}
 use Rattle.page_text.specs.Costs.{AreDayColumns}

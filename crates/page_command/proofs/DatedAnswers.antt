@@ -6,8 +6,8 @@ use Rattle.page_labels.specs.LabelsOf.{labels_of}
 use Rattle.page_labels.specs.declared.clock.Clock.{Clock}
 use Rattle.page_labels.specs.declared.labels.Labels.{Labels}
 use Rattle.answers.specs.declared.answer.Answer.{Answer}
-use Rattle.roster_calendar.specs.Marks.{mark_of}
-use Rattle.roster_calendar.specs.declared.date.Date.{Date}
+use Rattle.roster_csv.specs.roster_calendar.Marks.{mark_of}
+use Rattle.roster_csv.specs.declared.roster_calendar.date.Date.{Date}
 use Rattle.page_command.specs.Check.{RefusedLabels}
 use Rattle.page_command.specs.Dated.{CalendarAnswers, ClockAnswers, no_clock_line, setting_of}
 use Rattle.page_command.specs.Dated as dated

@@ -5,7 +5,7 @@ use Rattle.answers.specs.Asked.{TextsAnswers}
 use Rattle.answers.specs.Fetch.{IsFetch}
 use Rattle.answers.specs.Reader.{IsReader}
 use Rattle.answers.proofs.Readers.{after_fetch, widen}
-use Rattle.roster_calendar.specs.declared.date.Date.{Date}
+use Rattle.roster_csv.specs.declared.roster_calendar.date.Date.{Date}
 use Rattle.page_command.specs.Dated.{AnswersDated, AnswersDatedLabels, AnswersDatedTexts, CalendarAnswers}
 
 module _ (date : Date) (before after : Told) (status : ℕ) (demand proof : List ℕ) where

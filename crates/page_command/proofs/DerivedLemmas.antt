@@ -3,7 +3,7 @@ use Rattle.std.proofs.Common.{◌≡◌, ℕ, List, ap, arith, subst}
 use Rattle.roster_model.specs.declared.grammar.Grammar.{Grammar}
 use Rattle.roster_model.specs.declared.instance.Instance.{Instance}
 use Rattle.roster_model.specs.Shifts.{IsPrice}
-use Rattle.group_rules.specs.Plain.{plain_from}
+use Rattle.roster_value.specs.group_rules.Plain.{plain_from}
 use Rattle.page_text.specs.declared.row.Row.{Row}
 use Rattle.page_command.specs.Rows.{IsDerived, IsPricedRow, rules_of, start_of}
 use Rattle.text_commands.specs.Explain.{Derivation, shift, no_shift}

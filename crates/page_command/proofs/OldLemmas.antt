@@ -15,9 +15,9 @@ use Rattle.proof_pieces.specs.CertOf.{proof_of}
 use Rattle.proof_pieces.specs.FaultLine as proof
 use Rattle.proof_pieces.specs.declared.fault.ProofFault.{ProofFault}
 use Rattle.roster_report.specs.Reports.{HasSoundShifts}
-use Rattle.stated_rosters.specs.FaultLine as roster
-use Rattle.stated_rosters.specs.RosterOf.{roster_of}
-use Rattle.stated_rosters.specs.declared.fault.RosterFault.{RosterFault}
+use Rattle.roster_value.specs.stated_rosters.FaultLine as roster
+use Rattle.roster_value.specs.stated_rosters.RosterOf.{roster_of}
+use Rattle.roster_value.specs.declared.stated_rosters.fault.RosterFault.{RosterFault}
 use Rattle.text_lines.proofs.ListLemmas.{at_least}
 use Rattle.text_lines.specs.Places.{place_text}
 use Rattle.page_command.specs.Draw.{IsOldRoster}

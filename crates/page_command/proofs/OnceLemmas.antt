@@ -7,8 +7,8 @@ use Rattle.roster_model.specs.Trees.{steps}
 use Rattle.certificates.specs.declared.cert.Cert.{Cert}
 use Rattle.certificates.specs.declared.why.Why.{Why}
 use Rattle.certificates.specs.declared.verdict.Verdict.TheVariants.{No}
-use Rattle.certificate_laws.proofs.NoCause.{refused as cause-refuses}
-use Rattle.certificate_laws.proofs.OneCause.{one-first}
+use Rattle.certificates.proofs.certificate_laws.NoCause.{refused as cause-refuses}
+use Rattle.certificates.proofs.certificate_laws.OneCause.{one-first}
 use Rattle.demand_lines.specs.declared.fault.DemandFault.{DemandFault}
 use Rattle.demand_lines.specs.FaultLine as demand
 use Rattle.demand_text.specs.InstanceOf.{instance_of}
@@ -19,9 +19,9 @@ use Rattle.page_text.specs.declared.row.Row.{Row}
 use Rattle.roster_value.specs.Answers as values
 use Rattle.roster_value.specs.declared.valued.Valued.{Valued}
 use Rattle.roster_value.proofs.OneAnswer.{one_value, stated-once}
-use Rattle.stated_rosters.specs.FaultLine as roster
-use Rattle.stated_rosters.specs.RosterOf.{roster_of}
-use Rattle.stated_rosters.specs.declared.fault.RosterFault.{RosterFault}
+use Rattle.roster_value.specs.stated_rosters.FaultLine as roster
+use Rattle.roster_value.specs.stated_rosters.RosterOf.{roster_of}
+use Rattle.roster_value.specs.declared.stated_rosters.fault.RosterFault.{RosterFault}
 use Rattle.shelf.specs.Shelf.{Texts}
 use Rattle.answer_texts.specs.TreeText.{tree_text}
 use Rattle.answer_texts.specs.VerdictText.{verdict_text}
@@ -36,9 +36,9 @@ use Rattle.page_labels.specs.LabelsOf.{labels_of}
 use Rattle.page_labels.specs.declared.fault.LabelFault.{LabelFault}
 use Rattle.page_labels.specs.declared.clock.Clock.{Clock}
 use Rattle.page_labels.specs.declared.labels.Labels.{Labels}
-use Rattle.roster_calendar.specs.Marks.{mark_of}
-use Rattle.roster_calendar.specs.declared.date.Date.{Date}
-use Rattle.what_if.specs.Value.{SaysRosterFault}
+use Rattle.roster_csv.specs.roster_calendar.Marks.{mark_of}
+use Rattle.roster_csv.specs.declared.roster_calendar.date.Date.{Date}
+use Rattle.text_commands.specs.what_if.Value.{SaysRosterFault}
 use Rattle.page_command.specs.Check.{AnswersBeside, AnswersLabelled, BesideAnswers, LabelAnswers, OldAnswers, RefusedLabels}
 use Rattle.page_command.specs.Check as answers
 use Rattle.page_command.specs.Dated.{AnswersDated, CalendarAnswers, ClockAnswers, no_clock_line, setting_of}

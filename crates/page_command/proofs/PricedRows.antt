@@ -15,10 +15,10 @@ use Rattle.roster_model.specs.Sound.{IsSound}
 use Rattle.roster_model.specs.SoundInstance.{HasGroups, IsGroup, IsSoundInstance}
 use Rattle.roster_model.specs.Teams.{Team, teams_from, teams_of}
 use Rattle.roster_model.proofs.EachLemmas.{Each-append, Each-get, each_all}
-use Rattle.tree_laws.proofs.Rules.{All-slice_get}
-use Rattle.certificate_laws.specs.Accepted.{IsStated}
+use Rattle.roster_model.proofs.tree_laws.Rules.{All-slice_get}
+use Rattle.certificates.specs.certificate_laws.Accepted.{IsStated}
 use Rattle.certificates.specs.RosterCauses.{duties, stated_prices}
-use Rattle.group_rules.specs.Plain.{plain_from}
+use Rattle.roster_value.specs.group_rules.Plain.{plain_from}
 use Rattle.page_labels.specs.declared.labels.Labels.{Labels}
 use Rattle.page_text.specs.declared.row.Row.{Row}
 use Rattle.page_command.specs.declared.compare.Comparison.{Comparison}
@@ -26,8 +26,8 @@ use Rattle.page_command.specs.Draw.{IsSoundShown}
 use Rattle.page_command.specs.declared.roster.ShownRoster.{ShownRoster}
 use Rattle.page_command.specs.Rows.{IsPricedRow, has_row, own_row, row_of, rows_at, rows_of, start_from}
 use Rattle.shift_figures.specs.Order.{drawn_order}
-use Rattle.group_rules.proofs.NameTrees.{price_down}
-use Rattle.group_rules.proofs.PlainGrammars.{plain_extended, plain_none}
+use Rattle.roster_value.proofs.group_rules.NameTrees.{price_down}
+use Rattle.roster_value.proofs.group_rules.PlainGrammars.{plain_extended, plain_none}
 use Rattle.page_command.proofs.Starts.{sound_from}
 
 -- the group of a team, by the team's number

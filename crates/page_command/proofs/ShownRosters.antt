@@ -7,7 +7,7 @@ use Rattle.roster_model.specs.declared.instance.Shift.{Shift}
 use Rattle.roster_model.specs.declared.memory.Memory.{Memory}
 use Rattle.roster_model.specs.Duties.{Duty}
 use Rattle.roster_model.specs.Rosters.{IsRoster, roster_cost}
-use Rattle.certificate_laws.specs.Accepted.{IsStated}
+use Rattle.certificates.specs.certificate_laws.Accepted.{IsStated}
 use Rattle.certificates.specs.RosterCauses.{duties, stated_prices}
 use Rattle.certificates.specs.Sound.{IsSoundCert}
 use Rattle.certificates.specs.declared.cert.Cert.{Cert}

@@ -4,7 +4,7 @@ use Rattle.std.specs.Prelude.{Some, slice_get}
 use Rattle.roster_model.specs.declared.grammar.Grammar.{Grammar}
 use Rattle.roster_model.specs.Names.{added_name}
 use Rattle.roster_model.specs.Sound.{IsNameOf, IsPlain, IsSound}
-use Rattle.tree_laws.proofs.Rules.{All-slice_get}
+use Rattle.roster_model.proofs.tree_laws.Rules.{All-slice_get}
 
 -- where no name is the added one, each stays a name
 other_name : (g : Grammar) (s : ℕ) → IsPlain g → (x : ℕ) (name : List ℕ) → slice_get g.names x ≡ Some name → IsNameOf g x name → IsNameOf (record g { start = s }) x name

@@ -3,8 +3,8 @@ use Rattle.std.specs.Prelude.{ℕ, ◌≡◌, ◌+◌, ◌≤◌, Bool, true, fa
 use Rattle.roster_model.specs.declared.instance.Shift.{Shift}
 use Rattle.page_parts.specs.Elements.{places}
 use Rattle.page_text.specs.declared.changes.Changes.{Changes}
-use Rattle.roster_changes.specs.Changes.{IsLeastMatching, changed_periods, changed_shifts}
-use Rattle.roster_changes.specs.Matchings.{choice}
+use Rattle.shift_figures.specs.roster_changes.Changes.{IsLeastMatching, changed_periods, changed_shifts}
+use Rattle.shift_figures.specs.roster_changes.Matchings.{choice}
 use Rattle.page_command.specs.declared.compare.Comparison.{Comparison}
 
 -- two shifts have different letters in a period, which counts from 0

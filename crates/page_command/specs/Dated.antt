@@ -8,9 +8,9 @@ use Rattle.page_labels.specs.declared.labels.Labels.{Labels}
 use Rattle.shelf.specs.Shelf.{Texts}
 use Rattle.answers.specs.Asked.{TextsAnswers}
 use Rattle.answers.specs.Reader.{Holds}
-use Rattle.roster_calendar.specs.Marks.{mark_of}
-use Rattle.roster_calendar.specs.declared.date.Date.{Date}
-use Rattle.roster_calendar.specs.declared.setting.Setting.{Setting}
+use Rattle.roster_csv.specs.roster_calendar.Marks.{mark_of}
+use Rattle.roster_csv.specs.declared.roster_calendar.date.Date.{Date}
+use Rattle.roster_csv.specs.declared.roster_calendar.setting.Setting.{Setting}
 use Rattle.page_command.specs.Check.{RefusedLabels}
 use Rattle.page_command.specs.Report.{LineAnswers, RosterAnswers}
 use Rattle.page_command.specs.declared.kind.Kind.TheVariants.{Calendar}

@@ -6,7 +6,7 @@ use Rattle.roster_model.specs.declared.instance.Instance.{Instance}
 use Rattle.roster_model.specs.declared.instance.Shift.{Shift}
 use Rattle.roster_model.specs.Coverage.{covered, penalty}
 use Rattle.roster_model.specs.Folds.{Each, sum_n}
-use Rattle.certificate_laws.specs.Accepted.{IsStated}
+use Rattle.certificates.specs.certificate_laws.Accepted.{IsStated}
 use Rattle.certificates.specs.RosterCauses.{duties, stated_prices}
 use Rattle.page_labels.specs.Labels.{code_words}
 use Rattle.page_labels.specs.declared.labels.Labels.{Labels}

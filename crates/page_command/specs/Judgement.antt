@@ -5,8 +5,8 @@ use Rattle.roster_model.specs.declared.instance.Shift.{Shift}
 use Rattle.roster_model.specs.Rosters.{Costs}
 use Rattle.certificates.specs.declared.cert.Cert.{Cert}
 use Rattle.certificates.specs.RosterCauses.{duties}
-use Rattle.certificate_laws.specs.Accepted.{Accepts}
-use Rattle.certificate_laws.specs.Right.{YesIsRight}
+use Rattle.certificates.specs.certificate_laws.Accepted.{Accepts}
+use Rattle.certificates.specs.certificate_laws.Right.{YesIsRight}
 use Rattle.page_labels.specs.declared.labels.Labels.{Labels}
 use Rattle.roster_value.specs.declared.valued.Valued.{Valued}
 use Rattle.roster_value.specs.Answers.{SaysCauses}

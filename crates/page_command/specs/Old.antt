@@ -7,9 +7,9 @@ use Rattle.certificates.specs.declared.cert.Cert.{Cert}
 use Rattle.proof_pieces.specs.CertOf.{proof_of}
 use Rattle.proof_pieces.specs.FaultLine as proof
 use Rattle.proof_pieces.specs.declared.fault.ProofFault.{ProofFault}
-use Rattle.stated_rosters.specs.FaultLine as roster
-use Rattle.stated_rosters.specs.RosterOf.{roster_of}
-use Rattle.stated_rosters.specs.declared.fault.RosterFault.{RosterFault}
+use Rattle.roster_value.specs.stated_rosters.FaultLine as roster
+use Rattle.roster_value.specs.stated_rosters.RosterOf.{roster_of}
+use Rattle.roster_value.specs.declared.stated_rosters.fault.RosterFault.{RosterFault}
 use Rattle.text_lines.specs.Places.{place_text}
 use Rattle.text_lines.specs.Steps as steps
 use Rattle.text_lines.specs.Written.{tail}

@@ -10,7 +10,7 @@ use Rattle.text_commands.specs.SameTexts.{AreTreesAtOnePrice}
 use Rattle.page_command.specs.Check.{AnswersBeside, AnswersLabelled, AnswersShown}
 use Rattle.page_command.specs.Dated.{AnswersDated}
 use Rattle.page_command.specs.declared.kind.Kind.{Kind}
-use Rattle.roster_calendar.specs.declared.date.Date.{Date}
+use Rattle.roster_csv.specs.declared.roster_calendar.date.Date.{Date}
 
 -- for each row two derivations of its word, at one price
 abbrev pub AreTreesOfRows : List Row → List (List ℕ) → List (List ℕ) → Type 0

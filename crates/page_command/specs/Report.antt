@@ -5,11 +5,11 @@ use Rattle.roster_model.specs.declared.instance.Shift.{Shift}
 use Rattle.certificates.specs.declared.cert.Cert.{Cert}
 use Rattle.page_labels.specs.declared.labels.Labels.{Labels}
 use Rattle.proof_pieces.specs.CertOf.{proof_of}
-use Rattle.stated_rosters.specs.RosterOf.{begins_report, roster_of}
+use Rattle.roster_value.specs.stated_rosters.RosterOf.{begins_report, roster_of}
 use Rattle.text_lines.specs.Lines.{text_items}
 use Rattle.answers.specs.Asked.{ProofAnswers}
 use Rattle.answers.specs.Readings.{SaysProofFault}
-use Rattle.what_if.specs.Value.{SaysRosterFault}
+use Rattle.text_commands.specs.what_if.Value.{SaysRosterFault}
 use Rattle.page_command.specs.Judgement.{Judgement, StatedJudgement}
 use Rattle.page_command.specs.declared.kind.Kind.{Kind}
 

@@ -8,7 +8,7 @@ use Rattle.roster_model.specs.declared.instance.Instance.{Instance}
 use Rattle.roster_model.specs.declared.instance.Shift.{Shift}
 use Rattle.roster_model.specs.Shifts.{IsPrice}
 use Rattle.roster_model.specs.Sound.{IsSound}
-use Rattle.group_rules.specs.Plain.{plain_from}
+use Rattle.roster_value.specs.group_rules.Plain.{plain_from}
 use Rattle.page_labels.specs.declared.labels.Labels.{Labels}
 use Rattle.page_text.specs.declared.row.Row.{Row}
 use Rattle.shift_figures.specs.Order.{drawn_order}

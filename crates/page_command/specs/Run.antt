@@ -2,8 +2,8 @@
 use Rattle.std.specs.Prelude.{ℕ, ◌≡◌, Option, None, Some, List, [], ◌∷◌, ◌++◌, codes, if◌then◌else◌}
 use Rattle.std.specs.Str.{bytes_eq}
 use Rattle.shelf.specs.Shelf.{Told}
-use Rattle.roster_calendar.specs.Dates.{date_of}
-use Rattle.roster_calendar.specs.declared.date.Date.{Date}
+use Rattle.roster_csv.specs.roster_calendar.Dates.{date_of}
+use Rattle.roster_csv.specs.declared.roster_calendar.date.Date.{Date}
 use Rattle.page_command.specs.Check.{AnswersBeside, AnswersLabelled, AnswersShown}
 use Rattle.page_command.specs.Dated.{AnswersDated}
 use Rattle.answers.specs.Reader.{IsReader}

@@ -4,7 +4,7 @@ use Rattle.roster_model.specs.declared.instance.Instance.{Instance}
 use Rattle.roster_model.specs.declared.instance.Shift.{Shift}
 use Rattle.certificates.specs.declared.cert.Cert.{Cert}
 use Rattle.page_labels.specs.declared.labels.Labels.{Labels}
-use Rattle.roster_calendar.specs.Calendars.{calendar_of}
+use Rattle.roster_csv.specs.roster_calendar.Calendars.{calendar_of}
 use Rattle.roster_csv.specs.Rows.{table_of}
 use Rattle.roster_value.specs.declared.valued.Valued.{Valued}
 use Rattle.page_command.specs.Draw.{IsPage}

@@ -15,8 +15,8 @@ use Rattle.page_command.specs.Report.{LineAnswers, ReportAnswers, RosterAnswers}
 use Rattle.page_command.specs.Report as report
 use Rattle.page_command.specs.declared.kind.Kind.{Kind}
 use Rattle.page_command.specs.declared.kind.Kind.TheVariants.{Calendar}
-use Rattle.roster_calendar.specs.Marks.{mark_of}
-use Rattle.roster_calendar.specs.declared.date.Date.{Date}
+use Rattle.roster_csv.specs.roster_calendar.Marks.{mark_of}
+use Rattle.roster_csv.specs.declared.roster_calendar.date.Date.{Date}
 
 judged-ends : (k : Kind) (d : Labels) (old : Option (List Shift)) (i : Instance) (c : Cert) (s : ℕ) (output : List ℕ)
     → Judgement k d old i c s output → (s ≢ 6) × (s ≢ 7)

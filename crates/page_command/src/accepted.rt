@@ -1,6 +1,6 @@
 ghost use Rattle.std.specs.Prelude.{◌≡◌, IfOk, IfSome, Ok as Is};
 ghost use Rattle.std.specs.Option.{option_copied};
-ghost use Rattle.certificate_laws.specs.Accepted.{Accepts};
+ghost use Rattle.certificates.specs.certificate_laws.Accepted.{Accepts};
 ghost use Rattle.certificates.specs.Sound.{IsSoundCert};
 ghost use Rattle.certificates.specs.declared.cert.Cert.{Cert as Certificate};
 ghost use Rattle.proof_pieces.specs.CertOf.{proof_of};

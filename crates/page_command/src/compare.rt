@@ -1,8 +1,8 @@
 ghost use Rattle.std.specs.Prelude.{◌≡◌, ◌≤◌, ◌+◌, IfOk, IfSome, length, map, true};
 ghost use Rattle.std.specs.Option.{option_copied};
 ghost use Rattle.page_parts.specs.Elements.{places};
-ghost use Rattle.roster_changes.specs.Changes.{IsLeastMatching};
-ghost use Rattle.roster_changes.specs.Matchings.{choice};
+ghost use Rattle.shift_figures.specs.roster_changes.Changes.{IsLeastMatching};
+ghost use Rattle.shift_figures.specs.roster_changes.Matchings.{choice};
 ghost use Rattle.page_command.specs.Compared.{
   IsBeside,
   IsCompared,
@@ -16,8 +16,8 @@ ghost use Rattle.page_command.specs.Compared.{
 };
 
 use page_text::Changes;
-use roster_changes::{changed_periods, changed_shifts, changes_of, is_different};
 use roster_model::{List, Memory, Shift};
+use shift_figures::{changed_periods, changed_shifts, changes_of, is_different};
 use std::alloc::Global;
 
 /// What differs between a roster and an old one, where there is one.

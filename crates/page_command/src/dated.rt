@@ -14,7 +14,7 @@ use crate::kind::Kind;
 use crate::refused::{line_answer, refused_labels};
 use answers::{Answer, Question, ask_texts, fetched};
 use page_labels::{Labels, read_labels};
-use roster_calendar::{Date, Setting, mark_of};
+use roster_csv::{Date, Setting, mark_of};
 use roster_model::{Instance, Memory};
 use shelf::Shelf;
 use std::alloc::Global;

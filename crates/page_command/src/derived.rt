@@ -1,10 +1,10 @@
 ghost use Rattle.std.specs.Prelude.{◌≡◌, All, length, IfOk};
-ghost use Rattle.group_rules.specs.Plain.{plain_from};
+ghost use Rattle.roster_value.specs.group_rules.Plain.{plain_from};
 ghost use Rattle.page_command.specs.Rows.{AreDerived, IsDerived, IsPricedRow, start_of};
 
-use group_rules::plain_grammar;
 use page_text::Row;
 use roster_model::{Grammar, Instance, List, Memory};
+use roster_value::plain_grammar;
 use std::alloc::Global;
 use text_commands::explain::derivation;
 

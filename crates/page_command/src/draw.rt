@@ -1,6 +1,6 @@
 ghost use Rattle.std.specs.Prelude.{◌≡◌, ◌≤◌, IfOk, IfSome, length};
 ghost use Rattle.std.specs.Option.{option_copied};
-ghost use Rattle.certificate_laws.specs.Accepted.{IsStated};
+ghost use Rattle.certificates.specs.certificate_laws.Accepted.{IsStated};
 ghost use Rattle.page_text.specs.Costs.{AreDayColumns};
 ghost use Rattle.roster_model.specs.SoundInstance.{IsSoundInstance};
 ghost use Rattle.roster_report.specs.Reports.{HasSoundShifts};
@@ -16,8 +16,7 @@ use crate::roster::ShownRoster;
 use crate::rows::{copied, rows_of};
 use page_labels::{Labels, code_words};
 use page_text::{CellCover, Content, Figures, add_columns, write_page};
-use roster_calendar::calendar_of;
-use roster_csv::table_of;
+use roster_csv::{calendar_of, table_of};
 use roster_model::{CodeDef, Grammar, Instance, List, Memory, Shift};
 use roster_report::paid;
 use roster_tables::{axis_times, tables_of};

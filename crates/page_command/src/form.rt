@@ -3,7 +3,7 @@ ghost use Rattle.page_command.specs.Run.{form_of, form_on, kind_of, labelled_for
 ghost use Rattle.page_command.specs.Asked.{asked};
 
 use crate::kind::{Kind, kind_of};
-use roster_calendar::{Date, date_of};
+use roster_csv::{Date, date_of};
 
 /// What the words of the command line ask for.
 #[derive(Clone, Copy, Drop)]

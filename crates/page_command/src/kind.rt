@@ -1,7 +1,7 @@
 ghost use Rattle.std.specs.Prelude.{◌≡◌};
 ghost use Rattle.page_command.specs.Run.{kind_of};
 
-use roster_calendar::Setting;
+use roster_csv::Setting;
 
 /// As what a roster is shown.
 #[derive(Clone, Copy, Debug, PartialEq, Eq, Drop)]

@@ -3,7 +3,7 @@ ghost use Rattle.roster_model.specs.declared.grammar.Grammar.{Grammar};
 ghost use Rattle.roster_model.specs.declared.instance.Group.{Group};
 ghost use Rattle.roster_model.specs.Extension.{extended};
 ghost use Rattle.page_command.specs.OnePage.{HaveOneCalendar, HaveOneLabelledPage, HaveOnePage, HaveOnePageBeside};
-ghost use Rattle.group_rules.specs.Plain.{plain_from};
+ghost use Rattle.roster_value.specs.group_rules.Plain.{plain_from};
 
 /// States a law: the same texts have the same answer; two pages of them are the same but for the trees of the
 /// derivations, of which each is one of the row's word at its price.

@@ -2,7 +2,7 @@ ghost use Rattle.std.specs.Prelude.{◌≡◌, ◌≢◌, ◌<◌, ◌≤◌, Er
 ghost use Rattle.roster_model.specs.Folds.{Each};
 ghost use Rattle.roster_model.specs.SoundInstance.{IsSoundInstance};
 ghost use Rattle.proof_pieces.specs.CertOf.{proof_of};
-ghost use Rattle.stated_rosters.specs.RosterOf.{roster_of};
+ghost use Rattle.roster_value.specs.stated_rosters.RosterOf.{roster_of};
 ghost use Rattle.page_command.specs.Draw.{IsOldRoster};
 ghost use Rattle.page_command.specs.Old.{Reads, RefusedOld, is_wrong, of_proof, of_report, old_of, whole_of};
 
@@ -12,7 +12,7 @@ use crate::report::is_report;
 use answers::Answer;
 use certificate_text::{ProofFault, read_cert};
 use roster_model::{Instance, List, Memory, Shift};
-use stated_rosters::{RosterFault, read_roster};
+use roster_value::{RosterFault, read_roster};
 use std::alloc::Global;
 
 // Whether a shift's word has another length than a day of so many periods.

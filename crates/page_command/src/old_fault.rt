@@ -1,11 +1,11 @@
 ghost use Rattle.std.specs.Prelude.{◌≡◌, ◌≤◌, ◌++◌, codes, drop, length, IfOk};
 ghost use Rattle.page_command.specs.Old.{fault_line, old_line};
 ghost use Rattle.proof_pieces.specs.FaultLine as proof_text;
-ghost use Rattle.stated_rosters.specs.FaultLine as roster_text;
+ghost use Rattle.roster_value.specs.stated_rosters.FaultLine as roster_text;
 
 use proof_pieces::ProofFault;
 use roster_model::{List, Memory};
-use stated_rosters::RosterFault;
+use roster_value::RosterFault;
 use std::alloc::Global;
 use text_lines::{field, put};
 
@@ -47,7 +47,7 @@ fn report_line(alloc: Global, fault: &RosterFault) -> Result<List<u8>, Memory>
     ensures { IfOk result (λ text. text ≡ old_line (roster_text.line_of fault.now)
         (roster_text.fault_text fault.now)) }
 {
-    let line = stated_rosters::fault_line(alloc, fault)?;
+    let line = roster_value::fault_line(alloc, fault)?;
     renamed(alloc, b"roster: ", line.as_slice())
 }
 

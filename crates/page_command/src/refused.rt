@@ -10,10 +10,10 @@ use answers::{Answer, proof_refusal};
 use page_labels::{LabelFault, fault_line};
 use proof_check::Judged;
 use roster_model::{Instance, Memory};
-use stated_rosters::read_roster;
+use roster_value::read_roster;
 use std::alloc::Global;
 use text_commands::check::judged;
-use what_if::value::roster_refusal;
+use text_commands::what_if::value::roster_refusal;
 
 // Says a line with status 5.
 fn line_said(alloc: Global, line: &[u8]) -> Result<Answer, Memory>

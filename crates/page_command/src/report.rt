@@ -1,7 +1,7 @@
 ghost use Rattle.std.specs.Prelude.{◌≡◌, IfOk, IfSome};
 ghost use Rattle.std.specs.Option.{option_copied};
 ghost use Rattle.roster_model.specs.SoundInstance.{IsSoundInstance};
-ghost use Rattle.stated_rosters.specs.RosterOf.{IsSoundRoster};
+ghost use Rattle.roster_value.specs.stated_rosters.RosterOf.{IsSoundRoster};
 ghost use Rattle.page_command.specs.Draw.{IsOldRoster};
 ghost use Rattle.page_command.specs.Judgement.{StatedJudgement};
 ghost use Rattle.page_command.specs.Report.{ReportAnswers, is_report};
@@ -12,10 +12,9 @@ use crate::roster::stated;
 use answers::Answer;
 use page_labels::Labels;
 use roster_model::{Instance, Memory, Shift};
-use roster_value::{Judged, judge};
-use stated_rosters::{begins_report, read_roster};
+use roster_value::{Judged, begins_report, judge, read_roster};
 use std::alloc::Global;
-use what_if::value::{roster_refusal, value_of};
+use text_commands::what_if::value::{roster_refusal, value_of};
 
 /// A proof text has at most so many bytes.
 const MOST_BYTES: usize = 1_073_741_824;

@@ -3,7 +3,7 @@ ghost use Rattle.roster_model.specs.SoundInstance.{IsSoundInstance};
 
 use demand_text::read_demand;
 use page_labels::{Clock, Labels, read_labels};
-use roster_calendar::{Setting, calendar_of, date_of, mark_of};
+use roster_csv::{Setting, calendar_of, date_of, mark_of};
 use roster_model::{Instance, List, Shift};
 use rules_text::read_rules;
 use std::alloc::Global;

@@ -1,7 +1,7 @@
 ghost use Rattle.std.specs.Prelude.{◌≤◌, length};
 
-use roster_changes::{changed_periods, changed_shifts, changes_of, is_left_over};
 use roster_model::{List, Memory, Shift};
+use shift_figures::{changed_periods, changed_shifts, changes_of, is_left_over};
 use std::alloc::Global;
 
 // The group and the word of a shift.

@@ -9,10 +9,10 @@ use Rattle.roster_model.specs.Grammar.{rule_at}
 use Rattle.roster_model.specs.Folds.{In, sum_n, count}
 use Rattle.roster_model.specs.Trees.{Parts, IsDayTree}
 use Rattle.roster_model.specs.Arcs.{Letter, IsArc, arcs, letters}
-use Rattle.tree_laws.proofs.Symbols.{here, here_last}
-use Rattle.arc_laws.specs.OrNodes.{OrNode, name, suffix, leaf, same_node, right_of, made_by, made, symbol_node, rest_node, used_by, used, root_of}
-use Rattle.arc_laws.proofs.BalanceLemmas.{left_of-is, right_of-is, tree_balanced, used_total}
-use Rattle.arc_laws.proofs.FoldsLemmas.{count-none}
+use Rattle.roster_model.proofs.tree_laws.Symbols.{here, here_last}
+use Rattle.roster_model.specs.arc_laws.OrNodes.{OrNode, name, suffix, leaf, same_node, right_of, made_by, made, symbol_node, rest_node, used_by, used, root_of}
+use Rattle.roster_model.proofs.arc_laws.BalanceLemmas.{left_of-is, right_of-is, tree_balanced, used_total}
+use Rattle.roster_model.proofs.arc_laws.FoldsLemmas.{count-none}
 use Rattle.std.proofs.lemmas.Bool.{eqb-true, eq-eqb, and_parts}
 
 pub made-name : (g : Grammar) (r k i l : ℕ) (rule : Rule) → rule_at g r ≡ Some rule → k ≡ 0 → made_by g r k i l ≡ name rule.left i l

@@ -7,8 +7,8 @@ use Rattle.roster_model.specs.declared.grammar.ArcKey.{ArcKey}
 use Rattle.roster_model.specs.declared.grammar.Grammar.{Grammar}
 use Rattle.roster_model.specs.Folds.{In}
 use Rattle.roster_model.proofs.EachLemmas.{get-in}
-use Rattle.arc_laws.specs.Lists.{AreArcs}
-use Rattle.arc_laws.specs.OrNodes.{OrNode, name, suffix, leaf, used, root_of}
+use Rattle.roster_model.specs.arc_laws.Lists.{AreArcs}
+use Rattle.roster_model.specs.arc_laws.OrNodes.{OrNode, name, suffix, leaf, used, root_of}
 use Rattle.parse_graph.specs.declared.kid.Kid.{Kid}
 use Rattle.parse_graph.specs.declared.node.NodeKey.{NodeKey}
 use Rattle.parse_graph.specs.declared.joints.Joints.{Joints}

@@ -7,9 +7,9 @@ use Rattle.roster_model.specs.declared.grammar.ArcKey.{ArcKey}
 use Rattle.roster_model.specs.declared.grammar.Grammar.{Grammar}
 use Rattle.roster_model.specs.declared.grammar.Sym.{Sym}
 use Rattle.roster_model.specs.declared.grammar.Sym.TheVariants.{Code, Name}
-use Rattle.tree_laws.proofs.ListPushes.{push-kept, push-here, push-cases}
-use Rattle.arc_laws.specs.OrNodes.{OrNode, name, suffix, leaf, same_node, right_of, made, symbol_node, rest_node, used_by, used}
-use Rattle.arc_laws.specs.AtNodes.{start_of}
+use Rattle.roster_model.proofs.tree_laws.ListPushes.{push-kept, push-here, push-cases}
+use Rattle.roster_model.specs.arc_laws.OrNodes.{OrNode, name, suffix, leaf, same_node, right_of, made, symbol_node, rest_node, used_by, used}
+use Rattle.roster_model.specs.arc_laws.AtNodes.{start_of}
 use Rattle.parse_graph.specs.declared.kid.Kid.{Kid}
 use Rattle.parse_graph.specs.declared.kid.Kid.TheVariants.{Nothing, Letter, Node}
 use Rattle.parse_graph.specs.declared.rows.Entry.{Entry}

@@ -7,8 +7,8 @@ use Rattle.std.proofs.lemmas.Option.{same_Some, slice_get-get_or, slice_get-map}
 use Rattle.std.proofs.lemmas.List.{length-map}
 use Rattle.std.proofs.lemmas.List.Quantifiers.{position-Some}
 use Rattle.indexmap.specs.IndexSet.{insert_key}
-use Rattle.tree_laws.proofs.ListPushes.{push-cases}
-use Rattle.arc_laws.specs.OrNodes.{OrNode}
+use Rattle.roster_model.proofs.tree_laws.ListPushes.{push-cases}
+use Rattle.roster_model.specs.arc_laws.OrNodes.{OrNode}
 use Rattle.parse_graph.specs.declared.node.NodeKey.{NodeKey}
 use Rattle.parse_graph.specs.declared.node.NodeKey.TheVariants.{Name, Suffix}
 use Rattle.parse_graph.specs.declared.kid.Kid.TheVariants.{Node}

@@ -6,8 +6,8 @@ use Rattle.roster_model.specs.Trees.{Parts, IsDayTree}
 use Rattle.roster_model.specs.Folds.{In}
 use Rattle.roster_model.specs.Arcs.{IsArc}
 use Rattle.roster_model.specs.Sound.{IsSound}
-use Rattle.arc_laws.specs.OrNodes.{OrNode, name, suffix, leaf, same_node, made, used, root_of}
-use Rattle.arc_laws.specs.Lists.{AreArcs}
+use Rattle.roster_model.specs.arc_laws.OrNodes.{OrNode, name, suffix, leaf, same_node, made, used, root_of}
+use Rattle.roster_model.specs.arc_laws.Lists.{AreArcs}
 use Rattle.parse_graph.specs.declared.fault.GraphFault.{GraphFault}
 use Rattle.parse_graph.specs.declared.fault.GraphFault.TheVariants.{TooManyArcs, Memory}
 use Rattle.parse_graph.specs.declared.kid.Kid.{Kid}

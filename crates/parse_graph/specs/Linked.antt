@@ -3,7 +3,7 @@ use Rattle.std.specs.Prelude.{ℕ, ◌≡◌, ◌<◌, ◌≤◌, ◌⊎◌, ◌
 use Rattle.roster_model.specs.declared.grammar.ArcKey.{ArcKey}
 use Rattle.roster_model.specs.declared.grammar.Grammar.{Grammar}
 use Rattle.roster_model.specs.Folds.{In}
-use Rattle.arc_laws.specs.OrNodes.{OrNode, name, suffix, leaf, same_node, made, used}
+use Rattle.roster_model.specs.arc_laws.OrNodes.{OrNode, name, suffix, leaf, same_node, made, used}
 use Rattle.parse_graph.specs.declared.kid.Kid.{Kid}
 use Rattle.parse_graph.specs.declared.kid.Kid.TheVariants.{Nothing, Letter, Node}
 use Rattle.parse_graph.specs.declared.links.Links.{Links}

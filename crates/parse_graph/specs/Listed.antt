@@ -2,7 +2,7 @@
 use Rattle.std.specs.Prelude.{ℕ, ◌≡◌, ◌≤◌, All, List, length}
 use Rattle.roster_model.specs.declared.grammar.ArcKey.{ArcKey}
 use Rattle.roster_model.specs.declared.grammar.Grammar.{Grammar}
-use Rattle.arc_laws.specs.Lists.{AreArcs}
+use Rattle.roster_model.specs.arc_laws.Lists.{AreArcs}
 use Rattle.span_arcs.specs.Shapes.{IsShaped}
 
 -- so many arcs has the instance

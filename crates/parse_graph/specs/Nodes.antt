@@ -1,5 +1,5 @@
 -- The nodes of a graph as contracts see them.
-use Rattle.arc_laws.specs.OrNodes.{OrNode, name, suffix}
+use Rattle.roster_model.specs.arc_laws.OrNodes.{OrNode, name, suffix}
 use Rattle.parse_graph.specs.declared.node.NodeKey.{NodeKey}
 use Rattle.parse_graph.specs.declared.node.NodeKey.TheVariants.{Name, Suffix}
 

@@ -1,7 +1,7 @@
 ghost use Rattle.std.specs.Prelude.{◌≡◌, ◌≤◌, ◌<◌, Some, IfOk, IfErr, IfSome, IfNone, length, slice_get};
 ghost use Rattle.roster_model.specs.Sound.{IsSound};
 ghost use Rattle.roster_model.specs.Folds.{In};
-ghost use Rattle.grammar_core.specs.Items.{IsNormal, IsOrder};
+ghost use Rattle.tree_pool.specs.grammar_core.Items.{IsNormal, IsOrder};
 ghost use Rattle.parse_graph.specs.Graphs.{HasGrammar, IsGraph, IsRefused};
 ghost use Rattle.parse_graph.specs.Levels.{IsUpward};
 ghost use Rattle.parse_graph.specs.Listed.{AreListed};
@@ -13,11 +13,11 @@ use crate::level::{Upward, sort_upward};
 use crate::links::ArcLinks;
 use crate::search::search;
 use crate::walk::list_arcs;
-use grammar_core::Normal;
 use roster_model::{ArcKey, Grammar, List};
 use span_arcs::DayArcs;
 use std::alloc::Global;
 use std::marker::Model;
+use tree_pool::Normal;
 
 /// The shared graph of all parses of an instance. An arc is a suffix of a rule on a span with the
 /// length of its first part; it makes the rule's name on the span, or the suffix where that is not

@@ -1,7 +1,7 @@
 ghost use Rattle.std.specs.Prelude.{◌≡◌, ◌≤◌, ◌<◌, ◌+◌, ◌++◌, ◌∷◌, [], Some, All, length, map, slice_get, IfOk, OnOk, List as Items};
 ghost use Rattle.roster_model.specs.declared.grammar.ArcKey.{ArcKey as Arc};
 ghost use Rattle.roster_model.specs.Sound.{IsSound};
-ghost use Rattle.arc_laws.specs.OrNodes.{made, used, symbol_node, root_of};
+ghost use Rattle.roster_model.specs.arc_laws.OrNodes.{made, used, symbol_node, root_of};
 ghost use Rattle.parse_graph.specs.Graphs.{HasArcs, IsKid, AreKids};
 ghost use Rattle.parse_graph.specs.Nodes.{or_node};
 ghost use Rattle.span_arcs.specs.Shapes.{IsShaped};

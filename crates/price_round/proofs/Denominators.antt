@@ -7,7 +7,7 @@ use Rattle.std.proofs.Math.Nat.{div-mul_cancel, mul-div_cancel'}
 use native.Mathlib.Nat.{dvd-mul_left, dvd-mul_right, le_of_dvd}
 use Rattle.fraction.proofs.CoprimeProducts.{gauss, cancel}
 use Rattle.fraction.proofs.LowestTerms.{gcd_positive, reduced_quot}
-use Rattle.master_laws.specs.Rounding.{IsMadeWhole}
+use Rattle.bound_laws.specs.master_laws.Rounding.{IsMadeWhole}
 use Rattle.price_round.specs.Denominators.{IsNext, IsPast}
 
 divides : (k n m : ℕ) → k * m ≡ n → k ∣ n

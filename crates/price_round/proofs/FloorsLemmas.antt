@@ -2,15 +2,15 @@
 use Rattle.std.proofs.Common.{◌≡◌, ℕ, ℤ, arith, pos, negsuc, neg_ℤ, ◌+ℤ◌, ◌-ℤ◌, ◌*ℤ◌, ◌<ℤ◌, ◌≤ℤ◌, ◌^◌, ◌<◌, ◌≤◌, unsigned_abs, ap, ◌∙◌}
 use Rattle.std.proofs.lemmas.Int.{ints}
 use lib.IntN.{*ℤ_comm}
-use Rattle.linear_programs.proofs.Ring.{*ℤ-+ℤ, pos_factor}
-use Rattle.linear_programs.proofs.Orders.{times_le}
+use Rattle.bound_laws.proofs.linear_programs.Ring.{*ℤ-+ℤ, pos_factor}
+use Rattle.bound_laws.proofs.linear_programs.Orders.{times_le}
 use Rattle.fraction.proofs.Order.{euclid}
 use Rattle.fraction.specs.Scaled.{scaled_floor}
 use Rattle.fraction.specs.declared.wide.TooWide.{TooWide}
 use Rattle.fraction.specs.declared.wide.TooWide.TheVariants.{Scaled}
 use Rattle.roster_model.specs.Sums.{Within}
-use Rattle.master_laws.specs.Rounding.{IsFloor}
-use Rattle.master_laws.proofs.Numbers.{add_times, neg_times}
+use Rattle.bound_laws.specs.master_laws.Rounding.{IsFloor}
+use Rattle.bound_laws.proofs.master_laws.Numbers.{add_times, neg_times}
 use Rattle.price_round.specs.Floors.{IsWide}
 
 pub floor_is : (kappa x : ℤ) (d : ℕ) → pos 0 <ℤ kappa → IsFloor kappa d x (scaled_floor x kappa d)

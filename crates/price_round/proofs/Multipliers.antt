@@ -10,8 +10,8 @@ use Rattle.roster_model.specs.PriceLimits.{IsMult, AreRising, Lacks}
 use Rattle.roster_model.specs.Reduced.{mult_of, signed}
 use Rattle.roster_model.proofs.Mults.{lacked}
 use Rattle.roster_model.proofs.EachLemmas.{all_each, Each-weaker, Each-append}
-use Rattle.master_laws.specs.Rounding.{IsFloor, AreFloors, AreMults}
-use Rattle.master_laws.specs.Laws.{HasSign, HaveSigns}
+use Rattle.bound_laws.specs.master_laws.Rounding.{IsFloor, AreFloors, AreMults}
+use Rattle.bound_laws.specs.master_laws.Laws.{HasSign, HaveSigns}
 use Rattle.price_round.specs.Floors.{AreMultsOf, with_mult}
 
 module _ (kappa : ℤ) (d : ℕ) where

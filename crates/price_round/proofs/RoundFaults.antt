@@ -8,7 +8,7 @@ use Rattle.roster_model.specs.declared.instance.Side.{Side}
 use Rattle.roster_model.specs.declared.instance.Side.TheVariants.{Low, High}
 use Rattle.roster_model.specs.Folds.{In}
 use Rattle.roster_model.specs.Reduced.{signed}
-use Rattle.master_laws.specs.Rounding.{IsDenominator, IsFloor}
+use Rattle.bound_laws.specs.master_laws.Rounding.{IsDenominator, IsFloor}
 use Rattle.price_round.specs.declared.round.RoundFault.{RoundFault}
 use Rattle.price_round.specs.declared.round.RoundFault.TheVariants.{Wide, Memory}
 use Rattle.price_round.specs.Faults.{IsRoundFault, HasWideNumber}

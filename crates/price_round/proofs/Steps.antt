@@ -5,7 +5,7 @@ use native.Mathlib.Nat.{one-dvd, le_of_dvd, dvd-mul_right}
 use native.Mathlib.Numerals.{add-one}
 use Rattle.roster_model.specs.Folds.{Each}
 use Rattle.roster_model.proofs.EachLemmas.{Each-append, Each-left, Each-right}
-use Rattle.master_laws.specs.Rounding.{IsMadeWhole, IsLeastWhole}
+use Rattle.bound_laws.specs.master_laws.Rounding.{IsMadeWhole, IsLeastWhole}
 use Rattle.price_round.specs.Denominators.{IsNext, IsPast, AreAllPast, IsLeastFor}
 
 pub first : (kappa : ℤ) → IsLeastFor kappa [] 1

@@ -2,7 +2,7 @@
 use Rattle.std.specs.Prelude.{ℕ, ℤ, ◌≤◌, ◌<◌, ◌^◌, List}
 use Rattle.std.specs.Int.{◌∣◌}
 use Rattle.roster_model.specs.Folds.{Each}
-use Rattle.master_laws.specs.Rounding.{IsMadeWhole}
+use Rattle.bound_laws.specs.master_laws.Rounding.{IsMadeWhole}
 
 -- the multiples of `next` are those of d that make x / kappa whole
 pub record IsNext (d : ℕ) (x kappa : ℤ) (next : ℕ) : Type 0 where

@@ -3,7 +3,7 @@ use Rattle.std.specs.Prelude.{ℕ, ℤ, ◌≡◌, ◌⊎◌, ◌++◌, List}
 use Rattle.roster_model.specs.declared.instance.Cut.{Cut}
 use Rattle.fraction.specs.Range.{Counts, refused}
 use Rattle.fraction.specs.declared.wide.TooWide.{TooWide}
-use Rattle.master_laws.specs.Rounding.{IsDenominator}
+use Rattle.bound_laws.specs.master_laws.Rounding.{IsDenominator}
 use Rattle.price_round.specs.Floors.{HasWideCell, HasWideMult}
 use Rattle.price_round.specs.declared.round.RoundFault.{RoundFault}
 use Rattle.price_round.specs.declared.round.RoundFault.TheVariants.{Wide, Memory}

@@ -8,7 +8,7 @@ use Rattle.roster_model.specs.Reduced.{signed}
 use Rattle.fraction.specs.Range.{Counts, refused}
 use Rattle.fraction.specs.declared.wide.TooWide.{TooWide}
 use Rattle.fraction.specs.declared.wide.TooWide.TheVariants.{Scaled}
-use Rattle.master_laws.specs.Rounding.{IsFloor, AreMults}
+use Rattle.bound_laws.specs.master_laws.Rounding.{IsFloor, AreMults}
 use Rattle.price_round.specs.declared.round.RoundFault.{RoundFault}
 use Rattle.price_round.specs.declared.round.RoundFault.TheVariants.{Wide, Memory}
 

@@ -1,6 +1,6 @@
 ghost use Rattle.std.specs.Prelude.{ℕ, ℤ, ◌≤◌, ◌<◌, ◌^◌, pos, ◌<ℤ◌, List, ◌++◌, IfSome, IfNone};
 ghost use Rattle.fraction.specs.Range.{InRange};
-ghost use Rattle.master_laws.specs.Rounding.{IsLeastWhole, IsDenominator};
+ghost use Rattle.bound_laws.specs.master_laws.Rounding.{IsLeastWhole, IsDenominator};
 ghost use Rattle.price_round.specs.Denominators.{IsNext, IsPast, AreAllPast, IsLeastFor};
 
 use fraction::gcd_unsigned;

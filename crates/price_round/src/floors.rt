@@ -1,8 +1,8 @@
 ghost use Rattle.std.specs.Prelude.{ℕ, ℤ, ◌≡◌, ◌≤◌, ◌<◌, ◌+◌, ◌^◌, pos, neg_ℤ, ◌+ℤ◌, ◌<ℤ◌, ◌≤ℤ◌, length, All, OnOk, OnErr, IfOk, IfErr};
 ghost use Rattle.roster_model.specs.Sums.{Within};
 ghost use Rattle.roster_model.specs.Reduced.{signed};
-ghost use Rattle.master_laws.specs.Rounding.{IsFloor, AreFloors};
-ghost use Rattle.master_laws.specs.Laws.{HasSign, HaveSigns};
+ghost use Rattle.bound_laws.specs.master_laws.Rounding.{IsFloor, AreFloors};
+ghost use Rattle.bound_laws.specs.master_laws.Laws.{HasSign, HaveSigns};
 ghost use Rattle.price_round.specs.Floors.{IsNumberFault, IsCellFault, IsMultFault, AreMultsOf, with_mult};
 
 use crate::round::RoundFault;

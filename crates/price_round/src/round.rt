@@ -3,8 +3,8 @@ ghost use Rattle.roster_model.specs.Folds.{Each};
 ghost use Rattle.roster_model.specs.Sums.{Within};
 ghost use Rattle.roster_model.specs.PriceLimits.{IsMult, AreRising};
 ghost use Rattle.roster_model.specs.declared.instance.Mult.{Mult};
-ghost use Rattle.master_laws.specs.Rounding.{AreRounded};
-ghost use Rattle.master_laws.specs.Laws.{HaveSigns};
+ghost use Rattle.bound_laws.specs.master_laws.Rounding.{AreRounded};
+ghost use Rattle.bound_laws.specs.master_laws.Laws.{HaveSigns};
 ghost use Rattle.price_round.specs.Faults.{IsRoundFault};
 
 use crate::denominator::denominator;

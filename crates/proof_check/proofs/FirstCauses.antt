@@ -9,11 +9,11 @@ use Rattle.certificates.specs.declared.why.Why.{Why}
 use Rattle.certificates.specs.declared.why.Why.TheVariants.{NotAShift, ShiftCost, WrongHeads, WrongCost, NotAnArc, EmptyHalf, NotPinned, BoundTooHigh, Outside}
 use Rattle.certificates.specs.Nodes.{Proof, preorder, visits}
 use Rattle.certificates.specs.RosterCauses.{IsFirstOutside}
-use Rattle.certificate_laws.specs.Accepted.{IsStated, bound_number, Accepts}
-use Rattle.certificate_laws.specs.Causes.{Cause, cause_number, stated_bound, IsFirstCause}
-use Rattle.certificate_laws.specs.Shown.{Shows}
-use Rattle.certificate_laws.proofs.NoCause.{no-shift-refused, mispriced-refused, heads-refused, cost-refused, no-arc-cause, half-cause, pinned-cause, above-cause, has-cost}
-use Rattle.roster_part.specs.Faults.{IsRosterCause, HasNoOtherWord, HasNoOtherPrice, HasNoOtherHeads}
+use Rattle.certificates.specs.certificate_laws.Accepted.{IsStated, bound_number, Accepts}
+use Rattle.certificates.specs.certificate_laws.Causes.{Cause, cause_number, stated_bound, IsFirstCause}
+use Rattle.certificates.specs.certificate_laws.Shown.{Shows}
+use Rattle.certificates.proofs.certificate_laws.NoCause.{no-shift-refused, mispriced-refused, heads-refused, cost-refused, no-arc-cause, half-cause, pinned-cause, above-cause, has-cost}
+use Rattle.check_parts.specs.roster_part.Faults.{IsRosterCause, HasNoOtherWord, HasNoOtherPrice, HasNoOtherHeads}
 use Rattle.proof_check.specs.Verdicts.{HasRightRoster, IsCoverageRight, States}
 use Rattle.proof_check.specs.Walked.{AreOnArcs, LeaveBoth, AreTight, IsVisitsCause}
 

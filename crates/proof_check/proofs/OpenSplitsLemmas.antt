@@ -9,7 +9,7 @@ use Rattle.roster_model.specs.declared.instance.Side.TheVariants.{Low, High}
 use Rattle.certificates.specs.declared.cert.Node.{Node}
 use Rattle.certificates.specs.declared.cert.Node.TheVariants.{Split, Priced, Pinned, Bare}
 use Rattle.certificates.specs.Nodes.{Proof, split, priced, pinned, bare, preorder, Visit, visits, low_cut, high_cut}
-use Rattle.certificate_laws.specs.Shown.{Shows, IsSplitValue, joined}
+use Rattle.certificates.specs.certificate_laws.Shown.{Shows, IsSplitValue, joined}
 use Rattle.proof_check.specs.declared.frame.Frame.{Frame}
 use Rattle.proof_check.specs.OpenSplits.{path, ValueAfter, LeadsTo, VisitsAfter, MakeVisits, VisitsNext, IsLeaf, IsLeafValue, IsOwnValue}
 

@@ -10,7 +10,7 @@ use Rattle.proof_check.specs.OpenSplits.{path}
 use Rattle.proof_check.proofs.OpenSplitsLemmas.{value-high, visits-high}
 use Rattle.proof_pieces.specs.PieceList.{after_leaf}
 use Rattle.proof_check.specs.Stacks.{StackView, AreSmall, is_high, halves_of, IsClosing}
-use Rattle.certificate_laws.specs.Shown.{joined}
+use Rattle.certificates.specs.certificate_laws.Shown.{joined}
 
 -- one more cut is small
 pub small-more : (cuts : List Cut) (c : Cut) → AreSmall cuts → c.b ≤ 63 → AreSmall (cuts ++ c ∷ [])

@@ -1,7 +1,7 @@
 -- A walk over the nodes of a tree, one node after another.
 use Rattle.std.proofs.Common.{◌≡◌, ℕ, zero, suc, arith, ◌+◌, ◌≤◌, ◌<◌, Bool, true, Option, None, Some, List, [], ◌∷◌, ◌++◌, length, take, drop, get_or, add-one, drop-cons, sym, refl, ap, subst, ◌∙◌}
 use Rattle.std.specs.Prelude.{IsSome, cond, nat_lt, false}
-use Rattle.certificate_laws.specs.Causes.{cause_number}
+use Rattle.certificates.specs.certificate_laws.Causes.{cause_number}
 use Rattle.std.proofs.lemmas.List.{length-append, length-take-le, drop_all, take_all}
 use Rattle.roster_model.specs.declared.instance.Cut.{Cut}
 use Rattle.roster_model.specs.declared.instance.Instance.{Instance}
@@ -13,10 +13,10 @@ use Rattle.certificates.specs.declared.why.Why.{Why}
 use Rattle.certificates.specs.Nodes.{Proof, split, priced, pinned, bare, preorder, Visit, visits, low_cut, high_cut}
 use Rattle.certificates.specs.Sound.{IsSoundVisit, IsSoundProof, NoneIsZero}
 use Rattle.proof_check.specs.declared.frame.Frame.{Frame}
-use Rattle.certificate_laws.specs.Shown.{Shows}
+use Rattle.certificates.specs.certificate_laws.Shown.{Shows}
 use Rattle.proof_check.specs.OpenSplits.{path, LeadsTo, MakeVisits, ValueNext, VisitsNext}
 use Rattle.proof_check.proofs.OpenSplitsLemmas.{visits-split, visits-leaf, visits-start, not-yet, at-end, whole-shows}
-use Rattle.certificate_laws.proofs.OneProof.{same-proof}
+use Rattle.certificates.proofs.certificate_laws.OneProof.{same-proof}
 use Rattle.proof_check.specs.declared.walk.Walk.{Walk}
 use Rattle.proof_check.specs.Stacks.{StackView, AreSmall}
 use Rattle.proof_check.specs.Steps.{next_visit, MayFollow, IsStep, IsWalking}

@@ -11,12 +11,12 @@ use Rattle.certificates.specs.declared.why.Why.TheVariants.{NotAShift, ShiftCost
 use Rattle.certificates.specs.Nodes.{visits}
 use Rattle.certificates.specs.RosterCauses.{IsFirstOutside}
 use Rattle.certificates.specs.Sound.{IsSoundCert}
-use Rattle.certificate_laws.specs.Accepted.{bound_number, Accepts}
-use Rattle.certificate_laws.specs.Causes.{stated_bound, IsFirstCause}
-use Rattle.certificate_laws.specs.Shown.{Shows}
-use Rattle.certificate_laws.specs.Right.{YesIsRight}
-use Rattle.certificate_laws.proofs.RightLemmas.{yes-is-sound}
-use Rattle.roster_part.specs.Faults.{IsCoverageCause}
+use Rattle.certificates.specs.certificate_laws.Accepted.{bound_number, Accepts}
+use Rattle.certificates.specs.certificate_laws.Causes.{stated_bound, IsFirstCause}
+use Rattle.certificates.specs.certificate_laws.Shown.{Shows}
+use Rattle.certificates.specs.certificate_laws.Right.{YesIsRight}
+use Rattle.certificates.proofs.certificate_laws.RightLemmas.{yes-is-sound}
+use Rattle.check_parts.specs.roster_part.Faults.{IsCoverageCause}
 use Rattle.proof_check.specs.declared.walk.Walk.{Walk}
 use Rattle.proof_check.specs.Verdicts.{HasRightRoster, IsCoverageRight, States, IsWalked}
 use Rattle.proof_check.specs.Walked.{IsVisitsCause}

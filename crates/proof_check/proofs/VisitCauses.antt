@@ -6,8 +6,8 @@ use Rattle.certificates.specs.declared.why.Why.{Why}
 use Rattle.certificates.specs.declared.why.Why.TheVariants.{NotAShift, ShiftCost, WrongHeads, WrongCost, NotAnArc, EmptyHalf, NotPinned, BoundTooHigh, Outside}
 use Rattle.certificates.specs.Nodes.{Visit}
 use Rattle.certificates.specs.NodeCauses.{SplitsNoArc, HasEmptyHalf, IsFirstNoArc, IsFirstEmptyHalf, IsFirstUnpinned}
-use Rattle.certificate_laws.specs.Accepted.{IsOnArc, LeavesBoth, IsTight}
-use Rattle.certificate_laws.proofs.NoCause.{no-arc-refused, empty-half-refused, unpinned-refused}
+use Rattle.certificates.specs.certificate_laws.Accepted.{IsOnArc, LeavesBoth, IsTight}
+use Rattle.certificates.proofs.certificate_laws.NoCause.{no-arc-refused, empty-half-refused, unpinned-refused}
 use Rattle.proof_check.specs.Walked.{IsVisitCause, AreOnArcs, LeaveBoth, AreTight, IsVisitsCause, lesser_cause}
 use Rattle.proof_check.proofs.Firsts.{first-stays, first-added}
 

@@ -10,7 +10,7 @@ use Rattle.certificates.specs.declared.cert.Node.{Node}
 use Rattle.certificates.specs.declared.cert.Node.TheVariants.{Split, Priced, Pinned, Bare}
 use Rattle.certificates.specs.Nodes.{Proof, preorder, Visit, visits, high_cut}
 use Rattle.proof_check.specs.declared.frame.Frame.{Frame}
-use Rattle.certificate_laws.specs.Shown.{Shows, joined}
+use Rattle.certificates.specs.certificate_laws.Shown.{Shows, joined}
 
 -- the cuts on the way to the next node, where the innermost split is the first of the list
 abbrev pub path : List Cut → List Frame → List Cut

@@ -3,7 +3,7 @@ use Rattle.std.specs.Prelude.{◌≡◌}
 use Rattle.roster_model.specs.declared.grammar.Grammar.{Grammar}
 use Rattle.roster_model.specs.declared.instance.Instance.{Instance}
 use Rattle.roster_model.specs.PriceRooms.{IsRoomFor}
-use Rattle.pinned_part.specs.Rooms.{IsRoomFor as HasPlaces}
+use Rattle.check_parts.specs.pinned_part.Rooms.{IsRoomFor as HasPlaces}
 use Rattle.span_arcs.specs.DayArcs.{IsDayArcsOf}
 use Rattle.span_table.specs.Tables.{IsMadeFor}
 use Rattle.proof_check.specs.declared.rooms.Rooms.{Rooms}

@@ -10,11 +10,11 @@ use Rattle.certificates.specs.declared.cert.Cert.{Cert}
 use Rattle.certificates.specs.declared.cert.Node.{Node}
 use Rattle.certificates.specs.Nodes.{Proof, preorder, visits}
 use Rattle.certificates.specs.RosterCauses.{duties}
-use Rattle.certificate_laws.specs.Accepted.{Accepts}
-use Rattle.certificate_laws.specs.Causes.{IsFirstCause}
-use Rattle.certificate_laws.specs.Shown.{Shows}
-use Rattle.certificate_laws.specs.Right.{YesIsRight}
-use Rattle.roster_part.specs.Faults.{IsRightlyStated}
+use Rattle.certificates.specs.certificate_laws.Accepted.{Accepts}
+use Rattle.certificates.specs.certificate_laws.Causes.{IsFirstCause}
+use Rattle.certificates.specs.certificate_laws.Shown.{Shows}
+use Rattle.certificates.specs.certificate_laws.Right.{YesIsRight}
+use Rattle.check_parts.specs.roster_part.Faults.{IsRightlyStated}
 use Rattle.certificates.specs.declared.verdict.Verdict.{Verdict}
 use Rattle.certificates.specs.declared.verdict.Verdict.TheVariants.{Yes, No}
 use Rattle.proof_check.specs.declared.walk.Walk.{Walk}

@@ -5,10 +5,10 @@ use Rattle.roster_model.specs.Folds.{Each}
 use Rattle.certificates.specs.declared.why.Why.{Why}
 use Rattle.certificates.specs.declared.why.Why.TheVariants.{NotAShift, ShiftCost, WrongHeads, WrongCost, NotAnArc, EmptyHalf, NotPinned, BoundTooHigh, Outside}
 use Rattle.certificates.specs.Nodes.{Visit}
-use Rattle.arc_laws.specs.Loose.{IsFirstLoose}
+use Rattle.roster_model.specs.arc_laws.Loose.{IsFirstLoose}
 use Rattle.certificates.specs.NodeCauses.{SplitsNoArc, HasEmptyHalf, IsUnpinned, IsFirstNoArc, IsFirstEmptyHalf, IsFirstUnpinned}
-use Rattle.certificate_laws.specs.Accepted.{IsOnArc, LeavesBoth, IsTight}
-use Rattle.certificate_laws.specs.Causes.{cause_number}
+use Rattle.certificates.specs.certificate_laws.Accepted.{IsOnArc, LeavesBoth, IsTight}
+use Rattle.certificates.specs.certificate_laws.Causes.{cause_number}
 
 -- nothing is wrong with the visit
 pub record IsRight (i : Instance) (v : Visit) : Type 0 where

@@ -4,7 +4,7 @@ use Rattle.roster_model.specs.declared.instance.Instance.{Instance}
 use Rattle.certificates.specs.declared.cert.Cert.{Cert}
 use Rattle.certificates.specs.declared.verdict.Verdict.{Verdict}
 use Rattle.certificates.specs.declared.verdict.Verdict.TheVariants.{Yes, No}
-use Rattle.certificate_laws.specs.Accepted.{Accepts}
+use Rattle.certificates.specs.certificate_laws.Accepted.{Accepts}
 use Rattle.proof_check.specs.Verdicts.{IsVerdict}
 
 abbrev pub IsYes : Verdict → Type 0

@@ -4,8 +4,8 @@ ghost use Rattle.roster_model.specs.SoundInstance.{IsSoundInstance};
 ghost use Rattle.certificates.specs.declared.cert.Cert.{Cert as Stated};
 ghost use Rattle.certificates.specs.Nodes.{Proof};
 ghost use Rattle.certificates.specs.Sound.{IsSoundCert, IsSoundProof, IsSoundShift, NoneIsZero};
-ghost use Rattle.certificate_laws.specs.Causes.{IsFirstCause};
-ghost use Rattle.roster_part.specs.Faults.{IsCoverageCause};
+ghost use Rattle.certificates.specs.certificate_laws.Causes.{IsFirstCause};
+ghost use Rattle.check_parts.specs.roster_part.Faults.{IsCoverageCause};
 ghost use Rattle.proof_check.specs.Steps.{IsWalkerFor};
 ghost use Rattle.proof_check.specs.Verdicts.{HasRightRoster, IsCoverageRight, States, IsWalked, IsVerdict};
 
@@ -14,8 +14,8 @@ use crate::verdict::bound_cause;
 use crate::walk::Walk;
 use crate::walker::Walker;
 use certificates::{Cert, Node, Verdict, Why};
+use check_parts::{StatedShift, coverage_fault, roster_fault};
 use roster_model::Instance;
-use roster_part::{StatedShift, coverage_fault, roster_fault};
 
 impl Walker {
     // Sees all nodes of a certificate. Takes no memory.

@@ -2,7 +2,7 @@ ghost use Rattle.std.specs.Prelude.{◌≡◌, IfOk};
 ghost use Rattle.roster_model.specs.SoundInstance.{IsSoundInstance};
 ghost use Rattle.proof_check.specs.Rooms.{AreRoomsFor};
 
-use pinned_part::Balances;
+use check_parts::Balances;
 use roster_model::{Instance, Memory, PriceRoom};
 use std::alloc::Global;
 

@@ -1,8 +1,8 @@
 ghost use Rattle.std.specs.Prelude.{◌≡◌, None, [], IfOk};
 
 use crate::walk::Walk;
+use check_parts::ShiftRoom;
 use roster_model::Memory;
-use roster_part::ShiftRoom;
 use std::alloc::Global;
 
 /// What was seen of a text. Its memory serves one text after another.

@@ -5,7 +5,7 @@ ghost use Rattle.certificates.specs.Nodes.{Visit, low_cut, high_cut};
 ghost use Rattle.roster_model.specs.Cuts.{base_cuts};
 ghost use Rattle.roster_model.specs.SoundInstance.{IsSoundInstance};
 ghost use Rattle.proof_check.specs.declared.frame.Frame.{Frame as OpenSplit};
-ghost use Rattle.certificate_laws.specs.Shown.{joined};
+ghost use Rattle.certificates.specs.certificate_laws.Shown.{joined};
 ghost use Rattle.proof_check.specs.OpenSplits.{path, ValueAfter, VisitsAfter, ValueNext, VisitsNext};
 ghost use Rattle.proof_pieces.specs.PieceList.{after_leaf};
 ghost use Rattle.proof_check.specs.Stacks.{AreSmall, halves_of};

@@ -1,7 +1,7 @@
 ghost use Rattle.std.specs.Prelude.{◌≡◌, ◌≤◌, ◌<◌, MatchOption};
 ghost use Rattle.roster_model.specs.SoundInstance.{IsSoundInstance};
-ghost use Rattle.certificate_laws.specs.Accepted.{bound_number};
-ghost use Rattle.certificate_laws.specs.Causes.{stated_bound};
+ghost use Rattle.certificates.specs.certificate_laws.Accepted.{bound_number};
+ghost use Rattle.certificates.specs.certificate_laws.Causes.{stated_bound};
 
 use certificates::Why;
 use roster_model::{Instance, greatest_cost};

@@ -1,5 +1,5 @@
 ghost use Rattle.std.specs.Prelude.{◌≡◌};
-ghost use Rattle.certificate_laws.specs.Causes.{cause_number};
+ghost use Rattle.certificates.specs.certificate_laws.Causes.{cause_number};
 ghost use Rattle.proof_check.specs.Walked.{lesser_cause};
 
 use certificates::Why;

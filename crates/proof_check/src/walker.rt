@@ -15,8 +15,7 @@ use crate::stack::Stack;
 use crate::tables::Tables;
 use crate::walk::{Walk, lesser_cause};
 use certificates::{Node, Why};
-use pinned_part::{first_loose, high, low, pinned_value};
-use priced_part::priced_value;
+use check_parts::{first_loose, high, low, pinned_value, priced_value};
 use roster_model::{ArcKey, Instance, Memory};
 use std::alloc::Global;
 

@@ -16,13 +16,13 @@ use Rattle.certificates.specs.declared.why.Why.{Why}
 use Rattle.certificates.specs.declared.why.Why.TheVariants.{NotAShift, ShiftCost, WrongHeads, WrongCost, NotAnArc, EmptyHalf, NotPinned, BoundTooHigh, Outside}
 use Rattle.certificates.specs.Nodes.{Proof, preorder, visits}
 use Rattle.certificates.specs.Sound.{IsSoundVisit, IsSoundCert}
-use Rattle.certificate_laws.specs.Causes.{Cause, cause_number, IsFirstCause}
-use Rattle.certificate_laws.specs.Accepted.{Accepts}
-use Rattle.certificate_laws.specs.Shown.{Shows}
-use Rattle.certificate_laws.specs.Right.{YesIsRight}
-use Rattle.certificate_laws.proofs.NoCause.{refused}
-use Rattle.certificate_laws.proofs.ShownBound.{shows-le}
-use Rattle.certificate_laws.proofs.OneProof.{same-proof}
+use Rattle.certificates.specs.certificate_laws.Causes.{Cause, cause_number, IsFirstCause}
+use Rattle.certificates.specs.certificate_laws.Accepted.{Accepts}
+use Rattle.certificates.specs.certificate_laws.Shown.{Shows}
+use Rattle.certificates.specs.certificate_laws.Right.{YesIsRight}
+use Rattle.certificates.proofs.certificate_laws.NoCause.{refused}
+use Rattle.certificates.proofs.certificate_laws.ShownBound.{shows-le}
+use Rattle.certificates.proofs.certificate_laws.OneProof.{same-proof}
 use Rattle.proof_check.specs.Verdicts.{IsVerdict}
 use Rattle.proof_reuse.specs.Reuse.{nodes_only, IsOnNodes, IsFirstNodeCause, IsLowerBound, IsShownBound, IsReuse, reuse_of}
 use Rattle.proof_reuse.proofs.TightLeaves.{all-tight}

@@ -6,10 +6,10 @@ use Rattle.certificates.specs.declared.cert.Cert.{Cert}
 use Rattle.certificates.specs.declared.why.Why.{Why}
 use Rattle.certificates.specs.declared.why.Why.TheVariants.{NotAShift, ShiftCost, WrongHeads, WrongCost, NotAnArc, EmptyHalf, NotPinned, BoundTooHigh, Outside}
 use Rattle.certificates.specs.Nodes.{Proof}
-use Rattle.certificate_laws.specs.Causes.{Cause, cause_number, IsFirstCause}
-use Rattle.certificate_laws.specs.Shown.{Shows}
-use Rattle.certificate_laws.proofs.OneCause.{one-first}
-use Rattle.certificate_laws.proofs.OneProof.{same-proof, one-shown}
+use Rattle.certificates.specs.certificate_laws.Causes.{Cause, cause_number, IsFirstCause}
+use Rattle.certificates.specs.certificate_laws.Shown.{Shows}
+use Rattle.certificates.proofs.certificate_laws.OneCause.{one-first}
+use Rattle.certificates.proofs.certificate_laws.OneProof.{same-proof, one-shown}
 use Rattle.proof_reuse.specs.declared.nodes.Reused.{Reused}
 use Rattle.proof_reuse.specs.declared.nodes.Reused.TheVariants.{Bound, Refused}
 use Rattle.proof_reuse.specs.Reuse.{nodes_only, bound_of, IsFirstNodeCause, IsShownBound, IsReuse}

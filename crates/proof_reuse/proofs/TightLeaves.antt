@@ -8,13 +8,13 @@ use Rattle.roster_model.specs.Arcs.{IsArc}
 use Rattle.roster_model.specs.Cuts.{lo, hi}
 use Rattle.roster_model.specs.Folds.{Each}
 use Rattle.roster_model.specs.Sound.{IsSound}
-use Rattle.arc_laws.specs.Loose.{IsLoose, IsFirstLoose}
+use Rattle.roster_model.specs.arc_laws.Loose.{IsLoose, IsFirstLoose}
 use Rattle.certificates.specs.declared.cert.Node.{Node}
 use Rattle.certificates.specs.declared.cert.Node.TheVariants.{Split, Priced, Pinned, Bare}
 use Rattle.certificates.specs.First.{IsFirst}
 use Rattle.certificates.specs.Nodes.{Visit}
 use Rattle.certificates.specs.NodeCauses.{IsUnpinned, IsFirstUnpinned}
-use Rattle.certificate_laws.specs.Accepted.{IsTight}
+use Rattle.certificates.specs.certificate_laws.Accepted.{IsTight}
 use Rattle.span_arcs.specs.Order.{key_number}
 use Rattle.span_arcs.proofs.OrderLemmas.{before-lower}
 use Rattle.span_arcs.proofs.ShapesLemmas.{arc-small}

@@ -11,8 +11,8 @@ use Rattle.certificates.specs.declared.verdict.Verdict.TheVariants.{Yes, No}
 use Rattle.certificates.specs.declared.why.Why.{Why}
 use Rattle.certificates.specs.declared.why.Why.TheVariants.{NotAShift, ShiftCost, WrongHeads, WrongCost, NotAnArc, EmptyHalf, NotPinned, BoundTooHigh, Outside}
 use Rattle.certificates.specs.Nodes.{Proof, preorder}
-use Rattle.certificate_laws.specs.Causes.{Cause, cause_number}
-use Rattle.certificate_laws.specs.Shown.{Shows}
+use Rattle.certificates.specs.certificate_laws.Causes.{Cause, cause_number}
+use Rattle.certificates.specs.certificate_laws.Shown.{Shows}
 use Rattle.proof_reuse.specs.declared.nodes.Reused.{Reused}
 use Rattle.proof_reuse.specs.declared.nodes.Reused.TheVariants.{Bound, Refused}
 

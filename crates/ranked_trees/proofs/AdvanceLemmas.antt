@@ -11,10 +11,10 @@ use Rattle.roster_model.specs.Trees.{On, steps}
 use Rattle.roster_model.specs.Sums.{PriceView, AllWithin, Within, parts_sum}
 use Rattle.roster_model.specs.Sound.{IsSound}
 use Rattle.roster_model.proofs.EachLemmas.{Each-weaker}
-use Rattle.tree_laws.specs.Parts.{first, root}
-use Rattle.tree_laws.proofs.LeastValues.{IsLeast-one}
-use Rattle.tree_laws.proofs.Bounds.{few-steps, sum-small}
-use Rattle.tree_laws.proofs.Ends.{last_sum}
+use Rattle.roster_model.specs.tree_laws.Parts.{first, root}
+use Rattle.roster_model.proofs.tree_laws.LeastValues.{IsLeast-one}
+use Rattle.roster_model.proofs.tree_laws.Bounds.{few-steps, sum-small}
+use Rattle.roster_model.proofs.tree_laws.Ends.{last_sum}
 use Rattle.ranked_trees.specs.declared.candidate.Candidate.{Candidate}
 use Rattle.ranked_trees.specs.declared.candidate.Child.{Child}
 use Rattle.ranked_trees.specs.declared.frame.Frame.{Frame}

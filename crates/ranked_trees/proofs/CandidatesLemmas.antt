@@ -6,7 +6,7 @@ use Rattle.roster_model.specs.declared.grammar.Grammar.{Grammar}
 use Rattle.roster_model.specs.declared.grammar.Step.{Step}
 use Rattle.roster_model.specs.Sums.{PriceView, AtMost}
 use Rattle.roster_model.specs.Trees.{steps}
-use Rattle.tree_laws.proofs.LeastValues.{IsLeast-one}
+use Rattle.roster_model.proofs.tree_laws.LeastValues.{IsLeast-one}
 use Rattle.ranked_trees.specs.declared.candidate.Candidate.{Candidate}
 use Rattle.ranked_trees.specs.declared.frame.Frame.{Frame}
 use Rattle.ranked_trees.specs.declared.ranking.Ranked.{Ranked}

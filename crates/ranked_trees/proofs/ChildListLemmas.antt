@@ -9,8 +9,8 @@ use Rattle.roster_model.specs.Grammar.{rule_at}
 use Rattle.roster_model.specs.Trees.{Parts, On}
 use Rattle.roster_model.specs.Sums.{PriceView}
 use Rattle.roster_model.proofs.EachLemmas.{Each-append, Each-weaker}
-use Rattle.tree_laws.specs.Parts.{first, root}
-use Rattle.tree_laws.proofs.Rules.{rule_at-within}
+use Rattle.roster_model.specs.tree_laws.Parts.{first, root}
+use Rattle.roster_model.proofs.tree_laws.Rules.{rule_at-within}
 use Rattle.ranked_trees.specs.declared.candidate.Child.{Child}
 use Rattle.ranked_trees.specs.declared.frame.Frame.{Frame}
 use Rattle.ranked_trees.specs.Frames.{OnFrame, frame_sum, symbols, after_part}

@@ -9,8 +9,8 @@ use Rattle.roster_model.specs.Trees.{Parts, uses, On}
 use Rattle.roster_model.specs.Sums.{PriceView}
 use Rattle.roster_model.specs.Sound.{IsSound}
 use Rattle.roster_model.proofs.EachLemmas.{Each-append, Each-left, Each-right, Each-weaker}
-use Rattle.tree_laws.proofs.Rules.{sound-rule, rule_at-within}
-use Rattle.tree_laws.specs.Parts.{first, root}
+use Rattle.roster_model.proofs.tree_laws.Rules.{sound-rule, rule_at-within}
+use Rattle.roster_model.specs.tree_laws.Parts.{first, root}
 use Rattle.ranked_trees.specs.declared.candidate.Candidate.{Candidate}
 use Rattle.ranked_trees.specs.declared.candidate.Child.{Child}
 use Rattle.ranked_trees.specs.declared.frame.Frame.{Frame}

@@ -11,9 +11,9 @@ use Rattle.roster_model.specs.declared.grammar.Sym.TheVariants.{Code, Name}
 use Rattle.roster_model.specs.Grammar.{rule_at}
 use Rattle.roster_model.specs.Trees.{Parts, done, letter, uses, span_length, Derive, On}
 use Rattle.roster_model.specs.Sums.{PriceView, parts_sum, arc_sum, plus, AtMost, PartsLeast, SymbolLeast}
-use Rattle.tree_laws.specs.Laws.{arc_at}
-use Rattle.tree_laws.proofs.LeastValues.{IsLeast-empty}
-use Rattle.tree_laws.proofs.Ends.{last-least}
+use Rattle.roster_model.specs.tree_laws.Laws.{arc_at}
+use Rattle.roster_model.proofs.tree_laws.LeastValues.{IsLeast-empty}
+use Rattle.roster_model.proofs.tree_laws.Ends.{last-least}
 use Rattle.ranked_trees.specs.Frames.{right_of}
 
 -- a symbol at a place begins what is from there on

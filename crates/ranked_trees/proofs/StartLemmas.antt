@@ -9,7 +9,7 @@ use Rattle.roster_model.specs.declared.grammar.Sym.TheVariants.{Name}
 use Rattle.roster_model.specs.Trees.{steps}
 use Rattle.roster_model.specs.Sums.{PriceView, AtMost}
 use Rattle.roster_model.specs.Sound.{IsSound}
-use Rattle.tree_laws.proofs.Ends.{last_sum}
+use Rattle.roster_model.proofs.tree_laws.Ends.{last_sum}
 use Rattle.ranked_trees.specs.declared.candidate.Candidate.{Candidate}
 use Rattle.ranked_trees.specs.declared.frame.Frame.{Frame}
 use Rattle.ranked_trees.specs.declared.ranking.Ranked.{Ranked}

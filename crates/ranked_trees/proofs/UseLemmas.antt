@@ -7,8 +7,8 @@ use Rattle.roster_model.specs.Grammar.{rule_at, Stands}
 use Rattle.roster_model.specs.Sound.{IsSound}
 use Rattle.roster_model.specs.Trees.{Derive, On}
 use Rattle.roster_model.specs.Sums.{PriceView, parts_sum, arc_sum, plus, AtMost}
-use Rattle.tree_laws.specs.Parts.{first, root}
-use Rattle.tree_laws.proofs.Rules.{sound-rule, rule_at-within}
+use Rattle.roster_model.specs.tree_laws.Parts.{first, root}
+use Rattle.roster_model.proofs.tree_laws.Rules.{sound-rule, rule_at-within}
 use Rattle.ranked_trees.specs.declared.frame.Frame.{Frame}
 use Rattle.ranked_trees.specs.Frames.{IsFrame, frame_sum, FrameLeast, symbols, right_of, after_part, use_of, inside_of}
 use Rattle.ranked_trees.specs.Children.{HasNoSum}

@@ -6,7 +6,7 @@ use Rattle.roster_model.specs.Folds.{Each}
 use Rattle.roster_model.specs.Grammar.{rule_at, Stands}
 use Rattle.roster_model.specs.Sums.{PriceView, arc_sum}
 use Rattle.roster_model.specs.Trees.{Parts}
-use Rattle.tree_laws.specs.Parts.{first, root}
+use Rattle.roster_model.specs.tree_laws.Parts.{first, root}
 use Rattle.ranked_trees.specs.declared.candidate.Child.{Child}
 use Rattle.ranked_trees.specs.declared.frame.Frame.{Frame}
 use Rattle.ranked_trees.specs.Frames.{OnFrame, frame_sum, FrameLeast, after_part, use_of, inside_of}

@@ -32,3 +32,6 @@ pub mod Agreement
 pub mod Filled
 pub mod PriceRooms
 pub mod RoomLaws
+pub mod tree_laws
+pub mod arc_laws
+pub mod word_prices

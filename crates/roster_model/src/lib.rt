@@ -5,6 +5,7 @@
 //! of all parses that the arcs belong to is that of Quimper and Walsh.
 #![tactic(auto)]
 
+pub mod arc_laws;
 mod arc_prices;
 mod bounds;
 mod coverage;
@@ -24,8 +25,14 @@ mod room;
 mod rules;
 mod sound;
 mod sound_instance;
+pub mod tree_laws;
 mod unit_rules;
+pub mod word_prices;
 
+pub use arc_laws::{
+    arc_once, arcs_pay, arcs_pay_over, leaves_count, leaves_count_over, list_holds_once, made_once,
+    one_list, path_bounds, root_counts, root_counts_over, trees_balanced, trees_balanced_over,
+};
 pub use arc_prices::ArcPrice;
 pub use bounds::{greatest_cost, rounding_loss};
 pub use coverage::{covered, penalty};
@@ -43,4 +50,8 @@ pub use room::TreeRoom;
 pub use rules::rule_of;
 pub use sound::{is_plain, is_sound};
 pub use sound_instance::is_sound_instance;
+pub use tree_laws::{
+    few_uses, one_least_parts, one_least_tree, small_sums, split_by_first, split_by_rule,
+};
 pub use unit_rules::{MOST_NAMES, ranked_has_no_cycle, unit_ranks};
+pub use word_prices::{WordPrices, least_tree, shift_length, word_sums};

@@ -14,7 +14,7 @@ use Rattle.parse_graph.specs.Graphs.{GraphView, IsGraph}
 use Rattle.cheapest_tree.specs.Pricers.{PricerView, IsFilled, AsksTree}
 use Rattle.cheapest_tree.specs.Under.{IsTop, IsReady, IsDayTreeUnder, AsksTreeUnder, HoldsLeastUnder}
 use Rattle.candidate_rosters.proofs.LeadersLemmas.{key_of, makes-root}
-use Rattle.tree_laws.specs.DaySteps.{AreDaySteps}
+use Rattle.roster_model.specs.tree_laws.DaySteps.{AreDaySteps}
 
 module _ (i : Instance) (sound : IsSoundInstance i) (p : PriceView) (v : GraphView) (w : PricerView) (graph : IsGraph i.grammar v) (filled : IsFilled i.grammar p v w) where
   pub is-ready : IsReady i.grammar p v w

@@ -1,8 +1,8 @@
 -- Tools after two steps.
 use Rattle.std.proofs.Common.{◌≡◌, ◌∙◌, List, length}
 use Rattle.tree_pool.specs.Pools.{PoolTree}
-use Rattle.search_day.specs.declared.day.Day.{Day}
-use Rattle.search_day.specs.declared.pricing.Pricing.{Pricing}
+use Rattle.master_rows.specs.declared.search_day.day.Day.{Day}
+use Rattle.master_rows.specs.declared.search_day.pricing.Pricing.{Pricing}
 use Rattle.candidate_rosters.proofs.PoolNumbers.{grown-more}
 use Rattle.roster_moves.specs.declared.draft.Draft.{Draft}
 use Rattle.roster_moves.specs.Drafts.{IsDraft}

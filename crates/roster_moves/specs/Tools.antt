@@ -5,10 +5,10 @@ use Rattle.roster_model.specs.Sums.{PriceView, IsLeast, tree_sum}
 use Rattle.roster_model.specs.Trees.{IsDayTree}
 use Rattle.cheapest_tree.specs.Pricers.{PricerView}
 use Rattle.tree_pool.specs.Pools.{PoolTree, IsPool}
-use Rattle.search_day.specs.declared.day.Day.{Day}
-use Rattle.search_day.specs.declared.pricing.Pricing.{Pricing}
-use Rattle.search_day.specs.Days.{IsDay}
-use Rattle.search_day.specs.Rooms.{ArePricing, StayPricing, Grows}
+use Rattle.master_rows.specs.declared.search_day.day.Day.{Day}
+use Rattle.master_rows.specs.declared.search_day.pricing.Pricing.{Pricing}
+use Rattle.master_rows.specs.search_day.Days.{IsDay}
+use Rattle.master_rows.specs.search_day.Rooms.{ArePricing, StayPricing, Grows}
 use Rattle.candidate_rosters.specs.Priced.{IsPriced}
 use Rattle.roster_moves.specs.declared.draft.Draft.{Draft}
 use Rattle.roster_moves.specs.Drafts.{IsDraft}

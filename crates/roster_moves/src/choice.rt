@@ -2,13 +2,13 @@ ghost use Rattle.std.specs.Prelude.{ℕ, ◌≡◌, ◌<◌, All, IfSome, length
 ghost use Rattle.roster_model.specs.Folds.{In};
 ghost use Rattle.roster_model.specs.PriceRooms.{price_view};
 ghost use Rattle.roster_model.specs.Teams.{teams};
-ghost use Rattle.roster_part.specs.TeamViews.{team_view};
+ghost use Rattle.check_parts.specs.roster_part.TeamViews.{team_view};
 ghost use Rattle.candidate_rosters.specs.Priced.{IsPriced};
 
 use crate::teams::heads_of;
 use crate::trees::team_sum;
-use roster_part::{Team, team_at, team_count};
-use search_day::{Day, Pricing};
+use check_parts::{Team, team_at, team_count};
+use master_rows::{Day, Pricing};
 use tree_pool::Pool;
 
 /// One more employee of a team.

@@ -1,7 +1,7 @@
 ghost use Rattle.std.specs.Prelude.{◌<◌, All, IfOk, OnOk, length};
 ghost use Rattle.tree_pool.specs.Pools.{IsPool};
-ghost use Rattle.search_day.specs.Days.{IsDay};
-ghost use Rattle.search_day.specs.Rooms.{ArePricing, StayPricing, Grows};
+ghost use Rattle.master_rows.specs.search_day.Days.{IsDay};
+ghost use Rattle.master_rows.specs.search_day.Rooms.{ArePricing, StayPricing, Grows};
 ghost use Rattle.roster_moves.specs.Drafts.{IsDraft};
 ghost use Rattle.roster_moves.specs.Tools.{AreTools, StayTools};
 
@@ -11,8 +11,8 @@ use crate::draft::Draft;
 use crate::exchanging::exchange_from;
 use crate::growing::fill_up;
 use crate::guide::Guide;
+use master_rows::{Day, Pricing};
 use roster_model::{List, Memory};
-use search_day::{Day, Pricing};
 use std::alloc::Global;
 use tree_pool::Pool;
 

@@ -10,8 +10,8 @@ use crate::growing::{grow, grow_blended};
 use crate::guide::Guide;
 use crate::ranking::{Rank, drawn_mode, list_ranks, set_values};
 use crate::weighing::weight_of;
+use master_rows::{Day, Pricing};
 use roster_model::{Instance, Memory, Prices};
-use search_day::{Day, Pricing};
 use std::alloc::Global;
 use tree_pool::Pool;
 

@@ -1,16 +1,16 @@
 ghost use Rattle.std.specs.Prelude.{◌<◌, IfOk, OnOk, length};
 ghost use Rattle.roster_model.specs.PriceRooms.{price_view};
 ghost use Rattle.roster_model.specs.SoundInstance.{IsSoundInstance};
-ghost use Rattle.search_day.specs.Days.{IsDay};
-ghost use Rattle.search_day.specs.Rooms.{ArePricing, StayPricing};
+ghost use Rattle.master_rows.specs.search_day.Days.{IsDay};
+ghost use Rattle.master_rows.specs.search_day.Rooms.{ArePricing, StayPricing};
 ghost use Rattle.roster_moves.specs.Drafts.{IsDraft};
 ghost use Rattle.roster_moves.specs.Tools.{HasCells, IsPricedWith, KeepsDraft};
 
 use crate::blending::{Blend, UNITS, set_blended};
 use crate::counts::{count_in, count_out};
 use crate::savings::set_savings;
+use master_rows::{Day, Pricing};
 use roster_model::{Instance, Memory, TreeRoom};
-use search_day::{Day, Pricing};
 use std::alloc::Global;
 use tree_pool::Pool;
 

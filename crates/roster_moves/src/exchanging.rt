@@ -6,8 +6,8 @@ use crate::counts::{count_in, count_out};
 use crate::draft::Draft;
 use crate::teams::team_of;
 use crate::trees::least_column;
+use master_rows::{Day, Pricing};
 use roster_model::Memory;
-use search_day::{Day, Pricing};
 use tree_pool::Pool;
 
 /// Puts in place of a tree, which is not counted, a cheapest one of its team.

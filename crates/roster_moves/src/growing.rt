@@ -1,7 +1,7 @@
 ghost use Rattle.std.specs.Prelude.{OnOk, length};
 ghost use Rattle.roster_model.specs.PriceRooms.{price_view};
 ghost use Rattle.tree_pool.specs.Pools.{IsPool};
-ghost use Rattle.search_day.specs.Rooms.{Grows};
+ghost use Rattle.master_rows.specs.search_day.Rooms.{Grows};
 ghost use Rattle.roster_moves.specs.Drafts.{IsDraft};
 ghost use Rattle.roster_moves.specs.Tools.{AreTools, StayTools, IsPricedWith};
 
@@ -9,8 +9,8 @@ use crate::blending::Blend;
 use crate::choice::next_team;
 use crate::draft::Draft;
 use crate::trees::least_column;
+use master_rows::{Day, Pricing};
 use roster_model::Memory;
-use search_day::{Day, Pricing};
 use tree_pool::Pool;
 
 /// Adds a cheapest tree of the team that is to have one more employee, at the prices for which the pricer is

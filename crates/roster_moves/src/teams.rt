@@ -2,10 +2,10 @@ ghost use Rattle.std.specs.Prelude.{◌<◌, All, IfSome, length};
 ghost use Rattle.roster_model.specs.Folds.{In};
 ghost use Rattle.roster_model.specs.SoundInstance.{IsSoundInstance};
 ghost use Rattle.roster_model.specs.Teams.{teams};
-ghost use Rattle.roster_part.specs.TeamViews.{team_view};
+ghost use Rattle.check_parts.specs.roster_part.TeamViews.{team_view};
 
+use check_parts::{Team, team_at, team_count};
 use roster_model::Instance;
-use roster_part::{Team, team_at, team_count};
 use tree_pool::Pool;
 
 /// Returns the number of the team of a tree of the pool.

@@ -3,17 +3,17 @@ ghost use Rattle.roster_model.specs.Folds.{In};
 ghost use Rattle.roster_model.specs.PriceRooms.{price_view};
 ghost use Rattle.roster_model.specs.Room.{most_uses};
 ghost use Rattle.roster_model.specs.Teams.{teams};
-ghost use Rattle.roster_part.specs.TeamViews.{team_view};
-ghost use Rattle.tree_laws.specs.DaySteps.{AreDaySteps};
+ghost use Rattle.check_parts.specs.roster_part.TeamViews.{team_view};
+ghost use Rattle.roster_model.specs.tree_laws.DaySteps.{AreDaySteps};
 ghost use Rattle.tree_pool.specs.Pools.{IsPool};
-ghost use Rattle.search_day.specs.Rooms.{Grows};
+ghost use Rattle.master_rows.specs.search_day.Rooms.{Grows};
 ghost use Rattle.candidate_rosters.specs.Priced.{IsPriced};
 ghost use Rattle.roster_moves.specs.Tools.{IsPricedWith};
 
 use candidate_rosters::team_arc;
+use check_parts::Team;
+use master_rows::{Day, Pricing};
 use roster_model::{Memory, TreeRoom};
-use roster_part::Team;
-use search_day::{Day, Pricing};
 use tree_pool::Pool;
 
 /// Returns the least sum over the trees of a team that is a group.

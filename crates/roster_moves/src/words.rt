@@ -1,22 +1,21 @@
 ghost use Rattle.std.specs.Prelude.{◌≡◌, ◌≢◌, [], IsTrue};
 ghost use Rattle.roster_model.specs.Room.{most_uses};
 ghost use Rattle.cheapest_tree.specs.Pricers.{IsMadeFor};
-ghost use Rattle.word_prices.specs.Prices.{word_view};
-ghost use Rattle.tree_laws.specs.DaySteps.{AreDaySteps};
+ghost use Rattle.roster_model.specs.word_prices.Prices.{word_view};
+ghost use Rattle.roster_model.specs.tree_laws.DaySteps.{AreDaySteps};
 ghost use Rattle.tree_pool.specs.Pools.{IsPool};
-ghost use Rattle.search_day.specs.Days.{IsDay};
-ghost use Rattle.search_day.specs.Rooms.{Grows};
+ghost use Rattle.master_rows.specs.search_day.Days.{IsDay};
+ghost use Rattle.master_rows.specs.search_day.Rooms.{Grows};
 ghost use Rattle.candidate_rosters.specs.Priced.{IsPriced};
 ghost use Rattle.roster_moves.specs.Tools.{IsPricedWith};
 
 use candidate_rosters::team_arc;
 use cheapest_tree::Pricer;
-use roster_model::{Memory, Shift, TreeRoom};
-use roster_part::{team_at, team_count};
-use search_day::Day;
+use check_parts::{team_at, team_count};
+use master_rows::Day;
+use roster_model::{Memory, Shift, TreeRoom, WordPrices};
 use std::alloc::Global;
 use tree_pool::Pool;
-use word_prices::WordPrices;
 
 /// Leaves in the room the steps of a cheapest tree of a word of a group, where it has one.
 fn write_group_word(

@@ -4,7 +4,7 @@ use Rattle.roster_model.specs.declared.instance.Instance.{Instance}
 use Rattle.roster_model.specs.declared.instance.Shift.{Shift}
 use Rattle.roster_model.specs.Duties.{duty}
 use Rattle.certificates.specs.RosterCauses.{IsNoShift}
-use Rattle.certificate_laws.proofs.NoCause.{one-team-price}
+use Rattle.certificates.proofs.certificate_laws.NoCause.{one-team-price}
 use Rattle.roster_model.specs.Rosters.{IsTeamPrice}
 use Rattle.roster_value.specs.Causes.{IsFound, AreFound}
 

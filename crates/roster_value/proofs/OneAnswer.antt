@@ -6,7 +6,7 @@ use Rattle.roster_model.specs.declared.instance.Shift.{Shift}
 use Rattle.roster_model.specs.Duties.{Duty, duty}
 use Rattle.roster_model.specs.Folds.{sum_n}
 use Rattle.certificates.specs.RosterCauses.{duties, stated_prices}
-use Rattle.certificate_laws.proofs.NoCause.{one-prices}
+use Rattle.certificates.proofs.certificate_laws.NoCause.{one-prices}
 use Rattle.roster_value.specs.declared.cause.Cause.{Cause}
 use Rattle.roster_value.specs.declared.valued.Valued.{Valued}
 use Rattle.roster_value.specs.Answers.{StatedAnswer, SaysValue, SaysCauses}

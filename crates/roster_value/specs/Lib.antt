@@ -4,3 +4,6 @@ pub mod Values
 pub mod CauseText
 pub mod ValueText
 pub mod Answers
+pub mod stated_rosters
+pub mod remaining_day
+pub mod group_rules

@@ -3,7 +3,7 @@ ghost use Rattle.roster_model.specs.Limits.{IsDayCell};
 ghost use Rattle.roster_model.specs.SoundInstance.{IsSoundInstance};
 ghost use Rattle.roster_model.specs.Teams.{teams};
 ghost use Rattle.certificates.specs.RosterCauses.{duties};
-ghost use Rattle.roster_part.specs.TeamViews.{team_view};
+ghost use Rattle.check_parts.specs.roster_part.TeamViews.{team_view};
 ghost use Rattle.roster_value.specs.Causes.{
   only_if,
   gathered,
@@ -17,8 +17,8 @@ ghost use Rattle.roster_value.specs.Causes.{
 };
 
 use crate::cause::Cause;
+use check_parts::{Team, team_at, team_count};
 use roster_model::{Cell, Grammar, Instance, List, Memory, Shift, covered};
-use roster_part::{Team, team_at, team_count};
 use std::alloc::Global;
 
 // Appends a cause, where the test holds.

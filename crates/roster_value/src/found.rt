@@ -6,8 +6,8 @@ ghost use Rattle.span_table.specs.Tables.{IsMadeFor};
 ghost use Rattle.roster_report.specs.Reports.{HasSoundShifts};
 ghost use Rattle.roster_value.specs.Causes.{AreFound};
 
+use check_parts::{ShiftRoom, StatedShift, least_price};
 use roster_model::{Instance, List, Memory, Shift};
-use roster_part::{ShiftRoom, StatedShift, least_price};
 use span_table::Table;
 use std::alloc::Global;
 

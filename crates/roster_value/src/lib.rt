@@ -12,8 +12,11 @@ mod cause_text;
 mod causes;
 mod covered;
 mod found;
+pub mod group_rules;
 mod judging;
 mod laws;
+pub mod remaining_day;
+mod stated_rosters;
 mod value_text;
 mod valued;
 
@@ -22,6 +25,12 @@ pub use cause::Cause;
 pub use cause_text::cause_lines;
 pub use causes::causes_of;
 pub use found::found_of;
+pub use group_rules::{plain_grammar, plain_of_extended, same_prices};
 pub use judging::{Judged, judge};
 pub use laws::answers_once;
+pub use remaining_day::{
+    Remaining, Rest, causes_forbid, remaining, rest_is_read, rest_is_right, rest_status,
+    write_remaining,
+};
+pub use stated_rosters::{RosterFault, begins_report, fault_line, read_roster, refused_line};
 pub use valued::Valued;

@@ -8,8 +8,8 @@ ghost use Rattle.roster_value.specs.Causes.{AreFound, causes_of};
 ghost use Rattle.roster_value.specs.Prices.{price_or_zero, priced, at_prices};
 ghost use Rattle.roster_value.specs.Values.{IsValued};
 
+use check_parts::{ShiftRoom, stated_cost};
 use roster_model::{Instance, List, Memory, Shift};
-use roster_part::{ShiftRoom, stated_cost};
 use roster_report::paid;
 use std::alloc::Global;
 use text_lines::put;

@@ -21,16 +21,16 @@ use Rattle.demand_lines.specs.FaultLine as demand
 use Rattle.demand_text.specs.InstanceOf.{instance_of}
 use Rattle.parse_graph.specs.declared.fault.GraphFault.{GraphFault}
 use Rattle.parse_graph.specs.Graphs.{IsRefused}
-use Rattle.certificate_laws.specs.Right.{YesIsRight}
-use Rattle.day_curve.specs.declared.staff.Staff.{Staff}
-use Rattle.day_curve.specs.Curves.{first_heads, point_count, IsNoDearer}
-use Rattle.day_curve.specs.Named.{staff_of}
-use Rattle.day_curve.specs.Staffs.{IsStaff, staff_most, with_heads}
-use Rattle.day_curve.proofs.MoreHeads.{offered-falls}
-use Rattle.day_curve.proofs.StaffDays.{most-within, staff-order}
-use Rattle.day_curve.proofs.StaffNames.{named-staff}
-use Rattle.day_curve.specs.declared.points.CurvePoint.{CurvePoint}
-use Rattle.day_curve.specs.CurveText.{curve_text}
+use Rattle.certificates.specs.certificate_laws.Right.{YesIsRight}
+use Rattle.day_solver.specs.declared.day_curve.staff.Staff.{Staff}
+use Rattle.day_solver.specs.day_curve.Curves.{first_heads, point_count, IsNoDearer}
+use Rattle.day_solver.specs.day_curve.Named.{staff_of}
+use Rattle.day_solver.specs.day_curve.Staffs.{IsStaff, staff_most, with_heads}
+use Rattle.day_solver.proofs.day_curve.MoreHeads.{offered-falls}
+use Rattle.day_solver.proofs.day_curve.StaffDays.{most-within, staff-order}
+use Rattle.day_solver.proofs.day_curve.StaffNames.{named-staff}
+use Rattle.day_solver.specs.declared.day_curve.points.CurvePoint.{CurvePoint}
+use Rattle.day_solver.specs.day_curve.CurveText.{curve_text}
 use Rattle.rules_text.specs.FaultLine.{fault_line}
 use Rattle.rules_text.specs.RulesOf.{IsReading}
 use Rattle.rules_text.specs.declared.fault.RulesFault.{RulesFault}

@@ -9,17 +9,17 @@ use Rattle.roster_model.specs.declared.instance.Instance.{Instance}
 use Rattle.roster_model.specs.declared.instance.Shift.{Shift}
 use Rattle.roster_model.specs.SoundInstance.{IsSoundInstance}
 use Rattle.certificates.specs.declared.cert.Cert.{Cert}
-use Rattle.certificate_laws.specs.Right.{YesIsRight}
+use Rattle.certificates.specs.certificate_laws.Right.{YesIsRight}
 use Rattle.demand_lines.specs.declared.fault.DemandFault.{DemandFault}
 use Rattle.demand_lines.specs.FaultLine as demand
 use Rattle.demand_text.specs.InstanceOf.{instance_of}
-use Rattle.day_curve.specs.declared.staff.Staff.{Staff}
-use Rattle.day_curve.specs.Curves.{first_heads, point_count}
-use Rattle.day_curve.specs.CurveText.{curve_text}
-use Rattle.day_curve.specs.Named.{staff_of}
-use Rattle.day_curve.specs.Staffs.{IsStaff, with_heads}
-use Rattle.day_curve.proofs.StaffNames.{named-staff}
-use Rattle.day_curve.specs.declared.points.CurvePoint.{CurvePoint}
+use Rattle.day_solver.specs.declared.day_curve.staff.Staff.{Staff}
+use Rattle.day_solver.specs.day_curve.Curves.{first_heads, point_count}
+use Rattle.day_solver.specs.day_curve.CurveText.{curve_text}
+use Rattle.day_solver.specs.day_curve.Named.{staff_of}
+use Rattle.day_solver.specs.day_curve.Staffs.{IsStaff, with_heads}
+use Rattle.day_solver.proofs.day_curve.StaffNames.{named-staff}
+use Rattle.day_solver.specs.declared.day_curve.points.CurvePoint.{CurvePoint}
 use Rattle.shelf.specs.Shelf.{Texts}
 use Rattle.search_commands.specs.Curve.{Point, ArePoints, point_entries, said_points, is_same, is_closed, has_no_cost, curve_status, SaysCurve, SaysNoTeam, Curving, CurvesDemand, AnswersCurveDemand, CurvesRules, AnswersCurve}
 use Rattle.search_commands.specs.Curve as curves

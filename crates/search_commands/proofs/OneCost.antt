@@ -11,10 +11,10 @@ use Rattle.roster_model.specs.declared.instance.Done.TheVariants.{Equal, NoRoste
 use Rattle.roster_model.specs.declared.instance.Instance.{Instance}
 use Rattle.roster_model.specs.Duties.{Duty}
 use Rattle.roster_model.specs.Rosters.{Costs}
-use Rattle.arc_laws.proofs.OneList.{one-list}
+use Rattle.roster_model.proofs.arc_laws.OneList.{one-list}
 use Rattle.certificates.specs.declared.cert.Cert.{Cert}
 use Rattle.certificates.specs.RosterCauses.{duties}
-use Rattle.certificate_laws.specs.Right.{YesIsRight}
+use Rattle.certificates.specs.certificate_laws.Right.{YesIsRight}
 use Rattle.branch_price.specs.declared.found.Found.{Found}
 use Rattle.branch_price.specs.Found.{IsDone, IsFound}
 use Rattle.day_solver.specs.Solutions.{HasArcCount, IsReportText}

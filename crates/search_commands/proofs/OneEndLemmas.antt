@@ -9,8 +9,8 @@ use Rattle.roster_model.specs.declared.instance.Done.{Done}
 use Rattle.roster_model.specs.declared.instance.Done.TheVariants.{Equal, NoRoster, TurnsOut}
 use Rattle.roster_model.specs.declared.instance.Instance.{Instance}
 use Rattle.certificates.specs.declared.cert.Cert.{Cert}
-use Rattle.certificate_laws.specs.Right.{YesIsRight}
-use Rattle.arc_laws.proofs.OneList.{one-list}
+use Rattle.certificates.specs.certificate_laws.Right.{YesIsRight}
+use Rattle.roster_model.proofs.arc_laws.OneList.{one-list}
 use Rattle.demand_lines.specs.declared.fault.DemandFault.{DemandFault}
 use Rattle.demand_lines.specs.FaultLine as demand
 use Rattle.demand_text.specs.InstanceOf.{instance_of}

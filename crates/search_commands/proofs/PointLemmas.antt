@@ -10,11 +10,11 @@ use Rattle.branch_price.specs.Found.{AreCounted}
 use Rattle.branch_price.specs.OldRosters.{IsNoDearerThan}
 use Rattle.day_solver.specs.declared.solution.Solution.{Solution}
 use Rattle.day_solver.specs.Solutions.{IsSolution}
-use Rattle.day_curve.specs.declared.staff.Staff.{Staff}
-use Rattle.day_curve.specs.Curves.{first_heads, point_count, point_heads, point_day, CurveView}
-use Rattle.day_curve.specs.Staffs.{with_heads}
-use Rattle.day_curve.specs.declared.points.CurvePoint.{CurvePoint}
-use Rattle.day_curve.specs.CurveText.{point_of}
+use Rattle.day_solver.specs.declared.day_curve.staff.Staff.{Staff}
+use Rattle.day_solver.specs.day_curve.Curves.{first_heads, point_count, point_heads, point_day, CurveView}
+use Rattle.day_solver.specs.day_curve.Staffs.{with_heads}
+use Rattle.day_solver.specs.declared.day_curve.points.CurvePoint.{CurvePoint}
+use Rattle.day_solver.specs.day_curve.CurveText.{point_of}
 use Rattle.shelf.specs.Shelf.{Told}
 use Rattle.search_commands.specs.Curve.{Point, ArePoints, refused_after, kept_after, point_entries, said_points, point_name}
 use Rattle.search_commands.specs.Points.{FindsPoint, FindsFirst, BreaksCurve, next_heads}

@@ -6,10 +6,10 @@ use Rattle.std.specs.FinMap as fin
 use Rattle.std.proofs.lemmas.Fmt.{decimal_injective}
 use Rattle.std.proofs.lemmas.List.{append_cancel_left}
 use Rattle.roster_model.specs.declared.instance.Instance.{Instance}
-use Rattle.day_curve.specs.declared.staff.Staff.{Staff}
-use Rattle.day_curve.specs.Curves.{first_heads, point_count}
-use Rattle.day_curve.specs.Named.{staff_of}
-use Rattle.day_curve.specs.Staffs.{staff_most}
+use Rattle.day_solver.specs.declared.day_curve.staff.Staff.{Staff}
+use Rattle.day_solver.specs.day_curve.Curves.{first_heads, point_count}
+use Rattle.day_solver.specs.day_curve.Named.{staff_of}
+use Rattle.day_solver.specs.day_curve.Staffs.{staff_most}
 use Rattle.shelf.specs.Shelf.{Texts, Told}
 use Rattle.shelf.specs.Stores.{may_replace}
 use Rattle.shelf.proofs.HeldTexts.{AgreesElsewhere-insert}

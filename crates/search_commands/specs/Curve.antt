@@ -11,12 +11,12 @@ use Rattle.roster_model.specs.Folds.{Each}
 use Rattle.branch_price.specs.declared.found.Found.{Found}
 use Rattle.day_solver.specs.Solutions.{HasArcCount}
 use Rattle.branch_price.specs.OldRosters.{IsNoDearerThan}
-use Rattle.day_curve.specs.declared.staff.Staff.{Staff}
-use Rattle.day_curve.specs.Curves.{first_heads, point_count, IsNoDearer}
-use Rattle.day_curve.specs.Named.{staff_of}
-use Rattle.day_curve.specs.Staffs.{staff_most, with_heads}
-use Rattle.day_curve.specs.declared.points.CurvePoint.{CurvePoint}
-use Rattle.day_curve.specs.CurveText.{point_of, curve_text}
+use Rattle.day_solver.specs.declared.day_curve.staff.Staff.{Staff}
+use Rattle.day_solver.specs.day_curve.Curves.{first_heads, point_count, IsNoDearer}
+use Rattle.day_solver.specs.day_curve.Named.{staff_of}
+use Rattle.day_solver.specs.day_curve.Staffs.{staff_most, with_heads}
+use Rattle.day_solver.specs.declared.day_curve.points.CurvePoint.{CurvePoint}
+use Rattle.day_solver.specs.day_curve.CurveText.{point_of, curve_text}
 use Rattle.shelf.specs.Shelf.{Texts}
 use Rattle.answers.specs.Readings.{IsInstanceOf, SaysDemandFault, IsGrammarOf, SaysFault}
 use Rattle.answers.specs.Reader.{Holds, MayStore}

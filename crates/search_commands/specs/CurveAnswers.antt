@@ -1,8 +1,8 @@
 -- What `curve RULES DEMAND PROOF LIMIT` answers, and `curve RULES DEMAND PROOF LIMIT NAME`, by its statuses.
 use Rattle.std.specs.Prelude.{ℕ, ◌≡◌, List, [], Option, None, Some}
 use Rattle.roster_model.specs.declared.instance.Instance.{Instance}
-use Rattle.day_curve.specs.declared.staff.Staff.{Staff}
-use Rattle.day_curve.specs.Named.{staff_of}
+use Rattle.day_solver.specs.declared.day_curve.staff.Staff.{Staff}
+use Rattle.day_solver.specs.day_curve.Named.{staff_of}
 use Rattle.shelf.specs.Shelf.{Texts}
 use Rattle.answers.specs.Says.{SaysDay, RefusesRules, RefusesDemand}
 use Rattle.search_commands.specs.declared.limit.Limit.{Limit}

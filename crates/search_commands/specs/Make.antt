@@ -9,7 +9,7 @@ use Rattle.roster_report.specs.SummaryText.{summary_text}
 use Rattle.search_commands.specs.Solve.{MasterView, SaysTooManyArcs, done_status}
 use Rattle.search_commands.specs.SolveAnswers.{IsSearched}
 use Rattle.branch_price.specs.Found.{IsDone}
-use Rattle.certificate_laws.specs.Right.{YesIsRight}
+use Rattle.certificates.specs.certificate_laws.Right.{YesIsRight}
 use Rattle.proof_pieces.specs.CertOf.{proof_of}
 
 -- the summary of a search on the day that is made from a number

@@ -2,8 +2,8 @@
 use Rattle.std.specs.Prelude.{ℕ, ◌≡◌, ◌≢◌, List, [], ◌∷◌, ◌++◌, Option, None, Some, codes, map}
 use Rattle.text_lines.specs.Written.{written}
 use Rattle.certificate_text.specs.Written.{amount_words}
-use Rattle.day_curve.specs.declared.points.CurvePoint.{CurvePoint}
-use Rattle.day_curve.specs.CurveText.{curve_text}
+use Rattle.day_solver.specs.declared.day_curve.points.CurvePoint.{CurvePoint}
+use Rattle.day_solver.specs.day_curve.CurveText.{curve_text}
 use Rattle.search_commands.specs.Series.{Entry, answered, SeriesAnswers}
 use Rattle.search_commands.specs.Solve.{MasterView}
 use Rattle.search_commands.specs.Writer.{Answers}

@@ -5,11 +5,11 @@ use Rattle.roster_model.specs.declared.instance.Instance.{Instance}
 use Rattle.roster_model.specs.declared.instance.Shift.{Shift}
 use Rattle.branch_price.specs.declared.found.Found.{Found}
 use Rattle.branch_price.specs.OldRosters.{IsNoDearerThan}
-use Rattle.day_curve.specs.declared.points.CurvePoint.{CurvePoint}
-use Rattle.day_curve.specs.declared.staff.Staff.{Staff}
-use Rattle.day_curve.specs.CurveText.{point_of}
-use Rattle.day_curve.specs.Curves.{CurveView, first_heads, point_count}
-use Rattle.day_curve.specs.Staffs.{with_heads}
+use Rattle.day_solver.specs.declared.day_curve.points.CurvePoint.{CurvePoint}
+use Rattle.day_solver.specs.declared.day_curve.staff.Staff.{Staff}
+use Rattle.day_solver.specs.day_curve.CurveText.{point_of}
+use Rattle.day_solver.specs.day_curve.Curves.{CurveView, first_heads, point_count}
+use Rattle.day_solver.specs.day_curve.Staffs.{with_heads}
 use Rattle.shelf.specs.Shelf.{Told}
 use Rattle.search_commands.specs.Curve.{Point, ArePoints, refused_after, kept_after, point_entries, said_points, point_name}
 use Rattle.search_commands.specs.Series.{IsStoredBy, IsBrokenOff}

@@ -9,9 +9,9 @@ use Rattle.roster_model.specs.declared.instance.Done.{Done}
 use Rattle.roster_model.specs.declared.instance.Done.TheVariants.{Equal, NoRoster, TurnsOut}
 use Rattle.roster_model.specs.declared.instance.Instance.{Instance}
 use Rattle.roster_model.specs.declared.instance.Shift.{Shift}
-use Rattle.arc_laws.specs.Lists.{AreArcs}
+use Rattle.roster_model.specs.arc_laws.Lists.{AreArcs}
 use Rattle.certificates.specs.declared.cert.Cert.{Cert}
-use Rattle.certificate_laws.specs.Right.{YesIsRight}
+use Rattle.certificates.specs.certificate_laws.Right.{YesIsRight}
 use Rattle.branch_price.specs.declared.found.Found.{Found}
 use Rattle.branch_price.specs.Found.{IsFound, AreCounted}
 use Rattle.branch_price.specs.OldRosters.{IsNoDearerThan}

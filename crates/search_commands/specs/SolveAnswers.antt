@@ -4,7 +4,7 @@ use Rattle.roster_model.specs.declared.instance.Instance.{Instance}
 use Rattle.branch_price.specs.declared.found.Found.{Found}
 use Rattle.branch_price.specs.Found.{IsFound, IsDone, AreCounted}
 use Rattle.certificates.specs.declared.cert.Cert.{Cert}
-use Rattle.certificate_laws.specs.Right.{YesIsRight}
+use Rattle.certificates.specs.certificate_laws.Right.{YesIsRight}
 use Rattle.day_solver.specs.Solutions.{HasArcCount, IsReportText}
 use Rattle.proof_pieces.specs.CertOf.{proof_of}
 use Rattle.shelf.specs.Shelf.{Texts}

@@ -2,10 +2,10 @@ ghost use Rattle.std.specs.Prelude.{ℕ, ◌≡◌, ◌≤◌, ◌<◌, Bool, []
 ghost use Rattle.std.specs.Option.{option_copied};
 ghost use Rattle.std.specs.List.{list_all};
 ghost use Rattle.day_solver.specs.Solutions.{HasArcCount, IsSolution};
-ghost use Rattle.day_curve.specs.Curves.{point_day, point_heads, points_of};
-ghost use Rattle.day_curve.specs.CurveText.{curve_text, point_of};
-ghost use Rattle.day_curve.specs.Named.{staff_of};
-ghost use Rattle.day_curve.specs.Staffs.{IsStaff, staff_most};
+ghost use Rattle.day_solver.specs.day_curve.Curves.{point_day, point_heads, points_of};
+ghost use Rattle.day_solver.specs.day_curve.CurveText.{curve_text, point_of};
+ghost use Rattle.day_solver.specs.day_curve.Named.{staff_of};
+ghost use Rattle.day_solver.specs.day_curve.Staffs.{IsStaff, staff_most};
 ghost use Rattle.roster_model.specs.Sound.{IsPlain, IsSound};
 ghost use Rattle.roster_model.specs.SoundInstance.{IsSoundInstance};
 ghost use Rattle.search_commands.specs.Curve.{
@@ -42,8 +42,7 @@ use answers::{
     status_of,
 };
 use branch_price::{Master, Subject, Watch};
-use day_curve::{CurvePoint, DayCurve, Staff, staff_of, write_curve};
-use day_solver::Solution;
+use day_solver::{CurvePoint, DayCurve, Solution, Staff, staff_of, write_curve};
 use demand_text::read_demand;
 use roster_model::{Grammar, Instance, Memory};
 use rules_text::read_rules;

@@ -1,14 +1,13 @@
 ghost use Rattle.std.specs.Prelude.{◌≡◌, ◌<◌, ◌≤◌, length};
-ghost use Rattle.next_codes.specs.Views.{IsMadeFor as AreMadeFor};
+ghost use Rattle.span_table.specs.next_codes.Views.{IsMadeFor as AreMadeFor};
 ghost use Rattle.roster_model.specs.Sound.{IsSound};
 ghost use Rattle.roster_model.specs.SoundInstance.{IsSoundInstance};
 ghost use Rattle.span_table.specs.Tables.{IsMadeFor};
 
 use crate::lines::add_line;
 use day_questions::CostPrices;
-use next_codes::Marginals;
 use roster_model::{Cell, Grammar, Group, Instance};
-use span_table::Table;
+use span_table::{Marginals, Table};
 use std::alloc::Global;
 
 // Whether a name derives a word of the day, by a table that is filled.

@@ -3,7 +3,7 @@ use Rattle.std.specs.Prelude.{ℕ, ◌≤◌, List, length}
 use Rattle.roster_model.specs.declared.instance.Cut.{Cut}
 use Rattle.roster_model.specs.declared.instance.Instance.{Instance}
 use Rattle.roster_model.specs.PriceLimits.{FitPrices}
-use Rattle.master_laws.specs.Rows.{rows_of}
+use Rattle.bound_laws.specs.master_laws.Rows.{rows_of}
 use Rattle.node_master.specs.declared.ends.NodeEnd.{NodeEnd}
 use Rattle.node_master.specs.declared.ends.NodeEnd.TheVariants.{Best, Near, Failed}
 

@@ -9,13 +9,13 @@ ghost use Rattle.parse_graph.specs.Graphs.{IsGraph};
 ghost use Rattle.span_table.specs.Tables.{IsMadeFor, IsFilled};
 ghost use Rattle.search_rows.specs.Days.{IsMasterDay};
 
-use grammar_core::normalise;
 use parse_graph::{Graph, GraphFault};
 use roster_model::{Cell, Grammar, Instance, Memory, PriceRoom, is_sound_instance};
 use sample_days::{DayParts, day};
 use span_table::Table;
 use std::alloc::Global;
 use std::test::Fail;
+use tree_pool::normalise;
 
 /// Returns whether the table, which is filled for some prices, has a tree of the name.
 fn has_tree(grammar: &Grammar, table: &Table, name: u8) -> bool

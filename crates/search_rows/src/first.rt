@@ -5,10 +5,10 @@ ghost use Rattle.search_rows.specs.Days.{IsMasterDay, AreLent};
 
 use crate::days::{graph_of, master_day};
 use crate::masters::{HIGH, LOW, Lent, PAIR_DAY, are_node_cuts, is_half, lent_for};
+use master_rows::Day;
 use node_master::{Bases, First, NodeEnd, Steering, solve_node_from};
 use parse_graph::Graph;
 use roster_model::{Cut, Instance};
-use search_day::Day;
 use std::alloc::Global;
 use std::test::Fail;
 

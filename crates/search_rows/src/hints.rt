@@ -1,6 +1,6 @@
 ghost use Rattle.std.specs.Prelude.{◌≤◌, length};
 ghost use Rattle.roster_model.specs.Folds.{Each};
-ghost use Rattle.master_laws.specs.Rows.{rows_of};
+ghost use Rattle.bound_laws.specs.master_laws.Rows.{rows_of};
 ghost use Rattle.master_rows.specs.NodeRows.{AreRows};
 ghost use Rattle.parse_graph.specs.Graphs.{IsGraph};
 ghost use Rattle.node_master.specs.Ends.{IsNodeCut};
@@ -11,8 +11,7 @@ use crate::days::{graph_of, master_day};
 use crate::masters::{Lent, are_node_cuts, lent_for};
 use crate::near::solve;
 use master_rows::{NodeRows, artificial_price};
-use near_prices::ListedTree;
-use near_weights::{NearHint, near_hint};
+use near_prices::{ListedTree, NearHint, near_hint};
 use node_master::NodeEnd;
 use parse_graph::Graph;
 use roster_model::{Cell, Cut, Instance, List, Memory};

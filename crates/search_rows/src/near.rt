@@ -3,7 +3,7 @@ ghost use Rattle.roster_model.specs.Folds.{Each};
 ghost use Rattle.roster_model.specs.PriceLimits.{FitPrices};
 ghost use Rattle.roster_model.specs.Sums.{Within};
 ghost use Rattle.bound_laws.specs.Lagrangian.{IsLeastReduced};
-ghost use Rattle.master_laws.specs.Rows.{rows_of};
+ghost use Rattle.bound_laws.specs.master_laws.Rows.{rows_of};
 ghost use Rattle.parse_graph.specs.Graphs.{IsGraph};
 ghost use Rattle.cheapest_tree.specs.Pricers.{IsMadeFor};
 ghost use Rattle.near_prices.specs.Listed.{IsListed};

@@ -1,6 +1,6 @@
 ghost use Rattle.std.specs.Prelude.{[], IfOk};
 ghost use Rattle.parse_graph.specs.Graphs.{IsGraph};
-ghost use Rattle.count_boxes.specs.Paths.{IsBoxOf};
+ghost use Rattle.arc_counts.specs.count_boxes.Paths.{IsBoxOf};
 ghost use Rattle.node_master.specs.declared.ends.Solution.TheVariants.{Near as is_near};
 ghost use Rattle.node_master.specs.Ends.{AreSolved};
 ghost use Rattle.search_rows.specs.Days.{IsMasterDay, AreLent};
@@ -8,13 +8,13 @@ ghost use Rattle.search_rows.specs.Days.{IsMasterDay, AreLent};
 use crate::days::{graph_of, master_day};
 use crate::first::solve;
 use crate::masters::{Lent, PAIR_DAY, lent_for};
+use arc_counts::ArcBox;
 use arc_weights::{SolvedNode, Weighed, farthest_from_whole, weigh};
-use count_boxes::ArcBox;
+use master_rows::Day;
 use node_master::{First, NodeEnd, Solution, Weight};
 use open_nodes::Plan;
 use parse_graph::Graph;
 use roster_model::{Instance, List, Memory};
-use search_day::Day;
 use std::alloc::Global;
 use std::test::Fail;
 

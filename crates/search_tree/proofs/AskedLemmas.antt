@@ -10,12 +10,12 @@ use Rattle.roster_model.specs.Cuts.{base_cuts}
 use Rattle.roster_model.specs.Folds.{count}
 use Rattle.certificates.specs.declared.cert.Node.TheVariants.{Priced, Pinned}
 use Rattle.certificates.specs.Nodes.{low_cut, high_cut, visits}
-use Rattle.master_laws.specs.Rows.{rows_of}
-use Rattle.growing_laws.specs.Grown.{Grown, tip, fork, Leaf, fresh, valued, fixed, Own, OnTips, raised, tip_bound, proof_of, put}
-use Rattle.growing_laws.specs.Boxes.{IsOpenLeaf}
-use Rattle.growing_laws.specs.Opens.{Entry, IsEntryOf}
-use Rattle.growing_laws.specs.States.{IsTip, IsSplit}
-use Rattle.growing_laws.proofs.GrownLemmas.{TipFact}
+use Rattle.bound_laws.specs.master_laws.Rows.{rows_of}
+use Rattle.certificates.specs.growing_laws.Grown.{Grown, tip, fork, Leaf, fresh, valued, fixed, Own, OnTips, raised, tip_bound, proof_of, put}
+use Rattle.certificates.specs.growing_laws.Boxes.{IsOpenLeaf}
+use Rattle.certificates.specs.growing_laws.Opens.{Entry, IsEntryOf}
+use Rattle.certificates.specs.growing_laws.States.{IsTip, IsSplit}
+use Rattle.certificates.proofs.growing_laws.GrownLemmas.{TipFact}
 use Rattle.open_nodes.specs.declared.leaf.Plan.{Plan}
 use Rattle.open_nodes.specs.declared.leaf.OpenLeaf.{OpenLeaf}
 use Rattle.open_nodes.specs.Queues.{SameLeaves}

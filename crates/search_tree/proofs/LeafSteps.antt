@@ -8,12 +8,12 @@ use Rattle.roster_model.specs.Folds.{count}
 use Rattle.certificates.specs.declared.cert.Node.{Node}
 use Rattle.certificates.specs.declared.cert.Node.TheVariants.{Split}
 use Rattle.certificates.specs.Nodes.{visits}
-use Rattle.growing_laws.specs.Grown.{Grown, tip, fork, Leaf, fresh, Own, raised, tip_bound, leaf_value, leaf_busy, proof_of, prices_of, put, unpriced}
-use Rattle.growing_laws.specs.declared.seat.Seat.{Seat}
-use Rattle.growing_laws.specs.Boxes.{IsOpenLeaf}
-use Rattle.growing_laws.specs.Opens.{Entry}
-use Rattle.growing_laws.specs.Seats.{leaf_node, IsLeafSeat, seat_at}
-use Rattle.growing_laws.specs.States.{IsTip, IsLeaf, IsSplit, IsGraft}
+use Rattle.certificates.specs.growing_laws.Grown.{Grown, tip, fork, Leaf, fresh, Own, raised, tip_bound, leaf_value, leaf_busy, proof_of, prices_of, put, unpriced}
+use Rattle.certificates.specs.declared.growing_laws.seat.Seat.{Seat}
+use Rattle.certificates.specs.growing_laws.Boxes.{IsOpenLeaf}
+use Rattle.certificates.specs.growing_laws.Opens.{Entry}
+use Rattle.certificates.specs.growing_laws.Seats.{leaf_node, IsLeafSeat, seat_at}
+use Rattle.certificates.specs.growing_laws.States.{IsTip, IsLeaf, IsSplit, IsGraft}
 use Rattle.open_nodes.specs.declared.leaf.OpenLeaf.{OpenLeaf}
 use Rattle.open_nodes.specs.Queues.{SameLeaves}
 use Rattle.search_tree.specs.Views.{TreeView, Site, IsLeafAt, entry_of}

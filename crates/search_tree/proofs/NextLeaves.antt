@@ -5,14 +5,14 @@ use Rattle.roster_model.specs.declared.instance.Cut.{Cut}
 use Rattle.roster_model.specs.Cuts.{base_cuts}
 use Rattle.roster_model.specs.Folds.{Each}
 use Rattle.roster_model.proofs.EachLemmas.{Each-weaker, Each-at, Each-in}
-use Rattle.growing_laws.specs.Grown.{Grown, tip, Leaf, fresh, valued, fixed, OnTips, tip_bound}
-use Rattle.growing_laws.specs.Boxes.{IsOpenLeaf}
-use Rattle.growing_laws.specs.Opens.{Entry, opens, SameEntries}
-use Rattle.growing_laws.specs.Seats.{HoldTree}
-use Rattle.growing_laws.specs.States.{IsTip, IsLeaf}
-use Rattle.growing_laws.proofs.GrownLemmas.{told}
-use Rattle.growing_laws.proofs.OpensLemmas.{opens-least}
-use Rattle.growing_laws.proofs.StatesLemmas.{growing-raised, tips-both}
+use Rattle.certificates.specs.growing_laws.Grown.{Grown, tip, Leaf, fresh, valued, fixed, OnTips, tip_bound}
+use Rattle.certificates.specs.growing_laws.Boxes.{IsOpenLeaf}
+use Rattle.certificates.specs.growing_laws.Opens.{Entry, opens, SameEntries}
+use Rattle.certificates.specs.growing_laws.Seats.{HoldTree}
+use Rattle.certificates.specs.growing_laws.States.{IsTip, IsLeaf}
+use Rattle.certificates.proofs.growing_laws.GrownLemmas.{told}
+use Rattle.certificates.proofs.growing_laws.OpensLemmas.{opens-least}
+use Rattle.certificates.proofs.growing_laws.StatesLemmas.{growing-raised, tips-both}
 use Rattle.open_nodes.specs.declared.leaf.OpenLeaf.{OpenLeaf}
 use Rattle.open_nodes.specs.Queues.{SameLeaves}
 use Rattle.search_tree.specs.Views.{TreeView, Site, entry_of}

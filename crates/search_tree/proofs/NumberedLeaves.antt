@@ -6,12 +6,12 @@ use Rattle.std.proofs.lemmas.List.{length-append}
 use Rattle.roster_model.specs.declared.instance.Cut.{Cut}
 use Rattle.roster_model.specs.Folds.{count, Each}
 use Rattle.roster_model.proofs.EachLemmas.{Each-append, each_parts}
-use Rattle.arc_laws.proofs.FoldsLemmas.{count-append}
+use Rattle.roster_model.proofs.arc_laws.FoldsLemmas.{count-append}
 use Rattle.certificates.specs.Nodes.{low_cut, high_cut, Visit, visits}
-use Rattle.growing_laws.specs.Grown.{Grown, tip, fork, Leaf, fresh, valued, fixed, OnTips, raised, leaf_proof, proof_of, numbers, put, times, busy, missed}
-use Rattle.growing_laws.specs.Opens.{Entry, opens}
-use Rattle.growing_laws.specs.Seats.{AtLeaf, IsUnsplit}
-use Rattle.growing_laws.proofs.GrownLemmas.{TipFact, told}
+use Rattle.certificates.specs.growing_laws.Grown.{Grown, tip, fork, Leaf, fresh, valued, fixed, OnTips, raised, leaf_proof, proof_of, numbers, put, times, busy, missed}
+use Rattle.certificates.specs.growing_laws.Opens.{Entry, opens}
+use Rattle.certificates.specs.growing_laws.Seats.{AtLeaf, IsUnsplit}
+use Rattle.certificates.proofs.growing_laws.GrownLemmas.{TipFact, told}
 use Rattle.search_tree.specs.Views.{IsLeafAt}
 
 pub is-one : (k n : ℕ) → k ≡ n → ◌≡◌ {A = ℕ} (cond (nat_eq k n) 1 0) 1

@@ -7,17 +7,17 @@ use Rattle.roster_model.specs.Cuts.{base_cuts}
 use Rattle.roster_model.specs.Folds.{count, Each, In}
 use Rattle.roster_model.proofs.EachLemmas.{Each-weaker, Each-append, Each-at, Each-in}
 use Rattle.certificates.specs.Nodes.{visits}
-use Rattle.growing_laws.specs.Grown.{Grown, tip, fork, Leaf, fresh, valued, fixed, OnTips, tip_bound, leaf_busy, leaf_proof, proof_of, numbers, put, times, busy, missed}
-use Rattle.growing_laws.specs.declared.seat.Seat.{Seat}
-use Rattle.growing_laws.specs.Boxes.{IsOpenLeaf}
-use Rattle.growing_laws.specs.Opens.{Entry, leaf_entries, opens, SameEntries}
-use Rattle.growing_laws.specs.Seats.{AreSeated, HoldTree, SameLinks, number, seat_at}
-use Rattle.growing_laws.specs.States.{IsTip, IsGraft}
-use Rattle.growing_laws.proofs.GrownLemmas.{TipFact, told, tips-map, put-tips}
-use Rattle.growing_laws.proofs.NodeCounts.{put-busy, put-missed}
-use Rattle.growing_laws.proofs.OpensLemmas.{put-opens}
-use Rattle.growing_laws.proofs.SeatsLemmas.{seated-put, put-numbers, number-put}
-use Rattle.growing_laws.proofs.StatesLemmas.{growing-put, tips-both}
+use Rattle.certificates.specs.growing_laws.Grown.{Grown, tip, fork, Leaf, fresh, valued, fixed, OnTips, tip_bound, leaf_busy, leaf_proof, proof_of, numbers, put, times, busy, missed}
+use Rattle.certificates.specs.declared.growing_laws.seat.Seat.{Seat}
+use Rattle.certificates.specs.growing_laws.Boxes.{IsOpenLeaf}
+use Rattle.certificates.specs.growing_laws.Opens.{Entry, leaf_entries, opens, SameEntries}
+use Rattle.certificates.specs.growing_laws.Seats.{AreSeated, HoldTree, SameLinks, number, seat_at}
+use Rattle.certificates.specs.growing_laws.States.{IsTip, IsGraft}
+use Rattle.certificates.proofs.growing_laws.GrownLemmas.{TipFact, told, tips-map, put-tips}
+use Rattle.certificates.proofs.growing_laws.NodeCounts.{put-busy, put-missed}
+use Rattle.certificates.proofs.growing_laws.OpensLemmas.{put-opens}
+use Rattle.certificates.proofs.growing_laws.SeatsLemmas.{seated-put, put-numbers, number-put}
+use Rattle.certificates.proofs.growing_laws.StatesLemmas.{growing-put, tips-both}
 use Rattle.open_nodes.specs.declared.leaf.OpenLeaf.{OpenLeaf}
 use Rattle.open_nodes.specs.Queues.{SameLeaves}
 use Rattle.search_tree.specs.Views.{TreeView, Site, IsLeafAt, entry_of}

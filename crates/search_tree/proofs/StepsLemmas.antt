@@ -8,10 +8,10 @@ use Rattle.roster_model.specs.Folds.{count}
 use Rattle.certificates.specs.declared.cert.Node.{Node}
 use Rattle.certificates.specs.declared.cert.Node.TheVariants.{Split}
 use Rattle.certificates.specs.Nodes.{low_cut, high_cut}
-use Rattle.growing_laws.specs.Grown.{Grown, tip, fork, Leaf, fresh, Own, raised, leaf_value, prices_of}
-use Rattle.growing_laws.specs.declared.seat.Seat.{Seat}
-use Rattle.growing_laws.specs.Seats.{leaf_node, IsLeafSeat, AreSeated, seat_at}
-use Rattle.growing_laws.proofs.GrownLemmas.{told}
+use Rattle.certificates.specs.growing_laws.Grown.{Grown, tip, fork, Leaf, fresh, Own, raised, leaf_value, prices_of}
+use Rattle.certificates.specs.declared.growing_laws.seat.Seat.{Seat}
+use Rattle.certificates.specs.growing_laws.Seats.{leaf_node, IsLeafSeat, AreSeated, seat_at}
+use Rattle.certificates.proofs.growing_laws.GrownLemmas.{told}
 use Rattle.search_tree.specs.Views.{IsLeafAt}
 use Rattle.search_tree.specs.Steps.{split_of, half_seat, split_seat, forked, marked_seat, marked}
 use Rattle.search_tree.proofs.NumberedLeaves.{is-one, is-none}

@@ -10,14 +10,14 @@ use Rattle.roster_model.specs.Folds.{count, In}
 use Rattle.roster_model.proofs.EachLemmas.{Each-weaker, Each-at}
 use Rattle.certificates.specs.Nodes.{low_cut, high_cut, visits}
 use Rattle.parse_graph.specs.Graphs.{GraphView}
-use Rattle.growing_laws.specs.Grown.{Grown, tip, fork, Leaf, fresh, valued, fixed, SomeTip, raised, tip_bound, busy, numbers, proof_of}
-use Rattle.growing_laws.specs.Boxes.{IsOpenLeaf}
-use Rattle.growing_laws.specs.Opens.{Entry, opens, SameEntries, IsEntryOf}
-use Rattle.growing_laws.specs.Seats.{StandsAt}
-use Rattle.growing_laws.specs.States.{IsTip}
-use Rattle.growing_laws.proofs.GrownLemmas.{tips-map, some-both}
-use Rattle.growing_laws.proofs.StatesLemmas.{growing-raised}
-use Rattle.growing_laws.proofs.OpensLemmas.{opens-sound}
+use Rattle.certificates.specs.growing_laws.Grown.{Grown, tip, fork, Leaf, fresh, valued, fixed, SomeTip, raised, tip_bound, busy, numbers, proof_of}
+use Rattle.certificates.specs.growing_laws.Boxes.{IsOpenLeaf}
+use Rattle.certificates.specs.growing_laws.Opens.{Entry, opens, SameEntries, IsEntryOf}
+use Rattle.certificates.specs.growing_laws.Seats.{StandsAt}
+use Rattle.certificates.specs.growing_laws.States.{IsTip}
+use Rattle.certificates.proofs.growing_laws.GrownLemmas.{tips-map, some-both}
+use Rattle.certificates.proofs.growing_laws.StatesLemmas.{growing-raised}
+use Rattle.certificates.proofs.growing_laws.OpensLemmas.{opens-sound}
 use Rattle.open_nodes.specs.declared.leaf.Plan.{Plan}
 use Rattle.open_nodes.specs.declared.leaf.OpenLeaf.{OpenLeaf}
 use Rattle.search_tree.specs.Views.{IsLeafAt, entry_of}

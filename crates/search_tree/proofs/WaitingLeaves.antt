@@ -6,11 +6,11 @@ use Rattle.roster_model.specs.declared.instance.Cut.{Cut}
 use Rattle.roster_model.specs.Folds.{count, Each, In}
 use Rattle.roster_model.proofs.EachLemmas.{Each-at, Each-in}
 use Rattle.certificates.specs.Nodes.{low_cut, high_cut}
-use Rattle.growing_laws.specs.Grown.{Grown, tip, fork, Leaf, OnTips, raised, tip_bound, times}
-use Rattle.growing_laws.specs.Boxes.{IsOpenLeaf}
-use Rattle.growing_laws.specs.Opens.{Entry, opens, SameEntries, IsEntryOf}
-use Rattle.growing_laws.proofs.GrownLemmas.{TipFact}
-use Rattle.growing_laws.proofs.OpensLemmas.{opens-sound}
+use Rattle.certificates.specs.growing_laws.Grown.{Grown, tip, fork, Leaf, OnTips, raised, tip_bound, times}
+use Rattle.certificates.specs.growing_laws.Boxes.{IsOpenLeaf}
+use Rattle.certificates.specs.growing_laws.Opens.{Entry, opens, SameEntries, IsEntryOf}
+use Rattle.certificates.proofs.growing_laws.GrownLemmas.{TipFact}
+use Rattle.certificates.proofs.growing_laws.OpensLemmas.{opens-sound}
 use Rattle.open_nodes.specs.declared.leaf.Plan.{Plan}
 use Rattle.open_nodes.specs.declared.leaf.Kept.{Kept}
 use Rattle.open_nodes.specs.declared.leaf.OpenLeaf.{OpenLeaf}

@@ -5,10 +5,10 @@ use Rattle.roster_model.specs.declared.instance.Cut.{Cut}
 use Rattle.roster_model.specs.declared.instance.Prices.{Prices}
 use Rattle.roster_model.specs.Cuts.{base_cuts}
 use Rattle.bound_laws.specs.Pinned.{IsPinned, IsPinnedValue}
-use Rattle.master_laws.specs.Rows.{rows_of}
-use Rattle.master_laws.specs.Sharp.{IsHard}
-use Rattle.growing_laws.specs.Grown.{Grown, fresh}
-use Rattle.growing_laws.specs.States.{IsPricedNode, IsLoosePath, IsSplitAt}
+use Rattle.bound_laws.specs.master_laws.Rows.{rows_of}
+use Rattle.bound_laws.specs.master_laws.Sharp.{IsHard}
+use Rattle.certificates.specs.growing_laws.Grown.{Grown, fresh}
+use Rattle.certificates.specs.growing_laws.States.{IsPricedNode, IsLoosePath, IsSplitAt}
 use Rattle.open_nodes.specs.declared.leaf.Plan.{Plan}
 use Rattle.open_nodes.specs.declared.leaf.OpenLeaf.{OpenLeaf}
 use Rattle.search_tree.specs.Views.{TreeView, Site, IsPlace}

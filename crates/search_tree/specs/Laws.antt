@@ -2,8 +2,8 @@
 use Rattle.std.specs.Prelude.{ℕ, ◌≡◌, ◌≤◌, ◌<◌, ◌+◌, ◌*◌, None, List, [], ◌∷◌, length}
 use Rattle.roster_model.specs.declared.instance.Cut.{Cut}
 use Rattle.roster_model.specs.Cuts.{base_cuts}
-use Rattle.growing_laws.specs.Grown.{Grown, fresh, busy}
-use Rattle.growing_laws.specs.Seats.{StandsAt}
+use Rattle.certificates.specs.growing_laws.Grown.{Grown, fresh, busy}
+use Rattle.certificates.specs.growing_laws.Seats.{StandsAt}
 use Rattle.open_nodes.specs.declared.leaf.OpenLeaf.{OpenLeaf}
 use Rattle.search_tree.specs.Views.{TreeView, Site, IsPlace}
 use Rattle.search_tree.specs.Trees.{last_count, IsTree}

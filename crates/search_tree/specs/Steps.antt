@@ -5,8 +5,8 @@ use Rattle.roster_model.specs.declared.instance.Cut.{Cut}
 use Rattle.certificates.specs.declared.cert.Node.{Node}
 use Rattle.certificates.specs.declared.cert.Node.TheVariants.{Split, Priced, Pinned, Bare}
 use Rattle.certificates.specs.Nodes.{low_cut, high_cut}
-use Rattle.growing_laws.specs.declared.seat.Seat.{Seat}
-use Rattle.growing_laws.specs.Seats.{seat_at}
+use Rattle.certificates.specs.declared.growing_laws.seat.Seat.{Seat}
+use Rattle.certificates.specs.growing_laws.Seats.{seat_at}
 use Rattle.open_nodes.specs.declared.leaf.OpenLeaf.{OpenLeaf}
 
 -- a split in place of a leaf, with the prices that the leaf has

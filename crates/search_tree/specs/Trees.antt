@@ -9,12 +9,12 @@ use Rattle.roster_model.specs.Folds.{count, Each}
 use Rattle.certificates.specs.Kinds.{is_unpriced}
 use Rattle.certificates.specs.Nodes.{Visit, visits}
 use Rattle.parse_graph.specs.Graphs.{GraphView}
-use Rattle.master_laws.specs.Rows.{rows_of}
-use Rattle.near_laws.specs.NearSharp.{IsSharpFor}
-use Rattle.growing_laws.specs.Grown.{Grown, Leaf, fresh, valued, fixed, OnTips, times, busy, missed, proof_of}
-use Rattle.growing_laws.specs.States.{IsGrowing, IsSplitAt}
-use Rattle.growing_laws.specs.Seats.{HoldTree, IsUnsplit}
-use Rattle.growing_laws.specs.Opens.{opens, SameEntries}
+use Rattle.bound_laws.specs.master_laws.Rows.{rows_of}
+use Rattle.bound_laws.specs.near_laws.NearSharp.{IsSharpFor}
+use Rattle.certificates.specs.growing_laws.Grown.{Grown, Leaf, fresh, valued, fixed, OnTips, times, busy, missed, proof_of}
+use Rattle.certificates.specs.growing_laws.States.{IsGrowing, IsSplitAt}
+use Rattle.certificates.specs.growing_laws.Seats.{HoldTree, IsUnsplit}
+use Rattle.certificates.specs.growing_laws.Opens.{opens, SameEntries}
 use Rattle.open_nodes.specs.declared.leaf.Plan.{Plan}
 use Rattle.open_nodes.specs.declared.leaf.OpenLeaf.{OpenLeaf}
 use Rattle.search_tree.specs.Views.{TreeView, Site, entry_of}

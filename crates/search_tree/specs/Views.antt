@@ -4,10 +4,10 @@ use Rattle.roster_model.specs.declared.instance.Cut.{Cut}
 use Rattle.roster_model.specs.declared.instance.Instance.{Instance}
 use Rattle.certificates.specs.Nodes.{low_cut, high_cut}
 use Rattle.parse_graph.specs.Graphs.{GraphView}
-use Rattle.growing_laws.specs.declared.seat.Seat.{Seat}
-use Rattle.growing_laws.specs.Grown.{Grown, tip, fork, Leaf, raised}
-use Rattle.growing_laws.specs.Opens.{Entry}
-use Rattle.growing_laws.specs.Seats.{StandsAt}
+use Rattle.certificates.specs.declared.growing_laws.seat.Seat.{Seat}
+use Rattle.certificates.specs.growing_laws.Grown.{Grown, tip, fork, Leaf, raised}
+use Rattle.certificates.specs.growing_laws.Opens.{Entry}
+use Rattle.certificates.specs.growing_laws.Seats.{StandsAt}
 use Rattle.open_nodes.specs.declared.leaf.OpenLeaf.{OpenLeaf}
 
 -- a seat for each node, the open leaves that wait, how many nodes are processed, and how many splits

@@ -1,8 +1,7 @@
 ghost use Rattle.std.specs.Prelude.{◌≡◌, ◌<◌, ◌++◌, ◌∷◌, [], IfOk, OnOk, length};
 ghost use Rattle.search_tree.specs.Steps.{split_of, half_seat, forked, marked};
 
-use certificates::Node;
-use growing_laws::Seat;
+use certificates::{Node, Seat};
 use roster_model::{ArcKey, Cut, Memory, Side};
 use std::mem;
 

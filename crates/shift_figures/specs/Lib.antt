@@ -5,3 +5,4 @@ pub mod Shares
 pub mod Bounds
 pub mod Runs
 pub mod RunLaws
+pub mod roster_changes

@@ -6,6 +6,7 @@
 mod bound;
 mod laws;
 mod order;
+mod roster_changes;
 mod run;
 mod share;
 mod stretch;
@@ -14,6 +15,9 @@ mod total;
 pub use bound::{Saving, saving_at};
 pub use laws::runs_give_periods_back;
 pub use order::drawn_order;
+pub use roster_changes::{
+    changed_periods, changed_shifts, changes_of, differing_periods, is_different, is_left_over,
+};
 pub use run::{Lack, Run, runs_of};
 pub use share::covered_share;
 pub use stretch::{Stretch, is_work, paid_periods, stretch_of, work_periods};

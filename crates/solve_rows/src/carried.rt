@@ -7,10 +7,10 @@ use crate::days::graph_of;
 use branch_price::{Done, Found, PlainMaster, Pool, SearchTask, Start, SteadyWatch, search_from};
 use certificate_text::read_cert;
 use certificates::Cert;
+use master_rows::Day;
 use parse_graph::Graph;
 use roster_model::{Instance, Memory, Shift};
 use sample_days::{PAIR_PARTS, sound_day};
-use search_day::Day;
 use std::alloc::Global;
 use std::test::Fail;
 

@@ -3,7 +3,6 @@ ghost use Rattle.roster_model.specs.Sound.{IsSound};
 ghost use Rattle.roster_model.specs.SoundInstance.{IsSoundInstance};
 ghost use Rattle.parse_graph.specs.Graphs.{IsGraph};
 
-use grammar_core::normalise;
 use parse_graph::{Graph, GraphFault};
 use roster_model::{Cell, Grammar, Group, Instance, Sym, Window};
 use sample_days::{
@@ -12,6 +11,7 @@ use sample_days::{
 };
 use std::alloc::Global;
 use std::test::Fail;
+use tree_pool::normalise;
 
 const UNEVEN_CELLS: [Cell; 3] = [
     CELL,

@@ -7,15 +7,15 @@ ghost use Rattle.parse_graph.specs.Graphs.{IsGraph};
 use branch_price::{PlainMaster, SteadyWatch};
 use certificate_text::read_cert;
 use certificates::Cert;
-use day_curve::{Curve, CurvePoint, Staff, write_curve};
+use day_solver::{Curve, CurvePoint, Staff, write_curve};
 use demand_text::read_demand;
-use grammar_core::normalise;
 use parse_graph::Graph;
 use proof_reuse::{Reused, reuse, write_reused};
 use roster_model::{Grammar, Instance, Memory};
 use rules_text::read_rules;
 use std::alloc::Global;
 use std::test::Fail;
+use tree_pool::normalise;
 
 const PAIRS: &[u8] = b"periods 3
 work a

@@ -9,8 +9,8 @@ use Rattle.roster_model.specs.Arcs.{IsArc, ArcBefore, arc_numbers}
 use Rattle.roster_model.specs.Folds.{Each, In}
 use Rattle.roster_model.proofs.ComesFirstLemmas.{first_one_way, first_through}
 use Rattle.roster_model.proofs.EachLemmas.{Each-weaker, Each-append}
-use Rattle.arc_laws.specs.Lists.{IsRising, AreArcs}
-use Rattle.arc_laws.proofs.FoldsLemmas.{In-append}
+use Rattle.roster_model.specs.arc_laws.Lists.{IsRising, AreArcs}
+use Rattle.roster_model.proofs.arc_laws.FoldsLemmas.{In-append}
 use Rattle.span_arcs.specs.Ahead.{IsAhead, IsPassed}
 use Rattle.span_arcs.specs.Order.{IsNextArc, IsSmall}
 use Rattle.span_arcs.proofs.OrderLemmas.{before-lower, keys_left}

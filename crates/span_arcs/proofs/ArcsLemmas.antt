@@ -12,10 +12,10 @@ use Rattle.roster_model.specs.Trees.{Parts, done, letter, uses, span_length, Der
 use Rattle.roster_model.specs.Folds.{In}
 use Rattle.roster_model.specs.Arcs.{arcs, parts_arcs, IsArc}
 use Rattle.roster_model.specs.Sound.{IsSound}
-use Rattle.tree_laws.specs.Laws.{arc_at}
-use Rattle.tree_laws.specs.Parts.{beside}
-use Rattle.tree_laws.proofs.Rules.{sound-rule}
-use Rattle.tree_laws.proofs.Symbols.{here_last}
+use Rattle.roster_model.specs.tree_laws.Laws.{arc_at}
+use Rattle.roster_model.specs.tree_laws.Parts.{beside}
+use Rattle.roster_model.proofs.tree_laws.Rules.{sound-rule}
+use Rattle.roster_model.proofs.tree_laws.Symbols.{here_last}
 use Rattle.span_cells.specs.declared.slot.Layout.{Layout}
 use Rattle.span_cells.specs.declared.slot.Slot.TheVariants.{OfName, OfSuffix}
 use Rattle.span_cells.specs.Cells.{name_slot, suffix_slot, IsLayoutOf}

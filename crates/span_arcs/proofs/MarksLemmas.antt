@@ -13,8 +13,8 @@ use Rattle.roster_model.specs.Trees.{Parts, done, letter, uses}
 use Rattle.roster_model.specs.Sums.{IsLeast, AtMost, parts_sum, tree_sum, arc_sum}
 use Rattle.span_cells.specs.Places.{shorter, place_of}
 use Rattle.span_cells.proofs.FormRows.{place-within, place-before, place-apart, shorter-next}
-use Rattle.tree_laws.proofs.PartLoop.{less_or_same}
-use Rattle.tree_laws.proofs.Rules.{rule_at-within}
+use Rattle.roster_model.proofs.tree_laws.PartLoop.{less_or_same}
+use Rattle.roster_model.proofs.tree_laws.Rules.{rule_at-within}
 use Rattle.span_cells.specs.declared.slot.Layout.{Layout}
 use Rattle.span_cells.specs.declared.slot.Slot.{Slot}
 use Rattle.span_cells.specs.declared.slot.Slot.TheVariants.{OfName, OfSuffix}

@@ -9,7 +9,7 @@ use Rattle.roster_model.specs.Grammar.{rule_at}
 use Rattle.roster_model.specs.Sound.{IsSound}
 use Rattle.roster_model.proofs.ComesFirstLemmas.{first_through}
 use Rattle.std.proofs.lemmas.Option.{same_Some}
-use Rattle.tree_laws.proofs.Rules.{sound-rule, rule_at-within}
+use Rattle.roster_model.proofs.tree_laws.Rules.{sound-rule, rule_at-within}
 use Rattle.span_cells.specs.declared.slot.Layout.{Layout}
 use Rattle.span_cells.specs.Cells.{IsLayoutOf}
 use Rattle.span_arcs.specs.Marks.{HasSplit, AreMarked}

@@ -6,7 +6,7 @@ use Rattle.roster_model.specs.declared.grammar.Sym.{Sym}
 use Rattle.roster_model.specs.declared.grammar.Sym.TheVariants.{Code, Name}
 use Rattle.roster_model.specs.Grammar.{rule_at}
 use Rattle.roster_model.specs.Sound.{Exists}
-use Rattle.tree_laws.proofs.Symbols.{here_last}
+use Rattle.roster_model.proofs.tree_laws.Symbols.{here_last}
 use Rattle.span_cells.specs.declared.periods.Periods.{Periods}
 use Rattle.span_cells.specs.declared.slot.Layout.{Layout}
 use Rattle.span_cells.specs.Cells.{place, name_slot, suffix_slot, IsLayoutOf}

@@ -12,9 +12,9 @@ use Rattle.roster_model.specs.Sums.{arc}
 use Rattle.roster_model.specs.Sound.{IsSound}
 use Rattle.roster_model.specs.Folds.{In}
 use Rattle.roster_model.specs.Arcs.{arcs, parts_arcs, arc_of_part, IsArc}
-use Rattle.tree_laws.proofs.Rules.{rule_at-within, sound-rule}
-use Rattle.arc_laws.proofs.BalanceLemmas.{drop-next}
-use Rattle.arc_laws.proofs.FoldsLemmas.{In-append}
+use Rattle.roster_model.proofs.tree_laws.Rules.{rule_at-within, sound-rule}
+use Rattle.roster_model.proofs.arc_laws.BalanceLemmas.{drop-next}
+use Rattle.roster_model.proofs.arc_laws.FoldsLemmas.{In-append}
 use Rattle.span_arcs.specs.Order.{IsSmall}
 use Rattle.span_arcs.specs.Shapes.{IsSplit, IsShaped}
 use Rattle.span_arcs.proofs.StandLemmas.{some-covered}

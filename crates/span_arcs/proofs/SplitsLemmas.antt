@@ -3,7 +3,7 @@ use Rattle.std.proofs.Common.{◌≡◌, ℕ, ℤ, ◌<◌, ◌≤◌, ◌+◌, 
 use Rattle.roster_model.specs.declared.grammar.Grammar.{Grammar}
 use Rattle.roster_model.specs.declared.grammar.Sym.{Sym}
 use Rattle.roster_model.specs.Sums.{plus}
-use Rattle.tree_laws.specs.Laws.{arc_at}
+use Rattle.roster_model.specs.tree_laws.Laws.{arc_at}
 use Rattle.span_cells.specs.declared.periods.Periods.{Periods}
 use Rattle.span_cells.specs.Choices.{ChosenPart}
 use Rattle.span_cells.specs.Periods.{Has}

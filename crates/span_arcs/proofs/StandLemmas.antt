@@ -10,10 +10,10 @@ use Rattle.roster_model.specs.Grammar.{rule_at, Stands}
 use Rattle.roster_model.specs.Trees.{Parts, done, letter, uses, span_length, Derive, On}
 use Rattle.roster_model.specs.Folds.{In}
 use Rattle.roster_model.specs.Arcs.{arcs, parts_arcs, arc_of_part, IsArc}
-use Rattle.tree_laws.specs.Laws.{arc_at}
-use Rattle.tree_laws.specs.Parts.{beside}
-use Rattle.tree_laws.proofs.Ends.{rooted}
-use Rattle.tree_laws.proofs.Splits.{moved}
+use Rattle.roster_model.specs.tree_laws.Laws.{arc_at}
+use Rattle.roster_model.specs.tree_laws.Parts.{beside}
+use Rattle.roster_model.proofs.tree_laws.Ends.{rooted}
+use Rattle.roster_model.proofs.tree_laws.Splits.{moved}
 use Rattle.span_arcs.specs.Marks.{free_view, HasSome, TreesStand, PartsStand}
 
 -- what is in either list is in both together

@@ -4,7 +4,7 @@ use Rattle.roster_model.specs.declared.grammar.ArcKey.{ArcKey}
 use Rattle.roster_model.specs.declared.grammar.Grammar.{Grammar}
 use Rattle.roster_model.specs.Arcs.{IsArc, ArcBefore}
 use Rattle.roster_model.specs.Folds.{Each, In}
-use Rattle.arc_laws.specs.Lists.{IsRising}
+use Rattle.roster_model.specs.arc_laws.Lists.{IsRising}
 use Rattle.span_arcs.specs.Order.{key_number}
 
 -- the arc is the next one or comes after it

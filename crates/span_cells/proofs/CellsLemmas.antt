@@ -11,8 +11,8 @@ use Rattle.roster_model.specs.Sums.{PriceView}
 use Rattle.roster_model.specs.Sound.{IsSound}
 use Rattle.span_cells.specs.Places.{shorter, place_of}
 use Rattle.span_cells.proofs.FormRows.{place-within, place-before, place-apart}
-use Rattle.tree_laws.proofs.Rules.{sound-symbol}
-use Rattle.tree_laws.proofs.PartLoop.{less_or_same}
+use Rattle.roster_model.proofs.tree_laws.Rules.{sound-symbol}
+use Rattle.roster_model.proofs.tree_laws.PartLoop.{less_or_same}
 use Rattle.span_cells.specs.declared.slot.Layout.{Layout}
 use Rattle.span_cells.specs.declared.slot.Slot.{Slot}
 use Rattle.span_cells.specs.declared.slot.Slot.TheVariants.{OfName, OfSuffix}

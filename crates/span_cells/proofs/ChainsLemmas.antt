@@ -10,10 +10,10 @@ use Rattle.roster_model.specs.declared.grammar.Sym.TheVariants.{Name}
 use Rattle.roster_model.specs.Grammar.{rule_at}
 use Rattle.roster_model.specs.Trees.{Parts, done, letter, uses, On}
 use Rattle.roster_model.specs.Sums.{PriceView, IsLeast, IsLesser, tree_sum}
-use Rattle.tree_laws.specs.Parts.{root}
-use Rattle.tree_laws.proofs.LeastValues.{IsLeast-same}
-use Rattle.tree_laws.proofs.RuleLoop.{ByFirst, names-taken}
-use Rattle.tree_laws.proofs.Rules.{rule_at-within, rule_here, sound-rule}
+use Rattle.roster_model.specs.tree_laws.Parts.{root}
+use Rattle.roster_model.proofs.tree_laws.LeastValues.{IsLeast-same}
+use Rattle.roster_model.proofs.tree_laws.RuleLoop.{ByFirst, names-taken}
+use Rattle.roster_model.proofs.tree_laws.Rules.{rule_at-within, rule_here, sound-rule}
 use Rattle.roster_model.specs.Sound.{IsSound}
 use Rattle.span_cells.specs.declared.slot.Layout.{Layout}
 use Rattle.span_cells.specs.Chains.{IsFirstRule, AreChainedFrom, AreChained}

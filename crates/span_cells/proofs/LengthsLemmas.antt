@@ -11,9 +11,9 @@ use Rattle.roster_model.specs.Grammar.{rule_at}
 use Rattle.roster_model.specs.Sound.{IsSound}
 use Rattle.roster_model.specs.Sums.{PriceView, SymbolLeast, PartsLeast, parts_sum, tree_sum}
 use Rattle.roster_model.specs.Trees.{done, letter, uses, On, span_length}
-use Rattle.tree_laws.proofs.LeastValues.{IsLeast-empty}
-use Rattle.tree_laws.proofs.Rules.{rule_at-within, sound-symbol}
-use Rattle.tree_laws.proofs.Symbols.{here}
+use Rattle.roster_model.proofs.tree_laws.LeastValues.{IsLeast-empty}
+use Rattle.roster_model.proofs.tree_laws.Rules.{rule_at-within, sound-symbol}
+use Rattle.roster_model.proofs.tree_laws.Symbols.{here}
 use Rattle.span_cells.specs.declared.lengths.Lengths.{Lengths}
 use Rattle.span_cells.specs.declared.slot.Slot.{Slot}
 use Rattle.span_cells.specs.declared.slot.Slot.TheVariants.{OfName, OfSuffix}

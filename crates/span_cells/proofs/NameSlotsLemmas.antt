@@ -8,8 +8,8 @@ use Rattle.span_cells.specs.declared.slot.Suffix.{Suffix}
 use Rattle.span_cells.specs.Building.{NameSlots, AreNamed}
 use Rattle.roster_model.specs.declared.grammar.Grammar.{Grammar}
 use Rattle.roster_model.specs.UnitRules.{IsRanked}
-use Rattle.tree_laws.proofs.ListPushes.{push-kept, push-here, push-cases}
-use Rattle.tree_laws.specs.RankOrder.{IsPlaced, IsDone}
+use Rattle.roster_model.proofs.tree_laws.ListPushes.{push-kept, push-here, push-cases}
+use Rattle.roster_model.specs.tree_laws.RankOrder.{IsPlaced, IsDone}
 
 -- no name yet
 pub names-init : (ranks : List ℕ) (base : List Slot) (names : List ℕ) (done : ℕ → Type 0)

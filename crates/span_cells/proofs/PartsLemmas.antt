@@ -5,10 +5,10 @@ use Rattle.std.specs.Prelude.{ℤ}
 use Rattle.roster_model.specs.declared.grammar.Grammar.{Grammar}
 use Rattle.roster_model.specs.declared.grammar.Sym.{Sym}
 use Rattle.roster_model.specs.Sums.{PriceView, IsLeast, IsLesser, parts_sum, PartsLeast}
-use Rattle.tree_laws.specs.Laws.{arc_at}
-use Rattle.tree_laws.proofs.LeastValues.{IsLesser-none}
-use Rattle.tree_laws.proofs.PartLoop.{Before, suffix-init}
-use Rattle.tree_laws.proofs.Symbols.{here, step, end}
+use Rattle.roster_model.specs.tree_laws.Laws.{arc_at}
+use Rattle.roster_model.proofs.tree_laws.LeastValues.{IsLesser-none}
+use Rattle.roster_model.proofs.tree_laws.PartLoop.{Before, suffix-init}
+use Rattle.roster_model.proofs.tree_laws.Symbols.{here, step, end}
 use Rattle.span_cells.specs.Choices.{ChosenPart}
 use Rattle.span_cells.specs.declared.periods.Periods.{Periods}
 use Rattle.span_cells.specs.Periods.{Has}

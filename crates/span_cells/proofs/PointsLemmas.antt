@@ -8,10 +8,10 @@ use Rattle.roster_model.specs.declared.grammar.Sym.TheVariants.{Code, Name}
 use Rattle.roster_model.specs.Grammar.{rule_at}
 use Rattle.roster_model.specs.Sound.{IsSound, Exists}
 use Rattle.roster_model.specs.Sums.{PriceView, plus, SymbolLeast, PartsLeast}
-use Rattle.tree_laws.specs.Laws.{arc_at}
-use Rattle.tree_laws.proofs.Ends.{code-least, code-none}
-use Rattle.tree_laws.proofs.Rules.{sound-symbol}
-use Rattle.tree_laws.proofs.Symbols.{here, rest-last}
+use Rattle.roster_model.specs.tree_laws.Laws.{arc_at}
+use Rattle.roster_model.proofs.tree_laws.Ends.{code-least, code-none}
+use Rattle.roster_model.proofs.tree_laws.Rules.{sound-symbol}
+use Rattle.roster_model.proofs.tree_laws.Symbols.{here, rest-last}
 use Rattle.span_cells.specs.declared.slot.Layout.{Layout}
 use Rattle.span_cells.specs.Cells.{Held, IsLayoutOf, Right, cell, spot, name_slot, suffix_slot}
 use Rattle.span_cells.specs.Choices.{ChosenPart}

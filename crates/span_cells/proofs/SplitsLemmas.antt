@@ -4,7 +4,7 @@ use Rattle.std.specs.Prelude.{IfSome, IsSome}
 use Rattle.roster_model.specs.declared.grammar.Grammar.{Grammar}
 use Rattle.roster_model.specs.declared.grammar.Sym.{Sym}
 use Rattle.roster_model.specs.declared.grammar.Sym.TheVariants.{Code}
-use Rattle.tree_laws.proofs.Symbols.{rest-last}
+use Rattle.roster_model.proofs.tree_laws.Symbols.{rest-last}
 use Rattle.span_cells.specs.declared.slot.Layout.{Layout}
 use Rattle.roster_model.specs.Sums.{PriceView, SymbolLeast, PartsLeast}
 use Rattle.span_cells.specs.Cells.{Held, Right, cell, spot}

@@ -7,12 +7,12 @@ use Rattle.std.proofs.lemmas.Option.{same_Some}
 use Rattle.roster_model.specs.declared.grammar.Grammar.{Grammar}
 use Rattle.roster_model.specs.declared.grammar.Rule.{Rule}
 use Rattle.roster_model.specs.Grammar.{rule_at}
-use Rattle.tree_laws.proofs.Rules.{rule_at-within}
+use Rattle.roster_model.proofs.tree_laws.Rules.{rule_at-within}
 use Rattle.span_cells.specs.declared.slot.Slot.{Slot}
 use Rattle.span_cells.specs.declared.slot.Slot.TheVariants.{OfSuffix}
 use Rattle.span_cells.specs.Cells.{HasSlot}
 use Rattle.span_cells.specs.Building.{AddsSuffixes, SuffixSlots, IsSuffixSlot}
-use Rattle.tree_laws.proofs.ListPushes.{push-kept, push-here, push-cases}
+use Rattle.roster_model.proofs.tree_laws.ListPushes.{push-kept, push-here, push-cases}
 
 -- the slot of suffix j of rule r
 abbrev at_suffix : ℕ → ℕ → Slot

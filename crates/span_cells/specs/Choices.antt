@@ -5,7 +5,7 @@ use Rattle.roster_model.specs.declared.grammar.Rule.{Rule}
 use Rattle.roster_model.specs.declared.grammar.Sym.{Sym}
 use Rattle.roster_model.specs.Grammar.{rule_at, Stands}
 use Rattle.roster_model.specs.Sums.{PriceView, plus, SymbolLeast, PartsLeast}
-use Rattle.tree_laws.specs.Laws.{arc_at}
+use Rattle.roster_model.specs.tree_laws.Laws.{arc_at}
 
 -- v is the sum of the least sum of a first part of this length, its arc, and the least sum of the rest
 pub record ChosenPart (g : Grammar) (p : PriceView) (r k : ℕ) (s : Sym) (xs : List Sym) (i l part : ℕ)

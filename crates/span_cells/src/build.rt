@@ -2,7 +2,7 @@ ghost use Rattle.std.specs.Prelude.{ℕ, ◌≡◌, ◌≤◌, ◌<◌, ◌+◌,
 ghost use Rattle.roster_model.specs.Sound.{IsSound};
 ghost use Rattle.span_cells.specs.declared.slot.Slot.{Slot as Use};
 ghost use Rattle.span_cells.specs.Cells.{IsLayoutOf};
-ghost use Rattle.tree_laws.specs.RankOrder.{IsPlaced, IsDone};
+ghost use Rattle.roster_model.specs.tree_laws.RankOrder.{IsPlaced, IsDone};
 ghost use Rattle.span_cells.specs.Building.{AddsSuffixes, SuffixSlots, NameSlots, AreNamed};
 
 use crate::SpanIndex;

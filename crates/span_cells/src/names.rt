@@ -4,7 +4,7 @@ ghost use Rattle.roster_model.specs.Grammar.{rule_at, InDay};
 ghost use Rattle.roster_model.specs.Trees.{On};
 ghost use Rattle.roster_model.specs.Sound.{IsSound};
 ghost use Rattle.roster_model.specs.Sums.{Within, IsLeast, tree_sum, SymbolLeast, PartsLeast};
-ghost use Rattle.tree_laws.specs.Parts.{root};
+ghost use Rattle.roster_model.specs.tree_laws.Parts.{root};
 ghost use Rattle.span_cells.specs.Cells.{IsReady, NameRight, LaterRight, ShorterRight};
 ghost use Rattle.span_cells.specs.Choices.{ChosenRule};
 

@@ -4,7 +4,7 @@ ghost use Rattle.roster_model.specs.declared.grammar.ArcKey.{ArcKey as Arc};
 ghost use Rattle.roster_model.specs.Grammar.{rule_at, InDay};
 ghost use Rattle.roster_model.specs.Sound.{IsSound, Exists};
 ghost use Rattle.roster_model.specs.Sums.{Within, PartsLeast};
-ghost use Rattle.tree_laws.specs.Laws.{arc_at};
+ghost use Rattle.roster_model.specs.tree_laws.Laws.{arc_at};
 ghost use Rattle.span_cells.specs.Cells.{AreMade, IsReady, ShorterRight, cell_count, spot, spot_count};
 ghost use Rattle.span_cells.specs.Choices.{ChosenPart};
 ghost use Rattle.span_cells.specs.Numbers.{sum_below};

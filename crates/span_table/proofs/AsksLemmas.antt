@@ -14,16 +14,16 @@ use Rattle.roster_model.specs.Room.{most_uses}
 use Rattle.roster_model.specs.Sums.{PriceView, SymbolLeast, PartsLeast, tree_sum}
 use Rattle.roster_model.specs.Sound.{Exists, IsSound}
 use Rattle.roster_model.specs.Room.{RoomView}
-use Rattle.tree_laws.proofs.Rules.{rule_at-within, sound-rule, sound-symbol}
-use Rattle.tree_laws.proofs.Symbols.{here, here_last}
+use Rattle.roster_model.proofs.tree_laws.Rules.{rule_at-within, sound-rule, sound-symbol}
+use Rattle.roster_model.proofs.tree_laws.Symbols.{here, here_last}
 use Rattle.span_cells.specs.declared.slot.Layout.{Layout}
 use Rattle.span_cells.specs.Cells.{Held, IsLayoutOf, name_slot}
 use Rattle.span_cells.specs.Choices.{ChosenPart, ChosenRule}
 use Rattle.span_table.specs.Walks.{HasParts, HasRoom, AsksTree, AsksParts, WritesTree, WritesParts, tree_measure, parts_measure}
-use Rattle.tree_laws.proofs.Bounds.{few-steps}
-use Rattle.tree_laws.proofs.Size.{length-steps}
-use Rattle.tree_laws.specs.LeastTrees.{HasDaySum, HoldsLeastTree}
-use Rattle.tree_laws.proofs.LeastValues.{least_there, at_sum}
+use Rattle.roster_model.proofs.tree_laws.Bounds.{few-steps}
+use Rattle.roster_model.proofs.tree_laws.Size.{length-steps}
+use Rattle.roster_model.specs.tree_laws.LeastTrees.{HasDaySum, HoldsLeastTree}
+use Rattle.roster_model.proofs.tree_laws.LeastValues.{least_there, at_sum}
 use Rattle.span_table.specs.Tables.{TableView, IsMadeFor, IsFilled}
 use Rattle.span_cells.proofs.CellsLemmas.{filled-right}
 use Rattle.span_table.proofs.TablesLemmas.{day-least}

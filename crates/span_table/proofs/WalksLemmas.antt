@@ -8,12 +8,12 @@ use Rattle.roster_model.specs.declared.grammar.Sym.TheVariants.{Code, Name}
 use Rattle.roster_model.specs.Trees.{Parts, done, letter, uses, span_length, On, steps}
 use Rattle.roster_model.specs.Sums.{PriceView, plus, tree_sum, parts_sum, SymbolLeast, PartsLeast}
 use Rattle.roster_model.specs.Room.{RoomView}
-use Rattle.tree_laws.specs.Parts.{beside}
-use Rattle.tree_laws.specs.Laws.{arc_at}
-use Rattle.tree_laws.proofs.LeastValues.{IsLeast-one, left_there, right_there}
-use Rattle.tree_laws.proofs.Splits.{joined}
-use Rattle.tree_laws.proofs.Ends.{last-least, last_sum, only-least, only_sum, rooted}
-use Rattle.tree_laws.proofs.Size.{steps-beside, use_count-beside, length-steps}
+use Rattle.roster_model.specs.tree_laws.Parts.{beside}
+use Rattle.roster_model.specs.tree_laws.Laws.{arc_at}
+use Rattle.roster_model.proofs.tree_laws.LeastValues.{IsLeast-one, left_there, right_there}
+use Rattle.roster_model.proofs.tree_laws.Splits.{joined}
+use Rattle.roster_model.proofs.tree_laws.Ends.{last-least, last_sum, only-least, only_sum, rooted}
+use Rattle.roster_model.proofs.tree_laws.Size.{steps-beside, use_count-beside, length-steps}
 use Rattle.span_cells.specs.Choices.{ChosenPart, ChosenRule}
 use Rattle.span_table.specs.Walks.{HasTree, HasParts, HasRoom, WritesTree, WritesParts}
 

@@ -1,2 +1,3 @@
 pub mod Tables
 pub mod Walks
+pub mod next_codes

@@ -9,7 +9,7 @@ use Rattle.roster_model.specs.Trees.{Parts, On, steps}
 use Rattle.roster_model.specs.Sums.{PriceView, tree_sum, parts_sum, SymbolLeast, PartsLeast}
 use Rattle.roster_model.specs.Sound.{IsSound, Exists}
 use Rattle.roster_model.specs.Room.{RoomView}
-use Rattle.tree_laws.specs.Parts.{use_count}
+use Rattle.roster_model.specs.tree_laws.Parts.{use_count}
 use Rattle.span_cells.specs.declared.slot.Layout.{Layout}
 use Rattle.span_cells.specs.Cells.{Held, IsReady, AreFilled, name_slot}
 

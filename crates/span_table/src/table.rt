@@ -4,7 +4,7 @@ ghost use Rattle.roster_model.specs.Room.{most_uses};
 ghost use Rattle.roster_model.specs.Sound.{IsSound};
 ghost use Rattle.roster_model.specs.Trees.{IsDayTree, IsTreeOf};
 ghost use Rattle.roster_model.specs.Sums.{PriceView, IsLeast, tree_sum};
-ghost use Rattle.tree_laws.specs.LeastTrees.{HasDaySum, HoldsLeastTree};
+ghost use Rattle.roster_model.specs.tree_laws.LeastTrees.{HasDaySum, HoldsLeastTree};
 ghost use Rattle.span_table.specs.Tables.{IsMadeFor, IsFilled};
 
 use crate::walk::write_tree;

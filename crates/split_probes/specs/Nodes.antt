@@ -3,7 +3,7 @@ use Rattle.std.specs.Prelude.{◌≡◌, ◌≤◌, length}
 use Rattle.roster_model.specs.Folds.{Each}
 use Rattle.roster_model.specs.Limits.{IsSmallCut}
 use Rattle.roster_model.specs.SoundInstance.{IsSoundInstance}
-use Rattle.master_laws.specs.Rows.{rows_of}
+use Rattle.bound_laws.specs.master_laws.Rows.{rows_of}
 use Rattle.split_probes.specs.declared.node.SplitNode.{SplitNode}
 
 -- the instance is sound, the cuts are small, the master has 1,500 rows at most, and each arc has a count

@@ -1,7 +1,7 @@
 use crate::shares::Share;
-use count_boxes::ArcBox;
+use arc_counts::ArcBox;
+use master_rows::Day;
 use roster_model::Cut;
-use search_day::Day;
 use tree_pool::Pool;
 
 /// A node whose splits are tried: its day, its cuts with the counts that they leave the arcs, and the weights

@@ -2,14 +2,14 @@
 use Rattle.std.proofs.Common.{◌≡◌, ℕ, ℤ, zero, suc, ◌+◌, ◌<◌, ◌^◌, arith, pos, ◌*ℤ◌, ◌<ℤ◌, unsigned_abs, List, length, refl, sym, ap, ◌∙◌, ◌⊎◌, inl, inr, subst, get_or-set_same, get_or-set_other}
 use Rattle.std.specs.Prelude.{slice_index, slice_set}
 use Rattle.std.proofs.lemmas.Bool.{cases_eq, eq-eqb, ne_eqb}
-use Rattle.linear_programs.specs.Sums.{dot}
-use Rattle.linear_programs.specs.Program.{Column, Program, unit_vector, reduced}
-use Rattle.linear_programs.specs.Tableau.{Tableau, entry, cost_row, PivotPath, start, step, HasWidePath}
-use Rattle.linear_programs.proofs.RowLaws.{same_step}
-use Rattle.linear_programs.proofs.Totals.{total-same, dot-same_right}
+use Rattle.bound_laws.specs.linear_programs.Sums.{dot}
+use Rattle.bound_laws.specs.linear_programs.Program.{Column, Program, unit_vector, reduced}
+use Rattle.bound_laws.specs.linear_programs.Tableau.{Tableau, entry, cost_row, PivotPath, start, step, HasWidePath}
+use Rattle.bound_laws.proofs.linear_programs.RowLaws.{same_step}
+use Rattle.bound_laws.proofs.linear_programs.Totals.{total-same, dot-same_right}
 use Rattle.fraction.specs.Row.{at}
-use Rattle.pivot_rows.specs.declared.column.Place.{Place}
-use Rattle.pivot_rows.specs.Columns.{IsColumn, number_in}
+use Rattle.fraction.specs.declared.pivot_rows.column.Place.{Place}
+use Rattle.fraction.specs.pivot_rows.Columns.{IsColumn, number_in}
 use Rattle.tableau.specs.Lines.{row_at, AreEntries, IsTurn, IsWideTurn}
 use Rattle.tableau.specs.Sheet.{tableau_of, IsSheet, IsOnPath}
 use Rattle.tableau.proofs.Paths.{cost_at, next_keys, next_same, next_other, turn_path, wide_path}

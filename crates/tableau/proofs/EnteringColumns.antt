@@ -1,13 +1,13 @@
 -- Columns that enter, and prices that are copied.
 use Rattle.std.proofs.Common.{◌≡◌, ℕ, ℤ, ◌+◌, ◌<◌, ◌^◌, pos, ◌*ℤ◌, ◌-ℤ◌, ◌≤ℤ◌, ◌<ℤ◌, List, sym, ap, ◌⊎◌, inl, inr, Option, Some, None, IfSome, IfNone, arith, unsigned_abs}
-use Rattle.linear_programs.specs.Sums.{dot}
-use Rattle.linear_programs.specs.Program.{Column, Program, IsSound, reduced, IsPricedOut}
-use Rattle.linear_programs.proofs.TiedTableau.{IsTied}
-use Rattle.linear_programs.proofs.Paths.{path_tied}
-use Rattle.linear_programs.proofs.Totals.{total-same, dot-same_right}
+use Rattle.bound_laws.specs.linear_programs.Sums.{dot}
+use Rattle.bound_laws.specs.linear_programs.Program.{Column, Program, IsSound, reduced, IsPricedOut}
+use Rattle.bound_laws.proofs.linear_programs.TiedTableau.{IsTied}
+use Rattle.bound_laws.proofs.linear_programs.Paths.{path_tied}
+use Rattle.bound_laws.proofs.linear_programs.Totals.{total-same, dot-same_right}
 use Rattle.fraction.specs.Row.{at}
-use Rattle.pivot_rows.specs.declared.column.Place.{Place}
-use Rattle.pivot_rows.specs.Columns.{IsColumn, number_in}
+use Rattle.fraction.specs.declared.pivot_rows.column.Place.{Place}
+use Rattle.fraction.specs.pivot_rows.Columns.{IsColumn, number_in}
 use Rattle.tableau.specs.Lines.{row_at, IsLine}
 use Rattle.tableau.specs.Sheet.{tableau_of, AreCopied, IsOnPath}
 use Rattle.tableau.specs.Cheaper.{IsCheaper, HasLargePlace}

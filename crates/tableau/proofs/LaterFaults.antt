@@ -1,7 +1,7 @@
 -- Paths and faults while columns are listed and refusals counted.
 use Rattle.std.proofs.Common.{ℕ, ℤ, ◌≤◌, ◌⊎◌, List, arith, inl, inr}
-use Rattle.linear_programs.specs.Program.{Program}
-use Rattle.linear_programs.specs.Tableau.{HasWidePath}
+use Rattle.bound_laws.specs.linear_programs.Program.{Program}
+use Rattle.bound_laws.specs.linear_programs.Tableau.{HasWidePath}
 use Rattle.fraction.specs.Range.{Counts}
 use Rattle.tableau.specs.Risen.{HasRisen}
 use Rattle.tableau.specs.Sheet.{IsOnPath}

@@ -2,13 +2,13 @@
 use Rattle.std.proofs.Common.{◌≡◌, ◌≢◌, ℕ, ℤ, suc, ◌+◌, ◌<◌, arith, pos, neg_ℤ, ◌<ℤ◌, List, length, refl, sym, ap, ◌∙◌, ◌⊎◌, inl, inr, cond}
 use Rattle.std.specs.Prelude.{nat_eq}
 use Rattle.std.proofs.lemmas.Bool.{cases_eq, eq-eqb, ne_eqb}
-use Rattle.linear_programs.specs.Program.{Program, reduced}
-use Rattle.linear_programs.specs.RowStep.{IsRowStep}
-use Rattle.linear_programs.specs.Tableau.{Tableau, entry, whole_row, cost_row, padded_row, IsChoice, PivotPath, step, IsWide, HasWidePath}
-use Rattle.linear_programs.proofs.RowLaws.{same_step}
+use Rattle.bound_laws.specs.linear_programs.Program.{Program, reduced}
+use Rattle.bound_laws.specs.linear_programs.RowStep.{IsRowStep}
+use Rattle.bound_laws.specs.linear_programs.Tableau.{Tableau, entry, whole_row, cost_row, padded_row, IsChoice, PivotPath, step, IsWide, HasWidePath}
+use Rattle.bound_laws.proofs.linear_programs.RowLaws.{same_step}
 use Rattle.fraction.specs.Row.{at}
-use Rattle.pivot_rows.specs.Rows.{StepsTo, IsWideStep}
-use Rattle.pivot_rows.proofs.Steps.{a_step}
+use Rattle.fraction.specs.pivot_rows.Rows.{StepsTo, IsWideStep}
+use Rattle.fraction.proofs.pivot_rows.Steps.{a_step}
 use Rattle.tableau.specs.Lines.{row_at, AreLines, IsLeaving, padded, HasWideRow, AreStepped}
 use Rattle.tableau.specs.Sheet.{tableau_of}
 use Rattle.tableau.proofs.PaddedRows.{padded_below, padded_last}

@@ -7,11 +7,11 @@ use Rattle.roster_model.specs.Folds.{Each}
 use Rattle.std.proofs.Common.{◌*◌, ◌*ℤ◌, ◌-ℤ◌, ◌≤ℤ◌, negsuc}
 use Rattle.std.proofs.lemmas.Int.{ints}
 use Rattle.std.proofs.lemmas.Nat.{mul-le}
-use Rattle.linear_programs.specs.Sums.{dot}
-use Rattle.linear_programs.specs.Program.{Column, Program, reduced}
-use Rattle.linear_programs.proofs.Totals.{dot-same_right}
-use Rattle.pivot_rows.specs.declared.column.Place.{Place}
-use Rattle.pivot_rows.specs.Columns.{number_in, AreRising, AreUnits, IsColumn}
+use Rattle.bound_laws.specs.linear_programs.Sums.{dot}
+use Rattle.bound_laws.specs.linear_programs.Program.{Column, Program, reduced}
+use Rattle.bound_laws.proofs.linear_programs.Totals.{dot-same_right}
+use Rattle.fraction.specs.declared.pivot_rows.column.Place.{Place}
+use Rattle.fraction.specs.pivot_rows.Columns.{number_in, AreRising, AreUnits, IsColumn}
 use Rattle.tableau.specs.Cheaper.{place_at, HasLargePlace}
 use Rattle.tableau.specs.Ends.{HasLargeColumn}
 

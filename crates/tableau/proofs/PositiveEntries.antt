@@ -2,15 +2,15 @@
 use Rattle.std.proofs.Common.{◌≡◌, ℕ, ℤ, ◌*◌, ◌<◌, ◌≤◌, arith, pos, negsuc, suc, zero, ◌+ℤ◌, ◌*ℤ◌, ◌≤ℤ◌, ◌<ℤ◌, unsigned_abs, sym, ap, ◌∙◌, ◌⊎◌, inl, inr, refl}
 use Rattle.std.proofs.lemmas.Int.{ints}
 use Rattle.std.proofs.lemmas.Bool.{cases_eq}
-use Rattle.linear_programs.specs.Sums.{dot}
-use Rattle.linear_programs.specs.Program.{Column, Program, reduced}
-use Rattle.linear_programs.specs.Solution.{brought}
-use Rattle.linear_programs.specs.Tableau.{Tableau, entry, on_basis}
-use Rattle.linear_programs.proofs.TiedTableau.{IsTied}
-use Rattle.linear_programs.proofs.Ring.{mul_nonneg}
-use Rattle.linear_programs.proofs.Orders.{le_factor}
-use Rattle.linear_programs.proofs.Totals.{dot-add_right, dot-scale_right, dot-zero_right, dot-same_right}
-use Rattle.linear_programs.proofs.Solutions.{units, others, pivot_size, pivot_size_is, sizes_positive, row_seen, units_positive, others-times}
+use Rattle.bound_laws.specs.linear_programs.Sums.{dot}
+use Rattle.bound_laws.specs.linear_programs.Program.{Column, Program, reduced}
+use Rattle.bound_laws.specs.linear_programs.Solution.{brought}
+use Rattle.bound_laws.specs.linear_programs.Tableau.{Tableau, entry, on_basis}
+use Rattle.bound_laws.proofs.linear_programs.TiedTableau.{IsTied}
+use Rattle.bound_laws.proofs.linear_programs.Ring.{mul_nonneg}
+use Rattle.bound_laws.proofs.linear_programs.Orders.{le_factor}
+use Rattle.bound_laws.proofs.linear_programs.Totals.{dot-add_right, dot-scale_right, dot-zero_right, dot-same_right}
+use Rattle.bound_laws.proofs.linear_programs.Solutions.{units, others, pivot_size, pivot_size_is, sizes_positive, row_seen, units_positive, others-times}
 
 below_last : (n : ℕ) (f : ℕ → ℤ) → ((r : ℕ) → r < n → f r ≤ℤ pos 0) → f n ≤ℤ pos 0 → (r : ℕ) → r < suc n → f r ≤ℤ pos 0
 below_last n f before last r h = by (cases_eq r n)

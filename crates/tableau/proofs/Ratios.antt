@@ -3,8 +3,8 @@ use Rattle.std.proofs.Common.{◌≡◌, ℕ, ◌<◌, ◌+◌, arith, pos, ℤ,
 use Rattle.std.proofs.lemmas.Int.{ints}
 use Rattle.std.proofs.lemmas.Bool.{cases_eq}
 use lib.IntN.{*ℤ_comm}
-use Rattle.linear_programs.proofs.Ring.{*ℤ-assoc}
-use Rattle.linear_programs.proofs.Orders.{scale_le, le_factor}
+use Rattle.bound_laws.proofs.linear_programs.Ring.{*ℤ-assoc}
+use Rattle.bound_laws.proofs.linear_programs.Orders.{scale_le, le_factor}
 use Rattle.fraction.specs.Row.{at}
 use Rattle.tableau.specs.Lines.{row_at, IsLeaving}
 

@@ -2,11 +2,11 @@
 use Rattle.std.proofs.Common.{◌≡◌, ℕ, ℤ, zero, suc, ◌+◌, ◌<◌, ◌≤◌, arith, pos, ◌*ℤ◌, ◌<ℤ◌, List, [], ◌∷◌, ◌++◌, length, refl, sym, ap, subst, ◌∙◌, append_assoc, append-nil}
 use Rattle.std.specs.Prelude.{slice_index}
 use lib.IntN.{*ℤ_comm}
-use Rattle.linear_programs.specs.Program.{Program, IsSound}
-use Rattle.linear_programs.specs.Tableau.{entry, on_basis, IsTableauSolution}
-use Rattle.linear_programs.proofs.Ring.{*ℤ-assoc, same_factor}
-use Rattle.linear_programs.proofs.TiedTableau.{IsTied}
-use Rattle.linear_programs.proofs.Solutions.{tableau_solution}
+use Rattle.bound_laws.specs.linear_programs.Program.{Program, IsSound}
+use Rattle.bound_laws.specs.linear_programs.Tableau.{entry, on_basis, IsTableauSolution}
+use Rattle.bound_laws.proofs.linear_programs.Ring.{*ℤ-assoc, same_factor}
+use Rattle.bound_laws.proofs.linear_programs.TiedTableau.{IsTied}
+use Rattle.bound_laws.proofs.linear_programs.Solutions.{tableau_solution}
 use Rattle.fraction.specs.Row.{at}
 use Rattle.fraction.specs.declared.frac.Frac.{Frac}
 use Rattle.tableau.specs.declared.simplex.Basic.{Basic}

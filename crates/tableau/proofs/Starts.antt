@@ -9,11 +9,11 @@ use Rattle.std.proofs.lemmas.Bool.{cases_eq, eq-eqb, ne_eqb}
 use Rattle.std.proofs.lemmas.List.Elements.{All-from_get_or}
 use native.Mathlib.Nat.{one-dvd}
 use lib.IntN.{*ℤ_comm}
-use Rattle.linear_programs.specs.Sums.{dot}
-use Rattle.linear_programs.specs.Program.{Program, IsSound, unit_vector}
-use Rattle.linear_programs.proofs.Totals.{total-same}
+use Rattle.bound_laws.specs.linear_programs.Sums.{dot}
+use Rattle.bound_laws.specs.linear_programs.Program.{Program, IsSound, unit_vector}
+use Rattle.bound_laws.proofs.linear_programs.Totals.{total-same}
 use Rattle.fraction.specs.Row.{at}
-use Rattle.pivot_rows.specs.Rows.{AreNarrow, IsPrimitive, zeros}
+use Rattle.fraction.specs.pivot_rows.Rows.{AreNarrow, IsPrimitive, zeros}
 use Rattle.tableau.specs.Lines.{row_at, IsLine}
 use Rattle.tableau.specs.First.{IsUnitLine, AreUnitLines, IsFirstCost, IsRightFault}
 use Rattle.tableau.specs.Sheet.{HasRoom}
@@ -22,7 +22,7 @@ use Rattle.tableau.specs.Faults.{fault_of}
 use Rattle.tableau.specs.Ends.{IsLpFault}
 use Rattle.tableau.specs.declared.columns.ColumnsFault.{ColumnsFault}
 use Rattle.tableau.specs.declared.columns.ColumnsFault.TheVariants.{Wide, Memory}
-use Rattle.linear_programs.specs.Tableau.{HasWidePath}
+use Rattle.bound_laws.specs.linear_programs.Tableau.{HasWidePath}
 use Rattle.fraction.specs.Range.{Counts}
 use Rattle.tableau.proofs.Counts.{refused_risen, refused_counts}
 use Rattle.tableau.proofs.Ends.{first_path, wide_right, wide_value}

@@ -8,10 +8,10 @@ use Rattle.std.proofs.lemmas.List.Elements.{All-append}
 use Rattle.std.proofs.Common.{SFits, rules}
 use Rattle.std.specs.Int.{w128}
 use Rattle.fraction.specs.Row.{at}
-use Rattle.linear_programs.specs.Sums.{dot}
-use Rattle.pivot_rows.specs.declared.column.Place.{Place}
-use Rattle.pivot_rows.specs.Columns.{number_in, AreWithin}
-use Rattle.pivot_rows.specs.Rows.{AreNarrow, IsPrimitive, StepsTo, IsWideStep, zeros}
+use Rattle.bound_laws.specs.linear_programs.Sums.{dot}
+use Rattle.fraction.specs.declared.pivot_rows.column.Place.{Place}
+use Rattle.fraction.specs.pivot_rows.Columns.{number_in, AreWithin}
+use Rattle.fraction.specs.pivot_rows.Rows.{AreNarrow, IsPrimitive, StepsTo, IsWideStep, zeros}
 use Rattle.tableau.specs.Lines.{row_at, AreLines, IsLine, AreEntries, AreStepped, HasWideRow, padded}
 
 -- within a list the default does not matter

@@ -1,8 +1,8 @@
 -- Listed columns with a negative reduced cost, and places of a column by their index.
 use Rattle.std.specs.Prelude.{ℕ, ℤ, pos, ◌<◌, ◌+◌, ◌<ℤ◌, List, length, slice_index_or, unsigned_abs}
-use Rattle.linear_programs.specs.Program.{Program, reduced}
+use Rattle.bound_laws.specs.linear_programs.Program.{Program, reduced}
 use Rattle.fraction.specs.Row.{at}
-use Rattle.pivot_rows.specs.declared.column.Place.{Place}
+use Rattle.fraction.specs.declared.pivot_rows.column.Place.{Place}
 
 -- place k, an entry 0 past the end
 abbrev pub place_at : List Place → ℕ → Place

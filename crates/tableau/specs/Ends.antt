@@ -1,12 +1,12 @@
 -- How the simplex method ends.
 use Rattle.std.specs.Prelude.{ℕ, ℤ, pos, ◌≡◌, ◌<◌, ◌≤◌, ◌^◌, ◌*ℤ◌, ◌<ℤ◌, ◌⊎◌, List, [], ◌∷◌, length, unsigned_abs}
-use Rattle.linear_programs.specs.Program.{Program, IsPricedOut}
-use Rattle.linear_programs.specs.Solution.{Weighted}
-use Rattle.linear_programs.specs.Tableau.{Tableau, PivotPath, HasWidePath, HasOpenPath, on_basis, IsTableauSolution}
+use Rattle.bound_laws.specs.linear_programs.Program.{Program, IsPricedOut}
+use Rattle.bound_laws.specs.linear_programs.Solution.{Weighted}
+use Rattle.bound_laws.specs.linear_programs.Tableau.{Tableau, PivotPath, HasWidePath, HasOpenPath, on_basis, IsTableauSolution}
 use Rattle.fraction.specs.declared.frac.Frac.{Frac}
 use Rattle.fraction.specs.Range.{Counts}
 use Rattle.fraction.specs.Row.{at}
-use Rattle.pivot_rows.specs.Rows.{AreNarrow}
+use Rattle.fraction.specs.pivot_rows.Rows.{AreNarrow}
 use Rattle.tableau.specs.Risen.{HasRisen}
 use Rattle.tableau.specs.declared.simplex.Basic.{Basic}
 use Rattle.tableau.specs.declared.simplex.LpFault.{LpFault}

@@ -1,6 +1,6 @@
 -- Basic columns with their weights.
 use Rattle.std.specs.Prelude.{ℕ, ℤ, zero, suc, ◌≡◌, ◌*ℤ◌, List, [], ◌∷◌, slice_index}
-use Rattle.linear_programs.specs.Sums.{dot}
+use Rattle.bound_laws.specs.linear_programs.Sums.{dot}
 use Rattle.fraction.specs.Row.{at}
 use Rattle.tableau.specs.Lines.{row_at}
 use Rattle.tableau.specs.declared.simplex.Basic.{Basic}

@@ -1,7 +1,7 @@
 -- The lists of the first tableau.
 use Rattle.std.specs.Prelude.{ℕ, ℤ, pos, ◌≡◌, ◌<◌, ◌+◌, ◌^◌, List, length, unsigned_abs}
-use Rattle.linear_programs.specs.Sums.{dot}
-use Rattle.linear_programs.specs.Program.{Program, unit_vector}
+use Rattle.bound_laws.specs.linear_programs.Sums.{dot}
+use Rattle.bound_laws.specs.linear_programs.Program.{Program, unit_vector}
 use Rattle.fraction.specs.Range.{Counts, refused}
 use Rattle.fraction.specs.Row.{at}
 use Rattle.tableau.specs.Lines.{row_at, IsLine}

@@ -1,10 +1,10 @@
 -- The rows of a tableau as lists: its numbers, and the right side behind them.
 use Rattle.std.specs.Prelude.{ℕ, ℤ, pos, ◌≡◌, ◌≢◌, ◌<◌, ◌≤◌, ◌+◌, ◌^◌, ◌*ℤ◌, ◌≤ℤ◌, ◌<ℤ◌, ◌⊎◌, neg_ℤ, List, [], ◌++◌, length, slice_index_or, unsigned_abs}
-use Rattle.linear_programs.specs.Sums.{dot}
+use Rattle.bound_laws.specs.linear_programs.Sums.{dot}
 use Rattle.fraction.specs.Row.{at}
-use Rattle.pivot_rows.specs.Rows.{AreNarrow, IsPrimitive, StepsTo, IsWideStep, zeros}
-use Rattle.pivot_rows.specs.Columns.{number_in}
-use Rattle.pivot_rows.specs.declared.column.Place.{Place}
+use Rattle.fraction.specs.pivot_rows.Rows.{AreNarrow, IsPrimitive, StepsTo, IsWideStep, zeros}
+use Rattle.fraction.specs.pivot_rows.Columns.{number_in}
+use Rattle.fraction.specs.declared.pivot_rows.column.Place.{Place}
 
 -- row r, empty past the end
 abbrev pub row_at : List (List ℤ) → ℕ → List ℤ

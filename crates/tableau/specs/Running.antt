@@ -1,6 +1,6 @@
 -- A run of pivots over lists.
 use Rattle.std.specs.Prelude.{ℕ, ℤ, ◌≡◌, ◌+◌, List, length}
-use Rattle.linear_programs.specs.Program.{Program, IsPricedOut}
+use Rattle.bound_laws.specs.linear_programs.Program.{Program, IsPricedOut}
 use Rattle.fraction.specs.Row.{at}
 use Rattle.tableau.specs.Sheet.{IsSheet, IsOnPath, HasRoom, AreCopied}
 

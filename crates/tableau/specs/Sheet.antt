@@ -1,7 +1,7 @@
 -- Pivot paths whose tableau stands in lists.
 use Rattle.std.specs.Prelude.{ℕ, ℤ, ◌≡◌, ◌<◌, ◌+◌, List, length, slice_index}
-use Rattle.linear_programs.specs.Program.{Program}
-use Rattle.linear_programs.specs.Tableau.{Tableau, PivotPath}
+use Rattle.bound_laws.specs.linear_programs.Program.{Program}
+use Rattle.bound_laws.specs.linear_programs.Tableau.{Tableau, PivotPath}
 use Rattle.fraction.specs.Row.{at}
 use Rattle.tableau.specs.Lines.{row_at, IsLine, AreLines}
 

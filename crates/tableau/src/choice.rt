@@ -1,7 +1,7 @@
 ghost use Rattle.std.specs.Prelude.{ℕ, ◌≡◌, ◌≤◌, ◌<◌, ◌+◌, ◌^◌, pos, ◌≤ℤ◌, length, IfSome};
-ghost use Rattle.linear_programs.specs.Program.{Program, reduced};
+ghost use Rattle.bound_laws.specs.linear_programs.Program.{Program, reduced};
 ghost use Rattle.fraction.specs.Row.{at};
-ghost use Rattle.pivot_rows.specs.Rows.{AreNarrow};
+ghost use Rattle.fraction.specs.pivot_rows.Rows.{AreNarrow};
 ghost use Rattle.tableau.specs.Lines.{IsLine};
 ghost use Rattle.tableau.specs.Cheaper.{IsCheaper};
 

@@ -18,14 +18,13 @@ ghost use Rattle.std.specs.Prelude.{
   IfSome,
   IfNone,
 };
-ghost use Rattle.linear_programs.specs.Program.{Program, reduced, IsPricedOut};
+ghost use Rattle.bound_laws.specs.linear_programs.Program.{Program, reduced, IsPricedOut};
 ghost use Rattle.fraction.specs.Row.{at};
-ghost use Rattle.pivot_rows.specs.Columns.{IsColumn};
+ghost use Rattle.fraction.specs.pivot_rows.Columns.{IsColumn};
 ghost use Rattle.tableau.specs.Risen.{HasRisen};
 ghost use Rattle.tableau.specs.Refused.{IsColumnsFault};
 
-use fraction::{Tally, TooWide};
-use pivot_rows::Place;
+use fraction::{Place, Tally, TooWide};
 
 /// Why columns could not be priced.
 #[derive(Clone, Copy, Debug, PartialEq, Eq, Drop)]

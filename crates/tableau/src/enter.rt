@@ -1,5 +1,5 @@
 ghost use Rattle.std.specs.Prelude.{ℕ, ◌≡◌, ◌≤◌, ◌<◌, ◌+◌, pos, ◌≤ℤ◌, ◌<ℤ◌, IfOk, IfErr, IfSome, IfNone, length};
-ghost use Rattle.linear_programs.specs.Program.{Program, IsSound, IsPricedOut};
+ghost use Rattle.bound_laws.specs.linear_programs.Program.{Program, IsSound, IsPricedOut};
 ghost use Rattle.fraction.specs.Row.{at};
 ghost use Rattle.tableau.specs.Lines.{IsLine};
 ghost use Rattle.tableau.specs.Sheet.{IsSheet, IsOnPath, HasRoom, AreCopied};

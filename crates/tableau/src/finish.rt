@@ -1,6 +1,6 @@
 ghost use Rattle.std.specs.Prelude.{ℕ, ◌≡◌, ◌≤◌, ◌<◌, ◌+◌, ◌^◌, pos, ◌*ℤ◌, ◌≤ℤ◌, ◌<ℤ◌, IfOk, IfErr, length, slice_index, slice_index_or, unsigned_abs};
-ghost use Rattle.linear_programs.specs.Sums.{dot};
-ghost use Rattle.linear_programs.specs.Program.{Program, IsSound};
+ghost use Rattle.bound_laws.specs.linear_programs.Sums.{dot};
+ghost use Rattle.bound_laws.specs.linear_programs.Program.{Program, IsSound};
 ghost use Rattle.fraction.specs.Row.{at};
 ghost use Rattle.tableau.specs.Lines.{row_at, IsLine, AreLines};
 ghost use Rattle.tableau.specs.Running.{IsPriced};
@@ -12,8 +12,7 @@ use crate::line::NumberRow;
 use crate::sheet::{Entries, Sheet};
 use crate::simplex::{Basic, LpEnd, LpFault};
 use crate::small::check_entries;
-use fraction::{Frac, Tally};
-use pivot_rows::entry_in;
+use fraction::{Frac, Tally, entry_in};
 use roster_model::List;
 use std::alloc::Global;
 

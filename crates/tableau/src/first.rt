@@ -1,8 +1,8 @@
 ghost use Rattle.std.specs.Prelude.{ℕ, ◌≡◌, ◌≤◌, ◌<◌, ◌+◌, ◌^◌, pos, ◌≤ℤ◌, IfOk, IfErr, length, slice_index, unsigned_abs, ◌++◌, ◌∷◌, [], ℤ, List};
-ghost use Rattle.linear_programs.specs.Program.{Program, IsSound, unit_vector};
-ghost use Rattle.linear_programs.specs.Sums.{dot};
+ghost use Rattle.bound_laws.specs.linear_programs.Program.{Program, IsSound, unit_vector};
+ghost use Rattle.bound_laws.specs.linear_programs.Sums.{dot};
 ghost use Rattle.fraction.specs.Row.{at};
-ghost use Rattle.pivot_rows.specs.Rows.{AreNarrow};
+ghost use Rattle.fraction.specs.pivot_rows.Rows.{AreNarrow};
 ghost use Rattle.tableau.specs.Lines.{row_at, IsLine, AreLines};
 ghost use Rattle.tableau.specs.Sheet.{IsSheet, IsOnPath, HasRoom};
 ghost use Rattle.tableau.specs.Running.{IsRunning};
@@ -16,8 +16,7 @@ use crate::marks::Marks;
 use crate::sheet::{Entries, Rows, Sheet};
 use crate::simplex::LpFault;
 use crate::small::{MOST_COST, fits_word, scaled_cost};
-use fraction::{Tally, fits};
-use pivot_rows::{MOST_NUMBER, PivotRow};
+use fraction::{MOST_NUMBER, PivotRow, Tally, fits};
 use roster_model::Memory;
 use std::alloc::Global;
 

@@ -1,10 +1,9 @@
 ghost use Rattle.std.specs.Prelude.{◌≡◌, ◌<◌, ◌≤◌, ◌^◌, pos, ◌<ℤ◌, unsigned_abs, length, IfOk, IfErr, MatchResult};
 ghost use Rattle.fraction.specs.Range.{refused};
-ghost use Rattle.pivot_rows.specs.Rows.{AreNarrow, StepsTo, IsWideStep};
+ghost use Rattle.fraction.specs.pivot_rows.Rows.{AreNarrow, StepsTo, IsWideStep};
 ghost use Rattle.tableau.specs.Lines.{IsLine};
 
-use fraction::{Tally, TooWide};
-use pivot_rows::{PivotRow, step_row};
+use fraction::{PivotRow, Tally, TooWide, step_row};
 use std::marker::Model;
 
 /// A row of numbers, which contracts see as a list.

@@ -1,7 +1,7 @@
 use crate::columns::Columns;
 use crate::line::NumberRow;
 use crate::marks::Marks;
-use pivot_rows::Place;
+use fraction::Place;
 
 /// The most columns among which the one of the least pivot is chosen; the rules ask for 4 and for 16.
 const MOST_NOMINEES: usize = 16;

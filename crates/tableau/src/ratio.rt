@@ -1,7 +1,7 @@
 ghost use Rattle.std.specs.Prelude.{ℕ, ◌≡◌, ◌≤◌, ◌<◌, ◌+◌, ◌^◌, pos, ◌*ℤ◌, ◌≤ℤ◌, ◌<ℤ◌, unsigned_abs, length, MatchOption};
 ghost use Rattle.std.specs.Bool.{OnTrue, OnFalse};
 ghost use Rattle.fraction.specs.Row.{at};
-ghost use Rattle.pivot_rows.specs.Rows.{AreNarrow};
+ghost use Rattle.fraction.specs.pivot_rows.Rows.{AreNarrow};
 ghost use Rattle.tableau.specs.Lines.{row_at, AreLines, IsLeaving};
 
 use crate::line::NumberRow;

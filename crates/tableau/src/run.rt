@@ -1,5 +1,5 @@
 ghost use Rattle.std.specs.Prelude.{ℕ, ◌≡◌, ◌≤◌, ◌<◌, ◌+◌, pos, ◌≤ℤ◌, IfOk, IfErr, IsTrue, false};
-ghost use Rattle.linear_programs.specs.Program.{Program, IsSound};
+ghost use Rattle.bound_laws.specs.linear_programs.Program.{Program, IsSound};
 ghost use Rattle.tableau.specs.Running.{IsRunning, IsPriced};
 ghost use Rattle.tableau.specs.Ends.{IsLpFault};
 

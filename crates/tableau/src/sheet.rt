@@ -4,7 +4,7 @@ ghost use Rattle.tableau.specs.Sheet.{AreCopied};
 
 use crate::line::NumberRow;
 use crate::marks::Marks;
-use pivot_rows::PivotRow;
+use fraction::PivotRow;
 use roster_model::Memory;
 use std::marker::Model;
 

@@ -1,5 +1,5 @@
 ghost use Rattle.std.specs.Prelude.{ℕ, ◌≡◌, ◌≤◌, ◌<◌, pos, ◌≤ℤ◌, IfOk, IfErr, length};
-ghost use Rattle.linear_programs.specs.Program.{IsSound};
+ghost use Rattle.bound_laws.specs.linear_programs.Program.{IsSound};
 ghost use Rattle.fraction.specs.Row.{at};
 ghost use Rattle.tableau.specs.Ends.{IsLpEnd, IsLpFault};
 

@@ -1,14 +1,13 @@
 ghost use Rattle.std.specs.Prelude.{ℕ, ◌≡◌, ◌≤◌, ◌<◌, ◌+◌, ◌^◌, pos, ◌*ℤ◌, ◌-ℤ◌, ◌≤ℤ◌, ◌<ℤ◌, unsigned_abs, length, All, OnOk, OnErr, MatchResult, IsTrue, ◌↔◌, ◌⊎◌};
 ghost use Rattle.std.specs.Bool.{OnTrue};
-ghost use Rattle.linear_programs.specs.Sums.{dot};
+ghost use Rattle.bound_laws.specs.linear_programs.Sums.{dot};
 ghost use Rattle.fraction.specs.Row.{at};
 ghost use Rattle.fraction.specs.Range.{refused};
-ghost use Rattle.pivot_rows.specs.Rows.{AreNarrow};
-ghost use Rattle.pivot_rows.specs.Columns.{AreWithin, AreRising, AreUnits, number_in};
+ghost use Rattle.fraction.specs.pivot_rows.Rows.{AreNarrow};
+ghost use Rattle.fraction.specs.pivot_rows.Columns.{AreWithin, AreRising, AreUnits, number_in};
 ghost use Rattle.tableau.specs.Cheaper.{HasLargePlace};
 
-use fraction::{Tally, TooWide, fits};
-use pivot_rows::{Place, entry_in};
+use fraction::{Place, Tally, TooWide, entry_in, fits};
 
 /// The greatest cost of a column: 2^39.
 pub(crate) const MOST_COST: i64 = 1 << 39;

@@ -1,17 +1,16 @@
 ghost use Rattle.std.specs.Prelude.{ℕ, ◌≡◌, ◌≤◌, ◌<◌, ◌+◌, ◌^◌, pos, neg_ℤ, ◌≤ℤ◌, ◌<ℤ◌, unsigned_abs, length, slice_set, List, ℤ, IfOk, IfErr, MatchResult};
 ghost use Rattle.fraction.specs.Row.{at};
 ghost use Rattle.fraction.specs.Range.{refused};
-ghost use Rattle.pivot_rows.specs.Rows.{AreNarrow};
-ghost use Rattle.pivot_rows.specs.Columns.{AreWithin, AreRising, AreUnits, number_in};
-ghost use Rattle.linear_programs.specs.Sums.{dot};
+ghost use Rattle.fraction.specs.pivot_rows.Rows.{AreNarrow};
+ghost use Rattle.fraction.specs.pivot_rows.Columns.{AreWithin, AreRising, AreUnits, number_in};
+ghost use Rattle.bound_laws.specs.linear_programs.Sums.{dot};
 ghost use Rattle.tableau.specs.Lines.{row_at, IsLine, AreLines, AreEntries, AreStepped, IsLeaving, HasWideRow, padded, IsTurn, IsWideTurn};
 ghost use Rattle.tableau.specs.Sheet.{IsSheet};
 
 use crate::line::NumberRow;
 use crate::ratio::leaving;
 use crate::sheet::{Entries, Rows, Sheet};
-use fraction::{Tally, TooWide};
-use pivot_rows::{PivotRow, Place, entry_in};
+use fraction::{PivotRow, Place, Tally, TooWide, entry_in};
 
 /// Writes the entry of a column in each row.
 fn write_entries(rows: &[NumberRow], column: &[Place], entries: &mut [i128])

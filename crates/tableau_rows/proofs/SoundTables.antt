@@ -2,9 +2,9 @@
 use Rattle.std.proofs.Common.{◌≡◌, ℕ, zero, suc, ℤ, pos, ◌≤ℤ◌, ◌<◌, arith, All, List, [], ◌∷◌, slice_get}
 use Rattle.std.proofs.lemmas.Int.{ints}
 use Rattle.std.proofs.lemmas.List.Elements.{All-head, All-tail}
-use Rattle.linear_programs.specs.Program.{unit_vector}
+use Rattle.bound_laws.specs.linear_programs.Program.{unit_vector}
 use Rattle.fraction.specs.Row.{at}
-use Rattle.pivot_rows.specs.Columns.{number_in}
+use Rattle.fraction.specs.pivot_rows.Columns.{number_in}
 use Rattle.tableau_rows.specs.Tables.{Numbers, Table, column_of, HasUnit, HasUnits, IsSoundTable}
 
 below-three : (P : ℕ → Type 0) → P 0 → P 1 → P 2 → (r : ℕ) → r < 3 → P r

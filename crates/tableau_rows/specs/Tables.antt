@@ -1,10 +1,10 @@
 -- Linear programs of three rows as tables of numbers.
 use Rattle.std.specs.Prelude.{ℕ, ℤ, pos, ◌≡◌, ◌≤◌, ◌<◌, ◌≤ℤ◌, Option, Some, None, List, [], ◌∷◌, length, slice_get}
 use mathlib.Core.Path.{subst}
-use Rattle.linear_programs.specs.Program.{Column, Program, IsSound, unit_vector}
+use Rattle.bound_laws.specs.linear_programs.Program.{Column, Program, IsSound, unit_vector}
 use Rattle.fraction.specs.Row.{at}
-use Rattle.pivot_rows.specs.declared.column.Place.{Place}
-use Rattle.pivot_rows.specs.Columns.{number_in}
+use Rattle.fraction.specs.declared.pivot_rows.column.Place.{Place}
+use Rattle.fraction.specs.pivot_rows.Columns.{number_in}
 
 -- a column: its cost, and an entry for each row
 pub record Numbers : Type 0 where

@@ -1,10 +1,9 @@
 ghost use Rattle.std.specs.Prelude.{◌≡◌, IfOk};
-ghost use Rattle.pivot_rows.specs.Columns.{IsColumn, number_in};
+ghost use Rattle.fraction.specs.pivot_rows.Columns.{IsColumn, number_in};
 ghost use Rattle.tableau_rows.specs.Tables.{AreThree};
 
 use crate::reduced::find_cheaper;
-use fraction::Tally;
-use pivot_rows::Place;
+use fraction::{Place, Tally};
 use roster_model::Memory;
 use std::alloc::Global;
 use std::marker::Model;

@@ -1,13 +1,13 @@
 ghost use Rattle.std.specs.Prelude.{ℕ, ◌≡◌, ◌<◌, pos, ◌+ℤ◌, ◌-ℤ◌, ◌*ℤ◌, ◌≤ℤ◌, ◌<ℤ◌, Some, IfOk, IfSome, IfNone, length, slice_get};
 ghost use Rattle.std.specs.Bool.{OnTrue, OnFalse};
-ghost use Rattle.linear_programs.specs.Program.{reduced};
-ghost use Rattle.linear_programs.specs.Sums.{dot};
+ghost use Rattle.bound_laws.specs.linear_programs.Program.{reduced};
+ghost use Rattle.bound_laws.specs.linear_programs.Sums.{dot};
 ghost use Rattle.fraction.specs.Row.{at};
-ghost use Rattle.pivot_rows.specs.Columns.{number_in};
+ghost use Rattle.fraction.specs.pivot_rows.Columns.{number_in};
 ghost use Rattle.tableau_rows.specs.Tables.{AreThree, column_of};
 
 use crate::listed::Entries;
-use pivot_rows::Place;
+use fraction::Place;
 use roster_model::Memory;
 
 fn product(first: i128, second: i128) -> Option<i128>

@@ -1,12 +1,12 @@
 ghost use Rattle.std.specs.Prelude.{◌≡◌, ◌<◌, pos, ◌≤ℤ◌, All, length};
 ghost use Rattle.std.specs.Bool.{OnTrue};
-ghost use Rattle.linear_programs.specs.Program.{unit_vector};
-ghost use Rattle.pivot_rows.specs.Columns.{number_in};
+ghost use Rattle.bound_laws.specs.linear_programs.Program.{unit_vector};
+ghost use Rattle.fraction.specs.pivot_rows.Columns.{number_in};
 ghost use Rattle.tableau_rows.specs.Tables.{AreThree, IsUnit, HasUnits, IsSoundTable};
 
 use crate::listed::{Entries, Listed};
 use crate::reduced::entry;
-use pivot_rows::Place;
+use fraction::Place;
 
 /// Says whether the entry in a row is that of a unit column.
 fn is_entry(places: &[Place], unit: usize, row: usize) -> bool

@@ -10,8 +10,8 @@ use Rattle.roster_model.specs.Trees.{Parts, IsDayTree, steps}
 use Rattle.answer_texts.specs.TreeText.{tree_text}
 use Rattle.answers.specs.declared.answer.Answer.{Answer}
 use Rattle.text_commands.specs.Explain.{SaysTree, Derivation, shift, no_shift}
-use Rattle.word_prices.specs.Prices.{word_view}
-use Rattle.word_prices.proofs.Costs.{least-tree, word-sums, shift-length}
+use Rattle.roster_model.specs.word_prices.Prices.{word_view}
+use Rattle.roster_model.proofs.word_prices.Costs.{least-tree, word-sums, shift-length}
 
 module _ (g : Grammar) (w : List ℕ) (sound : IsSound g) where
   pub none-said : (a : Answer) → (IsShift g g.start w → ⊥) → (a.status ≡ 1) × (a.output ≡ codes "no derivation\n") → Derivation g w a.status a.output

@@ -7,8 +7,8 @@ use Rattle.roster_model.specs.Trees.{steps}
 use Rattle.certificates.specs.declared.cert.Cert.{Cert}
 use Rattle.certificates.specs.declared.why.Why.{Why}
 use Rattle.certificates.specs.declared.verdict.Verdict.TheVariants.{No}
-use Rattle.certificate_laws.proofs.NoCause.{refused as cause-refuses}
-use Rattle.certificate_laws.proofs.OneCause.{one-first}
+use Rattle.certificates.proofs.certificate_laws.NoCause.{refused as cause-refuses}
+use Rattle.certificates.proofs.certificate_laws.OneCause.{one-first}
 use Rattle.answer_texts.specs.TreeText.{tree_text}
 use Rattle.shelf.specs.Shelf.{Texts}
 use Rattle.answer_texts.specs.VerdictText.{verdict_text}

@@ -4,7 +4,7 @@ use Rattle.std.specs.Prelude.{slice_get}
 use Rattle.roster_model.specs.declared.grammar.Grammar.{Grammar}
 use Rattle.roster_model.specs.Names.{added_name}
 use Rattle.roster_model.specs.Sound.{IsSound, IsPlain, IsNameOf}
-use Rattle.tree_laws.proofs.Rules.{All-slice_get}
+use Rattle.roster_model.proofs.tree_laws.Rules.{All-slice_get}
 
 pub started-sound : (g : Grammar) (x : ℕ) → IsSound g → IsPlain g → x < length g.names → IsSound (record g { start = x })
 started-sound g x sound plain lt = record {

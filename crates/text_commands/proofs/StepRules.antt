@@ -6,7 +6,7 @@ use Rattle.roster_model.specs.declared.grammar.Step.{Step}
 use Rattle.roster_model.specs.declared.grammar.Sym.{Sym}
 use Rattle.roster_model.specs.declared.grammar.Sym.TheVariants.{Code, Name}
 use Rattle.roster_model.specs.Trees.{Parts, done, letter, uses, Derive, steps}
-use Rattle.tree_laws.proofs.Rules.{rule_at-within}
+use Rattle.roster_model.proofs.tree_laws.Rules.{rule_at-within}
 use Rattle.answer_texts.specs.TreeText.{HasRule}
 
 pub steps-rules : (g : Grammar) (t : Parts) (ss : List Sym) (i : ℕ) → Derive g ss i t → All (λ (s : Step). HasRule g s.rule) (steps i t)

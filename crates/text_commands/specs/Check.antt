@@ -5,9 +5,9 @@ use Rattle.certificates.specs.declared.cert.Cert.{Cert}
 use Rattle.certificates.specs.declared.verdict.Verdict.{Verdict}
 use Rattle.certificates.specs.declared.verdict.Verdict.TheVariants.{Yes, No}
 use Rattle.certificates.specs.declared.why.Why.{Why}
-use Rattle.certificate_laws.specs.Accepted.{Accepts}
-use Rattle.certificate_laws.specs.Causes.{IsFirstCause}
-use Rattle.certificate_laws.specs.Right.{YesIsRight}
+use Rattle.certificates.specs.certificate_laws.Accepted.{Accepts}
+use Rattle.certificates.specs.certificate_laws.Causes.{IsFirstCause}
+use Rattle.certificates.specs.certificate_laws.Right.{YesIsRight}
 use Rattle.answer_texts.specs.VerdictText.{verdict_text}
 
 -- 0 for a yes, and 1 for a no

@@ -4,3 +4,4 @@ pub mod Check
 pub mod Statuses
 pub mod Days
 pub mod SameTexts
+pub mod what_if

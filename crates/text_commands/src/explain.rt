@@ -3,7 +3,7 @@ ghost use Rattle.std.specs.Option.{option_copied};
 ghost use Rattle.roster_model.specs.Shifts.{IsPrice};
 ghost use Rattle.roster_model.specs.Sound.{IsSound};
 ghost use Rattle.span_table.specs.Tables.{IsMadeFor, IsFilled};
-ghost use Rattle.word_prices.specs.Prices.{word_view};
+ghost use Rattle.roster_model.specs.word_prices.Prices.{word_view};
 ghost use Rattle.text_commands.specs.Days.{DayAnswer};
 ghost use Rattle.text_commands.specs.Explain.{Derivation, DerivationFrom, SaysTree};
 ghost use Rattle.answers.specs.Reader.{IsReader};
@@ -15,12 +15,11 @@ use crate::start::{grammar_from, no_form};
 use crate::unfit::note_unfit;
 use answer_texts::write_tree;
 use answers::{Answer, MEMORY, fetched, rules_refusal, say};
-use roster_model::{Grammar, List, Memory, TreeRoom};
+use roster_model::{Grammar, List, Memory, TreeRoom, WordPrices};
 use rules_text::read_rules;
 use shelf::Shelf;
 use span_table::Table;
 use std::alloc::Global;
-use word_prices::WordPrices;
 
 const NO_DERIVATION: &[u8] = b"no derivation\n";
 

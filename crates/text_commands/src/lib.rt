@@ -12,3 +12,4 @@ pub mod rank;
 pub mod start;
 mod text_places;
 mod unfit;
+pub mod what_if;

@@ -1,13 +1,13 @@
 ghost use Rattle.std.specs.Prelude.{◌≤◌, IfOk, IfSome, IsTrue, length};
-ghost use Rattle.certificate_laws.specs.Accepted.{IsStated};
+ghost use Rattle.certificates.specs.certificate_laws.Accepted.{IsStated};
 ghost use Rattle.certificates.specs.Sound.{IsSoundCert, IsSoundShift};
 ghost use Rattle.roster_model.specs.Folds.{Each};
 ghost use Rattle.roster_model.specs.SoundInstance.{IsSoundInstance};
 ghost use Rattle.span_table.specs.Tables.{IsMadeFor};
 
 use certificates::{Cert, Node, is_sound_cert};
+use check_parts::{ShiftRoom, StatedShift, coverage_fault, roster_fault};
 use roster_model::{Done, Instance, List, Memory, Shift};
-use roster_part::{ShiftRoom, StatedShift, coverage_fault, roster_fault};
 use roster_report::{Summary, report_of, write_report, write_summary};
 use sample_days::{BLOCK_PARTS, DayParts, GROUP_PARTS, sound_day};
 use span_table::Table;

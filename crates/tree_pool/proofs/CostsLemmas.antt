@@ -11,8 +11,8 @@ use Rattle.roster_model.specs.Folds.{sum_n}
 use Rattle.roster_model.specs.Sound.{IsSound}
 use Rattle.roster_model.specs.Trees.{Parts, done, letter, uses, Derive, IsDayTree, steps}
 use Rattle.roster_model.proofs.CostBounds.{uses-le}
-use Rattle.arc_laws.proofs.FoldsLemmas.{sum_n-append}
-use Rattle.tree_laws.proofs.Bounds.{few-steps}
+use Rattle.roster_model.proofs.arc_laws.FoldsLemmas.{sum_n-append}
+use Rattle.roster_model.proofs.tree_laws.Bounds.{few-steps}
 use Rattle.tree_pool.specs.Costs.{HasRule, step_cost}
 
 pub cost_more : (f : Step → ℕ) (xs : List Step) (i : ℕ) (d : Step) → i < length xs → sum_n f (take (i + 1) xs) ≡ sum_n f (take i xs) + f (get_or xs i d)

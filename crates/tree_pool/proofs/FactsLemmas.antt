@@ -12,7 +12,7 @@ use Rattle.tree_pool.specs.Letters.{AreCodesOf}
 use Rattle.tree_pool.specs.Pools.{HasArcsOf, letters_from}
 use Rattle.tree_pool.proofs.CostsLemmas.{cost_steps, steps_ruled, few_steps}
 use Rattle.tree_pool.proofs.LettersLemmas.{letters-are}
-use Rattle.tree_laws.specs.DaySteps.{AreDaySteps}
+use Rattle.roster_model.specs.tree_laws.DaySteps.{AreDaySteps}
 
 module _ (g : Grammar) (sound : IsSound g) (xs : List Step) where
   pub day-ruled : AreDaySteps g xs → All (HasRule g) xs

@@ -6,7 +6,7 @@ use Rattle.roster_model.specs.declared.grammar.Sym.TheVariants.{Code, Name}
 use Rattle.roster_model.specs.Arcs.{Letter, letters}
 use Rattle.roster_model.specs.Trees.{Parts, done, letter, uses, span_length, Derive}
 use Rattle.tree_pool.specs.Pools.{letters_from}
-use Rattle.tree_laws.specs.Letters.{codes_of}
+use Rattle.roster_model.specs.tree_laws.Letters.{codes_of}
 
 module _ (g : Grammar) where
   -- each period has one letter

@@ -4,7 +4,7 @@ use Rattle.roster_model.specs.declared.grammar.Grammar.{Grammar}
 use Rattle.roster_model.specs.declared.grammar.Step.{Step}
 use Rattle.roster_model.specs.declared.grammar.Sym.{Sym}
 use Rattle.roster_model.specs.Trees.{Parts, Derive, IsDayTree, steps}
-use Rattle.tree_laws.specs.Letters.{codes_of}
+use Rattle.roster_model.specs.tree_laws.Letters.{codes_of}
 
 -- the codes of each tree of the day with these steps
 abbrev pub AreCodesOf : Grammar → List Step → List ℕ → Type 0

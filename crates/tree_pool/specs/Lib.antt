@@ -4,3 +4,4 @@ pub mod Entries
 pub mod Letters
 pub mod Orders
 pub mod Pools
+pub mod grammar_core

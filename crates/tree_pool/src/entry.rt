@@ -1,7 +1,7 @@
 ghost use Rattle.std.specs.Prelude.{◌≡◌, IfOk};
 ghost use Rattle.roster_model.specs.Sound.{IsSound};
 ghost use Rattle.tree_pool.specs.Entries.{TellFacts};
-ghost use Rattle.tree_laws.specs.DaySteps.{AreDaySteps};
+ghost use Rattle.roster_model.specs.tree_laws.DaySteps.{AreDaySteps};
 
 use crate::facts::{Facts, facts_of};
 use crate::tree::Tree;

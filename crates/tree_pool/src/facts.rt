@@ -1,6 +1,6 @@
 ghost use Rattle.std.specs.Prelude.{IfOk};
 ghost use Rattle.roster_model.specs.Sound.{IsSound};
-ghost use Rattle.tree_laws.specs.DaySteps.{AreDaySteps};
+ghost use Rattle.roster_model.specs.tree_laws.DaySteps.{AreDaySteps};
 ghost use Rattle.tree_pool.specs.Entries.{TellFacts};
 
 use crate::arcs::SortedArcs;

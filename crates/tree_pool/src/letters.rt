@@ -1,6 +1,6 @@
 ghost use Rattle.std.specs.Prelude.{◌≡◌, IfOk};
 ghost use Rattle.roster_model.specs.Sound.{IsSound};
-ghost use Rattle.tree_laws.specs.DaySteps.{AsksParts, AreDaySteps};
+ghost use Rattle.roster_model.specs.tree_laws.DaySteps.{AsksParts, AreDaySteps};
 ghost use Rattle.tree_pool.specs.Letters.{GivesCodes, AreCodesOf};
 
 use roster_model::{Grammar, List, Memory, Step, Sym, first_and_rest, rule_of};

@@ -5,10 +5,15 @@ mod arcs;
 mod costs;
 mod entry;
 mod facts;
+pub mod grammar_core;
 mod letters;
 mod order;
 mod pool;
 mod tree;
 
+pub use grammar_core::{
+    Item, Normal, Second, arcs_tell_tree, items_to_tree, lists_tell_one_tree, normalise,
+    steps_tell_tree, tree_to_items,
+};
 pub use pool::Pool;
 pub use tree::Tree;

@@ -4,7 +4,7 @@ ghost use Rattle.roster_model.specs.Sound.{IsSound};
 ghost use Rattle.roster_model.specs.Folds.{count};
 ghost use Rattle.roster_model.specs.Arcs.{same_arc};
 ghost use Rattle.tree_pool.specs.Entries.{seen};
-ghost use Rattle.tree_laws.specs.DaySteps.{AreDaySteps};
+ghost use Rattle.roster_model.specs.tree_laws.DaySteps.{AreDaySteps};
 ghost use Rattle.tree_pool.specs.Pools.{PoolTree, IsPool, IsGrown, IsAdded};
 
 use crate::entry::{Entry, entry_of};

@@ -4,13 +4,12 @@ ghost use Rattle.roster_model.specs.Sound.{IsSound};
 ghost use Rattle.span_arcs.specs.DayArcs.{IsDayArcsOf};
 ghost use Rattle.span_table.specs.Tables.{IsMadeFor};
 
-use roster_model::{ArcKey, Grammar, Step, Sym, TreeRoom, is_sound};
+use roster_model::{ArcKey, Grammar, Step, Sym, TreeRoom, WordPrices, is_sound};
 use sample_days::{ANY, BLOCK_NAMES, BLOCKS, FULL_DAYS, RuleParts, WORK, grammar};
 use span_arcs::DayArcs;
 use span_table::Table;
 use std::alloc::Global;
 use std::test::Fail;
-use word_prices::WordPrices;
 
 /// The periods, names and rules of a grammar that starts with its first name.
 type Parts<'a> = (u8, &'a [&'a str], &'a [RuleParts<'a>]);

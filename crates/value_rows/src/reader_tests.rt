@@ -3,8 +3,8 @@ ghost use Rattle.roster_model.specs.SoundInstance.{IsSoundInstance};
 
 use demand_text::read_demand;
 use roster_model::{Instance, Shift};
+use roster_value::{fault_line, read_roster};
 use rules_text::read_rules;
-use stated_rosters::{fault_line, read_roster};
 use std::alloc::{AllocError, Global};
 use std::test::Fail;
 

@@ -3,7 +3,7 @@ use Rattle.std.proofs.lemmas.List.{append-nil}
 use Rattle.roster_model.specs.declared.instance.Cut.{Cut}
 use Rattle.roster_model.specs.Limits.{IsSmallCut}
 use Rattle.roster_model.proofs.EachLemmas.{Each-weaker}
-use Rattle.master_laws.specs.Laws.{IsBelowHeads}
+use Rattle.bound_laws.specs.master_laws.Laws.{IsBelowHeads}
 use Rattle.node_columns.specs.declared.weights.Weight.{Weight}
 use Rattle.node_master.specs.Ends.{AreSolved}
 use Rattle.arc_weights.specs.Weighed.{IsWeighed}

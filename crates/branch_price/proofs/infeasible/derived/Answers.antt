@@ -1,6 +1,6 @@
 use Rattle.std.proofs.Common.{[]}
 use Rattle.roster_model.specs.PriceRooms.{price_view}
-use Rattle.priced_part.proofs.LeastReduced.{filled-for_all}
+use Rattle.check_parts.proofs.priced_part.LeastReduced.{filled-for_all}
 use Rattle.branch_price.proofs.infeasible.derived.Goals as goal
 
 pub derived_names-derived-requires-clause-filled : goal.derived_names-derived-requires-clause-filled

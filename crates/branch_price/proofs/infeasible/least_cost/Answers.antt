@@ -1,6 +1,6 @@
 use Rattle.std.proofs.Common.{[]}
 use Rattle.roster_model.specs.PriceRooms.{price_view}
-use Rattle.priced_part.proofs.LeastReduced.{least-reduced}
+use Rattle.check_parts.proofs.priced_part.LeastReduced.{least-reduced}
 use Rattle.branch_price.proofs.PlainPrices.{plain-least}
 use Rattle.branch_price.proofs.infeasible.least_cost.Goals as goal
 

@@ -1,5 +1,5 @@
 use Rattle.std.proofs.Common.{sym, subst}
-use Rattle.node_path.specs.Paths.{PathView}
+use Rattle.arc_counts.specs.node_path.Paths.{PathView}
 use Rattle.branch_price.specs.Plans.{IsPinnedFor}
 use Rattle.branch_price.proofs.OpenPaths.{leaf-asks}
 use Rattle.branch_price.proofs.StepsLemmas.{asks-pinned, turned-by}

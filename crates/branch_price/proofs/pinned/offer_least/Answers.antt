@@ -1,8 +1,8 @@
 use Rattle.std.proofs.Common.{◌≡◌, ℕ, List, [], length, sym, subst, ◌∙◌}
 use Rattle.std.proofs.lemmas.Result.{on_ok_weaker}
 use Rattle.roster_model.specs.Cuts.{lo}
-use Rattle.arc_laws.specs.Counts.{counts_cost}
-use Rattle.count_boxes.specs.Boxes.{BoxView}
+use Rattle.roster_model.specs.arc_laws.Counts.{counts_cost}
+use Rattle.arc_counts.specs.count_boxes.Boxes.{BoxView}
 use Rattle.candidate_rosters.specs.Offers.{CanBeTrees, Reach, limit_of}
 use Rattle.candidate_rosters.proofs.Limits.{limit-most}
 use Rattle.branch_price.specs.Plans.{AreLeast}

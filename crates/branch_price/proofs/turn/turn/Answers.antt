@@ -1,6 +1,6 @@
 use Rattle.std.proofs.Common.{rules, ◌∙◌}
 use Rattle.std.proofs.lemmas.Result.{on_ok_weaker}
-use Rattle.count_boxes.specs.Paths.{IsBoxOf}
+use Rattle.arc_counts.specs.count_boxes.Paths.{IsBoxOf}
 use Rattle.branch_price.proofs.Leaves.{half-node, half-is-node, half-at, half-turned}
 use Rattle.branch_price.proofs.ToolsLemmas.{same-tools}
 use Rattle.branch_price.proofs.turn.turn.Goals as goal

@@ -7,7 +7,7 @@ use Rattle.roster_model.specs.PriceRooms.{price_view}
 use Rattle.roster_model.proofs.RoomWithin.{room-within}
 use Rattle.roster_model.proofs.Mults.{nonzero-all}
 use Rattle.roster_model.proofs.EachLemmas.{Each-weaker}
-use Rattle.priced_part.proofs.LeastReduced.{least-reduced, least-small}
+use Rattle.check_parts.proofs.priced_part.LeastReduced.{least-reduced, least-small}
 use Rattle.branch_price.proofs.value.shown_value.Goals as goal
 
 pub value_from_least-requires-clause-least : goal.value_from_least-requires-clause-least

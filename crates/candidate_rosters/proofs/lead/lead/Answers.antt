@@ -1,6 +1,6 @@
 use Rattle.std.proofs.Common.{◌≡◌, []}
 use Rattle.roster_model.specs.PriceRooms.{price_view}
-use Rattle.roster_part.specs.TeamViews.{team_view}
+use Rattle.check_parts.specs.roster_part.TeamViews.{team_view}
 use Rattle.candidate_rosters.proofs.LeadersLemmas.{asks-plain, plain-leader}
 use Rattle.candidate_rosters.proofs.lead.lead.Goals as goal
 

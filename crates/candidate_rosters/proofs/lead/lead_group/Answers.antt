@@ -4,7 +4,7 @@ use Rattle.std.proofs.lemmas.Option.{slice_get_within}
 use Rattle.roster_model.specs.declared.grammar.ArcKey.{ArcKey}
 use Rattle.roster_model.specs.Folds.{In}
 use Rattle.roster_model.specs.PriceRooms.{price_view}
-use Rattle.roster_part.specs.TeamViews.{team_view}
+use Rattle.check_parts.specs.roster_part.TeamViews.{team_view}
 use Rattle.candidate_rosters.proofs.LeadersLemmas.{none-of, there-of, key_of, group-leader, none-under, none-found, asks-group, is-ready, is-top}
 use Rattle.candidate_rosters.proofs.lead.lead_group.Goals as goal
 

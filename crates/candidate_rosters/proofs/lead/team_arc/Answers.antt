@@ -1,6 +1,6 @@
 use Rattle.candidate_rosters.proofs.Numbers.{small-number}
 use Rattle.std.proofs.Common.{arith}
-use Rattle.roster_part.specs.TeamViews.{team_view}
+use Rattle.check_parts.specs.roster_part.TeamViews.{team_view}
 use Rattle.candidate_rosters.proofs.lead.team_arc.Goals as goal
 
 pub overflow_cast-rule-2 : goal.overflow_cast-rule-2

@@ -1,5 +1,5 @@
 use Rattle.std.proofs.Common.{◌∙◌}
-use Rattle.roster_part.specs.TeamViews.{team_view}
+use Rattle.check_parts.specs.roster_part.TeamViews.{team_view}
 use Rattle.candidate_rosters.proofs.LeaderColumns.{leads-none, leads-some}
 use Rattle.candidate_rosters.proofs.leaders.add_team.Goals as goal
 

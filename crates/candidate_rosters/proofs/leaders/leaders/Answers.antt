@@ -1,7 +1,7 @@
 use Rattle.std.proofs.Common.{◌∙◌}
 use Rattle.roster_model.specs.Teams.{teams}
 use Rattle.roster_model.proofs.EachLemmas.{get-in}
-use Rattle.roster_part.specs.TeamViews.{team_view}
+use Rattle.check_parts.specs.roster_part.TeamViews.{team_view}
 use Rattle.candidate_rosters.proofs.PoolNumbers.{grown-more}
 use Rattle.candidate_rosters.proofs.LeaderColumns.{led-place}
 use Rattle.candidate_rosters.proofs.leaders.leaders.Goals as goal

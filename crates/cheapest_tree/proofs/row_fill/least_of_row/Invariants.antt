@@ -3,7 +3,7 @@ use Rattle.std.specs.Prelude.{slice_get}
 use Rattle.roster_model.specs.declared.grammar.Grammar.{Grammar}
 use Rattle.roster_model.specs.Sound.{IsSound}
 use Rattle.roster_model.specs.Sums.{PriceView}
-use Rattle.arc_laws.specs.OrNodes.{OrNode}
+use Rattle.roster_model.specs.arc_laws.OrNodes.{OrNode}
 use Rattle.parse_graph.specs.Graphs.{GraphView, IsGraph}
 use Rattle.cheapest_tree.specs.Numbers.{sum_but}
 use Rattle.cheapest_tree.specs.Passes.{AsksPass, IsLeastAmong}

@@ -4,7 +4,7 @@ use Rattle.roster_model.specs.declared.grammar.ArcKey.{ArcKey}
 use Rattle.cheapest_tree.specs.Walks.{arc_left, slot_left}
 use Rattle.cheapest_tree.proofs.WalksLemmas.{falls-best, asks-best, writes-best, node-inside, arc-inside, key-read, links-count, step-room, asks-first, asks-rest, writes-under, falls-first, falls-rest}
 use Rattle.cheapest_tree.proofs.walk.+walk.Goals as goal
-use Rattle.arc_laws.specs.AtNodes.{steps_of}
+use Rattle.roster_model.specs.arc_laws.AtNodes.{steps_of}
 
 pub write_node-bounds-best-node : goal.write_node-bounds-best-node
 write_node-bounds-best-node t c = node-inside c.args.graph.now c.args.links.now c.args.best.now c.args.node c.args.room.now c.requires

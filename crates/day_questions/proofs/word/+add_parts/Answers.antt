@@ -4,9 +4,9 @@ use Rattle.roster_model.specs.declared.grammar.Step.{Step}
 use Rattle.roster_model.specs.declared.grammar.Sym.{Sym}
 use Rattle.roster_model.specs.declared.grammar.Sym.TheVariants.{Name}
 use Rattle.roster_model.specs.Trees.{Parts, Derive, steps}
-use Rattle.tree_laws.proofs.Rules.{sound-rule}
-use Rattle.tree_laws.specs.DaySteps.{AsksParts}
-use Rattle.tree_laws.proofs.DayStepsLemmas.{name-inner, name-others, name-fewer}
+use Rattle.roster_model.proofs.tree_laws.Rules.{sound-rule}
+use Rattle.roster_model.specs.tree_laws.DaySteps.{AsksParts}
+use Rattle.roster_model.proofs.tree_laws.DayStepsLemmas.{name-inner, name-others, name-fewer}
 use Rattle.day_questions.specs.Spelled.{GivesWord}
 use Rattle.day_questions.proofs.SpelledLemmas.{name-gives}
 use Rattle.day_questions.proofs.word.+add_parts.Goals as goal

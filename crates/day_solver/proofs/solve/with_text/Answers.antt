@@ -1,5 +1,5 @@
 use Rattle.std.proofs.Common.{refl}
-use Rattle.certificate_laws.proofs.RightLemmas.{yes-is-sound}
+use Rattle.certificates.proofs.certificate_laws.RightLemmas.{yes-is-sound}
 use Rattle.day_solver.proofs.NodeValues.{found-few}
 use Rattle.day_solver.proofs.solve.with_text.Goals as goal
 

@@ -1,5 +1,5 @@
 use Rattle.std.proofs.Common.{◌≤◌, arith, length}
-use Rattle.master_laws.proofs.RowSizes.{row_count}
+use Rattle.bound_laws.proofs.master_laws.RowSizes.{row_count}
 use Rattle.dives.proofs.WidePrices.{are-wide}
 use Rattle.dives.proofs.asking.set_room.Goals as goal
 

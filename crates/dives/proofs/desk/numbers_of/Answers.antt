@@ -1,5 +1,5 @@
 use Rattle.std.proofs.Common.{◌≤◌, arith, length, rules}
-use Rattle.master_laws.proofs.RowSizes.{row_count}
+use Rattle.bound_laws.proofs.master_laws.RowSizes.{row_count}
 use Rattle.roster_model.proofs.CostBounds.{cells-le}
 use Rattle.dives.proofs.desk.numbers_of.Goals as goal
 

@@ -1,6 +1,6 @@
 use Rattle.dives.proofs.LeastTrees.{asks-day}
 use Rattle.dives.proofs.least.find_least.Goals as goal
-use Rattle.tree_laws.proofs.DayStepsLemmas.{day-steps}
+use Rattle.roster_model.proofs.tree_laws.DayStepsLemmas.{day-steps}
 
 pub tree-requires-clause-asks : goal.tree-requires-clause-asks
 tree-requires-clause-asks g c =

@@ -2,7 +2,7 @@ use Rattle.std.proofs.Common.{◌<◌, ◌+◌, ◌-◌, arith, length, get_or, 
 use Rattle.std.proofs.lemmas.Option.{same_Some}
 use Rattle.roster_model.specs.declared.grammar.Rule.{Rule}
 use Rattle.roster_model.specs.declared.grammar.Sym.TheVariants.{Code}
-use Rattle.arc_laws.specs.OrNodes.{symbol_node}
+use Rattle.roster_model.specs.arc_laws.OrNodes.{symbol_node}
 use Rattle.findings.specs.Marks.{IsMarkOf, IsCodeOf}
 use Rattle.findings.proofs.MarksLemmas.{first-sets, two-used, used-both, sets-then}
 use Rattle.findings.proofs.letters.mark_letters.Goals as goal

@@ -3,7 +3,7 @@ use Rattle.std.specs.Prelude.{slice_index_or}
 use Rattle.std.specs.Int.{w128, IsGcd}
 use Rattle.std.proofs.lemmas.Int.{to_z-of_z}
 use Rattle.fraction.specs.Row.{new_at, FitsBelow}
-use Rattle.linear_programs.specs.RowStep.{IsCommonFactor}
+use Rattle.bound_laws.specs.linear_programs.RowStep.{IsCommonFactor}
 use Rattle.fraction.proofs.Rows.{IsCommonFactor-more}
 use Rattle.fraction.proofs.row.common_factor.Goals as goal
 

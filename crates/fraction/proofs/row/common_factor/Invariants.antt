@@ -1,6 +1,6 @@
 use Rattle.std.proofs.Common.{◌<◌, ◌^◌}
 use Rattle.fraction.specs.Row.{FitsBelow, new_at}
-use Rattle.linear_programs.specs.RowStep.{IsCommonFactor}
+use Rattle.bound_laws.specs.linear_programs.RowStep.{IsCommonFactor}
 use Rattle.fraction.proofs.row.common_factor.Given as goal
 
 abbrev pub invariant-loop-j : goal.invariant-loop-j

@@ -1,7 +1,7 @@
 use Rattle.std.proofs.Common.{rules, ◌≡◌, ℤ, pos, ◌*ℤ◌, SFits, arith, ◌∙◌, ap}
 use Rattle.std.specs.Int.{w128}
 use Rattle.std.proofs.lemmas.Int.{ints, to_z-of_z}
-use Rattle.linear_programs.specs.RowStep.{combined}
+use Rattle.bound_laws.specs.linear_programs.RowStep.{combined}
 use Rattle.fraction.proofs.Entries.{entry_is, entry_fits, one-*ℤ}
 use Rattle.fraction.proofs.row.new_entry.Goals as goal
 

@@ -2,7 +2,7 @@ use Rattle.std.proofs.Common.{length, refl, SFits, rules}
 use Rattle.std.specs.Int.{w128}
 use Rattle.std.proofs.lemmas.Int.{to_z-of_z}
 use Rattle.fraction.specs.Row.{new_at}
-use Rattle.linear_programs.specs.RowStep.{IsCommonFactor}
+use Rattle.bound_laws.specs.linear_programs.RowStep.{IsCommonFactor}
 use Rattle.fraction.proofs.Rows.{divides_from_factor}
 use Rattle.fraction.proofs.row.row_step.Goals as goal
 

@@ -1,7 +1,7 @@
 use Rattle.std.proofs.Common.{◌≡◌, refl, subst, sym, ◌∙◌}
 use Rattle.roster_model.specs.declared.grammar.Grammar.{Grammar}
 use Rattle.sample_days.specs.RestAndWork.{rest_and_work, block_tree, IsTreeOfBlock}
-use Rattle.grammar_core.specs.Lists.{IsSpanTree}
+use Rattle.tree_pool.specs.grammar_core.Lists.{IsSpanTree}
 use Rattle.graph_rows.proofs.normal_forms.has_arcs_of_a_word.Goals as goal
 
 spans : (g : Grammar) → g ≡ rest_and_work → IsTreeOfBlock → IsSpanTree g 1 block_tree

@@ -3,7 +3,7 @@ use Rattle.std.specs.Prelude.{IsSome}
 use Rattle.roster_model.specs.Sums.{PriceView, IsLeast, tree_sum}
 use Rattle.roster_model.specs.Trees.{IsDayTree}
 use Rattle.roster_model.specs.declared.grammar.Grammar.{Grammar}
-use Rattle.tree_laws.specs.LeastTrees.{HasDaySum}
+use Rattle.roster_model.specs.tree_laws.LeastTrees.{HasDaySum}
 use Rattle.graph_rows.proofs.prices.write_cheapest.Goals as goal
 
 has_sum : (g : Grammar) (p : PriceView) (v : Option ℤ) (z : ℤ) → v ≡ Some z → IsLeast (IsDayTree g) (tree_sum p 1) v → HasDaySum g p

@@ -1,8 +1,8 @@
 use Rattle.std.proofs.Common.{◌≡◌, arith, List, length, ap, ◌∙◌, sym}
 use Rattle.std.specs.List.{count_by}
 use Rattle.roster_model.specs.declared.instance.Cell.{Cell}
-use Rattle.master_laws.specs.Rows.{floor_rows, ceiling_rows, has_floor, has_ceiling}
-use Rattle.master_laws.proofs.RowSizes.{row_count}
+use Rattle.bound_laws.specs.master_laws.Rows.{floor_rows, ceiling_rows, has_floor, has_ceiling}
+use Rattle.bound_laws.proofs.master_laws.RowSizes.{row_count}
 use Rattle.master_rows.proofs.RowNumbers.{floors_counted, ceilings_counted}
 use Rattle.master_rows.proofs.rows.count_rows.Goals as goal
 

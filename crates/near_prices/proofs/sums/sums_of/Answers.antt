@@ -1,6 +1,6 @@
 use Rattle.std.proofs.Common.{rules, arith, ◌≡◌, ◌*◌, ◌^◌, ◌++◌, ℕ, List, length, drop, take, ap, ◌∙◌}
 use Rattle.std.proofs.Math.Seq.{take-append_seam}
-use Rattle.master_laws.specs.Rows.{rows_of}
+use Rattle.bound_laws.specs.master_laws.Rows.{rows_of}
 use Rattle.near_prices.specs.declared.listed.ListedTree.{ListedTree}
 use Rattle.near_prices.proofs.ListedTrees.{begun-next, begun-end}
 use Rattle.near_prices.proofs.sums.sums_of.Goals as goal

@@ -1,6 +1,6 @@
 use Rattle.std.proofs.Common.{◌≡◌, ◌<◌, length, refl, ◌∙◌, arith, rules, to_z, of_z}
 use mir.Syntax.{w64}
-use Rattle.master_laws.specs.Rows.{rows_of}
+use Rattle.bound_laws.specs.master_laws.Rows.{rows_of}
 use Rattle.node_columns.proofs.FirstColumns.{beyond_held, told_push, beyonds_push, beyonds_skip, more_push}
 use Rattle.node_columns.proofs.first.add_beyond.Goals as goal
 use Rattle.node_columns.proofs.first.add_beyond.Goals.{in-Some+in_ok-one_place+in_ok-push, in_default}

@@ -1,7 +1,7 @@
 use Rattle.std.proofs.Common.{◌≡◌, ◌<◌, length, refl, ◌∙◌, arith, rules, to_z, of_z}
 use Rattle.std.proofs.lemmas.Option.{none-some}
 use mir.Syntax.{w64}
-use Rattle.master_laws.specs.Rows.{rows_of}
+use Rattle.bound_laws.specs.master_laws.Rows.{rows_of}
 use Rattle.node_columns.proofs.FirstColumns.{missing_held, told_push, missing_push, pushed_length}
 use Rattle.node_columns.proofs.first.add_missing.Goals as goal
 

@@ -3,7 +3,7 @@ use Rattle.std.specs.Prelude.{◌*ℤ◌, ◌-ℤ◌}
 use Rattle.std.proofs.lemmas.Int.{ints}
 use mir.Val.{to_z, of_z}
 use mir.Syntax.{w64, w128}
-use Rattle.pivot_rows.specs.declared.column.Place.{Place}
+use Rattle.fraction.specs.declared.pivot_rows.column.Place.{Place}
 use Rattle.node_columns.specs.Priced.{places_worth, listed_reduced}
 use Rattle.node_columns.proofs.ReducedCosts.{worth_next, each_next, worth_none}
 use Rattle.node_columns.proofs.listed.reduced_cost.Goals as goal

@@ -2,7 +2,7 @@ use Rattle.std.proofs.Common.{◌≡◌, length, ◌*◌, ◌+ℤ◌}
 use Rattle.std.proofs.Common.{◌≡◌, ◌^◌, ◌*◌, length, drop}
 use Rattle.std.specs.Prelude.{◌+ℤ◌}
 use Rattle.roster_model.specs.Sums.{Within}
-use Rattle.pivot_rows.specs.Columns.{AreWithin, AreUnits}
+use Rattle.fraction.specs.pivot_rows.Columns.{AreWithin, AreUnits}
 use Rattle.node_columns.specs.Priced.{places_worth}
 use Rattle.node_columns.proofs.listed.reduced_cost.Given as goal
 

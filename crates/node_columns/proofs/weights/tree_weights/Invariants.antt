@@ -1,7 +1,7 @@
 use Rattle.std.proofs.Common.{◌<◌, ℕ, List, drop}
 use Rattle.roster_model.specs.declared.grammar.Grammar.{Grammar}
-use Rattle.linear_programs.specs.Solution.{Weighted}
-use Rattle.master_laws.specs.Master.{MasterKey}
+use Rattle.bound_laws.specs.linear_programs.Solution.{Weighted}
+use Rattle.bound_laws.specs.master_laws.Master.{MasterKey}
 use Rattle.tree_pool.specs.Pools.{PoolTree}
 use Rattle.node_columns.specs.Columns.{HasKey}
 use Rattle.node_columns.proofs.TreeWeights.{IsSplit}

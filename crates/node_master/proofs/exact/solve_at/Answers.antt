@@ -1,10 +1,10 @@
 use Rattle.std.proofs.Common.{◌≡◌, ℕ, subst, sym, refl, ap, rules}
 use Rattle.roster_model.specs.declared.instance.Instance.{Instance}
 use Rattle.tableau.specs.Ends.{IsLpEnd}
-use Rattle.master_laws.specs.Rows.{rows_of}
-use Rattle.master_laws.specs.Master.{MasterKey, missing, master}
-use Rattle.master_laws.proofs.RowSums.{master_sound}
-use Rattle.master_laws.proofs.RowSizes.{small}
+use Rattle.bound_laws.specs.master_laws.Rows.{rows_of}
+use Rattle.bound_laws.specs.master_laws.Master.{MasterKey, missing, master}
+use Rattle.bound_laws.proofs.master_laws.RowSums.{master_sound}
+use Rattle.bound_laws.proofs.master_laws.RowSizes.{small}
 use Rattle.node_columns.specs.declared.desk.Kind.{Kind}
 use Rattle.node_columns.specs.Columns.{NodeSite, HasKey, IsKey, site_program}
 use Rattle.node_master.proofs.EndsLemmas.{given_up, small_path}

@@ -1,8 +1,8 @@
 use Rattle.std.proofs.Common.{◌≡◌, ◌∙◌, arith, rules, to_z, of_z, refl, take}
 use mir.Syntax.{w128}
 use Rattle.roster_model.proofs.Mults.{nonzero-le}
-use Rattle.master_laws.specs.Rounding.{cell_lines, line_sums}
-use Rattle.master_laws.proofs.Signs.{cuts_signed}
+use Rattle.bound_laws.specs.master_laws.Rounding.{cell_lines, line_sums}
+use Rattle.bound_laws.proofs.master_laws.Signs.{cuts_signed}
 use Rattle.fraction.specs.Row.{at}
 use Rattle.node_columns.proofs.RowPrices.{cell_part, few_cuts}
 use Rattle.node_master.proofs.RoundedRows.{numbers_part, not_wide}

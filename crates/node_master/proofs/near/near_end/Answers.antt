@@ -1,8 +1,8 @@
 use Rattle.std.proofs.Common.{◌^◌, List, length, refl, rules}
 use Rattle.roster_model.specs.Trees.{Parts}
-use Rattle.linear_programs.specs.Solution.{Weighted}
+use Rattle.bound_laws.specs.linear_programs.Solution.{Weighted}
 use Rattle.bound_laws.specs.BestPrices.{AreBest}
-use Rattle.near_laws.specs.Laws.{AreNear}
+use Rattle.bound_laws.specs.near_laws.Laws.{AreNear}
 use Rattle.near_prices.specs.Listed.{AreWeightsOf}
 use Rattle.near_prices.proofs.ListedTrees.{weights, days}
 use Rattle.node_master.specs.Listed.{MayBeListed, AreSharesOf}

@@ -1,6 +1,6 @@
 use Rattle.std.proofs.Common.{◌≡◌, subst}
 use Rattle.std.specs.Option.{option_copied}
-use Rattle.certificate_laws.specs.Accepted.{Accepts}
+use Rattle.certificates.specs.certificate_laws.Accepted.{Accepts}
 use Rattle.certificates.specs.declared.cert.Cert.{Cert}
 use Rattle.page_command.proofs.ShownRosters.{accepted-shown, sound-certified}
 use Rattle.page_command.proofs.accepted.accepted_answer.Goals as goal

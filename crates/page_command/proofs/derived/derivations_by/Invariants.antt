@@ -1,5 +1,5 @@
 use Rattle.std.proofs.Common.{◌≡◌, length, take}
-use Rattle.group_rules.specs.Plain.{plain_from}
+use Rattle.roster_value.specs.group_rules.Plain.{plain_from}
 use Rattle.page_command.specs.Rows.{AreDerived}
 use Rattle.page_command.proofs.derived.derivations_by.Given as goal
 

@@ -3,7 +3,7 @@ use Rattle.std.proofs.lemmas.Option.{same_Some}
 use Rattle.roster_model.specs.declared.grammar.Rule.{Rule}
 use Rattle.roster_model.specs.declared.grammar.Sym.TheVariants.{Code}
 use Rattle.roster_model.specs.Folds.{In}
-use Rattle.arc_laws.specs.OrNodes.{OrNode, suffix}
+use Rattle.roster_model.specs.arc_laws.OrNodes.{OrNode, suffix}
 use Rattle.parse_graph.proofs.ArcUsesLemmas.{used-more}
 use Rattle.parse_graph.proofs.links.kids_of.Goals as goal
 

@@ -1,5 +1,5 @@
 use Rattle.std.proofs.Common.{inr, refl, to_z-of_z}
-use Rattle.master_laws.specs.Rounding.{IsLeastWhole}
+use Rattle.bound_laws.specs.master_laws.Rounding.{IsLeastWhole}
 use Rattle.price_round.specs.Denominators.{AreAllPast}
 use Rattle.price_round.proofs.denominator.denominator.Goals as goal
 

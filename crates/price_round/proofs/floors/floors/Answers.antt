@@ -3,7 +3,7 @@ use Rattle.std.specs.Int.{w128}
 use Rattle.std.proofs.lemmas.List.Elements.{All-push}
 use Rattle.std.proofs.lemmas.Result.{err_from_is_err_and}
 use Rattle.roster_model.specs.Sums.{Within}
-use Rattle.master_laws.specs.Rounding.{AreFloors}
+use Rattle.bound_laws.specs.master_laws.Rounding.{AreFloors}
 use Rattle.price_round.proofs.Multipliers.{floors_step}
 use Rattle.price_round.proofs.RoundFaults.{cell_at}
 use Rattle.price_round.proofs.floors.floors.Goals as goal

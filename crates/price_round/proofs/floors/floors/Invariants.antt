@@ -1,6 +1,6 @@
 use Rattle.std.proofs.Common.{◌≡◌, ◌^◌, All, take}
 use Rattle.roster_model.specs.Sums.{Within}
-use Rattle.master_laws.specs.Rounding.{AreFloors}
+use Rattle.bound_laws.specs.master_laws.Rounding.{AreFloors}
 use Rattle.price_round.proofs.floors.floors.Given as goal
 
 abbrev pub invariant-loop-number : goal.invariant-loop-number

@@ -1,6 +1,6 @@
 use Rattle.std.proofs.Common.{◌≡◌, ◌≤◌, ◌+◌, ◌-◌, ℤ, ℕ, List, ◌++◌, length, take, drop, to_z-of_z, arith, ◌∙◌, length-take-le, length-drop, take_all}
 use Rattle.std.proofs.lemmas.Result.{err_from_is_err_and}
-use Rattle.master_laws.specs.Rounding.{AreFloors, IsDenominator}
+use Rattle.bound_laws.specs.master_laws.Rounding.{AreFloors, IsDenominator}
 use Rattle.price_round.specs.Floors.{AreMultsOf}
 use Rattle.price_round.proofs.Multipliers.{floors_length}
 use Rattle.price_round.proofs.RoundFaults.{cell_fault, cut_fault}

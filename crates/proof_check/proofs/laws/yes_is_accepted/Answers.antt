@@ -3,8 +3,8 @@ use Rattle.roster_model.specs.declared.instance.Instance.{Instance}
 use Rattle.certificates.specs.declared.cert.Cert.{Cert}
 use Rattle.certificates.specs.declared.verdict.Verdict.{Verdict}
 use Rattle.certificates.specs.declared.verdict.Verdict.TheVariants.{Yes, No}
-use Rattle.certificate_laws.specs.Accepted.{Accepts}
-use Rattle.certificate_laws.proofs.NoCause.{refused}
+use Rattle.certificates.specs.certificate_laws.Accepted.{Accepts}
+use Rattle.certificates.proofs.certificate_laws.NoCause.{refused}
 use Rattle.proof_check.specs.Verdicts.{IsVerdict}
 use Rattle.proof_check.specs.YesOrNo.{IsYes}
 use Rattle.proof_check.proofs.laws.yes_is_accepted.Goals as goal

@@ -3,9 +3,9 @@ use Rattle.std.proofs.lemmas.Int.{ints}
 use mir.Val.{to_z, of_z}
 use mir.Syntax.{w128}
 use Rattle.roster_model.specs.declared.grammar.Sym.TheVariants.{Name, Code}
-use Rattle.tree_laws.proofs.Rules.{sound-rule, sound-symbol}
-use Rattle.tree_laws.proofs.Symbols.{here_only}
-use Rattle.tree_laws.proofs.Ends.{only-least}
+use Rattle.roster_model.proofs.tree_laws.Rules.{sound-rule, sound-symbol}
+use Rattle.roster_model.proofs.tree_laws.Symbols.{here_only}
+use Rattle.roster_model.proofs.tree_laws.Ends.{only-least}
 use Rattle.span_cells.proofs.CellsLemmas.{filled-right, filled-shorter}
 use Rattle.ranked_trees.proofs.sums.right_least.Goals as goal
 

@@ -1,6 +1,6 @@
 use Rattle.roster_model.specs.Teams.{teams}
 use Rattle.roster_model.proofs.EachLemmas.{get-in}
-use Rattle.roster_part.specs.TeamViews.{team_view}
+use Rattle.check_parts.specs.roster_part.TeamViews.{team_view}
 use Rattle.roster_moves.proofs.choice.best_choice.Goals as goal
 
 pub team_sum-sum-requires-clause-team : goal.team_sum-sum-requires-clause-team

@@ -1,6 +1,6 @@
 use Rattle.roster_model.specs.Teams.{teams}
 use Rattle.roster_model.proofs.EachLemmas.{get-in}
-use Rattle.roster_part.specs.TeamViews.{team_view}
+use Rattle.check_parts.specs.roster_part.TeamViews.{team_view}
 use Rattle.roster_moves.proofs.teams.team_of.Goals as goal
 
 pub returns-then-place-team_count : goal.returns-then-place-team_count

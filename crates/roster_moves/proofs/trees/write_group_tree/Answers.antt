@@ -2,7 +2,7 @@ use Rattle.std.proofs.Common.{◌≡◌, Some, ap, ◌∙◌}
 use Rattle.std.specs.Prelude.{slice_get}
 use Rattle.std.proofs.lemmas.Option.{slice_get_within}
 use Rattle.roster_model.specs.PriceRooms.{price_view}
-use Rattle.roster_part.specs.TeamViews.{team_view}
+use Rattle.check_parts.specs.roster_part.TeamViews.{team_view}
 use Rattle.candidate_rosters.proofs.LeadersLemmas.{key_of, there-of}
 use Rattle.roster_moves.proofs.LeastTrees.{is-ready, is-top, asks-under, under-steps}
 use Rattle.roster_moves.proofs.trees.write_group_tree.Goals as goal

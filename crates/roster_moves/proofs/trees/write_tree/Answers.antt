@@ -2,7 +2,7 @@ use Rattle.roster_model.specs.PriceRooms.{price_view}
 use Rattle.candidate_rosters.proofs.LeadersLemmas.{there-of}
 use Rattle.roster_moves.proofs.LeastTrees.{asks-day}
 use Rattle.roster_moves.proofs.trees.write_tree.Goals as goal
-use Rattle.tree_laws.proofs.DayStepsLemmas.{day-steps}
+use Rattle.roster_model.proofs.tree_laws.DayStepsLemmas.{day-steps}
 
 pub tree-requires-clause-asks : goal.tree-requires-clause-asks
 tree-requires-clause-asks c =

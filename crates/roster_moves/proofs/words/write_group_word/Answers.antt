@@ -1,10 +1,10 @@
 use Rattle.std.proofs.Common.{◌≡◌, Some, ap, ◌∙◌}
 use Rattle.std.specs.Prelude.{slice_get}
 use Rattle.std.proofs.lemmas.Option.{slice_get_within}
-use Rattle.word_prices.specs.Prices.{word_view}
+use Rattle.roster_model.specs.word_prices.Prices.{word_view}
 use Rattle.roster_model.specs.Teams.{teams}
 use Rattle.roster_model.proofs.EachLemmas.{get-in}
-use Rattle.roster_part.specs.TeamViews.{team_view}
+use Rattle.check_parts.specs.roster_part.TeamViews.{team_view}
 use Rattle.candidate_rosters.proofs.LeadersLemmas.{key_of, there-of}
 use Rattle.roster_moves.proofs.LeastTrees.{is-ready, is-top, asks-under, under-steps}
 use Rattle.roster_moves.proofs.words.write_group_word.Goals as goal

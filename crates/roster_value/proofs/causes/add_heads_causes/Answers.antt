@@ -1,6 +1,6 @@
 use Rattle.roster_model.specs.Teams.{teams}
 use Rattle.certificates.specs.RosterCauses.{duties}
-use Rattle.roster_part.specs.TeamViews.{team_view}
+use Rattle.check_parts.specs.roster_part.TeamViews.{team_view}
 use Rattle.roster_value.specs.Causes.{team_causes}
 use Rattle.roster_value.proofs.CauseLists.{gathered-next}
 use Rattle.roster_value.proofs.causes.add_heads_causes.Goals as goal

@@ -1,8 +1,8 @@
 use Rattle.std.proofs.Common.{◌≡◌, ℕ, ◌++◌, ◌∙◌, ap}
 use Rattle.std.proofs.lemmas.Result.{on_ok_weaker}
 use Rattle.certificates.specs.RosterCauses.{duties}
-use Rattle.roster_part.specs.TeamViews.{team_view}
-use Rattle.roster_part.proofs.ShiftCounts.{members-are}
+use Rattle.check_parts.specs.roster_part.TeamViews.{team_view}
+use Rattle.check_parts.proofs.roster_part.ShiftCounts.{members-are}
 use Rattle.roster_value.specs.Causes.{heads, range_causes}
 use Rattle.roster_value.proofs.causes.add_team_causes.Goals as goal
 

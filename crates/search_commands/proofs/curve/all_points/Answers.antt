@@ -1,7 +1,7 @@
 use Rattle.std.proofs.Common.{◌≡◌, ◌<◌, ℕ, List, [], arith, refl, sym, subst, ◌∙◌, rules}
 use Rattle.std.proofs.lemmas.Result.{err_from_is_err_and}
 use Rattle.roster_model.specs.declared.instance.Shift.{Shift}
-use Rattle.day_curve.specs.Curves.{points_of}
+use Rattle.day_solver.specs.day_curve.Curves.{points_of}
 use Rattle.search_commands.specs.Points.{FindsFirst}
 use Rattle.search_commands.specs.Solve.{lent}
 use Rattle.search_commands.proofs.PointLemmas.{first-none, next-curve, next-found, next-broken, none-begun}

@@ -1,6 +1,6 @@
 use Rattle.std.proofs.Common.{◌<◌, arith, rules}
 use Rattle.std.proofs.lemmas.Result.{err_from_is_err_and}
-use Rattle.day_curve.specs.Curves.{points_of}
+use Rattle.day_solver.specs.day_curve.Curves.{points_of}
 use Rattle.search_commands.proofs.PointNames.{none-asked, point-asked, point-left}
 use Rattle.search_commands.proofs.curve.ask_points.Goals as goal
 

@@ -1,5 +1,5 @@
 use Rattle.std.proofs.Common.{◌≤◌, ◌+◌}
-use Rattle.day_curve.specs.Curves.{first_heads}
+use Rattle.day_solver.specs.day_curve.Curves.{first_heads}
 use Rattle.search_commands.specs.Curve.{MayStoreTeam}
 use Rattle.search_commands.specs.Writer.{IsAsked}
 use Rattle.search_commands.proofs.curve.ask_points.Given as goal

@@ -1,7 +1,7 @@
 use Rattle.std.specs.Option.{option_copied}
 use Rattle.std.proofs.Common.{◌<◌, ◌≤◌, sym, subst}
-use Rattle.day_curve.specs.Curves.{CurveView, points_of}
-use Rattle.day_curve.specs.Staffs.{staff_most}
+use Rattle.day_solver.specs.day_curve.Curves.{CurveView, points_of}
+use Rattle.day_solver.specs.day_curve.Staffs.{staff_most}
 use Rattle.search_commands.proofs.CurveAnswers.{graph-refused, some-points, few-heads}
 use Rattle.search_commands.proofs.curve.curve_team.Goals as goal
 

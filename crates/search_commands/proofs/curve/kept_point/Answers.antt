@@ -1,6 +1,6 @@
 use Rattle.std.proofs.Common.{ℕ, ◌≡◌, [], ◌∷◌, IfOk, subst}
 use Rattle.std.specs.Prelude.{MatchResult}
-use Rattle.day_curve.specs.CurveText.{point_of}
+use Rattle.day_solver.specs.day_curve.CurveText.{point_of}
 use Rattle.search_commands.specs.Curve.{point_name}
 use Rattle.search_commands.specs.Series.{IsStoredBy, IsBrokenOff}
 use Rattle.search_commands.proofs.curve.kept_point.Goals as goal

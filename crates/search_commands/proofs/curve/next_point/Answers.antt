@@ -1,4 +1,4 @@
-use Rattle.day_curve.specs.Curves.{point_day}
+use Rattle.day_solver.specs.day_curve.Curves.{point_day}
 use Rattle.day_solver.specs.Solutions.{IsSolution}
 use Rattle.search_commands.proofs.LimitLemmas.{of-within}
 use Rattle.search_commands.specs.Curve.{point_name}

@@ -1,7 +1,7 @@
 use Rattle.roster_model.specs.PriceRooms.{price_view}
 use Rattle.roster_model.specs.declared.instance.Prices.{Prices}
 use Rattle.roster_model.proofs.RoomWithin.{room-within}
-use Rattle.priced_part.proofs.LeastReduced.{least-reduced, least-small}
+use Rattle.check_parts.proofs.priced_part.LeastReduced.{least-reduced, least-small}
 use Rattle.search_rows.proofs.near.least_reduced.Goals as goal
 
 pub returns-clause-least : goal.returns-clause-least

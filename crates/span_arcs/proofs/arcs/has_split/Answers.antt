@@ -1,8 +1,8 @@
 use Rattle.std.proofs.Common.{rules, arith, ◌≡◌, ◌≢◌, ◌≤◌, ◌<◌, ◌+◌, length, sym, ap, ◌∙◌, get_or, [], ◌∷◌}
 use Rattle.std.specs.Prelude.{IsTrue}
 use Rattle.roster_model.specs.declared.grammar.Sym.TheVariants.{Code}
-use Rattle.tree_laws.proofs.Rules.{sound-symbol, sound-rule}
-use Rattle.tree_laws.proofs.Symbols.{here}
+use Rattle.roster_model.proofs.tree_laws.Rules.{sound-symbol, sound-rule}
+use Rattle.roster_model.proofs.tree_laws.Symbols.{here}
 use Rattle.span_arcs.specs.Marks.{HasSome}
 use Rattle.span_arcs.proofs.ArcsLemmas.{last-split, two-split}
 use Rattle.span_arcs.proofs.arcs.has_split.Goals as goal

@@ -3,7 +3,7 @@ use Rattle.std.specs.Prelude.{IsTrue}
 use Rattle.std.proofs.lemmas.Option.{same_Some}
 use Rattle.roster_model.specs.Grammar.{InDay}
 use Rattle.roster_model.specs.declared.grammar.Rule.{Rule}
-use Rattle.tree_laws.proofs.Rules.{sound-rule, rule_at-within}
+use Rattle.roster_model.proofs.tree_laws.Rules.{sound-rule, rule_at-within}
 use Rattle.span_arcs.specs.Marks.{SuffixMarked, HasSplit}
 use Rattle.span_arcs.proofs.ArcsLemmas.{arc-told, told-arc, marked-within}
 use Rattle.span_arcs.proofs.arcs.is_arc.Goals as goal

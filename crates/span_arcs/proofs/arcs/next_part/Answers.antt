@@ -3,7 +3,7 @@ use Rattle.std.specs.Prelude.{IsTrue}
 use Rattle.std.proofs.lemmas.Option.{same_Some}
 use Rattle.roster_model.specs.declared.grammar.Rule.{Rule}
 use Rattle.roster_model.specs.Grammar.{rule_at}
-use Rattle.tree_laws.proofs.Rules.{sound-rule}
+use Rattle.roster_model.proofs.tree_laws.Rules.{sound-rule}
 use Rattle.span_arcs.specs.Marks.{SuffixMarked}
 use Rattle.span_arcs.proofs.ArcsLemmas.{arc-told, marked-within}
 use Rattle.span_arcs.proofs.OrderLemmas.{arc-shape, part-step}

@@ -3,8 +3,8 @@ use Rattle.std.proofs.lemmas.Option.{same_Some}
 use Rattle.std.proofs.Common.{refl}
 use Rattle.roster_model.specs.declared.grammar.Rule.{Rule}
 use Rattle.roster_model.specs.declared.grammar.Sym.TheVariants.{Code}
-use Rattle.tree_laws.proofs.Rules.{sound-symbol}
-use Rattle.tree_laws.proofs.Symbols.{here}
+use Rattle.roster_model.proofs.tree_laws.Rules.{sound-symbol}
+use Rattle.roster_model.proofs.tree_laws.Symbols.{here}
 use Rattle.span_cells.specs.declared.slot.Slot.TheVariants.{OfSuffix}
 use Rattle.span_cells.specs.Cells.{suffix_slot}
 use Rattle.span_arcs.specs.Marks.{PartsStand}

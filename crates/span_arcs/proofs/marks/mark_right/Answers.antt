@@ -1,7 +1,7 @@
 use Rattle.std.proofs.Common.{arith, ◌≡◌, ◌≢◌, ◌≤◌, length, sym, ap, ◌∙◌, get_or}
 use Rattle.roster_model.specs.declared.grammar.Sym.TheVariants.{Code}
-use Rattle.tree_laws.proofs.Symbols.{here_only}
-use Rattle.tree_laws.proofs.Rules.{sound-rule}
+use Rattle.roster_model.proofs.tree_laws.Symbols.{here_only}
+use Rattle.roster_model.proofs.tree_laws.Rules.{sound-rule}
 use Rattle.span_cells.specs.Cells.{place, name_slot}
 use Rattle.span_arcs.proofs.MarksLemmas.{adds-up}
 use Rattle.span_arcs.proofs.PartMarksLemmas.{only-before, only-of-right, only-closed}

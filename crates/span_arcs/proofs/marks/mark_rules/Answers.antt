@@ -1,5 +1,5 @@
 use Rattle.std.proofs.Common.{arith}
-use Rattle.tree_laws.proofs.Rules.{rule_at-within}
+use Rattle.roster_model.proofs.tree_laws.Rules.{rule_at-within}
 use Rattle.span_cells.specs.Cells.{place, name_slot}
 use Rattle.span_cells.proofs.ChainsLemmas.{first-read, next-read}
 use Rattle.span_arcs.proofs.MarksLemmas.{adds-none, adds-more, rules-next, rules-closed}

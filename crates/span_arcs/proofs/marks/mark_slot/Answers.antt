@@ -1,7 +1,7 @@
 use Rattle.std.proofs.Common.{◌≡◌, ◌≤◌, ◌+◌, ℕ, true, false, length, drop, sym, ap, ◌∙◌, subst, get_or}
 use Rattle.std.proofs.lemmas.Option.{same_Some}
 use Rattle.roster_model.specs.declared.grammar.Rule.{Rule}
-use Rattle.tree_laws.proofs.Rules.{rule_at-within}
+use Rattle.roster_model.proofs.tree_laws.Rules.{rule_at-within}
 use Rattle.span_cells.specs.declared.slot.Slot.TheVariants.{OfName, OfSuffix}
 use Rattle.span_cells.specs.Cells.{place, name_slot}
 use Rattle.span_arcs.specs.Marks.{mark, Adds, PartsClosed}

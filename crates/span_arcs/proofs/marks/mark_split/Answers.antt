@@ -1,8 +1,8 @@
 use Rattle.std.proofs.Common.{arith, ◌≡◌, ◌+◌, ◌-◌, length, drop, sym, ap, get_or, [], ◌∷◌}
 use Rattle.roster_model.specs.Grammar.{InDay}
 use Rattle.roster_model.specs.declared.grammar.Sym.TheVariants.{Code}
-use Rattle.tree_laws.proofs.Rules.{sound-symbol}
-use Rattle.tree_laws.proofs.Symbols.{here}
+use Rattle.roster_model.proofs.tree_laws.Rules.{sound-symbol}
+use Rattle.roster_model.proofs.tree_laws.Symbols.{here}
 use Rattle.span_cells.specs.Cells.{place}
 use Rattle.span_arcs.specs.Marks.{HasSome}
 use Rattle.span_arcs.proofs.MarksLemmas.{adds-more, symbol-kept, span-before}

@@ -3,8 +3,8 @@ use Rattle.std.specs.Prelude.{slice_index}
 use Rattle.std.proofs.lemmas.List.{take_at}
 use Rattle.roster_model.proofs.StepRules.{no_cycle}
 use Rattle.span_cells.specs.Building.{NameSlots}
-use Rattle.tree_laws.proofs.Ranks.{rank-below}
-use Rattle.tree_laws.specs.RankOrder.{IsDone}
+use Rattle.roster_model.proofs.tree_laws.Ranks.{rank-below}
+use Rattle.roster_model.specs.tree_laws.RankOrder.{IsDone}
 use Rattle.span_cells.proofs.NameSlotsLemmas.{names-init, all-named}
 use Rattle.span_cells.proofs.build.add_names.Goals as goal
 

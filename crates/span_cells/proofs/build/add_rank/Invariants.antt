@@ -2,7 +2,7 @@ use Rattle.std.proofs.Common.{ℕ, List, ◌+◌}
 use Rattle.span_cells.specs.declared.slot.Slot.{Slot}
 use Rattle.span_cells.specs.Building.{NameSlots}
 use Rattle.span_cells.proofs.build.add_rank.Given as goal
-use Rattle.tree_laws.specs.RankOrder.{IsPlaced}
+use Rattle.roster_model.specs.tree_laws.RankOrder.{IsPlaced}
 
 abbrev pub invariant-loop-name : goal.invariant-loop-name
 invariant-loop-name l = (base : List Slot) (m : ℕ) → NameSlots l.ranks base l.initial.slots l.initial.names (IsPlaced l.ranks l.rank 0) m

@@ -2,7 +2,7 @@ use Rattle.std.proofs.Common.{ℕ, subst, arith, ◌≡◌, ◌+◌, ◌-◌, �
 use Rattle.span_cells.specs.Building.{NameSlots}
 use Rattle.span_cells.proofs.NameSlotsLemmas.{turn-begins, turn-ends}
 use Rattle.span_cells.proofs.build.add_ranks.Goals as goal
-use Rattle.tree_laws.specs.RankOrder.{IsPlaced}
+use Rattle.roster_model.specs.tree_laws.RankOrder.{IsPlaced}
 
 pub loop-turn-preserved : goal.loop-turn-preserved
 loop-turn-preserved c =

@@ -1,5 +1,5 @@
 use Rattle.std.proofs.Common.{◌≡◌, ◌+◌, ◌-◌, ◌≤◌, ◌∷◌, [], ◌++◌, length, ap, ◌∙◌}
-use Rattle.tree_laws.proofs.Rules.{sound-rule}
+use Rattle.roster_model.proofs.tree_laws.Rules.{sound-rule}
 use Rattle.span_cells.specs.Building.{AddsSuffixes}
 use Rattle.span_cells.proofs.SuffixSlotsLemmas.{rules-next}
 use Rattle.span_cells.proofs.build.add_rules.Goals as goal

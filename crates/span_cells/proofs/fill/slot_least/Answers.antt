@@ -3,7 +3,7 @@ use Rattle.std.specs.Prelude.{drop}
 use Rattle.std.proofs.lemmas.Option.{same_Some}
 use Rattle.roster_model.specs.declared.grammar.Rule.{Rule}
 use Rattle.roster_model.specs.Sums.{PartsLeast}
-use Rattle.tree_laws.proofs.Rules.{rule_at-within}
+use Rattle.roster_model.proofs.tree_laws.Rules.{rule_at-within}
 use Rattle.span_cells.specs.declared.slot.Slot.TheVariants.{OfName, OfSuffix}
 use Rattle.span_cells.proofs.Slots.{slot_here, same_slot}
 use Rattle.span_cells.proofs.CellsLemmas.{before-shorter, before-later}

@@ -1,7 +1,7 @@
 use Rattle.std.proofs.Common.{arith, ◌≡◌, ◌≤◌, ◌+◌, length}
 use Rattle.roster_model.specs.declared.grammar.Sym.TheVariants.{Name}
-use Rattle.tree_laws.proofs.RuleLoop.{names-init, names-end}
-use Rattle.tree_laws.proofs.Bounds.{symbol_within}
+use Rattle.roster_model.proofs.tree_laws.RuleLoop.{names-init, names-end}
+use Rattle.roster_model.proofs.tree_laws.Bounds.{symbol_within}
 use Rattle.span_cells.proofs.ChainsLemmas.{names-skip, names-more, first-read, next-read}
 use Rattle.span_cells.proofs.ChoicesLemmas.{rule-next}
 use Rattle.span_cells.proofs.names.least_rule.Goals as goal

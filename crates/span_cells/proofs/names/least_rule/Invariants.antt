@@ -3,7 +3,7 @@ use Rattle.std.specs.Prelude.{OnSome}
 use Rattle.roster_model.specs.declared.grammar.Rule.{Rule}
 use Rattle.roster_model.specs.Grammar.{rule_at}
 use Rattle.roster_model.specs.Sums.{IsLeast, tree_sum}
-use Rattle.tree_laws.proofs.RuleLoop.{ByFirst}
+use Rattle.roster_model.proofs.tree_laws.RuleLoop.{ByFirst}
 use Rattle.span_cells.specs.Choices.{ChosenRule}
 use Rattle.span_cells.proofs.names.least_rule.Given as goal
 

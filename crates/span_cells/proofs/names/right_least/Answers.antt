@@ -3,10 +3,10 @@ use Rattle.std.proofs.lemmas.Int.{ints}
 use mir.Val.{to_z, of_z}
 use mir.Syntax.{w128}
 use Rattle.roster_model.specs.declared.grammar.Sym.TheVariants.{Name, Code}
-use Rattle.tree_laws.proofs.Rules.{sound-rule, sound-symbol}
-use Rattle.tree_laws.proofs.Symbols.{here_only}
-use Rattle.tree_laws.proofs.Ends.{only-least}
-use Rattle.tree_laws.proofs.Bounds.{parts_within}
+use Rattle.roster_model.proofs.tree_laws.Rules.{sound-rule, sound-symbol}
+use Rattle.roster_model.proofs.tree_laws.Symbols.{here_only}
+use Rattle.roster_model.proofs.tree_laws.Ends.{only-least}
+use Rattle.roster_model.proofs.tree_laws.Bounds.{parts_within}
 use Rattle.span_cells.proofs.names.right_least.Goals as goal
 
 pub symbol_least-part-requires-clause-name : goal.symbol_least-part-requires-clause-name

@@ -6,7 +6,7 @@ use Rattle.std.specs.Prelude.{Some}
 use Rattle.roster_model.specs.Sums.{plus}
 use Rattle.roster_model.specs.Grammar.{Stands}
 use Rattle.span_cells.proofs.ChoicesLemmas.{on_some}
-use Rattle.tree_laws.proofs.Ends.{rule-least}
+use Rattle.roster_model.proofs.tree_laws.Ends.{rule-least}
 use Rattle.span_cells.proofs.names.rule_least.Goals as goal
 
 pub right_least-parts-requires-clause-unit : goal.right_least-parts-requires-clause-unit

@@ -1,6 +1,6 @@
 use Rattle.std.proofs.Common.{arith, ◌≡◌, ◌≤◌, ◌+◌, ◌-◌, None, refl, sym, subst, ℕ}
 use Rattle.roster_model.specs.declared.grammar.Sym.TheVariants.{Code}
-use Rattle.tree_laws.proofs.Bounds.{parts_within}
+use Rattle.roster_model.proofs.tree_laws.Bounds.{parts_within}
 use Rattle.span_cells.proofs.ChoicesLemmas.{part-next}
 use Rattle.span_cells.proofs.PartsLemmas.{Least, parts-begin, parts-next, parts-skip, parts-end}
 use Rattle.span_cells.proofs.parts.least_part.Goals as goal

@@ -2,7 +2,7 @@ use Rattle.std.proofs.Common.{◌≤◌, ◌+◌, ◌-◌, drop, get_or}
 use Rattle.std.specs.Prelude.{OnSome}
 use Rattle.roster_model.specs.declared.grammar.Sym.TheVariants.{Code}
 use Rattle.roster_model.specs.Sums.{IsLeast, parts_sum}
-use Rattle.tree_laws.proofs.PartLoop.{Before}
+use Rattle.roster_model.proofs.tree_laws.PartLoop.{Before}
 use Rattle.span_cells.specs.Choices.{ChosenPart}
 use Rattle.span_cells.proofs.parts.least_part.Given as goal
 

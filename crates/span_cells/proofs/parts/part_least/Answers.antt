@@ -6,8 +6,8 @@ use Rattle.std.specs.Prelude.{Some}
 use Rattle.roster_model.specs.Grammar.{InDay}
 use Rattle.roster_model.specs.Sums.{plus}
 use Rattle.roster_model.specs.declared.grammar.Sym.TheVariants.{Name, Code}
-use Rattle.tree_laws.proofs.Rules.{sound-symbol}
-use Rattle.tree_laws.proofs.Symbols.{here}
+use Rattle.roster_model.proofs.tree_laws.Rules.{sound-symbol}
+use Rattle.roster_model.proofs.tree_laws.Symbols.{here}
 use Rattle.span_cells.proofs.ChoicesLemmas.{no-sum}
 use Rattle.span_cells.proofs.PointsLemmas.{rest-value}
 use Rattle.span_cells.proofs.parts.part_least.Goals as goal

@@ -4,9 +4,9 @@ use Rattle.roster_model.specs.declared.grammar.Grammar.{Grammar}
 use Rattle.roster_model.specs.declared.grammar.Rule.{Rule}
 use Rattle.roster_model.specs.declared.grammar.Sym.TheVariants.{Name, Code}
 use Rattle.roster_model.specs.Grammar.{rule_at}
-use Rattle.tree_laws.proofs.Rules.{rule_at-within, sound-symbol}
-use Rattle.tree_laws.proofs.Symbols.{here, rest-last}
-use Rattle.tree_laws.proofs.Bounds.{parts_within}
+use Rattle.roster_model.proofs.tree_laws.Rules.{rule_at-within, sound-symbol}
+use Rattle.roster_model.proofs.tree_laws.Symbols.{here, rest-last}
+use Rattle.roster_model.proofs.tree_laws.Bounds.{parts_within}
 use Rattle.span_cells.specs.declared.slot.Layout.{Layout}
 use Rattle.span_cells.specs.Cells.{IsLayoutOf, suffix_slot}
 use Rattle.span_cells.proofs.Slots.{suffix_slot-within}

@@ -1,7 +1,7 @@
 use Rattle.std.proofs.Common.{arith, ◌≤◌, ◌≡◌, ◌<◌, get_or, length}
 use Rattle.std.proofs.lemmas.List.{get_or_read}
-use Rattle.tree_laws.proofs.Ends.{code-least}
-use Rattle.tree_laws.proofs.Bounds.{symbol_within}
+use Rattle.roster_model.proofs.tree_laws.Ends.{code-least}
+use Rattle.roster_model.proofs.tree_laws.Bounds.{symbol_within}
 use Rattle.span_cells.proofs.Slots.{name_slot-within}
 use Rattle.span_cells.proofs.parts.symbol_least.Goals as goal
 

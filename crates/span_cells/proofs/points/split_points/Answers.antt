@@ -1,8 +1,8 @@
 use Rattle.std.proofs.Common.{arith, ◌≡◌, ◌+◌, ◌-◌, inl, inr, refl, sym, ap, get_or}
 use Rattle.roster_model.specs.declared.grammar.Sym.TheVariants.{Code}
 use Rattle.roster_model.specs.Grammar.{InDay}
-use Rattle.tree_laws.proofs.Rules.{sound-symbol}
-use Rattle.tree_laws.proofs.Symbols.{here}
+use Rattle.roster_model.proofs.tree_laws.Rules.{sound-symbol}
+use Rattle.roster_model.proofs.tree_laws.Symbols.{here}
 use Rattle.span_cells.proofs.PointsLemmas.{symbol-value, rest-value, no-split}
 use Rattle.span_cells.proofs.points.split_points.Goals as goal
 

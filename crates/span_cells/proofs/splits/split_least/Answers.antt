@@ -6,7 +6,7 @@ use mir.Syntax.{w128}
 use Rattle.roster_model.specs.Grammar.{InDay}
 use Rattle.roster_model.specs.Sums.{Within}
 use Rattle.roster_model.specs.declared.grammar.Sym.TheVariants.{Code}
-use Rattle.tree_laws.proofs.Bounds.{symbol_within, parts_within}
+use Rattle.roster_model.proofs.tree_laws.Bounds.{symbol_within, parts_within}
 use Rattle.span_cells.specs.Cells.{cell}
 use Rattle.span_cells.proofs.NumbersLemmas.{number-bounds, number-read}
 use Rattle.span_cells.proofs.splits.split_least.Goals as goal

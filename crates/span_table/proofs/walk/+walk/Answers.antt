@@ -1,7 +1,7 @@
 use Rattle.std.proofs.Common.{arith, ℕ, ◌≡◌, ◌≢◌, ◌≤◌, ◌<◌, length, ap, sym, subst, ◌∙◌, get_or, ◌+◌, ◌-◌}
 use Rattle.roster_model.specs.declared.grammar.Sym.{Sym}
 use Rattle.roster_model.specs.declared.grammar.Sym.TheVariants.{Name, Code}
-use Rattle.tree_laws.proofs.Rules.{sound-rule}
+use Rattle.roster_model.proofs.tree_laws.Rules.{sound-rule}
 use Rattle.span_table.specs.Walks.{AsksTree, WritesTree, tree_measure, parts_measure}
 use Rattle.span_cells.proofs.CellsLemmas.{filled-shorter, filled-later}
 use Rattle.span_table.proofs.AsksLemmas.{symbol-exists, last-earlier, asks-last, writes-last, asks-first, asks-rest, writes-split, part-low, part-high, number-within, rule-left, asks-rule, writes-rule, falls-last, falls-first, falls-rest, falls-rule}

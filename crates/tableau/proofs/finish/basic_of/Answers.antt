@@ -2,7 +2,7 @@ use Rattle.std.proofs.Common.{arith, pos, ◌<ℤ◌, SFits, rules, length, slic
 use Rattle.std.specs.Int.{w128, w64}
 use Rattle.std.proofs.lemmas.Int.{to_z-of_z, ints}
 use Rattle.fraction.specs.Row.{at}
-use Rattle.pivot_rows.specs.Columns.{AreWithin}
+use Rattle.fraction.specs.pivot_rows.Columns.{AreWithin}
 use Rattle.tableau.proofs.Counts.{refused_risen}
 use Rattle.tableau.proofs.Places.{large_column, entry_of}
 use Rattle.tableau.proofs.Turns.{within_more}

@@ -2,7 +2,7 @@ use Rattle.std.proofs.Common.{ℕ, ◌<◌, ◌≤◌, ◌^◌, arith, SFits, ru
 use Rattle.std.specs.Int.{w128, w64}
 use Rattle.std.proofs.lemmas.Int.{to_z-of_z, ints}
 use Rattle.fraction.specs.Row.{at}
-use Rattle.linear_programs.specs.Sums.{dot}
+use Rattle.bound_laws.specs.linear_programs.Sums.{dot}
 use Rattle.tableau.proofs.Counts.{refused_risen}
 use Rattle.tableau.proofs.Starts.{first_wide, first_line}
 use Rattle.tableau.proofs.first.first_cost.Goals as goal

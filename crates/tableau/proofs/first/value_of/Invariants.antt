@@ -1,5 +1,5 @@
 use Rattle.std.proofs.Common.{◌≡◌, ◌*◌, ◌^◌, pos, ◌≤ℤ◌}
-use Rattle.linear_programs.specs.Sums.{dot}
+use Rattle.bound_laws.specs.linear_programs.Sums.{dot}
 use Rattle.fraction.specs.Row.{at}
 use Rattle.tableau.proofs.first.value_of.Given as goal
 

@@ -1,6 +1,6 @@
 use Rattle.std.proofs.Common.{◌≡◌, ℕ, ◌+◌, arith, refl, ◌∙◌, subst}
 use Rattle.std.proofs.lemmas.Bool.{false≢true}
-use Rattle.linear_programs.specs.Tableau.{PivotPath}
+use Rattle.bound_laws.specs.linear_programs.Tableau.{PivotPath}
 use Rattle.tableau.specs.Sheet.{tableau_of}
 use Rattle.tableau.proofs.Counts.{spent_risen}
 use Rattle.tableau.proofs.EnteringColumns.{tied_of}

@@ -4,7 +4,7 @@ use Rattle.std.specs.Int.{w64}
 use Rattle.std.proofs.lemmas.Int.{to_z-of_z, ints}
 use Rattle.std.proofs.lemmas.Bool.{false≢true}
 use Rattle.std.specs.Bool.{OnTrue}
-use Rattle.pivot_rows.specs.Columns.{AreUnits}
+use Rattle.fraction.specs.pivot_rows.Columns.{AreUnits}
 use Rattle.tableau.proofs.Places.{units_all}
 use Rattle.tableau.proofs.small.is_small.Goals as goal
 use Rattle.tableau.proofs.small.is_small.Goals.{then-cost-ge0, else-cost-ge0}

@@ -1,7 +1,7 @@
 use Rattle.std.proofs.Common.{pos, ◌≤ℤ◌, length, slice_get, refl, to_z, of_z}
 use mir.Syntax.{w128}
 use Rattle.std.proofs.lemmas.Option.{slice_get_read}
-use Rattle.linear_programs.specs.Program.{reduced}
+use Rattle.bound_laws.specs.linear_programs.Program.{reduced}
 use Rattle.fraction.specs.Row.{at}
 use Rattle.tableau_rows.specs.Tables.{column_of}
 use Rattle.tableau_rows.proofs.NumbersBelow.{further}

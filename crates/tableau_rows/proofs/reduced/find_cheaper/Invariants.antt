@@ -1,5 +1,5 @@
 use Rattle.std.proofs.Common.{ℕ, ◌<◌, pos, ◌≤ℤ◌, slice_get}
-use Rattle.linear_programs.specs.Program.{reduced}
+use Rattle.bound_laws.specs.linear_programs.Program.{reduced}
 use Rattle.fraction.specs.Row.{at}
 use Rattle.tableau_rows.specs.Tables.{column_of}
 use Rattle.tableau_rows.proofs.reduced.find_cheaper.Given as goal

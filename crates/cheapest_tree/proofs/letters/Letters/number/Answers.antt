@@ -1,6 +1,6 @@
 use Rattle.std.proofs.Common.{arith}
 use Rattle.std.proofs.lemmas.Option.{slice_get_within}
-use Rattle.tree_laws.proofs.ListPushes.{push-here}
+use Rattle.roster_model.proofs.tree_laws.ListPushes.{push-here}
 use Rattle.cheapest_tree.proofs.NumberingLemmas.{number-known, numbered-next, grows-one}
 use Rattle.cheapest_tree.proofs.letters.Letters.number.Goals as goal
 

@@ -1,5 +1,5 @@
 use Rattle.std.proofs.Common.{◌≡◌, ◌+◌, ◌++◌, take, length}
-use Rattle.master_laws.specs.Rows.{floor_rows, ceiling_rows}
+use Rattle.bound_laws.specs.master_laws.Rows.{floor_rows, ceiling_rows}
 use Rattle.master_rows.specs.NodeRows.{bounds_from}
 use Rattle.master_rows.proofs.rows.NodeRows.add_bounds.Given as goal
 

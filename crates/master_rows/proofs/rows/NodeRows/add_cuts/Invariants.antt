@@ -1,5 +1,5 @@
 use Rattle.std.proofs.Common.{◌≡◌, [], take}
-use Rattle.master_laws.specs.Rows.{cut_rows}
+use Rattle.bound_laws.specs.master_laws.Rows.{cut_rows}
 use Rattle.master_rows.specs.NodeRows.{with_rows}
 use Rattle.master_rows.proofs.rows.NodeRows.add_cuts.Given as goal
 

@@ -1,5 +1,5 @@
 use Rattle.std.proofs.Common.{◌≡◌, ◌≤◌, ◌+◌, ◌-◌, ℕ, ℤ, List, length, take, drop, arith, ap, ◌∙◌, rules, take_all, length-drop}
-use Rattle.master_laws.specs.Rounding.{first_head}
+use Rattle.bound_laws.specs.master_laws.Rounding.{first_head}
 use Rattle.master_rows.proofs.CellPrices.{many, low, gathered, head_low}
 use Rattle.master_rows.proofs.rows.NodeRows.gather.Goals as goal
 

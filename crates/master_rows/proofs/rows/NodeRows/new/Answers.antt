@@ -2,7 +2,7 @@ use Rattle.std.proofs.Common.{◌≡◌, ◌≤◌, List, ap, ◌∙◌, length,
 use Rattle.std.specs.Int.{w64}
 use Rattle.roster_model.specs.declared.instance.Cell.{Cell}
 use Rattle.roster_model.proofs.CostBounds.{cells-le}
-use Rattle.master_laws.specs.Rounding.{first_ceiling}
+use Rattle.bound_laws.specs.master_laws.Rounding.{first_ceiling}
 use Rattle.master_rows.proofs.AddedRows.{floors-le}
 use Rattle.master_rows.proofs.RowNumbers.{ceilings_begin}
 use Rattle.master_rows.proofs.NodeRowsLemmas.{chained, ceilings_at}

@@ -1,6 +1,6 @@
 use Rattle.std.proofs.Common.{ℤ, List, length, ap, ◌∙◌}
 use Rattle.fraction.specs.Row.{at}
-use Rattle.master_laws.specs.Rows.{rows_of}
+use Rattle.bound_laws.specs.master_laws.Rows.{rows_of}
 use Rattle.master_rows.proofs.RowNumbers.{rights_length, right_at}
 use Rattle.master_rows.proofs.rows.NodeRows.right.Goals as goal
 

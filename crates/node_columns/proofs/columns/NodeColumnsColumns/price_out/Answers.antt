@@ -1,9 +1,9 @@
 use Rattle.std.proofs.Common.{◌≡◌, pos, ◌<ℤ◌, ◌<◌, length, refl, rules, to_z, of_z}
 use mir.Syntax.{w128}
 use Rattle.roster_model.specs.Trees.{Parts}
-use Rattle.linear_programs.specs.Program.{IsPricedOut, reduced}
+use Rattle.bound_laws.specs.linear_programs.Program.{IsPricedOut, reduced}
 use Rattle.fraction.specs.Row.{at}
-use Rattle.master_laws.specs.Master.{MasterKey, tree, master}
+use Rattle.bound_laws.specs.master_laws.Master.{MasterKey, tree, master}
 use Rattle.node_columns.specs.Columns.{HasKey}
 use Rattle.node_columns.specs.Priced.{HasNoCheaper}
 use Rattle.node_columns.proofs.HeldColumns.{keys_kept, listed_below, some_map, none_map}

@@ -1,5 +1,5 @@
 use Rattle.std.proofs.Common.{map, ap, subst, refl, ◌++◌}
-use Rattle.arc_laws.specs.OrNodes.{OrNode}
+use Rattle.roster_model.specs.arc_laws.OrNodes.{OrNode}
 use Rattle.parse_graph.specs.declared.links.ArcLinks.{ArcLinks}
 use Rattle.parse_graph.specs.declared.links.Entries.{Entries}
 use Rattle.parse_graph.specs.Linked.{AddsNode, uses_of}

@@ -5,7 +5,7 @@ use Rattle.proof_check.specs.Stacks.{StackView, AreSmall, IsClosing}
 use Rattle.proof_check.specs.Stacks.{halves_of}
 use Rattle.proof_check.proofs.StacksLemmas.{small-turned, closed, turned-halves}
 use Rattle.proof_check.proofs.stack.Stack.close.Goals as goal
-use Rattle.certificate_laws.specs.Shown.{joined}
+use Rattle.certificates.specs.certificate_laws.Shown.{joined}
 
 pub returns-in-Low-clause-small : goal.returns-in-Low-clause-small
 returns-in-Low-clause-small c = λ s.

@@ -4,8 +4,8 @@ use Rattle.roster_model.specs.declared.instance.Instance.{Instance}
 use Rattle.roster_model.specs.declared.instance.Shift.{Shift}
 use Rattle.certificates.specs.declared.cert.Cert.{Cert}
 use Rattle.certificates.specs.declared.why.Why.{Why}
-use Rattle.certificate_laws.specs.Causes.{IsFirstCause}
-use Rattle.roster_part.specs.Faults.{IsRightlyStated, IsRosterCause}
+use Rattle.certificates.specs.certificate_laws.Causes.{IsFirstCause}
+use Rattle.check_parts.specs.roster_part.Faults.{IsRightlyStated, IsRosterCause}
 use Rattle.proof_check.specs.Verdicts.{HasRightRoster, States}
 use Rattle.proof_check.proofs.FirstCauses.{roster-first}
 use Rattle.proof_check.proofs.walker.Walker.roster_cause.Goals as goal

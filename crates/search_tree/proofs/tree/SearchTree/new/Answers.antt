@@ -1,6 +1,6 @@
 use Rattle.std.proofs.Common.{ℕ, ◌≡◌, None, [], ◌∷◌, ◌++◌, List, subst, sym, ap, refl, arith, ◌∙◌}
-use Rattle.growing_laws.specs.Grown.{tip, fresh}
-use Rattle.growing_laws.specs.declared.seat.Seat.{Seat}
+use Rattle.certificates.specs.growing_laws.Grown.{tip, fresh}
+use Rattle.certificates.specs.declared.growing_laws.seat.Seat.{Seat}
 use Rattle.open_nodes.specs.declared.leaf.OpenLeaf.{OpenLeaf}
 use Rattle.open_nodes.specs.Queues.{SameLeaves}
 use Rattle.roster_model.specs.Folds.{count}

@@ -1,6 +1,6 @@
 use Rattle.std.proofs.Common.{arith, ◌≡◌, ◌<◌, ◌+◌, ◌-◌, length, get_or}
 use Rattle.std.proofs.lemmas.List.{get_or_read}
-use Rattle.tree_laws.proofs.Rules.{sound-rule}
+use Rattle.roster_model.proofs.tree_laws.Rules.{sound-rule}
 use Rattle.span_cells.proofs.ChainsLemmas.{chained-front}
 use Rattle.span_cells.proofs.chains.Chains.new.Goals as goal
 

@@ -1,0 +1,61 @@
+-- Splits that a near solution shows to be sharp.
+use Rattle.std.specs.Prelude.{ℕ, ◌<◌, ◌≤◌, ◌+◌, ◌-◌, ◌*◌, ◌^◌, ◌⊎◌, cond, List}
+use Rattle.roster_model.specs.declared.grammar.ArcKey.{ArcKey}
+use Rattle.roster_model.specs.declared.instance.Cut.{Cut}
+use Rattle.roster_model.specs.declared.instance.Instance.{Instance}
+use Rattle.roster_model.specs.declared.instance.Prices.{Prices}
+use Rattle.roster_model.specs.Arcs.{IsArc}
+use Rattle.roster_model.specs.Folds.{sum_n}
+use Rattle.roster_model.specs.Trees.{Parts, IsDayTree}
+use Rattle.bound_laws.specs.linear_programs.Solution.{Weighted, Each as EachKey}
+use Rattle.bound_laws.specs.master_laws.Rows.{Row, rows_of}
+use Rattle.bound_laws.specs.master_laws.Master.{is_artificial}
+use Rattle.bound_laws.specs.master_laws.Sharp.{IsSharp, arc_weight}
+use Rattle.bound_laws.specs.near_laws.Completed.{trees_bring, tree_columns}
+use Rattle.bound_laws.specs.near_laws.Laws.{AreNear}
+
+-- a number over q is at least 2^-12 above b, and at least 2^-12 below b + 1
+pub record IsWellBetween (q b n : ℕ) : Type 0 where
+  pub above : 4096 * (q * b) + q ≤ 4096 * n
+  pub below : 4096 * n + q ≤ 4096 * (q * (b + 1))
+
+-- a number over q is within 2^-12 of k
+pub record IsNearly (q k n : ℕ) : Type 0 where
+  pub above : 4096 * n ≤ 4096 * (q * k) + q
+  pub below : 4096 * (q * k) ≤ 4096 * n + q
+
+abbrev pub IsNearlyWhole : ℕ → ℕ → Type 0
+IsNearlyWhole q n = (k : ℕ) × IsNearly q k n
+
+-- what the trees lack of a row that has an artificial column, times q
+abbrev pub lacking : ℕ → List (Weighted Parts) → Row → ℕ
+lacking q ws x = cond (is_artificial x.sense) (q * x.right - trees_bring x ws) 0
+
+-- artificial columns weigh 2^-20 or more together, where they take what the trees lack
+abbrev pub LackMuch : Instance → List Cut → ℕ → List (Weighted Parts) → Type 0
+LackMuch i cuts q ws = q ≤ 2 ^ 20 * sum_n (lacking q ws) (rows_of i cuts)
+
+-- the weight of the trees that have the arc, times q
+abbrev pub near_weight : ArcKey → List (Weighted Parts) → ℕ
+near_weight a ws = arc_weight a (tree_columns ws)
+
+abbrev pub AreNearlyWhole : Instance → ℕ → List (Weighted Parts) → Type 0
+AreNearlyWhole i q ws = (a : ArcKey) → IsArc i.grammar a → IsNearlyWhole q (near_weight a ws)
+
+-- Weighted trees of the day show that the prices are best, and the arc's weight lies well between b and b + 1, or
+-- they lack much, or the weight of each arc is nearly whole. The margins are there since weights that show prices
+-- best may be moved a little: without them any whole weight could pass for one that is not.
+pub record IsNearSharpBy (i : Instance) (cuts : List Cut) (p : Prices) (a : ArcKey) (b : ℕ)
+    (ws : List (Weighted Parts)) (q : ℕ) : Type 0 where
+  pub positive : 0 < q
+  pub trees : EachKey (IsDayTree i.grammar) ws
+  pub near : AreNear i cuts ws q p
+  pub reason : IsWellBetween q b (near_weight a ws) ⊎ LackMuch i cuts q ws ⊎ AreNearlyWhole i q ws
+
+-- the split of the node on the arc at b is near-sharp for these prices
+abbrev pub IsNearSharp : Instance → List Cut → Prices → ArcKey → ℕ → Type 0
+IsNearSharp i cuts p a b = (ws : List (Weighted Parts)) × (q : ℕ) × IsNearSharpBy i cuts p a b ws q
+
+-- what is promised of a split with prices: it is sharp, or near-sharp for them
+abbrev pub IsSharpFor : Instance → List Cut → Prices → ArcKey → ℕ → Type 0
+IsSharpFor i cuts p a b = IsSharp i cuts a b ⊎ IsNearSharp i cuts p a b

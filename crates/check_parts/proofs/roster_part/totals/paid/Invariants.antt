@@ -1,0 +1,11 @@
+use Rattle.std.proofs.Common.{ℕ, ◌≡◌, ◌≤◌, ◌+◌, ◌*◌, ◌^◌}
+use Rattle.roster_model.specs.Folds.{sum_n}
+use Rattle.certificates.specs.RosterCauses.{stated_prices}
+use Rattle.certificates.proofs.StatedPrices.{rest_paid}
+use Rattle.check_parts.proofs.roster_part.totals.paid.Given as goal
+
+abbrev pub invariant-loop-shift : goal.invariant-loop-shift
+invariant-loop-shift l = record {
+  value : sum_n (λ (p : ℕ). p) (stated_prices l.shifts) ≡ l.sum + rest_paid l.shifts l.shift-index;
+  within : l.sum ≤ 2 ^ 40 * l.shift-index;
+}

@@ -1,7 +1,0 @@
-ghost use Rattle.count_boxes.specs.Paths.{CutsElsewhere};
-
-/// A cut on what is no arc of the instance changes no box: what the cuts of a path leave is also what
-/// they leave with such a cut.
-pub fn cuts_elsewhere()
-    ensures { CutsElsewhere }
-{}

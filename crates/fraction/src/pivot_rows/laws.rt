@@ -1,0 +1,6 @@
+ghost use Rattle.fraction.specs.pivot_rows.Rows.{RowStepsExist};
+
+/// Each row of numbers has a step by each other row.
+pub fn row_steps_exist()
+    ensures { RowStepsExist }
+{}

@@ -1,9 +1,0 @@
-use Rattle.std.proofs.Common.{◌<◌, length, arith, rules}
-use Rattle.std.proofs.lemmas.Option.{slice_get-get_or}
-use Rattle.roster_model.specs.declared.grammar.Sym.TheVariants.{Code}
-use Rattle.grammar_core.proofs.items.item.Goals as goal
-
-pub returns : goal.returns
-returns c =
-    let lt : c.args.suffix < length c.args.right.now = omega arith in
-    record { rule = search rules; suffix = search rules; first = slice_get-get_or c.args.right.now c.args.suffix (Code 0) lt; second = c.second.ensures }

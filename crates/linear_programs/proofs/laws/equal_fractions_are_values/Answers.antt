@@ -1,5 +1,0 @@
-use Rattle.linear_programs.proofs.Values.{equal_value}
-use Rattle.linear_programs.proofs.laws.equal_fractions_are_values.Goals as goal
-
-pub returns : goal.returns
-returns g c = λ v w q r some e value. equal_value (g.P.LinearProgram.program c.args.program.now) v w q r some e value

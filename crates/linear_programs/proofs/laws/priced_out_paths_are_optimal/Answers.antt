@@ -1,6 +1,0 @@
-use Rattle.linear_programs.proofs.Paths.{path_tied}
-use Rattle.linear_programs.proofs.Solutions.{tied_value}
-use Rattle.linear_programs.proofs.laws.priced_out_paths_are_optimal.Goals as goal
-
-pub returns : goal.returns
-returns g c = λ sound n t path. tied_value (g.P.LinearProgram.program c.args.program.now) t (path_tied (g.P.LinearProgram.program c.args.program.now) sound n t path)

@@ -1,0 +1,14 @@
+//! The volume algorithm over the rows of a node's master: prices of the rows, a bound that they show, and trees
+//! that are cheap there.
+
+mod desk;
+mod float;
+mod found;
+mod line;
+mod pace;
+mod passes;
+mod path;
+mod running;
+
+pub use found::{Found, Volume};
+pub use running::volume;

@@ -1,7 +1,0 @@
-use Rattle.std.proofs.Common.{◌<◌, min}
-use Rattle.roster_model.specs.declared.instance.Cell.{Cell}
-use Rattle.priced_part.proofs.ListSearch.{StandsFrom}
-use Rattle.priced_part.proofs.infeasible.has_unmeetable_cell.Given as goal
-
-abbrev pub invariant-loop-cell : goal.invariant-loop-cell
-invariant-loop-cell l = StandsFrom (λ (c : Cell). min c.ceiling l.instance.heads_max < c.floor) l.instance.cells l.cell-index

@@ -1,0 +1,53 @@
+ghost use Rattle.std.specs.Prelude.{ℕ, List as Items, ◌≡◌, ◌++◌, OnOk};
+ghost use Rattle.hex.specs.Hex.{encode_lower};
+ghost use Rattle.sha2.specs.Hashers.{Holds256};
+ghost use Rattle.roster_csv.specs.roster_calendar.Marks.{counted, digest_of, mark_of};
+
+use roster_model::{List, Memory};
+use sha2::{Digest, Sha256};
+use std::alloc::Global;
+use text_lines::put;
+
+// Adds a text behind its length.
+fn add_text(hasher: &mut Sha256, text: &[u8])
+    ensures { (m : Items ℕ) → Holds256 hasher.old m → Holds256 hasher.new (m ++ counted text.now) }
+{
+    hasher.update((text.len() as u64).to_be_bytes());
+    hasher.update(text);
+}
+
+// Returns the digest of a rules text, a demand text and a proof text.
+fn digest_of(rules: &[u8], demand: &[u8], proof: &[u8]) -> [u8; 32]
+    ensures { result ≡ digest_of rules.now demand.now proof.now }
+{
+    let mut hasher = Sha256::new();
+    add_text(&mut hasher, rules);
+    add_text(&mut hasher, demand);
+    add_text(&mut hasher, proof);
+    hasher.finalize()
+}
+
+/// Appends bytes by two hexadecimal digits each.
+///
+/// # Errors
+///
+/// `Memory` where memory runs out; `out` is as it was before then.
+pub(crate) fn put_hexadecimal(alloc: Global, out: &mut List<u8>, bytes: &[u8]) -> Result<(), Memory>
+    ensures { OnOk result (out.new ≡ out.old ++ encode_lower bytes.now) }
+{
+    match hex::encode(alloc, bytes) {
+        Ok(digits) => put(out, digits.as_bytes()),
+        Err(_) => Err(Memory),
+    }
+}
+
+/// Returns what tells the calendars of different texts apart: the first 16 bytes of the SHA-256 over the rules text,
+/// the demand text and the proof text, each behind its length in 8 bytes, big end first.
+pub fn mark_of(rules: &[u8], demand: &[u8], proof: &[u8]) -> [u8; 16]
+    ensures { result ≡ mark_of rules.now demand.now proof.now }
+{
+    let digest = digest_of(rules, demand, proof);
+    let mut mark = [0; 16];
+    mark.copy_from_slice(&digest[..16]);
+    mark
+}

@@ -1,6 +1,0 @@
-use Rattle.std.proofs.Common.{◌-◌}
-use Rattle.roster_split.specs.Splits.{HasBalance, IsSplitting}
-use Rattle.roster_split.proofs.trees.take_trees.Given as goal
-
-abbrev pub invariant-loop : goal.invariant-loop
-invariant-loop l = (asked : HasBalance l.graph l.counts) → IsSplitting asked.g l.graph l.counts l.left.items l.trees l.number (l.number - l.counter)

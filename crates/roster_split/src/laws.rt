@@ -1,7 +1,0 @@
-ghost use Rattle.roster_split.specs.Balanced.{SplitBalanced};
-
-/// Numbers that are balanced at every name and suffix save the root are the counts of the arcs of a
-/// list of the day's trees, as many as the root's count.
-pub fn split_balanced()
-    ensures { SplitBalanced }
-{}

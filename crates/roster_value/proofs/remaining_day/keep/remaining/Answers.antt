@@ -1,0 +1,10 @@
+use Rattle.std.proofs.Common.{arith}
+use Rattle.roster_value.proofs.FoundPrices.{found-length}
+use Rattle.roster_value.proofs.remaining_day.keep.remaining.Goals as goal
+
+pub found_of-requires-clause-shifts : goal.found_of-requires-clause-shifts
+found_of-requires-clause-shifts c = record { few = c.requires.few; each = c.requires.shifts }
+
+pub causes_of-requires-clause-found : goal.causes_of-requires-clause-found
+causes_of-requires-clause-found c =
+    rw c.as_slice.ensures (omega (arith, found-length c.args.instance.now c.args.kept.now c.in_ok-found.found c.in_ok-found.ensures, c.requires.few))

@@ -1,0 +1,21 @@
+-- The texts that tell what remains of a day.
+use Rattle.std.specs.Prelude.{ℕ, List, [], ◌∷◌, ◌++◌, codes}
+use Rattle.std.specs.Fmt.{decimal}
+use Rattle.roster_model.specs.Demands.{Demand}
+use Rattle.demand_text.specs.Written.{demand_text}
+use Rattle.text_lines.specs.Written.{tail}
+use Rattle.roster_value.specs.declared.remaining_day.answer.Rest.{Rest}
+
+-- a number behind a space
+abbrev pub spaced_number : ℕ → List ℕ
+spaced_number n = tail (decimal n ∷ [])
+
+-- the comment's text behind the `#`: how many shifts are kept, their prices and their penalty
+abbrev pub kept_comment : ℕ → Rest → List ℕ
+kept_comment count rest =
+    codes " kept shifts" ++ spaced_number count ++ codes ", paid" ++ spaced_number rest.paid
+    ++ codes ", penalty" ++ spaced_number rest.penalty
+
+-- the comment line, and the demand text of the remaining day behind it
+abbrev pub rest_text : ℕ → Rest → List Demand → List ℕ
+rest_text count rest ds = 35 ∷ kept_comment count rest ++ 10 ∷ demand_text rest.day ds

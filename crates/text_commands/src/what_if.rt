@@ -1,0 +1,5 @@
+//! Commands that ask what a roster comes to that anybody wrote, and what remains beside it. They store
+//! nothing.
+
+pub mod rest;
+pub mod value;

@@ -1,5 +1,0 @@
-use Rattle.tree_laws.proofs.Bounds.{sum-small}
-use Rattle.tree_laws.proofs.laws.small_sums.Goals as goal
-
-pub returns : goal.returns
-returns c = λ g p r k ss i l t z sound all most h e. sum-small g sound p all r k i l ss t z most h e

@@ -1,5 +1,0 @@
-use Rattle.tree_laws.proofs.Ends.{rule-least}
-use Rattle.tree_laws.proofs.laws.split_by_rule.Goals as goal
-
-pub returns : goal.returns
-returns c = λ g p q x i l rule a at left stands some h. rule-least g p i l q x rule a at left stands some h

@@ -1,6 +1,0 @@
-//! Commands that ask what a roster comes to that anybody wrote, and what remains beside it. They store
-//! nothing.
-#![tactic(auto)]
-
-pub mod rest;
-pub mod value;

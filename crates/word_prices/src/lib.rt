@@ -1,8 +1,0 @@
-//! Prices under which the least sum of the day's trees is the price of one word.
-#![tactic(auto)]
-
-mod laws;
-mod prices;
-
-pub use laws::{least_tree, shift_length, word_sums};
-pub use prices::WordPrices;
