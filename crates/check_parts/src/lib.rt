@@ -1,4 +1,5 @@
-//! the parts of the checker: pinned leaves, prices, a stated roster
+//! The parts of the checker of certificates: what is wrong with a stated roster, what prices show at a list of
+//! cuts, and what a leaf costs whose counts are pinned.
 #![tactic(auto)]
 
 pub mod pinned_part;

@@ -1,4 +1,5 @@
-//! Transcripts of the program over shelves in memory, as tests over public calls.
+//! Transcripts of the program over shelves in memory, what is said where a call is refused and what is noted to a
+//! person, as tests over public calls.
 #![tactic(auto)]
 
 #[cfg(test)]

@@ -1,5 +1,5 @@
 //! A sound day, solved: its graph is built, a search finds a roster and a bound, and the text of its
-//! certificate is written.
+//! certificate is written. So is the curve of a day's least costs over the number of its employees.
 #![tactic(auto)]
 
 pub mod day_curve;

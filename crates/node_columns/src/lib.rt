@@ -1,5 +1,5 @@
 //! The columns of the master of one node: trees and the rows' own, listed on a desk, found by a
-//! cheapest tree, and their weights.
+//! cheapest tree, and their weights; and the volume algorithm over its rows.
 #![tactic(auto)]
 
 mod columns;

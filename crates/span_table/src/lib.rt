@@ -1,4 +1,5 @@
-//! The plain table: the least sums of all trees of a grammar, by symbol or suffix and span.
+//! The plain table: the least sums of all trees of a grammar, by symbol or suffix and span; and those of the trees
+//! that have a code at a period.
 #![tactic(auto)]
 
 mod next_codes;

@@ -1,5 +1,6 @@
 //! Commands that answer from texts alone: what a word costs, the first trees of a day, what may come next,
-//! what fits, and whether a certificate is accepted. They store nothing.
+//! what fits, whether a certificate is accepted, what a stated roster comes to and what remains beside kept shifts.
+//! They store nothing.
 #![tactic(auto)]
 
 pub mod check;
