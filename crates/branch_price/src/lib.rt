@@ -34,7 +34,7 @@ mod value;
 
 pub use branching::{search, search_from};
 pub use found::Found;
-pub use node_master::{FailingMaster, Master, NearMaster, PlainMaster, Pool};
+pub use node_master::{Master, PlainMaster, Pool};
 pub use roster_model::Done;
 pub use search_watch::{ClockWatch, Standing, SteadyWatch, Subject, TurnWatch, Watch};
 pub use start::Start;

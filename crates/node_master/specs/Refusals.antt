@@ -1,9 +1,7 @@
 -- How a node ends over any master, what licenses a refusal, and how refusals are counted.
-use Rattle.std.specs.Prelude.{ℕ, ◌≡◌, ◌<◌, ◌≤◌, ◌+◌, ◌-◌, ◌^◌, ◌&&◌, ◌||◌, min, not, nat_eq, Bool, true, false, IsTrue, List, [], ◌∷◌, length, Result, Ok}
-use Rattle.std.specs.List.{list_any}
+use Rattle.std.specs.Prelude.{ℕ, ◌≡◌, ◌<◌, ◌≤◌, ◌+◌, ◌-◌, ◌^◌, min, Bool, IsTrue, List, length}
 use Rattle.roster_model.specs.declared.instance.Cut.{Cut}
 use Rattle.roster_model.specs.declared.instance.Instance.{Instance}
-use Rattle.roster_model.specs.declared.memory.Memory.{Memory as MemoryLack}
 use Rattle.bound_laws.specs.master_laws.Rows.{rows_of}
 use Rattle.bound_laws.specs.master_laws.Sharp.{IsHard}
 use Rattle.tree_pool.specs.Pools.{PoolTree}
@@ -40,19 +38,3 @@ counted n (Near prices weights) = n
 counted n (Failed (Rows count)) = n
 counted n (Failed (Wide fault)) = one_more n
 counted n (Failed (Spent pivots)) = one_more n
-
-abbrev pub is_empty : List ℕ → Bool
-is_empty [] = true
-is_empty (x ∷ xs) = false
-
--- a master that never fails of its own
-abbrev pub is_none_listed : Bool → List ℕ → Bool
-is_none_listed every calls = not every && is_empty calls
-
--- whether a master fails of its own at the call of this number: at every call, or at those that are listed
-abbrev pub fails_at : Bool → List ℕ → ℕ → Bool
-fails_at every calls n = every || list_any (λ y. nat_eq y n) calls
-
--- what it answers then
-abbrev pub failure : Result NodeEnd MemoryLack
-failure = Ok (Failed (Spent 0))

@@ -1,5 +1,5 @@
-ghost use Rattle.std.specs.Prelude.{◌≡◌, ◌≤◌, IfOk, true};
-ghost use Rattle.node_master.specs.Refusals.{EndsWell, counted, one_more};
+ghost use Rattle.std.specs.Prelude.{◌≡◌, IfOk, true};
+ghost use Rattle.node_master.specs.Refusals.{EndsWell, counted};
 ghost use Rattle.node_master.specs.Tasks.{AreTools, StayTools, IsBusyNode};
 
 use crate::master::Master;
@@ -20,8 +20,6 @@ pub struct PlainMaster {
     refused: u64,
     /// The last bases of nodes: hints.
     bases: Option<Bases>,
-    /// Which way to prices is gone first.
-    first: First,
 }
 
 /// Says whether a node was given up for a number that was too wide.
@@ -56,18 +54,10 @@ impl PlainMaster {
     pub fn new() -> PlainMaster
         ensures { result.refused ≡ 0 }
     {
-        PlainMaster::with_first(First::BySize)
-    }
-
-    /// Returns a master that has refused no node, and goes this way to prices first.
-    pub(crate) fn with_first(first: First) -> PlainMaster
-        ensures { result.refused ≡ 0 }
-    {
         PlainMaster {
             tally: Tally::new(),
             refused: 0,
             bases: None,
-            first,
         }
     }
 
@@ -97,7 +87,7 @@ impl PlainMaster {
     {
         let mut steering = Steering {
             wanted,
-            first: self.first,
+            first: First::BySize,
             bases: kept(alloc, self.bases.take()),
         };
         let end = solve_node_from(
@@ -136,15 +126,6 @@ impl PlainMaster {
         }
         drop(end);
         self.solve(alloc, day, cuts, &[], pricer, pool)
-    }
-
-    // Counts a node that is refused without being looked at.
-    pub(crate) fn refuse(&mut self)
-        ensures rises { self.old.refused ≤ self.new.refused }
-        ensures counts { self.new.refused ≡ one_more self.old.refused }
-    {
-        let refused = self.refused;
-        self.refused = refused.saturating_add(1);
     }
 }
 

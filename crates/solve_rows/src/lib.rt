@@ -6,6 +6,8 @@ mod carried;
 #[cfg(test)]
 mod days;
 #[cfg(test)]
+mod failing;
+#[cfg(test)]
 mod reused;
 #[cfg(test)]
 mod searches;

@@ -8,9 +8,8 @@ use crate::days::{
     CROWD_DAY, FLOOR_DAY, FREE_DAY, FULL_DAY, FULL_GROUP_DAY, IDLE_DAY, IDLE_GROUP_DAY, NAMED_DAY,
     UNEVEN_DAY, UNNAMED_DAY, graph_of, long_day,
 };
-use branch_price::{
-    Done, FailingMaster, Found, Master, NearMaster, PlainMaster, Pool, SteadyWatch, search,
-};
+use crate::failing::FailingMaster;
+use branch_price::{Done, Found, Master, PlainMaster, Pool, SteadyWatch, search};
 use certificates::{Cert, Node};
 use parse_graph::Graph;
 use proof_check::{Bench, Verdict};
@@ -195,33 +194,16 @@ fn finds(alloc: Global, day: &Instance, case: &Case<'_>) -> Result<bool, Fail>
     Ok(is_found(&found, case) && is_accepted(alloc, day, &found.cert)?)
 }
 
-/// Whether a search that asks for near prices first ends as the row tells; that it does so in as many turns is
-/// not asked where the turns run out.
-fn ends_nearly(alloc: Global, day: &Instance, case: &Case<'_>) -> Result<bool, Fail>
-    requires day { IsSoundInstance day.now }
-    requires some { 1 ≤ case.now.turns }
-    requires few { case.now.turns ≤ 10000 }
-{
-    if case.end.done == Done::TurnsOut {
-        return Ok(true);
-    }
-    let found = searched(alloc, day, case.turns, &mut NearMaster::new())?;
-    Ok(is_end(&found, &case.end) && is_accepted(alloc, day, &found.cert)?)
-}
-
 fn show_on(alloc: Global, day: &Instance, case: &Case<'_>) -> Result<(), Fail>
     requires { IsSoundInstance day.now }
 {
     if case.turns < 1 || 10_000 < case.turns {
         return Err(Fail::from("no such turns"));
     }
-    if !finds(alloc, day, case)? {
-        return Err(Fail::from(case.what));
-    }
-    if ends_nearly(alloc, day, case)? {
+    if finds(alloc, day, case)? {
         return Ok(());
     }
-    Err(Fail::from("near prices first"))
+    Err(Fail::from(case.what))
 }
 
 fn show(alloc: Global, case: &Case<'_>) -> Result<(), Fail> {

@@ -1,11 +1,11 @@
 ghost use Rattle.std.specs.Prelude.{◌≡◌, IsTrue, true};
-ghost use Rattle.node_master.specs.Refusals.{fails_at, is_none_listed};
+ghost use Rattle.node_master.specs.Refusals.{counted};
+ghost use Rattle.solve_rows.specs.Failing.{fails_at, is_none_listed};
 
-use crate::master::Master;
-use crate::plain::PlainMaster;
-use crate::{Cause, NodeEnd, Pool};
+use branch_price::{Master, PlainMaster, Pool};
 use cheapest_tree::Pricer;
 use master_rows::count_rows;
+use node_master::{Cause, NodeEnd};
 use parse_graph::Graph;
 use roster_model::{Cut, Instance, Memory};
 use std::alloc::Global;
@@ -20,7 +20,22 @@ pub struct FailingMaster {
     every: bool,
     calls: Vec<u32>,
     called: u32,
+    refused: u64,
     plain: PlainMaster,
+}
+
+/// Returns the count of refusals after the end of a node.
+fn count_end(refused: u64, end: &NodeEnd) -> u64
+    ensures { result ≡ counted refused end.now }
+{
+    match end {
+        NodeEnd::Best { .. } | NodeEnd::Near { .. } | NodeEnd::Failed(Cause::Rows { .. }) => {
+            refused
+        }
+        NodeEnd::Failed(Cause::Wide(_)) | NodeEnd::Failed(Cause::Spent { .. }) => {
+            refused.saturating_add(1)
+        }
+    }
 }
 
 impl FailingMaster {
@@ -30,21 +45,22 @@ impl FailingMaster {
         ensures every { result.every ≡ every }
         ensures calls { result.calls ≡ calls }
         ensures called { result.called ≡ 0 }
-        ensures none { result.plain.refused ≡ 0 }
+        ensures none { result.refused ≡ 0 }
     {
         FailingMaster {
             every,
             calls,
             called: 0,
+            refused: 0,
             plain: PlainMaster::new(),
         }
     }
 
     /// Returns how many nodes were refused; it stays at the last value of a u64.
     pub fn refused(&self) -> u64
-        ensures { result ≡ self.now.plain.refused }
+        ensures { result ≡ self.now.refused }
     {
-        self.plain.refused()
+        self.refused
     }
 
     // Says whether it fails at this call.
@@ -59,10 +75,11 @@ impl FailingMaster {
 impl Master for FailingMaster {
     ghost use Rattle.std.specs.Prelude.{◌≡◌, ◌≤◌, ◌+◌, ◌-◌, ◌^◌, min, true, false, IfOk, MatchResult, length};
     ghost use Rattle.bound_laws.specs.master_laws.Rows.{rows_of};
-    ghost use Rattle.node_master.specs.Refusals.{EndsWell, counted, fails_at, failure, is_none_listed};
+    ghost use Rattle.node_master.specs.Refusals.{EndsWell, counted};
+    ghost use Rattle.solve_rows.specs.Failing.{fails_at, failure, is_none_listed};
     ghost use Rattle.node_master.specs.Tasks.{AreTools, StayTools, IsBusyNode};
 
-    ghost refused = { λ m. m.plain.refused };
+    ghost refused = { λ m. m.refused };
 
     ghost strict = { λ m. is_none_listed m.every m.calls.items };
 
@@ -89,10 +106,10 @@ impl Master for FailingMaster {
         ensures end { IfOk result (EndsWell instance.now cuts.now pool.new
             (is_none_listed self.old.every self.old.calls.items)) }
         ensures counts { MatchResult result
-            (λ end. self.new.plain.refused ≡ counted self.old.plain.refused end)
-            (λ fault. self.new.plain.refused ≡ self.old.plain.refused) }
-        ensures rises { self.old.plain.refused ≤ self.new.plain.refused }
-        ensures within { self.new.plain.refused ≤ 2 ^ 64 - 1 }
+            (λ end. self.new.refused ≡ counted self.old.refused end)
+            (λ fault. self.new.refused ≡ self.old.refused) }
+        ensures rises { self.old.refused ≤ self.new.refused }
+        ensures within { self.new.refused ≤ 2 ^ 64 - 1 }
         ensures strict_stays { is_none_listed self.new.every self.new.calls.items
             ≡ is_none_listed self.old.every self.old.calls.items }
         ensures tools { StayTools (record { instance = instance.entry; graph = graph.entry })
@@ -100,10 +117,13 @@ impl Master for FailingMaster {
     {
         self.called = self.called.saturating_add(1);
         if count_rows(instance, cuts) <= ROWS && self.fails() {
-            self.plain.refuse();
+            self.refused = self.refused.saturating_add(1);
             return Ok(NodeEnd::Failed(Cause::Spent { pivots: 0 }));
         }
-        self.plain
-            .node(alloc, instance, graph, pricer, pool, cuts, wanted)
+        let end = self
+            .plain
+            .node(alloc, instance, graph, pricer, pool, cuts, wanted)?;
+        self.refused = count_end(self.refused, &end);
+        Ok(end)
     }
 }
