@@ -3,22 +3,41 @@ ghost use Rattle.roster_model.specs.SoundInstance.{IsSoundInstance};
 ghost use Rattle.certificates.specs.Sound.{IsSoundCert};
 ghost use Rattle.proof_check.specs.Benches.{IsBenchFor, node_room};
 
-use crate::days::{
-    BLOCK_DAY, EXACT_DAY, FLOOR_DAY, FREE_DAY, FULL_DAY, GROUP_DAY, ONE_DAY, PAIR_DAY,
-};
 use certificate_text::read_cert;
 use certificates::{Cert, Why};
 use proof_check::{Bench, Judged, Verdict};
 use proof_pieces::{CertRoom, PieceFault};
-use roster_model::{ArcKey, Instance, Memory};
-use sample_days::{ANY, DayParts, PAIR_PARTS, REST, RuleParts, WORK, sound_day};
+use roster_model::{ArcKey, Cell, Instance, Memory};
+use sample_days::{BLOCK_PARTS, CELL, DayParts, FULL_DAYS, ONE_PARTS, PAIR_PARTS, sound_day};
 use std::alloc::{AllocError, Global};
 use std::test::Fail;
+
+/// One block of two or three of four periods, where the inner periods need two employees.
+static BLOCK_DAY: DayParts<'static> = BLOCK_PARTS;
+
+const FULL_CELLS: [Cell; 2] = [CELL, Cell { period: 2, ..CELL }];
+
+/// Both of two periods at 5 or at 3, for one employee, where each period needs one.
+static FULL_DAY: DayParts<'static> = DayParts {
+    periods: 2,
+    names: &["S", "T"],
+    rules: &FULL_DAYS,
+    start: 0,
+    heads: (1, 1),
+    groups: &[],
+    cells: &FULL_CELLS,
+};
+
+/// One period, where each shift has two or three, for one or two employees. A roster costs at most 26.
+static ONE_DAY: DayParts<'static> = ONE_PARTS;
+
+/// Two of three periods at 2, where each period needs one employee.
+static PAIR_DAY: DayParts<'static> = PAIR_PARTS;
 
 /// A proof text, and the verdict on its certificate.
 type Case<'a> = (&'a str, Verdict);
 
-/// Whether a text is judged piece by piece as it is to be, twice at one bench.
+/// Whether a text is judged piece by piece as it is to be.
 fn judges_text(
     day: &Instance,
     bench: &mut Bench,
@@ -31,9 +50,7 @@ fn judges_text(
     requires nodes { node_room bench.old ≡ 20001 }
     requires made { length day.now.cells ≤ room.old.most }
 {
-    let first = bench.judge_text(day, text.as_bytes(), room);
-    let second = bench.judge_text(day, text.as_bytes(), room);
-    first == *want && second == *want
+    bench.judge_text(day, text.as_bytes(), room) == *want
 }
 
 /// Whether a text is judged so at a bench of its own, in a room.
@@ -59,16 +76,14 @@ fn judges_pieces(alloc: Global, day: &Instance, text: &str, want: &Judged) -> Re
     Ok(judges_in(alloc, day, &mut room, text, want)?)
 }
 
-/// Whether a certificate is judged as it is to be, twice at one bench.
+/// Whether a certificate is judged as it is to be.
 fn judges_at(day: &Instance, bench: &mut Bench, cert: &Cert, want: &Verdict) -> bool
     requires day { IsSoundInstance day.now }
     requires cert { IsSoundCert day.now cert.now }
     requires bench { IsBenchFor day.now bench.old }
     requires room { length cert.now.nodes ≤ node_room bench.old }
 {
-    let first = bench.judge(day, cert);
-    let second = bench.judge(day, cert);
-    first == *want && second == *want
+    bench.judge(day, cert) == *want
 }
 
 /// Whether a certificate is judged so at a bench of its own.
@@ -116,7 +131,7 @@ fn judge_all(alloc: Global, parts: &DayParts, cases: &[Case<'_>]) -> Result<(), 
     judge_on(alloc, &day, cases)
 }
 
-static BLOCK_CASES: [Case<'static>; 9] = [
+static BLOCK_CASES: [Case<'static>; 4] = [
     (
         "proof 1\ncost 10\nbound 10\nshift .aaa 5\nshift aaa. 5\npriced 1\nprice a 1 2 2 1\nend\n",
         Verdict::Yes {
@@ -138,38 +153,6 @@ static BLOCK_CASES: [Case<'static>; 9] = [
     (
         "proof 1\ncost 10\nbound 10\nshift aaaa 6\nshift aaa. 5\npriced 1\nprice a 1 2 2 1\nend\n",
         Verdict::No(Why::NotAShift { shift: 1 }),
-    ),
-    (
-        "proof 1\ncost 10\nbound 0\nshift .aaa 5\nshift aaa. 5\nbare\nend\n",
-        Verdict::Yes {
-            cost: Some(10),
-            bound: Some(0),
-        },
-    ),
-    (
-        "proof 1\ncost 10\nbound 1\nshift .aaa 5\nshift aaa. 5\nbare\nend\n",
-        Verdict::No(Why::BoundTooHigh {
-            said: Some(1),
-            shown: Some(0),
-        }),
-    ),
-    (
-        "proof 1\ncost 9\nbound 1\nshift .aaa 5\nshift aaa. 5\nbare\nend\n",
-        Verdict::No(Why::WrongCost { said: 9, found: 10 }),
-    ),
-    (
-        "proof 1\ncost none\nbound 0\nbare\nend\n",
-        Verdict::Yes {
-            cost: None,
-            bound: Some(0),
-        },
-    ),
-    (
-        "proof 1\ncost none\nbound 1\nbare\nend\n",
-        Verdict::No(Why::BoundTooHigh {
-            said: Some(1),
-            shown: Some(0),
-        }),
     ),
 ];
 
@@ -195,12 +178,13 @@ static FULL_CASES: [Case<'static>; 3] = [
     ),
 ];
 
+// No roster is allowed: the bound may be 27 at most, which stands for none.
 static ONE_CASES: [Case<'static>; 2] = [
     (
-        "proof 1\ncost none\nbound none\npriced 1\nprice a 0\nend\n",
+        "proof 1\ncost none\nbound 27\npriced 1\nprice a 0\nend\n",
         Verdict::Yes {
             cost: None,
-            bound: None,
+            bound: Some(27),
         },
     ),
     (
@@ -212,14 +196,6 @@ static ONE_CASES: [Case<'static>; 2] = [
     ),
 ];
 
-static FREE_CASES: [Case<'static>; 1] = [(
-    "proof 1\ncost 10\nbound 10\npriced 1\nprice a 10\nend\n",
-    Verdict::Yes {
-        cost: Some(10),
-        bound: Some(10),
-    },
-)];
-
 const ARC: ArcKey = ArcKey {
     rule: 1,
     suffix: 0,
@@ -228,7 +204,7 @@ const ARC: ArcKey = ArcKey {
     part: 1,
 };
 
-static PAIR_CASES: [Case<'static>; 8] = [
+static PAIR_CASES: [Case<'static>; 6] = [
     (
         "proof 1\ncost 4\nbound 4\nshift .aa 2\nshift aa. 2\nsplit 1 0 1 3 1 0\npriced 1\nprice a 2 2 0\nmult 1 2\npriced 1\nprice a 0 0 2\nmult 1 2\nend\n",
         Verdict::Yes {
@@ -242,13 +218,6 @@ static PAIR_CASES: [Case<'static>; 8] = [
             said: Some(4),
             shown: Some(2),
         }),
-    ),
-    (
-        "proof 1\ncost 4\nbound 3\nshift .aa 2\nshift aa. 2\nsplit 1 0 1 3 1 0 1\nprice a 1 1 1\nbare\nbare\nend\n",
-        Verdict::Yes {
-            cost: Some(4),
-            bound: Some(3),
-        },
     ),
     (
         "proof 1\ncost 4\nbound 0\nshift .aa 2\nshift aa. 2\npriced 1073741824\nprice a 1208925819614629174706176 1208925819614629174706176 1208925819614629174706176\nend\n",
@@ -269,96 +238,6 @@ static PAIR_CASES: [Case<'static>; 8] = [
         "proof 1\ncost 4\nbound 0\nshift .aa 2\nshift aa. 2\npinned\nend\n",
         Verdict::No(Why::NotPinned { node: 1, arc: ARC }),
     ),
-    // The least number comes first, whatever the order of the nodes.
-    (
-        "proof 1\ncost 4\nbound 0\nshift .aa 2\nshift aa. 2\nsplit 1 0 1 3 1 0\npinned\nsplit 2 0 1 3 1 5\nsplit 1 0 1 3 2 0\nbare\nbare\nbare\nend\n",
-        Verdict::No(Why::NotAnArc { node: 4 }),
-    ),
-];
-
-const ONE_PAIR_RULES: [RuleParts<'static>; 1] = [(0, 2, &[WORK, WORK, REST], ANY)];
-
-/// The first of the three shifts of pairs alone, for one employee.
-static ONE_PAIR_DAY: DayParts<'static> = DayParts {
-    rules: &ONE_PAIR_RULES,
-    heads: (0, 1),
-    ..PAIR_PARTS
-};
-
-// The one shift costs 2 and leaves a period; nobody leaves three.
-static ONE_PAIR_CASES: [Case<'static>; 2] = [
-    (
-        "proof 1\ncost 12\nbound 12\nshift aa. 2\nsplit 1 0 1 3 1 0\nsplit 1 1 2 2 1 0\npinned\npinned\nsplit 1 1 2 2 1 0\npinned\npinned\nend\n",
-        Verdict::Yes {
-            cost: Some(12),
-            bound: Some(12),
-        },
-    ),
-    (
-        "proof 1\ncost 12\nbound 13\nshift aa. 2\nsplit 1 0 1 3 1 0\nsplit 1 1 2 2 1 0\npinned\npinned\nsplit 1 1 2 2 1 0\npinned\npinned\nend\n",
-        Verdict::No(Why::BoundTooHigh {
-            said: Some(13),
-            shown: Some(12),
-        }),
-    ),
-];
-
-static FLOOR_CASES: [Case<'static>; 1] = [(
-    "proof 1\ncost 4\nbound 0\nshift .aa 2\nshift aa. 2\nbare\nend\n",
-    Verdict::Yes {
-        cost: Some(4),
-        bound: Some(0),
-    },
-)];
-
-static EXACT_CASES: [Case<'static>; 3] = [
-    (
-        "proof 1\ncost 4\nbound 0\nshift .aa 2\nshift aa. 2\nbare\nend\n",
-        Verdict::No(Why::Outside {
-            code: b'a',
-            period: 2,
-            have: 2,
-        }),
-    ),
-    (
-        "proof 1\ncost none\nbound none\nsplit 1 0 1 3 1 0\npriced 1\nprice a 59 59 -57\nmult 1 116\npriced 1\nprice a -57 -57 59\nmult 1 116\nend\n",
-        Verdict::Yes {
-            cost: None,
-            bound: None,
-        },
-    ),
-    (
-        "proof 1\ncost none\nbound none\nsplit 1 0 1 3 1 0\npriced 1\nprice a 59 59 -57\nmult 1 115\npriced 1\nprice a -57 -57 59\nmult 1 116\nend\n",
-        Verdict::No(Why::BoundTooHigh {
-            said: None,
-            shown: Some(58),
-        }),
-    ),
-];
-
-static GROUP_CASES: [Case<'static>; 4] = [
-    (
-        "proof 2\ncost 4\nbound 4\nshift F aa 3\nshift H a. 1\npriced 2\nprice a 3 3\nmult 2 1\nend\n",
-        Verdict::Yes {
-            cost: Some(4),
-            bound: Some(4),
-        },
-    ),
-    (
-        "proof 2\ncost 4\nbound 4\nshift F aa 3\nshift H a. 1\npriced 2\nprice a 3 3\nend\n",
-        Verdict::No(Why::BoundTooHigh {
-            said: Some(4),
-            shown: Some(3),
-        }),
-    ),
-    (
-        "proof 2\ncost 4\nbound 4\nshift H aa 3\nshift H a. 1\npriced 2\nprice a 3 3\nmult 2 1\nend\n",
-        Verdict::No(Why::NotAShift { shift: 1 }),
-    ),
-    (
-        "proof 2\ncost 13\nbound 4\nshift F aa 3\npriced 2\nprice a 3 3\nmult 2 1\nend\n",
-        Verdict::No(Why::WrongHeads { group: 2, count: 0 }),
-    ),
 ];
 
 #[test]
@@ -372,30 +251,13 @@ fn verdicts_on_full_days(rt: HostRuntime) -> Result<(), Fail> {
 }
 
 #[test]
-fn verdicts_on_one_period(rt: HostRuntime) -> Result<(), Fail> {
-    judge_all(rt.alloc(), &ONE_DAY, &ONE_CASES)?;
-    judge_all(rt.alloc(), &FREE_DAY, &FREE_CASES)
+fn verdicts_where_no_roster_is_allowed(rt: HostRuntime) -> Result<(), Fail> {
+    judge_all(rt.alloc(), &ONE_DAY, &ONE_CASES)
 }
 
 #[test]
 fn verdicts_on_pairs(rt: HostRuntime) -> Result<(), Fail> {
     judge_all(rt.alloc(), &PAIR_DAY, &PAIR_CASES)
-}
-
-#[test]
-fn verdicts_on_one_pair(rt: HostRuntime) -> Result<(), Fail> {
-    judge_all(rt.alloc(), &ONE_PAIR_DAY, &ONE_PAIR_CASES)
-}
-
-#[test]
-fn verdicts_on_floors_and_ceilings(rt: HostRuntime) -> Result<(), Fail> {
-    judge_all(rt.alloc(), &FLOOR_DAY, &FLOOR_CASES)?;
-    judge_all(rt.alloc(), &EXACT_DAY, &EXACT_CASES)
-}
-
-#[test]
-fn verdicts_on_groups(rt: HostRuntime) -> Result<(), Fail> {
-    judge_all(rt.alloc(), &GROUP_DAY, &GROUP_CASES)
 }
 
 /// Whether a text is judged so, piece by piece, on the day of pairs.

@@ -1,11 +1,7 @@
-ghost use Rattle.std.specs.Prelude.{◌≤◌};
-
 use roster_model::CodeDef;
 use shift_figures::{
-    Lack, Saving, Stretch, covered_share, paid_periods, runs_of, saving_at, stretch_of,
-    work_periods,
+    Saving, Stretch, covered_share, paid_periods, saving_at, stretch_of, work_periods,
 };
-use std::alloc::Global;
 
 /// A code of work and two that are none.
 const CODES: [CodeDef; 3] = [
@@ -47,35 +43,4 @@ fn savings(rt: HostRuntime) {
         permille: 334,
     };
     assert!(rt; saving_at(3, 2) == third);
-}
-
-// A period of the first code.
-fn lack(period: u8, count: u8) -> Lack
-    ensures { result.cost ≤ 1275 }
-{
-    Lack {
-        code: 0,
-        period,
-        count: u32::from(count),
-        cost: 5 * u64::from(count),
-    }
-}
-
-// Whether these numbers are two runs: one of periods 2 and 3, and one of period 4.
-fn are_two(alloc: Global) -> bool {
-    let lacks = [lack(1, 0), lack(2, 1), lack(3, 1), lack(4, 2), lack(5, 0)];
-    let Ok(runs) = runs_of(alloc, &lacks) else {
-        return false;
-    };
-    match runs.as_slice() {
-        [one, two] => {
-            one.first == 2 && one.last == 3 && one.cost == 10 && two.first == 4 && two.cost == 10
-        }
-        _ => false,
-    }
-}
-
-#[test]
-fn runs(rt: HostRuntime) {
-    assert!(rt; are_two(rt.alloc()));
 }

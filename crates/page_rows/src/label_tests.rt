@@ -1,82 +1,10 @@
-ghost use Rattle.std.specs.Prelude.{IfOk};
 ghost use Rattle.roster_model.specs.SoundInstance.{IsSoundInstance};
 
-use demand_text::read_demand;
-use page_labels::{
-    Clock, code_words, fault_line, group_words, put_duration, put_time, read_labels,
-};
+use crate::days::day;
+use page_labels::{Clock, code_words, group_words, put_duration, put_time, read_labels};
 use roster_model::{Instance, List};
-use rules_text::read_rules;
-use std::alloc::{AllocError, Global};
+use std::alloc::Global;
 use std::test::Fail;
-
-/// A day of four periods with a code of work and two that are none, and the name of a group.
-const RULES: &str = "
-periods 4
-work a
-idle . p
-start S
-rule S 0 = 'a' 'p' 'a' '.'
-rule S 0 = '.' 'a' 'a' '.'
-";
-
-const DEMAND: &str = "group S 0 4\n";
-
-// The instance of the day.
-fn instance(alloc: Global) -> Result<Instance, Fail>
-    ensures { IfOk result IsSoundInstance }
-{
-    let Ok(grammar) = read_rules(alloc, RULES.as_bytes()) else {
-        return Err(Fail::from("rules"));
-    };
-    match read_demand(alloc, grammar, DEMAND.as_bytes()) {
-        Ok(instance) => Ok(instance),
-        Err(_) => Err(Fail::from("demand")),
-    }
-}
-
-// Whether a text is refused for an instance with this line.
-fn is_refused(alloc: Global, instance: &Instance, text: &[u8], line: &str) -> bool
-    requires { IsSoundInstance instance.now }
-{
-    match read_labels(alloc, instance, text) {
-        Ok(_) => false,
-        Err(fault) => match fault_line(alloc, &fault) {
-            Ok(said) => said.as_slice() == line.as_bytes(),
-            Err(_) => false,
-        },
-    }
-}
-
-// Whether a text is refused with this line.
-fn has_fault(alloc: Global, text: &[u8], line: &str) -> Result<bool, Fail> {
-    let instance = instance(alloc)?;
-    Ok(is_refused(alloc, &instance, text, line))
-}
-
-/// Texts, and the line of each one's fault.
-const FAULTS: [(&str, &str); 12] = [
-    ("title\n", "labels: line 1: unknown line\n"),
-    ("titel Monday\n", "labels: line 1: unknown line\n"),
-    ("title a\n\ntitle b\n", "labels: line 3: said twice\n"),
-    ("clock 7:00\n", "labels: line 1: unknown line\n"),
-    ("clock 7:0 15\n", "labels: line 1: bad number\n"),
-    ("clock 24:00 15\n", "labels: line 1: out of range\n"),
-    ("clock 7:00 1441\n", "labels: line 1: out of range\n"),
-    ("code b desk\n", "labels: line 1: unknown code\n"),
-    ("code a desk\ncode a hall\n", "labels: line 2: said twice\n"),
-    ("group T nurses\n", "labels: line 1: no such name\n"),
-    ("paid a yes\n", "labels: line 1: bad name\n"),
-    ("paid p maybe\n", "labels: line 1: unknown line\n"),
-];
-
-#[test]
-fn faults(rt: HostRuntime) -> Result<(), Fail> {
-    for (text, line) in &FAULTS {
-        assert!(rt; has_fault(rt.alloc(), text.as_bytes(), line)?, "{text}");
-    }
-    Ok(())
-}
 
 // Whether the labels of a text are these.
 fn says_all(alloc: Global, instance: &Instance) -> bool
@@ -101,7 +29,7 @@ fn says_all(alloc: Global, instance: &Instance) -> bool
 
 #[test]
 fn all_lines(rt: HostRuntime) -> Result<(), Fail> {
-    let instance = instance(rt.alloc())?;
+    let instance = day(rt.alloc(), "group S 0 4\n")?;
     let says = says_all(rt.alloc(), &instance);
     drop(instance);
     assert!(rt; says);
@@ -115,13 +43,7 @@ fn is_time(alloc: Global, clock: Clock, passed: u8, text: &str) -> bool {
 }
 
 /// Periods of a quarter of an hour from 23:30 on, and the time behind each.
-const TIMES: [(u8, &str); 5] = [
-    (0, "23:30"),
-    (1, "23:45"),
-    (2, "0:00 +1"),
-    (4, "0:30 +1"),
-    (96, "23:30 +1"),
-];
+const TIMES: [(u8, &str); 3] = [(0, "23:30"), (2, "0:00 +1"), (96, "23:30 +1")];
 
 #[test]
 fn times(rt: HostRuntime) {

@@ -1,21 +1,16 @@
-//! Worked rows of the texts, as tests over public calls: lines and numbers, rules, demand and proof texts, and reports.
+//! Worked rows of the texts, as tests over public calls: lines and numbers, rules, demand and proof texts, and
+//! reports.
 #![tactic(auto)]
 
 #[cfg(test)]
-mod demand_tests;
+mod days;
 #[cfg(test)]
-mod grammars;
+mod demand_tests;
 #[cfg(test)]
 mod line_tests;
 #[cfg(test)]
 mod proof_tests;
 #[cfg(test)]
-mod read_reports;
+mod report_tests;
 #[cfg(test)]
 mod rules_tests;
-#[cfg(test)]
-mod tree_tests;
-#[cfg(test)]
-mod verdict_tests;
-#[cfg(test)]
-mod written_reports;

@@ -1,14 +1,10 @@
-//! Worked rows of the shared model, of a made day, of spans, of the plain table and of the arcs of a day, as tests
-//! over public calls.
+//! Worked rows of a day's arcs, of a made day, of the greatest cost of a day and of spans, as tests over public
+//! calls.
 #![tactic(auto)]
 
 #[cfg(test)]
-mod grammars;
+mod arcs;
 #[cfg(test)]
-mod instances;
-#[cfg(test)]
-mod made;
+mod days;
 #[cfg(test)]
 mod spans;
-#[cfg(test)]
-mod tests;

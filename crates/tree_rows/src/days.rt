@@ -1,5 +1,6 @@
 use made_days::make_instance;
-use roster_model::{Cell, Grammar, Instance};
+use roster_model::{Cell, Grammar, Instance, greatest_cost};
+use sample_days::{DayParts, ONE_PARTS, sound_day};
 use std::test::Fail;
 
 /// The needs of the day of 7, first of `a` and then of `b`.
@@ -40,5 +41,16 @@ fn is_day_of_seven(day: &Instance) -> bool {
 fn day_of_seven(rt: HostRuntime) -> Result<(), Fail> {
     let day = make_instance(rt.alloc(), 7)?;
     assert!(rt; is_day_of_seven(&day));
+    Ok(())
+}
+
+/// One period, where each shift has two or three, for one or two employees.
+static ONE_DAY: DayParts<'static> = ONE_PARTS;
+
+// Two shifts of at most four rule uses at 2, and one employee who is missing, at 10.
+#[test]
+fn the_greatest_cost_by_hand(rt: HostRuntime) -> Result<(), Fail> {
+    let day = sound_day(rt.alloc(), &ONE_DAY)?;
+    assert!(rt; greatest_cost(&day) == 26);
     Ok(())
 }

@@ -1,14 +1,11 @@
 ghost use Rattle.std.specs.Prelude.{◌≤◌, length};
 ghost use Rattle.roster_model.specs.SoundInstance.{IsSoundInstance};
 
-use roster_model::{Done, Instance, List, Memory};
-use roster_report::{Cover, Report, ReportFault, read_report};
-use sample_days::{BLOCK_PARTS, DayParts, sound_day};
+use crate::days::{BLOCK_NEEDS, BLOCKS, day};
+use roster_model::{Done, Instance};
+use roster_report::{Cover, Report, ReportFault, Summary, read_report, write_summary};
 use std::alloc::Global;
 use std::test::Fail;
-
-/// One block of two or three of four periods.
-static BLOCK_DAY: DayParts<'static> = BLOCK_PARTS;
 
 /// The lines of a report of a day of one block, but for the last.
 const FRONT: &str = "report 1\n\
@@ -33,7 +30,7 @@ const SECOND: Cover = Cover {
     over: 0,
 };
 
-/// Whether the report is that of two shifts at 5.
+// Whether the report is that of two shifts at 5.
 fn is_of_two_shifts(report: &Report) -> bool {
     report.done == Done::Equal
         && report.cost == Some(10)
@@ -41,7 +38,7 @@ fn is_of_two_shifts(report: &Report) -> bool {
         && report.cover.as_slice().get(1) == Some(&SECOND)
 }
 
-/// Whether a text is accepted, as a report of two shifts, or refused for this fault.
+// Whether a text is accepted, as a report of two shifts, or refused for this fault.
 fn is_read(alloc: Global, day: &Instance, text: &[u8], fault: Option<ReportFault>) -> bool
     requires sound { IsSoundInstance day.now }
     requires short { length text.now ≤ 1000 }
@@ -52,43 +49,27 @@ fn is_read(alloc: Global, day: &Instance, text: &[u8], fault: Option<ReportFault
     }
 }
 
-fn joined(alloc: Global, front: &str, end: &str) -> Result<List<u8>, Memory> {
-    let mut text = List::new(alloc);
-    text.extend_from_slice(front.as_bytes())?;
-    text.extend_from_slice(end.as_bytes())?;
-    Ok(text)
-}
-
 /// A text in two parts, and for which fault it is refused.
 type Row<'a> = (&'a str, &'a str, Option<ReportFault>);
 
-static ROWS: [Row<'static>; 6] = [
-    (FRONT, "over\ta 0 0 0 0 # none\r\n", None),
+static ROWS: [Row<'static>; 4] = [
+    (FRONT, "over a 0 0 0 0\n", None),
     (FRONT, "", Some(ReportFault::CutShort)),
     (
         FRONT,
         "over a 0 0 0 0\nend\n",
         Some(ReportFault::Trailing { line: 16 }),
     ),
-    (
-        FRONT,
-        "over a 0 0 0",
-        Some(ReportFault::BadLine { line: 15 }),
-    ),
     ("report 2\n", FRONT, Some(ReportFault::BadLine { line: 1 })),
-    (
-        "report 1\n\nresult \u{7}",
-        "",
-        Some(ReportFault::BadByte { line: 3 }),
-    ),
 ];
 
 fn is_right(alloc: Global, day: &Instance, row: &Row<'_>) -> Result<bool, Fail>
     requires { IsSoundInstance day.now }
 {
     let (front, end, fault) = row;
-    let text = joined(alloc, front, end)?;
-    Ok(text.len() <= 1000 && is_read(alloc, day, text.as_slice(), *fault))
+    let joined = [*front, *end].concat(alloc)?;
+    let text = joined.as_bytes();
+    Ok(text.len() <= 1000 && is_read(alloc, day, text, *fault))
 }
 
 fn show_all(alloc: Global, day: &Instance, rows: &[Row<'_>]) -> Result<(), Fail>
@@ -104,6 +85,33 @@ fn show_all(alloc: Global, day: &Instance, rows: &[Row<'_>]) -> Result<(), Fail>
 
 #[test]
 fn reports_are_read(rt: HostRuntime) -> Result<(), Fail> {
-    let day = sound_day(rt.alloc(), &BLOCK_DAY)?;
+    let day = day(rt.alloc(), &(BLOCKS, BLOCK_NEEDS))?;
     show_all(rt.alloc(), &day, &ROWS)
+}
+
+const SUMMARY: Summary = Summary {
+    number: 7,
+    periods: 26,
+    arcs: 65126,
+    done: Done::NoRoster,
+    cost: None,
+    bound: None,
+    processed: 1,
+    failed: 0,
+};
+
+const SUMMARY_LINES: &str = "make 7\n\
+    periods 26\n\
+    arcs 65126\n\
+    result none\n\
+    cost none\n\
+    bound none\n\
+    processed 1\n\
+    failed 0\n";
+
+#[test]
+fn summary_without_a_roster(rt: HostRuntime) -> Result<(), Fail> {
+    let text = write_summary(rt.alloc(), &SUMMARY)?;
+    assert!(rt; text.as_slice() == SUMMARY_LINES.as_bytes());
+    Ok(())
 }
