@@ -1,63 +1,14 @@
-ghost use Rattle.std.specs.Prelude.{◌≡◌, ◌<◌, IfOk, IfSome, length};
+ghost use Rattle.std.specs.Prelude.{◌≡◌, ◌<◌, IfSome, length};
 ghost use Rattle.roster_model.specs.SoundInstance.{IsSoundInstance};
 ghost use Rattle.parse_graph.specs.Graphs.{IsGraph};
 
 use crate::days::graph_of;
 use arc_counts::ArcBox;
 use parse_graph::Graph;
-use roster_model::{ArcKey, Cell, Instance, Memory, Side, is_sound_instance};
-use sample_days::{CELL, DayParts, PAIRS, day};
+use roster_model::{ArcKey, Instance, Side};
+use sample_days::{PAIR_PARTS, sound_day};
 use std::alloc::Global;
 use std::test::Fail;
-
-/// What the day asks: the least number of employees, and the floor and the ceiling of each period.
-/// Each period needs one employee at work, and a missing one costs 10.
-#[derive(Clone, Copy)]
-struct Asked {
-    heads_min: u32,
-    floor: u32,
-    ceiling: u32,
-}
-
-const ONE_EACH: Asked = Asked {
-    heads_min: 0,
-    floor: 0,
-    ceiling: 64,
-};
-
-const TWO_HEADS: Asked = Asked {
-    heads_min: 2,
-    ..ONE_EACH
-};
-
-const FLOORS: Asked = Asked {
-    floor: 1,
-    ..ONE_EACH
-};
-
-const CEILINGS: Asked = Asked {
-    ceiling: 1,
-    ..ONE_EACH
-};
-
-fn instance(alloc: Global, asked: Asked) -> Result<Instance, Memory> {
-    let cells = [1, 2, 3].map(|period| Cell {
-        period,
-        floor: asked.floor,
-        ceiling: asked.ceiling,
-        ..CELL
-    });
-    let parts = DayParts {
-        periods: 3,
-        names: &["S"],
-        rules: &PAIRS,
-        start: 0,
-        heads: (asked.heads_min, 3),
-        groups: &[],
-        cells: &cells,
-    };
-    day(alloc, &parts)
-}
 
 const FIRST: ArcKey = ArcKey {
     rule: 1,
@@ -148,72 +99,24 @@ fn cost_on(
     Err(Fail::from("not pinned"))
 }
 
-/// What a box of a sound day costs that leaves the six arcs these counts.
-fn cost_of(alloc: Global, day: &Instance, counts: &[u32]) -> Result<Option<u64>, Fail>
-    requires { IsSoundInstance day.now }
-{
-    let graph = graph_of(alloc, &day.grammar)?;
-    let cost = cost_on(alloc, day, &graph, counts);
-    drop(graph);
-    cost
-}
-
-/// What a day asks, counts of the six arcs, and what they cost.
-type Case = (Asked, [u32; 6], Option<u64>);
-
-const CASES: [Case; 10] = [
-    (ONE_EACH, [0, 0, 0, 0, 0, 0], Some(30)),
-    (ONE_EACH, [1, 1, 0, 0, 0, 0], Some(12)),
-    (ONE_EACH, [1, 0, 0, 0, 0, 0], None),
-    (ONE_EACH, [0, 1, 0, 0, 0, 0], None),
-    (ONE_EACH, [1, 1, 1, 1, 0, 0], Some(4)),
-    (ONE_EACH, [2, 2, 2, 2, 0, 0], None),
-    (TWO_HEADS, [1, 1, 0, 0, 0, 0], None),
-    (FLOORS, [1, 1, 0, 0, 0, 0], None),
-    (FLOORS, [1, 1, 1, 1, 0, 0], Some(4)),
-    (CEILINGS, [1, 1, 1, 1, 0, 0], None),
+/// Counts of the six arcs, and what they cost where each period needs one employee, and a missing one costs 10.
+const CASES: [([u32; 6], Option<u64>); 3] = [
+    ([0, 0, 0, 0, 0, 0], Some(30)),
+    ([1, 1, 0, 0, 0, 0], Some(12)),
+    ([1, 0, 0, 0, 0, 0], None),
 ];
 
-/// A day that asks this.
-fn sound_day(alloc: Global, asked: Asked) -> Result<Instance, Fail>
-    ensures { IfOk result IsSoundInstance }
+/// Whether the counts cost what they should.
+fn have_costs(alloc: Global, day: &Instance, graph: &Graph) -> Result<bool, Fail>
+    requires sound { IsSoundInstance day.now }
+    requires graph { IsGraph day.now.grammar graph.now }
 {
-    let day = instance(alloc, asked)?;
-    if is_sound_instance(&day) {
-        return Ok(day);
-    }
-    drop(day);
-    Err(Fail::from("no sound instance"))
-}
-
-/// Whether the counts cost this on a day.
-fn is_cost(alloc: Global, day: &Instance, counts: &[u32], cost: Option<u64>) -> Result<bool, Fail>
-    requires { IsSoundInstance day.now }
-{
-    Ok(cost_of(alloc, day, counts)? == cost)
-}
-
-/// Whether the counts of a case cost what they should.
-fn is_right(alloc: Global, case: &Case) -> Result<bool, Fail> {
-    let (asked, counts, cost) = case;
-    let day = sound_day(alloc, *asked)?;
-    let is_cost = is_cost(alloc, &day, counts, *cost);
-    drop(day);
-    is_cost
-}
-
-fn show_all(alloc: Global, cases: &[Case]) -> Result<(), Fail> {
-    for case in cases {
-        if !is_right(alloc, case)? {
-            return Err(Fail::from("another cost"));
+    for (counts, cost) in &CASES {
+        if cost_on(alloc, day, graph, counts)? != *cost {
+            return Ok(false);
         }
     }
-    Ok(())
-}
-
-#[test]
-fn costs_of_pinned_boxes(rt: HostRuntime) -> Result<(), Fail> {
-    show_all(rt.alloc(), &CASES)
+    Ok(true)
 }
 
 type LowAndHigh = (u32, u32);
@@ -239,29 +142,37 @@ fn is_cut_and_back(arc_box: &mut ArcBox, graph: &Graph) -> bool
     before == Some((0, 3)) && after == (0, 0) && bounds(arc_box, first) == (0, 3)
 }
 
-/// Whether a cut and its undoing leave the first arc loose.
-fn is_loose_again(alloc: Global, day: &Instance, graph: &Graph) -> Result<bool, Fail>
+/// Whether a cut of a new box and its undoing have these bounds.
+fn has_cut_and_back(alloc: Global, day: &Instance, graph: &Graph) -> Result<bool, Fail>
     requires sound { IsSoundInstance day.now }
     requires graph { IsGraph day.now.grammar graph.now }
 {
     let mut arc_box = ArcBox::new(alloc, day, graph)?;
-    Ok(is_cut_and_back(&mut arc_box, graph) && arc_box.first_loose() == Some(0))
+    Ok(is_cut_and_back(&mut arc_box, graph))
 }
 
-fn has_cut_and_back(alloc: Global, day: &Instance) -> Result<bool, Fail>
+/// Whether the boxes of a graph are as they should be.
+fn are_right_on(alloc: Global, day: &Instance, graph: &Graph) -> Result<bool, Fail>
+    requires sound { IsSoundInstance day.now }
+    requires graph { IsGraph day.now.grammar graph.now }
+{
+    Ok(has_cut_and_back(alloc, day, graph)? && have_costs(alloc, day, graph)?)
+}
+
+fn are_right(alloc: Global, day: &Instance) -> Result<bool, Fail>
     requires { IsSoundInstance day.now }
 {
     let graph = graph_of(alloc, &day.grammar)?;
-    let is_loose = is_loose_again(alloc, day, &graph);
+    let are_right = are_right_on(alloc, day, &graph);
     drop(graph);
-    is_loose
+    are_right
 }
 
 #[test]
-fn a_cut_and_back(rt: HostRuntime) -> Result<(), Fail> {
-    let day = sound_day(rt.alloc(), ONE_EACH)?;
-    let is_back = has_cut_and_back(rt.alloc(), &day);
+fn a_cut_and_back_and_costs_of_pinned_boxes(rt: HostRuntime) -> Result<(), Fail> {
+    let day = sound_day(rt.alloc(), &PAIR_PARTS)?;
+    let are_right = are_right(rt.alloc(), &day);
     drop(day);
-    assert!(rt; is_back?);
+    assert!(rt; are_right?);
     Ok(())
 }

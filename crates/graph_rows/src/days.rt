@@ -1,12 +1,11 @@
 ghost use Rattle.std.specs.Prelude.{◌≡◌, IfOk};
 ghost use Rattle.roster_model.specs.Sound.{IsSound};
-ghost use Rattle.roster_model.specs.SoundInstance.{IsSoundInstance};
 ghost use Rattle.parse_graph.specs.Graphs.{HasGrammar, IsGraph};
 ghost use Rattle.sample_days.specs.RestAndWork.{rest_and_work};
 
 use parse_graph::{Graph, GraphFault};
-use roster_model::{Cell, Grammar, Instance, Memory, is_sound, is_sound_instance};
-use sample_days::{BLOCK_NAMES, BLOCKS, DayParts, PAIRS, day, grammar};
+use roster_model::{Grammar, Memory, is_sound};
+use sample_days::{BLOCK_NAMES, BLOCKS, PAIRS, grammar};
 use std::alloc::Global;
 use std::test::Fail;
 use tree_pool::normalise;
@@ -16,32 +15,6 @@ pub fn one_block(alloc: Global) -> Result<Grammar, Memory>
     ensures { IfOk result (λ grammar. grammar ≡ rest_and_work) }
 {
     grammar(alloc, 4, &BLOCK_NAMES, &BLOCKS, 0)
-}
-
-/// The day of one block with these demands.
-fn block_day(alloc: Global, cells: &[Cell]) -> Result<Instance, Memory> {
-    let parts = DayParts {
-        periods: 4,
-        names: &BLOCK_NAMES,
-        rules: &BLOCKS,
-        start: 0,
-        heads: (0, 2),
-        groups: &[],
-        cells,
-    };
-    day(alloc, &parts)
-}
-
-/// Returns the day of one block with these demands, if it is sound.
-pub fn sound_day(alloc: Global, cells: &[Cell]) -> Result<Instance, Fail>
-    ensures { IfOk result IsSoundInstance }
-{
-    let day = block_day(alloc, cells)?;
-    if is_sound_instance(&day) {
-        return Ok(day);
-    }
-    drop(day);
-    Err(Fail::from("no sound day"))
 }
 
 /// Three words of three letters, each at cost 2.
@@ -56,6 +29,17 @@ pub fn build(alloc: Global, grammar: &Grammar) -> Result<Graph, GraphFault>
 {
     let normal = normalise(alloc, grammar)?;
     Graph::build(alloc, grammar, &normal)
+}
+
+/// Returns the graph of a sound grammar.
+pub fn graph_of(alloc: Global, grammar: &Grammar) -> Result<Graph, Fail>
+    requires { IsSound grammar.now }
+    ensures { IfOk result (IsGraph grammar.now) }
+{
+    match build(alloc, grammar) {
+        Ok(graph) => Ok(graph),
+        Err(_) => Err(Fail::from("no graph")),
+    }
 }
 
 /// Returns the graph of a grammar, if it is sound.
@@ -82,15 +66,4 @@ pub fn block_graph(alloc: Global) -> Result<Graph, Fail>
 {
     let grammar = one_block(alloc)?;
     sound_graph(alloc, &grammar)
-}
-
-/// Returns the graph of a sound grammar.
-pub fn graph_of(alloc: Global, grammar: &Grammar) -> Result<Graph, Fail>
-    requires { IsSound grammar.now }
-    ensures { IfOk result (IsGraph grammar.now) }
-{
-    match build(alloc, grammar) {
-        Ok(graph) => Ok(graph),
-        Err(_) => Err(Fail::from("no graph")),
-    }
 }

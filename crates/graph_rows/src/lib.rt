@@ -8,8 +8,6 @@ mod days;
 #[cfg(test)]
 mod graphs;
 #[cfg(test)]
-mod many_trees;
-#[cfg(test)]
 mod normal_forms;
 #[cfg(test)]
 mod prices;
@@ -17,5 +15,3 @@ mod prices;
 mod splits;
 #[cfg(test)]
 mod volumes;
-#[cfg(test)]
-mod widths;

@@ -1,92 +1,12 @@
 ghost use Rattle.std.specs.Prelude.{◌≡◌, length};
 ghost use Rattle.parse_graph.specs.Graphs.{HasGrammar};
 
-use crate::days::{block_graph, words_graph};
+use crate::days::block_graph;
 use arc_counts::{SplitFault, split};
 use parse_graph::Graph;
 use roster_model::{ArcKey, List, Step};
 use std::alloc::Global;
 use std::test::Fail;
-
-/// Counts of the arcs: these two for the arcs of the second rule, and 0 for the others.
-fn counts_of(alloc: Global, graph: &Graph, whole: u32, rest: u32) -> Result<List<u32>, Fail> {
-    let mut counts = List::new(alloc);
-    for arc in graph.arcs() {
-        counts.push(match (arc.rule, arc.suffix) {
-            (2, 0) => whole,
-            (2, _) => rest,
-            _ => 0,
-        })?;
-    }
-    Ok(counts)
-}
-
-/// The one step of a tree of the second rule.
-const STEP: Step = Step {
-    rule: 2,
-    start: 1,
-    len: 3,
-};
-
-fn are_two_trees(trees: &[List<Step>]) -> bool {
-    match trees {
-        [first, second] => {
-            first.as_slice() == [STEP].as_slice() && second.as_slice() == [STEP].as_slice()
-        }
-        _ => false,
-    }
-}
-
-/// Whether a node is made and used as often as this.
-fn is_uneven(fault: &SplitFault, uneven: Option<(u64, u64)>) -> bool {
-    match (fault, uneven) {
-        (SplitFault::Unbalanced { made, used, .. }, Some((many, few))) => *made == many
-            && *used == few,
-        _ => false,
-    }
-}
-
-/// Whether the counts are those of two trees of the second rule, or a node is made and used as often as
-/// this.
-fn splits(alloc: Global, graph: &Graph, counts: &[u32], uneven: Option<(u64, u64)>) -> bool
-    requires graph { HasGrammar graph.now }
-    requires counts { length counts.now ≡ length graph.now.arcs }
-{
-    match split(alloc, graph, counts) {
-        Ok(trees) => uneven.is_none() && are_two_trees(trees.as_slice()),
-        Err(fault) => is_uneven(&fault, uneven),
-    }
-}
-
-/// Whether that is told of these counts of the second rule.
-fn tells(
-    alloc: Global,
-    graph: &Graph,
-    whole: u32,
-    rest: u32,
-    uneven: Option<(u64, u64)>,
-) -> Result<bool, Fail>
-    requires { HasGrammar graph.now }
-{
-    let counts = counts_of(alloc, graph, whole, rest)?;
-    Ok(counts.len() == graph.arcs().len() && splits(alloc, graph, counts.as_slice(), uneven))
-}
-
-/// Whether that is told of counts of two trees, and of counts that are uneven.
-fn tells_both(alloc: Global, graph: &Graph) -> Result<bool, Fail>
-    requires { HasGrammar graph.now }
-{
-    Ok(tells(alloc, graph, 2, 2, None)? && tells(alloc, graph, 2, 3, Some((3, 2)))?)
-}
-
-#[test]
-fn counts_of_one_rule(rt: HostRuntime) -> Result<(), Fail> {
-    let graph = words_graph(rt.alloc())?;
-    let are_told = tells_both(rt.alloc(), &graph);
-    drop(graph);
-    assert!(rt; are_told?);
-    Ok(())
-}
 
 /// An arc as it is written: rule, suffix, start, length and part.
 type Arc = (u8, u8, u8, u8, u8);
@@ -181,13 +101,23 @@ fn are_split(alloc: Global, graph: &Graph) -> Result<bool, Fail>
     Ok(counts.len() == graph.arcs().len() && splits_in_two(alloc, graph, counts.as_slice()))
 }
 
-/// Whether the first arc alone uses a node that nothing makes.
+/// Whether one arc uses a node that nothing makes.
+fn is_uneven(alloc: Global, graph: &Graph, counts: &[u32]) -> bool
+    requires graph { HasGrammar graph.now }
+    requires counts { length counts.now ≡ length graph.now.arcs }
+{
+    match split(alloc, graph, counts) {
+        Ok(_) | Err(SplitFault::Memory) => false,
+        Err(SplitFault::Unbalanced { made, used, .. }) => made == 0 && used == 1,
+    }
+}
+
+/// Whether the first arc alone is refused so.
 fn is_one_uneven(alloc: Global, graph: &Graph) -> Result<bool, Fail>
     requires { HasGrammar graph.now }
 {
     let counts = ones(alloc, graph, &ARCS[..1])?;
-    let uneven = Some((0, 1));
-    Ok(counts.len() == graph.arcs().len() && splits(alloc, graph, counts.as_slice(), uneven))
+    Ok(counts.len() == graph.arcs().len() && is_uneven(alloc, graph, counts.as_slice()))
 }
 
 fn tells_of_blocks(alloc: Global, graph: &Graph) -> Result<bool, Fail>

@@ -12,8 +12,8 @@ use cheapest_tree::Pricer;
 use master_rows::{Day, NodeRows, NodeTask, count_rows};
 use node_columns::volume::{Volume, volume};
 use parse_graph::Graph;
-use roster_model::{ArcKey, Cut, Instance, Memory, Side, is_sound_instance};
-use sample_days::{PAIR_PARTS, day};
+use roster_model::{ArcKey, Cut, Instance, Memory, Side};
+use sample_days::{PAIR_PARTS, sound_day};
 use std::alloc::Global;
 use std::test::Fail;
 use tree_pool::Pool;
@@ -69,13 +69,6 @@ fn volume_at(
     found
 }
 
-fn are_same(one: &Volume, other: &Volume) -> bool {
-    one.prices.as_slice() == other.prices.as_slice()
-        && one.bound == other.bound
-        && one.passes == other.passes
-        && one.trees.len() == other.trees.len()
-}
-
 /// Whether the bound is at most the least cost, and at least half of it.
 fn is_between(found: &Volume, cost: i128) -> bool {
     let most = cost.saturating_mul(KAPPA);
@@ -92,31 +85,28 @@ fn are_listed(alloc: Global, day: &Instance, found: &Volume) -> Result<bool, Mem
     Ok(listed.as_slice() == [0, 1].as_slice() && pool.len() == 2)
 }
 
-/// Whether passes over these rows show the same as these once more, and a good bound from their prices.
-fn is_shown_again(
+/// Whether passes over these rows show a good bound from these prices.
+fn is_shown_from(
     alloc: Global,
     day: &Instance,
     graph: &Graph,
     cuts: &[Cut],
     rows: &NodeRows,
+    prices: &[i128],
     cost: i128,
-    found: &Volume,
 ) -> Result<bool, Memory>
     requires sound { IsSoundInstance day.now }
     requires graph { IsGraph day.now.grammar graph.now }
     requires rows { AreRows day.now cuts.now rows.now }
     requires small { length (rows_of day.now cuts.now) ≤ 1500 }
 {
-    let second = volume_at(alloc, day, graph, cuts, rows, None)?;
-    let is_same = are_same(found, &second);
-    drop(second);
-    let third = volume_at(alloc, day, graph, cuts, rows, Some(found.prices.as_slice()))?;
-    let is_good = is_between(&third, cost);
-    drop(third);
-    Ok(is_same && is_good)
+    let found = volume_at(alloc, day, graph, cuts, rows, Some(prices))?;
+    let is_good = is_between(&found, cost);
+    drop(found);
+    Ok(is_good)
 }
 
-/// Whether passes over these rows show a good bound, the same twice, also from their prices.
+/// Whether passes over these rows show a good bound, and once more from its prices.
 fn is_shown(
     alloc: Global,
     day: &Instance,
@@ -131,7 +121,7 @@ fn is_shown(
     requires small { length (rows_of day.now cuts.now) ≤ 1500 }
 {
     let found = volume_at(alloc, day, graph, cuts, rows, None)?;
-    let again = is_shown_again(alloc, day, graph, cuts, rows, cost, &found);
+    let again = is_shown_from(alloc, day, graph, cuts, rows, found.prices.as_slice(), cost);
     let is_good = is_between(&found, cost);
     let listed = are_listed(alloc, day, &found);
     drop(found);
@@ -204,18 +194,6 @@ fn are_shown(alloc: Global, day: &Instance, graph: &Graph) -> Result<bool, Memor
     )
 }
 
-/// Returns the day, if it is sound.
-fn pair_day(alloc: Global) -> Result<Instance, Fail>
-    ensures { IfOk result IsSoundInstance }
-{
-    let day = day(alloc, &PAIR_PARTS)?;
-    if is_sound_instance(&day) {
-        return Ok(day);
-    }
-    drop(day);
-    Err(Fail::from("no sound day"))
-}
-
 fn are_shown_on(alloc: Global, day: &Instance) -> Result<bool, Fail>
     requires { IsSoundInstance day.now }
 {
@@ -227,7 +205,7 @@ fn are_shown_on(alloc: Global, day: &Instance) -> Result<bool, Fail>
 
 #[test]
 fn bounds_of_pairs(rt: HostRuntime) -> Result<(), Fail> {
-    let day = pair_day(rt.alloc())?;
+    let day = sound_day(rt.alloc(), &PAIR_PARTS)?;
     let are_shown = are_shown_on(rt.alloc(), &day);
     drop(day);
     assert!(rt; are_shown?);

@@ -1,2 +1,2 @@
-pub mod ListedCuts
-pub mod StaffedDays
+mod ListedCuts
+mod MasterDays

@@ -1,81 +1,117 @@
-ghost use Rattle.std.specs.Prelude.{IfOk};
+ghost use Rattle.std.specs.Prelude.{[], IfOk};
+ghost use Rattle.roster_model.specs.SoundInstance.{IsSoundInstance};
 ghost use Rattle.parse_graph.specs.Graphs.{IsGraph};
 ghost use Rattle.node_master.specs.Ends.{EndsRight};
 ghost use Rattle.search_rows.specs.Days.{IsMasterDay, AreLent};
 
-use crate::days::{graph_of, master_day};
-use crate::masters::{HIGH, LOW, Lent, PAIR_DAY, are_node_cuts, is_half, lent_for};
+use crate::days::{graph_of, is_master_day};
+use crate::masters::{Lent, PAIR_DAY, is_half, lent_for};
 use master_rows::Day;
-use node_master::{Bases, First, NodeEnd, Steering, solve_node_from};
+use node_master::{Bases, First, NodeEnd, Steering, Weight, solve_node_from};
 use parse_graph::Graph;
-use roster_model::{Cut, Instance};
+use roster_model::{Cell, Instance, Memory};
+use sample_days::{ANY, CELL, DayParts, REST, RuleParts, WORK, sound_day};
 use std::alloc::Global;
 use std::test::Fail;
 
-/// One in units of the denominator of near prices.
-const ONE: i128 = 1_048_576;
+/// Three of four periods, at 2, for the one name `S`.
+const TRIPLES: [RuleParts<'static>; 4] = [
+    (0, 2, &[WORK, WORK, WORK, REST], ANY),
+    (0, 2, &[REST, WORK, WORK, WORK], ANY),
+    (0, 2, &[WORK, REST, WORK, WORK], ANY),
+    (0, 2, &[WORK, WORK, REST, WORK], ANY),
+];
 
-/// Solves the master at these cuts, going one way to prices first.
+const TWO: Cell = Cell {
+    need: 2,
+    ceiling: 2,
+    ..CELL
+};
+
+const TWO_CELLS: [Cell; 4] = [
+    TWO,
+    Cell { period: 2, ..TWO },
+    Cell { period: 3, ..TWO },
+    Cell { period: 4, ..TWO },
+];
+
+/// Three of four periods at 2, where each period needs two employees and has at most two: each shift has two
+/// thirds of an employee.
+static TRIPLE_DAY: DayParts<'static> = DayParts {
+    periods: 4,
+    names: &["S"],
+    rules: &TRIPLES,
+    start: 0,
+    heads: (0, 3),
+    groups: &[],
+    cells: &TWO_CELLS,
+};
+
+/// Solves the master of the root, going one way to prices first.
 pub fn solve(
     alloc: Global,
     day: &Instance,
     graph: &Graph,
     lent: &mut Lent,
-    cuts: &[Cut],
     first: First,
-) -> Result<NodeEnd, Fail>
+) -> Result<NodeEnd, Memory>
     requires day { IsMasterDay day.now }
     requires graph { IsGraph day.now.grammar graph.now }
     requires lent { AreLent day.now graph.now lent.old.pricer lent.old.pool }
     ensures lent { AreLent day.now graph.now lent.new.pricer lent.new.pool }
-    ensures end { IfOk result (EndsRight day.now cuts.now lent.new.pool lent.old.tally lent.new.tally) }
+    ensures end { IfOk result (EndsRight day.now [] lent.new.pool lent.old.tally lent.new.tally) }
 {
-    if !are_node_cuts(day, graph, cuts) {
-        return Err(Fail::from("no cuts of the day"));
-    }
     let mut steering = Steering {
         wanted: &[],
         first,
         bases: Bases::new(alloc),
     };
-    let end = solve_node_from(
+    solve_node_from(
         alloc,
         &Day {
             instance: day,
             graph,
         },
-        cuts,
+        &[],
         &mut lent.pricer,
         &mut lent.pool,
         &mut steering,
         &mut lent.tally,
-    )?;
-    Ok(end)
+    )
 }
 
-fn solve_on(alloc: Global, day: &Instance, cuts: &[Cut], first: First) -> Result<NodeEnd, Fail>
-    requires { IsMasterDay day.now }
+fn solve_in(alloc: Global, day: &Instance, graph: &Graph, first: First) -> Result<NodeEnd, Fail>
+    requires sound { IsSoundInstance day.now }
+    requires graph { IsGraph day.now.grammar graph.now }
+{
+    if !is_master_day(day, graph) {
+        return Err(Fail::from("no master of the day"));
+    }
+    let mut lent = lent_for(alloc, day, graph)?;
+    let end = solve(alloc, day, graph, &mut lent, first);
+    drop(lent);
+    Ok(end?)
+}
+
+fn solve_on(alloc: Global, day: &Instance, first: First) -> Result<NodeEnd, Fail>
+    requires { IsSoundInstance day.now }
 {
     let graph = graph_of(alloc, &day.grammar)?;
-    let lent = lent_for(alloc, day, &graph);
-    let end = match lent {
-        Ok(mut lent) => {
-            let end = solve(alloc, day, &graph, &mut lent, cuts, first);
-            drop(lent);
-            end
-        }
-        Err(fault) => Err(Fail::from(fault)),
-    };
+    let end = solve_in(alloc, day, &graph, first);
     drop(graph);
     end
 }
 
-fn solve_pairs(alloc: Global, cuts: &[Cut], first: First) -> Result<NodeEnd, Fail> {
-    let day = master_day(alloc, &PAIR_DAY)?;
-    let end = solve_on(alloc, &day, cuts, first);
+/// Solves the master of the root of a day.
+fn solve_day(alloc: Global, parts: &DayParts, first: First) -> Result<NodeEnd, Fail> {
+    let day = sound_day(alloc, parts)?;
+    let end = solve_on(alloc, &day, first);
     drop(day);
     end
 }
+
+/// One in units of the denominator of near prices.
+const ONE: i128 = 1_048_576;
 
 /// Whether the prices are near ones of 1 for each of three cells, and three weights are a half.
 fn are_near_halves(end: &NodeEnd) -> bool {
@@ -91,41 +127,47 @@ fn are_near_halves(end: &NodeEnd) -> bool {
     }
 }
 
-/// Whether near prices end the node of pairs at these cuts.
-fn is_near_at(alloc: Global, cuts: &[Cut]) -> Result<bool, Fail> {
-    let end = solve_pairs(alloc, cuts, First::Near)?;
-    let is_near = matches!(end, NodeEnd::Near { .. });
-    drop(end);
-    Ok(is_near)
-}
-
-/// Whether the exact path ends the node of pairs, going one way first.
-fn is_exact_by(alloc: Global, first: First) -> Result<bool, Fail> {
-    let end = solve_pairs(alloc, &[], first)?;
-    let is_exact = matches!(end, NodeEnd::Best { .. });
-    drop(end);
-    Ok(is_exact)
-}
-
 #[test]
 fn near_prices_of_pairs(rt: HostRuntime) -> Result<(), Fail> {
-    assert!(rt; are_near_halves(&solve_pairs(rt.alloc(), &[], First::Near)?));
+    assert!(rt; are_near_halves(&solve_day(rt.alloc(), &PAIR_DAY, First::Near)?));
     Ok(())
 }
 
+/// Whether a weight is 2 thirds, within 2^-40.
+fn is_about_2_thirds(weight: &Weight) -> bool {
+    let (num, den) = (weight.x.num(), weight.x.den());
+    let off = num.saturating_mul(3).saturating_sub(den.saturating_mul(2));
+    off.saturating_mul(1 << 40).unsigned_abs() <= den.unsigned_abs()
+}
+
+/// Whether the prices of the four cells are 2 thirds, and the weights of four trees are.
+fn are_near_thirds(end: &NodeEnd) -> bool {
+    match end {
+        NodeEnd::Near { prices, weights } => {
+            prices.cell.as_slice() == [699_050; 4].as_slice()
+                && weights.len() == 4
+                && weights
+                    .as_slice()
+                    .iter()
+                    .all(|weight| is_about_2_thirds(weight))
+        }
+        NodeEnd::Best { .. } | NodeEnd::Failed(_) => false,
+    }
+}
+
+// The nearest number to 2 thirds in units of 2^-56 is 48038396025285291, and three of it exceed a ceiling by 1: such
+// weights would show no prices best.
 #[test]
-fn near_prices_under_cuts(rt: HostRuntime) -> Result<(), Fail> {
-    assert!(rt; is_near_at(rt.alloc(), &[LOW])?);
-    assert!(rt; is_near_at(rt.alloc(), &[HIGH])?);
-    // No solution meets both: the artificial column of the second row has weight 1.
-    assert!(rt; is_near_at(rt.alloc(), &[LOW, HIGH])?);
+fn near_weights_keep_their_ceilings(rt: HostRuntime) -> Result<(), Fail> {
+    assert!(rt; are_near_thirds(&solve_day(rt.alloc(), &TRIPLE_DAY, First::Near)?));
     Ok(())
 }
 
 #[test]
 fn the_exact_path_first(rt: HostRuntime) -> Result<(), Fail> {
-    assert!(rt; is_exact_by(rt.alloc(), First::Exact)?);
-    // Three trees are few.
-    assert!(rt; is_exact_by(rt.alloc(), First::BySize)?);
+    let end = solve_day(rt.alloc(), &PAIR_DAY, First::Exact)?;
+    let is_exact = matches!(end, NodeEnd::Best { .. });
+    drop(end);
+    assert!(rt; is_exact);
     Ok(())
 }

@@ -6,12 +6,8 @@ mod days;
 #[cfg(test)]
 mod first;
 #[cfg(test)]
-mod hints;
-#[cfg(test)]
 mod leaves;
 #[cfg(test)]
 mod masters;
-#[cfg(test)]
-mod near;
 #[cfg(test)]
 mod splits;

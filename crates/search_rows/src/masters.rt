@@ -1,16 +1,17 @@
 ghost use Rattle.std.specs.Prelude.{◌<◌, ◌^◌, All, IsTrue, IfOk, length};
 ghost use Rattle.roster_model.specs.Folds.{Each};
+ghost use Rattle.roster_model.specs.SoundInstance.{IsSoundInstance};
 ghost use Rattle.parse_graph.specs.Graphs.{IsGraph};
 ghost use Rattle.node_master.specs.Ends.{IsNodeCut};
 ghost use Rattle.search_rows.specs.Days.{IsMasterDay, IsListedCut, AreLent};
 
-use crate::days::{graph_of, master_day};
+use crate::days::{graph_of, is_master_day};
 use cheapest_tree::Pricer;
 use fraction::{Frac, Tally};
 use node_master::{Cause, NodeEnd, Weight, solve_node};
 use parse_graph::Graph;
 use roster_model::{ArcKey, Cut, Instance, Memory, Side};
-use sample_days::{DayParts, FLOOR_CELLS, GROUP_PARTS, PAIR_PARTS, day_of_many_trees, long_cells};
+use sample_days::{DayParts, PAIR_PARTS, day_of_many_trees, long_cells, sound_day};
 use std::alloc::Global;
 use std::test::Fail;
 use tree_pool::Pool;
@@ -18,18 +19,8 @@ use tree_pool::Pool;
 /// Two of three periods at 2, where each period needs one employee.
 pub static PAIR_DAY: DayParts<'static> = PAIR_PARTS;
 
-/// The same with one employee, where each period has a floor of one.
-static FLOOR_DAY: DayParts<'static> = DayParts {
-    heads: (0, 1),
-    cells: &FLOOR_CELLS,
-    ..PAIR_PARTS
-};
-
-/// Full and half days, of groups of their own.
-static GROUP_DAY: DayParts<'static> = GROUP_PARTS;
-
-/// The first part of the first rule of pairs.
-pub const LOW: Cut = Cut {
+/// At most no tree with the first part of the first rule of pairs.
+const LOW: Cut = Cut {
     arc: ArcKey {
         rule: 1,
         suffix: 0,
@@ -41,40 +32,11 @@ pub const LOW: Cut = Cut {
     b: 0,
 };
 
-pub const HIGH: Cut = Cut {
+/// At least one tree with it.
+const HIGH: Cut = Cut {
     side: Side::High,
     ..LOW
 };
-
-/// The arc of the first group.
-const FULL: ArcKey = ArcKey {
-    rule: 6,
-    suffix: 0,
-    start: 1,
-    len: 2,
-    part: 2,
-};
-
-const HALF: ArcKey = ArcKey { rule: 7, ..FULL };
-
-/// At most one of the first group; at most two and at least one of the second.
-const BASE: [Cut; 3] = [
-    Cut {
-        arc: FULL,
-        side: Side::Low,
-        b: 1,
-    },
-    Cut {
-        arc: HALF,
-        side: Side::Low,
-        b: 2,
-    },
-    Cut {
-        arc: HALF,
-        side: Side::High,
-        b: 0,
-    },
-];
 
 fn is_listed_cut(graph: &Graph, cut: &Cut) -> bool
     ensures { IsTrue result → IsListedCut graph.now cut.now }
@@ -89,7 +51,7 @@ fn are_listed_cuts(graph: &Graph, cuts: &[Cut]) -> bool
 }
 
 /// Returns whether the cuts are on arcs of the day, and not too many.
-pub fn are_node_cuts(day: &Instance, graph: &Graph, cuts: &[Cut]) -> bool
+fn are_node_cuts(day: &Instance, graph: &Graph, cuts: &[Cut]) -> bool
     requires { IsGraph day.now.grammar graph.now }
     ensures cuts { IsTrue result → Each (IsNodeCut day.now) cuts.now }
     ensures few { IsTrue result → length cuts.now < 2 ^ 31 }
@@ -115,19 +77,17 @@ pub fn lent_for(alloc: Global, day: &Instance, graph: &Graph) -> Result<Lent, Me
     })
 }
 
-/// Solves the master at these cuts, where these trees are wanted.
+/// Solves the master at these cuts.
 fn solve(
     alloc: Global,
     day: &Instance,
     graph: &Graph,
     lent: &mut Lent,
     cuts: &[Cut],
-    wanted: &[usize],
 ) -> Result<NodeEnd, Fail>
     requires day { IsMasterDay day.now }
     requires graph { IsGraph day.now.grammar graph.now }
     requires lent { AreLent day.now graph.now lent.old.pricer lent.old.pool }
-    ensures { AreLent day.now graph.now lent.new.pricer lent.new.pool }
 {
     if !are_node_cuts(day, graph, cuts) {
         return Err(Fail::from("no cuts of the day"));
@@ -139,7 +99,7 @@ fn solve(
         &mut lent.pricer,
         &mut lent.pool,
         cuts,
-        wanted,
+        &[],
         &mut lent.tally,
     )?;
     Ok(end)
@@ -148,9 +108,9 @@ fn solve(
 /// What the master of a node shows.
 #[derive(Clone, Copy)]
 enum Want {
-    /// The numerator and the denominator of its value, in lowest terms.
-    Value(i128, i128),
-    /// A denominator of 1, a price of 1 for each of three cells, and three weights of a half.
+    /// Its value, which is whole.
+    Value(i128),
+    /// A value of 3, a denominator of 1, a price of 1 for each of three cells, and three weights of a half.
     Halves,
     /// Why it is given up.
     Cause(Cause),
@@ -158,6 +118,10 @@ enum Want {
 
 /// The cuts of a node, and what its master shows.
 type Row<'a> = (&'a str, &'a [Cut], Want);
+
+fn is_whole(value: &Frac, number: i128) -> bool {
+    value.num() == number && value.den() == 1
+}
 
 pub fn is_half(weight: &Weight) -> bool {
     weight.x.num() == 1 && weight.x.den() == 2
@@ -167,10 +131,11 @@ fn are_halves(end: &NodeEnd) -> bool {
     match end {
         NodeEnd::Best {
             prices,
+            value,
             weights,
-            ..
         } => {
-            prices.d == 1
+            is_whole(value, 3)
+                && prices.d == 1
                 && prices.cell.as_slice() == [1, 1, 1].as_slice()
                 && prices.mult.is_empty()
                 && weights.len() == 3
@@ -182,9 +147,7 @@ fn are_halves(end: &NodeEnd) -> bool {
 
 fn shows(end: &NodeEnd, want: &Want) -> bool {
     match (end, want) {
-        (NodeEnd::Best { value, .. }, Want::Value(num, den)) => {
-            value.num() == *num && value.den() == *den
-        }
+        (NodeEnd::Best { value, .. }, Want::Value(number)) => is_whole(value, *number),
         (NodeEnd::Best { .. }, Want::Halves) => are_halves(end),
         (NodeEnd::Failed(found), Want::Cause(cause)) => found == cause,
         _ => false,
@@ -203,46 +166,34 @@ fn shows_at(
     requires day { IsMasterDay day.now }
     requires graph { IsGraph day.now.grammar graph.now }
     requires lent { AreLent day.now graph.now lent.old.pricer lent.old.pool }
-    ensures { AreLent day.now graph.now lent.new.pricer lent.new.pool }
 {
-    let end = solve(alloc, day, graph, lent, cuts, &[])?;
+    let end = solve(alloc, day, graph, lent, cuts)?;
     let is_shown = shows(&end, want);
     drop(end);
     Ok(is_shown)
-}
-
-fn show_with(
-    alloc: Global,
-    day: &Instance,
-    graph: &Graph,
-    lent: &mut Lent,
-    row: &Row<'_>,
-) -> Result<(), Fail>
-    requires day { IsMasterDay day.now }
-    requires graph { IsGraph day.now.grammar graph.now }
-    requires lent { AreLent day.now graph.now lent.old.pricer lent.old.pool }
-{
-    let (what, cuts, want) = row;
-    if shows_at(alloc, day, graph, lent, cuts, want)? {
-        return Ok(());
-    }
-    Err(Fail::from(*what))
 }
 
 fn show_row(alloc: Global, day: &Instance, graph: &Graph, row: &Row<'_>) -> Result<(), Fail>
     requires day { IsMasterDay day.now }
     requires graph { IsGraph day.now.grammar graph.now }
 {
+    let (what, cuts, want) = row;
     let mut lent = lent_for(alloc, day, graph)?;
-    let shown = show_with(alloc, day, graph, &mut lent, row);
+    let is_shown = shows_at(alloc, day, graph, &mut lent, cuts, want);
     drop(lent);
-    shown
+    if is_shown? {
+        return Ok(());
+    }
+    Err(Fail::from(*what))
 }
 
 fn show_each(alloc: Global, day: &Instance, graph: &Graph, rows: &[Row<'_>]) -> Result<(), Fail>
-    requires day { IsMasterDay day.now }
+    requires sound { IsSoundInstance day.now }
     requires graph { IsGraph day.now.grammar graph.now }
 {
+    if !is_master_day(day, graph) {
+        return Err(Fail::from("no master of the day"));
+    }
     for row in rows {
         show_row(alloc, day, graph, row)?;
     }
@@ -250,7 +201,7 @@ fn show_each(alloc: Global, day: &Instance, graph: &Graph, rows: &[Row<'_>]) -> 
 }
 
 fn show_rows(alloc: Global, day: &Instance, rows: &[Row<'_>]) -> Result<(), Fail>
-    requires { IsMasterDay day.now }
+    requires { IsSoundInstance day.now }
 {
     let graph = graph_of(alloc, &day.grammar)?;
     let shown = show_each(alloc, day, &graph, rows);
@@ -260,17 +211,16 @@ fn show_rows(alloc: Global, day: &Instance, rows: &[Row<'_>]) -> Result<(), Fail
 
 /// Shows what the masters of these nodes of a day show.
 fn show(alloc: Global, parts: &DayParts, rows: &[Row<'_>]) -> Result<(), Fail> {
-    let day = master_day(alloc, parts)?;
+    let day = sound_day(alloc, parts)?;
     let shown = show_rows(alloc, &day, rows);
     drop(day);
     shown
 }
 
-const PAIR_ROWS: [Row<'static>; 4] = [
-    ("the root", &[], Want::Value(3, 1)),
-    ("prices and weights of the root", &[], Want::Halves),
-    ("few trees with an arc", &[LOW], Want::Value(4, 1)),
-    ("many trees with an arc", &[HIGH], Want::Value(4, 1)),
+const PAIR_ROWS: [Row<'static>; 3] = [
+    ("the root", &[], Want::Halves),
+    ("few trees with an arc", &[LOW], Want::Value(4)),
+    ("many trees with an arc", &[HIGH], Want::Value(4)),
 ];
 
 #[test]
@@ -290,97 +240,12 @@ fn too_many_rows(rt: HostRuntime) -> Result<(), Fail> {
     )
 }
 
-// Half a full day, and three half days.
-const GROUP_ROWS: [Row<'static>; 1] = [("base cuts", &BASE, Want::Value(7, 2))];
-
-// One shift at 2 leaves one of three periods, at 10 and the artificial 64 * (10 + 30 + 1).
-const FLOOR_ROWS: [Row<'static>; 1] = [("no roster", &[], Want::Value(2636, 1))];
-
-#[test]
-fn masters_of_groups_and_floors(rt: HostRuntime) -> Result<(), Fail> {
-    show(rt.alloc(), &GROUP_DAY, &GROUP_ROWS)?;
-    show(rt.alloc(), &FLOOR_DAY, &FLOOR_ROWS)
-}
-
 // Where employees of weight W work, 1 <= W <= 2, an odd period costs W + W + 10 * (2 - W), an even one W + 1, and the 59
 // cuts of a tree 59 * W: least at W = 2, with 30 * 4 + 30 * 3 + 118.
-const MANY_ROWS: [Row<'static>; 1] = [("many trees", &[], Want::Value(328, 1))];
+const MANY_ROWS: [Row<'static>; 1] = [("many trees", &[], Want::Value(328))];
 
 #[test]
 fn a_master_over_more_trees_than_any_list(rt: HostRuntime) -> Result<(), Fail> {
     let cells = long_cells(rt.alloc(), 60)?;
     show(rt.alloc(), &day_of_many_trees(cells.as_slice()), &MANY_ROWS)
-}
-
-/// Returns the value of the master at the root, where these trees are wanted.
-fn value_of(
-    alloc: Global,
-    day: &Instance,
-    graph: &Graph,
-    lent: &mut Lent,
-    wanted: &[usize],
-) -> Result<Frac, Fail>
-    requires day { IsMasterDay day.now }
-    requires graph { IsGraph day.now.grammar graph.now }
-    requires lent { AreLent day.now graph.now lent.old.pricer lent.old.pool }
-    ensures { AreLent day.now graph.now lent.new.pricer lent.new.pool }
-{
-    match solve(alloc, day, graph, lent, &[], wanted)? {
-        NodeEnd::Best { value, .. } => Ok(value),
-        NodeEnd::Near { .. } | NodeEnd::Failed(_) => Err(Fail::from("no value")),
-    }
-}
-
-/// Whether further calls with what was lent to the first have the same value, and keep its trees: where no
-/// tree is wanted, one that the pool lacks, some twice, and one alone.
-fn is_same_again(
-    alloc: Global,
-    day: &Instance,
-    graph: &Graph,
-    lent: &mut Lent,
-) -> Result<bool, Fail>
-    requires day { IsMasterDay day.now }
-    requires graph { IsGraph day.now.grammar graph.now }
-    requires lent { AreLent day.now graph.now lent.old.pricer lent.old.pool }
-{
-    let first = value_of(alloc, day, graph, lent, &[])?;
-    let trees = lent.pool.len();
-    let second = value_of(alloc, day, graph, lent, &[])?;
-    let third = value_of(alloc, day, graph, lent, &[99])?;
-    let fourth = value_of(alloc, day, graph, lent, &[0, 0, 1])?;
-    let fifth = value_of(alloc, day, graph, lent, &[2])?;
-    let values = [second, third, fourth, fifth];
-    Ok(values.iter().all(|value| *value == first) && lent.pool.len() >= trees)
-}
-
-fn is_same_with_a_pool(alloc: Global, day: &Instance, graph: &Graph) -> Result<bool, Fail>
-    requires day { IsMasterDay day.now }
-    requires graph { IsGraph day.now.grammar graph.now }
-{
-    let mut lent = lent_for(alloc, day, graph)?;
-    let is_same = is_same_again(alloc, day, graph, &mut lent);
-    drop(lent);
-    is_same
-}
-
-fn is_same_on(alloc: Global, day: &Instance) -> Result<bool, Fail>
-    requires { IsMasterDay day.now }
-{
-    let graph = graph_of(alloc, &day.grammar)?;
-    let is_same = is_same_with_a_pool(alloc, day, &graph);
-    drop(graph);
-    is_same
-}
-
-fn is_same_on_pairs(alloc: Global) -> Result<bool, Fail> {
-    let day = master_day(alloc, &PAIR_DAY)?;
-    let is_same = is_same_on(alloc, &day);
-    drop(day);
-    is_same
-}
-
-#[test]
-fn the_root_of_pairs_again(rt: HostRuntime) -> Result<(), Fail> {
-    assert!(rt; is_same_on_pairs(rt.alloc())?);
-    Ok(())
 }

@@ -1,13 +1,11 @@
-//! Worked rows of fractions, of the simplex method, of scouts, of the rows of a master and of its rounded prices, as
-//! tests over public calls.
+//! Worked rows of fractions, of the simplex method, of scouts and of a master's rounded prices, as tests over public
+//! calls.
 #![tactic(auto)]
 
 #[cfg(test)]
 mod fractions;
 #[cfg(test)]
 mod listed;
-#[cfg(test)]
-mod node_rows;
 #[cfg(test)]
 mod reduced;
 #[cfg(test)]

@@ -1,7 +1,7 @@
 ghost use Rattle.std.specs.Prelude.{◌≡◌};
 ghost use Rattle.scout.specs.Sizes.{row_count};
 
-use roster_model::{List, Memory};
+use roster_model::Memory;
 use scout::{Grown, Key, LastRow, Limits, Scout, Scouted, Sign};
 use std::alloc::Global;
 
@@ -54,41 +54,47 @@ fn is_about(value: i128, whole: i64) -> bool {
     value.saturating_sub(wanted).unsigned_abs() <= 65_536
 }
 
+/// A start with a column twice, with one that is not listed, and with one that the program does not have.
+const NO_BASIS: [Key; 8] = [
+    Key::Listed(0),
+    Key::Listed(0),
+    Key::Listed(99),
+    Key::Missing(77),
+    Key::Beyond(4),
+    Key::Missing(0),
+    Key::Missing(1),
+    Key::Missing(3),
+];
+
+/// Whether a run from here ends at a cost of 3.
+fn costs_three(scout: &mut Scout) -> bool {
+    scout.run(LIMITS) == Scouted::Optimal && is_about(scout.value(), 3)
+}
+
+/// Whether it costs 3 with the right sides settled too, by halves of shifts.
+fn costs_three_settled(scout: &mut Scout) -> bool {
+    scout.settle(LIMITS) == Scouted::Optimal
+        && is_about(scout.value(), 3)
+        && scout.values().iter().any(|value| value.raw() == ONE / 2)
+}
+
+/// Whether each start leads to that cost.
+fn costs_three_from_each(scout: &mut Scout) -> bool {
+    scout.start_beyond().is_ok()
+        && costs_three(scout)
+        && costs_three_settled(scout)
+        && scout.start_missing().is_ok()
+        && costs_three(scout)
+        && scout.start(&NO_BASIS).is_ok()
+        && costs_three(scout)
+}
+
 #[test]
 fn three_halves_cost_3(rt: HostRuntime) {
     let mut scout = three_shifts(rt.alloc()).expect(&rt, "memory");
-    assert!(rt; scout.start_beyond().is_ok());
-    assert_eq!(rt; scout.run(LIMITS), Scouted::Optimal);
-    assert!(rt; is_about(scout.value(), 3));
-    assert_eq!(rt; scout.settle(LIMITS), Scouted::Optimal);
-    assert!(rt; is_about(scout.value(), 3));
-    assert!(rt; scout.values().iter().any(|value| value.raw() == ONE / 2));
-}
-
-#[test]
-fn all_missing_is_a_start_too(rt: HostRuntime) {
-    let mut scout = three_shifts(rt.alloc()).expect(&rt, "memory");
-    assert!(rt; scout.start_missing().is_ok());
-    assert_eq!(rt; scout.run(LIMITS), Scouted::Optimal);
-    assert!(rt; is_about(scout.value(), 3));
-}
-
-#[test]
-fn a_start_that_is_no_basis(rt: HostRuntime) {
-    let mut scout = three_shifts(rt.alloc()).expect(&rt, "memory");
-    let keys = [
-        Key::Listed(0),
-        Key::Listed(0),
-        Key::Listed(99),
-        Key::Missing(77),
-        Key::Beyond(4),
-        Key::Missing(0),
-        Key::Missing(1),
-        Key::Missing(3),
-    ];
-    assert!(rt; scout.start(&keys).is_ok());
-    assert_eq!(rt; scout.run(LIMITS), Scouted::Optimal);
-    assert!(rt; is_about(scout.value(), 3));
+    let are_halves = costs_three_from_each(&mut scout);
+    drop(scout);
+    assert!(rt; are_halves);
 }
 
 /// Whether a program that starts with slacks is solved.
@@ -164,20 +170,24 @@ fn nested(alloc: Global) -> Result<Scout, Memory> {
     Ok(scout)
 }
 
-#[test]
-fn nested_rows_grow(rt: HostRuntime) {
-    let mut scout = nested(rt.alloc()).expect(&rt, "memory");
+/// Whether all columns grow as a start, and a run from another start does.
+fn grows(scout: &mut Scout) -> bool {
     let mut keys = [Key::Listed(0); 40];
     for (number, key) in keys.iter_mut().enumerate() {
         *key = Key::Listed(number);
     }
-    assert_eq!(rt; scout.start(&keys), Err(Grown));
-    assert!(rt; scout.start_missing().is_ok());
-    assert_eq!(rt; scout.run(LIMITS), Scouted::Grew);
+    scout.start(&keys) == Err(Grown)
+        && scout.start_missing().is_ok()
+        && scout.run(LIMITS) == Scouted::Grew
 }
 
-/// The number 1 in units of 2^-56.
-const VALUE_ONE: i128 = 1 << 56;
+#[test]
+fn nested_rows_grow(rt: HostRuntime) {
+    let mut scout = nested(rt.alloc()).expect(&rt, "memory");
+    let has_grown = grows(&mut scout);
+    drop(scout);
+    assert!(rt; has_grown);
+}
 
 /// The number 1 in units of 2^-40.
 const PRICE_ONE: i128 = 1 << 40;
@@ -235,80 +245,29 @@ fn are_thirds(scout: &Scout, values: &[i128]) -> bool {
     listed == 4 && values.len() == 6
 }
 
-#[test]
-fn refined_thirds(rt: HostRuntime) {
-    let mut scout = four_thirds(rt.alloc()).expect(&rt, "memory");
-    assert!(rt; scout.start_beyond().is_ok());
-    assert_eq!(rt; scout.run(LIMITS), Scouted::Optimal);
-    // The right sides are still perturbed, so the values that are refined are off.
-    let values = scout.refined_values(rt.alloc()).expect(&rt, "memory");
-    assert!(rt; are_thirds(&scout, values.as_slice()));
-    assert_eq!(rt; scout.settle(LIMITS), Scouted::Optimal);
-    let values = scout.refined_values(rt.alloc()).expect(&rt, "memory");
-    assert!(rt; are_thirds(&scout, values.as_slice()));
-}
+/// The prices of the rows: three periods have that of a shift together, so each has 2 thirds.
+const PRICES: [i128; 6] = [
+    733_007_751_851,
+    733_007_751_851,
+    733_007_751_851,
+    733_007_751_851,
+    0,
+    0,
+];
 
-#[test]
-fn refined_prices_of_thirds(rt: HostRuntime) {
-    let mut scout = four_thirds(rt.alloc()).expect(&rt, "memory");
-    assert!(rt; scout.start_beyond().is_ok());
-    assert_eq!(rt; scout.run(LIMITS), Scouted::Optimal);
-    let prices = scout.refined_prices(rt.alloc(), &[]).expect(&rt, "memory");
-    // The prices of three periods are the cost of a shift, so each is 2 thirds.
-    let wanted = [
-        733_007_751_851,
-        733_007_751_851,
-        733_007_751_851,
-        733_007_751_851,
-        0,
-        0,
-    ];
-    assert_eq!(rt; prices.len(), 6);
-    assert!(rt;
-        prices
-            .as_slice()
+fn are_two_thirds(prices: &[i128]) -> bool {
+    prices.len() == 6
+        && prices
             .iter()
-            .zip(&wanted)
-            .all(|(price, third)| is_near(*price, *third))
-    );
+            .zip(&PRICES)
+            .all(|(price, wanted)| is_near(*price, *wanted))
 }
 
-/// Whether all numbers are multiples of a half in units of 2^-56.
-fn are_halves(values: &[i128]) -> bool {
-    values.iter().all(|value| *value % (VALUE_ONE / 2) == 0)
-}
-
-#[test]
-fn refined_halves_are_exact(rt: HostRuntime) {
-    let mut scout = three_shifts(rt.alloc()).expect(&rt, "memory");
-    assert!(rt; scout.start_beyond().is_ok());
-    assert_eq!(rt; scout.run(LIMITS), Scouted::Optimal);
-    // The perturbed values are off, and what they leave of the right sides becomes 0.
-    let values = scout.refined_values(rt.alloc()).expect(&rt, "memory");
-    assert!(rt; are_halves(values.as_slice()));
-    assert!(rt;
-        values
-            .as_slice()
-            .iter()
-            .any(|value| *value == VALUE_ONE / 2)
-    );
-}
-
-/// Returns the prices of a program of one row that no listed column meets, where its own column costs what
-/// counts for it.
-fn price_of_missing(alloc: Global, missing: &[i64]) -> Result<List<i128>, Memory> {
-    let mut scout = Scout::new(alloc, &[1], &[DEAR], &[Some(0)])?;
-    let _started = scout.start_missing();
-    let _end = scout.run(LIMITS);
-    scout.refined_prices(alloc, missing)
-}
-
-#[test]
-fn prices_at_the_true_cost(rt: HostRuntime) {
-    let prices = price_of_missing(rt.alloc(), &[]).expect(&rt, "memory");
-    assert!(rt; prices.as_slice() == [131_072 * PRICE_ONE].as_slice());
-    let prices = price_of_missing(rt.alloc(), &[70_000_000_001]).expect(&rt, "memory");
-    assert!(rt; prices.as_slice() == [70_000_000_001 * PRICE_ONE].as_slice());
+/// Whether the values and the prices of that master's basis are refined, where its right sides are still perturbed.
+fn are_refined(alloc: Global, scout: &Scout) -> Result<bool, Memory> {
+    let values = scout.refined_values(alloc)?;
+    let prices = scout.refined_prices(alloc, &[])?;
+    Ok(are_thirds(scout, values.as_slice()) && are_two_thirds(prices.as_slice()))
 }
 
 /// Whether a float is this many thirds, within 2^-30.
@@ -326,42 +285,77 @@ fn thirds_of_first(key: Option<Key>) -> f64 {
     }
 }
 
-#[test]
-fn products_with_the_inverse(rt: HostRuntime) {
-    let mut scout = four_thirds(rt.alloc()).expect(&rt, "memory");
-    assert!(rt; scout.start_beyond().is_ok());
-    assert_eq!(rt; scout.run(LIMITS), Scouted::Optimal);
-    let mut room = scout.product_room(rt.alloc()).expect(&rt, "memory");
+/// A side with one employee in the first period.
+const FIRST_PERIOD: [f64; 6] = [1.0, 0.0, 0.0, 0.0, 0.0, 0.0];
+
+/// Shifts at 1, and the rows' own columns at 0.
+const COSTS: [f64; 6] = [1.0, 1.0, 1.0, 1.0, 0.0, 0.0];
+
+/// Whether the products of the inverse with a side and with costs are those of that master.
+fn are_products(alloc: Global, scout: &Scout) -> Result<bool, Memory> {
+    let mut room = scout.product_room(alloc)?;
     let mut out = [7.0; 6];
-    scout.inverse_times(&[1.0, 0.0, 0.0, 0.0, 0.0, 0.0], &mut room, &mut out);
-    for (place, number) in out.iter().enumerate() {
-        assert!(rt; are_float_thirds(*number, thirds_of_first(scout.basic(place))));
-    }
-    // The shifts cost 1, and what the rows' own columns cost is 0.
-    let costs = [1.0, 1.0, 1.0, 1.0, 0.0, 0.0];
-    scout.times_inverse(&costs, &mut room, &mut out);
-    let wanted = [1.0, 1.0, 1.0, 1.0, 0.0, 0.0];
-    assert!(rt;
-        out.iter()
-            .zip(&wanted)
-            .all(|(number, thirds)| are_float_thirds(*number, *thirds))
-    );
+    scout.inverse_times(&FIRST_PERIOD, &mut room, &mut out);
+    let are_shares = out.iter().enumerate().all(|(place, share)| are_float_thirds(
+        *share,
+        thirds_of_first(scout.basic(place)),
+    ));
+    // A third of the cost of three shifts for each period.
+    scout.times_inverse(&COSTS, &mut room, &mut out);
+    let are_prices = out
+        .iter()
+        .zip(&COSTS)
+        .all(|(price, thirds)| are_float_thirds(*price, *thirds));
+    drop(room);
+    Ok(are_shares && are_prices)
 }
 
-#[test]
-fn tighter_runs(rt: HostRuntime) {
-    let mut scout = four_thirds(rt.alloc()).expect(&rt, "memory");
+/// Whether that master is solved with an eighth of the tolerances.
+fn is_solved_tighter(scout: &mut Scout) -> bool {
     scout.tighten(0.125);
     // 2^-14 and 2^-20
-    assert!(rt; scout.tolerances().reduced == 6.103515625e-5);
-    assert!(rt; scout.tolerances().value == 9.5367431640625e-7);
-    assert!(rt; scout.start_beyond().is_ok());
-    assert_eq!(rt; scout.run(LIMITS), Scouted::Optimal);
-    assert_eq!(rt; scout.settle(LIMITS), Scouted::Optimal);
-    assert!(rt;
-        scout
+    scout.tolerances().reduced == 6.103515625e-5
+        && scout.tolerances().value == 9.5367431640625e-7
+        && is_solved(scout)
+        && scout.settle(LIMITS) == Scouted::Optimal
+        && scout
             .values()
             .iter()
             .any(|value| is_about(i128::from(value.raw()) * 3, 1))
-    );
+}
+
+/// Whether that master is solved by thirds.
+fn is_solved_by_thirds(alloc: Global, scout: &mut Scout) -> Result<bool, Memory> {
+    Ok(
+        is_solved(scout)
+            && are_refined(alloc, scout)?
+            && are_products(alloc, scout)?
+            && is_solved_tighter(scout),
+    )
+}
+
+#[test]
+fn refined_thirds(rt: HostRuntime) {
+    let mut scout = four_thirds(rt.alloc()).expect(&rt, "memory");
+    let solved = is_solved_by_thirds(rt.alloc(), &mut scout);
+    drop(scout);
+    assert!(rt; solved.expect(&rt, "memory"));
+}
+
+/// What a missing unit costs, above what a scout lets it cost.
+const TRUE_COST: i64 = 70_000_000_001;
+
+/// Whether a row that no listed column meets has the price of its own column, at the true cost.
+fn has_true_cost(alloc: Global) -> Result<bool, Memory> {
+    let mut scout = Scout::new(alloc, &[1], &[DEAR], &[Some(0)])?;
+    let solved = scout.start_missing().is_ok() && scout.run(LIMITS) == Scouted::Optimal;
+    let prices = scout.refined_prices(alloc, &[TRUE_COST]);
+    drop(scout);
+    let prices = prices?;
+    Ok(solved && prices.as_slice() == [i128::from(TRUE_COST) * PRICE_ONE].as_slice())
+}
+
+#[test]
+fn prices_at_the_true_cost(rt: HostRuntime) {
+    assert!(rt; has_true_cost(rt.alloc()).expect(&rt, "memory"));
 }

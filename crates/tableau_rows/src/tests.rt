@@ -61,52 +61,16 @@ const ZERO_ROW: Row = Row {
     ..PAIR_ROW
 };
 
-/// Two steps, in each of which rows have equal ratios. The second takes the place of the first.
-const CHANGED_ROW: Row = Row {
-    columns: &[(5, [1, 1, 0]), (5, [1, 1, 1])],
-    pivots: 2,
-    answer: Answer::End(End {
-        value: (5, 1),
-        prices: [-15, 10, 10],
-        basic: &[(2, (0, 1)), (1, (0, 1)), (4, (1, 1))],
-    }),
-    ..PAIR_ROW
-};
-
-/// Columns of what is beyond in a row, which cost nothing.
-const BEYOND_ROW: Row = Row {
-    right: [2, 1, 0],
-    columns: &[
-        (3, [1, 1, 0]),
-        (1, [1, 0, 1]),
-        (0, [0, 0, -1]),
-        (0, [0, -1, 0]),
-    ],
-    answer: Answer::End(End {
-        value: (4, 1),
-        prices: [1, 2, 0],
-        basic: &[(4, (1, 1)), (3, (1, 1)), (5, (1, 1))],
-    }),
-    ..PAIR_ROW
-};
-
 const LARGE: [ColumnParts; 3] = [
     (1, [(1 << 61) - 1, 0, 0]),
     (1, [0, 1 << 61, 0]),
     (1, [0, 0, (1 << 61) + 1]),
 ];
 
-/// Columns with entries above 1.
-const LARGE_ROW: Row = Row {
-    columns: &LARGE,
-    answer: Answer::Wide,
-    ..PAIR_ROW
-};
-
-static FOUND: [Row; 4] = [PAIR_ROW, ZERO_ROW, CHANGED_ROW, BEYOND_ROW];
+static FOUND: [Row; 2] = [PAIR_ROW, ZERO_ROW];
 
 /// Programs whose pivots run out.
-static SPENT: [Row; 3] = [
+static SPENT: [Row; 2] = [
     Row {
         pivots: 2,
         answer: Answer::Spent,
@@ -117,20 +81,16 @@ static SPENT: [Row; 3] = [
         answer: Answer::Spent,
         ..PAIR_ROW
     },
-    Row {
-        pivots: 1,
-        answer: Answer::Spent,
-        ..CHANGED_ROW
-    },
 ];
 
 /// Programs whose numbers are too wide.
-static WIDE: [Row; 3] = [
-    LARGE_ROW,
-    // Costs of units above 2^39.
+static WIDE: [Row; 2] = [
+    // Entries above 1, and costs of units above 2^39.
     Row {
         cost: 1 << 40,
-        ..LARGE_ROW
+        columns: &LARGE,
+        answer: Answer::Wide,
+        ..PAIR_ROW
     },
     // A value above 2^56 at the start.
     Row {
