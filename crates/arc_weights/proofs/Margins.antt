@@ -3,7 +3,7 @@ use Rattle.std.proofs.Common.{ltb-true, ltb-false, ◌≡◌, ℕ, arith, ◌+�
 use Rattle.std.specs.Prelude.{◌&&◌, nat_lt}
 use Rattle.std.proofs.lemmas.Bool.{and_parts}
 use Rattle.std.proofs.Math.Nat.{mul-le-mul_left}
-use Rattle.bound_laws.specs.near_laws.NearSharp.{IsWellBetween, IsNearly, IsNearlyWhole}
+use Rattle.bound_laws.specs.near_laws.NearSharp.{IsWellBetween, IsNearly}
 use Rattle.arc_weights.specs.Choices.{is_fraction, nearest}
 use Rattle.arc_weights.proofs.Units.{cancel_le, less}
 
@@ -48,17 +48,19 @@ module _ (d s : ℕ) (some : 1 ≤ d) where
       let r = rest_less in
       record { above = omega (arith, low); below = omega (arith, high, r) }
 
-  pub nearly_whole : is_fraction d (d / 4096) s ≡ false → IsNearlyWhole d s
-  nearly_whole e = by (close d (d / 4096) s e)
+  pub nearly_nearest : is_fraction d (d / 4096) s ≡ false → IsNearly d (nearest d (d / 4096) s) s
+  nearly_nearest e = by (nat_lt (d / 4096) (s % d)) refl (close d (d / 4096) s e)
     where
-      by : (s % d ≤ d / 4096) ⊎ (d - s % d ≤ d / 4096) → IsNearlyWhole d s
-      by (inl l) =
-          let h : 4096 * (s % d) ≤ d = omega (arith, l) in
-          (s / d, record { above = omega (arith, h); below = omega arith })
-      by (inr l) =
+      by : (b : Bool) → nat_lt (d / 4096) (s % d) ≡ b → (s % d ≤ d / 4096) ⊎ (d - s % d ≤ d / 4096)
+          → IsNearly d (cond b (s / d + 1) (s / d)) s
+      by false f h =
+          let l : 4096 * (s % d) ≤ d = omega (arith, ltb-false (d / 4096) (s % d) f) in
+          record { above = omega (arith, l); below = omega arith }
+      by true f (inl l) = let m = ltb-true (d / 4096) (s % d) f in absurd (omega (arith, l, m))
+      by true f (inr l) =
           let h : 4096 * (d - s % d) ≤ d = omega (arith, l) in
           let r = rest_less in
-          (s / d + 1, record { above = omega (arith, r); below = omega (arith, h, r) })
+          record { above = omega (arith, r); below = omega (arith, h, r) }
 
 -- ---- the same number over another denominator
 module _ (d q s n : ℕ) (some : 0 < d) (e : q * s ≡ d * n) where

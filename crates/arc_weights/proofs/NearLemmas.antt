@@ -11,7 +11,7 @@ use Rattle.roster_model.specs.SoundInstance.{IsSoundInstance}
 use Rattle.parse_graph.specs.Graphs.{GraphView, IsGraph}
 use Rattle.arc_counts.specs.count_boxes.Boxes.{BoxView}
 use Rattle.arc_counts.specs.count_boxes.Paths.{IsBoxOf}
-use Rattle.bound_laws.specs.near_laws.NearSharp.{IsWellBetween, IsNearlyWhole, LackMuch, near_weight}
+use Rattle.bound_laws.specs.near_laws.NearSharp.{IsWellBetween, IsNearly, LackMuch, near_weight}
 use Rattle.tree_pool.specs.Pools.{PoolTree}
 use Rattle.node_columns.specs.declared.weights.Weight.{Weight}
 use Rattle.node_master.specs.Ends.{IsNear}
@@ -19,10 +19,12 @@ use Rattle.arc_weights.specs.Weighed.{IsNearBetween, AreNearWhole}
 use Rattle.arc_weights.specs.Denominators.{IsDenominator}
 use Rattle.arc_weights.specs.Sums.{AreSums}
 use Rattle.arc_weights.specs.Choices.{nearest, CountAsWhole, AreRounded, IsChoice, IsMissed}
-use Rattle.arc_weights.proofs.Steps.{get_some}
+use Rattle.arc_counts.specs.roster_split.Counts.{count_of}
+use Rattle.arc_counts.proofs.roster_split.Places.{count-at}
+use Rattle.arc_weights.proofs.Steps.{get_some, index_map}
 use Rattle.arc_weights.proofs.SumsLemmas.{get_lt}
 use Rattle.arc_weights.proofs.SolvingWeights.{of_near, all_is, weight_most, sum_is}
-use Rattle.arc_weights.proofs.Margins.{well_between, nearly_whole, well_over, nearly_over, below_high}
+use Rattle.arc_weights.proofs.Margins.{well_between, nearly_nearest, well_over, nearly_over, below_high}
 use Rattle.arc_weights.proofs.Lacking.{lack_much}
 
 module _ (i : Instance) (v : GraphView) (cuts : List Cut) (columns : List PoolTree) (weights : List Weight)
@@ -44,11 +46,14 @@ module _ (i : Instance) (v : GraphView) (cuts : List Cut) (columns : List PoolTr
     whole = λ p w a is. at p w a (graph.arcs.whole a is);
   }
     where
-      at : (p : Prices) (w : IsNear i cuts columns p weights) (a : ArcKey) → ((place : ℕ) × (slice_get v.arcs place ≡ Some a)) → IsNearlyWhole (2 ^ 56) (near_weight a w.trees)
+      at : (p : Prices) (w : IsNear i cuts columns p weights) (a : ArcKey) → ((place : ℕ) × (slice_get v.arcs place ≡ Some a))
+          → IsNearly (2 ^ 56) (count_of v.arcs counts a) (near_weight a w.trees)
       at p w a (place, e) =
+          let s = slice_index sums place in
           let l : place < length sums = omega (arith, are.each, get_lt v.arcs place a e) in
-          let k = nearly_whole d (slice_index sums place) common.some (multiples place l) in
-          (k.0, nearly_over d (2 ^ 56) (slice_index sums place) (near_weight a w.trees) common.some (near_sum p w place a e) k.0 k.1)
+          let c : count_of v.arcs counts a ≡ nearest d (d / 4096) s =
+          count-at v.arcs counts graph.arcs.once place a e ∙ ap (λ (xs : List ℕ). slice_index xs place) rounded ∙ index_map (λ (x : ℕ). nearest d (d / 4096) x) sums place l in
+          rw c (nearly_over d (2 ^ 56) s (near_weight a w.trees) common.some (near_sum p w place a e) (nearest d (d / 4096) s) (nearly_nearest d s common.some (multiples place l)))
 
   module _ (box : BoxView) (left : IsBoxOf i v cuts box) where
     pub near_between : ((p : Prices) × IsNear i cuts columns p weights) → (arc b : ℕ) → IsChoice box.bounds d (d / 4096) sums (arc, b) → IsNearBetween i v cuts columns weights arc b

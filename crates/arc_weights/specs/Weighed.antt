@@ -4,13 +4,14 @@ use Rattle.roster_model.specs.declared.grammar.ArcKey.{ArcKey}
 use Rattle.roster_model.specs.declared.instance.Cut.{Cut}
 use Rattle.roster_model.specs.declared.instance.Instance.{Instance}
 use Rattle.roster_model.specs.declared.instance.Prices.{Prices}
+use Rattle.roster_model.specs.Arcs.{IsArc}
 use Rattle.roster_model.specs.Cuts.{lo, hi}
 use Rattle.roster_model.specs.arc_laws.Lists.{AreArcs}
 use Rattle.parse_graph.specs.Graphs.{GraphView}
 use Rattle.tree_pool.specs.Pools.{PoolTree}
 use Rattle.bound_laws.specs.master_laws.Sharp.{UsesArtificial, AreFine, arc_weight}
 use Rattle.bound_laws.specs.master_laws.WholeCounts.{HasCounts}
-use Rattle.bound_laws.specs.near_laws.NearSharp.{IsWellBetween, AreNearlyWhole, LackMuch, near_weight}
+use Rattle.bound_laws.specs.near_laws.NearSharp.{IsWellBetween, IsNearly, LackMuch, near_weight}
 use Rattle.node_columns.specs.declared.weights.Weight.{Weight}
 use Rattle.node_master.specs.declared.ends.Solution.{Solution}
 use Rattle.node_master.specs.declared.ends.Solution.TheVariants.{Exact, Near}
@@ -48,11 +49,12 @@ pub record IsNearBetween (i : Instance) (v : GraphView) (cuts : List Cut) (colum
   pub well : (p : Prices) (w : IsNear i cuts columns p weights)
       → IsWellBetween (2 ^ 56) b (near_weight key w.trees)
 
--- the trees of each arc weigh nearly a whole number together
+-- the trees of each arc weigh its count together, or are within 2^-12 of it
 pub record AreNearWhole (i : Instance) (v : GraphView) (cuts : List Cut) (columns : List PoolTree)
     (weights : List Weight) (counts : List ℕ) : Type 0 where
   pub each : length counts ≡ length v.arcs
-  pub whole : (p : Prices) (w : IsNear i cuts columns p weights) → AreNearlyWhole i (2 ^ 56) w.trees
+  pub whole : (p : Prices) (w : IsNear i cuts columns p weights) (a : ArcKey) → IsArc i.grammar a
+      → IsNearly (2 ^ 56) (count_of v.arcs counts a) (near_weight a w.trees)
 
 -- what the answer says of an exact solution, and of a near one
 abbrev pub IsWeighed : Instance → GraphView → List Cut → List PoolTree → List Weight → Solution → Weighed

@@ -18,6 +18,7 @@ use Rattle.branch_price.specs.declared.progress.Progress.{Progress}
 use Rattle.branch_price.specs.Searching.{site_of, IsSearching}
 use Rattle.branch_price.specs.Steps.{IsBegun}
 use Rattle.branch_price.specs.Ends.{LeavesReach, IsFinal, IsNext}
+use Rattle.branch_price.proofs.EndedLeaves.{ended-leaves}
 
 -- what is known of the tree, whatever is in hand
 pub final-is : (s : Site) (now low : ℕ) (hand : List OpenLeaf) (p : Progress) (t : Grown)
@@ -25,6 +26,7 @@ pub final-is : (s : Site) (now low : ℕ) (hand : List OpenLeaf) (p : Progress) 
 final-is s now low hand p t is = record {
   growing = is.tree.growing;
   held = is.tree.held;
+  leaves = ended-leaves s (limit_of s.day p.best) now low hand p.tree t is.tree;
   few = few-seats s (limit_of s.day p.best) now low hand p.tree t is.tree;
   processed = is.tree.processed;
   failed = is.tree.failed;

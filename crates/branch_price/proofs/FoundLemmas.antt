@@ -1,5 +1,5 @@
 -- At the end of a search its tree is what a certificate needs.
-use Rattle.std.proofs.Common.{◌≡◌, ℕ, arith, ◌≤◌, Bool, Option, None, Some, IfSome, List, [], ◌∷◌, ◌++◌, length, length-append, refl, sym, ap, subst, ◌∙◌}
+use Rattle.std.proofs.Common.{◌≡◌, ℕ, arith, ◌≤◌, Bool, Option, None, Some, IfSome, List, [], ◌∷◌, ◌++◌, length, length-append, refl, sym, ap, subst, ◌∙◌, inl, inr}
 use Rattle.std.proofs.lemmas.List.{append-nil}
 use Rattle.roster_model.specs.declared.grammar.ArcKey.{ArcKey}
 use Rattle.roster_model.specs.declared.instance.Cut.{Cut}
@@ -21,11 +21,11 @@ use Rattle.certificates.specs.Sound.{most_cost, IsSoundCert, IsSoundShift, NoneI
 use Rattle.certificates.proofs.OneTree.{same_start}
 use Rattle.certificates.specs.certificate_laws.Accepted.{IsStated, bound_number}
 use Rattle.certificates.specs.certificate_laws.Shown.{Shows}
-use Rattle.certificates.specs.growing_laws.Grown.{Grown, tip, fork, Leaf, fresh, valued, fixed, Own, OnForks, prices_of, leaf_proof, proof_of, numbers, shown}
+use Rattle.certificates.specs.growing_laws.Grown.{Grown, tip, fork, Leaf, fresh, valued, fixed, Own, OnTips, OnForks, prices_of, leaf_proof, proof_of, numbers, shown}
 use Rattle.certificates.specs.growing_laws.States.{IsLeaf, IsOwn, IsSplit, IsTip, IsGrowing, OwnShows, IsGrownProof}
 use Rattle.certificates.proofs.growing_laws.NodeCounts.{grown-counts}
 use Rattle.certificates.proofs.growing_laws.GrownLemmas.{ForkFact, tips-map, forks-map, grown-visits}
-use Rattle.certificates.proofs.growing_laws.StatesLemmas.{growing-proves}
+use Rattle.certificates.proofs.growing_laws.StatesLemmas.{growing-proves, tips-both}
 use Rattle.search_tree.specs.Trees.{is_too_long}
 use Rattle.candidate_rosters.specs.declared.roster.Roster.{Roster}
 use Rattle.candidate_rosters.specs.Order.{AreAscending}
@@ -34,7 +34,7 @@ use Rattle.candidate_rosters.specs.Starts.{StartsWith, IsAtMostStart}
 use Rattle.candidate_rosters.specs.Offers.{limit_of, cost_of}
 use Rattle.candidate_rosters.proofs.Limits.{cost-most}
 use Rattle.branch_price.specs.declared.progress.Progress.{Progress}
-use Rattle.branch_price.specs.Ends.{IsEnd, IsDoneAt, AsksEnd, IsStatedBy}
+use Rattle.branch_price.specs.Ends.{IsEndedLeaf, IsEnd, IsDoneAt, AsksEnd, IsStatedBy}
 use Rattle.branch_price.specs.Found.{IsDone, IsSplitNode, IsSharpNode, IsFoundNode, IsLooseNode, IsFound, AreCounted}
 use Rattle.branch_price.proofs.SoundEnds.{greatest-cost-most, nodes-sound, nodes-listed}
 
@@ -62,10 +62,11 @@ leaf_found i strict limit bound path fresh h = (tt, tt)
 leaf_found i strict limit bound path (valued o) h = (record { best = h.0.best; few = h.0.few }, tt)
 leaf_found i strict limit bound path (fixed v) h = (tt, tt)
 
-leaf_sharp : (i : Instance) (path : List Cut) (l : Leaf) → Each (λ (v : Visit). IsSharpNode i v v.node) (visits path (leaf_proof l))
-leaf_sharp i path fresh = (tt, tt)
-leaf_sharp i path (valued o) = (tt, tt)
-leaf_sharp i path (fixed v) = (tt, tt)
+leaf_sharp : (i : Instance) (limit : ℕ) (path : List Cut) (l : Leaf) → IsLeaf i limit path l → IsEndedLeaf i limit path l → Each (λ (v : Visit). IsSharpNode i limit v v.node) (visits path (leaf_proof l))
+leaf_sharp i limit path fresh h e = (tt, tt)
+leaf_sharp i limit path (valued o) h (inl le) = (inl (λ x is. let e = one-priced i o.prices path x o.value is h.0.value in omega (arith, e, le)), tt)
+leaf_sharp i limit path (valued o) h (inr s) = (inr s, tt)
+leaf_sharp i limit path (fixed v) h e = (tt, tt)
 
 leaf_loose : (i : Instance) (limit : ℕ) (path : List Cut) (l : Leaf) → IsLeaf i limit path l → Each (λ (v : Visit). IsLooseNode i v v.node) (visits path (leaf_proof l))
 leaf_loose i limit path fresh h = (tt, tt)
@@ -78,10 +79,10 @@ own_found i strict low bound path a b None h s = h
 own_found i strict low bound path a b (Some o) h s =
     (record { best = h.0.best; few = h.0.few }, λ x is. let e = one-priced i o.prices path x o.value is h.0.value in omega (arith, e, s))
 
-own_sharp : (i : Instance) (strict : Bool) (low : ℕ) (path : List Cut) (a : ArcKey) (b : ℕ) (own : Option Own) → IsOwn i strict low path a b own
-    → IsSharpNode i (record { path = path; node = Split a b (prices_of own) }) (Split a b (prices_of own))
-own_sharp i strict low path a b None h = tt
-own_sharp i strict low path a b (Some o) h = h.1
+own_sharp : (i : Instance) (strict : Bool) (limit low : ℕ) (path : List Cut) (a : ArcKey) (b : ℕ) (own : Option Own) → IsOwn i strict low path a b own
+    → IsSharpNode i limit (record { path = path; node = Split a b (prices_of own) }) (Split a b (prices_of own))
+own_sharp i strict limit low path a b None h = tt
+own_sharp i strict limit low path a b (Some o) h = h.1
 
 module _ (i : Instance) (strict : Bool) (limit low n : ℕ) (t : Grown) (is : IsGrowing i strict limit low n t) where
   -- each node is right
@@ -91,11 +92,12 @@ module _ (i : Instance) (strict : Bool) (limit low n : ℕ) (t : Grown) (is : Is
       (forks-both (IsSplit i strict low) (λ path a b own. OwnShows (shown t) own) (λ path a b own. IsSplitNode i strict bound (record { path = path; node = Split a b (prices_of own) }) (prices_of own))
       (λ path a b own h s. own_found i strict low bound path a b own h.1 (subst (λ (m : ℕ). OwnShows m own) e s)) (base_cuts i) t is.forks (growing-proves i strict limit low n t is).owns)
 
-  -- and each split with prices is sharp
-  each-sharp : Each (λ (v : Visit). IsSharpNode i v v.node) (visits (base_cuts i) (proof_of t))
-  each-sharp = grown-visits (λ (v : Visit). IsSharpNode i v v.node) 0 (base_cuts i) t
-      (tips-map (IsTip i limit low n t) (λ up path k l. Each (λ (v : Visit). IsSharpNode i v v.node) (visits path (leaf_proof l))) (λ up path k l h. leaf_sharp i path l) 0 (base_cuts i) t is.tips)
-      (forks-map (IsSplit i strict low) (λ path a b own. IsSharpNode i (record { path = path; node = Split a b (prices_of own) }) (Split a b (prices_of own))) (λ path a b own h. own_sharp i strict low path a b own h.1) (base_cuts i) t is.forks)
+  -- and each split with prices is sharp; a leaf has one that is, or its prices show the limit
+  each-sharp : OnTips (λ up path k l. IsEndedLeaf i limit path l) 0 (base_cuts i) t → Each (λ (v : Visit). IsSharpNode i limit v v.node) (visits (base_cuts i) (proof_of t))
+  each-sharp leaves = grown-visits (λ (v : Visit). IsSharpNode i limit v v.node) 0 (base_cuts i) t
+      (tips-both (IsTip i limit low n t) (λ up path k l. IsEndedLeaf i limit path l) (λ up path k l. Each (λ (v : Visit). IsSharpNode i limit v v.node) (visits path (leaf_proof l)))
+      (λ up path k l h e. leaf_sharp i limit path l h.leaf e) 0 (base_cuts i) t is.tips leaves)
+      (forks-map (IsSplit i strict low) (λ path a b own. IsSharpNode i limit (record { path = path; node = Split a b (prices_of own) }) (Split a b (prices_of own))) (λ path a b own h. own_sharp i strict limit low path a b own h.1) (base_cuts i) t is.forks)
 
   -- and each priced leaf leaves some arc more than one count
   each-loose : Each (λ (v : Visit). IsLooseNode i v v.node) (visits (base_cuts i) (proof_of t))
@@ -215,7 +217,8 @@ module _ (i : Instance) (sound : IsSoundInstance i) (a : AsksEnd i) (p : Progres
     most = is.small;
     ascending = says.ascending;
     each = each-found i a.strict (limit_of i p.best) is.low (length p.tree.seats) is.tree is.final.growing (bound_number i bound) is.shows;
-    sharp = each-sharp i a.strict (limit_of i p.best) is.low (length p.tree.seats) is.tree is.final.growing;
+    sharp = subst (λ (x : Option ℕ). Each (λ (v : Visit). IsSharpNode i (bound_number i x) v v.node) (visits (base_cuts i) (proof_of is.tree))) (sym (same-cost p.best shifts cost said))
+        (each-sharp i a.strict (limit_of i p.best) is.low (length p.tree.seats) is.tree is.final.growing is.final.leaves);
     loose = λ busy. each-loose i a.strict (limit_of i p.best) is.low (length p.tree.seats) is.tree is.final.growing;
     infeasible = λ h. absurd (is.busy h);
     arcless = λ none. all ∙ ap preorder (is.arcless none);

@@ -11,6 +11,7 @@ pub mod FoundLemmas
 pub mod PlainPrices
 pub mod OneNode
 pub mod OldLemmas
+pub mod EndedLeaves
 pub mod EndsLemmas
 pub mod ShownLimit
 pub mod LoopsLemmas

@@ -23,6 +23,7 @@ use Rattle.bound_laws.specs.Infeasible.{IsPlainlyInfeasible}
 use Rattle.bound_laws.specs.Lagrangian.{IsLagrangian, lagrangian_sum}
 use Rattle.bound_laws.specs.Pinned.{IsPinned, IsPinnedValue}
 use Rattle.bound_laws.specs.Priced.{IsPricedValue}
+use Rattle.bound_laws.proofs.OneValue.{one-priced}
 use Rattle.bound_laws.proofs.SoundReady.{ready}
 use Rattle.check_parts.proofs.priced_part.WholeCosts.{whole_up}
 use Rattle.certificates.specs.declared.cert.Node.{Node}
@@ -152,7 +153,7 @@ module _ (i : Instance) (infeasible : IsPlainlyInfeasible i) where
         most = tt;
         ascending = tt;
         each = (plain-prices sound p (record { path = base_cuts i; node = Priced p }) is.0, tt);
-        sharp = (tt, tt);
+        sharp = (inl (λ x known. let e = one-priced i p (base_cuts i) x (greatest_cost i + 1) known value in omega (arith, e)), tt);
         loose = λ busy. absurd (busy infeasible);
         infeasible = λ h. record { nodes = refl; processed = refl; done = refl };
         arcless = λ none. absurd (is.2 none);

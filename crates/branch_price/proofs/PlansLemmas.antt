@@ -9,8 +9,12 @@ use Rattle.roster_model.specs.Cuts.{Meets, base_cuts}
 use Rattle.roster_model.specs.Folds.{Each}
 use Rattle.roster_model.specs.SoundInstance.{IsSoundInstance}
 use Rattle.roster_model.specs.Trees.{Parts}
+use Rattle.roster_model.specs.arc_laws.Counts.{counts_cost}
+use Rattle.roster_model.specs.arc_laws.Lists.{AreArcs}
+use Rattle.roster_model.proofs.arc_laws.Totals.{arcs-once}
 use Rattle.arc_counts.specs.count_boxes.Boxes.{BoxView}
 use Rattle.arc_counts.specs.count_boxes.Paths.{IsBoxOf, IsLooseAt}
+use Rattle.bound_laws.specs.Infeasible.{IsPlainlyInfeasible}
 use Rattle.bound_laws.specs.Priced.{IsPricedValue}
 use Rattle.bound_laws.specs.TreeRosters.{IsTreeRoster, trees_cost}
 use Rattle.fraction.specs.declared.frac.Frac.{Frac}
@@ -18,8 +22,11 @@ use Rattle.bound_laws.specs.linear_programs.Solution.{Weighted}
 use Rattle.bound_laws.specs.master_laws.Laws.{IsBelowHeads}
 use Rattle.bound_laws.specs.master_laws.Master.{MasterKey}
 use Rattle.bound_laws.specs.master_laws.Sharp.{UsesArtificial, AreFine}
+use Rattle.bound_laws.proofs.BaseCuts.{base-asks}
+use Rattle.bound_laws.proofs.Counted.{makes-roster, meets-cuts}
+use Rattle.bound_laws.proofs.OneValue.{one-priced}
 use Rattle.bound_laws.proofs.master_laws.WholeCountsLemmas.{can_be_split}
-use Rattle.bound_laws.specs.near_laws.NearSharp.{IsSharpFor, LackMuch, AreNearlyWhole}
+use Rattle.bound_laws.specs.near_laws.NearSharp.{IsSharpFor, LackMuch, AreRosterCounts, AreNearlyWhole}
 use Rattle.parse_graph.specs.Graphs.{GraphView, IsGraph}
 use Rattle.parse_graph.proofs.PlacesLemmas.{in-graph, of-graph}
 use Rattle.parse_graph.proofs.ArcOrderLemmas.{sorted-arcs}
@@ -72,7 +79,7 @@ exact-anywhere : (i : Instance) (cuts : List Cut) (pool : List PoolTree) (prices
 exact-anywhere i cuts pool prices weights w why = λ a b. inl (w.trees ++ w.others, w.d, record { basic = w.basic; least = w.least; reason = inr why })
 
 near-anywhere : (i : Instance) (cuts : List Cut) (pool : List PoolTree) (prices : Prices) (weights : List Weight) → (near : IsNear i cuts pool prices weights)
-    → LackMuch i cuts (2 ^ 56) near.trees ⊎ AreNearlyWhole i (2 ^ 56) near.trees → IsSharpAnywhere i cuts prices
+    → LackMuch i cuts (2 ^ 56) near.trees ⊎ AreNearlyWhole i cuts prices (2 ^ 56) near.trees → IsSharpAnywhere i cuts prices
 near-anywhere i cuts pool prices weights near why =
     λ a b. inr (near.trees, 2 ^ 56, record { positive = omega arith; trees = near.day; near = near.near; reason = inr why })
 
@@ -154,10 +161,29 @@ abbrev pub Reaches : Instance → GraphView → List ℕ → ℕ → Type 0
 Reaches i v counts limit = CanBeTrees i v counts → (x : ℕ) (cuts : List Cut) (ws : List (Weighted MasterKey)) → Reach i v counts cuts ws x
     → UsesArtificial i cuts ws ⊎ (limit ≤ x)
 
+-- where such counts were offered, prices that show less than the limit show less than their roster costs
+offered-dearer : (i : Instance) (v : GraphView) (cuts : List Cut) (prices : Prices) (shown limit : ℕ) (counts : List ℕ) → IsSoundInstance i → (IsPlainlyInfeasible i → ⊥)
+    → length counts ≡ length v.arcs → IsPricedValue i prices cuts shown → Reaches i v counts limit → shown < limit → (listed : List ArcKey) → AreArcs i.grammar listed
+    → AreRosterCounts i listed (count_of v.arcs counts) → (other : ℕ) → IsPricedValue i prices cuts other → other < counts_cost i listed (count_of v.arcs counts)
+offered-dearer i v cuts prices shown limit counts sound busy each is reaches lt listed arcs are other also =
+    by (reaches (record { each = each; listed = listed; are = arcs; balanced = are.counts.balanced }) (counts_cost i listed value) [] [] reach)
+  where
+    value = count_of v.arcs counts
+
+    reach : Reach i v counts [] [] (counts_cost i listed value)
+    reach ts have =
+        let once = arcs-once i.grammar listed arcs in
+        let r = makes-roster i listed value ts sound once are.counts (have listed arcs) in
+        inr (r.roster, meets-cuts i (base_cuts i) listed value ts once (have listed arcs) are.left (base-asks i sound busy), omega (arith, r.cost))
+
+    by : UsesArtificial i [] [] ⊎ (limit ≤ counts_cost i listed value) → other < counts_cost i listed value
+    by (inl u) = absurd u.1.1
+    by (inr le) = let e = one-priced i prices cuts other shown also is in omega (arith, e, le, lt)
+
 -- where the roster of whole weights was offered and some roster could still cost less, each split is sharp
-pub whole-anywhere : (i : Instance) (v : GraphView) (cuts : List Cut) (pool : List PoolTree) (s : Solved) (shown limit : ℕ) (counts : List ℕ) → IsSoundInstance i → IsGraph i.grammar v
+pub whole-anywhere : (i : Instance) (v : GraphView) (cuts : List Cut) (pool : List PoolTree) (s : Solved) (shown limit : ℕ) (counts : List ℕ) → IsSoundInstance i → (IsPlainlyInfeasible i → ⊥) → IsGraph i.grammar v
     → IsShown i cuts pool s shown → IsWeighed i v cuts pool s.weights s.solution (Whole counts) → Reaches i v counts limit → shown < limit → IsSharpAnywhere i cuts s.prices
-whole-anywhere i v cuts pool s shown limit counts sound graph is told reaches lt = by s.solution is.solved.how told
+whole-anywhere i v cuts pool s shown limit counts sound busy graph is told reaches lt = by s.solution is.solved.how told
   where
     artificial : (ws : List (Weighted MasterKey)) → UsesArtificial i cuts ws ⊎ (limit ≤ shown) → UsesArtificial i cuts ws
     artificial ws (inl u) = u
@@ -168,4 +194,8 @@ whole-anywhere i v cuts pool s shown limit counts sound graph is told reaches lt
         let w = how.1.weighted in
         exact-anywhere i cuts pool s.prices s.weights w (inl (artificial (w.trees ++ w.others) (reaches (whole-trees i v cuts pool s.weights counts sound graph w whole) shown cuts (w.trees ++ w.others)
         (whole-reach i v cuts pool s.prices how.0 s.weights shown counts graph how.1 is.value is.below is.based whole))))
-    by Near how whole = near-anywhere i cuts pool s.prices s.weights how (inr (whole.whole s.prices how))
+    by Near how whole = near-anywhere i cuts pool s.prices s.weights how (inr (record {
+      value = count_of v.arcs counts;
+      near = whole.whole s.prices how;
+      dearer = offered-dearer i v cuts s.prices shown limit counts sound busy whole.each is.value reaches lt;
+    }))

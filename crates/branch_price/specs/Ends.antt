@@ -1,5 +1,7 @@
 -- How a search takes its next leaf, and how it ends.
-use Rattle.std.specs.Prelude.{ℕ, ◌≡◌, ◌≢◌, ◌≤◌, ◌<◌, ◌+◌, ◌*◌, Bool, Option, None, Some, IsSome, IfSome, MatchOption, List, [], ◌∷◌, length}
+use Rattle.std.specs.Prelude.{ℕ, ◌≡◌, ◌≢◌, ◌≤◌, ◌<◌, ◌+◌, ◌*◌, ◌⊎◌, Bool, Option, None, Some, IsSome, IfSome, MatchOption, List, [], ◌∷◌, length}
+use Rattle.roster_model.specs.declared.grammar.ArcKey.{ArcKey}
+use Rattle.roster_model.specs.declared.instance.Cut.{Cut}
 use Rattle.roster_model.specs.declared.instance.Done.{Done}
 use Rattle.roster_model.specs.declared.instance.Done.TheVariants.{Equal, NoRoster, TurnsOut}
 use Rattle.roster_model.specs.declared.instance.Instance.{Instance}
@@ -8,10 +10,11 @@ use Rattle.roster_model.specs.Folds.{count}
 use Rattle.roster_model.specs.GreatestCost.{greatest_cost}
 use Rattle.bound_laws.specs.Infeasible.{IsPlainlyInfeasible}
 use Rattle.bound_laws.specs.Points.{IsPoints}
+use Rattle.bound_laws.specs.near_laws.NearSharp.{IsSharpFor}
 use Rattle.certificates.specs.Nodes.{visits, pinned}
 use Rattle.certificates.specs.certificate_laws.Accepted.{bound_number}
 use Rattle.parse_graph.specs.Graphs.{GraphView}
-use Rattle.certificates.specs.growing_laws.Grown.{Grown, OnTips, tip_bound, busy, missed, shown, proof_of}
+use Rattle.certificates.specs.growing_laws.Grown.{Grown, Leaf, fresh, valued, fixed, OnTips, tip_bound, busy, missed, shown, proof_of}
 use Rattle.certificates.specs.growing_laws.Boxes.{IsOpenLeaf}
 use Rattle.certificates.specs.growing_laws.Seats.{HoldTree}
 use Rattle.certificates.specs.growing_laws.States.{IsGrowing}
@@ -32,10 +35,17 @@ use Rattle.branch_price.specs.Found.{HasNoArc, IsFound, AreCounted}
 abbrev pub LeavesReach : Instance → ℕ → Grown → Type 0
 LeavesReach i limit t = OnTips (λ up path k l. IsOpenLeaf l → limit ≤ tip_bound up l) 0 (base_cuts i) t
 
+-- prices of a leaf that show no less than the limit, or for which some split of it is sharp or near-sharp
+abbrev pub IsEndedLeaf : Instance → ℕ → List Cut → Leaf → Type 0
+IsEndedLeaf i limit path fresh = Unit {0}
+IsEndedLeaf i limit path (valued o) = (limit ≤ o.value) ⊎ (a : ArcKey) × (b : ℕ) × IsSharpFor i path o.prices a b
+IsEndedLeaf i limit path (fixed v) = Unit {0}
+
 -- what is known of the tree at the end, whatever waits
 pub record IsFinal (s : Site) (now low : ℕ) (p : Progress) (t : Grown) : Type 0 where
   pub growing : IsGrowing s.day s.strict (limit_of s.day p.best) low (length p.tree.seats) t
   pub held : HoldTree p.tree.seats t
+  pub leaves : OnTips (λ up path k l. IsEndedLeaf s.day (limit_of s.day p.best) path l) 0 (base_cuts s.day) t
   pub few : length p.tree.seats ≤ 2 * p.tree.processed + 1
   pub processed : p.tree.processed ≡ busy t
   pub failed : p.tree.failed ≡ missed t

@@ -1,7 +1,8 @@
 -- What a search finds.
-use Rattle.std.specs.Prelude.{ℕ, ◌≡◌, ◌≢◌, ◌≤◌, ◌<◌, ◌+◌, ◌*◌, Bool, IsTrue, Option, None, Some, IsSome, IfSome, [], ◌∷◌, length}
+use Rattle.std.specs.Prelude.{ℕ, ◌≡◌, ◌≢◌, ◌≤◌, ◌<◌, ◌+◌, ◌*◌, ◌⊎◌, Bool, IsTrue, Option, None, Some, IsSome, IfSome, List, [], ◌∷◌, length}
 use Rattle.roster_model.specs.declared.instance.Instance.{Instance}
 use Rattle.roster_model.specs.declared.grammar.ArcKey.{ArcKey}
+use Rattle.roster_model.specs.declared.instance.Cut.{Cut}
 use Rattle.roster_model.specs.Arcs.{IsArc}
 use Rattle.roster_model.specs.Cuts.{base_cuts}
 use Rattle.roster_model.specs.Folds.{Each, count}
@@ -46,12 +47,17 @@ abbrev pub IsSplitNode : Instance → Bool → ℕ → Visit → Option Prices �
 IsSplitNode i strict bound v None = IsTrue strict → IsHard i v.path
 IsSplitNode i strict bound v (Some p) = ArePrices i v p × ((x : ℕ) → IsPricedValue i p v.path x → x ≤ bound)
 
-abbrev pub IsSharpNode : Instance → Visit → Node → Type 0
-IsSharpNode i v (Split a b (Some p)) = IsSharpFor i v.path p a b
-IsSharpNode i v (Split a b None) = Unit {0}
-IsSharpNode i v (Priced p) = Unit {0}
-IsSharpNode i v Pinned = Unit {0}
-IsSharpNode i v Bare = Unit {0}
+-- where a leaf has prices, they show no less than the limit, or some split of it is sharp, or near-sharp for them
+abbrev pub IsOpenOrDear : Instance → ℕ → List Cut → Prices → Type 0
+IsOpenOrDear i limit path p =
+    ((x : ℕ) → IsPricedValue i p path x → limit ≤ x) ⊎ (a : ArcKey) × (b : ℕ) × IsSharpFor i path p a b
+
+abbrev pub IsSharpNode : Instance → ℕ → Visit → Node → Type 0
+IsSharpNode i limit v (Split a b (Some p)) = IsSharpFor i v.path p a b
+IsSharpNode i limit v (Split a b None) = Unit {0}
+IsSharpNode i limit v (Priced p) = IsOpenOrDear i limit v.path p
+IsSharpNode i limit v Pinned = Unit {0}
+IsSharpNode i limit v Bare = Unit {0}
 
 abbrev pub IsFoundNode : Instance → Bool → ℕ → Visit → Node → Type 0
 IsFoundNode i strict bound v (Split a b own) = IsSplitNode i strict bound v own
@@ -83,8 +89,8 @@ pub record RanOut (i : Instance) (turns : ℕ) (f : Found) : Type 0 where
 
 -- The certificate is sound and accepted, its bound is what its tree shows, and each node is right. A bound
 -- that it states is at most the greatest cost. A plainly infeasible day has one node; on any other one a
--- priced leaf leaves some arc more than one count. A day without arcs has one pinned node, whatever its
--- roster costs.
+-- priced leaf leaves some arc more than one count. Prices of a leaf show no less than the roster costs, or leave it
+-- a sharp or near-sharp split. A day without arcs has one pinned node, whatever its roster costs.
 pub record IsFound (i : Instance) (strict : Bool) (turns : ℕ) (f : Found) : Type 0 where
   pub sound : IsSoundCert i f.cert
   pub accepted : Accepts i f.cert
@@ -95,7 +101,7 @@ pub record IsFound (i : Instance) (strict : Bool) (turns : ℕ) (f : Found) : Ty
   pub ascending : AreAscending f.cert.shifts
   pub each : Each (λ (v : Visit). IsFoundNode i strict (bound_number i f.cert.bound) v v.node)
       (visits (base_cuts i) proof)
-  pub sharp : Each (λ (v : Visit). IsSharpNode i v v.node) (visits (base_cuts i) proof)
+  pub sharp : Each (λ (v : Visit). IsSharpNode i (bound_number i f.cert.cost) v v.node) (visits (base_cuts i) proof)
   pub loose : (IsPlainlyInfeasible i → ⊥)
       → Each (λ (v : Visit). IsLooseNode i v v.node) (visits (base_cuts i) proof)
   pub infeasible : IsPlainlyInfeasible i → IsOneNode f

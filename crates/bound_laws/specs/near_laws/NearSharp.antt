@@ -5,8 +5,13 @@ use Rattle.roster_model.specs.declared.instance.Cut.{Cut}
 use Rattle.roster_model.specs.declared.instance.Instance.{Instance}
 use Rattle.roster_model.specs.declared.instance.Prices.{Prices}
 use Rattle.roster_model.specs.Arcs.{IsArc}
-use Rattle.roster_model.specs.Folds.{sum_n}
+use Rattle.roster_model.specs.Cuts.{base_cuts}
+use Rattle.roster_model.specs.Folds.{sum_n, In}
 use Rattle.roster_model.specs.Trees.{Parts, IsDayTree}
+use Rattle.roster_model.specs.arc_laws.Counts.{AreCounts, counts_cost}
+use Rattle.roster_model.specs.arc_laws.Lists.{AreArcs}
+use Rattle.bound_laws.specs.Counted.{IsLeft}
+use Rattle.bound_laws.specs.Priced.{IsPricedValue}
 use Rattle.bound_laws.specs.linear_programs.Solution.{Weighted, Each as EachKey}
 use Rattle.bound_laws.specs.master_laws.Rows.{Row, rows_of}
 use Rattle.bound_laws.specs.master_laws.Master.{is_artificial}
@@ -24,9 +29,6 @@ pub record IsNearly (q k n : ℕ) : Type 0 where
   pub above : 4096 * n ≤ 4096 * (q * k) + q
   pub below : 4096 * (q * k) ≤ 4096 * n + q
 
-abbrev pub IsNearlyWhole : ℕ → ℕ → Type 0
-IsNearlyWhole q n = (k : ℕ) × IsNearly q k n
-
 -- what the trees lack of a row that has an artificial column, times q
 abbrev pub lacking : ℕ → List (Weighted Parts) → Row → ℕ
 lacking q ws x = cond (is_artificial x.sense) (q * x.right - trees_bring x ws) 0
@@ -39,18 +41,30 @@ LackMuch i cuts q ws = q ≤ 2 ^ 20 * sum_n (lacking q ws) (rows_of i cuts)
 abbrev pub near_weight : ArcKey → List (Weighted Parts) → ℕ
 near_weight a ws = arc_weight a (tree_columns ws)
 
-abbrev pub AreNearlyWhole : Instance → ℕ → List (Weighted Parts) → Type 0
-AreNearlyWhole i q ws = (a : ArcKey) → IsArc i.grammar a → IsNearlyWhole q (near_weight a ws)
+-- counts of the arcs of an allowed roster, groups and all
+pub record AreRosterCounts (i : Instance) (listed : List ArcKey) (value : ArcKey → ℕ) : Type 0 where
+  pub counts : AreCounts i listed value
+  pub left : (a : ArcKey) → In a listed → IsLeft i (base_cuts i) a (value a)
+
+-- whole counts that the weight of each arc is within 2^-12 of; where they are the counts of an allowed roster,
+-- what the prices show here is below its cost, so that this roster did not close the node
+pub record AreNearlyWhole (i : Instance) (cuts : List Cut) (p : Prices) (q : ℕ) (ws : List (Weighted Parts)) :
+    Type 0 where
+  pub value : ArcKey → ℕ
+  pub near : (a : ArcKey) → IsArc i.grammar a → IsNearly q (value a) (near_weight a ws)
+  pub dearer : (listed : List ArcKey) → AreArcs i.grammar listed → AreRosterCounts i listed value
+      → (shown : ℕ) → IsPricedValue i p cuts shown → shown < counts_cost i listed value
 
 -- Weighted trees of the day show that the prices are best, and the arc's weight lies well between b and b + 1, or
--- they lack much, or the weight of each arc is nearly whole. The margins are there since weights that show prices
--- best may be moved a little: without them any whole weight could pass for one that is not.
+-- they lack much, or the weight of each arc is nearly whole and the roster of these whole numbers, if there is one,
+-- does not close the node. The margins are there since weights that show prices best may be moved a little: without
+-- them any whole weight could pass for one that is not.
 pub record IsNearSharpBy (i : Instance) (cuts : List Cut) (p : Prices) (a : ArcKey) (b : ℕ)
     (ws : List (Weighted Parts)) (q : ℕ) : Type 0 where
   pub positive : 0 < q
   pub trees : EachKey (IsDayTree i.grammar) ws
   pub near : AreNear i cuts ws q p
-  pub reason : IsWellBetween q b (near_weight a ws) ⊎ LackMuch i cuts q ws ⊎ AreNearlyWhole i q ws
+  pub reason : IsWellBetween q b (near_weight a ws) ⊎ LackMuch i cuts q ws ⊎ AreNearlyWhole i cuts p q ws
 
 -- the split of the node on the arc at b is near-sharp for these prices
 abbrev pub IsNearSharp : Instance → List Cut → Prices → ArcKey → ℕ → Type 0

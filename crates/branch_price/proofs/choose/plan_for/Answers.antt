@@ -84,7 +84,7 @@ returns-in-Whole-clause-plan c =
     let limit = limit_of i c.offer_counts.new.best in
     let reaches : Reaches i v c.in-Whole.counts limit = subst (λ (xs : List ℕ). Reaches i v xs limit) c.as_slice.ensures c.in_ok-offer_counts-in-Whole.ensures.reached in
     left-plan i v cuts s.prices c.args.node.now.arc_box.now c.in_ok-plan-in-Whole.plan c.requires.node.searched.is.day.graph c.requires.node.left c.in_ok-plan-in-Whole.ensures
-    (whole-anywhere i v cuts pool s c.args.value limit c.in-Whole.counts c.requires.node.searched.is.day.sound c.requires.node.searched.is.day.graph c.requires.shown told reaches (rw c.limit-in-Whole.ensures at c.if-limit-value-2.false))
+    (whole-anywhere i v cuts pool s c.args.value limit c.in-Whole.counts c.requires.node.searched.is.day.sound c.requires.node.searched.is.busy c.requires.node.searched.is.day.graph c.requires.shown told reaches (rw c.limit-in-Whole.ensures at c.if-limit-value-2.false))
 
 pub at_least-requires : goal.at_least-requires
 at_least-requires c =
