@@ -168,6 +168,7 @@ offered-dearer : (i : Instance) (v : GraphView) (cuts : List Cut) (prices : Pric
 offered-dearer i v cuts prices shown limit counts sound busy each is reaches lt listed arcs are other also =
     by (reaches (record { each = each; listed = listed; are = arcs; balanced = are.counts.balanced }) (counts_cost i listed value) [] [] reach)
   where
+    value : ArcKey → ℕ
     value = count_of v.arcs counts
 
     reach : Reach i v counts [] [] (counts_cost i listed value)
@@ -177,7 +178,7 @@ offered-dearer i v cuts prices shown limit counts sound busy each is reaches lt 
         inr (r.roster, meets-cuts i (base_cuts i) listed value ts once (have listed arcs) are.left (base-asks i sound busy), omega (arith, r.cost))
 
     by : UsesArtificial i [] [] ⊎ (limit ≤ counts_cost i listed value) → other < counts_cost i listed value
-    by (inl u) = absurd u.1.1
+    by (inl u) = absurd u.2
     by (inr le) = let e = one-priced i prices cuts other shown also is in omega (arith, e, le, lt)
 
 -- where the roster of whole weights was offered and some roster could still cost less, each split is sharp
