@@ -38,7 +38,8 @@ LeavesReach i limit t = OnTips (λ up path k l. IsOpenLeaf l → limit ≤ tip_b
 -- prices of a leaf that show no less than the limit, or for which some split of it is sharp or near-sharp
 abbrev pub IsEndedLeaf : Instance → ℕ → List Cut → Leaf → Type 0
 IsEndedLeaf i limit path fresh = Unit {0}
-IsEndedLeaf i limit path (valued o) = (limit ≤ o.value) ⊎ (a : ArcKey) × (b : ℕ) × IsSharpFor i path o.prices a b
+IsEndedLeaf i limit path (valued o) =
+    (limit ≤ o.value) ⊎ (a : ArcKey) × (b : ℕ) × IsSharpFor i path o.prices a b
 IsEndedLeaf i limit path (fixed v) = Unit {0}
 
 -- what is known of the tree at the end, whatever waits

@@ -47,7 +47,7 @@ abbrev pub IsSplitNode : Instance → Bool → ℕ → Visit → Option Prices �
 IsSplitNode i strict bound v None = IsTrue strict → IsHard i v.path
 IsSplitNode i strict bound v (Some p) = ArePrices i v p × ((x : ℕ) → IsPricedValue i p v.path x → x ≤ bound)
 
--- where a leaf has prices, they show no less than the limit, or some split of it is sharp, or near-sharp for them
+-- prices of a leaf show no less than the limit, or some split of it is sharp, or near-sharp for them
 abbrev pub IsOpenOrDear : Instance → ℕ → List Cut → Prices → Type 0
 IsOpenOrDear i limit path p =
     ((x : ℕ) → IsPricedValue i p path x → limit ≤ x) ⊎ (a : ArcKey) × (b : ℕ) × IsSharpFor i path p a b
@@ -89,8 +89,9 @@ pub record RanOut (i : Instance) (turns : ℕ) (f : Found) : Type 0 where
 
 -- The certificate is sound and accepted, its bound is what its tree shows, and each node is right. A bound
 -- that it states is at most the greatest cost. A plainly infeasible day has one node; on any other one a
--- priced leaf leaves some arc more than one count. Prices of a leaf show no less than the roster costs, or leave it
--- a sharp or near-sharp split. A day without arcs has one pinned node, whatever its roster costs.
+-- priced leaf leaves some arc more than one count. Prices of a leaf show no less than the roster costs, or some
+-- split of it is sharp, or near-sharp for them. A day without arcs has one pinned node, whatever its roster
+-- costs.
 pub record IsFound (i : Instance) (strict : Bool) (turns : ℕ) (f : Found) : Type 0 where
   pub sound : IsSoundCert i f.cert
   pub accepted : Accepts i f.cert
@@ -101,7 +102,8 @@ pub record IsFound (i : Instance) (strict : Bool) (turns : ℕ) (f : Found) : Ty
   pub ascending : AreAscending f.cert.shifts
   pub each : Each (λ (v : Visit). IsFoundNode i strict (bound_number i f.cert.bound) v v.node)
       (visits (base_cuts i) proof)
-  pub sharp : Each (λ (v : Visit). IsSharpNode i (bound_number i f.cert.cost) v v.node) (visits (base_cuts i) proof)
+  pub sharp : Each (λ (v : Visit). IsSharpNode i (bound_number i f.cert.cost) v v.node)
+      (visits (base_cuts i) proof)
   pub loose : (IsPlainlyInfeasible i → ⊥)
       → Each (λ (v : Visit). IsLooseNode i v v.node) (visits (base_cuts i) proof)
   pub infeasible : IsPlainlyInfeasible i → IsOneNode f

@@ -46,8 +46,8 @@ pub record AreRosterCounts (i : Instance) (listed : List ArcKey) (value : ArcKey
   pub counts : AreCounts i listed value
   pub left : (a : ArcKey) → In a listed → IsLeft i (base_cuts i) a (value a)
 
--- whole counts that the weight of each arc is within 2^-12 of; where they are the counts of an allowed roster,
--- what the prices show here is below its cost, so that this roster did not close the node
+-- whole counts that the weight of each arc is within 2^-12 of; where they are the counts of an allowed
+-- roster, what the prices show here is below its cost, so that this roster did not close the node
 pub record AreNearlyWhole (i : Instance) (cuts : List Cut) (p : Prices) (q : ℕ) (ws : List (Weighted Parts)) :
     Type 0 where
   pub value : ArcKey → ℕ
@@ -55,10 +55,10 @@ pub record AreNearlyWhole (i : Instance) (cuts : List Cut) (p : Prices) (q : ℕ
   pub dearer : (listed : List ArcKey) → AreArcs i.grammar listed → AreRosterCounts i listed value
       → (shown : ℕ) → IsPricedValue i p cuts shown → shown < counts_cost i listed value
 
--- Weighted trees of the day show that the prices are best, and the arc's weight lies well between b and b + 1, or
--- they lack much, or the weight of each arc is nearly whole and the roster of these whole numbers, if there is one,
--- does not close the node. The margins are there since weights that show prices best may be moved a little: without
--- them any whole weight could pass for one that is not.
+-- Weighted trees of the day show that the prices are best, and the arc's weight lies well between b and b + 1,
+-- or they lack much, or the weight of each arc is nearly whole and the roster of these whole numbers, if there
+-- is one, does not close the node. The margins are there since weights that show prices best may be moved a
+-- little: without them any whole weight could pass for one that is not.
 pub record IsNearSharpBy (i : Instance) (cuts : List Cut) (p : Prices) (a : ArcKey) (b : ℕ)
     (ws : List (Weighted Parts)) (q : ℕ) : Type 0 where
   pub positive : 0 < q
