@@ -1,5 +1,5 @@
 -- Where the master that fails on purpose does, and what it answers then.
-use Rattle.std.specs.Prelude.{ℕ, ◌+◌, ◌-◌, ◌^◌, ◌&&◌, ◌||◌, not, nat_eq, Bool, true, false, List, [], ◌∷◌, Result, Ok}
+use Rattle.std.specs.Prelude.{ℕ, ◌&&◌, ◌||◌, not, nat_eq, Bool, true, false, List, [], ◌∷◌, Result, Ok}
 use Rattle.std.specs.List.{list_any}
 use Rattle.roster_model.specs.declared.memory.Memory.{Memory as MemoryLack}
 use Rattle.node_master.specs.declared.ends.Cause.TheVariants.{Spent}

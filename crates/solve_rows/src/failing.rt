@@ -115,15 +115,16 @@ impl Master for FailingMaster {
         ensures tools { StayTools (record { instance = instance.entry; graph = graph.entry })
             pricer.new pool.old pool.new }
     {
+        let refused = self.refused;
         self.called = self.called.saturating_add(1);
         if count_rows(instance, cuts) <= ROWS && self.fails() {
-            self.refused = self.refused.saturating_add(1);
+            self.refused = refused.saturating_add(1);
             return Ok(NodeEnd::Failed(Cause::Spent { pivots: 0 }));
         }
         let end = self
             .plain
             .node(alloc, instance, graph, pricer, pool, cuts, wanted)?;
-        self.refused = count_end(self.refused, &end);
+        self.refused = count_end(refused, &end);
         Ok(end)
     }
 }

@@ -1,4 +1,4 @@
-ghost use Rattle.std.specs.Prelude.{◌≡◌, ◌<◌, pos, ◌≤ℤ◌, All, length};
+ghost use Rattle.std.specs.Prelude.{◌≡◌, ◌<◌, pos, ◌≤ℤ◌, All};
 ghost use Rattle.std.specs.Bool.{OnTrue};
 ghost use Rattle.bound_laws.specs.linear_programs.Program.{unit_vector};
 ghost use Rattle.fraction.specs.pivot_rows.Columns.{number_in};
