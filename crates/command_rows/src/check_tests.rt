@@ -6,285 +6,123 @@ use std::test::Fail;
 /// Certificates, and what is said of each.
 const CERTIFICATES: &str = "
 > check g1 q1 proof
-proof 1
-cost 10
-bound 10
-shift .aaa 5
-shift aaa. 5
-priced 1
-price a 1 2 2 1
-end
+proof 1; cost 10; bound 10; shift .aaa 5; shift aaa. 5; priced 1; price a 1 2 2 1; end
 < 0
 yes
 cost 10
 bound 10
 > check g1 q1 proof
-proof 1
-cost 10
-bound 11
-shift .aaa 5
-shift aaa. 5
-priced 1
-price a 1 2 2 1
-end
+proof 1; cost 10; bound 11; shift .aaa 5; shift aaa. 5; priced 1; price a 1 2 2 1; end
 < 1
 no 8 bound too high: said 11 shown 10
 > check g1 q1 proof
-proof 1
-cost 9
-bound 10
-shift .aaa 5
-shift aaa. 5
-priced 1
-price a 1 2 2 1
-end
+proof 1; cost 9; bound 10; shift .aaa 5; shift aaa. 5; priced 1; price a 1 2 2 1; end
 < 1
 no 4 wrong cost: said 9 found 10
 > check g1 q1 proof
-proof 1
-cost 10
-bound 10
-shift aaaa 6
-shift aaa. 5
-priced 1
-price a 1 2 2 1
-end
+proof 1; cost 10; bound 10; shift aaaa 6; shift aaa. 5; priced 1; price a 1 2 2 1; end
 < 1
 no 1 not a shift: shift 1
 > check g1 q1 proof
-proof 1
-cost none
-bound 0
-bare
-end
+proof 1; cost none; bound 0; bare; end
 < 0
 yes
 cost none
 bound 0
 > check g1 q1 proof
-proof 1
-cost 10
-bound 0
-shift .aaa 5
-shift aaa. 5
-bare
-end
+proof 1; cost 10; bound 0; shift .aaa 5; shift aaa. 5; bare; end
 < 0
 yes
 cost 10
 bound 0
 > check g1 q1 proof
-proof 1
-cost 10
-bound 1
-shift .aaa 5
-shift aaa. 5
-bare
-end
+proof 1; cost 10; bound 1; shift .aaa 5; shift aaa. 5; bare; end
 < 1
 no 8 bound too high: said 1 shown 0
 > check g1 q1 proof
-proof 1
-cost 9
-bound 1
-shift .aaa 5
-shift aaa. 5
-bare
-end
+proof 1; cost 9; bound 1; shift .aaa 5; shift aaa. 5; bare; end
 < 1
 no 4 wrong cost: said 9 found 10
 > check g1 q1 proof
-proof 1
-cost 10
-bound 0
-shift .aaa 5
-shift aaa. 5
-bare
-end
-bare
+proof 1; cost 10; bound 0; shift .aaa 5; shift aaa. 5; bare; end; bare
 < 5
 proof: line 8: text after the end
 > check g1 q1 proof
-proof 1
-cost 010
-bound 0
-shift .aaa 5
-shift aaa. 5
-bare
-end
+proof 1; cost 010; bound 0; shift .aaa 5; shift aaa. 5; bare; end
 < 5
 proof: line 2: bad number
 > check g4 q4 proof
-proof 1
-cost 5
-bound 0
-shift aa 5
-bare
-end
+proof 1; cost 5; bound 0; shift aa 5; bare; end
 < 1
 no 2 shift cost: shift 1 said 5 least 3
 > check g4 q4 proof
-proof 1
-cost 3
-bound 3
-shift aa 3
-priced 1
-price a 0 0
-end
+proof 1; cost 3; bound 3; shift aa 3; priced 1; price a 0 0; end
 < 0
 yes
 cost 3
 bound 3
 > check g4 q4 proof
-proof 1
-cost 20
-bound 0
-bare
-end
+proof 1; cost 20; bound 0; bare; end
 < 1
 no 3 wrong heads: count 0
 > check one some proof
-proof 1
-cost none
-bound none
-priced 1
-price a 0
-end
+proof 1; cost none; bound none; priced 1; price a 0; end
 < 0
 yes
 cost none
 bound none
 > check one any proof
-proof 1
-cost 10
-bound 10
-priced 1
-price a 10
-end
+proof 1; cost 10; bound 10; priced 1; price a 10; end
 < 0
 yes
 cost 10
 bound 10
 > check one any proof
-proof 1
-cost 10
-bound 10
-priced 1
-price a 0
-end
+proof 1; cost 10; bound 10; priced 1; price a 0; end
 < 1
 no 8 bound too high: said 10 shown 0
 > check g2 q2 proof
-proof 1
-cost 4
-bound 4
-shift .aa 2
-shift aa. 2
-split 1 0 1 3 1 0
-priced 1
-price a 2 2 0
-mult 1 2
-priced 1
-price a 0 0 2
-mult 1 2
-end
+proof 1; cost 4; bound 4; shift .aa 2; shift aa. 2; split 1 0 1 3 1 0; priced 1; price a 2 2 0
+mult 1 2; priced 1; price a 0 0 2; mult 1 2; end
 < 0
 yes
 cost 4
 bound 4
 > check g2 q2 proof
-proof 1
-cost 4
-bound 4
-shift .aa 2
-shift aa. 2
-split 1 0 1 3 1 0
-priced 1
-price a 2 2 0
-mult 1 2
-priced 1
-price a 0 0 2
-end
+proof 1; cost 4; bound 4; shift .aa 2; shift aa. 2; split 1 0 1 3 1 0; priced 1; price a 2 2 0
+mult 1 2; priced 1; price a 0 0 2; end
 < 1
 no 8 bound too high: said 4 shown 2
 > check g2 q2 proof
-proof 1
-cost 4
-bound 0
-shift .aa 2
-shift aa. 2
-priced 0
-price a 0 0 0
-end
+proof 1; cost 4; bound 0; shift .aa 2; shift aa. 2; priced 0; price a 0 0 0; end
 < 5
 proof: line 6: out of range
 > check g2 q2 proof
-proof 1
-cost 4
-bound 0
-shift .aa 2
-shift aa. 2
-priced 1
-price a 1208925819614629174706177 0 0
+proof 1; cost 4; bound 0; shift .aa 2; shift aa. 2; priced 1; price a 1208925819614629174706177 0 0
 end
 < 5
 proof: line 7: out of range
 > check g2 q2 proof
-proof 1
-cost 4
-bound 0
-shift .aa 2
-shift aa. 2
-priced 1073741824
-price a 1208925819614629174706176 1208925819614629174706176 1208925819614629174706176
-end
+proof 1; cost 4; bound 0; shift .aa 2; shift aa. 2; priced 1073741824
+price a 1208925819614629174706176 1208925819614629174706176 1208925819614629174706176; end
 < 0
 yes
 cost 4
 bound 0
 > check g2 q2 proof
-proof 1
-cost 4
-bound 0
-shift .aa 2
-shift aa. 2
-split 1 0 1 3 1 3
-bare
-bare
-end
+proof 1; cost 4; bound 0; shift .aa 2; shift aa. 2; split 1 0 1 3 1 3; bare; bare; end
 < 1
 no 6 empty half: node 1
 > check g2 q2 proof
-proof 1
-cost 4
-bound 0
-shift .aa 2
-shift aa. 2
-split 1 0 1 3 2 0
-bare
-bare
-end
+proof 1; cost 4; bound 0; shift .aa 2; shift aa. 2; split 1 0 1 3 2 0; bare; bare; end
 < 1
 no 5 not an arc: node 1
 > check g2 q2 proof
-proof 1
-cost 4
-bound 0
-shift .aa 2
-shift aa. 2
-split 1 0 1 3 2 0
-bare
-bare
+proof 1; cost 4; bound 0; shift .aa 2; shift aa. 2; split 1 0 1 3 2 0; bare; bare
 < 5
 proof: the text ends early
 > check g2 q2 proof
-proof 1
-cost 4
-bound 0
-shift .aa 2
-shift aa. 2
-pinned
-end
+proof 1; cost 4; bound 0; shift .aa 2; shift aa. 2; pinned; end
 < 1
 no 7 not pinned: node 1 arc 1 0 1 3 1
 > check g1 q1 bad_byte
@@ -294,126 +132,52 @@ proof: line 4: bad byte
 < 5
 proof: the text ends early
 > check g2 q2 proof
-proof 7
-cost 4
+proof 7; cost 4
 < 5
 proof: line 1: bad header
 > check g2 floors proof
-proof 1
-cost 4
-bound 4
-shift .aa 2
-shift aa. 2
-split 1 0 1 3 1 0
-priced 1
-price a 2 2 0
-mult 1 2
-priced 1
-price a 0 0 2
-mult 1 2
-end
+proof 1; cost 4; bound 4; shift .aa 2; shift aa. 2; split 1 0 1 3 1 0; priced 1; price a 2 2 0
+mult 1 2; priced 1; price a 0 0 2; mult 1 2; end
 < 0
 yes
 cost 4
 bound 4
 > check g2 exact proof
-proof 1
-cost 4
-bound 0
-shift .aa 2
-shift aa. 2
-bare
-end
+proof 1; cost 4; bound 0; shift .aa 2; shift aa. 2; bare; end
 < 1
 no 9 outside floor or ceiling: code a period 2 have 2
 > check g2 exact proof
-proof 1
-cost none
-bound none
-split 1 0 1 3 1 0
-priced 1
-price a 59 59 -57
-mult 1 116
-priced 1
-price a -57 -57 59
-mult 1 116
-end
+proof 1; cost none; bound none; split 1 0 1 3 1 0; priced 1; price a 59 59 -57; mult 1 116; priced 1
+price a -57 -57 59; mult 1 116; end
 < 0
 yes
 cost none
 bound none
 > check g2 exact proof
-proof 1
-cost none
-bound none
-split 1 0 1 3 1 0
-priced 1
-price a 59 59 -57
-mult 1 115
-priced 1
-price a -57 -57 59
-mult 1 116
-end
+proof 1; cost none; bound none; split 1 0 1 3 1 0; priced 1; price a 59 59 -57; mult 1 115; priced 1
+price a -57 -57 59; mult 1 116; end
 < 1
 no 8 bound too high: said none shown 58
 > check g6 q7 proof
-proof 2
-cost 4
-bound 4
-shift F aa 3
-shift H a. 1
-priced 2
-price a 3 3
-mult 2 1
-end
+proof 2; cost 4; bound 4; shift F aa 3; shift H a. 1; priced 2; price a 3 3; mult 2 1; end
 < 0
 yes
 cost 4
 bound 4
 > check g6 q7 proof
-proof 2
-cost 4
-bound 4
-shift F aa 3
-shift H a. 1
-priced 2
-price a 3 3
-end
+proof 2; cost 4; bound 4; shift F aa 3; shift H a. 1; priced 2; price a 3 3; end
 < 1
 no 8 bound too high: said 4 shown 3
 > check g6 q7 proof
-proof 2
-cost 4
-bound 4
-shift H aa 3
-shift H a. 1
-priced 2
-price a 3 3
-mult 2 1
-end
+proof 2; cost 4; bound 4; shift H aa 3; shift H a. 1; priced 2; price a 3 3; mult 2 1; end
 < 1
 no 1 not a shift: shift 1
 > check g6 q7 proof
-proof 2
-cost 13
-bound 4
-shift F aa 3
-priced 2
-price a 3 3
-mult 2 1
-end
+proof 2; cost 13; bound 4; shift F aa 3; priced 2; price a 3 3; mult 2 1; end
 < 1
 no 3 wrong heads: group 2 count 0
 > check g6 q7 proof
-proof 1
-cost 4
-bound 4
-shift F aa 3
-shift H a. 1
-priced 2
-price a 3 3
-mult 2 1
-end
+proof 1; cost 4; bound 4; shift F aa 3; shift H a. 1; priced 2; price a 3 3; mult 2 1; end
 < 5
 proof: line 1: bad header
 ";

@@ -1,4 +1,4 @@
-use crate::shelves::{answer, shelf_of};
+use crate::shelves::{Outcome, STORED, end_alike, run_on, shelf_of};
 use crate::transcripts::have_answers;
 use shelf::MemoryShelf;
 use std::alloc::{AllocError, Global};
@@ -20,18 +20,8 @@ make 7 p 1 > !p
 curve g1 q1 p 10 > g1 q1 !p.1 !p.2
 ";
 
-/// The names that these searches store.
-const STORED: [&str; 3] = ["p", "p.1", "p.2"];
-
-/// What each of them holds before.
+/// What each name that is stored under holds before.
 const OLD: &[u8] = b"proof old";
-
-/// A shelf after a run, and the run's status.
-#[derive(Drop)]
-struct Outcome {
-    shelf: MemoryShelf,
-    status: u8,
-}
 
 /// Puts a text under each name that is stored.
 fn put_old(shelf: &mut MemoryShelf) -> Result<(), Fail> {
@@ -45,8 +35,7 @@ fn put_old(shelf: &mut MemoryShelf) -> Result<(), Fail> {
 fn run(alloc: Global, words: &str, failing: &[u32]) -> Result<Outcome, Fail> {
     let mut shelf = shelf_of(alloc, failing)?;
     put_old(&mut shelf)?;
-    let status = answer(alloc, &mut shelf, words)?;
-    Ok(Outcome { shelf, status })
+    Ok(run_on(alloc, shelf, words)?)
 }
 
 /// Whether a run was refused once, and noted this at last.
@@ -106,14 +95,7 @@ fn ends_at(
 /// Whether a run with a failing call that is never made ends as a whole run does.
 fn is_unmoved(alloc: Global, words: &str, whole: &Outcome, failing: u32) -> Result<bool, Fail> {
     let other = run(alloc, words, &[failing])?;
-    Ok(
-        other.status == whole.status
-            && other.shelf.faults() == 0
-            && other.shelf.said() == whole.shelf.said()
-            && STORED
-                .iter()
-                .all(|name| other.shelf.text(name) == whole.shelf.text(name)),
-    )
+    Ok(end_alike(&other, whole))
 }
 
 /// Whether the run ends at each of its calls, where that one fails: with nothing said, or with half of the
@@ -162,22 +144,30 @@ curve g1 q1 p 10 > p.2
 /// A text that is no certificate.
 const RULES: &[u8] = b"periods 4\n";
 
-/// Whether a text that is no certificate stands under the name, and the run is refused and does nothing else.
-fn is_kept(alloc: Global, words: &str, name: &str) -> Result<bool, Fail> {
+/// Runs the program on a shelf that holds this text under a name.
+fn run_over(alloc: Global, words: &str, name: &str) -> Result<Outcome, Fail> {
     let mut shelf = shelf_of(alloc, &[])?;
     put_old(&mut shelf)?;
     shelf.put(name, RULES)?;
-    let status = answer(alloc, &mut shelf, words)?;
-    let run = Outcome { shelf, status };
+    Ok(run_on(alloc, shelf, words)?)
+}
+
+/// Whether the text stands, and the others under names that are stored under.
+fn stand(shelf: &MemoryShelf, name: &str) -> bool {
+    shelf.text(name) == Some(RULES)
+        && STORED
+            .iter()
+            .all(|other| *other == name || shelf.text(other) == Some(OLD))
+}
+
+/// Whether the run is refused, and does nothing else.
+fn is_kept(alloc: Global, words: &str, name: &str) -> Result<bool, Fail> {
+    let run = run_over(alloc, words, name)?;
+    let cause = ": the file is no certificate, and was left alone\n";
     Ok(
-        notes_refusal(
-            alloc,
-            &run,
-            name,
-            ": the file is no certificate, and was left alone\n",
-        )? && run.shelf.said().is_empty()
-            && STORED.iter().all(|other| run.shelf.text(other)
-                == Some(if *other == name { RULES } else { OLD })),
+        notes_refusal(alloc, &run, name, cause)?
+            && run.shelf.said().is_empty()
+            && stand(&run.shelf, name),
     )
 }
 

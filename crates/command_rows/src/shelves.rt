@@ -61,6 +61,40 @@ pub(crate) fn answer(alloc: Global, shelf: &mut MemoryShelf, line: &str) -> Resu
     ))
 }
 
+/// A shelf after a run, and the run's status.
+#[derive(Drop)]
+pub(crate) struct Outcome {
+    pub(crate) shelf: MemoryShelf,
+    pub(crate) status: u8,
+}
+
+/// Runs the program on the words of a line, over a shelf that is handed back.
+///
+/// # Errors
+///
+/// Want of memory for the words.
+pub(crate) fn run_on(
+    alloc: Global,
+    mut shelf: MemoryShelf,
+    line: &str,
+) -> Result<Outcome, AllocError> {
+    let status = answer(alloc, &mut shelf, line)?;
+    Ok(Outcome { shelf, status })
+}
+
+/// The names that the searches of these tests store.
+pub(crate) const STORED: [&str; 3] = ["p", "p.1", "p.2"];
+
+/// Whether two runs have the same status, say the same, and leave the same under each of these names.
+pub(crate) fn end_alike(one: &Outcome, other: &Outcome) -> bool {
+    one.status == other.status
+        && one.shelf.faults() == other.shelf.faults()
+        && one.shelf.said() == other.shelf.said()
+        && STORED
+            .iter()
+            .all(|name| one.shelf.text(name) == other.shelf.text(name))
+}
+
 /// Whether a line was said.
 pub(crate) fn is_said(text: &[u8], line: &str) -> bool {
     text.split(|byte| *byte == b'\n')

@@ -1,4 +1,4 @@
-use crate::shelves::{answer, is_said, shelf_of};
+use crate::shelves::{Outcome, answer, end_alike, is_said, run_on, shelf_of};
 use crate::transcripts::have_answers;
 use std::alloc::Global;
 use std::test::Fail;
@@ -225,16 +225,17 @@ solve g6 q7 p 2s > solve g6 q7 p 2
 curve g2 q2 p 1s > curve g2 q2 p 1
 ";
 
-/// Whether both searches say the same, and store the same certificate under `p`.
+/// Runs the program on a shelf of its own.
+fn run(alloc: Global, words: &str) -> Result<Outcome, Fail> {
+    let shelf = shelf_of(alloc, &[])?;
+    Ok(run_on(alloc, shelf, words)?)
+}
+
+/// Whether both searches say and store the same.
 fn are_alike(alloc: Global, one: &str, other: &str) -> Result<bool, Fail> {
-    let mut first = shelf_of(alloc, &[])?;
-    let mut second = shelf_of(alloc, &[])?;
-    let status = answer(alloc, &mut first, one)?;
-    Ok(
-        answer(alloc, &mut second, other)? == status
-            && first.said() == second.said()
-            && first.text("p") == second.text("p"),
-    )
+    let first = run(alloc, one)?;
+    let second = run(alloc, other)?;
+    Ok(end_alike(&first, &second))
 }
 
 #[test]
@@ -272,14 +273,18 @@ fn stored_certificates_are_accepted(rt: HostRuntime) -> Result<(), Fail> {
     Ok(())
 }
 
+/// Whether the words have an answer that begins so.
+fn begins(alloc: Global, words: &str, first: &str) -> Result<bool, Fail> {
+    let run = run(alloc, words)?;
+    Ok(run.status == 0 && run.shelf.said().starts_with(first.as_bytes()))
+}
+
 /// Whether the line of a call centre's shift, a word and its price, is explained at this price.
 fn is_explained(alloc: Global, shift: &str) -> Result<bool, Fail> {
     let (word, price) = shift.split_once(' ').unwrap_or((shift, ""));
     let words = ["explain g3 ", word].concat(alloc)?;
     let first = ["word ", word, "\ncost ", price, "\n"].concat(alloc)?;
-    let mut shelf = shelf_of(alloc, &[])?;
-    let status = answer(alloc, &mut shelf, words.as_str())?;
-    Ok(status == 0 && shelf.said().starts_with(first.as_bytes()))
+    begins(alloc, words.as_str(), first.as_str())
 }
 
 /// Whether each shift that a report tells is explained, and there is one.

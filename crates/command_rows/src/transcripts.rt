@@ -1,9 +1,9 @@
 //! Transcripts of what the program answers: cases one after another, each begun by `>`. A case is a line of
-//! words, the lines of a text that the shelf holds under `proof`, behind `<` a line with the statuses that
-//! may come, and what is said. With `..` behind the statuses it is lines that are said, among others. Behind
-//! a line `!` stands what is noted.
+//! words, the lines of a text that the shelf holds under `proof`, each behind a line feed or `; `, behind `<` a
+//! line with the statuses that may come, and what is said. With `..` behind the statuses it is lines that are
+//! said, among others. Behind a line `!` stands what is noted.
 
-use crate::shelves::{answer, first_line, is_said, shelf_of};
+use crate::shelves::{Outcome, first_line, is_said, run_on, shelf_of};
 use shelf::MemoryShelf;
 use std::alloc::Global;
 use std::test::Fail;
@@ -49,11 +49,6 @@ fn may_come(status: u8, statuses: &str) -> bool {
         .any(|word| word.parse::<u8>() == Ok(status))
 }
 
-/// Whether the status may come, and the shelf counted a fault just where it is 6.
-fn ends_so(shelf: &MemoryShelf, status: u8, case: &Case<'_>) -> bool {
-    may_come(status, case.statuses) && shelf.faults() == u64::from(status == 6)
-}
-
 /// Whether what was said is what the case tells.
 fn says_so(said: &[u8], case: &Case<'_>) -> bool {
     if case.statuses.ends_with("..") {
@@ -71,16 +66,27 @@ fn notes_so(notes: &[u8], case: &Case<'_>) -> bool {
     }
 }
 
-/// Whether a case has its answer.
-fn has_answer(alloc: Global, case: &Case<'_>) -> Result<bool, Fail> {
+/// Returns a shelf with the texts of the tests and that of a case.
+fn case_shelf(alloc: Global, case: &Case<'_>) -> Result<MemoryShelf, Fail> {
+    let proof = case.proof.replace(alloc, "; ", "\n")?;
     let mut shelf = shelf_of(alloc, &[])?;
-    shelf.put("proof", case.proof.as_bytes())?;
-    let status = answer(alloc, &mut shelf, case.words)?;
-    Ok(
-        ends_so(&shelf, status, case)
-            && says_so(shelf.said(), case)
-            && notes_so(shelf.notes(), case),
-    )
+    shelf.put("proof", proof.as_bytes())?;
+    Ok(shelf)
+}
+
+/// Whether a run ends as a case tells.
+fn is_right(run: &Outcome, case: &Case<'_>) -> bool {
+    may_come(run.status, case.statuses)
+        && run.shelf.faults() == u64::from(run.status == 6)
+        && says_so(run.shelf.said(), case)
+        && notes_so(run.shelf.notes(), case)
+}
+
+/// Whether a case has its answer; with status 6 the shelf counted a fault, and with others none.
+fn has_answer(alloc: Global, case: &Case<'_>) -> Result<bool, Fail> {
+    let shelf = case_shelf(alloc, case)?;
+    let run = run_on(alloc, shelf, case.words)?;
+    Ok(is_right(&run, case))
 }
 
 /// Whether each case of a transcript has its answer.

@@ -5,20 +5,8 @@ use std::test::Fail;
 /// employee at most, and `H` one or two; the day `limits` has `least a 1 2 0 0` and `most a 64 64 1 0`.
 const STATED: &str = "
 > value g1 q1 proof
-report 1
-result optimal
-cost 10
-bound 10
-processed 1
-failed 0
-shifts 2
-shift .aaa 5
-paid 10
-penalty 0
-need a 1 2 2 1
-have a 1 2 2 1
-short a 0 0 0 0
-over a 0 0 0 0
+report 1; result optimal; cost 10; bound 10; processed 1; failed 0; shifts 2; shift .aaa 5; paid 10; penalty 0
+need a 1 2 2 1; have a 1 2 2 1; short a 0 0 0 0; over a 0 0 0 0
 < 0
 report 1
 result stated
@@ -32,9 +20,7 @@ have a 0 1 1 1
 short a 1 1 1 0
 over a 0 0 0 0
 > value g6 q7 proof
-shift H .a 5
-shift F aa
-shift H a.
+shift H .a 5; shift F aa; shift H a.
 < 0
 report 2
 result stated
@@ -50,8 +36,7 @@ have a 2 2
 short a 0 0
 over a 0 1
 > value g6 q7 proof
-shift F aa
-shift F a.
+shift F aa; shift F a.
 < 1
 shift 2 a.: no shift
 group F 2: at most 1
@@ -61,10 +46,7 @@ have a 2 1
 short a 0 0
 over a 0 0
 > value g1 limits proof
-shift aa..
-shift aaaa 7
-shift aa..
-shift aa..
+shift aa..; shift aaaa 7; shift aa..; shift aa..
 < 1
 shift 2 aaaa: no shift
 heads 4: at most 3
@@ -77,6 +59,22 @@ over a 3 2 0 0
 shift .aaa x
 < 5
 roster: line 1: bad number
+> value g1 q1 proof
+shift .aaa; report 1
+< 5
+roster: line 2: unknown line
+> value g1 q1 proof
+report 1; result none; cost none; bound none; processed 1; failed 0
+< 5
+roster: line 3: no roster
+> value g6 q7 proof
+report 1; shift aa 3
+< 5
+roster: line 2: no such name
+> value g6 q7 proof
+shift aa
+< 5
+roster: line 1: unknown line
 ";
 
 #[test]
@@ -104,10 +102,7 @@ need a 10 2 1 0
 < 1
 nobody left
 > rest g1 limits proof
-shift aaaa
-shift a.a.
-shift aa..
-shift aa..
+shift aaaa; shift a.a.; shift aa..; shift aa..
 < 1
 shift 1 aaaa: no shift
 shift 2 a.a.: no shift
@@ -115,8 +110,7 @@ heads 4: at most 3
 ceiling a period 3: 2 of 1
 ceiling a period 4: 1 of 0
 > rest g1 q1 proof
-shift .aaa
-shift
+shift .aaa; shift
 < 5
 roster: line 2: unknown line
 ";

@@ -90,6 +90,9 @@ proof: the text ends early
 ~ page g1 two best twice
 5
 labels: line 2: said twice
+~ page g1 two best team
+5
+labels: line 1: no such name
 ~ calendar g1 two best empty 2026-02-28
 5
 labels: no clock line
