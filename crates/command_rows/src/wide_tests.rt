@@ -1,4 +1,4 @@
-use crate::transcripts::{answer, is_said, shelf_of};
+use crate::shelves::{answer, is_said, shelf_of};
 use shelf::MemoryShelf;
 use std::alloc::Global;
 use std::test::Fail;

@@ -4,4 +4,10 @@
 #[cfg(test)]
 mod page_tests;
 #[cfg(test)]
+mod refused_tests;
+#[cfg(test)]
 mod report_tests;
+#[cfg(test)]
+mod texts;
+#[cfg(test)]
+mod transcripts;

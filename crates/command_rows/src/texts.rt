@@ -1,7 +1,7 @@
 //! The texts that each shelf of a test holds.
 
 /// Each text, below a line with its name.
-pub const TEXTS: &str = "
+pub(crate) const TEXTS: &str = "
 @ g1
 periods 4
 work a
@@ -52,7 +52,7 @@ rule S 5 = 'a' 'a'
 rule S 3 = T T
 rule T 0 = 'a'
 @ g5
-periods 10
+periods 96
 work a
 start S
 rule S 0 = 'a'
@@ -81,12 +81,6 @@ rule A 1 = 'a'
 rule A 1 = 'a' A
 rule R 0 = '.'
 rule R 0 = '.' R
-@ long
-periods 96
-work a
-start S
-rule S 0 = 'a'
-rule S 0 = S S
 @ many
 periods 60
 work a
@@ -241,10 +235,6 @@ heads 0 1
 group F 0 1
 group H 1 2
 need a 10 2 2 1
-@ q7_one
-group F 0 1
-group H 1 1
-need a 10 2 2 1
 @ lasting
 group W 1 2
 group R 0 1
@@ -282,11 +272,6 @@ heads 0 3
 need a 10 3 1 2 2 1
 least a 1 2 0 0
 most a 64 64 1 0
-@ crossed
-heads 0 2
-need a 10 3 0 0 0 0
-least a 0 3 0 0
-most a 64 1 64 64
 @ pair
 shift .aaa
 shift aaa.
@@ -317,3 +302,16 @@ priced 1
 price a 0 0 2
 end
 ";
+
+/// Texts with a byte that no text may have, by name: with a byte order mark, in UTF-16 with either mark and
+/// without one, and a certificate.
+pub(crate) const BYTES: [(&str, &[u8]); 5] = [
+    ("marked", b"\xef\xbb\xbfperiods 4\n"),
+    ("low", b"\xff\xfep\x00e\x00r\x00"),
+    ("high", b"\xfe\xff\x00p\x00e\x00r"),
+    ("bare", b"p\x00e\x00r\x00"),
+    (
+        "bad_byte",
+        b"proof 1\ncost 10\nbound 0\nshift .aaa 5\xff\nshift aaa. 5\nbare\nend\n",
+    ),
+];
