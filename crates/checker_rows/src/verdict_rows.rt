@@ -204,7 +204,7 @@ const ARC: ArcKey = ArcKey {
     part: 1,
 };
 
-static PAIR_CASES: [Case<'static>; 6] = [
+static PAIR_CASES: [Case<'static>; 7] = [
     (
         "proof 1\ncost 4\nbound 4\nshift .aa 2\nshift aa. 2\nsplit 1 0 1 3 1 0\npriced 1\nprice a 2 2 0\nmult 1 2\npriced 1\nprice a 0 0 2\nmult 1 2\nend\n",
         Verdict::Yes {
@@ -218,6 +218,13 @@ static PAIR_CASES: [Case<'static>; 6] = [
             said: Some(4),
             shown: Some(2),
         }),
+    ),
+    (
+        "proof 1\ncost 4\nbound 3\nshift .aa 2\nshift aa. 2\nsplit 1 0 1 3 1 0 1\nprice a 1 1 1\nbare\nbare\nend\n",
+        Verdict::Yes {
+            cost: Some(4),
+            bound: Some(3),
+        },
     ),
     (
         "proof 1\ncost 4\nbound 0\nshift .aa 2\nshift aa. 2\npriced 1073741824\nprice a 1208925819614629174706176 1208925819614629174706176 1208925819614629174706176\nend\n",
@@ -283,7 +290,7 @@ fn text_of_splits(alloc: Global, splits: usize) -> Result<String, AllocError>
 {
     let inner = "split 1 0 1 3 1 0\n".repeat(alloc, splits)?;
     let leaves = "bare\n".repeat(alloc, splits + 1)?;
-    let head = "proof 1\ncost 4\nbound 0\nshift .aa 2\nshift aa. 2\n";
+    let head = "proof 1\ncost none\nbound 0\n";
     [head, inner.as_str(), leaves.as_str(), "end\n"].concat(alloc)
 }
 

@@ -119,6 +119,9 @@ longest 3
 > next g1 .aa.
 < 1
 longest 4
+> next g1 .aa.a
+< 1
+longest 4
 > fits g1 #a#.
 < 0
 least 4

@@ -110,6 +110,27 @@ yes
 cost 4
 bound 0
 > check g2 q2 proof
+proof 1; cost 4; bound 1; shift .aa 2; shift aa. 2; priced 1073741824
+price a 1208925819614629174706176 1208925819614629174706176 1208925819614629174706176; end
+< 1
+no 8 bound too high: said 1 shown 0
+> check g2 q2 proof
+proof 1; cost 4; bound 4; shift .aa 2; shift aa. 2; split 1 0 1 3 1 0; priced 1; price a 2 2 0
+mult 1 2; priced 1
+< 5
+proof: the text ends early
+> check g2 q2 proof
+proof 1; cost 4; bound 4; shift .aa 2; shift aa. 2; split 1 0 1 3 1 0; priced 1; price a 2 2 0
+mult 1 2; priced 1; price a 0 0 2; mult 1 2; end; bare
+< 5
+proof: line 14: text after the end
+> check g2 q2 proof
+proof 1; cost 4; bound 4; shift .aa 2; shift aa. 2; split 1 0 1 3 1 0; priced 1; price a 2 2 0
+mult 1 2; split 1 0 1 3 1 1; priced 1; price a 0 0 2; mult 1 2; priced 1; price a 0 0 2; mult 1 2
+mult 2 2; end
+< 1
+no 8 bound too high: said 4 shown 2
+> check g2 q2 proof
 proof 1; cost 4; bound 0; shift .aa 2; shift aa. 2; split 1 0 1 3 1 3; bare; bare; end
 < 1
 no 6 empty half: node 1
@@ -147,6 +168,10 @@ proof 1; cost 4; bound 0; shift .aa 2; shift aa. 2; bare; end
 < 1
 no 9 outside floor or ceiling: code a period 2 have 2
 > check g2 exact proof
+proof 1; cost 4; bound 1; shift .aa 2; shift aa. 2; bare; end
+< 1
+no 8 bound too high: said 1 shown 0
+> check g2 exact proof
 proof 1; cost none; bound none; split 1 0 1 3 1 0; priced 1; price a 59 59 -57; mult 1 116; priced 1
 price a -57 -57 59; mult 1 116; end
 < 0
@@ -180,6 +205,32 @@ no 3 wrong heads: group 2 count 0
 proof 1; cost 4; bound 4; shift F aa 3; shift H a. 1; priced 2; price a 3 3; mult 2 1; end
 < 5
 proof: line 1: bad header
+> check g6 q7 proof
+proof 2; cost none; bound 0; split 7 0 1 2 2 0; bare; bare; end
+< 1
+no 6 empty half: node 1
+> check short_full_days needed proof
+proof 2; cost none; bound 139; priced 1; price a 0 0; end
+< 0
+yes
+cost none
+bound 139
+> check short_full_days needed proof
+proof 2; cost none; bound 140; priced 1; price a 0 0; end
+< 1
+no 8 bound too high: said 140 shown none
+> check one_pair one_worker proof
+proof 1; cost 12; bound 12; shift aa. 2; split 1 0 1 3 1 0; split 1 1 2 2 1 0; pinned; pinned
+split 1 1 2 2 1 0; pinned; pinned; end
+< 0
+yes
+cost 12
+bound 12
+> check one_pair one_worker proof
+proof 1; cost 12; bound 13; shift aa. 2; split 1 0 1 3 1 0; split 1 1 2 2 1 0; pinned; pinned
+split 1 1 2 2 1 0; pinned; pinned; end
+< 1
+no 8 bound too high: said 13 shown 12
 ";
 
 #[test]

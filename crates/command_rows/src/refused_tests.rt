@@ -74,6 +74,16 @@ fn hold(refused: &Outcome, whole: &Outcome, calls: &str, failing: u32) -> bool {
     true
 }
 
+/// Whether each name that no call stores under holds what it held.
+fn keeps(run: &Outcome, calls: &str) -> bool {
+    STORED.iter().all(|name| {
+        calls
+            .split_whitespace()
+            .any(|call| call.strip_prefix('!') == Some(*name))
+            || run.shelf.text(name) == Some(OLD)
+    })
+}
+
 /// Whether a run whose call of this number and name fails ends there, with this said.
 fn ends_at(
     alloc: Global,
@@ -88,7 +98,8 @@ fn ends_at(
     Ok(
         notes_refusal(alloc, &refused, name, ": refused\n")?
             && refused.shelf.said() == said
-            && hold(&refused, whole, calls, failing),
+            && hold(&refused, whole, calls, failing)
+            && keeps(&refused, calls),
     )
 }
 
@@ -120,7 +131,7 @@ fn ends_at_each(alloc: Global, words: &str, calls: &str, whole: &Outcome) -> Res
 /// Whether the run ends so, beside a whole one.
 fn is_right(alloc: Global, words: &str, calls: &str) -> Result<bool, Fail> {
     let whole = run(alloc, words, &[])?;
-    ends_at_each(alloc, words, calls, &whole)
+    Ok(keeps(&whole, calls) && ends_at_each(alloc, words, calls, &whole)?)
 }
 
 #[test]

@@ -68,6 +68,7 @@ penalty 0
 > solve g2 q2 p 1
 < 8 ..
 result turns
+cost 4
 bound 3
 processed 1
 failed 0
@@ -188,6 +189,9 @@ curve 3
 heads 1 cost 12 bound 12 processed 1 failed 0
 heads 2 cost 4 bound 3 processed 1 failed 0
 heads 3 cost 4 bound 3 processed 1 failed 0
+> curve g5 one_group p 10
+< 4
+demand: groups have no curve
 > curve g5 one_head p 10
 < 9
 graph: 147536 arcs, at most 100000

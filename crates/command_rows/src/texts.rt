@@ -67,6 +67,12 @@ rule S 0 = H
 rule F 3 = 'a' 'a'
 rule H 1 = 'a' '.'
 rule H 1 = '.' 'a'
+@ one_pair
+periods 3
+work a
+idle .
+start S
+rule S 2 = 'a' 'a' '.'
 @ one
 periods 1
 work a
@@ -231,6 +237,11 @@ heads 1 1
 need a 10 0 1 1
 @ one_head
 heads 0 1
+@ one_worker
+heads 0 1
+need a 10 0 1 1 1
+@ one_group
+group S 0 1
 @ q7
 group F 0 1
 group H 1 2

@@ -1,13 +1,16 @@
-use fraction::{Frac, Tally, TooWide, add, compare, mul, row_step, scaled};
+use fraction::{Frac, Tally, TooWide, add, compare, div, mul, row_step, scaled, sub};
 use std::cmp::Ordering;
 
 const TWO_TO_100: i128 = 0x10_0000_0000_0000_0000_0000_0000;
 
 const TWO_TO_126: i128 = 0x4000_0000_0000_0000_0000_0000_0000_0000;
 
-/// Whether a third and a sixth are a half.
+/// Whether a third and a sixth are a half, a third less a sixth is a sixth, and a sixth over a negative third is a
+/// negative half.
 fn are_added() -> bool {
     add(&Frac::new(1, 3), &Frac::new(1, 6)) == Ok(Frac::new(1, 2))
+        && sub(&Frac::new(1, 3), &Frac::new(1, 6)) == Ok(Frac::new(1, 6))
+        && div(&Frac::new(1, 6), &Frac::new(-1, 3)) == Ok(Frac::new(-1, 2))
 }
 
 /// Whether a product that is too wide is refused.

@@ -2,7 +2,7 @@ ghost use Rattle.std.specs.Prelude.{IfOk};
 ghost use Rattle.roster_model.specs.Sound.{IsSound, IsPlain};
 
 use crate::days::{BLOCK_NEEDS, day};
-use demand_text::{fault_line, read_demand, write_demand};
+use demand_text::{DemandFault, fault_line, read_demand, write_demand};
 use roster_model::{Grammar, List, Memory};
 use rules_text::read_rules;
 use std::alloc::Global;
@@ -121,6 +121,13 @@ fn faults(rt: HostRuntime) -> Result<(), Fail> {
 }
 
 /// Each kind of line: groups and needs in the order of their lines, then floors, then ceilings.
+#[test]
+fn limit_of_bytes(rt: HostRuntime) -> Result<(), Fail> {
+    let said = fault_line(rt.alloc(), &DemandFault::TooLong)?;
+    assert!(rt; said.as_slice() == b"demand: the text is too long\n".as_slice());
+    Ok(())
+}
+
 const WRITTEN: [&'static str; 2] = [
     BLOCK_NEEDS,
     "group H 1 2\ngroup F 0 1\nneed b 0 0 0 0 0 0\nmost b 64 64 64 63\nneed a 1 2 3 4 5 6\nleast a 0 0 0 1\nmost a 0 0 0 0\n",

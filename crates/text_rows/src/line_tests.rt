@@ -49,7 +49,14 @@ fn numbers_are_read(rt: HostRuntime) {
 type LineRow = (u32, Option<usize>);
 
 /// A carriage return is dropped before a line feed alone, and a comment may hold any byte.
-const LINES: [LineRow; 5] = [(1, Some(2)), (4, None), (5, Some(1)), (6, None), (7, None)];
+const LINES: [LineRow; 6] = [
+    (1, Some(2)),
+    (4, None),
+    (5, Some(1)),
+    (6, None),
+    (7, None),
+    (8, None),
+];
 
 // The next line.
 fn next_line(lines: &mut Lines<'_>) -> Option<LineRow> {
@@ -72,6 +79,6 @@ fn are_lines(lines: &mut Lines<'_>, rows: &[LineRow]) -> bool {
 
 #[test]
 fn lines_have_words(rt: HostRuntime) {
-    let mut lines = Lines::new(b"one\ttwo \r\n\n # \xff\n\xff\n last# a\r b\r\nlast\r#\n\r");
+    let mut lines = Lines::new(b"one\ttwo \r\n\n # \xff\n\xff\n last# a\r b\r\nlast\r#\nx\r\r\n\r");
     assert!(rt; are_lines(&mut lines, &LINES));
 }

@@ -199,7 +199,7 @@ fn limit_of_shifts(rt: HostRuntime) -> Result<(), Fail> {
 /// Lines behind 20,001 nodes.
 const NODES: [Row; 3] = [
     (
-        "bare\n",
+        "bare\nbare\nend\n",
         "proof: line 20005: too many nodes, at most 20001\n",
     ),
     (
@@ -212,7 +212,7 @@ const NODES: [Row; 3] = [
 #[test]
 fn limit_of_nodes(rt: HostRuntime) -> Result<(), Fail> {
     let splits = "split 1 0 1 3 1 0\n".repeat(rt.alloc(), 10_001)?;
-    let head = [HEAD, splits.as_str()].concat(rt.alloc())?;
+    let head = ["proof 1\ncost none\nbound 0\n", splits.as_str()].concat(rt.alloc())?;
     compare_repeated(rt.alloc(), head.as_str(), "bare\n", 10_000, &NODES)
 }
 
