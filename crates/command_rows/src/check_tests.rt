@@ -126,11 +126,6 @@ mult 1 2; priced 1
 proof: the text ends early
 > check g2 q2 proof
 proof 1; cost 4; bound 4; shift .aa 2; shift aa. 2; split 1 0 1 3 1 0; priced 1; price a 2 2 0
-mult 1 2; priced 1; price a 0 0 2; mult 1 2; end; bare
-< 5
-proof: line 14: text after the end
-> check g2 q2 proof
-proof 1; cost 4; bound 4; shift .aa 2; shift aa. 2; split 1 0 1 3 1 0; priced 1; price a 2 2 0
 mult 1 2; split 1 0 1 3 1 1; priced 1; price a 0 0 2; mult 1 2; priced 1; price a 0 0 2; mult 1 2
 mult 2 2; end
 < 1
