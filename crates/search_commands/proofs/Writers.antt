@@ -6,7 +6,7 @@ use Rattle.shelf.specs.Shelf.{Texts, Told, AgreesElsewhere, one_more}
 use Rattle.shelf.specs.Stores.{may_replace, may_store}
 use Rattle.answers.specs.Fetch.{IsFetch, NoAnswer}
 use Rattle.answers.specs.Reader.{HoldsAll, MayStore, Said, SaidLittle, IsReader}
-use Rattle.search_commands.specs.Writer.{Answers, Keeps, IsStored, WroteLittle, IsWriter, IsAsked, IsTurnedDown, StoresNothing}
+use Rattle.search_commands.specs.Writer.{Answers, Keeps, IsStored, StoredAllowed, WroteLittle, IsWriter, IsAsked, IsTurnedDown, StoresNothing}
 use Rattle.answers.proofs.Readers.{more_faults, no_more, others_held, quiet_now}
 
 pub keeps_same : (old new : Option Texts) → new ≡ old → Keeps old new
@@ -43,6 +43,10 @@ module _ (A B : Answers) (each : (status : ℕ) (output : List ℕ) (stored : Op
   fronts name before after (Some said) None h = absurd h
   fronts name before after (Some said) (Some now) h = little name before after said now h
 
+  left : (name : List ℕ) (before after : Option Texts) → (after ≡ before) ⊎ StoredAllowed A name before after → (after ≡ before) ⊎ StoredAllowed B name before after
+  left name before after (inl same) = inl same
+  left name before after (inr s) = inr (record { status = s.status; output = s.output; stored = s.stored; answers = each s.status s.output s.stored s.answers; held = s.held })
+
   -- more answers are allowed, and more names are asked for
   pub widen : (ms ns : List (List ℕ)) (name : List ℕ) (before after : Told) (status : ℕ) → (HoldsAll before.held ms → HoldsAll before.held ns) → IsWriter A ns name before after status → IsWriter B ms name before after status
   widen ms ns name before after status more w = record {
@@ -50,6 +54,7 @@ module _ (A B : Answers) (each : (status : ℕ) (output : List ℕ) (stored : Op
     kept = w.kept;
     answer = λ six seven. let a = w.answer six seven in (a.0, a.1, each status a.0 a.1 a.2, a.3, a.4);
     front = fronts name before after before.said after.said w.front;
+    memory = λ seven. left name before.held after.held (w.memory seven);
     never_falls = w.never_falls;
     cause = w.cause;
     steady = λ steady holds may few. w.steady steady (more holds) may few;
@@ -76,6 +81,7 @@ as_writer A names name before after status r = record {
   kept = keeps_same before.held after.held r.held;
   answer = λ six seven. let a = r.answer six seven in (a.0, None, (a.1, refl), a.2, r.held);
   front = reader_fronts A name before after r.held before.said after.said r.front;
+  memory = λ seven. inl r.held;
   never_falls = r.never_falls;
   cause = r.cause;
   steady = λ steady holds may few. r.steady steady holds few;
@@ -103,6 +109,10 @@ module _ (A : Answers) (name : List ℕ) (before middle after : Told) (held : mi
   fronts_since (Some said) None h = absurd h
   fronts_since (Some said) (Some now) h = little_since said now h
 
+  left_since : (after.held ≡ middle.held) ⊎ StoredAllowed A name middle.held after.held → (after.held ≡ before.held) ⊎ StoredAllowed A name before.held after.held
+  left_since (inl same) = inl (same ∙ held)
+  left_since (inr s) = inr (record { status = s.status; output = s.output; stored = s.stored; answers = s.answers; held = stored_since s.stored s.held })
+
 -- a command that goes on after what stored and said nothing
 since : (A : Answers) (ms ns : List (List ℕ)) (name : List ℕ) (before middle after : Told) (status : ℕ) → middle.held ≡ before.held → middle.said ≡ before.said → before.faults ≤ middle.faults
     → (IsTrue before.steady → HoldsAll before.held ms → MayStore name before.held → IsTrue middle.steady × HoldsAll middle.held ns × (middle.faults ≡ before.faults))
@@ -111,6 +121,7 @@ since A ms ns name before middle after status held said less calm w = record {
   others = subst (λ (x : Option Texts). IfSome x (λ texts. IsSomeAnd after.held (AgreesElsewhere name texts))) held w.others;
   kept = subst (λ (x : Option Texts). Keeps x after.held) held w.kept;
   answer = λ six seven. let a = w.answer six seven in (a.0, a.1, a.2, subst (λ (old : Option (List ℕ)). Said old after.said a.0) said a.3, stored_since A name before middle after held a.1 a.4);
+  memory = λ seven. left_since A name before middle after held (w.memory seven);
   front = fronts_since A name before middle after held before.said after.said (subst (λ (old : Option (List ℕ)). IfSome old (λ said. IsSomeAnd after.said (WroteLittle A name middle after said))) said w.front);
   never_falls = let more = w.never_falls in omega (arith, less, more);
   cause = λ six. more_faults before.faults middle.faults after.faults less (w.cause six);
@@ -152,6 +163,7 @@ turned_down A name before after status r = record {
   kept = keeps_same before.held after.held r.asked.held;
   answer = λ six seven. no_answer_yet _ status r.refused six seven;
   front = silent A name before after before.said after.said r.asked.said;
+  memory = λ seven. inl r.asked.held;
   never_falls = r.asked.never_falls;
   cause = r.cause;
   steady = λ steady holds may few six. no_more before.faults few (subst (λ (n : ℕ). one_more before.faults ≤ n) (r.asked.quiet steady may) (r.cause six));

@@ -33,6 +33,14 @@ pub record WroteFront (A : Answers) (name : List ℕ) (before after : Told) (old
   pub said : new ≡ old ++ front
   pub held : IsStored before.held after.held name stored
 
+-- what goes with an output that some status allows is stored, and nothing else
+pub record StoredAllowed (A : Answers) (name : List ℕ) (before after : Option Texts) : Type 0 where
+  pub status : ℕ
+  pub output : List ℕ
+  pub stored : Option (List ℕ)
+  pub answers : A status output stored
+  pub held : IsStored before after name stored
+
 -- nothing was said, or a front of an allowed output
 abbrev pub WroteLittle : Answers → List ℕ → Told → Told → List ℕ → List ℕ → Type 0
 WroteLittle A name before after old new = (new ≡ old) ⊎ WroteFront A name before after old new
@@ -52,6 +60,8 @@ pub record IsWriter (A : Answers) (names : List (List ℕ)) (name : List ℕ) (b
       × Said before.said after.said output × IsStored before.held after.held name stored
   -- after a refusal no more was said than a front of an allowed answer, once what goes with it was stored
   pub front : IfSome before.said (λ said. IsSomeAnd after.said (WroteLittle A name before after said))
+  -- where memory ran out, all is held as before, or what goes with an allowed answer is stored
+  pub memory : status ≡ 7 → (after.held ≡ before.held) ⊎ StoredAllowed A name before.held after.held
   -- the shelf refuses only where it counts a fault, or its count stands at its last value
   pub never_falls : before.faults ≤ after.faults
   pub cause : status ≡ 6 → one_more before.faults ≤ after.faults

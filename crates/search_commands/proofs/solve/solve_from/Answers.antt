@@ -11,3 +11,10 @@ returns-in-Some g c =
     let after : Told = g.S.Shelf.told c.solve_proof.new.shelf in
     let view = lent (g.M.Master.strict c.args.master.now) (g.M.Master.refused c.args.master.now) (g.M.Master.refused c.solve_proof.new.master) in
     subst (λ o. IsWriter (SolvesFrom before.held c.args.instance.now (option_copied o) view c.args.limit) (from_names (option_copied o)) c.args.proof.now before after c.solve_proof.result) (sym c.in-Some.is) c.solve_proof.ensures
+
+pub returns-in-None : goal.returns-in-None
+returns-in-None g c =
+    let before : Told = g.S.Shelf.told c.args.shelf.now in
+    let after : Told = g.S.Shelf.told c.solve_asked.new.shelf in
+    let view = lent (g.M.Master.strict c.args.master.now) (g.M.Master.refused c.args.master.now) (g.M.Master.refused c.solve_asked.new.master) in
+    subst (λ o. IsWriter (SolvesFrom before.held c.args.instance.now (option_copied o) view c.args.limit) (from_names (option_copied o)) c.args.proof.now before after c.solve_asked.result) (sym c.in-None.is) c.solve_asked.ensures
