@@ -7,8 +7,8 @@ TOP = pathlib.Path(__file__).resolve().parent.parent
 
 
 def program_path(name="roster", given=None):
-    """The program that would run: proved here from the sources that stand, else compiled here from them. Or the one that is
-    given; ends where there is none."""
+    """The program that would run: proved here from the sources that stand, else compiled here from them; or the one
+    that is given. Ends where there is none."""
     if given is None:
         said = subprocess.run([TOP / "program", "--which", name], stdout=subprocess.PIPE, text=True).stdout
         if not said:

@@ -1,8 +1,8 @@
 #!/usr/bin/env python3
 """Checks the pages: that each relative link leads to a file that is there, and to a heading of it where it names one;
 that each file that README.md, CONTRIBUTING.md and docs/ name by its path is there; that each command of the
-program is named in docs/PLANNING.md, docs/TEXTS.md, the man page and the completion of share/; and that the man page has
-each status of docs/TEXTS.md.
+program is named in docs/PLANNING.md, docs/TEXTS.md, the man page and the completion of share/; and that the man page
+has each status of docs/TEXTS.md.
 
 The commands are the words that crates/command_line/specs/Form.antt compares the first word with, and the scripts that
 docs/TEXTS.md has a section of.
@@ -101,8 +101,8 @@ def wrong_pages():
 def main():
     if wrong := list(wrong_pages()):
         sys.exit("\n".join(wrong))
-    print(f"the links of {len(PAGES + OTHERS)} pages lead somewhere, and {len(commands())} commands and {len(statuses())} "
-          "statuses stand where they belong")
+    print(f"the links of {len(PAGES + OTHERS)} pages lead somewhere, and {len(commands())} commands and "
+          f"{len(statuses())} statuses stand where they belong")
 
 
 if __name__ == "__main__":

@@ -103,7 +103,7 @@ def run(command, folder):
 
 
 def bare_commands():
-    """The commands of the blocks that show nothing: those of the box for planners, and the indented lines of PAGE.md."""
+    """The commands of the blocks that show nothing: of the box for planners, and the indented lines of PAGE.md."""
     for block in re.findall(r"^ *```\n(.*?)^ *```$", re.sub(r"^> ?", "", README, flags=re.M), re.M | re.S):
         yield from (line.strip() for line in block.splitlines())
     yield from re.findall(r"^    (\./.*)$", ROSTER_PAGE, re.M)
