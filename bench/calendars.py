@@ -15,7 +15,8 @@ import subprocess
 import sys
 
 sys.dont_write_bytecode = True
-from page import DAYS, LABELS, MADE, TOP, texts
+from built import program_path
+from page import DAYS, LABELS, MADE, texts
 
 CLOCK = "clock 22:45 20\n"
 DATES = ["2026-01-31", "2024-02-28"]
@@ -137,10 +138,9 @@ def look(folder, name):
     text += "" if "clock " in text else CLOCK
     labels = folder / f"{name}.clock.labels"
     labels.write_text(text)
-    wrong, events = [], 0
+    program, wrong, events = program_path("roster_page"), [], 0
     for day in DATES:
-        said = subprocess.run([TOP / "roster-calendar", rules, demand, proof, labels, day], capture_output=True,
-                              timeout=120)
+        said = subprocess.run([program, "calendar", rules, demand, proof, labels, day], capture_output=True, timeout=120)
         if said.returncode != 0:
             wrong.append(f"status {said.returncode}: {said.stdout[:80]}")
             continue

@@ -1,7 +1,7 @@
 #!/usr/bin/env python3
 """Times `check`: reading a long proof text against `wc -w`, and judging many priced nodes.
 
-The program is crates/roster/out/roster, as `./roster` builds it. The long text is a certificate
+The program is the one that `./roster` would run. The long text is a certificate
 of a day of 96 periods that is cut before its end, so it is read whole and refused; its first split is on
 no arc, so no value is computed. The nodes are those of a chain of splits on arcs of examples/g3.rules,
 a day of 24 periods and two activities, each leaf with prices of its own. Judging them is timed against as
@@ -15,8 +15,11 @@ import subprocess
 import sys
 import tempfile
 
+sys.dont_write_bytecode = True
+from built import program_path
+
 TOP = pathlib.Path(__file__).resolve().parent.parent
-PROGRAM = TOP / "crates" / "roster" / "out" / "roster"
+PROGRAM = program_path()
 FILLS = TOP / "crates" / "bench_runs" / "out" / "bench_runs"
 RULES, DEMAND = TOP / "examples" / "g3.rules", TOP / "examples" / "g3.demand"
 TURNS = 5
@@ -100,8 +103,6 @@ def judging(folder):
 
 
 def main():
-    if not PROGRAM.exists():
-        sys.exit("run ./roster once: it builds the program")
     if not FILLS.exists():
         sys.exit("run `rt run` in crates/bench_runs: it builds the program")
     with tempfile.TemporaryDirectory() as name:

@@ -2,7 +2,7 @@
 """Times `explain` on a day of 24 and on one of 96 periods, and against the same recurrence in Rust.
 
 The longer day is examples/g3.rules with windows four times as wide. The program is
-crates/roster/out/roster, as `./roster` builds it; the other is bench/explain.rs by `rustc -O`.
+the one that `./roster` would run; the other is bench/explain.rs by `rustc -O`.
 Prints the least processor time of each, and ratios; the costs that both print must agree.
 """
 import os
@@ -12,8 +12,10 @@ import subprocess
 import sys
 import tempfile
 
+sys.dont_write_bytecode = True
+from built import program_path
+
 TOP = pathlib.Path(__file__).resolve().parent.parent
-PROGRAM = TOP / "crates" / "roster" / "out" / "roster"
 TURNS = 15
 SHORT = "....aaaammaapaa........."
 LONG = "." * 20 + "a" * 16 + "mm" + "a" * 10 + "p" + "a" * 10 + "." * 37
@@ -34,8 +36,7 @@ def seconds(words):
 
 
 def main():
-    if not PROGRAM.exists():
-        sys.exit("run ./roster once: it builds the program")
+    program = program_path()
     with tempfile.TemporaryDirectory() as folder:
         folder = pathlib.Path(folder)
         short = TOP / "examples" / "g3.rules"
@@ -46,7 +47,7 @@ def main():
         least = {}
         for name, rules, word in (("24", short, SHORT), ("96", long, LONG)):
             costs = set()
-            for who, words in (("proved", [PROGRAM, "explain", rules, word]), ("rust", [other, rules, word])):
+            for who, words in (("program", [program, "explain", rules, word]), ("rust", [other, rules, word])):
                 times = []
                 for _ in range(TURNS):
                     took, cost = seconds(words)
@@ -55,9 +56,9 @@ def main():
                 least[name, who] = min(times)
             if len(costs) != 1:
                 sys.exit(f"the costs differ: {costs}")
-            print(f"{name} periods: {costs.pop()}, proved {1000 * least[name, 'proved']:.1f} ms, rust {1000 * least[name, 'rust']:.1f} ms, "
-                  f"ratio {least[name, 'proved'] / least[name, 'rust']:.2f}")
-        print(f"96 periods against 24: {least['96', 'proved'] / least['24', 'proved']:.1f} times")
+            print(f"{name} periods: {costs.pop()}, program {1000 * least[name, 'program']:.1f} ms, rust {1000 * least[name, 'rust']:.1f} ms, "
+                  f"ratio {least[name, 'program'] / least[name, 'rust']:.2f}")
+        print(f"96 periods against 24: {least['96', 'program'] / least['24', 'program']:.1f} times")
 
 
 if __name__ == "__main__":

@@ -3,7 +3,7 @@
 
     bench/made.py [TURNS [PROGRAM]]
 
-PROGRAM is crates/roster/out/roster by default, which ./roster or the gate builds. Times are processor
+PROGRAM is by default the one that `./roster` would run. Times are processor
 time of a whole call: making the day, its graph, the search, and the two texts.
 """
 import os
@@ -12,7 +12,9 @@ import subprocess
 import sys
 import tempfile
 
-TOP = os.path.dirname(os.path.dirname(os.path.abspath(__file__)))
+sys.dont_write_bytecode = True
+from built import program_path
+
 DAYS = range(31)
 
 
@@ -27,9 +29,7 @@ def call(program, number, turns, proof):
 
 def main():
     turns = int(sys.argv[1]) if len(sys.argv) > 1 else 200
-    program = sys.argv[2] if len(sys.argv) > 2 else os.path.join(TOP, "crates/roster/out/roster")
-    if not os.access(program, os.X_OK):
-        sys.exit(f"{program} is not built: run ./roster or the gate first")
+    program = program_path(given=sys.argv[2] if len(sys.argv) > 2 else None)
     with tempfile.TemporaryDirectory() as folder:
         calls = [call(program, number, turns, os.path.join(folder, "proof")) for number in DAYS]
     closed = sum(status == 0 for status, _, _ in calls)

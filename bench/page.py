@@ -16,6 +16,9 @@ import re
 import subprocess
 import sys
 
+sys.dont_write_bytecode = True
+from built import program_path
+
 TOP = pathlib.Path(__file__).resolve().parent.parent
 DAYS = {"g1": None, "g6": None, "call_centre": 300, "shop": 60, "ward": 60}
 
@@ -121,7 +124,7 @@ def texts(folder, name):
     if DAYS[name]:
         proof = folder / f"{name}.proof"
         if not proof.exists():
-            run([TOP / "roster", "solve", rules, demand, proof, str(DAYS[name])])
+            run([program_path(), "solve", rules, demand, proof, str(DAYS[name])])
     return rules, demand, proof
 
 
@@ -136,7 +139,7 @@ def drawn(folder, name, rules, demand, proof):
         old = folder / f"{name}.old.proof"
         old.write_text(OLD[name])
         words.append(old)
-    said = run([TOP / "roster-page"] + words)
+    said = run([program_path("roster_page"), "page", *words])
     if said.returncode != 0:
         raise SystemExit(f"{name}: status {said.returncode}: {said.stdout}{said.stderr}")
     page = folder / f"{name}.html"

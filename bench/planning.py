@@ -1,13 +1,15 @@
 #!/usr/bin/env python3
-"""Checks docs/PLANNING.md and README.md: their rules, demands and rosters against examples/, their commands against the program.
+"""Runs the commands of README.md, docs/PLANNING.md and docs/PAGE.md: planning.py [PROGRAM [PAGE_PROGRAM]]
 
 A block that is headed `rules FILE`, `demand FILE` or `roster FILE` must stand in that file, line for line. The commands
-of a `console` block are run as a shell runs them, in a folder with `examples` and `roster`, and what they
-print must be what the page shows; a last line `...` stands for further lines. Each fault of the page's
-table must come from an edit of a day of examples/ below, and no fault may be missing there.
+of a `console` block are run as a shell runs them, in a folder with `examples` and the scripts, and what they
+print must be what the page shows; a last line `...` stands for further lines. Commands that stand in a block of their
+own, as in the box for planners, must end with status 0; where PAGE.md names a labels text, it is the one that it
+shows. Each fault of the table of PLANNING.md must come from an edit of a day of examples/ below, and no fault may be
+missing there.
 
-The program is crates/roster/out/roster, as `./roster` builds it, or the one that is named as the
-only argument. Where it is not built, only the blocks of rules and demands are checked, and that is said.
+The programs are those that `./roster` and `./roster-page` would run, or those that are named. Where there is none, it
+fails.
 """
 import pathlib
 import re
@@ -15,10 +17,15 @@ import subprocess
 import sys
 import tempfile
 
+sys.dont_write_bytecode = True
+from built import program_path
+
 TOP = pathlib.Path(__file__).resolve().parent.parent
 PAGE = (TOP / "docs" / "PLANNING.md").read_text()
 README = (TOP / "README.md").read_text()
-PROGRAM = TOP / "crates" / "roster" / "out" / "roster"
+ROSTER_PAGE = (TOP / "docs" / "PAGE.md").read_text()
+# The commands that need no run: they change the checkout, or the machine.
+LEFT = ("git clone ", "cd ", "./prove", "./install")
 RULES, DEMAND = "examples/shop.rules", "examples/shop.demand"
 # What is noted of odd rules and demands, which a block may leave out.
 ODD = re.compile(r"^(?:rules|demand): (?:line \d+: )?(?:no shift|no group|the same rule|there is|len|begin|end)\b.*\n"
@@ -84,10 +91,31 @@ def is_as_shown(shown, said):
     return said.startswith(front) and said != front
 
 
-def run(command, folder):
+def call(command, folder):
     text = command.replace("/tmp/", f"{folder}/")
-    done = subprocess.run(["sh", "-c", text], cwd=folder, capture_output=True)
+    return subprocess.run(["sh", "-c", text], cwd=folder, capture_output=True)
+
+
+def run(command, folder):
+    """What a command prints, without what a long search notes of itself."""
+    done = call(command, folder)
     return done.stdout.decode() + PROGRESS.sub("", done.stderr.decode())
+
+
+def bare_commands():
+    """The commands of the blocks that show nothing: of the box for planners, and the indented lines of PAGE.md."""
+    for block in re.findall(r"^ *```\n(.*?)^ *```$", re.sub(r"^> ?", "", README, flags=re.M), re.M | re.S):
+        yield from (line.strip() for line in block.splitlines())
+    yield from re.findall(r"^    (\./.*)$", ROSTER_PAGE, re.M)
+
+
+def scripts(folder, program, page_program):
+    """Writes the scripts that the pages name, which call these programs."""
+    (folder / "roster").symlink_to(program)
+    for word in ("page", "table", "calendar"):
+        script = folder / f"roster-{word}"
+        script.write_text(f'#!/bin/sh\nexec "{page_program}" {word} "$@"\n')
+        script.chmod(0o755)
 
 
 def edited(file, old, new, folder):
@@ -122,21 +150,38 @@ def wrong_commands(folder):
                 yield f"$ {command}\n{said}"
 
 
+def wrong_bare_commands(folder):
+    """Runs the commands that show nothing, in their order; an old certificate that PAGE.md names is the one before."""
+    labels = re.search(r"^```text\n(.*?)^```$", ROSTER_PAGE, re.M | re.S)[1]
+    (folder / "shop.labels").write_text(re.sub(r"^group .*\n", "", labels, flags=re.M))
+    ran = 0
+    for command in bare_commands():
+        if command.startswith(LEFT):
+            continue
+        for name in ("new", "old"):
+            if f"/tmp/{name}.proof" in command:
+                (folder / f"{name}.proof").write_bytes((folder / "shop.proof").read_bytes())
+        done = call(command, folder)
+        ran += 1
+        if done.returncode:
+            yield f"$ {command}\nstatus {done.returncode}: {done.stdout.decode()}{done.stderr.decode()}"
+    if ran < 6:
+        yield f"only {ran} commands stand in blocks of their own"
+
+
 def main():
-    program = pathlib.Path(sys.argv[1]).resolve() if len(sys.argv) == 2 else PROGRAM
+    given = [*sys.argv[1:3], None, None]
+    program, page_program = program_path(given=given[0]), program_path("roster_page", given[1])
     wrong = [f"not in {name}:\n{text}" for kind, name, text in blocks()
              if kind in ("rules", "demand", "roster") and not is_in_examples(name, text)]
-    if program.exists():
-        with tempfile.TemporaryDirectory() as name:
-            folder = pathlib.Path(name)
-            (folder / "examples").symlink_to(TOP / "examples")
-            (folder / "roster").symlink_to(program)
-            wrong += [*wrong_commands(folder), *wrong_faults(folder)]
-    else:
-        print("the program is not built (run ./roster once): no command is checked")
+    with tempfile.TemporaryDirectory() as name:
+        folder = pathlib.Path(name)
+        (folder / "examples").symlink_to(TOP / "examples")
+        scripts(folder, program, page_program)
+        wrong += [*wrong_commands(folder), *wrong_bare_commands(folder), *wrong_faults(folder)]
     if wrong:
-        sys.exit("\n".join(["README.md or docs/PLANNING.md is wrong:", *wrong]))
-    print("README.md and docs/PLANNING.md are right" + (" in their rules and demands" if not program.exists() else ""))
+        sys.exit("\n".join(["README.md, docs/PLANNING.md or docs/PAGE.md is wrong:", *wrong]))
+    print("README.md, docs/PLANNING.md and docs/PAGE.md are right")
 
 
 if __name__ == "__main__":

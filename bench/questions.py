@@ -2,8 +2,8 @@
 """Times the questions about a day of 96 periods against one fill of the table of least sums, by whole runs.
 
 The day is examples/g3.rules with windows four times as wide, as in bench/explain.py. A fill is what `rank RULES 1`
-takes, less what a run takes on a day of one period. The program is crates/roster/out/roster, which ./roster or
-the gate builds, or the one that is named. Prints the least processor time of each question, and in how many fills.
+takes, less what a run takes on a day of one period. The program is the one that `./roster`
+would run, or the one that is named. Prints the least processor time of each question, and in how many fills.
 """
 import importlib.util
 import os
@@ -11,6 +11,9 @@ import pathlib
 import subprocess
 import sys
 import tempfile
+
+sys.dont_write_bytecode = True
+from built import program_path
 
 TOP = pathlib.Path(__file__).resolve().parent.parent
 TURNS = 7
@@ -37,9 +40,7 @@ def least(words):
 
 
 def main():
-    program = pathlib.Path(sys.argv[1]) if len(sys.argv) > 1 else TOP / "crates/roster/out/roster"
-    if not os.access(program, os.X_OK):
-        sys.exit(f"{program} is not built: run ./roster or the gate first")
+    program = program_path(given=sys.argv[1] if len(sys.argv) > 1 else None)
     explain = explain_bench()
     with tempfile.TemporaryDirectory() as folder:
         rules, small = pathlib.Path(folder, "long.rules"), pathlib.Path(folder, "small.rules")

@@ -4,8 +4,8 @@
 `explain`, `check`, `solve` and `make` run on the examples with an allocator that is loaded before the C library, and
 that refuses the allocation of one number. A run has to end with status 7 or 6 and say nothing on standard output, or
 with the status and the text of the run in which nothing is refused; notes on standard error do not count. Prints how many runs it made of each command, and how they ended;
-fails at the first that ended otherwise. It wants gcc. The program is crates/roster/out/roster, which ./roster
-or the gate builds, or the one that is named.
+fails at the first that ended otherwise. It wants gcc. The program is the one that `./roster`
+would run, or the one that is named.
 """
 import collections
 import os
@@ -14,6 +14,9 @@ import shutil
 import subprocess
 import sys
 import tempfile
+
+sys.dont_write_bytecode = True
+from built import program_path
 
 TOP = pathlib.Path(__file__).resolve().parent.parent
 SECONDS = 60
@@ -136,9 +139,7 @@ def refuse_each(program, words, folder, library):
 
 
 def main():
-    program = pathlib.Path(sys.argv[1] if len(sys.argv) > 1 else TOP / "crates/roster/out/roster").resolve()
-    if not os.access(program, os.X_OK):
-        sys.exit(f"{program} is not built: run ./roster or the gate first")
+    program = program_path(given=sys.argv[1] if len(sys.argv) > 1 else None)
     total = 0
     with tempfile.TemporaryDirectory() as name:
         room = pathlib.Path(name)

@@ -4,7 +4,7 @@
     bench/solve.py [--turns N] [--limit SECONDS] [--program PROGRAM] [--peers FOLDER] [--parts] [FOLDER [DAY..]]
 
 FOLDER has DAY.rules and DAY.demand for each day, by default the days of examples/ that a planner would know. PROGRAM
-is crates/roster/out/roster by default, which ./roster or the gate builds. A run that takes longer than the
+is by default the one that `./roster` would run. A run that takes longer than the
 limit is given up. Each row has the day, cost and bound, the turns used and those of them without prices, the processor
 seconds and the memory of `solve`, and the seconds of `check` on what it stored; each solve is made twice, and the two
 texts must be the same.
@@ -26,6 +26,9 @@ import signal
 import subprocess
 import sys
 import tempfile
+
+sys.dont_write_bytecode = True
+from built import program_path
 
 TOP = pathlib.Path(__file__).resolve().parent.parent
 SOLVERS = ("cbc", "highs")
@@ -93,7 +96,7 @@ def by_part(program, rules, demand, turns):
         shutil.copy(demand, folder / "demand")
         record = ["perf", "record", "-q", "-e", "cpu-clock", "-F", "199", "-o", "samples"]
         before = os.times().children_user
-        subprocess.run([*record, program.resolve(), "solve", "rules", "demand", "proof", str(turns)], cwd=folder,
+        subprocess.run([*record, program, "solve", "rules", "demand", "proof", str(turns)], cwd=folder,
                        stdout=subprocess.DEVNULL, check=False)
         seconds = os.times().children_user - before
         said = subprocess.run(["perf", "report", "-i", "samples", "--stdio", "-g", "none", "--sort", "symbol"],
@@ -112,16 +115,15 @@ def main():
     words.add_argument("days", nargs="*")
     words.add_argument("--turns", type=int, default=200)
     words.add_argument("--limit", type=int, default=60)
-    words.add_argument("--program", type=pathlib.Path, default=TOP / "crates/roster/out/roster")
+    words.add_argument("--program")
     words.add_argument("--peers", type=pathlib.Path)
     words.add_argument("--parts", action="store_true")
     given = words.parse_args()
-    if not os.access(given.program, os.X_OK):
-        sys.exit(f"{given.program} is not built: run ./roster or the gate first")
+    program = program_path(given=given.program)
     days = given.days or sorted(it.stem for it in given.folder.glob("*.demand") if it.with_suffix(".rules").exists())
     for day in days:
         rules, demand = given.folder / f"{day}.rules", given.folder / f"{day}.demand"
-        seconds, row = solved(given.program, rules, demand, given.turns, given.limit)
+        seconds, row = solved(program, rules, demand, given.turns, given.limit)
         if given.peers:
             found = [peer(given.peers, solver, rules, demand, given.limit) for solver in SOLVERS]
             row += "".join(f" | {text}" for _, text in found)
@@ -129,7 +131,7 @@ def main():
             if seconds is not None and best:
                 row += f" | ratio {seconds / best:.2f}"
         if given.parts:
-            row += f" | {by_part(given.program, rules, demand, given.turns)}"
+            row += f" | {by_part(program, rules, demand, given.turns)}"
         print(f"{day} | {row}", flush=True)
 
 

@@ -12,7 +12,8 @@ import pathlib
 import sys
 
 sys.dont_write_bytecode = True
-from page import DAYS, LABELS, MADE, TOP, run, texts
+from built import program_path
+from page import DAYS, LABELS, MADE, run, texts
 
 HEAD = ["shift", "group", "code", "name", "first", "last", "begin", "end", "price"]
 
@@ -46,7 +47,7 @@ def faults(records, shifts):
 def look(folder, name):
     """Whether the table of a day is as it should be."""
     rules, demand, proof = texts(folder, name)
-    words = [TOP / "roster-table", rules, demand, proof]
+    words = [program_path("roster_page"), "table", rules, demand, proof]
     if name in LABELS:
         labels = folder / f"{name}.labels"
         labels.write_text(LABELS[name])
