@@ -1,10 +1,11 @@
 -- What remains of a day beside kept shifts, or why nothing does.
-use Rattle.std.specs.Prelude.{ℕ, ◌≡◌, ◌≢◌, ◌≤◌, Option, List, [], length, codes}
+use Rattle.std.specs.Prelude.{ℕ, ◌≡◌, ◌≢◌, ◌≤◌, Option, List, [], ◌++◌, length, codes}
 use Rattle.roster_model.specs.declared.grammar.Grammar.{Grammar}
 use Rattle.roster_model.specs.declared.instance.Instance.{Instance}
 use Rattle.roster_model.specs.declared.instance.Shift.{Shift}
+use Rattle.roster_model.specs.Duties.{Duty}
 use Rattle.roster_model.specs.Folds.{sum_n}
-use Rattle.roster_model.specs.Rosters.{ArePrices}
+use Rattle.roster_model.specs.Rosters.{ArePrices, Costs}
 use Rattle.roster_model.specs.SoundInstance.{IsSoundInstance}
 use Rattle.certificates.specs.RosterCauses.{duties}
 use Rattle.roster_model.specs.Demands.{Demand}
@@ -50,12 +51,17 @@ pub record IsNobody (i : Instance) (kept : List Shift) : Type 0 where
   pub may : MayBeKept i kept prices
   pub none : most_left i (duties kept) i.groups ≡ 0
 
+-- no allowed roster of the day has the kept shifts
+abbrev pub NoRosterHas : Instance → List Duty → Type 0
+NoRosterHas i kept = (ds : List Duty) (amount : ℕ) → Costs i (kept ++ ds) amount → ⊥
+
 -- each cause for which no roster of the day has the kept shifts
 pub record IsImpossible (i : Instance) (kept : List Shift) (causes : List Cause) : Type 0 where
   pub found : List (Option ℕ)
   pub prices : AreFound i kept found
   pub all : causes ≡ causes_of i (duties kept) found
   pub some : causes ≢ []
+  pub never : NoRosterHas i (duties kept)
 
 abbrev pub IsRemaining : Instance → List Shift → Remaining → Type 0
 IsRemaining i kept (Day rest) = IsRest i kept rest
