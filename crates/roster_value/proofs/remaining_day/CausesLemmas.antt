@@ -31,7 +31,8 @@ use Rattle.roster_value.specs.declared.cause.Cause.TheVariants.{TooFew, TooMany,
 use Rattle.roster_value.specs.remaining_day.Remaining.{AreWithin}
 use Rattle.roster_value.proofs.CauseLists.{nothing, no_parts}
 use Rattle.roster_value.proofs.FoundPrices.{priced-shift}
-use Rattle.roster_value.proofs.remaining_day.Rosters.{AreParted, part_prices}
+use Rattle.roster_value.proofs.OrdersLemmas.{any-order}
+use Rattle.roster_value.proofs.PriceLists.{part_prices}
 
 abbrev lasting : List Cause → List Cause
 lasting cs = filter is_lasting cs
@@ -153,7 +154,9 @@ no_causes i ss fs ds ps h r =
     })
 
 pub never_kept : (i : Instance) (ss : List Shift) (fs : List (Option ℕ)) (cs : List Cause) → AreFound i ss fs → cs ≡ causes_of i (duties ss) fs → cs ≢ [] → NoRosterHas i (duties ss)
-never_kept i ss fs cs h all some ds amount roster = some (all ∙ no_causes i ss fs ds roster.prices h roster.allowed)
+never_kept i ss fs cs h all some es ds amount order costs =
+    let roster = any-order i es (duties ss ++ ds) amount order costs in
+    some (all ∙ no_causes i ss fs ds roster.prices h roster.allowed)
 
 pub impossible : (i : Instance) (ss : List Shift) (fs : List (Option ℕ)) (cs : List Cause) → AreFound i ss fs → cs ≡ causes_of i (duties ss) fs → cs ≢ [] → IsImpossible i ss cs
 impossible i ss fs cs h all some = record { found = fs; prices = h; all = all; some = some; never = never_kept i ss fs cs h all some }

@@ -13,6 +13,7 @@ use Rattle.demand_text.specs.InstanceOf.{day_grammar}
 use Rattle.demand_text.specs.Written.{AreDemandsOf}
 use Rattle.roster_value.specs.Causes.{AreFound}
 use Rattle.roster_value.specs.CauseText.{causes_text}
+use Rattle.roster_value.specs.Orders.{SameDuties}
 use Rattle.roster_value.specs.declared.remaining_day.answer.Remaining.{Remaining}
 use Rattle.roster_value.specs.declared.remaining_day.answer.Remaining.TheVariants.{Day, Nobody, Impossible}
 use Rattle.roster_value.specs.declared.remaining_day.answer.Rest.{Rest}
@@ -51,9 +52,10 @@ pub record IsNobody (i : Instance) (kept : List Shift) : Type 0 where
   pub may : MayBeKept i kept prices
   pub none : most_left i (duties kept) i.groups ≡ 0
 
--- no allowed roster of the day has the kept shifts
+-- no allowed roster of the day has the kept shifts, in any order
 abbrev pub NoRosterHas : Instance → List Duty → Type 0
-NoRosterHas i kept = (ds : List Duty) (amount : ℕ) → Costs i (kept ++ ds) amount → ⊥
+NoRosterHas i kept =
+    (all ds : List Duty) (amount : ℕ) → SameDuties all (kept ++ ds) → Costs i all amount → ⊥
 
 -- each cause for which no roster of the day has the kept shifts
 pub record IsImpossible (i : Instance) (kept : List Shift) (causes : List Cause) : Type 0 where
