@@ -1,15 +1,16 @@
 -- What remains of a day beside kept shifts, or why nothing does.
-use Rattle.std.specs.Prelude.{ℕ, ◌≡◌, ◌≢◌, ◌≤◌, Option, List, [], ◌++◌, length, codes}
+use Rattle.std.specs.Prelude.{ℕ, ◌≡◌, ◌≢◌, ◌≤◌, Option, List, [], ◌++◌, Ok, length, codes}
 use Rattle.roster_model.specs.declared.grammar.Grammar.{Grammar}
 use Rattle.roster_model.specs.declared.instance.Instance.{Instance}
 use Rattle.roster_model.specs.declared.instance.Shift.{Shift}
 use Rattle.roster_model.specs.Duties.{Duty}
 use Rattle.roster_model.specs.Folds.{sum_n}
 use Rattle.roster_model.specs.Rosters.{ArePrices, Costs}
+use Rattle.roster_model.specs.Sound.{IsSound, IsPlain}
 use Rattle.roster_model.specs.SoundInstance.{IsSoundInstance}
 use Rattle.certificates.specs.RosterCauses.{duties}
 use Rattle.roster_model.specs.Demands.{Demand}
-use Rattle.demand_text.specs.InstanceOf.{day_grammar}
+use Rattle.demand_text.specs.InstanceOf.{day_grammar, instance_of}
 use Rattle.demand_text.specs.Written.{AreDemandsOf}
 use Rattle.roster_value.specs.Causes.{AreFound}
 use Rattle.roster_value.specs.CauseText.{causes_text}
@@ -76,10 +77,15 @@ rest_status (Day rest) = 0
 rest_status Nobody = 1
 rest_status (Impossible causes) = 1
 
+-- the text of the remaining day, which is read as that day by whatever rules' grammar the day was made
+pub record IsDaySaid (i : Instance) (kept : List Shift) (rest : Rest) (output : List ℕ) : Type 0 where
+  pub text : (ds : List Demand) → AreDemandsOf rest.day ds → output ≡ rest_text (length kept) rest ds
+  pub again : (g : Grammar) → IsSound g → IsPlain g → i.grammar ≡ day_grammar g i.groups
+      → instance_of g output ≡ Ok rest.day
+
 -- the text of the remaining day, or why there is none
 abbrev pub IsSaid : Instance → List Shift → Remaining → List ℕ → Type 0
-IsSaid i kept (Day rest) output =
-    (ds : List Demand) → AreDemandsOf rest.day ds → output ≡ rest_text (length kept) rest ds
+IsSaid i kept (Day rest) output = IsDaySaid i kept rest output
 IsSaid i kept Nobody output = output ≡ codes "nobody left\n"
 IsSaid i kept (Impossible causes) output = output ≡ causes_text i kept causes
 
