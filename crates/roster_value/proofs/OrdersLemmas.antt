@@ -92,7 +92,7 @@ module _ (i : Instance) where
       let there : SameDuties (at.front ++ e ∷ at.back) (e ∷ es) = subst (λ (xs : List Duty). SameDuties xs (e ∷ es)) at.whole same in
       let parted = part_prices i at.front (e ∷ at.back) ps (subst (λ (xs : List Duty). ArePrices i xs ps) at.whole h) in
       let sums = first_priced e at.front at.back es parted.first parted.second parted.of_first parted.of_second
-          (λ qs k. priced-again es (at.front ++ at.back) qs (others_same e at.front at.back es there) k) in
+      (λ qs k. priced-again es (at.front ++ at.back) qs (others_same e at.front at.back es there) k) in
       subst (λ (qs : List ℕ). HavePrices i (e ∷ es) (sum_n (λ (p : ℕ). p) qs)) (sym parted.whole) sums
 
 -- ---- costs

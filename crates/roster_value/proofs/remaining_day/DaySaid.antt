@@ -10,7 +10,7 @@ use Rattle.demand_text.specs.InstanceOf.{day_grammar, instance_of}
 use Rattle.demand_text.specs.Written.{AreDemandsOf}
 use Rattle.roster_value.specs.declared.remaining_day.answer.Rest.{Rest}
 use Rattle.roster_value.specs.remaining_day.Answers.{IsRest, IsDaySaid}
-use Rattle.roster_value.specs.remaining_day.RestText.{rest_text, AreWide}
+use Rattle.roster_value.specs.remaining_day.RestText.{rest_text, AreOf64Bits}
 use Rattle.roster_value.proofs.remaining_day.OneAnswer.{demands-of}
 use Rattle.roster_value.proofs.remaining_day.RestAgain.{rest-again}
 
@@ -22,14 +22,14 @@ module _ (i : Instance) (kept : List Shift) (rest : Rest) (is : IsRest i kept re
   made : (g : Grammar) → i.grammar ≡ day_grammar g i.groups → rest.day.grammar ≡ day_grammar g rest.day.groups
   made g by = subst (λ (r : Instance). r.grammar ≡ day_grammar g r.groups) (sym (is.day g by)) refl
 
-  read : (output : List ℕ) → AreWide (length kept) rest.paid rest.penalty → IsTextOf output → (g : Grammar) → IsSound g → IsPlain g → i.grammar ≡ day_grammar g i.groups → instance_of g output ≡ Ok rest.day
+  read : (output : List ℕ) → AreOf64Bits (length kept) rest.paid rest.penalty → IsTextOf output → (g : Grammar) → IsSound g → IsPlain g → i.grammar ≡ day_grammar g i.groups → instance_of g output ≡ Ok rest.day
   read output wide text g sound plain by =
       let ds = demands-of rest.day is.sound in
       ap (instance_of g) (text ds.0 ds.1)
       ∙ rest-again g rest ds.0 (length kept) sound plain (made g by) is.sound ds.1 wide.few wide.cheap wide.small
 
 pub day-said : (i : Instance) (kept : List Shift) (rest : Rest) (r : Result (List ℕ) Memory) → IsRest i kept rest
-    → IfOk r (λ output. (ds : List Demand) → AreDemandsOf rest.day ds → output ≡ rest_text (length kept) rest ds) → IfOk r (λ _. AreWide (length kept) rest.paid rest.penalty)
+    → IfOk r (λ output. (ds : List Demand) → AreDemandsOf rest.day ds → output ≡ rest_text (length kept) rest ds) → IfOk r (λ _. AreOf64Bits (length kept) rest.paid rest.penalty)
     → IfOk r (IsDaySaid i kept rest)
 day-said i kept rest (Err e) is text wide = tt
 day-said i kept rest (Ok output) is text wide = record { text = text; again = read i kept rest is output wide text }

@@ -21,7 +21,7 @@ abbrev pub rest_text : ℕ → Rest → List Demand → List ℕ
 rest_text count rest ds = 35 ∷ kept_comment count rest.paid rest.penalty ++ 10 ∷ demand_text rest.day ds
 
 -- each number of the comment is one of 64 bits
-pub record AreWide (count paid penalty : ℕ) : Type 0 where
+pub record AreOf64Bits (count paid penalty : ℕ) : Type 0 where
   pub few : count < 2 ^ 64
   pub cheap : paid < 2 ^ 64
   pub small : penalty < 2 ^ 64

@@ -3,7 +3,7 @@ ghost use Rattle.roster_model.specs.Demands.{Demand};
 ghost use Rattle.roster_model.specs.SoundInstance.{IsSoundInstance};
 ghost use Rattle.demand_text.specs.Written.{AreDemandsOf};
 ghost use Rattle.roster_value.specs.remaining_day.Answers.{IsRemaining, IsSaid, rest_status};
-ghost use Rattle.roster_value.specs.remaining_day.RestText.{kept_comment, rest_text, AreWide};
+ghost use Rattle.roster_value.specs.remaining_day.RestText.{kept_comment, rest_text, AreOf64Bits};
 ghost use Rattle.roster_value.specs.CauseText.{causes_text};
 
 use crate::remaining_day::answer::{Remaining, Rest};
@@ -16,7 +16,7 @@ use text_lines::{field, put};
 // Writes the comment that tells how many shifts are kept, and what they cost.
 fn comment(out: &mut List<u8>, count: u64, paid: u64, penalty: u64) -> Result<(), Memory>
     ensures said { OnOk result (out.new ≡ out.old ++ 35 ∷ kept_comment count paid penalty ++ 10 ∷ []) }
-    ensures wide { OnOk result (AreWide count paid penalty) }
+    ensures wide { OnOk result (AreOf64Bits count paid penalty) }
 {
     put(out, b"# kept shifts")?;
     field(out, count)?;
@@ -33,7 +33,7 @@ fn rest_text(alloc: Global, kept: &[Shift], rest: &Rest) -> Result<List<u8>, Mem
     requires { IsSoundInstance rest.now.day }
     ensures said { IfOk result (λ written. (ds : Items Demand) → AreDemandsOf rest.now.day ds
         → written ≡ rest_text (length kept.now) rest.now ds) }
-    ensures wide { IfOk result (λ _. AreWide (length kept.now) rest.now.paid rest.now.penalty) }
+    ensures wide { IfOk result (λ _. AreOf64Bits (length kept.now) rest.now.paid rest.now.penalty) }
 {
     let demand = write_demand(alloc, &rest.day)?;
     let mut out = List::new(alloc);
