@@ -5,3 +5,5 @@ pub mod PricedShifts
 pub mod ValuedRosters
 pub mod CauseTexts
 pub mod OneAnswer
+pub mod PriceLists
+pub mod OrdersLemmas

@@ -10,3 +10,4 @@ pub mod RestAgain
 pub mod RestsMade
 pub mod OneAnswer
 pub mod HeadsLeft
+pub mod DaySaid

@@ -4,6 +4,7 @@ pub mod Values
 pub mod CauseText
 pub mod ValueText
 pub mod Answers
+pub mod Orders
 pub mod stated_rosters
 pub mod remaining_day
 pub mod group_rules

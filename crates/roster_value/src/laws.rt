@@ -2,9 +2,15 @@ ghost use Rattle.std.specs.Prelude.{◌≡◌, ℕ, List};
 ghost use Rattle.roster_model.specs.declared.instance.Instance.{Instance};
 ghost use Rattle.roster_model.specs.declared.instance.Shift.{Shift};
 ghost use Rattle.roster_value.specs.Answers.{StatedAnswer};
+ghost use Rattle.roster_value.specs.Orders.{CostsInAnyOrder};
 
 /// States a law: a stated roster has one answer.
 pub fn answers_once()
     ensures { (i : Instance) (shifts : List Shift) (s t : ℕ) (a b : List ℕ) → StatedAnswer i shifts s a
         → StatedAnswer i shifts t b → (s ≡ t) × (a ≡ b) }
+{}
+
+/// States a law: what a roster costs does not depend on the order of its shifts.
+pub fn costs_in_any_order()
+    ensures { CostsInAnyOrder }
 {}

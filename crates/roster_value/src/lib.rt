@@ -30,7 +30,7 @@ pub use causes::causes_of;
 pub use found::found_of;
 pub use group_rules::{plain_grammar, plain_of_extended, same_prices};
 pub use judging::{Judged, judge};
-pub use laws::answers_once;
+pub use laws::{answers_once, costs_in_any_order};
 pub use remaining_day::{
     Remaining, Rest, causes_forbid, remaining, rest_is_read, rest_is_right, rest_status,
     write_remaining,

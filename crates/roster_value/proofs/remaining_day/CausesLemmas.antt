@@ -1,6 +1,6 @@
 -- Where there is no cause, a roster may have the kept shifts; where one has them, there is no cause.
 use Rattle.std.proofs.Common.{◌≡◌, ℕ, ◌+◌, ◌<◌, ◌≤◌, Bool, true, false, ltb, Option, None, Some, List, [], ◌∷◌, ◌++◌, length, take, get_or, refl, sym, ap, ◌∙◌, arith, add-one}
-use Rattle.std.specs.Prelude.{filter, unwrap_or, All}
+use Rattle.std.specs.Prelude.{◌≢◌, filter, unwrap_or, All}
 use Rattle.std.proofs.Math.Seq.{take-suc}
 use Rattle.std.proofs.lemmas.Bool.{le-ltb}
 use Rattle.std.proofs.lemmas.List.Elements.{All-nil, All-cons, filter-append}
@@ -23,7 +23,7 @@ use Rattle.roster_model.proofs.EachLemmas.{Each-weaker}
 use Rattle.roster_model.proofs.arc_laws.FoldsLemmas.{count-append}
 use Rattle.bound_laws.proofs.TreeCosts.{cost-le}
 use Rattle.certificates.specs.RosterCauses.{duties}
-use Rattle.roster_value.specs.remaining_day.Answers.{MayBeKept}
+use Rattle.roster_value.specs.remaining_day.Answers.{MayBeKept, NoRosterHas, IsImpossible}
 use Rattle.roster_value.specs.remaining_day.Causes.{is_lasting, causes_of, prices_of}
 use Rattle.roster_value.specs.Causes.{AreFound, only_if, gathered, shift_causes, range_causes, team_causes, limit_causes, cell_causes}
 use Rattle.roster_value.specs.declared.cause.Cause.{Cause}
@@ -31,7 +31,8 @@ use Rattle.roster_value.specs.declared.cause.Cause.TheVariants.{TooFew, TooMany,
 use Rattle.roster_value.specs.remaining_day.Remaining.{AreWithin}
 use Rattle.roster_value.proofs.CauseLists.{nothing, no_parts}
 use Rattle.roster_value.proofs.FoundPrices.{priced-shift}
-use Rattle.roster_value.proofs.remaining_day.Rosters.{AreParted, part_prices}
+use Rattle.roster_value.proofs.OrdersLemmas.{any-order}
+use Rattle.roster_value.proofs.PriceLists.{part_prices}
 
 abbrev lasting : List Cause → List Cause
 lasting cs = filter is_lasting cs
@@ -151,6 +152,14 @@ no_causes i ss fs ds ps h r =
       ceilings = Each-weaker (λ (c : Cell). IsWithinCell c (covered i.grammar c (kept ++ ds))) (λ (c : Cell). covered i.grammar c kept ≤ c.ceiling) i.cells
           (λ c k. let both = count-append (λ (d : Duty). covers_cell i.grammar c d.word) kept ds in omega (arith, both, k.ceiling)) r.coverage;
     })
+
+pub never_kept : (i : Instance) (ss : List Shift) (fs : List (Option ℕ)) (cs : List Cause) → AreFound i ss fs → cs ≡ causes_of i (duties ss) fs → cs ≢ [] → NoRosterHas i (duties ss)
+never_kept i ss fs cs h all some es ds amount order costs =
+    let roster = any-order i es (duties ss ++ ds) amount order costs in
+    some (all ∙ no_causes i ss fs ds roster.prices h roster.allowed)
+
+pub impossible : (i : Instance) (ss : List Shift) (fs : List (Option ℕ)) (cs : List Cause) → AreFound i ss fs → cs ≡ causes_of i (duties ss) fs → cs ≢ [] → IsImpossible i ss cs
+impossible i ss fs cs h all some = record { found = fs; prices = h; all = all; some = some; never = never_kept i ss fs cs h all some }
 
 -- ---- sizes
 

@@ -18,7 +18,7 @@ use Rattle.roster_value.proofs.remaining_day.CausesLemmas.{within_none}
 use Rattle.roster_value.proofs.FoundPrices.{found-once}
 
 -- what a sound day asks
-demands-of : (r : Instance) → IsSoundInstance r → (ds : List Demand) × AreDemandsOf r ds
+pub demands-of : (r : Instance) → IsSoundInstance r → (ds : List Demand) × AreDemandsOf r ds
 demands-of r h = (h.cells.demands, record { each = h.cells.each; once = h.cells.once; made = h.cells.made })
 
 module _ (i : Instance) (kept : List Shift) where
@@ -46,7 +46,7 @@ module _ (i : Instance) (kept : List Shift) where
   one-remaining (Impossible xs) (Impossible ys) h k = ap (λ (cs : List Cause). Impossible cs) (one_impossible xs ys h k)
 
   one_said : (x : Remaining) (a b : List ℕ) → IsRemaining i kept x → IsSaid i kept x a → IsSaid i kept x b → a ≡ b
-  one_said (Day x) a b h k l = let ds = demands-of x.day h.sound in k ds.0 ds.1 ∙ sym (l ds.0 ds.1)
+  one_said (Day x) a b h k l = let ds = demands-of x.day h.sound in k.text ds.0 ds.1 ∙ sym (l.text ds.0 ds.1)
   one_said Nobody a b h k l = k ∙ sym l
   one_said (Impossible xs) a b h k l = k ∙ sym l
 

@@ -45,7 +45,7 @@ module _ (rest : Rest) (count : ℕ) (n : count < 2 ^ 64) (p : rest.paid < 2 ^ 6
   abbrev second : List ℕ
   second = first ++ codes ", paid" ++ spaced_number rest.paid
 
-  comment_line : list_all is_no_feed (kept_comment count rest) ≡ true
+  comment_line : list_all is_no_feed (kept_comment count rest.paid rest.penalty) ≡ true
   comment_line =
       let a = all_append is_no_feed (codes " kept shifts") (spaced_number count) refl (number_line count n) in
       let b = all_append is_no_feed first (codes ", paid") a refl in
@@ -53,7 +53,7 @@ module _ (rest : Rest) (count : ℕ) (n : count < 2 ^ 64) (p : rest.paid < 2 ^ 6
       let d = all_append is_no_feed second (codes ", penalty") c refl in
       all_append is_no_feed (second ++ codes ", penalty") (spaced_number rest.penalty) d (number_line rest.penalty q)
 
-  comment_short : length (kept_comment count rest) ≤ 1000
+  comment_short : length (kept_comment count rest.paid rest.penalty) ≤ 1000
   comment_short =
       let a = length-append (codes " kept shifts") (spaced_number count) in
       let b = length-append first (codes ", paid") in
@@ -69,4 +69,4 @@ pub rest-again : (g : Grammar) (rest : Rest) (ds : List Demand) (count : ℕ) �
     → count < 2 ^ 64 → rest.paid < 2 ^ 64 → rest.penalty < 2 ^ 64
     → instance_of g (rest_text count rest ds) ≡ Ok rest.day
 rest-again g rest ds count sound plain day is are n p q =
-    text_behind g sound plain rest.day ds day is are (kept_comment count rest) (comment_short rest count n p q) (comment_line rest count n p q)
+    text_behind g sound plain rest.day ds day is are (kept_comment count rest.paid rest.penalty) (comment_short rest count n p q) (comment_line rest count n p q)

@@ -14,38 +14,11 @@ use Rattle.roster_model.proofs.arc_laws.FoldsLemmas.{count-append, sum_n-append,
 use Rattle.certificates.proofs.certificate_laws.NoCause.{one-prices}
 use Rattle.roster_value.specs.remaining_day.Remaining.{kept_of, cell_left, AreWithin, kept_penalty}
 use Rattle.roster_value.specs.remaining_day.Laws.{AreSameShifts, kept_cost, AreWhole, AreRest}
+use Rattle.roster_value.proofs.OrdersLemmas.{any-order}
+use Rattle.roster_value.proofs.PriceLists.{join_prices, part_prices}
 use Rattle.roster_value.proofs.remaining_day.CellsLeft.{penalty_left, within_whole, within_rest}
 use Rattle.roster_value.proofs.remaining_day.GroupsLeft.{Leaves}
 use Rattle.roster_value.proofs.remaining_day.SameShifts.{AreTeamsLeft, count_same, count_gone, cover_same, lift, lower}
-
--- ---- prices of shifts, one list after another
-
-pub join_prices : (i : Instance) (ds es : List Duty) (ps qs : List ℕ) → ArePrices i ds ps → ArePrices i es qs → ArePrices i (ds ++ es) (ps ++ qs)
-join_prices i [] es [] qs h k = k
-join_prices i [] es (p ∷ ps) qs h k = absurd h
-join_prices i (d ∷ ds) es [] qs h k = absurd h
-join_prices i (d ∷ ds) es (p ∷ ps) qs h k = (h.0, join_prices i ds es ps qs h.1 k)
-
--- the prices of both
-pub record AreParted (i : Instance) (ds es : List Duty) (prices : List ℕ) : Type 0 where
-  pub first : List ℕ
-  pub second : List ℕ
-  pub whole : prices ≡ first ++ second
-  pub of_first : ArePrices i ds first
-  pub of_second : ArePrices i es second
-
-pub part_prices : (i : Instance) (ds es : List Duty) (prices : List ℕ) → ArePrices i (ds ++ es) prices → AreParted i ds es prices
-part_prices i [] es prices h = record { first = []; second = prices; whole = refl; of_first = tt; of_second = h }
-part_prices i (d ∷ ds) es [] h = absurd h
-part_prices i (d ∷ ds) es (p ∷ prices) h =
-    let more = part_prices i ds es prices h.1 in
-    record {
-      first = p ∷ more.first;
-      second = more.second;
-      whole = ap (λ (ps : List ℕ). p ∷ ps) more.whole;
-      of_first = (h.0, more.of_first);
-      of_second = more.of_second;
-    }
 
 -- the day and its remaining day
 pub record IsLeft (i r : Instance) (kept : List Duty) : Type 0 where
@@ -171,11 +144,12 @@ module _ (i r : Instance) (kept : List Duty) (left : IsLeft i r kept) (prices : 
       omega (arith, both, range.most)
 
   pub rest : AreRest i r kept prices
-  rest ds amount h =
+  rest all ds amount order roster =
+      let h : Costs i (kept ++ ds) amount = any-order i all (kept ++ ds) amount order roster in
       let parted = part_prices i kept ds h.prices h.allowed.shifts in
       let own : parted.first ≡ prices = one-prices i kept parted.first prices parted.of_first first in
-      let all : h.prices ≡ prices ++ parted.second = parted.whole ∙ ap (λ (ps : List ℕ). ps ++ parted.second) own in
-      let allowed : IsRoster i (kept ++ ds) (prices ++ parted.second) = subst (IsRoster i (kept ++ ds)) all h.allowed in
+      let both : h.prices ≡ prices ++ parted.second = parted.whole ∙ ap (λ (ps : List ℕ). ps ++ parted.second) own in
+      let allowed : IsRoster i (kept ++ ds) (prices ++ parted.second) = subst (IsRoster i (kept ++ ds)) both h.allowed in
       let down = lower i r kept left.matching ds parted.second parted.of_second (room ds h.allowed.heads) in
       let es : List Duty = down.0 in
       let least : ℕ = roster_cost r es parted.second in (
@@ -188,6 +162,6 @@ module _ (i r : Instance) (kept : List Duty) (left : IsLeft i r kept) (prices : 
             allowed = roster_rest i r kept left ds es down.1 prices parted.second down.2 allowed;
             total = refl;
           },
-          sym h.total ∙ ap (roster_cost i (kept ++ ds)) all ∙ costs_add i r kept left ds es down.1 prices parted.second,
+          sym h.total ∙ ap (roster_cost i (kept ++ ds)) both ∙ costs_add i r kept left ds es down.1 prices parted.second,
         ),
       )

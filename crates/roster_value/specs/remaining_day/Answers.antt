@@ -1,17 +1,20 @@
 -- What remains of a day beside kept shifts, or why nothing does.
-use Rattle.std.specs.Prelude.{ℕ, ◌≡◌, ◌≢◌, ◌≤◌, Option, List, [], length, codes}
+use Rattle.std.specs.Prelude.{ℕ, ◌≡◌, ◌≢◌, ◌≤◌, Option, List, [], ◌++◌, Ok, length, codes}
 use Rattle.roster_model.specs.declared.grammar.Grammar.{Grammar}
 use Rattle.roster_model.specs.declared.instance.Instance.{Instance}
 use Rattle.roster_model.specs.declared.instance.Shift.{Shift}
+use Rattle.roster_model.specs.Duties.{Duty}
 use Rattle.roster_model.specs.Folds.{sum_n}
-use Rattle.roster_model.specs.Rosters.{ArePrices}
+use Rattle.roster_model.specs.Rosters.{ArePrices, Costs}
+use Rattle.roster_model.specs.Sound.{IsSound, IsPlain}
 use Rattle.roster_model.specs.SoundInstance.{IsSoundInstance}
 use Rattle.certificates.specs.RosterCauses.{duties}
 use Rattle.roster_model.specs.Demands.{Demand}
-use Rattle.demand_text.specs.InstanceOf.{day_grammar}
+use Rattle.demand_text.specs.InstanceOf.{day_grammar, instance_of}
 use Rattle.demand_text.specs.Written.{AreDemandsOf}
 use Rattle.roster_value.specs.Causes.{AreFound}
 use Rattle.roster_value.specs.CauseText.{causes_text}
+use Rattle.roster_value.specs.Orders.{SameDuties}
 use Rattle.roster_value.specs.declared.remaining_day.answer.Remaining.{Remaining}
 use Rattle.roster_value.specs.declared.remaining_day.answer.Remaining.TheVariants.{Day, Nobody, Impossible}
 use Rattle.roster_value.specs.declared.remaining_day.answer.Rest.{Rest}
@@ -50,12 +53,18 @@ pub record IsNobody (i : Instance) (kept : List Shift) : Type 0 where
   pub may : MayBeKept i kept prices
   pub none : most_left i (duties kept) i.groups ≡ 0
 
+-- no allowed roster of the day has the kept shifts, in any order
+abbrev pub NoRosterHas : Instance → List Duty → Type 0
+NoRosterHas i kept =
+    (all ds : List Duty) (amount : ℕ) → SameDuties all (kept ++ ds) → Costs i all amount → ⊥
+
 -- each cause for which no roster of the day has the kept shifts
 pub record IsImpossible (i : Instance) (kept : List Shift) (causes : List Cause) : Type 0 where
   pub found : List (Option ℕ)
   pub prices : AreFound i kept found
   pub all : causes ≡ causes_of i (duties kept) found
   pub some : causes ≢ []
+  pub never : NoRosterHas i (duties kept)
 
 abbrev pub IsRemaining : Instance → List Shift → Remaining → Type 0
 IsRemaining i kept (Day rest) = IsRest i kept rest
@@ -68,10 +77,15 @@ rest_status (Day rest) = 0
 rest_status Nobody = 1
 rest_status (Impossible causes) = 1
 
+-- the text of the remaining day, which is read as that day by whatever rules' grammar the day was made
+pub record IsDaySaid (i : Instance) (kept : List Shift) (rest : Rest) (output : List ℕ) : Type 0 where
+  pub text : (ds : List Demand) → AreDemandsOf rest.day ds → output ≡ rest_text (length kept) rest ds
+  pub again : (g : Grammar) → IsSound g → IsPlain g → i.grammar ≡ day_grammar g i.groups
+      → instance_of g output ≡ Ok rest.day
+
 -- the text of the remaining day, or why there is none
 abbrev pub IsSaid : Instance → List Shift → Remaining → List ℕ → Type 0
-IsSaid i kept (Day rest) output =
-    (ds : List Demand) → AreDemandsOf rest.day ds → output ≡ rest_text (length kept) rest ds
+IsSaid i kept (Day rest) output = IsDaySaid i kept rest output
 IsSaid i kept Nobody output = output ≡ codes "nobody left\n"
 IsSaid i kept (Impossible causes) output = output ≡ causes_text i kept causes
 

@@ -1,5 +1,5 @@
--- What the rosters of a day have to do with those of its remaining day. A roster's order means nothing, so
--- the rosters that have the kept shifts are those that begin with them.
+-- What the rosters of a day have to do with those of its remaining day. A roster has the kept shifts where it
+-- is these and others, in any order.
 use Rattle.std.specs.Prelude.{ℕ, ◌≡◌, ◌≤◌, ◌+◌, List, [], ◌∷◌, ◌++◌}
 use Rattle.roster_model.specs.declared.grammar.Grammar.{Grammar}
 use Rattle.roster_model.specs.declared.instance.Instance.{Instance}
@@ -10,6 +10,7 @@ use Rattle.roster_model.specs.Sound.{IsSound}
 use Rattle.roster_model.specs.SoundInstance.{IsSoundInstance}
 use Rattle.roster_model.specs.Teams.{Team, teams}
 use Rattle.demand_text.specs.InstanceOf.{day_grammar}
+use Rattle.roster_value.specs.Orders.{SameDuties}
 use Rattle.roster_value.specs.remaining_day.Remaining.{remaining, AreWithin, kept_penalty}
 
 -- one employee's shift on a day and on its remaining day: the same word, of the teams of one name. Their
@@ -41,10 +42,11 @@ AreWhole i r kept prices =
     (es : List Duty) (amount : ℕ) → Costs r es amount → (ds : List Duty) × AreSameShifts i r ds es
     × Costs i (kept ++ ds) (amount + kept_cost i kept prices)
 
--- what a roster of the day has beside the kept shifts is a roster of the remaining day
+-- what a roster of the day has beside the kept shifts, in whatever order, is a roster of the remaining day
 abbrev pub AreRest : Instance → Instance → List Duty → List ℕ → Type 0
 AreRest i r kept prices =
-    (ds : List Duty) (whole : ℕ) → Costs i (kept ++ ds) whole → (es : List Duty) × AreSameShifts i r ds es
+    (all ds : List Duty) (whole : ℕ) → SameDuties all (kept ++ ds) → Costs i all whole
+    → (es : List Duty) × AreSameShifts i r ds es
     × ((amount : ℕ) × Costs r es amount × (whole ≡ amount + kept_cost i kept prices))
 
 -- the rosters of the day that have the kept shifts are these and a roster of the remaining day

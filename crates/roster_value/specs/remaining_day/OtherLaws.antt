@@ -1,11 +1,9 @@
 -- What causes forbid, and how a remaining day is read.
-use Rattle.std.specs.Prelude.{ℕ, ◌≡◌, ◌<◌, ◌^◌, Ok, List, ◌++◌}
+use Rattle.std.specs.Prelude.{ℕ, ◌≡◌, ◌≢◌, ◌<◌, ◌^◌, Ok, Option, List, []}
 use Rattle.roster_model.specs.declared.grammar.Grammar.{Grammar}
 use Rattle.roster_model.specs.declared.instance.Instance.{Instance}
 use Rattle.roster_model.specs.declared.instance.Shift.{Shift}
 use Rattle.roster_model.specs.Demands.{Demand}
-use Rattle.roster_model.specs.Duties.{Duty}
-use Rattle.roster_model.specs.Rosters.{Costs}
 use Rattle.roster_model.specs.Sound.{IsSound, IsPlain}
 use Rattle.roster_model.specs.SoundInstance.{IsSoundInstance}
 use Rattle.certificates.specs.RosterCauses.{duties}
@@ -13,13 +11,16 @@ use Rattle.demand_text.specs.InstanceOf.{day_grammar, instance_of}
 use Rattle.demand_text.specs.Written.{AreDemandsOf}
 use Rattle.roster_value.specs.declared.remaining_day.answer.Rest.{Rest}
 use Rattle.roster_value.specs.declared.cause.Cause.{Cause}
-use Rattle.roster_value.specs.remaining_day.Answers.{IsImpossible}
+use Rattle.roster_value.specs.Causes.{AreFound}
+use Rattle.roster_value.specs.remaining_day.Answers.{NoRosterHas}
+use Rattle.roster_value.specs.remaining_day.Causes.{causes_of}
 use Rattle.roster_value.specs.remaining_day.RestText.{rest_text}
 
--- where there is a cause, no roster of the day has the kept shifts
+-- where there is a cause by the prices that were found, no roster of the day has the kept shifts
 abbrev pub CausesForbid : Type 0
-CausesForbid = (i : Instance) (kept : List Shift) (causes : List Cause) (ds : List Duty) (amount : ℕ)
-    → IsImpossible i kept causes → Costs i (duties kept ++ ds) amount → ⊥
+CausesForbid = (i : Instance) (kept : List Shift) (found : List (Option ℕ)) (causes : List Cause)
+    → AreFound i kept found → causes ≡ causes_of i (duties kept) found → causes ≢ []
+    → NoRosterHas i (duties kept)
 
 -- the text of a day behind the comment, for the grammar of the day's rules, is read as that day
 abbrev pub RestIsRead : Type 0

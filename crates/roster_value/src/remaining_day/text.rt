@@ -3,7 +3,7 @@ ghost use Rattle.roster_model.specs.Demands.{Demand};
 ghost use Rattle.roster_model.specs.SoundInstance.{IsSoundInstance};
 ghost use Rattle.demand_text.specs.Written.{AreDemandsOf};
 ghost use Rattle.roster_value.specs.remaining_day.Answers.{IsRemaining, IsSaid, rest_status};
-ghost use Rattle.roster_value.specs.remaining_day.RestText.{kept_comment, rest_text};
+ghost use Rattle.roster_value.specs.remaining_day.RestText.{kept_comment, rest_text, AreOf64Bits};
 ghost use Rattle.roster_value.specs.CauseText.{causes_text};
 
 use crate::remaining_day::answer::{Remaining, Rest};
@@ -13,16 +13,17 @@ use roster_model::{Instance, List, Memory, Shift};
 use std::alloc::Global;
 use text_lines::{field, put};
 
-// Writes the comment that tells what the kept shifts cost.
-fn comment(out: &mut List<u8>, kept: &[Shift], rest: &Rest) -> Result<(), Memory>
-    ensures { OnOk result (out.new ≡ out.old ++ 35 ∷ kept_comment (length kept.now) rest.now ++ 10 ∷ []) }
+// Writes the comment that tells how many shifts are kept, and what they cost.
+fn comment(out: &mut List<u8>, count: u64, paid: u64, penalty: u64) -> Result<(), Memory>
+    ensures said { OnOk result (out.new ≡ out.old ++ 35 ∷ kept_comment count paid penalty ++ 10 ∷ []) }
+    ensures wide { OnOk result (AreOf64Bits count paid penalty) }
 {
     put(out, b"# kept shifts")?;
-    field(out, kept.len() as u64)?;
+    field(out, count)?;
     put(out, b", paid")?;
-    field(out, rest.paid)?;
+    field(out, paid)?;
     put(out, b", penalty")?;
-    field(out, rest.penalty)?;
+    field(out, penalty)?;
     out.push(b'\n')
 }
 
@@ -30,12 +31,13 @@ fn comment(out: &mut List<u8>, kept: &[Shift], rest: &Rest) -> Result<(), Memory
 // their prices and their penalty.
 fn rest_text(alloc: Global, kept: &[Shift], rest: &Rest) -> Result<List<u8>, Memory>
     requires { IsSoundInstance rest.now.day }
-    ensures { IfOk result (λ written. (ds : Items Demand) → AreDemandsOf rest.now.day ds
+    ensures said { IfOk result (λ written. (ds : Items Demand) → AreDemandsOf rest.now.day ds
         → written ≡ rest_text (length kept.now) rest.now ds) }
+    ensures wide { IfOk result (λ _. AreOf64Bits (length kept.now) rest.now.paid rest.now.penalty) }
 {
     let demand = write_demand(alloc, &rest.day)?;
     let mut out = List::new(alloc);
-    comment(&mut out, kept, rest)?;
+    comment(&mut out, kept.len() as u64, rest.paid, rest.penalty)?;
     put(&mut out, demand.as_slice())?;
     Ok(out)
 }
