@@ -246,7 +246,9 @@ impl<R: Files + Print + Eprint + AllocGlobal + Drop> DiskShelf<R> {
         let _ = if last.is_empty() {
             eprintln!(rt; "{path}.new stands, and is left alone: {new} is written")
         } else {
-            eprintln!(rt; "{path}.new to {path}.new{last} stand, and are left alone: {new} is written")
+            eprintln!(rt;
+                "{path}.new to {path}.new{last} stand, and are left alone: {new} is written"
+            )
         };
     }
 

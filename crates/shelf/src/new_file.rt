@@ -1,8 +1,8 @@
 use crate::heard::Heard;
 use crate::stream::write_bytes;
 use std::fs::{OpenFile, OpenOptions, Permissions};
-use std::io::{Read, Write};
 use std::io;
+use std::io::{Read, Write};
 use std::os::unix::fs::{OpenOptionsExt, PermissionsExt};
 use std::rt::Files;
 

@@ -1,7 +1,7 @@
+use std::io::ErrorKind;
 use std::path::{Path, PathBuf};
 use std::rt::Files;
 use std::{fs, io};
-use std::io::ErrorKind;
 
 /// How many links are followed at most, as many as the system follows.
 const MOST_LINKS: u32 = 40;
