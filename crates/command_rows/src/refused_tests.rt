@@ -21,7 +21,7 @@ curve g1 q1 p 10 > g1 q1 !p.1 !p.2
 ";
 
 /// What each name that is stored under holds before.
-const OLD: &[u8] = b"proof old";
+const OLD: &[u8] = b"proof 1\nold";
 
 /// Puts a text under each name that is stored.
 fn put_old(shelf: &mut MemoryShelf) -> Result<(), Fail> {

@@ -10,6 +10,11 @@ use std::process::ExitCode;
 /// Want of memory before the words are known.
 const MEMORY: u8 = 7;
 
+// Notes that a word is no text.
+fn note_word(rt: &HostRuntime) {
+    let _ = eprintln!(rt; "a word of the command line is not UTF-8");
+}
+
 // Draws the certificate of the three texts that the words name; the exit status is that of `run`.
 fn main(rt: HostRuntime) -> ExitCode {
     let alloc = rt.alloc();
@@ -24,7 +29,7 @@ fn main(rt: HostRuntime) -> ExitCode {
         }
         Err(error) if error.kind() == ErrorKind::OutOfMemory => return ExitCode::from(MEMORY),
         // Where a word is no text, the program passes no words.
-        Err(_) => {}
+        Err(_) => note_word(&rt),
     }
     let mut shelf = DiskShelf::new(rt);
     ExitCode::from(run(alloc, &mut shelf, words.as_slice()))

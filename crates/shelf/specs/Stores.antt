@@ -4,9 +4,12 @@ use Rattle.std.specs.FinMap as fin
 use Rattle.std.specs.List.{starts_with}
 use Rattle.shelf.specs.Shelf.{Texts}
 
--- an empty text, or one that begins as a proof text does
+-- an empty text, or one that begins with a first line `proof 1` or `proof 2`, which a line feed or a carriage
+-- return ends
 abbrev pub is_replaceable : List ℕ → Bool
-is_replaceable text = (length text == 0) || starts_with nat_eq text (codes "proof ")
+is_replaceable text = (length text == 0)
+    || starts_with nat_eq text (codes "proof 1\n") || starts_with nat_eq text (codes "proof 1\r")
+    || starts_with nat_eq text (codes "proof 2\n") || starts_with nat_eq text (codes "proof 2\r")
 
 -- whether a name that holds this may be stored under
 abbrev pub may_replace : Option (List ℕ) → Bool

@@ -4,17 +4,37 @@ ghost use Rattle.shelf.specs.Stream.{read_limit};
 
 use crate::fault::ShelfFault;
 use crate::heard::Heard;
-use crate::replaceable::{LEFT, is_replaceable};
+use crate::new_file::{LASTS, create, fill, read_front, write_to};
+use crate::place::{Place, Target, Way, way_of};
+use crate::replaceable::{FRONT, LEFT, is_replaceable};
 use crate::shelf::Shelf;
-use crate::stream::{read_bytes, write_bytes};
-use std::fs::File;
-use std::io::{ErrorKind, Read, Write};
+use crate::stream::read_bytes;
+use std::fs::Metadata;
+use std::io::ErrorKind;
 use std::marker::Model;
+use std::os::unix::fs::PermissionsExt;
 use std::rt::Files;
 use std::{fs, io};
 
 /// What notes call the standard output.
 const OUTPUT: &str = "standard output";
+
+/// The system's number of the error that a descriptor is not open.
+const NOT_OPEN: i32 = 9;
+
+/// What is noted of a file that nobody may write.
+const READ_ONLY: &str = "the file may be written by nobody, and was left alone";
+
+/// What is noted of a link to what is not there.
+const NOWHERE: &str = "the link leads nowhere";
+
+/// What is noted of a new file in a folder that is not there.
+const NO_FOLDER: &str = "no such folder";
+
+// Returns who may read, write and run a file, as the last twelve bits.
+fn mode_of(found: &Metadata) -> u32 {
+    found.permissions().mode() & 0o7777
+}
 
 /// The files of a runtime by their paths, its standard output, and its standard error for notes.
 ///
@@ -22,8 +42,12 @@ const OUTPUT: &str = "standard output";
 /// was said. Every error of the system is a fault, an interrupted call among them, and so is a
 /// write that takes nothing.
 ///
-/// What is stored under a free name or over a regular file is written to NAME`.new`, which must not be
-/// there, and renamed. A link is asked and written through; devices and pipes are written as they are.
+/// What is stored under a free name or over a regular file is written to a new file beside it, and renamed
+/// once the disk has all bytes: NAME`.new`, or where that stands the first of NAME`.new1` to NAME`.new9` that
+/// does not. None that stands is written to or removed. The new file gets the mode of the old one; a file that
+/// nobody may write is refused. A link to a regular file stays, and the file that it leads to is replaced so;
+/// one that leads nowhere is refused. Devices and pipes are written as they are, and so is what a link leads to
+/// by way of `/proc`.
 #[derive(Drop)]
 pub struct DiskShelf<R: Files + Print + Eprint + AllocGlobal + Drop> {
     rt: R,
@@ -50,16 +74,41 @@ impl<R: Files + Print + Eprint + AllocGlobal + Drop> DiskShelf<R> {
     }
 
     // Notes why the system refused a call.
+    fn note_refusal(&self, what: &str, why: io::Error) {
+        let rt = &self.rt;
+        let _ = if why.raw_os_error() == Some(NOT_OPEN) {
+            eprintln!(rt; "{what}: not open")
+        } else if why.kind() == ErrorKind::NotFound {
+            eprintln!(rt; "{what}: no such file")
+        } else if why.kind() == ErrorKind::Uncategorized {
+            eprintln!(rt; "{what}: {why}")
+        } else {
+            eprintln!(rt; "{what}: {}", why.kind())
+        };
+    }
+
+    // Notes why the system refused a call, and returns that it did.
     fn refused(&self, what: &str, why: ErrorKind) -> Result<(), ShelfFault>
         ensures { result ≡ Err ShelfFault.Failed }
     {
-        let rt = &self.rt;
-        let _ = if why == ErrorKind::NotFound {
-            eprintln!(rt; "{what}: no such file")
-        } else {
-            eprintln!(rt; "{what}: {why}")
-        };
+        self.note_refusal(what, io::Error::from(why));
         Err(ShelfFault::Failed)
+    }
+
+    // Returns the fault of an error; it is noted but for want of memory.
+    fn fault(&self, what: &str, why: io::Error) -> ShelfFault {
+        if why.kind() == ErrorKind::OutOfMemory {
+            return ShelfFault::Memory;
+        }
+        self.note_refusal(what, why);
+        ShelfFault::Failed
+    }
+
+    // Notes why a name is left alone.
+    fn left(&self, name: &str, why: &str) -> ShelfFault {
+        let rt = &self.rt;
+        let _ = eprintln!(rt; "{name}: {why}");
+        ShelfFault::Failed
     }
 
     // Reads an open file.
@@ -79,139 +128,198 @@ impl<R: Files + Print + Eprint + AllocGlobal + Drop> DiskShelf<R> {
         }
     }
 
-    // Writes to an open stream.
-    fn write_stream<W: Write>(
-        &self,
-        name: &str,
-        stream: &mut W,
-        bytes: &[u8],
-    ) -> Result<(), ShelfFault> {
-        let mut heard = Heard::new(stream);
-        match write_bytes(&mut heard, bytes) {
-            Ok(()) => Ok(()),
-            Err(_) => self.refused(name, heard.error()),
+    // Asks whether a regular file may be stored over, by its first bytes.
+    fn ask_front(&self, name: &str) -> Result<(), ShelfFault> {
+        let mut front = [0_u8; FRONT];
+        let read = match fs::open(&self.rt, name) {
+            Ok(mut file) => read_front(&mut file, &mut front),
+            Err(error) => Err(error),
+        };
+        match read {
+            Ok(count) if is_replaceable(front.get(..count).unwrap_or(&front)) => Ok(()),
+            Ok(_) => Err(self.left(name, LEFT)),
+            Err(error) => Err(self.fault(name, error)),
         }
     }
 
-    // Notes that a file was left alone.
-    fn left(&self, name: &str) -> Result<(), ShelfFault> {
-        let rt = &self.rt;
-        let _ = eprintln!(rt; "{name}: {LEFT}");
-        Err(ShelfFault::Failed)
+    // Asks whether what was found under a name may be stored over. A device or a pipe holds no text.
+    fn ask_found(&self, name: &str, found: &Metadata) -> Result<(), ShelfFault> {
+        if found.is_dir() {
+            return Err(self.fault(name, io::Error::from(ErrorKind::IsADirectory)));
+        }
+        if !found.is_file() {
+            return Ok(());
+        }
+        if found.permissions().readonly() {
+            return Err(self.left(name, READ_ONLY));
+        }
+        self.ask_front(name)
     }
 
-    // Asks whether an open file may be stored over, by its first bytes.
-    fn ask_front(&self, name: &str, file: &mut R::File) -> Result<(), ShelfFault> {
-        let mut front = [0u8; 6];
-        match file.read(&mut front) {
-            Ok(count) if is_replaceable(&front[..count]) => Ok(()),
-            Ok(_) => self.left(name),
-            Err(error) => self.refused(name, error.kind()),
+    // Returns the place beside a path, at which a file of this mode stands, or nothing.
+    fn beside(&self, path: &str, mode: Option<u32>) -> Result<Place, ShelfFault> {
+        let path = String::from_str(self.rt.alloc(), path)?;
+        Ok(Place::Beside(Target { path, mode }))
+    }
+
+    // Returns the place of a regular file to which the plain links of a name lead.
+    fn behind_links(&self, name: &str, mode: u32) -> Result<Place, ShelfFault> {
+        match fs::canonicalize(&self.rt, name) {
+            Ok(path) => self.beside(path.as_str(), Some(mode)),
+            Err(error) => Err(self.fault(name, error)),
         }
     }
 
-    // Asks whether a regular file may be stored over.
-    fn ask_file(&self, name: &str) -> Result<(), ShelfFault> {
-        match fs::open(&self.rt, name) {
-            Ok(mut file) => self.ask_front(name, &mut file),
-            Err(error) => self.refused(name, error.kind()),
+    // Returns where a text goes that is stored under a link.
+    fn place_of_link(&self, name: &str) -> Result<Place, ShelfFault> {
+        let found = match fs::metadata(&self.rt, name) {
+            Ok(found) => found,
+            Err(error) if error.kind() == ErrorKind::NotFound => {
+                return Err(self.left(name, NOWHERE));
+            }
+            Err(error) => return Err(self.fault(name, error)),
+        };
+        self.ask_found(name, &found)?;
+        match way_of(&self.rt, name) {
+            Ok(Way::Plain) if found.is_file() => self.behind_links(name, mode_of(&found)),
+            Ok(Way::Output) => Ok(Place::Output),
+            Ok(_) => Ok(Place::Through),
+            Err(error) => Err(self.fault(name, error)),
         }
     }
 
-    // Asks whether a text may be stored under a name. A link is followed; a device or a pipe holds no text.
-    fn ask(&self, name: &str) -> Result<(), ShelfFault> {
-        match fs::metadata(&self.rt, name) {
-            Ok(found) if found.is_file() => self.ask_file(name),
-            Ok(found) if found.is_dir() => self.refused(name, ErrorKind::IsADirectory),
-            Ok(_) => Ok(()),
-            Err(error) if error.kind() == ErrorKind::NotFound => Ok(()),
-            Err(error) => self.refused(name, error.kind()),
+    // Returns where a text goes that is stored under a name, once it was asked whether it may be.
+    fn place(&self, name: &str) -> Result<Place, ShelfFault> {
+        let found = match fs::symlink_metadata(&self.rt, name) {
+            Ok(found) if found.is_symlink() => return self.place_of_link(name),
+            Ok(found) => found,
+            Err(error) if error.kind() == ErrorKind::NotFound => return self.beside(name, None),
+            Err(error) => return Err(self.fault(name, error)),
+        };
+        self.ask_found(name, &found)?;
+        if found.is_file() {
+            return self.beside(name, Some(mode_of(&found)));
         }
+        Ok(Place::Through)
     }
 
-    // Whether a name is free or a regular file, and so neither a link nor a device.
-    fn is_plain(&self, name: &str) -> bool {
-        match fs::symlink_metadata(&self.rt, name) {
-            Ok(found) => found.is_file(),
-            Err(_) => true,
-        }
-    }
-
-    // Returns the name of the new file beside a name.
-    fn new_name(&self, name: &str) -> Result<String, ShelfFault> {
-        match format!(in self.rt.alloc(); "{name}.new") {
+    // Returns the path of the new file beside a path with this behind `.new`.
+    fn new_path(&self, path: &str, last: &str) -> Result<String, ShelfFault> {
+        match format!(in self.rt.alloc(); "{path}.new{last}") {
             Ok(new) => Ok(new),
             Err(_) => Err(ShelfFault::Memory),
         }
     }
 
-    // Asks whether the new file beside a name is free.
-    fn ask_new(&self, name: &str) -> Result<(), ShelfFault> {
-        let new = self.new_name(name)?;
-        match fs::symlink_metadata(&self.rt, new.as_str()) {
-            Ok(_) => self.refused(new.as_str(), ErrorKind::AlreadyExists),
-            Err(error) if error.kind() == ErrorKind::NotFound => Ok(()),
-            Err(error) => self.refused(new.as_str(), error.kind()),
+    // Returns the fault of a new file that could not be made.
+    fn not_made(&self, new: &str, why: io::Error) -> ShelfFault {
+        if why.kind() == ErrorKind::NotFound {
+            return self.left(new, NO_FOLDER);
         }
+        self.fault(new, why)
     }
 
-    // Asks whether a text may be stored under a name, and the new file be made where there is to be one.
-    fn ask_both(&self, name: &str) -> Result<(), ShelfFault> {
-        self.ask(name)?;
-        if self.is_plain(name) {
-            return self.ask_new(name);
+    // Makes the first new file beside a path that does not stand. Returns it, its path, and what is behind
+    // `.new` in the last one that stands.
+    fn make_new(
+        &self,
+        target: &Target,
+    ) -> Result<(R::File, String, Option<&'static str>), ShelfFault> {
+        let path = target.path.as_str();
+        let mut before = None;
+        for last in LASTS {
+            let new = self.new_path(path, last)?;
+            match create(&self.rt, new.as_str(), target.mode) {
+                Ok(file) => return Ok((file, new, before)),
+                Err(error) if error.kind() == ErrorKind::AlreadyExists => before = Some(last),
+                Err(error) => return Err(self.not_made(new.as_str(), error)),
+            }
+        }
+        let rt = &self.rt;
+        let _ = eprintln!(rt; "{path}.new to {path}.new9 stand, and were left alone");
+        Err(ShelfFault::Failed)
+    }
+
+    // Notes which new files beside a path stand, of which the last has this behind `.new`.
+    fn note_standing(&self, path: &str, last: &str, new: &str) {
+        let rt = &self.rt;
+        let _ = if last.is_empty() {
+            eprintln!(rt; "{path}.new stands, and is left alone: {new} is written")
+        } else {
+            eprintln!(rt;
+                "{path}.new to {path}.new{last} stand, and are left alone: {new} is written"
+            )
+        };
+    }
+
+    // Makes the new file beside a path, and removes it at once.
+    fn probe(&self, target: &Target) -> Result<(), ShelfFault> {
+        let (file, new, before) = self.make_new(target)?;
+        drop(file);
+        if let Err(error) = fs::remove_file(&self.rt, new.as_str()) {
+            return Err(self.fault(new.as_str(), error));
+        }
+        if let Some(last) = before {
+            self.note_standing(target.path.as_str(), last, new.as_str());
         }
         Ok(())
     }
 
-    // Writes the bytes to a new file, and takes it away again where that fails.
-    fn write_new(&self, name: &str, bytes: &[u8]) -> Result<(), ShelfFault> {
-        let mut file = match File::create_new(&self.rt, name) {
-            Ok(file) => file,
-            Err(error) => return self.refused(name, error.kind()),
-        };
-        match self.write_stream(name, &mut file, bytes) {
+    // Takes a new file away again, and returns the fault of what refused it.
+    fn take_away(&self, new: &str, name: &str, why: io::Error) -> ShelfFault {
+        let _ = fs::remove_file(&self.rt, new);
+        self.fault(name, why)
+    }
+
+    // Stores by way of a new file, so that what the path held stays whole until the disk has all bytes.
+    fn replace(&self, target: &Target, bytes: &[u8]) -> Result<(), ShelfFault> {
+        let (file, new, _) = self.make_new(target)?;
+        let new = new.as_str();
+        if let Err(error) = fill(file, target.mode, bytes) {
+            return Err(self.take_away(new, new, error));
+        }
+        let path = target.path.as_str();
+        match fs::rename(&self.rt, new, path) {
             Ok(()) => Ok(()),
-            Err(fault) => {
-                let _ = fs::remove_file(&self.rt, name);
-                Err(fault)
-            }
+            Err(error) => Err(self.take_away(new, path, error)),
         }
     }
 
-    // Gives a new file its name, or takes it away again where that fails.
-    fn rename(&self, new: &str, name: &str) -> Result<(), ShelfFault> {
-        match fs::rename(&self.rt, new, name) {
-            Ok(()) => Ok(()),
-            Err(error) => {
-                let _ = fs::remove_file(&self.rt, new);
-                self.refused(name, error.kind())
-            }
-        }
-    }
-
-    // Stores by way of a new file, so that what the name held stays whole until all bytes are written.
-    fn replace(&self, name: &str, bytes: &[u8]) -> Result<(), ShelfFault> {
-        let new = self.new_name(name)?;
-        self.write_new(new.as_str(), bytes)?;
-        self.rename(new.as_str(), name)
-    }
-
-    // Writes to a device, to a pipe or through a link.
+    // Writes to a device or to a pipe.
     fn write_through(&self, name: &str, bytes: &[u8]) -> Result<(), ShelfFault> {
-        match fs::create(&self.rt, name) {
-            Ok(mut file) => self.write_stream(name, &mut file, bytes),
-            Err(error) => self.refused(name, error.kind()),
+        let written = match fs::create(&self.rt, name) {
+            Ok(mut file) => write_to(&mut file, bytes),
+            Err(error) => Err(error),
+        };
+        match written {
+            Ok(()) => Ok(()),
+            Err(error) => Err(self.fault(name, error)),
+        }
+    }
+
+    // Writes to standard output.
+    fn write_output(&self, bytes: &[u8]) -> Result<(), ShelfFault> {
+        match write_to(&mut io::writer(&self.rt), bytes) {
+            Ok(()) => Ok(()),
+            Err(error) => Err(self.fault(OUTPUT, error)),
+        }
+    }
+
+    // Asks whether a text may be stored under a name, and the new file be made where there is to be one.
+    fn ask(&self, name: &str) -> Result<(), ShelfFault> {
+        match self.place(name)? {
+            Place::Beside(target) => self.probe(&target),
+            Place::Through | Place::Output => Ok(()),
         }
     }
 
     // Stores under a name, where that may be done.
     fn store_text(&self, name: &str, bytes: &[u8]) -> Result<(), ShelfFault> {
-        self.ask(name)?;
-        if self.is_plain(name) {
-            return self.replace(name, bytes);
+        match self.place(name)? {
+            Place::Beside(target) => self.replace(&target, bytes),
+            Place::Through => self.write_through(name, bytes),
+            Place::Output => self.write_output(bytes),
         }
-        self.write_through(name, bytes)
     }
 
     // Counts a fault, and passes the outcome on.
@@ -251,17 +359,19 @@ impl<R: Files + Print + Eprint + AllocGlobal + Drop> Shelf for DiskShelf<R> {
         self.counted(outcome)
     }
 
-    // Asks the file of the name itself, and where it is a link the file that it leads to.
+    // Asks what stands under the name, and makes the new file beside it and removes it at once, so that a
+    // folder without rights and a name that is too long are refused. A process that ends between the two
+    // leaves an empty new file.
     fn may_store(&mut self, name: &str) -> Result<(), ShelfFault>
         ensures counted { self.new ≡ count_after result self.old }
         ensures cause { HasCause self.old self.new result }
         ensures bounded { self.new ≤ most_faults }
     {
-        let outcome = self.ask_both(name);
+        let outcome = self.ask(name);
         self.counted(outcome)
     }
 
-    // Stores by a new file that is renamed, where the name is free or a regular file.
+    // Stores by a new file that is renamed, where the name is free or leads to a regular file.
     fn store(&mut self, name: &str, bytes: &[u8]) -> Result<(), ShelfFault>
         ensures counted { self.new ≡ count_after result self.old }
         ensures cause { HasCause self.old self.new result }
@@ -277,7 +387,7 @@ impl<R: Files + Print + Eprint + AllocGlobal + Drop> Shelf for DiskShelf<R> {
         ensures cause { HasCause self.old self.new result }
         ensures bounded { self.new ≤ most_faults }
     {
-        let outcome = self.write_stream(OUTPUT, &mut io::writer(&self.rt), bytes);
+        let outcome = self.write_output(bytes);
         self.counted(outcome)
     }
 

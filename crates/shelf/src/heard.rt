@@ -5,7 +5,7 @@ use std::io::{ErrorKind, Read, Write};
 #[derive(Drop)]
 pub(crate) struct Heard<'a, F> {
     stream: &'a mut F,
-    error: ErrorKind,
+    error: io::Error,
 }
 
 impl<'a, F> Heard<'a, F> {
@@ -13,12 +13,17 @@ impl<'a, F> Heard<'a, F> {
     pub(crate) fn new(stream: &'a mut F) -> Heard<'a, F> {
         Heard {
             stream,
-            error: ErrorKind::WriteZero,
+            error: io::Error::from(ErrorKind::WriteZero),
         }
     }
 
     /// Returns the kind of the last error; before one, that of a write which takes nothing.
     pub(crate) fn error(&self) -> ErrorKind {
+        self.error.kind()
+    }
+
+    /// Returns the last error; before one, that of a write which takes nothing.
+    pub(crate) fn cause(&self) -> io::Error {
         self.error
     }
 }
@@ -29,7 +34,7 @@ impl<F: Read> Read for Heard<'_, F> {
         match self.stream.read(buffer) {
             Ok(count) => Ok(count),
             Err(error) => {
-                self.error = error.kind();
+                self.error = error;
                 Err(error)
             }
         }
@@ -42,7 +47,7 @@ impl<F: Write> Write for Heard<'_, F> {
         match self.stream.write(bytes) {
             Ok(count) => Ok(count),
             Err(error) => {
-                self.error = error.kind();
+                self.error = error;
                 Err(error)
             }
         }

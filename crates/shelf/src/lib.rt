@@ -7,6 +7,8 @@ mod disk;
 mod fault;
 mod heard;
 mod memory;
+mod new_file;
+mod place;
 mod quiet;
 mod replaceable;
 mod shelf;

@@ -39,7 +39,9 @@ pub trait Shelf {
             (λ h. IsSome (fin.get h name.now) → (told self.new).faults ≡ (told self.old).faults) };
 
     /// Asks whether a text may be stored under the name: where it is free, or holds a text that is empty or
-    /// begins with `proof `.
+    /// whose first line is `proof 1` or `proof 2`. A shelf may try on the outside what a store would do there
+    /// but change what is held: the disk's makes the new file of a store and removes it at once, and a process
+    /// that ends between the two leaves it, empty.
     ///
     /// # Errors
     ///
@@ -66,7 +68,7 @@ pub trait Shelf {
     fn store(&mut self, name: &str, bytes: &[u8]) -> Result<(), ShelfFault>
         ensures stored { OnOk result (IfSome (told self.old).held
             (λ h. (told self.new).held ≡ Some (fin.insert h name.now bytes.now))) }
-        // No text is lost but an empty one and one that begins as a proof text does.
+        // No text is lost but an empty one and one that begins with a proof text's first line.
         ensures may { OnOk result (IfSome (told self.old).held (λ h. IsTrue (may_store h name.now))) }
         ensures kept { IfSome (told self.old).held
             (λ h. may_store h name.now ≡ false → (told self.new).held ≡ (told self.old).held) }

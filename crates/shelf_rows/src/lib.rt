@@ -2,4 +2,6 @@
 #![tactic(auto)]
 
 #[cfg(test)]
+mod disk_tests;
+#[cfg(test)]
 mod shelf_tests;

@@ -61,12 +61,12 @@ const HELD: &str = "shelf_text.txt";
 /// Texts, each of which may be stored over the one before, and what a buffer that began with `in:` has once
 /// they were fetched into it.
 const TEXTS: [(&str, &str); 3] = [
-    ("proof first\n", "in:proof first\n"),
+    ("proof 1\nfirst\n", "in:proof 1\nfirst\n"),
     ("", "in:"),
     ("2\r\n#", "in:2\r\n#"),
 ];
 
-const ALL_SAID: &str = "proof first\n2\r\n#";
+const ALL_SAID: &str = "proof 1\nfirst\n2\r\n#";
 
 /// Whether a text is fetched as it was stored, behind what the buffer has, and an absent name is refused.
 fn fetches<S: Shelf>(shelf: &mut S, into: &mut Vec<u8>, text: &str, want: &str) -> bool {
@@ -79,7 +79,7 @@ fn fetches<S: Shelf>(shelf: &mut S, into: &mut Vec<u8>, text: &str, want: &str) 
 /// Whether the last of the texts is left alone, since it is no certificate, and a free name is not.
 fn leaves<S: Shelf>(shelf: &mut S, into: &mut Vec<u8>) -> bool {
     shelf.may_store(HELD) == Err(ShelfFault::Failed)
-        && shelf.store(HELD, b"proof new") == Err(ShelfFault::Failed)
+        && shelf.store(HELD, b"proof 1\nnew") == Err(ShelfFault::Failed)
         && shelf.fetch(HELD, into).is_ok()
         && into.as_slice() == b"in:2\r\n#".as_slice()
         && shelf.may_store("shelf_absent.txt").is_ok()
@@ -100,7 +100,7 @@ fn answers<S: Shelf>(alloc: Global, shelf: &mut S) -> Result<bool, Fail> {
 #[test]
 fn a_quiet_shelf_answers(rt: HostRuntime) -> Result<(), Fail> {
     let mut shelf = QuietShelf::new(rt.alloc());
-    shelf.put(HELD, b"proof put")?;
+    shelf.put(HELD, b"proof 2\nput")?;
     assert!(rt; answers(rt.alloc(), &mut shelf)?);
     assert!(rt; shelf.said() == ALL_SAID.as_bytes());
     Ok(())
@@ -109,7 +109,7 @@ fn a_quiet_shelf_answers(rt: HostRuntime) -> Result<(), Fail> {
 #[test]
 fn a_memory_shelf_answers(rt: HostRuntime) -> Result<(), Fail> {
     let mut shelf = MemoryShelf::new(rt.alloc(), Vec::new(rt.alloc()));
-    shelf.put(HELD, b"proof put")?;
+    shelf.put(HELD, b"proof 2\nput")?;
     assert!(rt; answers(rt.alloc(), &mut shelf)?);
     assert!(rt; shelf.said() == ALL_SAID.as_bytes());
     Ok(())
@@ -121,6 +121,51 @@ fn the_disk_answers(rt: HostRuntime) -> Result<(), Fail> {
     let answers = answers(rt.alloc(), &mut DiskShelf::new(&rt));
     let removed = fs::remove_file(&rt, HELD);
     assert!(rt; answers? && removed.is_ok());
+    Ok(())
+}
+
+/// Texts, and whether a text may be stored over each.
+pub(crate) const STORED_OVER: [(&str, bool); 17] = [
+    ("", true),
+    ("proof 1\n", true),
+    ("proof 2\n", true),
+    ("proof 1\r\ncost 4", true),
+    ("proof 2\r", true),
+    ("proof 1", false),
+    ("proof 2", false),
+    ("proof 1 \n", false),
+    ("proof 12\n", false),
+    ("proof 3\n", false),
+    ("proof\n", false),
+    ("proof \n", false),
+    ("proof of my invention\n", false),
+    ("Proof 1\n", false),
+    (" proof 1\n", false),
+    ("report 1\n", false),
+    ("\nproof 1\n", false),
+];
+
+#[test]
+fn a_quiet_shelf_asks_the_first_line(rt: HostRuntime) -> Result<(), Fail> {
+    let mut shelf = QuietShelf::new(rt.alloc());
+    for (text, may) in &STORED_OVER {
+        shelf.put(HELD, text.as_bytes())?;
+        if shelf.may_store(HELD).is_ok() != *may {
+            return Err(Fail::from(*text));
+        }
+    }
+    Ok(())
+}
+
+#[test]
+fn a_memory_shelf_asks_the_first_line(rt: HostRuntime) -> Result<(), Fail> {
+    let mut shelf = MemoryShelf::new(rt.alloc(), Vec::new(rt.alloc()));
+    for (text, may) in &STORED_OVER {
+        shelf.put(HELD, text.as_bytes())?;
+        if shelf.may_store(HELD).is_ok() != *may {
+            return Err(Fail::from(*text));
+        }
+    }
     Ok(())
 }
 
