@@ -31,7 +31,8 @@ pub data ClockAnswers (date : Date) (d : Labels) (i : Instance) (text : List ℕ
       → ClockAnswers date d i text status output
 
 -- the answers to a proof text or a report by a day and a labels text
-pub data CalendarAnswers (date : Date) (labels : List ℕ) (i : Instance) (text : List ℕ) : ℕ → List ℕ → Type 0 where
+pub data CalendarAnswers (date : Date) (labels : List ℕ) (i : Instance) (text : List ℕ) :
+    ℕ → List ℕ → Type 0 where
   read : (d : Labels) (status : ℕ) (output : List ℕ) → labels_of i labels ≡ Ok d
       → ClockAnswers date d i text status output
       → CalendarAnswers date labels i text status output

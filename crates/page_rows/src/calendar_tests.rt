@@ -11,8 +11,9 @@ use std::test::Fail;
 /// A demand text, a labels text, a date, shifts, and their calendar.
 type Row<'a> = (&'a str, &'a str, &'a str, &'a [ShiftParts<'a>], &'a str);
 
-/// A night with labels in which signs stand that a calendar escapes, a line of more than 75 bytes, and two equal
-/// shifts; the same night under other labels with two shifts that stayed, whose UIDs are as they were; no work.
+/// A night with labels in which signs stand that a calendar escapes, a line of more than 75 bytes, and two
+/// equal shifts; the night under other labels with two shifts that stayed, whose UIDs are as they were; no
+/// work.
 const ROWS: [Row<'static>; 3] = [
     (
         "group S 0 4\n",

@@ -257,7 +257,8 @@ pub(crate) fn add_shift(
     requires codes { length instance.now.grammar.codes ≤ 32 }
     requires few { length before.now ≤ 64 }
     requires short { length shift.now.word ≤ 96 }
-    ensures { OnOk result (lines.new ≡ lines.old ++ shift_event instance.now labels.now setting.now before.now shift.now) }
+    ensures { OnOk result (lines.new
+        ≡ lines.old ++ shift_event instance.now labels.now setting.now before.now shift.now) }
 {
     let codes = instance.grammar.codes.as_slice();
     let Some(stretch) = stretch_of(codes, shift.word.as_slice()) else {

@@ -41,8 +41,8 @@ pub(crate) fn put_hexadecimal(alloc: Global, out: &mut List<u8>, bytes: &[u8]) -
     }
 }
 
-/// Returns what tells events apart: the first 16 bytes of the SHA-256 over a title, the name of a group and a word,
-/// each behind its length in 8 bytes, big end first.
+/// Returns what tells events apart: the first 16 bytes of the SHA-256 over a title, the name of a group and
+/// a word, each behind its length in 8 bytes, big end first.
 pub(crate) fn mark_of(title: &[u8], group: &[u8], word: &[u8]) -> [u8; 16]
     ensures { result ≡ mark_of title.now group.now word.now }
 {
