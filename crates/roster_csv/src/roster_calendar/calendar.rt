@@ -46,7 +46,15 @@ fn events_of(
     let mut lines = List::new(alloc);
     let mut place: usize = 0;
     for shift in shifts {
-        add_shift(alloc, &mut lines, instance, labels, setting, &shifts[..place], shift)?;
+        add_shift(
+            alloc,
+            &mut lines,
+            instance,
+            labels,
+            setting,
+            &shifts[..place],
+            shift,
+        )?;
         place += 1;
     }
     Ok(lines)

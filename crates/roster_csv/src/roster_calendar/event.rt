@@ -267,7 +267,14 @@ pub(crate) fn add_shift(
     let mark = shift_mark(instance, labels, shift);
     add_head(alloc, lines, setting, number_among(before, shift), mark)?;
     add_times(alloc, lines, setting, stretch)?;
-    add_summary(alloc, lines, instance, labels, before.len() as u64 + 1, shift)?;
+    add_summary(
+        alloc,
+        lines,
+        instance,
+        labels,
+        before.len() as u64 + 1,
+        shift,
+    )?;
     add_description(
         alloc,
         lines,
