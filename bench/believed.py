@@ -1,5 +1,5 @@
 #!/usr/bin/env python3
-"""Says what the contract of `run` rests on: the definitions that its clauses reach, part by part.
+"""Says what the contracts of both `run` rest on: the definitions that their clauses reach, part by part.
 
     bench/believed.py            the table of docs/MODEL.md, and whether that page has it
     bench/believed.py PART       the definitions of a part, file by file, as `bench/believed.py solve`
@@ -7,7 +7,7 @@
 A definition reaches those that its text names, by the imports of its file; a variable of the same name counts too, so
 the numbers are at most a little too great. Counted are the definitions of specs/ with
 their lines, and the types of src/ that they name; those of the kit's library are left out. It fails where the page
-differs, or names in its tables a definition that `run` does not reach.
+differs, or names in its tables a definition that neither `run` reaches.
 """
 import pathlib
 import re
@@ -55,6 +55,8 @@ PARTS = {
     "run": ("all of `run`", [
         ("command_line.specs.Form", "form_of"), ("command_line.specs.Run", "Does"),
         ("command_line.specs.OneAnswer", "HasOneAnswer")]),
+    "page": ("all of `run` of the second program", [
+        ("page_command.specs.Run", "form_of"), ("page_command.specs.Run", "Does")]),
 }
 
 
@@ -147,10 +149,11 @@ def table():
 
 
 def unreached(page):
-    """The definitions that the page's tables name and `run` does not reach."""
-    known, types = part("run")
-    names = {(name.rpartition(".")[2], word) for name, word in known}
-    names |= {(name.rpartition(".")[0].rpartition(".")[2], name.rpartition(".")[2]) for name in types}
+    """The definitions that the page's tables name and neither `run` reaches."""
+    names = set()
+    for known, types in (part("run"), part("page")):
+        names |= {(name.rpartition(".")[2], word) for name, word in known}
+        names |= {(name.rpartition(".")[0].rpartition(".")[2], name.rpartition(".")[2]) for name in types}
     for row in re.findall(r"^\|.*\|$", page, re.M):
         for file, word in re.findall(r"`(\w+)\.(\w+)`", row.rpartition(" | ")[2]):
             if (file, word) not in names:
@@ -168,7 +171,7 @@ def main():
     page, lines = PAGE.read_text(), "\n".join(table())
     print(lines)
     wrong = [] if lines in page else ["the table differs"]
-    if wrong := wrong + [f"run does not rest on {name}" for name in unreached(page)]:
+    if wrong := wrong + [f"no run rests on {name}" for name in unreached(page)]:
         sys.exit("\n".join(["docs/MODEL.md is wrong:", *wrong]))
 
 

@@ -3,9 +3,10 @@
 
 For the days of bench/page.py (examples, and days that are made there) it says the calendar of two days, unfolds and
 reads it by the grammar of RFC 5545, and fails where a line is too long or ends otherwise, an event lacks a property or
-has one twice, two events have one UID, or an event's times, name or stretches are not those of the certificate's shift
-under the labels. A day without a clock in its labels gets one that passes midnight.
+has one twice, two events have one UID, or an event's UID, times, name or stretches are not those of the certificate's
+shift under the labels. A day without a clock in its labels gets one that passes midnight.
 """
+import collections
 import datetime
 import hashlib
 import itertools
@@ -65,20 +66,26 @@ def events_of(lines):
 
 
 def said_labels(text):
-    """The clock, and what codes and groups are called."""
+    """The title, the clock, and what codes and groups are called."""
     rows = [line.split(" ") for line in text.splitlines()]
+    title = next((" ".join(row[1:]) for row in rows if row[0] == "title"), "")
     clock = next(row[1:] for row in rows if row[0] == "clock")
     hours, minutes = map(int, clock[0].split(":"))
     called = {kind: {row[1]: " ".join(row[2:]) for row in rows if row[0] == kind} for kind in ("code", "group")}
-    return 60 * hours + minutes, int(clock[1]), called
+    return title, 60 * hours + minutes, int(clock[1]), called
 
 
-def wanted(day, rules, demand, proof, labels):
+def mark_of(*parts):
+    """The hexadecimal digits of a UID, over a title, the name of a group and a word."""
+    counted = b"".join(len(part).to_bytes(8, "big") + part.encode() for part in parts)
+    return hashlib.sha256(counted).hexdigest()[:32]
+
+
+def wanted(day, rules, proof, labels):
     """The events that the texts ask for."""
-    begin, length, called = said_labels(labels)
+    title, begin, length, called = said_labels(labels)
     midnight = datetime.datetime.fromisoformat(day)
     work = {code for line in rules.decode().splitlines() if line.startswith("work ") for code in line.split()[1:]}
-    mark = hashlib.sha256(b"".join(len(text).to_bytes(8, "big") + text for text in (rules, demand, proof))).digest()[:16]
     stamp = f"{midnight:%Y%m%d}T000000Z"
 
     def moment(passed):
@@ -89,8 +96,10 @@ def wanted(day, rules, demand, proof, labels):
         return f"{minute // 60 % 24}:{minute % 60:02}" + (f" +{minute // 1440}" if minute >= 1440 else "")
 
     shifts = [line.split(" ")[1:] for line in proof.decode().splitlines() if line.startswith("shift ")]
+    counts = collections.Counter()
     for number, shift in enumerate(shifts, 1):
         group, word = shift[0] if len(shift) == 3 else "", shift[-2]
+        counts[group, word] += 1
         places = [place for place, code in enumerate(word) if code in work]
         if not places:
             continue
@@ -103,7 +112,7 @@ def wanted(day, rules, demand, proof, labels):
             at = end
         name = called["group"].get(group, group)
         yield {
-            "UID": f"{midnight:%Y%m%d}-{number}-{mark.hex()}@roster",
+            "UID": f"{midnight:%Y%m%d}-{counts[group, word]}-{mark_of(title, group, word)}@roster",
             "DTSTAMP": stamp,
             "DTSTART": f"{moment(first):%Y%m%dT%H%M%S}",
             "DTEND": f"{moment(last):%Y%m%dT%H%M%S}",
@@ -145,7 +154,7 @@ def look(folder, name):
             wrong.append(f"status {said.returncode}: {said.stdout[:80]}")
             continue
         events += said.stdout.count(b"BEGIN:VEVENT")
-        wrong += faults(said.stdout, day, rules.read_bytes(), demand.read_bytes(), proof.read_bytes(), text)
+        wrong += faults(said.stdout, day, rules.read_bytes(), proof.read_bytes(), text)
     print(f"{name}: {events} events" + "".join(f"\n  {line[:240]}" for line in wrong[:5]))
     return not wrong
 

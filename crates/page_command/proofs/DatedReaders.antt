@@ -11,10 +11,10 @@ use Rattle.page_command.specs.Dated.{AnswersDated, AnswersDatedLabels, AnswersDa
 module _ (date : Date) (before after : Told) (status : ℕ) (demand proof : List ℕ) where
   -- a demand text that was fetched
   pub demand-dated : (rules labels text : List ℕ) (middle : Told) → IsFetch demand before middle text
-      → IsReader (TextsAnswers (CalendarAnswers date rules text labels) middle.held rules text proof) (proof ∷ []) middle after status
+      → IsReader (TextsAnswers (CalendarAnswers date labels) middle.held rules text proof) (proof ∷ []) middle after status
       → IsReader (AnswersDatedTexts date before.held rules labels demand proof) (demand ∷ proof ∷ []) before after status
   demand-dated rules labels text middle f reader =
-      let answers = CalendarAnswers date rules text labels in
+      let answers = CalendarAnswers date labels in
       after_fetch (AnswersDatedTexts date before.held rules labels demand proof) demand (proof ∷ []) before middle after status text f
       (widen (TextsAnswers answers middle.held rules text proof) (AnswersDatedTexts date before.held rules labels demand proof)
       (λ s o a. record { text = text; holds = f.holds; answers = subst (λ (h : Option Texts). TextsAnswers answers h rules text proof s o) f.held a }) (proof ∷ []) (proof ∷ []) middle after status (λ h. h) reader)

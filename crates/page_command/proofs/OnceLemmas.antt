@@ -36,7 +36,6 @@ use Rattle.page_labels.specs.LabelsOf.{labels_of}
 use Rattle.page_labels.specs.declared.fault.LabelFault.{LabelFault}
 use Rattle.page_labels.specs.declared.clock.Clock.{Clock}
 use Rattle.page_labels.specs.declared.labels.Labels.{Labels}
-use Rattle.roster_csv.specs.roster_calendar.Marks.{mark_of}
 use Rattle.roster_csv.specs.declared.roster_calendar.date.Date.{Date}
 use Rattle.text_commands.specs.what_if.Value.{SaysRosterFault}
 use Rattle.page_command.specs.Check.{AnswersBeside, AnswersLabelled, BesideAnswers, LabelAnswers, OldAnswers, RefusedLabels}
@@ -299,23 +298,23 @@ IsClocked (Some c) = Unit {0}
 clock_or_none : (o : Option Clock) (c : Clock) → o ≡ Some c → o ≡ None → ⊥
 clock_or_none o c e f = subst IsClocked (sym e ∙ f) tt
 
-clock_once : (date : Date) (mark : List ℕ) (d : Labels) (i : Instance) (text : List ℕ) (s t : ℕ) (a b : List ℕ) → ClockAnswers date mark d i text s a → ClockAnswers date mark d i text t b → AreAlike s t a b
-clock_once date mark d i text s t a b (dated.ClockAnswers.answered c x xs e h) (dated.ClockAnswers.answered z y ys f k) =
-    roster_once (Calendar (setting_of date z mark)) d None i text s t a b
-    (subst (λ (q : Clock). RosterAnswers (Calendar (setting_of date q mark)) d None i text s a) (same_clock d.clock c z e f) h) k
-clock_once date mark d i text s t a b (dated.ClockAnswers.answered c x xs e h) (dated.ClockAnswers.no_clock y ys f k) = absurd (clock_or_none d.clock c e f)
-clock_once date mark d i text s t a b (dated.ClockAnswers.no_clock x xs e h) (dated.ClockAnswers.answered z y ys f k) = absurd (clock_or_none d.clock z f e)
-clock_once date mark d i text s t a b (dated.ClockAnswers.no_clock x xs e h) (dated.ClockAnswers.no_clock y ys f k) = line_once i text no_clock_line s t a b h k
+clock_once : (date : Date) (d : Labels) (i : Instance) (text : List ℕ) (s t : ℕ) (a b : List ℕ) → ClockAnswers date d i text s a → ClockAnswers date d i text t b → AreAlike s t a b
+clock_once date d i text s t a b (dated.ClockAnswers.answered c x xs e h) (dated.ClockAnswers.answered z y ys f k) =
+    roster_once (Calendar (setting_of date z)) d None i text s t a b
+    (subst (λ (q : Clock). RosterAnswers (Calendar (setting_of date q)) d None i text s a) (same_clock d.clock c z e f) h) k
+clock_once date d i text s t a b (dated.ClockAnswers.answered c x xs e h) (dated.ClockAnswers.no_clock y ys f k) = absurd (clock_or_none d.clock c e f)
+clock_once date d i text s t a b (dated.ClockAnswers.no_clock x xs e h) (dated.ClockAnswers.answered z y ys f k) = absurd (clock_or_none d.clock z f e)
+clock_once date d i text s t a b (dated.ClockAnswers.no_clock x xs e h) (dated.ClockAnswers.no_clock y ys f k) = line_once i text no_clock_line s t a b h k
 
-calendar_once : (date : Date) (rules demand labels : List ℕ) → IsOnce (CalendarAnswers date rules demand labels)
-calendar_once date rules demand labels i text s t a b (dated.CalendarAnswers.read d x xs e h) (dated.CalendarAnswers.read g y ys f k) =
-    clock_once date (mark_of rules demand text) g i text s t a b
-    (subst (λ (q : Labels). ClockAnswers date (mark_of rules demand text) q i text s a) (same_ok (labels_of i labels) d g e f) h) k
-calendar_once date rules demand labels i text s t a b (dated.CalendarAnswers.read d x xs e h) (dated.CalendarAnswers.labels_refused y ys k) =
+calendar_once : (date : Date) (labels : List ℕ) → IsOnce (CalendarAnswers date labels)
+calendar_once date labels i text s t a b (dated.CalendarAnswers.read d x xs e h) (dated.CalendarAnswers.read g y ys f k) =
+    clock_once date g i text s t a b
+    (subst (λ (q : Labels). ClockAnswers date q i text s a) (same_ok (labels_of i labels) d g e f) h) k
+calendar_once date labels i text s t a b (dated.CalendarAnswers.read d x xs e h) (dated.CalendarAnswers.labels_refused y ys k) =
     absurd (not_both (labels_of i labels) d k.fault.fault e k.fault.reading)
-calendar_once date rules demand labels i text s t a b (dated.CalendarAnswers.labels_refused x xs h) (dated.CalendarAnswers.read g y ys f k) =
+calendar_once date labels i text s t a b (dated.CalendarAnswers.labels_refused x xs h) (dated.CalendarAnswers.read g y ys f k) =
     absurd (not_both (labels_of i labels) g h.fault.fault f h.fault.reading)
-calendar_once date rules demand labels i text s t a b (dated.CalendarAnswers.labels_refused x xs h) (dated.CalendarAnswers.labels_refused y ys k) =
+calendar_once date labels i text s t a b (dated.CalendarAnswers.labels_refused x xs h) (dated.CalendarAnswers.labels_refused y ys k) =
     refused_once labels i text s t a b h k
 
 read_texts_once : (A : TextAnswers) → IsOnce A → (held : Texts) (rules demand name : List ℕ) (s t : ℕ) (a b : List ℕ) → TextsAnswers A (Some held) rules demand name s a
@@ -332,8 +331,8 @@ dated_once date held rules demand proof labels s t a b h k =
     let rules_same = same_text held rules h.text k.text h.holds k.holds in
     let labels_same = same_text held labels h.answers.text k.answers.text h.answers.holds k.answers.holds in
     let demand_same = same_text held demand h.answers.answers.text k.answers.answers.text h.answers.answers.holds k.answers.answers.holds in
-    let one = subst (λ (r : List ℕ). TextsAnswers (CalendarAnswers date r h.answers.answers.text h.answers.text) (Some held) r h.answers.answers.text proof s a) rules_same h.answers.answers.answers in
-    let two = subst (λ (l : List ℕ). TextsAnswers (CalendarAnswers date k.text h.answers.answers.text l) (Some held) k.text h.answers.answers.text proof s a) labels_same one in
-    let three = subst (λ (d : List ℕ). TextsAnswers (CalendarAnswers date k.text d k.answers.text) (Some held) k.text d proof s a) demand_same two in
-    read_texts_once (CalendarAnswers date k.text k.answers.answers.text k.answers.text) (calendar_once date k.text k.answers.answers.text k.answers.text) held k.text k.answers.answers.text proof s t a b three
+    let one = subst (λ (r : List ℕ). TextsAnswers (CalendarAnswers date h.answers.text) (Some held) r h.answers.answers.text proof s a) rules_same h.answers.answers.answers in
+    let two = subst (λ (l : List ℕ). TextsAnswers (CalendarAnswers date l) (Some held) k.text h.answers.answers.text proof s a) labels_same one in
+    let three = subst (λ (d : List ℕ). TextsAnswers (CalendarAnswers date k.answers.text) (Some held) k.text d proof s a) demand_same two in
+    read_texts_once (CalendarAnswers date k.answers.text) (calendar_once date k.answers.text) held k.text k.answers.answers.text proof s t a b three
     k.answers.answers.answers

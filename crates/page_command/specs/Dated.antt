@@ -8,7 +8,6 @@ use Rattle.page_labels.specs.declared.labels.Labels.{Labels}
 use Rattle.shelf.specs.Shelf.{Texts}
 use Rattle.answers.specs.Asked.{TextsAnswers}
 use Rattle.answers.specs.Reader.{Holds}
-use Rattle.roster_csv.specs.roster_calendar.Marks.{mark_of}
 use Rattle.roster_csv.specs.declared.roster_calendar.date.Date.{Date}
 use Rattle.roster_csv.specs.declared.roster_calendar.setting.Setting.{Setting}
 use Rattle.page_command.specs.Check.{RefusedLabels}
@@ -20,33 +19,32 @@ abbrev pub no_clock_line : List ℕ
 no_clock_line = codes "labels: no clock line\n"
 
 -- what all events of a calendar share
-abbrev pub setting_of : Date → Clock → List ℕ → Setting
-setting_of date clock mark = record { date = date; clock = clock; mark = mark }
+abbrev pub setting_of : Date → Clock → Setting
+setting_of date clock = record { date = date; clock = clock }
 
 -- the answers to a proof text or a report under labels that tell this clock or none
-pub data ClockAnswers (date : Date) (mark : List ℕ) (d : Labels) (i : Instance) (text : List ℕ) :
-    ℕ → List ℕ → Type 0 where
+pub data ClockAnswers (date : Date) (d : Labels) (i : Instance) (text : List ℕ) : ℕ → List ℕ → Type 0 where
   answered : (c : Clock) (status : ℕ) (output : List ℕ) → d.clock ≡ Some c
-      → RosterAnswers (Calendar (setting_of date c mark)) d None i text status output
-      → ClockAnswers date mark d i text status output
+      → RosterAnswers (Calendar (setting_of date c)) d None i text status output
+      → ClockAnswers date d i text status output
   no_clock : (status : ℕ) (output : List ℕ) → d.clock ≡ None → LineAnswers i text no_clock_line status output
-      → ClockAnswers date mark d i text status output
+      → ClockAnswers date d i text status output
 
--- the answers to a proof text or a report by a day, a rules text, a demand text and a labels text
-pub data CalendarAnswers (date : Date) (rules demand labels : List ℕ) (i : Instance) (text : List ℕ) :
+-- the answers to a proof text or a report by a day and a labels text
+pub data CalendarAnswers (date : Date) (labels : List ℕ) (i : Instance) (text : List ℕ) :
     ℕ → List ℕ → Type 0 where
   read : (d : Labels) (status : ℕ) (output : List ℕ) → labels_of i labels ≡ Ok d
-      → ClockAnswers date (mark_of rules demand text) d i text status output
-      → CalendarAnswers date rules demand labels i text status output
+      → ClockAnswers date d i text status output
+      → CalendarAnswers date labels i text status output
   labels_refused : (status : ℕ) (output : List ℕ) → RefusedLabels labels i text status output
-      → CalendarAnswers date rules demand labels i text status output
+      → CalendarAnswers date labels i text status output
 
 -- the answers to a day, a rules text and a labels text, and then to the demand and proof texts under names
 pub record AnswersDatedTexts (date : Date) (held : Option Texts) (rules labels demand_name proof_name : List ℕ)
     (status : ℕ) (output : List ℕ) : Type 0 where
   pub text : List ℕ
   pub holds : Holds held demand_name text
-  pub answers : TextsAnswers (CalendarAnswers date rules text labels) held rules text proof_name status output
+  pub answers : TextsAnswers (CalendarAnswers date labels) held rules text proof_name status output
 
 -- the same, where the labels text stands under a name
 pub record AnswersDatedLabels (date : Date) (held : Option Texts) (rules demand_name proof_name labels_name : List ℕ)

@@ -15,7 +15,6 @@ use Rattle.page_command.specs.Report.{LineAnswers, ReportAnswers, RosterAnswers}
 use Rattle.page_command.specs.Report as report
 use Rattle.page_command.specs.declared.kind.Kind.{Kind}
 use Rattle.page_command.specs.declared.kind.Kind.TheVariants.{Calendar}
-use Rattle.roster_csv.specs.roster_calendar.Marks.{mark_of}
 use Rattle.roster_csv.specs.declared.roster_calendar.date.Date.{Date}
 
 judged-ends : (k : Kind) (d : Labels) (old : Option (List Shift)) (i : Instance) (c : Cert) (s : ℕ) (output : List ℕ)
@@ -62,17 +61,17 @@ label-ends k labels old i text s output (check.LabelAnswers.answered d x o e a) 
 label-ends k labels old i text s output (check.LabelAnswers.labels_refused x o a) =
     line-ends i text a.line s output a.answers
 
-clock-ends : (date : Date) (mark : List ℕ) (d : Labels) (i : Instance) (text : List ℕ) (s : ℕ) (output : List ℕ)
-    → ClockAnswers date mark d i text s output → (s ≢ 6) × (s ≢ 7)
-clock-ends date mark d i text s output (dated.ClockAnswers.answered c x o e a) =
-    roster-ends (Calendar (setting_of date c mark)) d None i text s output a
-clock-ends date mark d i text s output (dated.ClockAnswers.no_clock x o e a) =
+clock-ends : (date : Date) (d : Labels) (i : Instance) (text : List ℕ) (s : ℕ) (output : List ℕ)
+    → ClockAnswers date d i text s output → (s ≢ 6) × (s ≢ 7)
+clock-ends date d i text s output (dated.ClockAnswers.answered c x o e a) =
+    roster-ends (Calendar (setting_of date c)) d None i text s output a
+clock-ends date d i text s output (dated.ClockAnswers.no_clock x o e a) =
     line-ends i text no_clock_line s output a
 
 -- nor has a calendar
-pub calendar-ends : (date : Date) (rules demand labels : List ℕ) (i : Instance) (text : List ℕ) (s : ℕ)
-    (output : List ℕ) → CalendarAnswers date rules demand labels i text s output → (s ≢ 6) × (s ≢ 7)
-calendar-ends date rules demand labels i text s output (dated.CalendarAnswers.read d x o e a) =
-    clock-ends date (mark_of rules demand text) d i text s output a
-calendar-ends date rules demand labels i text s output (dated.CalendarAnswers.labels_refused x o a) =
+pub calendar-ends : (date : Date) (labels : List ℕ) (i : Instance) (text : List ℕ) (s : ℕ) (output : List ℕ)
+    → CalendarAnswers date labels i text s output → (s ≢ 6) × (s ≢ 7)
+calendar-ends date labels i text s output (dated.CalendarAnswers.read d x o e a) =
+    clock-ends date d i text s output a
+calendar-ends date labels i text s output (dated.CalendarAnswers.labels_refused x o a) =
     line-ends i text a.line s output a.answers

@@ -14,7 +14,7 @@ use crate::kind::Kind;
 use crate::refused::{line_answer, refused_labels};
 use answers::{Answer, Question, ask_texts, fetched};
 use page_labels::{Labels, read_labels};
-use roster_csv::{Date, Setting, mark_of};
+use roster_csv::{Date, Setting};
 use roster_model::{Instance, Memory};
 use shelf::Shelf;
 use std::alloc::Global;
@@ -29,26 +29,23 @@ fn clock_answer(
     text: &[u8],
     labels: &Labels,
     date: Date,
-    mark: [u8; 16],
 ) -> Result<Answer, Memory>
     requires { IsSoundInstance instance.now }
-    ensures { IfOk result (λ a. ClockAnswers date mark labels.now instance.now text.now a.status a.output) }
+    ensures { IfOk result (λ a. ClockAnswers date labels.now instance.now text.now a.status a.output) }
 {
     match labels.clock {
         None => line_answer(alloc, instance, text, NO_CLOCK),
         Some(clock) => {
-            let kind = Kind::Calendar(Setting { date, clock, mark });
+            let kind = Kind::Calendar(Setting { date, clock });
             judgement(alloc, kind, instance, labels, None, text)
         }
     }
 }
 
-// The day of a calendar and three of its texts.
+// The day of a calendar and its labels text.
 #[derive(Drop)]
 struct Dated<'a> {
     date: Date,
-    rules: &'a [u8],
-    demand: &'a [u8],
     labels: &'a [u8],
 }
 
@@ -60,14 +57,11 @@ fn calendar_answer(
     dated: &Dated<'_>,
 ) -> Result<Answer, Memory>
     requires { IsSoundInstance instance.now }
-    ensures { IfOk result (λ a. CalendarAnswers dated.now.date dated.now.rules.now dated.now.demand.now
-        dated.now.labels.now instance.now text.now a.status a.output) }
+    ensures { IfOk result (λ a. CalendarAnswers dated.now.date dated.now.labels.now instance.now text.now
+        a.status a.output) }
 {
     match read_labels(alloc, instance, dated.labels) {
-        Ok(labels) => {
-            let mark = mark_of(dated.rules, dated.demand, text);
-            clock_answer(alloc, instance, text, &labels, dated.date, mark)
-        }
+        Ok(labels) => clock_answer(alloc, instance, text, &labels, dated.date),
         Err(fault) => refused_labels(alloc, instance, text, dated.labels, fault),
     }
 }
@@ -76,9 +70,9 @@ impl<'a> Question for Dated<'a> {
     ghost use Rattle.page_command.specs.Dated.{CalendarAnswers};
     ghost use Rattle.page_command.specs.Statuses.{calendar-ends};
 
-    ghost answers = { λ q. CalendarAnswers q.date q.rules.now q.demand.now q.labels.now };
+    ghost answers = { λ q. CalendarAnswers q.date q.labels.now };
 
-    ghost ends = { λ q. calendar-ends q.date q.rules.now q.demand.now q.labels.now };
+    ghost ends = { λ q. calendar-ends q.date q.labels.now };
 
     // Says the calendar of the roster, or why there is none.
     fn answer(&self, alloc: Global, instance: &Instance, text: &[u8]) -> Result<Answer, Memory> {
@@ -102,12 +96,7 @@ fn draw_dated_texts<S: Shelf>(
     match fetched(alloc, shelf, demand) {
         Ok(text) => {
             let demand = text.as_slice();
-            let dated = Dated {
-                date,
-                rules,
-                demand,
-                labels,
-            };
+            let dated = Dated { date, labels };
             ask_texts(alloc, shelf, rules, demand, proof, &dated)
         }
         Err(status) => status,

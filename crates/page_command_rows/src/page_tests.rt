@@ -208,7 +208,7 @@ fn equal_shifts_have_one_row_where_there_are_many(rt: HostRuntime) -> Result<(),
     Ok(())
 }
 
-/// Tables and a calendar, under labels.
+/// Tables and a calendar, under labels; the UIDs are the same where the demand text has a comment.
 const SHEETS: &str = "
 ~ table g1 two best called
 0
@@ -229,7 +229,7 @@ BEGIN:VCALENDAR\r
 VERSION:2.0\r
 PRODID:-//Lubishon//roster//EN\r
 BEGIN:VEVENT\r
-UID:20260228-1-daa5734fd660a2240884f7d15a407780@roster\r
+UID:20260228-1-b84e21df119f9cf9557e05daa9383b2c@roster\r
 DTSTAMP:20260228T000000Z\r
 DTSTART:20260228T073000\r
 DTEND:20260228T090000\r
@@ -237,7 +237,7 @@ SUMMARY:Shift 1\r
 DESCRIPTION:7:30-9:00 =desk\\, phone\r
 END:VEVENT\r
 BEGIN:VEVENT\r
-UID:20260228-2-daa5734fd660a2240884f7d15a407780@roster\r
+UID:20260228-1-218789bf8dcd9bf28124e96dd7a66125@roster\r
 DTSTAMP:20260228T000000Z\r
 DTSTART:20260228T070000\r
 DTEND:20260228T083000\r
@@ -245,6 +245,10 @@ SUMMARY:Shift 2\r
 DESCRIPTION:7:00-8:30 =desk\\, phone\r
 END:VEVENT\r
 END:VCALENDAR\r
+~ calendar g1 noted best called 2026-02-28
+0..
+UID:20260228-1-b84e21df119f9cf9557e05daa9383b2c@roster
+UID:20260228-1-218789bf8dcd9bf28124e96dd7a66125@roster
 ";
 
 #[test]

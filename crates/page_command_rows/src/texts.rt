@@ -71,6 +71,11 @@ rule B 0 = A
 @ two
 heads 0 2
 need a 10 3 1 2 2 1
+@ noted
+# the second hour is short
+heads 0 2
+
+need a 10 3 1 2 2 1
 @ centre
 heads 0 1
 need a 30 1 0 0 0 0 1 1 2 2 3 3 2 2 1 1 2 2 3 3 2 2 1 1 0 0

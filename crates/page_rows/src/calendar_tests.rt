@@ -3,7 +3,7 @@ ghost use Rattle.roster_model.specs.SoundInstance.{IsSoundInstance};
 
 use crate::days::{ShiftParts, day, roster};
 use page_labels::{Clock, Labels, read_labels};
-use roster_csv::{Setting, calendar_of, date_of, mark_of};
+use roster_csv::{Setting, calendar_of, date_of};
 use roster_model::{Instance, Shift};
 use std::alloc::Global;
 use std::test::Fail;
@@ -11,20 +11,21 @@ use std::test::Fail;
 /// A demand text, a labels text, a date, shifts, and their calendar.
 type Row<'a> = (&'a str, &'a str, &'a str, &'a [ShiftParts<'a>], &'a str);
 
-/// A night with labels in which signs stand that a calendar escapes, and a line of more than 75 bytes; no
+/// A night with labels in which signs stand that a calendar escapes, a line of more than 75 bytes, and two
+/// equal shifts; the night under other labels with two shifts that stayed, whose UIDs are as they were; no
 /// work.
-const ROWS: [Row<'static>; 2] = [
+const ROWS: [Row<'static>; 3] = [
     (
         "group S 0 4\n",
-        "clock 22:00 90\ncode a =desk, phone\ngroup S night; day\n",
+        "title Ward 7\nclock 22:00 90\ncode a =desk, phone\ngroup S night; day\n",
         "2024-02-28",
-        &[(1, "apa."), (1, "...."), (1, ".aa.")],
+        &[(1, "apa."), (1, "...."), (1, ".aa."), (1, "apa.")],
         "\
 BEGIN:VCALENDAR\r\n\
 VERSION:2.0\r\n\
 PRODID:-//Lubishon//roster//EN\r\n\
 BEGIN:VEVENT\r\n\
-UID:20240228-1-74f2dff90c16bd75e74ea8ab93e0f683@roster\r\n\
+UID:20240228-1-a3e350d1b7db085fb35a7a9d931c4884@roster\r\n\
 DTSTAMP:20240228T000000Z\r\n\
 DTSTART:20240228T220000\r\n\
 DTEND:20240229T023000\r\n\
@@ -33,12 +34,48 @@ DESCRIPTION:22:00-23:30 =desk\\, phone\\n23:30-1:00 +1 p\\n1:00 +1-2:30 +1 =de\r
 sk\\, phone\r\n\
 END:VEVENT\r\n\
 BEGIN:VEVENT\r\n\
-UID:20240228-3-74f2dff90c16bd75e74ea8ab93e0f683@roster\r\n\
+UID:20240228-1-ed2cad7c99693167bda04c4f8c01ec92@roster\r\n\
 DTSTAMP:20240228T000000Z\r\n\
 DTSTART:20240228T233000\r\n\
 DTEND:20240229T023000\r\n\
 SUMMARY:night\\; day: shift 3\r\n\
 DESCRIPTION:23:30-2:30 +1 =desk\\, phone\r\n\
+END:VEVENT\r\n\
+BEGIN:VEVENT\r\n\
+UID:20240228-2-a3e350d1b7db085fb35a7a9d931c4884@roster\r\n\
+DTSTAMP:20240228T000000Z\r\n\
+DTSTART:20240228T220000\r\n\
+DTEND:20240229T023000\r\n\
+SUMMARY:night\\; day: shift 4\r\n\
+DESCRIPTION:22:00-23:30 =desk\\, phone\\n23:30-1:00 +1 p\\n1:00 +1-2:30 +1 =de\r\n \
+sk\\, phone\r\n\
+END:VEVENT\r\n\
+END:VCALENDAR\r\n",
+    ),
+    (
+        "group S 0 4\n",
+        "clock 22:00 90\ntitle Ward 7\n",
+        "2024-02-28",
+        &[(1, ".aa."), (1, "apa.")],
+        "\
+BEGIN:VCALENDAR\r\n\
+VERSION:2.0\r\n\
+PRODID:-//Lubishon//roster//EN\r\n\
+BEGIN:VEVENT\r\n\
+UID:20240228-1-ed2cad7c99693167bda04c4f8c01ec92@roster\r\n\
+DTSTAMP:20240228T000000Z\r\n\
+DTSTART:20240228T233000\r\n\
+DTEND:20240229T023000\r\n\
+SUMMARY:S: shift 1\r\n\
+DESCRIPTION:23:30-2:30 +1 a\r\n\
+END:VEVENT\r\n\
+BEGIN:VEVENT\r\n\
+UID:20240228-1-a3e350d1b7db085fb35a7a9d931c4884@roster\r\n\
+DTSTAMP:20240228T000000Z\r\n\
+DTSTART:20240228T220000\r\n\
+DTEND:20240229T023000\r\n\
+SUMMARY:S: shift 2\r\n\
+DESCRIPTION:22:00-23:30 a\\n23:30-1:00 +1 p\\n1:00 +1-2:30 +1 a\r\n\
 END:VEVENT\r\n\
 END:VCALENDAR\r\n",
     ),
@@ -52,7 +89,7 @@ BEGIN:VCALENDAR\r\n\
 VERSION:2.0\r\n\
 PRODID:-//Lubishon//roster//EN\r\n\
 BEGIN:VEVENT\r\n\
-UID:20250601-0-74f2dff90c16bd75e74ea8ab93e0f683@roster\r\n\
+UID:20250601-0-9d908ecfb6b256def8b49a7c504e6c88@roster\r\n\
 DTSTAMP:20250601T000000Z\r\n\
 DTSTART;VALUE=DATE:20250601\r\n\
 SUMMARY:no shifts\r\n\
@@ -73,11 +110,7 @@ fn setting(clock: Clock, date: &str) -> Result<Setting, Fail> {
     let Some(date) = date_of(date.as_bytes()) else {
         return Err(Fail::from("date"));
     };
-    Ok(Setting {
-        date,
-        clock,
-        mark: mark_of(b"a", b"bc", b""),
-    })
+    Ok(Setting { date, clock })
 }
 
 // Whether the calendar of shifts under labels is this.

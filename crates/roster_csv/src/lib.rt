@@ -13,7 +13,7 @@ pub use field::name_of;
 pub use laws::pieces_give_word_back;
 pub use piece::{Piece, pieces_of};
 pub use roster_calendar::{
-    Date, Setting, calendar_of, date_of, escaped_values_are_texts, mark_of, next_day_is_one_later,
+    Date, Setting, calendar_of, date_of, escaped_values_are_texts, next_day_is_one_later,
     unescaping_gives_value_back, unfolding_gives_lines_back,
 };
 pub use table::table_of;

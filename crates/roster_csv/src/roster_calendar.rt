@@ -16,5 +16,4 @@ pub use laws::{
     escaped_values_are_texts, next_day_is_one_later, unescaping_gives_value_back,
     unfolding_gives_lines_back,
 };
-pub use mark::mark_of;
 pub use setting::Setting;

@@ -3,7 +3,7 @@ use Rattle.std.specs.Prelude.{ℕ, List, [], ◌∷◌, ◌++◌, codes}
 use Rattle.roster_model.specs.declared.instance.Instance.{Instance}
 use Rattle.roster_model.specs.declared.instance.Shift.{Shift}
 use Rattle.page_labels.specs.declared.labels.Labels.{Labels}
-use Rattle.roster_csv.specs.roster_calendar.Events.{events_from, events_or, property}
+use Rattle.roster_csv.specs.roster_calendar.Events.{events_of, events_or, property}
 use Rattle.roster_csv.specs.roster_calendar.Folds.{text_of}
 use Rattle.roster_csv.specs.declared.roster_calendar.setting.Setting.{Setting}
 
@@ -19,7 +19,7 @@ last_lines = property (codes "END") (codes "VCALENDAR") ∷ []
 
 -- the lines of a calendar: an event for each shift that works, by the numbers of the shifts
 abbrev pub calendar_lines : Instance → Labels → Setting → List Shift → List (List ℕ)
-calendar_lines i d x shifts = first_lines ++ events_or x (events_from i d x 1 shifts) ++ last_lines
+calendar_lines i d x shifts = first_lines ++ events_or d x (events_of i d x shifts) ++ last_lines
 
 -- its text
 abbrev pub calendar_of : Instance → Labels → Setting → List Shift → List ℕ

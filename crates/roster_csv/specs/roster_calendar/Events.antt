@@ -1,11 +1,13 @@
 -- The events of a roster's shifts, as lines.
-use Rattle.std.specs.Prelude.{ℕ, ◌+◌, ◌-◌, ◌*◌, ◌/◌, ◌%◌, Bool, ◌&&◌, Option, None, Some, List, [], ◌∷◌, ◌++◌, codes, length, nat_eq, nat_le, nat_lt, if◌then◌else◌}
+use Rattle.std.specs.Prelude.{ℕ, ◌+◌, ◌-◌, ◌*◌, ◌/◌, ◌%◌, Bool, ◌&&◌, Option, None, Some, List, [], ◌∷◌, ◌++◌, codes, count_by, length, nat_eq, nat_le, nat_lt, take, if◌then◌else◌}
 use Rattle.std.specs.Fmt.{decimal}
 use Rattle.std.specs.List.{flat_map}
+use Rattle.std.specs.Str.{bytes_eq}
 use Rattle.hex.specs.Hex.{encode_lower}
 use Rattle.roster_model.specs.declared.grammar.CodeDef.{CodeDef}
 use Rattle.roster_model.specs.declared.instance.Instance.{Instance}
 use Rattle.roster_model.specs.declared.instance.Shift.{Shift}
+use Rattle.certificate_text.specs.Written.{group_name}
 use Rattle.page_labels.specs.Clocks.{time_text, two_text}
 use Rattle.page_labels.specs.declared.clock.Clock.{Clock}
 use Rattle.page_labels.specs.declared.labels.Labels.{Labels}
@@ -17,6 +19,7 @@ use Rattle.roster_csv.specs.Rows.{name_of}
 use Rattle.roster_csv.specs.declared.piece.Piece.{Piece}
 use Rattle.roster_csv.specs.roster_calendar.Dates.{date_text, day_after}
 use Rattle.roster_csv.specs.roster_calendar.Escapes.{escaped}
+use Rattle.roster_csv.specs.roster_calendar.Marks.{mark_of}
 use Rattle.roster_csv.specs.declared.roster_calendar.setting.Setting.{Setting}
 
 -- a line of a property
@@ -36,9 +39,25 @@ unfoldable pub moment_text : Setting → ℕ → List ℕ
 moment_text x passed =
     date_text (day_after (minute_of x.clock passed / 1440) x.date) ++ time_digits (minute_of x.clock passed)
 
--- what tells the event of this number from all others
-unfoldable pub uid_of : Setting → ℕ → List ℕ
-uid_of x number = date_text x.date ++ codes "-" ++ decimal number ++ codes "-" ++ encode_lower x.mark
+-- two shifts have one group and one word
+abbrev pub is_same : Shift → Shift → Bool
+is_same s t = nat_eq s.group t.group && bytes_eq s.word t.word
+
+-- the number of a shift among those of its group and its word, where these shifts stand before it
+abbrev pub number_among : List Shift → Shift → ℕ
+number_among before s = count_by (λ (t : Shift). is_same t s) before + 1
+
+-- what tells the shifts of a group and a word from those of others, under a title
+abbrev pub shift_mark : Instance → Labels → Shift → List ℕ
+shift_mark i d s = mark_of d.title (group_name i s.group) s.word
+
+-- the same of an event that stands for no shift
+abbrev pub empty_mark : Labels → List ℕ
+empty_mark d = mark_of d.title [] []
+
+-- what tells the event of this number and this mark from all others
+unfoldable pub uid_of : Setting → ℕ → List ℕ → List ℕ
+uid_of x number mark = date_text x.date ++ codes "-" ++ decimal number ++ codes "-" ++ encode_lower mark
     ++ codes "@roster"
 
 unfoldable pub stamp_of : Setting → List ℕ
@@ -76,9 +95,9 @@ unfoldable pub description_of : List CodeDef → Labels → Clock → Stretch �
 description_of cs d c t word = flat_map (piece_text cs d c t) (pieces_of word)
 
 -- the lines that begin an event
-unfoldable pub head_lines : Setting → ℕ → List (List ℕ)
-head_lines x number =
-    property (codes "BEGIN") (codes "VEVENT") ∷ property (codes "UID") (uid_of x number)
+unfoldable pub head_lines : Setting → ℕ → List ℕ → List (List ℕ)
+head_lines x number mark =
+    property (codes "BEGIN") (codes "VEVENT") ∷ property (codes "UID") (uid_of x number mark)
     ∷ property (codes "DTSTAMP") (stamp_of x) ∷ []
 
 -- when a shift begins and ends
@@ -97,21 +116,26 @@ description_line i d c s t =
 unfoldable pub end_line : List ℕ
 end_line = property (codes "END") (codes "VEVENT")
 
--- the event of a shift of this number, which works in the stretch
-abbrev pub event_in : Instance → Labels → Setting → ℕ → Shift → Option Stretch → List (List ℕ)
-event_in i d x number s None = []
-event_in i d x number s (Some t) =
-    head_lines x number ++ time_lines x t ++ summary_line i d number s ∷ description_line i d x.clock s t
-    ∷ end_line ∷ []
+-- the event of a shift behind these, which works in the stretch
+abbrev pub event_in : Instance → Labels → Setting → List Shift → Shift → Option Stretch → List (List ℕ)
+event_in i d x before s None = []
+event_in i d x before s (Some t) =
+    head_lines x (number_among before s) (shift_mark i d s) ++ time_lines x t
+    ++ summary_line i d (length before + 1) s ∷ description_line i d x.clock s t ∷ end_line ∷ []
 
--- the event of a shift of this number, or nothing where it has no work
-abbrev pub shift_event : Instance → Labels → Setting → ℕ → Shift → List (List ℕ)
-shift_event i d x number s = event_in i d x number s (stretch_of i.grammar.codes s.word)
+-- the event of a shift behind these, or nothing where it has no work
+abbrev pub shift_event : Instance → Labels → Setting → List Shift → Shift → List (List ℕ)
+shift_event i d x before s = event_in i d x before s (stretch_of i.grammar.codes s.word)
 
--- the events of shifts, of which the first has this number
-abbrev pub events_from : Instance → Labels → Setting → ℕ → List Shift → List (List ℕ)
-events_from i d x number [] = []
-events_from i d x number (s ∷ ss) = shift_event i d x number s ++ events_from i d x (number + 1) ss
+-- the events of the last shifts of these, from a place on
+abbrev pub events_from : Instance → Labels → Setting → List Shift → ℕ → List Shift → List (List ℕ)
+events_from i d x shifts place [] = []
+events_from i d x shifts place (s ∷ ss) =
+    shift_event i d x (take place shifts) s ++ events_from i d x shifts (place + 1) ss
+
+-- the events of shifts
+abbrev pub events_of : Instance → Labels → Setting → List Shift → List (List ℕ)
+events_of i d x shifts = events_from i d x shifts 0 shifts
 
 -- that an event takes the whole day, and that there is no shift
 unfoldable pub whole_day_lines : Setting → List (List ℕ)
@@ -119,9 +143,9 @@ whole_day_lines x =
     property (codes "DTSTART;VALUE=DATE") (date_text x.date) ∷ property (codes "SUMMARY") (codes "no shifts") ∷ []
 
 -- an event of the whole day, where no shift works
-abbrev pub empty_day : Setting → List (List ℕ)
-empty_day x = head_lines x 0 ++ whole_day_lines x ++ end_line ∷ []
+abbrev pub empty_day : Labels → Setting → List (List ℕ)
+empty_day d x = head_lines x 0 (empty_mark d) ++ whole_day_lines x ++ end_line ∷ []
 
 -- events, or that of the whole day where there is none
-unfoldable pub events_or : Setting → List (List ℕ) → List (List ℕ)
-events_or x events = if nat_eq (length events) 0 then empty_day x else events
+unfoldable pub events_or : Labels → Setting → List (List ℕ) → List (List ℕ)
+events_or d x events = if nat_eq (length events) 0 then empty_day d x else events

@@ -1,7 +1,7 @@
 ghost use Rattle.std.specs.Prelude.{◌≡◌, ◌≤◌, ◌++◌, All, IfOk, OnOk, length};
 ghost use Rattle.roster_model.specs.SoundInstance.{IsSoundInstance};
 ghost use Rattle.roster_csv.specs.roster_calendar.Calendars.{calendar_of, first_lines, last_lines};
-ghost use Rattle.roster_csv.specs.roster_calendar.Events.{events_from, events_or};
+ghost use Rattle.roster_csv.specs.roster_calendar.Events.{events_of, events_or};
 
 use crate::roster_calendar::event::{add_empty_day, add_property, add_shift};
 use crate::roster_calendar::fold::put_lines;
@@ -41,24 +41,37 @@ fn events_of(
     requires codes { length instance.now.grammar.codes ≤ 32 }
     requires few { length shifts.now ≤ 64 }
     requires short { All (λ s. length s.word ≤ 96) shifts.now }
-    ensures { IfOk result (λ lines. lines ≡ events_from instance.now labels.now setting.now 1 shifts.now) }
+    ensures { IfOk result (λ lines. lines ≡ events_of instance.now labels.now setting.now shifts.now) }
 {
     let mut lines = List::new(alloc);
-    let mut number: u64 = 1;
+    let mut place: usize = 0;
     for shift in shifts {
-        add_shift(alloc, &mut lines, instance, labels, setting, number, shift)?;
-        number += 1;
+        add_shift(
+            alloc,
+            &mut lines,
+            instance,
+            labels,
+            setting,
+            &shifts[..place],
+            shift,
+        )?;
+        place += 1;
     }
     Ok(lines)
 }
 
 // Appends an event of the whole day, where there is none.
 #[tactic(auto, unfolding(crate::specs::roster_calendar::Events::events_or))]
-fn fill(alloc: Global, lines: &mut List<List<u8>>, setting: &Setting) -> Result<(), Memory>
-    ensures { OnOk result (lines.new ≡ events_or setting.now lines.old) }
+fn fill(
+    alloc: Global,
+    lines: &mut List<List<u8>>,
+    labels: &Labels,
+    setting: &Setting,
+) -> Result<(), Memory>
+    ensures { OnOk result (lines.new ≡ events_or labels.now setting.now lines.old) }
 {
     if lines.len() == 0 {
-        add_empty_day(alloc, lines, setting)
+        add_empty_day(alloc, lines, labels, setting)
     } else {
         Ok(())
     }
@@ -86,7 +99,7 @@ pub fn calendar_of(
 {
     let first = first_lines(alloc)?;
     let mut events = events_of(alloc, instance, labels, setting, shifts)?;
-    fill(alloc, &mut events, setting)?;
+    fill(alloc, &mut events, labels, setting)?;
     let last = last_lines(alloc)?;
     let mut out = List::new(alloc);
     put_lines(&mut out, first.as_slice())?;

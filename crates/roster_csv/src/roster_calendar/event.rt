@@ -1,14 +1,18 @@
-ghost use Rattle.std.specs.Prelude.{◌≡◌, ◌≤◌, ◌+◌, ◌*◌, ◌^◌, ◌++◌, [], ◌∷◌, IfOk, OnOk, length};
+ghost use Rattle.std.specs.Prelude.{◌≡◌, ◌≤◌, ◌+◌, ◌*◌, ◌^◌, ◌++◌, [], ◌∷◌, IfOk, OnOk, count_by, length};
 ghost use Rattle.roster_csv.specs.roster_calendar.Dates.{date_text};
 ghost use Rattle.roster_csv.specs.roster_calendar.Events.{
   description_line,
   empty_day,
+  empty_mark,
   end_line,
   head_lines,
+  is_same,
   minute_of,
   moment_text,
+  number_among,
   property,
   shift_event,
+  shift_mark,
   stamp_of,
   summary_line,
   time_digits,
@@ -19,9 +23,10 @@ ghost use Rattle.roster_csv.specs.roster_calendar.Events.{
 
 use crate::roster_calendar::date::{Date, day_after, put_date, put_two};
 use crate::roster_calendar::escape::escaped;
-use crate::roster_calendar::mark::put_hexadecimal;
+use crate::roster_calendar::mark::{mark_of, put_hexadecimal};
 use crate::roster_calendar::setting::Setting;
 use crate::roster_calendar::words::{description_of, put_number, summary_of};
+use certificate_text::group_name;
 use page_labels::{Clock, Labels};
 use roster_model::{Instance, List, Memory, Shift};
 use roster_tables::group_called;
@@ -81,17 +86,55 @@ fn moment(alloc: Global, setting: &Setting, passed: u8) -> Result<List<u8>, Memo
     Ok(text)
 }
 
-// Returns what tells the event of this number from all others.
+// Whether two shifts have one group and one word.
+fn is_same(shift: &Shift, other: &Shift) -> bool
+    ensures { result ≡ is_same shift.now other.now }
+{
+    shift.group == other.group && shift.word.as_slice() == other.word.as_slice()
+}
+
+// How many of the shifts have the group and the word of this one.
+fn count_same(shifts: &[Shift], shift: &Shift) -> usize
+    ensures count { result ≡ count_by (λ t. is_same t shift.now) shifts.now }
+    ensures few { result ≤ length shifts.now }
+{
+    shifts.iter().filter(|other| is_same(other, shift)).count()
+}
+
+// Returns the number of a shift among those of its group and its word, where these shifts stand before it.
+fn number_among(before: &[Shift], shift: &Shift) -> u64
+    requires { length before.now ≤ 64 }
+    ensures { result ≡ number_among before.now shift.now }
+{
+    count_same(before, shift) as u64 + 1
+}
+
+// Returns what tells the shifts of a group and a word from those of others, under a title.
+fn shift_mark(instance: &Instance, labels: &Labels, shift: &Shift) -> [u8; 16]
+    ensures { result ≡ shift_mark instance.now labels.now shift.now }
+{
+    let group = group_name(instance, shift.group);
+    mark_of(labels.title.as_slice(), group, shift.word.as_slice())
+}
+
+// Returns the same of an event that stands for no shift.
+fn empty_mark(labels: &Labels) -> [u8; 16]
+    ensures { result ≡ empty_mark labels.now }
+{
+    mark_of(labels.title.as_slice(), b"", b"")
+}
+
+// Returns what tells the event of this number and this mark from all others.
 #[tactic(auto, unfolding(crate::specs::roster_calendar::Events::uid_of))]
-fn uid_of(alloc: Global, setting: &Setting, number: u64) -> Result<List<u8>, Memory>
-    ensures { IfOk result (λ text. text ≡ uid_of setting.now number) }
+fn uid_of(alloc: Global, setting: &Setting, number: u64, mark: [u8; 16]) -> Result<List<u8>, Memory>
+    ensures { IfOk result (λ text. text ≡ uid_of setting.now number mark) }
 {
     let mut text = List::new(alloc);
     put_date(&mut text, setting.date)?;
     put(&mut text, b"-")?;
     put_number(&mut text, number)?;
     put(&mut text, b"-")?;
-    put_hexadecimal(alloc, &mut text, &setting.mark)?;
+    put_hexadecimal(alloc, &mut text, &mark)?;
     put(&mut text, b"@roster")?;
     Ok(text)
 }
@@ -122,10 +165,11 @@ fn add_head(
     lines: &mut List<List<u8>>,
     setting: &Setting,
     number: u64,
+    mark: [u8; 16],
 ) -> Result<(), Memory>
-    ensures { OnOk result (lines.new ≡ lines.old ++ head_lines setting.now number) }
+    ensures { OnOk result (lines.new ≡ lines.old ++ head_lines setting.now number mark) }
 {
-    let uid = uid_of(alloc, setting, number)?;
+    let uid = uid_of(alloc, setting, number, mark)?;
     let stamp = stamp_of(alloc, setting)?;
     add_property(alloc, lines, b"BEGIN", b"VEVENT")?;
     add_property(alloc, lines, b"UID", uid.as_slice())?;
@@ -196,7 +240,7 @@ fn add_end(alloc: Global, lines: &mut List<List<u8>>) -> Result<(), Memory>
     add_property(alloc, lines, b"END", b"VEVENT")
 }
 
-/// Appends the event of the shift of this number, from 1, where it works.
+/// Appends the event of a shift behind at most 64 shifts, where it works.
 ///
 /// # Errors
 ///
@@ -207,20 +251,30 @@ pub(crate) fn add_shift(
     instance: &Instance,
     labels: &Labels,
     setting: &Setting,
-    number: u64,
+    before: &[Shift],
     shift: &Shift,
 ) -> Result<(), Memory>
     requires codes { length instance.now.grammar.codes ≤ 32 }
+    requires few { length before.now ≤ 64 }
     requires short { length shift.now.word ≤ 96 }
-    ensures { OnOk result (lines.new ≡ lines.old ++ shift_event instance.now labels.now setting.now number shift.now) }
+    ensures { OnOk result (lines.new
+        ≡ lines.old ++ shift_event instance.now labels.now setting.now before.now shift.now) }
 {
     let codes = instance.grammar.codes.as_slice();
     let Some(stretch) = stretch_of(codes, shift.word.as_slice()) else {
         return Ok(());
     };
-    add_head(alloc, lines, setting, number)?;
+    let mark = shift_mark(instance, labels, shift);
+    add_head(alloc, lines, setting, number_among(before, shift), mark)?;
     add_times(alloc, lines, setting, stretch)?;
-    add_summary(alloc, lines, instance, labels, number, shift)?;
+    add_summary(
+        alloc,
+        lines,
+        instance,
+        labels,
+        before.len() as u64 + 1,
+        shift,
+    )?;
     add_description(
         alloc,
         lines,
@@ -251,11 +305,12 @@ fn add_whole_day(alloc: Global, lines: &mut List<List<u8>>, setting: &Setting) -
 pub(crate) fn add_empty_day(
     alloc: Global,
     lines: &mut List<List<u8>>,
+    labels: &Labels,
     setting: &Setting,
 ) -> Result<(), Memory>
-    ensures { OnOk result (lines.new ≡ lines.old ++ empty_day setting.now) }
+    ensures { OnOk result (lines.new ≡ lines.old ++ empty_day labels.now setting.now) }
 {
-    add_head(alloc, lines, setting, 0)?;
+    add_head(alloc, lines, setting, 0, empty_mark(labels))?;
     add_whole_day(alloc, lines, setting)?;
     add_end(alloc, lines)
 }

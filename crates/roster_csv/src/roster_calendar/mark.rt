@@ -16,14 +16,14 @@ fn add_text(hasher: &mut Sha256, text: &[u8])
     hasher.update(text);
 }
 
-// Returns the digest of a rules text, a demand text and a proof text.
-fn digest_of(rules: &[u8], demand: &[u8], proof: &[u8]) -> [u8; 32]
-    ensures { result ≡ digest_of rules.now demand.now proof.now }
+// Returns the digest of a title, the name of a group and a word.
+fn digest_of(title: &[u8], group: &[u8], word: &[u8]) -> [u8; 32]
+    ensures { result ≡ digest_of title.now group.now word.now }
 {
     let mut hasher = Sha256::new();
-    add_text(&mut hasher, rules);
-    add_text(&mut hasher, demand);
-    add_text(&mut hasher, proof);
+    add_text(&mut hasher, title);
+    add_text(&mut hasher, group);
+    add_text(&mut hasher, word);
     hasher.finalize()
 }
 
@@ -41,12 +41,12 @@ pub(crate) fn put_hexadecimal(alloc: Global, out: &mut List<u8>, bytes: &[u8]) -
     }
 }
 
-/// Returns what tells the calendars of different texts apart: the first 16 bytes of the SHA-256 over the rules text,
-/// the demand text and the proof text, each behind its length in 8 bytes, big end first.
-pub fn mark_of(rules: &[u8], demand: &[u8], proof: &[u8]) -> [u8; 16]
-    ensures { result ≡ mark_of rules.now demand.now proof.now }
+/// Returns what tells events apart: the first 16 bytes of the SHA-256 over a title, the name of a group and
+/// a word, each behind its length in 8 bytes, big end first.
+pub(crate) fn mark_of(title: &[u8], group: &[u8], word: &[u8]) -> [u8; 16]
+    ensures { result ≡ mark_of title.now group.now word.now }
 {
-    let digest = digest_of(rules, demand, proof);
+    let digest = digest_of(title, group, word);
     let mut mark = [0; 16];
     mark.copy_from_slice(&digest[..16]);
     mark

@@ -8,6 +8,4 @@ pub struct Setting {
     pub date: Date,
     /// When the first period begins, and how long a period is.
     pub clock: Clock,
-    /// What tells the events from those of other texts, as `mark_of` makes it.
-    pub mark: [u8; 16],
 }
