@@ -61,8 +61,8 @@ pub trait Shelf {
     ///
     /// # Errors
     ///
-    /// `Failed` where the name may not be stored under, or where the outside fails; it is else untold what
-    /// the name holds then. `Memory` where memory runs out, and all is as before.
+    /// `Failed` where the name may not be stored under, or where the outside fails, which the count of faults
+    /// tells; `Memory` where memory runs out. What is held is as before then.
     fn store(&mut self, name: &str, bytes: &[u8]) -> Result<(), ShelfFault>
         ensures stored { OnOk result (IfSome (told self.old).held
             (λ h. (told self.new).held ≡ Some (fin.insert h name.now bytes.now))) }
@@ -74,6 +74,7 @@ pub trait Shelf {
         ensures others { IfSome (told self.old).held
             (λ h. IsSomeAnd (told self.new).held (AgreesElsewhere name.now h)) }
         ensures memory { result ≡ Err ShelfFault.Memory → (told self.new).held ≡ (told self.old).held }
+        ensures failed { result ≡ Err ShelfFault.Failed → (told self.new).held ≡ (told self.old).held }
         ensures said_stays { (told self.new).said ≡ (told self.old).said }
 
         ensures cause { HasCause (told self.old).faults (told self.new).faults result }
