@@ -26,7 +26,7 @@ pub proof-alike : (i : Instance) (text : List ℕ) → proof_of i (front_to 1073
 unfolding proof_of pieces_of
 proof-alike i text = ap (λ (r : Reader). collected no_cert (pieces_left i r [])) (reader-alike text)
 
-no_lines : Reader
+abbrev no_lines : Reader
 no_lines = record { left = []; stage = TooLong; nodes_before = 0 }
 
 long-reader : (text : List ℕ) → 1073741824 < length text → text_reader text ≡ no_lines

@@ -58,7 +58,15 @@ labels-alike i text = alike 65536 65536 refusal reading text (omega arith)
 
 pub old-alike : (i : Instance) (text : List ℕ) → old_of i (front_to 1073741824 text) ≡ old_of i text
 unfolding old_of
-old-alike i text = rw (report-alike text, stated-alike i text, proof-alike i text) refl
+old-alike i text =
+    ap (λ (b : Bool). pick b (roster_of i (front_to 1073741824 text)) (proof_of i (front_to 1073741824 text)))
+    (report-alike text)
+    ∙ ap (λ (r : Result (List Shift) RosterFault). pick (is_report text) r (proof_of i (front_to 1073741824 text)))
+    (stated-alike i text)
+    ∙ ap (λ (p : Result Cert ProofFault). pick (is_report text) (roster_of i text) p) (proof-alike i text)
+  where
+    pick : Bool → Result (List Shift) RosterFault → Result Cert ProofFault → Result (List Shift) OldFault
+    pick b r p = cond b (of_report i r) (of_proof i p)
 
 -- the third text
 module _ (i : Instance) (text : List ℕ) where

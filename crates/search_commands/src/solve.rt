@@ -364,7 +364,8 @@ fn solve_rules_text<S: Shelf, M: Master, W: Watch>(
 /// there are too many arcs. Where the name of an old certificate is said, its text is fetched and read third, and what
 /// is found costs no more than its roster, if that is allowed on this day.
 /// The texts are fetched and read in this order, before anything is stored. Where a
-/// text that is no certificate stands under the name of the proof, the shelf refuses before the search.
+/// text that is no certificate stands under the name of the proof, the shelf refuses before the search; where it
+/// refuses the certificate after the search, the report is said all the same, with status 6.
 pub fn solve<S: Shelf, M: Master, W: Watch>(
     alloc: Global,
     shelf: &mut S,
