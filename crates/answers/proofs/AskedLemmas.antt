@@ -18,13 +18,14 @@ use Rattle.rules_text.specs.FaultLine.{fault_line}
 use Rattle.rules_text.specs.RulesOf.{IsReading}
 use Rattle.rules_text.specs.declared.fault.RulesFault.{RulesFault}
 use Rattle.rules_text.specs.declared.fault.RulesFault.TheVariants as rules_faults
-use Rattle.shelf.specs.Shelf.{Texts, Told}
+use Rattle.shelf.specs.Shelf.{Texts, Told, front_to}
 use Rattle.answers.specs.declared.answer.Answer.{Answer}
 use Rattle.answers.specs.Asked.{CertAnswers, ProofAnswers, TextAnswers, AnswersThird, DemandAnswers, AnswersDemand, RulesAnswers, AnswersTexts, TextsAnswers}
 use Rattle.answers.specs.Asked as asked
-use Rattle.answers.specs.Fetch.{IsAnswer, IsFetch, NoAnswer}
+use Rattle.answers.specs.Fetch.{IsAnswer, IsFetchTo, NoAnswer}
 use Rattle.answers.specs.Reader.{IsReader, HoldsAll}
 use Rattle.answers.proofs.Readers.{widen, after_fetch, one_held}
+use Rattle.answers.proofs.AskedFronts.{demand-whole, rules-whole}
 
 pub no_names : (held : Option Texts) (names : List (List ℕ)) → HoldsAll held names → HoldsAll held []
 no_names None names h = absurd h
@@ -100,23 +101,54 @@ module _ (A : TextAnswers) (before after : Told) (status : ℕ) where
       widen (DemandAnswers A before.held g demand name) (TextsAnswers A before.held rules demand name)
       (λ s o a. asked.TextsAnswers.accepted g s o (record { reading = reading; sound = sound }) a) (name ∷ []) (name ∷ []) before after status (λ h. h) reader
 
+  -- a third text that was fetched, and what was said to its first bytes
+  pub third-read : (most : ℕ) → ((i : Instance) (text : List ℕ) (s : ℕ) (o : List ℕ) → A i (front_to most text) s o → A i text s o)
+      → (i : Instance) (name front : List ℕ) (middle : Told) (r : Result Answer Memory) → IsFetchTo most name before middle front → IfOk r (λ a. A i front a.status a.output)
+      → IsReader (IsAnswer r) [] middle after status → IsReader (AnswersThird A before.held i name) (name ∷ []) before after status
+  third-read most fronts i name front middle r f h reader =
+      after_fetch (AnswersThird A before.held i name) name [] before middle after status f.text f.fetch
+      (widen (IsAnswer r) (AnswersThird A before.held i name) (each r h) [] [] middle after status (λ k. k) reader)
+    where
+      each : (r : Result Answer Memory) → IfOk r (λ a. A i front a.status a.output) → (s : ℕ) (o : List ℕ) → IsAnswer r s o → AnswersThird A before.held i name s o
+      each (Err e) h s o k = absurd k
+      each (Ok a) h s o k = record {
+        text = f.text;
+        holds = f.fetch.holds;
+        answers = fronts i f.text s o (subst (λ (t : List ℕ). A i t s o) f.front_is (rw (k.0, k.1) h));
+      }
+
   -- a demand text that was fetched
-  pub demand-read : (g : Grammar) (name proof_name text : List ℕ) (middle : Told) → IsFetch name before middle text
-      → IsReader (DemandAnswers A middle.held g text proof_name) (proof_name ∷ []) middle after status
+  pub demand-read : (g : Grammar) (name proof_name front : List ℕ) (middle : Told) → IsFetchTo 1048576 name before middle front
+      → IsReader (DemandAnswers A middle.held g front proof_name) (proof_name ∷ []) middle after status
       → IsReader (AnswersDemand A before.held g name proof_name) (name ∷ proof_name ∷ []) before after status
-  demand-read g name proof_name text middle f reader =
-      after_fetch (AnswersDemand A before.held g name proof_name) name (proof_name ∷ []) before middle after status text f
-      (widen (DemandAnswers A middle.held g text proof_name) (AnswersDemand A before.held g name proof_name)
-      (λ s o a. record { text = text; holds = f.holds; answers = subst (λ (h : Option Texts). DemandAnswers A h g text proof_name s o) f.held a }) (proof_name ∷ []) (proof_name ∷ []) middle after status (λ h. h) reader)
+  demand-read g name proof_name front middle f reader =
+      after_fetch (AnswersDemand A before.held g name proof_name) name (proof_name ∷ []) before middle after status f.text f.fetch
+      (widen (DemandAnswers A middle.held g front proof_name) (AnswersDemand A before.held g name proof_name) each (proof_name ∷ []) (proof_name ∷ []) middle after status (λ h. h) reader)
+    where
+      each : (s : ℕ) (o : List ℕ) → DemandAnswers A middle.held g front proof_name s o → AnswersDemand A before.held g name proof_name s o
+      each s o a = record {
+        text = f.text;
+        holds = f.fetch.holds;
+        answers = demand-whole A before.held g f.text proof_name s o
+            (subst (λ (t : List ℕ). DemandAnswers A before.held g t proof_name s o) f.front_is (subst (λ (h : Option Texts). DemandAnswers A h g front proof_name s o) f.fetch.held a));
+      }
 
   -- a rules text that was fetched
-  pub rules-read : (name demand_name proof_name text : List ℕ) (middle : Told) → IsFetch name before middle text
-      → IsReader (RulesAnswers A middle.held text demand_name proof_name) (demand_name ∷ proof_name ∷ []) middle after status
+  pub rules-read : (name demand_name proof_name front : List ℕ) (middle : Told) → IsFetchTo 1048576 name before middle front
+      → IsReader (RulesAnswers A middle.held front demand_name proof_name) (demand_name ∷ proof_name ∷ []) middle after status
       → IsReader (AnswersTexts A before.held name demand_name proof_name) (name ∷ demand_name ∷ proof_name ∷ []) before after status
-  rules-read name demand_name proof_name text middle f reader =
-      after_fetch (AnswersTexts A before.held name demand_name proof_name) name (demand_name ∷ proof_name ∷ []) before middle after status text f
-      (widen (RulesAnswers A middle.held text demand_name proof_name) (AnswersTexts A before.held name demand_name proof_name)
-      (λ s o a. record { text = text; holds = f.holds; answers = subst (λ (h : Option Texts). RulesAnswers A h text demand_name proof_name s o) f.held a }) (demand_name ∷ proof_name ∷ []) (demand_name ∷ proof_name ∷ []) middle after status (λ h. h) reader)
+  rules-read name demand_name proof_name front middle f reader =
+      after_fetch (AnswersTexts A before.held name demand_name proof_name) name (demand_name ∷ proof_name ∷ []) before middle after status f.text f.fetch
+      (widen (RulesAnswers A middle.held front demand_name proof_name) (AnswersTexts A before.held name demand_name proof_name) each
+      (demand_name ∷ proof_name ∷ []) (demand_name ∷ proof_name ∷ []) middle after status (λ h. h) reader)
+    where
+      each : (s : ℕ) (o : List ℕ) → RulesAnswers A middle.held front demand_name proof_name s o → AnswersTexts A before.held name demand_name proof_name s o
+      each s o a = record {
+        text = f.text;
+        holds = f.fetch.holds;
+        answers = rules-whole A before.held f.text demand_name proof_name s o
+            (subst (λ (t : List ℕ). RulesAnswers A before.held t demand_name proof_name s o) f.front_is (subst (λ (h : Option Texts). RulesAnswers A h front demand_name proof_name s o) f.fetch.held a));
+      }
 
 -- a text that was not fetched
 pub unread : (B : ℕ → List ℕ → Type 0) (name : List ℕ) (names : List (List ℕ)) (before after : Told) (status : ℕ) → IsReader NoAnswer (name ∷ []) before after status → IsReader B (name ∷ names) before after status

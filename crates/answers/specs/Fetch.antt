@@ -3,7 +3,7 @@ use Rattle.std.specs.Prelude.{ℕ, ◌≡◌, ◌≤◌, IsTrue, IfSome, IsSome,
 use Rattle.std.specs.FinMap as fin
 use Rattle.roster_model.specs.declared.memory.Memory.{Memory}
 use Rattle.answers.specs.declared.answer.Answer.{Answer}
-use Rattle.shelf.specs.Shelf.{Told}
+use Rattle.shelf.specs.Shelf.{Told, front_to}
 use Rattle.answers.specs.Reader.{Holds}
 
 -- a text was fetched, and nothing else was done
@@ -15,6 +15,12 @@ pub record IsFetch (name : List ℕ) (before after : Told) (text : List ℕ) : T
   pub stays_steady : IsTrue before.steady → IsTrue after.steady
   pub quiet : IsTrue before.steady → IfSome before.held
       (λ texts. IsSome (fin.get texts name) → after.faults ≡ before.faults)
+
+-- the first bytes of a text were fetched, up to one above a limit, and nothing else was done
+pub record IsFetchTo (most : ℕ) (name : List ℕ) (before after : Told) (front : List ℕ) : Type 0 where
+  pub text : List ℕ
+  pub fetch : IsFetch name before after text
+  pub front_is : front ≡ front_to most text
 
 -- a command that was refused has no answer
 abbrev pub NoAnswer : ℕ → List ℕ → Type 0

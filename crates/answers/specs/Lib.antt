@@ -6,3 +6,7 @@ pub mod Statuses
 pub mod Says
 pub mod RulesCommands
 pub mod TextCommands
+pub mod Fronts
+pub mod RulesFronts
+pub mod DemandFronts
+pub mod ProofFronts

@@ -7,6 +7,7 @@ ghost use Rattle.answers.specs.TextCommands.{TextCommand};
 
 use crate::answer::Answer;
 use crate::fetch::{fetched, say_answer_to};
+use crate::limits::{MOST_DEMAND, MOST_RULES};
 use crate::question::Question;
 use crate::refusals::{demand_refusal, rules_refusal};
 use demand_text::read_demand;
@@ -27,12 +28,13 @@ fn ask_third<S: Shelf, Q: Question>(
     ensures { IsReader (AnswersThird (Q.answers question.now) (S.told shelf.old).held instance.now third.now)
         (third.now ∷ []) (S.told shelf.old) (S.told shelf.new) result }
 {
-    let text = match fetched(alloc, shelf, third) {
-        Ok(text) => text,
-        Err(status) => return status,
-    };
-    let text = text.as_slice();
-    say_answer_to(shelf, text, question.answer(alloc, instance, text))
+    match fetched(alloc, shelf, third, question.most()) {
+        Ok(text) => {
+            let text = text.as_slice();
+            say_answer_to(shelf, text, question.answer(alloc, instance, text))
+        }
+        Err(status) => status,
+    }
 }
 
 // Asks something of the third text under a name by a demand text.
@@ -89,7 +91,7 @@ fn ask_demand<S: Shelf, Q: Question>(
         grammar demand.now third.now)
         (demand.now ∷ third.now ∷ []) (S.told shelf.old) (S.told shelf.new) result }
 {
-    match fetched(alloc, shelf, demand) {
+    match fetched(alloc, shelf, demand, MOST_DEMAND) {
         Ok(text) => ask_demand_text(alloc, shelf, grammar, text.as_slice(), third, question),
         Err(status) => status,
     }
@@ -129,7 +131,7 @@ pub fn ask<S: Shelf, Q: Question>(
         rules.now demand.now third.now)
         (rules.now ∷ demand.now ∷ third.now ∷ []) (S.told shelf.old) (S.told shelf.new) result }
 {
-    match fetched(alloc, shelf, rules) {
+    match fetched(alloc, shelf, rules, MOST_RULES) {
         Ok(text) => ask_rules_text(alloc, shelf, text.as_slice(), demand, third, question),
         Err(status) => status,
     }

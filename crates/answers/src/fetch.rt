@@ -1,5 +1,5 @@
 ghost use Rattle.std.specs.Prelude.{◌≢◌, ◌∷◌, [], IfOk, IfErr};
-ghost use Rattle.answers.specs.Fetch.{IsAnswer, IsFetch, NoAnswer};
+ghost use Rattle.answers.specs.Fetch.{IsAnswer, IsFetchTo, NoAnswer};
 ghost use Rattle.answers.specs.Reader.{IsReader};
 
 use crate::answer::Answer;
@@ -9,18 +9,19 @@ use roster_model::Memory;
 use shelf::Shelf;
 use std::alloc::Global;
 
-/// Returns the text under a name, or the status of a refusal.
+/// Returns the first bytes of the text under a name, up to one above the most bytes that such a text may have, or
+/// the status of a refusal. So a text that is too long is read no further than shows it.
 ///
 /// # Errors
 ///
 /// The status of the refusal: 6 where the shelf refuses the call, and 7 where memory runs out.
-pub fn fetched<S: Shelf>(alloc: Global, shelf: &mut S, name: &str) -> Result<Vec<u8>, u8>
-    ensures text { IfOk result (λ text. IsFetch name.now (S.told shelf.old) (S.told shelf.new) text.items) }
+pub fn fetched<S: Shelf>(alloc: Global, shelf: &mut S, name: &str, most: usize) -> Result<Vec<u8>, u8>
+    ensures text { IfOk result (λ text. IsFetchTo most name.now (S.told shelf.old) (S.told shelf.new) text.items) }
     ensures refusal { IfErr result (λ status. IsReader NoAnswer (name.now ∷ []) (S.told shelf.old)
         (S.told shelf.new) status) }
 {
     let mut text = Vec::new(alloc);
-    if let Err(fault) = shelf.fetch(name, &mut text) {
+    if let Err(fault) = shelf.fetch(name, most, &mut text) {
         return Err(status_of(fault));
     }
     Ok(text)

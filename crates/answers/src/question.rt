@@ -1,7 +1,8 @@
-ghost use Rattle.std.specs.Prelude.{ℕ, List, ◌≢◌, IfOk};
+ghost use Rattle.std.specs.Prelude.{ℕ, List, ◌≡◌, ◌≢◌, IfOk};
 ghost use Rattle.roster_model.specs.declared.instance.Instance.{Instance as Day};
 ghost use Rattle.roster_model.specs.SoundInstance.{IsSoundInstance};
 ghost use Rattle.answers.specs.Asked.{TextAnswers};
+ghost use Rattle.shelf.specs.Shelf.{front_to};
 
 use crate::answer::Answer;
 use roster_model::{Instance, Memory};
@@ -11,6 +12,13 @@ use std::alloc::Global;
 pub trait Question {
     // The answers to each text by an instance.
     ghost answers: { Self → TextAnswers };
+
+    // How many bytes a text has at most.
+    ghost limit: { Self → ℕ };
+
+    /// Returns how many bytes a text has at most; a longer one is refused, whatever its bytes are.
+    fn most(&self) -> usize
+        ensures { result ≡ limit self.now };
 
     /// Answers to a text, or says why it is refused.
     ///
@@ -24,4 +32,8 @@ pub trait Question {
     // No answer has the status of a refusal.
     ghost ends: { (q : Self) (i : Day) (text : List ℕ) (status : ℕ) (output : List ℕ)
         → answers q i text status output → (status ≢ 6) × (status ≢ 7) };
+
+    // What is answered to the first bytes of a text, up to one above the limit, is an answer to the text.
+    ghost fronts: { (q : Self) (i : Day) (text : List ℕ) (status : ℕ) (output : List ℕ)
+        → answers q i (front_to (limit q) text) status output → answers q i text status output };
 }

@@ -63,7 +63,8 @@ fn refuse_words<S: Shelf>(shelf: &mut S, words: &[String]) -> u8
 /// that, where this is allowed on the day. A command says its whole
 /// answer at once; `solve` and `make` have stored the certificate under PROOF before, and `curve` those of its
 /// points under PROOF, a full stop and the head count. Status 6 or 7 ends it
-/// at the call that was refused. But for these two any two answers over the same texts have the same status and say
+/// at the call that was refused, but where `solve` and `make` are refused to store the certificate: then they
+/// say their answer all the same, with status 6. But for these two any two answers over the same texts have the same status and say
 /// the same, save that `explain` may print another tree of the same cost, and that a search may use up its turns;
 /// two searches with status 0 say the same cost and bound, and may find different rosters and process different
 /// nodes.

@@ -5,7 +5,7 @@ use std::alloc::{AllocError, Global};
 use std::test::Fail;
 
 /// Words, and behind `>` the names of their calls before the last one, which says the answer; `!` stands
-/// before a name that is stored under.
+/// before a name that is stored under, and `+` where the answer is said all the same after that call was refused.
 const CALLS: &str = "explain g1 .aa. > g1
 rank g1 10 > g1
 next g1 .aa > g1
@@ -14,9 +14,9 @@ check g2 q2 halves > g2 q2 halves
 value g1 q1 pair > g1 q1 pair
 rest g1 q1 pair > g1 q1 pair
 reuse g2 two_each halves > g2 two_each halves
-solve g1 q1 p 10 > g1 q1 !p
-solve g2 q2 p 10 halves > g2 q2 halves !p
-make 7 p 1 > !p
+solve g1 q1 p 10 > g1 q1 +p
+solve g2 q2 p 10 halves > g2 q2 halves +p
+make 7 p 1 > +p
 curve g1 q1 p 10 > g1 q1 !p.1 !p.2
 ";
 
@@ -60,12 +60,20 @@ fn holds(refused: &Outcome, whole: &Outcome, name: &str, is_stored: bool) -> boo
     }
 }
 
+/// The name that a call stores under, if it does.
+fn stored_name(call: &str) -> Option<&str> {
+    match call.strip_prefix('!') {
+        Some(name) => Some(name),
+        None => call.strip_prefix('+'),
+    }
+}
+
 /// Whether each name that is stored under does.
 fn hold(refused: &Outcome, whole: &Outcome, calls: &str, failing: u32) -> bool {
     let mut number = 0u32;
     for call in calls.split_whitespace() {
         number = number.saturating_add(1);
-        if let Some(name) = call.strip_prefix('!') {
+        if let Some(name) = stored_name(call) {
             if !holds(refused, whole, name, number < failing) {
                 return false;
             }
@@ -79,7 +87,7 @@ fn keeps(run: &Outcome, calls: &str) -> bool {
     STORED.iter().all(|name| {
         calls
             .split_whitespace()
-            .any(|call| call.strip_prefix('!') == Some(*name))
+            .any(|call| stored_name(call) == Some(*name))
             || run.shelf.text(name) == Some(OLD)
     })
 }
@@ -109,13 +117,65 @@ fn is_unmoved(alloc: Global, words: &str, whole: &Outcome, failing: u32) -> Resu
     Ok(end_alike(&other, whole))
 }
 
-/// Whether the run ends at each of its calls, where that one fails: with nothing said, or with half of the
-/// answer.
+/// Whether a run whose store of this number fails, and what it says behind that too, says half of the answer,
+/// and leaves what the name held.
+fn says_half(
+    alloc: Global,
+    words: &str,
+    calls: &str,
+    whole: &Outcome,
+    failing: u32,
+) -> Result<bool, Fail> {
+    let refused = run(alloc, words, &[failing, failing.saturating_add(1)])?;
+    let said = whole.shelf.said();
+    Ok(refused.status == 6
+        && refused.shelf.faults() == 2
+        && refused.shelf.said() == &said[..said.len() / 2]
+        && hold(&refused, whole, calls, failing)
+        && keeps(&refused, calls))
+}
+
+/// Whether a run whose call of this number is a store that fails, before the answer is said all the same, says
+/// all of it, and half of it where that fails too.
+fn is_not_lost(
+    alloc: Global,
+    words: &str,
+    calls: &str,
+    whole: &Outcome,
+    failing: u32,
+    name: &str,
+) -> Result<bool, Fail> {
+    Ok(
+        ends_at(alloc, words, calls, whole, failing, name, whole.shelf.said())?
+            && says_half(alloc, words, calls, whole, failing)?,
+    )
+}
+
+/// Whether the run ends at a call, where that one fails: with nothing said, or with all where it is a store of
+/// one certificate.
+fn ends_at_call(
+    alloc: Global,
+    words: &str,
+    calls: &str,
+    whole: &Outcome,
+    failing: u32,
+    call: &str,
+) -> Result<bool, Fail> {
+    match call.strip_prefix('+') {
+        Some(name) => is_not_lost(alloc, words, calls, whole, failing, name),
+        None => {
+            let name = stored_name(call).unwrap_or(call);
+            ends_at(alloc, words, calls, whole, failing, name, b"")
+        }
+    }
+}
+
+/// Whether the run ends at each of its calls, where that one fails: with nothing said, with all where the
+/// call is the store of one certificate, or with half of the answer.
 fn ends_at_each(alloc: Global, words: &str, calls: &str, whole: &Outcome) -> Result<bool, Fail> {
     let mut number = 1u32;
     for call in calls.split_whitespace() {
-        let name = call.strip_prefix('!').unwrap_or(call);
-        if !ends_at(alloc, words, calls, whole, number, name, b"")? {
+        if !ends_at_call(alloc, words, calls, whole, number, call)? {
             return Ok(false);
         }
         number = number.saturating_add(1);
@@ -206,4 +266,44 @@ demand: line 1: unknown line
 #[test]
 fn a_refused_text_comes_first(rt: HostRuntime) -> Result<(), Fail> {
     have_answers(rt.alloc(), REFUSED)
+}
+
+/// Words of which a text under `long` is a comment of the most bytes and of one byte more, the status, and the
+/// line of a fault: of a text without lines, and of one that is too long.
+const LONG: &str = "explain long a > 3 rules: no periods line
+explain longer a > 3 rules: the text is too long
+solve g1 long p 10 > 4 demand: no heads line
+solve g1 longer p 10 > 4 demand: the text is too long
+value g1 q1 longer > 5 roster: the text is too long
+rest g1 q1 longer > 5 roster: the text is too long
+";
+
+/// Puts a text of the most bytes, and one that is longer.
+fn put_long(alloc: Global, shelf: &mut MemoryShelf) -> Result<(), Fail> {
+    let long = "#".repeat(alloc, 1_048_576)?;
+    shelf.put("long", long.as_bytes())?;
+    let longer = "#".repeat(alloc, 1_048_577)?;
+    shelf.put("longer", longer.as_bytes())?;
+    Ok(())
+}
+
+/// Whether the words end with a status and say a line.
+fn says_line(alloc: Global, words: &str, answer: &str) -> Result<bool, Fail> {
+    let mut shelf = shelf_of(alloc, &[])?;
+    put_long(alloc, &mut shelf)?;
+    let run = run_on(alloc, shelf, words)?;
+    let (status, line) = answer.trim().split_once(' ').unwrap_or((answer, ""));
+    let said = [line, "\n"].concat(alloc)?;
+    Ok(status.parse::<u8>() == Ok(run.status) && run.shelf.said() == said.as_bytes())
+}
+
+#[test]
+fn a_long_text_is_refused(rt: HostRuntime) -> Result<(), Fail> {
+    for line in LONG.lines() {
+        let (words, answer) = line.split_once('>').unwrap_or((line, ""));
+        if !says_line(rt.alloc(), words, answer)? {
+            return Err(Fail::from(line));
+        }
+    }
+    Ok(())
 }

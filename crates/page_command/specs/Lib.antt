@@ -8,6 +8,8 @@ pub mod Old
 pub mod Check
 pub mod Dated
 pub mod Statuses
+pub mod Fronts
+pub mod DatedFronts
 pub mod OnePage
 pub mod Run
 pub mod Asked

@@ -4,7 +4,8 @@ ghost use Rattle.page_command.specs.Check.{AnswersBeside, AnswersBesideRules, An
 
 use crate::check::answer_under;
 use crate::kind::Kind;
-use answers::{Answer, Question, ask_rules_text, fetched};
+use crate::limits::{MOST_LABELS, MOST_OLD};
+use answers::{Answer, MOST_PROOF, MOST_RULES, Question, ask_rules_text, fetched};
 use roster_model::{Instance, Memory};
 use shelf::Shelf;
 use std::alloc::Global;
@@ -20,11 +21,21 @@ impl<'a> Question for Beside<'a> {
     ghost use Rattle.std.specs.Prelude.{Some};
     ghost use Rattle.page_command.specs.Check.{LabelAnswers};
     ghost use Rattle.page_command.specs.Statuses.{label-ends};
+    ghost use Rattle.page_command.specs.Fronts.{label-fronts};
     ghost use Rattle.page_command.specs.declared.kind.Kind.TheVariants.{Page};
 
     ghost answers = { λ q. LabelAnswers Page q.labels.now (Some q.old.now) };
 
+    ghost limit = { λ _. 1073741824 };
+
     ghost ends = { λ q. label-ends Page q.labels.now (Some q.old.now) };
+
+    ghost fronts = { λ q. label-fronts Page q.labels.now (Some q.old.now) };
+
+    // A proof text has at most so many bytes, and a report has no more.
+    fn most(&self) -> usize {
+        MOST_PROOF
+    }
 
     // Says the page, or why it is refused.
     fn answer(&self, alloc: Global, instance: &Instance, text: &[u8]) -> Result<Answer, Memory> {
@@ -48,7 +59,7 @@ fn draw_by_labels<S: Shelf>(
         rules.now labels.now demand.now proof.now old.now)
         (old.now ∷ demand.now ∷ proof.now ∷ []) (S.told shelf.old) (S.told shelf.new) result }
 {
-    match fetched(alloc, shelf, old) {
+    match fetched(alloc, shelf, old, MOST_OLD) {
         Ok(text) => {
             let old = text.as_slice();
             let question = Beside { labels, old };
@@ -72,7 +83,7 @@ fn draw_by_rules<S: Shelf>(
         rules.now demand.now proof.now labels.now old.now)
         (labels.now ∷ old.now ∷ demand.now ∷ proof.now ∷ []) (S.told shelf.old) (S.told shelf.new) result }
 {
-    match fetched(alloc, shelf, labels) {
+    match fetched(alloc, shelf, labels, MOST_LABELS) {
         Ok(text) => draw_by_labels(alloc, shelf, rules, text.as_slice(), demand, proof, old),
         Err(status) => status,
     }
@@ -96,7 +107,7 @@ pub fn draw_beside<S: Shelf>(
         (rules.now ∷ labels.now ∷ old.now ∷ demand.now ∷ proof.now ∷ []) (S.told shelf.old) (S.told shelf.new)
         result }
 {
-    match fetched(alloc, shelf, rules) {
+    match fetched(alloc, shelf, rules, MOST_RULES) {
         Ok(text) => draw_by_rules(alloc, shelf, text.as_slice(), demand, proof, labels, old),
         Err(status) => status,
     }

@@ -13,9 +13,10 @@ ghost use Rattle.page_command.specs.Check.{
 
 use crate::judgement::judgement;
 use crate::kind::Kind;
+use crate::limits::MOST_LABELS;
 use crate::old::{read_old, refused_old};
 use crate::refused::refused_labels;
-use answers::{Answer, Question, ask, ask_rules_text, fetched};
+use answers::{Answer, MOST_PROOF, MOST_RULES, Question, ask, ask_rules_text, fetched};
 use page_labels::{Labels, no_labels, read_labels};
 use roster_model::{Instance, Memory};
 use shelf::Shelf;
@@ -31,11 +32,21 @@ impl Question for Drawing {
     ghost use Rattle.std.specs.Prelude.{None};
     ghost use Rattle.page_command.specs.Report.{RosterAnswers};
     ghost use Rattle.page_command.specs.Statuses.{roster-ends};
+    ghost use Rattle.page_command.specs.Fronts.{roster-fronts};
     ghost use Rattle.page_labels.specs.Labels.{nothing};
 
     ghost answers = { λ q. RosterAnswers q.kind nothing None };
 
+    ghost limit = { λ _. 1073741824 };
+
     ghost ends = { λ q. roster-ends q.kind nothing None };
+
+    ghost fronts = { λ q. roster-fronts q.kind nothing None };
+
+    // A proof text has at most so many bytes, and a report has no more.
+    fn most(&self) -> usize {
+        MOST_PROOF
+    }
 
     // Says what shows the roster, or why it is refused.
     fn answer(&self, alloc: Global, instance: &Instance, text: &[u8]) -> Result<Answer, Memory> {
@@ -131,10 +142,20 @@ impl<'a> Question for Labelled<'a> {
     ghost use Rattle.std.specs.Prelude.{None};
     ghost use Rattle.page_command.specs.Check.{LabelAnswers};
     ghost use Rattle.page_command.specs.Statuses.{label-ends};
+    ghost use Rattle.page_command.specs.Fronts.{label-fronts};
 
     ghost answers = { λ q. LabelAnswers q.kind q.labels.now None };
 
+    ghost limit = { λ _. 1073741824 };
+
     ghost ends = { λ q. label-ends q.kind q.labels.now None };
+
+    ghost fronts = { λ q. label-fronts q.kind q.labels.now None };
+
+    // A proof text has at most so many bytes, and a report has no more.
+    fn most(&self) -> usize {
+        MOST_PROOF
+    }
 
     // Says what shows the roster, or why it is refused.
     fn answer(&self, alloc: Global, instance: &Instance, text: &[u8]) -> Result<Answer, Memory> {
@@ -156,7 +177,7 @@ fn draw_by_rules<S: Shelf>(
     ensures { IsReader (AnswersLabelsText kind (S.told shelf.old).held rules.now demand.now proof.now labels.now)
         (labels.now ∷ demand.now ∷ proof.now ∷ []) (S.told shelf.old) (S.told shelf.new) result }
 {
-    match fetched(alloc, shelf, labels) {
+    match fetched(alloc, shelf, labels, MOST_LABELS) {
         Ok(text) => {
             let labels = text.as_slice();
             let question = Labelled { kind, labels };
@@ -181,7 +202,7 @@ pub fn draw_labelled<S: Shelf>(
     ensures { IsReader (AnswersLabelled kind (S.told shelf.old).held rules.now demand.now proof.now labels.now)
         (rules.now ∷ labels.now ∷ demand.now ∷ proof.now ∷ []) (S.told shelf.old) (S.told shelf.new) result }
 {
-    match fetched(alloc, shelf, rules) {
+    match fetched(alloc, shelf, rules, MOST_RULES) {
         Ok(text) => draw_by_rules(alloc, shelf, kind, text.as_slice(), demand, proof, labels),
         Err(status) => status,
     }

@@ -11,8 +11,9 @@ ghost use Rattle.page_command.specs.Dated.{
 
 use crate::judgement::judgement;
 use crate::kind::Kind;
+use crate::limits::MOST_LABELS;
 use crate::refused::{line_answer, refused_labels};
-use answers::{Answer, Question, ask_texts, fetched};
+use answers::{Answer, MOST_DEMAND, MOST_PROOF, MOST_RULES, Question, ask_texts, fetched};
 use page_labels::{Labels, read_labels};
 use roster_csv::{Date, Setting};
 use roster_model::{Instance, Memory};
@@ -69,10 +70,20 @@ fn calendar_answer(
 impl<'a> Question for Dated<'a> {
     ghost use Rattle.page_command.specs.Dated.{CalendarAnswers};
     ghost use Rattle.page_command.specs.Statuses.{calendar-ends};
+    ghost use Rattle.page_command.specs.DatedFronts.{calendar-fronts};
 
     ghost answers = { λ q. CalendarAnswers q.date q.labels.now };
 
+    ghost limit = { λ _. 1073741824 };
+
     ghost ends = { λ q. calendar-ends q.date q.labels.now };
+
+    ghost fronts = { λ q. calendar-fronts q.date q.labels.now };
+
+    // A proof text has at most so many bytes, and a report has no more.
+    fn most(&self) -> usize {
+        MOST_PROOF
+    }
 
     // Says the calendar of the roster, or why there is none.
     fn answer(&self, alloc: Global, instance: &Instance, text: &[u8]) -> Result<Answer, Memory> {
@@ -93,7 +104,7 @@ fn draw_dated_texts<S: Shelf>(
     ensures { IsReader (AnswersDatedTexts date (S.told shelf.old).held rules.now labels.now demand.now proof.now)
         (demand.now ∷ proof.now ∷ []) (S.told shelf.old) (S.told shelf.new) result }
 {
-    match fetched(alloc, shelf, demand) {
+    match fetched(alloc, shelf, demand, MOST_DEMAND) {
         Ok(text) => {
             let demand = text.as_slice();
             let dated = Dated { date, labels };
@@ -116,7 +127,7 @@ fn draw_dated_labels<S: Shelf>(
     ensures { IsReader (AnswersDatedLabels date (S.told shelf.old).held rules.now demand.now proof.now labels.now)
         (labels.now ∷ demand.now ∷ proof.now ∷ []) (S.told shelf.old) (S.told shelf.new) result }
 {
-    match fetched(alloc, shelf, labels) {
+    match fetched(alloc, shelf, labels, MOST_LABELS) {
         Ok(text) => draw_dated_texts(alloc, shelf, date, rules, text.as_slice(), demand, proof),
         Err(status) => status,
     }
@@ -138,7 +149,7 @@ pub fn draw_dated<S: Shelf>(
     ensures { IsReader (AnswersDated date (S.told shelf.old).held rules.now demand.now proof.now labels.now)
         (rules.now ∷ labels.now ∷ demand.now ∷ proof.now ∷ []) (S.told shelf.old) (S.told shelf.new) result }
 {
-    match fetched(alloc, shelf, rules) {
+    match fetched(alloc, shelf, rules, MOST_RULES) {
         Ok(text) => draw_dated_labels(alloc, shelf, date, text.as_slice(), demand, proof, labels),
         Err(status) => status,
     }

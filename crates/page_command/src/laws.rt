@@ -2,6 +2,9 @@ ghost use Rattle.std.specs.Prelude.{ℕ, ◌≡◌, List, ◌∷◌};
 ghost use Rattle.roster_model.specs.declared.grammar.Grammar.{Grammar};
 ghost use Rattle.roster_model.specs.declared.instance.Group.{Group};
 ghost use Rattle.roster_model.specs.Extension.{extended};
+ghost use Rattle.roster_model.specs.declared.instance.Instance.{Instance};
+ghost use Rattle.page_labels.specs.LabelsOf.{labels_of};
+ghost use Rattle.shelf.specs.Shelf.{front_to};
 ghost use Rattle.page_command.specs.OnePage.{HaveOneCalendar, HaveOneLabelledPage, HaveOnePage, HaveOnePageBeside};
 ghost use Rattle.roster_value.specs.group_rules.Plain.{plain_from};
 
@@ -19,4 +22,10 @@ pub fn one_page()
 pub fn groups_derive_by_the_rules()
     ensures { (g : Grammar) (x : Group) (gs : List Group) (start : ℕ)
         → plain_from (extended g (x ∷ gs)) (x ∷ gs) start ≡ record g { start = start } }
+{}
+
+/// States a law: a labels text and its first bytes, up to one above the limit, are read alike; a text over the limit
+/// and its first bytes so are refused alike.
+pub fn labels_by_front()
+    ensures { (i : Instance) (text : List ℕ) → labels_of i (front_to 65536 text) ≡ labels_of i text }
 {}

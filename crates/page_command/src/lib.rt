@@ -13,6 +13,7 @@ mod form;
 mod judgement;
 mod kind;
 mod laws;
+mod limits;
 mod old;
 mod old_fault;
 mod program;
@@ -21,5 +22,5 @@ mod report;
 mod roster;
 mod rows;
 
-pub use laws::{groups_derive_by_the_rules, one_page};
+pub use laws::{groups_derive_by_the_rules, labels_by_front, one_page};
 pub use program::run;

@@ -1,4 +1,5 @@
 use crate::transcripts::{answer, have_answers, shelf_of};
+use shelf::MemoryShelf;
 use std::alloc::Global;
 use std::test::Fail;
 
@@ -121,5 +122,34 @@ fn notes_form(alloc: Global) -> Result<bool, Fail> {
 #[test]
 fn no_words_are_told_the_form(rt: HostRuntime) -> Result<(), Fail> {
     assert!(rt; notes_form(rt.alloc())?);
+    Ok(())
+}
+
+/// Puts a labels text of the most bytes, and one that is longer, all comment.
+fn put_long(alloc: Global, shelf: &mut MemoryShelf) -> Result<(), Fail> {
+    let long = "#".repeat(alloc, 65_536)?;
+    shelf.put("long", long.as_bytes())?;
+    let longer = "#".repeat(alloc, 65_537)?;
+    shelf.put("longer", longer.as_bytes())?;
+    Ok(())
+}
+
+/// The status of a page under the labels of a name, where the fault of labels that are too long is said with 5.
+fn long_status(alloc: Global, words: &str) -> Result<Option<u8>, Fail> {
+    let mut shelf = shelf_of(alloc, &[])?;
+    put_long(alloc, &mut shelf)?;
+    let status = answer(alloc, &mut shelf, words)?;
+    let is_refused = shelf.said() == b"labels: the text is too long\n".as_slice();
+    Ok(if is_refused == (status == 5) {
+        Some(status)
+    } else {
+        None
+    })
+}
+
+#[test]
+fn long_labels_are_refused(rt: HostRuntime) -> Result<(), Fail> {
+    assert!(rt; long_status(rt.alloc(), "page g1 two best long")? == Some(0));
+    assert!(rt; long_status(rt.alloc(), "page g1 two best longer")? == Some(5));
     Ok(())
 }

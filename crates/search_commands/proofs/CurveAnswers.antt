@@ -39,7 +39,11 @@ use Rattle.shelf.specs.Shelf.{Texts, Told}
 use Rattle.answers.specs.declared.answer.Answer.{Answer}
 use Rattle.search_commands.specs.Curve.{Point, ArePoints, said_points, point_entries, point_name, curve_status, AreFalling, Curving, CurvesDemand, AnswersCurveDemand, CurvesRules, AnswersCurve, SaysNoTeam, MayStorePoints, MayStoreTeam, MayStoreDemand, MayStoreHeldDemand, MayStoreRules, MayStoreCurve}
 use Rattle.search_commands.specs.Curve as curves
-use Rattle.answers.specs.Fetch.{IsAnswer, IsFetch, NoAnswer}
+use Rattle.answers.specs.Fetch.{IsAnswer, IsFetchTo, NoAnswer}
+use Rattle.answers.specs.Readings.{IsGrammarOf, IsInstanceOf}
+use Rattle.answers.specs.RulesFronts.{grammar-whole}
+use Rattle.answers.specs.DemandFronts.{instance-whole}
+use Rattle.search_commands.proofs.CurveFronts.{demand-whole, rules-whole}
 use Rattle.search_commands.specs.Points.{FindsFirst, BreaksCurve}
 use Rattle.answers.specs.Reader.{Holds, IsReader}
 use Rattle.search_commands.specs.Series.{Entry, End, answered, broken_off, IsSeriesWriter, StoresNoEntry}
@@ -224,28 +228,47 @@ module _ (group : Option (List ℕ)) (proof : List ℕ) (m : MasterView) (limit 
         (MayStoreRules proof group text demand_name) (MayStoreHeldDemand proof group g demand_name) before after status (λ k. k) (λ k. k g (record { reading = reading; sound = sound })) w
 
     -- a demand text that was fetched, and one that was not
-    pub demand-read : (g : Grammar) (name text : List ℕ) (middle : Told) → IsFetch name before middle text → IsSeriesWriter (CurvesDemand g text group proof m limit) [] (MayStoreDemand proof group g text) middle after status
+    pub demand-read : (g : Grammar) (name front : List ℕ) (middle : Told) → IsFetchTo 1048576 name before middle front
+        → IsSeriesWriter (CurvesDemand g front group proof m limit) [] (MayStoreDemand proof group g front) middle after status
         → IsSeriesWriter (AnswersCurveDemand before.held g name group proof m limit) (name ∷ []) (MayStoreHeldDemand proof group g name) before after status
-    demand-read g name text middle f w =
-        let holds : Holds middle.held name text = subst (λ (h : Option Texts). Holds h name text) (sym f.held) f.holds in
-        after_fetch (AnswersCurveDemand before.held g name group proof m limit) name [] (MayStoreHeldDemand proof group g name) before middle after status text f
-        (widen (CurvesDemand g text group proof m limit) (AnswersCurveDemand before.held g name group proof m limit) (λ e x a. record { text = text; holds = f.holds; answers = a }) [] []
-        (MayStoreHeldDemand proof group g name) (MayStoreDemand proof group g text) middle after status (λ k. k) (λ k. k text holds) w)
+    demand-read g name front middle f w =
+        after_fetch (AnswersCurveDemand before.held g name group proof m limit) name [] (MayStoreHeldDemand proof group g name) before middle after status f.text f.fetch
+        (widen (CurvesDemand g front group proof m limit) (AnswersCurveDemand before.held g name group proof m limit) each [] []
+        (MayStoreHeldDemand proof group g name) (MayStoreDemand proof group g front) middle after status (λ k. k) room w)
+      where
+        each : (e : End) (x : List Entry) → CurvesDemand g front group proof m limit e x → AnswersCurveDemand before.held g name group proof m limit e x
+        each e x a = record {
+          text = f.text;
+          holds = f.fetch.holds;
+          answers = demand-whole g f.text group proof m limit e x (subst (λ (t : List ℕ). CurvesDemand g t group proof m limit e x) f.front_is a);
+        }
+
+        room : MayStoreHeldDemand proof group g name middle.held → MayStoreDemand proof group g front middle.held
+        room k = λ i is. k f.text (subst (λ (h : Option Texts). Holds h name f.text) (sym f.fetch.held) f.fetch.holds) i (instance-whole g f.text i (subst (λ (t : List ℕ). IsInstanceOf g t i) f.front_is is))
 
     pub demand-unread : (g : Grammar) (name : List ℕ) → IsReader NoAnswer (name ∷ []) before after status
         → IsSeriesWriter (AnswersCurveDemand before.held g name group proof m limit) (name ∷ []) (MayStoreHeldDemand proof group g name) before after status
     demand-unread g name reader = refused_fetch (AnswersCurveDemand before.held g name group proof m limit) name (name ∷ []) (MayStoreHeldDemand proof group g name) before after status (λ k. k) reader
 
     -- a rules text that was fetched, and one that was not
-    pub rules-read : (name demand_name text : List ℕ) (middle : Told) → IsFetch name before middle text
-        → IsSeriesWriter (CurvesRules middle.held text demand_name group proof m limit) (demand_name ∷ []) (MayStoreRules proof group text demand_name) middle after status
+    pub rules-read : (name demand_name front : List ℕ) (middle : Told) → IsFetchTo 1048576 name before middle front
+        → IsSeriesWriter (CurvesRules middle.held front demand_name group proof m limit) (demand_name ∷ []) (MayStoreRules proof group front demand_name) middle after status
         → IsSeriesWriter (AnswersCurve before.held name demand_name group proof m limit) (name ∷ demand_name ∷ []) (MayStoreCurve proof group name demand_name) before after status
-    rules-read name demand_name text middle f w =
-        let holds : Holds middle.held name text = subst (λ (h : Option Texts). Holds h name text) (sym f.held) f.holds in
-        after_fetch (AnswersCurve before.held name demand_name group proof m limit) name (demand_name ∷ []) (MayStoreCurve proof group name demand_name) before middle after status text f
-        (widen (CurvesRules middle.held text demand_name group proof m limit) (AnswersCurve before.held name demand_name group proof m limit)
-        (λ e x a. record { text = text; holds = f.holds; answers = subst (λ (h : Option Texts). CurvesRules h text demand_name group proof m limit e x) f.held a }) (demand_name ∷ []) (demand_name ∷ [])
-        (MayStoreCurve proof group name demand_name) (MayStoreRules proof group text demand_name) middle after status (λ k. k) (λ k. k text holds) w)
+    rules-read name demand_name front middle f w =
+        after_fetch (AnswersCurve before.held name demand_name group proof m limit) name (demand_name ∷ []) (MayStoreCurve proof group name demand_name) before middle after status f.text f.fetch
+        (widen (CurvesRules middle.held front demand_name group proof m limit) (AnswersCurve before.held name demand_name group proof m limit) each (demand_name ∷ []) (demand_name ∷ [])
+        (MayStoreCurve proof group name demand_name) (MayStoreRules proof group front demand_name) middle after status (λ k. k) room w)
+      where
+        each : (e : End) (x : List Entry) → CurvesRules middle.held front demand_name group proof m limit e x → AnswersCurve before.held name demand_name group proof m limit e x
+        each e x a = record {
+          text = f.text;
+          holds = f.fetch.holds;
+          answers = rules-whole before.held f.text demand_name group proof m limit e x
+              (subst (λ (t : List ℕ). CurvesRules before.held t demand_name group proof m limit e x) f.front_is (subst (λ (h : Option Texts). CurvesRules h front demand_name group proof m limit e x) f.fetch.held a));
+        }
+
+        room : MayStoreCurve proof group name demand_name middle.held → MayStoreRules proof group front demand_name middle.held
+        room k = λ g is. k f.text (subst (λ (h : Option Texts). Holds h name f.text) (sym f.fetch.held) f.fetch.holds) g (grammar-whole f.text g (subst (λ (t : List ℕ). IsGrammarOf t g) f.front_is is))
 
     pub rules-unread : (name demand_name : List ℕ) → IsReader NoAnswer (name ∷ []) before after status
         → IsSeriesWriter (AnswersCurve before.held name demand_name group proof m limit) (name ∷ demand_name ∷ []) (MayStoreCurve proof group name demand_name) before after status

@@ -2,7 +2,7 @@
 use Rattle.std.proofs.Common.{◌≡◌, ℕ, List, [], ◌∷◌, Option}
 use Rattle.roster_model.specs.declared.grammar.Grammar.{Grammar}
 use Rattle.shelf.specs.Shelf.{Texts, Told}
-use Rattle.answers.specs.Fetch.{IsFetch, NoAnswer}
+use Rattle.answers.specs.Fetch.{IsFetchTo, NoAnswer}
 use Rattle.answers.specs.Reader.{IsReader}
 use Rattle.answers.specs.Says as says
 use Rattle.search_commands.specs.declared.limit.Limit.{Limit}
@@ -70,10 +70,10 @@ module _ (group : Option (List ℕ)) (proof : List ℕ) (m : MasterView) (limit 
       widen (AnswersCurve before.held rules demand group proof m limit) (CurveAnswers before.held rules demand group proof m limit) (as-curve before.held rules demand group proof m limit)
       (rules ∷ demand ∷ []) (rules ∷ demand ∷ []) (MayStoreDay proof group rules demand) (MayStoreCurve proof group rules demand) before after status (λ k. k) (may-store before.held rules demand group proof) w
 
-  pub command-read : (text : List ℕ) (middle : Told) → IsFetch rules before middle text
-      → IsSeriesWriter (CurvesRules middle.held text demand group proof m limit) (demand ∷ []) (MayStoreRules proof group text demand) middle after status
+  pub command-read : (front : List ℕ) (middle : Told) → IsFetchTo 1048576 rules before middle front
+      → IsSeriesWriter (CurvesRules middle.held front demand group proof m limit) (demand ∷ []) (MayStoreRules proof group front demand) middle after status
       → IsSeriesWriter (CurveAnswers before.held rules demand group proof m limit) (rules ∷ demand ∷ []) (MayStoreDay proof group rules demand) before after status
-  command-read text middle f w = wider (rules-read group proof m limit before after status rules demand text middle f w)
+  command-read front middle f w = wider (rules-read group proof m limit before after status rules demand front middle f w)
 
   pub command-unread : IsReader NoAnswer (rules ∷ []) before after status
       → IsSeriesWriter (CurveAnswers before.held rules demand group proof m limit) (rules ∷ demand ∷ []) (MayStoreDay proof group rules demand) before after status

@@ -1,11 +1,13 @@
 pub mod LimitLemmas
 pub mod Writers
+pub mod SolveFronts
 pub mod Solves
 pub mod Makes
 pub mod ReuseLemmas
 pub mod SeriesLemmas
 pub mod PointNames
 pub mod PointLemmas
+pub mod CurveFronts
 pub mod CurveAnswers
 pub mod OneCost
 pub mod OneEndLemmas

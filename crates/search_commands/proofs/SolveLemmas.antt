@@ -5,7 +5,7 @@ use Rattle.roster_model.specs.declared.instance.Instance.{Instance}
 use Rattle.branch_price.specs.Found.{IsFound}
 use Rattle.certificates.specs.declared.cert.Cert.{Cert}
 use Rattle.shelf.specs.Shelf.{Texts, Told}
-use Rattle.answers.specs.Fetch.{IsFetch, NoAnswer}
+use Rattle.answers.specs.Fetch.{IsFetchTo, NoAnswer}
 use Rattle.answers.specs.Reader.{Holds, IsReader}
 use Rattle.answers.specs.Says as says
 use Rattle.search_commands.specs.declared.limit.Limit.{Limit}
@@ -123,9 +123,9 @@ module _ (name : List ℕ) (before after : Told) (status : ℕ) (from : Option (
       widen (AnswersSolve before.held asked demand from m limit) (SolveAnswers before.held asked demand from m limit) (as-solve before.held asked demand from m limit)
       (asked ∷ demand ∷ from_names from) (asked ∷ demand ∷ from_names from) name before after status (λ k. k) w
 
-  pub command-read : (text : List ℕ) (middle : Told) → IsFetch asked before middle text → IsWriter (SolvesRules middle.held text demand from m limit) (demand ∷ from_names from) name middle after status
+  pub command-read : (front : List ℕ) (middle : Told) → IsFetchTo 1048576 asked before middle front → IsWriter (SolvesRules middle.held front demand from m limit) (demand ∷ from_names from) name middle after status
       → IsWriter (SolveAnswers before.held asked demand from m limit) (asked ∷ demand ∷ from_names from) name before after status
-  command-read text middle f w = wider (rules-read name before after status from m limit asked demand text middle f w)
+  command-read front middle f w = wider (rules-read name before after status from m limit asked demand front middle f w)
 
   pub command-unread : IsReader NoAnswer (asked ∷ []) before after status → IsWriter (SolveAnswers before.held asked demand from m limit) (asked ∷ demand ∷ from_names from) name before after status
   command-unread reader = wider (rules-unread name before after status from m limit asked demand reader)

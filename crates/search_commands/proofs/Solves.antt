@@ -30,12 +30,13 @@ use Rattle.branch_price.specs.OldRosters.{IsNoDearerThan}
 use Rattle.day_solver.specs.declared.solution.Solution.{Solution}
 use Rattle.day_solver.specs.Solutions.{IsSolution, IsReportText}
 use Rattle.answers.specs.declared.answer.Answer.{Answer}
-use Rattle.answers.specs.Fetch.{IsAnswer, IsFetch, NoAnswer}
+use Rattle.answers.specs.Fetch.{IsAnswer, IsFetchTo, NoAnswer}
 use Rattle.answers.specs.Reader.{IsReader}
 use Rattle.search_commands.specs.Writer.{IsWriter, IsStoredAnswer, StoresNothing}
 use Rattle.search_commands.specs.Solve.{MasterView, Finds, IsNoDearerThanOld, SaysTooManyArcs, Solving, SolvesProof, AnswersSolveProof, SolvesFrom, from_names, old_shifts, SolvesDemand, AnswersSolveDemand, SolvesRules, AnswersSolve, done_status}
 use Rattle.search_commands.specs.Solve as solves
 use Rattle.search_commands.proofs.Writers.{widen, as_writer, refused_fetch, after_fetch}
+use Rattle.search_commands.proofs.SolveFronts.{proof-whole, demand-whole, rules-whole}
 use Rattle.answers.proofs.AskedLemmas.{no_names}
 use Rattle.answers.proofs.Readers.{one_held}
 
@@ -128,11 +129,12 @@ module _ (name : List ℕ) (before after : Told) (status : ℕ) (i : Instance) (
       widen (Solving i (Some c) m limit) (SolvesProof i text m limit) (λ s o x a. solves.SolvesProof.accepted c s o x reading a) [] [] name before after status (λ h. h) w
 
   -- a proof text that was fetched, and one that was not
-  pub proof-read : (asked text : List ℕ) (middle : Told) → IsFetch asked before middle text → IsWriter (SolvesProof i text m limit) [] name middle after status
+  pub proof-read : (asked front : List ℕ) (middle : Told) → IsFetchTo 1073741824 asked before middle front → IsWriter (SolvesProof i front m limit) [] name middle after status
       → IsWriter (AnswersSolveProof before.held i asked m limit) (asked ∷ []) name before after status
-  proof-read asked text middle f w =
-      after_fetch (AnswersSolveProof before.held i asked m limit) asked [] name before middle after status text f
-      (widen (SolvesProof i text m limit) (AnswersSolveProof before.held i asked m limit) (λ s o x a. record { text = text; holds = f.holds; answers = a }) [] [] name middle after status (λ h. h) w)
+  proof-read asked front middle f w =
+      after_fetch (AnswersSolveProof before.held i asked m limit) asked [] name before middle after status f.text f.fetch
+      (widen (SolvesProof i front m limit) (AnswersSolveProof before.held i asked m limit)
+      (λ s o x a. record { text = f.text; holds = f.fetch.holds; answers = proof-whole i f.text m limit s o x (subst (λ (t : List ℕ). SolvesProof i t m limit s o x) f.front_is a) }) [] [] name middle after status (λ h. h) w)
 
   pub proof-unread : (asked : List ℕ) → IsReader NoAnswer (asked ∷ []) before after status → IsWriter (AnswersSolveProof before.held i asked m limit) (asked ∷ []) name before after status
   proof-unread asked reader = refused_fetch (AnswersSolveProof before.held i asked m limit) asked (asked ∷ []) name before after status (λ h. h) reader
@@ -166,13 +168,20 @@ module _ (name : List ℕ) (before after : Told) (status : ℕ) (from : Option (
       (λ s o x a. solves.SolvesRules.accepted g s o x (record { reading = reading; sound = sound }) a) (demand_name ∷ from_names from) (demand_name ∷ from_names from) name before after status (λ h. h) w
 
   -- a demand text that was fetched, and one that was not
-  pub demand-read : (g : Grammar) (asked text : List ℕ) (middle : Told) → IsFetch asked before middle text
-      → IsWriter (SolvesDemand middle.held g text from m limit) (from_names from) name middle after status
+  pub demand-read : (g : Grammar) (asked front : List ℕ) (middle : Told) → IsFetchTo 1048576 asked before middle front
+      → IsWriter (SolvesDemand middle.held g front from m limit) (from_names from) name middle after status
       → IsWriter (AnswersSolveDemand before.held g asked from m limit) (asked ∷ from_names from) name before after status
-  demand-read g asked text middle f w =
-      after_fetch (AnswersSolveDemand before.held g asked from m limit) asked (from_names from) name before middle after status text f
-      (widen (SolvesDemand middle.held g text from m limit) (AnswersSolveDemand before.held g asked from m limit)
-      (λ s o x a. record { text = text; holds = f.holds; answers = subst (λ (h : Option Texts). SolvesDemand h g text from m limit s o x) f.held a }) (from_names from) (from_names from) name middle after status (λ h. h) w)
+  demand-read g asked front middle f w =
+      after_fetch (AnswersSolveDemand before.held g asked from m limit) asked (from_names from) name before middle after status f.text f.fetch
+      (widen (SolvesDemand middle.held g front from m limit) (AnswersSolveDemand before.held g asked from m limit) each (from_names from) (from_names from) name middle after status (λ h. h) w)
+    where
+      each : (s : ℕ) (o : List ℕ) (x : Option (List ℕ)) → SolvesDemand middle.held g front from m limit s o x → AnswersSolveDemand before.held g asked from m limit s o x
+      each s o x a = record {
+        text = f.text;
+        holds = f.fetch.holds;
+        answers = demand-whole before.held g f.text from m limit s o x
+            (subst (λ (t : List ℕ). SolvesDemand before.held g t from m limit s o x) f.front_is (subst (λ (h : Option Texts). SolvesDemand h g front from m limit s o x) f.fetch.held a));
+      }
 
   pub demand-unread : (g : Grammar) (asked : List ℕ) → IsReader NoAnswer (asked ∷ []) before after status
       → IsWriter (AnswersSolveDemand before.held g asked from m limit) (asked ∷ from_names from) name before after status
@@ -180,14 +189,21 @@ module _ (name : List ℕ) (before after : Told) (status : ℕ) (from : Option (
       refused_fetch (AnswersSolveDemand before.held g asked from m limit) asked (asked ∷ from_names from) name before after status (one_held before.held asked (from_names from)) reader
 
   -- a rules text that was fetched, and one that was not
-  pub rules-read : (asked demand_name text : List ℕ) (middle : Told) → IsFetch asked before middle text
-      → IsWriter (SolvesRules middle.held text demand_name from m limit) (demand_name ∷ from_names from) name middle after status
+  pub rules-read : (asked demand_name front : List ℕ) (middle : Told) → IsFetchTo 1048576 asked before middle front
+      → IsWriter (SolvesRules middle.held front demand_name from m limit) (demand_name ∷ from_names from) name middle after status
       → IsWriter (AnswersSolve before.held asked demand_name from m limit) (asked ∷ demand_name ∷ from_names from) name before after status
-  rules-read asked demand_name text middle f w =
-      after_fetch (AnswersSolve before.held asked demand_name from m limit) asked (demand_name ∷ from_names from) name before middle after status text f
-      (widen (SolvesRules middle.held text demand_name from m limit) (AnswersSolve before.held asked demand_name from m limit)
-      (λ s o x a. record { text = text; holds = f.holds; answers = subst (λ (h : Option Texts). SolvesRules h text demand_name from m limit s o x) f.held a })
+  rules-read asked demand_name front middle f w =
+      after_fetch (AnswersSolve before.held asked demand_name from m limit) asked (demand_name ∷ from_names from) name before middle after status f.text f.fetch
+      (widen (SolvesRules middle.held front demand_name from m limit) (AnswersSolve before.held asked demand_name from m limit) each
       (demand_name ∷ from_names from) (demand_name ∷ from_names from) name middle after status (λ h. h) w)
+    where
+      each : (s : ℕ) (o : List ℕ) (x : Option (List ℕ)) → SolvesRules middle.held front demand_name from m limit s o x → AnswersSolve before.held asked demand_name from m limit s o x
+      each s o x a = record {
+        text = f.text;
+        holds = f.fetch.holds;
+        answers = rules-whole before.held f.text demand_name from m limit s o x
+            (subst (λ (t : List ℕ). SolvesRules before.held t demand_name from m limit s o x) f.front_is (subst (λ (h : Option Texts). SolvesRules h front demand_name from m limit s o x) f.fetch.held a));
+      }
 
   pub rules-unread : (asked demand_name : List ℕ) → IsReader NoAnswer (asked ∷ []) before after status
       → IsWriter (AnswersSolve before.held asked demand_name from m limit) (asked ∷ demand_name ∷ from_names from) name before after status

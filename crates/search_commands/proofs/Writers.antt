@@ -1,13 +1,14 @@
 -- Commands that store a text and then say an answer.
-use Rattle.std.proofs.Common.{◌≡◌, ◌≢◌, ◌≤◌, ℕ, Bool, true, false, true≢false, List, [], ◌∷◌, Option, None, Some, arith, refl, sym, subst, ◌∙◌, ◌⊎◌, inl, inr}
+use Rattle.std.proofs.Common.{◌≡◌, ◌≢◌, ◌≤◌, ℕ, Bool, true, false, true≢false, List, [], ◌∷◌, Option, None, Some, Ok, arith, refl, sym, subst, ◌∙◌, ◌⊎◌, inl, inr}
 use Rattle.std.specs.Prelude.{IfSome, IsSomeAnd, IsTrue}
 use Rattle.std.specs.FinMap as fin
-use Rattle.shelf.specs.Shelf.{Texts, Told, AgreesElsewhere, one_more}
+use Rattle.shelf.specs.Shelf.{Texts, Told, AgreesElsewhere, SaidPart, one_more}
 use Rattle.shelf.specs.Stores.{may_replace, may_store}
+use Rattle.answers.specs.declared.answer.Answer.{Answer}
 use Rattle.answers.specs.Fetch.{IsFetch, NoAnswer}
 use Rattle.answers.specs.Reader.{HoldsAll, MayStore, Said, SaidLittle, IsReader}
-use Rattle.search_commands.specs.Writer.{Answers, Keeps, IsStored, StoredAllowed, WroteLittle, IsWriter, IsAsked, IsTurnedDown, StoresNothing}
-use Rattle.answers.proofs.Readers.{more_faults, no_more, others_held, quiet_now}
+use Rattle.search_commands.specs.Writer.{Answers, Keeps, IsStored, IsUnstored, StoredAllowed, WroteLittle, IsWriter, IsStoredAnswer, IsAsked, IsTurnedDown, StoresNothing}
+use Rattle.answers.proofs.Readers.{IsSaid, more_faults, no_more, others_held, quiet_now}
 
 pub keeps_same : (old new : Option Texts) → new ≡ old → Keeps old new
 keeps_same None new e = tt
@@ -34,14 +35,14 @@ keeps_stored name (Some t) (Some u) kept others = λ other may. at (may_store t 
         rw one refl
 
 module _ (A B : Answers) (each : (status : ℕ) (output : List ℕ) (stored : Option (List ℕ)) → A status output stored → B status output stored) where
-  little : (name : List ℕ) (before after : Told) (old new : List ℕ) → WroteLittle A name before after old new → WroteLittle B name before after old new
-  little name before after old new (inl same) = inl same
-  little name before after old new (inr f) = inr (record { status = f.status; output = f.output; stored = f.stored; answers = each f.status f.output f.stored f.answers; front = f.front; rest = f.rest; whole = f.whole; said = f.said; held = f.held })
+  little : (name : List ℕ) (ended : ℕ) (before after : Told) (old new : List ℕ) → WroteLittle A name ended before after old new → WroteLittle B name ended before after old new
+  little name ended before after old new (inl same) = inl same
+  little name ended before after old new (inr f) = inr (record { status = f.status; output = f.output; stored = f.stored; answers = each f.status f.output f.stored f.answers; front = f.front; rest = f.rest; whole = f.whole; said = f.said; held = f.held })
 
-  fronts : (name : List ℕ) (before after : Told) (old new : Option (List ℕ)) → IfSome old (λ said. IsSomeAnd new (WroteLittle A name before after said)) → IfSome old (λ said. IsSomeAnd new (WroteLittle B name before after said))
-  fronts name before after None new h = tt
-  fronts name before after (Some said) None h = absurd h
-  fronts name before after (Some said) (Some now) h = little name before after said now h
+  fronts : (name : List ℕ) (ended : ℕ) (before after : Told) (old new : Option (List ℕ)) → IfSome old (λ said. IsSomeAnd new (WroteLittle A name ended before after said)) → IfSome old (λ said. IsSomeAnd new (WroteLittle B name ended before after said))
+  fronts name ended before after None new h = tt
+  fronts name ended before after (Some said) None h = absurd h
+  fronts name ended before after (Some said) (Some now) h = little name ended before after said now h
 
   left : (name : List ℕ) (before after : Option Texts) → (after ≡ before) ⊎ StoredAllowed A name before after → (after ≡ before) ⊎ StoredAllowed B name before after
   left name before after (inl same) = inl same
@@ -53,7 +54,7 @@ module _ (A B : Answers) (each : (status : ℕ) (output : List ℕ) (stored : Op
     others = w.others;
     kept = w.kept;
     answer = λ six seven. let a = w.answer six seven in (a.0, a.1, each status a.0 a.1 a.2, a.3, a.4);
-    front = fronts name before after before.said after.said w.front;
+    front = fronts name status before after before.said after.said w.front;
     memory = λ seven. left name before.held after.held (w.memory seven);
     never_falls = w.never_falls;
     cause = w.cause;
@@ -64,12 +65,12 @@ unchanged : (name : List ℕ) (old new : Option Texts) → new ≡ old → IfSom
 unchanged name None new e = tt
 unchanged name (Some t) new e = rw e (λ other ne. refl)
 
-module _ (A : ℕ → List ℕ → Type 0) (name : List ℕ) (before after : Told) (same : after.held ≡ before.held) where
-  reader_little : (old new : List ℕ) → SaidLittle A old new → WroteLittle (StoresNothing A) name before after old new
+module _ (A : ℕ → List ℕ → Type 0) (name : List ℕ) (ended : ℕ) (before after : Told) (same : after.held ≡ before.held) where
+  reader_little : (old new : List ℕ) → SaidLittle A old new → WroteLittle (StoresNothing A) name ended before after old new
   reader_little old new (inl e) = inl e
-  reader_little old new (inr f) = inr (record { status = f.status; output = f.output; stored = None; answers = (f.answers, refl); front = f.front; rest = f.rest; whole = f.whole; said = f.said; held = same })
+  reader_little old new (inr f) = inr (record { status = f.status; output = f.output; stored = None; answers = (f.answers, refl); front = f.front; rest = f.rest; whole = f.whole; said = f.said; held = inl same })
 
-  reader_fronts : (old new : Option (List ℕ)) → IfSome old (λ said. IsSomeAnd new (SaidLittle A said)) → IfSome old (λ said. IsSomeAnd new (WroteLittle (StoresNothing A) name before after said))
+  reader_fronts : (old new : Option (List ℕ)) → IfSome old (λ said. IsSomeAnd new (SaidLittle A said)) → IfSome old (λ said. IsSomeAnd new (WroteLittle (StoresNothing A) name ended before after said))
   reader_fronts None new h = tt
   reader_fronts (Some said) None h = absurd h
   reader_fronts (Some said) (Some now) h = reader_little said now h
@@ -80,7 +81,7 @@ as_writer A names name before after status r = record {
   others = unchanged name before.held after.held r.held;
   kept = keeps_same before.held after.held r.held;
   answer = λ six seven. let a = r.answer six seven in (a.0, None, (a.1, refl), a.2, r.held);
-  front = reader_fronts A name before after r.held before.said after.said r.front;
+  front = reader_fronts A name status before after r.held before.said after.said r.front;
   memory = λ seven. inl r.held;
   never_falls = r.never_falls;
   cause = r.cause;
@@ -100,14 +101,20 @@ module _ (A : Answers) (name : List ℕ) (before middle after : Told) (held : mi
   stored_since : (stored : Option (List ℕ)) → IsStored middle.held after.held name stored → IsStored before.held after.held name stored
   stored_since stored h = subst (λ (x : Option Texts). IsStored x after.held name stored) held h
 
-  little_since : (old new : List ℕ) → WroteLittle A name middle after old new → WroteLittle A name before after old new
-  little_since old new (inl e) = inl e
-  little_since old new (inr f) = inr (record { status = f.status; output = f.output; stored = f.stored; answers = f.answers; front = f.front; rest = f.rest; whole = f.whole; said = f.said; held = stored_since f.stored f.held })
+  held_since : (ended : ℕ) (stored : Option (List ℕ)) → IsStored middle.held after.held name stored ⊎ IsUnstored middle.held after.held ended
+      → IsStored before.held after.held name stored ⊎ IsUnstored before.held after.held ended
+  held_since ended stored (inl h) = inl (stored_since stored h)
+  held_since ended stored (inr u) = inr (record { six = u.six; same = u.same ∙ held })
 
-  fronts_since : (old new : Option (List ℕ)) → IfSome old (λ said. IsSomeAnd new (WroteLittle A name middle after said)) → IfSome old (λ said. IsSomeAnd new (WroteLittle A name before after said))
-  fronts_since None new h = tt
-  fronts_since (Some said) None h = absurd h
-  fronts_since (Some said) (Some now) h = little_since said now h
+  little_since : (ended : ℕ) (old new : List ℕ) → WroteLittle A name ended middle after old new → WroteLittle A name ended before after old new
+  little_since ended old new (inl e) = inl e
+  little_since ended old new (inr f) =
+      inr (record { status = f.status; output = f.output; stored = f.stored; answers = f.answers; front = f.front; rest = f.rest; whole = f.whole; said = f.said; held = held_since ended f.stored f.held })
+
+  fronts_since : (ended : ℕ) (old new : Option (List ℕ)) → IfSome old (λ said. IsSomeAnd new (WroteLittle A name ended middle after said)) → IfSome old (λ said. IsSomeAnd new (WroteLittle A name ended before after said))
+  fronts_since ended None new h = tt
+  fronts_since ended (Some said) None h = absurd h
+  fronts_since ended (Some said) (Some now) h = little_since ended said now h
 
   left_since : (after.held ≡ middle.held) ⊎ StoredAllowed A name middle.held after.held → (after.held ≡ before.held) ⊎ StoredAllowed A name before.held after.held
   left_since (inl same) = inl (same ∙ held)
@@ -122,7 +129,7 @@ since A ms ns name before middle after status held said less calm w = record {
   kept = subst (λ (x : Option Texts). Keeps x after.held) held w.kept;
   answer = λ six seven. let a = w.answer six seven in (a.0, a.1, a.2, subst (λ (old : Option (List ℕ)). Said old after.said a.0) said a.3, stored_since A name before middle after held a.1 a.4);
   memory = λ seven. left_since A name before middle after held (w.memory seven);
-  front = fronts_since A name before middle after held before.said after.said (subst (λ (old : Option (List ℕ)). IfSome old (λ said. IsSomeAnd after.said (WroteLittle A name middle after said))) said w.front);
+  front = fronts_since A name before middle after held status before.said after.said (subst (λ (old : Option (List ℕ)). IfSome old (λ said. IsSomeAnd after.said (WroteLittle A name status middle after said))) said w.front);
   never_falls = let more = w.never_falls in omega (arith, less, more);
   cause = λ six. more_faults before.faults middle.faults after.faults less (w.cause six);
   steady = λ steady holds may few.
@@ -152,9 +159,9 @@ pub no_answer_yet : (B : Type 0) (status : ℕ) → (status ≡ 6) ⊎ (status �
 no_answer_yet B status (inl e) six seven = absurd (six e)
 no_answer_yet B status (inr e) six seven = absurd (seven e)
 
-silent : (A : Answers) (name : List ℕ) (before after : Told) (old new : Option (List ℕ)) → new ≡ old → IfSome old (λ said. IsSomeAnd new (WroteLittle A name before after said))
-silent A name before after None new e = tt
-silent A name before after (Some said) new e = rw e (inl refl)
+silent : (A : Answers) (name : List ℕ) (ended : ℕ) (before after : Told) (old new : Option (List ℕ)) → new ≡ old → IfSome old (λ said. IsSomeAnd new (WroteLittle A name ended before after said))
+silent A name ended before after None new e = tt
+silent A name ended before after (Some said) new e = rw e (inl refl)
 
 -- a command whose text may not be stored
 pub turned_down : (A : Answers) (name : List ℕ) (before after : Told) (status : ℕ) → IsTurnedDown (MayStore name) before after status → IsWriter A [] name before after status
@@ -162,9 +169,77 @@ turned_down A name before after status r = record {
   others = unchanged name before.held after.held r.asked.held;
   kept = keeps_same before.held after.held r.asked.held;
   answer = λ six seven. no_answer_yet _ status r.refused six seven;
-  front = silent A name before after before.said after.said r.asked.said;
+  front = silent A name status before after before.said after.said r.asked.said;
   memory = λ seven. inl r.asked.held;
   never_falls = r.asked.never_falls;
   cause = r.cause;
   steady = λ steady holds may few six. no_more before.faults few (subst (λ (n : ℕ). one_more before.faults ≤ n) (r.asked.quiet steady may) (r.cause six));
+}
+
+-- what one call said of an answer, whose text is stored or was refused
+module _ (a : Answer) (text name : List ℕ) (ended : ℕ) (before after : Told) (held : IsStored before.held after.held name (Some text) ⊎ IsUnstored before.held after.held ended) where
+  part_little : (old new : List ℕ) → SaidPart a.output old new → WroteLittle (IsStoredAnswer (Ok a) text) name ended before after old new
+  part_little old new h = inr (record { status = a.status; output = a.output; stored = Some text; answers = (refl, refl, refl); front = h.0; rest = h.1; whole = h.2; said = h.3; held = held })
+
+  part_fronts : (old new : Option (List ℕ)) → IfSome old (λ s. IsSomeAnd new (SaidPart a.output s)) → IfSome old (λ s. IsSomeAnd new (WroteLittle (IsStoredAnswer (Ok a) text) name ended before after s))
+  part_fronts None new h = tt
+  part_fronts (Some s) None h = absurd h
+  part_fronts (Some s) (Some t) h = part_little s t h
+
+-- what a shelf did that was asked to store a text, and did or refused it
+pub record IsTried (name : List ℕ) (before after : Told) : Type 0 where
+  pub others : IfSome before.held (λ texts. IsSomeAnd after.held (AgreesElsewhere name texts))
+  pub kept : IfSome before.held (λ texts. may_store texts name ≡ false → after.held ≡ before.held)
+  pub said : after.said ≡ before.said
+  pub never_falls : before.faults ≤ after.faults
+  pub stays_steady : IsTrue before.steady → IsTrue after.steady
+  pub quiet : IsTrue before.steady → IfSome before.held (λ texts. IsTrue (may_store texts name) → after.faults ≡ before.faults)
+
+quiet_store : (name : List ℕ) (held : Option Texts) (n m : ℕ) → IfSome held (λ texts. IsTrue (may_store texts name) → m ≡ n) → MayStore name held → m ≡ n
+quiet_store name None n m q h = absurd h
+quiet_store name (Some t) n m q h = q h
+
+-- a text that was stored, and then said
+pub stored_said : (a : Answer) (text name : List ℕ) (before middle after : Told) (status : ℕ) → IsTried name before middle → IfSome before.held (λ texts. middle.held ≡ Some (fin.insert texts name text)) → IsSaid a middle after status
+    → IsWriter (IsStoredAnswer (Ok a) text) [] name before after status
+stored_said a text name before middle after status t stored said = record {
+  others = subst (λ (x : Option Texts). IfSome before.held (λ texts. IsSomeAnd x (AgreesElsewhere name texts))) (sym said.held) t.others;
+  kept = keeps_stored name before.held after.held (subst (λ (x : Option Texts). IfSome before.held (λ texts. may_store texts name ≡ false → x ≡ before.held)) (sym said.held) t.kept)
+      (subst (λ (x : Option Texts). IfSome before.held (λ texts. IsSomeAnd x (AgreesElsewhere name texts))) (sym said.held) t.others);
+  answer = λ six seven.
+      let same = which said.status_is six seven in
+      (a.output, Some text, (same, refl, refl), subst (λ (x : Option (List ℕ)). Said x after.said a.output) t.said (said.whole same), held);
+  front = part_fronts a text name status before after (inl held) before.said after.said (subst (λ (x : Option (List ℕ)). IfSome x (λ s. IsSomeAnd after.said (SaidPart a.output s))) t.said said.part);
+  memory = λ seven. inr (record { status = a.status; output = a.output; stored = Some text; answers = (refl, refl, refl); held = held });
+  never_falls = let less = t.never_falls in let more = said.never_falls in omega (arith, less, more);
+  cause = λ six. more_faults before.faults middle.faults after.faults t.never_falls (said.cause six);
+  steady = λ steady holds may few six.
+      let calm : middle.faults ≡ before.faults = quiet_store name before.held before.faults middle.faults (t.quiet steady) may in
+      let still : after.faults ≡ middle.faults = said.quiet (t.stays_steady steady) in
+      let more : one_more middle.faults ≤ after.faults = said.cause six in
+      no_more before.faults few (subst (λ (n : ℕ). one_more n ≤ n) calm (subst (λ (n : ℕ). one_more middle.faults ≤ n) still more));
+}
+  where
+    held : IsStored before.held after.held name (Some text)
+    held = subst (λ (x : Option Texts). IfSome before.held (λ texts. x ≡ Some (fin.insert texts name text))) (sym said.held) stored
+
+    which : (status ≡ a.status) ⊎ ((status ≡ 6) ⊎ (status ≡ 7)) → status ≢ 6 → status ≢ 7 → status ≡ a.status
+    which (inl same) six seven = same
+    which (inr (inl e)) six seven = absurd (six e)
+    which (inr (inr e)) six seven = absurd (seven e)
+
+-- a text that the shelf refused to store, and what was said all the same
+pub unstored_said : (a : Answer) (text name : List ℕ) (before middle after : Told) (status : ℕ) → IsTried name before middle → middle.held ≡ before.held → one_more before.faults ≤ middle.faults → status ≡ 6
+    → after.held ≡ middle.held → IfSome middle.said (λ s. IsSomeAnd after.said (SaidPart a.output s)) → middle.faults ≤ after.faults → IsWriter (IsStoredAnswer (Ok a) text) [] name before after status
+unstored_said a text name before middle after status t same cause six kept part more = record {
+  others = unchanged name before.held after.held (kept ∙ same);
+  kept = keeps_same before.held after.held (kept ∙ same);
+  answer = λ other seven. absurd (other six);
+  front = part_fronts a text name status before after (inr (record { six = six; same = kept ∙ same })) before.said after.said (subst (λ (x : Option (List ℕ)). IfSome x (λ s. IsSomeAnd after.said (SaidPart a.output s))) t.said part);
+  memory = λ seven. inl (kept ∙ same);
+  never_falls = let less = t.never_falls in omega (arith, less, more);
+  cause = λ e. omega (arith, cause, more);
+  steady = λ steady holds may few e.
+      let calm : middle.faults ≡ before.faults = quiet_store name before.held before.faults middle.faults (t.quiet steady) may in
+      no_more before.faults few (subst (λ (n : ℕ). one_more before.faults ≤ n) calm cause);
 }

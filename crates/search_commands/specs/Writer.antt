@@ -21,8 +21,15 @@ abbrev pub IsStored : Option Texts → Option Texts → List ℕ → Option (Lis
 IsStored before after name None = after ≡ before
 IsStored before after name (Some text) = IfSome before (λ texts. after ≡ Some (fin.insert texts name text))
 
--- a front of an output that some status allows was said, what goes with it is stored, and nothing else
-pub record WroteFront (A : Answers) (name : List ℕ) (before after : Told) (old new : List ℕ) : Type 0 where
+-- the shelf refused to store what goes with an output: the command ends with status 6, and all is held as before
+pub record IsUnstored (before after : Option Texts) (ended : ℕ) : Type 0 where
+  pub six : ended ≡ 6
+  pub same : after ≡ before
+
+-- a front of an output that some status allows was said, and what goes with it is stored, or the shelf refused to
+-- store it; nothing else is stored
+pub record WroteFront (A : Answers) (name : List ℕ) (ended : ℕ) (before after : Told) (old new : List ℕ)
+    : Type 0 where
   pub status : ℕ
   pub output : List ℕ
   pub stored : Option (List ℕ)
@@ -31,7 +38,7 @@ pub record WroteFront (A : Answers) (name : List ℕ) (before after : Told) (old
   pub rest : List ℕ
   pub whole : output ≡ front ++ rest
   pub said : new ≡ old ++ front
-  pub held : IsStored before.held after.held name stored
+  pub held : IsStored before.held after.held name stored ⊎ IsUnstored before.held after.held ended
 
 -- what goes with an output that some status allows is stored, and nothing else
 pub record StoredAllowed (A : Answers) (name : List ℕ) (before after : Option Texts) : Type 0 where
@@ -42,8 +49,8 @@ pub record StoredAllowed (A : Answers) (name : List ℕ) (before after : Option 
   pub held : IsStored before after name stored
 
 -- nothing was said, or a front of an allowed output
-abbrev pub WroteLittle : Answers → List ℕ → Told → Told → List ℕ → List ℕ → Type 0
-WroteLittle A name before after old new = (new ≡ old) ⊎ WroteFront A name before after old new
+abbrev pub WroteLittle : Answers → List ℕ → ℕ → Told → Told → List ℕ → List ℕ → Type 0
+WroteLittle A name ended before after old new = (new ≡ old) ⊎ WroteFront A name ended before after old new
 
 -- What a command does that stores a text under a name. `A` says with which statuses it may end, what it
 -- says then and what it stores before; `names` are those of the texts that it fetches. Status 6 is a
@@ -58,8 +65,9 @@ pub record IsWriter (A : Answers) (names : List (List ℕ)) (name : List ℕ) (b
   pub answer : status ≢ 6 → status ≢ 7 → (output : List ℕ) × (stored : Option (List ℕ))
       × A status output stored
       × Said before.said after.said output × IsStored before.held after.held name stored
-  -- after a refusal no more was said than a front of an allowed answer, once what goes with it was stored
-  pub front : IfSome before.said (λ said. IsSomeAnd after.said (WroteLittle A name before after said))
+  -- after a refusal no more was said than a front of an allowed answer, once what goes with it was stored, or once
+  -- the shelf had refused to store it, and then all is held as before
+  pub front : IfSome before.said (λ said. IsSomeAnd after.said (WroteLittle A name status before after said))
   -- where memory ran out, all is held as before, or what goes with an allowed answer is stored
   pub memory : status ≡ 7 → (after.held ≡ before.held) ⊎ StoredAllowed A name before.held after.held
   -- the shelf refuses only where it counts a fault, or its count stands at its last value

@@ -38,7 +38,8 @@ use crate::limit::Limit;
 use crate::solve::graph_refusal;
 use crate::store::ask_name;
 use answers::{
-    Answer, MEMORY, demand_refusal, fetched, rules_refusal, say, say_answer, say_answer_to,
+    Answer, MEMORY, MOST_DEMAND, MOST_RULES, demand_refusal, fetched, rules_refusal, say, say_answer,
+    say_answer_to,
     status_of,
 };
 use branch_price::{Master, Subject, Watch};
@@ -511,7 +512,7 @@ fn curve_demand<S: Shelf, M: Master, W: Watch>(
         (MayStoreHeldDemand proof.now (option_copied group.entry) grammar demand.now)
         (S.told shelf.old) (S.told shelf.new) result }
 {
-    match fetched(alloc, shelf, demand) {
+    match fetched(alloc, shelf, demand, MOST_DEMAND) {
         Ok(text) => curve_demand_text(
             alloc,
             shelf,
@@ -581,7 +582,7 @@ pub fn curve<S: Shelf, M: Master, W: Watch>(
         (S.told shelf.old)
         (S.told shelf.new) result }
 {
-    match fetched(alloc, shelf, rules) {
+    match fetched(alloc, shelf, rules, MOST_RULES) {
         Ok(text) => curve_rules_text(
             alloc,
             shelf,

@@ -103,7 +103,8 @@ fn make_asked<S: Shelf, M: Master, W: Watch>(
 
 /// Makes a day from a number, searches a roster of least cost for it within a limit, stores its
 /// certificate under the name of the proof, and says a summary; or says that there are too many arcs. Where a
-/// text that is no certificate stands under that name, the shelf refuses before the search.
+/// text that is no certificate stands under that name, the shelf refuses before the search; where it refuses the
+/// certificate after the search, the summary is said all the same, with status 6.
 pub fn make<S: Shelf, M: Master, W: Watch>(
     alloc: Global,
     shelf: &mut S,

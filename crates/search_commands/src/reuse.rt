@@ -7,7 +7,7 @@ ghost use Rattle.search_commands.specs.Reuse.{Reusing, reused_status};
 ghost use Rattle.answers.specs.Reader.{IsReader};
 ghost use Rattle.answers.specs.Says.{CertCommand};
 
-use answers::{Answer, Question, ask};
+use answers::{Answer, MOST_PROOF, Question, ask};
 use certificate_text::read_cert;
 use certificates::Cert;
 use proof_pieces::ProofFault;
@@ -77,10 +77,20 @@ impl Question for OldNodes {
     ghost use Rattle.search_commands.specs.Statuses.{reused-ends};
     ghost use Rattle.answers.specs.Asked.{ProofAnswers};
     ghost use Rattle.answers.specs.Statuses.{proof-ends};
+    ghost use Rattle.answers.specs.ProofFronts.{proof-fronts};
 
     ghost answers = { λ _. ProofAnswers Reusing };
 
+    ghost limit = { λ _. 1073741824 };
+
     ghost ends = { λ _. proof-ends Reusing reused-ends };
+
+    ghost fronts = { λ _. proof-fronts Reusing };
+
+    // A proof text has at most so many bytes.
+    fn most(&self) -> usize {
+        MOST_PROOF
+    }
 
     // Says what the nodes of the certificate of a proof text show.
     fn answer(&self, alloc: Global, instance: &Instance, text: &[u8]) -> Result<Answer, Memory> {

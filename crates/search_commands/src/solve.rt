@@ -29,7 +29,9 @@ use crate::limit::Limit;
 use crate::notes::note_search;
 use crate::reuse::text_refusal;
 use crate::store::{ask_name, store_and_say};
-use answers::{Answer, demand_refusal, fetched, rules_refusal, say_answer, say_answer_to};
+use answers::{
+    Answer, MOST_DEMAND, MOST_PROOF, MOST_RULES, demand_refusal, fetched, rules_refusal, say_answer, say_answer_to,
+};
 use branch_price::{Done, Found, Master, Subject, Watch};
 use certificate_text::read_cert;
 use certificates::Cert;
@@ -224,7 +226,7 @@ fn solve_proof<S: Shelf, M: Master, W: Watch>(
         (lent (M.strict master.old) (M.refused master.old) (M.refused master.new)) limit)
         (from.now ∷ []) proof.now (S.told shelf.old) (S.told shelf.new) result }
 {
-    match fetched(alloc, shelf, from) {
+    match fetched(alloc, shelf, from, MOST_PROOF) {
         Ok(text) => solve_proof_text(
             alloc,
             shelf,
@@ -313,7 +315,7 @@ fn solve_demand<S: Shelf, M: Master, W: Watch>(
         (demand.now ∷ from_names (option_copied from.entry)) proof.now
         (S.told shelf.old) (S.told shelf.new) result }
 {
-    match fetched(alloc, shelf, demand) {
+    match fetched(alloc, shelf, demand, MOST_DEMAND) {
         Ok(text) => solve_demand_text(
             alloc,
             shelf,
@@ -362,7 +364,8 @@ fn solve_rules_text<S: Shelf, M: Master, W: Watch>(
 /// there are too many arcs. Where the name of an old certificate is said, its text is fetched and read third, and what
 /// is found costs no more than its roster, if that is allowed on this day.
 /// The texts are fetched and read in this order, before anything is stored. Where a
-/// text that is no certificate stands under the name of the proof, the shelf refuses before the search.
+/// text that is no certificate stands under the name of the proof, the shelf refuses before the search; where it
+/// refuses the certificate after the search, the report is said all the same, with status 6.
 pub fn solve<S: Shelf, M: Master, W: Watch>(
     alloc: Global,
     shelf: &mut S,
@@ -381,7 +384,7 @@ pub fn solve<S: Shelf, M: Master, W: Watch>(
         (rules.now ∷ demand.now ∷ from_names (option_copied from.entry)) proof.now
         (S.told shelf.old) (S.told shelf.new) result }
 {
-    match fetched(alloc, shelf, rules) {
+    match fetched(alloc, shelf, rules, MOST_RULES) {
         Ok(text) => solve_rules_text(
             alloc,
             shelf,

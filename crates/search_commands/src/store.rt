@@ -1,10 +1,11 @@
-ghost use Rattle.std.specs.Prelude.{◌≡◌, ◌≢◌, [], IfOk, MatchResult};
+ghost use Rattle.std.specs.Prelude.{◌≡◌, ◌≢◌, ◌≤◌, [], IfOk, IfSome, IsSomeAnd, IsTrue, MatchResult};
+ghost use Rattle.shelf.specs.Shelf.{SaidPart};
 ghost use Rattle.answers.specs.Reader.{MayStore};
 ghost use Rattle.search_commands.specs.Writer.{IsAsked, IsStoredAnswer, IsTurnedDown, IsWriter};
 
-use answers::{Answer, MEMORY, say, status_of};
+use answers::{Answer, FAILED, MEMORY, say, status_of};
 use roster_model::Memory;
-use shelf::Shelf;
+use shelf::{Shelf, ShelfFault};
 
 /// Asks whether a text may be stored under a name, or returns the status of a refusal.
 ///
@@ -23,7 +24,22 @@ pub(crate) fn ask_name<S: Shelf>(shelf: &mut S, name: &str) -> Result<(), u8>
     }
 }
 
-// Stores a text under a name, says an answer at once, and returns its status, or that of a refusal.
+// Says an answer whose text the shelf refused to store, so that what was searched is not lost, and returns the status
+// of that refusal, whatever becomes of what is said.
+fn say_unstored<S: Shelf>(shelf: &mut S, output: &[u8]) -> u8
+    ensures status { result ≡ 6 }
+    ensures part { IfSome (S.told shelf.old).said (λ s. IsSomeAnd (S.told shelf.new).said
+        (SaidPart output.now s)) }
+    ensures held { (S.told shelf.new).held ≡ (S.told shelf.old).held }
+    ensures never_falls { (S.told shelf.old).faults ≤ (S.told shelf.new).faults }
+    ensures quiet { IsTrue (S.told shelf.old).steady → (S.told shelf.new).faults ≡ (S.told shelf.old).faults }
+{
+    let _ = shelf.say(output);
+    FAILED
+}
+
+// Stores a text under a name, says an answer at once, and returns its status, or that of a refusal. Where the shelf
+// refuses to store the text, the answer is said all the same.
 #[tactic(auto, using(crate::proofs::Writers::keeps_stored))]
 fn store_answer<S: Shelf>(shelf: &mut S, name: &str, text: &[u8], answer: &Answer) -> u8
     requires { (answer.now.status ≢ 6) × (answer.now.status ≢ 7) }
@@ -32,12 +48,14 @@ fn store_answer<S: Shelf>(shelf: &mut S, name: &str, text: &[u8], answer: &Answe
 {
     match shelf.store(name, text) {
         Ok(()) => say(shelf, answer.output.as_slice(), answer.status),
-        Err(fault) => status_of(fault),
+        Err(ShelfFault::Failed) => say_unstored(shelf, answer.output.as_slice()),
+        Err(ShelfFault::Memory) => MEMORY,
     }
 }
 
-/// Stores a text under a name, says an answer at once, and returns its status, or that of a refusal. Where
-/// there is no answer for want of memory nothing is stored.
+/// Stores a text under a name, says an answer at once, and returns its status, or that of a refusal. Where the
+/// shelf refuses to store the text, the answer is said all the same. Where there is no answer for want of memory
+/// nothing is stored or said.
 #[tactic(auto, using(crate::proofs::Writers::keeps_same))]
 pub fn store_and_say<S: Shelf>(
     shelf: &mut S,

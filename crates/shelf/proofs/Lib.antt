@@ -1,3 +1,4 @@
 pub mod HeldTexts
 pub mod Calls
 pub mod Streams
+pub mod Fronts

@@ -1,4 +1,4 @@
-use Rattle.std.specs.Prelude.{◌≡◌, ◌≢◌, ◌≤◌, ◌+◌, ◌-◌, ◌^◌, ℕ, min, Bool, List, ◌++◌, Option, Some, Result, Ok, Err, map, String, Vec, string_bytes}
+use Rattle.std.specs.Prelude.{◌≡◌, ◌≢◌, ◌≤◌, ◌+◌, ◌-◌, ◌^◌, ℕ, min, Bool, List, ◌++◌, take, Option, Some, Result, Ok, Err, map, String, Vec, string_bytes}
 use Rattle.std.specs.Coded.{Coded, coded_ℕ, coded_list}
 use Rattle.std.specs.Global.{Global}
 use Rattle.std.specs.Ordering.{nat_cmp}
@@ -52,9 +52,15 @@ count_after (Ok done) faults = faults
 count_after (Err Failed) faults = one_more faults
 count_after (Err Memory) faults = faults
 
--- the new bytes are the old ones, and then those that stand under the name
-abbrev pub Fetched : Texts → List ℕ → List ℕ → List ℕ → Type 0
-Fetched held name old new = (bytes : List ℕ) × (fin.get held name ≡ Some bytes) × (new ≡ old ++ bytes)
+-- The first bytes of a text, up to one above a limit: the text itself where it is no longer than the limit, and else
+-- a front that is longer too.
+abbrev pub front_to : ℕ → List ℕ → List ℕ
+front_to most text = take (most + 1) text
+
+-- the new bytes are the old ones, and then the first of those that stand under the name, up to one above a limit
+abbrev pub Fetched : Texts → List ℕ → ℕ → List ℕ → List ℕ → Type 0
+Fetched held name most old new =
+    (bytes : List ℕ) × (fin.get held name ≡ Some bytes) × (new ≡ old ++ front_to most bytes)
 
 -- the new bytes begin with the old ones
 abbrev pub Begins : List ℕ → List ℕ → Type 0

@@ -1,6 +1,5 @@
 ghost use Rattle.std.specs.Prelude.{◌≡◌, ◌≤◌, ◌+◌, Err, length};
 ghost use Rattle.shelf.specs.Shelf.{Begins, HasCause, count_after, most_faults};
-ghost use Rattle.shelf.specs.Stream.{read_limit};
 
 use crate::fault::ShelfFault;
 use crate::heard::Heard;
@@ -111,18 +110,19 @@ impl<R: Files + Print + Eprint + AllocGlobal + Drop> DiskShelf<R> {
         ShelfFault::Failed
     }
 
-    // Reads an open file.
+    // Reads the first bytes of an open file, up to one above a limit.
     fn read_file(
         &self,
         name: &str,
         file: &mut R::File,
+        most: usize,
         into: &mut Vec<u8>,
     ) -> Result<(), ShelfFault>
         ensures begins { Begins into.old.items into.new.items }
-        ensures limit { length into.new.items ≤ length into.old.items + read_limit }
+        ensures limit { length into.new.items ≤ length into.old.items + (most + 1) }
     {
         let mut heard = Heard::new(file);
-        match read_bytes(&mut heard, into) {
+        match read_bytes(&mut heard, most.saturating_add(1), into) {
             Err(ShelfFault::Failed) => self.refused(name, heard.error()),
             outcome => outcome,
         }
@@ -344,16 +344,16 @@ impl<R: Files + Print + Eprint + AllocGlobal + Drop> Shelf for DiskShelf<R> {
 
     ghost tells = { λ _ steady. Prim.search rules };
 
-    // Opens the file, and reads what it holds.
-    fn fetch(&mut self, name: &str, into: &mut Vec<u8>) -> Result<(), ShelfFault>
+    // Opens the file, and reads its first bytes.
+    fn fetch(&mut self, name: &str, most: usize, into: &mut Vec<u8>) -> Result<(), ShelfFault>
         ensures begins { Begins into.old.items into.new.items }
-        ensures limit { length into.new.items ≤ length into.old.items + read_limit }
+        ensures limit { length into.new.items ≤ length into.old.items + (most + 1) }
         ensures counted { self.new ≡ count_after result self.old }
         ensures cause { HasCause self.old self.new result }
         ensures bounded { self.new ≤ most_faults }
     {
         let outcome = match fs::open(&self.rt, name) {
-            Ok(mut file) => self.read_file(name, &mut file, into),
+            Ok(mut file) => self.read_file(name, &mut file, most, into),
             Err(error) => self.refused(name, error.kind()),
         };
         self.counted(outcome)

@@ -1,4 +1,4 @@
-ghost use Rattle.std.specs.Prelude.{◌≡◌, ◌≤◌, ◌⊎◌, ◌/◌, [], ◌++◌, length, take, Err, None, false, IsSome, IsTrue, OnOk, OnErr, nat_eq};
+ghost use Rattle.std.specs.Prelude.{◌≡◌, ◌≤◌, ◌⊎◌, ◌+◌, ◌/◌, [], ◌++◌, length, take, Err, None, false, IsSome, IsTrue, OnOk, OnErr, nat_eq};
 ghost use Rattle.std.specs.List.{list_any};
 ghost use Rattle.std.specs.Option.{option_copied};
 ghost use Rattle.std.specs.FinMap as fin;
@@ -158,10 +158,11 @@ impl Shelf for MemoryShelf {
 
     ghost tells = { λ _ _. (refl, refl) };
 
-    // Appends the bytes under the name, or refuses the call where it is to fail.
-    fn fetch(&mut self, name: &str, into: &mut Vec<u8>) -> Result<(), ShelfFault>
+    // Appends the first bytes under the name, or refuses the call where it is to fail.
+    fn fetch(&mut self, name: &str, most: usize, into: &mut Vec<u8>) -> Result<(), ShelfFault>
         ensures ok { OnOk result ((next_fails self.old ≡ false) × (self.new ≡ called self.old)
-            × Fetched self.old.held name.now into.old.items into.new.items) }
+            × Fetched self.old.held name.now most into.old.items into.new.items) }
+        ensures limit { length into.new.items ≤ length into.old.items + (most + 1) }
         ensures failed { result ≡ Err ShelfFault.Failed →
             (IsTrue (next_fails self.old) ⊎ (fin.get self.old.held name.now ≡ None))
             × (self.new ≡ refused self.old) × (into.new.items ≡ into.old.items) }
@@ -178,7 +179,7 @@ impl Shelf for MemoryShelf {
             self.note_refusal(name, "refused");
             return Err(self.shelf.refuse());
         }
-        match self.shelf.fetch(name, into) {
+        match self.shelf.fetch(name, most, into) {
             Ok(()) => Ok(()),
             Err(fault) => Err(self.noted(name, "no such file", fault)),
         }

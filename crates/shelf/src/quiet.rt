@@ -1,7 +1,7 @@
-ghost use Rattle.std.specs.Prelude.{◌≡◌, ◌≤◌, [], ◌++◌, Err, None, false, IsSome, IsTrue, OnOk, OnErr};
+ghost use Rattle.std.specs.Prelude.{◌≡◌, ◌≤◌, [], ◌+◌, ◌++◌, length, Err, None, false, IsSome, IsTrue, OnOk, OnErr};
 ghost use Rattle.std.specs.Option.{option_copied};
 ghost use Rattle.std.specs.FinMap as fin;
-ghost use Rattle.shelf.specs.Shelf.{AgreesElsewhere, Fetched, HasCause, one_more, most_faults};
+ghost use Rattle.shelf.specs.Shelf.{AgreesElsewhere, Fetched, HasCause, front_to, one_more, most_faults};
 ghost use Rattle.shelf.specs.Stores.{may_store};
 
 use crate::fault::ShelfFault;
@@ -94,6 +94,18 @@ impl QuietShelf {
     }
 }
 
+// Returns the first bytes of a text, up to one above a limit.
+#[tactic(auto, using(crate::proofs::Fronts::front_whole))]
+fn front_to(text: &[u8], most: usize) -> &[u8]
+    ensures front { result.now ≡ front_to most text.now }
+    ensures few { length result.now ≤ most + 1 }
+{
+    if most < text.len() {
+        return &text[..most + 1];
+    }
+    text
+}
+
 impl Shelf for QuietShelf {
     ghost use Rattle.std.specs.Prelude.{Some, true, refl};
 
@@ -101,10 +113,11 @@ impl Shelf for QuietShelf {
 
     ghost tells = { λ _ _. (refl, refl) };
 
-    // Appends the bytes under the name, or refuses an absent one.
-    fn fetch(&mut self, name: &str, into: &mut Vec<u8>) -> Result<(), ShelfFault>
+    // Appends the first bytes under the name, or refuses an absent one.
+    fn fetch(&mut self, name: &str, most: usize, into: &mut Vec<u8>) -> Result<(), ShelfFault>
         ensures ok { OnOk result ((self.new ≡ self.old)
-            × Fetched self.old.held name.now into.old.items into.new.items) }
+            × Fetched self.old.held name.now most into.old.items into.new.items) }
+        ensures limit { length into.new.items ≤ length into.old.items + (most + 1) }
         ensures failed { result ≡ Err ShelfFault.Failed → (fin.get self.old.held name.now ≡ None)
             × (self.new ≡ record self.old { faults = one_more self.old.faults })
             × (into.new.items ≡ into.old.items) }
@@ -116,7 +129,7 @@ impl Shelf for QuietShelf {
         let Some(bytes) = self.held.text(name) else {
             return Err(self.refuse());
         };
-        into.extend_from_slice(bytes)?;
+        into.extend_from_slice(front_to(bytes, most))?;
         Ok(())
     }
 

@@ -1,4 +1,4 @@
-ghost use Rattle.std.specs.Prelude.{◌≡◌, ◌≤◌, ◌++◌, false, Some, OnOk, IfSome, IsSome, IsSomeAnd, IsTrue, Err};
+ghost use Rattle.std.specs.Prelude.{◌≡◌, ◌≤◌, ◌+◌, ◌++◌, length, false, Some, OnOk, IfSome, IsSome, IsSomeAnd, IsTrue, Err};
 ghost use Rattle.std.specs.FinMap as fin;
 ghost use Rattle.shelf.specs.Shelf.{Told, HasCause, Fetched, Begins, AgreesElsewhere, SaidPart, most_faults};
 ghost use Rattle.shelf.specs.Stores.{may_store};
@@ -17,16 +17,18 @@ pub trait Shelf {
     // What the shelf tells of itself.
     ghost told: { Self → Told };
 
-    /// Appends the bytes under the name.
+    /// Appends the first bytes under the name: so many at most, and one more where there are more. So a text
+    /// that is too long is known by what is appended, and no more of it is read.
     ///
     /// # Errors
     ///
     /// `Failed` where the outside refuses the call, which the count of faults tells, and `Memory` where
     /// memory runs out; `into` still begins with what it held then.
-    fn fetch(&mut self, name: &str, into: &mut Vec<u8>) -> Result<(), ShelfFault>
+    fn fetch(&mut self, name: &str, most: usize, into: &mut Vec<u8>) -> Result<(), ShelfFault>
         ensures fetched { OnOk result (IfSome (told self.old).held
-            (λ h. Fetched h name.now into.old.items into.new.items)) }
+            (λ h. Fetched h name.now most into.old.items into.new.items)) }
         ensures begins { Begins into.old.items into.new.items }
+        ensures limit { length into.new.items ≤ length into.old.items + (most + 1) }
 
         ensures held_stays { (told self.new).held ≡ (told self.old).held }
         ensures said_stays { (told self.new).said ≡ (told self.old).said }
@@ -63,8 +65,8 @@ pub trait Shelf {
     ///
     /// # Errors
     ///
-    /// `Failed` where the name may not be stored under, or where the outside fails; it is else untold what
-    /// the name holds then. `Memory` where memory runs out, and all is as before.
+    /// `Failed` where the name may not be stored under, or where the outside fails, which the count of faults
+    /// tells; `Memory` where memory runs out. What is held is as before then.
     fn store(&mut self, name: &str, bytes: &[u8]) -> Result<(), ShelfFault>
         ensures stored { OnOk result (IfSome (told self.old).held
             (λ h. (told self.new).held ≡ Some (fin.insert h name.now bytes.now))) }
@@ -76,6 +78,7 @@ pub trait Shelf {
         ensures others { IfSome (told self.old).held
             (λ h. IsSomeAnd (told self.new).held (AgreesElsewhere name.now h)) }
         ensures memory { result ≡ Err ShelfFault.Memory → (told self.new).held ≡ (told self.old).held }
+        ensures failed { result ≡ Err ShelfFault.Failed → (told self.new).held ≡ (told self.old).held }
         ensures said_stays { (told self.new).said ≡ (told self.old).said }
 
         ensures cause { HasCause (told self.old).faults (told self.new).faults result }

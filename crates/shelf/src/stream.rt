@@ -1,28 +1,24 @@
 ghost use Rattle.std.specs.Prelude.{◌≡◌, ◌≤◌, ◌+◌, ◌++◌, length, take, OnOk, IfSome, IfErr, Err};
 ghost use Rattle.std.specs.Io.KnownBytes.{Appends};
 ghost use Rattle.shelf.specs.Shelf.{Begins};
-ghost use Rattle.shelf.specs.Stream.{AppendsPart, read_limit};
+ghost use Rattle.shelf.specs.Stream.{AppendsPart};
 
 use crate::fault::ShelfFault;
 use std::io::{Read, Write};
 
-// How many bytes of a file are read at most.
-const READ_LIMIT: usize = 1_073_741_825;
-
-/// Appends the bytes that the reader has left, but at most 1,073,741,825. An interrupted read is
-/// not tried again.
+/// Appends the bytes that the reader has left, but at most so many. An interrupted read is not tried again.
 ///
 /// # Errors
 ///
 /// `Failed` where a read is refused, `Memory` where memory runs out; what was read until then is appended.
-pub fn read_bytes<F: Read>(from: &mut F, into: &mut Vec<u8>) -> Result<(), ShelfFault>
+pub fn read_bytes<F: Read>(from: &mut F, most: usize, into: &mut Vec<u8>) -> Result<(), ShelfFault>
     ensures begins { Begins into.old.items into.new.items }
-    ensures limit { length into.new.items ≤ length into.old.items + read_limit }
+    ensures limit { length into.new.items ≤ length into.old.items + most }
     ensures whole { OnOk result (IfSome (F.remaining from.old)
-        (λ bytes. into.new.items ≡ into.old.items ++ take read_limit bytes)) }
+        (λ bytes. into.new.items ≡ into.old.items ++ take most bytes)) }
 {
     let mut buffer = [0u8; 4096];
-    let mut left = READ_LIMIT;
+    let mut left = most;
     while left > 0 {
         let room = left.min(buffer.len());
         let part = &mut buffer[..room];

@@ -58,6 +58,9 @@ impl Write for Full {
 
 const HELD: &str = "shelf_text.txt";
 
+/// More bytes than a text of these tests has.
+const MOST: usize = 100;
+
 /// Texts, each of which may be stored over the one before, and what a buffer that began with `in:` has once
 /// they were fetched into it.
 const TEXTS: [(&str, &str); 3] = [
@@ -71,8 +74,8 @@ const ALL_SAID: &str = "proof 1\nfirst\n2\r\n#";
 /// Whether a text is fetched as it was stored, behind what the buffer has, and an absent name is refused.
 fn fetches<S: Shelf>(shelf: &mut S, into: &mut Vec<u8>, text: &str, want: &str) -> bool {
     shelf.store(HELD, text.as_bytes()).is_ok()
-        && shelf.fetch(HELD, into).is_ok()
-        && shelf.fetch("shelf_absent.txt", into) == Err(ShelfFault::Failed)
+        && shelf.fetch(HELD, MOST, into).is_ok()
+        && shelf.fetch("shelf_absent.txt", MOST, into) == Err(ShelfFault::Failed)
         && into.as_slice() == want.as_bytes()
 }
 
@@ -80,9 +83,24 @@ fn fetches<S: Shelf>(shelf: &mut S, into: &mut Vec<u8>, text: &str, want: &str) 
 fn leaves<S: Shelf>(shelf: &mut S, into: &mut Vec<u8>) -> bool {
     shelf.may_store(HELD) == Err(ShelfFault::Failed)
         && shelf.store(HELD, b"proof 1\nnew") == Err(ShelfFault::Failed)
-        && shelf.fetch(HELD, into).is_ok()
+        && shelf.fetch(HELD, MOST, into).is_ok()
         && into.as_slice() == b"in:2\r\n#".as_slice()
         && shelf.may_store("shelf_absent.txt").is_ok()
+}
+
+/// Limits for the last of the texts, which has four bytes, and what is fetched of it: one byte more than the
+/// limit at most.
+const FRONTS: [(usize, &str); 4] = [(0, "2"), (2, "2\r\n"), (3, "2\r\n#"), (4, "2\r\n#")];
+
+/// Whether of the last of the texts so much is fetched.
+fn fetches_fronts<S: Shelf>(alloc: Global, shelf: &mut S) -> bool {
+    for (most, want) in &FRONTS {
+        let mut into = Vec::new(alloc);
+        if shelf.fetch(HELD, *most, &mut into).is_err() || into.as_slice() != want.as_bytes() {
+            return false;
+        }
+    }
+    true
 }
 
 /// Whether a shelf with ample memory answers as it should, where nothing is held yet.
@@ -94,7 +112,7 @@ fn answers<S: Shelf>(alloc: Global, shelf: &mut S) -> Result<bool, Fail> {
         }
     }
     let mut into = b"in:".to_vec(alloc)?;
-    Ok(leaves(shelf, &mut into))
+    Ok(leaves(shelf, &mut into) && fetches_fronts(alloc, shelf))
 }
 
 #[test]
@@ -169,11 +187,13 @@ fn a_memory_shelf_asks_the_first_line(rt: HostRuntime) -> Result<(), Fail> {
     Ok(())
 }
 
-/// Whether what a reader gives is appended, and a fault after so many calls is told.
+/// Whether what a reader gives is appended up to a limit, and a fault after so many calls is told.
 fn reads(into: &mut Vec<u8>) -> bool {
-    read_bytes(&mut b"text".as_slice(), into).is_ok()
-        && read_bytes(&mut Interrupted { calls: 2 }, into) == Err(ShelfFault::Failed)
-        && into.as_slice() == b"textaa".as_slice()
+    read_bytes(&mut b"text".as_slice(), 100, into).is_ok()
+        && read_bytes(&mut b"text".as_slice(), 3, into).is_ok()
+        && read_bytes(&mut Interrupted { calls: 2 }, 2, into).is_ok()
+        && read_bytes(&mut Interrupted { calls: 2 }, 3, into) == Err(ShelfFault::Failed)
+        && into.as_slice() == b"texttexaaaa".as_slice()
 }
 
 #[test]

@@ -6,10 +6,11 @@ use Rattle.rules_text.specs.FaultLine.{fault_line}
 use Rattle.rules_text.specs.RulesOf.{IsReading}
 use Rattle.rules_text.specs.declared.fault.RulesFault.{RulesFault}
 use Rattle.rules_text.specs.declared.fault.RulesFault.TheVariants as faults
-use Rattle.shelf.specs.Shelf.{Told}
+use Rattle.shelf.specs.Shelf.{Told, front_to}
 use Rattle.answers.specs.declared.answer.Answer.{Answer}
-use Rattle.text_commands.specs.Days.{DayAnswer, AnswersDay, refused}
-use Rattle.answers.specs.Fetch.{IsFetch, NoAnswer}
+use Rattle.text_commands.specs.Days.{DayAnswer, AnswersDay, accepted, refused}
+use Rattle.answers.specs.Fetch.{IsFetchTo, NoAnswer}
+use Rattle.answers.specs.RulesFronts.{grammar-whole, fault-whole}
 use Rattle.answers.specs.Reader.{IsReader}
 use Rattle.answers.proofs.Readers.{IsSaid, one-said, widen, after_fetch}
 
@@ -24,11 +25,17 @@ module _ (Answers : Grammar → ℕ → List ℕ → Type 0) where
       → IsReader (λ s o. DayAnswer Answers text s o) [] before after status
   day-said text a before after status h said = one-said (λ s o. DayAnswer Answers text s o) a before after status h said
 
-  pub day-read : (name text : List ℕ) (before middle after : Told) (status : ℕ) → IsFetch name before middle text
-      → IsReader (λ s o. DayAnswer Answers text s o) [] middle after status → IsReader (λ s o. AnswersDay Answers before.held name s o) (name ∷ []) before after status
-  day-read name text before middle after status f reader =
-      after_fetch (λ s o. AnswersDay Answers before.held name s o) name [] before middle after status text f
-      (widen (λ s o. DayAnswer Answers text s o) (λ s o. AnswersDay Answers before.held name s o) (λ s o k. (text, f.holds, k)) [] [] middle after status (λ k. k) reader)
+  -- what is answered to the first bytes of a rules text, up to one above the limit, is an answer to the text
+  day-whole : (text : List ℕ) (s : ℕ) (o : List ℕ) → DayAnswer Answers (front_to 1048576 text) s o → DayAnswer Answers text s o
+  day-whole text s o (accepted g t x is a) = accepted g t x (grammar-whole text g is) a
+  day-whole text s o (refused x f) = refused x (fault-whole text x f)
+
+  pub day-read : (name front : List ℕ) (before middle after : Told) (status : ℕ) → IsFetchTo 1048576 name before middle front
+      → IsReader (λ s o. DayAnswer Answers front s o) [] middle after status → IsReader (λ s o. AnswersDay Answers before.held name s o) (name ∷ []) before after status
+  day-read name front before middle after status f reader =
+      after_fetch (λ s o. AnswersDay Answers before.held name s o) name [] before middle after status f.text f.fetch
+      (widen (λ s o. DayAnswer Answers front s o) (λ s o. AnswersDay Answers before.held name s o)
+      (λ s o k. (f.text, f.fetch.holds, day-whole f.text s o (subst (λ (t : List ℕ). DayAnswer Answers t s o) f.front_is k))) [] [] middle after status (λ k. k) reader)
 
   pub day-unread : (name : List ℕ) (before after : Told) (status : ℕ) → IsReader NoAnswer (name ∷ []) before after status
       → IsReader (λ s o. AnswersDay Answers before.held name s o) (name ∷ []) before after status

@@ -6,7 +6,7 @@ use Rattle.text_commands.specs.Days.{AnswersDay}
 use Rattle.text_commands.specs.Days as days
 use Rattle.answers.specs.RulesCommands.{RulesCommand}
 use Rattle.answers.specs.RulesCommands as rules_commands
-use Rattle.answers.specs.Fetch.{IsFetch, NoAnswer}
+use Rattle.answers.specs.Fetch.{IsFetchTo, NoAnswer}
 use Rattle.answers.specs.Reader.{IsReader}
 use Rattle.answers.proofs.Readers.{widen}
 use Rattle.text_commands.proofs.Days.{day-read}
@@ -31,11 +31,11 @@ unread-command A name before after status reader =
 
 -- commands that fetched their rules text
 module _ (A : Grammar → ℕ → List ℕ → Type 0) where
-  pub day-command-read : (name text : List ℕ) (before middle after : Told) (status : ℕ) → IsFetch name before middle text
-      → IsReader (λ s o. days.DayAnswer A text s o) [] middle after status → IsReader (RulesCommand A before.held name) (name ∷ []) before after status
-  day-command-read name text before middle after status f reader =
+  pub day-command-read : (name front : List ℕ) (before middle after : Told) (status : ℕ) → IsFetchTo 1048576 name before middle front
+      → IsReader (λ s o. days.DayAnswer A front s o) [] middle after status → IsReader (RulesCommand A before.held name) (name ∷ []) before after status
+  day-command-read name front before middle after status f reader =
       widen (λ s o. AnswersDay A before.held name s o) (RulesCommand A before.held name) (as-rules-command A before.held name) (name ∷ []) (name ∷ []) before after status (λ k. k)
-      (day-read A name text before middle after status f reader)
+      (day-read A name front before middle after status f reader)
 
   pub day-command-unread : (name : List ℕ) (before after : Told) (status : ℕ) → IsReader NoAnswer (name ∷ []) before after status
       → IsReader (RulesCommand A before.held name) (name ∷ []) before after status

@@ -1,3 +1,4 @@
 pub mod Value
 pub mod Rest
 pub mod Statuses
+pub mod Fronts

@@ -9,7 +9,7 @@ ghost use Rattle.answers.specs.Reader.{IsReader};
 ghost use Rattle.answers.specs.Says.{CertCommand};
 
 use answer_texts::write_verdict;
-use answers::{Answer, Question, ask, proof_refusal};
+use answers::{Answer, MOST_PROOF, Question, ask, proof_refusal};
 use certificates::Verdict;
 use proof_check::{Bench, Judged};
 use proof_pieces::CertRoom;
@@ -89,10 +89,20 @@ impl Question for Acceptance {
     ghost use Rattle.answers.specs.Asked.{ProofAnswers};
     ghost use Rattle.text_commands.specs.Statuses.{judged-ends};
     ghost use Rattle.answers.specs.Statuses.{proof-ends};
+    ghost use Rattle.answers.specs.ProofFronts.{proof-fronts};
 
     ghost answers = { λ _. ProofAnswers Judgement };
 
+    ghost limit = { λ _. 1073741824 };
+
     ghost ends = { λ _. proof-ends Judgement judged-ends };
+
+    ghost fronts = { λ _. proof-fronts Judgement };
+
+    // A proof text has at most so many bytes.
+    fn most(&self) -> usize {
+        MOST_PROOF
+    }
 
     // Says whether the certificate of a proof text is accepted.
     fn answer(&self, alloc: Global, instance: &Instance, text: &[u8]) -> Result<Answer, Memory> {

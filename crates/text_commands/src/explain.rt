@@ -14,7 +14,7 @@ use crate::oddities::note_rules;
 use crate::start::{grammar_from, no_form};
 use crate::unfit::note_unfit;
 use answer_texts::write_tree;
-use answers::{Answer, MEMORY, fetched, rules_refusal, say};
+use answers::{Answer, MEMORY, MOST_RULES, fetched, rules_refusal, say};
 use roster_model::{Grammar, List, Memory, TreeRoom, WordPrices};
 use rules_text::read_rules;
 use shelf::Shelf;
@@ -165,7 +165,7 @@ pub fn explain<S: Shelf>(
     ensures { IsReader (RulesCommand (λ g s o. DerivationFrom word.now (option_copied start.entry) g s o)
         (S.told shelf.old).held rules.now) (rules.now ∷ []) (S.told shelf.old) (S.told shelf.new) result }
 {
-    match fetched(alloc, shelf, rules) {
+    match fetched(alloc, shelf, rules, MOST_RULES) {
         Ok(text) => say_explanation(alloc, shelf, text.as_slice(), word.as_bytes(), start),
         Err(status) => status,
     }

@@ -9,7 +9,7 @@ ghost use Rattle.text_commands.specs.Start.{AnswersOf};
 
 use crate::start::{grammar_from, no_form};
 use crate::unfit::{ANY, note_unfit};
-use answers::{Answer, MEMORY, fetched, rules_refusal, say};
+use answers::{Answer, MEMORY, MOST_RULES, fetched, rules_refusal, say};
 use day_questions::fits_answer;
 use roster_model::{Grammar, Memory};
 use rules_text::read_rules;
@@ -89,7 +89,7 @@ pub fn fits<S: Shelf>(
     ensures { IsReader (RulesCommand (λ g s o. FitsFrom pattern.now (option_copied start.entry) g s o)
         (S.told shelf.old).held rules.now) (rules.now ∷ []) (S.told shelf.old) (S.told shelf.new) result }
 {
-    match fetched(alloc, shelf, rules) {
+    match fetched(alloc, shelf, rules, MOST_RULES) {
         Ok(text) => say_fitting(alloc, shelf, text.as_slice(), pattern.as_bytes(), start),
         Err(status) => status,
     }

@@ -8,7 +8,7 @@ ghost use Rattle.answers.specs.RulesCommands.{RulesCommand};
 ghost use Rattle.text_commands.specs.Start.{AnswersOf};
 
 use crate::start::{grammar_from, no_form, note_refused};
-use answers::{Answer, MEMORY, fetched, rules_refusal, say};
+use answers::{Answer, MEMORY, MOST_RULES, fetched, rules_refusal, say};
 use day_questions::next_answer;
 use roster_model::{Grammar, Memory};
 use rules_text::read_rules;
@@ -88,7 +88,7 @@ pub fn next<S: Shelf>(
     ensures { IsReader (RulesCommand (λ g s o. NextFrom prefix.now (option_copied start.entry) g s o)
         (S.told shelf.old).held rules.now) (rules.now ∷ []) (S.told shelf.old) (S.told shelf.new) result }
 {
-    match fetched(alloc, shelf, rules) {
+    match fetched(alloc, shelf, rules, MOST_RULES) {
         Ok(text) => say_following(alloc, shelf, text.as_slice(), prefix.as_bytes(), start),
         Err(status) => status,
     }

@@ -9,7 +9,7 @@ ghost use Rattle.text_commands.specs.Start.{AnswersOf};
 
 use crate::oddities::note_rules;
 use crate::start::{grammar_from, no_form, note_refused};
-use answers::{Answer, MEMORY, fetched, rules_refusal, say};
+use answers::{Answer, MEMORY, MOST_RULES, fetched, rules_refusal, say};
 use day_questions::ranked_answer;
 use roster_model::{Grammar, Memory};
 use rules_text::read_rules;
@@ -102,7 +102,7 @@ pub fn rank<S: Shelf>(
     ensures { IsReader (RulesCommand (λ g s o. RankFrom most (option_copied start.entry) g s o)
         (S.told shelf.old).held rules.now) (rules.now ∷ []) (S.told shelf.old) (S.told shelf.new) result }
 {
-    match fetched(alloc, shelf, rules) {
+    match fetched(alloc, shelf, rules, MOST_RULES) {
         Ok(text) => say_ranking(alloc, shelf, text.as_slice(), most, start),
         Err(status) => status,
     }

@@ -6,6 +6,7 @@ ghost use Rattle.answers.specs.Reader.{IsReader};
 ghost use Rattle.answers.specs.TextCommands.{TextCommand};
 ghost use Rattle.text_commands.specs.what_if.Rest.{Resting};
 
+use crate::what_if::limits::MOST_ROSTER;
 use crate::what_if::value::roster_refusal;
 use answers::{Answer, Question, ask};
 use roster_model::{Instance, Memory, Shift};
@@ -57,10 +58,20 @@ struct KeptShifts;
 impl Question for KeptShifts {
     ghost use Rattle.text_commands.specs.what_if.Statuses.{resting-ends};
     ghost use Rattle.text_commands.specs.what_if.Rest.{Resting};
+    ghost use Rattle.text_commands.specs.what_if.Fronts.{resting-fronts};
 
     ghost answers = { λ _. Resting };
 
+    ghost limit = { λ _. 1048576 };
+
     ghost ends = { λ _. resting-ends };
+
+    ghost fronts = { λ _. resting-fronts };
+
+    // A roster text has at most so many bytes.
+    fn most(&self) -> usize {
+        MOST_ROSTER
+    }
 
     // Says what remains of the day beside the roster that the text states.
     fn answer(&self, alloc: Global, instance: &Instance, text: &[u8]) -> Result<Answer, Memory> {

@@ -7,6 +7,7 @@ ghost use Rattle.answers.specs.Reader.{IsReader};
 ghost use Rattle.answers.specs.TextCommands.{TextCommand};
 ghost use Rattle.text_commands.specs.what_if.Value.{Valuation};
 
+use crate::what_if::limits::MOST_ROSTER;
 use answers::{Answer, Question, ask};
 use roster_model::{Instance, Memory, Shift};
 use roster_value::{RosterFault, fault_line, read_roster, stated_answer};
@@ -67,10 +68,20 @@ struct StatedValue;
 impl Question for StatedValue {
     ghost use Rattle.text_commands.specs.what_if.Statuses.{value-ends};
     ghost use Rattle.text_commands.specs.what_if.Value.{Valuation};
+    ghost use Rattle.text_commands.specs.what_if.Fronts.{value-fronts};
 
     ghost answers = { λ _. Valuation };
 
+    ghost limit = { λ _. 1048576 };
+
     ghost ends = { λ _. value-ends };
+
+    ghost fronts = { λ _. value-fronts };
+
+    // A roster text has at most so many bytes.
+    fn most(&self) -> usize {
+        MOST_ROSTER
+    }
 
     // Says what the roster that the text states comes to.
     fn answer(&self, alloc: Global, instance: &Instance, text: &[u8]) -> Result<Answer, Memory> {

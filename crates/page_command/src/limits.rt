@@ -1,0 +1,7 @@
+use answers::MOST_PROOF;
+
+/// A labels text has at most so many bytes.
+pub(crate) const MOST_LABELS: usize = 65_536;
+
+/// An old text has at most so many bytes: a proof text has, and a report has no more.
+pub(crate) const MOST_OLD: usize = MOST_PROOF;

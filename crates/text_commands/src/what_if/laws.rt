@@ -1,0 +1,10 @@
+ghost use Rattle.std.specs.Prelude.{◌≡◌, ℕ, List};
+ghost use Rattle.roster_model.specs.declared.instance.Instance.{Instance};
+ghost use Rattle.roster_value.specs.stated_rosters.RosterOf.{roster_of};
+ghost use Rattle.shelf.specs.Shelf.{front_to};
+
+/// States a law: a roster text and its first bytes, up to one above the limit, are read alike; a text over the limit
+/// and its first bytes so are refused alike.
+pub fn roster_by_front()
+    ensures { (i : Instance) (text : List ℕ) → roster_of i (front_to 1048576 text) ≡ roster_of i text }
+{}

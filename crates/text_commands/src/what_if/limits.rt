@@ -1,0 +1,2 @@
+/// A roster text has at most so many bytes.
+pub(crate) const MOST_ROSTER: usize = 1_048_576;
