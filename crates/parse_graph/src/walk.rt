@@ -1,7 +1,6 @@
-ghost use Rattle.std.specs.Prelude.{◌≡◌, ◌≤◌, [], IfOk, OnOk, IfErr, length, List as Items};
-ghost use Rattle.roster_model.specs.declared.grammar.ArcKey.{ArcKey as Arc};
+ghost use Rattle.std.specs.Prelude.{◌≡◌, ◌≤◌, [], IfOk, OnOk, IfErr};
 ghost use Rattle.roster_model.specs.Sound.{IsSound};
-ghost use Rattle.span_arcs.specs.Ahead.{IsPassed};
+ghost use Rattle.span_arcs.specs.Ahead.{HasPassed};
 ghost use Rattle.span_arcs.specs.DayArcs.{IsDayArcsOf};
 ghost use Rattle.parse_graph.specs.Graphs.{IsRefused};
 ghost use Rattle.parse_graph.specs.Listed.{IsArcCount, AreListed};
@@ -11,19 +10,21 @@ use roster_model::{ArcKey, Grammar, List};
 use span_arcs::DayArcs;
 use std::alloc::Global;
 
-// Returns how many arcs the instance has, so many of which come before the next one.
+// Returns how many arcs the instance has, so many of which come before the next one. They are counted run by
+// run.
 fn count_arcs(grammar: &Grammar, day: &DayArcs, passed: u64, first: Option<ArcKey>) -> u64
     requires sound { IsSound grammar.now }
     requires day { IsDayArcsOf grammar.now day.now }
-    requires passed { (listed : Items Arc) × IsPassed grammar.now listed first × (passed ≡ length listed) }
+    requires passed { HasPassed grammar.now passed first }
     ensures count { IsArcCount grammar.now result }
     ensures more { passed ≤ result }
 {
     let mut count = passed;
     let mut next = first;
     while let Some(arc) = next {
-        count += 1;
-        next = day.next_arc(grammar, Some(arc));
+        let run = day.count_run(grammar, arc);
+        count += run.before + 1;
+        next = day.next_arc(grammar, Some(run.last));
     }
     count
 }

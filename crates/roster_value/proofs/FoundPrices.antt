@@ -1,8 +1,10 @@
 -- The prices that were found of shifts, in order.
-use Rattle.std.proofs.Common.{◌≡◌, ℕ, zero, suc, ◌+◌, ◌<◌, arith, Option, None, Some, MatchOption, List, [], ◌∷◌, ◌++◌, length, take, get_or, refl, ap, add-one}
+use Rattle.std.proofs.Common.{◌≡◌, ℕ, zero, suc, ◌+◌, ◌<◌, arith, Option, None, Some, MatchOption, List, [], ◌∷◌, ◌++◌, length, take, get_or, refl, ap, subst, ◌∙◌, add-one}
+use Rattle.std.specs.Prelude.{slice_get}
+use Rattle.std.proofs.lemmas.Option.{same_Some, slice_get_within}
 use Rattle.roster_model.specs.declared.instance.Instance.{Instance}
 use Rattle.roster_model.specs.declared.instance.Shift.{Shift}
-use Rattle.roster_model.specs.Duties.{duty}
+use Rattle.roster_model.specs.Duties.{Duty, duty}
 use Rattle.certificates.specs.RosterCauses.{IsNoShift}
 use Rattle.certificates.proofs.certificate_laws.NoCause.{one-team-price}
 use Rattle.roster_model.specs.Rosters.{IsTeamPrice}
@@ -32,6 +34,21 @@ module _ (i : Instance) where
   -- one more was found
   pub found-next : (ss : List Shift) (k : ℕ) (d : Shift) (os : List (Option ℕ)) (o : Option ℕ) → k < length ss → AreFound i (take k ss) os → IsFound i (get_or ss k d) o → AreFound i (take (k + 1) ss) (os ++ o ∷ [])
   found-next ss k d os o lt h p = rw (take-next ss k d lt) (found_push (take k ss) os (get_or ss k d) o h p)
+
+  -- the price of a shift is that of each shift that is the same word in the same team
+  same_found : (s t : Shift) (o : Option ℕ) → duty s ≡ duty t → IsFound i s o → IsFound i t o
+  same_found s t None e h = λ team listed numbered shift.
+      let group : s.group ≡ t.group = ap (λ (d : Duty). d.team) e in
+      let word : s.word ≡ t.word = ap (λ (d : Duty). d.word) e in
+      h team listed (rw group numbered) (rw word shift)
+  same_found s t (Some price) e h = subst (λ (d : Duty). IsTeamPrice i d price) e h
+
+  -- so is the one that was found of the shift at a place
+  pub found-same : (ss : List Shift) (os : List (Option ℕ)) (k : ℕ) (s t : Shift) (d : Option ℕ) → AreFound i ss os → slice_get ss k ≡ Some s → duty s ≡ duty t → IsFound i t (get_or os k d)
+  found-same [] os k s t d h at e = let within : k < 0 = slice_get_within [] k s at in absurd (omega (arith, within))
+  found-same (x ∷ ss) [] k s t d h at e = absurd h
+  found-same (x ∷ ss) (o ∷ os) zero s t d h at e = same_found x t o (ap duty (same_Some x s at) ∙ e) h.0
+  found-same (x ∷ ss) (o ∷ os) (suc k) s t d h at e = found-same ss os k s t d h.1 at e
 
   -- a word that has a price in its team is a shift of it
   pub priced-shift : (s : Shift) (price : ℕ) → IsTeamPrice i (duty s) price → IsNoShift i s → ⊥

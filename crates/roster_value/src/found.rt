@@ -1,15 +1,60 @@
-ghost use Rattle.std.specs.Prelude.{IfOk};
+ghost use Rattle.std.specs.Prelude.{◌≡◌, IfOk, IfSome, IsTrue, Some, slice_get};
+ghost use Rattle.roster_model.specs.declared.grammar.Grammar.{Grammar as Rules};
+ghost use Rattle.roster_model.specs.declared.instance.Shift.{Shift as ShiftValue};
+ghost use Rattle.roster_model.specs.Duties.{duty};
 ghost use Rattle.roster_model.specs.Folds.{Each};
 ghost use Rattle.roster_model.specs.SoundInstance.{IsSoundInstance};
-ghost use Rattle.certificates.specs.Sound.{IsSoundShift};
+ghost use Rattle.certificates.specs.Sound.{IsGroupNumber, IsSoundShift};
 ghost use Rattle.span_table.specs.Tables.{IsMadeFor};
 ghost use Rattle.roster_report.specs.Reports.{HasSoundShifts};
-ghost use Rattle.roster_value.specs.Causes.{AreFound};
+ghost use Rattle.roster_value.specs.Causes.{AreFound, IsFound};
 
 use check_parts::{ShiftRoom, StatedShift, least_price};
 use roster_model::{Instance, List, Memory, Shift};
 use span_table::Table;
 use std::alloc::Global;
+
+// Returns whether two shifts are one word in one team.
+fn is_same_duty(first: &StatedShift, second: &StatedShift) -> bool
+    ensures { IsTrue result → duty first.now ≡ duty second.now }
+{
+    first.group() == second.group() && first.word() == second.word()
+}
+
+// Returns the place of the first of these shifts that is the same word in the same team, where there is one.
+fn same_among(shifts: &[StatedShift], shift: &StatedShift) -> Option<usize>
+    ensures { IfSome result (λ place. (same : ShiftValue) × (slice_get shifts.now place ≡ Some same)
+        × (duty same ≡ duty shift.now)) }
+{
+    for (place, other) in shifts.iter().enumerate() {
+        if is_same_duty(other, shift) {
+            return Some(place);
+        }
+    }
+    None
+}
+
+// Returns the price of a shift's word in its team, or none for a word that is no shift of it. The table is filled
+// only where no shift before, of which these prices were found, is the same word in the same team.
+fn price_after(
+    instance: &Instance,
+    before: &[StatedShift],
+    found: &[Option<u64>],
+    shift: &StatedShift,
+    table: &mut Table,
+) -> Option<u64>
+    requires sound { IsSoundInstance instance.now }
+    requires made { IsMadeFor instance.now.grammar table.old }
+    requires found { AreFound instance.now before.now found.now }
+    requires group { IsGroupNumber instance.now.groups shift.now.group }
+    ensures value { IsFound instance.now shift.now result }
+    ensures kept { (g : Rules) → IsMadeFor g table.old → IsMadeFor g table.new }
+{
+    match same_among(before, shift) {
+        Some(place) => found[place],
+        None => least_price(instance, shift, table),
+    }
+}
 
 // Returns the price of each shift's word in its team, or none for a word that is no shift of it. The table was
 // made for the instance's grammar.
@@ -25,8 +70,9 @@ fn found_by(
     ensures { IfOk result (AreFound instance.now shifts.now) }
 {
     let mut found = List::new(alloc);
-    for shift in shifts {
-        found.push(least_price(instance, shift, table))?;
+    for (place, shift) in shifts.iter().enumerate() {
+        let price = price_after(instance, &shifts[..place], found.as_slice(), shift, table);
+        found.push(price)?;
     }
     Ok(found)
 }

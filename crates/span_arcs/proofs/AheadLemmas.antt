@@ -1,5 +1,5 @@
 -- The arcs that a walk has passed, and those ahead of it.
-use Rattle.std.proofs.Common.{◌≡◌, arith, ◌<◌, ◌≤◌, List, [], ◌∷◌, ◌++◌, Option, None, Some, length, sym, subst, ◌⊎◌, inl, inr}
+use Rattle.std.proofs.Common.{ℕ, ◌≡◌, ◌+◌, arith, ◌<◌, ◌≤◌, List, [], ◌∷◌, ◌++◌, Option, None, Some, length, sym, subst, ◌⊎◌, inl, inr}
 use Rattle.std.specs.Prelude.{IfSome}
 use Rattle.std.proofs.lemmas.List.{length-append}
 use Rattle.std.proofs.lemmas.Option.{same_Some}
@@ -11,7 +11,7 @@ use Rattle.roster_model.proofs.ComesFirstLemmas.{first_one_way, first_through}
 use Rattle.roster_model.proofs.EachLemmas.{Each-weaker, Each-append}
 use Rattle.roster_model.specs.arc_laws.Lists.{IsRising, AreArcs}
 use Rattle.roster_model.proofs.arc_laws.FoldsLemmas.{In-append}
-use Rattle.span_arcs.specs.Ahead.{IsAhead, IsPassed}
+use Rattle.span_arcs.specs.Ahead.{HasPassed, IsAhead, IsPassed}
 use Rattle.span_arcs.specs.Order.{IsNextArc, IsSmall}
 use Rattle.span_arcs.proofs.OrderLemmas.{before-lower, keys_left}
 use Rattle.span_arcs.proofs.StandLemmas.{In-left, In-right}
@@ -109,6 +109,10 @@ module _ (g : Grammar) (small : (x : ArcKey) → IsArc g x → IsSmall x) (liste
         next_arc = n.0;
         few = omega (arith, l, h.few, k);
       }
+
+-- with one more step one more has been passed
+pub has-passed-step : (g : Grammar) → ((x : ArcKey) → IsArc g x → IsSmall x) → (n : ℕ) (a : ArcKey) → HasPassed g n (Some a) → (r : Option ArcKey) → IsNextArc g (Some a) r → HasPassed g (n + 1) r
+has-passed-step g small n a h r next = (h.0 ++ a ∷ [], passed-step g small h.0 a h.1 r next, omega (arith, h.2, length-append h.0 (a ∷ [])))
 
 -- there are few of them
 pub passed-few : (g : Grammar) → ((x : ArcKey) → IsArc g x → IsSmall x) → (listed : List ArcKey) (r : Option ArcKey) → IsPassed g listed r → length listed ≤ 1099511627776

@@ -25,3 +25,7 @@ pub record IsPassed (g : Grammar) (listed : List ArcKey) (next : Option ArcKey) 
   pub before : IfSome next (λ b. Each (λ a. ArcBefore a b) listed)
   pub next_arc : IfSome next (IsArc g)
   pub few : length listed ≤ passed_bound next
+
+-- so many arcs the walk has passed
+abbrev pub HasPassed : Grammar → ℕ → Option ArcKey → Type 0
+HasPassed g count next = (listed : List ArcKey) × IsPassed g listed next × (count ≡ length listed)

@@ -1,8 +1,8 @@
-ghost use Rattle.std.specs.Prelude.{◌↔◌, ◌≡◌, ◌≤◌, IsTrue, IfOk, Some, length};
+ghost use Rattle.std.specs.Prelude.{ℕ, ◌↔◌, ◌≡◌, ◌≤◌, ◌+◌, IsTrue, IfOk, Some, length};
 ghost use Rattle.roster_model.specs.Arcs.{IsArc};
 ghost use Rattle.roster_model.specs.Sound.{IsSound};
 ghost use Rattle.span_cells.specs.Cells.{cell_count};
-ghost use Rattle.span_arcs.specs.Ahead.{IsPassed};
+ghost use Rattle.span_arcs.specs.Ahead.{HasPassed, IsPassed};
 ghost use Rattle.span_arcs.specs.DayArcs.{IsDayArcsOf, IsDerivedOf};
 ghost use Rattle.span_arcs.specs.Marks.{AreMarked};
 ghost use Rattle.span_arcs.specs.Order.{IsNextArc, key_number};
@@ -10,7 +10,7 @@ ghost use Rattle.span_arcs.specs.Order.{IsNextArc, key_number};
 use crate::arcs::{is_arc, next_arc};
 use crate::derived::Derived;
 use crate::marks::mark_all;
-use crate::runs::list_run;
+use crate::runs::{Run, count_run, list_run};
 use roster_model::{ArcKey, Grammar, List, Memory};
 use span_cells::count_cells;
 use std::alloc::Global;
@@ -126,6 +126,25 @@ impl DayArcs {
             self.marks.as_slice(),
             arc,
             arcs,
+        )
+    }
+
+    /// Counts an arc of the instance and those after it with the same rule, suffix, start and length, but
+    /// for the last of these, which is given back with the count. Takes no memory.
+    pub fn count_run(&self, grammar: &Grammar, arc: ArcKey) -> Run
+        requires sound { IsSound grammar.now }
+        requires arcs { IsDayArcsOf grammar.now self.now }
+        requires arc { IsArc grammar.now arc }
+        ensures passed { (passed : ℕ) → HasPassed grammar.now passed (Some arc)
+            → HasPassed grammar.now (passed + result.before) (Some result.last) }
+        ensures later { key_number arc ≤ key_number result.last }
+    {
+        count_run(
+            grammar,
+            &self.derived.layout,
+            &self.derived.free,
+            self.marks.as_slice(),
+            arc,
         )
     }
 }

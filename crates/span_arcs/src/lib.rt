@@ -11,3 +11,4 @@ mod marks;
 mod runs;
 
 pub use day_arcs::DayArcs;
+pub use runs::Run;

@@ -1,4 +1,4 @@
-ghost use Rattle.std.specs.Prelude.{◌≡◌, ◌≤◌, ◌<◌, ◌+◌, ◌-◌, ◌*◌, ℕ, Some, true, length, drop, slice_get, slice_index_or};
+ghost use Rattle.std.specs.Prelude.{◌≡◌, ◌≤◌, ◌<◌, ◌+◌, ◌-◌, ◌*◌, ℕ, IsTrue, Some, true, length, drop, slice_get, slice_index_or};
 ghost use Rattle.roster_model.specs.declared.grammar.Rule.{Rule as RuleValue};
 ghost use Rattle.roster_model.specs.Grammar.{rule_at, InDay};
 ghost use Rattle.roster_model.specs.Sound.{IsSound, Exists};
@@ -62,8 +62,60 @@ fn mark_rest(
     }
 }
 
-// Marks a first part of this length and the others, where both derive.
-fn mark_split(
+// Whether a symbol is marked on a span. A code needs no mark.
+#[inline(always)]
+fn is_symbol_marked(
+    grammar: &Grammar,
+    layout: &Layout,
+    marks: &[bool],
+    symbol: Sym,
+    span: Span,
+) -> bool
+    requires sound { IsSound grammar.now }
+    requires layout { IsLayoutOf grammar.now layout.now }
+    requires count { length marks.now ≡ cell_count layout.now }
+    requires day { InDay grammar.now.periods span.start span.len }
+    requires exists { Exists (length grammar.now.codes) (length grammar.now.names) symbol }
+    ensures { IsTrue result → SymbolMarked layout.now marks.now symbol span.start span.len }
+{
+    match symbol {
+        Sym::Code(_) => true,
+        Sym::Name(name) => marks[place_of(layout, layout.names[name as usize], span)],
+    }
+}
+
+// Whether a suffix that is not the whole right side is marked on a span.
+#[inline(always)]
+fn is_rest_marked(
+    grammar: &Grammar,
+    layout: &Layout,
+    marks: &[bool],
+    rule: &Rule,
+    suffix: Suffix,
+    span: Span,
+) -> bool
+    requires sound { IsSound grammar.now }
+    requires layout { IsLayoutOf grammar.now layout.now }
+    requires count { length marks.now ≡ cell_count layout.now }
+    requires day { InDay grammar.now.periods span.start span.len }
+    requires rule { rule_at grammar.now suffix.rule ≡ Some rule.now }
+    requires inner { 1 ≤ suffix.from }
+    requires within { suffix.from < length rule.now.right }
+    ensures { IsTrue result → RestMarked layout.now marks.now suffix.rule suffix.from
+        (drop suffix.from rule.now.right) span.start span.len }
+{
+    let right = rule.right.as_slice();
+    let from = suffix.from as usize;
+    if from + 1 == right.len() {
+        is_symbol_marked(grammar, layout, marks, right[from], span)
+    } else {
+        let slot = slot_of(grammar, layout, rule, suffix);
+        marks[place_of(layout, slot, span)]
+    }
+}
+
+// Marks a first part of this length and the others, where both derive, whatever is marked.
+fn mark_derived(
     grammar: &Grammar,
     layout: &Layout,
     cells: &FreeCells,
@@ -110,6 +162,56 @@ fn mark_split(
     }
     mark_symbol(grammar, layout, marks, symbol, first);
     mark_rest(grammar, layout, marks, rule, next, others);
+}
+
+// Marks a first part of this length and the others, where both derive. Where both are marked, nothing is looked
+// for.
+#[inline(always)]
+fn mark_split(
+    grammar: &Grammar,
+    layout: &Layout,
+    cells: &FreeCells,
+    marks: &mut [bool],
+    rule: &Rule,
+    suffix: Suffix,
+    span: Span,
+    part: u8,
+)
+    requires sound { IsSound grammar.now }
+    requires ready { IsReady grammar.now layout.now cells.now }
+    requires filled { AreFilled grammar.now free_view layout.now cells.now }
+    requires count { length marks.old ≡ cell_count layout.now }
+    requires day { InDay grammar.now.periods span.start span.len }
+    requires rule { rule_at grammar.now suffix.rule ≡ Some rule.now }
+    requires within { suffix.from + 2 ≤ length rule.now.right }
+    requires stand { PartsStand grammar.now suffix.rule suffix.from (drop suffix.from rule.now.right)
+        span.start span.len }
+    requires some { 1 ≤ part }
+    requires others { part < span.len }
+    ensures adds { Adds grammar.now layout.now (place layout.now 0 span.start span.len) marks.old marks.new }
+    ensures marked { SplitMarked grammar.now layout.now marks.new suffix.rule suffix.from
+        (slice_index_or rule.now.right suffix.from (Sym.Code 0)) (drop (suffix.from + 1) rule.now.right)
+        span.start part (span.len - part) }
+{
+    let symbol = rule.right.as_slice()[suffix.from as usize];
+    let next = Suffix {
+        rule: suffix.rule,
+        from: suffix.from + 1,
+    };
+    let first = Span {
+        start: span.start,
+        len: part,
+    };
+    let others = Span {
+        start: span.start + part,
+        len: span.len - part,
+    };
+    if is_rest_marked(grammar, layout, marks, rule, next, others)
+        && is_symbol_marked(grammar, layout, marks, symbol, first)
+    {
+        return;
+    }
+    mark_derived(grammar, layout, cells, marks, rule, suffix, span, part);
 }
 
 // Marks what the parts of a suffix of two or more symbols are made of on a span.

@@ -4,7 +4,7 @@ ghost use Rattle.roster_model.specs.Arcs.{IsArc};
 ghost use Rattle.roster_model.specs.Sound.{IsSound};
 ghost use Rattle.span_cells.specs.Cells.{IsReady, AreFilled, cell_count};
 ghost use Rattle.span_cells.specs.Periods.{Has};
-ghost use Rattle.span_arcs.specs.Ahead.{IsPassed};
+ghost use Rattle.span_arcs.specs.Ahead.{HasPassed, IsPassed};
 ghost use Rattle.span_arcs.specs.Order.{IsLongerPart, key_number};
 ghost use Rattle.span_arcs.specs.Marks.{free_view, AreMarked, HasSplit};
 
@@ -99,4 +99,56 @@ pub fn list_run(
         last = ArcKey { part, ..arc };
     }
     Ok(last)
+}
+
+/// How many arcs of a run come before its last one.
+#[derive(Clone, Copy, Debug, PartialEq, Eq, Drop)]
+pub struct Run {
+    /// How many, from the given one on: at most 95.
+    pub before: u64,
+    /// The last one.
+    pub last: ArcKey,
+}
+
+/// Counts an arc of the instance and all others with the same rule, suffix, start and length that come
+/// after it, but for the last of them. Takes no memory.
+pub fn count_run(
+    grammar: &Grammar,
+    layout: &Layout,
+    cells: &FreeCells,
+    marks: &[bool],
+    arc: ArcKey,
+) -> Run
+    requires sound { IsSound grammar.now }
+    requires ready { IsReady grammar.now layout.now cells.now }
+    requires filled { AreFilled grammar.now free_view layout.now cells.now }
+    requires count { length marks.now ≡ cell_count layout.now }
+    requires marked { AreMarked grammar.now layout.now marks.now }
+    requires arc { IsArc grammar.now arc }
+    ensures passed { (passed : ℕ) → HasPassed grammar.now passed (Some arc)
+        → HasPassed grammar.now (passed + result.before) (Some result.last) }
+    ensures later { key_number arc ≤ key_number result.last }
+{
+    let rule = rule_of(grammar, arc.rule);
+    let mut last = arc;
+    let mut before = 0;
+    if arc.suffix as usize + 1 == rule.right.len() {
+        return Run { before, last };
+    }
+    let suffix = Suffix {
+        rule: arc.rule,
+        from: arc.suffix,
+    };
+    let span = Span {
+        start: arc.start,
+        len: arc.len,
+    };
+    let points = split_points(grammar, layout, cells, rule, suffix, span);
+    while let Some(part) = next_split(
+        grammar, layout, cells, rule, suffix, span, points, last.part,
+    ) {
+        before += 1;
+        last = ArcKey { part, ..arc };
+    }
+    Run { before, last }
 }

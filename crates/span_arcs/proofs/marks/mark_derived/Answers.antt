@@ -7,7 +7,7 @@ use Rattle.span_cells.specs.Cells.{place}
 use Rattle.span_arcs.specs.Marks.{HasSome}
 use Rattle.span_arcs.proofs.MarksLemmas.{adds-more, symbol-kept, span-before}
 use Rattle.span_arcs.proofs.PartMarksLemmas.{first-of-two, rest-of-two, before-end}
-use Rattle.span_arcs.proofs.marks.mark_split.Goals as goal
+use Rattle.span_arcs.proofs.marks.mark_derived.Goals as goal
 
 pub mark_symbol-requires-clause-stand : goal.mark_symbol-requires-clause-stand
 mark_symbol-requires-clause-stand c =
