@@ -9,8 +9,8 @@ pub front-cases : (most : ℕ) (text : List ℕ)
     → ((most < length text) × (most < length (front_to most text))) ⊎ (front_to most text ≡ text)
 front-cases most text = elim (cases_lt most (length text)) [
   | inl lt ↦
-    let long : length (take (most + 1) text) ≡ most + 1 = length-take-le (most + 1) text (omega (arith, lt)) in
-    inl (lt, omega (arith, long))
+      let long : length (take (most + 1) text) ≡ most + 1 = length-take-le (most + 1) text (omega (arith, lt)) in
+      inl (lt, omega (arith, long))
   | inr ge ↦ inr (take_all (most + 1) text (omega (arith, ge)))
 ]
 
@@ -26,7 +26,7 @@ pub alike : {R : Type 0} (most limit : ℕ) (refusal : R) (reading : List ℕ �
     ≡ cond (ltb limit (length text)) refusal (reading text)
 alike most limit refusal reading text le = elim (front-cases most text) [
   | inl over ↦
-    over_limit limit refusal reading (front_to most text) (omega (arith, le, over.1))
-    ∙ sym (over_limit limit refusal reading text (omega (arith, le, over.0)))
+      over_limit limit refusal reading (front_to most text) (omega (arith, le, over.1))
+      ∙ sym (over_limit limit refusal reading text (omega (arith, le, over.0)))
   | inr same ↦ ap (λ (t : List ℕ). cond (ltb limit (length t)) refusal (reading t)) same
 ]

@@ -44,7 +44,7 @@ pub long-proof : (i : Instance) (text : List ℕ) (c : Cert) → 1073741824 < le
 unfolding proof_of pieces_of
 long-proof i text c lt e =
     let refused : proof_of i text ≡ Err faults.TooLong =
-        ap (λ (r : Reader). collected no_cert (pieces_left i r [])) (long-reader text lt) ∙ no-lines-told i in
+    ap (λ (r : Reader). collected no_cert (pieces_left i r [])) (long-reader text lt) ∙ no-lines-told i in
     let clash : Ok c ≡ Err faults.TooLong = sym e ∙ refused in
     cc
 

@@ -34,7 +34,7 @@ long-parsed text lt = over_limit 1048576 refusal reading text lt
 pub long-rules : (text : List ℕ) (g : Grammar) → 1048576 < length text → IsGrammarOf text g → ⊥
 long-rules text g lt h =
     let e : Ok g ≡ Err TooLong =
-        subst (λ (p : Result Parsed RulesFault). IsOutcome p (Ok g)) (long-parsed text lt) h.reading in
+    subst (λ (p : Result Parsed RulesFault). IsOutcome p (Ok g)) (long-parsed text lt) h.reading in
     cc
 
 pub reading-whole : (text : List ℕ) (r : Result Grammar RulesFault) → IsReading (front_to 1048576 text) r

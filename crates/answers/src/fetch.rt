@@ -15,7 +15,12 @@ use std::alloc::Global;
 /// # Errors
 ///
 /// The status of the refusal: 6 where the shelf refuses the call, and 7 where memory runs out.
-pub fn fetched<S: Shelf>(alloc: Global, shelf: &mut S, name: &str, most: usize) -> Result<Vec<u8>, u8>
+pub fn fetched<S: Shelf>(
+    alloc: Global,
+    shelf: &mut S,
+    name: &str,
+    most: usize,
+) -> Result<Vec<u8>, u8>
     ensures text { IfOk result (λ text. IsFetchTo most name.now (S.told shelf.old) (S.told shelf.new) text.items) }
     ensures refusal { IfErr result (λ status. IsReader NoAnswer (name.now ∷ []) (S.told shelf.old)
         (S.told shelf.new) status) }

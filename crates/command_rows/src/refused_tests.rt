@@ -128,11 +128,13 @@ fn says_half(
 ) -> Result<bool, Fail> {
     let refused = run(alloc, words, &[failing, failing.saturating_add(1)])?;
     let said = whole.shelf.said();
-    Ok(refused.status == 6
-        && refused.shelf.faults() == 2
-        && refused.shelf.said() == &said[..said.len() / 2]
-        && hold(&refused, whole, calls, failing)
-        && keeps(&refused, calls))
+    Ok(
+        refused.status == 6
+            && refused.shelf.faults() == 2
+            && refused.shelf.said() == &said[..said.len() / 2]
+            && hold(&refused, whole, calls, failing)
+            && keeps(&refused, calls),
+    )
 }
 
 /// Whether a run whose call of this number is a store that fails, before the answer is said all the same, says
@@ -146,8 +148,15 @@ fn is_not_lost(
     name: &str,
 ) -> Result<bool, Fail> {
     Ok(
-        ends_at(alloc, words, calls, whole, failing, name, whole.shelf.said())?
-            && says_half(alloc, words, calls, whole, failing)?,
+        ends_at(
+            alloc,
+            words,
+            calls,
+            whole,
+            failing,
+            name,
+            whole.shelf.said(),
+        )? && says_half(alloc, words, calls, whole, failing)?,
     )
 }
 

@@ -1,14 +1,13 @@
 -- Commands that store a text and then say an answer.
-use Rattle.std.proofs.Common.{◌≡◌, ◌≢◌, ◌≤◌, ℕ, Bool, true, false, true≢false, List, [], ◌∷◌, Option, None, Some, Ok, arith, refl, sym, subst, ◌∙◌, ◌⊎◌, inl, inr}
+use Rattle.std.proofs.Common.{◌≡◌, ◌≢◌, ◌≤◌, ℕ, Bool, true, false, true≢false, List, [], ◌∷◌, Option, None, Some, arith, refl, sym, subst, ◌∙◌, ◌⊎◌, inl, inr}
 use Rattle.std.specs.Prelude.{IfSome, IsSomeAnd, IsTrue}
 use Rattle.std.specs.FinMap as fin
-use Rattle.shelf.specs.Shelf.{Texts, Told, AgreesElsewhere, SaidPart, one_more}
+use Rattle.shelf.specs.Shelf.{Texts, Told, AgreesElsewhere, one_more}
 use Rattle.shelf.specs.Stores.{may_replace, may_store}
-use Rattle.answers.specs.declared.answer.Answer.{Answer}
 use Rattle.answers.specs.Fetch.{IsFetch, NoAnswer}
 use Rattle.answers.specs.Reader.{HoldsAll, MayStore, Said, SaidLittle, IsReader}
-use Rattle.search_commands.specs.Writer.{Answers, Keeps, IsStored, IsUnstored, StoredAllowed, WroteLittle, IsWriter, IsStoredAnswer, IsAsked, IsTurnedDown, StoresNothing}
-use Rattle.answers.proofs.Readers.{IsSaid, more_faults, no_more, others_held, quiet_now}
+use Rattle.search_commands.specs.Writer.{Answers, Keeps, IsStored, IsUnstored, StoredAllowed, WroteLittle, IsWriter, IsAsked, IsTurnedDown, StoresNothing}
+use Rattle.answers.proofs.Readers.{more_faults, no_more, others_held, quiet_now}
 
 pub keeps_same : (old new : Option Texts) → new ≡ old → Keeps old new
 keeps_same None new e = tt
@@ -174,72 +173,4 @@ turned_down A name before after status r = record {
   never_falls = r.asked.never_falls;
   cause = r.cause;
   steady = λ steady holds may few six. no_more before.faults few (subst (λ (n : ℕ). one_more before.faults ≤ n) (r.asked.quiet steady may) (r.cause six));
-}
-
--- what one call said of an answer, whose text is stored or was refused
-module _ (a : Answer) (text name : List ℕ) (ended : ℕ) (before after : Told) (held : IsStored before.held after.held name (Some text) ⊎ IsUnstored before.held after.held ended) where
-  part_little : (old new : List ℕ) → SaidPart a.output old new → WroteLittle (IsStoredAnswer (Ok a) text) name ended before after old new
-  part_little old new h = inr (record { status = a.status; output = a.output; stored = Some text; answers = (refl, refl, refl); front = h.0; rest = h.1; whole = h.2; said = h.3; held = held })
-
-  part_fronts : (old new : Option (List ℕ)) → IfSome old (λ s. IsSomeAnd new (SaidPart a.output s)) → IfSome old (λ s. IsSomeAnd new (WroteLittle (IsStoredAnswer (Ok a) text) name ended before after s))
-  part_fronts None new h = tt
-  part_fronts (Some s) None h = absurd h
-  part_fronts (Some s) (Some t) h = part_little s t h
-
--- what a shelf did that was asked to store a text, and did or refused it
-pub record IsTried (name : List ℕ) (before after : Told) : Type 0 where
-  pub others : IfSome before.held (λ texts. IsSomeAnd after.held (AgreesElsewhere name texts))
-  pub kept : IfSome before.held (λ texts. may_store texts name ≡ false → after.held ≡ before.held)
-  pub said : after.said ≡ before.said
-  pub never_falls : before.faults ≤ after.faults
-  pub stays_steady : IsTrue before.steady → IsTrue after.steady
-  pub quiet : IsTrue before.steady → IfSome before.held (λ texts. IsTrue (may_store texts name) → after.faults ≡ before.faults)
-
-quiet_store : (name : List ℕ) (held : Option Texts) (n m : ℕ) → IfSome held (λ texts. IsTrue (may_store texts name) → m ≡ n) → MayStore name held → m ≡ n
-quiet_store name None n m q h = absurd h
-quiet_store name (Some t) n m q h = q h
-
--- a text that was stored, and then said
-pub stored_said : (a : Answer) (text name : List ℕ) (before middle after : Told) (status : ℕ) → IsTried name before middle → IfSome before.held (λ texts. middle.held ≡ Some (fin.insert texts name text)) → IsSaid a middle after status
-    → IsWriter (IsStoredAnswer (Ok a) text) [] name before after status
-stored_said a text name before middle after status t stored said = record {
-  others = subst (λ (x : Option Texts). IfSome before.held (λ texts. IsSomeAnd x (AgreesElsewhere name texts))) (sym said.held) t.others;
-  kept = keeps_stored name before.held after.held (subst (λ (x : Option Texts). IfSome before.held (λ texts. may_store texts name ≡ false → x ≡ before.held)) (sym said.held) t.kept)
-      (subst (λ (x : Option Texts). IfSome before.held (λ texts. IsSomeAnd x (AgreesElsewhere name texts))) (sym said.held) t.others);
-  answer = λ six seven.
-      let same = which said.status_is six seven in
-      (a.output, Some text, (same, refl, refl), subst (λ (x : Option (List ℕ)). Said x after.said a.output) t.said (said.whole same), held);
-  front = part_fronts a text name status before after (inl held) before.said after.said (subst (λ (x : Option (List ℕ)). IfSome x (λ s. IsSomeAnd after.said (SaidPart a.output s))) t.said said.part);
-  memory = λ seven. inr (record { status = a.status; output = a.output; stored = Some text; answers = (refl, refl, refl); held = held });
-  never_falls = let less = t.never_falls in let more = said.never_falls in omega (arith, less, more);
-  cause = λ six. more_faults before.faults middle.faults after.faults t.never_falls (said.cause six);
-  steady = λ steady holds may few six.
-      let calm : middle.faults ≡ before.faults = quiet_store name before.held before.faults middle.faults (t.quiet steady) may in
-      let still : after.faults ≡ middle.faults = said.quiet (t.stays_steady steady) in
-      let more : one_more middle.faults ≤ after.faults = said.cause six in
-      no_more before.faults few (subst (λ (n : ℕ). one_more n ≤ n) calm (subst (λ (n : ℕ). one_more middle.faults ≤ n) still more));
-}
-  where
-    held : IsStored before.held after.held name (Some text)
-    held = subst (λ (x : Option Texts). IfSome before.held (λ texts. x ≡ Some (fin.insert texts name text))) (sym said.held) stored
-
-    which : (status ≡ a.status) ⊎ ((status ≡ 6) ⊎ (status ≡ 7)) → status ≢ 6 → status ≢ 7 → status ≡ a.status
-    which (inl same) six seven = same
-    which (inr (inl e)) six seven = absurd (six e)
-    which (inr (inr e)) six seven = absurd (seven e)
-
--- a text that the shelf refused to store, and what was said all the same
-pub unstored_said : (a : Answer) (text name : List ℕ) (before middle after : Told) (status : ℕ) → IsTried name before middle → middle.held ≡ before.held → one_more before.faults ≤ middle.faults → status ≡ 6
-    → after.held ≡ middle.held → IfSome middle.said (λ s. IsSomeAnd after.said (SaidPart a.output s)) → middle.faults ≤ after.faults → IsWriter (IsStoredAnswer (Ok a) text) [] name before after status
-unstored_said a text name before middle after status t same cause six kept part more = record {
-  others = unchanged name before.held after.held (kept ∙ same);
-  kept = keeps_same before.held after.held (kept ∙ same);
-  answer = λ other seven. absurd (other six);
-  front = part_fronts a text name status before after (inr (record { six = six; same = kept ∙ same })) before.said after.said (subst (λ (x : Option (List ℕ)). IfSome x (λ s. IsSomeAnd after.said (SaidPart a.output s))) t.said part);
-  memory = λ seven. inl (kept ∙ same);
-  never_falls = let less = t.never_falls in omega (arith, less, more);
-  cause = λ e. omega (arith, cause, more);
-  steady = λ steady holds may few e.
-      let calm : middle.faults ≡ before.faults = quiet_store name before.held before.faults middle.faults (t.quiet steady) may in
-      no_more before.faults few (subst (λ (n : ℕ). one_more before.faults ≤ n) calm cause);
 }

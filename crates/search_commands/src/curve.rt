@@ -38,9 +38,8 @@ use crate::limit::Limit;
 use crate::solve::graph_refusal;
 use crate::store::ask_name;
 use answers::{
-    Answer, MEMORY, MOST_DEMAND, MOST_RULES, demand_refusal, fetched, rules_refusal, say, say_answer,
-    say_answer_to,
-    status_of,
+    Answer, MEMORY, MOST_DEMAND, MOST_RULES, demand_refusal, fetched, rules_refusal, say,
+    say_answer, say_answer_to, status_of,
 };
 use branch_price::{Master, Subject, Watch};
 use day_solver::{CurvePoint, DayCurve, Solution, Staff, staff_of, write_curve};

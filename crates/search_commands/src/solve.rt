@@ -30,7 +30,8 @@ use crate::notes::note_search;
 use crate::reuse::text_refusal;
 use crate::store::{ask_name, store_and_say};
 use answers::{
-    Answer, MOST_DEMAND, MOST_PROOF, MOST_RULES, demand_refusal, fetched, rules_refusal, say_answer, say_answer_to,
+    Answer, MOST_DEMAND, MOST_PROOF, MOST_RULES, demand_refusal, fetched, rules_refusal,
+    say_answer, say_answer_to,
 };
 use branch_price::{Done, Found, Master, Subject, Watch};
 use certificate_text::read_cert;
