@@ -177,7 +177,7 @@ def other_descriptor(room):
 def read_only_file(room):
     room.path("p").write_bytes(OLD)
     room.path("p").chmod(0o444)
-    expect_refused(room, room.solve(), b"p: the file may be written by nobody, and was left alone\n")
+    expect_refused(room, room.solve(), b"p: the file is read-only, and was left alone\n")
     expect(room.path("p").read_bytes() == OLD and room.made() == ["p"])
 
 

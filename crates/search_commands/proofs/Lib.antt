@@ -14,3 +14,4 @@ pub mod OneEndLemmas
 pub mod CurveEnds
 pub mod SolveLemmas
 pub mod CurveLemmas
+pub mod StoredOver

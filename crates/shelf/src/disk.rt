@@ -22,7 +22,7 @@ const OUTPUT: &str = "standard output";
 const NOT_OPEN: i32 = 9;
 
 /// What is noted of a file that nobody may write.
-const READ_ONLY: &str = "the file may be written by nobody, and was left alone";
+const READ_ONLY: &str = "the file is read-only, and was left alone";
 
 /// What is noted of a link to what is not there.
 const NOWHERE: &str = "the link leads nowhere";
