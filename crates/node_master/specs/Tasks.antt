@@ -1,10 +1,9 @@
--- Nodes whose masters may be hunted and solved, and what is lent for that.
-use Rattle.std.specs.Prelude.{ℤ, pos, ◌≡◌, ◌≤◌, ◌<◌, ◌<ℤ◌, ◌^◌, Bool, List, length, Result, IfOk}
+-- Nodes whose masters may be solved, and how they end.
+use Rattle.std.specs.Prelude.{ℤ, pos, ◌≡◌, ◌<◌, ◌<ℤ◌, ◌^◌, Bool, List, length}
 use Rattle.roster_model.specs.declared.instance.Cut.{Cut}
 use Rattle.roster_model.specs.declared.instance.Instance.{Instance}
 use Rattle.roster_model.specs.declared.instance.Mult.{Mult}
 use Rattle.roster_model.specs.declared.instance.Prices.{Prices}
-use Rattle.roster_model.specs.declared.memory.Memory.{Memory as MemoryLack}
 use Rattle.roster_model.specs.Folds.{Each}
 use Rattle.roster_model.specs.PriceLimits.{FitPrices}
 use Rattle.roster_model.specs.Trees.{Parts, IsDayTree}
@@ -49,20 +48,10 @@ pub record MaySolve (t : NodeTask) (p : PricerView) (ts : List PoolTree) : Type 
   pub node : IsBusyNode t.day t.cuts.now
   pub tools : AreTools t.day p ts
 
--- how the master of a task ends, which nothing stops where it is calm
-abbrev pub EndsTask : NodeTask → List PoolTree → Counts → Counts → Bool → NodeEnd → Type 0
-EndsTask t columns old new calm end = EndsRight t.day.instance.now t.cuts.now columns old new calm end
-
--- the same for each tally that counts the end
+-- the master of a task, which nothing stops where it is calm, ends right for each tally that counts its end
 abbrev pub EndsCounted : NodeTask → List PoolTree → Bool → NodeEnd → Type 0
-EndsCounted t columns calm end =
-    (old new : Counts) → IsCounted end old new → EndsTask t columns old new calm end
-
--- a master of a task was solved: it ends right, and no count fell
-pub record SolvesTask (t : NodeTask) (columns : List PoolTree) (old new : Counts) (calm : Bool)
-    (r : Result NodeEnd MemoryLack) : Type 0 where
-  pub end : IfOk r (EndsTask t columns old new calm)
-  pub counts : (old.wide ≤ new.wide) × (old.spent ≤ new.spent)
+EndsCounted t columns calm end = (old new : Counts) → IsCounted end old new
+    → EndsRight t.day.instance.now t.cuts.now columns old new calm end
 
 -- the path of a task's master ended so, over a pool and listed columns
 abbrev pub EndsPath : NodeTask → List PoolTree → List Held → LpEnd → Type 0
