@@ -1,4 +1,5 @@
-//! What watches a search: it is told between two turns how far the search is, and says whether that is to go on.
+//! What watches a search: it is told how far the search is, and says whether that is to go on, between two turns
+//! and within one.
 #![tactic(auto)]
 
 mod clock;
@@ -6,9 +7,11 @@ mod standing;
 mod steady;
 mod turns;
 mod watch;
+mod work;
 
 pub use clock::ClockWatch;
 pub use standing::{Standing, Subject};
 pub use steady::SteadyWatch;
 pub use turns::TurnWatch;
 pub use watch::Watch;
+pub use work::Work;

@@ -1,5 +1,6 @@
 use crate::standing::{Standing, Subject};
 use crate::watch::Watch;
+use crate::work::Work;
 
 /// A watch that lets each search go on to its end, and says nothing.
 #[derive(Clone, Copy, Debug, Drop)]
@@ -17,4 +18,15 @@ impl Watch for SteadyWatch {
     fn goes_on(&mut self, _standing: &Standing) -> bool {
         true
     }
+
+    /// Says that no search is over.
+    fn is_over(&self) -> bool {
+        false
+    }
+
+    /// Keeps nothing.
+    fn tell(&self, _work: Work) {}
+
+    /// Keeps nothing.
+    fn tell_cost(&self, _cost: u64) {}
 }

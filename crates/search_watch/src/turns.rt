@@ -1,7 +1,8 @@
 use crate::standing::{Standing, Subject};
 use crate::watch::Watch;
+use crate::work::Work;
 
-/// A watch without a clock: it counts a second for each turn.
+/// A watch without a clock: it counts a second for each turn, and stops nothing within one.
 #[derive(Clone, Copy, Debug, Drop)]
 pub struct TurnWatch {
     seconds: Option<u32>,
@@ -28,4 +29,15 @@ impl Watch for TurnWatch {
     fn goes_on(&mut self, standing: &Standing) -> bool {
         self.seconds.is_none_or(|seconds| standing.turn < seconds)
     }
+
+    /// Says that no turn is over before its end.
+    fn is_over(&self) -> bool {
+        false
+    }
+
+    /// Keeps nothing.
+    fn tell(&self, _work: Work) {}
+
+    /// Keeps nothing.
+    fn tell_cost(&self, _cost: u64) {}
 }

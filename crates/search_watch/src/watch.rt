@@ -1,8 +1,9 @@
-ghost use Rattle.std.specs.Prelude.{◌≡◌, Bool, true, None, IsTrue};
+ghost use Rattle.std.specs.Prelude.{◌≡◌, Bool, true, false, None, IsTrue};
 
 use crate::standing::{Standing, Subject};
+use crate::work::Work;
 
-/// What watches a search, and may stop it between two turns.
+/// What watches a search, and may stop it between two turns or within one.
 pub trait Watch {
     // Whether it lets a search go on to its end.
     ghost patient: { Self → Bool };
@@ -14,4 +15,15 @@ pub trait Watch {
     /// Is told how far the search is, and says whether it is to go on.
     fn goes_on(&mut self, standing: &Standing) -> bool
         ensures { IsTrue (patient self.old) → (result ≡ true) × IsTrue (patient self.new) };
+
+    /// Says whether the search is to stop. It is asked within a turn too, and answers in less than a millionth
+    /// of a second.
+    fn is_over(&self) -> bool
+        ensures { IsTrue (patient self.now) → result ≡ false };
+
+    /// Is told what the search does now.
+    fn tell(&self, work: Work);
+
+    /// Is told what the best roster costs that was found within the turn.
+    fn tell_cost(&self, cost: u64);
 }
