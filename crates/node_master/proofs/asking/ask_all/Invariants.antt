@@ -1,5 +1,0 @@
-use Rattle.node_master.specs.Hunts.{StayHunting}
-use Rattle.node_master.proofs.asking.ask_all.Given as goal
-
-abbrev pub invariant-loop-weight : goal.invariant-loop-weight
-invariant-loop-weight l = StayHunting l.task l.pricer l.initial.pool l.pool l.hunt

@@ -1,0 +1,92 @@
+ghost use Rattle.std.specs.Prelude.{◌≡◌, length};
+ghost use Rattle.master_rows.specs.node_task.Tasks.{IsTask, row_count};
+ghost use Rattle.node_columns.specs.Tools.{AreTools, StayTools};
+ghost use Rattle.search_columns.specs.Hunts.{IsHunting, StayHunting};
+
+use crate::asked::KAPPA;
+use crate::hunt::Hunt;
+use cheapest_tree::Pricer;
+use master_rows::NodeTask;
+use node_columns::{ColumnDesk, first_wide, list_cheapest};
+use roster_model::Memory;
+use std::alloc::Global;
+use tree_pool::Pool;
+
+/// The weights of the best prices, in sixteenths, at which a round asks beside the scout's own.
+const WEIGHTS: [i128; 4] = [12, 9, 6, 3];
+
+/// From so many trees on the pool is full: a hunt asks for no further ones.
+pub const FULL: usize = 20_000;
+
+/// Lists a tree of negative reduced cost at prices in units of 2^-24, and returns its column. No tree is
+/// asked for where the pool is full.
+fn ask(
+    alloc: Global,
+    task: &NodeTask,
+    y: &[i128],
+    pricer: &mut Pricer,
+    pool: &mut Pool,
+    desk: &mut ColumnDesk,
+) -> Result<Option<usize>, Memory>
+    requires task { IsTask task.now }
+    requires y { length y.now ≡ row_count task.now }
+    requires tools { AreTools task.now pricer.old pool.old desk.old }
+    ensures { StayTools task.now pricer.new pool.old pool.new desk.new }
+{
+    if pool.len() >= FULL || first_wide(y, KAPPA).is_some() {
+        return Ok(None);
+    }
+    list_cheapest(alloc, task, y, KAPPA, pricer, pool, desk)
+}
+
+/// Lists a tree at mixed prices, and says whether it is cheap.
+///
+/// # Errors
+///
+/// `Memory` where memory runs out.
+pub(crate) fn ask_mixed(
+    alloc: Global,
+    task: &NodeTask,
+    weight: i128,
+    pricer: &mut Pricer,
+    pool: &mut Pool,
+    hunt: &mut Hunt,
+) -> Result<bool, Memory>
+    requires { IsHunting task.now pricer.old pool.old hunt.old }
+    ensures { StayHunting task.now pricer.new pool.old pool.new hunt.new }
+{
+    hunt.asked.mix(hunt.scout.prices(), weight);
+    let y = hunt.asked.y.as_slice();
+    let Some(column) = ask(alloc, task, y, pricer, pool, &mut hunt.desk)? else {
+        return Ok(false);
+    };
+    Ok(
+        hunt.asked.note(
+            hunt.desk.held.as_slice(),
+            column,
+            task.rows.right(),
+            task.day.instance.heads_max,
+        ),
+    )
+}
+
+/// Lists trees at mixed prices.
+///
+/// # Errors
+///
+/// `Memory` where memory runs out; the hunt may go on then, with the trees that were found.
+pub(crate) fn ask_all(
+    alloc: Global,
+    task: &NodeTask,
+    pricer: &mut Pricer,
+    pool: &mut Pool,
+    hunt: &mut Hunt,
+) -> Result<(), Memory>
+    requires { IsHunting task.now pricer.old pool.old hunt.old }
+    ensures { StayHunting task.now pricer.new pool.old pool.new hunt.new }
+{
+    for weight in WEIGHTS {
+        let _is_cheap = ask_mixed(alloc, task, weight, pricer, pool, hunt)?;
+    }
+    Ok(())
+}

@@ -1,0 +1,133 @@
+ghost use Rattle.std.specs.Prelude.{ℕ, ◌<◌, All, List as Items, length, IfOk};
+ghost use Rattle.roster_model.specs.declared.instance.Cut.{Cut as PathCut};
+ghost use Rattle.roster_model.specs.declared.instance.Instance.{Instance as Model};
+ghost use Rattle.tree_pool.specs.Pools.{PoolTree, IsPool};
+ghost use Rattle.master_rows.specs.node_task.Tasks.{IsTask};
+ghost use Rattle.node_columns.specs.Columns.{IsDesk};
+
+use crate::hunt::Hunt;
+use crate::scouting::{basic_own, basic_trees, placed_trees};
+use master_rows::NodeTask;
+use near_prices::{NearHint, near_hint};
+use node_columns::{ColumnDesk, desk_of};
+use roster_model::{List, Memory};
+use std::alloc::Global;
+use tree_pool::Pool;
+
+/// How many units of a near price make one of the prices that are asked at.
+const FINE: i128 = 65_536;
+
+/// What a hunt ends with: a basis that may be a good one.
+#[derive(Drop)]
+pub struct Hint {
+    /// Its trees of the pool.
+    pub trees: List<usize>,
+    /// The listed columns of rows in it.
+    pub own: List<u32>,
+    /// Its weights and prices.
+    pub near: NearHint,
+    /// Whether the hunt ended before no tree was cheap, since the value was near to what the best prices show.
+    pub is_early: bool,
+    /// Whether a watch ended the hunt.
+    pub is_stopped: bool,
+}
+
+/// Adds the columns below a count to those that are wanted.
+fn want_listed(wanted: &mut List<u32>, own: &[u32], count: usize) -> Result<(), Memory>
+    requires { All (λ (j : ℕ). j < count) wanted.old }
+    ensures { IfOk result (λ _. All (λ (j : ℕ). j < count) wanted.new) }
+{
+    for column in own {
+        if (*column as usize) < count {
+            wanted.push(*column)?;
+        }
+    }
+    Ok(())
+}
+
+/// Wants columns of rows beside those that are wanted.
+fn want_own(desk: &mut ColumnDesk, own: &[u32]) -> Result<(), Memory>
+    requires { All (λ (j : ℕ). j < length desk.old.held) desk.old.wanted }
+    ensures { IfOk result (λ _. (i : Model) (cuts : Items PathCut) (pool : Items PoolTree)
+        → IsDesk i cuts pool desk.old → IsDesk i cuts pool desk.new) }
+{
+    want_listed(&mut desk.wanted, own, desk.held.len())
+}
+
+/// Returns a desk for a node, with the rows' own columns and the trees of a basis listed, and the columns of
+/// the basis wanted.
+///
+/// # Errors
+///
+/// `Memory` where memory runs out; nothing is kept then.
+pub fn hinted_desk(
+    alloc: Global,
+    task: &NodeTask,
+    hint: &Hint,
+    pool: &Pool,
+) -> Result<ColumnDesk, Memory>
+    requires task { IsTask task.now }
+    requires pool { IsPool task.now.day.instance.now.grammar pool.now }
+    ensures { IfOk result (IsDesk task.now.day.instance.now task.now.cuts.now pool.now) }
+{
+    let mut desk = desk_of(alloc, task, pool, hint.trees.as_slice())?;
+    want_own(&mut desk, hint.own.as_slice())?;
+    Ok(desk)
+}
+
+/// Returns prices in units of 2^-40 that stand in units of 2^-24.
+fn fine_prices(alloc: Global, prices: &[i128]) -> Result<List<i128>, Memory> {
+    let mut fine = List::new(alloc);
+    for price in prices {
+        fine.push(price.saturating_mul(FINE))?;
+    }
+    Ok(fine)
+}
+
+/// Returns what a hunt gives for near prices; where it ended early, with the best prices that were asked at.
+fn near_of(alloc: Global, task: &NodeTask, pool: &Pool, hunt: &Hunt) -> Result<NearHint, Memory>
+    requires { IsTask task.now }
+{
+    let scout = &hunt.scout;
+    let places = placed_trees(alloc, hunt.desk.held.as_slice(), scout)?;
+    let near = near_hint(
+        alloc,
+        task.day.instance,
+        task.cuts,
+        task.rows,
+        pool,
+        places.as_slice(),
+        scout,
+    )?;
+    match hunt.asked.early_prices() {
+        None => Ok(near),
+        Some(best) => Ok(NearHint {
+            listed: near.listed,
+            y: fine_prices(alloc, best)?,
+        }),
+    }
+}
+
+/// Returns the basis of a hunt, which a watch may have stopped.
+///
+/// # Errors
+///
+/// `Memory` where memory runs out; nothing is kept then.
+pub(crate) fn hint_of(
+    alloc: Global,
+    task: &NodeTask,
+    pool: &Pool,
+    hunt: &Hunt,
+    is_stopped: bool,
+) -> Result<Hint, Memory>
+    requires { IsTask task.now }
+{
+    let held = hunt.desk.held.as_slice();
+    Ok(Hint {
+        trees: basic_trees(alloc, held, &hunt.scout)?,
+        own: basic_own(alloc, held, &hunt.scout)?,
+        near: near_of(alloc, task, pool, hunt)?,
+        is_early: hunt.asked.early_prices().is_some(),
+        is_stopped,
+    })
+}
