@@ -61,9 +61,10 @@ impl State {
     /// Sets what the columns of what is missing and of what is beyond in a row cost; the next run works the
     /// prices out again. A column that a row does not have stays away. Takes no memory.
     pub fn set_row_costs(&mut self, row: usize, missing: i64, beyond: Option<i64>) {
+        let place = row.saturating_add(self.rows());
         self.columns.set_cost(row, missing);
         if let Some(cost) = beyond {
-            self.columns.set_cost(row.saturating_add(self.rows()), cost);
+            self.columns.set_cost(place, cost);
         }
         self.changes.is_mispriced = true;
     }
