@@ -93,9 +93,9 @@ fn solve<W: Watch>(
     Ok(run(&mut descent.program, watch))
 }
 
-/// Takes a step: solves the program, and fixes trees by its weights. Says whether any was fixed, and none is where
-/// the watch is over. From where the program's value comes near to the cost below which a roster is looked for, no
-/// tree is asked for.
+/// Takes a step: solves the program, and fixes trees by its weights. Says whether any was fixed, and none is
+/// where the watch is over. From where the program's value comes near to the cost below which a roster is
+/// looked for, no tree is asked for.
 fn step<W: Watch>(
     alloc: Global,
     task: &NodeTask,
@@ -229,11 +229,11 @@ fn dive_over<W: Watch>(
 /// Dives from the node at a path of cuts, base cuts first, whose master has at most 1,500 rows, and returns
 /// the trees of the pool that it fixed: the begin of a roster, or all of it.
 ///
-/// It solves the node's program at a scout, fixes a few trees that its weights come near to, takes them
-/// off the program, and goes on so until no tree has weight. Once its value shows that hardly a roster with
-/// the fixed trees costs less than `cost`, it asks for no further tree. Trees of the pool that are `begun` are
-/// listed in the program, beside the last ones of the pool: any list of numbers is lawful. Where the watch is over
-/// no further tree is fixed.
+/// It solves the node's program at a scout, fixes a few trees that its weights come near to, takes them off
+/// the program, and goes on so until no tree has weight. Once its value shows that hardly a roster with the
+/// fixed trees costs less than `cost`, it asks for no further tree. Trees of the pool that are `begun` are
+/// listed in the program, beside the last ones of the pool: any list of numbers is lawful. Where the watch is
+/// over no further tree is fixed.
 ///
 /// # Errors
 ///

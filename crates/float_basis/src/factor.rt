@@ -1,7 +1,7 @@
 use crate::basis::{Basis, NO_COLUMN, Position};
 use crate::columns::Columns;
 use crate::grown::Grown;
-use crate::numbers::{Entry64, LEAST_PIVOT};
+use crate::numbers::Entry64;
 use crate::vectors::{number_of, place_at, set_all, set_at};
 
 /// Leaves the basis of what is missing.
@@ -29,9 +29,9 @@ fn take_missing(taken: &mut [bool], wanted: &[usize]) {
     }
 }
 
-/// Returns the loose row not yet taken with the greatest entry in size, if that is a pivot.
-fn free_row(entries: &[Entry64], taken: &[bool]) -> Option<usize> {
-    let mut greatest = LEAST_PIVOT;
+/// Returns the loose row not yet taken with the greatest entry in size, if that is more than the least pivot.
+fn free_row(entries: &[Entry64], taken: &[bool], least: Entry64) -> Option<usize> {
+    let mut greatest = least;
     let mut found = None;
     for (row, (entry, is_taken)) in entries.iter().zip(taken).enumerate() {
         let size = entry.abs();
@@ -91,15 +91,16 @@ impl Basis {
     }
 
     /// Returns the row not yet taken in which the column that was expressed last has its greatest entry.
-    fn free_row(&self) -> Option<usize> {
+    fn free_row(&self, least: Entry64) -> Option<usize> {
         let entries = self.room.entering.as_slice().get(self.rows()..)?;
-        free_row(entries, self.room.taken.as_slice())
+        free_row(entries, self.room.taken.as_slice(), least)
     }
 
-    /// Puts a listed column into the basis, in the free row with its greatest entry.
-    fn put_listed(&mut self, columns: &Columns, place: usize) -> Result<(), Grown> {
+    /// Puts a listed column into the basis, in the free row with its greatest entry, if that is more than the
+    /// least pivot.
+    fn put_listed(&mut self, columns: &Columns, place: usize, least: Entry64) -> Result<(), Grown> {
         self.fill_column(columns, place)?;
-        let Some(row) = self.free_row() else {
+        let Some(row) = self.free_row(least) else {
             return Ok(());
         };
         let number = row.saturating_add(self.rows());
@@ -112,12 +113,12 @@ impl Basis {
     }
 
     /// Puts the wanted listed columns into the basis.
-    fn put_all_listed(&mut self, columns: &Columns) -> Result<(), Grown> {
+    fn put_all_listed(&mut self, columns: &Columns, least: Entry64) -> Result<(), Grown> {
         let first = self.rows().saturating_mul(2);
         for number in 0..self.room.wanted.len() {
             let place = place_at(self.room.wanted.as_slice(), number);
             if place >= first && place < columns.len() {
-                self.put_listed(columns, place)?;
+                self.put_listed(columns, place, least)?;
             }
         }
         Ok(())
@@ -131,18 +132,20 @@ impl Basis {
         set_all(self.room.taken.as_mut_slice(), false);
     }
 
-    /// Becomes the basis of the wanted columns, as far as they are independent, and makes its inverse anew; their
-    /// columns become basic. A row for which none is left has that of what is missing there.
+    /// Becomes the basis of the wanted columns, as far as they are independent, and makes its inverse anew;
+    /// their columns become basic. A row for which none is left has that of what is missing there. A listed
+    /// column whose pivot is not more than the least one in size is left out: it nearly depends on the
+    /// others.
     ///
     /// # Errors
     ///
     /// `Grown` where a number is beyond its bound; it is a basis of some of the wanted columns then, whose
     /// inverse is not to be used.
-    pub fn factor(&mut self, columns: &mut Columns) -> Result<(), Grown> {
+    pub fn factor(&mut self, columns: &mut Columns, least: Entry64) -> Result<(), Grown> {
         self.reset(columns);
         take_missing(self.room.taken.as_mut_slice(), self.room.wanted.as_slice());
         self.put_all_beyond(columns);
-        let put = self.put_all_listed(columns);
+        let put = self.put_all_listed(columns, least);
         columns.mark_basic(self.units.as_slice());
         columns.mark_basic(self.kernel.listed.as_slice());
         put

@@ -7,7 +7,7 @@ pub(crate) type Weight64 = f64;
 const MOST_PRICE: Price64 = 134_217_728.0;
 
 /// The greatest reference weight, 2^32.
-const MOST_WEIGHT: Weight64 = 4_294_967_296.0;
+pub(crate) const MOST_WEIGHT: Weight64 = 4_294_967_296.0;
 
 /// A ratio above all others.
 pub(crate) const NEVER: f64 = 1.0e300;

@@ -44,6 +44,7 @@ impl State {
         self.counts.drift = other.counts.drift;
         self.counts.since = other.counts.since;
         self.tolerances = other.tolerances;
+        self.is_careful = other.is_careful;
         self.answers.copy_from(&other.answers);
     }
 

@@ -3,6 +3,7 @@
 #![tactic(auto)]
 
 mod bounds;
+mod care;
 mod compare;
 mod copying;
 mod figures;

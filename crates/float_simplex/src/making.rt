@@ -87,6 +87,7 @@ fn make_blank(alloc: Global) -> State {
             pivots: 0,
         },
         tolerances: Tolerances::usual(),
+        is_careful: false,
         answers: blank_answers(alloc),
     }
 }

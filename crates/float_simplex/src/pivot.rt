@@ -11,7 +11,7 @@ use float_basis::{
 /// What a step did.
 #[derive(Clone, Copy, Drop)]
 pub(crate) enum Step {
-    /// A column entered.
+    /// A column entered, or was put off.
     Stepped,
     /// There was nothing to do.
     Done,
@@ -105,6 +105,9 @@ impl State {
         };
         let entry = number_of(self.basis.entering(), number)?;
         let entering = self.entering(place)?;
+        if self.puts_column_off(place, entry) {
+            return Ok(Step::Stepped);
+        }
         fitting(is_price(entering.reduced))?;
         let position = position_of(number, self.rows());
         let row = self.basis.fill_row(&self.columns, position);
@@ -147,6 +150,9 @@ impl State {
         self.basis.fill_column(&self.columns, place)?;
         let entry = number_of(self.basis.entering(), number)?;
         let entering = self.entering(place)?;
+        if self.puts_position_off(number, entry) {
+            return Ok(Step::Stepped);
+        }
         fitting(is_price(entering.reduced))?;
         let unit = self.basis.scale_row(row, entry).ok_or(Grown)?;
         let value = self.step_values(number, entry)?;

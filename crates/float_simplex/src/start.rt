@@ -1,6 +1,6 @@
 use crate::key::Key;
 use crate::state::State;
-use float_basis::{Grown, Value64, at, set_all};
+use float_basis::{Entry64, Grown, LEAST_PIVOT, Value64, at, set_all};
 
 /// Returns the place of a column in a program of so many rows.
 fn place_of(rows: usize, key: Key) -> usize {
@@ -41,12 +41,13 @@ impl State {
         }
     }
 
-    /// Makes the inverse anew from the wanted columns, and works out what follows from it.
-    fn make_anew(&mut self) -> Result<(), Grown> {
+    /// Makes the inverse anew from the wanted columns whose pivots are more than this in size, and works out
+    /// what follows from it.
+    fn make_anew(&mut self, least: Entry64) -> Result<(), Grown> {
         set_all(self.figures.weights.as_mut_slice(), 1.0);
         self.positions.reset();
         self.counts.since = 0;
-        self.basis.factor(&mut self.columns)?;
+        self.basis.factor(&mut self.columns, least)?;
         self.refresh()
     }
 
@@ -57,7 +58,7 @@ impl State {
     /// `Grown` where a number of the inverse, or what follows from it, is beyond its bound.
     pub fn start(&mut self, keys: &[Key]) -> Result<(), Grown> {
         self.want_keys(keys);
-        let made = self.make_anew();
+        let made = self.make_anew(LEAST_PIVOT);
         self.answer();
         made
     }
@@ -84,7 +85,7 @@ impl State {
     /// and of what is missing in the others.
     fn start_below(&mut self, limit: Option<Value64>) -> Result<(), Grown> {
         self.want_beyond(limit);
-        let made = self.make_anew();
+        let made = self.make_anew(LEAST_PIVOT);
         self.answer();
         made
     }
@@ -95,7 +96,16 @@ impl State {
     ///
     /// `Grown` where a number of the inverse, or what follows from it, is beyond its bound.
     pub(crate) fn renew(&mut self) -> Result<(), Grown> {
+        self.renew_above(LEAST_PIVOT)
+    }
+
+    /// Makes the inverse anew from those columns of its basis whose pivots are more than this in size.
+    ///
+    /// # Errors
+    ///
+    /// `Grown` where a number of the inverse, or what follows from it, is beyond its bound.
+    pub(crate) fn renew_above(&mut self, least: Entry64) -> Result<(), Grown> {
         self.basis.want_own();
-        self.make_anew()
+        self.make_anew(least)
     }
 }

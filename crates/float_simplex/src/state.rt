@@ -61,6 +61,8 @@ pub struct State {
     pub(crate) counts: Counts,
     /// What runs take for 0.
     pub(crate) tolerances: Tolerances,
+    /// Whether runs are careful.
+    pub(crate) is_careful: bool,
     pub(crate) answers: Answers,
 }
 

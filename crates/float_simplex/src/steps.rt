@@ -1,9 +1,10 @@
+use crate::care::STRICTER;
 use crate::pivot::Step;
 use crate::state::State;
 use crate::sweeps::primal_entering;
 use crate::tolerances::Tolerances;
 use crate::values::are_feasible;
-use float_basis::Grown;
+use float_basis::{Entry64, Grown, LEAST_PIVOT};
 use search_watch::Watch;
 
 /// How many steps a run may take.
@@ -77,6 +78,9 @@ impl State {
     /// Takes one dual step.
     fn next_dual(&mut self) -> Result<Step, Grown> {
         self.renew_old()?;
+        if self.counts.since == 0 {
+            self.shift_costs();
+        }
         self.dual_step()
     }
 
@@ -98,6 +102,7 @@ impl State {
 
     /// Takes dual steps until no value is negative. A watch that is over ends them as their limit does.
     fn run_dual<W: Watch>(&mut self, most: u32, watch: &W) -> Scouted {
+        self.shift_costs();
         for step in 0..most {
             if is_over(step, watch) {
                 break;
@@ -109,8 +114,8 @@ impl State {
         spent_unless(self.is_feasible())
     }
 
-    /// Takes primal steps until no column has a negative reduced cost. A watch that is over ends them as their
-    /// limit does.
+    /// Takes primal steps until no column has a negative reduced cost. A watch that is over ends them as
+    /// their limit does.
     fn run_primal<W: Watch>(&mut self, most: u32, watch: &W) -> Scouted {
         self.positions.has_weights = false;
         for step in 0..most {
@@ -129,12 +134,24 @@ impl State {
         self.is_feasible() && self.is_priced_out()
     }
 
+    /// Works the reduced costs out anew where a run is careful, since dual steps may have raised them.
+    fn take_shift_off(&mut self) -> Result<(), Grown> {
+        if self.is_careful {
+            self.refresh()
+        } else {
+            Ok(())
+        }
+    }
+
     /// Takes dual steps where a value is negative.
     fn make_feasible<W: Watch>(&mut self, limits: Limits, watch: &W) -> Scouted {
         if self.is_feasible() {
             return Scouted::Optimal;
         }
         let answer = self.run_dual(limits.dual, watch);
+        if self.take_shift_off().is_err() {
+            return Scouted::Grew;
+        }
         if answer == Scouted::Spent {
             let _steps = self.run_primal(limits.primal, watch);
         }
@@ -191,13 +208,36 @@ impl State {
         }
     }
 
-    /// Runs, and where a number left its bounds once more from the same basis.
+    /// Runs once more from those columns of the basis whose pivots are more than this in size.
+    fn run_above<W: Watch>(&mut self, least: Entry64, limits: Limits, watch: &W) -> Scouted {
+        match self.renew_above(least) {
+            Ok(()) => self.run_turns(limits, watch),
+            Err(Grown) => Scouted::Grew,
+        }
+    }
+
+    /// Runs once more from fewer and fewer columns of the basis, until no number leaves its bounds.
+    fn run_stricter<W: Watch>(&mut self, limits: Limits, watch: &W) -> Scouted {
+        for least in STRICTER {
+            let answer = self.run_above(least, limits, watch);
+            if answer != Scouted::Grew {
+                return answer;
+            }
+        }
+        Scouted::Grew
+    }
+
+    /// Runs, and where a number left its bounds once more from the same basis, or, where it is careful, from
+    /// those columns of the basis that hardly depend on others.
     fn run_again<W: Watch>(&mut self, limits: Limits, watch: &W) -> Scouted {
         let answer = self.run_prepared(limits, watch);
-        if answer != Scouted::Grew || self.renew().is_err() {
+        if answer != Scouted::Grew {
             return answer;
         }
-        self.run_turns(limits, watch)
+        if self.is_careful {
+            return self.run_stricter(limits, watch);
+        }
+        self.run_above(LEAST_PIVOT, limits, watch)
     }
 
     /// Sets what further runs take for 0.
@@ -210,8 +250,8 @@ impl State {
         self.tolerances
     }
 
-    /// Runs, and writes values and prices. The watch is asked before each eighth step; where it is over the run ends
-    /// as if its steps were taken.
+    /// Runs, and writes values and prices. The watch is asked before each eighth step; where it is over the
+    /// run ends as if its steps were taken.
     pub fn run<W: Watch>(&mut self, limits: Limits, watch: &W) -> Scouted {
         let answer = self.run_again(limits, watch);
         self.answer();

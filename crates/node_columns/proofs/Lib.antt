@@ -3,6 +3,7 @@ pub mod RowPrices
 pub mod FoundTrees
 pub mod HeldColumns
 pub mod PricedOut
+pub mod SeveralLemmas
 pub mod FirstColumns
 pub mod TreeWeights
 pub mod ApartTrees

@@ -45,7 +45,7 @@ pub(crate) fn set_prices(
 }
 
 /// Returns the price of both rows of the heads.
-fn price_of_heads(task: &NodeTask, y: &[i128]) -> i128
+pub(crate) fn price_of_heads(task: &NodeTask, y: &[i128]) -> i128
     requires task { IsTask task.now }
     requires y { length y.now ≡ row_count task.now }
     requires narrow { All (λ (z : ℤ). unsigned_abs z ≤ 2 ^ 56) y.now }

@@ -72,8 +72,8 @@ fn exchange(
     refill(day, place, pricing, pool, draft)
 }
 
-/// Exchanges each tree from a place on once, in their order. The watch is asked before each of them; where it is over
-/// the others stay as they are.
+/// Exchanges each tree from a place on once, in their order. The watch is asked before each of them; where it
+/// is over the others stay as they are.
 ///
 /// # Errors
 ///

@@ -110,6 +110,30 @@ impl Scout {
         self.state.set_side(row, right);
     }
 
+    /// Lets further runs be careful: steps with small pivots wait, dual steps begin without negative reduced
+    /// costs, and where a number leaves its bounds what nearly depends on others is left out of the basis. So
+    /// programs are solved that others end in `Grew` or `Spent`, and in other steps. Takes no memory.
+    pub fn be_careful(&mut self)
+        ensures { SameSizes self.old self.new }
+    {
+        self.state.be_careful();
+    }
+
+    /// Whether runs are careful.
+    pub fn is_careful(&self) -> bool {
+        self.state.is_careful()
+    }
+
+    /// Sets what the columns of entry 1 and of entry -1 of a row cost, the second one where the row has it;
+    /// the next run works the prices out again. A row that there is not is left out. Takes no memory.
+    pub fn set_costs(&mut self, row: usize, missing: i64, beyond: Option<i64>)
+        ensures { SameSizes self.old self.new }
+    {
+        if row < self.rows {
+            self.state.set_row_costs(row, missing, beyond);
+        }
+    }
+
     /// Starts from a basis with these columns, as far as they are listed and independent; in the rows that
     /// are left it has the columns of entry 1. Takes no memory.
     ///
@@ -146,9 +170,9 @@ impl Scout {
         self.state.start_missing()
     }
 
-    /// Takes dual steps while a value is negative, and then primal steps while a listed column has
-    /// a negative reduced cost. The watch is asked before each eighth step; where it is over the run ends as if
-    /// its steps were taken. Takes no memory.
+    /// Takes dual steps while a value is negative, and then primal steps while a listed column has a negative
+    /// reduced cost. The watch is asked before each eighth step; where it is over the run ends as if its
+    /// steps were taken. Takes no memory.
     pub fn run<W: Watch>(&mut self, limits: Limits, watch: &W) -> Scouted
         ensures { SameSizes self.old self.new }
     {

@@ -45,3 +45,8 @@ pub hunting_chain : (t : NodeTask) (a b c : List PoolTree) (p q : PricerView) (h
     → StayHunting t p a b h → StayHunting t q b c k → StayHunting t q a c n
 hunting_chain t a b c p q h k n e d one two =
     record { are = hunting_moved t c q k n e d two.are; grown = grown_chain a b c one.grown two.grown }
+
+-- a hunt that lent its tools, and whose desk stays then
+pub hunting_after : (t : NodeTask) (a b : List PoolTree) (p : PricerView) (h n : Hunt) → length n.asked.y.items ≡ length h.asked.y.items → n.desk ≡ h.desk
+    → StayHunting t p a b h → StayHunting t p a b n
+hunting_after t a b p h n e d one = record { are = hunting_moved t b p h n e d one.are; grown = one.grown }

@@ -17,7 +17,10 @@ const CHEAPER: i128 = -8_192;
 const WHOLE: i128 = 16;
 
 /// How many units of a scout's value make one of a bound.
-const VALUE_UNITS: i128 = 256;
+pub(crate) const VALUE_UNITS: i128 = 256;
+
+/// How near a value is to a bound in boxes where nothing else is said, 2^-18 in units of 2^-32.
+const NEAR: i128 = 16_384;
 
 /// The prices at which trees are asked for.
 #[derive(Drop)]
@@ -31,7 +34,7 @@ pub(crate) struct Asked {
     /// A value within so much of the bound ends the hunt, in units of 2^-32; none where nothing short of no
     /// cheap tree does.
     near: Option<i128>,
-    /// Whether it was ended so.
+    /// Whether it ended so, or with the best prices for want of better ones.
     is_early: bool,
 }
 
@@ -108,13 +111,37 @@ impl Asked {
         self.is_early
     }
 
+    /// Returns the best prices, in units of 2^-24.
+    pub(crate) fn best(&self) -> &[i128] {
+        self.best.as_slice()
+    }
+
+    /// Returns the bound that they show, in the same units; none where there is none.
+    pub(crate) fn bound(&self) -> Option<i128> {
+        self.bound
+    }
+
+    /// Returns within how much of the bound a value is near to it, in the same units.
+    pub(crate) fn near(&self) -> i128 {
+        self.near.unwrap_or(NEAR) / VALUE_UNITS
+    }
+
+    /// Lets the hunt hand on the best prices, if any are known, though the value is not near to what they
+    /// show.
+    pub(crate) fn take_best(&mut self)
+        ensures { length self.new.y.items ≡ length self.old.y.items }
+    {
+        self.is_early = self.bound.is_some();
+    }
+
     /// Returns the bound that the best prices show as a whole number, rounded down; none where there is none, or
     /// where it is below 0.
     pub(crate) fn whole_bound(&self) -> Option<u64> {
         whole_bound(self.bound?)
     }
 
-    /// Returns the best prices, where the hunt ended since the value was near to what they show.
+    /// Returns the best prices, where the hunt ended since the value was near to what they show, or hands
+    /// them on for want of better ones.
     pub(crate) fn early_prices(&self) -> Option<&[i128]> {
         if self.is_early {
             Some(self.best.as_slice())

@@ -7,7 +7,7 @@ use crate::asked::KAPPA;
 use crate::hunt::Hunt;
 use cheapest_tree::Pricer;
 use master_rows::NodeTask;
-use node_columns::{ColumnDesk, first_wide, list_cheapest};
+use node_columns::{ColumnDesk, first_wide, list_cheapest, list_several};
 use roster_model::Memory;
 use std::alloc::Global;
 use tree_pool::Pool;
@@ -15,15 +15,33 @@ use tree_pool::Pool;
 /// The weights of the best prices, in sixteenths, at which a round asks beside the scout's own.
 const WEIGHTS: [i128; 4] = [12, 9, 6, 3];
 
+/// How many trees a careful hunt lists at a scout's own prices, each with another arc at the top.
+const OWN: u32 = 11;
+
+/// How many it lists so at mixed prices.
+const MIXED: u32 = 4;
+
 /// From so many trees on the pool is full: a hunt asks for no further ones.
 pub const FULL: usize = 20_000;
 
-/// Lists a tree of negative reduced cost at prices in units of 2^-24, and returns its column. No tree is
-/// asked for where the pool is full.
+/// Returns how many trees are listed at prices of which so many sixteenths are the best ones.
+fn count_at(weight: i128, is_careful: bool) -> u32 {
+    if !is_careful {
+        1
+    } else if weight == 0 {
+        OWN
+    } else {
+        MIXED
+    }
+}
+
+/// Lists trees of negative reduced cost at prices in units of 2^-24, up to so many, and returns the column of
+/// one of the least. No tree is asked for where the pool is full.
 fn ask(
     alloc: Global,
     task: &NodeTask,
     y: &[i128],
+    count: u32,
     pricer: &mut Pricer,
     pool: &mut Pool,
     desk: &mut ColumnDesk,
@@ -36,10 +54,14 @@ fn ask(
     if pool.len() >= FULL || first_wide(y, KAPPA).is_some() {
         return Ok(None);
     }
+    if count > 1 {
+        return list_several(alloc, task, y, KAPPA, count, pricer, pool, desk);
+    }
     list_cheapest(alloc, task, y, KAPPA, pricer, pool, desk)
 }
 
-/// Lists a tree at mixed prices, and says whether it is cheap.
+/// Lists a tree at mixed prices, or several where the hunt is careful, and says whether the least one is
+/// cheap.
 ///
 /// # Errors
 ///
@@ -57,7 +79,8 @@ pub(crate) fn ask_mixed(
 {
     hunt.asked.mix(hunt.scout.prices(), weight);
     let y = hunt.asked.y.as_slice();
-    let Some(column) = ask(alloc, task, y, pricer, pool, &mut hunt.desk)? else {
+    let count = count_at(weight, hunt.scout.is_careful());
+    let Some(column) = ask(alloc, task, y, count, pricer, pool, &mut hunt.desk)? else {
         return Ok(false);
     };
     Ok(

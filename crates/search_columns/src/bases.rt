@@ -17,6 +17,8 @@ pub(crate) struct Basis {
     pub(crate) own: List<Key>,
     /// The prices of the rows, in units of 2^-24.
     pub(crate) prices: List<i128>,
+    /// Whether the hunt was careful.
+    pub(crate) is_careful: bool,
 }
 
 /// A basis that is kept.

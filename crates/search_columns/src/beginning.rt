@@ -62,6 +62,9 @@ fn begun_scout<W: Watch>(
     if ending == Ending::Tight {
         scout.tighten(TIGHTER);
     }
+    if start.is_careful {
+        scout.be_careful();
+    }
     begin(&mut scout, start.keys.as_slice(), watch);
     Ok(scout)
 }

@@ -1,6 +1,7 @@
 use crate::asked::Asked;
 use node_columns::ColumnDesk;
 use scout::Scout;
+use search_watch::{Watch, Work};
 
 /// When a hunt ends.
 #[derive(Clone, Copy, Debug, PartialEq, Eq, Drop)]
@@ -23,4 +24,14 @@ pub(crate) struct Hunt {
     pub(crate) desk: ColumnDesk,
     /// A scout of these columns.
     pub(crate) scout: Scout,
+}
+
+impl Hunt {
+    /// Tells a watch how many trees the pool has, and what the best prices show.
+    pub(crate) fn tell<W: Watch>(&self, trees: usize, watch: &W) {
+        watch.tell(Work::Prices {
+            trees: trees as u64,
+            bound: self.asked.whole_bound(),
+        });
+    }
 }

@@ -1,3 +1,4 @@
+ghost use Rattle.std.specs.Prelude.{◌≡◌, length};
 ghost use Rattle.search_columns.specs.Hunts.{IsHunting, StayHunting};
 ghost use Rattle.search_columns.specs.Tools.{MayHunt, StayTools};
 
@@ -6,13 +7,14 @@ use crate::bases::{Bases, Basis};
 use crate::beginning::begun_hunt;
 use crate::hint::{Hint, hint_of};
 use crate::hunt::{Ending, Hunt};
+use crate::rescuing::{run_or_rescue, settle};
 use crate::scouting::{basic_trees, list_trees, own_keys};
 use crate::steering::Steering;
 use cheapest_tree::Pricer;
 use master_rows::NodeTask;
 use roster_model::{Cut, List, Memory};
-use scout::{Limits, Scouted};
-use search_watch::{Watch, Work};
+use scout::{Scout, Scouted};
+use search_watch::Watch;
 use std::alloc::Global;
 use tree_pool::Pool;
 
@@ -26,11 +28,63 @@ const ROUNDS: u32 = 2_000;
 /// not tried.
 const WORK: u64 = 8_000_000_000;
 
-/// The steps of a round.
-const LIMITS: Limits = Limits {
-    dual: 3_000,
-    primal: 20_000,
-};
+/// The same where a hunt is careful.
+const CAREFUL_WORK: u64 = 16_000_000_000;
+
+/// Returns the work at a scout after which its hunt takes no further round.
+fn most_work(scout: &Scout) -> u64 {
+    if scout.is_careful() {
+        CAREFUL_WORK
+    } else {
+        WORK
+    }
+}
+
+/// Ends a hunt before its time: a careful one hands on its best prices, and not the last ones.
+fn give_up(hunt: &mut Hunt)
+    ensures y { length hunt.new.asked.y.items ≡ length hunt.old.asked.y.items }
+    ensures desk { hunt.new.desk ≡ hunt.old.desk }
+{
+    if hunt.scout.is_careful() {
+        hunt.asked.take_best();
+    }
+}
+
+/// Says whether a hunt asks for trees behind a run that ended so. Where the steps of a careful one are spent,
+/// its prices are good enough to ask at, and further trees often end what held it up.
+fn goes_on(end: Scouted, hunt: &mut Hunt) -> bool
+    ensures y { length hunt.new.asked.y.items ≡ length hunt.old.asked.y.items }
+    ensures desk { hunt.new.desk ≡ hunt.old.desk }
+{
+    let is_spent = end == Scouted::Spent && hunt.scout.is_careful();
+    if end == Scouted::Optimal || is_spent {
+        return !hunt.asked.ends_at(hunt.scout.value());
+    }
+    give_up(hunt);
+    false
+}
+
+/// Lists trees that are cheap at the scout's prices and at mixed ones. Says whether one is at the scout's
+/// own.
+fn list_cheap(
+    alloc: Global,
+    task: &NodeTask,
+    pricer: &mut Pricer,
+    pool: &mut Pool,
+    hunt: &mut Hunt,
+) -> Result<bool, Memory>
+    requires { IsHunting task.now pricer.old pool.old hunt.old }
+    ensures { StayHunting task.now pricer.new pool.old pool.new hunt.new }
+{
+    let first = hunt.desk.held.len();
+    let is_cheap = ask_mixed(alloc, task, 0, pricer, pool, hunt)?;
+    if !is_cheap {
+        return Ok(false);
+    }
+    ask_all(alloc, task, pricer, pool, hunt)?;
+    list_trees(&mut hunt.scout, hunt.desk.held.as_slice(), first)?;
+    Ok(true)
+}
 
 /// Takes a round: runs the scout, and lists trees that are cheap there. Says whether there were any.
 fn hunt_once<W: Watch>(
@@ -44,28 +98,15 @@ fn hunt_once<W: Watch>(
     requires { IsHunting task.now pricer.old pool.old hunt.old }
     ensures { StayHunting task.now pricer.new pool.old pool.new hunt.new }
 {
-    if hunt.scout.work() > WORK || hunt.scout.run(LIMITS, watch) != Scouted::Optimal {
+    if hunt.scout.work() > most_work(&hunt.scout) {
+        give_up(hunt);
         return Ok(false);
     }
-    if hunt.asked.ends_at(hunt.scout.value()) {
+    let end = run_or_rescue(alloc, task, pricer, pool, hunt, watch)?;
+    if !goes_on(end, hunt) {
         return Ok(false);
     }
-    let first = hunt.desk.held.len();
-    let is_cheap = ask_mixed(alloc, task, 0, pricer, pool, hunt)?;
-    if !is_cheap {
-        return Ok(false);
-    }
-    ask_all(alloc, task, pricer, pool, hunt)?;
-    list_trees(&mut hunt.scout, hunt.desk.held.as_slice(), first)?;
-    Ok(true)
-}
-
-/// Tells a watch how many trees a hunt has, and what its best prices show.
-fn tell<W: Watch>(hunt: &Hunt, pool: &Pool, watch: &W) {
-    watch.tell(Work::Prices {
-        trees: pool.len() as u64,
-        bound: hunt.asked.whole_bound(),
-    });
+    list_cheap(alloc, task, pricer, pool, hunt)
 }
 
 /// Takes rounds until no tree is cheap, or until the watch is over.
@@ -81,7 +122,7 @@ fn hunt_rounds<W: Watch>(
     ensures { StayHunting task.now pricer.new pool.old pool.new hunt.new }
 {
     for _round in 0..ROUNDS {
-        tell(hunt, pool, watch);
+        hunt.tell(pool.len(), watch);
         if watch.is_over() {
             return Ok(());
         }
@@ -102,6 +143,7 @@ fn keep_basis(alloc: Global, cuts: &[Cut], hunt: &Hunt, bases: &mut Bases) -> Re
         trees: basic_trees(alloc, hunt.desk.held.as_slice(), &hunt.scout)?,
         own: own_keys(alloc, &hunt.scout)?,
         prices: hunt.scout.list_prices(alloc)?,
+        is_careful: hunt.scout.is_careful(),
     })
 }
 
@@ -119,7 +161,7 @@ fn hunt_on<W: Watch>(
     ensures { StayTools task.now.day pricer.new pool.old pool.new }
 {
     hunt_rounds(alloc, task, pricer, pool, hunt, watch)?;
-    let _settled = hunt.scout.settle(LIMITS, watch);
+    settle(&mut hunt.scout, watch);
     keep_basis(alloc, task.cuts, hunt, bases)?;
     hint_of(alloc, task, pool, hunt, watch.is_over())
 }

@@ -8,7 +8,7 @@ use search_watch::Watch;
 use std::alloc::Global;
 
 /// What an artificial column costs in a scout at most.
-const ARTIFICIAL: i64 = 131_072;
+pub(crate) const ARTIFICIAL: i64 = 131_072;
 
 /// Sets the number of a row.
 fn set<T: Copy + Drop>(numbers: &mut [T], row: usize, number: T) {

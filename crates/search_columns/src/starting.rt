@@ -21,6 +21,8 @@ pub(crate) struct Start {
     pub(crate) keys: List<Key>,
     /// Prices of the rows that may be good ones, in units of 2^-24; none where nothing is known of them.
     pub(crate) prices: List<i128>,
+    /// Whether the hunt is careful from its begin on, as that was whose basis it is.
+    pub(crate) is_careful: bool,
 }
 
 /// Returns trees, and behind them others that are not among them.
@@ -115,6 +117,7 @@ fn start_from(alloc: Global, task: &NodeTask, pool: &Pool, basis: &Basis) -> Res
         trees: joined(alloc, basis.trees.as_slice(), best.as_slice())?,
         keys: keys_of(alloc, cuts, count, basis)?,
         prices: copied(alloc, basis.prices.as_slice())?,
+        is_careful: basis.is_careful,
     })
 }
 
@@ -131,11 +134,12 @@ fn start_without(
         trees: joined(alloc, wanted, last.as_slice())?,
         keys: List::new(alloc),
         prices: List::new(alloc),
+        is_careful: false,
     })
 }
 
 /// Returns what a hunt begins with at a node: the basis of the nearest node above it that is kept. Where
-/// none is, or where no tree is wanted, it begins without one.
+/// none is, or where no tree is wanted and the hunt there was not careful, it begins without one.
 ///
 /// # Errors
 ///
@@ -148,7 +152,9 @@ pub(crate) fn start_of(
 ) -> Result<Start, Memory> {
     let wanted = steering.wanted;
     match steering.bases.nearest(task.cuts) {
-        Some(basis) if !wanted.is_empty() => start_from(alloc, task, pool, basis),
+        Some(basis) if basis.is_careful || !wanted.is_empty() => start_from(
+            alloc, task, pool, basis,
+        ),
         _ => start_without(alloc, task.rows, pool, wanted),
     }
 }

@@ -245,12 +245,7 @@ impl ProbeBench {
     /// # Errors
     ///
     /// `Memory` where memory runs out; nothing is said of the copy then.
-    pub fn gain<W: Watch>(
-        &mut self,
-        cut: LastRow,
-        steps: u32,
-        watch: &W,
-    ) -> Result<i128, Memory> {
+    pub fn gain<W: Watch>(&mut self, cut: LastRow, steps: u32, watch: &W) -> Result<i128, Memory> {
         if self.copy.rows() != self.base.rows() {
             return Ok(0);
         }

@@ -217,7 +217,15 @@ pub fn best_arc<W: Watch>(
         return Ok(None);
     };
     let graph = node.day.graph;
-    let number = best_tried(alloc, graph, node.pool, &mut bench, &candidates, gains, watch);
+    let number = best_tried(
+        alloc,
+        graph,
+        node.pool,
+        &mut bench,
+        &candidates,
+        gains,
+        watch,
+    );
     drop(bench);
     Ok(arc_of(graph, number?))
 }

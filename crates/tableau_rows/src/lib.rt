@@ -3,6 +3,8 @@
 #![tactic(auto)]
 
 #[cfg(test)]
+mod careful;
+#[cfg(test)]
 mod fractions;
 #[cfg(test)]
 mod listed;
@@ -16,3 +18,5 @@ mod scouts;
 mod sound;
 #[cfg(test)]
 mod tests;
+#[cfg(test)]
+mod watches;

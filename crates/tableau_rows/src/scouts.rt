@@ -13,7 +13,7 @@ const ONE: i64 = 4_294_967_296;
 const DEAR: i64 = 131_072;
 
 /// Steps enough for these programs.
-const LIMITS: Limits = Limits {
+pub(crate) const LIMITS: Limits = Limits {
     dual: 300,
     primal: 300,
 };
@@ -37,7 +37,7 @@ fn list_all(scout: &mut Scout, columns: &[(i64, &[u32])]) -> Result<(), Memory> 
 
 /// Returns the master of three shifts over three periods, two periods each at a cost of 2. A missing
 /// employee costs 10, and there are at most 3. The last row is empty.
-fn three_shifts(alloc: Global) -> Result<Scout, Memory> {
+pub(crate) fn three_shifts(alloc: Global) -> Result<Scout, Memory> {
     let right = [1, 1, 1, 0, 3, 0];
     let missing = [10, 10, 10, DEAR, 0, 0];
     let beyond = [Some(0), Some(0), Some(0), Some(0), None, None];
@@ -50,7 +50,7 @@ fn three_shifts(alloc: Global) -> Result<Scout, Memory> {
 }
 
 /// Whether a value is this whole number, within 2^-16.
-fn is_about(value: i128, whole: i64) -> bool {
+pub(crate) fn is_about(value: i128, whole: i64) -> bool {
     let wanted = i128::from(whole.saturating_mul(ONE));
     value.saturating_sub(wanted).unsigned_abs() <= 65_536
 }
@@ -68,7 +68,7 @@ const NO_BASIS: [Key; 8] = [
 ];
 
 /// Whether a run from here ends at a cost of 3.
-fn costs_three(scout: &mut Scout) -> bool {
+pub(crate) fn costs_three(scout: &mut Scout) -> bool {
     scout.run(LIMITS, &SteadyWatch) == Scouted::Optimal && is_about(scout.value(), 3)
 }
 
@@ -80,7 +80,7 @@ fn costs_three_settled(scout: &mut Scout) -> bool {
 }
 
 /// Whether each start leads to that cost.
-fn costs_three_from_each(scout: &mut Scout) -> bool {
+pub(crate) fn costs_three_from_each(scout: &mut Scout) -> bool {
     scout.start_beyond().is_ok()
         && costs_three(scout)
         && costs_three_settled(scout)
