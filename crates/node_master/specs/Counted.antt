@@ -3,7 +3,7 @@ use Rattle.std.specs.Prelude.{◌≡◌}
 use Rattle.fraction.specs.Range.{Counts, refused, overspent}
 use Rattle.node_master.specs.declared.ends.Cause.TheVariants.{Rows, Wide, Spent}
 use Rattle.node_master.specs.declared.ends.NodeEnd.{NodeEnd}
-use Rattle.node_master.specs.declared.ends.NodeEnd.TheVariants.{Best, Near, Failed}
+use Rattle.node_master.specs.declared.ends.NodeEnd.TheVariants.{Best, Near, Failed, Stopped}
 
 -- a master that was given up for a number too wide, or for want of pivots, is counted, and no other
 abbrev pub IsCounted : NodeEnd → Counts → Counts → Type 0
@@ -12,3 +12,4 @@ IsCounted (Near prices weights) old new = new ≡ old
 IsCounted (Failed (Rows count)) old new = new ≡ old
 IsCounted (Failed (Wide fault)) old new = new ≡ refused old
 IsCounted (Failed (Spent pivots)) old new = new ≡ overspent old
+IsCounted Stopped old new = new ≡ old

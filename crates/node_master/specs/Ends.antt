@@ -1,5 +1,5 @@
 -- How the master of a node ends.
-use Rattle.std.specs.Prelude.{ℕ, ℤ, pos, unsigned_abs, ◌≡◌, ◌≤◌, ◌<◌, ◌-◌, ◌^◌, ◌*ℤ◌, ◌+ℤ◌, ◌≤ℤ◌, ◌<ℤ◌, ◌⊎◌, List, ◌++◌, length, Result, Ok, IsErr}
+use Rattle.std.specs.Prelude.{ℕ, ℤ, pos, unsigned_abs, ◌≡◌, ◌≤◌, ◌<◌, ◌-◌, ◌^◌, ◌*ℤ◌, ◌+ℤ◌, ◌≤ℤ◌, ◌<ℤ◌, ◌⊎◌, Bool, IsTrue, List, ◌++◌, length, Result, Ok, IsErr}
 use Rattle.roster_model.specs.declared.grammar.ArcKey.{ArcKey}
 use Rattle.roster_model.specs.declared.instance.Cut.{Cut}
 use Rattle.roster_model.specs.declared.instance.Instance.{Instance}
@@ -28,7 +28,7 @@ use Rattle.bound_laws.specs.master_laws.WholeCounts.{HasCounts}
 use Rattle.bound_laws.specs.near_laws.Completed.{tree_columns}
 use Rattle.bound_laws.specs.near_laws.Laws.{AreNear}
 use Rattle.tableau.specs.declared.simplex.LpFault.{LpFault}
-use Rattle.tableau.specs.declared.simplex.LpFault.TheVariants.{Wide as LpWide, Spent as LpSpent, Memory as LpMemory}
+use Rattle.tableau.specs.declared.simplex.LpFault.TheVariants.{Wide as LpWide, Spent as LpSpent, Memory as LpMemory, Stopped as LpStopped}
 use Rattle.tableau.specs.Risen.{HasRisen}
 use Rattle.tree_pool.specs.Pools.{PoolTree}
 use Rattle.node_columns.specs.declared.weights.Weight.{Weight}
@@ -37,7 +37,7 @@ use Rattle.node_master.specs.declared.ends.Cause.TheVariants.{Rows, Wide, Spent}
 use Rattle.node_master.specs.declared.ends.Solution.{Solution}
 use Rattle.node_master.specs.declared.ends.Solution.TheVariants.{Exact as is_exact, Near as is_near}
 use Rattle.node_master.specs.declared.ends.NodeEnd.{NodeEnd}
-use Rattle.node_master.specs.declared.ends.NodeEnd.TheVariants.{Best, Near, Failed}
+use Rattle.node_master.specs.declared.ends.NodeEnd.TheVariants.{Best, Near, Failed, Stopped}
 
 -- a cut on an arc of the instance, or on the arc by which some group's rule stands on the whole day
 pub record IsNodeCut (i : Instance) (c : Cut) : Type 0 where
@@ -104,21 +104,24 @@ abbrev pub AreSolved : Solution → Instance → List Cut → List PoolTree → 
 AreSolved is_exact i cuts columns weights = AreLeastWeights i cuts columns weights
 AreSolved is_near i cuts columns weights = (p : Prices) × IsNear i cuts columns p weights
 
--- each answer comes only where it may; more than 1,500 rows exactly where there are so many
-abbrev pub EndsRight : Instance → List Cut → List PoolTree → Counts → Counts → NodeEnd → Type 0
-EndsRight i cuts columns old new (Best prices value weights) = (length (rows_of i cuts) ≤ 1500)
+-- each answer comes only where it may; more than 1,500 rows exactly where there are so many; nothing is stopped
+-- where it is calm, and what is stopped is not counted
+abbrev pub EndsRight : Instance → List Cut → List PoolTree → Counts → Counts → Bool → NodeEnd → Type 0
+EndsRight i cuts columns old new calm (Best prices value weights) = (length (rows_of i cuts) ≤ 1500)
     × IsBest i cuts columns prices value weights
-EndsRight i cuts columns old new (Near prices weights) = (length (rows_of i cuts) ≤ 1500)
+EndsRight i cuts columns old new calm (Near prices weights) = (length (rows_of i cuts) ≤ 1500)
     × IsNear i cuts columns prices weights × (new ≡ old)
-EndsRight i cuts columns old new (Failed (Rows count)) = (1500 < length (rows_of i cuts))
+EndsRight i cuts columns old new calm (Failed (Rows count)) = (1500 < length (rows_of i cuts))
     × (count ≡ length (rows_of i cuts))
-EndsRight i cuts columns old new (Failed (Wide fault)) = (length (rows_of i cuts) ≤ 1500)
+EndsRight i cuts columns old new calm (Failed (Wide fault)) = (length (rows_of i cuts) ≤ 1500)
     × HasRisen old.wide new.wide × HasWidePath (master i cuts)
-EndsRight i cuts columns old new (Failed (Spent pivots)) = (length (rows_of i cuts) ≤ 1500)
+EndsRight i cuts columns old new calm (Failed (Spent pivots)) = (length (rows_of i cuts) ≤ 1500)
     × (pivots ≡ 5000) × HasRisen old.spent new.spent × HasOpenPath (master i cuts) 5000
+EndsRight i cuts columns old new calm Stopped = (IsTrue calm → ⊥) × (new ≡ old)
 
 -- the answer that a given-up program leads to
 abbrev pub IsFailedBy : LpFault → Result NodeEnd MemoryLack → Type 0
 IsFailedBy (LpWide fault) r = r ≡ Ok (Failed (Wide fault))
 IsFailedBy (LpSpent pivots) r = r ≡ Ok (Failed (Spent pivots))
 IsFailedBy LpMemory r = IsErr r
+IsFailedBy LpStopped r = r ≡ Ok Stopped

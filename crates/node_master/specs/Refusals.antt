@@ -7,7 +7,7 @@ use Rattle.bound_laws.specs.master_laws.Sharp.{IsHard}
 use Rattle.tree_pool.specs.Pools.{PoolTree}
 use Rattle.node_master.specs.declared.ends.Cause.TheVariants.{Rows, Wide, Spent}
 use Rattle.node_master.specs.declared.ends.NodeEnd.{NodeEnd}
-use Rattle.node_master.specs.declared.ends.NodeEnd.TheVariants.{Best, Near, Failed}
+use Rattle.node_master.specs.declared.ends.NodeEnd.TheVariants.{Best, Near, Failed, Stopped}
 use Rattle.node_master.specs.Ends.{IsBest, IsNear}
 
 -- a refused node: its master has few enough rows, and where the refusal is strict the node is hard
@@ -15,16 +15,18 @@ pub record IsRefused (i : Instance) (cuts : List Cut) (strict : Bool) : Type 0 w
   pub few : length (rows_of i cuts) ≤ 1500
   pub hard : IsTrue strict → IsHard i cuts
 
--- each answer comes only where it may; more than 1,500 rows exactly where there are so many
-abbrev pub EndsWell : Instance → List Cut → List PoolTree → Bool → NodeEnd → Type 0
-EndsWell i cuts columns strict (Best prices value weights) =
+-- each answer comes only where it may; more than 1,500 rows exactly where there are so many; nothing is stopped
+-- where it is calm
+abbrev pub EndsWell : Instance → List Cut → List PoolTree → Bool → Bool → NodeEnd → Type 0
+EndsWell i cuts columns strict calm (Best prices value weights) =
     (length (rows_of i cuts) ≤ 1500) × IsBest i cuts columns prices value weights
-EndsWell i cuts columns strict (Near prices weights) =
+EndsWell i cuts columns strict calm (Near prices weights) =
     (length (rows_of i cuts) ≤ 1500) × IsNear i cuts columns prices weights
-EndsWell i cuts columns strict (Failed (Rows count)) =
+EndsWell i cuts columns strict calm (Failed (Rows count)) =
     (1500 < length (rows_of i cuts)) × (count ≡ length (rows_of i cuts))
-EndsWell i cuts columns strict (Failed (Wide fault)) = IsRefused i cuts strict
-EndsWell i cuts columns strict (Failed (Spent pivots)) = IsRefused i cuts strict
+EndsWell i cuts columns strict calm (Failed (Wide fault)) = IsRefused i cuts strict
+EndsWell i cuts columns strict calm (Failed (Spent pivots)) = IsRefused i cuts strict
+EndsWell i cuts columns strict calm Stopped = IsTrue calm → ⊥
 
 -- one more, which stays at the last value of a u64
 abbrev pub one_more : ℕ → ℕ
@@ -38,3 +40,4 @@ counted n (Near prices weights) = n
 counted n (Failed (Rows count)) = n
 counted n (Failed (Wide fault)) = one_more n
 counted n (Failed (Spent pivots)) = one_more n
+counted n Stopped = n

@@ -11,8 +11,9 @@ ghost use Rattle.node_master.specs.Refusals.{EndsWell, counted};
 
 use crate::{NodeEnd, Pool};
 use cheapest_tree::Pricer;
-use parse_graph::Graph;
-use roster_model::{Cut, Instance, Memory};
+use master_rows::Day;
+use roster_model::{Cut, Memory};
+use search_watch::Watch;
 use std::alloc::Global;
 
 /// What prices the nodes of a search.
@@ -26,37 +27,38 @@ pub trait Master {
 
     /// Prices the node at a path of cuts, base cuts first, or gives it up; a refused node is counted once.
     /// Trees of the pool that are `wanted` may steer it, the most wanted first: any list of numbers is
-    /// lawful.
+    /// lawful. Where the watch says that the search is over it may stop, before there are prices.
     ///
     /// # Errors
     ///
     /// `Memory` where memory runs out; the count of refusals stays as it is then. The pricer is still one for
     /// the graph, and the pool has its trees under their numbers, and perhaps further trees of the day.
-    fn node(
+    fn node<W: Watch>(
         &mut self,
         alloc: Global,
-        instance: &Instance,
-        graph: &Graph,
+        day: &Day,
         pricer: &mut Pricer,
         pool: &mut Pool,
         cuts: &[Cut],
         wanted: &[usize],
+        watch: &W,
     ) -> Result<NodeEnd, Memory>
-        requires sound { IsSoundInstance instance.now }
-        requires busy { IsPlainlyInfeasible instance.now → ⊥ }
-        requires graph { IsGraph instance.now.grammar graph.now }
-        requires tree { (t : Parts) × IsDayTree instance.now.grammar t }
-        requires pricer { IsMadeFor graph.now pricer.old }
-        requires pool { IsPool instance.now.grammar pool.old }
-        requires cuts { Each (IsNodeCut instance.now) cuts.now }
+        requires sound { IsSoundInstance day.now.instance.now }
+        requires busy { IsPlainlyInfeasible day.now.instance.now → ⊥ }
+        requires graph { IsGraph day.now.instance.now.grammar day.now.graph.now }
+        requires tree { (t : Parts) × IsDayTree day.now.instance.now.grammar t }
+        requires pricer { IsMadeFor day.now.graph.now pricer.old }
+        requires pool { IsPool day.now.instance.now.grammar pool.old }
+        requires cuts { Each (IsNodeCut day.now.instance.now) cuts.now }
         requires few { length cuts.now < 2 ^ 31 }
-        ensures end { IfOk result (EndsWell instance.now cuts.now pool.new (strict self.old)) }
+        ensures end { IfOk result (EndsWell day.now.instance.now cuts.now pool.new (strict self.old)
+            (W.patient watch.now)) }
         ensures counts { MatchResult result (λ end. refused self.new ≡ counted (refused self.old) end)
             (λ fault. refused self.new ≡ refused self.old) }
         ensures rises { refused self.old ≤ refused self.new }
         ensures within { refused self.new ≤ 2 ^ 64 - 1 }
         ensures strict_stays { strict self.new ≡ strict self.old }
-        ensures pricer { IsMadeFor graph.now pricer.new }
-        ensures pool { IsPool instance.now.grammar pool.new }
+        ensures pricer { IsMadeFor day.now.graph.now pricer.new }
+        ensures pool { IsPool day.now.instance.now.grammar pool.new }
         ensures grown { IsGrown pool.old pool.new };
 }

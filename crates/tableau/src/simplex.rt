@@ -39,6 +39,8 @@ pub enum LpFault {
     Spent { pivots: u32 },
     /// Memory did not suffice.
     Memory,
+    /// What it is done for is to stop.
+    Stopped,
 }
 
 /// Solves the program of the columns by one rule.
