@@ -30,12 +30,13 @@ mod start;
 mod stop;
 mod task;
 mod turn;
+mod turn_end;
 mod value;
 
 pub use branching::{search, search_from};
 pub use found::Found;
 pub use node_master::{Master, PlainMaster, Pool};
 pub use roster_model::Done;
-pub use search_watch::{ClockWatch, Standing, SteadyWatch, Subject, TurnWatch, Watch};
+pub use search_watch::{ClockWatch, Standing, SteadyWatch, Subject, TurnWatch, Watch, Work};
 pub use start::Start;
 pub use task::SearchTask;

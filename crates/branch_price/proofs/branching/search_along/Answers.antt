@@ -48,7 +48,7 @@ pub loop-leaf-smaller : goal.loop-leaf-smaller
 loop-leaf-smaller g c =
     let near = turn-nears c.args.job.now.searched.day.instance.now c.args.job.now.searched.day.graph.now (g.M.Master.strict c.args.master.now) (g.M.Master.refused c.args.master.now) (g.M.Master.refused c.loop-leaf.master) c.args.job.now.turns c.requires.job.few
     c.loop-leaf.progress c.next.new.self c.in-Some.leaf c.loop-leaf.invariant.0 c.in-Some.ensures (g.M.Master.strict c.loop-leaf.master) c.loop-leaf.invariant.1
-    (c.stops_at.ensures.goes_on c.if-stops_at.false) (g.M.Master.refused c.turn.new.master) c.turn.new.progress c.in_ok-turn.ensures.turned in
+    (c.stops_at.ensures.goes_on c.if-stops_at.false) (g.M.Master.refused c.turn.new.master) c.turn.new.progress TURNED in
     let less = near.0 in
     let one = near.1 in
     omega (arith, less, one)
@@ -57,22 +57,22 @@ pub loop-leaf-preserved : goal.loop-leaf-preserved
 loop-leaf-preserved g c = (
   turn-loops c.args.job.now.searched.day.instance.now c.args.job.now.searched.day.graph.now (g.M.Master.strict c.args.master.now) (g.M.Master.refused c.args.master.now) (g.M.Master.refused c.loop-leaf.master) c.args.job.now.turns c.requires.job.few
       c.loop-leaf.progress c.next.new.self c.in-Some.leaf c.loop-leaf.invariant.0 c.in-Some.ensures (g.M.Master.strict c.loop-leaf.master) c.loop-leaf.invariant.1
-      (c.stops_at.ensures.goes_on c.if-stops_at.false) (g.M.Master.refused c.turn.new.master) c.turn.ensures.rises c.turn.new.progress c.in_ok-turn.ensures.turned,
+      (c.stops_at.ensures.goes_on c.if-stops_at.false) (g.M.Master.refused c.turn.new.master) c.turn.ensures.rises c.turn.new.progress TURNED,
   c.turn.ensures.strict_stays ∙ c.loop-leaf.invariant.1,
-  record { tools = tools-later c.args.job.now.searched.day c.loop-leaf.pool c.turn.new.pool c.turn.new.bench.desk c.turn.ensures.tools; path = c.in_ok-turn.ensures.path },
+  record { tools = tools-later c.args.job.now.searched.day c.loop-leaf.pool c.turn.new.pool c.turn.new.bench.desk c.turn.ensures.tools; path = c.in_ok-end.ensures.path },
   grown-more c.args.pool.now c.loop-leaf.pool c.turn.new.pool c.loop-leaf.invariant.3 c.turn.ensures.tools.pool.grown,
   (λ h. c.stops_at.ensures.stays_patient (c.loop-leaf.invariant.4 h)),
   turn-reaches c.args.job.now.searched.day.instance.now c.args.job.now.searched.day.graph.now (g.M.Master.strict c.args.master.now) (g.M.Master.refused c.args.master.now) (g.M.Master.refused c.loop-leaf.master) c.args.job.now.turns c.requires.job.few
       c.loop-leaf.progress c.next.new.self c.in-Some.leaf c.loop-leaf.invariant.0 c.in-Some.ensures (g.M.Master.strict c.loop-leaf.master) c.loop-leaf.invariant.1
-      (c.stops_at.ensures.goes_on c.if-stops_at.false) (g.M.Master.refused c.turn.new.master) c.turn.new.progress c.in_ok-turn.ensures.turned
+      (c.stops_at.ensures.goes_on c.if-stops_at.false) (g.M.Master.refused c.turn.new.master) c.turn.new.progress TURNED
       c.args.job.now.start.shifts.now c.loop-leaf.invariant.5,
 )
 
-pub returns-in_err-turn-clause-rises : goal.returns-in_err-turn-clause-rises
-returns-in_err-turn-clause-rises g c = let a = c.loop-leaf.invariant.0.rises in let b = c.turn.ensures.rises in omega (arith, a, b)
+pub returns-in_err-end-clause-rises : goal.returns-in_err-end-clause-rises
+returns-in_err-end-clause-rises g c = let a = c.loop-leaf.invariant.0.rises in let b = c.turn.ensures.rises in omega (arith, a, b)
 
-pub returns-in_err-turn-clause-strict_stays : goal.returns-in_err-turn-clause-strict_stays
-returns-in_err-turn-clause-strict_stays g c = c.turn.ensures.strict_stays ∙ c.loop-leaf.invariant.1
+pub returns-in_err-end-clause-strict_stays : goal.returns-in_err-end-clause-strict_stays
+returns-in_err-end-clause-strict_stays g c = c.turn.ensures.strict_stays ∙ c.loop-leaf.invariant.1
 
 pub found-requires-2-clause-end : goal.found-requires-2-clause-end
 found-requires-2-clause-end g c = (
@@ -109,7 +109,7 @@ returns-then-stops_at-clause-found g c =
     let may = c.stops_at.ensures.stops c.if-stops_at.true in
     both-ok c.found.result (IsFoundAtEnd i c.next.new.self (Some c.in-Some.leaf.bound) TurnsOut) (λ f. f.cert.cost ≡ cost_of c.next.new.self.best) (IsJobDone j patient strict before now)
     (λ f h cost. record {
-      found = record { used = c.next.new.self.tree.processed; some = may.some; few = end.0; whole = λ patience. may.whole (c.loop-leaf.invariant.4 patience); holds = (h asks end.1).0 };
+      found = record { used = c.next.new.self.tree.processed; few = end.0; whole = λ patience. may (c.loop-leaf.invariant.4 patience); holds = (h asks end.1).0 };
       falls = no-dearer i is.searched.is.day.sound j.start.shifts.now c.next.new.self.best reach f.cert.cost cost;
       counted = (h asks end.1).1;
     }) c.found.ensures.found c.found.ensures.cost
@@ -129,7 +129,7 @@ returns-clause-found g c =
     let reach = subst (λ (best : Option Roster). ReachesOld i j.start.shifts.now best) (sym c.in_default.ensures.best) c.loop-leaf.invariant.5 in
     both-ok c.found-2.result (IsFoundAtEnd i c.next.new.self c.closed_end-bound.result.0 c.closed_end-bound.result.1) (λ f. f.cert.cost ≡ cost_of c.next.new.self.best) (IsJobDone j patient strict before now)
     (λ f h cost. record {
-      found = within-all patient j.turns (λ k. IsFound i strict k f) is.some (h asks end).0;
+      found = within-all patient j.turns (λ k. IsFound i strict k f) (h asks end).0;
       falls = no-dearer i is.searched.is.day.sound j.start.shifts.now c.next.new.self.best reach f.cert.cost cost;
       counted = (h asks end).1;
     }) c.found-2.ensures.found c.found-2.ensures.cost
@@ -140,8 +140,8 @@ returns-then-stops_at-clause-pool g c = record { are = c.loop-leaf.invariant.2.t
 pub returns-clause-pool : goal.returns-clause-pool
 returns-clause-pool g c = record { are = c.loop-leaf.invariant.2.tools.pool; grown = c.loop-leaf.invariant.3 }
 
-pub returns-in_err-turn-clause-pool : goal.returns-in_err-turn-clause-pool
-returns-in_err-turn-clause-pool g c = record { are = c.turn.ensures.tools.pool.are; grown = grown-more c.args.pool.now c.loop-leaf.pool c.turn.new.pool c.loop-leaf.invariant.3 c.turn.ensures.tools.pool.grown }
+pub returns-in_err-end-clause-pool : goal.returns-in_err-end-clause-pool
+returns-in_err-end-clause-pool g c = record { are = c.turn.ensures.tools.pool.are; grown = grown-more c.args.pool.now c.loop-leaf.pool c.turn.new.pool c.loop-leaf.invariant.3 c.turn.ensures.tools.pool.grown }
 
 pub turn-requires-clause-bench : goal.turn-requires-clause-bench
 turn-requires-clause-bench g c = c.loop-leaf.invariant.2

@@ -4,7 +4,7 @@ use Rattle.branch_price.proofs.completed.offer_at_node.Goals as goal
 use Rattle.branch_price.proofs.completed.offer_at_node.Goals.{else-stage-eq0-via-then-stage-eq0+then-len-lt-FULL+in_ok-offer_dived+else-branch, else-stage-eq0-via-then-stage-eq0+else-len-lt-FULL, else-stage-eq0-via-else-stage-eq0}
 
 pub returns : goal.returns
-returns c =
+returns g c =
     let d = c.args.node.now.searched.day in
     let old = c.args.pool.now in
     let best = c.args.best.now in
