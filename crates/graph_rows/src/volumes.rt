@@ -14,6 +14,7 @@ use node_columns::volume::{Volume, volume};
 use parse_graph::Graph;
 use roster_model::{ArcKey, Cut, Instance, Memory, Side};
 use sample_days::{PAIR_PARTS, sound_day};
+use search_watch::SteadyWatch;
 use std::alloc::Global;
 use std::test::Fail;
 use tree_pool::Pool;
@@ -64,7 +65,7 @@ fn volume_at(
         rows,
     };
     let mut pricer = Pricer::new(alloc, graph)?;
-    let found = volume(alloc, &task, start, 400, &mut pricer);
+    let found = volume(alloc, &task, start, 400, &mut pricer, &SteadyWatch);
     drop(pricer);
     found
 }

@@ -1,5 +1,5 @@
 -- The listed columns of a node's master.
-use Rattle.std.specs.Prelude.{ℕ, ◌≡◌, ◌≤◌, ◌<◌, ◌+◌, ◌++◌, Some, List, [], All, length, slice_get}
+use Rattle.std.specs.Prelude.{ℕ, ◌≡◌, ◌≤◌, ◌<◌, ◌+◌, ◌++◌, Some, Bool, List, [], All, length, slice_get}
 use Rattle.std.specs.Borrow.{GName}
 use Rattle.roster_model.specs.declared.grammar.Grammar.{Grammar}
 use Rattle.roster_model.specs.declared.instance.Cut.{Cut}
@@ -24,12 +24,13 @@ use Rattle.node_columns.specs.declared.desk.Held.{Held}
 use Rattle.node_columns.specs.declared.desk.ColumnDesk.{ColumnDesk}
 use Rattle.roster_model.specs.Limits.{IsSmallCut}
 
--- whose master it is, and the names of what is lent
+-- whose master it is, the names of what is lent, and whether nothing stops what is done
 pub record NodeSite : Type 0 where
   pub instance : Instance
   pub cuts : List Cut
   pub pricer : GName
   pub pool : GName
+  pub calm : Bool
 
 abbrev pub site_program : NodeSite → Program MasterKey
 site_program s = master s.instance s.cuts

@@ -5,6 +5,7 @@ use cheapest_tree::Pricer;
 use fraction::{Place, Tally};
 use master_rows::NodeTask;
 use roster_model::Memory;
+use search_watch::Watch;
 use std::alloc::Global;
 use tableau::{Columns, ColumnsFault};
 use tree_pool::Pool;
@@ -12,7 +13,7 @@ use tree_pool::Pool;
 /// The columns of a node's master: all that it is made of is lent. After want of memory the listed
 /// columns are as before, and the pool may have grown.
 #[derive(Drop)]
-pub struct NodeColumns<'t, 'n, 'p, 'q, 'd> {
+pub struct NodeColumns<'t, 'n, 'p, 'q, 'd, 'w, W> {
     /// Where memory is taken.
     pub alloc: Global,
     /// The node, its cuts with the base cuts first.
@@ -23,9 +24,11 @@ pub struct NodeColumns<'t, 'n, 'p, 'q, 'd> {
     pub pool: &'q mut Pool,
     /// The listed columns.
     pub desk: &'d mut ColumnDesk,
+    /// What may stop what is done with them.
+    pub watch: &'w W,
 }
 
-impl<'t, 'n, 'p, 'q, 'd> Columns for NodeColumns<'t, 'n, 'p, 'q, 'd> {
+impl<'t, 'n, 'p, 'q, 'd, 'w, W: Watch> Columns for NodeColumns<'t, 'n, 'p, 'q, 'd, 'w, W> {
     ghost use Rattle.std.specs.Prelude.{length};
     ghost use Rattle.bound_laws.specs.master_laws.Master.{MasterKey};
     ghost use Rattle.node_columns.specs.Columns.{NodeSite, NodeState, site_program, Lists, IsReady, IsKept};
@@ -40,7 +43,10 @@ impl<'t, 'n, 'p, 'q, 'd> Columns for NodeColumns<'t, 'n, 'p, 'q, 'd> {
       cuts = s.task.now.cuts.now;
       pricer = s.pricer.ghost_name;
       pool = s.pool.ghost_name;
+      calm = W.patient s.watch.now;
     } };
+
+    ghost calm = { λ s. s.calm };
 
     ghost program = { site_program };
 
@@ -93,6 +99,11 @@ impl<'t, 'n, 'p, 'q, 'd> Columns for NodeColumns<'t, 'n, 'p, 'q, 'd> {
     /// Returns the columns that are wanted.
     fn wanted(&self) -> &[u32] {
         self.desk.wanted.as_slice()
+    }
+
+    /// Says whether the watch is over.
+    fn is_over(&self) -> bool {
+        self.watch.is_over()
     }
 
     /// Returns the listed column of the least reduced cost where that is negative, and else lists a cheapest

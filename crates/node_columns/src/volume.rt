@@ -11,4 +11,5 @@ mod path;
 mod running;
 
 pub use found::{Found, Volume};
+pub use passes::whole_bound;
 pub use running::volume;

@@ -1,6 +1,6 @@
 -- How the master of a node ends.
 use Rattle.std.proofs.Common.{true≢false, ◌≡◌, ℕ, ℤ, arith, pos, neg_ℤ, ◌+ℤ◌, ◌*ℤ◌, ◌<ℤ◌, ◌≤ℤ◌, ◌^◌, ◌<◌, ◌≤◌, unsigned_abs, List, [], ◌∷◌, ◌++◌, length, sym, ap, subst, ◌∙◌, ◌⊎◌, inl, inr, IfOk}
-use Rattle.std.specs.Prelude.{Result, Ok, Err, All}
+use Rattle.std.specs.Prelude.{Bool, Result, Ok, Err, All}
 use Rattle.std.proofs.lemmas.List.Elements.{All-nil, All-cons}
 use Rattle.std.proofs.lemmas.Option.{slice_get_within}
 use Rattle.std.proofs.lemmas.Int.{ints}
@@ -48,9 +48,10 @@ use Rattle.bound_laws.proofs.master_laws.RowSizes.{row_count, small}
 use Rattle.bound_laws.proofs.master_laws.WholeCountsLemmas.{meet_node}
 use Rattle.tableau.specs.declared.simplex.Basic.{Basic}
 use Rattle.tableau.specs.declared.simplex.LpFault.{LpFault}
-use Rattle.tableau.specs.declared.simplex.LpFault.TheVariants.{Wide as LpWide, Spent as LpSpent, Memory as LpMemory}
-use Rattle.tableau.specs.Ends.{AreBasicWeights, IsLpEnd, IsLpFault, HasLargeColumn}
+use Rattle.tableau.specs.declared.simplex.LpFault.TheVariants.{Wide as LpWide, Spent as LpSpent, Memory as LpMemory, Stopped as LpStopped}
+use Rattle.tableau.specs.Ends.{AreBasicWeights, IsLpEnd, EndsLp, HasLargeColumn}
 use Rattle.tableau.specs.Risen.{HasRisen}
+use Rattle.tableau.proofs.Counts.{refused_risen, spent_risen}
 use Rattle.tree_pool.specs.Pools.{PoolTree}
 use Rattle.node_columns.specs.declared.desk.Held.{Held}
 use Rattle.node_columns.specs.declared.weights.Weight.{Weight}
@@ -58,6 +59,7 @@ use Rattle.node_columns.specs.Columns.{HasKey}
 use Rattle.node_columns.specs.Priced.{AreNarrowPrices}
 use Rattle.node_columns.specs.Weights.{AreTreeWeights, KeysStandOnce}
 use Rattle.node_master.specs.declared.ends.NodeEnd.{NodeEnd}
+use Rattle.node_master.specs.Counted.{IsCounted}
 use Rattle.node_master.specs.Ends.{IsNodeCut, EndsRight, IsFailedBy, IsOther, IsBest, ClosesWhole}
 use Rattle.node_master.proofs.BasicColumns.{basis_once}
 use Rattle.master_rows.proofs.AddedRows.{floors-le, ceilings-le}
@@ -163,17 +165,19 @@ not_large i cuts Listed small belongs h = by h.0 h.1 h.2 h.3
         plain z a b c = omega (arith, ints)
     by j k l (inr e) = let w = small.cost k (belongs j k l) in omega (arith, ints, w.1)
 
-pub given_up : (i : Instance) (cuts : List Cut) (Listed : ℕ → MasterKey → Type 0) (pool : List PoolTree) (old new : Counts) (fault : LpFault) (r : Result NodeEnd MemoryLack)
+pub given_up : (i : Instance) (cuts : List Cut) (Listed : ℕ → MasterKey → Type 0) (pool : List PoolTree) (calm : Bool) (old new : Counts) (fault : LpFault) (r : Result NodeEnd MemoryLack)
     → IsSoundInstance i → Each (IsNodeCut i) cuts → length (rows_of i cuts) ≤ 1500 → ((j : ℕ) (k : MasterKey) → Listed j k → (master i cuts).belongs k)
-    → IsLpFault (master i cuts) Listed 5000 old new fault → IsFailedBy fault r → IfOk r (EndsRight i cuts pool old new)
-given_up i cuts Listed pool old new (LpWide f) r sound node few belongs h e = rw e (few, h.0, by h.1)
+    → EndsLp (master i cuts) Listed calm 5000 old new fault → IsFailedBy fault r
+    → IfOk r (λ (end : NodeEnd). (a b : Counts) → IsCounted end a b → EndsRight i cuts pool a b calm end)
+given_up i cuts Listed pool calm old new (LpWide f) r sound node few belongs h e = rw e (λ a b is. (few, refused_risen a b is, by h.1))
   where
     by : HasWidePath (master i cuts) ⊎ HasLargeColumn (master i cuts) Listed → HasWidePath (master i cuts)
     by (inl w) = w
     by (inr l) = absurd (not_large i cuts Listed (small i sound cuts (small_cuts i cuts node)) belongs l)
-given_up i cuts Listed pool old new (LpSpent n) r sound node few belongs h e = rw e (few, h.0, h.1, h.2)
-given_up i cuts Listed pool old new LpMemory (Ok x) sound node few belongs h e = absurd (true≢false (sym e))
-given_up i cuts Listed pool old new LpMemory (Err x) sound node few belongs h e = tt
+given_up i cuts Listed pool calm old new (LpSpent n) r sound node few belongs h e = rw e (λ a b is. (few, h.0, spent_risen a b is, h.2))
+given_up i cuts Listed pool calm old new LpMemory (Ok x) sound node few belongs h e = absurd (true≢false (sym e))
+given_up i cuts Listed pool calm old new LpMemory (Err x) sound node few belongs h e = tt
+given_up i cuts Listed pool calm old new LpStopped r sound node few belongs h e = rw e (λ a b is. (h, is))
 
 -- ---- counts
 pub rises : (a b c : ℕ) → a ≤ b → HasRisen b c → HasRisen a c

@@ -4,24 +4,15 @@ use Rattle.std.specs.Prelude.{slice_get, All}
 use Rattle.std.proofs.lemmas.List.{take_more}
 use Rattle.std.proofs.lemmas.List.Elements.{All-head, All-tail}
 use Rattle.roster_model.specs.declared.grammar.Grammar.{Grammar}
-use Rattle.roster_model.specs.declared.instance.Cut.{Cut}
-use Rattle.roster_model.specs.declared.instance.Instance.{Instance}
 use Rattle.roster_model.specs.Folds.{Each}
 use Rattle.roster_model.specs.Trees.{Parts}
 use Rattle.bound_laws.specs.linear_programs.Solution.{Weighted}
-use Rattle.fraction.specs.Range.{Counts}
-use Rattle.tableau.proofs.Counts.{refused_risen, spent_risen}
 use Rattle.bound_laws.specs.near_laws.Completed.{tree_columns}
 use Rattle.near_prices.specs.declared.listed.ListedTree.{ListedTree}
 use Rattle.near_prices.specs.Listed.{AreWeightsOf}
 use Rattle.tree_pool.specs.Pools.{PoolTree}
 use Rattle.node_columns.specs.declared.weights.Weight.{Weight}
 use Rattle.node_columns.specs.Weights.{IsShare, AreWeights, AreApart}
-use Rattle.node_master.specs.declared.ends.Cause.TheVariants.{Rows, Wide, Spent}
-use Rattle.node_master.specs.declared.ends.NodeEnd.{NodeEnd}
-use Rattle.node_master.specs.declared.ends.NodeEnd.TheVariants.{Best, Near, Failed}
-use Rattle.node_master.specs.Ends.{EndsRight}
-use Rattle.node_master.specs.Counted.{IsCounted}
 use Rattle.node_master.specs.Listed.{AscendFrom, IsShareOf, AreSharesOf}
 
 -- ---- one share more
@@ -73,11 +64,3 @@ apart n [] (x ∷ xs) up sh = absurd sh
 apart n (l ∷ ls) [] up sh = absurd sh
 apart n (l ∷ ls) (x ∷ xs) up sh =
     (beyond (l.column + 1) x.column ls xs (let same = sh.0.column in omega (arith, same)) up.1 sh.1, apart (l.column + 1) ls xs up.1 sh.1)
-
--- ---- an end whose count is kept apart is right for a tally that counts it
-pub counted : (i : Instance) (cuts : List Cut) (pool : List PoolTree) (a b old new : Counts) (end : NodeEnd) → EndsRight i cuts pool a b end → IsCounted end old new → EndsRight i cuts pool old new end
-counted i cuts pool a b old new (Best prices value weights) right is = right
-counted i cuts pool a b old new (Near prices weights) right is = (right.0, right.1, is)
-counted i cuts pool a b old new (Failed (Rows count)) right is = right
-counted i cuts pool a b old new (Failed (Wide fault)) right is = (right.0, refused_risen old new is, right.2)
-counted i cuts pool a b old new (Failed (Spent pivots)) right is = (right.0, right.1, spent_risen old new is, right.3)

@@ -1,10 +1,9 @@
--- Nodes whose masters may be hunted and solved, and what is lent for that.
-use Rattle.std.specs.Prelude.{ℤ, pos, ◌≡◌, ◌≤◌, ◌<◌, ◌<ℤ◌, ◌^◌, List, length, Result, IfOk}
+-- Nodes whose masters may be solved, and how they end.
+use Rattle.std.specs.Prelude.{ℤ, pos, ◌≡◌, ◌<◌, ◌<ℤ◌, ◌^◌, Bool, List, length}
 use Rattle.roster_model.specs.declared.instance.Cut.{Cut}
 use Rattle.roster_model.specs.declared.instance.Instance.{Instance}
 use Rattle.roster_model.specs.declared.instance.Mult.{Mult}
 use Rattle.roster_model.specs.declared.instance.Prices.{Prices}
-use Rattle.roster_model.specs.declared.memory.Memory.{Memory as MemoryLack}
 use Rattle.roster_model.specs.Folds.{Each}
 use Rattle.roster_model.specs.PriceLimits.{FitPrices}
 use Rattle.roster_model.specs.Trees.{Parts, IsDayTree}
@@ -16,8 +15,8 @@ use Rattle.bound_laws.specs.master_laws.Master.{master}
 use Rattle.bound_laws.specs.master_laws.Rounding.{AreRoundedFrom}
 use Rattle.tableau.specs.declared.simplex.LpEnd.{LpEnd}
 use Rattle.tableau.specs.Ends.{IsLpEnd}
-use Rattle.cheapest_tree.specs.Pricers.{PricerView, IsMadeFor}
-use Rattle.tree_pool.specs.Pools.{PoolTree, IsPool, IsGrown}
+use Rattle.cheapest_tree.specs.Pricers.{PricerView}
+use Rattle.tree_pool.specs.Pools.{PoolTree}
 use Rattle.master_rows.specs.declared.search_day.day.Day.{Day}
 use Rattle.master_rows.specs.search_day.Days.{IsDay}
 use Rattle.master_rows.specs.declared.node_task.task.NodeTask.{NodeTask}
@@ -25,18 +24,10 @@ use Rattle.master_rows.specs.node_task.Tasks.{IsTask, row_count}
 use Rattle.node_columns.specs.declared.desk.Held.{Held}
 use Rattle.node_columns.specs.Columns.{HasKey}
 use Rattle.node_columns.specs.Priced.{AreNarrowPrices}
+use Rattle.search_columns.specs.Tools.{AreTools}
 use Rattle.node_master.specs.declared.ends.NodeEnd.{NodeEnd}
+use Rattle.node_master.specs.Counted.{IsCounted}
 use Rattle.node_master.specs.Ends.{IsNodeCut, EndsRight}
-
--- the pricer is the graph's, and the pool has trees of the day
-pub record AreTools (d : Day) (p : PricerView) (ts : List PoolTree) : Type 0 where
-  pub pricer : IsMadeFor d.graph.now p
-  pub pool : IsPool d.instance.now.grammar ts
-
--- they still are, and the old trees kept their numbers
-pub record StayTools (d : Day) (p : PricerView) (old new : List PoolTree) : Type 0 where
-  pub are : AreTools d p new
-  pub grown : IsGrown old new
 
 -- the day has a tree and is not plainly infeasible, and each cut is one of a node
 pub record IsBusyNode (d : Day) (cuts : List Cut) : Type 0 where
@@ -51,26 +42,16 @@ pub record IsBusyTask (t : NodeTask) : Type 0 where
   pub task : IsTask t
   pub node : IsBusyNode t.day t.cuts.now
 
--- a hunt may use the pricer and the pool
-pub record MayHunt (t : NodeTask) (p : PricerView) (ts : List PoolTree) : Type 0 where
-  pub task : IsTask t
-  pub tools : AreTools t.day p ts
-
 -- the master may be solved with the pricer and the pool
 pub record MaySolve (t : NodeTask) (p : PricerView) (ts : List PoolTree) : Type 0 where
   pub task : IsTask t
   pub node : IsBusyNode t.day t.cuts.now
   pub tools : AreTools t.day p ts
 
--- how the master of a task ends
-abbrev pub EndsTask : NodeTask → List PoolTree → Counts → Counts → NodeEnd → Type 0
-EndsTask t columns old new end = EndsRight t.day.instance.now t.cuts.now columns old new end
-
--- a master of a task was solved: it ends right, and no count fell
-pub record SolvesTask (t : NodeTask) (columns : List PoolTree) (old new : Counts)
-    (r : Result NodeEnd MemoryLack) : Type 0 where
-  pub end : IfOk r (EndsTask t columns old new)
-  pub counts : (old.wide ≤ new.wide) × (old.spent ≤ new.spent)
+-- the master of a task, which nothing stops where it is calm, ends right for each tally that counts its end
+abbrev pub EndsCounted : NodeTask → List PoolTree → Bool → NodeEnd → Type 0
+EndsCounted t columns calm end = (old new : Counts) → IsCounted end old new
+    → EndsRight t.day.instance.now t.cuts.now columns old new calm end
 
 -- the path of a task's master ended so, over a pool and listed columns
 abbrev pub EndsPath : NodeTask → List PoolTree → List Held → LpEnd → Type 0

@@ -1,9 +1,8 @@
-ghost use Rattle.std.specs.Prelude.{◌^◌, List as Items, length, IsTrue, IfOk, IfSome};
+ghost use Rattle.std.specs.Prelude.{◌^◌, Bool, List as Items, length, IsTrue, IfOk, IfSome};
 ghost use Rattle.roster_model.specs.PriceLimits.{FitPrices};
 ghost use Rattle.roster_model.specs.Sums.{Within};
 ghost use Rattle.roster_model.specs.Trees.{Parts};
 ghost use Rattle.bound_laws.specs.linear_programs.Solution.{Weighted};
-ghost use Rattle.fraction.specs.Range.{Counts};
 ghost use Rattle.bound_laws.specs.BestPrices.{AreBest};
 ghost use Rattle.bound_laws.specs.Lagrangian.{IsLeastReduced};
 ghost use Rattle.cheapest_tree.specs.Pricers.{IsMadeFor};
@@ -11,7 +10,7 @@ ghost use Rattle.bound_laws.specs.near_laws.Laws.{AreNear};
 ghost use Rattle.near_prices.specs.Listed.{AreWeightsOf};
 ghost use Rattle.master_rows.specs.search_day.Days.{IsDay};
 ghost use Rattle.node_master.specs.Listed.{MayBeListed};
-ghost use Rattle.node_master.specs.Tasks.{MaySolve, EndsTask, FitNode};
+ghost use Rattle.node_master.specs.Tasks.{MaySolve, EndsCounted, FitNode};
 
 use crate::ends::NodeEnd;
 use crate::listed::{may_be_listed, weights_of};
@@ -87,8 +86,8 @@ pub(crate) fn near_end(
     pricer: &mut Pricer,
 ) -> Result<Option<NodeEnd>, Memory>
     requires { MaySolve task.now pricer.old pool.now }
-    ensures end { IfOk result (λ some. IfSome some (λ end. (counts : Counts) →
-        EndsTask task.now pool.now counts counts end)) }
+    ensures end { IfOk result (λ some. IfSome some (λ end. (calm : Bool) →
+        EndsCounted task.now pool.now calm end)) }
     ensures pricer { IsMadeFor task.now.day.graph.now pricer.new }
 {
     let listed = hint.listed.as_slice();

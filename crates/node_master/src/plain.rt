@@ -1,14 +1,16 @@
 ghost use Rattle.std.specs.Prelude.{◌≡◌, IfOk, true};
-ghost use Rattle.node_master.specs.Refusals.{EndsWell, counted};
-ghost use Rattle.node_master.specs.Tasks.{AreTools, StayTools, IsBusyNode};
+ghost use Rattle.search_columns.specs.Tools.{AreTools, StayTools};
+ghost use Rattle.node_master.specs.Refusals.{EndsWell};
+ghost use Rattle.node_master.specs.Tasks.{IsBusyNode};
 
+use crate::counting::{count_refusal, is_wide};
 use crate::master::Master;
-use crate::{Bases, Cause, First, NodeEnd, Pool, Steering, solve_node_from};
+use crate::{Bases, First, NodeEnd, Pool, Steering, solve_node_from};
 use cheapest_tree::Pricer;
 use fraction::Tally;
 use master_rows::Day;
-use parse_graph::Graph;
-use roster_model::{Cut, Instance, Memory};
+use roster_model::{Cut, Memory};
+use search_watch::Watch;
 use std::alloc::Global;
 
 /// A master that solves each node's linear program in exact fractions, or finds prices that a near solution
@@ -20,25 +22,6 @@ pub struct PlainMaster {
     refused: u64,
     /// The last bases of nodes: hints.
     bases: Option<Bases>,
-}
-
-/// Says whether a node was given up for a number that was too wide.
-fn is_wide(end: &NodeEnd) -> bool {
-    matches!(end, NodeEnd::Failed(Cause::Wide(_)))
-}
-
-/// Returns the count of refusals after the end of a node.
-fn count_end(refused: u64, end: &NodeEnd) -> u64
-    ensures { result ≡ counted refused end.now }
-{
-    match end {
-        NodeEnd::Best { .. } | NodeEnd::Near { .. } | NodeEnd::Failed(Cause::Rows { .. }) => {
-            refused
-        }
-        NodeEnd::Failed(Cause::Wide(_)) | NodeEnd::Failed(Cause::Spent { .. }) => {
-            refused.saturating_add(1)
-        }
-    }
 }
 
 /// Returns the bases that were kept, or none.
@@ -70,7 +53,7 @@ impl PlainMaster {
     }
 
     /// Solves a node's program with the bases that were kept, and keeps one more.
-    fn solve(
+    fn solve<W: Watch>(
         &mut self,
         alloc: Global,
         day: &Day,
@@ -78,10 +61,11 @@ impl PlainMaster {
         wanted: &[usize],
         pricer: &mut Pricer,
         pool: &mut Pool,
+        watch: &W,
     ) -> Result<NodeEnd, Memory>
         requires node { IsBusyNode day.now cuts.now }
         requires tools { AreTools day.now pricer.old pool.old }
-        ensures end { IfOk result (EndsWell day.now.instance.now cuts.now pool.new true) }
+        ensures end { IfOk result (EndsWell day.now.instance.now cuts.now pool.new true (W.patient watch.now)) }
         ensures refused { self.new.refused ≡ self.old.refused }
         ensures tools { StayTools day.now pricer.new pool.old pool.new }
     {
@@ -97,6 +81,7 @@ impl PlainMaster {
             pricer,
             pool,
             &mut steering,
+            watch,
             &mut self.tally,
         )?;
         self.bases = Some(steering.bases);
@@ -105,7 +90,7 @@ impl PlainMaster {
 
     /// Solves a node's program; where a number was too wide, once more with no tree wanted: the pool has
     /// more trees by then, and it may end at another solution, with smaller numbers.
-    fn solve_again(
+    fn solve_again<W: Watch>(
         &mut self,
         alloc: Global,
         day: &Day,
@@ -113,19 +98,20 @@ impl PlainMaster {
         wanted: &[usize],
         pricer: &mut Pricer,
         pool: &mut Pool,
+        watch: &W,
     ) -> Result<NodeEnd, Memory>
         requires node { IsBusyNode day.now cuts.now }
         requires tools { AreTools day.now pricer.old pool.old }
-        ensures end { IfOk result (EndsWell day.now.instance.now cuts.now pool.new true) }
+        ensures end { IfOk result (EndsWell day.now.instance.now cuts.now pool.new true (W.patient watch.now)) }
         ensures refused { self.new.refused ≡ self.old.refused }
         ensures tools { StayTools day.now pricer.new pool.old pool.new }
     {
-        let end = self.solve(alloc, day, cuts, wanted, pricer, pool)?;
+        let end = self.solve(alloc, day, cuts, wanted, pricer, pool, watch)?;
         if !is_wide(&end) {
             return Ok(end);
         }
         drop(end);
-        self.solve(alloc, day, cuts, &[], pricer, pool)
+        self.solve(alloc, day, cuts, &[], pricer, pool, watch)
     }
 }
 
@@ -137,20 +123,19 @@ impl Master for PlainMaster {
     ghost strict = { λ m. true };
 
     /// Solves a node's program, and counts where it is given up.
-    fn node(
+    fn node<W: Watch>(
         &mut self,
         alloc: Global,
-        instance: &Instance,
-        graph: &Graph,
+        day: &Day,
         pricer: &mut Pricer,
         pool: &mut Pool,
         cuts: &[Cut],
         wanted: &[usize],
+        watch: &W,
     ) -> Result<NodeEnd, Memory> {
         let refused = self.refused;
-        let day = Day { instance, graph };
-        let end = self.solve_again(alloc, &day, cuts, wanted, pricer, pool)?;
-        self.refused = count_end(refused, &end);
+        let end = self.solve_again(alloc, day, cuts, wanted, pricer, pool, watch)?;
+        self.refused = count_refusal(refused, &end);
         Ok(end)
     }
 }

@@ -1,24 +1,25 @@
-ghost use Rattle.std.specs.Prelude.{◌≤◌, IfOk};
+ghost use Rattle.std.specs.Prelude.{◌≡◌, ◌≤◌, Ok, true, IfOk};
+ghost use Rattle.search_columns.specs.Tools.{AreTools, StayTools};
 ghost use Rattle.node_master.specs.Ends.{EndsRight};
-ghost use Rattle.node_master.specs.Tasks.{AreTools, StayTools, IsBusyNode, MaySolve, SolvesTask};
+ghost use Rattle.node_master.specs.Tasks.{IsBusyNode, MaySolve, EndsCounted};
 
-use crate::bases::Bases;
+use crate::counting::count_end;
 use crate::ends::{Cause, NodeEnd};
-use crate::first::{First, solve_exact_first, solve_near_first};
-use crate::hunting::hunt;
-use crate::steering::Steering;
+use crate::first::{solve_exact_first, solve_near_first};
 use cheapest_tree::Pricer;
 use fraction::Tally;
 use master_rows::{Day, NodeRows, NodeTask, count_rows};
 use parse_graph::Graph;
 use roster_model::{Cut, Instance, Memory};
+use search_columns::{Bases, First, Steering, hunt_basis};
+use search_watch::{SteadyWatch, Watch};
 use std::alloc::Global;
 use tree_pool::Pool;
 
 /// The most rows of a master.
 const ROWS: usize = 1500;
 
-/// Solves the master of the node at a path of cuts, base cuts first, or gives it up.
+/// Solves the master of the node at a path of cuts, base cuts first, or gives it up. Nothing stops it.
 ///
 /// Trees of the pool that are `wanted` steer the solution, the most wanted first: any list of numbers
 /// is lawful. Whatever the answer, the pricer is still one made for the graph, and the pool has its
@@ -39,7 +40,8 @@ pub fn solve_node(
 ) -> Result<NodeEnd, Memory>
     requires node { IsBusyNode (record { instance = instance; graph = graph }) cuts.now }
     requires tools { AreTools (record { instance = instance; graph = graph }) pricer.old pool.old }
-    ensures end { IfOk result (EndsRight instance.now cuts.now pool.new tally.old tally.new) }
+    ensures end { IfOk result (EndsRight instance.now cuts.now pool.new tally.old tally.new true) }
+    ensures never { result ≡ Ok NodeEnd.Stopped → ⊥ }
     ensures tools { StayTools (record { instance = instance.entry; graph = graph.entry })
         pricer.new pool.old pool.new }
     ensures counts { (tally.old.wide ≤ tally.new.wide) × (tally.old.spent ≤ tally.new.spent) }
@@ -50,12 +52,22 @@ pub fn solve_node(
         bases: Bases::new(alloc),
     };
     let day = Day { instance, graph };
-    solve_node_from(alloc, &day, cuts, pricer, pool, &mut steering, tally)
+    solve_node_from(
+        alloc,
+        &day,
+        cuts,
+        pricer,
+        pool,
+        &mut steering,
+        &SteadyWatch,
+        tally,
+    )
 }
 
 /// Solves the master of a node as `solve_node` does. The hunt for a good basis begins with that of the
 /// nearest node above, if it is kept, and that of this node is kept: they are hints. A way to prices is gone
-/// first, and a master is given up only where neither leads to any.
+/// first, and a master is given up only where neither leads to any. Where the watch is over it stops, once near
+/// prices were asked for.
 ///
 /// Trees of the pool that are wanted steer the solution, the most wanted first: any list of numbers
 /// is lawful. Whatever the answer, the pricer is still one made for the graph, and the pool has its
@@ -64,18 +76,20 @@ pub fn solve_node(
 /// # Errors
 ///
 /// `Memory` where memory runs out; the same holds of the pricer and of the pool then.
-pub fn solve_node_from(
+pub fn solve_node_from<W: Watch>(
     alloc: Global,
     day: &Day,
     cuts: &[Cut],
     pricer: &mut Pricer,
     pool: &mut Pool,
     steering: &mut Steering,
+    watch: &W,
     tally: &mut Tally,
 ) -> Result<NodeEnd, Memory>
     requires node { IsBusyNode day.now cuts.now }
     requires tools { AreTools day.now pricer.old pool.old }
-    ensures end { IfOk result (EndsRight day.now.instance.now cuts.now pool.new tally.old tally.new) }
+    ensures end { IfOk result (EndsRight day.now.instance.now cuts.now pool.new tally.old tally.new
+        (W.patient watch.now)) }
     ensures tools { StayTools day.now pricer.new pool.old pool.new }
     ensures counts { (tally.old.wide ≤ tally.new.wide) × (tally.old.spent ≤ tally.new.spent) }
 {
@@ -91,28 +105,30 @@ pub fn solve_node_from(
         cuts,
         rows: &rows,
     };
-    solve_steered(alloc, &task, pricer, pool, steering, tally)
+    let end = solve_steered(alloc, &task, pricer, pool, steering, watch)?;
+    count_end(&end, tally);
+    Ok(end)
 }
 
 /// Solves the master of a node whose rows are there, steered to the basis that a hunt ends with.
-#[tactic(auto, using(crate::proofs::PoolGrowth::stay_chain))]
-fn solve_steered(
+#[tactic(auto, using(search_columns::proofs::PoolGrowth::stay_chain))]
+fn solve_steered<W: Watch>(
     alloc: Global,
     task: &NodeTask,
     pricer: &mut Pricer,
     pool: &mut Pool,
     steering: &mut Steering,
-    tally: &mut Tally,
+    watch: &W,
 ) -> Result<NodeEnd, Memory>
     requires { MaySolve task.now pricer.old pool.old }
-    ensures end { SolvesTask task.now pool.new tally.old tally.new result }
+    ensures end { IfOk result (EndsCounted task.now pool.new (W.patient watch.now)) }
     ensures tools { StayTools task.now.day pricer.new pool.old pool.new }
 {
     let first = steering.first;
-    let hint = hunt(alloc, task, first.ending(), pricer, pool, steering)?;
-    if hint.is_early || first.is_near(hint.trees.len()) {
-        solve_near_first(alloc, task, &hint, pricer, pool, steering, tally)
+    let hint = hunt_basis(alloc, task, first.ending(), pricer, pool, steering, watch)?;
+    if hint.is_stopped || hint.is_early || first.is_near(hint.trees.len()) {
+        solve_near_first(alloc, task, &hint, pricer, pool, steering, watch)
     } else {
-        solve_exact_first(alloc, task, &hint, pricer, pool, tally)
+        solve_exact_first(alloc, task, &hint, pricer, pool, watch)
     }
 }

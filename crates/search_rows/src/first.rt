@@ -1,4 +1,4 @@
-ghost use Rattle.std.specs.Prelude.{[], IfOk};
+ghost use Rattle.std.specs.Prelude.{[], true, IfOk};
 ghost use Rattle.roster_model.specs.SoundInstance.{IsSoundInstance};
 ghost use Rattle.parse_graph.specs.Graphs.{IsGraph};
 ghost use Rattle.node_master.specs.Ends.{EndsRight};
@@ -11,6 +11,7 @@ use node_master::{Bases, First, NodeEnd, Steering, Weight, solve_node_from};
 use parse_graph::Graph;
 use roster_model::{Cell, Instance, Memory};
 use sample_days::{ANY, CELL, DayParts, REST, RuleParts, WORK, sound_day};
+use search_watch::SteadyWatch;
 use std::alloc::Global;
 use std::test::Fail;
 
@@ -59,7 +60,7 @@ pub fn solve(
     requires graph { IsGraph day.now.grammar graph.now }
     requires lent { AreLent day.now graph.now lent.old.pricer lent.old.pool }
     ensures lent { AreLent day.now graph.now lent.new.pricer lent.new.pool }
-    ensures end { IfOk result (EndsRight day.now [] lent.new.pool lent.old.tally lent.new.tally) }
+    ensures end { IfOk result (EndsRight day.now [] lent.new.pool lent.old.tally lent.new.tally true) }
 {
     let mut steering = Steering {
         wanted: &[],
@@ -76,6 +77,7 @@ pub fn solve(
         &mut lent.pricer,
         &mut lent.pool,
         &mut steering,
+        &SteadyWatch,
         &mut lent.tally,
     )
 }
@@ -123,7 +125,7 @@ fn are_near_halves(end: &NodeEnd) -> bool {
                 && weights.len() == 3
                 && weights.as_slice().iter().all(|weight| is_half(weight))
         }
-        NodeEnd::Best { .. } | NodeEnd::Failed(_) => false,
+        NodeEnd::Best { .. } | NodeEnd::Failed(_) | NodeEnd::Stopped => false,
     }
 }
 
@@ -151,7 +153,7 @@ fn are_near_thirds(end: &NodeEnd) -> bool {
                     .iter()
                     .all(|weight| is_about_2_thirds(weight))
         }
-        NodeEnd::Best { .. } | NodeEnd::Failed(_) => false,
+        NodeEnd::Best { .. } | NodeEnd::Failed(_) | NodeEnd::Stopped => false,
     }
 }
 

@@ -11,3 +11,7 @@ mod leaves;
 mod masters;
 #[cfg(test)]
 mod splits;
+#[cfg(test)]
+mod stops;
+#[cfg(test)]
+mod watches;

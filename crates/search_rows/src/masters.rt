@@ -20,7 +20,7 @@ use tree_pool::Pool;
 pub static PAIR_DAY: DayParts<'static> = PAIR_PARTS;
 
 /// At most no tree with the first part of the first rule of pairs.
-const LOW: Cut = Cut {
+pub const LOW: Cut = Cut {
     arc: ArcKey {
         rule: 1,
         suffix: 0,
@@ -51,7 +51,7 @@ fn are_listed_cuts(graph: &Graph, cuts: &[Cut]) -> bool
 }
 
 /// Returns whether the cuts are on arcs of the day, and not too many.
-fn are_node_cuts(day: &Instance, graph: &Graph, cuts: &[Cut]) -> bool
+pub fn are_node_cuts(day: &Instance, graph: &Graph, cuts: &[Cut]) -> bool
     requires { IsGraph day.now.grammar graph.now }
     ensures cuts { IsTrue result → Each (IsNodeCut day.now) cuts.now }
     ensures few { IsTrue result → length cuts.now < 2 ^ 31 }
@@ -141,7 +141,7 @@ fn are_halves(end: &NodeEnd) -> bool {
                 && weights.len() == 3
                 && weights.as_slice().iter().all(|weight| is_half(weight))
         }
-        NodeEnd::Near { .. } | NodeEnd::Failed(_) => false,
+        NodeEnd::Near { .. } | NodeEnd::Failed(_) | NodeEnd::Stopped => false,
     }
 }
 

@@ -102,7 +102,9 @@ fn near_weights(
 {
     match solve(alloc, day, graph, lent, First::Near)? {
         NodeEnd::Near { weights, .. } => Ok(weights),
-        NodeEnd::Best { .. } | NodeEnd::Failed(_) => Err(Fail::from("no near end")),
+        NodeEnd::Best { .. } | NodeEnd::Failed(_) | NodeEnd::Stopped => {
+            Err(Fail::from("no near end"))
+        }
     }
 }
 

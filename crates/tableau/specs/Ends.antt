@@ -1,5 +1,5 @@
 -- How the simplex method ends.
-use Rattle.std.specs.Prelude.{ℕ, ℤ, pos, ◌≡◌, ◌<◌, ◌≤◌, ◌^◌, ◌*ℤ◌, ◌<ℤ◌, ◌⊎◌, List, [], ◌∷◌, length, unsigned_abs}
+use Rattle.std.specs.Prelude.{ℕ, ℤ, pos, ◌≡◌, ◌<◌, ◌≤◌, ◌^◌, ◌*ℤ◌, ◌<ℤ◌, ◌⊎◌, Bool, IsTrue, List, [], ◌∷◌, length, unsigned_abs}
 use Rattle.bound_laws.specs.linear_programs.Program.{Program, IsPricedOut}
 use Rattle.bound_laws.specs.linear_programs.Solution.{Weighted}
 use Rattle.bound_laws.specs.linear_programs.Tableau.{Tableau, PivotPath, HasWidePath, HasOpenPath, on_basis, IsTableauSolution}
@@ -10,7 +10,7 @@ use Rattle.fraction.specs.pivot_rows.Rows.{AreNarrow}
 use Rattle.tableau.specs.Risen.{HasRisen}
 use Rattle.tableau.specs.declared.simplex.Basic.{Basic}
 use Rattle.tableau.specs.declared.simplex.LpFault.{LpFault}
-use Rattle.tableau.specs.declared.simplex.LpFault.TheVariants.{Wide, Spent, Memory}
+use Rattle.tableau.specs.declared.simplex.LpFault.TheVariants.{Wide, Spent, Memory, Stopped}
 
 -- the weight of a listed column, in units of 1 / d
 pub record IsBasicWeight {K : Type 0} (Lists : ℕ → K → Type 0) (d : ℕ) (b : Basic)
@@ -47,9 +47,18 @@ HasLargeColumn {K} p Lists =
     (j : ℕ) × (k : K) × Lists j k × (((r : ℕ) × (r < p.rows) × (1 < unsigned_abs ((p.column k).entry r)))
     ⊎ (pos (2 ^ 39) <ℤ (p.column k).cost))
 
+-- each fault of a path comes only where it may, and none is that it was stopped
 abbrev pub IsLpFault : {K : Type 0} → Program K → (ℕ → K → Type 0) → ℕ → Counts → Counts → LpFault → Type 0
 IsLpFault p Lists pivots old new (Wide fault) = HasRisen old.wide new.wide
     × (HasWidePath p ⊎ HasLargeColumn p Lists)
 IsLpFault p Lists pivots old new (Spent n) = (n ≡ pivots) × HasRisen old.spent new.spent
     × HasOpenPath p pivots
 IsLpFault p Lists pivots old new Memory = Unit {0}
+IsLpFault p Lists pivots old new Stopped = ⊥
+
+-- the same of a path that may be stopped, as none is where it is calm
+abbrev pub EndsLp : {K : Type 0} → Program K → (ℕ → K → Type 0) → Bool → ℕ → Counts → Counts → LpFault → Type 0
+EndsLp p Lists calm pivots old new (Wide fault) = IsLpFault p Lists pivots old new (Wide fault)
+EndsLp p Lists calm pivots old new (Spent n) = IsLpFault p Lists pivots old new (Spent n)
+EndsLp p Lists calm pivots old new Memory = IsLpFault p Lists pivots old new Memory
+EndsLp p Lists calm pivots old new Stopped = IsTrue calm → ⊥

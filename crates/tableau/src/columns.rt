@@ -10,6 +10,9 @@ ghost use Rattle.std.specs.Prelude.{
   unsigned_abs,
   List,
   Some,
+  Bool,
+  IsTrue,
+  false,
   All,
   length,
   slice_get,
@@ -47,6 +50,9 @@ pub trait Columns {
     ghost site: { Self → Site };
 
     ghost program: { Site → Program Key };
+
+    // Whether nothing stops what is done with them.
+    ghost calm: { Site → Bool };
 
     ghost State: { Type 0 };
 
@@ -98,6 +104,10 @@ pub trait Columns {
     fn wanted(&self) -> &[u32]
         requires { Ready (state self.now) }
         ensures { All (λ (j : ℕ). j < size (state self.now)) result.now };
+
+    /// Says whether what is done with them is to stop.
+    fn is_over(&self) -> bool
+        ensures { IsTrue (calm (site self.now)) → result ≡ false };
 
     /// Returns a column, which is then listed, that has a negative reduced cost at `y / kappa`, or
     /// none where no column of the program has.

@@ -1,7 +1,7 @@
 ghost use Rattle.std.specs.Prelude.{ℕ, ◌≡◌, ◌≤◌, ◌<◌, ◌+◌, pos, ◌≤ℤ◌, IfOk, IfErr, IsTrue, false};
 ghost use Rattle.bound_laws.specs.linear_programs.Program.{Program, IsSound};
 ghost use Rattle.tableau.specs.Running.{IsRunning, IsPriced};
-ghost use Rattle.tableau.specs.Ends.{IsLpFault};
+ghost use Rattle.tableau.specs.Ends.{IsLpFault, EndsLp};
 
 use crate::choice::Rule;
 use crate::columns::Columns;
@@ -68,13 +68,15 @@ fn next<C: Columns>(
     }
 }
 
-/// Makes turns until no column has a negative reduced cost, at most so many.
+/// Makes turns until no column has a negative reduced cost, at most so many. It asks before each whether it is
+/// to stop.
 ///
 /// # Errors
 ///
-/// The fault of the program (`IsLpFault`): `Wide` for a number above 2^56 in size or a column that is too
+/// The fault of the program (`EndsLp`): `Wide` for a number above 2^56 in size or a column that is too
 /// large, `Spent` where so many turns were made and a column has a negative reduced cost, each of which the
-/// tally counts, or `Memory`. Listed columns keep their numbers then too, and nothing is said of the sheet.
+/// tally counts, `Memory`, or `Stopped`. Listed columns keep their numbers then too, and nothing is said of the
+/// sheet.
 pub(crate) fn run<C: Columns>(
     columns: &mut C,
     sheet: &mut Sheet,
@@ -98,12 +100,15 @@ pub(crate) fn run<C: Columns>(
     ensures ready { C.Ready (C.state columns.new) }
     ensures kept { C.Kept (C.state columns.old) (C.state columns.new) }
     ensures fault { IfErr result
-        (λ f. IsLpFault (C.program (C.site columns.old)) (C.Lists (C.state columns.new))
-        pivots tally.old tally.new f) }
+        (λ f. EndsLp (C.program (C.site columns.old)) (C.Lists (C.state columns.new))
+        (C.calm (C.site columns.old)) pivots tally.old tally.new f) }
     ensures counts { (tally.old.wide ≤ tally.new.wide) × (tally.old.spent ≤ tally.new.spent) }
 {
     let mut budget = Budget::new(pivots);
     'turns: loop {
+        if columns.is_over() {
+            return Err(LpFault::Stopped);
+        }
         match next(columns, sheet, rule, &mut budget, pivots, tally) {
             Ok(true) => {}
             Ok(false) => return Ok(()),

@@ -1,7 +1,7 @@
-ghost use Rattle.std.specs.Prelude.{ℕ, ◌≡◌, ◌≤◌, ◌<◌, pos, ◌≤ℤ◌, IfOk, IfErr, length};
+ghost use Rattle.std.specs.Prelude.{ℕ, ◌≡◌, ◌≤◌, ◌<◌, pos, ◌≤ℤ◌, IfOk, IfErr, IsTrue, length};
 ghost use Rattle.bound_laws.specs.linear_programs.Program.{IsSound};
 ghost use Rattle.fraction.specs.Row.{at};
-ghost use Rattle.tableau.specs.Ends.{IsLpEnd, IsLpFault};
+ghost use Rattle.tableau.specs.Ends.{IsLpEnd, EndsLp};
 
 use crate::choice::Rule;
 use crate::columns::Columns;
@@ -64,8 +64,8 @@ fn attempt<C: Columns>(
         → pos 0 ≤ℤ ((C.program (C.site columns.old)).column k).cost }
     ensures end { IfOk result (λ end. IsLpEnd (C.program (C.site columns.old))
         (C.Lists (C.state columns.new)) end.basic end.y end.kappa end.value) }
-    ensures fault { IfErr result (λ fault. IsLpFault (C.program (C.site columns.old))
-        (C.Lists (C.state columns.new)) pivots tally.old tally.new fault) }
+    ensures fault { IfErr result (λ fault. EndsLp (C.program (C.site columns.old))
+        (C.Lists (C.state columns.new)) (C.calm (C.site columns.old)) pivots tally.old tally.new fault) }
     ensures site { C.site columns.new ≡ C.site columns.old }
     ensures ready { C.Ready (C.state columns.new) }
     ensures kept { C.Kept (C.state columns.old) (C.state columns.new) }
@@ -104,6 +104,8 @@ fn attempt_again<C: Columns>(
         → pos 0 ≤ℤ ((C.program (C.site columns.old)).column k).cost }
     ensures end { IfOk result (λ end. IsLpEnd (C.program (C.site columns.old))
         (C.Lists (C.state columns.new)) end.basic end.y end.kappa end.value) }
+    ensures stopped { IfErr result (λ fault. fault ≡ LpFault.Stopped
+        → IsTrue (C.calm (C.site columns.old)) → ⊥) }
     ensures site { C.site columns.new ≡ C.site columns.old }
     ensures ready { C.Ready (C.state columns.new) }
     ensures kept { C.Kept (C.state columns.old) (C.state columns.new) }
@@ -119,6 +121,7 @@ fn attempt_again<C: Columns>(
     ) {
         Ok(end) => Ok(end),
         Err(LpFault::Memory) => Err(LpFault::Memory),
+        Err(LpFault::Stopped) => Err(LpFault::Stopped),
         Err(_) => attempt(
             alloc,
             columns,
@@ -140,9 +143,9 @@ fn is_wide(fault: LpFault) -> bool {
 ///
 /// # Errors
 ///
-/// The fault of the program (`IsLpFault`): `Wide` for a number above 2^56 in size on some path, or a column
-/// that is too large, `Spent` where all pivots were made, each of which the tally counts, or `Memory`. Listed
-/// columns keep their numbers then too.
+/// The fault of the program (`EndsLp`): `Wide` for a number above 2^56 in size on some path, or a column
+/// that is too large, `Spent` where all pivots were made, each of which the tally counts, `Memory`, or `Stopped`
+/// where the columns say so before a pivot. Listed columns keep their numbers then too.
 pub fn solve<C: Columns>(
     alloc: Global,
     columns: &mut C,
@@ -162,8 +165,8 @@ pub fn solve<C: Columns>(
         → pos 0 ≤ℤ ((C.program (C.site columns.old)).column k).cost }
     ensures end { IfOk result (λ end. IsLpEnd (C.program (C.site columns.old))
         (C.Lists (C.state columns.new)) end.basic end.y end.kappa end.value) }
-    ensures fault { IfErr result (λ fault. IsLpFault (C.program (C.site columns.old))
-        (C.Lists (C.state columns.new)) pivots tally.old tally.new fault) }
+    ensures fault { IfErr result (λ fault. EndsLp (C.program (C.site columns.old))
+        (C.Lists (C.state columns.new)) (C.calm (C.site columns.old)) pivots tally.old tally.new fault) }
     ensures site { C.site columns.new ≡ C.site columns.old }
     ensures ready { C.Ready (C.state columns.new) }
     ensures kept { C.Kept (C.state columns.old) (C.state columns.new) }
@@ -179,6 +182,7 @@ pub fn solve<C: Columns>(
     match attempt_again(alloc, columns, right, pivots) {
         Ok(end) => Ok(end),
         Err(LpFault::Memory) => Err(LpFault::Memory),
+        Err(LpFault::Stopped) => Err(LpFault::Stopped),
         Err(_) => Err(fault),
     }
 }

@@ -6,6 +6,7 @@ use crate::reduced::find_cheaper;
 use fraction::{Place, Tally};
 use roster_model::Memory;
 use std::alloc::Global;
+use std::cell::Cell;
 use std::marker::Model;
 use tableau::{Columns, ColumnsFault};
 
@@ -71,6 +72,8 @@ impl Entries {
 pub(crate) struct Listed {
     pub right: [i64; 3],
     pub columns: Vec<Entries>,
+    /// How many further questions whether to stop are answered by no; all, where there is no number.
+    pub goes_on: Cell<Option<u32>>,
 }
 
 /// Returns the columns of three units with these costs, and those of some numbers behind them.
@@ -89,11 +92,15 @@ pub(crate) fn program_of(
     for (cost, entries) in parts {
         columns.push(Entries::new(*cost, *entries))?;
     }
-    Ok(Listed { right, columns })
+    Ok(Listed {
+        right,
+        columns,
+        goes_on: Cell::new(None),
+    })
 }
 
 impl Columns for Listed {
-    ghost use Rattle.std.specs.Prelude.{ℕ, ◌≡◌, length};
+    ghost use Rattle.std.specs.Prelude.{ℕ, ◌≡◌, false, length};
     ghost use mathlib.Core.Path.{refl, ◌∙◌};
     ghost use Rattle.tableau_rows.specs.Tables.{Table, table_program, Lists};
     ghost use Rattle.tableau_rows.specs.Tables.{lists-still};
@@ -105,6 +112,8 @@ impl Columns for Listed {
     ghost site = { λ s. record { right = s.right; columns = s.columns.items } };
 
     ghost program = { table_program };
+
+    ghost calm = { λ _. false };
 
     ghost State = { Table };
 
@@ -142,6 +151,14 @@ impl Columns for Listed {
 
     fn wanted(&self) -> &[u32] {
         &[]
+    }
+
+    fn is_over(&self) -> bool {
+        let Some(left) = self.goes_on.get() else {
+            return false;
+        };
+        self.goes_on.set(Some(left.saturating_sub(1)));
+        left == 0
     }
 
     fn price_out(

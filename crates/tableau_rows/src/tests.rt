@@ -160,6 +160,20 @@ fn is_solved(alloc: Global, row: &Row, program: &mut Listed) -> Result<bool, Fai
     Ok(is_answer(row, &answer, (tally.wide(), tally.spent())))
 }
 
+/// Says whether the program of a row stops where it is to stop behind so many turns, with no refusal counted.
+fn stops(alloc: Global, row: &Row, turns: u32) -> Result<bool, Fail> {
+    let mut program = program_of(alloc, row.right, row.cost, row.columns)?;
+    program.goes_on.set(Some(turns));
+    if program.right != row.right || !is_sound(&program) {
+        return Err(Fail::from("no sound program"));
+    }
+    let mut tally = Tally::new();
+    let answer = solve(alloc, &mut program, &row.right, row.pivots, &mut tally);
+    drop(program);
+    let is_stopped = matches!(answer, Err(LpFault::Stopped));
+    Ok(is_stopped && tally.wide() == 0 && tally.spent() == 0)
+}
+
 /// Says whether the answer to a row comes.
 fn is_answered(alloc: Global, row: &Row) -> Result<bool, Fail> {
     let mut program = program_of(alloc, row.right, row.cost, row.columns)?;
@@ -185,6 +199,16 @@ fn programs_with_an_end(rt: HostRuntime) -> Result<(), Fail> {
 #[test]
 fn programs_whose_pivots_run_out(rt: HostRuntime) -> Result<(), Fail> {
     assert!(rt; are_answered(rt.alloc(), &SPENT)?);
+    Ok(())
+}
+
+// All three pairs become basic, each at a turn of its own; then a further turn shows that no column has a negative
+// reduced cost.
+#[test]
+fn programs_that_are_to_stop(rt: HostRuntime) -> Result<(), Fail> {
+    assert!(rt; stops(rt.alloc(), &PAIR_ROW, 0)?);
+    assert!(rt; stops(rt.alloc(), &PAIR_ROW, 3)?);
+    assert!(rt; !stops(rt.alloc(), &PAIR_ROW, 100)?);
     Ok(())
 }
 

@@ -6,10 +6,16 @@ use crate::{first_wide, list_cheapest};
 use cheapest_tree::Pricer;
 use master_rows::NodeTask;
 use roster_model::Memory;
+use search_watch::{Watch, Work};
 use std::alloc::Global;
 
 /// The unit of prices, one in 2^24.
 const KAPPA: i128 = 16_777_216;
+
+/// Returns a bound in units of 2^-24 as a whole number, rounded down; none where it is below 0.
+pub fn whole_bound(bound: i128) -> Option<u64> {
+    u64::try_from(bound.div_euclid(KAPPA)).ok()
+}
 
 /// Lists a tree of least reduced cost at the prices that are asked at, where that is negative, and returns its
 /// column.
@@ -60,25 +66,38 @@ fn take_pass(
     Ok(desk.path.note(task, held))
 }
 
-/// Takes at most so many passes.
+/// Tells a watch how many trees were found, and what the best prices show.
+fn tell<W: Watch>(desk: &VolumeDesk, watch: &W) {
+    watch.tell(Work::Prices {
+        trees: desk.pool.len() as u64,
+        bound: whole_bound(desk.path.bound()),
+    });
+}
+
+/// Takes at most so many passes. A watch that is over ends them behind the first one, which shows a bound.
 ///
 /// # Errors
 ///
 /// `Memory` where memory runs out; the pricer is still one for the graph then, and the pool has only trees of
 /// the day.
-pub(crate) fn take_passes(
+pub(crate) fn take_passes<W: Watch>(
     alloc: Global,
     task: &NodeTask,
     count: u32,
     pricer: &mut Pricer,
     desk: &mut VolumeDesk,
+    watch: &W,
 ) -> Result<(), Memory>
     requires task { IsTask task.now }
     requires desk { IsVolumeDesk task.now pricer.old desk.old }
     ensures { IsVolumeDesk task.now pricer.new desk.new }
 {
-    for _pass in 0..count {
+    for pass in 0..count {
+        if pass > 0 && watch.is_over() {
+            return Ok(());
+        }
         let goes_on = take_pass(alloc, task, pricer, desk)?;
+        tell(desk, watch);
         if !goes_on {
             return Ok(());
         }

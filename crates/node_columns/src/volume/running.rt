@@ -9,6 +9,7 @@ use crate::volume::passes::take_passes;
 use cheapest_tree::Pricer;
 use master_rows::NodeTask;
 use roster_model::Memory;
+use search_watch::Watch;
 use std::alloc::Global;
 
 /// Returns what passes have led to.
@@ -32,17 +33,18 @@ fn volume_of(alloc: Global, task: &NodeTask, desk: VolumeDesk) -> Result<Volume,
 /// bound. Each tree has a share in a mean of what trees bring to the rows, and the next prices are a step from
 /// the best ones along what the mean lacks. The first ones are those of `start`, in units of 2^-24, of which a
 /// row behind the last has the price 0; without a start all are 0. It ends where steps become too small to be
-/// worth a pass. Trees come into a pool of its own.
+/// worth a pass, and behind a first pass where the watch is over. Trees come into a pool of its own.
 ///
 /// # Errors
 ///
 /// `Memory` where memory runs out; the pricer is as good as before.
-pub fn volume(
+pub fn volume<W: Watch>(
     alloc: Global,
     task: &NodeTask,
     start: Option<&[i128]>,
     passes: u32,
     pricer: &mut Pricer,
+    watch: &W,
 ) -> Result<Volume, Memory>
     requires task { IsTask task.now }
     requires made { IsMadeFor task.now.day.graph.now pricer.old }
@@ -50,6 +52,6 @@ pub fn volume(
     ensures pool { IfOk result (λ v. IsPool task.now.day.instance.now.grammar v.pool) }
 {
     let mut desk = VolumeDesk::new(alloc, task, start)?;
-    take_passes(alloc, task, passes, pricer, &mut desk)?;
+    take_passes(alloc, task, passes, pricer, &mut desk, watch)?;
     volume_of(alloc, task, desk)
 }

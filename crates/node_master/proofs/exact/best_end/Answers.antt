@@ -5,13 +5,13 @@ use Rattle.node_columns.proofs.RowPrices.{few_cuts}
 use Rattle.node_master.proofs.exact.best_end.Goals as goal
 
 pub listed_weights-requires : goal.listed_weights-requires
-listed_weights-requires c =
+listed_weights-requires g c =
     let s = c.args.columns.now in
     let e = c.args.end.now in
     rw c.as_slice.ensures (basics_below c.args.task.now.day.instance.now.grammar s.pool.now s.desk.now.held _ e.basic _ c.requires.end.weights)
 
 pub round-requires-clause-y : goal.round-requires-clause-y
-round-requires-clause-y c =
+round-requires-clause-y g c =
     let i = c.args.task.now.day.instance.now in
     let cuts = c.args.task.now.cuts.now in
     let e = c.args.end.now in
@@ -22,8 +22,8 @@ round-requires-clause-y c =
       out = rw (k, c.as_slice-2.ensures) (out_end i cuts _ e.basic e.y e.kappa e.value c.requires.end);
     }
 
-pub returns-clause-end : goal.returns-clause-end
-returns-clause-end c = λ old new.
+pub returns : goal.returns
+returns g c = λ calm old new is.
     let i = c.args.task.now.day.instance.now in
     let cuts = c.args.task.now.cuts.now in
     let s = c.args.columns.now in

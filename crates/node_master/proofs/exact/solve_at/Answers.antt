@@ -1,4 +1,4 @@
-use Rattle.std.proofs.Common.{◌≡◌, ℕ, subst, sym, refl, ap, rules}
+use Rattle.std.proofs.Common.{◌≡◌, ℕ, subst, sym, refl, ap}
 use Rattle.roster_model.specs.declared.instance.Instance.{Instance}
 use Rattle.tableau.specs.Ends.{IsLpEnd}
 use Rattle.bound_laws.specs.master_laws.Rows.{rows_of}
@@ -11,7 +11,7 @@ use Rattle.node_master.proofs.EndsLemmas.{given_up, small_path}
 use Rattle.node_master.proofs.exact.solve_at.Goals as goal
 
 pub solve-requires-clause-ready : goal.solve-requires-clause-ready
-solve-requires-clause-ready c = record {
+solve-requires-clause-ready g c = record {
   sound = c.requires.may.task.day.sound;
   graph = c.requires.may.task.day.graph;
   pricer = c.requires.may.tools.pricer;
@@ -23,19 +23,19 @@ solve-requires-clause-ready c = record {
 }
 
 pub solve-requires-clause-sound : goal.solve-requires-clause-sound
-solve-requires-clause-sound c = master_sound c.args.task.now.day.instance.now (rows_of c.args.task.now.day.instance.now c.args.task.now.cuts.now)
+solve-requires-clause-sound g c = master_sound c.args.task.now.day.instance.now (rows_of c.args.task.now.day.instance.now c.args.task.now.cuts.now)
 
 pub solve-requires-clause-units : goal.solve-requires-clause-units
-solve-requires-clause-units c = λ r h.
+solve-requires-clause-units g c = λ r h.
     let u = c.requires.desk.held.units r h in
     record { one = u.0; at = u.1; key = subst (λ (k : Kind). IsKey c.args.task.now.day.instance.now.grammar c.args.pool.now k (missing r)) (sym u.2) refl }
 
 pub solve-requires-clause-costs : goal.solve-requires-clause-costs
-solve-requires-clause-costs c = λ k b.
+solve-requires-clause-costs g c = λ k b.
     ((small c.args.task.now.day.instance.now c.requires.may.task.day.sound c.args.task.now.cuts.now (small_path c.args.task.now.day.instance.now c.args.task.now.cuts.now c.requires.may.node.path)).cost k b).0
 
 pub best_end-requires-clause-end : goal.best_end-requires-clause-end
-best_end-requires-clause-end c =
+best_end-requires-clause-end g c =
     let i = c.args.task.now.day.instance.now in
     let cuts = c.args.task.now.cuts.now in
     let s = c.solve.new.columns in
@@ -43,13 +43,10 @@ best_end-requires-clause-end c =
     subst (λ (d : Instance). IsLpEnd (master i cuts) (HasKey d.grammar s.pool.now s.desk.now.held) c.in-Ok.end.basic c.in-Ok.end.y c.in-Ok.end.kappa c.in-Ok.end.value) day c.in-Ok.ensures.end
 
 pub returns-in-Err-clause-end : goal.returns-in-Err-clause-end
-returns-in-Err-clause-end c =
+returns-in-Err-clause-end g c =
     let i = c.args.task.now.day.instance.now in
     let cuts = c.args.task.now.cuts.now in
     let s = c.solve.new.columns in
     let belongs = subst (λ (site : NodeSite). (j : ℕ) (k : MasterKey) → HasKey s.task.now.day.instance.now.grammar s.pool.now s.desk.now.held j k → (site_program site).belongs k) c.solve.ensures.site
     (λ j k l. ((c.in-Err.ensures.ready.desk.held.each j l.one l.at).tells k l.key).belongs) in
-    record {
-      end = given_up i cuts _ _ c.args.tally.now c.solve.new.tally c.in-Err.fault c.failed.result c.requires.may.task.day.sound c.requires.may.node.path c.requires.may.task.rows.few belongs c.in-Err.ensures.fault c.failed.ensures;
-      counts = search rules;
-    }
+    given_up i cuts _ _ (g.W.Watch.patient c.args.watch.now) c.new-tally.result c.solve.new.tally c.in-Err.fault c.failed.result c.requires.may.task.day.sound c.requires.may.node.path c.requires.may.task.rows.few belongs c.in-Err.ensures.fault c.failed.ensures

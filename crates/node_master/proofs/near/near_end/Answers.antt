@@ -1,4 +1,4 @@
-use Rattle.std.proofs.Common.{◌^◌, List, length, refl, rules}
+use Rattle.std.proofs.Common.{◌^◌, List, length, rules}
 use Rattle.roster_model.specs.Trees.{Parts}
 use Rattle.bound_laws.specs.linear_programs.Solution.{Weighted}
 use Rattle.bound_laws.specs.BestPrices.{AreBest}
@@ -24,7 +24,7 @@ returns-clause-end c =
     let best : AreBest i p cuts = search rules in
     let near : (ws : List (Weighted Parts)) → AreWeightsOf i.grammar pool ls ws → AreNear i cuts ws (2 ^ 56) p = search rules in
     let w = weights i.grammar pool c.requires.tools.pool ls may.listed in
-    λ counts. (
+    λ calm old new is. (
       c.requires.task.rows.few,
       record {
         fit = node.fit;
@@ -36,5 +36,5 @@ returns-clause-end c =
         once = apart 0 ls xs may.ascend shares;
         near = near w.ws w.are;
       },
-      refl,
+      is,
     )

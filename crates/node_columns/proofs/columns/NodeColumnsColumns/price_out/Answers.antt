@@ -11,7 +11,7 @@ use Rattle.node_columns.proofs.PricedOut.{plain_held, reduced_is, priced_out}
 use Rattle.node_columns.proofs.columns.NodeColumnsColumns.price_out.Goals as goal
 
 pub find_cheaper-requires-clause-plain : goal.find_cheaper-requires-clause-plain
-find_cheaper-requires-clause-plain c =
+find_cheaper-requires-clause-plain g c =
     let r = c.requires.ready in
     let i = c.args.self.now.task.now.day.instance.now in
     let cuts = c.args.self.now.task.now.cuts.now in λ j h a.
@@ -19,7 +19,7 @@ find_cheaper-requires-clause-plain c =
     rw c.requires.y p
 
 pub returns-in-Some-clause-found : goal.returns-in-Some-clause-found
-returns-in-Some-clause-found c =
+returns-in-Some-clause-found g c =
     let r = c.requires.ready in
     let i = c.args.self.now.task.now.day.instance.now in
     let cuts = c.args.self.now.task.now.cuts.now in
@@ -35,7 +35,7 @@ returns-in-Some-clause-found c =
     (listed_below i c.args.self.now.pool.now c.args.self.now.desk.now.held c.in-Some.column k.0 key, k.0, key, t.belongs, rw e at x)
 
 pub returns-in-Ok-clause-kept : goal.returns-in-Ok-clause-kept
-returns-in-Ok-clause-kept c =
+returns-in-Ok-clause-kept g c =
     let i = c.args.self.now.task.now.day.instance.now in
     record {
       instance = refl;
@@ -46,7 +46,7 @@ returns-in-Ok-clause-kept c =
     }
 
 pub returns-in-Ok-clause-found : goal.returns-in-Ok-clause-found
-returns-in-Ok-clause-found c =
+returns-in-Ok-clause-found g c =
     let i = c.args.self.now.task.now.day.instance.now in
     let cuts = c.args.self.now.task.now.cuts.now in
     let pool = c.list_cheapest.new.pool in
@@ -59,7 +59,7 @@ returns-in-Ok-clause-found c =
     (λ j p. (listed_below i pool held j (tree p.0) p.1, tree p.0, p.1, ((c.in-Ok.ensures.tools.are.desk.held.each j p.1.one p.1.at).tells (tree p.0) p.1.key).belongs, p.2)) f
 
 pub returns-in-Ok-clause-none : goal.returns-in-Ok-clause-none
-returns-in-Ok-clause-none c =
+returns-in-Ok-clause-none g c =
     let r = c.requires.ready in
     let i = c.args.self.now.task.now.day.instance.now in
     let cuts = c.args.self.now.task.now.cuts.now in
@@ -70,7 +70,7 @@ returns-in-Ok-clause-none c =
     (λ h. priced_out i cuts r.sound r.cuts c.args.self.now.pool.now c.args.self.now.desk.now.held c.args.y.now c.args.kappa r.desk.held n h) f
 
 pub returns-in-Err-list_cheapest-clause-kept : goal.returns-in-Err-list_cheapest-clause-kept
-returns-in-Err-list_cheapest-clause-kept c =
+returns-in-Err-list_cheapest-clause-kept g c =
     let i = c.args.self.now.task.now.day.instance.now in
     record {
       instance = refl;

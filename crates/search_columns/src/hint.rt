@@ -17,15 +17,19 @@ use tree_pool::Pool;
 /// How many units of a near price make one of the prices that are asked at.
 const FINE: i128 = 65_536;
 
-/// A basis that may be a good one: its trees of the pool, and the listed columns of rows.
+/// What a hunt ends with: a basis that may be a good one.
 #[derive(Drop)]
-pub(crate) struct Hint {
-    pub(crate) trees: List<usize>,
-    pub(crate) own: List<u32>,
+pub struct Hint {
+    /// Its trees of the pool.
+    pub trees: List<usize>,
+    /// The listed columns of rows in it.
+    pub own: List<u32>,
     /// Its weights and prices.
-    pub(crate) near: NearHint,
-    /// Whether the hunt ended before no tree was cheap.
-    pub(crate) is_early: bool,
+    pub near: NearHint,
+    /// Whether the hunt ended before no tree was cheap, since the value was near to what the best prices show.
+    pub is_early: bool,
+    /// Whether a watch ended the hunt.
+    pub is_stopped: bool,
 }
 
 /// Adds the columns below a count to those that are wanted.
@@ -56,7 +60,7 @@ fn want_own(desk: &mut ColumnDesk, own: &[u32]) -> Result<(), Memory>
 /// # Errors
 ///
 /// `Memory` where memory runs out; nothing is kept then.
-pub(crate) fn hinted_desk(
+pub fn hinted_desk(
     alloc: Global,
     task: &NodeTask,
     hint: &Hint,
@@ -104,7 +108,7 @@ fn near_of(alloc: Global, task: &NodeTask, pool: &Pool, hunt: &Hunt) -> Result<N
     }
 }
 
-/// Returns the basis of a hunt.
+/// Returns the basis of a hunt, which a watch may have stopped.
 ///
 /// # Errors
 ///
@@ -114,6 +118,7 @@ pub(crate) fn hint_of(
     task: &NodeTask,
     pool: &Pool,
     hunt: &Hunt,
+    is_stopped: bool,
 ) -> Result<Hint, Memory>
     requires { IsTask task.now }
 {
@@ -123,5 +128,6 @@ pub(crate) fn hint_of(
         own: basic_own(alloc, held, &hunt.scout)?,
         near: near_of(alloc, task, pool, hunt)?,
         is_early: hunt.asked.early_prices().is_some(),
+        is_stopped,
     })
 }

@@ -1,6 +1,6 @@
 use Rattle.std.proofs.Common.{refl}
-use Rattle.node_master.proofs.PoolGrowth.{hunting_same, hunting_chain}
-use Rattle.node_master.proofs.asking.ask_all.Goals as goal
+use Rattle.search_columns.proofs.PoolGrowth.{hunting_same, hunting_chain}
+use Rattle.search_columns.proofs.asking.ask_all.Goals as goal
 
 pub loop-weight-init : goal.loop-weight-init
 loop-weight-init c = hunting_same _ _ _ _ _ refl refl c.requires

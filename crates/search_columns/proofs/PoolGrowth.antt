@@ -8,9 +8,9 @@ use Rattle.master_rows.specs.declared.search_day.day.Day.{Day}
 use Rattle.master_rows.specs.declared.node_task.task.NodeTask.{NodeTask}
 use Rattle.node_columns.specs.declared.desk.ColumnDesk.{ColumnDesk}
 use Rattle.node_columns.specs.Columns.{IsDesk}
-use Rattle.node_master.specs.declared.hunt.Hunt.{Hunt}
-use Rattle.node_master.specs.Hunts.{IsHunt, IsHunting, StayHunting}
-use Rattle.node_master.specs.Tasks.{AreTools, StayTools}
+use Rattle.search_columns.specs.declared.hunt.Hunt.{Hunt}
+use Rattle.search_columns.specs.Hunts.{IsHunt, IsHunting, StayHunting}
+use Rattle.search_columns.specs.Tools.{AreTools, StayTools}
 
 -- a pool has grown by nothing
 pub grown_same : (a : List PoolTree) → IsGrown a a

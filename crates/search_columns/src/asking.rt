@@ -1,7 +1,7 @@
 ghost use Rattle.std.specs.Prelude.{◌≡◌, length};
 ghost use Rattle.master_rows.specs.node_task.Tasks.{IsTask, row_count};
 ghost use Rattle.node_columns.specs.Tools.{AreTools, StayTools};
-ghost use Rattle.node_master.specs.Hunts.{IsHunting, StayHunting};
+ghost use Rattle.search_columns.specs.Hunts.{IsHunting, StayHunting};
 
 use crate::asked::KAPPA;
 use crate::hunt::Hunt;

@@ -4,6 +4,7 @@ use fraction::Place;
 use node_columns::{Held, Kind};
 use roster_model::{List, Memory};
 use scout::{Key, Limits, Scout, Scouted, Sign};
+use search_watch::Watch;
 use std::alloc::Global;
 
 /// What an artificial column costs in a scout at most.
@@ -89,11 +90,11 @@ const BEGIN: Limits = Limits {
 
 /// Starts a scout from a basis, if there is one; where that comes to no end soon, from the rows' own columns
 /// again.
-pub(crate) fn begin(scout: &mut Scout, keys: &[Key]) {
+pub(crate) fn begin<W: Watch>(scout: &mut Scout, keys: &[Key], watch: &W) {
     if keys.is_empty() {
         return;
     }
-    if scout.start(keys).is_err() || scout.run(BEGIN) != Scouted::Optimal {
+    if scout.start(keys).is_err() || scout.run(BEGIN, watch) != Scouted::Optimal {
         let _started = scout.start_beyond();
     }
 }

@@ -4,7 +4,7 @@ use scout::Scout;
 
 /// When a hunt ends.
 #[derive(Clone, Copy, Debug, PartialEq, Eq, Drop)]
-pub(crate) enum Ending {
+pub enum Ending {
     /// Where no tree is cheap; at many rows already where the value is within half the rounding loss of what
     /// the best prices show.
     Early,

@@ -1,5 +1,5 @@
-ghost use Rattle.node_master.specs.Hunts.{IsHunting, StayHunting};
-ghost use Rattle.node_master.specs.Tasks.{MayHunt, StayTools};
+ghost use Rattle.search_columns.specs.Hunts.{IsHunting, StayHunting};
+ghost use Rattle.search_columns.specs.Tools.{MayHunt, StayTools};
 
 use crate::asking::{ask_all, ask_mixed};
 use crate::bases::{Bases, Basis};
@@ -12,6 +12,7 @@ use cheapest_tree::Pricer;
 use master_rows::NodeTask;
 use roster_model::{Cut, List, Memory};
 use scout::{Limits, Scouted};
+use search_watch::{Watch, Work};
 use std::alloc::Global;
 use tree_pool::Pool;
 
@@ -32,17 +33,18 @@ const LIMITS: Limits = Limits {
 };
 
 /// Takes a round: runs the scout, and lists trees that are cheap there. Says whether there were any.
-fn hunt_once(
+fn hunt_once<W: Watch>(
     alloc: Global,
     task: &NodeTask,
     pricer: &mut Pricer,
     pool: &mut Pool,
     hunt: &mut Hunt,
+    watch: &W,
 ) -> Result<bool, Memory>
     requires { IsHunting task.now pricer.old pool.old hunt.old }
     ensures { StayHunting task.now pricer.new pool.old pool.new hunt.new }
 {
-    if hunt.scout.work() > WORK || hunt.scout.run(LIMITS) != Scouted::Optimal {
+    if hunt.scout.work() > WORK || hunt.scout.run(LIMITS, watch) != Scouted::Optimal {
         return Ok(false);
     }
     if hunt.asked.ends_at(hunt.scout.value()) {
@@ -58,19 +60,32 @@ fn hunt_once(
     Ok(true)
 }
 
-/// Takes rounds until no tree is cheap.
-fn hunt_rounds(
+/// Tells a watch how many trees a hunt has, and what its best prices show.
+fn tell<W: Watch>(hunt: &Hunt, pool: &Pool, watch: &W) {
+    watch.tell(Work::Prices {
+        trees: pool.len() as u64,
+        bound: hunt.asked.whole_bound(),
+    });
+}
+
+/// Takes rounds until no tree is cheap, or until the watch is over.
+fn hunt_rounds<W: Watch>(
     alloc: Global,
     task: &NodeTask,
     pricer: &mut Pricer,
     pool: &mut Pool,
     hunt: &mut Hunt,
+    watch: &W,
 ) -> Result<(), Memory>
     requires { IsHunting task.now pricer.old pool.old hunt.old }
     ensures { StayHunting task.now pricer.new pool.old pool.new hunt.new }
 {
     for _round in 0..ROUNDS {
-        let goes_on = hunt_once(alloc, task, pricer, pool, hunt)?;
+        tell(hunt, pool, watch);
+        if watch.is_over() {
+            return Ok(());
+        }
+        let goes_on = hunt_once(alloc, task, pricer, pool, hunt, watch)?;
         if !goes_on {
             return Ok(());
         }
@@ -91,44 +106,54 @@ fn keep_basis(alloc: Global, cuts: &[Cut], hunt: &Hunt, bases: &mut Bases) -> Re
 }
 
 /// Takes a hunt to its end, and returns its last basis, which is kept.
-fn hunt_on(
+fn hunt_on<W: Watch>(
     alloc: Global,
     task: &NodeTask,
     pricer: &mut Pricer,
     pool: &mut Pool,
     hunt: &mut Hunt,
     bases: &mut Bases,
+    watch: &W,
 ) -> Result<Hint, Memory>
     requires { IsHunting task.now pricer.old pool.old hunt.old }
     ensures { StayTools task.now.day pricer.new pool.old pool.new }
 {
-    hunt_rounds(alloc, task, pricer, pool, hunt)?;
-    let _settled = hunt.scout.settle(LIMITS);
+    hunt_rounds(alloc, task, pricer, pool, hunt, watch)?;
+    let _settled = hunt.scout.settle(LIMITS, watch);
     keep_basis(alloc, task.cuts, hunt, bases)?;
-    hint_of(alloc, task, pool, hunt)
+    hint_of(alloc, task, pool, hunt, watch.is_over())
 }
 
 /// Looks for a good basis of a node's master at a scout, in floats, from the last one of the nearest node
 /// above it that is kept. The pool gets its trees. It is a hint: whatever it is, what the master answers
-/// with it is right.
+/// with it is right. A watch that is over ends the hunt, which says so.
 ///
 /// # Errors
 ///
 /// `Memory` where memory runs out; the pricer is still one for the graph then, and the pool has its trees
 /// under their numbers, and perhaps further trees of the day.
-pub(crate) fn hunt(
+pub fn hunt_basis<W: Watch>(
     alloc: Global,
     task: &NodeTask,
     ending: Ending,
     pricer: &mut Pricer,
     pool: &mut Pool,
     steering: &mut Steering,
+    watch: &W,
 ) -> Result<Hint, Memory>
     requires { MayHunt task.now pricer.old pool.old }
     ensures { StayTools task.now.day pricer.new pool.old pool.new }
 {
-    let mut begun = begun_hunt(alloc, task, ending, pricer, pool, steering)?;
-    let hint = hunt_on(alloc, task, pricer, pool, &mut begun, &mut steering.bases);
+    let mut begun = begun_hunt(alloc, task, ending, pricer, pool, steering, watch)?;
+    let hint = hunt_on(
+        alloc,
+        task,
+        pricer,
+        pool,
+        &mut begun,
+        &mut steering.bases,
+        watch,
+    );
     drop(begun);
     hint
 }

@@ -1,8 +1,8 @@
 ghost use Rattle.std.specs.Prelude.{◌≡◌, length, IfOk};
 ghost use Rattle.tree_pool.specs.Pools.{IsPool};
 ghost use Rattle.master_rows.specs.node_task.Tasks.{IsTask, row_count};
-ghost use Rattle.node_master.specs.Hunts.{IsHunt};
-ghost use Rattle.node_master.specs.Tasks.{MayHunt, StayTools};
+ghost use Rattle.search_columns.specs.Hunts.{IsHunt};
+ghost use Rattle.search_columns.specs.Tools.{MayHunt, StayTools};
 
 use crate::asked::Asked;
 use crate::hunt::{Ending, Hunt};
@@ -15,6 +15,7 @@ use master_rows::{NodeRows, NodeTask};
 use node_columns::{ColumnDesk, desk_of};
 use roster_model::{Instance, Memory};
 use scout::Scout;
+use search_watch::Watch;
 use std::alloc::Global;
 use tree_pool::Pool;
 
@@ -49,29 +50,31 @@ fn asked_of(alloc: Global, task: &NodeTask, warm: &Warm, ending: Ending) -> Resu
 }
 
 /// Returns a scout of the columns at a desk, from a start.
-fn begun_scout(
+fn begun_scout<W: Watch>(
     alloc: Global,
     desk: &ColumnDesk,
     rows: &NodeRows,
     start: &Start,
     ending: Ending,
+    watch: &W,
 ) -> Result<Scout, Memory> {
     let mut scout = scout_of(alloc, desk.held.as_slice(), rows.right())?;
     if ending == Ending::Tight {
         scout.tighten(TIGHTER);
     }
-    begin(&mut scout, start.keys.as_slice());
+    begin(&mut scout, start.keys.as_slice(), watch);
     Ok(scout)
 }
 
 /// Returns a hunt from a start, whose trees and further ones of the pool are listed.
-fn hunt_of(
+fn hunt_of<W: Watch>(
     alloc: Global,
     task: &NodeTask,
     start: &Start,
     warm: &Warm,
     ending: Ending,
     pool: &Pool,
+    watch: &W,
 ) -> Result<Hunt, Memory>
     requires task { IsTask task.now }
     requires pool { IsPool task.now.day.instance.now.grammar pool.now }
@@ -79,25 +82,26 @@ fn hunt_of(
 {
     let desk = desk_of(alloc, task, pool, warm.trees.as_slice())?;
     let asked = asked_of(alloc, task, warm, ending)?;
-    let scout = begun_scout(alloc, &desk, task.rows, start, ending)?;
+    let scout = begun_scout(alloc, &desk, task.rows, start, ending, watch)?;
     Ok(Hunt { asked, desk, scout })
 }
 
 /// Returns a hunt from a start, which is warmed first.
-fn warmed_hunt(
+fn warmed_hunt<W: Watch>(
     alloc: Global,
     task: &NodeTask,
     start: &Start,
     ending: Ending,
     pricer: &mut Pricer,
     pool: &mut Pool,
+    watch: &W,
 ) -> Result<Hunt, Memory>
     requires { MayHunt task.now pricer.old pool.old }
     ensures hunt { IfOk result (IsHunt task.now pool.new) }
     ensures tools { StayTools task.now.day pricer.new pool.old pool.new }
 {
-    let warm = warm_up(alloc, task, start, pricer, pool)?;
-    hunt_of(alloc, task, start, &warm, ending, pool)
+    let warm = warm_up(alloc, task, start, pricer, pool, watch)?;
+    hunt_of(alloc, task, start, &warm, ending, pool, watch)
 }
 
 /// Returns a hunt that has begun, from the last basis of the nearest node above that is kept.
@@ -106,18 +110,19 @@ fn warmed_hunt(
 ///
 /// `Memory` where memory runs out; the pricer is still one for the graph then, and the pool has its trees
 /// under their numbers, and perhaps further trees of the day.
-pub(crate) fn begun_hunt(
+pub(crate) fn begun_hunt<W: Watch>(
     alloc: Global,
     task: &NodeTask,
     ending: Ending,
     pricer: &mut Pricer,
     pool: &mut Pool,
     steering: &mut Steering,
+    watch: &W,
 ) -> Result<Hunt, Memory>
     requires { MayHunt task.now pricer.old pool.old }
     ensures hunt { IfOk result (IsHunt task.now pool.new) }
     ensures tools { StayTools task.now.day pricer.new pool.old pool.new }
 {
     let start = start_of(alloc, task, pool, steering)?;
-    warmed_hunt(alloc, task, &start, ending, pricer, pool)
+    warmed_hunt(alloc, task, &start, ending, pricer, pool, watch)
 }

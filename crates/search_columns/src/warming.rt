@@ -1,13 +1,14 @@
 ghost use Rattle.tree_pool.specs.Pools.{IsPool};
 ghost use Rattle.master_rows.specs.search_day.Rooms.{Grows};
 ghost use Rattle.master_rows.specs.node_task.Tasks.{IsTask};
-ghost use Rattle.node_master.specs.Tasks.{MayHunt, StayTools};
+ghost use Rattle.search_columns.specs.Tools.{MayHunt, StayTools};
 
 use crate::starting::{Start, copied, joined};
 use cheapest_tree::Pricer;
 use master_rows::NodeTask;
 use node_columns::volume::{Volume, volume};
 use roster_model::{List, Memory};
+use search_watch::Watch;
 use std::alloc::Global;
 use tree_pool::Pool;
 
@@ -77,18 +78,19 @@ fn begin_at(start: &Start) -> (Option<&[i128]>, u32) {
 }
 
 /// Returns what a hunt begins with: at many rows the cheapest trees of the volume algorithm, which begins at
-/// the start's prices, beside those of the start.
+/// the start's prices, beside those of the start. A watch that is over ends that.
 ///
 /// # Errors
 ///
 /// `Memory` where memory runs out; the pricer is still one for the graph then, and the pool has its trees
 /// under their numbers, and perhaps further trees of the day.
-pub(crate) fn warm_up(
+pub(crate) fn warm_up<W: Watch>(
     alloc: Global,
     task: &NodeTask,
     start: &Start,
     pricer: &mut Pricer,
     pool: &mut Pool,
+    watch: &W,
 ) -> Result<Warm, Memory>
     requires { MayHunt task.now pricer.old pool.old }
     ensures { StayTools task.now.day pricer.new pool.old pool.new }
@@ -98,7 +100,7 @@ pub(crate) fn warm_up(
         return cold(alloc, start);
     }
     let (from, passes) = begin_at(start);
-    let found = volume(alloc, task, from, passes, pricer)?;
+    let found = volume(alloc, task, from, passes, pricer, watch)?;
     let most = count.saturating_mul(TREES);
     warmed(alloc, task, start, &found, most, pool)
 }

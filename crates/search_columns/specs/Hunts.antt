@@ -5,8 +5,8 @@ use Rattle.tree_pool.specs.Pools.{PoolTree, IsGrown}
 use Rattle.master_rows.specs.declared.node_task.task.NodeTask.{NodeTask}
 use Rattle.master_rows.specs.node_task.Tasks.{row_count}
 use Rattle.node_columns.specs.Columns.{IsDesk}
-use Rattle.node_master.specs.declared.hunt.Hunt.{Hunt}
-use Rattle.node_master.specs.Tasks.{MayHunt}
+use Rattle.search_columns.specs.declared.hunt.Hunt.{Hunt}
+use Rattle.search_columns.specs.Tools.{MayHunt}
 
 -- there is a price of each row, and the desk is the node's
 pub record IsHunt (t : NodeTask) (ts : List PoolTree) (h : Hunt) : Type 0 where

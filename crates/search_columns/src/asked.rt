@@ -2,6 +2,7 @@ ghost use Rattle.std.specs.Prelude.{◌≡◌, length, IfOk};
 
 use master_rows::reduced_at;
 use node_columns::Held;
+use node_columns::volume::whole_bound;
 use roster_model::Memory;
 use scout::Q24;
 use std::alloc::Global;
@@ -105,6 +106,12 @@ impl Asked {
         let apart = value.saturating_sub(bound.saturating_mul(VALUE_UNITS));
         self.is_early = apart <= near;
         self.is_early
+    }
+
+    /// Returns the bound that the best prices show as a whole number, rounded down; none where there is none, or
+    /// where it is below 0.
+    pub(crate) fn whole_bound(&self) -> Option<u64> {
+        whole_bound(self.bound?)
     }
 
     /// Returns the best prices, where the hunt ended since the value was near to what they show.

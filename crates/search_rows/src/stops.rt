@@ -1,0 +1,157 @@
+ghost use Rattle.std.specs.Prelude.{◌<◌, ◌^◌, length};
+ghost use Rattle.roster_model.specs.Folds.{Each};
+ghost use Rattle.roster_model.specs.SoundInstance.{IsSoundInstance};
+ghost use Rattle.parse_graph.specs.Graphs.{IsGraph};
+ghost use Rattle.node_master.specs.Ends.{IsNodeCut};
+ghost use Rattle.search_rows.specs.Days.{IsMasterDay, AreLent};
+
+use crate::days::{graph_of, is_master_day};
+use crate::masters::{LOW, Lent, PAIR_DAY, are_node_cuts, lent_for};
+use crate::watches::NthWatch;
+use master_rows::Day;
+use node_master::{Bases, First, NodeEnd, Steering, solve_node_from};
+use parse_graph::Graph;
+use roster_model::{Cut, Instance, Memory};
+use sample_days::sound_day;
+use std::alloc::Global;
+use std::test::Fail;
+
+/// How a master ended that was watched.
+#[derive(Clone, Copy, Drop)]
+struct Watched {
+    /// Whether it was stopped.
+    is_stopped: bool,
+    /// How often the watch was asked.
+    asked: u32,
+}
+
+/// Solves the master at these cuts, which a watch stops at this question.
+fn solve_until(
+    alloc: Global,
+    day: &Instance,
+    graph: &Graph,
+    lent: &mut Lent,
+    cuts: &[Cut],
+    first: First,
+    over_at: Option<u32>,
+) -> Result<Watched, Memory>
+    requires day { IsMasterDay day.now }
+    requires graph { IsGraph day.now.grammar graph.now }
+    requires lent { AreLent day.now graph.now lent.old.pricer lent.old.pool }
+    requires cuts { Each (IsNodeCut day.now) cuts.now }
+    requires few { length cuts.now < 2 ^ 31 }
+{
+    let mut steering = Steering {
+        wanted: &[],
+        first,
+        bases: Bases::new(alloc),
+    };
+    let day = Day {
+        instance: day,
+        graph,
+    };
+    let watch = NthWatch::new(over_at);
+    let (pricer, pool) = (&mut lent.pricer, &mut lent.pool);
+    let tally = &mut lent.tally;
+    let end = solve_node_from(alloc, &day, cuts, pricer, pool, &mut steering, &watch, tally)?;
+    Ok(Watched {
+        is_stopped: matches!(end, NodeEnd::Stopped),
+        asked: watch.asked(),
+    })
+}
+
+/// Solves the master at these cuts anew.
+fn solve_anew(
+    alloc: Global,
+    day: &Instance,
+    graph: &Graph,
+    cuts: &[Cut],
+    first: First,
+    over_at: Option<u32>,
+) -> Result<Watched, Memory>
+    requires day { IsMasterDay day.now }
+    requires graph { IsGraph day.now.grammar graph.now }
+    requires cuts { Each (IsNodeCut day.now) cuts.now }
+    requires few { length cuts.now < 2 ^ 31 }
+{
+    let mut lent = lent_for(alloc, day, graph)?;
+    let watched = solve_until(alloc, day, graph, &mut lent, cuts, first, over_at);
+    drop(lent);
+    watched
+}
+
+/// Whether the master is stopped at the first question, ends soon behind each one at which the watch is over, some so
+/// many apart, and is not stopped by a watch that is never over.
+fn ends_soon(
+    alloc: Global,
+    day: &Instance,
+    graph: &Graph,
+    cuts: &[Cut],
+    first: First,
+    apart: u32,
+) -> Result<bool, Memory>
+    requires day { IsMasterDay day.now }
+    requires graph { IsGraph day.now.grammar graph.now }
+    requires cuts { Each (IsNodeCut day.now) cuts.now }
+    requires few { length cuts.now < 2 ^ 31 }
+{
+    let whole = solve_anew(alloc, day, graph, cuts, first, None)?;
+    let begun = solve_anew(alloc, day, graph, cuts, first, Some(1))?;
+    let mut ends_well = begun.is_stopped && !whole.is_stopped && whole.asked > apart;
+    for number in 1..=whole.asked {
+        if number % apart.max(1) == 0 {
+            let watched = solve_anew(alloc, day, graph, cuts, first, Some(number))?;
+            ends_well &= watched.asked >= number && watched.asked < number.saturating_add(100);
+        }
+    }
+    Ok(ends_well)
+}
+
+/// Whether it is so either way to prices.
+fn end_soon(
+    alloc: Global,
+    day: &Instance,
+    graph: &Graph,
+    cuts: &[Cut],
+    apart: u32,
+) -> Result<bool, Fail>
+    requires sound { IsSoundInstance day.now }
+    requires graph { IsGraph day.now.grammar graph.now }
+{
+    if !is_master_day(day, graph) || !are_node_cuts(day, graph, cuts) {
+        return Err(Fail::from("no master of the day"));
+    }
+    let near = ends_soon(alloc, day, graph, cuts, First::Near, apart)?;
+    let exact = ends_soon(alloc, day, graph, cuts, First::Exact, apart)?;
+    Ok(near && exact)
+}
+
+fn end_soon_on(alloc: Global, day: &Instance, cuts: &[Cut], apart: u32) -> Result<bool, Fail>
+    requires { IsSoundInstance day.now }
+{
+    let graph = graph_of(alloc, &day.grammar)?;
+    let end_soon = end_soon(alloc, day, &graph, cuts, apart);
+    drop(graph);
+    end_soon
+}
+
+fn pairs_end_soon(alloc: Global, cuts: &[Cut], apart: u32) -> Result<bool, Fail> {
+    let day = sound_day(alloc, &PAIR_DAY)?;
+    let end_soon = end_soon_on(alloc, &day, cuts, apart);
+    drop(day);
+    end_soon
+}
+
+#[test]
+fn masters_that_are_stopped_at_each_question(rt: HostRuntime) -> Result<(), Fail> {
+    assert!(rt; pairs_end_soon(rt.alloc(), &[], 1)?);
+    Ok(())
+}
+
+// With 300 rows of cuts a hunt begins with passes.
+#[test]
+fn masters_of_many_rows_that_are_stopped(rt: HostRuntime) -> Result<(), Fail> {
+    let cuts = vec![in rt.alloc(); Cut { b: 2, ..LOW }; 300]?;
+    assert!(rt; pairs_end_soon(rt.alloc(), cuts.as_slice(), 7)?);
+    Ok(())
+}
