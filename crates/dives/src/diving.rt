@@ -20,6 +20,7 @@ use master_rows::{Day, NodeRows, NodeTask};
 use parse_graph::Graph;
 use roster_model::{Cut, List, Memory};
 use scout::{Limits, Scouted};
+use search_watch::Watch;
 use std::alloc::Global;
 use std::mem;
 use tree_pool::Pool;
@@ -51,36 +52,37 @@ fn budget_of(rows: &NodeRows, graph: &Graph) -> u64 {
         .saturating_mul(WORK)
 }
 
-/// Runs the program, and says whether its values can be used.
-fn run(program: &mut Program) -> bool
+/// Runs the program, and says whether its values can be used: not where the watch is over.
+fn run<W: Watch>(program: &mut Program, watch: &W) -> bool
     ensures { IsRun program.old program.new }
 {
     let primal = program.scout.rows().saturating_mul(PRIMAL).min(10_000) as u32;
-    let end = program.scout.run(Limits { dual: DUAL, primal });
+    let end = program.scout.run(Limits { dual: DUAL, primal }, watch);
     program.is_solved = end == Scouted::Optimal;
-    program.is_solved || end == Scouted::Spent
+    (program.is_solved || end == Scouted::Spent) && !watch.is_over()
 }
 
 /// Runs the program with further trees that are cheap, until its value is near to what prices show of it, or
 /// they show that hardly a roster costs less than this. Where that was shown before, no tree is asked for. Says
 /// whether its values can be used.
-fn solve(
+fn solve<W: Watch>(
     alloc: Global,
     task: &NodeTask,
     cost: u64,
     pricer: &mut Pricer,
     pool: &mut Pool,
     descent: &mut Descent,
+    watch: &W,
 ) -> Result<bool, Memory>
     requires { IsDiving task.now pricer.old pool.old descent.old }
     ensures program { OnOk result (IsProgram (length pool.new) descent.new.program) }
     ensures tools { StayTools task.now pricer.new pool.old pool.new descent.new.desk }
 {
     if descent.program.is_over {
-        return Ok(run(&mut descent.program));
+        return Ok(run(&mut descent.program, watch));
     }
     for _ in 0..ROUNDS {
-        if !run(&mut descent.program) {
+        if !run(&mut descent.program, watch) {
             return Ok(false);
         }
         let is_cheap = ask(alloc, task, pricer, pool, descent)?;
@@ -88,18 +90,20 @@ fn solve(
             return Ok(true);
         }
     }
-    Ok(run(&mut descent.program))
+    Ok(run(&mut descent.program, watch))
 }
 
-/// Takes a step: solves the program, and fixes trees by its weights. Says whether any was fixed. From where the
-/// program's value comes near to the cost below which a roster is looked for, no tree is asked for.
-fn step(
+/// Takes a step: solves the program, and fixes trees by its weights. Says whether any was fixed, and none is where
+/// the watch is over. From where the program's value comes near to the cost below which a roster is looked for, no
+/// tree is asked for.
+fn step<W: Watch>(
     alloc: Global,
     task: &NodeTask,
     cost: u64,
     pricer: &mut Pricer,
     pool: &mut Pool,
     descent: &mut Descent,
+    watch: &W,
 ) -> Result<bool, Memory>
     requires { IsDiving task.now pricer.old pool.old descent.old }
     ensures program { OnOk result (IsProgram (length pool.new) descent.new.program) }
@@ -109,7 +113,7 @@ fn step(
     if descent.program.work() > budget_of(task.rows, graph) {
         return Ok(false);
     }
-    if !solve(alloc, task, cost, pricer, pool, descent)? {
+    if !solve(alloc, task, cost, pricer, pool, descent, watch)? {
         return Ok(false);
     }
     descent.program.is_over = descent.program.is_over || descent.program.is_dear(cost);
@@ -119,20 +123,21 @@ fn step(
 }
 
 /// Takes steps while trees are fixed.
-fn step_down(
+fn step_down<W: Watch>(
     alloc: Global,
     task: &NodeTask,
     cost: u64,
     pricer: &mut Pricer,
     pool: &mut Pool,
     descent: &mut Descent,
+    watch: &W,
 ) -> Result<(), Memory>
     requires { IsDiving task.now pricer.old pool.old descent.old }
     ensures program { OnOk result (IsProgram (length pool.new) descent.new.program) }
     ensures tools { StayTools task.now pricer.new pool.old pool.new descent.new.desk }
 {
     for _ in 0..STEPS {
-        if !step(alloc, task, cost, pricer, pool, descent)? {
+        if !step(alloc, task, cost, pricer, pool, descent, watch)? {
             return Ok(());
         }
     }
@@ -198,20 +203,21 @@ fn descent_of(
 }
 
 /// Dives from a node, of which the master's rows are given, and returns the trees that it fixed.
-fn dive_over(
+fn dive_over<W: Watch>(
     alloc: Global,
     task: &NodeTask,
     begun: &[usize],
     cost: u64,
     pricer: &mut Pricer,
     pool: &mut Pool,
+    watch: &W,
 ) -> Result<List<usize>, Memory>
     requires { MayDive task.now pricer.old pool.old }
     ensures within { IfOk result (AreFewer (length pool.new)) }
     ensures lent { HasDived task.now pricer.new pool.old pool.new }
 {
     let mut descent = descent_of(alloc, task, pool, begun)?;
-    let end = step_down(alloc, task, cost, pricer, pool, &mut descent);
+    let end = step_down(alloc, task, cost, pricer, pool, &mut descent, watch);
     let fixed = mem::replace(&mut descent.program.fixed, List::new(alloc));
     drop(descent);
     match end {
@@ -226,12 +232,13 @@ fn dive_over(
 /// It solves the node's program at a scout, fixes a few trees that its weights come near to, takes them
 /// off the program, and goes on so until no tree has weight. Once its value shows that hardly a roster with
 /// the fixed trees costs less than `cost`, it asks for no further tree. Trees of the pool that are `begun` are
-/// listed in the program, beside the last ones of the pool: any list of numbers is lawful.
+/// listed in the program, beside the last ones of the pool: any list of numbers is lawful. Where the watch is over
+/// no further tree is fixed.
 ///
 /// # Errors
 ///
 /// `Memory` where memory runs out; the pool may have further trees.
-pub fn dive(
+pub fn dive<W: Watch>(
     alloc: Global,
     day: &Day,
     cuts: &[Cut],
@@ -239,6 +246,7 @@ pub fn dive(
     cost: u64,
     pricer: &mut Pricer,
     pool: &mut Pool,
+    watch: &W,
 ) -> Result<List<usize>, Memory>
     requires day { IsDay day.now }
     requires cuts { Each IsSmallCut cuts.now }
@@ -255,7 +263,7 @@ pub fn dive(
         cuts,
         rows: &rows,
     };
-    let found = dive_over(alloc, &task, begun, cost, pricer, pool);
+    let found = dive_over(alloc, &task, begun, cost, pricer, pool, watch);
     drop(rows);
     found
 }

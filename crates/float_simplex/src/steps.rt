@@ -4,6 +4,7 @@ use crate::sweeps::primal_entering;
 use crate::tolerances::Tolerances;
 use crate::values::are_feasible;
 use float_basis::Grown;
+use search_watch::Watch;
 
 /// How many steps a run may take.
 #[derive(Clone, Copy, Drop)]
@@ -35,6 +36,14 @@ const DRIFT: u32 = 50;
 
 /// How many turns of dual and primal steps a run takes.
 const TURNS: u32 = 4;
+
+/// The watch is asked before each step whose number has none of these bits: each eighth.
+const ASKED: u32 = 7;
+
+/// Whether the watch ends a run before the step of this number.
+fn is_over<W: Watch>(step: u32, watch: &W) -> bool {
+    step & ASKED == 0 && watch.is_over()
+}
 
 /// Returns the answer that a step ends its loop with, if it does.
 fn ended(step: Result<Step, Grown>) -> Option<Scouted> {
@@ -87,9 +96,12 @@ impl State {
         primal_entering(&self.figures, self.tolerances.reduced).is_none()
     }
 
-    /// Takes dual steps until no value is negative.
-    fn run_dual(&mut self, most: u32) -> Scouted {
-        for _step in 0..most {
+    /// Takes dual steps until no value is negative. A watch that is over ends them as their limit does.
+    fn run_dual<W: Watch>(&mut self, most: u32, watch: &W) -> Scouted {
+        for step in 0..most {
+            if is_over(step, watch) {
+                break;
+            }
             if let Some(answer) = ended(self.next_dual()) {
                 return answer;
             }
@@ -97,10 +109,14 @@ impl State {
         spent_unless(self.is_feasible())
     }
 
-    /// Takes primal steps until no column has a negative reduced cost.
-    fn run_primal(&mut self, most: u32) -> Scouted {
+    /// Takes primal steps until no column has a negative reduced cost. A watch that is over ends them as their
+    /// limit does.
+    fn run_primal<W: Watch>(&mut self, most: u32, watch: &W) -> Scouted {
         self.positions.has_weights = false;
-        for _step in 0..most {
+        for step in 0..most {
+            if is_over(step, watch) {
+                break;
+            }
             if let Some(answer) = ended(self.next_primal()) {
                 return answer;
             }
@@ -114,24 +130,24 @@ impl State {
     }
 
     /// Takes dual steps where a value is negative.
-    fn make_feasible(&mut self, limits: Limits) -> Scouted {
+    fn make_feasible<W: Watch>(&mut self, limits: Limits, watch: &W) -> Scouted {
         if self.is_feasible() {
             return Scouted::Optimal;
         }
-        let answer = self.run_dual(limits.dual);
+        let answer = self.run_dual(limits.dual, watch);
         if answer == Scouted::Spent {
-            let _steps = self.run_primal(limits.primal);
+            let _steps = self.run_primal(limits.primal, watch);
         }
         answer
     }
 
     /// Takes one turn of dual and primal steps. Says how the run ends, if it does.
-    fn turn(&mut self, limits: Limits) -> Option<Scouted> {
-        let answer = self.make_feasible(limits);
+    fn turn<W: Watch>(&mut self, limits: Limits, watch: &W) -> Option<Scouted> {
+        let answer = self.make_feasible(limits, watch);
         if answer != Scouted::Optimal {
             return Some(answer);
         }
-        let answer = self.run_primal(limits.primal);
+        let answer = self.run_primal(limits.primal, watch);
         if answer != Scouted::Optimal {
             return Some(answer);
         }
@@ -146,9 +162,9 @@ impl State {
     }
 
     /// Takes turns until one ends.
-    fn run_turns(&mut self, limits: Limits) -> Scouted {
+    fn run_turns<W: Watch>(&mut self, limits: Limits, watch: &W) -> Scouted {
         for _turn in 0..TURNS {
-            if let Some(answer) = self.turn(limits) {
+            if let Some(answer) = self.turn(limits, watch) {
                 return answer;
             }
         }
@@ -168,20 +184,20 @@ impl State {
     }
 
     /// Prepares, and takes turns until one ends.
-    fn run_prepared(&mut self, limits: Limits) -> Scouted {
+    fn run_prepared<W: Watch>(&mut self, limits: Limits, watch: &W) -> Scouted {
         match self.prepare() {
-            Ok(()) => self.run_turns(limits),
+            Ok(()) => self.run_turns(limits, watch),
             Err(Grown) => Scouted::Grew,
         }
     }
 
     /// Runs, and where a number left its bounds once more from the same basis.
-    fn run_again(&mut self, limits: Limits) -> Scouted {
-        let answer = self.run_prepared(limits);
+    fn run_again<W: Watch>(&mut self, limits: Limits, watch: &W) -> Scouted {
+        let answer = self.run_prepared(limits, watch);
         if answer != Scouted::Grew || self.renew().is_err() {
             return answer;
         }
-        self.run_turns(limits)
+        self.run_turns(limits, watch)
     }
 
     /// Sets what further runs take for 0.
@@ -194,9 +210,10 @@ impl State {
         self.tolerances
     }
 
-    /// Runs, and writes values and prices.
-    pub fn run(&mut self, limits: Limits) -> Scouted {
-        let answer = self.run_again(limits);
+    /// Runs, and writes values and prices. The watch is asked before each eighth step; where it is over the run ends
+    /// as if its steps were taken.
+    pub fn run<W: Watch>(&mut self, limits: Limits, watch: &W) -> Scouted {
+        let answer = self.run_again(limits, watch);
         self.answer();
         answer
     }

@@ -13,29 +13,31 @@ use crate::growing::fill_up;
 use crate::guide::Guide;
 use master_rows::{Day, Pricing};
 use roster_model::{List, Memory};
+use search_watch::Watch;
 use std::alloc::Global;
 use tree_pool::Pool;
 
 /// Completes a draft, exchanges its trees one by one, and then makes it better by moves.
-fn improve(
+fn improve<W: Watch>(
     alloc: Global,
     day: &Day,
     guide: &Guide,
     pricing: &mut Pricing,
     tried: &mut Pool,
     draft: &mut Draft,
+    watch: &W,
 ) -> Result<(), Memory>
     requires tools { AreTools day.now pricing.old tried.old draft.old }
     ensures draft { OnOk result (IsDraft day.now.instance.now (length tried.new) draft.new) }
     ensures tools { StayTools day.now pricing.old pricing.new tried.old tried.new }
 {
     fill_up(day, pricing, tried, draft)?;
-    exchange_from(day, 0, pricing, tried, draft)?;
-    descend(alloc, day, guide, pricing, tried, draft)
+    exchange_from(day, 0, pricing, tried, draft, watch)?;
+    descend(alloc, day, guide, pricing, tried, draft, watch)
 }
 
 /// Improves a draft, and puts its trees into the pool.
-fn improve_into(
+fn improve_into<W: Watch>(
     alloc: Global,
     day: &Day,
     guide: &Guide,
@@ -43,6 +45,7 @@ fn improve_into(
     tried: &mut Pool,
     draft: &mut Draft,
     pool: &mut Pool,
+    watch: &W,
 ) -> Result<List<usize>, Memory>
     requires tools { AreTools day.now pricing.old tried.old draft.old }
     requires pool { IsPool day.now.instance.now.grammar pool.old }
@@ -50,7 +53,7 @@ fn improve_into(
     ensures pricing { StayPricing day.now pricing.old pricing.new }
     ensures pool { Grows day.now pool.old pool.new }
 {
-    improve(alloc, day, guide, pricing, tried, draft)?;
+    improve(alloc, day, guide, pricing, tried, draft, watch)?;
     copied_all(alloc, day, tried, draft.columns.as_slice(), pool)
 }
 
@@ -64,18 +67,20 @@ fn improve_into(
 /// one. A move is taken back where the roster costs more by it. Which trees go is drawn by numbers that look
 /// like chance. A tree costs what the roster's cost rises by it, where a count outside of its cell's range
 /// counts as more than any cost. The roster that comes of it need not be allowed. Of the trees that are tried
-/// the pool gets those alone that stand in the roster at the end.
+/// the pool gets those alone that stand in the roster at the end. Where the watch is over, no further tree is
+/// exchanged and no further move made.
 ///
 /// # Errors
 ///
 /// `Memory` where memory runs out; the pool may have further trees.
-pub fn complete(
+pub fn complete<W: Watch>(
     alloc: Global,
     day: &Day,
     columns: &[usize],
     guide: &Guide,
     pricing: &mut Pricing,
     pool: &mut Pool,
+    watch: &W,
 ) -> Result<List<usize>, Memory>
     requires day { IsDay day.now }
     requires columns { All (λ c. c < length pool.old) columns.now }
@@ -88,7 +93,7 @@ pub fn complete(
     let mut tried = Pool::new(alloc);
     match drafted(alloc, day, pool, columns, &mut tried) {
         Ok(mut draft) => {
-            let found = improve_into(alloc, day, guide, pricing, &mut tried, &mut draft, pool);
+            let found = improve_into(alloc, day, guide, pricing, &mut tried, &mut draft, pool, watch);
             drop(draft);
             drop(tried);
             found

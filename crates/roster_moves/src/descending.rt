@@ -12,6 +12,7 @@ use crate::ranking::{Rank, drawn_mode, list_ranks, set_values};
 use crate::weighing::weight_of;
 use master_rows::{Day, Pricing};
 use roster_model::{Instance, Memory, Prices};
+use search_watch::{SteadyWatch, Watch};
 use std::alloc::Global;
 use tree_pool::Pool;
 
@@ -252,7 +253,7 @@ fn refill(
     if draft.columns.len() <= first.saturating_add(1) {
         return Ok(());
     }
-    exchange_from(day, first, pricing, pool, draft)
+    exchange_from(day, first, pricing, pool, draft, &SteadyWatch)
 }
 
 /// Makes a move, and takes it back where the draft would weigh more than so much. Returns what it weighs.
@@ -280,14 +281,15 @@ fn make(
     Ok(weight)
 }
 
-/// Makes moves, while the draft, which weighs so much, weighs more than the goal.
-fn descend_at(
+/// Makes moves, while the draft weighs more than the goal and the watch is not over.
+fn descend_at<W: Watch>(
     day: &Day,
     guide: &Guide,
     pricing: &mut Pricing,
     pool: &mut Pool,
     draft: &mut Draft,
     moves: &mut MoveRoom,
+    watch: &W,
 ) -> Result<(), Memory>
     requires tools { AreTools day.now pricing.old pool.old draft.old }
     ensures draft { OnOk result (IsDraft day.now.instance.now (length pool.new) draft.new) }
@@ -296,6 +298,9 @@ fn descend_at(
     let mut weight = weight_of(day.instance, pool, draft);
     let mut allowance = Allowance::of(guide, draft.columns.len());
     for _ in 0..allowance.most {
+        if watch.is_over() {
+            return Ok(());
+        }
         if weight <= guide.goal || allowance.is_spent() || draft.columns.is_empty() {
             return Ok(());
         }
@@ -311,27 +316,28 @@ fn descend_at(
 }
 
 /// Makes a draft better by moves: a few trees go, cheapest ones come, and the draft stays so where it weighs
-/// no more.
+/// no more. The watch is asked before each of them.
 ///
 /// # Errors
 ///
 /// `Memory` where memory runs out; nothing is said of the draft then. The pricer and the room of prices are
 /// still those of the graph and of the instance, and the pool has its trees under their numbers, and perhaps
 /// further trees of the day.
-pub(crate) fn descend(
+pub(crate) fn descend<W: Watch>(
     alloc: Global,
     day: &Day,
     guide: &Guide,
     pricing: &mut Pricing,
     pool: &mut Pool,
     draft: &mut Draft,
+    watch: &W,
 ) -> Result<(), Memory>
     requires tools { AreTools day.now pricing.old pool.old draft.old }
     ensures draft { OnOk result (IsDraft day.now.instance.now (length pool.new) draft.new) }
     ensures tools { StayTools day.now pricing.old pricing.new pool.old pool.new }
 {
     let mut moves = MoveRoom::new(alloc, day.instance, guide)?;
-    let end = descend_at(day, guide, pricing, pool, draft, &mut moves);
+    let end = descend_at(day, guide, pricing, pool, draft, &mut moves, watch);
     drop(moves);
     end
 }

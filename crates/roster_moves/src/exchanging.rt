@@ -8,6 +8,7 @@ use crate::teams::team_of;
 use crate::trees::least_column;
 use master_rows::{Day, Pricing};
 use roster_model::Memory;
+use search_watch::Watch;
 use tree_pool::Pool;
 
 /// Puts in place of a tree, which is not counted, a cheapest one of its team.
@@ -71,25 +72,30 @@ fn exchange(
     refill(day, place, pricing, pool, draft)
 }
 
-/// Exchanges each tree from a place on once, in their order.
+/// Exchanges each tree from a place on once, in their order. The watch is asked before each of them; where it is over
+/// the others stay as they are.
 ///
 /// # Errors
 ///
 /// `Memory` where memory runs out; nothing is said of the draft then. The pricer and the room of prices are
 /// still those of the graph and of the instance, and the pool has its trees under their numbers, and perhaps
 /// further trees of the day.
-pub(crate) fn exchange_from(
+pub(crate) fn exchange_from<W: Watch>(
     day: &Day,
     first: usize,
     pricing: &mut Pricing,
     pool: &mut Pool,
     draft: &mut Draft,
+    watch: &W,
 ) -> Result<(), Memory>
     requires tools { AreTools day.now pricing.old pool.old draft.old }
     ensures draft { OnOk result (IsDraft day.now.instance.now (length pool.new) draft.new) }
     ensures tools { StayTools day.now pricing.old pricing.new pool.old pool.new }
 {
     for place in first..draft.columns.len() {
+        if watch.is_over() {
+            return Ok(());
+        }
         exchange(day, place, pricing, pool, draft)?;
     }
     Ok(())

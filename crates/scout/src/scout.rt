@@ -5,6 +5,7 @@ use float_simplex::{
     Grown, Key, LastRow, Limits, ProductRoom, Q24, Q32, Scouted, Sign, State, Tolerances,
 };
 use roster_model::{List, Memory};
+use search_watch::Watch;
 use std::alloc::Global;
 
 /// The most columns that are listed.
@@ -146,19 +147,20 @@ impl Scout {
     }
 
     /// Takes dual steps while a value is negative, and then primal steps while a listed column has
-    /// a negative reduced cost. Takes no memory.
-    pub fn run(&mut self, limits: Limits) -> Scouted
+    /// a negative reduced cost. The watch is asked before each eighth step; where it is over the run ends as if
+    /// its steps were taken. Takes no memory.
+    pub fn run<W: Watch>(&mut self, limits: Limits, watch: &W) -> Scouted
         ensures { SameSizes self.old self.new }
     {
-        self.state.run(limits)
+        self.state.run(limits, watch)
     }
 
     /// Takes the perturbations off the right sides, and runs. Further runs are without them. Takes no memory.
-    pub fn settle(&mut self, limits: Limits) -> Scouted
+    pub fn settle<W: Watch>(&mut self, limits: Limits, watch: &W) -> Scouted
         ensures { SameSizes self.old self.new }
     {
         self.state.settle();
-        self.state.run(limits)
+        self.state.run(limits, watch)
     }
 
     /// Returns what runs take for 0.

@@ -8,6 +8,7 @@ use master_rows::{NodeRows, NodeTask};
 use parse_graph::Graph;
 use roster_model::{List, Memory};
 use scout::{LastRow, Limits, Scout, Scouted};
+use search_watch::Watch;
 use std::alloc::Global;
 use tree_pool::Pool;
 
@@ -118,10 +119,10 @@ fn list_best(
 }
 
 /// Solves a program, and says whether its value is one.
-fn solve(scout: &mut Scout) -> bool {
+fn solve<W: Watch>(scout: &mut Scout, watch: &W) -> bool {
     scout.start_beyond().is_ok()
-        && scout.run(SOLVE) == Scouted::Optimal
-        && scout.settle(SOLVE) == Scouted::Optimal
+        && scout.run(SOLVE, watch) == Scouted::Optimal
+        && scout.settle(SOLVE, watch) == Scouted::Optimal
 }
 
 /// Returns so many flags that are not set.
@@ -151,7 +152,12 @@ impl ProbeBench {
     /// # Errors
     ///
     /// `Memory` where memory runs out; nothing is kept then.
-    pub fn new(alloc: Global, node: &SplitNode, limit: i128) -> Result<Option<ProbeBench>, Memory>
+    pub fn new<W: Watch>(
+        alloc: Global,
+        node: &SplitNode,
+        limit: i128,
+        watch: &W,
+    ) -> Result<Option<ProbeBench>, Memory>
         requires { IsSplitNode node.now }
     {
         let rows = NodeRows::new(alloc, node.day.instance, node.cuts)?;
@@ -160,42 +166,44 @@ impl ProbeBench {
             cuts: node.cuts,
             rows: &rows,
         };
-        ProbeBench::over(alloc, &task, node.pool, node.shares, limit)
+        ProbeBench::over(alloc, &task, node.pool, node.shares, limit, watch)
     }
 
     /// Returns the program over a node's rows, solved; `None` where it was not.
-    fn over(
+    fn over<W: Watch>(
         alloc: Global,
         task: &NodeTask,
         pool: &Pool,
         shares: &[Share],
         limit: i128,
+        watch: &W,
     ) -> Result<Option<ProbeBench>, Memory>
         requires { AreRows task.now.day.instance.now task.now.cuts.now task.now.rows.now }
     {
         let mut bench = without_trees(alloc, task)?;
-        if bench.fill(alloc, task, pool, shares, limit)? {
+        if bench.fill(alloc, task, pool, shares, limit, watch)? {
             return Ok(Some(bench));
         }
         Ok(None)
     }
 
     /// Lists trees and solves the program, twice. Says whether it is solved.
-    fn fill(
+    fn fill<W: Watch>(
         &mut self,
         alloc: Global,
         task: &NodeTask,
         pool: &Pool,
         shares: &[Share],
         limit: i128,
+        watch: &W,
     ) -> Result<bool, Memory> {
         let (base, listed) = (&mut self.base, &mut self.listed);
         list_trees(alloc, task, pool, shares, base, listed)?;
-        if !solve(base) {
+        if !solve(base, watch) {
             return Ok(false);
         }
         list_best(alloc, task, pool, base, listed)?;
-        if base.run(SOLVE) != Scouted::Optimal {
+        if base.run(SOLVE, watch) != Scouted::Optimal {
             return Ok(false);
         }
         self.value = base.value();
@@ -214,10 +222,10 @@ impl ProbeBench {
         }
     }
 
-    /// Says whether the tries have touched more entries than this lets them.
-    pub fn is_spent(&self, budget: Budget) -> bool {
+    /// Says whether the tries have touched more entries than this lets them, or the watch is over.
+    pub fn is_spent<W: Watch>(&self, budget: Budget, watch: &W) -> bool {
         let solved = self.base.work().saturating_mul(budget.times);
-        self.copy.work() > solved.saturating_add(budget.more)
+        self.copy.work() > solved.saturating_add(budget.more) || watch.is_over()
     }
 
     /// Says whether a gain raises the value rounded up.
@@ -237,7 +245,12 @@ impl ProbeBench {
     /// # Errors
     ///
     /// `Memory` where memory runs out; nothing is said of the copy then.
-    pub fn gain(&mut self, cut: LastRow, steps: u32) -> Result<i128, Memory> {
+    pub fn gain<W: Watch>(
+        &mut self,
+        cut: LastRow,
+        steps: u32,
+        watch: &W,
+    ) -> Result<i128, Memory> {
         if self.copy.rows() != self.base.rows() {
             return Ok(0);
         }
@@ -249,7 +262,7 @@ impl ProbeBench {
             dual: steps,
             primal: 0,
         };
-        match self.copy.run(limits) {
+        match self.copy.run(limits, watch) {
             Scouted::Stuck => Ok(self.most),
             Scouted::Grew => Ok(0),
             _ => Ok(

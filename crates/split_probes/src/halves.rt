@@ -3,6 +3,7 @@ use crate::candidates::Candidate;
 use parse_graph::Graph;
 use roster_model::Memory;
 use scout::LastRow;
+use search_watch::Watch;
 use tree_pool::Pool;
 
 /// What an artificial column costs.
@@ -67,20 +68,21 @@ fn high_row(floor: i64) -> LastRow {
 /// # Errors
 ///
 /// `Memory` where memory runs out; there is no answer then.
-pub(crate) fn halves_of(
+pub(crate) fn halves_of<W: Watch>(
     graph: &Graph,
     pool: &Pool,
     bench: &mut ProbeBench,
     candidate: &Candidate,
     steps: u32,
     above: i128,
+    watch: &W,
 ) -> Result<Halves, Memory> {
     bench.note(graph, pool, candidate.arc);
-    let low = bench.gain(low_row(candidate.floor), steps)?;
+    let low = bench.gain(low_row(candidate.floor), steps, watch)?;
     if product(low, bench.most()) <= above {
         return Ok(Halves { low, high: None });
     }
-    let high = bench.gain(high_row(candidate.floor), steps)?;
+    let high = bench.gain(high_row(candidate.floor), steps, watch)?;
     Ok(Halves {
         low,
         high: Some(high),

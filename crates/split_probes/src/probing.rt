@@ -9,6 +9,7 @@ use crate::node::SplitNode;
 use crate::sums::sums_of;
 use parse_graph::Graph;
 use roster_model::Memory;
+use search_watch::Watch;
 use std::alloc::Global;
 use tree_pool::Pool;
 
@@ -50,18 +51,19 @@ const NONE: Rated = Rated {
 };
 
 /// Returns the arc of the greatest score of those that are tried, the first of several.
-fn best_arc_of(
+fn best_arc_of<W: Watch>(
     graph: &Graph,
     pool: &Pool,
     bench: &mut ProbeBench,
     arcs: &[Candidate],
+    watch: &W,
 ) -> Result<Rated, Memory> {
     let mut best = NONE;
     for arc in arcs {
-        if bench.is_spent(ARC_BUDGET) {
+        if bench.is_spent(ARC_BUDGET, watch) {
             return Ok(best);
         }
-        let score = halves_of(graph, pool, bench, arc, TRY, best.score)?.score();
+        let score = halves_of(graph, pool, bench, arc, TRY, best.score, watch)?.score();
         if score > best.score {
             best = Rated {
                 score,
@@ -85,20 +87,21 @@ fn rank(ranked: &mut [Rated], rated: Rated) {
 }
 
 /// Returns the letters of the greatest scores at a glance.
-fn kept_of(
+fn kept_of<W: Watch>(
     alloc: Global,
     graph: &Graph,
     pool: &Pool,
     bench: &mut ProbeBench,
     letters: &[Candidate],
+    watch: &W,
 ) -> Result<Vec<Rated>, Memory> {
     let mut kept = vec![in alloc; NONE; KEPT]?;
     for letter in letters {
-        if bench.is_spent(LETTER_BUDGET) {
+        if bench.is_spent(LETTER_BUDGET, watch) {
             return Ok(kept);
         }
         let least = kept.last().map_or(0, |rated| rated.score);
-        let score = halves_of(graph, pool, bench, letter, GLANCE, least)?.score();
+        let score = halves_of(graph, pool, bench, letter, GLANCE, least, watch)?.score();
         let candidate = Some(*letter);
         rank(kept.as_mut_slice(), Rated { score, candidate });
     }
@@ -107,22 +110,23 @@ fn kept_of(
 
 /// Returns the letter of the greatest score of those that are kept, where one of its halves raises the bound
 /// that is shown.
-fn best_kept(
+fn best_kept<W: Watch>(
     graph: &Graph,
     pool: &Pool,
     bench: &mut ProbeBench,
     kept: &[Rated],
     gains: &mut Gains,
+    watch: &W,
 ) -> Result<Rated, Memory> {
     let mut best = NONE;
     for rated in kept {
         let Some(letter) = rated.candidate else {
             return Ok(best);
         };
-        if bench.is_spent(LETTER_BUDGET) {
+        if bench.is_spent(LETTER_BUDGET, watch) {
             return Ok(best);
         }
-        let halves = halves_of(graph, pool, bench, &letter, TRY_LETTER, best.score)?;
+        let halves = halves_of(graph, pool, bench, &letter, TRY_LETTER, best.score, watch)?;
         gains.count(&letter, &halves);
         let score = halves.score();
         if score > best.score && bench.is_raised(halves.most()) {
@@ -146,17 +150,19 @@ fn named(arc: &Rated, letter: &Rated) -> Option<u32> {
 }
 
 /// Returns the best of the arcs that are tried, at the node's program.
-fn best_tried(
+fn best_tried<W: Watch>(
     alloc: Global,
     graph: &Graph,
     pool: &Pool,
     bench: &mut ProbeBench,
     candidates: &Candidates,
     gains: &mut Gains,
+    watch: &W,
 ) -> Result<Option<u32>, Memory> {
-    let arc = best_arc_of(graph, pool, bench, candidates.arcs.as_slice())?;
-    let kept = kept_of(alloc, graph, pool, bench, candidates.letters.as_slice())?;
-    let letter = best_kept(graph, pool, bench, kept.as_slice(), gains)?;
+    let arc = best_arc_of(graph, pool, bench, candidates.arcs.as_slice(), watch)?;
+    let letters = candidates.letters.as_slice();
+    let kept = kept_of(alloc, graph, pool, bench, letters, watch)?;
+    let letter = best_kept(graph, pool, bench, kept.as_slice(), gains, watch)?;
     Ok(named(&arc, &letter))
 }
 
@@ -187,16 +193,17 @@ fn tried(alloc: Global, node: &SplitNode, gains: &Gains) -> Result<Candidates, M
 /// to the node's value is greatest. An arc that stands for a letter is named before others, unless its product
 /// is less than half as great as theirs or neither half raises the value rounded up. No roster that costs
 /// `limit` or more is looked for. It is a hint: that the split is sharp is for the caller to see. What splits
-/// on letters gained is counted.
+/// on letters gained is counted. Where the watch is over no further arc is tried.
 ///
 /// # Errors
 ///
 /// `Memory` where memory runs out.
-pub fn best_arc(
+pub fn best_arc<W: Watch>(
     alloc: Global,
     node: &SplitNode,
     limit: u64,
     gains: &mut Gains,
+    watch: &W,
 ) -> Result<Option<u32>, Memory>
     requires { IsSplitNode node.now }
     ensures { IfOk result (λ found. IfSome found (λ arc. arc < length node.now.day.graph.now.arcs)) }
@@ -206,11 +213,11 @@ pub fn best_arc(
         return Ok(None);
     }
     let limit = i128::from(limit).saturating_mul(i128::from(ONE));
-    let Some(mut bench) = ProbeBench::new(alloc, node, limit)? else {
+    let Some(mut bench) = ProbeBench::new(alloc, node, limit, watch)? else {
         return Ok(None);
     };
     let graph = node.day.graph;
-    let number = best_tried(alloc, graph, node.pool, &mut bench, &candidates, gains);
+    let number = best_tried(alloc, graph, node.pool, &mut bench, &candidates, gains, watch);
     drop(bench);
     Ok(arc_of(graph, number?))
 }

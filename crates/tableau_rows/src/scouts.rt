@@ -3,6 +3,7 @@ ghost use Rattle.scout.specs.Sizes.{row_count};
 
 use roster_model::Memory;
 use scout::{Grown, Key, LastRow, Limits, Scout, Scouted, Sign};
+use search_watch::SteadyWatch;
 use std::alloc::Global;
 
 /// The number 1 in units of 2^-32.
@@ -68,12 +69,12 @@ const NO_BASIS: [Key; 8] = [
 
 /// Whether a run from here ends at a cost of 3.
 fn costs_three(scout: &mut Scout) -> bool {
-    scout.run(LIMITS) == Scouted::Optimal && is_about(scout.value(), 3)
+    scout.run(LIMITS, &SteadyWatch) == Scouted::Optimal && is_about(scout.value(), 3)
 }
 
 /// Whether it costs 3 with the right sides settled too, by halves of shifts.
 fn costs_three_settled(scout: &mut Scout) -> bool {
-    scout.settle(LIMITS) == Scouted::Optimal
+    scout.settle(LIMITS, &SteadyWatch) == Scouted::Optimal
         && is_about(scout.value(), 3)
         && scout.values().iter().any(|value| value.raw() == ONE / 2)
 }
@@ -99,7 +100,7 @@ fn three_halves_cost_3(rt: HostRuntime) {
 
 /// Whether a program that starts with slacks is solved.
 fn is_solved(scout: &mut Scout) -> bool {
-    scout.start_beyond().is_ok() && scout.run(LIMITS) == Scouted::Optimal
+    scout.start_beyond().is_ok() && scout.run(LIMITS, &SteadyWatch) == Scouted::Optimal
 }
 
 /// Whether a program that was solved costs 4 with this last row.
@@ -108,7 +109,7 @@ fn costs_four(probe: &mut Scout, solved: &Scout, row: LastRow) -> Result<bool, M
     ensures { row_count probe.new ≡ row_count probe.old }
 {
     let copied = probe.copy_with_row(solved, row, &[true])?;
-    Ok(copied.is_ok() && probe.run(LIMITS) == Scouted::Optimal && is_about(probe.value(), 4))
+    Ok(copied.is_ok() && probe.run(LIMITS, &SteadyWatch) == Scouted::Optimal && is_about(probe.value(), 4))
 }
 
 /// Whether it does where the first column is left out, and where it is taken once.
@@ -178,7 +179,7 @@ fn grows(scout: &mut Scout) -> bool {
     }
     scout.start(&keys) == Err(Grown)
         && scout.start_missing().is_ok()
-        && scout.run(LIMITS) == Scouted::Grew
+        && scout.run(LIMITS, &SteadyWatch) == Scouted::Grew
 }
 
 #[test]
@@ -317,7 +318,7 @@ fn is_solved_tighter(scout: &mut Scout) -> bool {
     scout.tolerances().reduced == 6.103515625e-5
         && scout.tolerances().value == 9.5367431640625e-7
         && is_solved(scout)
-        && scout.settle(LIMITS) == Scouted::Optimal
+        && scout.settle(LIMITS, &SteadyWatch) == Scouted::Optimal
         && scout
             .values()
             .iter()
@@ -348,7 +349,7 @@ const TRUE_COST: i64 = 70_000_000_001;
 /// Whether a row that no listed column meets has the price of its own column, at the true cost.
 fn has_true_cost(alloc: Global) -> Result<bool, Memory> {
     let mut scout = Scout::new(alloc, &[1], &[DEAR], &[Some(0)])?;
-    let solved = scout.start_missing().is_ok() && scout.run(LIMITS) == Scouted::Optimal;
+    let solved = scout.start_missing().is_ok() && scout.run(LIMITS, &SteadyWatch) == Scouted::Optimal;
     let prices = scout.refined_prices(alloc, &[TRUE_COST]);
     drop(scout);
     let prices = prices?;

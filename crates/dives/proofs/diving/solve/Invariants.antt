@@ -3,7 +3,7 @@ use Rattle.dives.specs.Parts.{IsProgram, StayTools}
 use Rattle.dives.proofs.diving.solve.Given as goal
 
 abbrev pub invariant-loop : goal.invariant-loop
-invariant-loop l = record {
+invariant-loop g l = record {
   program : IsProgram (length l.pool) l.descent.program;
   tools : StayTools l.task l.pricer l.fn.pool l.pool l.descent.desk;
 }

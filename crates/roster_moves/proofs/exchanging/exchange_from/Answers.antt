@@ -3,7 +3,7 @@ use Rattle.roster_moves.proofs.ToolsLemmas.{tools-more, tools-later}
 use Rattle.roster_moves.proofs.exchanging.exchange_from.Goals as goal
 
 pub loop-place-preserved : goal.loop-place-preserved
-loop-place-preserved c =
+loop-place-preserved g c =
     let v = c.loop-place.invariant in record {
       tools = tools-later _ _ _ _ _ _ _ v.tools c.exchange.ensures.tools c.in_ok-exchange.ensures.draft;
       columns = c.exchange.ensures.length ∙ v.columns;
@@ -11,4 +11,4 @@ loop-place-preserved c =
     }
 
 pub returns-in_err-exchange-clause-tools : goal.returns-in_err-exchange-clause-tools
-returns-in_err-exchange-clause-tools c = tools-more _ _ _ _ _ _ _ c.loop-place.invariant.stay c.exchange.ensures.tools
+returns-in_err-exchange-clause-tools g c = tools-more _ _ _ _ _ _ _ c.loop-place.invariant.stay c.exchange.ensures.tools
