@@ -134,6 +134,31 @@ later-node i v strict before now later low p leaf cuts asked rises within = reco
   few = asked.few;
 }
 
+-- the best roster may have given way to another one
+pub node-better : (i : Instance) (v : GraphView) (strict : Bool) (before now low : ℕ) (p : Progress) (leaf : OpenLeaf) (cuts : List Cut) (best : Option Roster)
+    → AsksNode i v strict before now low p leaf cuts → IsBetter i p.best best → AsksNode i v strict before now low (record { tree = p.tree; best = best }) leaf cuts
+node-better i v strict before now low p leaf cuts best asked better = record {
+  tree = asked.tree;
+  is = record {
+    tree = limit-falls (site_of i v strict before) (limit_of i p.best) (limit_of i best) now low (leaf ∷ []) p.tree asked.tree asked.is.tree better.falls;
+    best = better.good;
+    start = λ h. better.start (asked.is.start h);
+  };
+  place = asked.place;
+  bound = asked.bound;
+  few = asked.few;
+}
+
+-- a leaf that is processed then is processed
+pub better-turned : (i : Instance) (v : GraphView) (strict : Bool) (before now low : ℕ) (p : Progress) (best : Option Roster) (new : Progress)
+    → IsBetter i p.best best → IsTurned i v strict before now low (record { tree = p.tree; best = best }) new → IsTurned i v strict before now low p new
+better-turned i v strict before now low p best new better turned = record {
+  tree = turned.tree;
+  is = turned.is;
+  processed = turned.processed;
+  falls = let f = turned.falls in let b = better.falls in omega (arith, f, b);
+}
+
 -- the watch stopped the turn, and the leaf in hand is as before
 pub turn-stopped : (i : Instance) (v : GraphView) (strict : Bool) (before now later low : ℕ) (patient : Bool) (p : Progress) (leaf : OpenLeaf) (cuts : List Cut) (best : Option Roster)
     → AsksNode i v strict before now low p leaf cuts → IsBetter i p.best best → (IsTrue patient → ⊥) → later ≡ now

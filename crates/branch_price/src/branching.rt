@@ -13,6 +13,7 @@ ghost use Rattle.search_watch.specs.Within.{IsWithin};
 use crate::arcless::search_arcless;
 use crate::desk::{SearchBench, SearchDesk};
 use crate::ended::{closed_end, found, halted};
+use crate::first::offer_early;
 use crate::found::Found;
 use crate::infeasible::{derived, no_roster};
 use crate::job::{Job, SearchedDay};
@@ -34,7 +35,7 @@ use search_watch::Watch;
 use std::alloc::Global;
 
 /// Returns how far a search is at its begin: the root is not processed, and the best roster is that of
-/// equal shifts of least price, or the old one, where they are allowed.
+/// equal shifts of least price, the old one, or on a wide day one that is completed from none, where they are allowed.
 fn begin<W: Watch>(
     alloc: Global,
     job: &Job,
@@ -50,7 +51,8 @@ fn begin<W: Watch>(
 {
     let day = &job.searched.day;
     let mut best = least_roster(alloc, day, &mut desk.pricing, pool, &mut desk.rosters)?;
-    offer_start(alloc, job, desk, pool, &mut best)?;
+    let has_old = offer_start(alloc, job, desk, pool, &mut best)?;
+    offer_early(alloc, day, has_old, desk, &mut best, watch)?;
     tell_best(&best, watch);
     Ok(Progress {
         tree: SearchTree::new(alloc)?,

@@ -5,6 +5,7 @@ ghost use Rattle.branch_price.specs.Nodes.{IsOpenNode, IsSmall};
 ghost use Rattle.branch_price.specs.Rounded.{AreFewer};
 
 use crate::desk::SearchDesk;
+use crate::first::is_wide;
 use crate::offered::offer_trees;
 use crate::open_node::OpenNode;
 use crate::rounded::push_wholes;
@@ -30,9 +31,6 @@ const PASSES: u32 = 2;
 /// How many they may take at the first node in all, times that square; at later nodes there are no more.
 const FIRST_MOST: u32 = 32;
 
-/// A day is wide where its graph has so many arcs.
-const WIDE_ARCS: u64 = 8_192;
-
 /// So many further passes are allowed for each tree of the pool, each of which took a pass to be found.
 const FURTHER: u64 = 2;
 
@@ -42,7 +40,7 @@ const MOST_FURTHER: u64 = 4096;
 /// Returns how many further passes over the graph the moves may take at the first node of a wide day: as many as
 /// the trees of its pool took and again so many, within a bound.
 fn further_passes(graph: &Graph, pool: &Pool) -> u32 {
-    if (graph.arcs().len() as u64) < WIDE_ARCS {
+    if !is_wide(graph) {
         return 0;
     }
     let passes = (pool.len() as u64).saturating_mul(FURTHER);
@@ -65,7 +63,7 @@ fn dives_at(stage: &Stage, pool: &Pool) -> bool {
 
 /// Returns what steers the moves of a roster at a node that has these prices; at the first node they may take
 /// further passes.
-fn guide_of<'a>(graph: &Graph, pool: &Pool, prices: &'a Prices, stage: &Stage) -> Guide<'a> {
+pub(crate) fn guide_of<'a>(graph: &Graph, pool: &Pool, prices: &'a Prices, stage: &Stage) -> Guide<'a> {
     let is_first = stage.processed == 0;
     Guide {
         prices,
@@ -91,7 +89,12 @@ fn wholes(alloc: Global, instance: &Instance, weights: &[Weight]) -> Result<List
 }
 
 /// Offers the roster of these trees, completed and made better.
-fn offer_begun<W: Watch>(
+///
+/// # Errors
+///
+/// `Memory` where memory runs out; the best roster is an allowed one still then, and the pool has its trees
+/// under their numbers, and perhaps further trees of the day.
+pub(crate) fn offer_begun<W: Watch>(
     alloc: Global,
     day: &Day,
     begun: &[usize],

@@ -12,6 +12,8 @@ use crate::choose::plan_for;
 use crate::completed::{Stage, offer_at_node};
 use crate::counts::arc_at;
 use crate::desk::{SearchBench, SearchDesk, want};
+use crate::first::offer_late;
+use crate::moved::offer_without_prices;
 use crate::open_node::OpenNode;
 use crate::pinned::{offer_least, pinned_value};
 use crate::progress::{Progress, tell_best};
@@ -19,7 +21,7 @@ use crate::solved::{Outcome, Solved, outcome_of};
 use crate::turn_end::TurnEnd;
 use crate::value::shown_value;
 use master_rows::Day;
-use node_master::{Master, Pool};
+use node_master::{Cause, Master, Pool};
 use open_nodes::OpenLeaf;
 use roster_model::Memory;
 use search_watch::Watch;
@@ -112,8 +114,38 @@ fn best_leaf<W: Watch>(
     progress.tree.price(leaf, solved.prices, value, plan)
 }
 
+/// Processes a leaf whose master was given up, once a roster is offered where one is due.
+fn give_up_leaf<W: Watch>(
+    alloc: Global,
+    node: &OpenNode,
+    cause: Cause,
+    desk: &mut SearchDesk,
+    pool: &mut Pool,
+    progress: &mut Progress,
+    leaf: OpenLeaf,
+    watch: &W,
+) -> Result<(), Memory>
+    requires node { IsOpenNode node.now }
+    requires tools { AreTools node.now.searched.day pool.old desk.old }
+    requires leaf { IsGivenUpAt node.now progress.old leaf }
+    ensures turned { OnOk result (IsTurnedFailing node.now progress.old leaf progress.new) }
+    ensures tools { StayTools node.now.searched.day pool.old pool.new desk.new }
+{
+    let day = &node.searched.day;
+    let stage = Stage {
+        processed: progress.tree.processed(),
+        bound: leaf.bound,
+    };
+    let best = &mut progress.best;
+    offer_late(alloc, day, stage.processed, desk, best, watch)?;
+    tell_best(&progress.best, watch);
+    let best = &mut progress.best;
+    offer_without_prices(alloc, day, cause, &stage, desk, pool, best, watch)?;
+    fail_leaf(node, progress, leaf)
+}
+
 /// Processes a leaf whose path leaves an arc more than one count: prices it, or splits it where its master
-/// fails. Where the watch stops its master the leaf stays as it is.
+/// fails. Where the watch stops its master the leaf stays as it is, and a first roster is offered still.
 ///
 /// # Errors
 ///
@@ -145,10 +177,15 @@ pub(crate) fn price_leaf<M: Master, W: Watch>(
             best_leaf(alloc, node, solved, desk, pool, progress, leaf, watch)?;
             Ok(TurnEnd::Done)
         }
-        Outcome::Failed(_) => {
-            fail_leaf(node, progress, leaf)?;
+        Outcome::Failed(cause) => {
+            give_up_leaf(alloc, node, cause, desk, pool, progress, leaf, watch)?;
             Ok(TurnEnd::Done)
         }
-        Outcome::Stopped => Ok(TurnEnd::Stopped(leaf)),
+        Outcome::Stopped => {
+            let processed = progress.tree.processed();
+            let best = &mut progress.best;
+            offer_late(alloc, &node.searched.day, processed, desk, best, watch)?;
+            Ok(TurnEnd::Stopped(leaf))
+        }
     }
 }

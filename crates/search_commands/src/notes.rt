@@ -7,7 +7,7 @@ use roster_model::Instance;
 use shelf::Shelf;
 use std::alloc::Global;
 
-const UNPROVED: &str = "nothing is proved yet: give more turns, or make the rules simpler";
+const UNPROVED: &str = "nothing is proved yet: give more turns or seconds, or make the rules simpler";
 
 // Notes why the day alone shows that no roster is allowed, where it does.
 fn note_infeasible<S: Shelf>(alloc: Global, shelf: &mut S, instance: &Instance)
