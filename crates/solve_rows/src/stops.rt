@@ -4,8 +4,10 @@ ghost use Rattle.parse_graph.specs.Graphs.{IsGraph};
 
 use crate::failing::FailingMaster;
 use crate::searches::{PAIR_DAY, graph_of};
-use crate::watches::NthWatch;
-use branch_price::{Done, Found, Master, PlainMaster, Pool, search};
+use crate::watches::{NthWatch, Still};
+use branch_price::{
+    ClockWatch, Done, Found, Master, PlainMaster, Pool, Subject, Watch, search,
+};
 use parse_graph::Graph;
 use roster_model::{Cell, Instance};
 use sample_days::{
@@ -57,6 +59,26 @@ fn watched_of(found: &Found, watch: &NthWatch) -> Watched {
     }
 }
 
+/// Searches in a graph with a new pool.
+fn found_in<M: Master, W: Watch>(
+    alloc: Global,
+    day: &Instance,
+    graph: &Graph,
+    turns: u32,
+    master: &mut M,
+    watch: &mut W,
+) -> Result<Found, Fail>
+    requires day { IsSoundInstance day.now }
+    requires graph { IsGraph day.now.grammar graph.now }
+    requires some { 1 ≤ turns }
+    requires few { turns ≤ 10000 }
+{
+    let mut pool = Pool::new(alloc);
+    let found = search(alloc, day, graph, turns, &mut pool, master, watch);
+    drop(pool);
+    Ok(found?)
+}
+
 /// Searches in a graph, which a watch stops at this question.
 fn watched_in<M: Master>(
     alloc: Global,
@@ -72,10 +94,7 @@ fn watched_in<M: Master>(
     requires few { turns ≤ 10000 }
 {
     let mut watch = NthWatch::new(over_at);
-    let mut pool = Pool::new(alloc);
-    let found = search(alloc, day, graph, turns, &mut pool, master, &mut watch);
-    drop(pool);
-    let found = found?;
+    let found = found_in(alloc, day, graph, turns, master, &mut watch)?;
     let watched = watched_of(&found, &watch);
     drop(found);
     Ok(watched)
@@ -153,5 +172,27 @@ fn a_first_roster_where_equal_shifts_miss_a_floor(rt: HostRuntime) -> Result<(),
     let found = watched(rt.alloc(), &FLOOR_DAY, false, Some(1))?;
     assert!(rt; found.done == Done::TurnsOut && found.processed == 0);
     assert!(rt; found.cost == Some(4));
+    Ok(())
+}
+
+/// Returns what a search for one second by a clock that stands still finds on pairs.
+fn found_by_still_clock(alloc: Global) -> Result<Found, Fail> {
+    let day = sound_day(alloc, &PAIR_DAY)?;
+    let graph = graph_of(alloc, &day.grammar)?;
+    let mut watch = ClockWatch::new(Still);
+    watch.begin(Subject::Solve, Some(1));
+    let found = found_in(alloc, &day, &graph, 40, &mut PlainMaster::new(), &mut watch);
+    drop(watch);
+    drop(graph);
+    drop(day);
+    found
+}
+
+#[test]
+fn a_clock_that_stands_still_stops_nothing(rt: HostRuntime) -> Result<(), Fail> {
+    let found = found_by_still_clock(rt.alloc())?;
+    let is_closed = found.done == Done::Equal && found.cert.cost == Some(4);
+    drop(found);
+    assert!(rt; is_closed);
     Ok(())
 }

@@ -1,5 +1,9 @@
 use search_watch::{Standing, Subject, Watch, Work};
 use std::cell::Cell;
+use std::fmt::Display;
+use std::io;
+use std::rt::Clock;
+use std::time::Duration;
 
 /// A watch that is over at its n-th question and from then on, and counts the questions. It is patient while it has
 /// no seconds.
@@ -53,4 +57,34 @@ impl Watch for NthWatch {
 
     /// Keeps nothing.
     fn tell_cost(&self, _cost: u64) {}
+}
+
+/// A clock that stands still, and notes that nobody reads.
+#[derive(Clone, Copy, Drop)]
+pub struct Still;
+
+impl Clock for Still {
+    /// Returns the same time whenever it is asked.
+    fn monotonic(&self) -> io::Result<Duration> {
+        Ok(Duration::from_secs(7))
+    }
+
+    /// Returns the same time whenever it is asked.
+    fn since_1970(&self) -> io::Result<Duration> {
+        Ok(Duration::from_secs(7))
+    }
+}
+
+impl Eprint for Still {
+    /// Writes nothing.
+    fn eprint<D: Display + Drop>(&self, value: D) -> io::Result<()> {
+        drop(value);
+        Ok(())
+    }
+
+    /// Writes nothing.
+    fn eprintln<D: Display + Drop>(&self, value: D) -> io::Result<()> {
+        drop(value);
+        Ok(())
+    }
 }
