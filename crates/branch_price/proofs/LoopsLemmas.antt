@@ -11,7 +11,7 @@ use Rattle.roster_model.specs.SoundInstance.{IsSoundInstance}
 use Rattle.bound_laws.specs.Infeasible.{IsPlainlyInfeasible}
 use Rattle.certificates.specs.certificate_laws.Accepted.{bound_number}
 use Rattle.parse_graph.specs.Graphs.{GraphView, IsGraph}
-use Rattle.certificates.specs.growing_laws.Grown.{SomeTip, tip_bound, shown}
+use Rattle.certificates.specs.growing_laws.Grown.{Grown, SomeTip, tip_bound, shown}
 use Rattle.certificates.specs.growing_laws.Boxes.{IsOpenLeaf}
 use Rattle.certificates.specs.growing_laws.States.{IsTip}
 use Rattle.certificates.proofs.growing_laws.GrownLemmas.{some-map, some-both, least-bound}
@@ -173,7 +173,7 @@ module _ (i : Instance) (v : GraphView) (strict : Bool) (before now turns : ℕ)
       let f = t.falls in
       let s = ap (limit_of i) next.best in
       let at : IsSearching (site_of i v same before) later left.bound (left ∷ []) new t.tree =
-          subst (λ (n : ℕ). IsSearching (site_of i v same before) later n (left ∷ []) new t.tree) (sym t.bound) t.is in
+      subst (λ (n : ℕ). IsSearching (site_of i v same before) later n (left ∷ []) new t.tree) (sym t.bound) t.is in
       record {
         halted = record {
           tree = t.tree;

@@ -62,7 +62,7 @@ solved-nearly i cuts pool prices weights few near = record {
 }
 
 -- what an outcome says of the node
-ComesOf : Instance → List Cut → List PoolTree → ℕ → ℕ → Bool → Bool → Outcome → Type 0
+abbrev ComesOf : Instance → List Cut → List PoolTree → ℕ → ℕ → Bool → Bool → Outcome → Type 0
 ComesOf i cuts pool now later strict patient (is_solved s) = IsSolved i cuts pool s
 ComesOf i cuts pool now later strict patient (is_failed cause) = IsGivenUp i strict now later cuts
 ComesOf i cuts pool now later strict patient is_stopped = (IsTrue patient → ⊥) × (later ≡ now)

@@ -98,7 +98,16 @@ fn best_leaf<W: Watch>(
         return Err(Memory);
     };
     let value = shown_value(&node.searched, &solved.prices, node.cuts, &mut desk.pricing);
-    let Ok(plan) = plan_for(alloc, node, &solved, value, desk, pool, &mut progress.best, watch) else {
+    let Ok(plan) = plan_for(
+        alloc,
+        node,
+        &solved,
+        value,
+        desk,
+        pool,
+        &mut progress.best,
+        watch,
+    ) else {
         drop(solved);
         return Err(Memory);
     };
@@ -107,7 +116,16 @@ fn best_leaf<W: Watch>(
         processed: progress.tree.processed(),
         bound: leaf.bound.max(value),
     };
-    let Ok(()) = offer_at_node(alloc, node, &solved, &stage, desk, pool, &mut progress.best, watch) else {
+    let Ok(()) = offer_at_node(
+        alloc,
+        node,
+        &solved,
+        &stage,
+        desk,
+        pool,
+        &mut progress.best,
+        watch,
+    ) else {
         drop(solved);
         return Err(Memory);
     };

@@ -78,7 +78,16 @@ pub(crate) fn turn<M: Master, W: Watch>(
                 arc_box,
                 loose,
             };
-            price_leaf(alloc, &node, &mut bench.desk, pool, master, progress, leaf, watch)
+            price_leaf(
+                alloc,
+                &node,
+                &mut bench.desk,
+                pool,
+                master,
+                progress,
+                leaf,
+                watch,
+            )
         }
     }
 }

@@ -19,8 +19,7 @@ fail_leaf-requires-clause-leaf g c =
     let strict = g.M.Master.strict c.args.master.now in
     let patient = g.W.Watch.patient c.args.watch.now in
     let now = g.M.Master.refused c.args.master.now in
-    let later = g.M.Master.refused c.ask_master.new.master in
-    (
+    let later = g.M.Master.refused c.ask_master.new.master in (
       strict,
       r.0,
       now,
@@ -45,24 +44,24 @@ best_leaf-requires-clause-tools g c = tools-later c.args.node.now.searched.day c
 pub best_leaf-requires-clause-leaf : goal.best_leaf-requires-clause-leaf
 best_leaf-requires-clause-leaf g c = let r = c.requires.leaf in (g.M.Master.strict c.args.master.now, r.0, g.M.Master.refused c.args.master.now, r.1, r.2)
 
-pub returns-in-Failed-clause-turned : goal.returns-in-Failed-clause-turned
-returns-in-Failed-clause-turned g c =
+pub returns-in_ok-fail_leaf-in-Failed-clause-turned : goal.returns-in_ok-fail_leaf-in-Failed-clause-turned
+returns-in_ok-fail_leaf-in-Failed-clause-turned g c =
     let n = c.args.node.now in
     let strict = g.M.Master.strict c.args.master.now in
     let patient = g.W.Watch.patient c.args.watch.now in
     let now = g.M.Master.refused c.args.master.now in
     let later = g.M.Master.refused c.ask_master.new.master in
     let given = failed-end n.searched.day.instance.now n.cuts.now c.ask_master.new.pool now later strict patient c.in_ok-end.end c.in_ok-end.ensures.end c.in_ok-end.ensures.counted.counts c.ask_master.ensures.counted.within c.in-Failed.field-0 (sym c.outcome_of.ensures ∙ c.in-Failed.is) in
-    λ before low asked. c.in_ok-fail_leaf.ensures.turned strict before now low later asked given
+    λ before low asked. c.in_ok-fail_leaf-in-Failed.ensures.turned strict before now low later asked given
 
-pub returns-in-Solved-clause-turned : goal.returns-in-Solved-clause-turned
-returns-in-Solved-clause-turned g c =
+pub returns-in_ok-best_leaf-in-Solved-clause-turned : goal.returns-in_ok-best_leaf-in-Solved-clause-turned
+returns-in_ok-best_leaf-in-Solved-clause-turned g c =
     let n = c.args.node.now in
     let strict = g.M.Master.strict c.args.master.now in
     let patient = g.W.Watch.patient c.args.watch.now in
     let now = g.M.Master.refused c.args.master.now in
     let later = g.M.Master.refused c.ask_master.new.master in
-    λ before low asked. c.in_ok-best_leaf.ensures.turned strict before later low
+    λ before low asked. c.in_ok-best_leaf-in-Solved.ensures.turned strict before later low
     (later-node n.searched.day.instance.now n.searched.day.graph.now strict before now later low c.args.progress.now c.args.leaf n.cuts.now asked c.ask_master.ensures.counted.rises c.ask_master.ensures.counted.within)
 
 pub returns-in-Stopped-clause-turned : goal.returns-in-Stopped-clause-turned
@@ -76,10 +75,10 @@ returns-in-Stopped-clause-turned g c =
     λ before low asked. turn-stopped n.searched.day.instance.now n.searched.day.graph.now strict before now later low patient c.args.progress.now c.args.leaf n.cuts.now c.args.progress.now.best asked
     (same-best n.searched.day.instance.now n.searched.day.graph.now strict before now low c.args.progress.now c.args.leaf n.cuts.now asked) stops.0 stops.1
 
-pub returns-in-Solved-clause-tools : goal.returns-in-Solved-clause-tools
-returns-in-Solved-clause-tools g c =
+pub returns-in_ok-best_leaf-in-Solved-clause-tools : goal.returns-in_ok-best_leaf-in-Solved-clause-tools
+returns-in_ok-best_leaf-in-Solved-clause-tools g c =
     more-tools c.args.node.now.searched.day c.args.pool.now c.ask_master.new.pool c.best_leaf.new.pool c.ask_master.new.desk c.best_leaf.new.desk c.ask_master.ensures.tools c.best_leaf.ensures.tools
 
-pub returns-in_err-best_leaf-clause-tools : goal.returns-in_err-best_leaf-clause-tools
-returns-in_err-best_leaf-clause-tools g c =
+pub returns-in_err-best_leaf-in-Solved-clause-tools : goal.returns-in_err-best_leaf-in-Solved-clause-tools
+returns-in_err-best_leaf-in-Solved-clause-tools g c =
     more-tools c.args.node.now.searched.day c.args.pool.now c.ask_master.new.pool c.best_leaf.new.pool c.ask_master.new.desk c.best_leaf.new.desk c.ask_master.ensures.tools c.best_leaf.ensures.tools

@@ -41,8 +41,8 @@ price_leaf-requires-clause-leaf g c =
           (c.cuts.ensures ∙ c.in_ok-go_to.ensures.cuts half.node.tree half.path node),
     )
 
-pub returns-in-None-clause-turned : goal.returns-in-None-clause-turned
-returns-in-None-clause-turned g c =
+pub returns-in_ok-pin_leaf-in-None-clause-turned : goal.returns-in_ok-pin_leaf-in-None-clause-turned
+returns-in_ok-pin_leaf-in-None-clause-turned g c =
     let i = c.args.searched.now.day.instance.now in
     let v = c.args.searched.now.day.graph.now in
     let strict = g.M.Master.strict c.args.master.now in
@@ -54,7 +54,7 @@ returns-in-None-clause-turned g c =
     let at = half-at i v strict asked.before now c.args.leaf.bound c.args.progress.now c.halve.new.progress c.in_ok-leaf.leaf c.go_to.new.self.cuts half
     (c.in_ok-go_to.ensures.cuts half.node.tree half.path node) in
     half-turned i v strict asked.before now now c.args.leaf.bound c.args.progress.now c.halve.new.progress c.pin_leaf.new.progress c.in_ok-leaf.leaf half
-    (c.in_ok-pin_leaf.ensures.turned strict asked.before now c.args.leaf.bound at)
+    (c.in_ok-pin_leaf-in-None.ensures.turned strict asked.before now c.args.leaf.bound at)
 
 pub returns-in-Some-clause-turned : goal.returns-in-Some-clause-turned
 returns-in-Some-clause-turned g c =
