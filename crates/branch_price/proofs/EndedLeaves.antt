@@ -1,6 +1,5 @@
 -- Each leaf with prices waits, and so has a plan, or its prices show no less than the limit.
-use Rattle.std.proofs.Common.{◌≡◌, ℕ, arith, ◌≤◌, Option, None, Some, List, [], ◌∷◌, ◌++◌, length, map, refl, sym, ap, subst, ◌∙◌, inl, inr}
-use Rattle.std.specs.Prelude.{MatchOption}
+use Rattle.std.proofs.Common.{◌≡◌, ℕ, arith, ◌≤◌, Option, None, Some, List, [], ◌∷◌, ◌++◌, map, refl, ap, subst, inl, inr}
 use Rattle.roster_model.specs.declared.instance.Cut.{Cut}
 use Rattle.roster_model.specs.declared.instance.Instance.{Instance}
 use Rattle.roster_model.specs.Cuts.{base_cuts}
@@ -13,7 +12,7 @@ use Rattle.parse_graph.specs.Graphs.{GraphView}
 use Rattle.open_nodes.specs.declared.leaf.Plan.{Plan}
 use Rattle.open_nodes.specs.declared.leaf.OpenLeaf.{OpenLeaf}
 use Rattle.search_tree.specs.Views.{Site, TreeView, entry_of}
-use Rattle.search_tree.specs.Trees.{HasPlan, IsPlan, IsTree}
+use Rattle.search_tree.specs.Trees.{HasPlan, IsTree}
 use Rattle.search_tree.proofs.TreeLaws.{is_entry, entry-self, entry-in}
 use Rattle.branch_price.specs.Ends.{IsEndedLeaf}
 

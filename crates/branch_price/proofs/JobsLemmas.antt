@@ -14,7 +14,7 @@ use Rattle.branch_price.proofs.OldLemmas.{found-no-dearer}
 -- what is found at the root is found for each task
 pub root-task : (t : SearchTask) → IsSoundInstance t.day.instance.now → 1 ≤ t.turns → (patient strict : Bool) (now : ℕ) (f : Found) → IsFoundAtRoot t.day.instance.now f → IsTaskDone t patient strict now now f
 root-task t sound some patient strict now f h = record {
-  found = within-all patient t.turns (λ k. IsFound t.day.instance.now strict k f) some (h.found strict t.turns some);
+  found = within-all patient t.turns (λ k. IsFound t.day.instance.now strict k f) (h.found strict t.turns some);
   falls = found-no-dearer t.day.instance.now sound f h.found t.start.shifts.now;
   counted = h.counted now;
 }

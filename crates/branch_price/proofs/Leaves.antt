@@ -26,7 +26,9 @@ use Rattle.arc_counts.specs.node_path.Paths.{IsNode}
 use Rattle.candidate_rosters.specs.Offers.{limit_of}
 use Rattle.branch_price.specs.declared.progress.Progress.{Progress}
 use Rattle.branch_price.specs.Searching.{site_of}
-use Rattle.branch_price.specs.Steps.{AsksTurn, AsksNode, AsksHalf, IsTurned}
+use Rattle.branch_price.specs.declared.turn_end.TurnEnd.{TurnEnd}
+use Rattle.branch_price.specs.declared.turn_end.TurnEnd.TheVariants.{Done, Stopped}
+use Rattle.branch_price.specs.Steps.{AsksTurn, AsksNode, AsksHalf, IsTurned, IsStopped, EndsTurn}
 use Rattle.certificates.specs.declared.growing_laws.seat.Seat.{Seat}
 use Rattle.branch_price.proofs.NodeCuts.{IsGoodCut, path-cuts, path-based, base-good, base-few}
 use Rattle.parse_graph.specs.Graphs.{GraphView}
@@ -125,6 +127,7 @@ half-asks i v strict now p leaf tree half asked halved =
         tree = halved.tree;
         is = record { tree = halved.is; best = asked.is.best; start = asked.is.start };
         place = place.1;
+        bound = e;
         few = let f = asked.few in let q = halved.processed in omega (arith, f, q);
       };
       processed = halved.processed;
@@ -138,7 +141,7 @@ whole-asks i v strict now p leaf asked e =
     let place = leaf-in-hand (site_of i v strict asked.before) (limit_of i p.best) now leaf.bound leaf p.tree asked.tree asked.is.tree asked.below e in
     record {
       path = place.0;
-      node = record { tree = asked.tree; is = asked.is; place = place.1; few = asked.few };
+      node = record { tree = asked.tree; is = asked.is; place = place.1; bound = refl; few = asked.few };
       processed = refl;
       best = refl;
     }
@@ -171,3 +174,22 @@ half-turned i v strict before now later low old new last half asked turned = rec
   processed = let p = turned.processed in let q = asked.processed in omega (arith, p, q);
   falls = let f = turned.falls in let e = ap (limit_of i) asked.best in omega (arith, f, e);
 }
+
+pub half-stopped : (i : Instance) (v : GraphView) (strict : Bool) (before now later low : ℕ) (patient : Bool) (old new last : Progress) (half left : OpenLeaf)
+    → AsksHalf i v strict before now low old new half → IsStopped i v strict before later low patient new last left
+    → IsStopped i v strict before later low patient old last left
+half-stopped i v strict before now later low patient old new last half left asked stopped = record {
+  restless = stopped.restless;
+  tree = stopped.tree;
+  is = stopped.is;
+  bound = stopped.bound;
+  processed = let p = stopped.processed in let q = asked.processed in omega (arith, p, q);
+  falls = let f = stopped.falls in let e = ap (limit_of i) asked.best in omega (arith, f, e);
+}
+
+-- a turn of the half is one of the leaf
+pub half-ends : (i : Instance) (v : GraphView) (strict : Bool) (before now later low : ℕ) (patient : Bool) (old new last : Progress) (half : OpenLeaf) (end : TurnEnd)
+    → AsksHalf i v strict before now low old new half → EndsTurn i v strict before later low patient new last end
+    → EndsTurn i v strict before later low patient old last end
+half-ends i v strict before now later low patient old new last half Done asked turned = half-turned i v strict before now later low old new last half asked turned
+half-ends i v strict before now later low patient old new last half (Stopped left) asked stopped = half-stopped i v strict before now later low patient old new last half left asked stopped

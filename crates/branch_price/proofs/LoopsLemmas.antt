@@ -1,5 +1,5 @@
 -- The turns of a search, and its two ends.
-use Rattle.std.proofs.Common.{◌≡◌, ℕ, arith, ◌+◌, ◌≤◌, ◌<◌, max, Bool, Option, None, Some, IfSome, List, [], ◌∷◌, length, refl, sym, subst, ap, ◌∙◌}
+use Rattle.std.proofs.Common.{◌≡◌, ℕ, arith, ◌+◌, ◌≤◌, ◌<◌, max, Bool, IsTrue, Option, None, Some, IfSome, List, [], ◌∷◌, length, refl, sym, subst, ap, ◌∙◌}
 use Rattle.std.specs.Prelude.{◌≢◌}
 use Rattle.roster_model.specs.declared.instance.Done.{Done}
 use Rattle.roster_model.specs.declared.instance.Done.TheVariants.{Equal, NoRoster, TurnsOut}
@@ -11,7 +11,7 @@ use Rattle.roster_model.specs.SoundInstance.{IsSoundInstance}
 use Rattle.bound_laws.specs.Infeasible.{IsPlainlyInfeasible}
 use Rattle.certificates.specs.certificate_laws.Accepted.{bound_number}
 use Rattle.parse_graph.specs.Graphs.{GraphView, IsGraph}
-use Rattle.certificates.specs.growing_laws.Grown.{SomeTip, tip_bound, shown}
+use Rattle.certificates.specs.growing_laws.Grown.{Grown, SomeTip, tip_bound, shown}
 use Rattle.certificates.specs.growing_laws.Boxes.{IsOpenLeaf}
 use Rattle.certificates.specs.growing_laws.States.{IsTip}
 use Rattle.certificates.proofs.growing_laws.GrownLemmas.{some-map, some-both, least-bound}
@@ -24,8 +24,8 @@ use Rattle.candidate_rosters.specs.Offers.{limit_of, cost_of}
 use Rattle.candidate_rosters.proofs.Limits.{cost-most, limit-most}
 use Rattle.branch_price.specs.declared.progress.Progress.{Progress}
 use Rattle.branch_price.specs.Searching.{site_of, IsSearching}
-use Rattle.branch_price.specs.Steps.{AsksTurn, IsTurned, IsBegun}
-use Rattle.branch_price.specs.Ends.{IsNext, IsEnd, IsDoneAt, IsClosedBy}
+use Rattle.branch_price.specs.Steps.{AsksTurn, IsTurned, IsStopped, IsBegun}
+use Rattle.branch_price.specs.Ends.{IsNext, AsksEnd, IsEnd, IsEndOf, IsHalted, IsDoneAt, IsClosedBy}
 use Rattle.branch_price.specs.Loops.{IsLooping}
 use Rattle.branch_price.specs.Found.{HasNoArc}
 use Rattle.branch_price.specs.OldRosters.{ReachesOld}
@@ -38,6 +38,56 @@ begun-loops i v strict before turns p is =
     let t = is.is strict before in
     let none = is.none in
     record { low = 0; tree = t.0; is = t.1; rises = omega arith; within = omega (arith, none) }
+
+-- a leaf in hand that leaves the least bound
+module _ (i : Instance) (v : GraphView) (strict : Bool) (before now : ℕ) (p : Progress) (leaf : OpenLeaf) (t : Grown)
+    (is : IsSearching (site_of i v strict before) now leaf.bound (leaf ∷ []) p t) where
+  hand-open : SomeTip (λ up path k l. (k ≡ leaf.kept.seat) × IsOpenLeaf l × (tip_bound up l ≡ leaf.bound)) 0 (base_cuts i) t
+  hand-open = queued-leaf t leaf p.tree.waiting (base_cuts i) is.tree.queue
+
+  -- the tree shows its bound
+  pub hand-shown : shown t ≡ leaf.bound
+  hand-shown =
+      let least = least-bound 0 (base_cuts i) t in
+      let w = max 0 (shown t) in
+      let under : w ≤ leaf.bound = some-fact (w ≤ leaf.bound) 0 (base_cuts i) t
+      (some-both (λ up path k l. w ≤ tip_bound up l) (λ up path k l. (k ≡ leaf.kept.seat) × IsOpenLeaf l × (tip_bound up l ≡ leaf.bound)) (λ up path k l. w ≤ leaf.bound)
+      (λ up path k l g h. let e = h.2 in omega (arith, g, e)) 0 (base_cuts i) t least.each hand-open) in
+      let over : leaf.bound ≤ w = some-fact (leaf.bound ≤ w) 0 (base_cuts i) t
+      (some-both (IsTip i (limit_of i p.best) leaf.bound (length p.tree.seats) t) (λ up path k l. tip_bound up l ≡ w) (λ up path k l. leaf.bound ≤ w)
+      (λ up path k l g h. let b = g.bound in omega (arith, b, h)) 0 (base_cuts i) t is.tree.growing.tips least.attained) in
+      omega (arith, under, over)
+
+  -- the search ends with it, where the best roster costs more
+  pub hand-end : IsSoundInstance i → (IsPlainlyInfeasible i → ⊥) → (HasNoArc i → ⊥) → (turns : ℕ) → turns ≤ 10000 → p.tree.processed ≡ turns → leaf.bound < limit_of i p.best
+      → IsEnd i v strict before now turns p (Some leaf.bound) TurnsOut
+  hand-end sound busy arcs turns few all below = record {
+    low = leaf.bound;
+    tree = t;
+    final = final-is (site_of i v strict before) now leaf.bound (leaf ∷ []) p t is;
+    busy = busy;
+    arcless = λ none. absurd (arcs none);
+    shows = hand-shown;
+    small = let m = limit-most i p.best sound is.best in omega (arith, m, below);
+    within = omega (arith, all);
+    few = few;
+    ended = λ e. let s : leaf.bound ≡ limit_of i p.best = ap (bound_number i) e in omega (arith, s, below);
+    spent = λ done. record {
+      all = all;
+      few = λ points are.
+          let some = some-map (λ up path k l. (k ≡ leaf.kept.seat) × IsOpenLeaf l × (tip_bound up l ≡ leaf.bound)) (λ up path k l. IsOpenLeaf l) (λ up path k l h. h.1) 0 (base_cuts i) t hand-open in
+          let few = growing-few i strict (limit_of i p.best) leaf.bound (length p.tree.seats) points t sound is.tree.growing are some in
+          let e = is.tree.processed in
+          omega (arith, few, e, all);
+    };
+  }
+
+-- a search halts with a leaf in hand, after no more turns than it has, and its best roster is none dearer than before
+pub record Halts (i : Instance) (v : GraphView) (strict : Bool) (before now turns : ℕ) (patient : Bool) (old new : Progress) (left : OpenLeaf) : Type 0 where
+  pub halted : IsHalted i (record { graph = v; strict = strict; before = before; now = now; turns = new.tree.processed }) new left
+  pub few : new.tree.processed ≤ turns
+  pub restless : IsTrue patient → ⊥
+  pub falls : limit_of i new.best ≤ limit_of i old.best
 
 module _ (i : Instance) (v : GraphView) (strict : Bool) (before now turns : ℕ) (few : turns ≤ 10000) (old p : Progress) (leaf : OpenLeaf)
     (is : IsLooping i v strict before now turns old) (next : IsNext i old p (Some leaf)) where
@@ -105,44 +155,43 @@ module _ (i : Instance) (v : GraphView) (strict : Bool) (before now turns : ℕ)
       let s = ap (limit_of i) next.best in
       λ x costs. let r = reach x costs in omega (arith, f, s, r)
 
-  leaf-open : SomeTip (λ up path k l. (k ≡ leaf.kept.seat) × IsOpenLeaf l × (tip_bound up l ≡ leaf.bound)) 0 (base_cuts i) is.tree
-  leaf-open = queued-leaf is.tree leaf p.tree.waiting (base_cuts i) taken.1.tree.queue
-
-  -- the tree shows the bound of the leaf in hand
-  shown-leaf : shown is.tree ≡ leaf.bound
-  shown-leaf =
-      let least = least-bound 0 (base_cuts i) is.tree in
-      let w = max 0 (shown is.tree) in
-      let under : w ≤ leaf.bound = some-fact (w ≤ leaf.bound) 0 (base_cuts i) is.tree
-      (some-both (λ up path k l. w ≤ tip_bound up l) (λ up path k l. (k ≡ leaf.kept.seat) × IsOpenLeaf l × (tip_bound up l ≡ leaf.bound)) (λ up path k l. w ≤ leaf.bound)
-      (λ up path k l g h. let e = h.2 in omega (arith, g, e)) 0 (base_cuts i) is.tree least.each leaf-open) in
-      let over : leaf.bound ≤ w = some-fact (leaf.bound ≤ w) 0 (base_cuts i) is.tree
-      (some-both (IsTip i (limit_of i p.best) leaf.bound (length p.tree.seats) is.tree) (λ up path k l. tip_bound up l ≡ w) (λ up path k l. leaf.bound ≤ w)
-      (λ up path k l g h. let b = g.bound in omega (arith, b, h)) 0 (base_cuts i) is.tree taken.1.tree.growing.tips least.attained) in
-      omega (arith, under, over)
+  -- a turn that was stopped leaves a search with a leaf in hand
+  pub turn-halts : (same : Bool) → same ≡ strict → p.tree.processed ≢ turns → (later : ℕ) (patient : Bool) (new : Progress) (left : OpenLeaf)
+      → ((asked : AsksTurn i v same now p leaf) → IsStopped i v same asked.before later leaf.bound patient p new left)
+      → IsGraph i.grammar v → (IsPlainlyInfeasible i → ⊥) → (HasNoArc i → ⊥) → Halts i v strict before later turns patient old new left
+  turn-halts same e apart later patient new left turned graph busy arcs =
+      let asked : AsksTurn i v same now p leaf = record {
+        before = before;
+        tree = is.tree;
+        is = subst (λ (s : Bool). IsSearching (site_of i v s before) now leaf.bound (leaf ∷ []) p is.tree) (sym e) taken.1;
+        below = below;
+        few = let k = processed-less apart in omega (arith, k, few);
+      } in
+      let t : IsStopped i v same before later leaf.bound patient p new left = turned asked in
+      let k = processed-less apart in
+      let as_many = t.processed in
+      let f = t.falls in
+      let s = ap (limit_of i) next.best in
+      let at : IsSearching (site_of i v same before) later left.bound (left ∷ []) new t.tree =
+      subst (λ (n : ℕ). IsSearching (site_of i v same before) later n (left ∷ []) new t.tree) (sym t.bound) t.is in
+      record {
+        halted = record {
+          tree = t.tree;
+          is = subst (λ (b : Bool). IsSearching (site_of i v b before) later left.bound (left ∷ []) new t.tree) e at;
+          graph = graph;
+          busy = busy;
+          arcs = arcs;
+          turns = refl;
+          few = omega (arith, as_many, k, few);
+        };
+        few = omega (arith, as_many, k);
+        restless = t.restless;
+        falls = omega (arith, f, s);
+      }
 
   pub turns-end : IsSoundInstance i → (IsPlainlyInfeasible i → ⊥) → (HasNoArc i → ⊥) → p.tree.processed ≡ turns
       → IsEnd i v strict before now turns p (Some leaf.bound) TurnsOut
-  turns-end sound busy arcs all = record {
-    low = leaf.bound;
-    tree = is.tree;
-    final = final-is (site_of i v strict before) now leaf.bound (leaf ∷ []) p is.tree taken.1;
-    busy = busy;
-    arcless = λ none. absurd (arcs none);
-    shows = shown-leaf;
-    small = let m = limit-most i p.best sound taken.1.best in omega (arith, m, below);
-    within = omega (arith, all);
-    few = few;
-    ended = λ e. let s : leaf.bound ≡ limit_of i p.best = ap (bound_number i) e in omega (arith, s, below);
-    spent = λ done. record {
-      all = all;
-      few = λ points are.
-          let some = some-map (λ up path k l. (k ≡ leaf.kept.seat) × IsOpenLeaf l × (tip_bound up l ≡ leaf.bound)) (λ up path k l. IsOpenLeaf l) (λ up path k l h. h.1) 0 (base_cuts i) is.tree leaf-open in
-          let few = growing-few i strict (limit_of i p.best) leaf.bound (length p.tree.seats) points is.tree sound taken.1.tree.growing are some in
-          let e = taken.1.tree.processed in
-          omega (arith, few, e, all);
-    };
-  }
+  turns-end sound busy arcs all = hand-end i v strict before now p leaf is.tree taken.1 sound busy arcs turns few all below
 
 -- where no open leaf leaves a bound below the limit, the bound is the cost of the best roster
 module _ (i : Instance) (sound : IsSoundInstance i) (busy : IsPlainlyInfeasible i → ⊥) (arcs : HasNoArc i → ⊥) (v : GraphView) (graph : IsGraph i.grammar v) (strict : Bool) (before now turns : ℕ) (few : turns ≤ 10000) where
@@ -179,6 +228,44 @@ module _ (i : Instance) (sound : IsSoundInstance i) (busy : IsPlainlyInfeasible 
   closed-end old w (Some r) is next said closed =
       subst (λ (s : Option ℕ × Done). IsEnd i v strict before now turns (record { tree = w; best = Some r }) s.0 s.1) (sym closed)
       (closed-at old w (Some r) is next (Some r.cost) Equal refl (cost-most i r sound (next.taken v strict before now is.low is.tree is.is).1.best) (refl, refl) (λ e. absurd (cc)))
+
+-- a search halts with a leaf in hand
+module _ (i : Instance) (sound : IsSoundInstance i) (a : AsksEnd i) where
+  -- it is open where the best roster costs more than the leaf leaves
+  pub halted-open : (p : Progress) (leaf : OpenLeaf) → IsHalted i a p leaf → leaf.bound < limit_of i p.best → IsEndOf i a p (Some leaf.bound) TurnsOut
+  halted-open p leaf is below =
+      hand-end i a.graph a.strict a.before a.now p leaf is.tree is.is sound is.busy is.arcs a.turns is.few is.turns below
+
+  closed-hand : (w : TreeView) (best : Option Roster) (leaf : OpenLeaf) (is : IsHalted i a (record { tree = w; best = best }) leaf) → limit_of i best ≤ leaf.bound
+      → (bound : Option ℕ) (done : Done) → bound ≡ cost_of best → IfSome bound (λ b. b ≤ greatest_cost i) → IsDoneAt (cost_of best) bound done → done ≢ TurnsOut
+      → IsEndOf i a (record { tree = w; best = best }) bound done
+  closed-hand w best leaf is reached bound done same small ended more =
+      let under : shown is.tree ≤ limit_of i best = shown-limit i sound a.graph is.graph is.busy a.strict (limit_of i best) leaf.bound (length w.seats) is.tree is.is.tree.growing best is.is.best in
+      let over : shown is.tree ≡ leaf.bound = hand-shown i a.graph a.strict a.before a.now (record { tree = w; best = best }) leaf is.tree is.is in
+      let shows : shown is.tree ≡ limit_of i best = omega (arith, under, over, reached) in
+      record {
+        low = leaf.bound;
+        tree = is.tree;
+        final = final-is (site_of i a.graph a.strict a.before) a.now leaf.bound (leaf ∷ []) (record { tree = w; best = best }) is.tree is.is;
+        busy = is.busy;
+        arcless = λ none. absurd (is.arcs none);
+        shows = shows ∙ ap (bound_number i) (sym same);
+        small = small;
+        within = let e = is.turns in omega (arith, e);
+        few = is.few;
+        ended = ended;
+        spent = λ e. absurd (more e);
+      }
+
+  -- and else closed
+  pub halted-closed : (w : TreeView) (best : Option Roster) (leaf : OpenLeaf) → IsHalted i a (record { tree = w; best = best }) leaf → limit_of i best ≤ leaf.bound
+      → (said : Option ℕ × Done) → IsClosedBy best said → IsEndOf i a (record { tree = w; best = best }) said.0 said.1
+  halted-closed w None leaf is reached said closed =
+      subst (λ (s : Option ℕ × Done). IsEndOf i a (record { tree = w; best = None }) s.0 s.1) (sym closed)
+      (closed-hand w None leaf is reached None NoRoster refl tt (refl, refl) (λ e. absurd (cc)))
+  halted-closed w (Some r) leaf is reached said closed =
+      subst (λ (s : Option ℕ × Done). IsEndOf i a (record { tree = w; best = Some r }) s.0 s.1) (sym closed)
+      (closed-hand w (Some r) leaf is reached (Some r.cost) Equal refl (cost-most i r sound is.is.best) (refl, refl) (λ e. absurd (cc)))
 
 -- a search that ends before its turns are used is one of as many turns as it took
 pub stopped-end : (i : Instance) (v : GraphView) (strict : Bool) (before now turns : ℕ) → turns ≤ 10000 → (old p : Progress) (leaf : OpenLeaf)

@@ -1,6 +1,6 @@
 -- What the end of a node's master says, where it was solved and where it was given up.
-use Rattle.std.proofs.Common.{◌≡◌, ℕ, ◌≤◌, ◌<◌, ◌^◌, Bool, None, Some, List, [], ◌∷◌, length, subst}
-use Rattle.std.proofs.lemmas.Option.{slice_get_within, same_Some}
+use Rattle.std.proofs.Common.{◌≡◌, ℕ, ◌≤◌, ◌<◌, ◌^◌, Bool, IsTrue, List, [], ◌∷◌, length, subst}
+use Rattle.std.proofs.lemmas.Option.{slice_get_within}
 use Rattle.roster_model.specs.declared.grammar.Grammar.{Grammar}
 use Rattle.roster_model.specs.declared.instance.Cut.{Cut}
 use Rattle.roster_model.specs.declared.instance.Instance.{Instance}
@@ -16,13 +16,16 @@ use Rattle.tree_pool.specs.Pools.{PoolTree}
 use Rattle.node_columns.specs.declared.weights.Weight.{Weight}
 use Rattle.node_columns.specs.Weights.{AreWeights}
 use Rattle.node_master.specs.declared.ends.NodeEnd.{NodeEnd}
-use Rattle.node_master.specs.declared.ends.NodeEnd.TheVariants.{Best, Near, Failed}
+use Rattle.node_master.specs.declared.ends.Cause.{Cause}
+use Rattle.node_master.specs.declared.ends.NodeEnd.TheVariants.{Best, Near, Failed, Stopped}
 use Rattle.node_master.specs.declared.ends.Solution.TheVariants.{Exact as is_exact, Near as is_near}
 use Rattle.node_master.specs.Ends.{IsBest, IsNear}
 use Rattle.node_master.specs.Refusals.{EndsWell, counted}
 use Rattle.search_tree.specs.Trees.{last_count}
+use Rattle.branch_price.specs.declared.solved.Outcome.{Outcome}
+use Rattle.branch_price.specs.declared.solved.Outcome.TheVariants.{Solved as is_solved, Failed as is_failed, Stopped as is_stopped}
 use Rattle.branch_price.specs.declared.solved.Solved.{Solved}
-use Rattle.branch_price.specs.Solutions.{solved_of, IsSolved}
+use Rattle.branch_price.specs.Solutions.{outcome_of, IsSolved}
 use Rattle.branch_price.specs.Steps.{IsGivenUp}
 use Rattle.branch_price.proofs.StepsLemmas.{given-up}
 
@@ -58,17 +61,31 @@ solved-nearly i cuts pool prices weights few near = record {
   how = near;
 }
 
--- a master that ended with prices is solved
-pub solved-end : (i : Instance) (cuts : List Cut) (pool : List PoolTree) (strict : Bool) (end : NodeEnd) (s : Solved) → EndsWell i cuts pool strict end → solved_of end ≡ Some s → IsSolved i cuts pool s
-solved-end i cuts pool strict (Best prices value weights) s h e =
-    subst (λ (x : Solved). IsSolved i cuts pool x) (same_Some (record { prices = prices; weights = weights; solution = is_exact }) s e) (solved-exactly i cuts pool prices value weights h.0 h.1)
-solved-end i cuts pool strict (Near prices weights) s h e =
-    subst (λ (x : Solved). IsSolved i cuts pool x) (same_Some (record { prices = prices; weights = weights; solution = is_near }) s e) (solved-nearly i cuts pool prices weights h.0 h.1)
-solved-end i cuts pool strict (Failed cause) s h e = cc
+-- what an outcome says of the node
+abbrev ComesOf : Instance → List Cut → List PoolTree → ℕ → ℕ → Bool → Bool → Outcome → Type 0
+ComesOf i cuts pool now later strict patient (is_solved s) = IsSolved i cuts pool s
+ComesOf i cuts pool now later strict patient (is_failed cause) = IsGivenUp i strict now later cuts
+ComesOf i cuts pool now later strict patient is_stopped = (IsTrue patient → ⊥) × (later ≡ now)
 
--- any other one had a cause to be given up
-pub failed-end : (i : Instance) (cuts : List Cut) (pool : List PoolTree) (now later : ℕ) (strict : Bool) (end : NodeEnd) → EndsWell i cuts pool strict end → later ≡ counted now end → later ≤ last_count
-    → solved_of end ≡ None → IsGivenUp i strict now later cuts
-failed-end i cuts pool now later strict (Best prices value weights) h counts within e = cc
-failed-end i cuts pool now later strict (Near prices weights) h counts within e = cc
-failed-end i cuts pool now later strict (Failed cause) h counts within e = given-up i cuts pool now later strict cause h counts within
+comes-of : (i : Instance) (cuts : List Cut) (pool : List PoolTree) (now later : ℕ) (strict patient : Bool) (end : NodeEnd) → EndsWell i cuts pool strict patient end → later ≡ counted now end → later ≤ last_count
+    → ComesOf i cuts pool now later strict patient (outcome_of end)
+comes-of i cuts pool now later strict patient (Best prices value weights) h counts within = solved-exactly i cuts pool prices value weights h.0 h.1
+comes-of i cuts pool now later strict patient (Near prices weights) h counts within = solved-nearly i cuts pool prices weights h.0 h.1
+comes-of i cuts pool now later strict patient (Failed cause) h counts within = given-up i cuts pool now later strict patient cause h counts within
+comes-of i cuts pool now later strict patient Stopped h counts within = (h, counts)
+
+module _ (i : Instance) (cuts : List Cut) (pool : List PoolTree) (now later : ℕ) (strict patient : Bool) (end : NodeEnd) (well : EndsWell i cuts pool strict patient end) (counts : later ≡ counted now end) (within : later ≤ last_count) where
+  comes : (o : Outcome) → outcome_of end ≡ o → ComesOf i cuts pool now later strict patient o
+  comes o e = subst (λ (x : Outcome). ComesOf i cuts pool now later strict patient x) e (comes-of i cuts pool now later strict patient end well counts within)
+
+  -- a master that ended with prices is solved
+  pub solved-end : (s : Solved) → outcome_of end ≡ is_solved s → IsSolved i cuts pool s
+  solved-end s e = comes (is_solved s) e
+
+  -- one that was given up had a cause
+  pub failed-end : (cause : Cause) → outcome_of end ≡ is_failed cause → IsGivenUp i strict now later cuts
+  failed-end cause e = comes (is_failed cause) e
+
+  -- one that was stopped has no patient watch, and was not counted
+  pub stopped-end : outcome_of end ≡ is_stopped → (IsTrue patient → ⊥) × (later ≡ now)
+  stopped-end e = comes is_stopped e

@@ -1,5 +1,5 @@
 -- A leaf is processed: what the steps of the tree ask, and what they lead to.
-use Rattle.std.proofs.Common.{◌≡◌, ℕ, arith, ◌≤◌, ◌<◌, ◌+◌, ◌/◌, Bool, Option, Some, MatchOption, List, [], ◌∷◌, length, inl, inr, ◌⊎◌}
+use Rattle.std.proofs.Common.{◌≡◌, ℕ, arith, ◌≤◌, ◌<◌, ◌+◌, ◌/◌, Bool, IsTrue, Option, Some, MatchOption, List, [], ◌∷◌, length, inl, inr, ◌⊎◌, refl, sym, subst}
 use Rattle.std.specs.Prelude.{slice_get}
 use Rattle.roster_model.specs.declared.grammar.ArcKey.{ArcKey}
 use Rattle.roster_model.specs.declared.instance.Cut.{Cut}
@@ -14,7 +14,7 @@ use Rattle.certificates.specs.growing_laws.States.{IsPricedNode, IsLoosePath, Is
 use Rattle.open_nodes.specs.declared.leaf.Plan.{Plan}
 use Rattle.open_nodes.specs.declared.leaf.OpenLeaf.{OpenLeaf}
 use Rattle.search_tree.specs.Views.{TreeView}
-use Rattle.search_tree.specs.Trees.{IsPlan}
+use Rattle.search_tree.specs.Trees.{IsPlan, IsTree}
 use Rattle.search_tree.specs.Asked.{AsksLeaf, AsksPinned, AsksPriced, AsksFailed, IsProcessed}
 use Rattle.search_tree.proofs.TreeLaws.{limit-falls, count-rises}
 use Rattle.search_tree.specs.Trees.{last_count}
@@ -28,7 +28,7 @@ use Rattle.candidate_rosters.specs.declared.roster.Roster.{Roster}
 use Rattle.candidate_rosters.specs.Offers.{limit_of, IsBetter}
 use Rattle.branch_price.specs.declared.progress.Progress.{Progress}
 use Rattle.branch_price.specs.Searching.{site_of}
-use Rattle.branch_price.specs.Steps.{AsksNode, IsTurned, IsGivenUp}
+use Rattle.branch_price.specs.Steps.{AsksNode, IsTurned, IsStopped, IsGivenUp}
 
 -- the leaf in hand, once the best roster gave way to another one
 abbrev pub taken : (i : Instance) (v : GraphView) (strict : Bool) (before now low : ℕ) (p : Progress) (leaf : OpenLeaf) (cuts : List Cut) (best : Option Roster)
@@ -130,7 +130,51 @@ later-node i v strict before now later low p leaf cuts asked rises within = reco
     start = asked.is.start;
   };
   place = asked.place;
+  bound = asked.bound;
   few = asked.few;
+}
+
+-- the best roster may have given way to another one
+pub node-better : (i : Instance) (v : GraphView) (strict : Bool) (before now low : ℕ) (p : Progress) (leaf : OpenLeaf) (cuts : List Cut) (best : Option Roster)
+    → AsksNode i v strict before now low p leaf cuts → IsBetter i p.best best → AsksNode i v strict before now low (record { tree = p.tree; best = best }) leaf cuts
+node-better i v strict before now low p leaf cuts best asked better = record {
+  tree = asked.tree;
+  is = record {
+    tree = limit-falls (site_of i v strict before) (limit_of i p.best) (limit_of i best) now low (leaf ∷ []) p.tree asked.tree asked.is.tree better.falls;
+    best = better.good;
+    start = λ h. better.start (asked.is.start h);
+  };
+  place = asked.place;
+  bound = asked.bound;
+  few = asked.few;
+}
+
+-- a leaf that is processed then is processed
+pub better-turned : (i : Instance) (v : GraphView) (strict : Bool) (before now low : ℕ) (p : Progress) (best : Option Roster) (new : Progress)
+    → IsBetter i p.best best → IsTurned i v strict before now low (record { tree = p.tree; best = best }) new → IsTurned i v strict before now low p new
+better-turned i v strict before now low p best new better turned = record {
+  tree = turned.tree;
+  is = turned.is;
+  processed = turned.processed;
+  falls = let f = turned.falls in let b = better.falls in omega (arith, f, b);
+}
+
+-- the watch stopped the turn, and the leaf in hand is as before
+pub turn-stopped : (i : Instance) (v : GraphView) (strict : Bool) (before now later low : ℕ) (patient : Bool) (p : Progress) (leaf : OpenLeaf) (cuts : List Cut) (best : Option Roster)
+    → AsksNode i v strict before now low p leaf cuts → IsBetter i p.best best → (IsTrue patient → ⊥) → later ≡ now
+    → IsStopped i v strict before later low patient p (record { tree = p.tree; best = best }) leaf
+turn-stopped i v strict before now later low patient p leaf cuts best asked better restless same = record {
+  restless = restless;
+  tree = asked.tree;
+  is = record {
+    tree = subst (λ (n : ℕ). IsTree (site_of i v strict before) (limit_of i best) n low (leaf ∷ []) p.tree asked.tree) (sym same)
+        (limit-falls (site_of i v strict before) (limit_of i p.best) (limit_of i best) now low (leaf ∷ []) p.tree asked.tree asked.is.tree better.falls);
+    best = better.good;
+    start = λ h. better.start (asked.is.start h);
+  };
+  bound = asked.bound;
+  processed = refl;
+  falls = better.falls;
 }
 
 -- a count that was to rise rose, or stands at its last value
@@ -145,9 +189,9 @@ refusal now later rows e = by (order now last_count)
     by (inr le) = inr (inl (omega (arith, e, le)))
 
 -- a master that failed had a cause
-pub given-up : (i : Instance) (cuts : List Cut) (columns : List PoolTree) (now later : ℕ) (strict : Bool) (cause : Cause) → EndsWell i cuts columns strict (Failed cause)
+pub given-up : (i : Instance) (cuts : List Cut) (columns : List PoolTree) (now later : ℕ) (strict patient : Bool) (cause : Cause) → EndsWell i cuts columns strict patient (Failed cause)
     → later ≡ counted now (Failed cause) → later ≤ last_count → IsGivenUp i strict now later cuts
-given-up i cuts columns now later strict (Rows count) h counts within =
+given-up i cuts columns now later strict patient (Rows count) h counts within =
     record { hard = λ s. inl h.0; cause = inr (inr (omega (arith, counts), h.0)); within = within }
-given-up i cuts columns now later strict (Wide fault) h counts within = record { hard = h.hard; cause = refusal now later (length (rows_of i cuts)) counts; within = within }
-given-up i cuts columns now later strict (Spent pivots) h counts within = record { hard = h.hard; cause = refusal now later (length (rows_of i cuts)) counts; within = within }
+given-up i cuts columns now later strict patient (Wide fault) h counts within = record { hard = h.hard; cause = refusal now later (length (rows_of i cuts)) counts; within = within }
+given-up i cuts columns now later strict patient (Spent pivots) h counts within = record { hard = h.hard; cause = refusal now later (length (rows_of i cuts)) counts; within = within }

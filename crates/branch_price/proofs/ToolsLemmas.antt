@@ -11,7 +11,7 @@ use Rattle.candidate_rosters.specs.Offers.{IsBetter}
 use Rattle.candidate_rosters.proofs.PoolNumbers.{grown-more}
 use Rattle.std.specs.Prelude.{IfSome}
 use Rattle.branch_price.specs.declared.desk.SearchDesk.{SearchDesk}
-use Rattle.branch_price.specs.Desks.{AreTools, StayTools, CanFind, HasFound}
+use Rattle.branch_price.specs.Desks.{IsDesk, AreTools, StayTools, CanFind, HasFound}
 use Rattle.branch_price.proofs.BetterRosters.{better-more}
 
 pub grows-more : (d : Day) (a b c : List PoolTree) → Grows d a b → Grows d b c → Grows d a c
@@ -25,6 +25,10 @@ tools-later d a b k h = record { pool = h.pool.are; desk = h.desk }
 
 pub more-tools : (d : Day) (a b c : List PoolTree) (k l : SearchDesk) → StayTools d a b k → StayTools d b c l → StayTools d a c l
 more-tools d a b c k l h m = record { pool = grows-more d a b c h.pool m.pool; desk = m.desk }
+
+-- a desk on which other rosters were tried
+pub tried-tools : (d : Day) (a : List PoolTree) (k l : SearchDesk) → AreTools d a k → IsDesk d l → StayTools d a a l
+tried-tools d a k l h m = record { pool = record { are = h.pool; grown = ([], sym (append-nil a)) }; desk = m }
 
 -- what is as before is no worse
 pub same-better : (i : Instance) (best : Option Roster) → IfSome best (IsGoodRoster i) → IsBetter i best best

@@ -15,9 +15,9 @@ pub record AreNodeCuts (i : Instance) (cuts : List Cut) : Type 0 where
   pub each : Each (IsNodeCut i) cuts
   pub few : length cuts < 2 ^ 31
 
--- the master of the node ended well
-abbrev pub EndsAt : OpenNode → List PoolTree → Bool → NodeEnd → Type 0
-EndsAt n trees strict end = EndsWell n.searched.day.instance.now n.cuts.now trees strict end
+-- the master of the node ended well, asked with a watch that is patient or not
+abbrev pub EndsAt : OpenNode → List PoolTree → Bool → Bool → NodeEnd → Type 0
+EndsAt n trees strict patient end = EndsWell n.searched.day.instance.now n.cuts.now trees strict patient end
 
 -- a refused node was counted, and nothing else
 pub record IsCounted (r : Result NodeEnd MemoryLack) (before now : ℕ) : Type 0 where

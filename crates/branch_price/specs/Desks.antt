@@ -64,6 +64,11 @@ pub record HasOffered (i : Instance) (k : RosterDesk) (old new : Option Roster) 
   pub rosters : IsDeskFor i k
   pub better : IsBetter i old new
 
+-- the desk still is the day's, and the best roster gave way to none that costs more
+pub record HasTried (d : Day) (k : SearchDesk) (best later : Option Roster) : Type 0 where
+  pub desk : IsDesk d k
+  pub better : IsBetter d.instance.now best later
+
 -- the trees and the desk are the day's, and the best roster is allowed
 pub record CanFind (d : Day) (trees : List PoolTree) (k : SearchDesk) (best : Option Roster) : Type 0 where
   pub tools : AreTools d trees k

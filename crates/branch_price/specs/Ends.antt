@@ -13,7 +13,7 @@ use Rattle.bound_laws.specs.Points.{IsPoints}
 use Rattle.bound_laws.specs.near_laws.NearSharp.{IsSharpFor}
 use Rattle.certificates.specs.Nodes.{visits, pinned}
 use Rattle.certificates.specs.certificate_laws.Accepted.{bound_number}
-use Rattle.parse_graph.specs.Graphs.{GraphView}
+use Rattle.parse_graph.specs.Graphs.{GraphView, IsGraph}
 use Rattle.certificates.specs.growing_laws.Grown.{Grown, Leaf, fresh, valued, fixed, OnTips, tip_bound, busy, missed, shown, proof_of}
 use Rattle.certificates.specs.growing_laws.Boxes.{IsOpenLeaf}
 use Rattle.certificates.specs.growing_laws.Seats.{HoldTree}
@@ -107,6 +107,21 @@ IsEndOf i a p bound done = IsEnd i a.graph a.strict a.before a.now a.turns p bou
 -- what is found then, whoever asks
 abbrev pub IsFoundAtEnd : Instance → Progress → Option ℕ → Done → Found → Type 0
 IsFoundAtEnd i p bound done f = (a : AsksEnd i) → IsEndOf i a p bound done
+    → IsFound i a.strict a.turns f × AreCounted i a.before a.now f
+
+-- a search over so many turns has a leaf in hand, which leaves the least bound
+pub record IsHalted (i : Instance) (a : AsksEnd i) (p : Progress) (leaf : OpenLeaf) : Type 0 where
+  pub tree : Grown
+  pub is : IsSearching (site_of i a.graph a.strict a.before) a.now leaf.bound (leaf ∷ []) p tree
+  pub graph : IsGraph i.grammar a.graph
+  pub busy : IsPlainlyInfeasible i → ⊥
+  pub arcs : HasNoArc i → ⊥
+  pub turns : p.tree.processed ≡ a.turns
+  pub few : a.turns ≤ 10000
+
+-- what is found then, whoever asks
+abbrev pub IsFoundHalted : Instance → Progress → OpenLeaf → Found → Type 0
+IsFoundHalted i p leaf f = (a : AsksEnd i) → IsHalted i a p leaf
     → IsFound i a.strict a.turns f × AreCounted i a.before a.now f
 
 -- the shifts and the cost of the best roster

@@ -16,6 +16,5 @@ pub record IsLooping (i : Instance) (v : GraphView) (strict : Bool) (before now 
   pub within : p.tree.processed ≤ turns
 
 -- after so many turns a search of at most `turns` may end: one that a patient watch lets go on has used them all
-pub record MayStop (patient : Bool) (turns processed : ℕ) : Type 0 where
-  pub some : 1 ≤ processed
-  pub whole : IsTrue patient → processed ≡ turns
+abbrev pub MayStop : Bool → ℕ → ℕ → Type 0
+MayStop patient turns processed = IsTrue patient → processed ≡ turns

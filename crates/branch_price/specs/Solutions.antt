@@ -1,5 +1,5 @@
 -- Nodes whose master was solved, exactly or nearly.
-use Rattle.std.specs.Prelude.{ℕ, pos, ◌≡◌, ◌≤◌, ◌<◌, ◌<ℤ◌, ◌++◌, Option, None, Some, List, All, length}
+use Rattle.std.specs.Prelude.{ℕ, pos, ◌≡◌, ◌≤◌, ◌<◌, ◌<ℤ◌, ◌++◌, List, All, length}
 use Rattle.roster_model.specs.declared.instance.Cut.{Cut}
 use Rattle.roster_model.specs.declared.instance.Instance.{Instance}
 use Rattle.roster_model.specs.declared.instance.Mult.{Mult}
@@ -15,17 +15,20 @@ use Rattle.bound_laws.specs.master_laws.Rows.{rows_of}
 use Rattle.tree_pool.specs.Pools.{PoolTree}
 use Rattle.node_columns.specs.declared.weights.Weight.{Weight}
 use Rattle.node_master.specs.declared.ends.NodeEnd.{NodeEnd}
-use Rattle.node_master.specs.declared.ends.NodeEnd.TheVariants.{Best, Near, Failed}
+use Rattle.node_master.specs.declared.ends.NodeEnd.TheVariants.{Best, Near, Failed, Stopped}
 use Rattle.node_master.specs.declared.ends.Solution.{Solution}
 use Rattle.node_master.specs.declared.ends.Solution.TheVariants.{Exact as is_exact, Near as is_near}
 use Rattle.node_master.specs.Ends.{IsBest, IsNear}
+use Rattle.branch_price.specs.declared.solved.Outcome.{Outcome}
+use Rattle.branch_price.specs.declared.solved.Outcome.TheVariants.{Solved as is_solved, Failed as is_failed, Stopped as is_stopped}
 use Rattle.branch_price.specs.declared.solved.Solved.{Solved}
 
--- what is known of a node by the end of its master
-abbrev pub solved_of : NodeEnd → Option Solved
-solved_of (Best prices value weights) = Some (record { prices = prices; weights = weights; solution = is_exact })
-solved_of (Near prices weights) = Some (record { prices = prices; weights = weights; solution = is_near })
-solved_of (Failed cause) = None
+-- what comes of a master by its end
+abbrev pub outcome_of : NodeEnd → Outcome
+outcome_of (Best prices value weights) = is_solved (record { prices = prices; weights = weights; solution = is_exact })
+outcome_of (Near prices weights) = is_solved (record { prices = prices; weights = weights; solution = is_near })
+outcome_of (Failed cause) = is_failed cause
+outcome_of Stopped = is_stopped
 
 -- a basic solution of least cost, at some value, or one that shows the prices best
 abbrev pub IsSolvedBy : Solution → Instance → List Cut → List PoolTree → Prices → List Weight → Type 0

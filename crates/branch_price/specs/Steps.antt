@@ -12,6 +12,8 @@ use Rattle.search_tree.specs.Views.{IsPlace}
 use Rattle.search_tree.specs.Trees.{last_count}
 use Rattle.candidate_rosters.specs.Offers.{limit_of}
 use Rattle.branch_price.specs.declared.progress.Progress.{Progress}
+use Rattle.branch_price.specs.declared.turn_end.TurnEnd.{TurnEnd}
+use Rattle.branch_price.specs.declared.turn_end.TurnEnd.TheVariants.{Done, Stopped}
 use Rattle.branch_price.specs.Searching.{site_of, IsSearching}
 
 -- a leaf that was taken from those that wait
@@ -23,12 +25,13 @@ pub record AsksTurn (i : Instance) (v : GraphView) (strict : Bool) (now : ℕ) (
   pub below : leaf.bound < limit_of i p.best
   pub few : p.tree.processed < 10000
 
--- a leaf that is not processed, below these cuts
+-- a leaf that is not processed, below these cuts, and leaves the least bound
 pub record AsksNode (i : Instance) (v : GraphView) (strict : Bool) (before now low : ℕ) (p : Progress)
     (leaf : OpenLeaf) (cuts : List Cut) : Type 0 where
   pub tree : Grown
   pub is : IsSearching (site_of i v strict before) now low (leaf ∷ []) p tree
   pub place : IsPlace (base_cuts i) tree leaf.kept.seat leaf.bound cuts fresh
+  pub bound : leaf.bound ≡ low
   pub few : p.tree.processed < 10000
 
 -- one more node is processed, no leaf is in hand, and the best roster gave way to none that costs more
@@ -38,6 +41,23 @@ pub record IsTurned (i : Instance) (v : GraphView) (strict : Bool) (before now l
   pub is : IsSearching (site_of i v strict before) now low [] new tree
   pub processed : new.tree.processed ≡ old.tree.processed + 1
   pub falls : limit_of i new.best ≤ limit_of i old.best
+
+-- the watch stopped the turn, and is not patient: a leaf that leaves the least bound is in hand, as many nodes are
+-- processed as before, and the best roster gave way to none that costs more
+pub record IsStopped (i : Instance) (v : GraphView) (strict : Bool) (before now low : ℕ) (patient : Bool)
+    (old new : Progress) (leaf : OpenLeaf) : Type 0 where
+  pub restless : IsTrue patient → ⊥
+  pub tree : Grown
+  pub is : IsSearching (site_of i v strict before) now low (leaf ∷ []) new tree
+  pub bound : leaf.bound ≡ low
+  pub processed : new.tree.processed ≡ old.tree.processed
+  pub falls : limit_of i new.best ≤ limit_of i old.best
+
+-- a turn ends with its node processed, or stopped
+abbrev pub EndsTurn : Instance → GraphView → Bool → ℕ → ℕ → ℕ → Bool → Progress → Progress → TurnEnd → Type 0
+EndsTurn i v strict before now low patient old new Done = IsTurned i v strict before now low old new
+EndsTurn i v strict before now low patient old new (Stopped leaf) =
+    IsStopped i v strict before now low patient old new leaf
 
 -- the node's master failed for a cause that may be
 pub record IsGivenUp (i : Instance) (strict : Bool) (now later : ℕ) (cuts : List Cut) : Type 0 where

@@ -7,7 +7,8 @@ use Rattle.master_rows.specs.declared.search_day.day.Day.{Day}
 use Rattle.open_nodes.specs.declared.leaf.OpenLeaf.{OpenLeaf}
 use Rattle.branch_price.specs.declared.open_node.OpenNode.{OpenNode}
 use Rattle.branch_price.specs.declared.progress.Progress.{Progress}
-use Rattle.branch_price.specs.Steps.{AsksTurn, AsksNode, AsksHalf, IsTurned, IsGivenUp}
+use Rattle.branch_price.specs.declared.turn_end.TurnEnd.{TurnEnd}
+use Rattle.branch_price.specs.Steps.{AsksTurn, AsksNode, AsksHalf, IsTurned, IsGivenUp, EndsTurn}
 
 -- a leaf was taken
 abbrev pub IsTaken : GraphView → Progress → OpenLeaf → Type 0
@@ -23,11 +24,11 @@ IsHalfInHand v old leaf new half = (i : Instance) (strict : Bool) (now : ℕ)
 abbrev pub IsDue : Day → Bool → ℕ → Progress → OpenLeaf → Type 0
 IsDue d strict now p leaf = AsksTurn d.instance.now d.graph.now strict now p leaf
 
--- it is processed then, with that count
-abbrev pub TakesTurn : Day → Bool → ℕ → ℕ → Progress → OpenLeaf → Progress → Type 0
-TakesTurn d strict now later old leaf new =
+-- its turn ends then, with that count
+abbrev pub TakesTurn : Day → Bool → ℕ → ℕ → Bool → Progress → OpenLeaf → Progress → TurnEnd → Type 0
+TakesTurn d strict now later patient old leaf new end =
     (asked : AsksTurn d.instance.now d.graph.now strict now old leaf)
-    → IsTurned d.instance.now d.graph.now strict asked.before later leaf.bound old new
+    → EndsTurn d.instance.now d.graph.now strict asked.before later leaf.bound patient old new end
 
 -- a leaf below these cuts is not processed
 abbrev pub IsInHand : Day → Progress → OpenLeaf → List Cut → Type 0
@@ -53,11 +54,11 @@ abbrev pub IsOpenLeafAt : OpenNode → Bool → ℕ → Progress → OpenLeaf �
 IsOpenLeafAt n strict now p leaf = (before : ℕ) × (low : ℕ)
     × AsksNode n.searched.day.instance.now n.searched.day.graph.now strict before now low p leaf n.cuts.now
 
--- it is processed then, with that count
-abbrev pub IsTurnedOver : OpenNode → Bool → ℕ → ℕ → Progress → OpenLeaf → Progress → Type 0
-IsTurnedOver n strict now later old leaf new = (before low : ℕ)
+-- its turn ends then, with that count
+abbrev pub EndsTurnOver : OpenNode → Bool → ℕ → ℕ → Bool → Progress → OpenLeaf → Progress → TurnEnd → Type 0
+EndsTurnOver n strict now later patient old leaf new end = (before low : ℕ)
     → AsksNode n.searched.day.instance.now n.searched.day.graph.now strict before now low old leaf n.cuts.now
-    → IsTurned n.searched.day.instance.now n.searched.day.graph.now strict before later low old new
+    → EndsTurn n.searched.day.instance.now n.searched.day.graph.now strict before later low patient old new end
 
 -- a leaf at the node is not processed, and its master was given up
 abbrev pub IsGivenUpAt : OpenNode → Progress → OpenLeaf → Type 0

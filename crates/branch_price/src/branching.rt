@@ -12,16 +12,18 @@ ghost use Rattle.search_watch.specs.Within.{IsWithin};
 
 use crate::arcless::search_arcless;
 use crate::desk::{SearchBench, SearchDesk};
-use crate::ended::{closed_end, found};
+use crate::ended::{closed_end, found, halted};
+use crate::first::offer_early;
 use crate::found::Found;
 use crate::infeasible::{derived, no_roster};
 use crate::job::{Job, SearchedDay};
 use crate::old_roster::offer_start;
-use crate::progress::Progress;
+use crate::progress::{Progress, tell_best};
 use crate::start::Start;
 use crate::stop::stops_at;
 use crate::task::SearchTask;
 use crate::turn::turn;
+use crate::turn_end::TurnEnd;
 use candidate_rosters::least_roster;
 use check_parts::is_plainly_infeasible;
 use master_rows::Day;
@@ -33,12 +35,13 @@ use search_watch::Watch;
 use std::alloc::Global;
 
 /// Returns how far a search is at its begin: the root is not processed, and the best roster is that of
-/// equal shifts of least price, or the old one, where they are allowed.
-fn begin(
+/// equal shifts of least price, the old one, or on a wide day one that is completed from none, where they are allowed.
+fn begin<W: Watch>(
     alloc: Global,
     job: &Job,
     desk: &mut SearchDesk,
     pool: &mut Pool,
+    watch: &W,
 ) -> Result<Progress, Memory>
     requires job { IsJob job.now }
     requires tools { AreTools job.now.searched.day pool.old desk.old }
@@ -48,7 +51,9 @@ fn begin(
 {
     let day = &job.searched.day;
     let mut best = least_roster(alloc, day, &mut desk.pricing, pool, &mut desk.rosters)?;
-    offer_start(alloc, job, desk, pool, &mut best)?;
+    let has_old = offer_start(alloc, job, desk, pool, &mut best)?;
+    offer_early(alloc, day, has_old, desk, &mut best, watch)?;
+    tell_best(&best, watch);
     Ok(Progress {
         tree: SearchTree::new(alloc)?,
         best,
@@ -73,7 +78,7 @@ fn search_along<M: Master, W: Watch>(
     ensures strict_stays { M.strict master.new ≡ M.strict master.old }
     ensures pool { Grows job.now.searched.day pool.old pool.new }
 {
-    let mut progress = begin(alloc, job, &mut bench.desk, pool)?;
+    let mut progress = begin(alloc, job, &mut bench.desk, pool, watch)?;
     while let Some(leaf) = progress.next(job.searched.day.instance) {
         if stops_at(&progress, job.turns, leaf.bound, watch) {
             return found(
@@ -84,7 +89,7 @@ fn search_along<M: Master, W: Watch>(
                 Done::TurnsOut,
             );
         }
-        turn(
+        let end = turn(
             alloc,
             &job.searched,
             bench,
@@ -92,7 +97,14 @@ fn search_along<M: Master, W: Watch>(
             master,
             &mut progress,
             leaf,
+            watch,
         )?;
+        match end {
+            TurnEnd::Done => {}
+            TurnEnd::Stopped(leaf) => {
+                return halted(alloc, job.searched.day.instance, progress, leaf);
+            }
+        }
     }
     let (bound, done) = closed_end(&progress.best);
     found(alloc, job.searched.day.instance, progress, bound, done)
@@ -187,8 +199,10 @@ pub fn search_from<M: Master, W: Watch>(
 }
 
 /// Searches for a roster of least cost, with at most so many turns, 1 to 10,000. Each turn processes one
-/// node, one of least bound first. Between two turns the watch is told how far the search is, and may stop it:
-/// then what is found is what so many turns find as were taken. A patient watch stops none.
+/// node, one of least bound first. Between two turns the watch is told how far the search is, and may stop it; it
+/// is asked within a turn too, and where it says that the search is over that turn ends early, or is not taken.
+/// All that is said of what is found holds for the number of turns that were taken, from 0; the roster may be
+/// better than so many turns would find. A patient watch stops none.
 ///
 /// The certificate is sound and accepted, its bound is what its tree shows, and its shifts stand in order
 /// of their groups and then of their bytes. The bound is the cost, or both say that no roster is allowed,

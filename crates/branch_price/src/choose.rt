@@ -17,6 +17,7 @@ use candidate_rosters::{Roster, limit, offer_counts};
 use node_master::Pool;
 use open_nodes::Plan;
 use roster_model::Memory;
+use search_watch::{Watch, Work};
 use std::alloc::Global;
 
 /// Returns the split of an arc at its least count.
@@ -51,7 +52,7 @@ fn plan_by_weights(alloc: Global, node: &SolvedNode, loose: u32) -> Result<Plan,
 /// # Errors
 ///
 /// `Memory` where memory runs out.
-pub(crate) fn plan_for(
+pub(crate) fn plan_for<W: Watch>(
     alloc: Global,
     node: &OpenNode,
     solved: &Solved,
@@ -59,6 +60,7 @@ pub(crate) fn plan_for(
     desk: &mut SearchDesk,
     pool: &mut Pool,
     best: &mut Option<Roster>,
+    watch: &W,
 ) -> Result<Option<Plan>, Memory>
     requires node { IsOpenNode node.now }
     requires shown { IsShown node.now.searched.day.instance.now node.now.cuts.now pool.old solved.now value }
@@ -70,8 +72,9 @@ pub(crate) fn plan_for(
     if limit(instance, best) <= value {
         return Ok(None);
     }
+    watch.tell(Work::Splits);
     let weights = solved.weights.as_slice();
-    let preferred = preferred_arc(alloc, node, weights, best, pool, &mut desk.splits)?;
+    let preferred = preferred_arc(alloc, node, weights, best, pool, &mut desk.splits, watch)?;
     let weighed = SolvedNode {
         day: node.searched.day,
         cuts: node.cuts,

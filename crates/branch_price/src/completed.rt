@@ -5,6 +5,7 @@ ghost use Rattle.branch_price.specs.Nodes.{IsOpenNode, IsSmall};
 ghost use Rattle.branch_price.specs.Rounded.{AreFewer};
 
 use crate::desk::SearchDesk;
+use crate::first::is_wide;
 use crate::offered::offer_trees;
 use crate::open_node::OpenNode;
 use crate::rounded::push_wholes;
@@ -16,6 +17,7 @@ use node_master::{FULL, Pool, Weight};
 use parse_graph::Graph;
 use roster_model::{Instance, List, Memory, Prices};
 use roster_moves::{Guide, complete};
+use search_watch::{Watch, Work};
 use std::alloc::Global;
 
 /// At every which node a roster is looked for by a dive, which takes about as long as it takes to price the
@@ -29,9 +31,6 @@ const PASSES: u32 = 2;
 /// How many they may take at the first node in all, times that square; at later nodes there are no more.
 const FIRST_MOST: u32 = 32;
 
-/// A day is wide where its graph has so many arcs.
-const WIDE_ARCS: u64 = 8_192;
-
 /// So many further passes are allowed for each tree of the pool, each of which took a pass to be found.
 const FURTHER: u64 = 2;
 
@@ -41,7 +40,7 @@ const MOST_FURTHER: u64 = 4096;
 /// Returns how many further passes over the graph the moves may take at the first node of a wide day: as many as
 /// the trees of its pool took and again so many, within a bound.
 fn further_passes(graph: &Graph, pool: &Pool) -> u32 {
-    if (graph.arcs().len() as u64) < WIDE_ARCS {
+    if !is_wide(graph) {
         return 0;
     }
     let passes = (pool.len() as u64).saturating_mul(FURTHER);
@@ -57,9 +56,14 @@ pub(crate) struct Stage {
     pub bound: u64,
 }
 
+/// Says whether a roster is looked for by a dive at a node.
+fn dives_at(stage: &Stage, pool: &Pool) -> bool {
+    stage.processed % EVERY == 0 && pool.len() < FULL
+}
+
 /// Returns what steers the moves of a roster at a node that has these prices; at the first node they may take
 /// further passes.
-fn guide_of<'a>(graph: &Graph, pool: &Pool, prices: &'a Prices, stage: &Stage) -> Guide<'a> {
+pub(crate) fn guide_of<'a>(graph: &Graph, pool: &Pool, prices: &'a Prices, stage: &Stage) -> Guide<'a> {
     let is_first = stage.processed == 0;
     Guide {
         prices,
@@ -85,7 +89,12 @@ fn wholes(alloc: Global, instance: &Instance, weights: &[Weight]) -> Result<List
 }
 
 /// Offers the roster of these trees, completed and made better.
-fn offer_begun(
+///
+/// # Errors
+///
+/// `Memory` where memory runs out; the best roster is an allowed one still then, and the pool has its trees
+/// under their numbers, and perhaps further trees of the day.
+pub(crate) fn offer_begun<W: Watch>(
     alloc: Global,
     day: &Day,
     begun: &[usize],
@@ -93,13 +102,14 @@ fn offer_begun(
     desk: &mut SearchDesk,
     pool: &mut Pool,
     best: &mut Option<Roster>,
+    watch: &W,
 ) -> Result<(), Memory>
     requires day { IsDay day.now }
     requires begun { All (λ c. c < length pool.old) begun.now }
     requires find { CanFind day.now pool.old desk.old best.old }
     ensures { HasFound day.now pool.old pool.new desk.new best.old best.new }
 {
-    let columns = complete(alloc, day, begun, guide, &mut desk.pricing, pool)?;
+    let columns = complete(alloc, day, begun, guide, &mut desk.pricing, pool, watch)?;
     offer_trees(
         alloc,
         day.instance,
@@ -111,13 +121,14 @@ fn offer_begun(
 }
 
 /// Offers the roster of the trees that a dive fixes, completed and made better. Says whether it fixed any.
-fn offer_dived(
+fn offer_dived<W: Watch>(
     alloc: Global,
     node: &OpenNode,
     guide: &Guide,
     desk: &mut SearchDesk,
     pool: &mut Pool,
     best: &mut Option<Roster>,
+    watch: &W,
 ) -> Result<bool, Memory>
     requires node { IsOpenNode node.now }
     requires small { IsSmall node.now.searched.day.instance.now node.now.cuts.now }
@@ -133,16 +144,17 @@ fn offer_dived(
         limit(day.instance, best),
         &mut desk.pricing.pricer,
         pool,
+        watch,
     )?;
     if begun.is_empty() {
         return Ok(false);
     }
-    offer_begun(alloc, day, begun.as_slice(), guide, desk, pool, best)?;
+    offer_begun(alloc, day, begun.as_slice(), guide, desk, pool, best, watch)?;
     Ok(true)
 }
 
 /// Offers the roster of the trees of a solution, with weights rounded down, completed and made better.
-fn offer_completed(
+fn offer_completed<W: Watch>(
     alloc: Global,
     day: &Day,
     weights: &[Weight],
@@ -150,6 +162,7 @@ fn offer_completed(
     desk: &mut SearchDesk,
     pool: &mut Pool,
     best: &mut Option<Roster>,
+    watch: &W,
 ) -> Result<(), Memory>
     requires day { IsDay day.now }
     requires weights { All (λ w. w.column < length pool.old) weights.now }
@@ -157,18 +170,19 @@ fn offer_completed(
     ensures { HasFound day.now pool.old pool.new desk.new best.old best.new }
 {
     let begun = wholes(alloc, day.instance, weights)?;
-    offer_begun(alloc, day, begun.as_slice(), guide, desk, pool, best)
+    offer_begun(alloc, day, begun.as_slice(), guide, desk, pool, best, watch)
 }
 
 /// Offers a roster, unless the best one already costs no more than the bound that the node leaves: at the
 /// first node and at every second one after it that of the trees that a dive fixes; at the others, and where
-/// the dive fixes none, that of the solution's trees.
+/// the dive fixes none, that of the solution's trees. Where the search is over it offers none but that of the
+/// solution's trees, and that only where there is no best one.
 ///
 /// # Errors
 ///
 /// `Memory` where memory runs out; the best roster is an allowed one still then, and the pool has its trees
 /// under their numbers, and perhaps further trees of the day.
-pub(crate) fn offer_at_node(
+pub(crate) fn offer_at_node<W: Watch>(
     alloc: Global,
     node: &OpenNode,
     solved: &Solved,
@@ -176,6 +190,7 @@ pub(crate) fn offer_at_node(
     desk: &mut SearchDesk,
     pool: &mut Pool,
     best: &mut Option<Roster>,
+    watch: &W,
 ) -> Result<(), Memory>
     requires node { IsOpenNode node.now }
     requires small { IsSmall node.now.searched.day.instance.now node.now.cuts.now }
@@ -184,16 +199,18 @@ pub(crate) fn offer_at_node(
     ensures { HasFound node.now.searched.day pool.old pool.new desk.new best.old best.new }
 {
     let day = &node.searched.day;
-    if limit(day.instance, best) <= stage.bound {
+    let is_over = watch.is_over();
+    if limit(day.instance, best) <= stage.bound || is_over && best.is_some() {
         return Ok(());
     }
+    watch.tell(Work::Rosters);
     let guide = guide_of(day.graph, pool, &solved.prices, stage);
-    if stage.processed % EVERY == 0
-        && pool.len() < FULL
-        && offer_dived(alloc, node, &guide, desk, pool, best)?
+    if !is_over
+        && dives_at(stage, pool)
+        && offer_dived(alloc, node, &guide, desk, pool, best, watch)?
     {
         return Ok(());
     }
     let weights = solved.weights.as_slice();
-    offer_completed(alloc, day, weights, &guide, desk, pool, best)
+    offer_completed(alloc, day, weights, &guide, desk, pool, best, watch)
 }

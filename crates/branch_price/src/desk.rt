@@ -30,6 +30,8 @@ pub(crate) struct SearchDesk {
     pub wanted: Vec<usize>,
     /// What is known of splits.
     pub splits: SplitHints,
+    /// Whether a first roster was looked for.
+    pub has_first: bool,
 }
 
 /// What a search works on, beside its tree.
@@ -59,6 +61,7 @@ impl SearchDesk {
                 rosters,
                 wanted: Vec::new(alloc),
                 splits: SplitHints { gains, old },
+                has_first: false,
             }),
             Err(fault) => {
                 drop(pricing);

@@ -1,12 +1,13 @@
 ghost use Rattle.std.specs.Prelude.{◌≡◌, IfOk};
 ghost use Rattle.roster_model.specs.SoundInstance.{IsSoundInstance};
 ghost use Rattle.candidate_rosters.specs.Offers.{cost_of};
-ghost use Rattle.branch_price.specs.Ends.{AsksEnd, IsEndOf, IsFoundAtEnd, IsStatedBy, IsClosedBy};
+ghost use Rattle.branch_price.specs.Ends.{AsksEnd, IsEndOf, IsFoundAtEnd, IsHalted, IsFoundHalted, IsStatedBy, IsClosedBy};
 
 use crate::found::Found;
 use crate::progress::Progress;
-use candidate_rosters::Roster;
+use candidate_rosters::{Roster, limit};
 use certificates::Cert;
+use open_nodes::OpenLeaf;
 use roster_model::{Done, Instance, List, Memory, Shift};
 use std::alloc::Global;
 
@@ -62,4 +63,28 @@ pub(crate) fn closed_end(best: &Option<Roster>) -> (Option<u64>, Done)
         Some(roster) => (Some(roster.cost), Done::Equal),
         None => (None, Done::NoRoster),
     }
+}
+
+/// Returns what a search found that its watch stopped within a turn, with this leaf in hand. It is closed where the
+/// best roster costs no more than the leaf's bound, which no open leaf is below.
+///
+/// # Errors
+///
+/// `Memory` where memory runs out; nothing is kept then.
+pub(crate) fn halted(
+    alloc: Global,
+    instance: &Instance,
+    progress: Progress,
+    leaf: OpenLeaf,
+) -> Result<Found, Memory>
+    requires sound { IsSoundInstance instance.now }
+    requires halted { (a : AsksEnd instance.now) × IsHalted instance.now a progress leaf }
+    ensures cost { IfOk result (λ f. f.cert.cost ≡ cost_of progress.best) }
+    ensures found { IfOk result (IsFoundHalted instance.now progress leaf) }
+{
+    if limit(instance, &progress.best) <= leaf.bound {
+        let (bound, done) = closed_end(&progress.best);
+        return found(alloc, instance, progress, bound, done);
+    }
+    found(alloc, instance, progress, Some(leaf.bound), Done::TurnsOut)
 }

@@ -1,26 +1,30 @@
-ghost use Rattle.std.specs.Prelude.{◌≡◌, ◌≤◌, OnOk};
+ghost use Rattle.std.specs.Prelude.{◌≡◌, ◌≤◌, IfOk, OnOk};
 ghost use Rattle.bound_laws.specs.Pinned.{IsPinned};
 ghost use Rattle.branch_price.specs.Desks.{AreTools, StayTools, IsBench, StayBench};
 ghost use Rattle.branch_price.specs.Jobs.{IsBusyDay};
 ghost use Rattle.branch_price.specs.Nodes.{IsOpenNode};
 ghost use Rattle.branch_price.specs.Solutions.{IsSolved};
 ghost use Rattle.branch_price.specs.Turns.{IsInHand, IsTurnedBelow, IsLeafAt, IsTurnedAt};
-ghost use Rattle.branch_price.specs.Turns.{IsOpenLeafAt, IsTurnedOver, IsGivenUpAt, IsTurnedFailing};
+ghost use Rattle.branch_price.specs.Turns.{IsOpenLeafAt, EndsTurnOver, IsGivenUpAt, IsTurnedFailing};
 
 use crate::asking::ask_master;
 use crate::choose::plan_for;
 use crate::completed::{Stage, offer_at_node};
 use crate::counts::arc_at;
 use crate::desk::{SearchBench, SearchDesk, want};
+use crate::first::offer_late;
+use crate::moved::offer_without_prices;
 use crate::open_node::OpenNode;
 use crate::pinned::{offer_least, pinned_value};
-use crate::progress::Progress;
-use crate::solved::{Solved, solved_of};
+use crate::progress::{Progress, tell_best};
+use crate::solved::{Outcome, Solved, outcome_of};
+use crate::turn_end::TurnEnd;
 use crate::value::shown_value;
 use master_rows::Day;
-use node_master::{Master, Pool};
+use node_master::{Cause, Master, Pool};
 use open_nodes::OpenLeaf;
 use roster_model::Memory;
+use search_watch::Watch;
 use std::alloc::Global;
 
 /// Processes a leaf whose path leaves each arc one count: offers the roster of these counts, and says what
@@ -72,7 +76,7 @@ fn fail_leaf(node: &OpenNode, progress: &mut Progress, leaf: OpenLeaf) -> Result
 }
 
 /// Processes a leaf whose master is solved: lets it wait with its prices.
-fn best_leaf(
+fn best_leaf<W: Watch>(
     alloc: Global,
     node: &OpenNode,
     solved: Solved,
@@ -80,6 +84,7 @@ fn best_leaf(
     pool: &mut Pool,
     progress: &mut Progress,
     leaf: OpenLeaf,
+    watch: &W,
 ) -> Result<(), Memory>
     requires node { IsOpenNode node.now }
     requires solved { IsSolved node.now.searched.day.instance.now node.now.cuts.now pool.old solved }
@@ -93,30 +98,79 @@ fn best_leaf(
         return Err(Memory);
     };
     let value = shown_value(&node.searched, &solved.prices, node.cuts, &mut desk.pricing);
-    let Ok(plan) = plan_for(alloc, node, &solved, value, desk, pool, &mut progress.best) else {
+    let Ok(plan) = plan_for(
+        alloc,
+        node,
+        &solved,
+        value,
+        desk,
+        pool,
+        &mut progress.best,
+        watch,
+    ) else {
         drop(solved);
         return Err(Memory);
     };
+    tell_best(&progress.best, watch);
     let stage = Stage {
         processed: progress.tree.processed(),
         bound: leaf.bound.max(value),
     };
-    let Ok(()) = offer_at_node(alloc, node, &solved, &stage, desk, pool, &mut progress.best) else {
+    let Ok(()) = offer_at_node(
+        alloc,
+        node,
+        &solved,
+        &stage,
+        desk,
+        pool,
+        &mut progress.best,
+        watch,
+    ) else {
         drop(solved);
         return Err(Memory);
     };
     progress.tree.price(leaf, solved.prices, value, plan)
 }
 
+/// Processes a leaf whose master was given up, once a roster is offered where one is due.
+fn give_up_leaf<W: Watch>(
+    alloc: Global,
+    node: &OpenNode,
+    cause: Cause,
+    desk: &mut SearchDesk,
+    pool: &mut Pool,
+    progress: &mut Progress,
+    leaf: OpenLeaf,
+    watch: &W,
+) -> Result<(), Memory>
+    requires node { IsOpenNode node.now }
+    requires tools { AreTools node.now.searched.day pool.old desk.old }
+    requires leaf { IsGivenUpAt node.now progress.old leaf }
+    ensures turned { OnOk result (IsTurnedFailing node.now progress.old leaf progress.new) }
+    ensures tools { StayTools node.now.searched.day pool.old pool.new desk.new }
+{
+    let day = &node.searched.day;
+    let stage = Stage {
+        processed: progress.tree.processed(),
+        bound: leaf.bound,
+    };
+    let best = &mut progress.best;
+    offer_late(alloc, day, stage.processed, desk, best, watch)?;
+    tell_best(&progress.best, watch);
+    let best = &mut progress.best;
+    offer_without_prices(alloc, day, cause, &stage, desk, pool, best, watch)?;
+    fail_leaf(node, progress, leaf)
+}
+
 /// Processes a leaf whose path leaves an arc more than one count: prices it, or splits it where its master
-/// fails.
+/// fails. Where the watch stops its master the leaf stays as it is, and a first roster is offered still.
 ///
 /// # Errors
 ///
 /// `Memory` where memory runs out; nothing is said of how far the search is then. The master's count of
 /// refusals has not fallen, and the pool has its trees under their numbers, and perhaps further trees of the
 /// day.
-pub(crate) fn price_leaf<M: Master>(
+pub(crate) fn price_leaf<M: Master, W: Watch>(
     alloc: Global,
     node: &OpenNode,
     desk: &mut SearchDesk,
@@ -124,19 +178,32 @@ pub(crate) fn price_leaf<M: Master>(
     master: &mut M,
     progress: &mut Progress,
     leaf: OpenLeaf,
-) -> Result<(), Memory>
+    watch: &W,
+) -> Result<TurnEnd, Memory>
     requires node { IsOpenNode node.now }
     requires tools { AreTools node.now.searched.day pool.old desk.old }
     requires leaf { IsOpenLeafAt node.now (M.strict master.old) (M.refused master.old) progress.old leaf }
-    ensures turned { OnOk result (IsTurnedOver node.now (M.strict master.old) (M.refused master.old)
-        (M.refused master.new) progress.old leaf progress.new) }
+    ensures turned { IfOk result (EndsTurnOver node.now (M.strict master.old) (M.refused master.old)
+        (M.refused master.new) (W.patient watch.now) progress.old leaf progress.new) }
     ensures rises { M.refused master.old ≤ M.refused master.new }
     ensures strict_stays { M.strict master.new ≡ M.strict master.old }
     ensures tools { StayTools node.now.searched.day pool.old pool.new desk.new }
 {
-    let end = ask_master(alloc, node, desk, pool, master)?;
-    match solved_of(end) {
-        Some(solved) => best_leaf(alloc, node, solved, desk, pool, progress, leaf),
-        None => fail_leaf(node, progress, leaf),
+    let end = ask_master(alloc, node, desk, pool, master, watch)?;
+    match outcome_of(end) {
+        Outcome::Solved(solved) => {
+            best_leaf(alloc, node, solved, desk, pool, progress, leaf, watch)?;
+            Ok(TurnEnd::Done)
+        }
+        Outcome::Failed(cause) => {
+            give_up_leaf(alloc, node, cause, desk, pool, progress, leaf, watch)?;
+            Ok(TurnEnd::Done)
+        }
+        Outcome::Stopped => {
+            let processed = progress.tree.processed();
+            let best = &mut progress.best;
+            offer_late(alloc, &node.searched.day, processed, desk, best, watch)?;
+            Ok(TurnEnd::Stopped(leaf))
+        }
     }
 }

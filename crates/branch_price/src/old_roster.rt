@@ -14,7 +14,7 @@ use roster_model::{Instance, Memory, Shift};
 use roster_moves::add_words;
 use std::alloc::Global;
 
-/// Offers the roster of old shifts, at their prices on the day.
+/// Offers the roster of old shifts, at their prices on the day, and says whether there are some and they are allowed.
 ///
 /// # Errors
 ///
@@ -25,7 +25,7 @@ fn offer_shifts(
     shifts: &[Shift],
     rosters: &mut RosterDesk,
     best: &mut Option<Roster>,
-) -> Result<(), Memory>
+) -> Result<bool, Memory>
     requires shifts { Each (IsSoundShift instance.now) shifts.now }
     requires few { length shifts.now ≤ 64 }
     requires offer { CanOffer instance.now rosters.old best.old }
@@ -33,11 +33,13 @@ fn offer_shifts(
     ensures offered { HasOffered instance.now rosters.new best.old best.new }
 {
     let found = roster_again(alloc, instance, shifts, rosters)?;
+    let is_allowed = !shifts.is_empty() && found.is_some();
     offer(instance, best, found);
-    Ok(())
+    Ok(is_allowed)
 }
 
-/// Offers the roster of an old certificate, and keeps its trees and its splits as hints.
+/// Offers the roster of an old certificate, and keeps its trees and its splits as hints. Says whether the roster
+/// has shifts and is allowed.
 ///
 /// # Errors
 ///
@@ -49,14 +51,14 @@ pub(crate) fn offer_start(
     desk: &mut SearchDesk,
     pool: &mut Pool,
     best: &mut Option<Roster>,
-) -> Result<(), Memory>
+) -> Result<bool, Memory>
     requires job { IsJob job.now }
     requires find { CanFind job.now.searched.day pool.old desk.old best.old }
     ensures reaches { OnOk result (ReachesStart job.now best.new) }
     ensures found { HasFound job.now.searched.day pool.old pool.new desk.new best.old best.new }
 {
     let day = &job.searched.day;
-    offer_shifts(
+    let is_allowed = offer_shifts(
         alloc,
         day.instance,
         job.start.shifts,
@@ -66,5 +68,5 @@ pub(crate) fn offer_start(
     desk.splits.old = OldSplits::of(alloc, job.start.nodes)?;
     let pricer = &mut desk.pricing.pricer;
     add_words(alloc, day, job.start.shifts, pricer, pool)?;
-    Ok(())
+    Ok(is_allowed)
 }

@@ -6,6 +6,7 @@ use crate::rounded::in_parts;
 use candidate_rosters::{Roster, limit};
 use node_master::{Pool, Weight};
 use roster_model::{List, Memory};
+use search_watch::Watch;
 use split_probes::{Share, SplitNode, best_arc};
 use std::alloc::Global;
 
@@ -35,13 +36,14 @@ fn shares_of(alloc: Global, weights: &[Weight]) -> Result<List<Share>, Memory> {
 /// # Errors
 ///
 /// `Memory` where memory runs out; there is no answer then.
-pub(crate) fn preferred_arc(
+pub(crate) fn preferred_arc<W: Watch>(
     alloc: Global,
     node: &OpenNode,
     weights: &[Weight],
     best: &Option<Roster>,
     pool: &Pool,
     splits: &mut SplitHints,
+    watch: &W,
 ) -> Result<Option<u32>, Memory>
     requires node { IsOpenNode node.now }
     requires small { IsSmall node.now.searched.day.instance.now node.now.cuts.now }
@@ -62,5 +64,5 @@ pub(crate) fn preferred_arc(
         shares: shares.as_slice(),
     };
     let limit = limit(day.instance, best);
-    best_arc(alloc, &tried, limit, &mut splits.gains)
+    best_arc(alloc, &tried, limit, &mut splits.gains, watch)
 }

@@ -5,12 +5,20 @@ use candidate_rosters::{Roster, limit};
 use open_nodes::OpenLeaf;
 use roster_model::Instance;
 use search_tree::SearchTree;
+use search_watch::Watch;
 
 /// How far a search is: its tree, and the best roster that it has found.
 #[derive(Drop)]
 pub(crate) struct Progress {
     pub tree: SearchTree,
     pub best: Option<Roster>,
+}
+
+/// Tells a watch what the best roster costs, where there is one.
+pub(crate) fn tell_best<W: Watch>(best: &Option<Roster>, watch: &W) {
+    if let Some(roster) = best {
+        watch.tell_cost(roster.cost);
+    }
 }
 
 impl Progress {

@@ -1,7 +1,7 @@
 ghost use Rattle.std.specs.Prelude.{◌≡◌};
-ghost use Rattle.branch_price.specs.Solutions.{solved_of};
+ghost use Rattle.branch_price.specs.Solutions.{outcome_of};
 
-use node_master::{NodeEnd, Solution, Weight};
+use node_master::{Cause, NodeEnd, Solution, Weight};
 use roster_model::{List, Prices};
 
 /// What is known of a node whose master was solved.
@@ -15,25 +15,37 @@ pub(crate) struct Solved {
     pub solution: Solution,
 }
 
-/// Returns what is known of a node by the end of its master; `None` where that was given up.
-pub(crate) fn solved_of(end: NodeEnd) -> Option<Solved>
-    ensures { result ≡ solved_of end }
+/// What comes of a node's master.
+#[derive(Drop)]
+pub(crate) enum Outcome {
+    /// It was solved.
+    Solved(Solved),
+    /// It was given up.
+    Failed(Cause),
+    /// The watch stopped it.
+    Stopped,
+}
+
+/// Returns what comes of a master by its end.
+pub(crate) fn outcome_of(end: NodeEnd) -> Outcome
+    ensures { result ≡ outcome_of end }
 {
     match end {
         NodeEnd::Best {
             prices,
             value: _,
             weights,
-        } => Some(Solved {
+        } => Outcome::Solved(Solved {
             prices,
             weights,
             solution: Solution::Exact,
         }),
-        NodeEnd::Near { prices, weights } => Some(Solved {
+        NodeEnd::Near { prices, weights } => Outcome::Solved(Solved {
             prices,
             weights,
             solution: Solution::Near,
         }),
-        NodeEnd::Failed(_) => None,
+        NodeEnd::Failed(cause) => Outcome::Failed(cause),
+        NodeEnd::Stopped => Outcome::Stopped,
     }
 }

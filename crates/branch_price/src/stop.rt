@@ -1,4 +1,4 @@
-ghost use Rattle.std.specs.Prelude.{◌≡◌, ◌≢◌, ◌≤◌, Bool, true, false, IsTrue};
+ghost use Rattle.std.specs.Prelude.{◌≡◌, ◌≢◌, Bool, true, false, IsTrue};
 ghost use Rattle.branch_price.specs.Loops.{MayStop};
 
 use crate::progress::Progress;
@@ -22,7 +22,6 @@ fn standing_of(progress: &Progress, turns: u32, bound: u64) -> Standing {
 /// Says whether a search that has taken a leaf with this bound ends before it is processed: where all turns are
 /// used, or where the watch stops it, which is asked after each turn but the last.
 pub(crate) fn stops_at<W: Watch>(progress: &Progress, turns: u32, bound: u64, watch: &mut W) -> bool
-    requires { 1 ≤ turns }
     ensures stops { result ≡ true → MayStop (W.patient watch.old) turns progress.now.tree.processed }
     ensures goes_on { result ≡ false → progress.now.tree.processed ≢ turns }
     ensures stays_patient { IsTrue (W.patient watch.old) → IsTrue (W.patient watch.new) }

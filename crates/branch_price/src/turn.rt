@@ -9,10 +9,12 @@ use crate::job::SearchedDay;
 use crate::leaf::{pin_leaf, price_leaf};
 use crate::open_node::OpenNode;
 use crate::progress::Progress;
+use crate::turn_end::TurnEnd;
 use node_master::{Master, Pool};
 use open_nodes::OpenLeaf;
 use parse_graph::Graph;
 use roster_model::Memory;
+use search_watch::Watch;
 use std::alloc::Global;
 
 /// Splits a leaf that has a plan, and returns the half that is to be processed; a leaf without one is to be
@@ -30,14 +32,15 @@ fn halve(graph: &Graph, progress: &mut Progress, leaf: OpenLeaf) -> Result<OpenL
     }
 }
 
-/// One turn of a search, which processes one node: the leaf that was taken, or a half of it.
+/// One turn of a search, which processes one node: the leaf that was taken, or a half of it. Where the watch stops
+/// it before the node has prices, the leaf, or the half, is in hand still, and a split above it keeps its prices.
 ///
 /// # Errors
 ///
 /// `Memory` where memory runs out; nothing is said of the path and of how far the search is then. The
 /// master's count of refusals has not fallen, and the pool has its trees under their numbers, and perhaps
 /// further trees of the day.
-pub(crate) fn turn<M: Master>(
+pub(crate) fn turn<M: Master, W: Watch>(
     alloc: Global,
     searched: &SearchedDay,
     bench: &mut SearchBench,
@@ -45,12 +48,13 @@ pub(crate) fn turn<M: Master>(
     master: &mut M,
     progress: &mut Progress,
     leaf: OpenLeaf,
-) -> Result<(), Memory>
+    watch: &W,
+) -> Result<TurnEnd, Memory>
     requires searched { IsSearchedDay searched.now }
     requires bench { IsBench searched.now.day pool.old bench.old }
     requires leaf { IsDue searched.now.day (M.strict master.old) (M.refused master.old) progress.old leaf }
-    ensures turned { OnOk result (TakesTurn searched.now.day (M.strict master.old) (M.refused master.old)
-        (M.refused master.new) progress.old leaf progress.new) }
+    ensures turned { IfOk result (TakesTurn searched.now.day (M.strict master.old) (M.refused master.old)
+        (M.refused master.new) (W.patient watch.now) progress.old leaf progress.new) }
     ensures path { OnOk result (IsPathOf searched.now.day bench.new) }
     ensures rises { M.refused master.old ≤ M.refused master.new }
     ensures strict_stays { M.strict master.new ≡ M.strict master.old }
@@ -63,7 +67,10 @@ pub(crate) fn turn<M: Master>(
         .go_to(day, progress.tree.seats(), leaf.kept.seat)?;
     let arc_box = bench.path.arc_box();
     match arc_box.first_loose() {
-        None => pin_leaf(alloc, day, bench, pool, progress, leaf),
+        None => {
+            pin_leaf(alloc, day, bench, pool, progress, leaf)?;
+            Ok(TurnEnd::Done)
+        }
         Some(loose) => {
             let node = OpenNode {
                 searched: *searched,
@@ -71,7 +78,16 @@ pub(crate) fn turn<M: Master>(
                 arc_box,
                 loose,
             };
-            price_leaf(alloc, &node, &mut bench.desk, pool, master, progress, leaf)
+            price_leaf(
+                alloc,
+                &node,
+                &mut bench.desk,
+                pool,
+                master,
+                progress,
+                leaf,
+                watch,
+            )
         }
     }
 }

@@ -52,12 +52,12 @@ fn refuse_words<S: Shelf>(shelf: &mut S, words: &[String]) -> u8
 /// | 5 | `check`, `reuse`: the proof text is refused; `value`, `rest`: the roster text is; `solve`: the proof text FROM is |
 /// | 6 | the shelf refused a call, or a text that is no certificate stands where one is to be stored |
 /// | 7 | memory did not suffice |
-/// | 8 | `solve`, `make`: the turns ran out before the bound was the cost; `curve`: so they did for some head count |
+/// | 8 | `solve`, `make`: the turns or the seconds ran out before the bound was the cost; `curve`: so they did for some head count |
 /// | 9 | `solve`, `curve`, `make`: the instance has more than 100,000 arcs |
 ///
 /// LIMIT is a number of turns from 1 to 10,000, or one of seconds from 1 to 86,400 with an s behind it; the watch
-/// is told of a search between its turns. MOST is one from 1 to 1,000, and NUMBER one from 0 to 4,294,967,295. In
-/// PATTERN `#` stands for any code. `explain`, `rank`, `next` and `fits` take a name of the rules as a last word, from
+/// is told of a search between its turns, and asked within them too. MOST is one from 1 to 1,000, and NUMBER one
+/// from 0 to 4,294,967,295. In PATTERN `#` stands for any code. `explain`, `rank`, `next` and `fits` take a name of the rules as a last word, from
 /// which they derive then in place of the start name. `curve` takes the name of a group of the demand, whose greatest
 /// number it varies, and `solve` the name FROM of an old certificate: what it finds costs no more than the roster of
 /// that, where this is allowed on the day. A command says its whole

@@ -47,7 +47,7 @@ floor a period 1: 2, but no shift has a there
 < 8 ..
 result turns
 !
-nothing is proved yet: give more turns, or make the rules simpler
+nothing is proved yet: give more turns or seconds, or make the rules simpler
 > solve long_idle one_head p 1
 < 9 ..
 !

@@ -21,7 +21,7 @@ pub done-solved : (t : SearchTask) (patient strict : Bool) (before now : ℕ) (f
     → IfOk r (IsTaskSolved t patient strict before now)
 done-solved t patient strict before now f (Err e) is written = tt
 done-solved t patient strict before now f (Ok s) is written = record {
-  solution = within-map patient t.turns (λ k. IsFound t.day.instance.now strict k f) (λ k. IsSolution t.day.instance.now strict k s) (λ k some few found. written.solution strict k found) is.found;
+  solution = within-map patient t.turns (λ k. IsFound t.day.instance.now strict k f) (λ k. IsSolution t.day.instance.now strict k s) (λ k few found. written.solution strict k found) is.found;
   falls = subst (λ (g : Found). IsNoDearerThan t.day.instance.now t.start.shifts.now g.cert.cost) (sym written.same) is.falls;
   counted = subst (λ (g : Found). AreCounted t.day.instance.now before now g) (sym written.same) is.counted;
 }

@@ -1,5 +1,5 @@
 -- What the moves of a roster work on: what prices trees, the trees that were tried, and a draft of them.
-use Rattle.std.specs.Prelude.{ℕ, ℤ, ◌≡◌, ◌<◌, All, Option, List, length}
+use Rattle.std.specs.Prelude.{ℕ, ℤ, ◌≡◌, ◌<◌, All, IfSome, Option, List, length}
 use Rattle.roster_model.specs.declared.instance.Instance.{Instance}
 use Rattle.roster_model.specs.Sums.{PriceView, IsLeast, tree_sum}
 use Rattle.roster_model.specs.Trees.{IsDayTree}
@@ -31,6 +31,14 @@ pub record MayCopy (d : Day) (old : List PoolTree) (cs : List ℕ) (new : List P
   pub from : IsPool d.instance.now.grammar old
   pub columns : All (λ c. c < length old) cs
   pub to : IsPool d.instance.now.grammar new
+
+-- these are numbers of trees of a pool
+abbrev pub AreColumns : List PoolTree → List ℕ → Type 0
+AreColumns trees columns = All (λ (c : ℕ). c < length trees) columns
+
+-- where a number was found it is one of a tree of the pool
+abbrev pub IsFoundIn : List PoolTree → Option ℕ → Type 0
+IsFoundIn trees found = IfSome found (λ c. c < length trees)
 
 -- the pricer is filled for the prices, and the least sum of a tree of the day is known
 pub record IsPricedWith (d : Day) (p : PriceView) (w : PricerView) (z : Option ℤ) : Type 0 where

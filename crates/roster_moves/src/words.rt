@@ -1,19 +1,19 @@
-ghost use Rattle.std.specs.Prelude.{◌≡◌, ◌≢◌, [], IsTrue};
+ghost use Rattle.std.specs.Prelude.{◌≡◌, ◌≢◌, ◌<◌, [], All, IfOk, IsTrue, List as Many, OnOk, length};
 ghost use Rattle.roster_model.specs.Room.{most_uses};
 ghost use Rattle.cheapest_tree.specs.Pricers.{IsMadeFor};
 ghost use Rattle.roster_model.specs.word_prices.Prices.{word_view};
 ghost use Rattle.roster_model.specs.tree_laws.DaySteps.{AreDaySteps};
-ghost use Rattle.tree_pool.specs.Pools.{IsPool};
+ghost use Rattle.tree_pool.specs.Pools.{IsPool, PoolTree};
 ghost use Rattle.master_rows.specs.search_day.Days.{IsDay};
 ghost use Rattle.master_rows.specs.search_day.Rooms.{Grows};
 ghost use Rattle.candidate_rosters.specs.Priced.{IsPriced};
-ghost use Rattle.roster_moves.specs.Tools.{IsPricedWith};
+ghost use Rattle.roster_moves.specs.Tools.{AreColumns, IsFoundIn, IsPricedWith};
 
 use candidate_rosters::team_arc;
 use cheapest_tree::Pricer;
 use check_parts::{team_at, team_count};
 use master_rows::Day;
-use roster_model::{Memory, Shift, TreeRoom, WordPrices};
+use roster_model::{List, Memory, Shift, TreeRoom, WordPrices};
 use std::alloc::Global;
 use tree_pool::Pool;
 
@@ -72,7 +72,8 @@ fn write_word(
     true
 }
 
-/// Adds to the pool a cheapest tree of a shift's word in its team, where there is one and the pool lacks it.
+/// Adds to the pool a cheapest tree of a shift's word in its team, where there is one and the pool lacks it, and
+/// returns its number there.
 ///
 /// # Errors
 ///
@@ -83,11 +84,12 @@ fn add_word(
     pricer: &mut Pricer,
     room: &mut TreeRoom,
     pool: &mut Pool,
-) -> Result<(), Memory>
+) -> Result<Option<usize>, Memory>
     requires day { IsDay day.now }
     requires pricer { IsMadeFor day.now.graph.now pricer.old }
     requires room { room.old.most ≡ most_uses day.now.instance.now.grammar }
     requires pool { IsPool day.now.instance.now.grammar pool.old }
+    ensures found { IfOk result (IsFoundIn pool.new) }
     ensures kept { room.new.most ≡ room.old.most }
     ensures pricer { IsMadeFor day.now.graph.now pricer.new }
     ensures pool { Grows day.now pool.old pool.new }
@@ -95,10 +97,10 @@ fn add_word(
     let prices = WordPrices::new(&day.instance.grammar, shift.word.as_slice());
     let least = pricer.cheapest(day.graph, &prices);
     if !write_word(day, pricer, &prices, least, shift.group, room) {
-        return Ok(());
+        return Ok(None);
     }
-    let _column = pool.add(&day.instance.grammar, room.steps())?;
-    Ok(())
+    let column = pool.add(&day.instance.grammar, room.steps())?;
+    Ok(Some(column))
 }
 
 /// Says whether the shift before a place is of the same team and has the same word.
@@ -112,7 +114,46 @@ fn is_repeated(shifts: &[Shift], place: usize, shift: &Shift) -> bool {
     }
 }
 
-/// Adds to the pool a cheapest tree of the word of each shift in its team, where there is one.
+/// Returns the number of a tree of a shift's word in the pool, which is the last one where the shift before it is
+/// the same; where it is not it may be added.
+fn next_word(
+    day: &Day,
+    shift: &Shift,
+    last: Option<usize>,
+    is_again: bool,
+    pricer: &mut Pricer,
+    room: &mut TreeRoom,
+    pool: &mut Pool,
+) -> Result<Option<usize>, Memory>
+    requires day { IsDay day.now }
+    requires last { IsFoundIn pool.old last }
+    requires pricer { IsMadeFor day.now.graph.now pricer.old }
+    requires room { room.old.most ≡ most_uses day.now.instance.now.grammar }
+    requires pool { IsPool day.now.instance.now.grammar pool.old }
+    ensures found { IfOk result (IsFoundIn pool.new) }
+    ensures kept { room.new.most ≡ room.old.most }
+    ensures pricer { IsMadeFor day.now.graph.now pricer.new }
+    ensures pool { Grows day.now pool.old pool.new }
+{
+    if is_again {
+        return Ok(last);
+    }
+    add_word(day, shift, pricer, room, pool)
+}
+
+/// Adds a number to a list, where there is one.
+fn push_found(columns: &mut List<usize>, column: Option<usize>) -> Result<(), Memory>
+    ensures { (trees : Many PoolTree) → IsFoundIn trees column → AreColumns trees columns.old
+        → OnOk result (AreColumns trees columns.new) }
+{
+    if let Some(column) = column {
+        columns.push(column)?;
+    }
+    Ok(())
+}
+
+/// Adds to the pool a cheapest tree of the word of each shift in its team, where there is one, and returns the
+/// trees' numbers, in the order of the shifts.
 ///
 /// # Errors
 ///
@@ -124,19 +165,21 @@ pub fn add_words(
     shifts: &[Shift],
     pricer: &mut Pricer,
     pool: &mut Pool,
-) -> Result<(), Memory>
+) -> Result<List<usize>, Memory>
     requires day { IsDay day.now }
     requires pricer { IsMadeFor day.now.graph.now pricer.old }
     requires pool { IsPool day.now.instance.now.grammar pool.old }
+    ensures within { IfOk result (λ found. All (λ c. c < length pool.new) found) }
     ensures pricer { IsMadeFor day.now.graph.now pricer.new }
     ensures pool { Grows day.now pool.old pool.new }
 {
     let mut room = TreeRoom::for_grammar(alloc, &day.instance.grammar)?;
+    let mut columns = List::new(alloc);
+    let mut last = None;
     for (place, shift) in shifts.iter().enumerate() {
-        if is_repeated(shifts, place, shift) {
-            continue;
-        }
-        add_word(day, shift, pricer, &mut room, pool)?;
+        let is_again = is_repeated(shifts, place, shift);
+        last = next_word(day, shift, last, is_again, pricer, &mut room, pool)?;
+        push_found(&mut columns, last)?;
     }
-    Ok(())
+    Ok(columns)
 }

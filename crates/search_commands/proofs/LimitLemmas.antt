@@ -9,11 +9,11 @@ use Rattle.search_commands.specs.Limits.{IsLimit, ForLimit, turns_of, seconds_of
 -- it holds for some number of turns
 pub for-some : (limit : Limit) (P : ℕ → Type 0) → ForLimit limit P → (k : ℕ) × P k
 for-some (Turns n) P h = (n, h)
-for-some (Seconds s) P h = (h.0, h.3)
+for-some (Seconds s) P h = (h.0, h.2)
 
 pub for-map : (limit : Limit) (P Q : ℕ → Type 0) → ((k : ℕ) → P k → Q k) → ForLimit limit P → ForLimit limit Q
 for-map (Turns n) P Q f h = f n h
-for-map (Seconds s) P Q f h = (h.0, h.1, h.2, f h.0 h.3)
+for-map (Seconds s) P Q f h = (h.0, h.1, f h.0 h.2)
 
 -- what holds within the limit's turns, and for all of them where a watch without seconds is patient
 pub of-within : (limit : Limit) (patient : Bool) (turns : ℕ) → turns ≡ turns_of limit → IsLimit limit → (P : ℕ → Type 0)
@@ -21,4 +21,4 @@ pub of-within : (limit : Limit) (patient : Bool) (turns : ℕ) → turns ≡ tur
 of-within (Turns n) patient turns e is P seconds calm none h = subst P (h.whole (calm none) ∙ e) h.holds
 of-within (Seconds s) patient turns e is P seconds calm none h =
     let few = h.few in
-    (h.used, h.some, omega (arith, few, e), h.holds)
+    (h.used, omega (arith, few, e), h.holds)

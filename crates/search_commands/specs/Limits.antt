@@ -8,10 +8,10 @@ abbrev pub IsLimit : Limit → Type 0
 IsLimit (Turns n) = (1 ≤ n) × (n ≤ 10000)
 IsLimit (Seconds s) = (1 ≤ s) × (s ≤ 86400)
 
--- a fact on a number of turns holds for the limit's, or for one from 1 to 10,000 where seconds limit the search
+-- a fact on a number of turns holds for the limit's, or for one from 0 to 10,000 where seconds limit the search
 abbrev pub ForLimit : Limit → (ℕ → Type 0) → Type 0
 ForLimit (Turns n) P = P n
-ForLimit (Seconds s) P = (k : ℕ) × (1 ≤ k) × (k ≤ 10000) × P k
+ForLimit (Seconds s) P = (k : ℕ) × (k ≤ 10000) × P k
 
 -- all of the limit's turns were taken; where seconds limit a search, any number of turns may be
 abbrev pub IsUsedUp : Limit → ℕ → Type 0

@@ -6,7 +6,7 @@ ghost use Rattle.search_commands.specs.Limits.{IsLimit, seconds_of, turns_of};
 pub enum Limit {
     /// So many turns, 1 to 10,000.
     Turns(u32),
-    /// So many seconds, 1 to 86,400; it ends between two turns.
+    /// So many seconds, 1 to 86,400; then the turn under way ends early too.
     Seconds(u32),
 }
 

@@ -3,11 +3,32 @@ ghost use Rattle.roster_model.specs.SoundInstance.{IsSoundInstance};
 
 use crate::infeasible::infeasible_text;
 use certificates::{Cert, Node};
-use roster_model::Instance;
+use master_rows::count_rows;
+use roster_model::{Instance, base_cut_count};
 use shelf::Shelf;
 use std::alloc::Global;
 
-const UNPROVED: &str = "nothing is proved yet: give more turns, or make the rules simpler";
+const UNPROVED: &str = "nothing is proved yet: give more turns or seconds, or make the rules simpler";
+
+/// The most rows of a program that has prices.
+const MOST_ROWS: usize = 1_500;
+
+// Returns how many rows the program of all shifts has.
+fn root_rows(instance: &Instance) -> usize
+    requires { IsSoundInstance instance.now }
+{
+    count_rows(instance, &[]).saturating_add(base_cut_count(instance))
+}
+
+// Notes that so many rows are too many for prices.
+fn note_rows<S: Shelf>(alloc: Global, shelf: &mut S, rows: usize)
+    ensures { S.told shelf.new ≡ S.told shelf.old }
+{
+    match format!(in alloc; "nothing is proved: the program of all shifts has {rows} rows, and at most 1500 are priced") {
+        Ok(text) => shelf.note(text.as_str()),
+        Err(_) => {}
+    }
+}
 
 // Notes why the day alone shows that no roster is allowed, where it does.
 fn note_infeasible<S: Shelf>(alloc: Global, shelf: &mut S, instance: &Instance)
@@ -43,6 +64,28 @@ pub(crate) fn note_unproved<S: Shelf>(shelf: &mut S, cert: &Cert, status: u8)
     }
 }
 
+// Notes what is to be done where the turns ran out, with status 8, before anything is proved of a day, or that it has
+// too many rows for prices.
+fn note_unproved_day<S: Shelf>(
+    alloc: Global,
+    shelf: &mut S,
+    instance: &Instance,
+    cert: &Cert,
+    status: u8,
+)
+    requires { IsSoundInstance instance.now }
+    ensures { S.told shelf.new ≡ S.told shelf.old }
+{
+    let rows = root_rows(instance);
+    if rows <= MOST_ROWS {
+        note_unproved(shelf, cert, status);
+        return;
+    }
+    if status == 8 && proves_nothing(cert) {
+        note_rows(alloc, shelf, rows);
+    }
+}
+
 /// Notes of a search that ended with this status why no roster is allowed, with 1, and with 8 what is to be
 /// done where nothing is proved.
 pub(crate) fn note_search<S: Shelf>(
@@ -57,6 +100,6 @@ pub(crate) fn note_search<S: Shelf>(
 {
     match status {
         1 => note_infeasible(alloc, shelf, instance),
-        _ => note_unproved(shelf, cert, status),
+        _ => note_unproved_day(alloc, shelf, instance, cert, status),
     }
 }

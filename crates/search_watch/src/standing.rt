@@ -12,7 +12,7 @@ pub enum Subject {
 /// How far a search is between two turns.
 #[derive(Clone, Copy, Debug, PartialEq, Eq, Drop)]
 pub struct Standing {
-    /// How many turns were taken, 1 or more.
+    /// How many turns were taken whole, 1 or more.
     pub turn: u32,
     /// How many may be taken.
     pub turns: u32,

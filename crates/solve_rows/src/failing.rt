@@ -2,12 +2,11 @@ ghost use Rattle.std.specs.Prelude.{◌≡◌, IsTrue, true};
 ghost use Rattle.node_master.specs.Refusals.{counted};
 ghost use Rattle.solve_rows.specs.Failing.{fails_at, is_none_listed};
 
-use branch_price::{Master, PlainMaster, Pool};
+use branch_price::{Master, PlainMaster, Pool, Watch};
 use cheapest_tree::Pricer;
-use master_rows::count_rows;
+use master_rows::{Day, count_rows};
 use node_master::{Cause, NodeEnd};
-use parse_graph::Graph;
-use roster_model::{Cut, Instance, Memory};
+use roster_model::{Cut, Memory};
 use std::alloc::Global;
 
 /// The most rows of a node on which it fails.
@@ -29,9 +28,10 @@ fn count_end(refused: u64, end: &NodeEnd) -> u64
     ensures { result ≡ counted refused end.now }
 {
     match end {
-        NodeEnd::Best { .. } | NodeEnd::Near { .. } | NodeEnd::Failed(Cause::Rows { .. }) => {
-            refused
-        }
+        NodeEnd::Best { .. }
+        | NodeEnd::Near { .. }
+        | NodeEnd::Failed(Cause::Rows { .. })
+        | NodeEnd::Stopped => refused,
         NodeEnd::Failed(Cause::Wide(_)) | NodeEnd::Failed(Cause::Spent { .. }) => {
             refused.saturating_add(1)
         }
@@ -77,7 +77,8 @@ impl Master for FailingMaster {
     ghost use Rattle.bound_laws.specs.master_laws.Rows.{rows_of};
     ghost use Rattle.node_master.specs.Refusals.{EndsWell, counted};
     ghost use Rattle.solve_rows.specs.Failing.{fails_at, failure, is_none_listed};
-    ghost use Rattle.node_master.specs.Tasks.{AreTools, StayTools, IsBusyNode};
+    ghost use Rattle.node_master.specs.Tasks.{IsBusyNode};
+    ghost use Rattle.search_columns.specs.Tools.{AreTools, StayTools};
 
     ghost refused = { λ m. m.refused };
 
@@ -85,26 +86,26 @@ impl Master for FailingMaster {
 
     /// Fails at each call, or at the listed ones, for want of pivots without one made, where the node has at
     /// most 1,500 rows; else it answers as a plain master.
-    fn node(
+    fn node<W: Watch>(
         &mut self,
         alloc: Global,
-        instance: &Instance,
-        graph: &Graph,
+        day: &Day,
         pricer: &mut Pricer,
         pool: &mut Pool,
         cuts: &[Cut],
         wanted: &[usize],
+        watch: &W,
     ) -> Result<NodeEnd, Memory>
-        requires node { IsBusyNode (record { instance = instance; graph = graph }) cuts.now }
-        requires tools { AreTools (record { instance = instance; graph = graph }) pricer.old pool.old }
+        requires node { IsBusyNode day.now cuts.now }
+        requires tools { AreTools day.now pricer.old pool.old }
         ensures same { (self.new.every ≡ self.old.every) × (self.new.calls ≡ self.old.calls) }
         ensures called { self.new.called ≡ min (self.old.called + 1) (2 ^ 32 - 1) }
         ensures fails { fails_at self.old.every self.old.calls.items self.new.called ≡ true
-            → length (rows_of instance.now cuts.now) ≤ 1500 → result ≡ failure }
+            → length (rows_of day.now.instance.now cuts.now) ≤ 1500 → result ≡ failure }
         ensures plain { fails_at self.old.every self.old.calls.items self.new.called ≡ false
-            → IfOk result (EndsWell instance.now cuts.now pool.new true) }
-        ensures end { IfOk result (EndsWell instance.now cuts.now pool.new
-            (is_none_listed self.old.every self.old.calls.items)) }
+            → IfOk result (EndsWell day.now.instance.now cuts.now pool.new true (W.patient watch.now)) }
+        ensures end { IfOk result (EndsWell day.now.instance.now cuts.now pool.new
+            (is_none_listed self.old.every self.old.calls.items) (W.patient watch.now)) }
         ensures counts { MatchResult result
             (λ end. self.new.refused ≡ counted self.old.refused end)
             (λ fault. self.new.refused ≡ self.old.refused) }
@@ -112,18 +113,17 @@ impl Master for FailingMaster {
         ensures within { self.new.refused ≤ 2 ^ 64 - 1 }
         ensures strict_stays { is_none_listed self.new.every self.new.calls.items
             ≡ is_none_listed self.old.every self.old.calls.items }
-        ensures tools { StayTools (record { instance = instance.entry; graph = graph.entry })
-            pricer.new pool.old pool.new }
+        ensures tools { StayTools day.now pricer.new pool.old pool.new }
     {
         let refused = self.refused;
         self.called = self.called.saturating_add(1);
-        if count_rows(instance, cuts) <= ROWS && self.fails() {
+        if count_rows(day.instance, cuts) <= ROWS && self.fails() {
             self.refused = refused.saturating_add(1);
             return Ok(NodeEnd::Failed(Cause::Spent { pivots: 0 }));
         }
         let end = self
             .plain
-            .node(alloc, instance, graph, pricer, pool, cuts, wanted)?;
+            .node(alloc, day, pricer, pool, cuts, wanted, watch)?;
         self.refused = count_end(refused, &end);
         Ok(end)
     }

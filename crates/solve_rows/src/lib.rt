@@ -5,3 +5,7 @@
 mod failing;
 #[cfg(test)]
 mod searches;
+#[cfg(test)]
+mod stops;
+#[cfg(test)]
+mod watches;

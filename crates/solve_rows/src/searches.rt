@@ -13,7 +13,7 @@ use std::test::Fail;
 use tree_pool::normalise;
 
 /// Two of three periods at 2, where each period needs one employee.
-static PAIR_DAY: DayParts<'static> = PAIR_PARTS;
+pub static PAIR_DAY: DayParts<'static> = PAIR_PARTS;
 
 /// The name of the one letter of work.
 const WORKED: Sym = Sym::Name(4);
@@ -52,7 +52,7 @@ fn build(alloc: Global, grammar: &Grammar) -> Result<Graph, GraphFault>
 }
 
 /// Returns the graph of a sound grammar.
-fn graph_of(alloc: Global, grammar: &Grammar) -> Result<Graph, Fail>
+pub fn graph_of(alloc: Global, grammar: &Grammar) -> Result<Graph, Fail>
     requires { IsSound grammar.now }
     ensures { IfOk result (IsGraph grammar.now) }
 {

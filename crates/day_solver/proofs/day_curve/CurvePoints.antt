@@ -24,7 +24,7 @@ pub solved-point : (a b : CurveView) (strict patient : Bool) (turns : ℕ) (f : 
     → IfOk r (λ s. IsWithin patient turns (λ k. IsSolution (point_day b) strict k s))
 solved-point a b strict patient turns f (Ok s) found same written =
     subst (λ (v : CurveView). IsWithin patient turns (λ k. IsSolution (point_day v) strict k s)) (sym same)
-    (within-map patient turns (λ k. IsFound (point_day a) strict k f) (λ k. IsSolution (point_day a) strict k s) (λ k some few h. written.solution strict k h) found)
+    (within-map patient turns (λ k. IsFound (point_day a) strict k f) (λ k. IsSolution (point_day a) strict k s) (λ k few h. written.solution strict k h) found)
 solved-point a b strict patient turns f (Err e) found same written = tt
 
 -- and it costs no more than the roster that was offered

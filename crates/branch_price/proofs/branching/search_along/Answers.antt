@@ -1,6 +1,8 @@
 use Rattle.std.proofs.Common.{◌≡◌, Option, Some, arith, ◌∙◌, refl, sym, subst}
 use Rattle.candidate_rosters.proofs.PoolNumbers.{grown-more}
-use Rattle.branch_price.specs.Ends.{AsksEnd, IsFoundAtEnd}
+use Rattle.branch_price.specs.Ends.{AsksEnd, IsFoundAtEnd, IsFoundHalted}
+use Rattle.branch_price.specs.Turns.{TakesTurn}
+use Rattle.branch_price.specs.declared.turn_end.TurnEnd.{TurnEnd}
 use Rattle.branch_price.specs.Found.{IsFound}
 use Rattle.candidate_rosters.specs.declared.roster.Roster.{Roster}
 use Rattle.candidate_rosters.specs.Offers.{cost_of}
@@ -9,7 +11,7 @@ use Rattle.branch_price.specs.Jobs.{IsJobDone}
 use Rattle.branch_price.specs.OldRosters.{ReachesOld}
 use Rattle.branch_price.proofs.JobsLemmas.{both-ok}
 use Rattle.branch_price.proofs.ToolsLemmas.{tools-later}
-use Rattle.branch_price.proofs.LoopsLemmas.{begun-loops, asks-turn, turn-loops, turn-nears, turn-reaches, stopped-end, closed-end}
+use Rattle.branch_price.proofs.LoopsLemmas.{begun-loops, asks-turn, turn-loops, turn-nears, turn-reaches, turn-halts, stopped-end, closed-end}
 use Rattle.branch_price.proofs.OldLemmas.{no-dearer}
 use Rattle.search_watch.proofs.WithinLemmas.{within-all}
 use Rattle.branch_price.proofs.branching.search_along.Goals as goal
@@ -46,33 +48,48 @@ turn-requires-clause-leaf g c =
 
 pub loop-leaf-smaller : goal.loop-leaf-smaller
 loop-leaf-smaller g c =
-    let near = turn-nears c.args.job.now.searched.day.instance.now c.args.job.now.searched.day.graph.now (g.M.Master.strict c.args.master.now) (g.M.Master.refused c.args.master.now) (g.M.Master.refused c.loop-leaf.master) c.args.job.now.turns c.requires.job.few
-    c.loop-leaf.progress c.next.new.self c.in-Some.leaf c.loop-leaf.invariant.0 c.in-Some.ensures (g.M.Master.strict c.loop-leaf.master) c.loop-leaf.invariant.1
-    (c.stops_at.ensures.goes_on c.if-stops_at.false) (g.M.Master.refused c.turn.new.master) c.turn.new.progress c.in_ok-turn.ensures.turned in
+    let j = c.args.job.now in
+    let d = j.searched.day in
+    let strict = g.M.Master.strict c.args.master.now in
+    let same = g.M.Master.strict c.loop-leaf.master in
+    let patient = g.W.Watch.patient c.stops_at.new.watch in
+    let before = g.M.Master.refused c.args.master.now in
+    let now = g.M.Master.refused c.loop-leaf.master in
+    let later = g.M.Master.refused c.turn.new.master in
+    let turned = subst (λ (e : TurnEnd). TakesTurn d same now later patient c.next.new.self c.in-Some.leaf c.turn.new.progress e) c.in-Done.is c.in_ok-end.ensures.turned in
+    let near = turn-nears d.instance.now d.graph.now strict before now j.turns c.requires.job.few c.loop-leaf.progress c.next.new.self c.in-Some.leaf c.loop-leaf.invariant.0 c.in-Some.ensures same c.loop-leaf.invariant.1
+    (c.stops_at.ensures.goes_on c.if-stops_at.false) later c.turn.new.progress turned in
     let less = near.0 in
     let one = near.1 in
     omega (arith, less, one)
 
 pub loop-leaf-preserved : goal.loop-leaf-preserved
-loop-leaf-preserved g c = (
-  turn-loops c.args.job.now.searched.day.instance.now c.args.job.now.searched.day.graph.now (g.M.Master.strict c.args.master.now) (g.M.Master.refused c.args.master.now) (g.M.Master.refused c.loop-leaf.master) c.args.job.now.turns c.requires.job.few
-      c.loop-leaf.progress c.next.new.self c.in-Some.leaf c.loop-leaf.invariant.0 c.in-Some.ensures (g.M.Master.strict c.loop-leaf.master) c.loop-leaf.invariant.1
-      (c.stops_at.ensures.goes_on c.if-stops_at.false) (g.M.Master.refused c.turn.new.master) c.turn.ensures.rises c.turn.new.progress c.in_ok-turn.ensures.turned,
-  c.turn.ensures.strict_stays ∙ c.loop-leaf.invariant.1,
-  record { tools = tools-later c.args.job.now.searched.day c.loop-leaf.pool c.turn.new.pool c.turn.new.bench.desk c.turn.ensures.tools; path = c.in_ok-turn.ensures.path },
-  grown-more c.args.pool.now c.loop-leaf.pool c.turn.new.pool c.loop-leaf.invariant.3 c.turn.ensures.tools.pool.grown,
-  (λ h. c.stops_at.ensures.stays_patient (c.loop-leaf.invariant.4 h)),
-  turn-reaches c.args.job.now.searched.day.instance.now c.args.job.now.searched.day.graph.now (g.M.Master.strict c.args.master.now) (g.M.Master.refused c.args.master.now) (g.M.Master.refused c.loop-leaf.master) c.args.job.now.turns c.requires.job.few
-      c.loop-leaf.progress c.next.new.self c.in-Some.leaf c.loop-leaf.invariant.0 c.in-Some.ensures (g.M.Master.strict c.loop-leaf.master) c.loop-leaf.invariant.1
-      (c.stops_at.ensures.goes_on c.if-stops_at.false) (g.M.Master.refused c.turn.new.master) c.turn.new.progress c.in_ok-turn.ensures.turned
-      c.args.job.now.start.shifts.now c.loop-leaf.invariant.5,
-)
+loop-leaf-preserved g c =
+    let j = c.args.job.now in
+    let d = j.searched.day in
+    let strict = g.M.Master.strict c.args.master.now in
+    let same = g.M.Master.strict c.loop-leaf.master in
+    let patient = g.W.Watch.patient c.stops_at.new.watch in
+    let before = g.M.Master.refused c.args.master.now in
+    let now = g.M.Master.refused c.loop-leaf.master in
+    let later = g.M.Master.refused c.turn.new.master in
+    let turned = subst (λ (e : TurnEnd). TakesTurn d same now later patient c.next.new.self c.in-Some.leaf c.turn.new.progress e) c.in-Done.is c.in_ok-end.ensures.turned in (
+      turn-loops d.instance.now d.graph.now strict before now j.turns c.requires.job.few c.loop-leaf.progress c.next.new.self c.in-Some.leaf c.loop-leaf.invariant.0 c.in-Some.ensures same c.loop-leaf.invariant.1
+          (c.stops_at.ensures.goes_on c.if-stops_at.false) later c.turn.ensures.rises c.turn.new.progress turned,
+      c.turn.ensures.strict_stays ∙ c.loop-leaf.invariant.1,
+      record { tools = tools-later d c.loop-leaf.pool c.turn.new.pool c.turn.new.bench.desk c.turn.ensures.tools; path = c.in_ok-end.ensures.path },
+      grown-more c.args.pool.now c.loop-leaf.pool c.turn.new.pool c.loop-leaf.invariant.3 c.turn.ensures.tools.pool.grown,
+      (λ h. c.stops_at.ensures.stays_patient (c.loop-leaf.invariant.4 h)),
+      turn-reaches d.instance.now d.graph.now strict before now j.turns c.requires.job.few c.loop-leaf.progress c.next.new.self c.in-Some.leaf c.loop-leaf.invariant.0 c.in-Some.ensures same c.loop-leaf.invariant.1
+          (c.stops_at.ensures.goes_on c.if-stops_at.false) later c.turn.new.progress turned
+          j.start.shifts.now c.loop-leaf.invariant.5,
+    )
 
-pub returns-in_err-turn-clause-rises : goal.returns-in_err-turn-clause-rises
-returns-in_err-turn-clause-rises g c = let a = c.loop-leaf.invariant.0.rises in let b = c.turn.ensures.rises in omega (arith, a, b)
+pub returns-in_err-end-clause-rises : goal.returns-in_err-end-clause-rises
+returns-in_err-end-clause-rises g c = let a = c.loop-leaf.invariant.0.rises in let b = c.turn.ensures.rises in omega (arith, a, b)
 
-pub returns-in_err-turn-clause-strict_stays : goal.returns-in_err-turn-clause-strict_stays
-returns-in_err-turn-clause-strict_stays g c = c.turn.ensures.strict_stays ∙ c.loop-leaf.invariant.1
+pub returns-in_err-end-clause-strict_stays : goal.returns-in_err-end-clause-strict_stays
+returns-in_err-end-clause-strict_stays g c = c.turn.ensures.strict_stays ∙ c.loop-leaf.invariant.1
 
 pub found-requires-2-clause-end : goal.found-requires-2-clause-end
 found-requires-2-clause-end g c = (
@@ -109,7 +126,7 @@ returns-then-stops_at-clause-found g c =
     let may = c.stops_at.ensures.stops c.if-stops_at.true in
     both-ok c.found.result (IsFoundAtEnd i c.next.new.self (Some c.in-Some.leaf.bound) TurnsOut) (λ f. f.cert.cost ≡ cost_of c.next.new.self.best) (IsJobDone j patient strict before now)
     (λ f h cost. record {
-      found = record { used = c.next.new.self.tree.processed; some = may.some; few = end.0; whole = λ patience. may.whole (c.loop-leaf.invariant.4 patience); holds = (h asks end.1).0 };
+      found = record { used = c.next.new.self.tree.processed; few = end.0; whole = λ patience. may (c.loop-leaf.invariant.4 patience); holds = (h asks end.1).0 };
       falls = no-dearer i is.searched.is.day.sound j.start.shifts.now c.next.new.self.best reach f.cert.cost cost;
       counted = (h asks end.1).1;
     }) c.found.ensures.found c.found.ensures.cost
@@ -129,7 +146,7 @@ returns-clause-found g c =
     let reach = subst (λ (best : Option Roster). ReachesOld i j.start.shifts.now best) (sym c.in_default.ensures.best) c.loop-leaf.invariant.5 in
     both-ok c.found-2.result (IsFoundAtEnd i c.next.new.self c.closed_end-bound.result.0 c.closed_end-bound.result.1) (λ f. f.cert.cost ≡ cost_of c.next.new.self.best) (IsJobDone j patient strict before now)
     (λ f h cost. record {
-      found = within-all patient j.turns (λ k. IsFound i strict k f) is.some (h asks end).0;
+      found = within-all patient j.turns (λ k. IsFound i strict k f) (h asks end).0;
       falls = no-dearer i is.searched.is.day.sound j.start.shifts.now c.next.new.self.best reach f.cert.cost cost;
       counted = (h asks end).1;
     }) c.found-2.ensures.found c.found-2.ensures.cost
@@ -140,8 +157,8 @@ returns-then-stops_at-clause-pool g c = record { are = c.loop-leaf.invariant.2.t
 pub returns-clause-pool : goal.returns-clause-pool
 returns-clause-pool g c = record { are = c.loop-leaf.invariant.2.tools.pool; grown = c.loop-leaf.invariant.3 }
 
-pub returns-in_err-turn-clause-pool : goal.returns-in_err-turn-clause-pool
-returns-in_err-turn-clause-pool g c = record { are = c.turn.ensures.tools.pool.are; grown = grown-more c.args.pool.now c.loop-leaf.pool c.turn.new.pool c.loop-leaf.invariant.3 c.turn.ensures.tools.pool.grown }
+pub returns-in_err-end-clause-pool : goal.returns-in_err-end-clause-pool
+returns-in_err-end-clause-pool g c = record { are = c.turn.ensures.tools.pool.are; grown = grown-more c.args.pool.now c.loop-leaf.pool c.turn.new.pool c.loop-leaf.invariant.3 c.turn.ensures.tools.pool.grown }
 
 pub turn-requires-clause-bench : goal.turn-requires-clause-bench
 turn-requires-clause-bench g c = c.loop-leaf.invariant.2
@@ -151,3 +168,53 @@ begin-requires-clause-tools g c = c.requires.bench.tools
 
 pub returns-in_err-progress-clause-pool : goal.returns-in_err-progress-clause-pool
 returns-in_err-progress-clause-pool g c = c.begin.ensures.tools.pool
+
+pub halted-requires-clause-halted : goal.halted-requires-clause-halted
+halted-requires-clause-halted g c =
+    let j = c.args.job.now in
+    let d = j.searched.day in
+    let strict = g.M.Master.strict c.args.master.now in
+    let same = g.M.Master.strict c.loop-leaf.master in
+    let patient = g.W.Watch.patient c.stops_at.new.watch in
+    let before = g.M.Master.refused c.args.master.now in
+    let now = g.M.Master.refused c.loop-leaf.master in
+    let later = g.M.Master.refused c.turn.new.master in
+    let stopped = subst (λ (e : TurnEnd). TakesTurn d same now later patient c.next.new.self c.in-Some.leaf c.turn.new.progress e) c.in-Stopped.is c.in_ok-end.ensures.turned in
+    let halts = turn-halts d.instance.now d.graph.now strict before now j.turns c.requires.job.few c.loop-leaf.progress c.next.new.self c.in-Some.leaf c.loop-leaf.invariant.0 c.in-Some.ensures same c.loop-leaf.invariant.1
+    (c.stops_at.ensures.goes_on c.if-stops_at.false) later patient c.turn.new.progress c.in-Stopped.leaf stopped c.requires.job.searched.is.day.graph c.requires.job.searched.is.busy c.requires.arcs in
+    let asks : AsksEnd d.instance.now = record { graph = d.graph.now; strict = strict; before = before; now = later; turns = c.turn.new.progress.tree.processed } in
+    (asks, halts.halted)
+
+pub returns-in-Stopped-clause-found : goal.returns-in-Stopped-clause-found
+returns-in-Stopped-clause-found g c =
+    let j = c.args.job.now in
+    let d = j.searched.day in
+    let strict = g.M.Master.strict c.args.master.now in
+    let same = g.M.Master.strict c.loop-leaf.master in
+    let patient = g.W.Watch.patient c.stops_at.new.watch in
+    let before = g.M.Master.refused c.args.master.now in
+    let now = g.M.Master.refused c.loop-leaf.master in
+    let later = g.M.Master.refused c.turn.new.master in
+    let stopped = subst (λ (e : TurnEnd). TakesTurn d same now later patient c.next.new.self c.in-Some.leaf c.turn.new.progress e) c.in-Stopped.is c.in_ok-end.ensures.turned in
+    let halts = turn-halts d.instance.now d.graph.now strict before now j.turns c.requires.job.few c.loop-leaf.progress c.next.new.self c.in-Some.leaf c.loop-leaf.invariant.0 c.in-Some.ensures same c.loop-leaf.invariant.1
+    (c.stops_at.ensures.goes_on c.if-stops_at.false) later patient c.turn.new.progress c.in-Stopped.leaf stopped c.requires.job.searched.is.day.graph c.requires.job.searched.is.busy c.requires.arcs in
+    let asks : AsksEnd d.instance.now = record { graph = d.graph.now; strict = strict; before = before; now = later; turns = c.turn.new.progress.tree.processed } in
+    let i = d.instance.now in
+    let calm = g.W.Watch.patient c.args.watch.now in
+    let best = c.turn.new.progress.best in
+    let reach : ReachesOld i j.start.shifts.now best = λ x costs. let f = halts.falls in let r = c.loop-leaf.invariant.5 x costs in omega (arith, f, r) in
+    both-ok c.halted.result (IsFoundHalted i c.turn.new.progress c.in-Stopped.leaf) (λ f. f.cert.cost ≡ cost_of best) (IsJobDone j calm strict before later)
+    (λ f h cost. record {
+      found = record { used = c.turn.new.progress.tree.processed; few = halts.few; whole = λ patience. absurd (halts.restless (c.stops_at.ensures.stays_patient (c.loop-leaf.invariant.4 patience))); holds = (h asks halts.halted).0 };
+      falls = no-dearer i c.requires.job.searched.is.day.sound j.start.shifts.now best reach f.cert.cost cost;
+      counted = (h asks halts.halted).1;
+    }) c.halted.ensures.found c.halted.ensures.cost
+
+pub returns-in-Stopped-clause-pool : goal.returns-in-Stopped-clause-pool
+returns-in-Stopped-clause-pool g c = record { are = c.turn.ensures.tools.pool.are; grown = grown-more c.args.pool.now c.loop-leaf.pool c.turn.new.pool c.loop-leaf.invariant.3 c.turn.ensures.tools.pool.grown }
+
+pub returns-in-Stopped-clause-rises : goal.returns-in-Stopped-clause-rises
+returns-in-Stopped-clause-rises g c = let a = c.loop-leaf.invariant.0.rises in let b = c.turn.ensures.rises in omega (arith, a, b)
+
+pub returns-in-Stopped-clause-strict_stays : goal.returns-in-Stopped-clause-strict_stays
+returns-in-Stopped-clause-strict_stays g c = c.turn.ensures.strict_stays ∙ c.loop-leaf.invariant.1

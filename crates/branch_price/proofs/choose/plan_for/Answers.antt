@@ -15,7 +15,7 @@ use Rattle.branch_price.proofs.PlansLemmas.{Reaches, weights-of, between-plan, o
 use Rattle.branch_price.proofs.choose.plan_for.Goals as goal
 
 pub preferred_arc-requires-clause-small : goal.preferred_arc-requires-clause-small
-preferred_arc-requires-clause-small c =
+preferred_arc-requires-clause-small g c =
     let few = c.requires.node.searched.is.day.sound.few in
     record {
       each = Each-weaker (IsBelowHeads c.args.node.now.searched.day.instance.now) IsSmallCut c.args.node.now.cuts.now (λ (k : Cut) h. omega (arith, h, few)) c.requires.shown.below;
@@ -23,7 +23,7 @@ preferred_arc-requires-clause-small c =
     }
 
 pub weigh-requires : goal.weigh-requires
-weigh-requires c =
+weigh-requires g c =
     let s = c.args.solved.now in
     let i = c.args.node.now.searched.day.instance.now in
     record {
@@ -35,7 +35,7 @@ weigh-requires c =
     }
 
 pub plan_by_weights-requires-clause-node : goal.plan_by_weights-requires-clause-node
-plan_by_weights-requires-clause-node c =
+plan_by_weights-requires-clause-node g c =
     let s = c.args.solved.now in
     let i = c.args.node.now.searched.day.instance.now in
     record {
@@ -47,11 +47,11 @@ plan_by_weights-requires-clause-node c =
     }
 
 pub offer_rounded-requires-clause-weights : goal.offer_rounded-requires-clause-weights
-offer_rounded-requires-clause-weights c =
+offer_rounded-requires-clause-weights g c =
     subst (λ (ws : List Weight). All (λ (w : Weight). w.column < length c.args.pool.now) ws) (sym c.as_slice-weights.ensures) c.requires.shown.solved.within
 
 pub returns-in-Between-clause-plan : goal.returns-in-Between-clause-plan
-returns-in-Between-clause-plan c =
+returns-in-Between-clause-plan g c =
     let i = c.args.node.now.searched.day.instance.now in
     let v = c.args.node.now.searched.day.graph.now in
     let cuts = c.args.node.now.cuts.now in
@@ -62,7 +62,7 @@ returns-in-Between-clause-plan c =
     between-plan s.solution i v cuts pool s.prices s.weights c.in-Between.arc c.in-Between.b c.requires.node.searched.is.day.graph c.requires.shown.solved.how told
 
 pub offer_counts-requires-clause-counts : goal.offer_counts-requires-clause-counts
-offer_counts-requires-clause-counts c =
+offer_counts-requires-clause-counts g c =
     let i = c.args.node.now.searched.day.instance.now in
     let v = c.args.node.now.searched.day.graph.now in
     let cuts = c.args.node.now.cuts.now in
@@ -73,7 +73,7 @@ offer_counts-requires-clause-counts c =
     subst (λ (xs : List ℕ). length xs ≡ length v.arcs) (sym c.as_slice.ensures) (whole-each s.solution i v cuts pool s.weights c.in-Whole.counts told)
 
 pub returns-in-Whole-clause-plan : goal.returns-in-Whole-clause-plan
-returns-in-Whole-clause-plan c =
+returns-in-Whole-clause-plan g c =
     let i = c.args.node.now.searched.day.instance.now in
     let v = c.args.node.now.searched.day.graph.now in
     let cuts = c.args.node.now.cuts.now in
@@ -87,12 +87,12 @@ returns-in-Whole-clause-plan c =
     (whole-anywhere i v cuts pool s c.args.value limit c.in-Whole.counts c.requires.node.searched.is.day.sound c.requires.node.searched.is.busy c.requires.node.searched.is.day.graph c.requires.shown told reaches (rw c.limit-in-Whole.ensures at c.if-limit-value-2.false))
 
 pub at_least-requires : goal.at_least-requires
-at_least-requires c =
+at_least-requires g c =
     let lt = loose-within c.args.node.now.searched.day.instance.now c.args.node.now.searched.day.graph.now c.args.node.now.cuts.now c.args.node.now.arc_box.now c.requires.node.left c.args.node.now.loose c.requires.node.loose in
     subst (λ (n : ℕ). c.args.node.now.loose < n) (sym c.requires.node.left.made.arcs) lt
 
 pub returns-clause-plan : goal.returns-clause-plan
-returns-clause-plan c =
+returns-clause-plan g c =
     let i = c.args.node.now.searched.day.instance.now in
     let v = c.args.node.now.searched.day.graph.now in
     let cuts = c.args.node.now.cuts.now in
@@ -104,13 +104,13 @@ returns-clause-plan c =
     (other-anywhere s.solution i v cuts pool s.prices s.weights c.requires.shown.solved.how told)
 
 pub offer_rounded-requires-clause-offer : goal.offer_rounded-requires-clause-offer
-offer_rounded-requires-clause-offer c = record { rosters = c.requires.find.tools.desk.rosters; good = c.requires.find.good }
+offer_rounded-requires-clause-offer g c = record { rosters = c.requires.find.tools.desk.rosters; good = c.requires.find.good }
 
 pub offer_counts-requires-clause-tools : goal.offer_counts-requires-clause-tools
-offer_counts-requires-clause-tools c = record { pool = c.requires.find.tools.pool; desk = c.requires.find.tools.desk.rosters }
+offer_counts-requires-clause-tools g c = record { pool = c.requires.find.tools.pool; desk = c.requires.find.tools.desk.rosters }
 
 pub returns-in-Between-clause-found : goal.returns-in-Between-clause-found
-returns-in-Between-clause-found c =
+returns-in-Between-clause-found g c =
     let k = c.requires.find.tools.desk in
     let t = c.requires.find.tools in
     record {
@@ -119,7 +119,7 @@ returns-in-Between-clause-found c =
     }
 
 pub returns-in-Whole-clause-found : goal.returns-in-Whole-clause-found
-returns-in-Whole-clause-found c =
+returns-in-Whole-clause-found g c =
     let k = c.requires.find.tools.desk in
     let t = c.offer_counts.ensures.tools in
     record { tools = record { pool = t.pool; desk = record { pricing = k.pricing; most = k.most; rosters = t.desk } }; better = c.offer_counts.ensures.better }

@@ -3,10 +3,10 @@ use Rattle.branch_price.proofs.ToolsLemmas.{same-better}
 use Rattle.branch_price.proofs.completed.offer_begun.Goals as goal
 
 pub offer_trees-requires-clause-offer : goal.offer_trees-requires-clause-offer
-offer_trees-requires-clause-offer c = record { rosters = c.requires.find.tools.desk.rosters; good = c.requires.find.good }
+offer_trees-requires-clause-offer g c = record { rosters = c.requires.find.tools.desk.rosters; good = c.requires.find.good }
 
 pub returns-in_err-columns : goal.returns-in_err-columns
-returns-in_err-columns c =
+returns-in_err-columns g c =
     let k = c.requires.find.tools.desk in
     let p = c.complete.ensures.pricing in
     record {
@@ -15,7 +15,7 @@ returns-in_err-columns c =
     }
 
 pub returns : goal.returns
-returns c =
+returns g c =
     let k = c.requires.find.tools.desk in
     let p = c.complete.ensures.pricing in
     record {

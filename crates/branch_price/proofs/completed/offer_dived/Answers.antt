@@ -2,7 +2,7 @@ use Rattle.branch_price.proofs.ToolsLemmas.{same-better, more-found}
 use Rattle.branch_price.proofs.completed.offer_dived.Goals as goal
 
 pub offer_begun-requires-clause-find : goal.offer_begun-requires-clause-find
-offer_begun-requires-clause-find c =
+offer_begun-requires-clause-find g c =
     let k = c.requires.find.tools.desk in
     record {
       tools = record { pool = c.dive.ensures.pool.are; desk = record { pricing = record { pricer = c.dive.ensures.pricer; room = k.pricing.room }; most = k.most; rosters = k.rosters } };
@@ -10,7 +10,7 @@ offer_begun-requires-clause-find c =
     }
 
 pub returns-in_err-offer_begun : goal.returns-in_err-offer_begun
-returns-in_err-offer_begun c =
+returns-in_err-offer_begun g c =
     let k = c.requires.find.tools.desk in
     let d = c.args.node.now.searched.day in
     let best = c.args.best.now in
@@ -21,7 +21,7 @@ returns-in_err-offer_begun c =
     }) c.offer_begun.ensures
 
 pub returns-in_err-begun : goal.returns-in_err-begun
-returns-in_err-begun c =
+returns-in_err-begun g c =
     let k = c.requires.find.tools.desk in
     record {
       tools = record { pool = c.dive.ensures.pool; desk = record { pricing = record { pricer = c.dive.ensures.pricer; room = k.pricing.room }; most = k.most; rosters = k.rosters } };
@@ -29,7 +29,7 @@ returns-in_err-begun c =
     }
 
 pub returns-then-is_empty : goal.returns-then-is_empty
-returns-then-is_empty c =
+returns-then-is_empty g c =
     let k = c.requires.find.tools.desk in
     record {
       tools = record { pool = c.dive.ensures.pool; desk = record { pricing = record { pricer = c.dive.ensures.pricer; room = k.pricing.room }; most = k.most; rosters = k.rosters } };
@@ -37,7 +37,7 @@ returns-then-is_empty c =
     }
 
 pub returns : goal.returns
-returns c =
+returns g c =
     let k = c.requires.find.tools.desk in
     let d = c.args.node.now.searched.day in
     let best = c.args.best.now in

@@ -8,7 +8,7 @@ use Rattle.branch_price.proofs.ToolsLemmas.{find-later, more-tools}
 use Rattle.branch_price.proofs.leaf.best_leaf.Goals as goal
 
 pub shown_value-value-requires-clause-prices : goal.shown_value-value-requires-clause-prices
-shown_value-value-requires-clause-prices c =
+shown_value-value-requires-clause-prices g c =
     let r = c.requires.leaf in
     let n = c.args.node.now in
     let i = n.searched.day.instance.now in
@@ -16,7 +16,7 @@ shown_value-value-requires-clause-prices c =
     record { fit = c.requires.solved.fit; positive = c.requires.solved.positive; small = small-cuts i n.cuts.now are }
 
 pub plan_for-requires-clause-shown : goal.plan_for-requires-clause-shown
-plan_for-requires-clause-shown c =
+plan_for-requires-clause-shown g c =
     let r = c.requires.leaf in
     let n = c.args.node.now in
     let i = n.searched.day.instance.now in
@@ -24,7 +24,7 @@ plan_for-requires-clause-shown c =
     is-shown i n.cuts.now c.args.pool.now c.args.solved c.shown_value-value.result are c.requires.solved c.shown_value-value.ensures.value
 
 pub plan_for-requires-clause-find : goal.plan_for-requires-clause-find
-plan_for-requires-clause-find c =
+plan_for-requires-clause-find g c =
     let t = c.requires.tools in
     let p = c.shown_value-value.ensures.pricing in
     record {
@@ -33,11 +33,11 @@ plan_for-requires-clause-find c =
     }
 
 pub offer_at_node-requires-clause-weights : goal.offer_at_node-requires-clause-weights
-offer_at_node-requires-clause-weights c =
+offer_at_node-requires-clause-weights g c =
     weights-later c.args.pool.now c.plan_for.new.pool c.args.solved.weights c.plan_for.ensures.found.tools.pool.grown c.requires.solved.within
 
 pub offer_at_node-requires-clause-small : goal.offer_at_node-requires-clause-small
-offer_at_node-requires-clause-small c =
+offer_at_node-requires-clause-small g c =
     let r = c.requires.leaf in
     let n = c.args.node.now in
     let i = n.searched.day.instance.now in
@@ -45,11 +45,11 @@ offer_at_node-requires-clause-small c =
     record { each = few-cuts i n.cuts.now are; few = c.requires.solved.few }
 
 pub offer_at_node-requires-clause-find : goal.offer_at_node-requires-clause-find
-offer_at_node-requires-clause-find c =
+offer_at_node-requires-clause-find g c =
     find-later c.args.node.now.searched.day c.args.pool.now c.plan_for.new.pool c.plan_for.new.desk c.args.progress.now.best c.plan_for.new.best c.plan_for.ensures.found
 
 pub price-requires : goal.price-requires
-price-requires c =
+price-requires g c =
     let r = c.requires.leaf in
     let n = c.args.node.now in
     let i = n.searched.day.instance.now in
@@ -64,7 +64,7 @@ price-requires c =
     better priced loose plan
 
 pub returns-clause-turned : goal.returns-clause-turned
-returns-clause-turned c =
+returns-clause-turned g c =
     let n = c.args.node.now in
     let i = n.searched.day.instance.now in
     let v = n.searched.day.graph.now in
@@ -82,12 +82,12 @@ returns-clause-turned c =
     c.price.ensures
 
 pub returns-clause-tools : goal.returns-clause-tools
-returns-clause-tools c =
+returns-clause-tools g c =
     more-tools c.args.node.now.searched.day c.args.pool.now c.plan_for.new.pool c.offer_at_node.new.pool c.plan_for.new.desk c.offer_at_node.new.desk c.plan_for.ensures.found.tools c.offer_at_node.ensures.tools
 
 pub returns-in_default-plan_for-clause-tools : goal.returns-in_default-plan_for-clause-tools
-returns-in_default-plan_for-clause-tools c = c.plan_for.ensures.found.tools
+returns-in_default-plan_for-clause-tools g c = c.plan_for.ensures.found.tools
 
 pub returns-in_default-offer_at_node-clause-tools : goal.returns-in_default-offer_at_node-clause-tools
-returns-in_default-offer_at_node-clause-tools c =
+returns-in_default-offer_at_node-clause-tools g c =
     more-tools c.args.node.now.searched.day c.args.pool.now c.plan_for.new.pool c.offer_at_node.new.pool c.plan_for.new.desk c.offer_at_node.new.desk c.plan_for.ensures.found.tools c.offer_at_node.ensures.tools

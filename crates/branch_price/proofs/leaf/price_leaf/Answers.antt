@@ -1,8 +1,7 @@
 use Rattle.std.proofs.Common.{sym, ◌∙◌}
-use Rattle.std.proofs.lemmas.Result.{on_ok_weaker}
 use Rattle.branch_price.proofs.Leaves.{leaf-cuts}
-use Rattle.branch_price.proofs.StepsLemmas.{later-node}
-use Rattle.branch_price.proofs.SolvedEnds.{solved-end, failed-end}
+use Rattle.branch_price.proofs.StepsLemmas.{later-node, turn-stopped, same-best}
+use Rattle.branch_price.proofs.SolvedEnds.{solved-end, failed-end, stopped-end}
 use Rattle.branch_price.proofs.ToolsLemmas.{tools-later, more-tools}
 use Rattle.branch_price.proofs.leaf.price_leaf.Goals as goal
 
@@ -18,6 +17,7 @@ fail_leaf-requires-clause-leaf g c =
     let r = c.requires.leaf in
     let n = c.args.node.now in
     let strict = g.M.Master.strict c.args.master.now in
+    let patient = g.W.Watch.patient c.args.watch.now in
     let now = g.M.Master.refused c.args.master.now in
     let later = g.M.Master.refused c.ask_master.new.master in (
       strict,
@@ -26,13 +26,17 @@ fail_leaf-requires-clause-leaf g c =
       r.1,
       later,
       r.2,
-      failed-end n.searched.day.instance.now n.cuts.now c.ask_master.new.pool now later strict c.in_ok-end.end c.in_ok-end.ensures.end c.in_ok-end.ensures.counted.counts c.ask_master.ensures.counted.within (sym c.solved_of.ensures ∙ c.in-None.is),
+      failed-end n.searched.day.instance.now n.cuts.now c.ask_master.new.pool now later strict patient c.in_ok-end.end c.in_ok-end.ensures.end c.in_ok-end.ensures.counted.counts c.ask_master.ensures.counted.within c.in-Failed.field-0 (sym c.outcome_of.ensures ∙ c.in-Failed.is),
     )
 
 pub best_leaf-requires-clause-solved : goal.best_leaf-requires-clause-solved
 best_leaf-requires-clause-solved g c =
     let n = c.args.node.now in
-    solved-end n.searched.day.instance.now n.cuts.now c.ask_master.new.pool (g.M.Master.strict c.args.master.now) c.in_ok-end.end c.in-Some.solved c.in_ok-end.ensures.end (sym c.solved_of.ensures ∙ c.in-Some.is)
+    let strict = g.M.Master.strict c.args.master.now in
+    let patient = g.W.Watch.patient c.args.watch.now in
+    let now = g.M.Master.refused c.args.master.now in
+    let later = g.M.Master.refused c.ask_master.new.master in
+    solved-end n.searched.day.instance.now n.cuts.now c.ask_master.new.pool now later strict patient c.in_ok-end.end c.in_ok-end.ensures.end c.in_ok-end.ensures.counted.counts c.ask_master.ensures.counted.within c.in-Solved.solved (sym c.outcome_of.ensures ∙ c.in-Solved.is)
 
 pub best_leaf-requires-clause-tools : goal.best_leaf-requires-clause-tools
 best_leaf-requires-clause-tools g c = tools-later c.args.node.now.searched.day c.args.pool.now c.ask_master.new.pool c.ask_master.new.desk c.ask_master.ensures.tools
@@ -40,26 +44,41 @@ best_leaf-requires-clause-tools g c = tools-later c.args.node.now.searched.day c
 pub best_leaf-requires-clause-leaf : goal.best_leaf-requires-clause-leaf
 best_leaf-requires-clause-leaf g c = let r = c.requires.leaf in (g.M.Master.strict c.args.master.now, r.0, g.M.Master.refused c.args.master.now, r.1, r.2)
 
-pub returns-in-None-clause-turned : goal.returns-in-None-clause-turned
-returns-in-None-clause-turned g c =
+pub returns-in_ok-fail_leaf-in-Failed-clause-turned : goal.returns-in_ok-fail_leaf-in-Failed-clause-turned
+returns-in_ok-fail_leaf-in-Failed-clause-turned g c =
     let n = c.args.node.now in
     let strict = g.M.Master.strict c.args.master.now in
+    let patient = g.W.Watch.patient c.args.watch.now in
     let now = g.M.Master.refused c.args.master.now in
     let later = g.M.Master.refused c.ask_master.new.master in
-    let given = failed-end n.searched.day.instance.now n.cuts.now c.ask_master.new.pool now later strict c.in_ok-end.end c.in_ok-end.ensures.end c.in_ok-end.ensures.counted.counts c.ask_master.ensures.counted.within (sym c.solved_of.ensures ∙ c.in-None.is) in
-    on_ok_weaker c.fail_leaf.result (λ turned before low asked. turned strict before now low later asked given) c.fail_leaf.ensures.turned
+    let given = failed-end n.searched.day.instance.now n.cuts.now c.ask_master.new.pool now later strict patient c.in_ok-end.end c.in_ok-end.ensures.end c.in_ok-end.ensures.counted.counts c.ask_master.ensures.counted.within c.in-Failed.field-0 (sym c.outcome_of.ensures ∙ c.in-Failed.is) in
+    λ before low asked. c.in_ok-fail_leaf-in-Failed.ensures.turned strict before now low later asked given
 
-pub returns-in-Some-clause-turned : goal.returns-in-Some-clause-turned
-returns-in-Some-clause-turned g c =
+pub returns-in_ok-best_leaf-in-Solved-clause-turned : goal.returns-in_ok-best_leaf-in-Solved-clause-turned
+returns-in_ok-best_leaf-in-Solved-clause-turned g c =
     let n = c.args.node.now in
     let strict = g.M.Master.strict c.args.master.now in
+    let patient = g.W.Watch.patient c.args.watch.now in
     let now = g.M.Master.refused c.args.master.now in
     let later = g.M.Master.refused c.ask_master.new.master in
-    on_ok_weaker c.best_leaf.result
-    (λ turned before low asked. turned strict before later low
-    (later-node n.searched.day.instance.now n.searched.day.graph.now strict before now later low c.args.progress.now c.args.leaf n.cuts.now asked c.ask_master.ensures.counted.rises c.ask_master.ensures.counted.within))
-    c.best_leaf.ensures.turned
+    λ before low asked. c.in_ok-best_leaf-in-Solved.ensures.turned strict before later low
+    (later-node n.searched.day.instance.now n.searched.day.graph.now strict before now later low c.args.progress.now c.args.leaf n.cuts.now asked c.ask_master.ensures.counted.rises c.ask_master.ensures.counted.within)
 
-pub returns-in-Some-clause-tools : goal.returns-in-Some-clause-tools
-returns-in-Some-clause-tools g c =
+pub returns-in-Stopped-clause-turned : goal.returns-in-Stopped-clause-turned
+returns-in-Stopped-clause-turned g c =
+    let n = c.args.node.now in
+    let strict = g.M.Master.strict c.args.master.now in
+    let patient = g.W.Watch.patient c.args.watch.now in
+    let now = g.M.Master.refused c.args.master.now in
+    let later = g.M.Master.refused c.ask_master.new.master in
+    let stops = stopped-end n.searched.day.instance.now n.cuts.now c.ask_master.new.pool now later strict patient c.in_ok-end.end c.in_ok-end.ensures.end c.in_ok-end.ensures.counted.counts c.ask_master.ensures.counted.within (sym c.outcome_of.ensures ∙ c.in-Stopped.is) in
+    λ before low asked. turn-stopped n.searched.day.instance.now n.searched.day.graph.now strict before now later low patient c.args.progress.now c.args.leaf n.cuts.now c.args.progress.now.best asked
+    (same-best n.searched.day.instance.now n.searched.day.graph.now strict before now low c.args.progress.now c.args.leaf n.cuts.now asked) stops.0 stops.1
+
+pub returns-in_ok-best_leaf-in-Solved-clause-tools : goal.returns-in_ok-best_leaf-in-Solved-clause-tools
+returns-in_ok-best_leaf-in-Solved-clause-tools g c =
+    more-tools c.args.node.now.searched.day c.args.pool.now c.ask_master.new.pool c.best_leaf.new.pool c.ask_master.new.desk c.best_leaf.new.desk c.ask_master.ensures.tools c.best_leaf.ensures.tools
+
+pub returns-in_err-best_leaf-in-Solved-clause-tools : goal.returns-in_err-best_leaf-in-Solved-clause-tools
+returns-in_err-best_leaf-in-Solved-clause-tools g c =
     more-tools c.args.node.now.searched.day c.args.pool.now c.ask_master.new.pool c.best_leaf.new.pool c.ask_master.new.desk c.best_leaf.new.desk c.ask_master.ensures.tools c.best_leaf.ensures.tools

@@ -1,7 +1,7 @@
 use Rattle.std.proofs.Common.{rules, ◌∙◌}
-use Rattle.std.proofs.lemmas.Result.{on_ok_weaker}
+use Rattle.std.proofs.lemmas.Result.{IfOk-weaker}
 use Rattle.arc_counts.specs.count_boxes.Paths.{IsBoxOf}
-use Rattle.branch_price.proofs.Leaves.{half-node, half-is-node, half-at, half-turned}
+use Rattle.branch_price.proofs.Leaves.{half-node, half-is-node, half-at, half-turned, half-ends}
 use Rattle.branch_price.proofs.ToolsLemmas.{same-tools}
 use Rattle.branch_price.proofs.turn.turn.Goals as goal
 
@@ -41,31 +41,36 @@ price_leaf-requires-clause-leaf g c =
           (c.cuts.ensures ∙ c.in_ok-go_to.ensures.cuts half.node.tree half.path node),
     )
 
-pub returns-in-None-clause-turned : goal.returns-in-None-clause-turned
-returns-in-None-clause-turned g c =
-    on_ok_weaker c.pin_leaf.result
-    (λ turned asked.
+pub returns-in_ok-pin_leaf-in-None-clause-turned : goal.returns-in_ok-pin_leaf-in-None-clause-turned
+returns-in_ok-pin_leaf-in-None-clause-turned g c =
+    let i = c.args.searched.now.day.instance.now in
+    let v = c.args.searched.now.day.graph.now in
     let strict = g.M.Master.strict c.args.master.now in
+    let patient = g.W.Watch.patient c.args.watch.now in
     let now = g.M.Master.refused c.args.master.now in
-    let half = c.in_ok-leaf.ensures c.args.searched.now.day.instance.now strict now asked in
-    let node = half-is-node c.args.searched.now.day.instance.now c.args.searched.now.day.graph.now strict asked.before now c.args.leaf.bound c.args.progress.now c.halve.new.progress c.in_ok-leaf.leaf c.seats.result.now half c.seats.ensures in
-    let at = half-at c.args.searched.now.day.instance.now c.args.searched.now.day.graph.now strict asked.before now c.args.leaf.bound c.args.progress.now c.halve.new.progress c.in_ok-leaf.leaf c.go_to.new.self.cuts half
+    λ asked.
+    let half = c.in_ok-leaf.ensures i strict now asked in
+    let node = half-is-node i v strict asked.before now c.args.leaf.bound c.args.progress.now c.halve.new.progress c.in_ok-leaf.leaf c.seats.result.now half c.seats.ensures in
+    let at = half-at i v strict asked.before now c.args.leaf.bound c.args.progress.now c.halve.new.progress c.in_ok-leaf.leaf c.go_to.new.self.cuts half
     (c.in_ok-go_to.ensures.cuts half.node.tree half.path node) in
-    half-turned c.args.searched.now.day.instance.now c.args.searched.now.day.graph.now strict asked.before now now c.args.leaf.bound c.args.progress.now c.halve.new.progress c.pin_leaf.new.progress c.in_ok-leaf.leaf half
-    (turned strict asked.before now c.args.leaf.bound at))
-    c.pin_leaf.ensures.turned
+    half-turned i v strict asked.before now now c.args.leaf.bound c.args.progress.now c.halve.new.progress c.pin_leaf.new.progress c.in_ok-leaf.leaf half
+    (c.in_ok-pin_leaf-in-None.ensures.turned strict asked.before now c.args.leaf.bound at)
 
 pub returns-in-Some-clause-turned : goal.returns-in-Some-clause-turned
 returns-in-Some-clause-turned g c =
-    on_ok_weaker c.price_leaf.result
-    (λ turned asked.
+    let i = c.args.searched.now.day.instance.now in
+    let v = c.args.searched.now.day.graph.now in
     let strict = g.M.Master.strict c.args.master.now in
+    let patient = g.W.Watch.patient c.args.watch.now in
     let now = g.M.Master.refused c.args.master.now in
-    let half = c.in_ok-leaf.ensures c.args.searched.now.day.instance.now strict now asked in
-    let node = half-is-node c.args.searched.now.day.instance.now c.args.searched.now.day.graph.now strict asked.before now c.args.leaf.bound c.args.progress.now c.halve.new.progress c.in_ok-leaf.leaf c.seats.result.now half c.seats.ensures in
-    let at = half-at c.args.searched.now.day.instance.now c.args.searched.now.day.graph.now strict asked.before now c.args.leaf.bound c.args.progress.now c.halve.new.progress c.in_ok-leaf.leaf c.cuts.result.now half
+    let later = g.M.Master.refused c.price_leaf.new.master in
+    IfOk-weaker c.price_leaf.result _ _
+    (λ end turned asked.
+    let half = c.in_ok-leaf.ensures i strict now asked in
+    let node = half-is-node i v strict asked.before now c.args.leaf.bound c.args.progress.now c.halve.new.progress c.in_ok-leaf.leaf c.seats.result.now half c.seats.ensures in
+    let at = half-at i v strict asked.before now c.args.leaf.bound c.args.progress.now c.halve.new.progress c.in_ok-leaf.leaf c.cuts.result.now half
     (c.cuts.ensures ∙ c.in_ok-go_to.ensures.cuts half.node.tree half.path node) in
-    half-turned c.args.searched.now.day.instance.now c.args.searched.now.day.graph.now strict asked.before now (g.M.Master.refused c.price_leaf.new.master) c.args.leaf.bound c.args.progress.now c.halve.new.progress c.price_leaf.new.progress c.in_ok-leaf.leaf half
+    half-ends i v strict asked.before now later c.args.leaf.bound patient c.args.progress.now c.halve.new.progress c.price_leaf.new.progress c.in_ok-leaf.leaf end half
     (turned asked.before c.args.leaf.bound at))
     c.price_leaf.ensures.turned
 

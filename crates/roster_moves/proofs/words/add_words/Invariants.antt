@@ -2,6 +2,7 @@ use Rattle.std.proofs.Common.{◌≡◌}
 use Rattle.roster_model.specs.Room.{most_uses}
 use Rattle.cheapest_tree.specs.Pricers.{IsMadeFor}
 use Rattle.tree_pool.specs.Pools.{IsPool, IsGrown}
+use Rattle.roster_moves.specs.Tools.{AreColumns, IsFoundIn}
 use Rattle.roster_moves.proofs.words.add_words.Given as goal
 
 abbrev pub invariant-loop-place : goal.invariant-loop-place
@@ -10,4 +11,6 @@ invariant-loop-place l = record {
   room : l.room.most ≡ most_uses l.day.instance.now.grammar;
   pool : IsPool l.day.instance.now.grammar l.pool;
   grown : IsGrown l.fn.pool l.pool;
+  last : IsFoundIn l.pool l.last;
+  columns : AreColumns l.pool l.columns;
 }
