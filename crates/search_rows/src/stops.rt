@@ -89,8 +89,8 @@ fn solve_anew(
     watched
 }
 
-/// Whether the master is stopped at the first question, ends soon behind each one at which the watch is over, some so
-/// many apart, and is not stopped by a watch that is never over.
+/// Whether the master is stopped at the first question, ends soon behind each one at which the watch is over,
+/// of which so many are apart, and is not stopped by a watch that is never over.
 fn ends_soon(
     alloc: Global,
     day: &Instance,
