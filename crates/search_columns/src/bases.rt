@@ -1,10 +1,16 @@
 use roster_model::{Cut, List, Memory};
-use scout::Key;
+use scout::{Key, Limits};
 use std::alloc::Global;
 
 /// How many bases are kept at most: a search goes down from few nodes at a time, and each basis has a
 /// price of every row, so that they take a few megabytes at most.
 const MOST_BASES: usize = 256;
+
+/// The steps of a round of a hunt that is not careful.
+const STEPS: Limits = Limits {
+    dual: 3_000,
+    primal: 20_000,
+};
 
 /// The last basis of a node at a scout, and the prices there.
 #[derive(Drop)]
@@ -36,6 +42,8 @@ pub struct Bases {
     kept: Vec<Kept>,
     /// How often a basis was kept or chosen.
     turns: u64,
+    /// The steps of a round of the hunts that keep them.
+    steps: Limits,
 }
 
 /// Whether the second list of cuts begins with the first.
@@ -83,10 +91,22 @@ fn idle_place(kept: &[Kept]) -> usize {
 impl Bases {
     /// Returns no bases.
     pub fn new(alloc: Global) -> Bases {
+        Bases::with_steps(alloc, STEPS)
+    }
+
+    /// Returns no bases, for hunts whose rounds have so many steps while they are not careful: with few of them a
+    /// hunt is soon lost, and rescued.
+    pub fn with_steps(alloc: Global, steps: Limits) -> Bases {
         Bases {
             kept: Vec::new(alloc),
             turns: 0,
+            steps,
         }
+    }
+
+    /// Returns how many steps a round of a hunt has.
+    pub(crate) fn steps(&self) -> Limits {
+        self.steps
     }
 
     /// Counts a turn, and returns its number.

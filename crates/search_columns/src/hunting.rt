@@ -13,7 +13,7 @@ use crate::steering::Steering;
 use cheapest_tree::Pricer;
 use master_rows::NodeTask;
 use roster_model::{Cut, List, Memory};
-use scout::{Scout, Scouted};
+use scout::{Limits, Scout, Scouted};
 use search_watch::Watch;
 use std::alloc::Global;
 use tree_pool::Pool;
@@ -93,6 +93,7 @@ fn hunt_once<W: Watch>(
     pricer: &mut Pricer,
     pool: &mut Pool,
     hunt: &mut Hunt,
+    steps: Limits,
     watch: &W,
 ) -> Result<bool, Memory>
     requires { IsHunting task.now pricer.old pool.old hunt.old }
@@ -102,7 +103,7 @@ fn hunt_once<W: Watch>(
         give_up(hunt);
         return Ok(false);
     }
-    let end = run_or_rescue(alloc, task, pricer, pool, hunt, watch)?;
+    let end = run_or_rescue(alloc, task, pricer, pool, hunt, steps, watch)?;
     if !goes_on(end, hunt) {
         return Ok(false);
     }
@@ -116,6 +117,7 @@ fn hunt_rounds<W: Watch>(
     pricer: &mut Pricer,
     pool: &mut Pool,
     hunt: &mut Hunt,
+    steps: Limits,
     watch: &W,
 ) -> Result<(), Memory>
     requires { IsHunting task.now pricer.old pool.old hunt.old }
@@ -126,7 +128,7 @@ fn hunt_rounds<W: Watch>(
         if watch.is_over() {
             return Ok(());
         }
-        let goes_on = hunt_once(alloc, task, pricer, pool, hunt, watch)?;
+        let goes_on = hunt_once(alloc, task, pricer, pool, hunt, steps, watch)?;
         if !goes_on {
             return Ok(());
         }
@@ -160,8 +162,9 @@ fn hunt_on<W: Watch>(
     requires { IsHunting task.now pricer.old pool.old hunt.old }
     ensures { StayTools task.now.day pricer.new pool.old pool.new }
 {
-    hunt_rounds(alloc, task, pricer, pool, hunt, watch)?;
-    settle(&mut hunt.scout, watch);
+    let steps = bases.steps();
+    hunt_rounds(alloc, task, pricer, pool, hunt, steps, watch)?;
+    settle(&mut hunt.scout, steps, watch);
     keep_basis(alloc, task.cuts, hunt, bases)?;
     hint_of(alloc, task, pool, hunt, watch.is_over())
 }

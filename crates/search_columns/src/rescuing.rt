@@ -10,12 +10,6 @@ use search_watch::Watch;
 use std::alloc::Global;
 use tree_pool::Pool;
 
-/// The steps of a round.
-const LIMITS: Limits = Limits {
-    dual: 3_000,
-    primal: 20_000,
-};
-
 /// The steps of a run that is careful.
 const CAREFUL: Limits = Limits {
     dual: 30_000,
@@ -68,6 +62,7 @@ pub(crate) fn run_or_rescue<W: Watch>(
     pricer: &mut Pricer,
     pool: &mut Pool,
     hunt: &mut Hunt,
+    steps: Limits,
     watch: &W,
 ) -> Result<Scouted, Memory>
     requires { IsHunting task.now pricer.old pool.old hunt.old }
@@ -76,7 +71,7 @@ pub(crate) fn run_or_rescue<W: Watch>(
     if hunt.scout.is_careful() {
         return Ok(run_careful(&mut hunt.scout, watch));
     }
-    let end = hunt.scout.run(LIMITS, watch);
+    let end = hunt.scout.run(steps, watch);
     if !is_lost(end, hunt.scout.pivots()) || watch.is_over() {
         return Ok(end);
     }
@@ -87,8 +82,8 @@ pub(crate) fn run_or_rescue<W: Watch>(
 
 /// Takes the perturbations of a scout off, and runs. A careful one in which a number leaves its bounds by
 /// that begins once more from the rows' own columns.
-pub(crate) fn settle<W: Watch>(scout: &mut Scout, watch: &W) {
-    let end = scout.settle(LIMITS, watch);
+pub(crate) fn settle<W: Watch>(scout: &mut Scout, steps: Limits, watch: &W) {
+    let end = scout.settle(steps, watch);
     if end == Scouted::Grew && scout.is_careful() && scout.start_beyond().is_ok() {
         let _end = scout.run(CAREFUL, watch);
     }

@@ -38,7 +38,7 @@ const TWO_CELLS: [Cell; 4] = [
 
 /// Three of four periods at 2, where each period needs two employees and has at most two: each shift has two
 /// thirds of an employee.
-static TRIPLE_DAY: DayParts<'static> = DayParts {
+pub(crate) static TRIPLE_DAY: DayParts<'static> = DayParts {
     periods: 4,
     names: &["S"],
     rules: &TRIPLES,
@@ -116,7 +116,7 @@ fn solve_day(alloc: Global, parts: &DayParts, first: First) -> Result<NodeEnd, F
 const ONE: i128 = 1_048_576;
 
 /// Whether the prices are near ones of 1 for each of three cells, and three weights are a half.
-fn are_near_halves(end: &NodeEnd) -> bool {
+pub(crate) fn are_near_halves(end: &NodeEnd) -> bool {
     match end {
         NodeEnd::Near { prices, weights } => {
             i128::from(prices.d) == ONE
@@ -143,7 +143,7 @@ fn is_about_2_thirds(weight: &Weight) -> bool {
 }
 
 /// Whether the prices of the four cells are 2 thirds, and the weights of four trees are.
-fn are_near_thirds(end: &NodeEnd) -> bool {
+pub(crate) fn are_near_thirds(end: &NodeEnd) -> bool {
     match end {
         NodeEnd::Near { prices, weights } => {
             prices.cell.as_slice() == [699_050; 4].as_slice()

@@ -10,6 +10,8 @@ mod leaves;
 #[cfg(test)]
 mod masters;
 #[cfg(test)]
+mod rescues;
+#[cfg(test)]
 mod splits;
 #[cfg(test)]
 mod stops;
