@@ -109,7 +109,11 @@ fn costs_four(probe: &mut Scout, solved: &Scout, row: LastRow) -> Result<bool, M
     ensures { row_count probe.new ≡ row_count probe.old }
 {
     let copied = probe.copy_with_row(solved, row, &[true])?;
-    Ok(copied.is_ok() && probe.run(LIMITS, &SteadyWatch) == Scouted::Optimal && is_about(probe.value(), 4))
+    Ok(
+        copied.is_ok()
+            && probe.run(LIMITS, &SteadyWatch) == Scouted::Optimal
+            && is_about(probe.value(), 4),
+    )
 }
 
 /// Whether it does where the first column is left out, and where it is taken once.
@@ -349,7 +353,8 @@ const TRUE_COST: i64 = 70_000_000_001;
 /// Whether a row that no listed column meets has the price of its own column, at the true cost.
 fn has_true_cost(alloc: Global) -> Result<bool, Memory> {
     let mut scout = Scout::new(alloc, &[1], &[DEAR], &[Some(0)])?;
-    let solved = scout.start_missing().is_ok() && scout.run(LIMITS, &SteadyWatch) == Scouted::Optimal;
+    let solved = scout.start_missing().is_ok()
+        && scout.run(LIMITS, &SteadyWatch) == Scouted::Optimal;
     let prices = scout.refined_prices(alloc, &[TRUE_COST]);
     drop(scout);
     let prices = prices?;

@@ -1,4 +1,4 @@
-use Rattle.std.proofs.Common.{refl, ◌∙◌}
+use Rattle.std.proofs.Common.{◌∙◌}
 use Rattle.tableau.proofs.LaterFaults.{end_kept}
 use Rattle.tableau.proofs.simplex.solve.Goals as goal
 
@@ -27,7 +27,7 @@ returns-in-Err-Memory-clause-kept g c =
 
 pub returns-in-Err-Stopped-clause-fault : goal.returns-in-Err-Stopped-clause-fault
 returns-in-Err-Stopped-clause-fault g c =
-    rw c.in-Err.ensures.site at (c.in-Err-Stopped.ensures.stopped refl)
+    rw c.in-Err.ensures.site at (c.in-Err-Stopped.ensures.stopped c.in-Err-Stopped.field-0-is)
 
 pub returns-in-Err-Stopped-clause-kept : goal.returns-in-Err-Stopped-clause-kept
 returns-in-Err-Stopped-clause-kept g c =
