@@ -1,8 +1,8 @@
 -- Desks, pools and best rosters after two steps.
-use Rattle.std.proofs.Common.{Option, List, [], arith, sym}
+use Rattle.std.proofs.Common.{◌≡◌, Option, List, [], arith, sym}
 use Rattle.std.proofs.lemmas.List.{append-nil}
 use Rattle.roster_model.specs.declared.instance.Instance.{Instance}
-use Rattle.tree_pool.specs.Pools.{PoolTree}
+use Rattle.tree_pool.specs.Pools.{PoolTree, IsPool}
 use Rattle.master_rows.specs.declared.search_day.day.Day.{Day}
 use Rattle.master_rows.specs.search_day.Rooms.{Grows}
 use Rattle.candidate_rosters.specs.declared.roster.Roster.{Roster}
@@ -16,6 +16,10 @@ use Rattle.branch_price.proofs.BetterRosters.{better-more}
 
 pub grows-more : (d : Day) (a b c : List PoolTree) → Grows d a b → Grows d b c → Grows d a c
 grows-more d a b c h k = record { are = k.are; grown = grown-more a b c h.grown k.grown }
+
+-- a pool without trees is one of each day
+pub empty-pool : (d : Day) (a : List PoolTree) → a ≡ [] → IsPool d.instance.now.grammar a
+empty-pool d a none = rw none (record { trees = λ j x at. absurd (cc); once = λ j k x y at too same. absurd (cc) })
 
 pub same-tools : (d : Day) (a : List PoolTree) (k : SearchDesk) → AreTools d a k → StayTools d a a k
 same-tools d a k h = record { pool = record { are = h.pool; grown = ([], sym (append-nil a)) }; desk = h.desk }

@@ -1,12 +1,19 @@
 -- Tools after two steps.
-use Rattle.std.proofs.Common.{◌≡◌, ◌∙◌, List, length}
-use Rattle.tree_pool.specs.Pools.{PoolTree}
+use Rattle.std.proofs.Common.{◌≡◌, ◌∙◌, ℕ, ◌<◌, List, arith, ap, length, length-append}
+use Rattle.tree_pool.specs.Pools.{PoolTree, IsGrown}
 use Rattle.master_rows.specs.declared.search_day.day.Day.{Day}
 use Rattle.master_rows.specs.declared.search_day.pricing.Pricing.{Pricing}
 use Rattle.candidate_rosters.proofs.PoolNumbers.{grown-more}
 use Rattle.roster_moves.specs.declared.draft.Draft.{Draft}
 use Rattle.roster_moves.specs.Drafts.{IsDraft}
-use Rattle.roster_moves.specs.Tools.{AreTools, StayTools}
+use Rattle.roster_moves.specs.Tools.{AreColumns, AreTools, StayTools}
+
+-- numbers of trees of a pool are ones of the pool that it has become
+pub columns-later : (old new : List PoolTree) (cs : List ℕ) → IsGrown old new → AreColumns old cs → AreColumns new cs
+columns-later old new cs grown all k d lt =
+    let e = ap length grown.1 ∙ length-append old grown.0 in
+    let h = all k d lt in
+    omega (arith, e, h)
 
 pub tools-more : (d : Day) (p q r : Pricing) (a b c : List PoolTree) → StayTools d p q a b → StayTools d q r b c → StayTools d p r a c
 tools-more d p q r a b c h k = record {

@@ -1,6 +1,6 @@
 use Rattle.std.proofs.Common.{sym, ◌∙◌}
 use Rattle.branch_price.proofs.Leaves.{leaf-cuts}
-use Rattle.branch_price.proofs.StepsLemmas.{later-node, turn-stopped, same-best}
+use Rattle.branch_price.proofs.StepsLemmas.{later-node, turn-stopped}
 use Rattle.branch_price.proofs.SolvedEnds.{solved-end, failed-end, stopped-end}
 use Rattle.branch_price.proofs.ToolsLemmas.{tools-later, more-tools}
 use Rattle.branch_price.proofs.leaf.price_leaf.Goals as goal
@@ -12,8 +12,8 @@ ask_master-requires-clause-cuts g c =
     let are = leaf-cuts n.searched.day.instance.now n.searched.day.graph.now (g.M.Master.strict c.args.master.now) r.0 (g.M.Master.refused c.args.master.now) r.1 c.args.progress.now c.args.leaf n.cuts.now c.requires.node.searched.is.day.sound r.2 in
     record { each = are.node; few = are.few }
 
-pub fail_leaf-requires-clause-leaf : goal.fail_leaf-requires-clause-leaf
-fail_leaf-requires-clause-leaf g c =
+pub give_up_leaf-requires-clause-leaf : goal.give_up_leaf-requires-clause-leaf
+give_up_leaf-requires-clause-leaf g c =
     let r = c.requires.leaf in
     let n = c.args.node.now in
     let strict = g.M.Master.strict c.args.master.now in
@@ -26,7 +26,7 @@ fail_leaf-requires-clause-leaf g c =
       r.1,
       later,
       r.2,
-      failed-end n.searched.day.instance.now n.cuts.now c.ask_master.new.pool now later strict patient c.in_ok-end.end c.in_ok-end.ensures.end c.in_ok-end.ensures.counted.counts c.ask_master.ensures.counted.within c.in-Failed.field-0 (sym c.outcome_of.ensures ∙ c.in-Failed.is),
+      failed-end n.searched.day.instance.now n.cuts.now c.ask_master.new.pool now later strict patient c.in_ok-end.end c.in_ok-end.ensures.end c.in_ok-end.ensures.counted.counts c.ask_master.ensures.counted.within c.in-Failed.cause (sym c.outcome_of.ensures ∙ c.in-Failed.is),
     )
 
 pub best_leaf-requires-clause-solved : goal.best_leaf-requires-clause-solved
@@ -44,15 +44,15 @@ best_leaf-requires-clause-tools g c = tools-later c.args.node.now.searched.day c
 pub best_leaf-requires-clause-leaf : goal.best_leaf-requires-clause-leaf
 best_leaf-requires-clause-leaf g c = let r = c.requires.leaf in (g.M.Master.strict c.args.master.now, r.0, g.M.Master.refused c.args.master.now, r.1, r.2)
 
-pub returns-in_ok-fail_leaf-in-Failed-clause-turned : goal.returns-in_ok-fail_leaf-in-Failed-clause-turned
-returns-in_ok-fail_leaf-in-Failed-clause-turned g c =
+pub returns-in_ok-give_up_leaf-in-Failed-clause-turned : goal.returns-in_ok-give_up_leaf-in-Failed-clause-turned
+returns-in_ok-give_up_leaf-in-Failed-clause-turned g c =
     let n = c.args.node.now in
     let strict = g.M.Master.strict c.args.master.now in
     let patient = g.W.Watch.patient c.args.watch.now in
     let now = g.M.Master.refused c.args.master.now in
     let later = g.M.Master.refused c.ask_master.new.master in
-    let given = failed-end n.searched.day.instance.now n.cuts.now c.ask_master.new.pool now later strict patient c.in_ok-end.end c.in_ok-end.ensures.end c.in_ok-end.ensures.counted.counts c.ask_master.ensures.counted.within c.in-Failed.field-0 (sym c.outcome_of.ensures ∙ c.in-Failed.is) in
-    λ before low asked. c.in_ok-fail_leaf-in-Failed.ensures.turned strict before now low later asked given
+    let given = failed-end n.searched.day.instance.now n.cuts.now c.ask_master.new.pool now later strict patient c.in_ok-end.end c.in_ok-end.ensures.end c.in_ok-end.ensures.counted.counts c.ask_master.ensures.counted.within c.in-Failed.cause (sym c.outcome_of.ensures ∙ c.in-Failed.is) in
+    λ before low asked. c.in_ok-give_up_leaf-in-Failed.ensures.turned strict before now low later asked given
 
 pub returns-in_ok-best_leaf-in-Solved-clause-turned : goal.returns-in_ok-best_leaf-in-Solved-clause-turned
 returns-in_ok-best_leaf-in-Solved-clause-turned g c =
@@ -64,16 +64,39 @@ returns-in_ok-best_leaf-in-Solved-clause-turned g c =
     λ before low asked. c.in_ok-best_leaf-in-Solved.ensures.turned strict before later low
     (later-node n.searched.day.instance.now n.searched.day.graph.now strict before now later low c.args.progress.now c.args.leaf n.cuts.now asked c.ask_master.ensures.counted.rises c.ask_master.ensures.counted.within)
 
-pub returns-in-Stopped-clause-turned : goal.returns-in-Stopped-clause-turned
-returns-in-Stopped-clause-turned g c =
+pub returns-in_ok-offer_late-in-Stopped-clause-turned : goal.returns-in_ok-offer_late-in-Stopped-clause-turned
+returns-in_ok-offer_late-in-Stopped-clause-turned g c =
     let n = c.args.node.now in
     let strict = g.M.Master.strict c.args.master.now in
     let patient = g.W.Watch.patient c.args.watch.now in
     let now = g.M.Master.refused c.args.master.now in
     let later = g.M.Master.refused c.ask_master.new.master in
     let stops = stopped-end n.searched.day.instance.now n.cuts.now c.ask_master.new.pool now later strict patient c.in_ok-end.end c.in_ok-end.ensures.end c.in_ok-end.ensures.counted.counts c.ask_master.ensures.counted.within (sym c.outcome_of.ensures ∙ c.in-Stopped.is) in
-    λ before low asked. turn-stopped n.searched.day.instance.now n.searched.day.graph.now strict before now later low patient c.args.progress.now c.args.leaf n.cuts.now c.args.progress.now.best asked
-    (same-best n.searched.day.instance.now n.searched.day.graph.now strict before now low c.args.progress.now c.args.leaf n.cuts.now asked) stops.0 stops.1
+    λ before low asked. turn-stopped n.searched.day.instance.now n.searched.day.graph.now strict before now later low patient c.args.progress.now c.args.leaf n.cuts.now c.offer_late.new.best asked
+    c.offer_late.ensures.better stops.0 stops.1
+
+pub offer_late-requires-clause-good : goal.offer_late-requires-clause-good
+offer_late-requires-clause-good g c = c.requires.leaf.2.is.best
+
+pub offer_late-requires-clause-desk : goal.offer_late-requires-clause-desk
+offer_late-requires-clause-desk g c = c.ask_master.ensures.tools.desk
+
+pub returns-in_ok-offer_late-in-Stopped-clause-tools : goal.returns-in_ok-offer_late-in-Stopped-clause-tools
+returns-in_ok-offer_late-in-Stopped-clause-tools g c = record { pool = c.ask_master.ensures.tools.pool; desk = c.offer_late.ensures.desk }
+
+pub returns-in_err-offer_late-in-Stopped-clause-tools : goal.returns-in_err-offer_late-in-Stopped-clause-tools
+returns-in_err-offer_late-in-Stopped-clause-tools g c = record { pool = c.ask_master.ensures.tools.pool; desk = c.offer_late.ensures.desk }
+
+pub give_up_leaf-requires-clause-tools : goal.give_up_leaf-requires-clause-tools
+give_up_leaf-requires-clause-tools g c = tools-later c.args.node.now.searched.day c.args.pool.now c.ask_master.new.pool c.ask_master.new.desk c.ask_master.ensures.tools
+
+pub returns-in_ok-give_up_leaf-in-Failed-clause-tools : goal.returns-in_ok-give_up_leaf-in-Failed-clause-tools
+returns-in_ok-give_up_leaf-in-Failed-clause-tools g c =
+    more-tools c.args.node.now.searched.day c.args.pool.now c.ask_master.new.pool c.give_up_leaf.new.pool c.ask_master.new.desk c.give_up_leaf.new.desk c.ask_master.ensures.tools c.give_up_leaf.ensures.tools
+
+pub returns-in_err-give_up_leaf-in-Failed-clause-tools : goal.returns-in_err-give_up_leaf-in-Failed-clause-tools
+returns-in_err-give_up_leaf-in-Failed-clause-tools g c =
+    more-tools c.args.node.now.searched.day c.args.pool.now c.ask_master.new.pool c.give_up_leaf.new.pool c.ask_master.new.desk c.give_up_leaf.new.desk c.ask_master.ensures.tools c.give_up_leaf.ensures.tools
 
 pub returns-in_ok-best_leaf-in-Solved-clause-tools : goal.returns-in_ok-best_leaf-in-Solved-clause-tools
 returns-in_ok-best_leaf-in-Solved-clause-tools g c =

@@ -29,8 +29,8 @@ returns-in_err-desk-clause-found c =
       better = c.offer_shifts.ensures.offered.better;
     }
 
-pub returns-in_err-offer_shifts-clause-found : goal.returns-in_err-offer_shifts-clause-found
-returns-in_err-offer_shifts-clause-found c =
+pub returns-in_err-is_allowed-clause-found : goal.returns-in_err-is_allowed-clause-found
+returns-in_err-is_allowed-clause-found c =
     let k = c.requires.find.tools.desk in
     record {
       tools = record { pool = record { are = c.requires.find.tools.pool; grown = ([], sym (append-nil c.args.pool.now)) }; desk = record { pricing = k.pricing; most = k.most; rosters = c.offer_shifts.ensures.offered.rosters } };

@@ -1,0 +1,8 @@
+use Rattle.branch_price.proofs.ToolsLemmas.{same-find}
+use Rattle.branch_price.proofs.moved.offer_without_prices.Goals as goal
+
+pub returns-in_default : goal.returns-in_default
+returns-in_default g c = same-find c.args.day.now c.args.pool.now c.args.desk.now c.args.best.now c.requires.find
+
+pub returns-then : goal.returns-then
+returns-then g c = same-find c.args.day.now c.args.pool.now c.args.desk.now c.args.best.now c.requires.find
