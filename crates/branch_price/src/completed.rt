@@ -63,7 +63,12 @@ fn dives_at(stage: &Stage, pool: &Pool) -> bool {
 
 /// Returns what steers the moves of a roster at a node that has these prices; at the first node they may take
 /// further passes.
-pub(crate) fn guide_of<'a>(graph: &Graph, pool: &Pool, prices: &'a Prices, stage: &Stage) -> Guide<'a> {
+pub(crate) fn guide_of<'a>(
+    graph: &Graph,
+    pool: &Pool,
+    prices: &'a Prices,
+    stage: &Stage,
+) -> Guide<'a> {
     let is_first = stage.processed == 0;
     Guide {
         prices,

@@ -42,13 +42,28 @@ fn offer_moved<W: Watch>(
     ensures { HasFound day.now pool.old pool.new desk.new best.old best.new }
 {
     watch.tell(Work::Rosters);
-    let begun = add_words(alloc, day, best_shifts(best), &mut desk.pricing.pricer, pool)?;
+    let begun = add_words(
+        alloc,
+        day,
+        best_shifts(best),
+        &mut desk.pricing.pricer,
+        pool,
+    )?;
     let Ok(prices) = missing_prices(alloc, day.instance) else {
         drop(begun);
         return Err(Memory);
     };
     let guide = guide_of(day.graph, pool, &prices, stage);
-    let offered = offer_begun(alloc, day, begun.as_slice(), &guide, desk, pool, best, watch);
+    let offered = offer_begun(
+        alloc,
+        day,
+        begun.as_slice(),
+        &guide,
+        desk,
+        pool,
+        best,
+        watch,
+    );
     drop(begun);
     drop(prices);
     offered

@@ -100,7 +100,45 @@ fn watched_in<M: Master>(
     Ok(watched)
 }
 
-/// Searches a sample day with a new master, a plain one or one that always fails.
+/// Searches in a graph with a new master, a plain one or one that always fails.
+fn watched_by(
+    alloc: Global,
+    day: &Instance,
+    graph: &Graph,
+    fails: bool,
+    over_at: Option<u32>,
+) -> Result<Watched, Fail>
+    requires day { IsSoundInstance day.now }
+    requires graph { IsGraph day.now.grammar graph.now }
+{
+    if fails {
+        let mut master = FailingMaster::new(true, Vec::new(alloc));
+        let watched = watched_in(alloc, day, graph, 40, &mut master, over_at);
+        drop(master);
+        return watched;
+    }
+    let mut master = PlainMaster::new();
+    let watched = watched_in(alloc, day, graph, 40, &mut master, over_at);
+    drop(master);
+    watched
+}
+
+/// Searches on a sound day.
+fn watched_on(
+    alloc: Global,
+    day: &Instance,
+    fails: bool,
+    over_at: Option<u32>,
+) -> Result<Watched, Fail>
+    requires day { IsSoundInstance day.now }
+{
+    let graph = graph_of(alloc, &day.grammar)?;
+    let watched = watched_by(alloc, day, &graph, fails, over_at);
+    drop(graph);
+    watched
+}
+
+/// Searches a sample day.
 fn watched(
     alloc: Global,
     parts: &DayParts,
@@ -108,14 +146,7 @@ fn watched(
     over_at: Option<u32>,
 ) -> Result<Watched, Fail> {
     let day = sound_day(alloc, parts)?;
-    let graph = graph_of(alloc, &day.grammar)?;
-    let watched = if fails {
-        let mut master = FailingMaster::new(true, Vec::new(alloc));
-        watched_in(alloc, &day, &graph, 40, &mut master, over_at)
-    } else {
-        watched_in(alloc, &day, &graph, 40, &mut PlainMaster::new(), over_at)
-    };
-    drop(graph);
+    let watched = watched_on(alloc, &day, fails, over_at);
     drop(day);
     watched
 }
@@ -175,22 +206,32 @@ fn a_first_roster_where_equal_shifts_miss_a_floor(rt: HostRuntime) -> Result<(),
     Ok(())
 }
 
-/// Returns what a search for one second by a clock that stands still finds on pairs.
-fn found_by_still_clock(alloc: Global) -> Result<Found, Fail> {
-    let day = sound_day(alloc, &PAIR_DAY)?;
+/// Returns what a search for one second by a clock that stands still finds on a sound day.
+fn found_by_still_clock(alloc: Global, day: &Instance) -> Result<Found, Fail>
+    requires day { IsSoundInstance day.now }
+{
     let graph = graph_of(alloc, &day.grammar)?;
+    let mut master = PlainMaster::new();
     let mut watch = ClockWatch::new(Still);
     watch.begin(Subject::Solve, Some(1));
-    let found = found_in(alloc, &day, &graph, 40, &mut PlainMaster::new(), &mut watch);
+    let found = found_in(alloc, day, &graph, 40, &mut master, &mut watch);
     drop(watch);
+    drop(master);
     drop(graph);
+    found
+}
+
+/// Returns what it finds on pairs.
+fn pairs_by_still_clock(alloc: Global) -> Result<Found, Fail> {
+    let day = sound_day(alloc, &PAIR_DAY)?;
+    let found = found_by_still_clock(alloc, &day);
     drop(day);
     found
 }
 
 #[test]
 fn a_clock_that_stands_still_stops_nothing(rt: HostRuntime) -> Result<(), Fail> {
-    let found = found_by_still_clock(rt.alloc())?;
+    let found = pairs_by_still_clock(rt.alloc())?;
     let is_closed = found.done == Done::Equal && found.cert.cost == Some(4);
     drop(found);
     assert!(rt; is_closed);

@@ -4,5 +4,5 @@ use Rattle.branch_price.proofs.moved.offer_without_prices.Goals as goal
 pub returns-in_default : goal.returns-in_default
 returns-in_default g c = same-find c.args.day.now c.args.pool.now c.args.desk.now c.args.best.now c.requires.find
 
-pub returns-then : goal.returns-then
-returns-then g c = same-find c.args.day.now c.args.pool.now c.args.desk.now c.args.best.now c.requires.find
+pub returns-then-not-is_due : goal.returns-then-not-is_due
+returns-then-not-is_due g c = same-find c.args.day.now c.args.pool.now c.args.desk.now c.args.best.now c.requires.find
