@@ -93,7 +93,9 @@ pub fn complete<W: Watch>(
     let mut tried = Pool::new(alloc);
     match drafted(alloc, day, pool, columns, &mut tried) {
         Ok(mut draft) => {
-            let found = improve_into(alloc, day, guide, pricing, &mut tried, &mut draft, pool, watch);
+            let found = improve_into(
+                alloc, day, guide, pricing, &mut tried, &mut draft, pool, watch,
+            );
             drop(draft);
             drop(tried);
             found
