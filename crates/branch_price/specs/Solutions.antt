@@ -25,7 +25,8 @@ use Rattle.branch_price.specs.declared.solved.Solved.{Solved}
 
 -- what comes of a master by its end
 abbrev pub outcome_of : NodeEnd → Outcome
-outcome_of (Best prices value weights) = is_solved (record { prices = prices; weights = weights; solution = is_exact })
+outcome_of (Best prices value weights) =
+    is_solved (record { prices = prices; weights = weights; solution = is_exact })
 outcome_of (Near prices weights) = is_solved (record { prices = prices; weights = weights; solution = is_near })
 outcome_of (Failed cause) = is_failed cause
 outcome_of Stopped = is_stopped

@@ -42,8 +42,8 @@ pub record IsTurned (i : Instance) (v : GraphView) (strict : Bool) (before now l
   pub processed : new.tree.processed ≡ old.tree.processed + 1
   pub falls : limit_of i new.best ≤ limit_of i old.best
 
--- the watch stopped the turn, and is not patient: a leaf that leaves the least bound is in hand, as many nodes are
--- processed as before, and the best roster gave way to none that costs more
+-- the watch stopped the turn, and is not patient: a leaf that leaves the least bound is in hand, as many nodes
+-- are processed as before, and the best roster gave way to none that costs more
 pub record IsStopped (i : Instance) (v : GraphView) (strict : Bool) (before now low : ℕ) (patient : Bool)
     (old new : Progress) (leaf : OpenLeaf) : Type 0 where
   pub restless : IsTrue patient → ⊥

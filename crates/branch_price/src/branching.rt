@@ -35,7 +35,8 @@ use search_watch::Watch;
 use std::alloc::Global;
 
 /// Returns how far a search is at its begin: the root is not processed, and the best roster is that of
-/// equal shifts of least price, the old one, or on a wide day one that is completed from none, where they are allowed.
+/// equal shifts of least price, the old one, or on a wide day one that is completed from no trees, where they
+/// are allowed.
 fn begin<W: Watch>(
     alloc: Global,
     job: &Job,
@@ -199,9 +200,9 @@ pub fn search_from<M: Master, W: Watch>(
 }
 
 /// Searches for a roster of least cost, with at most so many turns, 1 to 10,000. Each turn processes one
-/// node, one of least bound first. Between two turns the watch is told how far the search is, and may stop it; it
-/// is asked within a turn too, and where it says that the search is over that turn ends early, or is not taken.
-/// All that is said of what is found holds for the number of turns that were taken, from 0; the roster may be
+/// node, one of least bound first. Between two turns the watch is told how far the search is, and may stop it.
+/// It is asked within a turn too, and where it says that the search is over that turn ends early, or is not
+/// taken. All that is said of what is found holds for the number of turns that were taken, from 0; the roster may be
 /// better than so many turns would find. A patient watch stops none.
 ///
 /// The certificate is sound and accepted, its bound is what its tree shows, and its shifts stand in order

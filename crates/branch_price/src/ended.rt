@@ -1,7 +1,8 @@
 ghost use Rattle.std.specs.Prelude.{◌≡◌, IfOk};
 ghost use Rattle.roster_model.specs.SoundInstance.{IsSoundInstance};
 ghost use Rattle.candidate_rosters.specs.Offers.{cost_of};
-ghost use Rattle.branch_price.specs.Ends.{AsksEnd, IsEndOf, IsFoundAtEnd, IsHalted, IsFoundHalted, IsStatedBy, IsClosedBy};
+ghost use Rattle.branch_price.specs.Ends.{AsksEnd, IsEndOf, IsFoundAtEnd, IsHalted, IsFoundHalted};
+ghost use Rattle.branch_price.specs.Ends.{IsStatedBy, IsClosedBy};
 
 use crate::found::Found;
 use crate::progress::Progress;
@@ -65,8 +66,8 @@ pub(crate) fn closed_end(best: &Option<Roster>) -> (Option<u64>, Done)
     }
 }
 
-/// Returns what a search found that its watch stopped within a turn, with this leaf in hand. It is closed where the
-/// best roster costs no more than the leaf's bound, which no open leaf is below.
+/// Returns what a search found that its watch stopped within a turn, with this leaf in hand. It is closed where
+/// the best roster costs no more than the leaf's bound, which no open leaf is below.
 ///
 /// # Errors
 ///

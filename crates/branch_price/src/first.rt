@@ -26,6 +26,10 @@ pub(crate) fn is_wide(graph: &Graph) -> bool {
 }
 
 /// Returns what an employee too few costs at each cell, as prices.
+///
+/// # Errors
+///
+/// `Memory` where memory runs out; nothing is kept then.
 pub(crate) fn missing_prices(alloc: Global, instance: &Instance) -> Result<Prices, Memory> {
     let mut cell = List::new(alloc);
     for one in instance.cells.as_slice() {
@@ -50,8 +54,8 @@ fn first_guide<'a>(graph: &Graph, prices: &'a Prices) -> Guide<'a> {
     }
 }
 
-/// Offers a roster for which no prices need be known: it is completed from none, shift by shift. Its trees stand in
-/// a pool of their own, so that the masters to come know nothing of it.
+/// Offers a roster for which no prices need be known: it is completed from no trees, shift by shift. Its trees
+/// stand in a pool of their own, so that the masters to come know nothing of it.
 ///
 /// # Errors
 ///

@@ -69,8 +69,8 @@ fn offer_moved<W: Watch>(
     offered
 }
 
-/// Offers a roster at a node that was given up for its rows, where it is due: there are no prices, whatever the
-/// turns, so the best roster is made better by moves.
+/// Offers a roster at a node that was given up for its rows, where it is due: there are no prices, whatever
+/// the turns, so the best roster is made better by moves.
 ///
 /// # Errors
 ///

@@ -14,7 +14,8 @@ use roster_model::{Instance, Memory, Shift};
 use roster_moves::add_words;
 use std::alloc::Global;
 
-/// Offers the roster of old shifts, at their prices on the day, and says whether there are some and they are allowed.
+/// Offers the roster of old shifts, at their prices on the day, and says whether there are some and they are
+/// allowed.
 ///
 /// # Errors
 ///
@@ -38,8 +39,8 @@ fn offer_shifts(
     Ok(is_allowed)
 }
 
-/// Offers the roster of an old certificate, and keeps its trees and its splits as hints. Says whether the roster
-/// has shifts and is allowed.
+/// Offers the roster of an old certificate, and keeps its trees and its splits as hints. Says whether the
+/// roster has shifts and is allowed.
 ///
 /// # Errors
 ///

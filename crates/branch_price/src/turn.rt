@@ -32,8 +32,9 @@ fn halve(graph: &Graph, progress: &mut Progress, leaf: OpenLeaf) -> Result<OpenL
     }
 }
 
-/// One turn of a search, which processes one node: the leaf that was taken, or a half of it. Where the watch stops
-/// it before the node has prices, the leaf, or the half, is in hand still, and a split above it keeps its prices.
+/// One turn of a search, which processes one node: the leaf that was taken, or a half of it. Where the watch
+/// stops it before the node has prices, the leaf, or the half, is in hand still, and a split above it keeps its
+/// prices.
 ///
 /// # Errors
 ///

@@ -114,8 +114,12 @@ fn is_repeated(shifts: &[Shift], place: usize, shift: &Shift) -> bool {
     }
 }
 
-/// Returns the number of a tree of a shift's word in the pool, which is the last one where the shift before it is
-/// the same; where it is not it may be added.
+/// Returns the number of a tree of a shift's word in the pool, which is the last one where the shift before it
+/// is the same; where it is not it may be added.
+///
+/// # Errors
+///
+/// `Memory` where memory runs out.
 fn next_word(
     day: &Day,
     shift: &Shift,
@@ -142,6 +146,10 @@ fn next_word(
 }
 
 /// Adds a number to a list, where there is one.
+///
+/// # Errors
+///
+/// `Memory` where memory runs out.
 fn push_found(columns: &mut List<usize>, column: Option<usize>) -> Result<(), Memory>
     ensures { (trees : Many PoolTree) → IsFoundIn trees column → AreColumns trees columns.old
         → OnOk result (AreColumns trees columns.new) }

@@ -8,7 +8,8 @@ use roster_model::{Instance, base_cut_count};
 use shelf::Shelf;
 use std::alloc::Global;
 
-const UNPROVED: &str = "nothing is proved yet: give more turns or seconds, or make the rules simpler";
+const UNPROVED: &str =
+    "nothing is proved yet: give more turns or seconds, or make the rules simpler";
 
 /// The most rows of a program that has prices.
 const MOST_ROWS: usize = 1_500;
@@ -24,7 +25,9 @@ fn root_rows(instance: &Instance) -> usize
 fn note_rows<S: Shelf>(alloc: Global, shelf: &mut S, rows: usize)
     ensures { S.told shelf.new ≡ S.told shelf.old }
 {
-    match format!(in alloc; "nothing is proved: the program of all shifts has {rows} rows, and at most 1500 are priced") {
+    match format!(in alloc;
+        "nothing is proved: the program of all shifts has {rows} rows, and at most 1500 are priced"
+    ) {
         Ok(text) => shelf.note(text.as_str()),
         Err(_) => {}
     }
@@ -64,8 +67,8 @@ pub(crate) fn note_unproved<S: Shelf>(shelf: &mut S, cert: &Cert, status: u8)
     }
 }
 
-// Notes what is to be done where the turns ran out, with status 8, before anything is proved of a day, or that it has
-// too many rows for prices.
+// Notes what is to be done where the turns ran out, with status 8, before anything is proved of a day, or that
+// it has too many rows for prices.
 fn note_unproved_day<S: Shelf>(
     alloc: Global,
     shelf: &mut S,

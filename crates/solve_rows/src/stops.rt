@@ -5,9 +5,7 @@ ghost use Rattle.parse_graph.specs.Graphs.{IsGraph};
 use crate::failing::FailingMaster;
 use crate::searches::{PAIR_DAY, graph_of};
 use crate::watches::{NthWatch, Still};
-use branch_price::{
-    ClockWatch, Done, Found, Master, PlainMaster, Pool, Subject, Watch, search,
-};
+use branch_price::{ClockWatch, Done, Found, Master, PlainMaster, Pool, Subject, Watch, search};
 use parse_graph::Graph;
 use roster_model::{Cell, Instance};
 use sample_days::{

@@ -9,13 +9,13 @@ loop-place-preserved c = record {
   room = c.next_word.ensures.kept ∙ c.loop-place.invariant.room;
   pool = c.next_word.ensures.pool.are;
   grown = grown-more c.args.pool.now c.loop-place.pool c.next_word.new.pool c.loop-place.invariant.grown c.next_word.ensures.pool.grown;
-  last = c.in_ok-next_word.ensures.found;
-  columns = c.in_ok-push_found.ensures c.next_word.new.pool c.in_ok-next_word.ensures.found
+  last = c.in_ok-last.ensures.found;
+  columns = c.in_ok-push_found.ensures c.next_word.new.pool c.in_ok-last.ensures.found
       (columns-later c.loop-place.pool c.next_word.new.pool c.loop-place.columns c.next_word.ensures.pool.grown c.loop-place.invariant.columns);
 }
 
-pub returns-in_err-next_word-clause-pool : goal.returns-in_err-next_word-clause-pool
-returns-in_err-next_word-clause-pool c = record {
+pub returns-in_err-last-clause-pool : goal.returns-in_err-last-clause-pool
+returns-in_err-last-clause-pool c = record {
   are = c.next_word.ensures.pool.are;
   grown = grown-more c.args.pool.now c.loop-place.pool c.next_word.new.pool c.loop-place.invariant.grown c.next_word.ensures.pool.grown;
 }
