@@ -104,8 +104,8 @@ abbrev pub AreSolved : Solution → Instance → List Cut → List PoolTree → 
 AreSolved is_exact i cuts columns weights = AreLeastWeights i cuts columns weights
 AreSolved is_near i cuts columns weights = (p : Prices) × IsNear i cuts columns p weights
 
--- each answer comes only where it may; more than 1,500 rows exactly where there are so many; nothing is stopped
--- where it is calm, and what is stopped is not counted
+-- each answer comes only where it may; more than 1,500 rows exactly where there are so many; nothing is
+-- stopped where it is calm, and what is stopped is not counted
 abbrev pub EndsRight : Instance → List Cut → List PoolTree → Counts → Counts → Bool → NodeEnd → Type 0
 EndsRight i cuts columns old new calm (Best prices value weights) = (length (rows_of i cuts) ≤ 1500)
     × IsBest i cuts columns prices value weights

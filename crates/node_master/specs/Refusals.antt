@@ -15,8 +15,8 @@ pub record IsRefused (i : Instance) (cuts : List Cut) (strict : Bool) : Type 0 w
   pub few : length (rows_of i cuts) ≤ 1500
   pub hard : IsTrue strict → IsHard i cuts
 
--- each answer comes only where it may; more than 1,500 rows exactly where there are so many; nothing is stopped
--- where it is calm
+-- each answer comes only where it may; more than 1,500 rows exactly where there are so many; nothing is
+-- stopped where it is calm
 abbrev pub EndsWell : Instance → List Cut → List PoolTree → Bool → Bool → NodeEnd → Type 0
 EndsWell i cuts columns strict calm (Best prices value weights) =
     (length (rows_of i cuts) ≤ 1500) × IsBest i cuts columns prices value weights

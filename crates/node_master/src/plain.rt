@@ -65,7 +65,8 @@ impl PlainMaster {
     ) -> Result<NodeEnd, Memory>
         requires node { IsBusyNode day.now cuts.now }
         requires tools { AreTools day.now pricer.old pool.old }
-        ensures end { IfOk result (EndsWell day.now.instance.now cuts.now pool.new true (W.patient watch.now)) }
+        ensures end { IfOk result (EndsWell day.now.instance.now cuts.now pool.new true
+            (W.patient watch.now)) }
         ensures refused { self.new.refused ≡ self.old.refused }
         ensures tools { StayTools day.now pricer.new pool.old pool.new }
     {
@@ -102,7 +103,8 @@ impl PlainMaster {
     ) -> Result<NodeEnd, Memory>
         requires node { IsBusyNode day.now cuts.now }
         requires tools { AreTools day.now pricer.old pool.old }
-        ensures end { IfOk result (EndsWell day.now.instance.now cuts.now pool.new true (W.patient watch.now)) }
+        ensures end { IfOk result (EndsWell day.now.instance.now cuts.now pool.new true
+            (W.patient watch.now)) }
         ensures refused { self.new.refused ≡ self.old.refused }
         ensures tools { StayTools day.now pricer.new pool.old pool.new }
     {

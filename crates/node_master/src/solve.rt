@@ -66,8 +66,8 @@ pub fn solve_node(
 
 /// Solves the master of a node as `solve_node` does. The hunt for a good basis begins with that of the
 /// nearest node above, if it is kept, and that of this node is kept: they are hints. A way to prices is gone
-/// first, and a master is given up only where neither leads to any. Where the watch is over it stops, once near
-/// prices were asked for.
+/// first, and a master is given up only where neither leads to any. Where the watch is over it stops, once
+/// near prices were asked for.
 ///
 /// Trees of the pool that are wanted steer the solution, the most wanted first: any list of numbers
 /// is lawful. Whatever the answer, the pricer is still one made for the graph, and the pool has its

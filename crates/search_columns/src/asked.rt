@@ -134,8 +134,8 @@ impl Asked {
         self.is_early = self.bound.is_some();
     }
 
-    /// Returns the bound that the best prices show as a whole number, rounded down; none where there is none, or
-    /// where it is below 0.
+    /// Returns the bound that the best prices show as a whole number, rounded down; none where there is none,
+    /// or where it is below 0.
     pub(crate) fn whole_bound(&self) -> Option<u64> {
         whole_bound(self.bound?)
     }

@@ -26,7 +26,8 @@ pub struct Hint {
     pub own: List<u32>,
     /// Its weights and prices.
     pub near: NearHint,
-    /// Whether the hunt ended before no tree was cheap, since the value was near to what the best prices show.
+    /// Whether the hunt ended before no tree was cheap, where the value was near to what the best prices
+    /// show.
     pub is_early: bool,
     /// Whether a watch ended the hunt.
     pub is_stopped: bool,

@@ -1,5 +1,5 @@
-//! The hunt for a good basis of the master of one node: trees of negative reduced cost, listed at a scout round
-//! after round, and what the last basis gives as a hint.
+//! The hunt for a good basis of the master of one node: trees of negative reduced cost, listed at a scout
+//! round after round, and what the last basis gives as a hint.
 #![tactic(auto)]
 
 mod asked;

@@ -57,7 +57,8 @@ IsLpFault p Lists pivots old new Memory = Unit {0}
 IsLpFault p Lists pivots old new Stopped = ⊥
 
 -- the same of a path that may be stopped, as none is where it is calm
-abbrev pub EndsLp : {K : Type 0} → Program K → (ℕ → K → Type 0) → Bool → ℕ → Counts → Counts → LpFault → Type 0
+abbrev pub EndsLp : {K : Type 0} → Program K → (ℕ → K → Type 0) → Bool → ℕ → Counts → Counts → LpFault
+    → Type 0
 EndsLp p Lists calm pivots old new (Wide fault) = IsLpFault p Lists pivots old new (Wide fault)
 EndsLp p Lists calm pivots old new (Spent n) = IsLpFault p Lists pivots old new (Spent n)
 EndsLp p Lists calm pivots old new Memory = IsLpFault p Lists pivots old new Memory

@@ -68,15 +68,15 @@ fn next<C: Columns>(
     }
 }
 
-/// Makes turns until no column has a negative reduced cost, at most so many. It asks before each whether it is
-/// to stop.
+/// Makes turns until no column has a negative reduced cost, at most so many. It asks before each whether it
+/// is to stop.
 ///
 /// # Errors
 ///
 /// The fault of the program (`EndsLp`): `Wide` for a number above 2^56 in size or a column that is too
 /// large, `Spent` where so many turns were made and a column has a negative reduced cost, each of which the
-/// tally counts, `Memory`, or `Stopped`. Listed columns keep their numbers then too, and nothing is said of the
-/// sheet.
+/// tally counts, `Memory`, or `Stopped`. Listed columns keep their numbers then too, and nothing is said of
+/// the sheet.
 pub(crate) fn run<C: Columns>(
     columns: &mut C,
     sheet: &mut Sheet,

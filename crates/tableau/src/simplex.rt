@@ -144,8 +144,8 @@ fn is_wide(fault: LpFault) -> bool {
 /// # Errors
 ///
 /// The fault of the program (`EndsLp`): `Wide` for a number above 2^56 in size on some path, or a column
-/// that is too large, `Spent` where all pivots were made, each of which the tally counts, `Memory`, or `Stopped`
-/// where the columns say so before a pivot. Listed columns keep their numbers then too.
+/// that is too large, `Spent` where all pivots were made, each of which the tally counts, `Memory`, or
+/// `Stopped` where the columns say so before a pivot. Listed columns keep their numbers then too.
 pub fn solve<C: Columns>(
     alloc: Global,
     columns: &mut C,

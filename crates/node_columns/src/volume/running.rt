@@ -33,7 +33,7 @@ fn volume_of(alloc: Global, task: &NodeTask, desk: VolumeDesk) -> Result<Volume,
 /// bound. Each tree has a share in a mean of what trees bring to the rows, and the next prices are a step from
 /// the best ones along what the mean lacks. The first ones are those of `start`, in units of 2^-24, of which a
 /// row behind the last has the price 0; without a start all are 0. It ends where steps become too small to be
-/// worth a pass, and behind a first pass where the watch is over. Trees come into a pool of its own.
+/// worth a pass, and behind its first pass where the watch is over. Trees come into a pool of its own.
 ///
 /// # Errors
 ///
