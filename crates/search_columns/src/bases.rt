@@ -94,8 +94,8 @@ impl Bases {
         Bases::with_steps(alloc, STEPS)
     }
 
-    /// Returns no bases, for hunts whose rounds have so many steps while they are not careful: with few of them a
-    /// hunt is soon lost, and rescued.
+    /// Returns no bases, for hunts whose rounds have so many steps while they are not careful: with few of
+    /// them a hunt is soon lost, and rescued.
     pub fn with_steps(alloc: Global, steps: Limits) -> Bases {
         Bases {
             kept: Vec::new(alloc),

@@ -42,7 +42,8 @@ fn careful_runs_of_single_steps_cost_3(rt: HostRuntime) {
     assert!(rt; is_three);
 }
 
-/// Whether the shifts cost 2 where what is missing in the first period costs nothing, and 3 where it is dear again.
+/// Whether the shifts cost 2 where what is missing in the first period costs nothing, and 3 where it is dear
+/// again.
 fn costs_two_with_a_free_period(scout: &mut Scout) -> bool {
     scout.set_costs(0, 0, Some(0));
     let is_two = scout.run(LIMITS, &SteadyWatch) == Scouted::Optimal && is_about(scout.value(), 2);
