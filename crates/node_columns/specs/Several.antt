@@ -22,7 +22,6 @@ pub record HasBegun (t : NodeTask) (p : PricerView) (trees : List PoolTree) (d :
   pub tools : AreTools t p trees d
 
 -- they still may, and the old trees of the pool kept their numbers
-pub record StayPriced (t : NodeTask) (p : PricerView) (old new : List PoolTree) (d : ColumnDesk) :
-    Type 0 where
+pub record StayPriced (t : NodeTask) (p : PricerView) (old new : List PoolTree) (d : ColumnDesk) : Type 0 where
   pub begun : HasBegun t p new d
   pub grown : IsGrown old new
