@@ -1,13 +1,15 @@
 #!/usr/bin/env python3
 """Solves days, and says cost, bound, turns and processor time, beside two general solvers where they are installed.
 
-    bench/solve.py [--turns N] [--limit SECONDS] [--program PROGRAM] [--peers FOLDER] [--parts] [FOLDER [DAY..]]
+    bench/solve.py [--turns N] [--seconds N] [--limit SECONDS] [--program PROGRAM] [--peers FOLDER] [--parts]
+                   [FOLDER [DAY..]]
 
 FOLDER has DAY.rules and DAY.demand for each day, by default the days of examples/ that a planner would know. PROGRAM
 is by default the one that `./roster` would run. A run that takes longer than the
 limit is given up. Each row has the day, cost and bound, the turns used and those of them without prices, the processor
 seconds and the memory of `solve`, and the seconds of `check` on what it stored; each solve is made twice, and the two
-texts must be the same.
+texts must be the same. With --seconds that many are the search's limit in place of turns: each solve is made once, and
+its seconds are those on the clock.
 
 With --parts each row ends with processor seconds by part, from samples of one more run by Debian's linux-perf. The
 widest number of the exact path at a root is told by bench/master.rs.
@@ -26,6 +28,7 @@ import signal
 import subprocess
 import sys
 import tempfile
+import time
 
 sys.dont_write_bytecode = True
 from built import program_path
@@ -58,16 +61,20 @@ def fields(said):
     return dict(line.split(" ", 1) for line in said.splitlines() if " " in line)
 
 
-def solved(program, rules, demand, turns, limit):
-    """A row of this program on a day."""
+def solved(program, rules, demand, most, limit):
+    """A row of this program on a day, with so many turns, or seconds as `10s`."""
     with tempfile.TemporaryDirectory() as folder:
         proof = pathlib.Path(folder, "proof")
-        words = [program, "solve", rules, demand, proof, turns]
+        words = [program, "solve", rules, demand, proof, most]
+        begun = time.monotonic()
         status, said, seconds, memory = run(words, limit)
+        passed = time.monotonic() - begun
         if status not in (0, 1, 8):
             return None, f"given up after {seconds:.1f} s" if status is None else said.strip()
         stored = proof.read_bytes()
-        if run(words, limit)[1] != said or proof.read_bytes() != stored:
+        if most.endswith("s"):
+            seconds = passed
+        elif run(words, limit)[1] != said or proof.read_bytes() != stored:
             sys.exit(f"{rules}: two runs differ")
         checked, _, checking, _ = run([program, "check", rules, demand, proof], limit)
         if checked != 0:
@@ -88,7 +95,7 @@ def peer(peers, solver, rules, demand, limit):
     return seconds if closed else None, f"{solver} {told['cost']} / {told['bound']} {seconds:.2f} s"
 
 
-def by_part(program, rules, demand, turns):
+def by_part(program, rules, demand, most):
     """The processor seconds of a search by part, from samples: each counts for the crate of its function."""
     with tempfile.TemporaryDirectory() as name:
         folder = pathlib.Path(name)
@@ -96,7 +103,7 @@ def by_part(program, rules, demand, turns):
         shutil.copy(demand, folder / "demand")
         record = ["perf", "record", "-q", "-e", "cpu-clock", "-F", "199", "-o", "samples"]
         before = os.times().children_user
-        subprocess.run([*record, program, "solve", "rules", "demand", "proof", str(turns)], cwd=folder,
+        subprocess.run([*record, program, "solve", "rules", "demand", "proof", most], cwd=folder,
                        stdout=subprocess.DEVNULL, check=False)
         seconds = os.times().children_user - before
         said = subprocess.run(["perf", "report", "-i", "samples", "--stdio", "-g", "none", "--sort", "symbol"],
@@ -114,6 +121,7 @@ def main():
     words.add_argument("folder", nargs="?", type=pathlib.Path, default=TOP / "examples")
     words.add_argument("days", nargs="*")
     words.add_argument("--turns", type=int, default=200)
+    words.add_argument("--seconds", type=int)
     words.add_argument("--limit", type=int, default=60)
     words.add_argument("--program")
     words.add_argument("--peers", type=pathlib.Path)
@@ -123,7 +131,8 @@ def main():
     days = given.days or sorted(it.stem for it in given.folder.glob("*.demand") if it.with_suffix(".rules").exists())
     for day in days:
         rules, demand = given.folder / f"{day}.rules", given.folder / f"{day}.demand"
-        seconds, row = solved(program, rules, demand, given.turns, given.limit)
+        most = f"{given.turns}" if given.seconds is None else f"{given.seconds}s"
+        seconds, row = solved(program, rules, demand, most, max(given.limit, (given.seconds or 0) + 60))
         if given.peers:
             found = [peer(given.peers, solver, rules, demand, given.limit) for solver in SOLVERS]
             row += "".join(f" | {text}" for _, text in found)
@@ -131,7 +140,7 @@ def main():
             if seconds is not None and best:
                 row += f" | ratio {seconds / best:.2f}"
         if given.parts:
-            row += f" | {by_part(program, rules, demand, given.turns)}"
+            row += f" | {by_part(program, rules, demand, most)}"
         print(f"{day} | {row}", flush=True)
 
 
