@@ -55,19 +55,19 @@ fn refuse_words<S: Shelf>(shelf: &mut S, words: &[String]) -> u8
 /// | 8 | `solve`, `make`: the turns or the seconds ran out before the bound was the cost; `curve`: so they did for some head count |
 /// | 9 | `solve`, `curve`, `make`: the instance has more than 100,000 arcs |
 ///
-/// LIMIT is a number of turns from 1 to 10,000, or one of seconds from 1 to 86,400 with an s behind it; the watch
-/// is told of a search between its turns, and asked within them too. MOST is one from 1 to 1,000, and NUMBER one
-/// from 0 to 4,294,967,295. In PATTERN `#` stands for any code. `explain`, `rank`, `next` and `fits` take a name of the rules as a last word, from
-/// which they derive then in place of the start name. `curve` takes the name of a group of the demand, whose greatest
-/// number it varies, and `solve` the name FROM of an old certificate: what it finds costs no more than the roster of
-/// that, where this is allowed on the day. A command says its whole
-/// answer at once; `solve` and `make` have stored the certificate under PROOF before, and `curve` those of its
-/// points under PROOF, a full stop and the head count. Status 6 or 7 ends it
-/// at the call that was refused, but where `solve` and `make` are refused to store the certificate: then they
-/// say their answer all the same, with status 6. But for these two any two answers over the same texts have the same status and say
-/// the same, save that `explain` may print another tree of the same cost, and that a search may use up its turns;
-/// two searches with status 0 say the same cost and bound, and may find different rosters and process different
-/// nodes.
+/// LIMIT is a number of turns from 1 to 10,000, or one of seconds from 1 to 86,400 with an s behind it; the
+/// watch is told of a search between its turns, and asked within them too. MOST is one from 1 to 1,000, and
+/// NUMBER one from 0 to 4,294,967,295. In PATTERN `#` stands for any code. `explain`, `rank`, `next` and
+/// `fits` take a name of the rules as a last word, from which they derive then in place of the start name.
+/// `curve` takes the name of a group of the demand, whose greatest number it varies, and `solve` the name
+/// FROM of an old certificate: what it finds costs no more than the roster of that, where this is allowed on
+/// the day. A command says its whole answer at once; `solve` and `make` have stored the certificate under
+/// PROOF before, and `curve` those of its points under PROOF, a full stop and the head count. Status 6 or 7
+/// ends it at the call that was refused, but where `solve` and `make` are refused to store the certificate:
+/// then they say their answer all the same, with status 6. But for these two any two answers over the same
+/// texts have the same status and say the same, save that `explain` may print another tree of the same cost,
+/// and that a search may use up its turns; two searches with status 0 say the same cost and bound, and may
+/// find different rosters and process different nodes.
 pub fn run<S: Shelf, M: Master, W: Watch>(
     alloc: Global,
     shelf: &mut S,
