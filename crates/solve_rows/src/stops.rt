@@ -37,7 +37,7 @@ static UNMET_DAY: DayParts<'static> = DayParts {
 
 /// How a search ended that was watched.
 #[derive(Clone, Copy, Drop)]
-struct Watched {
+struct SearchEnd {
     done: Done,
     cost: Option<u64>,
     bound: Option<u64>,
@@ -47,8 +47,8 @@ struct Watched {
 }
 
 /// Returns how a search ended that found this.
-fn watched_of(found: &Found, watch: &NthWatch) -> Watched {
-    Watched {
+fn watched_of(found: &Found, watch: &NthWatch) -> SearchEnd {
+    SearchEnd {
         done: found.done,
         cost: found.cert.cost,
         bound: found.cert.bound,
@@ -85,7 +85,7 @@ fn watched_in<M: Master>(
     turns: u32,
     master: &mut M,
     over_at: Option<u32>,
-) -> Result<Watched, Fail>
+) -> Result<SearchEnd, Fail>
     requires day { IsSoundInstance day.now }
     requires graph { IsGraph day.now.grammar graph.now }
     requires some { 1 ≤ turns }
@@ -105,7 +105,7 @@ fn watched_by(
     graph: &Graph,
     fails: bool,
     over_at: Option<u32>,
-) -> Result<Watched, Fail>
+) -> Result<SearchEnd, Fail>
     requires day { IsSoundInstance day.now }
     requires graph { IsGraph day.now.grammar graph.now }
 {
@@ -127,7 +127,7 @@ fn watched_on(
     day: &Instance,
     fails: bool,
     over_at: Option<u32>,
-) -> Result<Watched, Fail>
+) -> Result<SearchEnd, Fail>
     requires day { IsSoundInstance day.now }
 {
     let graph = graph_of(alloc, &day.grammar)?;
@@ -142,7 +142,7 @@ fn watched(
     parts: &DayParts,
     fails: bool,
     over_at: Option<u32>,
-) -> Result<Watched, Fail> {
+) -> Result<SearchEnd, Fail> {
     let day = sound_day(alloc, parts)?;
     let watched = watched_on(alloc, &day, fails, over_at);
     drop(day);
@@ -150,7 +150,7 @@ fn watched(
 }
 
 /// Whether a search that a watch stops at a question ends soon behind it, and says no more than the whole one.
-fn ends_soon(whole: &Watched, stopped: &Watched, number: u32) -> bool {
+fn ends_soon(whole: &SearchEnd, stopped: &SearchEnd, number: u32) -> bool {
     stopped.asked >= number
         && stopped.asked < number.saturating_add(100)
         && stopped.processed <= whole.processed
