@@ -27,7 +27,11 @@ const LATE_RULES: [RuleParts<'static>; 2] = [
 ];
 
 /// At least one employee is wanted in period 1, which no shift covers.
-const UNMET: [Cell; 1] = [Cell { floor: 1, ..CELL }];
+const UNMET: [Cell; 3] = [
+    Cell { floor: 1, ..CELL },
+    Cell { period: 2, ..CELL },
+    Cell { period: 3, ..CELL },
+];
 
 static UNMET_DAY: DayParts<'static> = DayParts {
     rules: &LATE_RULES,
