@@ -246,7 +246,7 @@ DESCRIPTION:7:00-8:30 =desk\\, phone\r
 END:VEVENT\r
 END:VCALENDAR\r
 ~ calendar g1 noted best called 2026-02-28
-0..
+0 ..
 UID:20260228-1-b84e21df119f9cf9557e05daa9383b2c@roster
 UID:20260228-1-218789bf8dcd9bf28124e96dd7a66125@roster
 ";
