@@ -94,6 +94,11 @@ def expect_refused(room, run, note):
     expect(run == (6, b"", note), run, note)
 
 
+def expect_said(run, note):
+    """What is stored was refused after the search, and the report is said all the same."""
+    expect(run[0] == 6 and run[1].startswith(b"report 1\n") and run[2] == note, run, note)
+
+
 def free_name(room):
     expect_stored(room, room.solve(), room.path("p"))
     expect(room.made() == ["p"], room.made())
@@ -142,7 +147,7 @@ def devices(room):
     run = room.solve()
     expect(run[0] == 0 and room.made() == ["p"], run)
     run = room.solve("/dev/full")
-    expect_refused(room, run, b"/dev/full: no storage space\n")
+    expect_said(run, b"/dev/full: no storage space\n")
 
 
 def pipe(room):
