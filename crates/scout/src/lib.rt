@@ -4,9 +4,11 @@
 //! call returns, and beyond its bounds it answers that it grew.
 #![tactic(auto)]
 
+mod last_basis;
 mod scout;
 
 pub use float_simplex::{
     Grown, Key, LastRow, Limits, ProductRoom, Q24, Q32, Scouted, Sign, Tolerances,
 };
+pub use last_basis::LastBasis;
 pub use scout::Scout;
