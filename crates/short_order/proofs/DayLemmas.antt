@@ -23,8 +23,8 @@ use Rattle.short_order.specs.Shorts.{AsksDayTree, AsksDayTreeUnder, HoldsTreeUnd
 use Rattle.short_order.specs.Walks.{AsksNode, WritesAt, WritesNode, AsksArc, WritesUnder, WritesArc}
 
 -- an empty room has room for each tree of the day
-day_room : (g : Grammar) (old room : RoomView) → IsSound g → old.most ≡ most_uses g → room ≡ record old { steps = [] } → HasRoom g (root_of g) room
-day_room g old room sound is cleared t h =
+pub day-room : (g : Grammar) (old room : RoomView) → IsSound g → old.most ≡ most_uses g → room ≡ record old { steps = [] } → HasRoom g (root_of g) room
+day-room g old room sound is cleared t h =
     let few = few-steps g sound t g.start 1 g.periods sound.some_period h in
     let none : length room.steps ≡ 0 = ap (λ (q : RoomView). length q.steps) cleared in
     let most : room.most ≡ most_uses g = ap (λ (q : RoomView). q.most) cleared ∙ is in
@@ -42,7 +42,7 @@ module _ (g : Grammar) (v : GraphView) (best : List ℕ) (old room : RoomView) (
     are_best = are;
     node = root_of g;
     at = subst (λ (q : Option ℕ). IsRoot g v.nodes q) root asks.graph.root;
-    space = day_room g old room asks.sound asks.space cleared;
+    space = day-room g old room asks.sound asks.space cleared;
   }
 
   -- the steps that were written are those of a tree of the day
@@ -68,7 +68,7 @@ module _ (g : Grammar) (v : GraphView) (best : List ℕ) (old room : RoomView) (
     are_best = are;
     key = a;
     at = asks.top.at;
-    space = subst (λ (o : OrNode). HasRoom g o room) (sym asks.top.makes) (day_room g old room asks.sound asks.space cleared);
+    space = subst (λ (o : OrNode). HasRoom g o room) (sym asks.top.makes) (day-room g old room asks.sound asks.space cleared);
   }
 
   -- the steps that were written are those of such a tree

@@ -55,8 +55,8 @@ module _ (v : GraphView) (best : List ℕ) (m : ℕ) (room : RoomView) (asked : 
   node-inside = let lt = slice_get_within v.nodes m asked.node asked.at in let e = asked.are_best.count in omega (arith, lt, e)
 
   -- the arc that the walk takes at a node
-  its : (key : ArcKey) × (slice_get v.arcs (slice_index best m) ≡ Some key) × (made asked.g key ≡ asked.node)
-  its = best-key asked.g v asked.graph best asked.are_best m asked.node asked.at
+  pub its-best : (key : ArcKey) × (slice_get v.arcs (slice_index best m) ≡ Some key) × (made asked.g key ≡ asked.node)
+  its-best = best-key asked.g v asked.graph best asked.are_best m asked.node asked.at
 
   -- the node has one
   has-best : slice_get best m ≡ Some (slice_index best m)
@@ -69,9 +69,9 @@ module _ (v : GraphView) (best : List ℕ) (m : ℕ) (room : RoomView) (asked : 
     sound = asked.sound;
     graph = asked.graph;
     are_best = asked.are_best;
-    key = its.0;
-    at = its.1;
-    space = subst (λ (o : OrNode). HasRoom asked.g o room) (sym its.2) asked.space;
+    key = its-best.0;
+    at = its-best.1;
+    space = subst (λ (o : OrNode). HasRoom asked.g o room) (sym its-best.2) asked.space;
   }
 
   -- it comes next
@@ -81,9 +81,9 @@ module _ (v : GraphView) (best : List ℕ) (m : ℕ) (room : RoomView) (asked : 
   -- what is written for it is what stands at the node
   pub writes-best : (new : RoomView) → WritesArc v best (slice_index best m) room new → WritesAt asked.g asked.node (start_of asked.node) room new
   writes-best new wrote =
-      let t : WritesUnder asked.g its.0 room new = wrote asks-best in
-      let start : its.0.start ≡ start_of asked.node = sym (made_start asked.g its.0.rule its.0.suffix its.0.start its.0.len) ∙ ap start_of its.2 in
-      (t.0, subst (λ (o : OrNode). IsAt asked.g o t.0) its.2 t.1.0, t.2 ∙ ap (λ (n : ℕ). record room { steps = room.steps ++ steps n t.0 }) start)
+      let t : WritesUnder asked.g its-best.0 room new = wrote asks-best in
+      let start : its-best.0.start ≡ start_of asked.node = sym (made_start asked.g its-best.0.rule its-best.0.suffix its-best.0.start its-best.0.len) ∙ ap start_of its-best.2 in
+      (t.0, subst (λ (o : OrNode). IsAt asked.g o t.0) its-best.2 t.1.0, t.2 ∙ ap (λ (n : ℕ). record room { steps = room.steps ++ steps n t.0 }) start)
 
 module _ (v : GraphView) (best : List ℕ) (a : ℕ) (room : RoomView) (asked : AsksArc v best a room) where
   stands : Standing asked.g asked.key
