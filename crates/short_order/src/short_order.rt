@@ -70,19 +70,48 @@ impl Work {
 
     /// Passes all arcs at these prices, and keeps those whose cheapest tree is dearer than the cheapest one by at
     /// most this much.
-    fn keep<P: LetterPrice>(&mut self, graph: &Graph, prices: &P, above: i64, best: &mut Vec<u32>) -> Result<(), Memory>
+    fn keep<P: LetterPrice>(
+        &mut self,
+        graph: &Graph,
+        prices: &P,
+        above: i64,
+        best: &mut Vec<u32>,
+    ) -> Result<(), Memory>
         requires { AreBest graph.now best.old.items }
         ensures { AreBest graph.now best.new.items }
     {
         self.costs.set(graph, prices);
-        pass(graph, prices, &self.costs, &self.letters, &self.all, &mut self.sums, best);
+        pass(
+            graph,
+            prices,
+            &self.costs,
+            &self.letters,
+            &self.all,
+            &mut self.sums,
+            best,
+        );
         let least = self.root_sum(graph);
         if least >= FAR {
             return keep_chain(&self.all, &mut self.kept);
         }
         let most = least.saturating_add(above).min(FAR);
-        pass_down(graph, &self.all, &self.costs, &self.sums, most, &mut self.beside);
-        keep_cheap(graph, &self.all, &self.costs, &self.sums, most, &self.beside, &mut self.kept)
+        pass_down(
+            graph,
+            &self.all,
+            &self.costs,
+            &self.sums,
+            most,
+            &mut self.beside,
+        );
+        keep_cheap(
+            graph,
+            &self.all,
+            &self.costs,
+            &self.sums,
+            most,
+            &self.beside,
+            &mut self.kept,
+        )
     }
 
     /// Returns the sum of the root, `FAR` or more where it has none.
@@ -117,7 +146,9 @@ impl ShortOrder {
         requires made { IsShortFor graph.now self.old }
         ensures made { IsShortFor graph.now self.new }
     {
-        let _kept = self.work.keep(graph, prices, price_of(above), &mut self.best);
+        let _kept = self
+            .work
+            .keep(graph, prices, price_of(above), &mut self.best);
     }
 
     /// Keeps all arcs. Takes no memory.
@@ -138,7 +169,15 @@ impl ShortOrder {
     {
         let work = &mut self.work;
         work.costs.set(graph, prices);
-        pass(graph, prices, &work.costs, &work.letters, &work.kept, &mut work.sums, &mut self.best);
+        pass(
+            graph,
+            prices,
+            &work.costs,
+            &work.letters,
+            &work.kept,
+            &mut work.sums,
+            &mut self.best,
+        );
         let root = graph.root()?;
         sum_below(sum_at(&self.work.sums, root))
     }
