@@ -60,7 +60,7 @@ before word off j k (Some t) = letters (t.first - 1 - j) off ++ stretch_letters 
 abbrev Gives : List ℕ → ℕ → ℕ → List ℕ → Type 0
 Gives word off k bs =
     (live : Option Stretch) (j : ℕ) → IsLive j k live
-        → pasted word off j (stretches_from (Some off) live k bs) ≡ before word off j k live ++ bs
+    → pasted word off j (stretches_from (Some off) live k bs) ≡ before word off j k live ++ bs
 
 step : (word : List ℕ) (off : ℕ) (live : Option Stretch) (j k b : ℕ) (bs : List ℕ) (o : Bool) → eqb off b ≡ o
     → drop k word ≡ b ∷ bs → IsLive j k live → Gives word off (k + 1) bs
@@ -138,9 +138,9 @@ clear_step word off (Some t) k b bs true eo e h ih = All-cons (IsClear word off)
 clear_step word off (Some t) k b bs false eo e h ih =
     let more : Stretch = record { first = t.first; last = k + 1 } in
     let clear : IsClear word off more =
-        ap (λ (l : List ℕ). list_all (is_on off) l) (more_stretch word t k b bs e h.0 h.1.0 h.1.1.0)
-        ∙ list_all-append (is_on off) (stretch_letters word t) (b ∷ [])
-        ∙ ap (λ (x : Bool). x && list_all (is_on off) (b ∷ [])) h.1.1.1 ∙ on_letter off b eo in
+    ap (λ (l : List ℕ). list_all (is_on off) l) (more_stretch word t k b bs e h.0 h.1.0 h.1.1.0)
+    ∙ list_all-append (is_on off) (stretch_letters word t) (b ∷ [])
+    ∙ ap (λ (x : Bool). x && list_all (is_on off) (b ∷ [])) h.1.1.1 ∙ on_letter off b eo in
     ih (Some more) (h.0, omega (arith, h.1.0, h.1.1.0), refl, clear)
 
 clear_from : (word : List ℕ) (off k : ℕ) (rest : List ℕ) → drop k word ≡ rest → Clear word off k rest

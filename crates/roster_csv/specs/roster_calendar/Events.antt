@@ -127,10 +127,13 @@ unfoldable pub summary_line : Instance → Labels → ℕ → Shift → List ℕ
 summary_line i d number s =
     property (codes "SUMMARY") (escaped (called (shift_name d.shifts number) (shift_text i d number s)))
 
+-- what a shift has when, behind its group and its number where it is called by a name
+abbrev pub description_text : Instance → Labels → Clock → ℕ → Shift → Stretch → List ℕ
+description_text i d c number s t =
+    lead_of (shift_name d.shifts number) (shift_text i d number s) ++ description_of i.grammar.codes d c t s.word
+
 unfoldable pub description_line : Instance → Labels → Clock → ℕ → Shift → Stretch → List ℕ
-description_line i d c number s t =
-    property (codes "DESCRIPTION") (escaped (lead_of (shift_name d.shifts number) (shift_text i d number s)
-    ++ description_of i.grammar.codes d c t s.word))
+description_line i d c number s t = property (codes "DESCRIPTION") (escaped (description_text i d c number s t))
 
 unfoldable pub end_line : List ℕ
 end_line = property (codes "END") (codes "VEVENT")
