@@ -9,7 +9,14 @@ use std::alloc::Global;
 use std::test::Fail;
 
 /// A demand text, a labels text, a date, the number of the one shift that is asked for, shifts, and their calendar.
-type Row<'a> = (&'a str, &'a str, &'a str, Option<u32>, &'a [ShiftParts<'a>], &'a str);
+type Row<'a> = (
+    &'a str,
+    &'a str,
+    &'a str,
+    Option<u32>,
+    &'a [ShiftParts<'a>],
+    &'a str,
+);
 
 /// A night with labels in which signs stand that a calendar escapes, a line of more than 75 bytes, and two
 /// equal shifts; the night under other labels with two shifts that stayed, whose UIDs are as they were; no
@@ -212,7 +219,15 @@ fn holds_on(alloc: Global, instance: &Instance, row: &Row<'_>) -> Result<bool, F
     };
     let setting = setting(clock, date)?;
     let shifts = roster(alloc, parts)?;
-    Ok(is_calendar(alloc, instance, &labels, &setting, only, shifts.as_slice(), text))
+    Ok(is_calendar(
+        alloc,
+        instance,
+        &labels,
+        &setting,
+        only,
+        shifts.as_slice(),
+        text,
+    ))
 }
 
 // Whether the calendar of a row is as it should be.

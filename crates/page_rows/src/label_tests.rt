@@ -2,8 +2,8 @@ ghost use Rattle.roster_model.specs.SoundInstance.{IsSoundInstance};
 
 use crate::days::{ShiftParts, day, roster};
 use page_labels::{
-    Clock, Labels, code_words, decimals_of, fault_line, group_words, put_duration, put_time, read_labels, refused_shift,
-    shift_name,
+    Clock, Labels, code_words, decimals_of, fault_line, group_words, put_duration, put_time,
+    read_labels, refused_shift, shift_name,
 };
 use roster_model::{Instance, List};
 use std::alloc::Global;
@@ -34,7 +34,8 @@ fn says_all(alloc: Global, instance: &Instance) -> bool
 fn says_more(alloc: Global, instance: &Instance) -> bool
     requires { IsSoundInstance instance.now }
 {
-    let text = "\u{feff}off .\ntitle Früh\u{a0}日\ndecimals 2\nshift 3 S apa. Jörg Maß # or\npaid p yes\n";
+    let text =
+        "\u{feff}off .\ntitle Früh\u{a0}日\ndecimals 2\nshift 3 S apa. Jörg Maß # or\npaid p yes\n";
     let Ok(labels) = read_labels(alloc, instance, text.as_bytes()) else {
         return false;
     };
@@ -66,7 +67,10 @@ const FAULTS: [(&str, &str); 12] = [
     ("shift 1 S apa.\n", "labels: line 1: unknown line\n"),
     ("shift 0 S apa. A\n", "labels: line 1: out of range\n"),
     ("shift 1 T apa. A\n", "labels: line 1: no such name\n"),
-    ("shift 1 S apa. A\nshift 1 S .aa. B\n", "labels: line 2: said twice\n"),
+    (
+        "shift 1 S apa. A\nshift 1 S .aa. B\n",
+        "labels: line 2: said twice\n",
+    ),
     ("title a\u{202e}b\n", "labels: line 1: bad byte\n"),
 ];
 
@@ -129,9 +133,15 @@ const SHIFTS: [ShiftParts<'static>; 2] = [(1, "apa."), (1, ".aa.")];
 /// Texts that name shifts, and the line of the fault of the first that is not the roster's.
 const NAMES: [(&str, &str); 4] = [
     ("shift 2 S .aa. A\nshift 1 S apa. B\n", ""),
-    ("shift 1 S apa. A\nshift 2 S apa. B\n", "labels: line 2: another shift\n"),
+    (
+        "shift 1 S apa. A\nshift 2 S apa. B\n",
+        "labels: line 2: another shift\n",
+    ),
     ("\nshift 3 S apa. A\n", "labels: line 2: no such shift\n"),
-    ("shift 70 S apa. A\nshift 2 S apa. B\n", "labels: line 1: no such shift\n"),
+    (
+        "shift 70 S apa. A\nshift 2 S apa. B\n",
+        "labels: line 1: no such shift\n",
+    ),
 ];
 
 // Whether the names of labels are refused with this line, or stand where it is empty.

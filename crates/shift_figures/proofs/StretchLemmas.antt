@@ -43,7 +43,7 @@ more_stretch word t k b bs e some order last =
     let longer : k + 1 + 1 - t.first ≡ n + 1 = omega (arith, some, order, last) in
     let place : m + n ≡ k = omega (arith, some, order, last) in
     let lt : n < length (drop m word) = omega (arith, length-drop m word, at.0, place) in
-    let letter : get_or (drop m word) n 0 ≡ b = get_or-drop m word n 0 ∙ ap (λ (x : ℕ). get_or word x 0) place ∙ at.1.0 in
+    let letter : get_or (drop m word) n 0 ≡ b = get_or-drop m word n 0 ∙ ap (λ (x : ℕ). get_or word x 0) place ∙ at.1 in
     ap (λ (x : ℕ). take x (drop m word)) longer ∙ take_more (drop m word) n 0 lt
     ∙ ap (λ (x : ℕ). take n (drop m word) ++ x ∷ []) letter
 
@@ -82,15 +82,15 @@ step word off None j k b bs false eo e h ih =
 step word off (Some t) j k b bs true eo e h ih =
     let gap = letters (t.first - 1 - j) off in
     let own = stretch_letters word t in
-    let one : k + 1 - t.last ≡ suc 0 = omega (arith, h.1.1.1) in
-    ap (λ (l : List ℕ). gap ++ (own ++ l)) (ih None t.last (omega (arith, h.1.1.1)) ∙ ap (λ (n : ℕ). letters n off ++ bs) one)
+    let one : k + 1 - t.last ≡ suc 0 = omega (arith, h.3) in
+    ap (λ (l : List ℕ). gap ++ (own ++ l)) (ih None t.last (omega (arith, h.3)) ∙ ap (λ (n : ℕ). letters n off ++ bs) one)
     ∙ sym (append_assoc gap own (off ∷ bs))
     ∙ ap (λ (x : ℕ). (gap ++ own) ++ x ∷ bs) (eqb-true off b eo)
 step word off (Some t) j k b bs false eo e h ih =
     let gap = letters (t.first - 1 - j) off in
     let own = stretch_letters word t in
-    ih (Some (record { first = t.first; last = k + 1 })) j (h.0, h.1.0, omega (arith, h.1.1.0, h.1.1.1), refl)
-    ∙ ap (λ (l : List ℕ). (gap ++ l) ++ bs) (more_stretch word t k b bs e h.0 h.1.1.0 h.1.1.1)
+    ih (Some (record { first = t.first; last = k + 1 })) j (h.0, h.1, omega (arith, h.2, h.3), refl)
+    ∙ ap (λ (l : List ℕ). (gap ++ l) ++ bs) (more_stretch word t k b bs e h.0 h.2 h.3)
     ∙ ap (λ (l : List ℕ). l ++ bs) (sym (append_assoc gap own (b ∷ [])))
     ∙ append_assoc (gap ++ own) (b ∷ []) bs
 
@@ -102,14 +102,14 @@ give_back word off k [] e n None j h =
 give_back word off k [] e n (Some t) j h =
     let gap = letters (t.first - 1 - j) off in
     let own = stretch_letters word t in
-    let none : length word - t.last ≡ zero = omega (arith, n, h.1.1.1) in
+    let none : length word - t.last ≡ zero = omega (arith, n, h.3) in
     ap (λ (m : ℕ). gap ++ (own ++ letters m off)) none ∙ sym (append_assoc gap own [])
 give_back word off k (b ∷ bs) e n live j h =
     step word off live j k b bs (eqb off b) refl e h
-    (give_back word off (k + 1) bs (follows word k b bs e).1.1 (omega (arith, n)))
+    (give_back word off (k + 1) bs (follows word k b bs e).2 (omega (arith, n)))
 
 pub stretches_back : (off : ℕ) (word : List ℕ) → pasted word off 0 (stretches_of (Some off) word) ≡ word
-stretches_back off word = give_back word off 0 word refl refl None 0 (omega arith)
+stretches_back off word = give_back word off 0 word refl (omega arith) None 0 (omega arith)
 
 -- no letter of a stretch is that of time off
 abbrev IsClear : List ℕ → ℕ → Stretch → Type 0
@@ -134,21 +134,21 @@ clear_step word off None k b bs false eo e h ih =
     let t : Stretch = record { first = k + 1; last = k + 1 } in
     let clear : IsClear word off t = ap (λ (l : List ℕ). list_all (is_on off) l) (first_letter word k b bs e) ∙ on_letter off b eo in
     ih (Some t) (omega arith, omega arith, refl, clear)
-clear_step word off (Some t) k b bs true eo e h ih = All-cons (IsClear word off) t _ h.1.1.1 (ih None tt)
+clear_step word off (Some t) k b bs true eo e h ih = All-cons (IsClear word off) t _ h.3 (ih None tt)
 clear_step word off (Some t) k b bs false eo e h ih =
     let more : Stretch = record { first = t.first; last = k + 1 } in
     let clear : IsClear word off more =
-    ap (λ (l : List ℕ). list_all (is_on off) l) (more_stretch word t k b bs e h.0 h.1.0 h.1.1.0)
+    ap (λ (l : List ℕ). list_all (is_on off) l) (more_stretch word t k b bs e h.0 h.1 h.2)
     ∙ list_all-append (is_on off) (stretch_letters word t) (b ∷ [])
-    ∙ ap (λ (x : Bool). x && list_all (is_on off) (b ∷ [])) h.1.1.1 ∙ on_letter off b eo in
-    ih (Some more) (h.0, omega (arith, h.1.0, h.1.1.0), refl, clear)
+    ∙ ap (λ (x : Bool). x && list_all (is_on off) (b ∷ [])) h.3 ∙ on_letter off b eo in
+    ih (Some more) (h.0, omega (arith, h.1, h.2), refl, clear)
 
 clear_from : (word : List ℕ) (off k : ℕ) (rest : List ℕ) → drop k word ≡ rest → Clear word off k rest
 unfolding cut_off next_live
 clear_from word off k [] e None h = All-nil (IsClear word off)
-clear_from word off k [] e (Some t) h = All-cons (IsClear word off) t [] h.1.1.1 (All-nil (IsClear word off))
+clear_from word off k [] e (Some t) h = All-cons (IsClear word off) t [] h.3 (All-nil (IsClear word off))
 clear_from word off k (b ∷ bs) e live h =
-    clear_step word off live k b bs (eqb off b) refl e h (clear_from word off (k + 1) bs (follows word k b bs e).1.1)
+    clear_step word off live k b bs (eqb off b) refl e h (clear_from word off (k + 1) bs (follows word k b bs e).2)
 
 pub stretches_on : (off : ℕ) (word : List ℕ) → All (IsClear word off) (stretches_of (Some off) word)
 stretches_on off word = clear_from word off 0 word refl None tt

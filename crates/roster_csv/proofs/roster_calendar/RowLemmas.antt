@@ -115,7 +115,7 @@ narrow_fold n b rest h e = narrow_end n (32 ∷ b ∷ rest) h ∙ narrow_byte 0 
 abbrev Narrows : List ℕ → List ℕ → Type 0
 Narrows line rest =
     (n room need : ℕ) → n + room ≡ 75 → need ≤ room → is_whole need line ≡ true
-        → is_narrow n (folded_from room line ++ 13 ∷ 10 ∷ rest) ≡ is_narrow 0 rest
+    → is_narrow n (folded_from room line ++ 13 ∷ 10 ∷ rest) ≡ is_narrow 0 rest
 
 -- behind a byte so many are still to come
 next_need : ℕ → ℕ → ℕ
@@ -216,8 +216,8 @@ whole_char c rest = by (ltb c 128) (ltb c 2048) (ltb c 65536) refl refl refl
   where
     by : (one two three : Bool) → ltb c 128 ≡ one → ltb c 2048 ≡ two → ltb c 65536 ≡ three
         → is_whole 0 (cond one (c ∷ []) (cond two ((192 + c / 64) ∷ next c ∷ [])
-            (cond three ((224 + c / 4096) ∷ next (c / 64) ∷ next c ∷ [])
-            ((240 + c / 262144) ∷ next (c / 4096) ∷ next (c / 64) ∷ next c ∷ []))) ++ rest) ≡ is_whole 0 rest
+        (cond three ((224 + c / 4096) ∷ next (c / 64) ∷ next c ∷ [])
+        ((240 + c / 262144) ∷ next (c / 4096) ∷ next (c / 64) ∷ next c ∷ []))) ++ rest) ≡ is_whole 0 rest
     by true two three e1 e2 e3 = whole_one c rest (ltb-true c 128 e1)
     by false true three e1 e2 e3 =
         whole_two (192 + c / 64) c rest (omega arith) (omega (arith, ltb-true c 2048 e2))

@@ -378,10 +378,25 @@ fn add_event(
     let number = placed.before.len() as u32 + 1;
     let mark = shift_mark(instance, labels, placed.shift);
     let part = part_of(labels.off, stretch);
-    add_head(alloc, lines, setting, number_among(placed.before, placed.shift), part, mark)?;
+    add_head(
+        alloc,
+        lines,
+        setting,
+        number_among(placed.before, placed.shift),
+        part,
+        mark,
+    )?;
     add_times(alloc, lines, setting, stretch)?;
     add_summary(alloc, lines, instance, labels, number, placed.shift)?;
-    add_description(alloc, lines, instance, labels, setting.clock, placed, stretch)?;
+    add_description(
+        alloc,
+        lines,
+        instance,
+        labels,
+        setting.clock,
+        placed,
+        stretch,
+    )?;
     add_end(alloc, lines)
 }
 
