@@ -1,7 +1,9 @@
 pub mod Steps
 pub mod FaultLine
+pub mod TextLines
 pub mod Clocks
 pub mod Labels
+pub mod Shifts
 pub mod Fields
 pub mod LabelLines
 pub mod LabelsOf
