@@ -1,6 +1,5 @@
 use crate::floats::short;
 use crate::part::{HoleArc, Part, Row};
-use master_rows::Day;
 use parse_graph::{Graph, Kid};
 use roster_model::{Cell, Group, Instance, Memory, group_arc};
 use std::alloc::Global;
@@ -166,9 +165,9 @@ fn add_rows(instance: &Instance, graph: &Graph, all: &mut Part) -> Result<(), Me
 /// # Errors
 ///
 /// `Memory` where memory runs out.
-fn whole_part(alloc: Global, day: &Day) -> Result<Part, Memory> {
+fn whole_part(alloc: Global, instance: &Instance, graph: &Graph) -> Result<Part, Memory> {
     let mut all = Part::new(alloc);
-    add_rows(day.instance, day.graph, &mut all)?;
+    add_rows(instance, graph, &mut all)?;
     Ok(all)
 }
 
@@ -205,16 +204,15 @@ fn only_team(instance: &Instance) -> HoleTeam {
 }
 
 /// Returns the team of a group, by its number from 1.
-fn group_team(day: &Day, number: u8, group: &Group) -> HoleTeam {
-    let grammar = &day.instance.grammar;
-    let own = grammar.rules.len().saturating_sub(day.instance.groups.len());
+fn group_team(instance: &Instance, graph: &Graph, number: u8, group: &Group) -> HoleTeam {
+    let grammar = &instance.grammar;
+    let own = grammar.rules.len().saturating_sub(instance.groups.len());
     let rule = own.saturating_add(usize::from(number)).min(255) as u8;
     HoleTeam {
         number,
         least: group.heads_min,
         most: group.heads_max,
-        arc: day
-            .graph
+        arc: graph
             .find(&group_arc(grammar.periods, rule))
             .unwrap_or(NOWHERE),
     }
@@ -225,15 +223,15 @@ fn group_team(day: &Day, number: u8, group: &Group) -> HoleTeam {
 /// # Errors
 ///
 /// `Memory` where memory runs out.
-fn teams_of(alloc: Global, day: &Day) -> Result<Vec<HoleTeam>, Memory> {
+fn teams_of(alloc: Global, instance: &Instance, graph: &Graph) -> Result<Vec<HoleTeam>, Memory> {
     let mut teams = Vec::new(alloc);
     let mut number = 0u8;
-    for group in day.instance.groups.as_slice() {
+    for group in instance.groups.as_slice() {
         number = number.saturating_add(1);
-        teams.push(group_team(day, number, group))?;
+        teams.push(group_team(instance, graph, number, group))?;
     }
     if teams.is_empty() {
-        teams.push(only_team(day.instance))?;
+        teams.push(only_team(instance))?;
     }
     Ok(teams)
 }
@@ -244,19 +242,23 @@ impl HoleGraph {
     /// # Errors
     ///
     /// `Memory` where memory runs out.
-    pub(crate) fn of(alloc: Global, day: &Day) -> Result<HoleGraph, Memory> {
-        let nodes = day.graph.nodes();
-        let letters = letters_of(alloc, day.instance, nodes)?;
-        let teams = teams_of(alloc, day)?;
-        let all = whole_part(alloc, day)?;
+    pub(crate) fn of(
+        alloc: Global,
+        instance: &Instance,
+        graph: &Graph,
+    ) -> Result<HoleGraph, Memory> {
+        let nodes = graph.nodes();
+        let letters = letters_of(alloc, instance, nodes)?;
+        let teams = teams_of(alloc, instance, graph)?;
+        let all = whole_part(alloc, instance, graph)?;
         Ok(HoleGraph {
             all,
-            root: day.graph.root().unwrap_or(NOWHERE),
+            root: graph.root().unwrap_or(NOWHERE),
             nodes,
             letters,
             teams,
-            is_grouped: !day.instance.groups.is_empty(),
-            periods: day.instance.grammar.periods,
+            is_grouped: !instance.groups.is_empty(),
+            periods: instance.grammar.periods,
         })
     }
 

@@ -113,11 +113,11 @@ impl Sizes {
 
     /// Learns from a hole of a kind in a roster that costed so much: where it was cut the next ones are greater, where it
     /// gained they stay, and else they are smaller.
-    fn learn(&mut self, is_great: bool, cost: u64, result: HoleResult) {
+    fn learn(&mut self, is_great: bool, cost: u64, filled: HoleResult) {
         let size = self.of(is_great);
-        if result.end == HoleEnd::Cut {
+        if filled.end == HoleEnd::Cut {
             self.set(is_great, size.grown());
-        } else if result.cost >= cost {
+        } else if filled.cost >= cost {
             self.set(is_great, size.shrunk());
         }
     }
@@ -164,11 +164,11 @@ fn open_one<W: Watch>(
         .ranking
         .take_out(site.instance, prices, count, roster, gone)?;
     let first = roster.trees.len();
-    let result = fill(alloc, site, cost, &mut tools.dive, roster, watch)?;
-    if result.cost > cost {
+    let filled = fill(alloc, site, cost, &mut tools.dive, roster, watch)?;
+    if filled.cost > cost {
         put_back(roster, first, &mut tools.gone)?;
     }
-    Ok(result)
+    Ok(filled)
 }
 
 /// Opens holes in a roster until it costs no more than the goal, or the budget is used up. Where the watch is over it
@@ -202,10 +202,10 @@ pub(crate) fn open_all<W: Watch>(
         }
         let is_great = tools.ranking.draws.below(2) == 1;
         let count = sizes.of(is_great).draw(&mut tools.ranking.draws);
-        let result = open_one(alloc, site, cost, count, tools, roster, watch)?;
-        sizes.learn(is_great, cost, result);
-        budget.note(tools.dive.passer.count, result.cost < cost);
-        cost = cost.min(result.cost);
+        let filled = open_one(alloc, site, cost, count, tools, roster, watch)?;
+        sizes.learn(is_great, cost, filled);
+        budget.note(tools.dive.passer.count, filled.cost < cost);
+        cost = cost.min(filled.cost);
     }
     Ok(())
 }

@@ -12,8 +12,8 @@ use crate::roster::HoleRoster;
 use crate::sound::sound_shifts;
 use crate::task::HoleTask;
 use crate::words::read_words;
-use master_rows::Day;
-use roster_model::{List, Memory, Prices, Shift};
+use parse_graph::Graph;
+use roster_model::{Instance, List, Memory, Prices, Shift};
 use search_watch::Watch;
 use std::alloc::Global;
 use std::num::nearest_i64_to_f64;
@@ -234,10 +234,10 @@ impl HoleSearch {
     /// # Errors
     ///
     /// `Memory` where memory runs out.
-    pub fn new(alloc: Global, day: &Day) -> Result<HoleSearch, Memory> {
-        let graph = HoleGraph::of(alloc, day)?;
+    pub fn new(alloc: Global, instance: &Instance, graph: &Graph) -> Result<HoleSearch, Memory> {
+        let graph = HoleGraph::of(alloc, instance, graph)?;
         let site = Site {
-            instance: day.instance,
+            instance,
             graph: &graph,
         };
         let tools = tools_for(alloc, site)?;
@@ -258,14 +258,14 @@ impl HoleSearch {
     pub fn first_roster<W: Watch>(
         &mut self,
         alloc: Global,
-        day: &Day,
+        instance: &Instance,
         task: &HoleTask,
         watch: &W,
     ) -> Result<Option<List<Shift>>, Memory>
-        ensures { IfOk result (λ found. IfSome found (AreSoundShifts day.now.instance.now)) }
+        ensures { IfOk result (λ found. IfSome found (AreSoundShifts instance.now)) }
     {
         let site = Site {
-            instance: day.instance,
+            instance,
             graph: &self.graph,
         };
         let roster = search_first(alloc, site, task, &mut self.tools, watch)?;
@@ -282,12 +282,12 @@ impl HoleSearch {
     pub fn open_holes<W: Watch>(
         &mut self,
         alloc: Global,
-        day: &Day,
+        instance: &Instance,
         task: &HoleTask,
         prices: &Prices,
         watch: &W,
     ) -> Result<Option<List<Shift>>, Memory>
-        ensures { IfOk result (λ found. IfSome found (AreSoundShifts day.now.instance.now)) }
+        ensures { IfOk result (λ found. IfSome found (AreSoundShifts instance.now)) }
     {
         if !self.rests.take_turn() {
             return Ok(None);
@@ -296,7 +296,7 @@ impl HoleSearch {
             *start = price_at(prices, place);
         }
         let site = Site {
-            instance: day.instance,
+            instance,
             graph: &self.graph,
         };
         let roster = search_at(alloc, site, task, &mut self.tools, watch)?;
