@@ -167,17 +167,18 @@ fn roster_of(
 /// Returns the shifts of a roster that costs less than this, and else none.
 fn found_shifts(
     alloc: Global,
-    site: Site,
+    instance: &Instance,
+    graph: &HoleGraph,
     cost: u64,
     roster: &HoleRoster,
 ) -> Result<Option<List<Shift>>, Memory>
-    ensures { IfOk result (λ found. IfSome found (AreSoundShifts site.instance.now)) }
+    ensures { IfOk result (λ found. IfSome found (AreSoundShifts instance.now)) }
 {
-    let own = roster.cost(site.instance);
-    if !roster.is_staffed(site.graph) || own >= cost || own >= MOST_COST {
+    let own = roster.cost(instance);
+    if !roster.is_staffed(graph) || own >= cost || own >= MOST_COST {
         return Ok(None);
     }
-    sound_shifts(alloc, site.instance, site.graph, roster)
+    sound_shifts(alloc, instance, graph, roster)
 }
 
 /// Returns the best roster from prices that are looked for first, a dive from nothing, and holes.
@@ -269,7 +270,7 @@ impl HoleSearch {
             graph: &self.graph,
         };
         let roster = search_first(alloc, site, task, &mut self.tools, watch)?;
-        found_shifts(alloc, site, task.cost, &roster)
+        found_shifts(alloc, instance, &self.graph, task.cost, &roster)
     }
 
     /// Looks for a roster at a node, at its prices: at the first node from nothing, and else by holes in the task's
@@ -300,7 +301,7 @@ impl HoleSearch {
             graph: &self.graph,
         };
         let roster = search_at(alloc, site, task, &mut self.tools, watch)?;
-        let found = found_shifts(alloc, site, task.cost, &roster)?;
+        let found = found_shifts(alloc, instance, &self.graph, task.cost, &roster)?;
         self.rests.note(found.is_some());
         Ok(found)
     }
