@@ -18,7 +18,8 @@ static PAIR_DAY: DayParts<'static> = PAIR_PARTS;
 /// The same with exactly one employee in each period, which no shifts of two periods are.
 static EXACT_DAY: DayParts<'static> = EXACT_PARTS;
 
-/// Full days at 3, at most one, and half days at 1, one or two; period 1 needs two employees, and period 2 one.
+/// Full days at 3, at most one, and half days at 1, one or two; period 1 needs two employees, and period 2
+/// one.
 static GROUP_DAY: DayParts<'static> = GROUP_PARTS;
 
 const ONE_CELL: [Cell; 1] = [CELL];
@@ -264,7 +265,8 @@ fn a_watch_that_is_over_ends_holes(rt: HostRuntime) -> Result<(), Fail> {
     Ok(())
 }
 
-/// Says whether nothing is found under a watch that is over from the first question on. The empty roster costs 30.
+/// Says whether nothing is found under a watch that is over from the first question on. The empty roster
+/// costs 30.
 fn finds_none_when_over(alloc: Global) -> Result<bool, Fail> {
     let watch = NthWatch::new(Some(1));
     let found = found_on(alloc, &PAIR_DAY, Call::First, 30, &watch)?;

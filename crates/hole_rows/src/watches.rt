@@ -1,8 +1,8 @@
 use search_watch::{Standing, Subject, Watch, Work};
 use std::cell::Cell;
 
-/// A watch that is over at its n-th question and from then on, and counts the questions. It is patient while it has
-/// no seconds.
+/// A watch that is over at its n-th question and from then on, and counts the questions. It is patient while
+/// it has no seconds.
 #[derive(Drop)]
 pub struct NthWatch {
     seconds: Option<u32>,

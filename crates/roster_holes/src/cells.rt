@@ -157,7 +157,8 @@ pub(crate) fn add_to_last(states: &mut [CellState], cells: &[u32], heads: f64) {
     }
 }
 
-/// Returns the share of the last trees in the next mean that brings it nearest to what is needed, within 0.01 and 0.1.
+/// Returns the share of the last trees in the next mean that brings it nearest to what is needed, within 0.01
+/// and 0.1.
 pub(crate) fn share(states: &[CellState]) -> f64 {
     let mut product = 0.0;
     let mut square = 0.0;

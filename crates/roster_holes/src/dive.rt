@@ -117,8 +117,8 @@ impl Dive {
             .run(site.graph, &self.part, passes, limit, &mut self.passer)
     }
 
-    /// Finds good prices for a roster from nothing that is hoped to cost so much, in so many chunks of passes, and
-    /// makes them those with which dives begin. Returns what they show.
+    /// Finds good prices for a roster from nothing that is hoped to cost so much, in so many chunks of
+    /// passes, and makes them those with which dives begin. Returns what they show.
     ///
     /// # Errors
     ///
@@ -153,7 +153,8 @@ impl Dive {
             .narrow(site.graph, &mut self.part, teams, gap, &mut self.passer))
     }
 
-    /// Takes chunks of passes, after each of which arcs are left out. Says whether a roster may cost less still.
+    /// Takes chunks of passes, after each of which arcs are left out. Says whether a roster may cost less
+    /// still.
     fn take_chunks<W: Watch>(&mut self, site: Site, limit: f64, watch: &W) -> Result<bool, Memory> {
         for _ in 0..CHUNKS {
             if watch.is_over() {

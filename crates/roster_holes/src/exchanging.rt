@@ -14,7 +14,8 @@ fn may_lose(site: Site, team: usize, roster: &HoleRoster) -> bool {
     }
 }
 
-/// Returns the team of which a tree in place of one of a team is cheapest, after a pass; `None` where there is none.
+/// Returns the team of which a tree in place of one of a team is cheapest, after a pass; `None` where there
+/// is none.
 fn cheapest_team(site: Site, old: usize, passer: &mut Passer, roster: &HoleRoster) -> Option<usize> {
     let may_change = may_lose(site, old, roster);
     let all = &site.graph.all;

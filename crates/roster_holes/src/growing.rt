@@ -51,7 +51,8 @@ fn best_choice(site: Site, part: &Part, passer: &mut Passer, roster: &HoleRoster
     choice
 }
 
-/// Adds a tree of a part that saves most, of a team that needs one where there is such a team. Says whether it did.
+/// Adds a tree of a part that saves most, of a team that needs one where there is such a team. Says whether
+/// it did.
 fn grow_one(
     alloc: Global,
     site: Site,

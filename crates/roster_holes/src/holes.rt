@@ -111,8 +111,8 @@ impl Sizes {
         }
     }
 
-    /// Learns from a hole of a kind in a roster that costed so much: where it was cut the next ones are greater, where it
-    /// gained they stay, and else they are smaller.
+    /// Learns from a hole of a kind in a roster that costed so much: where it was cut the next ones are
+    /// greater, where it gained they stay, and else they are smaller.
     fn learn(&mut self, is_great: bool, cost: u64, filled: HoleResult) {
         let size = self.of(is_great);
         if filled.end == HoleEnd::Cut {
@@ -147,7 +147,8 @@ fn fill<W: Watch>(
     })
 }
 
-/// Opens one hole of so many trees in a roster that costs so much, which stays as it is where it would cost more.
+/// Opens one hole of so many trees in a roster that costs so much, which stays as it is where it would cost
+/// more.
 fn open_one<W: Watch>(
     alloc: Global,
     site: Site,
@@ -171,8 +172,8 @@ fn open_one<W: Watch>(
     Ok(filled)
 }
 
-/// Opens holes in a roster until it costs no more than the goal, or the budget is used up. Where the watch is over it
-/// opens no further one.
+/// Opens holes in a roster until it costs no more than the goal, or the budget is used up. Where the watch is
+/// over it opens no further one.
 ///
 /// # Errors
 ///

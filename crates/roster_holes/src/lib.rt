@@ -1,5 +1,5 @@
-//! Rosters by holes: some shifts of a roster go, and what they leave is solved nearly, by the volume algorithm in
-//! floats over a graph of its own, and by a dive.
+//! Rosters by holes: some shifts of a roster go, and what they leave is solved nearly, by the volume
+//! algorithm in floats over a graph of its own, and by a dive.
 #![tactic(auto)]
 
 mod cells;

@@ -105,8 +105,8 @@ impl Narrower {
         }
     }
 
-    /// Leaves out the arcs whose trees all cost more than the limit above the least ones, after a pass. Says whether
-    /// any is left.
+    /// Leaves out the arcs whose trees all cost more than the limit above the least ones, after a pass. Says
+    /// whether any is left.
     pub(crate) fn narrow(
         &mut self,
         graph: &HoleGraph,

@@ -202,8 +202,8 @@ fn search_first<W: Watch>(
     Ok(roster)
 }
 
-/// Returns the best roster from holes in that of the task; at the first node, and where it has none, from dives from
-/// nothing.
+/// Returns the best roster from holes in that of the task; at the first node, and where it has none, from
+/// dives from nothing.
 fn search_at<W: Watch>(
     alloc: Global,
     site: Site,
@@ -229,8 +229,8 @@ fn fine_price(price: f64) -> i128 {
 }
 
 impl HoleSearch {
-    /// Returns a search for rosters of a day by holes. All great memory is taken here: the graph of the day in floats,
-    /// a copy of it, and room for prices, sums and flows, at most 80 MB.
+    /// Returns a search for rosters of a day by holes. All great memory is taken here: the graph of the day
+    /// in floats, a copy of it, and room for prices, sums and flows, at most 80 MB.
     ///
     /// # Errors
     ///
@@ -249,9 +249,10 @@ impl HoleSearch {
         })
     }
 
-    /// Looks for a roster before any prices are known: prices of the cells are looked for first, and then a dive from
-    /// nothing and holes make a roster, or the task's roster better. Returns at most 64 sound shifts at the price 0,
-    /// where they seem to cost less than the task's cost. Where the watch is over no further pass is begun.
+    /// Looks for a roster before any prices are known: prices of the cells are looked for first, and then a
+    /// dive from nothing and holes make a roster, or the task's roster better. Returns at most 64 sound
+    /// shifts at the price 0, where they seem to cost less than the task's cost. Where the watch is over no
+    /// further chunk of passes, dive or hole is begun.
     ///
     /// # Errors
     ///
@@ -273,9 +274,10 @@ impl HoleSearch {
         found_shifts(alloc, instance, &self.graph, task.cost, &roster)
     }
 
-    /// Looks for a roster at a node, at its prices: at the first node from nothing, and else by holes in the task's
-    /// roster. Returns at most 64 sound shifts at the price 0, where they seem to cost less than the task's cost. Where
-    /// the watch is over no further hole is opened. After three nodes without gain holes rest for four turns.
+    /// Looks for a roster at a node, at its prices: at the first node from nothing, and else by holes in the
+    /// task's roster. Returns at most 64 sound shifts at the price 0, where they seem to cost less than the
+    /// task's cost. Where the watch is over no further hole is opened. After three nodes without gain holes
+    /// rest for four turns.
     ///
     /// # Errors
     ///
@@ -306,8 +308,8 @@ impl HoleSearch {
         Ok(found)
     }
 
-    /// Returns the prices of the cells with which dives begin, in units of 2^-24: after `first_roster` those that were
-    /// found.
+    /// Returns the prices of the cells with which dives begin, in units of 2^-24: after `first_roster` those
+    /// that were found.
     ///
     /// # Errors
     ///

@@ -35,7 +35,8 @@ pub(crate) struct Asked {
     tree: HoleTree,
 }
 
-/// The volume algorithm over what a roster leaves: prices of the cells that show a bound, and a mean of trees.
+/// The volume algorithm over what a roster leaves: prices of the cells that show a bound, and a mean of
+/// trees.
 #[derive(Drop)]
 pub(crate) struct Volume {
     pub states: Vec<CellState>,

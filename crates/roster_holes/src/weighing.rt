@@ -1,6 +1,7 @@
 use roster_model::{Cell, penalty};
 
-/// What a count weighs for each employee by whom it is outside of its cell's range: more than any roster costs.
+/// What a count weighs for each employee by whom it is outside of its cell's range: more than any roster
+/// costs.
 const OUTSIDE: u64 = 1 << 40;
 
 /// Returns what a count weighs at a cell.
