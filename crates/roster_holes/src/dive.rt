@@ -148,9 +148,10 @@ impl Dive {
             .ask_again(site.graph, &self.part, &mut self.passer)?;
         let gap = limit - self.volume.bound;
         let teams = self.volume.teams.as_slice();
-        Ok(self
-            .narrower
-            .narrow(site.graph, &mut self.part, teams, gap, &mut self.passer))
+        Ok(
+            self.narrower
+                .narrow(site.graph, &mut self.part, teams, gap, &mut self.passer),
+        )
     }
 
     /// Takes chunks of passes, after each of which arcs are left out. Says whether a roster may cost less
@@ -206,9 +207,9 @@ impl Dive {
             if self.volume.is_full() {
                 break;
             }
-            let width =
-                self.widest
-                    .find(site.graph, &self.part, &self.volume, &mut self.passer)?;
+            let width = self
+                .widest
+                .find(site.graph, &self.part, &self.volume, &mut self.passer)?;
             if width <= 0.0 || !fixed.takes(width, total) {
                 break;
             }

@@ -16,7 +16,12 @@ fn may_lose(site: Site, team: usize, roster: &HoleRoster) -> bool {
 
 /// Returns the team of which a tree in place of one of a team is cheapest, after a pass; `None` where there
 /// is none.
-fn cheapest_team(site: Site, old: usize, passer: &mut Passer, roster: &HoleRoster) -> Option<usize> {
+fn cheapest_team(
+    site: Site,
+    old: usize,
+    passer: &mut Passer,
+    roster: &HoleRoster,
+) -> Option<usize> {
     let may_change = may_lose(site, old, roster);
     let all = &site.graph.all;
     let mut least = NONE;

@@ -67,11 +67,7 @@ pub(crate) struct Tools {
 }
 
 /// Puts back what went, in place of what came behind so many trees.
-fn put_back(
-    roster: &mut HoleRoster,
-    first: usize,
-    gone: &mut Vec<HoleTree>,
-) -> Result<(), Memory> {
+fn put_back(roster: &mut HoleRoster, first: usize, gone: &mut Vec<HoleTree>) -> Result<(), Memory> {
     roster.shorten(first);
     for _ in 0..gone.len() {
         if let Some(tree) = gone.pop() {

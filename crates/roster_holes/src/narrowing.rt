@@ -31,7 +31,11 @@ fn base_of(asked: &Asked, sum: f64) -> f64 {
     if asked.most == 0 {
         return 0.0 - NONE;
     }
-    if asked.least > 0 { sum } else { lesser(sum, 0.0) }
+    if asked.least > 0 {
+        sum
+    } else {
+        lesser(sum, 0.0)
+    }
 }
 
 impl Narrower {
@@ -50,13 +54,7 @@ impl Narrower {
     }
 
     /// Sets the sums from which the trees of the teams are counted, after a pass.
-    fn set_bases(
-        &mut self,
-        graph: &HoleGraph,
-        part: &Part,
-        teams: &[Asked],
-        passer: &mut Passer,
-    ) {
+    fn set_bases(&mut self, graph: &HoleGraph, part: &Part, teams: &[Asked], passer: &mut Passer) {
         let known = self.bases.as_mut_slice().iter_mut().zip(teams);
         for (place, (base, asked)) in known.enumerate() {
             *base = base_of(asked, passer.lead(graph, part, place));

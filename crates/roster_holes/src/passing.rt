@@ -112,7 +112,12 @@ impl Passer {
         self.count = self.count.saturating_add(1);
         set_at(self.sums.as_mut_slice(), graph.nodes, 0.0);
         if part.rows.len() < graph.nodes as usize {
-            for sum in self.sums.as_mut_slice().iter_mut().take(graph.nodes as usize) {
+            for sum in self
+                .sums
+                .as_mut_slice()
+                .iter_mut()
+                .take(graph.nodes as usize)
+            {
                 *sum = NONE;
             }
         }

@@ -17,6 +17,7 @@ const OWN_CODE: i64 = 3;
 
 /// A hole reaches at least so many periods from a cell that costs, and by chance up to so many further ones.
 const LEAST_REACH: u32 = 6;
+
 const FURTHER_REACH: u32 = 20;
 
 /// A cell's weight is counted up to this.
@@ -74,9 +75,7 @@ fn total_weight(cells: &[Cell], counts: &[u32]) -> u64 {
 fn drawn_cell(cells: &[Cell], counts: &[u32], draws: &mut Draws) -> Option<Cell> {
     let total = total_weight(cells, counts);
     if total == 0 {
-        return cells
-            .get(draws.below(short(cells.len())) as usize)
-            .copied();
+        return cells.get(draws.below(short(cells.len())) as usize).copied();
     }
     let mut left = u64::from(draws.below(total.min(MOST_TOTAL) as u32));
     for (cell, count) in cells.iter().zip(counts) {

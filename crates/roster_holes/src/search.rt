@@ -26,7 +26,9 @@ const FIRST_DRAWS: u32 = 1_000_000;
 
 /// How many passes holes may take before the first master, at the first node, and at others.
 const PASSES_BEFORE: u64 = 8_000;
+
 const PASSES_FIRST: u64 = 60_000;
+
 const PASSES_LATER: u64 = 10_000;
 
 /// How many dives from nothing are made at the first node.
@@ -295,7 +297,15 @@ impl HoleSearch {
         if !self.rests.take_turn() {
             return Ok(None);
         }
-        for (place, start) in self.tools.dive.volume.starts.as_mut_slice().iter_mut().enumerate() {
+        for (place, start) in self
+            .tools
+            .dive
+            .volume
+            .starts
+            .as_mut_slice()
+            .iter_mut()
+            .enumerate()
+        {
             *start = price_at(prices, place);
         }
         let site = Site {

@@ -35,7 +35,10 @@ impl HoleSize {
 
     /// Returns a smaller one.
     pub(crate) fn shrunk(self) -> HoleSize {
-        let eighths = self.eighths.saturating_sub(self.eighths / 8).max(self.least);
+        let eighths = self
+            .eighths
+            .saturating_sub(self.eighths / 8)
+            .max(self.least);
         HoleSize {
             eighths,
             least: self.least,

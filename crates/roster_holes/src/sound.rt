@@ -80,11 +80,7 @@ fn shift_of(alloc: Global, graph: &HoleGraph, tree: &HoleTree) -> Result<Shift, 
 }
 
 /// Returns the shifts of a roster at the price 0.
-fn shifts_of(
-    alloc: Global,
-    graph: &HoleGraph,
-    roster: &HoleRoster,
-) -> Result<List<Shift>, Memory> {
+fn shifts_of(alloc: Global, graph: &HoleGraph, roster: &HoleRoster) -> Result<List<Shift>, Memory> {
     let mut shifts = List::new(alloc);
     for tree in roster.trees.as_slice() {
         shifts.push(shift_of(alloc, graph, tree)?)?;

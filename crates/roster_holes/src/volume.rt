@@ -1,6 +1,6 @@
 use crate::cells::{
-    CellState, add_to_last, add_to_mean, begun_cell, blank_cell, clear_last, keep_tried, rises, set_gaps, share, shrink,
-    step_along, try_best, worth,
+    CellState, add_to_last, add_to_mean, begun_cell, blank_cell, clear_last, keep_tried, rises,
+    set_gaps, share, shrink, step_along, try_best, worth,
 };
 use crate::floats::{NEVER, greater, lesser, of_count};
 use crate::flow::Flow;
@@ -14,7 +14,9 @@ use std::alloc::Global;
 
 /// The factor of the first step, the greatest one and the least one.
 const FIRST_FACTOR: f64 = 0.05;
+
 const MOST_FACTOR: f64 = 2.0;
+
 const LEAST_FACTOR: f64 = 1.0e-4;
 
 /// After so many passes that show no more the steps become shorter.
@@ -142,12 +144,7 @@ impl Volume {
     }
 
     /// Passes at the tried prices, leaves the trees of least sums, and returns what the prices show.
-    fn ask(
-        &mut self,
-        graph: &HoleGraph,
-        part: &Part,
-        passer: &mut Passer,
-    ) -> Result<f64, Memory> {
+    fn ask(&mut self, graph: &HoleGraph, part: &Part, passer: &mut Passer) -> Result<f64, Memory> {
         passer.pass(graph, part);
         let mut bound = worth(self.states.as_slice());
         for (place, team) in self.teams.as_mut_slice().iter_mut().enumerate() {
@@ -195,7 +192,11 @@ impl Volume {
     fn mix_in(&mut self, share: f64) {
         for team in self.teams.as_slice() {
             let weight = share * team.heads;
-            add_to_mean(self.states.as_mut_slice(), team.tree.cells.as_slice(), weight);
+            add_to_mean(
+                self.states.as_mut_slice(),
+                team.tree.cells.as_slice(),
+                weight,
+            );
             self.flow.add(team.tree.arcs.as_slice(), weight);
         }
     }
@@ -211,7 +212,11 @@ impl Volume {
     fn set_last(&mut self) {
         clear_last(self.states.as_mut_slice());
         for team in self.teams.as_slice() {
-            add_to_last(self.states.as_mut_slice(), team.tree.cells.as_slice(), team.heads);
+            add_to_last(
+                self.states.as_mut_slice(),
+                team.tree.cells.as_slice(),
+                team.heads,
+            );
         }
     }
 
@@ -252,7 +257,11 @@ impl Volume {
             return Ok(false);
         }
         let step = self.step(squares);
-        step_along(self.states.as_mut_slice(), step, passer.gains.as_mut_slice());
+        step_along(
+            self.states.as_mut_slice(),
+            step,
+            passer.gains.as_mut_slice(),
+        );
         let bound = self.ask(graph, part, passer)?;
         self.set_last();
         let share = share(self.states.as_slice());
@@ -297,7 +306,12 @@ impl Volume {
 
     /// Makes the best prices those with which it begins.
     pub(crate) fn keep_best(&mut self) {
-        for (start, state) in self.starts.as_mut_slice().iter_mut().zip(self.states.as_slice()) {
+        for (start, state) in self
+            .starts
+            .as_mut_slice()
+            .iter_mut()
+            .zip(self.states.as_slice())
+        {
             *start = state.best;
         }
     }

@@ -93,7 +93,14 @@ impl Widest {
         for row in part.rows.as_slice() {
             let is_root = row.node == graph.root;
             let arcs = part.arcs_of(row);
-            let found = widest_of(graph, arcs, row.begin, is_root, volume, self.widths.as_slice());
+            let found = widest_of(
+                graph,
+                arcs,
+                row.begin,
+                is_root,
+                volume,
+                self.widths.as_slice(),
+            );
             set_at(self.widths.as_mut_slice(), row.node, found.width);
             choose(choices, row.node, found.place);
         }
