@@ -85,7 +85,7 @@ fn called(
     };
     match call {
         Call::First => holes.first_roster(alloc, day, &task, watch),
-        Call::AtNode(_) => holes.open_holes(alloc, day, &task, &prices, watch),
+        Call::AtNode(_) => holes.open_holes(alloc, day, &task, Some(&prices), watch),
     }
 }
 

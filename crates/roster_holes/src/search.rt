@@ -141,6 +141,13 @@ fn price_at(prices: &Prices, place: usize) -> f64 {
     nearest_i64_to_f64(price) / nearest_i64_to_f64(parts)
 }
 
+/// Sets the prices with which dives begin.
+fn set_starts(prices: &Prices, starts: &mut [f64]) {
+    for (place, start) in starts.iter_mut().enumerate() {
+        *start = price_at(prices, place);
+    }
+}
+
 /// Returns how many passes holes may take at a node.
 fn passes_at(turn: u32) -> u64 {
     if turn == 0 {
@@ -258,7 +265,7 @@ impl HoleSearch {
     ///
     /// # Errors
     ///
-    /// `Memory` where memory runs out; further calls find what they find then.
+    /// `Memory` where memory runs out; it may be asked again then.
     pub fn first_roster<W: Watch>(
         &mut self,
         alloc: Global,
@@ -276,20 +283,20 @@ impl HoleSearch {
         found_shifts(alloc, instance, &self.graph, task.cost, &roster)
     }
 
-    /// Looks for a roster at a node, at its prices: at the first node from nothing, and else by holes in the
-    /// task's roster. Returns at most 64 sound shifts at the price 0, where they seem to cost less than the
+    /// Looks for a roster at a node, at its prices, or at those at hand where it has none: at the first node
+    /// from nothing, and else by holes in the task's roster. Returns at most 64 sound shifts at the price 0, where they seem to cost less than the
     /// task's cost. Where the watch is over no further hole is opened. After three nodes without gain holes
     /// rest for four turns.
     ///
     /// # Errors
     ///
-    /// `Memory` where memory runs out; further calls find what they find then.
+    /// `Memory` where memory runs out; it may be asked again then.
     pub fn open_holes<W: Watch>(
         &mut self,
         alloc: Global,
         instance: &Instance,
         task: &HoleTask,
-        prices: &Prices,
+        prices: Option<&Prices>,
         watch: &W,
     ) -> Result<Option<List<Shift>>, Memory>
         ensures { IfOk result (λ found. IfSome found (AreSoundShifts instance.now)) }
@@ -297,16 +304,8 @@ impl HoleSearch {
         if !self.rests.take_turn() {
             return Ok(None);
         }
-        for (place, start) in self
-            .tools
-            .dive
-            .volume
-            .starts
-            .as_mut_slice()
-            .iter_mut()
-            .enumerate()
-        {
-            *start = price_at(prices, place);
+        if let Some(prices) = prices {
+            set_starts(prices, self.tools.dive.volume.starts.as_mut_slice());
         }
         let site = Site {
             instance,
