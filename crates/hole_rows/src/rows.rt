@@ -127,7 +127,12 @@ fn found_on(
 }
 
 /// Returns what a search that nothing stops finds on a day.
-fn found(alloc: Global, parts: &DayParts, call: Call, cost: u64) -> Result<Option<List<Shift>>, Fail> {
+fn found(
+    alloc: Global,
+    parts: &DayParts,
+    call: Call,
+    cost: u64,
+) -> Result<Option<List<Shift>>, Fail> {
     let watch = NthWatch::new(None);
     found_on(alloc, parts, call, cost, &watch)
 }
