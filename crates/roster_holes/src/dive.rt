@@ -204,7 +204,7 @@ impl Dive {
         let total = self.total();
         let mut fixed = Fixed { all: 0, wide: 0 };
         for _ in 0..MOST_FIXED {
-            if self.volume.is_full() {
+            if self.volume.is_full() || self.volume.is_settled() {
                 break;
             }
             let width = self

@@ -8,8 +8,11 @@ use roster_model::Memory;
 use search_watch::Watch;
 use std::alloc::Global;
 
-/// After so many holes in a row without gain no further one is opened.
-const MOST_IDLE: u32 = 10;
+/// After so many holes in a row without gain no further one is opened at a node.
+pub(crate) const PATIENCE: u32 = 10;
+
+/// The same before the first master and at the first node.
+pub(crate) const FIRST_PATIENCE: u32 = 40;
 
 /// How many passes are taken after trees of a hole were fixed.
 const STEP: u32 = 100;
@@ -23,33 +26,37 @@ pub(crate) struct Budget {
     own: u64,
     /// How many they may take now.
     allowed: u64,
-    /// How many holes in a row had no gain.
-    idle: u32,
+    /// How many further holes in a row may have no gain.
+    patience: u32,
+    /// How many they are after a hole with gain.
+    fresh: u32,
 }
 
 impl Budget {
-    /// Returns a budget of so many passes, after so many were taken.
-    pub(crate) fn new(begun: u64, own: u64) -> Budget {
+    /// Returns a budget of so many passes, after so many were taken, and of so many holes in a row without
+    /// gain.
+    pub(crate) fn new(begun: u64, own: u64, patience: u32) -> Budget {
         Budget {
             begun,
             own,
             allowed: own,
-            idle: 0,
+            patience,
+            fresh: patience,
         }
     }
 
     /// Says whether it is used up, when so many passes were taken.
     fn is_spent(&self, count: u64) -> bool {
-        self.idle >= MOST_IDLE || count.saturating_sub(self.begun) >= self.allowed
+        self.patience == 0 || count.saturating_sub(self.begun) >= self.allowed
     }
 
     /// Notes a hole after which so many passes were taken: one with gain allows further ones.
     fn note(&mut self, count: u64, has_gain: bool) {
         if !has_gain {
-            self.idle = self.idle.saturating_add(1);
+            self.patience = self.patience.saturating_sub(1);
             return;
         }
-        self.idle = 0;
+        self.patience = self.fresh;
         let taken = count.saturating_sub(self.begun);
         let further = (self.own / 2).max(taken / 2);
         let most = self.own.saturating_mul(3);

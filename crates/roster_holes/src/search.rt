@@ -5,7 +5,7 @@ use crate::dive::{Dive, HoleEnd};
 use crate::drawing::Draws;
 use crate::floats::{cost_of, whole};
 use crate::graph::{HoleGraph, Site};
-use crate::holes::{Budget, Tools, open_all};
+use crate::holes::{Budget, FIRST_PATIENCE, PATIENCE, Tools, open_all};
 use crate::ranking::Ranking;
 use crate::rests::Rests;
 use crate::roster::HoleRoster;
@@ -206,7 +206,7 @@ fn search_first<W: Watch>(
     let mut roster = roster_of(alloc, site, task.shifts, &mut tools.dive)?;
     dive_from_nothing(alloc, site, 1, goal, &mut tools.dive, &mut roster, watch)?;
     tools.ranking.draws = Draws::of_turn(FIRST_DRAWS);
-    let budget = Budget::new(tools.dive.passer.count, PASSES_BEFORE);
+    let budget = Budget::new(tools.dive.passer.count, PASSES_BEFORE, FIRST_PATIENCE);
     open_all(alloc, site, goal, budget, tools, &mut roster, watch)?;
     Ok(roster)
 }
@@ -221,7 +221,12 @@ fn search_at<W: Watch>(
     watch: &W,
 ) -> Result<HoleRoster, Memory> {
     let is_first = task.turn == 0 || task.shifts.is_empty();
-    let budget = Budget::new(tools.dive.passer.count, passes_at(task.turn));
+    let patience = if task.turn == 0 {
+        FIRST_PATIENCE
+    } else {
+        PATIENCE
+    };
+    let budget = Budget::new(tools.dive.passer.count, passes_at(task.turn), patience);
     let shifts: &[Shift] = if is_first { &[] } else { task.shifts };
     let dives = if is_first { DIVES } else { 0 };
     let mut roster = roster_of(alloc, site, shifts, &mut tools.dive)?;

@@ -304,6 +304,21 @@ impl Volume {
         true
     }
 
+    /// Says whether nothing is needed: no cell lacks an employee, and no team does.
+    pub(crate) fn is_settled(&self) -> bool {
+        for team in self.teams.as_slice() {
+            if team.least > 0 {
+                return false;
+            }
+        }
+        for state in self.states.as_slice() {
+            if state.need > 0.0 {
+                return false;
+            }
+        }
+        true
+    }
+
     /// Makes the best prices those with which it begins.
     pub(crate) fn keep_best(&mut self) {
         for (start, state) in self
