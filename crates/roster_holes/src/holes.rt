@@ -1,0 +1,215 @@
+use crate::dive::{Dive, HoleEnd};
+use crate::graph::Site;
+use crate::ranking::Ranking;
+use crate::roster::HoleRoster;
+use crate::sizes::HoleSize;
+use crate::tree::HoleTree;
+use roster_model::Memory;
+use search_watch::Watch;
+use std::alloc::Global;
+
+/// After so many holes in a row without gain no further one is opened at a node.
+pub(crate) const PATIENCE: u32 = 10;
+
+/// The same before the first master and at the first node.
+pub(crate) const FIRST_PATIENCE: u32 = 40;
+
+/// How many passes are taken after trees of a hole were fixed.
+const STEP: u32 = 100;
+
+/// How many passes holes may take, by the passes that were taken since the search began.
+#[derive(Clone, Copy, Drop)]
+pub(crate) struct Budget {
+    /// How many were taken when the holes began.
+    begun: u64,
+    /// How many they may take where they gain nothing.
+    own: u64,
+    /// How many they may take now.
+    allowed: u64,
+    /// How many further holes in a row may have no gain.
+    patience: u32,
+    /// How many they are after a hole with gain.
+    fresh: u32,
+}
+
+impl Budget {
+    /// Returns a budget of so many passes, after so many were taken, and of so many holes in a row without
+    /// gain.
+    pub(crate) fn new(begun: u64, own: u64, patience: u32) -> Budget {
+        Budget {
+            begun,
+            own,
+            allowed: own,
+            patience,
+            fresh: patience,
+        }
+    }
+
+    /// Says whether it is used up, when so many passes were taken.
+    fn is_spent(&self, count: u64) -> bool {
+        self.patience == 0 || count.saturating_sub(self.begun) >= self.allowed
+    }
+
+    /// Notes a hole after which so many passes were taken: one with gain allows further ones.
+    fn note(&mut self, count: u64, has_gain: bool) {
+        if !has_gain {
+            self.patience = self.patience.saturating_sub(1);
+            return;
+        }
+        self.patience = self.fresh;
+        let taken = count.saturating_sub(self.begun);
+        let further = (self.own / 2).max(taken / 2);
+        let most = self.own.saturating_mul(3);
+        self.allowed = taken.saturating_add(further).min(most).max(self.allowed);
+    }
+}
+
+/// What holes are opened with.
+#[derive(Drop)]
+pub(crate) struct Tools {
+    pub ranking: Ranking,
+    pub dive: Dive,
+    /// The trees that went last.
+    pub gone: Vec<HoleTree>,
+}
+
+/// Puts back what went, in place of what came behind so many trees.
+fn put_back(roster: &mut HoleRoster, first: usize, gone: &mut Vec<HoleTree>) -> Result<(), Memory> {
+    roster.shorten(first);
+    for _ in 0..gone.len() {
+        if let Some(tree) = gone.pop() {
+            roster.push(tree)?;
+        }
+    }
+    Ok(())
+}
+
+/// What became of a hole.
+#[derive(Clone, Copy, Drop)]
+struct HoleResult {
+    end: HoleEnd,
+    /// What the roster costs then.
+    cost: u64,
+}
+
+/// The sizes of the two kinds of holes.
+#[derive(Clone, Copy, Drop)]
+struct Sizes {
+    small: HoleSize,
+    great: HoleSize,
+}
+
+impl Sizes {
+    /// Returns the size of a kind.
+    fn of(&self, is_great: bool) -> HoleSize {
+        if is_great { self.great } else { self.small }
+    }
+
+    /// Sets the size of a kind.
+    fn set(&mut self, is_great: bool, size: HoleSize) {
+        if is_great {
+            self.great = size;
+        } else {
+            self.small = size;
+        }
+    }
+
+    /// Learns from a hole of a kind in a roster that costed so much: where it was cut the next ones are
+    /// greater, where it gained they stay, and else they are smaller.
+    fn learn(&mut self, is_great: bool, cost: u64, filled: HoleResult) {
+        let size = self.of(is_great);
+        if filled.end == HoleEnd::Cut {
+            self.set(is_great, size.grown());
+        } else if filled.cost >= cost {
+            self.set(is_great, size.shrunk());
+        }
+    }
+}
+
+/// Solves a hole whose trees are gone: returns what the roster costs then, where it is whole.
+fn fill<W: Watch>(
+    alloc: Global,
+    site: Site,
+    cost: u64,
+    dive: &mut Dive,
+    roster: &mut HoleRoster,
+    watch: &W,
+) -> Result<HoleResult, Memory> {
+    let first = roster.trees.len();
+    let end = dive.dive(alloc, site, cost, roster, watch)?;
+    if end != HoleEnd::Whole || watch.is_over() {
+        return Ok(HoleResult {
+            end,
+            cost: u64::MAX,
+        });
+    }
+    dive.exchange(alloc, site, first, roster)?;
+    Ok(HoleResult {
+        end,
+        cost: roster.cost(site.instance),
+    })
+}
+
+/// Opens one hole of so many trees in a roster that costs so much, which stays as it is where it would cost
+/// more.
+fn open_one<W: Watch>(
+    alloc: Global,
+    site: Site,
+    cost: u64,
+    count: usize,
+    tools: &mut Tools,
+    roster: &mut HoleRoster,
+    watch: &W,
+) -> Result<HoleResult, Memory> {
+    tools.gone.clear();
+    let prices = tools.dive.volume.starts.as_slice();
+    let gone = &mut tools.gone;
+    tools
+        .ranking
+        .take_out(site.instance, prices, count, roster, gone)?;
+    let first = roster.trees.len();
+    let filled = fill(alloc, site, cost, &mut tools.dive, roster, watch)?;
+    if filled.cost > cost {
+        put_back(roster, first, &mut tools.gone)?;
+    }
+    Ok(filled)
+}
+
+/// Opens holes in a roster until it costs no more than the goal, or the budget is used up. Where the watch is
+/// over it opens no further one.
+///
+/// # Errors
+///
+/// `Memory` where memory runs out.
+pub(crate) fn open_all<W: Watch>(
+    alloc: Global,
+    site: Site,
+    goal: u64,
+    budget: Budget,
+    tools: &mut Tools,
+    roster: &mut HoleRoster,
+    watch: &W,
+) -> Result<(), Memory> {
+    let mut budget = budget;
+    let mut sizes = Sizes {
+        small: HoleSize::small(),
+        great: HoleSize::great(),
+    };
+    let mut cost = roster.cost(site.instance);
+    tools.dive.step = STEP;
+    for _ in 0..budget.own.saturating_mul(3) {
+        if watch.is_over() || cost <= goal || budget.is_spent(tools.dive.passer.count) {
+            break;
+        }
+        if roster.trees.is_empty() {
+            break;
+        }
+        let is_great = tools.ranking.draws.below(2) == 1;
+        let count = sizes.of(is_great).draw(&mut tools.ranking.draws);
+        let filled = open_one(alloc, site, cost, count, tools, roster, watch)?;
+        sizes.learn(is_great, cost, filled);
+        budget.note(tools.dive.passer.count, filled.cost < cost);
+        cost = cost.min(filled.cost);
+    }
+    Ok(())
+}
