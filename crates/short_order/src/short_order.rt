@@ -127,8 +127,8 @@ impl Work {
 impl ShortOrder {
     /// Returns all arcs of a graph, in their order. Later calls take the same graph.
     ///
-    /// It has taken the memory for all of them: about 70 bytes for each arc, 60 for each node, and 8 for each
-    /// pair of a code and one of 256 periods.
+    /// It has taken the memory for all of them: 44 bytes for each arc, 52 for each node, and 8 for each code at
+    /// each of 256 periods.
     ///
     /// # Errors
     ///
