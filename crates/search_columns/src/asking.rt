@@ -18,9 +18,11 @@ const WEIGHTS: [i128; 2] = [12, 9];
 /// Those at which a round of a careful hunt asks.
 const CAREFUL_WEIGHTS: [i128; 4] = [12, 9, 6, 3];
 
-/// How many trees a hunt lists at a scout's own prices, each with another arc at the top. At mixed prices it
-/// lists one.
+/// How many trees a hunt lists at a scout's own prices, each with another arc at the top.
 const OWN: u32 = 5;
+
+/// How many it lists so at mixed prices.
+const MIXED: u32 = 1;
 
 /// How many a careful hunt lists at a scout's own prices.
 const CAREFUL_OWN: u32 = 11;
@@ -33,11 +35,11 @@ pub const FULL: usize = 20_000;
 
 /// Returns how many trees are listed at prices of which so many sixteenths are the best ones.
 fn count_at(weight: i128, is_careful: bool) -> u32 {
-    match (weight == 0, is_careful) {
-        (true, false) => OWN,
-        (false, false) => 1,
+    match (is_careful, weight == 0) {
+        (false, true) => OWN,
+        (false, false) => MIXED,
         (true, true) => CAREFUL_OWN,
-        (false, true) => CAREFUL_MIXED,
+        (true, false) => CAREFUL_MIXED,
     }
 }
 
