@@ -5,17 +5,17 @@ ghost use Rattle.node_master.specs.Tasks.{IsBusyNode};
 
 use crate::counting::{count_refusal, is_wide};
 use crate::master::Master;
-use crate::{Bases, First, NodeEnd, Pool, Steering, solve_node_from};
+use crate::{Bases, First, Handover, NodeEnd, Pool, Steering, solve_node_from};
 use cheapest_tree::Pricer;
 use fraction::Tally;
 use master_rows::Day;
 use roster_model::{Cut, Memory};
+use scout::LastBasis;
 use search_watch::Watch;
 use std::alloc::Global;
 
-/// A master that solves each node's linear program in exact fractions, or finds prices that a near solution
-/// shows to be best: near prices come first where a basis has many trees, and else where the exact path
-/// leads to none. It refuses hard nodes alone.
+/// A master that finds prices which a near solution shows to be best, and solves a node's linear program in
+/// exact fractions where it finds none. It refuses hard nodes alone.
 #[derive(Drop)]
 pub struct PlainMaster {
     tally: Tally,
@@ -52,6 +52,16 @@ impl PlainMaster {
         self.refused
     }
 
+    /// Returns the basis of the last hunt; an empty one where none was made since it was taken.
+    fn take_last(&mut self, alloc: Global) -> LastBasis
+        ensures { self.new.refused ≡ self.old.refused }
+    {
+        match &mut self.bases {
+            Some(bases) => bases.take_last(alloc),
+            None => LastBasis::new(alloc),
+        }
+    }
+
     /// Solves a node's program with the bases that were kept, and keeps one more.
     fn solve<W: Watch>(
         &mut self,
@@ -72,7 +82,7 @@ impl PlainMaster {
     {
         let mut steering = Steering {
             wanted,
-            first: First::BySize,
+            first: First::Near,
             bases: kept(alloc, self.bases.take()),
         };
         let end = solve_node_from(
@@ -132,11 +142,13 @@ impl Master for PlainMaster {
         pricer: &mut Pricer,
         pool: &mut Pool,
         cuts: &[Cut],
-        wanted: &[usize],
+        handover: &mut Handover,
         watch: &W,
     ) -> Result<NodeEnd, Memory> {
         let refused = self.refused;
+        let wanted = handover.wanted.as_slice();
         let end = self.solve_again(alloc, day, cuts, wanted, pricer, pool, watch)?;
+        handover.last = self.take_last(alloc);
         self.refused = count_refusal(refused, &end);
         Ok(end)
     }
