@@ -2,3 +2,4 @@ pub mod ElementsLemmas
 mod EscapeLemmas
 pub mod PaintLemmas
 pub mod AmountLemmas
+mod UnitLemmas

@@ -55,7 +55,7 @@ pub fn given(out: &mut List<u8>, bytes: &[u8]) -> Result<(), Memory>
 }
 
 // Appends the digits of a number.
-fn digits(out: &mut List<u8>, value: u64) -> Result<(), Memory>
+pub(crate) fn digits(out: &mut List<u8>, value: u64) -> Result<(), Memory>
     ensures { OnOk result (out.new ≡ out.old ++ decimal value) }
 {
     write_number(out, value as i128)?;

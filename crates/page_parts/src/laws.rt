@@ -1,7 +1,8 @@
-ghost use Rattle.std.specs.Prelude.{ℕ, ◌≡◌, List};
+ghost use Rattle.std.specs.Prelude.{ℕ, ◌≡◌, ◌∷◌, [], List};
 ghost use Rattle.std.specs.List.{flat_map};
 ghost use Rattle.roster_model.specs.declared.grammar.CodeDef.{CodeDef};
-ghost use Rattle.page_parts.specs.Elements.{escaped};
+ghost use Rattle.page_parts.specs.Amounts.{ShowsUnits};
+ghost use Rattle.page_parts.specs.Elements.{escaped, units, written};
 ghost use Rattle.page_parts.specs.Escapes.{AreEscaped, IsOneToOne, recoded};
 ghost use Rattle.page_parts.specs.Paints.{paint_of};
 
@@ -16,4 +17,10 @@ pub fn bytes_are_escaped()
 pub fn paints_stay()
     ensures { (f : ℕ → ℕ) → IsOneToOne f → (cs : List CodeDef) (byte : ℕ)
         → paint_of (recoded f cs) (f byte) ≡ paint_of cs byte }
+{}
+
+/// States a law: an amount with d decimals stands on a page as a whole number and d decimals behind a point, and these
+/// digits are its units.
+pub fn amounts_are_units()
+    ensures { (d n : ℕ) → ShowsUnits d n (written (units d n ∷ [])) }
 {}

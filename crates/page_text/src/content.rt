@@ -1,6 +1,7 @@
 use crate::changes::Changes;
 use crate::row::Row;
 use crate::{CellCover, Figures};
+use page_parts::Money;
 use page_tables::Tables;
 use roster_model::List;
 
@@ -11,8 +12,8 @@ pub struct Content {
     pub title: List<u8>,
     /// For each code what it is called, or nothing.
     pub words: List<List<u8>>,
-    /// What amounts are counted in, or nothing.
-    pub money: List<u8>,
+    /// What amounts are counted in, and how many decimals they have.
+    pub money: Money,
     /// For each period the time that stands on the axes where it begins, or nothing; none at all where the periods
     /// stand there by their numbers.
     pub times: List<List<u8>>,
