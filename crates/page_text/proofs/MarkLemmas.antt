@@ -23,7 +23,7 @@ use Rattle.page_text.specs.Alike.{AreAlikeRows, IsAlike, IsAlikeRow}
 use Rattle.page_text.specs.Charts.{top_count, unit_of}
 use Rattle.page_text.specs.Inputs.{longest}
 use Rattle.page_text.specs.Style.{style}
-use Rattle.page_text.specs.Pages.{all_show, before_title, body, chart, chart_body, chart_head, coverage, coverage_part, derivation, derivations_part, head, heading, height_of, legend, legend_item, page, shifts, shifts_part, size, title_of, titled_derivations, top_part}
+use Rattle.page_text.specs.Pages.{all_show, before_title, body, chart, chart_body, chart_head, coverage, coverage_part, derivation, derivations_part, head, heading, height_of, legend, legend_item, lines_at, page, shifts, shifts_part, size, title_of, titled_derivations, top_part, word_lines}
 use Rattle.page_text.specs.RosterChart.{cell, cells, letter, marked_cell, price_text, row_elements, row_frame, row_head, row_words, ticks, times, who}
 use Rattle.page_text.specs.RosterChart.{gap as name_gap}
 use Rattle.page_text.specs.Changes.{changes_part}
@@ -289,9 +289,25 @@ module _ (f : ℕ → ℕ) (one : IsOneToOne f) where
   unfolding heading
   heading_same m n said rs qs k h = rows_at_same m n said rs qs k h
 
+  word_lines_same : (m n : Money) → AreSaidAlike m n → (r q : Row) → IsAlikeRow f r q → Same (word_lines n q) (word_lines m r)
+  unfolding word_lines
+  word_lines_same m n said r q h = rw (said.decimals, h.price) refl
+
+  lines_same : (m n : Money) → AreSaidAlike m n → (rs qs : List Row) (k : ℕ) → AreAlikeRows f rs qs
+      → Same (elim (slice_get qs k) [ None ↦ [] | Some r ↦ word_lines n r ]) (elim (slice_get rs k) [ None ↦ [] | Some r ↦ word_lines m r ])
+  lines_same m n said [] [] k h = refl
+  lines_same m n said [] (q ∷ qs) k h = absurd h
+  lines_same m n said (r ∷ rs) [] k h = absurd h
+  lines_same m n said (r ∷ rs) (q ∷ qs) zero h = word_lines_same m n said r q h.0
+  lines_same m n said (r ∷ rs) (q ∷ qs) (suc k) h = lines_same m n said rs qs k h.1
+
+  lines_at_same : (m n : Money) → AreSaidAlike m n → (rs qs : List Row) (k : ℕ) → AreAlikeRows f rs qs → Same (lines_at n qs k) (lines_at m rs k)
+  unfolding lines_at
+  lines_at_same m n said rs qs k h = lines_same m n said rs qs k h
+
   derivation_same : (m n : Money) → AreSaidAlike m n → (rs qs : List Row) (k : ℕ) (x y : List ℕ) → AreAlikeRows f rs qs → Same (derivation n qs k x) (derivation m rs k y)
   unfolding derivation
-  derivation_same m n said rs qs k x y h = simp (map-append, heading_same m n said rs qs k h)
+  derivation_same m n said rs qs k x y h = simp (map-append, heading_same m n said rs qs k h, lines_at_same m n said rs qs k h)
 
   derivations_same : (m n : Money) → AreSaidAlike m n → (rs qs : List Row) (k : ℕ) (xs ys : List (List ℕ)) → AreAlikeRows f rs qs → length xs ≡ length ys
       → Same (each_from (derivation n qs) k xs) (each_from (derivation m rs) k ys)

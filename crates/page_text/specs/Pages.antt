@@ -2,8 +2,7 @@
 use Rattle.std.specs.Prelude.{ℕ, Bool, ◌+◌, ◌-◌, ◌*◌, None, Some, List, [], ◌∷◌, ◌++◌, length, nat_eq, nat_lt, slice_get, codes, if◌then◌else◌}
 use Rattle.std.specs.List.{flat_map}
 use Rattle.roster_model.specs.declared.grammar.CodeDef.{CodeDef}
-use Rattle.page_parts.specs.Amounts.{amount}
-use Rattle.page_parts.specs.Elements.{Element, each_from, marks, given, number, caption, places}
+use Rattle.page_parts.specs.Elements.{Element, each_from, marks, given, number, units, caption, places}
 use Rattle.page_parts.specs.Sheets.{chart_width, sheet_of}
 use Rattle.page_parts.specs.declared.sheet.PeriodAxis.{PeriodAxis}
 use Rattle.page_parts.specs.declared.money.Money.{Money}
@@ -113,7 +112,8 @@ behind_line (b ∷ bs) = if nat_eq b 10 then bs else behind_line bs
 -- the word and the price of a row, as lines of a derivation
 unfoldable pub word_lines : Money → Row → List Element
 word_lines m r =
-    marks (codes "word ") ∷ given r.word ∷ marks (codes "\ncost ") ∷ amount m r.price ++ marks (codes "\n") ∷ []
+    marks (codes "word ") ∷ given r.word ∷ marks (codes "\ncost ") ∷ units m.decimals r.price
+    ∷ marks (codes "\n") ∷ []
 
 -- the same of the row at a place, if there is one
 unfoldable pub lines_at : Money → List Row → ℕ → List Element

@@ -45,7 +45,10 @@ use crate::ink::Ink;
 use crate::roster_chart::{row_words, rows, ticks};
 use crate::row::{Row, longest};
 use crate::style::style;
-use page_parts::{Money, PeriodAxis, caption, chart_width, given, labelled, labelled_amount, labelled_text, marks, sheet_of};
+use page_parts::{
+    Money, PeriodAxis, caption, chart_width, given, labelled, labelled_amount, labelled_text,
+    marks, sheet_of, units,
+};
 use page_tables::add_tables;
 use roster_model::{CodeDef, List, Memory};
 use std::alloc::Global;
@@ -341,7 +344,8 @@ fn word_lines(out: &mut List<u8>, money: &Money, row: &Row) -> Result<(), Memory
     ensures { OnOk result (out.new ≡ out.old ++ written (word_lines money.now row.now)) }
 {
     labelled_text(out, b"word ", row.word.as_slice())?;
-    labelled_amount(out, b"\ncost ", money, row.price)?;
+    marks(out, b"\ncost ")?;
+    units(out, money.decimals, row.price)?;
     marks(out, b"\n")
 }
 
