@@ -3,3 +3,4 @@ mod EscapeLemmas
 pub mod PaintLemmas
 pub mod AmountLemmas
 mod UnitLemmas
+mod NameLemmas

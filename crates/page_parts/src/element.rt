@@ -116,7 +116,7 @@ pub fn bar(out: &mut List<u8>, class: &[u8], area: Area) -> Result<(), Memory>
 
 // Appends the first mark of a caption.
 #[tactic(auto, unfolding(crate::specs::Elements::at))]
-fn begin(out: &mut List<u8>, class: &[u8], left: u64, top: u64) -> Result<(), Memory>
+pub(crate) fn begin(out: &mut List<u8>, class: &[u8], left: u64, top: u64) -> Result<(), Memory>
     ensures { OnOk result (out.new ≡ out.old ++ at class.now left top) }
 {
     put(out, b"<text class='")?;

@@ -4,6 +4,7 @@ ghost use Rattle.roster_model.specs.declared.grammar.CodeDef.{CodeDef};
 ghost use Rattle.page_parts.specs.Amounts.{ShowsUnits};
 ghost use Rattle.page_parts.specs.Elements.{escaped, units, written};
 ghost use Rattle.page_parts.specs.Escapes.{AreEscaped, IsOneToOne, recoded};
+ghost use Rattle.page_parts.specs.Names.{IsBetween, cut_of};
 ghost use Rattle.page_parts.specs.Paints.{paint_of};
 
 /// States a law: bytes of the texts, as they stand on a page, have none of `<`, `>`, `"` and `'`, and
@@ -23,4 +24,9 @@ pub fn paints_stay()
 /// digits are its units.
 pub fn amounts_are_units()
     ensures { (d n : ℕ) → ShowsUnits d n (written (units d n ∷ [])) }
+{}
+
+/// States a law: a name that is too wide is cut between two characters, and no character is.
+pub fn names_end_between()
+    ensures { (bytes : List ℕ) → IsBetween (cut_of bytes) bytes }
 {}
