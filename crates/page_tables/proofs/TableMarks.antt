@@ -81,11 +81,15 @@ first_or false es fs gs h = refl
 lasts_same : (a b : Money) (l m : ShiftLine) → AreSaidAlike a b → IsAlikeShift l m → Same (last_cells b m) (last_cells a l)
 unfolding last_cells
 lasts_same a b l m said h =
-    rw h.first (first_or l.first (first_cells b m) (first_cells a l) (marks (codes "<td></td><td></td><td></td>") ∷ []) (firsts_same a b l m said h))
+    ap (λ (t : Bool). marks_of (if t then first_cells b m else marks (codes "<td></td><td></td><td></td>") ∷ [])) h.first
+    ∙ first_or l.first (first_cells b m) (first_cells a l) (marks (codes "<td></td><td></td><td></td>") ∷ []) (firsts_same a b l m said h)
 
 end_same : (a b : Money) (l m : ShiftLine) → AreSaidAlike a b → IsAlikeShift l m → Same (line_end b m) (line_end a l)
 unfolding line_end
-end_same a b l m said h = simp (map-append, h.work, lasts_same a b l m said h)
+end_same a b l m said h =
+    let rest : Same (last_cells b m ++ marks (codes "</tr>\n") ∷ []) (last_cells a l ++ marks (codes "</tr>\n") ∷ []) = simp (map-append, lasts_same a b l m said h) in
+    ap (λ (t : List Element). marks (codes "</td><td>") ∷ number m.work ∷ marks (codes "</td>") ∷ t) rest
+    ∙ ap (λ (n : ℕ). marks (codes "</td><td>") ∷ number n ∷ marks (codes "</td>") ∷ marks_of (last_cells a l ++ marks (codes "</tr>\n") ∷ [])) h.work
 
 line_same : (a b : Money) (grouped named : Bool) → AreSaidAlike a b → (l m : ShiftLine) → IsAlikeShift l m → Same (shift_line b grouped named m) (shift_line a grouped named l)
 line_same a b grouped named said l m h = simp (map-append, front_same grouped named l m h, end_same a b l m said h)

@@ -327,7 +327,8 @@ module _ (f : ℕ → ℕ) (one : IsOneToOne f) where
   coverage_part_same : (s : PeriodAxis) (cs : List CodeDef) (t u : Content) → IsAlike f t u → Same (coverage_part s (recoded f cs) u) (coverage_part s cs t)
   unfolding coverage_part
   coverage_part_same s cs t u h =
-      rw h.columns (when (nat_lt 0 (length t.columns)) (coverage (recoded f cs) s u) (coverage cs s t) (coverage_same cs s t u h))
+      ap (λ (columns : List CellCover). marks_of (if nat_lt 0 (length columns) then coverage (recoded f cs) s u else [])) h.columns
+      ∙ when (nat_lt 0 (length t.columns)) (coverage (recoded f cs) s u) (coverage cs s t) (coverage_same cs s t u h)
 
   -- ---- the derivations
 
