@@ -269,8 +269,8 @@ fn lines_in(
     Ok(lines)
 }
 
-/// Returns a line for each of at most 64 shifts, in the order in which they are drawn. Where time off is named, each
-/// stretch of a shift has a line, and those of one shift stand together.
+/// Returns a line for each of at most 64 shifts, in the order in which they are drawn. Where time off is
+/// named, each stretch of a shift has a line, and those of one shift stand together.
 ///
 /// # Errors
 ///
