@@ -1,4 +1,4 @@
-ghost use Rattle.std.specs.Prelude.{◌≡◌, ◌≤◌, ◌++◌, [], ◌∷◌, All, IfOk, OnOk, count_by, length};
+ghost use Rattle.std.specs.Prelude.{◌≡◌, ◌≤◌, ◌++◌, [], ◌∷◌, All, IfOk, OnOk, count_by, length, true};
 ghost use Rattle.std.specs.List.{flat_map};
 ghost use Rattle.shift_figures.specs.Stretches.{is_paid, is_work};
 ghost use Rattle.roster_tables.specs.ShiftLines.{
