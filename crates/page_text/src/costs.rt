@@ -5,6 +5,8 @@ ghost use Rattle.page_text.specs.Costs.{
   AreDayColumns,
   amount_or_none,
   both_sums,
+  bound_of,
+  bound_part,
   chip,
   code_cost,
   code_costs,
@@ -12,6 +14,7 @@ ghost use Rattle.page_text.specs.Costs.{
   demanded_cost,
   gap,
   is_demanded,
+  is_told,
   no_roster,
   none_allowed,
   none_less,
@@ -27,13 +30,13 @@ ghost use Rattle.page_text.specs.Costs.{
 
 use crate::column::CellCover;
 use crate::figures::Figures;
-use page_parts::{amount, labelled, labelled_amount, labelled_text, marks, paint_of};
+use page_parts::{Money, amount, labelled, labelled_amount, labelled_text, marks, paint_of};
 use roster_model::{CodeDef, List, Memory};
 use shift_figures::{Saving, saving_at};
 
 // Writes the sentence of what a cheaper roster saves at most, with its share in tenths of a percent.
 #[tactic(auto, unfolding(crate::specs::Costs::saves))]
-fn saves(out: &mut List<u8>, money: &[u8], sum: u64, permille: u64) -> Result<(), Memory>
+fn saves(out: &mut List<u8>, money: &Money, sum: u64, permille: u64) -> Result<(), Memory>
     ensures { OnOk result (out.new ≡ out.old ++ written (saves money.now sum permille)) }
 {
     labelled_amount(out, b"A cheaper roster saves at most ", money, sum)?;
@@ -68,7 +71,7 @@ fn none_allowed(out: &mut List<u8>) -> Result<(), Memory>
 
 // Writes the sentence of what a bound tells.
 #[tactic(auto, unfolding(crate::specs::Costs::told))]
-fn told(out: &mut List<u8>, money: &[u8], saving: Saving) -> Result<(), Memory>
+fn told(out: &mut List<u8>, money: &Money, saving: Saving) -> Result<(), Memory>
     ensures { OnOk result (out.new ≡ out.old ++ written (told money.now saving)) }
 {
     match saving {
@@ -80,7 +83,7 @@ fn told(out: &mut List<u8>, money: &[u8], saving: Saving) -> Result<(), Memory>
 
 // Writes the sentence of a roster that costs so much, where this is the bound.
 #[tactic(auto, unfolding(crate::specs::Costs::gap))]
-fn gap(out: &mut List<u8>, money: &[u8], cost: u64, bound: u64) -> Result<(), Memory>
+fn gap(out: &mut List<u8>, money: &Money, cost: u64, bound: u64) -> Result<(), Memory>
     ensures { OnOk result (out.new ≡ out.old ++ written (gap money.now cost bound)) }
 {
     told(out, money, saving_at(cost, bound))
@@ -88,7 +91,7 @@ fn gap(out: &mut List<u8>, money: &[u8], cost: u64, bound: u64) -> Result<(), Me
 
 // Writes the sentence where there is no roster, but a bound.
 #[tactic(auto, unfolding(crate::specs::Costs::no_roster))]
-fn no_roster(out: &mut List<u8>, money: &[u8], bound: u64) -> Result<(), Memory>
+fn no_roster(out: &mut List<u8>, money: &Money, bound: u64) -> Result<(), Memory>
     ensures { OnOk result (out.new ≡ out.old ++ written (no_roster money.now bound)) }
 {
     labelled_amount(
@@ -104,7 +107,7 @@ fn no_roster(out: &mut List<u8>, money: &[u8], bound: u64) -> Result<(), Memory>
 #[tactic(auto, unfolding(crate::specs::Costs::sentence_over))]
 fn sentence_over(
     out: &mut List<u8>,
-    money: &[u8],
+    money: &Money,
     cost: Option<u64>,
     bound: u64,
 ) -> Result<(), Memory>
@@ -125,7 +128,7 @@ fn sentence_over(
 #[tactic(auto, unfolding(crate::specs::Costs::sentence))]
 pub fn sentence(
     out: &mut List<u8>,
-    money: &[u8],
+    money: &Money,
     cost: Option<u64>,
     bound: Option<u64>,
 ) -> Result<(), Memory>
@@ -139,7 +142,7 @@ pub fn sentence(
 
 // Writes a cost or a bound.
 #[tactic(auto, unfolding(crate::specs::Costs::amount_or_none))]
-fn amount_or_none(out: &mut List<u8>, money: &[u8], value: Option<u64>) -> Result<(), Memory>
+fn amount_or_none(out: &mut List<u8>, money: &Money, value: Option<u64>) -> Result<(), Memory>
     ensures { OnOk result (out.new ≡ out.old ++ written (amount_or_none money.now value)) }
 {
     match value {
@@ -152,7 +155,7 @@ fn amount_or_none(out: &mut List<u8>, money: &[u8], value: Option<u64>) -> Resul
 fn labelled_or_none(
     out: &mut List<u8>,
     label: &[u8],
-    money: &[u8],
+    money: &Money,
     value: Option<u64>,
 ) -> Result<(), Memory>
     ensures { OnOk result
@@ -215,7 +218,7 @@ fn penalties(code: u8, columns: &[CellCover]) -> u64
 #[tactic(auto, unfolding(crate::specs::Costs::demanded_cost))]
 fn demanded_cost(
     out: &mut List<u8>,
-    money: &[u8],
+    money: &Money,
     codes: &[CodeDef],
     columns: &[CellCover],
     place: u8,
@@ -235,7 +238,7 @@ fn demanded_cost(
 #[tactic(auto, unfolding(crate::specs::Costs::code_cost))]
 fn code_cost(
     out: &mut List<u8>,
-    money: &[u8],
+    money: &Money,
     codes: &[CodeDef],
     columns: &[CellCover],
     place: u8,
@@ -254,7 +257,7 @@ fn code_cost(
 // Writes the penalties of each demanded code.
 fn code_costs(
     out: &mut List<u8>,
-    money: &[u8],
+    money: &Money,
     codes: &[CodeDef],
     columns: &[CellCover],
 ) -> Result<(), Memory>
@@ -272,7 +275,7 @@ fn code_costs(
 
 // Writes what the shifts and the penalties come to.
 #[tactic(auto, unfolding(crate::specs::Costs::both_sums))]
-fn both_sums(out: &mut List<u8>, money: &[u8], figures: Figures) -> Result<(), Memory>
+fn both_sums(out: &mut List<u8>, money: &Money, figures: Figures) -> Result<(), Memory>
     ensures { OnOk result (out.new ≡ out.old ++ written (both_sums money.now figures)) }
 {
     labelled_amount(
@@ -292,7 +295,7 @@ fn both_sums(out: &mut List<u8>, money: &[u8], figures: Figures) -> Result<(), M
 
 // Writes the same, where there is a roster.
 #[tactic(auto, unfolding(crate::specs::Costs::sums))]
-fn sums(out: &mut List<u8>, money: &[u8], figures: Figures) -> Result<(), Memory>
+fn sums(out: &mut List<u8>, money: &Money, figures: Figures) -> Result<(), Memory>
     ensures { OnOk result (out.new ≡ out.old ++ written (sums money.now figures figures.cost)) }
 {
     match figures.cost {
@@ -301,8 +304,47 @@ fn sums(out: &mut List<u8>, money: &[u8], figures: Figures) -> Result<(), Memory
     }
 }
 
-/// Appends what the roster costs: its figures, and the penalties of each code that is demanded, with amounts that are
-/// counted in these words, or bare where there are none. Where there is no roster, there is no sum.
+// Whether something is proved of the cost.
+fn is_told(cost: Option<u64>, bound: Option<u64>) -> bool
+    ensures { result ≡ is_told cost bound }
+{
+    let Some(cost) = cost else {
+        return true;
+    };
+    match bound {
+        None => true,
+        Some(bound) => bound > 0 || cost == 0,
+    }
+}
+
+// Writes the bound.
+#[tactic(auto, unfolding(crate::specs::Costs::bound_of))]
+fn bound_of(out: &mut List<u8>, money: &Money, bound: Option<u64>) -> Result<(), Memory>
+    ensures { OnOk result (out.new ≡ out.old ++ written (bound_of money.now bound)) }
+{
+    labelled_or_none(out, b"<div><dt>Bound</dt><dd>", money, bound)?;
+    marks(out, b"</dd></div>")
+}
+
+// Writes the bound, where something is proved of the cost.
+#[tactic(auto, unfolding(crate::specs::Costs::bound_part))]
+fn bound_part(
+    out: &mut List<u8>,
+    money: &Money,
+    cost: Option<u64>,
+    bound: Option<u64>,
+) -> Result<(), Memory>
+    ensures { OnOk result (out.new ≡ out.old ++ written (bound_part money.now cost bound)) }
+{
+    if is_told(cost, bound) {
+        bound_of(out, money, bound)?;
+    }
+    Ok(())
+}
+
+/// Appends what the roster costs: its figures, and the penalties of each code that is demanded, with amounts
+/// that are counted in these words, or bare where there are none. Where there is no roster, there is no sum,
+/// and where nothing is proved of the cost, no bound.
 ///
 /// # Errors
 ///
@@ -310,7 +352,7 @@ fn sums(out: &mut List<u8>, money: &[u8], figures: Figures) -> Result<(), Memory
 #[tactic(auto, unfolding(crate::specs::Costs::costs))]
 pub fn costs(
     out: &mut List<u8>,
-    money: &[u8],
+    money: &Money,
     codes: &[CodeDef],
     figures: Figures,
     columns: &[CellCover],
@@ -325,13 +367,8 @@ pub fn costs(
         money,
         figures.cost,
     )?;
-    labelled_or_none(
-        out,
-        b"</dd></div><div><dt>Bound</dt><dd>",
-        money,
-        figures.bound,
-    )?;
     marks(out, b"</dd></div>")?;
+    bound_part(out, money, figures.cost, figures.bound)?;
     sums(out, money, figures)?;
     code_costs(out, money, codes, columns)?;
     marks(out, b"</dl>\n")

@@ -3,6 +3,7 @@ ghost use Rattle.page_text.specs.Costs.{AreDayColumns};
 ghost use Rattle.page_parts.specs.Elements.{written};
 ghost use Rattle.page_text.specs.Pages.{
   all_show,
+  behind_line,
   before_title,
   body,
   chart,
@@ -10,18 +11,24 @@ ghost use Rattle.page_text.specs.Pages.{
   chart_head,
   charts,
   chart_legend,
+  check_command,
   coverage,
   coverage_part,
   derivation,
   derivations,
   derivations_part,
+  foot,
+  foot_part,
   head,
   heading,
   height_of,
   legend,
   legend_item,
+  lines_at,
   page,
   price_head,
+  read_line,
+  read_lines,
   shifts,
   shifts_part,
   shows,
@@ -29,6 +36,7 @@ ghost use Rattle.page_text.specs.Pages.{
   title_of,
   titled_derivations,
   top_part,
+  word_lines,
   words_at,
   work_word,
 };
@@ -36,13 +44,16 @@ ghost use Rattle.page_text.specs.Pages.{
 use crate::CellCover;
 use crate::changes::changes_part;
 use crate::chart::{frame, in_words, inked, lines, top_count, unit_of};
-use crate::content::Content;
+use crate::content::{Content, ReadText};
 use crate::costs::{chip, costs, is_demanded, sentence};
 use crate::ink::Ink;
 use crate::roster_chart::{row_words, rows, ticks};
 use crate::row::{Row, longest};
 use crate::style::style;
-use page_parts::{PeriodAxis, caption, chart_width, labelled, labelled_text, marks, sheet_of};
+use page_parts::{
+    Money, PeriodAxis, caption, chart_width, given, labelled, labelled_amount, labelled_text,
+    marks, sheet_of, units,
+};
 use page_tables::add_tables;
 use roster_model::{CodeDef, List, Memory};
 use std::alloc::Global;
@@ -162,7 +173,7 @@ fn shifts(
     size(out, chart_width(sheet), height_of(shown.len()))?;
     price_head(out, sheet)?;
     ticks(out, sheet, 20, content.times.as_slice())?;
-    rows(out, content.money.as_slice(), sheet, codes, shown)?;
+    rows(out, &content.money, sheet, codes, content.off, shown)?;
     marks(out, roster_end())
 }
 
@@ -172,15 +183,17 @@ fn chart_head(
     out: &mut List<u8>,
     codes: &[CodeDef],
     sheet: PeriodAxis,
+    words: &[List<u8>],
     columns: &[CellCover],
     place: u8,
     code: &CodeDef,
 ) -> Result<(), Memory>
     ensures { OnOk result
-        (out.new ≡ out.old ++ written (chart_head codes.now sheet columns.now place code.now)) }
+        (out.new ≡ out.old ++ written (chart_head codes.now sheet words.now columns.now place code.now)) }
 {
     marks(out, b"<figure><figcaption>")?;
     chip(out, codes, code.byte)?;
+    labelled_text(out, b" ", words_at(words, place))?;
     labelled_text(
         out,
         b"</figcaption><div class='scroll'><svg role='img' aria-label='Coverage of ",
@@ -218,17 +231,19 @@ fn chart(
     out: &mut List<u8>,
     codes: &[CodeDef],
     sheet: PeriodAxis,
-    moments: &[List<u8>],
-    columns: &[CellCover],
+    content: &Content,
     place: u8,
     code: &CodeDef,
 ) -> Result<(), Memory>
     ensures { OnOk result
-        (out.new ≡ out.old ++ written (chart codes.now sheet moments.now columns.now place code.now)) }
+        (out.new ≡ out.old ++ written (chart codes.now sheet content.now place code.now)) }
 {
+    let columns = content.columns.as_slice();
     if is_demanded(place, columns) {
         let top = top_count(place, columns);
-        chart_head(out, codes, sheet, columns, place, code)?;
+        let words = content.words.as_slice();
+        let moments = content.times.as_slice();
+        chart_head(out, codes, sheet, words, columns, place, code)?;
         chart_body(out, sheet, moments, columns, place, top, unit_of(top))?;
     }
     Ok(())
@@ -239,15 +254,14 @@ fn charts(
     out: &mut List<u8>,
     codes: &[CodeDef],
     sheet: PeriodAxis,
-    moments: &[List<u8>],
-    columns: &[CellCover],
+    content: &Content,
 ) -> Result<(), Memory>
     requires { length codes.now ≤ 32 }
-    ensures { OnOk result (out.new ≡ out.old ++ written (charts codes.now sheet moments.now columns.now)) }
+    ensures { OnOk result (out.new ≡ out.old ++ written (charts codes.now sheet content.now)) }
 {
     let mut place: u8 = 0;
     for code in codes {
-        chart(out, codes, sheet, moments, columns, place, code)?;
+        chart(out, codes, sheet, content, place, code)?;
         place += 1;
     }
     Ok(())
@@ -273,14 +287,13 @@ fn coverage(
     out: &mut List<u8>,
     codes: &[CodeDef],
     sheet: PeriodAxis,
-    moments: &[List<u8>],
-    columns: &[CellCover],
+    content: &Content,
 ) -> Result<(), Memory>
     requires { length codes.now ≤ 32 }
-    ensures { OnOk result (out.new ≡ out.old ++ written (coverage codes.now sheet moments.now columns.now)) }
+    ensures { OnOk result (out.new ≡ out.old ++ written (coverage codes.now sheet content.now)) }
 {
     marks(out, chart_legend())?;
-    charts(out, codes, sheet, moments, columns)?;
+    charts(out, codes, sheet, content)?;
     marks(out, b"</div></section>\n")
 }
 
@@ -309,7 +322,7 @@ fn all_show(out: &mut List<u8>, texts: &[List<u8>]) -> Result<(), Memory>
 
 // Writes the words of the row at a place, if there is one.
 #[tactic(auto, unfolding(crate::specs::Pages::heading))]
-fn heading(out: &mut List<u8>, money: &[u8], rows: &[Row], place: u64) -> Result<(), Memory>
+fn heading(out: &mut List<u8>, money: &Money, rows: &[Row], place: u64) -> Result<(), Memory>
     ensures { OnOk result (out.new ≡ out.old ++ written (heading money.now rows.now place)) }
 {
     match rows.get(place as usize) {
@@ -318,11 +331,47 @@ fn heading(out: &mut List<u8>, money: &[u8], rows: &[Row], place: u64) -> Result
     }
 }
 
+// Returns what stands behind the first line of a text.
+fn behind_line(text: &[u8]) -> &[u8]
+    ensures { result.now ≡ behind_line text.now }
+{
+    let mut place: usize = 0;
+    for byte in text {
+        place += 1;
+        if *byte == b'\n' {
+            return &text[place..];
+        }
+    }
+    b""
+}
+
+// Writes the word and the price of a row, as lines of a derivation.
+#[tactic(auto, unfolding(crate::specs::Pages::word_lines))]
+fn word_lines(out: &mut List<u8>, money: &Money, row: &Row) -> Result<(), Memory>
+    ensures { OnOk result (out.new ≡ out.old ++ written (word_lines money.now row.now)) }
+{
+    labelled_text(out, b"word ", row.word.as_slice())?;
+    marks(out, b"\ncost ")?;
+    units(out, money.decimals, row.price)?;
+    marks(out, b"\n")
+}
+
+// Writes the same of the row at a place, if there is one.
+#[tactic(auto, unfolding(crate::specs::Pages::lines_at))]
+fn lines_at(out: &mut List<u8>, money: &Money, rows: &[Row], place: u64) -> Result<(), Memory>
+    ensures { OnOk result (out.new ≡ out.old ++ written (lines_at money.now rows.now place)) }
+{
+    match rows.get(place as usize) {
+        None => Ok(()),
+        Some(row) => word_lines(out, money, row),
+    }
+}
+
 // Writes the derivation of a row, under the row's words.
 #[tactic(auto, unfolding(crate::specs::Pages::derivation))]
 fn derivation(
     out: &mut List<u8>,
-    money: &[u8],
+    money: &Money,
     rows: &[Row],
     place: u64,
     text: &List<u8>,
@@ -333,14 +382,16 @@ fn derivation(
     labelled(out, b"<pre class='derivation' id='d", place)?;
     marks(out, b"'><b>")?;
     heading(out, money, rows, place)?;
-    labelled_text(out, b"</b>\n", text.as_slice())?;
+    marks(out, b"</b>\n")?;
+    lines_at(out, money, rows, place)?;
+    given(out, behind_line(behind_line(text.as_slice())))?;
     marks(out, b"</pre>\n")
 }
 
 // Writes the derivations of the rows.
 fn derivations(
     out: &mut List<u8>,
-    money: &[u8],
+    money: &Money,
     rows: &[Row],
     texts: &[List<u8>],
 ) -> Result<(), Memory>
@@ -359,7 +410,7 @@ fn derivations(
 #[tactic(auto, unfolding(crate::specs::Pages::titled_derivations))]
 fn titled_derivations(
     out: &mut List<u8>,
-    money: &[u8],
+    money: &Money,
     rows: &[Row],
     texts: &[List<u8>],
 ) -> Result<(), Memory>
@@ -379,7 +430,7 @@ fn titled_derivations(
 #[tactic(auto, unfolding(crate::specs::Pages::derivations_part))]
 fn derivations_part(
     out: &mut List<u8>,
-    money: &[u8],
+    money: &Money,
     rows: &[Row],
     texts: &[List<u8>],
 ) -> Result<(), Memory>
@@ -446,7 +497,7 @@ fn top_part(out: &mut List<u8>, codes: &[CodeDef], content: &Content) -> Result<
         content.title.as_slice(),
         content.derivations.as_slice(),
     )?;
-    let money = content.money.as_slice();
+    let money = &content.money;
     sentence(out, money, content.figures.cost, content.figures.bound)?;
     marks(out, b"</p></header>\n")?;
     costs(
@@ -483,15 +534,69 @@ fn coverage_part(
     out: &mut List<u8>,
     sheet: PeriodAxis,
     codes: &[CodeDef],
-    moments: &[List<u8>],
-    columns: &[CellCover],
+    content: &Content,
 ) -> Result<(), Memory>
     requires { length codes.now ≤ 32 }
     ensures { OnOk result
-        (out.new ≡ out.old ++ written (coverage_part sheet codes.now moments.now columns.now)) }
+        (out.new ≡ out.old ++ written (coverage_part sheet codes.now content.now)) }
 {
-    if columns.len() > 0 {
-        coverage(out, codes, sheet, moments, columns)?;
+    if content.columns.len() > 0 {
+        coverage(out, codes, sheet, content)?;
+    }
+    Ok(())
+}
+
+// Returns the command that checks what the page says: of a proof, or of a report.
+#[tactic(auto, unfolding(crate::specs::Pages::check_command))]
+fn check_command(stated: bool) -> &'static [u8]
+    ensures { result.now ≡ check_command stated }
+{
+    if stated {
+        b"value RULES DEMAND REPORT"
+    } else {
+        b"check RULES DEMAND PROOF"
+    }
+}
+
+// Writes a text that was read, as `sha256sum` says it.
+#[tactic(auto, unfolding(crate::specs::Pages::read_line))]
+fn read_line(out: &mut List<u8>, text: &ReadText) -> Result<(), Memory>
+    ensures { OnOk result (out.new ≡ out.old ++ written (read_line text.now)) }
+{
+    given(out, text.sum.as_slice())?;
+    labelled_text(out, b"  ", text.name.as_slice())?;
+    marks(out, b"\n")
+}
+
+// Writes the texts that were read.
+fn read_lines(out: &mut List<u8>, texts: &[ReadText]) -> Result<(), Memory>
+    ensures { OnOk result (out.new ≡ out.old ++ written (read_lines texts.now)) }
+{
+    for text in texts {
+        read_line(out, text)?;
+    }
+    Ok(())
+}
+
+// Writes the foot of the page.
+#[tactic(auto, unfolding(crate::specs::Pages::foot))]
+fn foot(out: &mut List<u8>, stated: bool, texts: &[ReadText]) -> Result<(), Memory>
+    ensures { OnOk result (out.new ≡ out.old ++ written (foot stated texts.now)) }
+{
+    marks(out, b"<footer><p>Made from these texts; <code>roster ")?;
+    marks(out, check_command(stated))?;
+    marks(out, b"</code> checks them.</p>\n<pre>")?;
+    read_lines(out, texts)?;
+    marks(out, b"</pre></footer>\n")
+}
+
+// Writes the same, where it is said which texts were read.
+#[tactic(auto, unfolding(crate::specs::Pages::foot_part))]
+fn foot_part(out: &mut List<u8>, stated: bool, texts: &[ReadText]) -> Result<(), Memory>
+    ensures { OnOk result (out.new ≡ out.old ++ written (foot_part stated texts.now)) }
+{
+    if texts.len() > 0 {
+        foot(out, stated, texts)?;
     }
     Ok(())
 }
@@ -512,12 +617,12 @@ fn body(
 {
     top_part(out, codes, content)?;
     shifts_part(out, sheet, codes, content)?;
-    let moments = content.times.as_slice();
-    coverage_part(out, sheet, codes, moments, content.columns.as_slice())?;
-    let money = content.money.as_slice();
+    coverage_part(out, sheet, codes, content)?;
+    let money = &content.money;
     add_tables(out, money, &content.tables)?;
     let texts = content.derivations.as_slice();
     derivations_part(out, money, content.rows.as_slice(), texts)?;
+    foot_part(out, content.stated, content.read.as_slice())?;
     marks(out, b"</main>\n</body>\n</html>\n")
 }
 
@@ -540,7 +645,7 @@ pub fn write_page(
 {
     let mut out = List::new(alloc);
     let longest = longest(content.rows.as_slice());
-    let sheet = sheet_of(periods, longest, content.money.len());
+    let sheet = sheet_of(periods, longest, content.money.words.len());
     body(&mut out, sheet, codes, content)?;
     Ok(out)
 }
