@@ -143,12 +143,12 @@ narrow_step : (line rest : List ℕ) (n room need b : ℕ) (j : Bool) → ltb ro
     → n + room ≡ 75 → need ≤ room → is_whole need (b ∷ line) ≡ true → Narrows line rest
     → is_narrow n (cond j (13 ∷ 10 ∷ 32 ∷ b ∷ []) (b ∷ []) ++ (folded_from (cond j 73 (room - 1)) line ++ 13 ∷ 10 ∷ rest))
     ≡ is_narrow 0 rest
-narrow_step line rest n room need b true e no sum le h ih =
-    narrow_fold n b (folded_from 73 line ++ 13 ∷ 10 ∷ rest) (omega (arith, sum)) no
+narrow_step line rest n room need b true e dry sum le h ih =
+    narrow_fold n b (folded_from 73 line ++ 13 ∷ 10 ∷ rest) (omega (arith, sum)) dry
     ∙ ih 2 73 (next_need need b) refl (fits_folded need b line h (begins room b e)) (next_whole need b line h)
-narrow_step line rest n room need b false e no sum le h ih =
+narrow_step line rest n room need b false e dry sum le h ih =
     let fit = fits_row room need b line h le e in
-    narrow_byte n b (folded_from (room - 1) line ++ 13 ∷ 10 ∷ rest) no
+    narrow_byte n b (folded_from (room - 1) line ++ 13 ∷ 10 ∷ rest) dry
     ∙ ih (n + 1) (room - 1) (next_need need b) (omega (arith, sum, fit.0)) fit.1 (next_whole need b line h)
 
 none_need : (need : ℕ) → is_whole need [] ≡ true → need ≡ 0
@@ -157,9 +157,9 @@ none_need (suc n) h = absurd cc
 
 line_narrow : (line rest : List ℕ) → list_all is_no_return line ≡ true → Narrows line rest
 unfolding folded_byte room_behind
-line_narrow [] rest no n room need sum le h = narrow_end n rest (omega (arith, sum))
-line_narrow (b ∷ bs) rest no n room need sum le h =
-    let both = and_parts (is_no_return b) (list_all is_no_return bs) no in
+line_narrow [] rest dry n room need sum le h = narrow_end n rest (omega (arith, sum))
+line_narrow (b ∷ bs) rest dry n room need sum le h =
+    let both = and_parts (is_no_return b) (list_all is_no_return bs) dry in
     ap (is_narrow n) (append_assoc (folded_byte room b) (folded_from (room_behind room b) bs) (13 ∷ 10 ∷ rest))
     ∙ narrow_step bs rest n room need b (ltb room (width b)) refl (not-true (eqb b 13) both.0) sum le h (line_narrow bs rest both.1)
 
