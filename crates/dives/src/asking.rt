@@ -7,6 +7,7 @@ ghost use Rattle.dives.specs.Parts.{HasRooms, HoldsTree, IsQuote, CanAsk, IsProg
 use crate::descent::Descent;
 use crate::desk::{DiveDesk, Quote};
 use crate::least::{find_least, pooled};
+use crate::others::list_others;
 use cheapest_tree::Pricer;
 use master_rows::{NodeRows, NodeTask};
 use roster_model::{Memory, PriceRoom};
@@ -119,7 +120,8 @@ fn find_cheapest(
     Some(least.saturating_sub(head_price(task.rows, &desk.quote)))
 }
 
-/// Lists a tree that is cheap at the scout's prices, and says whether there is one. Notes what the prices show.
+/// Lists trees that are cheap at the scout's prices, a cheapest one and further ones under other arcs of the root,
+/// and says whether there is one. Notes what the prices show.
 ///
 /// # Errors
 ///
@@ -150,5 +152,7 @@ pub(crate) fn ask(
     }
     let column = pooled(&task.day, &descent.desk.tree, pool)?;
     descent.program.list(alloc, task, pool, column)?;
+    let limit = head_price(task.rows, &descent.desk.quote).saturating_add(CHEAPER);
+    list_others(alloc, task, limit, column, pricer, pool, descent)?;
     Ok(true)
 }

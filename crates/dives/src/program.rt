@@ -15,7 +15,7 @@ use tree_pool::Pool;
 const NEAR: i128 = 16_777_216;
 
 /// A value is near to what prices show of it where it is above that by at most a part of itself, one in so many.
-const PART: i128 = 4_096;
+const PART: i128 = 1_024;
 
 /// How many units of 2^-32 are in one of prices, 2^-24.
 const PRICE: i128 = 256;
@@ -39,7 +39,7 @@ pub(crate) struct Program {
     pub shown: Option<i128>,
     /// How many arcs all passes over the graph have touched.
     pub touched: u64,
-    /// Whether its value has passed the cost below which a roster is looked for: no further tree is asked for.
+    /// Whether its value has passed the cost below which a roster is looked for: the dive is dropped.
     pub is_over: bool,
 }
 
@@ -136,23 +136,26 @@ impl Program {
         Ok(())
     }
 
-    /// Lists the trees of the pool from a number on.
+    /// Lists the last trees of the pool, so many of them, but for those that are listed before.
     ///
     /// # Errors
     ///
     /// `Memory` where memory runs out; nothing is said of the program then.
-    pub fn list_from(
+    pub fn list_last(
         &mut self,
         alloc: Global,
         task: &NodeTask,
         pool: &Pool,
-        first: usize,
+        count: usize,
+        before: &[usize],
     ) -> Result<(), Memory>
         requires program { IsProgram (length pool.now) self.old }
         ensures { OnOk result (IsProgram (length pool.now) self.new) }
     {
-        for column in first..pool.len() {
-            self.list(alloc, task, pool, column)?;
+        for column in pool.len().saturating_sub(count)..pool.len() {
+            if !before.contains(&column) {
+                self.list(alloc, task, pool, column)?;
+            }
         }
         Ok(())
     }
