@@ -35,6 +35,6 @@ pub(crate) fn ask_master<M: Master, W: Watch>(
     let day = &node.searched.day;
     let pricer = &mut desk.pricing.pricer;
     let cuts = node.cuts;
-    let wanted = &desk.wanted;
-    master.node(alloc, day, pricer, pool, cuts, wanted, watch)
+    let handover = &mut desk.handover;
+    master.node(alloc, day, pricer, pool, cuts, handover, watch)
 }

@@ -145,7 +145,7 @@ fn offer_dived<W: Watch>(
         alloc,
         day,
         node.cuts,
-        &desk.wanted,
+        desk.handover.wanted.as_slice(),
         limit(day.instance, best),
         &mut desk.pricing.pricer,
         pool,

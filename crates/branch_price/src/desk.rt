@@ -7,8 +7,8 @@ use arc_counts::NodePath;
 use candidate_rosters::RosterDesk;
 use certificates::MOST_MULTIPLIERS;
 use master_rows::{Day, Pricing};
-use node_master::Weight;
-use roster_model::Memory;
+use node_master::{Handover, Weight};
+use roster_model::{List, Memory};
 use split_probes::Gains;
 use std::alloc::Global;
 
@@ -26,8 +26,8 @@ pub(crate) struct SplitHints {
 pub(crate) struct SearchDesk {
     pub pricing: Pricing,
     pub rosters: RosterDesk,
-    /// The trees of the last solution of a master, which steer the next one.
-    pub wanted: Vec<usize>,
+    /// What the last master hands on to the next one: the trees of the last solution, and a basis.
+    pub handover: Handover,
     /// What is known of splits.
     pub splits: SplitHints,
     /// Whether a first roster was looked for.
@@ -59,7 +59,7 @@ impl SearchDesk {
             Ok(rosters) => Ok(SearchDesk {
                 pricing,
                 rosters,
-                wanted: Vec::new(alloc),
+                handover: Handover::new(alloc),
                 splits: SplitHints { gains, old },
                 has_first: false,
             }),
@@ -97,8 +97,8 @@ impl SearchBench {
 /// # Errors
 ///
 /// `Memory` where memory runs out; some of them may be kept then.
-pub(crate) fn want(wanted: &mut Vec<usize>, weights: &[Weight]) -> Result<(), Memory> {
-    wanted.clear();
+pub(crate) fn want(wanted: &mut List<usize>, weights: &[Weight]) -> Result<(), Memory> {
+    wanted.truncate(0);
     for weight in weights {
         wanted.push(weight.column)?;
     }

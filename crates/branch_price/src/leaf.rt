@@ -93,7 +93,7 @@ fn best_leaf<W: Watch>(
     ensures turned { OnOk result (IsTurnedAt node.now progress.old leaf progress.new) }
     ensures tools { StayTools node.now.searched.day pool.old pool.new desk.new }
 {
-    let Ok(()) = want(&mut desk.wanted, solved.weights.as_slice()) else {
+    let Ok(()) = want(&mut desk.handover.wanted, solved.weights.as_slice()) else {
         drop(solved);
         return Err(Memory);
     };

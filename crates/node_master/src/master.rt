@@ -9,7 +9,7 @@ ghost use Rattle.tree_pool.specs.Pools.{IsPool, IsGrown};
 ghost use Rattle.node_master.specs.Ends.{IsNodeCut};
 ghost use Rattle.node_master.specs.Refusals.{EndsWell, counted};
 
-use crate::{NodeEnd, Pool};
+use crate::{Handover, NodeEnd, Pool};
 use cheapest_tree::Pricer;
 use master_rows::Day;
 use roster_model::{Cut, Memory};
@@ -26,8 +26,8 @@ pub trait Master {
     ghost strict: { Self → Bool };
 
     /// Prices the node at a path of cuts, base cuts first, or gives it up; a refused node is counted once.
-    /// Trees of the pool that are `wanted` may steer it, the most wanted first: any list of numbers is
-    /// lawful. Where the watch says that the search is over it may stop, before there are prices.
+    /// What is handed over may steer it, whatever it is, and the basis of the last hunt is left there. Where
+    /// the watch says that the search is over it may stop, before there are prices.
     ///
     /// # Errors
     ///
@@ -40,7 +40,7 @@ pub trait Master {
         pricer: &mut Pricer,
         pool: &mut Pool,
         cuts: &[Cut],
-        wanted: &[usize],
+        handover: &mut Handover,
         watch: &W,
     ) -> Result<NodeEnd, Memory>
         requires sound { IsSoundInstance day.now.instance.now }

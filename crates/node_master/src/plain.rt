@@ -5,11 +5,12 @@ ghost use Rattle.node_master.specs.Tasks.{IsBusyNode};
 
 use crate::counting::{count_refusal, is_wide};
 use crate::master::Master;
-use crate::{Bases, First, NodeEnd, Pool, Steering, solve_node_from};
+use crate::{Bases, First, Handover, NodeEnd, Pool, Steering, solve_node_from};
 use cheapest_tree::Pricer;
 use fraction::Tally;
 use master_rows::Day;
 use roster_model::{Cut, Memory};
+use scout::LastBasis;
 use search_watch::Watch;
 use std::alloc::Global;
 
@@ -50,6 +51,16 @@ impl PlainMaster {
         ensures { result ≡ self.now.refused }
     {
         self.refused
+    }
+
+    /// Returns the basis of the last hunt; an empty one where none was made since it was taken.
+    fn take_last(&mut self, alloc: Global) -> LastBasis
+        ensures { self.new.refused ≡ self.old.refused }
+    {
+        match &mut self.bases {
+            Some(bases) => bases.take_last(alloc),
+            None => LastBasis::new(alloc),
+        }
     }
 
     /// Solves a node's program with the bases that were kept, and keeps one more.
@@ -132,11 +143,13 @@ impl Master for PlainMaster {
         pricer: &mut Pricer,
         pool: &mut Pool,
         cuts: &[Cut],
-        wanted: &[usize],
+        handover: &mut Handover,
         watch: &W,
     ) -> Result<NodeEnd, Memory> {
         let refused = self.refused;
+        let wanted = handover.wanted.as_slice();
         let end = self.solve_again(alloc, day, cuts, wanted, pricer, pool, watch)?;
+        handover.last = self.take_last(alloc);
         self.refused = count_refusal(refused, &end);
         Ok(end)
     }

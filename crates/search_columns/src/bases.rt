@@ -1,6 +1,7 @@
 use roster_model::{Cut, List, Memory};
-use scout::{Key, Limits};
+use scout::{Key, LastBasis, Limits};
 use std::alloc::Global;
+use std::mem;
 
 /// How many bases are kept at most: a search goes down from few nodes at a time, and each basis has a
 /// price of every row, so that they take a few megabytes at most.
@@ -44,6 +45,8 @@ pub struct Bases {
     turns: u64,
     /// The steps of a round of the hunts that keep them.
     steps: Limits,
+    /// The basis of the last hunt; an empty one where none was made since it was taken.
+    last: LastBasis,
 }
 
 /// Whether the second list of cuts begins with the first.
@@ -101,12 +104,23 @@ impl Bases {
             kept: Vec::new(alloc),
             turns: 0,
             steps,
+            last: LastBasis::new(alloc),
         }
     }
 
     /// Returns how many steps a round of a hunt has.
     pub(crate) fn steps(&self) -> Limits {
         self.steps
+    }
+
+    /// Notes the basis of the last hunt.
+    pub(crate) fn set_last(&mut self, last: LastBasis) {
+        self.last = last;
+    }
+
+    /// Returns the basis with which the last hunt ended, and leaves an empty one.
+    pub fn take_last(&mut self, alloc: Global) -> LastBasis {
+        mem::replace(&mut self.last, LastBasis::new(alloc))
     }
 
     /// Counts a turn, and returns its number.

@@ -13,7 +13,7 @@ use crate::steering::Steering;
 use cheapest_tree::Pricer;
 use master_rows::NodeTask;
 use roster_model::{Cut, List, Memory};
-use scout::{Limits, Scout, Scouted};
+use scout::{LastBasis, Limits, Scout, Scouted};
 use search_watch::Watch;
 use std::alloc::Global;
 use tree_pool::Pool;
@@ -136,8 +136,17 @@ fn hunt_rounds<W: Watch>(
     Ok(())
 }
 
-/// Keeps the basis of a hunt at these cuts.
+/// Returns the basis of a hunt.
+fn last_basis(alloc: Global, hunt: &Hunt) -> Result<LastBasis, Memory> {
+    Ok(LastBasis {
+        trees: basic_trees(alloc, hunt.desk.held.as_slice(), &hunt.scout)?,
+        own: own_keys(alloc, &hunt.scout)?,
+    })
+}
+
+/// Keeps the basis of a hunt at these cuts, also as that of the last hunt.
 fn keep_basis(alloc: Global, cuts: &[Cut], hunt: &Hunt, bases: &mut Bases) -> Result<(), Memory> {
+    bases.set_last(last_basis(alloc, hunt)?);
     let mut path = List::new(alloc);
     path.extend_from_slice(cuts)?;
     bases.keep(Basis {

@@ -5,7 +5,7 @@ ghost use Rattle.solve_rows.specs.Failing.{fails_at, is_none_listed};
 use branch_price::{Master, PlainMaster, Pool, Watch};
 use cheapest_tree::Pricer;
 use master_rows::{Day, count_rows};
-use node_master::{Cause, NodeEnd};
+use node_master::{Cause, Handover, NodeEnd};
 use roster_model::{Cut, Memory};
 use std::alloc::Global;
 
@@ -93,7 +93,7 @@ impl Master for FailingMaster {
         pricer: &mut Pricer,
         pool: &mut Pool,
         cuts: &[Cut],
-        wanted: &[usize],
+        handover: &mut Handover,
         watch: &W,
     ) -> Result<NodeEnd, Memory>
         requires node { IsBusyNode day.now cuts.now }
@@ -123,7 +123,7 @@ impl Master for FailingMaster {
         }
         let end = self
             .plain
-            .node(alloc, day, pricer, pool, cuts, wanted, watch)?;
+            .node(alloc, day, pricer, pool, cuts, handover, watch)?;
         self.refused = count_end(refused, &end);
         Ok(end)
     }

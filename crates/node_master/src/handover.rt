@@ -1,0 +1,22 @@
+use roster_model::List;
+use scout::LastBasis;
+use std::alloc::Global;
+
+/// What is handed on from node to node of a search. All of it are hints.
+#[derive(Drop)]
+pub struct Handover {
+    /// Trees of the pool that are wanted, the most wanted first: any list of numbers is lawful.
+    pub wanted: List<usize>,
+    /// The basis with which the last hunt ended; an empty one where none was made.
+    pub last: LastBasis,
+}
+
+impl Handover {
+    /// Returns hints that say nothing.
+    pub fn new(alloc: Global) -> Handover {
+        Handover {
+            wanted: List::new(alloc),
+            last: LastBasis::new(alloc),
+        }
+    }
+}
