@@ -11,7 +11,7 @@ use crate::open_node::OpenNode;
 use crate::rounded::push_wholes;
 use crate::solved::Solved;
 use candidate_rosters::{Roster, limit};
-use dives::dive;
+use dives::{DiveStart, dive};
 use master_rows::Day;
 use node_master::{FULL, Pool, Weight};
 use parse_graph::Graph;
@@ -22,7 +22,7 @@ use std::alloc::Global;
 
 /// At every which node a roster is looked for by a dive, which takes about as long as it takes to price the
 /// root.
-const EVERY: u32 = 2;
+const EVERY: u32 = 4;
 
 /// How many passes over the graph the moves of a roster may take where it becomes no better, times the square of
 /// the number of its trees.
@@ -45,6 +45,12 @@ fn further_passes(graph: &Graph, pool: &Pool) -> u32 {
     }
     let passes = (pool.len() as u64).saturating_mul(FURTHER);
     passes.min(MOST_FURTHER) as u32
+}
+
+/// Returns how many passes the moves of a roster may take, times the square of the number of its trees: none on a
+/// day that is not wide, where rosters are completed and exchanged once.
+fn passes_at(graph: &Graph) -> u32 {
+    if is_wide(graph) { PASSES } else { 0 }
 }
 
 /// How far a search is at a node.
@@ -72,7 +78,7 @@ pub(crate) fn guide_of<'a>(
     let is_first = stage.processed == 0;
     Guide {
         prices,
-        passes: PASSES,
+        passes: passes_at(graph),
         further: if is_first {
             further_passes(graph, pool)
         } else {
@@ -125,7 +131,8 @@ pub(crate) fn offer_begun<W: Watch>(
     )
 }
 
-/// Offers the roster of the trees that a dive fixes, completed and made better. Says whether it fixed any.
+/// Offers the roster of the trees that a dive fixes, completed and made better. Says whether it is made: one that
+/// is dropped is, and one that fixes none is not.
 fn offer_dived<W: Watch>(
     alloc: Global,
     node: &OpenNode,
@@ -141,16 +148,23 @@ fn offer_dived<W: Watch>(
     ensures { HasFound node.now.searched.day pool.old pool.new desk.new best.old best.new }
 {
     let day = &node.searched.day;
-    let begun = dive(
+    let start = DiveStart {
+        last: &desk.handover.last,
+        wanted: desk.handover.wanted.as_slice(),
+    };
+    let found = dive(
         alloc,
         day,
         node.cuts,
-        desk.handover.wanted.as_slice(),
+        &start,
         limit(day.instance, best),
         &mut desk.pricing.pricer,
         pool,
         watch,
     )?;
+    let Some(begun) = found else {
+        return Ok(true);
+    };
     if begun.is_empty() {
         return Ok(false);
     }
