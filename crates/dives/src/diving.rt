@@ -2,7 +2,7 @@ ghost use Rattle.std.specs.Prelude.{ℕ, ◌<◌, ◌≤◌, All, IfOk, IfSome, 
 ghost use Rattle.roster_model.specs.Folds.{Each};
 ghost use Rattle.roster_model.specs.Limits.{IsSmallCut};
 ghost use Rattle.bound_laws.specs.master_laws.Rows.{rows_of};
-ghost use Rattle.cheapest_tree.specs.Pricers.{IsMadeFor};
+ghost use Rattle.short_order.specs.Shorts.{IsShortFor};
 ghost use Rattle.tree_pool.specs.Pools.{IsPool};
 ghost use Rattle.master_rows.specs.search_day.Days.{IsDay};
 ghost use Rattle.master_rows.specs.search_day.Rooms.{Grows};
@@ -16,12 +16,12 @@ use crate::fixing::fix_some;
 use crate::program::Program;
 use crate::start::DiveStart;
 use crate::sums::ONE;
-use cheapest_tree::Pricer;
 use master_rows::{Day, NodeRows, NodeTask};
 use parse_graph::Graph;
 use roster_model::{Cut, List, Memory};
 use scout::{LastBasis, Limits, Scouted};
 use search_watch::Watch;
+use short_order::ShortOrder;
 use std::alloc::Global;
 use std::mem;
 use tree_pool::Pool;
@@ -68,20 +68,20 @@ fn solve<W: Watch>(
     alloc: Global,
     task: &NodeTask,
     cost: u64,
-    pricer: &mut Pricer,
+    order: &mut ShortOrder,
     pool: &mut Pool,
     descent: &mut Descent,
     watch: &W,
 ) -> Result<bool, Memory>
-    requires { IsDiving task.now pricer.old pool.old descent.old }
+    requires { IsDiving task.now order.old pool.old descent.old }
     ensures program { OnOk result (IsProgram (length pool.new) descent.new.program) }
-    ensures tools { StayTools task.now pricer.new pool.old pool.new descent.new.desk }
+    ensures tools { StayTools task.now order.new pool.old pool.new descent.new.desk }
 {
     for _ in 0..ROUNDS {
         if !run(&mut descent.program, watch) {
             return Ok(false);
         }
-        let is_cheap = ask(alloc, task, pricer, pool, descent)?;
+        let is_cheap = ask(alloc, task, order, pool, descent)?;
         if !is_cheap || descent.program.is_settled(cost) {
             return Ok(true);
         }
@@ -95,20 +95,20 @@ fn step<W: Watch>(
     alloc: Global,
     task: &NodeTask,
     cost: u64,
-    pricer: &mut Pricer,
+    order: &mut ShortOrder,
     pool: &mut Pool,
     descent: &mut Descent,
     watch: &W,
 ) -> Result<bool, Memory>
-    requires { IsDiving task.now pricer.old pool.old descent.old }
+    requires { IsDiving task.now order.old pool.old descent.old }
     ensures program { OnOk result (IsProgram (length pool.new) descent.new.program) }
-    ensures tools { StayTools task.now pricer.new pool.old pool.new descent.new.desk }
+    ensures tools { StayTools task.now order.new pool.old pool.new descent.new.desk }
 {
     let graph = task.day.graph;
     if descent.program.work() > budget_of(task.rows, graph) {
         return Ok(false);
     }
-    if !solve(alloc, task, cost, pricer, pool, descent, watch)? {
+    if !solve(alloc, task, cost, order, pool, descent, watch)? {
         return Ok(false);
     }
     descent.program.is_over = descent.program.is_dear(cost);
@@ -117,7 +117,7 @@ fn step<W: Watch>(
     }
     let sums = &mut descent.desk.arcs.sums;
     let left = descent.program.sum_up(graph, pool, sums) / ONE;
-    fix_some(alloc, task, left, pricer, pool, descent)
+    fix_some(alloc, task, left, order, pool, descent)
 }
 
 /// Takes steps while trees are fixed.
@@ -125,17 +125,17 @@ fn step_down<W: Watch>(
     alloc: Global,
     task: &NodeTask,
     cost: u64,
-    pricer: &mut Pricer,
+    order: &mut ShortOrder,
     pool: &mut Pool,
     descent: &mut Descent,
     watch: &W,
 ) -> Result<(), Memory>
-    requires { IsDiving task.now pricer.old pool.old descent.old }
+    requires { IsDiving task.now order.old pool.old descent.old }
     ensures program { OnOk result (IsProgram (length pool.new) descent.new.program) }
-    ensures tools { StayTools task.now pricer.new pool.old pool.new descent.new.desk }
+    ensures tools { StayTools task.now order.new pool.old pool.new descent.new.desk }
 {
     for _ in 0..STEPS {
-        if !step(alloc, task, cost, pricer, pool, descent, watch)? {
+        if !step(alloc, task, cost, order, pool, descent, watch)? {
             return Ok(());
         }
     }
@@ -258,16 +258,16 @@ fn dive_over<W: Watch>(
     task: &NodeTask,
     start: &DiveStart,
     cost: u64,
-    pricer: &mut Pricer,
+    order: &mut ShortOrder,
     pool: &mut Pool,
     watch: &W,
 ) -> Result<Option<List<usize>>, Memory>
-    requires { MayDive task.now pricer.old pool.old }
+    requires { MayDive task.now order.old pool.old }
     ensures within { IfOk result (λ some. IfSome some (AreFewer (length pool.new))) }
-    ensures lent { HasDived task.now pricer.new pool.old pool.new }
+    ensures lent { HasDived task.now order.new pool.old pool.new }
 {
     let mut descent = descent_of(alloc, task, pool, start)?;
-    let end = step_down(alloc, task, cost, pricer, pool, &mut descent, watch);
+    let end = step_down(alloc, task, cost, order, pool, &mut descent, watch);
     let is_dropped = descent.program.is_over;
     let fixed = mem::replace(&mut descent.program.fixed, List::new(alloc));
     drop(descent);
@@ -295,17 +295,17 @@ pub fn dive<W: Watch>(
     cuts: &[Cut],
     start: &DiveStart,
     cost: u64,
-    pricer: &mut Pricer,
+    order: &mut ShortOrder,
     pool: &mut Pool,
     watch: &W,
 ) -> Result<Option<List<usize>>, Memory>
     requires day { IsDay day.now }
     requires cuts { Each IsSmallCut cuts.now }
     requires small { length (rows_of day.now.instance.now cuts.now) ≤ 1500 }
-    requires pricer { IsMadeFor day.now.graph.now pricer.old }
+    requires order { IsShortFor day.now.graph.now order.old }
     requires pool { IsPool day.now.instance.now.grammar pool.old }
     ensures within { IfOk result (λ some. IfSome some (λ found. All (λ c. c < length pool.new) found)) }
-    ensures pricer { IsMadeFor day.now.graph.now pricer.new }
+    ensures order { IsShortFor day.now.graph.now order.new }
     ensures pool { Grows day.now pool.old pool.new }
 {
     let rows = NodeRows::new(alloc, day.instance, cuts)?;
@@ -314,7 +314,7 @@ pub fn dive<W: Watch>(
         cuts,
         rows: &rows,
     };
-    let found = dive_over(alloc, &task, start, cost, pricer, pool, watch);
+    let found = dive_over(alloc, &task, start, cost, order, pool, watch);
     drop(rows);
     found
 }
