@@ -18,7 +18,4 @@ mod under;
 mod walk;
 mod wide;
 
-pub use join::{Joined, join};
-pub use order::{Maker, Order, Row, find_order};
 pub use pricer::Pricer;
-pub use slots::{Links, Spot};

@@ -1,0 +1,43 @@
+-- Orders of some arcs of a graph, and the trees that they hold.
+use Rattle.std.specs.Prelude.{ℕ, ◌≡◌, ◌<◌, List, Some, IsSome, length, slice_get, slice_index}
+use Rattle.roster_model.specs.declared.grammar.ArcKey.{ArcKey}
+use Rattle.roster_model.specs.declared.grammar.Grammar.{Grammar}
+use Rattle.roster_model.specs.Trees.{Parts, steps}
+use Rattle.roster_model.specs.Room.{RoomView, most_uses}
+use Rattle.roster_model.specs.Sound.{IsSound}
+use Rattle.parse_graph.specs.Graphs.{GraphView, IsGraph}
+use Rattle.cheapest_tree.specs.Under.{IsTop, IsDayTreeUnder}
+use Rattle.short_order.specs.declared.short_order.ShortOrder.{ShortOrder}
+
+-- for each node there is an arc that makes it
+pub record AreBest (v : GraphView) (best : List ℕ) : Type 0 where
+  pub count : length best ≡ length v.nodes
+  pub makes : (n : ℕ) → n < length v.nodes → slice_get v.made_by (slice_index best n) ≡ Some n
+
+-- the short order was made for the graph: the best arc of each node makes it
+pub record IsShortFor (v : GraphView) (s : ShortOrder) : Type 0 where
+  pub best : AreBest v s.best.items
+
+-- the day has a tree
+abbrev pub HasRoot : GraphView → Type 0
+HasRoot v = IsSome v.root
+
+-- what is asked for a tree of the day: the grammar's graph, that the day has a tree, and room
+pub record AsksDayTree (g : Grammar) (v : GraphView) (room : RoomView) : Type 0 where
+  pub sound : IsSound g
+  pub graph : IsGraph g v
+  pub some : HasRoot v
+  pub space : room.most ≡ most_uses g
+
+-- what is asked for a tree of the day with the arc at the top: it makes the root, and room
+pub record AsksDayTreeUnder (g : Grammar) (v : GraphView) (arc : ℕ) (a : ArcKey) (room : RoomView) : Type 0 where
+  pub sound : IsSound g
+  pub graph : IsGraph g v
+  pub top : IsTop g v arc a
+  pub space : room.most ≡ most_uses g
+
+-- the room holds the steps of a tree of the day with the arc at the top
+pub record HoldsTreeUnder (g : Grammar) (a : ArcKey) (room : RoomView) : Type 0 where
+  pub tree : Parts
+  pub of_day : IsDayTreeUnder g a tree
+  pub held : room.steps ≡ steps 1 tree
