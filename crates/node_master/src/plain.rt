@@ -83,7 +83,7 @@ impl PlainMaster {
     {
         let mut steering = Steering {
             wanted,
-            first: First::BySize,
+            first: First::Near,
             bases: kept(alloc, self.bases.take()),
         };
         let end = solve_node_from(

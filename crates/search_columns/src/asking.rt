@@ -13,25 +13,42 @@ use std::alloc::Global;
 use tree_pool::Pool;
 
 /// The weights of the best prices, in sixteenths, at which a round asks beside the scout's own.
-const WEIGHTS: [i128; 4] = [12, 9, 6, 3];
+const WEIGHTS: [i128; 2] = [12, 9];
 
-/// How many trees a careful hunt lists at a scout's own prices, each with another arc at the top.
-const OWN: u32 = 11;
+/// Those at which a round of a careful hunt asks.
+const CAREFUL_WEIGHTS: [i128; 4] = [12, 9, 6, 3];
+
+/// How many trees a hunt lists at a scout's own prices, each with another arc at the top.
+const OWN: u32 = 5;
 
 /// How many it lists so at mixed prices.
-const MIXED: u32 = 4;
+const MIXED: u32 = 1;
+
+/// How many a careful hunt lists at a scout's own prices.
+const CAREFUL_OWN: u32 = 11;
+
+/// How many it lists at mixed prices.
+const CAREFUL_MIXED: u32 = 4;
 
 /// From so many trees on the pool is full: a hunt asks for no further ones.
 pub const FULL: usize = 20_000;
 
 /// Returns how many trees are listed at prices of which so many sixteenths are the best ones.
 fn count_at(weight: i128, is_careful: bool) -> u32 {
-    if !is_careful {
-        1
-    } else if weight == 0 {
-        OWN
+    match (is_careful, weight == 0) {
+        (false, true) => OWN,
+        (false, false) => MIXED,
+        (true, true) => CAREFUL_OWN,
+        (true, false) => CAREFUL_MIXED,
+    }
+}
+
+/// Returns the weights of the best prices at which a round asks beside the scout's own.
+fn weights_of(is_careful: bool) -> &'static [i128] {
+    if is_careful {
+        &CAREFUL_WEIGHTS
     } else {
-        MIXED
+        &WEIGHTS
     }
 }
 
@@ -60,8 +77,7 @@ fn ask(
     list_cheapest(alloc, task, y, KAPPA, pricer, pool, desk)
 }
 
-/// Lists a tree at mixed prices, or several where the hunt is careful, and says whether the least one is
-/// cheap.
+/// Lists trees at mixed prices, as many as are listed there, and says whether the least one is cheap.
 ///
 /// # Errors
 ///
@@ -108,8 +124,9 @@ pub(crate) fn ask_all(
     requires { IsHunting task.now pricer.old pool.old hunt.old }
     ensures { StayHunting task.now pricer.new pool.old pool.new hunt.new }
 {
-    for weight in WEIGHTS {
-        let _is_cheap = ask_mixed(alloc, task, weight, pricer, pool, hunt)?;
+    let weights = weights_of(hunt.scout.is_careful());
+    for weight in weights {
+        let _is_cheap = ask_mixed(alloc, task, *weight, pricer, pool, hunt)?;
     }
     Ok(())
 }
