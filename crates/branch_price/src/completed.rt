@@ -1,14 +1,16 @@
-ghost use Rattle.std.specs.Prelude.{ℕ, ◌<◌, All, IfOk, length};
+ghost use Rattle.std.specs.Prelude.{ℕ, ◌<◌, All, IfOk, IfSome, length};
 ghost use Rattle.master_rows.specs.search_day.Days.{IsDay};
-ghost use Rattle.branch_price.specs.Desks.{CanFind, HasFound};
+ghost use Rattle.branch_price.specs.Desks.{AreTools, StayTools, CanFind, HasFound};
 ghost use Rattle.branch_price.specs.Nodes.{IsOpenNode, IsSmall};
 ghost use Rattle.branch_price.specs.Rounded.{AreFewer};
+ghost use Rattle.branch_price.specs.Solutions.{CanShow};
 
 use crate::desk::SearchDesk;
 use crate::first::is_wide;
 use crate::offered::offer_trees;
 use crate::open_node::OpenNode;
 use crate::rounded::push_wholes;
+use crate::shortening::shorten;
 use crate::solved::Solved;
 use candidate_rosters::{Roster, limit};
 use dives::{DiveStart, dive};
@@ -60,6 +62,8 @@ pub(crate) struct Stage {
     pub processed: u32,
     /// The bound that it leaves.
     pub bound: u64,
+    /// What its prices show; 0 where it has none.
+    pub value: u64,
 }
 
 /// Says whether a roster is looked for by a dive at a node.
@@ -131,12 +135,44 @@ pub(crate) fn offer_begun<W: Watch>(
     )
 }
 
-/// Offers the roster of the trees that a dive fixes, completed and made better. Says whether it is made: one that
-/// is dropped is, and one that fixes none is not.
+/// Dives from a node over the arcs of rosters that cost less than the best one, and returns the trees that it
+/// fixed; `None` where the dive was dropped.
+fn dived<W: Watch>(
+    alloc: Global,
+    node: &OpenNode,
+    prices: &Prices,
+    value: u64,
+    desk: &mut SearchDesk,
+    pool: &mut Pool,
+    best: &Option<Roster>,
+    watch: &W,
+) -> Result<Option<List<usize>>, Memory>
+    requires node { IsOpenNode node.now }
+    requires small { IsSmall node.now.searched.day.instance.now node.now.cuts.now }
+    requires prices { CanShow node.now.searched.day.instance.now prices.now node.now.cuts.now }
+    requires tools { AreTools node.now.searched.day pool.old desk.old }
+    ensures within { IfOk result (λ some. IfSome some (AreFewer (length pool.new))) }
+    ensures tools { StayTools node.now.searched.day pool.old pool.new desk.new }
+{
+    let day = &node.searched.day;
+    let room = &mut desk.pricing.room;
+    shorten(day, node.cuts, prices, value, best, room, &mut desk.short);
+    let start = DiveStart {
+        last: &desk.handover.last,
+        wanted: desk.handover.wanted.as_slice(),
+    };
+    let cost = limit(day.instance, best);
+    let short = &mut desk.short;
+    dive(alloc, day, node.cuts, &start, cost, short, pool, watch)
+}
+
+/// Offers the roster of the trees that a dive fixes, completed and exchanged. Says whether the dive is made: one
+/// that is dropped is, and one that fixes none is not.
 fn offer_dived<W: Watch>(
     alloc: Global,
     node: &OpenNode,
-    guide: &Guide,
+    solved: &Solved,
+    stage: &Stage,
     desk: &mut SearchDesk,
     pool: &mut Pool,
     best: &mut Option<Roster>,
@@ -144,31 +180,21 @@ fn offer_dived<W: Watch>(
 ) -> Result<bool, Memory>
     requires node { IsOpenNode node.now }
     requires small { IsSmall node.now.searched.day.instance.now node.now.cuts.now }
+    requires prices { CanShow node.now.searched.day.instance.now solved.now.prices node.now.cuts.now }
     requires find { CanFind node.now.searched.day pool.old desk.old best.old }
     ensures { HasFound node.now.searched.day pool.old pool.new desk.new best.old best.new }
 {
     let day = &node.searched.day;
-    let start = DiveStart {
-        last: &desk.handover.last,
-        wanted: desk.handover.wanted.as_slice(),
-    };
-    let found = dive(
-        alloc,
-        day,
-        node.cuts,
-        &start,
-        limit(day.instance, best),
-        &mut desk.pricing.pricer,
-        pool,
-        watch,
-    )?;
+    let prices = &solved.prices;
+    let found = dived(alloc, node, prices, stage.value, desk, pool, best, watch)?;
     let Some(begun) = found else {
         return Ok(true);
     };
     if begun.is_empty() {
         return Ok(false);
     }
-    offer_begun(alloc, day, begun.as_slice(), guide, desk, pool, best, watch)?;
+    let guide = guide_of(day.graph, pool, prices, stage);
+    offer_begun(alloc, day, begun.as_slice(), &guide, desk, pool, best, watch)?;
     Ok(true)
 }
 
@@ -193,8 +219,8 @@ fn offer_completed<W: Watch>(
 }
 
 /// Offers a roster, unless the best one already costs no more than the bound that the node leaves: at the
-/// first node and at every second one after it that of the trees that a dive fixes; at the others, and where
-/// the dive fixes none, that of the solution's trees. Where the search is over it offers none but that of the
+/// first node and at each fourth one after it that of the trees that a dive fixes, unless it is dropped; at the
+/// others, and where the dive fixes none, that of the solution's trees. Where the search is over it offers none but that of the
 /// solution's trees, and that only where there is no best one.
 ///
 /// # Errors
@@ -213,6 +239,7 @@ pub(crate) fn offer_at_node<W: Watch>(
 ) -> Result<(), Memory>
     requires node { IsOpenNode node.now }
     requires small { IsSmall node.now.searched.day.instance.now node.now.cuts.now }
+    requires prices { CanShow node.now.searched.day.instance.now solved.now.prices node.now.cuts.now }
     requires weights { All (λ w. w.column < length pool.old) solved.now.weights }
     requires find { CanFind node.now.searched.day pool.old desk.old best.old }
     ensures { HasFound node.now.searched.day pool.old pool.new desk.new best.old best.new }
@@ -223,13 +250,13 @@ pub(crate) fn offer_at_node<W: Watch>(
         return Ok(());
     }
     watch.tell(Work::Rosters);
-    let guide = guide_of(day.graph, pool, &solved.prices, stage);
     if !is_over
         && dives_at(stage, pool)
-        && offer_dived(alloc, node, &guide, desk, pool, best, watch)?
+        && offer_dived(alloc, node, solved, stage, desk, pool, best, watch)?
     {
         return Ok(());
     }
+    let guide = guide_of(day.graph, pool, &solved.prices, stage);
     let weights = solved.weights.as_slice();
     offer_completed(alloc, day, weights, &guide, desk, pool, best, watch)
 }

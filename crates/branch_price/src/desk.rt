@@ -9,6 +9,7 @@ use certificates::MOST_MULTIPLIERS;
 use master_rows::{Day, Pricing};
 use node_master::{Handover, Weight};
 use roster_model::{List, Memory};
+use short_order::ShortOrder;
 use split_probes::Gains;
 use std::alloc::Global;
 
@@ -28,6 +29,8 @@ pub(crate) struct SearchDesk {
     pub rosters: RosterDesk,
     /// What the last master hands on to the next one: the trees of the last solution, and a basis.
     pub handover: Handover,
+    /// The arcs over which dives look for trees.
+    pub short: ShortOrder,
     /// What is known of splits.
     pub splits: SplitHints,
     /// Whether a first roster was looked for.
@@ -54,17 +57,20 @@ impl SearchDesk {
     {
         let gains = Gains::new(alloc, &day.instance.grammar, day.graph)?;
         let old = OldSplits::new(alloc);
+        let short = ShortOrder::new(alloc, day.graph)?;
         let pricing = Pricing::new(alloc, day, MOST_MULTIPLIERS)?;
         match RosterDesk::for_instance(alloc, day.instance) {
             Ok(rosters) => Ok(SearchDesk {
                 pricing,
                 rosters,
                 handover: Handover::new(alloc),
+                short,
                 splits: SplitHints { gains, old },
                 has_first: false,
             }),
             Err(fault) => {
                 drop(pricing);
+                drop(short);
                 Err(fault)
             }
         }

@@ -10,7 +10,7 @@ returns-in_err-columns g c =
     let k = c.requires.find.tools.desk in
     let p = c.complete.ensures.pricing in
     record {
-      tools = record { pool = c.complete.ensures.pool; desk = record { pricing = p.are; most = p.most ∙ k.most; rosters = k.rosters } };
+      tools = record { pool = c.complete.ensures.pool; desk = record { pricing = p.are; most = p.most ∙ k.most; rosters = k.rosters; short = k.short } };
       better = same-better c.args.day.now.instance.now c.args.best.now c.requires.find.good;
     }
 
@@ -19,6 +19,6 @@ returns g c =
     let k = c.requires.find.tools.desk in
     let p = c.complete.ensures.pricing in
     record {
-      tools = record { pool = c.complete.ensures.pool; desk = record { pricing = p.are; most = p.most ∙ k.most; rosters = c.offer_trees.ensures.rosters } };
+      tools = record { pool = c.complete.ensures.pool; desk = record { pricing = p.are; most = p.most ∙ k.most; rosters = c.offer_trees.ensures.rosters; short = k.short } };
       better = c.offer_trees.ensures.better;
     }
