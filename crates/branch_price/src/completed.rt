@@ -49,12 +49,6 @@ fn further_passes(graph: &Graph, pool: &Pool) -> u32 {
     passes.min(MOST_FURTHER) as u32
 }
 
-/// Returns how many passes the moves of a roster may take, times the square of the number of its trees: none on a
-/// day that is not wide, where rosters are completed and exchanged once.
-fn passes_at(graph: &Graph) -> u32 {
-    if is_wide(graph) { PASSES } else { 0 }
-}
-
 /// How far a search is at a node.
 #[derive(Clone, Copy, Drop)]
 pub(crate) struct Stage {
@@ -82,7 +76,7 @@ pub(crate) fn guide_of<'a>(
     let is_first = stage.processed == 0;
     Guide {
         prices,
-        passes: passes_at(graph),
+        passes: PASSES,
         further: if is_first {
             further_passes(graph, pool)
         } else {
@@ -92,6 +86,21 @@ pub(crate) fn guide_of<'a>(
         goal: stage.bound,
         turn: stage.processed,
     }
+}
+
+/// Returns what steers the moves of a roster at a node that is priced: on a day that is not wide there are none, and
+/// rosters are completed and exchanged once.
+fn priced_guide<'a>(
+    graph: &Graph,
+    pool: &Pool,
+    prices: &'a Prices,
+    stage: &Stage,
+) -> Guide<'a> {
+    let guide = guide_of(graph, pool, prices, stage);
+    if is_wide(graph) {
+        return guide;
+    }
+    Guide { passes: 0, ..guide }
 }
 
 /// Returns trees by weights rounded down: each as often as the whole part of its weight.
@@ -193,7 +202,7 @@ fn offer_dived<W: Watch>(
     if begun.is_empty() {
         return Ok(false);
     }
-    let guide = guide_of(day.graph, pool, prices, stage);
+    let guide = priced_guide(day.graph, pool, prices, stage);
     offer_begun(alloc, day, begun.as_slice(), &guide, desk, pool, best, watch)?;
     Ok(true)
 }
@@ -256,7 +265,7 @@ pub(crate) fn offer_at_node<W: Watch>(
     {
         return Ok(());
     }
-    let guide = guide_of(day.graph, pool, &solved.prices, stage);
+    let guide = priced_guide(day.graph, pool, &solved.prices, stage);
     let weights = solved.weights.as_slice();
     offer_completed(alloc, day, weights, &guide, desk, pool, best, watch)
 }
