@@ -1,6 +1,6 @@
-ghost use Rattle.std.specs.Prelude.{ℕ, ◌<◌, All, IfOk, IfSome, length};
+ghost use Rattle.std.specs.Prelude.{ℕ, ◌<◌, All, IfOk, length};
 ghost use Rattle.master_rows.specs.search_day.Days.{IsDay};
-ghost use Rattle.branch_price.specs.Desks.{AreTools, StayTools, CanFind, HasFound};
+ghost use Rattle.branch_price.specs.Desks.{CanFind, HasFound};
 ghost use Rattle.branch_price.specs.Nodes.{IsOpenNode, IsSmall};
 ghost use Rattle.branch_price.specs.Rounded.{AreFewer};
 ghost use Rattle.branch_price.specs.Solutions.{CanShow};
@@ -133,7 +133,7 @@ pub(crate) fn offer_begun<W: Watch>(
     requires find { CanFind day.now pool.old desk.old best.old }
     ensures { HasFound day.now pool.old pool.new desk.new best.old best.new }
 {
-    let columns = complete(alloc, day, begun, guide, &mut desk.pricing, pool, watch)?;
+    let columns = complete(alloc, day, begun, guide, &mut desk.moves, pool, watch)?;
     offer_trees(
         alloc,
         day.instance,
@@ -144,44 +144,12 @@ pub(crate) fn offer_begun<W: Watch>(
     )
 }
 
-/// Dives from a node over the arcs of rosters that cost less than the best one, and returns the trees that it
-/// fixed; `None` where the dive was dropped.
-fn dived<W: Watch>(
-    alloc: Global,
-    node: &OpenNode,
-    prices: &Prices,
-    value: u64,
-    desk: &mut SearchDesk,
-    pool: &mut Pool,
-    best: &Option<Roster>,
-    watch: &W,
-) -> Result<Option<List<usize>>, Memory>
-    requires node { IsOpenNode node.now }
-    requires small { IsSmall node.now.searched.day.instance.now node.now.cuts.now }
-    requires prices { CanShow node.now.searched.day.instance.now prices.now node.now.cuts.now }
-    requires tools { AreTools node.now.searched.day pool.old desk.old }
-    ensures within { IfOk result (λ some. IfSome some (AreFewer (length pool.new))) }
-    ensures tools { StayTools node.now.searched.day pool.old pool.new desk.new }
-{
-    let day = &node.searched.day;
-    let room = &mut desk.pricing.room;
-    shorten(day, node.cuts, prices, value, best, room, &mut desk.short);
-    let start = DiveStart {
-        last: &desk.handover.last,
-        wanted: desk.handover.wanted.as_slice(),
-    };
-    let cost = limit(day.instance, best);
-    let short = &mut desk.short;
-    dive(alloc, day, node.cuts, &start, cost, short, pool, watch)
-}
-
 /// Offers the roster of the trees that a dive fixes, completed and exchanged. Says whether the dive is made: one
 /// that is dropped is, and one that fixes none is not.
 fn offer_dived<W: Watch>(
     alloc: Global,
     node: &OpenNode,
-    solved: &Solved,
-    stage: &Stage,
+    guide: &Guide,
     desk: &mut SearchDesk,
     pool: &mut Pool,
     best: &mut Option<Roster>,
@@ -189,21 +157,24 @@ fn offer_dived<W: Watch>(
 ) -> Result<bool, Memory>
     requires node { IsOpenNode node.now }
     requires small { IsSmall node.now.searched.day.instance.now node.now.cuts.now }
-    requires prices { CanShow node.now.searched.day.instance.now solved.now.prices node.now.cuts.now }
     requires find { CanFind node.now.searched.day pool.old desk.old best.old }
     ensures { HasFound node.now.searched.day pool.old pool.new desk.new best.old best.new }
 {
     let day = &node.searched.day;
-    let prices = &solved.prices;
-    let found = dived(alloc, node, prices, stage.value, desk, pool, best, watch)?;
+    let start = DiveStart {
+        last: &desk.handover.last,
+        wanted: desk.handover.wanted.as_slice(),
+    };
+    let cost = limit(day.instance, best);
+    let short = &mut desk.moves.short;
+    let found = dive(alloc, day, node.cuts, &start, cost, short, pool, watch)?;
     let Some(begun) = found else {
         return Ok(true);
     };
     if begun.is_empty() {
         return Ok(false);
     }
-    let guide = priced_guide(day.graph, pool, prices, stage);
-    offer_begun(alloc, day, begun.as_slice(), &guide, desk, pool, best, watch)?;
+    offer_begun(alloc, day, begun.as_slice(), guide, desk, pool, best, watch)?;
     Ok(true)
 }
 
@@ -227,9 +198,41 @@ fn offer_completed<W: Watch>(
     offer_begun(alloc, day, begun.as_slice(), guide, desk, pool, best, watch)
 }
 
+/// Offers a roster at a node over the arcs that are kept: of the trees that a dive fixes, where one is due and made,
+/// or else of the solution's trees.
+fn offer_kept<W: Watch>(
+    alloc: Global,
+    node: &OpenNode,
+    solved: &Solved,
+    stage: &Stage,
+    desk: &mut SearchDesk,
+    pool: &mut Pool,
+    best: &mut Option<Roster>,
+    watch: &W,
+) -> Result<(), Memory>
+    requires node { IsOpenNode node.now }
+    requires small { IsSmall node.now.searched.day.instance.now node.now.cuts.now }
+    requires weights { All (λ w. w.column < length pool.old) solved.now.weights }
+    requires find { CanFind node.now.searched.day pool.old desk.old best.old }
+    ensures { HasFound node.now.searched.day pool.old pool.new desk.new best.old best.new }
+{
+    let day = &node.searched.day;
+    let guide = priced_guide(day.graph, pool, &solved.prices, stage);
+    let is_over = watch.is_over();
+    if !is_over
+        && dives_at(stage, pool)
+        && offer_dived(alloc, node, &guide, desk, pool, best, watch)?
+    {
+        return Ok(());
+    }
+    let weights = solved.weights.as_slice();
+    offer_completed(alloc, day, weights, &guide, desk, pool, best, watch)
+}
+
 /// Offers a roster, unless the best one already costs no more than the bound that the node leaves: at the
 /// first node and at each fourth one after it that of the trees that a dive fixes, unless it is dropped; at the
-/// others, and where the dive fixes none, that of the solution's trees. Where the search is over it offers none but that of the
+/// others, and where the dive fixes none, that of the solution's trees. Its trees are looked for over the arcs that
+/// a roster can have which costs less than the best one. Where the search is over it offers none but that of the
 /// solution's trees, and that only where there is no best one.
 ///
 /// # Errors
@@ -254,18 +257,10 @@ pub(crate) fn offer_at_node<W: Watch>(
     ensures { HasFound node.now.searched.day pool.old pool.new desk.new best.old best.new }
 {
     let day = &node.searched.day;
-    let is_over = watch.is_over();
-    if limit(day.instance, best) <= stage.bound || is_over && best.is_some() {
+    if limit(day.instance, best) <= stage.bound || watch.is_over() && best.is_some() {
         return Ok(());
     }
     watch.tell(Work::Rosters);
-    if !is_over
-        && dives_at(stage, pool)
-        && offer_dived(alloc, node, solved, stage, desk, pool, best, watch)?
-    {
-        return Ok(());
-    }
-    let guide = priced_guide(day.graph, pool, &solved.prices, stage);
-    let weights = solved.weights.as_slice();
-    offer_completed(alloc, day, weights, &guide, desk, pool, best, watch)
+    shorten(day, node.cuts, &solved.prices, stage.value, best, desk);
+    offer_kept(alloc, node, solved, stage, desk, pool, best, watch)
 }

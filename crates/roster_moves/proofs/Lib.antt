@@ -1,4 +1,5 @@
 mod LeastTrees
+mod DayTrees
 mod PoolTrees
 mod DraftsLemmas
 mod ToolsLemmas

@@ -6,23 +6,24 @@ use Rattle.roster_model.specs.Trees.{IsDayTree}
 use Rattle.cheapest_tree.specs.Pricers.{PricerView}
 use Rattle.tree_pool.specs.Pools.{PoolTree, IsPool}
 use Rattle.master_rows.specs.declared.search_day.day.Day.{Day}
-use Rattle.master_rows.specs.declared.search_day.pricing.Pricing.{Pricing}
 use Rattle.master_rows.specs.search_day.Days.{IsDay}
-use Rattle.master_rows.specs.search_day.Rooms.{ArePricing, StayPricing, Grows}
+use Rattle.master_rows.specs.search_day.Rooms.{Grows}
 use Rattle.candidate_rosters.specs.Priced.{IsPriced}
 use Rattle.roster_moves.specs.declared.draft.Draft.{Draft}
+use Rattle.roster_moves.specs.declared.short_pricing.ShortPricing.{ShortPricing}
 use Rattle.roster_moves.specs.Drafts.{IsDraft}
+use Rattle.roster_moves.specs.ShortPricings.{AreShortPricing}
 
 -- the day is sound, they fit it, and the draft is one of trees that were tried
-pub record AreTools (d : Day) (p : Pricing) (trees : List PoolTree) (w : Draft) : Type 0 where
+pub record AreTools (d : Day) (p : ShortPricing) (trees : List PoolTree) (w : Draft) : Type 0 where
   pub day : IsDay d
-  pub pricing : ArePricing d p
+  pub pricing : AreShortPricing d p
   pub tried : IsPool d.instance.now.grammar trees
   pub draft : IsDraft d.instance.now (length trees) w
 
 -- what prices trees still fits the day, and further trees were tried
-pub record StayTools (d : Day) (p q : Pricing) (old new : List PoolTree) : Type 0 where
-  pub pricing : StayPricing d p q
+pub record StayTools (d : Day) (p q : ShortPricing) (old new : List PoolTree) : Type 0 where
+  pub pricing : AreShortPricing d q
   pub tried : Grows d old new
 
 -- the day is sound, both pools have trees of it, and these are numbers of trees of the first pool

@@ -1,14 +1,14 @@
 ghost use Rattle.std.specs.Prelude.{ℕ, ◌≡◌, ◌<◌, All, IfSome, length};
 ghost use Rattle.roster_model.specs.Folds.{In};
-ghost use Rattle.roster_model.specs.PriceRooms.{price_view};
 ghost use Rattle.roster_model.specs.Teams.{teams};
 ghost use Rattle.check_parts.specs.roster_part.TeamViews.{team_view};
-ghost use Rattle.candidate_rosters.specs.Priced.{IsPriced};
+ghost use Rattle.roster_moves.specs.ShortPricings.{IsShortDay};
 
+use crate::short_pricing::ShortPricing;
 use crate::teams::heads_of;
 use crate::trees::team_sum;
 use check_parts::{Team, team_at, team_count};
-use master_rows::{Day, Pricing};
+use master_rows::Day;
 use tree_pool::Pool;
 
 /// One more employee of a team.
@@ -70,12 +70,12 @@ fn choice_of(place: usize, team: &Team, heads: u32, sum: Option<i128>) -> Option
 /// Returns the choice that comes first of all teams.
 fn best_choice(
     day: &Day,
-    pricing: &Pricing,
+    pricing: &ShortPricing,
     least: Option<i128>,
     pool: &Pool,
     columns: &[usize],
 ) -> Option<Choice>
-    requires priced { IsPriced day.now (price_view pricing.now.room) pricing.now.pricer }
+    requires priced { IsShortDay day.now pricing.now.short }
     requires columns { All (λ c. c < length pool.now) columns.now }
     ensures { IfSome result (λ c. c.place < length (teams day.now.instance.now)) }
 {
@@ -93,12 +93,12 @@ fn best_choice(
 /// those that save by it, the one with the least sum. `None` where there is none.
 pub(crate) fn next_team(
     day: &Day,
-    pricing: &Pricing,
+    pricing: &ShortPricing,
     least: Option<i128>,
     pool: &Pool,
     columns: &[usize],
 ) -> Option<Team>
-    requires priced { IsPriced day.now (price_view pricing.now.room) pricing.now.pricer }
+    requires priced { IsShortDay day.now pricing.now.short }
     requires columns { All (λ c. c < length pool.now) columns.now }
     ensures { IfSome result (λ t. In (team_view t) (teams day.now.instance.now)) }
 {

@@ -1,8 +1,9 @@
 ghost use Rattle.std.specs.Prelude.{◌<◌, All, IfOk, OnOk, length};
 ghost use Rattle.tree_pool.specs.Pools.{IsPool};
 ghost use Rattle.master_rows.specs.search_day.Days.{IsDay};
-ghost use Rattle.master_rows.specs.search_day.Rooms.{ArePricing, StayPricing, Grows};
+ghost use Rattle.master_rows.specs.search_day.Rooms.{Grows};
 ghost use Rattle.roster_moves.specs.Drafts.{IsDraft};
+ghost use Rattle.roster_moves.specs.ShortPricings.{AreShortPricing};
 ghost use Rattle.roster_moves.specs.Tools.{AreTools, StayTools};
 
 use crate::copying::{copied_all, drafted};
@@ -11,7 +12,8 @@ use crate::draft::Draft;
 use crate::exchanging::exchange_from;
 use crate::growing::fill_up;
 use crate::guide::Guide;
-use master_rows::{Day, Pricing};
+use crate::short_pricing::ShortPricing;
+use master_rows::Day;
 use roster_model::{List, Memory};
 use search_watch::Watch;
 use std::alloc::Global;
@@ -22,7 +24,7 @@ fn improve<W: Watch>(
     alloc: Global,
     day: &Day,
     guide: &Guide,
-    pricing: &mut Pricing,
+    pricing: &mut ShortPricing,
     tried: &mut Pool,
     draft: &mut Draft,
     watch: &W,
@@ -41,7 +43,7 @@ fn improve_into<W: Watch>(
     alloc: Global,
     day: &Day,
     guide: &Guide,
-    pricing: &mut Pricing,
+    pricing: &mut ShortPricing,
     tried: &mut Pool,
     draft: &mut Draft,
     pool: &mut Pool,
@@ -50,7 +52,7 @@ fn improve_into<W: Watch>(
     requires tools { AreTools day.now pricing.old tried.old draft.old }
     requires pool { IsPool day.now.instance.now.grammar pool.old }
     ensures within { IfOk result (λ found. All (λ c. c < length pool.new) found) }
-    ensures pricing { StayPricing day.now pricing.old pricing.new }
+    ensures pricing { AreShortPricing day.now pricing.new }
     ensures pool { Grows day.now pool.old pool.new }
 {
     improve(alloc, day, guide, pricing, tried, draft, watch)?;
@@ -78,16 +80,16 @@ pub fn complete<W: Watch>(
     day: &Day,
     columns: &[usize],
     guide: &Guide,
-    pricing: &mut Pricing,
+    pricing: &mut ShortPricing,
     pool: &mut Pool,
     watch: &W,
 ) -> Result<List<usize>, Memory>
     requires day { IsDay day.now }
     requires columns { All (λ c. c < length pool.old) columns.now }
-    requires pricing { ArePricing day.now pricing.old }
+    requires pricing { AreShortPricing day.now pricing.old }
     requires pool { IsPool day.now.instance.now.grammar pool.old }
     ensures within { IfOk result (λ found. All (λ c. c < length pool.new) found) }
-    ensures pricing { StayPricing day.now pricing.old pricing.new }
+    ensures pricing { AreShortPricing day.now pricing.new }
     ensures pool { Grows day.now pool.old pool.new }
 {
     let mut tried = Pool::new(alloc);

@@ -9,8 +9,9 @@ use crate::exchanging::exchange_from;
 use crate::growing::{grow, grow_blended};
 use crate::guide::Guide;
 use crate::ranking::{Rank, drawn_mode, list_ranks, set_values};
+use crate::short_pricing::ShortPricing;
 use crate::weighing::weight_of;
-use master_rows::{Day, Pricing};
+use master_rows::Day;
 use roster_model::{Instance, Memory, Prices};
 use search_watch::{SteadyWatch, Watch};
 use std::alloc::Global;
@@ -214,7 +215,7 @@ fn take_back(
 fn put_in(
     day: &Day,
     step: Move,
-    pricing: &mut Pricing,
+    pricing: &mut ShortPricing,
     pool: &mut Pool,
     draft: &mut Draft,
     moves: &mut MoveRoom,
@@ -238,7 +239,7 @@ fn put_in(
 fn refill(
     day: &Day,
     step: Move,
-    pricing: &mut Pricing,
+    pricing: &mut ShortPricing,
     pool: &mut Pool,
     draft: &mut Draft,
     moves: &mut MoveRoom,
@@ -261,7 +262,7 @@ fn make(
     day: &Day,
     step: Move,
     weight: u64,
-    pricing: &mut Pricing,
+    pricing: &mut ShortPricing,
     pool: &mut Pool,
     draft: &mut Draft,
     moves: &mut MoveRoom,
@@ -285,7 +286,7 @@ fn make(
 fn descend_at<W: Watch>(
     day: &Day,
     guide: &Guide,
-    pricing: &mut Pricing,
+    pricing: &mut ShortPricing,
     pool: &mut Pool,
     draft: &mut Draft,
     moves: &mut MoveRoom,
@@ -320,14 +321,14 @@ fn descend_at<W: Watch>(
 ///
 /// # Errors
 ///
-/// `Memory` where memory runs out; nothing is said of the draft then. The pricer and the room of prices are
+/// `Memory` where memory runs out; nothing is said of the draft then. The short order and the room of prices are
 /// still those of the graph and of the instance, and the pool has its trees under their numbers, and perhaps
 /// further trees of the day.
 pub(crate) fn descend<W: Watch>(
     alloc: Global,
     day: &Day,
     guide: &Guide,
-    pricing: &mut Pricing,
+    pricing: &mut ShortPricing,
     pool: &mut Pool,
     draft: &mut Draft,
     watch: &W,

@@ -1,15 +1,15 @@
 ghost use Rattle.std.specs.Prelude.{◌<◌, IfOk, OnOk, length};
-ghost use Rattle.roster_model.specs.PriceRooms.{price_view};
 ghost use Rattle.roster_model.specs.SoundInstance.{IsSoundInstance};
 ghost use Rattle.master_rows.specs.search_day.Days.{IsDay};
-ghost use Rattle.master_rows.specs.search_day.Rooms.{ArePricing, StayPricing};
 ghost use Rattle.roster_moves.specs.Drafts.{IsDraft};
-ghost use Rattle.roster_moves.specs.Tools.{HasCells, IsPricedWith, KeepsDraft};
+ghost use Rattle.roster_moves.specs.ShortPricings.{AreShortPricing, IsShortPriced};
+ghost use Rattle.roster_moves.specs.Tools.{HasCells, KeepsDraft};
 
 use crate::blending::{Blend, UNITS, set_blended};
 use crate::counts::{count_in, count_out};
 use crate::savings::set_savings;
-use master_rows::{Day, Pricing};
+use crate::short_pricing::ShortPricing;
+use master_rows::Day;
 use roster_model::{Instance, Memory, TreeRoom};
 use std::alloc::Global;
 use tree_pool::Pool;
@@ -99,44 +99,44 @@ impl Draft {
         }
     }
 
-    /// Fills the pricer for what one more tree would cost, and returns the least such sum of all trees of
-    /// the day.
-    pub fn price(&mut self, day: &Day, pricing: &mut Pricing) -> Option<i128>
+    /// Fills the short order for what one more tree would cost, and returns the least such sum of the trees
+    /// that it has.
+    pub fn price(&mut self, day: &Day, pricing: &mut ShortPricing) -> Option<i128>
         requires day { IsDay day.now }
-        requires pricing { ArePricing day.now pricing.old }
+        requires pricing { AreShortPricing day.now pricing.old }
         requires cells { HasCells day.now.instance.now self.old }
-        ensures priced { IsPricedWith day.now (price_view pricing.new.room) pricing.new.pricer result }
-        ensures pricing { StayPricing day.now pricing.old pricing.new }
+        ensures priced { IsShortPriced day.now pricing.new.short result }
+        ensures pricing { AreShortPricing day.now pricing.new }
         ensures draft { KeepsDraft self.old self.new }
     {
         let cells = day.instance.cells.as_slice();
         set_savings(cells, &self.counts, &mut self.savings);
         let prices = &mut pricing.room;
         prices.set_parts(day.instance, 1, self.savings.as_slice(), &[], &[]);
-        pricing.pricer.cheapest(day.graph, prices)
+        pricing.short.cheapest(day.graph, prices)
     }
 
-    /// Fills the pricer for what one more tree would cost where the node's prices are these, blended, and
-    /// returns the least such sum of all trees of the day, in units of 1/256.
+    /// Fills the short order for what one more tree would cost where the node's prices are these, blended, and
+    /// returns the least such sum of the trees that it has, in units of 1/256.
     pub fn price_blended(
         &mut self,
         day: &Day,
         worths: &[i64],
         blend: Blend,
-        pricing: &mut Pricing,
+        pricing: &mut ShortPricing,
     ) -> Option<i128>
         requires day { IsDay day.now }
-        requires pricing { ArePricing day.now pricing.old }
+        requires pricing { AreShortPricing day.now pricing.old }
         requires cells { HasCells day.now.instance.now self.old }
-        ensures priced { IsPricedWith day.now (price_view pricing.new.room) pricing.new.pricer result }
-        ensures pricing { StayPricing day.now pricing.old pricing.new }
+        ensures priced { IsShortPriced day.now pricing.new.short result }
+        ensures pricing { AreShortPricing day.now pricing.new }
         ensures draft { KeepsDraft self.old self.new }
     {
         let cells = day.instance.cells.as_slice();
         set_blended(cells, &self.counts, worths, blend, &mut self.savings);
         let prices = &mut pricing.room;
         prices.set_parts(day.instance, UNITS, self.savings.as_slice(), &[], &[]);
-        pricing.pricer.cheapest(day.graph, prices)
+        pricing.short.cheapest(day.graph, prices)
     }
 }
 

@@ -4,9 +4,10 @@ ghost use Rattle.roster_moves.specs.Tools.{AreTools, StayTools};
 
 use crate::counts::{count_in, count_out};
 use crate::draft::Draft;
+use crate::short_pricing::ShortPricing;
 use crate::teams::team_of;
 use crate::trees::least_column;
-use master_rows::{Day, Pricing};
+use master_rows::Day;
 use roster_model::Memory;
 use search_watch::Watch;
 use tree_pool::Pool;
@@ -15,13 +16,13 @@ use tree_pool::Pool;
 ///
 /// # Errors
 ///
-/// `Memory` where memory runs out; nothing is said of the draft then. The pricer and the room of prices are
+/// `Memory` where memory runs out; nothing is said of the draft then. The short order and the room of prices are
 /// still those of the graph and of the instance, and the pool has its trees under their numbers, and perhaps
 /// further trees of the day.
 pub(crate) fn refill(
     day: &Day,
     place: usize,
-    pricing: &mut Pricing,
+    pricing: &mut ShortPricing,
     pool: &mut Pool,
     draft: &mut Draft,
 ) -> Result<(), Memory>
@@ -53,7 +54,7 @@ pub(crate) fn refill(
 fn exchange(
     day: &Day,
     place: usize,
-    pricing: &mut Pricing,
+    pricing: &mut ShortPricing,
     pool: &mut Pool,
     draft: &mut Draft,
 ) -> Result<(), Memory>
@@ -77,13 +78,13 @@ fn exchange(
 ///
 /// # Errors
 ///
-/// `Memory` where memory runs out; nothing is said of the draft then. The pricer and the room of prices are
+/// `Memory` where memory runs out; nothing is said of the draft then. The short order and the room of prices are
 /// still those of the graph and of the instance, and the pool has its trees under their numbers, and perhaps
 /// further trees of the day.
 pub(crate) fn exchange_from<W: Watch>(
     day: &Day,
     first: usize,
-    pricing: &mut Pricing,
+    pricing: &mut ShortPricing,
     pool: &mut Pool,
     draft: &mut Draft,
     watch: &W,

@@ -1,28 +1,29 @@
 ghost use Rattle.std.specs.Prelude.{OnOk, length};
-ghost use Rattle.roster_model.specs.PriceRooms.{price_view};
 ghost use Rattle.tree_pool.specs.Pools.{IsPool};
 ghost use Rattle.master_rows.specs.search_day.Rooms.{Grows};
 ghost use Rattle.roster_moves.specs.Drafts.{IsDraft};
-ghost use Rattle.roster_moves.specs.Tools.{AreTools, StayTools, IsPricedWith};
+ghost use Rattle.roster_moves.specs.ShortPricings.{IsShortPriced};
+ghost use Rattle.roster_moves.specs.Tools.{AreTools, StayTools};
 
 use crate::blending::Blend;
 use crate::choice::next_team;
 use crate::draft::Draft;
+use crate::short_pricing::ShortPricing;
 use crate::trees::least_column;
-use master_rows::{Day, Pricing};
+use master_rows::Day;
 use roster_model::Memory;
 use tree_pool::Pool;
 
-/// Adds a cheapest tree of the team that is to have one more employee, at the prices for which the pricer is
+/// Adds a cheapest tree of the team that is to have one more employee, at the prices for which the short order is
 /// filled; false where there is no such team. Over all trees of the day the least sum is `least`.
 fn add_cheapest(
     day: &Day,
-    pricing: &Pricing,
+    pricing: &ShortPricing,
     least: Option<i128>,
     pool: &mut Pool,
     draft: &mut Draft,
 ) -> Result<bool, Memory>
-    requires priced { IsPricedWith day.now (price_view pricing.now.room) pricing.now.pricer least }
+    requires priced { IsShortPriced day.now pricing.now.short least }
     requires pool { IsPool day.now.instance.now.grammar pool.old }
     requires draft { IsDraft day.now.instance.now (length pool.old) draft.old }
     ensures draft { OnOk result (IsDraft day.now.instance.now (length pool.new) draft.new) }
@@ -42,12 +43,12 @@ fn add_cheapest(
 ///
 /// # Errors
 ///
-/// `Memory` where memory runs out; nothing is said of the draft then. The pricer and the room of prices are
+/// `Memory` where memory runs out; nothing is said of the draft then. The short order and the room of prices are
 /// still those of the graph and of the instance, and the pool has its trees under their numbers, and perhaps
 /// further trees of the day.
 pub(crate) fn grow(
     day: &Day,
-    pricing: &mut Pricing,
+    pricing: &mut ShortPricing,
     pool: &mut Pool,
     draft: &mut Draft,
 ) -> Result<bool, Memory>
@@ -64,14 +65,14 @@ pub(crate) fn grow(
 ///
 /// # Errors
 ///
-/// `Memory` where memory runs out; nothing is said of the draft then. The pricer and the room of prices are
+/// `Memory` where memory runs out; nothing is said of the draft then. The short order and the room of prices are
 /// still those of the graph and of the instance, and the pool has its trees under their numbers, and perhaps
 /// further trees of the day.
 pub(crate) fn grow_blended(
     day: &Day,
     worths: &[i64],
     blend: Blend,
-    pricing: &mut Pricing,
+    pricing: &mut ShortPricing,
     pool: &mut Pool,
     draft: &mut Draft,
 ) -> Result<bool, Memory>
@@ -87,12 +88,12 @@ pub(crate) fn grow_blended(
 ///
 /// # Errors
 ///
-/// `Memory` where memory runs out; nothing is said of the draft then. The pricer and the room of prices are
+/// `Memory` where memory runs out; nothing is said of the draft then. The short order and the room of prices are
 /// still those of the graph and of the instance, and the pool has its trees under their numbers, and perhaps
 /// further trees of the day.
 pub(crate) fn fill_up(
     day: &Day,
-    pricing: &mut Pricing,
+    pricing: &mut ShortPricing,
     pool: &mut Pool,
     draft: &mut Draft,
 ) -> Result<(), Memory>

@@ -15,6 +15,7 @@ mod growing;
 mod guide;
 mod ranking;
 mod savings;
+mod short_pricing;
 mod teams;
 mod trees;
 mod weighing;
@@ -22,4 +23,5 @@ mod words;
 
 pub use completing::complete;
 pub use guide::Guide;
+pub use short_pricing::ShortPricing;
 pub use words::add_words;

@@ -1,38 +1,37 @@
 ghost use Rattle.std.specs.Prelude.{◌≡◌, ◌≢◌, ◌<◌, [], IsTrue, IfOk, IfSome, length};
 ghost use Rattle.roster_model.specs.Folds.{In};
-ghost use Rattle.roster_model.specs.PriceRooms.{price_view};
 ghost use Rattle.roster_model.specs.Room.{most_uses};
 ghost use Rattle.roster_model.specs.Teams.{teams};
 ghost use Rattle.check_parts.specs.roster_part.TeamViews.{team_view};
 ghost use Rattle.roster_model.specs.tree_laws.DaySteps.{AreDaySteps};
 ghost use Rattle.tree_pool.specs.Pools.{IsPool};
 ghost use Rattle.master_rows.specs.search_day.Rooms.{Grows};
-ghost use Rattle.candidate_rosters.specs.Priced.{IsPriced};
-ghost use Rattle.roster_moves.specs.Tools.{IsPricedWith};
+ghost use Rattle.roster_moves.specs.ShortPricings.{IsShortDay, IsShortPriced};
 
+use crate::short_pricing::ShortPricing;
 use candidate_rosters::team_arc;
 use check_parts::Team;
-use master_rows::{Day, Pricing};
+use master_rows::Day;
 use roster_model::{Memory, TreeRoom};
 use tree_pool::Pool;
 
 /// Returns the least sum over the trees of a team that is a group.
-fn group_sum(day: &Day, pricing: &Pricing, team: &Team) -> Option<i128>
-    requires priced { IsPriced day.now (price_view pricing.now.room) pricing.now.pricer }
+fn group_sum(day: &Day, pricing: &ShortPricing, team: &Team) -> Option<i128>
+    requires priced { IsShortDay day.now pricing.now.short }
     requires team { In (team_view team.now) (teams day.now.instance.now) }
 {
     let arc = day.graph.find(&team_arc(day.instance, team))?;
-    pricing.pricer.sum_under(day.graph, &pricing.room, arc)
+    pricing.short.sum_under(day.graph, &pricing.room, arc)
 }
 
 /// Returns the least sum over the trees of a team. Over all trees of the day it is `least`.
 pub(crate) fn team_sum(
     day: &Day,
-    pricing: &Pricing,
+    pricing: &ShortPricing,
     least: Option<i128>,
     team: &Team,
 ) -> Option<i128>
-    requires priced { IsPriced day.now (price_view pricing.now.room) pricing.now.pricer }
+    requires priced { IsShortDay day.now pricing.now.short }
     requires team { In (team_view team.now) (teams day.now.instance.now) }
 {
     if day.instance.groups.is_empty() {
@@ -42,8 +41,8 @@ pub(crate) fn team_sum(
 }
 
 /// Leaves in the room the steps of a tree of least sum of a team that is a group, where it has a sum.
-fn write_group_tree(day: &Day, pricing: &Pricing, team: &Team, room: &mut TreeRoom) -> bool
-    requires priced { IsPriced day.now (price_view pricing.now.room) pricing.now.pricer }
+fn write_group_tree(day: &Day, pricing: &ShortPricing, team: &Team, room: &mut TreeRoom) -> bool
+    requires priced { IsShortDay day.now pricing.now.short }
     requires groups { day.now.instance.now.groups ≢ [] }
     requires team { In (team_view team.now) (teams day.now.instance.now) }
     requires room { room.old.most ≡ most_uses day.now.instance.now.grammar }
@@ -53,11 +52,11 @@ fn write_group_tree(day: &Day, pricing: &Pricing, team: &Team, room: &mut TreeRo
     let Some(arc) = day.graph.find(&team_arc(day.instance, team)) else {
         return false;
     };
-    let pricer = &pricing.pricer;
-    if pricer.sum_under(day.graph, &pricing.room, arc).is_none() {
+    let short = &pricing.short;
+    if short.sum_under(day.graph, &pricing.room, arc).is_none() {
         return false;
     }
-    pricer.tree_under(day.graph, &pricing.room, arc, room);
+    short.tree_under(day.graph, arc, room);
     true
 }
 
@@ -65,12 +64,12 @@ fn write_group_tree(day: &Day, pricing: &Pricing, team: &Team, room: &mut TreeRo
 /// trees of the day the least sum is `least`.
 fn write_tree(
     day: &Day,
-    pricing: &Pricing,
+    pricing: &ShortPricing,
     least: Option<i128>,
     team: &Team,
     room: &mut TreeRoom,
 ) -> bool
-    requires priced { IsPricedWith day.now (price_view pricing.now.room) pricing.now.pricer least }
+    requires priced { IsShortPriced day.now pricing.now.short least }
     requires team { In (team_view team.now) (teams day.now.instance.now) }
     requires room { room.old.most ≡ most_uses day.now.instance.now.grammar }
     ensures yes { IsTrue result → AreDaySteps day.now.instance.now.grammar room.new.steps }
@@ -82,7 +81,7 @@ fn write_tree(
     if least.is_none() {
         return false;
     }
-    pricing.pricer.tree(day.graph, &pricing.room, room);
+    pricing.short.tree(day.graph, room);
     true
 }
 
@@ -95,13 +94,13 @@ fn write_tree(
 /// of the day.
 pub(crate) fn least_column(
     day: &Day,
-    pricing: &Pricing,
+    pricing: &ShortPricing,
     least: Option<i128>,
     team: &Team,
     room: &mut TreeRoom,
     pool: &mut Pool,
 ) -> Result<Option<usize>, Memory>
-    requires priced { IsPricedWith day.now (price_view pricing.now.room) pricing.now.pricer least }
+    requires priced { IsShortPriced day.now pricing.now.short least }
     requires team { In (team_view team.now) (teams day.now.instance.now) }
     requires room { room.old.most ≡ most_uses day.now.instance.now.grammar }
     requires pool { IsPool day.now.instance.now.grammar pool.old }

@@ -1,5 +1,5 @@
 -- Orders of some arcs of a graph, and the trees that they hold.
-use Rattle.std.specs.Prelude.{ℕ, ◌≡◌, ◌<◌, List, Some, IsSome, length, slice_get, slice_index}
+use Rattle.std.specs.Prelude.{ℕ, ◌≡◌, IsSome}
 use Rattle.roster_model.specs.declared.grammar.ArcKey.{ArcKey}
 use Rattle.roster_model.specs.declared.grammar.Grammar.{Grammar}
 use Rattle.roster_model.specs.Trees.{Parts, steps}
@@ -7,12 +7,8 @@ use Rattle.roster_model.specs.Room.{RoomView, most_uses}
 use Rattle.roster_model.specs.Sound.{IsSound}
 use Rattle.parse_graph.specs.Graphs.{GraphView, IsGraph}
 use Rattle.cheapest_tree.specs.Under.{IsTop, IsDayTreeUnder}
+use Rattle.short_order.specs.Best.{AreBest}
 use Rattle.short_order.specs.declared.short_order.ShortOrder.{ShortOrder}
-
--- for each node there is an arc that makes it
-pub record AreBest (v : GraphView) (best : List ℕ) : Type 0 where
-  pub count : length best ≡ length v.nodes
-  pub makes : (n : ℕ) → n < length v.nodes → slice_get v.made_by (slice_index best n) ≡ Some n
 
 -- the short order was made for the graph: the best arc of each node makes it
 pub record IsShortFor (v : GraphView) (s : ShortOrder) : Type 0 where

@@ -28,7 +28,7 @@ plan_for-requires-clause-find g c =
     let t = c.requires.tools in
     let p = c.shown_value-value.ensures.pricing in
     record {
-      tools = record { pool = t.pool; desk = record { pricing = p.are; most = p.most ∙ t.desk.most; rosters = t.desk.rosters; short = t.desk.short } };
+      tools = record { pool = t.pool; desk = record { pricing = p.are; most = p.most ∙ t.desk.most; rosters = t.desk.rosters; moves = t.desk.moves } };
       good = c.requires.leaf.4.is.best;
     }
 

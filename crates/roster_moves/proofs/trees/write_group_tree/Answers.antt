@@ -1,10 +1,9 @@
 use Rattle.std.proofs.Common.{◌≡◌, Some, ap, ◌∙◌}
 use Rattle.std.specs.Prelude.{slice_get}
 use Rattle.std.proofs.lemmas.Option.{slice_get_within}
-use Rattle.roster_model.specs.PriceRooms.{price_view}
 use Rattle.check_parts.specs.roster_part.TeamViews.{team_view}
-use Rattle.candidate_rosters.proofs.LeadersLemmas.{key_of, there-of}
-use Rattle.roster_moves.proofs.LeastTrees.{is-ready, is-top, asks-under, under-steps}
+use Rattle.candidate_rosters.proofs.LeadersLemmas.{key_of}
+use Rattle.roster_moves.proofs.DayTrees.{asks-short-under, short-steps}
 use Rattle.roster_moves.proofs.trees.write_group_tree.Goals as goal
 
 pub sum_under-requires-clause-arc : goal.sum_under-requires-clause-arc
@@ -13,32 +12,22 @@ sum_under-requires-clause-arc c = slice_get_within c.args.day.now.graph.now.arcs
 pub tree_under-requires-clause-asks : goal.tree_under-requires-clause-asks
 tree_under-requires-clause-asks c =
     let i = c.args.day.now.instance.now in
-    let p = price_view c.args.pricing.now.room in
     let v = c.args.day.now.graph.now in
-    let w = c.args.pricing.now.pricer in
     let o = team_view c.args.team.now in
     let key = key_of i c.requires.priced.day.sound c.requires.groups o c.requires.team in
-    let at : slice_get v.arcs c.in-Some.arc ≡ Some key = c.in-Some.ensures.found ∙ ap Some c.team_arc.ensures in
-    let ready = is-ready i c.requires.priced.day.sound p v w c.requires.priced.day.graph c.requires.priced.filled in
-    let top = is-top i c.requires.priced.day.sound p v w c.requires.priced.day.graph c.requires.priced.filled c.requires.groups o c.requires.team c.in-Some.arc at in (
+    let at : slice_get v.arcs c.in-Some.arc ≡ Some key = c.in-Some.ensures.found ∙ ap Some c.team_arc.ensures in (
       i.grammar,
       key,
-      asks-under i c.requires.priced.day.sound p v w c.requires.priced.day.graph c.requires.priced.filled c.requires.groups o c.requires.team c.in-Some.arc at c.sum_under.result
-          (there-of c.sum_under.result c.if-is_none.ensures) (c.sum_under.ensures.least i.grammar key ready top) c.args.room.now c.requires.room,
+      asks-short-under i c.requires.priced.day.sound v c.requires.priced.day.graph c.args.room.now c.requires.room c.requires.groups o c.requires.team c.in-Some.arc at,
     )
 
 pub returns-clause-yes : goal.returns-clause-yes
 returns-clause-yes c = λ y.
     let i = c.args.day.now.instance.now in
-    let p = price_view c.args.pricing.now.room in
     let v = c.args.day.now.graph.now in
-    let w = c.args.pricing.now.pricer in
     let o = team_view c.args.team.now in
     let key = key_of i c.requires.priced.day.sound c.requires.groups o c.requires.team in
     let at : slice_get v.arcs c.in-Some.arc ≡ Some key = c.in-Some.ensures.found ∙ ap Some c.team_arc.ensures in
-    let ready = is-ready i c.requires.priced.day.sound p v w c.requires.priced.day.graph c.requires.priced.filled in
-    let top = is-top i c.requires.priced.day.sound p v w c.requires.priced.day.graph c.requires.priced.filled c.requires.groups o c.requires.team c.in-Some.arc at in
-    under-steps i.grammar p key c.tree_under.new.room
+    short-steps i.grammar key c.tree_under.new.room
     (c.tree_under.ensures.tree i.grammar key
-    (asks-under i c.requires.priced.day.sound p v w c.requires.priced.day.graph c.requires.priced.filled c.requires.groups o c.requires.team c.in-Some.arc at c.sum_under.result
-    (there-of c.sum_under.result c.if-is_none.ensures) (c.sum_under.ensures.least i.grammar key ready top) c.args.room.now c.requires.room))
+    (asks-short-under i c.requires.priced.day.sound v c.requires.priced.day.graph c.args.room.now c.requires.room c.requires.groups o c.requires.team c.in-Some.arc at))

@@ -1,0 +1,4 @@
+pub mod BestLemmas
+pub mod StandingTrees
+pub mod WalksLemmas
+pub mod DayLemmas
