@@ -14,9 +14,8 @@ use scout::LastBasis;
 use search_watch::Watch;
 use std::alloc::Global;
 
-/// A master that solves each node's linear program in exact fractions, or finds prices that a near solution
-/// shows to be best: near prices come first where a basis has many trees, and else where the exact path
-/// leads to none. It refuses hard nodes alone.
+/// A master that finds prices which a near solution shows to be best, and solves a node's linear program in
+/// exact fractions where it finds none. It refuses hard nodes alone.
 #[derive(Drop)]
 pub struct PlainMaster {
     tally: Tally,
