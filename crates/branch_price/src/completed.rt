@@ -90,12 +90,7 @@ pub(crate) fn guide_of<'a>(
 
 /// Returns what steers the moves of a roster at a node that is priced: on a day that is not wide there are none, and
 /// rosters are completed and exchanged once.
-fn priced_guide<'a>(
-    graph: &Graph,
-    pool: &Pool,
-    prices: &'a Prices,
-    stage: &Stage,
-) -> Guide<'a> {
+fn priced_guide<'a>(graph: &Graph, pool: &Pool, prices: &'a Prices, stage: &Stage) -> Guide<'a> {
     let guide = guide_of(graph, pool, prices, stage);
     if is_wide(graph) {
         return guide;

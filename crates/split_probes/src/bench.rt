@@ -29,8 +29,13 @@ const ONE: i128 = 4_294_967_296;
 /// A value is above another one where it is by more than 1/16.
 const MARGIN: i128 = 268_435_456;
 
-/// How many entries all tries may touch, for each row and each arc.
-const BUDGET: u64 = 1_000_000_000;
+/// Twice the most dual steps that tries of arcs take: three for each half of 32 arcs, and twenty for each half of
+/// four of them. Tries of letters take fewer.
+const STEPS: u64 = 704;
+
+/// So many rows a node of a day of 48 periods has at most where it has 62 cuts: eight codes in each period, and two
+/// of the heads.
+const ROWS: u64 = 448;
 
 /// A node's program at a scout, and room to try cuts.
 #[derive(Drop)]
@@ -142,9 +147,12 @@ fn solve<W: Watch>(scout: &mut Scout, keys: &[Key], watch: &W) -> bool {
     scout.start_beyond().is_ok() && run_on(scout, watch)
 }
 
-/// Returns how many entries the tries on a node of so many rows and arcs may touch.
-fn budget_of(rows: usize, arcs: usize) -> u64 {
-    (rows as u64).saturating_add(arcs as u64).saturating_mul(BUDGET)
+/// Returns how many entries the tries on a node of so many rows may touch: 704 times the rows times the rows, of
+/// which the second factor is 448 at most. A step touches at most the square of the rows, so that no node with up to
+/// 448 rows reaches that.
+fn budget_of(rows: usize) -> u64 {
+    let rows = rows as u64;
+    rows.saturating_mul(rows.min(ROWS)).saturating_mul(STEPS)
 }
 
 /// Returns so many flags that are not set.
@@ -165,7 +173,7 @@ fn without_trees(alloc: Global, task: &NodeTask) -> Result<ProbeBench, Memory>
         flags: Vec::new(alloc),
         value: 0,
         most: 0,
-        budget: budget_of(task.rows.right().len(), task.day.graph.arcs().len()),
+        budget: budget_of(task.rows.right().len()),
     })
 }
 
