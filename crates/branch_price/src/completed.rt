@@ -26,8 +26,8 @@ use std::alloc::Global;
 /// root.
 const EVERY: u32 = 4;
 
-/// How many passes over the graph the moves of a roster may take where it becomes no better, times the square of
-/// the number of its trees.
+/// How many passes over the graph the moves of a roster may take where it becomes no better, times the square
+/// of the number of its trees.
 const PASSES: u32 = 2;
 
 /// How many they may take at the first node in all, times that square; at later nodes there are no more.
@@ -39,8 +39,8 @@ const FURTHER: u64 = 2;
 /// There are at most so many further passes.
 const MOST_FURTHER: u64 = 4096;
 
-/// Returns how many further passes over the graph the moves may take at the first node of a wide day: as many as
-/// the trees of its pool took and again so many, within a bound.
+/// Returns how many further passes over the graph the moves may take at the first node of a wide day: as many
+/// as the trees of its pool took and again so many, within a bound.
 fn further_passes(graph: &Graph, pool: &Pool) -> u32 {
     if !is_wide(graph) {
         return 0;
@@ -88,8 +88,8 @@ pub(crate) fn guide_of<'a>(
     }
 }
 
-/// Returns what steers the moves of a roster at a node that is priced: on a day that is not wide there are none, and
-/// rosters are completed and exchanged once.
+/// Returns what steers the moves of a roster at a node that is priced: on a day that is not wide there are
+/// none, and rosters are completed and exchanged once.
 fn priced_guide<'a>(graph: &Graph, pool: &Pool, prices: &'a Prices, stage: &Stage) -> Guide<'a> {
     let guide = guide_of(graph, pool, prices, stage);
     if is_wide(graph) {
@@ -139,8 +139,8 @@ pub(crate) fn offer_begun<W: Watch>(
     )
 }
 
-/// Offers the roster of the trees that a dive fixes, completed and exchanged. Says whether the dive is made: one
-/// that is dropped is, and one that fixes none is not.
+/// Offers the roster of the trees that a dive fixes, completed and exchanged. Says whether the dive is made:
+/// one that is dropped is, and one that fixes none is not.
 fn offer_dived<W: Watch>(
     alloc: Global,
     node: &OpenNode,
@@ -193,8 +193,8 @@ fn offer_completed<W: Watch>(
     offer_begun(alloc, day, begun.as_slice(), guide, desk, pool, best, watch)
 }
 
-/// Offers a roster at a node over the arcs that are kept: of the trees that a dive fixes, where one is due and made,
-/// or else of the solution's trees.
+/// Offers a roster at a node over the arcs that are kept: of the trees that a dive fixes, where one is due
+/// and made, or else of the solution's trees.
 fn offer_kept<W: Watch>(
     alloc: Global,
     node: &OpenNode,
@@ -225,10 +225,10 @@ fn offer_kept<W: Watch>(
 }
 
 /// Offers a roster, unless the best one already costs no more than the bound that the node leaves: at the
-/// first node and at each fourth one after it that of the trees that a dive fixes, unless it is dropped; at the
-/// others, and where the dive fixes none, that of the solution's trees. Its trees are looked for over the arcs that
-/// a roster can have which costs less than the best one. Where the search is over it offers none but that of the
-/// solution's trees, and that only where there is no best one.
+/// first node and at each fourth one after it that of the trees that a dive fixes, unless it is dropped; at
+/// the others, and where the dive fixes none, that of the solution's trees. Its trees are looked for over the
+/// arcs that a roster can have which costs less than the best one. Where the search is over it offers none
+/// but that of the solution's trees, and that only where there is no best one.
 ///
 /// # Errors
 ///

@@ -30,9 +30,8 @@ fn shares_of(alloc: Global, weights: &[Weight]) -> Result<List<Share>, Memory> {
 
 /// Returns an arc on which a node may be split well, from the weights of the trees at its solution, where no
 /// roster that costs as much as the best one is looked for. It is the one on which an old certificate splits
-/// the node, where its trees weigh no whole number, or else one that is tried, by a program that begins at the
-/// last hunt's basis. What splits gain is counted.
-/// It is a hint.
+/// the node, where its trees weigh no whole number, or else one that is tried, by a program that begins at
+/// the last hunt's basis. What splits gain is counted. It is a hint.
 ///
 /// # Errors
 ///

@@ -7,8 +7,8 @@ use candidate_rosters::Roster;
 use master_rows::Day;
 use roster_model::{Cut, Prices};
 
-/// Returns by how much a tree of a roster that costs less than this may be dearer than a cheapest one, at prices
-/// that show a value: by what lies between them and 1 more, in units of one in so many.
+/// Returns by how much a tree of a roster that costs less than this may be dearer than a cheapest one, at
+/// prices that show a value: by what lies between them and 1 more, in units of one in so many.
 fn above_at(cost: u64, value: u64, d: u64) -> i128 {
     i128::from(cost)
         .saturating_sub(i128::from(value))
@@ -16,8 +16,8 @@ fn above_at(cost: u64, value: u64, d: u64) -> i128 {
         .saturating_mul(i128::from(d))
 }
 
-/// Keeps for dives and moves the arcs that a roster can have which costs less than the best one, where a node's
-/// prices show this value; without a best one it keeps all.
+/// Keeps for dives and moves the arcs that a roster can have which costs less than the best one, where a
+/// node's prices show this value; without a best one it keeps all.
 pub(crate) fn shorten(
     day: &Day,
     cuts: &[Cut],

@@ -120,8 +120,8 @@ fn find_cheapest(
     Some(least.saturating_sub(head_price(task.rows, &desk.quote)))
 }
 
-/// Lists trees that are cheap at the scout's prices, a cheapest one and further ones under other arcs of the root,
-/// and says whether there is one. Notes what the prices show.
+/// Lists trees that are cheap at the scout's prices, a cheapest one and further ones under other arcs of the
+/// root, and says whether there is one. Notes what the prices show.
 ///
 /// # Errors
 ///

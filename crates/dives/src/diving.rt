@@ -32,9 +32,9 @@ const STEPS: u32 = 200;
 /// How often trees are asked for in a step. With five times nine days took 56 seconds in place of 41.
 const ROUNDS: u32 = 10;
 
-/// A dive takes no further step once it has touched so many times an entry for each pair of rows and an arc of the
-/// graph: with a full inverse that is as many pivots, and as many passes. It is there so that no dive takes a
-/// search's time. Other numbers were not tried.
+/// A dive takes no further step once it has touched so many times an entry for each pair of rows and an arc
+/// of the graph: with a full inverse that is as many pivots, and as many passes. It is there so that no dive
+/// takes a search's time. Other numbers were not tried.
 const WORK: u64 = 4_000;
 
 /// The steps of a run before its first prices, and the primal steps between two of them for each row.
@@ -90,7 +90,8 @@ fn solve<W: Watch>(
 }
 
 /// Takes a step: solves the program, and fixes trees by its weights. Says whether any was fixed, and none is
-/// where the watch is over, or where the program's value is above the cost below which a roster is looked for.
+/// where the watch is over, or where the program's value is above the cost below which a roster is looked
+/// for.
 fn step<W: Watch>(
     alloc: Global,
     task: &NodeTask,
@@ -147,8 +148,8 @@ fn last_of(task: &NodeTask) -> usize {
     task.rows.right().len().saturating_mul(2)
 }
 
-/// Lists the trees of the last hunt's basis and the pool's last ones, and starts the scout from that basis. Says
-/// whether it has started.
+/// Lists the trees of the last hunt's basis and the pool's last ones, and starts the scout from that basis.
+/// Says whether it has started.
 fn begin_at(
     alloc: Global,
     task: &NodeTask,
@@ -251,8 +252,8 @@ fn kept(is_dropped: bool, fixed: List<usize>) -> Option<List<usize>>
     if is_dropped { None } else { Some(fixed) }
 }
 
-/// Dives from a node, of which the master's rows are given, and returns the trees that it fixed; `None` where it
-/// is dropped.
+/// Dives from a node, of which the master's rows are given, and returns the trees that it fixed; `None` where
+/// it is dropped.
 fn dive_over<W: Watch>(
     alloc: Global,
     task: &NodeTask,
@@ -283,8 +284,8 @@ fn dive_over<W: Watch>(
 ///
 /// It solves the node's program at a scout, fixes a few trees that its weights come near to, takes them off
 /// the program, and goes on so until no tree has weight. Once its value shows that hardly a roster with the
-/// fixed trees costs less than `cost`, it is dropped. It begins from `start`, whatever that holds, beside the last
-/// trees of the pool. Where the watch is over no further tree is fixed.
+/// fixed trees costs less than `cost`, it is dropped. It begins from `start`, whatever that holds, beside the
+/// last trees of the pool. Where the watch is over no further tree is fixed.
 ///
 /// # Errors
 ///

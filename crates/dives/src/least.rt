@@ -11,8 +11,8 @@ use roster_model::{LetterPrice, Memory, TreeRoom};
 use short_order::ShortOrder;
 use tree_pool::Pool;
 
-/// Leaves a cheap tree of the day in the room, and returns about its sum; `None` where none of the short order is
-/// found.
+/// Leaves a cheap tree of the day in the room, and returns about its sum; `None` where none of the short
+/// order is found.
 pub(crate) fn find_least<P: LetterPrice>(
     day: &Day,
     prices: &P,

@@ -14,7 +14,8 @@ use tree_pool::Pool;
 /// How far a value may be from the right one, 2^-8 in units of 2^-32.
 const NEAR: i128 = 16_777_216;
 
-/// A value is near to what prices show of it where it is above that by at most a part of itself, one in so many.
+/// A value is near to what prices show of it where it is above that by at most a part of itself, one in so
+/// many.
 const PART: i128 = 1_024;
 
 /// How many units of 2^-32 are in one of prices, 2^-24.
@@ -48,8 +49,8 @@ fn copy_of(alloc: Global, numbers: &[i64]) -> Result<Vec<i64>, Memory> {
     Ok(Vec::from_slice(alloc, numbers)?)
 }
 
-/// Returns what prices show of the least cost of a program with these right sides, where at most so many trees
-/// are taken and the least reduced cost of one is this; all in units of 2^-24.
+/// Returns what prices show of the least cost of a program with these right sides, where at most so many
+/// trees are taken and the least reduced cost of one is this; all in units of 2^-24.
 fn bound_at(sides: &[i64], prices: &[i128], heads: i64, reduced: i128) -> i128 {
     let mut bound = reduced.min(0).saturating_mul(i128::from(heads));
     for (side, price) in sides.iter().zip(prices) {

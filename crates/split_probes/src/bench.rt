@@ -29,12 +29,12 @@ const ONE: i128 = 4_294_967_296;
 /// A value is above another one where it is by more than 1/16.
 const MARGIN: i128 = 268_435_456;
 
-/// Twice the most dual steps that tries of arcs take: three for each half of 32 arcs, and twenty for each half of
-/// four of them. Tries of letters take fewer.
+/// Twice the most dual steps that tries of arcs take: three for each half of 32 arcs, and twenty for each
+/// half of four of them. Tries of letters take fewer.
 const STEPS: u64 = 704;
 
-/// So many rows a node of a day of 48 periods has at most where it has 62 cuts: eight codes in each period, and two
-/// of the heads.
+/// So many rows a node of a day of 48 periods has at most where it has 62 cuts: eight codes in each period,
+/// and two of the heads.
 const ROWS: u64 = 448;
 
 /// A node's program at a scout, and room to try cuts.
@@ -73,8 +73,8 @@ fn list_tree(
     list_places(scout, i64::from(pool.cost(column)), places.as_slice())
 }
 
-/// Returns the trees with which a program begins: those of the last hunt's basis, and where that is empty those
-/// with weight.
+/// Returns the trees with which a program begins: those of the last hunt's basis, and where that is empty
+/// those with weight.
 fn first_trees(alloc: Global, node: &SplitNode) -> Result<List<usize>, Memory> {
     let mut trees = List::new(alloc);
     trees.extend_from_slice(node.last.trees.as_slice())?;
@@ -138,8 +138,8 @@ fn run_on<W: Watch>(scout: &mut Scout, watch: &W) -> bool {
     scout.run(SOLVE, watch) == Scouted::Optimal && scout.settle(SOLVE, watch) == Scouted::Optimal
 }
 
-/// Solves a program from a basis, and where it is empty or leads to nothing without one. Says whether its value is
-/// one.
+/// Solves a program from a basis, and where it is empty or leads to nothing without one. Says whether its
+/// value is one.
 fn solve<W: Watch>(scout: &mut Scout, keys: &[Key], watch: &W) -> bool {
     if !keys.is_empty() && scout.start(keys).is_ok() && run_on(scout, watch) {
         return true;
@@ -147,9 +147,9 @@ fn solve<W: Watch>(scout: &mut Scout, keys: &[Key], watch: &W) -> bool {
     scout.start_beyond().is_ok() && run_on(scout, watch)
 }
 
-/// Returns how many entries the tries on a node of so many rows may touch: 704 times the rows times the rows, of
-/// which the second factor is 448 at most. A step touches at most the square of the rows, so that no node with up to
-/// 448 rows reaches that.
+/// Returns how many entries the tries on a node of so many rows may touch: 704 times the rows times the rows,
+/// of which the second factor is 448 at most. A step touches at most the square of the rows, so that no node
+/// with up to 448 rows reaches that.
 fn budget_of(rows: usize) -> u64 {
     let rows = rows as u64;
     rows.saturating_mul(rows.min(ROWS)).saturating_mul(STEPS)
@@ -253,7 +253,8 @@ impl ProbeBench {
         }
     }
 
-    /// Says whether the tries have touched all entries of the budget, or one part of so many, or the watch is over.
+    /// Says whether the tries have touched all entries of the budget, or one part of so many, or the watch is
+    /// over.
     pub fn is_spent<W: Watch>(&self, parts: u64, watch: &W) -> bool {
         self.copy.work().saturating_mul(parts) > self.budget || watch.is_over()
     }

@@ -5,8 +5,8 @@ use roster_model::Cut;
 use scout::LastBasis;
 use tree_pool::Pool;
 
-/// A node whose splits are tried: its day, its cuts with the counts that they leave the arcs, the weights of the
-/// pool's trees at its solution, and the basis with which the last hunt there ended, a hint.
+/// A node whose splits are tried: its day, its cuts with the counts that they leave the arcs, the weights of
+/// the pool's trees at its solution, and the basis with which the last hunt there ended, a hint.
 #[derive(Clone, Copy, Drop)]
 pub struct SplitNode<'a> {
     pub day: Day<'a>,

@@ -90,8 +90,8 @@ fn kept_of<W: Watch>(
     Ok(kept)
 }
 
-/// Returns the candidate of the greatest score of those that are kept, the first of several; of letters one of
-/// whose halves raises the bound that is shown.
+/// Returns the candidate of the greatest score of those that are kept, the first of several; of letters one
+/// of whose halves raises the bound that is shown.
 fn best_kept<W: Watch>(
     node: &SplitNode,
     bench: &mut ProbeBench,
@@ -188,8 +188,8 @@ fn tried(alloc: Global, node: &SplitNode, gains: &Gains) -> Result<Candidates, M
 /// solution; `None` where it knows of none, or of one alone.
 ///
 /// Arcs whose trees weigh no whole number are tried: both halves of their splits are solved for a few steps
-/// at a scout, over some trees of the pool, and the arc is named for which the product of what both add
-/// to the node's value is greatest. An arc that stands for a letter is named before others, unless its product
+/// at a scout, over some trees of the pool, and the arc is named for which the product of what both add to
+/// the node's value is greatest. An arc that stands for a letter is named before others, unless its product
 /// is less than half as great as theirs or neither half raises the value rounded up. No roster that costs
 /// `limit` or more is looked for. It is a hint: that the split is sharp is for the caller to see. What splits
 /// on letters gained is counted. Where the watch is over no further arc is tried.
