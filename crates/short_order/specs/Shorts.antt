@@ -26,7 +26,8 @@ pub record AsksDayTree (g : Grammar) (v : GraphView) (room : RoomView) : Type 0 
   pub space : room.most ≡ most_uses g
 
 -- what is asked for a tree of the day with the arc at the top: it makes the root, and room
-pub record AsksDayTreeUnder (g : Grammar) (v : GraphView) (arc : ℕ) (a : ArcKey) (room : RoomView) : Type 0 where
+pub record AsksDayTreeUnder (g : Grammar) (v : GraphView) (arc : ℕ) (a : ArcKey)
+    (room : RoomView) : Type 0 where
   pub sound : IsSound g
   pub graph : IsGraph g v
   pub top : IsTop g v arc a

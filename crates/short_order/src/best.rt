@@ -33,7 +33,8 @@ pub(crate) fn first_arcs(alloc: Global, graph: &Graph) -> Result<Vec<u32>, Memor
     Ok(best)
 }
 
-/// Makes an arc the best one of the node that it makes, and returns the node; `None` where the graph lacks it.
+/// Makes an arc the best one of the node that it makes, and returns the node; `None` where the graph lacks
+/// it.
 pub(crate) fn choose(graph: &Graph, arc: u32, best: &mut Vec<u32>) -> Option<u32>
     requires { AreBest graph.now best.old.items }
     ensures { AreBest graph.now best.new.items }

@@ -103,7 +103,8 @@ impl Chain {
     ///
     /// # Errors
     ///
-    /// `Memory` where memory runs out, which it does not where the chain is for the graph; no row is added then.
+    /// `Memory` where memory runs out, which it does not where the chain is for the graph; no row is added
+    /// then.
     pub fn end_row(&mut self, begin: usize) -> Result<(), Memory> {
         let end = self.joints.len();
         if begin < end {
@@ -116,8 +117,8 @@ impl Chain {
     ///
     /// # Errors
     ///
-    /// `Memory` where memory runs out, which it does not where the chain is for the graph; the arc is not added
-    /// then.
+    /// `Memory` where memory runs out, which it does not where the chain is for the graph; the arc is not
+    /// added then.
     pub fn push(&mut self, joint: Joint) -> Result<(), Memory> {
         self.joints.push(joint)?;
         Ok(())
@@ -149,13 +150,13 @@ impl Chain {
         Ok(())
     }
 
-    /// Adds all arcs of a graph: each node's row stands where the last arc is reached that makes it, since an arc
-    /// stands after all that make what it uses.
+    /// Adds all arcs of a graph: each node's row stands where the last arc is reached that makes it, since an
+    /// arc stands after all that make what it uses.
     ///
     /// # Errors
     ///
-    /// `Memory` where memory runs out, which it does not where the chain is for the graph; some arcs are missing
-    /// then.
+    /// `Memory` where memory runs out, which it does not where the chain is for the graph; some arcs are
+    /// missing then.
     pub fn fill(&mut self, graph: &Graph) -> Result<(), Memory> {
         for place in 0..graph.arcs().len() {
             self.add_last(graph, place as u32)?;

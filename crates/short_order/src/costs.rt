@@ -4,7 +4,10 @@ use roster_model::{ArcKey, ArcPrice, LetterPrice, Memory};
 use std::alloc::Global;
 
 /// How great a price is at most: a greater one is taken for this one.
-const MOST: i128 = 1 << 43;
+const MOST: i128 = 1 << 48;
+
+/// How great a difference of two sums is at most: a greater one is taken for this one.
+const MOST_BETWEEN: i128 = 1 << 60;
 
 /// How many codes of rules there are: 0, and 1 plus the number of each.
 const CODES: usize = 257;
@@ -23,6 +26,11 @@ pub(crate) struct Costs {
 /// Returns a price in 64 bits.
 pub(crate) fn price_of(price: i128) -> i64 {
     price.clamp(-MOST, MOST) as i64
+}
+
+/// Returns a difference of two sums in 64 bits.
+pub(crate) fn difference_of(difference: i128) -> i64 {
+    difference.clamp(-MOST_BETWEEN, MOST_BETWEEN) as i64
 }
 
 /// Returns the number at a place, 0 behind the last one.

@@ -22,8 +22,8 @@ fn lower(beside: &mut Vec<i64>, slot: u32, sum: i64) {
     }
 }
 
-/// Puts beside each node what the rest of a cheapest tree with it costs, of the trees of at most this sum alone,
-/// `FAR` where there is none. The sums of the nodes are filled.
+/// Puts beside each node what the rest of a cheapest tree with it costs, of the trees of at most this sum
+/// alone, `FAR` where there is none. The sums of the nodes are filled.
 pub(crate) fn pass_down(
     graph: &Graph,
     chain: &Chain,
@@ -54,8 +54,8 @@ fn beside_of(graph: &Graph, joints: &[Joint], beside: &[i64]) -> i64 {
     beside.get(node as usize).copied().unwrap_or(FAR)
 }
 
-/// Lowers the numbers of what is below a node's arcs whose trees cost at most so much, where the rest of a tree
-/// with the node costs this.
+/// Lowers the numbers of what is below a node's arcs whose trees cost at most so much, where the rest of a
+/// tree with the node costs this.
 fn lower_all(
     joints: &[Joint],
     costs: &Costs,
@@ -85,7 +85,8 @@ fn lower_all(
 ///
 /// # Errors
 ///
-/// `Memory` where memory runs out, which it does not where the chain is for the graph; some arcs are missing then.
+/// `Memory` where memory runs out, which it does not where the chain is for the graph; some arcs are missing
+/// then.
 pub(crate) fn keep_cheap(
     graph: &Graph,
     all: &Chain,
@@ -114,7 +115,8 @@ pub(crate) fn keep_cheap(
 ///
 /// # Errors
 ///
-/// `Memory` where memory runs out, which it does not where the chain is for the graph; some arcs are missing then.
+/// `Memory` where memory runs out, which it does not where the chain is for the graph; some arcs are missing
+/// then.
 pub(crate) fn keep_chain(all: &Chain, kept: &mut Chain) -> Result<(), Memory> {
     kept.clear();
     for joint in all.joints.iter() {

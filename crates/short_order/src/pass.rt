@@ -36,8 +36,8 @@ pub(crate) fn sum_of(costs: &Costs, sums: &[i64], joint: &Joint) -> i64 {
         .saturating_add(sum_at(sums, joint.rest))
 }
 
-/// Puts the prices of the letters into their slots, 0 into that of nothing, and none into those of the nodes, of
-/// which there are so many.
+/// Puts the prices of the letters into their slots, 0 into that of nothing, and none into those of the nodes,
+/// of which there are so many.
 fn begin<P: LetterPrice>(prices: &P, letters: &[Spot], nodes: u32, sums: &mut Vec<i64>) {
     sums.fill(NONE);
     put(sums, nodes as usize, 0);

@@ -3,11 +3,12 @@ ghost use Rattle.roster_model.specs.declared.grammar.ArcKey.{ArcKey as Key};
 ghost use Rattle.roster_model.specs.declared.grammar.Grammar.{Grammar as Rules};
 ghost use Rattle.roster_model.specs.tree_laws.DaySteps.{AreDaySteps};
 ghost use Rattle.short_order.specs.Best.{AreBest};
-ghost use Rattle.short_order.specs.Shorts.{IsShortFor, HasRoot, AsksDayTree, AsksDayTreeUnder, HoldsTreeUnder};
+ghost use Rattle.short_order.specs.Shorts.{IsShortFor, HasRoot};
+ghost use Rattle.short_order.specs.Shorts.{AsksDayTree, AsksDayTreeUnder, HoldsTreeUnder};
 
 use crate::best::first_arcs;
 use crate::chain::{Chain, Spot, letters_of, slot_of, slots_of};
-use crate::costs::{Costs, arc_cost, price_of};
+use crate::costs::{Costs, arc_cost, difference_of};
 use crate::keeping::{keep_chain, keep_cheap, pass_down};
 use crate::pass::{FAR, pass, sum_at};
 use crate::walk::{write_node, write_under};
@@ -68,21 +69,50 @@ impl Work {
         })
     }
 
-    /// Passes all arcs at these prices, and keeps those whose cheapest tree is dearer than the cheapest one by at
-    /// most this much.
-    fn keep<P: LetterPrice>(&mut self, graph: &Graph, prices: &P, above: i64, best: &mut Vec<u32>) -> Result<(), Memory>
+    /// Passes all arcs at these prices, and keeps those whose cheapest tree is dearer than the cheapest one
+    /// by at most this much.
+    fn keep<P: LetterPrice>(
+        &mut self,
+        graph: &Graph,
+        prices: &P,
+        above: i64,
+        best: &mut Vec<u32>,
+    ) -> Result<(), Memory>
         requires { AreBest graph.now best.old.items }
         ensures { AreBest graph.now best.new.items }
     {
         self.costs.set(graph, prices);
-        pass(graph, prices, &self.costs, &self.letters, &self.all, &mut self.sums, best);
+        pass(
+            graph,
+            prices,
+            &self.costs,
+            &self.letters,
+            &self.all,
+            &mut self.sums,
+            best,
+        );
         let least = self.root_sum(graph);
         if least >= FAR {
             return keep_chain(&self.all, &mut self.kept);
         }
         let most = least.saturating_add(above).min(FAR);
-        pass_down(graph, &self.all, &self.costs, &self.sums, most, &mut self.beside);
-        keep_cheap(graph, &self.all, &self.costs, &self.sums, most, &self.beside, &mut self.kept)
+        pass_down(
+            graph,
+            &self.all,
+            &self.costs,
+            &self.sums,
+            most,
+            &mut self.beside,
+        );
+        keep_cheap(
+            graph,
+            &self.all,
+            &self.costs,
+            &self.sums,
+            most,
+            &self.beside,
+            &mut self.kept,
+        )
     }
 
     /// Returns the sum of the root, `FAR` or more where it has none.
@@ -97,8 +127,8 @@ impl Work {
 impl ShortOrder {
     /// Returns all arcs of a graph, in their order. Later calls take the same graph.
     ///
-    /// It has taken the memory for all of them: about 70 bytes for each arc, 60 for each node, and 8 for each pair
-    /// of a code and one of 256 periods.
+    /// It has taken the memory for all of them: 44 bytes for each arc, 52 for each node, and 8 for each code at
+    /// each of 256 periods.
     ///
     /// # Errors
     ///
@@ -111,13 +141,15 @@ impl ShortOrder {
         Ok(ShortOrder { work, best })
     }
 
-    /// Keeps the arcs whose cheapest tree of the day is dearer than the cheapest one of all by this much at most,
-    /// both over all arcs and at these prices; all arcs, where there is none. Takes no memory.
+    /// Keeps the arcs whose cheapest tree of the day is dearer than the cheapest one of all by this much at
+    /// most, both over all arcs and at these prices; all arcs, where there is none. Takes no memory.
     pub fn keep<P: LetterPrice>(&mut self, graph: &Graph, prices: &P, above: i128)
         requires made { IsShortFor graph.now self.old }
         ensures made { IsShortFor graph.now self.new }
     {
-        let _kept = self.work.keep(graph, prices, price_of(above), &mut self.best);
+        let _kept = self
+            .work
+            .keep(graph, prices, difference_of(above), &mut self.best);
     }
 
     /// Keeps all arcs. Takes no memory.
@@ -128,9 +160,9 @@ impl ShortOrder {
         let _kept = keep_chain(&self.work.all, &mut self.work.kept);
     }
 
-    /// Returns the sum of a cheapest tree of the day at these prices of those whose arcs are all kept; `None` where
-    /// there is none. Prices beyond 2^43 and sums beyond 2^59 in size are taken for these. `tree` and `tree_under`
-    /// write such trees afterwards. Takes no memory.
+    /// Returns the sum of a cheapest tree of the day at these prices of those whose arcs are all kept; `None`
+    /// where there is none. Prices beyond 2^48 and sums beyond 2^59 in size are taken for these. `tree` and
+    /// `tree_under` write such trees afterwards. Takes no memory.
     pub fn cheapest<P: LetterPrice>(&mut self, graph: &Graph, prices: &P) -> Option<i128>
         requires made { IsShortFor graph.now self.old }
         ensures some { IfSome result (λ z. HasRoot graph.now) }
@@ -138,13 +170,21 @@ impl ShortOrder {
     {
         let work = &mut self.work;
         work.costs.set(graph, prices);
-        pass(graph, prices, &work.costs, &work.letters, &work.kept, &mut work.sums, &mut self.best);
+        pass(
+            graph,
+            prices,
+            &work.costs,
+            &work.letters,
+            &work.kept,
+            &mut work.sums,
+            &mut self.best,
+        );
         let root = graph.root()?;
         sum_below(sum_at(&self.work.sums, root))
     }
 
-    /// Leaves in the room the steps of a tree of the day: of the one that the last pass found, where it found one.
-    /// Takes no memory.
+    /// Leaves in the room the steps of a tree of the day: of the one that the last pass found, where it found
+    /// one. Takes no memory.
     pub fn tree(&self, graph: &Graph, room: &mut TreeRoom)
         requires made { IsShortFor graph.now self.now }
         requires asks { (g : Rules) × AsksDayTree g graph.now room.old }
@@ -158,8 +198,8 @@ impl ShortOrder {
         write_node(graph, &self.best, root, room);
     }
 
-    /// Returns the sum of a cheapest tree of the day with an arc at the top of those whose other arcs are all kept,
-    /// at the prices of the last pass, which are these; `None` where there is none. Takes no memory.
+    /// Returns the sum of a cheapest tree of the day with an arc at the top of those whose other arcs are all
+    /// kept, at the prices of the last pass, which are these; `None` where there is none. Takes no memory.
     pub fn sum_under<P: LetterPrice>(&self, graph: &Graph, prices: &P, arc: u32) -> Option<i128>
         requires arc { arc < length graph.now.arcs }
         requires made { IsShortFor graph.now self.now }
@@ -173,8 +213,8 @@ impl ShortOrder {
         sum_below(sum)
     }
 
-    /// Leaves in the room the steps of a tree of the day with an arc at the top: of the one that the last pass
-    /// found, where it found one. Takes no memory.
+    /// Leaves in the room the steps of a tree of the day with an arc at the top: of the one that the last
+    /// pass found, where it found one. Takes no memory.
     pub fn tree_under(&self, graph: &Graph, arc: u32, room: &mut TreeRoom)
         requires made { IsShortFor graph.now self.now }
         requires asks { (g : Rules) × (a : Key) × AsksDayTreeUnder g graph.now arc a room.old }

@@ -45,8 +45,7 @@ write_under-write_slot-requires t c =
     ap (λ (q : List ArcKey). get_or q c.args.arc (record { rule = 0; suffix = 0; start = 0; len = 0; part = 0 })) c.arcs.ensures.arcs
     ∙ key-read c.args.graph.now c.args.best.now c.args.arc c.args.room.now c.requires (record { rule = 0; suffix = 0; start = 0; len = 0; part = 0 }) in
     let stepped : c.write_step.new.room ≡ record c.args.room.now { steps = c.args.room.now.steps ++ steps_of c.requires.key } =
-    c.write_step.ensures ∙ ap (λ (q : ArcKey). record c.args.room.now { steps = c.args.room.now.steps ++ steps_of q }) key_is in
-    (
+    c.write_step.ensures ∙ ap (λ (q : ArcKey). record c.args.room.now { steps = c.args.room.now.steps ++ steps_of q }) key_is in (
       subst (λ (n : ℕ). slot_left (slice_get c.args.best.now c.node_of-first_node.result) < n) c.decreases (falls-first c.args.graph.now c.args.best.now c.args.arc c.args.room.now c.requires c.children-first.result.0 c.children-first.result.1 c.children-first.ensures.first c.children-first.ensures.rest c.node_of-first_node.result c.node_of-rest_node.result first rest),
       asks-first c.args.graph.now c.args.best.now c.args.arc c.args.room.now c.requires c.children-first.result.0 c.children-first.result.1 c.children-first.ensures.first c.children-first.ensures.rest c.node_of-first_node.result c.node_of-rest_node.result first rest c.write_step.new.room stepped,
     )
@@ -59,8 +58,7 @@ write_under-write_slot-requires-2 t c =
     ap (λ (q : List ArcKey). get_or q c.args.arc (record { rule = 0; suffix = 0; start = 0; len = 0; part = 0 })) c.arcs.ensures.arcs
     ∙ key-read c.args.graph.now c.args.best.now c.args.arc c.args.room.now c.requires (record { rule = 0; suffix = 0; start = 0; len = 0; part = 0 }) in
     let stepped : c.write_step.new.room ≡ record c.args.room.now { steps = c.args.room.now.steps ++ steps_of c.requires.key } =
-    c.write_step.ensures ∙ ap (λ (q : ArcKey). record c.args.room.now { steps = c.args.room.now.steps ++ steps_of q }) key_is in
-    (
+    c.write_step.ensures ∙ ap (λ (q : ArcKey). record c.args.room.now { steps = c.args.room.now.steps ++ steps_of q }) key_is in (
       subst (λ (n : ℕ). slot_left (slice_get c.args.best.now c.node_of-rest_node.result) < n) c.decreases (falls-rest c.args.graph.now c.args.best.now c.args.arc c.args.room.now c.requires c.children-first.result.0 c.children-first.result.1 c.children-first.ensures.first c.children-first.ensures.rest c.node_of-first_node.result c.node_of-rest_node.result first rest),
       asks-rest c.args.graph.now c.args.best.now c.args.arc c.args.room.now c.requires c.children-first.result.0 c.children-first.result.1 c.children-first.ensures.first c.children-first.ensures.rest c.node_of-first_node.result c.node_of-rest_node.result first rest c.write_step.new.room stepped c.write_slot.new.room c.write_slot.ensures,
     )
