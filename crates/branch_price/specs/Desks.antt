@@ -9,6 +9,7 @@ use Rattle.candidate_rosters.specs.declared.desk.RosterDesk.{RosterDesk}
 use Rattle.candidate_rosters.specs.declared.roster.Roster.{Roster}
 use Rattle.candidate_rosters.specs.Rosters.{IsGoodRoster, IsDeskFor}
 use Rattle.candidate_rosters.specs.Offers.{IsBetter}
+use Rattle.roster_moves.specs.ShortPricings.{AreShortPricing}
 use Rattle.arc_counts.specs.node_path.Paths.{IsPath}
 use Rattle.branch_price.specs.declared.desk.SearchDesk.{SearchDesk}
 use Rattle.branch_price.specs.declared.desk.SearchBench.{SearchBench}
@@ -18,6 +19,7 @@ pub record IsDesk (d : Day) (k : SearchDesk) : Type 0 where
   pub pricing : ArePricing d k.pricing
   pub most : k.pricing.room.most ≡ 1500
   pub rosters : IsDeskFor d.instance.now k.rosters
+  pub moves : AreShortPricing d k.moves
 
 -- the trees are the day's, and so is the desk
 pub record AreTools (d : Day) (trees : List PoolTree) (k : SearchDesk) : Type 0 where

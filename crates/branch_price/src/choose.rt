@@ -74,7 +74,16 @@ pub(crate) fn plan_for<W: Watch>(
     }
     watch.tell(Work::Splits);
     let weights = solved.weights.as_slice();
-    let preferred = preferred_arc(alloc, node, weights, best, pool, &mut desk.splits, watch)?;
+    let preferred = preferred_arc(
+        alloc,
+        node,
+        weights,
+        best,
+        pool,
+        &desk.handover,
+        &mut desk.splits,
+        watch,
+    )?;
     let weighed = SolvedNode {
         day: node.searched.day,
         cuts: node.cuts,

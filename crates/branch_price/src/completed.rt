@@ -3,15 +3,17 @@ ghost use Rattle.master_rows.specs.search_day.Days.{IsDay};
 ghost use Rattle.branch_price.specs.Desks.{CanFind, HasFound};
 ghost use Rattle.branch_price.specs.Nodes.{IsOpenNode, IsSmall};
 ghost use Rattle.branch_price.specs.Rounded.{AreFewer};
+ghost use Rattle.branch_price.specs.Solutions.{CanShow};
 
 use crate::desk::SearchDesk;
 use crate::first::is_wide;
 use crate::offered::offer_trees;
 use crate::open_node::OpenNode;
 use crate::rounded::push_wholes;
+use crate::shortening::shorten;
 use crate::solved::Solved;
 use candidate_rosters::{Roster, limit};
-use dives::dive;
+use dives::{DiveStart, dive};
 use master_rows::Day;
 use node_master::{FULL, Pool, Weight};
 use parse_graph::Graph;
@@ -22,10 +24,10 @@ use std::alloc::Global;
 
 /// At every which node a roster is looked for by a dive, which takes about as long as it takes to price the
 /// root.
-const EVERY: u32 = 2;
+const EVERY: u32 = 4;
 
-/// How many passes over the graph the moves of a roster may take where it becomes no better, times the square of
-/// the number of its trees.
+/// How many passes over the graph the moves of a roster may take where it becomes no better, times the square
+/// of the number of its trees.
 const PASSES: u32 = 2;
 
 /// How many they may take at the first node in all, times that square; at later nodes there are no more.
@@ -37,8 +39,8 @@ const FURTHER: u64 = 2;
 /// There are at most so many further passes.
 const MOST_FURTHER: u64 = 4096;
 
-/// Returns how many further passes over the graph the moves may take at the first node of a wide day: as many as
-/// the trees of its pool took and again so many, within a bound.
+/// Returns how many further passes over the graph the moves may take at the first node of a wide day: as many
+/// as the trees of its pool took and again so many, within a bound.
 fn further_passes(graph: &Graph, pool: &Pool) -> u32 {
     if !is_wide(graph) {
         return 0;
@@ -54,6 +56,8 @@ pub(crate) struct Stage {
     pub processed: u32,
     /// The bound that it leaves.
     pub bound: u64,
+    /// What its prices show; 0 where it has none.
+    pub value: u64,
 }
 
 /// Says whether a roster is looked for by a dive at a node.
@@ -82,6 +86,16 @@ pub(crate) fn guide_of<'a>(
         goal: stage.bound,
         turn: stage.processed,
     }
+}
+
+/// Returns what steers the moves of a roster at a node that is priced: on a day that is not wide there are
+/// none, and rosters are completed and exchanged once.
+fn priced_guide<'a>(graph: &Graph, pool: &Pool, prices: &'a Prices, stage: &Stage) -> Guide<'a> {
+    let guide = guide_of(graph, pool, prices, stage);
+    if is_wide(graph) {
+        return guide;
+    }
+    Guide { passes: 0, ..guide }
 }
 
 /// Returns trees by weights rounded down: each as often as the whole part of its weight.
@@ -114,7 +128,7 @@ pub(crate) fn offer_begun<W: Watch>(
     requires find { CanFind day.now pool.old desk.old best.old }
     ensures { HasFound day.now pool.old pool.new desk.new best.old best.new }
 {
-    let columns = complete(alloc, day, begun, guide, &mut desk.pricing, pool, watch)?;
+    let columns = complete(alloc, day, begun, guide, &mut desk.moves, pool, watch)?;
     offer_trees(
         alloc,
         day.instance,
@@ -125,7 +139,8 @@ pub(crate) fn offer_begun<W: Watch>(
     )
 }
 
-/// Offers the roster of the trees that a dive fixes, completed and made better. Says whether it fixed any.
+/// Offers the roster of the trees that a dive fixes, completed and exchanged. Says whether the dive is made:
+/// one that is dropped is, and one that fixes none is not.
 fn offer_dived<W: Watch>(
     alloc: Global,
     node: &OpenNode,
@@ -141,16 +156,16 @@ fn offer_dived<W: Watch>(
     ensures { HasFound node.now.searched.day pool.old pool.new desk.new best.old best.new }
 {
     let day = &node.searched.day;
-    let begun = dive(
-        alloc,
-        day,
-        node.cuts,
-        desk.handover.wanted.as_slice(),
-        limit(day.instance, best),
-        &mut desk.pricing.pricer,
-        pool,
-        watch,
-    )?;
+    let start = DiveStart {
+        last: &desk.handover.last,
+        wanted: desk.handover.wanted.as_slice(),
+    };
+    let cost = limit(day.instance, best);
+    let short = &mut desk.moves.short;
+    let found = dive(alloc, day, node.cuts, &start, cost, short, pool, watch)?;
+    let Some(begun) = found else {
+        return Ok(true);
+    };
     if begun.is_empty() {
         return Ok(false);
     }
@@ -178,10 +193,42 @@ fn offer_completed<W: Watch>(
     offer_begun(alloc, day, begun.as_slice(), guide, desk, pool, best, watch)
 }
 
+/// Offers a roster at a node over the arcs that are kept: of the trees that a dive fixes, where one is due
+/// and made, or else of the solution's trees.
+fn offer_kept<W: Watch>(
+    alloc: Global,
+    node: &OpenNode,
+    solved: &Solved,
+    stage: &Stage,
+    desk: &mut SearchDesk,
+    pool: &mut Pool,
+    best: &mut Option<Roster>,
+    watch: &W,
+) -> Result<(), Memory>
+    requires node { IsOpenNode node.now }
+    requires small { IsSmall node.now.searched.day.instance.now node.now.cuts.now }
+    requires weights { All (λ w. w.column < length pool.old) solved.now.weights }
+    requires find { CanFind node.now.searched.day pool.old desk.old best.old }
+    ensures { HasFound node.now.searched.day pool.old pool.new desk.new best.old best.new }
+{
+    let day = &node.searched.day;
+    let guide = priced_guide(day.graph, pool, &solved.prices, stage);
+    let is_over = watch.is_over();
+    if !is_over
+        && dives_at(stage, pool)
+        && offer_dived(alloc, node, &guide, desk, pool, best, watch)?
+    {
+        return Ok(());
+    }
+    let weights = solved.weights.as_slice();
+    offer_completed(alloc, day, weights, &guide, desk, pool, best, watch)
+}
+
 /// Offers a roster, unless the best one already costs no more than the bound that the node leaves: at the
-/// first node and at every second one after it that of the trees that a dive fixes; at the others, and where
-/// the dive fixes none, that of the solution's trees. Where the search is over it offers none but that of the
-/// solution's trees, and that only where there is no best one.
+/// first node and at each fourth one after it that of the trees that a dive fixes, unless it is dropped; at
+/// the others, and where the dive fixes none, that of the solution's trees. Its trees are looked for over the
+/// arcs that a roster can have which costs less than the best one. Where the search is over it offers none
+/// but that of the solution's trees, and that only where there is no best one.
 ///
 /// # Errors
 ///
@@ -199,23 +246,16 @@ pub(crate) fn offer_at_node<W: Watch>(
 ) -> Result<(), Memory>
     requires node { IsOpenNode node.now }
     requires small { IsSmall node.now.searched.day.instance.now node.now.cuts.now }
+    requires prices { CanShow node.now.searched.day.instance.now solved.now.prices node.now.cuts.now }
     requires weights { All (λ w. w.column < length pool.old) solved.now.weights }
     requires find { CanFind node.now.searched.day pool.old desk.old best.old }
     ensures { HasFound node.now.searched.day pool.old pool.new desk.new best.old best.new }
 {
     let day = &node.searched.day;
-    let is_over = watch.is_over();
-    if limit(day.instance, best) <= stage.bound || is_over && best.is_some() {
+    if limit(day.instance, best) <= stage.bound || watch.is_over() && best.is_some() {
         return Ok(());
     }
     watch.tell(Work::Rosters);
-    let guide = guide_of(day.graph, pool, &solved.prices, stage);
-    if !is_over
-        && dives_at(stage, pool)
-        && offer_dived(alloc, node, &guide, desk, pool, best, watch)?
-    {
-        return Ok(());
-    }
-    let weights = solved.weights.as_slice();
-    offer_completed(alloc, day, weights, &guide, desk, pool, best, watch)
+    shorten(day, node.cuts, &solved.prices, stage.value, best, desk);
+    offer_kept(alloc, node, solved, stage, desk, pool, best, watch)
 }

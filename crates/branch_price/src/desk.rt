@@ -9,6 +9,7 @@ use certificates::MOST_MULTIPLIERS;
 use master_rows::{Day, Pricing};
 use node_master::{Handover, Weight};
 use roster_model::{List, Memory};
+use roster_moves::ShortPricing;
 use split_probes::Gains;
 use std::alloc::Global;
 
@@ -28,6 +29,8 @@ pub(crate) struct SearchDesk {
     pub rosters: RosterDesk,
     /// What the last master hands on to the next one: the trees of the last solution, and a basis.
     pub handover: Handover,
+    /// The arcs over which dives and moves look for trees.
+    pub moves: ShortPricing,
     /// What is known of splits.
     pub splits: SplitHints,
     /// Whether a first roster was looked for.
@@ -54,17 +57,20 @@ impl SearchDesk {
     {
         let gains = Gains::new(alloc, &day.instance.grammar, day.graph)?;
         let old = OldSplits::new(alloc);
+        let moves = ShortPricing::new(alloc, day)?;
         let pricing = Pricing::new(alloc, day, MOST_MULTIPLIERS)?;
         match RosterDesk::for_instance(alloc, day.instance) {
             Ok(rosters) => Ok(SearchDesk {
                 pricing,
                 rosters,
                 handover: Handover::new(alloc),
+                moves,
                 splits: SplitHints { gains, old },
                 has_first: false,
             }),
             Err(fault) => {
                 drop(pricing);
+                drop(moves);
                 Err(fault)
             }
         }

@@ -115,6 +115,7 @@ fn best_leaf<W: Watch>(
     let stage = Stage {
         processed: progress.tree.processed(),
         bound: leaf.bound.max(value),
+        value,
     };
     let Ok(()) = offer_at_node(
         alloc,
@@ -153,6 +154,7 @@ fn give_up_leaf<W: Watch>(
     let stage = Stage {
         processed: progress.tree.processed(),
         bound: leaf.bound,
+        value: 0,
     };
     let best = &mut progress.best;
     offer_late(alloc, day, stage.processed, desk, best, watch)?;

@@ -27,6 +27,7 @@ mod pinned;
 mod preferred;
 mod progress;
 mod rounded;
+mod shortening;
 mod solved;
 mod start;
 mod stop;

@@ -5,6 +5,7 @@ ghost use Rattle.branch_price.specs.Desks.{CanFind, HasFound};
 use crate::completed::{Stage, guide_of, offer_begun};
 use crate::desk::SearchDesk;
 use crate::first::missing_prices;
+use crate::shortening::keep_all;
 use candidate_rosters::{Roster, limit};
 use master_rows::Day;
 use node_master::{Cause, Pool};
@@ -96,5 +97,6 @@ pub(crate) fn offer_without_prices<W: Watch>(
     if !is_due(stage.processed) || limit(day.instance, best) <= stage.bound || watch.is_over() {
         return Ok(());
     }
+    keep_all(day, desk);
     offer_moved(alloc, day, stage, desk, pool, best, watch)
 }

@@ -4,7 +4,7 @@ use crate::desk::SplitHints;
 use crate::open_node::OpenNode;
 use crate::rounded::in_parts;
 use candidate_rosters::{Roster, limit};
-use node_master::{Pool, Weight};
+use node_master::{Handover, Pool, Weight};
 use roster_model::{List, Memory};
 use search_watch::Watch;
 use split_probes::{Share, SplitNode, best_arc};
@@ -30,8 +30,8 @@ fn shares_of(alloc: Global, weights: &[Weight]) -> Result<List<Share>, Memory> {
 
 /// Returns an arc on which a node may be split well, from the weights of the trees at its solution, where no
 /// roster that costs as much as the best one is looked for. It is the one on which an old certificate splits
-/// the node, where its trees weigh no whole number, or else one that is tried. What splits gain is counted.
-/// It is a hint.
+/// the node, where its trees weigh no whole number, or else one that is tried, by a program that begins at
+/// the last hunt's basis. What splits gain is counted. It is a hint.
 ///
 /// # Errors
 ///
@@ -42,6 +42,7 @@ pub(crate) fn preferred_arc<W: Watch>(
     weights: &[Weight],
     best: &Option<Roster>,
     pool: &Pool,
+    handover: &Handover,
     splits: &mut SplitHints,
     watch: &W,
 ) -> Result<Option<u32>, Memory>
@@ -62,6 +63,7 @@ pub(crate) fn preferred_arc<W: Watch>(
         arc_box: node.arc_box,
         pool,
         shares: shares.as_slice(),
+        last: &handover.last,
     };
     let limit = limit(day.instance, best);
     best_arc(alloc, &tried, limit, &mut splits.gains, watch)

@@ -1,4 +1,4 @@
-mod LeastTrees
+mod TopArcs
 mod PoolGrowth
 mod ArcPrices
 mod WidePrices

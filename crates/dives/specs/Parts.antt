@@ -3,8 +3,9 @@ use Rattle.std.specs.Prelude.{ℕ, ℤ, ◌≡◌, ◌≤◌, ◌<◌, ◌+◌, 
 use Rattle.roster_model.specs.declared.price_room.PriceRoom.{PriceRoom}
 use Rattle.roster_model.specs.PriceRooms.{IsRoomFor}
 use Rattle.roster_model.specs.Room.{RoomView, most_uses}
-use Rattle.cheapest_tree.specs.Pricers.{PricerView, IsMadeFor}
 use Rattle.roster_model.specs.tree_laws.DaySteps.{AreDaySteps}
+use Rattle.short_order.specs.declared.short_order.ShortOrder.{ShortOrder}
+use Rattle.short_order.specs.Shorts.{IsShortFor}
 use Rattle.tree_pool.specs.Pools.{PoolTree, IsPool, IsGrown}
 use Rattle.master_rows.specs.declared.search_day.day.Day.{Day}
 use Rattle.master_rows.specs.search_day.Days.{IsDay}
@@ -50,49 +51,49 @@ pub record IsDesk (t : NodeTask) (d : DiveDesk) : Type 0 where
   pub arcs : AreArcSums d.arcs
   pub tree : d.tree.most ≡ most_uses t.day.instance.now.grammar
 
--- a pricer for the graph, and a room for each tree of the day
-pub record CanFill (d : Day) (p : PricerView) (r : RoomView) : Type 0 where
+-- a short order for the graph, and a room for each tree of the day
+pub record CanFill (d : Day) (s : ShortOrder) (r : RoomView) : Type 0 where
   pub day : IsDay d
-  pub made : IsMadeFor d.graph.now p
+  pub made : IsShortFor d.graph.now s
   pub room : r.most ≡ most_uses d.instance.now.grammar
 
 -- the room holds a tree of the day
 abbrev pub HoldsTree : NodeTask → DiveDesk → Type 0
 HoldsTree t d = AreDaySteps t.day.instance.now.grammar d.tree.steps
 
--- a pricer for the graph, and a desk of the node
-pub record CanAsk (t : NodeTask) (p : PricerView) (d : DiveDesk) : Type 0 where
+-- a short order for the graph, and a desk of the node
+pub record CanAsk (t : NodeTask) (s : ShortOrder) (d : DiveDesk) : Type 0 where
   pub task : IsTask t
-  pub made : IsMadeFor t.day.graph.now p
+  pub made : IsShortFor t.day.graph.now s
   pub desk : IsDesk t d
 
 -- and a pool of the day's trees
-pub record AreTools (t : NodeTask) (p : PricerView) (trees : List PoolTree) (d : DiveDesk) : Type 0 where
+pub record AreTools (t : NodeTask) (s : ShortOrder) (trees : List PoolTree) (d : DiveDesk) : Type 0 where
   pub task : IsTask t
-  pub made : IsMadeFor t.day.graph.now p
+  pub made : IsShortFor t.day.graph.now s
   pub pool : IsPool t.day.instance.now.grammar trees
   pub desk : IsDesk t d
 
 -- they still are, and the old trees of the pool kept their numbers
-pub record StayTools (t : NodeTask) (p : PricerView) (old new : List PoolTree) (d : DiveDesk) : Type 0 where
-  pub are : AreTools t p new d
+pub record StayTools (t : NodeTask) (s : ShortOrder) (old new : List PoolTree) (d : DiveDesk) : Type 0 where
+  pub are : AreTools t s new d
   pub grown : IsGrown old new
 
--- a pricer for the graph, and a pool of the day's trees
-pub record MayDive (t : NodeTask) (p : PricerView) (trees : List PoolTree) : Type 0 where
+-- a short order for the graph, and a pool of the day's trees
+pub record MayDive (t : NodeTask) (s : ShortOrder) (trees : List PoolTree) : Type 0 where
   pub task : IsTask t
-  pub made : IsMadeFor t.day.graph.now p
+  pub made : IsShortFor t.day.graph.now s
   pub pool : IsPool t.day.instance.now.grammar trees
 
--- the pricer still is, and the pool has grown
-pub record HasDived (t : NodeTask) (p : PricerView) (old new : List PoolTree) : Type 0 where
-  pub made : IsMadeFor t.day.graph.now p
+-- the short order still is, and the pool has grown
+pub record HasDived (t : NodeTask) (s : ShortOrder) (old new : List PoolTree) : Type 0 where
+  pub made : IsShortFor t.day.graph.now s
   pub pool : Grows t.day old new
 
 -- a dive that is under way may go on
-pub record IsDiving (t : NodeTask) (p : PricerView) (trees : List PoolTree) (d : Descent) : Type 0 where
+pub record IsDiving (t : NodeTask) (s : ShortOrder) (trees : List PoolTree) (d : Descent) : Type 0 where
   pub program : IsProgram (length trees) d.program
-  pub tools : AreTools t p trees d.desk
+  pub tools : AreTools t s trees d.desk
 
 -- of the program nothing changed but its scout
 abbrev pub IsRun : Program → Program → Type 0

@@ -7,10 +7,11 @@ ghost use Rattle.dives.specs.Parts.{HasRooms, HoldsTree, IsQuote, CanAsk, IsProg
 use crate::descent::Descent;
 use crate::desk::{DiveDesk, Quote};
 use crate::least::{find_least, pooled};
-use cheapest_tree::Pricer;
+use crate::others::list_others;
 use master_rows::{NodeRows, NodeTask};
 use roster_model::{Memory, PriceRoom};
 use scout::Q24;
+use short_order::ShortOrder;
 use std::alloc::Global;
 use tree_pool::Pool;
 
@@ -104,42 +105,43 @@ fn head_price(rows: &NodeRows, quote: &Quote) -> i128 {
 fn find_cheapest(
     task: &NodeTask,
     prices: &[Q24],
-    pricer: &mut Pricer,
+    order: &mut ShortOrder,
     desk: &mut DiveDesk,
 ) -> Option<i128>
-    requires { CanAsk task.now pricer.old desk.old }
+    requires { CanAsk task.now order.old desk.old }
     ensures found { IfSome result (λ _. HoldsTree task.now desk.new) }
-    ensures tools { CanAsk task.now pricer.new desk.new }
+    ensures tools { CanAsk task.now order.new desk.new }
 {
     gather(task, prices, &mut desk.quote);
     set_room(task, &desk.quote.numbers, &mut desk.quote.room);
-    let Some(least) = find_least(&task.day, &desk.quote.room, pricer, &mut desk.tree) else {
+    let Some(least) = find_least(&task.day, &desk.quote.room, order, &mut desk.tree) else {
         return None;
     };
     Some(least.saturating_sub(head_price(task.rows, &desk.quote)))
 }
 
-/// Lists a tree that is cheap at the scout's prices, and says whether there is one. Notes what the prices show.
+/// Lists trees that are cheap at the scout's prices, a cheapest one and further ones under other arcs of the
+/// root, and says whether there is one. Notes what the prices show.
 ///
 /// # Errors
 ///
-/// `Memory` where memory runs out; nothing is said of the program then. The pricer and the desk are still
+/// `Memory` where memory runs out; nothing is said of the program then. The order and the desk are still
 /// those of the graph and of the node, and the pool has its trees under their numbers, and perhaps further
 /// trees of the day.
 pub(crate) fn ask(
     alloc: Global,
     task: &NodeTask,
-    pricer: &mut Pricer,
+    order: &mut ShortOrder,
     pool: &mut Pool,
     descent: &mut Descent,
 ) -> Result<bool, Memory>
-    requires { IsDiving task.now pricer.old pool.old descent.old }
+    requires { IsDiving task.now order.old pool.old descent.old }
     ensures program { OnOk result (IsProgram (length pool.new) descent.new.program) }
-    ensures tools { StayTools task.now pricer.new pool.old pool.new descent.new.desk }
+    ensures tools { StayTools task.now order.new pool.old pool.new descent.new.desk }
 {
     descent.program.touch(task.day.graph.arcs().len());
     let prices = descent.program.scout.prices();
-    let Some(reduced) = find_cheapest(task, prices, pricer, &mut descent.desk) else {
+    let Some(reduced) = find_cheapest(task, prices, order, &mut descent.desk) else {
         return Ok(false);
     };
     descent
@@ -150,5 +152,7 @@ pub(crate) fn ask(
     }
     let column = pooled(&task.day, &descent.desk.tree, pool)?;
     descent.program.list(alloc, task, pool, column)?;
+    let limit = head_price(task.rows, &descent.desk.quote).saturating_add(CHEAPER);
+    list_others(alloc, task, limit, column, order, pool, descent)?;
     Ok(true)
 }

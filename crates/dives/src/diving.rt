@@ -1,8 +1,8 @@
-ghost use Rattle.std.specs.Prelude.{◌<◌, ◌≤◌, All, IfOk, OnOk, length};
+ghost use Rattle.std.specs.Prelude.{ℕ, ◌<◌, ◌≤◌, All, IfOk, IfSome, OnOk, length};
 ghost use Rattle.roster_model.specs.Folds.{Each};
 ghost use Rattle.roster_model.specs.Limits.{IsSmallCut};
 ghost use Rattle.bound_laws.specs.master_laws.Rows.{rows_of};
-ghost use Rattle.cheapest_tree.specs.Pricers.{IsMadeFor};
+ghost use Rattle.short_order.specs.Shorts.{IsShortFor};
 ghost use Rattle.tree_pool.specs.Pools.{IsPool};
 ghost use Rattle.master_rows.specs.search_day.Days.{IsDay};
 ghost use Rattle.master_rows.specs.search_day.Rooms.{Grows};
@@ -14,13 +14,14 @@ use crate::descent::Descent;
 use crate::desk::DiveDesk;
 use crate::fixing::fix_some;
 use crate::program::Program;
+use crate::start::DiveStart;
 use crate::sums::ONE;
-use cheapest_tree::Pricer;
 use master_rows::{Day, NodeRows, NodeTask};
 use parse_graph::Graph;
 use roster_model::{Cut, List, Memory};
-use scout::{Limits, Scouted};
+use scout::{LastBasis, Limits, Scouted};
 use search_watch::Watch;
+use short_order::ShortOrder;
 use std::alloc::Global;
 use std::mem;
 use tree_pool::Pool;
@@ -28,13 +29,12 @@ use tree_pool::Pool;
 /// How many steps a dive takes.
 const STEPS: u32 = 200;
 
-/// How often a tree is asked for in a step. With eight times rosters were dearer on each of four days tried, and
-/// with sixty they were the same as with thirty.
-const ROUNDS: u32 = 30;
+/// How often trees are asked for in a step. With five times nine days took 56 seconds in place of 41.
+const ROUNDS: u32 = 10;
 
-/// A dive takes no further step once it has touched so many times an entry for each pair of rows and an arc of the
-/// graph: with a full inverse that is as many pivots, and as many passes. It is there so that no dive takes a
-/// search's time. Other numbers were not tried.
+/// A dive takes no further step once it has touched so many times an entry for each pair of rows and an arc
+/// of the graph: with a full inverse that is as many pivots, and as many passes. It is there so that no dive
+/// takes a search's time. Other numbers were not tried.
 const WORK: u64 = 4_000;
 
 /// The steps of a run before its first prices, and the primal steps between two of them for each row.
@@ -63,29 +63,25 @@ fn run<W: Watch>(program: &mut Program, watch: &W) -> bool
 }
 
 /// Runs the program with further trees that are cheap, until its value is near to what prices show of it, or
-/// they show that hardly a roster costs less than this. Where that was shown before, no tree is asked for. Says
-/// whether its values can be used.
+/// they show that hardly a roster costs less than this. Says whether its values can be used.
 fn solve<W: Watch>(
     alloc: Global,
     task: &NodeTask,
     cost: u64,
-    pricer: &mut Pricer,
+    order: &mut ShortOrder,
     pool: &mut Pool,
     descent: &mut Descent,
     watch: &W,
 ) -> Result<bool, Memory>
-    requires { IsDiving task.now pricer.old pool.old descent.old }
+    requires { IsDiving task.now order.old pool.old descent.old }
     ensures program { OnOk result (IsProgram (length pool.new) descent.new.program) }
-    ensures tools { StayTools task.now pricer.new pool.old pool.new descent.new.desk }
+    ensures tools { StayTools task.now order.new pool.old pool.new descent.new.desk }
 {
-    if descent.program.is_over {
-        return Ok(run(&mut descent.program, watch));
-    }
     for _ in 0..ROUNDS {
         if !run(&mut descent.program, watch) {
             return Ok(false);
         }
-        let is_cheap = ask(alloc, task, pricer, pool, descent)?;
+        let is_cheap = ask(alloc, task, order, pool, descent)?;
         if !is_cheap || descent.program.is_settled(cost) {
             return Ok(true);
         }
@@ -94,32 +90,35 @@ fn solve<W: Watch>(
 }
 
 /// Takes a step: solves the program, and fixes trees by its weights. Says whether any was fixed, and none is
-/// where the watch is over. From where the program's value comes near to the cost below which a roster is
-/// looked for, no tree is asked for.
+/// where the watch is over, or where the program's value is above the cost below which a roster is looked
+/// for.
 fn step<W: Watch>(
     alloc: Global,
     task: &NodeTask,
     cost: u64,
-    pricer: &mut Pricer,
+    order: &mut ShortOrder,
     pool: &mut Pool,
     descent: &mut Descent,
     watch: &W,
 ) -> Result<bool, Memory>
-    requires { IsDiving task.now pricer.old pool.old descent.old }
+    requires { IsDiving task.now order.old pool.old descent.old }
     ensures program { OnOk result (IsProgram (length pool.new) descent.new.program) }
-    ensures tools { StayTools task.now pricer.new pool.old pool.new descent.new.desk }
+    ensures tools { StayTools task.now order.new pool.old pool.new descent.new.desk }
 {
     let graph = task.day.graph;
     if descent.program.work() > budget_of(task.rows, graph) {
         return Ok(false);
     }
-    if !solve(alloc, task, cost, pricer, pool, descent, watch)? {
+    if !solve(alloc, task, cost, order, pool, descent, watch)? {
         return Ok(false);
     }
-    descent.program.is_over = descent.program.is_over || descent.program.is_dear(cost);
+    descent.program.is_over = descent.program.is_dear(cost);
+    if descent.program.is_over {
+        return Ok(false);
+    }
     let sums = &mut descent.desk.arcs.sums;
     let left = descent.program.sum_up(graph, pool, sums) / ONE;
-    fix_some(alloc, task, left, pricer, pool, descent)
+    fix_some(alloc, task, left, order, pool, descent)
 }
 
 /// Takes steps while trees are fixed.
@@ -127,53 +126,97 @@ fn step_down<W: Watch>(
     alloc: Global,
     task: &NodeTask,
     cost: u64,
-    pricer: &mut Pricer,
+    order: &mut ShortOrder,
     pool: &mut Pool,
     descent: &mut Descent,
     watch: &W,
 ) -> Result<(), Memory>
-    requires { IsDiving task.now pricer.old pool.old descent.old }
+    requires { IsDiving task.now order.old pool.old descent.old }
     ensures program { OnOk result (IsProgram (length pool.new) descent.new.program) }
-    ensures tools { StayTools task.now pricer.new pool.old pool.new descent.new.desk }
+    ensures tools { StayTools task.now order.new pool.old pool.new descent.new.desk }
 {
     for _ in 0..STEPS {
-        if !step(alloc, task, cost, pricer, pool, descent, watch)? {
+        if !step(alloc, task, cost, order, pool, descent, watch)? {
             return Ok(());
         }
     }
     Ok(())
 }
 
-/// Lists these trees of the pool and its last ones, twice as many as there are rows, and starts the scout.
-fn begin(
+/// Returns how many of the pool's last trees are listed: twice as many as there are rows.
+fn last_of(task: &NodeTask) -> usize {
+    task.rows.right().len().saturating_mul(2)
+}
+
+/// Lists the trees of the last hunt's basis and the pool's last ones, and starts the scout from that basis.
+/// Says whether it has started.
+fn begin_at(
     alloc: Global,
     task: &NodeTask,
     pool: &Pool,
-    begun: &[usize],
+    last: &LastBasis,
+    program: &mut Program,
+) -> Result<bool, Memory>
+    requires { IsProgram (length pool.now) program.old }
+    ensures { OnOk result (IsProgram (length pool.now) program.new) }
+{
+    let keys = last.keys(alloc)?;
+    if keys.is_empty() {
+        return Ok(false);
+    }
+    let trees = last.trees.as_slice();
+    program.list_all(alloc, task, pool, trees)?;
+    program.list_last(alloc, task, pool, last_of(task), trees)?;
+    Ok(program.scout.start(keys.as_slice()).is_ok())
+}
+
+/// Lists trees that are wanted and the pool's last ones, and starts the scout where each row has more than it
+/// needs.
+fn begin_beyond(
+    alloc: Global,
+    task: &NodeTask,
+    pool: &Pool,
+    wanted: &[usize],
     program: &mut Program,
 ) -> Result<(), Memory>
     requires { IsProgram (length pool.now) program.old }
     ensures { OnOk result (IsProgram (length pool.now) program.new) }
 {
-    program.list_all(alloc, task, pool, begun)?;
-    let last = task.rows.right().len().saturating_mul(2);
-    program.list_from(alloc, task, pool, pool.len().saturating_sub(last))?;
+    program.list_all(alloc, task, pool, wanted)?;
+    program.list_last(alloc, task, pool, last_of(task), &[])?;
     let _started = program.scout.start_beyond();
     Ok(())
 }
 
-/// Returns a program with these trees of the pool and with its last ones, twice as many as there are rows.
+/// Lists trees of the pool, and starts the scout.
+fn begin(
+    alloc: Global,
+    task: &NodeTask,
+    pool: &Pool,
+    start: &DiveStart,
+    program: &mut Program,
+) -> Result<(), Memory>
+    requires { IsProgram (length pool.now) program.old }
+    ensures { OnOk result (IsProgram (length pool.now) program.new) }
+{
+    if begin_at(alloc, task, pool, start.last, program)? {
+        return Ok(());
+    }
+    begin_beyond(alloc, task, pool, start.wanted, program)
+}
+
+/// Returns a program that has begun, with trees of the pool.
 fn begun_with(
     alloc: Global,
     task: &NodeTask,
     pool: &Pool,
-    begun: &[usize],
+    start: &DiveStart,
 ) -> Result<Program, Memory>
     requires { IsTask task.now }
     ensures { IfOk result (IsProgram (length pool.now)) }
 {
     let mut program = Program::new(alloc, task)?;
-    match begin(alloc, task, pool, begun, &mut program) {
+    match begin(alloc, task, pool, start, &mut program) {
         Ok(()) => Ok(program),
         Err(fault) => {
             drop(program);
@@ -182,17 +225,17 @@ fn begun_with(
     }
 }
 
-/// Returns a dive that begins with these trees of the pool and with its last ones.
+/// Returns a dive that has begun, with trees of the pool.
 fn descent_of(
     alloc: Global,
     task: &NodeTask,
     pool: &Pool,
-    begun: &[usize],
+    start: &DiveStart,
 ) -> Result<Descent, Memory>
     requires { IsTask task.now }
     ensures { IfOk result (HasBegun task.now (length pool.now)) }
 {
-    let program = begun_with(alloc, task, pool, begun)?;
+    let program = begun_with(alloc, task, pool, start)?;
     match DiveDesk::new(alloc, task) {
         Ok(desk) => Ok(Descent { program, desk }),
         Err(fault) => {
@@ -202,38 +245,47 @@ fn descent_of(
     }
 }
 
-/// Dives from a node, of which the master's rows are given, and returns the trees that it fixed.
+/// Returns the trees that a dive fixed; `None` where it was dropped.
+fn kept(is_dropped: bool, fixed: List<usize>) -> Option<List<usize>>
+    ensures { (n : ℕ) → AreFewer n fixed → IfSome result (AreFewer n) }
+{
+    if is_dropped { None } else { Some(fixed) }
+}
+
+/// Dives from a node, of which the master's rows are given, and returns the trees that it fixed; `None` where
+/// it is dropped.
 fn dive_over<W: Watch>(
     alloc: Global,
     task: &NodeTask,
-    begun: &[usize],
+    start: &DiveStart,
     cost: u64,
-    pricer: &mut Pricer,
+    order: &mut ShortOrder,
     pool: &mut Pool,
     watch: &W,
-) -> Result<List<usize>, Memory>
-    requires { MayDive task.now pricer.old pool.old }
-    ensures within { IfOk result (AreFewer (length pool.new)) }
-    ensures lent { HasDived task.now pricer.new pool.old pool.new }
+) -> Result<Option<List<usize>>, Memory>
+    requires { MayDive task.now order.old pool.old }
+    ensures within { IfOk result (λ some. IfSome some (AreFewer (length pool.new))) }
+    ensures lent { HasDived task.now order.new pool.old pool.new }
 {
-    let mut descent = descent_of(alloc, task, pool, begun)?;
-    let end = step_down(alloc, task, cost, pricer, pool, &mut descent, watch);
+    let mut descent = descent_of(alloc, task, pool, start)?;
+    let end = step_down(alloc, task, cost, order, pool, &mut descent, watch);
+    let is_dropped = descent.program.is_over;
     let fixed = mem::replace(&mut descent.program.fixed, List::new(alloc));
     drop(descent);
     match end {
-        Ok(()) => Ok(fixed),
+        Ok(()) => Ok(kept(is_dropped, fixed)),
         Err(fault) => Err(fault),
     }
 }
 
 /// Dives from the node at a path of cuts, base cuts first, whose master has at most 1,500 rows, and returns
-/// the trees of the pool that it fixed: the begin of a roster, or all of it.
+/// the trees of the pool that it fixed: the begin of a roster, or all of it. It is `None` where the dive is
+/// dropped.
 ///
 /// It solves the node's program at a scout, fixes a few trees that its weights come near to, takes them off
 /// the program, and goes on so until no tree has weight. Once its value shows that hardly a roster with the
-/// fixed trees costs less than `cost`, it asks for no further tree. Trees of the pool that are `begun` are
-/// listed in the program, beside the last ones of the pool: any list of numbers is lawful. Where the watch is
-/// over no further tree is fixed.
+/// fixed trees costs less than `cost`, it is dropped. It begins from `start`, whatever that holds, beside the
+/// last trees of the pool. Where the watch is over no further tree is fixed.
 ///
 /// # Errors
 ///
@@ -242,19 +294,19 @@ pub fn dive<W: Watch>(
     alloc: Global,
     day: &Day,
     cuts: &[Cut],
-    begun: &[usize],
+    start: &DiveStart,
     cost: u64,
-    pricer: &mut Pricer,
+    order: &mut ShortOrder,
     pool: &mut Pool,
     watch: &W,
-) -> Result<List<usize>, Memory>
+) -> Result<Option<List<usize>>, Memory>
     requires day { IsDay day.now }
     requires cuts { Each IsSmallCut cuts.now }
     requires small { length (rows_of day.now.instance.now cuts.now) ≤ 1500 }
-    requires pricer { IsMadeFor day.now.graph.now pricer.old }
+    requires order { IsShortFor day.now.graph.now order.old }
     requires pool { IsPool day.now.instance.now.grammar pool.old }
-    ensures within { IfOk result (λ found. All (λ c. c < length pool.new) found) }
-    ensures pricer { IsMadeFor day.now.graph.now pricer.new }
+    ensures within { IfOk result (λ some. IfSome some (λ found. All (λ c. c < length pool.new) found)) }
+    ensures order { IsShortFor day.now.graph.now order.new }
     ensures pool { Grows day.now pool.old pool.new }
 {
     let rows = NodeRows::new(alloc, day.instance, cuts)?;
@@ -263,7 +315,7 @@ pub fn dive<W: Watch>(
         cuts,
         rows: &rows,
     };
-    let found = dive_over(alloc, &task, begun, cost, pricer, pool, watch);
+    let found = dive_over(alloc, &task, start, cost, order, pool, watch);
     drop(rows);
     found
 }

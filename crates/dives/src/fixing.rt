@@ -4,9 +4,9 @@ ghost use Rattle.dives.specs.Parts.{IsProgram, IsDiving, StayTools};
 use crate::descent::Descent;
 use crate::sums::{LEAST, ONE, add};
 use crate::widest::widest;
-use cheapest_tree::Pricer;
 use master_rows::NodeTask;
 use roster_model::Memory;
+use short_order::ShortOrder;
 use std::alloc::Global;
 use tree_pool::Pool;
 
@@ -56,17 +56,17 @@ fn fix_one(
     task: &NodeTask,
     taken: Taken,
     left: i64,
-    pricer: &mut Pricer,
+    order: &mut ShortOrder,
     pool: &mut Pool,
     descent: &mut Descent,
 ) -> Result<Option<Taken>, Memory>
-    requires { IsDiving task.now pricer.old pool.old descent.old }
+    requires { IsDiving task.now order.old pool.old descent.old }
     ensures program { OnOk result (IsProgram (length pool.new) descent.new.program) }
-    ensures tools { StayTools task.now pricer.new pool.old pool.new descent.new.desk }
+    ensures tools { StayTools task.now order.new pool.old pool.new descent.new.desk }
 {
     let graph = task.day.graph;
     descent.program.touch(graph.arcs().len());
-    let Some(wide) = widest(task, pricer, pool, &mut descent.desk)? else {
+    let Some(wide) = widest(task, order, pool, &mut descent.desk)? else {
         return Ok(None);
     };
     if !taken.takes(wide.width, left) {
@@ -82,24 +82,24 @@ fn fix_one(
 ///
 /// # Errors
 ///
-/// `Memory` where memory runs out; nothing is said of the program then. The pricer and the desk are still
+/// `Memory` where memory runs out; nothing is said of the program then. The order and the desk are still
 /// those of the graph and of the node, and the pool has its trees under their numbers, and perhaps further
 /// trees of the day.
 pub(crate) fn fix_some(
     alloc: Global,
     task: &NodeTask,
     left: i64,
-    pricer: &mut Pricer,
+    order: &mut ShortOrder,
     pool: &mut Pool,
     descent: &mut Descent,
 ) -> Result<bool, Memory>
-    requires { IsDiving task.now pricer.old pool.old descent.old }
+    requires { IsDiving task.now order.old pool.old descent.old }
     ensures program { OnOk result (IsProgram (length pool.new) descent.new.program) }
-    ensures tools { StayTools task.now pricer.new pool.old pool.new descent.new.desk }
+    ensures tools { StayTools task.now order.new pool.old pool.new descent.new.desk }
 {
     let mut taken = Taken { wide: 0, all: 0 };
     for _ in 0..MOST_FIXED.min(task.day.instance.heads_max) {
-        let Some(more) = fix_one(alloc, task, taken, left, pricer, pool, descent)? else {
+        let Some(more) = fix_one(alloc, task, taken, left, order, pool, descent)? else {
             return Ok(taken.all > 0);
         };
         taken = more;

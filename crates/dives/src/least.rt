@@ -1,32 +1,33 @@
 ghost use Rattle.std.specs.Prelude.{◌≡◌, ◌<◌, IfOk, IfSome, length};
-ghost use Rattle.cheapest_tree.specs.Pricers.{IsMadeFor};
 ghost use Rattle.roster_model.specs.tree_laws.DaySteps.{AreDaySteps};
+ghost use Rattle.short_order.specs.Shorts.{IsShortFor};
 ghost use Rattle.tree_pool.specs.Pools.{IsPool};
 ghost use Rattle.master_rows.specs.search_day.Days.{IsDay};
 ghost use Rattle.master_rows.specs.search_day.Rooms.{Grows};
 ghost use Rattle.dives.specs.Parts.{CanFill};
 
-use cheapest_tree::Pricer;
 use master_rows::Day;
 use roster_model::{LetterPrice, Memory, TreeRoom};
+use short_order::ShortOrder;
 use tree_pool::Pool;
 
-/// Leaves a tree of the day of least sum in the room, and returns its sum; `None` where no tree has a sum.
+/// Leaves a cheap tree of the day in the room, and returns about its sum; `None` where none of the short
+/// order is found.
 pub(crate) fn find_least<P: LetterPrice>(
     day: &Day,
     prices: &P,
-    pricer: &mut Pricer,
+    order: &mut ShortOrder,
     room: &mut TreeRoom,
 ) -> Option<i128>
-    requires { CanFill day.now pricer.old room.old }
+    requires { CanFill day.now order.old room.old }
     ensures found { IfSome result (λ _. AreDaySteps day.now.instance.now.grammar room.new.steps) }
-    ensures pricer { IsMadeFor day.now.graph.now pricer.new }
+    ensures order { IsShortFor day.now.graph.now order.new }
     ensures kept { room.new.most ≡ room.old.most }
 {
-    let Some(least) = pricer.cheapest(day.graph, prices) else {
+    let Some(least) = order.cheapest(day.graph, prices) else {
         return None;
     };
-    pricer.tree(day.graph, prices, room);
+    order.tree(day.graph, room);
     Some(least)
 }
 

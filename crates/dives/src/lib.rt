@@ -7,11 +7,14 @@ mod desk;
 mod diving;
 mod fixing;
 mod least;
+mod others;
 mod program;
 mod rows;
+mod start;
 mod sums;
 mod widest;
 mod widths;
 
 pub use diving::dive;
 pub use rows::{list_places, scout_of};
+pub use start::DiveStart;

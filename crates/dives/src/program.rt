@@ -14,8 +14,9 @@ use tree_pool::Pool;
 /// How far a value may be from the right one, 2^-8 in units of 2^-32.
 const NEAR: i128 = 16_777_216;
 
-/// A value is near to what prices show of it where it is above that by at most a part of itself, one in so many.
-const PART: i128 = 4_096;
+/// A value is near to what prices show of it where it is above that by at most a part of itself, one in so
+/// many.
+const PART: i128 = 1_024;
 
 /// How many units of 2^-32 are in one of prices, 2^-24.
 const PRICE: i128 = 256;
@@ -39,7 +40,7 @@ pub(crate) struct Program {
     pub shown: Option<i128>,
     /// How many arcs all passes over the graph have touched.
     pub touched: u64,
-    /// Whether its value has passed the cost below which a roster is looked for: no further tree is asked for.
+    /// Whether its value has passed the cost below which a roster is looked for: the dive is dropped.
     pub is_over: bool,
 }
 
@@ -48,8 +49,8 @@ fn copy_of(alloc: Global, numbers: &[i64]) -> Result<Vec<i64>, Memory> {
     Ok(Vec::from_slice(alloc, numbers)?)
 }
 
-/// Returns what prices show of the least cost of a program with these right sides, where at most so many trees
-/// are taken and the least reduced cost of one is this; all in units of 2^-24.
+/// Returns what prices show of the least cost of a program with these right sides, where at most so many
+/// trees are taken and the least reduced cost of one is this; all in units of 2^-24.
 fn bound_at(sides: &[i64], prices: &[i128], heads: i64, reduced: i128) -> i128 {
     let mut bound = reduced.min(0).saturating_mul(i128::from(heads));
     for (side, price) in sides.iter().zip(prices) {
@@ -136,23 +137,26 @@ impl Program {
         Ok(())
     }
 
-    /// Lists the trees of the pool from a number on.
+    /// Lists the last trees of the pool, so many of them, but for those that are listed before.
     ///
     /// # Errors
     ///
     /// `Memory` where memory runs out; nothing is said of the program then.
-    pub fn list_from(
+    pub fn list_last(
         &mut self,
         alloc: Global,
         task: &NodeTask,
         pool: &Pool,
-        first: usize,
+        count: usize,
+        before: &[usize],
     ) -> Result<(), Memory>
         requires program { IsProgram (length pool.now) self.old }
         ensures { OnOk result (IsProgram (length pool.now) self.new) }
     {
-        for column in first..pool.len() {
-            self.list(alloc, task, pool, column)?;
+        for column in pool.len().saturating_sub(count)..pool.len() {
+            if !before.contains(&column) {
+                self.list(alloc, task, pool, column)?;
+            }
         }
         Ok(())
     }

@@ -2,12 +2,11 @@ ghost use Rattle.master_rows.specs.NodeRows.{AreRows};
 ghost use Rattle.split_probes.specs.Nodes.{IsSplitNode};
 
 use crate::node::SplitNode;
-use crate::shares::Share;
 use dives::{list_places, scout_of};
 use master_rows::{NodeRows, NodeTask};
 use parse_graph::Graph;
 use roster_model::{List, Memory};
-use scout::{LastRow, Limits, Scout, Scouted};
+use scout::{Key, LastRow, Limits, Scout, Scouted};
 use search_watch::Watch;
 use std::alloc::Global;
 use tree_pool::Pool;
@@ -30,14 +29,13 @@ const ONE: i128 = 4_294_967_296;
 /// A value is above another one where it is by more than 1/16.
 const MARGIN: i128 = 268_435_456;
 
-/// How many entries tries may touch.
-#[derive(Clone, Copy, Drop)]
-pub(crate) struct Budget {
-    /// For each entry that solving the program touched.
-    pub times: u64,
-    /// Beside that.
-    pub more: u64,
-}
+/// Twice the most dual steps that tries of arcs take: three for each half of 32 arcs, and twenty for each
+/// half of four of them. Tries of letters take fewer.
+const STEPS: u64 = 704;
+
+/// So many rows a node of a day of 48 periods has at most where it has 62 cuts: eight codes in each period,
+/// and two of the heads.
+const ROWS: u64 = 448;
 
 /// A node's program at a scout, and room to try cuts.
 #[derive(Drop)]
@@ -54,6 +52,8 @@ pub(crate) struct ProbeBench {
     value: i128,
     /// The most that a cut is told to add to it.
     most: i128,
+    /// How many entries tries may touch.
+    budget: u64,
 }
 
 /// Lists a tree of the pool, if it is one.
@@ -73,21 +73,36 @@ fn list_tree(
     list_places(scout, i64::from(pool.cost(column)), places.as_slice())
 }
 
-/// Lists the trees with weight, and the pool's last ones.
+/// Returns the trees with which a program begins: those of the last hunt's basis, and where that is empty
+/// those with weight.
+fn first_trees(alloc: Global, node: &SplitNode) -> Result<List<usize>, Memory> {
+    let mut trees = List::new(alloc);
+    trees.extend_from_slice(node.last.trees.as_slice())?;
+    if trees.is_empty() {
+        for share in node.shares {
+            trees.push(share.column)?;
+        }
+    }
+    Ok(trees)
+}
+
+/// Lists the first trees of a program, and the pool's last ones that are not among them.
 fn list_trees(
     alloc: Global,
     task: &NodeTask,
     pool: &Pool,
-    shares: &[Share],
+    first: &[usize],
     scout: &mut Scout,
     listed: &mut List<usize>,
 ) -> Result<(), Memory> {
-    for share in shares {
-        list_tree(alloc, task, pool, share.column, scout, listed)?;
+    for column in first {
+        list_tree(alloc, task, pool, *column, scout, listed)?;
     }
     let last = task.rows.right().len().saturating_mul(LAST);
     for column in pool.len().saturating_sub(last)..pool.len() {
-        list_tree(alloc, task, pool, column, scout, listed)?;
+        if !first.contains(&column) {
+            list_tree(alloc, task, pool, column, scout, listed)?;
+        }
     }
     Ok(())
 }
@@ -118,11 +133,26 @@ fn list_best(
     Ok(())
 }
 
-/// Solves a program, and says whether its value is one.
-fn solve<W: Watch>(scout: &mut Scout, watch: &W) -> bool {
-    scout.start_beyond().is_ok()
-        && scout.run(SOLVE, watch) == Scouted::Optimal
-        && scout.settle(SOLVE, watch) == Scouted::Optimal
+/// Solves a program that has started, and says whether its value is one.
+fn run_on<W: Watch>(scout: &mut Scout, watch: &W) -> bool {
+    scout.run(SOLVE, watch) == Scouted::Optimal && scout.settle(SOLVE, watch) == Scouted::Optimal
+}
+
+/// Solves a program from a basis, and where it is empty or leads to nothing without one. Says whether its
+/// value is one.
+fn solve<W: Watch>(scout: &mut Scout, keys: &[Key], watch: &W) -> bool {
+    if !keys.is_empty() && scout.start(keys).is_ok() && run_on(scout, watch) {
+        return true;
+    }
+    scout.start_beyond().is_ok() && run_on(scout, watch)
+}
+
+/// Returns how many entries the tries on a node of so many rows may touch: 704 times the rows times the rows,
+/// of which the second factor is 448 at most. A step touches at most the square of the rows, so that no node
+/// with up to 448 rows reaches that.
+fn budget_of(rows: usize) -> u64 {
+    let rows = rows as u64;
+    rows.saturating_mul(rows.min(ROWS)).saturating_mul(STEPS)
 }
 
 /// Returns so many flags that are not set.
@@ -143,6 +173,7 @@ fn without_trees(alloc: Global, task: &NodeTask) -> Result<ProbeBench, Memory>
         flags: Vec::new(alloc),
         value: 0,
         most: 0,
+        budget: budget_of(task.rows.right().len()),
     })
 }
 
@@ -166,22 +197,21 @@ impl ProbeBench {
             cuts: node.cuts,
             rows: &rows,
         };
-        ProbeBench::over(alloc, &task, node.pool, node.shares, limit, watch)
+        ProbeBench::over(alloc, &task, node, limit, watch)
     }
 
     /// Returns the program over a node's rows, solved; `None` where it was not.
     fn over<W: Watch>(
         alloc: Global,
         task: &NodeTask,
-        pool: &Pool,
-        shares: &[Share],
+        node: &SplitNode,
         limit: i128,
         watch: &W,
     ) -> Result<Option<ProbeBench>, Memory>
         requires { AreRows task.now.day.instance.now task.now.cuts.now task.now.rows.now }
     {
         let mut bench = without_trees(alloc, task)?;
-        if bench.fill(alloc, task, pool, shares, limit, watch)? {
+        if bench.fill(alloc, task, node, limit, watch)? {
             return Ok(Some(bench));
         }
         Ok(None)
@@ -192,17 +222,18 @@ impl ProbeBench {
         &mut self,
         alloc: Global,
         task: &NodeTask,
-        pool: &Pool,
-        shares: &[Share],
+        node: &SplitNode,
         limit: i128,
         watch: &W,
     ) -> Result<bool, Memory> {
         let (base, listed) = (&mut self.base, &mut self.listed);
-        list_trees(alloc, task, pool, shares, base, listed)?;
-        if !solve(base, watch) {
+        let first = first_trees(alloc, node)?;
+        list_trees(alloc, task, node.pool, first.as_slice(), base, listed)?;
+        let keys = node.last.keys(alloc)?;
+        if !solve(base, keys.as_slice(), watch) {
             return Ok(false);
         }
-        list_best(alloc, task, pool, base, listed)?;
+        list_best(alloc, task, node.pool, base, listed)?;
         if base.run(SOLVE, watch) != Scouted::Optimal {
             return Ok(false);
         }
@@ -222,10 +253,10 @@ impl ProbeBench {
         }
     }
 
-    /// Says whether the tries have touched more entries than this lets them, or the watch is over.
-    pub fn is_spent<W: Watch>(&self, budget: Budget, watch: &W) -> bool {
-        let solved = self.base.work().saturating_mul(budget.times);
-        self.copy.work() > solved.saturating_add(budget.more) || watch.is_over()
+    /// Says whether the tries have touched all entries of the budget, or one part of so many, or the watch is
+    /// over.
+    pub fn is_spent<W: Watch>(&self, parts: u64, watch: &W) -> bool {
+        self.copy.work().saturating_mul(parts) > self.budget || watch.is_over()
     }
 
     /// Says whether a gain raises the value rounded up.

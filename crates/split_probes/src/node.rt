@@ -2,10 +2,11 @@ use crate::shares::Share;
 use arc_counts::ArcBox;
 use master_rows::Day;
 use roster_model::Cut;
+use scout::LastBasis;
 use tree_pool::Pool;
 
-/// A node whose splits are tried: its day, its cuts with the counts that they leave the arcs, and the weights
-/// of the pool's trees at its solution.
+/// A node whose splits are tried: its day, its cuts with the counts that they leave the arcs, the weights of
+/// the pool's trees at its solution, and the basis with which the last hunt there ended, a hint.
 #[derive(Clone, Copy, Drop)]
 pub struct SplitNode<'a> {
     pub day: Day<'a>,
@@ -13,4 +14,5 @@ pub struct SplitNode<'a> {
     pub arc_box: &'a ArcBox,
     pub pool: &'a Pool,
     pub shares: &'a [Share],
+    pub last: &'a LastBasis,
 }

@@ -1,7 +1,7 @@
 ghost use Rattle.std.specs.Prelude.{◌<◌, IfOk, IfSome, length};
 ghost use Rattle.split_probes.specs.Nodes.{IsSplitNode};
 
-use crate::bench::{Budget, ProbeBench};
+use crate::bench::ProbeBench;
 use crate::candidates::{Candidate, Candidates, ONE, candidates_of};
 use crate::gains::Gains;
 use crate::halves::halves_of;
@@ -11,32 +11,37 @@ use parse_graph::Graph;
 use roster_model::Memory;
 use search_watch::Watch;
 use std::alloc::Global;
-use tree_pool::Pool;
 
-/// The dual steps that try a cut on an arc.
-const TRY: u32 = 40;
-
-/// The dual steps that try a cut on each letter.
+/// The dual steps of a glance, which try a cut on each candidate.
 const GLANCE: u32 = 3;
 
-/// How many letters are tried further.
+/// How many candidates are tried further.
 const KEPT: usize = 4;
 
 /// The dual steps that try a cut on these.
-const TRY_LETTER: u32 = 20;
-
-/// What the tries may touch until arcs are tried no further. With two times, sixteen arcs and twenty steps five
-/// days took 49 turns in all, and with these 33.
-const ARC_BUDGET: Budget = Budget { times: 6, more: 0 };
-
-/// What they may touch until letters are tried no further.
-const LETTER_BUDGET: Budget = Budget {
-    times: 12,
-    more: 100_000,
-};
+const TRY: u32 = 20;
 
 /// A letter is named unless an arc's score is more than so many times as great.
 const FAVOUR: i128 = 2;
+
+/// What candidates stand for.
+#[derive(Clone, Copy, PartialEq, Eq, Drop)]
+enum Kind {
+    /// Arcs of all kinds.
+    Arcs,
+    /// Letters, whose gains are counted, and which count where a half raises the bound that is shown.
+    Letters,
+}
+
+impl Kind {
+    /// Returns of how many equal parts of the budget one is left once this kind is tried no further.
+    fn parts(self) -> u64 {
+        match self {
+            Kind::Arcs => 2,
+            Kind::Letters => 1,
+        }
+    }
+}
 
 /// A candidate with its score; none with score 0.
 #[derive(Clone, Copy, Drop)]
@@ -50,30 +55,6 @@ const NONE: Rated = Rated {
     candidate: None,
 };
 
-/// Returns the arc of the greatest score of those that are tried, the first of several.
-fn best_arc_of<W: Watch>(
-    graph: &Graph,
-    pool: &Pool,
-    bench: &mut ProbeBench,
-    arcs: &[Candidate],
-    watch: &W,
-) -> Result<Rated, Memory> {
-    let mut best = NONE;
-    for arc in arcs {
-        if bench.is_spent(ARC_BUDGET, watch) {
-            return Ok(best);
-        }
-        let score = halves_of(graph, pool, bench, arc, TRY, best.score, watch)?.score();
-        if score > best.score {
-            best = Rated {
-                score,
-                candidate: Some(*arc),
-            };
-        }
-    }
-    Ok(best)
-}
-
 /// Puts a candidate before those of less score, the last of which falls out.
 fn rank(ranked: &mut [Rated], rated: Rated) {
     let mut next = rated;
@@ -86,50 +67,55 @@ fn rank(ranked: &mut [Rated], rated: Rated) {
     }
 }
 
-/// Returns the letters of the greatest scores at a glance.
+/// Returns the candidates of the greatest scores at a glance.
 fn kept_of<W: Watch>(
     alloc: Global,
-    graph: &Graph,
-    pool: &Pool,
+    node: &SplitNode,
     bench: &mut ProbeBench,
-    letters: &[Candidate],
+    candidates: &[Candidate],
+    kind: Kind,
     watch: &W,
 ) -> Result<Vec<Rated>, Memory> {
+    let (graph, pool) = (node.day.graph, node.pool);
     let mut kept = vec![in alloc; NONE; KEPT]?;
-    for letter in letters {
-        if bench.is_spent(LETTER_BUDGET, watch) {
+    for candidate in candidates {
+        if bench.is_spent(kind.parts(), watch) {
             return Ok(kept);
         }
         let least = kept.last().map_or(0, |rated| rated.score);
-        let score = halves_of(graph, pool, bench, letter, GLANCE, least, watch)?.score();
-        let candidate = Some(*letter);
+        let score = halves_of(graph, pool, bench, candidate, GLANCE, least, watch)?.score();
+        let candidate = Some(*candidate);
         rank(kept.as_mut_slice(), Rated { score, candidate });
     }
     Ok(kept)
 }
 
-/// Returns the letter of the greatest score of those that are kept, where one of its halves raises the bound
-/// that is shown.
+/// Returns the candidate of the greatest score of those that are kept, the first of several; of letters one
+/// of whose halves raises the bound that is shown.
 fn best_kept<W: Watch>(
-    graph: &Graph,
-    pool: &Pool,
+    node: &SplitNode,
     bench: &mut ProbeBench,
     kept: &[Rated],
+    kind: Kind,
     gains: &mut Gains,
     watch: &W,
 ) -> Result<Rated, Memory> {
+    let (graph, pool) = (node.day.graph, node.pool);
     let mut best = NONE;
     for rated in kept {
-        let Some(letter) = rated.candidate else {
+        let Some(candidate) = rated.candidate else {
             return Ok(best);
         };
-        if bench.is_spent(LETTER_BUDGET, watch) {
+        if bench.is_spent(kind.parts(), watch) {
             return Ok(best);
         }
-        let halves = halves_of(graph, pool, bench, &letter, TRY_LETTER, best.score, watch)?;
-        gains.count(&letter, &halves);
+        let halves = halves_of(graph, pool, bench, &candidate, TRY, best.score, watch)?;
+        if kind == Kind::Letters {
+            gains.count(&candidate, &halves);
+        }
         let score = halves.score();
-        if score > best.score && bench.is_raised(halves.most()) {
+        let is_of_use = kind == Kind::Arcs || bench.is_raised(halves.most());
+        if score > best.score && is_of_use {
             best = Rated {
                 score,
                 candidate: rated.candidate,
@@ -137,6 +123,20 @@ fn best_kept<W: Watch>(
         }
     }
     Ok(best)
+}
+
+/// Returns the best of the candidates of a kind, tried in two stages.
+fn best_of<W: Watch>(
+    alloc: Global,
+    node: &SplitNode,
+    bench: &mut ProbeBench,
+    candidates: &[Candidate],
+    kind: Kind,
+    gains: &mut Gains,
+    watch: &W,
+) -> Result<Rated, Memory> {
+    let kept = kept_of(alloc, node, bench, candidates, kind, watch)?;
+    best_kept(node, bench, kept.as_slice(), kind, gains, watch)
 }
 
 /// Returns the arc that is named, of the best arc and the best letter.
@@ -152,17 +152,16 @@ fn named(arc: &Rated, letter: &Rated) -> Option<u32> {
 /// Returns the best of the arcs that are tried, at the node's program.
 fn best_tried<W: Watch>(
     alloc: Global,
-    graph: &Graph,
-    pool: &Pool,
+    node: &SplitNode,
     bench: &mut ProbeBench,
     candidates: &Candidates,
     gains: &mut Gains,
     watch: &W,
 ) -> Result<Option<u32>, Memory> {
-    let arc = best_arc_of(graph, pool, bench, candidates.arcs.as_slice(), watch)?;
+    let arcs = candidates.arcs.as_slice();
+    let arc = best_of(alloc, node, bench, arcs, Kind::Arcs, gains, watch)?;
     let letters = candidates.letters.as_slice();
-    let kept = kept_of(alloc, graph, pool, bench, letters, watch)?;
-    let letter = best_kept(graph, pool, bench, kept.as_slice(), gains, watch)?;
+    let letter = best_of(alloc, node, bench, letters, Kind::Letters, gains, watch)?;
     Ok(named(&arc, &letter))
 }
 
@@ -189,8 +188,8 @@ fn tried(alloc: Global, node: &SplitNode, gains: &Gains) -> Result<Candidates, M
 /// solution; `None` where it knows of none, or of one alone.
 ///
 /// Arcs whose trees weigh no whole number are tried: both halves of their splits are solved for a few steps
-/// at a scout, over some trees of the pool, and the arc is named for which the product of what both add
-/// to the node's value is greatest. An arc that stands for a letter is named before others, unless its product
+/// at a scout, over some trees of the pool, and the arc is named for which the product of what both add to
+/// the node's value is greatest. An arc that stands for a letter is named before others, unless its product
 /// is less than half as great as theirs or neither half raises the value rounded up. No roster that costs
 /// `limit` or more is looked for. It is a hint: that the split is sharp is for the caller to see. What splits
 /// on letters gained is counted. Where the watch is over no further arc is tried.
@@ -216,16 +215,7 @@ pub fn best_arc<W: Watch>(
     let Some(mut bench) = ProbeBench::new(alloc, node, limit, watch)? else {
         return Ok(None);
     };
-    let graph = node.day.graph;
-    let number = best_tried(
-        alloc,
-        graph,
-        node.pool,
-        &mut bench,
-        &candidates,
-        gains,
-        watch,
-    );
+    let number = best_tried(alloc, node, &mut bench, &candidates, gains, watch);
     drop(bench);
-    Ok(arc_of(graph, number?))
+    Ok(arc_of(node.day.graph, number?))
 }

@@ -23,7 +23,7 @@ offer_least-requires-clause-find c =
     let t = c.least_roster.ensures.tools in
     let p = c.least_roster.ensures.pricing in
     record {
-      tools = record { pool = t.pool.are; desk = record { pricing = p.are; most = p.most ∙ c.requires.bench.is.tools.desk.most; rosters = t.desk } };
+      tools = record { pool = t.pool.are; desk = record { pricing = p.are; most = p.most ∙ c.requires.bench.is.tools.desk.most; rosters = t.desk; moves = c.requires.bench.is.tools.desk.moves } };
       good = c.in_ok-best.ensures.roster.good;
     }
 

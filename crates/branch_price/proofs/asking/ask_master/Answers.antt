@@ -5,7 +5,7 @@ returns-clause-tools g c =
     let k = c.requires.tools.desk in
     record {
       pool = record { are = c.node.ensures.pool; grown = c.node.ensures.grown };
-      desk = record { pricing = record { pricer = c.node.ensures.pricer; room = k.pricing.room }; most = k.most; rosters = k.rosters };
+      desk = record { pricing = record { pricer = c.node.ensures.pricer; room = k.pricing.room }; most = k.most; rosters = k.rosters; moves = k.moves };
     }
 
 pub returns-clause-counted : goal.returns-clause-counted

@@ -9,7 +9,7 @@ offer_start-requires-clause-find g c =
     let t = c.least_roster.ensures.tools in
     let p = c.least_roster.ensures.pricing in
     record {
-      tools = record { pool = t.pool.are; desk = record { pricing = p.are; most = p.most ∙ c.requires.tools.desk.most; rosters = t.desk } };
+      tools = record { pool = t.pool.are; desk = record { pricing = p.are; most = p.most ∙ c.requires.tools.desk.most; rosters = t.desk; moves = c.requires.tools.desk.moves } };
       good = c.in_ok-best.ensures.roster.good;
     }
 
@@ -33,7 +33,7 @@ pub returns-in_err-best-clause-tools : goal.returns-in_err-best-clause-tools
 returns-in_err-best-clause-tools g c =
     let t = c.least_roster.ensures.tools in
     let p = c.least_roster.ensures.pricing in
-    record { pool = t.pool; desk = record { pricing = p.are; most = p.most ∙ c.requires.tools.desk.most; rosters = t.desk } }
+    record { pool = t.pool; desk = record { pricing = p.are; most = p.most ∙ c.requires.tools.desk.most; rosters = t.desk; moves = c.requires.tools.desk.moves } }
 
 pub returns-in_err-has_old-clause-tools : goal.returns-in_err-has_old-clause-tools
 returns-in_err-has_old-clause-tools g c = record {

@@ -114,7 +114,7 @@ returns-in-Between-clause-found g c =
     let k = c.requires.find.tools.desk in
     let t = c.requires.find.tools in
     record {
-      tools = record { pool = record { are = t.pool; grown = ([], sym (append-nil c.args.pool.now)) }; desk = record { pricing = k.pricing; most = k.most; rosters = c.offer_rounded.ensures.rosters } };
+      tools = record { pool = record { are = t.pool; grown = ([], sym (append-nil c.args.pool.now)) }; desk = record { pricing = k.pricing; most = k.most; rosters = c.offer_rounded.ensures.rosters; moves = k.moves } };
       better = c.offer_rounded.ensures.better;
     }
 
@@ -122,4 +122,4 @@ pub returns-in-Whole-clause-found : goal.returns-in-Whole-clause-found
 returns-in-Whole-clause-found g c =
     let k = c.requires.find.tools.desk in
     let t = c.offer_counts.ensures.tools in
-    record { tools = record { pool = t.pool; desk = record { pricing = k.pricing; most = k.most; rosters = t.desk } }; better = c.offer_counts.ensures.better }
+    record { tools = record { pool = t.pool; desk = record { pricing = k.pricing; most = k.most; rosters = t.desk; moves = k.moves } }; better = c.offer_counts.ensures.better }

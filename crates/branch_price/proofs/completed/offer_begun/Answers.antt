@@ -1,4 +1,3 @@
-use Rattle.std.proofs.Common.{◌∙◌}
 use Rattle.branch_price.proofs.ToolsLemmas.{same-better}
 use Rattle.branch_price.proofs.completed.offer_begun.Goals as goal
 
@@ -8,17 +7,15 @@ offer_trees-requires-clause-offer g c = record { rosters = c.requires.find.tools
 pub returns-in_err-columns : goal.returns-in_err-columns
 returns-in_err-columns g c =
     let k = c.requires.find.tools.desk in
-    let p = c.complete.ensures.pricing in
     record {
-      tools = record { pool = c.complete.ensures.pool; desk = record { pricing = p.are; most = p.most ∙ k.most; rosters = k.rosters } };
+      tools = record { pool = c.complete.ensures.pool; desk = record { pricing = k.pricing; most = k.most; rosters = k.rosters; moves = c.complete.ensures.pricing } };
       better = same-better c.args.day.now.instance.now c.args.best.now c.requires.find.good;
     }
 
 pub returns : goal.returns
 returns g c =
     let k = c.requires.find.tools.desk in
-    let p = c.complete.ensures.pricing in
     record {
-      tools = record { pool = c.complete.ensures.pool; desk = record { pricing = p.are; most = p.most ∙ k.most; rosters = c.offer_trees.ensures.rosters } };
+      tools = record { pool = c.complete.ensures.pool; desk = record { pricing = k.pricing; most = k.most; rosters = c.offer_trees.ensures.rosters; moves = c.complete.ensures.pricing } };
       better = c.offer_trees.ensures.better;
     }

@@ -5,7 +5,7 @@ pub offer_begun-offered-requires-clause-find : goal.offer_begun-offered-requires
 offer_begun-offered-requires-clause-find g c =
     let k = c.requires.desk in
     record {
-      tools = record { pool = empty-pool c.args.day.now c.new-pool.result c.new-pool.ensures; desk = record { pricing = k.pricing; most = k.most; rosters = k.rosters } };
+      tools = record { pool = empty-pool c.args.day.now c.new-pool.result c.new-pool.ensures; desk = record { pricing = k.pricing; most = k.most; rosters = k.rosters; moves = k.moves } };
       good = c.requires.good;
     }
 
@@ -15,4 +15,4 @@ returns g c = record { desk = c.offer_begun-offered.ensures.tools.desk; better =
 pub returns-in_err-prices : goal.returns-in_err-prices
 returns-in_err-prices g c =
     let k = c.requires.desk in
-    record { desk = record { pricing = k.pricing; most = k.most; rosters = k.rosters }; better = same-better c.args.day.now.instance.now c.args.best.now c.requires.good }
+    record { desk = record { pricing = k.pricing; most = k.most; rosters = k.rosters; moves = k.moves }; better = same-better c.args.day.now.instance.now c.args.best.now c.requires.good }

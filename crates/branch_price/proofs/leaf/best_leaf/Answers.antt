@@ -28,7 +28,7 @@ plan_for-requires-clause-find g c =
     let t = c.requires.tools in
     let p = c.shown_value-value.ensures.pricing in
     record {
-      tools = record { pool = t.pool; desk = record { pricing = p.are; most = p.most ∙ t.desk.most; rosters = t.desk.rosters } };
+      tools = record { pool = t.pool; desk = record { pricing = p.are; most = p.most ∙ t.desk.most; rosters = t.desk.rosters; moves = t.desk.moves } };
       good = c.requires.leaf.4.is.best;
     }
 
@@ -43,6 +43,14 @@ offer_at_node-requires-clause-small g c =
     let i = n.searched.day.instance.now in
     let are = leaf-cuts i n.searched.day.graph.now r.0 r.1 r.2 r.3 c.args.progress.now c.args.leaf n.cuts.now c.requires.node.searched.is.day.sound r.4 in
     record { each = few-cuts i n.cuts.now are; few = c.requires.solved.few }
+
+pub offer_at_node-requires-clause-prices : goal.offer_at_node-requires-clause-prices
+offer_at_node-requires-clause-prices g c =
+    let r = c.requires.leaf in
+    let n = c.args.node.now in
+    let i = n.searched.day.instance.now in
+    let are = leaf-cuts i n.searched.day.graph.now r.0 r.1 r.2 r.3 c.args.progress.now c.args.leaf n.cuts.now c.requires.node.searched.is.day.sound r.4 in
+    record { fit = c.requires.solved.fit; positive = c.requires.solved.positive; small = small-cuts i n.cuts.now are }
 
 pub offer_at_node-requires-clause-find : goal.offer_at_node-requires-clause-find
 offer_at_node-requires-clause-find g c =

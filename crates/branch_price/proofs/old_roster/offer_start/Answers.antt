@@ -9,7 +9,7 @@ pub returns-clause-found : goal.returns-clause-found
 returns-clause-found c =
     let k = c.requires.find.tools.desk in
     record {
-      tools = record { pool = c.add_words.ensures.pool; desk = record { pricing = record { pricer = c.add_words.ensures.pricer; room = k.pricing.room }; most = k.most; rosters = c.offer_shifts.ensures.offered.rosters } };
+      tools = record { pool = c.add_words.ensures.pool; desk = record { pricing = record { pricer = c.add_words.ensures.pricer; room = k.pricing.room }; most = k.most; rosters = c.offer_shifts.ensures.offered.rosters; moves = k.moves } };
       better = c.offer_shifts.ensures.offered.better;
     }
 
@@ -17,7 +17,7 @@ pub returns-in_err-add_words-clause-found : goal.returns-in_err-add_words-clause
 returns-in_err-add_words-clause-found c =
     let k = c.requires.find.tools.desk in
     record {
-      tools = record { pool = c.add_words.ensures.pool; desk = record { pricing = record { pricer = c.add_words.ensures.pricer; room = k.pricing.room }; most = k.most; rosters = c.offer_shifts.ensures.offered.rosters } };
+      tools = record { pool = c.add_words.ensures.pool; desk = record { pricing = record { pricer = c.add_words.ensures.pricer; room = k.pricing.room }; most = k.most; rosters = c.offer_shifts.ensures.offered.rosters; moves = k.moves } };
       better = c.offer_shifts.ensures.offered.better;
     }
 
@@ -25,7 +25,7 @@ pub returns-in_err-desk-clause-found : goal.returns-in_err-desk-clause-found
 returns-in_err-desk-clause-found c =
     let k = c.requires.find.tools.desk in
     record {
-      tools = record { pool = record { are = c.requires.find.tools.pool; grown = ([], sym (append-nil c.args.pool.now)) }; desk = record { pricing = k.pricing; most = k.most; rosters = c.offer_shifts.ensures.offered.rosters } };
+      tools = record { pool = record { are = c.requires.find.tools.pool; grown = ([], sym (append-nil c.args.pool.now)) }; desk = record { pricing = k.pricing; most = k.most; rosters = c.offer_shifts.ensures.offered.rosters; moves = k.moves } };
       better = c.offer_shifts.ensures.offered.better;
     }
 
@@ -33,6 +33,6 @@ pub returns-in_err-is_allowed-clause-found : goal.returns-in_err-is_allowed-clau
 returns-in_err-is_allowed-clause-found c =
     let k = c.requires.find.tools.desk in
     record {
-      tools = record { pool = record { are = c.requires.find.tools.pool; grown = ([], sym (append-nil c.args.pool.now)) }; desk = record { pricing = k.pricing; most = k.most; rosters = c.offer_shifts.ensures.offered.rosters } };
+      tools = record { pool = record { are = c.requires.find.tools.pool; grown = ([], sym (append-nil c.args.pool.now)) }; desk = record { pricing = k.pricing; most = k.most; rosters = c.offer_shifts.ensures.offered.rosters; moves = k.moves } };
       better = c.offer_shifts.ensures.offered.better;
     }

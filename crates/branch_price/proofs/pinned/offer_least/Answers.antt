@@ -41,7 +41,7 @@ pub returns-clause-found : goal.returns-clause-found
 returns-clause-found c =
     let k = c.requires.find.tools.desk in
     let t = c.offer_counts.ensures.tools in
-    record { tools = record { pool = t.pool; desk = record { pricing = k.pricing; most = k.most; rosters = t.desk } }; better = c.offer_counts.ensures.better }
+    record { tools = record { pool = t.pool; desk = record { pricing = k.pricing; most = k.most; rosters = t.desk; moves = k.moves } }; better = c.offer_counts.ensures.better }
 
 pub returns-in_err-counts-clause-found : goal.returns-in_err-counts-clause-found
 returns-in_err-counts-clause-found c = same-find c.args.day.now c.args.pool.now c.args.desk.now c.args.best.now c.requires.find

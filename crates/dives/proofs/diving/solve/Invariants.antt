@@ -5,5 +5,5 @@ use Rattle.dives.proofs.diving.solve.Given as goal
 abbrev pub invariant-loop : goal.invariant-loop
 invariant-loop g l = record {
   program : IsProgram (length l.pool) l.descent.program;
-  tools : StayTools l.task l.pricer l.fn.pool l.pool l.descent.desk;
+  tools : StayTools l.task l.order l.fn.pool l.pool l.descent.desk;
 }
