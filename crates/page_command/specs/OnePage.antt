@@ -10,7 +10,7 @@ use Rattle.text_commands.specs.SameTexts.{AreTreesAtOnePrice}
 use Rattle.page_command.specs.Check.{AnswersBeside, AnswersLabelled, AnswersShown}
 use Rattle.page_command.specs.Dated.{AnswersDated}
 use Rattle.page_command.specs.declared.kind.Kind.{Kind}
-use Rattle.roster_csv.specs.declared.roster_calendar.date.Date.{Date}
+use Rattle.page_command.specs.declared.kind.CalendarDay.{CalendarDay}
 
 -- for each row two derivations of its word, at one price
 abbrev pub AreTreesOfRows : List Row → List (List ℕ) → List (List ℕ) → Type 0
@@ -72,7 +72,7 @@ HaveOnePageBeside =
 -- two answers to the same day and the same four texts are equal
 abbrev pub HaveOneCalendar : Type 0
 HaveOneCalendar =
-    (date : Date) (held : Texts) (rules demand proof labels : List ℕ) (s t : ℕ) (a b : List ℕ)
-    → AnswersDated date (Some held) rules demand proof labels s a
-    → AnswersDated date (Some held) rules demand proof labels t b
+    (day : CalendarDay) (held : Texts) (rules demand proof labels : List ℕ) (s t : ℕ) (a b : List ℕ)
+    → AnswersDated day (Some held) rules demand proof labels s a
+    → AnswersDated day (Some held) rules demand proof labels t b
     → (s ≡ t) × AreSameButTrees a b

@@ -10,6 +10,7 @@ mod dated;
 mod derived;
 mod draw;
 mod form;
+mod instead;
 mod judgement;
 mod kind;
 mod laws;
