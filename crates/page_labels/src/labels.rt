@@ -1,6 +1,17 @@
 ghost use Rattle.std.specs.Prelude.{◌≡◌, ◌==◌, [], None};
 ghost use Rattle.std.specs.List.{list_any};
-ghost use Rattle.page_labels.specs.Labels.{code_words, group_words, has_code, has_group, has_paid, nothing};
+ghost use Rattle.page_labels.specs.Labels.{
+  code_words,
+  decimals_of,
+  group_words,
+  has_code,
+  has_group,
+  has_paid,
+  has_shift,
+  is_paid,
+  nothing,
+  shift_name,
+};
 
 use crate::clock::Clock;
 use roster_model::List;
@@ -33,6 +44,21 @@ pub struct PaidCode {
     pub paid: bool,
 }
 
+/// Who works a shift.
+#[derive(Debug, PartialEq, Eq, Drop)]
+pub struct ShiftLabel {
+    /// The number of the line that says it, from 1.
+    pub line: u32,
+    /// The number of the shift, from 1: its place in the roster.
+    pub number: u32,
+    /// The number of the shift's group, from 1, or 0 on a day without groups.
+    pub group: u8,
+    /// The byte of each period's code, as the roster has them.
+    pub word: List<u8>,
+    /// The name, 1 to 60 bytes.
+    pub name: List<u8>,
+}
+
 /// What a labels text says.
 #[derive(Debug, PartialEq, Eq, Drop)]
 pub struct Labels {
@@ -48,6 +74,12 @@ pub struct Labels {
     pub money: List<u8>,
     /// The codes of which it is said whether they count as paid, in the order of their lines.
     pub paid: List<PaidCode>,
+    /// The byte of the code that is time off, where it is said.
+    pub off: Option<u8>,
+    /// The shifts that are named, in the order of their lines.
+    pub shifts: List<ShiftLabel>,
+    /// How many decimals amounts have, 0 to 4, where it is said; see [`decimals_of`].
+    pub decimals: Option<u8>,
 }
 
 /// Returns what an empty text says.
@@ -61,6 +93,9 @@ pub fn no_labels(alloc: Global) -> Labels
         groups: List::new(alloc),
         money: List::new(alloc),
         paid: List::new(alloc),
+        off: None,
+        shifts: List::new(alloc),
+        decimals: None,
     }
 }
 
@@ -85,6 +120,30 @@ pub(crate) fn has_paid(codes: &[PaidCode], code: u8) -> bool
     codes.iter().any(|label| label.code == code)
 }
 
+/// Returns whether the periods of a code are said to count as paid.
+pub(crate) fn is_paid(codes: &[PaidCode], code: u8) -> bool
+    ensures { result ≡ is_paid codes.now code }
+{
+    codes.iter().any(|label| label.code == code && label.paid)
+}
+
+/// Returns whether the shift with a number is named.
+pub(crate) fn has_shift(labels: &[ShiftLabel], number: u32) -> bool
+    ensures { result ≡ has_shift labels.now number }
+{
+    labels.iter().any(|label| label.number == number)
+}
+
+/// Returns how many decimals amounts have, 0 to 4: 0 where nothing is said.
+pub fn decimals_of(labels: &Labels) -> u8
+    ensures { result ≡ decimals_of labels.now }
+{
+    match labels.decimals {
+        Some(decimals) => decimals,
+        None => 0,
+    }
+}
+
 /// Returns the words for a code, or nothing where it has none.
 pub fn code_words(labels: &[CodeLabel], code: u8) -> &[u8]
     ensures { result.now ≡ code_words labels.now code }
@@ -104,6 +163,18 @@ pub fn group_words(labels: &[GroupLabel], group: u8) -> &[u8]
     for label in labels {
         if label.group == group {
             return label.words.as_slice();
+        }
+    }
+    b""
+}
+
+/// Returns the name of the shift with a number, or nothing where it has none.
+pub fn shift_name(labels: &[ShiftLabel], number: u32) -> &[u8]
+    ensures { result.now ≡ shift_name labels.now number }
+{
+    for label in labels {
+        if label.number == number {
+            return label.name.as_slice();
         }
     }
     b""

@@ -22,10 +22,14 @@ mod laws;
 mod line;
 mod message;
 mod read;
+mod shift;
 
 pub use clock::{Clock, put_duration, put_time};
 pub use fault::LabelFault;
-pub use labels::{CodeLabel, GroupLabel, Labels, PaidCode, code_words, group_words, no_labels};
+pub use labels::{
+    CodeLabel, GroupLabel, Labels, PaidCode, ShiftLabel, code_words, decimals_of, group_words, no_labels, shift_name,
+};
 pub use laws::refused_line;
 pub use message::fault_line;
 pub use read::read_labels;
+pub use shift::refused_shift;

@@ -18,7 +18,9 @@ fn line_of(fault: &LabelFault) -> Option<u32>
         | LabelFault::UnknownCode { line }
         | LabelFault::NoName { line }
         | LabelFault::BadName { line }
-        | LabelFault::Twice { line } => Some(line),
+        | LabelFault::Twice { line }
+        | LabelFault::AnotherShift { line }
+        | LabelFault::NoShift { line } => Some(line),
         LabelFault::TooLong | LabelFault::Memory => None,
     }
 }
@@ -37,6 +39,8 @@ fn text_of(fault: &LabelFault) -> &'static str
         LabelFault::NoName { .. } => "no such name",
         LabelFault::BadName { .. } => "bad name",
         LabelFault::Twice { .. } => "said twice",
+        LabelFault::AnotherShift { .. } => "another shift",
+        LabelFault::NoShift { .. } => "no such shift",
         LabelFault::TooLong => "the text is too long",
         LabelFault::Memory => "out of memory",
     }

@@ -1,5 +1,5 @@
 -- When the work of a shift begins and ends, and which of its periods are paid.
-use Rattle.std.specs.Prelude.{ℕ, ◌+◌, Bool, ◌&&◌, ◌||◌, Option, None, Some, List, [], ◌∷◌, nat_eq, if◌then◌else◌}
+use Rattle.std.specs.Prelude.{ℕ, ◌+◌, Bool, ◌&&◌, ◌||◌, Option, None, Some, List, [], ◌∷◌, ◌++◌, false, nat_eq, if◌then◌else◌}
 use Rattle.std.specs.List.{list_any}
 use Rattle.roster_model.specs.declared.grammar.CodeDef.{CodeDef}
 use Rattle.shift_figures.specs.declared.stretch.Stretch.{Stretch}
@@ -33,3 +33,35 @@ is_marked marked byte = list_any (λ (b : ℕ). nat_eq b byte) marked
 -- a period with the byte is paid: one of work, or of a code that is marked so
 abbrev pub is_paid : List CodeDef → List ℕ → ℕ → Bool
 is_paid cs marked byte = is_work cs byte || is_marked marked byte
+
+-- the byte stands for time off
+abbrev pub is_off : Option ℕ → ℕ → Bool
+is_off None byte = false
+is_off (Some code) byte = nat_eq code byte
+
+-- the stretch to which a further period belongs, behind so many periods
+abbrev pub grown : Option Stretch → ℕ → Stretch
+grown None k = record { first = k + 1; last = k + 1 }
+grown (Some t) k = record { first = t.first; last = k + 1 }
+
+-- the stretch that is open behind a further letter
+unfoldable pub next_live : Option ℕ → Option Stretch → ℕ → ℕ → Option Stretch
+next_live off live k b = if is_off off b then None else Some (grown live k)
+
+-- the stretch that is open at an end
+abbrev pub last_stretch : Option Stretch → List Stretch
+last_stretch None = []
+last_stretch (Some t) = t ∷ []
+
+-- the open stretch, where a further letter ends it
+unfoldable pub cut_off : Option ℕ → Option Stretch → ℕ → List Stretch
+cut_off off live b = if is_off off b then last_stretch live else []
+
+-- the stretches of letters behind so many periods, before which one may be open
+abbrev pub stretches_from : Option ℕ → Option Stretch → ℕ → List ℕ → List Stretch
+stretches_from off live k [] = last_stretch live
+stretches_from off live k (b ∷ bs) = cut_off off live b ++ stretches_from off (next_live off live k b) (k + 1) bs
+
+-- the greatest runs of letters other than that of time off, from the first period on
+abbrev pub stretches_of : Option ℕ → List ℕ → List Stretch
+stretches_of off word = stretches_from off None 0 word

@@ -20,5 +20,5 @@ pub use roster_changes::{
 };
 pub use run::{Lack, Run, runs_of};
 pub use share::covered_share;
-pub use stretch::{Stretch, is_work, paid_periods, stretch_of, work_periods};
+pub use stretch::{Stretch, is_work, paid_periods, stretch_of, stretches_of, work_periods};
 pub use total::{code_total, group_count};

@@ -1,15 +1,29 @@
-ghost use Rattle.std.specs.Prelude.{◌≡◌, ◌≤◌, count_by, length};
+ghost use Rattle.std.specs.Prelude.{◌≡◌, ◌≤◌, ◌++◌, IfOk, OnOk, count_by, length};
 ghost use Rattle.std.specs.List.{list_any};
-ghost use Rattle.shift_figures.specs.Stretches.{is_marked, is_paid, is_work, stretch_of, stretched, with_letter};
+ghost use Rattle.shift_figures.specs.Stretches.{
+  cut_off,
+  grown,
+  is_marked,
+  is_off,
+  is_paid,
+  is_work,
+  last_stretch,
+  next_live,
+  stretch_of,
+  stretched,
+  stretches_of,
+  with_letter,
+};
 
-use roster_model::CodeDef;
+use roster_model::{CodeDef, List, Memory};
+use std::alloc::Global;
 
-/// The first and the last period of work of a shift, from 1.
+/// Periods in a row, from 1: from the first period of work of a shift to its last one, or a run without time off.
 #[derive(Clone, Copy, Debug, PartialEq, Eq, Drop)]
 pub struct Stretch {
-    /// The first period of work.
+    /// The first period.
     pub first: u8,
-    /// The last period of work, not before the first.
+    /// The last period, not before the first.
     pub last: u8,
 }
 
@@ -91,4 +105,93 @@ pub fn paid_periods(codes: &[CodeDef], marked: &[u8], word: &[u8]) -> usize
     word.iter()
         .filter(|byte| is_paid(codes, marked, **byte))
         .count()
+}
+
+// Whether a byte stands for time off.
+fn is_off(off: Option<u8>, byte: u8) -> bool
+    ensures { result ≡ is_off off byte }
+{
+    match off {
+        None => false,
+        Some(code) => code == byte,
+    }
+}
+
+// Returns the stretch to which a further period belongs, behind so many periods.
+fn grown(live: Option<Stretch>, passed: u8) -> Stretch
+    requires { passed ≤ 95 }
+    ensures { result ≡ grown live passed }
+{
+    match live {
+        None => Stretch {
+            first: passed + 1,
+            last: passed + 1,
+        },
+        Some(stretch) => Stretch {
+            first: stretch.first,
+            last: passed + 1,
+        },
+    }
+}
+
+// Returns the stretch that is open behind a further letter.
+#[tactic(auto, unfolding(crate::specs::Stretches::next_live))]
+fn next_live(off: Option<u8>, live: Option<Stretch>, passed: u8, byte: u8) -> Option<Stretch>
+    requires { passed ≤ 95 }
+    ensures { result ≡ next_live off live passed byte }
+{
+    if is_off(off, byte) {
+        None
+    } else {
+        Some(grown(live, passed))
+    }
+}
+
+// Appends the open stretch.
+fn end(stretches: &mut List<Stretch>, live: Option<Stretch>) -> Result<(), Memory>
+    ensures { OnOk result (stretches.new ≡ stretches.old ++ last_stretch live) }
+{
+    match live {
+        None => Ok(()),
+        Some(stretch) => stretches.push(stretch),
+    }
+}
+
+// Appends the open stretch where a further letter ends it.
+#[tactic(auto, unfolding(crate::specs::Stretches::cut_off))]
+fn cut(
+    stretches: &mut List<Stretch>,
+    off: Option<u8>,
+    live: Option<Stretch>,
+    byte: u8,
+) -> Result<(), Memory>
+    ensures { OnOk result (stretches.new ≡ stretches.old ++ cut_off off live byte) }
+{
+    if is_off(off, byte) {
+        end(stretches, live)
+    } else {
+        Ok(())
+    }
+}
+
+/// Returns the stretches of a word of at most 96 letters: its greatest runs of letters other than that of time off, in
+/// their order, and where no letter is time off the whole word as one. A word that is all time off has none.
+///
+/// # Errors
+///
+/// `Memory` where memory runs out; nothing is kept then.
+pub fn stretches_of(alloc: Global, off: Option<u8>, word: &[u8]) -> Result<List<Stretch>, Memory>
+    requires { length word.now ≤ 96 }
+    ensures { IfOk result (λ stretches. stretches ≡ stretches_of off word.now) }
+{
+    let mut stretches = List::new(alloc);
+    let mut live: Option<Stretch> = None;
+    let mut passed: u8 = 0;
+    for byte in word {
+        cut(&mut stretches, off, live, *byte)?;
+        live = next_live(off, live, passed, *byte);
+        passed += 1;
+    }
+    end(&mut stretches, live)?;
+    Ok(stretches)
 }
