@@ -8,7 +8,7 @@ use Rattle.page_parts.specs.Escapes.{IsOneToOne, recoded}
 use Rattle.page_parts.specs.Paints.{paint_from, paint_of}
 
 module _ (f : ℕ → ℕ) (one : IsOneToOne f) where
-  same_test : (a b : ℕ) → nat_eq (f a) (f b) ≡ nat_eq a b
+  pub same_test : (a b : ℕ) → nat_eq (f a) (f b) ≡ nat_eq a b
   same_test a b = elim (eqb_tells a b) [
     | inl h ↦ eq-eqb (f a) (f b) (ap f h.1) ∙ sym h.0
     | inr h ↦ elim (eqb_tells (f a) (f b)) [

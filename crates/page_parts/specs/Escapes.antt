@@ -2,7 +2,7 @@
 use Rattle.std.specs.Prelude.{ℕ, ◌≡◌, ◌≢◌, List, [], ◌∷◌, ◌++◌, codes, map}
 use Rattle.roster_model.specs.Folds.{Each, In}
 use Rattle.roster_model.specs.declared.grammar.CodeDef.{CodeDef}
-use Rattle.page_parts.specs.Elements.{Element, marks, given, number, bar, caption, figure}
+use Rattle.page_parts.specs.Elements.{Element, marks, given, number, units, bar, caption, figure}
 
 -- what stands for `<`, `>`, `&`, `"` and `'`
 abbrev pub references : List (List ℕ)
@@ -32,6 +32,7 @@ abbrev pub mark_of : Element → Element
 mark_of (marks bytes) = marks bytes
 mark_of (given bytes) = given []
 mark_of (number n) = number n
+mark_of (units d n) = units d n
 mark_of (bar class a) = bar class a
 mark_of (caption class x y bytes) = caption class x y []
 mark_of (figure class x y n) = figure class x y n

@@ -3,3 +3,4 @@ pub mod Escapes
 pub mod Paints
 pub mod Sheets
 pub mod Amounts
+pub mod Names

@@ -2,14 +2,14 @@
 use Rattle.std.specs.Prelude.{ℕ, ◌+◌, ◌*◌, ◌/◌, min, max}
 use Rattle.page_parts.specs.declared.sheet.PeriodAxis.{PeriodAxis}
 
--- how wide a period is
+-- how wide a period is: the periods share 740 pixels, and have each at least 10 and at most 40
 abbrev pub width_of : ℕ → ℕ
-width_of periods = min (960 / max periods 1) 40
+width_of periods = min (max (740 / max periods 1) 10) 40
 
--- the sheet of so many periods, with room for names of so many bytes and for amounts in words of so many
+-- the sheet of so many periods, with room for names of so many columns and for amounts in words of so many
 abbrev pub sheet_of : ℕ → ℕ → ℕ → PeriodAxis
 sheet_of periods longest money = record {
-  left = 56 + 8 * min longest 60;
+  left = 56 + 8 * min longest 25;
   cell = width_of periods;
   periods = periods;
   margin = 72 + 8 * min money 60;

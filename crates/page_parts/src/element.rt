@@ -55,7 +55,7 @@ pub fn given(out: &mut List<u8>, bytes: &[u8]) -> Result<(), Memory>
 }
 
 // Appends the digits of a number.
-fn digits(out: &mut List<u8>, value: u64) -> Result<(), Memory>
+pub(crate) fn digits(out: &mut List<u8>, value: u64) -> Result<(), Memory>
     ensures { OnOk result (out.new ≡ out.old ++ decimal value) }
 {
     write_number(out, value as i128)?;
@@ -116,7 +116,7 @@ pub fn bar(out: &mut List<u8>, class: &[u8], area: Area) -> Result<(), Memory>
 
 // Appends the first mark of a caption.
 #[tactic(auto, unfolding(crate::specs::Elements::at))]
-fn begin(out: &mut List<u8>, class: &[u8], left: u64, top: u64) -> Result<(), Memory>
+pub(crate) fn begin(out: &mut List<u8>, class: &[u8], left: u64, top: u64) -> Result<(), Memory>
     ensures { OnOk result (out.new ≡ out.old ++ at class.now left top) }
 {
     put(out, b"<text class='")?;

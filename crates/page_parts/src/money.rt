@@ -3,9 +3,19 @@ ghost use Rattle.page_parts.specs.Amounts.{amount, unit_behind};
 ghost use Rattle.page_parts.specs.Elements as page;
 ghost use Rattle.page_parts.specs.Elements.{written};
 
-use crate::element::{marks, number};
+use crate::decimals::units;
+use crate::element::marks;
 use crate::label::labelled_text;
 use roster_model::{List, Memory};
+
+/// What amounts of money are counted in.
+#[derive(Debug, PartialEq, Eq, Drop)]
+pub struct Money {
+    /// The words behind an amount, at most 60 bytes, or nothing.
+    pub words: List<u8>,
+    /// How many decimals an amount has: a unit of a text is 10 to the power of minus so many.
+    pub decimals: u8,
+}
 
 /// Appends what amounts are counted in, escaped, behind a space, where it is said.
 ///
@@ -13,11 +23,11 @@ use roster_model::{List, Memory};
 ///
 /// `Memory` where memory runs out; a part of it may stand there then.
 #[tactic(auto, unfolding(crate::specs::Amounts::unit_behind))]
-pub fn unit_behind(out: &mut List<u8>, money: &[u8]) -> Result<(), Memory>
-    ensures { OnOk result (out.new ≡ out.old ++ written (unit_behind money.now)) }
+pub fn unit_behind(out: &mut List<u8>, words: &[u8]) -> Result<(), Memory>
+    ensures { OnOk result (out.new ≡ out.old ++ written (unit_behind words.now)) }
 {
-    if money.len() > 0 {
-        labelled_text(out, b" ", money)?;
+    if words.len() > 0 {
+        labelled_text(out, b" ", words)?;
     }
     Ok(())
 }
@@ -27,11 +37,11 @@ pub fn unit_behind(out: &mut List<u8>, money: &[u8]) -> Result<(), Memory>
 /// # Errors
 ///
 /// `Memory` where memory runs out; a part of it may stand there then.
-pub fn amount(out: &mut List<u8>, money: &[u8], value: u64) -> Result<(), Memory>
+pub fn amount(out: &mut List<u8>, money: &Money, value: u64) -> Result<(), Memory>
     ensures { OnOk result (out.new ≡ out.old ++ written (amount money.now value)) }
 {
-    number(out, value)?;
-    unit_behind(out, money)
+    units(out, money.decimals, value)?;
+    unit_behind(out, money.words.as_slice())
 }
 
 /// Appends marks, and an amount behind them.
@@ -42,7 +52,7 @@ pub fn amount(out: &mut List<u8>, money: &[u8], value: u64) -> Result<(), Memory
 pub fn labelled_amount(
     out: &mut List<u8>,
     label: &[u8],
-    money: &[u8],
+    money: &Money,
     value: u64,
 ) -> Result<(), Memory>
     ensures { OnOk result

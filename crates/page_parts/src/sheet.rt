@@ -14,20 +14,20 @@ pub struct PeriodAxis {
     pub margin: u32,
 }
 
-// Returns how wide a period is, for so many.
+// Returns how wide a period is, for so many, which share 740 pixels: at least 10 and at most 40.
 fn width_of(periods: u8) -> u8
     ensures { result ≡ width_of periods }
 {
-    (960 / (periods as u32).max(1)).min(40) as u8
+    (740 / (periods as u32).max(1)).max(10).min(40) as u8
 }
 
-/// Returns the sheet of so many periods, with room for names of so many bytes and for amounts that are counted in
-/// words of so many, each at most 60.
+/// Returns the sheet of so many periods, with room for names of so many columns, at most 25, and for amounts that are
+/// counted in words of so many, at most 60.
 pub fn sheet_of(periods: u8, longest: usize, money: usize) -> PeriodAxis
     ensures { result ≡ sheet_of periods longest money }
 {
     PeriodAxis {
-        left: 56 + 8 * longest.min(60) as u32,
+        left: 56 + 8 * longest.min(25) as u32,
         cell: width_of(periods),
         periods,
         margin: 72 + 8 * money.min(60) as u32,

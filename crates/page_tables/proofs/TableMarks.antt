@@ -4,8 +4,9 @@ use Rattle.std.proofs.lemmas.List.{map-append}
 use Rattle.std.specs.List.{flat_map}
 use Rattle.std.specs.Prelude.{codes, if◌then◌else◌, nat_lt}
 use Rattle.page_parts.specs.Amounts.{AreSaidAlike}
-use Rattle.page_parts.specs.Elements.{Element, given, marks, number}
+use Rattle.page_parts.specs.Elements.{Element, given, marks, number, units}
 use Rattle.page_parts.specs.Escapes.{marks_of}
+use Rattle.page_parts.specs.declared.money.Money.{Money}
 use Rattle.page_parts.proofs.AmountLemmas.{behind_same}
 use Rattle.page_tables.specs.Alike.{AreAlike, IsAlikeHead, IsAlikeRun, IsAlikeShift, IsAlikeTables, IsAlikeTotal}
 use Rattle.page_tables.specs.HeadTable.{head_end, head_line, head_table}
@@ -59,17 +60,17 @@ front_same grouped l m h =
 abbrev word_end : List ℕ → List Element
 word_end word = marks (codes "</td><td class='word'>") ∷ given word ∷ marks (codes "</td></tr>\n") ∷ []
 
-end_same : (a b : List ℕ) (l m : ShiftLine) → AreSaidAlike a b → IsAlikeShift l m → Same (line_end b m) (line_end a l)
+end_same : (a b : Money) (l m : ShiftLine) → AreSaidAlike a b → IsAlikeShift l m → Same (line_end b m) (line_end a l)
 unfolding line_end
 end_same a b l m said h =
-    rw (h.work, h.price)
-    (ap (λ (t : List Element). marks (codes "</td><td>") ∷ number l.work ∷ marks (codes "</td><td>") ∷ given [] ∷ marks (codes "</td><td>") ∷ number l.price ∷ t)
+    rw (h.work, h.price, said.decimals)
+    (ap (λ (t : List Element). marks (codes "</td><td>") ∷ number l.work ∷ marks (codes "</td><td>") ∷ given [] ∷ marks (codes "</td><td>") ∷ units a.decimals l.price ∷ t)
     (behind_same a b (word_end l.word) (word_end m.word) said refl))
 
-line_same : (a b : List ℕ) (grouped : Bool) → AreSaidAlike a b → (l m : ShiftLine) → IsAlikeShift l m → Same (shift_line b grouped m) (shift_line a grouped l)
+line_same : (a b : Money) (grouped : Bool) → AreSaidAlike a b → (l m : ShiftLine) → IsAlikeShift l m → Same (shift_line b grouped m) (shift_line a grouped l)
 line_same a b grouped said l m h = simp (map-append, front_same grouped l m h, end_same a b l m said h)
 
-shifts_same : (a b : List ℕ) (grouped : Bool) (ls ms : List ShiftLine) → AreSaidAlike a b → AreAlike IsAlikeShift ls ms → Same (shift_table b grouped ms) (shift_table a grouped ls)
+shifts_same : (a b : Money) (grouped : Bool) (ls ms : List ShiftLine) → AreSaidAlike a b → AreAlike IsAlikeShift ls ms → Same (shift_table b grouped ms) (shift_table a grouped ls)
 unfolding shift_table
 shifts_same a b grouped ls ms said h =
     simp (map-append, each_same IsAlikeShift (shift_line a grouped) (shift_line b grouped) (line_same a b grouped said) ls ms h)
@@ -110,29 +111,29 @@ run_front_same : (l m : RunLine) → Same (run_front m) (run_front l)
 unfolding run_front
 run_front_same l m = refl
 
-run_end_same : (a b : List ℕ) (l m : RunLine) → AreSaidAlike a b → IsAlikeRun l m → Same (run_end b m) (run_end a l)
+run_end_same : (a b : Money) (l m : RunLine) → AreSaidAlike a b → IsAlikeRun l m → Same (run_end b m) (run_end a l)
 unfolding run_end
 run_end_same a b l m said h =
-    rw (h.count, h.cost)
-    (ap (λ (t : List Element). marks (codes "</td><td>") ∷ number l.count ∷ marks (codes "</td><td>") ∷ number l.cost ∷ t)
+    rw (h.count, h.cost, said.decimals)
+    (ap (λ (t : List Element). marks (codes "</td><td>") ∷ number l.count ∷ marks (codes "</td><td>") ∷ units a.decimals l.cost ∷ t)
     (behind_same a b (marks (codes "</td></tr>\n") ∷ []) (marks (codes "</td></tr>\n") ∷ []) said refl))
 
-run_same : (a b : List ℕ) → AreSaidAlike a b → (l m : RunLine) → IsAlikeRun l m → Same (run_line b m) (run_line a l)
+run_same : (a b : Money) → AreSaidAlike a b → (l m : RunLine) → IsAlikeRun l m → Same (run_line b m) (run_line a l)
 run_same a b said l m h = simp (map-append, run_front_same l m, run_end_same a b l m said h)
 
-run_table_same : (a b title : List ℕ) (ls ms : List RunLine) → AreSaidAlike a b → AreAlike IsAlikeRun ls ms → Same (run_table b title ms) (run_table a title ls)
+run_table_same : (a b : Money) (title : List ℕ) (ls ms : List RunLine) → AreSaidAlike a b → AreAlike IsAlikeRun ls ms → Same (run_table b title ms) (run_table a title ls)
 unfolding run_table
 run_table_same a b title ls ms said h =
     simp (map-append, each_same IsAlikeRun (run_line a) (run_line b) (run_same a b said) ls ms h)
 
-run_list_same : (a b title : List ℕ) (ls ms : List RunLine) → AreSaidAlike a b → AreAlike IsAlikeRun ls ms → Same (run_list b title ms) (run_list a title ls)
+run_list_same : (a b : Money) (title : List ℕ) (ls ms : List RunLine) → AreSaidAlike a b → AreAlike IsAlikeRun ls ms → Same (run_list b title ms) (run_list a title ls)
 unfolding run_list
 run_list_same a b title ls ms said h =
     rw (as_many IsAlikeRun ls ms h) (when (nat_lt 0 (length ls)) (run_table b title ms) (run_table a title ls) (run_table_same a b title ls ms said h))
 
 -- ---- all of them
 
-some_same : (a b : List ℕ) (t u : Tables) → AreSaidAlike a b → IsAlikeTables t u → Same (some_tables b u) (some_tables a t)
+some_same : (a b : Money) (t u : Tables) → AreSaidAlike a b → IsAlikeTables t u → Same (some_tables b u) (some_tables a t)
 unfolding some_tables
 some_same a b t u said h =
     let totals : Same (total_table u.totals u.covered) (total_table t.totals t.covered)
@@ -148,7 +149,7 @@ some_same a b t u said h =
       shifts,
     )
 
-pub tables_same : (a b : List ℕ) (t u : Tables) → AreSaidAlike a b → IsAlikeTables t u → Same (page_tables b u) (page_tables a t)
+pub tables_same : (a b : Money) (t u : Tables) → AreSaidAlike a b → IsAlikeTables t u → Same (page_tables b u) (page_tables a t)
 unfolding page_tables
 tables_same a b t u said h =
     rw (as_many IsAlikeShift t.shifts u.shifts h.shifts) (when (nat_lt 0 (length t.shifts)) (some_tables b u) (some_tables a t) (some_same a b t u said h))

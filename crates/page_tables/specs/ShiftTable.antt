@@ -3,6 +3,7 @@ use Rattle.std.specs.Prelude.{ℕ, Bool, List, [], ◌∷◌, ◌++◌, codes, i
 use Rattle.std.specs.List.{flat_map}
 use Rattle.page_parts.specs.Amounts.{amount}
 use Rattle.page_parts.specs.Elements.{Element, marks, given, number}
+use Rattle.page_parts.specs.declared.money.Money.{Money}
 use Rattle.page_tables.specs.declared.line.ShiftLine.{ShiftLine}
 
 unfoldable pub group_cell_of : List ℕ → List Element
@@ -19,23 +20,23 @@ line_front grouped l =
     ++ marks (codes "<td>") ∷ given l.begin ∷ marks (codes "</td><td>") ∷ given l.end ∷ []
 
 -- the rest of the line of a shift, where amounts are counted in these words
-unfoldable pub line_end : List ℕ → ShiftLine → List Element
+unfoldable pub line_end : Money → ShiftLine → List Element
 line_end m l =
     marks (codes "</td><td>") ∷ number l.work ∷ marks (codes "</td><td>") ∷ given l.paid
     ∷ marks (codes "</td><td>") ∷ amount m l.price
     ++ marks (codes "</td><td class='word'>") ∷ given l.word ∷ marks (codes "</td></tr>\n") ∷ []
 
-abbrev pub shift_line : List ℕ → Bool → ShiftLine → List Element
+abbrev pub shift_line : Money → Bool → ShiftLine → List Element
 shift_line m grouped l = line_front grouped l ++ line_end m l
 
-abbrev pub shift_lines : List ℕ → Bool → List ShiftLine → List Element
+abbrev pub shift_lines : Money → Bool → List ShiftLine → List Element
 shift_lines m grouped ls = flat_map (shift_line m grouped) ls
 
 -- the title of the column of groups, on a day with groups
 unfoldable pub group_head : Bool → List ℕ
 group_head grouped = if grouped then codes "<th>Group</th>" else []
 
-unfoldable pub shift_table : List ℕ → Bool → List ShiftLine → List Element
+unfoldable pub shift_table : Money → Bool → List ShiftLine → List Element
 shift_table m grouped ls =
     marks (codes "<section class='list'><h2>List of shifts</h2>\n<div class='scroll'><table><thead><tr><th>Shift</th>")
     ∷ marks (group_head grouped)

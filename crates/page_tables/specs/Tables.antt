@@ -1,6 +1,7 @@
 -- The tables and lists of a page.
 use Rattle.std.specs.Prelude.{ℕ, List, [], ◌∷◌, ◌++◌, codes, length, nat_lt, if◌then◌else◌}
 use Rattle.page_parts.specs.Elements.{Element}
+use Rattle.page_parts.specs.declared.money.Money.{Money}
 use Rattle.page_tables.specs.HeadTable.{head_table}
 use Rattle.page_tables.specs.RunLists.{run_list}
 use Rattle.page_tables.specs.ShiftTable.{shift_table}
@@ -8,11 +9,11 @@ use Rattle.page_tables.specs.TotalTable.{total_table}
 use Rattle.page_tables.specs.declared.tables.Tables.{Tables}
 
 -- the tables and lists, where amounts are counted in these words
-unfoldable pub some_tables : List ℕ → Tables → List Element
+unfoldable pub some_tables : Money → Tables → List Element
 some_tables m t =
     run_list m (codes "Shortages") t.shortages ++ (run_list m (codes "Surplus") t.surplus
     ++ (total_table t.totals t.covered ++ (head_table t.heads ++ shift_table m t.grouped t.shifts)))
 
 -- the same, where there are any shifts
-unfoldable pub page_tables : List ℕ → Tables → List Element
+unfoldable pub page_tables : Money → Tables → List Element
 page_tables m t = if nat_lt 0 (length t.shifts) then some_tables m t else []

@@ -3,7 +3,7 @@ ghost use Rattle.page_parts.specs.Elements.{written};
 ghost use Rattle.page_tables.specs.RunLists.{run_end, run_front, run_line, run_lines, run_list, run_table};
 
 use crate::line::RunLine;
-use page_parts::{labelled, labelled_amount, labelled_text, marks};
+use page_parts::{Money, labelled, labelled_amount, labelled_text, marks};
 use roster_model::{List, Memory};
 
 // Writes what stands before the number of a run.
@@ -18,7 +18,7 @@ fn run_front(out: &mut List<u8>, line: &RunLine) -> Result<(), Memory>
 
 // Writes the rest of the line of a run.
 #[tactic(auto, unfolding(crate::specs::RunLists::run_end))]
-fn run_end(out: &mut List<u8>, money: &[u8], line: &RunLine) -> Result<(), Memory>
+fn run_end(out: &mut List<u8>, money: &Money, line: &RunLine) -> Result<(), Memory>
     ensures { OnOk result (out.new ≡ out.old ++ written (run_end money.now line.now)) }
 {
     labelled(out, b"</td><td>", line.count as u64)?;
@@ -27,7 +27,7 @@ fn run_end(out: &mut List<u8>, money: &[u8], line: &RunLine) -> Result<(), Memor
 }
 
 // Writes the line of a run.
-fn run_line(out: &mut List<u8>, money: &[u8], line: &RunLine) -> Result<(), Memory>
+fn run_line(out: &mut List<u8>, money: &Money, line: &RunLine) -> Result<(), Memory>
     ensures { OnOk result (out.new ≡ out.old ++ written (run_line money.now line.now)) }
 {
     run_front(out, line)?;
@@ -35,7 +35,7 @@ fn run_line(out: &mut List<u8>, money: &[u8], line: &RunLine) -> Result<(), Memo
 }
 
 // Writes the lines of runs.
-fn run_lines(out: &mut List<u8>, money: &[u8], lines: &[RunLine]) -> Result<(), Memory>
+fn run_lines(out: &mut List<u8>, money: &Money, lines: &[RunLine]) -> Result<(), Memory>
     ensures { OnOk result (out.new ≡ out.old ++ written (run_lines money.now lines.now)) }
 {
     for line in lines {
@@ -56,7 +56,7 @@ fn table_heads() -> &'static [u8]
 #[tactic(auto, unfolding(crate::specs::RunLists::run_table))]
 fn run_table(
     out: &mut List<u8>,
-    money: &[u8],
+    money: &Money,
     title: &[u8],
     lines: &[RunLine],
 ) -> Result<(), Memory>
@@ -78,7 +78,7 @@ fn run_table(
 #[tactic(auto, unfolding(crate::specs::RunLists::run_list))]
 pub(crate) fn run_list(
     out: &mut List<u8>,
-    money: &[u8],
+    money: &Money,
     title: &[u8],
     lines: &[RunLine],
 ) -> Result<(), Memory>

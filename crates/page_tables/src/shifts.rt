@@ -3,7 +3,7 @@ ghost use Rattle.page_parts.specs.Elements.{written};
 ghost use Rattle.page_tables.specs.ShiftTable.{group_cell, group_cell_of, group_head, line_end, line_front, shift_line, shift_lines, shift_table};
 
 use crate::line::ShiftLine;
-use page_parts::{labelled, labelled_amount, labelled_text, marks};
+use page_parts::{Money, labelled, labelled_amount, labelled_text, marks};
 use roster_model::{List, Memory};
 
 // Writes the cell of a group.
@@ -40,7 +40,7 @@ fn line_front(out: &mut List<u8>, grouped: bool, line: &ShiftLine) -> Result<(),
 
 // Writes the rest of the line of a shift.
 #[tactic(auto, unfolding(crate::specs::ShiftTable::line_end))]
-fn line_end(out: &mut List<u8>, money: &[u8], line: &ShiftLine) -> Result<(), Memory>
+fn line_end(out: &mut List<u8>, money: &Money, line: &ShiftLine) -> Result<(), Memory>
     ensures { OnOk result (out.new ≡ out.old ++ written (line_end money.now line.now)) }
 {
     labelled(out, b"</td><td>", line.work)?;
@@ -53,7 +53,7 @@ fn line_end(out: &mut List<u8>, money: &[u8], line: &ShiftLine) -> Result<(), Me
 // Writes the line of a shift.
 fn shift_line(
     out: &mut List<u8>,
-    money: &[u8],
+    money: &Money,
     grouped: bool,
     line: &ShiftLine,
 ) -> Result<(), Memory>
@@ -66,7 +66,7 @@ fn shift_line(
 // Writes the lines of shifts.
 fn shift_lines(
     out: &mut List<u8>,
-    money: &[u8],
+    money: &Money,
     grouped: bool,
     lines: &[ShiftLine],
 ) -> Result<(), Memory>
@@ -110,7 +110,7 @@ fn table_heads() -> &'static [u8]
 #[tactic(auto, unfolding(crate::specs::ShiftTable::shift_table))]
 pub(crate) fn shift_table(
     out: &mut List<u8>,
-    money: &[u8],
+    money: &Money,
     grouped: bool,
     lines: &[ShiftLine],
 ) -> Result<(), Memory>

@@ -7,6 +7,7 @@ use crate::line::{HeadLine, RunLine, ShiftLine, TotalLine};
 use crate::lists::run_list;
 use crate::shifts::shift_table;
 use crate::totals::total_table;
+use page_parts::Money;
 use roster_model::{List, Memory};
 
 /// What the tables and lists of a page show.
@@ -30,7 +31,7 @@ pub struct Tables {
 
 // Appends the tables and lists.
 #[tactic(auto, unfolding(crate::specs::Tables::some_tables))]
-fn some_tables(out: &mut List<u8>, money: &[u8], tables: &Tables) -> Result<(), Memory>
+fn some_tables(out: &mut List<u8>, money: &Money, tables: &Tables) -> Result<(), Memory>
     ensures { OnOk result (out.new ≡ out.old ++ written (some_tables money.now tables.now)) }
 {
     run_list(out, money, b"Shortages", tables.shortages.as_slice())?;
@@ -47,7 +48,7 @@ fn some_tables(out: &mut List<u8>, money: &[u8], tables: &Tables) -> Result<(), 
 ///
 /// `Memory` where memory runs out; a part of them may stand there then.
 #[tactic(auto, unfolding(crate::specs::Tables::page_tables))]
-pub fn add_tables(out: &mut List<u8>, money: &[u8], tables: &Tables) -> Result<(), Memory>
+pub fn add_tables(out: &mut List<u8>, money: &Money, tables: &Tables) -> Result<(), Memory>
     ensures { OnOk result (out.new ≡ out.old ++ written (page_tables money.now tables.now)) }
 {
     if tables.shifts.len() > 0 {

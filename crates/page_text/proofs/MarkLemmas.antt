@@ -6,9 +6,10 @@ use Rattle.std.specs.List.{flat_map}
 use Rattle.std.specs.Prelude.{codes, if◌then◌else◌, min, nat_lt, option_map, slice_get}
 use Rattle.roster_model.specs.declared.grammar.CodeDef.{CodeDef}
 use Rattle.page_parts.specs.Amounts.{AreSaidAlike, amount}
-use Rattle.page_parts.specs.Elements.{Element, bar, caption, each_from, given, marks, number, places}
+use Rattle.page_parts.specs.Elements.{Element, bar, caption, each_from, given, marks, number, places, units}
 use Rattle.page_parts.specs.Escapes.{IsOneToOne, mark_of, marks_of, recoded}
 use Rattle.page_parts.specs.Sheets.{chart_width, sheet_of, top_of}
+use Rattle.page_parts.specs.declared.money.Money.{Money}
 use Rattle.page_parts.specs.declared.sheet.PeriodAxis.{PeriodAxis}
 use Rattle.page_parts.proofs.AmountLemmas.{unit_same}
 use Rattle.page_parts.proofs.PaintLemmas.{same_paint}
@@ -22,7 +23,7 @@ use Rattle.page_text.specs.Alike.{AreAlikeRows, IsAlike, IsAlikeRow}
 use Rattle.page_text.specs.Charts.{top_count, unit_of}
 use Rattle.page_text.specs.Inputs.{longest}
 use Rattle.page_text.specs.Style.{style}
-use Rattle.page_text.specs.Pages.{all_show, before_title, body, chart, chart_body, chart_head, coverage, coverage_part, derivation, derivations_part, head, heading, height_of, legend, legend_item, page, shifts, shifts_part, size, title_of, titled_derivations, top_part}
+use Rattle.page_text.specs.Pages.{all_show, before_title, body, chart, chart_body, chart_head, coverage, coverage_part, derivation, derivations_part, head, heading, height_of, legend, legend_item, lines_at, page, shifts, shifts_part, size, title_of, titled_derivations, top_part, word_lines}
 use Rattle.page_text.specs.RosterChart.{cell, cells, letter, marked_cell, price_text, row_elements, row_frame, row_head, row_words, ticks, times, who}
 use Rattle.page_text.specs.RosterChart.{gap as name_gap}
 use Rattle.page_text.specs.Changes.{changes_part}
@@ -67,19 +68,19 @@ head_same t u xs ys e = rw e (titles_same t u (all_show ys))
 -- ---- what depends on the words that amounts are counted in
 
 -- what stands behind whose shift a row is
-abbrev word_tail : List ℕ → Row → ℕ → List Element
+abbrev word_tail : Money → Row → ℕ → List Element
 word_tail m r price =
     given r.name ∷ given (name_gap r.name) ∷ given r.word ∷ marks (codes ", price ") ∷ amount m price
 
 -- what the head of a page, the sentence, the costs and the changes come to
-abbrev tops : List ℕ → List Element → List CodeDef → Figures → List CellCover → Option Changes → List Element
+abbrev tops : Money → List Element → List CodeDef → Figures → List CellCover → Option Changes → List Element
 tops m heads cs figures columns changes =
     heads ++ (sentence m figures.cost figures.bound ++ (marks (codes "</p></header>\n") ∷ (costs m cs figures columns ++ changes_part changes)))
 
-module _ (m n : List ℕ) (said : AreSaidAlike m n) where
+module _ (m n : Money) (said : AreSaidAlike m n) where
   saves_same : (sum permille : ℕ) → Same (saves n sum permille) (saves m sum permille)
   unfolding saves
-  saves_same sum permille = simp (map-append, unit_same m n said)
+  saves_same sum permille = simp (map-append, unit_same m n said, said.decimals)
 
   told_same : (t : Saving) → Same (told n t) (told m t)
   unfolding told
@@ -93,7 +94,7 @@ module _ (m n : List ℕ) (said : AreSaidAlike m n) where
 
   no_roster_same : (bound : ℕ) → Same (no_roster n bound) (no_roster m bound)
   unfolding no_roster
-  no_roster_same bound = simp (map-append, unit_same m n said)
+  no_roster_same bound = simp (map-append, unit_same m n said, said.decimals)
 
   sentence_over_same : (cost : Option ℕ) (bound : ℕ) → Same (sentence_over n cost bound) (sentence_over m cost bound)
   unfolding sentence_over
@@ -108,11 +109,11 @@ module _ (m n : List ℕ) (said : AreSaidAlike m n) where
   amount_or_none_same : (sum : Option ℕ) → Same (amount_or_none n sum) (amount_or_none m sum)
   unfolding amount_or_none
   amount_or_none_same None = refl
-  amount_or_none_same (Some sum) = simp (map-append, unit_same m n said)
+  amount_or_none_same (Some sum) = simp (map-append, unit_same m n said, said.decimals)
 
   both_sums_same : (f : Figures) → Same (both_sums n f) (both_sums m f)
   unfolding both_sums
-  both_sums_same f = simp (map-append, unit_same m n said)
+  both_sums_same f = simp (map-append, unit_same m n said, said.decimals)
 
   sums_same : (f : Figures) (cost : Option ℕ) → Same (sums n f cost) (sums m f cost)
   unfolding sums
@@ -121,7 +122,7 @@ module _ (m n : List ℕ) (said : AreSaidAlike m n) where
 
   price_same : (s : PeriodAxis) (k price : ℕ) → Same (price_text n s k price) (price_text m s k price)
   unfolding price_text
-  price_same s k price = simp (map-append, unit_same m n said)
+  price_same s k price = simp (map-append, unit_same m n said, said.decimals)
 
 module _ (f : ℕ → ℕ) (one : IsOneToOne f) where
   abbrev other : CodeDef → CodeDef
@@ -137,27 +138,27 @@ module _ (f : ℕ → ℕ) (one : IsOneToOne f) where
 
   -- ---- costs
 
-  demanded_same : (m n : List ℕ) → AreSaidAlike m n → (cs : List CodeDef) (columns : List CellCover) (k : ℕ) (c : CodeDef)
+  demanded_same : (m n : Money) → AreSaidAlike m n → (cs : List CodeDef) (columns : List CellCover) (k : ℕ) (c : CodeDef)
       → Same (demanded_cost n (recoded f cs) columns k (other c)) (demanded_cost m cs columns k c)
   unfolding demanded_cost
-  demanded_same m n said cs columns k c = simp (map-append, chip_same cs c.byte, unit_same m n said)
+  demanded_same m n said cs columns k c = simp (map-append, chip_same cs c.byte, unit_same m n said, said.decimals)
 
-  code_cost_same : (m n : List ℕ) → AreSaidAlike m n → (cs : List CodeDef) (columns : List CellCover) (k : ℕ) (c : CodeDef)
+  code_cost_same : (m n : Money) → AreSaidAlike m n → (cs : List CodeDef) (columns : List CellCover) (k : ℕ) (c : CodeDef)
       → Same (code_cost n (recoded f cs) columns k (other c)) (code_cost m cs columns k c)
   unfolding code_cost
   code_cost_same m n said cs columns k c =
       when (is_demanded k columns) (demanded_cost n (recoded f cs) columns k (other c)) (demanded_cost m cs columns k c) (demanded_same m n said cs columns k c)
 
-  code_costs_same : (m n : List ℕ) → AreSaidAlike m n → (cs : List CodeDef) (columns : List CellCover) → Same (code_costs n (recoded f cs) columns) (code_costs m cs columns)
+  code_costs_same : (m n : Money) → AreSaidAlike m n → (cs : List CodeDef) (columns : List CellCover) → Same (code_costs n (recoded f cs) columns) (code_costs m cs columns)
   code_costs_same m n said cs columns =
       each_same (code_cost n (recoded f cs) columns) (code_cost m cs columns) (code_cost_same m n said cs columns) 0 cs
 
-  costs_same : (m n : List ℕ) → AreSaidAlike m n → (cs : List CodeDef) (figures : Figures) (columns : List CellCover) → Same (costs n (recoded f cs) figures columns) (costs m cs figures columns)
+  costs_same : (m n : Money) → AreSaidAlike m n → (cs : List CodeDef) (figures : Figures) (columns : List CellCover) → Same (costs n (recoded f cs) figures columns) (costs m cs figures columns)
   unfolding costs
   costs_same m n said cs figures columns =
       simp (map-append, amount_or_none_same m n said figures.cost, amount_or_none_same m n said figures.bound, sums_same m n said figures figures.cost, code_costs_same m n said cs columns)
 
-  tops_same : (m n : List ℕ) → AreSaidAlike m n → (es fs : List Element) → Same fs es → (cs : List CodeDef) (figures : Figures) (columns : List CellCover) (changes : Option Changes)
+  tops_same : (m n : Money) → AreSaidAlike m n → (es fs : List Element) → Same fs es → (cs : List CodeDef) (figures : Figures) (columns : List CellCover) (changes : Option Changes)
       → Same (tops n fs (recoded f cs) figures columns changes) (tops m es cs figures columns changes)
   tops_same m n said es fs h cs figures columns changes =
       simp (map-append, h, sentence_same m n said figures.cost figures.bound, costs_same m n said cs figures columns)
@@ -195,24 +196,24 @@ module _ (f : ℕ → ℕ) (one : IsOneToOne f) where
   marked_same : (s : PeriodAxis) (cs : List CodeDef) (k : ℕ) (word : List ℕ) (differs : List Bool) (place : ℕ) → Same (marked_cell s (recoded f cs) k (map f word) differs place) (marked_cell s cs k word differs place)
   marked_same s cs k word differs place = simp (map-append, cell_same s cs k word place)
 
-  words_same : (m n : List ℕ) → AreSaidAlike m n → (r q : Row) → IsAlikeRow f r q → Same (row_words n q) (row_words m r)
+  words_same : (m n : Money) → AreSaidAlike m n → (r q : Row) → IsAlikeRow f r q → Same (row_words n q) (row_words m r)
   unfolding row_words
   words_same m n said r q h =
       let tail : Same (word_tail n q r.price) (word_tail m r r.price)
-      = ap (λ (t : List Element). given [] ∷ given [] ∷ given [] ∷ marks (codes ", price ") ∷ number r.price ∷ t) (unit_same m n said) in
+      = rw said.decimals (ap (λ (t : List Element). given [] ∷ given [] ∷ given [] ∷ marks (codes ", price ") ∷ units m.decimals r.price ∷ t) (unit_same m n said)) in
       rw (h.number, h.count, h.price) (front_same (who r.number r.count) (word_tail m r r.price) (word_tail n q r.price) tail)
 
-  head_of_row_same : (m n : List ℕ) → AreSaidAlike m n → (k : ℕ) (r q : Row) → IsAlikeRow f r q → Same (row_head n k q) (row_head m k r)
+  head_of_row_same : (m n : Money) → AreSaidAlike m n → (k : ℕ) (r q : Row) → IsAlikeRow f r q → Same (row_head n k q) (row_head m k r)
   unfolding row_head
   head_of_row_same m n said k r q h = simp (map-append, words_same m n said r q h)
 
-  frame_same : (m n : List ℕ) → AreSaidAlike m n → (s : PeriodAxis) (k : ℕ) (r q : Row) → IsAlikeRow f r q → Same (row_frame n s k q) (row_frame m s k r)
+  frame_same : (m n : Money) → AreSaidAlike m n → (s : PeriodAxis) (k : ℕ) (r q : Row) → IsAlikeRow f r q → Same (row_frame n s k q) (row_frame m s k r)
   unfolding row_frame
   frame_same m n said s k r q h =
       rw h.price
       (ap (λ (t : List Element). bar (codes "hit") (record { left = 4; top = top_of k - 2; width = chart_width s - 8; height = 26 }) ∷ caption (codes "name") (s.left - 10) (top_of k + 15) [] ∷ t) (price_same m n said s k r.price))
 
-  row_same : (m n : List ℕ) → AreSaidAlike m n → (s : PeriodAxis) (cs : List CodeDef) (k : ℕ) (r q : Row) → IsAlikeRow f r q → Same (row_elements n s (recoded f cs) k q) (row_elements m s cs k r)
+  row_same : (m n : Money) → AreSaidAlike m n → (s : PeriodAxis) (cs : List CodeDef) (k : ℕ) (r q : Row) → IsAlikeRow f r q → Same (row_elements n s (recoded f cs) k q) (row_elements m s cs k r)
   unfolding row_elements
   row_same m n said s cs k r q h =
       let times_same : Same (times k q.number q.count) (times k r.number r.count) = rw (h.number, h.count) refl in
@@ -222,7 +223,7 @@ module _ (f : ℕ → ℕ) (one : IsOneToOne f) where
       ∙ flat_same (marked_cell s (recoded f cs) k (map f r.word) r.differs) (marked_cell s cs k r.word r.differs) (marked_same s cs k r.word r.differs) (places s.periods) in
       simp (map-append, head_of_row_same m n said k r q h, frame_same m n said s k r q h, times_same, cells_same)
 
-  rows_same : (m n : List ℕ) → AreSaidAlike m n → (s : PeriodAxis) (cs : List CodeDef) (k : ℕ) (rs qs : List Row) → AreAlikeRows f rs qs
+  rows_same : (m n : Money) → AreSaidAlike m n → (s : PeriodAxis) (cs : List CodeDef) (k : ℕ) (rs qs : List Row) → AreAlikeRows f rs qs
       → Same (each_from (row_elements n s (recoded f cs)) k qs) (each_from (row_elements m s cs) k rs)
   rows_same m n said s cs k [] [] h = refl
   rows_same m n said s cs k [] (q ∷ qs) h = absurd h
@@ -276,7 +277,7 @@ module _ (f : ℕ → ℕ) (one : IsOneToOne f) where
 
   -- ---- the derivations
 
-  rows_at_same : (m n : List ℕ) → AreSaidAlike m n → (rs qs : List Row) (k : ℕ) → AreAlikeRows f rs qs
+  rows_at_same : (m n : Money) → AreSaidAlike m n → (rs qs : List Row) (k : ℕ) → AreAlikeRows f rs qs
       → Same (elim (slice_get qs k) [ None ↦ [] | Some r ↦ row_words n r ]) (elim (slice_get rs k) [ None ↦ [] | Some r ↦ row_words m r ])
   rows_at_same m n said [] [] k h = refl
   rows_at_same m n said [] (q ∷ qs) k h = absurd h
@@ -284,15 +285,31 @@ module _ (f : ℕ → ℕ) (one : IsOneToOne f) where
   rows_at_same m n said (r ∷ rs) (q ∷ qs) zero h = words_same m n said r q h.0
   rows_at_same m n said (r ∷ rs) (q ∷ qs) (suc k) h = rows_at_same m n said rs qs k h.1
 
-  heading_same : (m n : List ℕ) → AreSaidAlike m n → (rs qs : List Row) (k : ℕ) → AreAlikeRows f rs qs → Same (heading n qs k) (heading m rs k)
+  heading_same : (m n : Money) → AreSaidAlike m n → (rs qs : List Row) (k : ℕ) → AreAlikeRows f rs qs → Same (heading n qs k) (heading m rs k)
   unfolding heading
   heading_same m n said rs qs k h = rows_at_same m n said rs qs k h
 
-  derivation_same : (m n : List ℕ) → AreSaidAlike m n → (rs qs : List Row) (k : ℕ) (x y : List ℕ) → AreAlikeRows f rs qs → Same (derivation n qs k x) (derivation m rs k y)
-  unfolding derivation
-  derivation_same m n said rs qs k x y h = simp (map-append, heading_same m n said rs qs k h)
+  word_lines_same : (m n : Money) → AreSaidAlike m n → (r q : Row) → IsAlikeRow f r q → Same (word_lines n q) (word_lines m r)
+  unfolding word_lines
+  word_lines_same m n said r q h = rw (said.decimals, h.price) refl
 
-  derivations_same : (m n : List ℕ) → AreSaidAlike m n → (rs qs : List Row) (k : ℕ) (xs ys : List (List ℕ)) → AreAlikeRows f rs qs → length xs ≡ length ys
+  lines_same : (m n : Money) → AreSaidAlike m n → (rs qs : List Row) (k : ℕ) → AreAlikeRows f rs qs
+      → Same (elim (slice_get qs k) [ None ↦ [] | Some r ↦ word_lines n r ]) (elim (slice_get rs k) [ None ↦ [] | Some r ↦ word_lines m r ])
+  lines_same m n said [] [] k h = refl
+  lines_same m n said [] (q ∷ qs) k h = absurd h
+  lines_same m n said (r ∷ rs) [] k h = absurd h
+  lines_same m n said (r ∷ rs) (q ∷ qs) zero h = word_lines_same m n said r q h.0
+  lines_same m n said (r ∷ rs) (q ∷ qs) (suc k) h = lines_same m n said rs qs k h.1
+
+  lines_at_same : (m n : Money) → AreSaidAlike m n → (rs qs : List Row) (k : ℕ) → AreAlikeRows f rs qs → Same (lines_at n qs k) (lines_at m rs k)
+  unfolding lines_at
+  lines_at_same m n said rs qs k h = lines_same m n said rs qs k h
+
+  derivation_same : (m n : Money) → AreSaidAlike m n → (rs qs : List Row) (k : ℕ) (x y : List ℕ) → AreAlikeRows f rs qs → Same (derivation n qs k x) (derivation m rs k y)
+  unfolding derivation
+  derivation_same m n said rs qs k x y h = simp (map-append, heading_same m n said rs qs k h, lines_at_same m n said rs qs k h)
+
+  derivations_same : (m n : Money) → AreSaidAlike m n → (rs qs : List Row) (k : ℕ) (xs ys : List (List ℕ)) → AreAlikeRows f rs qs → length xs ≡ length ys
       → Same (each_from (derivation n qs) k xs) (each_from (derivation m rs) k ys)
   derivations_same m n said rs qs k [] [] h e = refl
   derivations_same m n said rs qs k [] (y ∷ ys) h e = absurd (omega arith)
@@ -300,11 +317,11 @@ module _ (f : ℕ → ℕ) (one : IsOneToOne f) where
   derivations_same m n said rs qs k (x ∷ xs) (y ∷ ys) h e =
       simp (map-append, derivation_same m n said rs qs k x y h, derivations_same m n said rs qs (k + 1) xs ys h (omega arith))
 
-  titled_same : (m n : List ℕ) → AreSaidAlike m n → (rs qs : List Row) (xs ys : List (List ℕ)) → AreAlikeRows f rs qs → length xs ≡ length ys → Same (titled_derivations n qs xs) (titled_derivations m rs ys)
+  titled_same : (m n : Money) → AreSaidAlike m n → (rs qs : List Row) (xs ys : List (List ℕ)) → AreAlikeRows f rs qs → length xs ≡ length ys → Same (titled_derivations n qs xs) (titled_derivations m rs ys)
   unfolding titled_derivations
   titled_same m n said rs qs xs ys h e = simp (map-append, derivations_same m n said rs qs 0 xs ys h e)
 
-  derivations_part_same : (m n : List ℕ) → AreSaidAlike m n → (rs qs : List Row) (xs ys : List (List ℕ)) → AreAlikeRows f rs qs → length xs ≡ length ys
+  derivations_part_same : (m n : Money) → AreSaidAlike m n → (rs qs : List Row) (xs ys : List (List ℕ)) → AreAlikeRows f rs qs → length xs ≡ length ys
       → Same (derivations_part n qs xs) (derivations_part m rs ys)
   unfolding derivations_part
   derivations_part_same m n said rs qs xs ys h e =
@@ -331,8 +348,8 @@ module _ (f : ℕ → ℕ) (one : IsOneToOne f) where
   same_sheet : (periods a b u v : ℕ) → min a 60 ≡ min b 60 → min u 60 ≡ min v 60 → sheet_of periods a u ≡ sheet_of periods b v
   same_sheet periods a b u v e g = rw (e, g) refl
 
-  pub page_same : (periods : ℕ) (cs : List CodeDef) (c d : Content) → IsAlike f c d → min (longest d.rows 0) 60 ≡ min (longest c.rows 0) 60 → min (length d.money) 60 ≡ min (length c.money) 60
+  pub page_same : (periods : ℕ) (cs : List CodeDef) (c d : Content) → IsAlike f c d → min (longest d.rows 0) 60 ≡ min (longest c.rows 0) 60 → min (length d.money.words) 60 ≡ min (length c.money.words) 60
       → Same (page periods (recoded f cs) d) (page periods cs c)
   page_same periods cs c d h e g =
-      ap (λ (s : PeriodAxis). marks_of (body s (recoded f cs) d)) (same_sheet periods (longest d.rows 0) (longest c.rows 0) (length d.money) (length c.money) e g)
-      ∙ body_same (sheet_of periods (longest c.rows 0) (length c.money)) cs c d h
+      ap (λ (s : PeriodAxis). marks_of (body s (recoded f cs) d)) (same_sheet periods (longest d.rows 0) (longest c.rows 0) (length d.money.words) (length c.money.words) e g)
+      ∙ body_same (sheet_of periods (longest c.rows 0) (length c.money.words)) cs c d h

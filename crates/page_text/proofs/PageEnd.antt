@@ -33,4 +33,4 @@ body_ends s cs c =
     (behind (codes "</html>\n") (derivations_part c.money c.rows c.derivations) _ last))))
 
 pub page_ends : (periods : ℕ) (cs : List CodeDef) (c : Content) → EndsWith (codes "</html>\n") (written (page periods cs c))
-page_ends periods cs c = body_ends (sheet_of periods (longest c.rows 0) (length c.money)) cs c
+page_ends periods cs c = body_ends (sheet_of periods (longest c.rows 0) (length c.money.words)) cs c

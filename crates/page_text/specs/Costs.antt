@@ -5,6 +5,7 @@ use Rattle.roster_model.specs.declared.grammar.CodeDef.{CodeDef}
 use Rattle.page_parts.specs.Amounts.{amount}
 use Rattle.page_parts.specs.Elements.{Element, each_from, marks, given, number}
 use Rattle.page_parts.specs.Paints.{paint_of}
+use Rattle.page_parts.specs.declared.money.Money.{Money}
 use Rattle.page_text.specs.declared.column.CellCover.{CellCover}
 use Rattle.page_text.specs.declared.figures.Figures.{Figures}
 use Rattle.shift_figures.specs.Bounds.{saving_at}
@@ -12,7 +13,7 @@ use Rattle.shift_figures.specs.declared.bound.Saving.{Saving}
 use Rattle.shift_figures.specs.declared.bound.Saving.TheVariants.{NoneLess, Unknown, AtMost}
 
 -- the sentence of what a cheaper roster saves at most, with its share in tenths of a percent
-unfoldable pub saves : List ℕ → ℕ → ℕ → List Element
+unfoldable pub saves : Money → ℕ → ℕ → List Element
 saves m sum permille =
     marks (codes "A cheaper roster saves at most ") ∷ amount m sum ++ marks (codes " (") ∷ number (permille / 10)
     ∷ marks (codes ".") ∷ number (permille % 10) ∷ marks (codes " %).") ∷ []
@@ -26,17 +27,17 @@ unfoldable pub none_less : List Element
 none_less = marks (codes "No allowed roster costs less.") ∷ []
 
 -- the sentence of what a bound tells
-unfoldable pub told : List ℕ → Saving → List Element
+unfoldable pub told : Money → Saving → List Element
 told m NoneLess = none_less
 told m Unknown = unknown
 told m (AtMost sum permille) = saves m sum permille
 
 -- the sentence of a roster that costs so much, where this is the bound
-unfoldable pub gap : List ℕ → ℕ → ℕ → List Element
+unfoldable pub gap : Money → ℕ → ℕ → List Element
 gap m cost bound = told m (saving_at cost bound)
 
 -- the sentence where there is no roster, but a bound
-unfoldable pub no_roster : List ℕ → ℕ → List Element
+unfoldable pub no_roster : Money → ℕ → List Element
 no_roster m bound =
     marks (codes "No roster is stated. Each allowed roster costs at least ") ∷ amount m bound
     ++ marks (codes ".") ∷ []
@@ -45,16 +46,16 @@ no_roster m bound =
 unfoldable pub none_allowed : List Element
 none_allowed = marks (codes "No roster is allowed.") ∷ []
 
-unfoldable pub sentence_over : List ℕ → Option ℕ → ℕ → List Element
+unfoldable pub sentence_over : Money → Option ℕ → ℕ → List Element
 sentence_over m None bound = no_roster m bound
 sentence_over m (Some cost) bound = gap m cost bound
 
 -- how good the roster is, where amounts are counted in these words
-unfoldable pub sentence : List ℕ → Option ℕ → Option ℕ → List Element
+unfoldable pub sentence : Money → Option ℕ → Option ℕ → List Element
 sentence m cost None = none_allowed
 sentence m cost (Some bound) = sentence_over m cost bound
 
-unfoldable pub amount_or_none : List ℕ → Option ℕ → List Element
+unfoldable pub amount_or_none : Money → Option ℕ → List Element
 amount_or_none m (Some n) = amount m n
 amount_or_none m None = marks (codes "none") ∷ []
 
@@ -82,31 +83,31 @@ pub record AreDayColumns (columns : List CellCover) : Type 0 where
   pub few : length columns ≤ 768
   pub small : All (λ (c : CellCover). c.penalty ≤ 1280000) columns
 
-unfoldable pub demanded_cost : List ℕ → List CodeDef → List CellCover → ℕ → CodeDef → List Element
+unfoldable pub demanded_cost : Money → List CodeDef → List CellCover → ℕ → CodeDef → List Element
 demanded_cost m cs columns place c =
     marks (codes "<div><dt>Penalty for ") ∷ chip cs c.byte
     ++ (marks (codes "</dt><dd>") ∷ amount m (penalties place columns 0) ++ marks (codes "</dd></div>") ∷ [])
 
-unfoldable pub code_cost : List ℕ → List CodeDef → List CellCover → ℕ → CodeDef → List Element
+unfoldable pub code_cost : Money → List CodeDef → List CellCover → ℕ → CodeDef → List Element
 code_cost m cs columns place c = if is_demanded place columns then demanded_cost m cs columns place c else []
 
-abbrev pub code_costs : List ℕ → List CodeDef → List CellCover → List Element
+abbrev pub code_costs : Money → List CodeDef → List CellCover → List Element
 code_costs m cs columns = each_from (code_cost m cs columns) 0 cs
 
 -- what the shifts and the penalties come to
-unfoldable pub both_sums : List ℕ → Figures → List Element
+unfoldable pub both_sums : Money → Figures → List Element
 both_sums m f =
     marks (codes "<div><dt>Paid for shifts</dt><dd>") ∷ amount m f.paid
     ++ (marks (codes "</dd></div><div><dt>Penalties</dt><dd>") ∷ amount m f.penalty
     ++ marks (codes "</dd></div>") ∷ [])
 
 -- the same, where there is a roster
-unfoldable pub sums : List ℕ → Figures → Option ℕ → List Element
+unfoldable pub sums : Money → Figures → Option ℕ → List Element
 sums m f None = []
 sums m f (Some cost) = both_sums m f
 
 -- what the roster costs, where amounts are counted in these words
-unfoldable pub costs : List ℕ → List CodeDef → Figures → List CellCover → List Element
+unfoldable pub costs : Money → List CodeDef → Figures → List CellCover → List Element
 costs m cs f columns =
     (marks (codes "<dl><div><dt>Total cost</dt><dd>") ∷ amount_or_none m f.cost)
     ++ ((marks (codes "</dd></div><div><dt>Bound</dt><dd>") ∷ amount_or_none m f.bound)

@@ -1,10 +1,11 @@
 -- The page.
-use Rattle.std.specs.Prelude.{ℕ, Bool, ◌+◌, ◌-◌, ◌*◌, None, Some, List, [], ◌∷◌, ◌++◌, length, nat_lt, slice_get, codes, if◌then◌else◌}
+use Rattle.std.specs.Prelude.{ℕ, Bool, ◌+◌, ◌-◌, ◌*◌, None, Some, List, [], ◌∷◌, ◌++◌, length, nat_eq, nat_lt, slice_get, codes, if◌then◌else◌}
 use Rattle.std.specs.List.{flat_map}
 use Rattle.roster_model.specs.declared.grammar.CodeDef.{CodeDef}
-use Rattle.page_parts.specs.Elements.{Element, each_from, marks, given, number, caption, places}
+use Rattle.page_parts.specs.Elements.{Element, each_from, marks, given, number, units, caption, places}
 use Rattle.page_parts.specs.Sheets.{chart_width, sheet_of}
 use Rattle.page_parts.specs.declared.sheet.PeriodAxis.{PeriodAxis}
+use Rattle.page_parts.specs.declared.money.Money.{Money}
 use Rattle.page_text.specs.Changes.{changes_part}
 use Rattle.page_text.specs.Costs.{chip, costs, is_demanded, sentence}
 use Rattle.page_text.specs.declared.column.CellCover.{CellCover}
@@ -100,26 +101,43 @@ abbrev pub all_show : List (List ℕ) → List Element
 all_show texts = flat_map shows (places (length texts))
 
 -- the words of the row at a place, if there is one
-unfoldable pub heading : List ℕ → List Row → ℕ → List Element
+unfoldable pub heading : Money → List Row → ℕ → List Element
 heading m rows k = elim (slice_get rows k) [ None ↦ [] | Some r ↦ row_words m r ]
 
--- the derivation of a row, under the row's words
-unfoldable pub derivation : List ℕ → List Row → ℕ → List ℕ → List Element
+-- what stands behind the first line of a text
+abbrev pub behind_line : List ℕ → List ℕ
+behind_line [] = []
+behind_line (b ∷ bs) = if nat_eq b 10 then bs else behind_line bs
+
+-- the word and the price of a row, as lines of a derivation
+unfoldable pub word_lines : Money → Row → List Element
+word_lines m r =
+    marks (codes "word ") ∷ given r.word ∷ marks (codes "\ncost ") ∷ units m.decimals r.price
+    ∷ marks (codes "\n") ∷ []
+
+-- the same of the row at a place, if there is one
+unfoldable pub lines_at : Money → List Row → ℕ → List Element
+lines_at m rows k = elim (slice_get rows k) [ None ↦ [] | Some r ↦ word_lines m r ]
+
+-- the derivation of a row, under the row's words: the word, its price as an amount, and the lines of the text
+-- behind those two
+unfoldable pub derivation : Money → List Row → ℕ → List ℕ → List Element
 derivation m rows k text =
     (marks (codes "<pre class='derivation' id='d") ∷ number k ∷ marks (codes "'><b>") ∷ [])
-    ++ (heading m rows k ++ marks (codes "</b>\n") ∷ given text ∷ marks (codes "</pre>\n") ∷ [])
+    ++ (heading m rows k ++ (marks (codes "</b>\n") ∷ (lines_at m rows k
+    ++ given (behind_line (behind_line text)) ∷ marks (codes "</pre>\n") ∷ [])))
 
-abbrev pub derivations : List ℕ → List Row → List (List ℕ) → List Element
+abbrev pub derivations : Money → List Row → List (List ℕ) → List Element
 derivations m rows texts = each_from (derivation m rows) 0 texts
 
 -- the derivations under their title
-unfoldable pub titled_derivations : List ℕ → List Row → List (List ℕ) → List Element
+unfoldable pub titled_derivations : Money → List Row → List (List ℕ) → List Element
 titled_derivations m rows texts =
     marks (codes "<div class='derivations'><h2>How the rules derive each shift</h2>\n")
     ∷ (derivations m rows texts ++ marks (codes "</div>\n") ∷ [])
 
 -- the same, where there are any derivations
-unfoldable pub derivations_part : List ℕ → List Row → List (List ℕ) → List Element
+unfoldable pub derivations_part : Money → List Row → List (List ℕ) → List Element
 derivations_part m rows texts = if nat_lt 0 (length texts) then titled_derivations m rows texts else []
 
 unfoldable pub before_title : List ℕ
@@ -156,4 +174,4 @@ body s cs c =
 
 -- the elements of the page, in order
 abbrev pub page : ℕ → List CodeDef → Content → List Element
-page periods cs c = body (sheet_of periods (longest c.rows 0) (length c.money)) cs c
+page periods cs c = body (sheet_of periods (longest c.rows 0) (length c.money.words)) cs c

@@ -7,6 +7,7 @@ use Rattle.page_parts.specs.Elements.{Element, each_from, marks, given, number, 
 use Rattle.page_parts.specs.Paints.{paint_of}
 use Rattle.page_parts.specs.Sheets.{left_of, middle_of, chart_width, top_of}
 use Rattle.page_parts.specs.declared.sheet.PeriodAxis.{PeriodAxis}
+use Rattle.page_parts.specs.declared.money.Money.{Money}
 use Rattle.page_text.specs.declared.row.Row.{Row}
 
 -- a letter of a row, at the period behind so many
@@ -73,12 +74,12 @@ gap [] = []
 gap (x ∷ xs) = codes " "
 
 -- a row in words, where amounts are counted in these words
-unfoldable pub row_words : List ℕ → Row → List Element
+unfoldable pub row_words : Money → Row → List Element
 row_words m r =
     who r.number r.count ++ given r.name ∷ given (gap r.name) ∷ given r.word
     ∷ marks (codes ", price ") ∷ amount m r.price
 
-unfoldable pub row_head : List ℕ → ℕ → Row → List Element
+unfoldable pub row_head : Money → ℕ → Row → List Element
 row_head m k r =
     (marks (codes "<g class='row' tabindex='0' role='img' id='r") ∷ number k
     ∷ marks (codes "' aria-describedby='d") ∷ number k
@@ -86,18 +87,18 @@ row_head m k r =
     ++ (row_words m r ++ marks (codes "'>") ∷ [])
 
 -- the price of a row
-unfoldable pub price_text : List ℕ → PeriodAxis → ℕ → ℕ → List Element
+unfoldable pub price_text : Money → PeriodAxis → ℕ → ℕ → List Element
 price_text m s k price =
     marks (codes "<text class='price' x='") ∷ number (chart_width s - 14) ∷ marks (codes "' y='")
     ∷ number (top_of k + 15) ∷ marks (codes "'>") ∷ amount m price ++ marks (codes "</text>") ∷ []
 
-unfoldable pub row_frame : List ℕ → PeriodAxis → ℕ → Row → List Element
+unfoldable pub row_frame : Money → PeriodAxis → ℕ → Row → List Element
 row_frame m s k r =
     bar (codes "hit") (record { left = 4; top = top_of k - 2; width = chart_width s - 8; height = 26 })
     ∷ caption (codes "name") (s.left - 10) (top_of k + 15) r.name
     ∷ price_text m s k r.price
 
-unfoldable pub row_elements : List ℕ → PeriodAxis → List CodeDef → ℕ → Row → List Element
+unfoldable pub row_elements : Money → PeriodAxis → List CodeDef → ℕ → Row → List Element
 row_elements m s cs k r =
     row_head m k r ++ (row_frame m s k r
     ++ (times k r.number r.count ++ (cells s cs k r.word r.differs ++ marks (codes "</g>\n") ∷ [])))
@@ -130,5 +131,5 @@ tick s top moments place =
 abbrev pub ticks : PeriodAxis → ℕ → List (List ℕ) → List Element
 ticks s top moments = flat_map (tick s top moments) (places s.periods)
 
-abbrev pub rows_elements : List ℕ → PeriodAxis → List CodeDef → List Row → List Element
+abbrev pub rows_elements : Money → PeriodAxis → List CodeDef → List Row → List Element
 rows_elements m s cs rows = each_from (row_elements m s cs) 0 rows

@@ -1,8 +1,18 @@
 use crate::changes::Changes;
 use crate::row::Row;
 use crate::{CellCover, Figures};
+use page_parts::Money;
 use page_tables::Tables;
 use roster_model::List;
+
+/// A text from which a page was made.
+#[derive(Debug, Drop)]
+pub struct ReadText {
+    /// What the text is, as `RULES`.
+    pub name: List<u8>,
+    /// Its SHA-256 in hexadecimal digits.
+    pub sum: List<u8>,
+}
 
 /// What a page shows.
 #[derive(Debug, Drop)]
@@ -11,11 +21,15 @@ pub struct Content {
     pub title: List<u8>,
     /// For each code what it is called, or nothing.
     pub words: List<List<u8>>,
-    /// What amounts are counted in, or nothing.
-    pub money: List<u8>,
+    /// What amounts are counted in, and how many decimals they have.
+    pub money: Money,
+    /// The byte of the code that is time off, where one is named.
+    pub off: Option<u8>,
     /// For each period the time that stands on the axes where it begins, or nothing; none at all where the periods
     /// stand there by their numbers.
     pub times: List<List<u8>>,
+    /// Whether a report states the roster, and not a proof.
+    pub stated: bool,
     /// What the roster costs.
     pub figures: Figures,
     /// How much differs from an old roster, where there is one.
@@ -28,4 +42,6 @@ pub struct Content {
     pub columns: List<CellCover>,
     /// The tables and lists.
     pub tables: Tables,
+    /// The texts that were read, in order.
+    pub read: List<ReadText>,
 }

@@ -27,13 +27,13 @@ ghost use Rattle.page_text.specs.Costs.{
 
 use crate::column::CellCover;
 use crate::figures::Figures;
-use page_parts::{amount, labelled, labelled_amount, labelled_text, marks, paint_of};
+use page_parts::{Money, amount, labelled, labelled_amount, labelled_text, marks, paint_of};
 use roster_model::{CodeDef, List, Memory};
 use shift_figures::{Saving, saving_at};
 
 // Writes the sentence of what a cheaper roster saves at most, with its share in tenths of a percent.
 #[tactic(auto, unfolding(crate::specs::Costs::saves))]
-fn saves(out: &mut List<u8>, money: &[u8], sum: u64, permille: u64) -> Result<(), Memory>
+fn saves(out: &mut List<u8>, money: &Money, sum: u64, permille: u64) -> Result<(), Memory>
     ensures { OnOk result (out.new ≡ out.old ++ written (saves money.now sum permille)) }
 {
     labelled_amount(out, b"A cheaper roster saves at most ", money, sum)?;
@@ -68,7 +68,7 @@ fn none_allowed(out: &mut List<u8>) -> Result<(), Memory>
 
 // Writes the sentence of what a bound tells.
 #[tactic(auto, unfolding(crate::specs::Costs::told))]
-fn told(out: &mut List<u8>, money: &[u8], saving: Saving) -> Result<(), Memory>
+fn told(out: &mut List<u8>, money: &Money, saving: Saving) -> Result<(), Memory>
     ensures { OnOk result (out.new ≡ out.old ++ written (told money.now saving)) }
 {
     match saving {
@@ -80,7 +80,7 @@ fn told(out: &mut List<u8>, money: &[u8], saving: Saving) -> Result<(), Memory>
 
 // Writes the sentence of a roster that costs so much, where this is the bound.
 #[tactic(auto, unfolding(crate::specs::Costs::gap))]
-fn gap(out: &mut List<u8>, money: &[u8], cost: u64, bound: u64) -> Result<(), Memory>
+fn gap(out: &mut List<u8>, money: &Money, cost: u64, bound: u64) -> Result<(), Memory>
     ensures { OnOk result (out.new ≡ out.old ++ written (gap money.now cost bound)) }
 {
     told(out, money, saving_at(cost, bound))
@@ -88,7 +88,7 @@ fn gap(out: &mut List<u8>, money: &[u8], cost: u64, bound: u64) -> Result<(), Me
 
 // Writes the sentence where there is no roster, but a bound.
 #[tactic(auto, unfolding(crate::specs::Costs::no_roster))]
-fn no_roster(out: &mut List<u8>, money: &[u8], bound: u64) -> Result<(), Memory>
+fn no_roster(out: &mut List<u8>, money: &Money, bound: u64) -> Result<(), Memory>
     ensures { OnOk result (out.new ≡ out.old ++ written (no_roster money.now bound)) }
 {
     labelled_amount(
@@ -104,7 +104,7 @@ fn no_roster(out: &mut List<u8>, money: &[u8], bound: u64) -> Result<(), Memory>
 #[tactic(auto, unfolding(crate::specs::Costs::sentence_over))]
 fn sentence_over(
     out: &mut List<u8>,
-    money: &[u8],
+    money: &Money,
     cost: Option<u64>,
     bound: u64,
 ) -> Result<(), Memory>
@@ -125,7 +125,7 @@ fn sentence_over(
 #[tactic(auto, unfolding(crate::specs::Costs::sentence))]
 pub fn sentence(
     out: &mut List<u8>,
-    money: &[u8],
+    money: &Money,
     cost: Option<u64>,
     bound: Option<u64>,
 ) -> Result<(), Memory>
@@ -139,7 +139,7 @@ pub fn sentence(
 
 // Writes a cost or a bound.
 #[tactic(auto, unfolding(crate::specs::Costs::amount_or_none))]
-fn amount_or_none(out: &mut List<u8>, money: &[u8], value: Option<u64>) -> Result<(), Memory>
+fn amount_or_none(out: &mut List<u8>, money: &Money, value: Option<u64>) -> Result<(), Memory>
     ensures { OnOk result (out.new ≡ out.old ++ written (amount_or_none money.now value)) }
 {
     match value {
@@ -152,7 +152,7 @@ fn amount_or_none(out: &mut List<u8>, money: &[u8], value: Option<u64>) -> Resul
 fn labelled_or_none(
     out: &mut List<u8>,
     label: &[u8],
-    money: &[u8],
+    money: &Money,
     value: Option<u64>,
 ) -> Result<(), Memory>
     ensures { OnOk result
@@ -215,7 +215,7 @@ fn penalties(code: u8, columns: &[CellCover]) -> u64
 #[tactic(auto, unfolding(crate::specs::Costs::demanded_cost))]
 fn demanded_cost(
     out: &mut List<u8>,
-    money: &[u8],
+    money: &Money,
     codes: &[CodeDef],
     columns: &[CellCover],
     place: u8,
@@ -235,7 +235,7 @@ fn demanded_cost(
 #[tactic(auto, unfolding(crate::specs::Costs::code_cost))]
 fn code_cost(
     out: &mut List<u8>,
-    money: &[u8],
+    money: &Money,
     codes: &[CodeDef],
     columns: &[CellCover],
     place: u8,
@@ -254,7 +254,7 @@ fn code_cost(
 // Writes the penalties of each demanded code.
 fn code_costs(
     out: &mut List<u8>,
-    money: &[u8],
+    money: &Money,
     codes: &[CodeDef],
     columns: &[CellCover],
 ) -> Result<(), Memory>
@@ -272,7 +272,7 @@ fn code_costs(
 
 // Writes what the shifts and the penalties come to.
 #[tactic(auto, unfolding(crate::specs::Costs::both_sums))]
-fn both_sums(out: &mut List<u8>, money: &[u8], figures: Figures) -> Result<(), Memory>
+fn both_sums(out: &mut List<u8>, money: &Money, figures: Figures) -> Result<(), Memory>
     ensures { OnOk result (out.new ≡ out.old ++ written (both_sums money.now figures)) }
 {
     labelled_amount(
@@ -292,7 +292,7 @@ fn both_sums(out: &mut List<u8>, money: &[u8], figures: Figures) -> Result<(), M
 
 // Writes the same, where there is a roster.
 #[tactic(auto, unfolding(crate::specs::Costs::sums))]
-fn sums(out: &mut List<u8>, money: &[u8], figures: Figures) -> Result<(), Memory>
+fn sums(out: &mut List<u8>, money: &Money, figures: Figures) -> Result<(), Memory>
     ensures { OnOk result (out.new ≡ out.old ++ written (sums money.now figures figures.cost)) }
 {
     match figures.cost {
@@ -310,7 +310,7 @@ fn sums(out: &mut List<u8>, money: &[u8], figures: Figures) -> Result<(), Memory
 #[tactic(auto, unfolding(crate::specs::Costs::costs))]
 pub fn costs(
     out: &mut List<u8>,
-    money: &[u8],
+    money: &Money,
     codes: &[CodeDef],
     figures: Figures,
     columns: &[CellCover],

@@ -17,7 +17,7 @@ mod style;
 
 pub use changes::Changes;
 pub use column::{CellCover, add_columns};
-pub use content::Content;
+pub use content::{Content, ReadText};
 pub use figures::Figures;
 pub use laws::{marks_stay, page_ends};
 pub use page::write_page;

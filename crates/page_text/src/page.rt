@@ -3,6 +3,7 @@ ghost use Rattle.page_text.specs.Costs.{AreDayColumns};
 ghost use Rattle.page_parts.specs.Elements.{written};
 ghost use Rattle.page_text.specs.Pages.{
   all_show,
+  behind_line,
   before_title,
   body,
   chart,
@@ -20,6 +21,7 @@ ghost use Rattle.page_text.specs.Pages.{
   height_of,
   legend,
   legend_item,
+  lines_at,
   page,
   price_head,
   shifts,
@@ -29,6 +31,7 @@ ghost use Rattle.page_text.specs.Pages.{
   title_of,
   titled_derivations,
   top_part,
+  word_lines,
   words_at,
   work_word,
 };
@@ -42,7 +45,10 @@ use crate::ink::Ink;
 use crate::roster_chart::{row_words, rows, ticks};
 use crate::row::{Row, longest};
 use crate::style::style;
-use page_parts::{PeriodAxis, caption, chart_width, labelled, labelled_text, marks, sheet_of};
+use page_parts::{
+    Money, PeriodAxis, caption, chart_width, given, labelled, labelled_amount, labelled_text,
+    marks, sheet_of, units,
+};
 use page_tables::add_tables;
 use roster_model::{CodeDef, List, Memory};
 use std::alloc::Global;
@@ -162,7 +168,7 @@ fn shifts(
     size(out, chart_width(sheet), height_of(shown.len()))?;
     price_head(out, sheet)?;
     ticks(out, sheet, 20, content.times.as_slice())?;
-    rows(out, content.money.as_slice(), sheet, codes, shown)?;
+    rows(out, &content.money, sheet, codes, shown)?;
     marks(out, roster_end())
 }
 
@@ -309,7 +315,7 @@ fn all_show(out: &mut List<u8>, texts: &[List<u8>]) -> Result<(), Memory>
 
 // Writes the words of the row at a place, if there is one.
 #[tactic(auto, unfolding(crate::specs::Pages::heading))]
-fn heading(out: &mut List<u8>, money: &[u8], rows: &[Row], place: u64) -> Result<(), Memory>
+fn heading(out: &mut List<u8>, money: &Money, rows: &[Row], place: u64) -> Result<(), Memory>
     ensures { OnOk result (out.new ≡ out.old ++ written (heading money.now rows.now place)) }
 {
     match rows.get(place as usize) {
@@ -318,11 +324,47 @@ fn heading(out: &mut List<u8>, money: &[u8], rows: &[Row], place: u64) -> Result
     }
 }
 
+// Returns what stands behind the first line of a text.
+fn behind_line(text: &[u8]) -> &[u8]
+    ensures { result.now ≡ behind_line text.now }
+{
+    let mut place: usize = 0;
+    for byte in text {
+        place += 1;
+        if *byte == b'\n' {
+            return &text[place..];
+        }
+    }
+    b""
+}
+
+// Writes the word and the price of a row, as lines of a derivation.
+#[tactic(auto, unfolding(crate::specs::Pages::word_lines))]
+fn word_lines(out: &mut List<u8>, money: &Money, row: &Row) -> Result<(), Memory>
+    ensures { OnOk result (out.new ≡ out.old ++ written (word_lines money.now row.now)) }
+{
+    labelled_text(out, b"word ", row.word.as_slice())?;
+    marks(out, b"\ncost ")?;
+    units(out, money.decimals, row.price)?;
+    marks(out, b"\n")
+}
+
+// Writes the same of the row at a place, if there is one.
+#[tactic(auto, unfolding(crate::specs::Pages::lines_at))]
+fn lines_at(out: &mut List<u8>, money: &Money, rows: &[Row], place: u64) -> Result<(), Memory>
+    ensures { OnOk result (out.new ≡ out.old ++ written (lines_at money.now rows.now place)) }
+{
+    match rows.get(place as usize) {
+        None => Ok(()),
+        Some(row) => word_lines(out, money, row),
+    }
+}
+
 // Writes the derivation of a row, under the row's words.
 #[tactic(auto, unfolding(crate::specs::Pages::derivation))]
 fn derivation(
     out: &mut List<u8>,
-    money: &[u8],
+    money: &Money,
     rows: &[Row],
     place: u64,
     text: &List<u8>,
@@ -333,14 +375,16 @@ fn derivation(
     labelled(out, b"<pre class='derivation' id='d", place)?;
     marks(out, b"'><b>")?;
     heading(out, money, rows, place)?;
-    labelled_text(out, b"</b>\n", text.as_slice())?;
+    marks(out, b"</b>\n")?;
+    lines_at(out, money, rows, place)?;
+    given(out, behind_line(behind_line(text.as_slice())))?;
     marks(out, b"</pre>\n")
 }
 
 // Writes the derivations of the rows.
 fn derivations(
     out: &mut List<u8>,
-    money: &[u8],
+    money: &Money,
     rows: &[Row],
     texts: &[List<u8>],
 ) -> Result<(), Memory>
@@ -359,7 +403,7 @@ fn derivations(
 #[tactic(auto, unfolding(crate::specs::Pages::titled_derivations))]
 fn titled_derivations(
     out: &mut List<u8>,
-    money: &[u8],
+    money: &Money,
     rows: &[Row],
     texts: &[List<u8>],
 ) -> Result<(), Memory>
@@ -379,7 +423,7 @@ fn titled_derivations(
 #[tactic(auto, unfolding(crate::specs::Pages::derivations_part))]
 fn derivations_part(
     out: &mut List<u8>,
-    money: &[u8],
+    money: &Money,
     rows: &[Row],
     texts: &[List<u8>],
 ) -> Result<(), Memory>
@@ -446,7 +490,7 @@ fn top_part(out: &mut List<u8>, codes: &[CodeDef], content: &Content) -> Result<
         content.title.as_slice(),
         content.derivations.as_slice(),
     )?;
-    let money = content.money.as_slice();
+    let money = &content.money;
     sentence(out, money, content.figures.cost, content.figures.bound)?;
     marks(out, b"</p></header>\n")?;
     costs(
@@ -514,7 +558,7 @@ fn body(
     shifts_part(out, sheet, codes, content)?;
     let moments = content.times.as_slice();
     coverage_part(out, sheet, codes, moments, content.columns.as_slice())?;
-    let money = content.money.as_slice();
+    let money = &content.money;
     add_tables(out, money, &content.tables)?;
     let texts = content.derivations.as_slice();
     derivations_part(out, money, content.rows.as_slice(), texts)?;
@@ -540,7 +584,7 @@ pub fn write_page(
 {
     let mut out = List::new(alloc);
     let longest = longest(content.rows.as_slice());
-    let sheet = sheet_of(periods, longest, content.money.len());
+    let sheet = sheet_of(periods, longest, content.money.words.len());
     body(&mut out, sheet, codes, content)?;
     Ok(out)
 }

@@ -30,8 +30,8 @@ ghost use Rattle.page_text.specs.RosterChart.{
 
 use crate::row::Row;
 use page_parts::{
-    Area, PeriodAxis, bar, caption, chart_width, figure, given, labelled, labelled_amount, left_of,
-    marks, middle_of, number, paint_of, top_of,
+    Area, Money, PeriodAxis, bar, caption, chart_width, figure, given, labelled, labelled_amount,
+    left_of, marks, middle_of, number, paint_of, top_of,
 };
 use roster_model::{CodeDef, List, Memory};
 
@@ -227,7 +227,7 @@ fn gap(name: &[u8]) -> &'static [u8]
 ///
 /// `Memory` where memory runs out; a part may stand in `out` then.
 #[tactic(auto, unfolding(crate::specs::RosterChart::row_words))]
-pub(crate) fn row_words(out: &mut List<u8>, money: &[u8], row: &Row) -> Result<(), Memory>
+pub(crate) fn row_words(out: &mut List<u8>, money: &Money, row: &Row) -> Result<(), Memory>
     ensures { OnOk result (out.new ≡ out.old ++ written (row_words money.now row.now)) }
 {
     who(out, row.number, row.count)?;
@@ -239,7 +239,7 @@ pub(crate) fn row_words(out: &mut List<u8>, money: &[u8], row: &Row) -> Result<(
 
 // Writes the beginning of a row.
 #[tactic(auto, unfolding(crate::specs::RosterChart::row_head))]
-fn row_head(out: &mut List<u8>, money: &[u8], place: u8, row: &Row) -> Result<(), Memory>
+fn row_head(out: &mut List<u8>, money: &Money, place: u8, row: &Row) -> Result<(), Memory>
     ensures { OnOk result (out.new ≡ out.old ++ written (row_head money.now place row.now)) }
 {
     labelled(
@@ -257,7 +257,7 @@ fn row_head(out: &mut List<u8>, money: &[u8], place: u8, row: &Row) -> Result<()
 #[tactic(auto, unfolding(crate::specs::RosterChart::price_text))]
 fn price_text(
     out: &mut List<u8>,
-    money: &[u8],
+    money: &Money,
     sheet: PeriodAxis,
     place: u8,
     price: u64,
@@ -275,7 +275,7 @@ fn price_text(
 #[tactic(auto, unfolding(crate::specs::RosterChart::row_frame))]
 fn row_frame(
     out: &mut List<u8>,
-    money: &[u8],
+    money: &Money,
     sheet: PeriodAxis,
     place: u8,
     row: &Row,
@@ -298,7 +298,7 @@ fn row_frame(
 #[tactic(auto, unfolding(crate::specs::RosterChart::row_elements))]
 fn row(
     out: &mut List<u8>,
-    money: &[u8],
+    money: &Money,
     sheet: PeriodAxis,
     codes: &[CodeDef],
     place: u8,
@@ -328,7 +328,7 @@ fn row(
 /// `Memory` where memory runs out; a part may stand in `out` then.
 pub(crate) fn rows(
     out: &mut List<u8>,
-    money: &[u8],
+    money: &Money,
     sheet: PeriodAxis,
     codes: &[CodeDef],
     rows: &[Row],
