@@ -126,7 +126,7 @@ shown_once (Calendar x) d i r old a b h k = inl (h ∙ sym k)
 same_line : (o : Option (List ℕ)) (a b : List ℕ) → o ≡ Some a → o ≡ Some b → a ≡ b
 same_line o a b e f = cc
 
-IsSaid : Option (List ℕ) → Type 0
+abbrev IsSaid : Option (List ℕ) → Type 0
 IsSaid None = ⊥
 IsSaid (Some line) = Unit {0}
 

@@ -58,7 +58,8 @@ pub fn shown_answer(
     ensures { IfOk result (λ a. Showing kind labels.now instance.now roster.now (option_copied old.entry)
         a.status a.output) }
 {
-    match line_instead(alloc, kind, labels, roster)? {
+    let line = line_instead(alloc, kind, labels, roster)?;
+    match line {
         Some(output) => Ok(Answer { status: 5, output }),
         None => drawn_answer(alloc, kind, instance, labels, roster, old),
     }

@@ -9,11 +9,12 @@ ghost use Rattle.page_command.specs.Dated.{
   ClockAnswers,
 };
 
+use crate::asking::ask_texts;
 use crate::judgement::judgement;
 use crate::kind::{CalendarDay, DayEvents, Kind};
 use crate::limits::MOST_LABELS;
 use crate::refused::{line_answer, refused_labels};
-use answers::{Answer, MOST_DEMAND, MOST_PROOF, MOST_RULES, Question, ask_texts, fetched};
+use answers::{Answer, MOST_DEMAND, MOST_PROOF, MOST_RULES, Question, fetched};
 use page_labels::{Labels, read_labels};
 use roster_csv::Setting;
 use roster_model::{Instance, Memory};
@@ -113,7 +114,7 @@ fn draw_dated_texts<S: Shelf>(
         Ok(text) => {
             let demand = text.as_slice();
             let dated = Dated { day, labels };
-            ask_texts(alloc, shelf, rules, demand, proof, &dated)
+            ask_texts(alloc, shelf, rules, demand, proof, labels, &dated)
         }
         Err(status) => status,
     }

@@ -3,12 +3,14 @@
 #![tactic(auto)]
 
 mod accepted;
+mod asking;
 mod beside;
 mod check;
 mod compare;
 mod dated;
 mod derived;
 mod draw;
+mod events_note;
 mod form;
 mod instead;
 mod judgement;
