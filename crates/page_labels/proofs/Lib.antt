@@ -1,1 +1,4 @@
 pub mod RefusedLines
+pub mod TextLineItems
+pub mod ShiftLemmas
+pub mod Utf8Lemmas

@@ -1,13 +1,14 @@
 -- What a labels text says, or its first fault.
 use Rattle.std.specs.Prelude.{ℕ, List, Result, Ok, Err, length, nat_lt, if◌then◌else◌}
 use Rattle.roster_model.specs.declared.instance.Instance.{Instance}
-use Rattle.text_lines.specs.Lines.{TextLine, text_items}
+use Rattle.text_lines.specs.Lines.{TextLine}
 use Rattle.text_lines.specs.Refusals as refusals
 use Rattle.text_lines.specs.declared.line.BadByte as bad
 use Rattle.page_labels.specs.FaultLine.{line_of}
 use Rattle.page_labels.specs.LabelLines.{line_at}
 use Rattle.page_labels.specs.Labels.{nothing}
 use Rattle.page_labels.specs.Steps.{each}
+use Rattle.page_labels.specs.TextLines.{text_items}
 use Rattle.page_labels.specs.declared.fault.LabelFault.{LabelFault}
 use Rattle.page_labels.specs.declared.fault.LabelFault.TheVariants.{BadByte, TooLong}
 use Rattle.page_labels.specs.declared.labels.Labels.{Labels}

@@ -1,5 +1,6 @@
 pub mod Steps
 pub mod FaultLine
+pub mod TextLines
 pub mod Clocks
 pub mod Labels
 pub mod Shifts

@@ -1,25 +1,35 @@
 ghost use Rattle.std.specs.Prelude.{◌≡◌, ◌≤◌, length};
 ghost use Rattle.page_labels.specs.LabelLines.{
   clock_at,
+  code_byte,
   code_line_at,
+  decimals_at,
   flag_at,
+  further_at,
   group_line_at,
+  is_time_off,
   line_at,
   money_at,
+  off_at,
   other_at,
   paid_at,
+  said_paid,
   title_at,
   works,
 };
 ghost use Rattle.page_labels.specs.Steps.{Reads};
+ghost use Rattle.page_labels.specs.declared.fault.LabelFault.TheVariants.{BadNumber, OutOfRange};
+ghost use Rattle.text_lines.specs.Fields.{number_at};
 
 use crate::clock::clock_from;
 use crate::fault::LabelFault;
 use crate::field::{code, group, words_of};
-use crate::labels::{CodeLabel, GroupLabel, Labels, PaidCode, has_code, has_group, has_paid};
+use crate::labels::{CodeLabel, GroupLabel, Labels, PaidCode, has_code, has_group, has_paid, is_paid};
+use crate::shift_line::shift_line;
+use crate::text_line::Line;
 use roster_model::{CodeDef, Instance};
 use std::alloc::Global;
-use text_lines::{Line, Words};
+use text_lines::{Words, read_within};
 
 // Reads a title line, behind its first word.
 #[tactic(auto, unfolding(crate::specs::LabelLines::title_at))]
@@ -152,6 +162,41 @@ fn works(codes: &[CodeDef], code: u8) -> bool
     }
 }
 
+// Returns the byte of the code at a place.
+fn code_byte(codes: &[CodeDef], code: u8) -> u8
+    ensures { result ≡ code_byte codes.now code }
+{
+    match codes.get(code as usize) {
+        Some(def) => def.byte,
+        None => 0,
+    }
+}
+
+// Whether the code with a byte is time off.
+fn is_time_off(off: Option<u8>, byte: u8) -> bool
+    ensures { result ≡ is_time_off off byte }
+{
+    match off {
+        Some(code) => code == byte,
+        None => false,
+    }
+}
+
+// Adds whether the periods of a code count as paid, where its byte is this.
+#[tactic(auto, unfolding(crate::specs::LabelLines::said_paid))]
+fn said_paid(labels: &mut Labels, line: u32, code: u8, byte: u8, paid: bool) -> Result<(), LabelFault>
+    ensures { Reads (λ _. (labels.new)) result (said_paid line labels.old code byte paid) }
+{
+    if paid && is_time_off(labels.off, byte) {
+        return Err(LabelFault::BadName { line });
+    }
+    if has_paid(labels.paid.as_slice(), code) {
+        return Err(LabelFault::Twice { line });
+    }
+    labels.paid.push(PaidCode { code, paid })?;
+    Ok(())
+}
+
 // Reads a paid line, behind its first word.
 #[tactic(auto, unfolding(crate::specs::LabelLines::paid_at))]
 fn paid_line(
@@ -177,14 +222,100 @@ fn paid_line(
         return Err(LabelFault::BadName { line });
     }
     let paid = flag(line, said)?;
-    if has_paid(labels.paid.as_slice(), code) {
+    said_paid(labels, line, code, code_byte(codes, code), paid)
+}
+
+// Reads an off line, behind its first word. Takes no memory.
+#[tactic(auto, unfolding(crate::specs::LabelLines::off_at))]
+fn off_line(
+    codes: &[CodeDef],
+    labels: &mut Labels,
+    line: u32,
+    words: &mut Words<'_>,
+) -> Result<(), LabelFault>
+    requires { length codes.now ≤ 32 }
+    ensures { Reads (λ _. (labels.new)) result (off_at line codes.now labels.old words.old) }
+{
+    let Some(word) = words.next() else {
+        return Err(LabelFault::UnknownLine { line });
+    };
+    if let Some(_) = words.next() {
+        return Err(LabelFault::UnknownLine { line });
+    }
+    let code = code(line, codes, word)?;
+    if works(codes, code) || is_paid(labels.paid.as_slice(), code) {
+        return Err(LabelFault::BadName { line });
+    }
+    if labels.off.is_some() {
         return Err(LabelFault::Twice { line });
     }
-    labels.paid.push(PaidCode { code, paid })?;
+    labels.off = Some(code_byte(codes, code));
     Ok(())
 }
 
-// Reads a line of a code or of a group, by its first word.
+// Reads how many decimals amounts have.
+fn decimals(line: u32, word: &[u8]) -> Result<u8, LabelFault>
+    ensures { result ≡ number_at (BadNumber line) (OutOfRange line) 0 4 word.now }
+{
+    let none = LabelFault::BadNumber { line };
+    let outside = LabelFault::OutOfRange { line };
+    match read_within(0, 4, none, outside, word) {
+        Ok(n) => Ok(n as u8),
+        Err(fault) => Err(fault),
+    }
+}
+
+// Reads a decimals line, behind its first word. Takes no memory.
+#[tactic(auto, unfolding(crate::specs::LabelLines::decimals_at))]
+fn decimals_line(labels: &mut Labels, line: u32, words: &mut Words<'_>) -> Result<(), LabelFault>
+    ensures { Reads (λ _. (labels.new)) result (decimals_at line labels.old words.old) }
+{
+    let Some(word) = words.next() else {
+        return Err(LabelFault::UnknownLine { line });
+    };
+    if let Some(_) = words.next() {
+        return Err(LabelFault::UnknownLine { line });
+    }
+    let decimals = decimals(line, word)?;
+    if labels.decimals.is_some() {
+        return Err(LabelFault::Twice { line });
+    }
+    labels.decimals = Some(decimals);
+    Ok(())
+}
+
+// Reads a line of what is paid, of time off, of a shift or of decimals, by its first word.
+#[tactic(auto, unfolding(crate::specs::LabelLines::further_at))]
+fn further_line(
+    alloc: Global,
+    instance: &Instance,
+    labels: &mut Labels,
+    line: u32,
+    first: &[u8],
+    words: &mut Words<'_>,
+) -> Result<(), LabelFault>
+    requires codes { length instance.now.grammar.codes ≤ 32 }
+    requires groups { length instance.now.groups ≤ 8 }
+    ensures { Reads (λ _. (labels.new)) result
+        (further_at line instance.now labels.old first.now words.old) }
+{
+    let codes = instance.grammar.codes.as_slice();
+    if first == b"paid".as_slice() {
+        return paid_line(codes, labels, line, words);
+    }
+    if first == b"off".as_slice() {
+        return off_line(codes, labels, line, words);
+    }
+    if first == b"shift".as_slice() {
+        return shift_line(alloc, instance, labels, line, words);
+    }
+    if first == b"decimals".as_slice() {
+        return decimals_line(labels, line, words);
+    }
+    Err(LabelFault::UnknownLine { line })
+}
+
+// Reads a line of a code or of a group, or a further one, by its first word.
 #[tactic(auto, unfolding(crate::specs::LabelLines::other_at))]
 fn other_line(
     alloc: Global,
@@ -206,10 +337,7 @@ fn other_line(
     if first == b"group".as_slice() {
         return group_line(alloc, instance, labels, line, words);
     }
-    if first == b"paid".as_slice() {
-        return paid_line(codes, labels, line, words);
-    }
-    Err(LabelFault::UnknownLine { line })
+    further_line(alloc, instance, labels, line, first, words)
 }
 
 // Reads a line by its first word.

@@ -1,16 +1,17 @@
 ghost use Rattle.std.specs.Prelude.{◌≡◌, ◌<◌, ◌≤◌, ◌^◌, length};
 ghost use Rattle.roster_model.specs.SoundInstance.{IsSoundInstance};
-ghost use Rattle.text_lines.specs.Lines.{text_items};
 ghost use Rattle.page_labels.specs.Labels.{nothing};
 ghost use Rattle.page_labels.specs.LabelsOf.{item_at, labels_of};
 ghost use Rattle.page_labels.specs.Steps.{each, Reads};
+ghost use Rattle.page_labels.specs.TextLines.{text_items};
 
 use crate::fault::LabelFault;
 use crate::labels::{Labels, no_labels};
 use crate::line::line;
+use crate::text_line::{Line, Lines};
 use roster_model::Instance;
 use std::alloc::Global;
-use text_lines::{BadByte, Line, Lines};
+use text_lines::BadByte;
 
 /// A text has at most so many bytes.
 const MOST_BYTES: usize = 65_536;

@@ -1,5 +1,4 @@
 ghost use Rattle.std.specs.Prelude.{◌≡◌};
-ghost use Rattle.std.specs.Option.{option_copied};
 ghost use Rattle.page_labels.specs.Shifts.{is_its_shift, refused_shift, refused_at};
 
 use crate::fault::LabelFault;
@@ -14,6 +13,7 @@ fn is_its_shift(label: &ShiftLabel, shift: &Shift) -> bool
 }
 
 // Returns why a name cannot stand at these shifts, if it cannot.
+#[tactic(auto, unfolding(crate::specs::Shifts::refused_at, crate::specs::Shifts::refused_of, crate::specs::Shifts::numbered_shift))]
 fn refused_at(label: &ShiftLabel, shifts: &[Shift]) -> Option<LabelFault>
     ensures { result ≡ refused_at label.now shifts.now }
 {

@@ -1,5 +1,5 @@
 use Rattle.std.proofs.Common.{◌≡◌, length}
-use Rattle.text_lines.specs.Lines.{text_items}
+use Rattle.page_labels.specs.TextLines.{text_items}
 use Rattle.page_labels.specs.Labels.{nothing}
 use Rattle.page_labels.specs.LabelsOf.{item_at}
 use Rattle.page_labels.specs.Steps.{each}
