@@ -1,24 +1,39 @@
 use roster_model::List;
 
-/// A shift of the table of shifts.
+/// A line of the table of shifts: a shift, or a stretch of it where time off is named.
 #[derive(Debug, PartialEq, Eq, Drop)]
 pub struct ShiftLine {
     /// The number of the shift in the certificate, from 1.
     pub number: u32,
     /// What the shift's group is called, or nothing on a day without groups.
     pub group: List<u8>,
-    /// When work begins, or `-` without work.
+    /// Who works the shift, or nothing.
+    pub who: List<u8>,
+    /// When work or the stretch begins, or `-` without work.
     pub begin: List<u8>,
-    /// When work ends, or `-` without work.
+    /// When work or the stretch ends, or `-` without work.
     pub end: List<u8>,
-    /// How many periods of work there are.
+    /// How many periods of work there are in the shift or in the stretch.
     pub work: u64,
-    /// How much time is paid.
+    /// Whether the line is the first one of its shift, with paid time, price and codes.
+    pub first: bool,
+    /// How much time is paid of the shift.
     pub paid: List<u8>,
     /// What the shift costs.
     pub price: u64,
     /// The byte of each period's code.
     pub word: List<u8>,
+}
+
+/// How many begin and end at a time.
+#[derive(Debug, PartialEq, Eq, Drop)]
+pub struct MomentLine {
+    /// The time, or the number of a period.
+    pub time: List<u8>,
+    /// How many begin then.
+    pub begins: u64,
+    /// How many end then.
+    pub ends: u64,
 }
 
 /// How many employees have a shift, of those who may: of a group, or of all.

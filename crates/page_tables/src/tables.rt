@@ -3,11 +3,12 @@ ghost use Rattle.page_parts.specs.Elements.{written};
 ghost use Rattle.page_tables.specs.Tables.{page_tables, some_tables};
 
 use crate::heads::head_table;
-use crate::line::{HeadLine, RunLine, ShiftLine, TotalLine};
+use crate::line::{HeadLine, MomentLine, RunLine, ShiftLine, TotalLine};
 use crate::lists::run_list;
+use crate::moments::moment_list;
 use crate::shifts::shift_table;
 use crate::totals::total_table;
-use page_parts::Money;
+use page_parts::{Money, marks};
 use roster_model::{List, Memory};
 
 /// What the tables and lists of a page show.
@@ -15,7 +16,9 @@ use roster_model::{List, Memory};
 pub struct Tables {
     /// Whether the day has groups.
     pub grouped: bool,
-    /// The shifts; nothing where there is no roster.
+    /// Whether some shift has a name.
+    pub named: bool,
+    /// The shifts, or their stretches where time off is named; nothing where there is no roster.
     pub shifts: List<ShiftLine>,
     /// How many employees have a shift, group by group and in all.
     pub heads: List<HeadLine>,
@@ -23,6 +26,8 @@ pub struct Tables {
     pub totals: List<TotalLine>,
     /// Which share of the need is covered in all, in tenths of a percent, where any is needed.
     pub covered: Option<u64>,
+    /// How many begin and end at each time at which any do.
+    pub moments: List<MomentLine>,
     /// The runs of shortage.
     pub shortages: List<RunLine>,
     /// The runs of surplus.
@@ -34,11 +39,20 @@ pub struct Tables {
 fn some_tables(out: &mut List<u8>, money: &Money, tables: &Tables) -> Result<(), Memory>
     ensures { OnOk result (out.new ≡ out.old ++ written (some_tables money.now tables.now)) }
 {
+    marks(out, b"<div class='lists'>\n")?;
     run_list(out, money, b"Shortages", tables.shortages.as_slice())?;
     run_list(out, money, b"Surplus", tables.surplus.as_slice())?;
     total_table(out, tables.totals.as_slice(), tables.covered)?;
     head_table(out, tables.heads.as_slice())?;
-    shift_table(out, money, tables.grouped, tables.shifts.as_slice())
+    moment_list(out, tables.moments.as_slice())?;
+    shift_table(
+        out,
+        money,
+        tables.grouped,
+        tables.named,
+        tables.shifts.as_slice(),
+    )?;
+    marks(out, b"</div>\n")
 }
 
 /// Appends the tables and lists of a page, where there are any shifts, with amounts that are counted in these words,

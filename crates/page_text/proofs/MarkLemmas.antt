@@ -8,13 +8,15 @@ use Rattle.roster_model.specs.declared.grammar.CodeDef.{CodeDef}
 use Rattle.page_parts.specs.Amounts.{AreSaidAlike, amount}
 use Rattle.page_parts.specs.Elements.{Element, bar, caption, each_from, given, marks, number, places, units}
 use Rattle.page_parts.specs.Escapes.{IsOneToOne, mark_of, marks_of, recoded}
-use Rattle.page_parts.specs.Sheets.{chart_width, sheet_of, top_of}
+use Rattle.page_parts.specs.Paints.{paint_of}
+use Rattle.page_parts.specs.Sheets.{chart_width, middle_of, sheet_of, top_of}
 use Rattle.page_parts.specs.declared.money.Money.{Money}
 use Rattle.page_parts.specs.declared.sheet.PeriodAxis.{PeriodAxis}
 use Rattle.page_parts.proofs.AmountLemmas.{unit_same}
-use Rattle.page_parts.proofs.PaintLemmas.{same_paint}
-use Rattle.page_text.specs.Costs.{amount_or_none, both_sums, chip, code_cost, code_costs, costs, demanded_cost, gap, is_demanded, no_roster, saves, sentence, sentence_over, sums, told}
+use Rattle.page_parts.proofs.PaintLemmas.{same_paint, same_test}
+use Rattle.page_text.specs.Costs.{amount_or_none, both_sums, bound_of, bound_part, chip, code_cost, code_costs, costs, demanded_cost, gap, is_demanded, is_told, no_roster, saves, sentence, sentence_over, sums, told}
 use Rattle.shift_figures.specs.Bounds.{saving_at}
+use Rattle.shift_figures.specs.Stretches.{is_off}
 use Rattle.shift_figures.specs.declared.bound.Saving.{Saving}
 use Rattle.shift_figures.specs.declared.bound.Saving.TheVariants.{NoneLess, Unknown, AtMost}
 use Rattle.page_text.specs.declared.column.CellCover.{CellCover}
@@ -23,13 +25,14 @@ use Rattle.page_text.specs.Alike.{AreAlikeRows, IsAlike, IsAlikeRow}
 use Rattle.page_text.specs.Charts.{top_count, unit_of}
 use Rattle.page_text.specs.Inputs.{longest}
 use Rattle.page_text.specs.Style.{style}
-use Rattle.page_text.specs.Pages.{all_show, before_title, body, chart, chart_body, chart_head, coverage, coverage_part, derivation, derivations_part, head, heading, height_of, legend, legend_item, lines_at, page, shifts, shifts_part, size, title_of, titled_derivations, top_part, word_lines}
-use Rattle.page_text.specs.RosterChart.{cell, cells, letter, marked_cell, price_text, row_elements, row_frame, row_head, row_words, ticks, times, who}
+use Rattle.page_text.specs.Pages.{all_show, before_title, body, chart, chart_body, chart_head, coverage, coverage_part, derivation, derivations_part, foot, foot_part, head, heading, height_of, legend, legend_item, lines_at, page, read_line, read_lines, shifts, shifts_part, size, title_of, titled_derivations, top_part, word_lines}
+use Rattle.page_text.specs.RosterChart.{cell, cells, change_at, letter, letter_bar, letter_text, marked_cell, price_text, row_elements, row_frame, row_head, row_words, ticks, times, who}
 use Rattle.page_text.specs.RosterChart.{gap as name_gap}
 use Rattle.page_text.specs.Changes.{changes_part}
 use Rattle.page_text.specs.declared.changes.Changes.{Changes}
 use Rattle.page_tables.proofs.TableMarks.{tables_same}
 use Rattle.page_text.specs.declared.content.Content.{Content}
+use Rattle.page_text.specs.declared.content.ReadText.{ReadText}
 use Rattle.page_text.specs.declared.row.Row.{Row}
 
 -- elements with the same marks
@@ -39,6 +42,10 @@ Same es fs = marks_of es ≡ marks_of fs
 when : (t : Bool) (es fs : List Element) → Same es fs → Same (if t then es else []) (if t then fs else [])
 when true es fs h = h
 when false es fs h = refl
+
+unless : (t : Bool) (es fs : List Element) → Same es fs → Same (if t then [] else es) (if t then [] else fs)
+unless true es fs h = refl
+unless false es fs h = h
 
 -- the same elements before others
 front_same : (xs es fs : List Element) → Same fs es → Same (xs ++ fs) (xs ++ es)
@@ -64,6 +71,25 @@ titles_same t u shown =
 head_same : (t u : List ℕ) (xs ys : List (List ℕ)) → length xs ≡ length ys → Same (head t xs) (head u ys)
 unfolding head titled
 head_same t u xs ys e = rw e (titles_same t u (all_show ys))
+
+-- ---- what depends on the texts that were read
+
+read_same : (xs ys : List ReadText) → length xs ≡ length ys → Same (read_lines xs) (read_lines ys)
+unfolding read_line
+read_same [] [] e = refl
+read_same [] (y ∷ ys) e = absurd (omega arith)
+read_same (x ∷ xs) [] e = absurd (omega arith)
+read_same (x ∷ xs) (y ∷ ys) e =
+    ap (λ (t : List Element). given [] ∷ marks (codes "  ") ∷ given [] ∷ marks (codes "\n") ∷ t) (read_same xs ys (omega arith))
+
+foot_same : (stated : Bool) (xs ys : List ReadText) → length xs ≡ length ys → Same (foot stated xs) (foot stated ys)
+unfolding foot
+foot_same stated xs ys e = simp (map-append, read_same xs ys e)
+
+foot_part_same : (stated : Bool) (xs ys : List ReadText) → length xs ≡ length ys → Same (foot_part stated xs) (foot_part stated ys)
+unfolding foot_part
+foot_part_same stated xs ys e =
+    rw e (when (nat_lt 0 (length ys)) (foot stated xs) (foot stated ys) (foot_same stated xs ys e))
 
 -- ---- what depends on the words that amounts are counted in
 
@@ -111,6 +137,14 @@ module _ (m n : Money) (said : AreSaidAlike m n) where
   amount_or_none_same None = refl
   amount_or_none_same (Some sum) = simp (map-append, unit_same m n said, said.decimals)
 
+  bound_of_same : (sum : Option ℕ) → Same (bound_of n sum) (bound_of m sum)
+  unfolding bound_of
+  bound_of_same sum = simp (map-append, amount_or_none_same sum)
+
+  bound_same : (cost sum : Option ℕ) → Same (bound_part n cost sum) (bound_part m cost sum)
+  unfolding bound_part
+  bound_same cost sum = when (is_told cost sum) (bound_of n sum) (bound_of m sum) (bound_of_same sum)
+
   both_sums_same : (f : Figures) → Same (both_sums n f) (both_sums m f)
   unfolding both_sums
   both_sums_same f = simp (map-append, unit_same m n said, said.decimals)
@@ -156,7 +190,7 @@ module _ (f : ℕ → ℕ) (one : IsOneToOne f) where
   costs_same : (m n : Money) → AreSaidAlike m n → (cs : List CodeDef) (figures : Figures) (columns : List CellCover) → Same (costs n (recoded f cs) figures columns) (costs m cs figures columns)
   unfolding costs
   costs_same m n said cs figures columns =
-      simp (map-append, amount_or_none_same m n said figures.cost, amount_or_none_same m n said figures.bound, sums_same m n said figures figures.cost, code_costs_same m n said cs columns)
+      simp (map-append, amount_or_none_same m n said figures.cost, bound_same m n said figures.cost figures.bound, sums_same m n said figures figures.cost, code_costs_same m n said cs columns)
 
   tops_same : (m n : Money) → AreSaidAlike m n → (es fs : List Element) → Same fs es → (cs : List CodeDef) (figures : Figures) (columns : List CellCover) (changes : Option Changes)
       → Same (tops n fs (recoded f cs) figures columns changes) (tops m es cs figures columns changes)
@@ -178,23 +212,41 @@ module _ (f : ℕ → ℕ) (one : IsOneToOne f) where
   legend_same : (cs : List CodeDef) (v w : List (List ℕ)) → Same (legend (recoded f cs) v) (legend cs w)
   legend_same cs v w = each_same (legend_item (recoded f cs) v) (legend_item cs w) (legend_item_same cs v w) 0 cs
 
-  letter_same : (s : PeriodAxis) (cs : List CodeDef) (k place byte : ℕ) → Same (letter s (recoded f cs) k place (f byte)) (letter s cs k place byte)
-  unfolding letter
-  letter_same s cs k place byte = rw (same_paint f one cs byte) refl
+  bar_same : (s : PeriodAxis) (cs : List CodeDef) (k place byte : ℕ) → Same (letter_bar s (recoded f cs) k place (f byte)) (letter_bar s cs k place byte)
+  unfolding letter_bar
+  bar_same s cs k place byte = rw (same_paint f one cs byte) refl
 
-  letters_same : (s : PeriodAxis) (cs : List CodeDef) (k place : ℕ) (o : Option ℕ)
-      → Same (elim (option_map f o) [ None ↦ [] | Some byte ↦ letter s (recoded f cs) k place byte ]) (elim o [ None ↦ [] | Some byte ↦ letter s cs k place byte ])
-  letters_same s cs k place None = refl
-  letters_same s cs k place (Some byte) = letter_same s cs k place byte
+  same_off : (off : Option ℕ) (byte : ℕ) → is_off (option_map f off) (f byte) ≡ is_off off byte
+  same_off None byte = refl
+  same_off (Some code) byte = same_test f one code byte
 
-  cell_same : (s : PeriodAxis) (cs : List CodeDef) (k : ℕ) (word : List ℕ) (place : ℕ) → Same (cell s (recoded f cs) k (map f word) place) (cell s cs k word place)
+  text_same : (s : PeriodAxis) (cs : List CodeDef) (off : Option ℕ) (k place byte : ℕ) → Same (letter_text s (recoded f cs) (option_map f off) k place (f byte)) (letter_text s cs off k place byte)
+  unfolding letter_text
+  text_same s cs off k place byte =
+      rw (same_off off byte, same_paint f one cs byte)
+      (unless (is_off off byte) (caption (paint_of cs byte) (middle_of s place) (top_of k + 15) (f byte ∷ []) ∷ []) (caption (paint_of cs byte) (middle_of s place) (top_of k + 15) (byte ∷ []) ∷ []) refl)
+
+  letter_same : (s : PeriodAxis) (cs : List CodeDef) (off : Option ℕ) (k place byte : ℕ) → Same (letter s (recoded f cs) (option_map f off) k place (f byte)) (letter s cs off k place byte)
+  letter_same s cs off k place byte = simp (map-append, bar_same s cs k place byte, text_same s cs off k place byte)
+
+  letters_same : (s : PeriodAxis) (cs : List CodeDef) (off : Option ℕ) (k place : ℕ) (o : Option ℕ)
+      → Same (elim (option_map f o) [ None ↦ [] | Some byte ↦ letter s (recoded f cs) (option_map f off) k place byte ]) (elim o [ None ↦ [] | Some byte ↦ letter s cs off k place byte ])
+  letters_same s cs off k place None = refl
+  letters_same s cs off k place (Some byte) = letter_same s cs off k place byte
+
+  cell_same : (s : PeriodAxis) (cs : List CodeDef) (off : Option ℕ) (k : ℕ) (word : List ℕ) (place : ℕ) → Same (cell s (recoded f cs) (option_map f off) k (map f word) place) (cell s cs off k word place)
   unfolding cell
-  cell_same s cs k word place =
-      subst (λ (o : Option ℕ). Same (elim o [ None ↦ [] | Some byte ↦ letter s (recoded f cs) k place byte ]) (cell s cs k word place)) (sym (slice_get-map f word place))
-      (letters_same s cs k place (slice_get word place))
+  cell_same s cs off k word place =
+      subst (λ (o : Option ℕ). Same (elim o [ None ↦ [] | Some byte ↦ letter s (recoded f cs) (option_map f off) k place byte ]) (cell s cs off k word place)) (sym (slice_get-map f word place))
+      (letters_same s cs off k place (slice_get word place))
 
-  marked_same : (s : PeriodAxis) (cs : List CodeDef) (k : ℕ) (word : List ℕ) (differs : List Bool) (place : ℕ) → Same (marked_cell s (recoded f cs) k (map f word) differs place) (marked_cell s cs k word differs place)
-  marked_same s cs k word differs place = simp (map-append, cell_same s cs k word place)
+  marked_same : (s : PeriodAxis) (cs : List CodeDef) (off : Option ℕ) (k : ℕ) (r q : Row) → IsAlikeRow f r q → (place : ℕ) → Same (marked_cell s (recoded f cs) (option_map f off) k q place) (marked_cell s cs off k r place)
+  marked_same s cs off k r q h place =
+      let lettered : Same (cell s (recoded f cs) (option_map f off) k q.word place) (cell s cs off k r.word place)
+      = ap (λ (word : List ℕ). marks_of (cell s (recoded f cs) (option_map f off) k word place)) h.word ∙ cell_same s cs off k r.word place in
+      let changed : Same (change_at s k q.differs place) (change_at s k r.differs place)
+      = ap (λ (ds : List Bool). marks_of (change_at s k ds place)) h.differs in
+      simp (map-append, lettered, changed)
 
   words_same : (m n : Money) → AreSaidAlike m n → (r q : Row) → IsAlikeRow f r q → Same (row_words n q) (row_words m r)
   unfolding row_words
@@ -213,22 +265,20 @@ module _ (f : ℕ → ℕ) (one : IsOneToOne f) where
       rw h.price
       (ap (λ (t : List Element). bar (codes "hit") (record { left = 4; top = top_of k - 2; width = chart_width s - 8; height = 26 }) ∷ caption (codes "name") (s.left - 10) (top_of k + 15) [] ∷ t) (price_same m n said s k r.price))
 
-  row_same : (m n : Money) → AreSaidAlike m n → (s : PeriodAxis) (cs : List CodeDef) (k : ℕ) (r q : Row) → IsAlikeRow f r q → Same (row_elements n s (recoded f cs) k q) (row_elements m s cs k r)
+  row_same : (m n : Money) → AreSaidAlike m n → (s : PeriodAxis) (cs : List CodeDef) (off : Option ℕ) (k : ℕ) (r q : Row) → IsAlikeRow f r q → Same (row_elements n s (recoded f cs) (option_map f off) k q) (row_elements m s cs off k r)
   unfolding row_elements
-  row_same m n said s cs k r q h =
+  row_same m n said s cs off k r q h =
       let times_same : Same (times k q.number q.count) (times k r.number r.count) = rw (h.number, h.count) refl in
-      let cells_same : Same (cells s (recoded f cs) k q.word q.differs) (cells s cs k r.word r.differs)
-      = ap (λ (word : List ℕ). marks_of (cells s (recoded f cs) k word q.differs)) h.word
-      ∙ ap (λ (ds : List Bool). marks_of (cells s (recoded f cs) k (map f r.word) ds)) h.differs
-      ∙ flat_same (marked_cell s (recoded f cs) k (map f r.word) r.differs) (marked_cell s cs k r.word r.differs) (marked_same s cs k r.word r.differs) (places s.periods) in
+      let cells_same : Same (cells s (recoded f cs) (option_map f off) k q) (cells s cs off k r)
+      = flat_same (marked_cell s (recoded f cs) (option_map f off) k q) (marked_cell s cs off k r) (marked_same s cs off k r q h) (places s.periods) in
       simp (map-append, head_of_row_same m n said k r q h, frame_same m n said s k r q h, times_same, cells_same)
 
-  rows_same : (m n : Money) → AreSaidAlike m n → (s : PeriodAxis) (cs : List CodeDef) (k : ℕ) (rs qs : List Row) → AreAlikeRows f rs qs
-      → Same (each_from (row_elements n s (recoded f cs)) k qs) (each_from (row_elements m s cs) k rs)
-  rows_same m n said s cs k [] [] h = refl
-  rows_same m n said s cs k [] (q ∷ qs) h = absurd h
-  rows_same m n said s cs k (r ∷ rs) [] h = absurd h
-  rows_same m n said s cs k (r ∷ rs) (q ∷ qs) h = simp (map-append, row_same m n said s cs k r q h.0, rows_same m n said s cs (k + 1) rs qs h.1)
+  rows_same : (m n : Money) → AreSaidAlike m n → (s : PeriodAxis) (cs : List CodeDef) (off : Option ℕ) (k : ℕ) (rs qs : List Row) → AreAlikeRows f rs qs
+      → Same (each_from (row_elements n s (recoded f cs) (option_map f off)) k qs) (each_from (row_elements m s cs off) k rs)
+  rows_same m n said s cs off k [] [] h = refl
+  rows_same m n said s cs off k [] (q ∷ qs) h = absurd h
+  rows_same m n said s cs off k (r ∷ rs) [] h = absurd h
+  rows_same m n said s cs off k (r ∷ rs) (q ∷ qs) h = simp (map-append, row_same m n said s cs off k r q h.0, rows_same m n said s cs off (k + 1) rs qs h.1)
 
   as_many : (rs qs : List Row) → AreAlikeRows f rs qs → length qs ≡ length rs
   as_many [] [] h = refl
@@ -241,7 +291,10 @@ module _ (f : ℕ → ℕ) (one : IsOneToOne f) where
   shifts_same s cs c d h =
       let sized = ap (λ (n : ℕ). marks_of (size (chart_width s) (height_of n))) (as_many c.rows d.rows h.rows) in
       let ticked = ap (λ (moments : List (List ℕ)). marks_of (ticks s 20 moments)) h.times in
-      simp (map-append, legend_same cs d.words c.words, sized, ticked, rows_same c.money d.money h.money s cs 0 c.rows d.rows h.rows)
+      let rowed : Same (each_from (row_elements d.money s (recoded f cs) d.off) 0 d.rows) (each_from (row_elements c.money s cs c.off) 0 c.rows)
+      = ap (λ (off : Option ℕ). marks_of (each_from (row_elements d.money s (recoded f cs) off) 0 d.rows)) h.off
+      ∙ rows_same c.money d.money h.money s cs c.off 0 c.rows d.rows h.rows in
+      simp (map-append, legend_same cs d.words c.words, sized, ticked, rowed)
 
   shifts_part_same : (s : PeriodAxis) (cs : List CodeDef) (c d : Content) → IsAlike f c d → Same (shifts_part s (recoded f cs) d) (shifts_part s cs c)
   unfolding shifts_part
@@ -250,30 +303,32 @@ module _ (f : ℕ → ℕ) (one : IsOneToOne f) where
 
   -- ---- the charts of the coverage
 
-  chart_head_same : (cs : List CodeDef) (s : PeriodAxis) (columns : List CellCover) (k : ℕ) (c : CodeDef) → Same (chart_head (recoded f cs) s columns k (other c)) (chart_head cs s columns k c)
+  chart_head_same : (cs : List CodeDef) (s : PeriodAxis) (v w : List (List ℕ)) (columns : List CellCover) (k : ℕ) (c : CodeDef) → Same (chart_head (recoded f cs) s v columns k (other c)) (chart_head cs s w columns k c)
   unfolding chart_head
-  chart_head_same cs s columns k c = simp (map-append, chip_same cs c.byte)
+  chart_head_same cs s v w columns k c = simp (map-append, chip_same cs c.byte)
 
-  whole_chart_same : (cs : List CodeDef) (s : PeriodAxis) (ts : List (List ℕ)) (columns : List CellCover) (k top unit : ℕ) (c : CodeDef)
-      → Same (chart_head (recoded f cs) s columns k (other c) ++ chart_body s ts columns k top unit) (chart_head cs s columns k c ++ chart_body s ts columns k top unit)
-  whole_chart_same cs s ts columns k top unit c = simp (map-append, chart_head_same cs s columns k c)
+  whole_chart_same : (cs : List CodeDef) (s : PeriodAxis) (v w ts : List (List ℕ)) (columns : List CellCover) (k top unit : ℕ) (c : CodeDef)
+      → Same (chart_head (recoded f cs) s v columns k (other c) ++ chart_body s ts columns k top unit) (chart_head cs s w columns k c ++ chart_body s ts columns k top unit)
+  whole_chart_same cs s v w ts columns k top unit c = simp (map-append, chart_head_same cs s v w columns k c)
 
-  chart_same : (cs : List CodeDef) (s : PeriodAxis) (ts : List (List ℕ)) (columns : List CellCover) (k : ℕ) (c : CodeDef) → Same (chart (recoded f cs) s ts columns k (other c)) (chart cs s ts columns k c)
+  chart_same : (cs : List CodeDef) (s : PeriodAxis) (t u : Content) → IsAlike f t u → (k : ℕ) (c : CodeDef) → Same (chart (recoded f cs) s u k (other c)) (chart cs s t k c)
   unfolding chart
-  chart_same cs s ts columns k c =
-      let top = top_count k columns 1 in
-      when (is_demanded k columns) (chart_head (recoded f cs) s columns k (other c) ++ chart_body s ts columns k top (unit_of top))
-      (chart_head cs s columns k c ++ chart_body s ts columns k top (unit_of top)) (whole_chart_same cs s ts columns k top (unit_of top) c)
+  chart_same cs s t u h k c =
+      let top = top_count k t.columns 1 in
+      rw (h.columns, h.times)
+      (when (is_demanded k t.columns) (chart_head (recoded f cs) s u.words t.columns k (other c) ++ chart_body s t.times t.columns k top (unit_of top))
+      (chart_head cs s t.words t.columns k c ++ chart_body s t.times t.columns k top (unit_of top)) (whole_chart_same cs s u.words t.words t.times t.columns k top (unit_of top) c))
 
-  coverage_same : (cs : List CodeDef) (s : PeriodAxis) (ts : List (List ℕ)) (columns : List CellCover) → Same (coverage (recoded f cs) s ts columns) (coverage cs s ts columns)
+  coverage_same : (cs : List CodeDef) (s : PeriodAxis) (t u : Content) → IsAlike f t u → Same (coverage (recoded f cs) s u) (coverage cs s t)
   unfolding coverage
-  coverage_same cs s ts columns =
-      simp (map-append, each_same (chart (recoded f cs) s ts columns) (chart cs s ts columns) (chart_same cs s ts columns) 0 cs)
+  coverage_same cs s t u h =
+      simp (map-append, each_same (chart (recoded f cs) s u) (chart cs s t) (chart_same cs s t u h) 0 cs)
 
-  coverage_part_same : (s : PeriodAxis) (cs : List CodeDef) (ts : List (List ℕ)) (columns : List CellCover) → Same (coverage_part s (recoded f cs) ts columns) (coverage_part s cs ts columns)
+  coverage_part_same : (s : PeriodAxis) (cs : List CodeDef) (t u : Content) → IsAlike f t u → Same (coverage_part s (recoded f cs) u) (coverage_part s cs t)
   unfolding coverage_part
-  coverage_part_same s cs ts columns =
-      when (nat_lt 0 (length columns)) (coverage (recoded f cs) s ts columns) (coverage cs s ts columns) (coverage_same cs s ts columns)
+  coverage_part_same s cs t u h =
+      ap (λ (columns : List CellCover). marks_of (if nat_lt 0 (length columns) then coverage (recoded f cs) s u else [])) h.columns
+      ∙ when (nat_lt 0 (length t.columns)) (coverage (recoded f cs) s u) (coverage cs s t) (coverage_same cs s t u h)
 
   -- ---- the derivations
 
@@ -332,23 +387,22 @@ module _ (f : ℕ → ℕ) (one : IsOneToOne f) where
   pub body_same : (s : PeriodAxis) (cs : List CodeDef) (c d : Content) → IsAlike f c d → Same (body s (recoded f cs) d) (body s cs c)
   unfolding body
   body_same s cs c d h =
-      let covered : Same (coverage_part s (recoded f cs) d.times d.columns) (coverage_part s cs c.times c.columns)
-      = ap (λ (columns : List CellCover). marks_of (coverage_part s (recoded f cs) d.times columns)) h.columns
-      ∙ ap (λ (ts : List (List ℕ)). marks_of (coverage_part s (recoded f cs) ts c.columns)) h.times
-      ∙ coverage_part_same s cs c.times c.columns in
+      let footed : Same (foot_part d.stated d.read) (foot_part c.stated c.read)
+      = ap (λ (stated : Bool). marks_of (foot_part stated d.read)) h.stated ∙ foot_part_same c.stated d.read c.read h.read in
       simp (
         map-append,
         top_same cs c d h,
         shifts_part_same s cs c d h,
-        covered,
+        coverage_part_same s cs c d h,
         tables_same c.money d.money c.tables d.tables h.money h.tables,
         derivations_part_same c.money d.money h.money c.rows d.rows d.derivations c.derivations h.rows h.derivations,
+        footed,
       )
 
-  same_sheet : (periods a b u v : ℕ) → min a 60 ≡ min b 60 → min u 60 ≡ min v 60 → sheet_of periods a u ≡ sheet_of periods b v
+  same_sheet : (periods a b u v : ℕ) → min a 25 ≡ min b 25 → min u 60 ≡ min v 60 → sheet_of periods a u ≡ sheet_of periods b v
   same_sheet periods a b u v e g = rw (e, g) refl
 
-  pub page_same : (periods : ℕ) (cs : List CodeDef) (c d : Content) → IsAlike f c d → min (longest d.rows 0) 60 ≡ min (longest c.rows 0) 60 → min (length d.money.words) 60 ≡ min (length c.money.words) 60
+  pub page_same : (periods : ℕ) (cs : List CodeDef) (c d : Content) → IsAlike f c d → min (longest d.rows 0) 25 ≡ min (longest c.rows 0) 25 → min (length d.money.words) 60 ≡ min (length c.money.words) 60
       → Same (page periods (recoded f cs) d) (page periods cs c)
   page_same periods cs c d h e g =
       ap (λ (s : PeriodAxis). marks_of (body s (recoded f cs) d)) (same_sheet periods (longest d.rows 0) (longest c.rows 0) (length d.money.words) (length c.money.words) e g)

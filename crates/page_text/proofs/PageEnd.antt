@@ -8,7 +8,7 @@ use Rattle.page_parts.specs.Sheets.{sheet_of}
 use Rattle.page_parts.specs.declared.sheet.PeriodAxis.{PeriodAxis}
 use Rattle.page_text.specs.Alike.{EndsWith}
 use Rattle.page_text.specs.Inputs.{longest}
-use Rattle.page_text.specs.Pages.{body, coverage_part, derivations_part, page, shifts_part, top_part}
+use Rattle.page_text.specs.Pages.{body, coverage_part, derivations_part, foot_part, page, shifts_part, top_part}
 use Rattle.page_tables.specs.Tables.{page_tables}
 use Rattle.page_text.specs.declared.content.Content.{Content}
 
@@ -28,9 +28,10 @@ unfolding body
 body_ends s cs c =
     behind (codes "</html>\n") (top_part cs c) _
     (behind (codes "</html>\n") (shifts_part s cs c) _
-    (behind (codes "</html>\n") (coverage_part s cs c.times c.columns) _
+    (behind (codes "</html>\n") (coverage_part s cs c) _
     (behind (codes "</html>\n") (page_tables c.money c.tables) _
-    (behind (codes "</html>\n") (derivations_part c.money c.rows c.derivations) _ last))))
+    (behind (codes "</html>\n") (derivations_part c.money c.rows c.derivations) _
+    (behind (codes "</html>\n") (foot_part c.stated c.read) _ last)))))
 
 pub page_ends : (periods : ℕ) (cs : List CodeDef) (c : Content) → EndsWith (codes "</html>\n") (written (page periods cs c))
 page_ends periods cs c = body_ends (sheet_of periods (longest c.rows 0) (length c.money.words)) cs c

@@ -1,5 +1,5 @@
 -- What the roster costs, and how good it is.
-use Rattle.std.specs.Prelude.{ℕ, ◌≤◌, ◌+◌, ◌-◌, ◌/◌, ◌%◌, Option, None, Some, List, [], ◌∷◌, ◌++◌, All, Bool, length, nat_eq, codes, if◌then◌else◌}
+use Rattle.std.specs.Prelude.{ℕ, ◌≤◌, ◌+◌, ◌-◌, ◌/◌, ◌%◌, Option, None, Some, List, [], ◌∷◌, ◌++◌, All, Bool, true, ◌||◌, length, nat_eq, nat_lt, codes, if◌then◌else◌}
 use Rattle.std.specs.List.{list_any}
 use Rattle.roster_model.specs.declared.grammar.CodeDef.{CodeDef}
 use Rattle.page_parts.specs.Amounts.{amount}
@@ -106,10 +106,23 @@ unfoldable pub sums : Money → Figures → Option ℕ → List Element
 sums m f None = []
 sums m f (Some cost) = both_sums m f
 
+-- something is proved of the cost
+abbrev pub is_told : Option ℕ → Option ℕ → Bool
+is_told None bound = true
+is_told (Some cost) None = true
+is_told (Some cost) (Some bound) = nat_lt 0 bound || nat_eq cost 0
+
+unfoldable pub bound_of : Money → Option ℕ → List Element
+bound_of m bound =
+    (marks (codes "<div><dt>Bound</dt><dd>") ∷ amount_or_none m bound) ++ marks (codes "</dd></div>") ∷ []
+
+-- the bound, where something is proved of the cost
+unfoldable pub bound_part : Money → Option ℕ → Option ℕ → List Element
+bound_part m cost bound = if is_told cost bound then bound_of m bound else []
+
 -- what the roster costs, where amounts are counted in these words
 unfoldable pub costs : Money → List CodeDef → Figures → List CellCover → List Element
 costs m cs f columns =
     (marks (codes "<dl><div><dt>Total cost</dt><dd>") ∷ amount_or_none m f.cost)
-    ++ ((marks (codes "</dd></div><div><dt>Bound</dt><dd>") ∷ amount_or_none m f.bound)
-    ++ (marks (codes "</dd></div>")
-    ∷ (sums m f f.cost ++ (code_costs m cs columns ++ marks (codes "</dl>\n") ∷ []))))
+    ++ (marks (codes "</dd></div>") ∷ (bound_part m f.cost f.bound
+    ++ (sums m f f.cost ++ (code_costs m cs columns ++ marks (codes "</dl>\n") ∷ []))))

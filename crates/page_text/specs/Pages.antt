@@ -15,6 +15,7 @@ use Rattle.page_text.specs.declared.ink.Ink.TheVariants.{Bars}
 use Rattle.page_text.specs.RosterChart.{row_words, rows_elements, ticks}
 use Rattle.page_text.specs.Style.{style}
 use Rattle.page_text.specs.declared.content.Content.{Content}
+use Rattle.page_text.specs.declared.content.ReadText.{ReadText}
 use Rattle.page_tables.specs.Tables.{page_tables}
 use Rattle.page_text.specs.declared.row.Row.{Row}
 
@@ -55,14 +56,15 @@ shifts s cs c =
     marks (codes "<section><h2>Shifts</h2>\n<ul class='legend'>") ∷ legend cs c.words
     ++ (marks (codes "</ul>\n<div class='scroll'><svg class='roster' role='group' aria-label='Shifts of the roster, one row a shift")
     ∷ size (chart_width s) (height_of (length c.rows))
-    ++ (price_head s ++ (ticks s 20 c.times ++ (rows_elements c.money s cs c.rows
+    ++ (price_head s ++ (ticks s 20 c.times ++ (rows_elements c.money s cs c.off c.rows
     ++ marks (codes "</svg></div>\n<p class='hint'>Point at a shift, or go to it with the Tab key, and see how the rules derive it.</p></section>\n") ∷ []))))
 
 -- the chart of a code's coverage
-unfoldable pub chart_head : List CodeDef → PeriodAxis → List CellCover → ℕ → CodeDef → List Element
-chart_head cs s columns place c =
+unfoldable pub chart_head : List CodeDef → PeriodAxis → List (List ℕ) → List CellCover → ℕ → CodeDef → List Element
+chart_head cs s words columns place c =
     (marks (codes "<figure><figcaption>") ∷ chip cs c.byte)
-    ++ (marks (codes "</figcaption><div class='scroll'><svg role='img' aria-label='Coverage of ") ∷ given (c.byte ∷ [])
+    ++ (marks (codes " ") ∷ given (words_at words place)
+    ∷ marks (codes "</figcaption><div class='scroll'><svg role='img' aria-label='Coverage of ") ∷ given (c.byte ∷ [])
     ∷ marks (codes ". ")
     ∷ (in_words s place columns ++ size (chart_width s) 132))
 
@@ -72,13 +74,13 @@ chart_body s moments columns place top unit =
     ++ (frame s unit top
     ++ (lines s unit place columns ++ (ticks s 127 moments ++ marks (codes "</svg></div></figure>\n") ∷ [])))
 
-unfoldable pub chart : List CodeDef → PeriodAxis → List (List ℕ) → List CellCover → ℕ → CodeDef → List Element
-chart cs s moments columns place c =
-    if is_demanded place columns then chart_head cs s columns place c
-    ++ chart_body s moments columns place (top_count place columns 1) (unit_of (top_count place columns 1)) else []
+unfoldable pub chart : List CodeDef → PeriodAxis → Content → ℕ → CodeDef → List Element
+chart cs s t place c =
+    if is_demanded place t.columns then chart_head cs s t.words t.columns place c
+    ++ chart_body s t.times t.columns place (top_count place t.columns 1) (unit_of (top_count place t.columns 1)) else []
 
-abbrev pub charts : List CodeDef → PeriodAxis → List (List ℕ) → List CellCover → List Element
-charts cs s moments columns = each_from (chart cs s moments columns) 0 cs
+abbrev pub charts : List CodeDef → PeriodAxis → Content → List Element
+charts cs s t = each_from (chart cs s t) 0 cs
 
 unfoldable pub chart_legend : List ℕ
 chart_legend =
@@ -86,9 +88,8 @@ chart_legend =
     ++ codes "<li><span class='key over'></span>surplus</li><li><span class='key need'></span>need</li><li><span class='key floor'></span>floor</li>"
     ++ codes "<li><span class='key ceiling'></span>ceiling</li></ul>\n<div class='charts'>\n"
 
-unfoldable pub coverage : List CodeDef → PeriodAxis → List (List ℕ) → List CellCover → List Element
-coverage cs s moments columns =
-    marks chart_legend ∷ (charts cs s moments columns ++ marks (codes "</div></section>\n") ∷ [])
+unfoldable pub coverage : List CodeDef → PeriodAxis → Content → List Element
+coverage cs s t = marks chart_legend ∷ (charts cs s t ++ marks (codes "</div></section>\n") ∷ [])
 
 -- what shows the derivation of a shift that is pointed at
 unfoldable pub shows : ℕ → List Element
@@ -163,14 +164,36 @@ top_part cs c =
 unfoldable pub shifts_part : PeriodAxis → List CodeDef → Content → List Element
 shifts_part s cs c = if nat_lt 0 (length c.rows) then shifts s cs c else []
 
-unfoldable pub coverage_part : PeriodAxis → List CodeDef → List (List ℕ) → List CellCover → List Element
-coverage_part s cs moments columns = if nat_lt 0 (length columns) then coverage cs s moments columns else []
+unfoldable pub coverage_part : PeriodAxis → List CodeDef → Content → List Element
+coverage_part s cs t = if nat_lt 0 (length t.columns) then coverage cs s t else []
+
+-- the command that checks what the page says: of a proof, or of a report
+unfoldable pub check_command : Bool → List ℕ
+check_command stated = if stated then codes "value RULES DEMAND REPORT" else codes "check RULES DEMAND PROOF"
+
+-- a text that was read, as `sha256sum` says it
+unfoldable pub read_line : ReadText → List Element
+read_line r = given r.sum ∷ marks (codes "  ") ∷ given r.name ∷ marks (codes "\n") ∷ []
+
+abbrev pub read_lines : List ReadText → List Element
+read_lines rs = flat_map read_line rs
+
+-- the foot of the page
+unfoldable pub foot : Bool → List ReadText → List Element
+foot stated rs =
+    marks (codes "<footer><p>Made from these texts; <code>roster ") ∷ marks (check_command stated)
+    ∷ marks (codes "</code> checks them.</p>\n<pre>")
+    ∷ (read_lines rs ++ marks (codes "</pre></footer>\n") ∷ [])
+
+-- the same, where it is said which texts were read
+unfoldable pub foot_part : Bool → List ReadText → List Element
+foot_part stated rs = if nat_lt 0 (length rs) then foot stated rs else []
 
 unfoldable pub body : PeriodAxis → List CodeDef → Content → List Element
 body s cs c =
-    top_part cs c ++ (shifts_part s cs c ++ (coverage_part s cs c.times c.columns
+    top_part cs c ++ (shifts_part s cs c ++ (coverage_part s cs c
     ++ (page_tables c.money c.tables ++ (derivations_part c.money c.rows c.derivations
-    ++ marks (codes "</main>\n</body>\n</html>\n") ∷ []))))
+    ++ (foot_part c.stated c.read ++ marks (codes "</main>\n</body>\n</html>\n") ∷ [])))))
 
 -- the elements of the page, in order
 abbrev pub page : ℕ → List CodeDef → Content → List Element

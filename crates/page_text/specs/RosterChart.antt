@@ -1,25 +1,37 @@
 -- The chart of the shifts: one row a shift, a bar for each period.
-use Rattle.std.specs.Prelude.{ℕ, ◌+◌, ◌-◌, ◌%◌, Bool, None, Some, List, [], ◌∷◌, ◌++◌, length, nat_eq, nat_lt, slice_get, codes, if◌then◌else◌}
+use Rattle.std.specs.Prelude.{ℕ, ◌+◌, ◌-◌, ◌%◌, Bool, Option, None, Some, List, [], ◌∷◌, ◌++◌, length, nat_eq, nat_lt, slice_get, codes, if◌then◌else◌}
 use Rattle.std.specs.List.{flat_map}
 use Rattle.roster_model.specs.declared.grammar.CodeDef.{CodeDef}
 use Rattle.page_parts.specs.Amounts.{amount}
 use Rattle.page_parts.specs.Elements.{Element, each_from, marks, given, number, bar, caption, figure, places}
+use Rattle.page_parts.specs.Names.{shortened}
 use Rattle.page_parts.specs.Paints.{paint_of}
 use Rattle.page_parts.specs.Sheets.{left_of, middle_of, chart_width, top_of}
 use Rattle.page_parts.specs.declared.sheet.PeriodAxis.{PeriodAxis}
 use Rattle.page_parts.specs.declared.money.Money.{Money}
 use Rattle.page_text.specs.declared.row.Row.{Row}
+use Rattle.shift_figures.specs.Stretches.{is_off}
 
--- a letter of a row, at the period behind so many
-unfoldable pub letter : PeriodAxis → List CodeDef → ℕ → ℕ → ℕ → List Element
-letter s cs row place byte =
+-- the bar of a letter of a row, at the period behind so many
+unfoldable pub letter_bar : PeriodAxis → List CodeDef → ℕ → ℕ → ℕ → List Element
+letter_bar s cs row place byte =
     bar (paint_of cs byte)
-    (record { left = left_of s place; top = top_of row; width = s.cell - 1; height = 22 })
-    ∷ caption (paint_of cs byte) (middle_of s place) (top_of row + 15) (byte ∷ []) ∷ []
+    (record { left = left_of s place; top = top_of row; width = s.cell - 1; height = 22 }) ∷ []
+
+-- the letter itself, but for time off
+unfoldable pub letter_text : PeriodAxis → List CodeDef → Option ℕ → ℕ → ℕ → ℕ → List Element
+letter_text s cs off row place byte =
+    if is_off off byte then []
+    else caption (paint_of cs byte) (middle_of s place) (top_of row + 15) (byte ∷ []) ∷ []
+
+-- a letter in its bar
+abbrev pub letter : PeriodAxis → List CodeDef → Option ℕ → ℕ → ℕ → ℕ → List Element
+letter s cs off row place byte = letter_bar s cs row place byte ++ letter_text s cs off row place byte
 
 -- the same, where the word has a letter there
-unfoldable pub cell : PeriodAxis → List CodeDef → ℕ → List ℕ → ℕ → List Element
-cell s cs row word place = elim (slice_get word place) [ None ↦ [] | Some byte ↦ letter s cs row place byte ]
+unfoldable pub cell : PeriodAxis → List CodeDef → Option ℕ → ℕ → List ℕ → ℕ → List Element
+cell s cs off row word place =
+    elim (slice_get word place) [ None ↦ [] | Some byte ↦ letter s cs off row place byte ]
 
 -- a line under a letter that differs from an old roster
 unfoldable pub change_line : PeriodAxis → ℕ → ℕ → List Element
@@ -37,12 +49,12 @@ change_at s row differs place =
     elim (slice_get differs place) [ None ↦ [] | Some it ↦ change_if s row place it ]
 
 -- what stands at a period of a row
-abbrev pub marked_cell : PeriodAxis → List CodeDef → ℕ → List ℕ → List Bool → ℕ → List Element
-marked_cell s cs row word differs place = cell s cs row word place ++ change_at s row differs place
+abbrev pub marked_cell : PeriodAxis → List CodeDef → Option ℕ → ℕ → Row → ℕ → List Element
+marked_cell s cs off k r place = cell s cs off k r.word place ++ change_at s k r.differs place
 
 -- the letters of a word, each at its period, and lines under those that differ
-abbrev pub cells : PeriodAxis → List CodeDef → ℕ → List ℕ → List Bool → List Element
-cells s cs row word differs = flat_map (marked_cell s cs row word differs) (places s.periods)
+abbrev pub cells : PeriodAxis → List CodeDef → Option ℕ → ℕ → Row → List Element
+cells s cs off k r = flat_map (marked_cell s cs off k r) (places s.periods)
 
 -- beside a row how many employees have its shift
 unfoldable pub times_of : ℕ → ℕ → List Element
@@ -95,13 +107,13 @@ price_text m s k price =
 unfoldable pub row_frame : Money → PeriodAxis → ℕ → Row → List Element
 row_frame m s k r =
     bar (codes "hit") (record { left = 4; top = top_of k - 2; width = chart_width s - 8; height = 26 })
-    ∷ caption (codes "name") (s.left - 10) (top_of k + 15) r.name
+    ∷ caption (codes "name") (s.left - 10) (top_of k + 15) (shortened r.name)
     ∷ price_text m s k r.price
 
-unfoldable pub row_elements : Money → PeriodAxis → List CodeDef → ℕ → Row → List Element
-row_elements m s cs k r =
+unfoldable pub row_elements : Money → PeriodAxis → List CodeDef → Option ℕ → ℕ → Row → List Element
+row_elements m s cs off k r =
     row_head m k r ++ (row_frame m s k r
-    ++ (times k r.number r.count ++ (cells s cs k r.word r.differs ++ marks (codes "</g>\n") ∷ [])))
+    ++ (times k r.number r.count ++ (cells s cs off k r ++ marks (codes "</g>\n") ∷ [])))
 
 -- every how many periods the axis has a number
 abbrev pub step_of : ℕ → ℕ
@@ -128,8 +140,12 @@ unfoldable pub tick : PeriodAxis → ℕ → List (List ℕ) → ℕ → List El
 tick s top moments place =
     if nat_lt 0 (length moments) then time_tick s top moments place else number_tick s top place
 
-abbrev pub ticks : PeriodAxis → ℕ → List (List ℕ) → List Element
-ticks s top moments = flat_map (tick s top moments) (places s.periods)
+abbrev pub all_ticks : PeriodAxis → ℕ → List (List ℕ) → List Element
+all_ticks s top moments = flat_map (tick s top moments) (places s.periods)
 
-abbrev pub rows_elements : Money → PeriodAxis → List CodeDef → List Row → List Element
-rows_elements m s cs rows = each_from (row_elements m s cs) 0 rows
+-- the same, and behind the last period its end, where there is a time for it
+abbrev pub ticks : PeriodAxis → ℕ → List (List ℕ) → List Element
+ticks s top moments = all_ticks s top moments ++ time_tick s top moments s.periods
+
+abbrev pub rows_elements : Money → PeriodAxis → List CodeDef → Option ℕ → List Row → List Element
+rows_elements m s cs off rows = each_from (row_elements m s cs off) 0 rows

@@ -5,6 +5,8 @@ ghost use Rattle.page_text.specs.Costs.{
   AreDayColumns,
   amount_or_none,
   both_sums,
+  bound_of,
+  bound_part,
   chip,
   code_cost,
   code_costs,
@@ -12,6 +14,7 @@ ghost use Rattle.page_text.specs.Costs.{
   demanded_cost,
   gap,
   is_demanded,
+  is_told,
   no_roster,
   none_allowed,
   none_less,
@@ -301,8 +304,47 @@ fn sums(out: &mut List<u8>, money: &Money, figures: Figures) -> Result<(), Memor
     }
 }
 
+// Whether something is proved of the cost.
+fn is_told(cost: Option<u64>, bound: Option<u64>) -> bool
+    ensures { result ≡ is_told cost bound }
+{
+    let Some(cost) = cost else {
+        return true;
+    };
+    match bound {
+        None => true,
+        Some(bound) => bound > 0 || cost == 0,
+    }
+}
+
+// Writes the bound.
+#[tactic(auto, unfolding(crate::specs::Costs::bound_of))]
+fn bound_of(out: &mut List<u8>, money: &Money, bound: Option<u64>) -> Result<(), Memory>
+    ensures { OnOk result (out.new ≡ out.old ++ written (bound_of money.now bound)) }
+{
+    labelled_or_none(out, b"<div><dt>Bound</dt><dd>", money, bound)?;
+    marks(out, b"</dd></div>")
+}
+
+// Writes the bound, where something is proved of the cost.
+#[tactic(auto, unfolding(crate::specs::Costs::bound_part))]
+fn bound_part(
+    out: &mut List<u8>,
+    money: &Money,
+    cost: Option<u64>,
+    bound: Option<u64>,
+) -> Result<(), Memory>
+    ensures { OnOk result (out.new ≡ out.old ++ written (bound_part money.now cost bound)) }
+{
+    if is_told(cost, bound) {
+        bound_of(out, money, bound)?;
+    }
+    Ok(())
+}
+
 /// Appends what the roster costs: its figures, and the penalties of each code that is demanded, with amounts that are
-/// counted in these words, or bare where there are none. Where there is no roster, there is no sum.
+/// counted in these words, or bare where there are none. Where there is no roster, there is no sum, and where nothing is
+/// proved of the cost, no bound.
 ///
 /// # Errors
 ///
@@ -325,13 +367,8 @@ pub fn costs(
         money,
         figures.cost,
     )?;
-    labelled_or_none(
-        out,
-        b"</dd></div><div><dt>Bound</dt><dd>",
-        money,
-        figures.bound,
-    )?;
     marks(out, b"</dd></div>")?;
+    bound_part(out, money, figures.cost, figures.bound)?;
     sums(out, money, figures)?;
     code_costs(out, money, codes, columns)?;
     marks(out, b"</dl>\n")

@@ -11,11 +11,14 @@ ghost use Rattle.page_text.specs.Pages.{
   chart_head,
   charts,
   chart_legend,
+  check_command,
   coverage,
   coverage_part,
   derivation,
   derivations,
   derivations_part,
+  foot,
+  foot_part,
   head,
   heading,
   height_of,
@@ -24,6 +27,8 @@ ghost use Rattle.page_text.specs.Pages.{
   lines_at,
   page,
   price_head,
+  read_line,
+  read_lines,
   shifts,
   shifts_part,
   shows,
@@ -39,7 +44,7 @@ ghost use Rattle.page_text.specs.Pages.{
 use crate::CellCover;
 use crate::changes::changes_part;
 use crate::chart::{frame, in_words, inked, lines, top_count, unit_of};
-use crate::content::Content;
+use crate::content::{Content, ReadText};
 use crate::costs::{chip, costs, is_demanded, sentence};
 use crate::ink::Ink;
 use crate::roster_chart::{row_words, rows, ticks};
@@ -168,7 +173,7 @@ fn shifts(
     size(out, chart_width(sheet), height_of(shown.len()))?;
     price_head(out, sheet)?;
     ticks(out, sheet, 20, content.times.as_slice())?;
-    rows(out, &content.money, sheet, codes, shown)?;
+    rows(out, &content.money, sheet, codes, content.off, shown)?;
     marks(out, roster_end())
 }
 
@@ -178,15 +183,17 @@ fn chart_head(
     out: &mut List<u8>,
     codes: &[CodeDef],
     sheet: PeriodAxis,
+    words: &[List<u8>],
     columns: &[CellCover],
     place: u8,
     code: &CodeDef,
 ) -> Result<(), Memory>
     ensures { OnOk result
-        (out.new ≡ out.old ++ written (chart_head codes.now sheet columns.now place code.now)) }
+        (out.new ≡ out.old ++ written (chart_head codes.now sheet words.now columns.now place code.now)) }
 {
     marks(out, b"<figure><figcaption>")?;
     chip(out, codes, code.byte)?;
+    labelled_text(out, b" ", words_at(words, place))?;
     labelled_text(
         out,
         b"</figcaption><div class='scroll'><svg role='img' aria-label='Coverage of ",
@@ -224,17 +231,19 @@ fn chart(
     out: &mut List<u8>,
     codes: &[CodeDef],
     sheet: PeriodAxis,
-    moments: &[List<u8>],
-    columns: &[CellCover],
+    content: &Content,
     place: u8,
     code: &CodeDef,
 ) -> Result<(), Memory>
     ensures { OnOk result
-        (out.new ≡ out.old ++ written (chart codes.now sheet moments.now columns.now place code.now)) }
+        (out.new ≡ out.old ++ written (chart codes.now sheet content.now place code.now)) }
 {
+    let columns = content.columns.as_slice();
     if is_demanded(place, columns) {
         let top = top_count(place, columns);
-        chart_head(out, codes, sheet, columns, place, code)?;
+        let words = content.words.as_slice();
+        let moments = content.times.as_slice();
+        chart_head(out, codes, sheet, words, columns, place, code)?;
         chart_body(out, sheet, moments, columns, place, top, unit_of(top))?;
     }
     Ok(())
@@ -245,15 +254,14 @@ fn charts(
     out: &mut List<u8>,
     codes: &[CodeDef],
     sheet: PeriodAxis,
-    moments: &[List<u8>],
-    columns: &[CellCover],
+    content: &Content,
 ) -> Result<(), Memory>
     requires { length codes.now ≤ 32 }
-    ensures { OnOk result (out.new ≡ out.old ++ written (charts codes.now sheet moments.now columns.now)) }
+    ensures { OnOk result (out.new ≡ out.old ++ written (charts codes.now sheet content.now)) }
 {
     let mut place: u8 = 0;
     for code in codes {
-        chart(out, codes, sheet, moments, columns, place, code)?;
+        chart(out, codes, sheet, content, place, code)?;
         place += 1;
     }
     Ok(())
@@ -279,14 +287,13 @@ fn coverage(
     out: &mut List<u8>,
     codes: &[CodeDef],
     sheet: PeriodAxis,
-    moments: &[List<u8>],
-    columns: &[CellCover],
+    content: &Content,
 ) -> Result<(), Memory>
     requires { length codes.now ≤ 32 }
-    ensures { OnOk result (out.new ≡ out.old ++ written (coverage codes.now sheet moments.now columns.now)) }
+    ensures { OnOk result (out.new ≡ out.old ++ written (coverage codes.now sheet content.now)) }
 {
     marks(out, chart_legend())?;
-    charts(out, codes, sheet, moments, columns)?;
+    charts(out, codes, sheet, content)?;
     marks(out, b"</div></section>\n")
 }
 
@@ -527,15 +534,69 @@ fn coverage_part(
     out: &mut List<u8>,
     sheet: PeriodAxis,
     codes: &[CodeDef],
-    moments: &[List<u8>],
-    columns: &[CellCover],
+    content: &Content,
 ) -> Result<(), Memory>
     requires { length codes.now ≤ 32 }
     ensures { OnOk result
-        (out.new ≡ out.old ++ written (coverage_part sheet codes.now moments.now columns.now)) }
+        (out.new ≡ out.old ++ written (coverage_part sheet codes.now content.now)) }
 {
-    if columns.len() > 0 {
-        coverage(out, codes, sheet, moments, columns)?;
+    if content.columns.len() > 0 {
+        coverage(out, codes, sheet, content)?;
+    }
+    Ok(())
+}
+
+// Returns the command that checks what the page says: of a proof, or of a report.
+#[tactic(auto, unfolding(crate::specs::Pages::check_command))]
+fn check_command(stated: bool) -> &'static [u8]
+    ensures { result.now ≡ check_command stated }
+{
+    if stated {
+        b"value RULES DEMAND REPORT"
+    } else {
+        b"check RULES DEMAND PROOF"
+    }
+}
+
+// Writes a text that was read, as `sha256sum` says it.
+#[tactic(auto, unfolding(crate::specs::Pages::read_line))]
+fn read_line(out: &mut List<u8>, text: &ReadText) -> Result<(), Memory>
+    ensures { OnOk result (out.new ≡ out.old ++ written (read_line text.now)) }
+{
+    given(out, text.sum.as_slice())?;
+    labelled_text(out, b"  ", text.name.as_slice())?;
+    marks(out, b"\n")
+}
+
+// Writes the texts that were read.
+fn read_lines(out: &mut List<u8>, texts: &[ReadText]) -> Result<(), Memory>
+    ensures { OnOk result (out.new ≡ out.old ++ written (read_lines texts.now)) }
+{
+    for text in texts {
+        read_line(out, text)?;
+    }
+    Ok(())
+}
+
+// Writes the foot of the page.
+#[tactic(auto, unfolding(crate::specs::Pages::foot))]
+fn foot(out: &mut List<u8>, stated: bool, texts: &[ReadText]) -> Result<(), Memory>
+    ensures { OnOk result (out.new ≡ out.old ++ written (foot stated texts.now)) }
+{
+    marks(out, b"<footer><p>Made from these texts; <code>roster ")?;
+    marks(out, check_command(stated))?;
+    marks(out, b"</code> checks them.</p>\n<pre>")?;
+    read_lines(out, texts)?;
+    marks(out, b"</pre></footer>\n")
+}
+
+// Writes the same, where it is said which texts were read.
+#[tactic(auto, unfolding(crate::specs::Pages::foot_part))]
+fn foot_part(out: &mut List<u8>, stated: bool, texts: &[ReadText]) -> Result<(), Memory>
+    ensures { OnOk result (out.new ≡ out.old ++ written (foot_part stated texts.now)) }
+{
+    if texts.len() > 0 {
+        foot(out, stated, texts)?;
     }
     Ok(())
 }
@@ -556,12 +617,12 @@ fn body(
 {
     top_part(out, codes, content)?;
     shifts_part(out, sheet, codes, content)?;
-    let moments = content.times.as_slice();
-    coverage_part(out, sheet, codes, moments, content.columns.as_slice())?;
+    coverage_part(out, sheet, codes, content)?;
     let money = &content.money;
     add_tables(out, money, &content.tables)?;
     let texts = content.derivations.as_slice();
     derivations_part(out, money, content.rows.as_slice(), texts)?;
+    foot_part(out, content.stated, content.read.as_slice())?;
     marks(out, b"</main>\n</body>\n</html>\n")
 }
 

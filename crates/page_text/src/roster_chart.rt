@@ -1,6 +1,7 @@
 ghost use Rattle.std.specs.Prelude.{◌≡◌, ◌≤◌, ◌<◌, ◌++◌, length, OnOk};
 ghost use Rattle.page_parts.specs.Elements.{written};
 ghost use Rattle.page_text.specs.RosterChart.{
+  all_ticks,
   cell,
   cells,
   change_at,
@@ -8,6 +9,8 @@ ghost use Rattle.page_text.specs.RosterChart.{
   change_line,
   gap,
   letter,
+  letter_bar,
+  letter_text,
   many,
   marked_cell,
   number_tick,
@@ -27,17 +30,28 @@ ghost use Rattle.page_text.specs.RosterChart.{
   times_of,
   who,
 };
+ghost use Rattle.shift_figures.specs.Stretches.{is_off};
 
 use crate::row::Row;
 use page_parts::{
     Area, Money, PeriodAxis, bar, caption, chart_width, figure, given, labelled, labelled_amount,
-    left_of, marks, middle_of, number, paint_of, top_of,
+    left_of, marks, middle_of, name_caption, number, paint_of, top_of,
 };
 use roster_model::{CodeDef, List, Memory};
 
-// Writes a letter of a row, at the period behind so many.
-#[tactic(auto, unfolding(crate::specs::RosterChart::letter))]
-fn letter(
+// Whether a byte is the one of time off.
+fn is_off(off: Option<u8>, byte: u8) -> bool
+    ensures { result ≡ is_off off byte }
+{
+    match off {
+        None => false,
+        Some(code) => code == byte,
+    }
+}
+
+// Writes the bar of a letter of a row, at the period behind so many.
+#[tactic(auto, unfolding(crate::specs::RosterChart::letter_bar))]
+fn letter_bar(
     out: &mut List<u8>,
     sheet: PeriodAxis,
     codes: &[CodeDef],
@@ -45,16 +59,35 @@ fn letter(
     place: u8,
     byte: u8,
 ) -> Result<(), Memory>
-    ensures { OnOk result (out.new ≡ out.old ++ written (letter sheet codes.now row place byte)) }
+    ensures { OnOk result (out.new ≡ out.old ++ written (letter_bar sheet codes.now row place byte)) }
 {
-    let paint = paint_of(codes, byte);
     let area = Area {
         left: left_of(sheet, place),
         top: top_of(row),
         width: sheet.cell.saturating_sub(1) as u64,
         height: 22,
     };
-    bar(out, &paint, area)?;
+    bar(out, &paint_of(codes, byte), area)
+}
+
+// Writes the letter itself, but for time off.
+#[tactic(auto, unfolding(crate::specs::RosterChart::letter_text))]
+fn letter_text(
+    out: &mut List<u8>,
+    sheet: PeriodAxis,
+    codes: &[CodeDef],
+    off: Option<u8>,
+    row: u8,
+    place: u8,
+    byte: u8,
+) -> Result<(), Memory>
+    ensures { OnOk result
+        (out.new ≡ out.old ++ written (letter_text sheet codes.now off row place byte)) }
+{
+    if is_off(off, byte) {
+        return Ok(());
+    }
+    let paint = paint_of(codes, byte);
     caption(
         out,
         &paint,
@@ -64,21 +97,40 @@ fn letter(
     )
 }
 
+// Writes a letter in its bar.
+fn letter(
+    out: &mut List<u8>,
+    sheet: PeriodAxis,
+    codes: &[CodeDef],
+    off: Option<u8>,
+    row: u8,
+    place: u8,
+    byte: u8,
+) -> Result<(), Memory>
+    ensures { OnOk result
+        (out.new ≡ out.old ++ written (letter sheet codes.now off row place byte)) }
+{
+    letter_bar(out, sheet, codes, row, place, byte)?;
+    letter_text(out, sheet, codes, off, row, place, byte)
+}
+
 // Writes the letter that a word has there, if any.
 #[tactic(auto, unfolding(crate::specs::RosterChart::cell))]
 fn cell(
     out: &mut List<u8>,
     sheet: PeriodAxis,
     codes: &[CodeDef],
+    off: Option<u8>,
     row: u8,
     word: &[u8],
     place: u8,
 ) -> Result<(), Memory>
-    ensures { OnOk result (out.new ≡ out.old ++ written (cell sheet codes.now row word.now place)) }
+    ensures { OnOk result
+        (out.new ≡ out.old ++ written (cell sheet codes.now off row word.now place)) }
 {
     match word.get(place as usize) {
         None => Ok(()),
-        Some(byte) => letter(out, sheet, codes, row, place, *byte),
+        Some(byte) => letter(out, sheet, codes, off, row, place, *byte),
     }
 }
 
@@ -134,16 +186,16 @@ fn marked_cell(
     out: &mut List<u8>,
     sheet: PeriodAxis,
     codes: &[CodeDef],
-    row: u8,
-    word: &[u8],
-    differs: &[bool],
+    off: Option<u8>,
+    top: u8,
+    row: &Row,
     place: u8,
 ) -> Result<(), Memory>
     ensures { OnOk result
-        (out.new ≡ out.old ++ written (marked_cell sheet codes.now row word.now differs.now place)) }
+        (out.new ≡ out.old ++ written (marked_cell sheet codes.now off top row.now place)) }
 {
-    cell(out, sheet, codes, row, word, place)?;
-    change_at(out, sheet, row, differs, place)
+    cell(out, sheet, codes, off, top, row.word.as_slice(), place)?;
+    change_at(out, sheet, top, row.differs.as_slice(), place)
 }
 
 // Writes the letters of a word, each at its period, and lines under those that differ.
@@ -151,15 +203,14 @@ fn cells(
     out: &mut List<u8>,
     sheet: PeriodAxis,
     codes: &[CodeDef],
-    row: u8,
-    word: &[u8],
-    differs: &[bool],
+    off: Option<u8>,
+    top: u8,
+    row: &Row,
 ) -> Result<(), Memory>
-    ensures { OnOk result
-        (out.new ≡ out.old ++ written (cells sheet codes.now row word.now differs.now)) }
+    ensures { OnOk result (out.new ≡ out.old ++ written (cells sheet codes.now off top row.now)) }
 {
     for place in 0..sheet.periods {
-        marked_cell(out, sheet, codes, row, word, differs, place)?;
+        marked_cell(out, sheet, codes, off, top, row, place)?;
     }
     Ok(())
 }
@@ -289,8 +340,9 @@ fn row_frame(
         height: 26,
     };
     bar(out, b"hit", area)?;
-    let name = (sheet.left as u64).saturating_sub(10);
-    caption(out, b"name", name, top_of(place) + 15, row.name.as_slice())?;
+    let left = (sheet.left as u64).saturating_sub(10);
+    let name = row.name.as_slice();
+    name_caption(out, b"name", left, top_of(place) + 15, name)?;
     price_text(out, money, sheet, place, row.price)
 }
 
@@ -301,23 +353,17 @@ fn row(
     money: &Money,
     sheet: PeriodAxis,
     codes: &[CodeDef],
+    off: Option<u8>,
     place: u8,
     row: &Row,
 ) -> Result<(), Memory>
     ensures { OnOk result
-        (out.new ≡ out.old ++ written (row_elements money.now sheet codes.now place row.now)) }
+        (out.new ≡ out.old ++ written (row_elements money.now sheet codes.now off place row.now)) }
 {
     row_head(out, money, place, row)?;
     row_frame(out, money, sheet, place, row)?;
     times(out, place, row.number, row.count)?;
-    cells(
-        out,
-        sheet,
-        codes,
-        place,
-        row.word.as_slice(),
-        row.differs.as_slice(),
-    )?;
+    cells(out, sheet, codes, off, place, row)?;
     marks(out, b"</g>\n")
 }
 
@@ -331,15 +377,16 @@ pub(crate) fn rows(
     money: &Money,
     sheet: PeriodAxis,
     codes: &[CodeDef],
+    off: Option<u8>,
     rows: &[Row],
 ) -> Result<(), Memory>
     requires { length rows.now ≤ 64 }
     ensures { OnOk result
-        (out.new ≡ out.old ++ written (rows_elements money.now sheet codes.now rows.now)) }
+        (out.new ≡ out.old ++ written (rows_elements money.now sheet codes.now off rows.now)) }
 {
     let mut place: u8 = 0;
     for shift in rows {
-        row(out, money, sheet, codes, place, shift)?;
+        row(out, money, sheet, codes, off, place, shift)?;
         place += 1;
     }
     Ok(())
@@ -421,7 +468,23 @@ fn tick(
     number_tick(out, sheet, top, place)
 }
 
-/// Writes the times of the periods, or, where there are none, their numbers.
+// Writes the times of the periods, or, where there are none, their numbers.
+fn all_ticks(
+    out: &mut List<u8>,
+    sheet: PeriodAxis,
+    top: u64,
+    moments: &[List<u8>],
+) -> Result<(), Memory>
+    ensures { OnOk result (out.new ≡ out.old ++ written (all_ticks sheet top moments.now)) }
+{
+    for place in 0..sheet.periods {
+        tick(out, sheet, top, moments, place)?;
+    }
+    Ok(())
+}
+
+/// Writes the times of the periods, or, where there are none, their numbers; behind the last period stands the time of
+/// its end.
 ///
 /// # Errors
 ///
@@ -434,8 +497,6 @@ pub(crate) fn ticks(
 ) -> Result<(), Memory>
     ensures { OnOk result (out.new ≡ out.old ++ written (ticks sheet top moments.now)) }
 {
-    for place in 0..sheet.periods {
-        tick(out, sheet, top, moments, place)?;
-    }
-    Ok(())
+    all_ticks(out, sheet, top, moments)?;
+    time_tick(out, sheet, top, moments, sheet.periods)
 }

@@ -1,6 +1,7 @@
 ghost use Rattle.std.specs.Prelude.{◌≡◌, ◌≤◌, max, length};
 ghost use Rattle.page_text.specs.Inputs.{longest};
 
+use page_parts::text_width;
 use roster_model::List;
 
 /// A row of the chart of shifts.
@@ -10,7 +11,8 @@ pub struct Row {
     pub number: u32,
     /// The number of the employees' group, from 1, or 0 on a day without groups.
     pub group: u8,
-    /// What the employees' group is called, or nothing on a day without groups.
+    /// Who works the shift, where it is said, else what the employees' group is called, or nothing on a day without
+    /// groups.
     pub name: List<u8>,
     /// The byte of each period's code.
     pub word: List<u8>,
@@ -22,13 +24,13 @@ pub struct Row {
     pub differs: List<bool>,
 }
 
-/// Returns how long the longest name is.
+/// Returns how wide the widest name is, in columns of one character.
 pub(crate) fn longest(rows: &[Row]) -> usize
     ensures { result ≡ longest rows.now 0 }
 {
     let mut most = 0;
     for row in rows {
-        most = most.max(row.name.len());
+        most = most.max(text_width(row.name.as_slice()));
     }
     most
 }

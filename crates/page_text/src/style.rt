@@ -66,6 +66,10 @@ path.ceiling{stroke:#cc79a7;stroke-dasharray:2 3}\n\
 table{border-collapse:collapse;font-size:.9rem;font-variant-numeric:tabular-nums}\n\
 th,td{text-align:left;padding:.25rem 1.2rem .25rem 0;border-bottom:1px solid var(--line)}\n\
 th,td{white-space:nowrap}th{color:var(--dim);font-weight:600}\n\
+.lists{display:flex;flex-wrap:wrap;gap:1.25rem;align-items:flex-start;margin:0 0 1.25rem}\n\
+.lists section{margin:0;max-width:100%}\n\
+footer{font-size:.85rem;color:var(--dim)}footer p{margin:0 0 .4rem}\n\
+footer pre{margin:0;overflow-x:auto;font:12px/1.45 ui-monospace,'DejaVu Sans Mono',Menlo,Consolas,monospace}\n\
 td.word{font-family:ui-monospace,'DejaVu Sans Mono',Menlo,Consolas,monospace}\n\
 .legend .chip+span:empty{display:none}\n\
 .derivations>h2{display:none}\n\
@@ -93,11 +97,9 @@ svg.roster{max-height:120mm}\n\
 gap:.4rem}\n\
 figure+figure{margin-top:0}\n\
 .charts svg{max-height:32mm}\n\
-section:not(.list)+.list{break-before:page}table{font-size:9px}th,td{padding:.1rem .6rem .1rem 0}\n\
+.lists{break-before:page;gap:.5rem}table{font-size:9px}th,td{padding:.1rem .6rem .1rem 0}\n\
 .hint{display:none}\n\
-.derivations{break-before:page;columns:3}.derivations>h2{display:block;column-span:all}\n\
-.derivation{display:block;position:static;max-width:none;max-height:none;columns:auto;\n\
-margin:0 0 .5rem;padding:.3rem .5rem;break-inside:avoid;border-radius:4px;box-shadow:none;font-size:9px}}\n\
+.derivations{display:none}footer pre{font-size:9px}}\n\
 ";
 
 /// Returns the style of a page.

@@ -1,3 +1,4 @@
 pub mod RunLemmas
 pub mod LineLemmas
 mod PlaceLemmas
+mod ShiftLawLemmas

@@ -5,13 +5,13 @@ use Rattle.roster_model.specs.declared.instance.Instance.{Instance}
 use Rattle.roster_model.specs.declared.instance.Shift.{Shift}
 use Rattle.page_labels.specs.declared.labels.Labels.{Labels}
 use Rattle.page_tables.specs.declared.line.ShiftLine.{ShiftLine}
-use Rattle.roster_tables.specs.ShiftLines.{line_at, line_of}
+use Rattle.roster_tables.specs.ShiftLines.{line_at, shift_lines}
 
 module _ (i : Instance) (d : Labels) (marked : List ℕ) (shifts : List Shift) (k : ℕ) where
   abbrev shown : Option Shift → List ShiftLine
-  shown o = elim o [ None ↦ [] | Some s ↦ line_of i d marked k s ∷ [] ]
+  shown o = elim o [ None ↦ [] | Some s ↦ shift_lines i d marked k s ]
 
-  pub line-there : (s : Shift) → slice_get shifts k ≡ Some s → line_of i d marked k s ∷ [] ≡ line_at i d marked shifts k
+  pub line-there : (s : Shift) → slice_get shifts k ≡ Some s → shift_lines i d marked k s ≡ line_at i d marked shifts k
   line-there s e = sym (ap shown e)
 
   pub line-past : (ls : List ShiftLine) → slice_get shifts k ≡ None → ls ≡ ls ++ line_at i d marked shifts k

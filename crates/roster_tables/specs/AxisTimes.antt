@@ -1,5 +1,5 @@
 -- The times that stand on the axes of the charts.
-use Rattle.std.specs.Prelude.{ℕ, ◌+◌, ◌*◌, ◌/◌, ◌%◌, Bool, ◌&&◌, Option, None, Some, List, [], map, max, nat_eq, nat_le, nat_lt, if◌then◌else◌}
+use Rattle.std.specs.Prelude.{ℕ, ◌+◌, ◌*◌, ◌/◌, ◌%◌, Bool, ◌&&◌, ◌||◌, Option, None, Some, List, [], ◌∷◌, ◌++◌, map, max, nat_eq, nat_le, nat_lt, if◌then◌else◌}
 use Rattle.page_labels.specs.Clocks.{time_text}
 use Rattle.page_labels.specs.declared.clock.Clock.{Clock}
 use Rattle.page_parts.specs.Elements.{places}
@@ -20,15 +20,21 @@ abbrev pub is_hour : Clock → ℕ → Bool
 is_hour c place = nat_eq ((c.begin + c.minutes * place) % 60) 0
 
 -- a time stands where the period behind so many begins: at whole hours, or where numbers of periods would stand
+abbrev pub is_regular : Clock → ℕ → ℕ → Bool
+is_regular c periods place =
+    if is_hourly c periods then is_hour c place else nat_eq (place % step_of periods) 0
+
+-- the same, where the first and the last time leave room; the first one stands there in any case
 abbrev pub is_shown : Clock → ℕ → ℕ → Bool
 is_shown c periods place =
-    if is_hourly c periods then is_hour c place else nat_eq (place % step_of periods) 0
+    nat_eq place 0
+    || (is_regular c periods place && nat_le (step_of periods) place && nat_le (place + step_of periods) periods)
 
 -- the time where the period behind so many begins, or nothing
 unfoldable pub axis_time : Clock → ℕ → ℕ → List ℕ
 axis_time c periods place = if is_shown c periods place then time_text c place else []
 
--- for each period its time or nothing; without a clock none at all
+-- for each period its time or nothing, and behind them when the last one ends; without a clock none at all
 abbrev pub axis_times : Option Clock → ℕ → List (List ℕ)
 axis_times None periods = []
-axis_times (Some c) periods = map (axis_time c periods) (places periods)
+axis_times (Some c) periods = map (axis_time c periods) (places periods) ++ time_text c periods ∷ []

@@ -3,7 +3,7 @@ use Rattle.std.specs.Prelude.{ℕ, None, Some, List, [], ◌∷◌, ◌++◌, le
 use Rattle.roster_model.specs.declared.grammar.CodeDef.{CodeDef}
 use Rattle.roster_model.specs.declared.instance.Instance.{Instance}
 use Rattle.certificate_text.specs.Written.{group_name}
-use Rattle.page_labels.specs.Labels.{code_words, group_words}
+use Rattle.page_labels.specs.Labels.{code_words, group_words, shift_name}
 use Rattle.page_labels.specs.declared.labels.Labels.{Labels}
 
 -- words, or a name where there are none
@@ -13,6 +13,10 @@ called words name = if nat_lt 0 (length words) then words else name
 -- a group by its label, or by its name
 abbrev pub group_called : Instance → Labels → ℕ → List ℕ
 group_called i d group = called (group_words d.groups group) (group_name i group)
+
+-- who works the shift with a number, where it is said, else its group
+abbrev pub row_called : Instance → Labels → ℕ → ℕ → List ℕ
+row_called i d number group = called (shift_name d.shifts number) (group_called i d group)
 
 -- the byte of a code with its words
 unfoldable pub code_text : ℕ → List ℕ → List ℕ

@@ -5,4 +5,6 @@ pub mod RunLines
 pub mod TotalLines
 pub mod AxisTimes
 pub mod HeadLines
+pub mod MomentLines
+pub mod ShiftLaws
 pub mod TablesOf

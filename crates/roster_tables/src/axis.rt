@@ -1,6 +1,6 @@
-ghost use Rattle.std.specs.Prelude.{◌≡◌, ◌≤◌, ◌+◌, ◌*◌, ◌^◌, map, IfOk};
+ghost use Rattle.std.specs.Prelude.{◌≡◌, ◌≤◌, ◌+◌, ◌*◌, ◌^◌, map, Some, IfOk};
 ghost use Rattle.page_parts.specs.Elements.{places};
-ghost use Rattle.roster_tables.specs.AxisTimes.{axis_time, axis_times, is_hour, is_hourly, is_shown};
+ghost use Rattle.roster_tables.specs.AxisTimes.{axis_time, axis_times, is_hour, is_hourly, is_regular, is_shown};
 
 use page_labels::{Clock, put_time};
 use page_text::step_of;
@@ -36,15 +36,26 @@ fn is_hour(clock: Clock, place: u8) -> bool
     (clock.begin as u64 + length_of(clock, place)) % 60 == 0
 }
 
-// Whether a time stands where the period behind so many begins.
-fn is_shown(clock: Clock, periods: u8, place: u8) -> bool
-    ensures { result ≡ is_shown clock periods place }
+// Whether a time would stand where the period behind so many begins, if there were room before and behind it.
+fn is_regular(clock: Clock, periods: u8, place: u8) -> bool
+    ensures { result ≡ is_regular clock periods place }
 {
     if is_hourly(clock, periods) {
         is_hour(clock, place)
     } else {
         place % step_of(periods) == 0
     }
+}
+
+// Whether a time stands where the period behind so many begins.
+fn is_shown(clock: Clock, periods: u8, place: u8) -> bool
+    ensures { result ≡ is_shown clock periods place }
+{
+    let step = step_of(periods);
+    place == 0
+        || is_regular(clock, periods, place)
+            && step <= place
+            && place as u32 + step as u32 <= periods as u32
 }
 
 // Returns the time where the period behind so many begins, or nothing.
@@ -60,7 +71,7 @@ fn axis_time(alloc: Global, clock: Clock, periods: u8, place: u8) -> Result<List
 }
 
 // Returns for each period its time or nothing.
-fn clock_times(alloc: Global, clock: Clock, periods: u8) -> Result<List<List<u8>>, Memory>
+fn begin_times(alloc: Global, clock: Clock, periods: u8) -> Result<List<List<u8>>, Memory>
     ensures { IfOk result (λ times. times ≡ map (axis_time clock periods) (places periods)) }
 {
     let mut times = List::new(alloc);
@@ -70,9 +81,20 @@ fn clock_times(alloc: Global, clock: Clock, periods: u8) -> Result<List<List<u8>
     Ok(times)
 }
 
+// Returns for each period its time or nothing, and behind them when the last one ends.
+fn clock_times(alloc: Global, clock: Clock, periods: u8) -> Result<List<List<u8>>, Memory>
+    ensures { IfOk result (λ times. times ≡ axis_times (Some clock) periods) }
+{
+    let mut times = begin_times(alloc, clock, periods)?;
+    let mut end = List::new(alloc);
+    put_time(&mut end, clock, periods)?;
+    times.push(end)?;
+    Ok(times)
+}
+
 /// Returns for each period the time that stands on the axes of the charts where it begins, or nothing: at whole
-/// hours, where they begin periods and have room, else where numbers of periods would stand. Without a clock there
-/// is none at all.
+/// hours, where they begin periods and have room, else where numbers of periods would stand, and in any case at the
+/// first period. Behind them stands when the last period ends. Without a clock there is none at all.
 ///
 /// # Errors
 ///

@@ -1,8 +1,8 @@
 ghost use Rattle.std.specs.Prelude.{◌≡◌, ◌++◌, [], ◌∷◌, IfOk};
-ghost use Rattle.roster_tables.specs.Called.{called, code_called, code_text, group_called};
+ghost use Rattle.roster_tables.specs.Called.{called, code_called, code_text, group_called, row_called};
 
 use certificate_text::group_name;
-use page_labels::{Labels, code_words, group_words};
+use page_labels::{Labels, code_words, group_words, shift_name};
 use roster_model::{CodeDef, Instance, List, Memory};
 use std::alloc::Global;
 use text_lines::put;
@@ -43,6 +43,28 @@ pub fn group_called(
 {
     let words = group_words(labels.groups.as_slice(), group);
     copied(alloc, called(words, group_name(instance, group)))
+}
+
+/// Returns who works the shift with a number, from 1, where it is said, else what its group is called.
+///
+/// # Errors
+///
+/// `Memory` where memory runs out; nothing is kept then.
+pub fn row_called(
+    alloc: Global,
+    instance: &Instance,
+    labels: &Labels,
+    number: u32,
+    group: u8,
+) -> Result<List<u8>, Memory>
+    ensures { IfOk result (λ text. text ≡ row_called instance.now labels.now number group) }
+{
+    let words = group_words(labels.groups.as_slice(), group);
+    let name = called(words, group_name(instance, group));
+    copied(
+        alloc,
+        called(shift_name(labels.shifts.as_slice(), number), name),
+    )
 }
 
 // Returns the byte of a code with its words.

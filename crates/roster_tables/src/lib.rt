@@ -3,7 +3,9 @@
 
 mod axis;
 mod called;
+mod counts;
 mod heads;
+mod laws;
 mod lines;
 mod moments;
 mod runs;
@@ -11,5 +13,6 @@ mod tables;
 mod totals;
 
 pub use axis::axis_times;
-pub use called::group_called;
+pub use called::{group_called, row_called};
+pub use laws::{names_stand_at_their_shifts, stretches_stand_under_their_shift};
 pub use tables::tables_of;

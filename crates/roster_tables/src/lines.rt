@@ -1,14 +1,26 @@
 ghost use Rattle.std.specs.Prelude.{◌≡◌, ◌≤◌, ◌++◌, [], ◌∷◌, All, IfOk, OnOk, count_by, length};
 ghost use Rattle.std.specs.List.{flat_map};
 ghost use Rattle.shift_figures.specs.Stretches.{is_paid, is_work};
-ghost use Rattle.roster_tables.specs.ShiftLines.{line_at, line_of, lines_of, marked_byte, marked_bytes};
+ghost use Rattle.roster_tables.specs.ShiftLines.{
+  letters_of,
+  line_at,
+  line_of,
+  lines_by,
+  lines_of,
+  marked_byte,
+  marked_bytes,
+  part_of,
+  parts_of,
+  shift_lines,
+  spans_of,
+};
 
 use crate::called::{copied, group_called};
-use crate::moments::{duration, stretch_begin, stretch_end};
-use page_labels::{Labels, PaidCode};
+use crate::moments::{begin_text, duration, end_text, stretch_begin, stretch_end};
+use page_labels::{Labels, PaidCode, shift_name};
 use page_tables::ShiftLine;
 use roster_model::{CodeDef, Instance, List, Memory, Shift};
-use shift_figures::{drawn_order, paid_periods, stretch_of, work_periods};
+use shift_figures::{Stretch, drawn_order, paid_periods, stretch_of, stretches_of, work_periods};
 use std::alloc::Global;
 
 // Appends the byte of a code that counts as paid.
@@ -59,20 +71,128 @@ fn line_of(
     let codes = instance.grammar.codes.as_slice();
     let word = shift.word.as_slice();
     let stretch = stretch_of(codes, word);
+    let number = place as u32 + 1;
     Ok(ShiftLine {
-        number: place as u32 + 1,
+        number,
         group: group_called(alloc, instance, labels, shift.group)?,
+        who: copied(alloc, shift_name(labels.shifts.as_slice(), number))?,
         begin: stretch_begin(alloc, labels.clock, stretch)?,
         end: stretch_end(alloc, labels.clock, stretch)?,
         work: work_periods(codes, word) as u64,
+        first: true,
         paid: duration(alloc, labels.clock, paid_of(codes, marked, word))?,
         price: shift.price,
         word: copied(alloc, word)?,
     })
 }
 
-// Appends the line of a shift behind so many.
-fn add_line_of(
+// Returns the letters of a stretch of a word.
+fn letters_of(word: &[u8], stretch: Stretch) -> &[u8]
+    ensures { result.now ≡ letters_of word.now stretch }
+{
+    let end = (stretch.last as usize).min(word.len());
+    let begin = (stretch.first as usize).saturating_sub(1).min(end);
+    &word[begin..end]
+}
+
+// Returns the line of a stretch of a shift, which may be the first one.
+fn part_of(
+    alloc: Global,
+    instance: &Instance,
+    labels: &Labels,
+    marked: &[u8],
+    place: usize,
+    shift: &Shift,
+    first: bool,
+    stretch: Stretch,
+) -> Result<ShiftLine, Memory>
+    requires place { place ≤ 64 }
+    requires short { length shift.now.word ≤ 96 }
+    ensures { IfOk result
+        (λ l. l ≡ part_of instance.now labels.now marked.now place shift.now first stretch) }
+{
+    let codes = instance.grammar.codes.as_slice();
+    let word = shift.word.as_slice();
+    let number = place as u32 + 1;
+    Ok(ShiftLine {
+        number,
+        group: group_called(alloc, instance, labels, shift.group)?,
+        who: copied(alloc, shift_name(labels.shifts.as_slice(), number))?,
+        begin: begin_text(alloc, labels.clock, stretch.first)?,
+        end: end_text(alloc, labels.clock, stretch.last)?,
+        work: work_periods(codes, letters_of(word, stretch)) as u64,
+        first,
+        paid: duration(alloc, labels.clock, paid_of(codes, marked, word))?,
+        price: shift.price,
+        word: copied(alloc, word)?,
+    })
+}
+
+// Appends the lines of stretches of a shift.
+fn add_parts(
+    alloc: Global,
+    lines: &mut List<ShiftLine>,
+    instance: &Instance,
+    labels: &Labels,
+    marked: &[u8],
+    place: usize,
+    shift: &Shift,
+    stretches: &[Stretch],
+) -> Result<(), Memory>
+    requires place { place ≤ 64 }
+    requires short { length shift.now.word ≤ 96 }
+    ensures { OnOk result (lines.new ≡ lines.old
+        ++ parts_of instance.now labels.now marked.now place shift.now true stretches.now) }
+{
+    let mut first = true;
+    for stretch in stretches {
+        let line = part_of(
+            alloc, instance, labels, marked, place, shift, first, *stretch,
+        )?;
+        lines.push(line)?;
+        first = false;
+    }
+    Ok(())
+}
+
+// Appends a line for each of these stretches of a shift, or one for the shift where there is none.
+#[tactic(auto, unfolding(crate::specs::ShiftLines::lines_by))]
+fn add_by(
+    alloc: Global,
+    lines: &mut List<ShiftLine>,
+    instance: &Instance,
+    labels: &Labels,
+    marked: &[u8],
+    place: usize,
+    shift: &Shift,
+    stretches: &[Stretch],
+) -> Result<(), Memory>
+    requires place { place ≤ 64 }
+    requires short { length shift.now.word ≤ 96 }
+    ensures { OnOk result (lines.new ≡ lines.old
+        ++ lines_by instance.now labels.now marked.now place shift.now stretches.now) }
+{
+    if stretches.len() > 0 {
+        return add_parts(
+            alloc, lines, instance, labels, marked, place, shift, stretches,
+        );
+    }
+    lines.push(line_of(alloc, instance, labels, marked, place, shift)?)
+}
+
+// Returns the stretches of a word that stand in lines of their own: all, where time off is named.
+fn spans_of(alloc: Global, off: Option<u8>, word: &[u8]) -> Result<List<Stretch>, Memory>
+    requires { length word.now ≤ 96 }
+    ensures { IfOk result (λ ts. ts ≡ spans_of off word.now) }
+{
+    match off {
+        None => Ok(List::new(alloc)),
+        Some(code) => stretches_of(alloc, Some(code), word),
+    }
+}
+
+// Appends the lines of a shift behind so many.
+fn add_shift(
     alloc: Global,
     lines: &mut List<ShiftLine>,
     instance: &Instance,
@@ -84,12 +204,22 @@ fn add_line_of(
     requires place { place ≤ 64 }
     requires short { length shift.now.word ≤ 96 }
     ensures { OnOk result
-        (lines.new ≡ lines.old ++ line_of instance.now labels.now marked.now place shift.now ∷ []) }
+        (lines.new ≡ lines.old ++ shift_lines instance.now labels.now marked.now place shift.now) }
 {
-    lines.push(line_of(alloc, instance, labels, marked, place, shift)?)
+    let stretches = spans_of(alloc, labels.off, shift.word.as_slice())?;
+    add_by(
+        alloc,
+        lines,
+        instance,
+        labels,
+        marked,
+        place,
+        shift,
+        stretches.as_slice(),
+    )
 }
 
-// Appends the line of the shift behind so many, if there is one.
+// Appends the lines of the shift behind so many, if there is one.
 fn add_line(
     alloc: Global,
     lines: &mut List<ShiftLine>,
@@ -106,7 +236,7 @@ fn add_line(
 {
     match shifts.get(place) {
         None => Ok(()),
-        Some(shift) => add_line_of(alloc, lines, instance, labels, marked, place, shift),
+        Some(shift) => add_shift(alloc, lines, instance, labels, marked, place, shift),
     }
 }
 
@@ -139,7 +269,8 @@ fn lines_in(
     Ok(lines)
 }
 
-/// Returns a line for each of at most 64 shifts, in the order in which they are drawn.
+/// Returns a line for each of at most 64 shifts, in the order in which they are drawn. Where time off is named, each
+/// stretch of a shift has a line, and those of one shift stand together.
 ///
 /// # Errors
 ///

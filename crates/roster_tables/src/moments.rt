@@ -58,6 +58,19 @@ pub fn end_text(alloc: Global, clock: Option<Clock>, period: u8) -> Result<List<
     Ok(out)
 }
 
+/// Returns the time behind so many periods, or without a clock that number, which is the one of the last of them.
+///
+/// # Errors
+///
+/// `Memory` where memory runs out; nothing is kept then.
+pub fn moment_text(alloc: Global, clock: Option<Clock>, passed: u8) -> Result<List<u8>, Memory>
+    ensures { IfOk result (λ t. t ≡ moment clock passed passed) }
+{
+    let mut out = List::new(alloc);
+    put_moment(&mut out, clock, passed, passed)?;
+    Ok(out)
+}
+
 /// Returns when the work of a stretch begins, or `-` where there is none.
 ///
 /// # Errors

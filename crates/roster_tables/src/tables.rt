@@ -1,7 +1,8 @@
 ghost use Rattle.std.specs.Prelude.{◌≡◌, ◌≤◌, All, IfOk, length};
 ghost use Rattle.page_text.specs.Costs.{AreDayColumns};
-ghost use Rattle.roster_tables.specs.TablesOf.{is_grouped, tables_of};
+ghost use Rattle.roster_tables.specs.TablesOf.{is_grouped, is_named, tables_of};
 
+use crate::counts::moments_of;
 use crate::heads::heads_of;
 use crate::lines::lines_of;
 use crate::runs::{shortages, surplus_lines};
@@ -17,6 +18,13 @@ fn is_grouped(instance: &Instance) -> bool
     ensures { result ≡ is_grouped instance.now }
 {
     instance.groups.len() > 0
+}
+
+// Whether some shift has a name.
+fn is_named(labels: &Labels) -> bool
+    ensures { result ≡ is_named labels.now }
+{
+    labels.shifts.len() > 0
 }
 
 /// Returns the tables and lists of a roster of at most 64 shifts, from how it covers the day's cells and from labels.
@@ -41,10 +49,12 @@ pub fn tables_of(
     let codes = instance.grammar.codes.as_slice();
     Ok(Tables {
         grouped: is_grouped(instance),
+        named: is_named(labels),
         shifts: lines_of(alloc, instance, labels, shifts)?,
         heads: heads_of(alloc, instance, labels, shifts)?,
         totals: totals_of(alloc, codes, labels, shifts, columns)?,
         covered: all_covered(columns),
+        moments: moments_of(alloc, instance, labels, shifts)?,
         shortages: shortages(alloc, codes, labels, columns)?,
         surplus: surplus_lines(alloc, codes, labels, columns)?,
     })

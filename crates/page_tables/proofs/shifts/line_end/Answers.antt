@@ -7,5 +7,5 @@ use Rattle.page_tables.proofs.shifts.line_end.Goals as goal
 pub returns : goal.returns
 unfolding line_end
 returns c =
-    on_ok_weaker c.marks.result (λ e. e ∙ rw (c.in_ok-labelled_text-2.ensures, c.in_ok-labelled_amount.ensures, c.in_ok-labelled_text.ensures, c.in_ok-labelled.ensures, c.as_slice.ensures, c.as_slice-2.ensures)
-    (simp (append_assoc, append-nil, flat_map-append))) c.marks.ensures
+    on_ok_weaker c.marks-2.result (λ e. e ∙ rw (c.in_ok-last_cells.ensures, c.in_ok-marks.ensures, c.in_ok-labelled.ensures)
+    (simp (append_assoc, append-nil, flat_map-append))) c.marks-2.ensures

@@ -5,4 +5,4 @@ use Rattle.page_tables.specs.ShiftTable.{shift_line}
 use Rattle.page_tables.proofs.shifts.shift_lines.Given as goal
 
 abbrev pub invariant-loop-line : goal.invariant-loop-line
-invariant-loop-line l = l.out ≡ l.fn.out ++ written (flat_map (shift_line l.money l.grouped) (take l.line-index l.lines))
+invariant-loop-line l = l.out ≡ l.fn.out ++ written (flat_map (shift_line l.money l.grouped l.named) (take l.line-index l.lines))

@@ -7,5 +7,5 @@ use Rattle.page_text.proofs.page.chart_head.Goals as goal
 pub returns : goal.returns
 unfolding chart_head
 returns c =
-    on_ok_weaker c.size.result (λ e. e ∙ rw (c.in_ok-in_words.ensures, c.in_ok-marks-2.ensures, c.in_ok-labelled_text.ensures, c.in_ok-chip.ensures, c.in_ok-marks.ensures, c.chart_width.ensures)
+    on_ok_weaker c.size.result (λ e. e ∙ rw (c.in_ok-in_words.ensures, c.in_ok-marks-2.ensures, c.in_ok-labelled_text-2.ensures, c.in_ok-labelled_text.ensures, c.in_ok-chip.ensures, c.in_ok-marks.ensures, c.words_at.ensures, c.chart_width.ensures)
     (simp (append_assoc, append-nil, flat_map-append))) c.size.ensures

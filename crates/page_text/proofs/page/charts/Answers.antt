@@ -10,7 +10,7 @@ nothing = record { byte = 0; work = false }
 
 pub loop-code-preserved : goal.loop-code-preserved
 loop-code-preserved c = record {
-  out = more_from (chart c.args.codes.now c.args.sheet c.args.moments.now c.args.columns.now) c.args.codes.now c.loop-code.code-index c.loop-code.place nothing c.args.out.now c.loop-code.out c.chart.new.out
+  out = more_from (chart c.args.codes.now c.args.sheet c.args.content.now) c.args.codes.now c.loop-code.code-index c.loop-code.place nothing c.args.out.now c.loop-code.out c.chart.new.out
       c.loop-code-test.true c.loop-code.invariant.place c.loop-code.invariant.out c.in_ok-chart.ensures;
   place = ap (λ n. n + 1) c.loop-code.invariant.place;
 }

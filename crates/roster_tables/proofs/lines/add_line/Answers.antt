@@ -14,5 +14,5 @@ returns-in-Some c =
     let h = c.in-Some.ensures.lookup in
     let shift = c.in-Some.shift.now in
     let got = slice_get_read c.args.shifts.now _ c.args.place shift refl h.3.0 h.1 in
-    subst (λ (t : List ShiftLine). OnOk c.add_line_of.result (c.add_line_of.new.lines ≡ c.args.lines.now ++ t))
-    (line-there c.args.instance.now c.args.labels.now c.args.marked.now c.args.shifts.now c.args.place shift got) c.add_line_of.ensures
+    subst (λ (t : List ShiftLine). OnOk c.add_shift.result (c.add_shift.new.lines ≡ c.args.lines.now ++ t))
+    (line-there c.args.instance.now c.args.labels.now c.args.marked.now c.args.shifts.now c.args.place shift got) c.add_shift.ensures

@@ -1,6 +1,6 @@
 use Rattle.roster_tables.specs.AxisTimes.{axis_time}
 use Rattle.roster_tables.proofs.PlaceLemmas.{texts_more}
-use Rattle.roster_tables.proofs.axis.clock_times.Goals as goal
+use Rattle.roster_tables.proofs.axis.begin_times.Goals as goal
 
 pub loop-place-preserved : goal.loop-place-preserved
 loop-place-preserved c =
