@@ -102,12 +102,15 @@ pages_once d i r old a b h k =
         title = left.title ∙ sym right.title;
         words = left.words ∙ sym right.words;
         money = left.money ∙ sym right.money;
+        off = left.off ∙ sym right.off;
         times = left.times ∙ sym right.times;
+        stated = left.stated ∙ sym right.stated;
         figures = left.figures ∙ sym right.figures;
         changes = left.changes ∙ ap (λ (c : Comparison). c.changes) same ∙ sym right.changes;
         rows = rows;
         columns = left.columns ∙ sym right.columns;
         tables = left.tables ∙ sym right.tables;
+        read = left.read ∙ sym right.read;
         derivations = trees_of_rows i k.content.rows h.content.derivations k.content.derivations
             (subst (λ (rs : List Row). AreDerived i rs h.content.derivations) rows left.derivations) right.derivations;
       };

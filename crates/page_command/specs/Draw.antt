@@ -65,13 +65,16 @@ pub record IsContentBeside (d : Labels) (i : Instance) (r : ShownRoster) (c : Co
   pub title : p.title ≡ d.title
   pub words : p.words ≡ words_of d i.grammar.codes
   pub money : p.money ≡ money_of d
+  pub off : p.off ≡ d.off
   pub times : p.times ≡ axis_times d.clock i.grammar.periods
+  pub stated : p.stated ≡ r.is_stated
   pub figures : p.figures ≡ figures_of i r r.cost
   pub changes : p.changes ≡ c.changes
   pub rows : p.rows ≡ rows_of i d c r.shifts
   pub derivations : AreDerived i p.rows p.derivations
   pub columns : p.columns ≡ columns_of i r r.cost
   pub tables : p.tables ≡ tables_of i d r.shifts (columns_of i r r.cost)
+  pub read : p.read ≡ []
 
 -- what the page shows of a roster under labels, beside an old roster where there is one
 pub record IsContent (d : Labels) (i : Instance) (r : ShownRoster) (old : Option (List Shift)) (p : Content)

@@ -23,12 +23,15 @@ pub record IsSameButTrees (c d : Content) : Type 0 where
   pub title : c.title ≡ d.title
   pub words : c.words ≡ d.words
   pub money : c.money ≡ d.money
+  pub off : c.off ≡ d.off
   pub times : c.times ≡ d.times
+  pub stated : c.stated ≡ d.stated
   pub figures : c.figures ≡ d.figures
   pub changes : c.changes ≡ d.changes
   pub rows : c.rows ≡ d.rows
   pub columns : c.columns ≡ d.columns
   pub tables : c.tables ≡ d.tables
+  pub read : c.read ≡ d.read
   pub derivations : AreTreesOfRows d.rows c.derivations d.derivations
 
 -- two pages of one day, the same but for the trees of the derivations

@@ -1,5 +1,5 @@
 -- What is said of a roster.
-use Rattle.std.specs.Prelude.{ℕ, ◌≡◌, Bool, false, Option, None, Some, List, codes, length, nat_lt, if◌then◌else◌}
+use Rattle.std.specs.Prelude.{ℕ, ◌≡◌, Bool, true, false, Option, None, Some, List, codes, length, nat_lt, if◌then◌else◌}
 use Rattle.roster_model.specs.declared.instance.Instance.{Instance}
 use Rattle.roster_model.specs.declared.instance.Shift.{Shift}
 use Rattle.certificates.specs.declared.cert.Cert.{Cert}
@@ -18,11 +18,11 @@ use Rattle.page_command.specs.declared.roster.ShownRoster.{ShownRoster}
 
 -- the roster of a certificate, and its bound
 abbrev pub certified : Cert → ShownRoster
-certified c = record { shifts = c.shifts; cost = c.cost; bound = c.bound }
+certified c = record { shifts = c.shifts; cost = c.cost; bound = c.bound; is_stated = false }
 
 -- an allowed roster that was stated; nothing is proved of its cost
 abbrev pub stated : Valued → ShownRoster
-stated v = record { shifts = v.shifts; cost = Some v.cost; bound = Some 0 }
+stated v = record { shifts = v.shifts; cost = Some v.cost; bound = Some 0; is_stated = true }
 
 -- the page of a roster under labels, beside an old roster where there is one, or the table of it, of its coverage or
 -- the calendar of it

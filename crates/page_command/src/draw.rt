@@ -170,13 +170,16 @@ fn content_beside(
         title: labelled.title,
         words: labelled.words,
         money: labelled.money,
+        off: labels.off,
         times: labelled.times,
+        stated: roster.is_stated,
         figures: figures_of(instance, roster),
         changes: comparison.changes,
         rows,
         derivations,
         columns,
         tables,
+        read: List::new(alloc),
     })
 }
 
