@@ -1,4 +1,5 @@
-use crate::transcripts::have_answers;
+use crate::transcripts::{answer, have_answers, shelf_of};
+use std::alloc::Global;
 use std::test::Fail;
 
 /// Tables of coverage: under labels; with surplus, a lack, a floor, a ceiling, decimals and words that are no ASCII; of
@@ -132,4 +133,28 @@ words: page RULES DEMAND PROOF [LABELS [OLD]] | table RULES DEMAND PROOF [LABELS
 #[test]
 fn a_calendar_may_be_of_one_shift(rt: HostRuntime) -> Result<(), Fail> {
     have_answers(rt.alloc(), SINGLE)
+}
+
+/// What is noted of a shift with eight hours without work between its work.
+const GAP: &str = "shift 1 has 8 hours or more without work between its work, \
+and one event over them: the labels have no line off C, which says the code of time off\n";
+
+/// What is noted of a shift that begins with a paid code that is no work.
+const PAID: &str = "shift 1 begins or ends with a paid code that is no work, \
+which its event leaves out: the labels have no line off C, which says the code of time off\n";
+
+/// Whether something is said, and these notes are made.
+fn notes(alloc: Global, words: &str, notes: &str) -> Result<bool, Fail> {
+    let mut shelf = shelf_of(alloc, &[])?;
+    let status = answer(alloc, &mut shelf, words)?;
+    Ok(status == 0 && shelf.notes() == notes.as_bytes())
+}
+
+#[test]
+fn events_are_noted_where_no_code_is_time_off(rt: HostRuntime) -> Result<(), Fail> {
+    assert!(rt; notes(rt.alloc(), "table split one night long_day", GAP)?);
+    assert!(rt; notes(rt.alloc(), "calendar split one early long_day 2026-02-28", PAID)?);
+    assert!(rt; notes(rt.alloc(), "table split one night long_off", "")?);
+    assert!(rt; notes(rt.alloc(), "table split one night", "")?);
+    Ok(())
 }

@@ -75,6 +75,13 @@ rule S 0 = H
 rule F 3 = 'a' 'a'
 rule H 1 = 'a' '.'
 rule H 1 = '.' 'a'
+@ split
+periods 3
+work a
+idle . p
+start S
+rule S 1 = 'a' '.' 'a'
+rule S 1 = 'p' 'a' '.'
 @ cycle
 periods 4
 start A
@@ -93,6 +100,9 @@ most a 64 2 64 1
 heads 0 2
 
 need a 10 3 1 2 2 1
+@ one
+heads 0 1
+need a 1 1 1 1 1
 @ centre
 heads 0 1
 need a 30 1 0 0 0 0 1 1 2 2 3 3 2 2 1 1 2 2 3 3 2 2 1 1 0 0
@@ -203,6 +213,13 @@ clock 7:00 30
 shift 3 aaa. Ann
 title a
 title b
+@ long_day
+clock 0:00 480
+paid p yes
+@ long_off
+clock 0:00 480
+paid p yes
+off .
 @ stray
 clock 7:00 30
 shift 7 a Ann
@@ -222,6 +239,12 @@ over a 1 1 1 1
 report 2
 shift F aa
 shift H a.
+@ night
+report 1
+shift a.a
+@ early
+report 1
+shift pa.
 @ pairs
 report 1
 shift a
