@@ -1,5 +1,5 @@
 -- The fault of a line carries the line's number.
-use Rattle.std.proofs.Common.{◌≡◌, ℕ, Bool, true, false, cond, ◌⊎◌, ◌&&◌, ◌||◌, eqb, ltb, not, List, [], ◌∷◌, ◌++◌, length, Option, Some, None, Result, Ok, Err, refl, inl, inr}
+use Rattle.std.proofs.Common.{◌≡◌, ℕ, Bool, true, false, cond, ◌⊎◌, ◌&&◌, ◌||◌, eqb, ltb, not, List, [], ◌∷◌, length, Option, Some, None, Result, Ok, Err, refl, inl, inr}
 use Rattle.std.specs.Prelude.{codes, is_some, position, slice_index, ◌==◌}
 use Rattle.std.specs.Str.{bytes_eq}
 use Rattle.roster_model.specs.declared.grammar.CodeDef.{CodeDef}

@@ -1,14 +1,13 @@
 -- Which names stand at the shifts of a roster.
-use Rattle.std.proofs.Common.{◌≡◌, ℕ, Bool, true, false, cond, ◌&&◌, eqb, eqb-true, Option, None, Some, List, [], ◌∷◌, refl, sym, ap, ◌∙◌}
-use Rattle.std.specs.Prelude.{All}
+use Rattle.std.proofs.Common.{◌≡◌, Bool, true, false, cond, ◌&&◌, eqb, eqb-true, Option, None, Some, List, [], ◌∷◌, refl}
 use Rattle.std.specs.Str.{bytes_eq}
 use Rattle.std.proofs.lemmas.Slice.Eq.{bytes_eq-Decides}
 use Rattle.std.proofs.lemmas.List.Elements.{All-cons, All-nil}
 use Rattle.roster_model.specs.declared.instance.Shift.{Shift}
 use Rattle.page_labels.specs.declared.fault.LabelFault.{LabelFault}
-use Rattle.page_labels.specs.declared.fault.LabelFault.TheVariants.{AnotherShift, NoShift}
+use Rattle.page_labels.specs.declared.fault.LabelFault.TheVariants.{AnotherShift}
 use Rattle.page_labels.specs.declared.labels.ShiftLabel.{ShiftLabel}
-use Rattle.page_labels.specs.Shifts.{StandAll, StandsAt, is_its_shift, numbered_shift, or_else, refused_at, refused_of, refused_shift}
+use Rattle.page_labels.specs.Shifts.{StandAll, StandsAt, numbered_shift, or_else, refused_at, refused_of, refused_shift}
 
 -- a name that is not refused at what has its number
 stands_of : (shifts : List Shift) (x : ShiftLabel) (o : Option Shift) → numbered_shift shifts x.number ≡ o → refused_of x o ≡ None → StandsAt shifts x

@@ -1,5 +1,5 @@
 -- What a labels text says of codes and groups.
-use Rattle.std.specs.Prelude.{ℕ, Bool, ◌==◌, ◌&&◌, None, Some, List, [], ◌∷◌, nat_eq, if◌then◌else◌}
+use Rattle.std.specs.Prelude.{ℕ, Bool, ◌&&◌, None, Some, List, [], ◌∷◌, nat_eq, if◌then◌else◌}
 use Rattle.std.specs.List.{list_any}
 use Rattle.page_labels.specs.declared.labels.CodeLabel.{CodeLabel}
 use Rattle.page_labels.specs.declared.labels.GroupLabel.{GroupLabel}
@@ -10,8 +10,17 @@ use Rattle.page_labels.specs.declared.labels.ShiftLabel.{ShiftLabel}
 -- what an empty text says
 abbrev pub nothing : Labels
 nothing =
-    record { title = []; clock = None; codes = []; groups = []; money = []; paid = []; off = None
-    ; shifts = []; decimals = None }
+    record {
+      title = [];
+      clock = None;
+      codes = [];
+      groups = [];
+      money = [];
+      paid = [];
+      off = None;
+      shifts = [];
+      decimals = None;
+    }
 
 abbrev pub has_code : List CodeLabel → ℕ → Bool
 has_code labels code = list_any (λ (x : CodeLabel). nat_eq x.code code) labels

@@ -34,7 +34,8 @@ mod text_line;
 pub use clock::{Clock, put_duration, put_time};
 pub use fault::LabelFault;
 pub use labels::{
-    CodeLabel, GroupLabel, Labels, PaidCode, ShiftLabel, code_words, decimals_of, group_words, no_labels, shift_name,
+    CodeLabel, GroupLabel, Labels, PaidCode, ShiftLabel, code_words, decimals_of, group_words,
+    no_labels, shift_name,
 };
 pub use laws::{names_stand_at_their_shifts, refused_line};
 pub use message::fault_line;

@@ -24,7 +24,9 @@ ghost use Rattle.text_lines.specs.Fields.{number_at};
 use crate::clock::clock_from;
 use crate::fault::LabelFault;
 use crate::field::{code, group, words_of};
-use crate::labels::{CodeLabel, GroupLabel, Labels, PaidCode, has_code, has_group, has_paid, is_paid};
+use crate::labels::{
+    CodeLabel, GroupLabel, Labels, PaidCode, has_code, has_group, has_paid, is_paid,
+};
 use crate::shift_line::shift_line;
 use crate::text_line::Line;
 use roster_model::{CodeDef, Instance};
@@ -184,7 +186,13 @@ fn is_time_off(off: Option<u8>, byte: u8) -> bool
 
 // Adds whether the periods of a code count as paid, where its byte is this.
 #[tactic(auto, unfolding(crate::specs::LabelLines::said_paid))]
-fn said_paid(labels: &mut Labels, line: u32, code: u8, byte: u8, paid: bool) -> Result<(), LabelFault>
+fn said_paid(
+    labels: &mut Labels,
+    line: u32,
+    code: u8,
+    byte: u8,
+    paid: bool,
+) -> Result<(), LabelFault>
     ensures { Reads (λ _. (labels.new)) result (said_paid line labels.old code byte paid) }
 {
     if paid && is_time_off(labels.off, byte) {

@@ -8,17 +8,26 @@ use roster_model::{Instance, Shift};
 use std::alloc::Global;
 use std::test::Fail;
 
-/// A demand text, a labels text, a date, shifts, and their calendar.
-type Row<'a> = (&'a str, &'a str, &'a str, &'a [ShiftParts<'a>], &'a str);
+/// A demand text, a labels text, a date, the number of the one shift that is asked for, shifts, and their calendar.
+type Row<'a> = (
+    &'a str,
+    &'a str,
+    &'a str,
+    Option<u32>,
+    &'a [ShiftParts<'a>],
+    &'a str,
+);
 
 /// A night with labels in which signs stand that a calendar escapes, a line of more than 75 bytes, and two
 /// equal shifts; the night under other labels with two shifts that stayed, whose UIDs are as they were; no
-/// work.
-const ROWS: [Row<'static>; 3] = [
+/// work; a night with time off, a shift with a name, lines that are folded before a character of two bytes and
+/// within words, and a shift that is all time off; the second of two equal shifts alone.
+const ROWS: [Row<'static>; 5] = [
     (
         "group S 0 4\n",
         "title Ward 7\nclock 22:00 90\ncode a =desk, phone\ngroup S night; day\n",
         "2024-02-28",
+        None,
         &[(1, "apa."), (1, "...."), (1, ".aa."), (1, "apa.")],
         "\
 BEGIN:VCALENDAR\r\n\
@@ -56,6 +65,7 @@ END:VCALENDAR\r\n",
         "group S 0 4\n",
         "clock 22:00 90\ntitle Ward 7\n",
         "2024-02-28",
+        None,
         &[(1, ".aa."), (1, "apa.")],
         "\
 BEGIN:VCALENDAR\r\n\
@@ -83,6 +93,7 @@ END:VCALENDAR\r\n",
         "heads 0 4\n",
         "clock 7:00 60\n",
         "2025-06-01",
+        None,
         &[(0, "....")],
         "\
 BEGIN:VCALENDAR\r\n\
@@ -93,6 +104,64 @@ UID:20250601-0-9d908ecfb6b256def8b49a7c504e6c88@roster\r\n\
 DTSTAMP:20250601T000000Z\r\n\
 DTSTART;VALUE=DATE:20250601\r\n\
 SUMMARY:no shifts\r\n\
+END:VEVENT\r\n\
+END:VCALENDAR\r\n",
+    ),
+    (
+        "group S 0 4\n",
+        "title Nacht\nclock 22:00 90\ncode a yyyyyyyyyyyyyyyyyyyyyyyyyyyyyyyyyyyyyyüber\noff .\nshift 1 S a..a Jörg M.\n",
+        "2024-02-28",
+        None,
+        &[(1, "a..a"), (1, "....")],
+        "\
+BEGIN:VCALENDAR\r\n\
+VERSION:2.0\r\n\
+PRODID:-//Lubishon//roster//EN\r\n\
+BEGIN:VEVENT\r\n\
+UID:20240228-1-1-21444f1762a12d33606dcc964716a27c@roster\r\n\
+DTSTAMP:20240228T000000Z\r\n\
+DTSTART:20240228T220000\r\n\
+DTEND:20240228T233000\r\n\
+SUMMARY:Jörg M.\r\n\
+DESCRIPTION:S: shift 1\\n22:00-23:30 yyyyyyyyyyyyyyyyyyyyyyyyyyyyyyyyyyyyyy\r\n \
+über\r\n\
+END:VEVENT\r\n\
+BEGIN:VEVENT\r\n\
+UID:20240228-1-4-21444f1762a12d33606dcc964716a27c@roster\r\n\
+DTSTAMP:20240228T000000Z\r\n\
+DTSTART:20240229T023000\r\n\
+DTEND:20240229T040000\r\n\
+SUMMARY:Jörg M.\r\n\
+DESCRIPTION:S: shift 1\\n2:30 +1-4:00 +1 yyyyyyyyyyyyyyyyyyyyyyyyyyyyyyyyyyy\r\n \
+yyyüber\r\n\
+END:VEVENT\r\n\
+END:VCALENDAR\r\n",
+    ),
+    (
+        "group S 0 4\n",
+        "title Nacht\nclock 22:00 90\noff .\n",
+        "2024-02-28",
+        Some(2),
+        &[(1, "a..a"), (1, "a..a"), (1, ".p.a")],
+        "\
+BEGIN:VCALENDAR\r\n\
+VERSION:2.0\r\n\
+PRODID:-//Lubishon//roster//EN\r\n\
+BEGIN:VEVENT\r\n\
+UID:20240228-2-1-21444f1762a12d33606dcc964716a27c@roster\r\n\
+DTSTAMP:20240228T000000Z\r\n\
+DTSTART:20240228T220000\r\n\
+DTEND:20240228T233000\r\n\
+SUMMARY:S: shift 2\r\n\
+DESCRIPTION:22:00-23:30 a\r\n\
+END:VEVENT\r\n\
+BEGIN:VEVENT\r\n\
+UID:20240228-2-4-21444f1762a12d33606dcc964716a27c@roster\r\n\
+DTSTAMP:20240228T000000Z\r\n\
+DTSTART:20240229T023000\r\n\
+DTEND:20240229T040000\r\n\
+SUMMARY:S: shift 2\r\n\
+DESCRIPTION:2:30 +1-4:00 +1 a\r\n\
 END:VEVENT\r\n\
 END:VCALENDAR\r\n",
     ),
@@ -119,6 +188,7 @@ fn is_calendar(
     instance: &Instance,
     labels: &Labels,
     setting: &Setting,
+    only: Option<u32>,
     shifts: &[Shift],
     text: &str,
 ) -> bool
@@ -130,7 +200,7 @@ fn is_calendar(
     if !are_short(shifts) {
         return false;
     }
-    match calendar_of(alloc, instance, labels, setting, shifts) {
+    match calendar_of(alloc, instance, labels, setting, only, shifts) {
         Ok(said) => said.as_slice() == text.as_bytes(),
         Err(_) => false,
     }
@@ -140,7 +210,7 @@ fn is_calendar(
 fn holds_on(alloc: Global, instance: &Instance, row: &Row<'_>) -> Result<bool, Fail>
     requires { IsSoundInstance instance.now }
 {
-    let (_, labels, date, parts, text) = *row;
+    let (_, labels, date, only, parts, text) = *row;
     let Ok(labels) = read_labels(alloc, instance, labels.as_bytes()) else {
         return Err(Fail::from("labels"));
     };
@@ -149,7 +219,15 @@ fn holds_on(alloc: Global, instance: &Instance, row: &Row<'_>) -> Result<bool, F
     };
     let setting = setting(clock, date)?;
     let shifts = roster(alloc, parts)?;
-    Ok(is_calendar(alloc, instance, &labels, &setting, shifts.as_slice(), text))
+    Ok(is_calendar(
+        alloc,
+        instance,
+        &labels,
+        &setting,
+        only,
+        shifts.as_slice(),
+        text,
+    ))
 }
 
 // Whether the calendar of a row is as it should be.

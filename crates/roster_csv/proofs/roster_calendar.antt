@@ -1,3 +1,4 @@
 pub mod EscapeLemmas
 pub mod FoldLemmas
+pub mod RowLemmas
 pub mod DayLemmas

@@ -1,4 +1,5 @@
 pub mod Stretches
+pub mod StretchLaws
 pub mod Order
 pub mod Totals
 pub mod Shares

@@ -1,5 +1,5 @@
 -- A roster as an iCalendar text.
-use Rattle.std.specs.Prelude.{ℕ, List, [], ◌∷◌, ◌++◌, codes}
+use Rattle.std.specs.Prelude.{ℕ, Option, List, [], ◌∷◌, ◌++◌, codes}
 use Rattle.roster_model.specs.declared.instance.Instance.{Instance}
 use Rattle.roster_model.specs.declared.instance.Shift.{Shift}
 use Rattle.page_labels.specs.declared.labels.Labels.{Labels}
@@ -17,10 +17,10 @@ first_lines =
 abbrev pub last_lines : List (List ℕ)
 last_lines = property (codes "END") (codes "VCALENDAR") ∷ []
 
--- the lines of a calendar: an event for each shift that works, by the numbers of the shifts
-abbrev pub calendar_lines : Instance → Labels → Setting → List Shift → List (List ℕ)
-calendar_lines i d x shifts = first_lines ++ events_or d x (events_of i d x shifts) ++ last_lines
+-- the lines of a calendar: the events of each shift, by the numbers of the shifts, or of the one with a number
+abbrev pub calendar_lines : Instance → Labels → Setting → Option ℕ → List Shift → List (List ℕ)
+calendar_lines i d x only shifts = first_lines ++ events_or d x (events_of i d x only shifts) ++ last_lines
 
 -- its text
-abbrev pub calendar_of : Instance → Labels → Setting → List Shift → List ℕ
-calendar_of i d x shifts = text_of (calendar_lines i d x shifts)
+abbrev pub calendar_of : Instance → Labels → Setting → Option ℕ → List Shift → List ℕ
+calendar_of i d x only shifts = text_of (calendar_lines i d x only shifts)

@@ -1,5 +1,5 @@
 -- The events of a roster's shifts, as lines.
-use Rattle.std.specs.Prelude.{ℕ, ◌+◌, ◌-◌, ◌*◌, ◌/◌, ◌%◌, Bool, ◌&&◌, Option, None, Some, List, [], ◌∷◌, ◌++◌, codes, count_by, length, nat_eq, nat_le, nat_lt, take, if◌then◌else◌}
+use Rattle.std.specs.Prelude.{ℕ, ◌+◌, ◌-◌, ◌*◌, ◌/◌, ◌%◌, Bool, true, ◌&&◌, Option, None, Some, List, [], ◌∷◌, ◌++◌, codes, count_by, length, nat_eq, nat_le, nat_lt, take, if◌then◌else◌}
 use Rattle.std.specs.Fmt.{decimal}
 use Rattle.std.specs.List.{flat_map}
 use Rattle.std.specs.Str.{bytes_eq}
@@ -11,7 +11,8 @@ use Rattle.certificate_text.specs.Written.{group_name}
 use Rattle.page_labels.specs.Clocks.{time_text, two_text}
 use Rattle.page_labels.specs.declared.clock.Clock.{Clock}
 use Rattle.page_labels.specs.declared.labels.Labels.{Labels}
-use Rattle.shift_figures.specs.Stretches.{stretch_of}
+use Rattle.page_labels.specs.Labels.{shift_name}
+use Rattle.shift_figures.specs.Stretches.{stretch_of, stretches_of}
 use Rattle.shift_figures.specs.declared.stretch.Stretch.{Stretch}
 use Rattle.roster_tables.specs.Called.{group_called}
 use Rattle.roster_csv.specs.Pieces.{pieces_of}
@@ -55,25 +56,38 @@ shift_mark i d s = mark_of d.title (group_name i s.group) s.word
 abbrev pub empty_mark : Labels → List ℕ
 empty_mark d = mark_of d.title [] []
 
--- what tells the event of this number and this mark from all others
-unfoldable pub uid_of : Setting → ℕ → List ℕ → List ℕ
-uid_of x number mark = date_text x.date ++ codes "-" ++ decimal number ++ codes "-" ++ encode_lower mark
-    ++ codes "@roster"
+-- what tells one event of a shift from its others
+unfoldable pub part_text : Option ℕ → List ℕ
+part_text None = []
+part_text (Some period) = codes "-" ++ decimal period
+
+-- what tells the event of this number, this part and this mark from all others
+unfoldable pub uid_of : Setting → ℕ → Option ℕ → List ℕ → List ℕ
+uid_of x number part mark = date_text x.date ++ codes "-" ++ decimal number ++ part_text part ++ codes "-"
+    ++ encode_lower mark ++ codes "@roster"
 
 unfoldable pub stamp_of : Setting → List ℕ
 stamp_of x = date_text x.date ++ codes "T000000Z"
 
--- what a shift is called: by its group, where there is one, and its number
+-- a shift by its group, where there is one, and its number
 unfoldable pub summary_of : List ℕ → ℕ → List ℕ
 summary_of group number =
     if nat_lt 0 (length group) then group ++ codes ": shift " ++ decimal number
     else codes "Shift " ++ decimal number
 
+-- who works a shift, or else the shift by its group and its number
+unfoldable pub called : List ℕ → List ℕ → List ℕ
+called name shift = if nat_lt 0 (length name) then name else shift
+
+-- the group and the number of a shift, where it is called by a name
+unfoldable pub lead_of : List ℕ → List ℕ → List ℕ
+lead_of name shift = if nat_lt 0 (length name) then shift ++ 10 ∷ [] else []
+
 -- what a code is called: by its label, or by its byte
 unfoldable pub code_text : List ℕ → ℕ → List ℕ
 code_text name byte = if nat_lt 0 (length name) then name else byte ∷ []
 
--- a stretch of one code lies within the work
+-- a stretch of one code lies within an event
 abbrev pub lies_in : Stretch → Piece → Bool
 lies_in t p = nat_le t.first p.first && nat_le p.last t.last
 
@@ -85,66 +99,99 @@ break_of t p = if nat_eq p.first t.first then [] else 10 ∷ []
 abbrev pub times_of : Clock → Piece → List ℕ
 times_of c p = time_text c (p.first - 1) ++ codes "-" ++ time_text c p.last
 
--- a stretch of one code, where it lies within the work
+-- a stretch of one code, where it lies within the event
 unfoldable pub piece_text : List CodeDef → Labels → Clock → Stretch → Piece → List ℕ
 piece_text cs d c t p =
     if lies_in t p then break_of t p ++ times_of c p ++ codes " " ++ code_text (name_of cs d p.byte) p.byte else []
 
--- the greatest stretches of one code within the work
+-- the greatest stretches of one code within an event
 unfoldable pub description_of : List CodeDef → Labels → Clock → Stretch → List ℕ → List ℕ
 description_of cs d c t word = flat_map (piece_text cs d c t) (pieces_of word)
 
 -- the lines that begin an event
-unfoldable pub head_lines : Setting → ℕ → List ℕ → List (List ℕ)
-head_lines x number mark =
-    property (codes "BEGIN") (codes "VEVENT") ∷ property (codes "UID") (uid_of x number mark)
+unfoldable pub head_lines : Setting → ℕ → Option ℕ → List ℕ → List (List ℕ)
+head_lines x number part mark =
+    property (codes "BEGIN") (codes "VEVENT") ∷ property (codes "UID") (uid_of x number part mark)
     ∷ property (codes "DTSTAMP") (stamp_of x) ∷ []
 
--- when a shift begins and ends
+-- when an event begins and ends
 unfoldable pub time_lines : Setting → Stretch → List (List ℕ)
 time_lines x t =
     property (codes "DTSTART") (moment_text x (t.first - 1)) ∷ property (codes "DTEND") (moment_text x t.last) ∷ []
 
+-- the shift with a number, by its group and its number
+abbrev pub shift_text : Instance → Labels → ℕ → Shift → List ℕ
+shift_text i d number s = summary_of (group_called i d s.group) number
+
 unfoldable pub summary_line : Instance → Labels → ℕ → Shift → List ℕ
 summary_line i d number s =
-    property (codes "SUMMARY") (escaped (summary_of (group_called i d s.group) number))
+    property (codes "SUMMARY") (escaped (called (shift_name d.shifts number) (shift_text i d number s)))
 
-unfoldable pub description_line : Instance → Labels → Clock → Shift → Stretch → List ℕ
-description_line i d c s t =
-    property (codes "DESCRIPTION") (escaped (description_of i.grammar.codes d c t s.word))
+-- what a shift has when, behind its group and its number where it is called by a name
+abbrev pub description_text : Instance → Labels → Clock → ℕ → Shift → Stretch → List ℕ
+description_text i d c number s t =
+    lead_of (shift_name d.shifts number) (shift_text i d number s) ++ description_of i.grammar.codes d c t s.word
+
+unfoldable pub description_line : Instance → Labels → Clock → ℕ → Shift → Stretch → List ℕ
+description_line i d c number s t = property (codes "DESCRIPTION") (escaped (description_text i d c number s t))
 
 unfoldable pub end_line : List ℕ
 end_line = property (codes "END") (codes "VEVENT")
 
--- the event of a shift behind these, which works in the stretch
-abbrev pub event_in : Instance → Labels → Setting → List Shift → Shift → Option Stretch → List (List ℕ)
-event_in i d x before s None = []
-event_in i d x before s (Some t) =
-    head_lines x (number_among before s) (shift_mark i d s) ++ time_lines x t
-    ++ summary_line i d (length before + 1) s ∷ description_line i d x.clock s t ∷ end_line ∷ []
+-- the stretch of work, where there is one
+abbrev pub one_stretch : Option Stretch → List Stretch
+one_stretch None = []
+one_stretch (Some t) = t ∷ []
 
--- the event of a shift behind these, or nothing where it has no work
-abbrev pub shift_event : Instance → Labels → Setting → List Shift → Shift → List (List ℕ)
-shift_event i d x before s = event_in i d x before s (stretch_of i.grammar.codes s.word)
+-- the stretches of a word that have an event: those without time off, or else the one of work
+unfoldable pub event_stretches : List CodeDef → Option ℕ → List ℕ → List Stretch
+event_stretches cs None word = one_stretch (stretch_of cs word)
+event_stretches cs (Some off) word = stretches_of (Some off) word
+
+-- what tells the event of a stretch from those of the others: its first period, where time off is known
+unfoldable pub part_of : Option ℕ → Stretch → Option ℕ
+part_of None t = None
+part_of (Some off) t = Some t.first
+
+-- the event of a stretch of a shift behind these
+unfoldable pub event_of : Instance → Labels → Setting → List Shift → Shift → Stretch → List (List ℕ)
+event_of i d x before s t =
+    head_lines x (number_among before s) (part_of d.off t) (shift_mark i d s) ++ time_lines x t
+    ++ summary_line i d (length before + 1) s ∷ description_line i d x.clock (length before + 1) s t ∷ end_line ∷ []
+
+-- the events of a shift behind these
+abbrev pub shift_events : Instance → Labels → Setting → List Shift → Shift → List (List ℕ)
+shift_events i d x before s =
+    flat_map (event_of i d x before s) (event_stretches i.grammar.codes d.off s.word)
+
+-- all shifts are asked for, or that with the number
+abbrev pub is_asked : Option ℕ → ℕ → Bool
+is_asked None number = true
+is_asked (Some n) number = nat_eq n number
+
+-- the events of a shift behind these, where it is asked for
+unfoldable pub asked_events : Instance → Labels → Setting → Option ℕ → List Shift → Shift → List (List ℕ)
+asked_events i d x only before s =
+    if is_asked only (length before + 1) then shift_events i d x before s else []
 
 -- the events of the last shifts of these, from a place on
-abbrev pub events_from : Instance → Labels → Setting → List Shift → ℕ → List Shift → List (List ℕ)
-events_from i d x shifts place [] = []
-events_from i d x shifts place (s ∷ ss) =
-    shift_event i d x (take place shifts) s ++ events_from i d x shifts (place + 1) ss
+abbrev pub events_from : Instance → Labels → Setting → Option ℕ → List Shift → ℕ → List Shift → List (List ℕ)
+events_from i d x only shifts place [] = []
+events_from i d x only shifts place (s ∷ ss) =
+    asked_events i d x only (take place shifts) s ++ events_from i d x only shifts (place + 1) ss
 
--- the events of shifts
-abbrev pub events_of : Instance → Labels → Setting → List Shift → List (List ℕ)
-events_of i d x shifts = events_from i d x shifts 0 shifts
+-- the events of shifts, of all or of the one with a number
+abbrev pub events_of : Instance → Labels → Setting → Option ℕ → List Shift → List (List ℕ)
+events_of i d x only shifts = events_from i d x only shifts 0 shifts
 
 -- that an event takes the whole day, and that there is no shift
 unfoldable pub whole_day_lines : Setting → List (List ℕ)
 whole_day_lines x =
     property (codes "DTSTART;VALUE=DATE") (date_text x.date) ∷ property (codes "SUMMARY") (codes "no shifts") ∷ []
 
--- an event of the whole day, where no shift works
+-- an event of the whole day, where there is no other
 abbrev pub empty_day : Labels → Setting → List (List ℕ)
-empty_day d x = head_lines x 0 (empty_mark d) ++ whole_day_lines x ++ end_line ∷ []
+empty_day d x = head_lines x 0 None (empty_mark d) ++ whole_day_lines x ++ end_line ∷ []
 
 -- events, or that of the whole day where there is none
 unfoldable pub events_or : Labels → Setting → List (List ℕ) → List (List ℕ)

@@ -3,7 +3,7 @@ ghost use Rattle.roster_model.specs.SoundInstance.{IsSoundInstance};
 ghost use Rattle.roster_csv.specs.roster_calendar.Calendars.{calendar_of, first_lines, last_lines};
 ghost use Rattle.roster_csv.specs.roster_calendar.Events.{events_of, events_or};
 
-use crate::roster_calendar::event::{add_empty_day, add_property, add_shift};
+use crate::roster_calendar::event::{Placed, add_asked, add_empty_day, add_property};
 use crate::roster_calendar::fold::put_lines;
 use crate::roster_calendar::setting::Setting;
 use page_labels::Labels;
@@ -30,31 +30,28 @@ fn last_lines(alloc: Global) -> Result<List<List<u8>>, Memory>
     Ok(lines)
 }
 
-// Returns the events of shifts, by their numbers.
+// Returns the events of shifts, by their numbers, or of the one with a number.
 fn events_of(
     alloc: Global,
     instance: &Instance,
     labels: &Labels,
     setting: &Setting,
+    only: Option<u32>,
     shifts: &[Shift],
 ) -> Result<List<List<u8>>, Memory>
     requires codes { length instance.now.grammar.codes ≤ 32 }
     requires few { length shifts.now ≤ 64 }
     requires short { All (λ s. length s.word ≤ 96) shifts.now }
-    ensures { IfOk result (λ lines. lines ≡ events_of instance.now labels.now setting.now shifts.now) }
+    ensures { IfOk result (λ lines. lines ≡ events_of instance.now labels.now setting.now only shifts.now) }
 {
     let mut lines = List::new(alloc);
     let mut place: usize = 0;
     for shift in shifts {
-        add_shift(
-            alloc,
-            &mut lines,
-            instance,
-            labels,
-            setting,
-            &shifts[..place],
+        let placed = Placed {
+            before: &shifts[..place],
             shift,
-        )?;
+        };
+        add_asked(alloc, &mut lines, instance, labels, setting, only, &placed)?;
         place += 1;
     }
     Ok(lines)
@@ -77,10 +74,11 @@ fn fill(
     }
 }
 
-/// Returns a roster of at most 64 shifts as an iCalendar text (RFC 5545), under labels: an event for each shift that
-/// works, by the numbers of the shifts, from its first period of work to its last, in local time with no time zone;
-/// or one event of the whole day, where none works. Lines end with a carriage return and a line feed, and are folded at
-/// 75 bytes.
+/// Returns a roster of at most 64 shifts as an iCalendar text (RFC 5545), under labels: by the numbers of the shifts, of
+/// all or of the one with a number, from 1, an event for each stretch without time off; where the labels know no time
+/// off, one for each shift that works, from its first period of work to its last. Times are local, with no time zone.
+/// Where there is no such event, there is one of the whole day. Lines end with a carriage return and a line feed, and
+/// are folded at 75 bytes, never within a character.
 ///
 /// # Errors
 ///
@@ -90,15 +88,16 @@ pub fn calendar_of(
     instance: &Instance,
     labels: &Labels,
     setting: &Setting,
+    only: Option<u32>,
     shifts: &[Shift],
 ) -> Result<List<u8>, Memory>
     requires sound { IsSoundInstance instance.now }
     requires few { length shifts.now ≤ 64 }
     requires short { All (λ s. length s.word ≤ 96) shifts.now }
-    ensures { IfOk result (λ text. text ≡ calendar_of instance.now labels.now setting.now shifts.now) }
+    ensures { IfOk result (λ text. text ≡ calendar_of instance.now labels.now setting.now only shifts.now) }
 {
     let first = first_lines(alloc)?;
-    let mut events = events_of(alloc, instance, labels, setting, shifts)?;
+    let mut events = events_of(alloc, instance, labels, setting, only, shifts)?;
     fill(alloc, &mut events, labels, setting)?;
     let last = last_lines(alloc)?;
     let mut out = List::new(alloc);

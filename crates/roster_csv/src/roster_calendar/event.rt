@@ -1,18 +1,27 @@
 ghost use Rattle.std.specs.Prelude.{◌≡◌, ◌≤◌, ◌+◌, ◌*◌, ◌^◌, ◌++◌, [], ◌∷◌, IfOk, OnOk, count_by, length};
 ghost use Rattle.roster_csv.specs.roster_calendar.Dates.{date_text};
 ghost use Rattle.roster_csv.specs.roster_calendar.Events.{
+  asked_events,
   description_line,
+  description_text,
   empty_day,
   empty_mark,
   end_line,
+  event_of,
+  event_stretches,
   head_lines,
+  is_asked,
   is_same,
   minute_of,
   moment_text,
   number_among,
+  one_stretch,
+  part_of,
+  part_text,
   property,
-  shift_event,
+  shift_events,
   shift_mark,
+  shift_text,
   stamp_of,
   summary_line,
   time_digits,
@@ -25,14 +34,23 @@ use crate::roster_calendar::date::{Date, day_after, put_date, put_two};
 use crate::roster_calendar::escape::escaped;
 use crate::roster_calendar::mark::{mark_of, put_hexadecimal};
 use crate::roster_calendar::setting::Setting;
-use crate::roster_calendar::words::{description_of, put_number, summary_of};
+use crate::roster_calendar::words::{called, description_of, lead_of, put_number, summary_of};
 use certificate_text::group_name;
-use page_labels::{Clock, Labels};
-use roster_model::{Instance, List, Memory, Shift};
+use page_labels::{Clock, Labels, shift_name};
+use roster_model::{CodeDef, Instance, List, Memory, Shift};
 use roster_tables::group_called;
-use shift_figures::{Stretch, stretch_of};
+use shift_figures::{Stretch, stretch_of, stretches_of};
 use std::alloc::Global;
 use text_lines::put;
+
+/// A shift behind others.
+#[derive(Clone, Copy, Drop)]
+pub(crate) struct Placed<'a> {
+    /// The shifts before it, at most 64.
+    pub before: &'a [Shift],
+    /// The shift, whose word has at most 96 letters.
+    pub shift: &'a Shift,
+}
 
 /// Appends a line of a property.
 ///
@@ -124,15 +142,34 @@ fn empty_mark(labels: &Labels) -> [u8; 16]
     mark_of(labels.title.as_slice(), b"", b"")
 }
 
-// Returns what tells the event of this number and this mark from all others.
+// Appends what tells one event of a shift from its others.
+#[tactic(auto, unfolding(crate::specs::roster_calendar::Events::part_text))]
+fn put_part(out: &mut List<u8>, part: Option<u8>) -> Result<(), Memory>
+    ensures { OnOk result (out.new ≡ out.old ++ part_text part) }
+{
+    let Some(period) = part else {
+        return Ok(());
+    };
+    put(out, b"-")?;
+    put_number(out, period as u64)
+}
+
+// Returns what tells the event of this number, this part and this mark from all others.
 #[tactic(auto, unfolding(crate::specs::roster_calendar::Events::uid_of))]
-fn uid_of(alloc: Global, setting: &Setting, number: u64, mark: [u8; 16]) -> Result<List<u8>, Memory>
-    ensures { IfOk result (λ text. text ≡ uid_of setting.now number mark) }
+fn uid_of(
+    alloc: Global,
+    setting: &Setting,
+    number: u64,
+    part: Option<u8>,
+    mark: [u8; 16],
+) -> Result<List<u8>, Memory>
+    ensures { IfOk result (λ text. text ≡ uid_of setting.now number part mark) }
 {
     let mut text = List::new(alloc);
     put_date(&mut text, setting.date)?;
     put(&mut text, b"-")?;
     put_number(&mut text, number)?;
+    put_part(&mut text, part)?;
     put(&mut text, b"-")?;
     put_hexadecimal(alloc, &mut text, &mark)?;
     put(&mut text, b"@roster")?;
@@ -165,18 +202,19 @@ fn add_head(
     lines: &mut List<List<u8>>,
     setting: &Setting,
     number: u64,
+    part: Option<u8>,
     mark: [u8; 16],
 ) -> Result<(), Memory>
-    ensures { OnOk result (lines.new ≡ lines.old ++ head_lines setting.now number mark) }
+    ensures { OnOk result (lines.new ≡ lines.old ++ head_lines setting.now number part mark) }
 {
-    let uid = uid_of(alloc, setting, number, mark)?;
+    let uid = uid_of(alloc, setting, number, part, mark)?;
     let stamp = stamp_of(alloc, setting)?;
     add_property(alloc, lines, b"BEGIN", b"VEVENT")?;
     add_property(alloc, lines, b"UID", uid.as_slice())?;
     add_property(alloc, lines, b"DTSTAMP", stamp.as_slice())
 }
 
-// Appends when a shift begins and ends.
+// Appends when an event begins and ends.
 #[tactic(auto, unfolding(crate::specs::roster_calendar::Events::time_lines))]
 fn add_times(
     alloc: Global,
@@ -192,22 +230,62 @@ fn add_times(
     add_property(alloc, lines, b"DTEND", end.as_slice())
 }
 
-// Appends what a shift is called.
+// Returns a shift by its group and its number.
+fn shift_text(
+    alloc: Global,
+    instance: &Instance,
+    labels: &Labels,
+    number: u32,
+    shift: &Shift,
+) -> Result<List<u8>, Memory>
+    ensures { IfOk result (λ text. text ≡ shift_text instance.now labels.now number shift.now) }
+{
+    let group = group_called(alloc, instance, labels, shift.group)?;
+    summary_of(alloc, group.as_slice(), number as u64)
+}
+
+// Appends who works a shift, or else what the shift is called.
 #[tactic(auto, unfolding(crate::specs::roster_calendar::Events::summary_line))]
 fn add_summary(
     alloc: Global,
     lines: &mut List<List<u8>>,
     instance: &Instance,
     labels: &Labels,
-    number: u64,
+    number: u32,
     shift: &Shift,
 ) -> Result<(), Memory>
     ensures { OnOk result (lines.new ≡ lines.old ++ summary_line instance.now labels.now number shift.now ∷ []) }
 {
-    let group = group_called(alloc, instance, labels, shift.group)?;
-    let summary = summary_of(alloc, group.as_slice(), number)?;
-    let value = escaped(alloc, summary.as_slice())?;
+    let text = shift_text(alloc, instance, labels, number, shift)?;
+    let name = shift_name(labels.shifts.as_slice(), number);
+    let value = escaped(alloc, called(name, text.as_slice()))?;
     add_property(alloc, lines, b"SUMMARY", value.as_slice())
+}
+
+// Returns what a shift has when, behind its group and its number where it is called by a name.
+fn description(
+    alloc: Global,
+    instance: &Instance,
+    labels: &Labels,
+    clock: Clock,
+    placed: &Placed<'_>,
+    stretch: Stretch,
+) -> Result<List<u8>, Memory>
+    requires codes { length instance.now.grammar.codes ≤ 32 }
+    requires few { length placed.now.before.now ≤ 64 }
+    requires short { length placed.now.shift.now.word ≤ 96 }
+    ensures { IfOk result (λ text. text
+        ≡ description_text instance.now labels.now clock (length placed.now.before.now + 1) placed.now.shift.now stretch) }
+{
+    let number = placed.before.len() as u32 + 1;
+    let shift = shift_text(alloc, instance, labels, number, placed.shift)?;
+    let name = shift_name(labels.shifts.as_slice(), number);
+    let mut text = lead_of(alloc, name, shift.as_slice())?;
+    let codes = instance.grammar.codes.as_slice();
+    let word = placed.shift.word.as_slice();
+    let description = description_of(alloc, codes, labels, clock, stretch, word)?;
+    put(&mut text, description.as_slice())?;
+    Ok(text)
 }
 
 // Appends what a shift has when.
@@ -218,17 +296,18 @@ fn add_description(
     instance: &Instance,
     labels: &Labels,
     clock: Clock,
-    shift: &Shift,
+    placed: &Placed<'_>,
     stretch: Stretch,
 ) -> Result<(), Memory>
     requires codes { length instance.now.grammar.codes ≤ 32 }
-    requires short { length shift.now.word ≤ 96 }
-    ensures { OnOk result (lines.new ≡ lines.old ++ description_line instance.now labels.now clock shift.now stretch ∷ []) }
+    requires few { length placed.now.before.now ≤ 64 }
+    requires short { length placed.now.shift.now.word ≤ 96 }
+    ensures { OnOk result (lines.new ≡ lines.old
+        ++ description_line instance.now labels.now clock (length placed.now.before.now + 1) placed.now.shift.now stretch
+        ∷ []) }
 {
-    let codes = instance.grammar.codes.as_slice();
-    let word = shift.word.as_slice();
-    let description = description_of(alloc, codes, labels, clock, stretch, word)?;
-    let value = escaped(alloc, description.as_slice())?;
+    let text = description(alloc, instance, labels, clock, placed, stretch)?;
+    let value = escaped(alloc, text.as_slice())?;
     add_property(alloc, lines, b"DESCRIPTION", value.as_slice())
 }
 
@@ -240,51 +319,147 @@ fn add_end(alloc: Global, lines: &mut List<List<u8>>) -> Result<(), Memory>
     add_property(alloc, lines, b"END", b"VEVENT")
 }
 
-/// Appends the event of a shift behind at most 64 shifts, where it works.
-///
-/// # Errors
-///
-/// `Memory` where memory runs out; a part may stand in `lines` then.
-pub(crate) fn add_shift(
+// Returns the stretches of a word that have an event.
+#[tactic(auto, unfolding(crate::specs::roster_calendar::Events::event_stretches))]
+fn event_stretches(
+    alloc: Global,
+    codes: &[CodeDef],
+    off: Option<u8>,
+    word: &[u8],
+) -> Result<List<Stretch>, Memory>
+    requires { length word.now ≤ 96 }
+    ensures { IfOk result (λ stretches. stretches ≡ event_stretches codes.now off word.now) }
+{
+    match off {
+        Some(_) => stretches_of(alloc, off, word),
+        None => one_stretch(alloc, stretch_of(codes, word)),
+    }
+}
+
+// Returns the stretch of work, where there is one.
+fn one_stretch(alloc: Global, stretch: Option<Stretch>) -> Result<List<Stretch>, Memory>
+    ensures { IfOk result (λ stretches. stretches ≡ one_stretch stretch) }
+{
+    let mut stretches = List::new(alloc);
+    if let Some(stretch) = stretch {
+        stretches.push(stretch)?;
+    }
+    Ok(stretches)
+}
+
+// Returns what tells the event of a stretch from those of the others: its first period, where time off is known.
+#[tactic(auto, unfolding(crate::specs::roster_calendar::Events::part_of))]
+fn part_of(off: Option<u8>, stretch: Stretch) -> Option<u8>
+    ensures { result ≡ part_of off stretch }
+{
+    match off {
+        None => None,
+        Some(_) => Some(stretch.first),
+    }
+}
+
+// Appends the event of a stretch of a shift behind at most 64 shifts.
+#[tactic(auto, unfolding(crate::specs::roster_calendar::Events::event_of))]
+fn add_event(
     alloc: Global,
     lines: &mut List<List<u8>>,
     instance: &Instance,
     labels: &Labels,
     setting: &Setting,
-    before: &[Shift],
-    shift: &Shift,
+    placed: &Placed<'_>,
+    stretch: Stretch,
 ) -> Result<(), Memory>
     requires codes { length instance.now.grammar.codes ≤ 32 }
-    requires few { length before.now ≤ 64 }
-    requires short { length shift.now.word ≤ 96 }
+    requires few { length placed.now.before.now ≤ 64 }
+    requires short { length placed.now.shift.now.word ≤ 96 }
     ensures { OnOk result (lines.new
-        ≡ lines.old ++ shift_event instance.now labels.now setting.now before.now shift.now) }
+        ≡ lines.old ++ event_of instance.now labels.now setting.now placed.now.before.now placed.now.shift.now stretch) }
 {
-    let codes = instance.grammar.codes.as_slice();
-    let Some(stretch) = stretch_of(codes, shift.word.as_slice()) else {
-        return Ok(());
-    };
-    let mark = shift_mark(instance, labels, shift);
-    add_head(alloc, lines, setting, number_among(before, shift), mark)?;
-    add_times(alloc, lines, setting, stretch)?;
-    add_summary(
+    let number = placed.before.len() as u32 + 1;
+    let mark = shift_mark(instance, labels, placed.shift);
+    let part = part_of(labels.off, stretch);
+    add_head(
         alloc,
         lines,
-        instance,
-        labels,
-        before.len() as u64 + 1,
-        shift,
+        setting,
+        number_among(placed.before, placed.shift),
+        part,
+        mark,
     )?;
+    add_times(alloc, lines, setting, stretch)?;
+    add_summary(alloc, lines, instance, labels, number, placed.shift)?;
     add_description(
         alloc,
         lines,
         instance,
         labels,
         setting.clock,
-        shift,
+        placed,
         stretch,
     )?;
     add_end(alloc, lines)
+}
+
+// Appends the events of a shift behind others.
+fn add_shift(
+    alloc: Global,
+    lines: &mut List<List<u8>>,
+    instance: &Instance,
+    labels: &Labels,
+    setting: &Setting,
+    placed: &Placed<'_>,
+) -> Result<(), Memory>
+    requires codes { length instance.now.grammar.codes ≤ 32 }
+    requires few { length placed.now.before.now ≤ 64 }
+    requires short { length placed.now.shift.now.word ≤ 96 }
+    ensures { OnOk result (lines.new ≡ lines.old
+        ++ shift_events instance.now labels.now setting.now placed.now.before.now placed.now.shift.now) }
+{
+    let codes = instance.grammar.codes.as_slice();
+    let word = placed.shift.word.as_slice();
+    let stretches = event_stretches(alloc, codes, labels.off, word)?;
+    for stretch in stretches.as_slice() {
+        add_event(alloc, lines, instance, labels, setting, placed, *stretch)?;
+    }
+    Ok(())
+}
+
+// Whether the shift with a number is asked for.
+fn is_asked(only: Option<u32>, number: u32) -> bool
+    ensures { result ≡ is_asked only number }
+{
+    match only {
+        None => true,
+        Some(asked) => asked == number,
+    }
+}
+
+/// Appends the events of a shift behind others, where it is asked for: all are, or the one with a number.
+///
+/// # Errors
+///
+/// `Memory` where memory runs out; a part may stand in `lines` then.
+#[tactic(auto, unfolding(crate::specs::roster_calendar::Events::asked_events))]
+pub(crate) fn add_asked(
+    alloc: Global,
+    lines: &mut List<List<u8>>,
+    instance: &Instance,
+    labels: &Labels,
+    setting: &Setting,
+    only: Option<u32>,
+    placed: &Placed<'_>,
+) -> Result<(), Memory>
+    requires codes { length instance.now.grammar.codes ≤ 32 }
+    requires few { length placed.now.before.now ≤ 64 }
+    requires short { length placed.now.shift.now.word ≤ 96 }
+    ensures { OnOk result (lines.new ≡ lines.old
+        ++ asked_events instance.now labels.now setting.now only placed.now.before.now placed.now.shift.now) }
+{
+    if is_asked(only, placed.before.len() as u32 + 1) {
+        add_shift(alloc, lines, instance, labels, setting, placed)
+    } else {
+        Ok(())
+    }
 }
 
 // Appends that an event takes the whole day, and that there is no shift.
@@ -310,7 +485,7 @@ pub(crate) fn add_empty_day(
 ) -> Result<(), Memory>
     ensures { OnOk result (lines.new ≡ lines.old ++ empty_day labels.now setting.now) }
 {
-    add_head(alloc, lines, setting, 0, empty_mark(labels))?;
+    add_head(alloc, lines, setting, 0, None, empty_mark(labels))?;
     add_whole_day(alloc, lines, setting)?;
     add_end(alloc, lines)
 }

@@ -1,15 +1,27 @@
 ghost use Rattle.std.specs.Prelude.{ℕ, pos, ◌+ℤ◌, ◌≡◌, true, List};
 ghost use Rattle.std.specs.List.{list_all};
+ghost use Rattle.std.specs.Str.{is_utf8};
 ghost use Rattle.roster_csv.specs.roster_calendar.Dates.{next_day};
 ghost use Rattle.roster_csv.specs.roster_calendar.DayNumbers.{IsDay, day_number};
 ghost use Rattle.roster_csv.specs.roster_calendar.Escapes.{escaped, is_text, unescaped};
-ghost use Rattle.roster_csv.specs.roster_calendar.Folds.{is_line, plain_text, text_of, unfolded};
+ghost use Rattle.roster_csv.specs.roster_calendar.Folds.{folds_whole, is_line, is_narrow, plain_text, text_of, unfolded};
 ghost use Rattle.roster_csv.specs.declared.roster_calendar.date.Date.{Date};
 
 /// States a law: without its folds, the text of lines is the lines, each with its end, where no line holds a carriage
 /// return and no space begins one.
 pub fn unfolding_gives_lines_back()
     ensures { (lines : List (List ℕ)) → list_all is_line lines ≡ true → unfolded (text_of lines) ≡ plain_text lines }
+{}
+
+/// States a law: no fold of the text of such lines stands within a character, but before its first byte.
+pub fn folds_stand_before_characters()
+    ensures { (lines : List (List ℕ)) → list_all is_line lines ≡ true → folds_whole (text_of lines) ≡ true }
+{}
+
+/// States a law: no row of the text of such lines has more than 75 bytes before its end, where the lines are UTF-8.
+pub fn rows_are_narrow()
+    ensures { (lines : List (List ℕ)) → list_all is_line lines ≡ true → list_all is_utf8 lines ≡ true
+        → is_narrow 0 (text_of lines) ≡ true }
 {}
 
 /// States a law: a value's text says the value.

@@ -2,8 +2,10 @@ ghost use Rattle.std.specs.Prelude.{◌≡◌, ◌≤◌, ◌++◌, IfOk, OnOk, 
 ghost use Rattle.std.specs.Fmt.{decimal};
 ghost use Rattle.roster_csv.specs.roster_calendar.Events.{
   break_of,
+  called,
   code_text,
   description_of,
+  lead_of,
   lies_in,
   piece_text,
   summary_of,
@@ -29,7 +31,7 @@ pub(crate) fn put_number(out: &mut List<u8>, value: u64) -> Result<(), Memory>
     Ok(())
 }
 
-/// Returns what a shift is called: by its group, where there is one, and its number.
+/// Returns a shift by its group, where there is one, and its number.
 ///
 /// # Errors
 ///
@@ -49,6 +51,31 @@ pub(crate) fn summary_of(alloc: Global, group: &[u8], number: u64) -> Result<Lis
     Ok(text)
 }
 
+/// Returns who works a shift, or else the shift by its group and its number.
+#[tactic(auto, unfolding(crate::specs::roster_calendar::Events::called))]
+pub(crate) fn called<'a>(name: &'a [u8], shift: &'a [u8]) -> &'a [u8]
+    ensures { result.now ≡ called name.now shift.now }
+{
+    if name.len() > 0 { name } else { shift }
+}
+
+/// Returns the group and the number of a shift with a line feed, where it is called by a name, and else nothing.
+///
+/// # Errors
+///
+/// `Memory` where memory runs out; nothing is kept then.
+#[tactic(auto, unfolding(crate::specs::roster_calendar::Events::lead_of))]
+pub(crate) fn lead_of(alloc: Global, name: &[u8], shift: &[u8]) -> Result<List<u8>, Memory>
+    ensures { IfOk result (λ text. text ≡ lead_of name.now shift.now) }
+{
+    let mut text = List::new(alloc);
+    if name.len() > 0 {
+        put(&mut text, shift)?;
+        text.push(b'\n')?;
+    }
+    Ok(text)
+}
+
 // Returns what a code is called: by its label, or by its byte.
 #[tactic(auto, unfolding(crate::specs::roster_calendar::Events::code_text))]
 fn put_code(out: &mut List<u8>, name: &[u8], byte: u8) -> Result<(), Memory>
@@ -61,7 +88,7 @@ fn put_code(out: &mut List<u8>, name: &[u8], byte: u8) -> Result<(), Memory>
     }
 }
 
-// Whether a stretch of one code lies within the work.
+// Whether a stretch of one code lies within an event.
 fn lies_in(stretch: Stretch, piece: Piece) -> bool
     ensures { result ≡ lies_in stretch piece }
 {
@@ -89,7 +116,7 @@ fn put_times(out: &mut List<u8>, clock: Clock, piece: Piece) -> Result<(), Memor
     put_time(out, clock, piece.last)
 }
 
-// Appends a stretch of one code, where it lies within the work.
+// Appends a stretch of one code, where it lies within an event.
 #[tactic(auto, unfolding(crate::specs::roster_calendar::Events::piece_text))]
 fn put_piece(
     out: &mut List<u8>,
@@ -111,7 +138,7 @@ fn put_piece(
     put_code(out, name_of(codes, labels, piece.byte), piece.byte)
 }
 
-/// Returns the greatest stretches of one code within the work of a word of at most 96 letters, with their times.
+/// Returns the greatest stretches of one code within an event of a word of at most 96 letters, with their times.
 ///
 /// # Errors
 ///
