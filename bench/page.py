@@ -7,7 +7,8 @@ For examples/ (g1, g6, and days that are solved here: the call centre, the shop,
 made here (96 periods, 64 shifts, long names, codes that HTML has a use for, labels of 60 bytes, a ceiling of 0, no
 roster, a roster beside an old one, a report in place of a certificate) it draws the page, takes a picture in light, in dark, on a narrow screen, as printed and with a derivation
 shown into FOLDER (/tmp/roster-pages if none is given), and fails where an element of a chart lies outside its frame,
-a text is cut or two texts of a row overlap, a derivation leaves its frame and can't be scrolled, a page asks the network for something, the
+a text is cut or two texts of a row overlap, a letter of a chart is below 9 pixels, a chart or a table of a day of at most 48 periods
+scrolls on a window of 1,200 or 1,440 pixels, a derivation leaves its frame and can't be scrolled, a page asks the network for something, the
 console says a word, or the charts and costs of a printed day of at most 48 periods do not end on its first page. From
 the page of the call centre it makes docs/page.svg anew.
 """
@@ -104,6 +105,9 @@ if(e.scrollWidth>e.clientWidth+near){document.querySelector(`[aria-describedby='
 if(getComputedStyle(e).pointerEvents==='none')said.push('wide derivation '+e.id);document.activeElement.blur();}
 e.style.display='';}
 if(document.documentElement.scrollWidth>innerWidth+near)said.push('wider than the window');
+for(const e of document.querySelectorAll('.scroll'))if(e.scrollWidth>e.clientWidth+near)said.push('scrolls '+e.innerHTML.slice(0,60));
+for(const e of document.querySelectorAll('svg text')){const v=e.ownerSVGElement,k=v.getBoundingClientRect().width/v.viewBox.baseVal.width;
+if(parseFloat(getComputedStyle(e).fontSize)*k<8.9)said.push('small '+e.outerHTML.slice(0,80));}
 for(const e of performance.getEntriesByType('resource'))said.push('asks '+e.name);
 const p=document.createElement('pre');p.id='look';p.textContent=said.join('\\n');document.body.append(p);})</script>"""
 
@@ -151,15 +155,16 @@ def console(said):
     return [line for line in said.stderr.splitlines() if "CONSOLE" in line]
 
 
-def faults(page, size):
-    """What the browser finds wrong with a page."""
+def faults(page, size, may_scroll=True):
+    """What the browser finds wrong with a page; charts and tables may scroll, or may not."""
     copy = page.with_suffix(".look.html")
     copy.write_text(page.read_text().replace("</body>", LOOK + "</body>"))
     said = run(BROWSER + ["--dump-dom", f"--window-size={size}", f"file://{copy}"])
     look = re.search(r'<pre id="look">(.*?)</pre>', said.stdout, re.S)
     if not look:
         return ["the page was not looked at"]
-    return [line for line in look.group(1).splitlines() if line] + console(said)
+    return [line for line in look.group(1).splitlines()
+            if line and not (may_scroll and line.startswith("scrolls "))] + console(said)
 
 
 def pictures(page, periods):
@@ -210,7 +215,9 @@ def main():
         paths = texts(folder, name)
         page = drawn(folder, name, *paths)
         periods = int(re.search(r"^periods (\d+)", paths[0].read_text(), re.M).group(1))
-        said = faults(page, "1240,1400") + faults(page, "700,1400") + pictures(page, periods)
+        long = periods > 48
+        said = (faults(page, "1200,1400", long) + faults(page, "1440,1400", periods > 96) + faults(page, "700,1400")
+                + pictures(page, periods))
         if name == "call_centre":
             (TOP / "docs/page.svg").write_text(picture(page))
         wrong += len(said)

@@ -1,5 +1,5 @@
-//! Worked rows of labels texts, of the figures of a page, of changes between rosters and of calendars, as tests
-//! over public calls.
+//! Worked rows of labels texts, of the parts and the figures of a page, of changes between rosters and of calendars,
+//! as tests over public calls.
 #![tactic(auto)]
 
 #[cfg(test)]
@@ -12,3 +12,5 @@ mod days;
 mod figure_tests;
 #[cfg(test)]
 mod label_tests;
+#[cfg(test)]
+mod part_tests;

@@ -26,7 +26,7 @@ use Rattle.page_text.specs.Charts.{top_count, unit_of}
 use Rattle.page_text.specs.Inputs.{longest}
 use Rattle.page_text.specs.Style.{style}
 use Rattle.page_text.specs.Pages.{all_show, before_title, body, chart, chart_body, chart_head, coverage, coverage_part, derivation, derivations_part, foot, foot_part, head, heading, height_of, legend, legend_item, lines_at, page, read_line, read_lines, shifts, shifts_part, size, title_of, titled_derivations, top_part, word_lines}
-use Rattle.page_text.specs.RosterChart.{cell, cells, change_at, letter, letter_bar, letter_text, marked_cell, price_text, row_elements, row_frame, row_head, row_words, ticks, times, who}
+use Rattle.page_text.specs.RosterChart.{all_ticks, cell, cells, change_at, letter, letter_bar, letter_text, marked_cell, price_text, row_elements, row_frame, row_head, row_words, time_tick, times, who}
 use Rattle.page_text.specs.RosterChart.{gap as name_gap}
 use Rattle.page_text.specs.Changes.{changes_part}
 use Rattle.page_text.specs.declared.changes.Changes.{Changes}
@@ -223,8 +223,9 @@ module _ (f : ℕ → ℕ) (one : IsOneToOne f) where
   text_same : (s : PeriodAxis) (cs : List CodeDef) (off : Option ℕ) (k place byte : ℕ) → Same (letter_text s (recoded f cs) (option_map f off) k place (f byte)) (letter_text s cs off k place byte)
   unfolding letter_text
   text_same s cs off k place byte =
-      rw (same_off off byte, same_paint f one cs byte)
-      (unless (is_off off byte) (caption (paint_of cs byte) (middle_of s place) (top_of k + 15) (f byte ∷ []) ∷ []) (caption (paint_of cs byte) (middle_of s place) (top_of k + 15) (byte ∷ []) ∷ []) refl)
+      ap (λ (t : Bool). marks_of (if t then [] else caption (paint_of (recoded f cs) (f byte)) (middle_of s place) (top_of k + 15) (f byte ∷ []) ∷ [])) (same_off off byte)
+      ∙ ap (λ (paint : List ℕ). marks_of (if is_off off byte then [] else caption paint (middle_of s place) (top_of k + 15) (f byte ∷ []) ∷ [])) (same_paint f one cs byte)
+      ∙ unless (is_off off byte) (caption (paint_of cs byte) (middle_of s place) (top_of k + 15) (f byte ∷ []) ∷ []) (caption (paint_of cs byte) (middle_of s place) (top_of k + 15) (byte ∷ []) ∷ []) refl
 
   letter_same : (s : PeriodAxis) (cs : List CodeDef) (off : Option ℕ) (k place byte : ℕ) → Same (letter s (recoded f cs) (option_map f off) k place (f byte)) (letter s cs off k place byte)
   letter_same s cs off k place byte = simp (map-append, bar_same s cs k place byte, text_same s cs off k place byte)
@@ -290,11 +291,12 @@ module _ (f : ℕ → ℕ) (one : IsOneToOne f) where
   unfolding shifts
   shifts_same s cs c d h =
       let sized = ap (λ (n : ℕ). marks_of (size (chart_width s) (height_of n))) (as_many c.rows d.rows h.rows) in
-      let ticked = ap (λ (moments : List (List ℕ)). marks_of (ticks s 20 moments)) h.times in
+      let ticked = ap (λ (moments : List (List ℕ)). marks_of (all_ticks s 20 moments)) h.times in
+      let ended = ap (λ (moments : List (List ℕ)). marks_of (time_tick s 20 moments s.periods)) h.times in
       let rowed : Same (each_from (row_elements d.money s (recoded f cs) d.off) 0 d.rows) (each_from (row_elements c.money s cs c.off) 0 c.rows)
       = ap (λ (off : Option ℕ). marks_of (each_from (row_elements d.money s (recoded f cs) off) 0 d.rows)) h.off
       ∙ rows_same c.money d.money h.money s cs c.off 0 c.rows d.rows h.rows in
-      simp (map-append, legend_same cs d.words c.words, sized, ticked, rowed)
+      simp (map-append, legend_same cs d.words c.words, sized, ticked, ended, rowed)
 
   shifts_part_same : (s : PeriodAxis) (cs : List CodeDef) (c d : Content) → IsAlike f c d → Same (shifts_part s (recoded f cs) d) (shifts_part s cs c)
   unfolding shifts_part

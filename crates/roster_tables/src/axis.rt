@@ -1,4 +1,4 @@
-ghost use Rattle.std.specs.Prelude.{◌≡◌, ◌≤◌, ◌+◌, ◌*◌, ◌^◌, map, Some, IfOk};
+ghost use Rattle.std.specs.Prelude.{◌≡◌, ◌≤◌, ◌+◌, ◌*◌, ◌^◌, map, IfOk};
 ghost use Rattle.page_parts.specs.Elements.{places};
 ghost use Rattle.roster_tables.specs.AxisTimes.{axis_time, axis_times, is_hour, is_hourly, is_regular, is_shown};
 
