@@ -264,7 +264,14 @@ pub fn shown(
         Kind::Coverage => covered(alloc, instance, labels, roster),
         Kind::Calendar(events) => {
             let shifts = roster.shifts.as_slice();
-            calendar_of(alloc, instance, labels, &events.setting, events.shift, shifts)
+            calendar_of(
+                alloc,
+                instance,
+                labels,
+                &events.setting,
+                events.shift,
+                shifts,
+            )
         }
     }
 }

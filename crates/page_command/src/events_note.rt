@@ -84,8 +84,11 @@ fn gap_text(
         let minutes = gap_minutes(codes, clock, shift);
         if LONG_MINUTES <= minutes {
             let hours = minutes / 60;
-            return format!(in alloc; "shift {number} has {hours} hours or more without work between its work, \
-and one event over them: the labels have no line off C, which says the code of time off").ok();
+            return format!(in alloc;
+                "shift {number} has {hours} hours or more without work between its work, \
+and one event over them: the labels have no line off C, which says the code of time off"
+            )
+            .ok();
         }
     }
     None
@@ -102,8 +105,11 @@ fn paid_text(
     for shift in shifts {
         number = number.saturating_add(1);
         if begins_or_ends_paid(codes, paid, shift) {
-            return format!(in alloc; "shift {number} begins or ends with a paid code that is no work, \
-which its event leaves out: the labels have no line off C, which says the code of time off").ok();
+            return format!(in alloc;
+                "shift {number} begins or ends with a paid code that is no work, \
+which its event leaves out: the labels have no line off C, which says the code of time off"
+            )
+            .ok();
         }
     }
     None
@@ -131,7 +137,10 @@ fn note_shifts<S: Shelf>(
 {
     let codes = instance.grammar.codes.as_slice();
     note_text(shelf, gap_text(alloc, codes, labels.clock, shifts));
-    note_text(shelf, paid_text(alloc, codes, labels.paid.as_slice(), shifts));
+    note_text(
+        shelf,
+        paid_text(alloc, codes, labels.paid.as_slice(), shifts),
+    );
 }
 
 // Notes the same, where the labels do not say which code is time off, of the shifts of a text.

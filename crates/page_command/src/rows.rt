@@ -45,12 +45,7 @@ fn are_many(labels: &Labels, comparison: &Comparison, shifts: &[Shift]) -> bool
 }
 
 // How many employees a row stands for.
-fn count_of(
-    labels: &Labels,
-    comparison: &Comparison,
-    shifts: &[Shift],
-    shift: &Shift,
-) -> u32
+fn count_of(labels: &Labels, comparison: &Comparison, shifts: &[Shift], shift: &Shift) -> u32
     requires { length shifts.now ≤ 64 }
     ensures { result ≡ count_of labels.now comparison.now shifts.now shift.now }
 {

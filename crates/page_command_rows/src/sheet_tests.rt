@@ -153,7 +153,13 @@ fn notes(alloc: Global, words: &str, notes: &str) -> Result<bool, Fail> {
 #[test]
 fn events_are_noted_where_no_code_is_time_off(rt: HostRuntime) -> Result<(), Fail> {
     assert!(rt; notes(rt.alloc(), "table split one night long_day", GAP)?);
-    assert!(rt; notes(rt.alloc(), "calendar split one early long_day 2026-02-28", PAID)?);
+    assert!(rt;
+        notes(
+            rt.alloc(),
+            "calendar split one early long_day 2026-02-28",
+            PAID
+        )?
+    );
     assert!(rt; notes(rt.alloc(), "table split one night long_off", "")?);
     assert!(rt; notes(rt.alloc(), "table split one night", "")?);
     Ok(())

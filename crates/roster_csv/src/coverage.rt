@@ -14,19 +14,8 @@ use std::alloc::Global;
 
 // What stands above the records.
 const HEAD: [&[u8]; 13] = [
-    b"code",
-    b"name",
-    b"period",
-    b"begin",
-    b"end",
-    b"need",
-    b"have",
-    b"short",
-    b"over",
-    b"floor",
-    b"ceiling",
-    b"penalty",
-    b"amount",
+    b"code", b"name", b"period", b"begin", b"end", b"need", b"have", b"short", b"over", b"floor",
+    b"ceiling", b"penalty", b"amount",
 ];
 
 /// A roster has at most so many employees; a ceiling of so many allows each number of them.

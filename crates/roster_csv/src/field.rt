@@ -224,11 +224,10 @@ pub(crate) fn add_price(
 fn amount_of(alloc: Global, decimals: u8, shift: &Shift, piece: Piece) -> Result<List<u8>, Memory>
     ensures { IfOk result (λ field. field ≡ amount_of decimals shift.now piece) }
 {
-    if piece.first == 1 {
-        amount_text(alloc, decimals, shift.price)
-    } else {
-        Ok(List::new(alloc))
+    if piece.first != 1 {
+        return Ok(List::new(alloc));
     }
+    amount_text(alloc, decimals, shift.price)
 }
 
 /// Appends a field of the price of a shift as an amount with so many decimals, empty but in its first record.
