@@ -14,7 +14,7 @@ unfoldable pub ceiling_text : ℕ → List ℕ
 ceiling_text n = if nat_eq n 64 then [] else decimal n
 
 -- the fields of the record of a code in a period
-abbrev pub fields_of : Instance → Labels → CellCover → List (List ℕ)
+unfoldable pub fields_of : Instance → Labels → CellCover → List (List ℕ)
 fields_of i d c =
     guarded (letter_at i.grammar.codes c.code) ∷ guarded (code_words d.codes c.code) ∷ decimal c.period
     ∷ time_of d.clock (c.period - 1) ∷ time_of d.clock c.period ∷ decimal c.need ∷ decimal c.have ∷ decimal c.short

@@ -1,5 +1,6 @@
 ghost use Rattle.std.specs.Prelude.{◌≡◌, ◌++◌, ◌-◌, [], ◌∷◌, IfOk, OnOk};
 ghost use Rattle.std.specs.Fmt.{decimal};
+ghost use Rattle.std.specs.List.{flat_map};
 ghost use Rattle.page_labels.specs.Labels as words;
 ghost use Rattle.roster_csv.specs.Coverages.{ceiling_text, cover_row, coverage_of, fields_of};
 ghost use Rattle.roster_csv.specs.Sheets.{amount_text, guarded, letter_at, time_of};
@@ -95,6 +96,7 @@ fn add_bound_fields(
 }
 
 // Returns the fields of the record of a code in a period.
+#[tactic(auto, unfolding(crate::specs::Coverages::fields_of))]
 fn fields_of(
     alloc: Global,
     instance: &Instance,
@@ -125,6 +127,22 @@ fn add_cover(
     add_record(alloc, out, fields.as_slice())
 }
 
+// Appends the records of cells.
+fn add_covers(
+    alloc: Global,
+    out: &mut List<u8>,
+    instance: &Instance,
+    labels: &Labels,
+    covers: &[CellCover],
+) -> Result<(), Memory>
+    ensures { OnOk result (out.new ≡ out.old ++ flat_map (cover_row instance.now labels.now) covers.now) }
+{
+    for cover in covers {
+        add_cover(alloc, out, instance, labels, cover)?;
+    }
+    Ok(())
+}
+
 /// Returns how the cells of a day are covered as comma-separated values, under labels: a record for each of them, in
 /// their order. Its fields are the letter of the code, what it is called, the period, when it begins and ends, how
 /// many employees are needed, work, are missing and are there beyond the need, the floor, the ceiling, what the
@@ -144,8 +162,6 @@ pub fn coverage_of(
 {
     let mut out = List::new(alloc);
     add_row(alloc, &mut out, &HEAD)?;
-    for cover in covers {
-        add_cover(alloc, &mut out, instance, labels, cover)?;
-    }
+    add_covers(alloc, &mut out, instance, labels, covers)?;
     marked(alloc, out)
 }
