@@ -27,10 +27,14 @@ head_fields =
     codes "code" ∷ codes "name" ∷ codes "period" ∷ codes "begin" ∷ codes "end" ∷ codes "need" ∷ codes "have"
     ∷ codes "short" ∷ codes "over" ∷ codes "floor" ∷ codes "ceiling" ∷ codes "penalty" ∷ codes "amount" ∷ []
 
+-- their record
+unfoldable pub head_row : List ℕ
+head_row = row_text default_writer head_fields
+
 -- the record of a code in a period
 abbrev pub cover_row : Instance → Labels → CellCover → List ℕ
 cover_row i d c = row_text default_writer (fields_of i d c)
 
 -- a record for each code that is needed and each period, in the order in which they are given
 abbrev pub coverage_of : Instance → Labels → List CellCover → List ℕ
-coverage_of i d covers = marked (row_text default_writer head_fields ++ flat_map (cover_row i d) covers)
+coverage_of i d covers = marked (head_row ++ flat_map (cover_row i d) covers)

@@ -2,7 +2,7 @@ ghost use Rattle.std.specs.Prelude.{◌≡◌, ◌++◌, ◌-◌, [], ◌∷◌,
 ghost use Rattle.std.specs.Fmt.{decimal};
 ghost use Rattle.std.specs.List.{flat_map};
 ghost use Rattle.page_labels.specs.Labels as words;
-ghost use Rattle.roster_csv.specs.Coverages.{ceiling_text, cover_row, coverage_of, fields_of};
+ghost use Rattle.roster_csv.specs.Coverages.{ceiling_text, cover_row, coverage_of, fields_of, head_row};
 ghost use Rattle.roster_csv.specs.Sheets.{amount_text, guarded, letter_at, time_of};
 
 use crate::field::{add_amount, add_letter, add_number, add_text, add_time};
@@ -143,6 +143,13 @@ fn add_covers(
     Ok(())
 }
 
+// Appends the record above the others.
+fn add_head(alloc: Global, out: &mut List<u8>) -> Result<(), Memory>
+    ensures { OnOk result (out.new ≡ out.old ++ head_row) }
+{
+    add_row(alloc, out, &HEAD)
+}
+
 /// Returns how the cells of a day are covered as comma-separated values, under labels: a record for each of them, in
 /// their order. Its fields are the letter of the code, what it is called, the period, when it begins and ends, how
 /// many employees are needed, work, are missing and are there beyond the need, the floor, the ceiling, what the
@@ -161,7 +168,7 @@ pub fn coverage_of(
     ensures { IfOk result (λ text. text ≡ coverage_of instance.now labels.now covers.now) }
 {
     let mut out = List::new(alloc);
-    add_row(alloc, &mut out, &HEAD)?;
+    add_head(alloc, &mut out)?;
     add_covers(alloc, &mut out, instance, labels, covers)?;
     marked(alloc, out)
 }
