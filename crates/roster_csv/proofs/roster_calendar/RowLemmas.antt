@@ -118,7 +118,7 @@ Narrows line rest =
     → is_narrow n (folded_from room line ++ 13 ∷ 10 ∷ rest) ≡ is_narrow 0 rest
 
 -- behind a byte so many are still to come
-next_need : ℕ → ℕ → ℕ
+abbrev next_need : ℕ → ℕ → ℕ
 next_need zero b = width b - 1
 next_need (suc n) b = n
 
