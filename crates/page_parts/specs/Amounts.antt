@@ -28,7 +28,8 @@ with_decimals n (d ∷ ds) = with_decimals (n * 10 + d) ds
 abbrev pub behind_point : List ℕ → List ℕ
 behind_point ds = if nat_lt 0 (length ds) then 46 ∷ flat_map decimal ds else []
 
--- the bytes show n units of 10 to the power of -d: a whole number, and behind a point d decimals, which together are n
+-- the bytes show n units of 10 to the power of -d: a whole number, and behind a point d decimals, which
+-- together are n
 pub record ShowsUnits (d n : ℕ) (bytes : List ℕ) : Type 0 where
   pub whole : ℕ
   pub decimals : List ℕ

@@ -54,7 +54,11 @@ pub fn given(out: &mut List<u8>, bytes: &[u8]) -> Result<(), Memory>
     Ok(())
 }
 
-// Appends the digits of a number.
+/// Appends the digits of a number.
+///
+/// # Errors
+///
+/// `Memory` where memory runs out; a part may stand in `out` then.
 pub(crate) fn digits(out: &mut List<u8>, value: u64) -> Result<(), Memory>
     ensures { OnOk result (out.new ≡ out.old ++ decimal value) }
 {
@@ -114,7 +118,11 @@ pub fn bar(out: &mut List<u8>, class: &[u8], area: Area) -> Result<(), Memory>
     Ok(())
 }
 
-// Appends the first mark of a caption.
+/// Appends the first mark of a caption.
+///
+/// # Errors
+///
+/// `Memory` where memory runs out; a part of it may stand there then.
 #[tactic(auto, unfolding(crate::specs::Elements::at))]
 pub(crate) fn begin(out: &mut List<u8>, class: &[u8], left: u64, top: u64) -> Result<(), Memory>
     ensures { OnOk result (out.new ≡ out.old ++ at class.now left top) }

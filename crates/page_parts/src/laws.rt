@@ -20,8 +20,8 @@ pub fn paints_stay()
         → paint_of (recoded f cs) (f byte) ≡ paint_of cs byte }
 {}
 
-/// States a law: an amount with d decimals stands on a page as a whole number and d decimals behind a point, and these
-/// digits are its units.
+/// States a law: an amount with d decimals stands on a page as a whole number and d decimals behind a point,
+/// and these digits are its units.
 pub fn amounts_are_units()
     ensures { (d n : ℕ) → ShowsUnits d n (written (units d n ∷ [])) }
 {}

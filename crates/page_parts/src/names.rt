@@ -27,7 +27,8 @@ fn is_between(low: u32, high: u32, pair: u32) -> bool
     low <= pair && pair <= high
 }
 
-// Whether two bytes, as one number, are the first ones of a wide character: of East Asian scripts, or a picture.
+// Whether two bytes, as one number, are the first ones of a wide character: of East Asian scripts, or a
+// picture.
 fn is_wide(pair: u32) -> bool
     ensures { result ≡ is_wide pair }
 {
@@ -120,8 +121,8 @@ fn short_name(out: &mut List<u8>, bytes: &[u8]) -> Result<(), Memory>
     given(out, bytes)
 }
 
-/// Appends a caption of a name, escaped, at a place from the left and from the top. A name that is wider than 24
-/// columns ends behind its last whole character within them, with an ellipsis.
+/// Appends a caption of a name, escaped, at a place from the left and from the top. A name that is wider than
+/// 24 columns ends behind its last whole character within them, with an ellipsis.
 ///
 /// # Errors
 ///

@@ -21,8 +21,8 @@ fn width_of(periods: u8) -> u8
     (740 / (periods as u32).max(1)).max(10).min(40) as u8
 }
 
-/// Returns the sheet of so many periods, with room for names of so many columns, at most 25, and for amounts that are
-/// counted in words of so many, at most 60.
+/// Returns the sheet of so many periods, with room for names of so many columns, at most 25, and for amounts
+/// that are counted in words of so many, at most 60.
 pub fn sheet_of(periods: u8, longest: usize, money: usize) -> PeriodAxis
     ensures { result ≡ sheet_of periods longest money }
 {

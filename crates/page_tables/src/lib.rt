@@ -1,5 +1,6 @@
-//! The tables and lists of a page: the shifts, how often each code is had and which share of its need is covered,
-//! the shortages and the surplus, and how many begin and end at each time. What stands in them are numbers and bytes of the texts, each byte escaped.
+//! The tables and lists of a page: the shifts, how often each code is had and which share of its need is
+//! covered, the shortages and the surplus, and how many begin and end at each time. What stands in them are
+//! numbers and bytes of the texts, each byte escaped.
 #![tactic(auto)]
 
 mod heads;

@@ -1,20 +1,20 @@
 -- The marks of a page do not depend on names and derivations, nor on the bytes of the codes.
-use Rattle.std.proofs.Common.{◌≡◌, ℕ, zero, suc, ◌+◌, ◌-◌, List, [], ◌∷◌, ◌++◌, Bool, true, false, Option, None, Some, length, map, refl, sym, ap, subst, ◌∙◌, arith}
+use Rattle.std.proofs.Common.{◌≡◌, ℕ, zero, suc, ◌+◌, ◌-◌, ◌/◌, ◌%◌, List, [], ◌∷◌, ◌++◌, Bool, true, false, Option, None, Some, length, map, refl, sym, ap, subst, ◌∙◌, arith}
 use Rattle.std.proofs.lemmas.List.{map-append}
 use Rattle.std.proofs.lemmas.Option.{slice_get-map}
 use Rattle.std.specs.List.{flat_map}
 use Rattle.std.specs.Prelude.{codes, if◌then◌else◌, min, nat_lt, option_map, slice_get}
 use Rattle.roster_model.specs.declared.grammar.CodeDef.{CodeDef}
-use Rattle.page_parts.specs.Amounts.{AreSaidAlike, amount}
+use Rattle.page_parts.specs.Amounts.{AreSaidAlike, amount, unit_behind}
 use Rattle.page_parts.specs.Elements.{Element, bar, caption, each_from, given, marks, number, places, units}
 use Rattle.page_parts.specs.Escapes.{IsOneToOne, mark_of, marks_of, recoded}
 use Rattle.page_parts.specs.Paints.{paint_of}
 use Rattle.page_parts.specs.Sheets.{chart_width, middle_of, sheet_of, top_of}
 use Rattle.page_parts.specs.declared.money.Money.{Money}
 use Rattle.page_parts.specs.declared.sheet.PeriodAxis.{PeriodAxis}
-use Rattle.page_parts.proofs.AmountLemmas.{unit_same}
+use Rattle.page_parts.proofs.AmountLemmas.{behind_same, unit_same}
 use Rattle.page_parts.proofs.PaintLemmas.{same_paint, same_test}
-use Rattle.page_text.specs.Costs.{amount_or_none, both_sums, bound_of, bound_part, chip, code_cost, code_costs, costs, demanded_cost, gap, is_demanded, is_told, no_roster, saves, sentence, sentence_over, sums, told}
+use Rattle.page_text.specs.Costs.{amount_or_none, both_sums, bound_of, bound_part, chip, code_cost, code_costs, costs, demanded_cost, gap, is_demanded, is_told, no_roster, penalties, saves, sentence, sentence_over, sums, told}
 use Rattle.shift_figures.specs.Bounds.{saving_at}
 use Rattle.shift_figures.specs.Stretches.{is_off}
 use Rattle.shift_figures.specs.declared.bound.Saving.{Saving}
@@ -104,9 +104,17 @@ tops m heads cs figures columns changes =
     heads ++ (sentence m figures.cost figures.bound ++ (marks (codes "</p></header>\n") ∷ (costs m cs figures columns ++ changes_part changes)))
 
 module _ (m n : Money) (said : AreSaidAlike m n) where
+  -- an amount with elements behind it
+  amount_behind : (x : ℕ) (es fs : List Element) → Same fs es → Same (amount n x ++ fs) (amount m x ++ es)
+  amount_behind x es fs h =
+      ap (λ (d : ℕ). units d x ∷ marks_of (unit_behind n.words ++ fs)) said.decimals
+      ∙ ap (λ (t : List Element). units m.decimals x ∷ t) (behind_same m n es fs said h)
+
   saves_same : (sum permille : ℕ) → Same (saves n sum permille) (saves m sum permille)
   unfolding saves
-  saves_same sum permille = simp (map-append, unit_same m n said, said.decimals)
+  saves_same sum permille =
+      let rest : List Element = marks (codes " (") ∷ number (permille / 10) ∷ marks (codes ".") ∷ number (permille % 10) ∷ marks (codes " %).") ∷ [] in
+      ap (λ (t : List Element). marks (codes "A cheaper roster saves at most ") ∷ t) (amount_behind sum rest rest refl)
 
   told_same : (t : Saving) → Same (told n t) (told m t)
   unfolding told
@@ -120,7 +128,8 @@ module _ (m n : Money) (said : AreSaidAlike m n) where
 
   no_roster_same : (bound : ℕ) → Same (no_roster n bound) (no_roster m bound)
   unfolding no_roster
-  no_roster_same bound = simp (map-append, unit_same m n said, said.decimals)
+  no_roster_same bound =
+      ap (λ (t : List Element). marks (codes "No roster is stated. Each allowed roster costs at least ") ∷ t) (amount_behind bound (marks (codes ".") ∷ []) (marks (codes ".") ∷ []) refl)
 
   sentence_over_same : (cost : Option ℕ) (bound : ℕ) → Same (sentence_over n cost bound) (sentence_over m cost bound)
   unfolding sentence_over
@@ -135,7 +144,7 @@ module _ (m n : Money) (said : AreSaidAlike m n) where
   amount_or_none_same : (sum : Option ℕ) → Same (amount_or_none n sum) (amount_or_none m sum)
   unfolding amount_or_none
   amount_or_none_same None = refl
-  amount_or_none_same (Some sum) = simp (map-append, unit_same m n said, said.decimals)
+  amount_or_none_same (Some sum) = rw said.decimals (simp (map-append, unit_same m n said))
 
   bound_of_same : (sum : Option ℕ) → Same (bound_of n sum) (bound_of m sum)
   unfolding bound_of
@@ -147,7 +156,12 @@ module _ (m n : Money) (said : AreSaidAlike m n) where
 
   both_sums_same : (f : Figures) → Same (both_sums n f) (both_sums m f)
   unfolding both_sums
-  both_sums_same f = simp (map-append, unit_same m n said, said.decimals)
+  both_sums_same f =
+      let end : List Element = marks (codes "</dd></div>") ∷ [] in
+      let inner : Same (marks (codes "</dd></div><div><dt>Penalties</dt><dd>") ∷ (amount n f.penalty ++ end)) (marks (codes "</dd></div><div><dt>Penalties</dt><dd>") ∷ (amount m f.penalty ++ end))
+      = ap (λ (t : List Element). marks (codes "</dd></div><div><dt>Penalties</dt><dd>") ∷ t) (amount_behind f.penalty end end refl) in
+      ap (λ (t : List Element). marks (codes "<div><dt>Paid for shifts</dt><dd>") ∷ t)
+      (amount_behind f.paid (marks (codes "</dd></div><div><dt>Penalties</dt><dd>") ∷ (amount m f.penalty ++ end)) (marks (codes "</dd></div><div><dt>Penalties</dt><dd>") ∷ (amount n f.penalty ++ end)) inner)
 
   sums_same : (f : Figures) (cost : Option ℕ) → Same (sums n f cost) (sums m f cost)
   unfolding sums
@@ -156,7 +170,9 @@ module _ (m n : Money) (said : AreSaidAlike m n) where
 
   price_same : (s : PeriodAxis) (k price : ℕ) → Same (price_text n s k price) (price_text m s k price)
   unfolding price_text
-  price_same s k price = simp (map-append, unit_same m n said, said.decimals)
+  price_same s k price =
+      ap (λ (t : List Element). marks (codes "<text class='price' x='") ∷ number (chart_width s - 14) ∷ marks (codes "' y='") ∷ number (top_of k + 15) ∷ marks (codes "'>") ∷ t)
+      (amount_behind price (marks (codes "</text>") ∷ []) (marks (codes "</text>") ∷ []) refl)
 
 module _ (f : ℕ → ℕ) (one : IsOneToOne f) where
   abbrev other : CodeDef → CodeDef
@@ -175,7 +191,16 @@ module _ (f : ℕ → ℕ) (one : IsOneToOne f) where
   demanded_same : (m n : Money) → AreSaidAlike m n → (cs : List CodeDef) (columns : List CellCover) (k : ℕ) (c : CodeDef)
       → Same (demanded_cost n (recoded f cs) columns k (other c)) (demanded_cost m cs columns k c)
   unfolding demanded_cost
-  demanded_same m n said cs columns k c = simp (map-append, chip_same cs c.byte, unit_same m n said, said.decimals)
+  demanded_same m n said cs columns k c =
+      let end : List Element = marks (codes "</dd></div>") ∷ [] in
+      let sum = penalties k columns 0 in
+      let chips = chip (recoded f cs) (f c.byte) in
+      let before : List Element = marks (codes "</dt><dd>") ∷ (amount n sum ++ end) in
+      let after : List Element = marks (codes "</dt><dd>") ∷ (amount m sum ++ end) in
+      let rest : Same before after = ap (λ (t : List Element). marks (codes "</dt><dd>") ∷ t) (amount_behind m n said sum end end refl) in
+      let whole : Same (chips ++ before) (chip cs c.byte ++ after)
+      = map-append mark_of chips before ∙ ap (λ (t : List Element). t ++ marks_of before) (chip_same cs c.byte) ∙ ap (λ (t : List Element). marks_of (chip cs c.byte) ++ t) rest ∙ sym (map-append mark_of (chip cs c.byte) after) in
+      ap (λ (t : List Element). marks (codes "<div><dt>Penalty for ") ∷ t) whole
 
   code_cost_same : (m n : Money) → AreSaidAlike m n → (cs : List CodeDef) (columns : List CellCover) (k : ℕ) (c : CodeDef)
       → Same (code_cost n (recoded f cs) columns k (other c)) (code_cost m cs columns k c)

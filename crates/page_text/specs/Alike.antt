@@ -19,8 +19,8 @@ AreAlikeRows f (r ∷ rs) (s ∷ ss) = IsAlikeRow f r s × AreAlikeRows f rs ss
 AreAlikeRows f [] (s ∷ ss) = ⊥
 AreAlikeRows f (r ∷ rs) [] = ⊥
 
--- the same content, but for the names, the derivations, what amounts are counted in and the sums of texts, where the
--- codes have the bytes that f gives
+-- the same content, but for the names, the derivations, what amounts are counted in and the sums of texts,
+-- where the codes have the bytes that f gives
 pub record IsAlike (f : ℕ → ℕ) (c d : Content) : Type 0 where
   pub money : AreSaidAlike c.money d.money
   pub times : d.times ≡ c.times

@@ -25,8 +25,8 @@ pub struct Content {
     pub money: Money,
     /// The byte of the code that is time off, where one is named.
     pub off: Option<u8>,
-    /// For each period the time that stands on the axes where it begins, or nothing; none at all where the periods
-    /// stand there by their numbers.
+    /// For each period the time that stands on the axes where it begins, or nothing, and behind them when the
+    /// last one ends; none at all where the periods stand there by their numbers.
     pub times: List<List<u8>>,
     /// Whether a report states the roster, and not a proof.
     pub stated: bool,

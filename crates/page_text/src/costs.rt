@@ -342,9 +342,9 @@ fn bound_part(
     Ok(())
 }
 
-/// Appends what the roster costs: its figures, and the penalties of each code that is demanded, with amounts that are
-/// counted in these words, or bare where there are none. Where there is no roster, there is no sum, and where nothing is
-/// proved of the cost, no bound.
+/// Appends what the roster costs: its figures, and the penalties of each code that is demanded, with amounts
+/// that are counted in these words, or bare where there are none. Where there is no roster, there is no sum,
+/// and where nothing is proved of the cost, no bound.
 ///
 /// # Errors
 ///

@@ -8,11 +8,11 @@ ghost use Rattle.page_text.specs.Inputs.{longest};
 ghost use Rattle.page_text.specs.Pages.{body, page};
 ghost use Rattle.page_text.specs.declared.content.Content.{Content};
 
-/// States a law: the marks of a page, which are all that is not a byte of the texts, stay under any names
-/// and derivations, under any other words that amounts are counted in, with as many decimals, and under other bytes
-/// of the codes, in codes and words alike, where no two get one byte. On one sheet they stay whatever the names; the page's sheet
-/// depends on how wide the widest name is, up to 25 columns, and how long the words for amounts are, up to 60 bytes, and
-/// on nothing else of them.
+/// States a law: the marks of a page, which are all that is not a byte of the texts, stay under any names and
+/// derivations, under any other words that amounts are counted in, with as many decimals, and under other
+/// bytes of the codes, in codes and words alike, where no two get one byte. On one sheet they stay whatever
+/// the names; the page's sheet depends on how wide the widest name is, up to 25 columns, and how long the
+/// words for amounts are, up to 60 bytes, and on nothing else of them.
 pub fn marks_stay()
     ensures on_a_sheet { (f : ℕ → ℕ) → IsOneToOne f → (s : PeriodAxis) (cs : List CodeDef) (c d : Content)
         → IsAlike f c d → marks_of (body s (recoded f cs) d) ≡ marks_of (body s cs c) }

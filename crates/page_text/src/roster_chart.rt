@@ -483,8 +483,8 @@ fn all_ticks(
     Ok(())
 }
 
-/// Writes the times of the periods, or, where there are none, their numbers; behind the last period stands the time of
-/// its end.
+/// Writes the times of the periods, or, where there are none, their numbers; behind the last period stands
+/// the time of its end.
 ///
 /// # Errors
 ///

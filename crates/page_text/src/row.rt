@@ -11,8 +11,8 @@ pub struct Row {
     pub number: u32,
     /// The number of the employees' group, from 1, or 0 on a day without groups.
     pub group: u8,
-    /// Who works the shift, where it is said, else what the employees' group is called, or nothing on a day without
-    /// groups.
+    /// Who works the shift, where it is said, else what the employees' group is called, or nothing on a day
+    /// without groups.
     pub name: List<u8>,
     /// The byte of each period's code.
     pub word: List<u8>,

@@ -19,7 +19,8 @@ is_hourly c periods =
 abbrev pub is_hour : Clock → ℕ → Bool
 is_hour c place = nat_eq ((c.begin + c.minutes * place) % 60) 0
 
--- a time stands where the period behind so many begins: at whole hours, or where numbers of periods would stand
+-- a time stands where the period behind so many begins: at whole hours, or where numbers of periods would
+-- stand
 abbrev pub is_regular : Clock → ℕ → ℕ → Bool
 is_regular c periods place =
     if is_hourly c periods then is_hour c place else nat_eq (place % step_of periods) 0

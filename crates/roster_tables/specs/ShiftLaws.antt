@@ -23,7 +23,8 @@ abbrev pub firsts : Bool → List Stretch → List Bool
 firsts first [] = []
 firsts first (t ∷ ts) = first ∷ firsts false ts
 
--- lines of one shift, one for each of its stretches, in their order, of which the first one alone is marked as such
+-- lines of one shift, one for each of its stretches, in their order, of which the first one alone is marked
+-- as such
 pub record AreItsStretches (d : Labels) (k : ℕ) (ts : List Stretch) (ls : List ShiftLine) : Type 0 where
   pub shift : Each (IsOfShift k) ls
   pub begins : map (λ (l : ShiftLine). l.begin) ls ≡ map (λ (t : Stretch). begin_text d.clock t.first) ts

@@ -92,9 +92,10 @@ fn clock_times(alloc: Global, clock: Clock, periods: u8) -> Result<List<List<u8>
     Ok(times)
 }
 
-/// Returns for each period the time that stands on the axes of the charts where it begins, or nothing: at whole
-/// hours, where they begin periods and have room, else where numbers of periods would stand, and in any case at the
-/// first period. Behind them stands when the last period ends. Without a clock there is none at all.
+/// Returns for each period the time that stands on the axes of the charts where it begins, or nothing: at
+/// whole hours, where they begin periods and have room, else where numbers of periods would stand, and in any
+/// case at the first period. Behind them stands when the last period ends. Without a clock there is none at
+/// all.
 ///
 /// # Errors
 ///

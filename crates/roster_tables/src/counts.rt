@@ -157,8 +157,8 @@ fn moments_in(
     Ok(lines)
 }
 
-/// Returns a line for each time at which any stretch begins or ends, of all shifts: their stretches where time off is
-/// named, else their work.
+/// Returns a line for each time at which any stretch begins or ends, of all shifts: their stretches where
+/// time off is named, else their work.
 ///
 /// # Errors
 ///

@@ -6,14 +6,14 @@ ghost use Rattle.page_labels.specs.declared.labels.Labels.{Labels};
 ghost use Rattle.roster_tables.specs.ShiftLaws.{AreItsStretches, HasItsName};
 ghost use Rattle.roster_tables.specs.ShiftLines.{lines_of, shift_lines, spans_of};
 
-/// States a law: a name stands at no shift but its own. Each line of the table of shifts has the name of the shift
-/// whose number it has, or none where that has none.
+/// States a law: a name stands at no shift but its own. Each line of the table of shifts has the name of the
+/// shift whose number it has, or none where that has none.
 pub fn names_stand_at_their_shifts()
     ensures { (i : Instance) (d : Labels) (shifts : List Shift) → Each (HasItsName d) (lines_of i d shifts) }
 {}
 
-/// States a law: the lines of a shift are one for each of its stretches that stand in lines of their own, in their
-/// order, where it has any, and the first one alone is marked as such.
+/// States a law: the lines of a shift are one for each of its stretches that stand in lines of their own, in
+/// their order, where it has any, and the first one alone is marked as such.
 pub fn stretches_stand_under_their_shift()
     ensures { (i : Instance) (d : Labels) (marked : List ℕ) (k : ℕ) (s : Shift)
         → 0 < length (spans_of d.off s.word)

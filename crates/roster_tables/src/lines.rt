@@ -1,4 +1,4 @@
-ghost use Rattle.std.specs.Prelude.{◌≡◌, ◌≤◌, ◌++◌, [], ◌∷◌, All, IfOk, OnOk, count_by, length};
+ghost use Rattle.std.specs.Prelude.{◌≡◌, ◌≤◌, ◌++◌, [], ◌∷◌, All, IfOk, OnOk, count_by, length, true};
 ghost use Rattle.std.specs.List.{flat_map};
 ghost use Rattle.shift_figures.specs.Stretches.{is_paid, is_work};
 ghost use Rattle.roster_tables.specs.ShiftLines.{
@@ -269,8 +269,8 @@ fn lines_in(
     Ok(lines)
 }
 
-/// Returns a line for each of at most 64 shifts, in the order in which they are drawn. Where time off is named, each
-/// stretch of a shift has a line, and those of one shift stand together.
+/// Returns a line for each of at most 64 shifts, in the order in which they are drawn. Where time off is
+/// named, each stretch of a shift has a line, and those of one shift stand together.
 ///
 /// # Errors
 ///

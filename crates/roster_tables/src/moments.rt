@@ -58,7 +58,8 @@ pub fn end_text(alloc: Global, clock: Option<Clock>, period: u8) -> Result<List<
     Ok(out)
 }
 
-/// Returns the time behind so many periods, or without a clock that number, which is the one of the last of them.
+/// Returns the time behind so many periods, or without a clock that number, which is the one of the last of
+/// them.
 ///
 /// # Errors
 ///
