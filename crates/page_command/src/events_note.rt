@@ -58,7 +58,7 @@ fn begins_or_ends_paid(codes: &[CodeDef], paid: &[PaidCode], shift: &Shift) -> b
     let mut has_worked = false;
     let mut is_before = false;
     let mut is_behind = false;
-    for byte in &shift.word {
+    for byte in shift.word.as_slice() {
         if is_work(codes, *byte) {
             has_worked = true;
             is_behind = false;
